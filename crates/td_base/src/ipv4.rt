@@ -1,0 +1,56 @@
+use std::cmp::Ordering;
+
+/// An IPv4 address, its four bytes in network order.
+#[derive(Clone, Copy, Debug)]
+pub struct Ip4(pub [u8; 4]);
+
+impl PartialEq for Ip4 {
+    ghost use Rattle.std.specs.Cmp.{partial_equiv_from_equiv};
+    ghost use Rattle.td_base.specs.Ip4.{same_ip, same_ip_equiv};
+
+    ghost eq = { same_ip };
+
+    ghost laws = { partial_equiv_from_equiv same_ip_equiv };
+
+    #[tactic(auto, unfolding(crate::specs::Ip4::same_ip))]
+    fn eq(&self, other: &Ip4) -> bool {
+        self.0 == other.0
+    }
+}
+
+impl Eq for Ip4 {
+    ghost use Rattle.td_base.specs.Ip4.{same_ip_equiv};
+
+    ghost laws = { same_ip_equiv };
+}
+
+impl PartialOrd for Ip4 {
+    ghost use Rattle.std.specs.Ordering.{as_partial_cmp};
+    ghost use Rattle.td_base.specs.Ip4.{cmp_ip, cmp_ip_po};
+
+    ghost partial_cmp = { as_partial_cmp cmp_ip };
+
+    ghost laws = { cmp_ip_po };
+
+    fn partial_cmp(&self, other: &Ip4) -> Option<Ordering> {
+        Some(self.cmp(other))
+    }
+}
+
+impl Ord for Ip4 {
+    ghost use Rattle.std.specs.Prelude.{refl};
+    ghost use Rattle.td_base.specs.Ip4.{cmp_ip, cmp_ip_total, cmp_ip_ties};
+
+    ghost cmp = { cmp_ip };
+
+    ghost total = { cmp_ip_total };
+
+    ghost matches_partial_cmp = { λ x y. refl };
+
+    ghost matches_eq = { cmp_ip_ties };
+
+    #[tactic(auto, unfolding(crate::specs::Ip4::cmp_ip))]
+    fn cmp(&self, other: &Ip4) -> Ordering {
+        self.0.cmp(&other.0)
+    }
+}

@@ -1,0 +1,44 @@
+//! Addresses, endpoints and small types, their texts, sums of bytes, and numbers in bytes.
+//!
+//! Standards: RFC 4291 (IPv6 addresses), RFC 5952 section 4 (their text), RFC 1071 (the checksum's sum),
+//! RFC 4380 section 4 (which IPv4 addresses may be embedded). Our choices: `docs/DECISIONS.md`, "Addresses".
+//!
+//! # What the layer above may rely on
+//!
+//! - Each text is one value, and a value prints as one text, which reads back as the value.
+//! - A text that is refused is refused at its place: the length of the longest front that begins an accepted text.
+//! - `==` on addresses and endpoints is an opaque test with laws (`specs/Ip4.antt`, `Ip6.antt`, `Ep.antt`).
+//! - No call takes memory.
+//!
+//! # What it does not know
+//!
+//! Packets, nodes, files, sockets and time that passes.
+//!
+//! # Parts
+//!
+//! | module | holds | stated in |
+//! |---|---|---|
+//! | `ipv4`, `ipv6`, `endpoint` | `Ip4`, `Ip6`, `Ep`: equality and order | `specs/Ip4.antt`, `Ip6.antt`, `Ep.antt` |
+//! | `reach` | `Policy`, and which addresses are global, usable, link-local | `specs/Reach.antt` |
+//! | `small` | `Millis`, `Side`, `Span`, `NoMemory` | |
+//! | `node_name` | `Name` | `specs/Names.antt` |
+//! | `fields` | numbers in network order at a place | `specs/Bytes.antt` |
+//! | `sum` | the one's complement sum | `specs/Sums.antt` |
+//! | `line` | `LineBuf`, a line that is being made | `specs/Printing.antt` |
+#![tactic(auto)]
+
+mod endpoint;
+mod fields;
+mod ipv4;
+mod ipv6;
+mod reach;
+mod small;
+mod sum;
+
+pub use endpoint::Ep;
+pub use fields::{field16, field32, field64, put, put8, put16, put32, put64};
+pub use ipv4::Ip4;
+pub use ipv6::Ip6;
+pub use reach::{Policy, is_global, is_global6, is_link_local, usable};
+pub use small::{Millis, NoMemory, Room, Side, Span};
+pub use sum::ones_sum;
