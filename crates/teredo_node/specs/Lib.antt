@@ -1,0 +1,4 @@
+pub mod Fates
+pub mod Step
+pub mod Journal
+pub mod Rows
