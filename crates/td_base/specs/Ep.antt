@@ -15,6 +15,14 @@ use Rattle.td_base.specs.declared.endpoint.Ep.{Ep}
 abbrev pub IsEp : Ep → Type 0
 IsEp ep = IsIp4 ep.ip × (ep.port < 2 ^ 16)
 
+-- the port of Teredo servers (RFC 4380, section 2.7)
+abbrev pub teredo_port : ℕ
+teredo_port = 3544
+
+-- a server's endpoint at an address
+abbrev pub server_ep : Ip4 → Ep
+server_ep ip = record { ip = ip; port = teredo_port }
+
 -- the endpoints are the same
 unfoldable pub same_ep : Ep → Ep → Bool
 same_ep a b = same_ip a.ip b.ip && (a.port == b.port)

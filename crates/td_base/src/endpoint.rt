@@ -1,11 +1,29 @@
 use crate::ipv4::Ip4;
 use std::cmp::Ordering;
 
+/// The UDP port of Teredo servers: RFC 4380, section 2.7.
+pub const TEREDO_PORT: u16 = 3544;
+
 /// A UDP endpoint: an IPv4 address and a port.
 #[derive(Clone, Copy, Debug)]
 pub struct Ep {
     pub ip: Ip4,
     pub port: u16,
+}
+
+impl Ep {
+    ghost use Rattle.std.specs.Prelude.{◌≡◌};
+    ghost use Rattle.td_base.specs.Ep.{server_ep};
+
+    /// The endpoint of a server at an address.
+    pub fn of_server(ip: Ip4) -> Ep
+        ensures { result ≡ server_ep ip }
+    {
+        Ep {
+            ip,
+            port: TEREDO_PORT,
+        }
+    }
 }
 
 impl PartialEq for Ep {

@@ -35,7 +35,7 @@ mod reach;
 mod small;
 mod sum;
 
-pub use endpoint::Ep;
+pub use endpoint::{Ep, TEREDO_PORT};
 pub use fields::{field16, field32, field64, put, put8, put16, put32, put64};
 pub use ipv4::Ip4;
 pub use ipv6::Ip6;

@@ -1,0 +1,44 @@
+-- Full records and the wire. A history is a list of full records, the latest first.
+use Rattle.std.specs.Prelude.{ℕ, List, [], ◌++◌, ◌∷◌, filter_map, Option, Some}
+use Rattle.td_base.specs.declared.endpoint.Ep.{Ep}
+use Rattle.td_base.specs.declared.ipv6.Ip6.{Ip6}
+use Rattle.teredo_node.specs.declared.fates.Fate.{Fate}
+use Rattle.teredo_node.specs.Journal.{Entry}
+use Rattle.history.specs.declared.event_list.Event.{Event}
+use Rattle.history.specs.declared.acts.Act.{Act}
+
+-- an entry of the wire
+pub data Item : Type 0 where
+  udp : (src dst : Ep) (bytes : List ℕ) → Item
+
+-- what became of a send
+pub data Made : Type 0 where
+  sent : Item → Made
+
+-- one step of the laboratory, with all that went in and came out
+pub record Full : Type 0 where
+  pub event : ℕ  -- the event's number
+  pub asked : Event  -- the event
+  pub moment : ℕ
+  pub act : Act
+  pub node : Option ℕ  -- the node that decided, or that acted or was named first
+  pub fate : Fate
+  pub delivered : Option ℕ  -- the number of the entry that was delivered
+  pub entry : Option Entry  -- what the node was given and did
+  pub address : Option Ip6  -- that which a client got
+  pub first : ℕ  -- the number of the first entry that was made
+  pub made : List Made  -- its sends and entries, in order
+
+abbrev pub item_in : Made → Option Item
+item_in (sent item) = Some item
+
+abbrev pub items_of : Full → List Item
+items_of r = filter_map item_in r.made
+
+-- all datagrams, in order, numbered from 0
+abbrev pub wire : List Full → List Item
+wire [] = []
+wire (r ∷ H) = wire H ++ items_of r
+
+abbrev pub bytes_of : Item → List ℕ
+bytes_of (udp src dst bytes) = bytes

@@ -1,0 +1,4 @@
+pub mod Rows
+pub mod Topology
+pub mod Full
+pub mod Records

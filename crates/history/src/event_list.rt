@@ -1,0 +1,57 @@
+ghost use Rattle.std.specs.Prelude.{◌≡◌, ◌∷◌, [], ◌++◌, OnOk, OnErr};
+
+use std::alloc::Global;
+use std::marker::Model;
+use td_base::{Ep, NoMemory};
+use td_outside::Octets;
+
+/// What a scenario asks for.
+#[derive(Drop)]
+pub enum Event {
+    /// Deliver an entry of the wire to whoever is at its destination.
+    Deliver { number: u32 },
+    /// Put a datagram on the wire that nobody in the scenario sent.
+    Stranger { src: Ep, dst: Ep, bytes: Octets },
+}
+
+/// Events in order.
+#[derive(Drop)]
+pub struct Events {
+    events: Vec<Event>,
+}
+
+impl Model for Events {
+    ghost use Rattle.std.specs.Prelude.{List};
+    ghost use Rattle.history.specs.declared.event_list.Event.{Event};
+
+    ghost Value = { List Event };
+
+    ghost view = { λ e. e.events.items };
+}
+
+impl Events {
+    /// No events.
+    pub fn new(alloc: Global) -> Events
+        ensures { result ≡ [] }
+    {
+        Events {
+            events: Vec::new(alloc),
+        }
+    }
+
+    /// The events in order.
+    pub fn as_slice(&self) -> &[Event]
+        ensures { result.now ≡ self.now }
+    {
+        self.events.as_slice()
+    }
+
+    /// Appends an event, or drops it where memory runs out.
+    pub fn push(&mut self, event: Event) -> Result<(), NoMemory>
+        ensures ok { OnOk result (self.new ≡ self.old ++ event ∷ []) }
+        ensures err { OnErr result (self.new ≡ self.old) }
+    {
+        self.events.push(event)?;
+        Ok(())
+    }
+}

@@ -1,0 +1,77 @@
+ghost use Rattle.std.specs.Prelude.{◌≡◌, ◌<◌, ◌≤◌, ◌∷◌, [], ◌++◌, length};
+
+use std::marker::Model;
+use td_base::{Ep, Ip4};
+
+/// The most marks of a record: one for each send of a step, and one for a packet to the IPv6 side.
+pub const MOST_MARKS: usize = 9;
+
+/// What a record says of one send: the entry that it became.
+#[derive(Clone, Copy, Debug)]
+pub enum Mark {
+    Udp {
+        number: u32,
+        src: Ep,
+        dst: Ep,
+        len: usize,
+    },
+}
+
+/// At most nine marks.
+#[derive(Drop)]
+pub struct Marks {
+    marks: [Mark; 9],
+    len: usize,
+}
+
+impl Model for Marks {
+    ghost use Rattle.std.specs.Prelude.{◌≤◌, List, take};
+    ghost use Rattle.history.specs.declared.mark_list.Mark.{Mark};
+
+    ghost Value = { List Mark };
+
+    ghost view = { λ m. take m.len m.marks };
+
+    ghost invariant = { λ m. m.len ≤ 9 };
+}
+
+const NOBODY: Ep = Ep {
+    ip: Ip4([0; 4]),
+    port: 0,
+};
+
+const UNUSED: Mark = Mark::Udp {
+    number: 0,
+    src: NOBODY,
+    dst: NOBODY,
+    len: 0,
+};
+
+impl Marks {
+    /// No marks.
+    pub fn new() -> Marks
+        ensures { result ≡ [] }
+    {
+        Marks {
+            marks: [UNUSED; 9],
+            len: 0,
+        }
+    }
+
+    /// The marks in order.
+    pub fn as_slice(&self) -> &[Mark]
+        ensures value { result.now ≡ self.now }
+        ensures few { length result.now ≤ MOST_MARKS }
+    {
+        &self.marks[..self.len]
+    }
+
+    /// Appends a mark.
+    pub fn push(&mut self, mark: Mark)
+        requires { length self.old < MOST_MARKS }
+        ensures { self.new ≡ self.old ++ mark ∷ [] }
+    {
+        self.marks[self.len] = mark;
+        self.len += 1;
+    }
+}
