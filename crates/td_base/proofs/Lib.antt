@@ -1,2 +1,5 @@
 pub mod BytesLemmas
+pub mod Decimals
 pub mod Folding
+pub mod Halting
+pub mod Ip4Lemmas

@@ -5,3 +5,6 @@ pub mod Ip6
 pub mod Ep
 pub mod Reach
 pub mod Sums
+pub mod Printing
+pub mod Texts
+pub mod Fronts

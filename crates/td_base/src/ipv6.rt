@@ -2,7 +2,7 @@ use std::cmp::Ordering;
 
 /// An IPv6 address, its sixteen bytes in network order.
 #[derive(Clone, Copy, Debug)]
-pub struct Ip6(pub [u8; 4]);
+pub struct Ip6(pub [u8; 16]);
 
 impl PartialEq for Ip6 {
     ghost use Rattle.std.specs.Cmp.{partial_equiv_from_equiv};

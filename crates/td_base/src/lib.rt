@@ -28,17 +28,26 @@
 #![tactic(auto)]
 
 mod endpoint;
+mod endpoint_text;
 mod fields;
 mod ipv4;
+mod ipv4_text;
 mod ipv6;
+mod line;
+mod numeral;
 mod reach;
+mod short_text;
 mod small;
 mod sum;
 
 pub use endpoint::{Ep, TEREDO_PORT};
+pub use endpoint_text::{print_ep, read_ep};
 pub use fields::{field16, field32, field64, put, put8, put16, put32, put64};
 pub use ipv4::Ip4;
+pub use ipv4_text::{print_ip4, read_ip4};
 pub use ipv6::Ip6;
+pub use line::{LINE_LEN, LineBuf, print_text};
+pub use numeral::{print_number, read_number};
 pub use reach::{Policy, is_global, is_global6, is_link_local, usable};
-pub use small::{Millis, NoMemory, Room, Side, Span};
+pub use small::{BadText, Millis, NoMemory, Room, Side, Span};
 pub use sum::ones_sum;

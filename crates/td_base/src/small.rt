@@ -1,3 +1,5 @@
+ghost use Rattle.std.specs.Prelude.{◌≡◌, ◌+◌, ◌≤◌, length};
+
 use std::alloc::{AllocError, AllocFailed};
 
 /// A moment, or a length of time, in milliseconds.
@@ -22,6 +24,24 @@ pub struct Span {
 #[derive(Clone, Copy, Debug, PartialEq, Eq)]
 pub struct Room {
     pub needed: usize,
+}
+
+/// A text isn't what was to be read: its first `place` bytes begin such a text, and no more of them do.
+#[derive(Clone, Copy, Debug, PartialEq, Eq)]
+pub struct BadText {
+    pub place: usize,
+}
+
+impl BadText {
+    /// The refusal of a text that can't be read where so many of its bytes are left.
+    pub(crate) fn before(text: &[u8], left: usize) -> BadText
+        requires { left ≤ length text.now }
+        ensures { result.place + left ≡ length text.now }
+    {
+        BadText {
+            place: text.len() - left,
+        }
+    }
 }
 
 /// Memory ran out.

@@ -1,0 +1,13 @@
+use Rattle.std.proofs.Common.{◌≡◌, sym, ◌∙◌, refl}
+use Rattle.td_base.proofs.Halting.{longest_begin}
+use Rattle.td_base.proofs.Ip4Lemmas.{one_ep}
+use Rattle.td_base.proofs.endpoint_text.read_ep.Goals as goal
+
+pub returns-in-Ok-clause-only : goal.returns-in-Ok-clause-only
+returns-in-Ok-clause-only c value is e =
+    let found = c.in-Ok.ensures.found in
+    let same : c.in-Ok.ep ≡ value = one_ep _ _ found.0 is (sym found.1 ∙ e) in
+    rw same refl
+
+pub returns-in-Err-clause-place : goal.returns-in-Err-clause-place
+returns-in-Err-clause-place c = longest_begin _ _ _ _ c.in-Err.ensures.halts c.before.in-Err.ensures

@@ -1,0 +1,59 @@
+//! The text of an endpoint: its address, a colon, and its port.
+ghost use Rattle.std.specs.Prelude.{◌≡◌, IfOk, IfErr};
+ghost use Rattle.td_base.specs.Printing.{Prints};
+ghost use Rattle.td_base.specs.Ep.{IsEp};
+ghost use Rattle.td_base.specs.Texts.{ep_text, IsEpText, IsLongestBegin};
+ghost use Rattle.td_base.specs.Fronts.{Halts};
+ghost use Rattle.td_base.specs.declared.endpoint.Ep.{Ep};
+
+use crate::endpoint::Ep;
+use crate::ipv4::Ip4;
+use crate::ipv4_text::{PART_MOST, short_ip4};
+use crate::line::{LineBuf, print_text};
+use crate::numeral::{number_last, number_then};
+use crate::small::{BadText, Room};
+
+/// The largest port.
+const PORT_MOST: u64 = u16::MAX as u64;
+
+/// Appends an endpoint.
+pub fn print_ep(ep: Ep, out: &mut LineBuf) -> Result<(), Room>
+    ensures { Prints result out.old out.new (ep_text ep) }
+{
+    let mut text = short_ip4(ep.ip);
+    text.push(b':');
+    text.push_number(ep.port);
+    print_text(text.as_slice(), out)
+}
+
+/// Four numbers with dots between them, a colon and a port, which are the whole text. The error is
+/// how many bytes were left where no such text goes on.
+fn whole_ep(text: &[u8]) -> Result<Ep, usize>
+    ensures found { IfOk result (λ ep. IsEp ep × (text.now ≡ ep_text ep)) }
+    ensures halts { IfErr result (Halts IsEpText text.now) }
+{
+    let (a, rest) = number_then(text, PART_MOST, b'.')?;
+    let (b, rest) = number_then(rest, PART_MOST, b'.')?;
+    let (c, rest) = number_then(rest, PART_MOST, b'.')?;
+    let (d, rest) = number_then(rest, PART_MOST, b':')?;
+    let port = number_last(rest, PORT_MOST)?;
+    Ok(Ep {
+        ip: Ip4([a as u8, b as u8, c as u8, d as u8]),
+        port: port as u16,
+    })
+}
+
+/// Reads a text that is an endpoint.
+pub fn read_ep(text: &[u8]) -> Result<Ep, BadText>
+    // The text is the endpoint's.
+    ensures found { IfOk result (λ ep. IsEp ep × (text.now ≡ ep_text ep)) }
+    // The text of an endpoint is read as that endpoint.
+    ensures only { (ep : Ep) → IsEp ep → text.now ≡ ep_text ep → result ≡ Ok ep }
+    // So many bytes begin the text of an endpoint, and no more.
+    ensures place { IfErr result (λ bad. IsLongestBegin IsEpText text.now bad.place) }
+{
+    match whole_ep(text) {
+        Ok(ep) => Ok(ep),
+        Err(left) => Err(BadText::before(text, left)),
+    }
+}
