@@ -4,6 +4,7 @@ pub mod Ip4
 pub mod Ip6
 pub mod Ep
 pub mod Reach
+pub mod Names
 pub mod Sums
 pub mod Printing
 pub mod Texts

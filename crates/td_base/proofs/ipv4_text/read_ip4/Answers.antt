@@ -10,4 +10,4 @@ returns-in-Ok-clause-only c value is e =
     rw same refl
 
 pub returns-in-Err-clause-place : goal.returns-in-Err-clause-place
-returns-in-Err-clause-place c = longest_begin _ _ _ _ c.in-Err.ensures.halts c.before.in-Err.ensures
+returns-in-Err-clause-place c = longest_begin _ _ _ _ c.in-Err.ensures.halts c.before-in-Err.ensures
