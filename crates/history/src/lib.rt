@@ -29,6 +29,6 @@ mod records;
 
 pub use acts::{Act, Verb};
 pub use event_list::{Event, Events};
-pub use mark_list::{Mark, Marks};
-pub use node_rows::{ServerNode, Topology};
+pub use mark_list::{MOST_MARKS, Mark, Marks};
+pub use node_rows::{MOST_SERVERS, ServerNode, Topology};
 pub use records::Record;

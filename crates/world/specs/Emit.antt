@@ -6,7 +6,8 @@ use Rattle.td_base.specs.declared.reach.Policy.TheVariants.{Strict}
 use Rattle.teredo_node.specs.Step.{Send, Step, just}
 use Rattle.teredo_node.specs.Journal.{Input, arrived, Entry}
 use Rattle.teredo_node.specs.declared.fates.Fate.TheVariants as fate
-use Rattle.server_core.specs.Server.{ServerSettings, server_row}
+use Rattle.server_core.specs.declared.server.ServerSettings.{ServerSettings}
+use Rattle.server_core.specs.Server.{server_row}
 use Rattle.history.specs.declared.node_rows.ServerNode.{ServerNode}
 use Rattle.history.specs.Rows.{TopologyState}
 use Rattle.history.specs.Topology.{Node, server, node_at, is_at, number_of, side_at, own_ep}

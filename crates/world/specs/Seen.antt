@@ -1,0 +1,43 @@
+-- The record that follows, by what a world keeps: the nodes, the moment and the wire.
+use Rattle.std.specs.Prelude.{ℕ, List, [], ◌∷◌, length, slice_get, Option, Some, None}
+use Rattle.td_base.specs.declared.endpoint.Ep.{Ep}
+use Rattle.teredo_node.specs.declared.fates.Fate.{Fate}
+use Rattle.teredo_node.specs.declared.fates.Fate.TheVariants as fate
+use Rattle.teredo_node.specs.Step.{Step}
+use Rattle.teredo_node.specs.Journal.{Input, arrived, Entry}
+use Rattle.server_core.specs.Server.{server_row}
+use Rattle.history.specs.declared.event_list.Event.{Event}
+use Rattle.history.specs.declared.event_list.Event.TheVariants as event
+use Rattle.history.specs.declared.acts.Act.{Act}
+use Rattle.history.specs.declared.acts.Act.TheVariants as act
+use Rattle.history.specs.declared.acts.Verb.TheVariants as verb
+use Rattle.history.specs.declared.node_rows.ServerNode.{ServerNode}
+use Rattle.history.specs.Rows.{TopologyState}
+use Rattle.history.specs.Topology.{Node, server, is_at, number_of, side_at}
+use Rattle.history.specs.Full.{Item, udp, Made, sent, Full}
+use Rattle.world.specs.Emit.{server_settings, Route, reaches, astray, reach, noted, outright}
+use Rattle.world.specs.Next.{Numbered}
+
+-- a record in which nothing happens
+abbrev pub still : ℕ → List Item → Numbered → Act → Option ℕ → Fate → Full
+still m w e a node fate = record { event = e.number; asked = e.event; moment = m; act = a; node = node; fate = fate; delivered = None; entry = None; address = None; first = length w; made = [] }
+
+-- server n did this step for a datagram from `from`
+abbrev pub answered : ℕ → List Item → Numbered → ℕ → Ep → List ℕ → ℕ → ServerNode → Step → Full
+answered m w e number from x n a step =
+    record (still m w e (act.Deliver number) (Some n) step.fate) { delivered = Some number; entry = Some (noted m (arrived from x) step); made = outright (server a) step.sends }
+
+abbrev pub delivered_to : ℕ → List Item → Numbered → ℕ → Item → Route → Full
+delivered_to m w e number (udp src dst x) (reaches n (server a)) = answered m w e number src x n a (server_row (server_settings a) (side_at (server a) dst) src x)
+delivered_to m w e number item astray = record (still m w e (act.Deliver number) None fate.Nowhere) { delivered = Some number }
+
+abbrev pub route_of : TopologyState → Item → Route
+route_of t (udp src dst x) = reach t (number_of (is_at dst) t)
+
+abbrev pub delivered_item : TopologyState → ℕ → List Item → Numbered → ℕ → Option Item → Full
+delivered_item t m w e number None = still m w e (act.Deliver number) None fate.NoEntry
+delivered_item t m w e number (Some item) = delivered_to m w e number item (route_of t item)
+
+abbrev pub next_from : TopologyState → ℕ → List Item → ℕ → Event → Full
+next_from t m w i (event.Deliver number) = delivered_item t m w (record { number = i; event = event.Deliver number }) number (slice_get w number)
+next_from t m w i (event.Stranger src dst x) = record (still m w (record { number = i; event = event.Stranger src dst x }) (act.Plain verb.Stranger) None fate.Put) { made = sent (udp src dst x) ∷ [] }
