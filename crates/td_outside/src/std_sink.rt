@@ -1,0 +1,36 @@
+//! The sink over standard output, or another writer of std.
+ghost use Rattle.std.specs.Prelude.{None};
+
+use crate::{Failed, Sink};
+use std::io::Write;
+
+/// A sink over a writer, as standard output. Each piece is written through. Each error of the writer is `Failed`,
+/// with the count raised: a closed output, a broken pipe, a full disk.
+#[derive(Drop)]
+pub struct StdSink<W: Write + Drop> {
+    to: W,
+    faults: u64,
+}
+
+impl<W: Write + Drop> StdSink<W> {
+    /// A sink over the writer.
+    pub fn new(to: W) -> Self {
+        StdSink { to, faults: 0 }
+    }
+}
+
+impl<W: Write + Drop> Sink for StdSink<W> {
+    ghost holds = { λ s. None };
+
+    ghost faults = { λ s. s.faults };
+
+    fn write(&mut self, piece: &[u8]) -> Result<usize, Failed> {
+        match self.to.write(piece) {
+            Ok(count) if count > 0 || piece.is_empty() => Ok(count),
+            _ => {
+                self.faults = self.faults.saturating_add(1);
+                Err(Failed)
+            }
+        }
+    }
+}
