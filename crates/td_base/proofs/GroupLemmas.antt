@@ -73,7 +73,7 @@ group_goes_on Rest digits rest n left is stop end h =
 zero_group : IsGroup (48 ∷ []) 0
 zero_group = ((omega arith, (lit< tt, tt)), refl, omega arith)
 
-no_group_front : (Rest : List ℕ → List ℕ → Type 0) (text numbers : List ℕ) → NoHex text → GroupThen Rest text numbers → ⊥
+pub no_group_front : (Rest : List ℕ → List ℕ → Type 0) (text numbers : List ℕ) → NoHex text → GroupThen Rest text numbers → ⊥
 no_group_front Rest text numbers none g = nonempty g.0 g.1 g.4.0.0 g.4.0.1 g.6
   where
     nonempty : (digits rest : List ℕ) → 0 < length digits → AllDigits 16 digits → text ≡ digits ++ rest → ⊥
@@ -146,6 +146,13 @@ after_colon most rest left h = record {
 
 pub first_colon : (text : List ℕ) → 1 ≤ length text → get_or text 0 0 ≡ 58 → text ≡ 58 ∷ take (length text - 1) (drop 1 text)
 first_colon text some e = drop-cons text 0 0 some ∙ ap (λ (x : ℕ). x ∷ drop 1 text) e ∙ ap (λ (l : List ℕ). 58 ∷ l) (sym (take_rest text 1))
+
+-- the same where the colon is known otherwise
+pub behind_colon : (text : List ℕ) → (after : List ℕ) × (text ≡ 58 ∷ after) → text ≡ 58 ∷ take (length text - 1) (drop 1 text)
+behind_colon text f =
+    let some : 1 ≤ length text = omega (arith, ap length f.1) in
+    let first : get_or text 0 0 ≡ 58 = rw f.1 refl in
+    first_colon text some first
 
 -- ---- the exits of `after_tail`, where `rest` stands behind the colon
 
@@ -247,11 +254,11 @@ head_no_colon (suc m) text ne some other =
     let t = head_inhabited (suc m) in
     halts_here (AfterHead (suc m)) text t.0 t.1 t.2 (λ byte after more numbers e h. other (rw e cc)) (λ numbers e h. omega (arith, ap length e))
 
-tail_of : (s t : List ℕ) → 58 ∷ s ≡ 58 ∷ t → s ≡ t
+pub tail_of : (s t : List ℕ) → 58 ∷ s ≡ 58 ∷ t → s ≡ t
 tail_of s t e = cc
 
 -- a first byte that is no colon stays the first byte
-front_no_colon : (rest front : List ℕ) (byte : ℕ) (after more s : List ℕ) → NotColon rest → rest ≡ front ++ byte ∷ after → (front ++ byte ∷ []) ++ more ≡ 58 ∷ s → ⊥
+pub front_no_colon : (rest front : List ℕ) (byte : ℕ) (after more s : List ℕ) → NotColon rest → rest ≡ front ++ byte ∷ after → (front ++ byte ∷ []) ++ more ≡ 58 ∷ s → ⊥
 front_no_colon rest [] byte after more s other e f = other after (e ∙ ap (λ (x : ℕ). x ∷ after) cc)
 front_no_colon rest (c ∷ front) byte after more s other e f = other (front ++ byte ∷ after) (e ∙ ap (λ (x : ℕ). x ∷ (front ++ byte ∷ after)) cc)
 
@@ -276,6 +283,13 @@ head_group m rest left other h = record {
       ];
 }
 
+-- a text that begins with a colon has no group there
+pub colon_group : (m : ℕ) (t ns : List ℕ) → GroupThen (AfterHead m) (58 ∷ t) ns → ⊥
+colon_group m t ns g = no_group_front (AfterHead m) (58 ∷ t) ns (λ b a e. subst (λ (x : ℕ). 16 ≤ digit_value x) (head_of _ _ _ _ e) (lit≤ tt)) g
+  where
+    head_of : (x y : ℕ) (s t : List ℕ) → x ∷ s ≡ y ∷ t → x ≡ y
+    head_of x y s t e = cc
+
 pub head_elided : (m : ℕ) (after : List ℕ) (left : ℕ) → Halts (Accepts (Tail m)) after left → Halts (Accepts (AfterHead (suc m))) (58 ∷ 58 ∷ after) left
 head_elided m after left h = record {
   front = 58 ∷ 58 ∷ h.front;
@@ -296,12 +310,6 @@ head_elided m after left h = record {
         | inr x ↦ colon_group m _ _ (subst (λ (t : List ℕ). GroupThen (AfterHead m) t a.0) (sym same) x)
       ];
 }
-  where
-    colon_group : (m : ℕ) (t ns : List ℕ) → GroupThen (AfterHead m) (58 ∷ t) ns → ⊥
-    colon_group m t ns g = no_group_front (AfterHead m) (58 ∷ t) ns (λ b a e. subst (λ (x : ℕ). 16 ≤ digit_value x) (head_of _ _ _ _ e) (lit≤ tt)) g
-      where
-        head_of : (x y : ℕ) (s t : List ℕ) → x ∷ s ≡ y ∷ t → x ≡ y
-        head_of x y s t e = cc
 
 pred_of : (missing : ℕ) → missing ≢ 0 → missing ≡ suc (missing - 1)
 pred_of missing ne = omega (arith, ne)
@@ -341,7 +349,4 @@ head_found_elided (suc m) text after old new ne f h =
     (replicate (suc m - length h.0) 0 ++ h.0, (58 ∷ after, f, inl (after, h.0, refl, is, refl)), h.2 ∙ rw two refl)
 
 pub two_colons : (text rest : List ℕ) → text ≡ 58 ∷ rest → (after : List ℕ) × (rest ≡ 58 ∷ after) → text ≡ 58 ∷ 58 ∷ take (length rest - 1) (drop 1 rest)
-two_colons text rest e f =
-    let some : 1 ≤ length rest = omega (arith, ap length f.1) in
-    let first : get_or rest 0 0 ≡ 58 = rw f.1 refl in
-    e ∙ ap (λ (l : List ℕ). 58 ∷ l) (first_colon rest some first)
+two_colons text rest e f = e ∙ ap (λ (l : List ℕ). 58 ∷ l) (behind_colon rest f)

@@ -1,3 +1,4 @@
+pub mod AddressGroups
 pub mod BytesLemmas
 pub mod Decimals
 pub mod Folding
@@ -6,3 +7,5 @@ pub mod Halting
 pub mod Ip4Lemmas
 pub mod Ip6Lemmas
 pub mod NameLemmas
+pub mod SpellingLemmas
+pub mod WholeLemmas

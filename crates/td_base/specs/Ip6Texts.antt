@@ -36,7 +36,7 @@ pub record IsElided (numbers text : List ℕ) : Type 0 where
   pub tail_groups : AreGroups tail tail_text
   pub spelled : text ≡ head_text ++ 58 ∷ 58 ∷ tail_text
   pub room : length head + length tail < 8
-  pub value : numbers ≡ head ++ replicate (8 - length head - length tail) 0 ++ tail
+  pub value : numbers ≡ head ++ (replicate (8 - length head - length tail) 0 ++ tail)
 
 -- the text is one of the address's
 abbrev pub Spells : Ip6 → List ℕ → Type 0

@@ -1,5 +1,6 @@
 //! The eight groups of an IPv6 address.
-ghost use Rattle.std.specs.Prelude.{◌≡◌, ◌+◌, ◌<◌, ◌≤◌, [], ◌∷◌, ◌++◌, length, replicate};
+ghost use Rattle.std.specs.Prelude.{◌≡◌, ◌+◌, ◌/◌, ◌%◌, ◌<◌, ◌≤◌, [], ◌∷◌, ◌++◌, length, replicate};
+ghost use Rattle.td_base.specs.Ip6.{IsIp6};
 ghost use Rattle.td_base.specs.Ip6Texts.{groups};
 
 use crate::ipv6::Ip6;
@@ -23,6 +24,20 @@ pub(crate) fn groups_of(ip: Ip6) -> [u16; GROUPS]
         u16::from_be_bytes([b[12], b[13]]),
         u16::from_be_bytes([b[14], b[15]]),
     ]
+}
+
+/// A group's first byte.
+fn high(group: u16) -> u8
+    ensures { result ≡ group / 256 }
+{
+    (group / 256) as u8
+}
+
+/// A group's second byte.
+fn low(group: u16) -> u8
+    ensures { result ≡ group % 256 }
+{
+    (group % 256) as u8
 }
 
 /// At most eight groups.
@@ -69,6 +84,33 @@ impl Groups {
 }
 
 impl Groups {
+    /// The address of eight groups.
+    pub(crate) fn address(&self) -> Ip6
+        requires { length self.now ≡ GROUPS }
+        ensures is { IsIp6 result }
+        ensures groups { groups result ≡ self.now }
+    {
+        let [a, b, c, d, e, f, g, h] = self.numbers;
+        Ip6([
+            high(a),
+            low(a),
+            high(b),
+            low(b),
+            high(c),
+            low(c),
+            high(d),
+            low(d),
+            high(e),
+            low(e),
+            high(f),
+            low(f),
+            high(g),
+            low(g),
+            high(h),
+            low(h),
+        ])
+    }
+
     /// Appends zeros.
     pub(crate) fn push_zeros(&mut self, count: usize)
         requires { length self.old + count ≤ GROUPS }

@@ -3,10 +3,16 @@ ghost use Rattle.std.specs.Prelude.{◌≡◌, ℕ, ◌+◌, ◌*◌, ◌-◌, �
 ghost use Rattle.std.specs.Char.{digit_value};
 ghost use Rattle.std.specs.Str.Parse.{AllDigits, digits_value};
 ghost use Rattle.td_base.specs.Fronts.{Halts};
-ghost use Rattle.td_base.specs.Ip6Fronts.{Accepts, GroupThen, AfterTail, Tail, AfterHead, NoHex, IsFrontGroup};
+ghost use Rattle.td_base.specs.Ip6Fronts.{Accepts, GroupThen, AfterTail, Tail, Elided, AfterHead, Whole, NoHex, IsFrontGroup};
+ghost use Rattle.td_base.specs.Texts.{IsLongestBegin};
+ghost use Rattle.td_base.specs.Ip6.{IsIp6};
+ghost use Rattle.td_base.specs.Ip6Texts.{Spells, IsIp6Text};
+ghost use Rattle.td_base.specs.declared.ipv6.Ip6.{Ip6};
 
+use crate::ipv6::Ip6;
 use crate::ipv6_groups::{GROUPS, Groups};
 use crate::ipv6_text::GROUP_DIGITS;
+use crate::small::BadText;
 
 /// The value of a hexadecimal digit.
 fn hex_digit(byte: u8) -> Option<u16>
@@ -118,6 +124,18 @@ fn begins_with_colon(text: &[u8]) -> bool
     *byte == b':'
 }
 
+/// What follows the first colon of `::`: the second, and at most `most` groups. The error is as above.
+fn second_colon(text: &[u8], most: usize, out: &mut Groups) -> Result<(), usize>
+    requires { length out.old + most < GROUPS }
+    ensures found { OnOk result ((more : List ℕ) × Elided most text.now more × (out.new ≡ out.old ++ more)) }
+    ensures halts { IfErr result (Halts (Accepts (Elided most)) text.now) }
+{
+    if begins_with_colon(text) {
+        return elided(&text[1..], most, out);
+    }
+    Err(text.len())
+}
+
 /// What follows a group before any `::`, where so many groups are missing. The error is as above.
 fn after_head(text: &[u8], missing: usize, out: &mut Groups) -> Result<(), usize>
     requires { length out.old + missing ≤ GROUPS }
@@ -139,4 +157,45 @@ fn after_head(text: &[u8], missing: usize, out: &mut Groups) -> Result<(), usize
     let (number, rest) = group(rest)?;
     out.push(number);
     after_head(rest, missing - 1, out)
+}
+
+/// The groups of a whole address. The error is as above.
+fn whole_groups(text: &[u8], out: &mut Groups) -> Result<(), usize>
+    requires { out.old ≡ [] }
+    ensures found { OnOk result (Whole text.now out.new) }
+    ensures halts { IfErr result (Halts (Accepts Whole) text.now) }
+{
+    if begins_with_colon(text) {
+        return second_colon(&text[1..], GROUPS - 1, out);
+    }
+    let (number, rest) = group(text)?;
+    out.push(number);
+    after_head(rest, GROUPS - 1, out)
+}
+
+/// An address that is the whole text. The error is as above.
+fn whole_ip6(text: &[u8]) -> Result<Ip6, usize>
+    ensures found { IfOk result (λ ip. IsIp6 ip × Spells ip text.now) }
+    ensures halts { IfErr result (Halts IsIp6Text text.now) }
+{
+    let mut groups = Groups::new();
+    whole_groups(text, &mut groups)?;
+    Ok(groups.address())
+}
+
+/// Reads a text that is an IPv6 address: eight groups of one to four hexadecimal digits of either
+/// case, or fewer with one `::` in place of one or more zero groups (RFC 4291, section 2.2, forms 1
+/// and 2). The form with a dotted tail isn't read.
+pub fn read_ip6(text: &[u8]) -> Result<Ip6, BadText>
+    // The text is one of the address's.
+    ensures found { IfOk result (λ ip. IsIp6 ip × Spells ip text.now) }
+    // Each text of an address is read as that address.
+    ensures only { (ip : Ip6) → IsIp6 ip → Spells ip text.now → result ≡ Ok ip }
+    // So many bytes begin the text of an address, and no more.
+    ensures place { IfErr result (λ bad. IsLongestBegin IsIp6Text text.now bad.place) }
+{
+    match whole_ip6(text) {
+        Ok(ip) => Ok(ip),
+        Err(left) => Err(BadText::before(text, left)),
+    }
 }

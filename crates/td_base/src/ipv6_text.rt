@@ -3,7 +3,8 @@ ghost use Rattle.std.specs.Prelude.{◌≡◌, ◌+◌, ◌*◌, ◌<◌, ◌≤
 ghost use Rattle.std.specs.Char.{digit_char};
 ghost use Rattle.std.specs.Net.Text as Text;
 ghost use Rattle.td_base.specs.Printing.{Prints};
-ghost use Rattle.td_base.specs.Ip6Texts.{groups, ip6_text};
+ghost use Rattle.td_base.specs.Ip6.{IsIp6};
+ghost use Rattle.td_base.specs.Ip6Texts.{groups, ip6_text, Spells};
 
 use crate::ipv6::Ip6;
 use crate::ipv6_groups::groups_of;
@@ -101,9 +102,11 @@ fn push_elided(text: &mut ShortText, front: &[u16], back: &[u16])
 }
 
 /// Appends an IPv6 address.
-#[tactic(auto, unfolding(std::specs::Net::Text::hex_groups_text))]
+#[tactic(auto, using(crate::proofs::Ip6Lemmas::printed_is_spelled), unfolding(std::specs::Net::Text::hex_groups_text))]
 pub fn print_ip6(ip: Ip6, out: &mut LineBuf) -> Result<(), Room>
-    ensures { Prints result out.old out.new (ip6_text ip) }
+    ensures text { Prints result out.old out.new (ip6_text ip) }
+    // The text that is printed is one of the address's, so that it reads back.
+    ensures spelled { IsIp6 ip → Spells ip (ip6_text ip) }
 {
     let groups = groups_of(ip);
     let groups = &groups[..];

@@ -50,6 +50,7 @@ pub use fields::{field16, field32, field64, put, put8, put16, put32, put64};
 pub use ipv4::Ip4;
 pub use ipv4_text::{print_ip4, read_ip4};
 pub use ipv6::Ip6;
+pub use ipv6_reading::read_ip6;
 pub use ipv6_text::print_ip6;
 pub use line::{LINE_LEN, LineBuf, print_text};
 pub use node_name::{NAME_LEN, Name};
