@@ -1,7 +1,7 @@
 -- The lists of what is still to come and of what was taken, as one more is taken.
-use Rattle.std.proofs.Common.{◌≡◌, ℕ, zero, ◌+◌, ◌<◌, List, [], ◌∷◌, ◌++◌, map, length, take, drop, replicate, Some, slice_get, slice_index_or, subst, sym, ap, ◌∙◌, arith}
+use Rattle.std.proofs.Common.{◌≡◌, ℕ, ◌+◌, ◌<◌, List, [], ◌∷◌, ◌++◌, map, length, take, drop, replicate, Some, slice_get, slice_index_or, subst, sym, ap, ◌∙◌, arith}
 use Rattle.std.specs.Option.{option_map}
-use Rattle.std.proofs.lemmas.List.{take_more, drop-drop, get_or-drop, append-nil}
+use Rattle.std.proofs.lemmas.List.{take_more, get_or-drop, append-nil}
 use Rattle.std.proofs.lemmas.Option.{slice_get-map, get_or_from_slice_get}
 use Rattle.td_outside.specs.declared.mem_link.MemArrival.{MemArrival}
 use Rattle.td_outside.specs.Links.{Came, Nothing, next_of}
@@ -20,4 +20,4 @@ next_arrival arrivals at arrival found =
 pub taken_more : (all : List Came) (at idle : ℕ) → at < length all → idle ≡ 0 → take (at + 1) all ++ replicate idle Nothing ≡ (take at all ++ replicate idle Nothing) ++ next_of (drop at all) ∷ []
 taken_more all at idle within none =
     subst (λ (n : ℕ). take (at + 1) all ++ replicate n Nothing ≡ (take at all ++ replicate n Nothing) ++ next_of (drop at all) ∷ []) (sym none)
-        (append-nil (take (at + 1) all) ∙ take_more all at Nothing within ∙ ap (λ (came : Came). take at all ++ came ∷ []) (sym (next_from all at)) ∙ ap (λ (xs : List Came). xs ++ next_of (drop at all) ∷ []) (sym (append-nil (take at all))))
+    (append-nil (take (at + 1) all) ∙ take_more all at Nothing within ∙ ap (λ (came : Came). take at all ++ came ∷ []) (sym (next_from all at)) ∙ ap (λ (xs : List Came). xs ++ next_of (drop at all) ∷ []) (sym (append-nil (take at all))))

@@ -1,2 +1,3 @@
-pub mod Fronts
 pub mod Arrivals
+pub mod Fronts
+pub mod Opened

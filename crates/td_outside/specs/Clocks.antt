@@ -1,5 +1,5 @@
 -- The clock of the tests.
-use Rattle.std.specs.Prelude.{◌≡◌, ◌≤◌, ◌<◌, ℕ, ⊤, List, [], ◌∷◌}
+use Rattle.std.specs.Prelude.{◌≤◌, ◌<◌, ℕ, ⊤, List, [], ◌∷◌}
 use Rattle.td_base.specs.declared.small.Millis.{Millis}
 use Rattle.td_outside.specs.declared.timing.TheConstants.{CLOCK_END_MS}
 

@@ -3,9 +3,8 @@ ghost use Rattle.std.specs.Prelude.{◌≡◌, ◌≤◌, ◌<◌};
 ghost use Rattle.td_outside.specs.declared.timing.TheConstants.{CLOCK_END_MS};
 
 use crate::{CLOCK_END_MS, Clock};
-use std::io;
-use std::time;
 use std::time::{Duration, Instant};
+use std::{io, time};
 use td_base::Millis;
 
 /// The milliseconds since its own first call. Where the system's clock fails or goes back, it repeats its last

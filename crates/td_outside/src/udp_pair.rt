@@ -37,7 +37,7 @@ fn is_on(on: Option<Addresses>, primary: Ip4, secondary: Ip4) -> bool
     ensures { IsTrue result ↔ (on ≡ open_on primary secondary) }
 {
     match on {
-        Some(on) => on.primary == primary && on.secondary == secondary,
+        Some(on) => on == Addresses { primary, secondary },
         None => false,
     }
 }
