@@ -29,19 +29,32 @@
 mod byte_list;
 mod failing;
 mod file_source;
+mod linking;
+mod mem_link;
 mod mem_sink;
 mod mem_source;
 mod reading;
+mod sides;
 mod std_sink;
+mod system_clock;
+mod test_clock;
 #[cfg(test)]
 mod tests;
+mod timing;
+mod udp_pair;
 mod writing;
 
 pub use byte_list::Octets;
 pub use failing::Failed;
 pub use file_source::FileSource;
+pub use linking::{Addresses, Arrival, DATAGRAM_MAX, Link, TEREDO_PORT};
+pub use mem_link::{MemArrival, MemAttempt, MemLink};
 pub use mem_sink::MemSink;
 pub use mem_source::MemSource;
 pub use reading::Source;
 pub use std_sink::StdSink;
+pub use system_clock::SystemClock;
+pub use test_clock::TestClock;
+pub use timing::{CLOCK_END_MS, Clock};
+pub use udp_pair::UdpPair;
 pub use writing::Sink;
