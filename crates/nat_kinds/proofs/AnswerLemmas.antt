@@ -16,7 +16,7 @@ use Rattle.nat_kinds.specs.declared.settings.NatSettings.{NatSettings}
 use Rattle.nat_kinds.specs.Mappings.{live_port, is_used, IsLowestFree, first_free, lowest_free}
 use Rattle.nat_kinds.specs.Answer.{port_for, answer_of, GivesPort, IsFull, IsAnswer}
 use Rattle.nat_kinds.proofs.ListLemmas.{length-mapped}
-use Rattle.nat_kinds.proofs.PortLemmas.{slot}
+use Rattle.nat_kinds.proofs.PortLemmas.{slot, used_at_slot}
 
 -- THE FIRST FREE PORT
 
@@ -43,10 +43,6 @@ first_free-free live port (suc n) h = by_case (is_used live port) refl h (λ k. 
     by_case : (b : Bool) → is_used live port ≡ b → cond b (first_free live (port + 1) n) port < port + suc n → (first_free live (port + 1) n < port + 1 + n → is_used live (first_free live (port + 1) n) ≡ false) → is_used live (cond b (first_free live (port + 1) n) port) ≡ false
     by_case true e k next = next (omega arith)
     by_case false e k next = e
-
-used_at_slot : (live : List Outward) (q : ℕ) → is_used live (q + 1024) ≡ true → list_any (eqb q) (map slot live) ≡ true
-used_at_slot [] q h = h
-used_at_slot (e ∷ live) q h = ⊎_elim (λ t. let k : q + 1024 ≡ e.port = eqb-true (q + 1024) e.port t in let g : eqb q (slot e) ≡ true = eq-eqb q (slot e) (omega arith) in ap (λ b. b || list_any (eqb q) (map slot live)) g) (λ t. ap (λ b. eqb q (slot e) || b) (used_at_slot live q t) ∙ or-true (eqb q (slot e))) (or_cases ((q + 1024) == e.port) (is_used live (q + 1024)) h)
 
 lt_or_not : (a b : ℕ) → (a < b) ⊎ (b ≤ a)
 lt_or_not a b = ⊎_elim (λ e. inr (omega (arith, e))) (λ s. ⊎_elim (λ l. inl l) (λ g. inr (omega (arith, g))) s) (cases_order a b)

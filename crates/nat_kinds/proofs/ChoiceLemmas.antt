@@ -1,8 +1,9 @@
-use Rattle.std.proofs.Common.{◌≡◌, ℕ, ◌<◌, ◌≤◌, true, ◌==◌, List, ◌∷◌, length, find, Option, Some, None, refl, sym, ap, ◌∙◌, subst, arith}
+use Rattle.std.proofs.Common.{◌≡◌, ℕ, ◌+◌, ◌-◌, ◌<◌, ◌≤◌, true, ◌==◌, List, ◌∷◌, length, map, find, Option, Some, None, refl, sym, ap, ◌∙◌, subst, arith}
 use Rattle.std.specs.Prelude.{IfSome, IfNone}
+use Rattle.std.proofs.lemmas.Map.Steps.{le-length_from_below}
 use Rattle.td_base.specs.declared.endpoint.Ep.{Ep}
-use Rattle.nat_kinds.proofs.ListLemmas.{all_found}
-use Rattle.nat_kinds.proofs.PortLemmas.{find_latest, respects_key, respects_port, agree_again, agree_new, used_latest, count_full, count_free, Agree-filter}
+use Rattle.nat_kinds.proofs.ListLemmas.{all_found, length-mapped}
+use Rattle.nat_kinds.proofs.PortLemmas.{slot, used_at_slot, find_latest, respects_key, respects_port, agree_again, agree_new, used_latest, count_full, count_free, Agree-filter}
 use Rattle.nat_kinds.specs.declared.kind.NatKind.{NatKind}
 use Rattle.nat_kinds.specs.declared.outgoing.Outward.{Outward}
 use Rattle.nat_kinds.specs.Mappings.{has_key, latest, port_in, live_port, is_used, IsLowestFree}
@@ -15,7 +16,7 @@ use Rattle.nat_kinds.specs.Sound.{Agree, Sound}
 abbrev pub Joins : NatKind → Ep → Ep → List Outward → ℕ → Type 0
 Joins kind inside dst outs p = (e : Outward) → e.inside ≡ inside → e.dst ≡ dst → e.port ≡ p → Sound kind (e ∷ outs)
 
-live_is : (kind : NatKind) (inside dst : Ep) (outs : List Outward) → live_port kind inside dst (latest kind outs) ≡ port_in (find (has_key kind inside dst) outs)
+pub live_is : (kind : NatKind) (inside dst : Ep) (outs : List Outward) → live_port kind inside dst (latest kind outs) ≡ port_in (find (has_key kind inside dst) outs)
 live_is kind inside dst outs = ap port_in (find_latest kind _ outs (respects_key kind inside dst outs))
 
 none_in : (r : Option Outward) → port_in r ≡ None → r ≡ None
@@ -64,9 +65,23 @@ pub gives_free_or : (kind : NatKind) (inside dst : Ep) (outs : List Outward) →
 gives_free_or kind inside dst outs s h None a b = b
 gives_free_or kind inside dst outs s h (Some p) a b = gives_free kind inside dst outs p s h a b
 
-pub joins_free_or : (kind : NatKind) (inside dst : Ep) (outs : List Outward) → Sound kind outs → port_in (find (has_key kind inside dst) outs) ≡ None → (r : Option ℕ) → IfSome r (λ p. p < 5120) → IfSome r (IsLowestFree outs) → IfSome r (Joins kind inside dst outs)
-joins_free_or kind inside dst outs s h None a b = b
-joins_free_or kind inside dst outs s h (Some p) a b = joins_free kind inside dst outs p s h a b
+-- WHAT IS GIVEN JOINS
+
+-- so many ports lie below it, each held by a mapping
+below_last : (live : List Outward) (p : ℕ) → length live < 4096 → IsLowestFree live p → p < 5120
+below_last live p few f =
+    let many : p - 1024 ≤ length (map slot live) = le-length_from_below (map slot live) (p - 1024) (λ q k. used_at_slot live q (f.lowest (q + 1024) (omega arith) (omega arith))) in
+    omega (arith, length-mapped slot live, f.from_first)
+
+-- an entry for the key with the port that it is given
+pub joins_given : (kind : NatKind) (inside dst : Ep) (outs : List Outward) (p : ℕ) → Sound kind outs → GivesPort (live_port kind inside dst (latest kind outs)) (latest kind outs) p → Joins kind inside dst outs p
+joins_given kind inside dst outs p s g = by_held (live_port kind inside dst (latest kind outs)) refl g
+  where
+    by_held : (held : Option ℕ) → live_port kind inside dst (latest kind outs) ≡ held → GivesPort held (latest kind outs) p → Joins kind inside dst outs p
+    by_held (Some port) h g = joins_live kind inside dst outs p s (sym (live_is kind inside dst outs) ∙ h ∙ ap (λ n. Some n) (sym g))
+    by_held None h g =
+        let lowest : IsLowestFree outs p = record { from_first = g.1.from_first; free = sym (used_latest kind outs p s.agree) ∙ g.1.free; lowest = λ q a b. sym (used_latest kind outs q s.agree) ∙ g.1.lowest q a b } in
+        joins_free kind inside dst outs p s (sym (live_is kind inside dst outs) ∙ h) (below_last _ p g.0 g.1) lowest
 
 -- INWARD
 

@@ -4,3 +4,4 @@ pub mod ChoiceLemmas
 pub mod StandsLemmas
 pub mod AnswerLemmas
 pub mod EnteringLemmas
+pub mod LawLemmas

@@ -4,6 +4,7 @@ use Rattle.std.specs.List.{IsDistinct}
 use Rattle.std.proofs.lemmas.Map.Keys.{IsDistinct-cons}
 use Rattle.std.specs.Option.{is_some}
 use Rattle.std.proofs.lemmas.Bool.{cond-false, and_parts, and_from, eqb-true, eq-eqb, ne_eqb, eqb-false, not-true, or_cases}
+use Rattle.std.proofs.Math.Bool.{or-true}
 use Rattle.std.specs.Cmp.{nat_eq_equiv, both_ways as both_tests}
 use Rattle.std.proofs.lemmas.Map.Steps.{length-le_from_distinct_below, le-length_from_below}
 use Rattle.td_base.specs.declared.endpoint.Ep.{Ep}
@@ -148,15 +149,27 @@ used_slot (e ∷ live) q r = ap (λ b. b || list_any (eqb q) (map slot live)) (o
     one : (e : Outward) → 1024 ≤ e.port → eqb q (slot e) ≡ ((q + 1024) == e.port)
     one e h = both_tests _ _ (λ t. let g : q ≡ e.port - 1024 = eqb-true q _ t in eq-eqb _ _ (omega arith)) (λ t. let g : q + 1024 ≡ e.port = eqb-true (q + 1024) e.port t in eq-eqb _ _ (omega arith))
 
+pub used_at_slot : (live : List Outward) (q : ℕ) → is_used live (q + 1024) ≡ true → list_any (eqb q) (map slot live) ≡ true
+used_at_slot [] q h = h
+used_at_slot (e ∷ live) q h = ⊎_elim (λ t. let k : q + 1024 ≡ e.port = eqb-true (q + 1024) e.port t in let g : eqb q (slot e) ≡ true = eq-eqb q (slot e) (omega arith) in ap (λ b. b || list_any (eqb q) (map slot live)) g) (λ t. ap (λ b. eqb q (slot e) || b) (used_at_slot live q t) ∙ or-true (eqb q (slot e))) (or_cases ((q + 1024) == e.port) (is_used live (q + 1024)) h)
+
 below : (live : List Outward) (q : ℕ) → InRange live → list_any (eqb q) (map slot live) ≡ true → q < 4096
 below live q r h = any_all (λ e. (q + 1024) == e.port) _ (q < 4096) live (λ e t g. let k : q + 1024 ≡ e.port = eqb-true (q + 1024) e.port t in omega (arith, g.1)) r (sym (used_slot live q r) ∙ h)
+
+-- there are no more mappings than ports
+pub count_most : (kind : NatKind) (outs : List Outward) → Sound kind outs → length (latest kind outs) ≤ 4096
+count_most kind outs s =
+    let live : List Outward = latest kind outs in
+    let r : InRange live = all_latest _ kind outs s.in_range in
+    let most : length (map slot live) ≤ 4096 = length-le_from_distinct_below (map slot live) 4096 (distinct_slots kind outs s.agree s.in_range) (λ q k. below live q r k) in
+    omega (arith, length-mapped slot live)
 
 -- each of the ports is used, so there are as many mappings
 pub count_full : (kind : NatKind) (outs : List Outward) → Sound kind outs → ((q : ℕ) → 1024 ≤ q → q < 5120 → is_used outs q ≡ true) → length (latest kind outs) ≡ 4096
 count_full kind outs s h =
     let live : List Outward = latest kind outs in
     let r : InRange live = all_latest _ kind outs s.in_range in
-    let most : length (map slot live) ≤ 4096 = length-le_from_distinct_below (map slot live) 4096 (distinct_slots kind outs s.agree s.in_range) (λ q k. below live q r k) in
+    let most : length live ≤ 4096 = count_most kind outs s in
     let least : 4096 ≤ length (map slot live) = le-length_from_below (map slot live) 4096 (λ q k. used_slot live q r ∙ used_latest kind outs (q + 1024) s.agree ∙ h (q + 1024) (omega arith) (omega arith)) in
     omega (arith, length-mapped slot live)
 

@@ -4,3 +4,4 @@ pub mod Answer
 pub mod Entering
 pub mod Sound
 pub mod Nat
+pub mod Laws

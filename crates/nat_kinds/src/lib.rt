@@ -25,6 +25,7 @@
 #![tactic(auto)]
 
 mod kind;
+mod laws;
 mod limits;
 mod mappings;
 mod outgoing;
@@ -33,6 +34,10 @@ mod settings;
 mod translator;
 
 pub use kind::NatKind;
+pub use laws::{
+    answer_is_lowest_free, cone_lets_all_in, let_in_where_asked, live_mappings_are_few,
+    owner_is_reached, port_has_one_key, reply_is_let_in,
+};
 pub use limits::{FIRST_PORT, MOST_LIVE};
 pub use outgoing::Outward;
 pub use refusal::NatRefusal;

@@ -1,4 +1,4 @@
-ghost use Rattle.std.specs.Prelude.{◌≡◌, ℕ, ◌+◌, ◌<◌, ◌≤◌, true, ◌∷◌, find, length, IfNone, IfSome, IfOk, IfErr, OnOk, OnErr};
+ghost use Rattle.std.specs.Prelude.{◌≡◌, ℕ, ◌+◌, ◌<◌, ◌≤◌, true, false, ◌∷◌, find, length, slice_index_or, IfNone, IfSome, IfOk, IfErr, OnOk, OnErr};
 ghost use Rattle.nat_kinds.specs.History.{young, without};
 ghost use Rattle.nat_kinds.specs.Mappings.{has_key, port_in, latest, live_port, is_used, IsLowestFree};
 ghost use Rattle.nat_kinds.specs.Answer.{answer_of, GivesPort, IsFull, Gives};
@@ -39,22 +39,30 @@ fn held_port(outs: &[Outward], kind: NatKind, inside: Ep, dst: Ep) -> Option<u16
     None
 }
 
-/// Some entry has the port.
-fn is_taken(outs: &[Outward], port: u16) -> bool
-    ensures value { result ≡ is_used outs.now port }
+/// Marks the ports that are held: place i is port `FIRST_PORT` + i.
+fn mark_used(held: &mut [bool], outs: &[Outward])
+    requires room { length held.old ≡ MOST_LIVE }
+    requires clear { (i : ℕ) → i < MOST_LIVE → slice_index_or held.old i false ≡ false }
+    requires in_range { InRange outs.now }
+    ensures marks { (i : ℕ) → i < MOST_LIVE → slice_index_or held.new i false ≡ is_used outs.now (FIRST_PORT + i) }
 {
-    outs.iter().any(|e| port == e.port)
+    for e in outs {
+        held[usize::from(e.port - FIRST_PORT)] = true;
+    }
 }
 
 /// The lowest port that no mapping holds, if there is one.
 fn lowest_free(outs: &[Outward]) -> Option<u16>
+    requires in_range { InRange outs.now }
     ensures all { IfNone result ((q : ℕ) → FIRST_PORT ≤ q → q < FIRST_PORT + MOST_LIVE → is_used outs.now q ≡ true) }
-    ensures below { IfSome result (λ p. p < FIRST_PORT + MOST_LIVE) }
+    ensures below { IfSome result (λ port. port < FIRST_PORT + MOST_LIVE) }
     ensures lowest { IfSome result (IsLowestFree outs.now) }
 {
-    for port in FIRST_PORT..FIRST_PORT + MOST_LIVE as u16 {
-        if !is_taken(outs, port) {
-            return Some(port);
+    let mut held = [false; MOST_LIVE];
+    mark_used(&mut held, outs);
+    for (i, is_held) in held.iter().enumerate() {
+        if !*is_held {
+            return Some(FIRST_PORT + i as u16);
         }
     }
     None
@@ -65,7 +73,6 @@ fn port_for(outs: &[Outward], kind: NatKind, inside: Ep, dst: Ep) -> Option<u16>
     requires sound { Sound kind outs.now }
     ensures full { IfNone result (IsFull kind inside dst (latest kind outs.now)) }
     ensures port { IfSome result (GivesPort (live_port kind inside dst (latest kind outs.now)) (latest kind outs.now)) }
-    ensures joins { IfSome result (λ p. (e : Outward) → e.inside ≡ inside → e.dst ≡ dst → e.port ≡ p → Sound kind (e ∷ outs.now)) }
 {
     match held_port(outs, kind, inside, dst) {
         Some(port) => Some(port),

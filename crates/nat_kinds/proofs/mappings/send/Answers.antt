@@ -4,6 +4,8 @@ use Rattle.nat_kinds.specs.declared.outgoing.Outward.{Outward}
 use Rattle.nat_kinds.specs.History.{young}
 use Rattle.nat_kinds.specs.Mappings.{latest, live_port}
 use Rattle.nat_kinds.specs.Answer.{GivesPort, IsFull}
+use Rattle.nat_kinds.specs.Sound.{Sound}
+use Rattle.nat_kinds.proofs.ChoiceLemmas.{joins_given}
 use Rattle.nat_kinds.proofs.PortLemmas.{Sound-filter}
 use Rattle.nat_kinds.proofs.AnswerLemmas.{answer-sent, answer-full}
 use Rattle.nat_kinds.proofs.mappings.send.Goals as goal
@@ -32,7 +34,8 @@ pub returns-in_ok-keep-in-Some-clause-sound : goal.returns-in_ok-keep-in-Some-cl
 returns-in_ok-keep-in-Some-clause-sound c =
     let new : Outward = record { moment = c.args.now; inside = c.args.inside; dst = c.args.dst; port = c.in-Some.port } in
     let e : c.keep.new.outs.items ≡ new ∷ c.deref.result.now = c.in_ok-keep-in-Some.ensures.ok ∙ cc in
-    rw e (c.in-Some.ensures.joins new refl refl refl)
+    let sound : Sound c.args.settings.now.kind c.deref.result.now = rw (c.deref.ensures.value, c.take_out_old.ensures.items) (Sound-filter _ _ _ c.requires.sound) in
+    rw e (joins_given _ c.args.inside c.args.dst _ _ sound c.in-Some.ensures.port new refl refl refl)
 
 pub returns-in_ok-keep-in-Some-clause-answer : goal.returns-in_ok-keep-in-Some-clause-answer
 returns-in_ok-keep-in-Some-clause-answer c =
