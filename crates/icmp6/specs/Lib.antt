@@ -1,0 +1,4 @@
+pub mod Checksum
+pub mod Options
+pub mod Message
+pub mod Reading
