@@ -1,2 +1,6 @@
 pub mod SumLaws
 pub mod WalkSteps
+pub mod Steps
+pub mod OptionLaws
+pub mod AgainLaws
+pub mod FoundLaws

@@ -1,4 +1,5 @@
 pub mod Checksum
 pub mod Options
 pub mod Message
-pub mod Reading
+pub mod Writing
+pub mod Grammar

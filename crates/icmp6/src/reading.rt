@@ -1,7 +1,8 @@
-ghost use Rattle.std.specs.Prelude.{◌≡◌, ◌≤◌, length};
+ghost use Rattle.std.specs.Prelude.{◌≡◌, ◌≤◌, length, IfOk};
 ghost use Rattle.td_base.specs.Reading.{Gives};
-ghost use Rattle.icmp6.specs.Message.{view};
-ghost use Rattle.icmp6.specs.Reading.{has_len, has_hop, has_code, has_source, echo_request_at, echo_reply_at, solicit_at, advert_at, message_at};
+ghost use Rattle.icmp6.specs.Message.{Message, view, options_in, has_len, has_hop, has_code, has_source, echo_request_at, echo_reply_at, solicit_at, advert_at, message_at};
+ghost use Rattle.icmp6.specs.Options.{AreOptions};
+ghost use Rattle.icmp6.specs.Grammar.{MessageBytes};
 
 use crate::fault::IcmpFault;
 use crate::message::Msg;
@@ -59,7 +60,7 @@ fn has_source(src: Ip6) -> Result<(), IcmpFault>
 }
 
 #[inline(always)]
-#[tactic(auto, unfolding(crate::specs::Reading::echo_request_at))]
+#[tactic(auto, unfolding(crate::specs::Message::echo_request_at))]
 fn echo_request(body: &[u8]) -> Result<Msg<'_>, IcmpFault>
     requires { HEAD_LEN ≤ length body.now }
     ensures { Gives view result (echo_request_at body.now) }
@@ -74,7 +75,7 @@ fn echo_request(body: &[u8]) -> Result<Msg<'_>, IcmpFault>
 }
 
 #[inline(always)]
-#[tactic(auto, unfolding(crate::specs::Reading::echo_reply_at))]
+#[tactic(auto, unfolding(crate::specs::Message::echo_reply_at))]
 fn echo_reply(body: &[u8]) -> Result<Msg<'_>, IcmpFault>
     requires { HEAD_LEN ≤ length body.now }
     ensures { Gives view result (echo_reply_at body.now) }
@@ -89,7 +90,7 @@ fn echo_reply(body: &[u8]) -> Result<Msg<'_>, IcmpFault>
 }
 
 #[inline(always)]
-#[tactic(auto, unfolding(crate::specs::Reading::solicit_at))]
+#[tactic(auto, unfolding(crate::specs::Message::solicit_at))]
 fn router_solicit(hop: u8, body: &[u8]) -> Result<Msg<'_>, IcmpFault>
     requires { HEAD_LEN ≤ length body.now }
     ensures { Gives view result (solicit_at hop body.now) }
@@ -104,7 +105,7 @@ fn router_solicit(hop: u8, body: &[u8]) -> Result<Msg<'_>, IcmpFault>
 }
 
 #[inline(always)]
-#[tactic(auto, unfolding(crate::specs::Reading::advert_at))]
+#[tactic(auto, unfolding(crate::specs::Message::advert_at))]
 fn router_advert(src: Ip6, hop: u8, body: &[u8]) -> Result<Msg<'_>, IcmpFault>
     requires { HEAD_LEN ≤ length body.now }
     ensures { Gives view result (advert_at src hop body.now) }
@@ -126,11 +127,25 @@ fn router_advert(src: Ip6, hop: u8, body: &[u8]) -> Result<Msg<'_>, IcmpFault>
 
 /// The message of the body of a packet, all of the body; `hop` is the packet's hop limit.
 #[inline(always)]
-#[tactic(auto, unfolding(crate::specs::Reading::message_at))]
 pub fn read(src: Ip6, dst: Ip6, hop: u8, body: &[u8]) -> Result<Msg<'_>, IcmpFault>
     requires { length body.now ≤ 65535 }
-    // The message, or the first fault.
+    // What is read is a message of the grammar.
+    ensures found { IfOk result (λ m. MessageBytes src dst hop (view m) body.now) }
+    // What is a message of the grammar is read.
+    ensures only { (m : Message) → MessageBytes src dst hop m body.now → Gives view result (Ok m) }
+    // What `options` wants.
+    ensures lends { IfOk result (λ m. AreOptions (options_in (view m))) }
+    // The message, or the first fault, as one function of the bytes.
     ensures exact { Gives view result (message_at src dst hop body.now) }
+{
+    message(src, dst, hop, body)
+}
+
+#[inline(always)]
+#[tactic(auto, unfolding(crate::specs::Message::message_at))]
+fn message(src: Ip6, dst: Ip6, hop: u8, body: &[u8]) -> Result<Msg<'_>, IcmpFault>
+    requires { length body.now ≤ 65535 }
+    ensures { Gives view result (message_at src dst hop body.now) }
 {
     if body.len() < HEAD_LEN {
         return Err(IcmpFault::Short { len: body.len() });
