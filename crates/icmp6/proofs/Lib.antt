@@ -4,3 +4,5 @@ pub mod Steps
 pub mod OptionLaws
 pub mod AgainLaws
 pub mod FoundLaws
+pub mod BlockLaws
+pub mod WriteLaws

@@ -41,7 +41,7 @@ option_again place len x whole =
     cond-false _ _ _ head ∙ cond-false _ _ _ some ∙ cond-false _ _ _ room ∙ ap (λ (k : ℕ). let r : Result ℕ IcmpFault = Ok k in r) is
 
 -- the bytes of a whole option
-block_is : (place len : ℕ) (x : List ℕ) → IsWholeAt place len x → IsOption (take len (drop place x))
+pub block_is : (place len : ℕ) (x : List ℕ) → IsWholeAt place len x → IsOption (take len (drop place x))
 block_is place len x whole =
     let byte : slice_index (take len (drop place x)) 1 ≡ slice_index x (place + 1) = get_or-take len (drop place x) 1 0 (omega (arith, whole.len_is, whole.some)) ∙ get_or-drop place x 1 0 in
     let size : length (take len (drop place x)) ≡ len = omega (arith, length-take len (drop place x), length-drop place x, whole.fits) in
@@ -69,7 +69,7 @@ options_found (suc n) place u x enough e =
     ]
 
 -- a whole option at the front of what is left
-whole_front : (place : ℕ) (b rest x : List ℕ) → place ≤ length x → drop place x ≡ b ++ rest → IsOption b → IsWholeAt place (length b) x
+pub whole_front : (place : ℕ) (b rest x : List ℕ) → place ≤ length x → drop place x ≡ b ++ rest → IsOption b → IsWholeAt place (length b) x
 whole_front place b rest x inside e is =
     let byte : slice_index x (place + 1) ≡ slice_index b 1 = sym (get_or-drop place x 1 0) ∙ ap (λ (t : List ℕ). slice_index t 1) e ∙ get_or_append_left b rest 0 1 (omega (arith, is.some, is.whole)) in
     let size : length x - place ≡ length b + length rest = sym (length-drop place x) ∙ ap length e ∙ length-append b rest in

@@ -26,17 +26,25 @@
 //! | `reading` | `read` | `specs/Reading.antt`, `specs/Grammar.antt` |
 #![tactic(auto)]
 
+mod block;
 mod fault;
+mod iter;
+mod lend;
 mod message;
 mod numbers;
 mod reading;
 mod sum;
 mod walk;
+mod writing;
 
+pub use block::Opt;
 pub use fault::IcmpFault;
+pub use iter::Options;
+pub use lend::options;
 pub use message::Msg;
 pub use numbers::{
     ADVERT_LEN, ECHO_LEN, ECHO_REPLY, ECHO_REQUEST, HEAD_LEN, ICMPV6, OPTION_UNIT, ROUTER_ADVERT,
     ROUTER_HOP, ROUTER_SOLICIT, SOLICIT_LEN,
 };
 pub use reading::read;
+pub use writing::write;

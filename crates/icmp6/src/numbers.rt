@@ -35,3 +35,18 @@ pub const OPTION_HEAD_LEN: usize = 2;
 
 /// Bytes that a unit of an option's length stands for: RFC 4861, section 4.6.
 pub const OPTION_UNIT: usize = 8;
+
+/// The type of a Prefix Information: RFC 4861, section 4.6.2.
+pub const PREFIX: u8 = 3;
+
+/// Units that a Prefix Information has.
+pub const PREFIX_UNITS: u8 = 4;
+
+/// The type of an MTU option: RFC 4861, section 4.6.4.
+pub const MTU: u8 = 5;
+
+/// Units that an MTU option has.
+pub const MTU_UNITS: u8 = 1;
+
+/// The most bytes of a message that is written: a packet of 1,280 bytes without its header.
+pub const MESSAGE_MAX: usize = 1240;
