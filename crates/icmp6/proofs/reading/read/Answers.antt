@@ -1,0 +1,15 @@
+use Rattle.std.proofs.Common.{◌∙◌, ap, subst, sym, arith}
+use Rattle.td_base.specs.Reading.{Gives}
+use Rattle.icmp6.specs.Message.{view}
+use Rattle.icmp6.proofs.AgainLaws.{read_again}
+use Rattle.icmp6.proofs.FoundLaws.{is_found, is_lent}
+use Rattle.icmp6.proofs.reading.read.Goals as goal
+
+pub returns-clause-found : goal.returns-clause-found
+returns-clause-found c = is_found view c.args.src c.args.dst c.args.hop c.args.body.now c.message.result (λ i. omega (arith, c.type_inv.body i)) c.message.ensures
+
+pub returns-clause-only : goal.returns-clause-only
+returns-clause-only c = λ m is. subst (λ r. Gives view c.message.result r) (read_again c.args.src c.args.dst c.args.hop m c.args.body.now is) c.message.ensures
+
+pub returns-clause-lends : goal.returns-clause-lends
+returns-clause-lends c = is_lent view c.args.src c.args.dst c.args.hop c.args.body.now c.message.result (returns-clause-found c)

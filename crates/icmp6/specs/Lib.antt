@@ -1,0 +1,6 @@
+pub mod Checksum
+pub mod Options
+pub mod Message
+pub mod Blocks
+pub mod Writing
+pub mod Grammar
