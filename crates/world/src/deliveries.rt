@@ -1,4 +1,4 @@
-ghost use Rattle.std.specs.Prelude.{◌≡◌, ◌≤◌, ◌<◌, ◌^◌, ◌∷◌, [], ◌++◌, length, map, position, Some, None, IfOk, OnOk, OnErr};
+ghost use Rattle.std.specs.Prelude.{◌≡◌, ◌+◌, ◌≤◌, ◌<◌, ◌^◌, ◌∷◌, [], ◌++◌, length, map, position, Some, None, IfOk, OnOk, OnErr};
 ghost use Rattle.td_base.specs.Ep.{server_ep};
 ghost use Rattle.teredo_node.specs.Step.{Step};
 ghost use Rattle.server_core.specs.Server.{server_row};
@@ -14,7 +14,7 @@ ghost use Rattle.td_base.specs.declared.endpoint.Ep.{Ep as Endpoint};
 ghost use Rattle.history.specs.declared.node_rows.ServerNode.{ServerNode as Row};
 ghost use Rattle.world.specs.Steps.{said, Plays};
 
-use crate::wire_entries::{Wire, WireEntry};
+use crate::wire_entries::Wire;
 use history::{Act, MOST_SERVERS, Mark, Marks, Record, ServerNode, Verb};
 use server_core::{Answer, DATAGRAM_LIMIT, Server};
 use td_base::{Ep, Millis, NoMemory, Policy, Side};
@@ -35,29 +35,29 @@ fn quiet(index: u32, act: Act, node: Option<u16>, fate: Fate) -> Record
     }
 }
 
-/// Puts a datagram on the wire, and a mark for it into the record.
+/// Puts a datagram on the wire, and a mark for it into the record that was `begun`.
 fn send(
     wire: &mut Wire,
-    mut record: Record,
+    mut begun: Record,
     src: Ep,
     dst: Ep,
     bytes: &[u8],
 ) -> Result<Record, NoMemory>
-    requires quiet { record.marks ≡ [] }
+    requires quiet { begun.marks ≡ [] }
     requires room { length wire.old < 2 ^ 32 }
-    ensures marked { IfOk result (λ r. r ≡ record record { marks = mark.Udp (length wire.old) src dst (length bytes.now) ∷ [] }) }
+    ensures marked { IfOk result (λ r. r ≡ record begun { marks = mark.Udp (length wire.old) src dst (length bytes.now) ∷ [] }) }
     ensures ok { OnOk result (wire.new ≡ wire.old ++ udp src dst bytes.now ∷ []) }
     ensures err { OnErr result (wire.new ≡ wire.old) }
 {
     let number = wire.len() as u32;
     wire.push(src, dst, bytes)?;
-    record.marks.push(Mark::Udp {
+    begun.marks.push(Mark::Udp {
         number,
         src,
         dst,
         len: bytes.len(),
     });
-    Ok(record)
+    Ok(begun)
 }
 
 /// Puts a stranger's datagram on the wire.
@@ -69,12 +69,19 @@ pub fn put_stranger(
     bytes: &Octets,
 ) -> Result<Record, NoMemory>
     requires { length wire.old < 2 ^ 32 }
-    ensures { (servers : List Row) → Plays wire.old wire.new (next_from (record { servers = servers }) 0 wire.old index (event.Stranger src dst bytes.now)) result }
+    ensures plays { (servers : List Row) → Plays wire.old wire.new (next_from (record { servers = servers }) 0 wire.old index (event.Stranger src dst bytes.now)) result }
+    ensures grows { length wire.new ≤ length wire.old + 1 }
 {
     let act = Act::Plain {
         verb: Verb::Stranger,
     };
-    send(wire, quiet(index, act, None, Fate::Put), src, dst, bytes.as_slice())
+    send(
+        wire,
+        quiet(index, act, None, Fate::Put),
+        src,
+        dst,
+        bytes.as_slice(),
+    )
 }
 
 /// Whether datagrams to an endpoint come to the server.
@@ -86,13 +93,19 @@ fn is_at(row: &ServerNode, dst: Ep) -> bool
 
 /// The number of the server that datagrams to an endpoint come to.
 fn receiver(servers: &[ServerNode], dst: Ep) -> Option<usize>
-    ensures { result ≡ position (is_at dst) (map server servers.now) }
+    ensures { result ≡ position (λ row. is_at dst (server row)) servers.now }
 {
     servers.iter().position(|row| is_at(row, dst))
 }
 
 /// The server's answer to a datagram that came to one of its addresses.
-fn answer_of(row: &ServerNode, src: Ep, dst: Ep, bytes: &[u8], out: &mut [u8; DATAGRAM_LIMIT]) -> Answer
+fn answer_of(
+    row: &ServerNode,
+    src: Ep,
+    dst: Ep,
+    bytes: &[u8],
+    out: &mut [u8; DATAGRAM_LIMIT],
+) -> Answer
     ensures { Answers result out.new (server_row (server_settings row.now) (side_at (server row.now) dst) src bytes.now) }
 {
     let side = if dst.ip == row.secondary {
@@ -123,9 +136,11 @@ fn put_answer(
     answer: Answer,
     out: &[u8],
 ) -> Result<Record, NoMemory>
-    requires { length wire.old < 2 ^ 32 }
-    ensures { (step : Step) (src : Endpoint) (x : List ℕ) → Answers answer out.now step
+    requires room { length wire.old < 2 ^ 32 }
+    requires answered { (step : Step) × Answers answer out.now step }
+    ensures plays { (step : Step) (src : Endpoint) (x : List ℕ) → Answers answer out.now step
         → Plays wire.old wire.new (answered 0 wire.old (record { number = index; event = event.Deliver number }) number src x node row.now step) result }
+    ensures grows { length wire.new ≤ length wire.old + 1 }
 {
     let act = Act::Deliver { number };
     match answer {
@@ -136,7 +151,13 @@ fn put_answer(
             side,
             to,
             len,
-        } => send(wire, quiet(index, act, Some(node), fate), own_endpoint(row, side), to, &out[..len]),
+        } => send(
+            wire,
+            quiet(index, act, Some(node), fate),
+            own_endpoint(row, side),
+            to,
+            &out[..len],
+        ),
     }
 }
 
@@ -149,18 +170,18 @@ pub fn deliver(
 ) -> Result<Record, NoMemory>
     requires few { length servers.now ≤ MOST_SERVERS }
     requires room { length wire.old < 2 ^ 32 }
-    ensures { Plays wire.old wire.new (next_from (record { servers = servers.now }) 0 wire.old index (event.Deliver number)) result }
+    ensures plays { Plays wire.old wire.new (next_from (record { servers = servers.now }) 0 wire.old index (event.Deliver number)) result }
+    ensures grows { length wire.new ≤ length wire.old + 1 }
 {
     let mut out = [0; DATAGRAM_LIMIT];
     let act = Act::Deliver { number };
     let Some(entry) = wire.get(number as usize) else {
         return Ok(quiet(index, act, None, Fate::NoEntry));
     };
-    let WireEntry::Udp { src, dst, bytes } = entry;
-    let Some(place) = receiver(servers, dst) else {
+    let Some(place) = receiver(servers, entry.dst) else {
         return Ok(quiet(index, act, None, Fate::Nowhere));
     };
     let row = servers[place];
-    let answer = answer_of(&row, src, dst, bytes, &mut out);
+    let answer = answer_of(&row, entry.src, entry.dst, entry.bytes, &mut out);
     put_answer(wire, index, number, place as u16, &row, answer, &out)
 }

@@ -1,7 +1,7 @@
 ghost use Rattle.std.specs.Prelude.{◌≡◌, ◌<◌, ◌≤◌, ◌^◌, ◌+◌, length, IfOk, OnOk, OnErr};
 
 use crate::deliveries::{deliver, put_stranger};
-use crate::wire_entries::{Wire, WireEntry};
+use crate::wire_entries::Wire;
 use history::{Event, Record, ServerNode, Topology};
 use std::alloc::Global;
 use std::marker::Model;

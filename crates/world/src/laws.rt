@@ -6,5 +6,4 @@ ghost use Rattle.world.specs.Legal.{Legal};
 /// A scenario has one legal history at most.
 pub fn one_history()
     ensures { (s : Scenario) (a b : List Full) → Legal a s → Legal b s → a ≡ b }
-{
-}
+{}
