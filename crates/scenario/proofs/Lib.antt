@@ -1,0 +1,5 @@
+pub mod WordLemmas
+pub mod TableLemmas
+pub mod EventLemmas
+pub mod NodeLemmas
+pub mod TextLemmas

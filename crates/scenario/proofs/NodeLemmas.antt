@@ -1,0 +1,83 @@
+-- Names, addresses and servers of tables.
+use Rattle.std.proofs.Common.{◌≡◌, ℕ, ◌+◌, ◌-◌, ◌<◌, ◌≤◌, ◌&&◌, nat_le, leb-true, Bool, true, false, List, [], ◌∷◌, ◌++◌, length, take, drop, get_or, Option, Some, None, refl, sym, ap, subst, ◌∙◌, arith, inl, inr}
+use Rattle.std.specs.Prelude.{replicate, IfSome, IfNone, ◌⊎◌}
+use Rattle.std.proofs.lemmas.List.{length-append, length-replicate, length-take, take_at, take_all}
+use Rattle.std.proofs.lemmas.Bool.{and_parts}
+use Rattle.std.proofs.Props.{props}
+use Rattle.std.specs.List.{list_all}
+use Rattle.toml.specs.declared.value.Value.{Value}
+use Rattle.toml.specs.View.{view, items_view}
+use Rattle.toml.proofs.Views.{items_view-drop}
+use Rattle.td_base.specs.declared.node_name.Name.{Name}
+use Rattle.td_base.specs.declared.node_name.TheConstants.{NAME_LEN}
+use Rattle.td_base.specs.Names.{name_text}
+use Rattle.history.specs.Rows.{TopologyState}
+use Rattle.scenario.specs.NodeName.{name, padded}
+use Rattle.scenario.specs.Words.{◌>>=◌}
+use Rattle.scenario.specs.Nodes.{is_name, is_free_name, new_name, begins_with_letter, is_name_byte, add_server, add_servers}
+
+-- ---- names
+
+abbrev build : (n : ℕ) (l : List ℕ) → length l ≡ NAME_LEN → n ≤ NAME_LEN → l ≡ take n l ++ replicate (NAME_LEN - n) 0 → Name
+build n l w s p = record { len = n; bytes = l; whole = w; short = s; padded = p }
+
+same_numbers : (n m : ℕ) → IsProp (n ≡ m)
+same_numbers n m = hlevel props
+
+same_lists : (a b : List ℕ) → IsProp (a ≡ b)
+same_lists a b = hlevel props
+
+same_bounds : (n m : ℕ) → IsProp (n ≤ m)
+same_bounds n m = hlevel props
+
+-- a name's facts don't tell it apart
+proofs_same : (n : ℕ) (l : List ℕ) (w w' : length l ≡ NAME_LEN) (s s' : n ≤ NAME_LEN) (p p' : l ≡ take n l ++ replicate (NAME_LEN - n) 0) → build n l w s p ≡ build n l w' s' p'
+proofs_same n l w w' s s' p p' =
+    ap (λ (x : length l ≡ NAME_LEN). build n l x s p) (same_numbers _ _ w w')
+    ∙ ap (λ (x : n ≤ NAME_LEN). build n l w' x p) (same_bounds _ _ s s')
+    ∙ ap (λ (x : l ≡ take n l ++ replicate (NAME_LEN - n) 0). build n l w' s' x) (same_lists _ _ p p')
+
+abbrev AnyFacts : Name → ℕ → List ℕ → Type 0
+AnyFacts a m k = (w : length k ≡ NAME_LEN) (s : m ≤ NAME_LEN) (p : k ≡ take m k ++ replicate (NAME_LEN - m) 0) → a ≡ build m k w s p
+
+parts_same : (n m : ℕ) (l k : List ℕ) → n ≡ m → l ≡ k → (w : length l ≡ NAME_LEN) (s : n ≤ NAME_LEN) (p : l ≡ take n l ++ replicate (NAME_LEN - n) 0) → AnyFacts (build n l w s p) m k
+parts_same n m l k e f w s p =
+    let here : AnyFacts (build n l w s p) n l = λ w' s' p'. proofs_same n l w w' s s' p p' in
+    let along : AnyFacts (build n l w s p) m l = let P : ℕ → Type 0 = λ x. AnyFacts (build n l w s p) x l in subst P e here in
+    let P : List ℕ → Type 0 = λ x. AnyFacts (build n l w s p) m x in subst P f along
+
+-- names of the same length and bytes are the same
+name_same : (a b : Name) → a.len ≡ b.len → a.bytes ≡ b.bytes → a ≡ b
+name_same a b e f = parts_same a.len b.len a.bytes b.bytes e f a.whole a.short a.padded b.whole b.short b.padded
+
+pub name_is : (a : Name) (text : List ℕ) → length text ≤ NAME_LEN → name_text a ≡ text → a ≡ name text
+unfolding name
+name_is a text short e =
+    let len : length text ≡ a.len = omega (arith, ap length e, length-take a.len a.bytes, a.whole, a.short) in
+    let front : take NAME_LEN text ≡ text = take_all NAME_LEN text short in
+    let bytes : a.bytes ≡ padded text = a.padded ∙ ap (λ (xs : List ℕ). xs ++ replicate (NAME_LEN - a.len) 0) e ∙ ap (λ (n : ℕ). text ++ replicate (NAME_LEN - n) 0) (sym len) in
+    name_same a (name text) (sym len ∙ ap length (sym front)) (bytes ∙ ap padded (sym front))
+
+pub is_name-short : (text : List ℕ) → is_name text ≡ true → length text ≤ NAME_LEN
+unfolding is_name
+is_name-short text e = leb-true _ _ (and_parts (begins_with_letter text && list_all is_name_byte text) (nat_le (length text) NAME_LEN) e).1
+
+pub is_name-some : (text : List ℕ) → is_name text ≡ true → text ≡ [] → ⊥
+unfolding is_name
+is_name-some [] e f = absurd cc
+is_name-some (x ∷ xs) e f = absurd cc
+
+-- a name that was made of a text
+pub new_name-made : (t : TopologyState) (text : List ℕ) (r : Option Name) → is_name text ≡ true → is_free_name t text ≡ true → IfSome r (λ a. name_text a ≡ text) → IfNone r ((text ≡ []) ⊎ (NAME_LEN < length text)) → r ≡ new_name t text
+unfolding new_name
+new_name-made t text None e f some none =
+    elim none [
+      | inl h ↦ absurd (is_name-some text e h)
+      | inr h ↦ absurd (omega (arith, h, is_name-short text e))
+    ]
+new_name-made t text (Some a) e f some none = rw (e, f) (ap Some (name_is a text (is_name-short text e) some))
+
+-- ---- lists of servers
+
+pub add_servers-drop : (t : TopologyState) (vs : List Value) (i : ℕ) (d : Value) → i < length vs → add_servers t (items_view (drop i vs)) ≡ (add_server t (view (get_or vs i d)) >>= (λ more. add_servers more (items_view (drop (i + 1) vs))))
+add_servers-drop t vs i d h = ap (add_servers t) (items_view-drop vs i d h)

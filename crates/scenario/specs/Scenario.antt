@@ -1,0 +1,53 @@
+-- The scenario that a text is.
+use Rattle.std.specs.Prelude.{ℕ, ◌&&◌, ◌||◌, nat_le, Bool, if◌then◌else◌, List, [], ◌∷◌, length, codes, Option, Some, None}
+use Rattle.std.specs.List.{list_all}
+use Rattle.std.specs.Str.{is_utf8}
+use Rattle.toml.specs.Data.{Data, as_str, as_array, Items, no_items, item, Members, get_member}
+use Rattle.toml.specs.Parse.{parse_document}
+use Rattle.history.specs.declared.event_list.Event.{Event}
+use Rattle.history.specs.Topology.{Scenario}
+use Rattle.scenario.specs.declared.reader.TheConstants.{TEXT_MOST}
+use Rattle.scenario.specs.declared.event_lists.TheConstants.{MOST_EVENTS}
+use Rattle.scenario.specs.Words.{◌>>=◌, same_text}
+use Rattle.scenario.specs.EventText.{event_of}
+use Rattle.scenario.specs.Tables.{keys_of, natural_at, item_count}
+use Rattle.scenario.specs.Nodes.{servers_at}
+
+abbrev pub event_in : Data → Option Event
+event_in value = as_str value >>= event_of
+
+-- the events of a list of texts in order
+abbrev pub events_at : Items → Option (List Event)
+events_at no_items = Some []
+events_at (item value more) = do
+  event ← event_in value
+  events ← events_at more
+  Some (event ∷ events)
+
+abbrev pub events_of : Items → Option (List Event)
+events_of texts = if nat_le (item_count texts) MOST_EVENTS then events_at texts else None
+
+abbrev pub events_in : Data → Option (List Event)
+events_in value = as_array value >>= events_of
+
+abbrev pub is_scenario_key : List ℕ → Bool
+is_scenario_key key = same_text key (codes "seed") || same_text key (codes "server") || same_text key (codes "events")
+
+abbrev pub scenario_at : Members → Option Scenario
+scenario_at table = do
+  seed ← natural_at (codes "seed") table
+  topology ← servers_at (get_member (codes "server") table)
+  events ← get_member (codes "events") table >>= events_in
+  Some (record { seed = seed; topology = topology; events = events })
+
+-- the scenario of a table that has no other key
+unfoldable pub scenario_in : Members → Option Scenario
+scenario_in table = if list_all is_scenario_key (keys_of table) then scenario_at table else None
+
+-- the scenario of what is written in TOML
+abbrev pub written : List ℕ → Option Scenario
+written text = parse_document text >>= scenario_in
+
+-- the scenario that a text is: it has at most so many bytes, and they are UTF-8
+unfoldable pub scenario_of : List ℕ → Option Scenario
+scenario_of text = if nat_le (length text) TEXT_MOST && is_utf8 text then written text else None

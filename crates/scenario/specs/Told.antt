@@ -1,0 +1,6 @@
+-- What a scenario says.
+use Rattle.history.specs.Topology.{Scenario}
+use Rattle.scenario.specs.declared.reader.Scenario.{Scenario as CodeScenario}
+
+abbrev pub told : CodeScenario → Scenario
+told s = record { seed = s.seed; topology = s.topology; events = s.events }

@@ -1,0 +1,41 @@
+//! The reader of scenario texts.
+//!
+//! Standards: TOML 1.1 for the text; RFC 4380 section 4 for which addresses may be a server's. The form of a
+//! scenario is our own: `docs/SCENARIOS.md`.
+//!
+//! # What the layer above may rely on
+//!
+//! - A text is one scenario or none. `specs/Scenario.antt` says which, as a function of its bytes, and `read`
+//!   answers exactly that, or that memory ran out.
+//! - The names of the nodes that are read differ from one another, and so do their addresses, which are global.
+//! - Each event of a scenario is the one that its text asks for, in order.
+//!
+//! # What it does not know
+//!
+//! What an event does, files, and what is printed.
+//!
+//! # Parts
+//!
+//! | module | holds | stated in |
+//! |---|---|---|
+//! | `reader` | `Scenario`, `ScenarioFault`, `read` | `specs/Scenario.antt` |
+//! | `table_keys` | what a table has at a key | `specs/Tables.antt` |
+//! | `server_tables` | the servers | `specs/Nodes.antt`, `specs/NodeName.antt` |
+//! | `event_lists` | the events | `specs/Scenario.antt` |
+//! | `event_text` | the event of a text | `specs/EventText.antt` |
+//! | `word_texts`, `datagram_text` | numbers, addresses, endpoints and bytes | `specs/Words.antt` |
+#![tactic(auto)]
+
+mod datagram_text;
+mod event_lists;
+mod event_text;
+mod reader;
+mod server_tables;
+mod table_keys;
+mod word_texts;
+
+pub use datagram_text::DATAGRAM_MOST;
+pub use event_lists::MOST_EVENTS;
+pub use event_text::NUMBER_MOST;
+pub use reader::{Scenario, ScenarioFault, TEXT_MOST, read};
+pub use server_tables::BUILT_SERVERS;
