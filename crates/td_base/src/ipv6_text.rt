@@ -101,12 +101,10 @@ fn push_elided(text: &mut ShortText, front: &[u16], back: &[u16])
     push_groups(text, back);
 }
 
-/// Appends an IPv6 address.
-#[tactic(auto, using(crate::proofs::Ip6Lemmas::printed_is_spelled), unfolding(std::specs::Net::Text::hex_groups_text))]
-pub fn print_ip6(ip: Ip6, out: &mut LineBuf) -> Result<(), Room>
-    ensures text { Prints result out.old out.new (ip6_text ip) }
-    // The text that is printed is one of the address's, so that it reads back.
-    ensures spelled { IsIp6 ip → Spells ip (ip6_text ip) }
+/// The text of an IPv6 address.
+#[tactic(auto, unfolding(std::specs::Net::Text::hex_groups_text))]
+fn short_ip6(ip: Ip6) -> ShortText
+    ensures { result ≡ ip6_text ip }
 {
     let groups = groups_of(ip);
     let groups = &groups[..];
@@ -114,9 +112,19 @@ pub fn print_ip6(ip: Ip6, out: &mut LineBuf) -> Result<(), Room>
     let mut text = ShortText::new();
     if len > 1 {
         push_elided(&mut text, &groups[..start], &groups[start + len..]);
-        print_text(text.as_slice(), out)
-    } else {
-        push_groups(&mut text, groups);
-        print_text(text.as_slice(), out)
+        return text;
     }
+    push_groups(&mut text, groups);
+    text
+}
+
+/// Appends an IPv6 address.
+#[tactic(auto, using(crate::proofs::Ip6Lemmas::printed_is_spelled))]
+pub fn print_ip6(ip: Ip6, out: &mut LineBuf) -> Result<(), Room>
+    ensures text { Prints result out.old out.new (ip6_text ip) }
+    ensures short { length (ip6_text ip) ≤ SHORT_LEN }
+    // The text that is printed is one of the address's, so that it reads back.
+    ensures spelled { IsIp6 ip → Spells ip (ip6_text ip) }
+{
+    print_text(short_ip6(ip).as_slice(), out)
 }
