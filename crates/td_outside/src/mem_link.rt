@@ -6,81 +6,11 @@ ghost use Rattle.td_outside.specs.Links.{Nothing, Attempt, attempt, came_by, ope
 ghost use Rattle.td_outside.specs.MemLink.{told_of, came_of, received, sent};
 
 use crate::failing::Fails;
-use crate::{Addresses, Arrival, DATAGRAM_MAX, Failed, Link, Octets};
+use crate::mem_arrival::give;
+use crate::{Addresses, Arrival, DATAGRAM_MAX, Failed, Link, MemArrival, MemAttempt};
 use std::alloc::Global;
 use std::marker::Model;
 use td_base::{Ep, Ip4, NoMemory, Side};
-
-/// What a link in memory is given to receive. A longer datagram is cut to `DATAGRAM_MAX` bytes.
-#[derive(Drop)]
-pub enum MemArrival {
-    Got { side: Side, from: Ep, bytes: Octets },
-    Idle,
-}
-
-/// An attempt to send that a link in memory was asked for, with the answer that it gave.
-#[derive(Drop)]
-pub struct MemAttempt {
-    side: Side,
-    to: Ep,
-    len: usize,
-    buf: [u8; DATAGRAM_MAX],
-    sent: bool,
-}
-
-impl Model for MemAttempt {
-    ghost Value = { Attempt };
-
-    ghost view = { λ s. attempt s.side s.to (take s.len s.buf) s.sent };
-
-    ghost invariant = { λ s. s.len ≤ 1400 };
-}
-
-impl MemAttempt {
-    fn new(side: Side, to: Ep, bytes: &[u8], sent: bool) -> MemAttempt
-        requires { length bytes.now ≤ DATAGRAM_MAX }
-        ensures { result ≡ attempt side to bytes.now sent }
-    {
-        let mut buf = [0; DATAGRAM_MAX];
-        let len = bytes.len();
-        buf[..len].copy_from_slice(bytes);
-        MemAttempt {
-            side,
-            to,
-            len,
-            buf,
-            sent,
-        }
-    }
-
-    /// The side that it was to leave from.
-    pub fn side(&self) -> Side
-        ensures { result ≡ self.now.side }
-    {
-        self.side
-    }
-
-    /// The endpoint that it was to go to.
-    pub fn to(&self) -> Ep
-        ensures { result ≡ self.now.to }
-    {
-        self.to
-    }
-
-    /// The bytes of the datagram.
-    pub fn bytes(&self) -> &[u8]
-        ensures { result.now ≡ self.now.bytes }
-    {
-        &self.buf[..self.len]
-    }
-
-    /// Whether the answer was Ok.
-    pub fn is_sent(&self) -> bool
-        ensures { result ≡ self.now.sent }
-    {
-        self.sent
-    }
-}
 
 /// A link that receives what it was made with, and keeps what is sent. Its `open` never fails. After its last
 /// arrival it answers `Idle`.
@@ -118,31 +48,6 @@ impl Model for MemLink {
 
     ghost invariant = { λ s. (s.at ≤ length s.arrivals.items) × (s.at < length s.arrivals.items → s.idle ≡ 0)
         × (s.idle ≤ s.receives.made) × (s.room ≤ vec_capacity s.attempts) × (length s.attempts.items ≤ s.room) };
-}
-
-// Copies the front of a datagram that fits, and answers its length.
-fn copy_front(bytes: &[u8], buf: &mut [u8; DATAGRAM_MAX]) -> usize
-    ensures room { result ≤ DATAGRAM_MAX }
-    ensures front { take result buf.new ≡ take DATAGRAM_MAX bytes.now }
-{
-    let len = bytes.len().min(DATAGRAM_MAX);
-    buf[..len].copy_from_slice(&bytes[..len]);
-    len
-}
-
-// Gives an arrival.
-fn give(arrival: &MemArrival, buf: &mut [u8; DATAGRAM_MAX]) -> Arrival
-    ensures room { Fits result }
-    ensures given { came_by buf.new result ≡ came_of arrival.now }
-{
-    match arrival {
-        MemArrival::Got { side, from, bytes } => Arrival::Got {
-            side: *side,
-            from: *from,
-            len: copy_front(bytes.as_slice(), buf),
-        },
-        MemArrival::Idle => Arrival::Idle,
-    }
 }
 
 // Keeps an attempt where there is room for it, and answers whether there was none.

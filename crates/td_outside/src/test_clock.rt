@@ -20,7 +20,7 @@ impl Model for TestClock {
 
     ghost view = { λ s. record { last = s.last.0; coming = drop s.at s.moments } };
 
-    ghost invariant = { λ s. (s.at < 4) × IsTimetable s.last.0 (drop s.at s.moments) };
+    ghost invariant = { λ s. (s.at < length s.moments) × IsTimetable s.last.0 (drop s.at s.moments) };
 }
 
 impl TestClock {
@@ -47,7 +47,7 @@ impl Clock for TestClock {
         ensures state { self.new ≡ record { last = result.0; coming = after_moment self.old.coming } }
     {
         let moment = self.moments[self.at];
-        if self.at < 3 {
+        if self.at + 1 < self.moments.len() {
             self.at += 1;
         }
         self.last = moment;
