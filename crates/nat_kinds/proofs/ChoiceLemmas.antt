@@ -3,11 +3,10 @@ use Rattle.std.specs.Prelude.{IfSome, IfNone}
 use Rattle.std.proofs.lemmas.Map.Steps.{le-length_from_below}
 use Rattle.td_base.specs.declared.endpoint.Ep.{Ep}
 use Rattle.nat_kinds.proofs.ListLemmas.{all_found, length-mapped}
-use Rattle.nat_kinds.proofs.PortLemmas.{slot, used_at_slot, find_latest, respects_key, respects_port, agree_again, agree_new, used_latest, count_full, count_free, Agree-filter}
+use Rattle.nat_kinds.proofs.PortLemmas.{slot, used_at_slot, find_latest, respects_key, respects_port, agree_again, agree_new, used_latest, count_full, count_free}
 use Rattle.nat_kinds.specs.declared.kind.NatKind.{NatKind}
 use Rattle.nat_kinds.specs.declared.outgoing.Outward.{Outward}
 use Rattle.nat_kinds.specs.Mappings.{has_key, latest, port_in, live_port, is_used, IsLowestFree}
-use Rattle.nat_kinds.specs.History.{young}
 use Rattle.nat_kinds.specs.Answer.{GivesPort, IsFull}
 use Rattle.nat_kinds.specs.Entering.{inside_if, inside_of}
 use Rattle.nat_kinds.specs.Sound.{Agree, Sound}

@@ -1,7 +1,6 @@
 -- What holds of every history of a NAT.
-use Rattle.std.proofs.Common.{◌≡◌, ℕ, ◌+◌, ◌<◌, ◌≤◌, Bool, true, false, cond, ◌&&◌, ◌==◌, List, [], ◌∷◌, length, find, filter, Option, Some, None, Ok, refl, sym, ap, ◌∙◌, subst, arith}
-use Rattle.std.specs.Prelude.{◌↔◌, Contains}
-use Rattle.std.specs.List.{AllByRecursion}
+use Rattle.std.proofs.Common.{◌≡◌, ℕ, ◌<◌, ◌≤◌, Bool, true, false, cond, ◌==◌, List, [], ◌∷◌, find, Option, Some, None, Ok, refl, sym, ap, ◌∙◌, subst}
+use Rattle.std.specs.Prelude.{Contains}
 use Rattle.std.proofs.lemmas.Bool.{and_parts, and_from, eqb-true, eq-eqb, false≢true}
 use Rattle.std.proofs.lemmas.List.Elements.{All-contains, All-from_recursion, recursion_from_All, All-contains_itself}
 use Rattle.td_base.specs.Ip4.{same_ip, same_ip-true, same_ip-self}
@@ -11,14 +10,14 @@ use Rattle.nat_kinds.specs.declared.kind.NatKind.{NatKind}
 use Rattle.nat_kinds.specs.declared.kind.NatKind.TheVariants.{Cone, Restricted, Port, Symmetric}
 use Rattle.nat_kinds.specs.declared.outgoing.Outward.{Outward}
 use Rattle.nat_kinds.specs.declared.settings.NatSettings.{NatSettings}
-use Rattle.nat_kinds.specs.History.{Entry, Out, Forget, Restart, kept, young, is_young, without, counting}
+use Rattle.nat_kinds.specs.History.{Entry, Out, Forget, Restart, kept, young, is_young, counting}
 use Rattle.nat_kinds.specs.Mappings.{has_key, latest, port_in, live_port}
-use Rattle.nat_kinds.specs.Answer.{IsAnswer, live_after, nat_answer}
+use Rattle.nat_kinds.specs.Answer.{IsAnswer, live_after}
 use Rattle.nat_kinds.specs.Entering.{reaches, is_way_in, inside_in, lets_in}
-use Rattle.nat_kinds.specs.Sound.{Sound, AgreesWith}
+use Rattle.nat_kinds.specs.Sound.{Sound}
 use Rattle.nat_kinds.specs.Laws.{latest_moment, IsHistory, IsPast, SameKey, Asked, WasAsked}
 use Rattle.nat_kinds.proofs.ListLemmas.{filter_swap, all_found, found_passes, none_found}
-use Rattle.nat_kinds.proofs.PortLemmas.{Sound-filter, AgreesWith-found, key_symm, count_most}
+use Rattle.nat_kinds.proofs.PortLemmas.{Sound-filter, AgreesWith-found, key_symm}
 use Rattle.nat_kinds.proofs.ChoiceLemmas.{live_is, joins_given}
 use Rattle.nat_kinds.proofs.AnswerLemmas.{answer-is}
 use Rattle.nat_kinds.proofs.EnteringLemmas.{inside_of-is}

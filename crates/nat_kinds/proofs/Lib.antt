@@ -5,3 +5,4 @@ pub mod StandsLemmas
 pub mod AnswerLemmas
 pub mod EnteringLemmas
 pub mod LawLemmas
+pub mod Worked

@@ -31,6 +31,8 @@ mod mappings;
 mod outgoing;
 mod refusal;
 mod settings;
+#[cfg(test)]
+mod tests;
 mod translator;
 
 pub use kind::NatKind;

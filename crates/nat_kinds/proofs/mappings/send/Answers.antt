@@ -1,4 +1,4 @@
-use Rattle.std.proofs.Common.{◌≡◌, false, List, ◌∷◌, refl, sym, ◌∙◌, subst}
+use Rattle.std.proofs.Common.{◌≡◌, false, List, ◌∷◌, refl, ◌∙◌, subst}
 use Rattle.td_base.specs.Ip4.{same_ip}
 use Rattle.nat_kinds.specs.declared.outgoing.Outward.{Outward}
 use Rattle.nat_kinds.specs.History.{young}

@@ -1,4 +1,4 @@
-use Rattle.std.proofs.Common.{◌≡◌, ◌≤◌, find, sym, ◌∙◌, ap, subst}
+use Rattle.std.proofs.Common.{◌≤◌, sym, subst}
 use Rattle.nat_kinds.specs.Nat.{NatState}
 use Rattle.nat_kinds.proofs.EnteringLemmas.{lets_in-stands}
 use Rattle.nat_kinds.proofs.translator.Nat.inward.Goals as goal
