@@ -75,16 +75,16 @@ first_option place x e more h =
     elim (guard_err (ltb (length x) (place + 2)) (OptionCut place) (cond (eqb n 0) (Err (OptionZero place)) last) e h) [
       | inl cut ↦ subst (IsOptionFault place x) cut.1 (at_once place x more, inl (ltb-true _ _ cut.0))
       | inr a ↦ elim (guard_err (eqb n 0) (OptionZero place) last e a.1) [
-          | inl none ↦
-              let is : n ≡ 0 = eqb-true _ _ none.0 in
-              subst (IsOptionFault place x) none.1 (at_once place x more, ltb-false _ _ a.0, omega (arith, is))
-          | inr b ↦ elim (guard_err (ltb (length x) (place + n)) (OptionCut place) (Ok n) e b.1) [
-              | inl cut ↦
-                  let some : n ≢ 0 = eqb-false _ _ b.0 in
-                  subst (IsOptionFault place x) cut.1 (at_once place x more, inr (omega (arith, some), ltb-true _ _ cut.0))
-              | inr none ↦ absurd (no_err n e none.1)
-            ]
+        | inl none ↦
+            let is : n ≡ 0 = eqb-true _ _ none.0 in
+            subst (IsOptionFault place x) none.1 (at_once place x more, ltb-false _ _ a.0, omega (arith, is))
+        | inr b ↦ elim (guard_err (ltb (length x) (place + n)) (OptionCut place) (Ok n) e b.1) [
+          | inl cut ↦
+              let some : n ≢ 0 = eqb-false _ _ b.0 in
+              subst (IsOptionFault place x) cut.1 (at_once place x more, inr (omega (arith, some), ltb-true _ _ cut.0))
+          | inr none ↦ absurd (no_err n e none.1)
         ]
+      ]
     ]
 
 later_option : (start len : ℕ) (x : List ℕ) (e : IcmpFault) → IsWholeAt start len x → IsOptionFault (start + len) x e → IsOptionFault start x e
@@ -103,9 +103,9 @@ options_err (suc n) start x e h =
     elim (chosen (leb (length x) start) fine (option_len start x >>= λ len. whole_options n (start + len) x) (Err e) h) [
       | inl past ↦ absurd (no_err tt e past.1)
       | inr more ↦ elim (bind_err (option_len start x) (λ len. whole_options n (start + len) x) e more.1) [
-          | inl cut ↦ first_option start x e (leb-false _ _ more.0) cut
-          | inr rest ↦ later_option start rest.0 x e (option_found start rest.0 x rest.1) (options_err n (start + rest.0) x e rest.2)
-        ]
+        | inl cut ↦ first_option start x e (leb-false _ _ more.0) cut
+        | inr rest ↦ later_option start rest.0 x e (option_found start rest.0 x rest.1) (options_err n (start + rest.0) x e rest.2)
+      ]
     ]
 
 -- ---- each type
@@ -140,9 +140,9 @@ echo_fault src dst hop m x e summed least_is no_router known h =
           ]
     ]
   where
-  not_both : (b : Bool) → b ≡ false → IsTrue b → ⊥
-  not_both true e h = absurd cc
-  not_both false e h = absurd cc
+    not_both : (b : Bool) → b ≡ false → IsTrue b → ⊥
+    not_both true e h = absurd cc
+    not_both false e h = absurd cc
 
 -- a router's message up to its code
 router_fault : (src dst : Ip6) (hop least : ℕ) (rest : Result Message IcmpFault) (x : List ℕ) (e : IcmpFault) → IsSummed src dst x → least_len (slice_index x 0) ≡ least → is_router (slice_index x 0) ≡ true → is_known (slice_index x 0) ≡ true
@@ -183,9 +183,9 @@ solicit_fault src dst hop x e summed kind h =
     elim (router_fault src dst hop 8 rest x e summed (ap least_len kind) (ap is_router kind) (ap is_known kind) h) [
       | inl first ↦ first
       | inr a ↦ elim (bind_err (whole_options (length x) 8 x) (λ _. given m) e a.2) [
-          | inl cut ↦ option_fault 8 src dst hop x e (record { near = a.0; code = a.1; kind = inl (kind, refl) }) (options_err (length x) 8 x e cut)
-          | inr b ↦ absurd (no_err m e b.2)
-        ]
+        | inl cut ↦ option_fault 8 src dst hop x e (record { near = a.0; code = a.1; kind = inl (kind, refl) }) (options_err (length x) 8 x e cut)
+        | inr b ↦ absurd (no_err m e b.2)
+      ]
     ]
 
 advert_fault : (src dst : Ip6) (hop : ℕ) (x : List ℕ) (e : IcmpFault) → IsSummed src dst x → slice_index x 0 ≡ 134 → advert_at src hop x ≡ Err e → IsFirstFault src dst hop x e
@@ -196,14 +196,14 @@ advert_fault src dst hop x e summed kind h =
     elim (router_fault src dst hop 16 (has_source src >>= λ _. options) x e summed (ap least_len kind) (ap is_router kind) (ap is_known kind) h) [
       | inl first ↦ first
       | inr a ↦ elim (bind_err (has_source src) (λ _. options) e a.2) [
-          | inl source ↦
-              let b = source_err src e source in
-              subst (IsFirstFault src dst hop x) b.1 (a.0, kind, a.1, b.0)
-          | inr b ↦ elim (bind_err (whole_options (length x) 16 x) (λ _. given m) e b.2) [
-              | inl cut ↦ option_fault 16 src dst hop x e (record { near = a.0; code = a.1; kind = inr (kind, refl, ok_source src b.0 b.1) }) (options_err (length x) 16 x e cut)
-              | inr c ↦ absurd (no_err m e c.2)
-            ]
+        | inl source ↦
+            let b = source_err src e source in
+            subst (IsFirstFault src dst hop x) b.1 (a.0, kind, a.1, b.0)
+        | inr b ↦ elim (bind_err (whole_options (length x) 16 x) (λ _. given m) e b.2) [
+          | inl cut ↦ option_fault 16 src dst hop x e (record { near = a.0; code = a.1; kind = inr (kind, refl, ok_source src b.0 b.1) }) (options_err (length x) 16 x e cut)
+          | inr c ↦ absurd (no_err m e c.2)
         ]
+      ]
     ]
 
 echo_request_fault : (src dst : Ip6) (hop : ℕ) (x : List ℕ) (e : IcmpFault) → IsSummed src dst x → slice_index x 0 ≡ 128 → echo_request_at x ≡ Err e → IsFirstFault src dst hop x e
@@ -226,15 +226,15 @@ typed_fault src dst hop x e summed h =
     elim (chosen (eqb kind 128) (echo_request_at x) second (Err e) h) [
       | inl is ↦ echo_request_fault src dst hop x e summed (eqb-true _ _ is.0) is.1
       | inr a ↦ elim (chosen (eqb kind 129) (echo_reply_at x) third (Err e) a.1) [
-          | inl is ↦ echo_reply_fault src dst hop x e summed (eqb-true _ _ is.0) is.1
-          | inr b ↦ elim (chosen (eqb kind 133) (solicit_at hop x) fourth (Err e) b.1) [
-              | inl is ↦ solicit_fault src dst hop x e summed (eqb-true _ _ is.0) is.1
-              | inr c ↦ elim (chosen (eqb kind 134) (advert_at src hop x) (given m) (Err e) c.1) [
-                  | inl is ↦ advert_fault src dst hop x e summed (eqb-true _ _ is.0) is.1
-                  | inr d ↦ absurd (no_err m e d.1)
-                ]
-            ]
+        | inl is ↦ echo_reply_fault src dst hop x e summed (eqb-true _ _ is.0) is.1
+        | inr b ↦ elim (chosen (eqb kind 133) (solicit_at hop x) fourth (Err e) b.1) [
+          | inl is ↦ solicit_fault src dst hop x e summed (eqb-true _ _ is.0) is.1
+          | inr c ↦ elim (chosen (eqb kind 134) (advert_at src hop x) (given m) (Err e) c.1) [
+            | inl is ↦ advert_fault src dst hop x e summed (eqb-true _ _ is.0) is.1
+            | inr d ↦ absurd (no_err m e d.1)
+          ]
         ]
+      ]
     ]
 
 pub read_fault : (src dst : Ip6) (hop : ℕ) (x : List ℕ) (e : IcmpFault) → message_at src dst hop x ≡ Err e → IsFirstFault src dst hop x e
@@ -245,9 +245,9 @@ read_fault src dst hop x e h =
     elim (guard_err (ltb (length x) 4) (Short (length x)) (cond (not (eqb said found)) (Err (Sum said found)) (typed src hop x)) e h) [
       | inl short ↦ subst (IsFirstFault src dst hop x) short.1 (refl, inl (ltb-true _ _ short.0))
       | inr a ↦ elim (guard_err (not (eqb said found)) (Sum said found) (typed src hop x) e a.1) [
-          | inl wrong ↦ subst (IsFirstFault src dst hop x) wrong.1 (ltb-false _ _ a.0, refl, refl, eqb-false _ _ (not-true _ wrong.0))
-          | inr b ↦ typed_fault src dst hop x e (record { long = ltb-false _ _ a.0; sum = eqb-true _ _ (not-false _ b.0) }) b.1
-        ]
+        | inl wrong ↦ subst (IsFirstFault src dst hop x) wrong.1 (ltb-false _ _ a.0, refl, refl, eqb-false _ _ (not-true _ wrong.0))
+        | inr b ↦ typed_fault src dst hop x e (record { long = ltb-false _ _ a.0; sum = eqb-true _ _ (not-false _ b.0) }) b.1
+      ]
     ]
 
 pub is_fault : {P : Type 0} (view : P → Message) (src dst : Ip6) (hop : ℕ) (x : List ℕ) (r : Result P IcmpFault) → Gives view r (message_at src dst hop x) → IfErr r (λ e. IsFirstFault src dst hop x e)
