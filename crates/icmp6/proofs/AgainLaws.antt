@@ -50,7 +50,7 @@ unfolding solicit_at
 solicit_again sum reserved hop options valid =
     let x : List ℕ = layout sum reserved (router_solicit options) in
     past (has_len 8 x) _ _ (len_ok 8 x (omega arith)) (past (has_hop hop) _ _ (hop_ok hop valid.near) (past (has_code x) _ _ (code_ok x refl)
-      (past (whole_options (length x) 8 x) _ _ (options_whole 8 options x (omega arith) refl valid.whole) refl)))
+    (past (whole_options (length x) 8 x) _ _ (options_whole 8 options x (omega arith) refl valid.whole) refl)))
 
 advert_again : (src : Ip6) (sum hop own_hop flags life reach retrans : ℕ) (options : List ℕ) → life < 2 ^ 16 → reach < 2 ^ 32 → retrans < 2 ^ 32 → is_link_local src ≡ true → IsOfRouter hop options
     → advert_at src hop (layout sum 0 (router_advert own_hop flags life reach retrans options)) ≡ Ok (router_advert own_hop flags life reach retrans options)
@@ -61,11 +61,11 @@ advert_again src sum hop own_hop flags life reach retrans options life_fits reac
     let reach_is : number_at 8 4 x ≡ reach = big_number-reads_back 4 reach (big_bytes 4 retrans ++ options) (omega (arith, reach_fits)) in
     let retrans_is : number_at 12 4 x ≡ retrans = big_number-reads_back 4 retrans options (omega (arith, retrans_fits)) in
     let same : given (router_advert own_hop flags (number_at 6 2 x) (number_at 8 4 x) (number_at 12 4 x) options) ≡ given (router_advert own_hop flags life reach retrans options) =
-      ap (λ (n : ℕ). given (router_advert own_hop flags n (number_at 8 4 x) (number_at 12 4 x) options)) life_is
-      ∙ ap (λ (n : ℕ). given (router_advert own_hop flags life n (number_at 12 4 x) options)) reach_is
-      ∙ ap (λ (n : ℕ). given (router_advert own_hop flags life reach n options)) retrans_is in
+    ap (λ (n : ℕ). given (router_advert own_hop flags n (number_at 8 4 x) (number_at 12 4 x) options)) life_is
+    ∙ ap (λ (n : ℕ). given (router_advert own_hop flags life n (number_at 12 4 x) options)) reach_is
+    ∙ ap (λ (n : ℕ). given (router_advert own_hop flags life reach n options)) retrans_is in
     past (has_len 16 x) _ _ (len_ok 16 x (omega arith)) (past (has_hop hop) _ _ (hop_ok hop valid.near) (past (has_code x) _ _ (code_ok x refl)
-      (past (has_source src) _ _ (source_ok src source) (past (whole_options (length x) 16 x) _ _ (options_whole 16 options x (omega arith) refl valid.whole) same))))
+    (past (has_source src) _ _ (source_ok src source) (past (whole_options (length x) 16 x) _ _ (options_whole 16 options x (omega arith) refl valid.whole) same))))
 
 -- ---- the type
 
@@ -73,9 +73,9 @@ advert_again src sum hop own_hop flags life reach retrans options life_fits reac
 abbrev pub typed : Ip6 → ℕ → List ℕ → Result Message IcmpFault
 typed src hop x =
     cond (eqb (slice_index x 0) 128) (echo_request_at x)
-      (cond (eqb (slice_index x 0) 129) (echo_reply_at x)
-        (cond (eqb (slice_index x 0) 133) (solicit_at hop x)
-          (cond (eqb (slice_index x 0) 134) (advert_at src hop x) (Ok (other (slice_index x 0) (slice_index x 1) (drop 4 x))))))
+    (cond (eqb (slice_index x 0) 129) (echo_reply_at x)
+    (cond (eqb (slice_index x 0) 133) (solicit_at hop x)
+    (cond (eqb (slice_index x 0) 134) (advert_at src hop x) (Ok (other (slice_index x 0) (slice_index x 1) (drop 4 x))))))
 
 other_again : (src : Ip6) (sum hop kind code : ℕ) (rest : List ℕ) → kind ≢ 128 → kind ≢ 129 → kind ≢ 133 → kind ≢ 134 → typed src hop (layout sum 0 (other kind code rest)) ≡ Ok (other kind code rest)
 other_again src sum hop kind code rest a b c d =

@@ -65,7 +65,7 @@ echo_request_found src dst hop m x head kind e =
     let long = ok_len 8 x a.0 a.1 in
     let all : x ≡ layout (checksum_of src dst x) 0 found = head_is 128 0 _ _ x head.bytes head.long kind (ok_code x b.0 b.1) head.sum (echo_rest x head.bytes long) in
     subst (λ (v : Message). MessageBytes src dst hop v x) (ok_is found m b.2)
-      (record { fits = (two_fits 4 x head.bytes, two_fits 6 x head.bytes); valid = tt; reserved = 0; reserved_fits = omega arith; bytes = all })
+    (record { fits = (two_fits 4 x head.bytes, two_fits 6 x head.bytes); valid = tt; reserved = 0; reserved_fits = omega arith; bytes = all })
 
 echo_reply_found : (src dst : Ip6) (hop : ℕ) (m : Message) (x : List ℕ) → HasHead src dst x → slice_index x 0 ≡ 129 → echo_reply_at x ≡ Ok m → MessageBytes src dst hop m x
 unfolding echo_reply_at
@@ -76,7 +76,7 @@ echo_reply_found src dst hop m x head kind e =
     let long = ok_len 8 x a.0 a.1 in
     let all : x ≡ layout (checksum_of src dst x) 0 found = head_is 129 0 _ _ x head.bytes head.long kind (ok_code x b.0 b.1) head.sum (echo_rest x head.bytes long) in
     subst (λ (v : Message). MessageBytes src dst hop v x) (ok_is found m b.2)
-      (record { fits = (two_fits 4 x head.bytes, two_fits 6 x head.bytes); valid = tt; reserved = 0; reserved_fits = omega arith; bytes = all })
+    (record { fits = (two_fits 4 x head.bytes, two_fits 6 x head.bytes); valid = tt; reserved = 0; reserved_fits = omega arith; bytes = all })
 
 solicit_found : (src dst : Ip6) (hop : ℕ) (m : Message) (x : List ℕ) → HasHead src dst x → slice_index x 0 ≡ 133 → solicit_at hop x ≡ Ok m → MessageBytes src dst hop m x
 unfolding solicit_at
@@ -89,7 +89,7 @@ solicit_found src dst hop m x head kind e =
     let long = ok_len 8 x a.0 a.1 in
     let all : x ≡ layout (checksum_of src dst x) (number_at 4 4 x) found = head_is 133 0 _ _ x head.bytes head.long kind (ok_code x c.0 c.1) head.sum (cut_4 4 x head.bytes (omega arith)) in
     subst (λ (v : Message). MessageBytes src dst hop v x) (ok_is found m d.2)
-      (record { fits = tt; valid = record { near = ok_hop hop b.0 b.1; whole = options_found (length x) 8 d.0 x (omega arith) d.1 }; reserved = number_at 4 4 x; reserved_fits = four_fits 4 x head.bytes; bytes = all })
+    (record { fits = tt; valid = record { near = ok_hop hop b.0 b.1; whole = options_found (length x) 8 d.0 x (omega arith) d.1 }; reserved = number_at 4 4 x; reserved_fits = four_fits 4 x head.bytes; bytes = all })
 
 advert_found : (src dst : Ip6) (hop : ℕ) (m : Message) (x : List ℕ) → HasHead src dst x → slice_index x 0 ≡ 134 → advert_at src hop x ≡ Ok m → MessageBytes src dst hop m x
 unfolding advert_at
@@ -104,10 +104,13 @@ advert_found src dst hop m x head kind e =
     let all : x ≡ layout (checksum_of src dst x) 0 found = head_is 134 0 _ _ x head.bytes head.long kind (ok_code x c.0 c.1) head.sum (advert_rest x head.bytes long) in
     let near : hop ≡ 255 = ok_hop hop b.0 b.1 in
     subst (λ (v : Message). MessageBytes src dst hop v x) (ok_is found m o.2)
-      (record {
-        fits = (head.bytes 4, head.bytes 5, two_fits 6 x head.bytes, four_fits 8 x head.bytes, four_fits 12 x head.bytes);
-        valid = (ok_source src d.0 d.1, record { near = near; whole = options_found (length x) 16 o.0 x (omega arith) o.1 });
-        reserved = 0; reserved_fits = omega arith; bytes = all })
+    (record {
+      fits = (head.bytes 4, head.bytes 5, two_fits 6 x head.bytes, four_fits 8 x head.bytes, four_fits 12 x head.bytes);
+      valid = (ok_source src d.0 d.1, record { near = near; whole = options_found (length x) 16 o.0 x (omega arith) o.1 });
+      reserved = 0;
+      reserved_fits = omega arith;
+      bytes = all;
+    })
 
 other_found : (src dst : Ip6) (hop : ℕ) (m : Message) (x : List ℕ) → HasHead src dst x → slice_index x 0 ≢ 128 → slice_index x 0 ≢ 129 → slice_index x 0 ≢ 133 → slice_index x 0 ≢ 134
     → given (other (slice_index x 0) (slice_index x 1) (drop 4 x)) ≡ Ok m → MessageBytes src dst hop m x
@@ -115,7 +118,7 @@ other_found src dst hop m x head a b c d e =
     let found : Message = other (slice_index x 0) (slice_index x 1) (drop 4 x) in
     let all : x ≡ layout (checksum_of src dst x) 0 found = head_is (slice_index x 0) (slice_index x 1) _ _ x head.bytes head.long refl refl head.sum refl in
     subst (λ (v : Message). MessageBytes src dst hop v x) (ok_is found m e)
-      (record { fits = (head.bytes 0, head.bytes 1); valid = (a, b, c, d); reserved = 0; reserved_fits = omega arith; bytes = all })
+    (record { fits = (head.bytes 0, head.bytes 1); valid = (a, b, c, d); reserved = 0; reserved_fits = omega arith; bytes = all })
 
 -- ---- the message
 
@@ -129,15 +132,15 @@ typed_found src dst hop m x head e =
     elim (chosen (eqb kind 128) (echo_request_at x) second (Ok m) e) [
       | inl is ↦ echo_request_found src dst hop m x head (eqb-true _ _ is.0) is.1
       | inr a ↦ elim (chosen (eqb kind 129) (echo_reply_at x) third (Ok m) a.1) [
-          | inl is ↦ echo_reply_found src dst hop m x head (eqb-true _ _ is.0) is.1
-          | inr b ↦ elim (chosen (eqb kind 133) (solicit_at hop x) fourth (Ok m) b.1) [
-              | inl is ↦ solicit_found src dst hop m x head (eqb-true _ _ is.0) is.1
-              | inr c ↦ elim (chosen (eqb kind 134) (advert_at src hop x) last (Ok m) c.1) [
-                  | inl is ↦ advert_found src dst hop m x head (eqb-true _ _ is.0) is.1
-                  | inr d ↦ other_found src dst hop m x head (eqb-false _ _ a.0) (eqb-false _ _ b.0) (eqb-false _ _ c.0) (eqb-false _ _ d.0) d.1
-                ]
-            ]
+        | inl is ↦ echo_reply_found src dst hop m x head (eqb-true _ _ is.0) is.1
+        | inr b ↦ elim (chosen (eqb kind 133) (solicit_at hop x) fourth (Ok m) b.1) [
+          | inl is ↦ solicit_found src dst hop m x head (eqb-true _ _ is.0) is.1
+          | inr c ↦ elim (chosen (eqb kind 134) (advert_at src hop x) last (Ok m) c.1) [
+            | inl is ↦ advert_found src dst hop m x head (eqb-true _ _ is.0) is.1
+            | inr d ↦ other_found src dst hop m x head (eqb-false _ _ a.0) (eqb-false _ _ b.0) (eqb-false _ _ c.0) (eqb-false _ _ d.0) d.1
+          ]
         ]
+      ]
     ]
 
 pub read_found : (src dst : Ip6) (hop : ℕ) (m : Message) (x : List ℕ) → IsBytes x → message_at src dst hop x ≡ Ok m → MessageBytes src dst hop m x

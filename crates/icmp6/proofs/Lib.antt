@@ -6,3 +6,5 @@ pub mod AgainLaws
 pub mod FoundLaws
 pub mod BlockLaws
 pub mod WriteLaws
+pub mod Vectors
+pub mod FaultLaws

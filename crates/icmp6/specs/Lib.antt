@@ -4,3 +4,4 @@ pub mod Message
 pub mod Blocks
 pub mod Writing
 pub mod Grammar
+pub mod Faults

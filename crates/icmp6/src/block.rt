@@ -16,10 +16,15 @@ pub enum Opt {
         prefix: Ip6,
     },
     /// The link's MTU in bytes: RFC 4861, section 4.6.4.
-    Mtu { mtu: u32 },
+    Mtu {
+        mtu: u32,
+    },
     /// Any other pair of type and length. The span is the whole option, counted from the first byte
     /// of the options.
-    Other { kind: u8, span: Span },
+    Other {
+        kind: u8,
+        span: Span,
+    },
 }
 
 #[inline(always)]

@@ -48,3 +48,6 @@ pub use numbers::{
 };
 pub use reading::read;
 pub use writing::write;
+
+#[cfg(test)]
+mod tests;

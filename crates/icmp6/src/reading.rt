@@ -1,8 +1,9 @@
-ghost use Rattle.std.specs.Prelude.{◌≡◌, ◌≤◌, length, IfOk};
+ghost use Rattle.std.specs.Prelude.{◌≡◌, ◌≤◌, length, IfOk, IfErr};
 ghost use Rattle.td_base.specs.Reading.{Gives};
 ghost use Rattle.icmp6.specs.Message.{Message, view, options_in, has_len, has_hop, has_code, has_source, echo_request_at, echo_reply_at, solicit_at, advert_at, message_at};
 ghost use Rattle.icmp6.specs.Options.{AreOptions};
 ghost use Rattle.icmp6.specs.Grammar.{MessageBytes};
+ghost use Rattle.icmp6.specs.Faults.{IsFirstFault};
 
 use crate::fault::IcmpFault;
 use crate::message::Msg;
@@ -133,6 +134,8 @@ pub fn read(src: Ip6, dst: Ip6, hop: u8, body: &[u8]) -> Result<Msg<'_>, IcmpFau
     ensures found { IfOk result (λ m. MessageBytes src dst hop (view m) body.now) }
     // What is a message of the grammar is read.
     ensures only { (m : Message) → MessageBytes src dst hop m body.now → Gives view result (Ok m) }
+    // Which fault it is.
+    ensures fault { IfErr result (λ e. IsFirstFault src dst hop body.now e) }
     // What `options` wants.
     ensures lends { IfOk result (λ m. AreOptions (options_in (view m))) }
     // The message, or the first fault, as one function of the bytes.

@@ -46,7 +46,24 @@ fn advert_head(hop: u8, flags: u8, life: u16, reach: u32, retrans: u32) -> [u8; 
     let [a, b] = life.to_be_bytes();
     let [c, d, e, f] = reach.to_be_bytes();
     let [g, h, i, j] = retrans.to_be_bytes();
-    [ROUTER_ADVERT, 0, 0, 0, hop, flags, a, b, c, d, e, f, g, h, i, j]
+    [
+        ROUTER_ADVERT,
+        0,
+        0,
+        0,
+        hop,
+        flags,
+        a,
+        b,
+        c,
+        d,
+        e,
+        f,
+        g,
+        h,
+        i,
+        j,
+    ]
 }
 
 /// Type and code, with checksum 0.

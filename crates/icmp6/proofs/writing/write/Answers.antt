@@ -14,9 +14,11 @@ pub returns-clause-written : goal.returns-clause-written
 returns-clause-written c =
     let m : Message = view c.args.m.now in
     let size = length-message_bytes c.args.src c.args.dst m in
-    let len_is = c.put_plain-len.ensures.after in
-    (len_is ∙ sym size, omega (arith, len_is, c.len_of-needed.ensures),
-     sum_is_put c.args.src c.args.dst m c.put_plain-len.result c.checksum-sum.result c.args.out.now c.put_plain-len.new.out c.put16.new.out len_is c.put_plain-len.ensures.put c.checksum-sum.ensures c.put16.ensures.put)
+    let len_is = c.put_plain-len.ensures.after in (
+      len_is ∙ sym size,
+      omega (arith, len_is, c.len_of-needed.ensures),
+      sum_is_put c.args.src c.args.dst m c.put_plain-len.result c.checksum-sum.result c.args.out.now c.put_plain-len.new.out c.put16.new.out len_is c.put_plain-len.ensures.put c.checksum-sum.ensures c.put16.ensures.put,
+    )
 
 pub returns-clause-again : goal.returns-clause-again
 returns-clause-again c =
