@@ -1,5 +1,5 @@
 //! The scenario that a text is.
-ghost use Rattle.std.specs.Prelude.{◌≡◌, IfOk, IfErr, Some, None, option_map, string_bytes};
+ghost use Rattle.std.specs.Prelude.{◌≡◌, ◌≤◌, IfOk, IfErr, IfSome, Some, None, length, option_map, string_bytes};
 ghost use Rattle.std.specs.List.{list_all};
 ghost use Rattle.std.specs.BTreeMap.{keys};
 ghost use Rattle.toml.specs.View.{table_view};
@@ -8,7 +8,7 @@ ghost use Rattle.scenario.specs.Scenario.{is_scenario_key, scenario_at, scenario
 ghost use Rattle.scenario.specs.Told.{told};
 ghost use Rattle.scenario.specs.declared.reader.ScenarioFault.TheVariants.{Unbuilt};
 
-use crate::event_lists::events_in;
+use crate::event_lists::{MOST_EVENTS, events_in};
 use crate::server_tables::servers_at;
 use crate::table_keys::{natural_at, value_at};
 use history::{Events, Topology};
@@ -56,7 +56,8 @@ fn has_scenario_keys(table: &Table) -> bool
 }
 
 fn scenario_at(alloc: Global, table: &Table) -> Result<Option<Scenario>, NoMemory>
-    ensures { IfOk result (λ o. option_map told o ≡ scenario_at (table_view table.now)) }
+    ensures read { IfOk result (λ o. option_map told o ≡ scenario_at (table_view table.now)) }
+    ensures few { IfOk result (λ o. IfSome o (λ s. length s.events ≤ MOST_EVENTS)) }
 {
     let Some(seed) = natural_at(table, "seed") else {
         return Ok(None);
@@ -79,7 +80,8 @@ fn scenario_at(alloc: Global, table: &Table) -> Result<Option<Scenario>, NoMemor
 
 #[tactic(auto, unfolding(crate::specs::Scenario::scenario_in))]
 fn scenario_in(alloc: Global, table: &Table) -> Result<Option<Scenario>, NoMemory>
-    ensures { IfOk result (λ o. option_map told o ≡ scenario_in (table_view table.now)) }
+    ensures read { IfOk result (λ o. option_map told o ≡ scenario_in (table_view table.now)) }
+    ensures few { IfOk result (λ o. IfSome o (λ s. length s.events ≤ MOST_EVENTS)) }
 {
     if !has_scenario_keys(table) {
         return Ok(None);
@@ -88,7 +90,8 @@ fn scenario_in(alloc: Global, table: &Table) -> Result<Option<Scenario>, NoMemor
 }
 
 fn written(alloc: Global, text: &str) -> Result<Option<Scenario>, NoMemory>
-    ensures { IfOk result (λ o. option_map told o ≡ written text.now) }
+    ensures read { IfOk result (λ o. option_map told o ≡ written text.now) }
+    ensures few { IfOk result (λ o. IfSome o (λ s. length s.events ≤ MOST_EVENTS)) }
 {
     match toml::table_from_str(alloc, text) {
         Ok(table) => scenario_in(alloc, &table),
@@ -98,7 +101,8 @@ fn written(alloc: Global, text: &str) -> Result<Option<Scenario>, NoMemory>
 }
 
 fn scenario_of(alloc: Global, bytes: &[u8]) -> Result<Option<Scenario>, NoMemory>
-    ensures { IfOk result (λ o. option_map told o ≡ scenario_of bytes.now) }
+    ensures read { IfOk result (λ o. option_map told o ≡ scenario_of bytes.now) }
+    ensures few { IfOk result (λ o. IfSome o (λ s. length s.events ≤ MOST_EVENTS)) }
 {
     if bytes.len() > TEXT_MOST {
         return Ok(None);
@@ -113,6 +117,7 @@ fn scenario_of(alloc: Global, bytes: &[u8]) -> Result<Option<Scenario>, NoMemory
 pub fn read(alloc: Global, bytes: &[u8]) -> Result<Scenario, ScenarioFault>
     // The text is the scenario.
     ensures read { IfOk result (λ s. scenario_of bytes.now ≡ Some (told s)) }
+    ensures few { IfOk result (λ s. length s.events ≤ MOST_EVENTS) }
     // A text that is refused is no scenario.
     ensures refused { result ≡ Err Unbuilt → scenario_of bytes.now ≡ None }
 {
