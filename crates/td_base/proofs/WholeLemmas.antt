@@ -1,5 +1,5 @@
 -- Where the reading of a whole address halts.
-use Rattle.std.proofs.Common.{◌≡◌, ℕ, zero, suc, ◌+◌, ◌-◌, ◌<◌, ◌≤◌, List, [], ◌∷◌, ◌++◌, length, take, drop, refl, sym, ap, subst, ◌∙◌, arith, inl, inr, ◌⊎◌}
+use Rattle.std.proofs.Common.{◌≡◌, ℕ, zero, suc, ◌+◌, ◌-◌, List, [], ◌∷◌, ◌++◌, length, refl, sym, ap, subst, ◌∙◌, arith, inl, inr}
 use Rattle.std.specs.Prelude.{replicate}
 use Rattle.td_base.specs.Fronts.{Halts}
 use Rattle.td_base.specs.Ip6Fronts.{Accepts, GroupThen, Tail, Elided, AfterHead, Whole, NoHex, IsFrontGroup}

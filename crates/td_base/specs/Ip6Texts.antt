@@ -20,7 +20,7 @@ ip6_text ip = hex_groups_text (groups ip)
 abbrev pub IsGroup : List ℕ → ℕ → Type 0
 IsGroup digits n = IsNumeral 16 digits × (digits_value 16 digits ≡ n) × (length digits ≤ 4)
 
--- groups with colons between them
+-- groups with colons (58) between them
 abbrev pub AreGroups : List ℕ → List ℕ → Type 0
 AreGroups [] text = text ≡ []
 AreGroups (n ∷ []) text = IsGroup text n

@@ -1,4 +1,3 @@
-use Rattle.std.proofs.lemmas.List.{take_rest}
 use Rattle.std.proofs.lemmas.Result.{IfErr-weaker}
 use Rattle.td_base.proofs.GroupLemmas.{behind_colon}
 use Rattle.td_base.proofs.WholeLemmas.{behind_second_colon, no_second_colon}

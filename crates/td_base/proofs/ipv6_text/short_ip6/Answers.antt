@@ -1,4 +1,4 @@
-use Rattle.std.proofs.Common.{◌≡◌, ap, ◌∙◌}
+use Rattle.std.proofs.Common.{ap, ◌∙◌}
 use Rattle.std.specs.Net.Text.{hex_groups_text}
 use Rattle.td_base.proofs.Ip6Lemmas.{elided_text}
 use Rattle.td_base.proofs.ipv6_text.short_ip6.Goals as goal
