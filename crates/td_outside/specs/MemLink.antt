@@ -1,5 +1,5 @@
 -- The link in memory, as its callers see it.
-use Rattle.std.specs.Prelude.{true, false, ℕ, ◌-◌, ◌^◌, Bool, if◌then◌else◌, nat_lt, ◌==◌, List, [], ◌∷◌, ◌++◌, length, take, drop, Option, Some, None}
+use Rattle.std.specs.Prelude.{true, false, ℕ, Bool, if◌then◌else◌, nat_lt, ◌==◌, List, [], ◌∷◌, ◌++◌, length, take, drop, Option, Some, None}
 use Rattle.std.specs.Option.{option_and_then}
 use Rattle.td_outside.specs.declared.linking.Addresses.{Addresses}
 use Rattle.td_outside.specs.declared.linking.TheConstants.{DATAGRAM_MAX}

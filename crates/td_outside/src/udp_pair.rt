@@ -1,9 +1,10 @@
 //! The link over two sockets of the system.
-ghost use Rattle.std.specs.Prelude.{◌≡◌, ◌↔◌, IsTrue};
-ghost use Rattle.td_outside.specs.Links.{open_on, told_nothing};
+ghost use Rattle.std.specs.Prelude.{◌≡◌, ◌↔◌, IsTrue, None, is_some};
+ghost use Rattle.td_outside.specs.Links.{Pair, open_on, told_nothing};
 
 use crate::sides::Sides;
 use crate::{Addresses, Arrival, DATAGRAM_MAX, Failed, Link};
+use std::marker::Model;
 use std::net::Net;
 use td_base::{Ep, Ip4, Side};
 
@@ -19,9 +20,23 @@ pub struct UdpPair<'a, R: Net + AllocGlobal> {
     send_faults: u64,
 }
 
+impl<'a, R: Net + AllocGlobal> Model for UdpPair<'a, R> {
+    ghost Value = { Pair };
+
+    ghost view = { λ s. record {
+      addresses = s.on;
+      recv_faults = s.recv_faults;
+      send_faults = s.send_faults;
+    } };
+
+    ghost invariant = { λ s. is_some s.sides ≡ is_some s.on };
+}
+
 impl<'a, R: Net + AllocGlobal> UdpPair<'a, R> {
     /// A link that isn't open.
-    pub fn new(rt: &'a R) -> Self {
+    pub fn new(rt: &'a R) -> Self
+        ensures { result ≡ record { addresses = None; recv_faults = 0; send_faults = 0 } }
+    {
         UdpPair {
             rt,
             sides: None,
@@ -43,7 +58,7 @@ fn is_on(on: Option<Addresses>, primary: Ip4, secondary: Ip4) -> bool
 }
 
 impl<R: Net + AllocGlobal> Link for UdpPair<'_, R> {
-    ghost addresses = { λ s. s.on };
+    ghost addresses = { λ s. s.addresses };
 
     ghost told = { λ s. told_nothing };
 
