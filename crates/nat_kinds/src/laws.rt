@@ -1,12 +1,13 @@
+//! Laws of every history of a NAT.
 ghost use Rattle.std.specs.Prelude.{◌≡◌, ℕ, ◌+◌, ◌<◌, ◌≤◌, ◌↔◌, List, length, Contains};
 ghost use Rattle.td_base.specs.declared.endpoint.Ep.{Ep};
 ghost use Rattle.nat_kinds.specs.declared.outgoing.Outward.{Outward};
 ghost use Rattle.nat_kinds.specs.declared.settings.NatSettings.{NatSettings};
-ghost use Rattle.nat_kinds.specs.History.{Entry, counting};
-ghost use Rattle.nat_kinds.specs.Mappings.{live_port};
+ghost use Rattle.nat_kinds.specs.History.{Entry, kept, young, counting};
+ghost use Rattle.nat_kinds.specs.Mappings.{latest, live_port};
 ghost use Rattle.nat_kinds.specs.Answer.{IsAnswer, live_after, nat_answer};
 ghost use Rattle.nat_kinds.specs.Entering.{lets_in};
-ghost use Rattle.nat_kinds.specs.Laws.{IsPast, SameKey, WasAsked};
+ghost use Rattle.nat_kinds.specs.Laws.{IsHistory, IsPast, SameKey, WasAsked};
 
 use crate::kind::NatKind;
 use crate::limits::{FIRST_PORT, MOST_LIVE};
@@ -15,6 +16,19 @@ use crate::limits::{FIRST_PORT, MOST_LIVE};
 pub fn answer_is_lowest_free()
     ensures { (s : NatSettings) (h : List Entry) (n : ℕ) (inside dst : Ep) →
         IsAnswer s (live_after s h n) inside dst (nat_answer s h n inside dst) }
+{}
+
+/// A mapping is live exactly while the latest datagram of its key counts.
+pub fn latest_datagram_decides()
+    ensures { (s : NatSettings) (h : List Entry) → IsHistory s h → (n : ℕ) →
+        live_after s h n ≡ young s.idle n (latest s.kind (kept h)) }
+{}
+
+/// While a datagram counts, its key holds its port.
+pub fn counting_datagram_holds_its_port()
+    ensures { (s : NatSettings) (h : List Entry) (n : ℕ) → IsPast s h n →
+        (e : Outward) → Contains (counting s.idle n h) e →
+        live_port s.kind e.inside e.dst (live_after s h n) ≡ Some e.port }
 {}
 
 /// No two keys hold the same port.

@@ -1,3 +1,4 @@
+//! Searches over the outward datagrams that a NAT keeps, the latest first.
 ghost use Rattle.std.specs.Prelude.{◌≡◌, ℕ, ◌+◌, ◌<◌, ◌≤◌, true, false, ◌∷◌, find, length, slice_index_or, IfNone, IfSome, IfOk, IfErr, OnOk, OnErr};
 ghost use Rattle.nat_kinds.specs.History.{young, without};
 ghost use Rattle.nat_kinds.specs.Mappings.{has_key, port_in, latest, live_port, is_used, IsLowestFree};

@@ -1,3 +1,4 @@
+//! A network address translator.
 ghost use Rattle.std.specs.Prelude.{◌≡◌, ℕ, ◌≤◌, [], ◌∷◌, List, IfOk, OnErr};
 ghost use Rattle.nat_kinds.specs.History.{Entry, Out, Forget, Restart};
 ghost use Rattle.nat_kinds.specs.Answer.{nat_answer, GivesAnswer};
