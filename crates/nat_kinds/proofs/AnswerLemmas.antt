@@ -8,11 +8,12 @@ use Rattle.std.proofs.lemmas.Map.Steps.{le-length_from_below}
 use Rattle.td_base.specs.Ip4.{same_ip, same_ip-true, same_ip_decides}
 use Rattle.td_base.specs.declared.ipv4.Ip4.{Ip4}
 use Rattle.td_base.specs.declared.endpoint.Ep.{Ep}
+use Rattle.nat_kinds.specs.declared.limits.TheConstants.{FIRST_PORT, MOST_LIVE}
 use Rattle.nat_kinds.specs.declared.outgoing.Outward.{Outward}
 use Rattle.nat_kinds.specs.declared.refusal.NatRefusal.TheVariants.{Hairpin, Full}
 use Rattle.nat_kinds.specs.declared.settings.NatSettings.{NatSettings}
 use Rattle.nat_kinds.specs.Mappings.{live_port, is_used, IsLowestFree, first_free, lowest_free}
-use Rattle.nat_kinds.specs.Answer.{port_for, answer_of, GivesPort, IsFull, IsAnswer}
+use Rattle.nat_kinds.specs.Answer.{port_for, answer_of, GivesPort, IsAnswer}
 use Rattle.nat_kinds.proofs.ListLemmas.{length-mapped}
 use Rattle.nat_kinds.proofs.PortLemmas.{slot, used_at_slot}
 
@@ -48,20 +49,20 @@ lt_or_not a b = ⊎_elim (λ e. inr (omega (arith, e))) (λ s. ⊎_elim (λ l. i
 -- mappings can't hold one port more than they are
 pub lowest_free-is : (live : List Outward) → IsLowestFree live (lowest_free live)
 lowest_free-is live = record {
-  from_first = first_free-from live 1024 (length live);
+  from_first = first_free-from live FIRST_PORT (length live);
   free = by_case (is_used live (lowest_free live)) refl;
-  lowest = λ q l h. first_free-below live 1024 (length live) q l h;
+  lowest = λ q l h. first_free-below live FIRST_PORT (length live) q l h;
 }
   where
     by_case : (b : Bool) → is_used live (lowest_free live) ≡ b → is_used live (lowest_free live) ≡ false
     by_case false e = e
     by_case true e = absurd (⊎_elim
-        (λ most. false≢true (sym (first_free-free live 1024 (length live) most) ∙ e))
+        (λ most. false≢true (sym (first_free-free live FIRST_PORT (length live) most) ∙ e))
         (λ least.
-        let used : (q : ℕ) → q < length live + 1 → list_any (eqb q) (map slot live) ≡ true = λ q k. used_at_slot live q (⊎_elim (λ s. subst (λ (p : ℕ). is_used live p ≡ true) (sym s) e) (λ s. first_free-below live 1024 (length live) (q + 1024) (omega arith) s) (eq-or-lt_of_le {n = q + 1024} {m = lowest_free live} (omega arith))) in
+        let used : (q : ℕ) → q < length live + 1 → list_any (eqb q) (map slot live) ≡ true = λ q k. used_at_slot live q (⊎_elim (λ s. subst (λ (p : ℕ). is_used live p ≡ true) (sym s) e) (λ s. first_free-below live FIRST_PORT (length live) (q + FIRST_PORT) (omega arith) s) (eq-or-lt_of_le {n = q + FIRST_PORT} {m = lowest_free live} (omega arith))) in
         let many : length live + 1 ≤ length (map slot live) = le-length_from_below (map slot live) (length live + 1) used in
         omega (arith, length-mapped slot live))
-        (lt_or_not (lowest_free live) (1024 + length live)))
+        (lt_or_not (lowest_free live) (FIRST_PORT + length live)))
 
 lowest-one : (live : List Outward) (a b : ℕ) → IsLowestFree live a → IsLowestFree live b → a ≡ b
 lowest-one live a b f g = ⊎_elim (λ e. e) (λ s. absurd (⊎_elim (λ l. false≢true (sym f.free ∙ g.lowest a f.from_first l)) (λ l. false≢true (sym g.free ∙ f.lowest b g.from_first l)) s)) (cases_order a b)
@@ -74,26 +75,32 @@ apart a b n e = false≢true (sym n ∙ (same_ip_decides a b).1 e)
 pub answer-is : (s : NatSettings) (live : List Outward) (inside dst : Ep) → IsAnswer s live inside dst (answer_of s live inside dst)
 answer-is s live inside dst = by_case (same_ip dst.ip s.external) refl
   where
-    by_room : (b : Bool) → nat_lt (length live) 4096 ≡ b → same_ip dst.ip s.external ≡ false → live_port s.kind inside dst live ≡ None → IsAnswer s live inside dst (cond b (Ok (lowest_free live)) (Err Full))
+    by_room : (b : Bool) → nat_lt (length live) MOST_LIVE ≡ b → same_ip dst.ip s.external ≡ false → live_port s.kind inside dst live ≡ None → IsAnswer s live inside dst (cond b (Ok (lowest_free live)) (Err Full))
     by_room true r n h = (apart _ _ n, subst (λ (o : Option ℕ). GivesPort o live (lowest_free live)) (sym h) (ltb-true _ _ r, lowest_free-is live))
     by_room false r n h = (apart _ _ n, (h, ltb-false _ _ r))
 
     by_held : (held : Option ℕ) → live_port s.kind inside dst live ≡ held → same_ip dst.ip s.external ≡ false → IsAnswer s live inside dst (port_for held live)
     by_held (Some port) h n = (apart _ _ n, subst (λ (o : Option ℕ). GivesPort o live port) (sym h) refl)
-    by_held None h n = by_room (nat_lt (length live) 4096) refl n h
+    by_held None h n = by_room (nat_lt (length live) MOST_LIVE) refl n h
 
     by_case : (b : Bool) → same_ip dst.ip s.external ≡ b → IsAnswer s live inside dst (cond b (Err Hairpin) (port_for (live_port s.kind inside dst live) live))
     by_case true e = same_ip-true _ _ e
     by_case false e = by_held (live_port s.kind inside dst live) refl e
 
--- AND THE RELATION HAS NO OTHER ANSWER
+-- AND THE RELATION GIVES NO OTHER PORT
 
-port_for-given : (held : Option ℕ) (live : List Outward) (port : ℕ) → GivesPort held live port → port_for held live ≡ Ok port
+pub port_for-given : (held : Option ℕ) (live : List Outward) (port : ℕ) → GivesPort held live port → port_for held live ≡ Ok port
 port_for-given (Some held) live port g = ap (λ p. Ok p) (sym g)
 port_for-given None live port g = cond-true _ _ _ (lt-ltb _ _ g.0) ∙ ap (λ p. Ok p) (lowest-one live _ _ (lowest_free-is live) g.1)
 
-pub answer-sent : (s : NatSettings) (live : List Outward) (inside dst : Ep) (port : ℕ) → same_ip dst.ip s.external ≡ false → GivesPort (live_port s.kind inside dst live) live port → answer_of s live inside dst ≡ Ok port
-answer-sent s live inside dst port n g = cond-false _ _ _ n ∙ port_for-given _ live port g
+pub port_for-full : (live : List Outward) → MOST_LIVE ≤ length live → port_for None live ≡ Err Full
+port_for-full live l = cond-false _ _ _ (le-ltb _ _ l)
 
-pub answer-full : (s : NatSettings) (live : List Outward) (inside dst : Ep) → same_ip dst.ip s.external ≡ false → IsFull s.kind inside dst live → answer_of s live inside dst ≡ Err Full
-answer-full s live inside dst n f = cond-false _ _ _ n ∙ ap (λ (held : Option ℕ). port_for held live) f.0 ∙ cond-false _ _ _ (le-ltb _ _ f.1)
+-- and where a port is the answer, it is the one that the key is given
+pub port_for-is : (held : Option ℕ) (live : List Outward) (port : ℕ) → port_for held live ≡ Ok port → GivesPort held live port
+port_for-is (Some held) live port h = let same : port ≡ held = cc in same
+port_for-is None live port h = by_room (nat_lt (length live) MOST_LIVE) refl h
+  where
+    by_room : (b : Bool) → nat_lt (length live) MOST_LIVE ≡ b → cond b (Ok (lowest_free live)) (Err Full) ≡ Ok port → GivesPort None live port
+    by_room true r k = let same : lowest_free live ≡ port = cc in subst (GivesPort None live) same (ltb-true _ _ r, lowest_free-is live)
+    by_room false r k = absurd (cc k)

@@ -1,11 +1,12 @@
 -- What holds of every history of a NAT.
-use Rattle.std.proofs.Common.{◌≡◌, ℕ, ◌<◌, ◌≤◌, Bool, true, false, cond, ◌==◌, List, [], ◌∷◌, find, Option, Some, None, Ok, refl, sym, ap, ◌∙◌, subst}
+use Rattle.std.proofs.Common.{◌≡◌, ℕ, ◌+◌, ◌<◌, ◌≤◌, Bool, true, false, cond, ◌==◌, List, [], ◌∷◌, find, Option, Some, None, Ok, refl, sym, ap, ◌∙◌, subst}
 use Rattle.std.specs.Prelude.{Contains}
 use Rattle.std.proofs.lemmas.Bool.{and_parts, and_from, eqb-true, eq-eqb, false≢true}
 use Rattle.std.proofs.lemmas.List.Elements.{All-contains, All-from_recursion, recursion_from_All, All-contains_itself}
 use Rattle.td_base.specs.Ip4.{same_ip, same_ip-true, same_ip-self}
 use Rattle.td_base.specs.Ep.{same_ep, same_ep-true, same_ep-self}
 use Rattle.td_base.specs.declared.endpoint.Ep.{Ep}
+use Rattle.nat_kinds.specs.declared.limits.TheConstants.{FIRST_PORT, MOST_LIVE}
 use Rattle.nat_kinds.specs.declared.kind.NatKind.{NatKind}
 use Rattle.nat_kinds.specs.declared.kind.NatKind.TheVariants.{Cone, Restricted, Port, Symmetric}
 use Rattle.nat_kinds.specs.declared.outgoing.Outward.{Outward}
@@ -17,7 +18,7 @@ use Rattle.nat_kinds.specs.Entering.{reaches, is_way_in, inside_in, lets_in}
 use Rattle.nat_kinds.specs.Sound.{Sound}
 use Rattle.nat_kinds.specs.Laws.{latest_moment, IsHistory, IsPast, SameKey, Asked, WasAsked}
 use Rattle.nat_kinds.proofs.ListLemmas.{filter_swap, all_found, found_passes, none_found}
-use Rattle.nat_kinds.proofs.PortLemmas.{Sound-filter, AgreesWith-found, key_symm}
+use Rattle.nat_kinds.proofs.PortLemmas.{has_itself, Sound-filter, AgreesWith-found, key_symm}
 use Rattle.nat_kinds.proofs.ChoiceLemmas.{live_is, joins_given}
 use Rattle.nat_kinds.proofs.AnswerLemmas.{answer-is}
 use Rattle.nat_kinds.proofs.EnteringLemmas.{inside_of-is}
@@ -72,12 +73,6 @@ key_inside Restricted inside dst e h = same_ep-true e.inside inside h
 key_inside Port inside dst e h = same_ep-true e.inside inside h
 key_inside Symmetric inside dst e h = same_ep-true e.inside inside (and_parts _ _ h).0
 
-has_own_key : (kind : NatKind) (e : Outward) → has_key kind e.inside e.dst e ≡ true
-has_own_key Cone e = same_ep-self e.inside
-has_own_key Restricted e = same_ep-self e.inside
-has_own_key Port e = same_ep-self e.inside
-has_own_key Symmetric e = and_from _ _ (same_ep-self e.inside) (same_ep-self e.dst)
-
 -- f has the one key, g the other, and g has f's
 same_from : (kind : NatKind) (a b c d : Ep) (f g : Outward) → has_key kind a b f ≡ true → has_key kind c d g ≡ true → has_key kind f.inside f.dst g ≡ true → SameKey kind a b c d
 same_from Cone a b c d f g x y z = let p : f.inside ≡ a = same_ep-true _ _ x in let q : g.inside ≡ c = same_ep-true _ _ y in let r : g.inside ≡ f.inside = same_ep-true _ _ z in cc
@@ -105,11 +100,11 @@ one_key s h n past inside dst inside' dst' port a b =
     let g = held_by s outs inside' dst' port b in
     same_from s.kind inside dst inside' dst' f.0 g.0 (found_passes _ outs f.0 f.1) (found_passes _ outs g.0 g.1) (agrees_at s outs _ f.0 g.0 sound f.1 (found_is_in _ outs g.0 g.1) ∙ eq-eqb f.0.port g.0.port (f.2 ∙ sym g.2))
 
-pub ports_in_range : (s : NatSettings) (h : List Entry) (n : ℕ) → IsPast s h n → (inside dst : Ep) (port : ℕ) → live_port s.kind inside dst (live_after s h n) ≡ Some port → (1024 ≤ port) × (port < 5120)
+pub ports_in_range : (s : NatSettings) (h : List Entry) (n : ℕ) → IsPast s h n → (inside dst : Ep) (port : ℕ) → live_port s.kind inside dst (live_after s h n) ≡ Some port → (FIRST_PORT ≤ port) × (port < FIRST_PORT + MOST_LIVE)
 ports_in_range s h n past inside dst port a =
     let outs : List Outward = counting s.idle n h in
     let f = held_by s outs inside dst port a in
-    subst (λ (p : ℕ). (1024 ≤ p) × (p < 5120)) f.2 (all_found _ _ outs f.0 (sound_past s h n past).in_range f.1)
+    subst (λ (p : ℕ). (FIRST_PORT ≤ p) × (p < FIRST_PORT + MOST_LIVE)) f.2 (all_found _ _ outs f.0 (sound_past s h n past).in_range f.1)
 
 -- LETTING IN
 
@@ -155,7 +150,7 @@ asks_its_own Symmetric e = refl
 pub live_where_counts : (s : NatSettings) (h : List Entry) (n : ℕ) → IsPast s h n → (e : Outward) → Contains (counting s.idle n h) e → live_port s.kind e.inside e.dst (live_after s h n) ≡ Some e.port
 live_where_counts s h n past e m =
     let outs : List Outward = counting s.idle n h in
-    let f = found_at (has_key s.kind e.inside e.dst) outs e m (has_own_key s.kind e) in
+    let f = found_at (has_key s.kind e.inside e.dst) outs e m (has_itself s.kind e) in
     let same : f.0.port ≡ e.port = eqb-true f.0.port e.port (sym (agrees_at s outs _ f.0 e (sound_past s h n past) f.1 m) ∙ key_symm s.kind f.0 e ∙ found_passes _ outs f.0 f.1) in
     live_is s.kind e.inside e.dst outs ∙ ap port_in f.1 ∙ ap (λ p. Some p) same
 

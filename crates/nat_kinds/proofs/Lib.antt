@@ -4,5 +4,6 @@ pub mod ChoiceLemmas
 pub mod StandsLemmas
 pub mod AnswerLemmas
 pub mod EnteringLemmas
+pub mod OrderLemmas
 pub mod LawLemmas
 pub mod Worked

@@ -1,3 +1,4 @@
+-- Lists: what holds of each element, filters, searches, elements that are distinct.
 use Rattle.std.proofs.Common.{◌≡◌, suc, Bool, true, false, ◌||◌, cond, List, [], ◌∷◌, length, map, filter, find, Some, None, refl, sym, ap, ◌∙◌, subst, ⊎_elim, arith}
 use Rattle.std.specs.List.{list_any, AllByRecursion}
 use Rattle.std.specs.List.{IsDistinct}

@@ -1,3 +1,4 @@
+-- Keys and ports: what is the same of the latest of each key and of all, and how many ports are held.
 use Rattle.std.proofs.Common.{◌≡◌, ℕ, ◌+◌, ◌-◌, ◌<◌, ◌≤◌, Bool, true, false, not, ◌&&◌, ◌||◌, cond, ◌==◌, eqb, List, [], ◌∷◌, length, map, filter, find, Some, None, refl, sym, ap, ◌∙◌, subst, ⊎_elim, arith}
 use Rattle.std.specs.List.{list_any, AllByRecursion}
 use Rattle.std.specs.List.{IsDistinct}
@@ -9,6 +10,7 @@ use Rattle.std.specs.Cmp.{nat_eq_equiv, both_ways as both_tests}
 use Rattle.std.proofs.lemmas.Map.Steps.{length-le_from_distinct_below, le-length_from_below}
 use Rattle.td_base.specs.declared.endpoint.Ep.{Ep}
 use Rattle.td_base.specs.Ep.{same_ep, same_ep_equiv, same_ep-true, same_ep-self}
+use Rattle.nat_kinds.specs.declared.limits.TheConstants.{FIRST_PORT, MOST_LIVE}
 use Rattle.nat_kinds.specs.declared.kind.NatKind.TheVariants.{Cone, Restricted, Port, Symmetric}
 use Rattle.nat_kinds.proofs.ListLemmas.{all_filter, all_map, all_two, all_any, all_passed, any_found, found_passes, all_found, none_passes, none_found, all_mapped, distinct_none, distinct_filter, any_all, length-mapped}
 use Rattle.nat_kinds.specs.declared.kind.NatKind.{NatKind}
@@ -91,7 +93,7 @@ Agree-filter kind p (e ∷ outs) a = elim (p e) as (λ b. Agree kind (cond b (e 
 pub Sound-filter : (kind : NatKind) (p : Outward → Bool) (outs : List Outward) → Sound kind outs → Sound kind (filter p outs)
 Sound-filter kind p outs s = record { agree = Agree-filter kind p outs s.agree; in_range = all_filter _ p outs s.in_range }
 
-has_itself : (kind : NatKind) (e : Outward) → has_key kind e.inside e.dst e ≡ true
+pub has_itself : (kind : NatKind) (e : Outward) → has_key kind e.inside e.dst e ≡ true
 has_itself Symmetric e = and_from _ _ (same_ep-self e.inside) (same_ep-self e.dst)
 has_itself Cone e = same_ep-self e.inside
 has_itself Restricted e = same_ep-self e.inside
@@ -127,9 +129,9 @@ pub used_latest : (kind : NatKind) (outs : List Outward) (port : ℕ) → Agree 
 used_latest kind outs port a = any_found _ (latest kind outs) ∙ ap is_some (find_latest kind _ outs (respects_port kind port outs a)) ∙ sym (any_found _ outs)
 
 abbrev pub slot : Outward → ℕ
-slot e = e.port - 1024
+slot e = e.port - FIRST_PORT
 
-apart : (e o : Outward) → 1024 ≤ e.port → 1024 ≤ o.port → (e.port == o.port) ≡ false → eqb (slot e) (slot o) ≡ false
+apart : (e o : Outward) → FIRST_PORT ≤ e.port → FIRST_PORT ≤ o.port → (e.port == o.port) ≡ false → eqb (slot e) (slot o) ≡ false
 apart e o h k n = ne_eqb _ _ (λ s. eqb-false e.port o.port n (omega arith))
 
 pub distinct_slots : (kind : NatKind) (outs : List Outward) → Agree kind outs → InRange outs → IsDistinct eqb (map slot (latest kind outs))
@@ -140,47 +142,47 @@ distinct_slots kind (e ∷ outs) a r =
     let other_port : AllByRecursion (λ o. (e.port == o.port) ≡ false) others =
     all_two _ (λ o. has_key kind e.inside e.dst o ≡ (e.port == o.port)) _ others (λ o n k. sym k ∙ not-true _ n) other_key (all_filter _ _ (latest kind outs) (all_latest _ kind outs a.0)) in
     let ranged : InRange others = all_filter _ _ (latest kind outs) (all_latest _ kind outs r.1) in
-    IsDistinct-cons eqb (slot e) (map slot others) (all_mapped slot _ others (all_two _ (λ o. (1024 ≤ o.port) × (o.port < 5120)) _ others (λ o n g. apart e o r.0.0 g.0 n) other_port ranged)) (distinct_filter eqb slot _ (latest kind outs) (distinct_slots kind outs a.1 r.1))
+    IsDistinct-cons eqb (slot e) (map slot others) (all_mapped slot _ others (all_two _ (λ o. (FIRST_PORT ≤ o.port) × (o.port < FIRST_PORT + MOST_LIVE)) _ others (λ o n g. apart e o r.0.0 g.0 n) other_port ranged)) (distinct_filter eqb slot _ (latest kind outs) (distinct_slots kind outs a.1 r.1))
 
-pub used_slot : (live : List Outward) (q : ℕ) → InRange live → list_any (eqb q) (map slot live) ≡ is_used live (q + 1024)
+pub used_slot : (live : List Outward) (q : ℕ) → InRange live → list_any (eqb q) (map slot live) ≡ is_used live (q + FIRST_PORT)
 used_slot [] q r = refl
-used_slot (e ∷ live) q r = ap (λ b. b || list_any (eqb q) (map slot live)) (one e r.0.0) ∙ ap (λ b. ((q + 1024) == e.port) || b) (used_slot live q r.1)
+used_slot (e ∷ live) q r = ap (λ b. b || list_any (eqb q) (map slot live)) (one e r.0.0) ∙ ap (λ b. ((q + FIRST_PORT) == e.port) || b) (used_slot live q r.1)
   where
-    one : (e : Outward) → 1024 ≤ e.port → eqb q (slot e) ≡ ((q + 1024) == e.port)
-    one e h = both_tests _ _ (λ t. let g : q ≡ e.port - 1024 = eqb-true q _ t in eq-eqb _ _ (omega arith)) (λ t. let g : q + 1024 ≡ e.port = eqb-true (q + 1024) e.port t in eq-eqb _ _ (omega arith))
+    one : (e : Outward) → FIRST_PORT ≤ e.port → eqb q (slot e) ≡ ((q + FIRST_PORT) == e.port)
+    one e h = both_tests _ _ (λ t. let g : q ≡ e.port - FIRST_PORT = eqb-true q _ t in eq-eqb _ _ (omega arith)) (λ t. let g : q + FIRST_PORT ≡ e.port = eqb-true (q + FIRST_PORT) e.port t in eq-eqb _ _ (omega arith))
 
-pub used_at_slot : (live : List Outward) (q : ℕ) → is_used live (q + 1024) ≡ true → list_any (eqb q) (map slot live) ≡ true
+pub used_at_slot : (live : List Outward) (q : ℕ) → is_used live (q + FIRST_PORT) ≡ true → list_any (eqb q) (map slot live) ≡ true
 used_at_slot [] q h = h
-used_at_slot (e ∷ live) q h = ⊎_elim (λ t. let k : q + 1024 ≡ e.port = eqb-true (q + 1024) e.port t in let g : eqb q (slot e) ≡ true = eq-eqb q (slot e) (omega arith) in ap (λ b. b || list_any (eqb q) (map slot live)) g) (λ t. ap (λ b. eqb q (slot e) || b) (used_at_slot live q t) ∙ or-true (eqb q (slot e))) (or_cases ((q + 1024) == e.port) (is_used live (q + 1024)) h)
+used_at_slot (e ∷ live) q h = ⊎_elim (λ t. let k : q + FIRST_PORT ≡ e.port = eqb-true (q + FIRST_PORT) e.port t in let g : eqb q (slot e) ≡ true = eq-eqb q (slot e) (omega arith) in ap (λ b. b || list_any (eqb q) (map slot live)) g) (λ t. ap (λ b. eqb q (slot e) || b) (used_at_slot live q t) ∙ or-true (eqb q (slot e))) (or_cases ((q + FIRST_PORT) == e.port) (is_used live (q + FIRST_PORT)) h)
 
-below : (live : List Outward) (q : ℕ) → InRange live → list_any (eqb q) (map slot live) ≡ true → q < 4096
-below live q r h = any_all (λ e. (q + 1024) == e.port) _ (q < 4096) live (λ e t g. let k : q + 1024 ≡ e.port = eqb-true (q + 1024) e.port t in omega (arith, g.1)) r (sym (used_slot live q r) ∙ h)
+below : (live : List Outward) (q : ℕ) → InRange live → list_any (eqb q) (map slot live) ≡ true → q < MOST_LIVE
+below live q r h = any_all (λ e. (q + FIRST_PORT) == e.port) _ (q < MOST_LIVE) live (λ e t g. let k : q + FIRST_PORT ≡ e.port = eqb-true (q + FIRST_PORT) e.port t in omega (arith, g.1)) r (sym (used_slot live q r) ∙ h)
 
 -- there are no more mappings than ports
-pub count_most : (kind : NatKind) (outs : List Outward) → Sound kind outs → length (latest kind outs) ≤ 4096
+pub count_most : (kind : NatKind) (outs : List Outward) → Sound kind outs → length (latest kind outs) ≤ MOST_LIVE
 count_most kind outs s =
     let live : List Outward = latest kind outs in
     let r : InRange live = all_latest _ kind outs s.in_range in
-    let most : length (map slot live) ≤ 4096 = length-le_from_distinct_below (map slot live) 4096 (distinct_slots kind outs s.agree s.in_range) (λ q k. below live q r k) in
+    let most : length (map slot live) ≤ MOST_LIVE = length-le_from_distinct_below (map slot live) MOST_LIVE (distinct_slots kind outs s.agree s.in_range) (λ q k. below live q r k) in
     omega (arith, length-mapped slot live)
 
 -- each of the ports is used, so there are as many mappings
-pub count_full : (kind : NatKind) (outs : List Outward) → Sound kind outs → ((q : ℕ) → 1024 ≤ q → q < 5120 → is_used outs q ≡ true) → length (latest kind outs) ≡ 4096
+pub count_full : (kind : NatKind) (outs : List Outward) → Sound kind outs → ((q : ℕ) → FIRST_PORT ≤ q → q < FIRST_PORT + MOST_LIVE → is_used outs q ≡ true) → length (latest kind outs) ≡ MOST_LIVE
 count_full kind outs s h =
     let live : List Outward = latest kind outs in
     let r : InRange live = all_latest _ kind outs s.in_range in
-    let most : length live ≤ 4096 = count_most kind outs s in
-    let least : 4096 ≤ length (map slot live) = le-length_from_below (map slot live) 4096 (λ q k. used_slot live q r ∙ used_latest kind outs (q + 1024) s.agree ∙ h (q + 1024) (omega arith) (omega arith)) in
+    let most : length live ≤ MOST_LIVE = count_most kind outs s in
+    let least : MOST_LIVE ≤ length (map slot live) = le-length_from_below (map slot live) MOST_LIVE (λ q k. used_slot live q r ∙ used_latest kind outs (q + FIRST_PORT) s.agree ∙ h (q + FIRST_PORT) (omega arith) (omega arith)) in
     omega (arith, length-mapped slot live)
 
 -- one isn't, so there are fewer
-pub count_free : (kind : NatKind) (outs : List Outward) (p : ℕ) → Sound kind outs → 1024 ≤ p → p < 5120 → is_used outs p ≡ false → length (latest kind outs) < 4096
+pub count_free : (kind : NatKind) (outs : List Outward) (p : ℕ) → Sound kind outs → FIRST_PORT ≤ p → p < FIRST_PORT + MOST_LIVE → is_used outs p ≡ false → length (latest kind outs) < MOST_LIVE
 count_free kind outs p s low high f =
     let live : List Outward = latest kind outs in
     let r : InRange live = all_latest _ kind outs s.in_range in
-    let n : list_any (eqb (p - 1024)) (map slot live) ≡ false = used_slot live (p - 1024) r ∙ ap (is_used live) (back p low) ∙ used_latest kind outs p s.agree ∙ f in
-    let most : length ((p - 1024) ∷ map slot live) ≤ 4096 = length-le_from_distinct_below ((p - 1024) ∷ map slot live) 4096 (IsDistinct-cons eqb (p - 1024) (map slot live) (none_passes _ _ n) (distinct_slots kind outs s.agree s.in_range)) (λ q k. ⊎_elim (λ e. let g : q ≡ p - 1024 = eqb-true q _ e in omega arith) (λ i. below live q r i) (or_cases _ _ k)) in
+    let n : list_any (eqb (p - FIRST_PORT)) (map slot live) ≡ false = used_slot live (p - FIRST_PORT) r ∙ ap (is_used live) (back p low) ∙ used_latest kind outs p s.agree ∙ f in
+    let most : length ((p - FIRST_PORT) ∷ map slot live) ≤ MOST_LIVE = length-le_from_distinct_below ((p - FIRST_PORT) ∷ map slot live) MOST_LIVE (IsDistinct-cons eqb (p - FIRST_PORT) (map slot live) (none_passes _ _ n) (distinct_slots kind outs s.agree s.in_range)) (λ q k. ⊎_elim (λ e. let g : q ≡ p - FIRST_PORT = eqb-true q _ e in omega arith) (λ i. below live q r i) (or_cases _ _ k)) in
     omega (arith, length-mapped slot live)
   where
-    back : (p : ℕ) → 1024 ≤ p → p - 1024 + 1024 ≡ p
+    back : (p : ℕ) → FIRST_PORT ≤ p → p - FIRST_PORT + FIRST_PORT ≡ p
     back p l = omega arith

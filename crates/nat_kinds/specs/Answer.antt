@@ -45,8 +45,8 @@ IsAnswer s live inside dst (Err Full) = (dst.ip ≢ s.external) × IsFull s.kind
 IsAnswer s live inside dst (Err NoMemory) = ⊥
 
 -- a call gives the answer, a port being one of the external address; only where that is a port may memory be wanting
-abbrev pub Gives : NatSettings → Result ℕ NatRefusal → Result Ep NatRefusal → Type 0
-Gives s answer (Ok ep) = (answer ≡ Ok ep.port) × (ep.ip ≡ s.external)
-Gives s answer (Err Hairpin) = answer ≡ Err Hairpin
-Gives s answer (Err Full) = answer ≡ Err Full
-Gives s answer (Err NoMemory) = IsOk answer
+abbrev pub GivesAnswer : NatSettings → Result ℕ NatRefusal → Result Ep NatRefusal → Type 0
+GivesAnswer s answer (Ok ep) = (answer ≡ Ok ep.port) × (ep.ip ≡ s.external)
+GivesAnswer s answer (Err Hairpin) = answer ≡ Err Hairpin
+GivesAnswer s answer (Err Full) = answer ≡ Err Full
+GivesAnswer s answer (Err NoMemory) = IsOk answer

@@ -29,6 +29,7 @@ reaches Symmetric src e = same_ep e.dst src
 abbrev pub is_way_in : NatKind → Ep → ℕ → Outward → Bool
 is_way_in kind src port e = (port == e.port) && reaches kind src e
 
+-- its inside endpoint
 abbrev pub inside_in : Option Outward → Option Ep
 inside_in None = None
 inside_in (Some e) = Some e.inside

@@ -21,6 +21,7 @@ abbrev pub latest : NatKind → List Outward → List Outward
 latest kind [] = []
 latest kind (e ∷ outs) = e ∷ filter (λ o. not (has_key kind e.inside e.dst o)) (latest kind outs)
 
+-- its port
 abbrev pub port_in : Option Outward → Option ℕ
 port_in None = None
 port_in (Some e) = Some e.port

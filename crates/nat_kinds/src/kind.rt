@@ -1,3 +1,4 @@
+//! The four kinds of NAT.
 /// The four kinds of NAT of RFC 3489, section 5.
 #[derive(Clone, Copy, Debug, PartialEq, Eq)]
 pub enum NatKind {

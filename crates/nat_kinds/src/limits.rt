@@ -1,3 +1,4 @@
+//! The ports that a NAT gives.
 /// The lowest external port that a NAT gives (own: those below are the system ports of RFC 6335, section 6).
 pub const FIRST_PORT: u16 = 1024;
 

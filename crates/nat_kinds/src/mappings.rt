@@ -1,7 +1,8 @@
+//! Searches over the outward datagrams that a NAT keeps, the latest first.
 ghost use Rattle.std.specs.Prelude.{◌≡◌, ℕ, ◌+◌, ◌<◌, ◌≤◌, true, false, ◌∷◌, find, length, slice_index_or, IfNone, IfSome, IfOk, IfErr, OnOk, OnErr};
 ghost use Rattle.nat_kinds.specs.History.{young, without};
 ghost use Rattle.nat_kinds.specs.Mappings.{has_key, port_in, latest, live_port, is_used, IsLowestFree};
-ghost use Rattle.nat_kinds.specs.Answer.{answer_of, GivesPort, IsFull, Gives};
+ghost use Rattle.nat_kinds.specs.Answer.{port_for, answer_of, GivesAnswer};
 ghost use Rattle.nat_kinds.specs.Entering.{is_way_in, inside_in};
 ghost use Rattle.nat_kinds.specs.Sound.{Sound, InRange};
 ghost use Rattle.nat_kinds.specs.declared.outgoing.Outward.{Outward};
@@ -69,15 +70,14 @@ fn lowest_free(outs: &[Outward]) -> Option<u16>
 }
 
 /// The port of a datagram from `inside` to `dst`: the one that its key holds, else the lowest free one.
-fn port_for(outs: &[Outward], kind: NatKind, inside: Ep, dst: Ep) -> Option<u16>
+fn port_for(outs: &[Outward], kind: NatKind, inside: Ep, dst: Ep) -> Result<u16, NatRefusal>
     requires sound { Sound kind outs.now }
-    ensures full { IfNone result (IsFull kind inside dst (latest kind outs.now)) }
-    ensures port { IfSome result (GivesPort (live_port kind inside dst (latest kind outs.now)) (latest kind outs.now)) }
+    ensures value { result ≡ port_for (live_port kind inside dst (latest kind outs.now)) (latest kind outs.now) }
 {
-    match held_port(outs, kind, inside, dst) {
-        Some(port) => Some(port),
-        None => lowest_free(outs),
+    if let Some(port) = held_port(outs, kind, inside, dst) {
+        return Ok(port);
     }
+    lowest_free(outs).ok_or(NatRefusal::Full)
 }
 
 /// Puts a datagram before those that are kept.
@@ -102,30 +102,28 @@ pub fn send(
 ) -> Result<Ep, NatRefusal>
     requires sound { Sound settings.now.kind outs.old.items }
     ensures sound { Sound settings.now.kind outs.new.items }
-    ensures answer { Gives settings.now (answer_of settings.now (latest settings.now.kind (young settings.now.idle now.0 outs.old.items)) inside dst) result }
-    ensures joined { IfOk result (λ ep. outs.new.items ≡ record { moment = now; inside = inside; dst = dst; port = ep.port } ∷ young settings.now.idle now.0 outs.old.items) }
+    ensures answer { let live = latest settings.now.kind (young settings.now.idle now.0 outs.old.items) in
+        GivesAnswer settings.now (answer_of settings.now live inside dst) result }
+    ensures joined { IfOk result (λ ep. outs.new.items ≡
+        record { moment = now; inside = inside; dst = dst; port = ep.port } ∷ young settings.now.idle now.0 outs.old.items) }
     ensures refused { OnErr result (outs.new.items ≡ young settings.now.idle now.0 outs.old.items) }
 {
     take_out_old(outs, settings.idle, now);
     if dst.ip == settings.external {
         return Err(NatRefusal::Hairpin);
     }
-    match port_for(outs, settings.kind, inside, dst) {
-        None => Err(NatRefusal::Full),
-        Some(port) => {
-            let sent = Outward {
-                moment: now,
-                inside,
-                dst,
-                port,
-            };
-            keep(outs, sent)?;
-            Ok(Ep {
-                ip: settings.external,
-                port,
-            })
-        }
-    }
+    let port = port_for(outs, settings.kind, inside, dst)?;
+    let sent = Outward {
+        moment: now,
+        inside,
+        dst,
+        port,
+    };
+    keep(outs, sent)?;
+    Ok(Ep {
+        ip: settings.external,
+        port,
+    })
 }
 
 /// The inside endpoint that a datagram from `src` to a port is let in to.

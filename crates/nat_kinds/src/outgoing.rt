@@ -1,3 +1,4 @@
+//! An outward datagram.
 use crate::kind::NatKind;
 use td_base::{Ep, Millis};
 
@@ -17,14 +18,14 @@ impl Outward {
     ghost use Rattle.nat_kinds.specs.Entering.{reaches};
 
     /// Whether it is less than `idle` milliseconds old.
-    pub fn is_young(&self, idle: u32, now: Millis) -> bool
+    pub(crate) fn is_young(&self, idle: u32, now: Millis) -> bool
         ensures { result ≡ is_young idle now.0 self.now }
     {
         now.0.saturating_sub(self.moment.0) < u64::from(idle)
     }
 
     /// Whether a datagram from `inside` to `dst` shares its mapping.
-    pub fn has_key(&self, kind: NatKind, inside: Ep, dst: Ep) -> bool
+    pub(crate) fn has_key(&self, kind: NatKind, inside: Ep, dst: Ep) -> bool
         ensures { result ≡ has_key kind inside dst self.now }
     {
         match kind {
@@ -34,7 +35,7 @@ impl Outward {
     }
 
     /// Whether it lets a datagram from `src` in at its port.
-    pub fn reaches(&self, kind: NatKind, src: Ep) -> bool
+    pub(crate) fn reaches(&self, kind: NatKind, src: Ep) -> bool
         ensures { result ≡ reaches kind src self.now }
     {
         match kind {

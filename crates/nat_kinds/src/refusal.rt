@@ -1,3 +1,4 @@
+//! Refusals of an outward datagram.
 /// Why an outward datagram was not sent.
 #[derive(Clone, Copy, Debug, PartialEq, Eq)]
 pub enum NatRefusal {

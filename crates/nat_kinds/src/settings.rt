@@ -1,3 +1,4 @@
+//! The settings of a NAT.
 use crate::kind::NatKind;
 use td_base::Ip4;
 

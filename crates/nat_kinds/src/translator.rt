@@ -1,6 +1,7 @@
+//! A network address translator.
 ghost use Rattle.std.specs.Prelude.{◌≡◌, ℕ, ◌≤◌, [], ◌∷◌, List, IfOk, OnErr};
 ghost use Rattle.nat_kinds.specs.History.{Entry, Out, Forget, Restart};
-ghost use Rattle.nat_kinds.specs.Answer.{nat_answer, Gives};
+ghost use Rattle.nat_kinds.specs.Answer.{nat_answer, GivesAnswer};
 ghost use Rattle.nat_kinds.specs.Entering.{lets_in};
 ghost use Rattle.nat_kinds.specs.Nat.{StandsFor, StandsAsBefore};
 
@@ -55,8 +56,10 @@ impl Nat {
         requires clock { self.old.moment ≤ now.0 }
 
         // After each history that it stood for, this is the answer; then it stands for that history with this datagram.
-        ensures answer { (h : List Entry) → StandsFor self.old h → Gives self.old.settings (nat_answer self.old.settings h now.0 inside dst) result }
-        ensures stands { IfOk result (λ ep. (h : List Entry) → StandsFor self.old h → StandsFor self.new (Out (record { moment = now; inside = inside; dst = dst; port = ep.port }) ∷ h)) }
+        ensures answer { (h : List Entry) → StandsFor self.old h →
+            GivesAnswer self.old.settings (nat_answer self.old.settings h now.0 inside dst) result }
+        ensures stands { IfOk result (λ ep. (h : List Entry) → StandsFor self.old h →
+            StandsFor self.new (Out (record { moment = now; inside = inside; dst = dst; port = ep.port }) ∷ h)) }
         ensures refused { OnErr result (StandsAsBefore self.old self.new) }
 
         ensures moment { self.new.moment ≡ now.0 }
@@ -69,12 +72,13 @@ impl Nat {
     /// The inside endpoint that a datagram from `src` to an external port is let in to. It refreshes nothing.
     pub fn inward(&self, now: Millis, src: Ep, port: u16) -> Option<Ep>
         requires clock { self.now.moment ≤ now.0 }
-        ensures answer { (h : List Entry) → StandsFor self.now h → result ≡ lets_in self.now.settings h now.0 src port }
+        ensures answer { (h : List Entry) → StandsFor self.now h →
+            result ≡ lets_in self.now.settings h now.0 src port }
     {
         mappings::inside_at(&self.outs, &self.settings, now, src, port)
     }
 
-    /// Drops the mappings and permissions of an inside endpoint, as a host does that comes back without its past.
+    /// Drops the mappings and permissions of one inside endpoint. Its ports are free from then on.
     pub fn forget(&mut self, inside: Ep)
         ensures stands { (h : List Entry) → StandsFor self.old h → StandsFor self.new (Forget inside ∷ h) }
         ensures moment { self.new.moment ≡ self.old.moment }
