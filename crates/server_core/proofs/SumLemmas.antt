@@ -1,11 +1,21 @@
 -- The sum of joined lists, and sums that are folded again and again.
-use Rattle.std.proofs.Common.{◌≡◌, ℕ, ◌+◌, ◌%◌, ◌^◌, ◌<◌, ◌≤◌, List, [], ◌∷◌, ◌++◌, length, take, drop, refl, ap, ◌∙◌, arith, length-append}
+use Rattle.std.proofs.Common.{◌≡◌, ℕ, zero, suc, ◌+◌, ◌%◌, ◌^◌, ◌<◌, ◌≤◌, List, [], ◌∷◌, ◌++◌, length, take, drop, refl, ap, ◌∙◌, arith, length-append}
 use Rattle.std.proofs.lemmas.List.{length-take}
 use Rattle.byteorder.specs.Endian.{big_bytes}
 use Rattle.td_base.specs.Sums.{folded, halves_sum}
-use Rattle.td_base.proofs.Folding.{folded_again}
 use Rattle.td_base.specs.declared.ipv6.Ip6.{Ip6}
 use Rattle.server_core.specs.Checksum.{summed}
+
+same_folded : (m n : ℕ) → m % 65535 ≡ n % 65535 → folded (suc m) ≡ folded (suc n)
+same_folded m n e = ap suc e
+
+-- a part that is folded already may be folded again with the rest
+folded_again : (a b : ℕ) → folded (folded a + b) ≡ folded (a + b)
+folded_again zero b = refl
+folded_again (suc a) b =
+    let left : suc (a % 65535) + b ≡ suc (a % 65535 + b) = omega arith in
+    let right : suc a + b ≡ suc (a + b) = omega arith in
+    rw (left, right) (same_folded (a % 65535 + b) (a + b) (omega arith))
 
 halves_sum-append : (a b : List ℕ) → length a % 2 ≡ 0 → halves_sum (a ++ b) ≡ halves_sum a + halves_sum b
 halves_sum-append [] b even = omega arith
