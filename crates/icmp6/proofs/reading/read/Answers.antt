@@ -1,4 +1,4 @@
-use Rattle.std.proofs.Common.{◌∙◌, ap, subst, sym, arith}
+use Rattle.std.proofs.Common.{subst, arith}
 use Rattle.td_base.specs.Reading.{Gives}
 use Rattle.icmp6.specs.Message.{view}
 use Rattle.icmp6.proofs.AgainLaws.{read_again}
