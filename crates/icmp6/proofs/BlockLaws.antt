@@ -1,15 +1,14 @@
 -- The options of a message one after the other, as an iterator gives them.
-use Rattle.std.proofs.Common.{◌≡◌, true, false, Bool, cond, ltb, eqb, ℕ, zero, suc, ◌+◌, ◌*◌, ◌-◌, ◌<◌, ◌≤◌, List, [], ◌∷◌, ◌++◌, length, take, drop, get_or, Result, Ok, Err, refl, sym, ap, ◌∙◌, arith}
+use Rattle.std.proofs.Common.{◌≡◌, cond, ltb, eqb, ℕ, zero, suc, ◌+◌, ◌*◌, ◌<◌, ◌≤◌, List, [], ◌∷◌, length, take, drop, Result, Ok, Err, refl, sym, ap, ◌∙◌, arith}
 use Rattle.std.specs.Prelude.{slice_index}
 use Rattle.std.specs.List.{AllByRecursion}
 use Rattle.std.proofs.lemmas.Bool.{lt-ltb, cond-true}
 use Rattle.std.proofs.lemmas.List.{drop-drop, drop_at, take_at, length-take, length-drop}
 use Rattle.icmp6.specs.declared.fault.IcmpFault.{IcmpFault}
 use Rattle.icmp6.specs.declared.fault.IcmpFault.TheVariants.{OptionCut, OptionZero}
-use Rattle.icmp6.specs.declared.block.Opt.{Opt}
-use Rattle.icmp6.specs.Options.{IsOption, joined, AreOptions, option_len}
+use Rattle.icmp6.specs.Options.{IsOption, joined, option_len}
 use Rattle.icmp6.specs.Blocks.{option_of, options_of, if_whole, blocks_at, options_at}
-use Rattle.icmp6.proofs.OptionLaws.{IsWholeAt, option_found, option_again, block_is, whole_front}
+use Rattle.icmp6.proofs.OptionLaws.{option_found, option_again, block_is, whole_front}
 
 -- nothing is left at the end
 past_end : (place : ℕ) (x : List ℕ) → length x ≤ place → option_len place x ≡ Err (OptionCut place)

@@ -1,7 +1,7 @@
 -- The fault that is found is the first.
-use Rattle.std.proofs.Common.{◌≡◌, ◌≢◌, ◌⊎◌, inl, inr, true, false, Bool, cond, not, ltb, leb, eqb, ℕ, zero, suc, ◌+◌, ◌*◌, ◌-◌, ◌<◌, ◌≤◌, List, [], ◌∷◌, length, take, drop, get_or, Result, Ok, Err, refl, sym, ap, subst, ◌∙◌, arith}
+use Rattle.std.proofs.Common.{◌≡◌, ◌≢◌, ◌⊎◌, inl, inr, true, false, Bool, cond, not, ltb, leb, eqb, ℕ, zero, suc, ◌+◌, ◌*◌, ◌<◌, List, length, take, drop, Result, Ok, Err, refl, ap, subst, arith}
 use Rattle.std.specs.Prelude.{slice_index, IsTrue, IfErr}
-use Rattle.std.proofs.lemmas.Bool.{ltb-true, ltb-false, leb-true, leb-false, eqb-true, eqb-false, eq-eqb, ne_eqb, not-true, not-false}
+use Rattle.std.proofs.lemmas.Bool.{ltb-true, ltb-false, leb-false, eqb-true, eqb-false, not-true, not-false}
 use Rattle.std.proofs.lemmas.List.{get_or-take, length-take}
 use Rattle.td_base.specs.Bytes.{number_at}
 use Rattle.td_base.specs.Reading.{◌>>=◌, Gives}
@@ -10,7 +10,7 @@ use Rattle.td_base.specs.declared.ipv6.Ip6.{Ip6}
 use Rattle.icmp6.specs.declared.fault.IcmpFault.{IcmpFault}
 use Rattle.icmp6.specs.declared.fault.IcmpFault.TheVariants.{Short, Sum, HopLimit, Code, Source, OptionCut, OptionZero}
 use Rattle.icmp6.specs.Checksum.{checksum_of}
-use Rattle.icmp6.specs.Options.{AreOptions, option_len, whole_options}
+use Rattle.icmp6.specs.Options.{option_len, whole_options}
 use Rattle.icmp6.specs.Message.{Message, echo_request, echo_reply, router_solicit, router_advert, other, has_len, has_hop, has_code, has_source, echo_request_at, echo_reply_at, solicit_at, advert_at, message_at}
 use Rattle.icmp6.specs.Faults.{is_router, is_known, least_len, IsSummed, HasFields, IsNear, HasOptionsAt, AreWholeUpTo, IsOptionFault, IsFirstFault}
 use Rattle.icmp6.proofs.Steps.{chosen, ok_len, ok_hop, ok_code, ok_source}

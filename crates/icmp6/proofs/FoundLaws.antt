@@ -1,5 +1,5 @@
 -- What is read is a message.
-use Rattle.std.proofs.Common.{◌≡◌, ◌≢◌, true, false, Bool, cond, not, ltb, eqb, ℕ, ◌+◌, ◌^◌, ◌<◌, ◌≤◌, List, [], ◌∷◌, ◌++◌, length, drop, inl, inr, Result, Ok, Err, refl, sym, ap, subst, ◌∙◌, arith}
+use Rattle.std.proofs.Common.{◌≡◌, ◌≢◌, cond, not, ltb, eqb, ℕ, ◌^◌, ◌<◌, ◌≤◌, List, [], ◌∷◌, ◌++◌, length, drop, inl, inr, Result, Ok, Err, refl, ap, subst, ◌∙◌, arith}
 use Rattle.std.specs.Prelude.{slice_index, IfOk}
 use Rattle.std.proofs.lemmas.Bool.{ltb-false, eqb-true, eqb-false, not-false}
 use Rattle.std.proofs.lemmas.List.{drop_more}
@@ -15,7 +15,7 @@ use Rattle.icmp6.specs.Checksum.{checksum_of}
 use Rattle.icmp6.specs.Options.{AreOptions, whole_options}
 use Rattle.icmp6.specs.Message.{Message, options_in, echo_request, echo_reply, router_solicit, router_advert, other, has_len, has_hop, has_code, has_source, echo_request_at, echo_reply_at, solicit_at, advert_at, message_at}
 use Rattle.icmp6.specs.Writing.{layout}
-use Rattle.icmp6.specs.Grammar.{Fits, IsValid, MessageBytes}
+use Rattle.icmp6.specs.Grammar.{MessageBytes}
 use Rattle.icmp6.proofs.Steps.{guard_ok, bind_ok, chosen, ok_is, ok_len, ok_hop, ok_code, ok_source}
 use Rattle.icmp6.proofs.OptionLaws.{none_left, options_found}
 use Rattle.icmp6.proofs.AgainLaws.{typed}

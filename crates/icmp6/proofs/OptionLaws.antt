@@ -1,9 +1,9 @@
 -- Options that the walk finds whole are whole, and whole options are found so.
-use Rattle.std.proofs.Common.{◌≡◌, true, false, Bool, cond, ltb, leb, eqb, ℕ, zero, suc, ◌+◌, ◌*◌, ◌-◌, ◌<◌, ◌≤◌, ◌⊎◌, inl, inr, List, [], ◌∷◌, ◌++◌, length, take, drop, get_or, Result, Ok, Err, refl, sym, ap, ◌∙◌, arith}
+use Rattle.std.proofs.Common.{◌≡◌, false, cond, ltb, leb, eqb, ℕ, zero, suc, ◌+◌, ◌*◌, ◌-◌, ◌<◌, ◌≤◌, inl, inr, List, [], ◌∷◌, ◌++◌, length, take, drop, Result, Ok, Err, refl, sym, ap, ◌∙◌, arith}
 use Rattle.std.specs.Prelude.{slice_index}
 use Rattle.std.specs.List.{AllByRecursion}
 use Rattle.std.proofs.lemmas.Bool.{ltb-false, leb-true, eqb-false, le-ltb, le-leb, lt-leb, ne_eqb, cond-false, cond-true}
-use Rattle.std.proofs.lemmas.List.{drop_all, drop-drop, drop_at, take_at, get_or-drop, get_or-take, get_or_append_left, length-take, length-drop, length-append}
+use Rattle.std.proofs.lemmas.List.{drop_all, drop-drop, drop_at, get_or-drop, get_or-take, get_or_append_left, length-take, length-drop, length-append}
 use Rattle.td_base.specs.Reading.{◌>>=◌}
 use Rattle.td_base.proofs.BytesLemmas.{cut}
 use Rattle.icmp6.specs.declared.fault.IcmpFault.{IcmpFault}

@@ -1,11 +1,10 @@
 -- The sum of joined lists of bytes, and the checksum in steps.
-use Rattle.std.proofs.Common.{◌≡◌, ℕ, ◌+◌, ◌*◌, ◌-◌, ◌%◌, ◌^◌, ◌<◌, ◌≤◌, List, [], ◌∷◌, ◌++◌, length, take, drop, refl, sym, ap, ◌∙◌, arith, length-append}
+use Rattle.std.proofs.Common.{◌≡◌, ℕ, suc, zero, ◌+◌, ◌-◌, ◌%◌, ◌^◌, ◌<◌, ◌≤◌, List, [], ◌∷◌, ◌++◌, length, take, drop, refl, ap, ◌∙◌, arith, length-append}
 use Rattle.std.proofs.lemmas.List.{length-take}
 use Rattle.byteorder.specs.Endian.{big_bytes}
 use Rattle.td_base.specs.declared.ipv6.Ip6.{Ip6}
 use Rattle.td_base.specs.Bytes.{number_at}
 use Rattle.td_base.specs.Sums.{halves_sum, folded}
-use Rattle.td_base.proofs.Folding.{folded_again}
 use Rattle.icmp6.specs.Checksum.{checksum_of, summed}
 
 pub halves_sum-append : (a b : List ℕ) → length a % 2 ≡ 0 → halves_sum (a ++ b) ≡ halves_sum a + halves_sum b
@@ -39,6 +38,15 @@ sum_of_parts src dst x hs hd least most =
     let two : length (take 2 x) % 2 ≡ 0 = omega (arith, length-take 2 x) in
     let all = seven src.0 dst.0 (big_bytes 4 (length x)) (big_bytes 4 58) (take 2 x) (0 ∷ 0 ∷ []) (drop 4 x) (omega arith) (omega arith) refl refl two refl in
     omega (arith, all, sum_of_length (length x) most, sum_of_front x least)
+
+-- a part that is folded already may be folded again with the rest
+folded_again : (a b : ℕ) → folded (folded a + b) ≡ folded (a + b)
+folded_again zero b = refl
+folded_again (suc a) b =
+    let left : suc (a % 65535) + b ≡ suc (a % 65535 + b) = omega arith in
+    let right : suc a + b ≡ suc (a + b) = omega arith in
+    let same : (a % 65535 + b) % 65535 ≡ (a + b) % 65535 = omega arith in
+    rw (left, right) (ap suc same)
 
 -- the sum in three steps, each folded
 pub checksum_in_steps : (src dst : Ip6) (x rest : List ℕ) (next first first' second second' front third : ℕ) → length src.0 ≡ 16 → length dst.0 ≡ 16 → 4 ≤ length x → length x < 2 ^ 16

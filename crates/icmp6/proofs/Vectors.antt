@@ -2,7 +2,6 @@
 use Rattle.std.proofs.Common.{◌≡◌, ℕ, List, [], ◌∷◌, ◌++◌, Ok, refl}
 use Rattle.td_base.specs.Reach.{is_link_local}
 use Rattle.td_base.specs.declared.ipv6.Ip6.{Ip6}
-use Rattle.icmp6.specs.declared.block.Opt.{Opt}
 use Rattle.icmp6.specs.declared.block.Opt.TheVariants.{Prefix, Mtu}
 use Rattle.icmp6.specs.Checksum.{checksum_of}
 use Rattle.icmp6.specs.Options.{option_len, whole_options}

@@ -5,7 +5,7 @@ use Rattle.icmp6.specs.declared.fault.IcmpFault.{IcmpFault}
 use Rattle.icmp6.specs.declared.block.Opt.{Opt}
 use Rattle.icmp6.specs.declared.block.Opt.TheVariants.{Prefix, Mtu, Other}
 use Rattle.icmp6.specs.declared.iter.Options.{Options}
-use Rattle.icmp6.specs.declared.numbers.TheConstants.{PREFIX, PREFIX_UNITS, MTU, MTU_UNITS}
+use Rattle.icmp6.specs.declared.numbers.TheConstants.{PREFIX_INFORMATION, PREFIX_UNITS, MTU_OPTION, MTU_UNITS}
 use Rattle.icmp6.specs.Options.{option_len}
 
 -- the option that begins at a place and has these bytes
@@ -13,9 +13,9 @@ abbrev pub option_of : ℕ → List ℕ → Opt
 option_of place block =
     let kind = slice_index block 0 in
     let units = slice_index block 1 in
-    if (kind == PREFIX) && (units == PREFIX_UNITS)
+    if (kind == PREFIX_INFORMATION) && (units == PREFIX_UNITS)
     then Prefix (slice_index block 2) (slice_index block 3) (number_at 4 4 block) (number_at 8 4 block) (record { 0 = take 16 (drop 16 block) })
-    else if (kind == MTU) && (units == MTU_UNITS) then Mtu (number_at 4 4 block)
+    else if (kind == MTU_OPTION) && (units == MTU_UNITS) then Mtu (number_at 4 4 block)
     else Other kind (record { at = place; len = length block })
 
 -- the options that have these blocks of bytes, of which the first begins at a place

@@ -9,9 +9,11 @@ use Rattle.icmp6.specs.declared.numbers.TheConstants.{HEAD_LEN, ECHO_LEN, SOLICI
 use Rattle.icmp6.specs.Checksum.{checksum_of}
 use Rattle.icmp6.specs.Options.{AreOptions}
 
+-- a solicitation or an advertisement
 abbrev pub is_router : ℕ → Bool
 is_router kind = (kind == ROUTER_SOLICIT) || (kind == ROUTER_ADVERT)
 
+-- an echo or a router's message
 abbrev pub is_known : ℕ → Bool
 is_known kind = (kind == ECHO_REQUEST) || ((kind == ECHO_REPLY) || is_router kind)
 

@@ -20,6 +20,7 @@ pub data Message : Type 0 where
   router_advert : (hop flags life reach retrans : ℕ) (options : List ℕ) → Message
   other : (kind code : ℕ) (rest : List ℕ) → Message
 
+-- what a message says
 abbrev pub view : Msg → Message
 view (EchoRequest id seq body) = echo_request id seq body.now
 view (EchoReply id seq body) = echo_reply id seq body.now
@@ -33,18 +34,25 @@ options_in (router_solicit options) = options
 options_in (router_advert hop flags life reach retrans options) = options
 options_in _ = []
 
--- the tests that several types share
+-- ---- the tests that several types share
+
+-- at least so many bytes
 abbrev pub has_len : ℕ → List ℕ → Result (Unit {0}) IcmpFault
 has_len least x = if nat_lt (length x) least then Err (Short (length x)) else Ok tt
 
+-- RFC 4861, section 6.1: no router on the way has lowered the hop limit
 abbrev pub has_hop : ℕ → Result (Unit {0}) IcmpFault
 has_hop hop = if hop == ROUTER_HOP then Ok tt else Err (HopLimit hop)
 
+-- code 0
 abbrev pub has_code : List ℕ → Result (Unit {0}) IcmpFault
 has_code x = if slice_index x 1 == 0 then Ok tt else Err (Code (slice_index x 1))
 
+-- RFC 4861, section 6.1.2: a link-local source
 abbrev pub has_source : Ip6 → Result (Unit {0}) IcmpFault
 has_source src = if is_link_local src then Ok tt else Err Source
+
+-- ---- each type
 
 -- RFC 4443, section 4.1
 unfoldable pub echo_request_at : List ℕ → Result Message IcmpFault
@@ -78,6 +86,8 @@ advert_at src hop x = do
   _ ← has_source src
   _ ← whole_options (length x) ADVERT_LEN x
   Ok (router_advert (slice_index x 4) (slice_index x 5) (number_at 6 2 x) (number_at 8 4 x) (number_at 12 4 x) (drop ADVERT_LEN x))
+
+-- ---- any type
 
 -- the message of x, or the first fault
 unfoldable pub message_at : Ip6 → Ip6 → ℕ → List ℕ → Result Message IcmpFault

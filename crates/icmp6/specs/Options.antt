@@ -11,6 +11,7 @@ pub record IsOption (bytes : List ℕ) : Type 0 where
   pub some : 0 < slice_index bytes 1
   pub whole : length bytes ≡ OPTION_UNIT * slice_index bytes 1
 
+-- one behind the other
 abbrev pub joined : List (List ℕ) → List ℕ
 joined [] = []
 joined (b ∷ bs) = b ++ joined bs

@@ -1,5 +1,5 @@
 -- The bytes of a message: RFC 4443, sections 4.1 and 4.2, RFC 4861, sections 4.1 and 4.2.
-use Rattle.std.specs.Prelude.{ℕ, ◌+◌, List, [], ◌∷◌, ◌++◌, length}
+use Rattle.std.specs.Prelude.{ℕ, ◌+◌, List, ◌∷◌, ◌++◌, length}
 use Rattle.byteorder.specs.Endian.{big_bytes}
 use Rattle.td_base.specs.declared.ipv6.Ip6.{Ip6}
 use Rattle.icmp6.specs.declared.numbers.TheConstants.{ECHO_REQUEST, ECHO_REPLY, ROUTER_SOLICIT, ROUTER_ADVERT, HEAD_LEN, ECHO_LEN, SOLICIT_LEN, ADVERT_LEN}

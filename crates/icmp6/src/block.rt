@@ -1,7 +1,8 @@
+//! An option of a router's message.
 ghost use Rattle.std.specs.Prelude.{◌≡◌, ◌+◌, ◌*◌, ◌<◌, ◌≤◌, length, take, drop, slice_index};
 ghost use Rattle.icmp6.specs.Blocks.{option_of};
 
-use crate::numbers::{MTU, MTU_UNITS, OPTION_UNIT, PREFIX, PREFIX_UNITS};
+use crate::numbers::{MTU_OPTION, MTU_UNITS, OPTION_UNIT, PREFIX_INFORMATION, PREFIX_UNITS};
 use td_base::{Ip6, Span, field32};
 
 /// An option of a router's message.
@@ -45,14 +46,14 @@ pub fn option_of(place: usize, block: &[u8]) -> Opt
     ensures { result ≡ option_of place block.now }
 {
     match (block[0], block[1]) {
-        (PREFIX, PREFIX_UNITS) => Opt::Prefix {
+        (PREFIX_INFORMATION, PREFIX_UNITS) => Opt::Prefix {
             length: block[2],
             flags: block[3],
             valid: field32(block, 4),
             preferred: field32(block, 8),
             prefix: ip6_at(block, 16),
         },
-        (MTU, MTU_UNITS) => Opt::Mtu {
+        (MTU_OPTION, MTU_UNITS) => Opt::Mtu {
             mtu: field32(block, 4),
         },
         (kind, _) => Opt::Other {

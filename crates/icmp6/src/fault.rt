@@ -1,3 +1,4 @@
+//! Why bytes are no message.
 /// Why bytes are no message. Places count from the first byte of the message.
 #[derive(Clone, Copy, Debug, PartialEq, Eq)]
 pub enum IcmpFault {

@@ -1,3 +1,4 @@
+//! The options of a message that was read.
 ghost use Rattle.std.specs.Prelude.{◌≡◌, ℕ, List};
 ghost use Rattle.std.specs.List.{AllByRecursion};
 ghost use Rattle.icmp6.specs.Options.{IsOption, AreOptions, joined};

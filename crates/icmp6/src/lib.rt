@@ -5,7 +5,8 @@
 //!
 //! # What the layer above may rely on
 //!
-//! - `read` accepts exactly the messages of the grammar, each byte of them, and else gives the first fault.
+//! - `read` accepts exactly the messages of the grammar, each byte of them, and else gives the first fault,
+//!   with the values or the place found.
 //! - `write` writes a message of the grammar, with the right checksum, and what it wrote reads back.
 //! - `options` gives every option of a message that was read, in order, and ends after the last.
 //! - No call takes memory.
@@ -18,12 +19,15 @@
 //!
 //! | module | holds | stated in |
 //! |---|---|---|
-//! | `numbers` | types, lengths and limits | |
 //! | `message` | `Msg` | `specs/Message.antt` |
-//! | `fault` | `IcmpFault` | `specs/Fault.antt` |
-//! | `sum` | the checksum | `specs/Checksum.antt` |
+//! | `fault` | `IcmpFault` | `specs/Faults.antt` |
+//! | `reading` | `read` | `specs/Message.antt`, `Grammar.antt`, `Faults.antt` |
+//! | `writing` | `write` | `specs/Writing.antt` |
+//! | `block` | `Opt` | `specs/Blocks.antt` |
+//! | `iter`, `lend` | `Options`, `options` | `specs/Blocks.antt` |
 //! | `walk` | whole options, one behind the other | `specs/Options.antt` |
-//! | `reading` | `read` | `specs/Reading.antt`, `specs/Grammar.antt` |
+//! | `sum` | the checksum | `specs/Checksum.antt` |
+//! | `numbers` | types, lengths and limits | |
 #![tactic(auto)]
 
 mod block;
@@ -43,7 +47,8 @@ pub use iter::Options;
 pub use lend::options;
 pub use message::Msg;
 pub use numbers::{
-    ADVERT_LEN, ECHO_LEN, ECHO_REPLY, ECHO_REQUEST, HEAD_LEN, ICMPV6, OPTION_UNIT, ROUTER_ADVERT,
+    ADVERT_LEN, ECHO_LEN, ECHO_REPLY, ECHO_REQUEST, HEAD_LEN, ICMPV6, MESSAGE_MAX, MTU_OPTION,
+    MTU_UNITS, OPTION_HEAD_LEN, OPTION_UNIT, PREFIX_INFORMATION, PREFIX_UNITS, ROUTER_ADVERT,
     ROUTER_HOP, ROUTER_SOLICIT, SOLICIT_LEN,
 };
 pub use reading::read;

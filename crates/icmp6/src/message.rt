@@ -1,3 +1,4 @@
+//! The ICMPv6 message.
 /// An ICMPv6 message, its parts lent by the bytes that it was read from.
 #[derive(Clone, Copy, Debug)]
 pub enum Msg<'a> {

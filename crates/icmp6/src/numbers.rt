@@ -37,13 +37,13 @@ pub const OPTION_HEAD_LEN: usize = 2;
 pub const OPTION_UNIT: usize = 8;
 
 /// The type of a Prefix Information: RFC 4861, section 4.6.2.
-pub const PREFIX: u8 = 3;
+pub const PREFIX_INFORMATION: u8 = 3;
 
 /// Units that a Prefix Information has.
 pub const PREFIX_UNITS: u8 = 4;
 
 /// The type of an MTU option: RFC 4861, section 4.6.4.
-pub const MTU: u8 = 5;
+pub const MTU_OPTION: u8 = 5;
 
 /// Units that an MTU option has.
 pub const MTU_UNITS: u8 = 1;

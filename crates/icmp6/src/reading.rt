@@ -1,3 +1,4 @@
+//! Reading a message: the tests that types share, a reader for each type, and the whole.
 ghost use Rattle.std.specs.Prelude.{◌≡◌, ◌≤◌, length, IfOk, IfErr};
 ghost use Rattle.td_base.specs.Reading.{Gives};
 ghost use Rattle.icmp6.specs.Message.{Message, view, options_in, has_len, has_hop, has_code, has_source, echo_request_at, echo_reply_at, solicit_at, advert_at, message_at};
@@ -141,12 +142,12 @@ pub fn read(src: Ip6, dst: Ip6, hop: u8, body: &[u8]) -> Result<Msg<'_>, IcmpFau
     // The message, or the first fault, as one function of the bytes.
     ensures exact { Gives view result (message_at src dst hop body.now) }
 {
-    message(src, dst, hop, body)
+    message_of(src, dst, hop, body)
 }
 
 #[inline(always)]
 #[tactic(auto, unfolding(crate::specs::Message::message_at))]
-fn message(src: Ip6, dst: Ip6, hop: u8, body: &[u8]) -> Result<Msg<'_>, IcmpFault>
+fn message_of(src: Ip6, dst: Ip6, hop: u8, body: &[u8]) -> Result<Msg<'_>, IcmpFault>
     requires { length body.now ≤ 65535 }
     ensures { Gives view result (message_at src dst hop body.now) }
 {

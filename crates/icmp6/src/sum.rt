@@ -1,3 +1,4 @@
+//! The checksum.
 ghost use Rattle.std.specs.Prelude.{◌≡◌, ◌≤◌, length};
 ghost use Rattle.icmp6.specs.Checksum.{checksum_of};
 

@@ -1,3 +1,4 @@
+//! Writing a message: a head for each type, what follows it, and the checksum.
 ghost use Rattle.std.specs.Prelude.{◌≡◌, ℕ, ◌+◌, ◌≤◌, [], ◌∷◌, ◌++◌, length, take, drop, IfOk};
 ghost use Rattle.byteorder.specs.Endian.{big_bytes};
 ghost use Rattle.td_base.specs.Bytes.{Writes};
@@ -11,7 +12,6 @@ use crate::numbers::{
     ROUTER_SOLICIT, SOLICIT_LEN,
 };
 use crate::sum::checksum;
-use byteorder::{BigEndian, ByteOrder};
 use td_base::{Ip6, Room, put, put16};
 
 /// How many bytes a message has.

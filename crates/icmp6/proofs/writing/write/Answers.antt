@@ -1,6 +1,5 @@
-use Rattle.std.proofs.Common.{◌≡◌, ℕ, List, ◌++◌, length, drop, refl, sym, ◌∙◌, arith}
+use Rattle.std.proofs.Common.{drop, refl, sym, ◌∙◌, arith}
 use Rattle.icmp6.specs.Message.{Message, view}
-use Rattle.icmp6.specs.Writing.{message_bytes}
 use Rattle.icmp6.proofs.AgainLaws.{length-message_bytes}
 use Rattle.icmp6.proofs.WriteLaws.{sum_is_put, front_again}
 use Rattle.icmp6.proofs.writing.write.Goals as goal

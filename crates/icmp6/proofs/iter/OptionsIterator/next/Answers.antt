@@ -1,4 +1,4 @@
-use Rattle.std.proofs.Common.{◌≡◌, ℕ, List, ◌∷◌, ◌+◌, ◌-◌, ◌*◌, length, take, drop, ap, subst, sym, ◌∙◌, arith}
+use Rattle.std.proofs.Common.{◌≡◌, ℕ, List, ◌∷◌, ◌+◌, ◌-◌, length, take, drop, ap, subst, sym, ◌∙◌, arith}
 use Rattle.icmp6.specs.declared.block.Opt.{Opt}
 use Rattle.icmp6.specs.Options.{IsOption}
 use Rattle.icmp6.specs.Blocks.{options_at, option_of}
