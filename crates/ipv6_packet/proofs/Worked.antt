@@ -1,6 +1,6 @@
 -- Bytes that were worked out by hand, and what is read of them.
 use Rattle.std.proofs.Common.{◌≡◌, ℕ, List, [], ◌∷◌, Ok, Err, refl}
-use Rattle.ipv6_packet.specs.declared.fault.PacketFault.TheVariants.{Short, Version, Length}
+use Rattle.ipv6_packet.specs.declared.fault.PacketFault.TheVariants.{Short}
 use Rattle.ipv6_packet.specs.Packets.{Fields, packet_bytes, packet_at, fields_of}
 
 -- a bubble from 2001:0:4136:e378:8000:63bf:3fff:fdd2 to 2001:0:4136:e378:0:63bf:39cc:9bf8
