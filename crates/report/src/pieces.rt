@@ -32,6 +32,8 @@ pub fn put_ep(ep: Ep, out: &mut LineBuf)
     ensures text { out.new ≡ out.old ++ ep_text ep }
     ensures short { length out.new ≤ length out.old + EP_LEN }
 {
+    // Each byte is read, so that it is known to have at most three digits.
+    let [_a, _b, _c, _d] = ep.ip.0;
     let _ = print_ep(ep, out);
 }
 
