@@ -1,3 +1,4 @@
+//! The parts of a line.
 ghost use Rattle.std.specs.Prelude.{◌≡◌, ◌+◌, ◌*◌, ◌≤◌, ◌++◌, length, decimal};
 ghost use Rattle.td_base.specs.Texts.{ep_text};
 ghost use Rattle.report.specs.Lines.{verb_word, act_text, node_text, mark_text, marks_text};
