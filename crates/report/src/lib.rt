@@ -22,5 +22,8 @@ mod lines;
 mod pieces;
 mod totals;
 
+#[cfg(test)]
+mod tests;
+
 pub use lines::line;
 pub use totals::{Sums, summary};

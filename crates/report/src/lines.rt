@@ -1,3 +1,4 @@
+//! The line of a record.
 ghost use Rattle.std.specs.Prelude.{◌≡◌};
 ghost use Rattle.report.specs.Lines.{record_line};
 

@@ -1,3 +1,4 @@
+//! The parts of a line.
 ghost use Rattle.std.specs.Prelude.{◌≡◌, ◌+◌, ◌*◌, ◌≤◌, ◌++◌, length, decimal};
 ghost use Rattle.td_base.specs.Texts.{ep_text};
 ghost use Rattle.report.specs.Lines.{verb_word, act_text, node_text, mark_text, marks_text};
@@ -32,6 +33,8 @@ pub fn put_ep(ep: Ep, out: &mut LineBuf)
     ensures text { out.new ≡ out.old ++ ep_text ep }
     ensures short { length out.new ≤ length out.old + EP_LEN }
 {
+    // Each byte is read, so that it is known to have at most three digits.
+    let [_a, _b, _c, _d] = ep.ip.0;
     let _ = print_ep(ep, out);
 }
 

@@ -1,3 +1,4 @@
+//! The totals of a run.
 ghost use Rattle.std.specs.Prelude.{◌≡◌, ◌∷◌, [], List};
 ghost use Rattle.history.specs.Full.{Full};
 ghost use Rattle.history.specs.Records.{record_of};
