@@ -3,3 +3,4 @@ pub mod TableLemmas
 pub mod EventLemmas
 pub mod NodeLemmas
 pub mod TextLemmas
+pub mod OneSolicitation

@@ -1,7 +1,7 @@
 -- Names, addresses and servers of tables.
-use Rattle.std.proofs.Common.{◌≡◌, ℕ, ◌+◌, ◌-◌, ◌<◌, ◌≤◌, ◌&&◌, nat_le, leb-true, Bool, true, false, List, [], ◌∷◌, ◌++◌, length, take, drop, get_or, Option, Some, None, refl, sym, ap, subst, ◌∙◌, arith, inl, inr}
+use Rattle.std.proofs.Common.{◌≡◌, ℕ, ◌+◌, ◌-◌, ◌<◌, ◌≤◌, ◌&&◌, nat_le, leb-true, true, List, [], ◌∷◌, ◌++◌, length, take, drop, get_or, Option, Some, None, sym, ap, subst, ◌∙◌, arith, inl, inr}
 use Rattle.std.specs.Prelude.{replicate, IfSome, IfNone, ◌⊎◌}
-use Rattle.std.proofs.lemmas.List.{length-append, length-replicate, length-take, take_at, take_all}
+use Rattle.std.proofs.lemmas.List.{length-take, take_all}
 use Rattle.std.proofs.lemmas.Bool.{and_parts}
 use Rattle.std.proofs.Props.{props}
 use Rattle.std.specs.List.{list_all}
@@ -14,7 +14,8 @@ use Rattle.td_base.specs.Names.{name_text}
 use Rattle.history.specs.Rows.{TopologyState}
 use Rattle.scenario.specs.NodeName.{name, padded}
 use Rattle.scenario.specs.Words.{◌>>=◌}
-use Rattle.scenario.specs.Nodes.{is_name, is_free_name, new_name, begins_with_letter, is_name_byte, add_server, add_servers}
+use Rattle.scenario.specs.Fresh.{is_name, is_free_name, new_name, begins_with_letter, is_name_byte}
+use Rattle.scenario.specs.Servers.{add_server, add_servers}
 
 -- ---- names
 

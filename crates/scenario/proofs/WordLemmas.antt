@@ -1,12 +1,12 @@
 -- What the words of a text say, beside what `td_base` reads.
-use Rattle.std.proofs.Common.{◌≡◌, ℕ, ◌+◌, ◌*◌, ◌^◌, ◌<◌, ◌≤◌, ◌==◌, ◌&&◌, nat_le, ◌/◌, Bool, true, false, if◌then◌else◌, List, [], ◌∷◌, ◌++◌, length, Option, Some, None, Result, Ok, Err, refl, sym, ap, subst, ◌∙◌, arith, inl, inr, eq-eqb, le-leb, append_assoc, Bor}
+use Rattle.std.proofs.Common.{◌≡◌, ℕ, ◌^◌, ◌<◌, ◌≤◌, ◌==◌, nat_le, ◌/◌, Bool, true, false, if◌then◌else◌, List, [], ◌∷◌, ◌++◌, length, Option, Some, None, Result, Ok, Err, refl, sym, ap, subst, ◌∙◌, arith, inl, inr, eq-eqb, le-leb, append_assoc, Bor}
 use Rattle.std.specs.Prelude.{decimal, slice_index, IfOk, All, MatchOption}
 use Rattle.std.specs.List.{slice_split, join_with_byte}
 use Rattle.std.specs.Result.{result_ok}
 use Rattle.std.specs.Str.Parse.{AllDigits, digits_value}
 use Rattle.std.proofs.lemmas.Bool.Decides.{Decides-eqb, nat_tests}
 use Rattle.std.specs.Char.{digit_value}
-use Rattle.std.proofs.lemmas.Bool.{and_parts, and_from, ne_eqb}
+use Rattle.std.proofs.lemmas.Bool.{and_parts, ne_eqb}
 use Rattle.std.specs.Cmp.Lexicographic.{pointwise_decides}
 use Rattle.std.proofs.lemmas.Fmt.{digits_value-decimal}
 use Rattle.std.proofs.lemmas.Str.Parse.{IsNumeralModel, numerals_by_value, tells_digits, digit_from_value}
@@ -29,7 +29,7 @@ use Rattle.td_base.specs.Texts.{ip4_text, ep_text}
 use Rattle.td_base.proofs.Decimals.{digits}
 use Rattle.td_base.proofs.Halting.{NotDigit, not_digit}
 use Rattle.td_base.proofs.Ip4Lemmas.{IsIp4-made}
-use Rattle.scenario.specs.Words.{◌>>=◌, same_text, words, number_of, ip4_of_parts, ip4_of, ep_of_parts, ep_of, few_bytes, hex_of, bytes_of}
+use Rattle.scenario.specs.Words.{◌>>=◌, same_text, words, number_of, ip4_of_parts, ip4_of, ep_of_parts, ep_of, few_bytes, hex_of}
 
 -- a reader that accepts the texts that are some value's, and no others
 pub as_read : {X E : Type 0} (Is : X → Type 0) (r : Result X E) (o : Option X) → IfOk r Is → ((x : X) → Is x → r ≡ Ok x) → ((x : X) → o ≡ Some x → Is x) → ((x : X) → Is x → o ≡ Some x) → result_ok r ≡ o
