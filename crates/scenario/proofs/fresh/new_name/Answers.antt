@@ -1,5 +1,5 @@
 use Rattle.std.proofs.Common.{sym, ap, ◌∙◌}
-use Rattle.scenario.proofs.NodeLemmas.{new_name-made}
+use Rattle.scenario.proofs.Names.{new_name-made}
 use Rattle.scenario.specs.Fresh.{new_name}
 use Rattle.scenario.proofs.fresh.new_name.Goals as goal
 
