@@ -1,5 +1,10 @@
-pub mod WordLemmas
+pub mod Numbers
+pub mod Addresses
+pub mod Datagrams
+pub mod EventWords
+pub mod EventsSoFar
+pub mod Names
+pub mod ServersSoFar
 pub mod TableLemmas
-pub mod EventLemmas
-pub mod NodeLemmas
 pub mod TextLemmas
+pub mod OneSolicitation

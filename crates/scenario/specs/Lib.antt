@@ -3,6 +3,7 @@ pub mod Rest
 pub mod EventText
 pub mod Tables
 pub mod NodeName
-pub mod Nodes
+pub mod Fresh
+pub mod Servers
 pub mod Scenario
 pub mod Told

@@ -1,6 +1,6 @@
 -- The name that a text is.
-use Rattle.std.specs.Prelude.{◌≡◌, ℕ, ◌+◌, ◌-◌, ◌≤◌, List, ◌++◌, length, take, replicate, min}
-use Rattle.std.proofs.Common.{refl, sym, ap, ◌∙◌, arith}
+use Rattle.std.specs.Prelude.{◌≡◌, ℕ, ◌-◌, ◌≤◌, List, ◌++◌, length, take, replicate}
+use Rattle.std.proofs.Common.{refl, sym, ap, arith}
 use Rattle.std.proofs.lemmas.List.{length-append, length-replicate, length-take, take_at}
 use Rattle.td_base.specs.declared.node_name.Name.{Name}
 use Rattle.td_base.specs.declared.node_name.TheConstants.{NAME_LEN}

@@ -1,6 +1,5 @@
 -- The scenario that a text is.
-use Rattle.std.specs.Prelude.{ℕ, ◌&&◌, ◌||◌, nat_le, Bool, if◌then◌else◌, List, [], ◌∷◌, length, codes, Option, Some, None}
-use Rattle.std.specs.List.{list_all}
+use Rattle.std.specs.Prelude.{ℕ, ◌&&◌, nat_le, if◌then◌else◌, List, [], ◌∷◌, length, codes, Option, Some, None}
 use Rattle.std.specs.Str.{is_utf8}
 use Rattle.toml.specs.Data.{Data, as_str, as_array, Items, no_items, item, Members, get_member}
 use Rattle.toml.specs.Parse.{parse_document}
@@ -8,10 +7,10 @@ use Rattle.history.specs.declared.event_list.Event.{Event}
 use Rattle.history.specs.Topology.{Scenario}
 use Rattle.scenario.specs.declared.reader.TheConstants.{TEXT_MOST}
 use Rattle.scenario.specs.declared.event_lists.TheConstants.{MOST_EVENTS}
-use Rattle.scenario.specs.Words.{◌>>=◌, same_text}
+use Rattle.scenario.specs.Words.{◌>>=◌}
 use Rattle.scenario.specs.EventText.{event_of}
-use Rattle.scenario.specs.Tables.{keys_of, natural_at, item_count}
-use Rattle.scenario.specs.Nodes.{servers_at}
+use Rattle.scenario.specs.Tables.{has_only, natural_at, item_count}
+use Rattle.scenario.specs.Servers.{servers_at}
 
 abbrev pub event_in : Data → Option Event
 event_in value = as_str value >>= event_of
@@ -30,8 +29,8 @@ events_of texts = if nat_le (item_count texts) MOST_EVENTS then events_at texts 
 abbrev pub events_in : Data → Option (List Event)
 events_in value = as_array value >>= events_of
 
-abbrev pub is_scenario_key : List ℕ → Bool
-is_scenario_key key = same_text key (codes "seed") || same_text key (codes "server") || same_text key (codes "events")
+abbrev pub scenario_keys : List (List ℕ)
+scenario_keys = codes "seed" ∷ codes "server" ∷ codes "events" ∷ []
 
 abbrev pub scenario_at : Members → Option Scenario
 scenario_at table = do
@@ -42,7 +41,7 @@ scenario_at table = do
 
 -- the scenario of a table that has no other key
 unfoldable pub scenario_in : Members → Option Scenario
-scenario_in table = if list_all is_scenario_key (keys_of table) then scenario_at table else None
+scenario_in table = if has_only scenario_keys table then scenario_at table else None
 
 -- the scenario of what is written in TOML
 abbrev pub written : List ℕ → Option Scenario

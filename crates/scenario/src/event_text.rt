@@ -24,7 +24,7 @@ fn first_word(text: &str) -> (&str, Option<&str>)
     }
 }
 
-#[tactic(auto, using(crate::proofs::EventLemmas::deliver_too_many))]
+#[tactic(auto, using(crate::proofs::EventWords::deliver_too_many))]
 fn deliver_from(rest: Option<&str>) -> Option<Event>
     ensures { result ≡ deliver_of (words_left (option_copied rest.entry)) }
 {
@@ -38,7 +38,7 @@ fn deliver_from(rest: Option<&str>) -> Option<Event>
     })
 }
 
-#[tactic(auto, using(crate::proofs::EventLemmas::stranger_too_many))]
+#[tactic(auto, using(crate::proofs::EventWords::stranger_too_many))]
 fn stranger_from(alloc: Global, rest: Option<&str>) -> Result<Option<Event>, NoMemory>
     ensures { IfOk result (λ o. o ≡ stranger_of (words_left (option_copied rest.entry))) }
 {

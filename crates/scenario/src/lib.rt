@@ -20,7 +20,8 @@
 //! |---|---|---|
 //! | `reader` | `Scenario`, `ScenarioFault`, `read` | `specs/Scenario.antt` |
 //! | `table_keys` | what a table has at a key | `specs/Tables.antt` |
-//! | `server_tables` | the servers | `specs/Nodes.antt`, `specs/NodeName.antt` |
+//! | `fresh` | names and addresses that no node before has | `specs/Fresh.antt`, `specs/NodeName.antt` |
+//! | `server_tables` | the servers | `specs/Servers.antt` |
 //! | `event_lists` | the events | `specs/Scenario.antt` |
 //! | `event_text` | the event of a text | `specs/EventText.antt` |
 //! | `word_texts`, `datagram_text` | numbers, addresses, endpoints and bytes | `specs/Words.antt` |
@@ -29,9 +30,12 @@
 mod datagram_text;
 mod event_lists;
 mod event_text;
+mod fresh;
 mod reader;
 mod server_tables;
 mod table_keys;
+#[cfg(test)]
+mod tests;
 mod word_texts;
 
 pub use datagram_text::DATAGRAM_MOST;

@@ -1,16 +1,13 @@
 //! The scenario that a text is.
-ghost use Rattle.std.specs.Prelude.{◌≡◌, ◌≤◌, IfOk, IfErr, IfSome, Some, None, length, option_map, string_bytes};
-ghost use Rattle.std.specs.List.{list_all};
-ghost use Rattle.std.specs.BTreeMap.{keys};
+ghost use Rattle.std.specs.Prelude.{◌≡◌, ◌≤◌, IfOk, IfErr, IfSome, Some, None, length, option_map};
 ghost use Rattle.toml.specs.View.{table_view};
-ghost use Rattle.scenario.specs.Tables.{keys_of};
-ghost use Rattle.scenario.specs.Scenario.{is_scenario_key, scenario_at, scenario_in, written, scenario_of};
+ghost use Rattle.scenario.specs.Scenario.{scenario_at, scenario_in, written, scenario_of};
 ghost use Rattle.scenario.specs.Told.{told};
 ghost use Rattle.scenario.specs.declared.reader.ScenarioFault.TheVariants.{Unbuilt};
 
 use crate::event_lists::{MOST_EVENTS, events_in};
 use crate::server_tables::servers_at;
-use crate::table_keys::{natural_at, value_at};
+use crate::table_keys::{has_only, natural_at, value_at};
 use history::{Events, Topology};
 use std::alloc::Global;
 use td_base::NoMemory;
@@ -35,24 +32,6 @@ pub enum ScenarioFault {
     Unbuilt,
     /// Memory ran out, which says nothing of the text.
     NoMemory,
-}
-
-fn is_scenario_key(key: &str) -> bool
-    ensures { result ≡ is_scenario_key key.now }
-{
-    key == "seed" || key == "server" || key == "events"
-}
-
-fn all_scenario_keys(table: &Table) -> bool
-    ensures { result ≡ list_all (λ k. is_scenario_key (string_bytes k)) (keys table.now) }
-{
-    table.keys().all(|key| is_scenario_key(key.as_str()))
-}
-
-fn has_scenario_keys(table: &Table) -> bool
-    ensures { result ≡ list_all is_scenario_key (keys_of (table_view table.now)) }
-{
-    all_scenario_keys(table)
 }
 
 fn scenario_at(alloc: Global, table: &Table) -> Result<Option<Scenario>, NoMemory>
@@ -83,7 +62,7 @@ fn scenario_in(alloc: Global, table: &Table) -> Result<Option<Scenario>, NoMemor
     ensures read { IfOk result (λ o. option_map told o ≡ scenario_in (table_view table.now)) }
     ensures few { IfOk result (λ o. IfSome o (λ s. length s.events ≤ MOST_EVENTS)) }
 {
-    if !has_scenario_keys(table) {
+    if !has_only(table, &["seed", "server", "events"]) {
         return Ok(None);
     }
     scenario_at(alloc, table)

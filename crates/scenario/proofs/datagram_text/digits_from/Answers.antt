@@ -1,5 +1,5 @@
 use Rattle.std.proofs.Common.{sym, ◌∙◌, arith, eqb-true}
-use Rattle.scenario.proofs.WordLemmas.{hex_of-long, hex_of-none}
+use Rattle.scenario.proofs.Datagrams.{hex_of-long, hex_of-none}
 use Rattle.scenario.proofs.datagram_text.digits_from.Goals as goal
 
 pub returns-then-is_empty : goal.returns-then-is_empty

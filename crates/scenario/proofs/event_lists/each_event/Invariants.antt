@@ -1,7 +1,7 @@
 use Rattle.std.proofs.Common.{◌≡◌, ◌≤◌, drop, length}
 use Rattle.toml.specs.View.{items_view}
 use Rattle.scenario.specs.Scenario.{events_at}
-use Rattle.scenario.proofs.EventLemmas.{after_events}
+use Rattle.scenario.proofs.EventsSoFar.{after_events}
 use Rattle.scenario.proofs.event_lists.each_event.Given as goal
 
 abbrev pub invariant-loop-value : goal.invariant-loop-value

@@ -1,5 +1,5 @@
 use Rattle.std.proofs.Common.{Some, None}
-use Rattle.scenario.proofs.WordLemmas.{words_cut}
+use Rattle.scenario.proofs.EventWords.{words_cut}
 use Rattle.scenario.proofs.event_text.first_word.Goals as goal
 
 pub returns-in-Some : goal.returns-in-Some

@@ -1,6 +1,6 @@
 use Rattle.std.proofs.Common.{ap, ◌∙◌}
 use Rattle.scenario.specs.Words.{ep_of}
-use Rattle.scenario.proofs.WordLemmas.{ep_read}
+use Rattle.scenario.proofs.Addresses.{ep_read}
 use Rattle.scenario.proofs.word_texts.ep_from.Goals as goal
 
 pub returns : goal.returns

@@ -1,6 +1,6 @@
 use Rattle.std.proofs.Common.{ap, ◌∙◌}
 use Rattle.scenario.specs.Words.{ip4_of}
-use Rattle.scenario.proofs.WordLemmas.{ip4_read}
+use Rattle.scenario.proofs.Addresses.{ip4_read}
 use Rattle.scenario.proofs.word_texts.ip4_from.Goals as goal
 
 pub returns : goal.returns

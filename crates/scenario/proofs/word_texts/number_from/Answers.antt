@@ -1,6 +1,6 @@
 use Rattle.std.proofs.Common.{ap, ◌∙◌, arith}
 use Rattle.scenario.specs.Words.{number_of}
-use Rattle.scenario.proofs.WordLemmas.{number_read}
+use Rattle.scenario.proofs.Numbers.{number_read}
 use Rattle.scenario.proofs.word_texts.number_from.Goals as goal
 
 pub returns-clause-value : goal.returns-clause-value

@@ -1,7 +1,7 @@
 use Rattle.std.proofs.Common.{sym, ap, ◌∙◌}
-use Rattle.scenario.proofs.NodeLemmas.{new_name-made}
-use Rattle.scenario.specs.Nodes.{new_name}
-use Rattle.scenario.proofs.server_tables.new_name.Goals as goal
+use Rattle.scenario.proofs.Names.{new_name-made}
+use Rattle.scenario.specs.Fresh.{new_name}
+use Rattle.scenario.proofs.fresh.new_name.Goals as goal
 
 pub returns : goal.returns
 returns c =

@@ -1,22 +1,16 @@
--- Names, addresses and servers of tables.
-use Rattle.std.proofs.Common.{◌≡◌, ◌≢◌, ℕ, ◌+◌, ◌-◌, ◌<◌, ◌≤◌, ◌&&◌, nat_le, leb-true, Bool, true, false, List, [], ◌∷◌, ◌++◌, length, take, drop, get_or, Option, Some, None, refl, sym, ap, subst, ◌∙◌, arith, inl, inr}
+-- The names that texts are.
+use Rattle.std.proofs.Common.{◌≡◌, ◌≢◌, ℕ, ◌-◌, ◌<◌, ◌≤◌, ◌&&◌, nat_le, leb-true, true, List, [], ◌∷◌, ◌++◌, length, take, Option, Some, None, sym, ap, subst, ◌∙◌, arith, inl, inr}
 use Rattle.std.specs.Prelude.{replicate, IfSome, IfNone, ◌⊎◌}
-use Rattle.std.proofs.lemmas.List.{length-append, length-replicate, length-take, take_at, take_all}
+use Rattle.std.proofs.lemmas.List.{length-take, take_all}
 use Rattle.std.proofs.lemmas.Bool.{and_parts}
 use Rattle.std.proofs.Props.{props}
 use Rattle.std.specs.List.{list_all}
-use Rattle.toml.specs.declared.value.Value.{Value}
-use Rattle.toml.specs.View.{view, items_view}
-use Rattle.toml.proofs.Views.{items_view-drop}
 use Rattle.td_base.specs.declared.node_name.Name.{Name}
 use Rattle.td_base.specs.declared.node_name.TheConstants.{NAME_LEN}
 use Rattle.td_base.specs.Names.{name_text}
 use Rattle.history.specs.Rows.{TopologyState}
 use Rattle.scenario.specs.NodeName.{name, padded}
-use Rattle.scenario.specs.Words.{◌>>=◌}
-use Rattle.scenario.specs.Nodes.{is_name, is_free_name, new_name, begins_with_letter, is_name_byte, add_server, add_servers}
-
--- ---- names
+use Rattle.scenario.specs.Fresh.{is_name, is_free_name, new_name, begins_with_letter, is_name_byte}
 
 abbrev build : (n : ℕ) (l : List ℕ) → length l ≡ NAME_LEN → n ≤ NAME_LEN → l ≡ take n l ++ replicate (NAME_LEN - n) 0 → Name
 build n l w s p = record { len = n; bytes = l; whole = w; short = s; padded = p }
@@ -76,8 +70,3 @@ new_name-made t text None e f some none =
       | inr h ↦ absurd (omega (arith, h, is_name-short text e))
     ]
 new_name-made t text (Some a) e f some none = rw (e, f) (ap Some (name_is a text (is_name-short text e) some.0))
-
--- ---- lists of servers
-
-pub add_servers-drop : (t : TopologyState) (vs : List Value) (i : ℕ) (d : Value) → i < length vs → add_servers t (items_view (drop i vs)) ≡ (add_server t (view (get_or vs i d)) >>= (λ more. add_servers more (items_view (drop (i + 1) vs))))
-add_servers-drop t vs i d h = ap (add_servers t) (items_view-drop vs i d h)

@@ -1,26 +1,14 @@
--- What the words of a text say, beside what `td_base` reads.
-use Rattle.std.proofs.Common.{◌≡◌, ℕ, ◌+◌, ◌*◌, ◌^◌, ◌<◌, ◌≤◌, ◌==◌, ◌&&◌, nat_le, ◌/◌, Bool, true, false, if◌then◌else◌, List, [], ◌∷◌, ◌++◌, length, Option, Some, None, Result, Ok, Err, refl, sym, ap, subst, ◌∙◌, arith, inl, inr, eq-eqb, le-leb, append_assoc, Bor}
-use Rattle.std.specs.Prelude.{decimal, slice_index, IfOk, All, MatchOption}
+-- The addresses and endpoints that texts are.
+use Rattle.std.proofs.Common.{◌≡◌, ℕ, ◌^◌, ◌<◌, ◌≤◌, ◌==◌, false, List, [], ◌∷◌, ◌++◌, length, Some, Result, Ok, refl, sym, ap, subst, ◌∙◌, arith, inl, inr, eq-eqb, append_assoc}
+use Rattle.std.specs.Prelude.{decimal, slice_index, IfOk, All}
 use Rattle.std.specs.List.{slice_split, join_with_byte}
 use Rattle.std.specs.Result.{result_ok}
-use Rattle.std.specs.Str.Parse.{AllDigits, digits_value}
-use Rattle.std.proofs.lemmas.Bool.Decides.{Decides-eqb, nat_tests}
+use Rattle.std.specs.Str.Parse.{AllDigits}
 use Rattle.std.specs.Char.{digit_value}
-use Rattle.std.proofs.lemmas.Bool.{and_parts, and_from, ne_eqb}
-use Rattle.std.specs.Cmp.Lexicographic.{pointwise_decides}
-use Rattle.std.proofs.lemmas.Fmt.{digits_value-decimal}
-use Rattle.std.proofs.lemmas.Str.Parse.{IsNumeralModel, numerals_by_value, tells_digits, digit_from_value}
+use Rattle.std.proofs.lemmas.Bool.{ne_eqb}
+use Rattle.std.proofs.lemmas.Str.Parse.{digit_from_value}
 use Rattle.std.proofs.lemmas.List.Splits.{join_with_byte-slice_split, slice_split_at, slice_split_none}
 use Rattle.std.proofs.lemmas.List.Elements.{All-nil, All-cons, All-append}
-use Rattle.std.proofs.lemmas.List.Splits.{slice_split_first}
-use Rattle.std.proofs.lemmas.List.Sums.{fails_before_first}
-use Rattle.std.proofs.lemmas.Str.Pattern.{IsSplitOnceResult, split_once_first}
-use Rattle.std.proofs.lemmas.Bool.{lt-leb}
-use Rattle.std.proofs.Math.Bool.{and-false}
-use Rattle.hex.specs.Hex.{decode_of, decode_sized}
-use Rattle.hex.specs.declared.error.FromHexError.{FromHexError}
-use Rattle.hex.proofs.HexLemmas.{decode_of-ok}
-use Rattle.hex.proofs.OnLiterals.{hex_on_literals}
 use Rattle.td_base.specs.declared.ipv4.Ip4.{Ip4}
 use Rattle.td_base.specs.declared.endpoint.Ep.{Ep}
 use Rattle.td_base.specs.Ip4.{IsIp4}
@@ -29,64 +17,8 @@ use Rattle.td_base.specs.Texts.{ip4_text, ep_text}
 use Rattle.td_base.proofs.Decimals.{digits}
 use Rattle.td_base.proofs.Halting.{NotDigit, not_digit}
 use Rattle.td_base.proofs.Ip4Lemmas.{IsIp4-made}
-use Rattle.scenario.specs.Words.{◌>>=◌, same_text, words, number_of, ip4_of_parts, ip4_of, ep_of_parts, ep_of, few_bytes, hex_of, bytes_of}
-
--- a reader that accepts the texts that are some value's, and no others
-pub as_read : {X E : Type 0} (Is : X → Type 0) (r : Result X E) (o : Option X) → IfOk r Is → ((x : X) → Is x → r ≡ Ok x) → ((x : X) → o ≡ Some x → Is x) → ((x : X) → Is x → o ≡ Some x) → result_ok r ≡ o
-as_read Is (Ok x) o found only sound complete = sym (complete x found)
-as_read Is (Err e) None found only sound complete = refl
-as_read Is (Err e) (Some x) found only sound complete =
-    let wrong : Err e ≡ Ok x = only x (sound x refl) in
-    absurd cc
-
--- the value that a step gave
-pub bind_some : {A B : Type 0} (o : Option A) (f : A → Option B) (y : B) → (o >>= f) ≡ Some y → (x : A) × (o ≡ Some x) × (f x ≡ Some y)
-bind_some None f y e = absurd cc
-bind_some (Some x) f y e = (x, refl, e)
-
-pub same_text-true : (a b : List ℕ) → same_text a b ≡ true → a ≡ b
-same_text-true a b = (pointwise_decides Decides-eqb a b).0
-
-pub same_text-self : (a b : List ℕ) → a ≡ b → same_text a b ≡ true
-same_text-self a b = (pointwise_decides Decides-eqb a b).1
-
--- ---- numbers
-
-own : IsNumeralModel (AllDigits 10) (digits_value 10)
-own = numerals_by_value _ tells_digits
-
-kept : (b : Bool) (n m : ℕ) → (if b then Some n else None) ≡ Some m → (b ≡ true) × (n ≡ m)
-kept true n m e = (refl, cc)
-kept false n m e = absurd cc
-
-pub number_of-sound : (most n : ℕ) (text : List ℕ) → number_of most text ≡ Some n → (n ≤ most) × (text ≡ decimal n)
-unfolding number_of
-number_of-sound most n text e =
-    let k = kept _ _ _ e in
-    let both = and_parts (nat_le (digits_value 10 text) most) (same_text text (decimal (digits_value 10 text))) k.0 in
-    let le : digits_value 10 text ≤ most = grind (arith, nat_tests) in
-    let same : text ≡ decimal (digits_value 10 text) = same_text-true _ _ both.1 in
-    (rw k.1 at le, rw k.1 at same)
-
-pub number_of-decimal : (most n : ℕ) (text : List ℕ) → most < 2 ^ 64 → n ≤ most → text ≡ decimal n → number_of most text ≡ Some n
-unfolding number_of
-number_of-decimal most n text small le e =
-    let value : digits_value 10 text ≡ n = rw e (digits_value-decimal own n (omega arith)) in
-    let fits : nat_le n most ≡ true = grind (arith, nat_tests) in
-    let same : same_text text (decimal n) ≡ true = same_text-self _ _ e in
-    rw (value, fits, same) refl
-
-number_kept : (most n : ℕ) (text : List ℕ) → number_of most text ≡ Some n → text ≡ decimal n
-number_kept most n text e = (number_of-sound most n text e).1
-
-number_back : (most n : ℕ) → most < 2 ^ 64 → n ≤ most → number_of most (decimal n) ≡ Some n
-number_back most n small le = number_of-decimal most n (decimal n) small le refl
-
-pub number_read : {E : Type 0} (most : ℕ) (text : List ℕ) (r : Result ℕ E) → most < 2 ^ 64 → IfOk r (λ n. (n ≤ most) × (text ≡ decimal n)) → ((n : ℕ) → n ≤ most → text ≡ decimal n → r ≡ Ok n) → result_ok r ≡ number_of most text
-number_read most text r small found only =
-    as_read (λ n. (n ≤ most) × (text ≡ decimal n)) r (number_of most text) found (λ n h. only n h.0 h.1) (λ n e. number_of-sound most n text e) (λ n h. number_of-decimal most n text small h.0 h.1)
-
--- ---- addresses
+use Rattle.scenario.specs.Words.{number_of, ip4_of_parts, ip4_of, ep_of_parts, ep_of}
+use Rattle.scenario.proofs.Numbers.{as_read, bind_some, number_of-sound, number_back}
 
 apart : (mark c : ℕ) → NotDigit mark → digit_value c < 10 → (c == mark) ≡ false
 apart mark c other fits = ne_eqb c mark (λ e. other (rw (← e) (digit_from_value c fits)))
@@ -227,44 +159,3 @@ ep_of-sound ep text e =
 pub ep_read : {E : Type 0} (text : List ℕ) (r : Result Ep E) → IfOk r (λ ep. IsEp ep × (text ≡ ep_text ep)) → ((ep : Ep) → IsEp ep → text ≡ ep_text ep → r ≡ Ok ep) → result_ok r ≡ ep_of text
 ep_read text r found only =
     as_read (λ ep. IsEp ep × (text ≡ ep_text ep)) r (ep_of text) found (λ ep h. only ep h.0 h.1) (λ ep e. ep_of-sound ep text e) (λ ep h. ap ep_of h.1 ∙ ep_of-text ep h.0)
-
--- ---- bytes
-
-decode_half : (s : List ℕ) → decode_sized s (length s / 2) ≡ decode_of s
-decode_half s = rw (eq-eqb (length s / 2) (length s / 2) refl) refl
-
-few : (most : ℕ) (bytes : List ℕ) → 1 ≤ length bytes → length bytes ≤ most → few_bytes most bytes ≡ Some bytes
-few most bytes some le =
-    let a : nat_le 1 (length bytes) ≡ true = le-leb _ _ some in
-    let b : nat_le (length bytes) most ≡ true = le-leb _ _ le in
-    rw (a, b) refl
-
-too_many : (most : ℕ) (bytes : List ℕ) → most < length bytes → few_bytes most bytes ≡ None
-too_many most bytes lt =
-    let b : nat_le (length bytes) most ≡ false = lt-leb _ _ lt in
-    rw (b, and-false (nat_le 1 (length bytes))) refl
-
-too_long : (most : ℕ) (s : List ℕ) (r : Result (List ℕ) FromHexError) → decode_of s ≡ r → most < length s / 2 → (result_ok r >>= few_bytes most) ≡ None
-too_long most s (Err f) e lt = refl
-too_long most s (Ok bytes) e lt = too_many most bytes (omega (arith, decode_of-ok s bytes e))
-
--- digits of too many bytes
-pub hex_of-long : (most : ℕ) (s : List ℕ) → most < length s / 2 → hex_of most s ≡ None
-hex_of-long most s lt = too_long most s (decode_of s) refl lt
-
--- no digits
-pub hex_of-none : (most : ℕ) (s : List ℕ) → length s ≡ 0 → hex_of most s ≡ None
-unfolding hex_on_literals
-hex_of-none most [] e = refl
-hex_of-none most (c ∷ s) e = absurd (omega (arith, e))
-
--- ---- words
-
--- a text at its first space
-pub words_cut : (text : List ℕ) (r : Option (Bor (List ℕ) × Bor (List ℕ))) → IsSplitOnceResult 32 text r → MatchOption r (words text ≡ text ∷ []) (λ x. words text ≡ x.0.now ∷ words x.1.now)
-words_cut text None h =
-    let none = split_once_first 32 text None h (omega arith) in
-    slice_split_none (λ b. b == 32) text (λ k d lt. fails_before_first (λ b. b == 32) text k d (omega (arith, none)))
-words_cut text (Some x) h =
-    let cut = split_once_first 32 text (Some x) h (omega arith) in
-    slice_split_first (λ b. b == 32) text 0 cut.0 ∙ rw (cut.1, cut.2) refl

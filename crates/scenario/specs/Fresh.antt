@@ -1,0 +1,47 @@
+-- The names and addresses of further nodes: those that no node before has.
+use Rattle.std.specs.Prelude.{ℕ, ◌==◌, ◌&&◌, ◌||◌, nat_le, not, Bool, false, if◌then◌else◌, List, [], ◌∷◌, length, Option, Some, None}
+use Rattle.std.specs.List.{list_all}
+use Rattle.std.specs.Char.{is_ascii_lowercase, is_ascii_digit}
+use Rattle.td_base.specs.declared.ipv4.Ip4.{Ip4}
+use Rattle.td_base.specs.declared.node_name.Name.{Name}
+use Rattle.td_base.specs.declared.node_name.TheConstants.{NAME_LEN}
+use Rattle.td_base.specs.declared.reach.Policy.TheVariants.{Strict}
+use Rattle.td_base.specs.Ip4.{same_ip}
+use Rattle.td_base.specs.Names.{name_text}
+use Rattle.td_base.specs.Reach.{is_global}
+use Rattle.history.specs.Rows.{TopologyState}
+use Rattle.scenario.specs.NodeName.{name}
+use Rattle.scenario.specs.Words.{◌>>=◌, same_text, ip4_of}
+
+abbrev pub underscore : ℕ
+underscore = 95
+
+abbrev pub is_name_byte : ℕ → Bool
+is_name_byte byte = is_ascii_lowercase byte || is_ascii_digit byte || (byte == underscore)
+
+abbrev pub begins_with_letter : List ℕ → Bool
+begins_with_letter [] = false
+begins_with_letter (byte ∷ more) = is_ascii_lowercase byte
+
+-- 1 to 16 of the letters a to z, the digits and the underscore, of which the first is a letter
+unfoldable pub is_name : List ℕ → Bool
+is_name text = begins_with_letter text && list_all is_name_byte text && nat_le (length text) NAME_LEN
+
+-- no node has this name
+abbrev pub is_free_name : TopologyState → List ℕ → Bool
+is_free_name t text = list_all (λ s. not (same_text (name_text s.name) text)) t.servers
+
+-- no node has this address
+abbrev pub is_free_address : TopologyState → Ip4 → Bool
+is_free_address t ip = list_all (λ s. not (same_ip s.primary ip || same_ip s.secondary ip)) t.servers
+
+-- the name that a text gives to a further node
+unfoldable pub new_name : TopologyState → List ℕ → Option Name
+new_name t text = if is_name text && is_free_name t text then Some (name text) else None
+
+abbrev pub global_and_free : TopologyState → Ip4 → Option Ip4
+global_and_free t ip = if is_global Strict ip && is_free_address t ip then Some ip else None
+
+-- the address that a text gives to a further node: it is global
+unfoldable pub new_address : TopologyState → List ℕ → Option Ip4
+new_address t text = ip4_of text >>= global_and_free t
