@@ -2,3 +2,4 @@ pub mod Rows
 pub mod Topology
 pub mod Full
 pub mod Records
+pub mod Telling

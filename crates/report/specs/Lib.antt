@@ -1,1 +1,3 @@
-pub mod Report
+pub mod Lines
+pub mod Telling
+pub mod Totals

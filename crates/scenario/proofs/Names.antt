@@ -1,5 +1,5 @@
 -- The names that texts are.
-use Rattle.std.proofs.Common.{◌≡◌, ℕ, ◌-◌, ◌<◌, ◌≤◌, ◌&&◌, nat_le, leb-true, true, List, [], ◌∷◌, ◌++◌, length, take, Option, Some, None, sym, ap, subst, ◌∙◌, arith, inl, inr}
+use Rattle.std.proofs.Common.{◌≡◌, ◌≢◌, ℕ, ◌-◌, ◌<◌, ◌≤◌, ◌&&◌, nat_le, leb-true, true, List, [], ◌∷◌, ◌++◌, length, take, Option, Some, None, sym, ap, subst, ◌∙◌, arith, inl, inr}
 use Rattle.std.specs.Prelude.{replicate, IfSome, IfNone, ◌⊎◌}
 use Rattle.std.proofs.lemmas.List.{length-take, take_all}
 use Rattle.std.proofs.lemmas.Bool.{and_parts}
@@ -62,11 +62,11 @@ is_name-some [] e f = absurd cc
 is_name-some (x ∷ xs) e f = absurd cc
 
 -- a name that was made of a text
-pub new_name-made : (t : TopologyState) (text : List ℕ) (r : Option Name) → is_name text ≡ true → is_free_name t text ≡ true → IfSome r (λ a. name_text a ≡ text) → IfNone r ((text ≡ []) ⊎ (NAME_LEN < length text)) → r ≡ new_name t text
+pub new_name-made : (t : TopologyState) (text : List ℕ) (r : Option Name) → is_name text ≡ true → is_free_name t text ≡ true → IfSome r (λ a. (name_text a ≡ text) × (text ≢ [])) → IfNone r ((text ≡ []) ⊎ (NAME_LEN < length text)) → r ≡ new_name t text
 unfolding new_name
 new_name-made t text None e f some none =
     elim none [
       | inl h ↦ absurd (is_name-some text e h)
       | inr h ↦ absurd (omega (arith, h, is_name-short text e))
     ]
-new_name-made t text (Some a) e f some none = rw (e, f) (ap Some (name_is a text (is_name-short text e) some))
+new_name-made t text (Some a) e f some none = rw (e, f) (ap Some (name_is a text (is_name-short text e) some.0))

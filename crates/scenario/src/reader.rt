@@ -1,11 +1,11 @@
 //! The scenario that a text is.
-ghost use Rattle.std.specs.Prelude.{◌≡◌, IfOk, IfErr, Some, None, option_map};
+ghost use Rattle.std.specs.Prelude.{◌≡◌, ◌≤◌, length, IfOk, Some, None, option_map};
 ghost use Rattle.toml.specs.View.{table_view};
 ghost use Rattle.scenario.specs.Scenario.{scenario_at, scenario_in, written, scenario_of};
 ghost use Rattle.scenario.specs.Told.{told};
 ghost use Rattle.scenario.specs.declared.reader.ScenarioFault.TheVariants.{Unbuilt};
 
-use crate::event_lists::events_in;
+use crate::event_lists::{MOST_EVENTS, events_in};
 use crate::server_tables::servers_at;
 use crate::table_keys::{has_only, natural_at, value_at};
 use history::{Events, Topology};
@@ -92,6 +92,7 @@ fn scenario_of(alloc: Global, bytes: &[u8]) -> Result<Option<Scenario>, NoMemory
 pub fn read(alloc: Global, bytes: &[u8]) -> Result<Scenario, ScenarioFault>
     // The text is the scenario.
     ensures read { IfOk result (λ s. scenario_of bytes.now ≡ Some (told s)) }
+    ensures few { IfOk result (λ s. length s.events ≤ MOST_EVENTS) }
     // A text that is refused is no scenario.
     ensures refused { result ≡ Err Unbuilt → scenario_of bytes.now ≡ None }
 {

@@ -9,7 +9,7 @@ use Rattle.td_base.specs.Ip4.{IsIp4}
 use Rattle.td_base.specs.Ep.{IsEp}
 use Rattle.td_base.specs.Texts.{ip4_text, ep_text, IsNumberText, IsIp4Text, IsEpText}
 use Rattle.td_base.specs.Fronts.{NumberThen, Halts, HaltsThen}
-use Rattle.td_base.proofs.Halting.{then_halts, then_goes_on, not_digit, one_way}
+use Rattle.td_base.proofs.Halting.{Halts-same, then_halts, then_goes_on, not_digit, one_way}
 use Rattle.td_base.proofs.Decimals.{digits}
 
 -- three numbers up to 255 with a dot behind each, and a text of `Rest`
@@ -104,17 +104,6 @@ ep_from_dots text h =
     )
 
 -- ---- where reading halts
-
-pub Halts-same : (A B : List ℕ → Type 0) (text : List ℕ) (left : ℕ) → ((t : List ℕ) → A t → B t) → ((t : List ℕ) → B t → A t) → Halts A text left → Halts B text left
-Halts-same A B text left to from h = record {
-  front = h.front;
-  rest = h.rest;
-  parts = h.parts;
-  count = h.count;
-  begins = (h.begins.0, to _ h.begins.1);
-  stops = λ byte after e b. h.stops byte after e (b.0, from _ b.1);
-  refused = λ b. h.refused (from _ b);
-}
 
 -- some text of a grammar
 abbrev pub Some1 : (List ℕ → Type 0) → Type 0

@@ -9,3 +9,5 @@ pub mod Sums
 pub mod Printing
 pub mod Texts
 pub mod Fronts
+pub mod Ip6Texts
+pub mod Ip6Fronts

@@ -5,11 +5,11 @@ use Rattle.td_base.specs.declared.endpoint.Ep.{Ep}
 use Rattle.td_base.specs.Ip4.{IsIp4}
 use Rattle.td_base.specs.Ep.{IsEp}
 
--- four decimal numbers, joined by dots
+-- four decimal numbers, joined by dots (46)
 abbrev pub ip4_text : Ip4 → List ℕ
 ip4_text ip = decimal (slice_index ip.0 0) ++ 46 ∷ decimal (slice_index ip.0 1) ++ 46 ∷ decimal (slice_index ip.0 2) ++ 46 ∷ decimal (slice_index ip.0 3)
 
--- an address, a colon, and the port
+-- an address, a colon (58), and the port
 abbrev pub ep_text : Ep → List ℕ
 ep_text ep = ip4_text ep.ip ++ 58 ∷ decimal ep.port
 

@@ -1,3 +1,4 @@
+//! An endpoint.
 use crate::ipv4::Ip4;
 use std::cmp::Ordering;
 

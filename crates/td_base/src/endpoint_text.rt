@@ -1,5 +1,5 @@
 //! The text of an endpoint: its address, a colon, and its port.
-ghost use Rattle.std.specs.Prelude.{◌≡◌, IfOk, IfErr};
+ghost use Rattle.std.specs.Prelude.{◌≡◌, ◌≤◌, length, IfOk, IfErr};
 ghost use Rattle.td_base.specs.Printing.{Prints};
 ghost use Rattle.td_base.specs.Ep.{IsEp};
 ghost use Rattle.td_base.specs.Texts.{ep_text, IsEpText, IsLongestBegin};
@@ -11,6 +11,7 @@ use crate::ipv4::Ip4;
 use crate::ipv4_text::{PART_MOST, short_ip4};
 use crate::line::{LineBuf, print_text};
 use crate::numeral::{number_last, number_then};
+use crate::short_text::SHORT_LEN;
 use crate::small::{BadText, Room};
 
 /// The largest port.
@@ -18,7 +19,8 @@ const PORT_MOST: u64 = u16::MAX as u64;
 
 /// Appends an endpoint.
 pub fn print_ep(ep: Ep, out: &mut LineBuf) -> Result<(), Room>
-    ensures { Prints result out.old out.new (ep_text ep) }
+    ensures text { Prints result out.old out.new (ep_text ep) }
+    ensures short { length (ep_text ep) ≤ SHORT_LEN }
 {
     let mut text = short_ip4(ep.ip);
     text.push(b':');

@@ -1,3 +1,4 @@
+//! Numbers and bytes at a place of some bytes.
 ghost use Rattle.std.specs.Prelude.{◌≡◌, ◌+◌, ◌≤◌, ◌∷◌, [], length};
 ghost use Rattle.td_base.specs.Bytes.{number_at, IsPut};
 ghost use Rattle.byteorder.specs.Endian.{big_bytes};
@@ -20,6 +21,15 @@ pub fn field32(bytes: &[u8], at: usize) -> u32
     ensures { result ≡ number_at at 4 bytes.now }
 {
     BigEndian::read_u32(&bytes[at..])
+}
+
+/// The 64-bit number at a place.
+#[inline(always)]
+pub fn field64(bytes: &[u8], at: usize) -> u64
+    requires { at + 8 ≤ length bytes.now }
+    ensures { result ≡ number_at at 8 bytes.now }
+{
+    BigEndian::read_u64(&bytes[at..])
 }
 
 /// Puts bytes at a place, and answers the place after them.
@@ -65,15 +75,6 @@ pub fn put32(out: &mut [u8], at: usize, n: u32) -> usize
     let mut bytes = [0; 4];
     BigEndian::write_u32(&mut bytes, n);
     put(out, at, &bytes)
-}
-
-/// The 64-bit number at a place.
-#[inline(always)]
-pub fn field64(bytes: &[u8], at: usize) -> u64
-    requires { at + 8 ≤ length bytes.now }
-    ensures { result ≡ number_at at 8 bytes.now }
-{
-    BigEndian::read_u64(&bytes[at..])
 }
 
 /// Puts a 64-bit number, likewise.

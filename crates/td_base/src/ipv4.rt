@@ -1,3 +1,4 @@
+//! An IPv4 address.
 use std::cmp::Ordering;
 
 /// An IPv4 address, its four bytes in network order.

@@ -35,7 +35,8 @@ pub(crate) fn short_ip4(ip: Ip4) -> ShortText
 
 /// Appends an IPv4 address.
 pub fn print_ip4(ip: Ip4, out: &mut LineBuf) -> Result<(), Room>
-    ensures { Prints result out.old out.new (ip4_text ip) }
+    ensures text { Prints result out.old out.new (ip4_text ip) }
+    ensures short { length (ip4_text ip) ≤ SHORT_LEN }
 {
     print_text(short_ip4(ip).as_slice(), out)
 }

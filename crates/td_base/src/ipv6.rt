@@ -1,3 +1,4 @@
+//! An IPv6 address.
 use std::cmp::Ordering;
 
 /// An IPv6 address, its sixteen bytes in network order.

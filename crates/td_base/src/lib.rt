@@ -5,9 +5,9 @@
 //!
 //! # What the layer above may rely on
 //!
-//! - Each text is one value, and a value prints as one text, which reads back as the value.
+//! - A value prints as one text, which reads back as the value. Of an IPv6 address each other spelling is read as it, too.
 //! - A text that is refused is refused at its place: the length of the longest front that begins an accepted text.
-//! - `==` on addresses and endpoints is an opaque test with laws (`specs/Ip4.antt`, `Ip6.antt`, `Ep.antt`).
+//! - `==` on addresses, endpoints and names is an opaque test with laws (`specs/Ip4.antt`, `Ip6.antt`, `Ep.antt`, `proofs/NameLemmas.antt`).
 //! - No call takes memory.
 //!
 //! # What it does not know
@@ -20,11 +20,16 @@
 //! |---|---|---|
 //! | `ipv4`, `ipv6`, `endpoint` | `Ip4`, `Ip6`, `Ep`: equality and order | `specs/Ip4.antt`, `Ip6.antt`, `Ep.antt` |
 //! | `reach` | `Policy`, and which addresses are global, usable, link-local | `specs/Reach.antt` |
-//! | `small` | `Millis`, `Side`, `Span`, `NoMemory` | |
+//! | `small` | `Millis`, `Side`, `Span`, and the refusals `BadText`, `Room`, `NoMemory` | |
 //! | `node_name` | `Name` | `specs/Names.antt` |
 //! | `fields` | numbers in network order at a place | `specs/Bytes.antt` |
 //! | `sum` | the one's complement sum | `specs/Sums.antt` |
 //! | `line` | `LineBuf`, a line that is being made | `specs/Printing.antt` |
+//! | `numeral`, `ipv4_text`, `endpoint_text` | the texts of numbers, IPv4 addresses and endpoints | `specs/Texts.antt` |
+//! | `ipv6_text`, `ipv6_reading` | the texts of IPv6 addresses, printed and read | `specs/Ip6Texts.antt` |
+//! | `short_text`, `ipv6_groups` | the private buffers of the two | |
+//!
+//! `specs/Fronts.antt` and `Ip6Fronts.antt` say how a text is read from its front, for the contracts of private functions.
 #![tactic(auto)]
 
 mod endpoint;
@@ -33,6 +38,9 @@ mod fields;
 mod ipv4;
 mod ipv4_text;
 mod ipv6;
+mod ipv6_groups;
+mod ipv6_reading;
+mod ipv6_text;
 mod line;
 mod node_name;
 mod numeral;
@@ -47,9 +55,15 @@ pub use fields::{field16, field32, field64, put, put8, put16, put32, put64};
 pub use ipv4::Ip4;
 pub use ipv4_text::{print_ip4, read_ip4};
 pub use ipv6::Ip6;
+pub use ipv6_reading::read_ip6;
+pub use ipv6_text::print_ip6;
 pub use line::{LINE_LEN, LineBuf, print_text};
 pub use node_name::{NAME_LEN, Name};
-pub use numeral::{print_number, read_number};
+pub use numeral::{NUMBER_LEN, print_number, read_number};
 pub use reach::{Policy, is_global, is_global6, is_link_local, usable};
+pub use short_text::SHORT_LEN;
 pub use small::{BadText, Millis, NoMemory, Room, Side, Span};
 pub use sum::ones_sum;
+
+#[cfg(test)]
+mod tests;

@@ -17,11 +17,11 @@ pub struct Name {
 
 impl Name {
     ghost use Rattle.td_base.specs.Names.{name_text};
-    ghost use Rattle.std.specs.Prelude.{◌<◌, ◌⊎◌, [], IfSome, IfNone};
+    ghost use Rattle.std.specs.Prelude.{◌≢◌, ◌<◌, ◌⊎◌, [], IfSome, IfNone};
 
     /// The name of a text.
     pub fn new(text: &[u8]) -> Option<Name>
-        ensures text { IfSome result (λ name. name_text name ≡ text.now) }
+        ensures text { IfSome result (λ name. (name_text name ≡ text.now) × (text.now ≢ [])) }
         ensures none { IfNone result ((text.now ≡ []) ⊎ (NAME_LEN < length text.now)) }
     {
         if text.is_empty() {
@@ -44,4 +44,24 @@ impl Name {
     {
         &self.bytes[..usize::from(self.len)]
     }
+}
+
+impl PartialEq for Name {
+    ghost use Rattle.std.specs.Cmp.{partial_equiv_from_equiv};
+    ghost use Rattle.td_base.specs.Names.{same_name, same_name_equiv};
+
+    ghost eq = { same_name };
+
+    ghost laws = { partial_equiv_from_equiv same_name_equiv };
+
+    #[tactic(auto, unfolding(crate::specs::Names::same_name))]
+    fn eq(&self, other: &Name) -> bool {
+        self.as_slice() == other.as_slice()
+    }
+}
+
+impl Eq for Name {
+    ghost use Rattle.td_base.specs.Names.{same_name_equiv};
+
+    ghost laws = { same_name_equiv };
 }

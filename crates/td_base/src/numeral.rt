@@ -8,9 +8,13 @@ use crate::line::{LineBuf, print_text};
 use crate::small::{BadText, Room};
 use itoa::Buffer;
 
+/// How many digits a number of 64 bits has at most.
+pub const NUMBER_LEN: usize = 20;
+
 /// Appends a number's decimal digits.
 pub fn print_number(number: u64, out: &mut LineBuf) -> Result<(), Room>
-    ensures { Prints result out.old out.new (decimal number) }
+    ensures text { Prints result out.old out.new (decimal number) }
+    ensures short { length (decimal number) ≤ NUMBER_LEN }
 {
     let mut digits = Buffer::new();
     print_text(digits.format(number).as_bytes(), out)

@@ -1,3 +1,4 @@
+//! Which addresses are global, usable or link-local.
 ghost use Rattle.std.specs.Prelude.{◌≡◌};
 ghost use Rattle.td_base.specs.Reach.{is_global, is_usable, is_global6, is_link_local};
 

@@ -4,8 +4,8 @@ ghost use Rattle.std.specs.Prelude.{◌≡◌, ◌+◌, ◌<◌, ◌≤◌, ◌+
 use itoa::Buffer;
 use std::marker::Model;
 
-/// How many bytes a short text holds at most: an IPv6 address has 39, an endpoint 21.
-pub(crate) const SHORT_LEN: usize = 40;
+/// How many bytes the text of an address or an endpoint has at most. An IPv6 address has 39, an endpoint 21.
+pub const SHORT_LEN: usize = 40;
 
 /// How many digits a number of 16 bits has at most.
 pub(crate) const DIGITS: usize = 5;
@@ -39,7 +39,8 @@ impl ShortText {
     }
 
     pub(crate) fn as_slice(&self) -> &[u8]
-        ensures { result.now ≡ self.now }
+        ensures value { result.now ≡ self.now }
+        ensures short { length result.now ≤ SHORT_LEN }
     {
         &self.bytes[..self.len]
     }

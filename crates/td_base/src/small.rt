@@ -1,3 +1,4 @@
+//! Small types, and the refusals of this crate.
 ghost use Rattle.std.specs.Prelude.{◌≡◌, ◌+◌, ◌≤◌, length};
 
 use std::alloc::{AllocError, AllocFailed};

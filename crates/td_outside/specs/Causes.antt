@@ -1,11 +1,15 @@
 -- When a call outside may answer that it failed.
 use Rattle.std.specs.Prelude.{ℕ, ◌+◌, ◌-◌, ◌^◌, ◌≤◌, ◌≡◌, min, Result, OnErr, OnOk}
 
--- one more, up to the end of the count's type
-abbrev pub counted : ℕ → ℕ
-counted n = min (n + 1) (2 ^ 64 - 1)
+-- where each count stops
+abbrev pub count_end : ℕ
+count_end = 2 ^ 64 - 1
 
--- the count is greater than before, or stands at its type's end
+-- one more, up to where it stops
+abbrev pub counted : ℕ → ℕ
+counted n = min (n + 1) count_end
+
+-- the count is greater than before, or stands where it stops
 abbrev pub Rose : ℕ → ℕ → Type 0
 Rose before now = counted before ≤ now
 

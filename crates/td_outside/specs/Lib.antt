@@ -1,3 +1,6 @@
 pub mod Causes
 pub mod Calls
+pub mod Clocks
+pub mod Links
+pub mod MemLink
 pub mod Streams

@@ -1,13 +1,14 @@
 //! The source over files.
-ghost use Rattle.std.specs.Prelude.{None};
+ghost use Rattle.std.specs.Prelude.{◌≡◌, ℕ, None};
 
 use crate::{Failed, Source};
 use std::fs;
 use std::io::Read;
+use std::marker::Model;
 use std::rt::Files;
 
 /// A source over the files that a runtime reaches. Each error of the system is `Failed`, with the count raised:
-/// no such file at `open`, a directory at the first `read`.
+/// no such file at `open`, a directory at the first `read`. Contracts see the count.
 #[derive(Drop)]
 pub struct FileSource<'a, R: Files> {
     rt: &'a R,
@@ -15,9 +16,17 @@ pub struct FileSource<'a, R: Files> {
     faults: u64,
 }
 
+impl<'a, R: Files> Model for FileSource<'a, R> {
+    ghost Value = { ℕ };
+
+    ghost view = { λ s. s.faults };
+}
+
 impl<'a, R: Files> FileSource<'a, R> {
     /// A source with nothing open.
-    pub fn new(rt: &'a R) -> Self {
+    pub fn new(rt: &'a R) -> Self
+        ensures { result ≡ 0 }
+    {
         FileSource {
             rt,
             file: None,
@@ -31,7 +40,7 @@ impl<R: Files> Source for FileSource<'_, R> {
 
     ghost left = { λ s. None };
 
-    ghost faults = { λ s. s.faults };
+    ghost faults = { λ s. s };
 
     fn open(&mut self, name: &str) -> Result<(), Failed> {
         self.file = None;

@@ -7,7 +7,7 @@
 //!
 //! - Each trait counts its faults. A call answers `Failed` only where its count rose in that call, and a call that
 //!   answers Ok leaves the count as it was.
-//! - Where a source or a sink tells its bytes, each call says what became of them.
+//! - Where a source, a sink or a link tells its content, each call says what became of it.
 //! - The forms in memory tell everything, fail at exactly the calls that their lists name, and take memory in `new`
 //!   alone.
 //!
@@ -19,29 +19,51 @@
 //!
 //! | module | holds | stated in |
 //! |---|---|---|
-//! | `failing` | `Failed`, and the calls of a form in memory that fail | `specs/Causes.antt`, `specs/Calls.antt` |
+//! | `failing` | `Failed`, and which calls of a form in memory fail | `specs/Causes.antt`, `specs/Calls.antt` |
 //! | `reading`, `writing` | `Source`, `Sink` | |
-//! | `mem_source`, `mem_sink` | their forms in memory | `specs/Streams.antt` |
-//! | `file_source`, `std_sink` | their adapters | |
+//! | `linking` | `Link`, its `Addresses` and its `Arrival` | `specs/Links.antt` |
+//! | `timing` | `Clock` | |
+//! | `mem_source`, `mem_sink` | `MemSource`, `MemSink` | `specs/Streams.antt` |
+//! | `mem_link`, `mem_arrival`, `mem_attempt` | `MemLink`, what it receives and what it keeps | `specs/MemLink.antt` |
+//! | `test_clock` | `TestClock` | `specs/Clocks.antt` |
 //! | `byte_list` | `Octets` | |
+//! | `file_source`, `std_sink`, `udp_pair`, `system_clock` | the adapters of the real thing | |
+//! | `sides` | the two sockets of an open `UdpPair` | |
 #![tactic(auto)]
 
 mod byte_list;
 mod failing;
 mod file_source;
+mod linking;
+mod mem_arrival;
+mod mem_attempt;
+mod mem_link;
 mod mem_sink;
 mod mem_source;
 mod reading;
+mod sides;
 mod std_sink;
+mod system_clock;
+mod test_clock;
 #[cfg(test)]
 mod tests;
+mod timing;
+mod udp_pair;
 mod writing;
 
 pub use byte_list::Octets;
 pub use failing::Failed;
 pub use file_source::FileSource;
+pub use linking::{Addresses, Arrival, DATAGRAM_MAX, Link, TEREDO_PORT};
+pub use mem_arrival::MemArrival;
+pub use mem_attempt::MemAttempt;
+pub use mem_link::MemLink;
 pub use mem_sink::MemSink;
 pub use mem_source::MemSource;
 pub use reading::Source;
 pub use std_sink::StdSink;
+pub use system_clock::SystemClock;
+pub use test_clock::TestClock;
+pub use timing::{CLOCK_END_MS, Clock};
+pub use udp_pair::UdpPair;
 pub use writing::Sink;

@@ -23,4 +23,4 @@
 
 mod fates;
 
-pub use fates::Fate;
+pub use fates::{FATE_LEN, Fate};

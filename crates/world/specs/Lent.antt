@@ -1,8 +1,7 @@
 -- What a world lends of the wire.
 use Rattle.history.specs.Full.{Item, udp}
-use Rattle.world.specs.declared.wire_entries.WireEntry.{WireEntry}
-use Rattle.world.specs.declared.wire_entries.WireEntry.TheVariants.{Udp}
+use Rattle.world.specs.declared.wire_entries.Lent.{Lent}
 
 -- the entry that is lent
-abbrev pub item_lent : WireEntry → Item
-item_lent (Udp src dst bytes) = udp src dst bytes.now
+abbrev pub item_lent : Lent → Item
+item_lent d = udp d.src d.dst d.bytes.now

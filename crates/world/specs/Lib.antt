@@ -5,4 +5,5 @@ pub mod Legal
 pub mod Held
 pub mod Lent
 pub mod Seen
+pub mod Steps
 pub mod World

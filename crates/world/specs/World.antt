@@ -1,11 +1,12 @@
 -- What contracts see of a world, and how `step` follows the history.
-use Rattle.std.specs.Prelude.{◌≡◌, ◌≢◌, ℕ, List, [], ◌∷◌}
+use Rattle.std.specs.Prelude.{◌≡◌, ◌≢◌, ℕ, ◌+◌, List, [], ◌∷◌}
 use Rattle.history.specs.declared.event_list.Event.{Event}
 use Rattle.history.specs.declared.records.Record.{Record}
 use Rattle.history.specs.Rows.{TopologyState}
 use Rattle.history.specs.Full.{Item, Full, wire}
 use Rattle.history.specs.Records.{record_of}
-use Rattle.world.specs.Past.{now, Draws}
+use Rattle.history.specs.Telling.{IsTold}
+use Rattle.world.specs.Past.{now, place, Draws}
 use Rattle.world.specs.Next.{next_of}
 use Rattle.world.specs.Legal.{Grown}
 
@@ -29,6 +30,9 @@ pub record Steps (old new : WorldState) (index : ℕ) (event : Event) (r : Recor
   pub topology : new.topology ≡ old.topology
   pub record_is : (d : Draws) (H : List Full) → StandsFor d old H → r ≡ record_of (next_of d old.topology H index event)
   pub stands : (d : Draws) (H : List Full) → StandsFor d old H → StandsFor d new (next_of d old.topology H index event ∷ H)
+  -- the record is of its event, which has no further one
+  pub counted : (d : Draws) (H : List Full) → StandsFor d old H → place (next_of d old.topology H index event ∷ H) ≡ index + 1
+  pub tells : (d : Draws) (H : List Full) → StandsFor d old H → IsTold (next_of d old.topology H index event)
 
 -- The record that follows makes an entry: only there memory is needed.
 abbrev pub NeedsMemory : WorldState → ℕ → Event → Type 0

@@ -29,4 +29,3 @@ mod wire_entries;
 
 pub use laboratory::World;
 pub use laws::one_history;
-pub use wire_entries::WireEntry;

@@ -16,10 +16,12 @@ pub struct Datagram {
     bytes: Octets,
 }
 
-/// An entry of the wire.
+/// A datagram on the wire, lent.
 #[derive(Clone, Copy, Debug)]
-pub enum WireEntry<'a> {
-    Udp { src: Ep, dst: Ep, bytes: &'a [u8] },
+pub struct Lent<'a> {
+    pub src: Ep,
+    pub dst: Ep,
+    pub bytes: &'a [u8],
 }
 
 /// Everything that was sent, in order, numbered from 0. Entries never go away.
@@ -56,7 +58,7 @@ impl Wire {
     }
 
     /// The entry of a number, if there is one.
-    pub fn get(&self, number: usize) -> Option<WireEntry<'_>>
+    pub fn get(&self, number: usize) -> Option<Lent<'_>>
         ensures { option_map item_lent result ≡ slice_get self.now number }
     {
         lend(self.entries.as_slice(), number)
@@ -74,11 +76,11 @@ impl Wire {
 }
 
 /// Lends the datagram at a place.
-fn lend(entries: &[Datagram], number: usize) -> Option<WireEntry<'_>>
+fn lend(entries: &[Datagram], number: usize) -> Option<Lent<'_>>
     ensures { option_map item_lent result ≡ slice_get (map item_of entries.now) number }
 {
     let entry = entries.get(number)?;
-    Some(WireEntry::Udp {
+    Some(Lent {
         src: entry.src,
         dst: entry.dst,
         bytes: entry.bytes.as_slice(),

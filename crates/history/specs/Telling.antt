@@ -1,0 +1,24 @@
+-- What a record tells the totals.
+use Rattle.std.specs.Prelude.{◌≡◌, Bool, true, false, not, is_some}
+use Rattle.teredo_node.specs.declared.fates.Fate.{Fate}
+use Rattle.teredo_node.specs.declared.fates.Fate.TheVariants as fate
+use Rattle.history.specs.declared.acts.Act.{Act}
+use Rattle.history.specs.declared.acts.Act.TheVariants as act
+use Rattle.history.specs.Full.{Full}
+
+abbrev pub is_no_entry : Fate → Bool
+is_no_entry fate.NoEntry = true
+is_no_entry _ = false
+
+abbrev pub is_kept : Fate → Bool
+is_kept fate.Kept = true
+is_kept _ = false
+
+-- an entry was delivered: the act says so, and the entry was there
+abbrev pub is_delivery : Act → Fate → Bool
+is_delivery (act.Deliver number) f = not (is_no_entry f)
+is_delivery (act.Plain verb) f = false
+
+-- a full record says that an entry was delivered exactly where its record tells so
+pub record IsTold (r : Full) : Type 0 where
+  pub delivered : is_some r.delivered ≡ is_delivery r.act r.fate

@@ -1,0 +1,7 @@
+pub mod Checksum
+pub mod Options
+pub mod Message
+pub mod Blocks
+pub mod Writing
+pub mod Grammar
+pub mod Faults

@@ -1,0 +1,4 @@
+pub mod HeadLaws
+pub mod LeadLaws
+pub mod FaultLaws
+pub mod Worked

@@ -1,0 +1,3 @@
+pub mod Indications
+pub mod Blocks
+pub mod Faults

@@ -1,0 +1,14 @@
+use Rattle.std.proofs.Common.{◌∙◌, ap, subst, arith}
+use Rattle.ipv6_packet.specs.Packets.{view, packet_at}
+use Rattle.td_base.specs.Reading.{Gives}
+use Rattle.ipv6_packet.proofs.PacketLaws.{is_found, is_fault, packet_again}
+use Rattle.ipv6_packet.proofs.reading.read.Goals as goal
+
+pub returns-clause-found : goal.returns-clause-found
+returns-clause-found c = is_found view c.args.bytes.now c.packet_of.result (λ i. omega (arith, c.type_inv.bytes i)) c.packet_of.ensures.exact
+
+pub returns-clause-only : goal.returns-clause-only
+returns-clause-only c = λ v bytes. subst (λ r. Gives view c.packet_of.result r) (ap packet_at bytes.1 ∙ packet_again v bytes.0) c.packet_of.ensures.exact
+
+pub returns-clause-fault : goal.returns-clause-fault
+returns-clause-fault c = is_fault view c.args.bytes.now c.packet_of.result (λ i. omega (arith, c.type_inv.bytes i)) c.packet_of.ensures.exact

@@ -1,0 +1,28 @@
+use td_base::Ip6;
+
+/// The header's length, in bytes.
+pub const HEADER: usize = 40;
+
+/// The version that stands in the first four bits.
+pub const VERSION: u8 = 6;
+
+/// The next header of an ICMPv6 message: RFC 4443, section 1.
+pub const NEXT_ICMP: u8 = 58;
+
+/// The next header that says that nothing follows: RFC 8200, section 4.7.
+pub const NEXT_NONE: u8 = 59;
+
+/// The most bytes of a packet that every link carries whole, which is the MTU of RFC 4380, section 5.1.2.
+pub const MAX_PACKET: usize = 1280;
+
+/// A packet, whose body is lent. The flow label has 20 bits.
+#[derive(Clone, Copy, Debug)]
+pub struct Packet<'a> {
+    pub class: u8,
+    pub flow: u32,
+    pub next: u8,
+    pub hop: u8,
+    pub src: Ip6,
+    pub dst: Ip6,
+    pub body: &'a [u8],
+}

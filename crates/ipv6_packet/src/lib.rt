@@ -1,0 +1,37 @@
+//! The IPv6 packet: its header of 40 bytes, and its body.
+//!
+//! Standard: RFC 8200, section 3 (the header), section 4.7 (no next header) and section 5 (the least MTU).
+//!
+//! # What the layer above may rely on
+//!
+//! - `read` accepts exactly the lists of bytes that spell a packet, and a packet has one spelling.
+//! - A list that spells none is refused by the first fault of `Short`, `Version`, `Length`, with the values found.
+//! - `write` writes that spelling, or changes nothing where the buffer is too short. What it wrote reads back.
+//! - No call takes memory: what is read lends the body.
+//!
+//! # What it does not know
+//!
+//! Extension headers, and what a body means: it is bytes. Nothing here asks whether an address is sensible.
+//!
+//! # Parts
+//!
+//! | module | holds | stated in |
+//! |---|---|---|
+//! | `header` | `Packet`, and the numbers of the header | `specs/Packets.antt` |
+//! | `fault` | `PacketFault` | `specs/Packets.antt` |
+//! | `reading` | `read` | `specs/Packets.antt` |
+//! | `writing` | `write`, `len` | `specs/Packets.antt` |
+#![tactic(auto)]
+
+mod fault;
+mod header;
+mod reading;
+mod writing;
+
+pub use fault::PacketFault;
+pub use header::{HEADER, MAX_PACKET, NEXT_ICMP, NEXT_NONE, Packet, VERSION};
+pub use reading::read;
+pub use writing::{len, write};
+
+#[cfg(test)]
+mod tests;

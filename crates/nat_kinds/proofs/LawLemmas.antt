@@ -1,0 +1,169 @@
+-- What holds of every history of a NAT.
+use Rattle.std.proofs.Common.{◌≡◌, ℕ, ◌+◌, ◌<◌, ◌≤◌, Bool, true, false, cond, ◌==◌, List, [], ◌∷◌, find, Option, Some, None, Ok, refl, sym, ap, ◌∙◌, subst}
+use Rattle.std.specs.Prelude.{Contains}
+use Rattle.std.proofs.lemmas.Bool.{and_parts, and_from, eqb-true, eq-eqb, false≢true}
+use Rattle.std.proofs.lemmas.List.Elements.{All-contains, All-from_recursion, recursion_from_All, All-contains_itself}
+use Rattle.td_base.specs.Ip4.{same_ip, same_ip-true, same_ip-self}
+use Rattle.td_base.specs.Ep.{same_ep, same_ep-true, same_ep-self}
+use Rattle.td_base.specs.declared.endpoint.Ep.{Ep}
+use Rattle.nat_kinds.specs.declared.limits.TheConstants.{FIRST_PORT, MOST_LIVE}
+use Rattle.nat_kinds.specs.declared.kind.NatKind.{NatKind}
+use Rattle.nat_kinds.specs.declared.kind.NatKind.TheVariants.{Cone, Restricted, Port, Symmetric}
+use Rattle.nat_kinds.specs.declared.outgoing.Outward.{Outward}
+use Rattle.nat_kinds.specs.declared.settings.NatSettings.{NatSettings}
+use Rattle.nat_kinds.specs.History.{Entry, Out, Forget, Restart, kept, young, is_young, counting}
+use Rattle.nat_kinds.specs.Mappings.{has_key, latest, port_in, live_port}
+use Rattle.nat_kinds.specs.Answer.{IsAnswer, live_after}
+use Rattle.nat_kinds.specs.Entering.{reaches, is_way_in, inside_in, lets_in}
+use Rattle.nat_kinds.specs.Sound.{Sound}
+use Rattle.nat_kinds.specs.Laws.{latest_moment, IsHistory, IsPast, SameKey, Asked, WasAsked}
+use Rattle.nat_kinds.proofs.ListLemmas.{filter_swap, all_found, found_passes, none_found}
+use Rattle.nat_kinds.proofs.PortLemmas.{has_itself, Sound-filter, AgreesWith-found, key_symm}
+use Rattle.nat_kinds.proofs.ChoiceLemmas.{live_is, joins_given}
+use Rattle.nat_kinds.proofs.AnswerLemmas.{answer-is}
+use Rattle.nat_kinds.proofs.EnteringLemmas.{inside_of-is}
+use Rattle.nat_kinds.proofs.StandsLemmas.{young-again}
+
+-- WHAT COUNTS IS SOUND
+
+pub sound_counting : (s : NatSettings) (h : List Entry) (n : ℕ) → IsHistory s h → latest_moment h ≤ n → Sound s.kind (counting s.idle n h)
+sound_counting s [] n i l = record { agree = tt; in_range = tt }
+sound_counting s (Out e ∷ h) n i l =
+    let before : Sound s.kind (counting s.idle e.moment.0 h) = sound_counting s h e.moment.0 i.2 i.0 in
+    let answer : IsAnswer s (live_after s h e.moment.0) e.inside e.dst (Ok e.port) = subst (IsAnswer s (live_after s h e.moment.0) e.inside e.dst) i.1 (answer-is s (live_after s h e.moment.0) e.inside e.dst) in
+    let joined : Sound s.kind (e ∷ counting s.idle e.moment.0 h) = joins_given s.kind e.inside e.dst (counting s.idle e.moment.0 h) e.port before answer.1 e refl refl refl in
+    let again : young s.idle n (e ∷ counting s.idle e.moment.0 h) ≡ counting s.idle n (Out e ∷ h) = ap (λ xs. cond (is_young s.idle n e) (e ∷ xs) xs) (young-again s.idle e.moment.0 n (kept h) l) in
+    subst (Sound s.kind) again (Sound-filter s.kind (is_young s.idle n) _ joined)
+sound_counting s (Forget who ∷ h) n i l = rw (filter_swap (is_young s.idle n) _ (kept h)) (Sound-filter s.kind _ _ (sound_counting s h n i l))
+sound_counting s (Restart ∷ h) n i l = record { agree = tt; in_range = tt }
+
+pub sound_past : (s : NatSettings) (h : List Entry) (n : ℕ) → IsPast s h n → Sound s.kind (counting s.idle n h)
+sound_past s h n p = sound_counting s h n p.history p.moments
+
+-- WHAT A SEARCH FINDS
+
+found_is_in : (q : Outward → Bool) (outs : List Outward) (f : Outward) → find q outs ≡ Some f → Contains outs f
+found_is_in q outs f h = all_found (Contains outs) q outs f (recursion_from_All _ outs (All-contains_itself outs)) h
+
+-- what is there and passes is found, or another that passes
+found_at : (q : Outward → Bool) (outs : List Outward) (e : Outward) → Contains outs e → q e ≡ true → (f : Outward) × (find q outs ≡ Some f)
+found_at q outs e m t = by_found (find q outs) refl
+  where
+    by_found : (r : Option Outward) → find q outs ≡ r → (f : Outward) × (find q outs ≡ Some f)
+    by_found (Some f) h = (f, h)
+    by_found None h = absurd (false≢true (sym (All-contains (λ x. q x ≡ false) outs e (All-from_recursion (λ x. q x ≡ false) outs (none_found q outs h)) m) ∙ t))
+
+holds_found : (o : Option Outward) (port : ℕ) → port_in o ≡ Some port → (f : Outward) × (o ≡ Some f) × (f.port ≡ port)
+holds_found None port h = absurd (let g : Some port ≡ None = sym h in cc)
+holds_found (Some f) port h = let g : f.port ≡ port = cc in (f, refl, g)
+
+leads_found : (o : Option Outward) (inside : Ep) → inside_in o ≡ Some inside → (f : Outward) × (o ≡ Some f) × (f.inside ≡ inside)
+leads_found None inside h = absurd (let g : Some inside ≡ None = sym h in cc)
+leads_found (Some f) inside h = let g : f.inside ≡ inside = cc in (f, refl, g)
+
+-- the datagram behind a live port
+pub held_by : (s : NatSettings) (outs : List Outward) (inside dst : Ep) (port : ℕ) → live_port s.kind inside dst (latest s.kind outs) ≡ Some port → (f : Outward) × (find (has_key s.kind inside dst) outs ≡ Some f) × (f.port ≡ port)
+held_by s outs inside dst port h = holds_found (find (has_key s.kind inside dst) outs) port (sym (live_is s.kind inside dst outs) ∙ h)
+
+-- KEYS
+
+key_inside : (kind : NatKind) (inside dst : Ep) (e : Outward) → has_key kind inside dst e ≡ true → e.inside ≡ inside
+key_inside Cone inside dst e h = same_ep-true e.inside inside h
+key_inside Restricted inside dst e h = same_ep-true e.inside inside h
+key_inside Port inside dst e h = same_ep-true e.inside inside h
+key_inside Symmetric inside dst e h = same_ep-true e.inside inside (and_parts _ _ h).0
+
+-- f has the one key, g the other, and g has f's
+same_from : (kind : NatKind) (a b c d : Ep) (f g : Outward) → has_key kind a b f ≡ true → has_key kind c d g ≡ true → has_key kind f.inside f.dst g ≡ true → SameKey kind a b c d
+same_from Cone a b c d f g x y z = let p : f.inside ≡ a = same_ep-true _ _ x in let q : g.inside ≡ c = same_ep-true _ _ y in let r : g.inside ≡ f.inside = same_ep-true _ _ z in cc
+same_from Restricted a b c d f g x y z = let p : f.inside ≡ a = same_ep-true _ _ x in let q : g.inside ≡ c = same_ep-true _ _ y in let r : g.inside ≡ f.inside = same_ep-true _ _ z in cc
+same_from Port a b c d f g x y z = let p : f.inside ≡ a = same_ep-true _ _ x in let q : g.inside ≡ c = same_ep-true _ _ y in let r : g.inside ≡ f.inside = same_ep-true _ _ z in cc
+same_from Symmetric a b c d f g x y z =
+    let p = and_parts (same_ep f.inside a) (same_ep f.dst b) x in
+    let q = and_parts (same_ep g.inside c) (same_ep g.dst d) y in
+    let r = and_parts (same_ep g.inside f.inside) (same_ep g.dst f.dst) z in
+    (sym (same_ep-true _ _ p.0) ∙ sym (same_ep-true _ _ r.0) ∙ same_ep-true _ _ q.0, sym (same_ep-true _ _ p.1) ∙ sym (same_ep-true _ _ r.1) ∙ same_ep-true _ _ q.1)
+
+-- what a search found agrees with each
+agrees_at : (s : NatSettings) (outs : List Outward) (q : Outward → Bool) (f e : Outward) → Sound s.kind outs → find q outs ≡ Some f → Contains outs e → has_key s.kind f.inside f.dst e ≡ (f.port == e.port)
+agrees_at s outs q f e sound h m =
+    let agrees : Outward → Type 0 = λ o. has_key s.kind f.inside f.dst o ≡ (f.port == o.port) in
+    All-contains agrees outs e (All-from_recursion agrees outs (AgreesWith-found s.kind q outs f sound.agree h)) m
+
+-- PORTS
+
+pub one_key : (s : NatSettings) (h : List Entry) (n : ℕ) → IsPast s h n → (inside dst inside' dst' : Ep) (port : ℕ) → live_port s.kind inside dst (live_after s h n) ≡ Some port → live_port s.kind inside' dst' (live_after s h n) ≡ Some port → SameKey s.kind inside dst inside' dst'
+one_key s h n past inside dst inside' dst' port a b =
+    let outs : List Outward = counting s.idle n h in
+    let sound : Sound s.kind outs = sound_past s h n past in
+    let f = held_by s outs inside dst port a in
+    let g = held_by s outs inside' dst' port b in
+    same_from s.kind inside dst inside' dst' f.0 g.0 (found_passes _ outs f.0 f.1) (found_passes _ outs g.0 g.1) (agrees_at s outs _ f.0 g.0 sound f.1 (found_is_in _ outs g.0 g.1) ∙ eq-eqb f.0.port g.0.port (f.2 ∙ sym g.2))
+
+pub ports_in_range : (s : NatSettings) (h : List Entry) (n : ℕ) → IsPast s h n → (inside dst : Ep) (port : ℕ) → live_port s.kind inside dst (live_after s h n) ≡ Some port → (FIRST_PORT ≤ port) × (port < FIRST_PORT + MOST_LIVE)
+ports_in_range s h n past inside dst port a =
+    let outs : List Outward = counting s.idle n h in
+    let f = held_by s outs inside dst port a in
+    subst (λ (p : ℕ). (FIRST_PORT ≤ p) × (p < FIRST_PORT + MOST_LIVE)) f.2 (all_found _ _ outs f.0 (sound_past s h n past).in_range f.1)
+
+-- LETTING IN
+
+reaches-asked : (kind : NatKind) (src : Ep) (e : Outward) → reaches kind src e ≡ true → Asked kind src e
+reaches-asked Cone src e h = tt
+reaches-asked Restricted src e h = same_ip-true _ _ h
+reaches-asked Port src e h = same_ep-true _ _ h
+reaches-asked Symmetric src e h = same_ep-true _ _ h
+
+asked-reaches : (kind : NatKind) (src : Ep) (e : Outward) → Asked kind src e → reaches kind src e ≡ true
+asked-reaches Cone src e a = refl
+asked-reaches Restricted src e a = ap (λ i. same_ip i src.ip) a ∙ same_ip-self src.ip
+asked-reaches Port src e a = ap (λ i. same_ep i src) a ∙ same_ep-self src
+asked-reaches Symmetric src e a = ap (λ i. same_ep i src) a ∙ same_ep-self src
+
+let_in_is : (s : NatSettings) (h : List Entry) (n : ℕ) → IsPast s h n → (src : Ep) (port : ℕ) → lets_in s h n src port ≡ inside_in (find (is_way_in s.kind src port) (counting s.idle n h))
+let_in_is s h n past src port = inside_of-is s.kind (counting s.idle n h) src port (sound_past s h n past).agree
+
+pub asked_where_let_in : (s : NatSettings) (h : List Entry) (n : ℕ) → IsPast s h n → (src : Ep) (port : ℕ) (inside : Ep) → lets_in s h n src port ≡ Some inside → WasAsked s h n src port inside
+asked_where_let_in s h n past src port inside l =
+    let outs : List Outward = counting s.idle n h in
+    let f = leads_found (find (is_way_in s.kind src port) outs) inside (sym (let_in_is s h n past src port) ∙ l) in
+    let way = and_parts _ _ (found_passes (is_way_in s.kind src port) outs f.0 f.1) in
+    record { datagram = f.0; counts = found_is_in _ outs f.0 f.1; left = f.2; by_port = sym (eqb-true port f.0.port way.0); asked = reaches-asked s.kind src f.0 way.1 }
+
+pub let_in_where_asked : (s : NatSettings) (h : List Entry) (n : ℕ) → IsPast s h n → (src : Ep) (port : ℕ) (inside : Ep) → WasAsked s h n src port inside → lets_in s h n src port ≡ Some inside
+let_in_where_asked s h n past src port inside w =
+    let outs : List Outward = counting s.idle n h in
+    let f = found_at (is_way_in s.kind src port) outs w.datagram w.counts (and_from _ _ (eq-eqb port w.datagram.port (sym w.by_port)) (asked-reaches s.kind src w.datagram w.asked)) in
+    let port_is : port ≡ f.0.port = eqb-true port f.0.port (and_parts _ _ (found_passes (is_way_in s.kind src port) outs f.0 f.1)).0 in
+    let key : has_key s.kind f.0.inside f.0.dst w.datagram ≡ true = agrees_at s outs _ f.0 w.datagram (sound_past s h n past) f.1 w.counts ∙ eq-eqb f.0.port w.datagram.port (sym port_is ∙ sym w.by_port) in
+    let same : w.datagram.inside ≡ f.0.inside = key_inside s.kind f.0.inside f.0.dst w.datagram key in
+    let_in_is s h n past src port ∙ ap inside_in f.1 ∙ ap (λ i. Some i) (sym same ∙ w.left)
+
+-- an entry asked the endpoint that it was sent to
+asks_its_own : (kind : NatKind) (e : Outward) → Asked kind e.dst e
+asks_its_own Cone e = tt
+asks_its_own Restricted e = refl
+asks_its_own Port e = refl
+asks_its_own Symmetric e = refl
+
+-- what counts has its port live
+pub live_where_counts : (s : NatSettings) (h : List Entry) (n : ℕ) → IsPast s h n → (e : Outward) → Contains (counting s.idle n h) e → live_port s.kind e.inside e.dst (live_after s h n) ≡ Some e.port
+live_where_counts s h n past e m =
+    let outs : List Outward = counting s.idle n h in
+    let f = found_at (has_key s.kind e.inside e.dst) outs e m (has_itself s.kind e) in
+    let same : f.0.port ≡ e.port = eqb-true f.0.port e.port (sym (agrees_at s outs _ f.0 e (sound_past s h n past) f.1 m) ∙ key_symm s.kind f.0 e ∙ found_passes _ outs f.0 f.1) in
+    live_is s.kind e.inside e.dst outs ∙ ap port_in f.1 ∙ ap (λ p. Some p) same
+
+pub owner : (s : NatSettings) (h : List Entry) (n : ℕ) → IsPast s h n → (src : Ep) (port : ℕ) (inside : Ep) → lets_in s h n src port ≡ Some inside → (dst : Ep) × (live_port s.kind inside dst (live_after s h n) ≡ Some port)
+owner s h n past src port inside l =
+    let w = asked_where_let_in s h n past src port inside l in
+    (w.datagram.dst, subst (λ (i : Ep). live_port s.kind i w.datagram.dst (live_after s h n) ≡ Some port) w.left (live_where_counts s h n past w.datagram w.counts ∙ ap (λ p. Some p) w.by_port))
+
+pub reply : (s : NatSettings) (h : List Entry) (n : ℕ) → IsPast s h n → (e : Outward) → Contains (counting s.idle n h) e → lets_in s h n e.dst e.port ≡ Some e.inside
+reply s h n past e m = let_in_where_asked s h n past e.dst e.port e.inside (record { datagram = e; counts = m; left = refl; by_port = refl; asked = asks_its_own s.kind e })
+
+pub cone : (s : NatSettings) (h : List Entry) (n : ℕ) → IsPast s h n → s.kind ≡ Cone → (inside dst : Ep) (port : ℕ) → live_port s.kind inside dst (live_after s h n) ≡ Some port → (src : Ep) → lets_in s h n src port ≡ Some inside
+cone s h n past k inside dst port l src =
+    let outs : List Outward = counting s.idle n h in
+    let f = held_by s outs inside dst port l in
+    let_in_where_asked s h n past src port inside (record { datagram = f.0; counts = found_is_in _ outs f.0 f.1; left = key_inside s.kind inside dst f.0 (found_passes _ outs f.0 f.1); by_port = f.2; asked = subst (λ (kind : NatKind). Asked kind src f.0) (sym k) tt })

@@ -1,0 +1,53 @@
+//! Network address translators of the four kinds, driven by explicit moments.
+//!
+//! Standard: RFC 3489, section 5. Our choices: `docs/DECISIONS.md`, "NATs".
+//!
+//! # What the layer above may rely on
+//!
+//! - A `Nat` stands for the history of its calls (`specs/Nat.antt`), and each call answers what that history
+//!   gives: `outward` is `nat_answer`, `inward` is `lets_in`. The histories are quantified in each clause, so a
+//!   caller composes calls without looking into `StandsFor`.
+//! - Only an outward datagram keeps a mapping or a permission alive: `inward` changes nothing.
+//! - `Hairpin` comes before `Full`, and both come exactly where the history gives them. `NoMemory` comes only
+//!   from `outward`, and the NAT then stands for what it stood for. No other call takes memory.
+//! - The laws of `laws` hold of every history: no two keys hold a port, a reply is let in while what it answers
+//!   counts, what is let in reaches the endpoint that owns the port and asked the source.
+//!
+//! # What it does not know
+//!
+//! Packets, sockets and clocks. It moves no bytes: it names endpoints. Moments come with each call and never
+//! fall. Each call looks through all outward datagrams that it keeps.
+//!
+//! # Parts
+//!
+//! | module | holds | stated in |
+//! |---|---|---|
+//! | `kind`, `refusal`, `settings`, `limits` | the small types, the ports that are given | |
+//! | `outgoing` | `Outward`: its age, its key, whom it lets in | `specs/History.antt`, `Mappings.antt`, `Entering.antt` |
+//! | `mappings` | searches over the outward datagrams | `specs/Answer.antt`, `Entering.antt`, `Sound.antt` |
+//! | `translator` | `Nat` | `specs/Nat.antt` |
+//! | `laws` | what holds of every history | `specs/Laws.antt` |
+#![tactic(auto)]
+
+mod kind;
+mod laws;
+mod limits;
+mod mappings;
+mod outgoing;
+mod refusal;
+mod settings;
+#[cfg(test)]
+mod tests;
+mod translator;
+
+pub use kind::NatKind;
+pub use laws::{
+    answer_is_lowest_free, cone_lets_all_in, counting_datagram_holds_its_port,
+    latest_datagram_decides, let_in_where_asked, live_mappings_are_few, owner_is_reached,
+    port_has_one_key, reply_is_let_in,
+};
+pub use limits::{FIRST_PORT, MOST_LIVE};
+pub use outgoing::Outward;
+pub use refusal::NatRefusal;
+pub use settings::NatSettings;
+pub use translator::Nat;

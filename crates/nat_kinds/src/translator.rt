@@ -1,0 +1,98 @@
+//! A network address translator.
+ghost use Rattle.std.specs.Prelude.{◌≡◌, ℕ, ◌≤◌, [], ◌∷◌, List, IfOk, OnErr};
+ghost use Rattle.nat_kinds.specs.History.{Entry, Out, Forget, Restart};
+ghost use Rattle.nat_kinds.specs.Answer.{nat_answer, GivesAnswer};
+ghost use Rattle.nat_kinds.specs.Entering.{lets_in};
+ghost use Rattle.nat_kinds.specs.Nat.{StandsFor, StandsAsBefore};
+
+use crate::kind::NatKind;
+use crate::mappings;
+use crate::outgoing::Outward;
+use crate::refusal::NatRefusal;
+use crate::settings::NatSettings;
+use std::alloc::Global;
+use std::marker::Model;
+use td_base::{Ep, Ip4, Millis};
+
+/// A network address translator with one external address.
+#[derive(Drop)]
+pub struct Nat {
+    settings: NatSettings,
+    moment: Millis,
+    outs: Vec<Outward>,
+}
+
+impl Model for Nat {
+    ghost use Rattle.nat_kinds.specs.Nat.{NatState};
+    ghost use Rattle.nat_kinds.specs.Sound.{Sound};
+
+    ghost Value = { NatState };
+
+    ghost view = { λ a. record { settings = a.settings; moment = a.moment.0; outs = a.outs.items } };
+
+    ghost invariant = { λ a. Sound a.settings.kind a.outs.items };
+}
+
+impl Nat {
+    /// A NAT without mappings. `idle` is how long a mapping lives after its latest outward datagram, in milliseconds.
+    pub fn new(alloc: Global, kind: NatKind, external: Ip4, idle: u32) -> Nat
+        ensures settings { result.settings ≡ record { kind = kind; external = external; idle = idle } }
+        ensures moment { result.moment ≡ 0 }
+        ensures stands { StandsFor result [] }
+    {
+        Nat {
+            settings: NatSettings {
+                kind,
+                external,
+                idle,
+            },
+            moment: Millis(0),
+            outs: Vec::new(alloc),
+        }
+    }
+
+    /// The external endpoint that a datagram from `inside` to `dst` leaves from. It refreshes its mapping.
+    pub fn outward(&mut self, now: Millis, inside: Ep, dst: Ep) -> Result<Ep, NatRefusal>
+        requires clock { self.old.moment ≤ now.0 }
+
+        // After each history that it stood for, this is the answer; then it stands for that history with this datagram.
+        ensures answer { (h : List Entry) → StandsFor self.old h →
+            GivesAnswer self.old.settings (nat_answer self.old.settings h now.0 inside dst) result }
+        ensures stands { IfOk result (λ ep. (h : List Entry) → StandsFor self.old h →
+            StandsFor self.new (Out (record { moment = now; inside = inside; dst = dst; port = ep.port }) ∷ h)) }
+        ensures refused { OnErr result (StandsAsBefore self.old self.new) }
+
+        ensures moment { self.new.moment ≡ now.0 }
+        ensures settings { self.new.settings ≡ self.old.settings }
+    {
+        self.moment = now;
+        mappings::send(&mut self.outs, &self.settings, now, inside, dst)
+    }
+
+    /// The inside endpoint that a datagram from `src` to an external port is let in to. It refreshes nothing.
+    pub fn inward(&self, now: Millis, src: Ep, port: u16) -> Option<Ep>
+        requires clock { self.now.moment ≤ now.0 }
+        ensures answer { (h : List Entry) → StandsFor self.now h →
+            result ≡ lets_in self.now.settings h now.0 src port }
+    {
+        mappings::inside_at(&self.outs, &self.settings, now, src, port)
+    }
+
+    /// Drops the mappings and permissions of one inside endpoint. Its ports are free from then on.
+    pub fn forget(&mut self, inside: Ep)
+        ensures stands { (h : List Entry) → StandsFor self.old h → StandsFor self.new (Forget inside ∷ h) }
+        ensures moment { self.new.moment ≡ self.old.moment }
+        ensures settings { self.new.settings ≡ self.old.settings }
+    {
+        mappings::take_out_of(&mut self.outs, inside);
+    }
+
+    /// Drops all mappings and permissions.
+    pub fn restart(&mut self)
+        ensures stands { (h : List Entry) → StandsFor self.old h → StandsFor self.new (Restart ∷ h) }
+        ensures moment { self.new.moment ≡ self.old.moment }
+        ensures settings { self.new.settings ≡ self.old.settings }
+    {
+        self.outs.clear();
+    }
+}

@@ -1,0 +1,4 @@
+pub mod Added
+pub mod Joined
+pub mod Marks
+pub mod Printed

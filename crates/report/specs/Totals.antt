@@ -1,0 +1,52 @@
+-- The totals of a history, and its report.
+use Rattle.std.specs.Prelude.{ℕ, ◌+◌, ◌-◌, ◌^◌, ◌≤◌, List, [], ◌++◌, length, count_by, codes, decimal, is_some, if◌then◌else◌}
+use Rattle.teredo_node.specs.Fates.{is_drop}
+use Rattle.history.specs.declared.records.Record.{Record}
+use Rattle.history.specs.Rows.{TopologyState}
+use Rattle.history.specs.Full.{Full, wire}
+use Rattle.report.specs.declared.totals.Sums.{Sums}
+use Rattle.report.specs.Lines.{lines}
+use Rattle.report.specs.Telling.{is_kept, is_delivery}
+
+-- how many records, entries, deliveries of entries, packets handed to hosts, packets kept by natives, drops
+abbrev pub sums_of : List Full → Sums
+sums_of H = record {
+  records = length H;
+  entries = length (wire H);
+  delivered = count_by (λ r. is_some r.delivered) H;
+  handed = 0;
+  kept = count_by (λ r. is_kept r.fate) H;
+  dropped = count_by (λ r. is_drop r.fate) H;
+}
+
+-- the last line of a report
+abbrev pub totals_line : Sums → List ℕ
+totals_line s =
+    codes "total records " ++ (decimal s.records ++ (codes " entries " ++ (decimal s.entries ++ (codes " delivered " ++ (decimal s.delivered ++ (codes " handed " ++ (decimal s.handed ++ (codes " kept " ++ (decimal s.kept ++ (codes " dropped " ++ (decimal s.dropped ++ codes "\n")))))))))))
+
+abbrev pub totals : List Full → List ℕ
+totals H = totals_line (sums_of H)
+
+-- a line for each record, and the totals
+abbrev pub report : TopologyState → List Full → List ℕ
+report t H = lines t H ++ totals H
+
+-- what a record adds
+abbrev pub added : Sums → Record → Sums
+added s r = record {
+  records = s.records + 1;
+  entries = s.entries + length r.marks;
+  delivered = s.delivered + (if is_delivery r.act r.fate then 1 else 0);
+  handed = s.handed;
+  kept = s.kept + (if is_kept r.fate then 1 else 0);
+  dropped = s.dropped + (if is_drop r.fate then 1 else 0);
+}
+
+-- room for one more record of at most nine marks
+pub record IsSmall (s : Sums) : Type 0 where
+  pub records : s.records ≤ 2 ^ 64 - 10
+  pub entries : s.entries ≤ 2 ^ 64 - 10
+  pub delivered : s.delivered ≤ 2 ^ 64 - 10
+  pub handed : s.handed ≤ 2 ^ 64 - 10
+  pub kept : s.kept ≤ 2 ^ 64 - 10
+  pub dropped : s.dropped ≤ 2 ^ 64 - 10

@@ -1,0 +1,29 @@
+//! The report of a run: a line for each record, and the totals.
+//!
+//! # What the layer above may rely on
+//!
+//! - `line` puts a record's line in place of what the buffer held, and a line always fits.
+//! - Sums that were added up over the records of a history are its totals, and `summary` is their line.
+//!
+//! # What it does not know
+//!
+//! What a node does, and which record comes next.
+//!
+//! # Parts
+//!
+//! | module | holds | stated in |
+//! |---|---|---|
+//! | `pieces` | the parts of a line | `specs/Lines.antt` |
+//! | `lines` | `line` | `specs/Lines.antt` |
+//! | `totals` | `Sums`, `summary` | `specs/Totals.antt` |
+#![tactic(auto)]
+
+mod lines;
+mod pieces;
+mod totals;
+
+#[cfg(test)]
+mod tests;
+
+pub use lines::line;
+pub use totals::{Sums, summary};

@@ -1,0 +1,93 @@
+//! The totals of a run.
+ghost use Rattle.std.specs.Prelude.{◌≡◌, ◌∷◌, [], List};
+ghost use Rattle.history.specs.Full.{Full};
+ghost use Rattle.history.specs.Records.{record_of};
+ghost use Rattle.report.specs.Telling.{is_kept, is_delivery, IsTold};
+ghost use Rattle.report.specs.Totals.{totals_line};
+
+use crate::pieces::put_number;
+use history::{Act, Record};
+use td_base::LineBuf;
+use teredo_node::Fate;
+
+/// Sums over the records of a run.
+#[derive(Clone, Copy, Debug, PartialEq, Eq)]
+pub struct Sums {
+    pub records: u64,
+    pub entries: u64,
+    /// Deliveries of entries that exist.
+    pub delivered: u64,
+    /// Packets handed to clients' hosts.
+    pub handed: u64,
+    /// Packets kept by native hosts.
+    pub kept: u64,
+    pub dropped: u64,
+}
+
+/// Whether a record kept a packet.
+fn is_kept(fate: Fate) -> bool
+    ensures { result ≡ is_kept fate }
+{
+    matches!(fate, Fate::Kept)
+}
+
+/// Whether a record delivered an entry: its act says so, and the entry was there.
+fn is_delivery(act: Act, fate: Fate) -> bool
+    ensures { result ≡ is_delivery act fate }
+{
+    match act {
+        Act::Deliver { number: _ } => fate != Fate::NoEntry,
+        Act::Plain { verb: _ } => false,
+    }
+}
+
+impl Sums {
+    ghost use Rattle.report.specs.Totals.{sums_of, added, IsSmall};
+
+    /// No records.
+    pub fn new() -> Sums
+        ensures { result ≡ sums_of [] }
+    {
+        Sums {
+            records: 0,
+            entries: 0,
+            delivered: 0,
+            handed: 0,
+            kept: 0,
+            dropped: 0,
+        }
+    }
+
+    /// Adds a record.
+    pub fn add(&mut self, r: &Record)
+        requires { IsSmall self.old }
+        ensures added { self.new ≡ added self.old r.now }
+        ensures sums { (H : List Full) (next : Full) → self.old ≡ sums_of H → r.now ≡ record_of next → IsTold next → self.new ≡ sums_of (next ∷ H) }
+    {
+        self.records += 1;
+        self.entries += r.marks.as_slice().len() as u64;
+        self.delivered += u64::from(is_delivery(r.act, r.fate));
+        self.kept += u64::from(is_kept(r.fate));
+        self.dropped += u64::from(r.fate.is_drop());
+    }
+}
+
+/// Puts the totals line in place of what the buffer held.
+pub fn summary(s: &Sums, out: &mut LineBuf)
+    ensures { out.new ≡ totals_line s.now }
+{
+    out.clear();
+    out.push_text(b"total records ");
+    put_number(s.records, out);
+    out.push_text(b" entries ");
+    put_number(s.entries, out);
+    out.push_text(b" delivered ");
+    put_number(s.delivered, out);
+    out.push_text(b" handed ");
+    put_number(s.handed, out);
+    out.push_text(b" kept ");
+    put_number(s.kept, out);
+    out.push_text(b" dropped ");
+    put_number(s.dropped, out);
+    out.push_text(b"\n");
+}

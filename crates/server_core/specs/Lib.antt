@@ -1,0 +1,5 @@
+pub mod Checksum
+pub mod Solicitation
+pub mod Advertisement
+pub mod Server
+pub mod Answers

@@ -1,0 +1,3 @@
+pub mod Arrivals
+pub mod Fronts
+pub mod Opened

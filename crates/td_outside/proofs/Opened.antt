@@ -1,0 +1,23 @@
+-- When a link is open on two addresses.
+use Rattle.std.proofs.Common.{◌≡◌, ◌↔◌, ◌&&◌, IsTrue, Option, Some, ap, ◌∙◌}
+use Rattle.std.specs.Option.{unwrap_or}
+use Rattle.std.proofs.lemmas.Bool.{and_parts, and_from}
+use Rattle.td_base.specs.declared.ipv4.Ip4.{Ip4}
+use Rattle.td_base.specs.Ip4.{same_ip, same_ip_decides}
+use Rattle.td_outside.specs.declared.linking.Addresses.{Addresses}
+use Rattle.td_outside.specs.Links.{open_on}
+
+same_parts : (on : Addresses) (primary secondary : Ip4) → on.primary ≡ primary → on.secondary ≡ secondary → Some on ≡ open_on primary secondary
+same_parts on primary secondary e f =
+    ap (λ (ip : Ip4). open_on ip on.secondary) e ∙ ap (λ (ip : Ip4). open_on primary ip) f
+
+parts_of : (on : Addresses) (primary secondary : Ip4) → Some on ≡ open_on primary secondary → (on.primary ≡ primary) × (on.secondary ≡ secondary)
+parts_of on primary secondary e =
+    (ap (λ (o : Option Addresses). (unwrap_or o on).primary) e, ap (λ (o : Option Addresses). (unwrap_or o on).secondary) e)
+
+-- It is where both are the same.
+pub on_both : (on : Addresses) (primary secondary : Ip4) → IsTrue (same_ip on.primary primary && same_ip on.secondary secondary) ↔ (Some on ≡ open_on primary secondary)
+on_both on primary secondary =
+    let first = same_ip_decides on.primary primary in
+    let second = same_ip_decides on.secondary secondary in
+    (λ both. let parts = and_parts _ _ both in same_parts on primary secondary (first.0 parts.0) (second.0 parts.1), λ e. let parts = parts_of on primary secondary e in and_from _ _ (first.1 parts.0) (second.1 parts.1))

@@ -1,0 +1,22 @@
+use Rattle.std.proofs.Common.{◌≡◌, ◌+◌, ◌<◌, List, [], ◌∷◌, ◌++◌, length, take, drop, replicate, map, slice_get, Some, sym, ◌∙◌, arith}
+use Rattle.std.proofs.lemmas.List.{drop-drop, length-map}
+use Rattle.std.proofs.lemmas.Option.{slice_get_read}
+use Rattle.std.proofs.lemmas.Grind.{common_steps}
+use Rattle.td_outside.specs.Links.{Came, Nothing, next_of}
+use Rattle.td_outside.specs.MemLink.{came_of}
+use Rattle.td_outside.proofs.Arrivals.{next_arrival, taken_more}
+use Rattle.td_outside.proofs.mem_link.MemLinkLink.recv.Goals as goal
+
+pub returns-clause-came : goal.returns-clause-came
+returns-clause-came c =
+    let found : slice_get c.self.inside.arrivals.items c.self.inside.at ≡ Some c.in-Some.arrival.now = grind (arith, common_steps, slice_get_read) in
+    rw (← c.self.view_is) (c.give.ensures.given ∙ next_arrival c.self.inside.arrivals.items c.self.inside.at c.in-Some.arrival.now found)
+
+pub returns-clause-state : goal.returns-clause-state
+returns-clause-state c =
+    let all : List Came = map came_of c.self.inside.arrivals.items in
+    let inside : c.self.inside.at < length c.self.inside.arrivals.items = grind (arith, common_steps) in
+    let within : c.self.inside.at < length all = rw (length-map c.self.inside.arrivals.items) inside in
+    let taken : take (c.self.inside.at + 1) all ++ replicate c.self.inside.idle Nothing ≡ (take c.self.inside.at all ++ replicate c.self.inside.idle Nothing) ++ next_of (drop c.self.inside.at all) ∷ [] = taken_more all c.self.inside.at c.self.inside.idle within (c.self.invariant.1 inside) in
+    let coming : drop (c.self.inside.at + 1) all ≡ drop 1 (drop c.self.inside.at all) = sym (drop-drop 1 c.self.inside.at all) in
+    rw (← c.self.view_is) (grind (arith, common_steps, taken, coming))

@@ -1,0 +1,53 @@
+-- The link in memory, as its callers see it.
+use Rattle.std.specs.Prelude.{true, false, ℕ, Bool, if◌then◌else◌, nat_lt, ◌==◌, List, [], ◌∷◌, ◌++◌, length, take, drop, Option, Some, None}
+use Rattle.std.specs.Option.{option_and_then}
+use Rattle.td_outside.specs.declared.linking.Addresses.{Addresses}
+use Rattle.td_outside.specs.declared.linking.TheConstants.{DATAGRAM_MAX}
+use Rattle.td_outside.specs.declared.mem_arrival.MemArrival.{MemArrival}
+use Rattle.td_outside.specs.declared.mem_arrival.MemArrival.TheVariants.{Got, Idle}
+use Rattle.td_outside.specs.Causes.{counted, count_end}
+use Rattle.td_outside.specs.Calls.{Calls, is_due, after_call}
+use Rattle.td_outside.specs.Links.{Came, Datagram, Nothing, Attempt, Told, next_of}
+
+-- a link that receives what it was made with, and keeps as many attempts as there is room for
+pub record Recorded : Type 0 where
+  pub addresses : Option Addresses
+  pub coming : List Came
+  pub taken : Option (List Came)
+  pub attempts : Option (List Attempt)
+  pub room : ℕ
+  pub receives : Calls
+  pub sends : Calls
+
+abbrev pub told_of : Recorded → Told
+told_of link = record { coming = Some link.coming; taken = link.taken; attempts = link.attempts }
+
+-- what an arrival gives: a longer datagram is cut
+abbrev pub came_of : MemArrival → Came
+came_of (Got side from bytes) = Datagram side from (take DATAGRAM_MAX bytes)
+came_of Idle = Nothing
+
+-- what was taken, told as long as the calls of recv can be counted
+abbrev pub told_taken : ℕ → List Came → Option (List Came)
+told_taken made taken = if nat_lt made count_end then Some taken else None
+
+-- the attempts, told as long as there was room for each
+abbrev pub told_attempts : Bool → List Attempt → Option (List Attempt)
+told_attempts is_over attempts = if is_over then None else Some attempts
+
+-- what was taken after one more call of recv, which took these
+abbrev pub taken_with : Recorded → List Came → Option (List Came)
+taken_with link more = option_and_then (λ taken. told_taken (counted link.receives.made) (taken ++ more)) link.taken
+
+-- the link after a call of recv
+abbrev pub received : Recorded → Recorded
+received link = if is_due link.receives
+    then record link { taken = taken_with link []; receives = after_call link.receives true }
+    else record link { coming = drop 1 link.coming; taken = taken_with link (next_of link.coming ∷ []); receives = after_call link.receives false }
+
+-- the link after a call of send
+abbrev pub sent : Recorded → Attempt → Recorded
+sent link made = record link {
+  attempts = option_and_then (λ attempts. told_attempts (length attempts == link.room) (attempts ++ made ∷ [])) link.attempts;
+  sends = after_call link.sends (is_due link.sends);
+}

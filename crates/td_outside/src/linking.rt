@@ -1,0 +1,69 @@
+//! Two sides that datagrams come to and go from.
+ghost use Rattle.std.specs.Prelude.{◌≡◌, ◌≤◌, ℕ, Option, Some, length, is_ok, IsOk, IfOk, OnOk, MatchResult};
+ghost use Rattle.td_outside.specs.Causes.{HasCause};
+ghost use Rattle.td_outside.specs.declared.linking.Addresses.{Addresses};
+ghost use Rattle.td_outside.specs.Links.{Told, Receives, Sends, KeepsTold, attempt, came_by, open_on, Fits};
+
+use crate::Failed;
+use td_base::{Ep, Ip4, Side};
+
+/// The UDP port of both sides: RFC 4380, section 2.7.
+pub const TEREDO_PORT: u16 = 3544;
+
+/// The most bytes of a datagram that a link takes or sends.
+pub const DATAGRAM_MAX: usize = 1400;
+
+/// The addresses of a link's two sides.
+#[derive(Clone, Copy, Debug, PartialEq, Eq)]
+pub struct Addresses {
+    pub primary: Ip4,
+    pub secondary: Ip4,
+}
+
+/// What a receiving call answers: a datagram, whose first `len` bytes are in the buffer, or that there is none.
+#[derive(Clone, Copy, Debug, PartialEq, Eq)]
+pub enum Arrival {
+    Got { side: Side, from: Ep, len: usize },
+    Idle,
+}
+
+/// Two sides, each with an address, that datagrams come to and go from.
+pub trait Link {
+    /// The addresses that it is open on.
+    ghost addresses: { Self → Option Addresses };
+
+    /// What is still to come, what was taken and what was sent, as far as the link tells it.
+    ghost told: { Self → Told };
+
+    /// How often a call of `open` or `recv` has failed. It stops at the end of `u64`.
+    ghost recv_faults: { Self → ℕ };
+
+    /// How often a call of `send` has failed. It stops at the end of `u64`.
+    ghost send_faults: { Self → ℕ };
+
+    /// Makes both sides ready on `TEREDO_PORT`.
+    fn open(&mut self, primary: Ip4, secondary: Ip4) -> Result<(), Failed>
+        ensures opened { OnOk result (addresses self.new ≡ open_on primary secondary) }
+        ensures again { addresses self.old ≡ open_on primary secondary → IsOk result × (self.new ≡ self.old) }
+        ensures lists { KeepsTold (told self.old) (told self.new) }
+        ensures cause { HasCause (recv_faults self.old) (recv_faults self.new) result }
+        ensures other { send_faults self.new ≡ send_faults self.old };
+
+    /// Takes the next datagram, or answers that there is none.
+    fn recv(&mut self, buf: &mut [u8; DATAGRAM_MAX]) -> Result<Arrival, Failed>
+        ensures room { IfOk result (λ arrival. Fits arrival) }
+        ensures lists { MatchResult result
+            (λ arrival. Receives (told self.old) (told self.new) (came_by buf.new arrival))
+            (λ _. KeepsTold (told self.old) (told self.new)) }
+        ensures places { addresses self.new ≡ addresses self.old }
+        ensures cause { HasCause (recv_faults self.old) (recv_faults self.new) result }
+        ensures other { send_faults self.new ≡ send_faults self.old };
+
+    /// Makes one attempt to send one datagram.
+    fn send(&mut self, side: Side, to: Ep, bytes: &[u8]) -> Result<(), Failed>
+        requires most { length bytes.now ≤ DATAGRAM_MAX }
+        ensures lists { Sends (told self.old) (told self.new) (attempt side to bytes.now (is_ok result)) }
+        ensures places { addresses self.new ≡ addresses self.old }
+        ensures cause { HasCause (send_faults self.old) (send_faults self.new) result }
+        ensures other { recv_faults self.new ≡ recv_faults self.old };
+}

@@ -1,0 +1,109 @@
+//! The link over two sockets of the system.
+ghost use Rattle.std.specs.Prelude.{◌≡◌, ◌↔◌, IsTrue, None, is_some};
+ghost use Rattle.td_outside.specs.Links.{Pair, open_on, told_nothing};
+
+use crate::sides::Sides;
+use crate::{Addresses, Arrival, DATAGRAM_MAX, Failed, Link};
+use std::marker::Model;
+use std::net::Net;
+use td_base::{Ep, Ip4, Side};
+
+/// A link over two UDP sockets. It tells nothing of what comes and goes. Each error of the system is `Failed`, with
+/// the count raised, and so is a `recv` or a `send` before `open`. The socket cuts a datagram of more than
+/// `DATAGRAM_MAX` bytes to its first ones.
+#[derive(Drop)]
+pub struct UdpPair<'a, R: Net + AllocGlobal> {
+    rt: &'a R,
+    sides: Option<Sides>,
+    on: Option<Addresses>,
+    recv_faults: u64,
+    send_faults: u64,
+}
+
+impl<'a, R: Net + AllocGlobal> Model for UdpPair<'a, R> {
+    ghost Value = { Pair };
+
+    ghost view = { λ s. record {
+      addresses = s.on;
+      recv_faults = s.recv_faults;
+      send_faults = s.send_faults;
+    } };
+
+    ghost invariant = { λ s. is_some s.sides ≡ is_some s.on };
+}
+
+impl<'a, R: Net + AllocGlobal> UdpPair<'a, R> {
+    /// A link that isn't open.
+    pub fn new(rt: &'a R) -> Self
+        ensures { result ≡ record { addresses = None; recv_faults = 0; send_faults = 0 } }
+    {
+        UdpPair {
+            rt,
+            sides: None,
+            on: None,
+            recv_faults: 0,
+            send_faults: 0,
+        }
+    }
+}
+
+// Whether a link is open on these addresses.
+fn is_on(on: Option<Addresses>, primary: Ip4, secondary: Ip4) -> bool
+    ensures { IsTrue result ↔ (on ≡ open_on primary secondary) }
+{
+    match on {
+        Some(on) => on == Addresses { primary, secondary },
+        None => false,
+    }
+}
+
+impl<R: Net + AllocGlobal> Link for UdpPair<'_, R> {
+    ghost addresses = { λ s. s.addresses };
+
+    ghost told = { λ s. told_nothing };
+
+    ghost recv_faults = { λ s. s.recv_faults };
+
+    ghost send_faults = { λ s. s.send_faults };
+
+    fn open(&mut self, primary: Ip4, secondary: Ip4) -> Result<(), Failed> {
+        if is_on(self.on, primary, secondary) {
+            return Ok(());
+        }
+        // The old sockets are closed first, since the new ones may stand at one of their addresses.
+        self.sides = None;
+        self.on = None;
+        let on = Addresses { primary, secondary };
+        match Sides::open(self.rt, self.rt.alloc(), on) {
+            Ok(sides) => {
+                self.sides = Some(sides);
+                self.on = Some(on);
+                Ok(())
+            }
+            Err(_) => {
+                self.recv_faults = self.recv_faults.saturating_add(1);
+                Err(Failed)
+            }
+        }
+    }
+
+    fn recv(&mut self, buf: &mut [u8; DATAGRAM_MAX]) -> Result<Arrival, Failed> {
+        if let Some(sides) = &mut self.sides {
+            if let Ok(arrival) = sides.take(buf) {
+                return Ok(arrival);
+            }
+        }
+        self.recv_faults = self.recv_faults.saturating_add(1);
+        Err(Failed)
+    }
+
+    fn send(&mut self, side: Side, to: Ep, bytes: &[u8]) -> Result<(), Failed> {
+        if let Some(sides) = &self.sides {
+            if sides.put(side, to, bytes).is_ok() {
+                return Ok(());
+            }
+        }
+        self.send_faults = self.send_faults.saturating_add(1);
+        Err(Failed)
+    }
+}

@@ -1,0 +1,4 @@
+pub mod Streams
+pub mod Reports
+pub mod Ends
+pub mod Endings

@@ -1,0 +1,72 @@
+ghost use Rattle.std.specs.Prelude.{◌≡◌, ◌≤◌, length, OnOk, OnErr, IsErrOf};
+ghost use Rattle.std.specs.Io.KnownBytes.{Appends};
+ghost use Rattle.td_outside.specs.Causes.{HasCause, Rose};
+ghost use Rattle.report.specs.Lines.{record_line};
+ghost use Rattle.report.specs.Totals.{totals_line};
+ghost use Rattle.scenario.specs.Told.{told};
+ghost use Rattle.teredo_app.specs.Streams.{AppendsFront};
+ghost use Rattle.teredo_app.specs.Reports.{ReportsOn, BeginsToReport};
+
+use crate::streams::{Fault, write_whole};
+use history::{Record, Topology};
+use report::{Sums, line, summary};
+use scenario::{MOST_EVENTS, Scenario};
+use std::alloc::Global;
+use td_base::LineBuf;
+use td_outside::{Failed, Sink};
+use world::World;
+
+/// Writes the line of record number `index`.
+fn write_record<K: Sink>(
+    index: u64,
+    r: &Record,
+    t: &Topology,
+    buf: &mut LineBuf,
+    out: &mut K,
+) -> Result<(), Failed>
+    ensures ok { OnOk result (Appends (K.holds out.old) (K.holds out.new) (record_line t.now index r.now)) }
+    ensures err { OnErr result (AppendsFront (K.holds out.old) (K.holds out.new) (record_line t.now index r.now)) }
+    ensures cause { HasCause (K.faults out.old) (K.faults out.new) result }
+{
+    line(index, r, t, buf);
+    write_whole(out, buf.as_slice())
+}
+
+/// Writes the totals line.
+fn write_totals<K: Sink>(sums: &Sums, buf: &mut LineBuf, out: &mut K) -> Result<(), Failed>
+    ensures ok { OnOk result (Appends (K.holds out.old) (K.holds out.new) (totals_line sums.now)) }
+    ensures err { OnErr result (AppendsFront (K.holds out.old) (K.holds out.new) (totals_line sums.now)) }
+    ensures cause { HasCause (K.faults out.old) (K.faults out.new) result }
+{
+    summary(sums, buf);
+    write_whole(out, buf.as_slice())
+}
+
+/// Plays the scenario, and writes its report, each line as soon as its record is made.
+pub fn write_report<K: Sink>(alloc: Global, s: &Scenario, out: &mut K) -> Result<(), Fault>
+    requires { length s.now.events ≤ MOST_EVENTS }
+    ensures ok { OnOk result (ReportsOn (told s.now) (K.holds out.old) (K.holds out.new)) }
+    ensures err { OnErr result (BeginsToReport (told s.now) (K.holds out.old) (K.holds out.new)) }
+    ensures quiet { OnOk result (K.faults out.new ≡ K.faults out.old) }
+    ensures starved { IsErrOf result Fault.NoMemory → K.faults out.new ≡ K.faults out.old }
+    ensures failed { IsErrOf result Fault.Failed → Rose (K.faults out.old) (K.faults out.new) }
+{
+    let Ok(mut world) = World::new(alloc, &s.topology, s.seed) else {
+        return Err(Fault::NoMemory);
+    };
+    let mut buf = LineBuf::new();
+    let mut sums = Sums::new();
+    for (index, event) in s.events.as_slice().iter().enumerate() {
+        let Ok(r) = world.step(index as u32, event) else {
+            return Err(Fault::NoMemory);
+        };
+        let Ok(()) = write_record(index as u64, &r, &s.topology, &mut buf, out) else {
+            return Err(Fault::Failed);
+        };
+        sums.add(&r);
+    }
+    match write_totals(&sums, &mut buf, out) {
+        Ok(()) => Ok(()),
+        Err(Failed) => Err(Fault::Failed),
+    }
+}

@@ -1,0 +1,17 @@
+/// The command did all its work.
+pub const DONE: u8 = 0;
+
+/// The words have none of the shapes.
+pub const BAD_WORDS: u8 = 2;
+
+/// The scenario is refused.
+pub const BAD_SCENARIO: u8 = 3;
+
+/// The source failed.
+pub const UNREADABLE: u8 = 4;
+
+/// The sink failed.
+pub const UNWRITABLE: u8 = 5;
+
+/// Memory ran out.
+pub const NO_MEMORY: u8 = 7;

@@ -1,0 +1,91 @@
+ghost use Rattle.std.specs.Prelude.{◌≡◌, ◌≤◌, ℕ, List, Some, None, map, string_bytes, length, option_map};
+ghost use Rattle.scenario.specs.Told.{told};
+ghost use Rattle.teredo_app.specs.Ends.{Outside, lab_file, LabEnds, WordsEnd};
+ghost use Rattle.teredo_app.specs.Endings.{LineEnds, ReportEnds};
+
+use crate::play::write_report;
+use crate::statuses::{BAD_SCENARIO, BAD_WORDS, DONE, NO_MEMORY, UNREADABLE, UNWRITABLE};
+use crate::streams::{Fault, read_named, write_whole};
+use scenario::{MOST_EVENTS, Scenario, ScenarioFault, TEXT_MOST, read};
+use std::alloc::Global;
+use td_outside::{Failed, Sink, Source};
+
+/// The file that the words `lab FILE` name.
+fn file_named(words: &[String]) -> Option<&str>
+    ensures { option_map (λ name. name.now) result ≡ lab_file (map string_bytes words.now) }
+{
+    match words {
+        [command, file] => {
+            if command.as_str() == "lab" {
+                Some(file.as_str())
+            } else {
+                None
+            }
+        }
+        _ => None,
+    }
+}
+
+/// Writes a line, and answers this status, or that the sink failed.
+fn write_line<K: Sink>(out: &mut K, line: &[u8], status: u8) -> u8
+    ensures { LineEnds (K.holds out.old) (K.holds out.new) (K.faults out.old) (K.faults out.new) line.now status result }
+{
+    match write_whole(out, line) {
+        Ok(()) => status,
+        Err(Failed) => UNWRITABLE,
+    }
+}
+
+/// Writes the report of a scenario, and answers the status.
+fn report_on<K: Sink>(alloc: Global, s: &Scenario, out: &mut K) -> u8
+    requires { length s.now.events ≤ MOST_EVENTS }
+    ensures { ReportEnds (K.holds out.old) (K.holds out.new) (K.faults out.old) (K.faults out.new) (told s.now) result }
+{
+    match write_report(alloc, s, out) {
+        Ok(()) => DONE,
+        Err(Fault::Failed) => UNWRITABLE,
+        Err(Fault::NoMemory) => NO_MEMORY,
+    }
+}
+
+/// The command `lab FILE`.
+fn lab<S: Source, K: Sink>(alloc: Global, file: &str, src: &mut S, out: &mut K) -> u8
+    ensures { LabEnds (record {
+      told = S.stands_for src.old file.now;
+      source_faults = (S.faults src.old, S.faults src.new);
+      held = (K.holds out.old, K.holds out.new);
+      sink_faults = (K.faults out.old, K.faults out.new);
+    }) result }
+{
+    let text = match read_named(alloc, src, file, TEXT_MOST + 1) {
+        Ok(text) => text,
+        Err(Fault::Failed) => return UNREADABLE,
+        Err(Fault::NoMemory) => return NO_MEMORY,
+    };
+    match read(alloc, &text) {
+        Ok(s) => report_on(alloc, &s, out),
+        Err(ScenarioFault::Unbuilt) => write_line(out, b"scenario: unbuilt\n", BAD_SCENARIO),
+        Err(ScenarioFault::NoMemory) => NO_MEMORY,
+    }
+}
+
+/// Does what the words of the command line ask for, and answers the program's status.
+pub fn run<S: Source, K: Sink>(alloc: Global, words: &Vec<String>, src: &mut S, out: &mut K) -> u8
+    ensures lab { (file : List ℕ) → lab_file (map string_bytes words.now.items) ≡ Some file → LabEnds (record {
+      told = S.stands_for src.old file;
+      source_faults = (S.faults src.old, S.faults src.new);
+      held = (K.holds out.old, K.holds out.new);
+      sink_faults = (K.faults out.old, K.faults out.new);
+    }) result }
+    ensures no_shape { lab_file (map string_bytes words.now.items) ≡ None → WordsEnd (record {
+      told = None;
+      source_faults = (S.faults src.old, S.faults src.new);
+      held = (K.holds out.old, K.holds out.new);
+      sink_faults = (K.faults out.old, K.faults out.new);
+    }) result }
+{
+    match file_named(words.as_slice()) {
+        Some(file) => lab(alloc, file, src, out),
+        None => write_line(out, b"words\n", BAD_WORDS),
+    }
+}

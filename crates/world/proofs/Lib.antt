@@ -1,0 +1,4 @@
+mod Unique
+pub mod Position
+pub mod Delivered
+pub mod Stepped
