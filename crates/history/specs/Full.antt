@@ -10,6 +10,7 @@ use Rattle.history.specs.declared.acts.Act.{Act}
 -- an entry of the wire
 pub data Item : Type 0 where
   udp : (src dst : Ep) (bytes : List ℕ) → Item
+  six : (relay : Option ℕ) (bytes : List ℕ) → Item  -- an IPv6 packet, for a relay or for whoever has its destination
 
 -- what became of a send
 pub data Made : Type 0 where
@@ -35,10 +36,11 @@ item_in (sent item) = Some item
 abbrev pub items_of : Full → List Item
 items_of r = filter_map item_in r.made
 
--- all datagrams, in order, numbered from 0
+-- all datagrams and IPv6 packets, in order, numbered from 0
 abbrev pub wire : List Full → List Item
 wire [] = []
 wire (r ∷ H) = wire H ++ items_of r
 
 abbrev pub bytes_of : Item → List ℕ
 bytes_of (udp src dst bytes) = bytes
+bytes_of (six relay bytes) = bytes

@@ -4,10 +4,11 @@ use Rattle.td_base.specs.declared.small.Millis.{Millis}
 use Rattle.history.specs.declared.mark_list.Mark.{Mark}
 use Rattle.history.specs.declared.mark_list.Mark.TheVariants as mark
 use Rattle.history.specs.declared.records.Record.{Record}
-use Rattle.history.specs.Full.{Item, udp, Made, sent, Full}
+use Rattle.history.specs.Full.{Item, udp, six, Made, sent, Full}
 
 abbrev pub mark_of : ℕ → Made → Mark
 mark_of number (sent (udp src dst bytes)) = mark.Udp number src dst (length bytes)
+mark_of number (sent (six relay bytes)) = mark.Six number relay (length bytes)
 
 -- the number of the next entry, after a send
 abbrev pub after_made : ℕ → Made → ℕ

@@ -6,13 +6,20 @@ use td_base::{Ep, Ip4};
 /// The most marks of a record: one for each send of a step, and one for a packet to the IPv6 side.
 pub const MOST_MARKS: usize = 9;
 
-/// What a record says of one send: the entry that it became.
+/// What a record says of one send or packet: the entry that it became.
 #[derive(Clone, Copy, Debug)]
 pub enum Mark {
+    /// A datagram.
     Udp {
         number: u32,
         src: Ep,
         dst: Ep,
+        len: usize,
+    },
+    /// An IPv6 packet, for the relay of that number, if any.
+    Six {
+        number: u32,
+        relay: Option<u16>,
         len: usize,
     },
 }

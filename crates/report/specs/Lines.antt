@@ -32,17 +32,19 @@ node_text t None = codes "-"
 node_text t (Some n) = node_name (node_at t n)
 
 -- a send, by the entry that it became
-abbrev pub mark_text : Mark → List ℕ
-mark_text (mark.Udp number src dst len) = codes " #" ++ (decimal number ++ (codes "=" ++ (ep_text src ++ (codes ">" ++ (ep_text dst ++ (codes "/" ++ decimal len))))))
+abbrev pub mark_text : TopologyState → Mark → List ℕ
+mark_text t (mark.Udp number src dst len) = codes " #" ++ (decimal number ++ (codes "=" ++ (ep_text src ++ (codes ">" ++ (ep_text dst ++ (codes "/" ++ decimal len))))))
+mark_text t (mark.Six number None len) = codes " #" ++ (decimal number ++ (codes "=six/" ++ decimal len))
+mark_text t (mark.Six number (Some relay) len) = codes " #" ++ (decimal number ++ (codes "=six:" ++ (node_text t (Some relay) ++ (codes "/" ++ decimal len))))
 
-abbrev pub marks_text : List Mark → List ℕ
-marks_text [] = []
-marks_text (m ∷ ms) = mark_text m ++ marks_text ms
+abbrev pub marks_text : TopologyState → List Mark → List ℕ
+marks_text t [] = []
+marks_text t (m ∷ ms) = mark_text t m ++ marks_text t ms
 
 -- INDEX MOMENT EVENT ACT NODE FATE, and a mark for each send
 abbrev pub record_line : TopologyState → ℕ → Record → List ℕ
 record_line t index r =
-    decimal index ++ (codes " " ++ (decimal r.moment.0 ++ (codes " " ++ (decimal r.event ++ (codes " " ++ (act_text r.act ++ (codes " " ++ (node_text t r.node ++ (codes " " ++ (fate_word r.fate ++ (marks_text r.marks ++ codes "\n")))))))))))
+    decimal index ++ (codes " " ++ (decimal r.moment.0 ++ (codes " " ++ (decimal r.event ++ (codes " " ++ (act_text r.act ++ (codes " " ++ (node_text t r.node ++ (codes " " ++ (fate_word r.fate ++ (marks_text t r.marks ++ codes "\n")))))))))))
 
 -- the lines of a history, which has its latest record first
 abbrev pub lines : TopologyState → List Full → List ℕ

@@ -22,6 +22,6 @@ pub fn line(index: u64, r: &Record, t: &Topology, out: &mut LineBuf)
     put_node(t, r.node, out);
     out.push_text(b" ");
     out.push_text(r.fate.name().as_bytes());
-    put_marks(r.marks.as_slice(), out);
+    put_marks(t, r.marks.as_slice(), out);
     out.push_text(b"\n");
 }

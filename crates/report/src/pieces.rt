@@ -1,6 +1,8 @@
 //! The parts of a line.
 ghost use Rattle.std.specs.Prelude.{◌≡◌, ◌+◌, ◌*◌, ◌≤◌, ◌++◌, length, decimal};
 ghost use Rattle.td_base.specs.Texts.{ep_text};
+ghost use Rattle.history.specs.Rows.{TopologyState};
+ghost use Rattle.history.specs.declared.mark_list.Mark.TheVariants as mark;
 ghost use Rattle.report.specs.Lines.{verb_word, act_text, node_text, mark_text, marks_text};
 
 use history::{Act, Mark, Topology, Verb};
@@ -82,10 +84,45 @@ pub fn put_node(t: &Topology, node: Option<u16>, out: &mut LineBuf)
     }
 }
 
-/// Appends a mark.
-fn put_mark(mark: &Mark, out: &mut LineBuf)
+/// Appends the mark of a datagram.
+fn put_udp(number: u32, src: Ep, dst: Ep, len: usize, out: &mut LineBuf)
     requires { length out.old + MARK_LEN ≤ LINE_LEN }
-    ensures text { out.new ≡ out.old ++ mark_text mark.now }
+    ensures text { (t : TopologyState) → out.new ≡ out.old ++ mark_text t (mark.Udp number src dst len) }
+    ensures short { length out.new ≤ length out.old + MARK_LEN }
+{
+    out.push_text(b" #");
+    put_number(u64::from(number), out);
+    out.push_text(b"=");
+    put_ep(src, out);
+    out.push_text(b">");
+    put_ep(dst, out);
+    out.push_text(b"/");
+    put_number(len as u64, out);
+}
+
+/// Appends the mark of a packet.
+fn put_six(t: &Topology, number: u32, relay: Option<u16>, len: usize, out: &mut LineBuf)
+    requires { length out.old + MARK_LEN ≤ LINE_LEN }
+    ensures text { out.new ≡ out.old ++ mark_text t.now (mark.Six number relay len) }
+    ensures short { length out.new ≤ length out.old + MARK_LEN }
+{
+    out.push_text(b" #");
+    put_number(u64::from(number), out);
+    match relay {
+        None => out.push_text(b"=six/"),
+        Some(relay) => {
+            out.push_text(b"=six:");
+            put_node(t, Some(relay), out);
+            out.push_text(b"/");
+        }
+    }
+    put_number(len as u64, out);
+}
+
+/// Appends a mark.
+fn put_mark(t: &Topology, mark: &Mark, out: &mut LineBuf)
+    requires { length out.old + MARK_LEN ≤ LINE_LEN }
+    ensures text { out.new ≡ out.old ++ mark_text t.now mark.now }
     ensures short { length out.new ≤ length out.old + MARK_LEN }
 {
     match *mark {
@@ -94,26 +131,18 @@ fn put_mark(mark: &Mark, out: &mut LineBuf)
             src,
             dst,
             len,
-        } => {
-            out.push_text(b" #");
-            put_number(u64::from(number), out);
-            out.push_text(b"=");
-            put_ep(src, out);
-            out.push_text(b">");
-            put_ep(dst, out);
-            out.push_text(b"/");
-            put_number(len as u64, out);
-        }
+        } => put_udp(number, src, dst, len, out),
+        Mark::Six { number, relay, len } => put_six(t, number, relay, len, out),
     }
 }
 
 /// Appends marks.
-pub fn put_marks(marks: &[Mark], out: &mut LineBuf)
+pub fn put_marks(t: &Topology, marks: &[Mark], out: &mut LineBuf)
     requires { length out.old + MARK_LEN * length marks.now ≤ LINE_LEN }
-    ensures text { out.new ≡ out.old ++ marks_text marks.now }
+    ensures text { out.new ≡ out.old ++ marks_text t.now marks.now }
     ensures short { length out.new ≤ length out.old + MARK_LEN * length marks.now }
 {
     for mark in marks {
-        put_mark(mark, out);
+        put_mark(t, mark, out);
     }
 }

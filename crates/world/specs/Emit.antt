@@ -1,9 +1,10 @@
 -- Where a delivery goes, and what becomes of what a node sends.
-use Rattle.std.specs.Prelude.{ℕ, List, [], map, Option, Some, None}
+use Rattle.std.specs.Prelude.{ℕ, List, [], ◌∷◌, ◌++◌, map, Option, Some, None}
 use Rattle.td_base.specs.declared.endpoint.Ep.{Ep}
 use Rattle.td_base.specs.declared.ipv6.Ip6.{Ip6}
+use Rattle.td_base.specs.declared.small.Span.{Span}
 use Rattle.td_base.specs.declared.reach.Policy.TheVariants.{Strict}
-use Rattle.teredo_node.specs.Step.{Send, Step, just}
+use Rattle.teredo_node.specs.Step.{Send, Step, just, part}
 use Rattle.teredo_node.specs.Journal.{Input, arrived, Entry}
 use Rattle.teredo_node.specs.declared.fates.Fate.TheVariants as fate
 use Rattle.server_core.specs.declared.server.ServerSettings.{ServerSettings}
@@ -11,7 +12,7 @@ use Rattle.server_core.specs.Server.{server_row}
 use Rattle.history.specs.declared.node_rows.ServerNode.{ServerNode}
 use Rattle.history.specs.Rows.{TopologyState}
 use Rattle.history.specs.Topology.{Node, server, node_at, is_at, number_of, side_at, own_ep}
-use Rattle.history.specs.Full.{Item, udp, Made, sent, Full}
+use Rattle.history.specs.Full.{Item, udp, six, Made, sent, Full}
 use Rattle.world.specs.Past.{Draws}
 
 abbrev pub server_settings : ServerNode → ServerSettings
@@ -31,8 +32,10 @@ abbrev pub reach : TopologyState → Option ℕ → Route
 reach t None = astray
 reach t (Some n) = reach_node n (node_at t n)
 
+-- nobody takes an IPv6 packet yet
 abbrev pub route : TopologyState → List Full → ℕ → Item → Route
 route t H m (udp src dst bytes) = reach t (number_of (is_at dst) t)
+route t H m (six relay bytes) = astray
 
 -- WHAT A NODE DOES
 
@@ -51,8 +54,13 @@ entry_of d t H m n dst input _ = noted m input (just fate.Idle)
 abbrev pub outright : Node → List Send → List Made
 outright a sends = map (λ (x : Send). sent (udp (own_ep a x.side) x.to x.bytes)) sends
 
+-- the packet for the IPv6 side
+abbrev pub six_made : Input → Option Span → List Made
+six_made (arrived from x) (Some span) = sent (six None (part x span)) ∷ []
+six_made _ _ = []
+
 abbrev pub made_of : TopologyState → List Full → ℕ → Entry → Node → List Made
-made_of t H m e a = outright a e.step.sends
+made_of t H m e a = outright a e.step.sends ++ six_made e.input e.step.six
 
 -- the address that a client got
 abbrev pub address_by : TopologyState → List Full → ℕ → Entry → Node → Option Ip6

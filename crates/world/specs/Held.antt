@@ -1,7 +1,10 @@
 -- What a world keeps of the wire.
-use Rattle.history.specs.Full.{Item, udp}
-use Rattle.world.specs.declared.wire_entries.Datagram.{Datagram}
+use Rattle.std.specs.Prelude.{None}
+use Rattle.history.specs.Full.{Item, udp, six}
+use Rattle.world.specs.declared.wire_entries.Entry.{Entry}
+use Rattle.world.specs.declared.wire_entries.Entry.TheVariants.{Udp, Six}
 
--- the entry that a datagram is
-abbrev pub item_of : Datagram → Item
-item_of d = udp d.src d.dst d.bytes
+-- the entry that is kept
+abbrev pub item_of : Entry → Item
+item_of (Udp src dst bytes) = udp src dst bytes
+item_of (Six bytes) = six None bytes

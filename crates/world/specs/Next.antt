@@ -3,7 +3,7 @@ use Rattle.std.specs.Prelude.{ℕ, List, [], ◌∷◌, length, slice_get, Optio
 use Rattle.td_base.specs.declared.endpoint.Ep.{Ep}
 use Rattle.teredo_node.specs.declared.fates.Fate.{Fate}
 use Rattle.teredo_node.specs.declared.fates.Fate.TheVariants as fate
-use Rattle.teredo_node.specs.Journal.{Input, arrived}
+use Rattle.teredo_node.specs.Journal.{Input, arrived, from_six}
 use Rattle.history.specs.declared.event_list.Event.{Event}
 use Rattle.history.specs.declared.event_list.Event.TheVariants as event
 use Rattle.history.specs.declared.acts.Act.{Act}
@@ -12,7 +12,7 @@ use Rattle.history.specs.declared.acts.Verb.{Verb}
 use Rattle.history.specs.declared.acts.Verb.TheVariants as verb
 use Rattle.history.specs.Rows.{TopologyState}
 use Rattle.history.specs.Topology.{Scenario, Node}
-use Rattle.history.specs.Full.{Item, udp, Made, sent, Full, wire}
+use Rattle.history.specs.Full.{Item, udp, six, Made, sent, Full, wire}
 use Rattle.world.specs.Past.{Draws, now, place}
 use Rattle.world.specs.Emit.{Route, reaches, astray, route, entry_of, made_of, address_by}
 
@@ -36,11 +36,16 @@ acts d t H e a number m n dst input node =
 
 -- DELIVERIES
 
+abbrev pub no_ep : Ep
+no_ep = record { ip = record { 0 = [] }; port = 0 }
+
 abbrev pub dst_of : Item → Ep
 dst_of (udp src dst bytes) = dst
+dst_of (six relay bytes) = no_ep
 
 abbrev pub input_of : Item → Input
 input_of (udp src dst bytes) = arrived src bytes
+input_of (six relay bytes) = from_six bytes
 
 abbrev pub delivers_to : Draws → TopologyState → List Full → Numbered → ℕ → Item → Route → Full
 delivers_to d t H e number item (reaches n a) = acts d t H e (act.Deliver number) (Some number) (now H) n (dst_of item) (input_of item) a

@@ -1,5 +1,5 @@
 -- The record that follows, by what a world keeps: the nodes, the moment and the wire.
-use Rattle.std.specs.Prelude.{ℕ, List, [], ◌∷◌, length, slice_get, Option, Some, None}
+use Rattle.std.specs.Prelude.{ℕ, List, [], ◌∷◌, ◌++◌, length, slice_get, Option, Some, None}
 use Rattle.td_base.specs.declared.endpoint.Ep.{Ep}
 use Rattle.teredo_node.specs.declared.fates.Fate.{Fate}
 use Rattle.teredo_node.specs.declared.fates.Fate.TheVariants as fate
@@ -14,8 +14,8 @@ use Rattle.history.specs.declared.acts.Verb.TheVariants as verb
 use Rattle.history.specs.declared.node_rows.ServerNode.{ServerNode}
 use Rattle.history.specs.Rows.{TopologyState}
 use Rattle.history.specs.Topology.{Node, server, is_at, number_of, side_at}
-use Rattle.history.specs.Full.{Item, udp, Made, sent, Full}
-use Rattle.world.specs.Emit.{server_settings, Route, reaches, astray, reach, noted, outright}
+use Rattle.history.specs.Full.{Item, udp, six, Made, sent, Full}
+use Rattle.world.specs.Emit.{server_settings, Route, reaches, astray, reach, noted, outright, six_made}
 use Rattle.world.specs.Next.{Numbered}
 
 -- a record in which nothing happens
@@ -25,7 +25,7 @@ still m w e a node fate = record { event = e.number; asked = e.event; moment = m
 -- server n did this step for a datagram from `from`
 abbrev pub answered : ℕ → List Item → Numbered → ℕ → Ep → List ℕ → ℕ → ServerNode → Step → Full
 answered m w e number from x n a step =
-    record (still m w e (act.Deliver number) (Some n) step.fate) { delivered = Some number; entry = Some (noted m (arrived from x) step); made = outright (server a) step.sends }
+    record (still m w e (act.Deliver number) (Some n) step.fate) { delivered = Some number; entry = Some (noted m (arrived from x) step); made = outright (server a) step.sends ++ six_made (arrived from x) step.six }
 
 abbrev pub delivered_to : ℕ → List Item → Numbered → ℕ → Item → Route → Full
 delivered_to m w e number (udp src dst x) (reaches n (server a)) = answered m w e number src x n a (server_row (server_settings a) (side_at (server a) dst) src x)
@@ -33,6 +33,7 @@ delivered_to m w e number item astray = record (still m w e (act.Deliver number)
 
 abbrev pub route_of : TopologyState → Item → Route
 route_of t (udp src dst x) = reach t (number_of (is_at dst) t)
+route_of t (six relay x) = astray
 
 abbrev pub delivered_item : TopologyState → ℕ → List Item → Numbered → ℕ → Option Item → Full
 delivered_item t m w e number None = still m w e (act.Deliver number) None fate.NoEntry

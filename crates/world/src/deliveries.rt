@@ -1,8 +1,11 @@
 ghost use Rattle.std.specs.Prelude.{◌≡◌, ◌+◌, ◌≤◌, ◌<◌, ◌^◌, ◌∷◌, [], ◌++◌, length, map, position, Some, None, IfOk, OnOk, OnErr};
 ghost use Rattle.td_base.specs.Ep.{server_ep};
-ghost use Rattle.teredo_node.specs.Step.{Step};
-ghost use Rattle.server_core.specs.Server.{server_row};
+ghost use Rattle.td_base.specs.declared.small.Span.{Span};
+ghost use Rattle.teredo_node.specs.Step.{part, just};
+ghost use Rattle.teredo_node.specs.declared.fates.Fate.TheVariants as fates;
+ghost use Rattle.server_core.specs.Server.{server_row, sends_one};
 ghost use Rattle.server_core.specs.Answers.{Answers};
+ghost use Rattle.server_core.specs.Bounds.{IsShort};
 ghost use Rattle.history.specs.Topology.{server, is_at, side_at, own_ep};
 ghost use Rattle.history.specs.Full.{udp};
 ghost use Rattle.history.specs.declared.event_list.Event.TheVariants as event;
@@ -14,9 +17,10 @@ ghost use Rattle.td_base.specs.declared.endpoint.Ep.{Ep as Endpoint};
 ghost use Rattle.history.specs.declared.node_rows.ServerNode.{ServerNode as Row};
 ghost use Rattle.world.specs.Steps.{said, Plays};
 
-use crate::wire_entries::Wire;
+use crate::wire_entries::{Wire, WireEntry};
 use history::{Act, MOST_SERVERS, Mark, Marks, Record, ServerNode, Verb};
 use server_core::{Answer, DATAGRAM_LIMIT, Server};
+use std::alloc::Global;
 use td_base::{Ep, Millis, NoMemory, Policy, Side};
 use td_outside::Octets;
 use teredo_node::Fate;
@@ -50,7 +54,7 @@ fn send(
     ensures err { OnErr result (wire.new ≡ wire.old) }
 {
     let number = wire.len() as u32;
-    wire.push(src, dst, bytes)?;
+    wire.push_datagram(src, dst, bytes)?;
     begun.marks.push(Mark::Udp {
         number,
         src,
@@ -106,7 +110,8 @@ fn answer_of(
     bytes: &[u8],
     out: &mut [u8; DATAGRAM_LIMIT],
 ) -> Answer
-    ensures { Answers result out.new (server_row (server_settings row.now) (side_at (server row.now) dst) src bytes.now) }
+    ensures short { IsShort result bytes.now }
+    ensures row { Answers result out.new (server_row (server_settings row.now) (side_at (server row.now) dst) src bytes.now) }
 {
     let side = if dst.ip == row.secondary {
         Side::Secondary
@@ -126,43 +131,55 @@ fn own_endpoint(row: &ServerNode, side: Side) -> Ep
     }
 }
 
-/// Puts on the wire what a server answers to entry `number`.
-fn put_answer(
+/// Puts on the wire what a server sends for entry `number`.
+fn put_send(
     wire: &mut Wire,
     index: u32,
     number: u32,
     node: u16,
     row: &ServerNode,
-    answer: Answer,
-    out: &[u8],
+    fate: Fate,
+    side: Side,
+    to: Ep,
+    bytes: &[u8],
 ) -> Result<Record, NoMemory>
-    requires room { length wire.old < 2 ^ 32 }
-    requires answered { (step : Step) × Answers answer out.now step }
-    ensures plays { (step : Step) (src : Endpoint) (x : List ℕ) → Answers answer out.now step
-        → Plays wire.old wire.new (answered 0 wire.old (record { number = index; event = event.Deliver number }) number src x node row.now step) result }
+    requires { length wire.old < 2 ^ 32 }
+    ensures plays { (src : Endpoint) (x : List ℕ)
+        → Plays wire.old wire.new (answered 0 wire.old (record { number = index; event = event.Deliver number }) number src x node row.now (sends_one fate side to bytes.now)) result }
     ensures grows { length wire.new ≤ length wire.old + 1 }
 {
-    let act = Act::Deliver { number };
-    match answer {
-        Answer::Drop { fate } => Ok(quiet(index, act, Some(node), fate)),
-        Answer::Six { span: _ } => Ok(quiet(index, act, Some(node), Fate::Six)),
-        Answer::Send {
-            fate,
-            side,
-            to,
-            len,
-        } => send(
-            wire,
-            quiet(index, act, Some(node), fate),
-            own_endpoint(row, side),
-            to,
-            &out[..len],
-        ),
-    }
+    let begun = quiet(index, Act::Deliver { number }, Some(node), fate);
+    send(wire, begun, own_endpoint(row, side), to, bytes)
+}
+
+/// Puts on the wire the packet that a server gives to the IPv6 side for entry `number`.
+fn put_packet(
+    wire: &mut Wire,
+    index: u32,
+    number: u32,
+    node: u16,
+    packet: Octets,
+) -> Result<Record, NoMemory>
+    requires { length wire.old < 2 ^ 32 }
+    ensures plays { (row : Row) (src : Endpoint) (x : List ℕ) (span : Span) → packet ≡ part x span
+        → Plays wire.old wire.new (answered 0 wire.old (record { number = index; event = event.Deliver number }) number src x node row (record (just fates.Six) { six = Some span })) result }
+    ensures grows { length wire.new ≤ length wire.old + 1 }
+{
+    let mut begun = quiet(index, Act::Deliver { number }, Some(node), Fate::Six);
+    let entry = wire.len() as u32;
+    let len = packet.as_slice().len();
+    wire.push_packet(packet)?;
+    begun.marks.push(Mark::Six {
+        number: entry,
+        relay: None,
+        len,
+    });
+    Ok(begun)
 }
 
 /// Delivers entry `number` to whoever is at its destination.
 pub fn deliver(
+    alloc: Global,
     servers: &[ServerNode],
     wire: &mut Wire,
     index: u32,
@@ -173,15 +190,33 @@ pub fn deliver(
     ensures plays { Plays wire.old wire.new (next_from (record { servers = servers.now }) 0 wire.old index (event.Deliver number)) result }
     ensures grows { length wire.new ≤ length wire.old + 1 }
 {
-    let mut out = [0; DATAGRAM_LIMIT];
     let act = Act::Deliver { number };
     let Some(entry) = wire.get(number as usize) else {
         return Ok(quiet(index, act, None, Fate::NoEntry));
     };
-    let Some(place) = receiver(servers, entry.dst) else {
-        return Ok(quiet(index, act, None, Fate::Nowhere));
-    };
-    let row = servers[place];
-    let answer = answer_of(&row, entry.src, entry.dst, entry.bytes, &mut out);
-    put_answer(wire, index, number, place as u16, &row, answer, &out)
+    match entry {
+        // Nobody takes an IPv6 packet yet.
+        WireEntry::Six { relay: _, bytes: _ } => Ok(quiet(index, act, None, Fate::Nowhere)),
+        WireEntry::Udp { src, dst, bytes } => {
+            let Some(place) = receiver(servers, dst) else {
+                return Ok(quiet(index, act, None, Fate::Nowhere));
+            };
+            let row = servers[place];
+            let node = place as u16;
+            let mut out = [0; DATAGRAM_LIMIT];
+            match answer_of(&row, src, dst, bytes, &mut out) {
+                Answer::Drop { fate } => Ok(quiet(index, act, Some(node), fate)),
+                Answer::Send {
+                    fate,
+                    side,
+                    to,
+                    len,
+                } => put_send(wire, index, number, node, &row, fate, side, to, &out[..len]),
+                Answer::Six { span } => {
+                    let packet = Octets::new(alloc, &bytes[span.at..span.at + span.len])?;
+                    put_packet(wire, index, number, node, packet)
+                }
+            }
+        }
+    }
 }

@@ -1,5 +1,6 @@
-ghost use Rattle.std.specs.Prelude.{◌≡◌, ◌∷◌, [], ◌++◌, length, map, slice_get, option_map, OnOk, OnErr};
-ghost use Rattle.history.specs.Full.{udp};
+//! The wire: everything that was sent.
+ghost use Rattle.std.specs.Prelude.{◌≡◌, ◌∷◌, [], ◌++◌, None, length, map, slice_get, option_map, OnOk, OnErr};
+ghost use Rattle.history.specs.Full.{udp, six};
 ghost use Rattle.world.specs.Held.{item_of};
 ghost use Rattle.world.specs.Lent.{item_lent};
 
@@ -8,26 +9,28 @@ use std::marker::Model;
 use td_base::{Ep, NoMemory};
 use td_outside::Octets;
 
-/// A datagram on the wire.
+/// What was sent, with its bytes.
 #[derive(Drop)]
-pub struct Datagram {
-    src: Ep,
-    dst: Ep,
-    bytes: Octets,
+pub enum Entry {
+    /// A datagram.
+    Udp { src: Ep, dst: Ep, bytes: Octets },
+    /// An IPv6 packet, for whoever has its destination.
+    Six { bytes: Octets },
 }
 
-/// A datagram on the wire, lent.
+/// An entry of the wire, lent.
 #[derive(Clone, Copy, Debug)]
-pub struct Lent<'a> {
-    pub src: Ep,
-    pub dst: Ep,
-    pub bytes: &'a [u8],
+pub enum WireEntry<'a> {
+    /// A datagram.
+    Udp { src: Ep, dst: Ep, bytes: &'a [u8] },
+    /// An IPv6 packet, for the relay of that number, if any.
+    Six { relay: Option<u16>, bytes: &'a [u8] },
 }
 
 /// Everything that was sent, in order, numbered from 0. Entries never go away.
 #[derive(Drop)]
 pub struct Wire {
-    entries: Vec<Datagram>,
+    entries: Vec<Entry>,
 }
 
 impl Model for Wire {
@@ -58,31 +61,53 @@ impl Wire {
     }
 
     /// The entry of a number, if there is one.
-    pub fn get(&self, number: usize) -> Option<Lent<'_>>
+    pub fn get(&self, number: usize) -> Option<WireEntry<'_>>
         ensures { option_map item_lent result ≡ slice_get self.now number }
     {
         lend(self.entries.as_slice(), number)
     }
 
     /// Appends a datagram.
-    pub fn push(&mut self, src: Ep, dst: Ep, bytes: &[u8]) -> Result<(), NoMemory>
+    pub fn push_datagram(&mut self, src: Ep, dst: Ep, bytes: &[u8]) -> Result<(), NoMemory>
         ensures ok { OnOk result (self.new ≡ self.old ++ udp src dst bytes.now ∷ []) }
         ensures err { OnErr result (self.new ≡ self.old) }
     {
         let bytes = Octets::new(*self.entries.allocator(), bytes)?;
-        self.entries.push(Datagram { src, dst, bytes })?;
+        self.entries.push(Entry::Udp { src, dst, bytes })?;
+        Ok(())
+    }
+
+    /// Appends an IPv6 packet, for whoever has its destination.
+    pub fn push_packet(&mut self, bytes: Octets) -> Result<(), NoMemory>
+        ensures ok { OnOk result (self.new ≡ self.old ++ six None bytes ∷ []) }
+        ensures err { OnErr result (self.new ≡ self.old) }
+    {
+        self.entries.push(Entry::Six { bytes })?;
         Ok(())
     }
 }
 
-/// Lends the datagram at a place.
-fn lend(entries: &[Datagram], number: usize) -> Option<Lent<'_>>
+/// What an entry lends.
+fn lend_entry(entry: &Entry) -> WireEntry<'_>
+    ensures { item_lent result ≡ item_of entry.now }
+{
+    match entry {
+        Entry::Udp { src, dst, bytes } => WireEntry::Udp {
+            src: *src,
+            dst: *dst,
+            bytes: bytes.as_slice(),
+        },
+        Entry::Six { bytes } => WireEntry::Six {
+            relay: None,
+            bytes: bytes.as_slice(),
+        },
+    }
+}
+
+/// Lends the entry at a place.
+fn lend(entries: &[Entry], number: usize) -> Option<WireEntry<'_>>
     ensures { option_map item_lent result ≡ slice_get (map item_of entries.now) number }
 {
     let entry = entries.get(number)?;
-    Some(Lent {
-        src: entry.src,
-        dst: entry.dst,
-        bytes: entry.bytes.as_slice(),
-    })
+    Some(lend_entry(entry))
 }

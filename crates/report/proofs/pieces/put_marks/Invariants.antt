@@ -5,6 +5,6 @@ use Rattle.report.proofs.pieces.put_marks.Given as goal
 
 abbrev pub invariant-loop-mark : goal.invariant-loop-mark
 invariant-loop-mark l = record {
-  text : l.out ≡ l.fn.out ++ marks_text (take l.mark-index l.marks);
+  text : l.out ≡ l.fn.out ++ marks_text l.t (take l.mark-index l.marks);
   short : length l.out ≤ length l.fn.out + MARK_LEN * l.mark-index;
 }
