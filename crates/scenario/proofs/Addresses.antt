@@ -18,7 +18,7 @@ use Rattle.td_base.proofs.Decimals.{digits}
 use Rattle.td_base.proofs.Halting.{NotDigit, not_digit}
 use Rattle.td_base.proofs.Ip4Lemmas.{IsIp4-made}
 use Rattle.scenario.specs.Words.{number_of, ip4_of_parts, ip4_of, ep_of_parts, ep_of}
-use Rattle.scenario.proofs.Numbers.{as_read, bind_some, number_of-sound, number_back}
+use Rattle.scenario.proofs.Numbers.{as_read, bind_some, some_same, number_of-sound, number_back}
 
 apart : (mark c : ℕ) → NotDigit mark → digit_value c < 10 → (c == mark) ≡ false
 apart mark c other fits = ne_eqb c mark (λ e. other (rw (← e) (digit_from_value c fits)))
@@ -81,9 +81,6 @@ made_address a b c d x y z w ip p q r s e =
     let P : Ip4 → Type 0 = λ v. IsIp4 v × (join_with_byte 46 (x ∷ y ∷ z ∷ w ∷ []) ≡ ip4_text v) in
     let text : join_with_byte 46 (x ∷ y ∷ z ∷ w ∷ []) ≡ ip4_text (made a b c d) = rw (p.1, q.1, r.1, s.1) (simp append_assoc refl) in
     subst P e (IsIp4-made a b c d p.0 q.0 r.0 s.0, text)
-
-some_same : {A : Type 0} (x y : A) → Some x ≡ Some y → x ≡ y
-some_same x y e = cc
 
 parts_address : (parts : List (List ℕ)) (ip : Ip4) → ip4_of_parts parts ≡ Some ip → IsIp4 ip × (join_with_byte 46 parts ≡ ip4_text ip)
 parts_address [] ip e = absurd cc

@@ -1,10 +1,14 @@
 -- The events of a list, as far as it was read.
-use Rattle.std.proofs.Common.{◌≡◌, ℕ, ◌+◌, ◌<◌, List, [], ◌∷◌, ◌++◌, length, drop, get_or, Option, Some, None, refl, ap, append_assoc}
+use Rattle.std.proofs.Common.{◌≡◌, ℕ, ◌+◌, ◌<◌, List, [], ◌∷◌, ◌++◌, length, drop, get_or, Option, Some, None, refl, sym, ap, append_assoc, arith, ◌≤◌, nat_le, leb-true}
 use Rattle.toml.specs.declared.value.Value.{Value}
 use Rattle.toml.specs.View.{view, items_view}
 use Rattle.toml.proofs.Views.{items_view-drop}
 use Rattle.history.specs.declared.event_list.Event.{Event}
-use Rattle.scenario.specs.Scenario.{event_in, events_at}
+use Rattle.toml.specs.Data.{Items, no_items, item}
+use Rattle.scenario.specs.declared.event_lists.TheConstants.{MOST_EVENTS}
+use Rattle.scenario.specs.Tables.{item_count}
+use Rattle.scenario.proofs.Numbers.{bind_some, some_same, kept_some}
+use Rattle.scenario.specs.Scenario.{event_in, events_at, events_of}
 use Rattle.scenario.specs.Words.{◌>>=◌}
 
 -- the events so far, and those of the values that are left
@@ -18,3 +22,18 @@ after_events-one found event (Some events) = ap Some (append_assoc found (event 
 
 pub events_at-drop : (vs : List Value) (i : ℕ) (d : Value) → i < length vs → events_at (items_view (drop i vs)) ≡ (event_in (view (get_or vs i d)) >>= (λ event. events_at (items_view (drop (i + 1) vs)) >>= (λ events. Some (event ∷ events))))
 events_at-drop vs i d h = ap events_at (items_view-drop vs i d h)
+
+-- ---- how many there are
+
+pub length-events_at : (texts : Items) (events : List Event) → events_at texts ≡ Some events → length events ≡ item_count texts
+length-events_at no_items events e = ap length (sym (some_same [] events e))
+length-events_at (item value more) events e =
+    let first = bind_some (event_in value) _ events e in
+    let others = bind_some (events_at more) _ events first.2 in
+    let whole : first.0 ∷ others.0 ≡ events = some_same _ _ others.2 in
+    omega (arith, ap length whole, length-events_at more others.0 others.1)
+
+pub few_events : (texts : Items) (events : List Event) → events_of texts ≡ Some events → length events ≤ MOST_EVENTS
+few_events texts events e =
+    let kept = kept_some (nat_le (item_count texts) MOST_EVENTS) (events_at texts) events e in
+    omega (arith, leb-true _ _ kept.0, length-events_at texts events kept.1)

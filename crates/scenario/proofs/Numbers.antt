@@ -1,5 +1,5 @@
 -- What a reader answers, as an option, and the numbers that texts are.
-use Rattle.std.proofs.Common.{◌≡◌, ℕ, ◌^◌, ◌<◌, ◌≤◌, nat_le, Bool, true, false, if◌then◌else◌, List, Option, Some, None, Result, Ok, Err, refl, sym, arith}
+use Rattle.std.proofs.Common.{◌≡◌, ℕ, ◌^◌, ◌<◌, ◌≤◌, nat_le, ◌&&◌, Bool, true, false, if◌then◌else◌, List, Option, Some, None, Result, Ok, Err, refl, sym, arith}
 use Rattle.std.specs.Prelude.{decimal, IfOk}
 use Rattle.std.specs.Result.{result_ok}
 use Rattle.std.specs.Str.Parse.{AllDigits, digits_value}
@@ -23,6 +23,14 @@ pub bind_some : {A B : Type 0} (o : Option A) (f : A → Option B) (y : B) → (
 bind_some None f y e = absurd cc
 bind_some (Some x) f y e = (x, refl, e)
 
+pub some_same : {A : Type 0} (x y : A) → Some x ≡ Some y → x ≡ y
+some_same x y e = cc
+
+-- what was kept, under a test
+pub kept_some : {A : Type 0} (b : Bool) (o : Option A) (y : A) → (if b then o else None) ≡ Some y → (b ≡ true) × (o ≡ Some y)
+kept_some true o y e = (refl, e)
+kept_some false o y e = absurd cc
+
 pub same_text-true : (a b : List ℕ) → same_text a b ≡ true → a ≡ b
 same_text-true a b = (pointwise_decides Decides-eqb a b).0
 
@@ -32,18 +40,15 @@ same_text-self a b = (pointwise_decides Decides-eqb a b).1
 own : IsNumeralModel (AllDigits 10) (digits_value 10)
 own = numerals_by_value _ tells_digits
 
-kept : (b : Bool) (n m : ℕ) → (if b then Some n else None) ≡ Some m → (b ≡ true) × (n ≡ m)
-kept true n m e = (refl, cc)
-kept false n m e = absurd cc
-
 pub number_of-sound : (most n : ℕ) (text : List ℕ) → number_of most text ≡ Some n → (n ≤ most) × (text ≡ decimal n)
 unfolding number_of
 number_of-sound most n text e =
-    let k = kept _ _ _ e in
+    let k = kept_some (nat_le (digits_value 10 text) most && same_text text (decimal (digits_value 10 text))) (Some (digits_value 10 text)) n e in
+    let value = some_same _ _ k.1 in
     let both = and_parts (nat_le (digits_value 10 text) most) (same_text text (decimal (digits_value 10 text))) k.0 in
     let le : digits_value 10 text ≤ most = grind (arith, nat_tests) in
     let same : text ≡ decimal (digits_value 10 text) = same_text-true _ _ both.1 in
-    (rw k.1 at le, rw k.1 at same)
+    (rw value at le, rw value at same)
 
 pub number_of-decimal : (most n : ℕ) (text : List ℕ) → most < 2 ^ 64 → n ≤ most → text ≡ decimal n → number_of most text ≡ Some n
 unfolding number_of

@@ -1,12 +1,22 @@
 -- Which texts are looked at.
-use Rattle.std.proofs.Common.{◌≡◌, ℕ, ◌<◌, ◌≤◌, nat_le, le-leb, Bool, true, false, List, length, None, refl}
-use Rattle.std.specs.Prelude.{IsUtf8}
+use Rattle.std.proofs.Common.{◌≡◌, ℕ, ◌<◌, ◌≤◌, ◌&&◌, nat_le, le-leb, Bool, true, false, List, length, Some, None, refl, ap, subst}
+use Rattle.std.specs.Prelude.{IsUtf8, codes}
 use Rattle.std.specs.Str.{is_utf8}
 use Rattle.std.proofs.lemmas.Bool.{lt-leb}
 use Rattle.std.proofs.lemmas.Str.{IsUtf8-from_is_utf8, is_utf8-from_IsUtf8}
 use Rattle.std.proofs.Math.Bool.{and-false}
 use Rattle.scenario.specs.declared.reader.TheConstants.{TEXT_MOST}
-use Rattle.scenario.specs.Scenario.{written, scenario_of}
+use Rattle.toml.specs.Data.{get_member, as_array}
+use Rattle.toml.specs.Parse.{parse_document}
+use Rattle.history.specs.declared.event_list.Event.{Event}
+use Rattle.history.specs.Topology.{Scenario}
+use Rattle.scenario.specs.declared.event_lists.TheConstants.{MOST_EVENTS}
+use Rattle.scenario.specs.Words.{◌>>=◌}
+use Rattle.scenario.specs.Tables.{has_only, natural_at}
+use Rattle.scenario.specs.Servers.{servers_at}
+use Rattle.scenario.proofs.Numbers.{bind_some, some_same, kept_some}
+use Rattle.scenario.proofs.EventsSoFar.{few_events}
+use Rattle.scenario.specs.Scenario.{scenario_keys, scenario_at, scenario_in, events_of, events_in, written, scenario_of}
 
 pub scenario_of-long : (text : List ℕ) → TEXT_MOST < length text → scenario_of text ≡ None
 unfolding scenario_of
@@ -23,3 +33,18 @@ scenario_of-bytes text other = rw (not_utf8 text (is_utf8 text) other refl, and-
 pub scenario_of-text : (text : List ℕ) → length text ≤ TEXT_MOST → IsUtf8 text → scenario_of text ≡ written text
 unfolding scenario_of
 scenario_of-text text le is = rw (le-leb (length text) TEXT_MOST le, is_utf8-from_IsUtf8 text is) refl
+
+pub few_events_of : (text : List ℕ) (s : Scenario) → scenario_of text ≡ Some s → length s.events ≤ MOST_EVENTS
+unfolding scenario_of scenario_in
+few_events_of text s e =
+    let kept = kept_some (nat_le (length text) TEXT_MOST && is_utf8 text) (written text) s e in
+    let table = bind_some (parse_document text) scenario_in s kept.1 in
+    let at = kept_some (has_only scenario_keys table.0) (scenario_at table.0) s table.2 in
+    let seed = bind_some (natural_at (codes "seed") table.0) _ s at.1 in
+    let topology = bind_some (servers_at (get_member (codes "server") table.0)) _ s seed.2 in
+    let events = bind_some (get_member (codes "events") table.0 >>= events_in) _ s topology.2 in
+    let value = bind_some (get_member (codes "events") table.0) events_in events.0 events.1 in
+    let texts = bind_some (as_array value.0) events_of events.0 value.2 in
+    let same : events.0 ≡ s.events = ap (λ (x : Scenario). x.events) (some_same _ _ events.2) in
+    let P : List Event → Type 0 = λ es. length es ≤ MOST_EVENTS in
+    subst P same (few_events texts.0 events.0 texts.2)

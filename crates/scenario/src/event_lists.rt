@@ -1,5 +1,5 @@
 //! The events of a text.
-ghost use Rattle.std.specs.Prelude.{◌≡◌, ◌≤◌, length, IfOk, IfSome};
+ghost use Rattle.std.specs.Prelude.{◌≡◌, IfOk};
 ghost use Rattle.toml.specs.View.{view, items_view};
 ghost use Rattle.scenario.specs.Scenario.{event_in, events_at, events_of, events_in};
 
@@ -22,8 +22,7 @@ fn event_in(alloc: Global, value: &Value) -> Result<Option<Event>, NoMemory>
 }
 
 fn each_event(alloc: Global, values: &[Value]) -> Result<Option<Events>, NoMemory>
-    ensures read { IfOk result (λ o. o ≡ events_at (items_view values.now)) }
-    ensures few { IfOk result (λ o. IfSome o (λ events. length events ≤ length values.now)) }
+    ensures { IfOk result (λ o. o ≡ events_at (items_view values.now)) }
 {
     let mut events = Events::new(alloc);
     for value in values {
@@ -37,8 +36,7 @@ fn each_event(alloc: Global, values: &[Value]) -> Result<Option<Events>, NoMemor
 
 #[tactic(auto, using(crate::proofs::TableLemmas::item_count_view))]
 fn events_from(alloc: Global, values: &[Value]) -> Result<Option<Events>, NoMemory>
-    ensures read { IfOk result (λ o. o ≡ events_of (items_view values.now)) }
-    ensures few { IfOk result (λ o. IfSome o (λ events. length events ≤ MOST_EVENTS)) }
+    ensures { IfOk result (λ o. o ≡ events_of (items_view values.now)) }
 {
     if values.len() > MOST_EVENTS {
         return Ok(None);
@@ -48,8 +46,7 @@ fn events_from(alloc: Global, values: &[Value]) -> Result<Option<Events>, NoMemo
 
 /// The events of a list of texts.
 pub(crate) fn events_in(alloc: Global, value: &Value) -> Result<Option<Events>, NoMemory>
-    ensures read { IfOk result (λ o. o ≡ events_in (view value.now)) }
-    ensures few { IfOk result (λ o. IfSome o (λ events. length events ≤ MOST_EVENTS)) }
+    ensures { IfOk result (λ o. o ≡ events_in (view value.now)) }
 {
     match value.as_array() {
         Some(values) => events_from(alloc, values),

@@ -1,5 +1,5 @@
 //! The scenario that a text is.
-ghost use Rattle.std.specs.Prelude.{◌≡◌, ◌≤◌, IfOk, IfErr, IfSome, Some, None, length, option_map};
+ghost use Rattle.std.specs.Prelude.{◌≡◌, ◌≤◌, length, IfOk, Some, None, option_map};
 ghost use Rattle.toml.specs.View.{table_view};
 ghost use Rattle.scenario.specs.Scenario.{scenario_at, scenario_in, written, scenario_of};
 ghost use Rattle.scenario.specs.Told.{told};
@@ -35,8 +35,7 @@ pub enum ScenarioFault {
 }
 
 fn scenario_at(alloc: Global, table: &Table) -> Result<Option<Scenario>, NoMemory>
-    ensures read { IfOk result (λ o. option_map told o ≡ scenario_at (table_view table.now)) }
-    ensures few { IfOk result (λ o. IfSome o (λ s. length s.events ≤ MOST_EVENTS)) }
+    ensures { IfOk result (λ o. option_map told o ≡ scenario_at (table_view table.now)) }
 {
     let Some(seed) = natural_at(table, "seed") else {
         return Ok(None);
@@ -59,8 +58,7 @@ fn scenario_at(alloc: Global, table: &Table) -> Result<Option<Scenario>, NoMemor
 
 #[tactic(auto, unfolding(crate::specs::Scenario::scenario_in))]
 fn scenario_in(alloc: Global, table: &Table) -> Result<Option<Scenario>, NoMemory>
-    ensures read { IfOk result (λ o. option_map told o ≡ scenario_in (table_view table.now)) }
-    ensures few { IfOk result (λ o. IfSome o (λ s. length s.events ≤ MOST_EVENTS)) }
+    ensures { IfOk result (λ o. option_map told o ≡ scenario_in (table_view table.now)) }
 {
     if !has_only(table, &["seed", "server", "events"]) {
         return Ok(None);
@@ -69,8 +67,7 @@ fn scenario_in(alloc: Global, table: &Table) -> Result<Option<Scenario>, NoMemor
 }
 
 fn written(alloc: Global, text: &str) -> Result<Option<Scenario>, NoMemory>
-    ensures read { IfOk result (λ o. option_map told o ≡ written text.now) }
-    ensures few { IfOk result (λ o. IfSome o (λ s. length s.events ≤ MOST_EVENTS)) }
+    ensures { IfOk result (λ o. option_map told o ≡ written text.now) }
 {
     match toml::table_from_str(alloc, text) {
         Ok(table) => scenario_in(alloc, &table),
@@ -80,8 +77,7 @@ fn written(alloc: Global, text: &str) -> Result<Option<Scenario>, NoMemory>
 }
 
 fn scenario_of(alloc: Global, bytes: &[u8]) -> Result<Option<Scenario>, NoMemory>
-    ensures read { IfOk result (λ o. option_map told o ≡ scenario_of bytes.now) }
-    ensures few { IfOk result (λ o. IfSome o (λ s. length s.events ≤ MOST_EVENTS)) }
+    ensures { IfOk result (λ o. option_map told o ≡ scenario_of bytes.now) }
 {
     if bytes.len() > TEXT_MOST {
         return Ok(None);

@@ -91,9 +91,9 @@ server_tells : (s : ServerSettings) (side : Side) (from : Ep) (x : List ℕ) →
 unfolding server_row
 server_tells s side from x =
     first_line-each (λ (z : Step). is_no_entry z.fate ≡ false)
-        (drops (not (is_solicitation x)) (not (is_link_local (source_in x))) (has_cone (source_in x)) (not (is_sum_right (source_in x) x)) (not (is_usable s.policy from)) (is_own s from.ip))
-        (sends_one fate.Advert side from (reply_bytes s.primary from (nonce_in x) (source_in x)))
-        (refl, (refl, (refl, (refl, (refl, (refl, tt)))))) refl
+    (drops (not (is_solicitation x)) (not (is_link_local (source_in x))) (has_cone (source_in x)) (not (is_sum_right (source_in x) x)) (not (is_usable s.policy from)) (is_own s from.ip))
+    (sends_one fate.Advert side from (reply_bytes s.primary from (nonce_in x) (source_in x)))
+    (refl, (refl, (refl, (refl, (refl, (refl, tt)))))) refl
 
 to_tells : (m : ℕ) (w : List Item) (e : Numbered) (n : ℕ) (item : Item) (r : Route) → IsTold (delivered_to m w e n item r)
 to_tells m w e n (udp src dst x) (reaches k (server a)) = record { delivered = sym (ap not (server_tells (server_settings a) (side_at (server a) dst) src x)) }

@@ -1,11 +1,8 @@
-use Rattle.std.proofs.Common.{◌≡◌, ◌≤◌, drop, length}
+use Rattle.std.proofs.Common.{◌≡◌, drop}
 use Rattle.toml.specs.View.{items_view}
 use Rattle.scenario.specs.Scenario.{events_at}
 use Rattle.scenario.proofs.EventsSoFar.{after_events}
 use Rattle.scenario.proofs.event_lists.each_event.Given as goal
 
 abbrev pub invariant-loop-value : goal.invariant-loop-value
-invariant-loop-value l = record {
-  read : after_events l.events (events_at (items_view (drop l.value-index l.values))) ≡ events_at (items_view l.values);
-  few : length l.events ≤ l.value-index;
-}
+invariant-loop-value l = after_events l.events (events_at (items_view (drop l.value-index l.values))) ≡ events_at (items_view l.values)
