@@ -1,2 +1,6 @@
-pub mod SumLemmas
-pub mod Rows
+pub mod Peers
+pub mod Silence
+pub mod Lengths
+pub mod Steps
+pub mod Worked
+pub mod RowFates

@@ -1,5 +1,5 @@
 -- What the server answers, against the step that its table gives.
-use Rattle.std.specs.Prelude.{◌≡◌, ◌≤◌, ◌+◌, ℕ, List, length, take, Some}
+use Rattle.std.specs.Prelude.{◌≡◌, ◌≤◌, ℕ, List, length, take, Some}
 use Rattle.teredo_node.specs.declared.fates.Fate.TheVariants as fate
 use Rattle.teredo_node.specs.Step.{Step, just}
 use Rattle.server_core.specs.declared.reply.Answer.{Answer}
@@ -11,9 +11,3 @@ abbrev pub Answers : Answer → List ℕ → Step → Type 0
 Answers (Drop fate) out step = step ≡ just fate
 Answers (Send fate side to len) out step = (step ≡ sends_one fate side to (take len out)) × (len ≤ length out)
 Answers (Six span) out step = step ≡ record (just fate.Six) { six = Some span }
-
--- what is sent is at most 56 bytes longer than x
-abbrev pub IsShort : Answer → List ℕ → Type 0
-IsShort (Drop fate) x = Unit {0}
-IsShort (Send fate side to len) x = len ≤ length x + 56
-IsShort (Six span) x = Unit {0}

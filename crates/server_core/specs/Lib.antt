@@ -1,5 +1,6 @@
-pub mod Checksum
-pub mod Solicitation
-pub mod Advertisement
+pub mod Conditions
+pub mod Rules
+pub mod Outputs
 pub mod Server
 pub mod Answers
+pub mod Bounds

@@ -1,36 +1,46 @@
--- The server's table (RFC 4380, section 5.3.2), as far as it is built: one Router Solicitation is answered.
-use Rattle.std.specs.Prelude.{ℕ, not, ◌||◌, Bool, List, [], ◌∷◌}
-use Rattle.td_base.specs.Ip4.{same_ip}
-use Rattle.td_base.specs.Reach.{is_usable, is_link_local}
-use Rattle.td_base.specs.declared.ipv4.Ip4.{Ip4}
+-- What the server does with a datagram (RFC 4380, section 5.3).
+use Rattle.std.specs.Prelude.{ℕ, List, [], ◌∷◌, drop, if◌then◌else◌, Some, None, Result, Ok, Err}
+use Rattle.td_base.specs.declared.ipv6.Ip6.{Ip6}
 use Rattle.td_base.specs.declared.endpoint.Ep.{Ep}
 use Rattle.td_base.specs.declared.small.Side.{Side}
-use Rattle.teredo_node.specs.declared.fates.Fate.TheVariants.{Advert, Unbuilt}
-use Rattle.teredo_node.specs.Step.{Step, just}
-use Rattle.teredo_node.specs.Rows.{first_line}
-use Rattle.server_core.specs.declared.server.ServerSettings.{ServerSettings}
-use Rattle.server_core.specs.Solicitation.{is_solicitation, source_in, nonce_in, has_cone, is_sum_right}
-use Rattle.server_core.specs.Advertisement.{reply_bytes}
+use Rattle.td_base.specs.declared.small.Side.TheVariants.{Primary, Secondary}
+use Rattle.indications.specs.Leads.{nonce_of}
+use Rattle.bubble.specs.Payloads.{Value, payload_at}
+use Rattle.bubble.specs.declared.fault.PayloadFault.{PayloadFault}
+use Rattle.teredo_addr.specs.Teredo.{has_cone, embedded}
 use Rattle.teredo_node.specs.declared.fates.Fate.{Fate}
-
--- one of the server's two addresses
-unfoldable pub is_own : ServerSettings → Ip4 → Bool
-is_own s ip = same_ip ip s.primary || same_ip ip s.secondary
+use Rattle.teredo_node.specs.declared.fates.Fate.TheVariants as fate
+use Rattle.teredo_node.specs.Step.{Step, just, rest_of}
+use Rattle.server_core.specs.declared.server.ServerSettings.{ServerSettings}
+use Rattle.server_core.specs.declared.rules.Rule.{Rule}
+use Rattle.server_core.specs.declared.rules.Rule.TheVariants.{Dropped, Advert, ForwardOrigin, Forward, Six}
+use Rattle.server_core.specs.Rules.{rule_of}
+use Rattle.server_core.specs.Outputs.{advert_bytes, forwarded}
 
 -- a step that sends one datagram
 abbrev pub sends_one : Fate → Side → Ep → List ℕ → Step
 sends_one fate side to bytes = record (just fate) { sends = record { side = side; to = to; bytes = bytes } ∷ [] }
 
+abbrev pub other_side : Side → Side
+other_side Primary = Secondary
+other_side Secondary = Primary
+
+-- an advertisement leaves from the other address where the solicitation's source has the cone bit
+abbrev pub answering_side : Side → Ip6 → Side
+answering_side side client = if has_cone client then other_side side else side
+
+-- a rule carried out
+abbrev pub step_of : ServerSettings → Side → Ep → List ℕ → Value → Rule → Step
+step_of s side from x v (Dropped fate) = just fate
+step_of s side from x v Advert = sends_one fate.Advert (answering_side side v.packet.src) from (advert_bytes s from (nonce_of v.lead) v.packet.src)
+step_of s side from x v ForwardOrigin = sends_one fate.ForwardOrigin Primary (embedded v.packet.dst) (forwarded (Some from) (drop v.lead.at x))
+step_of s side from x v Forward = sends_one fate.Forward Primary (embedded v.packet.dst) (forwarded None (drop v.lead.at x))
+step_of s side from x v Six = record (just fate.Six) { six = Some (rest_of v.lead.at x) }
+
+abbrev pub by_payload : ServerSettings → Side → Ep → List ℕ → Result Value PayloadFault → Step
+by_payload s side from x (Ok v) = step_of s side from x v (rule_of s from v)
+by_payload s side from x (Err fault) = just fate.Malformed
+
 -- what the server does with a datagram that came from `from` to the address `side`
 unfoldable pub server_row : ServerSettings → Side → Ep → List ℕ → Step
-server_row s side from x =
-    let source = source_in x in
-    first_line
-    ((not (is_solicitation x), just Unbuilt)
-    ∷ (not (is_link_local source), just Unbuilt)
-    ∷ (has_cone source, just Unbuilt)
-    ∷ (not (is_sum_right source x), just Unbuilt)
-    ∷ (not (is_usable s.policy from), just Unbuilt)
-    ∷ (is_own s from.ip, just Unbuilt)
-    ∷ [])
-    (sends_one Advert side from (reply_bytes s.primary from (nonce_in x) source))
+server_row s side from x = by_payload s side from x (payload_at x)

@@ -1,87 +1,80 @@
-ghost use Rattle.std.specs.Prelude.{◌≡◌, ◌≤◌, ◌++◌, length, take, drop};
-ghost use Rattle.server_core.specs.Advertisement.{server_address, hidden, advertisement, reply_bytes};
+ghost use Rattle.std.specs.Prelude.{◌≡◌, ◌≤◌, ◌+◌, length, take, Some};
+ghost use Rattle.indications.specs.Blocks.{indications_len};
+ghost use Rattle.icmp6.specs.Writing.{message_bytes};
+ghost use Rattle.server_core.specs.Outputs.{advert_options, advertisement, advert_bytes};
 
-use crate::checksum::checksum;
-use crate::solicitation::AUTHENTICATION;
-use td_base::{Ep, Ip4, Ip6, put, put16};
+use crate::conditions::own_address;
+use crate::server::ServerSettings;
+use bubble::MAX_DATAGRAM;
+use icmp6::{Msg, ROUTER_HOP};
+use ipv6_packet::{HEADER, NEXT_ICMP, Packet};
+use td_base::{Ep, Ip4, Ip6, put};
 
-/// The UDP port of Teredo servers: RFC 4380, section 2.7.
-pub const TEREDO_PORT: u16 = 3544;
+/// The bytes of the two options.
+const OPTIONS: usize = 40;
 
-/// The bytes of an answer.
-pub const ANSWER_LENGTH: usize = 117;
+/// The bytes of an advertisement.
+pub const ADVERTISEMENT: usize = 56;
 
-/// The bytes of a Router Advertisement with its two options.
-pub const MESSAGE_LENGTH: usize = 56;
+/// Where the server's address stands in the advertised prefix, counted from the first option.
+const SERVER: usize = 20;
 
-/// Where the checksum stands in a message.
-const CHECKSUM: usize = 2;
-
-/// Where the server's address stands in the advertised prefix.
-const PREFIX_SERVER: usize = 36;
-
-/// A Router Advertisement without its checksum, for a server at 0.0.0.0: RFC 4861, section 4.2. Its options are
-/// one Prefix Information (64 bits, autonomous, both lifetimes infinite, the prefix 2001:0::: section 4.6.2) and
-/// one MTU of 1,280 bytes (section 4.6.4).
-const ADVERTISEMENT: [u8; MESSAGE_LENGTH] = [
-    134, 0, 0, 0, 0, 0, 0, 0, 0, 0, 0, 0, 0, 0, 0, 0, // the message
-    3, 4, 64, 0x40, 255, 255, 255, 255, 255, 255, 255, 255, 0, 0, 0, 0, // the prefix's option
+/// One Prefix Information (RFC 4861, section 4.6.2: 64 bits, autonomous, both lifetimes without end, 2001:0:P::)
+/// and one MTU of 1,280 bytes (section 4.6.4), for a server at 0.0.0.0.
+const ADVERT_OPTIONS: [u8; OPTIONS] = [
+    3, 4, 64, 0x40, 255, 255, 255, 255, 255, 255, 255, 255, 0, 0, 0, 0, // to the prefix
     0x20, 1, 0, 0, 0, 0, 0, 0, 0, 0, 0, 0, 0, 0, 0, 0, // the prefix
     5, 1, 0, 0, 0, 0, 5, 0, // the MTU
 ];
 
-/// The confirmation 0, and the kind of an origin indication: RFC 4380, section 5.1.1.
-const CONFIRMATION_AND_ORIGIN: [u8; 3] = [0; 3];
-
-/// An IPv6 header up to its source: 56 bytes of payload, ICMPv6, hop limit 255.
-const HEADER: [u8; 8] = [0x60, 0, 0, 0, 0, 56, 58, 255];
-
-/// The bytes of an address with every bit inverted: RFC 4380, section 4.
-fn hidden(ip: Ip4) -> [u8; 4]
-    ensures { result ≡ hidden ip.0 }
+/// The options of a server's advertisement.
+fn options(primary: Ip4) -> [u8; OPTIONS]
+    ensures { result ≡ advert_options primary }
 {
-    let [a, b, c, d] = ip.0;
-    [!a, !b, !c, !d]
+    let mut options = ADVERT_OPTIONS;
+    put(&mut options, SERVER, &primary.0);
+    options
 }
 
-/// The link-local address of a server: fe80::/64, the flags with the cone bit, and its endpoint with every bit
-/// inverted.
-#[tactic(auto, unfolding(crate::specs::Advertisement::server_address))]
-pub fn server_address(primary: Ip4) -> Ip6
-    ensures { result ≡ server_address primary }
+/// A server's advertisement to a client.
+fn advertisement(primary: Ip4, server: Ip6, client: Ip6) -> [u8; ADVERTISEMENT]
+    ensures { result ≡ message_bytes server client (advertisement primary) }
 {
-    let [e, f] = (!TEREDO_PORT).to_be_bytes();
-    let [a, b, c, d] = hidden(primary);
-    Ip6([0xfe, 0x80, 0, 0, 0, 0, 0, 0, 0x80, 0, e, f, a, b, c, d])
+    let message = Msg::RouterAdvert {
+        hop: 0,
+        flags: 0,
+        life: 0,
+        reach: 0,
+        retrans: 0,
+        options: &options(primary),
+    };
+    let mut bytes = [0; ADVERTISEMENT];
+    icmp6::write(&message, server, client, &mut bytes).unwrap();
+    bytes
 }
 
-/// The Router Advertisement of a server, for a destination.
-fn advertisement(primary: Ip4, server: Ip6, destination: Ip6) -> [u8; MESSAGE_LENGTH]
-    ensures { result ≡ advertisement primary server destination }
+/// Writes the answer to a client's solicitation from `from`, and answers how many bytes it has.
+#[tactic(auto, unfolding(crate::specs::Outputs::advert_bytes))]
+pub fn write_advert(
+    settings: &ServerSettings,
+    from: Ep,
+    nonce: Option<u64>,
+    client: Ip6,
+    out: &mut [u8],
+) -> usize
+    requires { length out.old ≡ MAX_DATAGRAM }
+    ensures len { result ≡ indications_len nonce (Some from) + HEADER + ADVERTISEMENT }
+    ensures written { take result out.new ≡ advert_bytes settings.now from nonce client }
 {
-    let mut message = ADVERTISEMENT;
-    put(&mut message, PREFIX_SERVER, &primary.0);
-    let sum = checksum(server, destination, &message);
-    put16(&mut message, CHECKSUM, sum);
-    message
-}
-
-/// Writes the answer to a solicitation from `from`, and answers its length.
-pub fn write_reply(primary: Ip4, from: Ep, nonce: &[u8], destination: Ip6, out: &mut [u8]) -> usize
-    requires nonce { length nonce.now ≡ 8 }
-    requires room { ANSWER_LENGTH ≤ length out.old }
-    ensures len { result ≡ ANSWER_LENGTH }
-    ensures written { take ANSWER_LENGTH out.new ≡ reply_bytes primary from nonce.now destination }
-{
-    let server = server_address(primary);
-    let message = advertisement(primary, server, destination);
-    let at = put(out, 0, &AUTHENTICATION);
-    let at = put(out, at, nonce);
-    let at = put(out, at, &CONFIRMATION_AND_ORIGIN);
-    let at = put16(out, at, !from.port);
-    let at = put(out, at, &hidden(from.ip));
-    let at = put(out, at, &HEADER);
-    let at = put(out, at, &server.0);
-    let at = put(out, at, &destination.0);
-    put(out, at, &message)
+    let server = own_address(settings);
+    let packet = Packet {
+        class: 0,
+        flow: 0,
+        next: NEXT_ICMP,
+        hop: ROUTER_HOP,
+        src: server,
+        dst: client,
+        body: &advertisement(settings.primary, server, client),
+    };
+    bubble::write(nonce, Some(from), &packet, out).unwrap()
 }

@@ -1,16 +1,21 @@
-ghost use Rattle.std.specs.Prelude.{◌≡◌};
-ghost use Rattle.server_core.specs.Server.{server_row, is_own};
-ghost use Rattle.server_core.specs.Answers.{Answers, IsShort};
+ghost use Rattle.std.specs.Prelude.{◌≡◌, ◌≤◌};
+ghost use Rattle.server_core.specs.Server.{server_row, answering_side};
+ghost use Rattle.server_core.specs.Answers.{Answers};
+ghost use Rattle.server_core.specs.Bounds.{IsShort, IsNamed, GoesAway, EndsThere, outputs};
 
-use crate::advertisement::write_reply;
+use crate::advertisement::write_advert;
+use crate::forwarding::{write_alone, write_with_origin};
 use crate::reply::Answer;
-use crate::solicitation::{is_cone, is_solicitation, is_sum_right, nonce_of, source_of};
+use crate::rules::{Rule, first_rule};
+use bubble::MAX_DATAGRAM;
+use indications::nonce_of;
 use std::marker::Model;
-use td_base::{Ep, Ip4, Policy, Side, is_link_local, usable};
+use td_base::{Ep, Ip4, Ip6, Policy, Side, Span};
+use teredo_addr::{embedded, has_cone};
 use teredo_node::Fate;
 
-/// The most bytes of a datagram: RFC 4380, section 5.1.1, with room for every indication.
-pub const DATAGRAM_LIMIT: usize = 1400;
+/// The most bytes of a datagram, and of what the server sends.
+pub const DATAGRAM_LIMIT: usize = MAX_DATAGRAM;
 
 /// A server's two addresses, and which addresses it takes for global.
 #[derive(Clone, Copy, Debug)]
@@ -56,22 +61,34 @@ impl Server {
         bytes: &[u8],
         out: &mut [u8; DATAGRAM_LIMIT],
     ) -> Answer
+        // It is the step that the table gives.
         ensures row { Answers result out.new (server_row self.now side from bytes.now) }
+        // That step has one output at most.
+        ensures one { outputs (server_row self.now side from bytes.now) ≤ 1 }
+        ensures named { IsNamed result }
         ensures short { IsShort result bytes.now }
+        ensures away { GoesAway self.now result }
+        ensures quiet { EndsThere self.now result out.new }
     {
         answer_by(&self.settings, side, from, bytes, out)
     }
 }
 
-/// Whether an address is one of the server's two.
-#[tactic(auto, unfolding(crate::specs::Server::is_own))]
-fn is_own(settings: &ServerSettings, ip: Ip4) -> bool
-    ensures { result ≡ is_own settings.now ip }
+/// The side that an advertisement leaves from: the other one where the client asks whether its NAT lets in what
+/// comes from an address that it sent nothing to (RFC 4380, section 5.3.2).
+fn answering_side(side: Side, client: Ip6) -> Side
+    ensures { result ≡ answering_side side client }
 {
-    ip == settings.primary || ip == settings.secondary
+    if !has_cone(client) {
+        return side;
+    }
+    match side {
+        Side::Primary => Side::Secondary,
+        Side::Secondary => Side::Primary,
+    }
 }
 
-/// The table, over the settings alone.
+/// The table and its outputs, over the settings alone.
 #[tactic(auto, unfolding(crate::specs::Server::server_row))]
 fn answer_by(
     settings: &ServerSettings,
@@ -81,35 +98,42 @@ fn answer_by(
     out: &mut [u8; DATAGRAM_LIMIT],
 ) -> Answer
     ensures row { Answers result out.new (server_row settings.now side from bytes.now) }
+    ensures named { IsNamed result }
     ensures short { IsShort result bytes.now }
+    ensures away { GoesAway settings.now result }
 {
-    let unbuilt = Answer::Drop {
-        fate: Fate::Unbuilt,
+    let Ok(payload) = bubble::read(bytes) else {
+        return Answer::Drop {
+            fate: Fate::Malformed,
+        };
     };
-    if !is_solicitation(bytes) {
-        return unbuilt;
-    }
-    let source = source_of(bytes);
-    if !is_link_local(source) {
-        return unbuilt;
-    }
-    if is_cone(source) {
-        return unbuilt;
-    }
-    if !is_sum_right(source, bytes) {
-        return unbuilt;
-    }
-    if !usable(settings.policy, from) {
-        return unbuilt;
-    }
-    if is_own(settings, from.ip) {
-        return unbuilt;
-    }
-    let len = write_reply(settings.primary, from, nonce_of(bytes), source, out);
-    Answer::Send {
-        fate: Fate::Advert,
-        side,
-        to: from,
-        len,
+    let at = payload.lead.at;
+    let packet = &payload.packet;
+    match first_rule(settings, from, &payload) {
+        Rule::Dropped(fate) => Answer::Drop { fate },
+        Rule::Advert => Answer::Send {
+            fate: Fate::Advert,
+            side: answering_side(side, packet.src),
+            to: from,
+            len: write_advert(settings, from, nonce_of(&payload.lead), packet.src, out),
+        },
+        Rule::ForwardOrigin => Answer::Send {
+            fate: Fate::ForwardOrigin,
+            side: Side::Primary,
+            to: embedded(packet.dst),
+            len: write_with_origin(from, &bytes[at..], out),
+        },
+        Rule::Forward => Answer::Send {
+            fate: Fate::Forward,
+            side: Side::Primary,
+            to: embedded(packet.dst),
+            len: write_alone(&bytes[at..], out),
+        },
+        Rule::Six => Answer::Six {
+            span: Span {
+                at,
+                len: bytes.len() - at,
+            },
+        },
     }
 }

@@ -1,114 +1,309 @@
-//! A worked solicitation with its answer, and what is wrong with any other.
+//! A datagram for each line of the table, and the answer that it draws.
 
 use crate::{Answer, DATAGRAM_LIMIT, Server};
-use td_base::{Ep, Ip4, Policy, Side};
+use std::test::Fail;
+use td_base::{Ep, Ip4, Policy, Side, Span};
 use teredo_node::Fate;
-
-/// A client's solicitation without the cone bit.
-const SOLICITATION: [u8; 61] = [
-    0x00, 0x01, 0x00, 0x00, 0x01, 0x02, 0x03, 0x04, 0x05, 0x06, 0x07, 0x08, 0x00, 0x60, 0x00, 0x00,
-    0x00, 0x00, 0x08, 0x3a, 0xff, 0xfe, 0x80, 0x00, 0x00, 0x00, 0x00, 0x00, 0x00, 0x00, 0x00, 0x63,
-    0xbf, 0x39, 0xcc, 0x9b, 0xf8, 0xff, 0x02, 0x00, 0x00, 0x00, 0x00, 0x00, 0x00, 0x00, 0x00, 0x00,
-    0x00, 0x00, 0x00, 0x00, 0x02, 0x85, 0x00, 0x43, 0xb3, 0x00, 0x00, 0x00, 0x00,
-];
-
-/// Its answer, where it came from 198.51.100.7:40000.
-const ADVERTISEMENT: [u8; 117] = [
-    0x00, 0x01, 0x00, 0x00, 0x01, 0x02, 0x03, 0x04, 0x05, 0x06, 0x07, 0x08, 0x00, 0x00, 0x00, 0x63,
-    0xbf, 0x39, 0xcc, 0x9b, 0xf8, 0x60, 0x00, 0x00, 0x00, 0x00, 0x38, 0x3a, 0xff, 0xfe, 0x80, 0x00,
-    0x00, 0x00, 0x00, 0x00, 0x00, 0x80, 0x00, 0xf2, 0x27, 0x3f, 0xff, 0xfd, 0xfe, 0xfe, 0x80, 0x00,
-    0x00, 0x00, 0x00, 0x00, 0x00, 0x00, 0x00, 0x63, 0xbf, 0x39, 0xcc, 0x9b, 0xf8, 0x86, 0x00, 0x63,
-    0x98, 0x00, 0x00, 0x00, 0x00, 0x00, 0x00, 0x00, 0x00, 0x00, 0x00, 0x00, 0x00, 0x03, 0x04, 0x40,
-    0x40, 0xff, 0xff, 0xff, 0xff, 0xff, 0xff, 0xff, 0xff, 0x00, 0x00, 0x00, 0x00, 0x20, 0x01, 0x00,
-    0x00, 0xc0, 0x00, 0x02, 0x01, 0x00, 0x00, 0x00, 0x00, 0x00, 0x00, 0x00, 0x00, 0x05, 0x01, 0x00,
-    0x00, 0x00, 0x00, 0x05, 0x00,
-];
 
 const CLIENT: Ep = Ep {
     ip: Ip4([198, 51, 100, 7]),
     port: 40000,
 };
 
-const UNBUILT: Answer = Answer::Drop {
-    fate: Fate::Unbuilt,
+const OTHER_CLIENT: Ep = Ep {
+    ip: Ip4([203, 0, 113, 5]),
+    port: 9,
 };
 
-fn server() -> Server {
-    Server::new(Ip4([192, 0, 2, 1]), Ip4([192, 0, 2, 2]), Policy::Strict)
+/// A client's solicitation with a nonce.
+const SOLICITATION: &str =
+    "000100000102030405060708006000000000083afffe80000000000000000063bf39cc9bf8ff020000000000000000000000000002850043b300000000";
+
+#[derive(Clone, Copy)]
+struct Line {
+    from: Ep,
+    datagram: &'static str,
+    answer: Answer,
+    sent: &'static str,
 }
 
-#[test]
-fn answers_a_solicitation(rt: HostRuntime) {
-    for side in [Side::Primary, Side::Secondary] {
-        let mut out = [0; DATAGRAM_LIMIT];
-        let answer = server().answer(side, CLIENT, &SOLICITATION, &mut out);
-        let wanted = Answer::Send {
-            fate: Fate::Advert,
+fn ep(ip: [u8; 4], port: u16) -> Ep {
+    Ep { ip: Ip4(ip), port }
+}
+
+fn dropped(from: Ep, fate: Fate, datagram: &'static str) -> Line {
+    Line {
+        from,
+        datagram,
+        answer: Answer::Drop { fate },
+        sent: "",
+    }
+}
+
+fn sent(fate: Fate, side: Side, to: Ep, datagram: &'static str, sent: &'static str) -> Line {
+    Line {
+        from: CLIENT,
+        datagram,
+        answer: Answer::Send {
+            fate,
             side,
-            to: CLIENT,
-            len: ADVERTISEMENT.len(),
-        };
-        assert_eq!(rt; answer, wanted);
-        assert!(rt; out[..117] == ADVERTISEMENT[..]);
+            to,
+            len: sent.len() / 2,
+        },
+        sent,
     }
 }
 
-/// Every byte but the nonce's decides, the reserved ones and the source's by the checksum.
-#[test]
-fn drops_what_is_changed_in_a_byte(rt: HostRuntime) {
-    for place in 0..SOLICITATION.len() {
-        let mut bytes = SOLICITATION;
-        bytes[place] ^= 1;
-        let mut out = [0; DATAGRAM_LIMIT];
-        let answer = server().answer(Side::Primary, CLIENT, &bytes, &mut out);
-        let is_nonce = 4 <= place && place < 12;
-        assert_eq!(rt; answer != UNBUILT, is_nonce, "at {place}");
-    }
+fn lines() -> [Line; 28] {
+    [
+        // malformed: a byte of the packet is missing
+        dropped(
+            CLIENT,
+            Fate::Malformed,
+            "6000000000083afffe80000000000000000063bf39cc9bf8ff020000000000000000000000000002850043b3000000",
+        ),
+        // keyed: an identifier
+        dropped(
+            CLIENT,
+            Fate::Keyed,
+            "000101006b0102030405060708006000000000083afffe80000000000000000063bf39cc9bf8ff020000000000000000000000000002850043b300000000",
+        ),
+        // keyed: a value
+        dropped(
+            CLIENT,
+            Fate::Keyed,
+            "000100016b0102030405060708006000000000083afffe80000000000000000063bf39cc9bf8ff020000000000000000000000000002850043b300000000",
+        ),
+        // kind: UDP
+        dropped(
+            CLIENT,
+            Fate::Kind,
+            "600000000004114020010000c0000201000063bf39cc9bf820010000c00002010000fff634ff8efa61626364",
+        ),
+        // kind: next header 59, but a body
+        dropped(
+            CLIENT,
+            Fate::Kind,
+            "6000000000013b4020010000c0000201000063bf39cc9bf820010000c00002010000fff634ff8efa61",
+        ),
+        // icmp: the checksum of another solicitation
+        dropped(
+            CLIENT,
+            Fate::Icmp,
+            "6000000000083afffe80000000000000000063bf39cc9bf8ff0200000000000000000000000000028500c3b200000000",
+        ),
+        // source: port 0
+        dropped(
+            ep([198, 51, 100, 7], 0),
+            Fate::Source,
+            "6000000000083afffe80000000000000000063bf39cc9bf8ff020000000000000000000000000002850043b300000000",
+        ),
+        // source: a private address
+        dropped(
+            ep([10, 0, 0, 1], 40000),
+            Fate::Source,
+            "6000000000083afffe80000000000000000063bf39cc9bf8ff020000000000000000000000000002850043b300000000",
+        ),
+        // source: loopback
+        dropped(
+            ep([127, 0, 0, 1], 40000),
+            Fate::Source,
+            "6000000000083afffe80000000000000000063bf39cc9bf8ff020000000000000000000000000002850043b300000000",
+        ),
+        // loop: from the primary address
+        dropped(
+            ep([192, 0, 2, 1], 3544),
+            Fate::Loop,
+            "6000000000083afffe80000000000000000063bf39cc9bf8ff020000000000000000000000000002850043b300000000",
+        ),
+        // loop: from the secondary address
+        dropped(
+            ep([192, 0, 2, 2], 3544),
+            Fate::Loop,
+            "6000000000083afffe80000000000000000063bf39cc9bf8ff020000000000000000000000000002850043b300000000",
+        ),
+        // own_echo
+        dropped(
+            CLIENT,
+            Fate::OwnEcho,
+            "6000000000103afffe80000000000000000063bf39cc9bf8fe800000000000008000f2273ffffdfe800088f1000100020102030405060708",
+        ),
+        // advert: with a nonce
+        sent(
+            Fate::Advert,
+            Side::Primary,
+            CLIENT,
+            "000100000102030405060708006000000000083afffe80000000000000000063bf39cc9bf8ff020000000000000000000000000002850043b300000000",
+            "00010000010203040506070800000063bf39cc9bf86000000000383afffe800000000000008000f2273ffffdfefe80000000000000000063bf39cc9bf88600639800000000000000000000000003044040ffffffffffffffff0000000020010000c000020100000000000000000501000000000500",
+        ),
+        // advert: without one
+        sent(
+            Fate::Advert,
+            Side::Primary,
+            CLIENT,
+            "6000000000083afffe80000000000000000063bf39cc9bf8ff020000000000000000000000000002850043b300000000",
+            "000063bf39cc9bf86000000000383afffe800000000000008000f2273ffffdfefe80000000000000000063bf39cc9bf88600639800000000000000000000000003044040ffffffffffffffff0000000020010000c000020100000000000000000501000000000500",
+        ),
+        // advert: with the cone bit
+        sent(
+            Fate::Advert,
+            Side::Secondary,
+            CLIENT,
+            "000100000102030405060708006000000000083afffe80000000000000800063bf39cc9bf8ff0200000000000000000000000000028500c3b200000000",
+            "00010000010203040506070800000063bf39cc9bf86000000000383afffe800000000000008000f2273ffffdfefe80000000000000800063bf39cc9bf88600e39700000000000000000000000003044040ffffffffffffffff0000000020010000c000020100000000000000000501000000000500",
+        ),
+        // mismatch: another port
+        dropped(
+            ep([198, 51, 100, 7], 40001),
+            Fate::Mismatch,
+            "6000000000003bff20010000c0000201000063bf39cc9bf820010000c00002010000fff634ff8efa",
+        ),
+        // mismatch: another address
+        dropped(
+            ep([198, 51, 100, 8], 40000),
+            Fate::Mismatch,
+            "6000000000003bff20010000c0000201000063bf39cc9bf820010000c00002010000fff634ff8efa",
+        ),
+        // not_ours: for a client of another server
+        dropped(
+            CLIENT,
+            Fate::NotOurs,
+            "6000000000003bff20010db800000000000000000000000120010000c63364010000fff634ff8efa",
+        ),
+        // not_ours: for no client
+        dropped(
+            CLIENT,
+            Fate::NotOurs,
+            "6000000000003bff20010db800000000000000000000000120010db8000000000000000000000002",
+        ),
+        // embedded: a private address
+        dropped(
+            CLIENT,
+            Fate::Embedded,
+            "6000000000003bff20010000c0000201000063bf39cc9bf820010000c00002010000fff63f57fffe",
+        ),
+        // embedded: port 0
+        dropped(
+            CLIENT,
+            Fate::Embedded,
+            "6000000000003bff20010000c0000201000063bf39cc9bf820010000c63364010000ffff34ff8efa",
+        ),
+        // loop: for the primary address
+        dropped(
+            CLIENT,
+            Fate::Loop,
+            "6000000000003bff20010000c0000201000063bf39cc9bf820010000c00002010000f2273ffffdfe",
+        ),
+        // loop: for the secondary address
+        dropped(
+            CLIENT,
+            Fate::Loop,
+            "6000000000003bff20010000c0000201000063bf39cc9bf820010000c63364010000fff63ffffdfd",
+        ),
+        // forward_origin: a bubble, its own origin left out
+        sent(
+            Fate::ForwardOrigin,
+            Side::Primary,
+            OTHER_CLIENT,
+            "000100000102030405060708000000fff834ff8ef86000000000003bff20010000c0000201000063bf39cc9bf820010000c00002010000fff634ff8efa",
+            "000063bf39cc9bf86000000000003bff20010000c0000201000063bf39cc9bf820010000c00002010000fff634ff8efa",
+        ),
+        // forward_origin: from outside Teredo
+        sent(
+            Fate::ForwardOrigin,
+            Side::Primary,
+            OTHER_CLIENT,
+            "6000000000103a4020010db800000000000000000000000120010000c00002010000fff634ff8efa80009bf0000100020102030405060708",
+            "000063bf39cc9bf86000000000103a4020010db800000000000000000000000120010000c00002010000fff634ff8efa80009bf0000100020102030405060708",
+        ),
+        // forward: for a client of another server
+        sent(
+            Fate::Forward,
+            Side::Primary,
+            OTHER_CLIENT,
+            "6000000000003bff20010000c0000201000063bf39cc9bf820010000c63364018000fff634ff8efa",
+            "6000000000003bff20010000c0000201000063bf39cc9bf820010000c63364018000fff634ff8efa",
+        ),
+        // six
+        Line {
+            from: CLIENT,
+            datagram: "000100000102030405060708006000000000103a4020010000c0000201000063bf39cc9bf820010db80000000000000000000000018000265d000100020102030405060708",
+            answer: Answer::Six {
+                span: Span { at: 13, len: 56 },
+            },
+            sent: "",
+        },
+        // dest: all nodes
+        dropped(
+            CLIENT,
+            Fate::Dest,
+            "6000000000003bff20010000c0000201000063bf39cc9bf8ff020000000000000000000000000001",
+        ),
+    ]
+}
+
+fn server(policy: Policy) -> Server {
+    Server::new(Ip4([192, 0, 2, 1]), Ip4([192, 0, 2, 2]), policy)
 }
 
 #[test]
-fn drops_other_lengths(rt: HostRuntime) {
-    let mut longer = [0; 62];
-    longer[..61].copy_from_slice(&SOLICITATION);
-    for len in 0..62 {
+fn each_line_of_the_table(rt: HostRuntime) -> Result<(), Fail> {
+    for (number, line) in lines().iter().enumerate() {
+        let Line {
+            from,
+            datagram,
+            answer,
+            sent,
+        } = *line;
+        let datagram = hex::decode(rt.alloc(), datagram)?;
+        let sent = hex::decode(rt.alloc(), sent)?;
         let mut out = [0; DATAGRAM_LIMIT];
-        let answer = server().answer(Side::Primary, CLIENT, &longer[..len], &mut out);
-        assert_eq!(rt; answer != UNBUILT, len == 61, "at {len}");
+        let found = server(Policy::Strict).answer(
+            Side::Primary,
+            from,
+            datagram.as_slice(),
+            &mut out,
+        );
+        assert_eq!(rt; found, answer, "line {number}");
+        assert!(rt; out.starts_with(sent.as_slice()), "line {number}");
     }
+    Ok(())
+}
+
+/// The header of a message of 1,240 bytes between two clients, and what of it isn't 0.
+const LARGEST: [u8; 44] = [
+    0x60, 0x00, 0x00, 0x00, 0x04, 0xd8, 0x3a, 0x40, 0x20, 0x01, 0x00, 0x00, 0xc0, 0x00, 0x02, 0x01,
+    0x00, 0x00, 0x63, 0xbf, 0x39, 0xcc, 0x9b, 0xf8, 0x20, 0x01, 0x00, 0x00, 0xc0, 0x00, 0x02, 0x01,
+    0x00, 0x00, 0xff, 0xf6, 0x34, 0xff, 0x8e, 0xfa, 0x00, 0x00, 0x39, 0x73,
+];
+
+#[test]
+fn the_largest_packet_goes_on(rt: HostRuntime) {
+    let mut datagram = [0; 1281];
+    datagram[..44].copy_from_slice(&LARGEST);
     let mut out = [0; DATAGRAM_LIMIT];
-    assert_eq!(rt;
-        server().answer(Side::Primary, CLIENT, &longer, &mut out),
-        UNBUILT
-    );
+    let server = server(Policy::Strict);
+    let largest = server.answer(Side::Primary, CLIENT, &datagram[..1280], &mut out);
+    let forwarded = Answer::Send {
+        fate: Fate::ForwardOrigin,
+        side: Side::Primary,
+        to: OTHER_CLIENT,
+        len: 1288,
+    };
+    assert_eq!(rt; largest, forwarded);
+    datagram[5] += 1;
+    let larger = server.answer(Side::Primary, CLIENT, &datagram, &mut out);
+    assert_eq!(rt; larger, Answer::Drop { fate: Fate::Big });
 }
 
 #[test]
-fn drops_from_senders_that_it_cannot_answer(rt: HostRuntime) {
-    let senders = [
-        ([192, 0, 2, 1], 40000),
-        ([192, 0, 2, 2], 40000),
-        ([198, 51, 100, 7], 0),
-        ([10, 0, 0, 1], 40000),
-        ([127, 0, 0, 1], 40000),
-    ];
-    for (ip, port) in senders {
-        let from = Ep { ip: Ip4(ip), port };
+fn loopback_is_answered_where_it_is_allowed(rt: HostRuntime) -> Result<(), Fail> {
+    let datagram = hex::decode(rt.alloc(), SOLICITATION)?;
+    let from = ep([127, 0, 0, 9], 40000);
+    for (policy, is_answered) in [(Policy::Strict, false), (Policy::Loopback, true)] {
         let mut out = [0; DATAGRAM_LIMIT];
-        let answer = server().answer(Side::Primary, from, &SOLICITATION, &mut out);
-        assert_eq!(rt; answer, UNBUILT, "from {ip:?}:{port}");
+        let answer = server(policy).answer(Side::Primary, from, datagram.as_slice(), &mut out);
+        assert_eq!(rt; answer != Answer::Drop { fate: Fate::Source }, is_answered);
     }
-}
-
-/// A sum of ffff has the checksum 0000, for which ffff isn't right.
-#[test]
-fn drops_a_checksum_of_all_ones(rt: HostRuntime) {
-    for (field, is_answered) in [([0, 0], true), ([255, 255], false)] {
-        let mut bytes = SOLICITATION;
-        bytes[57] = 0x43;
-        bytes[58] = 0xb3;
-        bytes[55..57].copy_from_slice(&field);
-        let mut out = [0; DATAGRAM_LIMIT];
-        let answer = server().answer(Side::Primary, CLIENT, &bytes, &mut out);
-        assert_eq!(rt; answer != UNBUILT, is_answered, "{field:?}");
-    }
+    Ok(())
 }

@@ -1,14 +1,20 @@
-use Rattle.std.proofs.Common.{◌≡◌, ℕ, List, [], ◌∷◌, ◌++◌, length, take, drop, ap, ◌∙◌, arith, append_assoc}
-use Rattle.byteorder.specs.Endian.{big_bytes}
-use Rattle.server_core.specs.Checksum.{checksum_of}
-use Rattle.server_core.specs.Advertisement.{advertisement, with_sum}
+use Rattle.std.proofs.Common.{ℕ, List, ap, ◌∙◌, arith}
+use Rattle.std.specs.Prelude.{replicate}
+use Rattle.icmp6.specs.Message.{router_advert}
+use Rattle.icmp6.specs.Writing.{message_bytes}
+use Rattle.icmp6.proofs.AgainLaws.{length-message_bytes}
+use Rattle.server_core.proofs.Lengths.{has_room, fills}
 use Rattle.server_core.proofs.advertisement.advertisement.Goals as goal
 
+pub unwrap-requires : goal.unwrap-requires
+unwrap-requires c =
+    let m = router_advert 0 0 0 0 0 c.options.result in
+    let long = length-message_bytes c.args.server c.args.client m in
+    has_room (message_bytes c.args.server c.args.client m) (replicate 56 0) _ c.write.result c.write.ensures.written (omega (arith, long))
+
 pub returns : goal.returns
-unfolding advertisement
 returns c =
-    let primary = c.args.primary in
-    let four : length primary.0 ≡ 4 = omega arith in
-    let plain : c.put.new.out ≡ with_sum (0 ∷ 0 ∷ []) primary = (rw four at c.put.ensures.put) ∙ simp append_assoc in
-    let sum = c.checksum-sum.ensures ∙ ap (checksum_of c.args.server c.args.destination) plain in
-    c.put16.ensures.put ∙ ap (λ (m : List ℕ). take 2 m ++ big_bytes 2 c.checksum-sum.result ++ drop 4 m) plain ∙ ap (λ (n : ℕ). with_sum (big_bytes 2 n) primary) sum
+    let m = router_advert 0 0 0 0 0 c.options.result in
+    let long = length-message_bytes c.args.server c.args.client m in
+    fills (message_bytes c.args.server c.args.client m) (replicate 56 0) _ c.write.result c.unwrap.result c.unwrap.ensures c.write.ensures.written (omega (arith, long))
+    ∙ ap (λ (options : List ℕ). message_bytes c.args.server c.args.client (router_advert 0 0 0 0 0 options)) c.options.ensures

@@ -1,0 +1,71 @@
+-- How long what is written is, and what a writer that has the room answers.
+use Rattle.std.proofs.Common.{false, ◌≡◌, ◌≤◌, ◌+◌, ℕ, List, [], ◌∷◌, ◌++◌, length, take, drop, Option, Some, None, Result, Ok, Err, refl, sym, ap, subst, ◌∙◌, arith}
+use Rattle.std.specs.Prelude.{option_map}
+use Rattle.std.specs.Result.{IsOk}
+use Rattle.std.proofs.lemmas.Bool.{ltb-false}
+use Rattle.byteorder.specs.Endian.{big_bytes}
+use Rattle.ipv6_packet.specs.Reads.{is_big}
+use Rattle.std.proofs.lemmas.List.{length-append, take_at, drop_all, append-nil}
+use Rattle.td_base.specs.Bytes.{Writes}
+use Rattle.td_base.specs.declared.small.Room.{Room}
+use Rattle.td_base.specs.declared.endpoint.Ep.{Ep}
+use Rattle.ipv6_packet.specs.Packets.{Fields, packet_bytes}
+use Rattle.ipv6_packet.proofs.PacketLaws.{packet_len}
+use Rattle.indications.specs.Blocks.{AuthBlock, Blocks, spans_of, lead, optional, auth_bytes, origin_bytes, indications_bytes, indications_len, nonce_len}
+use Rattle.indications.specs.declared.blocks.Auth.{Auth}
+use Rattle.indications.specs.declared.blocks.Lead.{Lead}
+use Rattle.indications.specs.Leads.{nonce_of}
+use Rattle.indications.proofs.LeadLaws.{origin_bytes_len}
+use Rattle.bubble.specs.Payloads.{Value, PayloadBytes}
+use Rattle.bubble.specs.Reads.{payload_bytes}
+
+-- a writer that has the room is done
+pub has_room : (bytes old new : List ℕ) (r : Result ℕ Room) → Writes bytes old new r → length bytes ≤ length old → IsOk r
+has_room bytes old new (Ok n) w room = refl
+has_room bytes old new (Err e) w room = absurd (omega arith)
+
+-- and what is written stands in front
+pub stands_in_front : (bytes old new : List ℕ) (r : Result ℕ Room) (n : ℕ) → r ≡ Ok n → Writes bytes old new r → (n ≡ length bytes) × (take n new ≡ bytes)
+stands_in_front bytes old new r n e w =
+    let done : Writes bytes old new (Ok n) = subst (λ (q : Result ℕ Room). Writes bytes old new q) e w in
+    (done.0, ap (take n) done.2 ∙ take_at bytes (drop n old) n (sym done.0))
+
+-- and is all of a buffer of its length
+pub fills : (bytes old new : List ℕ) (r : Result ℕ Room) (n : ℕ) → r ≡ Ok n → Writes bytes old new r → length old ≡ length bytes → new ≡ bytes
+fills bytes old new r n e w same =
+    let done : Writes bytes old new (Ok n) = subst (λ (q : Result ℕ Room). Writes bytes old new q) e w in
+    done.2 ∙ ap (λ (t : List ℕ). bytes ++ t) (drop_all n old (omega (arith, done.0))) ∙ append-nil bytes
+
+pub indications_bytes_len : (nonce : Option ℕ) (ep : Ep) → length ep.ip.0 ≡ 4 → length (indications_bytes nonce (Some ep)) ≡ indications_len nonce (Some ep)
+indications_bytes_len None ep four = origin_bytes_len ep four
+indications_bytes_len (Some nonce) ep four = omega (arith, origin_bytes_len ep four)
+
+pub payload_bytes_len : (nonce : Option ℕ) (ep : Ep) (p : Fields) → length ep.ip.0 ≡ 4 → length p.src.0 ≡ 16 → length p.dst.0 ≡ 16
+    → length (payload_bytes nonce (Some ep) p) ≡ indications_len nonce (Some ep) + 40 + length p.body
+payload_bytes_len nonce ep p four src dst =
+    length-append (indications_bytes nonce (Some ep)) (packet_bytes p) ∙ omega (arith, indications_bytes_len nonce ep four, packet_len p src dst)
+
+pub nonce_len_most : (nonce : Option ℕ) → nonce_len nonce ≤ 13
+nonce_len_most None = omega arith
+nonce_len_most (Some nonce) = omega arith
+
+-- a packet that isn't big
+pub packet_is_small : (p : Fields) → is_big p ≡ false → 40 + length p.body ≤ 1280
+unfolding is_big
+packet_is_small p h = ltb-false _ _ h
+
+auth_before : (auth : Option AuthBlock) (origin : Option Ep) → nonce_len (option_map (λ (a : Auth). a.nonce) (option_map spans_of auth)) ≤ length (optional auth_bytes auth ++ optional origin_bytes origin)
+auth_before None origin = omega arith
+auth_before (Some a) origin =
+    let one = length-append a.id a.value in
+    let two = length-append (a.id ++ a.value) (big_bytes 8 a.nonce) in
+    let three = length-append (a.id ++ a.value ++ big_bytes 8 a.nonce) (a.confirmation ∷ []) in
+    let all = length-append (auth_bytes a) (optional origin_bytes origin) in
+    omega (arith, one, two, three, all)
+
+nonce_of_blocks : (l : Lead) (b : Blocks) → l ≡ lead b → nonce_len (nonce_of l) ≤ l.at
+nonce_of_blocks l b told = subst (λ (k : Lead). nonce_len (nonce_of k) ≤ k.at) (sym told) (auth_before b.auth b.origin)
+
+-- a nonce that came stands before the packet
+pub nonce_before : (v : Value) (x : List ℕ) → PayloadBytes v x → nonce_len (nonce_of v.lead) ≤ v.lead.at
+nonce_before v x found = nonce_of_blocks v.lead found.blocks found.told

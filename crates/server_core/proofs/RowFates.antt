@@ -1,0 +1,55 @@
+-- The fates that the server's table can give.
+use Rattle.std.proofs.Common.{ℕ, Bool, true, false, List, [], ◌∷◌, ◌++◌, Result, Ok, Err}
+use Rattle.std.specs.Prelude.{if◌then◌else◌}
+use Rattle.std.specs.List.{AllByRecursion}
+use Rattle.td_base.specs.declared.endpoint.Ep.{Ep}
+use Rattle.td_base.specs.declared.small.Side.{Side}
+use Rattle.bubble.specs.Payloads.{Value, payload_at}
+use Rattle.bubble.specs.declared.fault.PayloadFault.{PayloadFault}
+use Rattle.teredo_node.specs.declared.fates.Fate.{Fate}
+use Rattle.teredo_node.specs.declared.fates.Fate.TheVariants as fate
+use Rattle.teredo_node.specs.Rows.{first_line}
+use Rattle.server_core.specs.declared.server.ServerSettings.{ServerSettings}
+use Rattle.server_core.specs.declared.rules.Rule.{Rule}
+use Rattle.server_core.specs.Rules.{seen, datagram_lines, packet_lines, destination_lines, last_line, rule_of}
+use Rattle.server_core.specs.Server.{step_of, by_payload, server_row}
+
+-- in the order of the table
+abbrev pub row_fates : List Fate
+row_fates =
+    fate.Malformed ∷ fate.Keyed ∷ fate.Big ∷ fate.Kind ∷ fate.Icmp ∷ fate.Source ∷ fate.Loop ∷ fate.OwnEcho ∷ fate.Advert ∷ fate.Mismatch
+    ∷ fate.NotOurs ∷ fate.Embedded ∷ fate.ForwardOrigin ∷ fate.Forward ∷ fate.Six ∷ fate.Dest ∷ []
+
+-- each outcome of a table
+abbrev Each : (Rule → Type 0) → List (Bool × Rule) → Type 0
+Each Q [] = Unit {0}
+Each Q (line ∷ lines) = Q line.1 × Each Q lines
+
+either : (Q : Rule → Type 0) (b : Bool) (x y : Rule) → Q x → Q y → Q (if b then x else y)
+either Q true x y p q = p
+either Q false x y p q = q
+
+first_of_each : (Q : Rule → Type 0) (lines : List (Bool × Rule)) (last : Rule) → Each Q lines → Q last → Q (first_line lines last)
+first_of_each Q [] last p q = q
+first_of_each Q (line ∷ lines) last p q = either Q line.0 line.1 (first_line lines last) p.0 (first_of_each Q lines last p.1 q)
+
+fate_of_payload : (P : Fate → Type 0) → AllByRecursion P row_fates → (s : ServerSettings) (side : Side) (from : Ep) (x : List ℕ) (v : Value) → P (step_of s side from x v (rule_of s from v)).fate
+unfolding rule_of
+fate_of_payload P all s side from x v =
+    let a = seen s from v in
+    let keyed = all.1 in
+    let loop = keyed.1.1.1.1.1 in
+    let own_echo = loop.1 in
+    let embedded = own_echo.1.1.1.1 in
+    first_of_each (λ (r : Rule). P (step_of s side from x v r).fate) (datagram_lines a ++ (packet_lines a ++ destination_lines a)) last_line
+    (keyed.0, (keyed.1.0, (keyed.1.1.0, (keyed.1.1.1.0, (keyed.1.1.1.1.0, (loop.0, (own_echo.0, (own_echo.1.0, (own_echo.1.1.0, (own_echo.1.1.1.0, (embedded.0, (loop.0, (embedded.1.0, (embedded.1.1.0, (embedded.1.1.1.0, tt)))))))))))))))
+    embedded.1.1.1.1.0
+
+fate_of_read : (P : Fate → Type 0) → AllByRecursion P row_fates → (s : ServerSettings) (side : Side) (from : Ep) (x : List ℕ) (r : Result Value PayloadFault) → P (by_payload s side from x r).fate
+fate_of_read P all s side from x (Ok v) = fate_of_payload P all s side from x v
+fate_of_read P all s side from x (Err fault) = all.0
+
+-- what holds of each of them holds of what becomes of a datagram
+pub fate_of_row : (P : Fate → Type 0) → AllByRecursion P row_fates → (s : ServerSettings) (side : Side) (from : Ep) (x : List ℕ) → P (server_row s side from x).fate
+unfolding server_row
+fate_of_row P all s side from x = fate_of_read P all s side from x (payload_at x)
