@@ -12,11 +12,11 @@ use Rattle.server_core.specs.declared.reply.Answer.TheVariants.{Drop, Send, Six}
 use Rattle.server_core.specs.Rules.{IsPeer}
 use Rattle.server_core.specs.Server.{server_row}
 
--- what is sent is at most 56 bytes longer than x
+-- what is sent is at most 56 bytes longer than x, and the packet that goes on lies in x
 abbrev pub IsShort : Answer → List ℕ → Type 0
 IsShort (Drop fate) x = Unit {0}
 IsShort (Send fate side to len) x = len ≤ length x + 56
-IsShort (Six span) x = Unit {0}
+IsShort (Six span) x = span.at + span.len ≤ length x
 
 -- what is dropped has the fate of a drop, and what is sent hasn't
 abbrev pub IsNamed : Answer → Type 0

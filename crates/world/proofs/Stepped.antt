@@ -7,24 +7,20 @@ use Rattle.history.specs.declared.event_list.Event.TheVariants as event
 use Rattle.history.specs.declared.node_rows.ServerNode.{ServerNode}
 use Rattle.history.specs.declared.records.Record.{Record}
 use Rattle.history.specs.Rows.{TopologyState}
-use Rattle.history.specs.Topology.{server, side_at}
+use Rattle.history.specs.Topology.{server, side_at, is_at, number_of}
 use Rattle.history.specs.Telling.{is_no_entry, IsTold}
 use Rattle.td_base.specs.declared.endpoint.Ep.{Ep}
 use Rattle.td_base.specs.declared.small.Side.{Side}
-use Rattle.td_base.specs.Reach.{is_usable, is_link_local}
-use Rattle.teredo_node.specs.declared.fates.Fate.TheVariants as fate
-use Rattle.teredo_node.specs.Step.{Step, just}
-use Rattle.teredo_node.specs.Rows.{first_line}
+use Rattle.teredo_node.specs.declared.fates.Fate.{Fate}
 use Rattle.server_core.specs.declared.server.ServerSettings.{ServerSettings}
-use Rattle.server_core.specs.Server.{server_row, sends_one, is_own}
-use Rattle.server_core.specs.Solicitation.{is_solicitation, source_in, nonce_in, has_cone, is_sum_right}
-use Rattle.server_core.specs.Advertisement.{reply_bytes}
-use Rattle.history.specs.Full.{Item, udp, Full, wire, items_of}
+use Rattle.server_core.specs.Server.{server_row}
+use Rattle.server_core.proofs.RowFates.{fate_of_row}
+use Rattle.history.specs.Full.{Item, udp, six, Full, wire, items_of}
 use Rattle.history.specs.Records.{record_of}
 use Rattle.world.specs.Past.{Draws, now}
-use Rattle.world.specs.Emit.{Route, reaches, astray, route, server_settings}
+use Rattle.world.specs.Emit.{Route, reaches, astray, reach, server_settings}
 use Rattle.world.specs.Next.{Numbered, delivers_to, delivers_item, next_of}
-use Rattle.world.specs.Seen.{route_of, delivered_to, delivered_item, next_from}
+use Rattle.world.specs.Seen.{delivered_udp, delivered_item, next_from}
 use Rattle.world.specs.Steps.{Plays}
 use Rattle.world.specs.World.{WorldState, StandsFor, Steps, NeedsMemory}
 use Rattle.world.proofs.Delivered.{of_servers}
@@ -34,16 +30,14 @@ world servers w = record { topology = of_servers servers; moment = 0; wire = w }
 
 -- THE NEXT RECORD, BY WHAT A WORLD KEEPS
 
-to_same : (d : Draws) (t : TopologyState) (H : List Full) (e : Numbered) (n : ℕ) (item : Item) (r : Route) → delivers_to d t H e n item r ≡ delivered_to (now H) (wire H) e n item r
-to_same d t H e n (udp src dst x) (reaches k (server a)) = refl
-to_same d t H e n (udp src dst x) astray = refl
-
-route_same : (t : TopologyState) (H : List Full) (m : ℕ) (item : Item) → route t H m item ≡ route_of t item
-route_same t H m (udp src dst x) = refl
+udp_same : (d : Draws) (t : TopologyState) (H : List Full) (e : Numbered) (n : ℕ) (src dst : Ep) (x : List ℕ) (r : Route) → delivers_to d t H e n (udp src dst x) r ≡ delivered_udp (now H) (wire H) e n src dst x r
+udp_same d t H e n src dst x (reaches k (server a)) = refl
+udp_same d t H e n src dst x astray = refl
 
 item_same : (d : Draws) (t : TopologyState) (H : List Full) (e : Numbered) (n : ℕ) (o : Option Item) → delivers_item d t H e n o ≡ delivered_item t (now H) (wire H) e n o
 item_same d t H e n None = refl
-item_same d t H e n (Some item) = to_same d t H e n item (route t H (now H) item) ∙ ap (delivered_to (now H) (wire H) e n item) (route_same t H (now H) item)
+item_same d t H e n (Some (udp src dst x)) = udp_same d t H e n src dst x (reach t (number_of (is_at dst) t))
+item_same d t H e n (Some (six relay x)) = refl
 
 next_same : (d : Draws) (t : TopologyState) (H : List Full) (i : ℕ) (e : Event) → next_of d t H i e ≡ next_from t (now H) (wire H) i e
 next_same d t H i (event.Deliver n) = item_same d t H (record { number = i; event = event.Deliver n }) n (slice_get (wire H) n)
@@ -55,13 +49,14 @@ record Kept (m i : ℕ) (e : Event) (r : Full) : Type 0 where
   asked : r.asked ≡ e
   moment : r.moment ≡ m
 
-to_kept : (m : ℕ) (w : List Item) (e : Numbered) (n : ℕ) (item : Item) (r : Route) → Kept m e.number e.event (delivered_to m w e n item r)
-to_kept m w e n (udp src dst x) (reaches k (server a)) = record { event = refl; asked = refl; moment = refl }
-to_kept m w e n (udp src dst x) astray = record { event = refl; asked = refl; moment = refl }
+udp_kept : (m : ℕ) (w : List Item) (e : Numbered) (n : ℕ) (src dst : Ep) (x : List ℕ) (r : Route) → Kept m e.number e.event (delivered_udp m w e n src dst x r)
+udp_kept m w e n src dst x (reaches k (server a)) = record { event = refl; asked = refl; moment = refl }
+udp_kept m w e n src dst x astray = record { event = refl; asked = refl; moment = refl }
 
 item_kept : (t : TopologyState) (m : ℕ) (w : List Item) (e : Numbered) (n : ℕ) (o : Option Item) → Kept m e.number e.event (delivered_item t m w e n o)
 item_kept t m w e n None = record { event = refl; asked = refl; moment = refl }
-item_kept t m w e n (Some item) = to_kept m w e n item (route_of t item)
+item_kept t m w e n (Some (udp src dst x)) = udp_kept m w e n src dst x (reach t (number_of (is_at dst) t))
+item_kept t m w e n (Some (six relay x)) = record { event = refl; asked = refl; moment = refl }
 
 next_kept : (t : TopologyState) (m : ℕ) (w : List Item) (i : ℕ) (e : Event) → Kept m i e (next_from t m w i e)
 next_kept t m w i (event.Deliver n) = item_kept t m w (record { number = i; event = event.Deliver n }) n (slice_get w n)
@@ -69,39 +64,18 @@ next_kept t m w i (event.Stranger src dst x) = record { event = refl; asked = re
 
 -- WHETHER AN ENTRY WAS DELIVERED
 
--- each outcome of a table, and the last one
-abbrev Each : (P : Step → Type 0) → List (Bool × Step) → Type 0
-Each P [] = Unit {0}
-Each P (row ∷ rows) = P row.1 × Each P rows
-
-either : (P : Step → Type 0) (b : Bool) (x y : Step) → P x → P y → P (if b then x else y)
-either P true x y p q = p
-either P false x y p q = q
-
-first_line-each : (P : Step → Type 0) (rows : List (Bool × Step)) (last : Step) → Each P rows → P last → P (first_line rows last)
-first_line-each P [] last p q = q
-first_line-each P (row ∷ rows) last p q = either P row.0 row.1 (first_line rows last) p.0 (first_line-each P rows last p.1 q)
-
--- six tests, each of which drops
-abbrev drops : (a b c d e f : Bool) → List (Bool × Step)
-drops a b c d e f = (a, just fate.Unbuilt) ∷ (b, just fate.Unbuilt) ∷ (c, just fate.Unbuilt) ∷ (d, just fate.Unbuilt) ∷ (e, just fate.Unbuilt) ∷ (f, just fate.Unbuilt) ∷ []
-
 -- a server never says that an entry is missing
 server_tells : (s : ServerSettings) (side : Side) (from : Ep) (x : List ℕ) → is_no_entry (server_row s side from x).fate ≡ false
-unfolding server_row
-server_tells s side from x =
-    first_line-each (λ (z : Step). is_no_entry z.fate ≡ false)
-    (drops (not (is_solicitation x)) (not (is_link_local (source_in x))) (has_cone (source_in x)) (not (is_sum_right (source_in x) x)) (not (is_usable s.policy from)) (is_own s from.ip))
-    (sends_one fate.Advert side from (reply_bytes s.primary from (nonce_in x) (source_in x)))
-    (refl, (refl, (refl, (refl, (refl, (refl, tt)))))) refl
+server_tells s side from x = fate_of_row (λ (f : Fate). is_no_entry f ≡ false) (refl, (refl, (refl, (refl, (refl, (refl, (refl, (refl, (refl, (refl, (refl, (refl, (refl, (refl, (refl, (refl, tt)))))))))))))))) s side from x
 
-to_tells : (m : ℕ) (w : List Item) (e : Numbered) (n : ℕ) (item : Item) (r : Route) → IsTold (delivered_to m w e n item r)
-to_tells m w e n (udp src dst x) (reaches k (server a)) = record { delivered = sym (ap not (server_tells (server_settings a) (side_at (server a) dst) src x)) }
-to_tells m w e n (udp src dst x) astray = record { delivered = refl }
+udp_tells : (m : ℕ) (w : List Item) (e : Numbered) (n : ℕ) (src dst : Ep) (x : List ℕ) (r : Route) → IsTold (delivered_udp m w e n src dst x r)
+udp_tells m w e n src dst x (reaches k (server a)) = record { delivered = sym (ap not (server_tells (server_settings a) (side_at (server a) dst) src x)) }
+udp_tells m w e n src dst x astray = record { delivered = refl }
 
 item_tells : (t : TopologyState) (m : ℕ) (w : List Item) (e : Numbered) (n : ℕ) (o : Option Item) → IsTold (delivered_item t m w e n o)
 item_tells t m w e n None = record { delivered = refl }
-item_tells t m w e n (Some item) = to_tells m w e n item (route_of t item)
+item_tells t m w e n (Some (udp src dst x)) = udp_tells m w e n src dst x (reach t (number_of (is_at dst) t))
+item_tells t m w e n (Some (six relay x)) = record { delivered = refl }
 
 next_tells : (t : TopologyState) (m : ℕ) (w : List Item) (i : ℕ) (e : Event) → IsTold (next_from t m w i e)
 next_tells t m w i (event.Deliver n) = item_tells t m w (record { number = i; event = event.Deliver n }) n (slice_get w n)

@@ -27,17 +27,19 @@ abbrev pub answered : ℕ → List Item → Numbered → ℕ → Ep → List ℕ
 answered m w e number from x n a step =
     record (still m w e (act.Deliver number) (Some n) step.fate) { delivered = Some number; entry = Some (noted m (arrived from x) step); made = outright (server a) step.sends ++ six_made (arrived from x) step.six }
 
-abbrev pub delivered_to : ℕ → List Item → Numbered → ℕ → Item → Route → Full
-delivered_to m w e number (udp src dst x) (reaches n (server a)) = answered m w e number src x n a (server_row (server_settings a) (side_at (server a) dst) src x)
-delivered_to m w e number item astray = record (still m w e (act.Deliver number) None fate.Nowhere) { delivered = Some number }
+-- nobody is at the destination
+abbrev pub strayed : ℕ → List Item → Numbered → ℕ → Full
+strayed m w e number = record (still m w e (act.Deliver number) None fate.Nowhere) { delivered = Some number }
 
-abbrev pub route_of : TopologyState → Item → Route
-route_of t (udp src dst x) = reach t (number_of (is_at dst) t)
-route_of t (six relay x) = astray
+-- a datagram came to a node, or to nobody
+abbrev pub delivered_udp : ℕ → List Item → Numbered → ℕ → Ep → Ep → List ℕ → Route → Full
+delivered_udp m w e number src dst x (reaches n (server a)) = answered m w e number src x n a (server_row (server_settings a) (side_at (server a) dst) src x)
+delivered_udp m w e number src dst x astray = strayed m w e number
 
 abbrev pub delivered_item : TopologyState → ℕ → List Item → Numbered → ℕ → Option Item → Full
 delivered_item t m w e number None = still m w e (act.Deliver number) None fate.NoEntry
-delivered_item t m w e number (Some item) = delivered_to m w e number item (route_of t item)
+delivered_item t m w e number (Some (udp src dst x)) = delivered_udp m w e number src dst x (reach t (number_of (is_at dst) t))
+delivered_item t m w e number (Some (six relay x)) = strayed m w e number
 
 abbrev pub next_from : TopologyState → ℕ → List Item → ℕ → Event → Full
 next_from t m w i (event.Deliver number) = delivered_item t m w (record { number = i; event = event.Deliver number }) number (slice_get w number)

@@ -1,6 +1,6 @@
-ghost use Rattle.std.specs.Prelude.{◌≡◌, ◌+◌, ◌≤◌, ◌<◌, ◌^◌, ◌∷◌, [], ◌++◌, length, map, position, Some, None, IfOk, OnOk, OnErr};
+ghost use Rattle.std.specs.Prelude.{◌≡◌, ◌+◌, ◌≤◌, ◌<◌, ◌^◌, ◌∷◌, [], ◌++◌, length, take, map, position, Some, None, IfOk, OnOk, OnErr};
 ghost use Rattle.td_base.specs.Ep.{server_ep};
-ghost use Rattle.td_base.specs.declared.small.Span.{Span};
+ghost use Rattle.td_base.specs.declared.small.Span.{Span as Part};
 ghost use Rattle.teredo_node.specs.Step.{part, just};
 ghost use Rattle.teredo_node.specs.declared.fates.Fate.TheVariants as fates;
 ghost use Rattle.server_core.specs.Server.{server_row, sends_one};
@@ -21,7 +21,7 @@ use crate::wire_entries::{Wire, WireEntry};
 use history::{Act, MOST_SERVERS, Mark, Marks, Record, ServerNode, Verb};
 use server_core::{Answer, DATAGRAM_LIMIT, Server};
 use std::alloc::Global;
-use td_base::{Ep, Millis, NoMemory, Policy, Side};
+use td_base::{Ep, Millis, NoMemory, Policy, Side, Span};
 use td_outside::Octets;
 use teredo_node::Fate;
 
@@ -141,15 +141,25 @@ fn put_send(
     fate: Fate,
     side: Side,
     to: Ep,
-    bytes: &[u8],
+    out: &[u8],
+    len: usize,
 ) -> Result<Record, NoMemory>
-    requires { length wire.old < 2 ^ 32 }
+    requires room { length wire.old < 2 ^ 32 }
+    requires within { len ≤ length out.now }
     ensures plays { (src : Endpoint) (x : List ℕ)
-        → Plays wire.old wire.new (answered 0 wire.old (record { number = index; event = event.Deliver number }) number src x node row.now (sends_one fate side to bytes.now)) result }
+        → Plays wire.old wire.new (answered 0 wire.old (record { number = index; event = event.Deliver number }) number src x node row.now (sends_one fate side to (take len out.now))) result }
     ensures grows { length wire.new ≤ length wire.old + 1 }
 {
     let begun = quiet(index, Act::Deliver { number }, Some(node), fate);
-    send(wire, begun, own_endpoint(row, side), to, bytes)
+    send(wire, begun, own_endpoint(row, side), to, &out[..len])
+}
+
+/// A copy of a part of a datagram.
+fn copy_of(alloc: Global, bytes: &[u8], span: Span) -> Result<Octets, NoMemory>
+    requires { span.at + span.len ≤ length bytes.now }
+    ensures { IfOk result (λ packet. packet ≡ part bytes.now span) }
+{
+    Octets::new(alloc, &bytes[span.at..span.at + span.len])
 }
 
 /// Puts on the wire the packet that a server gives to the IPv6 side for entry `number`.
@@ -161,7 +171,7 @@ fn put_packet(
     packet: Octets,
 ) -> Result<Record, NoMemory>
     requires { length wire.old < 2 ^ 32 }
-    ensures plays { (row : Row) (src : Endpoint) (x : List ℕ) (span : Span) → packet ≡ part x span
+    ensures plays { (row : Row) (src : Endpoint) (x : List ℕ) (span : Part) → packet ≡ part x span
         → Plays wire.old wire.new (answered 0 wire.old (record { number = index; event = event.Deliver number }) number src x node row (record (just fates.Six) { six = Some span })) result }
     ensures grows { length wire.new ≤ length wire.old + 1 }
 {
@@ -211,9 +221,11 @@ pub fn deliver(
                     side,
                     to,
                     len,
-                } => put_send(wire, index, number, node, &row, fate, side, to, &out[..len]),
+                } => put_send(wire, index, number, node, &row, fate, side, to, &out, len),
                 Answer::Six { span } => {
-                    let packet = Octets::new(alloc, &bytes[span.at..span.at + span.len])?;
+                    let Ok(packet) = copy_of(alloc, bytes, span) else {
+                        return Err(NoMemory);
+                    };
                     put_packet(wire, index, number, node, packet)
                 }
             }

@@ -50,7 +50,13 @@ impl World {
     {
         match event {
             Event::Deliver { number } => {
-                deliver(*self.servers.allocator(), self.servers.as_slice(), &mut self.wire, index, *number)
+                deliver(
+                    *self.servers.allocator(),
+                    self.servers.as_slice(),
+                    &mut self.wire,
+                    index,
+                    *number,
+                )
             }
             Event::Stranger { src, dst, bytes } => {
                 put_stranger(&mut self.wire, index, *src, *dst, bytes)
