@@ -1,6 +1,6 @@
 -- What one step does to the histories that a world stands for.
-use Rattle.std.proofs.Common.{◌≡◌, ◌≢◌, ◌+◌, ℕ, Bool, true, false, not, List, [], ◌∷◌, ◌++◌, Option, Some, None, Result, Ok, Err, refl, sym, ap, subst, ◌∙◌}
-use Rattle.std.specs.Prelude.{slice_get, IfOk, OnErr, if◌then◌else◌}
+use Rattle.std.proofs.Common.{◌≡◌, ◌≢◌, ◌+◌, ℕ, false, not, List, [], ◌∷◌, ◌++◌, Option, Some, None, Result, Ok, Err, refl, sym, ap, subst, ◌∙◌}
+use Rattle.std.specs.Prelude.{slice_get, IfOk, OnErr}
 use Rattle.td_base.specs.declared.small.NoMemory.{NoMemory}
 use Rattle.history.specs.declared.event_list.Event.{Event}
 use Rattle.history.specs.declared.event_list.Event.TheVariants as event
@@ -66,7 +66,10 @@ next_kept t m w i (event.Stranger src dst x) = record { event = refl; asked = re
 
 -- a server never says that an entry is missing
 server_tells : (s : ServerSettings) (side : Side) (from : Ep) (x : List ℕ) → is_no_entry (server_row s side from x).fate ≡ false
-server_tells s side from x = fate_of_row (λ (f : Fate). is_no_entry f ≡ false) (refl, (refl, (refl, (refl, (refl, (refl, (refl, (refl, (refl, (refl, (refl, (refl, (refl, (refl, (refl, (refl, tt)))))))))))))))) s side from x
+server_tells s side from x =
+    fate_of_row (λ (f : Fate). is_no_entry f ≡ false)
+        (refl, (refl, (refl, (refl, (refl, (refl, (refl, (refl, (refl, (refl, (refl, (refl, (refl, (refl, (refl, (refl, tt))))))))))))))))
+        s side from x
 
 udp_tells : (m : ℕ) (w : List Item) (e : Numbered) (n : ℕ) (src dst : Ep) (x : List ℕ) (r : Route) → IsTold (delivered_udp m w e n src dst x r)
 udp_tells m w e n src dst x (reaches k (server a)) = record { delivered = sym (ap not (server_tells (server_settings a) (side_at (server a) dst) src x)) }
