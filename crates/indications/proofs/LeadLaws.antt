@@ -20,7 +20,7 @@ use Rattle.indications.specs.declared.fault.LeadFault.TheVariants.{Cut, Order}
 use Rattle.teredo_addr.specs.Hidden.{hidden_ep, shown_at}
 use Rattle.teredo_addr.proofs.HiddenLaws.{hidden_ep_len, shown_again, shown_fits, shown_hidden}
 use Rattle.indications.specs.Indications.{head_at, auth_at, origin_at, lead_at, is_auth, is_origin, is_packet, nonce_place, auth_of, origin_of}
-use Rattle.indications.specs.Blocks.{AuthBlock, Blocks, auth_bytes, origin_bytes, optional, blocks_bytes, IsAuthBlock, spans_of, origin, lead, LeadBytes, AreSpansBefore, with_nonce, given, indications_bytes, StartsPacket}
+use Rattle.indications.specs.Blocks.{AreBlocks, AuthBlock, Blocks, auth_bytes, origin_bytes, optional, blocks_bytes, IsAuthBlock, spans_of, origin, lead, LeadBytes, AreSpansBefore, with_nonce, given, indications_bytes, StartsPacket}
 use Rattle.indications.proofs.HeadLaws.{bind_ok, guard_ok, chosen, HeadIs, head_tells, packet_head, origin_head, auth_head}
 
 -- ---- answers
@@ -320,6 +320,9 @@ nonce_fits : (nonce : Option ℕ) → IfSome nonce (λ n. n < 2 ^ 64) → IfSome
 nonce_fits None h = tt
 nonce_fits (Some n) h = record { id = omega arith; value = omega arith; nonce = h }
 
-pub written_again : (nonce : Option ℕ) (ep : Option Ep) (rest : List ℕ) → IfSome nonce (λ n. n < 2 ^ 64) → IfSome ep IsEp → StartsPacket rest → lead_at (indications_bytes nonce ep ++ rest) ≡ Ok (lead (given nonce ep))
-written_again nonce ep rest n_fits ep_fits six =
-    lead_again (lead (given nonce ep)) (indications_bytes nonce ep ++ rest) (record { blocks = given nonce ep; rest = rest; fits = record { auth = nonce_fits nonce n_fits; origin = ep_fits }; bytes = refl; six = six; told = refl })
+pub given_fits : (nonce : Option ℕ) (ep : Option Ep) → IfSome nonce (λ n. n < 2 ^ 64) → IfSome ep IsEp → AreBlocks (given nonce ep)
+given_fits nonce ep n_fits ep_fits = record { auth = nonce_fits nonce n_fits; origin = ep_fits }
+
+pub written_again : (nonce : Option ℕ) (ep : Option Ep) (rest : List ℕ) → AreBlocks (given nonce ep) → StartsPacket rest → lead_at (indications_bytes nonce ep ++ rest) ≡ Ok (lead (given nonce ep))
+written_again nonce ep rest fits six =
+    lead_again (lead (given nonce ep)) (indications_bytes nonce ep ++ rest) (record { blocks = given nonce ep; rest = rest; fits = fits; bytes = refl; six = six; told = refl })

@@ -7,7 +7,7 @@ use Rattle.teredo_addr.specs.Hidden.{hidden_ep}
 use Rattle.indications.specs.declared.blocks.Auth.{Auth}
 use Rattle.indications.specs.declared.blocks.Origin.{Origin}
 use Rattle.indications.specs.declared.blocks.Lead.{Lead}
-use Rattle.indications.specs.declared.blocks.TheConstants.{AUTH_HEAD}
+use Rattle.indications.specs.declared.blocks.TheConstants.{AUTH_HEAD, AUTH, ORIGIN}
 
 -- an authentication with what its spans hold
 pub record AuthBlock : Type 0 where
@@ -88,3 +88,15 @@ given nonce ep = record { auth = option_map with_nonce nonce; origin = ep }
 
 abbrev pub indications_bytes : Option ℕ → Option Ep → List ℕ
 indications_bytes nonce ep = blocks_bytes (given nonce ep)
+
+abbrev pub nonce_len : Option ℕ → ℕ
+nonce_len None = 0
+nonce_len (Some nonce) = AUTH
+
+abbrev pub origin_len : Option Ep → ℕ
+origin_len None = 0
+origin_len (Some ep) = ORIGIN
+
+-- how many bytes they take
+abbrev pub indications_len : Option ℕ → Option Ep → ℕ
+indications_len nonce ep = nonce_len nonce + origin_len ep

@@ -1,3 +1,4 @@
 pub mod Indications
 pub mod Blocks
 pub mod Faults
+pub mod Leads

@@ -20,8 +20,9 @@
 //! | module | holds | stated in |
 //! |---|---|---|
 //! | `blocks` | `Auth`, `Origin`, `Lead`, and their lengths | `specs/Blocks.antt` |
-//! | `fault` | `LeadFault` | `specs/Blocks.antt` |
+//! | `fault` | `LeadFault` | `specs/Faults.antt` |
 //! | `heads` | what begins at a place | `specs/Indications.antt` |
+//! | `leads` | what a rule asks of a `Lead` | `specs/Leads.antt` |
 //! | `reading` | `read` | `specs/Indications.antt` |
 //! | `writing` | `write`, `len` | `specs/Blocks.antt` |
 #![tactic(auto)]
@@ -29,11 +30,13 @@
 mod blocks;
 mod fault;
 mod heads;
+mod leads;
 mod reading;
 mod writing;
 
 pub use blocks::{AUTH, AUTH_HEAD, AUTH_TAIL, Auth, Lead, NONCE, ORIGIN, Origin};
 pub use fault::LeadFault;
+pub use leads::{is_confirmed, is_keyed, nonce_of, origin_in};
 pub use reading::read;
 pub use writing::{len, write};
 

@@ -2,7 +2,7 @@ ghost use Rattle.std.specs.Prelude.{◌≡◌, ◌+◌, ◌<◌, ◌≤◌, ◌^
 ghost use Rattle.td_base.specs.Bytes.{IsPut, Writes};
 ghost use Rattle.td_base.specs.Ep.{IsEp};
 ghost use Rattle.indications.specs.Indications.{lead_at};
-ghost use Rattle.indications.specs.Blocks.{auth_bytes, origin_bytes, optional, with_nonce, given, indications_bytes, lead, StartsPacket};
+ghost use Rattle.indications.specs.Blocks.{auth_bytes, origin_bytes, optional, with_nonce, AreBlocks, given, indications_bytes, nonce_len, origin_len, indications_len, lead, StartsPacket};
 
 use crate::blocks::{AUTH, ORIGIN};
 use td_base::{Ep, Room, put, put64};
@@ -11,15 +11,16 @@ use teredo_addr::hide;
 /// How many bytes the indications take that are given.
 #[inline(always)]
 pub fn len(nonce: Option<u64>, origin: Option<Ep>) -> usize
-    ensures { result ≡ length (indications_bytes nonce origin) }
+    ensures whole { result ≡ length (indications_bytes nonce origin) }
+    ensures parts { result ≡ indications_len nonce origin }
 {
     nonce_len(nonce) + origin_len(origin)
 }
 
 #[inline(always)]
 fn nonce_len(nonce: Option<u64>) -> usize
-    ensures exact { result ≡ length (optional auth_bytes (option_map with_nonce nonce)) }
-    ensures bound { result ≤ AUTH }
+    ensures whole { result ≡ length (optional auth_bytes (option_map with_nonce nonce)) }
+    ensures parts { result ≡ nonce_len nonce }
 {
     match nonce {
         None => 0,
@@ -29,8 +30,8 @@ fn nonce_len(nonce: Option<u64>) -> usize
 
 #[inline(always)]
 fn origin_len(origin: Option<Ep>) -> usize
-    ensures exact { result ≡ length (optional origin_bytes origin) }
-    ensures bound { result ≤ ORIGIN }
+    ensures whole { result ≡ length (optional origin_bytes origin) }
+    ensures parts { result ≡ origin_len origin }
 {
     match origin {
         None => 0,
@@ -46,6 +47,8 @@ fn origin_len(origin: Option<Ep>) -> usize
 #[inline(always)]
 pub fn write(nonce: Option<u64>, origin: Option<Ep>, out: &mut [u8]) -> Result<usize, Room>
     ensures written { Writes (indications_bytes nonce origin) out.old out.new result }
+    // It is a list of the grammar.
+    ensures blocks { IfOk result (λ n. AreBlocks (given nonce origin)) }
     // What was written reads back, whatever packet follows.
     ensures again { IfOk result (λ n. (rest : List ℕ) → StartsPacket rest → lead_at (take n out.new ++ rest) ≡ Ok (lead (given nonce origin))) }
 {

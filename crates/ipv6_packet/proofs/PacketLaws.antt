@@ -10,6 +10,7 @@ use Rattle.td_base.specs.Bytes.{IsBytes, number_at}
 use Rattle.td_base.proofs.BytesLemmas.{IsBytes-drop, IsBytes-take, cut, cut_2, cut_4}
 use Rattle.ipv6_packet.specs.declared.fault.PacketFault.{PacketFault}
 use Rattle.ipv6_packet.specs.declared.fault.PacketFault.TheVariants.{Short, Version, Length}
+use Rattle.ipv6_packet.specs.Reads.{is_packet, fields_in, is_ok_packet, fields_or}
 use Rattle.ipv6_packet.specs.Packets.{Fields, IsPacket, PacketBytes, IsFirstFault, packet_bytes, packet_at, fields_of}
 
 abbrev done : Fields → Result Fields PacketFault
@@ -157,3 +158,13 @@ packet_len v src dst = omega (arith, src, dst, length-append v.src.0 v.dst.0, le
 
 pub packet_begins : (v : Fields) (x : List ℕ) → PacketBytes v x → (0 < length x) × (slice_index x 0 / 16 ≡ 6)
 packet_begins v x is = (omega (arith, ap length is.1, packet_len v is.0.src.0 is.0.dst.0), ap (λ (t : List ℕ). slice_index t 0 / 16) is.1 ∙ version_first v is.0.class is.0.flow)
+
+pub is_seen : {P : Type 0} (view : P → Fields) (x : List ℕ) (r : Result P PacketFault) → Gives view r (packet_at x) → IfOk r (λ p. (is_packet x ≡ true) × (fields_in x ≡ view p))
+unfolding is_packet fields_in
+is_seen view x (Ok p) given = (ap is_ok_packet given, ap fields_or given)
+is_seen view x (Err e) given = tt
+
+pub is_unseen : {P : Type 0} (view : P → Fields) (x : List ℕ) (r : Result P PacketFault) → Gives view r (packet_at x) → IfErr r (λ e. is_packet x ≡ false)
+unfolding is_packet
+is_unseen view x (Ok p) given = tt
+is_unseen view x (Err e) given = ap is_ok_packet given

@@ -1,3 +1,7 @@
+ghost use Rattle.std.specs.Prelude.{◌≡◌};
+ghost use Rattle.ipv6_packet.specs.Packets.{view};
+ghost use Rattle.ipv6_packet.specs.Reads.{is_big};
+
 use td_base::Ip6;
 
 /// The header's length, in bytes.
@@ -25,4 +29,13 @@ pub struct Packet<'a> {
     pub src: Ip6,
     pub dst: Ip6,
     pub body: &'a [u8],
+}
+
+/// Whether a packet has more than `MAX_PACKET` bytes.
+#[inline(always)]
+#[tactic(auto, unfolding(crate::specs::Reads::is_big))]
+pub fn is_big(p: &Packet) -> bool
+    ensures { result ≡ is_big (view p.now) }
+{
+    p.body.len() > MAX_PACKET - HEADER
 }

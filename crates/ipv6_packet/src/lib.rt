@@ -17,9 +17,9 @@
 //!
 //! | module | holds | stated in |
 //! |---|---|---|
-//! | `header` | `Packet`, and the numbers of the header | `specs/Packets.antt` |
+//! | `header` | `Packet`, and the numbers of the header | `specs/Packets.antt`, `Reads.antt` |
 //! | `fault` | `PacketFault` | `specs/Packets.antt` |
-//! | `reading` | `read` | `specs/Packets.antt` |
+//! | `reading` | `read` | `specs/Packets.antt`, `Reads.antt` |
 //! | `writing` | `write`, `len` | `specs/Packets.antt` |
 #![tactic(auto)]
 
@@ -29,7 +29,7 @@ mod reading;
 mod writing;
 
 pub use fault::PacketFault;
-pub use header::{HEADER, MAX_PACKET, NEXT_ICMP, NEXT_NONE, Packet, VERSION};
+pub use header::{HEADER, MAX_PACKET, NEXT_ICMP, NEXT_NONE, Packet, VERSION, is_big};
 pub use reading::read;
 pub use writing::{len, write};
 

@@ -1,6 +1,7 @@
-ghost use Rattle.std.specs.Prelude.{◌≡◌, ◌+◌, ◌≤◌, length, take, drop, IfOk, IfErr, Ok};
+ghost use Rattle.std.specs.Prelude.{◌≡◌, ◌+◌, ◌≤◌, length, take, drop, true, false, IfOk, IfErr, Ok};
 ghost use Rattle.td_base.specs.Reading.{Gives};
 ghost use Rattle.ipv6_packet.specs.Packets.{Fields, view, PacketBytes, IsFirstFault, packet_at};
+ghost use Rattle.ipv6_packet.specs.Reads.{is_packet, fields_in};
 
 use crate::fault::PacketFault;
 use crate::header::{HEADER, Packet, VERSION};
@@ -17,6 +18,9 @@ pub fn read(bytes: &[u8]) -> Result<Packet<'_>, PacketFault>
     ensures fault { IfErr result (λ e. IsFirstFault e bytes.now) }
     // The body is what follows the header.
     ensures inside { IfOk result (λ p. HEADER + length p.body.now ≡ length bytes.now) }
+    // As rules see the bytes.
+    ensures seen { IfOk result (λ p. (is_packet bytes.now ≡ true) × (fields_in bytes.now ≡ view p)) }
+    ensures unseen { IfErr result (λ e. is_packet bytes.now ≡ false) }
     // The same as one function of the bytes.
     ensures exact { Gives view result (packet_at bytes.now) }
 {

@@ -8,7 +8,7 @@ use Rattle.teredo_node.specs.Fates.{is_drop}
 use Rattle.history.specs.Full.{Made, sent, item_in, Full, wire, items_of}
 use Rattle.history.specs.Records.{marks_of, record_of}
 use Rattle.report.specs.declared.totals.Sums.{Sums}
-use Rattle.report.specs.Telling.{is_kept, is_delivery, IsTold}
+use Rattle.history.specs.Telling.{is_kept, is_delivery, IsTold}
 use Rattle.report.specs.Totals.{sums_of, added}
 
 -- each send is an entry, and has a mark

@@ -1,12 +1,12 @@
 -- The totals of a history, and its report.
-use Rattle.std.specs.Prelude.{ℕ, ◌+◌, ◌-◌, ◌^◌, ◌≤◌, List, [], ◌++◌, length, count_by, codes, decimal, is_some, if◌then◌else◌}
+use Rattle.std.specs.Prelude.{ℕ, ◌+◌, ◌-◌, ◌^◌, ◌≤◌, List, ◌++◌, length, count_by, codes, decimal, is_some, if◌then◌else◌}
 use Rattle.teredo_node.specs.Fates.{is_drop}
 use Rattle.history.specs.declared.records.Record.{Record}
 use Rattle.history.specs.Rows.{TopologyState}
 use Rattle.history.specs.Full.{Full, wire}
 use Rattle.report.specs.declared.totals.Sums.{Sums}
 use Rattle.report.specs.Lines.{lines}
-use Rattle.report.specs.Telling.{is_kept, is_delivery}
+use Rattle.history.specs.Telling.{is_kept, is_delivery}
 
 -- how many records, entries, deliveries of entries, packets handed to hosts, packets kept by natives, drops
 abbrev pub sums_of : List Full → Sums

@@ -20,10 +20,9 @@
 
 mod lines;
 mod pieces;
-mod totals;
-
 #[cfg(test)]
 mod tests;
+mod totals;
 
 pub use lines::line;
 pub use totals::{Sums, summary};

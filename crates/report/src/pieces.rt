@@ -12,6 +12,9 @@ pub const NUMBER_LEN: usize = 20;
 /// The most bytes of an endpoint.
 pub const EP_LEN: usize = 21;
 
+/// The most bytes of an event's word.
+const VERB_LEN: usize = 8;
+
 /// The most bytes of an act: `deliver:` and a number.
 pub const ACT_LEN: usize = 28;
 
@@ -41,7 +44,7 @@ pub fn put_ep(ep: Ep, out: &mut LineBuf)
 /// An event's word.
 fn verb_name(verb: Verb) -> &'static str
     ensures word { result.now ≡ verb_word verb }
-    ensures short { length result.now ≤ 8 }
+    ensures short { length result.now ≤ VERB_LEN }
 {
     match verb {
         Verb::Deliver => "deliver",

@@ -134,7 +134,8 @@ fn only_an_entry_that_is_there_is_delivered(rt: HostRuntime) {
 fn the_longest_line(rt: HostRuntime) -> Result<(), Fail> {
     let t = topology(rt.alloc(), b"abcdefghijklmnop")?;
     let mut want = LineBuf::new();
-    let begin = b"18446744073709551615 18446744073709551615 4294967295 deliver:4294967295 abcdefghijklmnop qualified_restricted";
+    let begin =
+        b"18446744073709551615 18446744073709551615 4294967295 deliver:4294967295 abcdefghijklmnop qualified_restricted";
     let mark = b" #4294967295=255.255.255.255:65535>255.255.255.255:65535/18446744073709551615";
     print_text(begin, &mut want).ok().ok_or("room")?;
     let mut marks = Marks::new();

@@ -2,7 +2,7 @@
 ghost use Rattle.std.specs.Prelude.{◌≡◌, ◌∷◌, [], List};
 ghost use Rattle.history.specs.Full.{Full};
 ghost use Rattle.history.specs.Records.{record_of};
-ghost use Rattle.report.specs.Telling.{is_kept, is_delivery, IsTold};
+ghost use Rattle.history.specs.Telling.{is_kept, is_delivery, IsTold};
 ghost use Rattle.report.specs.Totals.{totals_line};
 
 use crate::pieces::put_number;

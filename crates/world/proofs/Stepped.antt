@@ -11,10 +11,14 @@ use Rattle.history.specs.Topology.{server, side_at}
 use Rattle.history.specs.Telling.{is_no_entry, IsTold}
 use Rattle.td_base.specs.declared.endpoint.Ep.{Ep}
 use Rattle.td_base.specs.declared.small.Side.{Side}
-use Rattle.teredo_node.specs.Step.{Step}
+use Rattle.td_base.specs.Reach.{is_usable, is_link_local}
+use Rattle.teredo_node.specs.declared.fates.Fate.TheVariants as fate
+use Rattle.teredo_node.specs.Step.{Step, just}
 use Rattle.teredo_node.specs.Rows.{first_line}
 use Rattle.server_core.specs.declared.server.ServerSettings.{ServerSettings}
-use Rattle.server_core.specs.Server.{server_row}
+use Rattle.server_core.specs.Server.{server_row, sends_one, is_own}
+use Rattle.server_core.specs.Solicitation.{is_solicitation, source_in, nonce_in, has_cone, is_sum_right}
+use Rattle.server_core.specs.Advertisement.{reply_bytes}
 use Rattle.history.specs.Full.{Item, udp, Full, wire, items_of}
 use Rattle.history.specs.Records.{record_of}
 use Rattle.world.specs.Past.{Draws, now}
@@ -78,10 +82,18 @@ first_line-each : (P : Step → Type 0) (rows : List (Bool × Step)) (last : Ste
 first_line-each P [] last p q = q
 first_line-each P (row ∷ rows) last p q = either P row.0 row.1 (first_line rows last) p.0 (first_line-each P rows last p.1 q)
 
+-- six tests, each of which drops
+abbrev drops : (a b c d e f : Bool) → List (Bool × Step)
+drops a b c d e f = (a, just fate.Unbuilt) ∷ (b, just fate.Unbuilt) ∷ (c, just fate.Unbuilt) ∷ (d, just fate.Unbuilt) ∷ (e, just fate.Unbuilt) ∷ (f, just fate.Unbuilt) ∷ []
+
 -- a server never says that an entry is missing
 server_tells : (s : ServerSettings) (side : Side) (from : Ep) (x : List ℕ) → is_no_entry (server_row s side from x).fate ≡ false
 unfolding server_row
-server_tells s side from x = first_line-each (λ (z : Step). is_no_entry z.fate ≡ false) _ _ (refl, refl, refl, refl, refl, refl, tt) refl
+server_tells s side from x =
+    first_line-each (λ (z : Step). is_no_entry z.fate ≡ false)
+    (drops (not (is_solicitation x)) (not (is_link_local (source_in x))) (has_cone (source_in x)) (not (is_sum_right (source_in x) x)) (not (is_usable s.policy from)) (is_own s from.ip))
+    (sends_one fate.Advert side from (reply_bytes s.primary from (nonce_in x) (source_in x)))
+    (refl, (refl, (refl, (refl, (refl, (refl, tt)))))) refl
 
 to_tells : (m : ℕ) (w : List Item) (e : Numbered) (n : ℕ) (item : Item) (r : Route) → IsTold (delivered_to m w e n item r)
 to_tells m w e n (udp src dst x) (reaches k (server a)) = record { delivered = sym (ap not (server_tells (server_settings a) (side_at (server a) dst) src x)) }

@@ -2,5 +2,5 @@ use Rattle.std.proofs.Common.{sym, arith}
 use Rattle.indications.proofs.LeadLaws.{origin_bytes_len}
 use Rattle.indications.proofs.writing.origin_len.Goals as goal
 
-pub returns-in-Some-clause-exact : goal.returns-in-Some-clause-exact
-returns-in-Some-clause-exact c = rw c.in-Some.is (sym (origin_bytes_len c.in-Some.ep (omega arith)))
+pub returns-in-Some-clause-whole : goal.returns-in-Some-clause-whole
+returns-in-Some-clause-whole c = rw c.in-Some.is (sym (origin_bytes_len c.in-Some.ep (omega arith)))

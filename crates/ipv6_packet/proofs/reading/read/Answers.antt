@@ -1,7 +1,7 @@
 use Rattle.std.proofs.Common.{◌∙◌, ap, subst, arith}
 use Rattle.ipv6_packet.specs.Packets.{view, packet_at}
 use Rattle.td_base.specs.Reading.{Gives}
-use Rattle.ipv6_packet.proofs.PacketLaws.{is_found, is_fault, packet_again}
+use Rattle.ipv6_packet.proofs.PacketLaws.{is_found, is_fault, is_seen, is_unseen, packet_again}
 use Rattle.ipv6_packet.proofs.reading.read.Goals as goal
 
 pub returns-clause-found : goal.returns-clause-found
@@ -12,3 +12,9 @@ returns-clause-only c = λ v bytes. subst (λ r. Gives view c.packet_of.result r
 
 pub returns-clause-fault : goal.returns-clause-fault
 returns-clause-fault c = is_fault view c.args.bytes.now c.packet_of.result (λ i. omega (arith, c.type_inv.bytes i)) c.packet_of.ensures.exact
+
+pub returns-clause-seen : goal.returns-clause-seen
+returns-clause-seen c = is_seen view c.args.bytes.now c.packet_of.result c.packet_of.ensures.exact
+
+pub returns-clause-unseen : goal.returns-clause-unseen
+returns-clause-unseen c = is_unseen view c.args.bytes.now c.packet_of.result c.packet_of.ensures.exact

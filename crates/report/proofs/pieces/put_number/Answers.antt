@@ -5,5 +5,5 @@ use Rattle.report.proofs.pieces.put_number.Goals as goal
 pub returns : goal.returns
 returns c =
     let few = number_length c.args.number c.ranges.number.fits in
-    let text = printed _ _ _ _ c.print_number.ensures (omega (arith, few, c.requires)) in
+    let text = printed _ _ _ _ c.print_number.ensures.text (omega (arith, few, c.requires)) in
     record { text = text; short = length_after _ _ _ _ text few }

@@ -1,0 +1,2 @@
+pub mod PayloadLaws
+pub mod BubbleLaws

@@ -1,0 +1,3 @@
+pub mod Payloads
+pub mod Bubbles
+pub mod Reads

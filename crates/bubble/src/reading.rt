@@ -1,0 +1,49 @@
+ghost use Rattle.std.specs.Prelude.{◌≡◌, ◌+◌, ◌≤◌, length, true, false, IfOk, IfErr, IfSome, Ok};
+ghost use Rattle.td_base.specs.Reading.{Gives};
+ghost use Rattle.ipv6_packet.specs.declared.header.TheConstants.{HEADER};
+ghost use Rattle.indications.specs.Blocks.{AreSpansBefore};
+ghost use Rattle.bubble.specs.Payloads.{Value, view, PayloadBytes, IsFirstFault, payload_at};
+ghost use Rattle.bubble.specs.Reads.{is_payload, value_in};
+
+use crate::fault::PayloadFault;
+use crate::parts::{MAX_DATAGRAM, Payload};
+
+/// The payload that the bytes spell, all of the bytes.
+#[inline(always)]
+pub fn read(bytes: &[u8]) -> Result<Payload<'_>, PayloadFault>
+    // What is read is spelled so.
+    ensures found { IfOk result (λ p. PayloadBytes (view p) bytes.now) }
+    // What is spelled so is read.
+    ensures only { (v : Value) → PayloadBytes v bytes.now → Gives view result (Ok v) }
+    // A fault is the first one.
+    ensures fault { IfErr result (λ e. IsFirstFault e bytes.now) }
+    // The packet is all that follows the indications.
+    ensures inside { IfOk result (λ p. p.lead.at + HEADER + length p.packet.body.now ≡ length bytes.now) }
+    ensures spans { IfOk result (λ p. IfSome p.lead.auth (AreSpansBefore p.lead.at)) }
+    // As rules see the bytes.
+    ensures seen { IfOk result (λ p. (is_payload bytes.now ≡ true) × (value_in bytes.now ≡ view p)) }
+    ensures unseen { IfErr result (λ e. is_payload bytes.now ≡ false) }
+    // The same as one function of the bytes.
+    ensures exact { Gives view result (payload_at bytes.now) }
+{
+    payload_of(bytes)
+}
+
+#[inline(always)]
+#[tactic(auto, unfolding(crate::specs::Payloads::payload_at))]
+fn payload_of(bytes: &[u8]) -> Result<Payload<'_>, PayloadFault>
+    ensures inside { IfOk result (λ p. p.lead.at + HEADER + length p.packet.body.now ≡ length bytes.now) }
+    ensures spans { IfOk result (λ p. IfSome p.lead.auth (AreSpansBefore p.lead.at)) }
+    ensures exact { Gives view result (payload_at bytes.now) }
+{
+    if bytes.len() > MAX_DATAGRAM {
+        return Err(PayloadFault::Long { len: bytes.len() });
+    }
+    match indications::read(bytes) {
+        Err(fault) => Err(PayloadFault::Lead(fault)),
+        Ok(lead) => match ipv6_packet::read(&bytes[lead.at..]) {
+            Err(fault) => Err(PayloadFault::Packet { at: lead.at, fault }),
+            Ok(packet) => Ok(Payload { lead, packet }),
+        },
+    }
+}

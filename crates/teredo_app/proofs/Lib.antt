@@ -1,0 +1,4 @@
+pub mod Written
+pub mod Told
+pub mod Playing
+pub mod Ended

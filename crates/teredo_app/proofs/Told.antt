@@ -1,0 +1,26 @@
+-- What was read of a text, and the whole text.
+use Rattle.std.proofs.Common.{◌≡◌, ℕ, ◌+◌, ◌<◌, ◌≤◌, Bool, true, false, nat_le, List, length, Option, Some, None, refl, sym, ap, subst, ◌∙◌, inl, inr, arith, length-append}
+use Rattle.std.specs.Prelude.{IfSome, ◌&&◌}
+use Rattle.std.proofs.lemmas.Bool.{cases_lt}
+use Rattle.std.proofs.lemmas.Bool.Decides.{nat_tests}
+use Rattle.history.specs.Topology.{Scenario}
+use Rattle.scenario.specs.Scenario.{scenario_of}
+use Rattle.teredo_app.specs.Streams.{IsTextOf, IsFrontOf}
+use Rattle.teredo_app.specs.Ends.{IsTold}
+
+-- a text above the limit is no scenario
+too_long : (text : List ℕ) → 4194304 < length text → scenario_of text ≡ None
+unfolding scenario_of
+too_long text long = let no : nat_le (length text) 4194304 ≡ false = grind (arith, nat_tests) in rw no refl
+
+longer : (bytes text : List ℕ) → IsFrontOf bytes 4194305 text → 4194305 ≤ length text → 4194304 < length bytes
+longer bytes text f long = let (rest, is) = f.front in omega (arith, ap length is, length-append text rest)
+
+-- what was read is the same scenario, or none, as the whole text
+pub whole_text : (told : Option (List ℕ)) (text : List ℕ) → IsTextOf told 4194305 text → (whole : List ℕ) × IsTold told whole × (scenario_of whole ≡ scenario_of text)
+whole_text None text r = (text, tt, refl)
+whole_text (Some bytes) text r =
+    elim (cases_lt (length text) 4194305) [
+      | inl h ↦ (text, r.content.whole h, refl)
+      | inr h ↦ (bytes, refl, too_long bytes (longer bytes text r.content h) ∙ sym (too_long text (omega arith)))
+    ]

@@ -1,0 +1,123 @@
+//! The top call over a source and a sink in memory.
+use crate::run;
+use std::alloc::Global;
+use std::test::Fail;
+use td_base::NoMemory;
+use td_outside::{MemSink, MemSource};
+
+const NAME: &str = "f.toml";
+
+const LAB: [&str; 2] = ["lab", NAME];
+
+/// How many bytes the sink has room for.
+const ROOM: usize = 16_777_216;
+
+const SOLICITATION: &str = r#"
+seed = 1
+events = [
+  "stranger 198.51.100.7:40000 192.0.2.1:3544 000100000102030405060708006000000000083afffe80000000000000000063bf39cc9bf8ff020000000000000000000000000002850043b300000000",
+  "deliver 0",
+]
+
+[[server]]
+name = "s1"
+primary = "192.0.2.1"
+secondary = "192.0.2.2"
+"#;
+
+const FIRST_LINE: &str = "0 0 0 stranger - put #0=198.51.100.7:40000>192.0.2.1:3544/61\n";
+
+const REPORT: &str =
+    "0 0 0 stranger - put #0=198.51.100.7:40000>192.0.2.1:3544/61\n1 0 1 deliver:0 s1 advert #1=192.0.2.1:3544>198.51.100.7:40000/117\ntotal records 2 entries 2 delivered 1 handed 0 kept 0 dropped 0\n";
+
+#[derive(Drop)]
+struct Ended {
+    status: u8,
+    sink: MemSink,
+}
+
+fn words_of(alloc: Global, texts: &[&str]) -> Result<Vec<String>, NoMemory> {
+    let mut words = Vec::new(alloc);
+    for text in texts {
+        words.push(String::from_str(alloc, text)?)?;
+    }
+    Ok(words)
+}
+
+fn end_of(
+    alloc: Global,
+    texts: &[&str],
+    text: &[u8],
+    read_fails: &[u64],
+    write_fails: &[u64],
+) -> Result<Ended, NoMemory> {
+    let words = words_of(alloc, texts)?;
+    let mut source = MemSource::new(alloc, NAME, text, read_fails)?;
+    let mut sink = MemSink::new(alloc, ROOM, write_fails)?;
+    let status = run(alloc, &words, &mut source, &mut sink);
+    Ok(Ended { status, sink })
+}
+
+#[test]
+fn plays_a_solicitation(rt: HostRuntime) -> Result<(), Fail> {
+    let end = end_of(rt.alloc(), &LAB, SOLICITATION.as_bytes(), &[], &[])?;
+    assert_eq!(rt; end.sink.as_slice(), REPORT.as_bytes());
+    assert_eq!(rt; end.status, 0);
+    Ok(())
+}
+
+#[test]
+fn plays_no_events(rt: HostRuntime) -> Result<(), Fail> {
+    let end = end_of(rt.alloc(), &LAB, b"seed = 1\nevents = []\n", &[], &[])?;
+    assert_eq!(rt;
+        end.sink.as_slice(),
+        b"total records 0 entries 0 delivered 0 handed 0 kept 0 dropped 0\n".as_slice()
+    );
+    assert_eq!(rt; end.status, 0);
+    Ok(())
+}
+
+#[test]
+fn refuses_words(rt: HostRuntime) -> Result<(), Fail> {
+    let none: [&[&str]; 5] = [
+        &[],
+        &["lab"],
+        &["show"],
+        &["serve", "127.0.0.1", "127.0.0.1", "1", "1"],
+        &["gen", "01", "5"],
+    ];
+    for words in none.iter() {
+        let end = end_of(rt.alloc(), words, b"", &[], &[])?;
+        assert_eq!(rt; end.sink.as_slice(), b"words\n".as_slice());
+        assert_eq!(rt; end.status, 2);
+    }
+    Ok(())
+}
+
+#[test]
+fn refuses_texts(rt: HostRuntime) -> Result<(), Fail> {
+    let none: [&[u8]; 5] = [
+        b"",
+        b"seed = 1\nevents = [\"next\"]\n",
+        b"seed = 1\nevents = []\nnat = []\n",
+        b"seed",
+        b"\xff\xfe",
+    ];
+    for text in none.iter() {
+        let end = end_of(rt.alloc(), &LAB, text, &[], &[])?;
+        assert_eq!(rt; end.sink.as_slice(), b"scenario: unbuilt\n".as_slice());
+        assert_eq!(rt; end.status, 3);
+    }
+    Ok(())
+}
+
+#[test]
+fn fails_as_the_outside_fails(rt: HostRuntime) -> Result<(), Fail> {
+    let unread = end_of(rt.alloc(), &LAB, SOLICITATION.as_bytes(), &[1], &[])?;
+    assert_eq!(rt; unread.sink.as_slice().len(), 0);
+    assert_eq!(rt; unread.status, 4);
+    let unwritten = end_of(rt.alloc(), &LAB, SOLICITATION.as_bytes(), &[], &[1])?;
+    assert_eq!(rt; unwritten.sink.as_slice(), FIRST_LINE.as_bytes());
+    assert_eq!(rt; unwritten.status, 5);
+    Ok(())
+}
