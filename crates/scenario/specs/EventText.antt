@@ -6,14 +6,14 @@ use Rattle.scenario.specs.declared.datagram_text.TheConstants.{DATAGRAM_MOST}
 use Rattle.scenario.specs.declared.event_text.TheConstants.{NUMBER_MOST}
 use Rattle.scenario.specs.Words.{◌>>=◌, same_text, words, number_of, ep_of, bytes_of}
 
--- `deliver N`
+-- `deliver N`, where N is an entry's number
 abbrev pub deliver_of : List (List ℕ) → Option Event
 deliver_of (number ∷ []) = do
   number ← number_of NUMBER_MOST number
   Some (Deliver number)
 deliver_of _ = None
 
--- `stranger EP EP HEX`
+-- `stranger EP EP HEX`: a source, a destination and a datagram's bytes
 abbrev pub stranger_of : List (List ℕ) → Option Event
 stranger_of (src ∷ dst ∷ bytes ∷ []) = do
   src ← ep_of src
@@ -29,6 +29,7 @@ event_of_verb verb more =
     else if same_text verb (codes "stranger") then stranger_of more
     else None
 
+-- the event of all its words
 abbrev pub event_of_words : List (List ℕ) → Option Event
 event_of_words [] = None
 event_of_words (verb ∷ more) = event_of_verb verb more

@@ -13,12 +13,15 @@ use Rattle.history.specs.Rows.{TopologyState}
 use Rattle.scenario.specs.NodeName.{name}
 use Rattle.scenario.specs.Words.{◌>>=◌, same_text, ip4_of}
 
+-- the byte `_`
 abbrev pub underscore : ℕ
 underscore = 95
 
+-- a letter, a digit or an underscore
 abbrev pub is_name_byte : ℕ → Bool
 is_name_byte byte = is_ascii_lowercase byte || is_ascii_digit byte || (byte == underscore)
 
+-- the first byte is a letter
 abbrev pub begins_with_letter : List ℕ → Bool
 begins_with_letter [] = false
 begins_with_letter (byte ∷ more) = is_ascii_lowercase byte
@@ -39,9 +42,10 @@ is_free_address t ip = list_all (λ s. not (same_ip s.primary ip || same_ip s.se
 unfoldable pub new_name : TopologyState → List ℕ → Option Name
 new_name t text = if is_name text && is_free_name t text then Some (name text) else None
 
+-- an address that is global and that no node has (RFC 4380, section 4, asks for global ones)
 abbrev pub global_and_free : TopologyState → Ip4 → Option Ip4
 global_and_free t ip = if is_global Strict ip && is_free_address t ip then Some ip else None
 
--- the address that a text gives to a further node: it is global
+-- the address that a text gives to a further node
 unfoldable pub new_address : TopologyState → List ℕ → Option Ip4
 new_address t text = ip4_of text >>= global_and_free t

@@ -12,6 +12,7 @@ use Rattle.scenario.specs.EventText.{event_of}
 use Rattle.scenario.specs.Tables.{has_only, natural_at, item_count}
 use Rattle.scenario.specs.Servers.{servers_at}
 
+-- the event of a value that is a text
 abbrev pub event_in : Data → Option Event
 event_in value = as_str value >>= event_of
 
@@ -23,15 +24,19 @@ events_at (item value more) = do
   events ← events_at more
   Some (event ∷ events)
 
+-- the events of a list that isn't too long
 abbrev pub events_of : Items → Option (List Event)
 events_of texts = if nat_le (item_count texts) MOST_EVENTS then events_at texts else None
 
+-- the events of a value that is such a list
 abbrev pub events_in : Data → Option (List Event)
 events_in value = as_array value >>= events_of
 
+-- the keys of a scenario
 abbrev pub scenario_keys : List (List ℕ)
 scenario_keys = codes "seed" ∷ codes "server" ∷ codes "events" ∷ []
 
+-- the scenario of what stands at these keys; the servers may be missing
 abbrev pub scenario_at : Members → Option Scenario
 scenario_at table = do
   seed ← natural_at (codes "seed") table

@@ -11,13 +11,15 @@ use Rattle.scenario.specs.Words.{◌>>=◌}
 use Rattle.scenario.specs.Tables.{has_only, text_at, item_count}
 use Rattle.scenario.specs.Fresh.{new_name, new_address}
 
+-- the keys of a server's table
 abbrev pub server_keys : List (List ℕ)
 server_keys = codes "name" ∷ codes "primary" ∷ codes "secondary" ∷ []
 
--- its two addresses differ
+-- a server whose two addresses differ
 abbrev pub server_with : Name → Ip4 → Ip4 → Option ServerNode
 server_with name primary secondary = if same_ip primary secondary then None else Some (record { name = name; primary = primary; secondary = secondary })
 
+-- the server of what stands at these keys
 abbrev pub server_at : TopologyState → Members → Option ServerNode
 server_at t table = do
   name ← text_at (codes "name") table >>= new_name t
@@ -29,6 +31,7 @@ server_at t table = do
 unfoldable pub server_of : TopologyState → Members → Option ServerNode
 server_of t table = if has_only server_keys table then server_at t table else None
 
+-- the nodes and one more server
 abbrev pub with_server : TopologyState → ServerNode → TopologyState
 with_server t s = record t { servers = t.servers ++ s ∷ [] }
 
@@ -46,9 +49,11 @@ add_servers t (item value more) = do
   t ← add_server t value
   add_servers t more
 
+-- the nodes of a list of few tables
 abbrev pub servers_of : Items → Option TopologyState
 servers_of tables = if nat_le (item_count tables) BUILT_SERVERS then add_servers no_nodes tables else None
 
+-- the nodes of a value that is such a list
 abbrev pub servers_in : Data → Option TopologyState
 servers_in value = as_array value >>= servers_of
 

@@ -18,10 +18,11 @@ None >>= f = None
 abbrev pub same_text : List ℕ → List ℕ → Bool
 same_text = pointwise nat_eq
 
--- the parts of a text that is cut at each of these bytes; the empty text has one empty part
+-- the parts of a text that is cut at each byte `mark`; the empty text has one empty part
 abbrev pub parts_at : ℕ → List ℕ → List (List ℕ)
 parts_at mark text = slice_split (λ byte. byte == mark) text
 
+-- the bytes at which texts are cut
 abbrev pub space : ℕ
 space = 32
 
@@ -79,7 +80,7 @@ ep_of text = ep_of_parts (parts_at colon text)
 abbrev pub few_bytes : ℕ → List ℕ → Option (List ℕ)
 few_bytes most bytes = if nat_le 1 (length bytes) && nat_le (length bytes) most then Some bytes else None
 
--- some bytes up to `most`, each by two hexadecimal digits in either case
+-- one byte or more, up to `most`, each by two hexadecimal digits in either case
 abbrev pub hex_of : ℕ → List ℕ → Option (List ℕ)
 hex_of most text = result_ok (decode_of text) >>= few_bytes most
 

@@ -1,5 +1,5 @@
 //! Texts that are scenarios, and texts that are none.
-use crate::{DATAGRAM_MOST, MOST_EVENTS, ScenarioFault, TEXT_MOST, read};
+use crate::{ScenarioFault, read};
 use history::Event;
 use std::alloc::Global;
 use std::test::Fail;
@@ -205,7 +205,7 @@ fn repeated(
 
 #[test]
 fn keeps_its_limits(rt: HostRuntime) -> Result<(), Fail> {
-    for (count, wanted) in [(DATAGRAM_MOST, true), (DATAGRAM_MOST + 1, false)] {
+    for (count, wanted) in [(1_400, true), (1_401, false)] {
         let bytes = repeated(rt.alloc(), "0a", count, "")?;
         let text = format!(in rt.alloc();
             "seed = 1\nevents = [\"stranger 1.2.3.4:5 1.2.3.4:6 {bytes}\"]\n"
@@ -216,7 +216,7 @@ fn keeps_its_limits(rt: HostRuntime) -> Result<(), Fail> {
             "at {count} bytes"
         );
     }
-    for (count, wanted) in [(MOST_EVENTS, true), (MOST_EVENTS + 1, false)] {
+    for (count, wanted) in [(50_000, true), (50_001, false)] {
         let events = repeated(rt.alloc(), "\"deliver 0\",", count, "")?;
         let text = format!(in rt.alloc(); "seed = 1\nevents = [{events}]\n")?;
         assert_eq!(rt;
@@ -227,8 +227,8 @@ fn keeps_its_limits(rt: HostRuntime) -> Result<(), Fail> {
     }
     let end = "seed = 1\nevents = []\n";
     for (count, wanted) in [
-        (TEXT_MOST - end.len(), true),
-        (TEXT_MOST - end.len() + 1, false),
+        (4_194_304 - end.len(), true),
+        (4_194_305 - end.len(), false),
     ] {
         let text = repeated(rt.alloc(), " ", count, end)?;
         assert_eq!(rt;
