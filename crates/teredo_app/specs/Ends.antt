@@ -1,11 +1,12 @@
 -- How the program may end, and what it has then written.
-use Rattle.std.specs.Prelude.{◌≡◌, ℕ, List, [], ◌∷◌, ◌⊎◌, if◌then◌else◌, codes, Contains, Option, Some, None, IfSome}
+use Rattle.std.specs.Prelude.{◌≡◌, ℕ, List, [], ◌∷◌, ◌⊎◌, if◌then◌else◌, codes, Contains, Option, Some, None, IfSome, Result, Ok, Err}
 use Rattle.std.specs.Io.KnownBytes.{Appends, Keeps}
 use Rattle.td_outside.specs.Causes.{Rose}
 use Rattle.history.specs.Topology.{Scenario}
 use Rattle.scenario.specs.Words.{same_text}
 use Rattle.scenario.specs.Scenario.{scenario_of}
-use Rattle.teredo_app.specs.declared.statuses.TheConstants.{DONE, BAD_WORDS, BAD_SCENARIO, UNREADABLE, UNWRITABLE, NO_MEMORY}
+use Rattle.teredo_app.specs.declared.statuses.TheConstants.{DONE, BAD_PAYLOAD, BAD_WORDS, BAD_SCENARIO, UNREADABLE, UNWRITABLE, NO_MEMORY}
+use Rattle.show.specs.Explained.{explained, explained_text}
 use Rattle.teredo_app.specs.Streams.{AppendsFront}
 use Rattle.teredo_app.specs.Reports.{ReportsOn, BeginsToReport}
 
@@ -21,6 +22,11 @@ refusal = codes "scenario: unbuilt\n"
 -- the line of words that have no shape
 abbrev pub bad_words : List ℕ
 bad_words = codes "words\n"
+
+-- the word of the words `show HEX`
+abbrev pub show_word : List (List ℕ) → Option (List ℕ)
+show_word (command ∷ word ∷ []) = if same_text command (codes "show") then Some word else None
+show_word _ = None
 
 -- what a call did to the two things outside: the bytes that the file's name stands for, where they are told; the source's
 -- count of faults, the bytes that the sink holds, where they are told, and its count of faults, each before and after
@@ -58,6 +64,13 @@ pub record LabEnds (o : Outside) (status : ℕ) : Type 0 where
   -- memory ran out, nothing failed, and nothing was written or a front of the report
   pub starved : status ≡ NO_MEMORY → NoFault o
       × (Keeps o.held.0 o.held.1 ⊎ ((s : Scenario) × Reads o (Some s) × BeginsToReport s o.held.0 o.held.1))
+
+-- How `show HEX` ends: the lines of the payload were written, or the line of its first fault. It takes no memory.
+pub record ShowEnds (o : Outside) (word : List ℕ) (status : ℕ) : Type 0 where
+  pub statuses : Contains (DONE ∷ BAD_PAYLOAD ∷ UNWRITABLE ∷ []) status
+  pub done : status ≡ DONE → (lines : List ℕ) × (explained word ≡ Ok lines) × Appends o.held.0 o.held.1 lines
+  pub refused : status ≡ BAD_PAYLOAD → (line : List ℕ) × (explained word ≡ Err line) × Appends o.held.0 o.held.1 line
+  pub unwritten : status ≡ UNWRITABLE → Rose o.sink_faults.0 o.sink_faults.1 × AppendsFront o.held.0 o.held.1 (explained_text word)
 
 -- How it ends where the words have no shape.
 pub record WordsEnd (o : Outside) (status : ℕ) : Type 0 where

@@ -3,7 +3,8 @@
 //! # What the layer above may rely on
 //!
 //! - `run` ends with the status of `docs/SCENARIOS.md`, and has then written what that status says. On `lab FILE`
-//!   that is the report of the one legal history of the scenario, or one line that refuses its text.
+//!   that is the report of the one legal history of the scenario, or one line that refuses its text; on `show HEX`
+//!   the lines of the payload, or one line that names its first fault.
 //!
 //! # What it does not know
 //!
@@ -26,5 +27,5 @@ mod streams;
 mod tests;
 mod top;
 
-pub use statuses::{BAD_SCENARIO, BAD_WORDS, DONE, NO_MEMORY, UNREADABLE, UNWRITABLE};
+pub use statuses::{BAD_PAYLOAD, BAD_SCENARIO, BAD_WORDS, DONE, NO_MEMORY, UNREADABLE, UNWRITABLE};
 pub use top::run;

@@ -1,6 +1,9 @@
 /// The command did all its work.
 pub const DONE: u8 = 0;
 
+/// The word of `show` is no payload.
+pub const BAD_PAYLOAD: u8 = 1;
+
 /// The words have none of the shapes.
 pub const BAD_WORDS: u8 = 2;
 

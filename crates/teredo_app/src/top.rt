@@ -1,11 +1,12 @@
-ghost use Rattle.std.specs.Prelude.{◌≡◌, ◌≤◌, ℕ, List, Some, None, map, string_bytes, length, option_map};
+ghost use Rattle.std.specs.Prelude.{◌≡◌, ◌≤◌, ℕ, List, Option, Some, None, map, string_bytes, length, option_map};
 ghost use Rattle.scenario.specs.Told.{told};
-ghost use Rattle.teredo_app.specs.Ends.{Outside, lab_file, LabEnds, WordsEnd};
+ghost use Rattle.teredo_app.specs.Ends.{Outside, lab_file, show_word, LabEnds, ShowEnds, WordsEnd};
 ghost use Rattle.teredo_app.specs.Endings.{LineEnds, ReportEnds};
 
 use crate::play::write_report;
-use crate::statuses::{BAD_SCENARIO, BAD_WORDS, DONE, NO_MEMORY, UNREADABLE, UNWRITABLE};
+use crate::statuses::{BAD_PAYLOAD, BAD_SCENARIO, BAD_WORDS, DONE, NO_MEMORY, UNREADABLE, UNWRITABLE};
 use crate::streams::{Fault, read_named, write_whole};
+use show::{Page, explain};
 use scenario::{MOST_EVENTS, Scenario, ScenarioFault, TEXT_MOST, read};
 use std::alloc::Global;
 use td_outside::{Failed, Sink, Source};
@@ -18,6 +19,22 @@ fn file_named(words: &[String]) -> Option<&str>
         [command, file] => {
             if command.as_str() == "lab" {
                 Some(file.as_str())
+            } else {
+                None
+            }
+        }
+        _ => None,
+    }
+}
+
+/// The word that the words `show HEX` have.
+fn word_shown(words: &[String]) -> Option<&str>
+    ensures { option_map (λ word. word.now) result ≡ show_word (map string_bytes words.now) }
+{
+    match words {
+        [command, word] => {
+            if command.as_str() == "show" {
+                Some(word.as_str())
             } else {
                 None
             }
@@ -69,6 +86,22 @@ fn lab<S: Source, K: Sink>(alloc: Global, file: &str, src: &mut S, out: &mut K) 
     }
 }
 
+/// The command `show HEX`. It takes no memory.
+fn show<K: Sink>(word: &str, out: &mut K) -> u8
+    ensures { (told : Option (List ℕ)) (faults : ℕ × ℕ) → ShowEnds (record {
+      told = told;
+      source_faults = faults;
+      held = (K.holds out.old, K.holds out.new);
+      sink_faults = (K.faults out.old, K.faults out.new);
+    }) word.now result }
+{
+    let mut page = Page::new();
+    if explain(word.as_bytes(), &mut page) {
+        return write_line(out, page.as_slice(), DONE);
+    }
+    write_line(out, page.as_slice(), BAD_PAYLOAD)
+}
+
 /// Does what the words of the command line ask for, and answers the program's status.
 pub fn run<S: Source, K: Sink>(alloc: Global, words: &Vec<String>, src: &mut S, out: &mut K) -> u8
     ensures lab { (file : List ℕ) → lab_file (map string_bytes words.now.items) ≡ Some file → LabEnds (record {
@@ -77,15 +110,24 @@ pub fn run<S: Source, K: Sink>(alloc: Global, words: &Vec<String>, src: &mut S, 
       held = (K.holds out.old, K.holds out.new);
       sink_faults = (K.faults out.old, K.faults out.new);
     }) result }
-    ensures no_shape { lab_file (map string_bytes words.now.items) ≡ None → WordsEnd (record {
+    ensures show { (word : List ℕ) → show_word (map string_bytes words.now.items) ≡ Some word → ShowEnds (record {
+      told = None;
+      source_faults = (S.faults src.old, S.faults src.new);
+      held = (K.holds out.old, K.holds out.new);
+      sink_faults = (K.faults out.old, K.faults out.new);
+    }) word result }
+    ensures no_shape { lab_file (map string_bytes words.now.items) ≡ None → show_word (map string_bytes words.now.items) ≡ None → WordsEnd (record {
       told = None;
       source_faults = (S.faults src.old, S.faults src.new);
       held = (K.holds out.old, K.holds out.new);
       sink_faults = (K.faults out.old, K.faults out.new);
     }) result }
 {
-    match file_named(words.as_slice()) {
-        Some(file) => lab(alloc, file, src, out),
+    if let Some(file) = file_named(words.as_slice()) {
+        return lab(alloc, file, src, out);
+    }
+    match word_shown(words.as_slice()) {
+        Some(word) => show(word, out),
         None => write_line(out, b"words\n", BAD_WORDS),
     }
 }
