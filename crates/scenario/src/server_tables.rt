@@ -13,7 +13,7 @@ use td_base::NoMemory;
 use toml::{Table, Value};
 
 /// How many servers of a text are read so far.
-pub const BUILT_SERVERS: usize = 1;
+pub const BUILT_SERVERS: usize = 8;
 
 fn server_at(topology: &Topology, table: &Table) -> Option<ServerNode>
     ensures { result ≡ server_at topology.now (table_view table.now) }

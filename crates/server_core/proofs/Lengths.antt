@@ -15,7 +15,7 @@ use Rattle.indications.specs.Blocks.{AuthBlock, Blocks, spans_of, lead, optional
 use Rattle.indications.specs.declared.blocks.Auth.{Auth}
 use Rattle.indications.specs.declared.blocks.Lead.{Lead}
 use Rattle.indications.specs.Leads.{nonce_of}
-use Rattle.indications.proofs.LeadLaws.{origin_bytes_len}
+use Rattle.indications.proofs.FoundLaws.{origin_bytes_len}
 use Rattle.bubble.specs.Payloads.{Value, PayloadBytes}
 use Rattle.bubble.specs.Reads.{payload_bytes}
 

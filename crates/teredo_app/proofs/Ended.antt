@@ -48,31 +48,3 @@ report_ends o result s reads quiet (report_starved is same p) = subst (λ (n : �
   unwritten = λ e. absurd (omega arith);
   starved = λ _. (record { source = quiet; sink = same }, inr (s, reads, p));
 })
-
-pub payload_ends : (o : Outside) (word lines : List ℕ) (result : ℕ) → explained word ≡ Ok lines → LineEnds o.held.0 o.held.1 o.sink_faults.0 o.sink_faults.1 lines 0 result → ShowEnds o word result
-payload_ends o word lines result is (line_written e p) = subst (λ (n : ℕ). ShowEnds o word n) (sym e) (record {
-  statuses = (0, lit< tt, refl);
-  done = λ _. (lines, is, p);
-  refused = λ x. absurd (omega arith);
-  unwritten = λ x. absurd (omega arith);
-})
-payload_ends o word lines result is (line_failed e rose p) = subst (λ (n : ℕ). ShowEnds o word n) (sym e) (record {
-  statuses = (2, lit< tt, refl);
-  done = λ x. absurd (omega arith);
-  refused = λ x. absurd (omega arith);
-  unwritten = λ _. (rose, subst (λ (z : List ℕ). AppendsFront o.held.0 o.held.1 z) (sym (ap text_of is)) p);
-})
-
-pub fault_ends : (o : Outside) (word line : List ℕ) (result : ℕ) → explained word ≡ Err line → LineEnds o.held.0 o.held.1 o.sink_faults.0 o.sink_faults.1 line 1 result → ShowEnds o word result
-fault_ends o word line result is (line_written e p) = subst (λ (n : ℕ). ShowEnds o word n) (sym e) (record {
-  statuses = (1, lit< tt, refl);
-  done = λ x. absurd (omega arith);
-  refused = λ _. (line, is, p);
-  unwritten = λ x. absurd (omega arith);
-})
-fault_ends o word line result is (line_failed e rose p) = subst (λ (n : ℕ). ShowEnds o word n) (sym e) (record {
-  statuses = (2, lit< tt, refl);
-  done = λ x. absurd (omega arith);
-  refused = λ x. absurd (omega arith);
-  unwritten = λ _. (rose, subst (λ (z : List ℕ). AppendsFront o.held.0 o.held.1 z) (sym (ap text_of is)) p);
-})

@@ -6,7 +6,7 @@ use Rattle.history.specs.Topology.{Scenario}
 use Rattle.scenario.specs.Words.{same_text}
 use Rattle.scenario.specs.Scenario.{scenario_of}
 use Rattle.teredo_app.specs.declared.statuses.TheConstants.{DONE, BAD_PAYLOAD, BAD_WORDS, BAD_SCENARIO, UNREADABLE, UNWRITABLE, NO_MEMORY}
-use Rattle.show.specs.Explained.{explained, explained_text}
+use Rattle.show.specs.Explained.{explained, text_of}
 use Rattle.teredo_app.specs.Streams.{AppendsFront}
 use Rattle.teredo_app.specs.Reports.{ReportsOn, BeginsToReport}
 
@@ -70,7 +70,7 @@ pub record ShowEnds (o : Outside) (word : List ℕ) (status : ℕ) : Type 0 wher
   pub statuses : Contains (DONE ∷ BAD_PAYLOAD ∷ UNWRITABLE ∷ []) status
   pub done : status ≡ DONE → (lines : List ℕ) × (explained word ≡ Ok lines) × Appends o.held.0 o.held.1 lines
   pub refused : status ≡ BAD_PAYLOAD → (line : List ℕ) × (explained word ≡ Err line) × Appends o.held.0 o.held.1 line
-  pub unwritten : status ≡ UNWRITABLE → Rose o.sink_faults.0 o.sink_faults.1 × AppendsFront o.held.0 o.held.1 (explained_text word)
+  pub unwritten : status ≡ UNWRITABLE → Rose o.sink_faults.0 o.sink_faults.1 × AppendsFront o.held.0 o.held.1 (text_of (explained word))
 
 -- How it ends where the words have no shape.
 pub record WordsEnd (o : Outside) (status : ℕ) : Type 0 where
