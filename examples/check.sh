@@ -1,6 +1,6 @@
 #!/usr/bin/env bash
-# check.sh [PROGRAM]: plays each scenario with the built program and compares what it writes with the report
-# beside the scenario, and its exit status with NAME.toml.status (0 where there is no such file).
+# check.sh [PROGRAM]: plays each scenario and shows each datagram with the built program, compares what it writes with
+# the file NAME.stdout beside it, and its exit status with NAME.status (0 where there is no such file).
 # Ends with the line 'N passed, M failed', and with status 1 where one failed or none was played.
 set -u
 here=$(cd -- "$(dirname -- "${BASH_SOURCE[0]}")" >/dev/null && pwd) || exit 1
@@ -12,28 +12,37 @@ if [ ! -x "$program" ]; then
 fi
 program=$(readlink -f -- "$program")
 
-# play SCENARIO: says what differs, and answers whether nothing does.
-play() {
-  local scenario=$1 wanted=0 status
-  [ ! -f "$scenario.status" ] || wanted=$(cat "$scenario.status")
-  timeout "$seconds" "$program" lab "$scenario" </dev/null >"$made"
+# compare INPUT WORDS..: says what differs, and answers whether nothing does.
+compare() {
+  local input=$1 wanted=0 status
+  shift
+  [ ! -f "$input.status" ] || wanted=$(cat "$input.status")
+  timeout "$seconds" "$program" "$@" </dev/null >"$made"
   status=$?
-  diff -u --label "$scenario.stdout" --label 'as played' "$scenario.stdout" "$made" || return 1
+  diff -u --label "$input.stdout" --label 'as played' "$input.stdout" "$made" || return 1
   [ "$status" -eq "$wanted" ] || { echo "status $status, wanted $wanted"; return 1; }
+}
+
+# try INPUT WORDS..: compares, and counts.
+try() {
+  if compare "$@"; then
+    passed=$((passed + 1))
+  else
+    failed=$((failed + 1))
+    echo "$1 differs"
+  fi
 }
 
 made=$(mktemp) || exit 1
 trap 'rm -f "$made"' EXIT
-cd "$here/scenarios" || exit 1
+cd "$here" || exit 1
 passed=0
 failed=0
-for scenario in *.toml; do
-  if play "$scenario"; then
-    passed=$((passed + 1))
-  else
-    failed=$((failed + 1))
-    echo "$scenario differs"
-  fi
+for scenario in scenarios/*.toml; do
+  try "$scenario" lab "$scenario"
+done
+for datagram in datagrams/*.hex; do
+  try "$datagram" show "$(cat "$datagram")"
 done
 echo "$passed passed, $failed failed"
 [ "$failed" -eq 0 ] && [ "$passed" -gt 0 ]

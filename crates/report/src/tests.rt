@@ -118,6 +118,32 @@ fn a_solicitation_and_its_answer(rt: HostRuntime) -> Result<(), Fail> {
 }
 
 #[test]
+fn a_packet_for_the_ipv6_side(rt: HostRuntime) -> Result<(), Fail> {
+    let t = topology(rt.alloc(), b"s1")?;
+    let mut marks = Marks::new();
+    marks.push(Mark::Six {
+        number: 1,
+        relay: None,
+        len: 40,
+    });
+    let record = Record {
+        event: 1,
+        moment: Millis(0),
+        act: Act::Deliver { number: 0 },
+        node: Some(0),
+        fate: Fate::Six,
+        marks,
+    };
+    let mut out = LineBuf::new();
+    line(1, &record, &t, &mut out);
+    assert_eq!(rt;
+        out.as_slice(),
+        b"1 0 1 deliver:0 s1 six #1=six/40\n".as_slice()
+    );
+    Ok(())
+}
+
+#[test]
 fn only_an_entry_that_is_there_is_delivered(rt: HostRuntime) {
     let mut out = LineBuf::new();
     let mut sums = Sums::new();

@@ -30,6 +30,13 @@ const FIRST_LINE: &str = "0 0 0 stranger - put #0=198.51.100.7:40000>192.0.2.1:3
 const REPORT: &str =
     "0 0 0 stranger - put #0=198.51.100.7:40000>192.0.2.1:3544/61\n1 0 1 deliver:0 s1 advert #1=192.0.2.1:3544>198.51.100.7:40000/117\ntotal records 2 entries 2 delivered 1 handed 0 kept 0 dropped 0\n";
 
+/// A bubble from one client to another.
+const BUBBLE: &str =
+    "6000000000003bff200100004136e378800063bf3ffffdd2200100004136e378000063bf39cc9bf8";
+
+const BUBBLE_LINES: &str =
+    "auth none\norigin none\npacket class 0 flow 0 next 59 hop 255 length 0\nsource 2001:0:4136:e378:8000:63bf:3fff:fdd2\nteredo server 65.54.227.120 flags 8000 mapped 192.0.2.45:40000\ndestination 2001:0:4136:e378:0:63bf:39cc:9bf8\nteredo server 65.54.227.120 flags 0000 mapped 198.51.100.7:40000\nbody bubble -\n";
+
 #[derive(Drop)]
 struct Ended {
     status: u8,
@@ -108,6 +115,39 @@ fn refuses_texts(rt: HostRuntime) -> Result<(), Fail> {
         assert_eq!(rt; end.sink.as_slice(), b"scenario: unbuilt\n".as_slice());
         assert_eq!(rt; end.status, 3);
     }
+    Ok(())
+}
+
+#[test]
+fn shows_datagrams(rt: HostRuntime) -> Result<(), Fail> {
+    let cases = [
+        (BUBBLE, BUBBLE_LINES, 0),
+        (
+            "000063bf39cc9bf8000100000102030405060708006000000000083afffe80000000000000000063bf39cc9bf8ff020000000000000000000000000002850043b300000000",
+            "fault order at 8\n",
+            1,
+        ),
+        (
+            "000100000102030405060708006000000000083afffe80000000000000000063bf39cc9bf8ff020000000000000000000000000002850043b3000000",
+            "fault length said 8 there 7 at 13\n",
+            1,
+        ),
+        (
+            "6000000000003bff200100004136e378800063bf3ffffdd2200100004136e378000063bf39cc9b",
+            "fault short 39 at 0\n",
+            1,
+        ),
+        ("-", "fault hex at 0\n", 1),
+        ("", "fault cut at 0\n", 1),
+    ];
+    for (word, lines, status) in cases.iter() {
+        let end = end_of(rt.alloc(), &["show", word], b"", &[], &[])?;
+        assert_eq!(rt; end.sink.as_slice(), lines.as_bytes());
+        assert_eq!(rt; end.status, *status);
+    }
+    let unwritten = end_of(rt.alloc(), &["show", BUBBLE], b"", &[], &[0])?;
+    assert_eq!(rt; unwritten.sink.as_slice().len(), 0);
+    assert_eq!(rt; unwritten.status, 5);
     Ok(())
 }
 

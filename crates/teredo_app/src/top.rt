@@ -4,10 +4,12 @@ ghost use Rattle.teredo_app.specs.Ends.{Outside, lab_file, show_word, LabEnds, S
 ghost use Rattle.teredo_app.specs.Endings.{LineEnds, ReportEnds};
 
 use crate::play::write_report;
-use crate::statuses::{BAD_PAYLOAD, BAD_SCENARIO, BAD_WORDS, DONE, NO_MEMORY, UNREADABLE, UNWRITABLE};
+use crate::statuses::{
+    BAD_PAYLOAD, BAD_SCENARIO, BAD_WORDS, DONE, NO_MEMORY, UNREADABLE, UNWRITABLE,
+};
 use crate::streams::{Fault, read_named, write_whole};
-use show::{Page, explain};
 use scenario::{MOST_EVENTS, Scenario, ScenarioFault, TEXT_MOST, read};
+use show::{Page, explain};
 use std::alloc::Global;
 use td_outside::{Failed, Sink, Source};
 

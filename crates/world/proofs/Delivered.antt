@@ -8,7 +8,7 @@ use Rattle.history.specs.declared.event_list.Event.TheVariants as event
 use Rattle.history.specs.declared.acts.Act.TheVariants as act
 use Rattle.history.specs.declared.node_rows.ServerNode.{ServerNode}
 use Rattle.history.specs.Rows.{TopologyState}
-use Rattle.history.specs.Topology.{Node, server, is_at, side_at}
+use Rattle.history.specs.Topology.{server, is_at, side_at}
 use Rattle.history.specs.Full.{Item, udp, six, Full, items_of}
 use Rattle.history.specs.Records.{record_of}
 use Rattle.history.specs.declared.records.Record.{Record}

@@ -68,8 +68,8 @@ next_kept t m w i (event.Stranger src dst x) = record { event = refl; asked = re
 server_tells : (s : ServerSettings) (side : Side) (from : Ep) (x : List ℕ) → is_no_entry (server_row s side from x).fate ≡ false
 server_tells s side from x =
     fate_of_row (λ (f : Fate). is_no_entry f ≡ false)
-        (refl, (refl, (refl, (refl, (refl, (refl, (refl, (refl, (refl, (refl, (refl, (refl, (refl, (refl, (refl, (refl, tt))))))))))))))))
-        s side from x
+    (refl, (refl, (refl, (refl, (refl, (refl, (refl, (refl, (refl, (refl, (refl, (refl, (refl, (refl, (refl, (refl, tt))))))))))))))))
+    s side from x
 
 udp_tells : (m : ℕ) (w : List Item) (e : Numbered) (n : ℕ) (src dst : Ep) (x : List ℕ) (r : Route) → IsTold (delivered_udp m w e n src dst x r)
 udp_tells m w e n src dst x (reaches k (server a)) = record { delivered = sym (ap not (server_tells (server_settings a) (side_at (server a) dst) src x)) }

@@ -1,6 +1,5 @@
 -- Legal histories: each record is the one that follows from the scenario and the records before it.
-use Rattle.std.specs.Prelude.{◌≡◌, ℕ, List, [], ◌∷◌, Option, Some, None}
-use Rattle.history.specs.declared.event_list.Event.{Event}
+use Rattle.std.specs.Prelude.{◌≡◌, ℕ, List, [], ◌∷◌, Some, None}
 use Rattle.history.specs.Rows.{TopologyState}
 use Rattle.history.specs.Topology.{Scenario}
 use Rattle.history.specs.Full.{Full}

@@ -12,7 +12,7 @@ use Rattle.history.specs.declared.acts.Verb.{Verb}
 use Rattle.history.specs.declared.acts.Verb.TheVariants as verb
 use Rattle.history.specs.Rows.{TopologyState}
 use Rattle.history.specs.Topology.{Scenario, Node}
-use Rattle.history.specs.Full.{Item, udp, six, Made, sent, Full, wire}
+use Rattle.history.specs.Full.{Item, udp, six, sent, Full, wire}
 use Rattle.world.specs.Past.{Draws, now, place}
 use Rattle.world.specs.Emit.{Route, reaches, astray, route, entry_of, made_of, address_by}
 

@@ -4,7 +4,7 @@ use Rattle.td_base.specs.declared.endpoint.Ep.{Ep}
 use Rattle.teredo_node.specs.declared.fates.Fate.{Fate}
 use Rattle.teredo_node.specs.declared.fates.Fate.TheVariants as fate
 use Rattle.teredo_node.specs.Step.{Step}
-use Rattle.teredo_node.specs.Journal.{Input, arrived, Entry}
+use Rattle.teredo_node.specs.Journal.{arrived}
 use Rattle.server_core.specs.Server.{server_row}
 use Rattle.history.specs.declared.event_list.Event.{Event}
 use Rattle.history.specs.declared.event_list.Event.TheVariants as event
@@ -13,8 +13,8 @@ use Rattle.history.specs.declared.acts.Act.TheVariants as act
 use Rattle.history.specs.declared.acts.Verb.TheVariants as verb
 use Rattle.history.specs.declared.node_rows.ServerNode.{ServerNode}
 use Rattle.history.specs.Rows.{TopologyState}
-use Rattle.history.specs.Topology.{Node, server, is_at, number_of, side_at}
-use Rattle.history.specs.Full.{Item, udp, six, Made, sent, Full}
+use Rattle.history.specs.Topology.{server, is_at, number_of, side_at}
+use Rattle.history.specs.Full.{Item, udp, six, sent, Full}
 use Rattle.world.specs.Emit.{server_settings, Route, reaches, astray, reach, noted, outright, six_made}
 use Rattle.world.specs.Next.{Numbered}
 

@@ -1,12 +1,11 @@
 -- What one call does to the wire, and what it says.
-use Rattle.std.specs.Prelude.{◌≡◌, ◌≢◌, ℕ, List, [], ◌∷◌, ◌++◌, Result, Ok, Err, Option}
-use Rattle.td_base.specs.declared.small.Millis.{Millis}
+use Rattle.std.specs.Prelude.{◌≡◌, ◌≢◌, ℕ, List, [], ◌++◌, Result, Ok, Err, Option}
 use Rattle.td_base.specs.declared.small.NoMemory.{NoMemory}
 use Rattle.teredo_node.specs.declared.fates.Fate.{Fate}
 use Rattle.history.specs.declared.acts.Act.{Act}
 use Rattle.history.specs.declared.mark_list.Mark.{Mark}
 use Rattle.history.specs.declared.records.Record.{Record}
-use Rattle.history.specs.Full.{Item, Made, Full, items_of}
+use Rattle.history.specs.Full.{Item, Full, items_of}
 use Rattle.history.specs.Records.{record_of}
 
 -- a record with these marks, at moment 0

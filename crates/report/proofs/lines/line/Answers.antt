@@ -17,6 +17,6 @@ returns c =
     (before c.push_text-4.new.self (node_text c.args.t.now c.args.r.now.node) _ c.put_node.ensures.text
     (before c.put_node.new.out (codes " ") _ c.push_text-5.ensures
     (before c.push_text-5.new.self c.as_bytes.result.now _ c.push_text-6.ensures
-    (before c.push_text-6.new.self (marks_text c.as_slice.result.now) _ c.put_marks.ensures.text c.push_text-7.ensures))))))))))))
+    (before c.push_text-6.new.self (marks_text c.args.t.now c.as_slice.result.now) _ c.put_marks.ensures.text c.push_text-7.ensures))))))))))))
     in
     rw (c.from.ensures, c.as_bytes.ensures.value, c.name.ensures.word, c.as_slice.ensures.value) at joined

@@ -1,11 +1,8 @@
-use Rattle.std.proofs.Common.{◌≡◌, ◌≢◌, [], Some, None, refl, sym, ap, subst, ◌∙◌}
+use Rattle.std.proofs.Common.{◌≡◌, ◌≢◌, [], Some, refl, sym, ap, subst, ◌∙◌}
 use Rattle.std.specs.Prelude.{slice_get}
-use Rattle.server_core.specs.Server.{server_row}
 use Rattle.teredo_node.specs.Step.{Step}
-use Rattle.history.specs.Topology.{server, side_at}
 use Rattle.history.specs.Full.{udp, Full}
 use Rattle.history.specs.declared.event_list.Event.TheVariants as event
-use Rattle.world.specs.Emit.{server_settings}
 use Rattle.world.specs.Seen.{answered}
 use Rattle.world.specs.Lent.{item_lent}
 use Rattle.world.proofs.Delivered as delivered
