@@ -1,3 +1,4 @@
+//! The Router Advertisement that answers a solicitation.
 ghost use Rattle.std.specs.Prelude.{◌≡◌, ◌≤◌, ◌+◌, length, take, Some};
 ghost use Rattle.indications.specs.Blocks.{indications_len};
 ghost use Rattle.icmp6.specs.Writing.{message_bytes};

@@ -1,8 +1,9 @@
+//! What the lines of the server's table ask of a datagram.
 ghost use Rattle.std.specs.Prelude.{◌≡◌, ◌≤◌, length, IsTrue};
+ghost use Rattle.bubble.specs.declared.parts.TheConstants.{MAX_DATAGRAM};
 ghost use Rattle.ipv6_packet.specs.Packets.{view as packet_view};
 ghost use Rattle.icmp6.specs.declared.numbers.TheConstants.{SOLICIT_LEN};
-ghost use Rattle.server_core.specs.Conditions.{own_address};
-ghost use Rattle.server_core.specs.Conditions.{is_other_kind, message_in, IsMessageOf, is_ill_formed, is_own, is_for_server, is_solicitation, is_forged, is_for_client, is_not_ours, is_unusable, is_looped};
+ghost use Rattle.server_core.specs.Conditions.{own_address, is_other_kind, message_in, IsMessageOf, is_ill_formed, is_own, is_for_server, is_solicitation, is_forged, is_for_client, is_not_ours, is_unusable, is_looped};
 
 use crate::server::ServerSettings;
 use bubble::{Kind, kind};
@@ -11,7 +12,7 @@ use ipv6_packet::{NEXT_ICMP, Packet};
 use td_base::{Ep, Ip4, Ip6, is_link_local, usable};
 use teredo_addr::{ALL_ROUTERS, embedded, is_teredo, link_local, server_of};
 
-/// Neither a bubble nor ICMPv6.
+/// Whether a packet is neither a bubble nor ICMPv6.
 #[tactic(auto, unfolding(crate::specs::Conditions::is_other_kind))]
 pub fn is_other_kind(packet: &Packet<'_>) -> bool
     ensures { result ≡ is_other_kind (packet_view packet.now) }
@@ -25,7 +26,7 @@ pub fn is_other_kind(packet: &Packet<'_>) -> bool
 /// The ICMPv6 message of a packet, where it has one and that is well-formed.
 #[tactic(auto, unfolding(crate::specs::Conditions::message_in))]
 pub fn message_of<'a>(packet: &Packet<'a>) -> Option<Msg<'a>>
-    requires { length packet.now.body.now ≤ 1400 }
+    requires { length packet.now.body.now ≤ MAX_DATAGRAM }
     ensures { IsMessageOf (packet_view packet.now) result }
 {
     if packet.next != NEXT_ICMP {
@@ -37,7 +38,7 @@ pub fn message_of<'a>(packet: &Packet<'a>) -> Option<Msg<'a>>
     }
 }
 
-/// An ICMPv6 packet whose message is refused.
+/// Whether a packet is ICMPv6 and its message is refused.
 #[tactic(auto, unfolding(crate::specs::Conditions::is_ill_formed))]
 pub fn is_ill_formed(packet: &Packet<'_>, message: Option<Msg<'_>>) -> bool
     requires { IsMessageOf (packet_view packet.now) message }
@@ -46,7 +47,7 @@ pub fn is_ill_formed(packet: &Packet<'_>, message: Option<Msg<'_>>) -> bool
     packet.next == NEXT_ICMP && message.is_none()
 }
 
-/// One of the server's two addresses.
+/// Whether an address is one of the server's two.
 #[tactic(auto, unfolding(crate::specs::Conditions::is_own))]
 pub fn is_own(settings: &ServerSettings, ip: Ip4) -> bool
     ensures { result ≡ is_own settings.now ip }
@@ -61,7 +62,7 @@ pub fn own_address(settings: &ServerSettings) -> Ip6
     link_local(true, Ep::of_server(settings.primary))
 }
 
-/// The destination is the server itself.
+/// Whether a packet is for the server itself.
 #[tactic(auto, unfolding(crate::specs::Conditions::is_for_server))]
 pub fn is_for_server(settings: &ServerSettings, packet: &Packet<'_>) -> bool
     ensures { result ≡ is_for_server settings.now (packet_view packet.now) }
@@ -69,7 +70,7 @@ pub fn is_for_server(settings: &ServerSettings, packet: &Packet<'_>) -> bool
     packet.dst == own_address(settings)
 }
 
-/// A Router Solicitation from a link-local address to all routers.
+/// Whether a packet is a Router Solicitation from a link-local address to all routers.
 #[tactic(auto, unfolding(crate::specs::Conditions::is_solicitation))]
 pub fn is_solicitation(packet: &Packet<'_>, message: Option<Msg<'_>>) -> bool
     requires { IsMessageOf (packet_view packet.now) message }
@@ -85,7 +86,7 @@ pub fn is_solicitation(packet: &Packet<'_>, message: Option<Msg<'_>>) -> bool
     }
 }
 
-/// A Teredo source that doesn't embed the endpoint that the datagram came from.
+/// Whether a Teredo source doesn't embed the endpoint that the datagram came from.
 #[tactic(auto, unfolding(crate::specs::Conditions::is_forged))]
 pub fn is_forged(from: Ep, packet: &Packet<'_>) -> bool
     ensures { result ≡ is_forged from (packet_view packet.now) }
@@ -93,7 +94,7 @@ pub fn is_forged(from: Ep, packet: &Packet<'_>) -> bool
     is_teredo(packet.src) && embedded(packet.src) != from
 }
 
-/// The destination is a Teredo address with this server.
+/// Whether a packet is for a client of this server.
 #[tactic(auto, unfolding(crate::specs::Conditions::is_for_client))]
 pub fn is_for_client(settings: &ServerSettings, packet: &Packet<'_>) -> bool
     ensures { result ≡ is_for_client settings.now (packet_view packet.now) }
@@ -101,7 +102,7 @@ pub fn is_for_client(settings: &ServerSettings, packet: &Packet<'_>) -> bool
     is_teredo(packet.dst) && server_of(packet.dst) == settings.primary
 }
 
-/// From outside Teredo, for no client of this server.
+/// Whether a packet is from outside Teredo and for no client of this server.
 #[tactic(auto, unfolding(crate::specs::Conditions::is_not_ours))]
 pub fn is_not_ours(settings: &ServerSettings, packet: &Packet<'_>) -> bool
     ensures { result ≡ is_not_ours settings.now (packet_view packet.now) }
@@ -109,7 +110,7 @@ pub fn is_not_ours(settings: &ServerSettings, packet: &Packet<'_>) -> bool
     !is_teredo(packet.src) && !is_for_client(settings, packet)
 }
 
-/// A Teredo destination whose embedded endpoint can't be used.
+/// Whether a Teredo destination embeds an endpoint that can't be used.
 #[tactic(auto, unfolding(crate::specs::Conditions::is_unusable))]
 pub fn is_unusable(settings: &ServerSettings, packet: &Packet<'_>) -> bool
     ensures { result ≡ is_unusable settings.now (packet_view packet.now) }
@@ -117,7 +118,7 @@ pub fn is_unusable(settings: &ServerSettings, packet: &Packet<'_>) -> bool
     is_teredo(packet.dst) && !usable(settings.policy, embedded(packet.dst))
 }
 
-/// A Teredo destination that embeds an address of the server.
+/// Whether a Teredo destination embeds an address of the server.
 #[tactic(auto, unfolding(crate::specs::Conditions::is_looped))]
 pub fn is_looped(settings: &ServerSettings, packet: &Packet<'_>) -> bool
     ensures { result ≡ is_looped settings.now (packet_view packet.now) }

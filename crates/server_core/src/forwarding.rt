@@ -1,3 +1,4 @@
+//! Packets that go on to another Teredo client.
 ghost use Rattle.std.specs.Prelude.{◌≡◌, ◌≤◌, ◌+◌, length, take, Some, None};
 ghost use Rattle.server_core.specs.Outputs.{forwarded};
 

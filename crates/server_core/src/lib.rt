@@ -18,7 +18,7 @@
 //!
 //! | module | holds | stated in |
 //! |---|---|---|
-//! | `server` | `Server` and its settings | `specs/Server.antt`, `Answers.antt` |
+//! | `server` | `Server` and its settings | `specs/Server.antt`, `Answers.antt`, `Bounds.antt` |
 //! | `reply` | `Answer` | `specs/Answers.antt` |
 //! | `rules` | the table | `specs/Rules.antt` |
 //! | `conditions` | what the lines of the table ask | `specs/Conditions.antt` |
@@ -36,4 +36,4 @@ mod server;
 mod tests;
 
 pub use reply::Answer;
-pub use server::{DATAGRAM_LIMIT, Server, ServerSettings};
+pub use server::{DATAGRAM_LIMIT, GROWTH_LIMIT, Server, ServerSettings};

@@ -1,3 +1,4 @@
+//! What the server answers.
 use td_base::{Ep, Side, Span};
 use teredo_node::Fate;
 

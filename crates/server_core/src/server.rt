@@ -1,3 +1,4 @@
+//! The server.
 ghost use Rattle.std.specs.Prelude.{◌≡◌, ◌≤◌};
 ghost use Rattle.server_core.specs.Server.{server_row, answering_side};
 ghost use Rattle.server_core.specs.Answers.{Answers};
@@ -16,6 +17,10 @@ use teredo_node::Fate;
 
 /// The most bytes of a datagram, and of what the server sends.
 pub const DATAGRAM_LIMIT: usize = MAX_DATAGRAM;
+
+/// The most bytes that what is sent is longer than the datagram that drew it: an origin of 8, and an advertisement
+/// of 56 for a solicitation of 8.
+pub const GROWTH_LIMIT: usize = 56;
 
 /// A server's two addresses, and which addresses it takes for global.
 #[derive(Clone, Copy, Debug)]
