@@ -1,0 +1,61 @@
+//! A word is explained.
+ghost use Rattle.std.specs.Prelude.{◌≡◌, ◌≤◌, [], None, is_ok, length};
+ghost use Rattle.show.specs.Words.{bad_place, bytes_of};
+ghost use Rattle.show.specs.Explained.{bytes_text, explained, text_of};
+
+use crate::fault_lines::{put_fault, put_hex_fault};
+use crate::page::Page;
+use crate::payload_lines::put_payload;
+use crate::words::{bad_place, put_bytes};
+use bubble::{MAX_DATAGRAM, PayloadFault};
+
+/// Puts what bytes are on an empty page.
+fn explain_bytes(bytes: &[u8], page: &mut Page) -> bool
+    requires short { length bytes.now ≤ MAX_DATAGRAM }
+    requires empty { page.old ≡ [] }
+    ensures text { page.new ≡ text_of (bytes_text bytes.now) }
+    ensures found { result ≡ is_ok (bytes_text bytes.now) }
+{
+    match bubble::read(bytes) {
+        Ok(payload) => {
+            put_payload(bytes, &payload, page);
+            true
+        }
+        Err(fault) => {
+            put_fault(fault, page);
+            false
+        }
+    }
+}
+
+/// Puts what the bytes are that digits say on an empty page.
+fn explain_digits(digits: &[u8], page: &mut Page) -> bool
+    requires digits { bad_place digits.now ≡ None }
+    requires empty { page.old ≡ [] }
+    ensures text { page.new ≡ text_of (bytes_text (bytes_of digits.now)) }
+    ensures found { result ≡ is_ok (bytes_text (bytes_of digits.now)) }
+{
+    let len = digits.len() / 2;
+    if len > MAX_DATAGRAM {
+        put_fault(PayloadFault::Long { len }, page);
+        return false;
+    }
+    let mut room = [0; MAX_DATAGRAM];
+    let bytes = &mut room[..len];
+    put_bytes(digits, bytes);
+    explain_bytes(bytes, page)
+}
+
+/// Puts the lines of the payload that a word says in place of what the page held, or the line of the first fault.
+/// Answers whether it is a payload.
+pub fn explain(word: &[u8], page: &mut Page) -> bool
+    ensures text { page.new ≡ text_of (explained word.now) }
+    ensures found { result ≡ is_ok (explained word.now) }
+{
+    page.clear();
+    if let Some(place) = bad_place(word) {
+        put_hex_fault(place, page);
+        return false;
+    }
+    explain_digits(word, page)
+}

@@ -1,0 +1,42 @@
+//! The text of a datagram: a word of hexadecimal digits is taken apart, and its parts are put on a page, line by line.
+//!
+//! Standards: RFC 4380, section 5.1.1 (the payload) and section 4 (what a Teredo address embeds); RFC 5952, section 4
+//! (the text of an IPv6 address). Our choice: which text is hexadecimal, and how a line looks (`docs/GUIDE.md`,
+//! "Reading a datagram").
+//!
+//! # What the layer above may rely on
+//!
+//! - `explain` puts on the page the lines of the one payload that the word says, or one line with the first fault:
+//!   where the word is no hexadecimal text, else what the payload's reader tells.
+//! - Its answer tells which of the two stands there. There is no third, and nothing else is left on the page.
+//! - No call takes memory, and none fails: a page has room for the longest payload's lines.
+//!
+//! # What it does not know
+//!
+//! Whether a node would take the datagram, and whether an ICMPv6 message is right. Where the word comes from, and where
+//! the page goes.
+//!
+//! # Parts
+//!
+//! | module | holds | stated in |
+//! |---|---|---|
+//! | `page` | `Page`, a text that is being made | |
+//! | `pieces` | numbers, addresses and bytes as text | `specs/Lines.antt` |
+//! | `words` | what hexadecimal text is, and the bytes that it says | `specs/Words.antt` |
+//! | `payload_lines` | the lines of a payload | `specs/Lines.antt` |
+//! | `fault_lines` | the line of a fault | `specs/Faults.antt` |
+//! | `explaining` | `explain` | `specs/Explained.antt` |
+#![tactic(auto)]
+
+mod explaining;
+mod fault_lines;
+mod page;
+mod payload_lines;
+mod pieces;
+mod words;
+
+pub use explaining::explain;
+pub use page::{PAGE_LEN, Page};
+
+#[cfg(test)]
+mod tests;
