@@ -1,8 +1,7 @@
 -- How `lab` ends, by how its last step ended.
-use Rattle.std.proofs.Common.{◌≡◌, ℕ, List, Option, Some, None, sym, subst, inl, inr, refl, lit<, arith}
-use Rattle.std.specs.Io.KnownBytes.{Keeps}
+use Rattle.std.proofs.Common.{◌≡◌, ℕ, Some, None, sym, subst, inl, inr, refl, lit<, arith}
 use Rattle.history.specs.Topology.{Scenario}
-use Rattle.teredo_app.specs.Ends.{Outside, LabEnds, Reads, NoFault, refusal}
+use Rattle.teredo_app.specs.Ends.{Outside, LabEnds, Reads, refusal}
 use Rattle.teredo_app.specs.Endings.{LineEnds, line_written, line_failed, ReportEnds, report_written, report_failed, report_starved}
 
 pub refused_ends : (o : Outside) (result : ℕ) → Reads o None → LineEnds o.held.0 o.held.1 o.sink_faults.0 o.sink_faults.1 refusal 3 result → LabEnds o result

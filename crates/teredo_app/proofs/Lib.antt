@@ -2,4 +2,3 @@ pub mod Written
 pub mod Told
 pub mod Playing
 pub mod Ended
-pub mod Shown

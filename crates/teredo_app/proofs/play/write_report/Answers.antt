@@ -1,8 +1,8 @@
-use Rattle.std.proofs.Common.{◌≡◌, ◌≤◌, List, [], Some, Option, sym, subst, refl, arith, ◌∙◌, ap, length}
+use Rattle.std.proofs.Common.{◌≡◌, ◌≤◌, List, [], Some, sym, subst, refl, arith, ◌∙◌, ap, length}
 use Rattle.std.specs.Prelude.{slice_get}
 use Rattle.std.proofs.lemmas.Option.{slice_get_read}
 use Rattle.history.specs.declared.event_list.Event.{Event}
-use Rattle.world.specs.World.{WorldState, new_world}
+use Rattle.world.specs.World.{WorldState}
 use Rattle.report.specs.declared.totals.Sums.{Sums}
 use Rattle.report.specs.Totals.{sums_of}
 use Rattle.scenario.specs.Told.{told}
