@@ -5,26 +5,68 @@ use Rattle.std.specs.Char.{is_ascii_hexdigit}
 use Rattle.std.specs.List.{AllPass, position_or_len}
 use Rattle.std.specs.Option.{option_or}
 use Rattle.std.specs.Result.{result_unwrap_or}
-use Rattle.std.proofs.lemmas.Bool.{ltb-false, eqb-false}
-use Rattle.std.proofs.lemmas.List.{length-take-le}
-use Rattle.std.proofs.lemmas.List.Sums.{fails_before_first}
+use Rattle.std.proofs.lemmas.Bool.{ltb-true, ltb-false, eqb-true, eqb-false}
+use Rattle.std.proofs.lemmas.List.{length-take-le, length-take, get_or-take}
+use Rattle.std.proofs.lemmas.List.Sums.{fails_before_first, passes_at_first}
 use Rattle.hex.specs.Hex.{is_hex_digit, decode_of, decode_sized}
 use Rattle.hex.specs.declared.error.FromHexError.{FromHexError}
 use Rattle.hex.proofs.HexLemmas.{decode_of-digits, decode_of-ok, decode_sized-twice}
 use Rattle.show.specs.Words.{is_other, bad_place, bytes_of}
+use Rattle.show.specs.Shown.{IsBadPlace}
 
 -- the two tests of a digit are one
-digit_read : (c : ℕ) → not (is_ascii_hexdigit c) ≡ false → is_hex_digit c ≡ true
-digit_read c h = grind arith
+same_digit : (c : ℕ) → is_ascii_hexdigit c ≡ is_hex_digit c
+same_digit c = grind arith
 
+pub is_digit : (b : Bool) → not b ≡ false → b ≡ true
+is_digit true h = refl
+is_digit false h = absurd cc
+
+pub is_no_digit : (b : Bool) → not b ≡ true → b ≡ false
+is_no_digit true h = absurd cc
+is_no_digit false h = refl
+
+-- where neither of the two tells a place
 none_of_two : (o : Option ℕ) (b : Bool) (n : ℕ) → option_or o (cond b (Some n) None) ≡ None → (o ≡ None) × (b ≡ false)
 none_of_two (Some i) b n h = absurd cc
 none_of_two None true n h = absurd cc
 none_of_two None false n h = (refl, refl)
 
+-- where one of the two does
+some_of_two : (o : Option ℕ) (b : Bool) (n place : ℕ) → option_or o (cond b (Some n) None) ≡ Some place → (o ≡ Some place) ⊎ ((o ≡ None) × (b ≡ true) × (place ≡ n))
+some_of_two (Some i) b n place h = inl h
+some_of_two None true n place h = inr (refl, refl, cc)
+some_of_two None false n place h = absurd cc
+
 none_passes : (b : Bool) (n : ℕ) → cond b (Some n) None ≡ None → b ≡ false
 none_passes true n h = absurd cc
 none_passes false n h = refl
+
+one_passes : (b : Bool) (n place : ℕ) → cond b (Some n) None ≡ Some place → (b ≡ true) × (place ≡ n)
+one_passes true n place h = (refl, cc)
+one_passes false n place h = absurd cc
+
+-- bytes before the first that is no digit are digits
+digits_before : (word : List ℕ) (place : ℕ) → place ≤ position_or_len is_other word → AllPass is_ascii_hexdigit (take place word)
+digits_before word place early = λ k d lt.
+    let below : k < place = omega (arith, lt, length-take place word) in
+    rw (get_or-take place word k d below) (is_digit (is_ascii_hexdigit (get_or word k d)) (fails_before_first is_other word k d (omega arith)))
+
+-- the place where a word is no hexadecimal text
+pub bad_is : (word : List ℕ) (place : ℕ) → bad_place word ≡ Some place → IsBadPlace word place
+unfolding bad_place
+bad_is word place e =
+    let first : ℕ = position_or_len is_other word in
+    elim (some_of_two (position is_other word) (length word % 2 == 1) (length word) place e) [
+      | inl found ↦
+          let at = one_passes (ltb first (length word)) first place found in
+          let inside : first < length word = ltb-true _ _ at.0 in
+          let none = is_no_digit (is_ascii_hexdigit (get_or word first 0)) (passes_at_first is_other word 0 inside) in
+          rw at.1 (record { digits = digits_before word first (omega arith); other = inl (inside, none) })
+      | inr odd ↦
+          let past : length word ≤ first = ltb-false _ _ (none_passes (ltb first (length word)) first odd.0) in
+          rw odd.2 (record { digits = digits_before word (length word) past; other = inr (refl, eqb-true (length word % 2) 1 odd.1) })
+    ]
 
 -- where no place is bad, there are digits alone, and an even number of them
 all_digits : (word : List ℕ) → bad_place word ≡ None → (length word % 2 ≡ 0) × AllPass is_hex_digit word
@@ -33,7 +75,7 @@ all_digits word good =
     let parts = none_of_two (position is_other word) (length word % 2 == 1) (length word) good in
     let past : length word ≤ position_or_len is_other word = ltb-false _ _ (none_passes (ltb (position_or_len is_other word) (length word)) _ parts.0) in
     let odd = eqb-false (length word % 2) 1 parts.1 in
-    (omega (arith, odd), λ k d lt. digit_read (get_or word k d) (fails_before_first is_other word k d (omega arith)))
+    (omega (arith, odd), λ k d lt. sym (same_digit (get_or word k d)) ∙ is_digit (is_ascii_hexdigit (get_or word k d)) (fails_before_first is_other word k d (omega arith)))
 
 -- hexadecimal text says its bytes, and has two digits for each
 pub decoded : (word : List ℕ) → bad_place word ≡ None → (decode_of word ≡ Ok (bytes_of word)) × (length word ≡ 2 * length (bytes_of word))
@@ -44,6 +86,15 @@ decoded word good =
     let bytes : result_unwrap_or (decode_of word) [] ≡ read.0 = ap (λ (r : Result (List ℕ) FromHexError). result_unwrap_or r []) read.1 in
     let ok = decode_of-ok word read.0 read.1 in
     (read.1 ∙ ap Ok (sym bytes), ok.2 ∙ ap (λ (t : List ℕ). 2 * length t) (sym bytes))
+
+-- what decodes has no bad place
+pub decodes_well : (word x : List ℕ) → decode_of word ≡ Ok x → (place : ℕ) → bad_place word ≡ Some place → ⊥
+decodes_well word x e place bad =
+    let ok = decode_of-ok word x e in
+    elim (bad_is word place bad).other [
+      | inl here ↦ cc (sym here.1 ∙ same_digit (get_or word place 0) ∙ ok.1 place 0 here.0)
+      | inr end ↦ absurd (omega (arith, end.1, ok.0))
+    ]
 
 -- hexadecimal text is decoded into a room of its length
 pub written : (word new : List ℕ) (n : ℕ) (r : Result Unit FromHexError) → bad_place word ≡ None → length word ≡ 2 * n

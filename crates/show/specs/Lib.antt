@@ -2,3 +2,4 @@ pub mod Words
 pub mod Lines
 pub mod Faults
 pub mod Explained
+pub mod Shown

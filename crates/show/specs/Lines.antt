@@ -11,11 +11,12 @@ use Rattle.teredo_addr.specs.Teredo.{addr_in}
 use Rattle.ipv6_packet.specs.Packets.{Fields}
 use Rattle.indications.specs.declared.blocks.Auth.{Auth}
 use Rattle.indications.specs.declared.blocks.Origin.{Origin}
+use Rattle.indications.specs.declared.blocks.TheConstants.{NONCE}
 use Rattle.bubble.specs.declared.kinds.Kind.{Kind}
 use Rattle.bubble.specs.declared.kinds.Kind.TheVariants as kinds
 use Rattle.bubble.specs.Bubbles.{kind_of}
 use Rattle.bubble.specs.Payloads.{Value}
-use Rattle.show.specs.declared.payload_lines.TheConstants.{KEY_MOST}
+use Rattle.show.specs.declared.payload_lines.TheConstants.{FLAGS, KEY_MOST}
 
 -- a word and a number
 abbrev pub field : List ℕ → ℕ → List ℕ
@@ -43,7 +44,7 @@ pub record AreShortSpans (x : List ℕ) (a : Auth) : Type 0 where
 -- an authentication: identifier, value, nonce and confirmation
 abbrev pub keys_line : List ℕ → Auth → List ℕ
 keys_line x a =
-    codes "auth id " ++ (hex_text (span_bytes x a.id) ++ (codes " value " ++ (hex_text (span_bytes x a.value) ++ (codes " nonce " ++ (number_digits 8 a.nonce ++ (field (codes " confirmation ") a.confirmation ++ codes "\n"))))))
+    codes "auth id " ++ (hex_text (span_bytes x a.id) ++ (codes " value " ++ (hex_text (span_bytes x a.value) ++ (codes " nonce " ++ (number_digits NONCE a.nonce ++ (field (codes " confirmation ") a.confirmation ++ codes "\n"))))))
 
 abbrev pub auth_line : List ℕ → Option Auth → List ℕ
 auth_line x None = codes "auth none\n"
@@ -61,7 +62,7 @@ packet_line p =
 
 -- what a Teredo address embeds
 abbrev pub embedded_line : TeredoAddr → List ℕ
-embedded_line a = codes "teredo server " ++ (ip4_text a.server ++ (codes " flags " ++ (number_digits 2 a.flags ++ (codes " mapped " ++ (ep_text a.mapped ++ codes "\n")))))
+embedded_line a = codes "teredo server " ++ (ip4_text a.server ++ (codes " flags " ++ (number_digits FLAGS a.flags ++ (codes " mapped " ++ (ep_text a.mapped ++ codes "\n")))))
 
 abbrev pub teredo_line : Option TeredoAddr → List ℕ
 teredo_line None = []

@@ -25,7 +25,7 @@
 //! | `words` | what hexadecimal text is, and the bytes that it says | `specs/Words.antt` |
 //! | `payload_lines` | the lines of a payload | `specs/Lines.antt` |
 //! | `fault_lines` | the line of a fault | `specs/Faults.antt` |
-//! | `explaining` | `explain` | `specs/Explained.antt` |
+//! | `explaining` | `explain` | `specs/Explained.antt`, `Shown.antt` |
 #![tactic(auto)]
 
 mod explaining;

@@ -3,18 +3,21 @@ ghost use Rattle.std.specs.Prelude.{◌≡◌, ◌+◌, ◌*◌, ◌≤◌, ◌+
 ghost use Rattle.teredo_addr.specs.Teredo.{addr_in};
 ghost use Rattle.ipv6_packet.specs.Packets.{view as packet_view};
 ghost use Rattle.bubble.specs.Payloads.{view};
-ghost use Rattle.show.specs.Lines.{span_bytes, AreShortSpans, keys_line, auth_line, origin_line, packet_line, embedded_line, teredo_line, address_lines, kind_word, body_line, payload_lines};
+ghost use Rattle.show.specs.Lines.{number_digits, span_bytes, AreShortSpans, keys_line, auth_line, origin_line, packet_line, embedded_line, teredo_line, address_lines, kind_word, body_line, payload_lines};
 
 use crate::page::{PAGE_LEN, Page};
 use crate::pieces::{LINE_ROOM, put_ep, put_field, put_hex, put_ip4, put_ip6};
 use bubble::{Kind, MAX_DATAGRAM, Payload};
-use indications::{Auth, Origin};
+use indications::{Auth, NONCE, Origin};
 use ipv6_packet::Packet;
 use td_base::{Ip6, Span};
 use teredo_addr::{TeredoAddr, of_ip6};
 
 /// The most bytes of an identifier, and of an authentication value: their lengths stand in one byte.
 pub const KEY_MOST: usize = 255;
+
+/// The bytes of the flags in a Teredo address: RFC 4380, section 4.
+pub const FLAGS: usize = 2;
 
 /// Room for the line of an authentication, in bytes.
 pub const AUTH_ROOM: usize = 1200;
@@ -37,6 +40,15 @@ fn bytes_in(bytes: &[u8], span: Span) -> &[u8]
     &bytes[span.at..span.at + span.len]
 }
 
+/// Appends a nonce, in sixteen digits.
+fn put_nonce(nonce: u64, page: &mut Page)
+    requires { length page.old + 2 * NONCE ≤ PAGE_LEN }
+    ensures text { page.new ≡ page.old ++ number_digits NONCE nonce }
+    ensures long { length page.new ≡ length page.old + 2 * NONCE }
+{
+    page.push_digits(&nonce.to_be_bytes());
+}
+
 /// Appends an authentication: identifier, value, nonce and confirmation.
 fn put_keys(bytes: &[u8], auth: Auth, page: &mut Page)
     requires spans { AreShortSpans bytes.now auth }
@@ -49,7 +61,7 @@ fn put_keys(bytes: &[u8], auth: Auth, page: &mut Page)
     page.push_text(b" value ");
     put_hex(bytes_in(bytes, auth.value), page);
     page.push_text(b" nonce ");
-    page.push_digits(&auth.nonce.to_be_bytes());
+    put_nonce(auth.nonce, page);
     put_field(b" confirmation ", usize::from(auth.confirmation), page);
     page.push_text(b"\n");
 }
@@ -97,6 +109,15 @@ fn put_packet(packet: &Packet, page: &mut Page)
     page.push_text(b"\n");
 }
 
+/// Appends the flags of a Teredo address, in four digits.
+fn put_flags(flags: u16, page: &mut Page)
+    requires { length page.old + 2 * FLAGS ≤ PAGE_LEN }
+    ensures text { page.new ≡ page.old ++ number_digits FLAGS flags }
+    ensures long { length page.new ≡ length page.old + 2 * FLAGS }
+{
+    page.push_digits(&flags.to_be_bytes());
+}
+
 /// Appends what a Teredo address embeds.
 fn put_embedded(addr: TeredoAddr, page: &mut Page)
     requires { length page.old + LINE_ROOM ≤ PAGE_LEN }
@@ -106,7 +127,7 @@ fn put_embedded(addr: TeredoAddr, page: &mut Page)
     page.push_text(b"teredo server ");
     put_ip4(addr.server, page);
     page.push_text(b" flags ");
-    page.push_digits(&addr.flags.to_be_bytes());
+    put_flags(addr.flags, page);
     page.push_text(b" mapped ");
     put_ep(addr.mapped, page);
     page.push_text(b"\n");

@@ -1,6 +1,6 @@
 use Rattle.std.specs.Prelude.{codes}
-use Rattle.hex.specs.Hex.{encode_lower}
-use Rattle.show.specs.Lines.{field, hex_text}
+use Rattle.indications.specs.declared.blocks.TheConstants.{NONCE}
+use Rattle.show.specs.Lines.{field, hex_text, number_digits}
 use Rattle.show.proofs.Joined.{before}
 use Rattle.show.proofs.payload_lines.put_keys.Goals as goal
 
@@ -12,7 +12,7 @@ returns-clause-text c =
     (before c.put_hex.new.page (codes " value ") _ c.push_text-2.ensures.text
     (before c.push_text-2.new.self (hex_text c.bytes_in-2.result.now) _ c.put_hex-2.ensures.text
     (before c.put_hex-2.new.page (codes " nonce ") _ c.push_text-3.ensures.text
-    (before c.push_text-3.new.self (encode_lower c.to_be_bytes.result) _ c.push_digits.ensures.text
-    (before c.push_digits.new.self (field (codes " confirmation ") c.from.result) _ c.put_field.ensures.text c.push_text-4.ensures.text)))))))
+    (before c.push_text-3.new.self (number_digits NONCE c.args.auth.nonce) _ c.put_nonce.ensures.text
+    (before c.put_nonce.new.page (field (codes " confirmation ") c.from.result) _ c.put_field.ensures.text c.push_text-4.ensures.text)))))))
     in
-    rw (c.bytes_in.ensures.value, c.bytes_in-2.ensures.value, c.to_be_bytes.ensures, c.from.ensures) at joined
+    rw (c.bytes_in.ensures.value, c.bytes_in-2.ensures.value, c.from.ensures) at joined
