@@ -1,2 +1,4 @@
 pub mod PayloadLaws
 pub mod BubbleLaws
+pub mod Worked
+pub mod SeenLaws

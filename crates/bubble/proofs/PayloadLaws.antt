@@ -14,7 +14,8 @@ use Rattle.indications.specs.declared.blocks.Lead.{Lead}
 use Rattle.indications.specs.declared.fault.LeadFault.{LeadFault}
 use Rattle.indications.specs.Indications.{lead_at}
 use Rattle.indications.specs.Blocks.{LeadBytes, blocks_bytes}
-use Rattle.indications.proofs.LeadLaws.{lead_found, lead_again}
+use Rattle.indications.proofs.FoundLaws.{lead_found}
+use Rattle.indications.proofs.LeadLaws.{lead_again}
 use Rattle.indications.proofs.FaultLaws.{lead_fault}
 use Rattle.bubble.specs.declared.fault.PayloadFault.{PayloadFault}
 use Rattle.bubble.specs.declared.fault.PayloadFault.TheVariants as faults

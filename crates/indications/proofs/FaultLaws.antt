@@ -17,7 +17,7 @@ use Rattle.indications.specs.Indications.{head_at, auth_at, origin_at, lead_at, 
 use Rattle.indications.specs.Blocks.{AuthBlock, Blocks, auth_bytes, origin_bytes, optional, blocks_bytes, AreBlocks, origin}
 use Rattle.indications.specs.Faults.{StartsBlock, IsOutOfOrder, IsNoKind, IsFaultBehind, IsFirstFault}
 use Rattle.indications.proofs.HeadLaws.{bind_ok, guard_ok, bind_err, guard_err, chosen, HeadIs, HeadFails, head_tells, head_fails, at_first, at_second}
-use Rattle.indications.proofs.LeadLaws.{FoundAuth, FoundOrigin, auth_found, origin_found, auth_is, origin_is, gives, gives_is, gives_origin, gives_origin_is}
+use Rattle.indications.proofs.FoundLaws.{FoundAuth, FoundOrigin, auth_found, origin_found, auth_is, origin_is, gives, gives_is, gives_origin, gives_origin_is}
 
 -- ---- what was answered where nothing begins
 

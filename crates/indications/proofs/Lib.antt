@@ -1,4 +1,5 @@
 pub mod HeadLaws
+pub mod FoundLaws
 pub mod LeadLaws
 pub mod FaultLaws
 pub mod Worked

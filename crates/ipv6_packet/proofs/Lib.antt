@@ -1,3 +1,4 @@
 pub mod ReadLemmas
 pub mod PacketLaws
 pub mod Worked
+pub mod SeenLaws

@@ -1,5 +1,5 @@
 use Rattle.std.proofs.Common.{sym, arith}
-use Rattle.indications.proofs.LeadLaws.{origin_bytes_len}
+use Rattle.indications.proofs.FoundLaws.{origin_bytes_len}
 use Rattle.indications.proofs.writing.origin_len.Goals as goal
 
 pub returns-in-Some-clause-whole : goal.returns-in-Some-clause-whole
