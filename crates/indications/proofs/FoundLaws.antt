@@ -1,10 +1,9 @@
 -- What is read in front of a packet stands there.
-use Rattle.std.proofs.Common.{◌≡◌, true, false, cond, not, ltb, ℕ, ◌+◌, ◌/◌, ◌^◌, ◌<◌, ◌≤◌, inl, inr, List, [], ◌∷◌, ◌++◌, length, take, drop, Option, Some, None, Result, Ok, Err, refl, add-zero, sym, ap, subst, ◌∙◌, append_assoc, arith}
+use Rattle.std.proofs.Common.{◌≡◌, true, cond, not, ltb, ℕ, ◌+◌, ◌/◌, ◌^◌, ◌<◌, ◌≤◌, inl, inr, List, [], ◌∷◌, ◌++◌, length, take, drop, Option, Some, None, Result, Ok, Err, refl, sym, ap, subst, ◌∙◌, append_assoc, arith}
 use Rattle.std.specs.Prelude.{slice_index, IfSome, IfOk, option_map}
-use Rattle.std.proofs.lemmas.Bool.{le-ltb, ltb-false, not-false}
-use Rattle.std.proofs.lemmas.List.{length-drop, length-take, length-append, drop_at, drop_more, get_or_at, get_or-append-add, drop-drop, get_or-drop}
-use Rattle.byteorder.specs.Endian.{big_bytes, big_number}
-use Rattle.byteorder.specs.Numbers.{big_number-reads_back, length-bytes_high_first}
+use Rattle.std.proofs.lemmas.Bool.{ltb-false, not-false}
+use Rattle.std.proofs.lemmas.List.{length-drop, length-take, length-append, drop_more, get_or-drop}
+use Rattle.byteorder.specs.Endian.{big_bytes}
 use Rattle.td_base.specs.declared.endpoint.Ep.{Ep}
 use Rattle.td_base.specs.Ep.{IsEp}
 use Rattle.td_base.specs.Bytes.{IsBytes, number_at}
@@ -18,10 +17,10 @@ use Rattle.indications.specs.declared.heads.Head.TheVariants as heads
 use Rattle.indications.specs.declared.fault.LeadFault.{LeadFault}
 use Rattle.indications.specs.declared.fault.LeadFault.TheVariants.{Cut, Order}
 use Rattle.teredo_addr.specs.Hidden.{hidden_ep, shown_at}
-use Rattle.teredo_addr.proofs.HiddenLaws.{hidden_ep_len, shown_again, shown_fits, shown_hidden}
+use Rattle.teredo_addr.proofs.HiddenLaws.{hidden_ep_len, shown_fits, shown_hidden}
 use Rattle.indications.specs.Indications.{head_at, auth_at, origin_at, lead_at, is_auth, is_origin, is_packet, nonce_place, auth_of, origin_of}
-use Rattle.indications.specs.Blocks.{AreBlocks, AuthBlock, Blocks, auth_bytes, origin_bytes, optional, blocks_bytes, IsAuthBlock, spans_of, origin, lead, LeadBytes, AreSpansBefore, with_nonce, given, indications_bytes, indications_len, StartsPacket}
-use Rattle.indications.proofs.HeadLaws.{bind_ok, guard_ok, chosen, HeadIs, head_tells, packet_head, origin_head, auth_head}
+use Rattle.indications.specs.Blocks.{AuthBlock, Blocks, auth_bytes, origin_bytes, optional, blocks_bytes, IsAuthBlock, spans_of, origin, lead, LeadBytes, AreSpansBefore}
+use Rattle.indications.proofs.HeadLaws.{bind_ok, guard_ok, chosen, HeadIs, head_tells}
 
 -- ---- answers
 
