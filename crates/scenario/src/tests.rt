@@ -182,10 +182,28 @@ fn tells_servers_apart(rt: HostRuntime) -> Result<(), Fail> {
             "at {server}"
         );
     }
-    let two = format!(in rt.alloc();
-        "{ONE_SERVER}[[server]]\nname = \"s2\"\nprimary = \"192.0.2.3\"\nsecondary = \"192.0.2.4\"\n"
-    )?;
-    assert!(rt; !is_scenario(rt.alloc(), two.as_str())?);
+    let seconds = [
+        (
+            "name = \"s2\"\nprimary = \"192.0.2.3\"\nsecondary = \"192.0.2.4\"",
+            true,
+        ),
+        (
+            "name = \"s1\"\nprimary = \"192.0.2.3\"\nsecondary = \"192.0.2.4\"",
+            false,
+        ),
+        (
+            "name = \"s2\"\nprimary = \"192.0.2.3\"\nsecondary = \"192.0.2.1\"",
+            false,
+        ),
+    ];
+    for (server, wanted) in seconds {
+        let two = format!(in rt.alloc(); "{ONE_SERVER}[[server]]\n{server}\n")?;
+        assert_eq!(rt;
+            is_scenario(rt.alloc(), two.as_str())?,
+            wanted,
+            "at {server}"
+        );
+    }
     Ok(())
 }
 
@@ -235,6 +253,20 @@ fn keeps_its_limits(rt: HostRuntime) -> Result<(), Fail> {
             is_scenario(rt.alloc(), text.as_str())?,
             wanted,
             "after {count} spaces"
+        );
+    }
+    for (count, wanted) in [(8, true), (9, false)] {
+        let mut text = repeated(rt.alloc(), "", 0, end)?;
+        for i in 0..count {
+            let server = format!(in rt.alloc();
+                "[[server]]\nname = \"s{i}\"\nprimary = \"192.0.2.{i}\"\nsecondary = \"198.51.100.{i}\"\n"
+            )?;
+            text.push_str(server.as_str())?;
+        }
+        assert_eq!(rt;
+            is_scenario(rt.alloc(), text.as_str())?,
+            wanted,
+            "at {count} servers"
         );
     }
     assert!(rt; read(rt.alloc(), b"seed = 1\nevents = []\n#\xff\n").is_err());
