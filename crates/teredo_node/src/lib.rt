@@ -22,5 +22,8 @@
 #![tactic(auto)]
 
 mod fates;
+mod slots;
+mod steps;
 
 pub use fates::{FATE_LEN, Fate};
+pub use steps::{SENDS_MAX, Step};
