@@ -4,3 +4,4 @@ pub mod Outputs
 pub mod Server
 pub mod Answers
 pub mod Bounds
+pub mod Endpoint

@@ -9,6 +9,7 @@
 //! - An answer is at most 56 bytes longer than the datagram that drew it, and never goes to the server itself.
 //! - What the server sends draws nothing where it comes back to the server.
 //! - No call takes memory, and no byte of a peer makes a call fail.
+//! - `Server` is a frugal `Endpoint` of a link: its step is the table's, and it stays as it is.
 //!
 //! # What it does not know
 //!
@@ -19,6 +20,7 @@
 //! | module | holds | stated in |
 //! |---|---|---|
 //! | `server` | `Server` and its settings | `specs/Server.antt`, `Answers.antt`, `Bounds.antt` |
+//! | `endpoint` | `Server` as an endpoint of a link | `specs/Endpoint.antt` |
 //! | `reply` | `Answer` | `specs/Answers.antt` |
 //! | `rules` | the table | `specs/Rules.antt` |
 //! | `conditions` | what the lines of the table ask | `specs/Conditions.antt` |
@@ -28,6 +30,7 @@
 
 mod advertisement;
 mod conditions;
+mod endpoint;
 mod forwarding;
 mod reply;
 mod rules;

@@ -2,3 +2,4 @@ pub mod Fates
 pub mod Step
 pub mod Journal
 pub mod Rows
+pub mod Pump

@@ -21,6 +21,13 @@
 //! | | rule tables: the first line that holds | `specs/Rows.antt` |
 #![tactic(auto)]
 
+mod answering;
 mod fates;
+mod pumping;
+mod slots;
+mod steps;
 
+pub use answering::Endpoint;
 pub use fates::{FATE_LEN, Fate};
+pub use pumping::{PumpFault, Pumped, pump};
+pub use steps::{SENDS_MAX, Step};

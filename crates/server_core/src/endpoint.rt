@@ -1,0 +1,69 @@
+//! The server as an endpoint of a link.
+use crate::reply::Answer;
+use crate::server::{DATAGRAM_LIMIT, Server};
+use td_base::{Ep, Millis, NoMemory, Side};
+use teredo_node::{Endpoint, Fate, Step};
+
+/// It answers by its table alone: it keeps nothing, wants no memory, and has nothing due.
+impl Endpoint for Server {
+    ghost use Rattle.std.specs.Prelude.{◌≡◌, true, None};
+    ghost use Rattle.server_core.specs.Endpoint.{Serves, Rests};
+
+    const FRUGAL: bool = true;
+
+    ghost FRUGAL = { true };
+
+    ghost ready = { λ s now. Unit {0} };
+
+    ghost rule = { λ s now side from x step new. Serves s side from x step new };
+
+    ghost starves = { λ s now side from x. ⊥ };
+
+    ghost ticks = { λ s now step new. Rests s step new };
+
+    ghost is_due = { λ s now due. due ≡ None };
+
+    fn on_datagram(
+        &mut self,
+        _now: Millis,
+        side: Side,
+        from: Ep,
+        bytes: &[u8],
+        step: &mut Step,
+    ) -> Result<(), NoMemory> {
+        let mut out = [0; DATAGRAM_LIMIT];
+        match self.answer(side, from, bytes, &mut out) {
+            Answer::Drop { fate } => step.reset(fate),
+            Answer::Send {
+                fate,
+                side,
+                to,
+                len,
+            } => {
+                step.reset(fate);
+                step.push(side, to, &out[..len]);
+            }
+            Answer::Six { span } => {
+                step.reset(Fate::Six);
+                step.set_six(span);
+            }
+        }
+        Ok(())
+    }
+
+    fn on_tick(&mut self, _now: Millis, step: &mut Step) {
+        step.reset(Fate::Idle);
+    }
+
+    fn due(&self, _now: Millis) -> Option<Millis> {
+        None
+    }
+
+    ghost ready_later = { λ s now later le ready. tt };
+
+    ghost ready_again = { λ old now side from bytes step new ready rule. tt };
+
+    ghost ready_ticked = { λ old now step new ready ticks. tt };
+
+    ghost frugal = { λ s now side from bytes frugal starves. starves };
+}
