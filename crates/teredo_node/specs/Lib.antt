@@ -3,3 +3,4 @@ pub mod Step
 pub mod Journal
 pub mod Rows
 pub mod Pump
+pub mod Serve

@@ -24,10 +24,12 @@
 mod answering;
 mod fates;
 mod pumping;
+mod serving;
 mod slots;
 mod steps;
 
 pub use answering::Endpoint;
 pub use fates::{FATE_LEN, Fate};
 pub use pumping::{PumpFault, Pumped, pump};
+pub use serving::{TURNS_MAX, Totals, serve_loop};
 pub use steps::{SENDS_MAX, Step};
