@@ -2,8 +2,8 @@
 
 use crate::{Answer, DATAGRAM_LIMIT, Server};
 use std::test::Fail;
-use td_base::{Ep, Ip4, Policy, Side, Span};
-use teredo_node::Fate;
+use td_base::{Ep, Ip4, Millis, Policy, Side, Span};
+use teredo_node::{Endpoint, Fate, Step};
 
 const CLIENT: Ep = Ep {
     ip: Ip4([198, 51, 100, 7]),
@@ -305,5 +305,36 @@ fn loopback_is_answered_where_it_is_allowed(rt: HostRuntime) -> Result<(), Fail>
         let answer = server(policy).answer(Side::Primary, from, datagram.as_slice(), &mut out);
         assert_eq!(rt; answer != Answer::Drop { fate: Fate::Source }, is_answered);
     }
+    Ok(())
+}
+
+#[test]
+fn a_step_has_what_was_answered(rt: HostRuntime) -> Result<(), Fail> {
+    let datagram = hex::decode(rt.alloc(), SOLICITATION)?;
+    let mut server = server(Policy::Strict);
+    let mut out = [0; DATAGRAM_LIMIT];
+    let answer = server.answer(Side::Primary, CLIENT, datagram.as_slice(), &mut out);
+    let mut step = Step::new();
+    let done = server.on_datagram(
+        Millis(0),
+        Side::Primary,
+        CLIENT,
+        datagram.as_slice(),
+        &mut step,
+    );
+    assert!(rt; done.is_ok());
+    assert_eq!(rt; step.count(), 1);
+    let (side, to, bytes) = step.send(0);
+    let sent = Answer::Send {
+        fate: step.fate(),
+        side,
+        to,
+        len: bytes.len(),
+    };
+    assert_eq!(rt; sent, answer);
+    assert!(rt; out.starts_with(bytes));
+    server.on_tick(Millis(0), &mut step);
+    assert_eq!(rt; step.fate(), Fate::Idle);
+    assert_eq!(rt; step.count(), 0);
     Ok(())
 }
