@@ -2,3 +2,4 @@ pub mod Written
 pub mod Told
 pub mod Playing
 pub mod Ended
+pub mod Shown
