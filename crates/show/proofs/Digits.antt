@@ -1,6 +1,6 @@
 -- Hexadecimal text, and the bytes that it says.
-use Rattle.std.proofs.Common.{◌≡◌, true, false, Bool, cond, not, ltb, ℕ, ◌+◌, ◌*◌, ◌/◌, ◌%◌, ◌<◌, ◌≤◌, ◌==◌, ◌⊎◌, inl, inr, List, [], length, take, get_or, Option, Some, None, Result, Ok, Err, refl, sym, ap, subst, ◌∙◌, arith}
-use Rattle.std.specs.Prelude.{MatchResult, position, is_err}
+use Rattle.std.proofs.Common.{◌≡◌, true, false, Bool, cond, not, ltb, ℕ, ◌*◌, ◌/◌, ◌%◌, ◌<◌, ◌≤◌, ◌==◌, ◌⊎◌, inl, inr, List, [], length, take, get_or, Option, Some, None, Result, Ok, Err, refl, sym, ap, subst, ◌∙◌, arith}
+use Rattle.std.specs.Prelude.{MatchResult, position}
 use Rattle.std.specs.Char.{is_ascii_hexdigit}
 use Rattle.std.specs.List.{AllPass, position_or_len}
 use Rattle.std.specs.Option.{option_or}

@@ -1,5 +1,5 @@
 -- What stands on a page that tells what a word is.
-use Rattle.std.proofs.Common.{◌≡◌, true, false, Bool, ℕ, List, [], ◌⊎◌, inl, inr, Option, Some, None, Result, Ok, Err, refl, sym, ap, ◌∙◌}
+use Rattle.std.proofs.Common.{◌≡◌, true, false, Bool, ℕ, List, [], ◌⊎◌, inl, inr, Option, Some, None, Result, Ok, Err, refl, ap, ◌∙◌}
 use Rattle.std.specs.Prelude.{is_ok}
 use Rattle.std.specs.Bool.{OnTrue, OnFalse}
 use Rattle.std.specs.Result.{result_unwrap_or}
@@ -11,7 +11,7 @@ use Rattle.bubble.specs.Payloads.{Value, PayloadBytes, payload_at}
 use Rattle.bubble.proofs.PayloadLaws.{payload_found, payload_again, payload_fault}
 use Rattle.show.specs.Words.{bad_place, bytes_of}
 use Rattle.show.specs.Lines.{payload_lines}
-use Rattle.show.specs.Faults.{hex_fault_line, fault_line}
+use Rattle.show.specs.Faults.{fault_line}
 use Rattle.show.specs.Explained.{payload_text, bytes_text, explained, text_of}
 use Rattle.show.specs.Shown.{ShowsPayload, ShowsNoText, ShowsFault}
 use Rattle.show.proofs.Digits.{bad_is, decoded, decodes_well}

@@ -1,5 +1,5 @@
 -- What stands on a page that was empty.
-use Rattle.std.proofs.Common.{◌≡◌, true, false, Bool, ltb, ℕ, ◌+◌, ◌<◌, ◌≤◌, List, [], ◌++◌, length, Option, Some, None, Result, Ok, Err, refl, sym, ap, ◌∙◌, arith}
+use Rattle.std.proofs.Common.{◌≡◌, false, ltb, ℕ, ◌<◌, List, [], ◌++◌, length, Some, None, Result, Err, sym, ap, ◌∙◌, arith}
 use Rattle.std.specs.Prelude.{is_ok}
 use Rattle.std.proofs.lemmas.Bool.{lt-ltb, cond-true}
 use Rattle.bubble.specs.declared.fault.PayloadFault.TheVariants as faults

@@ -1,6 +1,5 @@
 //! The lines of a payload.
 ghost use Rattle.std.specs.Prelude.{◌≡◌, ◌+◌, ◌*◌, ◌≤◌, ◌++◌, length, IfSome};
-ghost use Rattle.teredo_addr.specs.Teredo.{addr_in};
 ghost use Rattle.ipv6_packet.specs.Packets.{view as packet_view};
 ghost use Rattle.bubble.specs.Payloads.{view};
 ghost use Rattle.show.specs.Lines.{number_digits, span_bytes, AreShortSpans, keys_line, auth_line, origin_line, packet_line, embedded_line, teredo_line, address_lines, kind_word, body_line, payload_lines};

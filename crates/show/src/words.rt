@@ -1,5 +1,5 @@
 //! What a word says: bytes, by two hexadecimal digits of either case each.
-ghost use Rattle.std.specs.Prelude.{◌≡◌, ◌*◌, ◌≤◌, None, IfSome, IfNone, length, position};
+ghost use Rattle.std.specs.Prelude.{◌≡◌, ◌*◌, None, length, position};
 ghost use Rattle.show.specs.Words.{is_other, bad_place, bytes_of};
 
 /// The place of the first byte that is no digit.
