@@ -1,11 +1,12 @@
 -- Full records and the wire. A history is a list of full records, the latest first.
-use Rattle.std.specs.Prelude.{ℕ, List, [], ◌++◌, ◌∷◌, filter_map, Option, Some}
+use Rattle.std.specs.Prelude.{ℕ, List, [], ◌++◌, ◌∷◌, filter_map, Option, Some, None}
 use Rattle.td_base.specs.declared.endpoint.Ep.{Ep}
 use Rattle.td_base.specs.declared.ipv6.Ip6.{Ip6}
 use Rattle.teredo_node.specs.declared.fates.Fate.{Fate}
 use Rattle.teredo_node.specs.Journal.{Entry}
-use Rattle.history.specs.declared.event_list.Event.{Event}
+use Rattle.history.specs.declared.event.Event.{Event}
 use Rattle.history.specs.declared.acts.Act.{Act}
+use Rattle.history.specs.declared.mark.Loss.{Loss}
 
 -- an entry of the wire
 pub data Item : Type 0 where
@@ -15,6 +16,7 @@ pub data Item : Type 0 where
 -- what became of a send
 pub data Made : Type 0 where
   sent : Item → Made
+  lost : Loss → (dst : Ep) (bytes : List ℕ) → Made
 
 -- one step of the laboratory, with all that went in and came out
 pub record Full : Type 0 where
@@ -32,6 +34,7 @@ pub record Full : Type 0 where
 
 abbrev pub item_in : Made → Option Item
 item_in (sent item) = Some item
+item_in (lost why dst bytes) = None
 
 abbrev pub items_of : Full → List Item
 items_of r = filter_map item_in r.made

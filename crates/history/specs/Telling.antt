@@ -4,6 +4,8 @@ use Rattle.teredo_node.specs.declared.fates.Fate.{Fate}
 use Rattle.teredo_node.specs.declared.fates.Fate.TheVariants as fate
 use Rattle.history.specs.declared.acts.Act.{Act}
 use Rattle.history.specs.declared.acts.Act.TheVariants as act
+use Rattle.history.specs.declared.mark.Mark.{Mark}
+use Rattle.history.specs.declared.mark.Mark.TheVariants as mark
 use Rattle.history.specs.Full.{Full}
 
 abbrev pub is_no_entry : Fate → Bool
@@ -17,7 +19,12 @@ is_kept _ = false
 -- an entry was delivered: the act says so, and the entry was there
 abbrev pub is_delivery : Act → Fate → Bool
 is_delivery (act.Deliver number) f = not (is_no_entry f)
-is_delivery (act.Plain verb) f = false
+is_delivery _ f = false
+
+-- the mark is that of an entry
+abbrev pub is_entry : Mark → Bool
+is_entry (mark.Lost why dst len) = false
+is_entry _ = true
 
 -- a full record says that an entry was delivered exactly where its record tells so
 pub record IsTold (r : Full) : Type 0 where

@@ -1,13 +1,23 @@
 /// An event's word.
 #[derive(Clone, Copy, Debug, PartialEq, Eq)]
 pub enum Verb {
+    Advance,
     Deliver,
+    Next,
+    Host,
+    Echo,
+    Raw,
     Stranger,
+    Copy,
+    Restart,
+    Forget,
 }
 
-/// What a record is about: the delivery of an entry, or what its event's word says.
+/// What a record is about: a tick, the delivery or the copy of an entry, or what its event's word says.
 #[derive(Clone, Copy, Debug, PartialEq, Eq)]
 pub enum Act {
+    Tick,
     Deliver { number: u32 },
+    Copy { number: u32 },
     Plain { verb: Verb },
 }

@@ -1,18 +1,9 @@
 ghost use Rattle.std.specs.Prelude.{◌≡◌, ◌∷◌, [], ◌++◌, OnOk, OnErr};
 
+use crate::event::Event;
 use std::alloc::Global;
 use std::marker::Model;
-use td_base::{Ep, NoMemory};
-use td_outside::Octets;
-
-/// What a scenario asks for.
-#[derive(Drop)]
-pub enum Event {
-    /// Deliver an entry of the wire to whoever is at its destination.
-    Deliver { number: u32 },
-    /// Put a datagram on the wire that nobody in the scenario sent.
-    Stranger { src: Ep, dst: Ep, bytes: Octets },
-}
+use td_base::NoMemory;
 
 /// Events in order.
 #[derive(Drop)]
@@ -22,7 +13,7 @@ pub struct Events {
 
 impl Model for Events {
     ghost use Rattle.std.specs.Prelude.{List};
-    ghost use Rattle.history.specs.declared.event_list.Event.{Event};
+    ghost use Rattle.history.specs.declared.event.Event.{Event};
 
     ghost Value = { List Event };
 

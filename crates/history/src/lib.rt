@@ -2,7 +2,8 @@
 //!
 //! # What the layer above may rely on
 //!
-//! - A `Topology` holds the rows of a scenario's nodes, by number.
+//! - A `Topology` holds the rows of a scenario's nodes, by number, and keeps the rules of `specs/Rules.antt`: names
+//!   and addresses differ, addresses are global, numbers are of nodes of the right kind.
 //! - `specs/Full.antt` says what a full record is, and what the wire of a history holds: everything that was
 //!   sent, in order, numbered from 0. A `Record` is what a report needs of a full record.
 //!
@@ -14,21 +15,38 @@
 //!
 //! | module | holds | stated in |
 //! |---|---|---|
-//! | `node_rows` | `ServerNode`, `Topology` | `specs/Topology.antt` |
-//! | `event_list` | `Event`, `Events` | |
+//! | `server_node`, `nat_node`, `client_node`, `relay_node`, `native_node` | a row for each kind of node | |
+//! | `topology` | `Topology` | `specs/Rows.antt`, `Topology.antt`, `Rules.antt` |
+//! | `event`, `target`, `event_list` | `Event`, `Target`, `Events` | `specs/Events.antt` |
 //! | `acts` | `Verb`, `Act` | |
-//! | `mark_list` | `Mark`, `Marks` | |
-//! | `records` | `Record`, and the full record behind it | `specs/Full.antt`, `specs/Records.antt` |
+//! | `mark`, `mark_list` | `Mark`, `Loss`, `Marks` | |
+//! | `records` | `Record`, the full record behind it, and what it tells the totals | `specs/Full.antt`, `Records.antt`, `Telling.antt` |
 #![tactic(auto)]
 
 mod acts;
+mod client_node;
+mod event;
 mod event_list;
+mod mark;
 mod mark_list;
-mod node_rows;
+mod nat_node;
+mod native_node;
 mod records;
+mod relay_node;
+mod server_node;
+mod target;
+mod topology;
 
 pub use acts::{Act, Verb};
-pub use event_list::{Event, Events};
-pub use mark_list::{MOST_MARKS, Mark, Marks};
-pub use node_rows::{MOST_SERVERS, ServerNode, Topology};
+pub use client_node::{ClientNode, LEAST_REFRESH, MOST_REFRESH};
+pub use event::{Event, MOST_ADVANCE, MOST_BODY, MOST_BYTES, MOST_NUMBER};
+pub use event_list::Events;
+pub use mark::{Loss, Mark};
+pub use mark_list::{MOST_MARKS, Marks};
+pub use nat_node::{MOST_IDLE, NatNode};
+pub use native_node::NativeNode;
 pub use records::Record;
+pub use relay_node::RelayNode;
+pub use server_node::ServerNode;
+pub use target::Target;
+pub use topology::{MOST_CLIENTS, MOST_NATIVES, MOST_NATS, MOST_RELAYS, MOST_SERVERS, Topology};

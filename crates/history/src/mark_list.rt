@@ -1,28 +1,11 @@
 ghost use Rattle.std.specs.Prelude.{◌≡◌, ◌<◌, ◌≤◌, ◌∷◌, [], ◌++◌, length};
 
+use crate::mark::Mark;
 use std::marker::Model;
 use td_base::{Ep, Ip4};
 
 /// The most marks of a record: one for each send of a step, and one for a packet to the IPv6 side.
 pub const MOST_MARKS: usize = 9;
-
-/// What a record says of one send or packet: the entry that it became.
-#[derive(Clone, Copy, Debug)]
-pub enum Mark {
-    /// A datagram.
-    Udp {
-        number: u32,
-        src: Ep,
-        dst: Ep,
-        len: usize,
-    },
-    /// An IPv6 packet, for the relay of that number, if any.
-    Six {
-        number: u32,
-        relay: Option<u16>,
-        len: usize,
-    },
-}
 
 /// At most nine marks.
 #[derive(Drop)]
@@ -33,7 +16,7 @@ pub struct Marks {
 
 impl Model for Marks {
     ghost use Rattle.std.specs.Prelude.{◌≤◌, List, take};
-    ghost use Rattle.history.specs.declared.mark_list.Mark.{Mark};
+    ghost use Rattle.history.specs.declared.mark.Mark.{Mark};
 
     ghost Value = { List Mark };
 

@@ -1,6 +1,6 @@
 use crate::acts::Act;
 use crate::mark_list::Marks;
-use td_base::Millis;
+use td_base::{Ip6, Millis};
 use teredo_node::Fate;
 
 /// What a report says of one step of the laboratory.
@@ -13,5 +13,11 @@ pub struct Record {
     /// The node that decided, or that acted or was named first.
     pub node: Option<u16>,
     pub fate: Fate,
+    /// The address that a client got.
+    pub address: Option<Ip6>,
+    /// The length of the packet that was handed to a client's host.
+    pub handed: Option<usize>,
+    /// How many waiting packets were dropped.
+    pub gone: u16,
     pub marks: Marks,
 }

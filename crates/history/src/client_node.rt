@@ -1,0 +1,18 @@
+use td_base::{Ep, Name};
+
+/// The shortest and the longest time between two refreshes of a client, in milliseconds.
+pub const LEAST_REFRESH: u32 = 1_000;
+
+pub const MOST_REFRESH: u32 = 1_000_000;
+
+/// A client: its name, the numbers of its NAT and its server, its endpoint behind the NAT, and the shortest and longest
+/// time between its refreshes, in milliseconds.
+#[derive(Clone, Copy, Debug)]
+pub struct ClientNode {
+    pub name: Name,
+    pub nat: u16,
+    pub inside: Ep,
+    pub server: u16,
+    pub low: u32,
+    pub high: u32,
+}

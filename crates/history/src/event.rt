@@ -1,0 +1,40 @@
+use crate::target::Target;
+use td_base::Ep;
+use td_outside::Octets;
+
+/// How far one event advances the time at most, in milliseconds.
+pub const MOST_ADVANCE: u64 = 1_000_000_000;
+
+/// The largest number of an entry that an event can name.
+pub const MOST_NUMBER: u32 = 65_535;
+
+/// The most bytes of a body that a host sends.
+pub const MOST_BODY: usize = 1_240;
+
+/// The most bytes of a datagram or packet that an event gives.
+pub const MOST_BYTES: usize = 1_400;
+
+/// What a scenario asks for. Nodes stand by their numbers.
+#[derive(Drop)]
+pub enum Event {
+    /// Let time pass, in milliseconds, and play what falls due.
+    Advance { ms: u64 },
+    /// Deliver an entry of the wire to whoever is at its destination.
+    Deliver { number: u32 },
+    /// Deliver the least-numbered entry that was never delivered.
+    Next,
+    /// The host of a client or native host sends a packet with this body.
+    Host { node: u16, to: Target, body: Octets },
+    /// It sends an echo request with this sequence number.
+    Echo { node: u16, to: Target, seq: u16 },
+    /// It hands in these bytes.
+    Raw { node: u16, bytes: Octets },
+    /// Put a datagram on the wire that nobody in the scenario sent.
+    Stranger { src: Ep, dst: Ep, bytes: Octets },
+    /// Put an entry's bytes on the wire again, between other endpoints.
+    Copy { number: u32, src: Ep, dst: Ep },
+    /// A node starts anew.
+    Restart { node: u16 },
+    /// A NAT drops the mappings and permissions of a client behind it.
+    Forget { nat: u16, client: u16 },
+}

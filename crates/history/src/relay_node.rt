@@ -1,0 +1,9 @@
+use td_base::{Ep, Ip6, Name};
+
+/// A relay: its name, its endpoint and its IPv6 address.
+#[derive(Clone, Copy, Debug)]
+pub struct RelayNode {
+    pub name: Name,
+    pub at: Ep,
+    pub six: Ip6,
+}

@@ -1,0 +1,9 @@
+use td_base::{Ip4, Name};
+
+/// A server: its name and its two addresses.
+#[derive(Clone, Copy, Debug)]
+pub struct ServerNode {
+    pub name: Name,
+    pub primary: Ip4,
+    pub secondary: Ip4,
+}

@@ -1,0 +1,8 @@
+use td_base::Ip6;
+
+/// Whom a host sends a packet to: a client or native host by its number, or an address.
+#[derive(Clone, Copy, Debug, PartialEq, Eq)]
+pub enum Target {
+    Node { number: u16 },
+    At { ip: Ip6 },
+}
