@@ -20,6 +20,7 @@
 //! | `event`, `target`, `event_list` | `Event`, `Target`, `Events` | `specs/Events.antt` |
 //! | `acts` | `Verb`, `Act` | |
 //! | `mark`, `mark_list` | `Mark`, `Loss`, `Marks` | |
+//! | `turn` | `Turn`, `Stop` | |
 //! | `records` | `Record`, the full record behind it, and what it tells the totals | `specs/Full.antt`, `Records.antt`, `Telling.antt` |
 #![tactic(auto)]
 
@@ -36,6 +37,7 @@ mod relay_node;
 mod server_node;
 mod target;
 mod topology;
+mod turn;
 
 pub use acts::{Act, Verb};
 pub use client_node::{ClientNode, LEAST_REFRESH, MOST_REFRESH};
@@ -49,4 +51,5 @@ pub use records::Record;
 pub use relay_node::RelayNode;
 pub use server_node::ServerNode;
 pub use target::Target;
+pub use turn::{Stop, Turn};
 pub use topology::{MOST_CLIENTS, MOST_NATIVES, MOST_NATS, MOST_RELAYS, MOST_SERVERS, Topology};

@@ -7,6 +7,8 @@ pub enum Loss {
     Hairpin,
     /// The NAT had no mapping free.
     Full,
+    /// It was made to fail. No event does that yet.
+    Fault,
 }
 
 /// What a record says of one send or packet: the entry that it became, or why it became none.

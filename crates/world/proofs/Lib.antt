@@ -1,4 +1,6 @@
 mod Unique
-pub mod Position
-pub mod Delivered
-pub mod Stepped
+mod Position
+mod Routes
+mod Wires
+mod Arrivals
+mod Emitted

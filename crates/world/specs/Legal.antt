@@ -1,15 +1,22 @@
 -- Legal histories: each record is the one that follows from the scenario and the records before it.
-use Rattle.std.specs.Prelude.{◌≡◌, ℕ, List, [], ◌∷◌, Some, None}
+use Rattle.std.specs.Prelude.{◌≡◌, ℕ, true, List, [], ◌∷◌, Some, None}
+use Rattle.history.specs.declared.event.Event.{Event}
 use Rattle.history.specs.Rows.{TopologyState}
 use Rattle.history.specs.Topology.{Scenario}
 use Rattle.history.specs.Full.{Full}
-use Rattle.world.specs.Past.{Draws}
+use Rattle.world.specs.Past.{Draws, has_more}
 use Rattle.world.specs.Next.{next_of, next}
 
 -- HISTORIES OF A TOPOLOGY, whatever events were asked for: what a world stands for
 
+-- an event that has further records comes again
+abbrev pub GoesOn : List Full → Event → Type 0
+GoesOn [] e = Unit {0}
+GoesOn (r ∷ H) e = has_more r.asked r.act ≡ true → e ≡ r.asked
+
 -- the record is the next one of its event after these
 pub record Follows (d : Draws) (t : TopologyState) (H : List Full) (r : Full) : Type 0 where
+  pub goes_on : GoesOn H r.asked
   pub is : r ≡ next_of d t H r.event r.asked
 
 -- each record follows from those before it

@@ -4,6 +4,8 @@ pub mod Next
 pub mod Legal
 pub mod Held
 pub mod Lent
-pub mod Seen
+pub mod Arriving
+pub mod Ways
+pub mod Knows
 pub mod Steps
 pub mod World

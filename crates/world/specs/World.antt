@@ -1,39 +1,120 @@
 -- What contracts see of a world, and how `step` follows the history.
-use Rattle.std.specs.Prelude.{◌≡◌, ◌≢◌, ℕ, ◌+◌, List, [], ◌∷◌}
-use Rattle.history.specs.declared.event_list.Event.{Event}
+use Rattle.std.specs.Prelude.{◌≡◌, ◌≢◌, ℕ, ◌+◌, ◌-◌, ◌<◌, ◌^◌, nat_le, max, if◌then◌else◌, Bool, true, false, List, [], ◌∷◌, ◌++◌, length, filter, sum_by, get_or, Option, Some, None, Result, Ok, Err}
+use Rattle.nat_kinds.specs.Nat.{NatState}
+use Rattle.history.specs.declared.event.Event.{Event}
+use Rattle.history.specs.declared.event.Event.TheVariants as event
 use Rattle.history.specs.declared.records.Record.{Record}
+use Rattle.history.specs.declared.turn.Turn.{Turn}
+use Rattle.history.specs.declared.turn.Turn.TheVariants.{More, Last}
+use Rattle.history.specs.declared.turn.Stop.{Stop}
+use Rattle.history.specs.declared.turn.Stop.TheVariants.{WireFull, NoMemory}
 use Rattle.history.specs.Rows.{TopologyState}
-use Rattle.history.specs.Full.{Item, Full, wire}
+use Rattle.history.specs.Topology.{Node, nodes}
+use Rattle.history.specs.Full.{Item, Full, wire, items_of}
 use Rattle.history.specs.Records.{record_of}
 use Rattle.history.specs.Telling.{IsTold}
-use Rattle.world.specs.Past.{now, place, Draws}
+use Rattle.world.specs.declared.wire.TheConstants.{MOST_ENTRIES}
+use Rattle.world.specs.declared.laboratory.TheConstants.{MOST_LEFT}
+use Rattle.world.specs.Past.{now, place, began, has_more, was_delivered, Draws}
 use Rattle.world.specs.Next.{next_of}
-use Rattle.world.specs.Legal.{Grown}
+use Rattle.world.specs.Legal.{GoesOn, Grown}
+use Rattle.world.specs.Ways.{NatsOf}
 
 pub record WorldState : Type 0 where
   pub topology : TopologyState
   pub moment : ℕ
+  pub began : ℕ  -- when the event of the next record began
+  pub nats : List NatState
   pub wire : List Item
+  pub done : List Bool  -- for each entry of the wire, whether it was delivered
+  pub left : ℕ  -- falls with each further record of an event
+  pub stopped : Option Stop
 
--- a world with nothing on its wire
-abbrev pub new_world : TopologyState → WorldState
-new_world t = record { topology = t; moment = 0; wire = [] }
+-- servers and NATs alone: the nodes of a world so far
+pub record HasNoHosts (t : TopologyState) : Type 0 where
+  pub clients : t.clients ≡ []
+  pub relays : t.relays ≡ []
+  pub natives : t.natives ≡ []
+
+-- WHAT IS LEFT OF AN EVENT
+
+-- all due moments of a node: a server and a NAT have none
+abbrev pub due_moments : TopologyState → List Full → ℕ → Node → List ℕ
+due_moments t H n a = []
+
+abbrev pub all_due : TopologyState → List Full → ℕ → List Node → List ℕ
+all_due t H n [] = []
+all_due t H n (a ∷ rest) = due_moments t H n a ++ all_due t H (n + 1) rest
+
+-- for an advance that ends at `end`
+abbrev pub left_to : TopologyState → List Full → ℕ → ℕ
+left_to t H end = sum_by (λ m. end + 1 - max m (now H)) (filter (λ m. nat_le m end) (all_due t H 0 (nodes t)))
+
+abbrev pub left_of_event : TopologyState → List Full → Event → ℕ
+left_of_event t H (event.Advance ms) = left_to t H (began H + ms)
+left_of_event t H _ = 0
+
+-- as much as may be where the next record begins an event
+abbrev pub left : TopologyState → List Full → ℕ
+left t [] = MOST_LEFT
+left t (r ∷ H) = if has_more r.asked r.act then left_of_event t (r ∷ H) r.asked else MOST_LEFT
+
+-- WHAT A WORLD STANDS FOR
 
 -- The world stands for a history: one clause a part.
 pub record StandsFor (d : Draws) (w : WorldState) (H : List Full) : Type 0 where
   pub grown : Grown d w.topology H
   pub moment : w.moment ≡ now H
+  pub began : w.began ≡ began H
+  pub nats : NatsOf w.topology w.nats H
   pub wire : w.wire ≡ wire H
+  pub done : (i : ℕ) → get_or w.done i false ≡ was_delivered i H
+  pub left : w.left ≡ left w.topology H
 
--- The step for an event gave the record that follows, and the world then stands for the history with it.
-pub record Steps (old new : WorldState) (index : ℕ) (event : Event) (r : Record) : Type 0 where
+-- WHAT A STEP DOES
+
+abbrev pub record_in : Turn → Record
+record_in (More r) = r
+record_in (Last r) = r
+
+abbrev pub is_more : Turn → Bool
+is_more (More r) = true
+is_more (Last r) = false
+
+-- The step gave the record that follows for its event, and the world then stands for the history with it.
+pub record Steps (old new : WorldState) (index : ℕ) (event : Event) (turn : Turn) : Type 0 where
   pub topology : new.topology ≡ old.topology
-  pub record_is : (d : Draws) (H : List Full) → StandsFor d old H → r ≡ record_of (next_of d old.topology H index event)
-  pub stands : (d : Draws) (H : List Full) → StandsFor d old H → StandsFor d new (next_of d old.topology H index event ∷ H)
-  -- the record is of its event, which has no further one
-  pub counted : (d : Draws) (H : List Full) → StandsFor d old H → place (next_of d old.topology H index event ∷ H) ≡ index + 1
-  pub tells : (d : Draws) (H : List Full) → StandsFor d old H → IsTold (next_of d old.topology H index event)
+  pub goes_on : new.stopped ≡ None
+  pub record_is : (d : Draws) (H : List Full) → StandsFor d old H → GoesOn H event → record_in turn ≡ record_of (next_of d old.topology H index event)
+  pub stands : (d : Draws) (H : List Full) → StandsFor d old H → GoesOn H event → StandsFor d new (next_of d old.topology H index event ∷ H)
+  -- the event has further records exactly where the turn says so
+  pub more : (d : Draws) (H : List Full) → StandsFor d old H → GoesOn H event → has_more event (next_of d old.topology H index event).act ≡ is_more turn
+  pub tells : (d : Draws) (H : List Full) → StandsFor d old H → GoesOn H event → IsTold (next_of d old.topology H index event)
 
--- The record that follows makes an entry: only there memory is needed.
+-- after a record that has further ones, fewer are left
+abbrev pub Falls : WorldState → WorldState → Turn → Type 0
+Falls old new (More r) = new.left < old.left
+Falls old new (Last r) = Unit {0}
+
+-- the event has no further record
+abbrev pub IsLast : Turn → Type 0
+IsLast (More r) = ⊥
+IsLast (Last r) = Unit {0}
+
+-- The record that follows would make too long a wire.
+abbrev pub Overflows : WorldState → ℕ → Event → Type 0
+Overflows w index event = (d : Draws) (H : List Full) → StandsFor d w H → GoesOn H event → MOST_ENTRIES < length w.wire + length (items_of (next_of d w.topology H index event))
+
+-- The record that follows has a mark: only there memory is needed.
 abbrev pub NeedsMemory : WorldState → ℕ → Event → Type 0
-NeedsMemory w index event = (d : Draws) (H : List Full) → StandsFor d w H → (next_of d w.topology H index event).made ≢ []
+NeedsMemory w index event = (d : Draws) (H : List Full) → StandsFor d w H → GoesOn H event → (next_of d w.topology H index event).made ≢ []
+
+-- why a world stops that hadn't stopped before
+abbrev pub StopsFor : WorldState → ℕ → Event → Stop → Type 0
+StopsFor w index event WireFull = Overflows w index event
+StopsFor w index event NoMemory = NeedsMemory w index event
+
+-- a world that stopped answers the same stop and stays as it is; another stops for a cause
+abbrev pub Stops : Option Stop → WorldState → ℕ → Event → Stop → Type 0
+Stops (Some before) w index event stop = stop ≡ before
+Stops None w index event stop = StopsFor w index event stop

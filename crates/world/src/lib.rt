@@ -16,16 +16,25 @@
 //! | module | holds | stated in |
 //! |---|---|---|
 //! | | the records so far, what a node does, the record that follows, the legal history | `specs/Past.antt`, `Emit.antt`, `Next.antt`, `Legal.antt` |
-//! | `wire_entries` | the wire: everything that was sent | `specs/Held.antt` |
 //! | `laboratory` | `World` | `specs/World.antt` |
-//! | `deliveries` | what a delivery does | `specs/Held.antt` |
+//! | `wire` | everything that was sent, and what of it was delivered | `specs/Held.antt`, `Lent.antt` |
+//! | `deliveries`, `puts`, `quiet` | the records of deliveries, of datagrams from nowhere, of the other events | `specs/Knows.antt`, `Steps.antt` |
+//! | `way` | where a datagram goes | `specs/Ways.antt` |
+//! | `arriving`, `asking`, `emitting` | a server is lent the datagram, answers, and its sends go on the wire | `specs/Arriving.antt`, `Steps.antt` |
 //! | `laws` | what holds of every history | `specs/Legal.antt` |
 #![tactic(auto)]
 
+mod arriving;
+mod asking;
 mod deliveries;
+mod emitting;
 mod laboratory;
 mod laws;
-mod wire_entries;
+mod puts;
+mod quiet;
+mod way;
+mod wire;
 
-pub use laboratory::World;
+pub use laboratory::{MOST_LEFT, MOST_MOMENT, World};
 pub use laws::one_history;
+pub use wire::{MOST_ENTRIES, WireEntry};

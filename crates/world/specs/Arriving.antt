@@ -1,0 +1,13 @@
+-- What a link that lends one datagram tells.
+use Rattle.std.specs.Prelude.{ℕ, if◌then◌else◌, List, [], ◌∷◌, take, Option, Some, None}
+use Rattle.td_outside.specs.declared.linking.TheConstants.{DATAGRAM_MAX}
+use Rattle.td_outside.specs.Links.{Came, Datagram, Told}
+use Rattle.world.specs.declared.arriving.Arriving.{Arriving}
+
+-- the datagram is still to come until it was taken
+abbrev pub told_of : Arriving → Told
+told_of l = record {
+  coming = Some (if l.is_taken then [] else Datagram l.side l.from (take DATAGRAM_MAX l.bytes.now) ∷ []);
+  taken = None;
+  attempts = None;
+}

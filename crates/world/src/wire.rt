@@ -1,0 +1,187 @@
+//! The wire: everything that was sent.
+ghost use Rattle.std.specs.Prelude.{◌≡◌, ◌<◌, ◌≤◌, ◌∷◌, [], ◌++◌, ℕ, true, false, length, map, take, set, get_or, slice_get, option_map, OnOk, OnErr, IfSome, IfNone};
+ghost use Rattle.history.specs.Full.{udp, six, bytes_of};
+ghost use Rattle.history.specs.declared.event.TheConstants.{MOST_BYTES};
+ghost use Rattle.world.specs.Held.{item_of, WireState, no_wire, with_item, front_of};
+ghost use Rattle.world.specs.Lent.{item_lent};
+
+use std::alloc::Global;
+use std::marker::Model;
+use td_base::{Ep, NoMemory};
+use td_outside::Octets;
+
+/// The most entries of a wire.
+pub const MOST_ENTRIES: usize = 65_536;
+
+/// What was sent, with its bytes.
+#[derive(Drop)]
+pub enum Entry {
+    /// A datagram.
+    Udp { src: Ep, dst: Ep, bytes: Octets },
+    /// An IPv6 packet, for whoever has its destination.
+    Six { bytes: Octets },
+}
+
+/// An entry of the wire, lent.
+#[derive(Clone, Copy, Debug)]
+pub enum WireEntry<'a> {
+    /// A datagram.
+    Udp { src: Ep, dst: Ep, bytes: &'a [u8] },
+    /// An IPv6 packet, for the relay of that number, if any.
+    Six { relay: Option<u16>, bytes: &'a [u8] },
+}
+
+impl<'a> WireEntry<'a> {
+    /// Its bytes.
+    pub fn bytes(self) -> &'a [u8]
+        ensures { result.now ≡ bytes_of (item_lent self.entry) }
+    {
+        match self {
+            WireEntry::Udp { bytes, .. } => bytes,
+            WireEntry::Six { bytes, .. } => bytes,
+        }
+    }
+}
+
+/// Everything that was sent, in order, numbered from 0, and which of it was delivered. Entries never go away.
+#[derive(Drop)]
+pub struct Wire {
+    entries: Vec<Entry>,
+    delivered: Vec<bool>,
+    // all entries before it were delivered
+    low: usize,
+}
+
+impl Model for Wire {
+    ghost use Rattle.std.specs.Prelude.{map};
+    ghost use Rattle.world.specs.Held.{item_of, WireState, IsWire};
+
+    ghost Value = { WireState };
+
+    ghost view = { λ w. record { items = map item_of w.entries.items; done = w.delivered.items } };
+
+    ghost invariant = { λ w. IsWire (map item_of w.entries.items) w.delivered.items w.low };
+}
+
+impl Wire {
+    /// Nothing was sent.
+    pub fn new(alloc: Global) -> Wire
+        ensures { result ≡ no_wire }
+    {
+        Wire {
+            entries: Vec::new(alloc),
+            delivered: Vec::new(alloc),
+            low: 0,
+        }
+    }
+
+    /// How many entries there are.
+    pub fn len(&self) -> usize
+        ensures count { result ≡ length self.now.items }
+        ensures each { result ≡ length self.now.done }
+        ensures most { result ≤ MOST_ENTRIES }
+    {
+        self.entries.len()
+    }
+
+    /// The entry of a number, if there is one.
+    pub fn get(&self, number: usize) -> Option<WireEntry<'_>>
+        ensures lent { option_map item_lent result ≡ slice_get self.now.items number }
+        ensures short { IfSome result (λ e. length (bytes_of (item_lent e)) ≤ MOST_BYTES) }
+    {
+        lend(self.entries.as_slice(), number)
+    }
+
+    fn push(&mut self, entry: Entry) -> Result<(), NoMemory>
+        requires room { length self.old.items < MOST_ENTRIES }
+        requires short { length (bytes_of (item_of entry)) ≤ MOST_BYTES }
+        ensures ok { OnOk result (self.new ≡ with_item self.old (item_of entry)) }
+        ensures err { OnErr result (self.new ≡ self.old) }
+    {
+        self.delivered.push(false)?;
+        if self.entries.push(entry).is_err() {
+            let _ = self.delivered.pop();
+            return Err(NoMemory);
+        }
+        Ok(())
+    }
+
+    /// Appends a datagram.
+    pub fn push_datagram(&mut self, src: Ep, dst: Ep, bytes: Octets) -> Result<(), NoMemory>
+        requires room { length self.old.items < MOST_ENTRIES }
+        requires short { length bytes ≤ MOST_BYTES }
+        ensures ok { OnOk result (self.new ≡ with_item self.old (udp src dst bytes)) }
+        ensures err { OnErr result (self.new ≡ self.old) }
+    {
+        self.push(Entry::Udp { src, dst, bytes })
+    }
+
+    /// Appends an IPv6 packet, for whoever has its destination.
+    pub fn push_packet(&mut self, bytes: Octets) -> Result<(), NoMemory>
+        requires room { length self.old.items < MOST_ENTRIES }
+        requires short { length bytes ≤ MOST_BYTES }
+        ensures ok { OnOk result (self.new ≡ with_item self.old (six None bytes)) }
+        ensures err { OnErr result (self.new ≡ self.old) }
+    {
+        self.push(Entry::Six { bytes })
+    }
+
+    /// Takes away all but the first `len` entries.
+    pub fn cut(&mut self, len: usize)
+        requires { len ≤ length self.old.items }
+        ensures { self.new ≡ front_of len self.old }
+    {
+        self.entries.truncate(len);
+        self.delivered.truncate(len);
+        self.low = self.low.min(len);
+    }
+
+    /// Remembers that an entry was delivered.
+    pub fn set_delivered(&mut self, number: usize)
+        requires { number < length self.old.items }
+        ensures { self.new ≡ record self.old { done = set self.old.done number true } }
+    {
+        self.delivered[number] = true;
+    }
+
+    /// The least-numbered entry that was never delivered.
+    pub fn first_undelivered(&mut self) -> Option<usize>
+        ensures same { self.new ≡ self.old }
+        ensures found { IfSome result (λ n. (n < length self.old.items) × (get_or self.old.done n false ≡ false)
+            × ((i : ℕ) → i < n → get_or self.old.done i false ≡ true)) }
+        ensures none { IfNone result ((i : ℕ) → i < length self.old.items → get_or self.old.done i false ≡ true) }
+    {
+        while self.low < self.delivered.len() {
+            if !self.delivered[self.low] {
+                return Some(self.low);
+            }
+            self.low += 1;
+        }
+        None
+    }
+}
+
+/// What an entry lends.
+fn lend_entry(entry: &Entry) -> WireEntry<'_>
+    ensures { item_lent result ≡ item_of entry.now }
+{
+    match entry {
+        Entry::Udp { src, dst, bytes } => WireEntry::Udp {
+            src: *src,
+            dst: *dst,
+            bytes: bytes.as_slice(),
+        },
+        Entry::Six { bytes } => WireEntry::Six {
+            relay: None,
+            bytes: bytes.as_slice(),
+        },
+    }
+}
+
+/// Lends the entry at a place.
+fn lend(entries: &[Entry], number: usize) -> Option<WireEntry<'_>>
+    ensures { option_map item_lent result ≡ slice_get (map item_of entries.now) number }
+{
+    let entry = entries.get(number)?;
+    Some(lend_entry(entry))
+}
