@@ -4,3 +4,4 @@ mod Routes
 mod Wires
 mod Arrivals
 mod Emitted
+mod Delivered

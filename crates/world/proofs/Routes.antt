@@ -4,6 +4,7 @@ use Rattle.std.specs.Prelude.{position, option_map, slice_get}
 use Rattle.std.proofs.lemmas.List.{length-map}
 use Rattle.std.proofs.lemmas.Option.{slice_get-map, slice_get_read, slice_get_within}
 use Rattle.td_base.specs.declared.endpoint.Ep.{Ep}
+use Rattle.td_base.specs.declared.ipv6.Ip6.{Ip6}
 use Rattle.nat_kinds.specs.Entering.{lets_in}
 use Rattle.nat_kinds.specs.declared.settings.NatSettings.{NatSettings}
 use Rattle.nat_kinds.specs.Nat.{NatState}
@@ -12,7 +13,7 @@ use Rattle.nat_kinds.specs.History.{Entry}
 use Rattle.history.specs.declared.server_node.ServerNode.{ServerNode}
 use Rattle.history.specs.declared.nat_node.NatNode.{NatNode}
 use Rattle.history.specs.Rows.{TopologyState}
-use Rattle.history.specs.Topology.{Node, server, nat, nodes, node_at, is_at, is_behind, number_of, nat_settings}
+use Rattle.history.specs.Topology.{Node, server, nat, nodes, node_at, is_at, is_behind, is_native, number_of, nat_settings}
 use Rattle.history.specs.Full.{Full}
 use Rattle.world.specs.Past.{nat_history}
 use Rattle.world.specs.Emit.{Route, reaches, closed, astray, reach, reach_node, through, route_inside}
@@ -81,6 +82,13 @@ nobody_behind servers rows n inside =
     position_is (is_behind n inside) _
     ∙ past_servers (is_behind n inside) servers _ (seek_none (is_behind n inside) (λ x. server x) servers 0 (λ x. refl))
     ∙ ap (λ (o : Option ℕ). option_map (λ i. length servers + i) o) (seek_second (is_behind n inside) (map (λ x. nat x) rows) [] 0 (seek_none (is_behind n inside) (λ x. nat x) rows 0 (λ x. refl)))
+
+-- no node is a native host
+pub no_natives : (servers : List ServerNode) (rows : List NatNode) (ip : Ip6) → number_of (is_native ip) (topology_of servers rows) ≡ None
+no_natives servers rows ip =
+    position_is (is_native ip) _
+    ∙ past_servers (is_native ip) servers _ (seek_none (is_native ip) (λ x. server x) servers 0 (λ x. refl))
+    ∙ ap (λ (o : Option ℕ). option_map (λ i. length servers + i) o) (seek_second (is_native ip) (map (λ x. nat x) rows) [] 0 (seek_none (is_native ip) (λ x. nat x) rows 0 (λ x. refl)))
 
 -- ROUTES
 

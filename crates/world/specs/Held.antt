@@ -1,5 +1,5 @@
 -- What a world keeps of the wire.
-use Rattle.std.specs.Prelude.{◌≡◌, ◌≤◌, ◌<◌, ℕ, Bool, true, false, List, [], ◌∷◌, ◌++◌, length, take, get_or, None}
+use Rattle.std.specs.Prelude.{◌≡◌, ◌≤◌, ◌<◌, ℕ, Bool, true, false, List, [], ◌∷◌, ◌++◌, length, take, get_or, Some, None}
 use Rattle.std.specs.List.{AllByRecursion}
 use Rattle.history.specs.declared.event.TheConstants.{MOST_BYTES}
 use Rattle.history.specs.Full.{Item, udp, six, bytes_of}
@@ -31,6 +31,12 @@ front_of len w = record { items = take len w.items; done = take len w.done }
 -- the bytes of an entry are as few as an event or a node may give
 abbrev pub IsShort : Item → Type 0
 IsShort x = length (bytes_of x) ≤ MOST_BYTES
+
+-- it isn't for a relay: none is there yet
+abbrev pub IsForAnybody : Item → Type 0
+IsForAnybody (udp src dst bytes) = Unit {0}
+IsForAnybody (six None bytes) = Unit {0}
+IsForAnybody (six (Some relay) bytes) = ⊥
 
 -- a wire that isn't too long, whose entries before `low` were all delivered
 abbrev pub IsWire : List Item → List Bool → ℕ → Type 0

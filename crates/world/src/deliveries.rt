@@ -1,11 +1,17 @@
 //! Deliveries.
-ghost use Rattle.std.specs.Prelude.{◌≡◌, ◌≤◌, ◌<◌, ℕ, List, length};
+ghost use Rattle.std.specs.Prelude.{◌≡◌, ◌≤◌, ◌<◌, ◌+◌, ℕ, List, length, option_map, is_some, true, IfOk, IfSome, OnErr};
+ghost use Rattle.td_base.specs.declared.endpoint.Ep.{Ep};
+ghost use Rattle.teredo_node.specs.Journal.{arrived};
+ghost use Rattle.world.specs.Emit.{six_made};
 ghost use Rattle.history.specs.declared.event.Event.{Event};
+ghost use Rattle.history.specs.declared.mark_list.TheConstants.{MOST_MARKS};
+ghost use Rattle.history.specs.declared.topology.TheConstants.{MOST_SERVERS, MOST_NATS};
+ghost use Rattle.server_core.specs.Bounds.{outputs};
 ghost use Rattle.history.specs.Full.{Full};
 ghost use Rattle.world.specs.Past.{Draws};
 ghost use Rattle.world.specs.Next.{numbered, delivers};
 ghost use Rattle.world.specs.Ways.{topology_of, AreReady};
-ghost use Rattle.world.specs.Steps.{Plays};
+ghost use Rattle.world.specs.Steps.{Plays, packet_made};
 ghost use Rattle.world.specs.Knows.{Knows};
 
 use crate::asking::ask;
@@ -13,7 +19,7 @@ use crate::emitting::{emit, part_of};
 use crate::quiet::quiet;
 use crate::way::{Way, way_of};
 use crate::wire::{MOST_ENTRIES, Wire, WireEntry};
-use history::{Act, MOST_NATS, MOST_SERVERS, NatNode, Record, ServerNode, Stop};
+use history::{Act, MOST_MARKS, MOST_NATS, MOST_SERVERS, NatNode, Record, ServerNode, Stop};
 use nat_kinds::Nat;
 use std::alloc::Global;
 use td_base::{Millis, NoMemory};
@@ -21,10 +27,32 @@ use td_outside::Octets;
 use teredo_node::{Fate, Step};
 
 /// A copy of what a step gives to the IPv6 side.
-fn packet_of(alloc: Global, bytes: &[u8], step: &Step) -> Result<Option<Octets>, NoMemory> {
+fn packet_of(alloc: Global, bytes: &[u8], step: &Step) -> Result<Option<Octets>, NoMemory>
+    ensures made { (src : Ep) → IfOk result (λ packet. packet_made packet ≡ six_made (arrived src bytes.now) step.now.six) }
+    ensures short { IfOk result (λ packet. IfSome packet (λ copied. length copied ≤ length bytes.now)) }
+    ensures needs { OnErr result (is_some step.now.six ≡ true) }
+{
     match step.six() {
         None => Ok(None),
         Some(span) => Ok(Some(Octets::new(alloc, part_of(bytes, span))?)),
+    }
+}
+
+/// How many entries a step makes.
+fn outputs(step: &Step) -> usize
+    ensures count { result ≡ outputs step.now }
+    ensures few { result ≤ MOST_MARKS }
+{
+    step.count() + usize::from(step.six().is_some())
+}
+
+/// The length of what a step hands to the host.
+fn handed(step: &Step) -> Option<usize>
+    ensures { result ≡ option_map (λ span. span.len) step.now.handed }
+{
+    match step.handed() {
+        None => None,
+        Some(span) => Some(span.len),
     }
 }
 
@@ -44,8 +72,9 @@ pub fn deliver(
     requires rows { length rows.now ≤ MOST_NATS }
     requires each { length nats.now ≡ length rows.now }
     requires ready { AreReady now.0 nats.now }
-    ensures { (d : Draws) (H : List Full) (e : Event) → Knows (topology_of servers.now rows.now) nats.now now.0 wire.old H
+    ensures plays { (d : Draws) (H : List Full) (e : Event) → Knows (topology_of servers.now rows.now) nats.now now.0 wire.old H
         → Plays wire.old wire.new (delivers d (topology_of servers.now rows.now) H (numbered index e) number) result }
+    ensures grows { length wire.new.items ≤ length wire.old.items + 1 }
 {
     let act = Act::Deliver { number };
     let place = number as usize;
@@ -68,8 +97,7 @@ pub fn deliver(
         }
         Way::Server { node, row } => {
             ask(&row, now, src, dst, bytes, step);
-            let made = step.count() + usize::from(step.six().is_some());
-            if made > MOST_ENTRIES - wire.len() {
+            if outputs(step) > MOST_ENTRIES - wire.len() {
                 return Err(Stop::WireFull);
             }
             let Ok(packet) = packet_of(alloc, bytes, step) else {
@@ -86,7 +114,7 @@ pub fn deliver(
                 node: Some(node),
                 fate: step.fate(),
                 address: None,
-                handed: step.handed().map(|span| span.len),
+                handed: handed(step),
                 gone: step.gone(),
                 marks,
             })

@@ -42,6 +42,7 @@ fn put_sends(
     ensures entries { OnOk result (length wire.new.items ≡ length wire.old.items + length step.now.sends) }
     ensures few { OnOk result (length marks.new ≤ SENDS_MAX) }
     ensures err { OnErr result ((more : List Item) × Extends wire.old wire.new more) }
+    ensures needs { OnErr result (0 < length step.now.sends) }
 {
     for i in 0..step.count() {
         let (side, to, bytes) = step.send(i);
@@ -93,6 +94,7 @@ fn put_all(
     ensures ok { OnOk result (Grows wire.old wire.new (outright (server row.now) None 0 step.now.sends ++ packet_made packet)) }
     ensures marked { OnOk result (marks.new ≡ marks_of (length wire.old.items) (outright (server row.now) None 0 step.now.sends ++ packet_made packet)) }
     ensures err { OnErr result ((more : List Item) × Extends wire.old wire.new more) }
+    ensures needs { OnErr result (0 < length step.now.sends + length (packet_made packet)) }
 {
     put_sends(alloc, wire, row, step, marks)?;
     match packet {
@@ -118,6 +120,7 @@ pub fn emit(
     ensures ok { OnOk result (Grows wire.old wire.new (outright (server row.now) None 0 step.now.sends ++ packet_made packet)) }
     ensures marks { IfOk result (λ marks. marks ≡ marks_of (length wire.old.items) (outright (server row.now) None 0 step.now.sends ++ packet_made packet)) }
     ensures err { OnErr result (wire.new ≡ wire.old) }
+    ensures needs { OnErr result (0 < length step.now.sends + length (packet_made packet)) }
 {
     let len = wire.len();
     let mut marks = Marks::new();

@@ -2,7 +2,7 @@
 ghost use Rattle.std.specs.Prelude.{◌≡◌, ◌<◌, ◌≤◌, ◌∷◌, [], ◌++◌, ℕ, true, false, length, map, take, set, get_or, slice_get, option_map, OnOk, OnErr, IfSome, IfNone};
 ghost use Rattle.history.specs.Full.{udp, six, bytes_of};
 ghost use Rattle.history.specs.declared.event.TheConstants.{MOST_BYTES};
-ghost use Rattle.world.specs.Held.{item_of, WireState, no_wire, with_item, front_of};
+ghost use Rattle.world.specs.Held.{item_of, WireState, no_wire, with_item, front_of, IsForAnybody};
 ghost use Rattle.world.specs.Lent.{item_lent};
 
 use std::alloc::Global;
@@ -87,7 +87,10 @@ impl Wire {
     /// The entry of a number, if there is one.
     pub fn get(&self, number: usize) -> Option<WireEntry<'_>>
         ensures lent { option_map item_lent result ≡ slice_get self.now.items number }
+        ensures within { IfSome result (λ _. number < length self.now.items) }
+        ensures marked { IfSome result (λ _. number < length self.now.done) }
         ensures short { IfSome result (λ e. length (bytes_of (item_lent e)) ≤ MOST_BYTES) }
+        ensures anybody { IfSome result (λ e. IsForAnybody (item_lent e)) }
     {
         lend(self.entries.as_slice(), number)
     }
@@ -163,7 +166,8 @@ impl Wire {
 
 /// What an entry lends.
 fn lend_entry(entry: &Entry) -> WireEntry<'_>
-    ensures { item_lent result ≡ item_of entry.now }
+    ensures lent { item_lent result ≡ item_of entry.now }
+    ensures anybody { IsForAnybody (item_lent result) }
 {
     match entry {
         Entry::Udp { src, dst, bytes } => WireEntry::Udp {
@@ -180,7 +184,8 @@ fn lend_entry(entry: &Entry) -> WireEntry<'_>
 
 /// Lends the entry at a place.
 fn lend(entries: &[Entry], number: usize) -> Option<WireEntry<'_>>
-    ensures { option_map item_lent result ≡ slice_get (map item_of entries.now) number }
+    ensures lent { option_map item_lent result ≡ slice_get (map item_of entries.now) number }
+    ensures anybody { IfSome result (λ e. IsForAnybody (item_lent e)) }
 {
     let entry = entries.get(number)?;
     Some(lend_entry(entry))
