@@ -5,3 +5,6 @@ mod Wires
 mod Arrivals
 mod Emitted
 mod Delivered
+mod NextLaws
+mod NoClients
+mod Stepped

@@ -9,3 +9,4 @@ pub mod Ways
 pub mod Knows
 pub mod Steps
 pub mod World
+pub mod Playing

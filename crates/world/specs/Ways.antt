@@ -1,5 +1,5 @@
 -- Where a datagram goes, as a world knows it.
-use Rattle.std.specs.Prelude.{◌≡◌, ◌≤◌, ◌+◌, ℕ, List, [], length, slice_get, Some}
+use Rattle.std.specs.Prelude.{◌≡◌, ◌≤◌, ◌+◌, ℕ, List, [], length, slice_get, Some, true}
 use Rattle.std.specs.List.{AllByRecursion}
 use Rattle.nat_kinds.specs.History.{Entry}
 use Rattle.nat_kinds.specs.Nat.{NatState}
@@ -11,7 +11,7 @@ use Rattle.history.specs.Topology.{server, nat_settings}
 use Rattle.history.specs.Full.{Full}
 use Rattle.world.specs.declared.way.Way.{Way}
 use Rattle.world.specs.declared.way.Way.TheVariants.{Server, Closed, Astray}
-use Rattle.world.specs.Past.{nat_history}
+use Rattle.world.specs.Past.{nat_history, is_restart}
 use Rattle.world.specs.Emit.{Route, reaches, closed, astray}
 
 abbrev pub by_way : Way → Route
@@ -36,3 +36,13 @@ NatsOf t nats H = (k : ℕ) (row : NatNode) (nat : NatState) → slice_get t.nat
 -- no NAT was last called after this moment
 abbrev pub AreReady : ℕ → List NatState → Type 0
 AreReady m nats = AllByRecursion (λ (nat : NatState). nat.moment ≤ m) nats
+
+-- each NAT is as its row says, and nothing happened to it
+abbrev pub AreNew : List NatNode → List NatState → Type 0
+AreNew rows nats = (k : ℕ) (row : NatNode) (nat : NatState) → slice_get rows k ≡ Some row → slice_get nats k ≡ Some nat → IsNatOf row nat []
+
+-- a record of the restart of node n
+pub record IsRestartOf (n : ℕ) (r : Full) : Type 0 where
+  pub node : r.node ≡ Some n
+  pub restart : is_restart r.act ≡ true
+  pub none : r.made ≡ []

@@ -75,6 +75,7 @@ pub fn deliver(
     ensures plays { (d : Draws) (H : List Full) (e : Event) → Knows (topology_of servers.now rows.now) nats.now now.0 wire.old H
         → Plays wire.old wire.new (delivers d (topology_of servers.now rows.now) H (numbered index e) number) result }
     ensures grows { length wire.new.items ≤ length wire.old.items + 1 }
+    ensures err { OnErr result (wire.new ≡ wire.old) }
 {
     let act = Act::Deliver { number };
     let place = number as usize;

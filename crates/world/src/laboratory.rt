@@ -1,4 +1,20 @@
-ghost use Rattle.std.specs.Prelude.{◌≡◌, ◌<◌, ◌≤◌, ◌^◌, ◌+◌, length, IfOk, IfErr, OnOk};
+ghost use Rattle.std.specs.Prelude.{◌≡◌, ◌<◌, ◌≤◌, ◌+◌, List, [], ◌∷◌, length, Some, None, slice_get, option_map, IfOk, IfErr, OnOk, OnErr};
+ghost use Rattle.teredo_node.specs.declared.fates.Fate.TheVariants as fates;
+ghost use Rattle.history.specs.declared.event.Event.{Event};
+ghost use Rattle.history.specs.declared.event.Event.TheVariants as event;
+ghost use Rattle.history.specs.declared.event.TheConstants.{MOST_ADVANCE};
+ghost use Rattle.history.specs.declared.acts.Verb.TheVariants as verb;
+ghost use Rattle.history.specs.Events.{IsEvent};
+ghost use Rattle.history.specs.Full.{Full};
+ghost use Rattle.world.specs.declared.wire.TheConstants.{MOST_ENTRIES};
+ghost use Rattle.world.specs.declared.laboratory.TheConstants.{MOST_MOMENT};
+ghost use Rattle.world.specs.Past.{Draws};
+ghost use Rattle.world.specs.Next.{numbered, plain, delivers, next_of};
+ghost use Rattle.world.specs.Lent.{item_lent};
+ghost use Rattle.world.specs.Ways.{NatsOf, AreReady, AreNew, IsRestartOf};
+ghost use Rattle.world.specs.Steps.{said, Plays};
+ghost use Rattle.world.specs.World.{StandsFor, HasNoHosts, Steps, Stops, Falls, IsLast};
+ghost use Rattle.world.specs.Playing.{kept_wire, PlaysOut};
 
 use crate::deliveries::deliver;
 use crate::puts::{copy, put_bytes};
@@ -55,13 +71,20 @@ impl Model for World {
         × (length w.nats.items ≡ length w.rows.items) × AreReady w.moment.0 w.nats.items };
 }
 
-impl World {
-    ghost use Rattle.std.specs.Prelude.{None};
-    ghost use Rattle.history.specs.declared.event.TheConstants.{MOST_ADVANCE};
-    ghost use Rattle.history.specs.Events.{IsEvent};
-    ghost use Rattle.world.specs.Past.{Draws};
-    ghost use Rattle.world.specs.World.{StandsFor, HasNoHosts, Steps, Stops, Falls, IsLast};
+/// A NAT for each row, as it is at first.
+fn nats_of(alloc: Global, rows: &[NatNode]) -> Result<Vec<Nat>, NoMemory>
+    ensures each { IfOk result (λ nats. length nats.items ≡ length rows.now) }
+    ensures ready { IfOk result (λ nats. AreReady 0 nats.items) }
+    ensures new { IfOk result (λ nats. AreNew rows.now nats.items) }
+{
+    let mut nats = Vec::new(alloc);
+    for row in rows {
+        nats.push(Nat::new(alloc, row.kind, row.external, row.idle))?;
+    }
+    Ok(nats)
+}
 
+impl World {
     /// The nodes at moment 0, with nothing on the wire. The seed is that of the nodes' random words.
     pub fn new(alloc: Global, topology: &Topology, _seed: u64) -> Result<World, NoMemory>
         requires built { HasNoHosts topology.now }
@@ -71,10 +94,7 @@ impl World {
     {
         let servers = Vec::from_slice(alloc, topology.servers())?;
         let rows = Vec::from_slice(alloc, topology.nats())?;
-        let mut nats = Vec::new(alloc);
-        for row in topology.nats() {
-            nats.push(Nat::new(alloc, row.kind, row.external, row.idle))?;
-        }
+        let nats = nats_of(alloc, topology.nats())?;
         Ok(World {
             servers,
             rows,
@@ -88,7 +108,8 @@ impl World {
 
     /// How many entries the wire has.
     pub fn entries(&self) -> u32
-        ensures { result ≡ length self.now.wire }
+        ensures count { result ≡ length self.now.wire }
+        ensures most { result ≤ MOST_ENTRIES }
     {
         self.wire.len() as u32
     }
@@ -100,7 +121,13 @@ impl World {
         self.wire.get(number as usize)
     }
 
-    fn deliver(&mut self, index: u32, number: u32) -> Result<Record, Stop> {
+    fn deliver(&mut self, index: u32, number: u32) -> Result<Record, Stop>
+        ensures plays { (d : Draws) (H : List Full) (e : Event) → StandsFor d self.old H
+            → Plays (kept_wire self.old) (kept_wire self.new) (delivers d self.old.topology H (numbered index e) number) result }
+        ensures rest { self.new ≡ record self.old { wire = self.new.wire; done = self.new.done } }
+        ensures grows { length self.new.wire ≤ length self.old.wire + 1 }
+        ensures err { OnErr result (self.new ≡ self.old) }
+    {
         deliver(
             *self.servers.allocator(),
             self.servers.as_slice(),
@@ -114,7 +141,13 @@ impl World {
         )
     }
 
-    fn deliver_next(&mut self, index: u32) -> Result<Record, Stop> {
+    fn deliver_next(&mut self, index: u32) -> Result<Record, Stop>
+        ensures plays { (d : Draws) (H : List Full) → StandsFor d self.old H
+            → Plays (kept_wire self.old) (kept_wire self.new) (next_of d self.old.topology H index event.Next) result }
+        ensures rest { self.new ≡ record self.old { wire = self.new.wire; done = self.new.done } }
+        ensures grows { length self.new.wire ≤ length self.old.wire + 1 }
+        ensures err { OnErr result (self.new ≡ self.old) }
+    {
         match self.wire.first_undelivered() {
             Some(number) => self.deliver(index, number as u32),
             None => {
@@ -124,7 +157,11 @@ impl World {
         }
     }
 
-    fn advance(&mut self, index: u32, ms: u64) -> Record {
+    fn advance(&mut self, index: u32, ms: u64) -> Record
+        requires { self.old.moment + ms < MOST_MOMENT }
+        ensures said { result ≡ said (self.old.moment + ms) index (plain verb.Advance) None fates.Done [] }
+        ensures state { self.new ≡ record self.old { moment = self.old.moment + ms; began = self.old.moment + ms } }
+    {
         self.moment = Millis(self.moment.0 + ms);
         let act = Act::Plain {
             verb: Verb::Advance,
@@ -132,18 +169,42 @@ impl World {
         quiet(self.moment, index, act, None, Fate::Done)
     }
 
-    fn restart(&mut self, index: u32, node: u16) -> Record {
-        let place = usize::from(node);
-        if place >= self.servers.len() {
-            self.nats[place - self.servers.len()].restart();
+    fn restart_node(&mut self, place: usize)
+        requires { place < length self.old.topology.servers + length self.old.topology.nats }
+        ensures rest { self.new ≡ record self.old { nats = self.new.nats } }
+        ensures nats { (H : List Full) → NatsOf self.old.topology self.old.nats H
+            → (r : Full) → IsRestartOf place r → NatsOf self.old.topology self.new.nats (r ∷ H) }
+    {
+        if place < self.servers.len() {
+            return;
         }
+        self.nats[place - self.servers.len()].restart();
+    }
+
+    fn restart(&mut self, index: u32, node: u16) -> Record
+        requires { node < length self.old.topology.servers + length self.old.topology.nats }
+        ensures said { result ≡ said self.old.moment index (plain verb.Restart) (Some node) fates.Done [] }
+        ensures rest { self.new ≡ record self.old { nats = self.new.nats } }
+        ensures nats { (H : List Full) → NatsOf self.old.topology self.old.nats H
+            → (r : Full) → IsRestartOf node r → NatsOf self.old.topology self.new.nats (r ∷ H) }
+    {
+        self.restart_node(usize::from(node));
         let act = Act::Plain {
             verb: Verb::Restart,
         };
         quiet(self.moment, index, act, Some(node), Fate::Done)
     }
 
-    fn play(&mut self, index: u32, event: &Event) -> Result<Record, Stop> {
+    fn play(&mut self, index: u32, event: &Event) -> Result<Record, Stop>
+        requires event { IsEvent self.old.topology event.now }
+        requires time { self.old.moment + MOST_ADVANCE < MOST_MOMENT }
+        ensures plays { (d : Draws) (H : List Full) → StandsFor d self.old H
+            → PlaysOut self.old self.new H (next_of d self.old.topology H index event.now) result }
+        ensures rest { self.new ≡ record self.old { moment = self.new.moment; began = self.new.moment; nats = self.new.nats; wire = self.new.wire; done = self.new.done } }
+        ensures grows { length self.new.wire ≤ length self.old.wire + 1 }
+        ensures time { self.new.moment ≤ self.old.moment + MOST_ADVANCE }
+        ensures err { OnErr result (self.new ≡ self.old) }
+    {
         let alloc = *self.servers.allocator();
         match event {
             Event::Advance { ms } => Ok(self.advance(index, *ms)),
@@ -170,14 +231,13 @@ impl World {
     /// Plays the next record of event number `index`. After a `Stop` every later call answers the same.
     pub fn step(&mut self, index: u32, event: &Event) -> Result<Turn, Stop>
         requires event { IsEvent self.old.topology event.now }
-        requires time { self.old.moment + MOST_ADVANCE ≤ MOST_MOMENT }
+        requires time { self.old.moment + MOST_ADVANCE < MOST_MOMENT }
         ensures ok { IfOk result (λ turn. Steps self.old self.new index event.now turn) }
         ensures falls { IfOk result (λ turn. Falls self.old self.new turn) }
         // No event of servers and NATs has a further record, and each makes one entry at most.
         ensures last { IfOk result (λ turn. IsLast turn) }
         ensures grows { length self.new.wire ≤ length self.old.wire + 1 }
         ensures time { self.new.moment ≤ self.old.moment + MOST_ADVANCE }
-        ensures fits { OnOk result (length self.new.wire ≤ MOST_ENTRIES) }
         ensures cause { IfErr result (λ stop. Stops self.old.stopped self.old index event.now stop) }
         ensures err { IfErr result (λ stop. self.new ≡ record self.old { stopped = Some stop }) }
     {

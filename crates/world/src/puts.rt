@@ -1,5 +1,5 @@
 //! Datagrams that no node sends.
-ghost use Rattle.std.specs.Prelude.{◌≡◌, ◌≤◌, ◌<◌, ℕ, List, length, slice_get};
+ghost use Rattle.std.specs.Prelude.{◌≡◌, ◌≤◌, ◌<◌, ◌+◌, ℕ, List, length, slice_get, OnErr};
 ghost use Rattle.nat_kinds.specs.Nat.{NatState};
 ghost use Rattle.history.specs.declared.event.TheConstants.{MOST_BYTES};
 ghost use Rattle.history.specs.declared.event.Event.{Event};
@@ -31,8 +31,10 @@ fn put(
 ) -> Result<Record, Stop>
     requires room { length wire.old.items < MOST_ENTRIES }
     requires short { length bytes ≤ MOST_BYTES }
-    ensures { (t : TopologyState) (nats : List NatState) (H : List Full) (e : Event) → Knows t nats now.0 wire.old H
+    ensures plays { (t : TopologyState) (nats : List NatState) (H : List Full) (e : Event) → Knows t nats now.0 wire.old H
         → Plays wire.old wire.new (puts H (numbered index e) act src dst bytes) result }
+    ensures grows { length wire.new.items ≤ length wire.old.items + 1 }
+    ensures err { OnErr result (wire.new ≡ wire.old) }
 {
     let number = wire.len() as u32;
     let len = bytes.as_slice().len();
@@ -61,8 +63,10 @@ pub fn put_bytes(
     bytes: &[u8],
 ) -> Result<Record, Stop>
     requires short { length bytes.now ≤ MOST_BYTES }
-    ensures { (t : TopologyState) (nats : List NatState) (H : List Full) (e : Event) → Knows t nats now.0 wire.old H
+    ensures plays { (t : TopologyState) (nats : List NatState) (H : List Full) (e : Event) → Knows t nats now.0 wire.old H
         → Plays wire.old wire.new (puts H (numbered index e) act src dst bytes.now) result }
+    ensures grows { length wire.new.items ≤ length wire.old.items + 1 }
+    ensures err { OnErr result (wire.new ≡ wire.old) }
 {
     if wire.len() >= MOST_ENTRIES {
         return Err(Stop::WireFull);
@@ -83,8 +87,10 @@ pub fn copy(
     src: Ep,
     dst: Ep,
 ) -> Result<Record, Stop>
-    ensures { (t : TopologyState) (nats : List NatState) (H : List Full) (e : Event) → Knows t nats now.0 wire.old H
+    ensures plays { (t : TopologyState) (nats : List NatState) (H : List Full) (e : Event) → Knows t nats now.0 wire.old H
         → Plays wire.old wire.new (copies H (numbered index e) number src dst (slice_get (wire_of H) number)) result }
+    ensures grows { length wire.new.items ≤ length wire.old.items + 1 }
+    ensures err { OnErr result (wire.new ≡ wire.old) }
 {
     let act = Act::Copy { number };
     let Some(entry) = wire.get(number as usize) else {

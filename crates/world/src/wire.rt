@@ -150,6 +150,7 @@ impl Wire {
     /// The least-numbered entry that was never delivered.
     pub fn first_undelivered(&mut self) -> Option<usize>
         ensures same { self.new ≡ self.old }
+        ensures few { IfSome result (λ n. n < MOST_ENTRIES) }
         ensures found { IfSome result (λ n. (n < length self.old.items) × (get_or self.old.done n false ≡ false)
             × ((i : ℕ) → i < n → get_or self.old.done i false ≡ true)) }
         ensures none { IfNone result ((i : ℕ) → i < length self.old.items → get_or self.old.done i false ≡ true) }

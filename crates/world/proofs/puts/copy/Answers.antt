@@ -4,7 +4,7 @@ use Rattle.history.specs.Full.{Item, wire}
 use Rattle.world.specs.Lent.{item_lent}
 use Rattle.world.proofs.puts.copy.Goals as goal
 
-pub returns : goal.returns
-returns c = λ t nats H e k.
+pub returns-clause-plays : goal.returns-clause-plays
+returns-clause-plays c = λ t nats H e k.
     let at : slice_get (wire H) c.args.number ≡ Some (item_lent c.in-Some.entry) = ap (λ (xs : List Item). slice_get xs c.args.number) (sym k.items) ∙ sym c.get.ensures.lent ∙ ap (λ o. option_map item_lent o) c.in-Some.is in
-    rw (at, ← c.bytes.ensures, ← c.in-Ok.ensures.copied) (c.put.ensures t nats H e k)
+    rw (at, ← c.bytes.ensures, ← c.in-Ok.ensures.copied) (c.put.ensures.plays t nats H e k)
