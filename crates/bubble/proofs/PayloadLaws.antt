@@ -1,5 +1,5 @@
 -- What is read is spelled so, and what is spelled so is read.
-use Rattle.std.proofs.Common.{◌≡◌, true, false, Bool, cond, ltb, ℕ, ◌+◌, ◌≤◌, List, ◌++◌, length, take, drop, Result, Ok, Err, refl, inl, inr, ◌⊎◌, sym, ap, subst, ◌∙◌, append_assoc, arith}
+use Rattle.std.proofs.Common.{◌≡◌, true, false, ltb, ℕ, ◌+◌, ◌≤◌, List, ◌++◌, length, take, drop, Result, Ok, Err, refl, inl, inr, ◌⊎◌, sym, ap, subst, ◌∙◌, append_assoc, arith}
 use Rattle.std.specs.Prelude.{IfOk, IfErr}
 use Rattle.std.proofs.lemmas.Bool.{le-ltb, ltb-true, ltb-false, cond-false}
 use Rattle.std.proofs.lemmas.List.{take_at, drop_at, length-append}
@@ -7,6 +7,7 @@ use borrow.Rule.Slice.PartMut.{put_mid, post_of}
 use Rattle.td_base.specs.Bytes.{IsBytes}
 use Rattle.td_base.specs.Reading.{Gives}
 use Rattle.td_base.proofs.BytesLemmas.{IsBytes-drop}
+use Rattle.td_base.proofs.ResultLaws.{guard_ok, guard_err}
 use Rattle.ipv6_packet.specs.declared.fault.PacketFault.{PacketFault}
 use Rattle.ipv6_packet.specs.Packets.{Fields, packet_at}
 use Rattle.ipv6_packet.proofs.PacketLaws.{packet_found, packet_fault, packet_again, packet_begins}
@@ -62,10 +63,6 @@ lead_part : (x : List ℕ) (r : Result Lead LeadFault) (v : Value) → with_lead
 lead_part x (Ok l) v e = let p = packet_part l (packet_at (drop l.at x)) v e in (l, refl, p.0, p.1)
 lead_part x (Err f) v e = absurd cc
 
-guard_ok : (b : Bool) (d : PayloadFault) (x : Result Value PayloadFault) (v : Value) → cond b (Err d) x ≡ made v → (b ≡ false) × (x ≡ made v)
-guard_ok true d x v e = absurd cc
-guard_ok false d x v e = (refl, e)
-
 pub payload_found : (x : List ℕ) (v : Value) → IsBytes x → payload_at x ≡ Ok v → PayloadBytes v x
 unfolding payload_at
 payload_found x v fits e =
@@ -100,10 +97,6 @@ is_found view x (Ok p) fits given = payload_found x (view p) fits given
 is_found view x (Err e) fits given = tt
 
 -- ---- the first fault
-
-guard_err : (b : Bool) (d : PayloadFault) (x : Result Value PayloadFault) (e : PayloadFault) → cond b (Err d) x ≡ Err e → ((b ≡ true) × (d ≡ e)) ⊎ ((b ≡ false) × (x ≡ Err e))
-guard_err true d x e h = inl (refl, cc)
-guard_err false d x e h = inr (refl, h)
 
 packet_failed : (l : Lead) (r : Result Fields PacketFault) (e : PayloadFault) → with_packet l r ≡ Err e → (f : PacketFault) × (r ≡ Err f) × (faults.Packet l.at f ≡ e)
 packet_failed l (Ok p) e h = absurd cc

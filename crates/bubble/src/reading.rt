@@ -7,6 +7,8 @@ ghost use Rattle.bubble.specs.Reads.{is_payload, value_in};
 
 use crate::fault::PayloadFault;
 use crate::parts::{MAX_DATAGRAM, Payload};
+use indications::{auth_lead, bare_lead, places_of};
+use ipv6_packet::{check, packet_in};
 
 /// The payload that the bytes spell, all of the bytes.
 #[inline(always)]
@@ -39,11 +41,24 @@ fn payload_of(bytes: &[u8]) -> Result<Payload<'_>, PayloadFault>
     if bytes.len() > MAX_DATAGRAM {
         return Err(PayloadFault::Long { len: bytes.len() });
     }
-    match indications::read(bytes) {
-        Err(fault) => Err(PayloadFault::Lead(fault)),
-        Ok(lead) => match ipv6_packet::read(&bytes[lead.at..]) {
-            Err(fault) => Err(PayloadFault::Packet { at: lead.at, fault }),
-            Ok(packet) => Ok(Payload { lead, packet }),
-        },
+    let places = match places_of(bytes) {
+        Ok(places) => places,
+        Err(fault) => return Err(PayloadFault::Lead(fault)),
+    };
+    let at = places.at;
+    let rest = &bytes[at..];
+    if let Err(fault) = check(rest) {
+        return Err(PayloadFault::Packet { at, fault });
     }
+    // A payload is built at its return: one that two ways join is copied there, with the gap in an authentication.
+    if places.auth == 0 {
+        return Ok(Payload {
+            lead: bare_lead(bytes, places),
+            packet: packet_in(rest),
+        });
+    }
+    Ok(Payload {
+        lead: auth_lead(bytes, places),
+        packet: packet_in(rest),
+    })
 }

@@ -7,13 +7,14 @@ use Rattle.td_base.specs.Bytes.{number_at}
 use Rattle.td_base.specs.Reading.{◌>>=◌, Gives}
 use Rattle.td_base.specs.Reach.{is_link_local}
 use Rattle.td_base.specs.declared.ipv6.Ip6.{Ip6}
+use Rattle.td_base.proofs.ResultLaws.{guard_err, chosen}
 use Rattle.icmp6.specs.declared.fault.IcmpFault.{IcmpFault}
 use Rattle.icmp6.specs.declared.fault.IcmpFault.TheVariants.{Short, Sum, HopLimit, Code, Source, OptionCut, OptionZero}
 use Rattle.icmp6.specs.Checksum.{checksum_of}
 use Rattle.icmp6.specs.Options.{option_len, whole_options}
 use Rattle.icmp6.specs.Message.{Message, echo_request, echo_reply, router_solicit, router_advert, other, has_len, has_hop, has_code, has_source, echo_request_at, echo_reply_at, solicit_at, advert_at, message_at}
 use Rattle.icmp6.specs.Faults.{is_router, is_known, least_len, IsSummed, HasFields, IsNear, HasOptionsAt, AreWholeUpTo, IsOptionFault, IsFirstFault}
-use Rattle.icmp6.proofs.Steps.{chosen, ok_len, ok_hop, ok_code, ok_source}
+use Rattle.icmp6.proofs.Steps.{ok_len, ok_hop, ok_code, ok_source}
 use Rattle.icmp6.proofs.OptionLaws.{IsWholeAt, none_left, one_more, option_found}
 use Rattle.icmp6.proofs.AgainLaws.{typed}
 
@@ -22,11 +23,6 @@ use Rattle.icmp6.proofs.AgainLaws.{typed}
 bind_err : {A B : Type 0} (r : Result A IcmpFault) (f : A → Result B IcmpFault) (e : IcmpFault) → (r >>= f) ≡ Err e → (r ≡ Err e) ⊎ ((a : A) × (r ≡ Ok a) × (f a ≡ Err e))
 bind_err (Ok a) f e h = inr (a, refl, h)
 bind_err (Err d) f e h = inl cc
-
--- a fault where a test holds
-guard_err : {A : Type 0} (b : Bool) (d : IcmpFault) (r : Result A IcmpFault) (e : IcmpFault) → cond b (Err d) r ≡ Err e → ((b ≡ true) × (d ≡ e)) ⊎ ((b ≡ false) × (r ≡ Err e))
-guard_err true d r e h = inl (refl, cc)
-guard_err false d r e h = inr (refl, h)
 
 -- a fault where a test doesn't hold
 unless_err : (b : Bool) (d e : IcmpFault) (r : Result (Unit {0}) IcmpFault) → r ≡ Ok tt → cond b r (Err d) ≡ Err e → (b ≡ false) × (d ≡ e)

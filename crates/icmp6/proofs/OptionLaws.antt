@@ -6,10 +6,11 @@ use Rattle.std.proofs.lemmas.Bool.{ltb-false, leb-true, eqb-false, le-ltb, le-le
 use Rattle.std.proofs.lemmas.List.{drop_all, drop-drop, drop_at, get_or-drop, get_or-take, get_or_append_left, length-take, length-drop, length-append}
 use Rattle.td_base.specs.Reading.{◌>>=◌}
 use Rattle.td_base.proofs.BytesLemmas.{cut}
+use Rattle.td_base.proofs.ResultLaws.{guard_ok, bind_ok, chosen}
 use Rattle.icmp6.specs.declared.fault.IcmpFault.{IcmpFault}
 use Rattle.icmp6.specs.declared.fault.IcmpFault.TheVariants.{OptionCut, OptionZero}
 use Rattle.icmp6.specs.Options.{IsOption, joined, AreOptions, option_len, whole_options}
-use Rattle.icmp6.proofs.Steps.{guard_ok, bind_ok, chosen, ok_is, then_ok}
+use Rattle.icmp6.proofs.Steps.{ok_is, then_ok}
 
 -- ---- one option
 

@@ -1,10 +1,11 @@
 -- Steps of a reader that may fail, and the tests that types share.
-use Rattle.std.proofs.Common.{◌≡◌, ◌⊎◌, inl, inr, true, false, Bool, cond, ltb, eqb, ℕ, ◌≤◌, List, length, Result, Ok, Err, refl, ap, ◌∙◌}
+use Rattle.std.proofs.Common.{◌≡◌, true, false, Bool, cond, ltb, eqb, ℕ, ◌≤◌, List, length, Result, Ok, Err, refl, ap, ◌∙◌}
 use Rattle.std.specs.Prelude.{slice_index}
 use Rattle.std.proofs.lemmas.Bool.{le-ltb, ltb-false, eq-eqb, eqb-true, cond-false, cond-true}
 use Rattle.td_base.specs.Reading.{◌>>=◌}
 use Rattle.td_base.specs.Reach.{is_link_local}
 use Rattle.td_base.specs.declared.ipv6.Ip6.{Ip6}
+use Rattle.td_base.proofs.ResultLaws.{guard_ok}
 use Rattle.icmp6.specs.declared.fault.IcmpFault.{IcmpFault}
 use Rattle.icmp6.specs.declared.fault.IcmpFault.TheVariants.{Short, HopLimit, Code, Source}
 use Rattle.icmp6.specs.Message.{has_len, has_hop, has_code, has_source}
@@ -17,30 +18,16 @@ then_ok {A = A} r a f y is rest = ap (λ (t : Result A IcmpFault). t >>= f) is �
 pub past : {B : Type 0} (r : Result (Unit {0}) IcmpFault) (next y : Result B IcmpFault) → r ≡ Ok tt → next ≡ y → (r >>= λ _. next) ≡ y
 past r next y is rest = ap (λ (t : Result (Unit {0}) IcmpFault). t >>= λ _. next) is ∙ rest
 
-pub bind_ok : {A B : Type 0} (r : Result A IcmpFault) (f : A → Result B IcmpFault) (y : B) → (r >>= f) ≡ Ok y → (a : A) × (r ≡ Ok a) × (f a ≡ Ok y)
-bind_ok (Ok a) f y e = (a, refl, e)
-bind_ok (Err d) f y e = absurd cc
-
 abbrev done : {A : Type 0} → A → Result A IcmpFault
 done x = Ok x
 
 pub ok_is : {A : Type 0} (x y : A) → done x ≡ done y → x ≡ y
 ok_is x y e = cc
 
--- a fault where a test holds
-pub guard_ok : {A : Type 0} (b : Bool) (d : IcmpFault) (r : Result A IcmpFault) (y : A) → cond b (Err d) r ≡ Ok y → (b ≡ false) × (r ≡ Ok y)
-guard_ok true d r y e = absurd cc
-guard_ok false d r y e = (refl, e)
-
 -- a fault where a test doesn't hold
 unless_ok : {A : Type 0} (b : Bool) (d : IcmpFault) (r : Result A IcmpFault) (y : A) → cond b r (Err d) ≡ Ok y → b ≡ true
 unless_ok true d r y e = refl
 unless_ok false d r y e = absurd cc
-
--- a choice
-pub chosen : {A : Type 0} (b : Bool) (x y z : A) → cond b x y ≡ z → ((b ≡ true) × (x ≡ z)) ⊎ ((b ≡ false) × (y ≡ z))
-chosen true x y z e = inl (refl, e)
-chosen false x y z e = inr (refl, e)
 
 abbrev fine : Result (Unit {0}) IcmpFault
 fine = Ok tt

@@ -3,7 +3,7 @@ ghost use Rattle.std.specs.Prelude.{◌≡◌, ◌+◌, ◌*◌, ◌<◌, ◌≤
 ghost use Rattle.icmp6.specs.Blocks.{option_of};
 
 use crate::numbers::{MTU_OPTION, MTU_UNITS, OPTION_UNIT, PREFIX_INFORMATION, PREFIX_UNITS};
-use td_base::{Ip6, Span, field32};
+use td_base::{Ip6, Span, field32, ip6_at};
 
 /// An option of a router's message.
 #[derive(Clone, Copy, Debug, PartialEq, Eq)]
@@ -26,16 +26,6 @@ pub enum Opt {
         kind: u8,
         span: Span,
     },
-}
-
-#[inline(always)]
-fn ip6_at(bytes: &[u8], at: usize) -> Ip6
-    requires { at + 16 ≤ length bytes.now }
-    ensures { result.0 ≡ take 16 (drop at bytes.now) }
-{
-    let mut ip = [0; 16];
-    ip.copy_from_slice(&bytes[at..at + 16]);
-    Ip6(ip)
 }
 
 /// The option that these bytes are, of which the first stands at a place.

@@ -6,6 +6,7 @@ use Rattle.std.proofs.lemmas.List.{length-drop, length-append, append-nil}
 use Rattle.td_base.specs.declared.endpoint.Ep.{Ep}
 use Rattle.td_base.specs.Bytes.{IsBytes}
 use Rattle.td_base.specs.Reading.{◌>>=◌}
+use Rattle.td_base.proofs.ResultLaws.{bind_ok, guard_ok, guard_err, chosen}
 use Rattle.indications.specs.declared.blocks.Auth.{Auth}
 use Rattle.indications.specs.declared.blocks.Origin.{Origin}
 use Rattle.indications.specs.declared.blocks.Lead.{Lead}
@@ -16,7 +17,7 @@ use Rattle.indications.specs.declared.fault.LeadFault.TheVariants.{Cut, Order, K
 use Rattle.indications.specs.Indications.{head_at, auth_at, origin_at, lead_at, is_auth, is_origin, is_packet, nonce_place, auth_of, origin_of}
 use Rattle.indications.specs.Blocks.{AuthBlock, Blocks, auth_bytes, origin_bytes, optional, blocks_bytes, AreBlocks, origin}
 use Rattle.indications.specs.Faults.{StartsBlock, IsOutOfOrder, IsNoKind, IsFaultBehind, IsFirstFault}
-use Rattle.indications.proofs.HeadLaws.{bind_ok, guard_ok, bind_err, guard_err, chosen, HeadIs, HeadFails, head_tells, head_fails, at_first, at_second}
+use Rattle.indications.proofs.HeadLaws.{bind_err, HeadIs, HeadFails, head_tells, head_fails, at_first, at_second}
 use Rattle.indications.proofs.FoundLaws.{FoundAuth, FoundOrigin, auth_found, origin_found, auth_is, origin_is, gives, gives_is, gives_origin, gives_origin_is}
 
 -- ---- what was answered where nothing begins

@@ -9,6 +9,7 @@ use Rattle.td_base.specs.Ep.{IsEp}
 use Rattle.td_base.specs.Bytes.{IsBytes, number_at}
 use Rattle.td_base.specs.Reading.{◌>>=◌}
 use Rattle.td_base.proofs.BytesLemmas.{IsBytes-drop, cut, cut_8}
+use Rattle.td_base.proofs.ResultLaws.{bind_ok, guard_ok, chosen}
 use Rattle.indications.specs.declared.blocks.Auth.{Auth}
 use Rattle.indications.specs.declared.blocks.Origin.{Origin}
 use Rattle.indications.specs.declared.blocks.Lead.{Lead}
@@ -20,7 +21,7 @@ use Rattle.teredo_addr.specs.Hidden.{hidden_ep, shown_at}
 use Rattle.teredo_addr.proofs.HiddenLaws.{hidden_ep_len, shown_fits, shown_hidden}
 use Rattle.indications.specs.Indications.{head_at, auth_at, origin_at, lead_at, is_auth, is_origin, is_packet, nonce_place, auth_of, origin_of}
 use Rattle.indications.specs.Blocks.{AuthBlock, Blocks, auth_bytes, origin_bytes, optional, blocks_bytes, IsAuthBlock, spans_of, origin, lead, LeadBytes, AreSpansBefore}
-use Rattle.indications.proofs.HeadLaws.{bind_ok, guard_ok, chosen, HeadIs, head_tells}
+use Rattle.indications.proofs.HeadLaws.{HeadIs, head_tells}
 
 -- ---- answers
 

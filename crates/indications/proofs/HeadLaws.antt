@@ -1,28 +1,16 @@
 -- What each answer about a place tells, and from what it follows.
-use Rattle.std.proofs.Common.{◌≡◌, ◌≢◌, true, false, Bool, cond, not, leb, eqb, ℕ, ◌+◌, ◌-◌, ◌/◌, ◌<◌, ◌≤◌, ◌⊎◌, inl, inr, List, length, drop, Result, Ok, Err, refl, sym, ap, subst, ◌∙◌, arith}
+use Rattle.std.proofs.Common.{◌≡◌, ◌≢◌, false, cond, not, leb, eqb, ℕ, ◌+◌, ◌-◌, ◌/◌, ◌<◌, ◌≤◌, ◌⊎◌, inl, inr, List, length, drop, Result, Ok, Err, refl, sym, ap, subst, ◌∙◌, arith}
 use Rattle.std.specs.Prelude.{slice_index}
 use Rattle.std.proofs.lemmas.Bool.{lt-leb, leb-true, leb-false, eq-eqb, eqb-true, eqb-false, not-true, not-false, cond-true, cond-false}
 use Rattle.std.proofs.lemmas.List.{get_or-drop, length-drop}
 use Rattle.td_base.specs.Reading.{◌>>=◌}
+use Rattle.td_base.proofs.ResultLaws.{guard_ok, chosen, guard_err}
 use Rattle.indications.specs.declared.heads.Head.{Head}
 use Rattle.indications.specs.declared.heads.Head.TheVariants as heads
 use Rattle.indications.specs.declared.fault.LeadFault.{LeadFault}
 use Rattle.indications.specs.declared.fault.LeadFault.TheVariants.{Cut, Order, Kind}
 use Rattle.indications.specs.Indications.{head_at}
 use Rattle.indications.specs.Faults.{IsHeadCut, IsNoKind}
-
-pub bind_ok : {A B : Type 0} (r : Result A LeadFault) (f : A → Result B LeadFault) (y : B) → (r >>= f) ≡ Ok y → (x : A) × (r ≡ Ok x) × (f x ≡ Ok y)
-bind_ok (Ok x) f y e = (x, refl, e)
-bind_ok (Err d) f y e = absurd cc
-
--- a test that did not fail
-pub guard_ok : {A : Type 0} (b : Bool) (d : LeadFault) (x : Result A LeadFault) (y : A) → cond b (Err d) x ≡ Ok y → (b ≡ false) × (x ≡ Ok y)
-guard_ok true d x y e = absurd cc
-guard_ok false d x y e = (refl, e)
-
-pub chosen : {X : Type 0} (b : Bool) (x y z : X) → cond b x y ≡ z → ((b ≡ true) × (x ≡ z)) ⊎ ((b ≡ false) × (y ≡ z))
-chosen true x y z e = inl (refl, e)
-chosen false x y z e = inr (refl, e)
 
 err_is : {B : Type 0} (x y : Result B LeadFault) (d e : LeadFault) → x ≡ Err d → y ≡ Err e → x ≡ y → d ≡ e
 err_is x y d e p q h = cc
@@ -33,10 +21,6 @@ bind_err {B} (Err d) f e h =
     let failed : LeadFault → Result B LeadFault = λ c. Err c in
     let is : d ≡ e = err_is (failed d) (failed e) d e refl refl h in
     inl (ap (λ c. Err c) is)
-
-pub guard_err : {A : Type 0} (b : Bool) (d : LeadFault) (x : Result A LeadFault) (e : LeadFault) → cond b (Err d) x ≡ Err e → ((b ≡ true) × (d ≡ e)) ⊎ ((b ≡ false) × (x ≡ Err e))
-guard_err true d x e h = inl (refl, cc)
-guard_err false d x e h = inr (refl, h)
 
 abbrev headed : Head → Result Head LeadFault
 headed h = Ok h

@@ -1,4 +1,5 @@
 pub mod Indications
+pub mod Places
 pub mod Blocks
 pub mod Faults
 pub mod Leads

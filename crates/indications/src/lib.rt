@@ -23,7 +23,8 @@
 //! | `fault` | `LeadFault` | `specs/Faults.antt` |
 //! | `heads` | what begins at a place | `specs/Indications.antt` |
 //! | `leads` | what a rule asks of a `Lead` | `specs/Leads.antt` |
-//! | `reading` | `read` | `specs/Indications.antt` |
+//! | `places` | `Places` | `specs/Places.antt` |
+//! | `reading` | `read`, and its steps `places_of`, `bare_lead`, `auth_lead` | `specs/Indications.antt`, `Places.antt` |
 //! | `writing` | `write`, `len` | `specs/Blocks.antt` |
 #![tactic(auto)]
 
@@ -31,13 +32,15 @@ mod blocks;
 mod fault;
 mod heads;
 mod leads;
+mod places;
 mod reading;
 mod writing;
 
 pub use blocks::{AUTH, AUTH_HEAD, AUTH_TAIL, Auth, Lead, NONCE, ORIGIN, Origin};
 pub use fault::LeadFault;
 pub use leads::{is_confirmed, is_keyed, nonce_of, origin_in};
-pub use reading::read;
+pub use places::Places;
+pub use reading::{auth_lead, bare_lead, places_of, read};
 pub use writing::{len, write};
 
 #[cfg(test)]

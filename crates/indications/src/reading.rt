@@ -1,12 +1,16 @@
-ghost use Rattle.std.specs.Prelude.{◌≡◌, ◌<◌, ◌≤◌, length, IfOk, IfErr, IfSome, Ok};
+ghost use Rattle.std.specs.Prelude.{◌≡◌, ◌≢◌, ◌+◌, ◌<◌, ◌≤◌, length, IfOk, IfErr, IfSome, Ok};
+ghost use Rattle.td_base.specs.Reading.{Gives};
 ghost use Rattle.indications.specs.declared.blocks.Lead.{Lead};
-ghost use Rattle.indications.specs.Indications.{auth_at, origin_at, lead_at};
+ghost use Rattle.indications.specs.declared.heads.Head.TheVariants as heads;
+ghost use Rattle.indications.specs.Indications.{head_at, auth_at, auth_of, nonce_place, lead_at};
+ghost use Rattle.indications.specs.Places.{auth_to, origin_between, lead_by, AreThere};
 ghost use Rattle.indications.specs.Blocks.{LeadBytes, AreSpansBefore};
 ghost use Rattle.indications.specs.Faults.{IsFirstFault};
 
 use crate::blocks::{AUTH_HEAD, AUTH_TAIL, Auth, Lead, NONCE, ORIGIN, Origin};
 use crate::fault::LeadFault;
 use crate::heads::{Head, head_of};
+use crate::places::Places;
 use td_base::{Span, field64};
 use teredo_addr::show;
 
@@ -29,31 +33,114 @@ pub fn read(bytes: &[u8]) -> Result<Lead, LeadFault>
 }
 
 #[inline(always)]
-#[tactic(auto, unfolding(crate::specs::Indications::lead_at))]
 fn lead_of(bytes: &[u8]) -> Result<Lead, LeadFault>
     ensures { result ≡ lead_at bytes.now }
 {
-    let (auth, at) = auth_of(bytes)?;
-    let (origin, at) = origin_of(bytes, at)?;
-    if head_of(bytes, at)? != Head::Packet {
-        return Err(LeadFault::Order { at });
+    let places = places_of(bytes)?;
+    if places.auth == 0 {
+        return Ok(bare_lead(bytes, places));
     }
-    Ok(Lead { auth, origin, at })
+    Ok(auth_lead(bytes, places))
 }
 
-/// The authentication at the front, if one begins there, and the place after it.
+/// Where the indications at the front of the bytes stand, in front of a packet.
 #[inline(always)]
-#[tactic(auto, unfolding(crate::specs::Indications::auth_at))]
-fn auth_of(bytes: &[u8]) -> Result<(Option<Auth>, usize), LeadFault>
-    ensures inside { IfOk result (λ found. found.1 ≤ length bytes.now) }
-    ensures exact { result ≡ auth_at bytes.now }
+#[tactic(auto, unfolding(crate::specs::Indications::lead_at, crate::specs::Indications::auth_at, crate::specs::Places::auth_to))]
+pub fn places_of(bytes: &[u8]) -> Result<Places, LeadFault>
+    ensures there { IfOk result (AreThere bytes.now) }
+    ensures exact { Gives (lead_by bytes.now) result (lead_at bytes.now) }
 {
     if head_of(bytes, 0)? != Head::Auth {
-        return Ok((None, 0));
+        return behind(bytes, 0);
     }
     if bytes.len() < AUTH_HEAD {
         return Err(LeadFault::Cut { at: 0 });
     }
+    let end = AUTH_HEAD + bytes[2] as usize + bytes[3] as usize + AUTH_TAIL;
+    if bytes.len() < end {
+        return Err(LeadFault::Cut { at: 0 });
+    }
+    behind(bytes, end)
+}
+
+/// The places where an authentication ends at `auth`, or there is none.
+#[inline(always)]
+#[tactic(auto, unfolding(crate::specs::Indications::lead_at, crate::specs::Indications::origin_at, crate::specs::Places::lead_by, crate::specs::Places::origin_between))]
+fn behind(bytes: &[u8], auth: usize) -> Result<Places, LeadFault>
+    requires inside { auth ≤ length bytes.now }
+    requires first { auth_at bytes.now ≡ Ok (auth_to auth bytes.now, auth) }
+    ensures same { IfOk result (λ p. p.auth ≡ auth) }
+    ensures order { IfOk result (λ p. p.auth ≤ p.at) }
+    ensures packet { IfOk result (λ p. p.at ≤ length bytes.now) }
+    ensures exact { Gives (lead_by bytes.now) result (lead_at bytes.now) }
+{
+    match head_of(bytes, auth)? {
+        Head::Packet => Ok(Places { auth, at: auth }),
+        Head::Origin => behind_origin(bytes, auth),
+        Head::Auth => Err(LeadFault::Order { at: auth }),
+    }
+}
+
+/// The same where an origin begins there.
+#[inline(always)]
+#[tactic(auto, unfolding(crate::specs::Indications::lead_at, crate::specs::Indications::origin_at, crate::specs::Places::lead_by, crate::specs::Places::origin_between))]
+fn behind_origin(bytes: &[u8], auth: usize) -> Result<Places, LeadFault>
+    requires inside { auth ≤ length bytes.now }
+    requires first { auth_at bytes.now ≡ Ok (auth_to auth bytes.now, auth) }
+    requires second { head_at auth bytes.now ≡ Ok heads.Origin }
+    ensures same { IfOk result (λ p. p.auth ≡ auth) }
+    ensures order { IfOk result (λ p. p.auth ≤ p.at) }
+    ensures packet { IfOk result (λ p. p.at ≤ length bytes.now) }
+    ensures exact { Gives (lead_by bytes.now) result (lead_at bytes.now) }
+{
+    let at = auth + ORIGIN;
+    if bytes.len() < at {
+        return Err(LeadFault::Cut { at: auth });
+    }
+    if head_of(bytes, at)? != Head::Packet {
+        return Err(LeadFault::Order { at });
+    }
+    Ok(Places { auth, at })
+}
+
+/// The lead of places without an authentication.
+#[inline(always)]
+#[tactic(auto, unfolding(crate::specs::Places::lead_by, crate::specs::Places::auth_to))]
+pub fn bare_lead(bytes: &[u8], places: Places) -> Lead
+    requires bare { places.auth ≡ 0 }
+    requires packet { places.at ≤ length bytes.now }
+    ensures { result ≡ lead_by bytes.now places }
+{
+    Lead {
+        auth: None,
+        origin: origin_between(bytes, places),
+        at: places.at,
+    }
+}
+
+/// The lead of places with an authentication.
+#[inline(always)]
+#[tactic(auto, unfolding(crate::specs::Places::lead_by, crate::specs::Places::auth_to))]
+pub fn auth_lead(bytes: &[u8], places: Places) -> Lead
+    requires auth { places.auth ≢ 0 }
+    requires there { nonce_place bytes.now + AUTH_TAIL ≤ length bytes.now }
+    requires order { places.auth ≤ places.at }
+    requires packet { places.at ≤ length bytes.now }
+    ensures { result ≡ lead_by bytes.now places }
+{
+    Lead {
+        auth: Some(auth_of(bytes)),
+        origin: origin_between(bytes, places),
+        at: places.at,
+    }
+}
+
+/// The authentication at the front.
+#[inline(always)]
+fn auth_of(bytes: &[u8]) -> Auth
+    requires { nonce_place bytes.now + AUTH_TAIL ≤ length bytes.now }
+    ensures { result ≡ auth_of bytes.now }
+{
     let id = Span {
         at: AUTH_HEAD,
         len: bytes[2] as usize,
@@ -63,38 +150,27 @@ fn auth_of(bytes: &[u8]) -> Result<(Option<Auth>, usize), LeadFault>
         len: bytes[3] as usize,
     };
     let place = value.at + value.len;
-    let end = place + AUTH_TAIL;
-    if bytes.len() < end {
-        return Err(LeadFault::Cut { at: 0 });
-    }
     let nonce = field64(bytes, place);
     let confirmation = bytes[place + NONCE];
-    Ok((
-        Some(Auth {
-            id,
-            value,
-            nonce,
-            confirmation,
-        }),
-        end,
-    ))
+    Auth {
+        id,
+        value,
+        nonce,
+        confirmation,
+    }
 }
 
-/// The origin at a place, if one begins there, and the place after it.
+/// The origin between the places, where there is room for one.
 #[inline(always)]
-#[tactic(auto, unfolding(crate::specs::Indications::origin_at))]
-fn origin_of(bytes: &[u8], at: usize) -> Result<(Option<Origin>, usize), LeadFault>
-    requires { at ≤ length bytes.now }
-    ensures inside { IfOk result (λ found. found.1 ≤ length bytes.now) }
-    ensures exact { result ≡ origin_at at bytes.now }
+#[tactic(auto, unfolding(crate::specs::Places::origin_between))]
+fn origin_between(bytes: &[u8], places: Places) -> Option<Origin>
+    requires order { places.auth ≤ places.at }
+    requires packet { places.at ≤ length bytes.now }
+    ensures { result ≡ origin_between places.auth places.at bytes.now }
 {
-    if head_of(bytes, at)? != Head::Origin {
-        return Ok((None, at));
+    if places.at < places.auth + ORIGIN {
+        return None;
     }
-    let end = at + ORIGIN;
-    if bytes.len() < end {
-        return Err(LeadFault::Cut { at });
-    }
-    let ep = show(bytes, at + 2);
-    Ok((Some(Origin { ep }), end))
+    let ep = show(bytes, places.auth + 2);
+    Some(Origin { ep })
 }

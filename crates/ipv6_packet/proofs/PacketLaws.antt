@@ -1,5 +1,5 @@
 -- What is read is spelled so, and what is spelled so is read.
-use Rattle.std.proofs.Common.{◌≡◌, true, false, Bool, cond, not, ltb, eqb, ℕ, ◌+◌, ◌-◌, ◌*◌, ◌/◌, ◌%◌, ◌^◌, ◌<◌, ◌≤◌, List, ◌∷◌, ◌++◌, length, take, drop, get_or, Result, Ok, Err, refl, inl, inr, ◌⊎◌, sym, ap, subst, ◌∙◌, append_assoc, arith}
+use Rattle.std.proofs.Common.{◌≡◌, true, false, cond, not, ltb, eqb, ℕ, ◌+◌, ◌-◌, ◌*◌, ◌/◌, ◌%◌, ◌^◌, ◌<◌, ◌≤◌, List, ◌∷◌, ◌++◌, length, take, drop, get_or, Result, Ok, Err, refl, inl, inr, sym, ap, subst, ◌∙◌, append_assoc, arith}
 use Rattle.std.specs.Prelude.{IfOk, IfErr, slice_index}
 use Rattle.td_base.specs.Reading.{Gives}
 use Rattle.std.proofs.lemmas.Bool.{le-ltb, ltb-false, eq-eqb, eqb-true, eqb-false, ltb-true, not-true, not-false, cond-false}
@@ -8,6 +8,7 @@ use Rattle.byteorder.specs.Endian.{big_bytes}
 use Rattle.byteorder.specs.Numbers.{big_number-reads_back}
 use Rattle.td_base.specs.Bytes.{IsBytes, number_at}
 use Rattle.td_base.proofs.BytesLemmas.{IsBytes-drop, IsBytes-take, cut, cut_2, cut_4}
+use Rattle.td_base.proofs.ResultLaws.{guard_ok, guard_err}
 use Rattle.ipv6_packet.specs.declared.fault.PacketFault.{PacketFault}
 use Rattle.ipv6_packet.specs.declared.fault.PacketFault.TheVariants.{Short, Version, Length}
 use Rattle.ipv6_packet.specs.Reads.{is_packet, fields_in, is_ok_packet, fields_or}
@@ -15,15 +16,6 @@ use Rattle.ipv6_packet.specs.Packets.{Fields, IsPacket, PacketBytes, IsFirstFaul
 
 abbrev done : Fields → Result Fields PacketFault
 done x = Ok x
-
--- a test that did not fail
-guard_ok : {A : Type 0} (b : Bool) (d : PacketFault) (x : Result A PacketFault) (y : A) → cond b (Err d) x ≡ Ok y → (b ≡ false) × (x ≡ Ok y)
-guard_ok true d x y e = absurd cc
-guard_ok false d x y e = (refl, e)
-
-guard_err : {A : Type 0} (b : Bool) (d : PacketFault) (x : Result A PacketFault) (e : PacketFault) → cond b (Err d) x ≡ Err e → ((b ≡ true) × (d ≡ e)) ⊎ ((b ≡ false) × (x ≡ Err e))
-guard_err true d x e h = inl (refl, cc)
-guard_err false d x e h = inr (refl, h)
 
 ok_is : (x y : Fields) → done x ≡ done y → x ≡ y
 ok_is x y e = cc

@@ -19,11 +19,12 @@ pub const NEXT_NONE: u8 = 59;
 /// The most bytes of a packet that every link carries whole, which is the MTU of RFC 4380, section 5.1.2.
 pub const MAX_PACKET: usize = 1280;
 
-/// A packet, whose body is lent. The flow label has 20 bits.
+/// A packet, whose body is lent. The flow label has 20 bits. The field of most bytes among the header's numbers stands
+/// first, so that the numbers leave no gap, which each move of a packet would copy.
 #[derive(Clone, Copy, Debug)]
 pub struct Packet<'a> {
-    pub class: u8,
     pub flow: u32,
+    pub class: u8,
     pub next: u8,
     pub hop: u8,
     pub src: Ip6,

@@ -19,7 +19,7 @@
 //! |---|---|---|
 //! | `header` | `Packet`, and the numbers of the header | `specs/Packets.antt`, `Reads.antt` |
 //! | `fault` | `PacketFault` | `specs/Packets.antt` |
-//! | `reading` | `read` | `specs/Packets.antt`, `Reads.antt` |
+//! | `reading` | `read`, and its two steps `check` and `packet_in` | `specs/Packets.antt`, `Reads.antt` |
 //! | `writing` | `write`, `len` | `specs/Packets.antt` |
 #![tactic(auto)]
 
@@ -30,7 +30,7 @@ mod writing;
 
 pub use fault::PacketFault;
 pub use header::{HEADER, MAX_PACKET, NEXT_ICMP, NEXT_NONE, Packet, VERSION, is_big};
-pub use reading::read;
+pub use reading::{check, packet_in, read};
 pub use writing::{len, write};
 
 #[cfg(test)]

@@ -1,11 +1,11 @@
-ghost use Rattle.std.specs.Prelude.{◌≡◌, ◌+◌, ◌≤◌, length, take, drop, true, false, IfOk, IfErr, Ok};
+ghost use Rattle.std.specs.Prelude.{◌≡◌, ◌+◌, ◌≤◌, length, true, false, IfOk, IfErr, OnOk, Ok};
 ghost use Rattle.td_base.specs.Reading.{Gives};
-ghost use Rattle.ipv6_packet.specs.Packets.{Fields, view, PacketBytes, IsFirstFault, packet_at};
+ghost use Rattle.ipv6_packet.specs.Packets.{Fields, view, PacketBytes, IsFirstFault, fields_of, packet_at};
 ghost use Rattle.ipv6_packet.specs.Reads.{is_packet, fields_in};
 
 use crate::fault::PacketFault;
 use crate::header::{HEADER, Packet, VERSION};
-use td_base::{Ip6, field16, field32};
+use td_base::{field16, field32, ip6_at};
 
 /// The packet that the bytes spell, all of the bytes.
 #[inline(always)]
@@ -28,42 +28,52 @@ pub fn read(bytes: &[u8]) -> Result<Packet<'_>, PacketFault>
 }
 
 #[inline(always)]
-#[tactic(auto, unfolding(crate::specs::Packets::packet_at))]
 fn packet_of(bytes: &[u8]) -> Result<Packet<'_>, PacketFault>
     ensures inside { IfOk result (λ p. HEADER + length p.body.now ≡ length bytes.now) }
     ensures exact { Gives view result (packet_at bytes.now) }
 {
+    check(bytes)?;
+    Ok(packet_in(bytes))
+}
+
+/// Whether the bytes spell a packet, or their first fault. A reader that builds more than the packet asks here first,
+/// and then takes the packet where it belongs.
+#[inline(always)]
+#[tactic(auto, unfolding(crate::specs::Packets::packet_at))]
+pub fn check(bytes: &[u8]) -> Result<(), PacketFault>
+    ensures long { OnOk result (HEADER ≤ length bytes.now) }
+    ensures exact { Gives (λ _. fields_of bytes.now) result (packet_at bytes.now) }
+{
     if bytes.len() < HEADER {
         return Err(PacketFault::Short { len: bytes.len() });
     }
-    let word = field32(bytes, 0);
-    let nibble = (word >> 28) as u8;
+    let nibble = (field32(bytes, 0) >> 28) as u8;
     if nibble != VERSION {
         return Err(PacketFault::Version { nibble });
     }
     let said = field16(bytes, 4) as usize;
-    let body = &bytes[HEADER..];
-    let there = body.len();
+    let there = bytes.len() - HEADER;
     if said != there {
         return Err(PacketFault::Length { said, there });
     }
-    Ok(Packet {
-        class: (word >> 20 & 0xff) as u8,
-        flow: word & 0xf_ffff,
-        next: bytes[6],
-        hop: bytes[7],
-        src: address_at(bytes, 8),
-        dst: address_at(bytes, 24),
-        body,
-    })
+    Ok(())
 }
 
+/// The packet in bytes that `check` passed.
 #[inline(always)]
-fn address_at(bytes: &[u8], at: usize) -> Ip6
-    requires { at + 16 ≤ length bytes.now }
-    ensures { result.0 ≡ take 16 (drop at bytes.now) }
+pub fn packet_in(bytes: &[u8]) -> Packet<'_>
+    requires { HEADER ≤ length bytes.now }
+    ensures inside { HEADER + length result.body.now ≡ length bytes.now }
+    ensures exact { view result ≡ fields_of bytes.now }
 {
-    let mut ip = [0; 16];
-    ip.copy_from_slice(&bytes[at..at + 16]);
-    Ip6(ip)
+    let word = field32(bytes, 0);
+    Packet {
+        flow: word & 0xf_ffff,
+        class: (word >> 20 & 0xff) as u8,
+        next: bytes[6],
+        hop: bytes[7],
+        src: ip6_at(bytes, 8),
+        dst: ip6_at(bytes, 24),
+        body: &bytes[HEADER..],
+    }
 }

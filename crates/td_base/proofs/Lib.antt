@@ -7,5 +7,6 @@ pub mod Halting
 pub mod Ip4Lemmas
 pub mod Ip6Lemmas
 pub mod NameLemmas
+pub mod ResultLaws
 pub mod SpellingLemmas
 pub mod WholeLemmas

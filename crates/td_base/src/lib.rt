@@ -22,7 +22,7 @@
 //! | `reach` | `Policy`, and which addresses are global, usable, link-local | `specs/Reach.antt` |
 //! | `small` | `Millis`, `Side`, `Span`, and the refusals `BadText`, `Room`, `NoMemory` | |
 //! | `node_name` | `Name` | `specs/Names.antt` |
-//! | `fields` | numbers in network order at a place | `specs/Bytes.antt` |
+//! | `fields` | numbers in network order, and addresses, at a place | `specs/Bytes.antt` |
 //! | `sum` | the one's complement sum | `specs/Sums.antt` |
 //! | `line` | `LineBuf`, a line that is being made | `specs/Printing.antt` |
 //! | `numeral`, `ipv4_text`, `endpoint_text` | the texts of numbers, IPv4 addresses and endpoints | `specs/Texts.antt` |
@@ -51,7 +51,7 @@ mod sum;
 
 pub use endpoint::{Ep, TEREDO_PORT};
 pub use endpoint_text::{print_ep, read_ep};
-pub use fields::{field16, field32, field64, put, put8, put16, put32, put64};
+pub use fields::{field16, field32, field64, ip4_at, ip6_at, put, put8, put16, put32, put64};
 pub use ipv4::Ip4;
 pub use ipv4_text::{print_ip4, read_ip4};
 pub use ipv6::Ip6;

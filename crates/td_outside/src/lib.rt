@@ -54,7 +54,7 @@ mod writing;
 pub use byte_list::Octets;
 pub use failing::Failed;
 pub use file_source::FileSource;
-pub use linking::{Addresses, Arrival, DATAGRAM_MAX, Link, TEREDO_PORT};
+pub use linking::{Addresses, Arrival, DATAGRAM_MAX, Link};
 pub use mem_arrival::MemArrival;
 pub use mem_attempt::MemAttempt;
 pub use mem_link::MemLink;

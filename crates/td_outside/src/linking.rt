@@ -7,9 +7,6 @@ ghost use Rattle.td_outside.specs.Links.{Told, Receives, Sends, KeepsTold, attem
 use crate::Failed;
 use td_base::{Ep, Ip4, Side};
 
-/// The UDP port of both sides: RFC 4380, section 2.7.
-pub const TEREDO_PORT: u16 = 3544;
-
 /// The most bytes of a datagram that a link takes or sends.
 pub const DATAGRAM_MAX: usize = 1400;
 
@@ -41,7 +38,7 @@ pub trait Link {
     /// How often a call of `send` has failed. It stops at the end of `u64`.
     ghost send_faults: { Self → ℕ };
 
-    /// Makes both sides ready on `TEREDO_PORT`.
+    /// Makes both sides ready on `td_base::TEREDO_PORT`.
     fn open(&mut self, primary: Ip4, secondary: Ip4) -> Result<(), Failed>
         ensures opened { OnOk result (addresses self.new ≡ open_on primary secondary) }
         ensures again { addresses self.old ≡ open_on primary secondary → IsOk result × (self.new ≡ self.old) }

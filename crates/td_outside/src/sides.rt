@@ -2,7 +2,7 @@
 ghost use Rattle.std.specs.Prelude.{◌≤◌, IfOk};
 ghost use Rattle.td_outside.specs.Links.{Fits};
 
-use crate::{Addresses, Arrival, DATAGRAM_MAX, TEREDO_PORT};
+use crate::{Addresses, Arrival, DATAGRAM_MAX};
 use mio::net::UdpSocket;
 use mio::{Events, Interest, Poll, Token};
 use std::alloc::Global;
@@ -10,7 +10,7 @@ use std::io;
 use std::io::ErrorKind;
 use std::net::{Ipv4Addr, Net, SocketAddr, SocketAddrV4};
 use std::time::Duration;
-use td_base::{Ep, Ip4, Side};
+use td_base::{Ep, Ip4, Side, TEREDO_PORT};
 
 // How long a call waits where neither side has a datagram.
 const WAIT_MS: u64 = 20;

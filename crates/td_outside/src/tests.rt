@@ -4,7 +4,7 @@ use std::fs;
 use std::net::{IpAddr, Ipv4Addr, UdpSocket};
 use std::test::Fail;
 use std::time::Duration;
-use td_base::{Ep, Ip4, Millis, NoMemory, Side};
+use td_base::{Ep, Ip4, Millis, NoMemory, Side, TEREDO_PORT};
 
 #[test]
 fn a_source_gives_what_its_name_stands_for(rt: HostRuntime) -> Result<(), Fail> {

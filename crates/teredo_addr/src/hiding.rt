@@ -2,7 +2,7 @@ ghost use Rattle.std.specs.Prelude.{◌≡◌, ◌+◌, ◌≤◌, length, take,
 ghost use Rattle.td_base.specs.Ep.{IsEp};
 ghost use Rattle.teredo_addr.specs.Hidden.{hidden, hidden_ep, shown_at};
 
-use td_base::{Ep, Ip4, field16};
+use td_base::{Ep, Ip4, field16, ip4_at};
 
 /// How many bytes a hidden endpoint takes: its port, and its address.
 pub const HIDDEN: usize = 6;
@@ -36,5 +36,6 @@ fn address_at(bytes: &[u8], at: usize) -> Ip4
     requires { at + 4 ≤ length bytes.now }
     ensures { result.0 ≡ hidden (take 4 (drop at bytes.now)) }
 {
-    Ip4([!bytes[at], !bytes[at + 1], !bytes[at + 2], !bytes[at + 3]])
+    let [a, b, c, d] = ip4_at(bytes, at).0;
+    Ip4([!a, !b, !c, !d])
 }
