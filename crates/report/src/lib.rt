@@ -22,6 +22,8 @@ mod lines;
 mod marks;
 mod pieces;
 #[cfg(test)]
+mod sample;
+#[cfg(test)]
 mod tests;
 mod totals;
 

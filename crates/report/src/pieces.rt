@@ -5,8 +5,9 @@ ghost use Rattle.td_base.specs.Ip6Texts.{ip6_text};
 ghost use Rattle.report.specs.Lines.{verb_word, act_text, node_text, address_text, handed_text, gone_text};
 
 use history::{Act, Topology, Verb};
-use td_base::{Ep, Ip6, LINE_LEN, LineBuf, NAME_LEN, NUMBER_LEN, SHORT_LEN};
-use td_base::{print_ep, print_ip6, print_number};
+use td_base::{
+    Ep, Ip6, LINE_LEN, LineBuf, NAME_LEN, NUMBER_LEN, SHORT_LEN, print_ep, print_ip6, print_number,
+};
 
 /// The most bytes of an endpoint.
 pub const EP_LEN: usize = 21;
