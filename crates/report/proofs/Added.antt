@@ -1,32 +1,40 @@
 -- What a record adds to the sums of a history.
-use Rattle.std.proofs.Common.{◌≡◌, ℕ, suc, ◌+◌, Bool, List, [], ◌∷◌, length, add-one, refl, sym, ap, ◌∙◌}
+use Rattle.std.proofs.Common.{◌≡◌, ℕ, ◌+◌, Bool, List, [], ◌∷◌, length, add-one, refl, sym, ap, ◌∙◌, arith}
 use Rattle.std.proofs.Math.Nat.{add_comm}
 use Rattle.std.specs.Prelude.{count_by, filter_map, is_some, if◌then◌else◌}
 use Rattle.std.proofs.lemmas.List.{length-append}
 use Rattle.std.proofs.lemmas.List.Sums.{sum_by-cons}
 use Rattle.teredo_node.specs.Fates.{is_drop}
-use Rattle.history.specs.Full.{Made, sent, item_in, Full, wire, items_of}
-use Rattle.history.specs.Records.{marks_of, record_of}
+use Rattle.history.specs.declared.mark.Mark.{Mark}
+use Rattle.history.specs.declared.mark.Mark.TheVariants as mark
+use Rattle.history.specs.Full.{Made, sent, lost, udp, six, item_in, Full, wire, items_of}
+use Rattle.history.specs.Records.{marks_of, handed_of, record_of}
 use Rattle.report.specs.declared.totals.Sums.{Sums}
-use Rattle.history.specs.Telling.{is_kept, is_delivery, IsTold}
+use Rattle.history.specs.Telling.{is_kept, is_delivery, is_entry, IsTold}
 use Rattle.report.specs.Totals.{sums_of, added}
-
--- each send is an entry, and has a mark
-marks_are_entries : (number : ℕ) (made : List Made) → length (marks_of number made) ≡ length (filter_map item_in made)
-marks_are_entries number [] = refl
-marks_are_entries number (sent item ∷ made) = ap (λ (n : ℕ). suc n) (marks_are_entries (number + 1) made)
-
-abbrev sums : (records entries delivered handed kept dropped : ℕ) → Sums
-sums records entries delivered handed kept dropped = record { records = records; entries = entries; delivered = delivered; handed = handed; kept = kept; dropped = dropped }
-
-same_sums : {a a' b b' c c' d e e' f f' : ℕ} → a ≡ a' → b ≡ b' → c ≡ c' → e ≡ e' → f ≡ f' → sums a b c d e f ≡ sums a' b' c' d e' f'
-same_sums p q r s t = rw (p, q, r, s, t) refl
 
 -- one more element is counted where it passes
 counted : {A : Type 0} (test : A → Bool) (x : A) (xs : List A) → count_by test xs + (if test x then 1 else 0) ≡ count_by test (x ∷ xs)
 counted {A} test x xs = add_comm (count_by test xs) (if test x then 1 else 0) ∙ sym (sum_by-cons (λ (y : A). if test y then 1 else 0) x xs)
 
-entries_more : (H : List Full) (r : Full) → length (wire H) + length (marks_of r.first r.made) ≡ length (wire (r ∷ H))
+-- one more mark
+entries_step : (m : Mark) (ms : List Mark) → count_by is_entry (m ∷ ms) ≡ (if is_entry m then 1 else 0) + count_by is_entry ms
+entries_step m ms = sum_by-cons (λ (x : Mark). if is_entry x then 1 else 0) m ms
+
+-- the marks of entries are as many as the entries
+marks_are_entries : (number : ℕ) (made : List Made) → count_by is_entry (marks_of number made) ≡ length (filter_map item_in made)
+marks_are_entries number [] = refl
+marks_are_entries number (sent (udp src dst bytes) ∷ made) = omega (arith, entries_step (mark.Udp number src dst (length bytes)) (marks_of (number + 1) made), marks_are_entries (number + 1) made)
+marks_are_entries number (sent (six relay bytes) ∷ made) = omega (arith, entries_step (mark.Six number relay (length bytes)) (marks_of (number + 1) made), marks_are_entries (number + 1) made)
+marks_are_entries number (lost why dst bytes ∷ made) = omega (arith, entries_step (mark.Lost why dst (length bytes)) (marks_of number made), marks_are_entries number made)
+
+abbrev sums : (records entries delivered handed kept dropped : ℕ) → Sums
+sums records entries delivered handed kept dropped = record { records = records; entries = entries; delivered = delivered; handed = handed; kept = kept; dropped = dropped }
+
+same_sums : {a a' b b' c c' d d' e e' f f' : ℕ} → a ≡ a' → b ≡ b' → c ≡ c' → d ≡ d' → e ≡ e' → f ≡ f' → sums a b c d e f ≡ sums a' b' c' d' e' f'
+same_sums p q r s t u = rw (p, q, r, s, t, u) refl
+
+entries_more : (H : List Full) (r : Full) → length (wire H) + count_by is_entry (marks_of r.first r.made) ≡ length (wire (r ∷ H))
 entries_more H r = ap (λ (n : ℕ). length (wire H) + n) (marks_are_entries r.first r.made) ∙ sym (length-append (wire H) (items_of r))
 
 delivered_more : (H : List Full) (r : Full) → IsTold r → count_by (λ (f : Full). is_some f.delivered) H + (if is_delivery r.act r.fate then 1 else 0) ≡ count_by (λ (f : Full). is_some f.delivered) (r ∷ H)
@@ -34,7 +42,7 @@ delivered_more H r told =
     ap (λ (b : Bool). count_by (λ (f : Full). is_some f.delivered) H + (if b then 1 else 0)) (sym told.delivered) ∙ counted (λ (f : Full). is_some f.delivered) r H
 
 pub sums_more : (H : List Full) (r : Full) → IsTold r → added (sums_of H) (record_of r) ≡ sums_of (r ∷ H)
-sums_more H r told = same_sums (add-one (length H)) (entries_more H r) (delivered_more H r told) (counted (λ (f : Full). is_kept f.fate) r H) (counted (λ (f : Full). is_drop f.fate) r H)
+sums_more H r told = same_sums (add-one (length H)) (entries_more H r) (delivered_more H r told) (counted (λ (f : Full). is_some (handed_of f.entry)) r H) (counted (λ (f : Full). is_kept f.fate) r H) (counted (λ (f : Full). is_drop f.fate) r H)
 
 pub sums_after : (old new : Sums) (H : List Full) (r : Full) → new ≡ added old (record_of r) → old ≡ sums_of H → IsTold r → new ≡ sums_of (r ∷ H)
 sums_after old new H r e f told = e ∙ ap (λ (s : Sums). added s (record_of r)) f ∙ sums_more H r told

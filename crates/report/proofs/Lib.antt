@@ -1,4 +1,4 @@
 pub mod Added
 pub mod Joined
-pub mod Marks
+pub mod MarkByMark
 pub mod Printed

@@ -8,7 +8,7 @@ use Rattle.td_base.specs.declared.line.TheConstants.{LINE_LEN}
 use Rattle.td_base.specs.declared.small.Room.{Room}
 use Rattle.td_base.specs.Printing.{Prints}
 use Rattle.td_base.specs.Texts.{ep_text}
-use Rattle.report.specs.declared.pieces.TheConstants.{NUMBER_LEN, EP_LEN}
+use Rattle.report.specs.declared.pieces.TheConstants.{EP_LEN}
 
 pub printed : (r : Result (Unit {0}) Room) (old new text : List ℕ) → Prints r old new text → length old + length text ≤ LINE_LEN → new ≡ old ++ text
 printed (Ok x) old new text p room = p.1
@@ -16,9 +16,6 @@ printed (Err e) old new text p room = absurd (omega (arith, p.0, length-append o
 
 pub length_after : (old new text : List ℕ) (most : ℕ) → new ≡ old ++ text → length text ≤ most → length new ≤ length old + most
 length_after old new text most e le = omega (arith, ap length e, length-append old text)
-
-pub number_length : (n : ℕ) → n < 2 ^ 64 → length (decimal n) ≤ NUMBER_LEN
-number_length n small = length-decimal-le 20 n (omega arith) (omega arith) small
 
 part_length : (n : ℕ) → n < 256 → length (decimal n) ≤ 3
 part_length n small = length-decimal-le 3 n (omega arith) (omega arith) (omega arith)

@@ -4,9 +4,10 @@ use Rattle.teredo_node.specs.Fates.{is_drop}
 use Rattle.history.specs.declared.records.Record.{Record}
 use Rattle.history.specs.Rows.{TopologyState}
 use Rattle.history.specs.Full.{Full, wire}
+use Rattle.history.specs.Records.{handed_of}
+use Rattle.history.specs.Telling.{is_kept, is_delivery, is_entry}
 use Rattle.report.specs.declared.totals.Sums.{Sums}
 use Rattle.report.specs.Lines.{lines}
-use Rattle.history.specs.Telling.{is_kept, is_delivery}
 
 -- how many records, entries, deliveries of entries, packets handed to hosts, packets kept by natives, drops
 abbrev pub sums_of : List Full → Sums
@@ -14,7 +15,7 @@ sums_of H = record {
   records = length H;
   entries = length (wire H);
   delivered = count_by (λ r. is_some r.delivered) H;
-  handed = 0;
+  handed = count_by (λ r. is_some (handed_of r.entry)) H;
   kept = count_by (λ r. is_kept r.fate) H;
   dropped = count_by (λ r. is_drop r.fate) H;
 }
@@ -35,9 +36,9 @@ report t H = lines t H ++ totals H
 abbrev pub added : Sums → Record → Sums
 added s r = record {
   records = s.records + 1;
-  entries = s.entries + length r.marks;
+  entries = s.entries + count_by is_entry r.marks;
   delivered = s.delivered + (if is_delivery r.act r.fate then 1 else 0);
-  handed = s.handed;
+  handed = s.handed + (if is_some r.handed then 1 else 0);
   kept = s.kept + (if is_kept r.fate then 1 else 0);
   dropped = s.dropped + (if is_drop r.fate then 1 else 0);
 }

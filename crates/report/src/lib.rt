@@ -13,13 +13,16 @@
 //!
 //! | module | holds | stated in |
 //! |---|---|---|
-//! | `pieces` | the parts of a line | `specs/Lines.antt` |
+//! | `pieces`, `marks` | the parts of a line | `specs/Lines.antt` |
 //! | `lines` | `line` | `specs/Lines.antt` |
 //! | `totals` | `Sums`, `summary` | `specs/Totals.antt` |
 #![tactic(auto)]
 
 mod lines;
+mod marks;
 mod pieces;
+#[cfg(test)]
+mod sample;
 #[cfg(test)]
 mod tests;
 mod totals;

@@ -1,16 +1,24 @@
 //! The line of a record.
-ghost use Rattle.std.specs.Prelude.{◌≡◌};
-ghost use Rattle.report.specs.Lines.{record_line};
+ghost use Rattle.std.specs.Prelude.{◌≡◌, ◌+◌, ◌≤◌, ◌++◌, length};
+ghost use Rattle.report.specs.Lines.{head_text, tail_text, record_line};
 
-use crate::pieces::{put_act, put_marks, put_node, put_number};
+use crate::marks::put_marks;
+use crate::pieces::{put_act, put_address, put_gone, put_handed, put_node, put_number};
 use history::{Record, Topology};
-use td_base::LineBuf;
+use td_base::{LINE_LEN, LineBuf};
 
-/// Puts the line of record number `index` in place of what the buffer held.
-pub fn line(index: u64, r: &Record, t: &Topology, out: &mut LineBuf)
-    ensures { out.new ≡ record_line t.now index r.now }
+/// The most bytes of a line up to the fate.
+const HEAD_LEN: usize = 129;
+
+/// The most bytes of what follows the fate, with nine marks.
+const TAIL_LEN: usize = 882;
+
+/// Appends what every line has.
+fn put_head(index: u64, r: &Record, t: &Topology, out: &mut LineBuf)
+    requires { length out.old + HEAD_LEN ≤ LINE_LEN }
+    ensures text { out.new ≡ out.old ++ head_text t.now index r.now }
+    ensures short { length out.new ≤ length out.old + HEAD_LEN }
 {
-    out.clear();
     put_number(index, out);
     out.push_text(b" ");
     put_number(r.moment.0, out);
@@ -22,6 +30,25 @@ pub fn line(index: u64, r: &Record, t: &Topology, out: &mut LineBuf)
     put_node(t, r.node, out);
     out.push_text(b" ");
     out.push_text(r.fate.name().as_bytes());
+}
+
+/// Appends what follows the fate.
+fn put_tail(r: &Record, t: &Topology, out: &mut LineBuf)
+    requires { length out.old + TAIL_LEN ≤ LINE_LEN }
+    ensures { out.new ≡ out.old ++ tail_text t.now r.now }
+{
+    put_address(r.address, out);
+    put_handed(r.handed, out);
+    put_gone(r.gone, out);
     put_marks(t, r.marks.as_slice(), out);
     out.push_text(b"\n");
+}
+
+/// Puts the line of record number `index` in place of what the buffer held.
+pub fn line(index: u64, r: &Record, t: &Topology, out: &mut LineBuf)
+    ensures { out.new ≡ record_line t.now index r.now }
+{
+    out.clear();
+    put_head(index, r, t, out);
+    put_tail(r, t, out);
 }

@@ -1,15 +1,13 @@
-//! The parts of a line.
-ghost use Rattle.std.specs.Prelude.{◌≡◌, ◌+◌, ◌*◌, ◌≤◌, ◌++◌, length, decimal};
+//! The parts of a line, marks aside.
+ghost use Rattle.std.specs.Prelude.{◌≡◌, ◌+◌, ◌≤◌, ◌++◌, length, decimal};
 ghost use Rattle.td_base.specs.Texts.{ep_text};
-ghost use Rattle.history.specs.Rows.{TopologyState};
-ghost use Rattle.history.specs.declared.mark_list.Mark.TheVariants as mark;
-ghost use Rattle.report.specs.Lines.{verb_word, act_text, node_text, mark_text, marks_text};
+ghost use Rattle.td_base.specs.Ip6Texts.{ip6_text};
+ghost use Rattle.report.specs.Lines.{verb_word, act_text, node_text, address_text, handed_text, gone_text};
 
-use history::{Act, Mark, Topology, Verb};
-use td_base::{Ep, LINE_LEN, LineBuf, NAME_LEN, print_ep, print_number};
-
-/// The most digits of a number of 64 bits.
-pub const NUMBER_LEN: usize = 20;
+use history::{Act, Topology, Verb};
+use td_base::{
+    Ep, Ip6, LINE_LEN, LineBuf, NAME_LEN, NUMBER_LEN, SHORT_LEN, print_ep, print_ip6, print_number,
+};
 
 /// The most bytes of an endpoint.
 pub const EP_LEN: usize = 21;
@@ -20,8 +18,14 @@ const VERB_LEN: usize = 8;
 /// The most bytes of an act: `deliver:` and a number.
 pub const ACT_LEN: usize = 28;
 
-/// The most bytes of a mark: two endpoints, two numbers, and what stands between them.
-pub const MARK_LEN: usize = 87;
+/// The most bytes of ` is ` and an IPv6 address.
+pub const ADDRESS_LEN: usize = 44;
+
+/// The most bytes of ` handed/` and a number.
+pub const HANDED_LEN: usize = 28;
+
+/// The most bytes of ` gone/` and a number.
+pub const GONE_LEN: usize = 26;
 
 /// Appends a number.
 pub fn put_number(number: u64, out: &mut LineBuf)
@@ -43,14 +47,31 @@ pub fn put_ep(ep: Ep, out: &mut LineBuf)
     let _ = print_ep(ep, out);
 }
 
+/// Appends an IPv6 address.
+fn put_ip6(ip: Ip6, out: &mut LineBuf)
+    requires { length out.old + SHORT_LEN ≤ LINE_LEN }
+    ensures text { out.new ≡ out.old ++ ip6_text ip }
+    ensures short { length out.new ≤ length out.old + SHORT_LEN }
+{
+    let _ = print_ip6(ip, out);
+}
+
 /// An event's word.
 fn verb_name(verb: Verb) -> &'static str
     ensures word { result.now ≡ verb_word verb }
     ensures short { length result.now ≤ VERB_LEN }
 {
     match verb {
+        Verb::Advance => "advance",
         Verb::Deliver => "deliver",
+        Verb::Next => "next",
+        Verb::Host => "host",
+        Verb::Echo => "echo",
+        Verb::Raw => "raw",
         Verb::Stranger => "stranger",
+        Verb::Copy => "copy",
+        Verb::Restart => "restart",
+        Verb::Forget => "forget",
     }
 }
 
@@ -61,8 +82,13 @@ pub fn put_act(act: Act, out: &mut LineBuf)
     ensures short { length out.new ≤ length out.old + ACT_LEN }
 {
     match act {
+        Act::Tick => out.push_text(b"tick"),
         Act::Deliver { number } => {
             out.push_text(b"deliver:");
+            put_number(u64::from(number), out);
+        }
+        Act::Copy { number } => {
+            out.push_text(b"copy:");
             put_number(u64::from(number), out);
         }
         Act::Plain { verb } => out.push_text(verb_name(verb).as_bytes()),
@@ -78,71 +104,44 @@ pub fn put_node(t: &Topology, node: Option<u16>, out: &mut LineBuf)
     let Some(node) = node else {
         return out.push_text(b"-");
     };
-    match t.servers().get(usize::from(node)) {
+    match t.name_at(node) {
         None => out.push_text(b"-"),
-        Some(row) => out.push_text(row.name.as_slice()),
+        Some(name) => out.push_text(name.as_slice()),
     }
 }
 
-/// Appends the mark of a datagram.
-fn put_udp(number: u32, src: Ep, dst: Ep, len: usize, out: &mut LineBuf)
-    requires { length out.old + MARK_LEN ≤ LINE_LEN }
-    ensures text { (t : TopologyState) → out.new ≡ out.old ++ mark_text t (mark.Udp number src dst len) }
-    ensures short { length out.new ≤ length out.old + MARK_LEN }
+/// Appends the address that a client got, if it got one.
+pub fn put_address(address: Option<Ip6>, out: &mut LineBuf)
+    requires { length out.old + ADDRESS_LEN ≤ LINE_LEN }
+    ensures text { out.new ≡ out.old ++ address_text address }
+    ensures short { length out.new ≤ length out.old + ADDRESS_LEN }
 {
-    out.push_text(b" #");
-    put_number(u64::from(number), out);
-    out.push_text(b"=");
-    put_ep(src, out);
-    out.push_text(b">");
-    put_ep(dst, out);
-    out.push_text(b"/");
-    put_number(len as u64, out);
-}
-
-/// Appends the mark of a packet.
-fn put_six(t: &Topology, number: u32, relay: Option<u16>, len: usize, out: &mut LineBuf)
-    requires { length out.old + MARK_LEN ≤ LINE_LEN }
-    ensures text { out.new ≡ out.old ++ mark_text t.now (mark.Six number relay len) }
-    ensures short { length out.new ≤ length out.old + MARK_LEN }
-{
-    out.push_text(b" #");
-    put_number(u64::from(number), out);
-    match relay {
-        None => out.push_text(b"=six/"),
-        Some(relay) => {
-            out.push_text(b"=six:");
-            put_node(t, Some(relay), out);
-            out.push_text(b"/");
-        }
-    }
-    put_number(len as u64, out);
-}
-
-/// Appends a mark.
-fn put_mark(t: &Topology, mark: &Mark, out: &mut LineBuf)
-    requires { length out.old + MARK_LEN ≤ LINE_LEN }
-    ensures text { out.new ≡ out.old ++ mark_text t.now mark.now }
-    ensures short { length out.new ≤ length out.old + MARK_LEN }
-{
-    match *mark {
-        Mark::Udp {
-            number,
-            src,
-            dst,
-            len,
-        } => put_udp(number, src, dst, len, out),
-        Mark::Six { number, relay, len } => put_six(t, number, relay, len, out),
+    if let Some(ip) = address {
+        out.push_text(b" is ");
+        put_ip6(ip, out);
     }
 }
 
-/// Appends marks.
-pub fn put_marks(t: &Topology, marks: &[Mark], out: &mut LineBuf)
-    requires { length out.old + MARK_LEN * length marks.now ≤ LINE_LEN }
-    ensures text { out.new ≡ out.old ++ marks_text t.now marks.now }
-    ensures short { length out.new ≤ length out.old + MARK_LEN * length marks.now }
+/// Appends the length of a packet that was handed to a client's host, if one was.
+pub fn put_handed(handed: Option<usize>, out: &mut LineBuf)
+    requires { length out.old + HANDED_LEN ≤ LINE_LEN }
+    ensures text { out.new ≡ out.old ++ handed_text handed }
+    ensures short { length out.new ≤ length out.old + HANDED_LEN }
 {
-    for mark in marks {
-        put_mark(t, mark, out);
+    if let Some(len) = handed {
+        out.push_text(b" handed/");
+        put_number(len as u64, out);
+    }
+}
+
+/// Appends how many waiting packets were dropped, if any were.
+pub fn put_gone(gone: u16, out: &mut LineBuf)
+    requires { length out.old + GONE_LEN ≤ LINE_LEN }
+    ensures text { out.new ≡ out.old ++ gone_text gone }
+    ensures short { length out.new ≤ length out.old + GONE_LEN }
+{
+    if gone > 0 {
+        out.push_text(b" gone/");
+        put_number(u64::from(gone), out);
     }
 }

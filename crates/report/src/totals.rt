@@ -1,12 +1,12 @@
 //! The totals of a run.
-ghost use Rattle.std.specs.Prelude.{◌≡◌, ◌∷◌, [], List};
+ghost use Rattle.std.specs.Prelude.{◌≡◌, ◌∷◌, [], List, count_by};
 ghost use Rattle.history.specs.Full.{Full};
 ghost use Rattle.history.specs.Records.{record_of};
-ghost use Rattle.history.specs.Telling.{is_kept, is_delivery, IsTold};
+ghost use Rattle.history.specs.Telling.{is_kept, is_delivery, is_entry, IsTold};
 ghost use Rattle.report.specs.Totals.{totals_line};
 
 use crate::pieces::put_number;
-use history::{Act, Record};
+use history::{Act, Mark, Record};
 use td_base::LineBuf;
 use teredo_node::Fate;
 
@@ -31,14 +31,28 @@ fn is_kept(fate: Fate) -> bool
     matches!(fate, Fate::Kept)
 }
 
+/// Whether a mark is that of an entry.
+fn is_entry(mark: &Mark) -> bool
+    ensures { result ≡ is_entry mark.now }
+{
+    !matches!(*mark, Mark::Lost { .. })
+}
+
 /// Whether a record delivered an entry: its act says so, and the entry was there.
 fn is_delivery(act: Act, fate: Fate) -> bool
     ensures { result ≡ is_delivery act fate }
 {
     match act {
         Act::Deliver { number: _ } => fate != Fate::NoEntry,
-        Act::Plain { verb: _ } => false,
+        Act::Tick | Act::Copy { number: _ } | Act::Plain { verb: _ } => false,
     }
+}
+
+/// How many of the marks are those of entries.
+fn entries_in(marks: &[Mark]) -> usize
+    ensures { result ≡ count_by is_entry marks.now }
+{
+    marks.iter().filter(|mark| is_entry(mark)).count()
 }
 
 impl Sums {
@@ -65,8 +79,9 @@ impl Sums {
         ensures sums { (H : List Full) (next : Full) → self.old ≡ sums_of H → r.now ≡ record_of next → IsTold next → self.new ≡ sums_of (next ∷ H) }
     {
         self.records += 1;
-        self.entries += r.marks.as_slice().len() as u64;
+        self.entries += entries_in(r.marks.as_slice()) as u64;
         self.delivered += u64::from(is_delivery(r.act, r.fate));
+        self.handed += u64::from(r.handed.is_some());
         self.kept += u64::from(is_kept(r.fate));
         self.dropped += u64::from(r.fate.is_drop());
     }

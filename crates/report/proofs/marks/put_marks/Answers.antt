@@ -1,6 +1,6 @@
 use Rattle.std.proofs.Common.{arith}
-use Rattle.report.proofs.Marks.{put_more}
-use Rattle.report.proofs.pieces.put_marks.Goals as goal
+use Rattle.report.proofs.MarkByMark.{put_more}
+use Rattle.report.proofs.marks.put_marks.Goals as goal
 
 pub loop-mark-preserved : goal.loop-mark-preserved
 loop-mark-preserved c = record {

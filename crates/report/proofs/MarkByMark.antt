@@ -1,7 +1,7 @@
 -- The text of marks, mark by mark.
 use Rattle.std.proofs.Common.{◌≡◌, ℕ, ◌+◌, ◌<◌, List, [], ◌∷◌, ◌++◌, length, get_or, take, refl, sym, ap, ◌∙◌}
 use Rattle.std.proofs.lemmas.List.{append_assoc, append-nil, take_more}
-use Rattle.history.specs.declared.mark_list.Mark.{Mark}
+use Rattle.history.specs.declared.mark.Mark.{Mark}
 use Rattle.history.specs.Rows.{TopologyState}
 use Rattle.report.specs.Lines.{mark_text, marks_text}
 

@@ -1,5 +1,5 @@
 use Rattle.std.proofs.Common.{rules, append_assoc}
-use Rattle.report.proofs.pieces.put_udp.Goals as goal
+use Rattle.report.proofs.marks.put_udp.Goals as goal
 
 pub returns-clause-text : goal.returns-clause-text
 returns-clause-text c = λ t. search (rules, append_assoc)

@@ -1,7 +1,7 @@
 use Rattle.std.proofs.Common.{◌≡◌, ◌+◌, ◌*◌, ◌≤◌, ◌++◌, length, take}
 use Rattle.report.specs.Lines.{marks_text}
-use Rattle.report.specs.declared.pieces.TheConstants.{MARK_LEN}
-use Rattle.report.proofs.pieces.put_marks.Given as goal
+use Rattle.report.specs.declared.marks.TheConstants.{MARK_LEN}
+use Rattle.report.proofs.marks.put_marks.Given as goal
 
 abbrev pub invariant-loop-mark : goal.invariant-loop-mark
 invariant-loop-mark l = record {

@@ -1,0 +1,8 @@
+use Rattle.std.proofs.Common.{rules}
+use Rattle.td_base.specs.Ip4.{same_ip}
+use Rattle.td_base.specs.Reach.{is_global}
+use Rattle.report.proofs.sample.one_server.Goals as goal
+
+pub add_server-requires-clause-rules : goal.add_server-requires-clause-rules
+unfolding same_ip is_global
+add_server-requires-clause-rules c = rw c.new-t.ensures (search rules)
