@@ -76,6 +76,7 @@ fn is_name_of_natives(rows: &[NativeNode], name: Name) -> bool
     rows.iter().any(|row| name == row.name)
 }
 
+/// Whether a client, a relay or a native host has the name.
 fn is_name_of_others(topology: &Topology, name: Name) -> bool
     ensures { result ≡ (list_any (λ row. same_name name row.name) topology.now.clients || (list_any (λ row. same_name name row.name) topology.now.relays || list_any (λ row. same_name name row.name) topology.now.natives)) }
 {
