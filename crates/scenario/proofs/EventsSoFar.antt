@@ -3,7 +3,7 @@ use Rattle.std.proofs.Common.{◌≡◌, ℕ, ◌+◌, ◌<◌, List, [], ◌∷
 use Rattle.toml.specs.declared.value.Value.{Value}
 use Rattle.toml.specs.View.{view, items_view}
 use Rattle.toml.proofs.Views.{items_view-drop}
-use Rattle.history.specs.declared.event_list.Event.{Event}
+use Rattle.history.specs.declared.event.Event.{Event}
 use Rattle.toml.specs.Data.{Items, no_items, item}
 use Rattle.scenario.specs.declared.event_lists.TheConstants.{MOST_EVENTS}
 use Rattle.scenario.specs.Tables.{item_count}

@@ -3,8 +3,12 @@ pub mod Addresses
 pub mod Datagrams
 pub mod EventWords
 pub mod EventsSoFar
+pub mod EventRules
 pub mod Names
-pub mod ServersSoFar
+pub mod FreshRows
+pub mod NodesSoFar
 pub mod TableLemmas
+pub mod Taken
 pub mod TextLemmas
+pub mod KeptRules
 pub mod OneSolicitation

@@ -1,5 +1,5 @@
 -- The names that texts are.
-use Rattle.std.proofs.Common.{◌≡◌, ◌≢◌, ℕ, ◌-◌, ◌<◌, ◌≤◌, ◌&&◌, nat_le, leb-true, true, List, [], ◌∷◌, ◌++◌, length, take, Option, Some, None, sym, ap, subst, ◌∙◌, arith, inl, inr}
+use Rattle.std.proofs.Common.{◌≡◌, ◌≢◌, ℕ, ◌-◌, ◌<◌, ◌≤◌, ◌&&◌, nat_le, leb-true, true, false, List, [], ◌∷◌, ◌++◌, length, take, Option, Some, None, refl, sym, ap, subst, ◌∙◌, arith, inl, inr}
 use Rattle.std.specs.Prelude.{replicate, IfSome, IfNone, ◌⊎◌}
 use Rattle.std.proofs.lemmas.List.{length-take, take_all}
 use Rattle.std.proofs.lemmas.Bool.{and_parts}
@@ -8,9 +8,8 @@ use Rattle.std.specs.List.{list_all}
 use Rattle.td_base.specs.declared.node_name.Name.{Name}
 use Rattle.td_base.specs.declared.node_name.TheConstants.{NAME_LEN}
 use Rattle.td_base.specs.Names.{name_text}
-use Rattle.history.specs.Rows.{TopologyState}
 use Rattle.scenario.specs.NodeName.{name, padded}
-use Rattle.scenario.specs.Fresh.{is_name, is_free_name, new_name, begins_with_letter, is_name_byte}
+use Rattle.scenario.specs.Fresh.{is_name, name_of, begins_with_letter, is_name_byte}
 
 abbrev build : (n : ℕ) (l : List ℕ) → length l ≡ NAME_LEN → n ≤ NAME_LEN → l ≡ take n l ++ replicate (NAME_LEN - n) 0 → Name
 build n l w s p = record { len = n; bytes = l; whole = w; short = s; padded = p }
@@ -56,17 +55,21 @@ pub is_name-short : (text : List ℕ) → is_name text ≡ true → length text 
 unfolding is_name
 is_name-short text e = leb-true _ _ (and_parts (begins_with_letter text && list_all is_name_byte text) (nat_le (length text) NAME_LEN) e).1
 
-pub is_name-some : (text : List ℕ) → is_name text ≡ true → text ≡ [] → ⊥
+is_name-some : (text : List ℕ) → is_name text ≡ true → text ≡ [] → ⊥
 unfolding is_name
 is_name-some [] e f = absurd cc
 is_name-some (x ∷ xs) e f = absurd cc
 
 -- a name that was made of a text
-pub new_name-made : (t : TopologyState) (text : List ℕ) (r : Option Name) → is_name text ≡ true → is_free_name t text ≡ true → IfSome r (λ a. (name_text a ≡ text) × (text ≢ [])) → IfNone r ((text ≡ []) ⊎ (NAME_LEN < length text)) → r ≡ new_name t text
-unfolding new_name
-new_name-made t text None e f some none =
+pub name_of-made : (text : List ℕ) (r : Option Name) → is_name text ≡ true → IfSome r (λ a. (name_text a ≡ text) × (text ≢ [])) → IfNone r ((text ≡ []) ⊎ (NAME_LEN < length text)) → r ≡ name_of text
+unfolding name_of
+name_of-made text None e some none =
     elim none [
       | inl h ↦ absurd (is_name-some text e h)
       | inr h ↦ absurd (omega (arith, h, is_name-short text e))
     ]
-new_name-made t text (Some a) e f some none = rw (e, f) (ap Some (name_is a text (is_name-short text e) some.0))
+name_of-made text (Some a) e some none = rw e (ap Some (name_is a text (is_name-short text e) some.0))
+
+pub name_of-not : (text : List ℕ) → is_name text ≡ false → name_of text ≡ None
+unfolding name_of
+name_of-not text e = rw e refl

@@ -1,6 +1,6 @@
 -- A text of one server and two events, and the scenario that it is by the definitions alone.
 use Rattle.std.proofs.Common.{◌≡◌, ℕ, List, [], ◌∷◌, Some, codes, refl}
-use Rattle.history.specs.declared.event_list.Event.TheVariants.{Deliver, Stranger}
+use Rattle.history.specs.declared.event.Event.TheVariants.{Deliver, Stranger}
 use Rattle.history.specs.Topology.{Scenario}
 use Rattle.hex.proofs.OnLiterals.{hex_on_literals}
 use Rattle.toml.proofs.OnLiterals.{toml_on_literals}
@@ -11,7 +11,7 @@ use Rattle.td_base.specs.Reach.{is_global}
 use Rattle.scenario.specs.NodeName.{name}
 use Rattle.scenario.specs.Words.{number_of, ip4_of, ep_of, bytes_of}
 use Rattle.scenario.specs.EventText.{event_of}
-use Rattle.scenario.specs.Fresh.{is_name, new_name, new_address}
+use Rattle.scenario.specs.Fresh.{is_name, name_of, is_free_name, is_free_address, new_name, new_address}
 use Rattle.scenario.specs.Servers.{server_of, add_server}
 use Rattle.scenario.specs.Scenario.{scenario_in, scenario_of}
 
@@ -27,10 +27,14 @@ expected = record {
       primary = record { 0 = 192 ∷ 0 ∷ 2 ∷ 1 ∷ [] };
       secondary = record { 0 = 192 ∷ 0 ∷ 2 ∷ 2 ∷ [] };
     } ∷ [];
+    nats = [];
+    clients = [];
+    relays = [];
+    natives = [];
   };
   events = Stranger (record { ip = record { 0 = 198 ∷ 51 ∷ 100 ∷ 7 ∷ [] }; port = 40000 }) (record { ip = record { 0 = 192 ∷ 0 ∷ 2 ∷ 1 ∷ [] }; port = 3544 }) solicitation ∷ Deliver 0 ∷ [];
 }
 
 pub one_solicitation : scenario_of (codes "seed = 1\nevents = [\"stranger 198.51.100.7:40000 192.0.2.1:3544 000100000102030405060708006000000000083afffe80000000000000000063bf39cc9bf8ff020000000000000000000000000002850043b300000000\", \"deliver 0\"]\n[[server]]\nname = \"s1\"\nprimary = \"192.0.2.1\"\nsecondary = \"192.0.2.2\"\n") ≡ Some expected
-unfolding toml_on_literals hex_on_literals is_utf8 chars digits same_ip is_global number_of ip4_of ep_of bytes_of event_of is_name new_name new_address server_of add_server scenario_in scenario_of
+unfolding toml_on_literals hex_on_literals is_utf8 chars digits same_ip is_global number_of ip4_of ep_of bytes_of event_of is_name name_of is_free_name is_free_address new_name new_address server_of add_server scenario_in scenario_of
 one_solicitation = refl

@@ -1,7 +1,7 @@
 -- The event that a text asks for.
 use Rattle.std.specs.Prelude.{ℕ, List, [], ◌∷◌, Option, Some, None, codes, if◌then◌else◌}
-use Rattle.history.specs.declared.event_list.Event.{Event}
-use Rattle.history.specs.declared.event_list.Event.TheVariants.{Deliver, Stranger}
+use Rattle.history.specs.declared.event.Event.{Event}
+use Rattle.history.specs.declared.event.Event.TheVariants.{Deliver, Stranger}
 use Rattle.scenario.specs.declared.datagram_text.TheConstants.{DATAGRAM_MOST}
 use Rattle.scenario.specs.declared.event_text.TheConstants.{NUMBER_MOST}
 use Rattle.scenario.specs.Words.{◌>>=◌, same_text, words, number_of, ep_of, bytes_of}

@@ -1,17 +1,18 @@
 -- The names and addresses of further nodes: those that no node before has.
 use Rattle.std.specs.Prelude.{ℕ, ◌==◌, ◌&&◌, ◌||◌, nat_le, not, Bool, false, if◌then◌else◌, List, [], ◌∷◌, length, Option, Some, None}
-use Rattle.std.specs.List.{list_all}
+use Rattle.std.specs.List.{list_all, list_any}
 use Rattle.std.specs.Char.{is_ascii_lowercase, is_ascii_digit}
 use Rattle.td_base.specs.declared.ipv4.Ip4.{Ip4}
 use Rattle.td_base.specs.declared.node_name.Name.{Name}
 use Rattle.td_base.specs.declared.node_name.TheConstants.{NAME_LEN}
 use Rattle.td_base.specs.declared.reach.Policy.TheVariants.{Strict}
 use Rattle.td_base.specs.Ip4.{same_ip}
-use Rattle.td_base.specs.Names.{name_text}
+use Rattle.td_base.specs.Names.{same_name}
 use Rattle.td_base.specs.Reach.{is_global}
 use Rattle.history.specs.Rows.{TopologyState}
+use Rattle.history.specs.Rules.{names_of, addresses_of}
 use Rattle.scenario.specs.NodeName.{name}
-use Rattle.scenario.specs.Words.{◌>>=◌, same_text, ip4_of}
+use Rattle.scenario.specs.Words.{◌>>=◌, ip4_of}
 
 -- the byte `_`
 abbrev pub underscore : ℕ
@@ -30,17 +31,25 @@ begins_with_letter (byte ∷ more) = is_ascii_lowercase byte
 unfoldable pub is_name : List ℕ → Bool
 is_name text = begins_with_letter text && list_all is_name_byte text && nat_le (length text) NAME_LEN
 
+-- the name that a text is
+unfoldable pub name_of : List ℕ → Option Name
+name_of text = if is_name text then Some (name text) else None
+
 -- no node has this name
-abbrev pub is_free_name : TopologyState → List ℕ → Bool
-is_free_name t text = list_all (λ s. not (same_text (name_text s.name) text)) t.servers
+unfoldable pub is_free_name : TopologyState → Name → Bool
+is_free_name t a = not (list_any (same_name a) (names_of t))
 
 -- no node has this address
-abbrev pub is_free_address : TopologyState → Ip4 → Bool
-is_free_address t ip = list_all (λ s. not (same_ip s.primary ip || same_ip s.secondary ip)) t.servers
+unfoldable pub is_free_address : TopologyState → Ip4 → Bool
+is_free_address t ip = not (list_any (same_ip ip) (addresses_of t))
+
+-- a name that no node has
+abbrev pub free_name : TopologyState → Name → Option Name
+free_name t a = if is_free_name t a then Some a else None
 
 -- the name that a text gives to a further node
 unfoldable pub new_name : TopologyState → List ℕ → Option Name
-new_name t text = if is_name text && is_free_name t text then Some (name text) else None
+new_name t text = name_of text >>= free_name t
 
 -- an address that is global and that no node has (RFC 4380, section 4, asks for global ones)
 abbrev pub global_and_free : TopologyState → Ip4 → Option Ip4

@@ -4,6 +4,8 @@ pub mod EventText
 pub mod Tables
 pub mod NodeName
 pub mod Fresh
+pub mod Built
 pub mod Servers
+pub mod Nats
 pub mod Scenario
 pub mod Told

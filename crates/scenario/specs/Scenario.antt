@@ -3,7 +3,8 @@ use Rattle.std.specs.Prelude.{ℕ, ◌&&◌, nat_le, if◌then◌else◌, List, 
 use Rattle.std.specs.Str.{is_utf8}
 use Rattle.toml.specs.Data.{Data, as_str, as_array, Items, no_items, item, Members, get_member}
 use Rattle.toml.specs.Parse.{parse_document}
-use Rattle.history.specs.declared.event_list.Event.{Event}
+use Rattle.history.specs.declared.event.Event.{Event}
+use Rattle.history.specs.Rows.{TopologyState}
 use Rattle.history.specs.Topology.{Scenario}
 use Rattle.scenario.specs.declared.reader.TheConstants.{TEXT_MOST}
 use Rattle.scenario.specs.declared.event_lists.TheConstants.{MOST_EVENTS}
@@ -11,6 +12,7 @@ use Rattle.scenario.specs.Words.{◌>>=◌}
 use Rattle.scenario.specs.EventText.{event_of}
 use Rattle.scenario.specs.Tables.{has_only, natural_at, item_count}
 use Rattle.scenario.specs.Servers.{servers_at}
+use Rattle.scenario.specs.Nats.{nats_at}
 
 -- the event of a value that is a text
 abbrev pub event_in : Data → Option Event
@@ -29,19 +31,20 @@ abbrev pub events_of : Items → Option (List Event)
 events_of texts = if nat_le (item_count texts) MOST_EVENTS then events_at texts else None
 
 -- the events of a value that is such a list
-abbrev pub events_in : Data → Option (List Event)
-events_in value = as_array value >>= events_of
+abbrev pub events_in : TopologyState → Data → Option (List Event)
+events_in t value = as_array value >>= events_of
 
 -- the keys of a scenario
 abbrev pub scenario_keys : List (List ℕ)
-scenario_keys = codes "seed" ∷ codes "server" ∷ codes "events" ∷ []
+scenario_keys = codes "seed" ∷ codes "server" ∷ codes "nat" ∷ codes "events" ∷ []
 
--- the scenario of what stands at these keys; the servers may be missing
+-- the scenario of what stands at these keys; the lists of nodes may be missing
 abbrev pub scenario_at : Members → Option Scenario
 scenario_at table = do
   seed ← natural_at (codes "seed") table
-  topology ← servers_at (get_member (codes "server") table)
-  events ← get_member (codes "events") table >>= events_in
+  servers ← servers_at (get_member (codes "server") table)
+  topology ← nats_at servers (get_member (codes "nat") table)
+  events ← get_member (codes "events") table >>= events_in topology
   Some (record { seed = seed; topology = topology; events = events })
 
 -- the scenario of a table that has no other key

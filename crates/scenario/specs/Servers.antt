@@ -1,12 +1,12 @@
 -- The servers that the tables of a text describe. Each is read beside the nodes of the tables before it.
-use Rattle.std.specs.Prelude.{ℕ, nat_le, if◌then◌else◌, List, [], ◌∷◌, ◌++◌, codes, Option, Some, None}
+use Rattle.std.specs.Prelude.{ℕ, nat_le, if◌then◌else◌, List, [], ◌∷◌, codes, Option, Some, None}
 use Rattle.toml.specs.Data.{Data, as_array, as_table, Items, no_items, item, Members}
 use Rattle.td_base.specs.declared.ipv4.Ip4.{Ip4}
 use Rattle.td_base.specs.declared.node_name.Name.{Name}
 use Rattle.td_base.specs.Ip4.{same_ip}
-use Rattle.history.specs.declared.node_rows.ServerNode.{ServerNode}
-use Rattle.history.specs.Rows.{TopologyState, no_nodes}
-use Rattle.scenario.specs.declared.server_tables.TheConstants.{BUILT_SERVERS}
+use Rattle.history.specs.declared.server_node.ServerNode.{ServerNode}
+use Rattle.history.specs.declared.topology.TheConstants.{MOST_SERVERS}
+use Rattle.history.specs.Rows.{TopologyState, no_nodes, with_server}
 use Rattle.scenario.specs.Words.{◌>>=◌}
 use Rattle.scenario.specs.Tables.{has_only, text_at, item_count}
 use Rattle.scenario.specs.Fresh.{new_name, new_address}
@@ -31,10 +31,6 @@ server_at t table = do
 unfoldable pub server_of : TopologyState → Members → Option ServerNode
 server_of t table = if has_only server_keys table then server_at t table else None
 
--- the nodes and one more server
-abbrev pub with_server : TopologyState → ServerNode → TopologyState
-with_server t s = record t { servers = t.servers ++ s ∷ [] }
-
 -- the nodes, and a server that a value describes
 unfoldable pub add_server : TopologyState → Data → Option TopologyState
 add_server t value = do
@@ -51,7 +47,7 @@ add_servers t (item value more) = do
 
 -- the nodes of a list of few tables
 abbrev pub servers_of : Items → Option TopologyState
-servers_of tables = if nat_le (item_count tables) BUILT_SERVERS then add_servers no_nodes tables else None
+servers_of tables = if nat_le (item_count tables) MOST_SERVERS then add_servers no_nodes tables else None
 
 -- the nodes of a value that is such a list
 abbrev pub servers_in : Data → Option TopologyState

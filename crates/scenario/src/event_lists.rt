@@ -1,10 +1,12 @@
 //! The events of a text.
-ghost use Rattle.std.specs.Prelude.{◌≡◌, IfOk};
+ghost use Rattle.std.specs.Prelude.{◌≡◌, IfOk, IfSome};
+ghost use Rattle.std.specs.List.{AllByRecursion};
 ghost use Rattle.toml.specs.View.{view, items_view};
+ghost use Rattle.history.specs.Events.{IsEvent};
 ghost use Rattle.scenario.specs.Scenario.{event_in, events_at, events_of, events_in};
 
 use crate::event_text::event_from;
-use history::{Event, Events};
+use history::{Event, Events, Topology};
 use std::alloc::Global;
 use td_base::NoMemory;
 use toml::Value;
@@ -45,8 +47,13 @@ fn events_from(alloc: Global, values: &[Value]) -> Result<Option<Events>, NoMemo
 }
 
 /// The events of a list of texts.
-pub(crate) fn events_in(alloc: Global, value: &Value) -> Result<Option<Events>, NoMemory>
-    ensures { IfOk result (λ o. o ≡ events_in (view value.now)) }
+pub(crate) fn events_in(
+    alloc: Global,
+    topology: &Topology,
+    value: &Value,
+) -> Result<Option<Events>, NoMemory>
+    ensures value { IfOk result (λ o. o ≡ events_in topology.now (view value.now)) }
+    ensures legal { IfOk result (λ o. IfSome o (λ events. AllByRecursion (IsEvent topology.now) events)) }
 {
     match value.as_array() {
         Some(values) => events_from(alloc, values),

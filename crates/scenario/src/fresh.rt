@@ -1,10 +1,12 @@
 //! The names and addresses of further nodes: those that no node before has.
-ghost use Rattle.std.specs.Prelude.{◌≡◌};
-ghost use Rattle.std.specs.List.{list_all};
-ghost use Rattle.scenario.specs.Fresh.{is_name_byte, begins_with_letter, is_name, is_free_name, is_free_address, new_name, new_address};
+ghost use Rattle.std.specs.Prelude.{◌≡◌, ◌||◌};
+ghost use Rattle.std.specs.List.{list_all, list_any};
+ghost use Rattle.td_base.specs.Ip4.{same_ip};
+ghost use Rattle.td_base.specs.Names.{same_name};
+ghost use Rattle.scenario.specs.Fresh.{is_name_byte, begins_with_letter, is_name, name_of, is_free_name, is_free_address, new_name, new_address};
 
 use crate::word_texts::ip4_from;
-use history::Topology;
+use history::{ClientNode, NatNode, NativeNode, RelayNode, ServerNode, Topology};
 use td_base::{Ip4, NAME_LEN, Name, Policy, is_global};
 
 fn is_name_byte(byte: u8) -> bool
@@ -35,22 +37,87 @@ fn is_name(text: &[u8]) -> bool
     begins_with_letter(text) && all_name_bytes(text) && text.len() <= NAME_LEN
 }
 
-fn is_free_name(topology: &Topology, text: &[u8]) -> bool
-    ensures { result ≡ is_free_name topology.now text.now }
+fn name_of(text: &[u8]) -> Option<Name>
+    ensures { result ≡ name_of text.now }
 {
-    topology
-        .servers()
-        .iter()
-        .all(|server| server.name.as_slice() != text)
+    if !is_name(text) {
+        return None;
+    }
+    Name::new(text)
+}
+
+fn is_name_of_servers(rows: &[ServerNode], name: Name) -> bool
+    ensures { result ≡ list_any (λ row. same_name name row.name) rows.now }
+{
+    rows.iter().any(|row| name == row.name)
+}
+
+fn is_name_of_nats(rows: &[NatNode], name: Name) -> bool
+    ensures { result ≡ list_any (λ row. same_name name row.name) rows.now }
+{
+    rows.iter().any(|row| name == row.name)
+}
+
+fn is_name_of_clients(rows: &[ClientNode], name: Name) -> bool
+    ensures { result ≡ list_any (λ row. same_name name row.name) rows.now }
+{
+    rows.iter().any(|row| name == row.name)
+}
+
+fn is_name_of_relays(rows: &[RelayNode], name: Name) -> bool
+    ensures { result ≡ list_any (λ row. same_name name row.name) rows.now }
+{
+    rows.iter().any(|row| name == row.name)
+}
+
+fn is_name_of_natives(rows: &[NativeNode], name: Name) -> bool
+    ensures { result ≡ list_any (λ row. same_name name row.name) rows.now }
+{
+    rows.iter().any(|row| name == row.name)
+}
+
+/// Whether a client, a relay or a native host has the name.
+fn is_name_of_others(topology: &Topology, name: Name) -> bool
+    ensures { result ≡ (list_any (λ row. same_name name row.name) topology.now.clients || (list_any (λ row. same_name name row.name) topology.now.relays || list_any (λ row. same_name name row.name) topology.now.natives)) }
+{
+    is_name_of_clients(topology.clients(), name)
+        || is_name_of_relays(topology.relays(), name)
+        || is_name_of_natives(topology.natives(), name)
+}
+
+fn is_free_name(topology: &Topology, name: Name) -> bool
+    ensures { result ≡ is_free_name topology.now name }
+{
+    !(is_name_of_servers(topology.servers(), name)
+        || is_name_of_nats(topology.nats(), name)
+        || is_name_of_others(topology, name))
+}
+
+fn is_address_of_servers(rows: &[ServerNode], ip: Ip4) -> bool
+    ensures { result ≡ list_any (λ row. same_ip ip row.primary || same_ip ip row.secondary) rows.now }
+{
+    rows.iter()
+        .any(|row| ip == row.primary || ip == row.secondary)
+}
+
+fn is_address_of_nats(rows: &[NatNode], ip: Ip4) -> bool
+    ensures { result ≡ list_any (λ row. same_ip ip row.external) rows.now }
+{
+    rows.iter().any(|row| ip == row.external)
+}
+
+fn is_address_of_relays(rows: &[RelayNode], ip: Ip4) -> bool
+    ensures { result ≡ list_any (λ row. same_ip ip row.at.ip) rows.now }
+{
+    rows.iter().any(|row| ip == row.at.ip)
 }
 
 fn is_free_address(topology: &Topology, ip: Ip4) -> bool
     ensures { result ≡ is_free_address topology.now ip }
 {
-    topology
-        .servers()
-        .iter()
-        .all(|server| !(server.primary == ip || server.secondary == ip))
+    !(is_address_of_servers(topology.servers(), ip)
+        || is_address_of_nats(topology.nats(), ip)
+        || is_address_of_relays(topology.relays(), ip))
 }
 
 /// The name that a text gives to a further node.
@@ -58,14 +125,11 @@ fn is_free_address(topology: &Topology, ip: Ip4) -> bool
 pub(crate) fn new_name(topology: &Topology, text: &str) -> Option<Name>
     ensures { result ≡ new_name topology.now text.now }
 {
-    let text = text.as_bytes();
-    if !is_name(text) {
+    let name = name_of(text.as_bytes())?;
+    if !is_free_name(topology, name) {
         return None;
     }
-    if !is_free_name(topology, text) {
-        return None;
-    }
-    Name::new(text)
+    Some(name)
 }
 
 /// The address that a text gives to a further node.

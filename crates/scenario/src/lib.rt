@@ -1,14 +1,15 @@
 //! The reader of scenario texts.
 //!
-//! Standards: TOML 1.1 for the text; RFC 4380 section 4 for which addresses may be a server's. The form of a
-//! scenario is our own: `docs/SCENARIOS.md`.
+//! Standards: TOML 1.1 for the text; RFC 4380 section 4 for which addresses may be a server's; RFC 3489 section 5
+//! for the kinds of NAT. The form of a scenario is our own: `docs/SCENARIOS.md`.
 //!
 //! # What the layer above may rely on
 //!
 //! - A text is one scenario or none. `specs/Scenario.antt` says which, as a function of its bytes, and `read`
 //!   answers exactly that, or that memory ran out.
-//! - The names of the nodes that are read differ from one another, and so do their addresses, which are global.
-//! - Each event of a scenario is the one that its text asks for, in order.
+//! - The nodes are servers and NATs, and keep the rules of a topology: no two share a name or an address, and their
+//!   addresses are global. `rules_kept` says so of every text.
+//! - Each event of a scenario is the one that its text asks for, in order, and one that its nodes can be asked for.
 //!
 //! # What it does not know
 //!
@@ -21,16 +22,19 @@
 //! | `reader` | `Scenario`, `ScenarioFault`, `read` | `specs/Scenario.antt` |
 //! | `table_keys` | what a table has at a key | `specs/Tables.antt` |
 //! | `fresh` | names and addresses that no node before has | `specs/Fresh.antt`, `specs/NodeName.antt` |
-//! | `server_tables` | the servers | `specs/Servers.antt` |
+//! | `server_tables`, `nat_tables` | the servers, the NATs | `specs/Servers.antt`, `specs/Nats.antt`, `specs/Built.antt` |
 //! | `event_lists` | the events | `specs/Scenario.antt` |
 //! | `event_text` | the event of a text | `specs/EventText.antt` |
 //! | `word_texts`, `datagram_text` | numbers, addresses, endpoints and bytes | `specs/Words.antt` |
+//! | `laws` | what holds of every scenario | |
 #![tactic(auto)]
 
 mod datagram_text;
 mod event_lists;
 mod event_text;
 mod fresh;
+mod laws;
+mod nat_tables;
 mod reader;
 mod server_tables;
 mod table_keys;
@@ -41,5 +45,5 @@ mod word_texts;
 pub use datagram_text::DATAGRAM_MOST;
 pub use event_lists::MOST_EVENTS;
 pub use event_text::NUMBER_MOST;
+pub use laws::rules_kept;
 pub use reader::{Scenario, ScenarioFault, TEXT_MOST, read};
-pub use server_tables::BUILT_SERVERS;

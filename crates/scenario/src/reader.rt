@@ -1,11 +1,15 @@
 //! The scenario that a text is.
-ghost use Rattle.std.specs.Prelude.{◌≡◌, ◌≤◌, length, IfOk, Some, None, option_map};
+ghost use Rattle.std.specs.Prelude.{◌≡◌, ◌≤◌, length, IfOk, IfSome, Some, None, option_map};
+ghost use Rattle.std.specs.List.{AllByRecursion};
 ghost use Rattle.toml.specs.View.{table_view};
+ghost use Rattle.history.specs.Events.{IsEvent};
+ghost use Rattle.scenario.specs.Built.{HasOnlyBuilt, IsBuilt};
 ghost use Rattle.scenario.specs.Scenario.{scenario_at, scenario_in, written, scenario_of};
 ghost use Rattle.scenario.specs.Told.{told};
 ghost use Rattle.scenario.specs.declared.reader.ScenarioFault.TheVariants.{Unbuilt};
 
 use crate::event_lists::{MOST_EVENTS, events_in};
+use crate::nat_tables::nats_at;
 use crate::server_tables::servers_at;
 use crate::table_keys::{has_only, natural_at, value_at};
 use history::{Events, Topology};
@@ -35,18 +39,22 @@ pub enum ScenarioFault {
 }
 
 fn scenario_at(alloc: Global, table: &Table) -> Result<Option<Scenario>, NoMemory>
-    ensures { IfOk result (λ o. option_map told o ≡ scenario_at (table_view table.now)) }
+    ensures value { IfOk result (λ o. option_map told o ≡ scenario_at (table_view table.now)) }
+    ensures built { IfOk result (λ o. IfSome o (λ s. IsBuilt (told s))) }
 {
     let Some(seed) = natural_at(table, "seed") else {
         return Ok(None);
     };
-    let Some(topology) = servers_at(alloc, value_at(table, "server"))? else {
+    let Some(servers) = servers_at(alloc, value_at(table, "server"))? else {
+        return Ok(None);
+    };
+    let Some(topology) = nats_at(servers, value_at(table, "nat"))? else {
         return Ok(None);
     };
     let Some(value) = value_at(table, "events") else {
         return Ok(None);
     };
-    let Some(events) = events_in(alloc, value)? else {
+    let Some(events) = events_in(alloc, &topology, value)? else {
         return Ok(None);
     };
     Ok(Some(Scenario {
@@ -58,16 +66,18 @@ fn scenario_at(alloc: Global, table: &Table) -> Result<Option<Scenario>, NoMemor
 
 #[tactic(auto, unfolding(crate::specs::Scenario::scenario_in))]
 fn scenario_in(alloc: Global, table: &Table) -> Result<Option<Scenario>, NoMemory>
-    ensures { IfOk result (λ o. option_map told o ≡ scenario_in (table_view table.now)) }
+    ensures value { IfOk result (λ o. option_map told o ≡ scenario_in (table_view table.now)) }
+    ensures built { IfOk result (λ o. IfSome o (λ s. IsBuilt (told s))) }
 {
-    if !has_only(table, &["seed", "server", "events"]) {
+    if !has_only(table, &["seed", "server", "nat", "events"]) {
         return Ok(None);
     }
     scenario_at(alloc, table)
 }
 
 fn written(alloc: Global, text: &str) -> Result<Option<Scenario>, NoMemory>
-    ensures { IfOk result (λ o. option_map told o ≡ written text.now) }
+    ensures value { IfOk result (λ o. option_map told o ≡ written text.now) }
+    ensures built { IfOk result (λ o. IfSome o (λ s. IsBuilt (told s))) }
 {
     match toml::table_from_str(alloc, text) {
         Ok(table) => scenario_in(alloc, &table),
@@ -77,7 +87,8 @@ fn written(alloc: Global, text: &str) -> Result<Option<Scenario>, NoMemory>
 }
 
 fn scenario_of(alloc: Global, bytes: &[u8]) -> Result<Option<Scenario>, NoMemory>
-    ensures { IfOk result (λ o. option_map told o ≡ scenario_of bytes.now) }
+    ensures value { IfOk result (λ o. option_map told o ≡ scenario_of bytes.now) }
+    ensures built { IfOk result (λ o. IfSome o (λ s. IsBuilt (told s))) }
 {
     if bytes.len() > TEXT_MOST {
         return Ok(None);
@@ -93,6 +104,10 @@ pub fn read(alloc: Global, bytes: &[u8]) -> Result<Scenario, ScenarioFault>
     // The text is the scenario.
     ensures read { IfOk result (λ s. scenario_of bytes.now ≡ Some (told s)) }
     ensures few { IfOk result (λ s. length s.events ≤ MOST_EVENTS) }
+    // Its nodes are servers and NATs.
+    ensures built { IfOk result (λ s. HasOnlyBuilt s.topology) }
+    // Its events are such as its nodes can be asked for.
+    ensures legal { IfOk result (λ s. AllByRecursion (IsEvent s.topology) s.events) }
     // A text that is refused is no scenario.
     ensures refused { result ≡ Err Unbuilt → scenario_of bytes.now ≡ None }
 {

@@ -1,19 +1,17 @@
 //! The servers of a text.
 ghost use Rattle.std.specs.Prelude.{◌≡◌, ◌+◌, ◌<◌, ◌≤◌, length, IfOk, IfSome, option_map};
 ghost use Rattle.toml.specs.View.{view, table_view, items_view};
-ghost use Rattle.history.specs.declared.node_rows.TheConstants.{MOST_SERVERS};
+ghost use Rattle.history.specs.declared.topology.TheConstants.{MOST_SERVERS};
 ghost use Rattle.history.specs.Rows.{no_nodes};
+ghost use Rattle.scenario.specs.Built.{HasOnlyServers};
 ghost use Rattle.scenario.specs.Servers.{server_at, server_of, add_server, add_servers, servers_of, servers_in, servers_at};
 
 use crate::fresh::{new_address, new_name};
 use crate::table_keys::{has_only, text_at};
-use history::{ServerNode, Topology};
+use history::{MOST_SERVERS, ServerNode, Topology};
 use std::alloc::Global;
 use td_base::NoMemory;
 use toml::{Table, Value};
-
-/// How many servers of a text are read so far.
-pub const BUILT_SERVERS: usize = 8;
 
 fn server_at(topology: &Topology, table: &Table) -> Option<ServerNode>
     ensures { result ≡ server_at topology.now (table_view table.now) }
@@ -44,9 +42,11 @@ fn server_of(topology: &Topology, table: &Table) -> Option<ServerNode>
 /// The topology with a further server, or none where the value describes none.
 #[tactic(auto, unfolding(crate::specs::Servers::add_server))]
 fn add_server(mut topology: Topology, value: &Value) -> Result<Option<Topology>, NoMemory>
-    requires { length topology.servers < MOST_SERVERS }
+    requires few { length topology.servers < MOST_SERVERS }
+    requires kinds { HasOnlyServers topology }
     ensures value { IfOk result (λ o. o ≡ add_server topology (view value.now)) }
     ensures one { IfOk result (λ o. IfSome o (λ more. length more.servers ≡ length topology.servers + 1)) }
+    ensures kinds { IfOk result (λ o. IfSome o (λ more. HasOnlyServers more)) }
 {
     let Some(table) = value.as_table() else {
         return Ok(None);
@@ -60,7 +60,8 @@ fn add_server(mut topology: Topology, value: &Value) -> Result<Option<Topology>,
 
 fn each_server(alloc: Global, values: &[Value]) -> Result<Option<Topology>, NoMemory>
     requires { length values.now ≤ MOST_SERVERS }
-    ensures { IfOk result (λ o. o ≡ add_servers no_nodes (items_view values.now)) }
+    ensures value { IfOk result (λ o. o ≡ add_servers no_nodes (items_view values.now)) }
+    ensures kinds { IfOk result (λ o. IfSome o (λ t. HasOnlyServers t)) }
 {
     let mut topology = Topology::new(alloc);
     for value in values {
@@ -74,16 +75,18 @@ fn each_server(alloc: Global, values: &[Value]) -> Result<Option<Topology>, NoMe
 
 #[tactic(auto, using(crate::proofs::TableLemmas::item_count_view))]
 fn servers_of(alloc: Global, values: &[Value]) -> Result<Option<Topology>, NoMemory>
-    ensures { IfOk result (λ o. o ≡ servers_of (items_view values.now)) }
+    ensures value { IfOk result (λ o. o ≡ servers_of (items_view values.now)) }
+    ensures kinds { IfOk result (λ o. IfSome o (λ t. HasOnlyServers t)) }
 {
-    if values.len() > BUILT_SERVERS {
+    if values.len() > MOST_SERVERS {
         return Ok(None);
     }
     each_server(alloc, values)
 }
 
 fn servers_in(alloc: Global, value: &Value) -> Result<Option<Topology>, NoMemory>
-    ensures { IfOk result (λ o. o ≡ servers_in (view value.now)) }
+    ensures value { IfOk result (λ o. o ≡ servers_in (view value.now)) }
+    ensures kinds { IfOk result (λ o. IfSome o (λ t. HasOnlyServers t)) }
 {
     match value.as_array() {
         Some(values) => servers_of(alloc, values),
@@ -93,7 +96,8 @@ fn servers_in(alloc: Global, value: &Value) -> Result<Option<Topology>, NoMemory
 
 /// The nodes of the list of servers, which may be missing.
 pub(crate) fn servers_at(alloc: Global, value: Option<&Value>) -> Result<Option<Topology>, NoMemory>
-    ensures { IfOk result (λ o. o ≡ servers_at (option_map (λ v. view v.now) value.entry)) }
+    ensures value { IfOk result (λ o. o ≡ servers_at (option_map (λ v. view v.now) value.entry)) }
+    ensures kinds { IfOk result (λ o. IfSome o (λ t. HasOnlyServers t)) }
 {
     match value {
         Some(value) => servers_in(alloc, value),

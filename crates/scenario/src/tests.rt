@@ -1,6 +1,7 @@
 //! Texts that are scenarios, and texts that are none.
 use crate::{ScenarioFault, read};
 use history::Event;
+use nat_kinds::NatKind;
 use std::alloc::Global;
 use std::test::Fail;
 use td_base::Ip4;
@@ -104,7 +105,12 @@ fn tells_tables_apart(rt: HostRuntime) -> Result<(), Fail> {
         ("seed = 1\nevents = [5]", false),
         ("seed = 1\nevents = \"deliver 0\"", false),
         ("seed = 1\nevents = []\nsede = 2", false),
-        ("seed = 1\nevents = []\nnat = []", false),
+        ("seed = 1\nevents = []\nnat = []", true),
+        ("seed = 1\nevents = []\nnat = [5]", false),
+        ("seed = 1\nevents = []\nnat = {}", false),
+        ("seed = 1\nevents = []\nclient = []", false),
+        ("seed = 1\nevents = []\nrelay = []", false),
+        ("seed = 1\nevents = []\nnative = []", false),
         ("seed = 1\nevents = []\nserver = []", true),
         ("seed = 1\nevents = []\nserver = [5]", false),
         ("seed = 1\nevents = []\nserver = {}", false),
@@ -207,6 +213,145 @@ fn tells_servers_apart(rt: HostRuntime) -> Result<(), Fail> {
     Ok(())
 }
 
+#[test]
+fn reads_a_nat(rt: HostRuntime) -> Result<(), Fail> {
+    let text = format!(in rt.alloc();
+        "{ONE_SERVER}[[nat]]\nname = \"n1\"\nkind = \"port\"\nexternal = \"198.51.100.1\"\nidle = 60000\n"
+    )?;
+    let scenario = read(rt.alloc(), text.as_str().as_bytes())?;
+    let [nat] = scenario.topology.nats() else {
+        return Err(Fail::new("other NATs"));
+    };
+    assert_eq!(rt; nat.name.as_slice(), b"n1".as_slice());
+    assert!(rt; nat.kind == NatKind::Port);
+    assert!(rt; nat.external == Ip4([198, 51, 100, 1]));
+    assert_eq!(rt; nat.idle, 60_000);
+    Ok(())
+}
+
+#[test]
+fn tells_nats_apart(rt: HostRuntime) -> Result<(), Fail> {
+    let cases = [
+        (
+            "name = \"n1\"\nkind = \"cone\"\nexternal = \"198.51.100.1\"\nidle = 1",
+            true,
+        ),
+        (
+            "name = \"n1\"\nkind = \"restricted\"\nexternal = \"198.51.100.1\"\nidle = 10000000",
+            true,
+        ),
+        (
+            "idle = 60000\nexternal = \"203.0.113.1\"\nkind = \"symmetric\"\nname = \"x\"",
+            true,
+        ),
+        (
+            "name = \"n1\"\nkind = \"cone\"\nexternal = \"198.51.100.1\"\nidle = 0",
+            false,
+        ),
+        (
+            "name = \"n1\"\nkind = \"cone\"\nexternal = \"198.51.100.1\"\nidle = 10000001",
+            false,
+        ),
+        (
+            "name = \"n1\"\nkind = \"cone\"\nexternal = \"198.51.100.1\"\nidle = -1",
+            false,
+        ),
+        (
+            "name = \"n1\"\nkind = \"cone\"\nexternal = \"198.51.100.1\"\nidle = 1.5",
+            false,
+        ),
+        (
+            "name = \"n1\"\nkind = \"cone\"\nexternal = \"198.51.100.1\"\nidle = \"60000\"",
+            false,
+        ),
+        (
+            "name = \"n1\"\nkind = \"cone\"\nexternal = \"198.51.100.1\"",
+            false,
+        ),
+        (
+            "name = \"n1\"\nkind = \"Cone\"\nexternal = \"198.51.100.1\"\nidle = 1",
+            false,
+        ),
+        (
+            "name = \"n1\"\nkind = \"full\"\nexternal = \"198.51.100.1\"\nidle = 1",
+            false,
+        ),
+        (
+            "name = \"n1\"\nkind = \"\"\nexternal = \"198.51.100.1\"\nidle = 1",
+            false,
+        ),
+        (
+            "name = \"n1\"\nkind = 1\nexternal = \"198.51.100.1\"\nidle = 1",
+            false,
+        ),
+        (
+            "name = \"n1\"\nexternal = \"198.51.100.1\"\nidle = 1",
+            false,
+        ),
+        (
+            "name = \"n1\"\nkind = \"cone\"\nexternal = \"192.168.0.1\"\nidle = 1",
+            false,
+        ),
+        (
+            "name = \"n1\"\nkind = \"cone\"\nexternal = \"127.0.0.1\"\nidle = 1",
+            false,
+        ),
+        (
+            "name = \"n1\"\nkind = \"cone\"\nexternal = \"198.51.100.1:1\"\nidle = 1",
+            false,
+        ),
+        ("name = \"n1\"\nkind = \"cone\"\nidle = 1", false),
+        (
+            "name = \"n1\"\nkind = \"cone\"\nexternal = \"192.0.2.1\"\nidle = 1",
+            false,
+        ),
+        (
+            "name = \"n1\"\nkind = \"cone\"\nexternal = \"192.0.2.2\"\nidle = 1",
+            false,
+        ),
+        (
+            "name = \"s1\"\nkind = \"cone\"\nexternal = \"198.51.100.1\"\nidle = 1",
+            false,
+        ),
+        (
+            "name = \"N1\"\nkind = \"cone\"\nexternal = \"198.51.100.1\"\nidle = 1",
+            false,
+        ),
+        (
+            "kind = \"cone\"\nexternal = \"198.51.100.1\"\nidle = 1",
+            false,
+        ),
+        (
+            "name = \"n1\"\nkind = \"cone\"\nexternal = \"198.51.100.1\"\nidle = 1\nport = 1",
+            false,
+        ),
+    ];
+    for (nat, wanted) in cases {
+        let text = format!(in rt.alloc(); "{ONE_SERVER}[[nat]]\n{nat}\n")?;
+        assert_eq!(rt; is_scenario(rt.alloc(), text.as_str())?, wanted, "at {nat}");
+    }
+    let seconds = [
+        (
+            "name = \"n2\"\nkind = \"port\"\nexternal = \"198.51.100.2\"\nidle = 1",
+            true,
+        ),
+        (
+            "name = \"n1\"\nkind = \"port\"\nexternal = \"198.51.100.2\"\nidle = 1",
+            false,
+        ),
+        (
+            "name = \"n2\"\nkind = \"port\"\nexternal = \"198.51.100.1\"\nidle = 1",
+            false,
+        ),
+    ];
+    let (first, _) = cases[0];
+    for (nat, wanted) in seconds {
+        let text = format!(in rt.alloc(); "{ONE_SERVER}[[nat]]\n{first}\n[[nat]]\n{nat}\n")?;
+        assert_eq!(rt; is_scenario(rt.alloc(), text.as_str())?, wanted, "at {nat}");
+    }
+    Ok(())
+}
+
 fn repeated(
     alloc: Global,
     part: &str,
@@ -267,6 +412,20 @@ fn keeps_its_limits(rt: HostRuntime) -> Result<(), Fail> {
             is_scenario(rt.alloc(), text.as_str())?,
             wanted,
             "at {count} servers"
+        );
+    }
+    for (count, wanted) in [(64, true), (65, false)] {
+        let mut text = repeated(rt.alloc(), "", 0, end)?;
+        for i in 0..count {
+            let nat = format!(in rt.alloc();
+                "[[nat]]\nname = \"n{i}\"\nkind = \"cone\"\nexternal = \"198.51.100.{i}\"\nidle = 1\n"
+            )?;
+            text.push_str(nat.as_str())?;
+        }
+        assert_eq!(rt;
+            is_scenario(rt.alloc(), text.as_str())?,
+            wanted,
+            "at {count} NATs"
         );
     }
     assert!(rt; read(rt.alloc(), b"seed = 1\nevents = []\n#\xff\n").is_err());

@@ -6,4 +6,4 @@ use Rattle.scenario.proofs.reader.read.Goals as goal
 
 pub returns-in-Some-clause-few : goal.returns-in-Some-clause-few
 returns-in-Some-clause-few c =
-    few_events_of c.args.bytes.now (told c.in-Some.scenario) (sym c.in-Ok.ensures ∙ ap (option_map told) c.in-Some.is)
+    few_events_of c.args.bytes.now (told c.in-Some.scenario) (sym c.in-Ok.ensures.value ∙ ap (option_map told) c.in-Some.is)
