@@ -62,6 +62,7 @@ gone_text gone = if gone == 0 then [] else codes " gone/" ++ decimal gone
 abbrev pub loss_word : Loss → List ℕ
 loss_word loss.Hairpin = codes "hairpin"
 loss_word loss.Full = codes "full"
+loss_word loss.Fault = codes "fault"
 
 -- a send, by the entry that it became or by why it became none
 abbrev pub mark_text : TopologyState → Mark → List ℕ

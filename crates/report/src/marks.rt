@@ -22,6 +22,7 @@ fn loss_name(why: Loss) -> &'static str
     match why {
         Loss::Hairpin => "hairpin",
         Loss::Full => "full",
+        Loss::Fault => "fault",
     }
 }
 

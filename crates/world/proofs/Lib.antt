@@ -7,4 +7,6 @@ mod Emitted
 mod Delivered
 mod NextLaws
 mod NoClients
+mod Opened
+mod NewNats
 mod Stepped

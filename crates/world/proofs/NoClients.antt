@@ -1,7 +1,7 @@
 -- Servers and NATs alone: nothing falls due, nobody is behind a NAT, and a NAT's history has its restarts alone.
 use Rattle.std.proofs.Common.{◌≡◌, ◌≢◌, ℕ, zero, suc, ◌+◌, ◌<◌, ◌==◌, Bool, true, false, cond, List, [], ◌∷◌, ◌++◌, length, map, set, Option, Some, None, refl, sym, ap, subst, ◌∙◌, arith, inl, inr, ◌⊎◌}
 use Rattle.std.specs.Prelude.{slice_get, option_map, option_and_then}
-use Rattle.std.proofs.lemmas.Bool.{ne_eqb, eq-eqb}
+use Rattle.std.proofs.lemmas.Bool.{ne_eqb, eq-eqb, false≢true}
 use Rattle.std.proofs.lemmas.Bool.Decides.{eqb_tells}
 use Rattle.std.proofs.lemmas.Option.{slice_get_within}
 use Rattle.std.proofs.lemmas.List.{length-map, length-append}
@@ -21,6 +21,7 @@ use Rattle.history.specs.Full.{Made, Full}
 use Rattle.world.specs.Past.{is_node, is_restart, at_nat, forgotten, outs_of, nat_entries, nat_history}
 use Rattle.world.specs.Next.{Due, least_due}
 use Rattle.world.specs.Ways.{topology_of, NatsOf, IsNatOf, IsRestartOf}
+use Rattle.world.specs.World.{WorldState}
 
 -- LISTS WITH ONE ELEMENT REPLACED
 
@@ -124,3 +125,29 @@ nat_restarts servers rows states H j old new r was settings stands of is = λ k 
       let adds : nat_entries (topology_of servers rows) (length servers + k) r ≡ [] =
           restart_adds servers rows (length servers + k) (length servers + j) r is ∙ ap (λ (b : Bool). cond b (Restart ∷ []) []) (ne_eqb (length servers + k) (length servers + j) (λ e. other (let h : k ≡ j = omega (arith, e) in h))) in
       rw adds (of k row state at elsewhere)
+
+-- THE SAME IN A WORLD
+
+pub server_restarts_in : (w : WorldState) (servers : List ServerNode) (rows : List NatNode) (states : List NatState) (n : ℕ)
+    → topology_of servers rows ≡ w.topology → states ≡ w.nats → n < length servers
+    → (H : List Full) → NatsOf w.topology w.nats H → (r : Full) → IsRestartOf n r → NatsOf w.topology states (r ∷ H)
+server_restarts_in w servers rows states n t s within H of r is =
+    let before : NatsOf (topology_of servers rows) states H = subst (λ (x : TopologyState). NatsOf x states H) (sym t) (subst (λ (x : List NatState). NatsOf w.topology x H) (sym s) of) in
+    subst (λ (x : TopologyState). NatsOf x states (r ∷ H)) t (server_restarts servers rows states H n r within before is)
+
+pub nat_restarts_in : (w : WorldState) (servers : List ServerNode) (rows : List NatNode) (states after : List NatState) (n j : ℕ) (old new : NatState)
+    → topology_of servers rows ≡ w.topology → states ≡ w.nats → n ≡ length servers + j
+    → slice_get states j ≡ Some old → new.settings ≡ old.settings → ((h : List NatEntry) → nats.StandsFor old h → nats.StandsFor new (Restart ∷ h)) → after ≡ set states j new
+    → (H : List Full) → NatsOf w.topology w.nats H → (r : Full) → IsRestartOf n r → NatsOf w.topology after (r ∷ H)
+nat_restarts_in w servers rows states after n j old new t s place was settings stands is_after H of r is =
+    let before : NatsOf (topology_of servers rows) states H = subst (λ (x : TopologyState). NatsOf x states H) (sym t) (subst (λ (x : List NatState). NatsOf w.topology x H) (sym s) of) in
+    let all : NatsOf (topology_of servers rows) (set states j new) (r ∷ H) = nat_restarts servers rows states H j old new r was settings stands before (subst (λ (k : ℕ). IsRestartOf k r) place is) in
+    subst (λ (x : List NatState). NatsOf w.topology x (r ∷ H)) (sym is_after) (subst (λ (x : TopologyState). NatsOf x (set states j new) (r ∷ H)) t all)
+
+-- EVENTS THAT CAN'T BE ASKED FOR
+
+pub none_sends : (t : TopologyState) (servers : List ServerNode) (rows : List NatNode) (n : ℕ) → topology_of servers rows ≡ t → has_host (node_at t n) ≡ true → ⊥
+none_sends t servers rows n is host = false≢true (sym (no_host servers rows n) ∙ ap (λ (x : TopologyState). has_host (node_at x n)) is ∙ host)
+
+pub none_is_forgotten : (t : TopologyState) (servers : List ServerNode) (rows : List NatNode) (k n : ℕ) → topology_of servers rows ≡ t → is_client_of k (node_at t n) ≡ true → ⊥
+none_is_forgotten t servers rows k n is behind = false≢true (sym (nobody_of servers rows k n) ∙ ap (λ (x : TopologyState). is_client_of k (node_at x n)) is ∙ behind)

@@ -222,9 +222,10 @@ impl World {
             }
             Event::Restart { node } => Ok(self.restart(index, *node)),
             // No node of this world has a host, and no client is behind a NAT.
-            Event::Host { .. } | Event::Echo { .. } | Event::Raw { .. } | Event::Forget { .. } => {
-                unreachable!()
-            }
+            Event::Host { .. } => unreachable!(),
+            Event::Echo { .. } => unreachable!(),
+            Event::Raw { .. } => unreachable!(),
+            Event::Forget { .. } => unreachable!(),
         }
     }
 

@@ -1,4 +1,4 @@
-use Rattle.history.specs.Full.{Full}
+use Rattle.world.proofs.Stepped.{steps}
 use Rattle.world.specs.Ways.{topology_of}
 use Rattle.world.specs.Knows.{Knows}
 use Rattle.world.proofs.laboratory.World.deliver.Goals as goal

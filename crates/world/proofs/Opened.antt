@@ -1,0 +1,85 @@
+-- The least-numbered entry that was never delivered, by what a world remembers.
+use Rattle.std.proofs.Common.{◌≡◌, ◌<◌, ◌≤◌, ◌+◌, ℕ, zero, suc, Bool, true, false, cond, List, [], ◌∷◌, ◌++◌, length, get_or, append-nil, Option, Some, None, Result, Ok, refl, sym, ap, subst, ◌∙◌, arith}
+use Rattle.teredo_node.specs.declared.fates.Fate.TheVariants as fate
+use Rattle.history.specs.declared.event.Event.TheVariants as event
+use Rattle.history.specs.declared.acts.Verb.TheVariants as verb
+use Rattle.history.specs.declared.records.Record.{Record}
+use Rattle.history.specs.declared.turn.Stop.{Stop}
+use Rattle.history.specs.Full.{Item, Full, wire}
+use Rattle.world.specs.Past.{Draws, was_delivered, first_open, first_undelivered}
+use Rattle.world.specs.Next.{numbered, plain, blank, delivers, delivers_or, next_of}
+use Rattle.world.specs.Held.{WireState}
+use Rattle.world.specs.Steps.{said, Has, Plays}
+use Rattle.world.specs.World.{WorldState, StandsFor}
+use Rattle.world.specs.Playing.{kept_wire}
+
+-- the first ones were all delivered
+open_after : (H : List Full) (i n : ℕ) (xs : List Item) → n < length xs → ((k : ℕ) → k < n → was_delivered (i + k) H ≡ true) → was_delivered (i + n) H ≡ false → first_open H i xs ≡ Some (i + n)
+open_after H i n [] within before at = absurd (omega (arith, within))
+open_after H i zero (x ∷ xs) within before at =
+    let same : i + 0 ≡ i = omega arith in
+    let here : was_delivered i H ≡ false = ap (λ (k : ℕ). was_delivered k H) (sym same) ∙ at in
+    rw here (ap (λ (k : ℕ). Some k) (sym same))
+open_after H i (suc n) (x ∷ xs) within before at =
+    let first : i + 0 ≡ i = omega arith in
+    let here : was_delivered i H ≡ true = ap (λ (k : ℕ). was_delivered k H) (sym first) ∙ before 0 (omega arith) in
+    let next : i + suc n ≡ i + 1 + n = omega arith in
+    rw here (open_after H (i + 1) n xs (omega (arith, within))
+      (λ k h. let step : i + suc k ≡ i + 1 + k = omega arith in ap (λ (j : ℕ). was_delivered j H) (sym step) ∙ before (suc k) (omega (arith, h)))
+      (ap (λ (j : ℕ). was_delivered j H) (sym next) ∙ at) ∙ ap (λ (j : ℕ). Some j) (sym next))
+
+-- all were
+open_never : (H : List Full) (i : ℕ) (xs : List Item) → ((k : ℕ) → k < length xs → was_delivered (i + k) H ≡ true) → first_open H i xs ≡ None
+open_never H i [] all = refl
+open_never H i (x ∷ xs) all =
+    let first : i + 0 ≡ i = omega arith in
+    let here : was_delivered i H ≡ true = ap (λ (k : ℕ). was_delivered k H) (sym first) ∙ all 0 (omega arith) in
+    rw here (open_never H (i + 1) xs (λ k h. let step : i + suc k ≡ i + 1 + k = omega arith in ap (λ (j : ℕ). was_delivered j H) (sym step) ∙ all (suc k) (omega (arith, h))))
+
+pub first_is : (H : List Full) (items : List Item) (done : List Bool) (n : ℕ) → items ≡ wire H → ((i : ℕ) → get_or done i false ≡ was_delivered i H)
+    → n < length items → get_or done n false ≡ false → ((i : ℕ) → i < n → get_or done i false ≡ true) → first_undelivered H ≡ Some n
+first_is H items done n is marks within at before =
+    let zeroth : (k : ℕ) → was_delivered (0 + k) H ≡ was_delivered k H = λ k. let e : 0 + k ≡ k = omega arith in ap (λ (j : ℕ). was_delivered j H) e in
+    let whole : length items ≡ length (wire H) = ap (λ (xs : List Item). length xs) is in
+    let e : 0 + n ≡ n = omega arith in
+    open_after H 0 n (wire H) (omega (arith, within, whole)) (λ k h. zeroth k ∙ sym (marks k) ∙ before k h) (zeroth n ∙ sym (marks n) ∙ at) ∙ ap (λ (k : ℕ). Some k) e
+
+pub first_is_none : (H : List Full) (items : List Item) (done : List Bool) → items ≡ wire H → ((i : ℕ) → get_or done i false ≡ was_delivered i H)
+    → ((i : ℕ) → i < length items → get_or done i false ≡ true) → first_undelivered H ≡ None
+first_is_none H items done is marks all =
+    let zeroth : (k : ℕ) → was_delivered (0 + k) H ≡ was_delivered k H = λ k. let e : 0 + k ≡ k = omega arith in ap (λ (j : ℕ). was_delivered j H) e in
+    let whole : length (wire H) ≡ length items = ap (λ (xs : List Item). length xs) (sym is) in
+    open_never H 0 (wire H) (λ k h. zeroth k ∙ sym (marks k) ∙ all k (omega (arith, h, whole)))
+
+-- THE EVENT `next`
+
+-- the entry of this number is delivered
+pub plays_next : (old mid new : WorldState) (w : WireState) (d : Draws) (H : List Full) (i n : ℕ) (result : Result Record Stop)
+    → mid ≡ old → kept_wire old ≡ w → StandsFor d old H
+    → (n < length w.items) × (get_or w.done n false ≡ false) × ((k : ℕ) → k < n → get_or w.done k false ≡ true)
+    → (StandsFor d mid H → Plays (kept_wire mid) (kept_wire new) (delivers d mid.topology H (numbered i event.Next) n) result)
+    → Plays (kept_wire old) (kept_wire new) (next_of d old.topology H i event.Next) result
+plays_next old mid new w d H i n result is held s facts plays =
+    let items : w.items ≡ wire H = ap (λ (x : WireState). x.items) (sym held) ∙ s.wire in
+    let marks : (k : ℕ) → get_or w.done k false ≡ was_delivered k H = λ k. ap (λ (x : WireState). get_or x.done k false) (sym held) ∙ s.done k in
+    let first = first_is H w.items w.done n items marks facts.0 facts.1 facts.2 in
+    let e = numbered i event.Next in
+    let next : next_of d old.topology H i event.Next ≡ delivers d old.topology H e n = ap (delivers_or d old.topology H e (blank H e (plain verb.Next) None fate.NoEntry)) first in
+    let played : Plays (kept_wire old) (kept_wire new) (delivers d old.topology H e n) result = subst (λ (x : WorldState). Plays (kept_wire x) (kept_wire new) (delivers d x.topology H e n) result) is (plays (subst (λ (x : WorldState). StandsFor d x H) (sym is) s)) in
+    subst (λ (r : Full). Plays (kept_wire old) (kept_wire new) r result) (sym next) played
+
+-- there is none
+pub plays_none : (old new : WorldState) (w : WireState) (d : Draws) (H : List Full) (i m : ℕ) (word : Record)
+    → kept_wire new ≡ kept_wire old → kept_wire old ≡ w → m ≡ old.moment → StandsFor d old H
+    → ((k : ℕ) → k < length w.items → get_or w.done k false ≡ true)
+    → word ≡ said m i (plain verb.Next) None fate.NoEntry []
+    → Plays (kept_wire old) (kept_wire new) (next_of d old.topology H i event.Next) (Ok word)
+plays_none old new w d H i m word same held at s all says =
+    let items : w.items ≡ wire H = ap (λ (x : WireState). x.items) (sym held) ∙ s.wire in
+    let marks : (k : ℕ) → get_or w.done k false ≡ was_delivered k H = λ k. ap (λ (x : WireState). get_or x.done k false) (sym held) ∙ s.done k in
+    let e = numbered i event.Next in
+    let last = blank H e (plain verb.Next) None fate.NoEntry in
+    let next : next_of d old.topology H i event.Next ≡ last = ap (delivers_or d old.topology H e last) (first_is_none H w.items w.done items marks all) in
+    subst (λ (r : Full). Plays (kept_wire old) (kept_wire new) r (Ok word)) (sym next)
+      (says ∙ ap (λ (j : ℕ). said j i (plain verb.Next) None fate.NoEntry []) (at ∙ s.moment),
+       subst (λ (x : WireState). Has (kept_wire old) x last) (sym same) (record { items = sym (append-nil old.wire); done = λ k. refl }))
