@@ -181,8 +181,8 @@ pub fn run<S: Source, K: Sink, L: Link, C: Clock>(
       sink_faults = (K.faults out.old, K.faults out.new);
     }) result }
     // Nothing but `lab` touches the source, and nothing but `serve` the link and the clock.
-    ensures unread { lab_file (map string_bytes words.now.items) ≡ None → src.new ≡ src.old }
-    ensures unlinked { AskNothing (map string_bytes words.now.items) → (link.new ≡ link.old) × (clock.new ≡ clock.old) }
+    ensures only_lab { lab_file (map string_bytes words.now.items) ≡ None → src.new ≡ src.old }
+    ensures only_serve { AskNothing (map string_bytes words.now.items) → (link.new ≡ link.old) × (clock.new ≡ clock.old) }
 {
     if let Some(file) = file_named(words.as_slice()) {
         return lab(alloc, file, src, out);
