@@ -11,16 +11,16 @@ use Rattle.teredo_node.specs.declared.serving.Totals.{Totals}
 use Rattle.server_core.specs.declared.server.ServerSettings.{ServerSettings}
 use Rattle.server_core.proofs.Outcomes.{outcomes, one_outcome}
 use Rattle.teredo_app.specs.declared.serve_words.ServeWords.{ServeWords}
-use Rattle.teredo_app.specs.Serving.{Network, server_on, answers, starves, Session, BreaksOff}
+use Rattle.teredo_app.specs.Serving.{Network, server_on, AnswersByTable, WantsMemory, Session, BreaksOff}
 
 -- the server stays as it is
-stays : (old : ServerSettings) (turns : List Turn) (new : ServerSettings) → Goes answers old turns new → new ≡ old
+stays : (old : ServerSettings) (turns : List Turn) (new : ServerSettings) → Goes AnswersByTable old turns new → new ≡ old
 stays old [] new g = g
 stays old (Waited ∷ turns) new g = stays old turns new g
 stays old (Answered moment side from bytes step sent ∷ turns) new g = g.2.0 ∙ stays old turns g.0 g.1
 
 -- each arrival has one outcome
-each_once : (old : ServerSettings) (turns : List Turn) (new : ServerSettings) → Goes answers old turns new → (totals_of turns).served ≡ (totals_of turns).sent + (totals_of turns).failed + (totals_of turns).six + (totals_of turns).dropped
+each_once : (old : ServerSettings) (turns : List Turn) (new : ServerSettings) → Goes AnswersByTable old turns new → (totals_of turns).served ≡ (totals_of turns).sent + (totals_of turns).failed + (totals_of turns).six + (totals_of turns).dropped
 each_once old [] new g = refl
 each_once old (Waited ∷ turns) new g = each_once old turns new g
 each_once old (Answered moment side from bytes step sent ∷ turns) new g =
@@ -42,7 +42,7 @@ carries_after a b c came made same carried = record {
   attempts = moves_after _ a.attempts b.attempts c.attempts same.attempts carried.attempts;
 }
 
-carried_after : (a b c : Told) (s s' : ServerSettings) (last : ℕ) (turns : List Turn) (ended : Result (Unit {0}) PumpFault) → KeepsTold a b → Carried (starves s last) b c turns ended → Carried (starves s' last) a c turns ended
+carried_after : (a b c : Told) (s s' : ServerSettings) (last : ℕ) (turns : List Turn) (ended : Result (Unit {0}) PumpFault) → KeepsTold a b → Carried (WantsMemory s last) b c turns ended → Carried (WantsMemory s' last) a c turns ended
 carried_after a b c s s' last turns (Ok x) same carried = carries_after a b c (came_in turns) (made_in turns) same carried
 carried_after a b c s s' last turns (Err Receive) same carried = carries_after a b c (came_in turns) (made_in turns) same carried
 carried_after a b c s s' last turns (Err NoMemory) same carried = absurd carried.3
@@ -52,7 +52,7 @@ carried_after a b c s s' last turns (Err NoMemory) same carried = absurd carried
 module _ (n : Network) (asked : ServeWords) (totals : Totals) (mid : Told) (receives sends : ℕ) (places : Option Addresses) (s new : ServerSettings) (opened : places ≡ open_on asked.primary asked.secondary) (same : KeepsTold n.told.0 mid) (kept : receives ≡ n.receive_faults.0) (other : sends ≡ n.send_faults.0) (made : s ≡ server_on asked) where
   -- the turns after the link was opened
   pub session : (ended : Result (Unit {0}) PumpFault)
-      → Serves answers starves asked.count asked.idles s new n.moments.0 n.moments.1 mid n.told.1 totals ended
+      → Serves AnswersByTable WantsMemory asked.count asked.idles s new n.moments.0 n.moments.1 mid n.told.1 totals ended
       → n.addresses.1 ≡ places → ReceiveFaults receives n.receive_faults.1 ended → SendFaults sends n.send_faults.1 totals.failed
       → Session n asked totals ended
   session ended served stay received sent =
@@ -61,7 +61,7 @@ module _ (n : Network) (asked : ServeWords) (totals : Totals) (mid : Told) (rece
         places = stay ∙ opened;
         turns = record {
           turns = served.turns;
-          states = subst (λ (t : ServerSettings). Goes answers t served.turns t) made (subst (λ (t : ServerSettings). Goes answers s served.turns t) kept_state served.states);
+          states = subst (λ (t : ServerSettings). Goes AnswersByTable t served.turns t) made (subst (λ (t : ServerSettings). Goes AnswersByTable s served.turns t) kept_state served.states);
           moments = served.moments;
           told = carried_after n.told.0 mid n.told.1 new (server_on asked) n.moments.1 served.turns ended same served.told;
           sums = served.sums;

@@ -34,12 +34,13 @@ pub record Network : Type 0 where
 abbrev pub server_on : ServeWords → ServerSettings
 server_on asked = record { primary = asked.primary; secondary = asked.secondary; policy = Loopback }
 
--- it answers a datagram by its table, at every moment, and wants no memory
-abbrev pub answers : ServerSettings → ℕ → Side → Ep → List ℕ → Step → ServerSettings → Type 0
-answers s moment side from bytes step new = server.Serves s side from bytes step new
+-- it answers a datagram by its table, at every moment, and stays as it is
+abbrev pub AnswersByTable : ServerSettings → ℕ → Side → Ep → List ℕ → Step → ServerSettings → Type 0
+AnswersByTable s moment side from bytes step new = server.Serves s side from bytes step new
 
-abbrev pub starves : ServerSettings → ℕ → Side → Ep → List ℕ → Type 0
-starves s moment side from bytes = ⊥
+-- it never wants memory
+abbrev pub WantsMemory : ServerSettings → ℕ → Side → Ep → List ℕ → Type 0
+WantsMemory s moment side from bytes = ⊥
 
 -- The server took turns at the link, up to their end or a fault of the link, with these totals.
 pub record Session (n : Network) (asked : ServeWords) (totals : Totals) (ended : Result (Unit {0}) PumpFault) : Type 0 where
@@ -47,7 +48,7 @@ pub record Session (n : Network) (asked : ServeWords) (totals : Totals) (ended :
   pub places : n.addresses.1 ≡ open_on asked.primary asked.secondary
   -- each datagram that came was answered by the server's table, and each of its sends attempted, in order; the end is
   -- that so many arrivals were taken, or so many turns in a row were idle
-  pub turns : Serves answers starves asked.count asked.idles (server_on asked) (server_on asked) n.moments.0 n.moments.1 n.told.0 n.told.1 totals ended
+  pub turns : Serves AnswersByTable WantsMemory asked.count asked.idles (server_on asked) (server_on asked) n.moments.0 n.moments.1 n.told.0 n.told.1 totals ended
   -- each arrival was answered, or its answer failed, or it went to the IPv6 side, or it was dropped
   pub outcomes : totals.served ≡ totals.sent + totals.failed + totals.six + totals.dropped
   pub receives : ReceiveFaults n.receive_faults.0 n.receive_faults.1 ended
