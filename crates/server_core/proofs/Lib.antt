@@ -4,3 +4,4 @@ pub mod Lengths
 pub mod Steps
 pub mod Worked
 pub mod RowFates
+pub mod Outcomes

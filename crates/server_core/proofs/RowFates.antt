@@ -21,7 +21,7 @@ row_fates =
     ∷ fate.NotOurs ∷ fate.Embedded ∷ fate.ForwardOrigin ∷ fate.Forward ∷ fate.Six ∷ fate.Dest ∷ []
 
 -- each outcome of a table
-abbrev Each : (Rule → Type 0) → List (Bool × Rule) → Type 0
+abbrev pub Each : (Rule → Type 0) → List (Bool × Rule) → Type 0
 Each Q [] = Unit {0}
 Each Q (line ∷ lines) = Q line.1 × Each Q lines
 
@@ -29,7 +29,7 @@ either : (Q : Rule → Type 0) (b : Bool) (x y : Rule) → Q x → Q y → Q (if
 either Q true x y p q = p
 either Q false x y p q = q
 
-first_of_each : (Q : Rule → Type 0) (lines : List (Bool × Rule)) (last : Rule) → Each Q lines → Q last → Q (first_line lines last)
+pub first_of_each : (Q : Rule → Type 0) (lines : List (Bool × Rule)) (last : Rule) → Each Q lines → Q last → Q (first_line lines last)
 first_of_each Q [] last p q = q
 first_of_each Q (line ∷ lines) last p q = either Q line.0 line.1 (first_line lines last) p.0 (first_of_each Q lines last p.1 q)
 

@@ -3,3 +3,4 @@ pub mod Told
 pub mod Playing
 pub mod Ended
 pub mod Shown
+pub mod Sessions

@@ -16,5 +16,8 @@ pub const UNREADABLE: u8 = 4;
 /// The sink failed.
 pub const UNWRITABLE: u8 = 5;
 
+/// The link failed, when it was opened or later.
+pub const NO_LINK: u8 = 6;
+
 /// Memory ran out.
 pub const NO_MEMORY: u8 = 7;

@@ -2,15 +2,15 @@
 use crate::run;
 use std::alloc::Global;
 use std::test::Fail;
-use td_base::NoMemory;
-use td_outside::{MemSink, MemSource};
+use td_base::{Millis, NoMemory};
+use td_outside::{MemLink, MemSink, MemSource, TestClock};
 
 const NAME: &str = "f.toml";
 
 const LAB: [&str; 2] = ["lab", NAME];
 
 /// How many bytes the sink has room for.
-const ROOM: usize = 16_777_216;
+pub const ROOM: usize = 16_777_216;
 
 const SOLICITATION: &str = r#"
 seed = 1
@@ -43,7 +43,7 @@ struct Ended {
     sink: MemSink,
 }
 
-fn words_of(alloc: Global, texts: &[&str]) -> Result<Vec<String>, NoMemory> {
+pub fn words_of(alloc: Global, texts: &[&str]) -> Result<Vec<String>, NoMemory> {
     let mut words = Vec::new(alloc);
     for text in texts {
         words.push(String::from_str(alloc, text)?)?;
@@ -61,7 +61,9 @@ fn end_of(
     let words = words_of(alloc, texts)?;
     let mut source = MemSource::new(alloc, NAME, text, read_fails)?;
     let mut sink = MemSink::new(alloc, ROOM, write_fails)?;
-    let status = run(alloc, &words, &mut source, &mut sink);
+    let mut link = MemLink::new(alloc, Vec::new(alloc), 0, &[], &[])?;
+    let mut clock = TestClock::new([Millis(0); 4]);
+    let status = run(alloc, &words, &mut source, &mut sink, &mut link, &mut clock);
     Ok(Ended { status, sink })
 }
 

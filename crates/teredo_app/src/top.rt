@@ -1,17 +1,24 @@
 ghost use Rattle.std.specs.Prelude.{◌≡◌, ◌≤◌, ℕ, List, Option, Some, None, map, string_bytes, length, option_map};
 ghost use Rattle.scenario.specs.Told.{told};
 ghost use Rattle.teredo_app.specs.Ends.{Outside, lab_file, show_word, LabEnds, ShowEnds, WordsEnd};
+ghost use Rattle.teredo_app.specs.ServeWords.{Asks, AskNothing};
+ghost use Rattle.teredo_app.specs.Serving.{ServeEnds};
 ghost use Rattle.teredo_app.specs.Endings.{LineEnds, ReportEnds};
 
 use crate::play::write_report;
+use crate::serve_line::put_serve_line;
+use crate::serve_words::{ServeWords, serve_asked};
+use crate::serving::serve_on;
 use crate::statuses::{
-    BAD_PAYLOAD, BAD_SCENARIO, BAD_WORDS, DONE, NO_MEMORY, UNREADABLE, UNWRITABLE,
+    BAD_PAYLOAD, BAD_SCENARIO, BAD_WORDS, DONE, NO_LINK, NO_MEMORY, UNREADABLE, UNWRITABLE,
 };
 use crate::streams::{Fault, read_named, write_whole};
 use scenario::{MOST_EVENTS, Scenario, ScenarioFault, TEXT_MOST, read};
 use show::{Page, explain};
 use std::alloc::Global;
-use td_outside::{Failed, Sink, Source};
+use td_base::LineBuf;
+use td_outside::{Clock, Failed, Link, Sink, Source};
+use teredo_node::TURNS_MAX;
 
 /// The file that the words `lab FILE` name.
 fn file_named(words: &[String]) -> Option<&str>
@@ -104,8 +111,45 @@ fn show<K: Sink>(word: &str, out: &mut K) -> u8
     write_line(out, page.as_slice(), BAD_PAYLOAD)
 }
 
+/// The command `serve IP1 IP2 COUNT IDLES`. It takes no memory.
+fn serve<K: Sink, L: Link, C: Clock>(
+    asked: &ServeWords,
+    out: &mut K,
+    link: &mut L,
+    clock: &mut C,
+) -> u8
+    requires count { asked.now.count ≤ TURNS_MAX }
+    requires idles { asked.now.idles ≤ TURNS_MAX }
+    ensures { (told : Option (List ℕ)) (faults : ℕ × ℕ) → ServeEnds (record {
+      told = told;
+      source_faults = faults;
+      held = (K.holds out.old, K.holds out.new);
+      sink_faults = (K.faults out.old, K.faults out.new);
+    }) (record {
+      told = (L.told link.old, L.told link.new);
+      addresses = (L.addresses link.old, L.addresses link.new);
+      receive_faults = (L.recv_faults link.old, L.recv_faults link.new);
+      send_faults = (L.send_faults link.old, L.send_faults link.new);
+      moments = (C.last clock.old, C.last clock.new);
+    }) asked.now result }
+{
+    let Ok(totals) = serve_on(asked, link, clock) else {
+        return NO_LINK;
+    };
+    let mut line = LineBuf::new();
+    put_serve_line(&totals, &mut line);
+    write_line(out, line.as_slice(), DONE)
+}
+
 /// Does what the words of the command line ask for, and answers the program's status.
-pub fn run<S: Source, K: Sink>(alloc: Global, words: &Vec<String>, src: &mut S, out: &mut K) -> u8
+pub fn run<S: Source, K: Sink, L: Link, C: Clock>(
+    alloc: Global,
+    words: &Vec<String>,
+    src: &mut S,
+    out: &mut K,
+    link: &mut L,
+    clock: &mut C,
+) -> u8
     ensures lab { (file : List ℕ) → lab_file (map string_bytes words.now.items) ≡ Some file → LabEnds (record {
       told = S.stands_for src.old file;
       source_faults = (S.faults src.old, S.faults src.new);
@@ -118,18 +162,36 @@ pub fn run<S: Source, K: Sink>(alloc: Global, words: &Vec<String>, src: &mut S, 
       held = (K.holds out.old, K.holds out.new);
       sink_faults = (K.faults out.old, K.faults out.new);
     }) word result }
-    ensures no_shape { lab_file (map string_bytes words.now.items) ≡ None → show_word (map string_bytes words.now.items) ≡ None → WordsEnd (record {
+    ensures serve { (asked : ServeWords) → Asks (map string_bytes words.now.items) asked → ServeEnds (record {
+      told = None;
+      source_faults = (S.faults src.old, S.faults src.new);
+      held = (K.holds out.old, K.holds out.new);
+      sink_faults = (K.faults out.old, K.faults out.new);
+    }) (record {
+      told = (L.told link.old, L.told link.new);
+      addresses = (L.addresses link.old, L.addresses link.new);
+      receive_faults = (L.recv_faults link.old, L.recv_faults link.new);
+      send_faults = (L.send_faults link.old, L.send_faults link.new);
+      moments = (C.last clock.old, C.last clock.new);
+    }) asked result }
+    ensures no_shape { lab_file (map string_bytes words.now.items) ≡ None → show_word (map string_bytes words.now.items) ≡ None → AskNothing (map string_bytes words.now.items) → WordsEnd (record {
       told = None;
       source_faults = (S.faults src.old, S.faults src.new);
       held = (K.holds out.old, K.holds out.new);
       sink_faults = (K.faults out.old, K.faults out.new);
     }) result }
+    // Nothing but `lab` touches the source, and nothing but `serve` the link and the clock.
+    ensures only_lab { lab_file (map string_bytes words.now.items) ≡ None → src.new ≡ src.old }
+    ensures only_serve { AskNothing (map string_bytes words.now.items) → (link.new ≡ link.old) × (clock.new ≡ clock.old) }
 {
     if let Some(file) = file_named(words.as_slice()) {
         return lab(alloc, file, src, out);
     }
-    match word_shown(words.as_slice()) {
-        Some(word) => show(word, out),
+    if let Some(word) = word_shown(words.as_slice()) {
+        return show(word, out);
+    }
+    match serve_asked(words.as_slice()) {
+        Some(asked) => serve(&asked, out, link, clock),
         None => write_line(out, b"words\n", BAD_WORDS),
     }
 }

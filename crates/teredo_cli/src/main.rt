@@ -1,5 +1,5 @@
-//! The program: the words of the command line, real files and standard output go to the top call, and its answer
-//! is the status.
+//! The program: the words of the command line, real files, standard output, sockets and the time go to the top call,
+//! and its answer is the status.
 //!
 //! # What it does not know
 //!
@@ -8,7 +8,7 @@
 
 use std::process::ExitCode;
 use std::{env, io};
-use td_outside::{FileSource, StdSink};
+use td_outside::{FileSource, StdSink, SystemClock, UdpPair};
 use teredo_app::{NO_MEMORY, run};
 
 /// The words of the command line without the program's name.
@@ -20,11 +20,20 @@ fn words_of(rt: &HostRuntime) -> io::Result<Vec<String>> {
     Ok(words)
 }
 
-/// Runs over real files and standard output.
+/// Runs over real files, standard output and sockets.
 fn run_on(rt: &HostRuntime, words: &Vec<String>) -> ExitCode {
     let mut source = FileSource::new(rt);
     let mut sink = StdSink::new(io::writer(rt));
-    ExitCode::from(run(rt.alloc(), words, &mut source, &mut sink))
+    let mut link = UdpPair::new(rt);
+    let mut clock = SystemClock::new(rt);
+    ExitCode::from(run(
+        rt.alloc(),
+        words,
+        &mut source,
+        &mut sink,
+        &mut link,
+        &mut clock,
+    ))
 }
 
 fn main(rt: HostRuntime) -> ExitCode {

@@ -1,0 +1,79 @@
+-- What the turns of a server at a link come to.
+use Rattle.std.proofs.Common.{◌≡◌, ℕ, ◌+◌, not, List, [], ◌∷◌, Option, Some, None, Result, Ok, Err, refl, sym, ap, subst, ◌∙◌, arith}
+use Rattle.std.proofs.lemmas.List.Sums.{count_by-le-length}
+use Rattle.td_outside.specs.declared.linking.Addresses.{Addresses}
+use Rattle.td_outside.specs.Links.{Came, Attempt, Told, Moves, Stays, KeepsTold, open_on}
+use Rattle.teredo_node.specs.Pump.{Carries, SendFaults, ReceiveFaults}
+use Rattle.teredo_node.specs.Serve.{Turn, Waited, Answered, Goes, Carried, Serves, came_in, made_in, totals_of}
+use Rattle.teredo_node.specs.declared.pumping.PumpFault.{PumpFault}
+use Rattle.teredo_node.specs.declared.pumping.PumpFault.TheVariants.{Receive, NoMemory}
+use Rattle.teredo_node.specs.declared.serving.Totals.{Totals}
+use Rattle.server_core.specs.declared.server.ServerSettings.{ServerSettings}
+use Rattle.server_core.proofs.Outcomes.{outcomes, one_outcome}
+use Rattle.teredo_app.specs.declared.serve_words.ServeWords.{ServeWords}
+use Rattle.teredo_app.specs.Serving.{Network, server_on, AnswersByTable, WantsMemory, Session, BreaksOff}
+
+-- the server stays as it is
+stays : (old : ServerSettings) (turns : List Turn) (new : ServerSettings) → Goes AnswersByTable old turns new → new ≡ old
+stays old [] new g = g
+stays old (Waited ∷ turns) new g = stays old turns new g
+stays old (Answered moment side from bytes step sent ∷ turns) new g = g.2.0 ∙ stays old turns g.0 g.1
+
+-- each arrival has one outcome
+each_once : (old : ServerSettings) (turns : List Turn) (new : ServerSettings) → Goes AnswersByTable old turns new → (totals_of turns).served ≡ (totals_of turns).sent + (totals_of turns).failed + (totals_of turns).six + (totals_of turns).dropped
+each_once old [] new g = refl
+each_once old (Waited ∷ turns) new g = each_once old turns new g
+each_once old (Answered moment side from bytes step sent ∷ turns) new g =
+    let one : outcomes step ≡ 1 = ap outcomes g.2.1 ∙ one_outcome g.0 side from bytes in
+    omega (arith, each_once old turns g.0 g.1, one, count_by-le-length not sent, g.3)
+
+-- ---- the lists that a link tells, over a call that leaves them
+
+moves_after : {A : Type 0} (fact : List A → List A → Type 0) (a b c : Option (List A)) → Stays a b → Moves b c fact → Moves a c fact
+moves_after fact a b None same moves = tt
+moves_after fact a None (Some after) same moves = absurd moves
+moves_after fact None (Some mid) (Some after) same moves = absurd same
+moves_after {A} fact (Some before) (Some mid) (Some after) same moves = subst (λ (xs : List A). fact xs after) same moves
+
+carries_after : (a b c : Told) (came : List Came) (made : List Attempt) → KeepsTold a b → Carries b c came made → Carries a c came made
+carries_after a b c came made same carried = record {
+  coming = moves_after _ a.coming b.coming c.coming same.coming carried.coming;
+  taken = moves_after _ a.taken b.taken c.taken same.taken carried.taken;
+  attempts = moves_after _ a.attempts b.attempts c.attempts same.attempts carried.attempts;
+}
+
+carried_after : (a b c : Told) (s s' : ServerSettings) (last : ℕ) (turns : List Turn) (ended : Result (Unit {0}) PumpFault) → KeepsTold a b → Carried (WantsMemory s last) b c turns ended → Carried (WantsMemory s' last) a c turns ended
+carried_after a b c s s' last turns (Ok x) same carried = carries_after a b c (came_in turns) (made_in turns) same carried
+carried_after a b c s s' last turns (Err Receive) same carried = carries_after a b c (came_in turns) (made_in turns) same carried
+carried_after a b c s s' last turns (Err NoMemory) same carried = absurd carried.3
+
+-- ---- a session
+
+module _ (n : Network) (asked : ServeWords) (totals : Totals) (mid : Told) (receives sends : ℕ) (places : Option Addresses) (s new : ServerSettings) (opened : places ≡ open_on asked.primary asked.secondary) (same : KeepsTold n.told.0 mid) (kept : receives ≡ n.receive_faults.0) (other : sends ≡ n.send_faults.0) (made : s ≡ server_on asked) where
+  -- the turns after the link was opened
+  pub session : (ended : Result (Unit {0}) PumpFault)
+      → Serves AnswersByTable WantsMemory asked.count asked.idles s new n.moments.0 n.moments.1 mid n.told.1 totals ended
+      → n.addresses.1 ≡ places → ReceiveFaults receives n.receive_faults.1 ended → SendFaults sends n.send_faults.1 totals.failed
+      → Session n asked totals ended
+  session ended served stay received sent =
+      let kept_state : new ≡ s = stays s served.turns new served.states in
+      record {
+        places = stay ∙ opened;
+        turns = record {
+          turns = served.turns;
+          states = subst (λ (t : ServerSettings). Goes AnswersByTable t served.turns t) made (subst (λ (t : ServerSettings). Goes AnswersByTable s served.turns t) kept_state served.states);
+          moments = served.moments;
+          told = carried_after n.told.0 mid n.told.1 new (server_on asked) n.moments.1 served.turns ended same served.told;
+          sums = served.sums;
+          begun = served.begun;
+          ended = served.ended;
+        };
+        outcomes = subst (λ (t : Totals). t.served ≡ t.sent + t.failed + t.six + t.dropped) (sym served.sums) (each_once s served.turns new served.states);
+        receives = subst (λ (m : ℕ). ReceiveFaults m n.receive_faults.1 ended) kept received;
+        sends = subst (λ (m : ℕ). SendFaults m n.send_faults.1 totals.failed) other sent;
+      }
+
+-- the link failed after some turns
+pub breaks_off : (n : Network) (asked : ServeWords) (totals : Totals) (fault : PumpFault) → Session n asked totals (Err fault) → BreaksOff n asked
+breaks_off n asked totals Receive session = (totals, session)
+breaks_off n asked totals NoMemory session = absurd session.turns.told.3
