@@ -197,13 +197,16 @@ served_length d t states m w H e n node row src dst x step k at goes is =
     ap (λ (ms : List Made). length (entries_in ms)) (served_made d t states m w H e n node row src dst x step k at goes is) ∙ outputs_count row src x step
 
 -- a server sends one datagram or packet at most
+pub one_at_most : (row : ServerNode) (src dst : Ep) (x : List ℕ) (step : Step) → step ≡ step_for row src dst x → outputs step ≤ 1
+one_at_most row src dst x step is = subst (λ (s : Step). outputs s ≤ 1) (sym is) (one_output (server_settings row) (side_at (server row) dst) src x)
+
 pub served_few : (w w1 w2 : WireState) (row : ServerNode) (src dst : Ep) (x : List ℕ) (step : Step) (packet : Option (List ℕ)) (done : List Bool)
     → step ≡ step_for row src dst x → packet_made packet ≡ six_made (arrived src x) step.six
     → Grows w w1 (outright (server row) None 0 step.sends ++ packet_made packet) → w2 ≡ record w1 { done = done }
     → length w2.items ≤ length w.items + 1
 served_few w w1 w2 row src dst x step packet done is packed grows kept =
     let all : outright (server row) None 0 step.sends ++ packet_made packet ≡ made_by row src x step = ap (λ (ms : List Made). outright (server row) None 0 step.sends ++ ms) packed in
-    let one : outputs step ≤ 1 = subst (λ (s : Step). outputs s ≤ 1) (sym is) (one_output (server_settings row) (side_at (server row) dst) src x) in
+    let one = one_at_most row src dst x step is in
     let size : length w2.items ≡ length w.items + outputs step =
         ap (λ (z : WireState). length z.items) kept
         ∙ ap (λ (xs : List Item). length xs) (grows.items ∙ ap (λ (ms : List Made). w.items ++ entries_in ms) all)

@@ -1,5 +1,5 @@
 //! Deliveries.
-ghost use Rattle.std.specs.Prelude.{◌≡◌, ◌≤◌, ◌<◌, ◌+◌, ℕ, List, length, option_map, is_some, true, IfOk, IfSome, OnErr};
+ghost use Rattle.std.specs.Prelude.{◌≡◌, ◌≤◌, ◌<◌, ◌+◌, ℕ, List, length, option_map, is_some, true, IfOk, IfSome, OnErr, IsErrOf};
 ghost use Rattle.td_base.specs.declared.endpoint.Ep.{Ep};
 ghost use Rattle.teredo_node.specs.Journal.{arrived};
 ghost use Rattle.world.specs.Emit.{six_made};
@@ -8,6 +8,7 @@ ghost use Rattle.history.specs.declared.mark_list.TheConstants.{MOST_MARKS};
 ghost use Rattle.history.specs.declared.topology.TheConstants.{MOST_SERVERS, MOST_NATS};
 ghost use Rattle.server_core.specs.Bounds.{outputs};
 ghost use Rattle.history.specs.Full.{Full};
+ghost use Rattle.world.specs.declared.wire.TheConstants.{MOST_ENTRIES};
 ghost use Rattle.world.specs.Past.{Draws};
 ghost use Rattle.world.specs.Next.{numbered, delivers};
 ghost use Rattle.world.specs.Ways.{topology_of, AreReady};
@@ -76,6 +77,7 @@ pub fn deliver(
         → Plays wire.old wire.new (delivers d (topology_of servers.now rows.now) H (numbered index e) number) result }
     ensures grows { length wire.new.items ≤ length wire.old.items + 1 }
     ensures err { OnErr result (wire.new ≡ wire.old) }
+    ensures full { IsErrOf result Stop.WireFull → MOST_ENTRIES ≤ length wire.old.items }
 {
     let act = Act::Deliver { number };
     let place = number as usize;

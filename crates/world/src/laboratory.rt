@@ -1,4 +1,4 @@
-ghost use Rattle.std.specs.Prelude.{◌≡◌, ◌<◌, ◌≤◌, ◌+◌, List, [], ◌∷◌, length, Some, None, slice_get, option_map, IfOk, IfErr, OnOk, OnErr};
+ghost use Rattle.std.specs.Prelude.{◌≡◌, ◌<◌, ◌≤◌, ◌+◌, List, [], ◌∷◌, length, Some, None, slice_get, option_map, IfOk, IfErr, OnErr, IsErrOf};
 ghost use Rattle.teredo_node.specs.declared.fates.Fate.TheVariants as fates;
 ghost use Rattle.history.specs.declared.event.Event.{Event};
 ghost use Rattle.history.specs.declared.event.Event.TheVariants as event;
@@ -127,6 +127,7 @@ impl World {
         ensures rest { self.new ≡ record self.old { wire = self.new.wire; done = self.new.done } }
         ensures grows { length self.new.wire ≤ length self.old.wire + 1 }
         ensures err { OnErr result (self.new ≡ self.old) }
+        ensures full { IsErrOf result Stop.WireFull → MOST_ENTRIES ≤ length self.old.wire }
     {
         deliver(
             *self.servers.allocator(),
@@ -147,6 +148,7 @@ impl World {
         ensures rest { self.new ≡ record self.old { wire = self.new.wire; done = self.new.done } }
         ensures grows { length self.new.wire ≤ length self.old.wire + 1 }
         ensures err { OnErr result (self.new ≡ self.old) }
+        ensures full { IsErrOf result Stop.WireFull → MOST_ENTRIES ≤ length self.old.wire }
     {
         match self.wire.first_undelivered() {
             Some(number) => self.deliver(index, number as u32),
@@ -204,6 +206,7 @@ impl World {
         ensures grows { length self.new.wire ≤ length self.old.wire + 1 }
         ensures time { self.new.moment ≤ self.old.moment + MOST_ADVANCE }
         ensures err { OnErr result (self.new ≡ self.old) }
+        ensures full { IsErrOf result Stop.WireFull → MOST_ENTRIES ≤ length self.old.wire }
     {
         let alloc = *self.servers.allocator();
         match event {
@@ -239,6 +242,7 @@ impl World {
         ensures last { IfOk result (λ turn. IsLast turn) }
         ensures grows { length self.new.wire ≤ length self.old.wire + 1 }
         ensures time { self.new.moment ≤ self.old.moment + MOST_ADVANCE }
+        ensures full { self.old.stopped ≡ None → IsErrOf result Stop.WireFull → MOST_ENTRIES ≤ length self.old.wire }
         ensures cause { IfErr result (λ stop. Stops self.old.stopped self.old index event.now stop) }
         ensures err { IfErr result (λ stop. self.new ≡ record self.old { stopped = Some stop }) }
     {

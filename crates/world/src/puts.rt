@@ -1,5 +1,5 @@
 //! Datagrams that no node sends.
-ghost use Rattle.std.specs.Prelude.{◌≡◌, ◌≤◌, ◌<◌, ◌+◌, ℕ, List, length, slice_get, OnErr};
+ghost use Rattle.std.specs.Prelude.{◌≡◌, ◌≤◌, ◌<◌, ◌+◌, ℕ, List, length, slice_get, OnErr, IsErrOf};
 ghost use Rattle.nat_kinds.specs.Nat.{NatState};
 ghost use Rattle.history.specs.declared.event.TheConstants.{MOST_BYTES};
 ghost use Rattle.history.specs.declared.event.Event.{Event};
@@ -35,6 +35,7 @@ fn put(
         → Plays wire.old wire.new (puts H (numbered index e) act src dst bytes) result }
     ensures grows { length wire.new.items ≤ length wire.old.items + 1 }
     ensures err { OnErr result (wire.new ≡ wire.old) }
+    ensures full { IsErrOf result Stop.WireFull → MOST_ENTRIES ≤ length wire.old.items }
 {
     let number = wire.len() as u32;
     let len = bytes.as_slice().len();
@@ -67,6 +68,7 @@ pub fn put_bytes(
         → Plays wire.old wire.new (puts H (numbered index e) act src dst bytes.now) result }
     ensures grows { length wire.new.items ≤ length wire.old.items + 1 }
     ensures err { OnErr result (wire.new ≡ wire.old) }
+    ensures full { IsErrOf result Stop.WireFull → MOST_ENTRIES ≤ length wire.old.items }
 {
     if wire.len() >= MOST_ENTRIES {
         return Err(Stop::WireFull);
@@ -91,6 +93,7 @@ pub fn copy(
         → Plays wire.old wire.new (copies H (numbered index e) number src dst (slice_get (wire_of H) number)) result }
     ensures grows { length wire.new.items ≤ length wire.old.items + 1 }
     ensures err { OnErr result (wire.new ≡ wire.old) }
+    ensures full { IsErrOf result Stop.WireFull → MOST_ENTRIES ≤ length wire.old.items }
 {
     let act = Act::Copy { number };
     let Some(entry) = wire.get(number as usize) else {

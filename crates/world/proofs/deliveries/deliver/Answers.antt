@@ -65,3 +65,9 @@ returns-in-Ok-emit-clause-plays c = λ d H e k.
 pub returns-in-Ok-emit-clause-grows : goal.returns-in-Ok-emit-clause-grows
 returns-in-Ok-emit-clause-grows c =
     delivered.served_few c.args.wire.now c.emit.new.wire c.set_delivered-in-Server.new.self c.in-Server.row c.in-Udp.src c.in-Udp.dst c.in-Udp.bytes.now c.ask.new.step c.in-Ok.packet _ c.ask.ensures (c.in-Ok.ensures.made c.in-Udp.src) c.in-Ok-emit.ensures.ok c.set_delivered-in-Server.ensures
+
+pub returns-then-outputs-len-clause-full : goal.returns-then-outputs-len-clause-full
+returns-then-outputs-len-clause-full c = λ e.
+    let most : MOST_ENTRIES ≡ 65536 = refl in
+    let one = delivered.one_at_most c.in-Server.row c.in-Udp.src c.in-Udp.dst c.in-Udp.bytes.now c.ask.new.step c.ask.ensures in
+    omega (arith, one, most, c.outputs.ensures.count, c.len.ensures.count, c.if-outputs-len.true)
