@@ -1,4 +1,4 @@
-ghost use Rattle.std.specs.Prelude.{◌≡◌, ◌≤◌, ◌∷◌, [], ◌++◌, length, OnOk, OnErr};
+ghost use Rattle.std.specs.Prelude.{◌≡◌, ◌≤◌, ◌∷◌, [], ◌++◌, length, option_map, OnOk, OnErr};
 
 use crate::client_node::ClientNode;
 use crate::nat_node::NatNode;
@@ -7,7 +7,7 @@ use crate::relay_node::RelayNode;
 use crate::server_node::ServerNode;
 use std::alloc::Global;
 use std::marker::Model;
-use td_base::NoMemory;
+use td_base::{Name, NoMemory};
 
 /// How many servers a scenario has at most.
 pub const MOST_SERVERS: usize = 8;
@@ -61,6 +61,7 @@ impl Model for Topology {
 impl Topology {
     ghost use Rattle.history.specs.Rows.{no_nodes, with_server, with_nat, with_client, with_relay, with_native};
     ghost use Rattle.history.specs.Rules.{IsTopology};
+    ghost use Rattle.history.specs.Topology.{name_of, node_at};
 
     /// No nodes.
     pub fn new(alloc: Global) -> Topology
@@ -113,6 +114,31 @@ impl Topology {
         ensures rules { IsTopology self.now }
     {
         self.natives.as_slice()
+    }
+
+    /// The name of the node with that number, over all kinds of nodes.
+    pub fn name_at(&self, node: u16) -> Option<Name>
+        ensures { result ≡ option_map name_of (node_at self.now node) }
+    {
+        let mut at = usize::from(node);
+        if let Some(row) = self.servers.get(at) {
+            return Some(row.name);
+        }
+        at -= self.servers.len();
+        if let Some(row) = self.nats.get(at) {
+            return Some(row.name);
+        }
+        at -= self.nats.len();
+        if let Some(row) = self.clients.get(at) {
+            return Some(row.name);
+        }
+        at -= self.clients.len();
+        if let Some(row) = self.relays.get(at) {
+            return Some(row.name);
+        }
+        at -= self.relays.len();
+        let row = self.natives.get(at)?;
+        Some(row.name)
     }
 
     /// Appends a server, or drops it where memory runs out. No node of another kind is there yet.
