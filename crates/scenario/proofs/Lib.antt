@@ -1,7 +1,4 @@
 pub mod Numbers
-pub mod Addresses
-pub mod Datagrams
-pub mod EventWords
 pub mod EventsSoFar
 pub mod Names
 pub mod ServersSoFar

@@ -42,9 +42,9 @@ few_events_of text s e =
     let at = kept_some (has_only scenario_keys table.0) (scenario_at table.0) s table.2 in
     let seed = bind_some (natural_at (codes "seed") table.0) _ s at.1 in
     let topology = bind_some (servers_at (get_member (codes "server") table.0)) _ s seed.2 in
-    let events = bind_some (get_member (codes "events") table.0 >>= events_in) _ s topology.2 in
-    let value = bind_some (get_member (codes "events") table.0) events_in events.0 events.1 in
-    let texts = bind_some (as_array value.0) events_of events.0 value.2 in
+    let events = bind_some (get_member (codes "events") table.0 >>= events_in topology.0) _ s topology.2 in
+    let value = bind_some (get_member (codes "events") table.0) (events_in topology.0) events.0 events.1 in
+    let texts = bind_some (as_array value.0) (events_of topology.0) events.0 value.2 in
     let same : events.0 ≡ s.events = ap (λ (x : Scenario). x.events) (some_same _ _ events.2) in
     let P : List Event → Type 0 = λ es. length es ≤ MOST_EVENTS in
-    subst P same (few_events texts.0 events.0 texts.2)
+    subst P same (few_events topology.0 texts.0 events.0 texts.2)

@@ -8,7 +8,7 @@
 //! - A text is one scenario or none. `specs/Scenario.antt` says which, as a function of its bytes, and `read`
 //!   answers exactly that, or that memory ran out.
 //! - The names of the nodes that are read differ from one another, and so do their addresses, which are global.
-//! - Each event of a scenario is the one that its text asks for, in order.
+//! - Each event of a scenario is the one that its text asks for, in order, and one that its nodes can be asked for.
 //!
 //! # What it does not know
 //!
@@ -23,13 +23,10 @@
 //! | `fresh` | names and addresses that no node before has | `specs/Fresh.antt`, `specs/NodeName.antt` |
 //! | `server_tables` | the servers | `specs/Servers.antt` |
 //! | `event_lists` | the events | `specs/Scenario.antt` |
-//! | `event_text` | the event of a text | `specs/EventText.antt` |
-//! | `word_texts`, `datagram_text` | numbers, addresses, endpoints and bytes | `specs/Words.antt` |
+//! | `word_texts` | addresses | `specs/Words.antt` |
 #![tactic(auto)]
 
-mod datagram_text;
 mod event_lists;
-mod event_text;
 mod fresh;
 mod reader;
 mod server_tables;
@@ -38,8 +35,6 @@ mod table_keys;
 mod tests;
 mod word_texts;
 
-pub use datagram_text::DATAGRAM_MOST;
 pub use event_lists::MOST_EVENTS;
-pub use event_text::NUMBER_MOST;
 pub use reader::{Scenario, ScenarioFault, TEXT_MOST, read};
 pub use server_tables::BUILT_SERVERS;
