@@ -2,6 +2,13 @@ pub mod Rows
 pub mod Topology
 pub mod Rules
 pub mod Events
+pub mod Words
+pub mod Ip6Words
+pub mod NodeWords
+pub mod Verbs
+pub mod EventText
+pub mod EventSpelling
+pub mod Answers
 pub mod Full
 pub mod Records
 pub mod Telling

@@ -8,6 +8,9 @@ pub const MOST_ADVANCE: u64 = 1_000_000_000;
 /// The largest number of an entry that an event can name.
 pub const MOST_NUMBER: u32 = 65_535;
 
+/// The largest sequence number of an echo request.
+pub const MOST_SEQUENCE: u16 = 65_535;
+
 /// The most bytes of a body that a host sends.
 pub const MOST_BODY: usize = 1_240;
 

@@ -4,6 +4,8 @@
 //!
 //! - A `Topology` holds the rows of a scenario's nodes, by number, and keeps the rules of `specs/Rules.antt`: names
 //!   and addresses differ, addresses are global, numbers are of nodes of the right kind.
+//! - A text asks for one event, or has one fault, with its place: `specs/EventText.antt` says which, as a function of
+//!   the nodes and the bytes. An event prints as a text that reads back.
 //! - `specs/Full.antt` says what a full record is, and what the wire of a history holds: everything that was
 //!   sent, in order, numbered from 0. A `Record` is what a report needs of a full record.
 //!
@@ -18,7 +20,11 @@
 //! | `server_node`, `nat_node`, `client_node`, `relay_node`, `native_node` | a row for each kind of node | |
 //! | `topology` | `Topology` | `specs/Rows.antt`, `Topology.antt`, `Rules.antt` |
 //! | `event`, `target`, `event_list` | `Event`, `Target`, `Events` | `specs/Events.antt` |
-//! | `acts` | `Verb`, `Act` | |
+//! | `acts` | `Verb`, `Act` | `specs/Verbs.antt` |
+//! | `event_reader`, `event_fault` | the event of a text, or its fault | `specs/EventText.antt` |
+//! | `event_words` | the words of a text, one after the other | `specs/EventText.antt`, `Answers.antt` |
+//! | `word_texts`, `node_words` | what one word says: numbers, addresses, bytes; nodes | `specs/Words.antt`, `Ip6Words.antt`, `NodeWords.antt` |
+//! | `event_printer` | the text of an event | `specs/EventSpelling.antt` |
 //! | `mark`, `mark_list` | `Mark`, `Loss`, `Marks` | |
 //! | `turn` | `Turn`, `Stop` | |
 //! | `records` | `Record`, the full record behind it, and what it tells the totals | `specs/Full.antt`, `Records.antt`, `Telling.antt` |
@@ -27,22 +33,35 @@
 mod acts;
 mod client_node;
 mod event;
+mod event_fault;
 mod event_list;
+mod event_printer;
+mod event_reader;
+mod event_words;
 mod mark;
 mod mark_list;
 mod nat_node;
 mod native_node;
+mod node_words;
 mod records;
 mod relay_node;
+#[cfg(test)]
+mod sample;
 mod server_node;
 mod target;
+#[cfg(test)]
+mod tests;
 mod topology;
 mod turn;
+mod word_texts;
 
 pub use acts::{Act, Verb};
 pub use client_node::{ClientNode, LEAST_REFRESH, MOST_REFRESH};
-pub use event::{Event, MOST_ADVANCE, MOST_BODY, MOST_BYTES, MOST_NUMBER};
+pub use event::{Event, MOST_ADVANCE, MOST_BODY, MOST_BYTES, MOST_NUMBER, MOST_SEQUENCE};
+pub use event_fault::EventFault;
 pub use event_list::Events;
+pub use event_printer::print_event;
+pub use event_reader::read_event;
 pub use mark::{Loss, Mark};
 pub use mark_list::{MOST_MARKS, Marks};
 pub use nat_node::{MOST_IDLE, NatNode};
@@ -53,3 +72,4 @@ pub use server_node::ServerNode;
 pub use target::Target;
 pub use turn::{Stop, Turn};
 pub use topology::{MOST_CLIENTS, MOST_NATIVES, MOST_NATS, MOST_RELAYS, MOST_SERVERS, Topology};
+pub use word_texts::ip4_word;

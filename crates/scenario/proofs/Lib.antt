@@ -1,9 +1,5 @@
 pub mod Numbers
-pub mod Addresses
-pub mod Datagrams
-pub mod EventWords
 pub mod EventsSoFar
-pub mod EventRules
 pub mod Names
 pub mod FreshRows
 pub mod NodesSoFar

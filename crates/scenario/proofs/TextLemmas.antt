@@ -64,5 +64,5 @@ pub few_events_of : (text : List ℕ) (s : Scenario) → scenario_of text ≡ So
 few_events_of text s e =
     let parts = scenario_of-parts text s e in
     let value = bind_some (get_member (codes "events") parts.table) (events_in s.topology) s.events parts.events in
-    let texts = bind_some (as_array value.0) events_of s.events value.2 in
-    few_events texts.0 s.events texts.2
+    let texts = bind_some (as_array value.0) (events_of s.topology) s.events value.2 in
+    few_events s.topology texts.0 s.events texts.2

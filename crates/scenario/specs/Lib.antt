@@ -1,6 +1,4 @@
 pub mod Words
-pub mod Rest
-pub mod EventText
 pub mod Tables
 pub mod NodeName
 pub mod Fresh

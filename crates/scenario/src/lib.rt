@@ -24,14 +24,11 @@
 //! | `fresh` | names and addresses that no node before has | `specs/Fresh.antt`, `specs/NodeName.antt` |
 //! | `server_tables`, `nat_tables` | the servers, the NATs | `specs/Servers.antt`, `specs/Nats.antt`, `specs/Built.antt` |
 //! | `event_lists` | the events | `specs/Scenario.antt` |
-//! | `event_text` | the event of a text | `specs/EventText.antt` |
-//! | `word_texts`, `datagram_text` | numbers, addresses, endpoints and bytes | `specs/Words.antt` |
+//! | `word_texts` | addresses | `specs/Words.antt` |
 //! | `laws` | what holds of every scenario | |
 #![tactic(auto)]
 
-mod datagram_text;
 mod event_lists;
-mod event_text;
 mod fresh;
 mod laws;
 mod nat_tables;
@@ -42,8 +39,6 @@ mod table_keys;
 mod tests;
 mod word_texts;
 
-pub use datagram_text::DATAGRAM_MOST;
 pub use event_lists::MOST_EVENTS;
-pub use event_text::NUMBER_MOST;
 pub use laws::rules_kept;
 pub use reader::{Scenario, ScenarioFault, TEXT_MOST, read};

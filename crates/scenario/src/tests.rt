@@ -64,7 +64,7 @@ fn tells_events_apart(rt: HostRuntime) -> Result<(), Fail> {
         ("deliver 7 8", false),
         (" deliver 7", false),
         ("Deliver 7", false),
-        ("next", false),
+        ("next", true),
         ("", false),
         ("stranger 1.2.3.4:0 5.6.7.8:0 -", true),
         ("stranger 10.0.0.1:65535 255.255.255.255:1 aBcDeF09", true),

@@ -1,0 +1,11 @@
+use Rattle.std.proofs.Common.{◌≡◌, rules}
+use Rattle.history.specs.declared.event.Event.TheVariants as event
+use Rattle.history.specs.EventSpelling.{event_text}
+use Rattle.history.proofs.SpellingLaws.{again_deliver}
+use Rattle.history.proofs.event_printer.deliver_text.Goals as goal
+
+pub returns-clause-again : goal.returns-clause-again
+unfolding event_text
+returns-clause-again c = λ t.
+    let same : c.push_number.new.text.items ≡ event_text t (event.Deliver c.args.number) = search rules in
+    rw same (again_deliver t c.args.number c.requires)

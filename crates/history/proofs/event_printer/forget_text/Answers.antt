@@ -1,0 +1,11 @@
+use Rattle.std.proofs.Common.{◌≡◌, arith}
+use Rattle.history.specs.declared.event.Event.TheVariants as event
+use Rattle.history.specs.EventSpelling.{event_text}
+use Rattle.history.proofs.SpellingLaws.{again_forget, joined_three}
+use Rattle.history.proofs.event_printer.forget_text.Goals as goal
+
+pub returns-clause-again : goal.returns-clause-again
+unfolding event_text
+returns-clause-again c = λ plain.
+    let same : c.push_node-2.new.text.items ≡ event_text c.args.t.now (event.Forget c.args.nat c.args.client) = grind (arith, joined_three) in
+    rw same (again_forget c.args.t.now c.args.nat c.args.client c.push_node.ensures.rules plain c.requires)

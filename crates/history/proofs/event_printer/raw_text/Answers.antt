@@ -1,0 +1,11 @@
+use Rattle.std.proofs.Common.{◌≡◌, arith}
+use Rattle.history.specs.declared.event.Event.TheVariants as event
+use Rattle.history.specs.EventSpelling.{event_text}
+use Rattle.history.proofs.SpellingLaws.{again_raw, joined_three}
+use Rattle.history.proofs.event_printer.raw_text.Goals as goal
+
+pub returns-clause-again : goal.returns-clause-again
+unfolding event_text
+returns-clause-again c = λ plain.
+    let same : c.push_bytes.new.text.items ≡ event_text c.args.t.now (event.Raw c.args.node c.args.bytes.now) = grind (arith, joined_three) in
+    rw same (again_raw c.args.t.now c.args.node c.args.bytes.now c.push_node.ensures.rules plain c.requires (λ i. omega (arith, c.type_inv.bytes i)))
