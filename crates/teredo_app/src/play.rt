@@ -3,12 +3,15 @@ ghost use Rattle.std.specs.Io.KnownBytes.{Appends};
 ghost use Rattle.td_outside.specs.Causes.{HasCause, Rose};
 ghost use Rattle.report.specs.Lines.{record_line};
 ghost use Rattle.report.specs.Totals.{totals_line};
+ghost use Rattle.std.specs.List.{AllByRecursion};
+ghost use Rattle.history.specs.Events.{IsEvent};
+ghost use Rattle.scenario.specs.Built.{HasOnlyBuilt};
 ghost use Rattle.scenario.specs.Told.{told};
 ghost use Rattle.teredo_app.specs.Streams.{AppendsFront};
 ghost use Rattle.teredo_app.specs.Reports.{ReportsOn, BeginsToReport};
 
 use crate::streams::{Fault, write_whole};
-use history::{Record, Topology};
+use history::{Record, Stop, Topology, Turn};
 use report::{Sums, line, summary};
 use scenario::{MOST_EVENTS, Scenario};
 use std::alloc::Global;
@@ -44,7 +47,9 @@ fn write_totals<K: Sink>(sums: &Sums, buf: &mut LineBuf, out: &mut K) -> Result<
 
 /// Plays the scenario, and writes its report, each line as soon as its record is made.
 pub fn write_report<K: Sink>(alloc: Global, s: &Scenario, out: &mut K) -> Result<(), Fault>
-    requires { length s.now.events ≤ MOST_EVENTS }
+    requires few { length s.now.events ≤ MOST_EVENTS }
+    requires built { HasOnlyBuilt s.now.topology }
+    requires legal { AllByRecursion (IsEvent s.now.topology) s.now.events }
     ensures ok { OnOk result (ReportsOn (told s.now) (K.holds out.old) (K.holds out.new)) }
     ensures err { OnErr result (BeginsToReport (told s.now) (K.holds out.old) (K.holds out.new)) }
     ensures quiet { OnOk result (K.faults out.new ≡ K.faults out.old) }
@@ -57,8 +62,12 @@ pub fn write_report<K: Sink>(alloc: Global, s: &Scenario, out: &mut K) -> Result
     let mut buf = LineBuf::new();
     let mut sums = Sums::new();
     for (index, event) in s.events.as_slice().iter().enumerate() {
-        let Ok(r) = world.step(index as u32, event) else {
-            return Err(Fault::NoMemory);
+        let r = match world.step(index as u32, event) {
+            Ok(Turn::Last(r)) => r,
+            // No event of servers and NATs has a further record, and each record makes one entry at most.
+            Ok(Turn::More(_)) => unreachable!(),
+            Err(Stop::WireFull) => unreachable!(),
+            Err(Stop::NoMemory) => return Err(Fault::NoMemory),
         };
         let Ok(()) = write_record(index as u64, &r, &s.topology, &mut buf, out) else {
             return Err(Fault::Failed);

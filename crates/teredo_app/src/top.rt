@@ -1,4 +1,7 @@
 ghost use Rattle.std.specs.Prelude.{◌≡◌, ◌≤◌, ℕ, List, Option, Some, None, map, string_bytes, length, option_map};
+ghost use Rattle.std.specs.List.{AllByRecursion};
+ghost use Rattle.history.specs.Events.{IsEvent};
+ghost use Rattle.scenario.specs.Built.{HasOnlyBuilt};
 ghost use Rattle.scenario.specs.Told.{told};
 ghost use Rattle.teredo_app.specs.Ends.{Outside, lab_file, show_word, LabEnds, ShowEnds, WordsEnd};
 ghost use Rattle.teredo_app.specs.ServeWords.{Asks, AskNothing};
@@ -64,7 +67,9 @@ fn write_line<K: Sink>(out: &mut K, line: &[u8], status: u8) -> u8
 
 /// Writes the report of a scenario, and answers the status.
 fn report_on<K: Sink>(alloc: Global, s: &Scenario, out: &mut K) -> u8
-    requires { length s.now.events ≤ MOST_EVENTS }
+    requires few { length s.now.events ≤ MOST_EVENTS }
+    requires built { HasOnlyBuilt s.now.topology }
+    requires legal { AllByRecursion (IsEvent s.now.topology) s.now.events }
     ensures { ReportEnds (K.holds out.old) (K.holds out.new) (K.faults out.old) (K.faults out.new) (told s.now) result }
 {
     match write_report(alloc, s, out) {

@@ -1,7 +1,7 @@
 use Rattle.std.proofs.Common.{◌≡◌, ◌≤◌, List, [], Some, sym, subst, refl, arith, ◌∙◌, ap, length}
 use Rattle.std.specs.Prelude.{slice_get}
 use Rattle.std.proofs.lemmas.Option.{slice_get_read}
-use Rattle.history.specs.declared.event_list.Event.{Event}
+use Rattle.history.specs.declared.event.Event.{Event}
 use Rattle.world.specs.World.{WorldState}
 use Rattle.report.specs.declared.totals.Sums.{Sums}
 use Rattle.report.specs.Totals.{sums_of}
