@@ -5,7 +5,7 @@ mod Wires
 mod Arrivals
 mod Emitted
 mod Delivered
-mod NextLaws
+pub mod NextLaws
 mod NoClients
 mod Opened
 mod NewNats
