@@ -70,6 +70,6 @@ pub use records::Record;
 pub use relay_node::RelayNode;
 pub use server_node::ServerNode;
 pub use target::Target;
-pub use turn::{Stop, Turn};
 pub use topology::{MOST_CLIENTS, MOST_NATIVES, MOST_NATS, MOST_RELAYS, MOST_SERVERS, Topology};
+pub use turn::{Stop, Turn};
 pub use word_texts::ip4_word;

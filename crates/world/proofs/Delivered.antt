@@ -7,7 +7,7 @@ use Rattle.std.proofs.lemmas.Bool.Decides.{eqb_tells}
 use Rattle.td_base.specs.declared.endpoint.Ep.{Ep}
 use Rattle.td_base.specs.declared.small.Span.{Span}
 use Rattle.teredo_node.specs.Step.{Step, Send}
-use Rattle.teredo_node.specs.Journal.{Input, arrived}
+use Rattle.teredo_node.specs.Journal.{arrived}
 use Rattle.teredo_node.specs.declared.fates.Fate.TheVariants as fate
 use Rattle.nat_kinds.specs.Nat.{NatState}
 use Rattle.history.specs.declared.server_node.ServerNode.{ServerNode}
@@ -21,7 +21,7 @@ use Rattle.ipv6_packet.specs.Reads.{is_packet, fields_in}
 use Rattle.history.specs.declared.records.Record.{Record}
 use Rattle.history.specs.Rows.{TopologyState}
 use Rattle.history.specs.Topology.{Node, server, side_at, is_native, number_of}
-use Rattle.history.specs.Full.{Item, udp, six, Made, sent, Full, wire, items_of}
+use Rattle.history.specs.Full.{Item, udp, six, Made, Full, items_of}
 use Rattle.history.specs.Records.{record_of, marks_of}
 use Rattle.server_core.specs.Server.{server_row}
 use Rattle.server_core.specs.Bounds.{count, outputs}
@@ -142,7 +142,7 @@ pub strayed : (d : Draws) (t : TopologyState) (states : List NatState) (m : ℕ)
     → Plays w w' (delivers d t H (numbered i e) n) (Ok word)
 strayed d t states m w w' H i e n item word k at goes within is says =
     rw (found d t states m w H (numbered i e) n item astray k at goes)
-      (says ∙ said_blank m i H e (act.Deliver n) None fate.Nowhere (Some n) k.moment, stayed w w' n _ is within refl refl)
+    (says ∙ said_blank m i H e (act.Deliver n) None fate.Nowhere (Some n) k.moment, stayed w w' n _ is within refl refl)
 
 -- a delivery that a NAT lets in to nobody
 pub shut_out : (d : Draws) (t : TopologyState) (states : List NatState) (m : ℕ) (w w' : WireState) (H : List Full) (i : ℕ) (e : Event) (n : ℕ) (item : Item) (word : Record) (node : ℕ)
@@ -151,7 +151,7 @@ pub shut_out : (d : Draws) (t : TopologyState) (states : List NatState) (m : ℕ
     → Plays w w' (delivers d t H (numbered i e) n) (Ok word)
 shut_out d t states m w w' H i e n item word node k at goes within is says =
     rw (found d t states m w H (numbered i e) n item (closed node) k at goes)
-      (says ∙ said_blank m i H e (act.Deliver n) (Some node) fate.NatClosed (Some n) k.moment, stayed w w' n _ is within refl refl)
+    (says ∙ said_blank m i H e (act.Deliver n) (Some node) fate.NatClosed (Some n) k.moment, stayed w w' n _ is within refl refl)
 
 -- A DELIVERY TO A SERVER
 
@@ -208,8 +208,8 @@ served_few w w1 w2 row src dst x step packet done is packed grows kept =
     let all : outright (server row) None 0 step.sends ++ packet_made packet ≡ made_by row src x step = ap (λ (ms : List Made). outright (server row) None 0 step.sends ++ ms) packed in
     let one = one_at_most row src dst x step is in
     let size : length w2.items ≡ length w.items + outputs step =
-        ap (λ (z : WireState). length z.items) kept
-        ∙ ap (λ (xs : List Item). length xs) (grows.items ∙ ap (λ (ms : List Made). w.items ++ entries_in ms) all)
-        ∙ length-append w.items (entries_in (made_by row src x step))
-        ∙ ap (λ (n : ℕ). length w.items + n) (outputs_count row src x step) in
+    ap (λ (z : WireState). length z.items) kept
+    ∙ ap (λ (xs : List Item). length xs) (grows.items ∙ ap (λ (ms : List Made). w.items ++ entries_in ms) all)
+    ∙ length-append w.items (entries_in (made_by row src x step))
+    ∙ ap (λ (n : ℕ). length w.items + n) (outputs_count row src x step) in
     omega (arith, size, one)

@@ -1,5 +1,5 @@
 -- What was sent so far, in the order of the sends.
-use Rattle.std.proofs.Common.{◌≡◌, ◌≤◌, ◌<◌, ◌+◌, ℕ, zero, suc, Bool, true, false, List, [], ◌∷◌, ◌++◌, length, take, get_or, Option, Some, None, refl, sym, ap, subst, ◌∙◌, arith, append_assoc, append-nil}
+use Rattle.std.proofs.Common.{◌≡◌, ◌+◌, ℕ, Bool, false, List, [], ◌∷◌, ◌++◌, length, take, Some, None, refl, sym, ap, subst, ◌∙◌, arith, append_assoc, append-nil}
 use Rattle.std.specs.Prelude.{filter_map, slice_get, replicate}
 use Rattle.std.proofs.lemmas.List.{take_more, replicate-append-replicate, length-append}
 use Rattle.std.proofs.Math.Seq.{take-append_seam}
@@ -11,7 +11,7 @@ use Rattle.history.specs.declared.mark.Mark.{Mark}
 use Rattle.history.specs.declared.mark.Mark.TheVariants as mark
 use Rattle.history.specs.Topology.{Node, server, own_ep}
 use Rattle.history.specs.Full.{Item, udp, Made, sent, lost, item_in}
-use Rattle.history.specs.Records.{mark_of, after_made, marks_of}
+use Rattle.history.specs.Records.{mark_of, marks_of}
 use Rattle.world.specs.Emit.{outright, made_outright}
 use Rattle.world.specs.Held.{WireState, with_item, front_of}
 use Rattle.world.specs.Steps.{Extends, Grows}

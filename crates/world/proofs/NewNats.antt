@@ -1,7 +1,6 @@
 -- NATs to which nothing happened yet.
-use Rattle.std.proofs.Common.{◌≡◌, ◌≤◌, ◌⊎◌, inl, inr, ℕ, zero, suc, List, [], ◌∷◌, ◌++◌, length, Option, Some, None, refl, sym, ap, subst, ◌∙◌, arith}
+use Rattle.std.proofs.Common.{◌≡◌, ◌≤◌, ◌⊎◌, inl, inr, ℕ, zero, suc, List, [], ◌∷◌, ◌++◌, length, Some, None, refl, sym, ap, subst, ◌∙◌, arith}
 use Rattle.std.specs.Prelude.{slice_get}
-use Rattle.std.specs.List.{AllByRecursion}
 use Rattle.nat_kinds.specs.Nat.{NatState}
 use Rattle.history.specs.declared.nat_node.NatNode.{NatNode}
 use Rattle.world.specs.Ways.{IsNatOf, AreNew, AreReady}

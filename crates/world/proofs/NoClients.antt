@@ -1,6 +1,6 @@
 -- Servers and NATs alone: nothing falls due, nobody is behind a NAT, and a NAT's history has its restarts alone.
 use Rattle.std.proofs.Common.{◌≡◌, ◌≢◌, ℕ, zero, suc, ◌+◌, ◌<◌, ◌==◌, Bool, true, false, cond, List, [], ◌∷◌, ◌++◌, length, map, set, Option, Some, None, refl, sym, ap, subst, ◌∙◌, arith, inl, inr, ◌⊎◌}
-use Rattle.std.specs.Prelude.{slice_get, option_map, option_and_then}
+use Rattle.std.specs.Prelude.{slice_get, option_and_then}
 use Rattle.std.proofs.lemmas.Bool.{ne_eqb, eq-eqb, false≢true}
 use Rattle.std.proofs.lemmas.Bool.Decides.{eqb_tells}
 use Rattle.std.proofs.lemmas.Option.{slice_get_within}
@@ -10,16 +10,12 @@ use Rattle.nat_kinds.specs.Nat.{NatState}
 use Rattle.nat_kinds.specs.Nat as nats
 use Rattle.history.specs.declared.server_node.ServerNode.{ServerNode}
 use Rattle.history.specs.declared.nat_node.NatNode.{NatNode}
-use Rattle.history.specs.declared.client_node.ClientNode.{ClientNode}
-use Rattle.history.specs.declared.event.Event.{Event}
-use Rattle.history.specs.declared.event.Event.TheVariants as event
-use Rattle.history.specs.declared.acts.Act.{Act}
 use Rattle.history.specs.Rows.{TopologyState}
-use Rattle.history.specs.Topology.{Node, server, nat, client, relay, native, nodes, node_at, client_at, as_client}
+use Rattle.history.specs.Topology.{Node, server, nat, nodes, node_at, client_at, as_client}
 use Rattle.history.specs.Events.{has_host, is_client_of}
 use Rattle.history.specs.Full.{Made, Full}
 use Rattle.world.specs.Past.{is_node, is_restart, at_nat, forgotten, outs_of, nat_entries, nat_history}
-use Rattle.world.specs.Next.{Due, least_due}
+use Rattle.world.specs.Next.{least_due}
 use Rattle.world.specs.Ways.{topology_of, NatsOf, IsNatOf, IsRestartOf}
 use Rattle.world.specs.World.{WorldState}
 
@@ -118,12 +114,12 @@ nat_restarts servers rows states H j old new r was settings stands of is = λ k 
       let here : Some new ≡ Some state = sym (ap (λ (i : ℕ). slice_get (set states j new) i) same ∙ set_there states j new (slice_get_within states j old was)) ∙ there in
       let is_new : new ≡ state = cc in
       let adds : nat_entries (topology_of servers rows) (length servers + k) r ≡ Restart ∷ [] =
-          restart_adds servers rows (length servers + k) (length servers + j) r is ∙ ap (λ (b : Bool). cond b (Restart ∷ []) []) (eq-eqb (length servers + k) (length servers + j) (ap (λ (i : ℕ). length servers + i) same)) in
+      restart_adds servers rows (length servers + k) (length servers + j) r is ∙ ap (λ (b : Bool). cond b (Restart ∷ []) []) (eq-eqb (length servers + k) (length servers + j) (ap (λ (i : ℕ). length servers + i) same)) in
       rw (adds, ← is_new) (record { settings = settings ∙ before.settings; stands = stands h before.stands })
   by k row state at there (inr (nope, other)) =
       let elsewhere : slice_get states k ≡ Some state = sym (set_elsewhere states j k new other) ∙ there in
       let adds : nat_entries (topology_of servers rows) (length servers + k) r ≡ [] =
-          restart_adds servers rows (length servers + k) (length servers + j) r is ∙ ap (λ (b : Bool). cond b (Restart ∷ []) []) (ne_eqb (length servers + k) (length servers + j) (λ e. other (let h : k ≡ j = omega (arith, e) in h))) in
+      restart_adds servers rows (length servers + k) (length servers + j) r is ∙ ap (λ (b : Bool). cond b (Restart ∷ []) []) (ne_eqb (length servers + k) (length servers + j) (λ e. other (let h : k ≡ j = omega (arith, e) in h))) in
       rw adds (of k row state at elsewhere)
 
 -- THE SAME IN A WORLD

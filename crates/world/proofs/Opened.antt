@@ -1,5 +1,5 @@
 -- The least-numbered entry that was never delivered, by what a world remembers.
-use Rattle.std.proofs.Common.{◌≡◌, ◌<◌, ◌≤◌, ◌+◌, ℕ, zero, suc, Bool, true, false, cond, List, [], ◌∷◌, ◌++◌, length, get_or, append-nil, Option, Some, None, Result, Ok, refl, sym, ap, subst, ◌∙◌, arith}
+use Rattle.std.proofs.Common.{◌≡◌, ◌<◌, ◌+◌, ℕ, zero, suc, Bool, true, false, List, [], ◌∷◌, length, get_or, append-nil, Some, None, Result, Ok, refl, sym, ap, subst, ◌∙◌, arith}
 use Rattle.teredo_node.specs.declared.fates.Fate.TheVariants as fate
 use Rattle.history.specs.declared.event.Event.TheVariants as event
 use Rattle.history.specs.declared.acts.Verb.TheVariants as verb
@@ -25,8 +25,8 @@ open_after H i (suc n) (x ∷ xs) within before at =
     let here : was_delivered i H ≡ true = ap (λ (k : ℕ). was_delivered k H) (sym first) ∙ before 0 (omega arith) in
     let next : i + suc n ≡ i + 1 + n = omega arith in
     rw here (open_after H (i + 1) n xs (omega (arith, within))
-      (λ k h. let step : i + suc k ≡ i + 1 + k = omega arith in ap (λ (j : ℕ). was_delivered j H) (sym step) ∙ before (suc k) (omega (arith, h)))
-      (ap (λ (j : ℕ). was_delivered j H) (sym next) ∙ at) ∙ ap (λ (j : ℕ). Some j) (sym next))
+    (λ k h. let step : i + suc k ≡ i + 1 + k = omega arith in ap (λ (j : ℕ). was_delivered j H) (sym step) ∙ before (suc k) (omega (arith, h)))
+    (ap (λ (j : ℕ). was_delivered j H) (sym next) ∙ at) ∙ ap (λ (j : ℕ). Some j) (sym next))
 
 -- all were
 open_never : (H : List Full) (i : ℕ) (xs : List Item) → ((k : ℕ) → k < length xs → was_delivered (i + k) H ≡ true) → first_open H i xs ≡ None
@@ -80,6 +80,7 @@ plays_none old new w d H i m word same held at s all says =
     let e = numbered i event.Next in
     let last = blank H e (plain verb.Next) None fate.NoEntry in
     let next : next_of d old.topology H i event.Next ≡ last = ap (delivers_or d old.topology H e last) (first_is_none H w.items w.done items marks all) in
-    subst (λ (r : Full). Plays (kept_wire old) (kept_wire new) r (Ok word)) (sym next)
-      (says ∙ ap (λ (j : ℕ). said j i (plain verb.Next) None fate.NoEntry []) (at ∙ s.moment),
-       subst (λ (x : WireState). Has (kept_wire old) x last) (sym same) (record { items = sym (append-nil old.wire); done = λ k. refl }))
+    subst (λ (r : Full). Plays (kept_wire old) (kept_wire new) r (Ok word)) (sym next) (
+      says ∙ ap (λ (j : ℕ). said j i (plain verb.Next) None fate.NoEntry []) (at ∙ s.moment),
+      subst (λ (x : WireState). Has (kept_wire old) x last) (sym same) (record { items = sym (append-nil old.wire); done = λ k. refl }),
+    )

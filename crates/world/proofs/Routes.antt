@@ -1,8 +1,8 @@
 -- Where a datagram goes among servers and NATs.
-use Rattle.std.proofs.Common.{◌≡◌, ℕ, zero, suc, ◌+◌, ◌<◌, Bool, true, false, List, [], ◌∷◌, ◌++◌, length, map, get_or, Option, Some, None, refl, sym, ap, subst, ◌∙◌, arith}
+use Rattle.std.proofs.Common.{◌≡◌, ℕ, zero, suc, ◌+◌, ◌<◌, Bool, List, [], ◌∷◌, ◌++◌, length, map, Option, Some, None, refl, sym, ap, ◌∙◌, arith}
 use Rattle.std.specs.Prelude.{position, option_map, slice_get}
 use Rattle.std.proofs.lemmas.List.{length-map}
-use Rattle.std.proofs.lemmas.Option.{slice_get-map, slice_get_read, slice_get_within}
+use Rattle.std.proofs.lemmas.Option.{slice_get-map}
 use Rattle.td_base.specs.declared.endpoint.Ep.{Ep}
 use Rattle.td_base.specs.declared.ipv6.Ip6.{Ip6}
 use Rattle.nat_kinds.specs.Entering.{lets_in}
@@ -12,12 +12,11 @@ use Rattle.nat_kinds.specs.Nat as nats
 use Rattle.nat_kinds.specs.History.{Entry}
 use Rattle.history.specs.declared.server_node.ServerNode.{ServerNode}
 use Rattle.history.specs.declared.nat_node.NatNode.{NatNode}
-use Rattle.history.specs.Rows.{TopologyState}
 use Rattle.history.specs.Topology.{Node, server, nat, nodes, node_at, is_at, is_behind, is_native, number_of, nat_settings}
 use Rattle.history.specs.Full.{Full}
 use Rattle.world.specs.Past.{nat_history}
-use Rattle.world.specs.Emit.{Route, reaches, closed, astray, reach, reach_node, through, route_inside}
-use Rattle.world.specs.Ways.{topology_of, NatsOf, IsNatOf}
+use Rattle.world.specs.Emit.{reaches, astray, reach, through, route_inside}
+use Rattle.world.specs.Ways.{topology_of, NatsOf}
 use Rattle.world.proofs.Position.{seek, position_is, seek_map, seek_first, seek_second, seek_from, seek_none}
 
 -- NODES BY THEIR NUMBERS

@@ -1,5 +1,5 @@
 -- What one step does to the histories that a world stands for.
-use Rattle.std.proofs.Common.{◌≡◌, ◌+◌, ℕ, Bool, true, false, append-nil, List, [], ◌∷◌, ◌++◌, length, get_or, Option, Some, None, Result, Ok, Err, refl, sym, ap, subst, ◌∙◌}
+use Rattle.std.proofs.Common.{◌≡◌, ◌+◌, ℕ, Bool, true, false, append-nil, List, [], ◌∷◌, ◌++◌, get_or, Option, Some, None, Result, Ok, Err, refl, sym, ap, subst, ◌∙◌}
 use Rattle.std.specs.Prelude.{◌||◌, filter_map}
 use Rattle.nat_kinds.specs.Nat.{NatState}
 use Rattle.teredo_node.specs.declared.fates.Fate.TheVariants as fate
@@ -15,10 +15,8 @@ use Rattle.history.specs.declared.turn.Stop.TheVariants.{WireFull, NoMemory}
 use Rattle.history.specs.Rows.{TopologyState}
 use Rattle.history.specs.Topology.{nodes}
 use Rattle.history.specs.Full.{Full, item_in, items_of}
-use Rattle.history.specs.Records.{record_of}
-use Rattle.history.specs.Telling.{IsTold}
 use Rattle.world.specs.declared.laboratory.TheConstants.{MOST_LEFT}
-use Rattle.world.specs.Past.{Draws, now, place, began, has_more, is_restart, forgotten, was_delivered, is_number}
+use Rattle.world.specs.Past.{Draws, began, has_more, forgotten, is_number}
 use Rattle.world.specs.Next.{numbered, plain, advanced, advance_with, next_of}
 use Rattle.world.specs.Legal.{GoesOn, Grown}
 use Rattle.world.specs.Held.{WireState}
@@ -59,13 +57,15 @@ at_once old new servers rows d H i e (Ok word) t s once m b ns p =
     let same = next_once d old.topology H i e once in
     let nobody : forgotten old.topology r.asked ≡ [] = ap (forgotten old.topology) is.asked ∙ forgets_nobody old.topology e once in
     let before : NatsOf (topology_of servers rows) old.nats H = subst (λ (x : TopologyState). NatsOf x old.nats H) (sym t) s.nats in
-    let stay : NatsOf (topology_of servers rows) old.nats (r ∷ H) = nats_stay servers rows old.nats H r before same.starts (ap (λ (x : TopologyState). forgotten x r.asked) t ∙ nobody) in
-    (p.0, record {
-      moment = m ∙ s.moment ∙ sym same.moment;
-      began = b ∙ s.moment ∙ sym same.moment;
-      nats = subst (λ (x : TopologyState). NatsOf x new.nats (r ∷ H)) t (subst (λ (x : List NatState). NatsOf (topology_of servers rows) x (r ∷ H)) (sym ns) stay);
-      wire = p.1;
-    })
+    let stay : NatsOf (topology_of servers rows) old.nats (r ∷ H) = nats_stay servers rows old.nats H r before same.starts (ap (λ (x : TopologyState). forgotten x r.asked) t ∙ nobody) in (
+      p.0,
+      record {
+        moment = m ∙ s.moment ∙ sym same.moment;
+        began = b ∙ s.moment ∙ sym same.moment;
+        nats = subst (λ (x : TopologyState). NatsOf x new.nats (r ∷ H)) t (subst (λ (x : List NatState). NatsOf (topology_of servers rows) x (r ∷ H)) (sym ns) stay);
+        wire = p.1;
+      },
+    )
 at_once old new servers rows d H i e (Err WireFull) t s once m b ns p = p.0
 at_once old new servers rows d H i e (Err NoMemory) t s once m b ns p = p.0
 
@@ -79,7 +79,7 @@ put_once old new w w' servers rows d H i e result t s once is held same p =
     let before : Plays (kept_wire old) w' (next_of d old.topology H i e) result = subst (λ (x : WireState). Plays x w' (next_of d old.topology H i e) result) held p in
     let after : w' ≡ kept_wire new = sym (ap kept_wire is) in
     at_once old new servers rows d H i e result t s once (ap (λ (x : WorldState). x.moment) is) (ap (λ (x : WorldState). x.began) is ∙ same) (ap (λ (x : WorldState). x.nats) is)
-      (subst (λ (x : WireState). Plays (kept_wire old) x (next_of d old.topology H i e) result) after before)
+    (subst (λ (x : WireState). Plays (kept_wire old) x (next_of d old.topology H i e) result) after before)
 
 -- a record in which nothing is sent or delivered, at a moment
 quiet_wire : (old new : WorldState) (r : Full) → new.wire ≡ old.wire → new.done ≡ old.done → r.made ≡ [] → r.delivered ≡ None → Has (kept_wire old) (kept_wire new) r
@@ -100,12 +100,15 @@ time_passes old new servers rows d H i ms word t s is same says =
     let then : old.moment + ms ≡ began H + ms = ap (λ (m : ℕ). m + ms) (sym same ∙ s.began) in
     let before : NatsOf (topology_of servers rows) old.nats H = subst (λ (x : TopologyState). NatsOf x old.nats H) (sym t) s.nats in
     let stay : NatsOf (topology_of servers rows) old.nats (advanced H e (began H + ms) ∷ H) = nats_stay servers rows old.nats H (advanced H e (began H + ms)) before refl refl in
-    subst (λ (r : Full). PlaysOut old new H r (Ok word)) (sym next) (says ∙ ap (λ (m : ℕ). said m i (plain verb.Advance) None fate.Done []) then, record {
-      moment = ap (λ (w : WorldState). w.moment) is ∙ then;
-      began = ap (λ (w : WorldState). w.began) is ∙ then;
-      nats = subst (λ (x : TopologyState). NatsOf x new.nats (advanced H e (began H + ms) ∷ H)) t (subst (λ (x : List NatState). NatsOf (topology_of servers rows) x (advanced H e (began H + ms) ∷ H)) (sym (ap (λ (w : WorldState). w.nats) is)) stay);
-      wire = quiet_wire old new (advanced H e (began H + ms)) (ap (λ (w : WorldState). w.wire) is) (ap (λ (w : WorldState). w.done) is) refl refl;
-    })
+    subst (λ (r : Full). PlaysOut old new H r (Ok word)) (sym next) (
+      says ∙ ap (λ (m : ℕ). said m i (plain verb.Advance) None fate.Done []) then,
+      record {
+        moment = ap (λ (w : WorldState). w.moment) is ∙ then;
+        began = ap (λ (w : WorldState). w.began) is ∙ then;
+        nats = subst (λ (x : TopologyState). NatsOf x new.nats (advanced H e (began H + ms) ∷ H)) t (subst (λ (x : List NatState). NatsOf (topology_of servers rows) x (advanced H e (began H + ms) ∷ H)) (sym (ap (λ (w : WorldState). w.nats) is)) stay);
+        wire = quiet_wire old new (advanced H e (began H + ms)) (ap (λ (w : WorldState). w.wire) is) (ap (λ (w : WorldState). w.done) is) refl refl;
+      },
+    )
 
 -- a node starts anew
 pub starts_anew : (old new : WorldState) (d : Draws) (H : List Full) (i n : ℕ) (word : Record)
@@ -113,13 +116,15 @@ pub starts_anew : (old new : WorldState) (d : Draws) (H : List Full) (i n : ℕ)
     → ((H : List Full) → NatsOf old.topology old.nats H → (r : Full) → IsRestartOf n r → NatsOf old.topology new.nats (r ∷ H))
     → word ≡ said old.moment i (plain verb.Restart) (Some n) fate.Done []
     → PlaysOut old new H (next_of d old.topology H i (event.Restart n)) (Ok word)
-starts_anew old new d H i n word s is same restarts says =
-    (says ∙ ap (λ (m : ℕ). said m i (plain verb.Restart) (Some n) fate.Done []) s.moment, record {
-      moment = ap (λ (w : WorldState). w.moment) is ∙ s.moment;
-      began = ap (λ (w : WorldState). w.began) is ∙ same ∙ s.moment;
-      nats = restarts H s.nats (next_of d old.topology H i (event.Restart n)) (record { node = refl; restart = refl; none = refl });
-      wire = quiet_wire old new (next_of d old.topology H i (event.Restart n)) (ap (λ (w : WorldState). w.wire) is) (ap (λ (w : WorldState). w.done) is) refl refl;
-    })
+starts_anew old new d H i n word s is same restarts says = (
+  says ∙ ap (λ (m : ℕ). said m i (plain verb.Restart) (Some n) fate.Done []) s.moment,
+  record {
+    moment = ap (λ (w : WorldState). w.moment) is ∙ s.moment;
+    began = ap (λ (w : WorldState). w.began) is ∙ same ∙ s.moment;
+    nats = restarts H s.nats (next_of d old.topology H i (event.Restart n)) (record { node = refl; restart = refl; none = refl });
+    wire = quiet_wire old new (next_of d old.topology H i (event.Restart n)) (ap (λ (w : WorldState). w.wire) is) (ap (λ (w : WorldState). w.done) is) refl refl;
+  },
+)
 
 -- WHAT A STEP DOES
 
@@ -127,10 +132,13 @@ stands : (d : Draws) (old new : WorldState) (H : List Full) (i : ℕ) (e : Event
     → StandsFor d old H → GoesOn H e → r ≡ next_of d old.topology H i e → r.event ≡ i → r.asked ≡ e → has_more r.asked r.act ≡ false
     → new.topology ≡ old.topology → new.left ≡ MOST_LEFT → After old new H r → StandsFor d new (r ∷ H)
 stands d old new H i e r s goes is number asked last t l a = record {
-  grown = subst (λ (x : TopologyState). Grown d x (r ∷ H)) (sym t) (record {
-    goes_on = subst (GoesOn H) (sym asked) goes;
-    is = is ∙ ap (λ (j : ℕ). next_of d old.topology H j e) (sym number) ∙ ap (next_of d old.topology H r.event) (sym asked);
-  }, s.grown);
+  grown = subst (λ (x : TopologyState). Grown d x (r ∷ H)) (sym t) (
+    record {
+      goes_on = subst (GoesOn H) (sym asked) goes;
+      is = is ∙ ap (λ (j : ℕ). next_of d old.topology H j e) (sym number) ∙ ap (next_of d old.topology H r.event) (sym asked);
+    },
+    s.grown,
+  );
   moment = a.moment;
   began = a.began ∙ rw last refl;
   nats = subst (λ (x : TopologyState). NatsOf x new.nats (r ∷ H)) (sym t) a.nats;

@@ -1,5 +1,5 @@
 -- A wire that is cut is a wire.
-use Rattle.std.proofs.Common.{◌≡◌, ◌<◌, ◌≤◌, ℕ, zero, suc, true, false, Bool, List, [], ◌∷◌, length, take, get_or, min, refl, sym, ◌∙◌, subst, arith}
+use Rattle.std.proofs.Common.{◌≡◌, ◌≤◌, ℕ, zero, suc, false, Bool, List, [], ◌∷◌, length, take, min, sym, ◌∙◌, arith}
 use Rattle.std.specs.List.{AllByRecursion}
 use Rattle.std.proofs.lemmas.List.{get_or-take, length-take-le}
 use Rattle.history.specs.Full.{Item}
@@ -13,6 +13,10 @@ all_take P (suc n) (x ∷ xs) all = (all.0, all_take P n xs all.1)
 pub cut_is_wire : (items : List Item) (done : List Bool) (low len : ℕ) → IsWire items done low → len ≤ length items → IsWire (take len items) (take len done) (min low len)
 cut_is_wire items done low len (each, most, short, within, before) fits =
     let a : length (take len items) ≡ len = length-take-le len items fits in
-    let b : length (take len done) ≡ len = length-take-le len done (omega (arith, each, fits)) in
-    (b ∙ sym a, omega (arith, a, most, fits), all_take IsShort len items short, omega (arith, a),
-     λ i h. get_or-take len done i false (omega (arith, h)) ∙ before i (omega (arith, h)))
+    let b : length (take len done) ≡ len = length-take-le len done (omega (arith, each, fits)) in (
+      b ∙ sym a,
+      omega (arith, a, most, fits),
+      all_take IsShort len items short,
+      omega (arith, a),
+      λ i h. get_or-take len done i false (omega (arith, h)) ∙ before i (omega (arith, h)),
+    )

@@ -20,7 +20,7 @@ use Rattle.history.specs.declared.server_node.ServerNode.{ServerNode}
 use Rattle.history.specs.declared.mark.Loss.{Loss}
 use Rattle.history.specs.declared.mark.Loss.TheVariants as loss
 use Rattle.history.specs.Rows.{TopologyState}
-use Rattle.history.specs.Topology.{Node, server, nat, client, relay, native, node_at, nat_at, nat_settings, settings_of_nat, is_at, is_behind, is_native, number_of, side_at, own_ep}
+use Rattle.history.specs.Topology.{Node, server, nat, client, native, node_at, nat_at, nat_settings, settings_of_nat, is_at, is_behind, is_native, number_of, side_at, own_ep}
 use Rattle.history.specs.Full.{Item, udp, six, Made, sent, lost, Full}
 use Rattle.world.specs.Past.{Draws, nat_history, armed}
 

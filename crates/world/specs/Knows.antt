@@ -1,5 +1,5 @@
 -- What the parts of a world know of a history.
-use Rattle.std.specs.Prelude.{◌≡◌, ◌||◌, ℕ, Bool, false, List, get_or}
+use Rattle.std.specs.Prelude.{◌≡◌, ℕ, false, List, get_or}
 use Rattle.nat_kinds.specs.Nat.{NatState}
 use Rattle.history.specs.Rows.{TopologyState}
 use Rattle.history.specs.Full.{Full, wire}

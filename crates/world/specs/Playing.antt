@@ -1,5 +1,5 @@
 -- What one event does to a world, for the contracts of private functions.
-use Rattle.std.specs.Prelude.{◌≡◌, ◌≢◌, ◌<◌, ◌+◌, ℕ, List, [], ◌∷◌, length, Result, Ok, Err}
+use Rattle.std.specs.Prelude.{◌≡◌, ◌≢◌, ◌<◌, ◌+◌, List, [], ◌∷◌, length, Result, Ok, Err}
 use Rattle.history.specs.declared.records.Record.{Record}
 use Rattle.history.specs.declared.turn.Stop.{Stop}
 use Rattle.history.specs.declared.turn.Stop.TheVariants.{WireFull, NoMemory}

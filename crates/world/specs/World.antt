@@ -1,5 +1,5 @@
 -- What contracts see of a world, and how `step` follows the history.
-use Rattle.std.specs.Prelude.{◌≡◌, ◌≢◌, ℕ, ◌+◌, ◌-◌, ◌<◌, ◌^◌, nat_le, max, if◌then◌else◌, Bool, true, false, List, [], ◌∷◌, ◌++◌, length, filter, sum_by, get_or, Option, Some, None, Result, Ok, Err}
+use Rattle.std.specs.Prelude.{◌≡◌, ◌≢◌, ℕ, ◌+◌, ◌-◌, ◌<◌, nat_le, max, if◌then◌else◌, Bool, true, false, List, [], ◌∷◌, ◌++◌, length, filter, sum_by, get_or, Option, Some, None}
 use Rattle.nat_kinds.specs.Nat.{NatState}
 use Rattle.history.specs.declared.event.Event.{Event}
 use Rattle.history.specs.declared.event.Event.TheVariants as event
@@ -15,7 +15,7 @@ use Rattle.history.specs.Records.{record_of}
 use Rattle.history.specs.Telling.{IsTold}
 use Rattle.world.specs.declared.wire.TheConstants.{MOST_ENTRIES}
 use Rattle.world.specs.declared.laboratory.TheConstants.{MOST_LEFT}
-use Rattle.world.specs.Past.{now, place, began, has_more, was_delivered, Draws}
+use Rattle.world.specs.Past.{now, began, has_more, was_delivered, Draws}
 use Rattle.world.specs.Next.{next_of}
 use Rattle.world.specs.Legal.{GoesOn, Grown}
 use Rattle.world.specs.Ways.{NatsOf}

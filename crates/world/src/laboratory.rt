@@ -57,14 +57,14 @@ impl Model for World {
     ghost Value = { WorldState };
 
     ghost view = { λ w. record {
-        topology = topology_of w.servers.items w.rows.items;
-        moment = w.moment.0;
-        began = w.moment.0;
-        nats = w.nats.items;
-        wire = w.wire.items;
-        done = w.wire.done;
-        left = MOST_LEFT;
-        stopped = w.stopped;
+      topology = topology_of w.servers.items w.rows.items;
+      moment = w.moment.0;
+      began = w.moment.0;
+      nats = w.nats.items;
+      wire = w.wire.items;
+      done = w.wire.done;
+      left = MOST_LEFT;
+      stopped = w.stopped;
     } };
 
     ghost invariant = { λ w. (length w.servers.items ≤ MOST_SERVERS) × (length w.rows.items ≤ MOST_NATS)
@@ -218,10 +218,27 @@ impl World {
                     verb: Verb::Stranger,
                 };
                 let bytes = bytes.as_slice();
-                put_bytes(alloc, &mut self.wire, self.moment, index, act, *src, *dst, bytes)
+                put_bytes(
+                    alloc,
+                    &mut self.wire,
+                    self.moment,
+                    index,
+                    act,
+                    *src,
+                    *dst,
+                    bytes,
+                )
             }
             Event::Copy { number, src, dst } => {
-                copy(alloc, &mut self.wire, self.moment, index, *number, *src, *dst)
+                copy(
+                    alloc,
+                    &mut self.wire,
+                    self.moment,
+                    index,
+                    *number,
+                    *src,
+                    *dst,
+                )
             }
             Event::Restart { node } => Ok(self.restart(index, *node)),
             // No node of this world has a host, and no client is behind a NAT.

@@ -1,4 +1,4 @@
-use Rattle.std.proofs.Common.{◌≡◌, refl, sym, ap, ◌∙◌, subst}
+use Rattle.std.proofs.Common.{refl, ◌∙◌}
 use Rattle.world.proofs.Arrivals.{asked_by}
 use Rattle.world.proofs.asking.ask.Goals as goal
 

@@ -1,4 +1,4 @@
-use Rattle.std.proofs.Common.{◌≡◌, None, Some, refl, sym, ap, ◌∙◌, List, ℕ, Option}
+use Rattle.std.proofs.Common.{None, Some}
 use Rattle.history.specs.Topology.{server}
 use Rattle.world.specs.Emit.{outright}
 use Rattle.world.specs.Steps.{packet_made}

@@ -1,4 +1,3 @@
-use Rattle.std.proofs.Common.{◌≡◌, refl, sym, ap, ◌∙◌}
 use Rattle.teredo_node.specs.Step.{Send}
 use Rattle.world.proofs.Emitted.{one_more}
 use Rattle.world.proofs.emitting.put_sends.Goals as goal

@@ -1,4 +1,4 @@
-use Rattle.std.proofs.Common.{◌≡◌, ◌<◌, ◌+◌, length, refl, sym, ◌∙◌, arith, None, Some}
+use Rattle.std.proofs.Common.{◌<◌, ◌+◌, length, refl, sym, ◌∙◌, None, Some}
 use Rattle.std.proofs.lemmas.Option.{slice_get_read}
 use Rattle.world.proofs.Position.{position_within}
 use Rattle.world.proofs.Routes.{to_server, to_nobody, to_nat, nobody_behind}
@@ -9,7 +9,7 @@ returns-in-Some c = λ H of bytes.
     let servers = c.args.servers.now in
     let found = sym c.server_at.ensures ∙ c.in-Some.is in
     to_server servers c.args.rows.now H c.args.now.0 c.args.src c.args.dst c.in-Some.place c.index-servers-place.result found
-      (slice_get_read servers (length servers) c.in-Some.place c.index-servers-place.result refl (position_within _ servers c.in-Some.place found) c.index-servers-place.is)
+    (slice_get_read servers (length servers) c.in-Some.place c.index-servers-place.result refl (position_within _ servers c.in-Some.place found) c.index-servers-place.is)
 
 pub returns-in_default-nat_at : goal.returns-in_default-nat_at
 returns-in_default-nat_at c = λ H of bytes.

@@ -1,4 +1,3 @@
-use Rattle.world.proofs.Stepped.{steps}
 use Rattle.world.specs.Ways.{topology_of}
 use Rattle.world.specs.Knows.{Knows}
 use Rattle.world.proofs.laboratory.World.deliver.Goals as goal

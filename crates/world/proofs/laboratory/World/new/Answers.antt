@@ -1,4 +1,4 @@
-use Rattle.std.proofs.Common.{◌≡◌, List, refl, sym, ap, subst, ◌∙◌}
+use Rattle.std.proofs.Common.{List, refl, sym, ap, subst, ◌∙◌}
 use Rattle.history.specs.declared.nat_node.NatNode.{NatNode}
 use Rattle.world.specs.Held.{WireState}
 use Rattle.world.specs.Ways.{AreNew}

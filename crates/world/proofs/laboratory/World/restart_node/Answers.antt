@@ -1,4 +1,4 @@
-use Rattle.std.proofs.Common.{refl, sym, ap, subst, ◌∙◌, ◌+◌, ◌-◌, ◌≡◌, ◌<◌, length, set, arith}
+use Rattle.std.proofs.Common.{refl, sym, ap, subst, ◌+◌, ◌-◌, ◌≡◌, ◌<◌, length, arith}
 use Rattle.std.proofs.lemmas.Option.{slice_get_read}
 use Rattle.world.specs.World.{WorldState}
 use Rattle.world.proofs.NoClients.{server_restarts_in, nat_restarts_in}
@@ -18,4 +18,4 @@ returns-clause-nats c =
     let is : c.args.place ≡ length w.servers.items + j = omega (arith, c.len.ensures, c.len-2.ensures, c.if-place-len.false) in
     let within : j < length w.nats.items = omega (arith, is, fits, each) in
     nat_restarts_in c.args.self.now w.servers.items w.rows.items w.nats.items _ c.args.place j c.index_mut.result.now c.restart.new.self (ap (λ (x : WorldState). x.topology) c.self.view_is) (ap (λ (x : WorldState). x.nats) c.self.view_is) is
-      (slice_get_read w.nats.items (length w.nats.items) j c.index_mut.result.now refl within c.index_mut.ensures.value) c.restart.ensures.settings c.restart.ensures.stands refl
+    (slice_get_read w.nats.items (length w.nats.items) j c.index_mut.result.now refl within c.index_mut.ensures.value) c.restart.ensures.settings c.restart.ensures.stands refl

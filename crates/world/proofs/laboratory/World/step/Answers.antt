@@ -1,4 +1,4 @@
-use Rattle.std.proofs.Common.{◌≡◌, ◌∙◌, refl, sym, ap, subst}
+use Rattle.std.proofs.Common.{◌∙◌, sym, ap}
 use Rattle.world.specs.World.{WorldState}
 use Rattle.world.proofs.Stepped.{steps}
 use Rattle.world.proofs.laboratory.World.step.Goals as goal

@@ -1,4 +1,4 @@
-use Rattle.std.proofs.Common.{◌≡◌, ◌≤◌, refl, sym, subst, map, length}
+use Rattle.std.proofs.Common.{◌≤◌, refl, sym, subst, map, length}
 use Rattle.std.proofs.lemmas.List.{take-map}
 use Rattle.world.specs.Held.{item_of, WireState}
 use Rattle.world.proofs.Wires.{cut_is_wire}

@@ -1,4 +1,4 @@
-use Rattle.std.proofs.Common.{◌≡◌, ◌<◌, ◌-◌, ℕ, length, map}
+use Rattle.std.proofs.Common.{◌≡◌, ◌-◌, length, map}
 use Rattle.world.specs.Held.{item_of, IsWire}
 use Rattle.world.proofs.wire.Wire.first_undelivered.Given as goal
 
