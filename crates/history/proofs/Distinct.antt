@@ -6,12 +6,14 @@ use Rattle.std.specs.List.{list_any, AllByRecursion}
 use Rattle.td_base.specs.declared.ipv4.Ip4.{Ip4}
 use Rattle.td_base.specs.declared.reach.Policy.TheVariants.{Strict}
 use Rattle.td_base.specs.Ip4.{same_ip, same_ip_equiv}
-use Rattle.td_base.specs.Names.{same_name, same_name_equiv}
+use Rattle.td_base.specs.declared.node_name.Name.{Name}
+use Rattle.td_base.specs.Names.{name_text, same_name, same_name_equiv}
 use Rattle.td_base.specs.Reach.{is_global}
 use Rattle.history.specs.declared.server_node.ServerNode.{ServerNode}
 use Rattle.history.specs.declared.nat_node.NatNode.{NatNode}
 use Rattle.history.specs.declared.relay_node.RelayNode.{RelayNode}
 use Rattle.history.specs.declared.topology.TheConstants.{MOST_SERVERS, MOST_NATS}
+use Rattle.history.specs.NodeNames.{is_name}
 use Rattle.history.specs.Rows.{TopologyState, with_server, with_nat}
 use Rattle.history.specs.Topology.{Node, server, nat, client, relay, native, nodes, name_of}
 use Rattle.history.specs.Rules.{AreDistinct, names_of, addresses_of, IsIdle, IsTopology}
@@ -58,6 +60,13 @@ distinct_names front n back h e =
     let whole = map_both name_of front back in
     rw (map_both name_of front (n ∷ back)) (distinct_with same_name_equiv (map name_of front) (name_of n) (map name_of back) (rw whole at h) (rw whole at e))
 
+abbrev IsSpelled : Name → Type 0
+IsSpelled a = is_name (name_text a) ≡ true
+
+spelled_names : (front : List Node) (n : Node) (back : List Node) → AllByRecursion IsSpelled (map name_of (front ++ back)) → IsSpelled (name_of n) → AllByRecursion IsSpelled (map name_of (front ++ n ∷ back))
+spelled_names front n back h e =
+    rw (map_both name_of front (n ∷ back)) (each_with IsSpelled (map name_of front) (name_of n) (map name_of back) (rw (map_both name_of front back) at h) e)
+
 -- ---- addresses
 
 -- the addresses differ from one another, and are global
@@ -83,6 +92,7 @@ servers_last (z ∷ xs) row ys = ap (λ (l : List Ip4). z.primary ∷ z.secondar
 -- its name and its addresses are nobody's, and its addresses are global
 pub record IsFreshServer (t : TopologyState) (row : ServerNode) : Type 0 where
   pub name : list_any (same_name row.name) (names_of t) ≡ false
+  pub spelled : is_name (name_text row.name) ≡ true
   pub primary : list_any (same_ip row.primary) (addresses_of t) ≡ false
   pub secondary : list_any (same_ip row.secondary) (addresses_of t) ≡ false
   pub two : same_ip row.primary row.secondary ≡ false
@@ -95,6 +105,13 @@ names_server t row is fresh =
     let back = map nat t.nats ++ (map client t.clients ++ (map relay t.relays ++ map native t.natives)) in
     let P : List Node → Type 0 = λ ns. AreDistinct same_name (map name_of ns) in
     subst P (sym (map_last server t.servers row back)) (distinct_names front (server row) back is.names fresh.name)
+
+spelled_server : (t : TopologyState) (row : ServerNode) → IsTopology t → IsFreshServer t row → AllByRecursion IsSpelled (names_of (with_server t row))
+spelled_server t row is fresh =
+    let front = map server t.servers in
+    let back = map nat t.nats ++ (map client t.clients ++ (map relay t.relays ++ map native t.natives)) in
+    let P : List Node → Type 0 = λ ns. AllByRecursion IsSpelled (map name_of ns) in
+    subst P (sym (map_last server t.servers row back)) (spelled_names front (server row) back is.spelled fresh.spelled)
 
 reachable_server : (t : TopologyState) (row : ServerNode) → IsTopology t → IsFreshServer t row → IsReachable (addresses_of (with_server t row))
 reachable_server t row is fresh =
@@ -115,6 +132,7 @@ grown_server t row is fresh few no_clients no_natives =
       relays = is.relays;
       natives = is.natives;
       names = names_server t row is fresh;
+      spelled = spelled_server t row is fresh;
       addresses = reached.distinct;
       global = reached.global;
       idle = is.idle;
@@ -131,6 +149,7 @@ grown_server t row is fresh few no_clients no_natives =
 -- its name and its address are nobody's, its address is global, and its mappings live for a time within the limits
 pub record IsFreshNat (t : TopologyState) (row : NatNode) : Type 0 where
   pub name : list_any (same_name row.name) (names_of t) ≡ false
+  pub spelled : is_name (name_text row.name) ≡ true
   pub external : list_any (same_ip row.external) (addresses_of t) ≡ false
   pub global : is_global Strict row.external ≡ true
   pub idle : IsIdle row
@@ -145,6 +164,16 @@ names_nat t row is fresh =
     let P : List Node → Type 0 = λ ns. AreDistinct same_name (map name_of ns) in
     let Q : List Node → Type 0 = λ ns. list_any (same_name row.name) (map name_of ns) ≡ false in
     subst P (sym whole) (distinct_names (front ++ middle) (nat row) back (subst P old is.names) (subst Q old fresh.name))
+
+spelled_nat : (t : TopologyState) (row : NatNode) → IsTopology t → IsFreshNat t row → AllByRecursion IsSpelled (names_of (with_nat t row))
+spelled_nat t row is fresh =
+    let front = map server t.servers in
+    let middle = map nat t.nats in
+    let back = map client t.clients ++ (map relay t.relays ++ map native t.natives) in
+    let old : nodes t ≡ (front ++ middle) ++ back = sym (append_assoc front middle back) in
+    let whole : nodes (with_nat t row) ≡ (front ++ middle) ++ nat row ∷ back = ap (λ (l : List Node). front ++ l) (map_last nat t.nats row back) ∙ sym (append_assoc front middle (nat row ∷ back)) in
+    let P : List Node → Type 0 = λ ns. AllByRecursion IsSpelled (map name_of ns) in
+    subst P (sym whole) (spelled_names (front ++ middle) (nat row) back (subst P old is.spelled) fresh.spelled)
 
 reachable_nat : (t : TopologyState) (row : NatNode) → IsTopology t → IsFreshNat t row → IsReachable (addresses_of (with_nat t row))
 reachable_nat t row is fresh =
@@ -171,6 +200,7 @@ grown_nat t row is fresh few no_clients no_natives =
       relays = is.relays;
       natives = is.natives;
       names = names_nat t row is fresh;
+      spelled = spelled_nat t row is fresh;
       addresses = reached.distinct;
       global = reached.global;
       idle = each_last IsIdle t.nats row is.idle fresh.idle;

@@ -1,9 +1,10 @@
 -- The text of an event reads back as the event.
-use Rattle.std.proofs.Common.{◌≡◌, ℕ, zero, suc, ◌+◌, ◌<◌, ◌≤◌, ◌==◌, ◌&&◌, Bool, true, false, cond, List, [], ◌∷◌, ◌++◌, length, map, append_assoc, Option, Some, None, Result, Ok, Err, Vec, Global, refl, sym, ap, ◌∙◌, arith}
+use Rattle.std.proofs.Common.{◌≡◌, ℕ, zero, suc, ◌+◌, ◌<◌, ◌≤◌, ◌==◌, ◌&&◌, Bool, true, false, cond, List, [], ◌∷◌, ◌++◌, length, map, append_assoc, Option, Some, None, Result, Ok, Err, Vec, Global, refl, sym, ap, ◌∙◌, arith, ◌≢◌, ◌⊎◌, inl, inr, not, nat_le}
 use Rattle.std.specs.Prelude.{slice_get, option_map, position, decimal, IfOk}
-use Rattle.std.specs.List.{list_any, position_from, slice_split, join_with_byte, AllByRecursion}
+use Rattle.std.specs.List.{list_all, list_any, position_from, slice_split, join_with_byte, AllByRecursion}
 use Rattle.std.proofs.Math.Bool.{and-false}
-use Rattle.std.proofs.lemmas.Bool.{and_from, or_parts}
+use Rattle.std.proofs.lemmas.Bool.{and_from, and_parts, or_parts, false≢true}
+use Rattle.std.proofs.lemmas.Bool.Decides.{eqb_tells}
 use Rattle.hex.specs.Hex.{IsBytes}
 use Rattle.td_base.specs.Reading.{◌>>=◌}
 use Rattle.td_base.specs.Names.{name_text, same_name}
@@ -19,6 +20,8 @@ use Rattle.history.specs.declared.acts.Verb.{Verb}
 use Rattle.history.specs.declared.acts.Verb.TheVariants as verb
 use Rattle.history.specs.declared.target.Target.{Target}
 use Rattle.history.specs.declared.target.Target.TheVariants as target
+use Rattle.td_base.specs.declared.node_name.TheConstants.{NAME_LEN}
+use Rattle.history.specs.NodeNames.{is_name_byte, begins_with_letter, is_name}
 use Rattle.history.specs.Rows.{TopologyState}
 use Rattle.history.specs.Topology.{Node, nodes, node_at, name_of}
 use Rattle.history.specs.Rules.{AreDistinct, names_of, IsTopology}
@@ -124,6 +127,34 @@ is_word-target : (t : TopologyState) (to : Target) → HasPlainNames t → IsMad
 is_word-target t (target.Node number) plain made = is_word-name t number plain
 is_word-target t (target.At ip) plain made = is_word-ip6 ip made
 
+-- ---- names are plain
+
+name_byte_is_plain : (byte : ℕ) → is_name_byte byte ≡ true → (not (byte == 32) && not (byte == 58)) ≡ true
+name_byte_is_plain byte e = by (eqb_tells byte 32) (eqb_tells byte 58) where
+  by : ((byte == 32) ≡ true) × (byte ≡ 32) ⊎ ((byte == 32) ≡ false) × (byte ≢ 32) → ((byte == 58) ≡ true) × (byte ≡ 58) ⊎ ((byte == 58) ≡ false) × (byte ≢ 58) → (not (byte == 32) && not (byte == 58)) ≡ true
+  by (inl a) b = absurd (false≢true (ap is_name_byte (sym a.1) ∙ e))
+  by (inr a) (inl b) = absurd (false≢true (ap is_name_byte (sym b.1) ∙ e))
+  by (inr a) (inr b) = rw (a.0, b.0) refl
+
+name_bytes_are_plain : (text : List ℕ) → list_all is_name_byte text ≡ true → is_plain text ≡ true
+name_bytes_are_plain [] e = refl
+name_bytes_are_plain (x ∷ xs) e =
+    let both = and_parts (is_name_byte x) (list_all is_name_byte xs) e in
+    rw (name_byte_is_plain x both.0) (name_bytes_are_plain xs both.1)
+
+name_is_plain : (text : List ℕ) → is_name text ≡ true → is_plain text ≡ true
+unfolding is_name
+name_is_plain text e =
+    let front = and_parts (begins_with_letter text && list_all is_name_byte text) (nat_le (length text) NAME_LEN) e in
+    name_bytes_are_plain text (and_parts (begins_with_letter text) (list_all is_name_byte text) front.0).1
+
+each_is_plain : (names : List Name) → AllByRecursion (λ (a : Name). is_name (name_text a) ≡ true) names → AllByRecursion (λ (a : Name). is_plain (name_text a) ≡ true) names
+each_is_plain [] h = tt
+each_is_plain (a ∷ names) h = (name_is_plain (name_text a) h.0, each_is_plain names h.1)
+
+plain_names : (t : TopologyState) → IsTopology t → HasPlainNames t
+plain_names t is = each_is_plain (names_of t) is.spelled
+
 -- ---- events
 
 abbrev behind_first : Words → Words
@@ -162,22 +193,22 @@ unfolding event_text
 next_read t (Ok text) h = ap (event_of t) h ∙ again_next t
 next_read t (Err e) h = tt
 
-pub again_host : (t : TopologyState) (node : ℕ) (to : Target) (body : List ℕ) → IsTopology t → HasPlainNames t → IsEvent t (event.Host node to body) → IsMadeTarget to → IsBytes body → event_of t (event_text t (event.Host node to body)) ≡ Ok (event.Host node to body)
+pub again_host : (t : TopologyState) (node : ℕ) (to : Target) (body : List ℕ) → IsTopology t → IsEvent t (event.Host node to body) → IsMadeTarget to → IsBytes body → event_of t (event_text t (event.Host node to body)) ≡ Ok (event.Host node to body)
 unfolding event_behind
-again_host t node to body is plain legal made bytes =
-    read_back t (event.Host node to body) verb.Host (name_word t node ∷ target_word t to ∷ hex_word body ∷ []) refl (is_word-name t node plain, (is_word-target t to plain made, (is_word-bytes body bytes, tt)))
-    ∙ rw (kind_back has_host t node is.names refl legal.from, target_back t to is.names plain legal.target made, bytes_back MOST_BODY body legal.short bytes) refl
+again_host t node to body is legal made bytes =
+    read_back t (event.Host node to body) verb.Host (name_word t node ∷ target_word t to ∷ hex_word body ∷ []) refl (is_word-name t node (plain_names t is), (is_word-target t to (plain_names t is) made, (is_word-bytes body bytes, tt)))
+    ∙ rw (kind_back has_host t node is.names refl legal.from, target_back t to is.names (plain_names t is) legal.target made, bytes_back MOST_BODY body legal.short bytes) refl
 
-pub again_echo : (t : TopologyState) (node : ℕ) (to : Target) (seq : ℕ) → IsTopology t → HasPlainNames t → IsEvent t (event.Echo node to seq) → IsMadeTarget to → seq ≤ MOST_SEQUENCE → event_of t (event_text t (event.Echo node to seq)) ≡ Ok (event.Echo node to seq)
+pub again_echo : (t : TopologyState) (node : ℕ) (to : Target) (seq : ℕ) → IsTopology t → IsEvent t (event.Echo node to seq) → IsMadeTarget to → seq ≤ MOST_SEQUENCE → event_of t (event_text t (event.Echo node to seq)) ≡ Ok (event.Echo node to seq)
 unfolding event_behind
-again_echo t node to seq is plain legal made le =
-    read_back t (event.Echo node to seq) verb.Echo (name_word t node ∷ target_word t to ∷ decimal seq ∷ []) refl (is_word-name t node plain, (is_word-target t to plain made, (is_word-decimal seq (omega (arith, le)), tt)))
-    ∙ rw (kind_back has_host t node is.names refl legal.from, target_back t to is.names plain legal.target made, number_back MOST_SEQUENCE seq (omega arith) le) refl
+again_echo t node to seq is legal made le =
+    read_back t (event.Echo node to seq) verb.Echo (name_word t node ∷ target_word t to ∷ decimal seq ∷ []) refl (is_word-name t node (plain_names t is), (is_word-target t to (plain_names t is) made, (is_word-decimal seq (omega (arith, le)), tt)))
+    ∙ rw (kind_back has_host t node is.names refl legal.from, target_back t to is.names (plain_names t is) legal.target made, number_back MOST_SEQUENCE seq (omega arith) le) refl
 
-pub again_raw : (t : TopologyState) (node : ℕ) (bytes : List ℕ) → IsTopology t → HasPlainNames t → IsEvent t (event.Raw node bytes) → IsBytes bytes → event_of t (event_text t (event.Raw node bytes)) ≡ Ok (event.Raw node bytes)
+pub again_raw : (t : TopologyState) (node : ℕ) (bytes : List ℕ) → IsTopology t → IsEvent t (event.Raw node bytes) → IsBytes bytes → event_of t (event_text t (event.Raw node bytes)) ≡ Ok (event.Raw node bytes)
 unfolding event_behind
-again_raw t node bytes is plain legal are =
-    read_back t (event.Raw node bytes) verb.Raw (name_word t node ∷ hex_word bytes ∷ []) refl (is_word-name t node plain, (is_word-bytes bytes are, tt))
+again_raw t node bytes is legal are =
+    read_back t (event.Raw node bytes) verb.Raw (name_word t node ∷ hex_word bytes ∷ []) refl (is_word-name t node (plain_names t is), (is_word-bytes bytes are, tt))
     ∙ rw (kind_back has_host t node is.names refl legal.from, bytes_back MOST_BYTES bytes legal.short are) refl
 
 pub again_stranger : (t : TopologyState) (src dst : Ep) (bytes : List ℕ) → length bytes ≤ MOST_BYTES → IsEp src → IsEp dst → IsBytes bytes → event_of t (event_text t (event.Stranger src dst bytes)) ≡ Ok (event.Stranger src dst bytes)
@@ -192,17 +223,17 @@ again_copy t number src dst le from to =
     read_back t (event.Copy number src dst) verb.Copy (decimal number ∷ _ ∷ _ ∷ []) refl (is_word-decimal number (omega (arith, le)), (is_word-ep src from, (is_word-ep dst to, tt)))
     ∙ rw (number_back MOST_NUMBER number (omega arith) le, ep_of-text src from, ep_of-text dst to) refl
 
-pub again_restart : (t : TopologyState) (node : ℕ) → IsTopology t → HasPlainNames t → node < length (nodes t) → event_of t (event_text t (event.Restart node)) ≡ Ok (event.Restart node)
+pub again_restart : (t : TopologyState) (node : ℕ) → IsTopology t → node < length (nodes t) → event_of t (event_text t (event.Restart node)) ≡ Ok (event.Restart node)
 unfolding event_behind
-again_restart t node is plain lt =
+again_restart t node is lt =
     let x = within (nodes t) node lt in
-    read_back t (event.Restart node) verb.Restart (name_word t node ∷ []) refl (is_word-name t node plain, tt)
+    read_back t (event.Restart node) verb.Restart (name_word t node ∷ []) refl (is_word-name t node (plain_names t is), tt)
     ∙ rw (name_back any_kind t node x.0 is.names x.1 refl) refl
 
-pub again_forget : (t : TopologyState) (n who : ℕ) → IsTopology t → HasPlainNames t → IsEvent t (event.Forget n who) → event_of t (event_text t (event.Forget n who)) ≡ Ok (event.Forget n who)
+pub again_forget : (t : TopologyState) (n who : ℕ) → IsTopology t → IsEvent t (event.Forget n who) → event_of t (event_text t (event.Forget n who)) ≡ Ok (event.Forget n who)
 unfolding event_behind
-again_forget t n who is plain legal =
-    read_back t (event.Forget n who) verb.Forget (name_word t n ∷ name_word t who ∷ []) refl (is_word-name t n plain, (is_word-name t who plain, tt))
+again_forget t n who is legal =
+    read_back t (event.Forget n who) verb.Forget (name_word t n ∷ name_word t who ∷ []) refl (is_word-name t n (plain_names t is), (is_word-name t who (plain_names t is), tt))
     ∙ rw (kind_back is_nat t n is.names refl legal.by, kind_back (is_client_of n) t who is.names refl legal.behind) refl
 
 -- ---- how the words are joined

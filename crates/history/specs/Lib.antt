@@ -1,5 +1,6 @@
 pub mod Rows
 pub mod Topology
+pub mod NodeNames
 pub mod Rules
 pub mod Events
 pub mod Words

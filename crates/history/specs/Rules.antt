@@ -4,7 +4,7 @@ use Rattle.std.specs.List.{list_any, AllByRecursion}
 use Rattle.td_base.specs.Ip4.{same_ip}
 use Rattle.td_base.specs.Ip6.{same_ip6}
 use Rattle.td_base.specs.Ep.{same_ep}
-use Rattle.td_base.specs.Names.{same_name}
+use Rattle.td_base.specs.Names.{name_text, same_name}
 use Rattle.td_base.specs.Reach.{is_global, is_global6}
 use Rattle.td_base.specs.declared.ipv4.Ip4.{Ip4}
 use Rattle.td_base.specs.declared.ipv6.Ip6.{Ip6}
@@ -19,6 +19,7 @@ use Rattle.history.specs.declared.nat_node.NatNode.{NatNode}
 use Rattle.history.specs.declared.client_node.ClientNode.{ClientNode}
 use Rattle.history.specs.declared.relay_node.RelayNode.{RelayNode}
 use Rattle.history.specs.declared.native_node.NativeNode.{NativeNode}
+use Rattle.history.specs.NodeNames.{is_name}
 use Rattle.history.specs.Rows.{TopologyState}
 use Rattle.history.specs.Topology.{nodes, name_of, server_at, nat_at, relay_at}
 
@@ -69,6 +70,7 @@ pub record IsTopology (t : TopologyState) : Type 0 where
   pub relays : length t.relays ≤ MOST_RELAYS
   pub natives : length t.natives ≤ MOST_NATIVES
   pub names : AreDistinct same_name (names_of t)
+  pub spelled : AllByRecursion (λ (a : Name). is_name (name_text a) ≡ true) (names_of t)
   pub addresses : AreDistinct same_ip (addresses_of t)
   pub global : AllByRecursion (λ (ip : Ip4). is_global Strict ip ≡ true) (addresses_of t)
   pub idle : AllByRecursion IsIdle t.nats

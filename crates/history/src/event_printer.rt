@@ -12,7 +12,7 @@ ghost use Rattle.history.specs.Verbs.{verb_word};
 ghost use Rattle.history.specs.declared.event.Event.TheVariants as event;
 ghost use Rattle.history.specs.Events.{IsEvent};
 ghost use Rattle.history.specs.EventText.{event_of};
-ghost use Rattle.history.specs.EventSpelling.{hex_word, name_word, target_word, event_text, HasPlainNames, IsMadeTarget};
+ghost use Rattle.history.specs.EventSpelling.{hex_word, name_word, target_word, event_text, IsMadeTarget};
 
 use crate::acts::Verb;
 use crate::event::{Event, MOST_ADVANCE, MOST_BYTES, MOST_NUMBER};
@@ -155,7 +155,7 @@ fn host_text(
 ) -> Result<Vec<u8>, NoMemory>
     requires { IsEvent t.now (event.Host node to body.now) }
     ensures text { IfOk result (λ text. text.items ≡ event_text t.now (event.Host node to body.now)) }
-    ensures again { HasPlainNames t.now → IfOk result (λ text. event_of t.now text.items ≡ Ok (event.Host node to body.now)) }
+    ensures again { IfOk result (λ text. event_of t.now text.items ≡ Ok (event.Host node to body.now)) }
 {
     let mut text = begin(alloc, Verb::Host)?;
     push_node(&mut text, t, node)?;
@@ -174,7 +174,7 @@ fn echo_text(
 ) -> Result<Vec<u8>, NoMemory>
     requires { IsEvent t.now (event.Echo node to seq) }
     ensures text { IfOk result (λ text. text.items ≡ event_text t.now (event.Echo node to seq)) }
-    ensures again { HasPlainNames t.now → IfOk result (λ text. event_of t.now text.items ≡ Ok (event.Echo node to seq)) }
+    ensures again { IfOk result (λ text. event_of t.now text.items ≡ Ok (event.Echo node to seq)) }
 {
     let mut text = begin(alloc, Verb::Echo)?;
     push_node(&mut text, t, node)?;
@@ -187,7 +187,7 @@ fn echo_text(
 fn raw_text(alloc: Global, t: &Topology, node: u16, bytes: &[u8]) -> Result<Vec<u8>, NoMemory>
     requires { IsEvent t.now (event.Raw node bytes.now) }
     ensures text { IfOk result (λ text. text.items ≡ event_text t.now (event.Raw node bytes.now)) }
-    ensures again { HasPlainNames t.now → IfOk result (λ text. event_of t.now text.items ≡ Ok (event.Raw node bytes.now)) }
+    ensures again { IfOk result (λ text. event_of t.now text.items ≡ Ok (event.Raw node bytes.now)) }
 {
     let mut text = begin(alloc, Verb::Raw)?;
     push_node(&mut text, t, node)?;
@@ -225,7 +225,7 @@ fn copy_text(alloc: Global, number: u32, src: Ep, dst: Ep) -> Result<Vec<u8>, No
 fn restart_text(alloc: Global, t: &Topology, node: u16) -> Result<Vec<u8>, NoMemory>
     requires { IsEvent t.now (event.Restart node) }
     ensures text { IfOk result (λ text. text.items ≡ event_text t.now (event.Restart node)) }
-    ensures again { HasPlainNames t.now → IfOk result (λ text. event_of t.now text.items ≡ Ok (event.Restart node)) }
+    ensures again { IfOk result (λ text. event_of t.now text.items ≡ Ok (event.Restart node)) }
 {
     let mut text = begin(alloc, Verb::Restart)?;
     push_node(&mut text, t, node)?;
@@ -236,7 +236,7 @@ fn restart_text(alloc: Global, t: &Topology, node: u16) -> Result<Vec<u8>, NoMem
 fn forget_text(alloc: Global, t: &Topology, nat: u16, client: u16) -> Result<Vec<u8>, NoMemory>
     requires { IsEvent t.now (event.Forget nat client) }
     ensures text { IfOk result (λ text. text.items ≡ event_text t.now (event.Forget nat client)) }
-    ensures again { HasPlainNames t.now → IfOk result (λ text. event_of t.now text.items ≡ Ok (event.Forget nat client)) }
+    ensures again { IfOk result (λ text. event_of t.now text.items ≡ Ok (event.Forget nat client)) }
 {
     let mut text = begin(alloc, Verb::Forget)?;
     push_node(&mut text, t, nat)?;
@@ -248,8 +248,8 @@ fn forget_text(alloc: Global, t: &Topology, nat: u16, client: u16) -> Result<Vec
 pub fn print_event(alloc: Global, t: &Topology, e: &Event) -> Result<Vec<u8>, NoMemory>
     requires { IsEvent t.now e.now }
     ensures text { IfOk result (λ text. text.items ≡ event_text t.now e.now) }
-    // It reads back, where no name has a space or a colon.
-    ensures again { HasPlainNames t.now → IfOk result (λ text. event_of t.now text.items ≡ Ok e.now) }
+    // It reads back.
+    ensures again { IfOk result (λ text. event_of t.now text.items ≡ Ok e.now) }
 {
     match e {
         Event::Advance { ms } => advance_text(alloc, *ms),

@@ -25,7 +25,7 @@ record HoldsServers (count : ℕ) (t : TopologyState) : Type 0 where
 
 none_holds : HoldsServers 0 no_nodes
 none_holds = record {
-  rules = record { servers = omega arith; nats = omega arith; clients = omega arith; relays = omega arith; natives = omega arith; names = tt; addresses = tt; global = tt; idle = tt; each_client = tt; inside = tt; ports = tt; outside = tt; sixes = tt; through = tt };
+  rules = record { servers = omega arith; nats = omega arith; clients = omega arith; relays = omega arith; natives = omega arith; names = tt; spelled = tt; addresses = tt; global = tt; idle = tt; each_client = tt; inside = tt; ports = tt; outside = tt; sixes = tt; through = tt };
   kinds = (refl, refl, refl, refl);
   counted = refl;
 }

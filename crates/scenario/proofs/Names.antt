@@ -1,7 +1,7 @@
 -- The names that texts are.
 use Rattle.std.proofs.Common.{◌≡◌, ◌≢◌, ℕ, ◌-◌, ◌<◌, ◌≤◌, ◌&&◌, nat_le, leb-true, true, false, List, [], ◌∷◌, ◌++◌, length, take, Option, Some, None, refl, sym, ap, subst, ◌∙◌, arith, inl, inr}
 use Rattle.std.specs.Prelude.{replicate, IfSome, IfNone, ◌⊎◌}
-use Rattle.std.proofs.lemmas.List.{length-take, take_all}
+use Rattle.std.proofs.lemmas.List.{length-take, take_all, take_at}
 use Rattle.std.proofs.lemmas.Bool.{and_parts}
 use Rattle.std.proofs.Props.{props}
 use Rattle.std.specs.List.{list_all}
@@ -9,7 +9,8 @@ use Rattle.td_base.specs.declared.node_name.Name.{Name}
 use Rattle.td_base.specs.declared.node_name.TheConstants.{NAME_LEN}
 use Rattle.td_base.specs.Names.{name_text}
 use Rattle.scenario.specs.NodeName.{name, padded}
-use Rattle.scenario.specs.Fresh.{is_name, name_of, begins_with_letter, is_name_byte}
+use Rattle.history.specs.NodeNames.{is_name, begins_with_letter, is_name_byte}
+use Rattle.scenario.specs.Fresh.{name_of}
 
 abbrev build : (n : ℕ) (l : List ℕ) → length l ≡ NAME_LEN → n ≤ NAME_LEN → l ≡ take n l ++ replicate (NAME_LEN - n) 0 → Name
 build n l w s p = record { len = n; bytes = l; whole = w; short = s; padded = p }
@@ -54,6 +55,13 @@ name_is a text short e =
 pub is_name-short : (text : List ℕ) → is_name text ≡ true → length text ≤ NAME_LEN
 unfolding is_name
 is_name-short text e = leb-true _ _ (and_parts (begins_with_letter text && list_all is_name_byte text) (nat_le (length text) NAME_LEN) e).1
+
+-- the text of the name that a text is
+pub name-text : (text : List ℕ) → length text ≤ NAME_LEN → name_text (name text) ≡ text
+unfolding name
+name-text text short =
+    let front : take NAME_LEN text ≡ text = take_all NAME_LEN text short in
+    take_at (take NAME_LEN text) (replicate (NAME_LEN - length (take NAME_LEN text)) 0) (length (take NAME_LEN text)) refl ∙ front
 
 is_name-some : (text : List ℕ) → is_name text ≡ true → text ≡ [] → ⊥
 unfolding is_name

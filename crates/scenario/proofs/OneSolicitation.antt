@@ -12,7 +12,8 @@ use Rattle.scenario.specs.NodeName.{name}
 use Rattle.history.specs.Words.{number_of, ip4_of, ep_of, bytes_of}
 use Rattle.history.specs.Verbs.{verb_of}
 use Rattle.history.specs.EventText.{event_behind, event_of}
-use Rattle.scenario.specs.Fresh.{is_name, name_of, is_free_name, is_free_address, new_name, new_address}
+use Rattle.history.specs.NodeNames.{is_name}
+use Rattle.scenario.specs.Fresh.{name_of, is_free_name, is_free_address, new_name, new_address}
 use Rattle.scenario.specs.Servers.{server_of, add_server}
 use Rattle.scenario.specs.Scenario.{scenario_in, scenario_of}
 

@@ -9,27 +9,11 @@ use Rattle.td_base.specs.declared.reach.Policy.TheVariants.{Strict}
 use Rattle.td_base.specs.Ip4.{same_ip}
 use Rattle.td_base.specs.Names.{same_name}
 use Rattle.td_base.specs.Reach.{is_global}
+use Rattle.history.specs.NodeNames.{is_name}
 use Rattle.history.specs.Rows.{TopologyState}
 use Rattle.history.specs.Rules.{names_of, addresses_of}
 use Rattle.scenario.specs.NodeName.{name}
 use Rattle.scenario.specs.Words.{◌>>=◌, ip4_of}
-
--- the byte `_`
-abbrev pub underscore : ℕ
-underscore = 95
-
--- a letter, a digit or an underscore
-abbrev pub is_name_byte : ℕ → Bool
-is_name_byte byte = is_ascii_lowercase byte || is_ascii_digit byte || (byte == underscore)
-
--- the first byte is a letter
-abbrev pub begins_with_letter : List ℕ → Bool
-begins_with_letter [] = false
-begins_with_letter (byte ∷ more) = is_ascii_lowercase byte
-
--- 1 to 16 of the letters a to z, the digits and the underscore, of which the first is a letter
-unfoldable pub is_name : List ℕ → Bool
-is_name text = begins_with_letter text && list_all is_name_byte text && nat_le (length text) NAME_LEN
 
 -- the name that a text is
 unfoldable pub name_of : List ℕ → Option Name

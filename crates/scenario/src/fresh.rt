@@ -3,7 +3,8 @@ ghost use Rattle.std.specs.Prelude.{◌≡◌, ◌||◌};
 ghost use Rattle.std.specs.List.{list_all, list_any};
 ghost use Rattle.td_base.specs.Ip4.{same_ip};
 ghost use Rattle.td_base.specs.Names.{same_name};
-ghost use Rattle.scenario.specs.Fresh.{is_name_byte, begins_with_letter, is_name, name_of, is_free_name, is_free_address, new_name, new_address};
+ghost use Rattle.history.specs.NodeNames.{is_name_byte, begins_with_letter, is_name};
+ghost use Rattle.scenario.specs.Fresh.{name_of, is_free_name, is_free_address, new_name, new_address};
 
 use crate::word_texts::ip4_from;
 use history::{ClientNode, NatNode, NativeNode, RelayNode, ServerNode, Topology};
@@ -30,7 +31,7 @@ fn all_name_bytes(text: &[u8]) -> bool
     text.iter().all(|byte| is_name_byte(*byte))
 }
 
-#[tactic(auto, unfolding(crate::specs::Fresh::is_name))]
+#[tactic(auto, unfolding(history::specs::NodeNames::is_name))]
 fn is_name(text: &[u8]) -> bool
     ensures { result ≡ is_name text.now }
 {

@@ -6,6 +6,6 @@ use Rattle.history.proofs.event_printer.forget_text.Goals as goal
 
 pub returns-clause-again : goal.returns-clause-again
 unfolding event_text
-returns-clause-again c = λ plain.
+returns-clause-again c =
     let same : c.push_node-2.new.text.items ≡ event_text c.args.t.now (event.Forget c.args.nat c.args.client) = grind (arith, joined_three) in
-    rw same (again_forget c.args.t.now c.args.nat c.args.client c.push_node.ensures.rules plain c.requires)
+    rw same (again_forget c.args.t.now c.args.nat c.args.client c.push_node.ensures.rules c.requires)
