@@ -86,6 +86,36 @@ fn plays_no_events(rt: HostRuntime) -> Result<(), Fail> {
     Ok(())
 }
 
+const CLOSED_NAT: &str = r#"
+seed = 1
+events = [
+  "stranger 198.51.100.7:40000 198.51.100.1:1024 00",
+  "deliver 0",
+  "advance 60000",
+  "copy 0 203.0.113.5:3544 198.51.100.1:1025",
+  "next",
+  "next",
+  "restart n1",
+]
+
+[[nat]]
+name = "n1"
+kind = "cone"
+external = "198.51.100.1"
+idle = 60000
+"#;
+
+const CLOSED_NAT_REPORT: &str =
+    "0 0 0 stranger - put #0=198.51.100.7:40000>198.51.100.1:1024/1\n1 0 1 deliver:0 n1 nat_closed\n2 60000 2 advance - done\n3 60000 3 copy:0 - put #1=203.0.113.5:3544>198.51.100.1:1025/1\n4 60000 4 deliver:1 n1 nat_closed\n5 60000 5 next - no_entry\n6 60000 6 restart n1 done\ntotal records 7 entries 2 delivered 2 handed 0 kept 0 dropped 3\n";
+
+#[test]
+fn plays_a_nat_and_time(rt: HostRuntime) -> Result<(), Fail> {
+    let end = end_of(rt.alloc(), &LAB, CLOSED_NAT.as_bytes(), &[], &[])?;
+    assert_eq!(rt; end.sink.as_slice(), CLOSED_NAT_REPORT.as_bytes());
+    assert_eq!(rt; end.status, 0);
+    Ok(())
+}
+
 #[test]
 fn refuses_words(rt: HostRuntime) -> Result<(), Fail> {
     let none: [&[&str]; 5] = [
@@ -107,8 +137,8 @@ fn refuses_words(rt: HostRuntime) -> Result<(), Fail> {
 fn refuses_texts(rt: HostRuntime) -> Result<(), Fail> {
     let none: [&[u8]; 5] = [
         b"",
-        b"seed = 1\nevents = [\"next\"]\n",
-        b"seed = 1\nevents = []\nnat = []\n",
+        b"seed = 1\nevents = [\"host a a 00\"]\n",
+        b"seed = 1\nevents = []\nclient = []\n",
         b"seed",
         b"\xff\xfe",
     ];
