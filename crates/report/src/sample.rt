@@ -47,6 +47,15 @@ const SERVER_NODE: ServerNode = ServerNode {
     secondary: SECONDARY,
 };
 
+const LONG_NODE: ServerNode = ServerNode {
+    name: Name {
+        len: 16,
+        bytes: *b"abcdefghijklmnop",
+    },
+    primary: PRIMARY,
+    secondary: SECONDARY,
+};
+
 const NAT_NODE: NatNode = NatNode {
     name: Name {
         len: 2,
@@ -101,13 +110,16 @@ pub fn one_of_each(alloc: Global) -> Result<Topology, Fail> {
     Ok(t)
 }
 
-/// One server.
-pub fn one_server(alloc: Global, name: &[u8]) -> Result<Topology, Fail> {
+/// A topology with one server.
+pub fn one_server(alloc: Global) -> Result<Topology, Fail> {
     let mut t = Topology::new(alloc);
-    t.add_server(ServerNode {
-        name: Name::new(name).ok_or("a name")?,
-        primary: PRIMARY,
-        secondary: SECONDARY,
-    })?;
+    t.add_server(SERVER_NODE)?;
+    Ok(t)
+}
+
+/// A topology with one server, whose name is as long as a name can be.
+pub fn one_long_server(alloc: Global) -> Result<Topology, Fail> {
+    let mut t = Topology::new(alloc);
+    t.add_server(LONG_NODE)?;
     Ok(t)
 }

@@ -2,7 +2,8 @@
 ghost use Rattle.std.specs.Prelude.{◌≡◌, length};
 
 use crate::sample::{
-    CLIENT, MAPPED, NAT, NATIVE, RELAY, RELAY_AT, SERVER, SERVER_AT, one_of_each, one_server,
+    CLIENT, MAPPED, NAT, NATIVE, RELAY, RELAY_AT, SERVER, SERVER_AT, one_long_server, one_of_each,
+    one_server,
 };
 use crate::{Sums, line, summary};
 use history::{Act, Loss, MOST_MARKS, Mark, Marks, Record, Topology, Verb};
@@ -190,7 +191,7 @@ fn what_follows_the_fate(rt: HostRuntime) -> Result<(), Fail> {
 
 #[test]
 fn a_solicitation_and_its_answer(rt: HostRuntime) -> Result<(), Fail> {
-    let t = one_server(rt.alloc(), b"s1")?;
+    let t = one_server(rt.alloc())?;
     let mut asks = marked(
         word(Verb::Stranger),
         None,
@@ -282,7 +283,7 @@ fn what_a_host_was_handed_is_counted(rt: HostRuntime) {
 
 #[test]
 fn the_longest_line(rt: HostRuntime) -> Result<(), Fail> {
-    let t = one_server(rt.alloc(), b"abcdefghijklmnop")?;
+    let t = one_long_server(rt.alloc())?;
     let mut want = LineBuf::new();
     let begin =
         b"18446744073709551615 18446744073709551615 4294967295 deliver:4294967295 abcdefghijklmnop qualified_restricted";
