@@ -1,4 +1,5 @@
 mod Unique
+mod Framed
 mod Position
 mod Routes
 mod Wires

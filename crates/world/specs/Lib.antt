@@ -2,6 +2,7 @@ pub mod Past
 pub mod Emit
 pub mod Next
 pub mod Legal
+pub mod Frame
 pub mod Held
 pub mod Lent
 pub mod Arriving

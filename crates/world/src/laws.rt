@@ -1,9 +1,16 @@
 ghost use Rattle.std.specs.Prelude.{◌≡◌, List};
+ghost use Rattle.history.specs.Rows.{TopologyState};
 ghost use Rattle.history.specs.Topology.{Scenario};
 ghost use Rattle.history.specs.Full.{Full};
 ghost use Rattle.world.specs.Legal.{Legal};
+ghost use Rattle.world.specs.Frame.{Frames};
 
 /// A scenario has one legal history at most.
 pub fn one_history()
     ensures { (s : Scenario) (a b : List Full) → Legal a s → Legal b s → a ≡ b }
+{}
+
+/// A record changes one journal and one NAT's history at most, and only adds to the wire.
+pub fn frame()
+    ensures { (t : TopologyState) (h : List Full) (r : Full) → Frames t h r }
 {}

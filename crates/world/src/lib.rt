@@ -6,6 +6,7 @@
 //! - Whatever history a world stands for, `World::step` gives the record that follows in it, and the world then
 //!   stands for the history with that record (`specs/World.antt`).
 //! - A scenario has one legal history at most (`one_history`).
+//! - A record changes one journal and one NAT's history at most (`frame`).
 //!
 //! # What it does not know
 //!
@@ -21,7 +22,7 @@
 //! | `deliveries`, `puts`, `quiet` | the records of deliveries, of datagrams from nowhere, of the other events | `specs/Knows.antt`, `Steps.antt` |
 //! | `way` | where a datagram goes | `specs/Ways.antt` |
 //! | `arriving`, `asking`, `emitting` | a server is lent the datagram, answers, and its sends go on the wire | `specs/Arriving.antt`, `Steps.antt` |
-//! | `laws` | what holds of every history | `specs/Legal.antt` |
+//! | `laws` | what holds of every history | `specs/Legal.antt`, `Frame.antt` |
 #![tactic(auto)]
 
 mod arriving;
@@ -36,5 +37,5 @@ mod way;
 mod wire;
 
 pub use laboratory::{MOST_LEFT, MOST_MOMENT, World};
-pub use laws::one_history;
+pub use laws::{frame, one_history};
 pub use wire::{MOST_ENTRIES, WireEntry};
