@@ -1,5 +1,6 @@
 mod Unique
 mod Framed
+mod Asked
 mod Position
 mod Routes
 mod Wires

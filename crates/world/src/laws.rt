@@ -2,7 +2,8 @@ ghost use Rattle.std.specs.Prelude.{◌≡◌, List};
 ghost use Rattle.history.specs.Rows.{TopologyState};
 ghost use Rattle.history.specs.Topology.{Scenario};
 ghost use Rattle.history.specs.Full.{Full};
-ghost use Rattle.world.specs.Legal.{Legal};
+ghost use Rattle.world.specs.Past.{Draws};
+ghost use Rattle.world.specs.Legal.{Legal, Begun, Grown};
 ghost use Rattle.world.specs.Frame.{Frames};
 
 /// A scenario has one legal history at most.
@@ -13,4 +14,9 @@ pub fn one_history()
 /// A record changes one journal and one NAT's history at most, and only adds to the wire.
 pub fn frame()
     ensures { (t : TopologyState) (h : List Full) (r : Full) → Frames t h r }
+{}
+
+/// A history of a scenario is one of its topology.
+pub fn grown()
+    ensures { (d : Draws) (s : Scenario) (h : List Full) → Begun d s h → Grown d s.topology h }
 {}

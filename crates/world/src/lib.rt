@@ -5,7 +5,7 @@
 //! - A new world stands for the history without records.
 //! - Whatever history a world stands for, `World::step` gives the record that follows in it, and the world then
 //!   stands for the history with that record (`specs/World.antt`).
-//! - A scenario has one legal history at most (`one_history`).
+//! - A scenario has one legal history at most (`one_history`), which is one of its topology (`grown`).
 //! - A record changes one journal and one NAT's history at most (`frame`).
 //!
 //! # What it does not know
@@ -37,5 +37,5 @@ mod way;
 mod wire;
 
 pub use laboratory::{MOST_LEFT, MOST_MOMENT, World};
-pub use laws::{frame, one_history};
+pub use laws::{frame, grown, one_history};
 pub use wire::{MOST_ENTRIES, WireEntry};
