@@ -1,6 +1,7 @@
 mod Unique
 mod Framed
 mod Asked
+mod ByKind
 mod Position
 mod Routes
 mod Wires

@@ -7,6 +7,8 @@
 //!   stands for the history with that record (`specs/World.antt`).
 //! - A scenario has one legal history at most (`one_history`), which is one of its topology (`grown`).
 //! - A record changes one journal and one NAT's history at most (`frame`).
+//! - Each record that follows is of one of five kinds: quiet, a stranger's datagram, a copy, a tick, a delivery to a
+//!   node (`kinds`).
 //!
 //! # What it does not know
 //!
@@ -22,7 +24,7 @@
 //! | `deliveries`, `puts`, `quiet` | the records of deliveries, of datagrams from nowhere, of the other events | `specs/Knows.antt`, `Steps.antt` |
 //! | `way` | where a datagram goes | `specs/Ways.antt` |
 //! | `arriving`, `asking`, `emitting` | a server is lent the datagram, answers, and its sends go on the wire | `specs/Arriving.antt`, `Steps.antt` |
-//! | `laws` | what holds of every history | `specs/Legal.antt`, `Frame.antt` |
+//! | `laws` | what holds of every history | `specs/Legal.antt`, `Frame.antt`, `Kinds.antt` |
 #![tactic(auto)]
 
 mod arriving;
@@ -37,5 +39,5 @@ mod way;
 mod wire;
 
 pub use laboratory::{MOST_LEFT, MOST_MOMENT, World};
-pub use laws::{frame, grown, one_history};
+pub use laws::{frame, grown, kinds, one_history};
 pub use wire::{MOST_ENTRIES, WireEntry};
