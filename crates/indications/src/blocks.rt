@@ -15,13 +15,15 @@ pub const AUTH: usize = 13;
 /// The bytes of an origin: two of its kind, a hidden port and a hidden address.
 pub const ORIGIN: usize = 8;
 
-/// An authentication. The spans are those of its identifier and its value in the datagram.
+/// An authentication. The spans are those of its identifier and its value in the datagram. They stand last, so that the
+/// gap behind the byte lies where a fault has a number in a `Result`, and is moved with the byte as one. A gap at the end
+/// is moved through memory by itself, which was measured to be slow.
 #[derive(Clone, Copy, Debug, PartialEq, Eq)]
 pub struct Auth {
-    pub id: Span,
-    pub value: Span,
     pub nonce: u64,
     pub confirmation: u8,
+    pub id: Span,
+    pub value: Span,
 }
 
 /// An origin, in clear: where the datagram that is passed on came from.
