@@ -13,6 +13,7 @@ use td_base::{Ep, Ip4, Ip6, is_link_local, usable};
 use teredo_addr::{ALL_ROUTERS, embedded, is_teredo, link_local, server_of};
 
 /// Whether a packet is neither a bubble nor ICMPv6.
+#[inline(always)]
 #[tactic(auto, unfolding(crate::specs::Conditions::is_other_kind))]
 pub fn is_other_kind(packet: &Packet<'_>) -> bool
     ensures { result ≡ is_other_kind (packet_view packet.now) }
@@ -24,6 +25,7 @@ pub fn is_other_kind(packet: &Packet<'_>) -> bool
 }
 
 /// The ICMPv6 message of a packet, where it has one and that is well-formed.
+#[inline(always)]
 #[tactic(auto, unfolding(crate::specs::Conditions::message_in))]
 pub fn message_of<'a>(packet: &Packet<'a>) -> Option<Msg<'a>>
     requires { length packet.now.body.now ≤ MAX_DATAGRAM }
@@ -39,6 +41,7 @@ pub fn message_of<'a>(packet: &Packet<'a>) -> Option<Msg<'a>>
 }
 
 /// Whether a packet is ICMPv6 and its message is refused.
+#[inline(always)]
 #[tactic(auto, unfolding(crate::specs::Conditions::is_ill_formed))]
 pub fn is_ill_formed(packet: &Packet<'_>, message: Option<Msg<'_>>) -> bool
     requires { IsMessageOf (packet_view packet.now) message }
@@ -48,6 +51,7 @@ pub fn is_ill_formed(packet: &Packet<'_>, message: Option<Msg<'_>>) -> bool
 }
 
 /// Whether an address is one of the server's two.
+#[inline(always)]
 #[tactic(auto, unfolding(crate::specs::Conditions::is_own))]
 pub fn is_own(settings: &ServerSettings, ip: Ip4) -> bool
     ensures { result ≡ is_own settings.now ip }
@@ -56,6 +60,7 @@ pub fn is_own(settings: &ServerSettings, ip: Ip4) -> bool
 }
 
 /// The server's link-local address.
+#[inline(always)]
 pub fn own_address(settings: &ServerSettings) -> Ip6
     ensures { result ≡ own_address settings.now }
 {
@@ -63,6 +68,7 @@ pub fn own_address(settings: &ServerSettings) -> Ip6
 }
 
 /// Whether a packet is for the server itself.
+#[inline(always)]
 #[tactic(auto, unfolding(crate::specs::Conditions::is_for_server))]
 pub fn is_for_server(settings: &ServerSettings, packet: &Packet<'_>) -> bool
     ensures { result ≡ is_for_server settings.now (packet_view packet.now) }
@@ -71,6 +77,7 @@ pub fn is_for_server(settings: &ServerSettings, packet: &Packet<'_>) -> bool
 }
 
 /// Whether a packet is a Router Solicitation from a link-local address to all routers.
+#[inline(always)]
 #[tactic(auto, unfolding(crate::specs::Conditions::is_solicitation))]
 pub fn is_solicitation(packet: &Packet<'_>, message: Option<Msg<'_>>) -> bool
     requires { IsMessageOf (packet_view packet.now) message }
@@ -87,6 +94,7 @@ pub fn is_solicitation(packet: &Packet<'_>, message: Option<Msg<'_>>) -> bool
 }
 
 /// Whether a Teredo source doesn't embed the endpoint that the datagram came from.
+#[inline(always)]
 #[tactic(auto, unfolding(crate::specs::Conditions::is_forged))]
 pub fn is_forged(from: Ep, packet: &Packet<'_>) -> bool
     ensures { result ≡ is_forged from (packet_view packet.now) }
@@ -95,6 +103,7 @@ pub fn is_forged(from: Ep, packet: &Packet<'_>) -> bool
 }
 
 /// Whether a packet is for a client of this server.
+#[inline(always)]
 #[tactic(auto, unfolding(crate::specs::Conditions::is_for_client))]
 pub fn is_for_client(settings: &ServerSettings, packet: &Packet<'_>) -> bool
     ensures { result ≡ is_for_client settings.now (packet_view packet.now) }
@@ -103,6 +112,7 @@ pub fn is_for_client(settings: &ServerSettings, packet: &Packet<'_>) -> bool
 }
 
 /// Whether a packet is from outside Teredo and for no client of this server.
+#[inline(always)]
 #[tactic(auto, unfolding(crate::specs::Conditions::is_not_ours))]
 pub fn is_not_ours(settings: &ServerSettings, packet: &Packet<'_>) -> bool
     ensures { result ≡ is_not_ours settings.now (packet_view packet.now) }
@@ -111,6 +121,7 @@ pub fn is_not_ours(settings: &ServerSettings, packet: &Packet<'_>) -> bool
 }
 
 /// Whether a Teredo destination embeds an endpoint that can't be used.
+#[inline(always)]
 #[tactic(auto, unfolding(crate::specs::Conditions::is_unusable))]
 pub fn is_unusable(settings: &ServerSettings, packet: &Packet<'_>) -> bool
     ensures { result ≡ is_unusable settings.now (packet_view packet.now) }
@@ -119,6 +130,7 @@ pub fn is_unusable(settings: &ServerSettings, packet: &Packet<'_>) -> bool
 }
 
 /// Whether a Teredo destination embeds an address of the server.
+#[inline(always)]
 #[tactic(auto, unfolding(crate::specs::Conditions::is_looped))]
 pub fn is_looped(settings: &ServerSettings, packet: &Packet<'_>) -> bool
     ensures { result ≡ is_looped settings.now (packet_view packet.now) }

@@ -37,6 +37,7 @@ pub enum Rule {
 }
 
 /// The first line of the table that holds for a payload that came from `from`.
+#[inline(always)]
 #[tactic(auto, unfolding(crate::specs::Rules::rule_of))]
 pub fn first_rule(settings: &ServerSettings, from: Ep, payload: &Payload<'_>) -> Rule
     requires { length payload.now.packet.body.now ≤ MAX_DATAGRAM }
@@ -73,6 +74,7 @@ pub fn first_rule(settings: &ServerSettings, from: Ep, payload: &Payload<'_>) ->
 }
 
 /// The lines on who sent a packet to whom.
+#[inline(always)]
 fn rule_of_packet(
     settings: &ServerSettings,
     from: Ep,
@@ -106,6 +108,7 @@ fn rule_of_packet(
 }
 
 /// The lines on where a packet goes.
+#[inline(always)]
 fn rule_of_destination(settings: &ServerSettings, from: Ep, payload: &Payload<'_>) -> Rule
     requires small { is_big (packet_view payload.now.packet) ≡ false }
     ensures row { result ≡ first_line (destination_lines (seen settings.now from (view payload.now))) last_line }

@@ -7,6 +7,7 @@ pub mod Halting
 pub mod Ip4Lemmas
 pub mod Ip6Lemmas
 pub mod NameLemmas
+pub mod NumberLemmas
 pub mod ResultLaws
 pub mod SpellingLemmas
 pub mod WholeLemmas

@@ -35,6 +35,7 @@ impl PartialEq for Ep {
 
     ghost laws = { partial_equiv_from_equiv same_ep_equiv };
 
+    #[inline(always)]
     #[tactic(auto, unfolding(crate::specs::Ep::same_ep))]
     fn eq(&self, other: &Ep) -> bool {
         self.ip == other.ip && self.port == other.port

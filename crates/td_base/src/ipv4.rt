@@ -1,9 +1,32 @@
 //! An IPv4 address.
+ghost use Rattle.std.specs.Prelude.{◌≡◌, length};
+ghost use Rattle.td_base.specs.Bytes.{IsBytes, number_at};
+ghost use Rattle.td_base.specs.Ip4.{same_ip};
+
+use crate::fields::field32;
 use std::cmp::Ordering;
 
 /// An IPv4 address, its four bytes in network order.
 #[derive(Clone, Copy, Debug)]
 pub struct Ip4(pub [u8; 4]);
+
+/// An address as a number.
+#[inline(always)]
+fn number(bytes: &[u8]) -> u32
+    requires { length bytes.now ≡ 4 }
+    ensures number { result ≡ number_at 0 4 bytes.now }
+    ensures bytes { IsBytes bytes.now }
+{
+    field32(bytes, 0)
+}
+
+/// Whether two addresses are the same. As numbers, and by value: byte by byte, and from memory, was measured to be slow.
+#[inline(always)]
+fn same(a: Ip4, b: Ip4) -> bool
+    ensures { result ≡ same_ip a b }
+{
+    number(&a.0) == number(&b.0)
+}
 
 impl PartialEq for Ip4 {
     ghost use Rattle.std.specs.Cmp.{partial_equiv_from_equiv};
@@ -13,9 +36,9 @@ impl PartialEq for Ip4 {
 
     ghost laws = { partial_equiv_from_equiv same_ip_equiv };
 
-    #[tactic(auto, unfolding(crate::specs::Ip4::same_ip))]
+    #[inline(always)]
     fn eq(&self, other: &Ip4) -> bool {
-        self.0 == other.0
+        same(*self, *other)
     }
 }
 

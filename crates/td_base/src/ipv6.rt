@@ -1,9 +1,35 @@
 //! An IPv6 address.
+ghost use Rattle.std.specs.Prelude.{◌≡◌, length};
+ghost use Rattle.td_base.specs.Bytes.{IsBytes, number_at};
+ghost use Rattle.td_base.specs.Ip6.{same_ip6};
+
+use crate::fields::field64;
 use std::cmp::Ordering;
 
 /// An IPv6 address, its sixteen bytes in network order.
 #[derive(Clone, Copy, Debug)]
 pub struct Ip6(pub [u8; 16]);
+
+/// The two halves of an address, as numbers.
+#[inline(always)]
+fn halves(bytes: &[u8]) -> (u64, u64)
+    requires { length bytes.now ≡ 16 }
+    ensures first { result.0 ≡ number_at 0 8 bytes.now }
+    ensures last { result.1 ≡ number_at 8 8 bytes.now }
+    ensures bytes { IsBytes bytes.now }
+{
+    (field64(bytes, 0), field64(bytes, 8))
+}
+
+/// Whether two addresses are the same. As numbers, and by value: byte by byte, and from memory, was measured to be slow.
+#[inline(always)]
+fn same(a: Ip6, b: Ip6) -> bool
+    ensures { result ≡ same_ip6 a b }
+{
+    let (a_first, a_last) = halves(&a.0);
+    let (b_first, b_last) = halves(&b.0);
+    a_first == b_first && a_last == b_last
+}
 
 impl PartialEq for Ip6 {
     ghost use Rattle.std.specs.Cmp.{partial_equiv_from_equiv};
@@ -13,9 +39,9 @@ impl PartialEq for Ip6 {
 
     ghost laws = { partial_equiv_from_equiv same_ip6_equiv };
 
-    #[tactic(auto, unfolding(crate::specs::Ip6::same_ip6))]
+    #[inline(always)]
     fn eq(&self, other: &Ip6) -> bool {
-        self.0 == other.0
+        same(*self, *other)
     }
 }
 

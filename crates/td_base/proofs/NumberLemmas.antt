@@ -1,0 +1,54 @@
+-- Addresses that are one number are the same.
+use Rattle.std.proofs.Common.{◌≡◌, ◌≢◌, ℕ, false, eqb, List, ◌++◌, length, drop, sym, ap, ◌∙◌, arith}
+use Rattle.std.specs.Bool.{Decides}
+use Rattle.std.proofs.lemmas.Bool.{eqb-true, eq-eqb, false_from_ne_true}
+use Rattle.std.proofs.lemmas.Bool.Decides.{same_from_decides}
+use Rattle.std.proofs.lemmas.List.{append-nil, drop_all}
+use Rattle.byteorder.specs.Endian.{big_bytes}
+use Rattle.td_base.specs.Bytes.{IsBytes, number_at}
+use Rattle.td_base.specs.Ip4.{IsIp4, same_ip, same_ip_decides}
+use Rattle.td_base.specs.Ip6.{IsIp6, same_ip6, same_ip6-true, same_ip6_decides}
+use Rattle.td_base.specs.declared.ipv4.Ip4.{Ip4}
+use Rattle.td_base.specs.declared.ipv6.Ip6.{Ip6}
+use Rattle.td_base.proofs.BytesLemmas.{cut_4, cut_8}
+
+as_ip4 : List ℕ → Ip4
+as_ip4 bytes = record { 0 = bytes }
+
+as_ip6 : List ℕ → Ip6
+as_ip6 bytes = record { 0 = bytes }
+
+four : (x : List ℕ) → length x ≡ 4 → IsBytes x → x ≡ big_bytes 4 (number_at 0 4 x)
+four x long fits =
+    let n : ℕ = number_at 0 4 x in
+    cut_4 0 x fits (omega arith) ∙ ap (λ (t : List ℕ). big_bytes 4 n ++ t) (drop_all 4 x (omega arith)) ∙ append-nil (big_bytes 4 n)
+
+sixteen : (x : List ℕ) → length x ≡ 16 → IsBytes x → x ≡ big_bytes 8 (number_at 0 8 x) ++ big_bytes 8 (number_at 8 8 x)
+sixteen x long fits =
+    let low : ℕ = number_at 8 8 x in
+    let last : drop 8 x ≡ big_bytes 8 low = cut_8 8 x fits (omega arith) ∙ ap (λ (t : List ℕ). big_bytes 8 low ++ t) (drop_all 16 x (omega arith)) ∙ append-nil (big_bytes 8 low) in
+    cut_8 0 x fits (omega arith) ∙ ap (λ (t : List ℕ). big_bytes 8 (number_at 0 8 x) ++ t) last
+
+number_decides : (a b : Ip4) (m n : ℕ) → IsIp4 a → IsIp4 b → m ≡ number_at 0 4 a.0 → n ≡ number_at 0 4 b.0 → Decides (eqb m n) (a ≡ b)
+unfolding as_ip4
+number_decides a b m n p q e f =
+    (λ t. ap as_ip4 (four a.0 p.0 p.1 ∙ ap (big_bytes 4) (sym e ∙ eqb-true _ _ t ∙ f) ∙ sym (four b.0 q.0 q.1)), λ same. eq-eqb _ _ (e ∙ ap (λ (x : Ip4). number_at 0 4 x.0) same ∙ sym f))
+
+pub one_number : (a b : Ip4) (m n : ℕ) → IsIp4 a → IsIp4 b → m ≡ number_at 0 4 a.0 → n ≡ number_at 0 4 b.0 → eqb m n ≡ same_ip a b
+one_number a b m n p q e f = same_from_decides _ _ (number_decides a b m n p q e f) (same_ip_decides a b)
+
+halves_decide : (a b : Ip6) → IsIp6 a → IsIp6 b → number_at 0 8 a.0 ≡ number_at 0 8 b.0 → (m n : ℕ) → m ≡ number_at 8 8 a.0 → n ≡ number_at 8 8 b.0 → Decides (eqb m n) (a ≡ b)
+unfolding as_ip6
+halves_decide a b p q high m n e f =
+    let joined : ℕ → ℕ → List ℕ = λ k l. big_bytes 8 k ++ big_bytes 8 l in (
+      λ t. ap as_ip6 (sixteen a.0 p.0 p.1 ∙ ap (λ (k : ℕ). joined k (number_at 8 8 a.0)) high ∙ ap (joined (number_at 0 8 b.0)) (sym e ∙ eqb-true _ _ t ∙ f) ∙ sym (sixteen b.0 q.0 q.1)),
+      λ same. eq-eqb _ _ (e ∙ ap (λ (x : Ip6). number_at 8 8 x.0) same ∙ sym f),
+    )
+
+-- where the first halves are the same
+pub by_last_half : (a b : Ip6) (m n : ℕ) → IsIp6 a → IsIp6 b → number_at 0 8 a.0 ≡ number_at 0 8 b.0 → m ≡ number_at 8 8 a.0 → n ≡ number_at 8 8 b.0 → eqb m n ≡ same_ip6 a b
+by_last_half a b m n p q high e f = same_from_decides _ _ (halves_decide a b p q high m n e f) (same_ip6_decides a b)
+
+-- where they aren't
+pub by_first_half : (a b : Ip6) → number_at 0 8 a.0 ≢ number_at 0 8 b.0 → same_ip6 a b ≡ false
+by_first_half a b other = false_from_ne_true _ (λ same. other (ap (λ (x : Ip6). number_at 0 8 x.0) (same_ip6-true a b same)))
