@@ -15,6 +15,13 @@ use td_base::{Ep, Ip4, Side, TEREDO_PORT};
 // How long a call waits where neither side has a datagram.
 const WAIT_MS: u64 = 20;
 
+// The most datagrams that a side gives while the other one, which had none when it was asked, isn't asked again.
+const LEAD_MAX: u8 = 4;
+
+// After so many datagrams without a wait the sockets are watched no more until the next one: to be watched has its
+// price at each datagram that comes or goes.
+const STREAK_MAX: u8 = 32;
+
 /// The sockets of an open pair.
 #[derive(Drop)]
 pub(crate) struct Sides {
@@ -22,8 +29,14 @@ pub(crate) struct Sides {
     secondary: UdpSocket,
     poll: Poll,
     events: Events,
-    // the side that is asked first: the other one than that which gave the last datagram
+    // whether `poll` watches both sockets
+    watched: bool,
+    // how many datagrams came since the last wait
+    streak: u8,
+    // the side that is asked first
     first: Side,
+    // how many datagrams it may give before the other one is asked; with 0 they take turns
+    lead: u8,
 }
 
 fn socket_addr(ep: Ep) -> SocketAddr {
@@ -73,18 +86,15 @@ fn arrival_of(side: Side, got: io::Result<(usize, SocketAddr)>) -> io::Result<Ar
 impl Sides {
     /// Binds both sockets. It is the one call that takes memory.
     pub(crate) fn open<R: Net>(net: &R, alloc: Global, on: Addresses) -> io::Result<Sides> {
-        let mut primary = socket_on(net, on.primary)?;
-        let mut secondary = socket_on(net, on.secondary)?;
-        let poll = Poll::new(net)?;
-        let registry = poll.registry();
-        registry.register(&mut primary, Token(0), Interest::READABLE)?;
-        registry.register(&mut secondary, Token(1), Interest::READABLE)?;
         Ok(Sides {
-            primary,
-            secondary,
-            poll,
+            primary: socket_on(net, on.primary)?,
+            secondary: socket_on(net, on.secondary)?,
+            poll: Poll::new(net)?,
             events: Events::with_capacity(alloc, 2)?,
+            watched: false,
+            streak: STREAK_MAX,
             first: Side::Primary,
+            lead: 0,
         })
     }
 
@@ -101,34 +111,77 @@ impl Sides {
         arrival_of(side, self.socket(side).recv_from(buf))
     }
 
-    // Asks both sides without waiting. The side that gave a datagram is asked last the next time, so that a busy side
-    // doesn't starve the other.
+    // Asks the side whose turn it is.
+    fn ask_first(&mut self, buf: &mut [u8; DATAGRAM_MAX]) -> io::Result<Arrival>
+        ensures { IfOk result (λ arrival. Fits arrival) }
+    {
+        let arrival = self.ask(self.first, buf)?;
+        if let Arrival::Got { .. } = arrival {
+            self.lead = self.lead.saturating_sub(1);
+            if self.lead == 0 {
+                self.first = other(self.first);
+            }
+        }
+        Ok(arrival)
+    }
+
+    // Asks both sides without waiting. Two busy sides give a datagram each in turn. Where one has nothing the other
+    // leads, since each question is a call of the system's: it gives a few datagrams before the first is asked again.
     fn ask_both(&mut self, buf: &mut [u8; DATAGRAM_MAX]) -> io::Result<Arrival>
         ensures { IfOk result (λ arrival. Fits arrival) }
     {
-        let first = self.first;
-        self.first = other(first);
-        match self.ask(first, buf)? {
+        match self.ask_first(buf)? {
             Arrival::Idle => {
-                self.first = first;
-                self.ask(other(first), buf)
+                self.first = other(self.first);
+                self.lead = LEAD_MAX;
+                self.ask_first(buf)
             }
             got => Ok(got),
         }
     }
 
-    /// Takes the next datagram. It waits only after both sides answered that they have nothing: from then on each
-    /// datagram is a change, and a change at either side ends the wait.
+    fn watch(&mut self) -> io::Result<()> {
+        let registry = self.poll.registry();
+        registry.register(&mut self.primary, Token(0), Interest::READABLE)?;
+        registry.register(&mut self.secondary, Token(1), Interest::READABLE)?;
+        self.watched = true;
+        Ok(())
+    }
+
+    fn unwatch(&mut self) -> io::Result<()> {
+        let registry = self.poll.registry();
+        registry.deregister(&mut self.primary)?;
+        registry.deregister(&mut self.secondary)?;
+        self.watched = false;
+        Ok(())
+    }
+
+    // Waits after both sides answered that they have nothing: what came since then or comes now ends the wait.
+    fn wait(&mut self) -> io::Result<()> {
+        if !self.watched {
+            self.watch()?;
+        }
+        self.streak = 0;
+        let wait = Some(Duration::from_millis(WAIT_MS));
+        self.poll.poll(&mut self.events, wait)
+    }
+
+    /// Takes the next datagram, or waits for it where neither side has one.
     pub(crate) fn take(&mut self, buf: &mut [u8; DATAGRAM_MAX]) -> io::Result<Arrival>
         ensures { IfOk result (λ arrival. Fits arrival) }
     {
+        if self.watched && self.streak >= STREAK_MAX {
+            self.unwatch()?;
+        }
         match self.ask_both(buf)? {
             Arrival::Idle => {
-                let wait = Some(Duration::from_millis(WAIT_MS));
-                self.poll.poll(&mut self.events, wait)?;
+                self.wait()?;
                 self.ask_both(buf)
             }
-            got => Ok(got),
+            got => {
+                self.streak = self.streak.saturating_add(1);
+                Ok(got)
+            }
         }
     }
 
