@@ -8,6 +8,7 @@ ghost use Rattle.history.specs.Events.{IsEvent};
 ghost use Rattle.scenario.specs.Built.{HasOnlyBuilt};
 ghost use Rattle.scenario.specs.Told.{told};
 ghost use Rattle.teredo_app.specs.Streams.{AppendsFront};
+ghost use Rattle.world.specs.World.{record_in, is_more};
 ghost use Rattle.teredo_app.specs.Reports.{ReportsOn, BeginsToReport};
 
 use crate::streams::{Fault, write_whole};
@@ -45,6 +46,26 @@ fn write_totals<K: Sink>(sums: &Sums, buf: &mut LineBuf, out: &mut K) -> Result<
     write_whole(out, buf.as_slice())
 }
 
+/// The record of a turn.
+fn record_in(turn: &Turn) -> &Record
+    ensures { result.now ≡ record_in turn.now }
+{
+    match turn {
+        Turn::More(r) => r,
+        Turn::Last(r) => r,
+    }
+}
+
+/// Whether the event of a turn has further records.
+fn is_more(turn: &Turn) -> bool
+    ensures { result ≡ is_more turn.now }
+{
+    match turn {
+        Turn::More(_) => true,
+        Turn::Last(_) => false,
+    }
+}
+
 /// Plays the scenario, and writes its report, each line as soon as its record is made.
 pub fn write_report<K: Sink>(alloc: Global, s: &Scenario, out: &mut K) -> Result<(), Fault>
     requires few { length s.now.events ≤ MOST_EVENTS }
@@ -62,17 +83,23 @@ pub fn write_report<K: Sink>(alloc: Global, s: &Scenario, out: &mut K) -> Result
     let mut buf = LineBuf::new();
     let mut sums = Sums::new();
     for (index, event) in s.events.as_slice().iter().enumerate() {
-        let r = match world.step(index as u32, event) {
-            Ok(Turn::Last(r)) => r,
-            // No event of servers and NATs has a further record, and each record makes one entry at most.
-            Ok(Turn::More(_)) => unreachable!(),
-            Err(Stop::WireFull) => unreachable!(),
-            Err(Stop::NoMemory) => return Err(Fault::NoMemory),
-        };
-        let Ok(()) = write_record(index as u64, &r, &s.topology, &mut buf, out) else {
-            return Err(Fault::Failed);
-        };
-        sums.add(&r);
+        // It ends, since less is left after each record that has further ones.
+        loop {
+            let turn = match world.step(index as u32, event) {
+                Ok(turn) => turn,
+                // An event of servers and NATs makes one entry at most, so the wire has room for all.
+                Err(Stop::WireFull) => unreachable!(),
+                Err(Stop::NoMemory) => return Err(Fault::NoMemory),
+            };
+            let r = record_in(&turn);
+            let Ok(()) = write_record(sums.records, r, &s.topology, &mut buf, out) else {
+                return Err(Fault::Failed);
+            };
+            sums.add(r);
+            if !is_more(&turn) {
+                break;
+            }
+        }
     }
     match write_totals(&sums, &mut buf, out) {
         Ok(()) => Ok(()),

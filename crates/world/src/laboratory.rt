@@ -252,13 +252,13 @@ impl World {
     /// Plays the next record of event number `index`. After a `Stop` every later call answers the same.
     pub fn step(&mut self, index: u32, event: &Event) -> Result<Turn, Stop>
         requires event { IsEvent self.old.topology event.now }
-        requires time { self.old.moment + MOST_ADVANCE < MOST_MOMENT }
+        requires time { self.old.began + MOST_ADVANCE < MOST_MOMENT }
         ensures ok { IfOk result (λ turn. Steps self.old self.new index event.now turn) }
         ensures falls { IfOk result (λ turn. Falls self.old self.new turn) }
         // No event of servers and NATs has a further record, and each makes one entry at most.
         ensures last { IfOk result (λ turn. IsLast turn) }
         ensures grows { length self.new.wire ≤ length self.old.wire + 1 }
-        ensures time { self.new.moment ≤ self.old.moment + MOST_ADVANCE }
+        ensures time { self.new.moment ≤ self.old.began + MOST_ADVANCE }
         ensures full { self.old.stopped ≡ None → IsErrOf result Stop.WireFull → MOST_ENTRIES ≤ length self.old.wire }
         ensures cause { IfErr result (λ stop. Stops self.old.stopped self.old index event.now stop) }
         ensures err { IfErr result (λ stop. self.new ≡ record self.old { stopped = Some stop }) }

@@ -2,10 +2,7 @@ use Rattle.std.proofs.Common.{◌≡◌, ◌≤◌, List, [], Some, sym, subst, 
 use Rattle.std.specs.Prelude.{slice_get}
 use Rattle.std.proofs.lemmas.Option.{slice_get_read}
 use Rattle.history.specs.declared.event.Event.{Event}
-use Rattle.history.specs.declared.turn.Turn.{Turn}
-use Rattle.world.specs.World.{Steps}
 use Rattle.report.specs.declared.totals.Sums.{Sums}
-use Rattle.report.specs.Totals.{sums_of}
 use Rattle.scenario.specs.Told.{told}
 use Rattle.teredo_app.specs.Reports.{some_lines}
 use Rattle.teredo_app.proofs.Written.{Appends-nil}
@@ -17,26 +14,10 @@ loop-index-init g c =
     let s = told c.args.s.now in
     let a = g.K.Sink.holds c.args.out.now in
     let made = playing.nothing_played s a c.in-Ok.world c.in-Ok.ensures.topology c.in-Ok.ensures.goes_on c.in-Ok.ensures.stands in
-    record { played = subst (λ (z : Sums). playing.Played s a a c.in-Ok.world z 0) (sym c.new-sums.ensures) made; same = refl }
-
-pub loop-index-preserved : goal.loop-index-preserved
-loop-index-preserved g c =
-    let event : slice_get c.args.s.now.events c.loop-index.index ≡ Some c.event-item.result = subst (λ (es : List Event). slice_get es c.loop-index.index ≡ Some c.event-item.result) c.as_slice-event-items.ensures (slice_get_read c.as_slice-event-items.result.now _ c.loop-index.index c.event-item.result refl (omega arith) c.event-item.is) in
-    record {
-      played = playing.more_played (told c.args.s.now) _ _ _ c.loop-index.world c.step.new.self c.loop-index.sums c.add.new.self c.loop-index.index c.event-item.result c.in-Ok-Last.r c.loop-index.invariant.played event (subst (λ (t : Turn). Steps c.loop-index.world c.step.new.self c.loop-index.index c.event-item.result t) c.in-Ok-Last.field-0-is c.in-Ok-Last.ensures.ok) c.in-Ok-Last.ensures.grows c.in-Ok-Last.ensures.time c.in-Ok-write_record.ensures.ok c.add.ensures.sums;
-      same = c.in-Ok-write_record.ensures.cause.kept ∙ c.loop-index.invariant.same;
-    }
+    record { played = subst (λ (z : Sums). playing.Played s a a c.in-Ok.world z 0 playing.IsFresh) (sym c.new-sums.ensures) made; same = refl }
 
 pub returns-in_default-clause-err : goal.returns-in_default-clause-err
 returns-in_default-clause-err g c = some_lines [] tt (0, Appends-nil (g.K.Sink.holds c.args.out.now))
-
-pub returns-in-Err-NoMemory-clause-err : goal.returns-in-Err-NoMemory-clause-err
-returns-in-Err-NoMemory-clause-err g c = playing.stopped _ _ _ c.loop-index.world c.loop-index.sums c.loop-index.index c.loop-index.invariant.played
-
-pub returns-in_default-write_record-clause-err : goal.returns-in_default-write_record-clause-err
-returns-in_default-write_record-clause-err g c =
-    let event : slice_get c.args.s.now.events c.loop-index.index ≡ Some c.event-item.result = subst (λ (es : List Event). slice_get es c.loop-index.index ≡ Some c.event-item.result) c.as_slice-event-items.ensures (slice_get_read c.as_slice-event-items.result.now _ c.loop-index.index c.event-item.result refl (omega arith) c.event-item.is) in
-    playing.line_broken (told c.args.s.now) _ _ _ c.loop-index.world c.step.new.self c.loop-index.sums c.loop-index.index c.event-item.result c.in-Ok-Last.r c.loop-index.invariant.played event (subst (λ (t : Turn). Steps c.loop-index.world c.step.new.self c.loop-index.index c.event-item.result t) c.in-Ok-Last.field-0-is c.in-Ok-Last.ensures.ok) c.in_default-write_record.ensures.err
 
 pub returns-in-Ok-write_totals-clause-ok : goal.returns-in-Ok-write_totals-clause-ok
 returns-in-Ok-write_totals-clause-ok g c =
@@ -47,3 +28,40 @@ pub returns-clause-err : goal.returns-clause-err
 returns-clause-err g c =
     let end : length c.args.s.now.events ≤ c.loop-index.index = omega (arith, ap length c.as_slice-event-items.ensures, c.loop-index-test.false) in
     playing.totals_broken (told c.args.s.now) _ _ _ c.loop-index.world c.loop-index.sums c.loop-index.index c.loop-index.invariant.played end c.in-Err.ensures.err
+
+pub loop-turn-init : goal.loop-turn-init
+loop-turn-init g c = record { played = playing.event_begins (told c.args.s.now) _ _ _ _ _ c.event-item.result c.loop-index.invariant.played; same = c.loop-index.invariant.same }
+
+pub loop-turn-preserved : goal.loop-turn-preserved
+loop-turn-preserved g c =
+    let event : slice_get c.args.s.now.events c.loop-index.index ≡ Some c.event-item.result = subst (λ (es : List Event). slice_get es c.loop-index.index ≡ Some c.event-item.result) c.as_slice-event-items.ensures (slice_get_read c.as_slice-event-items.result.now _ c.loop-index.index c.event-item.result refl (omega arith) c.event-item.is) in
+    let line = rw c.record_in-r.ensures at c.in-Ok-write_record.ensures.ok in
+    let adds = rw c.record_in-r.ensures at c.add.ensures.sums in
+    let more = sym c.is_more.ensures ∙ c.if-not-is_more.false in
+    record {
+      played = playing.goes_on (told c.args.s.now) _ _ _ c.loop-turn.world c.step.new.self c.loop-turn.sums c.add.new.self c.loop-index.index c.event-item.result c.in-Ok-step.turn c.loop-turn.invariant.played event c.in-Ok-step.ensures.ok more c.in-Ok-step.ensures.falls (absurd (playing.no_more c.in-Ok-step.turn c.in-Ok-step.ensures.last more)) line adds;
+      same = c.in-Ok-write_record.ensures.cause.kept ∙ c.loop-turn.invariant.same;
+    }
+
+pub loop-turn-smaller : goal.loop-turn-smaller
+loop-turn-smaller g c = playing.falls_by c.loop-turn.world c.step.new.self c.in-Ok-step.turn (sym c.is_more.ensures ∙ c.if-not-is_more.false) c.in-Ok-step.ensures.falls
+
+pub loop-index-preserved : goal.loop-index-preserved
+loop-index-preserved g c =
+    let event : slice_get c.args.s.now.events c.loop-index.index ≡ Some c.event-item.result = subst (λ (es : List Event). slice_get es c.loop-index.index ≡ Some c.event-item.result) c.as_slice-event-items.ensures (slice_get_read c.as_slice-event-items.result.now _ c.loop-index.index c.event-item.result refl (omega arith) c.event-item.is) in
+    let line = rw c.record_in-r.ensures at c.in-Ok-write_record.ensures.ok in
+    let adds = rw c.record_in-r.ensures at c.add.ensures.sums in
+    let last = sym c.is_more.ensures ∙ c.if-not-is_more.true in
+    record {
+      played = playing.event_ends (told c.args.s.now) _ _ _ c.loop-turn.world c.step.new.self c.loop-turn.sums c.add.new.self c.loop-index.index c.event-item.result c.in-Ok-step.turn c.loop-turn.invariant.played event c.in-Ok-step.ensures.ok last c.in-Ok-step.ensures.grows c.in-Ok-step.ensures.time line adds;
+      same = c.in-Ok-write_record.ensures.cause.kept ∙ c.loop-turn.invariant.same;
+    }
+
+pub returns-in_default-write_record-clause-err : goal.returns-in_default-write_record-clause-err
+returns-in_default-write_record-clause-err g c =
+    let event : slice_get c.args.s.now.events c.loop-index.index ≡ Some c.event-item.result = subst (λ (es : List Event). slice_get es c.loop-index.index ≡ Some c.event-item.result) c.as_slice-event-items.ensures (slice_get_read c.as_slice-event-items.result.now _ c.loop-index.index c.event-item.result refl (omega arith) c.event-item.is) in
+    let line = rw c.record_in-r.ensures at c.in_default-write_record.ensures.err in
+    playing.line_broken (told c.args.s.now) _ _ _ c.loop-turn.world c.step.new.self c.loop-turn.sums c.loop-index.index c.event-item.result c.in-Ok-step.turn c.loop-turn.invariant.played event c.in-Ok-step.ensures.ok line
+
+pub returns-in-Err-NoMemory-clause-err : goal.returns-in-Err-NoMemory-clause-err
+returns-in-Err-NoMemory-clause-err g c = playing.stopped _ _ _ c.loop-turn.world c.loop-turn.sums c.loop-index.index c.event-item.result c.loop-turn.invariant.played
