@@ -1,5 +1,5 @@
 //! Deliveries.
-ghost use Rattle.std.specs.Prelude.{◌≡◌, ◌≤◌, ◌<◌, ◌+◌, ℕ, List, length, option_map, is_some, true, IfOk, IfSome, OnErr, IsErrOf};
+ghost use Rattle.std.specs.Prelude.{◌≡◌, ◌≤◌, ◌<◌, ◌+◌, ℕ, List, length, option_map, is_some, true, IfOk, IfSome, OnErr, IsErrOf, Some};
 ghost use Rattle.td_base.specs.declared.endpoint.Ep.{Ep};
 ghost use Rattle.teredo_node.specs.Journal.{arrived};
 ghost use Rattle.world.specs.Emit.{six_made};
@@ -12,7 +12,7 @@ ghost use Rattle.world.specs.declared.wire.TheConstants.{MOST_ENTRIES};
 ghost use Rattle.world.specs.Past.{Draws};
 ghost use Rattle.world.specs.Next.{numbered, delivers};
 ghost use Rattle.world.specs.Ways.{topology_of, AreReady};
-ghost use Rattle.world.specs.Steps.{Plays, packet_made};
+ghost use Rattle.world.specs.Steps.{said, Plays, packet_made};
 ghost use Rattle.world.specs.Knows.{Knows};
 
 use crate::asking::ask;
@@ -20,7 +20,7 @@ use crate::emitting::{emit, part_of};
 use crate::quiet::quiet;
 use crate::way::{Way, way_of};
 use crate::wire::{MOST_ENTRIES, Wire, WireEntry};
-use history::{Act, MOST_MARKS, MOST_NATS, MOST_SERVERS, NatNode, Record, ServerNode, Stop};
+use history::{Act, MOST_MARKS, MOST_NATS, MOST_SERVERS, Marks, NatNode, Record, ServerNode, Stop};
 use nat_kinds::Nat;
 use std::alloc::Global;
 use td_base::{Millis, NoMemory};
@@ -54,6 +54,23 @@ fn handed(step: &Step) -> Option<usize>
     match step.handed() {
         None => None,
         Some(span) => Some(span.len),
+    }
+}
+
+/// The record of a node's step, whose sends have these marks.
+fn record_of(now: Millis, index: u32, act: Act, node: u16, step: &Step, marks: Marks) -> Record
+    ensures { result ≡ record (said now.0 index act (Some node) step.now.fate marks) { handed = option_map (λ span. span.len) step.now.handed; gone = step.now.gone } }
+{
+    Record {
+        event: index,
+        moment: now,
+        act,
+        node: Some(node),
+        fate: step.fate(),
+        address: None,
+        handed: handed(step),
+        gone: step.gone(),
+        marks,
     }
 }
 
@@ -110,17 +127,7 @@ pub fn deliver(
                 return Err(Stop::NoMemory);
             };
             wire.set_delivered(place);
-            Ok(Record {
-                event: index,
-                moment: now,
-                act,
-                node: Some(node),
-                fate: step.fate(),
-                address: None,
-                handed: handed(step),
-                gone: step.gone(),
-                marks,
-            })
+            Ok(record_of(now, index, act, node, step, marks))
         }
     }
 }

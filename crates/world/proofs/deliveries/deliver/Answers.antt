@@ -60,7 +60,7 @@ pub returns-in-Ok-emit-clause-plays : goal.returns-in-Ok-emit-clause-plays
 returns-in-Ok-emit-clause-plays c = λ d H e k.
     let at : slice_get c.args.wire.now.items c.args.number ≡ Some (udp c.in-Udp.src c.in-Udp.dst c.in-Udp.bytes.now) = sym c.get.ensures.lent ∙ ap (λ o. option_map item_lent o) c.in-Some.is ∙ ap (λ e. Some (item_lent e)) c.in-Udp.is in
     let goes = c.way_of.ensures H k.nats c.in-Udp.bytes.now ∙ ap by_way c.in-Server.is in
-    delivered.served d (topology_of c.args.servers.now c.args.rows.now) c.args.nats.now c.args.now.0 c.args.wire.now c.emit.new.wire c.set_delivered-in-Server.new.self H c.args.index e c.args.number c.in-Server.node c.in-Server.row c.in-Udp.src c.in-Udp.dst c.in-Udp.bytes.now c.ask.new.step c.in-Ok.packet _ c.in-Ok-emit.marks k at goes c.ask.ensures (c.in-Ok.ensures.made c.in-Udp.src) c.in-Ok-emit.ensures.ok c.in-Ok-emit.ensures.marks c.in-Some.ensures.marked c.set_delivered-in-Server.ensures (rw (c.fate.ensures, c.handed.ensures, c.gone.ensures) refl)
+    delivered.served d (topology_of c.args.servers.now c.args.rows.now) c.args.nats.now c.args.now.0 c.args.wire.now c.emit.new.wire c.set_delivered-in-Server.new.self H c.args.index e c.args.number c.in-Server.node c.in-Server.row c.in-Udp.src c.in-Udp.dst c.in-Udp.bytes.now c.ask.new.step c.in-Ok.packet _ c.in-Ok-emit.marks k at goes c.ask.ensures (c.in-Ok.ensures.made c.in-Udp.src) c.in-Ok-emit.ensures.ok c.in-Ok-emit.ensures.marks c.in-Some.ensures.marked c.set_delivered-in-Server.ensures c.record_of.ensures
 
 pub returns-in-Ok-emit-clause-grows : goal.returns-in-Ok-emit-clause-grows
 returns-in-Ok-emit-clause-grows c =
