@@ -7,8 +7,6 @@ use Rattle.td_base.specs.Names.{name_text}
 use Rattle.teredo_node.specs.Fates.{fate_word}
 use Rattle.history.specs.declared.acts.Act.{Act}
 use Rattle.history.specs.declared.acts.Act.TheVariants as act
-use Rattle.history.specs.declared.acts.Verb.{Verb}
-use Rattle.history.specs.declared.acts.Verb.TheVariants as verb
 use Rattle.history.specs.declared.mark.Loss.{Loss}
 use Rattle.history.specs.declared.mark.Loss.TheVariants as loss
 use Rattle.history.specs.declared.mark.Mark.{Mark}
@@ -16,20 +14,9 @@ use Rattle.history.specs.declared.mark.Mark.TheVariants as mark
 use Rattle.history.specs.declared.records.Record.{Record}
 use Rattle.history.specs.Rows.{TopologyState}
 use Rattle.history.specs.Topology.{Node, name_of, node_at}
+use Rattle.history.specs.Verbs.{verb_word}
 use Rattle.history.specs.Full.{Full}
 use Rattle.history.specs.Records.{record_of}
-
-abbrev pub verb_word : Verb → List ℕ
-verb_word verb.Advance = codes "advance"
-verb_word verb.Deliver = codes "deliver"
-verb_word verb.Next = codes "next"
-verb_word verb.Host = codes "host"
-verb_word verb.Echo = codes "echo"
-verb_word verb.Raw = codes "raw"
-verb_word verb.Stranger = codes "stranger"
-verb_word verb.Copy = codes "copy"
-verb_word verb.Restart = codes "restart"
-verb_word verb.Forget = codes "forget"
 
 abbrev pub act_text : Act → List ℕ
 act_text act.Tick = codes "tick"

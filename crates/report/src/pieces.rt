@@ -2,7 +2,8 @@
 ghost use Rattle.std.specs.Prelude.{◌≡◌, ◌+◌, ◌≤◌, ◌++◌, length, decimal};
 ghost use Rattle.td_base.specs.Texts.{ep_text};
 ghost use Rattle.td_base.specs.Ip6Texts.{ip6_text};
-ghost use Rattle.report.specs.Lines.{verb_word, act_text, node_text, address_text, handed_text, gone_text};
+ghost use Rattle.history.specs.Verbs.{verb_word};
+ghost use Rattle.report.specs.Lines.{act_text, node_text, address_text, handed_text, gone_text};
 
 use history::{Act, Topology, Verb};
 use td_base::{
@@ -57,22 +58,12 @@ fn put_ip6(ip: Ip6, out: &mut LineBuf)
 }
 
 /// An event's word.
+#[tactic(auto, using(crate::proofs::VerbLengths::verb_short))]
 fn verb_name(verb: Verb) -> &'static str
     ensures word { result.now ≡ verb_word verb }
     ensures short { length result.now ≤ VERB_LEN }
 {
-    match verb {
-        Verb::Advance => "advance",
-        Verb::Deliver => "deliver",
-        Verb::Next => "next",
-        Verb::Host => "host",
-        Verb::Echo => "echo",
-        Verb::Raw => "raw",
-        Verb::Stranger => "stranger",
-        Verb::Copy => "copy",
-        Verb::Restart => "restart",
-        Verb::Forget => "forget",
-    }
+    verb.name()
 }
 
 /// Appends an act.

@@ -1,0 +1,17 @@
+-- An event's word is short.
+use Rattle.std.proofs.Common.{◌≤◌, length, arith}
+use Rattle.history.specs.declared.acts.Verb.{Verb}
+use Rattle.history.specs.declared.acts.Verb.TheVariants as verb
+use Rattle.history.specs.Verbs.{verb_word}
+
+pub verb_short : (v : Verb) → length (verb_word v) ≤ 8
+verb_short verb.Advance = omega arith
+verb_short verb.Deliver = omega arith
+verb_short verb.Next = omega arith
+verb_short verb.Host = omega arith
+verb_short verb.Echo = omega arith
+verb_short verb.Raw = omega arith
+verb_short verb.Stranger = omega arith
+verb_short verb.Copy = omega arith
+verb_short verb.Restart = omega arith
+verb_short verb.Forget = omega arith
