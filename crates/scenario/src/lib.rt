@@ -32,8 +32,12 @@ mod event_lists;
 mod fresh;
 mod laws;
 mod nat_tables;
+#[cfg(test)]
+mod nat_tests;
 mod reader;
 mod server_tables;
+#[cfg(test)]
+mod server_tests;
 mod table_keys;
 #[cfg(test)]
 mod tests;

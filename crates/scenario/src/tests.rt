@@ -1,12 +1,12 @@
 //! Texts that are scenarios, and texts that are none.
 use crate::{ScenarioFault, read};
 use history::Event;
-use nat_kinds::NatKind;
 use std::alloc::Global;
 use std::test::Fail;
 use td_base::Ip4;
 
-const ONE_SERVER: &str = "seed = 7
+/// A scenario of one server.
+pub const ONE_SERVER: &str = "seed = 7
 events = [\"stranger 198.51.100.7:40000 192.0.2.1:3544 00fF\", \"deliver 3\"]
 [[server]]
 name = \"s1\"
@@ -14,7 +14,8 @@ primary = \"192.0.2.1\"
 secondary = \"192.0.2.2\"
 ";
 
-fn is_scenario(alloc: Global, text: &str) -> Result<bool, ScenarioFault> {
+/// Whether a text is a scenario.
+pub fn is_scenario(alloc: Global, text: &str) -> Result<bool, ScenarioFault> {
     match read(alloc, text.as_bytes()) {
         Ok(_) => Ok(true),
         Err(ScenarioFault::Unbuilt) => Ok(false),
@@ -119,235 +120,6 @@ fn tells_tables_apart(rt: HostRuntime) -> Result<(), Fail> {
     ];
     for (text, wanted) in cases {
         assert_eq!(rt; is_scenario(rt.alloc(), text)?, wanted, "at {text}");
-    }
-    Ok(())
-}
-
-#[test]
-fn tells_servers_apart(rt: HostRuntime) -> Result<(), Fail> {
-    let cases = [
-        (
-            "name = \"a\"\nprimary = \"192.0.2.1\"\nsecondary = \"192.0.2.2\"",
-            true,
-        ),
-        (
-            "name = \"a_234567890bcdef\"\nprimary = \"192.0.2.1\"\nsecondary = \"192.0.2.2\"",
-            true,
-        ),
-        (
-            "name = \"a_234567890bcdefg\"\nprimary = \"192.0.2.1\"\nsecondary = \"192.0.2.2\"",
-            false,
-        ),
-        (
-            "name = \"\"\nprimary = \"192.0.2.1\"\nsecondary = \"192.0.2.2\"",
-            false,
-        ),
-        (
-            "name = \"1a\"\nprimary = \"192.0.2.1\"\nsecondary = \"192.0.2.2\"",
-            false,
-        ),
-        (
-            "name = \"_a\"\nprimary = \"192.0.2.1\"\nsecondary = \"192.0.2.2\"",
-            false,
-        ),
-        (
-            "name = \"aB\"\nprimary = \"192.0.2.1\"\nsecondary = \"192.0.2.2\"",
-            false,
-        ),
-        (
-            "name = 5\nprimary = \"192.0.2.1\"\nsecondary = \"192.0.2.2\"",
-            false,
-        ),
-        (
-            "name = \"a\"\nprimary = \"192.0.2.1\"\nsecondary = \"192.0.2.1\"",
-            false,
-        ),
-        (
-            "name = \"a\"\nprimary = \"10.0.0.1\"\nsecondary = \"192.0.2.2\"",
-            false,
-        ),
-        (
-            "name = \"a\"\nprimary = \"192.0.2.1\"\nsecondary = \"127.0.0.1\"",
-            false,
-        ),
-        (
-            "name = \"a\"\nprimary = \"192.0.2.1:1\"\nsecondary = \"192.0.2.2\"",
-            false,
-        ),
-        ("name = \"a\"\nprimary = \"192.0.2.1\"", false),
-        (
-            "name = \"a\"\nprimary = \"192.0.2.1\"\nsecondary = \"192.0.2.2\"\nkind = 1",
-            false,
-        ),
-    ];
-    for (server, wanted) in cases {
-        let text = format!(in rt.alloc(); "seed = 1\nevents = []\n[[server]]\n{server}\n")?;
-        assert_eq!(rt;
-            is_scenario(rt.alloc(), text.as_str())?,
-            wanted,
-            "at {server}"
-        );
-    }
-    let seconds = [
-        (
-            "name = \"s2\"\nprimary = \"192.0.2.3\"\nsecondary = \"192.0.2.4\"",
-            true,
-        ),
-        (
-            "name = \"s1\"\nprimary = \"192.0.2.3\"\nsecondary = \"192.0.2.4\"",
-            false,
-        ),
-        (
-            "name = \"s2\"\nprimary = \"192.0.2.3\"\nsecondary = \"192.0.2.1\"",
-            false,
-        ),
-    ];
-    for (server, wanted) in seconds {
-        let two = format!(in rt.alloc(); "{ONE_SERVER}[[server]]\n{server}\n")?;
-        assert_eq!(rt;
-            is_scenario(rt.alloc(), two.as_str())?,
-            wanted,
-            "at {server}"
-        );
-    }
-    Ok(())
-}
-
-#[test]
-fn reads_a_nat(rt: HostRuntime) -> Result<(), Fail> {
-    let text = format!(in rt.alloc();
-        "{ONE_SERVER}[[nat]]\nname = \"n1\"\nkind = \"port\"\nexternal = \"198.51.100.1\"\nidle = 60000\n"
-    )?;
-    let scenario = read(rt.alloc(), text.as_str().as_bytes())?;
-    let [nat] = scenario.topology.nats() else {
-        return Err(Fail::new("other NATs"));
-    };
-    assert_eq!(rt; nat.name.as_slice(), b"n1".as_slice());
-    assert!(rt; nat.kind == NatKind::Port);
-    assert!(rt; nat.external == Ip4([198, 51, 100, 1]));
-    assert_eq!(rt; nat.idle, 60_000);
-    Ok(())
-}
-
-#[test]
-fn tells_nats_apart(rt: HostRuntime) -> Result<(), Fail> {
-    let cases = [
-        (
-            "name = \"n1\"\nkind = \"cone\"\nexternal = \"198.51.100.1\"\nidle = 1",
-            true,
-        ),
-        (
-            "name = \"n1\"\nkind = \"restricted\"\nexternal = \"198.51.100.1\"\nidle = 10000000",
-            true,
-        ),
-        (
-            "idle = 60000\nexternal = \"203.0.113.1\"\nkind = \"symmetric\"\nname = \"x\"",
-            true,
-        ),
-        (
-            "name = \"n1\"\nkind = \"cone\"\nexternal = \"198.51.100.1\"\nidle = 0",
-            false,
-        ),
-        (
-            "name = \"n1\"\nkind = \"cone\"\nexternal = \"198.51.100.1\"\nidle = 10000001",
-            false,
-        ),
-        (
-            "name = \"n1\"\nkind = \"cone\"\nexternal = \"198.51.100.1\"\nidle = -1",
-            false,
-        ),
-        (
-            "name = \"n1\"\nkind = \"cone\"\nexternal = \"198.51.100.1\"\nidle = 1.5",
-            false,
-        ),
-        (
-            "name = \"n1\"\nkind = \"cone\"\nexternal = \"198.51.100.1\"\nidle = \"60000\"",
-            false,
-        ),
-        (
-            "name = \"n1\"\nkind = \"cone\"\nexternal = \"198.51.100.1\"",
-            false,
-        ),
-        (
-            "name = \"n1\"\nkind = \"Cone\"\nexternal = \"198.51.100.1\"\nidle = 1",
-            false,
-        ),
-        (
-            "name = \"n1\"\nkind = \"full\"\nexternal = \"198.51.100.1\"\nidle = 1",
-            false,
-        ),
-        (
-            "name = \"n1\"\nkind = \"\"\nexternal = \"198.51.100.1\"\nidle = 1",
-            false,
-        ),
-        (
-            "name = \"n1\"\nkind = 1\nexternal = \"198.51.100.1\"\nidle = 1",
-            false,
-        ),
-        (
-            "name = \"n1\"\nexternal = \"198.51.100.1\"\nidle = 1",
-            false,
-        ),
-        (
-            "name = \"n1\"\nkind = \"cone\"\nexternal = \"192.168.0.1\"\nidle = 1",
-            false,
-        ),
-        (
-            "name = \"n1\"\nkind = \"cone\"\nexternal = \"127.0.0.1\"\nidle = 1",
-            false,
-        ),
-        (
-            "name = \"n1\"\nkind = \"cone\"\nexternal = \"198.51.100.1:1\"\nidle = 1",
-            false,
-        ),
-        ("name = \"n1\"\nkind = \"cone\"\nidle = 1", false),
-        (
-            "name = \"n1\"\nkind = \"cone\"\nexternal = \"192.0.2.1\"\nidle = 1",
-            false,
-        ),
-        (
-            "name = \"n1\"\nkind = \"cone\"\nexternal = \"192.0.2.2\"\nidle = 1",
-            false,
-        ),
-        (
-            "name = \"s1\"\nkind = \"cone\"\nexternal = \"198.51.100.1\"\nidle = 1",
-            false,
-        ),
-        (
-            "name = \"N1\"\nkind = \"cone\"\nexternal = \"198.51.100.1\"\nidle = 1",
-            false,
-        ),
-        (
-            "kind = \"cone\"\nexternal = \"198.51.100.1\"\nidle = 1",
-            false,
-        ),
-        (
-            "name = \"n1\"\nkind = \"cone\"\nexternal = \"198.51.100.1\"\nidle = 1\nport = 1",
-            false,
-        ),
-    ];
-    for (nat, wanted) in cases {
-        let text = format!(in rt.alloc(); "{ONE_SERVER}[[nat]]\n{nat}\n")?;
-        assert_eq!(rt; is_scenario(rt.alloc(), text.as_str())?, wanted, "at {nat}");
-    }
-    let seconds = [
-        (
-            "name = \"n2\"\nkind = \"port\"\nexternal = \"198.51.100.2\"\nidle = 1",
-            true,
-        ),
-        (
-            "name = \"n1\"\nkind = \"port\"\nexternal = \"198.51.100.2\"\nidle = 1",
-            false,
-        ),
-        (
-            "name = \"n2\"\nkind = \"port\"\nexternal = \"198.51.100.1\"\nidle = 1",
-            false,
-        ),
-    ];
-    let (first, _) = cases[0];
-    for (nat, wanted) in seconds {
-        let text = format!(in rt.alloc(); "{ONE_SERVER}[[nat]]\n{first}\n[[nat]]\n{nat}\n")?;
-        assert_eq!(rt; is_scenario(rt.alloc(), text.as_str())?, wanted, "at {nat}");
     }
     Ok(())
 }

@@ -7,8 +7,8 @@ ghost use Rattle.std.specs.List.{AllByRecursion};
 ghost use Rattle.history.specs.Events.{IsEvent};
 ghost use Rattle.scenario.specs.Built.{HasOnlyBuilt};
 ghost use Rattle.scenario.specs.Told.{told};
-ghost use Rattle.teredo_app.specs.Streams.{AppendsFront};
 ghost use Rattle.world.specs.World.{record_in, is_more};
+ghost use Rattle.teredo_app.specs.Streams.{AppendsFront};
 ghost use Rattle.teredo_app.specs.Reports.{ReportsOn, BeginsToReport};
 
 use crate::streams::{Fault, write_whole};
