@@ -22,7 +22,8 @@ use Rattle.bubble.specs.Bubbles.{is_bubble}
 use Rattle.teredo_node.specs.declared.fates.Fate.TheVariants as fate
 use Rattle.teredo_node.specs.Step.{just}
 use Rattle.server_core.specs.declared.server.ServerSettings.{ServerSettings}
-use Rattle.server_core.specs.Conditions.{is_other_kind, message_in, is_ill_formed, is_own, is_for_server, is_solicitation, is_forged, is_for_client, is_not_ours, is_unusable, is_looped}
+use Rattle.bubble.specs.Messages.{message_in, is_ill_formed}
+use Rattle.server_core.specs.Conditions.{is_other_kind, is_own, is_for_server, is_solicitation, is_forged, is_for_client, is_not_ours, is_unusable, is_looped}
 use Rattle.server_core.specs.Rules.{rule_of}
 use Rattle.server_core.specs.Outputs.{advert_bytes, forwarded}
 use Rattle.server_core.specs.Server.{sends_one, server_row}

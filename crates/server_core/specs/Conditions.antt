@@ -1,5 +1,5 @@
 -- What the lines of the server's table ask of a datagram (RFC 4380, section 5.3.1).
-use Rattle.std.specs.Prelude.{◌≡◌, ◌==◌, ◌&&◌, ◌||◌, not, Bool, true, false, length, Option, Some, None, IfSome, is_some, option_map, Result, Ok, Err, if◌then◌else◌}
+use Rattle.std.specs.Prelude.{◌&&◌, ◌||◌, not, Bool, true, false, Option, Some}
 use Rattle.td_base.specs.Ip4.{same_ip}
 use Rattle.td_base.specs.Ip6.{same_ip6}
 use Rattle.td_base.specs.Ep.{same_ep, server_ep}
@@ -8,11 +8,8 @@ use Rattle.td_base.specs.declared.ipv4.Ip4.{Ip4}
 use Rattle.td_base.specs.declared.ipv6.Ip6.{Ip6}
 use Rattle.td_base.specs.declared.endpoint.Ep.{Ep}
 use Rattle.ipv6_packet.specs.Packets.{Fields}
-use Rattle.ipv6_packet.specs.declared.header.TheConstants.{NEXT_ICMP}
-use Rattle.icmp6.specs.Message.{Message, router_solicit, message_at, view as message_view}
-use Rattle.icmp6.specs.Writing.{message_len}
-use Rattle.icmp6.specs.declared.message.Msg.{Msg}
-use Rattle.icmp6.specs.declared.fault.IcmpFault.{IcmpFault}
+use Rattle.icmp6.specs.Message.{Message, router_solicit}
+use Rattle.bubble.specs.Messages.{message_in}
 use Rattle.teredo_addr.specs.Teredo.{is_teredo, server_in, embedded, link_local}
 use Rattle.teredo_addr.specs.declared.local.TheConstants.{ALL_ROUTERS}
 use Rattle.bubble.specs.Bubbles.{kind_of}
@@ -28,22 +25,6 @@ is_data Data = true
 -- neither a bubble nor ICMPv6
 unfoldable pub is_other_kind : Fields → Bool
 is_other_kind p = is_data (kind_of p)
-
-abbrev pub accepted : Result Message IcmpFault → Option Message
-accepted (Ok m) = Some m
-accepted (Err fault) = None
-
--- the ICMPv6 message of a packet, where it has one and that is accepted
-unfoldable pub message_in : Fields → Option Message
-message_in p = if p.next == NEXT_ICMP then accepted (message_at p.src p.dst p.hop p.body) else None
-
--- a message that the code read is the packet's
-abbrev pub IsMessageOf : Fields → Option Msg → Type 0
-IsMessageOf p message = (option_map message_view message ≡ message_in p) × IfSome message (λ m. length p.body ≡ message_len (message_view m))
-
--- ICMPv6, and refused
-unfoldable pub is_ill_formed : Fields → Bool
-is_ill_formed p = (p.next == NEXT_ICMP) && not (is_some (message_in p))
 
 -- one of the server's two addresses
 unfoldable pub is_own : ServerSettings → Ip4 → Bool

@@ -13,7 +13,8 @@ use Rattle.server_core.specs.declared.rules.Rule.{Rule}
 use Rattle.server_core.specs.declared.rules.Rule.TheVariants.{Dropped, Advert, ForwardOrigin, Forward, Six}
 use Rattle.ipv6_packet.specs.Reads.{is_big}
 use Rattle.indications.specs.Leads.{is_keyed}
-use Rattle.server_core.specs.Conditions.{is_other_kind, is_ill_formed, is_own, is_for_server, is_solicitation, is_forged, is_for_client, is_not_ours, is_unusable, is_looped}
+use Rattle.bubble.specs.Messages.{is_ill_formed}
+use Rattle.server_core.specs.Conditions.{is_other_kind, is_own, is_for_server, is_solicitation, is_forged, is_for_client, is_not_ours, is_unusable, is_looped}
 
 -- what the lines ask, in their order
 pub record Seen : Type 0 where

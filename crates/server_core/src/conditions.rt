@@ -3,12 +3,13 @@ ghost use Rattle.std.specs.Prelude.{◌≡◌, ◌≤◌, length, IsTrue};
 ghost use Rattle.bubble.specs.declared.parts.TheConstants.{MAX_DATAGRAM};
 ghost use Rattle.ipv6_packet.specs.Packets.{view as packet_view};
 ghost use Rattle.icmp6.specs.declared.numbers.TheConstants.{SOLICIT_LEN};
-ghost use Rattle.server_core.specs.Conditions.{own_address, is_other_kind, message_in, IsMessageOf, is_ill_formed, is_own, is_for_server, is_solicitation, is_forged, is_for_client, is_not_ours, is_unusable, is_looped};
+ghost use Rattle.bubble.specs.Messages.{IsMessageOf};
+ghost use Rattle.server_core.specs.Conditions.{own_address, is_other_kind, is_own, is_for_server, is_solicitation, is_forged, is_for_client, is_not_ours, is_unusable, is_looped};
 
 use crate::server::ServerSettings;
 use bubble::{Kind, kind};
 use icmp6::Msg;
-use ipv6_packet::{NEXT_ICMP, Packet};
+use ipv6_packet::Packet;
 use td_base::{Ep, Ip4, Ip6, is_link_local, usable};
 use teredo_addr::{ALL_ROUTERS, embedded, is_teredo, link_local, server_of};
 
@@ -22,32 +23,6 @@ pub fn is_other_kind(packet: &Packet<'_>) -> bool
         Kind::Data => true,
         Kind::Bubble | Kind::Icmp => false,
     }
-}
-
-/// The ICMPv6 message of a packet, where it has one and that is well-formed.
-#[inline(always)]
-#[tactic(auto, unfolding(crate::specs::Conditions::message_in))]
-pub fn message_of<'a>(packet: &Packet<'a>) -> Option<Msg<'a>>
-    requires { length packet.now.body.now ≤ MAX_DATAGRAM }
-    ensures { IsMessageOf (packet_view packet.now) result }
-{
-    if packet.next != NEXT_ICMP {
-        return None;
-    }
-    match icmp6::read(packet.src, packet.dst, packet.hop, packet.body) {
-        Ok(message) => Some(message),
-        Err(_) => None,
-    }
-}
-
-/// Whether a packet is ICMPv6 and its message is refused.
-#[inline(always)]
-#[tactic(auto, unfolding(crate::specs::Conditions::is_ill_formed))]
-pub fn is_ill_formed(packet: &Packet<'_>, message: Option<Msg<'_>>) -> bool
-    requires { IsMessageOf (packet_view packet.now) message }
-    ensures { result ≡ is_ill_formed (packet_view packet.now) }
-{
-    packet.next == NEXT_ICMP && message.is_none()
 }
 
 /// Whether an address is one of the server's two.

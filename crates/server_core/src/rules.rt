@@ -5,15 +5,15 @@ ghost use Rattle.bubble.specs.Payloads.{view};
 ghost use Rattle.ipv6_packet.specs.Reads.{is_big};
 ghost use Rattle.ipv6_packet.specs.Packets.{view as packet_view};
 ghost use Rattle.teredo_node.specs.Rows.{first_line};
-ghost use Rattle.server_core.specs.Conditions.{IsMessageOf};
+ghost use Rattle.bubble.specs.Messages.{IsMessageOf};
 ghost use Rattle.server_core.specs.Rules.{seen, packet_lines, destination_lines, last_line, rule_of, IsPeer, Warrants};
 
 use crate::conditions::{
-    is_for_client, is_for_server, is_forged, is_ill_formed, is_looped, is_not_ours, is_other_kind,
-    is_own, is_solicitation, is_unusable, message_of,
+    is_for_client, is_for_server, is_forged, is_looped, is_not_ours, is_other_kind, is_own,
+    is_solicitation, is_unusable,
 };
 use crate::server::ServerSettings;
-use bubble::Payload;
+use bubble::{Payload, is_ill_formed, message_of};
 use icmp6::Msg;
 use indications::is_keyed;
 use ipv6_packet::is_big;

@@ -61,7 +61,7 @@ route t H m (six None bytes) = if is_packet bytes then reach t (number_of (is_na
 
 -- what a node without a journal did
 abbrev pub noted : ℕ → Input → Step → Entry
-noted m input step = record { moment = m; input = input; peer = None; words = []; step = step }
+noted m input step = record { moment = m; input = input; packet = None; peer = None; words = []; step = step }
 
 -- the entry of node n for an input at m. The endpoint is that which a datagram was sent to
 abbrev pub entry_of : Draws → TopologyState → List Full → ℕ → ℕ → Ep → Input → Node → Entry
