@@ -19,8 +19,8 @@ use Rattle.td_base.specs.declared.ipv6.Ip6.{Ip6}
 use Rattle.history.specs.Ip6Words.{ip6_of}
 use Rattle.history.specs.declared.target.Target.{Target}
 use Rattle.history.specs.declared.target.Target.TheVariants as target
-use Rattle.history.specs.Rows.{TopologyState}
-use Rattle.history.specs.Topology.{Node, nodes, node_at}
+use Rattle.topology.specs.Rows.{TopologyState}
+use Rattle.topology.specs.Topology.{Node, nodes, node_at}
 use Rattle.history.specs.Events.{has_host, is_nat, is_client_of, IsTarget, IsEvent}
 use Rattle.history.specs.Words.{same_text, number_of, ep_of, few_bytes, hex_of, bytes_of}
 use Rattle.history.specs.Verbs.{verb_of}

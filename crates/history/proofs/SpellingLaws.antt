@@ -21,10 +21,10 @@ use Rattle.history.specs.declared.acts.Verb.TheVariants as verb
 use Rattle.history.specs.declared.target.Target.{Target}
 use Rattle.history.specs.declared.target.Target.TheVariants as target
 use Rattle.td_base.specs.declared.node_name.TheConstants.{NAME_LEN}
-use Rattle.history.specs.NodeNames.{is_name_byte, begins_with_letter, is_name}
-use Rattle.history.specs.Rows.{TopologyState}
-use Rattle.history.specs.Topology.{Node, nodes, node_at, name_of}
-use Rattle.history.specs.Rules.{AreDistinct, names_of, IsTopology}
+use Rattle.topology.specs.NodeNames.{is_name_byte, begins_with_letter, is_name}
+use Rattle.topology.specs.Rows.{TopologyState}
+use Rattle.topology.specs.Topology.{Node, nodes, node_at, name_of}
+use Rattle.topology.specs.Rules.{AreDistinct, names_of, IsTopology}
 use Rattle.history.specs.Events.{has_host, is_nat, is_client_of, IsTarget, IsEvent}
 use Rattle.history.specs.Words.{same_text, space}
 use Rattle.history.specs.Verbs.{verb_word, verb_of}

@@ -6,7 +6,7 @@ use Rattle.history.specs.declared.event.Event.TheVariants as event
 use Rattle.history.specs.declared.event.TheConstants.{MOST_ADVANCE, MOST_NUMBER, MOST_SEQUENCE, MOST_BODY, MOST_BYTES}
 use Rattle.history.specs.declared.acts.Verb.{Verb}
 use Rattle.history.specs.declared.acts.Verb.TheVariants as verb
-use Rattle.history.specs.Rows.{TopologyState}
+use Rattle.topology.specs.Rows.{TopologyState}
 use Rattle.history.specs.Events.{has_host, is_nat, is_client_of}
 use Rattle.history.specs.Words.{parts_at, space, number_of, ep_of, bytes_of}
 use Rattle.history.specs.Verbs.{verb_of}

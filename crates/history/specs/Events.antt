@@ -5,8 +5,8 @@ use Rattle.history.specs.declared.event.Event.TheVariants as event
 use Rattle.history.specs.declared.event.TheConstants.{MOST_ADVANCE, MOST_NUMBER, MOST_BODY, MOST_BYTES}
 use Rattle.history.specs.declared.target.Target.{Target}
 use Rattle.history.specs.declared.target.Target.TheVariants as target
-use Rattle.history.specs.Rows.{TopologyState}
-use Rattle.history.specs.Topology.{Node, nat, client, native, nodes, node_at}
+use Rattle.topology.specs.Rows.{TopologyState}
+use Rattle.topology.specs.Topology.{Node, nat, client, native, nodes, node_at}
 
 -- a client or a native host: a node with a host of its own
 abbrev pub has_host : Option Node → Bool

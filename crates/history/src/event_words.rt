@@ -14,7 +14,7 @@ use crate::event::{Event, MOST_BYTES};
 use crate::event_fault::EventFault;
 use crate::node_words::{client_named, host_named, nat_named, node_named, target_word};
 use crate::target::Target;
-use crate::topology::Topology;
+use topology::Topology;
 use crate::word_texts::{bytes_word, ep_word, number_word};
 use std::alloc::Global;
 use td_base::Ep;

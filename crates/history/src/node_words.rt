@@ -5,13 +5,13 @@ ghost use Rattle.history.specs.Words.{same_text};
 ghost use Rattle.history.specs.Events.{has_host, is_nat, is_client_of};
 ghost use Rattle.history.specs.NodeWords.{any_kind, named, target_of};
 
-use crate::client_node::ClientNode;
-use crate::nat_node::NatNode;
-use crate::native_node::NativeNode;
-use crate::relay_node::RelayNode;
-use crate::server_node::ServerNode;
+use topology::ClientNode;
+use topology::NatNode;
+use topology::NativeNode;
+use topology::RelayNode;
+use topology::ServerNode;
 use crate::target::Target;
-use crate::topology::Topology;
+use topology::Topology;
 use crate::word_texts::ip6_word;
 
 fn server_place(rows: &[ServerNode], word: &[u8]) -> Option<usize>

@@ -12,8 +12,8 @@ use Rattle.history.specs.declared.mark.Loss.TheVariants as loss
 use Rattle.history.specs.declared.mark.Mark.{Mark}
 use Rattle.history.specs.declared.mark.Mark.TheVariants as mark
 use Rattle.history.specs.declared.records.Record.{Record}
-use Rattle.history.specs.Rows.{TopologyState}
-use Rattle.history.specs.Topology.{Node, name_of, node_at}
+use Rattle.topology.specs.Rows.{TopologyState}
+use Rattle.topology.specs.Topology.{Node, name_of, node_at}
 use Rattle.history.specs.Verbs.{verb_word}
 use Rattle.history.specs.Full.{Full}
 use Rattle.history.specs.Records.{record_of}

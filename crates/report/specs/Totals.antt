@@ -2,7 +2,7 @@
 use Rattle.std.specs.Prelude.{ℕ, ◌+◌, ◌-◌, ◌^◌, ◌≤◌, List, ◌++◌, length, count_by, codes, decimal, is_some, if◌then◌else◌}
 use Rattle.teredo_node.specs.Fates.{is_drop}
 use Rattle.history.specs.declared.records.Record.{Record}
-use Rattle.history.specs.Rows.{TopologyState}
+use Rattle.topology.specs.Rows.{TopologyState}
 use Rattle.history.specs.Full.{Full, wire}
 use Rattle.history.specs.Records.{handed_of}
 use Rattle.history.specs.Telling.{is_kept, is_delivery, is_entry}

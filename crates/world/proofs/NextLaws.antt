@@ -13,13 +13,14 @@ use Rattle.history.specs.declared.event.Event.{Event}
 use Rattle.history.specs.declared.event.Event.TheVariants as event
 use Rattle.history.specs.declared.acts.Act.TheVariants as act
 use Rattle.history.specs.declared.acts.Verb.TheVariants as verb
-use Rattle.history.specs.Rows.{TopologyState}
-use Rattle.history.specs.Topology.{Node, server, nat, client, relay, native, nodes, side_at}
+use Rattle.topology.specs.Rows.{TopologyState}
+use Rattle.topology.specs.Topology.{Node, server, nat, client, relay, native, nodes, side_at}
 use Rattle.history.specs.Telling.{is_no_entry, IsTold}
 use Rattle.history.specs.Full.{Item, udp, six, Full, wire}
-use Rattle.world.specs.Past.{Draws, now, began, first_undelivered, is_restart, forgotten}
-use Rattle.world.specs.Emit.{Route, reaches, closed, astray, route, entry_of, server_settings}
-use Rattle.world.specs.Next.{Numbered, numbered, Due, least_due, plain, advance_with, advanced, acts, no_ep, blank, delivers_to, delivers_item, delivers_or, copies, next_of}
+use Rattle.legal.specs.Past.{Draws, now, began, first_undelivered, is_restart, forgotten}
+use Rattle.legal.specs.Emit.{Route, reaches, closed, astray, route, entry_of}
+use Rattle.legal.specs.Settings.{server_settings}
+use Rattle.legal.specs.Next.{Numbered, numbered, Due, least_due, plain, advance_with, advanced, acts, no_ep, blank, delivers_to, delivers_item, delivers_or, copies, next_of}
 
 -- THE EVENT AND ITS NUMBER
 

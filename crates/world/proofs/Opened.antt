@@ -6,8 +6,8 @@ use Rattle.history.specs.declared.acts.Verb.TheVariants as verb
 use Rattle.history.specs.declared.records.Record.{Record}
 use Rattle.history.specs.declared.turn.Stop.{Stop}
 use Rattle.history.specs.Full.{Item, Full, wire}
-use Rattle.world.specs.Past.{Draws, was_delivered, first_open, first_undelivered}
-use Rattle.world.specs.Next.{numbered, plain, blank, delivers, delivers_or, next_of}
+use Rattle.legal.specs.Past.{Draws, was_delivered, first_open, first_undelivered}
+use Rattle.legal.specs.Next.{numbered, plain, blank, delivers, delivers_or, next_of}
 use Rattle.world.specs.Held.{WireState}
 use Rattle.world.specs.Steps.{said, Has, Plays}
 use Rattle.world.specs.World.{WorldState, StandsFor}

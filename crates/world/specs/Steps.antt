@@ -9,7 +9,7 @@ use Rattle.history.specs.declared.turn.Stop.TheVariants.{WireFull, NoMemory}
 use Rattle.history.specs.Full.{Item, six, Made, sent, Full, item_in, items_of}
 use Rattle.history.specs.Records.{record_of}
 use Rattle.world.specs.declared.wire.TheConstants.{MOST_ENTRIES}
-use Rattle.world.specs.Past.{is_number}
+use Rattle.legal.specs.Past.{is_number}
 use Rattle.world.specs.Held.{WireState}
 
 -- a record of a step of no node, with these marks

@@ -1,0 +1,9 @@
+pub mod Scenes
+pub mod RowsQualify
+pub mod RowsPeers
+pub mod RowsCone
+pub mod RowsRelay
+pub mod RowsTries
+pub mod RowsQueue
+pub mod Late
+pub mod OwnStreams
