@@ -1,9 +1,9 @@
 -- The rules that a topology keeps, and the events that a scenario with it may ask for.
 use Rattle.std.specs.Prelude.{◌≡◌, ◌≢◌, ◌≤◌, ◌==◌, ◌&&◌, Bool, true, false, is_some, List, [], ◌∷◌, ◌++◌, map, flat_map, length}
 use Rattle.std.specs.List.{list_any, AllByRecursion}
-use Rattle.td_base.specs.Ip4.{same_ip}
-use Rattle.td_base.specs.Ip6.{same_ip6}
-use Rattle.td_base.specs.Ep.{same_ep}
+use Rattle.td_base.specs.Ip4.{IsIp4, same_ip}
+use Rattle.td_base.specs.Ip6.{IsIp6, same_ip6}
+use Rattle.td_base.specs.Ep.{IsEp, same_ep}
 use Rattle.td_base.specs.Names.{name_text, same_name}
 use Rattle.td_base.specs.Reach.{is_global, is_global6}
 use Rattle.td_base.specs.declared.ipv4.Ip4.{Ip4}
@@ -63,6 +63,14 @@ pub record IsOutside (ip : Ip6) : Type 0 where
   pub global : is_global6 ip ≡ true
   pub other : is_teredo ip ≡ false
 
+-- addresses have 4 or 16 bytes, and ports 16 bits, as datagrams have them
+pub record AreMade (t : TopologyState) : Type 0 where
+  pub addresses : AllByRecursion IsIp4 (addresses_of t)
+  pub sixes : AllByRecursion IsIp6 (sixes_of t)
+  pub inside : AllByRecursion (λ (c : ClientNode). IsEp c.inside) t.clients
+  pub at : AllByRecursion (λ (r : RelayNode). IsEp r.at) t.relays
+
+-- the rules that the nodes of a scenario keep
 pub record IsTopology (t : TopologyState) : Type 0 where
   pub servers : length t.servers ≤ MOST_SERVERS
   pub nats : length t.nats ≤ MOST_NATS
@@ -80,3 +88,4 @@ pub record IsTopology (t : TopologyState) : Type 0 where
   pub outside : AllByRecursion IsOutside (sixes_of t)
   pub sixes : AreDistinct same_ip6 (sixes_of t)
   pub through : AllByRecursion (λ (h : NativeNode). is_some (relay_at t h.relay) ≡ true) t.natives
+  pub made : AreMade t

@@ -20,6 +20,8 @@
 mod client_node;
 mod nat_node;
 mod native_node;
+mod node;
+mod places;
 mod relay_node;
 mod server_node;
 mod topology;
@@ -27,6 +29,9 @@ mod topology;
 pub use client_node::{ClientNode, LEAST_REFRESH, MOST_REFRESH};
 pub use nat_node::{MOST_IDLE, NatNode};
 pub use native_node::NativeNode;
+pub use node::Node;
 pub use relay_node::RelayNode;
 pub use server_node::ServerNode;
-pub use topology::{MOST_CLIENTS, MOST_NATIVES, MOST_NATS, MOST_RELAYS, MOST_SERVERS, Topology};
+pub use topology::{
+    MOST_CLIENTS, MOST_NATIVES, MOST_NATS, MOST_RELAYS, MOST_SERVERS, NODES_MAX, Topology,
+};

@@ -1,13 +1,17 @@
-ghost use Rattle.std.specs.Prelude.{◌≡◌, ◌≤◌, ◌∷◌, [], ◌++◌, length, option_map, OnOk, OnErr};
+ghost use Rattle.std.specs.Prelude.{◌≡◌, ◌≤◌, ◌<◌, ◌∷◌, [], ◌++◌, ◌+◌, length, position, option_map, IfSome, OnOk, OnErr};
+ghost use Rattle.std.specs.Option.{option_or};
+ghost use Rattle.topology.specs.declared.topology.TheConstants.{NODES_MAX};
 
 use crate::client_node::ClientNode;
 use crate::nat_node::NatNode;
 use crate::native_node::NativeNode;
+use crate::node::Node;
+use crate::places::{client_behind, nat_at, native_with, relay_at, server_at};
 use crate::relay_node::RelayNode;
 use crate::server_node::ServerNode;
 use std::alloc::Global;
 use std::marker::Model;
-use td_base::{Name, NoMemory};
+use td_base::{Ep, Ip6, Name, NoMemory};
 
 /// How many servers a scenario has at most.
 pub const MOST_SERVERS: usize = 8;
@@ -23,6 +27,10 @@ pub const MOST_RELAYS: usize = 4;
 
 /// How many native hosts a scenario has at most.
 pub const MOST_NATIVES: usize = 64;
+
+/// How many nodes a scenario has at most.
+pub const NODES_MAX: usize =
+    MOST_SERVERS + MOST_NATS + MOST_CLIENTS + MOST_RELAYS + MOST_NATIVES;
 
 /// The nodes of a scenario, numbered from 0: the servers in order, then the NATs, the clients, the relays, the native
 /// hosts. It keeps the rules of `specs/Rules.antt`.
@@ -61,7 +69,7 @@ impl Model for Topology {
 impl Topology {
     ghost use Rattle.topology.specs.Rows.{no_nodes, with_server, with_nat, with_client, with_relay, with_native};
     ghost use Rattle.topology.specs.Rules.{IsTopology};
-    ghost use Rattle.topology.specs.Topology.{name_of, node_at};
+    ghost use Rattle.topology.specs.Topology.{server, nat, client, relay, native, name_of, node_at, nodes, number_of, is_at, is_behind, is_native};
 
     /// No nodes.
     pub fn new(alloc: Global) -> Topology
@@ -116,29 +124,116 @@ impl Topology {
         self.natives.as_slice()
     }
 
-    /// The name of the node with that number, over all kinds of nodes.
-    pub fn name_at(&self, node: u16) -> Option<Name>
-        ensures { result ≡ option_map name_of (node_at self.now node) }
+    /// The node with that number, over all kinds of nodes.
+    #[tactic(auto, using(crate::proofs::Counts::few))]
+    pub fn node(&self, number: usize) -> Option<Node>
+        ensures found { result ≡ node_at self.now number }
+        ensures within { IfSome result (λ _. number < length (nodes self.now)) }
+        ensures few { length (nodes self.now) ≤ NODES_MAX }
     {
-        let mut at = usize::from(node);
-        if let Some(row) = self.servers.get(at) {
-            return Some(row.name);
+        let mut place = number;
+        if let Some(row) = self.servers.get(place) {
+            return Some(Node::Server(*row));
         }
-        at -= self.servers.len();
-        if let Some(row) = self.nats.get(at) {
-            return Some(row.name);
+        place -= self.servers.len();
+        if let Some(row) = self.nats.get(place) {
+            return Some(Node::Nat(*row));
         }
-        at -= self.nats.len();
-        if let Some(row) = self.clients.get(at) {
-            return Some(row.name);
+        place -= self.nats.len();
+        if let Some(row) = self.clients.get(place) {
+            return Some(Node::Client(*row));
         }
-        at -= self.clients.len();
-        if let Some(row) = self.relays.get(at) {
-            return Some(row.name);
+        place -= self.clients.len();
+        if let Some(row) = self.relays.get(place) {
+            return Some(Node::Relay(*row));
         }
-        at -= self.relays.len();
-        let row = self.natives.get(at)?;
-        Some(row.name)
+        place -= self.relays.len();
+        let row = self.natives.get(place)?;
+        Some(Node::Native(*row))
+    }
+
+    /// The name of the node with that number.
+    pub fn name_at(&self, number: u16) -> Option<Name>
+        ensures { result ≡ option_map name_of (node_at self.now number) }
+    {
+        let node = self.node(usize::from(number))?;
+        Some(node.name())
+    }
+
+    fn nat_number(&self, dst: Ep) -> Option<u16>
+        ensures { result ≡ option_map (λ k. length self.now.servers + k) (position (λ row. is_at dst (nat row)) self.now.nats) }
+    {
+        let number = self.servers.len();
+        match nat_at(self.nats.as_slice(), dst) {
+            Some(place) => Some((number + place) as u16),
+            None => None,
+        }
+    }
+
+    fn relay_number(&self, dst: Ep) -> Option<u16>
+        ensures { result ≡ option_map (λ k. length self.now.servers + length self.now.nats + length self.now.clients + k) (position (λ row. is_at dst (relay row)) self.now.relays) }
+    {
+        let number = self.servers.len() + self.nats.len() + self.clients.len();
+        match relay_at(self.relays.as_slice(), dst) {
+            Some(place) => Some((number + place) as u16),
+            None => None,
+        }
+    }
+
+    fn number_at(&self, dst: Ep) -> Option<u16>
+        ensures { result ≡ option_or (position (λ row. is_at dst (server row)) self.now.servers)
+            (option_or (option_map (λ k. length self.now.servers + k) (position (λ row. is_at dst (nat row)) self.now.nats))
+            (option_map (λ k. length self.now.servers + length self.now.nats + length self.now.clients + k) (position (λ row. is_at dst (relay row)) self.now.relays))) }
+    {
+        if let Some(place) = server_at(self.servers.as_slice(), dst) {
+            return Some(place as u16);
+        }
+        if let Some(number) = self.nat_number(dst) {
+            return Some(number);
+        }
+        self.relay_number(dst)
+    }
+
+    fn number_behind(&self, nat: u16, inside: Ep) -> Option<u16>
+        ensures { result ≡ option_map (λ k. length self.now.servers + length self.now.nats + k) (position (λ row. is_behind nat inside (client row)) self.now.clients) }
+    {
+        let number = self.servers.len() + self.nats.len();
+        match client_behind(self.clients.as_slice(), nat, inside) {
+            Some(place) => Some((number + place) as u16),
+            None => None,
+        }
+    }
+
+    fn number_with(&self, ip: Ip6) -> Option<u16>
+        ensures { result ≡ option_map (λ k. length self.now.servers + length self.now.nats + length self.now.clients + length self.now.relays + k) (position (λ row. is_native ip (native row)) self.now.natives) }
+    {
+        let number =
+            self.servers.len() + self.nats.len() + self.clients.len() + self.relays.len();
+        match native_with(self.natives.as_slice(), ip) {
+            Some(place) => Some((number + place) as u16),
+            None => None,
+        }
+    }
+
+    /// The number of the node that datagrams to an endpoint come to.
+    pub fn at(&self, dst: Ep) -> Option<u16>
+        ensures { result ≡ number_of (is_at dst) self.now }
+    {
+        self.number_at(dst)
+    }
+
+    /// The number of the client behind a NAT that has this inside endpoint.
+    pub fn client_behind(&self, nat: u16, inside: Ep) -> Option<u16>
+        ensures { result ≡ number_of (is_behind nat inside) self.now }
+    {
+        self.number_behind(nat, inside)
+    }
+
+    /// The number of the native host with this address.
+    pub fn native_with(&self, ip: Ip6) -> Option<u16>
+        ensures { result ≡ number_of (is_native ip) self.now }
+    {
+        self.number_with(ip)
     }
 
     /// Appends a server, or drops it where memory runs out. No node of another kind is there yet.
