@@ -11,7 +11,9 @@ use Rattle.topology.specs.declared.client_node.ClientNode.{ClientNode}
 use Rattle.topology.specs.declared.relay_node.RelayNode.{RelayNode}
 use Rattle.topology.specs.declared.native_node.NativeNode.{NativeNode}
 use Rattle.topology.specs.Rows.{TopologyState}
-use Rattle.topology.specs.Topology.{Node, server, nat, client, relay, native, nodes}
+use Rattle.topology.specs.declared.node.Node.{Node}
+use Rattle.topology.specs.declared.node.Node.TheVariants.{Server as server, Nat as nat, Client as client, Relay as relay, Native as native}
+use Rattle.topology.specs.Topology.{nodes}
 use Rattle.history.specs.Events.{has_host, is_nat, is_client_of}
 use Rattle.history.specs.Words.{same_text}
 use Rattle.history.specs.NodeWords.{any_kind, named, is_named}

@@ -23,7 +23,8 @@ use Rattle.history.specs.declared.target.Target.TheVariants as target
 use Rattle.td_base.specs.declared.node_name.TheConstants.{NAME_LEN}
 use Rattle.topology.specs.NodeNames.{is_name_byte, begins_with_letter, is_name}
 use Rattle.topology.specs.Rows.{TopologyState}
-use Rattle.topology.specs.Topology.{Node, nodes, node_at, name_of}
+use Rattle.topology.specs.declared.node.Node.{Node}
+use Rattle.topology.specs.Topology.{nodes, node_at, name_of}
 use Rattle.topology.specs.Rules.{AreDistinct, names_of, IsTopology}
 use Rattle.history.specs.Events.{has_host, is_nat, is_client_of, IsTarget, IsEvent}
 use Rattle.history.specs.Words.{same_text, space}

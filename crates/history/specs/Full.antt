@@ -29,6 +29,7 @@ pub record Full : Type 0 where
   pub delivered : Option ℕ  -- the number of the entry that was delivered
   pub entry : Option Entry  -- what the node was given and did
   pub address : Option Ip6  -- that which a client got
+  pub handed : Option (List ℕ)  -- the packet that a client's host was handed
   pub first : ℕ  -- the number of the first entry that was made
   pub made : List Made  -- its sends and entries, in order
 

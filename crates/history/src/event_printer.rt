@@ -110,8 +110,8 @@ fn push_target(text: &mut Vec<u8>, t: &Topology, to: Target) -> Result<(), NoMem
     ensures text { OnOk result (text.new.items ≡ text.old.items ++ space ∷ target_word t.now to) }
 {
     match to {
-        Target::Node { number } => push_node(text, t, number),
-        Target::At { ip } => push_ip6(text, ip),
+        Target::Node(number) => push_node(text, t, number),
+        Target::At(ip) => push_ip6(text, ip),
     }
 }
 

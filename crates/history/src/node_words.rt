@@ -157,8 +157,8 @@ pub(crate) fn target_word(t: &Topology, word: &[u8]) -> Option<Target>
     ensures { result ≡ target_of t.now word.now }
 {
     if let Some(number) = host_named(t, word) {
-        return Some(Target::Node { number });
+        return Some(Target::Node(number));
     }
     let ip = ip6_word(word)?;
-    Some(Target::At { ip })
+    Some(Target::At(ip))
 }

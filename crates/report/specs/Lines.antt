@@ -13,7 +13,8 @@ use Rattle.history.specs.declared.mark.Mark.{Mark}
 use Rattle.history.specs.declared.mark.Mark.TheVariants as mark
 use Rattle.history.specs.declared.records.Record.{Record}
 use Rattle.topology.specs.Rows.{TopologyState}
-use Rattle.topology.specs.Topology.{Node, name_of, node_at}
+use Rattle.topology.specs.declared.node.Node.{Node}
+use Rattle.topology.specs.Topology.{name_of, node_at}
 use Rattle.history.specs.Verbs.{verb_word}
 use Rattle.history.specs.Full.{Full}
 use Rattle.history.specs.Records.{record_of}

@@ -1,6 +1,7 @@
 //! The places of nodes among those of their kind.
 ghost use Rattle.std.specs.Prelude.{◌≡◌, ◌<◌, position, length, IfSome};
-ghost use Rattle.topology.specs.Topology.{server, nat, client, relay, native, is_at, is_behind, is_native};
+ghost use Rattle.topology.specs.declared.node.Node.TheVariants.{Server as server, Nat as nat, Client as client, Relay as relay, Native as native};
+ghost use Rattle.topology.specs.Topology.{is_at, is_behind, is_native};
 
 use crate::client_node::ClientNode;
 use crate::nat_node::NatNode;

@@ -69,7 +69,8 @@ impl Model for Topology {
 impl Topology {
     ghost use Rattle.topology.specs.Rows.{no_nodes, with_server, with_nat, with_client, with_relay, with_native};
     ghost use Rattle.topology.specs.Rules.{IsTopology};
-    ghost use Rattle.topology.specs.Topology.{server, nat, client, relay, native, name_of, node_at, nodes, number_of, is_at, is_behind, is_native};
+    ghost use Rattle.topology.specs.declared.node.Node.TheVariants.{Server as server, Nat as nat, Client as client, Relay as relay, Native as native};
+    ghost use Rattle.topology.specs.Topology.{name_of, node_at, nodes, number_of, is_at, is_behind, is_native};
 
     /// No nodes.
     pub fn new(alloc: Global) -> Topology

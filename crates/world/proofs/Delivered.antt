@@ -20,7 +20,9 @@ use Rattle.teredo_node.specs.declared.fates.Fate.{Fate}
 use Rattle.ipv6_packet.specs.Reads.{is_packet, fields_in}
 use Rattle.history.specs.declared.records.Record.{Record}
 use Rattle.topology.specs.Rows.{TopologyState}
-use Rattle.topology.specs.Topology.{Node, server, side_at, is_native, number_of}
+use Rattle.topology.specs.declared.node.Node.{Node}
+use Rattle.topology.specs.declared.node.Node.TheVariants.{Server as server}
+use Rattle.topology.specs.Topology.{side_at, is_native, number_of}
 use Rattle.history.specs.Full.{Item, udp, six, Made, Full, items_of}
 use Rattle.history.specs.Records.{record_of, marks_of}
 use Rattle.server_core.specs.Server.{server_row}

@@ -9,7 +9,9 @@ use Rattle.teredo_node.specs.Step.{Send}
 use Rattle.topology.specs.declared.server_node.ServerNode.{ServerNode}
 use Rattle.history.specs.declared.mark.Mark.{Mark}
 use Rattle.history.specs.declared.mark.Mark.TheVariants as mark
-use Rattle.topology.specs.Topology.{Node, server, own_ep}
+use Rattle.topology.specs.declared.node.Node.{Node}
+use Rattle.topology.specs.declared.node.Node.TheVariants.{Server as server}
+use Rattle.topology.specs.Topology.{own_ep}
 use Rattle.history.specs.Full.{Item, udp, Made, sent, lost, item_in}
 use Rattle.history.specs.Records.{mark_of, marks_of}
 use Rattle.legal.specs.Emit.{outright, made_outright}

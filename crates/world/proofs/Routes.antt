@@ -12,7 +12,9 @@ use Rattle.nat_kinds.specs.Nat as nats
 use Rattle.nat_kinds.specs.History.{Entry}
 use Rattle.topology.specs.declared.server_node.ServerNode.{ServerNode}
 use Rattle.topology.specs.declared.nat_node.NatNode.{NatNode}
-use Rattle.topology.specs.Topology.{Node, server, nat, nodes, node_at, is_at, is_behind, is_native, number_of, nat_settings}
+use Rattle.topology.specs.declared.node.Node.{Node}
+use Rattle.topology.specs.declared.node.Node.TheVariants.{Server as server, Nat as nat}
+use Rattle.topology.specs.Topology.{nodes, node_at, is_at, is_behind, is_native, number_of, nat_settings}
 use Rattle.history.specs.Full.{Full}
 use Rattle.legal.specs.Past.{nat_history}
 use Rattle.legal.specs.Emit.{reaches, astray, reach, through, route_inside}

@@ -7,7 +7,8 @@ use Rattle.nat_kinds.specs.Nat as nats
 use Rattle.topology.specs.declared.server_node.ServerNode.{ServerNode}
 use Rattle.topology.specs.declared.nat_node.NatNode.{NatNode}
 use Rattle.topology.specs.Rows.{TopologyState}
-use Rattle.topology.specs.Topology.{server, nat_settings}
+use Rattle.topology.specs.declared.node.Node.TheVariants.{Server as server}
+use Rattle.topology.specs.Topology.{nat_settings}
 use Rattle.history.specs.Full.{Full}
 use Rattle.world.specs.declared.way.Way.{Way}
 use Rattle.world.specs.declared.way.Way.TheVariants.{Server, Closed, Astray}

@@ -9,7 +9,8 @@ use Rattle.history.specs.declared.turn.Turn.TheVariants.{More, Last}
 use Rattle.history.specs.declared.turn.Stop.{Stop}
 use Rattle.history.specs.declared.turn.Stop.TheVariants.{WireFull, NoMemory}
 use Rattle.topology.specs.Rows.{TopologyState}
-use Rattle.topology.specs.Topology.{Node, nodes}
+use Rattle.topology.specs.declared.node.Node.{Node}
+use Rattle.topology.specs.Topology.{nodes}
 use Rattle.history.specs.Full.{Item, Full, wire, items_of}
 use Rattle.history.specs.Records.{record_of}
 use Rattle.history.specs.Telling.{IsTold}

@@ -3,7 +3,7 @@ ghost use Rattle.std.specs.Prelude.{◌≡◌, ◌≤◌, ◌<◌, ◌+◌, [], 
 ghost use Rattle.history.specs.declared.event.TheConstants.{MOST_BYTES};
 ghost use Rattle.std.specs.Prelude.{List};
 ghost use Rattle.history.specs.Full.{Item};
-ghost use Rattle.topology.specs.Topology.{server};
+ghost use Rattle.topology.specs.declared.node.Node.TheVariants.{Server as server};
 ghost use Rattle.history.specs.Records.{marks_of};
 ghost use Rattle.teredo_node.specs.Step.{part};
 ghost use Rattle.teredo_node.specs.declared.steps.TheConstants.{SENDS_MAX};

@@ -1,5 +1,5 @@
 use Rattle.std.proofs.Common.{None, Some}
-use Rattle.topology.specs.Topology.{server}
+use Rattle.topology.specs.declared.node.Node.TheVariants.{Server as server}
 use Rattle.legal.specs.Emit.{outright}
 use Rattle.world.specs.Steps.{packet_made}
 use Rattle.world.proofs.Emitted.{both_parts, both_marks}
