@@ -21,6 +21,10 @@ abbrev pub marks_of : ℕ → List Made → List Mark
 marks_of number [] = []
 marks_of number (m ∷ ms) = mark_of number m ∷ marks_of (after_made number m) ms
 
+-- the length of the packet that went to a client's host
+abbrev pub handed_of : Full → Option ℕ
+handed_of r = option_map length r.handed
+
 -- how many waiting packets were dropped
 abbrev pub gone_of : Option Entry → ℕ
 gone_of None = 0
@@ -34,7 +38,7 @@ record_of r = record {
   node = r.node;
   fate = r.fate;
   address = r.address;
-  handed = option_map length r.handed;
+  handed = handed_of r;
   gone = gone_of r.entry;
   marks = marks_of r.first r.made;
 }

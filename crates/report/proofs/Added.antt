@@ -42,7 +42,7 @@ delivered_more H r told =
     ap (λ (b : Bool). count_by (λ (f : Full). is_some f.delivered) H + (if b then 1 else 0)) (sym told.delivered) ∙ counted (λ (f : Full). is_some f.delivered) r H
 
 pub sums_more : (H : List Full) (r : Full) → IsTold r → added (sums_of H) (record_of r) ≡ sums_of (r ∷ H)
-sums_more H r told = same_sums (add-one (length H)) (entries_more H r) (delivered_more H r told) (counted (λ (f : Full). is_some (handed_of f.entry)) r H) (counted (λ (f : Full). is_kept f.fate) r H) (counted (λ (f : Full). is_drop f.fate) r H)
+sums_more H r told = same_sums (add-one (length H)) (entries_more H r) (delivered_more H r told) (counted (λ (f : Full). is_some (handed_of f)) r H) (counted (λ (f : Full). is_kept f.fate) r H) (counted (λ (f : Full). is_drop f.fate) r H)
 
 pub sums_after : (old new : Sums) (H : List Full) (r : Full) → new ≡ added old (record_of r) → old ≡ sums_of H → IsTold r → new ≡ sums_of (r ∷ H)
 sums_after old new H r e f told = e ∙ ap (λ (s : Sums). added s (record_of r)) f ∙ sums_more H r told

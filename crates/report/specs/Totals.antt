@@ -15,7 +15,7 @@ sums_of H = record {
   records = length H;
   entries = length (wire H);
   delivered = count_by (λ r. is_some r.delivered) H;
-  handed = count_by (λ r. is_some (handed_of r.entry)) H;
+  handed = count_by (λ r. is_some (handed_of r)) H;
   kept = count_by (λ r. is_kept r.fate) H;
   dropped = count_by (λ r. is_drop r.fate) H;
 }
