@@ -3,4 +3,5 @@ pub mod Calls
 pub mod Clocks
 pub mod Links
 pub mod MemLink
+pub mod Moves
 pub mod Streams

@@ -40,6 +40,10 @@ impl<R: Files> Source for FileSource<'_, R> {
 
     ghost left = { λ s. None };
 
+    ghost openings = { λ s. None };
+
+    ghost taken = { λ s. None };
+
     ghost faults = { λ s. s };
 
     fn open(&mut self, name: &str) -> Result<(), Failed> {

@@ -114,6 +114,8 @@ impl MemLink {
 impl Link for MemLink {
     ghost addresses = { λ s. s.addresses };
 
+    ghost openings = { λ s. None };
+
     ghost told = { told_of };
 
     ghost recv_faults = { λ s. s.receives.faults };

@@ -60,6 +60,8 @@ fn is_on(on: Option<Addresses>, primary: Ip4, secondary: Ip4) -> bool
 impl<R: Net + AllocGlobal> Link for UdpPair<'_, R> {
     ghost addresses = { λ s. s.addresses };
 
+    ghost openings = { λ s. None };
+
     ghost told = { λ s. told_nothing };
 
     ghost recv_faults = { λ s. s.recv_faults };
