@@ -4,4 +4,5 @@ pub mod Clocks
 pub mod Links
 pub mod MemLink
 pub mod Moves
+pub mod MoveLaws
 pub mod Streams

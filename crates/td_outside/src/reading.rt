@@ -2,7 +2,7 @@
 ghost use Rattle.std.specs.Prelude.{◌≡◌, ◌≤◌, ◌<◌, ℕ, List, Option, length, IfOk, OnOk, OnErr, MatchResult};
 ghost use Rattle.std.specs.Io.KnownBytes.{IsAtEnd, ReadConsumes};
 ghost use Rattle.td_outside.specs.Causes.{HasCause};
-ghost use Rattle.td_outside.specs.Moves.{Stays, Gains, Adds};
+ghost use Rattle.td_outside.specs.Moves.{Stays, Gains, RisesBy};
 
 use crate::Failed;
 
@@ -41,7 +41,7 @@ pub trait Source {
         ensures names { stands_for self.new ≡ stands_for self.old }
         ensures asked { Stays (openings self.old) (openings self.new) }
         ensures count { MatchResult result
-            (λ n. Adds (taken self.old) (taken self.new) n)
+            (λ n. RisesBy (taken self.old) (taken self.new) n)
             (λ _. Stays (taken self.old) (taken self.new)) }
         ensures cause { HasCause (faults self.old) (faults self.new) result };
 }
