@@ -1,8 +1,10 @@
 pub mod Causes
 pub mod Calls
 pub mod Clocks
+pub mod FileSource
 pub mod Links
 pub mod MemLink
 pub mod Moves
 pub mod MoveLaws
 pub mod Streams
+pub mod UdpPair

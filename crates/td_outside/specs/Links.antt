@@ -34,12 +34,6 @@ pub record Told : Type 0 where
 abbrev pub told_nothing : Told
 told_nothing = record { coming = None; taken = None; attempts = None }
 
--- a link over sockets
-pub record Pair : Type 0 where
-  pub addresses : Option Addresses
-  pub recv_faults : ℕ
-  pub send_faults : ℕ
-
 -- an arrival within the buffer
 abbrev pub Fits : Arrival → Type 0
 Fits (Got _ _ len) = len ≤ DATAGRAM_MAX

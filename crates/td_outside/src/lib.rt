@@ -45,8 +45,6 @@ mod sides;
 mod std_sink;
 mod system_clock;
 mod test_clock;
-#[cfg(test)]
-mod tests;
 mod timing;
 mod udp_pair;
 mod writing;
