@@ -1,10 +1,10 @@
-pub mod Causes
 pub mod Calls
-pub mod Clocks
+pub mod Causes
 pub mod FileSource
-pub mod Links
+pub mod Link
 pub mod MemLink
-pub mod Moves
 pub mod MoveLaws
+pub mod Moves
 pub mod Streams
+pub mod TestClock
 pub mod UdpPair

@@ -1,9 +1,9 @@
 -- The link over sockets, as its callers see it.
 use Rattle.std.specs.Prelude.{ℕ, Bool, if◌then◌else◌, Option, None}
 use Rattle.td_base.specs.declared.ipv4.Ip4.{Ip4}
-use Rattle.td_outside.specs.declared.linking.Addresses.{Addresses}
+use Rattle.td_outside.specs.declared.link.Addresses.{Addresses}
 use Rattle.td_outside.specs.Causes.{counted_if}
-use Rattle.td_outside.specs.Links.{open_on}
+use Rattle.td_outside.specs.Link.{open_on}
 
 -- the addresses that it is open on, and how often a call failed
 pub record Pair : Type 0 where

@@ -4,7 +4,7 @@ ghost use Rattle.td_outside.specs.Causes.{HasCause};
 ghost use Rattle.td_outside.specs.Calls.{is_due, after_call};
 ghost use Rattle.td_outside.specs.Streams.{OneName, bytes_of, told_by, given_by};
 
-use crate::failing::Fails;
+use crate::fails::Fails;
 use crate::{Failed, Source};
 use std::alloc::Global;
 use std::marker::Model;

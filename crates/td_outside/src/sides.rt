@@ -2,7 +2,7 @@
 ghost use Rattle.std.specs.Prelude.{◌≡◌, ◌≤◌, ◌*◌, ◌-◌, IfOk};
 ghost use Rattle.std.specs.Duration.{as_nanos};
 ghost use Rattle.std.specs.Time.{instant_nanos};
-ghost use Rattle.td_outside.specs.Links.{Fits};
+ghost use Rattle.td_outside.specs.Link.{Fits};
 
 use crate::{Addresses, Arrival, DATAGRAM_MAX};
 use mio::net::UdpSocket;

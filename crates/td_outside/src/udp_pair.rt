@@ -1,7 +1,7 @@
 //! The link over two sockets of the system.
 ghost use Rattle.std.specs.Prelude.{◌≡◌, ◌≤◌, ◌↔◌, IsTrue, None, length, is_some, is_err, IsOk, IsErr, IfOk};
 ghost use Rattle.td_outside.specs.Causes.{HasCause};
-ghost use Rattle.td_outside.specs.Links.{Fits, open_on, told_nothing};
+ghost use Rattle.td_outside.specs.Link.{Fits, open_on, told_nothing};
 ghost use Rattle.td_outside.specs.UdpPair.{Pair, pair_opened, pair_received, pair_sent};
 
 use crate::sides::Sides;

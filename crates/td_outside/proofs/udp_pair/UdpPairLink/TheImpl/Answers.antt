@@ -1,7 +1,7 @@
 -- A pair tells nothing of what comes and goes.
 use Rattle.std.proofs.Common.{◌≡◌, Result, Ok, Err, OnOk, is_err, refl, ap}
 use Rattle.td_base.specs.declared.ipv4.Ip4.{Ip4}
-use Rattle.td_outside.specs.Links.{open_on}
+use Rattle.td_outside.specs.Link.{open_on}
 use Rattle.td_outside.specs.UdpPair.{Pair, pair_opened}
 use Rattle.td_outside.proofs.Untold.{on_either}
 use Rattle.td_outside.proofs.udp_pair.UdpPairLink.TheImpl.Goals as goal

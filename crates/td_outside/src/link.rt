@@ -1,8 +1,8 @@
 //! Two sides that datagrams come to and go from.
 ghost use Rattle.std.specs.Prelude.{◌≡◌, ◌≤◌, ℕ, List, Option, Some, length, is_ok, IsOk, IfOk, OnOk, MatchResult};
 ghost use Rattle.td_outside.specs.Causes.{HasCause};
-ghost use Rattle.td_outside.specs.declared.linking.Addresses.{Addresses};
-ghost use Rattle.td_outside.specs.Links.{Told, Receives, Sends, KeepsTold, attempt, came_by, both_at, open_on, Fits};
+ghost use Rattle.td_outside.specs.declared.link.Addresses.{Addresses};
+ghost use Rattle.td_outside.specs.Link.{Told, Receives, Sends, KeepsTold, attempt, came_by, both_at, open_on, Fits};
 ghost use Rattle.td_outside.specs.Moves.{Stays, Gains};
 
 use crate::Failed;
