@@ -7,9 +7,12 @@
 //!
 //! - Each trait counts its faults. A call answers `Failed` only where its count rose in that call, and a call that
 //!   answers Ok leaves the count as it was.
-//! - Where a source, a sink or a link tells its content, each call says what became of it.
-//! - The forms in memory tell everything, fail at exactly the calls that their lists name, and take memory in `new`
+//! - Where a source, a sink or a link tells its content, each call says what became of it. Where it tells what it was
+//!   asked, each call says that too: names, pieces, addresses, how many bytes were read.
+//! - The forms in memory tell their content, fail at exactly the calls that their lists name, and take memory in `new`
 //!   alone.
+//! - A `UdpPair` that isn't open fails, and a `FileSource` that isn't gives nothing. A call of `UdpPair::recv` without
+//!   a datagram lasts 20 ms by the runtime's clock.
 //!
 //! # What it does not know
 //!
@@ -19,6 +22,7 @@
 //!
 //! | module | holds | stated in |
 //! |---|---|---|
+//! | | what a call does to what is told | `specs/Moves.antt`, with laws in `specs/MoveLaws.antt` |
 //! | `fails` | `Failed`, and which calls of a form in memory fail | `specs/Causes.antt`, `specs/Calls.antt` |
 //! | `source`, `sink` | `Source`, `Sink` | |
 //! | `link` | `Link`, its `Addresses` and its `Arrival` | `specs/Link.antt` |
@@ -27,7 +31,8 @@
 //! | `mem_link`, `mem_arrival`, `mem_attempt` | `MemLink`, what it receives and what it keeps | `specs/MemLink.antt` |
 //! | `test_clock` | `TestClock` | `specs/TestClock.antt` |
 //! | `octets` | `Octets` | |
-//! | `file_source`, `std_sink`, `udp_pair`, `system_clock` | the adapters of the real thing | |
+//! | `file_source`, `udp_pair` | files and sockets | `specs/FileSource.antt`, `specs/UdpPair.antt` |
+//! | `std_sink`, `system_clock` | output and time of the real thing | |
 //! | `sides` | the two sockets of an open `UdpPair` | |
 #![tactic(auto)]
 
