@@ -1,8 +1,9 @@
 -- What the turns of a server at a link come to.
 use Rattle.std.proofs.Common.{◌≡◌, ℕ, ◌+◌, not, List, [], ◌∷◌, Option, Some, None, Result, Ok, Err, refl, sym, ap, subst, ◌∙◌, arith}
 use Rattle.std.proofs.lemmas.List.Sums.{count_by-le-length}
-use Rattle.td_outside.specs.declared.linking.Addresses.{Addresses}
-use Rattle.td_outside.specs.Links.{Came, Attempt, Told, Moves, Stays, KeepsTold, open_on}
+use Rattle.td_outside.specs.declared.link.Addresses.{Addresses}
+use Rattle.td_outside.specs.Link.{Came, Attempt, Told, KeepsTold, open_on}
+use Rattle.td_outside.specs.Moves.{Moves, Stays}
 use Rattle.teredo_node.specs.Pump.{Carries, SendFaults, ReceiveFaults}
 use Rattle.teredo_node.specs.Serve.{Turn, Waited, Answered, Goes, Carried, Serves, came_in, made_in, totals_of}
 use Rattle.teredo_node.specs.declared.pumping.PumpFault.{PumpFault}

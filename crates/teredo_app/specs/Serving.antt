@@ -5,8 +5,8 @@ use Rattle.td_base.specs.declared.endpoint.Ep.{Ep}
 use Rattle.td_base.specs.declared.small.Side.{Side}
 use Rattle.td_base.specs.declared.reach.Policy.TheVariants.{Loopback}
 use Rattle.td_outside.specs.Causes.{Rose}
-use Rattle.td_outside.specs.Links.{Told, KeepsTold, open_on}
-use Rattle.td_outside.specs.declared.linking.Addresses.{Addresses}
+use Rattle.td_outside.specs.Link.{Told, KeepsTold, open_on}
+use Rattle.td_outside.specs.declared.link.Addresses.{Addresses}
 use Rattle.teredo_node.specs.Step.{Step}
 use Rattle.teredo_node.specs.Pump.{SendFaults, ReceiveFaults}
 use Rattle.teredo_node.specs.Serve.{Serves}

@@ -1,7 +1,8 @@
 //! What is opened by a name and then read.
-ghost use Rattle.std.specs.Prelude.{◌≡◌, ◌≤◌, ◌<◌, ℕ, List, Option, length, IfOk, OnOk, OnErr};
+ghost use Rattle.std.specs.Prelude.{◌≡◌, ◌≤◌, ◌<◌, ℕ, List, Option, length, IfOk, OnOk, OnErr, MatchResult};
 ghost use Rattle.std.specs.Io.KnownBytes.{IsAtEnd, ReadConsumes};
 ghost use Rattle.td_outside.specs.Causes.{HasCause};
+ghost use Rattle.td_outside.specs.Moves.{Stays, Gains, RisesBy};
 
 use crate::Failed;
 
@@ -14,6 +15,12 @@ pub trait Source {
     /// The bytes that are left of what is open, where the source tells them.
     ghost left: { Self → Option (List ℕ) };
 
+    /// The names that it was asked to open, the oldest first, where the source tells them.
+    ghost openings: { Self → Option (List (List ℕ)) };
+
+    /// How many bytes its reads gave in all, where the source tells it.
+    ghost taken: { Self → Option ℕ };
+
     /// How often a call has failed. It stops at the end of `u64`.
     ghost faults: { Self → ℕ };
 
@@ -22,6 +29,8 @@ pub trait Source {
         ensures opened { OnOk result (left self.new ≡ stands_for self.old name.now) }
         ensures shut { OnErr result (IsAtEnd (left self.new)) }
         ensures names { stands_for self.new ≡ stands_for self.old }
+        ensures asked { Gains (openings self.old) (openings self.new) name.now }
+        ensures count { Stays (taken self.old) (taken self.new) }
         ensures cause { HasCause (faults self.old) (faults self.new) result };
 
     /// Reads the next bytes, none only at the end.
@@ -30,5 +39,9 @@ pub trait Source {
         ensures bound { IfOk result (λ n. n ≤ length buf.new) }
         ensures bytes { ReadConsumes (left self.old) (left self.new) result buf.new }
         ensures names { stands_for self.new ≡ stands_for self.old }
+        ensures asked { Stays (openings self.old) (openings self.new) }
+        ensures count { MatchResult result
+            (λ n. RisesBy (taken self.old) (taken self.new) n)
+            (λ _. Stays (taken self.old) (taken self.new)) }
         ensures cause { HasCause (faults self.old) (faults self.new) result };
 }

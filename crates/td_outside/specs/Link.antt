@@ -1,12 +1,13 @@
 -- What a link tells, and how each of its calls moves that.
-use Rattle.std.specs.Prelude.{◌≡◌, ◌≤◌, ℕ, Bool, ⊤, List, [], ◌∷◌, ◌++◌, take, drop, slice_index_or, Option, Some, None}
+use Rattle.std.specs.Prelude.{◌≡◌, ◌≤◌, ℕ, Bool, ⊤, List, take, drop, slice_index_or, Option, Some, None}
 use Rattle.td_base.specs.declared.small.Side.{Side}
 use Rattle.td_base.specs.declared.endpoint.Ep.{Ep}
 use Rattle.td_base.specs.declared.ipv4.Ip4.{Ip4}
-use Rattle.td_outside.specs.declared.linking.Addresses.{Addresses}
-use Rattle.td_outside.specs.declared.linking.Arrival.{Arrival}
-use Rattle.td_outside.specs.declared.linking.Arrival.TheVariants.{Got, Idle}
-use Rattle.td_outside.specs.declared.linking.TheConstants.{DATAGRAM_MAX}
+use Rattle.td_outside.specs.declared.link.Addresses.{Addresses}
+use Rattle.td_outside.specs.declared.link.Arrival.{Arrival}
+use Rattle.td_outside.specs.declared.link.Arrival.TheVariants.{Got, Idle}
+use Rattle.td_outside.specs.declared.link.TheConstants.{DATAGRAM_MAX}
+use Rattle.td_outside.specs.Moves.{Moves, Stays, Gains}
 
 -- what came: a datagram, of which a link keeps the first DATAGRAM_MAX bytes, or nothing
 pub data Came : Type 0 where
@@ -33,12 +34,6 @@ pub record Told : Type 0 where
 abbrev pub told_nothing : Told
 told_nothing = record { coming = None; taken = None; attempts = None }
 
--- a link over sockets
-pub record Pair : Type 0 where
-  pub addresses : Option Addresses
-  pub recv_faults : ℕ
-  pub send_faults : ℕ
-
 -- an arrival within the buffer
 abbrev pub Fits : Arrival → Type 0
 Fits (Got _ _ len) = len ≤ DATAGRAM_MAX
@@ -49,23 +44,13 @@ abbrev pub came_by : List ℕ → Arrival → Came
 came_by buf (Got side from len) = Datagram side from (take len buf)
 came_by buf Idle = Nothing
 
+-- two addresses, as those that a link is asked to open on
+abbrev pub both_at : Ip4 → Ip4 → Addresses
+both_at primary secondary = record { primary = primary; secondary = secondary }
+
 -- the two addresses of a link that is open
 abbrev pub open_on : Ip4 → Ip4 → Option Addresses
-open_on primary secondary = Some (record { primary = primary; secondary = secondary })
-
--- a list that is told after a call was told before it, and then the fact holds of the two
-abbrev pub Moves : {A : Type 0} → Option (List A) → Option (List A) → (List A → List A → Type 0) → Type 0
-Moves old None fact = ⊤
-Moves None (Some after) fact = ⊥
-Moves (Some before) (Some after) fact = fact before after
-
--- the list stays as it was
-abbrev pub Stays : {A : Type 0} → Option (List A) → Option (List A) → Type 0
-Stays old new = Moves old new (λ before after. after ≡ before)
-
--- the list grows by one at its end
-abbrev pub Gains : {A : Type 0} → Option (List A) → Option (List A) → A → Type 0
-Gains old new x = Moves old new (λ before after. after ≡ before ++ x ∷ [])
+open_on primary secondary = Some (both_at primary secondary)
 
 -- the first that is still to come, or nothing where none is left
 abbrev pub next_of : List Came → Came

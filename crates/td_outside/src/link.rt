@@ -1,8 +1,9 @@
 //! Two sides that datagrams come to and go from.
-ghost use Rattle.std.specs.Prelude.{◌≡◌, ◌≤◌, ℕ, Option, Some, length, is_ok, IsOk, IfOk, OnOk, MatchResult};
+ghost use Rattle.std.specs.Prelude.{◌≡◌, ◌≤◌, ℕ, List, Option, Some, length, is_ok, IsOk, IfOk, OnOk, MatchResult};
 ghost use Rattle.td_outside.specs.Causes.{HasCause};
-ghost use Rattle.td_outside.specs.declared.linking.Addresses.{Addresses};
-ghost use Rattle.td_outside.specs.Links.{Told, Receives, Sends, KeepsTold, attempt, came_by, open_on, Fits};
+ghost use Rattle.td_outside.specs.declared.link.Addresses.{Addresses};
+ghost use Rattle.td_outside.specs.Link.{Told, Receives, Sends, KeepsTold, attempt, came_by, both_at, open_on, Fits};
+ghost use Rattle.td_outside.specs.Moves.{Stays, Gains};
 
 use crate::Failed;
 use td_base::{Ep, Ip4, Side};
@@ -29,6 +30,9 @@ pub trait Link {
     /// The addresses that it is open on.
     ghost addresses: { Self → Option Addresses };
 
+    /// The addresses that it was asked to open on, the oldest first, where the link tells them.
+    ghost openings: { Self → Option (List Addresses) };
+
     /// What is still to come, what was taken and what was sent, as far as the link tells it.
     ghost told: { Self → Told };
 
@@ -38,10 +42,12 @@ pub trait Link {
     /// How often a call of `send` has failed. It stops at the end of `u64`.
     ghost send_faults: { Self → ℕ };
 
-    /// Makes both sides ready on `td_base::TEREDO_PORT`.
+    /// Makes both sides ready on `td_base::TEREDO_PORT`. Where it is open on these addresses it stays as it is, but
+    /// that it was asked.
     fn open(&mut self, primary: Ip4, secondary: Ip4) -> Result<(), Failed>
         ensures opened { OnOk result (addresses self.new ≡ open_on primary secondary) }
-        ensures again { addresses self.old ≡ open_on primary secondary → IsOk result × (self.new ≡ self.old) }
+        ensures again { addresses self.old ≡ open_on primary secondary → IsOk result × (told self.new ≡ told self.old) }
+        ensures asked { Gains (openings self.old) (openings self.new) (both_at primary secondary) }
         ensures lists { KeepsTold (told self.old) (told self.new) }
         ensures cause { HasCause (recv_faults self.old) (recv_faults self.new) result }
         ensures other { send_faults self.new ≡ send_faults self.old };
@@ -53,6 +59,7 @@ pub trait Link {
             (λ arrival. Receives (told self.old) (told self.new) (came_by buf.new arrival))
             (λ _. KeepsTold (told self.old) (told self.new)) }
         ensures places { addresses self.new ≡ addresses self.old }
+        ensures asked { Stays (openings self.old) (openings self.new) }
         ensures cause { HasCause (recv_faults self.old) (recv_faults self.new) result }
         ensures other { send_faults self.new ≡ send_faults self.old };
 
@@ -61,6 +68,7 @@ pub trait Link {
         requires most { length bytes.now ≤ DATAGRAM_MAX }
         ensures lists { Sends (told self.old) (told self.new) (attempt side to bytes.now (is_ok result)) }
         ensures places { addresses self.new ≡ addresses self.old }
+        ensures asked { Stays (openings self.old) (openings self.new) }
         ensures cause { HasCause (send_faults self.old) (send_faults self.new) result }
         ensures other { recv_faults self.new ≡ recv_faults self.old };
 }
