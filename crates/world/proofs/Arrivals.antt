@@ -42,8 +42,8 @@ asked s l l' step new from len failed free short answers =
 
 pub asked_by : (s : ServerSettings) (l l' : Arriving) (step : Step) (new : ServerSettings) (from : Ep) (len failed : ℕ) (taken : Pumped) (result : Result Pumped PumpFault)
     → result ≡ Ok taken → taken ≡ Took from len failed → l.is_taken ≡ false → length l.bytes.now ≤ DATAGRAM_MAX
-    → Pumps (λ side from x step new. Serves s side from x step new) (λ side from x. ⊥) s new (told_of l) (told_of l') step result
+    → Pumps (λ side from x step new. Serves s side from x step new) (λ side from x. ⊥) new (told_of l) (told_of l') step result
     → step ≡ server_row s l.side l.from l.bytes.now
 asked_by s l l' step new from len failed taken result ok took free short pumps =
-    let P : Result Pumped PumpFault → Type 0 = λ r. Pumps (λ side from x step new. Serves s side from x step new) (λ side from x. ⊥) s new (told_of l) (told_of l') step r in
+    let P : Result Pumped PumpFault → Type 0 = λ r. Pumps (λ side from x step new. Serves s side from x step new) (λ side from x. ⊥) new (told_of l) (told_of l') step r in
     asked s l l' step new from len failed free short (subst P (ok ∙ ap (λ (t : Pumped). Ok t) took) pumps)
