@@ -84,12 +84,10 @@ impl Server {
 fn answering_side(side: Side, client: Ip6) -> Side
     ensures { result ≡ answering_side side client }
 {
-    if !has_cone(client) {
-        return side;
-    }
-    match side {
-        Side::Primary => Side::Secondary,
-        Side::Secondary => Side::Primary,
+    if has_cone(client) {
+        side.other()
+    } else {
+        side
     }
 }
 

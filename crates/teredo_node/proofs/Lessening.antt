@@ -4,7 +4,7 @@ use Rattle.td_outside.specs.Causes.{count_end}
 use Rattle.td_outside.specs.Links.{Attempt, Told}
 use Rattle.teredo_node.specs.Step.{Step}
 use Rattle.teredo_node.specs.Pump.{Carries, SendFaults, attempts_of}
-use Rattle.teredo_node.specs.Ticks.{Ticked, TicksOnce, GoesBy, TicksThrough, Rests, made_by, failed_by, last_step}
+use Rattle.teredo_node.specs.Ticks.{Ticked, TicksOnce, GoesBy, TicksThrough, NothingDue, made_by, failed_by, last_step}
 use Rattle.teredo_node.proofs.Carrying.{carries_on, carries_stays, carries_nothing}
 use Rattle.teredo_node.proofs.Turning.{ones_failed}
 
@@ -32,7 +32,7 @@ module _ {S : Type 0} (ticks : S → Step → S → Type 0) (owing : S → ℕ) 
         failures = omega (arith, sum, lost, ran.failures);
       }
 
-  pub ran_through : (mid new : S) (link1 link2 : Told) (step1 step2 : Step) (failed : ℕ) → Ran ticks owing old mid link link1 step step1 failed → Rests owing mid new link1 link2 step1 step2 → TicksThrough ticks owing old new link link2 step step2 failed
+  pub ran_through : (mid new : S) (link1 link2 : Told) (step1 step2 : Step) (failed : ℕ) → Ran ticks owing old mid link link1 step step1 failed → NothingDue owing mid new link1 link2 step1 step2 → TicksThrough ticks owing old new link link2 step step2 failed
   ran_through mid new link1 link2 step1 step2 failed ran rest = record {
     ticked = ran.ticked;
     states = subst (λ (s : S). GoesBy ticks owing old ran.ticked s) (sym rest.state) ran.states;

@@ -18,16 +18,16 @@ pub record TicksOnce {S : Type 0} (ticks : S → Step → S → Type 0) (owing :
   pub sends : Attempts step.sends link link' failed
 
 -- nothing was due, and nothing was done
-pub record Rests {S : Type 0} (owing : S → ℕ) (old new : S) (link link' : Told) (step step' : Step) : Type 0 where
+pub record NothingDue {S : Type 0} (owing : S → ℕ) (old new : S) (link link' : Told) (step step' : Step) : Type 0 where
   pub none : owing old ≡ 0
   pub state : new ≡ old
   pub told : Carries link link' [] []
   pub filled : step' ≡ step
 
 -- a tick or none, by the answer: which attempts failed, where there was one
-abbrev pub TicksOrRests : {S : Type 0} → (S → Step → S → Type 0) → (S → ℕ) → S → S → Told → Told → Step → Step → Option ℕ → Type 0
-TicksOrRests ticks owing old new link link' step step' None = Rests owing old new link link' step step'
-TicksOrRests ticks owing old new link link' step step' (Some failed) = TicksOnce ticks owing old new link link' step' failed
+abbrev pub TicksIfDue : {S : Type 0} → (S → Step → S → Type 0) → (S → ℕ) → S → S → Told → Told → Step → Step → Option ℕ → Type 0
+TicksIfDue ticks owing old new link link' step step' None = NothingDue owing old new link link' step step'
+TicksIfDue ticks owing old new link link' step step' (Some failed) = TicksOnce ticks owing old new link link' step' failed
 
 -- an endpoint's states over ticks of what was due, the latest first
 abbrev pub GoesBy : {S : Type 0} → (S → Step → S → Type 0) → (S → ℕ) → S → List Ticked → S → Type 0

@@ -1,7 +1,7 @@
 //! What is due of an endpoint at a moment, done at a link.
 ghost use Rattle.std.specs.Prelude.{◌≡◌, ℕ, nat_lt, option_map, unwrap_or};
 ghost use Rattle.teredo_node.specs.Pump.{SendFaults};
-ghost use Rattle.teredo_node.specs.Ticks.{TicksOrRests, TicksThrough};
+ghost use Rattle.teredo_node.specs.Ticks.{TicksIfDue, TicksThrough};
 
 use crate::pumping::send_all;
 use crate::{Endpoint, Step};
@@ -28,7 +28,7 @@ pub fn tick<E: Endpoint, L: Link>(
     step: &mut Step,
 ) -> Option<u8>
     requires ready { E.ready e.old now.0 }
-    ensures turn { TicksOrRests (λ s. E.ticks s now.0) (λ s. E.owing s now.0) e.old e.new (L.told link.old) (L.told link.new) step.old step.new result }
+    ensures turn { TicksIfDue (λ s. E.ticks s now.0) (λ s. E.owing s now.0) e.old e.new (L.told link.old) (L.told link.new) step.old step.new result }
     ensures again { E.ready e.new now.0 }
     ensures receives { L.recv_faults link.new ≡ L.recv_faults link.old }
     ensures sends { SendFaults (L.send_faults link.old) (L.send_faults link.new) (unwrap_or result 0) }
