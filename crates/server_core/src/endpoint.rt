@@ -66,7 +66,7 @@ impl Endpoint for Server {
 
     ghost stays_so = { λ s. refl };
 
-    ghost stays_on = { λ old mid new first then. then ∙ first };
+    ghost stays_on = { λ old mid new first second. second ∙ first };
 
     ghost ready_later = { λ s now later le ready. tt };
 
