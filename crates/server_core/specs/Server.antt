@@ -9,8 +9,8 @@ use Rattle.indications.specs.Leads.{nonce_of}
 use Rattle.bubble.specs.Payloads.{Value, payload_at}
 use Rattle.bubble.specs.declared.fault.PayloadFault.{PayloadFault}
 use Rattle.teredo_addr.specs.Teredo.{has_cone, embedded}
-use Rattle.teredo_node.specs.declared.fates.Fate.{Fate}
-use Rattle.teredo_node.specs.declared.fates.Fate.TheVariants as fate
+use Rattle.teredo_node.specs.declared.fate.Fate.{Fate}
+use Rattle.teredo_node.specs.declared.fate.Fate.TheVariants as fate
 use Rattle.teredo_node.specs.Step.{Step, just, rest_of}
 use Rattle.server_core.specs.declared.server.ServerSettings.{ServerSettings}
 use Rattle.server_core.specs.declared.rules.Rule.{Rule}

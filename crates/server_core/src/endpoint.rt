@@ -8,7 +8,7 @@ use teredo_node::{Endpoint, Fate, Step};
 impl Endpoint for Server {
     ghost use Rattle.std.specs.Prelude.{◌≡◌, refl, true, None};
     ghost use Rattle.std.proofs.Common.{◌∙◌};
-    ghost use Rattle.server_core.specs.Endpoint.{Serves, Rests};
+    ghost use Rattle.server_core.specs.Endpoint.{MeetsRow, StaysIdle};
 
     const FRUGAL: bool = true;
 
@@ -18,11 +18,11 @@ impl Endpoint for Server {
 
     ghost stays = { λ old new. new ≡ old };
 
-    ghost rule = { λ s now side from x step new. Serves s side from x step new };
+    ghost rule = { λ s now side from x step new. MeetsRow s side from x step new };
 
     ghost starves = { λ s now side from x. ⊥ };
 
-    ghost ticks = { λ s now step new. Rests s step new };
+    ghost ticks = { λ s now step new. StaysIdle s step new };
 
     ghost is_due = { λ s now due. due ≡ None };
 

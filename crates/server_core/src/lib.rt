@@ -27,14 +27,14 @@
 //! | `rules` | the table | `specs/Rules.antt` |
 //! | `conditions` | what the lines of the table ask | `specs/Conditions.antt` |
 //! | `advertisement` | the Router Advertisement | `specs/Outputs.antt` |
-//! | `forwarding` | the forwarded packet | `specs/Outputs.antt` |
+//! | `forwarded` | the forwarded packet | `specs/Outputs.antt` |
 //! | `laws` | what holds of every datagram | `specs/Laws.antt` |
 #![tactic(auto)]
 
 mod advertisement;
 mod conditions;
 mod endpoint;
-mod forwarding;
+mod forwarded;
 mod laws;
 mod reply;
 mod rules;

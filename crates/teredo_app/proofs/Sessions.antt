@@ -3,11 +3,11 @@ use Rattle.std.proofs.Common.{◌≡◌, ℕ, ◌+◌, not, List, [], ◌∷◌,
 use Rattle.std.proofs.lemmas.List.Sums.{count_by-le-length}
 use Rattle.td_outside.specs.declared.linking.Addresses.{Addresses}
 use Rattle.td_outside.specs.Links.{Came, Attempt, Told, Moves, Stays, KeepsTold, open_on}
-use Rattle.teredo_node.specs.Pump.{Carries, LeftBy, SendFaults, ReceiveFaults}
+use Rattle.teredo_node.specs.Turn.{Carries, LeftBy, SendFaults, ReceiveFaults}
 use Rattle.teredo_node.specs.Serve.{Turn, Waited, Answered, Goes, Carried, Serves, came_in, made_in, totals_of}
-use Rattle.teredo_node.specs.declared.pumping.PumpFault.{PumpFault}
-use Rattle.teredo_node.specs.declared.pumping.PumpFault.TheVariants.{Receive, NoMemory}
-use Rattle.teredo_node.specs.declared.serving.Totals.{Totals}
+use Rattle.teredo_node.specs.declared.turn.PumpFault.{PumpFault}
+use Rattle.teredo_node.specs.declared.turn.PumpFault.TheVariants.{Receive, NoMemory}
+use Rattle.teredo_node.specs.declared.serve.Totals.{Totals}
 use Rattle.server_core.specs.declared.server.ServerSettings.{ServerSettings}
 use Rattle.server_core.proofs.Outcomes.{outcomes, one_outcome}
 use Rattle.teredo_app.specs.declared.serve_words.ServeWords.{ServeWords}

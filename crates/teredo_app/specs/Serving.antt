@@ -8,11 +8,11 @@ use Rattle.td_outside.specs.Causes.{Rose}
 use Rattle.td_outside.specs.Links.{Told, KeepsTold, open_on}
 use Rattle.td_outside.specs.declared.linking.Addresses.{Addresses}
 use Rattle.teredo_node.specs.Step.{Step}
-use Rattle.teredo_node.specs.Pump.{SendFaults, ReceiveFaults}
+use Rattle.teredo_node.specs.Turn.{SendFaults, ReceiveFaults}
 use Rattle.teredo_node.specs.Serve.{Serves}
-use Rattle.teredo_node.specs.declared.pumping.PumpFault.{PumpFault}
-use Rattle.teredo_node.specs.declared.pumping.PumpFault.TheVariants.{Receive}
-use Rattle.teredo_node.specs.declared.serving.Totals.{Totals}
+use Rattle.teredo_node.specs.declared.turn.PumpFault.{PumpFault}
+use Rattle.teredo_node.specs.declared.turn.PumpFault.TheVariants.{Receive}
+use Rattle.teredo_node.specs.declared.serve.Totals.{Totals}
 use Rattle.server_core.specs.declared.server.ServerSettings.{ServerSettings}
 use Rattle.server_core.specs.Endpoint as server
 use Rattle.teredo_app.specs.declared.serve_words.ServeWords.{ServeWords}
@@ -36,7 +36,7 @@ server_on asked = record { primary = asked.primary; secondary = asked.secondary;
 
 -- it answers a datagram by its table, at every moment, and stays as it is
 abbrev pub AnswersByTable : ServerSettings → ℕ → Side → Ep → List ℕ → Step → ServerSettings → Type 0
-AnswersByTable s moment side from bytes step new = server.Serves s side from bytes step new
+AnswersByTable s moment side from bytes step new = server.MeetsRow s side from bytes step new
 
 -- it never wants memory
 abbrev pub WantsMemory : ServerSettings → ℕ → Side → Ep → List ℕ → Type 0

@@ -1,7 +1,7 @@
 -- What is due of a node at a moment, and what a tick does about it.
 use Rattle.std.specs.Prelude.{◌≡◌, ◌≤◌, ◌<◌, ℕ, Option, Some, None}
 use Rattle.td_base.specs.declared.small.Millis.{Millis}
-use Rattle.teredo_node.specs.declared.fates.Fate.TheVariants.{Idle}
+use Rattle.teredo_node.specs.declared.fate.Fate.TheVariants.{Idle}
 use Rattle.teredo_node.specs.Step.{Step, just}
 
 -- the moment at which something is due, as it stands at `now`, where so much is due at each moment: nothing is before it,

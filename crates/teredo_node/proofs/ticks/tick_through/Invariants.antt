@@ -1,7 +1,7 @@
 use Rattle.std.proofs.Common.{◌≡◌}
-use Rattle.teredo_node.specs.Pump.{SendFaults}
-use Rattle.teredo_node.proofs.Lessening.{Ran}
-use Rattle.teredo_node.proofs.ticking.tick_through.Given as goal
+use Rattle.teredo_node.specs.Turn.{SendFaults}
+use Rattle.teredo_node.proofs.Lessened.{Ran}
+use Rattle.teredo_node.proofs.ticks.tick_through.Given as goal
 
 abbrev pub invariant-loop-failed : goal.invariant-loop-failed
 invariant-loop-failed g l = record {

@@ -1,9 +1,9 @@
 //! What is due of an endpoint at a moment, done at a link.
 ghost use Rattle.std.specs.Prelude.{◌≡◌, ℕ, nat_lt, option_map, unwrap_or};
-ghost use Rattle.teredo_node.specs.Pump.{SendFaults};
+ghost use Rattle.teredo_node.specs.Turn.{SendFaults};
 ghost use Rattle.teredo_node.specs.Ticks.{TicksIfDue, TicksThrough};
 
-use crate::pumping::send_all;
+use crate::turn::send_all;
 use crate::{Endpoint, Step};
 use td_base::Millis;
 use td_outside::Link;

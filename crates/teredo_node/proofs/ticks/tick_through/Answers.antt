@@ -1,8 +1,8 @@
 use Rattle.std.proofs.Common.{◌≡◌, ◌+◌, min, count_ones, ◌∙◌, arith}
 use Rattle.td_outside.specs.Causes.{count_end}
-use Rattle.teredo_node.proofs.Turning.{faults_on}
-use Rattle.teredo_node.proofs.Lessening.{ran_ticked, faults_up_to}
-use Rattle.teredo_node.proofs.ticking.tick_through.Goals as goal
+use Rattle.teredo_node.proofs.Turns.{faults_on}
+use Rattle.teredo_node.proofs.Lessened.{ran_ticked, faults_up_to}
+use Rattle.teredo_node.proofs.ticks.tick_through.Goals as goal
 
 pub loop-failed-preserved : goal.loop-failed-preserved
 loop-failed-preserved g c =
