@@ -4,7 +4,7 @@ use Rattle.std.proofs.Math.Nat.{add_comm}
 use Rattle.std.specs.Prelude.{count_by, filter_map, is_some, if◌then◌else◌}
 use Rattle.std.proofs.lemmas.List.{length-append}
 use Rattle.std.proofs.lemmas.List.Sums.{sum_by-cons}
-use Rattle.teredo_node.specs.Fates.{is_drop}
+use Rattle.teredo_node.specs.Fate.{is_drop}
 use Rattle.history.specs.declared.mark.Mark.{Mark}
 use Rattle.history.specs.declared.mark.Mark.TheVariants as mark
 use Rattle.history.specs.Full.{Made, sent, lost, udp, six, item_in, Full, wire, items_of}

@@ -1,5 +1,6 @@
 //! Small types, and the refusals of this crate.
 ghost use Rattle.std.specs.Prelude.{◌≡◌, ◌+◌, ◌≤◌, length};
+ghost use Rattle.td_base.specs.Side.{other_side};
 
 use std::alloc::{AllocError, AllocFailed};
 
@@ -12,6 +13,18 @@ pub struct Millis(pub u64);
 pub enum Side {
     Primary,
     Secondary,
+}
+
+impl Side {
+    /// The other one of the two.
+    pub fn other(self) -> Side
+        ensures { result ≡ other_side self }
+    {
+        match self {
+            Side::Primary => Side::Secondary,
+            Side::Secondary => Side::Primary,
+        }
+    }
 }
 
 /// A part of some bytes: `len` of them from the place `at`.

@@ -4,7 +4,7 @@ use Rattle.std.specs.Prelude.{slice_get, option_map, is_some}
 use Rattle.std.specs.Io.KnownBytes.{Appends}
 use Rattle.std.proofs.lemmas.Option.{slice_get_past}
 use Rattle.std.proofs.lemmas.List.Sums.{count_by-le-length}
-use Rattle.teredo_node.specs.Fates.{is_drop}
+use Rattle.teredo_node.specs.Fate.{is_drop}
 use Rattle.history.specs.declared.event.Event.{Event}
 use Rattle.history.specs.declared.event.TheConstants.{MOST_ADVANCE}
 use Rattle.history.specs.declared.records.Record.{Record}

@@ -23,7 +23,7 @@ use Rattle.bubble.specs.Payloads.{payload_at}
 use Rattle.bubble.specs.Reads.{is_payload, value_in}
 use Rattle.bubble.specs.Messages.{message_in, is_ill_formed}
 use Rattle.bubble.specs.Parts.{packet_in, source_in, packet_given, destination_in}
-use Rattle.teredo_node.specs.declared.fates.Fate.TheVariants as fate
+use Rattle.teredo_node.specs.declared.fate.Fate.TheVariants as fate
 use Rattle.server_core.specs.Conditions.{is_other_kind, is_own, is_for_server, is_solicitation, is_forged, is_for_client, is_not_ours, is_unusable, is_looped}
 use Rattle.server_core.specs.Rules.{rule_of}
 use Rattle.server_core.specs.Outputs.{advert_bytes, forwarded}
@@ -56,7 +56,7 @@ use Rattle.td_base.specs.declared.ipv6.Ip6.{Ip6}
 use Rattle.td_base.specs.declared.reach.Policy.TheVariants.{Strict}
 use Rattle.td_base.specs.Bytes.{number_at}
 use Rattle.bubble.specs.Bubbles.{bubble_bytes}
-use Rattle.teredo_node.specs.declared.fates.Fate.{Fate}
+use Rattle.teredo_node.specs.declared.fate.Fate.{Fate}
 use Rattle.teredo_node.specs.Step.{Send, just}
 use Rattle.teredo_node.specs.Words.{nonce_from}
 use Rattle.teredo_node.specs.Journal.{Input, arrived, given, ticked, Journal, Words, with_entry}

@@ -1,6 +1,6 @@
 -- What one call does to the wire, and what it says.
 use Rattle.std.specs.Prelude.{◌≡◌, ◌≢◌, ◌<◌, ◌+◌, ◌||◌, ℕ, false, List, [], ◌∷◌, ◌++◌, length, filter_map, get_or, replicate, Result, Ok, Err, Option, Some, None}
-use Rattle.teredo_node.specs.declared.fates.Fate.{Fate}
+use Rattle.teredo_node.specs.declared.fate.Fate.{Fate}
 use Rattle.history.specs.declared.acts.Act.{Act}
 use Rattle.history.specs.declared.mark.Mark.{Mark}
 use Rattle.history.specs.declared.records.Record.{Record}
