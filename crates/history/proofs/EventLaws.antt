@@ -27,10 +27,12 @@ use Rattle.history.specs.declared.target.Target.TheVariants as target
 use Rattle.topology.specs.Rows.{TopologyState}
 use Rattle.topology.specs.declared.node.Node.{Node}
 use Rattle.topology.specs.Topology.{nodes, node_at}
-use Rattle.history.specs.Events.{has_host, is_nat, is_client_of, IsTarget, IsEvent}
+use Rattle.topology.specs.Named.{has_host, is_nat, is_client_of}
+use Rattle.history.specs.Events.{IsTarget, IsEvent}
 use Rattle.history.specs.Words.{same_text, number_of, ep_of, few_bytes, hex_of, bytes_of}
 use Rattle.history.specs.Verbs.{verb_of}
-use Rattle.history.specs.NodeWords.{any_kind, is_named, named, target_of}
+use Rattle.topology.specs.Named.{any_kind, is_named, named}
+use Rattle.history.specs.NodeWords.{target_of}
 use Rattle.history.specs.EventText.{Words, no_word, a_word, words, said, word, no_more, event_behind, event_of}
 use Rattle.history.proofs.Numbers.{bind_some, some_same, kept_some, number_of-sound}
 

@@ -14,9 +14,9 @@ use Rattle.topology.specs.Rows.{TopologyState}
 use Rattle.topology.specs.declared.node.Node.{Node}
 use Rattle.topology.specs.declared.node.Node.TheVariants.{Server as server, Nat as nat, Client as client, Relay as relay, Native as native}
 use Rattle.topology.specs.Topology.{nodes}
-use Rattle.history.specs.Events.{has_host, is_nat, is_client_of}
+use Rattle.topology.specs.Named.{has_host, is_nat, is_client_of}
 use Rattle.history.specs.Words.{same_text}
-use Rattle.history.specs.NodeWords.{any_kind, named, is_named}
+use Rattle.topology.specs.Named.{any_kind, named, is_named}
 use Rattle.std.proofs.lemmas.List.{length-map}
 
 pub at_front : {A : Type 0} (p : A → Bool) (xs : List A) → position p xs ≡ position_from p 0 xs

@@ -9,7 +9,7 @@ use Rattle.topology.specs.declared.node.Node.{Node}
 use Rattle.topology.specs.Topology.{name_of, number_of}
 use Rattle.history.specs.Words.{same_text}
 use Rattle.history.specs.Ip6Words.{ip6_of}
-use Rattle.history.specs.Events.{has_host}
+use Rattle.topology.specs.Named.{has_host}
 
 -- the node has this name
 abbrev pub is_named : List ℕ → Node → Bool

@@ -4,8 +4,9 @@ ghost use Rattle.std.specs.List.{position_or_len};
 ghost use Rattle.history.specs.Words.{space, same_text, number_of, ep_of, bytes_of};
 ghost use Rattle.history.specs.EventText.{no_word, a_word, word, no_more};
 ghost use Rattle.history.specs.Verbs.{verb_word, verb_of};
-ghost use Rattle.history.specs.NodeWords.{any_kind, named, target_of};
-ghost use Rattle.history.specs.Events.{has_host, is_nat, is_client_of};
+ghost use Rattle.topology.specs.Named.{any_kind, named};
+ghost use Rattle.history.specs.NodeWords.{target_of};
+ghost use Rattle.topology.specs.Named.{has_host, is_nat, is_client_of};
 ghost use Rattle.history.specs.Answers.{Answers, words_from};
 ghost use Rattle.history.specs.declared.event_fault.EventFault.TheVariants.{At};
 

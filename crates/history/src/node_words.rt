@@ -2,8 +2,9 @@
 ghost use Rattle.std.specs.Prelude.{◌≡◌, ◌+◌, ◌==◌, ◌&&◌, length, position, option_map};
 ghost use Rattle.td_base.specs.Names.{name_text};
 ghost use Rattle.history.specs.Words.{same_text};
-ghost use Rattle.history.specs.Events.{has_host, is_nat, is_client_of};
-ghost use Rattle.history.specs.NodeWords.{any_kind, named, target_of};
+ghost use Rattle.topology.specs.Named.{has_host, is_nat, is_client_of};
+ghost use Rattle.topology.specs.Named.{any_kind, named};
+ghost use Rattle.history.specs.NodeWords.{target_of};
 
 use topology::ClientNode;
 use topology::NatNode;

@@ -8,3 +8,4 @@ pub mod BlockLaws
 pub mod WriteLaws
 pub mod Vectors
 pub mod FaultLaws
+pub mod LawProofs

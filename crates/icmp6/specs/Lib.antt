@@ -5,3 +5,4 @@ pub mod Blocks
 pub mod Writing
 pub mod Grammar
 pub mod Faults
+pub mod Laws

@@ -27,12 +27,14 @@
 //! | `iter`, `lend` | `Options`, `options` | `specs/Blocks.antt` |
 //! | `walk` | whole options, one behind the other | `specs/Options.antt` |
 //! | `sum` | the checksum | `specs/Checksum.antt` |
+//! | `laws` | messages as lists of bytes | `specs/Laws.antt` |
 //! | `numbers` | types, lengths and limits | |
 #![tactic(auto)]
 
 mod block;
 mod fault;
 mod iter;
+mod laws;
 mod lend;
 mod message;
 mod numbers;
@@ -44,6 +46,7 @@ mod writing;
 pub use block::Opt;
 pub use fault::IcmpFault;
 pub use iter::Options;
+pub use laws::{message_is_bytes, message_reads_back, options_read_back, spelling_is_read};
 pub use lend::options;
 pub use message::Msg;
 pub use numbers::{
@@ -53,6 +56,3 @@ pub use numbers::{
 };
 pub use reading::read;
 pub use writing::write;
-
-#[cfg(test)]
-mod tests;

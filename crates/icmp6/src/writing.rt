@@ -4,7 +4,7 @@ ghost use Rattle.byteorder.specs.Endian.{big_bytes};
 ghost use Rattle.td_base.specs.Bytes.{Writes};
 ghost use Rattle.icmp6.specs.Message.{view, message_at};
 ghost use Rattle.icmp6.specs.Writing.{layout, message_len, message_bytes};
-ghost use Rattle.icmp6.specs.Grammar.{Fits, IsValid};
+ghost use Rattle.icmp6.specs.Grammar.{Fits, IsValid, MessageBytes};
 
 use crate::message::Msg;
 use crate::numbers::{
@@ -119,6 +119,8 @@ fn put_plain(m: &Msg<'_>, out: &mut [u8]) -> usize
 pub fn write(m: &Msg<'_>, src: Ip6, dst: Ip6, out: &mut [u8]) -> Result<usize, Room>
     requires { message_len (view m.now) ≤ MESSAGE_MAX }
     ensures written { Writes (message_bytes src dst (view m.now)) out.old out.new result }
+    // It is the message's spelling, where the message may come with a hop limit.
+    ensures spelled { IfOk result (λ n. (hop : ℕ) → IsValid src hop (view m.now) → MessageBytes src dst hop (view m.now) (take n out.new)) }
     // What may come with a hop limit reads back.
     ensures again { IfOk result (λ n. (hop : ℕ) → IsValid src hop (view m.now) → message_at src dst hop (take n out.new) ≡ Ok (view m.now)) }
 {

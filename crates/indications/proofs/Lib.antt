@@ -3,3 +3,4 @@ pub mod FoundLaws
 pub mod LeadLaws
 pub mod FaultLaws
 pub mod Worked
+pub mod LawProofs

@@ -3,3 +3,4 @@ pub mod Places
 pub mod Blocks
 pub mod Faults
 pub mod Leads
+pub mod Laws

@@ -26,11 +26,13 @@
 //! | `places` | `Places` | `specs/Places.antt` |
 //! | `reading` | `read`, and its steps `places_of`, `bare_lead`, `auth_lead` | `specs/Indications.antt`, `Places.antt` |
 //! | `writing` | `write`, `len` | `specs/Blocks.antt` |
+//! | `laws` | indications as lists of bytes | `specs/Laws.antt` |
 #![tactic(auto)]
 
 mod blocks;
 mod fault;
 mod heads;
+mod laws;
 mod leads;
 mod places;
 mod reading;
@@ -38,10 +40,8 @@ mod writing;
 
 pub use blocks::{AUTH, AUTH_HEAD, AUTH_TAIL, Auth, Lead, NONCE, ORIGIN, Origin};
 pub use fault::LeadFault;
+pub use laws::{lead_is_bytes, lead_reads_back};
 pub use leads::{is_confirmed, is_keyed, nonce_of, origin_in};
 pub use places::Places;
 pub use reading::{auth_lead, bare_lead, places_of, read};
 pub use writing::{len, write};
-
-#[cfg(test)]
-mod tests;

@@ -48,6 +48,8 @@ fn lead_of(bytes: &[u8]) -> Result<Lead, LeadFault>
 #[tactic(auto, unfolding(crate::specs::Indications::lead_at, crate::specs::Indications::auth_at, crate::specs::Places::auth_to))]
 pub fn places_of(bytes: &[u8]) -> Result<Places, LeadFault>
     ensures there { IfOk result (AreThere bytes.now) }
+    // Where the authentication ends, if there is one.
+    ensures ends { IfOk result (λ p. auth_at bytes.now ≡ Ok (auth_to p.auth bytes.now, p.auth)) }
     ensures exact { Gives (lead_by bytes.now) result (lead_at bytes.now) }
 {
     if head_of(bytes, 0)? != Head::Auth {

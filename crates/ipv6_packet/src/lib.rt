@@ -21,17 +21,17 @@
 //! | `fault` | `PacketFault` | `specs/Packets.antt` |
 //! | `reading` | `read`, and its two steps `check` and `packet_in` | `specs/Packets.antt`, `Reads.antt` |
 //! | `writing` | `write`, `len` | `specs/Packets.antt` |
+//! | `laws` | packets as lists of bytes | `specs/Laws.antt` |
 #![tactic(auto)]
 
 mod fault;
 mod header;
+mod laws;
 mod reading;
 mod writing;
 
 pub use fault::PacketFault;
 pub use header::{HEADER, MAX_PACKET, NEXT_ICMP, NEXT_NONE, Packet, VERSION, is_big};
+pub use laws::{packet_is_bytes, packet_is_spelled, packet_reads_back};
 pub use reading::{check, packet_in, read};
 pub use writing::{len, write};
-
-#[cfg(test)]
-mod tests;

@@ -1,12 +1,12 @@
 //! A word is explained.
-ghost use Rattle.std.specs.Prelude.{◌≡◌, ◌≤◌, ◌⊎◌, ℕ, true, List, [], None, Ok, is_ok, length};
+ghost use Rattle.std.specs.Prelude.{◌≡◌, ◌≤◌, ℕ, true, List, [], None, Ok, is_ok, length};
 ghost use Rattle.std.specs.Bool.{OnTrue, OnFalse};
 ghost use Rattle.hex.specs.Hex.{decode_of};
 ghost use Rattle.bubble.specs.Payloads.{Value, PayloadBytes};
 ghost use Rattle.show.specs.Words.{bad_place, bytes_of};
 ghost use Rattle.show.specs.Lines.{payload_lines};
 ghost use Rattle.show.specs.Explained.{bytes_text, explained, text_of};
-ghost use Rattle.show.specs.Shown.{ShowsPayload, ShowsNoText, ShowsFault};
+ghost use Rattle.show.specs.Shown.{ShowsPayload, ShowsNoPayload};
 
 use crate::fault_lines::{put_fault, put_hex_fault};
 use crate::page::Page;
@@ -72,7 +72,7 @@ pub fn explain(word: &[u8], page: &mut Page) -> bool
     // The lines of a payload that the word says are shown.
     ensures only { (x : List ℕ) (v : Value) → decode_of word.now ≡ Ok x → PayloadBytes v x → (result ≡ true) × (page.new ≡ payload_lines x v) }
     // Else the fault is the first one: of the text, or of the bytes.
-    ensures fault { OnFalse result (ShowsNoText word.now page.new ⊎ ShowsFault word.now page.new) }
+    ensures fault { OnFalse result (ShowsNoPayload word.now page.new) }
     // The same as one function of the word.
     ensures text { page.new ≡ text_of (explained word.now) }
     ensures found { result ≡ is_ok (explained word.now) }

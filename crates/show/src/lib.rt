@@ -37,6 +37,3 @@ mod words;
 
 pub use explaining::explain;
 pub use page::{PAGE_LEN, Page};
-
-#[cfg(test)]
-mod tests;

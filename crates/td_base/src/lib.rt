@@ -64,6 +64,3 @@ pub use reach::{Policy, is_global, is_global6, is_link_local, usable};
 pub use short_text::SHORT_LEN;
 pub use small::{BadText, Millis, NoMemory, Room, Side, Span};
 pub use sum::ones_sum;
-
-#[cfg(test)]
-mod tests;

@@ -14,7 +14,7 @@ use Rattle.topology.specs.Rows.{TopologyState}
 use Rattle.topology.specs.declared.node.Node.{Node}
 use Rattle.topology.specs.declared.node.Node.TheVariants.{Server as server, Nat as nat}
 use Rattle.topology.specs.Topology.{nodes, node_at, client_at, as_client}
-use Rattle.history.specs.Events.{has_host, is_client_of}
+use Rattle.topology.specs.Named.{has_host, is_client_of}
 use Rattle.history.specs.Full.{Made, Full}
 use Rattle.legal.specs.Past.{is_node, is_restart, at_nat, forgotten, outs_of, nat_entries, nat_history}
 use Rattle.legal.specs.Next.{least_due}

@@ -1,15 +1,10 @@
+//! IPv6 packets, read and written.
 ghost use Rattle.std.specs.Prelude.{◌≤◌};
 
-use super::*;
+use crate::vectors::{BUBBLE, DATA};
+use ipv6_packet::{HEADER, NEXT_NONE, PacketFault, read, write};
 use std::test::Fail;
-
-/// A bubble between two Teredo addresses.
-const BUBBLE: &str =
-    "6000000000003bff200100004136e378800063bf3ffffdd2200100004136e378000063bf39cc9bf8";
-
-/// Class 0xb8, flow 0x12345, a body of two bytes.
-const DATA: &str =
-    "6b812345000211402001000000000000000000000000000120010000000000000000000000000002abcd";
+use td_base::Room;
 
 fn begin(bytes: &[u8; 42], len: usize) -> &[u8]
     requires { len ≤ 42 }
@@ -18,7 +13,7 @@ fn begin(bytes: &[u8; 42], len: usize) -> &[u8]
 }
 
 #[test]
-fn reads_and_writes_a_bubble(rt: HostRuntime) -> Result<(), Fail> {
+fn a_bubble_both_ways(rt: HostRuntime) -> Result<(), Fail> {
     let mut bytes = [0u8; 40];
     hex::decode_to_slice(BUBBLE, &mut bytes).ok().ok_or("hex")?;
     let packet = read(&bytes).ok().ok_or("a packet")?;
@@ -26,8 +21,7 @@ fn reads_and_writes_a_bubble(rt: HostRuntime) -> Result<(), Fail> {
         (packet.class, packet.flow, packet.next, packet.hop),
         (0, 0, NEXT_NONE, 255)
     );
-    assert_eq!(rt; packet.src.0[15], 0xd2);
-    assert_eq!(rt; packet.dst.0[15], 0xf8);
+    assert_eq!(rt; (packet.src.0[15], packet.dst.0[15]), (0xd2, 0xf8));
     assert!(rt; packet.body.is_empty());
     let mut out = [0u8; 40];
     assert_eq!(rt; write(&packet, &mut out), Ok(40));
@@ -46,12 +40,12 @@ fn each_field_has_its_place(rt: HostRuntime) -> Result<(), Fail> {
     );
     assert!(rt; packet.body == [0xab, 0xcd].as_slice());
     let mut out = [0u8; 41];
-    assert_eq!(rt; write(&packet, &mut out), Err(td_base::Room { needed: 42 }));
+    assert_eq!(rt; write(&packet, &mut out), Err(Room { needed: 42 }));
     Ok(())
 }
 
 #[test]
-fn each_fault(rt: HostRuntime) -> Result<(), Fail> {
+fn each_fault_of_a_packet(rt: HostRuntime) -> Result<(), Fail> {
     let mut bytes = [0u8; 42];
     hex::decode_to_slice(DATA, &mut bytes).ok().ok_or("hex")?;
     for len in 0..42 {

@@ -1,20 +1,10 @@
+//! ICMPv6 messages and their options, read and written.
 ghost use Rattle.std.specs.Prelude.{◌≤◌, length};
 
-use crate::{IcmpFault, Msg, Opt, options, read, write};
+use crate::vectors::{HOST_LINK, SERVER_LINK};
+use icmp6::{IcmpFault, Msg, Opt, options, read, write};
 use td_base::{Ip6, Room, Span, put16};
-
-// fe80::63bf:39cc:9bf8
-const HOST: Ip6 = Ip6([
-    0xfe, 0x80, 0, 0, 0, 0, 0, 0, 0, 0, 0x63, 0xbf, 0x39, 0xcc, 0x9b, 0xf8,
-]);
-
-// ff02::2
-const ROUTERS: Ip6 = Ip6([0xff, 2, 0, 0, 0, 0, 0, 0, 0, 0, 0, 0, 0, 0, 0, 2]);
-
-// fe80::8000:f227:3fff:fdfe
-const SERVER: Ip6 = Ip6([
-    0xfe, 0x80, 0, 0, 0, 0, 0, 0, 0x80, 0, 0xf2, 0x27, 0x3f, 0xff, 0xfd, 0xfe,
-]);
+use teredo_addr::ALL_ROUTERS;
 
 // 2001:0:c000:201::ff
 const GLOBAL: Ip6 = Ip6([0x20, 1, 0, 0, 0xc0, 0, 2, 1, 0, 0, 0, 0, 0, 0, 0, 0xff]);
@@ -44,68 +34,59 @@ const CUT_SUMS: [u16; 52] = [
 fn fault(src: Ip6, hop: u8, body: &[u8]) -> Option<IcmpFault>
     requires { length body.now ≤ 65535 }
 {
-    read(src, ROUTERS, hop, body).err()
+    read(src, ALL_ROUTERS, hop, body).err()
 }
 
 #[test]
-fn each_fault(rt: HostRuntime) {
+fn each_fault_of_a_message(rt: HostRuntime) {
     let short = |len| Some(IcmpFault::Short { len });
-    assert_eq!(rt; fault(HOST, 255, &[]), short(0));
-    assert_eq!(rt; fault(HOST, 255, &[0x85, 0, 0]), short(3));
-    assert_eq!(rt; fault(HOST, 64, &[0x80, 0, 0x48, 0xb7]), short(4));
-    assert_eq!(rt; fault(HOST, 64, &[0x81, 0, 0x47, 0xb4, 0, 0, 0]), short(7));
-    assert_eq!(rt;
-        fault(SERVER, 64, &[0x86, 0, 0xcc, 0x10, 0, 0, 0, 0]),
-        short(8)
-    );
-
-    // The checksum is 0, and ffff isn't taken for it.
-    let said = 0xffff;
-    let sum = Some(IcmpFault::Sum { said, found: 0 });
-    assert_eq!(rt; fault(HOST, 64, &[0x80, 0, 0, 0, 0x48, 0xb2, 0, 1]), None);
-    assert_eq!(rt;
-        fault(HOST, 64, &[0x80, 0, 0xff, 0xff, 0x48, 0xb2, 0, 1]),
-        sum
-    );
-
     let hop = Some(IcmpFault::HopLimit { hop: 254 });
-    assert_eq!(rt; fault(HOST, 254, &SOLICITATION), hop);
-    assert_eq!(rt; fault(HOST, 254, &[0x85, 1, 0x43, 0xb2, 0, 0, 0, 0]), hop);
-
     let code = Some(IcmpFault::Code { code: 1 });
-    assert_eq!(rt; fault(HOST, 255, &[0x85, 1, 0x43, 0xb2, 0, 0, 0, 0]), code);
-    assert_eq!(rt; fault(HOST, 64, &[0x80, 1, 0x48, 0xaf, 0, 1, 0, 2]), code);
-
+    // The checksum is 0, and ffff isn't taken for it.
+    let sum = Some(IcmpFault::Sum {
+        said: 0xffff,
+        found: 0,
+    });
     let advert = [0x86, 0, 0x97, 0xae, 0, 0, 0, 0, 0, 0, 0, 0, 0, 0, 0, 0];
-    assert_eq!(rt; fault(GLOBAL, 255, &advert), Some(IcmpFault::Source));
+    for (found, want) in [
+        (fault(HOST_LINK, 255, &[]), short(0)),
+        (fault(HOST_LINK, 255, &[0x85, 0, 0]), short(3)),
+        (fault(HOST_LINK, 64, &[0x80, 0, 0x48, 0xb7]), short(4)),
+        (fault(HOST_LINK, 64, &[0x81, 0, 0x47, 0xb4, 0, 0, 0]), short(7)),
+        (fault(SERVER_LINK, 64, &[0x86, 0, 0xcc, 0x10, 0, 0, 0, 0]), short(8)),
+        (fault(HOST_LINK, 64, &[0x80, 0, 0, 0, 0x48, 0xb2, 0, 1]), None),
+        (fault(HOST_LINK, 64, &[0x80, 0, 0xff, 0xff, 0x48, 0xb2, 0, 1]), sum),
+        (fault(HOST_LINK, 254, &SOLICITATION), hop),
+        (fault(HOST_LINK, 254, &[0x85, 1, 0x43, 0xb2, 0, 0, 0, 0]), hop),
+        (fault(HOST_LINK, 255, &[0x85, 1, 0x43, 0xb2, 0, 0, 0, 0]), code),
+        (fault(HOST_LINK, 64, &[0x80, 1, 0x48, 0xaf, 0, 1, 0, 2]), code),
+        (fault(GLOBAL, 255, &advert), Some(IcmpFault::Source)),
+    ] {
+        assert_eq!(rt; found, want);
+    }
 }
 
 #[test]
 fn each_fault_of_options(rt: HostRuntime) {
     let cut = Some(IcmpFault::OptionCut { place: 8 });
-    assert_eq!(rt;
-        fault(HOST, 255, &[0x85, 0, 0x42, 0xb2, 0, 0, 0, 0, 1]),
-        cut
-    );
+    let zero = |place| Some(IcmpFault::OptionZero { place });
+    let cut_head = [0x85, 0, 0x42, 0xb2, 0, 0, 0, 0, 1];
     let long = [0x85, 0, 0x42, 0xa9, 0, 0, 0, 0, 1, 2, 0, 0, 0, 0, 0, 0];
-    assert_eq!(rt; fault(HOST, 255, &long), cut);
-
     let second = [
         0x85, 0, 0x41, 0xa2, 0, 0, 0, 0, 1, 1, 0, 0, 0, 0, 0, 0, 1, 0, 0, 0, 0, 0, 0, 0,
     ];
-    assert_eq!(rt;
-        fault(HOST, 255, &second),
-        Some(IcmpFault::OptionZero { place: 16 })
-    );
-
     // The first fault, though the second option is cut.
     let both = [
         0x85, 0, 0x41, 0xa0, 0, 0, 0, 0, 1, 0, 0, 0, 0, 0, 0, 0, 1, 3, 0, 0, 0, 0, 0, 0,
     ];
-    assert_eq!(rt;
-        fault(HOST, 255, &both),
-        Some(IcmpFault::OptionZero { place: 8 })
-    );
+    for (found, want) in [
+        (fault(HOST_LINK, 255, &cut_head), cut),
+        (fault(HOST_LINK, 255, &long), cut),
+        (fault(HOST_LINK, 255, &second), zero(16)),
+        (fault(HOST_LINK, 255, &both), zero(8)),
+    ] {
+        assert_eq!(rt; found, want);
+    }
 }
 
 // The fault of so many bytes of the solicitation: the bytes that are cut are zeros, and the length goes into the sum.
@@ -133,13 +114,13 @@ fn advertisement_fault(len: usize) -> Option<IcmpFault> {
 #[test]
 fn each_cut(rt: HostRuntime) {
     for len in 0..9 {
-        let found = fault(HOST, 255, &SOLICITATION[..len]);
+        let found = fault(HOST_LINK, 255, &SOLICITATION[..len]);
         assert_eq!(rt; found, solicitation_fault(len), "{len} bytes");
     }
     for (i, sum) in CUT_SUMS.iter().enumerate() {
         let len = i + 4;
         let mut body = ADVERTISEMENT;
-        let wrong = read(SERVER, HOST, 255, &body[..len]).err();
+        let wrong = read(SERVER_LINK, HOST_LINK, 255, &body[..len]).err();
         assert_eq!(rt;
             wrong,
             Some(IcmpFault::Sum {
@@ -149,7 +130,7 @@ fn each_cut(rt: HostRuntime) {
             "{len} bytes"
         );
         put16(&mut body, 2, *sum);
-        let right = read(SERVER, HOST, 255, &body[..len]).err();
+        let right = read(SERVER_LINK, HOST_LINK, 255, &body[..len]).err();
         assert_eq!(rt; right, advertisement_fault(len), "{len} bytes");
     }
 }
@@ -164,7 +145,7 @@ fn front(bytes: &[u8]) -> &[u8] {
 
 #[test]
 fn advertisement(rt: HostRuntime) {
-    let Ok(Msg::RouterAdvert { options: lent, .. }) = read(SERVER, HOST, 255, &ADVERTISEMENT) else {
+    let Ok(Msg::RouterAdvert { options: lent, .. }) = read(SERVER_LINK, HOST_LINK, 255, &ADVERTISEMENT) else {
         panic!(rt; "no advertisement");
     };
     let mut given = options(lent);
@@ -189,10 +170,10 @@ fn advertisement(rt: HostRuntime) {
     };
     let mut out = [0xaa; 57];
     assert_eq!(rt;
-        write(&message, SERVER, HOST, &mut out[..55]),
+        write(&message, SERVER_LINK, HOST_LINK, &mut out[..55]),
         Err(Room { needed: 56 })
     );
-    assert_eq!(rt; write(&message, SERVER, HOST, &mut out), Ok(56));
+    assert_eq!(rt; write(&message, SERVER_LINK, HOST_LINK, &mut out), Ok(56));
     assert!(rt; front(&out) == ADVERTISEMENT.as_slice() && out[56] == 0xaa);
 }
 
@@ -202,7 +183,7 @@ fn other_options(rt: HostRuntime) {
         0x85, 0, 0x3d, 0x98, 0, 0, 0, 0, 1, 1, 0, 0, 0, 0, 0, 0, 5, 2, 0, 0, 0, 0, 0, 0, 0, 0, 0,
         0, 0, 0, 0, 0,
     ];
-    let Ok(Msg::RouterSolicit { options: lent }) = read(HOST, ROUTERS, 255, &body) else {
+    let Ok(Msg::RouterSolicit { options: lent }) = read(HOST_LINK, ALL_ROUTERS, 255, &body) else {
         panic!(rt; "no solicitation");
     };
     let other = |kind, at, len| Some(Opt::Other {
@@ -220,13 +201,13 @@ fn echo_and_other(rt: HostRuntime) {
     let body = [
         0x80, 0, 0x1b, 0x3c, 0x12, 0x34, 0x56, 0x78, 0x61, 0x62, 0x63, 0x64,
     ];
-    let Ok(Msg::EchoRequest { id, seq, body }) = read(HOST, ROUTERS, 64, &body) else {
+    let Ok(Msg::EchoRequest { id, seq, body }) = read(HOST_LINK, ALL_ROUTERS, 64, &body) else {
         panic!(rt; "no echo");
     };
     assert!(rt; id == 0x1234 && seq == 0x5678 && body == b"abcd".as_slice());
 
     let body = [0xc8, 7, 0x55, 0xf2, 0xaa, 0xbb];
-    let Ok(Msg::Other { kind, code, rest }) = read(HOST, ROUTERS, 64, &body) else {
+    let Ok(Msg::Other { kind, code, rest }) = read(HOST_LINK, ALL_ROUTERS, 64, &body) else {
         panic!(rt; "no other message");
     };
     assert!(rt; kind == 200 && code == 7 && rest == [0xaa, 0xbb].as_slice());

@@ -1,0 +1,5 @@
+use Rattle.ipv6_packet.proofs.LawProofs.{packet_is_spelled}
+use Rattle.ipv6_packet.proofs.laws.packet_is_spelled.Goals as goal
+
+pub returns : goal.returns
+returns c = packet_is_spelled

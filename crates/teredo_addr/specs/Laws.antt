@@ -1,0 +1,41 @@
+-- What an address that was made tells: RFC 4380, section 4.
+use Rattle.std.specs.Prelude.{◌≡◌, ◌<◌, ◌^◌, ℕ, Bool, true, false}
+use Rattle.td_base.specs.Ip4.{IsIp4}
+use Rattle.td_base.specs.Ip6.{IsIp6}
+use Rattle.td_base.specs.Ep.{IsEp}
+use Rattle.td_base.specs.Reach.{is_global6, is_link_local}
+use Rattle.td_base.specs.declared.ipv4.Ip4.{Ip4}
+use Rattle.td_base.specs.declared.ipv6.Ip6.{Ip6}
+use Rattle.td_base.specs.declared.endpoint.Ep.{Ep}
+use Rattle.teredo_addr.specs.Teredo.{is_teredo, server_in, flags_in, cone_in, has_cone, embedded, teredo_ip, parts_in, TeredoBytes, link_local}
+
+-- an address with the service's prefix, which tells these parts
+pub record IsTeredoOf (server : Ip4) (flags : ℕ) (mapped : Ep) (ip : Ip6) : Type 0 where
+  pub sixteen : IsIp6 ip
+  pub teredo : is_teredo ip ≡ true
+  pub global : is_global6 ip ≡ true
+  pub not_link : is_link_local ip ≡ false
+  pub server_is : server_in ip ≡ server
+  pub flags_are : flags_in ip ≡ flags
+  pub cone_is : has_cone ip ≡ cone_in flags
+  pub mapped_is : embedded ip ≡ mapped
+
+-- a Teredo address tells what it was made of
+abbrev pub TeredoTells : Type 0
+TeredoTells = (server : Ip4) (flags : ℕ) (mapped : Ep) → IsIp4 server → flags < 2 ^ 16 → IsEp mapped → IsTeredoOf server flags mapped (teredo_ip server flags mapped)
+
+-- and each address with the prefix is made of what it tells
+abbrev pub TeredoIsMade : Type 0
+TeredoIsMade = (ip : Ip6) → IsIp6 ip → is_teredo ip ≡ true → TeredoBytes (parts_in ip) ip
+
+-- a link-local address that tells the cone bit and an endpoint; it is neither a Teredo address nor a global one
+pub record IsLinkLocalOf (cone : Bool) (ep : Ep) (ip : Ip6) : Type 0 where
+  pub sixteen : IsIp6 ip
+  pub link : is_link_local ip ≡ true
+  pub not_teredo : is_teredo ip ≡ false
+  pub not_global : is_global6 ip ≡ false
+  pub cone_is : has_cone ip ≡ cone
+  pub mapped_is : embedded ip ≡ ep
+
+abbrev pub LinkLocalTells : Type 0
+LinkLocalTells = (cone : Bool) (ep : Ep) → IsEp ep → IsLinkLocalOf cone ep (link_local cone ep)

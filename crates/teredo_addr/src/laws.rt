@@ -1,0 +1,17 @@
+//! Laws of addresses that are made.
+ghost use Rattle.teredo_addr.specs.Laws.{TeredoTells, TeredoIsMade, LinkLocalTells};
+
+/// A Teredo address tells what it was made of.
+pub fn teredo_tells()
+    ensures { TeredoTells }
+{}
+
+/// Each address with the service's prefix is made of what it tells.
+pub fn teredo_is_made()
+    ensures { TeredoIsMade }
+{}
+
+/// A link-local address tells the cone bit and the endpoint that it was made of.
+pub fn link_local_tells()
+    ensures { LinkLocalTells }
+{}
