@@ -1,9 +1,9 @@
 pub mod Scenes
-pub mod RowsQualify
-pub mod RowsPeers
-pub mod RowsCone
-pub mod RowsRelay
-pub mod RowsTries
-pub mod RowsQueue
+pub mod QualifyReports
+pub mod MeetingReports
+pub mod ConeReports
+pub mod RelayReports
+pub mod TryReports
+pub mod QueueTotals
 pub mod Late
 pub mod OwnStreams

@@ -4,8 +4,8 @@
 //!
 //! | file of proofs/ | what is computed |
 //! |---|---|
-//! | `RowsQualify`, `OwnStreams` | clients behind each kind of NAT find their address, lose it, keep it |
-//! | `RowsCone`, `RowsPeers`, `RowsTries`, `RowsQueue` | two clients meet, or don't |
-//! | `RowsRelay` | a native host and a client, through a relay |
+//! | `QualifyReports`, `OwnStreams` | clients behind each kind of NAT find their address, lose it, keep it |
+//! | `ConeReports`, `MeetingReports`, `TryReports`, `QueueTotals` | two clients meet, or don't |
+//! | `RelayReports` | a native host and a client, through a relay |
 //! | `Late` | single steps of a client at late moments, and the order of its random words |
 #![tactic(auto)]
