@@ -9,7 +9,7 @@ use Rattle.std.proofs.lemmas.Bool.{and_parts}
 use Rattle.std.proofs.lemmas.List.Quantifiers.{position-Some}
 use Rattle.std.proofs.lemmas.Option.{slice_get-get_or}
 use Rattle.hex.specs.Hex.{decode_of}
-use Rattle.td_base.specs.Reading.{◌>>=◌}
+use Rattle.td_base.specs.Results.{◌>>=◌}
 use Rattle.history.specs.declared.event.Event.{Event}
 use Rattle.history.specs.declared.event.Event.TheVariants as event
 use Rattle.history.specs.declared.event.TheConstants.{MOST_ADVANCE, MOST_NUMBER, MOST_SEQUENCE, MOST_BODY, MOST_BYTES}

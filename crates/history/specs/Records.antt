@@ -1,6 +1,6 @@
 -- What a report needs of a full record.
 use Rattle.std.specs.Prelude.{ℕ, ◌+◌, List, [], ◌∷◌, length, Option, Some, None, option_map}
-use Rattle.td_base.specs.declared.small.Span.{Span}
+use Rattle.td_base.specs.declared.span.Span.{Span}
 use Rattle.teredo_node.specs.Journal.{Entry}
 use Rattle.history.specs.declared.mark.Mark.{Mark}
 use Rattle.history.specs.declared.mark.Mark.TheVariants as mark

@@ -1,12 +1,12 @@
 pub mod Bytes
-pub mod Reading
+pub mod Results
 pub mod Ip4
 pub mod Ip6
 pub mod Ep
 pub mod Reach
 pub mod Names
 pub mod Sums
-pub mod Printing
+pub mod Prints
 pub mod Texts
 pub mod Fronts
 pub mod Ip6Texts
