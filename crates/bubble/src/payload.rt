@@ -1,3 +1,4 @@
+//! The payload.
 use indications::Lead;
 use ipv6_packet::Packet;
 

@@ -1,3 +1,4 @@
+//! Payloads out of bytes.
 ghost use Rattle.std.specs.Prelude.{◌≡◌, ◌+◌, ◌≤◌, length, true, false, IfOk, IfErr, IfSome, Ok};
 ghost use Rattle.td_base.specs.Results.{Gives};
 ghost use Rattle.ipv6_packet.specs.declared.header.TheConstants.{HEADER};
@@ -32,10 +33,7 @@ pub fn read(bytes: &[u8]) -> Result<Payload<'_>, PayloadFault>
     if bytes.len() > DATAGRAM_MAX {
         return Err(PayloadFault::Long { len: bytes.len() });
     }
-    let places = match places_of(bytes) {
-        Ok(places) => places,
-        Err(fault) => return Err(PayloadFault::Lead(fault)),
-    };
+    let places = places_of(bytes)?;
     let at = places.at;
     let rest = &bytes[at..];
     if let Err(fault) = check(rest) {

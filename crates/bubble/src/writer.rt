@@ -1,3 +1,4 @@
+//! Payloads into bytes.
 ghost use Rattle.std.specs.Prelude.{◌≡◌, ◌+◌, ◌<◌, ◌≤◌, ◌^◌, length, take, IfOk, Ok};
 ghost use Rattle.td_base.specs.Bytes.{Writes};
 ghost use Rattle.ipv6_packet.specs.Packets.{view as packet_view};

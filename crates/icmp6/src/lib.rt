@@ -31,19 +31,18 @@
 //! | `numbers` | types, lengths and limits | |
 #![tactic(auto)]
 
-mod opt;
 mod fault;
 mod iter;
 mod laws;
 mod lend;
 mod message;
 mod numbers;
+mod opt;
 mod reader;
 mod sum;
 mod walk;
 mod writer;
 
-pub use opt::Opt;
 pub use fault::IcmpFault;
 pub use iter::Options;
 pub use laws::{message_is_bytes, message_reads_back, options_read_back, spelling_is_read};
@@ -54,5 +53,6 @@ pub use numbers::{
     MTU_UNITS, OPTION_HEAD_LEN, OPTION_UNIT, PREFIX_INFORMATION, PREFIX_UNITS, ROUTER_ADVERT,
     ROUTER_HOP, ROUTER_SOLICIT, SOLICIT_LEN,
 };
+pub use opt::Opt;
 pub use reader::read;
 pub use writer::write;

@@ -1,3 +1,4 @@
+//! What begins at a place.
 ghost use Rattle.std.specs.Prelude.{◌≡◌, ◌≤◌, length};
 ghost use Rattle.indications.specs.Indications.{head_at};
 

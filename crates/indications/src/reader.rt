@@ -1,3 +1,4 @@
+//! Leads out of bytes.
 ghost use Rattle.std.specs.Prelude.{◌≡◌, ◌≢◌, ◌+◌, ◌<◌, ◌≤◌, length, IfOk, IfErr, IfSome, Ok};
 ghost use Rattle.td_base.specs.Results.{Gives};
 ghost use Rattle.indications.specs.declared.blocks.Lead.{Lead};

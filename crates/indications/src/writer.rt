@@ -1,3 +1,4 @@
+//! Indications into bytes.
 ghost use Rattle.std.specs.Prelude.{◌≡◌, ◌+◌, ◌<◌, ◌≤◌, ◌^◌, ◌++◌, length, take, List, ℕ, IfOk, IfSome, Ok, option_map};
 ghost use Rattle.td_base.specs.Bytes.{IsPut, Writes};
 ghost use Rattle.td_base.specs.Ep.{IsEp};

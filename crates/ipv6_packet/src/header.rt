@@ -1,3 +1,4 @@
+//! The packet, and the numbers of its header.
 ghost use Rattle.std.specs.Prelude.{◌≡◌};
 ghost use Rattle.ipv6_packet.specs.Packets.{view};
 ghost use Rattle.ipv6_packet.specs.Reads.{is_big};

@@ -1,3 +1,4 @@
+//! Packets out of bytes.
 ghost use Rattle.std.specs.Prelude.{◌≡◌, ◌+◌, ◌≤◌, length, true, false, IfOk, IfErr, OnOk, Ok};
 ghost use Rattle.td_base.specs.Results.{Gives};
 ghost use Rattle.ipv6_packet.specs.Packets.{Fields, view, PacketBytes, IsFirstFault, fields_of, packet_at};

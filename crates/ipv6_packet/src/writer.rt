@@ -1,3 +1,4 @@
+//! Packets into bytes.
 ghost use Rattle.std.specs.Prelude.{◌≡◌, ◌+◌, ◌*◌, ◌<◌, ◌^◌, ◌/◌, length, take, slice_index, IfOk, Ok};
 ghost use Rattle.td_base.specs.Bytes.{Writes};
 ghost use Rattle.ipv6_packet.specs.Packets.{view, PacketBytes, packet_bytes, packet_at};

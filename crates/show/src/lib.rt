@@ -30,9 +30,9 @@
 
 mod explainer;
 mod fault_lines;
+mod line_texts;
 mod page;
 mod payload_lines;
-mod line_texts;
 mod words;
 
 pub use explainer::explain;

@@ -4,9 +4,9 @@ ghost use Rattle.ipv6_packet.specs.Packets.{view as packet_view};
 ghost use Rattle.bubble.specs.Payloads.{view};
 ghost use Rattle.show.specs.Lines.{number_digits, span_bytes, AreShortSpans, keys_line, auth_line, origin_line, packet_line, embedded_line, teredo_line, address_lines, kind_word, body_line, payload_lines};
 
-use crate::page::{PAGE_LEN, Page};
 use crate::line_texts::{LINE_ROOM, put_ep, put_field, put_hex, put_ip4, put_ip6};
-use bubble::{Kind, DATAGRAM_MAX, Payload};
+use crate::page::{PAGE_LEN, Page};
+use bubble::{DATAGRAM_MAX, Kind, Payload};
 use indications::{Auth, NONCE, Origin};
 use ipv6_packet::Packet;
 use td_base::{Ip6, Span};

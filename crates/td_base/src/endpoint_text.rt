@@ -11,8 +11,8 @@ use crate::ipv4::Ip4;
 use crate::ipv4_text::{PART_MOST, short_ip4};
 use crate::line::{LineBuf, print_text};
 use crate::numeral::{number_last, number_then};
-use crate::short_text::SHORT_LEN;
 use crate::refusals::{BadText, Room};
+use crate::short_text::SHORT_LEN;
 
 /// The largest port.
 const PORT_MOST: u64 = u16::MAX as u64;

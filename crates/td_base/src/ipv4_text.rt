@@ -9,8 +9,8 @@ ghost use Rattle.td_base.specs.declared.ipv4.Ip4.{Ip4};
 use crate::ipv4::Ip4;
 use crate::line::{LineBuf, print_text};
 use crate::numeral::{number_last, number_then};
-use crate::short_text::{DIGITS, SHORT_LEN, ShortText};
 use crate::refusals::{BadText, Room};
+use crate::short_text::{DIGITS, SHORT_LEN, ShortText};
 
 /// The largest of the four numbers.
 pub(crate) const PART_MOST: u64 = u8::MAX as u64;

@@ -9,8 +9,8 @@ ghost use Rattle.td_base.specs.Ip6Texts.{groups, ip6_text, Spells};
 use crate::ipv6::Ip6;
 use crate::ipv6_groups::groups_of;
 use crate::line::{LineBuf, print_text};
-use crate::short_text::{SHORT_LEN, ShortText};
 use crate::refusals::Room;
+use crate::short_text::{SHORT_LEN, ShortText};
 
 /// How many digits a group has at most.
 pub(crate) const GROUP_DIGITS: usize = 4;

@@ -1,3 +1,4 @@
+//! The fields of an address, one by one.
 ghost use Rattle.std.specs.Prelude.{◌≡◌, ◌+◌, ◌≤◌, length, take, drop};
 ghost use Rattle.teredo_addr.specs.Teredo.{is_teredo, server_in, cone_in, has_cone, embedded};
 
