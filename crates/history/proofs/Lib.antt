@@ -1,4 +1,3 @@
-pub mod Distinct
 pub mod Numbers
 pub mod Addresses
 pub mod HexWords

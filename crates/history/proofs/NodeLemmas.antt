@@ -5,16 +5,18 @@ use Rattle.std.specs.Option.{option_or}
 use Rattle.std.specs.List.{position_from}
 use Rattle.std.proofs.lemmas.Iterator.Adapters.{position_from-zero}
 use Rattle.td_base.specs.Names.{name_text}
-use Rattle.history.specs.declared.server_node.ServerNode.{ServerNode}
-use Rattle.history.specs.declared.nat_node.NatNode.{NatNode}
-use Rattle.history.specs.declared.client_node.ClientNode.{ClientNode}
-use Rattle.history.specs.declared.relay_node.RelayNode.{RelayNode}
-use Rattle.history.specs.declared.native_node.NativeNode.{NativeNode}
-use Rattle.history.specs.Rows.{TopologyState}
-use Rattle.history.specs.Topology.{Node, server, nat, client, relay, native, nodes}
-use Rattle.history.specs.Events.{has_host, is_nat, is_client_of}
+use Rattle.topology.specs.declared.server_node.ServerNode.{ServerNode}
+use Rattle.topology.specs.declared.nat_node.NatNode.{NatNode}
+use Rattle.topology.specs.declared.client_node.ClientNode.{ClientNode}
+use Rattle.topology.specs.declared.relay_node.RelayNode.{RelayNode}
+use Rattle.topology.specs.declared.native_node.NativeNode.{NativeNode}
+use Rattle.topology.specs.Rows.{TopologyState}
+use Rattle.topology.specs.declared.node.Node.{Node}
+use Rattle.topology.specs.declared.node.Node.TheVariants.{Server as server, Nat as nat, Client as client, Relay as relay, Native as native}
+use Rattle.topology.specs.Topology.{nodes}
+use Rattle.topology.specs.Named.{has_host, is_nat, is_client_of}
 use Rattle.history.specs.Words.{same_text}
-use Rattle.history.specs.NodeWords.{any_kind, named, is_named}
+use Rattle.topology.specs.Named.{any_kind, named, is_named}
 use Rattle.std.proofs.lemmas.List.{length-map}
 
 pub at_front : {A : Type 0} (p : A → Bool) (xs : List A) → position p xs ≡ position_from p 0 xs

@@ -21,14 +21,17 @@ use Rattle.history.specs.declared.acts.Verb.TheVariants as verb
 use Rattle.history.specs.declared.target.Target.{Target}
 use Rattle.history.specs.declared.target.Target.TheVariants as target
 use Rattle.td_base.specs.declared.node_name.TheConstants.{NAME_LEN}
-use Rattle.history.specs.NodeNames.{is_name_byte, begins_with_letter, is_name}
-use Rattle.history.specs.Rows.{TopologyState}
-use Rattle.history.specs.Topology.{Node, nodes, node_at, name_of}
-use Rattle.history.specs.Rules.{AreDistinct, names_of, IsTopology}
-use Rattle.history.specs.Events.{has_host, is_nat, is_client_of, IsTarget, IsEvent}
+use Rattle.topology.specs.NodeNames.{is_name_byte, begins_with_letter, is_name}
+use Rattle.topology.specs.Rows.{TopologyState}
+use Rattle.topology.specs.declared.node.Node.{Node}
+use Rattle.topology.specs.Topology.{nodes, node_at, name_of}
+use Rattle.topology.specs.Rules.{AreDistinct, names_of, IsTopology}
+use Rattle.topology.specs.Named.{has_host, is_nat, is_client_of}
+use Rattle.history.specs.Events.{IsTarget, IsEvent}
 use Rattle.history.specs.Words.{same_text, space}
 use Rattle.history.specs.Verbs.{verb_word, verb_of}
-use Rattle.history.specs.NodeWords.{any_kind, is_named, named, target_of}
+use Rattle.topology.specs.Named.{any_kind, is_named, named}
+use Rattle.history.specs.NodeWords.{target_of}
 use Rattle.history.specs.EventText.{Words, no_word, a_word, placed, word, event_behind, event_of}
 use Rattle.history.specs.EventSpelling.{hex_word, word_of_name, name_word, target_word, event_words, event_text, is_plain, HasPlainNames, IsMadeTarget}
 use Rattle.history.proofs.Numbers.{number_back, same_text-true, same_text-self}

@@ -12,9 +12,9 @@ use Rattle.history.specs.declared.event.Event.TheVariants as event
 use Rattle.history.specs.declared.acts.Verb.TheVariants as verb
 use Rattle.history.specs.declared.target.Target.{Target}
 use Rattle.history.specs.declared.target.Target.TheVariants as target
-use Rattle.history.specs.Rows.{TopologyState}
-use Rattle.history.specs.Topology.{node_at, name_of}
-use Rattle.history.specs.Rules.{names_of}
+use Rattle.topology.specs.Rows.{TopologyState}
+use Rattle.topology.specs.Topology.{node_at, name_of}
+use Rattle.topology.specs.Rules.{names_of}
 use Rattle.history.specs.Words.{space, colon}
 use Rattle.history.specs.Verbs.{verb_word}
 

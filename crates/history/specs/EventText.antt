@@ -6,11 +6,12 @@ use Rattle.history.specs.declared.event.Event.TheVariants as event
 use Rattle.history.specs.declared.event.TheConstants.{MOST_ADVANCE, MOST_NUMBER, MOST_SEQUENCE, MOST_BODY, MOST_BYTES}
 use Rattle.history.specs.declared.acts.Verb.{Verb}
 use Rattle.history.specs.declared.acts.Verb.TheVariants as verb
-use Rattle.history.specs.Rows.{TopologyState}
-use Rattle.history.specs.Events.{has_host, is_nat, is_client_of}
+use Rattle.topology.specs.Rows.{TopologyState}
+use Rattle.topology.specs.Named.{has_host, is_nat, is_client_of}
 use Rattle.history.specs.Words.{parts_at, space, number_of, ep_of, bytes_of}
 use Rattle.history.specs.Verbs.{verb_of}
-use Rattle.history.specs.NodeWords.{any_kind, named, target_of}
+use Rattle.topology.specs.Named.{any_kind, named}
+use Rattle.history.specs.NodeWords.{target_of}
 
 -- the words of a text with their places, and the place where the text ends
 pub data Words : Type 0 where

@@ -1,12 +1,18 @@
 -- The events that a scenario with a topology may ask for.
-use Rattle.std.specs.Prelude.{◌≡◌, ◌≤◌, ◌<◌, ◌==◌, ℕ, Bool, true, false, length, Option, Some}
+use Rattle.std.specs.Prelude.{◌≡◌, ◌≤◌, ◌<◌, ◌==◌, ℕ, Bool, true, false, List, length, Option, Some}
+use Rattle.td_base.specs.declared.endpoint.Ep.{Ep}
+use Rattle.td_base.specs.Bytes.{IsBytes}
+use Rattle.td_base.specs.Ep.{IsEp}
+use Rattle.td_base.specs.Ip6.{IsIp6}
 use Rattle.history.specs.declared.event.Event.{Event}
 use Rattle.history.specs.declared.event.Event.TheVariants as event
-use Rattle.history.specs.declared.event.TheConstants.{MOST_ADVANCE, MOST_NUMBER, MOST_BODY, MOST_BYTES}
+use Rattle.history.specs.declared.event.TheConstants.{MOST_ADVANCE, MOST_NUMBER, MOST_SEQUENCE, MOST_BODY, MOST_BYTES}
 use Rattle.history.specs.declared.target.Target.{Target}
 use Rattle.history.specs.declared.target.Target.TheVariants as target
-use Rattle.history.specs.Rows.{TopologyState}
-use Rattle.history.specs.Topology.{Node, nat, client, native, nodes, node_at}
+use Rattle.topology.specs.Rows.{TopologyState}
+use Rattle.topology.specs.declared.node.Node.{Node}
+use Rattle.topology.specs.declared.node.Node.TheVariants.{Nat as nat, Client as client, Native as native}
+use Rattle.topology.specs.Topology.{nodes, node_at}
 
 -- a client or a native host: a node with a host of its own
 abbrev pub has_host : Option Node → Bool
@@ -25,31 +31,53 @@ is_client_of n _ = false
 
 abbrev pub IsTarget : TopologyState → Target → Type 0
 IsTarget t (target.Node number) = has_host (node_at t number) ≡ true
-IsTarget t (target.At ip) = Unit {0}
+IsTarget t (target.At ip) = IsIp6 ip
 
--- a host of the topology sends so many bytes to a target
-pub record IsHosts (t : TopologyState) (node : ℕ) (to : Target) (len : ℕ) : Type 0 where
+-- a host of the topology sends this body to a target
+pub record IsHosted (t : TopologyState) (node : ℕ) (to : Target) (body : List ℕ) : Type 0 where
   pub from : has_host (node_at t node) ≡ true
   pub target : IsTarget t to
-  pub short : len ≤ MOST_BODY
+  pub short : length body ≤ MOST_BODY
+  pub made : IsBytes body
 
-pub record IsHandedIn (t : TopologyState) (node len : ℕ) : Type 0 where
+-- it sends an echo request with this sequence number
+pub record IsEcho (t : TopologyState) (node : ℕ) (to : Target) (seq : ℕ) : Type 0 where
   pub from : has_host (node_at t node) ≡ true
-  pub short : len ≤ MOST_BYTES
+  pub target : IsTarget t to
+  pub most : seq ≤ MOST_SEQUENCE
+
+-- it hands in these bytes
+pub record IsHandedIn (t : TopologyState) (node : ℕ) (bytes : List ℕ) : Type 0 where
+  pub from : has_host (node_at t node) ≡ true
+  pub short : length bytes ≤ MOST_BYTES
+  pub made : IsBytes bytes
+
+-- a stranger's datagram
+pub record IsStranger (src dst : Ep) (bytes : List ℕ) : Type 0 where
+  pub from : IsEp src
+  pub to : IsEp dst
+  pub short : length bytes ≤ MOST_BYTES
+  pub made : IsBytes bytes
+
+-- a copy of an entry, between other endpoints
+pub record IsCopy (number : ℕ) (src dst : Ep) : Type 0 where
+  pub most : number ≤ MOST_NUMBER
+  pub from : IsEp src
+  pub to : IsEp dst
 
 pub record IsForgotten (t : TopologyState) (n who : ℕ) : Type 0 where
   pub by : is_nat (node_at t n) ≡ true
   pub behind : is_client_of n (node_at t who) ≡ true
 
--- the numbers are of nodes that can do so, and within their limits
+-- the numbers are of nodes that can do so, and within their limits; addresses, ports and bytes are as datagrams have them
 abbrev pub IsEvent : TopologyState → Event → Type 0
 IsEvent t (event.Advance ms) = ms ≤ MOST_ADVANCE
 IsEvent t (event.Deliver number) = number ≤ MOST_NUMBER
 IsEvent t event.Next = Unit {0}
-IsEvent t (event.Host node to body) = IsHosts t node to (length body)
-IsEvent t (event.Echo node to seq) = IsHosts t node to 0
-IsEvent t (event.Raw node bytes) = IsHandedIn t node (length bytes)
-IsEvent t (event.Stranger src dst bytes) = length bytes ≤ MOST_BYTES
-IsEvent t (event.Copy number src dst) = number ≤ MOST_NUMBER
+IsEvent t (event.Host node to body) = IsHosted t node to body
+IsEvent t (event.Echo node to seq) = IsEcho t node to seq
+IsEvent t (event.Raw node bytes) = IsHandedIn t node bytes
+IsEvent t (event.Stranger src dst bytes) = IsStranger src dst bytes
+IsEvent t (event.Copy number src dst) = IsCopy number src dst
 IsEvent t (event.Restart node) = node < length (nodes t)
 IsEvent t (event.Forget n who) = IsForgotten t n who

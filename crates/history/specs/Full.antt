@@ -2,7 +2,7 @@
 use Rattle.std.specs.Prelude.{ℕ, List, [], ◌++◌, ◌∷◌, filter_map, Option, Some, None}
 use Rattle.td_base.specs.declared.endpoint.Ep.{Ep}
 use Rattle.td_base.specs.declared.ipv6.Ip6.{Ip6}
-use Rattle.teredo_node.specs.declared.fates.Fate.{Fate}
+use Rattle.teredo_node.specs.declared.fate.Fate.{Fate}
 use Rattle.teredo_node.specs.Journal.{Entry}
 use Rattle.history.specs.declared.event.Event.{Event}
 use Rattle.history.specs.declared.acts.Act.{Act}
@@ -29,6 +29,7 @@ pub record Full : Type 0 where
   pub delivered : Option ℕ  -- the number of the entry that was delivered
   pub entry : Option Entry  -- what the node was given and did
   pub address : Option Ip6  -- that which a client got
+  pub handed : Option (List ℕ)  -- the packet that a client's host was handed
   pub first : ℕ  -- the number of the first entry that was made
   pub made : List Made  -- its sends and entries, in order
 

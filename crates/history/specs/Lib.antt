@@ -1,7 +1,4 @@
-pub mod Rows
-pub mod Topology
-pub mod NodeNames
-pub mod Rules
+pub mod Scenario
 pub mod Events
 pub mod Words
 pub mod Ip6Words

@@ -4,11 +4,12 @@ use Rattle.std.specs.Option.{option_or}
 use Rattle.td_base.specs.Names.{name_text}
 use Rattle.history.specs.declared.target.Target.{Target}
 use Rattle.history.specs.declared.target.Target.TheVariants as target
-use Rattle.history.specs.Rows.{TopologyState}
-use Rattle.history.specs.Topology.{Node, name_of, number_of}
+use Rattle.topology.specs.Rows.{TopologyState}
+use Rattle.topology.specs.declared.node.Node.{Node}
+use Rattle.topology.specs.Topology.{name_of, number_of}
 use Rattle.history.specs.Words.{same_text}
 use Rattle.history.specs.Ip6Words.{ip6_of}
-use Rattle.history.specs.Events.{has_host}
+use Rattle.topology.specs.Named.{has_host}
 
 -- the node has this name
 abbrev pub is_named : List ℕ → Node → Bool

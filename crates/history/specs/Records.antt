@@ -1,6 +1,5 @@
 -- What a report needs of a full record.
 use Rattle.std.specs.Prelude.{ℕ, ◌+◌, List, [], ◌∷◌, length, Option, Some, None, option_map}
-use Rattle.td_base.specs.declared.span.Span.{Span}
 use Rattle.teredo_node.specs.Journal.{Entry}
 use Rattle.history.specs.declared.mark.Mark.{Mark}
 use Rattle.history.specs.declared.mark.Mark.TheVariants as mark
@@ -23,9 +22,8 @@ marks_of number [] = []
 marks_of number (m ∷ ms) = mark_of number m ∷ marks_of (after_made number m) ms
 
 -- the length of the packet that went to a client's host
-abbrev pub handed_of : Option Entry → Option ℕ
-handed_of None = None
-handed_of (Some e) = option_map (λ (s : Span). s.len) e.step.handed
+abbrev pub handed_of : Full → Option ℕ
+handed_of r = option_map length r.handed
 
 -- how many waiting packets were dropped
 abbrev pub gone_of : Option Entry → ℕ
@@ -40,7 +38,7 @@ record_of r = record {
   node = r.node;
   fate = r.fate;
   address = r.address;
-  handed = handed_of r.entry;
+  handed = handed_of r;
   gone = gone_of r.entry;
   marks = marks_of r.first r.made;
 }

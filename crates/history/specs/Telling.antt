@@ -1,7 +1,7 @@
 -- What a record tells the totals.
 use Rattle.std.specs.Prelude.{◌≡◌, Bool, true, false, not, is_some}
-use Rattle.teredo_node.specs.declared.fates.Fate.{Fate}
-use Rattle.teredo_node.specs.declared.fates.Fate.TheVariants as fate
+use Rattle.teredo_node.specs.declared.fate.Fate.{Fate}
+use Rattle.teredo_node.specs.declared.fate.Fate.TheVariants as fate
 use Rattle.history.specs.declared.acts.Act.{Act}
 use Rattle.history.specs.declared.acts.Act.TheVariants as act
 use Rattle.history.specs.declared.mark.Mark.{Mark}

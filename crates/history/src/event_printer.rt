@@ -6,8 +6,8 @@ ghost use Rattle.td_base.specs.Ip6.{IsIp6};
 ghost use Rattle.td_base.specs.Texts.{ep_text};
 ghost use Rattle.td_base.specs.Ip6Texts.{ip6_text};
 ghost use Rattle.history.specs.Words.{space};
-ghost use Rattle.history.specs.Rows.{TopologyState};
-ghost use Rattle.history.specs.Rules.{IsTopology};
+ghost use Rattle.topology.specs.Rows.{TopologyState};
+ghost use Rattle.topology.specs.Rules.{IsTopology};
 ghost use Rattle.history.specs.Verbs.{verb_word};
 ghost use Rattle.history.specs.declared.event.Event.TheVariants as event;
 ghost use Rattle.history.specs.Events.{IsEvent};
@@ -17,7 +17,7 @@ ghost use Rattle.history.specs.EventSpelling.{hex_word, name_word, target_word, 
 use crate::acts::Verb;
 use crate::event::{Event, MOST_ADVANCE, MOST_BYTES, MOST_NUMBER};
 use crate::target::Target;
-use crate::topology::Topology;
+use topology::Topology;
 use itoa::Buffer;
 use std::alloc::Global;
 use td_base::{Ep, Ip6, LineBuf, NoMemory, print_ep, print_ip6};
@@ -110,8 +110,8 @@ fn push_target(text: &mut Vec<u8>, t: &Topology, to: Target) -> Result<(), NoMem
     ensures text { OnOk result (text.new.items ≡ text.old.items ++ space ∷ target_word t.now to) }
 {
     match to {
-        Target::Node { number } => push_node(text, t, number),
-        Target::At { ip } => push_ip6(text, ip),
+        Target::Node(number) => push_node(text, t, number),
+        Target::At(ip) => push_ip6(text, ip),
     }
 }
 

@@ -1,6 +1,6 @@
 //! The event that a text asks for.
 ghost use Rattle.std.specs.Prelude.{◌≡◌, ℕ, IfOk};
-ghost use Rattle.history.specs.Rows.{TopologyState};
+ghost use Rattle.topology.specs.Rows.{TopologyState};
 ghost use Rattle.history.specs.Events.{IsEvent};
 ghost use Rattle.history.specs.EventText.{event_behind, event_of};
 ghost use Rattle.history.specs.Answers.{Answers, words_from};
@@ -13,7 +13,7 @@ use crate::event_fault::EventFault;
 use crate::event_words::{
     WordsLeft, bytes, client, endpoint, host, nat, no_more, node, number, target, verb,
 };
-use crate::topology::Topology;
+use topology::Topology;
 use std::alloc::Global;
 
 #[tactic(auto, unfolding(crate::specs::EventText::event_behind))]

@@ -1,9 +1,7 @@
-//! The nodes of a scenario, the events that it asks for, and the records that come of them.
+//! The events that a scenario asks for, and the records that come of them.
 //!
 //! # What the layer above may rely on
 //!
-//! - A `Topology` holds the rows of a scenario's nodes, by number, and keeps the rules of `specs/Rules.antt`: names
-//!   and addresses differ, addresses are global, numbers are of nodes of the right kind.
 //! - A text asks for one event, or has one fault, with its place: `specs/EventText.antt` says which, as a function of
 //!   the nodes and the bytes. An event prints as a text that reads back.
 //! - `specs/Full.antt` says what a full record is, and what the wire of a history holds: everything that was
@@ -17,8 +15,6 @@
 //!
 //! | module | holds | stated in |
 //! |---|---|---|
-//! | `server_node`, `nat_node`, `client_node`, `relay_node`, `native_node` | a row for each kind of node | |
-//! | `topology` | `Topology` | `specs/Rows.antt`, `Topology.antt`, `Rules.antt` |
 //! | `event`, `target`, `event_list` | `Event`, `Target`, `Events` | `specs/Events.antt` |
 //! | `acts` | `Verb`, `Act` | `specs/Verbs.antt` |
 //! | `event_reader`, `event_fault` | the event of a text, or its fault | `specs/EventText.antt` |
@@ -31,7 +27,6 @@
 #![tactic(auto)]
 
 mod acts;
-mod client_node;
 mod event;
 mod event_fault;
 mod event_list;
@@ -40,23 +35,17 @@ mod event_reader;
 mod event_words;
 mod mark;
 mod mark_list;
-mod nat_node;
-mod native_node;
 mod node_words;
 mod records;
-mod relay_node;
 #[cfg(test)]
 mod sample;
-mod server_node;
 mod target;
 #[cfg(test)]
 mod tests;
-mod topology;
 mod turn;
 mod word_texts;
 
 pub use acts::{Act, Verb};
-pub use client_node::{ClientNode, LEAST_REFRESH, MOST_REFRESH};
 pub use event::{Event, MOST_ADVANCE, MOST_BODY, MOST_BYTES, MOST_NUMBER, MOST_SEQUENCE};
 pub use event_fault::EventFault;
 pub use event_list::Events;
@@ -64,12 +53,11 @@ pub use event_printer::print_event;
 pub use event_reader::read_event;
 pub use mark::{Loss, Mark};
 pub use mark_list::{MOST_MARKS, Marks};
-pub use nat_node::{MOST_IDLE, NatNode};
-pub use native_node::NativeNode;
 pub use records::Record;
-pub use relay_node::RelayNode;
-pub use server_node::ServerNode;
 pub use target::Target;
-pub use topology::{MOST_CLIENTS, MOST_NATIVES, MOST_NATS, MOST_RELAYS, MOST_SERVERS, Topology};
+pub use topology::{
+    ClientNode, LEAST_REFRESH, MOST_CLIENTS, MOST_IDLE, MOST_NATIVES, MOST_NATS, MOST_REFRESH,
+    MOST_RELAYS, MOST_SERVERS, NatNode, NativeNode, RelayNode, ServerNode, Topology,
+};
 pub use turn::{Stop, Turn};
 pub use word_texts::ip4_word;

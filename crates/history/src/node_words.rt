@@ -2,16 +2,17 @@
 ghost use Rattle.std.specs.Prelude.{◌≡◌, ◌+◌, ◌==◌, ◌&&◌, length, position, option_map};
 ghost use Rattle.td_base.specs.Names.{name_text};
 ghost use Rattle.history.specs.Words.{same_text};
-ghost use Rattle.history.specs.Events.{has_host, is_nat, is_client_of};
-ghost use Rattle.history.specs.NodeWords.{any_kind, named, target_of};
+ghost use Rattle.topology.specs.Named.{has_host, is_nat, is_client_of};
+ghost use Rattle.topology.specs.Named.{any_kind, named};
+ghost use Rattle.history.specs.NodeWords.{target_of};
 
-use crate::client_node::ClientNode;
-use crate::nat_node::NatNode;
-use crate::native_node::NativeNode;
-use crate::relay_node::RelayNode;
-use crate::server_node::ServerNode;
+use topology::ClientNode;
+use topology::NatNode;
+use topology::NativeNode;
+use topology::RelayNode;
+use topology::ServerNode;
 use crate::target::Target;
-use crate::topology::Topology;
+use topology::Topology;
 use crate::word_texts::ip6_word;
 
 fn server_place(rows: &[ServerNode], word: &[u8]) -> Option<usize>
@@ -157,8 +158,8 @@ pub(crate) fn target_word(t: &Topology, word: &[u8]) -> Option<Target>
     ensures { result ≡ target_of t.now word.now }
 {
     if let Some(number) = host_named(t, word) {
-        return Some(Target::Node { number });
+        return Some(Target::Node(number));
     }
     let ip = ip6_word(word)?;
-    Some(Target::At { ip })
+    Some(Target::At(ip))
 }

@@ -3,6 +3,6 @@ use td_base::Ip6;
 /// Whom a host sends a packet to: a client or native host by its number, or an address.
 #[derive(Clone, Copy, Debug, PartialEq, Eq)]
 pub enum Target {
-    Node { number: u16 },
-    At { ip: Ip6 },
+    Node(u16),
+    At(Ip6),
 }

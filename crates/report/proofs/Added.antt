@@ -4,7 +4,7 @@ use Rattle.std.proofs.Math.Nat.{add_comm}
 use Rattle.std.specs.Prelude.{count_by, filter_map, is_some, if◌then◌else◌}
 use Rattle.std.proofs.lemmas.List.{length-append}
 use Rattle.std.proofs.lemmas.List.Sums.{sum_by-cons}
-use Rattle.teredo_node.specs.Fates.{is_drop}
+use Rattle.teredo_node.specs.Fate.{is_drop}
 use Rattle.history.specs.declared.mark.Mark.{Mark}
 use Rattle.history.specs.declared.mark.Mark.TheVariants as mark
 use Rattle.history.specs.Full.{Made, sent, lost, udp, six, item_in, Full, wire, items_of}
@@ -42,7 +42,7 @@ delivered_more H r told =
     ap (λ (b : Bool). count_by (λ (f : Full). is_some f.delivered) H + (if b then 1 else 0)) (sym told.delivered) ∙ counted (λ (f : Full). is_some f.delivered) r H
 
 pub sums_more : (H : List Full) (r : Full) → IsTold r → added (sums_of H) (record_of r) ≡ sums_of (r ∷ H)
-sums_more H r told = same_sums (add-one (length H)) (entries_more H r) (delivered_more H r told) (counted (λ (f : Full). is_some (handed_of f.entry)) r H) (counted (λ (f : Full). is_kept f.fate) r H) (counted (λ (f : Full). is_drop f.fate) r H)
+sums_more H r told = same_sums (add-one (length H)) (entries_more H r) (delivered_more H r told) (counted (λ (f : Full). is_some (handed_of f)) r H) (counted (λ (f : Full). is_kept f.fate) r H) (counted (λ (f : Full). is_drop f.fate) r H)
 
 pub sums_after : (old new : Sums) (H : List Full) (r : Full) → new ≡ added old (record_of r) → old ≡ sums_of H → IsTold r → new ≡ sums_of (r ∷ H)
 sums_after old new H r e f told = e ∙ ap (λ (s : Sums). added s (record_of r)) f ∙ sums_more H r told

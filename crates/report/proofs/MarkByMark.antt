@@ -2,7 +2,7 @@
 use Rattle.std.proofs.Common.{◌≡◌, ℕ, ◌+◌, ◌<◌, List, [], ◌∷◌, ◌++◌, length, get_or, take, refl, sym, ap, ◌∙◌}
 use Rattle.std.proofs.lemmas.List.{append_assoc, append-nil, take_more}
 use Rattle.history.specs.declared.mark.Mark.{Mark}
-use Rattle.history.specs.Rows.{TopologyState}
+use Rattle.topology.specs.Rows.{TopologyState}
 use Rattle.report.specs.Lines.{mark_text, marks_text}
 
 pub marks_text-append : (t : TopologyState) (ms ns : List Mark) → marks_text t (ms ++ ns) ≡ marks_text t ms ++ marks_text t ns

@@ -1,8 +1,8 @@
 -- The totals of a history, and its report.
 use Rattle.std.specs.Prelude.{ℕ, ◌+◌, ◌-◌, ◌^◌, ◌≤◌, List, ◌++◌, length, count_by, codes, decimal, is_some, if◌then◌else◌}
-use Rattle.teredo_node.specs.Fates.{is_drop}
+use Rattle.teredo_node.specs.Fate.{is_drop}
 use Rattle.history.specs.declared.records.Record.{Record}
-use Rattle.history.specs.Rows.{TopologyState}
+use Rattle.topology.specs.Rows.{TopologyState}
 use Rattle.history.specs.Full.{Full, wire}
 use Rattle.history.specs.Records.{handed_of}
 use Rattle.history.specs.Telling.{is_kept, is_delivery, is_entry}
@@ -15,7 +15,7 @@ sums_of H = record {
   records = length H;
   entries = length (wire H);
   delivered = count_by (λ r. is_some r.delivered) H;
-  handed = count_by (λ r. is_some (handed_of r.entry)) H;
+  handed = count_by (λ r. is_some (handed_of r)) H;
   kept = count_by (λ r. is_kept r.fate) H;
   dropped = count_by (λ r. is_drop r.fate) H;
 }

@@ -1,6 +1,6 @@
 //! The marks of a record.
 ghost use Rattle.std.specs.Prelude.{◌≡◌, ◌+◌, ◌*◌, ◌≤◌, ◌++◌, length};
-ghost use Rattle.history.specs.Rows.{TopologyState};
+ghost use Rattle.topology.specs.Rows.{TopologyState};
 ghost use Rattle.history.specs.declared.mark.Mark.TheVariants as mark;
 ghost use Rattle.report.specs.Lines.{loss_word, mark_text, marks_text};
 

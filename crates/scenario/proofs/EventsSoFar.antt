@@ -5,7 +5,7 @@ use Rattle.toml.specs.declared.value.Value.{Value}
 use Rattle.toml.specs.View.{view, items_view}
 use Rattle.toml.proofs.Views.{items_view-drop}
 use Rattle.history.specs.declared.event.Event.{Event}
-use Rattle.history.specs.Rows.{TopologyState}
+use Rattle.topology.specs.Rows.{TopologyState}
 use Rattle.history.specs.Events.{IsEvent}
 use Rattle.toml.specs.Data.{Items, no_items, item}
 use Rattle.scenario.specs.declared.event_lists.TheConstants.{MOST_EVENTS}

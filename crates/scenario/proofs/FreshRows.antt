@@ -10,13 +10,13 @@ use Rattle.td_base.specs.declared.reach.Policy.TheVariants.{Strict}
 use Rattle.td_base.specs.Ip4.{same_ip}
 use Rattle.td_base.specs.Names.{name_text, same_name}
 use Rattle.td_base.specs.Reach.{is_global}
-use Rattle.history.specs.declared.server_node.ServerNode.{ServerNode}
-use Rattle.history.specs.declared.nat_node.NatNode.{NatNode}
-use Rattle.history.specs.declared.nat_node.TheConstants.{MOST_IDLE}
-use Rattle.history.specs.NodeNames.{is_name}
-use Rattle.history.specs.Rows.{TopologyState}
-use Rattle.history.specs.Rules.{names_of, addresses_of}
-use Rattle.history.proofs.Distinct.{IsFreshServer, IsFreshNat}
+use Rattle.topology.specs.declared.server_node.ServerNode.{ServerNode}
+use Rattle.topology.specs.declared.nat_node.NatNode.{NatNode}
+use Rattle.topology.specs.declared.nat_node.TheConstants.{MOST_IDLE}
+use Rattle.topology.specs.NodeNames.{is_name}
+use Rattle.topology.specs.Rows.{TopologyState}
+use Rattle.topology.specs.Rules.{names_of, addresses_of}
+use Rattle.topology.proofs.Distinct.{IsFreshServer, IsFreshNat}
 use Rattle.scenario.specs.Words.{◌>>=◌, ip4_of}
 use Rattle.scenario.specs.Tables.{has_only, text_at, natural_at}
 use Rattle.scenario.specs.Fresh.{name_of, is_free_name, is_free_address, free_name, global_and_free, new_name, new_address}

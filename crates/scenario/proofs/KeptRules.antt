@@ -1,11 +1,11 @@
 -- What the definitions give keeps the rules of a topology.
 use Rattle.std.proofs.Common.{◌≡◌, ℕ, ◌+◌, ◌<◌, ◌≤◌, nat_le, leb-true, List, [], ◌∷◌, length, codes, Option, Some, None, refl, subst, arith, length-append}
 use Rattle.toml.specs.Data.{Data, as_array, as_table, Items, no_items, item, get_member}
-use Rattle.history.specs.declared.topology.TheConstants.{MOST_SERVERS, MOST_NATS}
-use Rattle.history.specs.Rows.{TopologyState, no_nodes, with_server, with_nat}
-use Rattle.history.specs.Rules.{IsTopology}
-use Rattle.history.specs.Topology.{Scenario}
-use Rattle.history.proofs.Distinct.{grown_server, grown_nat}
+use Rattle.topology.specs.declared.topology.TheConstants.{MOST_SERVERS, MOST_NATS}
+use Rattle.topology.specs.Rows.{TopologyState, no_nodes, with_server, with_nat}
+use Rattle.topology.specs.Rules.{IsTopology}
+use Rattle.history.specs.Scenario.{Scenario}
+use Rattle.topology.proofs.Distinct.{grown_server, grown_nat}
 use Rattle.scenario.specs.Tables.{item_count}
 use Rattle.scenario.specs.Built.{HasOnlyServers, HasOnlyBuilt}
 use Rattle.scenario.specs.Servers.{server_of, add_server, add_servers, servers_of, servers_at}

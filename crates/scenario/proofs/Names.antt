@@ -9,7 +9,7 @@ use Rattle.td_base.specs.declared.node_name.Name.{Name}
 use Rattle.td_base.specs.declared.node_name.TheConstants.{NAME_LEN}
 use Rattle.td_base.specs.Names.{name_text}
 use Rattle.scenario.specs.NodeName.{name, padded}
-use Rattle.history.specs.NodeNames.{is_name, begins_with_letter, is_name_byte}
+use Rattle.topology.specs.NodeNames.{is_name, begins_with_letter, is_name_byte}
 use Rattle.scenario.specs.Fresh.{name_of}
 
 abbrev build : (n : ℕ) (l : List ℕ) → length l ≡ NAME_LEN → n ≤ NAME_LEN → l ≡ take n l ++ replicate (NAME_LEN - n) 0 → Name

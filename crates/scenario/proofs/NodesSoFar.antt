@@ -3,7 +3,7 @@ use Rattle.std.proofs.Common.{◌≡◌, ℕ, ◌+◌, ◌<◌, List, length, dr
 use Rattle.toml.specs.declared.value.Value.{Value}
 use Rattle.toml.specs.View.{view, items_view}
 use Rattle.toml.proofs.Views.{items_view-drop}
-use Rattle.history.specs.Rows.{TopologyState}
+use Rattle.topology.specs.Rows.{TopologyState}
 use Rattle.scenario.specs.Words.{◌>>=◌}
 use Rattle.scenario.specs.Servers.{add_server, add_servers}
 use Rattle.scenario.specs.Nats.{add_nat, add_nats}

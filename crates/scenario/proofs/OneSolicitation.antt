@@ -1,7 +1,7 @@
 -- A text of one server and two events, and the scenario that it is by the definitions alone.
 use Rattle.std.proofs.Common.{◌≡◌, ℕ, List, [], ◌∷◌, Some, codes, refl}
 use Rattle.history.specs.declared.event.Event.TheVariants.{Deliver, Stranger}
-use Rattle.history.specs.Topology.{Scenario}
+use Rattle.history.specs.Scenario.{Scenario}
 use Rattle.hex.proofs.OnLiterals.{hex_on_literals}
 use Rattle.toml.proofs.OnLiterals.{toml_on_literals}
 use Rattle.std.specs.Fmt.{digits}
@@ -12,7 +12,7 @@ use Rattle.scenario.specs.NodeName.{name}
 use Rattle.history.specs.Words.{number_of, ip4_of, ep_of, bytes_of}
 use Rattle.history.specs.Verbs.{verb_of}
 use Rattle.history.specs.EventText.{event_behind, event_of}
-use Rattle.history.specs.NodeNames.{is_name}
+use Rattle.topology.specs.NodeNames.{is_name}
 use Rattle.scenario.specs.Fresh.{name_of, is_free_name, is_free_address, new_name, new_address}
 use Rattle.scenario.specs.Servers.{server_of, add_server}
 use Rattle.scenario.specs.Scenario.{scenario_in, scenario_of}

@@ -6,13 +6,15 @@ use Rattle.td_base.specs.declared.ipv4.Ip4.{Ip4}
 use Rattle.td_base.specs.declared.node_name.Name.{Name}
 use Rattle.td_base.specs.Ip4.{same_ip}
 use Rattle.td_base.specs.Names.{same_name}
-use Rattle.history.specs.declared.server_node.ServerNode.{ServerNode}
-use Rattle.history.specs.declared.nat_node.NatNode.{NatNode}
-use Rattle.history.specs.declared.client_node.ClientNode.{ClientNode}
-use Rattle.history.specs.declared.relay_node.RelayNode.{RelayNode}
-use Rattle.history.specs.declared.native_node.NativeNode.{NativeNode}
-use Rattle.history.specs.Rows.{TopologyState}
-use Rattle.history.specs.Topology.{Node, server, nat, client, relay, native, name_of}
+use Rattle.topology.specs.declared.server_node.ServerNode.{ServerNode}
+use Rattle.topology.specs.declared.nat_node.NatNode.{NatNode}
+use Rattle.topology.specs.declared.client_node.ClientNode.{ClientNode}
+use Rattle.topology.specs.declared.relay_node.RelayNode.{RelayNode}
+use Rattle.topology.specs.declared.native_node.NativeNode.{NativeNode}
+use Rattle.topology.specs.Rows.{TopologyState}
+use Rattle.topology.specs.declared.node.Node.{Node}
+use Rattle.topology.specs.declared.node.Node.TheVariants.{Server as server, Nat as nat, Client as client, Relay as relay, Native as native}
+use Rattle.topology.specs.Topology.{name_of}
 use Rattle.scenario.specs.Fresh.{is_free_name, is_free_address}
 
 or_assoc : (a b c : Bool) → (a || (b || c)) ≡ ((a || b) || c)

@@ -9,8 +9,8 @@ use Rattle.scenario.specs.declared.reader.TheConstants.{TEXT_MOST}
 use Rattle.toml.specs.Data.{Members, get_member, as_array}
 use Rattle.toml.specs.Parse.{parse_document}
 use Rattle.history.specs.declared.event.Event.{Event}
-use Rattle.history.specs.Rows.{TopologyState}
-use Rattle.history.specs.Topology.{Scenario}
+use Rattle.topology.specs.Rows.{TopologyState}
+use Rattle.history.specs.Scenario.{Scenario}
 use Rattle.scenario.specs.declared.event_lists.TheConstants.{MOST_EVENTS}
 use Rattle.scenario.specs.Words.{◌>>=◌}
 use Rattle.scenario.specs.Tables.{has_only, natural_at}

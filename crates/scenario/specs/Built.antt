@@ -2,8 +2,8 @@
 use Rattle.std.specs.Prelude.{◌≡◌, []}
 use Rattle.std.specs.List.{AllByRecursion}
 use Rattle.history.specs.Events.{IsEvent}
-use Rattle.history.specs.Rows.{TopologyState}
-use Rattle.history.specs.Topology.{Scenario}
+use Rattle.topology.specs.Rows.{TopologyState}
+use Rattle.history.specs.Scenario.{Scenario}
 
 -- no nodes but servers
 abbrev pub HasOnlyServers : TopologyState → Type 0

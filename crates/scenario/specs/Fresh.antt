@@ -7,9 +7,9 @@ use Rattle.td_base.specs.declared.reach.Policy.TheVariants.{Strict}
 use Rattle.td_base.specs.Ip4.{same_ip}
 use Rattle.td_base.specs.Names.{same_name}
 use Rattle.td_base.specs.Reach.{is_global}
-use Rattle.history.specs.NodeNames.{is_name}
-use Rattle.history.specs.Rows.{TopologyState}
-use Rattle.history.specs.Rules.{names_of, addresses_of}
+use Rattle.topology.specs.NodeNames.{is_name}
+use Rattle.topology.specs.Rows.{TopologyState}
+use Rattle.topology.specs.Rules.{names_of, addresses_of}
 use Rattle.scenario.specs.NodeName.{name}
 use Rattle.scenario.specs.Words.{◌>>=◌, ip4_of}
 

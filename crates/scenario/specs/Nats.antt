@@ -3,10 +3,10 @@ use Rattle.std.specs.Prelude.{ℕ, ◌&&◌, nat_le, if◌then◌else◌, List, 
 use Rattle.toml.specs.Data.{Data, as_array, as_table, Items, no_items, item, Members}
 use Rattle.nat_kinds.specs.declared.kind.NatKind.{NatKind}
 use Rattle.nat_kinds.specs.declared.kind.NatKind.TheVariants.{Cone, Restricted, Port, Symmetric}
-use Rattle.history.specs.declared.nat_node.NatNode.{NatNode}
-use Rattle.history.specs.declared.nat_node.TheConstants.{MOST_IDLE}
-use Rattle.history.specs.declared.topology.TheConstants.{MOST_NATS}
-use Rattle.history.specs.Rows.{TopologyState, with_nat}
+use Rattle.topology.specs.declared.nat_node.NatNode.{NatNode}
+use Rattle.topology.specs.declared.nat_node.TheConstants.{MOST_IDLE}
+use Rattle.topology.specs.declared.topology.TheConstants.{MOST_NATS}
+use Rattle.topology.specs.Rows.{TopologyState, with_nat}
 use Rattle.scenario.specs.Words.{◌>>=◌, same_text}
 use Rattle.scenario.specs.Tables.{has_only, natural_at, text_at, item_count}
 use Rattle.scenario.specs.Fresh.{new_name, new_address}

@@ -5,8 +5,8 @@ use Rattle.std.specs.Result.{result_ok}
 use Rattle.toml.specs.Data.{Data, as_str, as_array, Items, no_items, item, Members, get_member}
 use Rattle.toml.specs.Parse.{parse_document}
 use Rattle.history.specs.declared.event.Event.{Event}
-use Rattle.history.specs.Rows.{TopologyState}
-use Rattle.history.specs.Topology.{Scenario}
+use Rattle.topology.specs.Rows.{TopologyState}
+use Rattle.history.specs.Scenario.{Scenario}
 use Rattle.history.specs.EventText.{event_of}
 use Rattle.scenario.specs.declared.reader.TheConstants.{TEXT_MOST}
 use Rattle.scenario.specs.declared.event_lists.TheConstants.{MOST_EVENTS}

@@ -4,9 +4,9 @@ use Rattle.toml.specs.Data.{Data, as_array, as_table, Items, no_items, item, Mem
 use Rattle.td_base.specs.declared.ipv4.Ip4.{Ip4}
 use Rattle.td_base.specs.declared.node_name.Name.{Name}
 use Rattle.td_base.specs.Ip4.{same_ip}
-use Rattle.history.specs.declared.server_node.ServerNode.{ServerNode}
-use Rattle.history.specs.declared.topology.TheConstants.{MOST_SERVERS}
-use Rattle.history.specs.Rows.{TopologyState, no_nodes, with_server}
+use Rattle.topology.specs.declared.server_node.ServerNode.{ServerNode}
+use Rattle.topology.specs.declared.topology.TheConstants.{MOST_SERVERS}
+use Rattle.topology.specs.Rows.{TopologyState, no_nodes, with_server}
 use Rattle.scenario.specs.Words.{◌>>=◌}
 use Rattle.scenario.specs.Tables.{has_only, text_at, item_count}
 use Rattle.scenario.specs.Fresh.{new_name, new_address}

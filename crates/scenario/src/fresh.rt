@@ -3,7 +3,7 @@ ghost use Rattle.std.specs.Prelude.{◌≡◌, ◌||◌};
 ghost use Rattle.std.specs.List.{list_all, list_any};
 ghost use Rattle.td_base.specs.Ip4.{same_ip};
 ghost use Rattle.td_base.specs.Names.{same_name};
-ghost use Rattle.history.specs.NodeNames.{is_name_byte, begins_with_letter, is_name};
+ghost use Rattle.topology.specs.NodeNames.{is_name_byte, begins_with_letter, is_name};
 ghost use Rattle.scenario.specs.Fresh.{name_of, is_free_name, is_free_address, new_name, new_address};
 
 use crate::word_texts::ip4_from;

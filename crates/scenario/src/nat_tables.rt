@@ -1,7 +1,7 @@
 //! The NATs of a text.
 ghost use Rattle.std.specs.Prelude.{◌≡◌, ◌+◌, ◌<◌, ◌≤◌, [], length, IfOk, IfSome, option_map};
 ghost use Rattle.toml.specs.View.{view, table_view, items_view};
-ghost use Rattle.history.specs.declared.topology.TheConstants.{MOST_NATS};
+ghost use Rattle.topology.specs.declared.topology.TheConstants.{MOST_NATS};
 ghost use Rattle.scenario.specs.Built.{HasOnlyServers, HasOnlyBuilt};
 ghost use Rattle.scenario.specs.Nats.{kind_of, idle_of, nat_at, nat_of, add_nat, add_nats, nats_of, nats_in, nats_at};
 

@@ -1,8 +1,8 @@
 //! The servers of a text.
 ghost use Rattle.std.specs.Prelude.{◌≡◌, ◌+◌, ◌<◌, ◌≤◌, length, IfOk, IfSome, option_map};
 ghost use Rattle.toml.specs.View.{view, table_view, items_view};
-ghost use Rattle.history.specs.declared.topology.TheConstants.{MOST_SERVERS};
-ghost use Rattle.history.specs.Rows.{no_nodes};
+ghost use Rattle.topology.specs.declared.topology.TheConstants.{MOST_SERVERS};
+ghost use Rattle.topology.specs.Rows.{no_nodes};
 ghost use Rattle.scenario.specs.Built.{HasOnlyServers};
 ghost use Rattle.scenario.specs.Servers.{server_at, server_of, add_server, add_servers, servers_of, servers_in, servers_at};
 

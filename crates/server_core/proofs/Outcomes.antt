@@ -5,17 +5,13 @@ use Rattle.td_base.specs.declared.endpoint.Ep.{Ep}
 use Rattle.td_base.specs.declared.side.Side.{Side}
 use Rattle.bubble.specs.Payloads.{Value, payload_at}
 use Rattle.bubble.specs.declared.fault.PayloadFault.{PayloadFault}
-use Rattle.teredo_node.specs.Fates.{is_drop}
-use Rattle.teredo_node.specs.Step.{Step}
 use Rattle.server_core.specs.declared.server.ServerSettings.{ServerSettings}
 use Rattle.server_core.specs.declared.rules.Rule.{Rule}
 use Rattle.server_core.specs.Rules.{seen, datagram_lines, packet_lines, destination_lines, last_line, rule_of}
+use Rattle.server_core.specs.Bounds.{outcomes}
+use Rattle.server_core.specs.Laws.{OneOutcome}
 use Rattle.server_core.specs.Server.{step_of, by_payload, server_row}
 use Rattle.server_core.proofs.RowFates.{first_of_each}
-
--- how many sends a step has, and one more for a packet to the IPv6 side and for a drop
-abbrev pub outcomes : Step → ℕ
-outcomes step = length step.sends + (if is_some step.six then 1 else 0) + (if is_drop step.fate then 1 else 0)
 
 one_of_payload : (s : ServerSettings) (side : Side) (from : Ep) (x : List ℕ) (v : Value) → outcomes (step_of s side from x v (rule_of s from v)) ≡ 1
 unfolding rule_of
@@ -29,6 +25,6 @@ one_of_read : (s : ServerSettings) (side : Side) (from : Ep) (x : List ℕ) (r :
 one_of_read s side from x (Ok v) = one_of_payload s side from x v
 one_of_read s side from x (Err fault) = refl
 
-pub one_outcome : (s : ServerSettings) (side : Side) (from : Ep) (x : List ℕ) → outcomes (server_row s side from x) ≡ 1
+pub one_outcome : OneOutcome
 unfolding server_row
 one_outcome s side from x = one_of_read s side from x (payload_at x)

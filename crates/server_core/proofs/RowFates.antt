@@ -1,24 +1,20 @@
 -- The fates that the server's table can give.
 use Rattle.std.proofs.Common.{ℕ, Bool, true, false, List, [], ◌∷◌, ◌++◌, Result, Ok, Err}
 use Rattle.std.specs.Prelude.{if◌then◌else◌}
-use Rattle.std.specs.List.{AllByRecursion}
+use Rattle.std.specs.List.{AllByRecursion, Contains}
+use Rattle.std.proofs.lemmas.List.Elements.{All-contains_itself, recursion_from_All}
 use Rattle.td_base.specs.declared.endpoint.Ep.{Ep}
 use Rattle.td_base.specs.declared.side.Side.{Side}
 use Rattle.bubble.specs.Payloads.{Value, payload_at}
 use Rattle.bubble.specs.declared.fault.PayloadFault.{PayloadFault}
-use Rattle.teredo_node.specs.declared.fates.Fate.{Fate}
-use Rattle.teredo_node.specs.declared.fates.Fate.TheVariants as fate
+use Rattle.teredo_node.specs.declared.fate.Fate.{Fate}
+use Rattle.teredo_node.specs.declared.fate.Fate.TheVariants as fate
 use Rattle.teredo_node.specs.Rows.{first_line}
 use Rattle.server_core.specs.declared.server.ServerSettings.{ServerSettings}
 use Rattle.server_core.specs.declared.rules.Rule.{Rule}
 use Rattle.server_core.specs.Rules.{seen, datagram_lines, packet_lines, destination_lines, last_line, rule_of}
+use Rattle.server_core.specs.Laws.{FateOfRow, row_fates}
 use Rattle.server_core.specs.Server.{step_of, by_payload, server_row}
-
--- in the order of the table
-abbrev pub row_fates : List Fate
-row_fates =
-    fate.Malformed ∷ fate.Keyed ∷ fate.Big ∷ fate.Kind ∷ fate.Icmp ∷ fate.Source ∷ fate.Loop ∷ fate.OwnEcho ∷ fate.Advert ∷ fate.Mismatch
-    ∷ fate.NotOurs ∷ fate.Embedded ∷ fate.ForwardOrigin ∷ fate.Forward ∷ fate.Six ∷ fate.Dest ∷ []
 
 -- each outcome of a table
 abbrev pub Each : (Rule → Type 0) → List (Bool × Rule) → Type 0
@@ -53,3 +49,7 @@ fate_of_read P all s side from x (Err fault) = all.0
 pub fate_of_row : (P : Fate → Type 0) → AllByRecursion P row_fates → (s : ServerSettings) (side : Side) (from : Ep) (x : List ℕ) → P (server_row s side from x).fate
 unfolding server_row
 fate_of_row P all s side from x = fate_of_read P all s side from x (payload_at x)
+
+-- so it is one of them
+pub contained : FateOfRow
+contained s side from x = fate_of_row (Contains row_fates) (recursion_from_All (Contains row_fates) row_fates (All-contains_itself row_fates)) s side from x

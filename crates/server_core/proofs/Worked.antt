@@ -19,7 +19,7 @@ use Rattle.indications.specs.Indications.{head_at, auth_at, origin_at, lead_at}
 use Rattle.indications.specs.Leads.{is_keyed}
 use Rattle.bubble.specs.Payloads.{payload_at}
 use Rattle.bubble.specs.Bubbles.{is_bubble}
-use Rattle.teredo_node.specs.declared.fates.Fate.TheVariants as fate
+use Rattle.teredo_node.specs.declared.fate.Fate.TheVariants as fate
 use Rattle.teredo_node.specs.Step.{just}
 use Rattle.server_core.specs.declared.server.ServerSettings.{ServerSettings}
 use Rattle.bubble.specs.Messages.{message_in, is_ill_formed}

@@ -1,10 +1,10 @@
 -- What bounds every answer of the server.
-use Rattle.std.specs.Prelude.{◌≡◌, ◌≤◌, ◌+◌, ℕ, List, [], length, take, true, false, Option, Some, None}
+use Rattle.std.specs.Prelude.{◌≡◌, ◌≤◌, ◌+◌, ℕ, List, [], length, take, true, false, if◌then◌else◌, is_some, Option, Some, None}
 use Rattle.td_base.specs.Ep.{server_ep}
 use Rattle.td_base.specs.declared.endpoint.Ep.{Ep}
 use Rattle.td_base.specs.declared.side.Side.{Side}
 use Rattle.td_base.specs.declared.side.Side.TheVariants.{Primary, Secondary}
-use Rattle.teredo_node.specs.Fates.{is_drop}
+use Rattle.teredo_node.specs.Fate.{is_drop}
 use Rattle.teredo_node.specs.Step.{Step}
 use Rattle.server_core.specs.declared.server.ServerSettings.{ServerSettings}
 use Rattle.server_core.specs.declared.server.TheConstants.{GROWTH_LIMIT}
@@ -53,3 +53,7 @@ count (Some a) = 1
 -- how many outputs a step has
 abbrev pub outputs : Step → ℕ
 outputs step = length step.sends + count step.six
+
+-- how many outputs a step has, and one more for a drop
+abbrev pub outcomes : Step → ℕ
+outcomes step = length step.sends + (if is_some step.six then 1 else 0) + (if is_drop step.fate then 1 else 0)

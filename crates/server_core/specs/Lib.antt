@@ -5,3 +5,4 @@ pub mod Server
 pub mod Answers
 pub mod Bounds
 pub mod Endpoint
+pub mod Laws

@@ -5,8 +5,8 @@ use Rattle.td_base.specs.declared.endpoint.Ep.{Ep}
 use Rattle.icmp6.specs.declared.numbers.TheConstants.{SOLICIT_LEN}
 use Rattle.bubble.specs.Payloads.{Value}
 use Rattle.teredo_addr.specs.Teredo.{is_teredo, embedded}
-use Rattle.teredo_node.specs.declared.fates.Fate.TheVariants as fate
-use Rattle.teredo_node.specs.Fates.{is_drop}
+use Rattle.teredo_node.specs.declared.fate.Fate.TheVariants as fate
+use Rattle.teredo_node.specs.Fate.{is_drop}
 use Rattle.teredo_node.specs.Rows.{first_line}
 use Rattle.server_core.specs.declared.server.ServerSettings.{ServerSettings}
 use Rattle.server_core.specs.declared.rules.Rule.{Rule}

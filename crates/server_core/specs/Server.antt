@@ -3,13 +3,14 @@ use Rattle.std.specs.Prelude.{ℕ, List, [], ◌∷◌, drop, if◌then◌else�
 use Rattle.td_base.specs.declared.ipv6.Ip6.{Ip6}
 use Rattle.td_base.specs.declared.endpoint.Ep.{Ep}
 use Rattle.td_base.specs.declared.side.Side.{Side}
-use Rattle.td_base.specs.declared.side.Side.TheVariants.{Primary, Secondary}
+use Rattle.td_base.specs.declared.side.Side.TheVariants.{Primary}
+use Rattle.td_base.specs.Side.{other_side}
 use Rattle.indications.specs.Leads.{nonce_of}
 use Rattle.bubble.specs.Payloads.{Value, payload_at}
 use Rattle.bubble.specs.declared.fault.PayloadFault.{PayloadFault}
 use Rattle.teredo_addr.specs.Teredo.{has_cone, embedded}
-use Rattle.teredo_node.specs.declared.fates.Fate.{Fate}
-use Rattle.teredo_node.specs.declared.fates.Fate.TheVariants as fate
+use Rattle.teredo_node.specs.declared.fate.Fate.{Fate}
+use Rattle.teredo_node.specs.declared.fate.Fate.TheVariants as fate
 use Rattle.teredo_node.specs.Step.{Step, just, rest_of}
 use Rattle.server_core.specs.declared.server.ServerSettings.{ServerSettings}
 use Rattle.server_core.specs.declared.rules.Rule.{Rule}
@@ -20,10 +21,6 @@ use Rattle.server_core.specs.Outputs.{advert_bytes, forwarded}
 -- a step that sends one datagram
 abbrev pub sends_one : Fate → Side → Ep → List ℕ → Step
 sends_one fate side to bytes = record (just fate) { sends = record { side = side; to = to; bytes = bytes } ∷ [] }
-
-abbrev pub other_side : Side → Side
-other_side Primary = Secondary
-other_side Secondary = Primary
 
 -- an advertisement leaves from the other address where the solicitation's source has the cone bit
 abbrev pub answering_side : Side → Ip6 → Side

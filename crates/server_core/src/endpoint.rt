@@ -6,8 +6,9 @@ use teredo_node::{Endpoint, Fate, Step};
 
 /// It answers by its table alone: it keeps nothing, wants no memory, and has nothing due.
 impl Endpoint for Server {
-    ghost use Rattle.std.specs.Prelude.{◌≡◌, true, None};
-    ghost use Rattle.server_core.specs.Endpoint.{Serves, Rests};
+    ghost use Rattle.std.specs.Prelude.{◌≡◌, refl, true, None};
+    ghost use Rattle.std.proofs.Common.{◌∙◌};
+    ghost use Rattle.server_core.specs.Endpoint.{MeetsRow, StaysIdle};
 
     const FRUGAL: bool = true;
 
@@ -15,13 +16,17 @@ impl Endpoint for Server {
 
     ghost ready = { λ s now. Unit {0} };
 
-    ghost rule = { λ s now side from x step new. Serves s side from x step new };
+    ghost stays = { λ old new. new ≡ old };
+
+    ghost rule = { λ s now side from x step new. MeetsRow s side from x step new };
 
     ghost starves = { λ s now side from x. ⊥ };
 
-    ghost ticks = { λ s now step new. Rests s step new };
+    ghost ticks = { λ s now step new. StaysIdle s step new };
 
     ghost is_due = { λ s now due. due ≡ None };
+
+    ghost owing = { λ s now. 0 };
 
     fn on_datagram(
         &mut self,
@@ -58,6 +63,10 @@ impl Endpoint for Server {
     fn due(&self, _now: Millis) -> Option<Millis> {
         None
     }
+
+    ghost stays_so = { λ s. refl };
+
+    ghost stays_on = { λ old mid new first second. second ∙ first };
 
     ghost ready_later = { λ s now later le ready. tt };
 

@@ -9,11 +9,13 @@
 //! - An answer is at most 56 bytes longer than the datagram that drew it, and never goes to the server itself.
 //! - What the server sends draws nothing where it comes back to the server.
 //! - No call takes memory, and no byte of a peer makes a call fail.
-//! - `Server` is a frugal `Endpoint` of a link: its step is the table's, and it stays as it is.
+//! - `Server` is a frugal `Endpoint` of a link: its step is the table's, it stays as it is, and nothing is ever due.
 //!
 //! # What it does not know
 //!
-//! Sockets, time, peers. A datagram that comes twice is answered twice.
+//! Sockets, time, peers. A datagram that comes twice is answered twice. What a packet is, its message, and whether that
+//! is ill-formed, `bubble` tells it; the other one of two sides, `td_base`; fates, steps and the first line of a table that
+//! holds, `teredo_node`.
 //!
 //! # Parts
 //!
@@ -25,18 +27,21 @@
 //! | `rules` | the table | `specs/Rules.antt` |
 //! | `conditions` | what the lines of the table ask | `specs/Conditions.antt` |
 //! | `advertisement` | the Router Advertisement | `specs/Outputs.antt` |
-//! | `forwarding` | the forwarded packet | `specs/Outputs.antt` |
+//! | `forwarded` | the forwarded packet | `specs/Outputs.antt` |
+//! | `laws` | what holds of every datagram | `specs/Laws.antt` |
 #![tactic(auto)]
 
 mod advertisement;
 mod conditions;
 mod endpoint;
-mod forwarding;
+mod forwarded;
+mod laws;
 mod reply;
 mod rules;
 mod server;
 #[cfg(test)]
 mod tests;
 
+pub use laws::{fate_of_row, one_outcome, one_output};
 pub use reply::Answer;
 pub use server::{DATAGRAM_LIMIT, GROWTH_LIMIT, Server, ServerSettings};

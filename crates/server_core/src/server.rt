@@ -5,7 +5,7 @@ ghost use Rattle.server_core.specs.Answers.{Answers};
 ghost use Rattle.server_core.specs.Bounds.{IsShort, IsNamed, GoesAway, EndsThere, outputs};
 
 use crate::advertisement::write_advert;
-use crate::forwarding::{write_alone, write_with_origin};
+use crate::forwarded::{write_alone, write_with_origin};
 use crate::reply::Answer;
 use crate::rules::{Rule, first_rule};
 use bubble::DATAGRAM_MAX;
@@ -84,13 +84,7 @@ impl Server {
 fn answering_side(side: Side, client: Ip6) -> Side
     ensures { result ≡ answering_side side client }
 {
-    if !has_cone(client) {
-        return side;
-    }
-    match side {
-        Side::Primary => Side::Secondary,
-        Side::Secondary => Side::Primary,
-    }
+    if has_cone(client) { side.other() } else { side }
 }
 
 /// The table and its outputs, over the settings alone.

@@ -3,6 +3,7 @@ pub mod Results
 pub mod Ip4
 pub mod Ip6
 pub mod Ep
+pub mod Side
 pub mod Reach
 pub mod Names
 pub mod Sums

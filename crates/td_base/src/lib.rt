@@ -20,7 +20,8 @@
 //! |---|---|---|
 //! | `ipv4`, `ipv6`, `endpoint` | `Ip4`, `Ip6`, `Ep`: equality and order | `specs/Ip4.antt`, `Ip6.antt`, `Ep.antt` |
 //! | `reach` | `Policy`, and which addresses are global, usable, link-local | `specs/Reach.antt` |
-//! | `millis`, `side`, `span`, `datagram` | `Millis`, `Side`, `Span`, and the most bytes of a datagram | |
+//! | `millis`, `span`, `datagram` | `Millis`, `Span`, and the most bytes of a datagram | |
+//! | `side` | `Side` | `specs/Side.antt` |
 //! | `refusals` | `BadText`, `Room`, `NoMemory` | |
 //! | `node_name` | `Name` | `specs/Names.antt` |
 //! | `fields` | numbers in network order, and addresses, at a place | `specs/Bytes.antt` |

@@ -4,7 +4,7 @@ use Rattle.std.specs.Option.{option_map}
 use Rattle.std.proofs.lemmas.List.{take_more, get_or-drop, append-nil}
 use Rattle.std.proofs.lemmas.Option.{slice_get-map, get_or_from_slice_get}
 use Rattle.td_outside.specs.declared.mem_arrival.MemArrival.{MemArrival}
-use Rattle.td_outside.specs.Links.{Came, Nothing, next_of}
+use Rattle.td_outside.specs.Link.{Came, Nothing, next_of}
 use Rattle.td_outside.specs.MemLink.{came_of}
 
 -- The first that is still to come stands at the place of the next arrival.

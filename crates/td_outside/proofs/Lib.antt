@@ -1,3 +1,4 @@
 pub mod Arrivals
 pub mod Fronts
 pub mod Opened
+pub mod Untold

@@ -4,8 +4,8 @@ use Rattle.std.specs.Option.{unwrap_or}
 use Rattle.std.proofs.lemmas.Bool.{and_parts, and_from}
 use Rattle.td_base.specs.declared.ipv4.Ip4.{Ip4}
 use Rattle.td_base.specs.Ip4.{same_ip, same_ip_decides}
-use Rattle.td_outside.specs.declared.linking.Addresses.{Addresses}
-use Rattle.td_outside.specs.Links.{open_on}
+use Rattle.td_outside.specs.declared.link.Addresses.{Addresses}
+use Rattle.td_outside.specs.Link.{open_on}
 
 same_parts : (on : Addresses) (primary secondary : Ip4) → on.primary ≡ primary → on.secondary ≡ secondary → Some on ≡ open_on primary secondary
 same_parts on primary secondary e f =

@@ -1,7 +1,7 @@
 -- The calls of a form in memory.
-use Rattle.std.specs.Prelude.{ℕ, List, Bool, if◌then◌else◌, nat_eq}
+use Rattle.std.specs.Prelude.{ℕ, List, Bool, nat_eq}
 use Rattle.std.specs.List.{list_any}
-use Rattle.td_outside.specs.Causes.{counted}
+use Rattle.td_outside.specs.Causes.{counted, counted_if}
 
 -- the numbers of the calls that fail, counted from 0; how many were made, and how many failed
 pub record Calls : Type 0 where
@@ -17,5 +17,5 @@ is_due calls = list_any (λ n. nat_eq n calls.made) calls.listed
 abbrev pub after_call : Calls → Bool → Calls
 after_call calls failed = record calls {
   made = counted calls.made;
-  faults = if failed then counted calls.faults else calls.faults;
+  faults = counted_if failed calls.faults;
 }

@@ -1,5 +1,5 @@
 -- When a call outside may answer that it failed.
-use Rattle.std.specs.Prelude.{ℕ, ◌+◌, ◌-◌, ◌^◌, ◌≤◌, ◌≡◌, min, Result, OnErr, OnOk}
+use Rattle.std.specs.Prelude.{ℕ, Bool, if◌then◌else◌, ◌+◌, ◌-◌, ◌^◌, ◌≤◌, ◌≡◌, min, Result, OnErr, OnOk}
 
 -- where each count stops
 abbrev pub count_end : ℕ
@@ -8,6 +8,10 @@ count_end = 2 ^ 64 - 1
 -- one more, up to where it stops
 abbrev pub counted : ℕ → ℕ
 counted n = min (n + 1) count_end
+
+-- one more where the call failed
+abbrev pub counted_if : Bool → ℕ → ℕ
+counted_if failed n = if failed then counted n else n
 
 -- the count is greater than before, or stands where it stops
 abbrev pub Rose : ℕ → ℕ → Type 0

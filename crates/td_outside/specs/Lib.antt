@@ -1,6 +1,10 @@
-pub mod Causes
 pub mod Calls
-pub mod Clocks
-pub mod Links
+pub mod Causes
+pub mod FileSource
+pub mod Link
 pub mod MemLink
+pub mod MoveLaws
+pub mod Moves
 pub mod Streams
+pub mod TestClock
+pub mod UdpPair

@@ -1,13 +1,13 @@
 -- The link in memory, as its callers see it.
 use Rattle.std.specs.Prelude.{true, false, ℕ, Bool, if◌then◌else◌, nat_lt, ◌==◌, List, [], ◌∷◌, ◌++◌, length, take, drop, Option, Some, None}
 use Rattle.std.specs.Option.{option_and_then}
-use Rattle.td_outside.specs.declared.linking.Addresses.{Addresses}
+use Rattle.td_outside.specs.declared.link.Addresses.{Addresses}
 use Rattle.td_base.specs.declared.datagram.TheConstants.{DATAGRAM_MAX}
 use Rattle.td_outside.specs.declared.mem_arrival.MemArrival.{MemArrival}
 use Rattle.td_outside.specs.declared.mem_arrival.MemArrival.TheVariants.{Got, Idle}
 use Rattle.td_outside.specs.Causes.{counted, count_end}
 use Rattle.td_outside.specs.Calls.{Calls, is_due, after_call}
-use Rattle.td_outside.specs.Links.{Came, Datagram, Nothing, Attempt, Told, next_of}
+use Rattle.td_outside.specs.Link.{Came, Datagram, Nothing, Attempt, Told, next_of}
 
 -- a link that receives what it was made with, and keeps as many attempts as there is room for
 pub record Recorded : Type 0 where

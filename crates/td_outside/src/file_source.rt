@@ -1,5 +1,7 @@
 //! The source over files.
-ghost use Rattle.std.specs.Prelude.{◌≡◌, ℕ, None};
+ghost use Rattle.std.specs.Prelude.{◌≡◌, ◌≤◌, ◌<◌, false, None, Ok, length, is_some, is_ok, is_err, IfOk};
+ghost use Rattle.td_outside.specs.Causes.{HasCause};
+ghost use Rattle.td_outside.specs.FileSource.{FileState, file_after};
 
 use crate::{Failed, Source};
 use std::fs;
@@ -8,7 +10,7 @@ use std::marker::Model;
 use std::rt::Files;
 
 /// A source over the files that a runtime reaches. Each error of the system is `Failed`, with the count raised:
-/// no such file at `open`, a directory at the first `read`. Contracts see the count.
+/// no such file at `open`, a directory at the first `read`. Contracts see whether a file is open, and the count.
 #[derive(Drop)]
 pub struct FileSource<'a, R: Files> {
     rt: &'a R,
@@ -17,15 +19,15 @@ pub struct FileSource<'a, R: Files> {
 }
 
 impl<'a, R: Files> Model for FileSource<'a, R> {
-    ghost Value = { ℕ };
+    ghost Value = { FileState };
 
-    ghost view = { λ s. s.faults };
+    ghost view = { λ s. record { is_open = is_some s.file; faults = s.faults } };
 }
 
 impl<'a, R: Files> FileSource<'a, R> {
     /// A source with nothing open.
     pub fn new(rt: &'a R) -> Self
-        ensures { result ≡ 0 }
+        ensures { result ≡ record { is_open = false; faults = 0 } }
     {
         FileSource {
             rt,
@@ -40,9 +42,16 @@ impl<R: Files> Source for FileSource<'_, R> {
 
     ghost left = { λ s. None };
 
-    ghost faults = { λ s. s };
+    ghost openings = { λ s. None };
 
-    fn open(&mut self, name: &str) -> Result<(), Failed> {
+    ghost taken = { λ s. None };
+
+    ghost faults = { λ s. s.faults };
+
+    fn open(&mut self, name: &str) -> Result<(), Failed>
+        ensures cause { HasCause self.old.faults self.new.faults result }
+        ensures state { self.new ≡ file_after self.old (is_ok result) (is_err result) }
+    {
         self.file = None;
         match fs::open(self.rt, name) {
             Ok(file) => {
@@ -56,7 +65,13 @@ impl<R: Files> Source for FileSource<'_, R> {
         }
     }
 
-    fn read(&mut self, buf: &mut [u8]) -> Result<usize, Failed> {
+    fn read(&mut self, buf: &mut [u8]) -> Result<usize, Failed>
+        requires { 0 < length buf.old }
+        ensures bound { IfOk result (λ n. n ≤ length buf.new) }
+        ensures shut { self.old.is_open ≡ false → result ≡ Ok 0 }
+        ensures cause { HasCause self.old.faults self.new.faults result }
+        ensures state { self.new ≡ file_after self.old self.old.is_open (is_err result) }
+    {
         let Some(file) = &mut self.file else {
             return Ok(0);
         };

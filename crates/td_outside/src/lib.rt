@@ -7,9 +7,12 @@
 //!
 //! - Each trait counts its faults. A call answers `Failed` only where its count rose in that call, and a call that
 //!   answers Ok leaves the count as it was.
-//! - Where a source, a sink or a link tells its content, each call says what became of it.
-//! - The forms in memory tell everything, fail at exactly the calls that their lists name, and take memory in `new`
+//! - Where a source, a sink or a link tells its content, each call says what became of it. Where it tells what it was
+//!   asked, each call says that too: names, pieces, addresses, how many bytes were read.
+//! - The forms in memory tell their content, fail at exactly the calls that their lists name, and take memory in `new`
 //!   alone.
+//! - A `UdpPair` that isn't open fails, and a `FileSource` that isn't gives nothing. A call of `UdpPair::recv` without
+//!   a datagram lasts 20 ms by the runtime's clock.
 //!
 //! # What it does not know
 //!
@@ -19,51 +22,51 @@
 //!
 //! | module | holds | stated in |
 //! |---|---|---|
-//! | `failing` | `Failed`, and which calls of a form in memory fail | `specs/Causes.antt`, `specs/Calls.antt` |
-//! | `reading`, `writing` | `Source`, `Sink` | |
-//! | `linking` | `Link`, its `Addresses` and its `Arrival` | `specs/Links.antt` |
-//! | `timing` | `Clock` | |
+//! | | what a call does to what is told | `specs/Moves.antt`, with laws in `specs/MoveLaws.antt` |
+//! | `fails` | `Failed`, and which calls of a form in memory fail | `specs/Causes.antt`, `specs/Calls.antt` |
+//! | `source`, `sink` | `Source`, `Sink` | |
+//! | `link` | `Link`, its `Addresses` and its `Arrival` | `specs/Link.antt` |
+//! | `clock` | `Clock` | |
 //! | `mem_source`, `mem_sink` | `MemSource`, `MemSink` | `specs/Streams.antt` |
 //! | `mem_link`, `mem_arrival`, `mem_attempt` | `MemLink`, what it receives and what it keeps | `specs/MemLink.antt` |
-//! | `test_clock` | `TestClock` | `specs/Clocks.antt` |
-//! | `byte_list` | `Octets` | |
-//! | `file_source`, `std_sink`, `udp_pair`, `system_clock` | the adapters of the real thing | |
+//! | `test_clock` | `TestClock` | `specs/TestClock.antt` |
+//! | `octets` | `Octets` | |
+//! | `file_source`, `udp_pair` | files and sockets | `specs/FileSource.antt`, `specs/UdpPair.antt` |
+//! | `std_sink`, `system_clock` | output and time of the real thing | |
 //! | `sides` | the two sockets of an open `UdpPair` | |
 #![tactic(auto)]
 
-mod byte_list;
-mod failing;
+mod clock;
+mod fails;
 mod file_source;
-mod linking;
+mod link;
 mod mem_arrival;
 mod mem_attempt;
 mod mem_link;
 mod mem_sink;
 mod mem_source;
-mod reading;
+mod octets;
 mod sides;
+mod sink;
+mod source;
 mod std_sink;
 mod system_clock;
 mod test_clock;
-#[cfg(test)]
-mod tests;
-mod timing;
 mod udp_pair;
-mod writing;
 
-pub use byte_list::Octets;
-pub use failing::Failed;
+pub use clock::{CLOCK_END_MS, Clock};
+pub use fails::Failed;
 pub use file_source::FileSource;
-pub use linking::{Addresses, Arrival, DATAGRAM_MAX, Link};
+pub use link::{Addresses, Arrival, DATAGRAM_MAX, Link};
 pub use mem_arrival::MemArrival;
 pub use mem_attempt::MemAttempt;
 pub use mem_link::MemLink;
 pub use mem_sink::MemSink;
 pub use mem_source::MemSource;
-pub use reading::Source;
+pub use octets::Octets;
+pub use sink::Sink;
+pub use source::Source;
 pub use std_sink::StdSink;
 pub use system_clock::SystemClock;
 pub use test_clock::TestClock;
-pub use timing::{CLOCK_END_MS, Clock};
 pub use udp_pair::UdpPair;
-pub use writing::Sink;

@@ -1,6 +1,6 @@
 //! What a link in memory receives.
 ghost use Rattle.std.specs.Prelude.{◌≡◌, ◌≤◌, take};
-ghost use Rattle.td_outside.specs.Links.{Fits, came_by};
+ghost use Rattle.td_outside.specs.Link.{Fits, came_by};
 ghost use Rattle.td_outside.specs.MemLink.{came_of};
 
 use crate::{Arrival, DATAGRAM_MAX, Octets};

@@ -2,10 +2,10 @@
 ghost use Rattle.std.specs.Prelude.{◌≡◌, ◌≤◌, ◌<◌, ◌+◌, ◌-◌, ◌^◌, ◌↔◌, ℕ, List, [], ◌∷◌, ◌++◌, Option, Some, None, length, take, drop, map, replicate, is_ok, IsOk, IsErr, IsTrue, IfOk, OnOk, nat_lt, if◌then◌else◌, IfSome, MatchResult, vec_capacity};
 ghost use Rattle.td_outside.specs.Causes.{HasCause};
 ghost use Rattle.td_outside.specs.Calls.{is_due, after_call};
-ghost use Rattle.td_outside.specs.Links.{Nothing, Attempt, attempt, came_by, open_on, next_of, Fits};
+ghost use Rattle.td_outside.specs.Link.{Nothing, Attempt, attempt, came_by, open_on, next_of, Fits};
 ghost use Rattle.td_outside.specs.MemLink.{told_of, came_of, received, sent};
 
-use crate::failing::Fails;
+use crate::fails::Fails;
 use crate::mem_arrival::give;
 use crate::{Addresses, Arrival, DATAGRAM_MAX, Failed, Link, MemArrival, MemAttempt};
 use std::alloc::Global;
@@ -31,7 +31,7 @@ pub struct MemLink {
 
 impl Model for MemLink {
     ghost use Rattle.std.specs.Prelude.{◌≡◌, ◌≤◌, ◌<◌, ◌++◌, length, take, drop, map, replicate, vec_capacity};
-    ghost use Rattle.td_outside.specs.Links.{Nothing};
+    ghost use Rattle.td_outside.specs.Link.{Nothing};
     ghost use Rattle.td_outside.specs.MemLink.{Recorded, came_of, told_taken, told_attempts};
 
     ghost Value = { Recorded };
@@ -113,6 +113,8 @@ impl MemLink {
 
 impl Link for MemLink {
     ghost addresses = { λ s. s.addresses };
+
+    ghost openings = { λ s. None };
 
     ghost told = { told_of };
 

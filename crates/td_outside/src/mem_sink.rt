@@ -1,10 +1,10 @@
 //! A sink in memory.
-ghost use Rattle.std.specs.Prelude.{◌≡◌, ◌≤◌, ◌<◌, ◌+◌, ◌⊎◌, ◌↔◌, ℕ, List, [], ◌++◌, Option, Some, length, IsErr, IsTrue, IfOk, if◌then◌else◌, vec_capacity};
+ghost use Rattle.std.specs.Prelude.{◌≡◌, ◌≤◌, ◌<◌, ◌+◌, ◌⊎◌, ◌↔◌, ℕ, List, [], ◌++◌, Option, Some, None, length, IsErr, IsTrue, IfOk, if◌then◌else◌, vec_capacity};
 ghost use Rattle.td_outside.specs.Causes.{HasCause};
 ghost use Rattle.td_outside.specs.Calls.{is_due, after_call};
 ghost use Rattle.td_outside.specs.Streams.{Filled, refuses};
 
-use crate::failing::Fails;
+use crate::fails::Fails;
 use crate::{Failed, Sink};
 use std::alloc::Global;
 use std::marker::Model;
@@ -50,6 +50,8 @@ impl MemSink {
 
 impl Sink for MemSink {
     ghost holds = { λ s. Some s.held };
+
+    ghost pieces = { λ s. None };
 
     ghost faults = { λ s. s.calls.faults };
 

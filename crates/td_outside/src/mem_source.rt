@@ -1,10 +1,10 @@
 //! A source in memory.
-ghost use Rattle.std.specs.Prelude.{◌≡◌, ◌≤◌, ◌<◌, ◌+◌, ◌-◌, ◌↔◌, ℕ, List, [], ◌++◌, Option, Some, Ok, Err, length, drop, take, IsErr, IsTrue, IfOk, if◌then◌else◌, string_bytes};
+ghost use Rattle.std.specs.Prelude.{◌≡◌, ◌≤◌, ◌<◌, ◌+◌, ◌-◌, ◌↔◌, ℕ, List, [], ◌++◌, Option, Some, None, Ok, Err, length, drop, take, IsErr, IsTrue, IfOk, if◌then◌else◌, string_bytes};
 ghost use Rattle.td_outside.specs.Causes.{HasCause};
 ghost use Rattle.td_outside.specs.Calls.{is_due, after_call};
 ghost use Rattle.td_outside.specs.Streams.{OneName, bytes_of, told_by, given_by};
 
-use crate::failing::Fails;
+use crate::fails::Fails;
 use crate::{Failed, Source};
 use std::alloc::Global;
 use std::marker::Model;
@@ -65,6 +65,10 @@ impl Source for MemSource {
     ghost stands_for = { told_by };
 
     ghost left = { λ s. Some s.left };
+
+    ghost openings = { λ s. None };
+
+    ghost taken = { λ s. None };
 
     ghost faults = { λ s. s.calls.faults };
 

@@ -1,6 +1,8 @@
 //! Two sockets that don't block, and what waits for both at once.
-ghost use Rattle.std.specs.Prelude.{◌≤◌, IfOk};
-ghost use Rattle.td_outside.specs.Links.{Fits};
+ghost use Rattle.std.specs.Prelude.{◌≡◌, ◌≤◌, ◌*◌, ◌-◌, IfOk};
+ghost use Rattle.std.specs.Duration.{as_nanos};
+ghost use Rattle.std.specs.Time.{instant_nanos};
+ghost use Rattle.td_outside.specs.Link.{Fits};
 
 use crate::{Addresses, Arrival, DATAGRAM_MAX};
 use mio::net::UdpSocket;
@@ -9,11 +11,15 @@ use std::alloc::Global;
 use std::io;
 use std::io::ErrorKind;
 use std::net::{Ipv4Addr, Net, SocketAddr, SocketAddrV4};
-use std::time::Duration;
+use std::time::{Clock, Duration, Instant};
 use td_base::{Ep, Ip4, Side, TEREDO_PORT};
 
 // How long a call waits where neither side has a datagram.
 const WAIT_MS: u64 = 20;
+
+// The most wakes of one call: a bound on its loop, far above what 20 ms can hold, since each takes four calls of the
+// system.
+const WAKES_MAX: u32 = 1 << 17;
 
 // The most datagrams that a side gives while the other one, which had none when it was asked, isn't asked again.
 const LEAD_MAX: u8 = 4;
@@ -47,6 +53,13 @@ fn socket_addr(ep: Ep) -> SocketAddr {
 fn socket_on<R: Net>(net: &R, ip: Ip4) -> io::Result<UdpSocket> {
     let port = TEREDO_PORT;
     UdpSocket::bind(net, socket_addr(Ep { ip, port }))
+}
+
+// What is left of a wait that began at `start`.
+fn time_left(start: Instant, now: Instant) -> Duration
+    ensures { as_nanos result ≡ WAIT_MS * 1_000_000 - (instant_nanos now - instant_nanos start) }
+{
+    Duration::from_millis(WAIT_MS).saturating_sub(now.duration_since(start))
 }
 
 fn other(side: Side) -> Side {
@@ -157,27 +170,52 @@ impl Sides {
     }
 
     // Waits after both sides answered that they have nothing: what came since then or comes now ends the wait.
-    fn wait(&mut self) -> io::Result<()> {
+    fn wait(&mut self, most: Duration) -> io::Result<()> {
         if !self.watched {
             self.watch()?;
         }
         self.streak = 0;
-        let wait = Some(Duration::from_millis(WAIT_MS));
-        self.poll.poll(&mut self.events, wait)
+        self.poll.poll(&mut self.events, Some(most))
+    }
+
+    // Waits for a datagram until the time is over. What ends a wait early may give nothing: the system looks at the
+    // checksum of most datagrams only when it is asked for them, and a signal ends a wait too.
+    fn take_within<C: Clock>(
+        &mut self,
+        clock: &C,
+        buf: &mut [u8; DATAGRAM_MAX],
+    ) -> io::Result<Arrival>
+        ensures { IfOk result (λ arrival. Fits arrival) }
+    {
+        let start = Instant::now(clock)?;
+        let mut left = time_left(start, start);
+        for _ in 0..WAKES_MAX {
+            self.wait(left)?;
+            let arrival = self.ask_both(buf)?;
+            if let Arrival::Got { .. } = arrival {
+                return Ok(arrival);
+            }
+            left = time_left(start, Instant::now(clock)?);
+            if left.is_zero() {
+                break;
+            }
+        }
+        Ok(Arrival::Idle)
     }
 
     /// Takes the next datagram, or waits for it where neither side has one.
-    pub(crate) fn take(&mut self, buf: &mut [u8; DATAGRAM_MAX]) -> io::Result<Arrival>
+    pub(crate) fn take<C: Clock>(
+        &mut self,
+        clock: &C,
+        buf: &mut [u8; DATAGRAM_MAX],
+    ) -> io::Result<Arrival>
         ensures { IfOk result (λ arrival. Fits arrival) }
     {
         if self.watched && self.streak >= STREAK_MAX {
             self.unwatch()?;
         }
         match self.ask_both(buf)? {
-            Arrival::Idle => {
-                self.wait()?;
-                self.ask_both(buf)
-            }
+            Arrival::Idle => self.take_within(clock, buf),
             got => {
                 self.streak = self.streak.saturating_add(1);
                 Ok(got)

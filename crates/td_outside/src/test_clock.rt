@@ -1,6 +1,6 @@
 //! A clock of four moments.
 ghost use Rattle.std.specs.Prelude.{◌≡◌, ◌≤◌, ◌<◌, ◌-◌, ◌+◌, ℕ, List, length, drop, map, slice_index, IsTrue};
-ghost use Rattle.td_outside.specs.Clocks.{Timetable, IsTimetable, moment_of, after_moment};
+ghost use Rattle.td_outside.specs.TestClock.{Timetable, IsTimetable, moment_of, after_moment};
 
 use crate::{CLOCK_END_MS, Clock};
 use std::marker::Model;

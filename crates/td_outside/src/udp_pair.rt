@@ -1,18 +1,21 @@
 //! The link over two sockets of the system.
-ghost use Rattle.std.specs.Prelude.{◌≡◌, ◌↔◌, IsTrue, None, is_some};
-ghost use Rattle.td_outside.specs.Links.{Pair, open_on, told_nothing};
+ghost use Rattle.std.specs.Prelude.{◌≡◌, ◌≤◌, ◌↔◌, IsTrue, None, length, is_some, is_err, IsOk, IsErr, IfOk};
+ghost use Rattle.td_outside.specs.Causes.{HasCause};
+ghost use Rattle.td_outside.specs.Link.{Fits, open_on, told_nothing};
+ghost use Rattle.td_outside.specs.UdpPair.{Pair, pair_opened, pair_received, pair_sent};
 
 use crate::sides::Sides;
 use crate::{Addresses, Arrival, DATAGRAM_MAX, Failed, Link};
 use std::marker::Model;
 use std::net::Net;
+use std::time::Clock;
 use td_base::{Ep, Ip4, Side};
 
 /// A link over two UDP sockets. It tells nothing of what comes and goes. Each error of the system is `Failed`, with
 /// the count raised, and so is a `recv` or a `send` before `open`. The socket cuts a datagram of more than
 /// `DATAGRAM_MAX` bytes to its first ones.
 #[derive(Drop)]
-pub struct UdpPair<'a, R: Net + AllocGlobal> {
+pub struct UdpPair<'a, R: Net + AllocGlobal + Clock> {
     rt: &'a R,
     sides: Option<Sides>,
     on: Option<Addresses>,
@@ -20,7 +23,7 @@ pub struct UdpPair<'a, R: Net + AllocGlobal> {
     send_faults: u64,
 }
 
-impl<'a, R: Net + AllocGlobal> Model for UdpPair<'a, R> {
+impl<'a, R: Net + AllocGlobal + Clock> Model for UdpPair<'a, R> {
     ghost Value = { Pair };
 
     ghost view = { λ s. record {
@@ -32,7 +35,7 @@ impl<'a, R: Net + AllocGlobal> Model for UdpPair<'a, R> {
     ghost invariant = { λ s. is_some s.sides ≡ is_some s.on };
 }
 
-impl<'a, R: Net + AllocGlobal> UdpPair<'a, R> {
+impl<'a, R: Net + AllocGlobal + Clock> UdpPair<'a, R> {
     /// A link that isn't open.
     pub fn new(rt: &'a R) -> Self
         ensures { result ≡ record { addresses = None; recv_faults = 0; send_faults = 0 } }
@@ -57,8 +60,10 @@ fn is_on(on: Option<Addresses>, primary: Ip4, secondary: Ip4) -> bool
     }
 }
 
-impl<R: Net + AllocGlobal> Link for UdpPair<'_, R> {
+impl<R: Net + AllocGlobal + Clock> Link for UdpPair<'_, R> {
     ghost addresses = { λ s. s.addresses };
+
+    ghost openings = { λ s. None };
 
     ghost told = { λ s. told_nothing };
 
@@ -66,7 +71,11 @@ impl<R: Net + AllocGlobal> Link for UdpPair<'_, R> {
 
     ghost send_faults = { λ s. s.send_faults };
 
-    fn open(&mut self, primary: Ip4, secondary: Ip4) -> Result<(), Failed> {
+    fn open(&mut self, primary: Ip4, secondary: Ip4) -> Result<(), Failed>
+        ensures again { self.old.addresses ≡ open_on primary secondary → IsOk result }
+        ensures cause { HasCause self.old.recv_faults self.new.recv_faults result }
+        ensures state { self.new ≡ pair_opened self.old primary secondary (is_err result) }
+    {
         if is_on(self.on, primary, secondary) {
             return Ok(());
         }
@@ -87,9 +96,14 @@ impl<R: Net + AllocGlobal> Link for UdpPair<'_, R> {
         }
     }
 
-    fn recv(&mut self, buf: &mut [u8; DATAGRAM_MAX]) -> Result<Arrival, Failed> {
+    fn recv(&mut self, buf: &mut [u8; DATAGRAM_MAX]) -> Result<Arrival, Failed>
+        ensures room { IfOk result (λ arrival. Fits arrival) }
+        ensures shut { self.old.addresses ≡ None → IsErr result }
+        ensures cause { HasCause self.old.recv_faults self.new.recv_faults result }
+        ensures state { self.new ≡ pair_received self.old (is_err result) }
+    {
         if let Some(sides) = &mut self.sides {
-            if let Ok(arrival) = sides.take(buf) {
+            if let Ok(arrival) = sides.take(self.rt, buf) {
                 return Ok(arrival);
             }
         }
@@ -97,7 +111,12 @@ impl<R: Net + AllocGlobal> Link for UdpPair<'_, R> {
         Err(Failed)
     }
 
-    fn send(&mut self, side: Side, to: Ep, bytes: &[u8]) -> Result<(), Failed> {
+    fn send(&mut self, side: Side, to: Ep, bytes: &[u8]) -> Result<(), Failed>
+        requires most { length bytes.now ≤ DATAGRAM_MAX }
+        ensures shut { self.old.addresses ≡ None → IsErr result }
+        ensures cause { HasCause self.old.send_faults self.new.send_faults result }
+        ensures state { self.new ≡ pair_sent self.old (is_err result) }
+    {
         if let Some(sides) = &self.sides {
             if sides.put(side, to, bytes).is_ok() {
                 return Ok(());

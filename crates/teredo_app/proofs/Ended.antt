@@ -1,6 +1,6 @@
 -- How `lab` ends, by how its last step ended.
 use Rattle.std.proofs.Common.{◌≡◌, ℕ, Some, None, sym, subst, inl, inr, refl, lit<, arith}
-use Rattle.history.specs.Topology.{Scenario}
+use Rattle.history.specs.Scenario.{Scenario}
 use Rattle.teredo_app.specs.Ends.{Outside, LabEnds, Reads, refusal}
 use Rattle.teredo_app.specs.Endings.{LineEnds, line_written, line_failed, ReportEnds, report_written, report_failed, report_starved}
 

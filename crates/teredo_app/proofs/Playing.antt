@@ -4,7 +4,7 @@ use Rattle.std.specs.Prelude.{slice_get, option_map, is_some}
 use Rattle.std.specs.Io.KnownBytes.{Appends}
 use Rattle.std.proofs.lemmas.Option.{slice_get_past}
 use Rattle.std.proofs.lemmas.List.Sums.{count_by-le-length}
-use Rattle.teredo_node.specs.Fates.{is_drop}
+use Rattle.teredo_node.specs.Fate.{is_drop}
 use Rattle.history.specs.declared.event.Event.{Event}
 use Rattle.history.specs.declared.event.TheConstants.{MOST_ADVANCE}
 use Rattle.history.specs.declared.records.Record.{Record}
@@ -12,15 +12,15 @@ use Rattle.history.specs.declared.turn.Turn.{Turn}
 use Rattle.history.specs.declared.turn.Turn.TheVariants.{More, Last}
 use Rattle.std.proofs.lemmas.Bool.{false≢true}
 use Rattle.world.proofs.NextLaws.{next_is_of}
-use Rattle.history.specs.Rows.{TopologyState}
-use Rattle.history.specs.Topology.{Scenario}
+use Rattle.topology.specs.Rows.{TopologyState}
+use Rattle.history.specs.Scenario.{Scenario}
 use Rattle.history.specs.Full.{Full, wire}
 use Rattle.history.specs.Records.{record_of, handed_of}
 use Rattle.history.specs.Telling.{IsTold, is_kept}
 use Rattle.world.specs.declared.laboratory.TheConstants.{MOST_LEFT}
-use Rattle.world.specs.Past.{place, began, has_more, Draws}
-use Rattle.world.specs.Next.{next_of, next}
-use Rattle.world.specs.Legal.{GoesOn, Begun, IsWhole, draws}
+use Rattle.legal.specs.Past.{place, began, has_more, Draws}
+use Rattle.legal.specs.Next.{next_of, next}
+use Rattle.legal.specs.Legal.{GoesOn, Begun, IsWhole, draws}
 use Rattle.world.specs.World.{WorldState, StandsFor, Steps, Falls, IsLast, record_in, is_more}
 use Rattle.report.specs.declared.totals.Sums.{Sums}
 use Rattle.report.specs.Lines.{record_line, lines}

@@ -1,17 +1,18 @@
 -- What the turns of a server at a link come to.
 use Rattle.std.proofs.Common.{◌≡◌, ℕ, ◌+◌, not, List, [], ◌∷◌, Option, Some, None, Result, Ok, Err, refl, sym, ap, subst, ◌∙◌, arith}
 use Rattle.std.proofs.lemmas.List.Sums.{count_by-le-length}
-use Rattle.td_outside.specs.declared.linking.Addresses.{Addresses}
-use Rattle.td_outside.specs.Links.{Came, Attempt, Told, Moves, Stays, KeepsTold, open_on}
-use Rattle.teredo_node.specs.Pump.{Carries, SendFaults, ReceiveFaults}
+use Rattle.td_outside.specs.declared.link.Addresses.{Addresses}
+use Rattle.td_outside.specs.Link.{Came, Attempt, Told, KeepsTold, open_on}
+use Rattle.td_outside.specs.Moves.{Moves, Stays}
+use Rattle.teredo_node.specs.Turn.{Carries, LeftBy, SendFaults, ReceiveFaults}
 use Rattle.teredo_node.specs.Serve.{Turn, Waited, Answered, Goes, Carried, Serves, came_in, made_in, totals_of}
-use Rattle.teredo_node.specs.declared.pumping.PumpFault.{PumpFault}
-use Rattle.teredo_node.specs.declared.pumping.PumpFault.TheVariants.{Receive, NoMemory}
-use Rattle.teredo_node.specs.declared.serving.Totals.{Totals}
+use Rattle.teredo_node.specs.declared.turn.PumpFault.{PumpFault}
+use Rattle.teredo_node.specs.declared.turn.PumpFault.TheVariants.{Receive, NoMemory}
+use Rattle.teredo_node.specs.declared.serve.Totals.{Totals}
 use Rattle.server_core.specs.declared.server.ServerSettings.{ServerSettings}
 use Rattle.server_core.proofs.Outcomes.{outcomes, one_outcome}
 use Rattle.teredo_app.specs.declared.serve_words.ServeWords.{ServeWords}
-use Rattle.teredo_app.specs.Serving.{Network, server_on, AnswersByTable, WantsMemory, Session, BreaksOff}
+use Rattle.teredo_app.specs.Serving.{Network, server_on, AnswersByTable, WantsMemory, IsSame, Session, BreaksOff}
 
 -- the server stays as it is
 stays : (old : ServerSettings) (turns : List Turn) (new : ServerSettings) → Goes AnswersByTable old turns new → new ≡ old
@@ -47,28 +48,36 @@ carried_after a b c s s' last turns (Ok x) same carried = carries_after a b c (c
 carried_after a b c s s' last turns (Err Receive) same carried = carries_after a b c (came_in turns) (made_in turns) same carried
 carried_after a b c s s' last turns (Err NoMemory) same carried = absurd carried.3
 
+-- whatever ended the turns, what is the same is as before
+left_so : (s : ServerSettings) (ended : Result (Unit {0}) PumpFault) → LeftBy IsSame s s ended
+left_so s (Ok x) = refl
+left_so s (Err Receive) = refl
+left_so s (Err NoMemory) = refl
+
 -- ---- a session
 
 module _ (n : Network) (asked : ServeWords) (totals : Totals) (mid : Told) (receives sends : ℕ) (places : Option Addresses) (s new : ServerSettings) (opened : places ≡ open_on asked.primary asked.secondary) (same : KeepsTold n.told.0 mid) (kept : receives ≡ n.receive_faults.0) (other : sends ≡ n.send_faults.0) (made : s ≡ server_on asked) where
   -- the turns after the link was opened
   pub session : (ended : Result (Unit {0}) PumpFault)
-      → Serves AnswersByTable WantsMemory asked.count asked.idles s new n.moments.0 n.moments.1 mid n.told.1 totals ended
+      → Serves AnswersByTable WantsMemory IsSame asked.count asked.idles s new n.moments.0 n.moments.1 mid n.told.1 totals ended
       → n.addresses.1 ≡ places → ReceiveFaults receives n.receive_faults.1 ended → SendFaults sends n.send_faults.1 totals.failed
       → Session n asked totals ended
   session ended served stay received sent =
-      let kept_state : new ≡ s = stays s served.turns new served.states in
+      let state : served.state ≡ s = stays s served.turns served.state served.states in
       record {
         places = stay ∙ opened;
         turns = record {
           turns = served.turns;
-          states = subst (λ (t : ServerSettings). Goes AnswersByTable t served.turns t) made (subst (λ (t : ServerSettings). Goes AnswersByTable s served.turns t) kept_state served.states);
+          state = server_on asked;
+          states = subst (λ (t : ServerSettings). Goes AnswersByTable t served.turns t) made (subst (λ (t : ServerSettings). Goes AnswersByTable s served.turns t) state served.states);
+          left = left_so (server_on asked) ended;
           moments = served.moments;
-          told = carried_after n.told.0 mid n.told.1 new (server_on asked) n.moments.1 served.turns ended same served.told;
+          told = carried_after n.told.0 mid n.told.1 served.state (server_on asked) n.moments.1 served.turns ended same served.told;
           sums = served.sums;
           begun = served.begun;
           ended = served.ended;
         };
-        outcomes = subst (λ (t : Totals). t.served ≡ t.sent + t.failed + t.six + t.dropped) (sym served.sums) (each_once s served.turns new served.states);
+        outcomes = subst (λ (t : Totals). t.served ≡ t.sent + t.failed + t.six + t.dropped) (sym served.sums) (each_once s served.turns served.state served.states);
         receives = subst (λ (m : ℕ). ReceiveFaults m n.receive_faults.1 ended) kept received;
         sends = subst (λ (m : ℕ). SendFaults m n.send_faults.1 totals.failed) other sent;
       }

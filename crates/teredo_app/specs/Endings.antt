@@ -2,7 +2,7 @@
 use Rattle.std.specs.Prelude.{◌≡◌, ℕ, List, Option}
 use Rattle.std.specs.Io.KnownBytes.{Appends}
 use Rattle.td_outside.specs.Causes.{Rose}
-use Rattle.history.specs.Topology.{Scenario}
+use Rattle.history.specs.Scenario.{Scenario}
 use Rattle.teredo_app.specs.declared.statuses.TheConstants.{DONE, UNWRITABLE, NO_MEMORY}
 use Rattle.teredo_app.specs.Streams.{AppendsFront}
 use Rattle.teredo_app.specs.Reports.{ReportsOn, BeginsToReport}

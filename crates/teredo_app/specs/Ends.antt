@@ -2,7 +2,7 @@
 use Rattle.std.specs.Prelude.{◌≡◌, ℕ, List, [], ◌∷◌, ◌⊎◌, if◌then◌else◌, codes, Contains, Option, Some, None, IfSome, Ok, Err}
 use Rattle.std.specs.Io.KnownBytes.{Appends, Keeps}
 use Rattle.td_outside.specs.Causes.{Rose}
-use Rattle.history.specs.Topology.{Scenario}
+use Rattle.history.specs.Scenario.{Scenario}
 use Rattle.scenario.specs.Words.{same_text}
 use Rattle.scenario.specs.Scenario.{scenario_of}
 use Rattle.teredo_app.specs.declared.statuses.TheConstants.{DONE, BAD_PAYLOAD, BAD_WORDS, BAD_SCENARIO, UNREADABLE, UNWRITABLE, NO_MEMORY}

@@ -1,9 +1,9 @@
 -- The report of a scenario, whole or in part.
 use Rattle.std.specs.Prelude.{ℕ, List, Option}
 use Rattle.std.specs.Io.KnownBytes.{Appends}
-use Rattle.history.specs.Topology.{Scenario}
+use Rattle.history.specs.Scenario.{Scenario}
 use Rattle.history.specs.Full.{Full}
-use Rattle.world.specs.Legal.{Begun, Legal, draws}
+use Rattle.legal.specs.Legal.{Begun, Legal, draws}
 use Rattle.report.specs.Lines.{lines}
 use Rattle.report.specs.Totals.{report}
 use Rattle.teredo_app.specs.Streams.{AppendsFront}

@@ -1,6 +1,6 @@
 -- The line that `serve` ends with.
 use Rattle.std.specs.Prelude.{ℕ, List, ◌++◌, codes, decimal}
-use Rattle.teredo_node.specs.declared.serving.Totals.{Totals}
+use Rattle.teredo_node.specs.declared.serve.Totals.{Totals}
 
 -- a word and a number
 abbrev pub part : List ℕ → ℕ → List ℕ

@@ -5,14 +5,14 @@ use Rattle.td_base.specs.declared.endpoint.Ep.{Ep}
 use Rattle.td_base.specs.declared.side.Side.{Side}
 use Rattle.td_base.specs.declared.reach.Policy.TheVariants.{Loopback}
 use Rattle.td_outside.specs.Causes.{Rose}
-use Rattle.td_outside.specs.Links.{Told, KeepsTold, open_on}
-use Rattle.td_outside.specs.declared.linking.Addresses.{Addresses}
+use Rattle.td_outside.specs.Link.{Told, KeepsTold, open_on}
+use Rattle.td_outside.specs.declared.link.Addresses.{Addresses}
 use Rattle.teredo_node.specs.Step.{Step}
-use Rattle.teredo_node.specs.Pump.{SendFaults, ReceiveFaults}
+use Rattle.teredo_node.specs.Turn.{SendFaults, ReceiveFaults}
 use Rattle.teredo_node.specs.Serve.{Serves}
-use Rattle.teredo_node.specs.declared.pumping.PumpFault.{PumpFault}
-use Rattle.teredo_node.specs.declared.pumping.PumpFault.TheVariants.{Receive}
-use Rattle.teredo_node.specs.declared.serving.Totals.{Totals}
+use Rattle.teredo_node.specs.declared.turn.PumpFault.{PumpFault}
+use Rattle.teredo_node.specs.declared.turn.PumpFault.TheVariants.{Receive}
+use Rattle.teredo_node.specs.declared.serve.Totals.{Totals}
 use Rattle.server_core.specs.declared.server.ServerSettings.{ServerSettings}
 use Rattle.server_core.specs.Endpoint as server
 use Rattle.teredo_app.specs.declared.serve_words.ServeWords.{ServeWords}
@@ -36,11 +36,15 @@ server_on asked = record { primary = asked.primary; secondary = asked.secondary;
 
 -- it answers a datagram by its table, at every moment, and stays as it is
 abbrev pub AnswersByTable : ServerSettings → ℕ → Side → Ep → List ℕ → Step → ServerSettings → Type 0
-AnswersByTable s moment side from bytes step new = server.Serves s side from bytes step new
+AnswersByTable s moment side from bytes step new = server.MeetsRow s side from bytes step new
 
 -- it never wants memory
 abbrev pub WantsMemory : ServerSettings → ℕ → Side → Ep → List ℕ → Type 0
 WantsMemory s moment side from bytes = ⊥
+
+-- it is as before where it is the same
+abbrev pub IsSame : ServerSettings → ServerSettings → Type 0
+IsSame old new = new ≡ old
 
 -- The server took turns at the link, up to their end or a fault of the link, with these totals.
 pub record Session (n : Network) (asked : ServeWords) (totals : Totals) (ended : Result (Unit {0}) PumpFault) : Type 0 where
@@ -48,7 +52,7 @@ pub record Session (n : Network) (asked : ServeWords) (totals : Totals) (ended :
   pub places : n.addresses.1 ≡ open_on asked.primary asked.secondary
   -- each datagram that came was answered by the server's table, and each of its sends attempted, in order; the end is
   -- that so many arrivals were taken, or so many turns in a row were idle
-  pub turns : Serves AnswersByTable WantsMemory asked.count asked.idles (server_on asked) (server_on asked) n.moments.0 n.moments.1 n.told.0 n.told.1 totals ended
+  pub turns : Serves AnswersByTable WantsMemory IsSame asked.count asked.idles (server_on asked) (server_on asked) n.moments.0 n.moments.1 n.told.0 n.told.1 totals ended
   -- each arrival was answered, or its answer failed, or it went to the IPv6 side, or it was dropped
   pub outcomes : totals.served ≡ totals.sent + totals.failed + totals.six + totals.dropped
   pub receives : ReceiveFaults n.receive_faults.0 n.receive_faults.1 ended

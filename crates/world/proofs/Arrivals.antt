@@ -3,16 +3,16 @@ use Rattle.std.proofs.Common.{◌≡◌, ◌≤◌, ℕ, true, false, if◌then�
 use Rattle.std.proofs.Math.Seq.{take-append_seam}
 use Rattle.std.proofs.lemmas.List.{length-take-le, take_min}
 use Rattle.td_base.specs.declared.datagram.TheConstants.{DATAGRAM_MAX}
-use Rattle.td_outside.specs.Links.{Datagram, Receives, next_of}
+use Rattle.td_outside.specs.Link.{Datagram, Receives, next_of}
 use Rattle.td_base.specs.declared.endpoint.Ep.{Ep}
 use Rattle.teredo_node.specs.Step.{Step}
-use Rattle.teredo_node.specs.Pump.{Answers, Pumps}
-use Rattle.teredo_node.specs.declared.pumping.Pumped.{Pumped}
-use Rattle.teredo_node.specs.declared.pumping.Pumped.TheVariants.{Took}
-use Rattle.teredo_node.specs.declared.pumping.PumpFault.{PumpFault}
+use Rattle.teredo_node.specs.Turn.{AnswersArrival, Pumps}
+use Rattle.teredo_node.specs.declared.turn.Pumped.{Pumped}
+use Rattle.teredo_node.specs.declared.turn.Pumped.TheVariants.{Took}
+use Rattle.teredo_node.specs.declared.turn.PumpFault.{PumpFault}
 use Rattle.server_core.specs.declared.server.ServerSettings.{ServerSettings}
 use Rattle.server_core.specs.Server.{server_row}
-use Rattle.server_core.specs.Endpoint.{Serves}
+use Rattle.server_core.specs.Endpoint.{MeetsRow}
 use Rattle.world.specs.declared.arriving.Arriving.{Arriving}
 use Rattle.world.specs.Arriving.{told_of}
 
@@ -30,7 +30,7 @@ received l x free is = rw (free, is) (record { coming = (refl, refl); taken = tt
 -- a server that is asked through such a link answers that datagram
 pub asked : (s : ServerSettings) (l l' : Arriving) (step : Step) (new : ServerSettings) (from : Ep) (len failed : ℕ)
     → l.is_taken ≡ false → length l.bytes.now ≤ DATAGRAM_MAX
-    → Answers (λ side from x step new. Serves s side from x step new) new (told_of l) (told_of l') step from len failed
+    → AnswersArrival (λ side from x step new. MeetsRow s side from x step new) new (told_of l) (told_of l') step from len failed
     → step ≡ server_row s l.side l.from l.bytes.now
 asked s l l' step new from len failed free short answers =
     let came : Datagram answers.side from answers.bytes ≡ next_of (if l.is_taken then [] else Datagram l.side l.from (take DATAGRAM_MAX l.bytes.now) ∷ []) = answers.told.coming.0 in
@@ -42,8 +42,8 @@ asked s l l' step new from len failed free short answers =
 
 pub asked_by : (s : ServerSettings) (l l' : Arriving) (step : Step) (new : ServerSettings) (from : Ep) (len failed : ℕ) (taken : Pumped) (result : Result Pumped PumpFault)
     → result ≡ Ok taken → taken ≡ Took from len failed → l.is_taken ≡ false → length l.bytes.now ≤ DATAGRAM_MAX
-    → Pumps (λ side from x step new. Serves s side from x step new) (λ side from x. ⊥) s new (told_of l) (told_of l') step result
+    → Pumps (λ side from x step new. MeetsRow s side from x step new) (λ side from x. ⊥) new (told_of l) (told_of l') step result
     → step ≡ server_row s l.side l.from l.bytes.now
 asked_by s l l' step new from len failed taken result ok took free short pumps =
-    let P : Result Pumped PumpFault → Type 0 = λ r. Pumps (λ side from x step new. Serves s side from x step new) (λ side from x. ⊥) s new (told_of l) (told_of l') step r in
+    let P : Result Pumped PumpFault → Type 0 = λ r. Pumps (λ side from x step new. MeetsRow s side from x step new) (λ side from x. ⊥) new (told_of l) (told_of l') step r in
     asked s l l' step new from len failed free short (subst P (ok ∙ ap (λ (t : Pumped). Ok t) took) pumps)

@@ -8,27 +8,30 @@ use Rattle.td_base.specs.declared.endpoint.Ep.{Ep}
 use Rattle.td_base.specs.declared.span.Span.{Span}
 use Rattle.teredo_node.specs.Step.{Step, Send}
 use Rattle.teredo_node.specs.Journal.{arrived}
-use Rattle.teredo_node.specs.declared.fates.Fate.TheVariants as fate
+use Rattle.teredo_node.specs.declared.fate.Fate.TheVariants as fate
 use Rattle.nat_kinds.specs.Nat.{NatState}
-use Rattle.history.specs.declared.server_node.ServerNode.{ServerNode}
-use Rattle.history.specs.declared.nat_node.NatNode.{NatNode}
+use Rattle.topology.specs.declared.server_node.ServerNode.{ServerNode}
+use Rattle.topology.specs.declared.nat_node.NatNode.{NatNode}
 use Rattle.history.specs.declared.event.Event.{Event}
 use Rattle.history.specs.declared.acts.Act.{Act}
 use Rattle.history.specs.declared.acts.Act.TheVariants as act
 use Rattle.history.specs.declared.mark.Mark.{Mark}
-use Rattle.teredo_node.specs.declared.fates.Fate.{Fate}
+use Rattle.teredo_node.specs.declared.fate.Fate.{Fate}
 use Rattle.ipv6_packet.specs.Reads.{is_packet, fields_in}
 use Rattle.history.specs.declared.records.Record.{Record}
-use Rattle.history.specs.Rows.{TopologyState}
-use Rattle.history.specs.Topology.{Node, server, side_at, is_native, number_of}
+use Rattle.topology.specs.Rows.{TopologyState}
+use Rattle.topology.specs.declared.node.Node.{Node}
+use Rattle.topology.specs.declared.node.Node.TheVariants.{Server as server}
+use Rattle.topology.specs.Topology.{side_at, is_native, number_of}
 use Rattle.history.specs.Full.{Item, udp, six, Made, Full, items_of}
 use Rattle.history.specs.Records.{record_of, marks_of}
 use Rattle.server_core.specs.Server.{server_row}
 use Rattle.server_core.specs.Bounds.{count, outputs}
 use Rattle.server_core.proofs.Silence.{one_output}
-use Rattle.world.specs.Past.{Draws, now, is_number}
-use Rattle.world.specs.Emit.{Route, reaches, closed, astray, reach, route, outright, six_made, server_settings}
-use Rattle.world.specs.Next.{Numbered, numbered, blank, delivers, delivers_item, delivers_to}
+use Rattle.legal.specs.Past.{Draws, now, is_number}
+use Rattle.legal.specs.Emit.{Route, reaches, closed, astray, reach, route, outright, six_made}
+use Rattle.legal.specs.Settings.{server_settings}
+use Rattle.legal.specs.Next.{Numbered, numbered, blank, delivers, delivers_item, delivers_to}
 use Rattle.world.specs.Held.{WireState, IsForAnybody}
 use Rattle.world.specs.Ways.{topology_of}
 use Rattle.world.specs.Steps.{Grows, Has, Plays, said, packet_made}

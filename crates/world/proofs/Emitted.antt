@@ -6,13 +6,15 @@ use Rattle.std.proofs.Math.Seq.{take-append_seam}
 use Rattle.std.proofs.lemmas.Option.{slice_get_within, get_or_from_slice_get}
 use Rattle.td_base.specs.declared.endpoint.Ep.{Ep}
 use Rattle.teredo_node.specs.Step.{Send}
-use Rattle.history.specs.declared.server_node.ServerNode.{ServerNode}
+use Rattle.topology.specs.declared.server_node.ServerNode.{ServerNode}
 use Rattle.history.specs.declared.mark.Mark.{Mark}
 use Rattle.history.specs.declared.mark.Mark.TheVariants as mark
-use Rattle.history.specs.Topology.{Node, server, own_ep}
+use Rattle.topology.specs.declared.node.Node.{Node}
+use Rattle.topology.specs.declared.node.Node.TheVariants.{Server as server}
+use Rattle.topology.specs.Topology.{own_ep}
 use Rattle.history.specs.Full.{Item, udp, Made, sent, lost, item_in}
 use Rattle.history.specs.Records.{mark_of, marks_of}
-use Rattle.world.specs.Emit.{outright, made_outright}
+use Rattle.legal.specs.Emit.{outright, made_outright}
 use Rattle.world.specs.Held.{WireState, with_item, front_of}
 use Rattle.world.specs.Steps.{Extends, Grows}
 

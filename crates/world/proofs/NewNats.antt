@@ -2,7 +2,7 @@
 use Rattle.std.proofs.Common.{◌≡◌, ◌≤◌, ◌⊎◌, inl, inr, ℕ, zero, suc, List, [], ◌∷◌, ◌++◌, length, Some, None, refl, sym, ap, subst, ◌∙◌, arith}
 use Rattle.std.specs.Prelude.{slice_get}
 use Rattle.nat_kinds.specs.Nat.{NatState}
-use Rattle.history.specs.declared.nat_node.NatNode.{NatNode}
+use Rattle.topology.specs.declared.nat_node.NatNode.{NatNode}
 use Rattle.world.specs.Ways.{IsNatOf, AreNew, AreReady}
 
 last_or : {A : Type 0} → (xs : List A) (x y : A) (k : ℕ) → slice_get (xs ++ x ∷ []) k ≡ Some y → (slice_get xs k ≡ Some y) ⊎ ((k ≡ length xs) × (x ≡ y))

@@ -3,8 +3,8 @@ use Rattle.std.proofs.Common.{◌≡◌, ℕ, ◌+◌, Bool, true, false, not, n
 use Rattle.std.specs.Prelude.{slice_get, max}
 use Rattle.td_base.specs.declared.endpoint.Ep.{Ep}
 use Rattle.td_base.specs.declared.side.Side.{Side}
-use Rattle.teredo_node.specs.declared.fates.Fate.{Fate}
-use Rattle.teredo_node.specs.declared.fates.Fate.TheVariants as fate
+use Rattle.teredo_node.specs.declared.fate.Fate.{Fate}
+use Rattle.teredo_node.specs.declared.fate.Fate.TheVariants as fate
 use Rattle.teredo_node.specs.Journal.{Input, arrived, given, from_six, ticked}
 use Rattle.server_core.specs.declared.server.ServerSettings.{ServerSettings}
 use Rattle.server_core.specs.Server.{server_row}
@@ -13,13 +13,16 @@ use Rattle.history.specs.declared.event.Event.{Event}
 use Rattle.history.specs.declared.event.Event.TheVariants as event
 use Rattle.history.specs.declared.acts.Act.TheVariants as act
 use Rattle.history.specs.declared.acts.Verb.TheVariants as verb
-use Rattle.history.specs.Rows.{TopologyState}
-use Rattle.history.specs.Topology.{Node, server, nat, client, relay, native, nodes, side_at}
+use Rattle.topology.specs.Rows.{TopologyState}
+use Rattle.topology.specs.declared.node.Node.{Node}
+use Rattle.topology.specs.declared.node.Node.TheVariants.{Server as server, Nat as nat, Client as client, Relay as relay, Native as native}
+use Rattle.topology.specs.Topology.{nodes, side_at}
 use Rattle.history.specs.Telling.{is_no_entry, IsTold}
 use Rattle.history.specs.Full.{Item, udp, six, Full, wire}
-use Rattle.world.specs.Past.{Draws, now, began, first_undelivered, is_restart, forgotten}
-use Rattle.world.specs.Emit.{Route, reaches, closed, astray, route, entry_of, server_settings}
-use Rattle.world.specs.Next.{Numbered, numbered, Due, least_due, plain, advance_with, advanced, acts, no_ep, blank, delivers_to, delivers_item, delivers_or, copies, next_of}
+use Rattle.legal.specs.Past.{Draws, now, began, first_undelivered, is_restart, forgotten}
+use Rattle.legal.specs.Emit.{Route, reaches, closed, astray, route, entry_of}
+use Rattle.legal.specs.Settings.{server_settings}
+use Rattle.legal.specs.Next.{Numbered, numbered, Due, least_due, plain, advance_with, advanced, acts, no_ep, blank, delivers_to, delivers_item, delivers_or, copies, next_of}
 
 -- THE EVENT AND ITS NUMBER
 

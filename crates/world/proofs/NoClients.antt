@@ -8,14 +8,16 @@ use Rattle.std.proofs.lemmas.List.{length-map, length-append}
 use Rattle.nat_kinds.specs.History.{Entry as NatEntry, Restart}
 use Rattle.nat_kinds.specs.Nat.{NatState}
 use Rattle.nat_kinds.specs.Nat as nats
-use Rattle.history.specs.declared.server_node.ServerNode.{ServerNode}
-use Rattle.history.specs.declared.nat_node.NatNode.{NatNode}
-use Rattle.history.specs.Rows.{TopologyState}
-use Rattle.history.specs.Topology.{Node, server, nat, nodes, node_at, client_at, as_client}
-use Rattle.history.specs.Events.{has_host, is_client_of}
+use Rattle.topology.specs.declared.server_node.ServerNode.{ServerNode}
+use Rattle.topology.specs.declared.nat_node.NatNode.{NatNode}
+use Rattle.topology.specs.Rows.{TopologyState}
+use Rattle.topology.specs.declared.node.Node.{Node}
+use Rattle.topology.specs.declared.node.Node.TheVariants.{Server as server, Nat as nat}
+use Rattle.topology.specs.Topology.{nodes, node_at, client_at, as_client}
+use Rattle.topology.specs.Named.{has_host, is_client_of}
 use Rattle.history.specs.Full.{Made, Full}
-use Rattle.world.specs.Past.{is_node, is_restart, at_nat, forgotten, outs_of, nat_entries, nat_history}
-use Rattle.world.specs.Next.{least_due}
+use Rattle.legal.specs.Past.{is_node, is_restart, at_nat, forgotten, outs_of, nat_entries, nat_history}
+use Rattle.legal.specs.Next.{least_due}
 use Rattle.world.specs.Ways.{topology_of, NatsOf, IsNatOf, IsRestartOf}
 use Rattle.world.specs.World.{WorldState}
 

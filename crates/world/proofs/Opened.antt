@@ -1,13 +1,13 @@
 -- The least-numbered entry that was never delivered, by what a world remembers.
 use Rattle.std.proofs.Common.{◌≡◌, ◌<◌, ◌+◌, ℕ, zero, suc, Bool, true, false, List, [], ◌∷◌, length, get_or, append-nil, Some, None, Result, Ok, refl, sym, ap, subst, ◌∙◌, arith}
-use Rattle.teredo_node.specs.declared.fates.Fate.TheVariants as fate
+use Rattle.teredo_node.specs.declared.fate.Fate.TheVariants as fate
 use Rattle.history.specs.declared.event.Event.TheVariants as event
 use Rattle.history.specs.declared.acts.Verb.TheVariants as verb
 use Rattle.history.specs.declared.records.Record.{Record}
 use Rattle.history.specs.declared.turn.Stop.{Stop}
 use Rattle.history.specs.Full.{Item, Full, wire}
-use Rattle.world.specs.Past.{Draws, was_delivered, first_open, first_undelivered}
-use Rattle.world.specs.Next.{numbered, plain, blank, delivers, delivers_or, next_of}
+use Rattle.legal.specs.Past.{Draws, was_delivered, first_open, first_undelivered}
+use Rattle.legal.specs.Next.{numbered, plain, blank, delivers, delivers_or, next_of}
 use Rattle.world.specs.Held.{WireState}
 use Rattle.world.specs.Steps.{said, Has, Plays}
 use Rattle.world.specs.World.{WorldState, StandsFor}

@@ -10,12 +10,14 @@ use Rattle.nat_kinds.specs.declared.settings.NatSettings.{NatSettings}
 use Rattle.nat_kinds.specs.Nat.{NatState}
 use Rattle.nat_kinds.specs.Nat as nats
 use Rattle.nat_kinds.specs.History.{Entry}
-use Rattle.history.specs.declared.server_node.ServerNode.{ServerNode}
-use Rattle.history.specs.declared.nat_node.NatNode.{NatNode}
-use Rattle.history.specs.Topology.{Node, server, nat, nodes, node_at, is_at, is_behind, is_native, number_of, nat_settings}
+use Rattle.topology.specs.declared.server_node.ServerNode.{ServerNode}
+use Rattle.topology.specs.declared.nat_node.NatNode.{NatNode}
+use Rattle.topology.specs.declared.node.Node.{Node}
+use Rattle.topology.specs.declared.node.Node.TheVariants.{Server as server, Nat as nat}
+use Rattle.topology.specs.Topology.{nodes, node_at, is_at, is_behind, is_native, number_of, nat_settings}
 use Rattle.history.specs.Full.{Full}
-use Rattle.world.specs.Past.{nat_history}
-use Rattle.world.specs.Emit.{reaches, astray, reach, through, route_inside}
+use Rattle.legal.specs.Past.{nat_history}
+use Rattle.legal.specs.Emit.{reaches, astray, reach, through, route_inside}
 use Rattle.world.specs.Ways.{topology_of, NatsOf}
 use Rattle.world.proofs.Position.{seek, position_is, seek_map, seek_first, seek_second, seek_from, seek_none}
 

@@ -2,9 +2,9 @@
 use Rattle.std.proofs.Common.{◌≡◌, ◌+◌, ℕ, Bool, true, false, append-nil, List, [], ◌∷◌, ◌++◌, get_or, Option, Some, None, Result, Ok, Err, refl, sym, ap, subst, ◌∙◌}
 use Rattle.std.specs.Prelude.{◌||◌, filter_map}
 use Rattle.nat_kinds.specs.Nat.{NatState}
-use Rattle.teredo_node.specs.declared.fates.Fate.TheVariants as fate
-use Rattle.history.specs.declared.server_node.ServerNode.{ServerNode}
-use Rattle.history.specs.declared.nat_node.NatNode.{NatNode}
+use Rattle.teredo_node.specs.declared.fate.Fate.TheVariants as fate
+use Rattle.topology.specs.declared.server_node.ServerNode.{ServerNode}
+use Rattle.topology.specs.declared.nat_node.NatNode.{NatNode}
 use Rattle.history.specs.declared.event.Event.{Event}
 use Rattle.history.specs.declared.event.Event.TheVariants as event
 use Rattle.history.specs.declared.acts.Verb.TheVariants as verb
@@ -12,13 +12,13 @@ use Rattle.history.specs.declared.records.Record.{Record}
 use Rattle.history.specs.declared.turn.Turn.TheVariants.{Last}
 use Rattle.history.specs.declared.turn.Stop.{Stop}
 use Rattle.history.specs.declared.turn.Stop.TheVariants.{WireFull, NoMemory}
-use Rattle.history.specs.Rows.{TopologyState}
-use Rattle.history.specs.Topology.{nodes}
+use Rattle.topology.specs.Rows.{TopologyState}
+use Rattle.topology.specs.Topology.{nodes}
 use Rattle.history.specs.Full.{Full, item_in, items_of}
 use Rattle.world.specs.declared.laboratory.TheConstants.{MOST_LEFT}
-use Rattle.world.specs.Past.{Draws, began, has_more, forgotten, is_number}
-use Rattle.world.specs.Next.{numbered, plain, advanced, advance_with, next_of}
-use Rattle.world.specs.Legal.{GoesOn, Grown}
+use Rattle.legal.specs.Past.{Draws, began, has_more, forgotten, is_number}
+use Rattle.legal.specs.Next.{numbered, plain, advanced, advance_with, next_of}
+use Rattle.legal.specs.Legal.{GoesOn, Grown}
 use Rattle.world.specs.Held.{WireState}
 use Rattle.world.specs.Ways.{topology_of, NatsOf, IsRestartOf}
 use Rattle.world.specs.Steps.{said, Has, Plays}

@@ -1,7 +1,7 @@
 -- What a link that lends one datagram tells.
 use Rattle.std.specs.Prelude.{if◌then◌else◌, [], ◌∷◌, take, Some, None}
 use Rattle.td_base.specs.declared.datagram.TheConstants.{DATAGRAM_MAX}
-use Rattle.td_outside.specs.Links.{Datagram, Told}
+use Rattle.td_outside.specs.Link.{Datagram, Told}
 use Rattle.world.specs.declared.arriving.Arriving.{Arriving}
 
 -- the datagram is still to come until it was taken

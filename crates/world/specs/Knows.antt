@@ -1,9 +1,9 @@
 -- What the parts of a world know of a history.
 use Rattle.std.specs.Prelude.{◌≡◌, ℕ, false, List, get_or}
 use Rattle.nat_kinds.specs.Nat.{NatState}
-use Rattle.history.specs.Rows.{TopologyState}
+use Rattle.topology.specs.Rows.{TopologyState}
 use Rattle.history.specs.Full.{Full, wire}
-use Rattle.world.specs.Past.{now, was_delivered}
+use Rattle.legal.specs.Past.{now, was_delivered}
 use Rattle.world.specs.Held.{WireState}
 use Rattle.world.specs.Ways.{NatsOf}
 

@@ -1,6 +1,6 @@
 -- What one call does to the wire, and what it says.
 use Rattle.std.specs.Prelude.{◌≡◌, ◌≢◌, ◌<◌, ◌+◌, ◌||◌, ℕ, false, List, [], ◌∷◌, ◌++◌, length, filter_map, get_or, replicate, Result, Ok, Err, Option, Some, None}
-use Rattle.teredo_node.specs.declared.fates.Fate.{Fate}
+use Rattle.teredo_node.specs.declared.fate.Fate.{Fate}
 use Rattle.history.specs.declared.acts.Act.{Act}
 use Rattle.history.specs.declared.mark.Mark.{Mark}
 use Rattle.history.specs.declared.records.Record.{Record}
@@ -9,7 +9,7 @@ use Rattle.history.specs.declared.turn.Stop.TheVariants.{WireFull, NoMemory}
 use Rattle.history.specs.Full.{Item, six, Made, sent, Full, item_in, items_of}
 use Rattle.history.specs.Records.{record_of}
 use Rattle.world.specs.declared.wire.TheConstants.{MOST_ENTRIES}
-use Rattle.world.specs.Past.{is_number}
+use Rattle.legal.specs.Past.{is_number}
 use Rattle.world.specs.Held.{WireState}
 
 -- a record of a step of no node, with these marks

@@ -4,15 +4,16 @@ use Rattle.std.specs.List.{AllByRecursion}
 use Rattle.nat_kinds.specs.History.{Entry}
 use Rattle.nat_kinds.specs.Nat.{NatState}
 use Rattle.nat_kinds.specs.Nat as nats
-use Rattle.history.specs.declared.server_node.ServerNode.{ServerNode}
-use Rattle.history.specs.declared.nat_node.NatNode.{NatNode}
-use Rattle.history.specs.Rows.{TopologyState}
-use Rattle.history.specs.Topology.{server, nat_settings}
+use Rattle.topology.specs.declared.server_node.ServerNode.{ServerNode}
+use Rattle.topology.specs.declared.nat_node.NatNode.{NatNode}
+use Rattle.topology.specs.Rows.{TopologyState}
+use Rattle.topology.specs.declared.node.Node.TheVariants.{Server as server}
+use Rattle.topology.specs.Topology.{nat_settings}
 use Rattle.history.specs.Full.{Full}
 use Rattle.world.specs.declared.way.Way.{Way}
 use Rattle.world.specs.declared.way.Way.TheVariants.{Server, Closed, Astray}
-use Rattle.world.specs.Past.{nat_history, is_restart}
-use Rattle.world.specs.Emit.{Route, reaches, closed, astray}
+use Rattle.legal.specs.Past.{nat_history, is_restart}
+use Rattle.legal.specs.Emit.{Route, reaches, closed, astray}
 
 abbrev pub by_way : Way → Route
 by_way (Server n row) = reaches n (server row)

@@ -8,16 +8,17 @@ use Rattle.history.specs.declared.turn.Turn.{Turn}
 use Rattle.history.specs.declared.turn.Turn.TheVariants.{More, Last}
 use Rattle.history.specs.declared.turn.Stop.{Stop}
 use Rattle.history.specs.declared.turn.Stop.TheVariants.{WireFull, NoMemory}
-use Rattle.history.specs.Rows.{TopologyState}
-use Rattle.history.specs.Topology.{Node, nodes}
+use Rattle.topology.specs.Rows.{TopologyState}
+use Rattle.topology.specs.declared.node.Node.{Node}
+use Rattle.topology.specs.Topology.{nodes}
 use Rattle.history.specs.Full.{Item, Full, wire, items_of}
 use Rattle.history.specs.Records.{record_of}
 use Rattle.history.specs.Telling.{IsTold}
 use Rattle.world.specs.declared.wire.TheConstants.{MOST_ENTRIES}
 use Rattle.world.specs.declared.laboratory.TheConstants.{MOST_LEFT}
-use Rattle.world.specs.Past.{now, began, has_more, was_delivered, Draws}
-use Rattle.world.specs.Next.{next_of}
-use Rattle.world.specs.Legal.{GoesOn, Grown}
+use Rattle.legal.specs.Past.{now, began, has_more, was_delivered, Draws}
+use Rattle.legal.specs.Next.{next_of}
+use Rattle.legal.specs.Legal.{GoesOn, Grown}
 use Rattle.world.specs.Ways.{NatsOf}
 
 pub record WorldState : Type 0 where

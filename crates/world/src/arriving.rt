@@ -1,6 +1,6 @@
 //! A link that lends one datagram.
-ghost use Rattle.std.specs.Prelude.{◌≡◌, ◌≤◌, [], ◌∷◌, length, take, is_ok, IsOk, IfOk};
-ghost use Rattle.td_outside.specs.Links.{attempt, open_on, Datagram, Fits, Receives, Sends, KeepsTold, came_by};
+ghost use Rattle.std.specs.Prelude.{◌≡◌, ◌≤◌, [], ◌∷◌, None, length, take, is_ok, IsOk, IfOk};
+ghost use Rattle.td_outside.specs.Link.{attempt, open_on, Datagram, Fits, Receives, Sends, KeepsTold, came_by};
 ghost use Rattle.world.specs.Arriving.{told_of};
 
 use std::marker::Model;
@@ -36,6 +36,8 @@ impl<'a> Arriving<'a> {
 
 impl<'a> Link for Arriving<'a> {
     ghost addresses = { λ l. l.on };
+
+    ghost openings = { λ l. None };
 
     ghost told = { told_of };
 

@@ -1,9 +1,10 @@
 //! A server is asked.
 ghost use Rattle.std.specs.Prelude.{◌≡◌, ◌≤◌, length};
 ghost use Rattle.history.specs.declared.event.TheConstants.{MOST_BYTES};
-ghost use Rattle.history.specs.Topology.{server, side_at, own_ep};
+ghost use Rattle.topology.specs.declared.node.Node.TheVariants.{Server as server};
+ghost use Rattle.topology.specs.Topology.{side_at, own_ep};
 ghost use Rattle.server_core.specs.Server.{server_row};
-ghost use Rattle.world.specs.Emit.{server_settings};
+ghost use Rattle.legal.specs.Settings.{server_settings};
 
 use crate::arriving::Arriving;
 use history::ServerNode;

@@ -3,12 +3,12 @@ ghost use Rattle.std.specs.Prelude.{◌≡◌, ◌≤◌, ◌<◌, ◌+◌, [], 
 ghost use Rattle.history.specs.declared.event.TheConstants.{MOST_BYTES};
 ghost use Rattle.std.specs.Prelude.{List};
 ghost use Rattle.history.specs.Full.{Item};
-ghost use Rattle.history.specs.Topology.{server};
+ghost use Rattle.topology.specs.declared.node.Node.TheVariants.{Server as server};
 ghost use Rattle.history.specs.Records.{marks_of};
 ghost use Rattle.teredo_node.specs.Step.{part};
-ghost use Rattle.teredo_node.specs.declared.steps.TheConstants.{SENDS_MAX};
+ghost use Rattle.teredo_node.specs.declared.step.TheConstants.{SENDS_MAX};
 ghost use Rattle.world.specs.declared.wire.TheConstants.{MOST_ENTRIES};
-ghost use Rattle.world.specs.Emit.{outright};
+ghost use Rattle.legal.specs.Emit.{outright};
 ghost use Rattle.world.specs.Steps.{Grows, Extends, packet_made};
 
 use crate::asking::own_endpoint;

@@ -1,5 +1,5 @@
 ghost use Rattle.std.specs.Prelude.{◌≡◌, ◌<◌, ◌≤◌, ◌+◌, List, [], ◌∷◌, length, Some, None, slice_get, option_map, IfOk, IfErr, OnErr, IsErrOf};
-ghost use Rattle.teredo_node.specs.declared.fates.Fate.TheVariants as fates;
+ghost use Rattle.teredo_node.specs.declared.fate.Fate.TheVariants as fates;
 ghost use Rattle.history.specs.declared.event.Event.{Event};
 ghost use Rattle.history.specs.declared.event.Event.TheVariants as event;
 ghost use Rattle.history.specs.declared.event.TheConstants.{MOST_ADVANCE};
@@ -8,8 +8,8 @@ ghost use Rattle.history.specs.Events.{IsEvent};
 ghost use Rattle.history.specs.Full.{Full};
 ghost use Rattle.world.specs.declared.wire.TheConstants.{MOST_ENTRIES};
 ghost use Rattle.world.specs.declared.laboratory.TheConstants.{MOST_MOMENT};
-ghost use Rattle.world.specs.Past.{Draws};
-ghost use Rattle.world.specs.Next.{numbered, plain, delivers, next_of};
+ghost use Rattle.legal.specs.Past.{Draws};
+ghost use Rattle.legal.specs.Next.{numbered, plain, delivers, next_of};
 ghost use Rattle.world.specs.Lent.{item_lent};
 ghost use Rattle.world.specs.Ways.{NatsOf, AreReady, AreNew, IsRestartOf};
 ghost use Rattle.world.specs.Steps.{said, Plays};
@@ -49,7 +49,7 @@ pub struct World {
 
 impl Model for World {
     ghost use Rattle.std.specs.Prelude.{◌≡◌, ◌≤◌, length};
-    ghost use Rattle.history.specs.declared.topology.TheConstants.{MOST_SERVERS, MOST_NATS};
+    ghost use Rattle.topology.specs.declared.topology.TheConstants.{MOST_SERVERS, MOST_NATS};
     ghost use Rattle.world.specs.declared.laboratory.TheConstants.{MOST_LEFT};
     ghost use Rattle.world.specs.Ways.{topology_of, AreReady};
     ghost use Rattle.world.specs.World.{WorldState};

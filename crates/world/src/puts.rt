@@ -4,10 +4,10 @@ ghost use Rattle.nat_kinds.specs.Nat.{NatState};
 ghost use Rattle.history.specs.declared.event.TheConstants.{MOST_BYTES};
 ghost use Rattle.history.specs.declared.event.Event.{Event};
 ghost use Rattle.history.specs.declared.acts.Act.TheVariants as acts;
-ghost use Rattle.history.specs.Rows.{TopologyState};
+ghost use Rattle.topology.specs.Rows.{TopologyState};
 ghost use Rattle.history.specs.Full.{Full, wire as wire_of};
 ghost use Rattle.world.specs.declared.wire.TheConstants.{MOST_ENTRIES};
-ghost use Rattle.world.specs.Next.{numbered, puts, copies};
+ghost use Rattle.legal.specs.Next.{numbered, puts, copies};
 ghost use Rattle.world.specs.Steps.{Plays};
 ghost use Rattle.world.specs.Knows.{Knows};
 

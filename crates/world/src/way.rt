@@ -1,8 +1,9 @@
 //! Where a datagram goes.
 ghost use Rattle.std.specs.Prelude.{◌≡◌, ◌≤◌, ℕ, List, length, position};
-ghost use Rattle.history.specs.Topology.{server, nat, is_at};
+ghost use Rattle.topology.specs.declared.node.Node.TheVariants.{Server as server, Nat as nat};
+ghost use Rattle.topology.specs.Topology.{is_at};
 ghost use Rattle.history.specs.Full.{Full, udp};
-ghost use Rattle.world.specs.Emit.{route};
+ghost use Rattle.legal.specs.Emit.{route};
 ghost use Rattle.world.specs.Ways.{by_way, topology_of, NatsOf, AreReady};
 
 use history::{MOST_NATS, MOST_SERVERS, NatNode, ServerNode};

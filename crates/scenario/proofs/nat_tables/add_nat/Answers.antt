@@ -1,6 +1,6 @@
 use Rattle.std.proofs.Common.{sym, subst}
-use Rattle.history.specs.Rules.{IsTopology}
-use Rattle.history.proofs.Distinct.{grown_nat}
+use Rattle.topology.specs.Rules.{IsTopology}
+use Rattle.topology.proofs.Distinct.{grown_nat}
 use Rattle.scenario.proofs.FreshRows.{nat_of-fresh}
 use Rattle.scenario.proofs.nat_tables.add_nat.Goals as goal
 

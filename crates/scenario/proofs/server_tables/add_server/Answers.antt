@@ -1,6 +1,6 @@
 use Rattle.std.proofs.Common.{sym, subst}
-use Rattle.history.specs.Rules.{IsTopology}
-use Rattle.history.proofs.Distinct.{grown_server}
+use Rattle.topology.specs.Rules.{IsTopology}
+use Rattle.topology.proofs.Distinct.{grown_server}
 use Rattle.scenario.proofs.FreshRows.{server_of-fresh}
 use Rattle.scenario.proofs.server_tables.add_server.Goals as goal
 

@@ -1,6 +1,6 @@
 use Rattle.std.proofs.Common.{◌≡◌, drop, length}
 use Rattle.toml.specs.View.{items_view}
-use Rattle.history.specs.Rows.{no_nodes}
+use Rattle.topology.specs.Rows.{no_nodes}
 use Rattle.scenario.specs.Built.{HasOnlyServers}
 use Rattle.scenario.specs.Servers.{add_servers}
 use Rattle.scenario.proofs.server_tables.each_server.Given as goal

@@ -1,5 +1,5 @@
 use Rattle.std.proofs.Common.{◌≡◌}
-use Rattle.world.specs.Legal.{GoesOn}
+use Rattle.legal.specs.Legal.{GoesOn}
 use Rattle.scenario.specs.Told.{told}
 use Rattle.teredo_app.proofs.Playing.{Played, IsFresh}
 use Rattle.teredo_app.proofs.play.write_report.Given as goal

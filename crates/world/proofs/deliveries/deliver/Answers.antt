@@ -6,7 +6,7 @@ use Rattle.world.specs.declared.wire.TheConstants.{MOST_ENTRIES}
 use Rattle.world.specs.Held.{IsForAnybody}
 use Rattle.world.specs.Steps.{packet_made}
 use Rattle.world.specs.Lent.{item_lent}
-use Rattle.world.specs.Next.{numbered}
+use Rattle.legal.specs.Next.{numbered}
 use Rattle.world.specs.Ways.{by_way, topology_of}
 use Rattle.world.proofs.Delivered as delivered
 use Rattle.world.proofs.deliveries.deliver.Goals as goal

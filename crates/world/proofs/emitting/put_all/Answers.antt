@@ -1,6 +1,6 @@
 use Rattle.std.proofs.Common.{None, Some}
-use Rattle.history.specs.Topology.{server}
-use Rattle.world.specs.Emit.{outright}
+use Rattle.topology.specs.declared.node.Node.TheVariants.{Server as server}
+use Rattle.legal.specs.Emit.{outright}
 use Rattle.world.specs.Steps.{packet_made}
 use Rattle.world.proofs.Emitted.{both_parts, both_marks}
 use Rattle.world.proofs.emitting.put_all.Goals as goal

@@ -2,7 +2,7 @@ use Rattle.std.proofs.Common.{◌≡◌, ◌+◌, ◌<◌, List, [], ◌∷◌, 
 use Rattle.std.proofs.lemmas.List.{drop-drop, length-map}
 use Rattle.std.proofs.lemmas.Option.{slice_get_read}
 use Rattle.std.proofs.lemmas.Grind.{common_steps}
-use Rattle.td_outside.specs.Links.{Came, Nothing, next_of}
+use Rattle.td_outside.specs.Link.{Came, Nothing, next_of}
 use Rattle.td_outside.specs.MemLink.{came_of}
 use Rattle.td_outside.proofs.Arrivals.{next_arrival, taken_more}
 use Rattle.td_outside.proofs.mem_link.MemLinkLink.recv.Goals as goal

@@ -1,5 +1,5 @@
 use Rattle.std.proofs.Common.{List, refl, sym, ap, subst, ◌∙◌}
-use Rattle.history.specs.declared.nat_node.NatNode.{NatNode}
+use Rattle.topology.specs.declared.nat_node.NatNode.{NatNode}
 use Rattle.world.specs.Held.{WireState}
 use Rattle.world.specs.Ways.{AreNew}
 use Rattle.world.proofs.laboratory.World.new.Goals as goal

@@ -4,7 +4,7 @@ use Rattle.history.specs.Events.{IsEvent}
 use Rattle.world.specs.declared.laboratory.TheConstants.{MOST_LEFT}
 use Rattle.world.specs.Ways.{topology_of}
 use Rattle.history.specs.declared.acts.Verb.TheVariants as verb
-use Rattle.world.specs.Next.{numbered, plain, puts}
+use Rattle.legal.specs.Next.{numbered, plain, puts}
 use Rattle.world.specs.Steps.{Plays}
 use Rattle.world.specs.Knows.{Knows}
 use Rattle.world.specs.World.{WorldState, StandsFor}

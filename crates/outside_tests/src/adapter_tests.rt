@@ -1,0 +1,113 @@
+//! Files, output, sockets and the clock of the system.
+use std::net::{IpAddr, Ipv4Addr, UdpSocket};
+use std::test::Fail;
+use std::time::Duration;
+use std::{env, fs};
+use td_base::{Ep, Ip4, Millis, Side, TEREDO_PORT};
+use td_outside::{
+    Arrival, Clock, DATAGRAM_MAX, Failed, FileSource, Link, Sink, Source, StdSink, SystemClock,
+    UdpPair,
+};
+
+#[test]
+fn a_file_is_read_to_its_end(rt: HostRuntime) -> Result<(), Fail> {
+    let folder = env::temp_dir(&rt)?;
+    let file = folder.join(rt.alloc(), "td_outside_three_bytes")?;
+    fs::write(&rt, &file, "abc")?;
+    let mut source = FileSource::new(&rt);
+    let mut buf = [0u8; 8];
+    let name = file.to_str().unwrap_or("");
+    assert_eq!(rt; source.open(name), Ok(()));
+    fs::remove_file(&rt, &file)?;
+    for want in [Ok(3), Ok(0)] {
+        assert_eq!(rt; source.read(&mut buf), want);
+    }
+    assert_eq!(rt; source.open(name), Err(Failed));
+    assert_eq!(rt; source.open("."), Ok(()));
+    assert_eq!(rt; source.read(&mut buf), Err(Failed));
+    Ok(())
+}
+
+#[test]
+fn a_piece_is_written_through(rt: HostRuntime) -> Result<(), Fail> {
+    let mut full = [0u8; 2];
+    let mut sink = StdSink::new(full.as_mut_slice());
+    for want in [Ok(2), Err(Failed)] {
+        assert_eq!(rt; sink.write(b"abc"), want);
+    }
+    assert_eq!(rt; sink.write(b""), Ok(0));
+    Ok(())
+}
+
+#[test]
+fn the_system_clock_goes_on(rt: HostRuntime) -> Result<(), Fail> {
+    let mut clock = SystemClock::new(&rt);
+    assert_eq!(rt; clock.now(), Millis(0));
+    std::thread::sleep(&rt, Duration::from_millis(30));
+    assert!(rt; clock.now().0 >= 30);
+    Ok(())
+}
+
+// The first side that a link answers from within a second, with the datagram's length.
+fn next<L: Link>(link: &mut L) -> Option<(Side, usize)> {
+    let mut buf = [0; DATAGRAM_MAX];
+    for _ in 0..50u64 {
+        if let Ok(Arrival::Got { side, len, .. }) = link.recv(&mut buf) {
+            return Some((side, len));
+        }
+    }
+    None
+}
+
+#[test]
+fn the_sides_of_a_pair_take_turns(rt: HostRuntime) -> Result<(), Fail> {
+    let mut link = UdpPair::new(&rt);
+    let (primary, secondary) = (Ip4([127, 41, 0, 1]), Ip4([127, 41, 0, 2]));
+    assert_eq!(rt; link.open(primary, secondary), Ok(()));
+    let peer = UdpSocket::bind(&rt, "127.41.0.3:0")?;
+    for _ in 0..3u64 {
+        peer.send_to(b"one", "127.41.0.1:3544")?;
+    }
+    peer.send_to(&[4; 1401], "127.41.0.2:3544")?;
+    // Opened again, it still has what came.
+    assert_eq!(rt; link.open(primary, secondary), Ok(()));
+    let (one, long) = ((Side::Primary, 3), (Side::Secondary, 1400));
+    for want in [Some(one), Some(long), Some(one), Some(one), None] {
+        assert_eq!(rt; next(&mut link), want);
+    }
+    Ok(())
+}
+
+#[test]
+fn the_addresses_of_a_pair_may_change_places(rt: HostRuntime) -> Result<(), Fail> {
+    let mut link = UdpPair::new(&rt);
+    let (one, other) = (Ip4([127, 43, 0, 1]), Ip4([127, 43, 0, 2]));
+    assert_eq!(rt; link.open(one, other), Ok(()));
+    assert_eq!(rt; link.open(other, one), Ok(()));
+    let peer = UdpSocket::bind(&rt, "127.43.0.3:0")?;
+    peer.send_to(b"ab", "127.43.0.2:3544")?;
+    assert_eq!(rt; next(&mut link), Some((Side::Primary, 2)));
+    Ok(())
+}
+
+#[test]
+fn a_pair_sends_from_the_side_that_was_named(rt: HostRuntime) -> Result<(), Fail> {
+    let mut link = UdpPair::new(&rt);
+    assert_eq!(rt;
+        link.open(Ip4([127, 42, 0, 1]), Ip4([127, 42, 0, 2])),
+        Ok(())
+    );
+    let peer = UdpSocket::bind(&rt, "127.42.0.3:0")?;
+    peer.set_read_timeout(Some(Duration::from_secs(5)))?;
+    let port = peer.local_addr()?.port();
+    let ip = Ip4([127, 42, 0, 3]);
+    assert_eq!(rt;
+        link.send(Side::Secondary, Ep { ip, port }, b"back"),
+        Ok(())
+    );
+    let mut got = [0; 8];
+    let (len, from) = peer.recv_from(&mut got)?;
+    assert_eq!(rt; (len, from.port()), (4, TEREDO_PORT));
+    assert_eq!(rt; from.ip(), IpAddr::V4(Ipv4Addr::new(127, 42, 0, 2)));
+    Ok(())
+}

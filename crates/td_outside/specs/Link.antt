@@ -1,0 +1,75 @@
+-- What a link tells, and how each of its calls moves that.
+use Rattle.std.specs.Prelude.{◌≡◌, ◌≤◌, ℕ, Bool, ⊤, List, take, drop, slice_index_or, Option, Some, None}
+use Rattle.td_base.specs.declared.side.Side.{Side}
+use Rattle.td_base.specs.declared.endpoint.Ep.{Ep}
+use Rattle.td_base.specs.declared.ipv4.Ip4.{Ip4}
+use Rattle.td_outside.specs.declared.link.Addresses.{Addresses}
+use Rattle.td_outside.specs.declared.link.Arrival.{Arrival}
+use Rattle.td_outside.specs.declared.link.Arrival.TheVariants.{Got, Idle}
+use Rattle.td_base.specs.declared.datagram.TheConstants.{DATAGRAM_MAX}
+use Rattle.td_outside.specs.Moves.{Moves, Stays, Gains}
+
+-- what came: a datagram, of which a link keeps the first DATAGRAM_MAX bytes, or nothing
+pub data Came : Type 0 where
+  Datagram : (side : Side) (from : Ep) (bytes : List ℕ) → Came
+  Nothing : Came
+
+-- an attempt to send one datagram, and whether the answer was Ok
+pub record Attempt : Type 0 where
+  pub side : Side
+  pub to : Ep
+  pub bytes : List ℕ
+  pub sent : Bool
+
+abbrev pub attempt : Side → Ep → List ℕ → Bool → Attempt
+attempt side to bytes sent = record { side = side; to = to; bytes = bytes; sent = sent }
+
+-- the lists that a link tells: what is still to come, what was taken, and what was to be sent, the oldest first
+pub record Told : Type 0 where
+  pub coming : Option (List Came)
+  pub taken : Option (List Came)
+  pub attempts : Option (List Attempt)
+
+-- a link that tells none of its lists
+abbrev pub told_nothing : Told
+told_nothing = record { coming = None; taken = None; attempts = None }
+
+-- an arrival within the buffer
+abbrev pub Fits : Arrival → Type 0
+Fits (Got _ _ len) = len ≤ DATAGRAM_MAX
+Fits Idle = ⊤
+
+-- what came, by the answer and the buffer behind it
+abbrev pub came_by : List ℕ → Arrival → Came
+came_by buf (Got side from len) = Datagram side from (take len buf)
+came_by buf Idle = Nothing
+
+-- two addresses, as those that a link is asked to open on
+abbrev pub both_at : Ip4 → Ip4 → Addresses
+both_at primary secondary = record { primary = primary; secondary = secondary }
+
+-- the two addresses of a link that is open
+abbrev pub open_on : Ip4 → Ip4 → Option Addresses
+open_on primary secondary = Some (both_at primary secondary)
+
+-- the first that is still to come, or nothing where none is left
+abbrev pub next_of : List Came → Came
+next_of coming = slice_index_or coming 0 Nothing
+
+-- a receiving call that took what came
+pub record Receives (old new : Told) (came : Came) : Type 0 where
+  pub coming : Moves old.coming new.coming (λ before after. (came ≡ next_of before) × (after ≡ drop 1 before))
+  pub taken : Gains old.taken new.taken came
+  pub attempts : Stays old.attempts new.attempts
+
+-- a sending call
+pub record Sends (old new : Told) (made : Attempt) : Type 0 where
+  pub coming : Stays old.coming new.coming
+  pub taken : Stays old.taken new.taken
+  pub attempts : Gains old.attempts new.attempts made
+
+-- any other call
+pub record KeepsTold (old new : Told) : Type 0 where
+  pub coming : Stays old.coming new.coming
+  pub taken : Stays old.taken new.taken
+  pub attempts : Stays old.attempts new.attempts

@@ -1,0 +1,48 @@
+-- What several calls in a row do to something that may be told.
+use Rattle.std.proofs.Common.{◌+◌, ℕ, List, [], ◌++◌, Option, Some, None, refl, sym, ap, subst, ◌∙◌, append_assoc, append-nil, arith}
+use Rattle.td_outside.specs.Moves.{Moves, Stays, Grows, RisesBy}
+
+-- with no call it stays
+pub Stays-refl : {A : Type 0} (a : Option A) → Stays a a
+Stays-refl None = tt
+Stays-refl (Some x) = refl
+
+-- what moved so moved in a way that follows from it
+pub Moves-weaker : {A : Type 0} (P Q : A → A → Type 0) (a b : Option A) → ((x y : A) → P x y → Q x y) → Moves a b P → Moves a b Q
+Moves-weaker P Q a None then p = tt
+Moves-weaker P Q None (Some y) then p = absurd p
+Moves-weaker P Q (Some x) (Some y) then p = then x y p
+
+-- it stayed, and then moved
+pub Stays-Moves : {A : Type 0} (P : A → A → Type 0) (a b c : Option A) → Stays a b → Moves b c P → Moves a c P
+Stays-Moves P a b None p q = tt
+Stays-Moves P a None (Some z) p q = absurd q
+Stays-Moves P None (Some y) (Some z) p q = absurd p
+Stays-Moves {A} P (Some x) (Some y) (Some z) p q = subst (λ (v : A). P v z) p q
+
+-- it moved, and then stayed
+pub Moves-Stays : {A : Type 0} (P : A → A → Type 0) (a b c : Option A) → Moves a b P → Stays b c → Moves a c P
+Moves-Stays P a b None p q = tt
+Moves-Stays P a None (Some z) p q = absurd q
+Moves-Stays P None (Some y) (Some z) p q = absurd p
+Moves-Stays {A} P (Some x) (Some y) (Some z) p q = subst (λ (v : A). P x v) (sym q) p
+
+-- a list that stayed grew by nothing
+pub Grows-nil : {A : Type 0} (a b : Option (List A)) → Stays a b → Grows a b []
+Grows-nil a None p = tt
+Grows-nil None (Some y) p = absurd p
+Grows-nil (Some x) (Some y) p = p ∙ sym (append-nil x)
+
+-- a list that grew twice grew by both
+pub Grows-append : {A : Type 0} (a b c : Option (List A)) (xs ys : List A) → Grows a b xs → Grows b c ys → Grows a c (xs ++ ys)
+Grows-append a b None xs ys p q = tt
+Grows-append a None (Some z) xs ys p q = absurd q
+Grows-append None (Some y) (Some z) xs ys p q = absurd p
+Grows-append {A} (Some x) (Some y) (Some z) xs ys p q = q ∙ ap (λ (l : List A). l ++ ys) p ∙ append_assoc x xs ys
+
+-- a number that rose twice rose by both
+pub RisesBy-add : (a b c : Option ℕ) (m n : ℕ) → RisesBy a b m → RisesBy b c n → RisesBy a c (m + n)
+RisesBy-add a b None m n p q = tt
+RisesBy-add a None (Some z) m n p q = absurd q
+RisesBy-add None (Some y) (Some z) m n p q = absurd p
+RisesBy-add (Some x) (Some y) (Some z) m n p q = omega (arith, p, q)

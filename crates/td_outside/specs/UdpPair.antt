@@ -1,0 +1,27 @@
+-- The link over sockets, as its callers see it.
+use Rattle.std.specs.Prelude.{ℕ, Bool, if◌then◌else◌, Option, None}
+use Rattle.td_base.specs.declared.ipv4.Ip4.{Ip4}
+use Rattle.td_outside.specs.declared.link.Addresses.{Addresses}
+use Rattle.td_outside.specs.Causes.{counted_if}
+use Rattle.td_outside.specs.Link.{open_on}
+
+-- the addresses that it is open on, and how often a call failed
+pub record Pair : Type 0 where
+  pub addresses : Option Addresses
+  pub recv_faults : ℕ
+  pub send_faults : ℕ
+
+-- the pair after a call of open, which leaves it shut where it failed
+abbrev pub pair_opened : Pair → Ip4 → Ip4 → Bool → Pair
+pair_opened pair primary secondary failed = record pair {
+  addresses = if failed then None else open_on primary secondary;
+  recv_faults = counted_if failed pair.recv_faults;
+}
+
+-- the pair after a call of recv
+abbrev pub pair_received : Pair → Bool → Pair
+pair_received pair failed = record pair { recv_faults = counted_if failed pair.recv_faults }
+
+-- the pair after a call of send
+abbrev pub pair_sent : Pair → Bool → Pair
+pair_sent pair failed = record pair { send_faults = counted_if failed pair.send_faults }

@@ -1,0 +1,64 @@
+//! What is due of an endpoint at a moment, done at a link.
+ghost use Rattle.std.specs.Prelude.{◌≡◌, ℕ, nat_lt, option_map, unwrap_or};
+ghost use Rattle.teredo_node.specs.Turn.{SendFaults};
+ghost use Rattle.teredo_node.specs.Ticks.{TicksIfDue, TicksThrough};
+
+use crate::turn::send_all;
+use crate::{Endpoint, Step};
+use td_base::Millis;
+use td_outside::Link;
+
+// Whether something is due now.
+fn is_due<E: Endpoint>(e: &E, now: Millis) -> bool
+    requires ready { E.ready e.now now.0 }
+    ensures { result ≡ nat_lt 0 (E.owing e.now now.0) }
+{
+    match e.due(now) {
+        Some(at) => at.0 <= now.0,
+        None => false,
+    }
+}
+
+/// Does the first thing that is due, and attempts each send of it, in their order. The answer says which attempts
+/// failed, as `Pumped` does. `None` is that nothing is due: then all stays as it was.
+pub fn tick<E: Endpoint, L: Link>(
+    e: &mut E,
+    link: &mut L,
+    now: Millis,
+    step: &mut Step,
+) -> Option<u8>
+    requires ready { E.ready e.old now.0 }
+    ensures turn { TicksIfDue (λ s. E.ticks s now.0) (λ s. E.owing s now.0) e.old e.new (L.told link.old) (L.told link.new) step.old step.new result }
+    ensures again { E.ready e.new now.0 }
+    ensures receives { L.recv_faults link.new ≡ L.recv_faults link.old }
+    ensures sends { SendFaults (L.send_faults link.old) (L.send_faults link.new) (unwrap_or result 0) }
+    ensures places { L.addresses link.new ≡ L.addresses link.old }
+{
+    if !is_due(e, now) {
+        return None;
+    }
+    e.on_tick(now, step);
+    Some(send_all(link, step))
+}
+
+/// Does all that is due, one thing after another, until nothing is. Since each tick lessens what is due at its moment,
+/// that comes to an end. The answer is how many attempts failed, and stops at the end of `u64`.
+pub fn tick_through<E: Endpoint, L: Link>(
+    e: &mut E,
+    link: &mut L,
+    now: Millis,
+    step: &mut Step,
+) -> u64
+    requires ready { E.ready e.old now.0 }
+    ensures ticks { TicksThrough (λ s. E.ticks s now.0) (λ s. E.owing s now.0) e.old e.new (L.told link.old) (L.told link.new) step.old step.new result }
+    ensures again { E.ready e.new now.0 }
+    ensures receives { L.recv_faults link.new ≡ L.recv_faults link.old }
+    ensures sends { SendFaults (L.send_faults link.old) (L.send_faults link.new) result }
+    ensures places { L.addresses link.new ≡ L.addresses link.old }
+{
+    let mut failures: u64 = 0;
+    while let Some(failed) = tick(e, link, now, step) {
+        failures = failures.saturating_add(u64::from(failed.count_ones()));
+    }
+    failures
+}

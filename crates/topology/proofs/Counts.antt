@@ -1,0 +1,20 @@
+-- How many nodes there are.
+use Rattle.std.proofs.Common.{◌≡◌, ◌≤◌, ◌<◌, ℕ, ◌+◌, List, [], ◌∷◌, ◌++◌, length, drop, map, Option, Some, None, refl, ap, ◌∙◌, rules, arith, length-append, zero, suc}
+use Rattle.std.specs.Prelude.{slice_get}
+use Rattle.std.proofs.lemmas.List.{length-map}
+use Rattle.topology.specs.Rows.{TopologyState}
+use Rattle.topology.specs.declared.node.Node.{Node}
+use Rattle.topology.specs.declared.node.Node.TheVariants.{Server as server, Nat as nat, Client as client, Relay as relay, Native as native}
+use Rattle.topology.specs.Topology.{nodes}
+use Rattle.topology.specs.Rules.{IsTopology}
+use Rattle.topology.specs.declared.topology.TheConstants.{NODES_MAX}
+
+count : (t : TopologyState) → length (nodes t) ≡ length t.servers + (length t.nats + (length t.clients + (length t.relays + length t.natives)))
+count t =
+    length-append (map server t.servers) (map nat t.nats ++ (map client t.clients ++ (map relay t.relays ++ map native t.natives)))
+    ∙ rw (length-append (map nat t.nats) (map client t.clients ++ (map relay t.relays ++ map native t.natives)), length-append (map client t.clients) (map relay t.relays ++ map native t.natives), length-append (map relay t.relays) (map native t.natives), length-map t.servers server, length-map t.nats nat, length-map t.clients client, length-map t.relays relay, length-map t.natives native) refl
+
+pub few : (t : TopologyState) → IsTopology t → length (nodes t) ≤ NODES_MAX
+few t rules =
+    let n = count t in
+    omega (arith, n, rules.servers, rules.nats, rules.clients, rules.relays, rules.natives)

@@ -1,0 +1,4 @@
+pub mod Rows
+pub mod Topology
+pub mod NodeNames
+pub mod Rules

@@ -1,0 +1,37 @@
+//! The nodes of a scenario: servers, NATs, clients, relays and native hosts, by their numbers.
+//!
+//! # What the layer above may rely on
+//!
+//! A `Topology` holds the rows of a scenario's nodes, by number, and keeps the rules of `specs/Rules.antt`: names and
+//! addresses differ, addresses are global, numbers are of nodes of the right kind.
+//!
+//! # What it does not know
+//!
+//! Events, datagrams, and what a node does.
+//!
+//! # Parts
+//!
+//! | module | holds | stated in |
+//! |---|---|---|
+//! | `server_node`, `nat_node`, `client_node`, `relay_node`, `native_node` | a row for each kind of node | |
+//! | `topology` | `Topology` | `specs/Rows.antt`, `Topology.antt`, `Rules.antt`, `NodeNames.antt` |
+#![tactic(auto)]
+
+mod client_node;
+mod nat_node;
+mod native_node;
+mod node;
+mod places;
+mod relay_node;
+mod server_node;
+mod topology;
+
+pub use client_node::{ClientNode, LEAST_REFRESH, MOST_REFRESH};
+pub use nat_node::{MOST_IDLE, NatNode};
+pub use native_node::NativeNode;
+pub use node::Node;
+pub use relay_node::RelayNode;
+pub use server_node::ServerNode;
+pub use topology::{
+    MOST_CLIENTS, MOST_NATIVES, MOST_NATS, MOST_RELAYS, MOST_SERVERS, NODES_MAX, Topology,
+};

@@ -1,0 +1,9 @@
+pub mod Scenes
+pub mod QualifyReports
+pub mod MeetingReports
+pub mod ConeReports
+pub mod RelayReports
+pub mod TryReports
+pub mod QueueTotals
+pub mod Late
+pub mod OwnStreams

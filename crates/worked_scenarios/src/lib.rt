@@ -1,0 +1,11 @@
+//! Worked scenarios: reports that are computed from the definitions of a legal history alone, and compared with texts
+//! that were written before any code. No code stands here: each is a theorem in proofs/, where both sides are the same
+//! once they are computed.
+//!
+//! | file of proofs/ | what is computed |
+//! |---|---|
+//! | `QualifyReports`, `OwnStreams` | clients behind each kind of NAT find their address, lose it, keep it |
+//! | `ConeReports`, `MeetingReports`, `TryReports`, `QueueTotals` | two clients meet, or don't |
+//! | `RelayReports` | a native host and a client, through a relay |
+//! | `Late` | single steps of a client at late moments, and the order of its random words |
+#![tactic(auto)]
