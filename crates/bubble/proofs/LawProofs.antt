@@ -14,13 +14,13 @@ use Rattle.ipv6_packet.specs.Reads.{is_big}
 use Rattle.ipv6_packet.proofs.PacketLaws.{packet_found}
 use Rattle.ipv6_packet.proofs.LawProofs.{packet_is_bytes}
 use Rattle.icmp6.specs.Message.{Message, message_at}
-use Rattle.icmp6.specs.Writing.{message_bytes}
+use Rattle.icmp6.specs.Layout.{message_bytes}
 use Rattle.icmp6.specs.declared.fault.IcmpFault.{IcmpFault}
 use Rattle.icmp6.proofs.AgainLaws.{written_again as message_again, length-message_bytes}
 use Rattle.indications.specs.Blocks.{indications_bytes, indications_len, blocks_bytes}
 use Rattle.indications.proofs.LawProofs.{lead_is_bytes}
 use Rattle.bubble.specs.declared.fault.PayloadFault.{PayloadFault}
-use Rattle.bubble.specs.Payloads.{Value, PayloadBytes, payload_at, written}
+use Rattle.bubble.specs.Payloads.{Value, PayloadBytes, payload_at, value_written}
 use Rattle.bubble.specs.Bubbles.{is_bubble, bubble_of, bubble_bytes}
 use Rattle.bubble.specs.Reads.{is_payload, value_in, payload_bytes}
 use Rattle.bubble.specs.Messages.{message_in, is_ill_formed, message_packet, accepted}
@@ -45,7 +45,7 @@ pub payload_is_spelled : PayloadIsSpelled
 payload_is_spelled x fits is = let s = seen_payload x fits is in record { spelled = s; packet = behind_lead (value_in x) x s }
 
 pub payload_reads_back : PayloadReadsBack
-payload_reads_back nonce ep p may = reads (payload_bytes nonce ep p) (written nonce ep p) (written_again nonce ep p may)
+payload_reads_back nonce ep p may = reads (payload_bytes nonce ep p) (value_written nonce ep p) (written_again nonce ep p may)
 
 pub payload_is_bytes : PayloadIsBytes
 payload_is_bytes nonce ep p may = record {
@@ -58,7 +58,7 @@ packet_is_payload x p fits short e =
     let found = packet_found x p fits e in
     let len : length x ≡ HEADER + length p.body = ap length found.1 ∙ (packet_is_bytes p found.0).long in
     let may : MayBeSent None None p = record { given = record { nonce_fits = tt; origin_fits = tt }; packet = found.0; short = omega (arith, len, short) } in
-    subst (λ (y : List ℕ). ReadsPayload (written None None p) y) (sym found.1) (payload_reads_back None None p may)
+    subst (λ (y : List ℕ). ReadsPayload (value_written None None p) y) (sym found.1) (payload_reads_back None None p may)
 
 -- a packet that isn't big leaves room for an origin
 not_big : (p : Fields) → is_big p ≡ false → HEADER + length p.body ≤ 1280
@@ -78,7 +78,7 @@ packet_goes_on x v ep fits e big ep_fits =
       short = omega (arith, not_big v.packet big, origin_short ep);
     } in
     let same : indications_bytes None ep ++ drop v.lead.at x ≡ payload_bytes None ep v.packet = ap (λ (t : List ℕ). indications_bytes None ep ++ t) (behind_lead v x found) in
-    subst (λ (y : List ℕ). ReadsPayload (written None ep v.packet) y) (sym same) (payload_reads_back None ep v.packet may)
+    subst (λ (y : List ℕ). ReadsPayload (value_written None ep v.packet) y) (sym same) (payload_reads_back None ep v.packet may)
 
 is_one : (src dst : Ip6) → is_bubble (bubble_of src dst) ≡ true
 unfolding is_bubble

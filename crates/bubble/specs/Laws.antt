@@ -9,12 +9,12 @@ use Rattle.ipv6_packet.specs.declared.header.TheConstants.{HEADER}
 use Rattle.ipv6_packet.specs.Packets.{Fields, IsPacket, packet_bytes, packet_at}
 use Rattle.ipv6_packet.specs.Reads.{is_big}
 use Rattle.icmp6.specs.Message.{Message}
-use Rattle.icmp6.specs.Writing.{message_len}
-use Rattle.icmp6.specs.Grammar.{Fits, IsValid}
+use Rattle.icmp6.specs.Layout.{message_len}
+use Rattle.icmp6.specs.Grammar.{MessageFits, IsValid}
 use Rattle.indications.specs.Blocks.{indications_bytes, indications_len}
 use Rattle.indications.specs.Laws.{MayBeGiven}
-use Rattle.bubble.specs.declared.parts.TheConstants.{MAX_DATAGRAM}
-use Rattle.bubble.specs.Payloads.{Value, PayloadBytes, payload_at, written}
+use Rattle.td_base.specs.declared.datagram.TheConstants.{DATAGRAM_MAX}
+use Rattle.bubble.specs.Payloads.{Value, PayloadBytes, payload_at, value_written}
 use Rattle.bubble.specs.Bubbles.{is_bubble, bubble_of, bubble_bytes}
 use Rattle.bubble.specs.Reads.{is_payload, value_in, payload_bytes}
 use Rattle.bubble.specs.Messages.{message_in, is_ill_formed, message_packet}
@@ -43,11 +43,11 @@ PayloadIsSpelled = (x : List ℕ) → IsBytes x → is_payload x ≡ true → Is
 pub record MayBeSent (nonce : Option ℕ) (ep : Option Ep) (p : Fields) : Type 0 where
   pub given : MayBeGiven nonce ep
   pub packet : IsPacket p
-  pub short : indications_len nonce ep + HEADER + length p.body ≤ MAX_DATAGRAM
+  pub short : indications_len nonce ep + HEADER + length p.body ≤ DATAGRAM_MAX
 
 -- it reads back
 abbrev pub PayloadReadsBack : Type 0
-PayloadReadsBack = (nonce : Option ℕ) (ep : Option Ep) (p : Fields) → MayBeSent nonce ep p → ReadsPayload (written nonce ep p) (payload_bytes nonce ep p)
+PayloadReadsBack = (nonce : Option ℕ) (ep : Option Ep) (p : Fields) → MayBeSent nonce ep p → ReadsPayload (value_written nonce ep p) (payload_bytes nonce ep p)
 
 -- so many bytes, which are bytes where the body is
 pub record IsPayloadLong (nonce : Option ℕ) (ep : Option Ep) (p : Fields) (x : List ℕ) : Type 0 where
@@ -61,16 +61,16 @@ PayloadIsBytes = (nonce : Option ℕ) (ep : Option Ep) (p : Fields) → MayBeSen
 
 -- a packet that isn't too long is a payload with nothing in front
 abbrev pub PacketIsPayload : Type 0
-PacketIsPayload = (x : List ℕ) (p : Fields) → IsBytes x → length x ≤ MAX_DATAGRAM → packet_at x ≡ Ok p → ReadsPayload (written None None p) x
+PacketIsPayload = (x : List ℕ) (p : Fields) → IsBytes x → length x ≤ DATAGRAM_MAX → packet_at x ≡ Ok p → ReadsPayload (value_written None None p) x
 
 -- a payload's packet that goes on, with an origin in front or without one
 abbrev pub PacketGoesOn : Type 0
 PacketGoesOn = (x : List ℕ) (v : Value) (ep : Option Ep) → IsBytes x → payload_at x ≡ Ok v → is_big v.packet ≡ false → IfSome ep IsEp
-    → ReadsPayload (written None ep v.packet) (indications_bytes None ep ++ drop v.lead.at x)
+    → ReadsPayload (value_written None ep v.packet) (indications_bytes None ep ++ drop v.lead.at x)
 
 -- a bubble that is made here
 pub record ReadsBubble (src dst : Ip6) (x : List ℕ) : Type 0 where
-  pub payload : ReadsPayload (written None None (bubble_of src dst)) x
+  pub payload : ReadsPayload (value_written None None (bubble_of src dst)) x
   pub bubble : is_bubble (bubble_of src dst) ≡ true
   pub long : length x ≡ HEADER
   pub bytes : IsBytes x
@@ -85,12 +85,12 @@ pub record MayBeCarried (hop : ℕ) (src dst : Ip6) (m : Message) : Type 0 where
   pub hop_fits : hop < 2 ^ 8
   pub src_fits : IsIp6 src
   pub dst_fits : IsIp6 dst
-  pub fits : Fits m
+  pub fits : MessageFits m
   pub valid : IsValid src hop m
   pub short : message_len m < 2 ^ 16
 
 -- the packet p carries it
-pub record Carries (m : Message) (p : Fields) : Type 0 where
+pub record CarriesMessage (m : Message) (p : Fields) : Type 0 where
   pub packet : IsPacket p
   pub message : message_in p ≡ Some m
   pub well_formed : is_ill_formed p ≡ false
@@ -98,4 +98,4 @@ pub record Carries (m : Message) (p : Fields) : Type 0 where
   pub long : length p.body ≡ message_len m
 
 abbrev pub MessageIsCarried : Type 0
-MessageIsCarried = (hop : ℕ) (src dst : Ip6) (m : Message) → MayBeCarried hop src dst m → Carries m (message_packet hop src dst m)
+MessageIsCarried = (hop : ℕ) (src dst : Ip6) (m : Message) → MayBeCarried hop src dst m → CarriesMessage m (message_packet hop src dst m)

@@ -21,7 +21,7 @@ pub fn payload_is_bytes()
     ensures { PayloadIsBytes }
 {}
 
-/// A packet of at most `MAX_DATAGRAM` bytes is a payload with nothing in front.
+/// A packet of at most `DATAGRAM_MAX` bytes is a payload with nothing in front.
 pub fn packet_is_payload()
     ensures { PacketIsPayload }
 {}

@@ -1,7 +1,7 @@
 //! The ICMPv6 message of a packet.
 ghost use Rattle.std.specs.Prelude.{◌≡◌, ◌≤◌, length};
 ghost use Rattle.ipv6_packet.specs.Packets.{view as packet_view};
-ghost use Rattle.bubble.specs.declared.parts.TheConstants.{MAX_DATAGRAM};
+ghost use Rattle.td_base.specs.declared.datagram.TheConstants.{DATAGRAM_MAX};
 ghost use Rattle.bubble.specs.Messages.{IsMessageOf, is_ill_formed};
 
 use icmp6::Msg;
@@ -11,7 +11,7 @@ use ipv6_packet::{NEXT_ICMP, Packet};
 #[inline(always)]
 #[tactic(auto, unfolding(crate::specs::Messages::message_in))]
 pub fn message_of<'a>(packet: &Packet<'a>) -> Option<Msg<'a>>
-    requires { length packet.now.body.now ≤ MAX_DATAGRAM }
+    requires { length packet.now.body.now ≤ DATAGRAM_MAX }
     ensures { IsMessageOf (packet_view packet.now) result }
 {
     if packet.next != NEXT_ICMP {

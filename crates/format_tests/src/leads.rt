@@ -30,7 +30,10 @@ fn both_blocks(rt: HostRuntime) -> Result<(), Fail> {
     hex::decode_to_slice(BOTH, &mut bytes).ok().ok_or("hex")?;
     let lead = read(&bytes).ok().ok_or("a lead")?;
     let auth = lead.auth.ok_or("an authentication")?;
-    assert_eq!(rt; (auth.nonce, auth.confirmation, lead.at), (0x0102_0304_0506_0708, 0, 21));
+    assert_eq!(rt;
+        (auth.nonce, auth.confirmation, lead.at),
+        (0x0102_0304_0506_0708, 0, 21)
+    );
     assert!(rt; lead.origin == Some(Origin { ep: HOST }));
     let mut out = [0u8; 21];
     assert_eq!(rt; write(Some(auth.nonce), Some(HOST), &mut out), Ok(21));

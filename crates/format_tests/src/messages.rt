@@ -52,14 +52,35 @@ fn each_fault_of_a_message(rt: HostRuntime) {
         (fault(HOST_LINK, 255, &[]), short(0)),
         (fault(HOST_LINK, 255, &[0x85, 0, 0]), short(3)),
         (fault(HOST_LINK, 64, &[0x80, 0, 0x48, 0xb7]), short(4)),
-        (fault(HOST_LINK, 64, &[0x81, 0, 0x47, 0xb4, 0, 0, 0]), short(7)),
-        (fault(SERVER_LINK, 64, &[0x86, 0, 0xcc, 0x10, 0, 0, 0, 0]), short(8)),
-        (fault(HOST_LINK, 64, &[0x80, 0, 0, 0, 0x48, 0xb2, 0, 1]), None),
-        (fault(HOST_LINK, 64, &[0x80, 0, 0xff, 0xff, 0x48, 0xb2, 0, 1]), sum),
+        (
+            fault(HOST_LINK, 64, &[0x81, 0, 0x47, 0xb4, 0, 0, 0]),
+            short(7),
+        ),
+        (
+            fault(SERVER_LINK, 64, &[0x86, 0, 0xcc, 0x10, 0, 0, 0, 0]),
+            short(8),
+        ),
+        (
+            fault(HOST_LINK, 64, &[0x80, 0, 0, 0, 0x48, 0xb2, 0, 1]),
+            None,
+        ),
+        (
+            fault(HOST_LINK, 64, &[0x80, 0, 0xff, 0xff, 0x48, 0xb2, 0, 1]),
+            sum,
+        ),
         (fault(HOST_LINK, 254, &SOLICITATION), hop),
-        (fault(HOST_LINK, 254, &[0x85, 1, 0x43, 0xb2, 0, 0, 0, 0]), hop),
-        (fault(HOST_LINK, 255, &[0x85, 1, 0x43, 0xb2, 0, 0, 0, 0]), code),
-        (fault(HOST_LINK, 64, &[0x80, 1, 0x48, 0xaf, 0, 1, 0, 2]), code),
+        (
+            fault(HOST_LINK, 254, &[0x85, 1, 0x43, 0xb2, 0, 0, 0, 0]),
+            hop,
+        ),
+        (
+            fault(HOST_LINK, 255, &[0x85, 1, 0x43, 0xb2, 0, 0, 0, 0]),
+            code,
+        ),
+        (
+            fault(HOST_LINK, 64, &[0x80, 1, 0x48, 0xaf, 0, 1, 0, 2]),
+            code,
+        ),
         (fault(GLOBAL, 255, &advert), Some(IcmpFault::Source)),
     ] {
         assert_eq!(rt; found, want);
@@ -145,7 +166,12 @@ fn front(bytes: &[u8]) -> &[u8] {
 
 #[test]
 fn advertisement(rt: HostRuntime) {
-    let Ok(Msg::RouterAdvert { options: lent, .. }) = read(SERVER_LINK, HOST_LINK, 255, &ADVERTISEMENT) else {
+    let Ok(Msg::RouterAdvert { options: lent, .. }) = read(
+        SERVER_LINK,
+        HOST_LINK,
+        255,
+        &ADVERTISEMENT,
+    ) else {
         panic!(rt; "no advertisement");
     };
     let mut given = options(lent);

@@ -109,7 +109,10 @@ fn ipv6_texts_as_rfc_5952_prints_them(rt: HostRuntime) -> Result<(), Fail> {
         let ip = read_ip6(text.as_bytes()).ok().ok_or("an address")?;
         let mut line = LineBuf::new();
         let is_printed = print_ip6(ip, &mut line).is_ok();
-        assert!(rt; is_printed && line.as_slice() == want.as_bytes(), "at {text}");
+        assert!(rt;
+            is_printed && line.as_slice() == want.as_bytes(),
+            "at {text}"
+        );
     }
     let read = read_ip6(b"2001:0:4136:e378:8000:63bf:3fff:fdd2");
     assert!(rt; matches!(read, Ok(ip) if ip == CLIENT));
@@ -139,7 +142,11 @@ fn names(rt: HostRuntime) -> Result<(), Fail> {
     let name = Name::new(b"client_a").ok_or("a name")?;
     assert_eq!(rt; name.as_slice(), b"client_a".as_slice());
     assert!(rt; Name::new(b"client_a") == Some(name) && Name::new(b"client_b") != Some(name));
-    for (text, is_name) in [("0123456789abcdef", true), ("0123456789abcdefg", false), ("", false)] {
+    for (text, is_name) in [
+        ("0123456789abcdef", true),
+        ("0123456789abcdefg", false),
+        ("", false),
+    ] {
         assert_eq!(rt; Name::new(text.as_bytes()).is_some(), is_name, "at {text}");
     }
     Ok(())
@@ -156,7 +163,10 @@ fn sums(rt: HostRuntime) {
         (ones_sum(&example, 0), 0xddf2),
         (ones_sum(&header, 0), 0x479e),
         (ones_sum(&[1], 0), 0x0100),
-        (ones_sum(&[0, 1, 0xf2, 3, 0xf4, 0xf5, 0xf6, 0xf7, 1], 0), 0xdef2),
+        (
+            ones_sum(&[0, 1, 0xf2, 3, 0xf4, 0xf5, 0xf6, 0xf7, 1], 0),
+            0xdef2,
+        ),
         (ones_sum(&[0xff; 9], 0), 0xff00),
         (ones_sum(&[0xff; 64], 0), 0xffff),
         (ones_sum(&[], 0x1_0001), 2),

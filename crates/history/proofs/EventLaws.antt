@@ -14,7 +14,7 @@ use Rattle.hex.proofs.HexLemmas.{decode_of-ok}
 use Rattle.td_base.specs.Bytes.{IsBytes}
 use Rattle.history.proofs.Addresses.{ep_of-sound}
 use Rattle.history.proofs.Ip6WordLemmas.{ip6_of-sound}
-use Rattle.td_base.specs.Reading.{◌>>=◌}
+use Rattle.td_base.specs.Results.{◌>>=◌}
 use Rattle.history.specs.declared.event.Event.{Event}
 use Rattle.history.specs.declared.event.Event.TheVariants as event
 use Rattle.history.specs.declared.event.TheConstants.{MOST_ADVANCE, MOST_NUMBER, MOST_SEQUENCE, MOST_BODY, MOST_BYTES}

@@ -6,7 +6,7 @@ use Rattle.std.proofs.Math.Bool.{and-false}
 use Rattle.std.proofs.lemmas.Bool.{and_from, and_parts, or_parts, false≢true}
 use Rattle.std.proofs.lemmas.Bool.Decides.{eqb_tells}
 use Rattle.hex.specs.Hex.{IsBytes}
-use Rattle.td_base.specs.Reading.{◌>>=◌}
+use Rattle.td_base.specs.Results.{◌>>=◌}
 use Rattle.td_base.specs.Names.{name_text, same_name}
 use Rattle.td_base.specs.declared.node_name.Name.{Name}
 use Rattle.td_base.specs.declared.endpoint.Ep.{Ep}

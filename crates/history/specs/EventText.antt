@@ -1,6 +1,6 @@
 -- The event that a text asks for, or the place of the fault.
 use Rattle.std.specs.Prelude.{ℕ, ◌+◌, List, [], ◌∷◌, length, Option, Some, None, Result, Ok, Err}
-use Rattle.td_base.specs.Reading.{◌>>=◌}
+use Rattle.td_base.specs.Results.{◌>>=◌}
 use Rattle.history.specs.declared.event.Event.{Event}
 use Rattle.history.specs.declared.event.Event.TheVariants as event
 use Rattle.history.specs.declared.event.TheConstants.{MOST_ADVANCE, MOST_NUMBER, MOST_SEQUENCE, MOST_BODY, MOST_BYTES}

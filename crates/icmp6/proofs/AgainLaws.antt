@@ -11,8 +11,8 @@ use Rattle.icmp6.specs.declared.fault.IcmpFault.{IcmpFault}
 use Rattle.icmp6.specs.Checksum.{checksum_of}
 use Rattle.icmp6.specs.Options.{AreOptions, whole_options}
 use Rattle.icmp6.specs.Message.{Message, echo_request, echo_reply, router_solicit, router_advert, other, has_len, has_hop, has_code, has_source, echo_request_at, echo_reply_at, solicit_at, advert_at, message_at}
-use Rattle.icmp6.specs.Writing.{layout, message_bytes, message_len}
-use Rattle.icmp6.specs.Grammar.{Fits, IsOfRouter, IsValid, MessageBytes}
+use Rattle.icmp6.specs.Layout.{layout, message_bytes, message_len}
+use Rattle.icmp6.specs.Grammar.{MessageFits, IsOfRouter, IsValid, MessageBytes}
 use Rattle.icmp6.proofs.Steps.{past, len_ok, hop_ok, code_ok, source_ok}
 use Rattle.icmp6.proofs.OptionLaws.{options_again}
 
@@ -79,7 +79,7 @@ other_again : (src : Ip6) (sum hop kind code : ℕ) (rest : List ℕ) → kind �
 other_again src sum hop kind code rest a b c d =
     cond-false _ _ _ (ne_eqb kind 128 a) ∙ cond-false _ _ _ (ne_eqb kind 129 b) ∙ cond-false _ _ _ (ne_eqb kind 133 c) ∙ cond-false _ _ _ (ne_eqb kind 134 d)
 
-typed_again : (src : Ip6) (sum reserved hop : ℕ) (m : Message) → Fits m → IsValid src hop m → typed src hop (layout sum reserved m) ≡ Ok m
+typed_again : (src : Ip6) (sum reserved hop : ℕ) (m : Message) → MessageFits m → IsValid src hop m → typed src hop (layout sum reserved m) ≡ Ok m
 typed_again src sum reserved hop (echo_request id seq body) fits valid = echo_request_again sum id seq body fits.0 fits.1
 typed_again src sum reserved hop (echo_reply id seq body) fits valid = echo_reply_again sum id seq body fits.0 fits.1
 typed_again src sum reserved hop (router_solicit options) fits valid = solicit_again sum reserved hop options valid
@@ -133,14 +133,14 @@ checksum_same src dst sum reserved (router_advert own_hop flags life reach retra
 checksum_same src dst sum reserved (other kind code rest) = refl
 
 -- what is written is a message
-pub written_is : (src dst : Ip6) (hop : ℕ) (m : Message) → Fits m → IsValid src hop m → MessageBytes src dst hop m (message_bytes src dst m)
+pub written_is : (src dst : Ip6) (hop : ℕ) (m : Message) → MessageFits m → IsValid src hop m → MessageBytes src dst hop m (message_bytes src dst m)
 unfolding message_bytes
 written_is src dst hop m fits valid =
     let sum : ℕ = checksum_of src dst (layout 0 0 m) in
     record { fits = fits; valid = valid; reserved = 0; reserved_fits = omega arith; bytes = ap (λ (n : ℕ). layout n 0 m) (checksum_same src dst sum 0 m) }
 
 -- what is written reads back
-pub written_again : (src dst : Ip6) (hop : ℕ) (m : Message) → Fits m → IsValid src hop m → message_at src dst hop (message_bytes src dst m) ≡ Ok m
+pub written_again : (src dst : Ip6) (hop : ℕ) (m : Message) → MessageFits m → IsValid src hop m → message_at src dst hop (message_bytes src dst m) ≡ Ok m
 written_again src dst hop m fits valid = read_again src dst hop m (message_bytes src dst m) (written_is src dst hop m fits valid)
 
 pub length-message_bytes : (src dst : Ip6) (m : Message) → length (message_bytes src dst m) ≡ message_len m

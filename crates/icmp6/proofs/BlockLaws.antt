@@ -6,7 +6,7 @@ use Rattle.std.proofs.lemmas.Bool.{lt-ltb, cond-true}
 use Rattle.std.proofs.lemmas.List.{drop-drop, drop_at, take_at, length-take, length-drop}
 use Rattle.icmp6.specs.declared.fault.IcmpFault.{IcmpFault}
 use Rattle.icmp6.specs.declared.fault.IcmpFault.TheVariants.{OptionCut, OptionZero}
-use Rattle.icmp6.specs.Options.{IsOption, joined, option_len}
+use Rattle.icmp6.specs.Options.{IsOption, joined_blocks, option_len}
 use Rattle.icmp6.specs.Blocks.{option_of, options_of, if_whole, blocks_at, options_at}
 use Rattle.icmp6.proofs.OptionLaws.{option_found, option_again, block_is, whole_front}
 
@@ -59,23 +59,23 @@ options_go_on place len x is =
 
 -- ---- all options
 
-same_blocks : (n place : ℕ) (blocks : List (List ℕ)) (x : List ℕ) → AllByRecursion IsOption blocks → place ≤ length x → length x ≤ place + n → drop place x ≡ joined blocks → blocks_at n place x ≡ blocks
+same_blocks : (n place : ℕ) (blocks : List (List ℕ)) (x : List ℕ) → AllByRecursion IsOption blocks → place ≤ length x → length x ≤ place + n → drop place x ≡ joined_blocks blocks → blocks_at n place x ≡ blocks
 same_blocks n place [] x each inside some e =
     let none : length (drop place x) ≡ 0 = ap length e in
     no_blocks n place (OptionCut place) x (past_end place x (omega (arith, length-drop place x, none)))
 same_blocks zero place (b ∷ blocks) x each inside some e =
-    let whole = whole_front place b (joined blocks) x inside e each.0 in
+    let whole = whole_front place b (joined_blocks blocks) x inside e each.0 in
     absurd (omega (arith, whole.some, whole.fits))
 same_blocks (suc n) place (b ∷ blocks) x each inside some e =
-    let whole = whole_front place b (joined blocks) x inside e each.0 in
-    let first : take (length b) (drop place x) ≡ b = ap (take (length b)) e ∙ take_at b (joined blocks) (length b) refl in
-    let rest : drop (place + length b) x ≡ joined blocks = sym (drop-drop (length b) place x) ∙ ap (drop (length b)) e ∙ drop_at b (joined blocks) (length b) refl in
+    let whole = whole_front place b (joined_blocks blocks) x inside e each.0 in
+    let first : take (length b) (drop place x) ≡ b = ap (take (length b)) e ∙ take_at b (joined_blocks blocks) (length b) refl in
+    let rest : drop (place + length b) x ≡ joined_blocks blocks = sym (drop-drop (length b) place x) ∙ ap (drop (length b)) e ∙ drop_at b (joined_blocks blocks) (length b) refl in
     one_block n place (length b) x (option_again place (length b) x whole)
     ∙ ap (λ (t : List ℕ). t ∷ blocks_at n (place + length b) x) first
     ∙ ap (λ (bs : List (List ℕ)). b ∷ bs) (same_blocks n (place + length b) blocks x each.1 whole.fits (omega (arith, whole.some)) rest)
 
 -- whichever blocks the bytes are, their options are given
-pub all_options : (blocks : List (List ℕ)) (x : List ℕ) → AllByRecursion IsOption blocks → x ≡ joined blocks → options_at 0 x ≡ options_of 0 blocks
+pub all_options : (blocks : List (List ℕ)) (x : List ℕ) → AllByRecursion IsOption blocks → x ≡ joined_blocks blocks → options_at 0 x ≡ options_of 0 blocks
 unfolding options_at
 all_options blocks x each is = ap (options_of 0) (same_blocks (length x) 0 blocks x each (omega arith) (omega arith) is)
 

@@ -4,7 +4,7 @@ use Rattle.std.specs.Prelude.{slice_index, IsTrue, IfErr}
 use Rattle.std.proofs.lemmas.Bool.{ltb-true, ltb-false, leb-false, eqb-true, eqb-false, not-true, not-false}
 use Rattle.std.proofs.lemmas.List.{get_or-take, length-take}
 use Rattle.td_base.specs.Bytes.{number_at}
-use Rattle.td_base.specs.Reading.{◌>>=◌, Gives}
+use Rattle.td_base.specs.Results.{◌>>=◌, Gives}
 use Rattle.td_base.specs.Reach.{is_link_local}
 use Rattle.td_base.specs.declared.ipv6.Ip6.{Ip6}
 use Rattle.td_base.proofs.ResultLaws.{guard_err, chosen}

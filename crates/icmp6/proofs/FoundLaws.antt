@@ -6,7 +6,7 @@ use Rattle.std.proofs.lemmas.List.{drop_more}
 use Rattle.byteorder.specs.Endian.{big_bytes}
 use Rattle.byteorder.specs.Numbers.{big_from-lt}
 use Rattle.td_base.specs.Bytes.{IsBytes, number_at}
-use Rattle.td_base.specs.Reading.{◌>>=◌, Gives}
+use Rattle.td_base.specs.Results.{◌>>=◌, Gives}
 use Rattle.td_base.specs.declared.ipv6.Ip6.{Ip6}
 use Rattle.td_base.proofs.BytesLemmas.{IsBytes-drop, cut_2, cut_4}
 use Rattle.td_base.proofs.ResultLaws.{guard_ok, bind_ok, chosen}
@@ -15,7 +15,7 @@ use Rattle.icmp6.specs.declared.fault.IcmpFault.TheVariants.{Short, Sum}
 use Rattle.icmp6.specs.Checksum.{checksum_of}
 use Rattle.icmp6.specs.Options.{AreOptions, whole_options}
 use Rattle.icmp6.specs.Message.{Message, options_in, echo_request, echo_reply, router_solicit, router_advert, other, has_len, has_hop, has_code, has_source, echo_request_at, echo_reply_at, solicit_at, advert_at, message_at}
-use Rattle.icmp6.specs.Writing.{layout}
+use Rattle.icmp6.specs.Layout.{layout}
 use Rattle.icmp6.specs.Grammar.{MessageBytes}
 use Rattle.icmp6.proofs.Steps.{ok_is, ok_len, ok_hop, ok_code, ok_source}
 use Rattle.icmp6.proofs.OptionLaws.{none_left, options_found}

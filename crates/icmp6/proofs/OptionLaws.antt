@@ -4,12 +4,12 @@ use Rattle.std.specs.Prelude.{slice_index}
 use Rattle.std.specs.List.{AllByRecursion}
 use Rattle.std.proofs.lemmas.Bool.{ltb-false, leb-true, eqb-false, le-ltb, le-leb, lt-leb, ne_eqb, cond-false, cond-true}
 use Rattle.std.proofs.lemmas.List.{drop_all, drop-drop, drop_at, get_or-drop, get_or-take, get_or_append_left, length-take, length-drop, length-append}
-use Rattle.td_base.specs.Reading.{◌>>=◌}
+use Rattle.td_base.specs.Results.{◌>>=◌}
 use Rattle.td_base.proofs.BytesLemmas.{cut}
 use Rattle.td_base.proofs.ResultLaws.{guard_ok, bind_ok, chosen}
 use Rattle.icmp6.specs.declared.fault.IcmpFault.{IcmpFault}
 use Rattle.icmp6.specs.declared.fault.IcmpFault.TheVariants.{OptionCut, OptionZero}
-use Rattle.icmp6.specs.Options.{IsOption, joined, AreOptions, option_len, whole_options}
+use Rattle.icmp6.specs.Options.{IsOption, joined_blocks, AreOptions, option_len, whole_options}
 use Rattle.icmp6.proofs.Steps.{ok_is, then_ok}
 
 -- ---- one option
@@ -76,7 +76,7 @@ whole_front place b rest x inside e is =
     let size : length x - place ≡ length b + length rest = sym (length-drop place x) ∙ ap length e ∙ length-append b rest in
     record { len_is = omega (arith, is.whole, byte); some = omega (arith, is.some, is.whole); fits = omega (arith, size, inside) }
 
-pub options_again : (n place : ℕ) (blocks : List (List ℕ)) (x : List ℕ) → AllByRecursion IsOption blocks → place ≤ length x → drop place x ≡ joined blocks → whole_options n place x ≡ Ok tt
+pub options_again : (n place : ℕ) (blocks : List (List ℕ)) (x : List ℕ) → AllByRecursion IsOption blocks → place ≤ length x → drop place x ≡ joined_blocks blocks → whole_options n place x ≡ Ok tt
 unfolding whole_options
 options_again zero place blocks x each inside e = refl
 options_again (suc n) place [] x each inside e =
@@ -84,8 +84,8 @@ options_again (suc n) place [] x each inside e =
     let past : length x ≤ place = omega (arith, length-drop place x, none) in
     cond-true (leb (length x) place) (Ok tt) (option_len place x >>= λ len. whole_options n (place + len) x) (le-leb _ _ past)
 options_again (suc n) place (b ∷ blocks) x each inside e =
-    let whole = whole_front place b (joined blocks) x inside e each.0 in
-    let rest : drop (place + length b) x ≡ joined blocks = sym (drop-drop (length b) place x) ∙ ap (drop (length b)) e ∙ drop_at b (joined blocks) (length b) refl in
+    let whole = whole_front place b (joined_blocks blocks) x inside e each.0 in
+    let rest : drop (place + length b) x ≡ joined_blocks blocks = sym (drop-drop (length b) place x) ∙ ap (drop (length b)) e ∙ drop_at b (joined_blocks blocks) (length b) refl in
     let more : place < length x = omega (arith, whole.some, whole.fits) in
     cond-false (leb (length x) place) (Ok tt) (option_len place x >>= λ len. whole_options n (place + len) x) (lt-leb _ _ more)
     ∙ then_ok (option_len place x) (length b) (λ len. whole_options n (place + len) x) (Ok tt) (option_again place (length b) x whole) (options_again n (place + length b) blocks x each.1 whole.fits rest)

@@ -2,7 +2,7 @@
 use Rattle.std.proofs.Common.{◌≡◌, true, false, Bool, cond, ltb, eqb, ℕ, ◌≤◌, List, length, Result, Ok, Err, refl, ap, ◌∙◌}
 use Rattle.std.specs.Prelude.{slice_index}
 use Rattle.std.proofs.lemmas.Bool.{le-ltb, ltb-false, eq-eqb, eqb-true, cond-false, cond-true}
-use Rattle.td_base.specs.Reading.{◌>>=◌}
+use Rattle.td_base.specs.Results.{◌>>=◌}
 use Rattle.td_base.specs.Reach.{is_link_local}
 use Rattle.td_base.specs.declared.ipv6.Ip6.{Ip6}
 use Rattle.td_base.proofs.ResultLaws.{guard_ok}

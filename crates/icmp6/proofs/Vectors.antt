@@ -2,12 +2,12 @@
 use Rattle.std.proofs.Common.{◌≡◌, ℕ, List, [], ◌∷◌, ◌++◌, Ok, refl}
 use Rattle.td_base.specs.Reach.{is_link_local}
 use Rattle.td_base.specs.declared.ipv6.Ip6.{Ip6}
-use Rattle.icmp6.specs.declared.block.Opt.TheVariants.{Prefix, Mtu}
+use Rattle.icmp6.specs.declared.opt.Opt.TheVariants.{Prefix, Mtu}
 use Rattle.icmp6.specs.Checksum.{checksum_of}
 use Rattle.icmp6.specs.Options.{option_len, whole_options}
 use Rattle.icmp6.specs.Message.{router_solicit, router_advert, solicit_at, advert_at, message_at}
 use Rattle.icmp6.specs.Blocks.{options_at}
-use Rattle.icmp6.specs.Writing.{message_bytes}
+use Rattle.icmp6.specs.Layout.{message_bytes}
 
 abbrev address : List ℕ → Ip6
 address bytes = record { 0 = bytes }

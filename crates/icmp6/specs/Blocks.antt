@@ -2,8 +2,8 @@
 use Rattle.std.specs.Prelude.{ℕ, zero, suc, ◌+◌, List, [], ◌∷◌, length, take, drop, slice_index, Result, Ok, Err, ◌==◌, ◌&&◌, if◌then◌else◌}
 use Rattle.td_base.specs.Bytes.{number_at}
 use Rattle.icmp6.specs.declared.fault.IcmpFault.{IcmpFault}
-use Rattle.icmp6.specs.declared.block.Opt.{Opt}
-use Rattle.icmp6.specs.declared.block.Opt.TheVariants.{Prefix, Mtu, Other}
+use Rattle.icmp6.specs.declared.opt.Opt.{Opt}
+use Rattle.icmp6.specs.declared.opt.Opt.TheVariants.{Prefix, Mtu, Other}
 use Rattle.icmp6.specs.declared.iter.Options.{Options}
 use Rattle.icmp6.specs.declared.numbers.TheConstants.{PREFIX_INFORMATION, PREFIX_UNITS, MTU_OPTION, MTU_UNITS}
 use Rattle.icmp6.specs.Options.{option_len}

@@ -6,15 +6,15 @@ use Rattle.icmp6.specs.declared.numbers.TheConstants.{ROUTER_HOP, ECHO_REQUEST, 
 use Rattle.icmp6.specs.Checksum.{checksum_of}
 use Rattle.icmp6.specs.Options.{AreOptions}
 use Rattle.icmp6.specs.Message.{Message, echo_request, echo_reply, router_solicit, router_advert, other}
-use Rattle.icmp6.specs.Writing.{layout}
+use Rattle.icmp6.specs.Layout.{layout}
 
 -- the numbers of a message fit their fields
-abbrev pub Fits : Message → Type 0
-Fits (echo_request id seq body) = (id < 2 ^ 16) × (seq < 2 ^ 16)
-Fits (echo_reply id seq body) = (id < 2 ^ 16) × (seq < 2 ^ 16)
-Fits (router_solicit options) = Unit {0}
-Fits (router_advert hop flags life reach retrans options) = (hop < 2 ^ 8) × (flags < 2 ^ 8) × (life < 2 ^ 16) × (reach < 2 ^ 32) × (retrans < 2 ^ 32)
-Fits (other kind code rest) = (kind < 2 ^ 8) × (code < 2 ^ 8)
+abbrev pub MessageFits : Message → Type 0
+MessageFits (echo_request id seq body) = (id < 2 ^ 16) × (seq < 2 ^ 16)
+MessageFits (echo_reply id seq body) = (id < 2 ^ 16) × (seq < 2 ^ 16)
+MessageFits (router_solicit options) = Unit {0}
+MessageFits (router_advert hop flags life reach retrans options) = (hop < 2 ^ 8) × (flags < 2 ^ 8) × (life < 2 ^ 16) × (reach < 2 ^ 32) × (retrans < 2 ^ 32)
+MessageFits (other kind code rest) = (kind < 2 ^ 8) × (code < 2 ^ 8)
 
 -- a router's message comes with hop limit 255 and has whole options
 pub record IsOfRouter (hop : ℕ) (options : List ℕ) : Type 0 where
@@ -32,7 +32,7 @@ IsValid src hop (other kind code rest) = (kind ≢ ECHO_REQUEST) × (kind ≢ EC
 -- X is a message that came from src to dst with a hop limit. Its checksum field is the very checksum; the
 -- reserved field of a solicitation is free.
 pub record MessageBytes (src dst : Ip6) (hop : ℕ) (m : Message) (x : List ℕ) : Type 0 where
-  pub fits : Fits m
+  pub fits : MessageFits m
   pub valid : IsValid src hop m
   pub reserved : ℕ
   pub reserved_fits : reserved < 2 ^ 32

@@ -1,7 +1,7 @@
 -- Messages as lists of bytes, with the first fault that is met: RFC 4443, RFC 4861.
 use Rattle.std.specs.Prelude.{ℕ, List, [], length, drop, slice_index, Result, Ok, Err, nat_lt, not, ◌==◌, if◌then◌else◌}
 use Rattle.td_base.specs.Bytes.{number_at}
-use Rattle.td_base.specs.Reading.{◌>>=◌}
+use Rattle.td_base.specs.Results.{◌>>=◌}
 use Rattle.td_base.specs.Reach.{is_link_local}
 use Rattle.td_base.specs.declared.ipv6.Ip6.{Ip6}
 use Rattle.icmp6.specs.declared.message.Msg.{Msg}

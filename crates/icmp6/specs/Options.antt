@@ -1,7 +1,7 @@
 -- Options of router messages: RFC 4861, section 4.6.
 use Rattle.std.specs.Prelude.{◌≡◌, ℕ, zero, suc, ◌+◌, ◌*◌, ◌<◌, List, [], ◌∷◌, ◌++◌, length, slice_index, Result, Ok, Err, nat_lt, nat_le, ◌==◌, if◌then◌else◌}
 use Rattle.std.specs.List.{AllByRecursion}
-use Rattle.td_base.specs.Reading.{◌>>=◌}
+use Rattle.td_base.specs.Results.{◌>>=◌}
 use Rattle.icmp6.specs.declared.fault.IcmpFault.{IcmpFault}
 use Rattle.icmp6.specs.declared.fault.IcmpFault.TheVariants.{OptionCut, OptionZero}
 use Rattle.icmp6.specs.declared.numbers.TheConstants.{OPTION_HEAD_LEN, OPTION_UNIT}
@@ -12,15 +12,15 @@ pub record IsOption (bytes : List ℕ) : Type 0 where
   pub whole : length bytes ≡ OPTION_UNIT * slice_index bytes 1
 
 -- one behind the other
-abbrev pub joined : List (List ℕ) → List ℕ
-joined [] = []
-joined (b ∷ bs) = b ++ joined bs
+abbrev pub joined_blocks : List (List ℕ) → List ℕ
+joined_blocks [] = []
+joined_blocks (b ∷ bs) = b ++ joined_blocks bs
 
 -- x is whole options, one behind the other
 pub record AreOptions (x : List ℕ) : Type 0 where
   pub options : List (List ℕ)
   pub each : AllByRecursion IsOption options
-  pub bytes : x ≡ joined options
+  pub bytes : x ≡ joined_blocks options
 
 -- how many bytes the whole option at a place of x has, or its fault
 unfoldable pub option_len : ℕ → List ℕ → Result ℕ IcmpFault

@@ -2,7 +2,7 @@
 ghost use Rattle.std.specs.Prelude.{◌≤◌, length};
 ghost use Rattle.std.specs.Iterator.{YieldsFirst, item_count};
 
-use crate::block::{Opt, option_of};
+use crate::opt::{Opt, option_of};
 use crate::walk::len_at;
 
 /// The options that are left, in order.

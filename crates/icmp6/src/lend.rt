@@ -1,7 +1,7 @@
 //! The options of a message that was read.
 ghost use Rattle.std.specs.Prelude.{◌≡◌, ℕ, List};
 ghost use Rattle.std.specs.List.{AllByRecursion};
-ghost use Rattle.icmp6.specs.Options.{IsOption, AreOptions, joined};
+ghost use Rattle.icmp6.specs.Options.{IsOption, AreOptions, joined_blocks};
 ghost use Rattle.icmp6.specs.Blocks.{options_of, options_at, options_left};
 
 use crate::iter::Options;
@@ -12,7 +12,7 @@ pub fn options(bytes: &[u8]) -> Options<'_>
     // All of them, in order.
     ensures all { options_left result ≡ options_at 0 bytes.now }
     // Whichever blocks the bytes are, it is the options of these.
-    ensures each { (blocks : List (List ℕ)) → AllByRecursion IsOption blocks → bytes.now ≡ joined blocks → options_left result ≡ options_of 0 blocks }
+    ensures each { (blocks : List (List ℕ)) → AllByRecursion IsOption blocks → bytes.now ≡ joined_blocks blocks → options_left result ≡ options_of 0 blocks }
 {
     Options { bytes, at: 0 }
 }

@@ -21,9 +21,9 @@
 //! |---|---|---|
 //! | `message` | `Msg` | `specs/Message.antt` |
 //! | `fault` | `IcmpFault` | `specs/Faults.antt` |
-//! | `reading` | `read` | `specs/Message.antt`, `Grammar.antt`, `Faults.antt` |
-//! | `writing` | `write` | `specs/Writing.antt` |
-//! | `block` | `Opt` | `specs/Blocks.antt` |
+//! | `reader` | `read` | `specs/Message.antt`, `Grammar.antt`, `Faults.antt` |
+//! | `writer` | `write` | `specs/Layout.antt` |
+//! | `opt` | `Opt` | `specs/Blocks.antt` |
 //! | `iter`, `lend` | `Options`, `options` | `specs/Blocks.antt` |
 //! | `walk` | whole options, one behind the other | `specs/Options.antt` |
 //! | `sum` | the checksum | `specs/Checksum.antt` |
@@ -31,19 +31,18 @@
 //! | `numbers` | types, lengths and limits | |
 #![tactic(auto)]
 
-mod block;
 mod fault;
 mod iter;
 mod laws;
 mod lend;
 mod message;
 mod numbers;
-mod reading;
+mod opt;
+mod reader;
 mod sum;
 mod walk;
-mod writing;
+mod writer;
 
-pub use block::Opt;
 pub use fault::IcmpFault;
 pub use iter::Options;
 pub use laws::{message_is_bytes, message_reads_back, options_read_back, spelling_is_read};
@@ -54,5 +53,6 @@ pub use numbers::{
     MTU_UNITS, OPTION_HEAD_LEN, OPTION_UNIT, PREFIX_INFORMATION, PREFIX_UNITS, ROUTER_ADVERT,
     ROUTER_HOP, ROUTER_SOLICIT, SOLICIT_LEN,
 };
-pub use reading::read;
-pub use writing::write;
+pub use opt::Opt;
+pub use reader::read;
+pub use writer::write;

@@ -1,6 +1,6 @@
 //! Whole options, one behind the other.
 ghost use Rattle.std.specs.Prelude.{◌≡◌, ◌+◌, ◌≤◌, length, IfOk, ◌<◌};
-ghost use Rattle.td_base.specs.Reading.{Gives};
+ghost use Rattle.td_base.specs.Results.{Gives};
 ghost use Rattle.icmp6.specs.Options.{option_len, whole_options};
 
 use crate::fault::IcmpFault;

@@ -5,16 +5,16 @@ use Rattle.std.proofs.lemmas.Bool.{ltb-true, cases_lt}
 use Rattle.std.proofs.lemmas.List.{length-drop, length-append, append-nil}
 use Rattle.td_base.specs.declared.endpoint.Ep.{Ep}
 use Rattle.td_base.specs.Bytes.{IsBytes}
-use Rattle.td_base.specs.Reading.{◌>>=◌}
+use Rattle.td_base.specs.Results.{◌>>=◌}
 use Rattle.td_base.proofs.ResultLaws.{bind_ok, guard_ok, guard_err, chosen}
 use Rattle.indications.specs.declared.blocks.Auth.{Auth}
 use Rattle.indications.specs.declared.blocks.Origin.{Origin}
 use Rattle.indications.specs.declared.blocks.Lead.{Lead}
-use Rattle.indications.specs.declared.heads.Head.{Head}
-use Rattle.indications.specs.declared.heads.Head.TheVariants as heads
+use Rattle.indications.specs.declared.head.Head.{Head}
+use Rattle.indications.specs.declared.head.Head.TheVariants as heads
 use Rattle.indications.specs.declared.fault.LeadFault.{LeadFault}
 use Rattle.indications.specs.declared.fault.LeadFault.TheVariants.{Cut, Order, Kind}
-use Rattle.indications.specs.Indications.{head_at, auth_at, origin_at, lead_at, is_auth, is_origin, is_packet, nonce_place, auth_of, origin_of}
+use Rattle.indications.specs.Indications.{head_at, auth_at, origin_at, lead_at, begins_auth, begins_origin, begins_packet, nonce_place, auth_of, origin_of}
 use Rattle.indications.specs.Blocks.{AuthBlock, Blocks, auth_bytes, origin_bytes, optional, blocks_bytes, AreBlocks, origin}
 use Rattle.indications.specs.Faults.{StartsBlock, IsOutOfOrder, IsNoKind, IsFaultBehind, IsFirstFault}
 use Rattle.indications.proofs.HeadLaws.{bind_err, HeadIs, HeadFails, head_tells, head_fails, at_first, at_second}
@@ -37,7 +37,7 @@ auth_first x found e zero head =
     let is = gives_is _ _ g.1 in
     absurd (omega (arith, ap (λ (p : Option Auth × ℕ). p.1) is, zero))
 
-other_head : (h : Head) → not (is_origin h) ≡ true → h ≢ heads.Origin
+other_head : (h : Head) → not (begins_origin h) ≡ true → h ≢ heads.Origin
 other_head heads.Packet t e = absurd cc
 other_head heads.Auth t e = absurd cc
 other_head heads.Origin t e = absurd cc
@@ -46,8 +46,8 @@ origin_none : (place : ℕ) (x : List ℕ) (found : Option Origin × ℕ) → or
 unfolding origin_at
 origin_none place x found e none =
     let short : Result (Option Origin × ℕ) LeadFault = cond (ltb (length x) (place + 8)) (Err (Cut place)) (Ok (Some (origin_of place x), place + 8)) in
-    let b = bind_ok (head_at place x) (λ head. cond (not (is_origin head)) (Ok (None, place)) short) found e in
-    elim (chosen (not (is_origin b.0)) (gives_origin (None, place)) short (Ok found) b.2) [
+    let b = bind_ok (head_at place x) (λ head. cond (not (begins_origin head)) (Ok (None, place)) short) found e in
+    elim (chosen (not (begins_origin b.0)) (gives_origin (None, place)) short (Ok found) b.2) [
       | inl other ↦
           let is = gives_origin_is _ _ other.1 in
           (sym (ap (λ (p : Option Origin × ℕ). p.1) is), λ head. other_head b.0 other.0 (same_head _ _ _ _ b.1 head refl))
@@ -91,10 +91,10 @@ auth_fault x e h =
     let short : Result (Option Auth × ℕ) LeadFault = cond (ltb (length x) (nonce_place x + 9)) (Err (Cut 0)) (Ok (Some (auth_of x), nonce_place x + 9)) in
     let none : Blocks = blocks_of None None in
     let fits : AreBlocks none = record { auth = tt; origin = tt } in
-    elim (bind_err (head_at 0 x) (λ head. cond (not (is_auth head)) (Ok (None, 0)) short) e h) [
+    elim (bind_err (head_at 0 x) (λ head. cond (not (begins_auth head)) (Ok (None, 0)) short) e h) [
       | inl head ↦ behind x none 0 e fits refl (head_behind none 0 x e refl (head_fails 0 x e (omega arith) head))
       | inr b ↦
-          let a = kept (is_auth b.0) (None, 0) short e b.2 in
+          let a = kept (begins_auth b.0) (None, 0) short e b.2 in
           let cut = auth_cut x e a.1 in
           let head = auth_is b.0 0 x a.0 (head_tells 0 x b.0 b.1) in
           subst (λ (f : LeadFault). IsFirstFault f x) cut.1 (behind x none 0 (Cut 0) fits refl (refl, inr (inl (starts_auth 0 x head, refl, cut.0))))
@@ -120,10 +120,10 @@ origin_fault x a e found h =
     let bytes : x ≡ blocks_bytes b ++ drop place x = found.bytes ∙ ap (λ (t : List ℕ). t ++ drop place x) (sym (append-nil front)) in
     let is : place ≡ length (blocks_bytes b) = found.place ∙ ap length (sym (append-nil front)) in
     let inside : place ≤ length x = omega (arith, ap length found.bytes, length-append front (drop place x), found.place) in
-    elim (bind_err (head_at place x) (λ head. cond (not (is_origin head)) (Ok (None, place)) short) e h) [
+    elim (bind_err (head_at place x) (λ head. cond (not (begins_origin head)) (Ok (None, place)) short) e h) [
       | inl head ↦ behind x b place e fits bytes (head_behind b place (drop place x) e is (head_fails place x e inside head))
       | inr k ↦
-          let o = kept (is_origin k.0) (None, place) short e k.2 in
+          let o = kept (begins_origin k.0) (None, place) short e k.2 in
           let cut = origin_cut place x e o.1 in
           let head = origin_is k.0 place x o.0 (head_tells place x k.0 k.1) in
           subst (λ (f : LeadFault). IsFirstFault f x) cut.1 (behind x b place (Cut place) fits bytes (is, inr (inr (starts_origin place x head, refl, omega (arith, length-drop place x, inside, cut.0)))))
@@ -136,7 +136,7 @@ is_some_of None other = absurd (other refl)
 is_some_of (Some ep) other = refl
 
 out_of_order : (x : List ℕ) (a : Option Auth × ℕ) (o : Option Origin × ℕ) (fa : FoundAuth x a) (fo : FoundOrigin a.1 x o) (h : Head)
-    → auth_at x ≡ Ok a → origin_at a.1 x ≡ Ok o → head_at o.1 x ≡ Ok h → is_packet h ≡ false → o.1 ≡ length (blocks_bytes (blocks_of fa.block fo.block)) → IsOutOfOrder (blocks_of fa.block fo.block) (drop o.1 x)
+    → auth_at x ≡ Ok a → origin_at a.1 x ≡ Ok o → head_at o.1 x ≡ Ok h → begins_packet h ≡ false → o.1 ≡ length (blocks_bytes (blocks_of fa.block fo.block)) → IsOutOfOrder (blocks_of fa.block fo.block) (drop o.1 x)
 out_of_order x a o fa fo heads.Packet ea eo eh other is = absurd cc
 out_of_order x a o fa fo heads.Auth ea eo eh other is =
     let some : 0 < o.1 =
@@ -155,7 +155,7 @@ out_of_order x a o fa fo heads.Origin ea eo eh other is =
     first.1 (ap (λ (n : ℕ). head_at n x) (sym first.0) ∙ eh) in
     inr (starts_origin o.1 x (head_tells o.1 x heads.Origin eh), is_some_of fo.block some)
 
-not_packet : (h : Head) (l : Lead) (f e : LeadFault) → (let r : Result Lead LeadFault = cond (is_packet h) (Ok l) (Err f) in r) ≡ Err e → (is_packet h ≡ false) × (f ≡ e)
+not_packet : (h : Head) (l : Lead) (f e : LeadFault) → (let r : Result Lead LeadFault = cond (begins_packet h) (Ok l) (Err f) in r) ≡ Err e → (begins_packet h ≡ false) × (f ≡ e)
 not_packet heads.Packet l f e h = absurd cc
 not_packet heads.Auth l f e h = (refl, cc)
 not_packet heads.Origin l f e h = (refl, cc)
@@ -163,7 +163,7 @@ not_packet heads.Origin l f e h = (refl, cc)
 pub lead_fault : (x : List ℕ) (e : LeadFault) → IsBytes x → lead_at x ≡ Err e → IsFirstFault e x
 unfolding lead_at
 lead_fault x e fits h =
-    let last : Option Auth → Option Origin × ℕ → Head → Result Lead LeadFault = λ auth o head. cond (is_packet head) (Ok (record { auth = auth; origin = o.0; at = o.1 })) (Err (Order o.1)) in
+    let last : Option Auth → Option Origin × ℕ → Head → Result Lead LeadFault = λ auth o head. cond (begins_packet head) (Ok (record { auth = auth; origin = o.0; at = o.1 })) (Err (Order o.1)) in
     elim (bind_err (auth_at x) (λ auth. origin_at auth.1 x >>= λ o. head_at o.1 x >>= λ head. last auth.0 o head) e h) [
       | inl auth ↦ auth_fault x e auth
       | inr a ↦

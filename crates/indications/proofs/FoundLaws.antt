@@ -7,19 +7,19 @@ use Rattle.byteorder.specs.Endian.{big_bytes}
 use Rattle.td_base.specs.declared.endpoint.Ep.{Ep}
 use Rattle.td_base.specs.Ep.{IsEp}
 use Rattle.td_base.specs.Bytes.{IsBytes, number_at}
-use Rattle.td_base.specs.Reading.{◌>>=◌}
+use Rattle.td_base.specs.Results.{◌>>=◌}
 use Rattle.td_base.proofs.BytesLemmas.{IsBytes-drop, cut, cut_8}
 use Rattle.td_base.proofs.ResultLaws.{bind_ok, guard_ok, chosen}
 use Rattle.indications.specs.declared.blocks.Auth.{Auth}
 use Rattle.indications.specs.declared.blocks.Origin.{Origin}
 use Rattle.indications.specs.declared.blocks.Lead.{Lead}
-use Rattle.indications.specs.declared.heads.Head.{Head}
-use Rattle.indications.specs.declared.heads.Head.TheVariants as heads
+use Rattle.indications.specs.declared.head.Head.{Head}
+use Rattle.indications.specs.declared.head.Head.TheVariants as heads
 use Rattle.indications.specs.declared.fault.LeadFault.{LeadFault}
 use Rattle.indications.specs.declared.fault.LeadFault.TheVariants.{Cut, Order}
 use Rattle.teredo_addr.specs.Hidden.{hidden_ep, shown_at}
 use Rattle.teredo_addr.proofs.HiddenLaws.{hidden_ep_len, shown_fits, shown_hidden}
-use Rattle.indications.specs.Indications.{head_at, auth_at, origin_at, lead_at, is_auth, is_origin, is_packet, nonce_place, auth_of, origin_of}
+use Rattle.indications.specs.Indications.{head_at, auth_at, origin_at, lead_at, begins_auth, begins_origin, begins_packet, nonce_place, auth_of, origin_of}
 use Rattle.indications.specs.Blocks.{AuthBlock, Blocks, auth_bytes, origin_bytes, optional, blocks_bytes, IsAuthBlock, spans_of, origin, lead, LeadBytes, AreSpansBefore}
 use Rattle.indications.proofs.HeadLaws.{HeadIs, head_tells}
 
@@ -43,12 +43,12 @@ gives_origin found = Ok found
 pub gives_origin_is : (a b : Option Origin × ℕ) → gives_origin a ≡ gives_origin b → a ≡ b
 gives_origin_is a b e = cc
 
-pub auth_is : (h : Head) (place : ℕ) (x : List ℕ) → is_auth h ≡ true → HeadIs h place x → HeadIs heads.Auth place x
+pub auth_is : (h : Head) (place : ℕ) (x : List ℕ) → begins_auth h ≡ true → HeadIs h place x → HeadIs heads.Auth place x
 auth_is heads.Auth place x t h = h
 auth_is heads.Origin place x t h = absurd cc
 auth_is heads.Packet place x t h = absurd cc
 
-pub origin_is : (h : Head) (place : ℕ) (x : List ℕ) → is_origin h ≡ true → HeadIs h place x → HeadIs heads.Origin place x
+pub origin_is : (h : Head) (place : ℕ) (x : List ℕ) → begins_origin h ≡ true → HeadIs h place x → HeadIs heads.Origin place x
 origin_is heads.Auth place x t h = absurd cc
 origin_is heads.Origin place x t h = h
 origin_is heads.Packet place x t h = absurd cc
@@ -121,8 +121,8 @@ pub auth_found : (x : List ℕ) (found : Option Auth × ℕ) → IsBytes x → a
 unfolding auth_at
 auth_found x found fits e =
     let short : Result (Option Auth × ℕ) LeadFault = cond (ltb (length x) (nonce_place x + 9)) (Err (Cut 0)) (Ok (Some (auth_of x), nonce_place x + 9)) in
-    let b = bind_ok (head_at 0 x) (λ head. cond (not (is_auth head)) (Ok (None, 0)) short) found e in
-    elim (chosen (not (is_auth b.0)) (gives (None, 0)) short (Ok found) b.2) [
+    let b = bind_ok (head_at 0 x) (λ head. cond (not (begins_auth head)) (Ok (None, 0)) short) found e in
+    elim (chosen (not (begins_auth b.0)) (gives (None, 0)) short (Ok found) b.2) [
       | inl other ↦ subst (FoundAuth x) (gives_is _ _ other.1) (record { block = None; fits = tt; told = refl; bytes = refl; place = refl })
       | inr a ↦
           let g = guard_ok (ltb (length x) (nonce_place x + 9)) (Cut 0) (gives (Some (auth_of x), nonce_place x + 9)) found a.1 in
@@ -157,8 +157,8 @@ pub origin_found : (place : ℕ) (x : List ℕ) (found : Option Origin × ℕ) �
 unfolding origin_at
 origin_found place x found fits e =
     let short : Result (Option Origin × ℕ) LeadFault = cond (ltb (length x) (place + 8)) (Err (Cut place)) (Ok (Some (origin_of place x), place + 8)) in
-    let b = bind_ok (head_at place x) (λ head. cond (not (is_origin head)) (Ok (None, place)) short) found e in
-    elim (chosen (not (is_origin b.0)) (gives_origin (None, place)) short (Ok found) b.2) [
+    let b = bind_ok (head_at place x) (λ head. cond (not (begins_origin head)) (Ok (None, place)) short) found e in
+    elim (chosen (not (begins_origin b.0)) (gives_origin (None, place)) short (Ok found) b.2) [
       | inl other ↦ subst (FoundOrigin place x) (gives_origin_is _ _ other.1) (record { block = None; fits = tt; told = refl; bytes = refl; place_is = omega arith })
       | inr a ↦
           let g = guard_ok (ltb (length x) (place + 8)) (Cut place) (gives_origin (Some (origin_of place x), place + 8)) found a.1 in
@@ -188,7 +188,7 @@ lead_stands x a o fa fo head =
       told = made_lead _ _ _ _ _ _ fa.told fo.told at;
     }
 
-is_six : (h : Head) (a : Lead) (f : LeadFault) (l : Lead) (place : ℕ) (x : List ℕ) → cond (is_packet h) (made a) (Err f) ≡ made l → HeadIs h place x → (a ≡ l) × HeadIs heads.Packet place x
+is_six : (h : Head) (a : Lead) (f : LeadFault) (l : Lead) (place : ℕ) (x : List ℕ) → cond (begins_packet h) (made a) (Err f) ≡ made l → HeadIs h place x → (a ≡ l) × HeadIs heads.Packet place x
 is_six heads.Packet a f l place x e h = (cc, h)
 is_six heads.Auth a f l place x e h = absurd cc
 is_six heads.Origin a f l place x e h = absurd cc
@@ -196,7 +196,7 @@ is_six heads.Origin a f l place x e h = absurd cc
 pub lead_found : (x : List ℕ) (l : Lead) → IsBytes x → lead_at x ≡ Ok l → LeadBytes l x
 unfolding lead_at
 lead_found x l fits e =
-    let last : Option Auth → Option Origin × ℕ → Head → Result Lead LeadFault = λ auth o head. cond (is_packet head) (Ok (record { auth = auth; origin = o.0; at = o.1 })) (Err (Order o.1)) in
+    let last : Option Auth → Option Origin × ℕ → Head → Result Lead LeadFault = λ auth o head. cond (begins_packet head) (Ok (record { auth = auth; origin = o.0; at = o.1 })) (Err (Order o.1)) in
     let a = bind_ok (auth_at x) (λ auth. origin_at auth.1 x >>= λ o. head_at o.1 x >>= λ head. last auth.0 o head) l e in
     let o = bind_ok (origin_at a.0.1 x) (λ o. head_at o.1 x >>= λ head. last a.0.0 o head) l a.2 in
     let h = bind_ok (head_at o.0.1 x) (λ head. last a.0.0 o.0 head) l o.2 in

@@ -3,10 +3,10 @@ use Rattle.std.proofs.Common.{◌≡◌, ◌≢◌, false, cond, not, leb, eqb, 
 use Rattle.std.specs.Prelude.{slice_index}
 use Rattle.std.proofs.lemmas.Bool.{lt-leb, leb-true, leb-false, eq-eqb, eqb-true, eqb-false, not-true, not-false, cond-true, cond-false}
 use Rattle.std.proofs.lemmas.List.{get_or-drop, length-drop}
-use Rattle.td_base.specs.Reading.{◌>>=◌}
+use Rattle.td_base.specs.Results.{◌>>=◌}
 use Rattle.td_base.proofs.ResultLaws.{guard_ok, chosen, guard_err}
-use Rattle.indications.specs.declared.heads.Head.{Head}
-use Rattle.indications.specs.declared.heads.Head.TheVariants as heads
+use Rattle.indications.specs.declared.head.Head.{Head}
+use Rattle.indications.specs.declared.head.Head.TheVariants as heads
 use Rattle.indications.specs.declared.fault.LeadFault.{LeadFault}
 use Rattle.indications.specs.declared.fault.LeadFault.TheVariants.{Cut, Order, Kind}
 use Rattle.indications.specs.Indications.{head_at}

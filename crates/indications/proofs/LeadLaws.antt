@@ -11,12 +11,12 @@ use Rattle.td_base.specs.Bytes.{number_at}
 use Rattle.indications.specs.declared.blocks.Auth.{Auth}
 use Rattle.indications.specs.declared.blocks.Origin.{Origin}
 use Rattle.indications.specs.declared.blocks.Lead.{Lead}
-use Rattle.indications.specs.declared.heads.Head.{Head}
-use Rattle.indications.specs.declared.heads.Head.TheVariants as heads
+use Rattle.indications.specs.declared.head.Head.{Head}
+use Rattle.indications.specs.declared.head.Head.TheVariants as heads
 use Rattle.teredo_addr.specs.Hidden.{hidden_ep, shown_at}
 use Rattle.teredo_addr.proofs.HiddenLaws.{hidden_ep_len, shown_again}
-use Rattle.indications.specs.Indications.{head_at, auth_at, origin_at, lead_at, is_auth, is_origin}
-use Rattle.indications.specs.Blocks.{AreBlocks, AuthBlock, auth_bytes, origin_bytes, optional, IsAuthBlock, spans_of, origin, lead, LeadBytes, with_nonce, given, indications_bytes, indications_len, StartsPacket}
+use Rattle.indications.specs.Indications.{head_at, auth_at, origin_at, lead_at, begins_auth, begins_origin}
+use Rattle.indications.specs.Blocks.{AreBlocks, AuthBlock, auth_bytes, origin_bytes, optional, IsAuthBlock, spans_of, origin, lead, LeadBytes, with_nonce, blocks_given, indications_bytes, indications_len, StartsPacket}
 use Rattle.indications.proofs.HeadLaws.{packet_head, origin_head, auth_head}
 use Rattle.indications.proofs.FoundLaws.{make, made, gives, gives_origin, origin_pair, auth_pair, length_auth, regroup, origin_bytes_len}
 
@@ -29,7 +29,7 @@ byte_front front rest k = get_or-append-add front rest k 0
 first_front : (front rest : List ℕ) → slice_index (front ++ rest) (length front) ≡ slice_index rest 0
 first_front front rest = ap (λ (k : ℕ). slice_index (front ++ rest) k) (sym (add-zero (length front))) ∙ byte_front front rest 0
 
-auth_other : (x : List ℕ) (h : Head) → head_at 0 x ≡ Ok h → is_auth h ≡ false → auth_at x ≡ Ok (None, 0)
+auth_other : (x : List ℕ) (h : Head) → head_at 0 x ≡ Ok h → begins_auth h ≡ false → auth_at x ≡ Ok (None, 0)
 unfolding auth_at
 auth_other x h e other = rw (e, other) refl
 
@@ -52,7 +52,7 @@ auth_again a rest fits =
     let end : place + 9 ≡ length (auth_bytes a) = omega (arith, length_auth a.id a.value b a.confirmation, length-bytes_high_first 8 a.nonce) in
     rw (head, enough) (ap gives (auth_pair (length a.id) (length a.value) _ _ _ _ _ _ nonce confirmation end))
 
-origin_other : (place : ℕ) (x : List ℕ) (h : Head) → head_at place x ≡ Ok h → is_origin h ≡ false → origin_at place x ≡ Ok (None, place)
+origin_other : (place : ℕ) (x : List ℕ) (h : Head) → head_at place x ≡ Ok h → begins_origin h ≡ false → origin_at place x ≡ Ok (None, place)
 unfolding origin_at
 origin_other place x h e other = rw (e, other) refl
 
@@ -113,12 +113,12 @@ nonce_fits : (nonce : Option ℕ) → IfSome nonce (λ n. n < 2 ^ 64) → IfSome
 nonce_fits None h = tt
 nonce_fits (Some n) h = record { id = omega arith; value = omega arith; nonce = h }
 
-pub given_fits : (nonce : Option ℕ) (ep : Option Ep) → IfSome nonce (λ n. n < 2 ^ 64) → IfSome ep IsEp → AreBlocks (given nonce ep)
+pub given_fits : (nonce : Option ℕ) (ep : Option Ep) → IfSome nonce (λ n. n < 2 ^ 64) → IfSome ep IsEp → AreBlocks (blocks_given nonce ep)
 given_fits nonce ep n_fits ep_fits = record { auth = nonce_fits nonce n_fits; origin = ep_fits }
 
-pub written_again : (nonce : Option ℕ) (ep : Option Ep) (rest : List ℕ) → AreBlocks (given nonce ep) → StartsPacket rest → lead_at (indications_bytes nonce ep ++ rest) ≡ Ok (lead (given nonce ep))
+pub written_again : (nonce : Option ℕ) (ep : Option Ep) (rest : List ℕ) → AreBlocks (blocks_given nonce ep) → StartsPacket rest → lead_at (indications_bytes nonce ep ++ rest) ≡ Ok (lead (blocks_given nonce ep))
 written_again nonce ep rest fits six =
-    lead_again (lead (given nonce ep)) (indications_bytes nonce ep ++ rest) (record { blocks = given nonce ep; rest = rest; fits = fits; bytes = refl; six = six; told = refl })
+    lead_again (lead (blocks_given nonce ep)) (indications_bytes nonce ep ++ rest) (record { blocks = blocks_given nonce ep; rest = rest; fits = fits; bytes = refl; six = six; told = refl })
 
 -- how many bytes are written
 pub indications_bytes_len : (nonce : Option ℕ) (ep : Option Ep) → IfSome ep IsEp → length (indications_bytes nonce ep) ≡ indications_len nonce ep

@@ -4,7 +4,7 @@ use Rattle.td_base.specs.declared.endpoint.Ep.{Ep}
 use Rattle.teredo_addr.specs.Hidden.{hidden_ep, shown_at}
 use Rattle.indications.specs.declared.fault.LeadFault.TheVariants.{Cut, Order, Kind}
 use Rattle.indications.specs.Indications.{head_at, auth_at, origin_at, lead_at}
-use Rattle.indications.specs.Blocks.{origin_bytes, indications_bytes, given, lead}
+use Rattle.indications.specs.Blocks.{origin_bytes, indications_bytes, blocks_given, lead}
 
 -- 198.51.100.7:40000
 abbrev pub host : Ep
@@ -24,7 +24,7 @@ pub both_are_spelled : indications_bytes (Some 0x0102030405060708) (Some host) �
 unfolding hidden_ep
 both_are_spelled = refl
 
-pub both_are_read : lead_at (nonce ++ host_origin ++ 0x60 ∷ []) ≡ Ok (lead (given (Some 0x0102030405060708) (Some host)))
+pub both_are_read : lead_at (nonce ++ host_origin ++ 0x60 ∷ []) ≡ Ok (lead (blocks_given (Some 0x0102030405060708) (Some host)))
 unfolding lead_at auth_at origin_at head_at shown_at hidden_ep
 both_are_read = refl
 

@@ -83,11 +83,11 @@ AreSpansBefore place a = (a.id.at + a.id.len ≤ place) × (a.value.at + a.value
 abbrev pub with_nonce : ℕ → AuthBlock
 with_nonce nonce = record { id = []; value = []; nonce = nonce; confirmation = 0 }
 
-abbrev pub given : Option ℕ → Option Ep → Blocks
-given nonce ep = record { auth = option_map with_nonce nonce; origin = ep }
+abbrev pub blocks_given : Option ℕ → Option Ep → Blocks
+blocks_given nonce ep = record { auth = option_map with_nonce nonce; origin = ep }
 
 abbrev pub indications_bytes : Option ℕ → Option Ep → List ℕ
-indications_bytes nonce ep = blocks_bytes (given nonce ep)
+indications_bytes nonce ep = blocks_bytes (blocks_given nonce ep)
 
 abbrev pub nonce_len : Option ℕ → ℕ
 nonce_len None = 0

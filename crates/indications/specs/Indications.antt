@@ -1,14 +1,14 @@
 -- What is read in front of a packet, rule by rule: RFC 4380, section 5.1.1.
 use Rattle.std.specs.Prelude.{ℕ, ◌+◌, ◌/◌, List, length, slice_index, Bool, true, false, Option, Some, None, Result, Ok, Err, nat_lt, nat_le, ◌==◌, not, if◌then◌else◌}
 use Rattle.td_base.specs.Bytes.{number_at}
-use Rattle.td_base.specs.Reading.{◌>>=◌}
+use Rattle.td_base.specs.Results.{◌>>=◌}
 use Rattle.teredo_addr.specs.Hidden.{shown_at}
 use Rattle.indications.specs.declared.blocks.Auth.{Auth}
 use Rattle.indications.specs.declared.blocks.Origin.{Origin}
 use Rattle.indications.specs.declared.blocks.Lead.{Lead}
 use Rattle.indications.specs.declared.blocks.TheConstants.{AUTH_HEAD, AUTH_TAIL, NONCE, ORIGIN}
-use Rattle.indications.specs.declared.heads.Head.{Head}
-use Rattle.indications.specs.declared.heads.Head.TheVariants as heads
+use Rattle.indications.specs.declared.head.Head.{Head}
+use Rattle.indications.specs.declared.head.Head.TheVariants as heads
 use Rattle.indications.specs.declared.fault.LeadFault.{LeadFault}
 use Rattle.indications.specs.declared.fault.LeadFault.TheVariants.{Cut, Order, Kind}
 
@@ -25,20 +25,20 @@ head_at place x =
     else if second == 1 then Ok heads.Auth
     else Err (Kind (place + 1) second)
 
-abbrev pub is_auth : Head → Bool
-is_auth heads.Auth = true
-is_auth heads.Origin = false
-is_auth heads.Packet = false
+abbrev pub begins_auth : Head → Bool
+begins_auth heads.Auth = true
+begins_auth heads.Origin = false
+begins_auth heads.Packet = false
 
-abbrev pub is_origin : Head → Bool
-is_origin heads.Auth = false
-is_origin heads.Origin = true
-is_origin heads.Packet = false
+abbrev pub begins_origin : Head → Bool
+begins_origin heads.Auth = false
+begins_origin heads.Origin = true
+begins_origin heads.Packet = false
 
-abbrev pub is_packet : Head → Bool
-is_packet heads.Auth = false
-is_packet heads.Origin = false
-is_packet heads.Packet = true
+abbrev pub begins_packet : Head → Bool
+begins_packet heads.Auth = false
+begins_packet heads.Origin = false
+begins_packet heads.Packet = true
 
 -- the place after the identifier and the value of an authentication at place 0
 abbrev pub nonce_place : List ℕ → ℕ
@@ -56,7 +56,7 @@ auth_of x = record {
 unfoldable pub auth_at : List ℕ → Result (Option Auth × ℕ) LeadFault
 auth_at x = do
   head ← head_at 0 x
-  if not (is_auth head) then Ok (None, 0)
+  if not (begins_auth head) then Ok (None, 0)
       else if nat_lt (length x) (nonce_place x + AUTH_TAIL) then Err (Cut 0)
       else Ok (Some (auth_of x), nonce_place x + AUTH_TAIL)
 
@@ -67,7 +67,7 @@ origin_of place x = record { ep = shown_at (place + 2) x }
 unfoldable pub origin_at : ℕ → List ℕ → Result (Option Origin × ℕ) LeadFault
 origin_at place x = do
   head ← head_at place x
-  if not (is_origin head) then Ok (None, place)
+  if not (begins_origin head) then Ok (None, place)
       else if nat_lt (length x) (place + ORIGIN) then Err (Cut place)
       else Ok (Some (origin_of place x), place + ORIGIN)
 
@@ -77,4 +77,4 @@ lead_at x = do
   auth ← auth_at x
   origin ← origin_at auth.1 x
   head ← head_at origin.1 x
-  if is_packet head then Ok (record { auth = auth.0; origin = origin.0; at = origin.1 }) else Err (Order origin.1)
+  if begins_packet head then Ok (record { auth = auth.0; origin = origin.0; at = origin.1 }) else Err (Order origin.1)

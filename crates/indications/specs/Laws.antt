@@ -4,7 +4,7 @@ use Rattle.td_base.specs.Bytes.{IsBytes}
 use Rattle.td_base.specs.Ep.{IsEp}
 use Rattle.td_base.specs.declared.endpoint.Ep.{Ep}
 use Rattle.indications.specs.Indications.{lead_at}
-use Rattle.indications.specs.Blocks.{given, lead, StartsPacket, indications_bytes, indications_len}
+use Rattle.indications.specs.Blocks.{blocks_given, lead, StartsPacket, indications_bytes, indications_len}
 
 -- what may be given to write
 pub record MayBeGiven (nonce : Option ℕ) (ep : Option Ep) : Type 0 where
@@ -14,7 +14,7 @@ pub record MayBeGiven (nonce : Option ℕ) (ep : Option Ep) : Type 0 where
 -- in front of a packet they are read
 abbrev pub LeadReadsBack : Type 0
 LeadReadsBack = (nonce : Option ℕ) (ep : Option Ep) (rest : List ℕ) → MayBeGiven nonce ep → StartsPacket rest
-    → lead_at (indications_bytes nonce ep ++ rest) ≡ Ok (lead (given nonce ep))
+    → lead_at (indications_bytes nonce ep ++ rest) ≡ Ok (lead (blocks_given nonce ep))
 
 -- so many bytes
 pub record IsLeadLong (nonce : Option ℕ) (ep : Option Ep) (x : List ℕ) : Type 0 where

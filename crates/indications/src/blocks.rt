@@ -1,3 +1,4 @@
+//! An authentication, an origin, and what stands in front.
 use td_base::{Ep, Span};
 
 /// The bytes of an authentication before its identifier: two of its kind, and the lengths of identifier and value.

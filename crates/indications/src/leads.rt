@@ -1,3 +1,4 @@
+//! What a rule asks of a lead.
 ghost use Rattle.std.specs.Prelude.{◌≡◌};
 ghost use Rattle.indications.specs.Leads.{is_keyed, is_confirmed, nonce_of, origin_in};
 

@@ -21,27 +21,27 @@
 //! |---|---|---|
 //! | `blocks` | `Auth`, `Origin`, `Lead`, and their lengths | `specs/Blocks.antt` |
 //! | `fault` | `LeadFault` | `specs/Faults.antt` |
-//! | `heads` | what begins at a place | `specs/Indications.antt` |
+//! | `head` | what begins at a place | `specs/Indications.antt` |
 //! | `leads` | what a rule asks of a `Lead` | `specs/Leads.antt` |
 //! | `places` | `Places` | `specs/Places.antt` |
-//! | `reading` | `read`, and its steps `places_of`, `bare_lead`, `auth_lead` | `specs/Indications.antt`, `Places.antt` |
-//! | `writing` | `write`, `len` | `specs/Blocks.antt` |
+//! | `reader` | `read`, and its steps `places_of`, `bare_lead`, `auth_lead` | `specs/Indications.antt`, `Places.antt` |
+//! | `writer` | `write`, `len` | `specs/Blocks.antt` |
 //! | `laws` | indications as lists of bytes | `specs/Laws.antt` |
 #![tactic(auto)]
 
 mod blocks;
 mod fault;
-mod heads;
+mod head;
 mod laws;
 mod leads;
 mod places;
-mod reading;
-mod writing;
+mod reader;
+mod writer;
 
 pub use blocks::{AUTH, AUTH_HEAD, AUTH_TAIL, Auth, Lead, NONCE, ORIGIN, Origin};
 pub use fault::LeadFault;
 pub use laws::{lead_is_bytes, lead_reads_back};
 pub use leads::{is_confirmed, is_keyed, nonce_of, origin_in};
 pub use places::Places;
-pub use reading::{auth_lead, bare_lead, places_of, read};
-pub use writing::{len, write};
+pub use reader::{auth_lead, bare_lead, places_of, read};
+pub use writer::{len, write};

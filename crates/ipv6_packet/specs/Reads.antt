@@ -1,7 +1,7 @@
 -- What a rule sees of the bytes of a packet.
 use Rattle.std.specs.Prelude.{ℕ, ◌+◌, Bool, true, false, nat_lt, List, [], length, replicate, Result, Ok, Err}
 use Rattle.ipv6_packet.specs.declared.fault.PacketFault.{PacketFault}
-use Rattle.ipv6_packet.specs.declared.header.TheConstants.{HEADER, MAX_PACKET}
+use Rattle.ipv6_packet.specs.declared.header.TheConstants.{HEADER, PACKET_MAX}
 use Rattle.ipv6_packet.specs.Packets.{Fields, packet_at}
 
 -- in place of what isn't there; no rule looks at it
@@ -26,4 +26,4 @@ fields_in x = fields_or (packet_at x)
 
 -- more bytes than every link carries whole
 unfoldable pub is_big : Fields → Bool
-is_big p = nat_lt MAX_PACKET (HEADER + length p.body)
+is_big p = nat_lt PACKET_MAX (HEADER + length p.body)

@@ -1,3 +1,4 @@
+//! The packet, and the numbers of its header.
 ghost use Rattle.std.specs.Prelude.{◌≡◌};
 ghost use Rattle.ipv6_packet.specs.Packets.{view};
 ghost use Rattle.ipv6_packet.specs.Reads.{is_big};
@@ -17,7 +18,7 @@ pub const NEXT_ICMP: u8 = 58;
 pub const NEXT_NONE: u8 = 59;
 
 /// The most bytes of a packet that every link carries whole, which is the MTU of RFC 4380, section 5.1.2.
-pub const MAX_PACKET: usize = 1280;
+pub const PACKET_MAX: usize = 1280;
 
 /// A packet, whose body is lent. The flow label has 20 bits. The field of most bytes among the header's numbers stands
 /// first, so that the numbers leave no gap, which each move of a packet would copy.
@@ -32,11 +33,11 @@ pub struct Packet<'a> {
     pub body: &'a [u8],
 }
 
-/// Whether a packet has more than `MAX_PACKET` bytes.
+/// Whether a packet has more than `PACKET_MAX` bytes.
 #[inline(always)]
 #[tactic(auto, unfolding(crate::specs::Reads::is_big))]
 pub fn is_big(p: &Packet) -> bool
     ensures { result ≡ is_big (view p.now) }
 {
-    p.body.len() > MAX_PACKET - HEADER
+    p.body.len() > PACKET_MAX - HEADER
 }

@@ -19,19 +19,19 @@
 //! |---|---|---|
 //! | `header` | `Packet`, and the numbers of the header | `specs/Packets.antt`, `Reads.antt` |
 //! | `fault` | `PacketFault` | `specs/Packets.antt` |
-//! | `reading` | `read`, and its two steps `check` and `packet_in` | `specs/Packets.antt`, `Reads.antt` |
-//! | `writing` | `write`, `len` | `specs/Packets.antt` |
+//! | `reader` | `read`, and its two steps `check` and `packet_in` | `specs/Packets.antt`, `Reads.antt` |
+//! | `writer` | `write`, `len` | `specs/Packets.antt` |
 //! | `laws` | packets as lists of bytes | `specs/Laws.antt` |
 #![tactic(auto)]
 
 mod fault;
 mod header;
 mod laws;
-mod reading;
-mod writing;
+mod reader;
+mod writer;
 
 pub use fault::PacketFault;
-pub use header::{HEADER, MAX_PACKET, NEXT_ICMP, NEXT_NONE, Packet, VERSION, is_big};
+pub use header::{HEADER, NEXT_ICMP, NEXT_NONE, PACKET_MAX, Packet, VERSION, is_big};
 pub use laws::{packet_is_bytes, packet_is_spelled, packet_reads_back};
-pub use reading::{check, packet_in, read};
-pub use writing::{len, write};
+pub use reader::{check, packet_in, read};
+pub use writer::{len, write};

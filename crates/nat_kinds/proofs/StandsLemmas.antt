@@ -8,7 +8,7 @@ use Rattle.nat_kinds.specs.History.{Entry, Out, Forget, young, is_young, without
 use Rattle.nat_kinds.specs.declared.settings.NatSettings.{NatSettings}
 use Rattle.nat_kinds.specs.Nat.{NatState}
 use Rattle.std.specs.Prelude.{Result, Ok, Err, IfOk, OnErr}
-use Rattle.td_base.specs.declared.small.Millis.{Millis}
+use Rattle.td_base.specs.declared.millis.Millis.{Millis}
 use Rattle.nat_kinds.specs.declared.refusal.NatRefusal.{NatRefusal}
 use Rattle.nat_kinds.specs.Nat.{StandsFor, StandsAsBefore}
 

@@ -5,8 +5,8 @@ use Rattle.std.proofs.lemmas.Fmt.{length-decimal-le}
 use Rattle.std.proofs.lemmas.List.{length-append}
 use Rattle.td_base.specs.declared.endpoint.Ep.{Ep}
 use Rattle.td_base.specs.declared.line.TheConstants.{LINE_LEN}
-use Rattle.td_base.specs.declared.small.Room.{Room}
-use Rattle.td_base.specs.Printing.{Prints}
+use Rattle.td_base.specs.declared.refusals.Room.{Room}
+use Rattle.td_base.specs.Prints.{Prints}
 use Rattle.td_base.specs.Texts.{ep_text}
 use Rattle.report.specs.declared.pieces.TheConstants.{EP_LEN}
 

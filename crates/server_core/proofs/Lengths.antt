@@ -7,7 +7,7 @@ use Rattle.byteorder.specs.Endian.{big_bytes}
 use Rattle.ipv6_packet.specs.Reads.{is_big}
 use Rattle.std.proofs.lemmas.List.{length-append, take_at, drop_all, append-nil}
 use Rattle.td_base.specs.Bytes.{Writes}
-use Rattle.td_base.specs.declared.small.Room.{Room}
+use Rattle.td_base.specs.declared.refusals.Room.{Room}
 use Rattle.td_base.specs.declared.endpoint.Ep.{Ep}
 use Rattle.ipv6_packet.specs.Packets.{Fields, packet_bytes}
 use Rattle.ipv6_packet.proofs.PacketLaws.{packet_len}

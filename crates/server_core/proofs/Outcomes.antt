@@ -2,7 +2,7 @@
 use Rattle.std.proofs.Common.{◌≡◌, ◌+◌, ℕ, List, ◌++◌, length, Result, Ok, Err, refl}
 use Rattle.std.specs.Prelude.{if◌then◌else◌, is_some}
 use Rattle.td_base.specs.declared.endpoint.Ep.{Ep}
-use Rattle.td_base.specs.declared.small.Side.{Side}
+use Rattle.td_base.specs.declared.side.Side.{Side}
 use Rattle.bubble.specs.Payloads.{Value, payload_at}
 use Rattle.bubble.specs.declared.fault.PayloadFault.{PayloadFault}
 use Rattle.server_core.specs.declared.server.ServerSettings.{ServerSettings}

@@ -1,7 +1,7 @@
 -- From the parts of the table to the step.
 use Rattle.std.proofs.Common.{◌≡◌, ℕ, List, Ok, ap, sym, ◌∙◌}
 use Rattle.td_base.specs.declared.endpoint.Ep.{Ep}
-use Rattle.td_base.specs.declared.small.Side.{Side}
+use Rattle.td_base.specs.declared.side.Side.{Side}
 use Rattle.teredo_node.specs.declared.fate.Fate.{Fate}
 use Rattle.bubble.specs.Payloads.{Value, payload_at}
 use Rattle.server_core.specs.declared.server.ServerSettings.{ServerSettings}

@@ -6,13 +6,13 @@ use Rattle.td_base.specs.Ep.{same_ep}
 use Rattle.td_base.specs.Reach.{is_global, is_usable, is_global6, is_link_local}
 use Rattle.td_base.specs.declared.endpoint.Ep.{Ep}
 use Rattle.td_base.specs.declared.reach.Policy.TheVariants.{Strict}
-use Rattle.td_base.specs.declared.small.Side.TheVariants.{Primary, Secondary}
+use Rattle.td_base.specs.declared.side.Side.TheVariants.{Primary, Secondary}
 use Rattle.ipv6_packet.specs.Packets.{packet_bytes, packet_at, fields_of}
 use Rattle.ipv6_packet.specs.Reads.{is_big}
 use Rattle.icmp6.specs.Checksum.{checksum_of}
 use Rattle.icmp6.specs.Message.{message_at, solicit_at}
 use Rattle.icmp6.specs.Options.{whole_options}
-use Rattle.icmp6.specs.Writing.{message_bytes}
+use Rattle.icmp6.specs.Layout.{message_bytes}
 use Rattle.teredo_addr.specs.Hidden.{hidden_ep, shown_at}
 use Rattle.teredo_addr.specs.Teredo.{is_teredo, server_in, has_cone, embedded, link_local}
 use Rattle.indications.specs.Indications.{head_at, auth_at, origin_at, lead_at}

@@ -2,8 +2,8 @@
 use Rattle.std.specs.Prelude.{◌≡◌, ◌≤◌, ◌+◌, ℕ, List, [], length, take, true, false, if◌then◌else◌, is_some, Option, Some, None}
 use Rattle.td_base.specs.Ep.{server_ep}
 use Rattle.td_base.specs.declared.endpoint.Ep.{Ep}
-use Rattle.td_base.specs.declared.small.Side.{Side}
-use Rattle.td_base.specs.declared.small.Side.TheVariants.{Primary, Secondary}
+use Rattle.td_base.specs.declared.side.Side.{Side}
+use Rattle.td_base.specs.declared.side.Side.TheVariants.{Primary, Secondary}
 use Rattle.teredo_node.specs.Fate.{is_drop}
 use Rattle.teredo_node.specs.Step.{Step}
 use Rattle.server_core.specs.declared.server.ServerSettings.{ServerSettings}

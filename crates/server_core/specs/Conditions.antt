@@ -12,7 +12,7 @@ use Rattle.icmp6.specs.Message.{Message, router_solicit}
 use Rattle.bubble.specs.Messages.{message_in}
 use Rattle.teredo_addr.specs.Teredo.{is_teredo, server_in, embedded, link_local}
 use Rattle.teredo_addr.specs.declared.local.TheConstants.{ALL_ROUTERS}
-use Rattle.bubble.specs.Bubbles.{kind_of}
+use Rattle.bubble.specs.Bubbles.{packet_kind}
 use Rattle.bubble.specs.declared.kinds.Kind.{Kind}
 use Rattle.bubble.specs.declared.kinds.Kind.TheVariants.{Bubble, Icmp, Data}
 use Rattle.server_core.specs.declared.server.ServerSettings.{ServerSettings}
@@ -24,7 +24,7 @@ is_data Data = true
 
 -- neither a bubble nor ICMPv6
 unfoldable pub is_other_kind : Fields → Bool
-is_other_kind p = is_data (kind_of p)
+is_other_kind p = is_data (packet_kind p)
 
 -- one of the server's two addresses
 unfoldable pub is_own : ServerSettings → Ip4 → Bool

@@ -1,7 +1,7 @@
 -- The server as an endpoint of a link.
 use Rattle.std.specs.Prelude.{◌≡◌, ℕ, List}
 use Rattle.td_base.specs.declared.endpoint.Ep.{Ep}
-use Rattle.td_base.specs.declared.small.Side.{Side}
+use Rattle.td_base.specs.declared.side.Side.{Side}
 use Rattle.teredo_node.specs.declared.fate.Fate.TheVariants as fate
 use Rattle.teredo_node.specs.Step.{Step, just}
 use Rattle.server_core.specs.declared.server.ServerSettings.{ServerSettings}

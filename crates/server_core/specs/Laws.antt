@@ -1,7 +1,7 @@
 -- What holds of every datagram that a server is given (RFC 4380, section 5.3).
 use Rattle.std.specs.Prelude.{◌≡◌, ◌≤◌, ℕ, List, [], ◌∷◌, Contains}
 use Rattle.td_base.specs.declared.endpoint.Ep.{Ep}
-use Rattle.td_base.specs.declared.small.Side.{Side}
+use Rattle.td_base.specs.declared.side.Side.{Side}
 use Rattle.teredo_node.specs.declared.fate.Fate.{Fate}
 use Rattle.teredo_node.specs.declared.fate.Fate.TheVariants as fate
 use Rattle.server_core.specs.declared.server.ServerSettings.{ServerSettings}

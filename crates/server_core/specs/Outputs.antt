@@ -5,9 +5,9 @@ use Rattle.td_base.specs.declared.ipv4.Ip4.{Ip4}
 use Rattle.td_base.specs.declared.ipv6.Ip6.{Ip6}
 use Rattle.td_base.specs.declared.endpoint.Ep.{Ep}
 use Rattle.ipv6_packet.specs.Packets.{Fields}
-use Rattle.ipv6_packet.specs.declared.header.TheConstants.{NEXT_ICMP, MAX_PACKET}
+use Rattle.ipv6_packet.specs.declared.header.TheConstants.{NEXT_ICMP, PACKET_MAX}
 use Rattle.icmp6.specs.Message.{Message, router_advert}
-use Rattle.icmp6.specs.Writing.{message_bytes}
+use Rattle.icmp6.specs.Layout.{message_bytes}
 use Rattle.icmp6.specs.declared.numbers.TheConstants.{ROUTER_HOP}
 use Rattle.indications.specs.Blocks.{indications_bytes}
 use Rattle.bubble.specs.Reads.{payload_bytes}
@@ -16,7 +16,7 @@ use Rattle.server_core.specs.Conditions.{own_address}
 
 -- a Prefix Information: 64 bits, autonomous, both lifetimes without end, the prefix 2001:0:P::; an MTU
 abbrev pub advert_options : Ip4 → List ℕ
-advert_options primary = 3 ∷ 4 ∷ 64 ∷ 0x40 ∷ replicate 8 255 ++ replicate 4 0 ++ 0x20 ∷ 1 ∷ 0 ∷ 0 ∷ primary.0 ++ replicate 8 0 ++ 5 ∷ 1 ∷ 0 ∷ 0 ∷ big_bytes 4 MAX_PACKET
+advert_options primary = 3 ∷ 4 ∷ 64 ∷ 0x40 ∷ replicate 8 255 ++ replicate 4 0 ++ 0x20 ∷ 1 ∷ 0 ∷ 0 ∷ primary.0 ++ replicate 8 0 ++ 5 ∷ 1 ∷ 0 ∷ 0 ∷ big_bytes 4 PACKET_MAX
 
 -- a Router Advertisement with these options, its other fields 0
 abbrev pub advertisement : Ip4 → Message

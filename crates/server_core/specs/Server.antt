@@ -2,8 +2,8 @@
 use Rattle.std.specs.Prelude.{ℕ, List, [], ◌∷◌, drop, if◌then◌else◌, Some, None, Result, Ok, Err}
 use Rattle.td_base.specs.declared.ipv6.Ip6.{Ip6}
 use Rattle.td_base.specs.declared.endpoint.Ep.{Ep}
-use Rattle.td_base.specs.declared.small.Side.{Side}
-use Rattle.td_base.specs.declared.small.Side.TheVariants.{Primary}
+use Rattle.td_base.specs.declared.side.Side.{Side}
+use Rattle.td_base.specs.declared.side.Side.TheVariants.{Primary}
 use Rattle.td_base.specs.Side.{other_side}
 use Rattle.indications.specs.Leads.{nonce_of}
 use Rattle.bubble.specs.Payloads.{Value, payload_at}

@@ -1,12 +1,12 @@
 //! The Router Advertisement that answers a solicitation.
 ghost use Rattle.std.specs.Prelude.{◌≡◌, ◌≤◌, ◌+◌, length, take, Some};
 ghost use Rattle.indications.specs.Blocks.{indications_len};
-ghost use Rattle.icmp6.specs.Writing.{message_bytes};
+ghost use Rattle.icmp6.specs.Layout.{message_bytes};
 ghost use Rattle.server_core.specs.Outputs.{advert_options, advertisement, advert_bytes};
 
 use crate::conditions::own_address;
 use crate::server::ServerSettings;
-use bubble::MAX_DATAGRAM;
+use bubble::DATAGRAM_MAX;
 use icmp6::{Msg, ROUTER_HOP};
 use ipv6_packet::{HEADER, NEXT_ICMP, Packet};
 use td_base::{Ep, Ip4, Ip6, put};
@@ -63,7 +63,7 @@ pub fn write_advert(
     client: Ip6,
     out: &mut [u8],
 ) -> usize
-    requires { length out.old ≡ MAX_DATAGRAM }
+    requires { length out.old ≡ DATAGRAM_MAX }
     ensures len { result ≡ indications_len nonce (Some from) + HEADER + ADVERTISEMENT }
     ensures written { take result out.new ≡ advert_bytes settings.now from nonce client }
 {

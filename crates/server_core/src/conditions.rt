@@ -1,6 +1,6 @@
 //! What the lines of the server's table ask of a datagram.
 ghost use Rattle.std.specs.Prelude.{◌≡◌, ◌≤◌, length, IsTrue};
-ghost use Rattle.bubble.specs.declared.parts.TheConstants.{MAX_DATAGRAM};
+ghost use Rattle.td_base.specs.declared.datagram.TheConstants.{DATAGRAM_MAX};
 ghost use Rattle.ipv6_packet.specs.Packets.{view as packet_view};
 ghost use Rattle.icmp6.specs.declared.numbers.TheConstants.{SOLICIT_LEN};
 ghost use Rattle.bubble.specs.Messages.{IsMessageOf};

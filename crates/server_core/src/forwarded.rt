@@ -2,16 +2,16 @@
 ghost use Rattle.std.specs.Prelude.{◌≡◌, ◌≤◌, ◌+◌, length, take, Some, None};
 ghost use Rattle.server_core.specs.Outputs.{forwarded};
 
-use bubble::MAX_DATAGRAM;
+use bubble::DATAGRAM_MAX;
 use indications::ORIGIN;
-use ipv6_packet::MAX_PACKET;
+use ipv6_packet::PACKET_MAX;
 use td_base::{Ep, put};
 
 /// Writes a packet with the origin `from`, and answers how many bytes that has.
 #[tactic(auto, unfolding(crate::specs::Outputs::forwarded))]
 pub fn write_with_origin(from: Ep, packet: &[u8], out: &mut [u8]) -> usize
-    requires small { length packet.now ≤ MAX_PACKET }
-    requires room { length out.old ≡ MAX_DATAGRAM }
+    requires small { length packet.now ≤ PACKET_MAX }
+    requires room { length out.old ≡ DATAGRAM_MAX }
     ensures len { result ≡ ORIGIN + length packet.now }
     ensures written { take result out.new ≡ forwarded (Some from) packet.now }
 {
@@ -22,8 +22,8 @@ pub fn write_with_origin(from: Ep, packet: &[u8], out: &mut [u8]) -> usize
 /// Writes a packet as it is, and answers how many bytes it has.
 #[tactic(auto, unfolding(crate::specs::Outputs::forwarded))]
 pub fn write_alone(packet: &[u8], out: &mut [u8]) -> usize
-    requires small { length packet.now ≤ MAX_PACKET }
-    requires room { length out.old ≡ MAX_DATAGRAM }
+    requires small { length packet.now ≤ PACKET_MAX }
+    requires room { length out.old ≡ DATAGRAM_MAX }
     ensures len { result ≡ length packet.now }
     ensures written { take result out.new ≡ forwarded None packet.now }
 {

@@ -1,6 +1,6 @@
 //! The server's table.
 ghost use Rattle.std.specs.Prelude.{◌≡◌, ◌≤◌, ◌++◌, false, length};
-ghost use Rattle.bubble.specs.declared.parts.TheConstants.{MAX_DATAGRAM};
+ghost use Rattle.td_base.specs.declared.datagram.TheConstants.{DATAGRAM_MAX};
 ghost use Rattle.bubble.specs.Payloads.{view};
 ghost use Rattle.ipv6_packet.specs.Reads.{is_big};
 ghost use Rattle.ipv6_packet.specs.Packets.{view as packet_view};
@@ -40,7 +40,7 @@ pub enum Rule {
 #[inline(always)]
 #[tactic(auto, unfolding(crate::specs::Rules::rule_of))]
 pub fn first_rule(settings: &ServerSettings, from: Ep, payload: &Payload<'_>) -> Rule
-    requires { length payload.now.packet.body.now ≤ MAX_DATAGRAM }
+    requires { length payload.now.packet.body.now ≤ DATAGRAM_MAX }
     ensures row { result ≡ rule_of settings.now from (view payload.now) }
     ensures warrant { Warrants settings.now from (view payload.now) result }
 {

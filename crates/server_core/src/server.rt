@@ -8,7 +8,7 @@ use crate::advertisement::write_advert;
 use crate::forwarded::{write_alone, write_with_origin};
 use crate::reply::Answer;
 use crate::rules::{Rule, first_rule};
-use bubble::MAX_DATAGRAM;
+use bubble::DATAGRAM_MAX;
 use indications::nonce_of;
 use std::marker::Model;
 use td_base::{Ep, Ip4, Ip6, Policy, Side, Span};
@@ -16,7 +16,7 @@ use teredo_addr::{embedded, has_cone};
 use teredo_node::Fate;
 
 /// The most bytes of a datagram, and of what the server sends.
-pub const DATAGRAM_LIMIT: usize = MAX_DATAGRAM;
+pub const DATAGRAM_LIMIT: usize = DATAGRAM_MAX;
 
 /// The most bytes that what is sent is longer than the datagram that drew it: an origin of 8, and an advertisement
 /// of 56 for a solicitation of 8.

@@ -11,7 +11,7 @@ use Rattle.std.proofs.lemmas.List.Sums.{fails_before_first, passes_at_first}
 use Rattle.hex.specs.Hex.{is_hex_digit, decode_of, decode_sized}
 use Rattle.hex.specs.declared.error.FromHexError.{FromHexError}
 use Rattle.hex.proofs.HexLemmas.{decode_of-digits, decode_of-ok, decode_sized-twice}
-use Rattle.show.specs.Words.{is_other, bad_place, bytes_of}
+use Rattle.show.specs.Words.{is_other, bad_place, bytes_said}
 use Rattle.show.specs.Shown.{IsBadPlace}
 
 -- the two tests of a digit are one
@@ -78,8 +78,8 @@ all_digits word good =
     (omega (arith, odd), λ k d lt. sym (same_digit (get_or word k d)) ∙ is_digit (is_ascii_hexdigit (get_or word k d)) (fails_before_first is_other word k d (omega arith)))
 
 -- hexadecimal text says its bytes, and has two digits for each
-pub decoded : (word : List ℕ) → bad_place word ≡ None → (decode_of word ≡ Ok (bytes_of word)) × (length word ≡ 2 * length (bytes_of word))
-unfolding bytes_of
+pub decoded : (word : List ℕ) → bad_place word ≡ None → (decode_of word ≡ Ok (bytes_said word)) × (length word ≡ 2 * length (bytes_said word))
+unfolding bytes_said
 decoded word good =
     let parts = all_digits word good in
     let read = decode_of-digits word parts.0 parts.1 in
@@ -98,9 +98,9 @@ decodes_well word x e place bad =
 
 -- hexadecimal text is decoded into a room of its length
 pub written : (word new : List ℕ) (n : ℕ) (r : Result Unit FromHexError) → bad_place word ≡ None → length word ≡ 2 * n
-    → MatchResult (decode_sized word n) (λ bytes. (r ≡ Ok tt) × (new ≡ bytes)) (λ e. r ≡ Err e) → (r ≡ Ok tt) × (new ≡ bytes_of word)
+    → MatchResult (decode_sized word n) (λ bytes. (r ≡ Ok tt) × (new ≡ bytes)) (λ e. r ≡ Err e) → (r ≡ Ok tt) × (new ≡ bytes_said word)
 written word new n r good len given =
-    let e : decode_sized word n ≡ Ok (bytes_of word) = decode_sized-twice word n len ∙ (decoded word good).0 in
+    let e : decode_sized word n ≡ Ok (bytes_said word) = decode_sized-twice word n len ∙ (decoded word good).0 in
     subst (λ (d : Result (List ℕ) FromHexError). MatchResult d (λ bytes. (r ≡ Ok tt) × (new ≡ bytes)) (λ e. r ≡ Err e)) e given
 
 -- the front of a room that is long enough has the length of the bytes

@@ -4,7 +4,7 @@ use Rattle.std.specs.Prelude.{is_ok}
 use Rattle.std.proofs.lemmas.Bool.{lt-ltb, cond-true}
 use Rattle.bubble.specs.declared.fault.PayloadFault.TheVariants as faults
 use Rattle.bubble.specs.Payloads.{payload_at}
-use Rattle.show.specs.Words.{bad_place, bytes_of}
+use Rattle.show.specs.Words.{bad_place, bytes_said}
 use Rattle.show.specs.Faults.{hex_fault_line, fault_line}
 use Rattle.show.specs.Explained.{payload_text, bytes_text, word_text, explained, text_of}
 
@@ -24,6 +24,6 @@ unfolding explained
 bad_text word place e = ap (word_text word) e
 
 -- hexadecimal text
-pub good_text : (word : List ℕ) → bad_place word ≡ None → explained word ≡ bytes_text (bytes_of word)
+pub good_text : (word : List ℕ) → bad_place word ≡ None → explained word ≡ bytes_text (bytes_said word)
 unfolding explained
 good_text word e = ap (word_text word) e

@@ -2,7 +2,7 @@
 use Rattle.std.specs.Prelude.{ℕ, List, Option, Some, None, Result, Ok, Err}
 use Rattle.bubble.specs.declared.fault.PayloadFault.{PayloadFault}
 use Rattle.bubble.specs.Payloads.{Value, payload_at}
-use Rattle.show.specs.Words.{bad_place, bytes_of}
+use Rattle.show.specs.Words.{bad_place, bytes_said}
 use Rattle.show.specs.Lines.{payload_lines}
 use Rattle.show.specs.Faults.{hex_fault_line, fault_line}
 
@@ -17,7 +17,7 @@ bytes_text x = payload_text x (payload_at x)
 
 -- what a word is, by the place where it isn't hexadecimal text
 abbrev pub word_text : List ℕ → Option ℕ → Result (List ℕ) (List ℕ)
-word_text word None = bytes_text (bytes_of word)
+word_text word None = bytes_text (bytes_said word)
 word_text word (Some place) = Err (hex_fault_line place)
 
 -- the lines of the payload that a word says, or the line of its first fault

@@ -3,7 +3,7 @@ use Rattle.std.specs.Prelude.{ℕ, ◌+◌, ◌≤◌, ◌==◌, List, [], ◌++
 use Rattle.byteorder.specs.Endian.{big_bytes}
 use Rattle.hex.specs.Hex.{encode_lower}
 use Rattle.td_base.specs.declared.ipv6.Ip6.{Ip6}
-use Rattle.td_base.specs.declared.small.Span.{Span}
+use Rattle.td_base.specs.declared.span.Span.{Span}
 use Rattle.td_base.specs.Texts.{ip4_text, ep_text}
 use Rattle.td_base.specs.Ip6Texts.{ip6_text}
 use Rattle.teredo_addr.specs.declared.address.TeredoAddr.{TeredoAddr}
@@ -14,9 +14,9 @@ use Rattle.indications.specs.declared.blocks.Origin.{Origin}
 use Rattle.indications.specs.declared.blocks.TheConstants.{NONCE}
 use Rattle.bubble.specs.declared.kinds.Kind.{Kind}
 use Rattle.bubble.specs.declared.kinds.Kind.TheVariants as kinds
-use Rattle.bubble.specs.Bubbles.{kind_of}
+use Rattle.bubble.specs.Bubbles.{packet_kind}
 use Rattle.bubble.specs.Payloads.{Value}
-use Rattle.show.specs.declared.payload_lines.TheConstants.{FLAGS, KEY_MOST}
+use Rattle.show.specs.declared.payload_lines.TheConstants.{FLAGS, KEY_MAX}
 
 -- a word and a number
 abbrev pub field : List ℕ → ℕ → List ℕ
@@ -38,8 +38,8 @@ span_bytes x span = slice_range x span.at (span.at + span.len)
 pub record AreShortSpans (x : List ℕ) (a : Auth) : Type 0 where
   pub id : a.id.at + a.id.len ≤ length x
   pub value : a.value.at + a.value.len ≤ length x
-  pub id_short : a.id.len ≤ KEY_MOST
-  pub value_short : a.value.len ≤ KEY_MOST
+  pub id_short : a.id.len ≤ KEY_MAX
+  pub value_short : a.value.len ≤ KEY_MAX
 
 -- an authentication: identifier, value, nonce and confirmation
 abbrev pub keys_line : List ℕ → Auth → List ℕ
@@ -79,7 +79,7 @@ kind_word kinds.Data = codes "data"
 
 -- what the packet is, and its body
 abbrev pub body_line : Fields → List ℕ
-body_line p = codes "body " ++ (kind_word (kind_of p) ++ (codes " " ++ (hex_text p.body ++ codes "\n")))
+body_line p = codes "body " ++ (kind_word (packet_kind p) ++ (codes " " ++ (hex_text p.body ++ codes "\n")))
 
 -- the lines of a payload that the datagram x spells
 unfoldable pub payload_lines : List ℕ → Value → List ℕ

@@ -14,5 +14,5 @@ unfoldable pub bad_place : List ℕ → Option ℕ
 bad_place word = option_or (position is_other word) (if length word % 2 == 1 then Some (length word) else None)
 
 -- the bytes that hexadecimal text says
-unfoldable pub bytes_of : List ℕ → List ℕ
-bytes_of digits = result_unwrap_or (decode_of digits) []
+unfoldable pub bytes_said : List ℕ → List ℕ
+bytes_said digits = result_unwrap_or (decode_of digits) []

@@ -2,8 +2,8 @@
 ghost use Rattle.std.specs.Prelude.{◌≡◌, ◌+◌, ◌≤◌, ◌++◌, length};
 ghost use Rattle.show.specs.Faults.{last, hex_fault_line, lead_fault_line, packet_fault_words, packet_fault_line, fault_line};
 
+use crate::line_texts::{LINE_ROOM, put_field};
 use crate::page::{PAGE_LEN, Page};
-use crate::pieces::{LINE_ROOM, put_field};
 use bubble::PayloadFault;
 use indications::LeadFault;
 use ipv6_packet::PacketFault;

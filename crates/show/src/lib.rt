@@ -21,19 +21,19 @@
 //! | module | holds | stated in |
 //! |---|---|---|
 //! | `page` | `Page`, a text that is being made | |
-//! | `pieces` | numbers, addresses and bytes as text | `specs/Lines.antt` |
+//! | `line_texts` | numbers, addresses and bytes as text | `specs/Lines.antt` |
 //! | `words` | what hexadecimal text is, and the bytes that it says | `specs/Words.antt` |
 //! | `payload_lines` | the lines of a payload | `specs/Lines.antt` |
 //! | `fault_lines` | the line of a fault | `specs/Faults.antt` |
-//! | `explaining` | `explain` | `specs/Explained.antt`, `Shown.antt` |
+//! | `explainer` | `explain` | `specs/Explained.antt`, `Shown.antt` |
 #![tactic(auto)]
 
-mod explaining;
+mod explainer;
 mod fault_lines;
+mod line_texts;
 mod page;
 mod payload_lines;
-mod pieces;
 mod words;
 
-pub use explaining::explain;
+pub use explainer::explain;
 pub use page::{PAGE_LEN, Page};

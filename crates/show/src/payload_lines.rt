@@ -4,16 +4,16 @@ ghost use Rattle.ipv6_packet.specs.Packets.{view as packet_view};
 ghost use Rattle.bubble.specs.Payloads.{view};
 ghost use Rattle.show.specs.Lines.{number_digits, span_bytes, AreShortSpans, keys_line, auth_line, origin_line, packet_line, embedded_line, teredo_line, address_lines, kind_word, body_line, payload_lines};
 
+use crate::line_texts::{LINE_ROOM, put_ep, put_field, put_hex, put_ip4, put_ip6};
 use crate::page::{PAGE_LEN, Page};
-use crate::pieces::{LINE_ROOM, put_ep, put_field, put_hex, put_ip4, put_ip6};
-use bubble::{Kind, MAX_DATAGRAM, Payload};
+use bubble::{DATAGRAM_MAX, Kind, Payload};
 use indications::{Auth, NONCE, Origin};
 use ipv6_packet::Packet;
 use td_base::{Ip6, Span};
 use teredo_addr::{TeredoAddr, of_ip6};
 
 /// The most bytes of an identifier, and of an authentication value: their lengths stand in one byte.
-pub const KEY_MOST: usize = 255;
+pub const KEY_MAX: usize = 255;
 
 /// The bytes of the flags in a Teredo address: RFC 4380, section 4.
 pub const FLAGS: usize = 2;
@@ -170,7 +170,7 @@ fn kind_name(kind: Kind) -> &'static [u8]
 
 /// Appends what a packet is, and its body.
 fn put_body(packet: &Packet, page: &mut Page)
-    requires body { length packet.now.body.now ≤ MAX_DATAGRAM }
+    requires body { length packet.now.body.now ≤ DATAGRAM_MAX }
     requires room { length page.old + BODY_ROOM ≤ PAGE_LEN }
     ensures { page.new ≡ page.old ++ body_line (packet_view packet.now) }
 {
@@ -184,7 +184,7 @@ fn put_body(packet: &Packet, page: &mut Page)
 /// Appends the lines of a payload, whose datagram is `bytes`.
 pub(crate) fn put_payload(bytes: &[u8], payload: &Payload, page: &mut Page)
     requires spans { IfSome payload.now.lead.auth (AreShortSpans bytes.now) }
-    requires body { length payload.now.packet.body.now ≤ MAX_DATAGRAM }
+    requires body { length payload.now.packet.body.now ≤ DATAGRAM_MAX }
     requires room { length page.old + PAYLOAD_ROOM ≤ PAGE_LEN }
     ensures { page.new ≡ page.old ++ payload_lines bytes.now (view payload.now) }
 {

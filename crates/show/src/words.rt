@@ -1,6 +1,6 @@
 //! What a word says: bytes, by two hexadecimal digits of either case each.
 ghost use Rattle.std.specs.Prelude.{◌≡◌, ◌*◌, None, length, position};
-ghost use Rattle.show.specs.Words.{is_other, bad_place, bytes_of};
+ghost use Rattle.show.specs.Words.{is_other, bad_place, bytes_said};
 
 /// The place of the first byte that is no digit.
 fn first_other(word: &[u8]) -> Option<usize>
@@ -27,7 +27,7 @@ pub(crate) fn bad_place(word: &[u8]) -> Option<usize>
 pub(crate) fn put_bytes(digits: &[u8], room: &mut [u8])
     requires text { bad_place digits.now ≡ None }
     requires fits { length digits.now ≡ 2 * length room.old }
-    ensures { room.new ≡ bytes_of digits.now }
+    ensures { room.new ≡ bytes_said digits.now }
 {
     if hex::decode_to_slice(digits, room).is_err() {
         unreachable!();

@@ -1,6 +1,6 @@
 -- What an answer that came by tests and steps tells of them.
 use Rattle.std.proofs.Common.{◌≡◌, true, false, Bool, cond, ◌⊎◌, inl, inr, Result, Ok, Err, refl}
-use Rattle.td_base.specs.Reading.{◌>>=◌}
+use Rattle.td_base.specs.Results.{◌>>=◌}
 
 -- a test that did not fail
 pub guard_ok : {A E : Type 0} (b : Bool) (d : E) (x : Result A E) (y : A) → cond b (Err d) x ≡ Ok y → (b ≡ false) × (x ≡ Ok y)

@@ -1,6 +1,6 @@
 -- Lists of bytes, as contracts speak of them.
 use Rattle.std.specs.Prelude.{ℕ, ◌<◌, List, ◌≡◌, ◌+◌, ◌≤◌, ◌++◌, length, slice_index, take, drop, Result, Ok, Err}
-use Rattle.td_base.specs.declared.small.Room.{Room}
+use Rattle.td_base.specs.declared.refusals.Room.{Room}
 use Rattle.byteorder.specs.Endian.{big_number}
 
 -- each number is a byte

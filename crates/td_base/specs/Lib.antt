@@ -1,5 +1,5 @@
 pub mod Bytes
-pub mod Reading
+pub mod Results
 pub mod Ip4
 pub mod Ip6
 pub mod Ep
@@ -7,7 +7,7 @@ pub mod Side
 pub mod Reach
 pub mod Names
 pub mod Sums
-pub mod Printing
+pub mod Prints
 pub mod Texts
 pub mod Fronts
 pub mod Ip6Texts

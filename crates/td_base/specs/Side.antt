@@ -1,6 +1,6 @@
 -- A server's two addresses.
-use Rattle.td_base.specs.declared.small.Side.{Side}
-use Rattle.td_base.specs.declared.small.Side.TheVariants.{Primary, Secondary}
+use Rattle.td_base.specs.declared.side.Side.{Side}
+use Rattle.td_base.specs.declared.side.Side.TheVariants.{Primary, Secondary}
 
 -- the other one of the two
 abbrev pub other_side : Side → Side

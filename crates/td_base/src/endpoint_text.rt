@@ -1,6 +1,6 @@
 //! The text of an endpoint: its address, a colon, and its port.
 ghost use Rattle.std.specs.Prelude.{◌≡◌, ◌≤◌, length, IfOk, IfErr};
-ghost use Rattle.td_base.specs.Printing.{Prints};
+ghost use Rattle.td_base.specs.Prints.{Prints};
 ghost use Rattle.td_base.specs.Ep.{IsEp};
 ghost use Rattle.td_base.specs.Texts.{ep_text, IsEpText, IsLongestBegin};
 ghost use Rattle.td_base.specs.Fronts.{Halts};
@@ -11,8 +11,8 @@ use crate::ipv4::Ip4;
 use crate::ipv4_text::{PART_MOST, short_ip4};
 use crate::line::{LineBuf, print_text};
 use crate::numeral::{number_last, number_then};
+use crate::refusals::{BadText, Room};
 use crate::short_text::SHORT_LEN;
-use crate::small::{BadText, Room};
 
 /// The largest port.
 const PORT_MOST: u64 = u16::MAX as u64;

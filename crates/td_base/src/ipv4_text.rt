@@ -1,6 +1,6 @@
 //! The text of an IPv4 address: four decimal numbers, joined by dots.
 ghost use Rattle.std.specs.Prelude.{◌≡◌, ◌+◌, ◌≤◌, ◌++◌, length, IfOk, IfErr};
-ghost use Rattle.td_base.specs.Printing.{Prints};
+ghost use Rattle.td_base.specs.Prints.{Prints};
 ghost use Rattle.td_base.specs.Ip4.{IsIp4};
 ghost use Rattle.td_base.specs.Texts.{ip4_text, IsIp4Text, IsLongestBegin};
 ghost use Rattle.td_base.specs.Fronts.{Halts};
@@ -9,8 +9,8 @@ ghost use Rattle.td_base.specs.declared.ipv4.Ip4.{Ip4};
 use crate::ipv4::Ip4;
 use crate::line::{LineBuf, print_text};
 use crate::numeral::{number_last, number_then};
+use crate::refusals::{BadText, Room};
 use crate::short_text::{DIGITS, SHORT_LEN, ShortText};
-use crate::small::{BadText, Room};
 
 /// The largest of the four numbers.
 pub(crate) const PART_MOST: u64 = u8::MAX as u64;

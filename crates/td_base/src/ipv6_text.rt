@@ -2,15 +2,15 @@
 ghost use Rattle.std.specs.Prelude.{◌≡◌, ◌+◌, ◌*◌, ◌<◌, ◌≤◌, ◌++◌, length, codes};
 ghost use Rattle.std.specs.Char.{digit_char};
 ghost use Rattle.std.specs.Net.Text as Text;
-ghost use Rattle.td_base.specs.Printing.{Prints};
+ghost use Rattle.td_base.specs.Prints.{Prints};
 ghost use Rattle.td_base.specs.Ip6.{IsIp6};
 ghost use Rattle.td_base.specs.Ip6Texts.{groups, ip6_text, Spells};
 
 use crate::ipv6::Ip6;
 use crate::ipv6_groups::groups_of;
 use crate::line::{LineBuf, print_text};
+use crate::refusals::Room;
 use crate::short_text::{SHORT_LEN, ShortText};
-use crate::small::Room;
 
 /// How many digits a group has at most.
 pub(crate) const GROUP_DIGITS: usize = 4;

@@ -1,4 +1,4 @@
-//! Addresses, endpoints and small types, their texts, sums of bytes, and numbers in bytes.
+//! Addresses and endpoints, their texts, sums of bytes, and numbers in bytes.
 //!
 //! Standards: RFC 4291 (IPv6 addresses), RFC 5952 section 4 (their text), RFC 1071 (the checksum's sum),
 //! RFC 4380 section 4 (which IPv4 addresses may be embedded). Our choices: `docs/DECISIONS.md`, "Addresses".
@@ -20,18 +20,21 @@
 //! |---|---|---|
 //! | `ipv4`, `ipv6`, `endpoint` | `Ip4`, `Ip6`, `Ep`: equality and order | `specs/Ip4.antt`, `Ip6.antt`, `Ep.antt` |
 //! | `reach` | `Policy`, and which addresses are global, usable, link-local | `specs/Reach.antt` |
-//! | `small` | `Millis`, `Side`, `Span`, and the refusals `BadText`, `Room`, `NoMemory` | |
+//! | `millis`, `span`, `datagram` | `Millis`, `Span`, and the most bytes of a datagram | |
+//! | `side` | `Side` | `specs/Side.antt` |
+//! | `refusals` | `BadText`, `Room`, `NoMemory` | |
 //! | `node_name` | `Name` | `specs/Names.antt` |
 //! | `fields` | numbers in network order, and addresses, at a place | `specs/Bytes.antt` |
 //! | `sum` | the one's complement sum | `specs/Sums.antt` |
-//! | `line` | `LineBuf`, a line that is being made | `specs/Printing.antt` |
+//! | `line` | `LineBuf`, a line that is being made | `specs/Prints.antt` |
 //! | `numeral`, `ipv4_text`, `endpoint_text` | the texts of numbers, IPv4 addresses and endpoints | `specs/Texts.antt` |
-//! | `ipv6_text`, `ipv6_reading` | the texts of IPv6 addresses, printed and read | `specs/Ip6Texts.antt` |
+//! | `ipv6_text`, `ipv6_reader` | the texts of IPv6 addresses, printed and read | `specs/Ip6Texts.antt` |
 //! | `short_text`, `ipv6_groups` | the private buffers of the two | |
 //!
 //! `specs/Fronts.antt` and `Ip6Fronts.antt` say how a text is read from its front, for the contracts of private functions.
 #![tactic(auto)]
 
+mod datagram;
 mod endpoint;
 mod endpoint_text;
 mod fields;
@@ -39,28 +42,35 @@ mod ipv4;
 mod ipv4_text;
 mod ipv6;
 mod ipv6_groups;
-mod ipv6_reading;
+mod ipv6_reader;
 mod ipv6_text;
 mod line;
+mod millis;
 mod node_name;
 mod numeral;
 mod reach;
+mod refusals;
 mod short_text;
-mod small;
+mod side;
+mod span;
 mod sum;
 
+pub use datagram::DATAGRAM_MAX;
 pub use endpoint::{Ep, TEREDO_PORT};
 pub use endpoint_text::{print_ep, read_ep};
 pub use fields::{field16, field32, field64, ip4_at, ip6_at, put, put8, put16, put32, put64};
 pub use ipv4::Ip4;
 pub use ipv4_text::{print_ip4, read_ip4};
 pub use ipv6::Ip6;
-pub use ipv6_reading::read_ip6;
+pub use ipv6_reader::read_ip6;
 pub use ipv6_text::print_ip6;
 pub use line::{LINE_LEN, LineBuf, print_text};
+pub use millis::Millis;
 pub use node_name::{NAME_LEN, Name};
 pub use numeral::{NUMBER_LEN, print_number, read_number};
 pub use reach::{Policy, is_global, is_global6, is_link_local, usable};
+pub use refusals::{BadText, NoMemory, Room};
 pub use short_text::SHORT_LEN;
-pub use small::{BadText, Millis, NoMemory, Room, Side, Span};
+pub use side::Side;
+pub use span::Span;
 pub use sum::ones_sum;

@@ -1,8 +1,8 @@
 //! A line of text that is being made.
 ghost use Rattle.std.specs.Prelude.{◌≡◌, ◌+◌, ◌≤◌, ◌++◌, [], length};
-ghost use Rattle.td_base.specs.Printing.{Prints};
+ghost use Rattle.td_base.specs.Prints.{Prints};
 
-use crate::small::Room;
+use crate::refusals::Room;
 use std::marker::Model;
 
 /// How many bytes a line holds at most.

@@ -1,11 +1,11 @@
 //! The text of a number: its decimal digits, without sign and without leading zeros.
 ghost use Rattle.std.specs.Prelude.{◌≡◌, ℕ, ◌+◌, ◌*◌, ◌-◌, ◌<◌, ◌≤◌, List, [], ◌∷◌, ◌++◌, ◌⊎◌, length, IfOk, IfErr, IfSome, IfNone, SomeIff, decimal};
-ghost use Rattle.td_base.specs.Printing.{Prints};
+ghost use Rattle.td_base.specs.Prints.{Prints};
 ghost use Rattle.td_base.specs.Texts.{IsNumberText, IsLongestBegin};
 ghost use Rattle.td_base.specs.Fronts.{so_far, NoneGoesOn, Halts, HaltsThen};
 
 use crate::line::{LineBuf, print_text};
-use crate::small::{BadText, Room};
+use crate::refusals::{BadText, Room};
 use itoa::Buffer;
 
 /// How many digits a number of 64 bits has at most.

@@ -1,12 +1,12 @@
 -- What a link tells, and how each of its calls moves that.
 use Rattle.std.specs.Prelude.{◌≡◌, ◌≤◌, ℕ, Bool, ⊤, List, take, drop, slice_index_or, Option, Some, None}
-use Rattle.td_base.specs.declared.small.Side.{Side}
+use Rattle.td_base.specs.declared.side.Side.{Side}
 use Rattle.td_base.specs.declared.endpoint.Ep.{Ep}
 use Rattle.td_base.specs.declared.ipv4.Ip4.{Ip4}
 use Rattle.td_outside.specs.declared.link.Addresses.{Addresses}
 use Rattle.td_outside.specs.declared.link.Arrival.{Arrival}
 use Rattle.td_outside.specs.declared.link.Arrival.TheVariants.{Got, Idle}
-use Rattle.td_outside.specs.declared.link.TheConstants.{DATAGRAM_MAX}
+use Rattle.td_base.specs.declared.datagram.TheConstants.{DATAGRAM_MAX}
 use Rattle.td_outside.specs.Moves.{Moves, Stays, Gains}
 
 -- what came: a datagram, of which a link keeps the first DATAGRAM_MAX bytes, or nothing

@@ -2,7 +2,7 @@
 use Rattle.std.specs.Prelude.{true, false, ℕ, Bool, if◌then◌else◌, nat_lt, ◌==◌, List, [], ◌∷◌, ◌++◌, length, take, drop, Option, Some, None}
 use Rattle.std.specs.Option.{option_and_then}
 use Rattle.td_outside.specs.declared.link.Addresses.{Addresses}
-use Rattle.td_outside.specs.declared.link.TheConstants.{DATAGRAM_MAX}
+use Rattle.td_base.specs.declared.datagram.TheConstants.{DATAGRAM_MAX}
 use Rattle.td_outside.specs.declared.mem_arrival.MemArrival.{MemArrival}
 use Rattle.td_outside.specs.declared.mem_arrival.MemArrival.TheVariants.{Got, Idle}
 use Rattle.td_outside.specs.Causes.{raised, count_end}

@@ -1,6 +1,6 @@
 -- The clock of the tests.
 use Rattle.std.specs.Prelude.{◌≤◌, ◌<◌, ℕ, ⊤, List, [], ◌∷◌}
-use Rattle.td_base.specs.declared.small.Millis.{Millis}
+use Rattle.td_base.specs.declared.millis.Millis.{Millis}
 use Rattle.td_outside.specs.declared.clock.TheConstants.{CLOCK_END_MS}
 
 -- moments that a clock may give: each below its end, and none below the one before it

@@ -8,8 +8,7 @@ ghost use Rattle.td_outside.specs.Moves.{Stays, Gains};
 use crate::Failed;
 use td_base::{Ep, Ip4, Side};
 
-/// The most bytes of a datagram that a link takes or sends.
-pub const DATAGRAM_MAX: usize = 1400;
+pub use td_base::DATAGRAM_MAX;
 
 /// The addresses of a link's two sides.
 #[derive(Clone, Copy, Debug, PartialEq, Eq)]

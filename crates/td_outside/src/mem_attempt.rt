@@ -1,7 +1,7 @@
 //! What a link in memory keeps of an attempt to send.
 ghost use Rattle.std.specs.Prelude.{◌≡◌, ◌≤◌, length, take};
 ghost use Rattle.td_outside.specs.Link.{Attempt, attempt};
-ghost use Rattle.td_outside.specs.declared.link.TheConstants.{DATAGRAM_MAX};
+ghost use Rattle.td_base.specs.declared.datagram.TheConstants.{DATAGRAM_MAX};
 
 use crate::DATAGRAM_MAX;
 use std::marker::Model;

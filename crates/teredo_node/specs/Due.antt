@@ -1,6 +1,6 @@
 -- What is due of a node at a moment, and what a tick does about it.
 use Rattle.std.specs.Prelude.{◌≡◌, ◌≤◌, ◌<◌, ℕ, Option, Some, None}
-use Rattle.td_base.specs.declared.small.Millis.{Millis}
+use Rattle.td_base.specs.declared.millis.Millis.{Millis}
 use Rattle.teredo_node.specs.declared.fate.Fate.TheVariants.{Idle}
 use Rattle.teredo_node.specs.Step.{Step, just}
 

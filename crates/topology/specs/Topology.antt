@@ -7,8 +7,8 @@ use Rattle.td_base.specs.declared.endpoint.Ep.{Ep}
 use Rattle.td_base.specs.declared.ipv4.Ip4.{Ip4}
 use Rattle.td_base.specs.declared.ipv6.Ip6.{Ip6}
 use Rattle.td_base.specs.declared.node_name.Name.{Name}
-use Rattle.td_base.specs.declared.small.Side.{Side}
-use Rattle.td_base.specs.declared.small.Side.TheVariants.{Primary, Secondary}
+use Rattle.td_base.specs.declared.side.Side.{Side}
+use Rattle.td_base.specs.declared.side.Side.TheVariants.{Primary, Secondary}
 use Rattle.nat_kinds.specs.declared.kind.NatKind.TheVariants.{Cone}
 use Rattle.nat_kinds.specs.declared.settings.NatSettings.{NatSettings}
 use Rattle.topology.specs.declared.server_node.ServerNode.{ServerNode}

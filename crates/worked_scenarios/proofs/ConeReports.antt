@@ -13,7 +13,7 @@ use Rattle.icmp6.specs.Checksum.{checksum_of}
 use Rattle.icmp6.specs.Options.{option_len, whole_options}
 use Rattle.icmp6.specs.Message.{echo_request_at, echo_reply_at, solicit_at, advert_at, message_at}
 use Rattle.icmp6.specs.Blocks.{options_at}
-use Rattle.icmp6.specs.Writing.{message_bytes}
+use Rattle.icmp6.specs.Layout.{message_bytes}
 use Rattle.teredo_addr.specs.Hidden.{hidden_ep, shown_at}
 use Rattle.teredo_addr.specs.Teredo.{is_teredo, server_in, flags_in, has_cone, embedded, teredo_ip, link_local}
 use Rattle.teredo_addr.specs.Reaching.{is_reachable}
@@ -23,7 +23,7 @@ use Rattle.bubble.specs.Bubbles.{is_bubble}
 use Rattle.bubble.specs.Payloads.{payload_at}
 use Rattle.bubble.specs.Reads.{is_payload, value_in}
 use Rattle.bubble.specs.Messages.{message_in, is_ill_formed}
-use Rattle.bubble.specs.Parts.{packet_in, source_in, packet_given, destination_in}
+use Rattle.bubble.specs.PacketsIn.{packet_in, source_in, packet_given, destination_in}
 use Rattle.server_core.specs.Conditions.{is_other_kind, is_own, is_for_server, is_solicitation, is_forged, is_for_client, is_not_ours, is_unusable, is_looped}
 use Rattle.server_core.specs.Rules.{rule_of}
 use Rattle.server_core.specs.Outputs.{advert_bytes, forwarded}

@@ -5,7 +5,7 @@ use Rattle.std.proofs.lemmas.List.{length-append, get_or-set_other}
 use Rattle.std.proofs.lemmas.Grind.{get_or-set_at}
 use Rattle.std.proofs.lemmas.Bool.Decides.{eqb_tells}
 use Rattle.td_base.specs.declared.endpoint.Ep.{Ep}
-use Rattle.td_base.specs.declared.small.Span.{Span}
+use Rattle.td_base.specs.declared.span.Span.{Span}
 use Rattle.teredo_node.specs.Step.{Step, Send}
 use Rattle.teredo_node.specs.Journal.{arrived}
 use Rattle.teredo_node.specs.declared.fate.Fate.TheVariants as fate

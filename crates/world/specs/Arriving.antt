@@ -1,6 +1,6 @@
 -- What a link that lends one datagram tells.
 use Rattle.std.specs.Prelude.{if◌then◌else◌, [], ◌∷◌, take, Some, None}
-use Rattle.td_outside.specs.declared.link.TheConstants.{DATAGRAM_MAX}
+use Rattle.td_base.specs.declared.datagram.TheConstants.{DATAGRAM_MAX}
 use Rattle.td_outside.specs.Link.{Datagram, Told}
 use Rattle.world.specs.declared.arriving.Arriving.{Arriving}
 

@@ -1,7 +1,7 @@
 use Rattle.std.proofs.Common.{ℕ, List, ap, ◌∙◌, arith}
 use Rattle.std.specs.Prelude.{replicate}
 use Rattle.icmp6.specs.Message.{router_advert}
-use Rattle.icmp6.specs.Writing.{message_bytes}
+use Rattle.icmp6.specs.Layout.{message_bytes}
 use Rattle.icmp6.proofs.AgainLaws.{length-message_bytes}
 use Rattle.server_core.proofs.Lengths.{has_room, fills}
 use Rattle.server_core.proofs.advertisement.advertisement.Goals as goal

@@ -5,7 +5,7 @@ use Rattle.ipv6_packet.specs.Reads.{is_big}
 use Rattle.indications.specs.Blocks.{nonce_len}
 use Rattle.bubble.specs.Payloads.{view}
 use Rattle.teredo_node.specs.declared.fate.Fate.TheVariants as fate
-use Rattle.td_base.specs.declared.small.Side.TheVariants.{Primary}
+use Rattle.td_base.specs.declared.side.Side.TheVariants.{Primary}
 use Rattle.server_core.specs.declared.rules.Rule.TheVariants as rules
 use Rattle.server_core.specs.Outputs.{forwarded}
 use Rattle.server_core.proofs.Lengths.{packet_is_small, nonce_before}

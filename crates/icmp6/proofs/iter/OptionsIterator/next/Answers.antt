@@ -1,5 +1,5 @@
 use Rattle.std.proofs.Common.{◌≡◌, ℕ, List, ◌∷◌, ◌+◌, ◌-◌, length, take, drop, ap, subst, sym, ◌∙◌, arith}
-use Rattle.icmp6.specs.declared.block.Opt.{Opt}
+use Rattle.icmp6.specs.declared.opt.Opt.{Opt}
 use Rattle.icmp6.specs.Options.{IsOption}
 use Rattle.icmp6.specs.Blocks.{options_at, option_of}
 use Rattle.icmp6.proofs.BlockLaws.{options_end, options_go_on, whole_block}

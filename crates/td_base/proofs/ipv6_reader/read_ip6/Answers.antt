@@ -1,0 +1,13 @@
+use Rattle.std.proofs.Common.{◌≡◌, refl}
+use Rattle.td_base.proofs.Halting.{longest_begin}
+use Rattle.td_base.proofs.Ip6Lemmas.{one_spelled}
+use Rattle.td_base.proofs.ipv6_reader.read_ip6.Goals as goal
+
+pub returns-in-Ok-clause-only : goal.returns-in-Ok-clause-only
+returns-in-Ok-clause-only c value is spelled =
+    let found = c.in-Ok.ensures.found in
+    let same : c.in-Ok.ip ≡ value = one_spelled _ _ c.args.text.now found.0 is found.1 spelled in
+    rw same refl
+
+pub returns-in-Err-clause-place : goal.returns-in-Err-clause-place
+returns-in-Err-clause-place c = longest_begin _ _ _ _ c.in-Err.ensures.halts c.before-in-Err.ensures

@@ -1,4 +1,0 @@
-use Rattle.td_base.proofs.ipv6_reading.+after_head.Given as goal
-
-abbrev pub decreases-after_head : goal.decreases-after_head
-decreases-after_head l = l.missing
