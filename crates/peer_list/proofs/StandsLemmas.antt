@@ -76,14 +76,19 @@ quiet_by e m n (Some x) l = by_test (is_within LISTED_MS m x.peer.touched) refl 
 
 -- what follows an entry, by whether it touches
 after_quiet : (e : Mention) (x : Peer) → e.bearing.touches ≡ false → after e x ≡ record (after e x) { touched = x.touched }
-after_quiet e x quiet = rw quiet refl
+after_quiet e x quiet = ap (λ t. record (after e x) { touched = cond t (Some e.moment) x.touched }) quiet
+
+touch_by : (e : Mention) (y : Bool) (before now : Option Peer) → cond y (Some (after e (unwrap_or before no_peer))) None ≡ peer_if true true y e before now
+touch_by e true before now = refl
+touch_by e false before now = refl
 
 seen_by : (e : Mention) (old : Table) (n : ℕ) (who : Ip6) (t : Bool) → e.bearing.touches ≡ t → e.moment ≤ n
     → while_listed n (after e (known_to old e.moment who)) ≡ peer_if true t (is_young LISTED_MS n e.moment) e (peer_in old e.moment who) (peer_in old n who)
 unfolding peer_in
-seen_by e old n who true touches l = rw touches (by_young (is_young LISTED_MS n e.moment)) where
-  by_young : (y : Bool) → cond y (Some (record (after e (known_to old e.moment who)) { touched = Some e.moment })) None ≡ peer_if true true y e (peer_in old e.moment who) (peer_in old n who)
-  by_young y = ?
+seen_by e old n who true touches l =
+    let touched : (after e (known_to old e.moment who)).touched ≡ Some e.moment = ap (λ t. cond t (Some e.moment) (known_to old e.moment who).touched) touches in
+    ap (λ o. cond (is_within LISTED_MS n o) (Some (after e (known_to old e.moment who))) None) touched
+    ∙ touch_by e (is_young LISTED_MS n e.moment) (peer_in old e.moment who) (peer_in old n who)
 seen_by e old n who false quiet l =
     let f : Peer → Peer = λ x. record (after e x) { touched = x.touched } in
     let all : after e ≡ f = λ i x. after_quiet e x quiet i in
@@ -146,7 +151,7 @@ calls_of_an_entry m p who = record {
   queue = λ x. refl;
   queue_tried = λ x nonce. refl;
   tried = λ nonce. still_waits (tried_at m nonce p);
-  trust = λ at none. ?;
+  trust = λ at none i. record p { touched = Some m; trusted = Some at; tries = none i; nonce = None; waiting = append-nil p.waiting i };
   heard_release = refl;
   trust_heard_release = λ at. refl;
   give_up = refl;
