@@ -115,6 +115,7 @@ impl Peer {
     }
 
     /// Whether it is trusted at this very endpoint, port and all.
+    #[tactic(auto, unfolding(crate::specs::Judged::is_trusted_at))]
     pub fn is_trusted_at(&self, from: Ep) -> bool
         ensures { result ≡ is_trusted_at from self.now }
     {
@@ -125,6 +126,7 @@ impl Peer {
     }
 
     /// Whether packets go to it without a try: RFC 4380, section 5.2.4.
+    #[tactic(auto, unfolding(crate::specs::Judged::is_fresh))]
     pub fn is_fresh(&self, now: Millis) -> bool
         ensures { result ≡ is_fresh now.0 self.now }
     {
@@ -135,6 +137,7 @@ impl Peer {
     }
 
     /// Whether no further try helps: RFC 4380, section 5.2.6.
+    #[tactic(auto, unfolding(crate::specs::Judged::is_spent))]
     pub fn is_spent(&self, now: Millis) -> bool
         ensures { result ≡ is_spent now.0 self.now }
     {
@@ -142,6 +145,7 @@ impl Peer {
     }
 
     /// Whether it may not be tried now: RFC 4380, section 5.2.6.
+    #[tactic(auto, unfolding(crate::specs::Judged::is_barred, crate::specs::Judged::is_spent))]
     pub fn is_barred(&self, now: Millis) -> bool
         ensures { result ≡ is_barred now.0 self.now }
     {
@@ -149,6 +153,7 @@ impl Peer {
     }
 
     /// Whether no further packet may wait for it.
+    #[tactic(auto, unfolding(crate::specs::Judged::is_full))]
     pub fn is_full(&self) -> bool
         ensures { result ≡ is_full self.now }
     {
@@ -156,6 +161,7 @@ impl Peer {
     }
 
     /// When its next try is due.
+    #[tactic(auto, unfolding(crate::specs::Judged::due_of))]
     pub fn due(&self) -> Millis
         ensures { result.0 ≡ due_of self.now }
     {
@@ -195,6 +201,7 @@ impl Peer {
     }
 
     /// Lets a packet wait, and touches the peer. A refusal leaves it as it was.
+    #[tactic(auto, unfolding(crate::specs::Judged::is_full))]
     pub(crate) fn queue(&mut self, alloc: Global, now: Millis, packet: &[u8]) -> Result<(), QueueRefusal>
         requires short { length packet.now ≤ MAX_PACKET }
         ensures answer { Queues self.old result }

@@ -4,6 +4,7 @@ ghost use Rattle.std.specs.List.{list_any};
 ghost use Rattle.td_outside.specs.declared.timing.TheConstants.{CLOCK_END_MS};
 ghost use Rattle.peer_list.specs.Listed.{is_young};
 ghost use Rattle.peer_list.specs.Judged.{next_try};
+ghost use Rattle.peer_list.specs.Bounds.{AreEarly};
 
 use crate::limits::{LISTED_MS, MOST_TRIES, TRY_GAP_MS};
 use std::marker::Model;
@@ -50,6 +51,7 @@ impl Tries {
     pub(crate) fn as_slice(&self) -> &[Millis]
         ensures value { map (λ m. m.0) result.now ≡ self.now }
         ensures most { length result.now ≤ MOST_TRIES }
+        ensures early { AreEarly self.now }
     {
         &self.moments[..self.count]
     }
