@@ -37,7 +37,7 @@ touched_is_listed m peer touched = let young = young_now m in rw (touched, young
 
 -- WHAT IS KNOWN
 
-listed_while : (n : ℕ) (peer : Peer) → is_some (while_listed n peer) ≡ true → while_listed n peer ≡ Some peer
+pub listed_while : (n : ℕ) (peer : Peer) → is_some (while_listed n peer) ≡ true → while_listed n peer ≡ Some peer
 listed_while n peer h = by_test (is_within LISTED_MS n peer.touched) h where
   by_test : (b : Bool) → is_some (cond b (Some peer) None) ≡ true → cond b (Some peer) None ≡ Some peer
   by_test true k = refl

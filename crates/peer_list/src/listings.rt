@@ -31,7 +31,7 @@ pub fn place(listings: &[Listing], who: Ip6) -> usize
     ensures { result ≡ position_or_len (is_of who) listings.now }
 {
     for (place, listing) in listings.iter().enumerate() {
-        if listing.who == who {
+        if who == listing.who {
             return place;
         }
     }
