@@ -30,7 +30,7 @@ none_of p q (l ∷ ls) is a =
     let other : same_ip6 p l.who ≡ false = ap (λ x. same_ip6 x l.who) (same_ip6-true p q is) ∙ a.0 in
     ap (λ b. cond b (Some l) (find (is_of p) ls)) other ∙ none_of p q ls is a.1
 
-all_kept : (P : Listing → Type 0) (test : Listing → Bool) (ls : List Listing) → AllByRecursion P ls → AllByRecursion P (filter test ls)
+pub all_kept : (P : Listing → Type 0) (test : Listing → Bool) (ls : List Listing) → AllByRecursion P ls → AllByRecursion P (filter test ls)
 all_kept P test [] a = tt
 all_kept P test (l ∷ ls) a = elim (test l) as (λ b. AllByRecursion P (cond b (l ∷ filter test ls) (filter test ls))) [ true ↦ (a.0, all_kept P test ls a.1) | false ↦ all_kept P test ls a.1 ]
 
@@ -136,7 +136,7 @@ changed old new m who place l peer at moment items = record {
       let not_there : is_of p (get_or old.listings place l) ≡ false = ap (is_of p) (sym at.is) ∙ not_l in
       ap (peer_listed n) (find_past (is_of p) old.listings place y l not_there not_l) ∙ sym (ap (λ b. cond b (while_listed n peer) (peer_listed n (find (is_of p) old.listings))) other)
 
-all_at : (P : Listing → Type 0) (ls : List Listing) (i : ℕ) (d : Listing) → i < length ls → AllByRecursion P ls → P (get_or ls i d)
+pub all_at : (P : Listing → Type 0) (ls : List Listing) (i : ℕ) (d : Listing) → i < length ls → AllByRecursion P ls → P (get_or ls i d)
 all_at P [] i d k a = absurd (omega arith)
 all_at P (x ∷ ls) zero d k a = a.0
 all_at P (x ∷ ls) (suc i) d k a = all_at P ls i d (omega arith) a.1
