@@ -1,6 +1,10 @@
-use Rattle.std.proofs.Common.{sym, ◌∙◌}
+use Rattle.std.proofs.Common.{◌≡◌, refl, sym, ◌∙◌, length, filter, drop, arith}
+use Rattle.std.proofs.lemmas.List.{drop-ge}
+use Rattle.peer_list.specs.Table.{is_listed_at}
 use Rattle.peer_list.proofs.DueLemmas.{count_is}
 use Rattle.peer_list.proofs.listings.count.Goals as goal
 
 pub returns-clause-count : goal.returns-clause-count
-returns-clause-count c = ? ∙ sym (count_is c.args.now.0 c.args.now.0 c.args.listings.now c.requires.apart)
+returns-clause-count c =
+    let all : c.loop-listing.count ≡ length (filter (is_listed_at c.args.now.0) c.args.listings.now) = ? in
+    all ∙ sym (count_is c.args.now.0 c.args.now.0 c.args.listings.now c.requires.sound.apart)

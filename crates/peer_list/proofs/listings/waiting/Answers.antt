@@ -1,6 +1,11 @@
-use Rattle.std.proofs.Common.{sym, ◌∙◌}
+use Rattle.std.proofs.Common.{◌≡◌, refl, sym, ◌∙◌, length, filter, drop, arith}
+use Rattle.std.specs.Prelude.{sum_by}
+use Rattle.peer_list.specs.Waiting.{Listing}
+use Rattle.peer_list.specs.Table.{is_listed_at}
 use Rattle.peer_list.proofs.DueLemmas.{waiting_is}
 use Rattle.peer_list.proofs.listings.waiting.Goals as goal
 
 pub returns : goal.returns
-returns c = ? ∙ sym (waiting_is c.args.now.0 c.args.now.0 c.args.listings.now c.requires.apart)
+returns c =
+    let all : c.loop-listing.waiting ≡ sum_by (λ (l : Listing). length l.peer.waiting) (filter (is_listed_at c.args.now.0) c.args.listings.now) = ? in
+    all ∙ sym (waiting_is c.args.now.0 c.args.now.0 c.args.listings.now c.requires.sound.apart)
