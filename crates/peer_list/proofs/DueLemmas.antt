@@ -4,6 +4,7 @@ use Rattle.std.specs.Prelude.{option_map, unwrap_or, is_some, sum_by}
 use Rattle.std.specs.Ordering.{nat_cmp, ordering_then, is_lt}
 use Rattle.std.specs.List.{list_any, AllByRecursion}
 use Rattle.std.proofs.lemmas.Bool.{false≢true, or_left}
+use Rattle.std.proofs.lemmas.List.{append-nil, take_more}
 use Rattle.std.proofs.lemmas.List.Sums.{sum_by-cons}
 use Rattle.td_base.specs.Ip6.{same_ip6, same_ip6-self, cmp_ip6}
 use Rattle.td_base.specs.declared.ipv6.Ip6.{Ip6}
@@ -200,3 +201,43 @@ filter_end test (k ∷ ks) x = by_test (test k) (filter_end test ks x) where
 whose_end : (ks : List Listing) (x : Listing) → whose (ks ++ x ∷ []) ≡ whose ks ++ x.who ∷ []
 whose_end [] x = refl
 whose_end (k ∷ ks) x = ap (λ (ps : List Ip6). k.who ∷ ps) (whose_end ks x)
+
+-- what is known of the address of a listing
+find_self : (ls : List Listing) (i : ℕ) (d : Listing) → AreApart ls → i < length ls → d ≡ get_or ls i d → find (is_of d.who) ls ≡ Some d
+find_self [] i d a k is = absurd (omega arith)
+find_self (x ∷ ls) zero d a k is = ap (λ (y : Listing). find (is_of y.who) (x ∷ ls)) is ∙ find_front x ls ∙ ap Some (sym is)
+find_self (x ∷ ls) (suc i) d a k is =
+    let other : same_ip6 x.who d.who ≡ false = ap (λ (y : Listing). same_ip6 x.who y.who) is ∙ all_at (λ (o : Listing). same_ip6 x.who o.who ≡ false) ls i d (omega arith) a.0 in
+    find_behind x ls d.who other ∙ find_self ls i d a.1 (omega arith) is
+
+both_of_and : (a b : Bool) → (a && b) ≡ true → a ≡ true
+both_of_and true b h = refl
+both_of_and false b h = absurd (false≢true h)
+
+pair_self : (n : ℕ) (ls : List Listing) (i : ℕ) (d : Listing) → AreApart ls → i < length ls → d ≡ get_or ls i d → waits_at n d ≡ true → due_pair (known_of_ls ls n) d.who ≡ due_and_who d
+pair_self n ls i d a k is waits =
+    let listed : is_listed_at n d ≡ true = both_of_and (is_listed_at n d) (not (is_none d.peer.waiting)) waits in
+    let known : known_of_ls ls n d.who ≡ d.peer = ap (λ o. unwrap_or (peer_listed n o) no_peer) (find_self ls i d a k is) ∙ ap (λ b. unwrap_or (cond b (Some d.peer) None) no_peer) listed in
+    ap (λ (x : Peer). (record { 0 = due_of x }, d.who)) known
+
+-- the first of one listing more
+pub first_more : (n : ℕ) (ls : List Listing) (i : ℕ) (d : Listing) → AreApart ls → i < length ls → d ≡ get_or ls i d
+    → first_pair ls n (take (i + 1) ls) ≡ cond (waits_at n d) (Some (earlier_due (due_and_who d) (first_pair ls n (take i ls)))) (first_pair ls n (take i ls))
+first_more n ls i d a k is =
+    ap (first_pair ls n) (take_more ls i d k ∙ ap (λ (y : Listing). take i ls ++ y ∷ []) (sym is))
+    ∙ ap (λ ks. option_map (due_pair f) (least_by_due f (whose ks))) (filter_end (waits_at n) (take i ls) d)
+    ∙ by_test (waits_at n d) refl
+  where
+    f : Ip6 → Peer
+    f = known_of_ls ls n
+
+    ks : List Listing
+    ks = filter (waits_at n) (take i ls)
+
+    by_test : (b : Bool) → waits_at n d ≡ b → option_map (due_pair f) (least_by_due f (whose (ks ++ cond b (d ∷ []) []))) ≡ cond b (Some (earlier_due (due_and_who d) (option_map (due_pair f) (least_by_due f (whose ks))))) (option_map (due_pair f) (least_by_due f (whose ks)))
+    by_test true waits =
+        ap (λ ps. option_map (due_pair f) (least_by_due f ps)) (whose_end ks d)
+        ∙ ap (option_map (due_pair f)) (least_with f d.who (whose ks))
+        ∙ pair_with f d.who (least_by_due f (whose ks))
+        ∙ ap (λ (x : Millis × Ip6). Some (earlier_due x (option_map (due_pair f) (least_by_due f (whose ks))))) (pair_self n ls i d a k is waits)
+    by_test false waits = ap (λ (xs : List Listing). option_map (due_pair f) (least_by_due f (whose xs))) (append-nil ks)

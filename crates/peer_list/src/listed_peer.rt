@@ -1,10 +1,10 @@
 //! A peer that is listed.
-ghost use Rattle.std.specs.Prelude.{◌≡◌, ◌≤◌, ◌<◌, ℕ, false, true, [], ◌++◌, ◌∷◌, map, length, option_map, IfOk, OnOk, OnErr};
+ghost use Rattle.std.specs.Prelude.{◌≡◌, ◌≤◌, ◌<◌, ◌&&◌, not, ℕ, false, true, [], ◌++◌, ◌∷◌, map, length, option_map, IfOk, OnOk, OnErr};
 ghost use Rattle.std.specs.List.{AllByRecursion};
 ghost use Rattle.ipv6_packet.specs.declared.header.TheConstants.{MAX_PACKET};
 ghost use Rattle.td_outside.specs.declared.timing.TheConstants.{CLOCK_END_MS};
 ghost use Rattle.peer_list.specs.Peers.{no_peer};
-ghost use Rattle.peer_list.specs.Judged.{is_within, is_fresh, is_spent, is_barred, is_full, is_trusted_at, due_of};
+ghost use Rattle.peer_list.specs.Judged.{is_within, is_none, is_fresh, is_spent, is_barred, is_full, is_trusted_at, due_of};
 ghost use Rattle.peer_list.specs.Calls.{touched_at, trusted_at, heard_at, tried_at, queued_at, emptied, sends_of, Queues};
 
 use crate::limits::{FRESH_MS, LISTED_MS, MOST_TRIES, MOST_WAITING};
@@ -112,6 +112,13 @@ impl Peer {
         ensures { result ≡ is_within LISTED_MS now.0 self.now.touched }
     {
         tries::is_young(LISTED_MS, now, self.touched)
+    }
+
+    /// Whether it is still listed, and packets wait for it.
+    pub(crate) fn waits(&self, now: Millis) -> bool
+        ensures { result ≡ (is_within LISTED_MS now.0 self.now.touched && not (is_none self.now.waiting)) }
+    {
+        self.is_listed(now) && !self.waiting.is_empty()
     }
 
     /// Whether it is trusted at this very endpoint, port and all.

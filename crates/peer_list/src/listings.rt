@@ -90,9 +90,8 @@ pub fn due(listings: &[Listing], now: Millis) -> Option<(Millis, Ip6)>
 {
     let mut first = None;
     for listing in listings {
-        let peer = &listing.peer;
-        if peer.is_listed(now) && !peer.waiting().is_empty() {
-            first = Some(first_of_two((peer.due(), listing.who), first));
+        if listing.peer.waits(now) {
+            first = Some(first_of_two((listing.peer.due(), listing.who), first));
         }
     }
     first
