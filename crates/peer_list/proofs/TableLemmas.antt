@@ -1,5 +1,5 @@
 -- What a table says of an address, and how its listings say it.
-use Rattle.std.proofs.Common.{◌≡◌, ◌≤◌, ◌<◌, ℕ, ◌-◌, ◌||◌, ◌&&◌, not, Bool, true, false, cond, List, [], ◌∷◌, ◌++◌, length, filter, find, Option, Some, None, refl, sym, ap, ◌∙◌, subst, arith}
+use Rattle.std.proofs.Common.{◌≡◌, ◌≤◌, ◌<◌, ℕ, ◌-◌, ◌||◌, ◌&&◌, not, Bool, true, false, cond, List, [], ◌∷◌, ◌++◌, length, filter, find, Option, Some, None, Result, Ok, Err, refl, sym, ap, ◌∙◌, subst, arith}
 use Rattle.std.specs.Prelude.{option_map, unwrap_or, is_some}
 use Rattle.std.specs.List.{list_any, AllByRecursion, IsDistinct}
 use Rattle.std.proofs.lemmas.Bool.{ltb-true, ltb-false, lt-ltb, le-ltb, false≢true}
@@ -11,8 +11,10 @@ use Rattle.peer_list.specs.Listed.{is_young, with_peer}
 use Rattle.peer_list.specs.Peers.{Peer, no_peer}
 use Rattle.peer_list.specs.Judged.{is_within}
 use Rattle.peer_list.specs.Waiting.{Listing}
-use Rattle.peer_list.specs.Table.{Table, while_listed, peer_listed, is_of, is_listed_at, peer_in, known_to, addresses, listed_in}
-use Rattle.peer_list.specs.Calls.{Updates}
+use Rattle.peer_list.specs.declared.refusals.PeersRefusal.{PeersRefusal}
+use Rattle.peer_list.specs.declared.refusals.PeersRefusal.TheVariants as peers
+use Rattle.peer_list.specs.Table.{Table, table, while_listed, peer_listed, is_of, is_listed_at, peer_in, known_to, addresses, listed_in, has_room_in, waiting_in, first_due_in}
+use Rattle.peer_list.specs.Calls.{Updates, Keeps, Admits}
 use Rattle.peer_list.specs.Stands.{UpdateIsSeen, TouchedIsListed, FoundIsListed, UpdatesTwice}
 use Rattle.peer_list.proofs.Lists.{still, now_too, once_with, once_kept, narrowed}
 
@@ -98,3 +100,40 @@ addresses_once (l ∷ ls) = once_with (Some l.who) (addresses ls) (addresses_onc
 pub members_once : (t : Table) (n : ℕ) → IsDistinct same_ip6 (listed_in t n)
 unfolding listed_in
 members_once t n = once_kept (λ p. is_some (peer_in t n p)) (addresses t.listings) (addresses_once t.listings)
+
+-- WHAT DOESN'T DEPEND ON A TABLE'S MOMENT
+
+pub other_peer : (m k n : ℕ) (p : Ip6) (ls : List Listing) → peer_in (table m ls) n p ≡ peer_in (table k ls) n p
+unfolding peer_in
+other_peer m k n p ls = refl
+
+pub other_room : (m k n : ℕ) (p : Ip6) (ls : List Listing) → has_room_in (table m ls) n p ≡ has_room_in (table k ls) n p
+unfolding has_room_in listed_in peer_in
+other_room m k n p ls = refl
+
+pub other_count : (m k n : ℕ) (ls : List Listing) → length (listed_in (table m ls) n) ≡ length (listed_in (table k ls) n)
+unfolding listed_in peer_in
+other_count m k n ls = refl
+
+pub other_waiting : (m k n : ℕ) (ls : List Listing) → waiting_in (table m ls) n ≡ waiting_in (table k ls) n
+unfolding listed_in peer_in
+other_waiting m k n ls = refl
+
+pub other_first : (m k n : ℕ) (ls : List Listing) → first_due_in (table m ls) n ≡ first_due_in (table k ls) n
+unfolding listed_in peer_in
+other_first m k n ls = refl
+
+pub other_keeps : (m k n : ℕ) (ls : List Listing) (new : Table) → Keeps (table m ls) new n → Keeps (table k ls) new n
+unfolding peer_in
+other_keeps m k n ls new h = record { moment = h.moment; view = h.view }
+
+pub other_updates : (m k n : ℕ) (ls : List Listing) (new : Table) (who : Ip6) (f : Peer → Peer)
+    → Updates (table m ls) new n who (f (known_to (table m ls) n who)) → Updates (table k ls) new n who (f (known_to (table k ls) n who))
+unfolding peer_in
+other_updates m k n ls new who f h = record { moment = h.moment; view = h.view }
+
+pub other_admits : (m k n : ℕ) (ls : List Listing) (who : Ip6) (r : Result (Unit {0}) PeersRefusal) → Admits (table m ls) n who r → Admits (table k ls) n who r
+unfolding has_room_in listed_in peer_in
+other_admits m k n ls who (Ok _) h = h
+other_admits m k n ls who (Err peers.Full) h = h
+other_admits m k n ls who (Err peers.NoMemory) h = h
