@@ -96,6 +96,14 @@ found ls who place l at =
 pub missing : (ls : List Listing) (who : Ip6) (place : ℕ) → place ≡ position_or_len (is_of who) ls → length ls ≤ place → find (is_of who) ls ≡ None
 missing ls who place at past = find_at (is_of who) ls ∙ ap (slice_get ls) (sym at) ∙ slice_get_past ls place past
 
+pub nowhere : (t : Table) (n : ℕ) (who : Ip6) → find (is_of who) t.listings ≡ None → None ≡ peer_in t n who
+unfolding peer_in
+nowhere t n who none = sym (ap (peer_listed n) none)
+
+pub somewhere : (t : Table) (n : ℕ) (who : Ip6) (place : ℕ) (l : Listing) → Placed t.listings who place l → while_listed n l.peer ≡ peer_in t n who
+unfolding peer_in
+somewhere t n who place l at = sym (ap (peer_listed n) (found t.listings who place l at))
+
 -- an address that is listed has a place
 pub place_within : (t : Table) (n : ℕ) (who : Ip6) (place : ℕ) → place ≡ position_or_len (is_of who) t.listings → is_some (peer_in t n who) ≡ true → place < length t.listings
 unfolding peer_in

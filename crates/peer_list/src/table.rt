@@ -78,6 +78,7 @@ impl Peers {
     }
 
     /// Whether an address is listed, or may still be.
+    #[tactic(auto, unfolding(crate::specs::Table::has_room_in))]
     pub fn has_room(&self, now: Millis, who: Ip6) -> bool
         requires clock { self.now.moment ≤ now.0 }
         ensures { result ≡ has_room_in self.now now.0 who }
