@@ -2,7 +2,7 @@
 ghost use Rattle.std.specs.Prelude.{◌≡◌, ◌≤◌, ◌<◌, ◌∷◌, [], true, false, length, option_map, is_some, OnOk, OnErr};
 ghost use Rattle.ipv6_packet.specs.declared.header.TheConstants.{MAX_PACKET};
 ghost use Rattle.td_outside.specs.declared.timing.TheConstants.{CLOCK_END_MS};
-ghost use Rattle.peer_list.specs.Judged.{is_barred};
+ghost use Rattle.peer_list.specs.Judged.{is_trusted_at, is_fresh, is_spent, is_barred, is_full};
 ghost use Rattle.peer_list.specs.Table.{empty_table, peer_in, known_to, listed_in, has_room_in, waiting_in, first_due_in, due_and_who};
 ghost use Rattle.peer_list.specs.Calls.{touched_at, trusted_at, heard_at, tried_at, queued_at, emptied, Updates, Keeps, Admits, Queues, sends_of};
 ghost use Rattle.peer_list.specs.Stands.{StandsForMentions};
@@ -66,6 +66,82 @@ impl Peers {
         ensures { result ≡ is_some (peer_in self.now now.0 who) }
     {
         self.find(now, who).is_some()
+    }
+
+    /// Whether an address is trusted at this very endpoint, port and all.
+    #[tactic(auto, unfolding(crate::specs::Judged::is_trusted_at))]
+    pub fn is_trusted_at(&self, now: Millis, who: Ip6, from: Ep) -> bool
+        requires clock { self.now.moment ≤ now.0 }
+        ensures { result ≡ is_trusted_at from (known_to self.now now.0 who) }
+    {
+        match self.find(now, who) {
+            None => false,
+            Some(peer) => peer.is_trusted_at(from),
+        }
+    }
+
+    /// Whether packets go to an address without a try: RFC 4380, section 5.2.4.
+    #[tactic(auto, unfolding(crate::specs::Judged::is_fresh))]
+    pub fn is_fresh(&self, now: Millis, who: Ip6) -> bool
+        requires clock { self.now.moment ≤ now.0 }
+        ensures { result ≡ is_fresh now.0 (known_to self.now now.0 who) }
+    {
+        match self.find(now, who) {
+            None => false,
+            Some(peer) => peer.is_fresh(now),
+        }
+    }
+
+    /// Whether no further try at an address helps: RFC 4380, section 5.2.6.
+    #[tactic(auto, unfolding(crate::specs::Judged::is_spent))]
+    pub fn is_spent(&self, now: Millis, who: Ip6) -> bool
+        requires clock { self.now.moment ≤ now.0 }
+        ensures { result ≡ is_spent now.0 (known_to self.now now.0 who) }
+    {
+        match self.find(now, who) {
+            None => false,
+            Some(peer) => peer.is_spent(now),
+        }
+    }
+
+    /// Whether an address may not be tried now: RFC 4380, section 5.2.6.
+    #[tactic(auto, unfolding(crate::specs::Judged::is_barred, crate::specs::Judged::is_spent))]
+    pub fn is_barred(&self, now: Millis, who: Ip6) -> bool
+        requires clock { self.now.moment ≤ now.0 }
+        ensures { result ≡ is_barred now.0 (known_to self.now now.0 who) }
+    {
+        match self.find(now, who) {
+            None => false,
+            Some(peer) => peer.is_barred(now),
+        }
+    }
+
+    /// Whether no further packet may wait for an address.
+    #[tactic(auto, unfolding(crate::specs::Judged::is_full))]
+    pub fn is_full(&self, now: Millis, who: Ip6) -> bool
+        requires clock { self.now.moment ≤ now.0 }
+        ensures { result ≡ is_full (known_to self.now now.0 who) }
+    {
+        match self.find(now, who) {
+            None => false,
+            Some(peer) => peer.is_full(),
+        }
+    }
+
+    /// Where an address is trusted.
+    pub fn trusted(&self, now: Millis, who: Ip6) -> Option<Ep>
+        requires clock { self.now.moment ≤ now.0 }
+        ensures { result ≡ (known_to self.now now.0 who).trusted }
+    {
+        self.find(now, who)?.trusted()
+    }
+
+    /// The nonce of the latest test of an address since it was trusted.
+    pub fn nonce(&self, now: Millis, who: Ip6) -> Option<u64>
+        requires clock { self.now.moment ≤ now.0 }
+        ensures { result ≡ (known_to self.now now.0 who).nonce }
+    {
+        self.find(now, who)?.nonce()
     }
 
     /// How many addresses are listed.
