@@ -1,5 +1,7 @@
 //! Refusals of a peer that is to be listed, and of a packet that is to wait.
 use std::alloc::AllocFailed;
+use std::error::Error;
+use std::fmt;
 use td_base::NoMemory;
 
 /// Why a peer was not listed.
@@ -18,6 +20,17 @@ pub enum QueueRefusal {
     NoMemory,
 }
 
+impl fmt::Display for PeersRefusal {
+    fn fmt<W: fmt::Write>(&self, f: &mut fmt::Formatter<W>) -> fmt::Result {
+        match self {
+            PeersRefusal::Full => write!(f, "as many peers are listed as may be"),
+            PeersRefusal::NoMemory => write!(f, "out of memory"),
+        }
+    }
+}
+
+impl Error for PeersRefusal {}
+
 impl<T: Drop> From<AllocFailed<T>> for PeersRefusal {
     ghost use Rattle.std.specs.Prelude.{◌≡◌};
     ghost use Rattle.peer_list.specs.declared.refusals.PeersRefusal.{PeersRefusal};
@@ -28,6 +41,17 @@ impl<T: Drop> From<AllocFailed<T>> for PeersRefusal {
         PeersRefusal::NoMemory
     }
 }
+
+impl fmt::Display for QueueRefusal {
+    fn fmt<W: fmt::Write>(&self, f: &mut fmt::Formatter<W>) -> fmt::Result {
+        match self {
+            QueueRefusal::Full => write!(f, "as many packets wait for the peer as may"),
+            QueueRefusal::NoMemory => write!(f, "out of memory"),
+        }
+    }
+}
+
+impl Error for QueueRefusal {}
 
 impl<T: Drop> From<AllocFailed<T>> for QueueRefusal {
     ghost use Rattle.std.specs.Prelude.{◌≡◌};
