@@ -1,6 +1,8 @@
 //! The table of advertisements.
 ghost use Rattle.std.specs.Prelude.{◌≡◌, ◌≤◌, Some, length, filter_map, is_some, IfSome};
 ghost use Rattle.icmp6.specs.Blocks.{options_left};
+ghost use Rattle.icmp6.specs.Message.{options_in, view as message_view};
+ghost use Rattle.icmp6.specs.Options.{AreOptions};
 ghost use Rattle.ipv6_packet.specs.Packets.{view as packet_view};
 ghost use Rattle.indications.specs.Leads.{origin_in};
 ghost use Rattle.bubble.specs.declared.parts.TheConstants.{MAX_DATAGRAM};
@@ -13,10 +15,10 @@ use crate::limits::PREFIX_BITS;
 use crate::settings::Settings;
 use crate::solicitation::expected;
 use crate::state::State;
-use bubble::{Payload, message_of};
+use bubble::Payload;
 use icmp6::{Msg, Opt, Options, options};
 use indications::{nonce_of, origin_in};
-use ipv6_packet::Packet;
+use ipv6_packet::{NEXT_ICMP, Packet};
 use td_base::{Ep, Ip6, usable};
 use teredo_addr::{is_teredo, server_of};
 use teredo_node::Fate;
@@ -68,13 +70,32 @@ fn usable_origin(settings: &Settings, payload: &Payload<'_>) -> Option<Ep>
 }
 
 /// The Prefix Information of an advertisement, where there is exactly one: its length and its prefix.
+#[tactic(auto, unfolding(bubble::specs::Messages::message_in, crate::specs::Advertisements::prefixes_in, icmp6::specs::Blocks::options_at))]
 fn only_prefix(packet: &Packet<'_>) -> Option<(u8, Ip6)>
     requires { length packet.now.body.now ≤ MAX_DATAGRAM }
     ensures { IsOnly result (prefixes_in (message_in (packet_view packet.now))) }
 {
-    match message_of(packet) {
-        Some(Msg::RouterAdvert { options: blocks, .. }) => only_prefix_of(options(blocks)),
-        _ => None,
+    if packet.next != NEXT_ICMP {
+        return None;
+    }
+    match icmp6::read(packet.src, packet.dst, packet.hop, packet.body) {
+        Ok(message) => only_prefix_in(message),
+        Err(_) => None,
+    }
+}
+
+/// The same of a message.
+#[tactic(auto, unfolding(crate::specs::Advertisements::prefixes_in, icmp6::specs::Blocks::options_at))]
+fn only_prefix_in(message: Msg<'_>) -> Option<(u8, Ip6)>
+    requires { AreOptions (options_in (message_view message)) }
+    ensures { IsOnly result (prefixes_in (Some (message_view message.entry))) }
+{
+    match message {
+        Msg::RouterAdvert { options: blocks, .. } => only_prefix_of(options(blocks)),
+        Msg::EchoRequest { .. }
+        | Msg::EchoReply { .. }
+        | Msg::RouterSolicit { .. }
+        | Msg::Other { .. } => None,
     }
 }
 

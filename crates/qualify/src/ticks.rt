@@ -88,12 +88,13 @@ fn restricted(
     ensures tick { let q = asks_so Phase.Restricted round None in let w = words_of rng.old in TicksBy settings.now now.0 w (due_step settings.now q w) q step.new (qualification_of result) }
     ensures place { rng.new ≡ after_words step.new.drawn rng.old }
 {
-    if !round.asks_again() {
-        return off_line(step);
+    if round.asks_again() {
+        // rs_restricted: RFC 4380, section 5.2.1
+        let nonce = solicit(settings, Fate::RsRestricted, settings.primary, false, rng, step);
+        State::Restricted(round.asked(now, nonce))
+    } else {
+        off_line(step)
     }
-    // rs_restricted: RFC 4380, section 5.2.1
-    let nonce = solicit(settings, Fate::RsRestricted, settings.primary, false, rng, step);
-    State::Restricted(round.asked(now, nonce))
 }
 
 /// Phase Secondary asks, or ends.
@@ -110,12 +111,13 @@ fn secondary(
     ensures tick { let q = asks_so Phase.Secondary round (Some kept) in let w = words_of rng.old in TicksBy settings.now now.0 w (due_step settings.now q w) q step.new (qualification_of result) }
     ensures place { rng.new ≡ after_words step.new.drawn rng.old }
 {
-    if !round.asks_again() {
-        return off_line(step);
+    if round.asks_again() {
+        // rs_secondary: RFC 4380, section 5.2.1
+        let nonce = solicit(settings, Fate::RsSecondary, settings.secondary, false, rng, step);
+        State::Secondary(round.asked(now, nonce), kept)
+    } else {
+        off_line(step)
     }
-    // rs_secondary: RFC 4380, section 5.2.1
-    let nonce = solicit(settings, Fate::RsSecondary, settings.secondary, false, rng, step);
-    State::Secondary(round.asked(now, nonce), kept)
 }
 
 /// No answer came.
