@@ -91,7 +91,10 @@ fn only_prefix_in(message: Msg<'_>) -> Option<(u8, Ip6)>
     ensures { IsOnly result (prefixes_in (Some (message_view message.entry))) }
 {
     match message {
-        Msg::RouterAdvert { options: blocks, .. } => only_prefix_of(options(blocks)),
+        Msg::RouterAdvert {
+            options: blocks,
+            ..
+        } => only_prefix_of(options(blocks)),
         Msg::EchoRequest { .. }
         | Msg::EchoReply { .. }
         | Msg::RouterSolicit { .. }

@@ -146,6 +146,9 @@ fn refreshed(settings: &Settings, upkeep: Upkeep, origin: Ep, now: Millis) -> (S
         (State::Qualified(same), Fate::Same)
     } else {
         let after = address(settings, has_cone(before), origin);
-        (State::Qualified(Upkeep::of(after, upkeep.interval, now)), Fate::Changed)
+        (
+            State::Qualified(Upkeep::of(after, upkeep.interval, now)),
+            Fate::Changed,
+        )
     }
 }

@@ -70,7 +70,14 @@ fn cone(
         State::Cone(round.asked(now, nonce))
     } else {
         // rs_restricted: RFC 4380, section 5.2.1
-        let nonce = solicit(settings, Fate::RsRestricted, settings.primary, false, rng, step);
+        let nonce = solicit(
+            settings,
+            Fate::RsRestricted,
+            settings.primary,
+            false,
+            rng,
+            step,
+        );
         State::Restricted(Round::begun(now).asked(now, nonce))
     }
 }
@@ -90,7 +97,14 @@ fn restricted(
 {
     if round.asks_again() {
         // rs_restricted: RFC 4380, section 5.2.1
-        let nonce = solicit(settings, Fate::RsRestricted, settings.primary, false, rng, step);
+        let nonce = solicit(
+            settings,
+            Fate::RsRestricted,
+            settings.primary,
+            false,
+            rng,
+            step,
+        );
         State::Restricted(round.asked(now, nonce))
     } else {
         off_line(step)
@@ -113,7 +127,14 @@ fn secondary(
 {
     if round.asks_again() {
         // rs_secondary: RFC 4380, section 5.2.1
-        let nonce = solicit(settings, Fate::RsSecondary, settings.secondary, false, rng, step);
+        let nonce = solicit(
+            settings,
+            Fate::RsSecondary,
+            settings.secondary,
+            false,
+            rng,
+            step,
+        );
         State::Secondary(round.asked(now, nonce), kept)
     } else {
         off_line(step)
@@ -144,7 +165,14 @@ fn refresh(
     ensures place { rng.new ≡ after_words step.new.drawn rng.old }
 {
     // refresh: RFC 4380, section 5.2.5
-    let nonce = solicit(settings, Fate::Refresh, settings.primary, has_cone(upkeep.address), rng, step);
+    let nonce = solicit(
+        settings,
+        Fate::Refresh,
+        settings.primary,
+        has_cone(upkeep.address),
+        rng,
+        step,
+    );
     let interval = draw_interval(settings, rng);
     step.set_drawn(NONCE_WORDS + INTERVAL_WORDS);
     State::Qualified(upkeep.refreshed(now, nonce, interval))
@@ -165,7 +193,11 @@ fn solicit(
 {
     let nonce = draw_nonce(rng);
     step.reset(fate);
-    step.push(Side::Primary, Ep::of_server(to), &solicitation(settings, cone, nonce));
+    step.push(
+        Side::Primary,
+        Ep::of_server(to),
+        &solicitation(settings, cone, nonce),
+    );
     step.set_drawn(NONCE_WORDS);
     nonce
 }
