@@ -186,22 +186,25 @@ fn hear(
     Some(client.on_advert(now, Ep::of_server(server), &payload, rng))
 }
 
+/// The fate of what a client is given.
+fn give(client: &mut Qualifier, row: Row, rng: &mut ChaCha20Rng, step: &mut Step) -> Option<Fate> {
+    let now = Millis(u64::from(row.at));
+    match row.given {
+        Given::Tick => {
+            client.on_tick(now, rng, step);
+            Some(step.fate())
+        }
+        Given::Answer(nonce, server, port) => hear(client, now, (nonce, server, port), rng),
+    }
+}
+
 #[test]
 fn a_client_behind_a_restricted_nat(rt: HostRuntime) -> Result<(), Fail> {
     let mut rng = ChaCha20Rng::from_seed([0; 32]);
     let mut step = Step::new();
     let mut client = Qualifier::start(CLIENT, Millis(0));
     for row in rows() {
-        let now = Millis(u64::from(row.at));
-        let fate = match row.given {
-            Given::Tick => {
-                client.on_tick(now, &mut rng, &mut step);
-                step.fate()
-            }
-            Given::Answer(nonce, server, port) => {
-                hear(&mut client, now, (nonce, server, port), &mut rng).ok_or("a payload")?
-            }
-        };
+        let fate = give(&mut client, row, &mut rng, &mut step).ok_or("a payload")?;
         assert_eq!(rt; (fate, client.due()), (row.fate, Some(Millis(row.due))));
     }
     client.heard_server(Millis(186_943));
