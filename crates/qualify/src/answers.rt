@@ -73,9 +73,7 @@ fn answered(
             State::Secondary(Round::begun(now), origin),
             Fate::FirstAnswer,
         ),
-        // qualified_restricted, symmetric: RFC 4380, section 5.2.1
         State::Secondary(_, kept) => compared(settings, kept, origin, now, rng),
-        // same, changed: RFC 4380, section 5.2.5
         State::Qualified(upkeep) => refreshed(settings, upkeep, origin, now),
         // no nonce is open in these
         State::Symmetric | State::OffLine => (state, Fate::Nonce),
@@ -127,9 +125,11 @@ fn compared(
     ensures place { rng.new ≡ after_words (advert_words result.1) rng.old }
 {
     if origin == kept {
+        // qualified_restricted: RFC 4380, section 5.2.1
         let upkeep = qualified(settings, false, origin, now, rng);
         (State::Qualified(upkeep), Fate::QualifiedRestricted)
     } else {
+        // symmetric: RFC 4380, section 5.2.1
         (State::Symmetric, Fate::Symmetric)
     }
 }
@@ -142,9 +142,11 @@ fn refreshed(settings: &Settings, upkeep: Upkeep, origin: Ep, now: Millis) -> (S
 {
     let before = upkeep.address;
     if origin == embedded(before) {
+        // same: RFC 4380, section 5.2.5
         let same = Upkeep::of(before, upkeep.interval, now);
         (State::Qualified(same), Fate::Same)
     } else {
+        // changed: RFC 4380, section 5.2.5
         let after = address(settings, has_cone(before), origin);
         (
             State::Qualified(Upkeep::of(after, upkeep.interval, now)),
