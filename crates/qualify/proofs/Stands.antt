@@ -5,7 +5,7 @@ use Rattle.td_base.specs.declared.ipv6.Ip6.{Ip6}
 use Rattle.td_base.specs.declared.endpoint.Ep.{Ep}
 use Rattle.indications.specs.Leads.{origin_in}
 use Rattle.bubble.specs.Payloads.{Value}
-use Rattle.teredo_node.specs.declared.fates.Fate.{Fate}
+use Rattle.teredo_node.specs.declared.fate.Fate.{Fate}
 use Rattle.teredo_node.specs.Step.{Step}
 use Rattle.teredo_node.specs.Words.{drawn_words}
 use Rattle.teredo_node.specs.Rows.{first_line}

@@ -15,8 +15,8 @@ use Rattle.teredo_addr.specs.Teredo.{has_cone, link_local, teredo_ip}
 use Rattle.indications.specs.Indications.{head_at, auth_at, origin_at, lead_at}
 use Rattle.bubble.specs.Payloads.{payload_at}
 use Rattle.bubble.specs.Reads.{value_in}
-use Rattle.teredo_node.specs.declared.fates.Fate.{Fate}
-use Rattle.teredo_node.specs.declared.fates.Fate.TheVariants as fate
+use Rattle.teredo_node.specs.declared.fate.Fate.{Fate}
+use Rattle.teredo_node.specs.declared.fate.Fate.TheVariants as fate
 use Rattle.teredo_node.specs.Step.{Step, just}
 use Rattle.teredo_node.specs.Sends.{send, sending}
 use Rattle.teredo_node.specs.Words.{drawn_words}

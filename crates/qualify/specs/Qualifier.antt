@@ -3,7 +3,7 @@ use Rattle.std.specs.Prelude.{◌≡◌, ◌≤◌, ℕ, Bool, true, false, List
 use Rattle.td_base.specs.declared.endpoint.Ep.{Ep}
 use Rattle.indications.specs.Leads.{origin_in}
 use Rattle.bubble.specs.Payloads.{Value}
-use Rattle.teredo_node.specs.declared.fates.Fate.{Fate}
+use Rattle.teredo_node.specs.declared.fate.Fate.{Fate}
 use Rattle.teredo_node.specs.Step.{Step}
 use Rattle.teredo_node.specs.Words.{drawn_words}
 use Rattle.teredo_node.specs.Journal.{Words, Entry, Journal}

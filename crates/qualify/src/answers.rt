@@ -4,7 +4,7 @@ ghost use Rattle.indications.specs.Leads.{origin_in};
 ghost use Rattle.bubble.specs.declared.parts.TheConstants.{MAX_DATAGRAM};
 ghost use Rattle.bubble.specs.Payloads.{view};
 ghost use Rattle.teredo_node.specs.Words.{drawn_words};
-ghost use Rattle.td_outside.specs.declared.timing.TheConstants.{CLOCK_END_MS};
+ghost use Rattle.td_outside.specs.declared.clock.TheConstants.{CLOCK_END_MS};
 ghost use Rattle.teredo_node.specs.Journal.{Words};
 ghost use Rattle.qualify.specs.declared.round.Round.{Round};
 ghost use Rattle.qualify.specs.Turns.{interval_of};

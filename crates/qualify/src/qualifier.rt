@@ -1,6 +1,6 @@
 //! A client's qualification.
 ghost use Rattle.std.specs.Prelude.{◌≡◌, ◌≤◌, ◌<◌, ℕ, [], length, is_some, option_map, IfSome};
-ghost use Rattle.td_outside.specs.declared.timing.TheConstants.{CLOCK_END_MS};
+ghost use Rattle.td_outside.specs.declared.clock.TheConstants.{CLOCK_END_MS};
 ghost use Rattle.bubble.specs.declared.parts.TheConstants.{MAX_DATAGRAM};
 ghost use Rattle.bubble.specs.Payloads.{view};
 ghost use Rattle.teredo_node.specs.Journal.{Entry, Journal, with_entry};

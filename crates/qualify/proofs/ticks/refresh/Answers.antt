@@ -2,7 +2,7 @@ use Rattle.std.proofs.Common.{ℕ, ◌+◌, Bool, Some, sym, ap, ◌∙◌}
 use Rattle.teredo_node.specs.Step.{Step}
 use Rattle.rand_chacha.specs.ChaCha.{ChaCha}
 use Rattle.qualify.specs.declared.phase.Phase.TheVariants.{Qualified}
-use Rattle.teredo_node.specs.declared.fates.Fate.TheVariants as fate
+use Rattle.teredo_node.specs.declared.fate.Fate.TheVariants as fate
 use Rattle.qualify.specs.Generator.{words_of, after_words}
 use Rattle.qualify.specs.Turns.{interval_of}
 use Rattle.qualify.specs.Solicitations.{solicits}
