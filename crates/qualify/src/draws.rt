@@ -3,6 +3,7 @@ ghost use Rattle.std.specs.Prelude.{◌≡◌, ◌≤◌};
 ghost use Rattle.teredo_node.specs.Words.{nonce_from};
 ghost use Rattle.qualify.specs.Generator.{words_of, after_words};
 ghost use Rattle.qualify.specs.Turns.{interval_of};
+ghost use Rattle.qualify.specs.declared.limits.TheConstants.{INTERVAL_MIN_MS};
 ghost use Rattle.qualify.specs.Qualifier.{IsSettings};
 
 use crate::settings::Settings;
@@ -31,6 +32,7 @@ pub fn draw_nonce(rng: &mut ChaCha20Rng) -> u64
 pub fn draw_interval(settings: &Settings, rng: &mut ChaCha20Rng) -> u32
     requires settings { IsSettings settings.now }
     ensures value { result ≡ interval_of settings.now (words_of rng.old 0) }
+    ensures least { INTERVAL_MIN_MS ≤ result }
     ensures place { rng.new ≡ after_words 1 rng.old }
 {
     let word = rng.next_word();

@@ -1,12 +1,12 @@
 //! A client's qualification.
-ghost use Rattle.std.specs.Prelude.{◌≡◌, ◌≤◌, ◌<◌, ℕ, [], length, is_some, option_map, IfSome};
+ghost use Rattle.std.specs.Prelude.{◌≡◌, ◌≤◌, ◌<◌, ℕ, [], length, false, is_some, option_map, IfSome};
 ghost use Rattle.td_outside.specs.declared.clock.TheConstants.{CLOCK_END_MS};
 ghost use Rattle.bubble.specs.declared.parts.TheConstants.{MAX_DATAGRAM};
 ghost use Rattle.bubble.specs.Payloads.{view};
 ghost use Rattle.teredo_node.specs.Journal.{Entry, Journal, with_entry};
 ghost use Rattle.qualify.specs.declared.limits.TheConstants.{DUE_END_MS};
 ghost use Rattle.qualify.specs.Qualification.{qualification};
-ghost use Rattle.qualify.specs.Solicitations.{is_qualified, step_at};
+ghost use Rattle.qualify.specs.Solicitations.{is_due, is_qualified, step_at};
 ghost use Rattle.qualify.specs.Advertisements.{advert_row, advert_words};
 ghost use Rattle.qualify.specs.Generator.{words_of, after_words};
 ghost use Rattle.qualify.specs.Qualifier.{IsSettings, StandsFor, IsOfAdvert, IsOfTick, IsOfServer, has_due};
@@ -129,6 +129,8 @@ impl Qualifier {
             step.new ≡ step_at self.old.settings (qualification self.old.settings j) now.0 (words_of rng.old) }
         ensures stands { (j : Journal) (e : Entry) → StandsFor self.old j →
             IsOfTick now.0 step.new (words_of rng.old) e → StandsFor self.new (with_entry j e) }
+        // Nothing is due at this moment any more.
+        ensures done { is_due now.0 self.new.now.due ≡ false }
 
         ensures place { rng.new ≡ after_words step.new.drawn rng.old }
         ensures settings { self.new.settings ≡ self.old.settings }

@@ -1,5 +1,5 @@
 //! What a client does where its phase or its refresh is due.
-ghost use Rattle.std.specs.Prelude.{◌≡◌, ◌<◌, ◌∷◌, [], Some, None};
+ghost use Rattle.std.specs.Prelude.{◌≡◌, ◌<◌, ◌∷◌, [], Some, None, false};
 ghost use Rattle.td_outside.specs.declared.clock.TheConstants.{CLOCK_END_MS};
 ghost use Rattle.td_base.specs.Ep.{server_ep};
 ghost use Rattle.teredo_node.specs.Step.{just};
@@ -7,7 +7,7 @@ ghost use Rattle.teredo_node.specs.Sends.{send, sending};
 ghost use Rattle.teredo_node.specs.Words.{nonce_from};
 ghost use Rattle.qualify.specs.Generator.{after_words, words_of};
 ghost use Rattle.qualify.specs.Qualifier.{IsSettings, TicksBy};
-ghost use Rattle.qualify.specs.Solicitations.{due_step, solicitation, step_at};
+ghost use Rattle.qualify.specs.Solicitations.{due_step, is_due, solicitation, step_at};
 ghost use Rattle.qualify.specs.State.{qualification_of, asks_so, keeps_up};
 
 use crate::draws::{INTERVAL_WORDS, NONCE_WORDS, draw_interval, draw_nonce};
@@ -33,6 +33,7 @@ pub fn ticked(
     requires settings { IsSettings settings.now }
     requires bound { now.0 < CLOCK_END_MS }
     ensures tick { let q = qualification_of state in let w = words_of rng.old in TicksBy settings.now now.0 w (step_at settings.now q now.0 w) q step.new (qualification_of result) }
+    ensures done { is_due now.0 (qualification_of result).due ≡ false }
     ensures place { rng.new ≡ after_words step.new.drawn rng.old }
 {
     if !state.is_due(now) {
@@ -62,6 +63,7 @@ fn cone(
     requires settings { IsSettings settings.now }
     requires bound { now.0 < CLOCK_END_MS }
     ensures tick { let q = asks_so Phase.Cone round None in let w = words_of rng.old in TicksBy settings.now now.0 w (due_step settings.now q w) q step.new (qualification_of result) }
+    ensures done { is_due now.0 (qualification_of result).due ≡ false }
     ensures place { rng.new ≡ after_words step.new.drawn rng.old }
 {
     if round.asks_again() {
@@ -93,6 +95,7 @@ fn restricted(
     requires settings { IsSettings settings.now }
     requires bound { now.0 < CLOCK_END_MS }
     ensures tick { let q = asks_so Phase.Restricted round None in let w = words_of rng.old in TicksBy settings.now now.0 w (due_step settings.now q w) q step.new (qualification_of result) }
+    ensures done { is_due now.0 (qualification_of result).due ≡ false }
     ensures place { rng.new ≡ after_words step.new.drawn rng.old }
 {
     if round.asks_again() {
@@ -123,6 +126,7 @@ fn secondary(
     requires settings { IsSettings settings.now }
     requires bound { now.0 < CLOCK_END_MS }
     ensures tick { let q = asks_so Phase.Secondary round (Some kept) in let w = words_of rng.old in TicksBy settings.now now.0 w (due_step settings.now q w) q step.new (qualification_of result) }
+    ensures done { is_due now.0 (qualification_of result).due ≡ false }
     ensures place { rng.new ≡ after_words step.new.drawn rng.old }
 {
     if round.asks_again() {
@@ -162,6 +166,7 @@ fn refresh(
     requires settings { IsSettings settings.now }
     requires bound { now.0 < CLOCK_END_MS }
     ensures tick { let q = keeps_up upkeep in let w = words_of rng.old in TicksBy settings.now now.0 w (due_step settings.now q w) q step.new (qualification_of result) }
+    ensures done { is_due now.0 (qualification_of result).due ≡ false }
     ensures place { rng.new ≡ after_words step.new.drawn rng.old }
 {
     // refresh: RFC 4380, section 5.2.5
