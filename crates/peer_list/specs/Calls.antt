@@ -4,7 +4,7 @@ use Rattle.std.specs.Option.{option_or}
 use Rattle.td_base.specs.Ip6.{same_ip6}
 use Rattle.td_base.specs.declared.ipv6.Ip6.{Ip6}
 use Rattle.td_base.specs.declared.endpoint.Ep.{Ep}
-use Rattle.td_base.specs.declared.small.Side.{Side}
+use Rattle.td_base.specs.declared.side.Side.{Side}
 use Rattle.teredo_node.specs.Step.{Send}
 use Rattle.peer_list.specs.declared.limits.TheConstants.{MOST_TRIES}
 use Rattle.peer_list.specs.declared.refusals.PeersRefusal.{PeersRefusal}

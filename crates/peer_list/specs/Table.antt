@@ -3,7 +3,7 @@ use Rattle.std.specs.Prelude.{◌≡◌, ℕ, ◌||◌, Bool, nat_lt, List, [], 
 use Rattle.std.specs.Ordering.{nat_cmp, ordering_then, is_lt}
 use Rattle.td_base.specs.Ip6.{same_ip6, cmp_ip6}
 use Rattle.td_base.specs.declared.ipv6.Ip6.{Ip6}
-use Rattle.td_base.specs.declared.small.Millis.{Millis}
+use Rattle.td_base.specs.declared.millis.Millis.{Millis}
 use Rattle.peer_list.specs.declared.limits.TheConstants.{LISTED_MS, MOST_PEERS}
 use Rattle.peer_list.specs.Listed.{with_peer}
 use Rattle.peer_list.specs.Peers.{Peer, no_peer}

@@ -1,8 +1,8 @@
 //! A peer that is listed.
 ghost use Rattle.std.specs.Prelude.{◌≡◌, ◌≤◌, ◌<◌, ◌&&◌, not, ℕ, false, true, [], ◌++◌, ◌∷◌, map, length, option_map, IfOk, OnOk, OnErr};
 ghost use Rattle.std.specs.List.{AllByRecursion};
-ghost use Rattle.ipv6_packet.specs.declared.header.TheConstants.{MAX_PACKET};
-ghost use Rattle.td_outside.specs.declared.timing.TheConstants.{CLOCK_END_MS};
+ghost use Rattle.ipv6_packet.specs.declared.header.TheConstants.{PACKET_MAX};
+ghost use Rattle.td_outside.specs.declared.clock.TheConstants.{CLOCK_END_MS};
 ghost use Rattle.peer_list.specs.Peers.{no_peer};
 ghost use Rattle.peer_list.specs.Judged.{is_within, is_none, is_fresh, is_spent, is_barred, is_full, is_trusted_at, due_of};
 ghost use Rattle.peer_list.specs.Calls.{touched_at, trusted_at, heard_at, tried_at, queued_at, emptied, sends_of, Queues};
@@ -29,7 +29,7 @@ pub struct Peer {
 
 impl Model for Peer {
     ghost use Rattle.std.specs.Prelude.{Some, option_map};
-    ghost use Rattle.td_base.specs.declared.small.Millis.{Millis};
+    ghost use Rattle.td_base.specs.declared.millis.Millis.{Millis};
     ghost use Rattle.peer_list.specs.Peers.{Peer};
     ghost use Rattle.peer_list.specs.Bounds.{CanWait};
 
@@ -102,7 +102,7 @@ impl Peer {
     pub fn waiting(&self) -> &[Octets]
         ensures value { result.now ≡ self.now.waiting }
         ensures most { length result.now ≤ MOST_WAITING }
-        ensures short { AllByRecursion (λ x. length x ≤ MAX_PACKET) result.now }
+        ensures short { AllByRecursion (λ x. length x ≤ PACKET_MAX) result.now }
     {
         self.waiting.as_slice()
     }
@@ -210,7 +210,7 @@ impl Peer {
     /// Lets a packet wait, and touches the peer. A refusal leaves it as it was.
     #[tactic(auto, unfolding(crate::specs::Judged::is_full))]
     pub(crate) fn queue(&mut self, alloc: Global, now: Millis, packet: &[u8]) -> Result<(), QueueRefusal>
-        requires short { length packet.now ≤ MAX_PACKET }
+        requires short { length packet.now ≤ PACKET_MAX }
         ensures answer { Queues self.old result }
         ensures queued { OnOk result (self.new ≡ queued_at now.0 packet.now self.old) }
         ensures kept { OnErr result (self.new ≡ self.old) }

@@ -1,7 +1,7 @@
 //! The listings of a table: searches and changes, in the order in which the peers were listed.
 ghost use Rattle.std.specs.Prelude.{◌≡◌, ◌≤◌, ◌<◌, ◌++◌, ◌∷◌, [], ℕ, true, false, find, filter, map, length, option_map, IfOk, OnOk, OnErr};
 ghost use Rattle.std.specs.List.{position_or_len};
-ghost use Rattle.ipv6_packet.specs.declared.header.TheConstants.{MAX_PACKET};
+ghost use Rattle.ipv6_packet.specs.declared.header.TheConstants.{PACKET_MAX};
 ghost use Rattle.peer_list.specs.Table.{table, is_of, is_listed_at, known_to, listed_in, has_room_in, waiting_in, first_due_in, due_and_who, earlier_due};
 ghost use Rattle.peer_list.specs.Calls.{touched_at, queued_at, Updates, Keeps, Admits, Queues};
 ghost use Rattle.peer_list.specs.Sound.{AreSound};
@@ -130,7 +130,7 @@ pub fn queue(
 ) -> Result<(), QueueRefusal>
     requires sound { AreSound listings.old.items }
     requires room { has_room_in (table now.0 listings.old.items) now.0 who ≡ true }
-    requires short { length packet.now ≤ MAX_PACKET }
+    requires short { length packet.now ≤ PACKET_MAX }
     ensures sound { AreSound listings.new.items }
     ensures answer { Queues (known_to (table now.0 listings.old.items) now.0 who) result }
     ensures queued { let old = table now.0 listings.old.items in

@@ -1,7 +1,7 @@
 //! The peers that a node keeps.
 ghost use Rattle.std.specs.Prelude.{◌≡◌, ◌≤◌, ◌<◌, ◌∷◌, [], true, false, length, option_map, is_some, OnOk, OnErr};
-ghost use Rattle.ipv6_packet.specs.declared.header.TheConstants.{MAX_PACKET};
-ghost use Rattle.td_outside.specs.declared.timing.TheConstants.{CLOCK_END_MS};
+ghost use Rattle.ipv6_packet.specs.declared.header.TheConstants.{PACKET_MAX};
+ghost use Rattle.td_outside.specs.declared.clock.TheConstants.{CLOCK_END_MS};
 ghost use Rattle.peer_list.specs.Judged.{is_trusted_at, is_fresh, is_spent, is_barred, is_full};
 ghost use Rattle.peer_list.specs.Table.{empty_table, peer_in, known_to, listed_in, has_room_in, waiting_in, first_due_in, due_and_who};
 ghost use Rattle.peer_list.specs.Calls.{touched_at, trusted_at, heard_at, tried_at, queued_at, emptied, Updates, Keeps, Admits, Queues, sends_of};
@@ -177,7 +177,7 @@ impl Peers {
     pub fn queue(&mut self, now: Millis, who: Ip6, packet: &[u8]) -> Result<(), QueueRefusal>
         requires clock { self.old.moment ≤ now.0 }
         requires room { has_room_in self.old now.0 who ≡ true }
-        requires short { length packet.now ≤ MAX_PACKET }
+        requires short { length packet.now ≤ PACKET_MAX }
         ensures answer { Queues (known_to self.old now.0 who) result }
         ensures queued { OnOk result (Updates self.old self.new now.0 who (queued_at now.0 packet.now (known_to self.old now.0 who))) }
         ensures kept { OnErr result (Keeps self.old self.new now.0) }

@@ -1,6 +1,6 @@
 //! The peers of a node at the moments at which something changes, and each refusal.
 ghost use Rattle.std.specs.Prelude.{◌≡◌, ◌≤◌, ◌<◌, length};
-ghost use Rattle.td_outside.specs.declared.timing.TheConstants.{CLOCK_END_MS};
+ghost use Rattle.td_outside.specs.declared.clock.TheConstants.{CLOCK_END_MS};
 
 use crate::{Peers, PeersRefusal, QueueRefusal};
 use std::process::Abort;

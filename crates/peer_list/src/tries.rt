@@ -1,7 +1,7 @@
 //! The latest tries of a peer.
 ghost use Rattle.std.specs.Prelude.{◌≡◌, ◌≤◌, ◌<◌, ◌||◌, nat_le, [], ◌∷◌, take, length, filter, map};
 ghost use Rattle.std.specs.List.{list_any};
-ghost use Rattle.td_outside.specs.declared.timing.TheConstants.{CLOCK_END_MS};
+ghost use Rattle.td_outside.specs.declared.clock.TheConstants.{CLOCK_END_MS};
 ghost use Rattle.peer_list.specs.Listed.{is_young};
 ghost use Rattle.peer_list.specs.Judged.{next_try};
 ghost use Rattle.peer_list.specs.Bounds.{AreEarly};
@@ -20,7 +20,7 @@ pub(crate) struct Tries {
 
 impl Model for Tries {
     ghost use Rattle.std.specs.Prelude.{◌≡◌, ◌≤◌, ℕ, List, map, take, length};
-    ghost use Rattle.td_base.specs.declared.small.Millis.{Millis};
+    ghost use Rattle.td_base.specs.declared.millis.Millis.{Millis};
     ghost use Rattle.peer_list.specs.declared.limits.TheConstants.{MOST_TRIES};
     ghost use Rattle.peer_list.specs.Bounds.{AreEarly};
 

@@ -9,7 +9,7 @@ use Rattle.rand_chacha.specs.Block.{block_word, double_rounds, diagonal_round, q
 use Rattle.rand_chacha.specs.ChaCha.{of_seed}
 use Rattle.ipv6_packet.specs.Packets.{packet_bytes, packet_at, fields_of}
 use Rattle.icmp6.specs.Checksum.{checksum_of}
-use Rattle.icmp6.specs.Writing.{message_bytes}
+use Rattle.icmp6.specs.Layout.{message_bytes}
 use Rattle.teredo_addr.specs.Hidden.{hidden_ep, shown_at}
 use Rattle.teredo_addr.specs.Teredo.{has_cone, link_local, teredo_ip}
 use Rattle.indications.specs.Indications.{head_at, auth_at, origin_at, lead_at}

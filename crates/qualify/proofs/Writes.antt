@@ -3,11 +3,11 @@ use Rattle.std.proofs.Common.{◌≡◌, ◌≤◌, ◌+◌, ℕ, List, [], ◌+
 use Rattle.std.specs.Result.{IsOk}
 use Rattle.std.proofs.lemmas.List.{length-append, drop_all, append-nil}
 use Rattle.td_base.specs.Bytes.{Writes}
-use Rattle.td_base.specs.declared.small.Room.{Room}
+use Rattle.td_base.specs.declared.refusals.Room.{Room}
 use Rattle.td_base.specs.declared.ipv6.Ip6.{Ip6}
 use Rattle.ipv6_packet.specs.Packets.{Fields, packet_bytes}
 use Rattle.icmp6.specs.Message.{router_solicit}
-use Rattle.icmp6.specs.Writing.{message_bytes}
+use Rattle.icmp6.specs.Layout.{message_bytes}
 use Rattle.indications.specs.Blocks.{indications_bytes}
 use Rattle.bubble.specs.Reads.{payload_bytes}
 

@@ -5,7 +5,7 @@ ghost use Rattle.icmp6.specs.Message.{options_in, view as message_view};
 ghost use Rattle.icmp6.specs.Options.{AreOptions};
 ghost use Rattle.ipv6_packet.specs.Packets.{view as packet_view};
 ghost use Rattle.indications.specs.Leads.{origin_in};
-ghost use Rattle.bubble.specs.declared.parts.TheConstants.{MAX_DATAGRAM};
+ghost use Rattle.td_base.specs.declared.datagram.TheConstants.{DATAGRAM_MAX};
 ghost use Rattle.bubble.specs.Payloads.{view};
 ghost use Rattle.bubble.specs.Messages.{message_in};
 ghost use Rattle.qualify.specs.Advertisements.{is_own_prefix, is_usable_origin, prefix_of, prefixes_in, IsOnly, Takes};
@@ -30,7 +30,7 @@ pub fn taken_origin(
     from: Ep,
     payload: &Payload<'_>,
 ) -> Result<Ep, Fate>
-    requires { length payload.now.packet.body.now ≤ MAX_DATAGRAM }
+    requires { length payload.now.packet.body.now ≤ DATAGRAM_MAX }
     ensures { Takes settings.now (qualification_of state.now) from (view payload.now) result }
 {
     // nonce: RFC 4380, section 5.2.1
@@ -72,7 +72,7 @@ fn usable_origin(settings: &Settings, payload: &Payload<'_>) -> Option<Ep>
 /// The Prefix Information of an advertisement, where there is exactly one: its length and its prefix.
 #[tactic(auto, unfolding(bubble::specs::Messages::message_in, crate::specs::Advertisements::prefixes_in, icmp6::specs::Blocks::options_at))]
 fn only_prefix(packet: &Packet<'_>) -> Option<(u8, Ip6)>
-    requires { length packet.now.body.now ≤ MAX_DATAGRAM }
+    requires { length packet.now.body.now ≤ DATAGRAM_MAX }
     ensures { IsOnly result (prefixes_in (message_in (packet_view packet.now))) }
 {
     if packet.next != NEXT_ICMP {

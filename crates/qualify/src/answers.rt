@@ -1,7 +1,7 @@
 //! What an advertisement that is taken makes of a client.
 ghost use Rattle.std.specs.Prelude.{◌≡◌, ◌+◌, ◌<◌, ◌≤◌, Some, None, length};
 ghost use Rattle.indications.specs.Leads.{origin_in};
-ghost use Rattle.bubble.specs.declared.parts.TheConstants.{MAX_DATAGRAM};
+ghost use Rattle.td_base.specs.declared.datagram.TheConstants.{DATAGRAM_MAX};
 ghost use Rattle.bubble.specs.Payloads.{view};
 ghost use Rattle.teredo_node.specs.Words.{drawn_words};
 ghost use Rattle.td_outside.specs.declared.clock.TheConstants.{CLOCK_END_MS};
@@ -38,7 +38,7 @@ pub fn heard(
 ) -> (State, Fate)
     requires settings { IsSettings settings.now }
     requires bound { now.0 < CLOCK_END_MS }
-    requires short { length payload.now.packet.body.now ≤ MAX_DATAGRAM }
+    requires short { length payload.now.packet.body.now ≤ DATAGRAM_MAX }
     ensures fate { result.1 ≡ advert_row settings.now (qualification_of state) from (view payload.now) }
     ensures turns { TurnsBy settings.now now.0 result.1 (drawn_words (advert_words result.1) (words_of rng.old)) (origin_in payload.now.lead) (qualification_of state) (qualification_of result.0) }
     ensures place { rng.new ≡ after_words (advert_words result.1) rng.old }

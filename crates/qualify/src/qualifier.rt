@@ -1,7 +1,7 @@
 //! A client's qualification.
 ghost use Rattle.std.specs.Prelude.{◌≡◌, ◌≤◌, ◌<◌, ℕ, [], length, false, is_some, option_map, IfSome};
 ghost use Rattle.td_outside.specs.declared.clock.TheConstants.{CLOCK_END_MS};
-ghost use Rattle.bubble.specs.declared.parts.TheConstants.{MAX_DATAGRAM};
+ghost use Rattle.td_base.specs.declared.datagram.TheConstants.{DATAGRAM_MAX};
 ghost use Rattle.bubble.specs.Payloads.{view};
 ghost use Rattle.teredo_node.specs.Journal.{Entry, Journal, with_entry};
 ghost use Rattle.qualify.specs.declared.limits.TheConstants.{DUE_END_MS};
@@ -93,7 +93,7 @@ impl Qualifier {
         rng: &mut ChaCha20Rng,
     ) -> Fate
         requires bound { now.0 < CLOCK_END_MS }
-        requires short { length payload.now.packet.body.now ≤ MAX_DATAGRAM }
+        requires short { length payload.now.packet.body.now ≤ DATAGRAM_MAX }
 
         // After each journal that it stood for, this is the fate; then it stands for that journal with this entry.
         ensures fate { (j : Journal) → StandsFor self.old j →

@@ -1,7 +1,7 @@
 //! Solicitations: their bytes, where they go, and where their answers come from.
 ghost use Rattle.std.specs.Prelude.{◌≡◌, []};
 ghost use Rattle.icmp6.specs.Message.{router_solicit};
-ghost use Rattle.icmp6.specs.Writing.{message_bytes};
+ghost use Rattle.icmp6.specs.Layout.{message_bytes};
 ghost use Rattle.teredo_addr.specs.Teredo.{has_cone};
 ghost use Rattle.qualify.specs.Solicitations.{expected, expected_in, solicitation};
 ghost use Rattle.qualify.specs.State.{qualification_of};

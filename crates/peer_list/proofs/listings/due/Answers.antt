@@ -1,7 +1,7 @@
 use Rattle.std.proofs.Common.{◌≡◌, ℕ, ◌+◌, Bool, cond, Option, Some, sym, ap, ◌∙◌, take}
 use Rattle.std.proofs.lemmas.List.{take_all}
 use Rattle.td_base.specs.declared.ipv6.Ip6.{Ip6}
-use Rattle.td_base.specs.declared.small.Millis.{Millis}
+use Rattle.td_base.specs.declared.millis.Millis.{Millis}
 use Rattle.peer_list.specs.Table.{due_and_who, earlier_due}
 use Rattle.peer_list.proofs.DueLemmas.{waits_at, first_pair, first_due_is, first_more}
 use Rattle.peer_list.proofs.listings.due.Goals as goal

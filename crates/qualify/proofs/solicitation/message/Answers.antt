@@ -2,7 +2,7 @@ use Rattle.std.proofs.Common.{[], arith}
 use Rattle.std.specs.Prelude.{replicate}
 use Rattle.teredo_addr.specs.Teredo.{all_routers}
 use Rattle.icmp6.specs.Message.{router_solicit}
-use Rattle.icmp6.specs.Writing.{message_bytes}
+use Rattle.icmp6.specs.Layout.{message_bytes}
 use Rattle.qualify.proofs.Writes.{has_room, fills, solicit_len}
 use Rattle.qualify.proofs.solicitation.message.Goals as goal
 

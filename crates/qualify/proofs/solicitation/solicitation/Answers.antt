@@ -3,7 +3,7 @@ use Rattle.std.specs.Prelude.{replicate}
 use Rattle.td_base.specs.declared.ipv6.Ip6.{Ip6}
 use Rattle.ipv6_packet.specs.Packets.{Fields}
 use Rattle.icmp6.specs.Message.{router_solicit}
-use Rattle.icmp6.specs.Writing.{message_bytes}
+use Rattle.icmp6.specs.Layout.{message_bytes}
 use Rattle.teredo_addr.specs.Teredo.{all_routers}
 use Rattle.bubble.specs.Reads.{payload_bytes}
 use Rattle.qualify.specs.Solicitations.{solicitation}

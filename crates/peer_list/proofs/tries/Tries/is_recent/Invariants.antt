@@ -1,6 +1,6 @@
 use Rattle.std.proofs.Common.{◌≡◌, map, filter, drop}
 use Rattle.std.specs.List.{list_any}
-use Rattle.td_base.specs.declared.small.Millis.{Millis}
+use Rattle.td_base.specs.declared.millis.Millis.{Millis}
 use Rattle.peer_list.specs.declared.limits.TheConstants.{LISTED_MS, TRY_GAP_MS}
 use Rattle.peer_list.specs.Listed.{is_young}
 use Rattle.peer_list.proofs.tries.Tries.is_recent.Given as goal

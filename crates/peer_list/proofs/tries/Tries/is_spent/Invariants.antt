@@ -1,5 +1,5 @@
 use Rattle.std.proofs.Common.{◌≡◌, ◌≤◌, ◌+◌, map, filter, length, drop}
-use Rattle.td_base.specs.declared.small.Millis.{Millis}
+use Rattle.td_base.specs.declared.millis.Millis.{Millis}
 use Rattle.peer_list.specs.declared.limits.TheConstants.{LISTED_MS}
 use Rattle.peer_list.specs.Listed.{is_young}
 use Rattle.peer_list.proofs.tries.Tries.is_spent.Given as goal

@@ -1,5 +1,5 @@
 use Rattle.std.proofs.Common.{None, ap}
-use Rattle.td_base.specs.declared.small.Millis.{Millis}
+use Rattle.td_base.specs.declared.millis.Millis.{Millis}
 use Rattle.qualify.specs.declared.phase.Phase.TheVariants.{Cone}
 use Rattle.qualify.specs.Qualification.{first_phase}
 use Rattle.qualify.proofs.Rounds.{begun_so}
