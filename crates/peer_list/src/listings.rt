@@ -12,7 +12,7 @@ use crate::refusals::{PeersRefusal, QueueRefusal};
 use std::alloc::Global;
 use td_base::{Ip6, Millis};
 
-/// A peer, and whose.
+/// A peer, and whose. No call hands one out: contracts speak of it.
 #[derive(Drop)]
 pub struct Listing {
     pub who: Ip6,
