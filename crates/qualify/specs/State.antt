@@ -26,6 +26,7 @@ keeps_up a = record { phase = phases.Qualified; due = Some a.due.0; sends = 0; o
 abbrev pub lasts : Phase → Qualification
 lasts phase = record { phase = phase; due = None; sends = 0; open_nonces = []; kept = None; address = None; interval = 0 }
 
+-- what is kept, as a journal tells it
 abbrev pub qualification_of : State → Qualification
 qualification_of (Cone r) = asks_so phases.Cone r None
 qualification_of (Restricted r) = asks_so phases.Restricted r None

@@ -60,7 +60,6 @@ fn cone(
     rng: &mut ChaCha20Rng,
     step: &mut Step,
 ) -> State
-    requires settings { IsSettings settings.now }
     requires bound { now.0 < CLOCK_END_MS }
     ensures tick { let q = asks_so Phase.Cone round None in let w = words_of rng.old in TicksBy settings.now now.0 w (due_step settings.now q w) q step.new (qualification_of result) }
     ensures done { is_due now.0 (qualification_of result).due ≡ false }
@@ -92,7 +91,6 @@ fn restricted(
     rng: &mut ChaCha20Rng,
     step: &mut Step,
 ) -> State
-    requires settings { IsSettings settings.now }
     requires bound { now.0 < CLOCK_END_MS }
     ensures tick { let q = asks_so Phase.Restricted round None in let w = words_of rng.old in TicksBy settings.now now.0 w (due_step settings.now q w) q step.new (qualification_of result) }
     ensures done { is_due now.0 (qualification_of result).due ≡ false }
@@ -123,7 +121,6 @@ fn secondary(
     rng: &mut ChaCha20Rng,
     step: &mut Step,
 ) -> State
-    requires settings { IsSettings settings.now }
     requires bound { now.0 < CLOCK_END_MS }
     ensures tick { let q = asks_so Phase.Secondary round (Some kept) in let w = words_of rng.old in TicksBy settings.now now.0 w (due_step settings.now q w) q step.new (qualification_of result) }
     ensures done { is_due now.0 (qualification_of result).due ≡ false }
