@@ -1,10 +1,1 @@
-pub mod Numbers
-pub mod EventsSoFar
-pub mod Names
-pub mod FreshRows
-pub mod NodesSoFar
-pub mod TableLemmas
-pub mod Taken
-pub mod TextLemmas
-pub mod KeptRules
-pub mod OneSolicitation
+mod TableLemmas
