@@ -1,1 +1,9 @@
+mod Steps
+mod Names
+mod Taken
 mod TableLemmas
+mod UnknownKeys
+mod TextLemmas
+mod Lasts
+mod Grown
+mod FreshRows

@@ -1,6 +1,6 @@
 -- The node that a table describes beside the nodes of the tables before it, or why the text is refused: the keys in order.
-use Rattle.std.specs.Prelude.{ℕ, ℤ, List, [], ◌∷◌, codes, Option, Some, None, option_and_then, Result, Ok}
-use Rattle.toml.specs.Data.{Data, integer, as_array, Items, no_items, item, Members, get_member}
+use Rattle.std.specs.Prelude.{ℕ, ℤ, List, [], ◌∷◌, codes, Option, Some, None, option_and_then, option_map, Result, Ok}
+use Rattle.toml.specs.Data.{Data, as_integer, as_array, Items, no_items, item, Members, get_member}
 use Rattle.td_base.specs.Reading.{◌>>=◌}
 use Rattle.topology.specs.declared.server_node.ServerNode.{ServerNode}
 use Rattle.topology.specs.declared.nat_node.NatNode.{NatNode}
@@ -35,7 +35,7 @@ nat_row t place table = do
 
 -- the two whole numbers of a list that has no other value
 abbrev pub two_integers : Items → Option (ℤ × ℤ)
-two_integers (item (integer a) (item (integer b) no_items)) = Some (a, b)
+two_integers (item first (item second no_items)) = option_and_then (λ low. option_map (λ high. (low, high)) (as_integer second)) (as_integer first)
 two_integers _ = None
 
 -- the times between refreshes that a value gives, in milliseconds

@@ -1,6 +1,7 @@
 //! The events of a text.
-ghost use Rattle.std.specs.Prelude.{◌≡◌, ◌<◌, ◌≤◌, ℕ, List, Some, None, length, IfOk, IfSome, IfNone, IsSome};
-ghost use Rattle.std.specs.List.{AllByRecursion};
+ghost use Rattle.std.specs.Prelude.{◌≡◌, ◌<◌, ◌≤◌, ℕ, List, Some, None, length, IfOk, IfSome, IfNone, IsSome, is_some};
+ghost use Rattle.std.specs.List.{list_all, AllByRecursion};
+ghost use Rattle.toml.specs.Data.{as_str};
 ghost use Rattle.toml.specs.View.{view, items_view, table_view};
 ghost use Rattle.history.specs.Events.{IsEvent};
 ghost use Rattle.history.specs.EventText.{event_of};
@@ -34,12 +35,18 @@ fn event_at(
     }
 }
 
+fn are_texts(values: &[Value]) -> bool
+    ensures { result ≡ list_all (λ value. is_some (as_str (view value))) values.now }
+{
+    values.iter().all(|value| value.as_str().is_some())
+}
+
 /// The values, where each is a text.
 fn all_texts(values: &[Value]) -> Option<&[Value]>
     ensures some { IfSome result (λ vs. (vs.now ≡ values.now) × IsSome (texts_of (items_view values.now))) }
     ensures none { IfNone result (texts_of (items_view values.now) ≡ None) }
 {
-    if !values.iter().all(|value| value.as_str().is_some()) {
+    if !are_texts(values) {
         return None;
     }
     Some(values)

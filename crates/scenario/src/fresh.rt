@@ -37,7 +37,7 @@ fn all_name_bytes(text: &[u8]) -> bool
     text.iter().all(|byte| is_name_byte(*byte))
 }
 
-#[tactic(auto, unfolding(history::specs::NodeNames::is_name))]
+#[tactic(auto, unfolding(topology::specs::NodeNames::is_name))]
 fn is_name(text: &[u8]) -> bool
     ensures { result ≡ is_name text.now }
 {

@@ -1,5 +1,6 @@
 //! The nodes that tables describe beside the nodes of the tables before them: a line for each key, in order.
-ghost use Rattle.std.specs.Prelude.{◌≡◌, option_map};
+ghost use Rattle.std.specs.Prelude.{◌≡◌, option_map, option_and_then};
+ghost use Rattle.toml.specs.Data.{as_array};
 ghost use Rattle.toml.specs.View.{view, table_view, items_view};
 ghost use Rattle.scenario.specs.NodeRows.{server_row, nat_row, two_integers, given_refresh, refresh_in, client_row, relay_row, native_row};
 
@@ -63,7 +64,9 @@ fn two_integers(values: &[Value]) -> Option<(i64, i64)>
     Some((first.as_integer()?, second.as_integer()?))
 }
 
-fn integers_in(value: &Value) -> Option<(i64, i64)> {
+fn integers_in(value: &Value) -> Option<(i64, i64)>
+    ensures { result ≡ option_and_then two_integers (as_array (view value.now)) }
+{
     two_integers(value.as_array()?)
 }
 

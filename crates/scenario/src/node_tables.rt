@@ -25,12 +25,28 @@ fn with_row(kind: NodeKind, mut topology: Topology, row: &Row) -> Result<Topolog
     ensures one { IfOk result (λ t. row_count kind t ≡ row_count kind topology + 1) }
     ensures order { IfOk result (λ t. HasNoneBehind kind t) }
 {
+    let nodes = &topology;
     match kind {
-        NodeKind::Server => topology.add_server(server_row(&topology, row)?)?,
-        NodeKind::Nat => topology.add_nat(nat_row(&topology, row)?)?,
-        NodeKind::Client => topology.add_client(client_row(&topology, row)?)?,
-        NodeKind::Relay => topology.add_relay(relay_row(&topology, row)?)?,
-        NodeKind::Native => topology.add_native(native_row(&topology, row)?)?,
+        NodeKind::Server => {
+            let server = server_row(nodes, row)?;
+            topology.add_server(server)?;
+        }
+        NodeKind::Nat => {
+            let nat = nat_row(nodes, row)?;
+            topology.add_nat(nat)?;
+        }
+        NodeKind::Client => {
+            let client = client_row(nodes, row)?;
+            topology.add_client(client)?;
+        }
+        NodeKind::Relay => {
+            let relay = relay_row(nodes, row)?;
+            topology.add_relay(relay)?;
+        }
+        NodeKind::Native => {
+            let native = native_row(nodes, row)?;
+            topology.add_native(native)?;
+        }
     }
     Ok(topology)
 }
@@ -72,10 +88,8 @@ fn with_values(
     ensures value { IsReadAs (λ t. t) result (with_values kind 0 topology (items_view values.now)) }
     ensures order { IfOk result (λ t. HasNoneBehind kind t) }
 {
-    let mut index = 0;
-    for value in values {
-        topology = with_value(kind, index, topology, value)?;
-        index += 1;
+    for (index, value) in values.iter().enumerate() {
+        topology = with_value(kind, index as u16, topology, value)?;
     }
     Ok(topology)
 }

@@ -1,5 +1,5 @@
 //! The path of a key in a text.
-ghost use Rattle.std.specs.Prelude.{◌≡◌, ◌+◌, ◌-◌, ◌≤◌, ◌++◌, ◌∷◌, [], length, decimal, map, take, min};
+ghost use Rattle.std.specs.Prelude.{◌≡◌, ◌+◌, ◌-◌, ◌≤◌, ◌++◌, ◌∷◌, [], length, decimal, map, take};
 ghost use Rattle.scenario.specs.Paths.{shown_byte, shown};
 
 use itoa::Buffer;
@@ -97,8 +97,19 @@ impl Path {
         requires { length self.old + KEY_SHOWN ≤ PATH_LEN }
         ensures { self.new ≡ self.old ++ shown key.now }
     {
-        self.push_shown(&key[..key.len().min(KEY_SHOWN)]);
+        self.push_shown(front(key));
     }
+}
+
+/// The first bytes of a key, as many as a path shows.
+fn front(key: &[u8]) -> &[u8]
+    ensures value { result.now ≡ take KEY_SHOWN key.now }
+    ensures short { length result.now ≤ KEY_SHOWN }
+{
+    if key.len() <= KEY_SHOWN {
+        return key;
+    }
+    &key[..KEY_SHOWN]
 }
 
 /// A byte as a path shows it: `?` for what is no visible character of ASCII.

@@ -1,6 +1,8 @@
 //! A table of a text, read key by key.
 ghost use Rattle.std.specs.Prelude.{◌≡◌, map, option_map, string_bytes, ok_or};
 ghost use Rattle.std.specs.List.{list_any, find};
+ghost use Rattle.std.specs.List.Sorted.{IsStrictlySortedBy};
+ghost use Rattle.std.specs.String.{string_cmp};
 ghost use Rattle.std.specs.BTreeMap.{keys};
 ghost use Rattle.toml.specs.View.{view, table_view, items_view};
 ghost use Rattle.toml.specs.Data.{get_member};
@@ -19,17 +21,33 @@ pub(crate) struct Row<'a> {
     pub(crate) table: &'a Table,
 }
 
+fn is_one_of(text: &str, texts: &[&str]) -> bool
+    ensures { result ≡ list_any (λ one. same_text text.now one.now) texts.now }
+{
+    texts.iter().any(|one| text == *one)
+}
+
 fn is_unknown(key: &str, known: &[&str]) -> bool
     ensures { result ≡ is_unknown (map (λ one. one.now) known.now) key.now }
 {
-    !known.iter().any(|one| key == *one)
+    !is_one_of(key, known)
 }
 
 /// The first unknown key. The keys of a table stand in byte order.
+fn first_unknown<'a>(table: &'a Table, known: &[&str]) -> Option<&'a String>
+    ensures first { option_map (λ key. key.now) result ≡ find (λ key. is_unknown (map (λ one. one.now) known.now) (string_bytes key)) (keys table.now) }
+    ensures ordered { IsStrictlySortedBy string_cmp (keys table.now) }
+{
+    table
+        .keys()
+        .find(|key| is_unknown(key.as_str(), known))
+}
+
+/// The least unknown key.
 fn unknown_key<'a>(table: &'a Table, known: &[&str]) -> Option<&'a String>
     ensures { option_map (λ key. string_bytes key.now) result ≡ unknown_key (map (λ one. one.now) known.now) (table_view table.now) }
 {
-    table.keys().find(|key| is_unknown(key.as_str(), known))
+    first_unknown(table, known)
 }
 
 /// What a table has at a key.
