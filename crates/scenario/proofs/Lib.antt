@@ -7,3 +7,5 @@ mod TextLemmas
 mod Lasts
 mod Grown
 mod FreshRows
+mod EventsSoFar
+mod KeptRules
