@@ -1,7 +1,8 @@
 -- The events of a list of texts, as far as it was read.
-use Rattle.std.proofs.Common.{◌≡◌, ℕ, ◌+◌, ◌<◌, ◌≤◌, nat_le, leb-true, codes, List, [], ◌∷◌, ◌++◌, length, drop, get_or, Option, Some, None, Result, Ok, Err, refl, sym, ap, ◌∙◌, append_assoc, append-nil, arith, true, false}
-use Rattle.std.specs.Prelude.{is_some, IsSome, option_map, option_and_then, unwrap_or}
+use Rattle.std.proofs.Common.{◌≡◌, ℕ, ◌+◌, ◌<◌, ◌≤◌, nat_le, leb-true, le-leb, codes, Bool, if◌then◌else◌, List, [], ◌∷◌, ◌++◌, length, drop, get_or, Option, Some, None, Result, Ok, Err, refl, sym, ap, ◌∙◌, append_assoc, append-nil, arith, true, false, subst, Bor}
+use Rattle.std.specs.Prelude.{is_some, IsSome, IfSome, option_map, option_and_then, unwrap_or}
 use Rattle.std.specs.List.{AllByRecursion}
+use Rattle.std.proofs.lemmas.Bool.{lt-leb}
 use Rattle.toml.specs.declared.value.Value.{Value}
 use Rattle.toml.specs.Data.{as_str, Data, Items, no_items, item, Members}
 use Rattle.toml.specs.View.{view, items_view}
@@ -13,10 +14,13 @@ use Rattle.history.specs.Events.{IsEvent}
 use Rattle.history.specs.EventText.{event_of}
 use Rattle.scenario.specs.declared.scenario_fault.ScenarioFault.{ScenarioFault}
 use Rattle.scenario.specs.declared.event_lists.TheConstants.{MOST_EVENTS}
+use Rattle.scenario.specs.declared.place.Place.{Place}
 use Rattle.scenario.specs.declared.place.Place.TheVariants as place
-use Rattle.scenario.specs.Keys.{typed, ruled, list_at}
-use Rattle.scenario.specs.EventLists.{texts_of, event_at, each_event, few_texts, events_of}
-use Rattle.scenario.proofs.Steps.{bind_ok, ok_same, given, held}
+use Rattle.scenario.specs.declared.scenario_fault.ScenarioFault.TheVariants as fault
+use Rattle.scenario.specs.Paths.{key_path}
+use Rattle.scenario.specs.Keys.{typed, list_at}
+use Rattle.scenario.specs.EventLists.{texts_of, event_at, each_event, few_events, events_of}
+use Rattle.scenario.proofs.Steps.{bind_ok, ok_same, some_same}
 
 -- the events of the values of a list that are texts
 abbrev pub each_value : TopologyState → ℕ → Items → Result (List Event) ScenarioFault
@@ -71,11 +75,55 @@ length-each t index (text ∷ more) events e =
     let whole : first.0 ∷ others.0 ≡ events = ok_same _ _ others.2 in
     omega (arith, ap length whole, length-each t (index + 1) more others.0 others.1)
 
-pub few_events : (t : TopologyState) (table : Members) (events : List Event) → events_of t table ≡ Ok events → length events ≤ MOST_EVENTS
+length-texts : (vs : List Value) (texts : List (List ℕ)) → texts_of (items_view vs) ≡ Some texts → length texts ≡ length vs
+length-texts [] texts e = ap length (sym (some_same [] texts e))
+length-texts (v ∷ vs) texts e = step (as_str (view v)) (texts_of (items_view vs)) e (length-texts vs)
+  where
+    step : (o : Option (List ℕ)) (more : Option (List (List ℕ))) → option_and_then (λ t. option_map (λ ts. t ∷ ts) more) o ≡ Some texts → ((ts : List (List ℕ)) → more ≡ Some ts → length ts ≡ length vs) → length texts ≡ length (v ∷ vs)
+    step None more e h = absurd cc
+    step (Some t) None e h = absurd cc
+    step (Some t) (Some ts) e h = omega (arith, ap length (some_same (t ∷ ts) texts e), h ts refl)
+
+-- too many texts
+pub long_events : (t : TopologyState) (vs : List Value) (texts : List (List ℕ)) → texts_of (items_view vs) ≡ Some texts → MOST_EVENTS < length vs → few_events t texts ≡ Err (fault.Range (key_path place.Text (codes "events")))
+long_events t vs texts e long = let no : nat_le (length texts) MOST_EVENTS ≡ false = lt-leb (length texts) MOST_EVENTS (omega (arith, long, length-texts vs texts e)) in rw no refl
+
+pub short_events : (t : TopologyState) (vs : List Value) (texts : List (List ℕ)) → texts_of (items_view vs) ≡ Some texts → length vs ≤ MOST_EVENTS → few_events t texts ≡ each_event t 0 texts
+short_events t vs texts e short = rw (le-leb (length texts) MOST_EVENTS (omega (arith, short, length-texts vs texts e))) refl
+
+pub some_is : {A : Type 0} (o : Option A) → IsSome o → (x : A) × (o ≡ Some x)
+some_is None h = absurd cc
+some_is (Some x) h = (x, refl)
+
+-- the events, where the list is one of texts
+pub events_of-texts : (t : TopologyState) (table : Members) (values : Items) (texts : List (List ℕ)) → list_at place.Text (codes "events") table ≡ Ok values → texts_of values ≡ Some texts → events_of t table ≡ few_events t texts
 unfolding events_of
-few_events t table events e =
+events_of-texts t table values texts e f = rw (e, f) refl
+
+passed : {A E : Type 0} (b : Bool) (r : Result A E) (fault : E) (x : A) → (if b then r else Err fault) ≡ Ok x → (b ≡ true) × (r ≡ Ok x)
+passed true r fault x e = (refl, e)
+passed false r fault x e = absurd cc
+
+pub length-events_of : (t : TopologyState) (table : Members) (events : List Event) → events_of t table ≡ Ok events → length events ≤ MOST_EVENTS
+unfolding events_of
+length-events_of t table events e =
     let values = bind_ok (list_at place.Text (codes "events") table) _ events e in
     let texts = bind_ok (typed place.Text (codes "events") (texts_of values.0)) _ events values.2 in
-    let few = bind_ok (ruled place.Text (codes "events") (few_texts texts.0)) _ events texts.2 in
-    let kept = held (nat_le (length texts.0) MOST_EVENTS) texts.0 few.0 (given (few_texts texts.0) _ few.0 few.1) in
-    omega (arith, leb-true _ _ kept.0, ap length kept.1, length-each t 0 few.0 events few.2)
+    let few = passed (nat_le (length texts.0) MOST_EVENTS) (each_event t 0 texts.0) _ events texts.2 in
+    omega (arith, leb-true _ _ few.0, length-each t 0 texts.0 events few.1)
+
+-- the texts that were given, and the events of them
+pub record FromTexts (t : TopologyState) (table : Members) (values : List Value) : Type 0 where
+  pub texts : List (List ℕ)
+  pub are : texts_of (items_view values) ≡ Some texts
+  pub events : events_of t table ≡ few_events t texts
+
+pub from_texts : (t : TopologyState) (table : Members) (at : Place) (values : List Value) (o : Option (Bor (List Value))) (vs : Bor (List Value)) → at ≡ place.Text → list_at at (codes "events") table ≡ Ok (items_view values) → IfSome o (λ xs. (xs.now ≡ values) × IsSome (texts_of (items_view values))) → ◌≡◌ {A = Result (Bor (List Value)) ScenarioFault} (Ok vs) (typed at (codes "events") o) → FromTexts t table vs.now
+from_texts t table at values None vs whole listed all found = absurd cc
+from_texts t table at values (Some xs) vs whole listed all found =
+    let same : xs ≡ vs = cc in
+    let texts = some_is (texts_of (items_view values)) all.1 in
+    let Listed : Place → Type 0 = λ p. list_at p (codes "events") table ≡ Ok (items_view values) in
+    let made : FromTexts t table xs.now = record { texts = texts.0; are = ap (λ (ys : List Value). texts_of (items_view ys)) all.0 ∙ texts.1; events = events_of-texts t table (items_view values) texts.0 (subst Listed whole listed) texts.1 } in
+    let Given : Bor (List Value) → Type 0 = λ ys. FromTexts t table ys.now in
+    subst Given same made

@@ -1,6 +1,6 @@
 -- What the definitions give keeps the rules of a topology.
 use Rattle.std.proofs.Common.{◌≡◌, ℕ, ◌+◌, ◌<◌, ◌≤◌, nat_le, nat_lt, leb-true, Bool, true, false, if◌then◌else◌, List, [], ◌∷◌, length, codes, Option, Some, None, Result, Ok, Err, refl, subst, arith, length-append}
-use Rattle.std.specs.Prelude.{ok_or}
+use Rattle.std.specs.Prelude.{ok_or, IfOk}
 use Rattle.toml.specs.Data.{Data, as_array, as_table, Items, no_items, item, Members, get_member}
 use Rattle.topology.specs.Rows.{TopologyState, no_nodes, with_server, with_nat, with_client, with_relay, with_native}
 use Rattle.topology.specs.Rules.{IsTopology}
@@ -10,6 +10,9 @@ use Rattle.scenario.specs.declared.node_kind.NodeKind.{NodeKind}
 use Rattle.scenario.specs.declared.node_kind.NodeKind.TheVariants as kind
 use Rattle.scenario.specs.declared.place.Place.{Place}
 use Rattle.scenario.specs.declared.place.Place.TheVariants as place
+use Rattle.scenario.specs.declared.reader.Scenario.{Scenario as CodeScenario}
+use Rattle.scenario.specs.Answers.{IsReadAs}
+use Rattle.scenario.specs.Told.{told}
 use Rattle.scenario.specs.declared.reader.TheConstants.{TEXT_MOST}
 use Rattle.scenario.specs.declared.event_lists.TheConstants.{MOST_EVENTS}
 use Rattle.scenario.specs.declared.scenario_fault.ScenarioFault.{ScenarioFault}
@@ -26,7 +29,7 @@ use Rattle.scenario.specs.Scenario.{scenario_in, document_of, written, scenario_
 use Rattle.scenario.proofs.Steps.{bind_ok, ok_same, given}
 use Rattle.scenario.proofs.Grown.{grown_server, grown_nat, grown_client, grown_relay, grown_native}
 use Rattle.scenario.proofs.FreshRows.{server_row-fresh, nat_row-fresh, client_row-fresh, relay_row-fresh, native_row-fresh}
-use Rattle.scenario.proofs.EventsSoFar.{few_events}
+use Rattle.scenario.proofs.EventsSoFar.{length-events_of}
 
 -- ---- one node
 
@@ -129,11 +132,10 @@ not_refused : {A E : Type 0} (b : Bool) (r : Result A E) (fault : E) (x : A) →
 not_refused true r fault x e = absurd cc
 not_refused false r fault x e = e
 
-there : (text : List ℕ) (s : Scenario) → scenario_of text ≡ Ok s → StandsThere s
-unfolding scenario_of scenario_in
+there : (text : List ℕ) (s : Scenario) → written text ≡ Ok s → StandsThere s
+unfolding scenario_in
 there text s e =
-    let whole = not_refused (nat_lt TEXT_MOST (length text)) (written text) fault.TooLong s e in
-    let table = bind_ok (ok_or (document_of text) fault.NotToml) scenario_in s whole in
+    let table = bind_ok (ok_or (document_of text) fault.NotToml) scenario_in s e in
     let only = bind_ok (only_keys scenario_keys place.Text table.0) _ s table.2 in
     let seed = bind_ok (number_at place.Text (codes "seed") natural table.0) _ s only.2 in
     let topology = bind_ok (nodes_of table.0) _ s seed.2 in
@@ -142,7 +144,10 @@ there text s e =
     subst StandsThere (ok_same _ _ events.2) found
 
 pub scenario_of-rules : (text : List ℕ) (s : Scenario) → scenario_of text ≡ Ok s → IsTopology s.topology
-scenario_of-rules text s e = let found = there text s e in nodes_of-keeps found.table s.topology found.nodes
+unfolding scenario_of
+scenario_of-rules text s e = let found = there text s (not_refused (nat_lt TEXT_MOST (length text)) (written text) fault.TooLong s e) in nodes_of-keeps found.table s.topology found.nodes
 
-pub scenario_of-few : (text : List ℕ) (s : Scenario) → scenario_of text ≡ Ok s → length s.events ≤ MOST_EVENTS
-scenario_of-few text s e = let found = there text s e in few_events s.topology found.table s.events found.events
+-- a scenario that was read has few events
+pub few_read : (text : List ℕ) (r : Result CodeScenario ScenarioFault) → IsReadAs told r (written text) → IfOk r (λ s. length s.events ≤ MOST_EVENTS)
+few_read text (Ok s) h = let found = there text (told s) h in length-events_of s.topology found.table s.events found.events
+few_read text (Err e) h = tt

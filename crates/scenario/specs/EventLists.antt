@@ -1,5 +1,5 @@
 -- The events of a text, or why the text is refused.
-use Rattle.std.specs.Prelude.{ℕ, ◌+◌, nat_le, List, [], ◌∷◌, length, codes, Option, Some, None, option_and_then, option_map, Result, Ok, Err}
+use Rattle.std.specs.Prelude.{ℕ, ◌+◌, nat_le, if◌then◌else◌, List, [], ◌∷◌, length, codes, Option, Some, None, option_and_then, option_map, Result, Ok, Err}
 use Rattle.toml.specs.Data.{Data, as_str, Items, no_items, item, Members}
 use Rattle.td_base.specs.Reading.{◌>>=◌}
 use Rattle.history.specs.declared.event.Event.{Event}
@@ -9,8 +9,8 @@ use Rattle.scenario.specs.declared.scenario_fault.ScenarioFault.{ScenarioFault}
 use Rattle.scenario.specs.declared.scenario_fault.ScenarioFault.TheVariants as fault
 use Rattle.scenario.specs.declared.event_lists.TheConstants.{MOST_EVENTS}
 use Rattle.scenario.specs.declared.place.Place.TheVariants as place
-use Rattle.scenario.specs.Keys.{typed, ruled, list_at}
-use Rattle.scenario.specs.Fresh.{where_holds}
+use Rattle.scenario.specs.Paths.{key_path}
+use Rattle.scenario.specs.Keys.{typed, list_at}
 
 -- the texts of a list, where each value is one
 abbrev pub texts_of : Items → Option (List (List ℕ))
@@ -30,14 +30,13 @@ each_event t index (text ∷ more) = do
   events ← each_event t (index + 1) more
   Ok (event ∷ events)
 
--- texts that aren't too many
-abbrev pub few_texts : List (List ℕ) → Option (List (List ℕ))
-few_texts texts = where_holds (nat_le (length texts) MOST_EVENTS) texts
+-- the events of texts that aren't too many
+abbrev pub few_events : TopologyState → List (List ℕ) → Result (List Event) ScenarioFault
+few_events t texts = if nat_le (length texts) MOST_EVENTS then each_event t 0 texts else Err (fault.Range (key_path place.Text (codes "events")))
 
 -- the events of the list of texts
 unfoldable pub events_of : TopologyState → Members → Result (List Event) ScenarioFault
 events_of t table = do
   values ← list_at place.Text (codes "events") table
   texts ← typed place.Text (codes "events") (texts_of values)
-  few ← ruled place.Text (codes "events") (few_texts texts)
-  each_event t 0 few
+  few_events t texts

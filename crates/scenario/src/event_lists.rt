@@ -1,14 +1,15 @@
 //! The events of a text.
-ghost use Rattle.std.specs.Prelude.{◌≡◌, ◌<◌, ◌≤◌, ℕ, List, Some, None, length, IfOk, IfSome, IfNone, IsSome, is_some};
+ghost use Rattle.std.specs.Prelude.{◌≡◌, ℕ, List, Some, None, length, IfOk, IfSome, IfNone, IsSome, is_some};
 ghost use Rattle.std.specs.List.{list_all, AllByRecursion};
 ghost use Rattle.toml.specs.Data.{as_str};
 ghost use Rattle.toml.specs.View.{view, items_view, table_view};
 ghost use Rattle.history.specs.Events.{IsEvent};
 ghost use Rattle.history.specs.EventText.{event_of};
-ghost use Rattle.scenario.specs.EventLists.{texts_of, event_at, each_event, events_of};
+ghost use Rattle.scenario.specs.EventLists.{texts_of, event_at, each_event, few_events, events_of};
 ghost use Rattle.scenario.specs.declared.place.Place.TheVariants.{Text};
 ghost use Rattle.scenario.specs.Answers.{IsReadAs};
 
+use crate::place::Place;
 use crate::row::Row;
 use crate::scenario_fault::ScenarioFault;
 use history::{Event, EventFault, Events, Topology, read_event};
@@ -52,17 +53,6 @@ fn all_texts(values: &[Value]) -> Option<&[Value]>
     Some(values)
 }
 
-/// The values, where they aren't too many.
-fn few(values: &[Value]) -> Option<&[Value]>
-    ensures some { IfSome result (λ vs. (vs.now ≡ values.now) × (length values.now ≤ MOST_EVENTS)) }
-    ensures none { IfNone result (MOST_EVENTS < length values.now) }
-{
-    if values.len() > MOST_EVENTS {
-        return None;
-    }
-    Some(values)
-}
-
 /// The events of texts in order.
 fn each_event(
     alloc: Global,
@@ -83,6 +73,24 @@ fn each_event(
     Ok(events)
 }
 
+/// The events of texts that aren't too many.
+fn few_events(
+    alloc: Global,
+    topology: &Topology,
+    texts: &[Value],
+) -> Result<Events, ScenarioFault>
+    requires { IsSome (texts_of (items_view texts.now)) }
+    ensures value { (ts : List (List ℕ)) → texts_of (items_view texts.now) ≡ Some ts → IsReadAs (λ es. es) result (few_events topology.now ts) }
+    ensures legal { IfOk result (λ es. AllByRecursion (IsEvent topology.now) es) }
+{
+    if texts.len() > MOST_EVENTS {
+        return Err(ScenarioFault::Range {
+            path: Place::Text.key_path("events"),
+        });
+    }
+    each_event(alloc, topology, texts)
+}
+
 /// The events of the list of texts.
 #[tactic(auto, unfolding(crate::specs::EventLists::events_of))]
 pub(crate) fn events_of(
@@ -96,6 +104,5 @@ pub(crate) fn events_of(
 {
     let values = text.list("events")?;
     let texts = text.typed("events", all_texts(values))?;
-    let texts = text.ruled("events", few(texts))?;
-    each_event(alloc, topology, texts)
+    few_events(alloc, topology, texts)
 }
