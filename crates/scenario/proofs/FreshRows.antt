@@ -1,5 +1,5 @@
 -- What a table describes is fresh: its name and its addresses are no other node's, and its numbers keep their rules.
-use Rattle.std.proofs.Common.{◌≡◌, ◌≢◌, ◌≤◌, ◌==◌, ◌&&◌, ℕ, ℤ, nat_le, leb-true, Bool, true, false, not, List, codes, length, get_or, Option, Some, None, Result, Ok, refl, sym, subst, ap, ◌∙◌, arith, [], ◌∷◌}
+use Rattle.std.proofs.Common.{◌≡◌, ◌≢◌, ◌≤◌, ◌==◌, ◌&&◌, ℕ, ℤ, nat_le, leb-true, Bool, true, false, not, List, codes, get_or, Option, Some, None, Ok, refl, sym, subst, ap, ◌∙◌, arith, [], ◌∷◌}
 use Rattle.std.specs.Prelude.{is_some, position, slice_get, option_and_then}
 use Rattle.std.specs.List.{list_any}
 use Rattle.std.proofs.lemmas.Bool.{and_parts, true≢false}
@@ -7,7 +7,6 @@ use Rattle.std.proofs.lemmas.Bool.Decides.{Decides-eqb}
 use Rattle.std.proofs.lemmas.List.Quantifiers.{position-Some}
 use Rattle.std.proofs.lemmas.Option.{slice_get-get_or}
 use Rattle.toml.specs.Data.{Members, Data, as_array, get_member}
-use Rattle.nat_kinds.specs.declared.kind.NatKind.{NatKind}
 use Rattle.td_base.specs.declared.ipv4.Ip4.{Ip4}
 use Rattle.td_base.specs.declared.ipv6.Ip6.{Ip6}
 use Rattle.td_base.specs.declared.endpoint.Ep.{Ep}
@@ -29,7 +28,7 @@ use Rattle.topology.specs.declared.native_node.NativeNode.{NativeNode}
 use Rattle.topology.specs.NodeNames.{is_name}
 use Rattle.topology.specs.Rows.{TopologyState}
 use Rattle.topology.specs.Topology.{Node, server, nat, client, relay, native, nodes, as_server, as_nat, as_relay}
-use Rattle.topology.specs.Rules.{names_of, addresses_of, sixes_of, same_inside, IsIdle, IsClient, IsOutside}
+use Rattle.topology.specs.Rules.{names_of, addresses_of, sixes_of, IsClient}
 use Rattle.history.specs.Events.{is_server, is_nat, is_relay}
 use Rattle.history.specs.NodeWords.{named, is_named}
 use Rattle.history.specs.Words.{ip4_of, ep_of}
@@ -38,10 +37,10 @@ use Rattle.scenario.specs.declared.place.Place.{Place}
 use Rattle.scenario.specs.declared.node_rows.TheConstants.{REFRESH_LOW, REFRESH_HIGH}
 use Rattle.scenario.specs.Keys.{typed, ruled, word_at, name_at, number_at}
 use Rattle.scenario.specs.Fresh.{where_holds, name_of, is_free_name, new_name, is_free_address, is_new_address, new_address, other_address, new_endpoint, is_free_six, is_new_six, new_six, is_free_inside, new_inside, kind_of, natural, idle_of, is_refresh, refresh_of}
-use Rattle.scenario.specs.NodeRows.{two_integers, given_refresh, refresh_in, server_row, nat_row, client_row, relay_row, native_row}
+use Rattle.scenario.specs.NodeRows.{two_integers, refresh_in, server_row, nat_row, client_row, relay_row, native_row}
 use Rattle.scenario.specs.NodeName.{name}
 use Rattle.scenario.proofs.Names.{is_name-short, name-text}
-use Rattle.scenario.proofs.Steps.{bind_some, some_same, bind_ok, ok_same, given, held, word_kept, name_kept, number_kept}
+use Rattle.scenario.proofs.Steps.{bind_some, bind_ok, ok_same, given, held, word_kept, name_kept, number_kept}
 use Rattle.scenario.proofs.Grown.{IsFreeName, IsFreeIp, IsFreeSix, IsFreshServer, IsFreshNat, IsFreshClient, IsFreshRelay, IsFreshNative}
 
 not_true : (b : Bool) → not b ≡ true → b ≡ false

@@ -1,5 +1,5 @@
 -- One more node whose name and addresses no node has keeps the rules of a topology.
-use Rattle.std.proofs.Common.{◌≡◌, ◌≢◌, ◌<◌, ◌≤◌, ◌==◌, ◌&&◌, Bool, true, false, ℕ, List, [], ◌∷◌, ◌++◌, length, map, Option, Some, refl, sym, ap, subst, ◌∙◌, arith, append_assoc, length-append}
+use Rattle.std.proofs.Common.{◌≡◌, ◌≢◌, ◌<◌, true, false, List, [], ◌∷◌, ◌++◌, length, map, refl, sym, ap, subst, ◌∙◌, arith, append_assoc, length-append}
 use Rattle.std.specs.Prelude.{is_some, slice_get, option_and_then}
 use Rattle.std.specs.Cmp.{nat_eq_equiv}
 use Rattle.std.specs.List.{list_any, AllByRecursion}
@@ -10,7 +10,7 @@ use Rattle.td_base.specs.declared.node_name.Name.{Name}
 use Rattle.td_base.specs.declared.reach.Policy.TheVariants.{Strict}
 use Rattle.td_base.specs.Ip4.{same_ip, same_ip_equiv}
 use Rattle.td_base.specs.Ip6.{same_ip6, same_ip6_equiv}
-use Rattle.td_base.specs.Ep.{same_ep, same_ep_equiv}
+use Rattle.td_base.specs.Ep.{same_ep_equiv}
 use Rattle.td_base.specs.Names.{name_text, same_name, same_name_equiv}
 use Rattle.td_base.specs.Reach.{is_global}
 use Rattle.topology.specs.declared.server_node.ServerNode.{ServerNode}

@@ -26,7 +26,7 @@ use Rattle.scenario.specs.EventLists.{events_of}
 use Rattle.scenario.specs.Filling.{row_count, HasNoneBehind, HasNoneFrom}
 use Rattle.scenario.specs.Paths.{row_path}
 use Rattle.scenario.specs.Scenario.{scenario_in, document_of, written, scenario_of}
-use Rattle.scenario.proofs.Steps.{bind_ok, ok_same, given}
+use Rattle.scenario.proofs.Steps.{bind_ok, ok_same}
 use Rattle.scenario.proofs.Grown.{grown_server, grown_nat, grown_client, grown_relay, grown_native}
 use Rattle.scenario.proofs.FreshRows.{server_row-fresh, nat_row-fresh, client_row-fresh, relay_row-fresh, native_row-fresh}
 use Rattle.scenario.proofs.EventsSoFar.{length-events_of}

@@ -4,8 +4,7 @@ use Rattle.std.specs.Prelude.{ok_or}
 use Rattle.td_base.specs.Reading.{◌>>=◌}
 use Rattle.toml.specs.Data.{Members}
 use Rattle.scenario.specs.declared.place.Place.{Place}
-use Rattle.scenario.specs.declared.scenario_fault.ScenarioFault.{ScenarioFault}
-use Rattle.scenario.specs.Keys.{typed, ruled, known, text_at, integer_at, word_at, name_at, number_at}
+use Rattle.scenario.specs.Keys.{ruled, known, text_at, integer_at, word_at, name_at, number_at}
 use Rattle.scenario.specs.Fresh.{where_holds}
 pub use Rattle.history.proofs.Numbers.{bind_some, some_same}
 

@@ -1,5 +1,5 @@
 -- The first unknown key of a table, whose keys ascend, is the least.
-use Rattle.std.proofs.Common.{◌≡◌, ℕ, Bool, true, false, not, cond, List, [], ◌∷◌, map, Option, Some, None, option_map, String, Global, Bor, Less, string_bytes, nat_cmp, refl, sym, ap, ◌∙◌}
+use Rattle.std.proofs.Common.{◌≡◌, ℕ, Bool, true, false, cond, List, [], ◌∷◌, map, Option, Some, None, option_map, String, Global, Bor, Less, string_bytes, nat_cmp, refl, sym, ap, ◌∙◌}
 use Rattle.std.specs.List.{list_any, filter, find, AllByRecursion}
 use Rattle.std.specs.List.Sorted.{IsStrictlySortedBy}
 use Rattle.std.specs.Map.{keys_of}

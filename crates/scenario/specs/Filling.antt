@@ -1,5 +1,5 @@
 -- A topology that is filled kind by kind, for the contracts of private functions.
-use Rattle.std.specs.Prelude.{◌≡◌, ℕ, List, [], length}
+use Rattle.std.specs.Prelude.{◌≡◌, ℕ, [], length}
 use Rattle.topology.specs.Rows.{TopologyState}
 use Rattle.scenario.specs.declared.node_kind.NodeKind.{NodeKind}
 use Rattle.scenario.specs.declared.node_kind.NodeKind.TheVariants as kind

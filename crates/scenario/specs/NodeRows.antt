@@ -1,5 +1,5 @@
 -- The node that a table describes beside the nodes of the tables before it, or why the text is refused: the keys in order.
-use Rattle.std.specs.Prelude.{ℕ, ℤ, List, [], ◌∷◌, codes, Option, Some, None, option_and_then, option_map, Result, Ok}
+use Rattle.std.specs.Prelude.{ℕ, ℤ, codes, Option, Some, None, option_and_then, option_map, Result, Ok}
 use Rattle.toml.specs.Data.{Data, as_integer, as_array, Items, no_items, item, Members, get_member}
 use Rattle.td_base.specs.Reading.{◌>>=◌}
 use Rattle.topology.specs.declared.server_node.ServerNode.{ServerNode}

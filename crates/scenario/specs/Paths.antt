@@ -1,5 +1,5 @@
 -- Where in a text a refusal is: the path of a key.
-use Rattle.std.specs.Prelude.{ℕ, ◌&&◌, nat_le, if◌then◌else◌, List, [], ◌∷◌, ◌++◌, map, take, codes, decimal}
+use Rattle.std.specs.Prelude.{ℕ, ◌&&◌, nat_le, if◌then◌else◌, List, [], ◌++◌, map, take, codes, decimal}
 use Rattle.scenario.specs.declared.node_kind.NodeKind.{NodeKind}
 use Rattle.scenario.specs.declared.place.Place.{Place}
 use Rattle.scenario.specs.declared.place.Place.TheVariants as place

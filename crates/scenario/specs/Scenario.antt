@@ -1,5 +1,5 @@
 -- The scenario that a text is, or its first refusal.
-use Rattle.std.specs.Prelude.{ℕ, ◌<◌, nat_lt, not, if◌then◌else◌, List, length, codes, Option, Some, None, ok_or, Result, Ok, Err}
+use Rattle.std.specs.Prelude.{ℕ, nat_lt, if◌then◌else◌, List, length, codes, Option, None, ok_or, Result, Ok, Err}
 use Rattle.std.specs.Str.{is_utf8}
 use Rattle.toml.specs.Data.{Members}
 use Rattle.toml.specs.Parse.{parse_document}

@@ -54,11 +54,7 @@ fn all_texts(values: &[Value]) -> Option<&[Value]>
 }
 
 /// The events of texts in order.
-fn each_event(
-    alloc: Global,
-    topology: &Topology,
-    values: &[Value],
-) -> Result<Events, ScenarioFault>
+fn each_event(alloc: Global, topology: &Topology, values: &[Value]) -> Result<Events, ScenarioFault>
     requires { IsSome (texts_of (items_view values.now)) }
     ensures value { (texts : List (List ℕ)) → texts_of (items_view values.now) ≡ Some texts → IsReadAs (λ es. es) result (each_event topology.now 0 texts) }
     ensures legal { IfOk result (λ es. AllByRecursion (IsEvent topology.now) es) }
@@ -74,11 +70,7 @@ fn each_event(
 }
 
 /// The events of texts that aren't too many.
-fn few_events(
-    alloc: Global,
-    topology: &Topology,
-    texts: &[Value],
-) -> Result<Events, ScenarioFault>
+fn few_events(alloc: Global, topology: &Topology, texts: &[Value]) -> Result<Events, ScenarioFault>
     requires { IsSome (texts_of (items_view texts.now)) }
     ensures value { (ts : List (List ℕ)) → texts_of (items_view texts.now) ≡ Some ts → IsReadAs (λ es. es) result (few_events topology.now ts) }
     ensures legal { IfOk result (λ es. AllByRecursion (IsEvent topology.now) es) }

@@ -223,7 +223,8 @@ pub(crate) fn new_six(topology: &Topology, text: &str) -> Option<Ip6>
 fn is_inside_of(rows: &[ClientNode], nat: u16, inside: Ep) -> bool
     ensures { result ≡ list_any (λ row. (nat == row.nat) && same_ep inside row.inside) rows.now }
 {
-    rows.iter().any(|row| nat == row.nat && inside == row.inside)
+    rows.iter()
+        .any(|row| nat == row.nat && inside == row.inside)
 }
 
 #[tactic(auto, unfolding(crate::specs::Fresh::is_free_inside))]

@@ -29,7 +29,10 @@ pub(crate) fn server_row(t: &Topology, row: &Row) -> Result<ServerNode, Scenario
 {
     let name = row.known("name", new_name(t, row.text("name")?))?;
     let primary = row.ruled("primary", new_address(t, row.text("primary")?))?;
-    let secondary = row.ruled("secondary", other_address(t, primary, row.text("secondary")?))?;
+    let secondary = row.ruled(
+        "secondary",
+        other_address(t, primary, row.text("secondary")?),
+    )?;
     Ok(ServerNode {
         name,
         primary,

@@ -95,11 +95,7 @@ fn with_values(
 }
 
 #[tactic(auto, using(crate::proofs::TableLemmas::item_count_view))]
-fn with_few(
-    kind: NodeKind,
-    topology: Topology,
-    values: &[Value],
-) -> Result<Topology, ScenarioFault>
+fn with_few(kind: NodeKind, topology: Topology, values: &[Value]) -> Result<Topology, ScenarioFault>
     requires { HasNoneFrom kind topology }
     ensures value { IsReadAs (λ t. t) result (with_few kind topology (items_view values.now)) }
     ensures order { IfOk result (λ t. HasNoneBehind kind t) }

@@ -38,9 +38,7 @@ fn first_unknown<'a>(table: &'a Table, known: &[&str]) -> Option<&'a String>
     ensures first { option_map (λ key. key.now) result ≡ find (λ key. is_unknown (map (λ one. one.now) known.now) (string_bytes key)) (keys table.now) }
     ensures ordered { IsStrictlySortedBy string_cmp (keys table.now) }
 {
-    table
-        .keys()
-        .find(|key| is_unknown(key.as_str(), known))
+    table.keys().find(|key| is_unknown(key.as_str(), known))
 }
 
 /// The least unknown key.

@@ -1,5 +1,4 @@
-use Rattle.std.proofs.Common.{◌≡◌, true, false, refl, sym, ◌∙◌, Option, Some, None}
-use Rattle.std.specs.Prelude.{is_some}
+use Rattle.std.proofs.Common.{refl, sym, ◌∙◌}
 use Rattle.scenario.proofs.TableLemmas.{all_texts_are, none_of}
 use Rattle.scenario.proofs.event_lists.all_texts.Goals as goal
 

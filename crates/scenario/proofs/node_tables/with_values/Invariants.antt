@@ -1,4 +1,4 @@
-use Rattle.std.proofs.Common.{◌≡◌, ◌+◌, length, drop}
+use Rattle.std.proofs.Common.{◌≡◌, ◌+◌, drop}
 use Rattle.toml.specs.View.{items_view}
 use Rattle.scenario.specs.NodeTables.{with_values}
 use Rattle.scenario.specs.Filling.{row_count, HasNoneBehind}
