@@ -44,6 +44,8 @@ mod reader;
 mod refusal_line;
 mod row;
 mod scenario_fault;
+#[cfg(test)]
+mod tests;
 
 pub use event_lists::MOST_EVENTS;
 pub use laws::rules_kept;
