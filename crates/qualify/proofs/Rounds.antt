@@ -11,7 +11,7 @@ use Rattle.teredo_node.specs.Words.{drawn_words, nonce_from}
 use Rattle.teredo_node.specs.Journal.{Words}
 use Rattle.qualify.specs.declared.settings.Settings.{Settings}
 use Rattle.qualify.specs.declared.phase.Phase.{Phase}
-use Rattle.qualify.specs.declared.phase.Phase.TheVariants.{Cone, Restricted, Secondary, Qualified, Symmetric, OffLine}
+use Rattle.qualify.specs.declared.phase.Phase.TheVariants.{Cone, Restricted, Secondary, Qualified, OffLine}
 use Rattle.qualify.specs.declared.limits.TheConstants.{SOLICITATION_GAP_MS, SOLICITATIONS_MAX}
 use Rattle.qualify.specs.declared.round.Round.{Round}
 use Rattle.qualify.specs.declared.upkeep.Upkeep.{Upkeep}

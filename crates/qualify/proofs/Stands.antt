@@ -1,5 +1,5 @@
 -- What a qualifier stands for, after one entry more.
-use Rattle.std.proofs.Common.{◌≡◌, ℕ, List, [], ◌∷◌, Option, Some, None, refl, sym, ap, ◌∙◌, subst}
+use Rattle.std.proofs.Common.{◌≡◌, ℕ, List, [], Option, Some, None, refl, sym, ap, ◌∙◌}
 use Rattle.std.specs.Prelude.{option_map}
 use Rattle.td_base.specs.declared.ipv6.Ip6.{Ip6}
 use Rattle.td_base.specs.declared.endpoint.Ep.{Ep}
@@ -15,7 +15,7 @@ use Rattle.qualify.specs.declared.phase.Phase.{Phase}
 use Rattle.qualify.specs.declared.phase.Phase.TheVariants.{Cone, Restricted, Secondary, Qualified, Symmetric, OffLine}
 use Rattle.qualify.specs.Turns.{Turn, says_nothing, renews, turn, turn_of, interval_of, interval_word, origin_given}
 use Rattle.qualify.specs.Qualification.{first_phase, Qualification, qualification}
-use Rattle.qualify.specs.Advertisements.{advert_lines, heard, phase_line, is_same_origin, origin_before, advert_row, advert_words, Takes}
+use Rattle.qualify.specs.Advertisements.{advert_lines, heard, phase_line, is_same_origin, origin_before, advert_row, advert_words}
 use Rattle.qualify.specs.Laws.{Tidings, tidings_of, tidings, fresh, turned, KeepsStill}
 use Rattle.qualify.specs.Qualifier.{QualifierState, StandsFor, stands_whole, IsOfAdvert, IsOfTick, IsOfServer, TurnsBy}
 use Rattle.qualify.proofs.Turned.{turns, turns_at_start}

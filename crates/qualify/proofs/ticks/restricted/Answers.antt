@@ -1,8 +1,6 @@
 use Rattle.std.proofs.Common.{sym, ap, ◌∙◌}
 use Rattle.teredo_node.specs.Step.{Step}
-use Rattle.qualify.specs.declared.state.State.{State}
 use Rattle.qualify.specs.Generator.{words_of, after_words}
-use Rattle.qualify.specs.Solicitations.{due_step}
 use Rattle.qualify.proofs.Rounds.{restricted_asks, restricted_is_over, over_by}
 use Rattle.qualify.proofs.ticks.restricted.Goals as goal
 

@@ -1,4 +1,4 @@
-use Rattle.std.proofs.Common.{ℕ, sym, ap}
+use Rattle.std.proofs.Common.{sym, ap}
 use Rattle.teredo_node.specs.Step.{Step}
 use Rattle.qualify.specs.Generator.{after_words}
 use Rattle.qualify.proofs.ticks.ticked.Goals as goal

@@ -1,9 +1,9 @@
-use Rattle.std.proofs.Common.{◌≡◌, sym, ap, subst, ◌∙◌}
+use Rattle.std.proofs.Common.{sym, ap, subst, ◌∙◌}
 use Rattle.bubble.specs.Payloads.{view}
 use Rattle.qualify.specs.Advertisements.{advert_row}
 use Rattle.qualify.specs.Generator.{words_of}
 use Rattle.qualify.specs.State.{qualification_of}
-use Rattle.qualify.specs.Qualification.{Qualification, qualification}
+use Rattle.qualify.specs.Qualification.{Qualification}
 use Rattle.qualify.specs.Qualifier.{QualifierState, StandsFor, stands_whole}
 use Rattle.qualify.proofs.Stands.{stands_advert}
 use Rattle.qualify.proofs.qualifier.Qualifier.on_advert.Goals as goal
