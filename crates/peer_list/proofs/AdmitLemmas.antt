@@ -78,13 +78,13 @@ pub updates_there : (m : ℕ) (ls kept : List Listing) (who : Ip6) (place : ℕ)
     → Updates (table m ls) (table m (slice_set kept place (record { who = l.who; peer = peer }))) m who peer
 updates_there m ls kept who place l peer p at =
     then_updates (table m ls) (table m kept) (table m (slice_set kept place (record { who = l.who; peer = peer }))) m who peer (keeps_purged m ls kept p)
-      (changed (table m kept) (table m (slice_set kept place (record { who = l.who; peer = peer }))) m who place l peer at refl refl)
+    (changed (table m kept) (table m (slice_set kept place (record { who = l.who; peer = peer }))) m who place l peer at refl refl)
 
 pub keeps_there : (m : ℕ) (ls kept : List Listing) (who : Ip6) (place : ℕ) (l : Listing) (peer : Peer) → Purged m ls kept → Placed kept who place l → peer ≡ l.peer
     → Keeps (table m ls) (table m (slice_set kept place (record { who = l.who; peer = peer }))) m
 keeps_there m ls kept who place l peer p at same =
     let back : slice_set kept place (record { who = l.who; peer = peer }) ≡ kept =
-      ap (λ (x : Peer). slice_set kept place (record { who = l.who; peer = x })) same ∙ ap (slice_set kept place) at.is ∙ set-get_or kept place l in
+    ap (λ (x : Peer). slice_set kept place (record { who = l.who; peer = x })) same ∙ ap (slice_set kept place) at.is ∙ set-get_or kept place l in
     subst (λ ks. Keeps (table m ls) (table m ks) m) (sym back) (keeps_purged m ls kept p)
 
 pub updates_new : (m : ℕ) (ls kept items : List Listing) (who : Ip6) (peer : Peer) → Purged m ls kept → find (is_of who) kept ≡ None → items ≡ kept ++ record { who = who; peer = peer } ∷ []

@@ -98,9 +98,9 @@ knows : (n : ℕ) (ls : List Listing) → AreApart ls → Knows (known_of_ls ls 
 knows n [] a = tt
 knows n (x ∷ ls) a =
     let rest : Knows (known_of_ls (x ∷ ls) n) (filter (is_listed_at n) ls) =
-      all_both (λ l. same_ip6 x.who l.who ≡ false) (λ l. known_of_ls ls n l.who ≡ l.peer) (λ l. known_of_ls (x ∷ ls) n l.who ≡ l.peer) (filter (is_listed_at n) ls)
-        (λ l other known. ap (λ o. unwrap_or (peer_listed n o) no_peer) (find_behind x ls l.who other) ∙ known)
-        (all_kept (λ (o : Listing). same_ip6 x.who o.who ≡ false) (is_listed_at n) ls a.0) (knows n ls a.1) in
+    all_both (λ l. same_ip6 x.who l.who ≡ false) (λ l. known_of_ls ls n l.who ≡ l.peer) (λ l. known_of_ls (x ∷ ls) n l.who ≡ l.peer) (filter (is_listed_at n) ls)
+    (λ l other known. ap (λ o. unwrap_or (peer_listed n o) no_peer) (find_behind x ls l.who other) ∙ known)
+    (all_kept (λ (o : Listing). same_ip6 x.who o.who ≡ false) (is_listed_at n) ls a.0) (knows n ls a.1) in
     by_test (is_listed_at n x) refl rest
   where
     by_test : (b : Bool) → is_listed_at n x ≡ b → Knows (known_of_ls (x ∷ ls) n) (filter (is_listed_at n) ls) → Knows (known_of_ls (x ∷ ls) n) (cond b (x ∷ filter (is_listed_at n) ls) (filter (is_listed_at n) ls))
@@ -166,9 +166,9 @@ first_due_is m n ls a =
     let f = known_of_ls ls n in
     pair_of f (least_by_due f (filter (λ p. not (is_none (f p).waiting)) (listed_in (table m ls) n)))
     ∙ ap (λ ps. option_map (due_pair f) (least_by_due f ps))
-        (ap (filter (λ p. not (is_none (f p).waiting))) (listed_are_whose m n ls a)
-         ∙ waits_whose f (filter (is_listed_at n) ls) (knows n ls a)
-         ∙ ap whose (filter_twice n ls))
+    (ap (filter (λ p. not (is_none (f p).waiting))) (listed_are_whose m n ls a)
+    ∙ waits_whose f (filter (is_listed_at n) ls) (knows n ls a)
+    ∙ ap whose (filter_twice n ls))
 
 -- one more at the end of a list
 has_end : (q p : Ip6) (ps : List Ip6) → has q (ps ++ p ∷ []) ≡ (same_ip6 q p || has q ps)

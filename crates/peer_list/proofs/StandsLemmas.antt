@@ -113,8 +113,8 @@ next_stands old new e j who s l about u = record {
       let here : is_about p e ≡ true = about_is p ∙ is in
       let view : while_listed n (after e (known_to old e.moment who)) ≡ peer_if true e.bearing.touches (is_young LISTED_MS n e.moment) e (peer_in old e.moment who) (peer_in old n who) = seen_by e old n who e.bearing.touches refl from in
       let both : peer_if true e.bearing.touches (is_young LISTED_MS n e.moment) e (peer_in old e.moment who) (peer_in old n who) ≡ peer_if true e.bearing.touches (is_young LISTED_MS n e.moment) e (peer_at j e.moment who) (peer_at j n who) =
-          ap (λ o. peer_if true e.bearing.touches (is_young LISTED_MS n e.moment) e o (peer_in old n who)) (s.view e.moment who l)
-          ∙ ap (λ o. peer_if true e.bearing.touches (is_young LISTED_MS n e.moment) e (peer_at j e.moment who) o) (s.view n who before) in
+      ap (λ o. peer_if true e.bearing.touches (is_young LISTED_MS n e.moment) e o (peer_in old n who)) (s.view e.moment who l)
+      ∙ ap (λ o. peer_if true e.bearing.touches (is_young LISTED_MS n e.moment) e (peer_at j e.moment who) o) (s.view n who before) in
       ap (λ b. cond b (while_listed n (after e (known_to old e.moment who))) (peer_in old n p)) is
       ∙ view ∙ both
       ∙ ap (λ q. peer_if true e.bearing.touches (is_young LISTED_MS n e.moment) e (peer_at j e.moment q) (peer_at j n q)) (sym same)

@@ -209,7 +209,12 @@ impl Peer {
 
     /// Lets a packet wait, and touches the peer. A refusal leaves it as it was.
     #[tactic(auto, unfolding(crate::specs::Judged::is_full))]
-    pub(crate) fn queue(&mut self, alloc: Global, now: Millis, packet: &[u8]) -> Result<(), QueueRefusal>
+    pub(crate) fn queue(
+        &mut self,
+        alloc: Global,
+        now: Millis,
+        packet: &[u8],
+    ) -> Result<(), QueueRefusal>
         requires short { length packet.now ≤ PACKET_MAX }
         ensures answer { Queues self.old result }
         ensures queued { OnOk result (self.new ≡ queued_at now.0 packet.now self.old) }

@@ -98,7 +98,12 @@ pub fn due(listings: &[Listing], now: Millis) -> Option<(Millis, Ip6)>
 }
 
 /// Lists and touches a peer, after all that aren't listed any more are taken out.
-pub fn admit(listings: &mut Vec<Listing>, alloc: Global, now: Millis, who: Ip6) -> Result<(), PeersRefusal>
+pub fn admit(
+    listings: &mut Vec<Listing>,
+    alloc: Global,
+    now: Millis,
+    who: Ip6,
+) -> Result<(), PeersRefusal>
     requires sound { AreSound listings.old.items }
     ensures sound { AreSound listings.new.items }
     ensures answer { Admits (table now.0 listings.old.items) now.0 who result }

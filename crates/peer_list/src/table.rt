@@ -53,7 +53,10 @@ impl Peers {
         requires clock { self.now.moment ≤ now.0 }
         ensures { option_map (λ peer. peer.now) result ≡ peer_in self.now now.0 who }
     {
-        let peer = &self.listings.get(listings::place(&self.listings, who))?.peer;
+        let peer = &self
+            .listings
+            .get(listings::place(&self.listings, who))?
+            .peer;
         if !peer.is_listed(now) {
             return None;
         }

@@ -13,7 +13,9 @@ const FROM: Ep = Ep {
     port: 40000,
 };
 
-const PEER: Ip6 = Ip6([0x20, 1, 0, 0, 65, 54, 227, 120, 128, 0, 99, 191, 63, 255, 253, 210]);
+const PEER: Ip6 = Ip6([
+    0x20, 1, 0, 0, 65, 54, 227, 120, 128, 0, 99, 191, 63, 255, 253, 210,
+]);
 
 fn address(number: u16) -> Ip6 {
     let [high, low] = number.to_be_bytes();
@@ -46,7 +48,10 @@ fn a_256th_peer_and_a_257th(rt: HostRuntime) -> Result<(), Fail> {
     for number in 0..256 {
         peers.admit(Millis(7), address(number))?;
     }
-    assert_eq!(rt; peers.admit(Millis(300_006), address(256)), Err(PeersRefusal::Full));
+    assert_eq!(rt;
+        peers.admit(Millis(300_006), address(256)),
+        Err(PeersRefusal::Full)
+    );
     assert_eq!(rt; peers.admit(Millis(300_006), address(0)), Ok(()));
     assert_eq!(rt; peers.admit(Millis(300_007), address(256)), Ok(()));
     assert_eq!(rt; peers.count(Millis(300_007)), 2);
@@ -59,7 +64,10 @@ fn eight_packets_and_a_ninth(rt: HostRuntime) -> Result<(), Fail> {
     for byte in 0..8 {
         queue(&rt, &mut peers, Millis(0), byte)?;
     }
-    assert_eq!(rt; queue(&rt, &mut peers, Millis(0), 8), Err(QueueRefusal::Full));
+    assert_eq!(rt;
+        queue(&rt, &mut peers, Millis(0), 8),
+        Err(QueueRefusal::Full)
+    );
     assert_eq!(rt; peers.waiting(Millis(0)), 8);
     let mut step = Step::new();
     step.reset(Fate::Rule1);

@@ -69,8 +69,8 @@ or_none (Some x) = refl
 -- the node that datagrams to an endpoint come to: a server, else a NAT, else a relay
 pub at_an_endpoint : (dst : Ep) (t : TopologyState) → number_of (is_at dst) t
     ≡ option_or (position (λ (a : ServerNode). is_at dst (server a)) t.servers)
-      (option_or (option_map (λ k. length t.servers + k) (position (λ (a : NatNode). is_at dst (nat a)) t.nats))
-      (option_map (λ k. length t.servers + length t.nats + length t.clients + k) (position (λ (r : RelayNode). is_at dst (relay r)) t.relays)))
+    (option_or (option_map (λ k. length t.servers + k) (position (λ (a : NatNode). is_at dst (nat a)) t.nats))
+    (option_map (λ k. length t.servers + length t.nats + length t.clients + k) (position (λ (r : RelayNode). is_at dst (relay r)) t.relays)))
 at_an_endpoint dst t =
     parts (is_at dst) t
     ∙ rw (sym (at_front (λ (a : ServerNode). is_at dst (server a)) t.servers), behind (λ (a : NatNode). is_at dst (nat a)) (length t.servers) t.nats, from_none (length t.servers + length t.nats) t.clients, behind (λ (r : RelayNode). is_at dst (relay r)) (length t.servers + length t.nats + length t.clients) t.relays, from_none (length t.servers + length t.nats + length t.clients + length t.relays) t.natives, or_none) refl
