@@ -3,7 +3,6 @@ pub mod Addresses
 pub mod HexWords
 pub mod Ip6WordLemmas
 pub mod WordsLemmas
-pub mod NodeLemmas
 pub mod EventLaws
 pub mod SpellingWords
 pub mod SpellingLaws

@@ -37,7 +37,7 @@ use Rattle.history.specs.EventSpelling.{hex_word, word_of_name, name_word, targe
 use Rattle.history.proofs.Numbers.{number_back, same_text-true, same_text-self}
 use Rattle.history.proofs.Addresses.{ep_of-text}
 use Rattle.history.proofs.Ip6WordLemmas.{ip6_of-spelled}
-use Rattle.history.proofs.NodeLemmas.{at_front}
+use Rattle.std.proofs.lemmas.Iterator.Adapters.{position_from-zero}
 use Rattle.history.proofs.SpellingWords.{is_word, split_join, is_word-verb, verb_back, is_word-decimal, is_word-ep, is_word-plain, is_word-bytes, is_word-ip6, bytes_back, colon_ip6}
 
 -- ---- names
@@ -80,7 +80,7 @@ unfolding named
 name_back kind t n x distinct at is =
     let text : name_word t n ≡ name_text (name_of x) = ap (λ o. word_of_name (option_map name_of o)) at in
     ap (λ l. position (finds kind l) (nodes t)) text
-    ∙ at_front (finds kind (name_text (name_of x))) (nodes t)
+    ∙ position_from-zero (finds kind (name_text (name_of x))) (nodes t)
     ∙ found_at kind (nodes t) 0 n x distinct at is
     ∙ ap Some (omega arith)
 
@@ -120,7 +120,7 @@ unnamed kind (x ∷ xs) j text h other =
 
 no_name : (kind : Option Node → Bool) (t : TopologyState) (text : List ℕ) → HasPlainNames t → is_plain text ≡ false → named kind t text ≡ None
 unfolding named
-no_name kind t text plain other = at_front (finds kind text) (nodes t) ∙ unnamed kind (nodes t) 0 text plain other
+no_name kind t text plain other = position_from-zero (finds kind text) (nodes t) ∙ unnamed kind (nodes t) 0 text plain other
 
 pub target_back : (t : TopologyState) (to : Target) → AreDistinct same_name (names_of t) → HasPlainNames t → IsTarget t to → IsMadeTarget to → target_of t (target_word t to) ≡ Some to
 target_back t (target.Node number) distinct plain is made = rw (kind_back has_host t number distinct refl is) refl

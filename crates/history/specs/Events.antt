@@ -1,5 +1,5 @@
 -- The events that a scenario with a topology may ask for.
-use Rattle.std.specs.Prelude.{◌≡◌, ◌≤◌, ◌<◌, ◌==◌, ℕ, Bool, true, false, List, length, Option, Some}
+use Rattle.std.specs.Prelude.{◌≡◌, ◌≤◌, ◌<◌, ℕ, true, List, length}
 use Rattle.td_base.specs.declared.endpoint.Ep.{Ep}
 use Rattle.td_base.specs.Bytes.{IsBytes}
 use Rattle.td_base.specs.Ep.{IsEp}
@@ -10,25 +10,10 @@ use Rattle.history.specs.declared.event.TheConstants.{MOST_ADVANCE, MOST_NUMBER,
 use Rattle.history.specs.declared.target.Target.{Target}
 use Rattle.history.specs.declared.target.Target.TheVariants as target
 use Rattle.topology.specs.Rows.{TopologyState}
-use Rattle.topology.specs.declared.node.Node.{Node}
-use Rattle.topology.specs.declared.node.Node.TheVariants.{Nat as nat, Client as client, Native as native}
+use Rattle.topology.specs.Named.{has_host, is_nat, is_client_of}
 use Rattle.topology.specs.Topology.{nodes, node_at}
 
--- a client or a native host: a node with a host of its own
-abbrev pub has_host : Option Node → Bool
-has_host (Some (client c)) = true
-has_host (Some (native h)) = true
-has_host _ = false
-
-abbrev pub is_nat : Option Node → Bool
-is_nat (Some (nat a)) = true
-is_nat _ = false
-
--- a client behind NAT number n
-abbrev pub is_client_of : ℕ → Option Node → Bool
-is_client_of n (Some (client c)) = c.nat == n
-is_client_of n _ = false
-
+-- a client or native host, or an address
 abbrev pub IsTarget : TopologyState → Target → Type 0
 IsTarget t (target.Node number) = has_host (node_at t number) ≡ true
 IsTarget t (target.At ip) = IsIp6 ip

@@ -1,12 +1,16 @@
+//! Why a text gives no event.
 use td_base::NoMemory;
+use thiserror::Error;
 
 /// Why a text gives no event.
-#[derive(Clone, Copy, Debug, PartialEq, Eq)]
+#[derive(Clone, Copy, Debug, PartialEq, Eq, Error)]
 pub enum EventFault {
     /// The first word that breaks its rule stands at this place, or the first word too many, or the text ends there and
     /// a word is missing.
+    #[error("no event, from byte {place} on")]
     At { place: usize },
     /// Memory ran out, which says nothing of the text.
+    #[error("out of memory")]
     NoMemory,
 }
 

@@ -53,6 +53,7 @@ pub use event_printer::print_event;
 pub use event_reader::read_event;
 pub use mark::{Loss, Mark};
 pub use mark_list::{MOST_MARKS, Marks};
+pub use node_words::{nat_named, relay_named, server_named};
 pub use records::Record;
 pub use target::Target;
 pub use topology::{
@@ -60,4 +61,4 @@ pub use topology::{
     MOST_RELAYS, MOST_SERVERS, NatNode, NativeNode, RelayNode, ServerNode, Topology,
 };
 pub use turn::{Stop, Turn};
-pub use word_texts::ip4_word;
+pub use word_texts::{ep_word, ip4_word, ip6_word};

@@ -24,14 +24,14 @@ pub fn ip4_word(word: &[u8]) -> Option<Ip4>
 }
 
 /// The endpoint that a word says.
-pub(crate) fn ep_word(word: &[u8]) -> Option<Ep>
+pub fn ep_word(word: &[u8]) -> Option<Ep>
     ensures { result ≡ ep_of word.now }
 {
     read_ep(word).ok()
 }
 
 /// The IPv6 address that a word says.
-pub(crate) fn ip6_word(word: &[u8]) -> Option<Ip6>
+pub fn ip6_word(word: &[u8]) -> Option<Ip6>
     ensures { result ≡ ip6_of word.now }
 {
     read_ip6(word).ok()

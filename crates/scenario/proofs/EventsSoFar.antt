@@ -1,48 +1,128 @@
--- The events of a list, as far as it was read.
-use Rattle.std.proofs.Common.{◌≡◌, ℕ, ◌+◌, ◌<◌, List, [], ◌∷◌, ◌++◌, length, drop, get_or, Option, Some, None, refl, sym, ap, append_assoc, arith, ◌≤◌, nat_le, leb-true}
+-- The events of a list of texts, as far as it was read.
+use Rattle.std.proofs.Common.{◌≡◌, ℕ, ◌+◌, ◌<◌, ◌≤◌, nat_le, leb-true, le-leb, codes, Bool, if◌then◌else◌, List, [], ◌∷◌, ◌++◌, length, Option, Some, None, Result, Ok, Err, refl, sym, ap, ◌∙◌, append_assoc, append-nil, arith, true, false, subst, Bor}
+use Rattle.std.specs.Prelude.{IsSome, IfSome, option_map, option_and_then, unwrap_or}
 use Rattle.std.specs.List.{AllByRecursion}
+use Rattle.std.proofs.lemmas.Bool.{lt-leb}
 use Rattle.toml.specs.declared.value.Value.{Value}
+use Rattle.toml.specs.Data.{as_str, Data, Items, no_items, item, Members}
 use Rattle.toml.specs.View.{view, items_view}
-use Rattle.toml.proofs.Views.{items_view-drop}
-use Rattle.history.specs.declared.event.Event.{Event}
+use Rattle.td_base.specs.Reading.{◌>>=◌}
 use Rattle.topology.specs.Rows.{TopologyState}
+use Rattle.history.specs.declared.event.Event.{Event}
 use Rattle.history.specs.Events.{IsEvent}
-use Rattle.toml.specs.Data.{Items, no_items, item}
+use Rattle.history.specs.EventText.{event_of}
+use Rattle.scenario.specs.declared.scenario_fault.ScenarioFault.{ScenarioFault}
 use Rattle.scenario.specs.declared.event_lists.TheConstants.{MOST_EVENTS}
-use Rattle.scenario.specs.Tables.{item_count}
-use Rattle.scenario.proofs.Numbers.{bind_some, some_same, kept_some}
-use Rattle.scenario.specs.Scenario.{event_in, events_at, events_of}
-use Rattle.scenario.specs.Words.{◌>>=◌}
+use Rattle.scenario.specs.declared.place.Place.{Place}
+use Rattle.scenario.specs.declared.place.Place.TheVariants as place
+use Rattle.scenario.specs.declared.scenario_fault.ScenarioFault.TheVariants as fault
+use Rattle.scenario.specs.Paths.{key_path}
+use Rattle.scenario.specs.Keys.{typed, list_at}
+use Rattle.scenario.specs.EventLists.{texts_of, event_at, each_event, few_events, events_of}
+use Rattle.scenario.proofs.Steps.{bind_ok, ok_same, some_same}
+
+-- the events of the values of a list that are texts
+abbrev pub each_value : TopologyState → ℕ → Items → Result (List Event) ScenarioFault
+each_value t index values = each_event t index (unwrap_or (texts_of values) [])
+
+pub each_value-is : (t : TopologyState) (values : Items) (texts : List (List ℕ)) → texts_of values ≡ Some texts → each_value t 0 values ≡ each_event t 0 texts
+each_value-is t values texts e = ap (λ (o : Option (List (List ℕ))). each_event t 0 (unwrap_or o [])) e
 
 -- the events so far, and those of the values that are left
-abbrev pub after_events : List Event → Option (List Event) → Option (List Event)
-after_events found None = None
-after_events found (Some more) = Some (found ++ more)
+abbrev pub after_events : List Event → Result (List Event) ScenarioFault → Result (List Event) ScenarioFault
+after_events found (Ok more) = Ok (found ++ more)
+after_events found (Err e) = Err e
 
-pub after_events-one : (found : List Event) (event : Event) (more : Option (List Event)) → after_events (found ++ event ∷ []) more ≡ after_events found (more >>= (λ events. Some (event ∷ events)))
-after_events-one found event None = refl
-after_events-one found event (Some events) = ap Some (append_assoc found (event ∷ []) events)
+-- a value that is left is a text, and so are those behind it
+pub text_here : (value : Data) (more : Items) → IsSome (texts_of (item value more)) → IsSome (as_str value) × IsSome (texts_of more)
+text_here value more h = both (as_str value) (texts_of more) h
+  where
+    both : (text : Option (List ℕ)) (texts : Option (List (List ℕ))) → IsSome (option_and_then (λ t. option_map (λ ts. t ∷ ts) texts) text) → IsSome text × IsSome texts
+    both None texts h = absurd cc
+    both (Some t) None h = absurd cc
+    both (Some t) (Some ts) h = (refl, refl)
 
-pub events_at-drop : (t : TopologyState) (vs : List Value) (i : ℕ) (d : Value) → i < length vs → events_at t (items_view (drop i vs)) ≡ (event_in t (view (get_or vs i d)) >>= (λ event. events_at t (items_view (drop (i + 1) vs)) >>= (λ events. Some (event ∷ events))))
-events_at-drop t vs i d h = ap (events_at t) (items_view-drop vs i d h)
+pub each_value-step : (t : TopologyState) (index : ℕ) (value : Data) (more : Items) (text : List ℕ) → as_str value ≡ Some text → IsSome (texts_of more) → each_value t index (item value more) ≡ (event_at index (event_of t text) >>= (λ event. each_value t (index + 1) more >>= (λ events. Ok (event ∷ events))))
+each_value-step t index value more text e h = step (as_str value) (texts_of more) e h
+  where
+    step : (o : Option (List ℕ)) (texts : Option (List (List ℕ))) → o ≡ Some text → IsSome texts → each_event t index (unwrap_or (option_and_then (λ t. option_map (λ ts. t ∷ ts) texts) o) []) ≡ (event_at index (event_of t text) >>= (λ event. each_event t (index + 1) (unwrap_or texts []) >>= (λ events. Ok (event ∷ events))))
+    step None texts e h = absurd cc
+    step (Some s) None e h = absurd cc
+    step (Some s) (Some ts) e h = let same : s ≡ text = cc in ap (λ (w : List ℕ). event_at index (event_of t w) >>= (λ event. each_event t (index + 1) ts >>= (λ events. Ok (event ∷ events)))) same
 
--- ---- how many there are
+pub after_one : (found : List Event) (event : Event) (more : Result (List Event) ScenarioFault) → after_events (found ++ event ∷ []) more ≡ after_events found (more >>= (λ events. Ok (event ∷ events)))
+after_one found event (Ok events) = ap Ok (append_assoc found (event ∷ []) events)
+after_one found event (Err e) = refl
 
-pub length-events_at : (t : TopologyState) (texts : Items) (events : List Event) → events_at t texts ≡ Some events → length events ≡ item_count texts
-length-events_at t no_items events e = ap length (sym (some_same [] events e))
-length-events_at t (item value more) events e =
-    let first = bind_some (event_in t value) _ events e in
-    let others = bind_some (events_at t more) _ events first.2 in
-    let whole : first.0 ∷ others.0 ≡ events = some_same _ _ others.2 in
-    omega (arith, ap length whole, length-events_at t more others.0 others.1)
-
-pub few_events : (t : TopologyState) (texts : Items) (events : List Event) → events_of t texts ≡ Some events → length events ≤ MOST_EVENTS
-few_events t texts events e =
-    let kept = kept_some (nat_le (item_count texts) MOST_EVENTS) (events_at t texts) events e in
-    omega (arith, leb-true _ _ kept.0, length-events_at t texts events kept.1)
+pub after_all : (t : TopologyState) (found : List Event) (values : Items) → values ≡ no_items → (n : ℕ) → after_events found (each_value t n values) ≡ Ok found
+after_all t found no_items e n = ap Ok (append-nil found)
+after_all t found (item value more) e n = absurd cc
 
 -- ---- one more of them
 
 pub one_more : (t : TopologyState) (found : List Event) (event : Event) → AllByRecursion (IsEvent t) found → IsEvent t event → AllByRecursion (IsEvent t) (found ++ event ∷ [])
 one_more t [] event all is = (is, tt)
 one_more t (first ∷ found) event all is = (all.0, one_more t found event all.1 is)
+
+-- ---- how many there are
+
+length-each : (t : TopologyState) (index : ℕ) (texts : List (List ℕ)) (events : List Event) → each_event t index texts ≡ Ok events → length events ≡ length texts
+length-each t index [] events e = ap length (sym (ok_same [] events e))
+length-each t index (text ∷ more) events e =
+    let first = bind_ok (event_at index (event_of t text)) _ events e in
+    let others = bind_ok (each_event t (index + 1) more) _ events first.2 in
+    let whole : first.0 ∷ others.0 ≡ events = ok_same _ _ others.2 in
+    omega (arith, ap length whole, length-each t (index + 1) more others.0 others.1)
+
+length-texts : (vs : List Value) (texts : List (List ℕ)) → texts_of (items_view vs) ≡ Some texts → length texts ≡ length vs
+length-texts [] texts e = ap length (sym (some_same [] texts e))
+length-texts (v ∷ vs) texts e = step (as_str (view v)) (texts_of (items_view vs)) e (length-texts vs)
+  where
+    step : (o : Option (List ℕ)) (more : Option (List (List ℕ))) → option_and_then (λ t. option_map (λ ts. t ∷ ts) more) o ≡ Some texts → ((ts : List (List ℕ)) → more ≡ Some ts → length ts ≡ length vs) → length texts ≡ length (v ∷ vs)
+    step None more e h = absurd cc
+    step (Some t) None e h = absurd cc
+    step (Some t) (Some ts) e h = omega (arith, ap length (some_same (t ∷ ts) texts e), h ts refl)
+
+-- too many texts
+pub long_events : (t : TopologyState) (vs : List Value) (texts : List (List ℕ)) → texts_of (items_view vs) ≡ Some texts → MOST_EVENTS < length vs → few_events t texts ≡ Err (fault.Range (key_path place.Text (codes "events")))
+long_events t vs texts e long = let no : nat_le (length texts) MOST_EVENTS ≡ false = lt-leb (length texts) MOST_EVENTS (omega (arith, long, length-texts vs texts e)) in rw no refl
+
+pub short_events : (t : TopologyState) (vs : List Value) (texts : List (List ℕ)) → texts_of (items_view vs) ≡ Some texts → length vs ≤ MOST_EVENTS → few_events t texts ≡ each_event t 0 texts
+short_events t vs texts e short = rw (le-leb (length texts) MOST_EVENTS (omega (arith, short, length-texts vs texts e))) refl
+
+pub some_is : {A : Type 0} (o : Option A) → IsSome o → (x : A) × (o ≡ Some x)
+some_is None h = absurd cc
+some_is (Some x) h = (x, refl)
+
+-- the events, where the list is one of texts
+pub events_of-texts : (t : TopologyState) (table : Members) (values : Items) (texts : List (List ℕ)) → list_at place.Text (codes "events") table ≡ Ok values → texts_of values ≡ Some texts → events_of t table ≡ few_events t texts
+unfolding events_of
+events_of-texts t table values texts e f = rw (e, f) refl
+
+passed : {A E : Type 0} (b : Bool) (r : Result A E) (fault : E) (x : A) → (if b then r else Err fault) ≡ Ok x → (b ≡ true) × (r ≡ Ok x)
+passed true r fault x e = (refl, e)
+passed false r fault x e = absurd cc
+
+pub length-events_of : (t : TopologyState) (table : Members) (events : List Event) → events_of t table ≡ Ok events → length events ≤ MOST_EVENTS
+unfolding events_of
+length-events_of t table events e =
+    let values = bind_ok (list_at place.Text (codes "events") table) _ events e in
+    let texts = bind_ok (typed place.Text (codes "events") (texts_of values.0)) _ events values.2 in
+    let few = passed (nat_le (length texts.0) MOST_EVENTS) (each_event t 0 texts.0) _ events texts.2 in
+    omega (arith, leb-true _ _ few.0, length-each t 0 texts.0 events few.1)
+
+-- the texts that were given, and the events of them
+pub record FromTexts (t : TopologyState) (table : Members) (values : List Value) : Type 0 where
+  pub texts : List (List ℕ)
+  pub are : texts_of (items_view values) ≡ Some texts
+  pub events : events_of t table ≡ few_events t texts
+
+pub from_texts : (t : TopologyState) (table : Members) (at : Place) (values : List Value) (o : Option (Bor (List Value))) (vs : Bor (List Value)) → at ≡ place.Text → list_at at (codes "events") table ≡ Ok (items_view values) → IfSome o (λ xs. (xs.now ≡ values) × IsSome (texts_of (items_view values))) → ◌≡◌ {A = Result (Bor (List Value)) ScenarioFault} (Ok vs) (typed at (codes "events") o) → FromTexts t table vs.now
+from_texts t table at values None vs whole listed all found = absurd cc
+from_texts t table at values (Some xs) vs whole listed all found =
+    let same : xs ≡ vs = cc in
+    let texts = some_is (texts_of (items_view values)) all.1 in
+    let Listed : Place → Type 0 = λ p. list_at p (codes "events") table ≡ Ok (items_view values) in
+    let made : FromTexts t table xs.now = record { texts = texts.0; are = ap (λ (ys : List Value). texts_of (items_view ys)) all.0 ∙ texts.1; events = events_of-texts t table (items_view values) texts.0 (subst Listed whole listed) texts.1 } in
+    let Given : Bor (List Value) → Type 0 = λ ys. FromTexts t table ys.now in
+    subst Given same made

@@ -1,110 +1,268 @@
--- What a table describes is fresh: its name and its addresses are no other node's, and its numbers are within their limits.
-use Rattle.std.proofs.Common.{◌≡◌, ◌≤◌, ◌&&◌, ℕ, nat_le, leb-true, Bool, true, false, not, if◌then◌else◌, List, codes, Option, Some, None, refl, subst, ap, ◌∙◌}
+-- What a table describes is fresh: its name and its addresses are no other node's, and its numbers keep their rules.
+use Rattle.std.proofs.Common.{◌≡◌, ◌≢◌, ◌≤◌, ◌==◌, ◌&&◌, ℕ, ℤ, nat_le, leb-true, Bool, true, false, not, List, codes, get_or, Option, Some, None, Ok, refl, sym, subst, ap, ◌∙◌, arith, [], ◌∷◌}
+use Rattle.std.specs.Prelude.{is_some, position, slice_get, option_and_then}
 use Rattle.std.specs.List.{list_any}
-use Rattle.std.proofs.lemmas.Bool.{and_parts}
-use Rattle.toml.specs.Data.{Members}
-use Rattle.nat_kinds.specs.declared.kind.NatKind.{NatKind}
+use Rattle.std.proofs.lemmas.Bool.{and_parts, true≢false}
+use Rattle.std.proofs.lemmas.Bool.Decides.{Decides-eqb}
+use Rattle.std.proofs.lemmas.List.Quantifiers.{position-Some}
+use Rattle.std.proofs.lemmas.Option.{slice_get-get_or}
+use Rattle.toml.specs.Data.{Members, Data, as_array, get_member}
 use Rattle.td_base.specs.declared.ipv4.Ip4.{Ip4}
+use Rattle.td_base.specs.declared.ipv6.Ip6.{Ip6}
+use Rattle.td_base.specs.declared.endpoint.Ep.{Ep}
 use Rattle.td_base.specs.declared.node_name.Name.{Name}
 use Rattle.td_base.specs.declared.reach.Policy.TheVariants.{Strict}
 use Rattle.td_base.specs.Ip4.{same_ip}
+use Rattle.td_base.specs.Ip6.{same_ip6}
+use Rattle.td_base.specs.Ep.{same_ep}
 use Rattle.td_base.specs.Names.{name_text, same_name}
-use Rattle.td_base.specs.Reach.{is_global}
+use Rattle.td_base.specs.Reach.{is_global, is_global6}
+use Rattle.teredo_addr.specs.Teredo.{is_teredo}
 use Rattle.topology.specs.declared.server_node.ServerNode.{ServerNode}
 use Rattle.topology.specs.declared.nat_node.NatNode.{NatNode}
 use Rattle.topology.specs.declared.nat_node.TheConstants.{MOST_IDLE}
+use Rattle.topology.specs.declared.client_node.ClientNode.{ClientNode}
+use Rattle.topology.specs.declared.client_node.TheConstants.{LEAST_REFRESH, MOST_REFRESH}
+use Rattle.topology.specs.declared.relay_node.RelayNode.{RelayNode}
+use Rattle.topology.specs.declared.native_node.NativeNode.{NativeNode}
 use Rattle.topology.specs.NodeNames.{is_name}
 use Rattle.topology.specs.Rows.{TopologyState}
-use Rattle.topology.specs.Rules.{names_of, addresses_of}
-use Rattle.topology.proofs.Distinct.{IsFreshServer, IsFreshNat}
-use Rattle.scenario.specs.Words.{◌>>=◌, ip4_of}
-use Rattle.scenario.specs.Tables.{has_only, text_at, natural_at}
-use Rattle.scenario.specs.Fresh.{name_of, is_free_name, is_free_address, free_name, global_and_free, new_name, new_address}
-use Rattle.scenario.specs.Servers.{server_keys, server_with, server_at, server_of}
-use Rattle.scenario.specs.Nats.{kind_of, idle_of, nat_keys, nat_at, nat_of}
+use Rattle.topology.specs.Topology.{Node, server, nat, client, relay, native, nodes, as_server, as_nat, as_relay}
+use Rattle.topology.specs.Rules.{names_of, addresses_of, sixes_of, IsClient}
+use Rattle.history.specs.Events.{is_server, is_nat, is_relay}
+use Rattle.history.specs.NodeWords.{named, is_named}
+use Rattle.history.specs.Words.{ip4_of, ep_of}
+use Rattle.history.specs.Ip6Words.{ip6_of}
+use Rattle.scenario.specs.declared.place.Place.{Place}
+use Rattle.scenario.specs.declared.node_rows.TheConstants.{REFRESH_LOW, REFRESH_HIGH}
+use Rattle.scenario.specs.Keys.{typed, ruled, word_at, name_at, number_at}
+use Rattle.scenario.specs.Fresh.{where_holds, name_of, is_free_name, new_name, is_free_address, is_new_address, new_address, other_address, new_endpoint, is_free_six, is_new_six, new_six, is_free_inside, new_inside, kind_of, natural, idle_of, is_refresh, refresh_of}
+use Rattle.scenario.specs.NodeRows.{two_integers, refresh_in, server_row, nat_row, client_row, relay_row, native_row}
 use Rattle.scenario.specs.NodeName.{name}
 use Rattle.scenario.proofs.Names.{is_name-short, name-text}
-use Rattle.scenario.proofs.Numbers.{bind_some, some_same, kept_some}
+use Rattle.scenario.proofs.Steps.{bind_some, bind_ok, ok_same, given, held, word_kept, name_kept, number_kept}
+use Rattle.scenario.proofs.Grown.{IsFreeName, IsFreeIp, IsFreeSix, IsFreshServer, IsFreshNat, IsFreshClient, IsFreshRelay, IsFreshNative}
 
 not_true : (b : Bool) → not b ≡ true → b ≡ false
 not_true true e = absurd cc
 not_true false e = refl
 
--- what was given, where a test fails
-dropped_some : {A : Type 0} (b : Bool) (o : Option A) (y : A) → (if b then None else o) ≡ Some y → (b ≡ false) × (o ≡ Some y)
-dropped_some true o y e = absurd cc
-dropped_some false o y e = (refl, e)
+no_zero : (n : ℕ) → not (n == 0) ≡ true → n ≢ 0
+no_zero n e = λ zero. let same : (n == 0) ≡ true = (Decides-eqb n 0).1 zero in true≢false (sym same ∙ not_true (n == 0) e)
 
-record IsFreeName (t : TopologyState) (a : Name) : Type 0 where
-  free : list_any (same_name a) (names_of t) ≡ false
-  spelled : is_name (name_text a) ≡ true
+-- ---- one value
 
-record IsFreeIp (t : TopologyState) (ip : Ip4) : Type 0 where
-  free : list_any (same_ip ip) (addresses_of t) ≡ false
-  global : is_global Strict ip ≡ true
+free_name : (t : TopologyState) (text : List ℕ) (a : Name) → new_name t text ≡ Some a → IsFreeName t a
+unfolding new_name name_of is_free_name
+free_name t text a e =
+    let made = bind_some (name_of text) (λ b. where_holds (is_free_name t b) b) a e in
+    let kept = held (is_free_name t made.0) made.0 a made.2 in
+    let spelled = held (is_name text) (name text) made.0 made.1 in
+    let text_is : name_text made.0 ≡ text = ap name_text (sym spelled.1) ∙ name-text text (is_name-short text spelled.0) in
+    subst (IsFreeName t) kept.1 (record { free = not_true (list_any (same_name made.0) (names_of t)) kept.0; spelled = ap is_name text_is ∙ spelled.0 })
 
-name_of-spelled : (text : List ℕ) (a : Name) → name_of text ≡ Some a → is_name (name_text a) ≡ true
-unfolding name_of
-name_of-spelled text a e =
-    let kept = kept_some (is_name text) (Some (name text)) a e in
-    subst (λ (x : Name). is_name (name_text x) ≡ true) (some_same _ _ kept.1) (ap is_name (name-text text (is_name-short text kept.0)) ∙ kept.0)
+free_ip : (t : TopologyState) (ip : Ip4) → is_new_address t ip ≡ true → IsFreeIp t ip
+unfolding is_free_address
+free_ip t ip e =
+    let both = and_parts (is_global Strict ip) (is_free_address t ip) e in
+    record { free = not_true (list_any (same_ip ip) (addresses_of t)) both.1; global = both.0 }
 
-new_name-free : (t : TopologyState) (text : List ℕ) (a : Name) → new_name t text ≡ Some a → IsFreeName t a
-unfolding new_name is_free_name
-new_name-free t text a e =
-    let made = bind_some (name_of text) (free_name t) a e in
-    let kept = kept_some (is_free_name t made.0) (Some made.0) a made.2 in
-    subst (IsFreeName t) (some_same _ _ kept.1) (record { free = not_true (list_any (same_name made.0) (names_of t)) kept.0; spelled = name_of-spelled text made.0 made.1 })
+free_address : (t : TopologyState) (text : List ℕ) (ip : Ip4) → new_address t text ≡ Some ip → IsFreeIp t ip
+unfolding new_address
+free_address t text ip e =
+    let made = bind_some (ip4_of text) (λ x. where_holds (is_new_address t x) x) ip e in
+    let kept = held (is_new_address t made.0) made.0 ip made.2 in
+    subst (IsFreeIp t) kept.1 (free_ip t made.0 kept.0)
 
-new_address-free : (t : TopologyState) (text : List ℕ) (ip : Ip4) → new_address t text ≡ Some ip → IsFreeIp t ip
-unfolding new_address is_free_address
-new_address-free t text ip e =
-    let made = bind_some (ip4_of text) (global_and_free t) ip e in
-    let kept = kept_some (is_global Strict made.0 && is_free_address t made.0) (Some made.0) ip made.2 in
-    let both = and_parts (is_global Strict made.0) (is_free_address t made.0) kept.0 in
-    subst (IsFreeIp t) (some_same _ _ kept.1) (record { free = not_true (list_any (same_ip made.0) (addresses_of t)) both.1; global = both.0 })
+free_other : (t : TopologyState) (first : Ip4) (text : List ℕ) (ip : Ip4) → other_address t first text ≡ Some ip → IsFreeIp t ip × (same_ip first ip ≡ false)
+unfolding other_address
+free_other t first text ip e =
+    let made = bind_some (new_address t text) (λ x. where_holds (not (same_ip first x)) x) ip e in
+    let kept = held (not (same_ip first made.0)) made.0 ip made.2 in
+    let P : Ip4 → Type 0 = λ x. IsFreeIp t x × (same_ip first x ≡ false) in
+    subst P kept.1 (free_address t text made.0 made.1, not_true (same_ip first made.0) kept.0)
 
-idle_of-within : (ms idle : ℕ) → idle_of ms ≡ Some idle → (1 ≤ idle) × (idle ≤ MOST_IDLE)
-idle_of-within ms idle e =
-    let kept = kept_some (nat_le 1 ms && nat_le ms MOST_IDLE) (Some ms) idle e in
-    let both = and_parts (nat_le 1 ms) (nat_le ms MOST_IDLE) kept.0 in
+free_endpoint : (t : TopologyState) (text : List ℕ) (at : Ep) → new_endpoint t text ≡ Some at → IsFreeIp t at.ip × (at.port ≢ 0)
+unfolding new_endpoint
+free_endpoint t text at e =
+    let made = bind_some (ep_of text) (λ x. where_holds (not (x.port == 0) && is_new_address t x.ip) x) at e in
+    let kept = held (not (made.0.port == 0) && is_new_address t made.0.ip) made.0 at made.2 in
+    let both = and_parts (not (made.0.port == 0)) (is_new_address t made.0.ip) kept.0 in
+    let P : Ep → Type 0 = λ x. IsFreeIp t x.ip × (x.port ≢ 0) in
+    subst P kept.1 (free_ip t made.0.ip both.1, no_zero made.0.port both.0)
+
+free_six : (t : TopologyState) (text : List ℕ) (ip : Ip6) → new_six t text ≡ Some ip → IsFreeSix t ip
+unfolding new_six is_free_six
+free_six t text ip e =
+    let made = bind_some (ip6_of text) (λ x. where_holds (is_new_six t x) x) ip e in
+    let kept = held (is_new_six t made.0) made.0 ip made.2 in
+    let both = and_parts (is_global6 made.0 && not (is_teredo made.0)) (is_free_six t made.0) kept.0 in
+    let outside = and_parts (is_global6 made.0) (not (is_teredo made.0)) both.0 in
+    subst (IsFreeSix t) kept.1 (record { free = not_true (list_any (same_ip6 made.0) (sixes_of t)) both.1; outside = record { global = outside.0; other = not_true (is_teredo made.0) outside.1 } })
+
+free_inside : (t : TopologyState) (n : ℕ) (text : List ℕ) (inside : Ep) → new_inside t n text ≡ Some inside → (inside.port ≢ 0) × (list_any (λ (c : ClientNode). (n == c.nat) && same_ep inside c.inside) t.clients ≡ false)
+unfolding new_inside is_free_inside
+free_inside t n text inside e =
+    let made = bind_some (ep_of text) (λ x. where_holds (not (x.port == 0) && is_free_inside t n x) x) inside e in
+    let kept = held (not (made.0.port == 0) && is_free_inside t n made.0) made.0 inside made.2 in
+    let both = and_parts (not (made.0.port == 0)) (is_free_inside t n made.0) kept.0 in
+    let P : Ep → Type 0 = λ x. (x.port ≢ 0) × (list_any (λ (c : ClientNode). (n == c.nat) && same_ep x c.inside) t.clients ≡ false) in
+    subst P kept.1 (no_zero made.0.port both.0, not_true (list_any (λ (c : ClientNode). (n == c.nat) && same_ep made.0 c.inside) t.clients) both.1)
+
+idle_within : (number : ℤ) (idle : ℕ) → idle_of number ≡ Some idle → (1 ≤ idle) × (idle ≤ MOST_IDLE)
+unfolding idle_of
+idle_within number idle e =
+    let ms = bind_some (natural number) (λ n. where_holds (nat_le 1 n && nat_le n MOST_IDLE) n) idle e in
+    let kept = held (nat_le 1 ms.0 && nat_le ms.0 MOST_IDLE) ms.0 idle ms.2 in
+    let both = and_parts (nat_le 1 ms.0) (nat_le ms.0 MOST_IDLE) kept.0 in
     let P : ℕ → Type 0 = λ n. (1 ≤ n) × (n ≤ MOST_IDLE) in
-    subst P (some_same _ _ kept.1) (leb-true _ _ both.0, leb-true _ _ both.1)
+    subst P kept.1 (leb-true _ _ both.0, leb-true _ _ both.1)
 
-name_at : (t : TopologyState) (table : Members) (key : List ℕ) (a : Name) → (text_at key table >>= new_name t) ≡ Some a → IsFreeName t a
-name_at t table key a e = let text = bind_some (text_at key table) (new_name t) a e in new_name-free t text.0 a text.2
+record IsRefresh (times : ℕ × ℕ) : Type 0 where
+  least : LEAST_REFRESH ≤ times.0
+  order : times.0 ≤ times.1
+  most : times.1 ≤ MOST_REFRESH
 
-address_at : (t : TopologyState) (table : Members) (key : List ℕ) (ip : Ip4) → (text_at key table >>= new_address t) ≡ Some ip → IsFreeIp t ip
-address_at t table key ip e = let text = bind_some (text_at key table) (new_address t) ip e in new_address-free t text.0 ip text.2
+refresh_within : (numbers : ℤ × ℤ) (times : ℕ × ℕ) → refresh_of numbers ≡ Some times → IsRefresh times
+unfolding refresh_of
+refresh_within numbers times e =
+    let low = bind_some (natural numbers.0) _ times e in
+    let high = bind_some (natural numbers.1) (λ h. where_holds (is_refresh low.0 h) (low.0, h)) times low.2 in
+    let kept = held (is_refresh low.0 high.0) (low.0, high.0) times high.2 in
+    let most = and_parts (nat_le LEAST_REFRESH low.0 && nat_le low.0 high.0) (nat_le high.0 MOST_REFRESH) kept.0 in
+    let least = and_parts (nat_le LEAST_REFRESH low.0) (nat_le low.0 high.0) most.0 in
+    subst IsRefresh kept.1 (record { least = leb-true _ _ least.0; order = leb-true _ _ least.1; most = leb-true _ _ most.1 })
 
-fresh_server : (t : TopologyState) (name : Name) (primary secondary : Ip4) (row : ServerNode) → IsFreeName t name → IsFreeIp t primary → IsFreeIp t secondary → server_with name primary secondary ≡ Some row → IsFreshServer t row
-fresh_server t name primary secondary row n p s e =
-    let made = dropped_some (same_ip primary secondary) (Some (record { name = name; primary = primary; secondary = secondary })) row e in
-    subst (IsFreshServer t) (some_same _ _ made.1) (record { name = n.free; spelled = n.spelled; primary = p.free; secondary = s.free; two = made.0; global_primary = p.global; global_secondary = s.global })
+refresh_is : (place : Place) (value : Option Data) (times : ℕ × ℕ) → refresh_in place value ≡ Ok times → IsRefresh times
+refresh_is place None times e =
+    let default : IsRefresh (REFRESH_LOW, REFRESH_HIGH) = record { least = omega arith; order = omega arith; most = omega arith } in
+    subst IsRefresh (ok_same _ _ e) default
+refresh_is place (Some value) times e =
+    let numbers = bind_ok (typed place (codes "refresh") (option_and_then two_integers (as_array value))) (λ ns. ruled place (codes "refresh") (refresh_of ns)) times e in
+    refresh_within numbers.0 times (given (refresh_of numbers.0) _ times numbers.2)
 
-pub server_of-fresh : (t : TopologyState) (table : Members) (row : ServerNode) → server_of t table ≡ Some row → IsFreshServer t row
-unfolding server_of
-server_of-fresh t table row e =
-    let kept = kept_some (has_only server_keys table) (server_at t table) row e in
-    let name = bind_some (text_at (codes "name") table >>= new_name t) _ row kept.1 in
-    let primary = bind_some (text_at (codes "primary") table >>= new_address t) _ row name.2 in
-    let secondary = bind_some (text_at (codes "secondary") table >>= new_address t) _ row primary.2 in
-    fresh_server t name.0 primary.0 secondary.0 row (name_at t table (codes "name") name.0 name.1) (address_at t table (codes "primary") primary.0 primary.1) (address_at t table (codes "secondary") secondary.0 secondary.1) secondary.2
+-- ---- whom a name names
 
-abbrev nat_with : Name → NatKind → Ip4 → ℕ → NatNode
-nat_with name kind external idle = record { name = name; kind = kind; external = external; idle = idle }
+as_nat-is : (n : Node) → is_nat (Some n) ≡ true → is_some (as_nat n) ≡ true
+as_nat-is (server a) h = absurd cc
+as_nat-is (nat a) h = refl
+as_nat-is (client c) h = absurd cc
+as_nat-is (relay r) h = absurd cc
+as_nat-is (native n) h = absurd cc
 
-fresh_nat : (t : TopologyState) (name : Name) (kind : NatKind) (external : Ip4) (idle : ℕ) (row : NatNode) → IsFreeName t name → IsFreeIp t external → (1 ≤ idle) × (idle ≤ MOST_IDLE) → Some (nat_with name kind external idle) ≡ Some row → IsFreshNat t row
-fresh_nat t name kind external idle row n x i e =
-    subst (IsFreshNat t) (some_same _ _ e) (record { name = n.free; spelled = n.spelled; external = x.free; global = x.global; idle = record { least = i.0; most = i.1 } })
+as_server-is : (n : Node) → is_server (Some n) ≡ true → is_some (as_server n) ≡ true
+as_server-is (server a) h = refl
+as_server-is (nat a) h = absurd cc
+as_server-is (client c) h = absurd cc
+as_server-is (relay r) h = absurd cc
+as_server-is (native n) h = absurd cc
 
-pub nat_of-fresh : (t : TopologyState) (table : Members) (row : NatNode) → nat_of t table ≡ Some row → IsFreshNat t row
-unfolding nat_of
-nat_of-fresh t table row e =
-    let kept = kept_some (has_only nat_keys table) (nat_at t table) row e in
-    let name = bind_some (text_at (codes "name") table >>= new_name t) _ row kept.1 in
-    let kind = bind_some (text_at (codes "kind") table >>= kind_of) _ row name.2 in
-    let external = bind_some (text_at (codes "external") table >>= new_address t) _ row kind.2 in
-    let idle = bind_some (natural_at (codes "idle") table >>= idle_of) _ row external.2 in
-    let ms = bind_some (natural_at (codes "idle") table) idle_of idle.0 idle.1 in
-    fresh_nat t name.0 kind.0 external.0 idle.0 row (name_at t table (codes "name") name.0 name.1) (address_at t table (codes "external") external.0 external.1) (idle_of-within ms.0 idle.0 ms.2) idle.2
+as_relay-is : (n : Node) → is_relay (Some n) ≡ true → is_some (as_relay n) ≡ true
+as_relay-is (server a) h = absurd cc
+as_relay-is (nat a) h = absurd cc
+as_relay-is (client c) h = absurd cc
+as_relay-is (relay r) h = refl
+as_relay-is (native n) h = absurd cc
+
+abbrev Names : (Option Node → Bool) → List ℕ → Node → Bool
+Names kind text node = kind (Some node) && is_named text node
+
+numbered : {A : Type 0} (kind : Option Node → Bool) (seen : Node → Option A) → ((n : Node) → kind (Some n) ≡ true → is_some (seen n) ≡ true) → (text : List ℕ) (xs : List Node) (i : ℕ) → position (Names kind text) xs ≡ Some i → is_some (option_and_then seen (slice_get xs i)) ≡ true
+numbered kind seen is text [] i e = absurd cc
+numbered kind seen is text (x ∷ xs) i e =
+    let at = position-Some (Names kind text) (x ∷ xs) i x e in
+    let node = get_or (x ∷ xs) i x in
+    let both = and_parts (kind (Some node)) (is_named text node) at.1 in
+    rw (slice_get-get_or (x ∷ xs) i x at.0) (is node both.0)
+
+nat_named-is : (t : TopologyState) (text : List ℕ) (n : ℕ) → named is_nat t text ≡ Some n → is_some (option_and_then as_nat (slice_get (nodes t) n)) ≡ true
+unfolding named
+nat_named-is t text n e = numbered is_nat as_nat as_nat-is text (nodes t) n e
+
+server_named-is : (t : TopologyState) (text : List ℕ) (n : ℕ) → named is_server t text ≡ Some n → is_some (option_and_then as_server (slice_get (nodes t) n)) ≡ true
+unfolding named
+server_named-is t text n e = numbered is_server as_server as_server-is text (nodes t) n e
+
+relay_named-is : (t : TopologyState) (text : List ℕ) (n : ℕ) → named is_relay t text ≡ Some n → is_some (option_and_then as_relay (slice_get (nodes t) n)) ≡ true
+unfolding named
+relay_named-is t text n e = numbered is_relay as_relay as_relay-is text (nodes t) n e
+
+-- ---- a node
+
+pub server_row-fresh : (t : TopologyState) (place : Place) (table : Members) (row : ServerNode) → server_row t place table ≡ Ok row → IsFreshServer t row
+unfolding server_row
+server_row-fresh t place table row e =
+    let name = bind_ok (name_at place (codes "name") (new_name t) table) _ row e in
+    let primary = bind_ok (word_at place (codes "primary") (new_address t) table) _ row name.2 in
+    let secondary = bind_ok (word_at place (codes "secondary") (other_address t primary.0) table) _ row primary.2 in
+    let named = name_kept place (codes "name") (new_name t) table name.0 name.1 in
+    let first = word_kept place (codes "primary") (new_address t) table primary.0 primary.1 in
+    let second = word_kept place (codes "secondary") (other_address t primary.0) table secondary.0 secondary.1 in
+    let other = free_other t primary.0 second.0 secondary.0 second.1 in
+    let fresh : IsFreshServer t (record { name = name.0; primary = primary.0; secondary = secondary.0 }) = record { name = free_name t named.0 name.0 named.1; primary = free_address t first.0 primary.0 first.1; secondary = other.0; two = other.1 } in
+    subst (IsFreshServer t) (ok_same _ _ secondary.2) fresh
+
+pub nat_row-fresh : (t : TopologyState) (place : Place) (table : Members) (row : NatNode) → nat_row t place table ≡ Ok row → IsFreshNat t row
+unfolding nat_row
+nat_row-fresh t place table row e =
+    let name = bind_ok (name_at place (codes "name") (new_name t) table) _ row e in
+    let kind = bind_ok (word_at place (codes "kind") kind_of table) _ row name.2 in
+    let external = bind_ok (word_at place (codes "external") (new_address t) table) _ row kind.2 in
+    let idle = bind_ok (number_at place (codes "idle") idle_of table) _ row external.2 in
+    let named = name_kept place (codes "name") (new_name t) table name.0 name.1 in
+    let outside = word_kept place (codes "external") (new_address t) table external.0 external.1 in
+    let number = number_kept place (codes "idle") idle_of table idle.0 idle.1 in
+    let within = idle_within number.0 idle.0 number.1 in
+    let fresh : IsFreshNat t (record { name = name.0; kind = kind.0; external = external.0; idle = idle.0 }) = record { name = free_name t named.0 name.0 named.1; external = free_address t outside.0 external.0 outside.1; idle = record { least = within.0; most = within.1 } } in
+    subst (IsFreshNat t) (ok_same _ _ idle.2) fresh
+
+pub client_row-fresh : (t : TopologyState) (place : Place) (table : Members) (row : ClientNode) → client_row t place table ≡ Ok row → IsFreshClient t row
+unfolding client_row
+client_row-fresh t place table row e =
+    let name = bind_ok (name_at place (codes "name") (new_name t) table) _ row e in
+    let behind = bind_ok (name_at place (codes "nat") (named is_nat t) table) _ row name.2 in
+    let inside = bind_ok (word_at place (codes "inside") (new_inside t behind.0) table) _ row behind.2 in
+    let asks = bind_ok (name_at place (codes "server") (named is_server t) table) _ row inside.2 in
+    let times = bind_ok (refresh_in place (get_member (codes "refresh") table)) _ row asks.2 in
+    let spelled = name_kept place (codes "name") (new_name t) table name.0 name.1 in
+    let of_nat = name_kept place (codes "nat") (named is_nat t) table behind.0 behind.1 in
+    let of_server = name_kept place (codes "server") (named is_server t) table asks.0 asks.1 in
+    let endpoint = word_kept place (codes "inside") (new_inside t behind.0) table inside.0 inside.1 in
+    let free = free_inside t behind.0 endpoint.0 inside.0 endpoint.1 in
+    let within = refresh_is place (get_member (codes "refresh") table) times.0 times.1 in
+    let made : ClientNode = record { name = name.0; nat = behind.0; inside = inside.0; server = asks.0; low = times.0.0; high = times.0.1 } in
+    let client : IsClient t made = record {
+      behind = nat_named-is t of_nat.0 behind.0 of_nat.1;
+      asks = server_named-is t of_server.0 asks.0 of_server.1;
+      port = free.0;
+      least = within.least;
+      order = within.order;
+      most = within.most;
+    } in
+    let fresh : IsFreshClient t made = record { name = free_name t spelled.0 name.0 spelled.1; client = client; inside = free.1 } in
+    subst (IsFreshClient t) (ok_same _ _ times.2) fresh
+
+pub relay_row-fresh : (t : TopologyState) (place : Place) (table : Members) (row : RelayNode) → relay_row t place table ≡ Ok row → IsFreshRelay t row
+unfolding relay_row
+relay_row-fresh t place table row e =
+    let name = bind_ok (name_at place (codes "name") (new_name t) table) _ row e in
+    let at = bind_ok (word_at place (codes "at") (new_endpoint t) table) _ row name.2 in
+    let six = bind_ok (word_at place (codes "six") (new_six t) table) _ row at.2 in
+    let spelled = name_kept place (codes "name") (new_name t) table name.0 name.1 in
+    let endpoint = word_kept place (codes "at") (new_endpoint t) table at.0 at.1 in
+    let address = word_kept place (codes "six") (new_six t) table six.0 six.1 in
+    let free = free_endpoint t endpoint.0 at.0 endpoint.1 in
+    let fresh : IsFreshRelay t (record { name = name.0; at = at.0; six = six.0 }) = record { name = free_name t spelled.0 name.0 spelled.1; at = free.0; port = free.1; six = free_six t address.0 six.0 address.1 } in
+    subst (IsFreshRelay t) (ok_same _ _ six.2) fresh
+
+pub native_row-fresh : (t : TopologyState) (place : Place) (table : Members) (row : NativeNode) → native_row t place table ≡ Ok row → IsFreshNative t row
+unfolding native_row
+native_row-fresh t place table row e =
+    let name = bind_ok (name_at place (codes "name") (new_name t) table) _ row e in
+    let six = bind_ok (word_at place (codes "six") (new_six t) table) _ row name.2 in
+    let through = bind_ok (name_at place (codes "relay") (named is_relay t) table) _ row six.2 in
+    let spelled = name_kept place (codes "name") (new_name t) table name.0 name.1 in
+    let address = word_kept place (codes "six") (new_six t) table six.0 six.1 in
+    let of_relay = name_kept place (codes "relay") (named is_relay t) table through.0 through.1 in
+    let fresh : IsFreshNative t (record { name = name.0; six = six.0; relay = through.0 }) = record { name = free_name t spelled.0 name.0 spelled.1; six = free_six t address.0 six.0 address.1; through = relay_named-is t of_relay.0 through.0 of_relay.1 } in
+    subst (IsFreshNative t) (ok_same _ _ through.2) fresh

@@ -1,117 +1,153 @@
 -- What the definitions give keeps the rules of a topology.
-use Rattle.std.proofs.Common.{◌≡◌, ℕ, ◌+◌, ◌<◌, ◌≤◌, nat_le, leb-true, List, [], ◌∷◌, length, codes, Option, Some, None, refl, subst, arith, length-append}
-use Rattle.toml.specs.Data.{Data, as_array, as_table, Items, no_items, item, get_member}
-use Rattle.topology.specs.declared.topology.TheConstants.{MOST_SERVERS, MOST_NATS}
-use Rattle.topology.specs.Rows.{TopologyState, no_nodes, with_server, with_nat}
+use Rattle.std.proofs.Common.{◌≡◌, ℕ, ◌+◌, ◌<◌, ◌≤◌, nat_le, nat_lt, leb-true, Bool, true, false, if◌then◌else◌, List, [], ◌∷◌, length, codes, Option, Some, None, Result, Ok, Err, refl, subst, arith, length-append}
+use Rattle.std.specs.Prelude.{ok_or, IfOk}
+use Rattle.toml.specs.Data.{Data, as_array, as_table, Items, no_items, item, Members, get_member}
+use Rattle.topology.specs.Rows.{TopologyState, no_nodes, with_server, with_nat, with_client, with_relay, with_native}
 use Rattle.topology.specs.Rules.{IsTopology}
 use Rattle.history.specs.Scenario.{Scenario}
-use Rattle.topology.proofs.Distinct.{grown_server, grown_nat}
-use Rattle.scenario.specs.Tables.{item_count}
-use Rattle.scenario.specs.Built.{HasOnlyServers, HasOnlyBuilt}
-use Rattle.scenario.specs.Servers.{server_of, add_server, add_servers, servers_of, servers_at}
-use Rattle.scenario.specs.Nats.{nat_of, add_nat, add_nats, nats_of, nats_at}
-use Rattle.scenario.specs.Scenario.{scenario_of}
-use Rattle.scenario.proofs.Numbers.{bind_some, some_same, kept_some}
-use Rattle.scenario.proofs.FreshRows.{server_of-fresh, nat_of-fresh}
-use Rattle.scenario.proofs.TextLemmas.{scenario_of-parts}
+use Rattle.history.specs.declared.event.Event.{Event}
+use Rattle.scenario.specs.declared.node_kind.NodeKind.{NodeKind}
+use Rattle.scenario.specs.declared.node_kind.NodeKind.TheVariants as kind
+use Rattle.scenario.specs.declared.place.Place.{Place}
+use Rattle.scenario.specs.declared.place.Place.TheVariants as place
+use Rattle.scenario.specs.declared.reader.Scenario.{Scenario as CodeScenario}
+use Rattle.scenario.specs.Answers.{IsReadAs}
+use Rattle.scenario.specs.Told.{told}
+use Rattle.scenario.specs.declared.reader.TheConstants.{TEXT_MOST}
+use Rattle.scenario.specs.declared.event_lists.TheConstants.{MOST_EVENTS}
+use Rattle.scenario.specs.declared.scenario_fault.ScenarioFault.{ScenarioFault}
+use Rattle.scenario.specs.declared.scenario_fault.ScenarioFault.TheVariants as fault
+use Rattle.scenario.specs.NodeKinds.{list_key, most_rows, row_keys, scenario_keys}
+use Rattle.scenario.specs.Keys.{only_keys, typed, number_at}
+use Rattle.scenario.specs.Fresh.{natural}
+use Rattle.scenario.specs.NodeRows.{server_row, nat_row, client_row, relay_row, native_row}
+use Rattle.scenario.specs.NodeTables.{with_row, with_value, with_values, item_count, with_few, with_list, with_nodes, nodes_of}
+use Rattle.scenario.specs.EventLists.{events_of}
+use Rattle.scenario.specs.Filling.{row_count, HasNoneBehind, HasNoneFrom}
+use Rattle.scenario.specs.Paths.{row_path}
+use Rattle.scenario.specs.Scenario.{scenario_in, document_of, written, scenario_of}
+use Rattle.scenario.proofs.Steps.{bind_ok, ok_same}
+use Rattle.scenario.proofs.Grown.{grown_server, grown_nat, grown_client, grown_relay, grown_native}
+use Rattle.scenario.proofs.FreshRows.{server_row-fresh, nat_row-fresh, client_row-fresh, relay_row-fresh, native_row-fresh}
+use Rattle.scenario.proofs.EventsSoFar.{length-events_of}
 
--- ---- servers
+-- ---- one node
 
--- it keeps the rules and has no nodes but so many servers
-record HoldsServers (count : ℕ) (t : TopologyState) : Type 0 where
+-- it keeps the rules, has no nodes behind this kind, and one more of this kind than t
+record KeepsWithOne (kind : NodeKind) (t more : TopologyState) : Type 0 where
+  rules : IsTopology more
+  order : HasNoneBehind kind more
+  one : row_count kind more ≡ row_count kind t + 1
+
+with_row-keeps : (kind : NodeKind) (t more : TopologyState) (place : Place) (table : Members) → with_row kind t place table ≡ Ok more → IsTopology t → HasNoneBehind kind t → row_count kind t < most_rows kind → KeepsWithOne kind t more
+unfolding with_row
+with_row-keeps kind.Server t more place table e is h few =
+    let row = bind_ok (server_row t place table) _ more e in
+    let grown : KeepsWithOne kind.Server t (with_server t row.0) = record { rules = grown_server t row.0 is (server_row-fresh t place table row.0 row.1) few h; order = h; one = omega (arith, length-append t.servers (row.0 ∷ [])) } in
+    subst (KeepsWithOne kind.Server t) (ok_same _ _ row.2) grown
+with_row-keeps kind.Nat t more place table e is h few =
+    let row = bind_ok (nat_row t place table) _ more e in
+    let grown : KeepsWithOne kind.Nat t (with_nat t row.0) = record { rules = grown_nat t row.0 is (nat_row-fresh t place table row.0 row.1) few h; order = h; one = omega (arith, length-append t.nats (row.0 ∷ [])) } in
+    subst (KeepsWithOne kind.Nat t) (ok_same _ _ row.2) grown
+with_row-keeps kind.Client t more place table e is h few =
+    let row = bind_ok (client_row t place table) _ more e in
+    let grown : KeepsWithOne kind.Client t (with_client t row.0) = record { rules = grown_client t row.0 is (client_row-fresh t place table row.0 row.1) few h; order = h; one = omega (arith, length-append t.clients (row.0 ∷ [])) } in
+    subst (KeepsWithOne kind.Client t) (ok_same _ _ row.2) grown
+with_row-keeps kind.Relay t more place table e is h few =
+    let row = bind_ok (relay_row t place table) _ more e in
+    let grown : KeepsWithOne kind.Relay t (with_relay t row.0) = record { rules = grown_relay t row.0 is (relay_row-fresh t place table row.0 row.1) few h; order = h; one = omega (arith, length-append t.relays (row.0 ∷ [])) } in
+    subst (KeepsWithOne kind.Relay t) (ok_same _ _ row.2) grown
+with_row-keeps kind.Native t more place table e is h few =
+    let row = bind_ok (native_row t place table) _ more e in
+    let grown : KeepsWithOne kind.Native t (with_native t row.0) = record { rules = grown_native t row.0 is (native_row-fresh t place table row.0 row.1) few; order = h; one = omega (arith, length-append t.natives (row.0 ∷ [])) } in
+    subst (KeepsWithOne kind.Native t) (ok_same _ _ row.2) grown
+
+with_value-keeps : (kind : NodeKind) (index : ℕ) (t more : TopologyState) (value : Data) → with_value kind index t value ≡ Ok more → IsTopology t → HasNoneBehind kind t → row_count kind t < most_rows kind → KeepsWithOne kind t more
+unfolding with_value
+with_value-keeps kind index t more value e is h few =
+    let table = bind_ok (ok_or (as_table value) (fault.Kind (row_path kind index))) _ more e in
+    let only = bind_ok (only_keys (row_keys kind) (place.Row kind index) table.0) _ more table.2 in
+    with_row-keeps kind t more (place.Row kind index) table.0 only.2 is h few
+
+-- ---- a list
+
+-- it keeps the rules, and has no nodes behind this kind
+record KeepsRules (kind : NodeKind) (t : TopologyState) : Type 0 where
   rules : IsTopology t
-  kinds : HasOnlyServers t
-  counted : length t.servers ≡ count
+  order : HasNoneBehind kind t
 
-none_holds : HoldsServers 0 no_nodes
-none_holds = record {
-  rules = record { servers = omega arith; nats = omega arith; clients = omega arith; relays = omega arith; natives = omega arith; names = tt; spelled = tt; addresses = tt; global = tt; idle = tt; each_client = tt; inside = tt; ports = tt; outside = tt; sixes = tt; through = tt };
-  kinds = (refl, refl, refl, refl);
-  counted = refl;
-}
+with_values-keeps : (kind : NodeKind) (index : ℕ) (t more : TopologyState) (values : Items) → with_values kind index t values ≡ Ok more → KeepsRules kind t → row_count kind t + item_count values ≤ most_rows kind → KeepsRules kind more
+with_values-keeps kind index t more no_items e h few = subst (KeepsRules kind) (ok_same _ _ e) h
+with_values-keeps kind index t more (item value values) e h few =
+    let next = bind_ok (with_value kind index t value) _ more e in
+    let one = with_value-keeps kind index t next.0 value next.1 h.rules h.order (omega (arith, few)) in
+    with_values-keeps kind (index + 1) next.0 more values next.2 (record { rules = one.rules; order = one.order }) (omega (arith, few, one.one))
 
-add_server-holds : (count : ℕ) (t more : TopologyState) (value : Data) → add_server t value ≡ Some more → count < MOST_SERVERS → HoldsServers count t → HoldsServers (count + 1) more
-unfolding add_server
-add_server-holds count t more value e few h =
-    let table = bind_some (as_table value) _ more e in
-    let row = bind_some (server_of t table.0) _ more table.2 in
-    let grown : HoldsServers (count + 1) (with_server t row.0) = record {
-      rules = grown_server t row.0 h.rules (server_of-fresh t table.0 row.0 row.1) (omega (arith, h.counted)) h.kinds.1 h.kinds.3;
-      kinds = h.kinds;
-      counted = omega (arith, h.counted, length-append t.servers (row.0 ∷ []));
-    } in
-    subst (HoldsServers (count + 1)) (some_same _ _ row.2) grown
+-- what was given, where a test holds
+passed : {A E : Type 0} (b : Bool) (r : Result A E) (fault : E) (x : A) → (if b then r else Err fault) ≡ Ok x → (b ≡ true) × (r ≡ Ok x)
+passed true r fault x e = (refl, e)
+passed false r fault x e = absurd cc
 
-add_servers-holds : (count : ℕ) (t more : TopologyState) (tables : Items) → add_servers t tables ≡ Some more → count + item_count tables ≤ MOST_SERVERS → HoldsServers count t → HoldsServers (count + item_count tables) more
-add_servers-holds count t more no_items e few h =
-    let same : count ≡ count + 0 = omega arith in
-    let P : ℕ → Type 0 = λ n. HoldsServers n more in
-    subst P same (subst (HoldsServers count) (some_same _ _ e) h)
-add_servers-holds count t more (item value tables) e few h =
-    let next = bind_some (add_server t value) _ more e in
-    let one = add_server-holds count t next.0 value next.1 (omega (arith, few)) h in
-    let all = add_servers-holds (count + 1) next.0 more tables next.2 (omega (arith, few)) one in
-    let same : (count + 1) + item_count tables ≡ count + (1 + item_count tables) = omega arith in
-    let P : ℕ → Type 0 = λ n. HoldsServers n more in
-    subst P same all
+with_list-keeps : (kind : NodeKind) (t more : TopologyState) (value : Option Data) → with_list kind t value ≡ Ok more → IsTopology t → HasNoneFrom kind t → KeepsRules kind more
+with_list-keeps kind t more None e is h = subst (KeepsRules kind) (ok_same _ _ e) (record { rules = is; order = h.1 })
+with_list-keeps kind t more (Some value) e is h =
+    let values = bind_ok (typed place.Text (list_key kind) (as_array value)) (with_few kind t) more e in
+    let few = passed (nat_le (item_count values.0) (most_rows kind)) (with_values kind 0 t values.0) _ more values.2 in
+    with_values-keeps kind 0 t more values.0 few.1 (record { rules = is; order = h.1 }) (omega (arith, leb-true _ _ few.0, h.0))
 
--- ---- NATs
+-- ---- the five lists
 
-record HoldsNats (count : ℕ) (t : TopologyState) : Type 0 where
-  rules : IsTopology t
-  kinds : HasOnlyBuilt t
-  counted : length t.nats ≡ count
+none_keeps : IsTopology no_nodes
+none_keeps = record { servers = omega arith; nats = omega arith; clients = omega arith; relays = omega arith; natives = omega arith; names = tt; spelled = tt; addresses = tt; global = tt; idle = tt; each_client = tt; inside = tt; ports = tt; outside = tt; sixes = tt; through = tt }
 
-add_nat-holds : (count : ℕ) (t more : TopologyState) (value : Data) → add_nat t value ≡ Some more → count < MOST_NATS → HoldsNats count t → HoldsNats (count + 1) more
-unfolding add_nat
-add_nat-holds count t more value e few h =
-    let table = bind_some (as_table value) _ more e in
-    let row = bind_some (nat_of t table.0) _ more table.2 in
-    let grown : HoldsNats (count + 1) (with_nat t row.0) = record {
-      rules = grown_nat t row.0 h.rules (nat_of-fresh t table.0 row.0 row.1) (omega (arith, h.counted)) h.kinds.0 h.kinds.2;
-      kinds = h.kinds;
-      counted = omega (arith, h.counted, length-append t.nats (row.0 ∷ []));
-    } in
-    subst (HoldsNats (count + 1)) (some_same _ _ row.2) grown
+no_rows : {A : Type 0} (xs : List A) → xs ≡ [] → length xs ≡ 0
+no_rows [] e = refl
+no_rows (x ∷ xs) e = absurd cc
 
-add_nats-holds : (count : ℕ) (t more : TopologyState) (tables : Items) → add_nats t tables ≡ Some more → count + item_count tables ≤ MOST_NATS → HoldsNats count t → HoldsNats (count + item_count tables) more
-add_nats-holds count t more no_items e few h =
-    let same : count ≡ count + 0 = omega arith in
-    let P : ℕ → Type 0 = λ n. HoldsNats n more in
-    subst P same (subst (HoldsNats count) (some_same _ _ e) h)
-add_nats-holds count t more (item value tables) e few h =
-    let next = bind_some (add_nat t value) _ more e in
-    let one = add_nat-holds count t next.0 value next.1 (omega (arith, few)) h in
-    let all = add_nats-holds (count + 1) next.0 more tables next.2 (omega (arith, few)) one in
-    let same : (count + 1) + item_count tables ≡ count + (1 + item_count tables) = omega arith in
-    let P : ℕ → Type 0 = λ n. HoldsNats n more in
-    subst P same all
+nodes_of-keeps : (table : Members) (t : TopologyState) → nodes_of table ≡ Ok t → IsTopology t
+unfolding nodes_of
+nodes_of-keeps table t e =
+    let a = bind_ok (with_nodes kind.Server no_nodes table) _ t e in
+    let b = bind_ok (with_nodes kind.Nat a.0 table) _ t a.2 in
+    let c = bind_ok (with_nodes kind.Client b.0 table) _ t b.2 in
+    let d = bind_ok (with_nodes kind.Relay c.0 table) _ t c.2 in
+    let servers = with_list-keeps kind.Server no_nodes a.0 (get_member (list_key kind.Server) table) a.1 none_keeps (refl, (refl, refl, refl, refl)) in
+    let nats = with_list-keeps kind.Nat a.0 b.0 (get_member (list_key kind.Nat) table) b.1 servers.rules (no_rows a.0.nats servers.order.0, (servers.order.1, servers.order.2, servers.order.3)) in
+    let clients = with_list-keeps kind.Client b.0 c.0 (get_member (list_key kind.Client) table) c.1 nats.rules (no_rows b.0.clients nats.order.0, (nats.order.1, nats.order.2)) in
+    let relays = with_list-keeps kind.Relay c.0 d.0 (get_member (list_key kind.Relay) table) d.1 clients.rules (no_rows c.0.relays clients.order.0, clients.order.1) in
+    (with_list-keeps kind.Native d.0 t (get_member (list_key kind.Native) table) d.2 relays.rules (no_rows d.0.natives relays.order, tt)).rules
 
--- ---- both lists
+-- ---- a text
 
--- it keeps the rules and has no nodes but servers
-record OnlyServers (t : TopologyState) : Type 0 where
-  rules : IsTopology t
-  kinds : HasOnlyServers t
+-- what stands at the keys of a text that is a scenario
+record StandsThere (s : Scenario) : Type 0 where
+  table : Members
+  nodes : nodes_of table ≡ Ok s.topology
+  events : events_of s.topology table ≡ Ok s.events
 
-servers_at-rules : (value : Option Data) (t : TopologyState) → servers_at value ≡ Some t → OnlyServers t
-servers_at-rules None t e = subst OnlyServers (some_same _ _ e) (record { rules = none_holds.rules; kinds = none_holds.kinds })
-servers_at-rules (Some value) t e =
-    let tables = bind_some (as_array value) servers_of t e in
-    let kept = kept_some (nat_le (item_count tables.0) MOST_SERVERS) (add_servers no_nodes tables.0) t tables.2 in
-    let all = add_servers-holds 0 no_nodes t tables.0 kept.1 (omega (arith, leb-true (item_count tables.0) MOST_SERVERS kept.0)) none_holds in
-    record { rules = all.rules; kinds = all.kinds }
+abbrev made : ℕ → TopologyState → List Event → Scenario
+made seed topology events = record { seed = seed; topology = topology; events = events }
 
-nats_at-rules : (servers : TopologyState) (value : Option Data) (t : TopologyState) → nats_at servers value ≡ Some t → OnlyServers servers → IsTopology t
-nats_at-rules servers None t e h = subst IsTopology (some_same _ _ e) h.rules
-nats_at-rules servers (Some value) t e h =
-    let tables = bind_some (as_array value) (nats_of servers) t e in
-    let kept = kept_some (nat_le (item_count tables.0) MOST_NATS) (add_nats servers tables.0) t tables.2 in
-    let none : length servers.nats ≡ 0 = rw h.kinds.0 refl in
-    let begun : HoldsNats 0 servers = record { rules = h.rules; kinds = (h.kinds.1, h.kinds.2, h.kinds.3); counted = none } in
-    (add_nats-holds 0 servers t tables.0 kept.1 (omega (arith, leb-true (item_count tables.0) MOST_NATS kept.0)) begun).rules
+not_refused : {A E : Type 0} (b : Bool) (r : Result A E) (fault : E) (x : A) → (if b then Err fault else r) ≡ Ok x → r ≡ Ok x
+not_refused true r fault x e = absurd cc
+not_refused false r fault x e = e
 
-pub scenario_of-rules : (text : List ℕ) (s : Scenario) → scenario_of text ≡ Some s → IsTopology s.topology
-scenario_of-rules text s e =
-    let parts = scenario_of-parts text s e in
-    nats_at-rules parts.servers (get_member (codes "nat") parts.table) s.topology parts.nodes (servers_at-rules (get_member (codes "server") parts.table) parts.servers parts.first)
+there : (text : List ℕ) (s : Scenario) → written text ≡ Ok s → StandsThere s
+unfolding scenario_in
+there text s e =
+    let table = bind_ok (ok_or (document_of text) fault.NotToml) scenario_in s e in
+    let only = bind_ok (only_keys scenario_keys place.Text table.0) _ s table.2 in
+    let seed = bind_ok (number_at place.Text (codes "seed") natural table.0) _ s only.2 in
+    let topology = bind_ok (nodes_of table.0) _ s seed.2 in
+    let events = bind_ok (events_of topology.0 table.0) _ s topology.2 in
+    let found : StandsThere (made seed.0 topology.0 events.0) = record { table = table.0; nodes = topology.1; events = events.1 } in
+    subst StandsThere (ok_same _ _ events.2) found
+
+pub scenario_of-rules : (text : List ℕ) (s : Scenario) → scenario_of text ≡ Ok s → IsTopology s.topology
+unfolding scenario_of
+scenario_of-rules text s e = let found = there text s (not_refused (nat_lt TEXT_MOST (length text)) (written text) fault.TooLong s e) in nodes_of-keeps found.table s.topology found.nodes
+
+-- a scenario that was read has few events
+pub few_read : (text : List ℕ) (r : Result CodeScenario ScenarioFault) → IsReadAs told r (written text) → IfOk r (λ s. length s.events ≤ MOST_EVENTS)
+few_read text (Ok s) h = let found = there text (told s) h in length-events_of s.topology found.table s.events found.events
+few_read text (Err e) h = tt

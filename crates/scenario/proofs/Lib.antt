@@ -1,10 +1,11 @@
-pub mod Numbers
-pub mod EventsSoFar
-pub mod Names
-pub mod FreshRows
-pub mod NodesSoFar
-pub mod TableLemmas
-pub mod Taken
-pub mod TextLemmas
-pub mod KeptRules
-pub mod OneSolicitation
+mod Steps
+mod Names
+mod Taken
+mod TableLemmas
+mod UnknownKeys
+mod TextLemmas
+mod Lasts
+mod Grown
+mod FreshRows
+mod EventsSoFar
+mod KeptRules

@@ -1,27 +1,40 @@
 -- A table and a list of values beside the members and items that they stand for.
-use Rattle.std.proofs.Common.{◌≡◌, ℕ, Bool, List, [], ◌∷◌, length, String, Global, Bor, string_bytes, map, refl, ◌∙◌, arith}
-use Rattle.std.specs.List.{list_all, list_any}
+use Rattle.std.proofs.Common.{◌≡◌, ℕ, ◌<◌, ◌≤◌, ◌&&◌, Bool, false, List, [], ◌∷◌, length, Option, Some, None, refl, arith}
+use Rattle.std.specs.Prelude.{is_some, option_map, option_and_then}
+use Rattle.std.specs.List.{list_all}
+use Rattle.toml.specs.Data.{as_str}
 use Rattle.toml.specs.declared.value.Value.{Value}
-use Rattle.toml.specs.View.{items_view, members_view}
-use Rattle.scenario.specs.Words.{same_text}
-use Rattle.scenario.specs.Tables.{keys_of, has_only, item_count}
-
--- a test of each key
-list_all-keys : (test : List ℕ → Bool) (es : List (String Global × Value)) → list_all (λ k. test (string_bytes k)) (map (λ e. e.0) es) ≡ list_all test (keys_of (members_view es))
-list_all-keys test [] = refl
-list_all-keys test (e ∷ es) = rw (list_all-keys test es) refl
-
-any_of : (key : List ℕ) (known : List (Bor (List ℕ))) → list_any (λ one. same_text key one.now) known ≡ list_any (same_text key) (map (λ one. one.now) known)
-any_of key [] = refl
-any_of key (one ∷ known) = rw (any_of key known) refl
-
-each_known : (known : List (Bor (List ℕ))) (keys : List (List ℕ)) → list_all (λ key. list_any (λ one. same_text key one.now) known) keys ≡ list_all (λ key. list_any (same_text key) (map (λ one. one.now) known)) keys
-each_known known [] = refl
-each_known known (key ∷ keys) = rw (any_of key known, each_known known keys) refl
-
-pub has_only-keys : (known : List (Bor (List ℕ))) (es : List (String Global × Value)) → list_all (λ key. list_any (λ one. same_text (string_bytes key) one.now) known) (map (λ e. e.0) es) ≡ has_only (map (λ one. one.now) known) (members_view es)
-has_only-keys known es = list_all-keys (λ key. list_any (λ one. same_text key one.now) known) es ∙ each_known known (keys_of (members_view es))
+use Rattle.toml.specs.View.{view, items_view}
+use Rattle.scenario.specs.NodeRows.{two_integers}
+use Rattle.scenario.specs.EventLists.{texts_of}
+use Rattle.scenario.specs.NodeTables.{item_count}
 
 pub item_count_view : (vs : List Value) → item_count (items_view vs) ≡ length vs
 item_count_view [] = refl
 item_count_view (v ∷ vs) = omega (arith, item_count_view vs)
+
+-- a list of fewer or more values than two
+pub fewer_than_two : (vs : List Value) → length vs < 2 → two_integers (items_view vs) ≡ None
+fewer_than_two [] h = refl
+fewer_than_two (v ∷ []) h = refl
+fewer_than_two (v ∷ w ∷ vs) h = absurd (omega (arith, h))
+
+pub more_than_two : (vs : List Value) → 3 ≤ length vs → two_integers (items_view vs) ≡ None
+more_than_two [] h = absurd (omega (arith, h))
+more_than_two (v ∷ []) h = absurd (omega (arith, h))
+more_than_two (v ∷ w ∷ []) h = absurd (omega (arith, h))
+more_than_two (v ∷ w ∷ u ∷ vs) h = refl
+
+-- lists whose values are texts
+pub all_texts_are : (vs : List Value) → list_all (λ value. is_some (as_str (view value))) vs ≡ is_some (texts_of (items_view vs))
+all_texts_are [] = refl
+all_texts_are (v ∷ vs) = both (as_str (view v)) (texts_of (items_view vs)) (list_all (λ value. is_some (as_str (view value))) vs) (all_texts_are vs)
+  where
+    both : (text : Option (List ℕ)) (texts : Option (List (List ℕ))) (b : Bool) → b ≡ is_some texts → (is_some text && b) ≡ is_some (option_and_then (λ t. option_map (λ ts. t ∷ ts) texts) text)
+    both None texts b e = refl
+    both (Some t) None b e = e
+    both (Some t) (Some ts) b e = e
+
+pub none_of : {A : Type 0} (o : Option A) → is_some o ≡ false → o ≡ None
+none_of None e = refl
+none_of (Some x) e = absurd cc

@@ -4,7 +4,9 @@ use Rattle.std.specs.Prelude.{flat_map, not}
 use Rattle.std.specs.List.{list_any}
 use Rattle.td_base.specs.declared.ipv4.Ip4.{Ip4}
 use Rattle.td_base.specs.declared.node_name.Name.{Name}
+use Rattle.td_base.specs.declared.ipv6.Ip6.{Ip6}
 use Rattle.td_base.specs.Ip4.{same_ip}
+use Rattle.td_base.specs.Ip6.{same_ip6}
 use Rattle.td_base.specs.Names.{same_name}
 use Rattle.topology.specs.declared.server_node.ServerNode.{ServerNode}
 use Rattle.topology.specs.declared.nat_node.NatNode.{NatNode}
@@ -12,10 +14,8 @@ use Rattle.topology.specs.declared.client_node.ClientNode.{ClientNode}
 use Rattle.topology.specs.declared.relay_node.RelayNode.{RelayNode}
 use Rattle.topology.specs.declared.native_node.NativeNode.{NativeNode}
 use Rattle.topology.specs.Rows.{TopologyState}
-use Rattle.topology.specs.declared.node.Node.{Node}
-use Rattle.topology.specs.declared.node.Node.TheVariants.{Server as server, Nat as nat, Client as client, Relay as relay, Native as native}
-use Rattle.topology.specs.Topology.{name_of}
-use Rattle.scenario.specs.Fresh.{is_free_name, is_free_address}
+use Rattle.topology.specs.Topology.{Node, server, nat, client, relay, native, name_of}
+use Rattle.scenario.specs.Fresh.{is_free_name, is_free_address, is_free_six}
 
 or_assoc : (a b c : Bool) → (a || (b || c)) ≡ ((a || b) || c)
 or_assoc true b c = refl
@@ -35,11 +35,11 @@ any_two test (x ∷ xs) more =
     let rest = list_any (λ (a : ServerNode). test a.primary || test a.secondary) xs in
     rw (any_two test xs more) (or_assoc (test x.primary) (test x.secondary) (rest || list_any test more) ∙ or_assoc (test x.primary || test x.secondary) rest (list_any test more))
 
-any_of : {A : Type 0} (f : A → Ip4) (test : Ip4 → Bool) (xs : List A) (more : List Ip4) → list_any test (map f xs ++ more) ≡ (list_any (λ x. test (f x)) xs || list_any test more)
+any_of : {A B : Type 0} (f : A → B) (test : B → Bool) (xs : List A) (more : List B) → list_any test (map f xs ++ more) ≡ (list_any (λ x. test (f x)) xs || list_any test more)
 any_of f test [] more = refl
 any_of f test (x ∷ xs) more = rw (any_of f test xs more) (or_assoc (test (f x)) (list_any (λ y. test (f y)) xs) (list_any test more))
 
-any_end : {A : Type 0} (f : A → Ip4) (test : Ip4 → Bool) (xs : List A) → list_any test (map f xs) ≡ list_any (λ x. test (f x)) xs
+any_end : {A B : Type 0} (f : A → B) (test : B → Bool) (xs : List A) → list_any test (map f xs) ≡ list_any (λ x. test (f x)) xs
 any_end f test [] = refl
 any_end f test (x ∷ xs) = rw (any_end f test xs) refl
 
@@ -60,3 +60,10 @@ free_address_by_kind t ip =
     ap not (any_two (same_ip ip) t.servers _
     ∙ ap (λ (b : Bool). list_any (λ (x : ServerNode). same_ip ip x.primary || same_ip ip x.secondary) t.servers || b) (any_of (λ (x : NatNode). x.external) (same_ip ip) t.nats _
     ∙ ap (λ (b : Bool). list_any (λ (x : NatNode). same_ip ip x.external) t.nats || b) (any_end (λ (x : RelayNode). x.at.ip) (same_ip ip) t.relays)))
+
+-- an IPv6 address is taken where a relay or a native host has it
+pub free_six_by_kind : (t : TopologyState) (ip : Ip6) → is_free_six t ip ≡ not (list_any (λ (x : RelayNode). same_ip6 ip x.six) t.relays || list_any (λ (x : NativeNode). same_ip6 ip x.six) t.natives)
+unfolding is_free_six
+free_six_by_kind t ip =
+    ap not (any_of (λ (x : RelayNode). x.six) (same_ip6 ip) t.relays _
+    ∙ ap (λ (b : Bool). list_any (λ (x : RelayNode). same_ip6 ip x.six) t.relays || b) (any_end (λ (x : NativeNode). x.six) (same_ip6 ip) t.natives))

@@ -1,19 +1,27 @@
--- Which kinds of nodes are there, for the contracts of the reader: their lists are read one after the other.
-use Rattle.std.specs.Prelude.{◌≡◌, []}
-use Rattle.std.specs.List.{AllByRecursion}
-use Rattle.history.specs.Events.{IsEvent}
+-- Scenarios of servers and NATs, the kinds of nodes that are played so far.
+use Rattle.std.specs.Prelude.{◌≡◌, ℕ, ◌&&◌, Bool, true, false, if◌then◌else◌, List, [], ◌∷◌, Option, Some, None, Result, Ok, Err}
 use Rattle.topology.specs.Rows.{TopologyState}
 use Rattle.history.specs.Scenario.{Scenario}
+use Rattle.scenario.specs.declared.scenario_fault.ScenarioFault.{ScenarioFault}
+use Rattle.scenario.specs.Scenario.{scenario_of}
 
--- no nodes but servers
-abbrev pub HasOnlyServers : TopologyState → Type 0
-HasOnlyServers t = (t.nats ≡ []) × (t.clients ≡ []) × (t.relays ≡ []) × (t.natives ≡ [])
+abbrev pub is_empty_list : {A : Type 0} → List A → Bool
+is_empty_list [] = true
+is_empty_list (x ∷ xs) = false
 
--- no nodes but servers and NATs, the kinds that are read so far
+-- no nodes but servers and NATs
+abbrev pub has_only_built : TopologyState → Bool
+has_only_built t = is_empty_list t.clients && is_empty_list t.relays && is_empty_list t.natives
+
+-- the same as a fact
 abbrev pub HasOnlyBuilt : TopologyState → Type 0
 HasOnlyBuilt t = (t.clients ≡ []) × (t.relays ≡ []) × (t.natives ≡ [])
 
--- nodes of these kinds, and events that they can be asked for
-pub record IsBuilt (s : Scenario) : Type 0 where
-  pub kinds : HasOnlyBuilt s.topology
-  pub legal : AllByRecursion (IsEvent s.topology) s.events
+-- a scenario of servers and NATs; a text that isn't one is refused for now
+abbrev pub built : Result Scenario ScenarioFault → Option Scenario
+built (Ok s) = if has_only_built s.topology then Some s else None
+built (Err e) = None
+
+-- the scenario of servers and NATs that a text is
+abbrev pub built_scenario_of : List ℕ → Option Scenario
+built_scenario_of text = built (scenario_of text)

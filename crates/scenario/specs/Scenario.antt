@@ -1,61 +1,37 @@
--- The scenario that a text is.
-use Rattle.std.specs.Prelude.{ℕ, ◌&&◌, nat_le, if◌then◌else◌, List, [], ◌∷◌, length, codes, Option, Some, None}
+-- The scenario that a text is, or its first refusal.
+use Rattle.std.specs.Prelude.{ℕ, nat_lt, if◌then◌else◌, List, length, codes, Option, None, ok_or, Result, Ok, Err}
 use Rattle.std.specs.Str.{is_utf8}
-use Rattle.std.specs.Result.{result_ok}
-use Rattle.toml.specs.Data.{Data, as_str, as_array, Items, no_items, item, Members, get_member}
+use Rattle.toml.specs.Data.{Members}
 use Rattle.toml.specs.Parse.{parse_document}
-use Rattle.history.specs.declared.event.Event.{Event}
-use Rattle.topology.specs.Rows.{TopologyState}
+use Rattle.td_base.specs.Reading.{◌>>=◌}
 use Rattle.history.specs.Scenario.{Scenario}
-use Rattle.history.specs.EventText.{event_of}
 use Rattle.scenario.specs.declared.reader.TheConstants.{TEXT_MOST}
-use Rattle.scenario.specs.declared.event_lists.TheConstants.{MOST_EVENTS}
-use Rattle.scenario.specs.Words.{◌>>=◌}
-use Rattle.scenario.specs.Tables.{has_only, natural_at, item_count}
-use Rattle.scenario.specs.Servers.{servers_at}
-use Rattle.scenario.specs.Nats.{nats_at}
+use Rattle.scenario.specs.declared.scenario_fault.ScenarioFault.{ScenarioFault}
+use Rattle.scenario.specs.declared.scenario_fault.ScenarioFault.TheVariants as fault
+use Rattle.scenario.specs.declared.place.Place.TheVariants as place
+use Rattle.scenario.specs.NodeKinds.{scenario_keys}
+use Rattle.scenario.specs.Keys.{only_keys, number_at}
+use Rattle.scenario.specs.Fresh.{natural}
+use Rattle.scenario.specs.NodeTables.{nodes_of}
+use Rattle.scenario.specs.EventLists.{events_of}
 
--- the event of a value that is a text
-abbrev pub event_in : TopologyState → Data → Option Event
-event_in t value = as_str value >>= (λ text. result_ok (event_of t text))
+-- the scenario of a table: no unknown key, and then the keys in order
+unfoldable pub scenario_in : Members → Result Scenario ScenarioFault
+scenario_in table = do
+  only ← only_keys scenario_keys place.Text table
+  seed ← number_at place.Text (codes "seed") natural table
+  topology ← nodes_of table
+  events ← events_of topology table
+  Ok (record { seed = seed; topology = topology; events = events })
 
--- the events of a list of texts in order
-abbrev pub events_at : TopologyState → Items → Option (List Event)
-events_at t no_items = Some []
-events_at t (item value more) = do
-  event ← event_in t value
-  events ← events_at t more
-  Some (event ∷ events)
+-- the table that a text is in TOML, which is written in UTF-8
+abbrev pub document_of : List ℕ → Option Members
+document_of text = if is_utf8 text then parse_document text else None
 
--- the events of a list that isn't too long
-abbrev pub events_of : TopologyState → Items → Option (List Event)
-events_of t texts = if nat_le (item_count texts) MOST_EVENTS then events_at t texts else None
+-- the scenario that a text of any length is
+abbrev pub written : List ℕ → Result Scenario ScenarioFault
+written text = ok_or (document_of text) fault.NotToml >>= scenario_in
 
--- the events of a value that is such a list
-abbrev pub events_in : TopologyState → Data → Option (List Event)
-events_in t value = as_array value >>= events_of t
-
--- the keys of a scenario
-abbrev pub scenario_keys : List (List ℕ)
-scenario_keys = codes "seed" ∷ codes "server" ∷ codes "nat" ∷ codes "events" ∷ []
-
--- the scenario of what stands at these keys; the lists of nodes may be missing
-abbrev pub scenario_at : Members → Option Scenario
-scenario_at table = do
-  seed ← natural_at (codes "seed") table
-  servers ← servers_at (get_member (codes "server") table)
-  topology ← nats_at servers (get_member (codes "nat") table)
-  events ← get_member (codes "events") table >>= events_in topology
-  Some (record { seed = seed; topology = topology; events = events })
-
--- the scenario of a table that has no other key
-unfoldable pub scenario_in : Members → Option Scenario
-scenario_in table = if has_only scenario_keys table then scenario_at table else None
-
--- the scenario of what is written in TOML
-abbrev pub written : List ℕ → Option Scenario
-written text = parse_document text >>= scenario_in
-
--- the scenario that a text is: it has at most so many bytes, and they are UTF-8
-unfoldable pub scenario_of : List ℕ → Option Scenario
-scenario_of text = if nat_le (length text) TEXT_MOST && is_utf8 text then written text else None
+-- the scenario that a text is, or the first of the refusals that apply
+unfoldable pub scenario_of : List ℕ → Result Scenario ScenarioFault
+scenario_of text = if nat_lt TEXT_MOST (length text) then Err fault.TooLong else written text

@@ -1,14 +1,20 @@
-//! The names and addresses of further nodes: those that no node before has.
-ghost use Rattle.std.specs.Prelude.{◌≡◌, ◌||◌};
+//! The rules of the values of a table: what names and addresses a further node may have beside those that are there.
+ghost use Rattle.std.specs.Prelude.{◌≡◌, ◌==◌, ◌&&◌, ◌||◌, IfSome, ◌≤◌};
 ghost use Rattle.std.specs.List.{list_all, list_any};
 ghost use Rattle.td_base.specs.Ip4.{same_ip};
+ghost use Rattle.td_base.specs.Ip6.{same_ip6};
+ghost use Rattle.td_base.specs.Ep.{same_ep};
 ghost use Rattle.td_base.specs.Names.{same_name};
 ghost use Rattle.topology.specs.NodeNames.{is_name_byte, begins_with_letter, is_name};
-ghost use Rattle.scenario.specs.Fresh.{name_of, is_free_name, is_free_address, new_name, new_address};
+ghost use Rattle.scenario.specs.Fresh.{name_of, is_free_name, new_name, is_free_address, is_new_address, new_address, other_address, new_endpoint, is_free_six, is_new_six, new_six, is_free_inside, new_inside, kind_of, natural, idle_of, is_refresh, refresh_of};
 
-use crate::word_texts::ip4_from;
-use history::{ClientNode, NatNode, NativeNode, RelayNode, ServerNode, Topology};
-use td_base::{Ip4, NAME_LEN, Name, Policy, is_global};
+use history::{
+    ClientNode, LEAST_REFRESH, MOST_IDLE, MOST_REFRESH, NatNode, NativeNode, RelayNode, ServerNode,
+    Topology, ep_word, ip4_word, ip6_word,
+};
+use nat_kinds::NatKind;
+use td_base::{Ep, Ip4, Ip6, NAME_LEN, Name, Policy, is_global, is_global6};
+use teredo_addr::is_teredo;
 
 fn is_name_byte(byte: u8) -> bool
     ensures { result ≡ is_name_byte byte }
@@ -31,7 +37,7 @@ fn all_name_bytes(text: &[u8]) -> bool
     text.iter().all(|byte| is_name_byte(*byte))
 }
 
-#[tactic(auto, unfolding(history::specs::NodeNames::is_name))]
+#[tactic(auto, unfolding(topology::specs::NodeNames::is_name))]
 fn is_name(text: &[u8]) -> bool
     ensures { result ≡ is_name text.now }
 {
@@ -133,17 +139,176 @@ pub(crate) fn new_name(topology: &Topology, text: &str) -> Option<Name>
     Some(name)
 }
 
+fn is_new_address(topology: &Topology, ip: Ip4) -> bool
+    ensures { result ≡ is_new_address topology.now ip }
+{
+    is_global(Policy::Strict, ip) && is_free_address(topology, ip)
+}
+
 /// The address that a text gives to a further node.
 #[tactic(auto, unfolding(crate::specs::Fresh::new_address))]
 pub(crate) fn new_address(topology: &Topology, text: &str) -> Option<Ip4>
     ensures { result ≡ new_address topology.now text.now }
 {
-    let ip = ip4_from(text)?;
-    if !is_global(Policy::Strict, ip) {
-        return None;
-    }
-    if !is_free_address(topology, ip) {
+    let ip = ip4_word(text.as_bytes())?;
+    if !is_new_address(topology, ip) {
         return None;
     }
     Some(ip)
+}
+
+/// The second address that a text gives to a server.
+#[tactic(auto, unfolding(crate::specs::Fresh::other_address))]
+pub(crate) fn other_address(topology: &Topology, first: Ip4, text: &str) -> Option<Ip4>
+    ensures { result ≡ other_address topology.now first text.now }
+{
+    let ip = new_address(topology, text)?;
+    if first == ip {
+        return None;
+    }
+    Some(ip)
+}
+
+/// The endpoint that a text gives to a further relay.
+#[tactic(auto, unfolding(crate::specs::Fresh::new_endpoint))]
+pub(crate) fn new_endpoint(topology: &Topology, text: &str) -> Option<Ep>
+    ensures { result ≡ new_endpoint topology.now text.now }
+{
+    let at = ep_word(text.as_bytes())?;
+    if at.port == 0 {
+        return None;
+    }
+    if !is_new_address(topology, at.ip) {
+        return None;
+    }
+    Some(at)
+}
+
+fn is_six_of_relays(rows: &[RelayNode], ip: Ip6) -> bool
+    ensures { result ≡ list_any (λ row. same_ip6 ip row.six) rows.now }
+{
+    rows.iter().any(|row| ip == row.six)
+}
+
+fn is_six_of_natives(rows: &[NativeNode], ip: Ip6) -> bool
+    ensures { result ≡ list_any (λ row. same_ip6 ip row.six) rows.now }
+{
+    rows.iter().any(|row| ip == row.six)
+}
+
+fn is_free_six(topology: &Topology, ip: Ip6) -> bool
+    ensures { result ≡ is_free_six topology.now ip }
+{
+    !(is_six_of_relays(topology.relays(), ip) || is_six_of_natives(topology.natives(), ip))
+}
+
+fn is_new_six(topology: &Topology, ip: Ip6) -> bool
+    ensures { result ≡ is_new_six topology.now ip }
+{
+    is_global6(ip) && !is_teredo(ip) && is_free_six(topology, ip)
+}
+
+/// The IPv6 address that a text gives to a further node.
+#[tactic(auto, unfolding(crate::specs::Fresh::new_six))]
+pub(crate) fn new_six(topology: &Topology, text: &str) -> Option<Ip6>
+    ensures { result ≡ new_six topology.now text.now }
+{
+    let ip = ip6_word(text.as_bytes())?;
+    if !is_new_six(topology, ip) {
+        return None;
+    }
+    Some(ip)
+}
+
+fn is_inside_of(rows: &[ClientNode], nat: u16, inside: Ep) -> bool
+    ensures { result ≡ list_any (λ row. (nat == row.nat) && same_ep inside row.inside) rows.now }
+{
+    rows.iter()
+        .any(|row| nat == row.nat && inside == row.inside)
+}
+
+#[tactic(auto, unfolding(crate::specs::Fresh::is_free_inside))]
+fn is_free_inside(topology: &Topology, nat: u16, inside: Ep) -> bool
+    ensures { result ≡ is_free_inside topology.now nat inside }
+{
+    !is_inside_of(topology.clients(), nat, inside)
+}
+
+/// The endpoint that a text gives to a further client behind a NAT.
+#[tactic(auto, unfolding(crate::specs::Fresh::new_inside))]
+pub(crate) fn new_inside(topology: &Topology, nat: u16, text: &str) -> Option<Ep>
+    ensures { result ≡ new_inside topology.now nat text.now }
+{
+    let inside = ep_word(text.as_bytes())?;
+    if inside.port == 0 {
+        return None;
+    }
+    if !is_free_inside(topology, nat, inside) {
+        return None;
+    }
+    Some(inside)
+}
+
+/// The kind of NAT that a text names.
+#[tactic(auto, unfolding(crate::specs::Fresh::kind_of))]
+pub(crate) fn kind_of(text: &str) -> Option<NatKind>
+    ensures { result ≡ kind_of text.now }
+{
+    if text == "cone" {
+        return Some(NatKind::Cone);
+    }
+    if text == "restricted" {
+        return Some(NatKind::Restricted);
+    }
+    if text == "port" {
+        return Some(NatKind::Port);
+    }
+    if text == "symmetric" {
+        return Some(NatKind::Symmetric);
+    }
+    None
+}
+
+/// A whole number from 0.
+pub(crate) fn natural(number: i64) -> Option<u64>
+    ensures { result ≡ natural number }
+{
+    if number < 0 {
+        return None;
+    }
+    Some(number as u64)
+}
+
+/// How many milliseconds a mapping lives.
+#[tactic(auto, unfolding(crate::specs::Fresh::idle_of))]
+pub(crate) fn idle_of(number: i64) -> Option<u32>
+    ensures { result ≡ idle_of number }
+{
+    let ms = natural(number)?;
+    if ms == 0 {
+        return None;
+    }
+    if ms > u64::from(MOST_IDLE) {
+        return None;
+    }
+    Some(ms as u32)
+}
+
+fn is_refresh(low: u64, high: u64) -> bool
+    ensures { result ≡ is_refresh low high }
+{
+    u64::from(LEAST_REFRESH) <= low && low <= high && high <= u64::from(MOST_REFRESH)
+}
+
+/// The shortest and the longest time between two refreshes, in milliseconds.
+#[tactic(auto, unfolding(crate::specs::Fresh::refresh_of))]
+pub(crate) fn refresh_of(times: (i64, i64)) -> Option<(u32, u32)>
+    ensures { result ≡ refresh_of times }
+{
+    let low = natural(times.0)?;
+    let high = natural(times.1)?;
+    if !is_refresh(low, high) {
+        return None;
+    }
+    Some((low as u32, high as u32))
 }

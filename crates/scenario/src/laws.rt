@@ -1,10 +1,10 @@
 //! What holds of every scenario that a text is.
-ghost use Rattle.std.specs.Prelude.{◌≡◌, ℕ, List, Some};
+ghost use Rattle.std.specs.Prelude.{◌≡◌, ℕ, List, Ok};
 ghost use Rattle.topology.specs.Rules.{IsTopology};
 ghost use Rattle.history.specs.Scenario.{Scenario};
 ghost use Rattle.scenario.specs.Scenario.{scenario_of};
 
 /// The nodes of a scenario keep the rules of a topology.
 pub fn rules_kept()
-    ensures { (text : List ℕ) (s : Scenario) → scenario_of text ≡ Some s → IsTopology s.topology }
+    ensures { (text : List ℕ) (s : Scenario) → scenario_of text ≡ Ok s → IsTopology s.topology }
 {}

@@ -5,44 +5,52 @@
 //!
 //! # What the layer above may rely on
 //!
-//! - A text is one scenario or none. `specs/Scenario.antt` says which, as a function of its bytes, and `read`
-//!   answers exactly that, or that memory ran out.
-//! - The nodes are servers and NATs, and keep the rules of a topology: no two share a name or an address, and their
-//!   addresses are global. `rules_kept` says so of every text.
+//! - A text is one scenario, or has one first refusal with its path. `specs/Scenario.antt` says which, as a function of
+//!   its bytes, and `read` answers exactly that, or that memory ran out.
+//! - The nodes keep the rules of a topology: no two share a name or an address, their addresses are global, a client is
+//!   behind a NAT and asks a server, a native host has a relay. `rules_kept` says so of every text.
 //! - Each event of a scenario is the one that its text asks for, in order, and one that its nodes can be asked for.
+//! - `put_refusal_line` gives the line of a refusal: `specs/Refusals.antt`.
 //!
 //! # What it does not know
 //!
-//! What an event does, files, and what is printed.
+//! What an event does, files, and where its lines go.
 //!
 //! # Parts
 //!
 //! | module | holds | stated in |
 //! |---|---|---|
-//! | `reader` | `Scenario`, `ScenarioFault`, `read` | `specs/Scenario.antt` |
-//! | `table_keys` | what a table has at a key | `specs/Tables.antt` |
-//! | `fresh` | names and addresses that no node before has | `specs/Fresh.antt`, `specs/NodeName.antt` |
-//! | `server_tables`, `nat_tables` | the servers, the NATs | `specs/Servers.antt`, `specs/Nats.antt`, `specs/Built.antt` |
-//! | `event_lists` | the events | `specs/Scenario.antt` |
-//! | `word_texts` | addresses | `specs/Words.antt` |
+//! | `reader` | `Scenario`, `read` | `specs/Scenario.antt`, `Built.antt` |
+//! | `scenario_fault`, `refusal_line` | `ScenarioFault`, and its line | `specs/Refusals.antt` |
+//! | `path`, `place` | the path of a key | `specs/Paths.antt` |
+//! | `row` | what a table has at a key | `specs/Keys.antt` |
+//! | `node_kind` | the key, the length and the keys of each list | `specs/NodeKinds.antt` |
+//! | `fresh` | what names, addresses and numbers a further node may have | `specs/Fresh.antt`, `NodeName.antt` |
+//! | `node_rows` | a node for each kind of table | `specs/NodeRows.antt` |
+//! | `node_tables` | the five lists | `specs/NodeTables.antt`, `Filling.antt` |
+//! | `event_lists` | the events | `specs/EventLists.antt` |
 //! | `laws` | what holds of every scenario | |
 #![tactic(auto)]
 
 mod event_lists;
 mod fresh;
 mod laws;
-mod nat_tables;
-#[cfg(test)]
-mod nat_tests;
+mod node_kind;
+mod node_rows;
+mod node_tables;
+mod path;
+mod place;
 mod reader;
-mod server_tables;
-#[cfg(test)]
-mod server_tests;
-mod table_keys;
+mod refusal_line;
+mod row;
+mod scenario_fault;
 #[cfg(test)]
 mod tests;
-mod word_texts;
 
 pub use event_lists::MOST_EVENTS;
 pub use laws::rules_kept;
-pub use reader::{Scenario, ScenarioFault, TEXT_MOST, read};
+pub use node_rows::{REFRESH_HIGH, REFRESH_LOW};
+pub use path::{KEY_SHOWN, PATH_LEN, Path};
+pub use reader::{Scenario, TEXT_MOST, read};
+pub use refusal_line::put_refusal_line;
+pub use scenario_fault::ScenarioFault;

@@ -1,136 +1,351 @@
-//! Texts that are scenarios, and texts that are none.
-use crate::{ScenarioFault, read};
+//! Texts that are scenarios, and which refusal of a text is named.
+use crate::{ScenarioFault, put_refusal_line, read};
 use history::Event;
 use std::alloc::Global;
 use std::test::Fail;
-use td_base::Ip4;
+use td_base::{Ip4, LineBuf};
 
-/// A scenario of one server.
-pub const ONE_SERVER: &str = "seed = 7
-events = [\"stranger 198.51.100.7:40000 192.0.2.1:3544 00fF\", \"deliver 3\"]
+/// A scenario with a node of each kind.
+const EACH_KIND: &str = "seed = 7
+events = [\"stranger 198.51.100.7:40000 192.0.2.1:3544 00fF\", \"host a h1 01\"]
 [[server]]
 name = \"s1\"
 primary = \"192.0.2.1\"
 secondary = \"192.0.2.2\"
+[[nat]]
+name = \"n1\"
+kind = \"port\"
+external = \"198.51.100.1\"
+idle = 60000
+[[client]]
+name = \"a\"
+nat = \"n1\"
+inside = \"10.0.0.2:4000\"
+server = \"s1\"
+[[client]]
+name = \"b\"
+nat = \"n1\"
+inside = \"10.0.0.3:4000\"
+server = \"s1\"
+refresh = [1000, 30000]
+[[relay]]
+name = \"r1\"
+at = \"203.0.113.9:3545\"
+six = \"2001:db8::9\"
+[[native]]
+name = \"h1\"
+six = \"2001:db8::1\"
+relay = \"r1\"
 ";
 
-/// Whether a text is a scenario.
-pub fn is_scenario(alloc: Global, text: &str) -> Result<bool, ScenarioFault> {
-    match read(alloc, text.as_bytes()) {
-        Ok(_) => Ok(true),
-        Err(ScenarioFault::Unbuilt) => Ok(false),
-        Err(fault) => Err(fault),
+/// Puts the line of a text's refusal into a buffer, or `read` where it is a scenario.
+fn put_answer(alloc: Global, text: &[u8], line: &mut LineBuf) -> Result<(), Fail> {
+    line.clear();
+    match read(alloc, text) {
+        Ok(_) => line.push_text(b"read\n"),
+        Err(ScenarioFault::NoMemory) => return Err(Fail::new("out of memory")),
+        Err(fault) => put_refusal_line(&fault, line),
     }
+    Ok(())
+}
+
+/// The text with another part in place of the first such part.
+fn changed(alloc: Global, text: &str, old: &str, new: &str) -> Result<String, Fail> {
+    let Some((front, back)) = text.split_once(old) else {
+        return Err(Fail::new("no such part"));
+    };
+    Ok(format!(in alloc; "{front}{new}{back}")?)
 }
 
 #[test]
-fn reads_a_scenario(rt: HostRuntime) -> Result<(), Fail> {
-    let scenario = read(rt.alloc(), ONE_SERVER.as_bytes())?;
+fn reads_each_kind_of_node(rt: HostRuntime) -> Result<(), Fail> {
+    let scenario = read(rt.alloc(), EACH_KIND.as_bytes())?;
     assert_eq!(rt; scenario.seed, 7);
-    let [server] = scenario.topology.servers() else {
-        return Err(Fail::new("other servers"));
+    assert!(rt; !scenario.has_only_built());
+    let ([server], [nat], [a, b]) = (
+        scenario.topology.servers(),
+        scenario.topology.nats(),
+        scenario.topology.clients(),
+    ) else {
+        return Err(Fail::new("other servers, NATs or clients"));
     };
-    assert_eq!(rt; server.name.as_slice(), b"s1".as_slice());
-    assert!(rt; server.primary == Ip4([192, 0, 2, 1]));
-    assert!(rt; server.secondary == Ip4([192, 0, 2, 2]));
+    assert_eq!(rt; nat.name.as_slice(), b"n1".as_slice());
+    assert!(rt; server.secondary == Ip4([192, 0, 2, 2]) && nat.external == Ip4([198, 51, 100, 1]));
+    assert_eq!(rt; (a.nat, a.server, a.low, a.high), (1, 0, 22_500, 30_000));
+    assert_eq!(rt; (b.inside.port, b.low, b.high), (4_000, 1_000, 30_000));
+    let ([relay], [native]) = (scenario.topology.relays(), scenario.topology.natives()) else {
+        return Err(Fail::new("other relays or native hosts"));
+    };
+    assert_eq!(rt;
+        (
+            relay.at.port,
+            relay.six.0[15],
+            native.six.0[15],
+            native.relay
+        ),
+        (3_545, 9, 1, 4)
+    );
     let [
         Event::Stranger { src, dst, bytes },
-        Event::Deliver { number },
+        Event::Host { node, to: _, body },
     ] = scenario.events.as_slice()
     else {
         return Err(Fail::new("other events"));
     };
-    assert!(rt; src.ip == Ip4([198, 51, 100, 7]));
-    assert_eq!(rt; (src.port, dst.port), (40_000, 3_544));
-    assert!(rt; dst.ip == server.primary);
-    assert_eq!(rt; bytes.as_slice(), [0, 255].as_slice());
-    assert_eq!(rt; *number, 3);
+    assert_eq!(rt; (src.port, dst.port, *node), (40_000, 3_544, 2));
+    assert_eq!(rt;
+        (bytes.as_slice(), body.as_slice()),
+        ([0, 255].as_slice(), [1].as_slice())
+    );
     Ok(())
 }
 
 #[test]
-fn tells_events_apart(rt: HostRuntime) -> Result<(), Fail> {
-    let cases = [
-        ("deliver 0", true),
-        ("deliver 65535", true),
-        ("deliver 65536", false),
-        ("deliver 00", false),
-        ("deliver 07", false),
-        ("deliver +7", false),
-        ("deliver -1", false),
-        ("deliver", false),
-        ("deliver ", false),
-        ("deliver  7", false),
-        ("deliver 7 ", false),
-        ("deliver 7 8", false),
-        (" deliver 7", false),
-        ("Deliver 7", false),
-        ("next", true),
-        ("", false),
-        ("stranger 1.2.3.4:0 5.6.7.8:0 -", true),
-        ("stranger 10.0.0.1:65535 255.255.255.255:1 aBcDeF09", true),
-        ("stranger 1.2.3.4:65536 5.6.7.8:0 -", false),
-        ("stranger 1.2.3.4 5.6.7.8:0 -", false),
-        ("stranger 1.2.3.04:1 5.6.7.8:0 -", false),
-        ("stranger 1.2.3.4:1 5.6.7.8:0", false),
-        ("stranger 1.2.3.4:1 5.6.7.8:0 ", false),
-        ("stranger 1.2.3.4:1 5.6.7.8:0 0", false),
-        ("stranger 1.2.3.4:1 5.6.7.8:0 000", false),
-        ("stranger 1.2.3.4:1 5.6.7.8:0 0g", false),
-        ("stranger 1.2.3.4:1 5.6.7.8:0 --", false),
-        ("stranger 1.2.3.4:1 5.6.7.8:0 00 00", false),
-        ("stranger 1.2.3.4:1  5.6.7.8:0 00", false),
-    ];
-    for (event, wanted) in cases {
-        let text = format!(in rt.alloc(); "seed = 0\nevents = [\"{event}\"]\n")?;
-        assert_eq!(rt;
-            is_scenario(rt.alloc(), text.as_str())?,
-            wanted,
-            "at {event}"
-        );
+fn names_each_refusal(rt: HostRuntime) -> Result<(), Fail> {
+    let mut line = LineBuf::new();
+    for (old, new, wanted) in [
+        ("seed = 7", "seed = 7\nsede = 2", "scenario sede: key\n"),
+        ("seed = 7", "sede = 2\nseda = 7", "scenario seda: key\n"),
+        ("seed = 7", "\"\" = 7", "scenario : key\n"),
+        ("seed = 7", "\"a b\u{e9}\" = 7", "scenario a?b??: key\n"),
+        ("seed = 7", "", "scenario seed: key\n"),
+        ("seed = 7", "seed = true", "scenario seed: kind\n"),
+        ("seed = 7", "seed = -1", "scenario seed: range\n"),
+        (
+            "seed = 7",
+            "seed = 9223372036854775808",
+            "scenario: not toml\n",
+        ),
+        ("seed = 7", "seed = 7\nseed = 7", "scenario: not toml\n"),
+        ("seed = 7", "seed", "scenario: not toml\n"),
+        ("[[nat]]", "[nat]", "scenario nat: kind\n"),
+        (
+            "[[relay]]",
+            "[[relay]]\nport = 1\nold = 2",
+            "scenario relay[0].old: key\n",
+        ),
+        (
+            "name = \"b\"",
+            "name = 5",
+            "scenario client[1].name: kind\n",
+        ),
+        (
+            "name = \"b\"",
+            "name = \"1b\"",
+            "scenario client[1].name: name\n",
+        ),
+        (
+            "name = \"b\"",
+            "name = \"s1\"",
+            "scenario client[1].name: name\n",
+        ),
+        (
+            "nat = \"n1\"",
+            "nat = \"n9\"",
+            "scenario client[0].nat: name\n",
+        ),
+        (
+            "nat = \"n1\"",
+            "nat = \"s1\"",
+            "scenario client[0].nat: name\n",
+        ),
+        (
+            "server = \"s1\"",
+            "server = \"n1\"",
+            "scenario client[0].server: name\n",
+        ),
+        (
+            "relay = \"r1\"",
+            "relay = \"h1\"",
+            "scenario native[0].relay: name\n",
+        ),
+        (
+            "192.0.2.2",
+            "192.0.2.1",
+            "scenario server[0].secondary: range\n",
+        ),
+        (
+            "192.0.2.2",
+            "192.168.2.1",
+            "scenario server[0].secondary: range\n",
+        ),
+        (
+            "198.51.100.1\"",
+            "192.0.2.2\"",
+            "scenario nat[0].external: range\n",
+        ),
+        ("port\"", "full\"", "scenario nat[0].kind: range\n"),
+        ("60000", "0", "scenario nat[0].idle: range\n"),
+        ("60000", "10000001", "scenario nat[0].idle: range\n"),
+        ("60000", "1.5", "scenario nat[0].idle: kind\n"),
+        (
+            "10.0.0.3:4000",
+            "10.0.0.2:4000",
+            "scenario client[1].inside: range\n",
+        ),
+        (
+            "10.0.0.3:4000",
+            "10.0.0.3:0",
+            "scenario client[1].inside: range\n",
+        ),
+        (
+            "203.0.113.9:3545",
+            "203.0.113.9:0",
+            "scenario relay[0].at: range\n",
+        ),
+        (
+            "203.0.113.9",
+            "198.51.100.1",
+            "scenario relay[0].at: range\n",
+        ),
+        (
+            "2001:db8::9",
+            "2001:0:1::9",
+            "scenario relay[0].six: range\n",
+        ),
+        ("2001:db8::9", "fd00::9", "scenario relay[0].six: range\n"),
+        (
+            "2001:db8::1",
+            "2001:db8::9",
+            "scenario native[0].six: range\n",
+        ),
+        (
+            "[1000, 30000]",
+            "[1000]",
+            "scenario client[1].refresh: kind\n",
+        ),
+        (
+            "[1000, 30000]",
+            "[1000, 2000, 3000]",
+            "scenario client[1].refresh: kind\n",
+        ),
+        (
+            "[1000, 30000]",
+            "[1000, \"30000\"]",
+            "scenario client[1].refresh: kind\n",
+        ),
+        (
+            "[1000, 30000]",
+            "[999, 30000]",
+            "scenario client[1].refresh: range\n",
+        ),
+        (
+            "[1000, 30000]",
+            "[30001, 30000]",
+            "scenario client[1].refresh: range\n",
+        ),
+        (
+            "[1000, 30000]",
+            "[-1, 30000]",
+            "scenario client[1].refresh: range\n",
+        ),
+        (
+            "host a h1 01",
+            "next\", \"deliver x",
+            "scenario events[2] at 8: event\n",
+        ),
+        (
+            "host a h1 01",
+            "advance",
+            "scenario events[1] at 7: event\n",
+        ),
+        (
+            "host a h1 01",
+            "host c h1 01",
+            "scenario events[1] at 5: event\n",
+        ),
+        ("\"host a h1 01\"", "5", "scenario events: kind\n"),
+        ("events = [", "event = [", "scenario event: key\n"),
+        (
+            "name = \"h1\"",
+            "name = \"h2\"",
+            "scenario events[1] at 7: event\n",
+        ),
+        ("#", "#", "read\n"),
+    ] {
+        let text = if old == "#" {
+            format!(in rt.alloc(); "{EACH_KIND}{new}")?
+        } else {
+            changed(rt.alloc(), EACH_KIND, old, new)?
+        };
+        put_answer(rt.alloc(), text.as_str().as_bytes(), &mut line)?;
+        assert_eq!(rt; line.as_slice(), wanted.as_bytes(), "at {new}");
     }
+    put_answer(rt.alloc(), b"#\xff\n", &mut line)?;
+    assert_eq!(rt; line.as_slice(), b"scenario: not toml\n".as_slice());
     Ok(())
 }
+
+/// A fault each: a part of the scenario, and what stands in its place.
+const FAULTS: [(&str, &str, &str); 12] = [
+    ("seed = 7", "seed = 7\nzone = 1", "scenario zone: key\n"),
+    ("seed = 7", "seed = \"7\"", "scenario seed: kind\n"),
+    ("secondary", "other", "scenario server[0].other: key\n"),
+    ("\"192.0.2.1\"", "5", "scenario server[0].primary: kind\n"),
+    ("idle = 60000", "", "scenario nat[0].idle: key\n"),
+    (
+        "name = \"a\"",
+        "name = \"A\"",
+        "scenario client[0].name: name\n",
+    ),
+    (
+        "10.0.0.2:4000",
+        "10.0.0.2",
+        "scenario client[0].inside: range\n",
+    ),
+    (
+        "refresh",
+        "refreshes",
+        "scenario client[1].refreshes: key\n",
+    ),
+    ("2001:db8::9", "2001:0::9", "scenario relay[0].six: range\n"),
+    (
+        "relay = \"r1\"",
+        "relay = \"a\"",
+        "scenario native[0].relay: name\n",
+    ),
+    ("\"stranger ", "6, \"", "scenario events: kind\n"),
+    ("host a", "hosts a", "scenario events[1] at 0: event\n"),
+];
 
 #[test]
-fn tells_tables_apart(rt: HostRuntime) -> Result<(), Fail> {
-    let cases = [
-        ("seed = 0\nevents = []", true),
-        ("seed = 9223372036854775807\nevents = []", true),
-        ("seed = 9223372036854775808\nevents = []", false),
-        ("seed = -1\nevents = []", false),
-        ("seed = true\nevents = []", false),
-        ("seed = \"1\"\nevents = []", false),
-        ("events = []", false),
-        ("seed = 1", false),
-        ("seed = 1\nevents = [5]", false),
-        ("seed = 1\nevents = \"deliver 0\"", false),
-        ("seed = 1\nevents = []\nsede = 2", false),
-        ("seed = 1\nevents = []\nnat = []", true),
-        ("seed = 1\nevents = []\nnat = [5]", false),
-        ("seed = 1\nevents = []\nnat = {}", false),
-        ("seed = 1\nevents = []\nclient = []", false),
-        ("seed = 1\nevents = []\nrelay = []", false),
-        ("seed = 1\nevents = []\nnative = []", false),
-        ("seed = 1\nevents = []\nserver = []", true),
-        ("seed = 1\nevents = []\nserver = [5]", false),
-        ("seed = 1\nevents = []\nserver = {}", false),
-        ("seed = 1\nevents = []\nseed = 1", false),
-        ("seed = 1\nevents = [", false),
-    ];
-    for (text, wanted) in cases {
-        assert_eq!(rt; is_scenario(rt.alloc(), text)?, wanted, "at {text}");
+fn of_two_faults_the_first_is_named(rt: HostRuntime) -> Result<(), Fail> {
+    let mut line = LineBuf::new();
+    for (place, (old, new, wanted)) in FAULTS.into_iter().enumerate() {
+        let one = changed(rt.alloc(), EACH_KIND, old, new)?;
+        for (later_old, later_new, _) in FAULTS.into_iter().skip(place + 1) {
+            let both = changed(rt.alloc(), one.as_str(), later_old, later_new)?;
+            put_answer(rt.alloc(), both.as_str().as_bytes(), &mut line)?;
+            assert_eq!(rt;
+                line.as_slice(),
+                wanted.as_bytes(),
+                "at {new} and {later_new}"
+            );
+        }
     }
     Ok(())
 }
 
+/// A list of so many tables.
+fn rows(alloc: Global, list: &str, count: usize) -> Result<String, Fail> {
+    let mut text = format!(in alloc; "seed = 1\nevents = []\n")?;
+    for _ in 0..count {
+        text.push_str("[[")?;
+        text.push_str(list)?;
+        text.push_str("]]\n")?;
+    }
+    Ok(text)
+}
+
+/// A text of so many bytes of one kind, after a beginning.
 fn repeated(
     alloc: Global,
+    begin: &str,
     part: &str,
     count: usize,
     end: &str,
-) -> Result<String, std::alloc::AllocError> {
-    let mut text = String::new(alloc);
+) -> Result<String, Fail> {
+    let mut text = format!(in alloc; "{begin}")?;
     for _ in 0..count {
         text.push_str(part)?;
     }
@@ -140,66 +355,33 @@ fn repeated(
 
 #[test]
 fn keeps_its_limits(rt: HostRuntime) -> Result<(), Fail> {
-    for (count, wanted) in [(1_400, true), (1_401, false)] {
-        let bytes = repeated(rt.alloc(), "0a", count, "")?;
-        let text = format!(in rt.alloc();
-            "seed = 1\nevents = [\"stranger 1.2.3.4:5 1.2.3.4:6 {bytes}\"]\n"
-        )?;
-        assert_eq!(rt;
-            is_scenario(rt.alloc(), text.as_str())?,
-            wanted,
-            "at {count} bytes"
-        );
-    }
-    for (count, wanted) in [(50_000, true), (50_001, false)] {
-        let events = repeated(rt.alloc(), "\"deliver 0\",", count, "")?;
-        let text = format!(in rt.alloc(); "seed = 1\nevents = [{events}]\n")?;
-        assert_eq!(rt;
-            is_scenario(rt.alloc(), text.as_str())?,
-            wanted,
-            "at {count} events"
-        );
-    }
-    let end = "seed = 1\nevents = []\n";
-    for (count, wanted) in [
-        (4_194_304 - end.len(), true),
-        (4_194_305 - end.len(), false),
+    let mut line = LineBuf::new();
+    for (list, most) in [
+        ("server", 8),
+        ("nat", 64),
+        ("client", 64),
+        ("relay", 4),
+        ("native", 64),
     ] {
-        let text = repeated(rt.alloc(), " ", count, end)?;
-        assert_eq!(rt;
-            is_scenario(rt.alloc(), text.as_str())?,
-            wanted,
-            "after {count} spaces"
-        );
-    }
-    for (count, wanted) in [(8, true), (9, false)] {
-        let mut text = repeated(rt.alloc(), "", 0, end)?;
-        for i in 0..count {
-            let server = format!(in rt.alloc();
-                "[[server]]\nname = \"s{i}\"\nprimary = \"192.0.2.{i}\"\nsecondary = \"198.51.100.{i}\"\n"
-            )?;
-            text.push_str(server.as_str())?;
+        for (count, said) in [(most, "[0].name: key\n"), (most + 1, ": range\n")] {
+            let text = rows(rt.alloc(), list, count)?;
+            put_answer(rt.alloc(), text.as_str().as_bytes(), &mut line)?;
+            let wanted = format!(in rt.alloc(); "scenario {list}{said}")?;
+            assert_eq!(rt; line.as_slice(), wanted.as_str().as_bytes(), "at {count}");
         }
-        assert_eq!(rt;
-            is_scenario(rt.alloc(), text.as_str())?,
-            wanted,
-            "at {count} servers"
-        );
     }
-    for (count, wanted) in [(64, true), (65, false)] {
-        let mut text = repeated(rt.alloc(), "", 0, end)?;
-        for i in 0..count {
-            let nat = format!(in rt.alloc();
-                "[[nat]]\nname = \"n{i}\"\nkind = \"cone\"\nexternal = \"198.51.100.{i}\"\nidle = 1\n"
-            )?;
-            text.push_str(nat.as_str())?;
-        }
-        assert_eq!(rt;
-            is_scenario(rt.alloc(), text.as_str())?,
-            wanted,
-            "at {count} NATs"
-        );
+    let head = "seed = 1\nevents = [";
+    for (begin, part, count, end, wanted) in [
+        (head, "\"next\",", 50_000, "]", "read\n"),
+        (head, "\"next\",", 50_001, "]", "scenario events: range\n"),
+        (head, "\"\",", 50_001, "]", "scenario events: range\n"),
+        ("", " ", 4_194_304, "", "scenario seed: key\n"),
+        ("", " ", 4_194_305, "", "scenario: too long\n"),
+        (head, "[", 100, "]", "scenario: not toml\n"),
+    ] {
+        let text = repeated(rt.alloc(), begin, part, count, end)?;
+        put_answer(rt.alloc(), text.as_str().as_bytes(), &mut line)?;
+        assert_eq!(rt; line.as_slice(), wanted.as_bytes(), "at {count}");
     }
-    assert!(rt; read(rt.alloc(), b"seed = 1\nevents = []\n#\xff\n").is_err());
     Ok(())
 }

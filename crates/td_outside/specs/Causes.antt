@@ -6,16 +6,16 @@ abbrev pub count_end : ℕ
 count_end = 2 ^ 64 - 1
 
 -- one more, up to where it stops
-abbrev pub counted : ℕ → ℕ
-counted n = min (n + 1) count_end
+abbrev pub raised : ℕ → ℕ
+raised n = min (n + 1) count_end
 
 -- one more where the call failed
-abbrev pub counted_if : Bool → ℕ → ℕ
-counted_if failed n = if failed then counted n else n
+abbrev pub raised_if : Bool → ℕ → ℕ
+raised_if failed n = if failed then raised n else n
 
 -- the count is greater than before, or stands where it stops
 abbrev pub Rose : ℕ → ℕ → Type 0
-Rose before now = counted before ≤ now
+Rose before now = raised before ≤ now
 
 -- the count rises where a failure is answered, and stays where none is
 pub record HasCause {T E : Type 0} (before now : ℕ) (result : Result T E) : Type 0 where

@@ -35,9 +35,9 @@ abbrev pub told_nothing : Told
 told_nothing = record { coming = None; taken = None; attempts = None }
 
 -- an arrival within the buffer
-abbrev pub Fits : Arrival → Type 0
-Fits (Got _ _ len) = len ≤ DATAGRAM_MAX
-Fits Idle = ⊤
+abbrev pub FitsBuffer : Arrival → Type 0
+FitsBuffer (Got _ _ len) = len ≤ DATAGRAM_MAX
+FitsBuffer Idle = ⊤
 
 -- what came, by the answer and the buffer behind it
 abbrev pub came_by : List ℕ → Arrival → Came
@@ -53,12 +53,12 @@ abbrev pub open_on : Ip4 → Ip4 → Option Addresses
 open_on primary secondary = Some (both_at primary secondary)
 
 -- the first that is still to come, or nothing where none is left
-abbrev pub next_of : List Came → Came
-next_of coming = slice_index_or coming 0 Nothing
+abbrev pub next_came : List Came → Came
+next_came coming = slice_index_or coming 0 Nothing
 
 -- a receiving call that took what came
 pub record Receives (old new : Told) (came : Came) : Type 0 where
-  pub coming : Moves old.coming new.coming (λ before after. (came ≡ next_of before) × (after ≡ drop 1 before))
+  pub coming : Moves old.coming new.coming (λ before after. (came ≡ next_came before) × (after ≡ drop 1 before))
   pub taken : Gains old.taken new.taken came
   pub attempts : Stays old.attempts new.attempts
 

@@ -5,9 +5,9 @@ use Rattle.td_outside.specs.declared.link.Addresses.{Addresses}
 use Rattle.td_base.specs.declared.datagram.TheConstants.{DATAGRAM_MAX}
 use Rattle.td_outside.specs.declared.mem_arrival.MemArrival.{MemArrival}
 use Rattle.td_outside.specs.declared.mem_arrival.MemArrival.TheVariants.{Got, Idle}
-use Rattle.td_outside.specs.Causes.{counted, count_end}
-use Rattle.td_outside.specs.Calls.{Calls, is_due, after_call}
-use Rattle.td_outside.specs.Link.{Came, Datagram, Nothing, Attempt, Told, next_of}
+use Rattle.td_outside.specs.Causes.{raised, count_end}
+use Rattle.td_outside.specs.Calls.{Calls, fails_next, after_call}
+use Rattle.td_outside.specs.Link.{Came, Datagram, Nothing, Attempt, Told, next_came}
 
 -- a link that receives what it was made with, and keeps as many attempts as there is room for
 pub record Recorded : Type 0 where
@@ -19,13 +19,13 @@ pub record Recorded : Type 0 where
   pub receives : Calls
   pub sends : Calls
 
-abbrev pub told_of : Recorded → Told
-told_of link = record { coming = Some link.coming; taken = link.taken; attempts = link.attempts }
+abbrev pub lists_of : Recorded → Told
+lists_of link = record { coming = Some link.coming; taken = link.taken; attempts = link.attempts }
 
 -- what an arrival gives: a longer datagram is cut
-abbrev pub came_of : MemArrival → Came
-came_of (Got side from bytes) = Datagram side from (take DATAGRAM_MAX bytes)
-came_of Idle = Nothing
+abbrev pub came_from : MemArrival → Came
+came_from (Got side from bytes) = Datagram side from (take DATAGRAM_MAX bytes)
+came_from Idle = Nothing
 
 -- what was taken, told as long as the calls of recv can be counted
 abbrev pub told_taken : ℕ → List Came → Option (List Came)
@@ -37,17 +37,17 @@ told_attempts is_over attempts = if is_over then None else Some attempts
 
 -- what was taken after one more call of recv, which took these
 abbrev pub taken_with : Recorded → List Came → Option (List Came)
-taken_with link more = option_and_then (λ taken. told_taken (counted link.receives.made) (taken ++ more)) link.taken
+taken_with link more = option_and_then (λ taken. told_taken (raised link.receives.made) (taken ++ more)) link.taken
 
 -- the link after a call of recv
 abbrev pub received : Recorded → Recorded
-received link = if is_due link.receives
+received link = if fails_next link.receives
     then record link { taken = taken_with link []; receives = after_call link.receives true }
-    else record link { coming = drop 1 link.coming; taken = taken_with link (next_of link.coming ∷ []); receives = after_call link.receives false }
+    else record link { coming = drop 1 link.coming; taken = taken_with link (next_came link.coming ∷ []); receives = after_call link.receives false }
 
 -- the link after a call of send
 abbrev pub sent : Recorded → Attempt → Recorded
 sent link made = record link {
   attempts = option_and_then (λ attempts. told_attempts (length attempts == link.room) (attempts ++ made ∷ [])) link.attempts;
-  sends = after_call link.sends (is_due link.sends);
+  sends = after_call link.sends (fails_next link.sends);
 }

@@ -1,6 +1,6 @@
 -- What several calls in a row do to something that may be told.
 use Rattle.std.proofs.Common.{◌+◌, ℕ, List, [], ◌++◌, Option, Some, None, refl, sym, ap, subst, ◌∙◌, append_assoc, append-nil, arith}
-use Rattle.td_outside.specs.Moves.{Moves, Stays, Grows, RisesBy}
+use Rattle.td_outside.specs.Moves.{Moves, Stays, GainsAll, RisesBy}
 
 -- with no call it stays
 pub Stays-refl : {A : Type 0} (a : Option A) → Stays a a
@@ -28,17 +28,17 @@ Moves-Stays P None (Some y) (Some z) p q = absurd p
 Moves-Stays {A} P (Some x) (Some y) (Some z) p q = subst (λ (v : A). P x v) (sym q) p
 
 -- a list that stayed grew by nothing
-pub Grows-nil : {A : Type 0} (a b : Option (List A)) → Stays a b → Grows a b []
-Grows-nil a None p = tt
-Grows-nil None (Some y) p = absurd p
-Grows-nil (Some x) (Some y) p = p ∙ sym (append-nil x)
+pub GainsAll-nil : {A : Type 0} (a b : Option (List A)) → Stays a b → GainsAll a b []
+GainsAll-nil a None p = tt
+GainsAll-nil None (Some y) p = absurd p
+GainsAll-nil (Some x) (Some y) p = p ∙ sym (append-nil x)
 
 -- a list that grew twice grew by both
-pub Grows-append : {A : Type 0} (a b c : Option (List A)) (xs ys : List A) → Grows a b xs → Grows b c ys → Grows a c (xs ++ ys)
-Grows-append a b None xs ys p q = tt
-Grows-append a None (Some z) xs ys p q = absurd q
-Grows-append None (Some y) (Some z) xs ys p q = absurd p
-Grows-append {A} (Some x) (Some y) (Some z) xs ys p q = q ∙ ap (λ (l : List A). l ++ ys) p ∙ append_assoc x xs ys
+pub GainsAll-append : {A : Type 0} (a b c : Option (List A)) (xs ys : List A) → GainsAll a b xs → GainsAll b c ys → GainsAll a c (xs ++ ys)
+GainsAll-append a b None xs ys p q = tt
+GainsAll-append a None (Some z) xs ys p q = absurd q
+GainsAll-append None (Some y) (Some z) xs ys p q = absurd p
+GainsAll-append {A} (Some x) (Some y) (Some z) xs ys p q = q ∙ ap (λ (l : List A). l ++ ys) p ∙ append_assoc x xs ys
 
 -- a number that rose twice rose by both
 pub RisesBy-add : (a b c : Option ℕ) (m n : ℕ) → RisesBy a b m → RisesBy b c n → RisesBy a c (m + n)

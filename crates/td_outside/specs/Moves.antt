@@ -12,12 +12,12 @@ abbrev pub Stays : {A : Type 0} → Option A → Option A → Type 0
 Stays old new = Moves old new (λ before after. after ≡ before)
 
 -- a list grows by these at its end
-abbrev pub Grows : {A : Type 0} → Option (List A) → Option (List A) → List A → Type 0
-Grows old new xs = Moves old new (λ before after. after ≡ before ++ xs)
+abbrev pub GainsAll : {A : Type 0} → Option (List A) → Option (List A) → List A → Type 0
+GainsAll old new xs = Moves old new (λ before after. after ≡ before ++ xs)
 
 -- a list grows by one at its end
 abbrev pub Gains : {A : Type 0} → Option (List A) → Option (List A) → A → Type 0
-Gains old new x = Grows old new (x ∷ [])
+Gains old new x = GainsAll old new (x ∷ [])
 
 -- a number rises by this one
 abbrev pub RisesBy : Option ℕ → Option ℕ → ℕ → Type 0

@@ -2,7 +2,7 @@
 use Rattle.std.specs.Prelude.{ℕ, Bool, if◌then◌else◌, Option, None}
 use Rattle.td_base.specs.declared.ipv4.Ip4.{Ip4}
 use Rattle.td_outside.specs.declared.link.Addresses.{Addresses}
-use Rattle.td_outside.specs.Causes.{counted_if}
+use Rattle.td_outside.specs.Causes.{raised_if}
 use Rattle.td_outside.specs.Link.{open_on}
 
 -- the addresses that it is open on, and how often a call failed
@@ -15,13 +15,13 @@ pub record Pair : Type 0 where
 abbrev pub pair_opened : Pair → Ip4 → Ip4 → Bool → Pair
 pair_opened pair primary secondary failed = record pair {
   addresses = if failed then None else open_on primary secondary;
-  recv_faults = counted_if failed pair.recv_faults;
+  recv_faults = raised_if failed pair.recv_faults;
 }
 
 -- the pair after a call of recv
 abbrev pub pair_received : Pair → Bool → Pair
-pair_received pair failed = record pair { recv_faults = counted_if failed pair.recv_faults }
+pair_received pair failed = record pair { recv_faults = raised_if failed pair.recv_faults }
 
 -- the pair after a call of send
 abbrev pub pair_sent : Pair → Bool → Pair
-pair_sent pair failed = record pair { send_faults = counted_if failed pair.send_faults }
+pair_sent pair failed = record pair { send_faults = raised_if failed pair.send_faults }

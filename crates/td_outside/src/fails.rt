@@ -1,7 +1,7 @@
 //! The answer of an outside call that failed, and the calls at which a form in memory fails.
 ghost use Rattle.std.specs.Prelude.{◌≡◌, ◌≤◌, IfOk, IsErr, ◌↔◌, IsTrue};
-ghost use Rattle.td_outside.specs.Causes.{counted, HasCause};
-ghost use Rattle.td_outside.specs.Calls.{Calls, is_due, after_call};
+ghost use Rattle.td_outside.specs.Causes.{raised, HasCause};
+ghost use Rattle.td_outside.specs.Calls.{Calls, fails_next, after_call};
 
 use std::alloc::Global;
 use std::marker::Model;
@@ -40,8 +40,8 @@ impl Fails {
     // Counts a call, which fails where it is listed.
     pub(crate) fn call(&mut self) -> Result<(), Failed>
         ensures cause { HasCause self.old.faults self.new.faults result }
-        ensures due { IsErr result ↔ IsTrue (is_due self.old) }
-        ensures counts { self.new ≡ after_call self.old (is_due self.old) }
+        ensures due { IsErr result ↔ IsTrue (fails_next self.old) }
+        ensures counts { self.new ≡ after_call self.old (fails_next self.old) }
     {
         let due = self.listed.contains(&self.made);
         self.made = self.made.saturating_add(1);
@@ -54,7 +54,7 @@ impl Fails {
     // Counts a fault of the call that was counted last.
     pub(crate) fn fault(&mut self) -> Failed
         ensures later { self.old.faults ≤ self.new.faults }
-        ensures counts { self.new ≡ record self.old { faults = counted self.old.faults } }
+        ensures counts { self.new ≡ record self.old { faults = raised self.old.faults } }
     {
         self.faults = self.faults.saturating_add(1);
         Failed

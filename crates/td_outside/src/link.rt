@@ -2,7 +2,7 @@
 ghost use Rattle.std.specs.Prelude.{◌≡◌, ◌≤◌, ℕ, List, Option, Some, length, is_ok, IsOk, IfOk, OnOk, MatchResult};
 ghost use Rattle.td_outside.specs.Causes.{HasCause};
 ghost use Rattle.td_outside.specs.declared.link.Addresses.{Addresses};
-ghost use Rattle.td_outside.specs.Link.{Told, Receives, Sends, KeepsTold, attempt, came_by, both_at, open_on, Fits};
+ghost use Rattle.td_outside.specs.Link.{Told, Receives, Sends, KeepsTold, attempt, came_by, both_at, open_on, FitsBuffer};
 ghost use Rattle.td_outside.specs.Moves.{Stays, Gains};
 
 use crate::Failed;
@@ -52,7 +52,7 @@ pub trait Link {
 
     /// Takes the next datagram, or answers that there is none.
     fn recv(&mut self, buf: &mut [u8; DATAGRAM_MAX]) -> Result<Arrival, Failed>
-        ensures room { IfOk result (λ arrival. Fits arrival) }
+        ensures room { IfOk result (λ arrival. FitsBuffer arrival) }
         ensures lists { MatchResult result
             (λ arrival. Receives (told self.old) (told self.new) (came_by buf.new arrival))
             (λ _. KeepsTold (told self.old) (told self.new)) }

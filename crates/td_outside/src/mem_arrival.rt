@@ -1,7 +1,7 @@
 //! What a link in memory receives.
 ghost use Rattle.std.specs.Prelude.{◌≡◌, ◌≤◌, take};
-ghost use Rattle.td_outside.specs.Link.{Fits, came_by};
-ghost use Rattle.td_outside.specs.MemLink.{came_of};
+ghost use Rattle.td_outside.specs.Link.{FitsBuffer, came_by};
+ghost use Rattle.td_outside.specs.MemLink.{came_from};
 
 use crate::{Arrival, DATAGRAM_MAX, Octets};
 use td_base::{Ep, Side};
@@ -25,8 +25,8 @@ fn copy_front(bytes: &[u8], buf: &mut [u8; DATAGRAM_MAX]) -> usize
 
 /// Gives an arrival.
 pub(crate) fn give(arrival: &MemArrival, buf: &mut [u8; DATAGRAM_MAX]) -> Arrival
-    ensures room { Fits result }
-    ensures given { came_by buf.new result ≡ came_of arrival.now }
+    ensures room { FitsBuffer result }
+    ensures given { came_by buf.new result ≡ came_from arrival.now }
 {
     match arrival {
         MemArrival::Got { side, from, bytes } => Arrival::Got {

@@ -1,9 +1,9 @@
 //! A link in memory.
 ghost use Rattle.std.specs.Prelude.{◌≡◌, ◌≤◌, ◌<◌, ◌+◌, ◌-◌, ◌^◌, ◌↔◌, ℕ, List, [], ◌∷◌, ◌++◌, Option, Some, None, length, take, drop, map, replicate, is_ok, IsOk, IsErr, IsTrue, IfOk, OnOk, nat_lt, if◌then◌else◌, IfSome, MatchResult, vec_capacity};
 ghost use Rattle.td_outside.specs.Causes.{HasCause};
-ghost use Rattle.td_outside.specs.Calls.{is_due, after_call};
-ghost use Rattle.td_outside.specs.Link.{Nothing, Attempt, attempt, came_by, open_on, next_of, Fits};
-ghost use Rattle.td_outside.specs.MemLink.{told_of, came_of, received, sent};
+ghost use Rattle.td_outside.specs.Calls.{fails_next, after_call};
+ghost use Rattle.td_outside.specs.Link.{Nothing, Attempt, attempt, came_by, open_on, next_came, FitsBuffer};
+ghost use Rattle.td_outside.specs.MemLink.{lists_of, came_from, received, sent};
 
 use crate::fails::Fails;
 use crate::mem_arrival::give;
@@ -32,14 +32,14 @@ pub struct MemLink {
 impl Model for MemLink {
     ghost use Rattle.std.specs.Prelude.{◌≡◌, ◌≤◌, ◌<◌, ◌++◌, length, take, drop, map, replicate, vec_capacity};
     ghost use Rattle.td_outside.specs.Link.{Nothing};
-    ghost use Rattle.td_outside.specs.MemLink.{Recorded, came_of, told_taken, told_attempts};
+    ghost use Rattle.td_outside.specs.MemLink.{Recorded, came_from, told_taken, told_attempts};
 
     ghost Value = { Recorded };
 
     ghost view = { λ s. record {
       addresses = s.on;
-      coming = drop s.at (map came_of s.arrivals.items);
-      taken = told_taken s.receives.made (take s.at (map came_of s.arrivals.items) ++ replicate s.idle Nothing);
+      coming = drop s.at (map came_from s.arrivals.items);
+      taken = told_taken s.receives.made (take s.at (map came_from s.arrivals.items) ++ replicate s.idle Nothing);
       attempts = told_attempts s.is_over s.attempts.items;
       room = s.room;
       receives = s.receives;
@@ -79,7 +79,7 @@ impl MemLink {
     ) -> Result<MemLink, NoMemory>
         ensures made { IfOk result (λ s. s ≡ record {
           addresses = None;
-          coming = map came_of arrivals.items;
+          coming = map came_from arrivals.items;
           taken = Some [];
           attempts = Some [];
           room = room;
@@ -116,7 +116,7 @@ impl Link for MemLink {
 
     ghost openings = { λ s. None };
 
-    ghost told = { told_of };
+    ghost told = { lists_of };
 
     ghost recv_faults = { λ s. s.receives.faults };
 
@@ -131,10 +131,10 @@ impl Link for MemLink {
     }
 
     fn recv(&mut self, buf: &mut [u8; DATAGRAM_MAX]) -> Result<Arrival, Failed>
-        ensures room { IfOk result (λ arrival. Fits arrival) }
+        ensures room { IfOk result (λ arrival. FitsBuffer arrival) }
         ensures cause { HasCause self.old.receives.faults self.new.receives.faults result }
-        ensures due { IsErr result ↔ IsTrue (is_due self.old.receives) }
-        ensures came { IfOk result (λ arrival. came_by buf.new arrival ≡ next_of self.old.coming) }
+        ensures due { IsErr result ↔ IsTrue (fails_next self.old.receives) }
+        ensures came { IfOk result (λ arrival. came_by buf.new arrival ≡ next_came self.old.coming) }
         ensures state { self.new ≡ received self.old }
     {
         self.receives.call()?;
@@ -149,7 +149,7 @@ impl Link for MemLink {
     fn send(&mut self, side: Side, to: Ep, bytes: &[u8]) -> Result<(), Failed>
         requires most { length bytes.now ≤ DATAGRAM_MAX }
         ensures cause { HasCause self.old.sends.faults self.new.sends.faults result }
-        ensures due { IsErr result ↔ IsTrue (is_due self.old.sends) }
+        ensures due { IsErr result ↔ IsTrue (fails_next self.old.sends) }
         ensures state { self.new ≡ sent self.old (attempt side to bytes.now (is_ok result)) }
     {
         let answer = self.sends.call();

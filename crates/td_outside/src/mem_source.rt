@@ -1,8 +1,8 @@
 //! A source in memory.
 ghost use Rattle.std.specs.Prelude.{◌≡◌, ◌≤◌, ◌<◌, ◌+◌, ◌-◌, ◌↔◌, ℕ, List, [], ◌++◌, Option, Some, None, Ok, Err, length, drop, take, IsErr, IsTrue, IfOk, if◌then◌else◌, string_bytes};
 ghost use Rattle.td_outside.specs.Causes.{HasCause};
-ghost use Rattle.td_outside.specs.Calls.{is_due, after_call};
-ghost use Rattle.td_outside.specs.Streams.{OneName, bytes_of, told_by, given_by};
+ghost use Rattle.td_outside.specs.Calls.{fails_next, after_call};
+ghost use Rattle.td_outside.specs.Streams.{OneName, named_bytes, told_by, given_by};
 
 use crate::fails::Fails;
 use crate::{Failed, Source};
@@ -74,10 +74,10 @@ impl Source for MemSource {
 
     fn open(&mut self, name: &str) -> Result<(), Failed>
         ensures cause { HasCause self.old.calls.faults self.new.calls.faults result }
-        ensures due { IsErr result ↔ IsTrue (is_due self.old.calls) }
+        ensures due { IsErr result ↔ IsTrue (fails_next self.old.calls) }
         ensures state { self.new ≡ record self.old {
-          left = if is_due self.old.calls then [] else bytes_of self.old name.now;
-          calls = after_call self.old.calls (is_due self.old.calls);
+          left = if fails_next self.old.calls then [] else named_bytes self.old name.now;
+          calls = after_call self.old.calls (fails_next self.old.calls);
         } }
     {
         self.at = self.bytes.len();
@@ -91,12 +91,12 @@ impl Source for MemSource {
     fn read(&mut self, buf: &mut [u8]) -> Result<usize, Failed>
         requires { 0 < length buf.old }
         ensures cause { HasCause self.old.calls.faults self.new.calls.faults result }
-        ensures due { IsErr result ↔ IsTrue (is_due self.old.calls) }
+        ensures due { IsErr result ↔ IsTrue (fails_next self.old.calls) }
         ensures count { IfOk result (λ n. n ≡ length (given_by self.old (length buf.old))) }
         ensures bytes { buf.new ≡ given_by self.old (length buf.old) ++ drop (length (given_by self.old (length buf.old))) buf.old }
         ensures state { self.new ≡ record self.old {
           left = drop (length (given_by self.old (length buf.old))) self.old.left;
-          calls = after_call self.old.calls (is_due self.old.calls);
+          calls = after_call self.old.calls (fails_next self.old.calls);
         } }
     {
         self.fails.call()?;

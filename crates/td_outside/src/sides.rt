@@ -2,7 +2,7 @@
 ghost use Rattle.std.specs.Prelude.{◌≡◌, ◌≤◌, ◌*◌, ◌-◌, IfOk};
 ghost use Rattle.std.specs.Duration.{as_nanos};
 ghost use Rattle.std.specs.Time.{instant_nanos};
-ghost use Rattle.td_outside.specs.Link.{Fits};
+ghost use Rattle.td_outside.specs.Link.{FitsBuffer};
 
 use crate::{Addresses, Arrival, DATAGRAM_MAX};
 use mio::net::UdpSocket;
@@ -79,7 +79,7 @@ fn ep_of(from: SocketAddrV4) -> Ep {
 // What a socket gave, `Idle` where it had nothing.
 fn arrival_of(side: Side, got: io::Result<(usize, SocketAddr)>) -> io::Result<Arrival>
     requires { IfOk got (λ r. r.0 ≤ DATAGRAM_MAX) }
-    ensures { IfOk result (λ arrival. Fits arrival) }
+    ensures { IfOk result (λ arrival. FitsBuffer arrival) }
 {
     match got {
         Ok((len, SocketAddr::V4(from))) => Ok(Arrival::Got {
@@ -119,14 +119,14 @@ impl Sides {
     }
 
     fn ask(&self, side: Side, buf: &mut [u8; DATAGRAM_MAX]) -> io::Result<Arrival>
-        ensures { IfOk result (λ arrival. Fits arrival) }
+        ensures { IfOk result (λ arrival. FitsBuffer arrival) }
     {
         arrival_of(side, self.socket(side).recv_from(buf))
     }
 
     // Asks the side whose turn it is.
     fn ask_first(&mut self, buf: &mut [u8; DATAGRAM_MAX]) -> io::Result<Arrival>
-        ensures { IfOk result (λ arrival. Fits arrival) }
+        ensures { IfOk result (λ arrival. FitsBuffer arrival) }
     {
         let arrival = self.ask(self.first, buf)?;
         if let Arrival::Got { .. } = arrival {
@@ -141,7 +141,7 @@ impl Sides {
     // Asks both sides without waiting. Two busy sides give a datagram each in turn. Where one has nothing the other
     // leads, since each question is a call of the system's: it gives a few datagrams before the first is asked again.
     fn ask_both(&mut self, buf: &mut [u8; DATAGRAM_MAX]) -> io::Result<Arrival>
-        ensures { IfOk result (λ arrival. Fits arrival) }
+        ensures { IfOk result (λ arrival. FitsBuffer arrival) }
     {
         match self.ask_first(buf)? {
             Arrival::Idle => {
@@ -185,7 +185,7 @@ impl Sides {
         clock: &C,
         buf: &mut [u8; DATAGRAM_MAX],
     ) -> io::Result<Arrival>
-        ensures { IfOk result (λ arrival. Fits arrival) }
+        ensures { IfOk result (λ arrival. FitsBuffer arrival) }
     {
         let start = Instant::now(clock)?;
         let mut left = time_left(start, start);
@@ -209,7 +209,7 @@ impl Sides {
         clock: &C,
         buf: &mut [u8; DATAGRAM_MAX],
     ) -> io::Result<Arrival>
-        ensures { IfOk result (λ arrival. Fits arrival) }
+        ensures { IfOk result (λ arrival. FitsBuffer arrival) }
     {
         if self.watched && self.streak >= STREAK_MAX {
             self.unwatch()?;

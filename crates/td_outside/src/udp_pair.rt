@@ -1,7 +1,7 @@
 //! The link over two sockets of the system.
 ghost use Rattle.std.specs.Prelude.{◌≡◌, ◌≤◌, ◌↔◌, IsTrue, None, length, is_some, is_err, IsOk, IsErr, IfOk};
 ghost use Rattle.td_outside.specs.Causes.{HasCause};
-ghost use Rattle.td_outside.specs.Link.{Fits, open_on, told_nothing};
+ghost use Rattle.td_outside.specs.Link.{FitsBuffer, open_on, told_nothing};
 ghost use Rattle.td_outside.specs.UdpPair.{Pair, pair_opened, pair_received, pair_sent};
 
 use crate::sides::Sides;
@@ -97,7 +97,7 @@ impl<R: Net + AllocGlobal + Clock> Link for UdpPair<'_, R> {
     }
 
     fn recv(&mut self, buf: &mut [u8; DATAGRAM_MAX]) -> Result<Arrival, Failed>
-        ensures room { IfOk result (λ arrival. Fits arrival) }
+        ensures room { IfOk result (λ arrival. FitsBuffer arrival) }
         ensures shut { self.old.addresses ≡ None → IsErr result }
         ensures cause { HasCause self.old.recv_faults self.new.recv_faults result }
         ensures state { self.new ≡ pair_received self.old (is_err result) }

@@ -3,8 +3,8 @@ use Rattle.std.specs.Prelude.{◌≡◌, ℕ, List, [], ◌∷◌, ◌⊎◌, if
 use Rattle.std.specs.Io.KnownBytes.{Appends, Keeps}
 use Rattle.td_outside.specs.Causes.{Rose}
 use Rattle.history.specs.Scenario.{Scenario}
-use Rattle.scenario.specs.Words.{same_text}
-use Rattle.scenario.specs.Scenario.{scenario_of}
+use Rattle.history.specs.Words.{same_text}
+use Rattle.scenario.specs.Built.{built_scenario_of}
 use Rattle.teredo_app.specs.declared.statuses.TheConstants.{DONE, BAD_PAYLOAD, BAD_WORDS, BAD_SCENARIO, UNREADABLE, UNWRITABLE, NO_MEMORY}
 use Rattle.show.specs.Explained.{explained, text_of}
 use Rattle.teredo_app.specs.Streams.{AppendsFront}
@@ -40,9 +40,9 @@ pub record Outside : Type 0 where
 abbrev pub IsTold : Option (List ℕ) → List ℕ → Type 0
 IsTold told text = IfSome told (λ bytes. text ≡ bytes)
 
--- The text of the file is this scenario, or none.
+-- The text of the file is this scenario of servers and NATs, or isn't one.
 abbrev pub Reads : Outside → Option Scenario → Type 0
-Reads o s = (text : List ℕ) × IsTold o.told text × (scenario_of text ≡ s)
+Reads o s = (text : List ℕ) × IsTold o.told text × (built_scenario_of text ≡ s)
 
 -- No count of faults rose.
 pub record NoFault (o : Outside) : Type 0 where

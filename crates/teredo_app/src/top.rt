@@ -1,7 +1,7 @@
-ghost use Rattle.std.specs.Prelude.{◌≡◌, ◌≤◌, ℕ, List, Option, Some, None, map, string_bytes, length, option_map};
+ghost use Rattle.std.specs.Prelude.{◌≡◌, ◌≤◌, ℕ, List, Option, Some, None, map, string_bytes, length, option_map, IfOk, IfSome};
 ghost use Rattle.std.specs.List.{AllByRecursion};
 ghost use Rattle.history.specs.Events.{IsEvent};
-ghost use Rattle.scenario.specs.Built.{HasOnlyBuilt};
+ghost use Rattle.scenario.specs.Built.{HasOnlyBuilt, built_scenario_of};
 ghost use Rattle.scenario.specs.Told.{told};
 ghost use Rattle.teredo_app.specs.Ends.{Outside, lab_file, show_word, LabEnds, ShowEnds, WordsEnd};
 ghost use Rattle.teredo_app.specs.ServeWords.{Asks, AskNothing};
@@ -19,7 +19,7 @@ use crate::streams::{Fault, read_named, write_whole};
 use scenario::{MOST_EVENTS, Scenario, ScenarioFault, TEXT_MOST, read};
 use show::{Page, explain};
 use std::alloc::Global;
-use td_base::LineBuf;
+use td_base::{LineBuf, NoMemory};
 use td_outside::{Clock, Failed, Link, Sink, Source};
 use teredo_node::TURNS_MAX;
 
@@ -79,6 +79,25 @@ fn report_on<K: Sink>(alloc: Global, s: &Scenario, out: &mut K) -> u8
     }
 }
 
+/// The scenario that a text is, where it has only the kinds of nodes that are played so far.
+fn read_built(alloc: Global, text: &[u8]) -> Result<Option<Scenario>, NoMemory>
+    ensures value { IfOk result (λ o. built_scenario_of text.now ≡ option_map told o) }
+    ensures built { IfOk result (λ o. IfSome o (λ s. HasOnlyBuilt s.topology)) }
+    ensures few { IfOk result (λ o. IfSome o (λ s. length s.events ≤ MOST_EVENTS)) }
+    ensures legal { IfOk result (λ o. IfSome o (λ s. AllByRecursion (IsEvent s.topology) s.events)) }
+{
+    match read(alloc, text) {
+        Ok(scenario) => {
+            if !scenario.has_only_built() {
+                return Ok(None);
+            }
+            Ok(Some(scenario))
+        }
+        Err(ScenarioFault::NoMemory) => Err(NoMemory),
+        Err(_) => Ok(None),
+    }
+}
+
 /// The command `lab FILE`.
 fn lab<S: Source, K: Sink>(alloc: Global, file: &str, src: &mut S, out: &mut K) -> u8
     ensures { LabEnds (record {
@@ -93,10 +112,12 @@ fn lab<S: Source, K: Sink>(alloc: Global, file: &str, src: &mut S, out: &mut K) 
         Err(Fault::Failed) => return UNREADABLE,
         Err(Fault::NoMemory) => return NO_MEMORY,
     };
-    match read(alloc, &text) {
-        Ok(s) => report_on(alloc, &s, out),
-        Err(ScenarioFault::Unbuilt) => write_line(out, b"scenario: unbuilt\n", BAD_SCENARIO),
-        Err(ScenarioFault::NoMemory) => NO_MEMORY,
+    let Ok(scenario) = read_built(alloc, &text) else {
+        return NO_MEMORY;
+    };
+    match scenario {
+        Some(s) => report_on(alloc, &s, out),
+        None => write_line(out, b"scenario: unbuilt\n", BAD_SCENARIO),
     }
 }
 

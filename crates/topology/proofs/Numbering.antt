@@ -1,10 +1,12 @@
 -- The places of nodes of one kind among all nodes.
-use Rattle.std.proofs.Common.{◌≡◌, ℕ, ◌+◌, ◌==◌, ◌&&◌, Bool, true, false, cond, List, [], ◌∷◌, ◌++◌, length, map, Option, Some, None, refl, sym, ap, ◌∙◌, arith, add_assoc, zero-add}
+use Rattle.std.proofs.Common.{◌≡◌, ℕ, ◌+◌, ◌==◌, ◌&&◌, nat_eq, Bool, true, false, cond, List, [], ◌∷◌, ◌++◌, length, map, Option, Some, None, refl, sym, ap, ◌∙◌, arith, add_assoc, zero-add}
 use Rattle.std.specs.Prelude.{position, option_map}
 use Rattle.std.specs.Option.{option_or}
 use Rattle.std.specs.List.{position_from}
 use Rattle.std.proofs.lemmas.Iterator.Adapters.{position_from-zero}
 use Rattle.std.proofs.lemmas.List.{length-map}
+use Rattle.std.specs.Cmp.Lexicographic.{pointwise}
+use Rattle.td_base.specs.Names.{name_text}
 use Rattle.td_base.specs.declared.endpoint.Ep.{Ep}
 use Rattle.td_base.specs.declared.ipv6.Ip6.{Ip6}
 use Rattle.topology.specs.declared.server_node.ServerNode.{ServerNode}
@@ -13,6 +15,7 @@ use Rattle.topology.specs.declared.client_node.ClientNode.{ClientNode}
 use Rattle.topology.specs.declared.relay_node.RelayNode.{RelayNode}
 use Rattle.topology.specs.declared.native_node.NativeNode.{NativeNode}
 use Rattle.topology.specs.Rows.{TopologyState}
+use Rattle.topology.specs.Named.{has_host, is_nat, is_client_of, any_kind, is_named, named}
 use Rattle.topology.specs.declared.node.Node.{Node}
 use Rattle.topology.specs.declared.node.Node.TheVariants.{Server as server, Nat as nat, Client as client, Relay as relay, Native as native}
 use Rattle.topology.specs.Topology.{nodes, number_of, is_at, is_behind, is_native}
@@ -85,3 +88,43 @@ pub with_an_address : (ip : Ip6) (t : TopologyState) → number_of (is_native ip
 with_an_address ip t =
     parts (is_native ip) t
     ∙ rw (from_none 0 t.servers, from_none (length t.servers) t.nats, from_none (length t.servers + length t.nats) t.clients, from_none (length t.servers + length t.nats + length t.clients) t.relays, behind (λ (h : NativeNode). is_native ip (native h)) (length t.servers + length t.nats + length t.clients + length t.relays) t.natives) refl
+
+abbrev server_place : TopologyState → List ℕ → Option ℕ
+server_place t text = position (λ (a : ServerNode). pointwise nat_eq (name_text a.name) text) t.servers
+
+abbrev nat_place : TopologyState → List ℕ → Option ℕ
+nat_place t text = option_map (λ k. length t.servers + k) (position (λ (a : NatNode). pointwise nat_eq (name_text a.name) text) t.nats)
+
+abbrev client_place : TopologyState → List ℕ → Option ℕ
+client_place t text = option_map (λ k. length t.servers + length t.nats + k) (position (λ (c : ClientNode). pointwise nat_eq (name_text c.name) text) t.clients)
+
+abbrev relay_place : TopologyState → List ℕ → Option ℕ
+relay_place t text = option_map (λ k. length t.servers + length t.nats + length t.clients + k) (position (λ (r : RelayNode). pointwise nat_eq (name_text r.name) text) t.relays)
+
+abbrev native_place : TopologyState → List ℕ → Option ℕ
+native_place t text = option_map (λ k. length t.servers + length t.nats + length t.clients + length t.relays + k) (position (λ (h : NativeNode). pointwise nat_eq (name_text h.name) text) t.natives)
+
+-- a client or native host by its name
+pub host_at : (t : TopologyState) (text : List ℕ) → named has_host t text ≡ option_or (client_place t text) (native_place t text)
+unfolding named
+host_at t text =
+    parts (λ node. has_host (Some node) && is_named text node) t
+    ∙ rw (from_none 0 t.servers, from_none (length t.servers) t.nats, from_none (length t.servers + length t.nats + length t.clients) t.relays, behind (λ (c : ClientNode). pointwise nat_eq (name_text c.name) text) (length t.servers + length t.nats) t.clients, behind (λ (h : NativeNode). pointwise nat_eq (name_text h.name) text) (length t.servers + length t.nats + length t.clients + length t.relays) t.natives) refl
+
+pub nat_numbered : (t : TopologyState) (text : List ℕ) → named is_nat t text ≡ nat_place t text
+unfolding named
+nat_numbered t text =
+    parts (λ node. is_nat (Some node) && is_named text node) t
+    ∙ rw (from_none 0 t.servers, from_none (length t.servers + length t.nats) t.clients, from_none (length t.servers + length t.nats + length t.clients) t.relays, from_none (length t.servers + length t.nats + length t.clients + length t.relays) t.natives, behind (λ (a : NatNode). pointwise nat_eq (name_text a.name) text) (length t.servers) t.nats, or_none) refl
+
+pub client_at : (t : TopologyState) (n : ℕ) (text : List ℕ) → named (is_client_of n) t text ≡ option_map (λ k. length t.servers + length t.nats + k) (position (λ (c : ClientNode). (c.nat == n) && pointwise nat_eq (name_text c.name) text) t.clients)
+unfolding named
+client_at t n text =
+    parts (λ node. is_client_of n (Some node) && is_named text node) t
+    ∙ rw (from_none 0 t.servers, from_none (length t.servers) t.nats, from_none (length t.servers + length t.nats + length t.clients) t.relays, from_none (length t.servers + length t.nats + length t.clients + length t.relays) t.natives, behind (λ (c : ClientNode). (c.nat == n) && pointwise nat_eq (name_text c.name) text) (length t.servers + length t.nats) t.clients, or_none) refl
+
+pub any_at : (t : TopologyState) (text : List ℕ) → named any_kind t text ≡ option_or (server_place t text) (option_or (nat_place t text) (option_or (client_place t text) (option_or (relay_place t text) (native_place t text))))
+unfolding named
+any_at t text =
+    parts (λ node. any_kind (Some node) && is_named text node) t
+    ∙ rw (sym (at_front (λ (a : ServerNode). pointwise nat_eq (name_text a.name) text) t.servers), behind (λ (a : NatNode). pointwise nat_eq (name_text a.name) text) (length t.servers) t.nats, behind (λ (c : ClientNode). pointwise nat_eq (name_text c.name) text) (length t.servers + length t.nats) t.clients, behind (λ (r : RelayNode). pointwise nat_eq (name_text r.name) text) (length t.servers + length t.nats + length t.clients) t.relays, behind (λ (h : NativeNode). pointwise nat_eq (name_text h.name) text) (length t.servers + length t.nats + length t.clients + length t.relays) t.natives) refl

@@ -2,3 +2,4 @@ pub mod Rows
 pub mod Topology
 pub mod NodeNames
 pub mod Rules
+pub mod Named

@@ -14,10 +14,13 @@
 //! | module | holds | stated in |
 //! |---|---|---|
 //! | `server_node`, `nat_node`, `client_node`, `relay_node`, `native_node` | a row for each kind of node | |
+//! | `node` | a node of any kind | `specs/Topology.antt` |
 //! | `topology` | `Topology` | `specs/Rows.antt`, `Topology.antt`, `Rules.antt`, `NodeNames.antt` |
+//! | `places`, `names` | who is where, and who has a name | `specs/Topology.antt`, `Named.antt` |
 #![tactic(auto)]
 
 mod client_node;
+mod names;
 mod nat_node;
 mod native_node;
 mod node;
@@ -27,6 +30,7 @@ mod server_node;
 mod topology;
 
 pub use client_node::{ClientNode, LEAST_REFRESH, MOST_REFRESH};
+pub use names::{client_named, host_named, nat_named, node_named};
 pub use nat_node::{MOST_IDLE, NatNode};
 pub use native_node::NativeNode;
 pub use node::Node;

@@ -3,7 +3,7 @@ use Rattle.std.proofs.Common.{◌≡◌, ◌≤◌, ℕ, true, false, if◌then�
 use Rattle.std.proofs.Math.Seq.{take-append_seam}
 use Rattle.std.proofs.lemmas.List.{length-take-le, take_min}
 use Rattle.td_base.specs.declared.datagram.TheConstants.{DATAGRAM_MAX}
-use Rattle.td_outside.specs.Link.{Datagram, Receives, next_of}
+use Rattle.td_outside.specs.Link.{Datagram, Receives, next_came}
 use Rattle.td_base.specs.declared.endpoint.Ep.{Ep}
 use Rattle.teredo_node.specs.Step.{Step}
 use Rattle.teredo_node.specs.Turn.{AnswersArrival, Pumps}
@@ -33,7 +33,7 @@ pub asked : (s : ServerSettings) (l l' : Arriving) (step : Step) (new : ServerSe
     → AnswersArrival (λ side from x step new. MeetsRow s side from x step new) new (told_of l) (told_of l') step from len failed
     → step ≡ server_row s l.side l.from l.bytes.now
 asked s l l' step new from len failed free short answers =
-    let came : Datagram answers.side from answers.bytes ≡ next_of (if l.is_taken then [] else Datagram l.side l.from (take DATAGRAM_MAX l.bytes.now) ∷ []) = answers.told.coming.0 in
+    let came : Datagram answers.side from answers.bytes ≡ next_came (if l.is_taken then [] else Datagram l.side l.from (take DATAGRAM_MAX l.bytes.now) ∷ []) = answers.told.coming.0 in
     let is : Datagram answers.side from answers.bytes ≡ Datagram l.side l.from (take DATAGRAM_MAX l.bytes.now) = came ∙ rw free refl in
     let side : answers.side ≡ l.side = cc in
     let source : from ≡ l.from = cc in

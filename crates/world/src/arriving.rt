@@ -1,6 +1,6 @@
 //! A link that lends one datagram.
 ghost use Rattle.std.specs.Prelude.{◌≡◌, ◌≤◌, [], ◌∷◌, None, length, take, is_ok, IsOk, IfOk};
-ghost use Rattle.td_outside.specs.Link.{attempt, open_on, Datagram, Fits, Receives, Sends, KeepsTold, came_by};
+ghost use Rattle.td_outside.specs.Link.{attempt, open_on, Datagram, FitsBuffer, Receives, Sends, KeepsTold, came_by};
 ghost use Rattle.world.specs.Arriving.{told_of};
 
 use std::marker::Model;

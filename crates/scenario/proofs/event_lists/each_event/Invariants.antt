@@ -1,13 +1,15 @@
 use Rattle.std.proofs.Common.{◌≡◌, drop}
+use Rattle.std.specs.Prelude.{IsSome}
 use Rattle.std.specs.List.{AllByRecursion}
 use Rattle.toml.specs.View.{items_view}
 use Rattle.history.specs.Events.{IsEvent}
-use Rattle.scenario.specs.Scenario.{events_at}
-use Rattle.scenario.proofs.EventsSoFar.{after_events}
+use Rattle.scenario.specs.EventLists.{texts_of}
+use Rattle.scenario.proofs.EventsSoFar.{each_value, after_events}
 use Rattle.scenario.proofs.event_lists.each_event.Given as goal
 
-abbrev pub invariant-loop-value : goal.invariant-loop-value
-invariant-loop-value l = record {
-  left : after_events l.events (events_at l.topology (items_view (drop l.value-index l.values))) ≡ events_at l.topology (items_view l.values);
+abbrev pub invariant-loop-index : goal.invariant-loop-index
+invariant-loop-index l = record {
+  texts : IsSome (texts_of (items_view (drop l.index l.values)));
+  left : after_events l.events (each_value l.topology l.index (items_view (drop l.index l.values))) ≡ each_value l.topology 0 (items_view l.values);
   legal : AllByRecursion (IsEvent l.topology) l.events;
 }

@@ -1,9 +1,5 @@
-use Rattle.std.proofs.Common.{sym, ap, ◌∙◌}
-use Rattle.std.specs.Prelude.{option_map}
-use Rattle.scenario.specs.Told.{told}
-use Rattle.scenario.proofs.TextLemmas.{few_events_of}
+use Rattle.scenario.proofs.KeptRules.{few_read}
 use Rattle.scenario.proofs.reader.read.Goals as goal
 
-pub returns-in-Some-clause-few : goal.returns-in-Some-clause-few
-returns-in-Some-clause-few c =
-    few_events_of c.args.bytes.now (told c.in-Some.scenario) (sym c.in-Ok.ensures.value ∙ ap (option_map told) c.in-Some.is)
+pub returns-clause-few : goal.returns-clause-few
+returns-clause-few c = few_read c.args.bytes.now c.written.result c.written.ensures.value

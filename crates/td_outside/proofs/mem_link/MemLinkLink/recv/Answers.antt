@@ -2,8 +2,8 @@ use Rattle.std.proofs.Common.{◌≡◌, ◌+◌, ◌<◌, List, [], ◌∷◌, 
 use Rattle.std.proofs.lemmas.List.{drop-drop, length-map}
 use Rattle.std.proofs.lemmas.Option.{slice_get_read}
 use Rattle.std.proofs.lemmas.Grind.{common_steps}
-use Rattle.td_outside.specs.Link.{Came, Nothing, next_of}
-use Rattle.td_outside.specs.MemLink.{came_of}
+use Rattle.td_outside.specs.Link.{Came, Nothing, next_came}
+use Rattle.td_outside.specs.MemLink.{came_from}
 use Rattle.td_outside.proofs.Arrivals.{next_arrival, taken_more}
 use Rattle.td_outside.proofs.mem_link.MemLinkLink.recv.Goals as goal
 
@@ -14,9 +14,9 @@ returns-clause-came c =
 
 pub returns-clause-state : goal.returns-clause-state
 returns-clause-state c =
-    let all : List Came = map came_of c.self.inside.arrivals.items in
+    let all : List Came = map came_from c.self.inside.arrivals.items in
     let inside : c.self.inside.at < length c.self.inside.arrivals.items = grind (arith, common_steps) in
     let within : c.self.inside.at < length all = rw (length-map c.self.inside.arrivals.items) inside in
-    let taken : take (c.self.inside.at + 1) all ++ replicate c.self.inside.idle Nothing ≡ (take c.self.inside.at all ++ replicate c.self.inside.idle Nothing) ++ next_of (drop c.self.inside.at all) ∷ [] = taken_more all c.self.inside.at c.self.inside.idle within (c.self.invariant.1 inside) in
+    let taken : take (c.self.inside.at + 1) all ++ replicate c.self.inside.idle Nothing ≡ (take c.self.inside.at all ++ replicate c.self.inside.idle Nothing) ++ next_came (drop c.self.inside.at all) ∷ [] = taken_more all c.self.inside.at c.self.inside.idle within (c.self.invariant.1 inside) in
     let coming : drop (c.self.inside.at + 1) all ≡ drop 1 (drop c.self.inside.at all) = sym (drop-drop 1 c.self.inside.at all) in
     rw (← c.self.view_is) (grind (arith, common_steps, taken, coming))

@@ -1,0 +1,108 @@
+-- What a call that lists a peer finds once it has taken out whoever isn't listed any more.
+use Rattle.std.proofs.Common.{◌≡◌, ◌≤◌, ◌<◌, ℕ, ◌||◌, Bool, true, false, cond, List, [], ◌∷◌, ◌++◌, length, filter, find, get_or, Option, Some, None, Result, Ok, Err, refl, sym, ap, ◌∙◌, subst, arith}
+use Rattle.std.specs.Prelude.{unwrap_or, is_some, nat_lt, slice_set}
+use Rattle.std.specs.List.{AllByRecursion, position_or_len}
+use Rattle.std.proofs.lemmas.List.{set-get_or}
+use Rattle.td_base.specs.declared.ipv6.Ip6.{Ip6}
+use Rattle.peer_list.specs.declared.limits.TheConstants.{MOST_PEERS}
+use Rattle.peer_list.specs.Peers.{Peer, no_peer}
+use Rattle.peer_list.specs.Waiting.{Listing}
+use Rattle.td_base.specs.Ip6.{same_ip6}
+use Rattle.peer_list.specs.Table.{Table, table, while_listed, peer_listed, is_of, is_listed_at, peer_in, known_to, listed_in, has_room_in}
+use Rattle.peer_list.specs.Judged.{is_full}
+use Rattle.peer_list.specs.Calls.{Updates, Keeps, Queues, touched_at}
+use Rattle.peer_list.specs.declared.refusals.QueueRefusal.{QueueRefusal}
+use Rattle.peer_list.specs.declared.refusals.QueueRefusal.TheVariants as queue
+use Rattle.peer_list.specs.Sound.{AreApart, AreSound}
+use Rattle.peer_list.proofs.DueLemmas.{count_is}
+use Rattle.peer_list.proofs.ListingLemmas.{Placed, all_at, purged, sound_kept, found, missing, known_there, changed, added}
+
+-- `kept` are those of ls that are listed at m
+pub record Purged (m : ℕ) (ls kept : List Listing) : Type 0 where
+  pub apart : AreApart ls
+  pub is : kept ≡ filter (is_listed_at m) ls
+
+pub keeps_purged : (m : ℕ) (ls kept : List Listing) → Purged m ls kept → Keeps (table m ls) (table m kept) m
+keeps_purged m ls kept p = subst (λ ks. Keeps (table m ls) (table m ks) m) (sym p.is) (purged m ls p.apart)
+
+pub sound_purged : (m : ℕ) (ls kept : List Listing) → kept ≡ filter (is_listed_at m) ls → AreSound ls → AreSound kept
+sound_purged m ls kept is s = subst AreSound (sym is) (sound_kept (is_listed_at m) ls s)
+
+peer_purged : (m : ℕ) (ls kept : List Listing) (who : Ip6) → Purged m ls kept → peer_in (table m kept) m who ≡ peer_in (table m ls) m who
+peer_purged m ls kept who p = (keeps_purged m ls kept p).view m who (omega arith)
+
+known_purged : (m : ℕ) (ls kept : List Listing) (who : Ip6) → Purged m ls kept → known_to (table m kept) m who ≡ known_to (table m ls) m who
+known_purged m ls kept who p = ap (λ o. unwrap_or o no_peer) (peer_purged m ls kept who p)
+
+all_listed : (m : ℕ) (ls : List Listing) → AllByRecursion (λ (l : Listing). is_listed_at m l ≡ true) (filter (is_listed_at m) ls)
+all_listed m [] = tt
+all_listed m (l ∷ ls) = by_test (is_listed_at m l) refl (all_listed m ls) where
+  by_test : (b : Bool) → is_listed_at m l ≡ b → AllByRecursion (λ (x : Listing). is_listed_at m x ≡ true) (filter (is_listed_at m) ls) → AllByRecursion (λ (x : Listing). is_listed_at m x ≡ true) (cond b (l ∷ filter (is_listed_at m) ls) (filter (is_listed_at m) ls))
+  by_test true h rest = (h, rest)
+  by_test false h rest = rest
+
+-- WHO IS FOUND
+
+pub there : (m : ℕ) (ls kept : List Listing) (who : Ip6) (place : ℕ) (l : Listing) → Purged m ls kept → Placed kept who place l → is_some (peer_in (table m kept) m who) ≡ true
+unfolding peer_in
+there m ls kept who place l p at =
+    let all : AllByRecursion (λ (x : Listing). is_listed_at m x ≡ true) kept = subst (AllByRecursion (λ (x : Listing). is_listed_at m x ≡ true)) (sym p.is) (all_listed m ls) in
+    let listed : is_listed_at m l ≡ true = ap (is_listed_at m) at.is ∙ all_at (λ (x : Listing). is_listed_at m x ≡ true) kept place l at.within all in
+    ap (λ o. is_some (peer_listed m o)) (found kept who place l at) ∙ ap (λ b. is_some (cond b (Some l.peer) None)) listed
+
+pub was_there : (m : ℕ) (ls kept : List Listing) (who : Ip6) (place : ℕ) (l : Listing) → Purged m ls kept → Placed kept who place l → known_to (table m ls) m who ≡ l.peer
+was_there m ls kept who place l p at = sym (known_purged m ls kept who p) ∙ known_there (table m kept) m who place l at (there m ls kept who place l p at)
+
+pub room_there : (m : ℕ) (ls kept : List Listing) (who : Ip6) (place : ℕ) (l : Listing) → Purged m ls kept → Placed kept who place l → has_room_in (table m ls) m who ≡ true
+unfolding has_room_in
+room_there m ls kept who place l p at =
+    let listed : is_some (peer_in (table m ls) m who) ≡ true = ap is_some (sym (peer_purged m ls kept who p)) ∙ there m ls kept who place l p at in
+    ap (λ b. b || nat_lt (length (listed_in (table m ls) m)) MOST_PEERS) listed
+
+pub was_nowhere : (m : ℕ) (ls kept : List Listing) (who : Ip6) → Purged m ls kept → find (is_of who) kept ≡ None → peer_in (table m ls) m who ≡ None
+unfolding peer_in
+was_nowhere m ls kept who p none = sym (peer_purged m ls kept who p) ∙ ap (peer_listed m) none
+
+pub room_nowhere : (m : ℕ) (ls kept : List Listing) (who : Ip6) → Purged m ls kept → find (is_of who) kept ≡ None → has_room_in (table m ls) m who ≡ nat_lt (length kept) MOST_PEERS
+unfolding has_room_in
+room_nowhere m ls kept who p none =
+    ap (λ (o : Option Peer). is_some o || nat_lt (length (listed_in (table m ls) m)) MOST_PEERS) (was_nowhere m ls kept who p none)
+    ∙ ap (λ n. nat_lt n MOST_PEERS) (count_is m m ls p.apart ∙ ap length (sym p.is))
+
+-- WHAT IS LEFT
+
+then_updates : (a b c : Table) (m : ℕ) (who : Ip6) (peer : Peer) → Keeps a b m → Updates b c m who peer → Updates a c m who peer
+then_updates a b c m who peer k u = record { moment = u.moment; view = λ n p l. u.view n p l ∙ ap (λ o. cond (same_ip6 p who) (while_listed n peer) o) (k.view n p l) }
+
+pub updates_there : (m : ℕ) (ls kept : List Listing) (who : Ip6) (place : ℕ) (l : Listing) (peer : Peer) → Purged m ls kept → Placed kept who place l
+    → Updates (table m ls) (table m (slice_set kept place (record { who = l.who; peer = peer }))) m who peer
+updates_there m ls kept who place l peer p at =
+    then_updates (table m ls) (table m kept) (table m (slice_set kept place (record { who = l.who; peer = peer }))) m who peer (keeps_purged m ls kept p)
+      (changed (table m kept) (table m (slice_set kept place (record { who = l.who; peer = peer }))) m who place l peer at refl refl)
+
+pub keeps_there : (m : ℕ) (ls kept : List Listing) (who : Ip6) (place : ℕ) (l : Listing) (peer : Peer) → Purged m ls kept → Placed kept who place l → peer ≡ l.peer
+    → Keeps (table m ls) (table m (slice_set kept place (record { who = l.who; peer = peer }))) m
+keeps_there m ls kept who place l peer p at same =
+    let back : slice_set kept place (record { who = l.who; peer = peer }) ≡ kept =
+      ap (λ (x : Peer). slice_set kept place (record { who = l.who; peer = x })) same ∙ ap (slice_set kept place) at.is ∙ set-get_or kept place l in
+    subst (λ ks. Keeps (table m ls) (table m ks) m) (sym back) (keeps_purged m ls kept p)
+
+pub updates_new : (m : ℕ) (ls kept items : List Listing) (who : Ip6) (peer : Peer) → Purged m ls kept → find (is_of who) kept ≡ None → items ≡ kept ++ record { who = who; peer = peer } ∷ []
+    → Updates (table m ls) (table m items) m who peer
+updates_new m ls kept items who peer p none is =
+    then_updates (table m ls) (table m kept) (table m items) m who peer (keeps_purged m ls kept p) (added (table m kept) (table m items) m who peer none refl is)
+
+pub keeps_same : (m : ℕ) (ls kept items : List Listing) → Purged m ls kept → items ≡ kept → Keeps (table m ls) (table m items) m
+keeps_same m ls kept items p is = subst (λ ks. Keeps (table m ls) (table m ks) m) (sym is) (keeps_purged m ls kept p)
+
+-- A PEER THAT IS NEW HAS ROOM
+
+pub empty_not_full : is_full no_peer ≡ false
+unfolding is_full
+empty_not_full = refl
+
+pub new_queues : (m : ℕ) (r : Result (Unit {0}) QueueRefusal) → Queues (touched_at m no_peer) r → Queues no_peer r
+unfolding is_full
+new_queues m (Ok _) h = h
+new_queues m (Err queue.Full) h = h
+new_queues m (Err queue.NoMemory) h = h

@@ -1,0 +1,158 @@
+-- What a table stands for, and what its calls add.
+use Rattle.std.proofs.Common.{◌≡◌, ◌≤◌, ◌<◌, ℕ, ◌-◌, ◌||◌, Bool, true, false, nat_lt, cond, List, [], ◌∷◌, ◌++◌, length, find, take, Option, Some, None, refl, sym, ap, ◌∙◌, subst, arith}
+use Rattle.std.specs.Prelude.{option_map, option_to_list, unwrap_or, is_some}
+use Rattle.std.specs.Option.{option_or}
+use Rattle.std.proofs.lemmas.List.{append-nil}
+use Rattle.td_base.specs.Ip6.{same_ip6, same_ip6-true}
+use Rattle.td_base.specs.declared.ipv6.Ip6.{Ip6}
+use Rattle.peer_list.specs.declared.limits.TheConstants.{LISTED_MS, MOST_PEERS, MOST_TRIES}
+use Rattle.peer_list.specs.Mentions.{Mention, no_bearing, is_peer, is_about}
+use Rattle.peer_list.specs.Listed.{is_young, is_listed, listed, has_room}
+use Rattle.peer_list.specs.Peers.{Peer, no_peer, peer_at, known}
+use Rattle.peer_list.specs.Judged.{is_within}
+use Rattle.peer_list.specs.Waiting.{Listing, waiting_among, first_among, waiting_count, first_due}
+use Rattle.peer_list.specs.Laws.{after, peer_if, view_after, AreSame, CountTheSame}
+use Rattle.peer_list.specs.Table.{Table, table, empty_table, while_listed, peer_listed, is_of, peer_in, known_to, listed_in, has_room_in, waiting_in, first_due_in}
+use Rattle.peer_list.specs.Calls.{Updates, Keeps, touched_at, tried_at, queued_at, emptied}
+use Rattle.peer_list.specs.Stands.{StandsForMentions, SaysTheSame, TableIsRead, NextStands, IsIdle, about_nobody, bears_nothing, IdleStands, KeptStands, CallsAre, CallsOfAnEntry}
+use Rattle.peer_list.proofs.Lists.{listed_are, listed_once}
+use Rattle.peer_list.proofs.Bearings.{one_entry, listed_is_known}
+use Rattle.peer_list.proofs.Orders.{order_is_free}
+use Rattle.peer_list.proofs.TableLemmas.{within_after, members, members_once}
+
+-- nobody is listed in an empty table
+pub empty_stands : (t : Table) → t.listings ≡ [] → StandsForMentions t []
+unfolding peer_in peer_at is_listed
+empty_stands t none = record { view = λ n p l. rw none refl }
+
+-- WHAT IS READ
+
+pub table_is_read : TableIsRead
+unfolding has_room_in has_room
+table_is_read t j n s l =
+    let peers : (p : Ip6) → peer_in t n p ≡ peer_at j n p = λ p. s.view n p l in
+    let knowns : (p : Ip6) → known_to t n p ≡ known j n p = λ p. ap (λ o. unwrap_or o no_peer) (peers p) in
+    let same : AreSame (listed_in t n) (listed j n) (known_to t n) (known j n) = record {
+      once = members_once t n;
+      once_too = listed_once j n;
+      members = λ p. members t n p ∙ ap is_some (peers p) ∙ listed_is_known j n p ∙ sym (listed_are j n p);
+      peers = knowns;
+    } in
+    let count : CountTheSame (listed_in t n) (listed j n) (known_to t n) (known j n) = order_is_free (listed_in t n) (listed j n) (known_to t n) (known j n) same in
+    let all : known_to t n ≡ known j n = λ i p. knowns p i in
+    record {
+      peer = peers;
+      known = knowns;
+      count = count.count;
+      room = λ p.
+          ap (λ b. b || nat_lt (length (listed_in t n)) MOST_PEERS) (ap is_some (peers p) ∙ listed_is_known j n p)
+          ∙ ap (λ k. is_listed p n j || nat_lt k MOST_PEERS) count.count;
+      waiting = count.waiting;
+      first = ap (λ (f : Ip6 → Peer). option_map (λ p. record { who = p; peer = f p }) (first_among (known_to t n) (listed_in t n))) all
+          ∙ ap (λ o. option_map (λ p. record { who = p; peer = known j n p }) o) count.first;
+    }
+
+-- WHAT IS ADDED
+
+pub kept_stands : KeptStands
+kept_stands old new m j s l k = record {
+  view = λ n p h.
+      let from : m ≤ n = subst (λ x. x ≤ n) k.moment h in
+      let before : old.moment ≤ n = omega arith in
+      k.view n p from ∙ s.view n p before;
+}
+
+-- an entry that doesn't touch, where its peer is known so
+quiet_by : (e : Mention) (m n : ℕ) (o : Option Listing) → m ≤ n → while_listed n (record (after e (unwrap_or (peer_listed m o) no_peer)) { touched = (unwrap_or (peer_listed m o) no_peer).touched }) ≡ option_map (λ (x : Peer). record (after e x) { touched = x.touched }) (peer_listed n o)
+quiet_by e m n None l = refl
+quiet_by e m n (Some x) l = by_test (is_within LISTED_MS m x.peer.touched) refl where
+  by_later : (b : Bool) (y : Peer) → cond b (Some (record (after e y) { touched = y.touched })) None ≡ option_map (λ (x : Peer). record (after e x) { touched = x.touched }) (cond b (Some y) None)
+  by_later true y = refl
+  by_later false y = refl
+
+  by_test : (b : Bool) → is_within LISTED_MS m x.peer.touched ≡ b → while_listed n (record (after e (unwrap_or (cond b (Some x.peer) None) no_peer)) { touched = (unwrap_or (cond b (Some x.peer) None) no_peer).touched }) ≡ option_map (λ (x : Peer). record (after e x) { touched = x.touched }) (while_listed n x.peer)
+  by_test true e' = by_later (is_within LISTED_MS n x.peer.touched) x.peer
+  by_test false e' = let late = within_after m n x.peer.touched l e' in rw late refl
+
+-- what follows an entry, by whether it touches
+after_quiet : (e : Mention) (x : Peer) → e.bearing.touches ≡ false → after e x ≡ record (after e x) { touched = x.touched }
+after_quiet e x quiet = ap (λ t. record (after e x) { touched = cond t (Some e.moment) x.touched }) quiet
+
+touch_by : (e : Mention) (y : Bool) (before now : Option Peer) → cond y (Some (after e (unwrap_or before no_peer))) None ≡ peer_if true true y e before now
+touch_by e true before now = refl
+touch_by e false before now = refl
+
+seen_by : (e : Mention) (old : Table) (n : ℕ) (who : Ip6) (t : Bool) → e.bearing.touches ≡ t → e.moment ≤ n
+    → while_listed n (after e (known_to old e.moment who)) ≡ peer_if true t (is_young LISTED_MS n e.moment) e (peer_in old e.moment who) (peer_in old n who)
+unfolding peer_in
+seen_by e old n who true touches l =
+    let touched : (after e (known_to old e.moment who)).touched ≡ Some e.moment = ap (λ t. cond t (Some e.moment) (known_to old e.moment who).touched) touches in
+    ap (λ o. cond (is_within LISTED_MS n o) (Some (after e (known_to old e.moment who))) None) touched
+    ∙ touch_by e (is_young LISTED_MS n e.moment) (peer_in old e.moment who) (peer_in old n who)
+seen_by e old n who false quiet l =
+    let f : Peer → Peer = λ x. record (after e x) { touched = x.touched } in
+    let all : after e ≡ f = λ i x. after_quiet e x quiet i in
+    ap (λ (g : Peer → Peer). while_listed n (g (known_to old e.moment who))) all ∙ quiet_by e e.moment n (find (is_of who) old.listings) l ∙ sym (ap (λ (g : Peer → Peer). option_map g (peer_in old n who)) all)
+
+pub next_stands : NextStands
+next_stands old new e j who s l about u = record {
+  view = λ n p h.
+      let from : e.moment ≤ n = subst (λ x. x ≤ n) u.moment h in
+      let before : old.moment ≤ n = omega arith in
+      u.view n p from ∙ by_test n p from before (same_ip6 p who) refl ∙ sym (one_entry e j n p);
+} where
+  about_is : (p : Ip6) → is_about p e ≡ same_ip6 p who
+  about_is p = ap (is_peer p) about
+
+  by_test : (n : ℕ) (p : Ip6) → e.moment ≤ n → old.moment ≤ n → (b : Bool) → same_ip6 p who ≡ b → cond (same_ip6 p who) (while_listed n (after e (known_to old e.moment who))) (peer_in old n p) ≡ view_after e (peer_at j) n p
+  by_test n p from before false other =
+      let elsewhere : is_about p e ≡ false = about_is p ∙ other in
+      rw (other, elsewhere) (s.view n p before)
+  by_test n p from before true is =
+      let same : p ≡ who = same_ip6-true p who is in
+      let here : is_about p e ≡ true = about_is p ∙ is in
+      let view : while_listed n (after e (known_to old e.moment who)) ≡ peer_if true e.bearing.touches (is_young LISTED_MS n e.moment) e (peer_in old e.moment who) (peer_in old n who) = seen_by e old n who e.bearing.touches refl from in
+      let both : peer_if true e.bearing.touches (is_young LISTED_MS n e.moment) e (peer_in old e.moment who) (peer_in old n who) ≡ peer_if true e.bearing.touches (is_young LISTED_MS n e.moment) e (peer_at j e.moment who) (peer_at j n who) =
+          ap (λ o. peer_if true e.bearing.touches (is_young LISTED_MS n e.moment) e o (peer_in old n who)) (s.view e.moment who l)
+          ∙ ap (λ o. peer_if true e.bearing.touches (is_young LISTED_MS n e.moment) e (peer_at j e.moment who) o) (s.view n who before) in
+      ap (λ b. cond b (while_listed n (after e (known_to old e.moment who))) (peer_in old n p)) is
+      ∙ view ∙ both
+      ∙ ap (λ q. peer_if true e.bearing.touches (is_young LISTED_MS n e.moment) e (peer_at j e.moment q) (peer_at j n q)) (sym same)
+      ∙ ap (λ b. peer_if b e.bearing.touches (is_young LISTED_MS n e.moment) e (peer_at j e.moment p) (peer_at j n p)) (sym here)
+
+-- an entry that means nothing
+idle_peer : (m : ℕ) (who : Option Ip6) (x : Peer) → after (record { moment = m; peer = who; bearing = no_bearing }) x ≡ x
+idle_peer m who x = ap (λ (w : List (List ℕ)). record x { waiting = w }) (append-nil x.waiting)
+
+idle_map : (m : ℕ) (who : Option Ip6) (o : Option Peer) → option_map (after (record { moment = m; peer = who; bearing = no_bearing })) o ≡ o
+idle_map m who None = refl
+idle_map m who (Some x) = ap Some (idle_peer m who x)
+
+idle_if : (b y : Bool) (m : ℕ) (who : Option Ip6) (before now : Option Peer) → peer_if b false y (record { moment = m; peer = who; bearing = no_bearing }) before now ≡ now
+idle_if false y m who before now = refl
+idle_if true y m who before now = idle_map m who now
+
+idle_view : (e : Mention) (j : List Mention) (n : ℕ) (p : Ip6) → IsIdle e → view_after e (peer_at j) n p ≡ peer_at j n p
+idle_view e j n p (about_nobody none) = let no : is_about p e ≡ false = ap (is_peer p) none in rw no refl
+idle_view e j n p (bears_nothing none) =
+    subst (λ (b : _). peer_if (is_about p e) b.touches (is_young LISTED_MS n e.moment) (record e { bearing = b }) (peer_at j e.moment p) (peer_at j n p) ≡ peer_at j n p) (sym none) (idle_if (is_about p e) (is_young LISTED_MS n e.moment) e.moment e.peer (peer_at j e.moment p) (peer_at j n p))
+
+pub idle_stands : IdleStands
+idle_stands t e j s idle = record { view = λ n p l. s.view n p l ∙ sym (idle_view e j n p idle) ∙ sym (one_entry e j n p) }
+
+-- THE CALLS OF AN ENTRY
+
+still_waits : (p : Peer) → record p { waiting = p.waiting ++ [] } ≡ p
+still_waits p = ap (λ (w : List (List ℕ)). record p { waiting = w }) (append-nil p.waiting)
+
+pub calls_of_an_entry : CallsOfAnEntry
+calls_of_an_entry m p who = record {
+  touch = still_waits (touched_at m p);
+  queue = λ x. refl;
+  queue_tried = λ x nonce. refl;
+  tried = λ nonce. still_waits (tried_at m nonce p);
+  trust = λ at none i. record p { touched = Some m; trusted = Some at; tries = none i; nonce = None; waiting = append-nil p.waiting i };
+  heard_release = refl;
+  trust_heard_release = λ at. refl;
+  give_up = refl;
+}

@@ -1,0 +1,5 @@
+use Rattle.peer_list.proofs.StandsLemmas.{next_stands}
+use Rattle.peer_list.proofs.laws.next_stands.Goals as goal
+
+pub returns : goal.returns
+returns c = next_stands

@@ -1,0 +1,5 @@
+use Rattle.peer_list.proofs.TableLemmas.{updates_twice}
+use Rattle.peer_list.proofs.laws.updates_twice.Goals as goal
+
+pub returns : goal.returns
+returns c = updates_twice

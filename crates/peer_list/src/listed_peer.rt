@@ -1,0 +1,245 @@
+//! A peer that is listed.
+ghost use Rattle.std.specs.Prelude.{◌≡◌, ◌≤◌, ◌<◌, ◌&&◌, not, ℕ, false, true, [], ◌++◌, ◌∷◌, map, length, option_map, IfOk, OnOk, OnErr};
+ghost use Rattle.std.specs.List.{AllByRecursion};
+ghost use Rattle.ipv6_packet.specs.declared.header.TheConstants.{PACKET_MAX};
+ghost use Rattle.td_outside.specs.declared.clock.TheConstants.{CLOCK_END_MS};
+ghost use Rattle.peer_list.specs.Peers.{no_peer};
+ghost use Rattle.peer_list.specs.Judged.{is_within, is_none, is_fresh, is_spent, is_barred, is_full, is_trusted_at, due_of};
+ghost use Rattle.peer_list.specs.Calls.{touched_at, trusted_at, heard_at, tried_at, queued_at, emptied, sends_of, Queues};
+
+use crate::limits::{FRESH_MS, LISTED_MS, MOST_TRIES, MOST_WAITING};
+use crate::refusals::QueueRefusal;
+use crate::tries::{self, Tries};
+use std::alloc::Global;
+use std::marker::Model;
+use td_base::{Ep, Millis, Side};
+use td_outside::Octets;
+use teredo_node::Step;
+
+/// What is known of a listed peer.
+#[derive(Drop)]
+pub struct Peer {
+    touched: Millis,
+    trusted: Option<Ep>,
+    heard: Option<Millis>,
+    tries: Tries,
+    nonce: Option<u64>,
+    waiting: Vec<Octets>,
+}
+
+impl Model for Peer {
+    ghost use Rattle.std.specs.Prelude.{Some, option_map};
+    ghost use Rattle.td_base.specs.declared.millis.Millis.{Millis};
+    ghost use Rattle.peer_list.specs.Peers.{Peer};
+    ghost use Rattle.peer_list.specs.Bounds.{CanWait};
+
+    ghost Value = { Peer };
+
+    ghost view = { λ s. record {
+      touched = Some s.touched.0;
+      trusted = s.trusted;
+      heard = option_map (λ (m : Millis). m.0) s.heard;
+      tries = s.tries;
+      nonce = s.nonce;
+      waiting = s.waiting.items;
+    } };
+
+    ghost invariant = { λ s. CanWait s.waiting.items };
+}
+
+impl Peer {
+    /// A peer that is listed from now on.
+    pub(crate) fn new(alloc: Global, now: Millis) -> Peer
+        ensures { result ≡ touched_at now.0 no_peer }
+    {
+        Peer {
+            touched: now,
+            trusted: None,
+            heard: None,
+            tries: Tries::new(),
+            nonce: None,
+            waiting: Vec::new(alloc),
+        }
+    }
+
+    /// When it was last touched.
+    pub fn touched(&self) -> Millis
+        ensures { self.now.touched ≡ Some result.0 }
+    {
+        self.touched
+    }
+
+    /// Where it is trusted.
+    pub fn trusted(&self) -> Option<Ep>
+        ensures { result ≡ self.now.trusted }
+    {
+        self.trusted
+    }
+
+    /// When it was last heard.
+    pub fn heard(&self) -> Option<Millis>
+        ensures { self.now.heard ≡ option_map (λ m. m.0) result }
+    {
+        self.heard
+    }
+
+    /// When it was tried since it was heard, the latest first.
+    pub fn tries(&self) -> &[Millis]
+        ensures value { self.now.tries ≡ map (λ m. m.0) result.now }
+        ensures most { length result.now ≤ MOST_TRIES }
+    {
+        self.tries.as_slice()
+    }
+
+    /// The nonce of the latest test since it was trusted.
+    pub fn nonce(&self) -> Option<u64>
+        ensures { result ≡ self.now.nonce }
+    {
+        self.nonce
+    }
+
+    /// The packets that wait for it, in the order in which they came.
+    pub fn waiting(&self) -> &[Octets]
+        ensures value { result.now ≡ self.now.waiting }
+        ensures most { length result.now ≤ MOST_WAITING }
+        ensures short { AllByRecursion (λ x. length x ≤ PACKET_MAX) result.now }
+    {
+        self.waiting.as_slice()
+    }
+
+    /// Whether it is still listed.
+    pub(crate) fn is_listed(&self, now: Millis) -> bool
+        ensures { result ≡ is_within LISTED_MS now.0 self.now.touched }
+    {
+        tries::is_young(LISTED_MS, now, self.touched)
+    }
+
+    /// Whether it is still listed, and packets wait for it.
+    pub(crate) fn waits(&self, now: Millis) -> bool
+        ensures { result ≡ (is_within LISTED_MS now.0 self.now.touched && not (is_none self.now.waiting)) }
+    {
+        self.is_listed(now) && !self.waiting.is_empty()
+    }
+
+    /// Whether it is trusted at this very endpoint, port and all.
+    #[tactic(auto, unfolding(crate::specs::Judged::is_trusted_at))]
+    pub fn is_trusted_at(&self, from: Ep) -> bool
+        ensures { result ≡ is_trusted_at from self.now }
+    {
+        match self.trusted {
+            None => false,
+            Some(at) => at == from,
+        }
+    }
+
+    /// Whether packets go to it without a try: RFC 4380, section 5.2.4.
+    #[tactic(auto, unfolding(crate::specs::Judged::is_fresh))]
+    pub fn is_fresh(&self, now: Millis) -> bool
+        ensures { result ≡ is_fresh now.0 self.now }
+    {
+        match self.heard {
+            None => false,
+            Some(heard) => self.trusted.is_some() && tries::is_young(FRESH_MS, now, heard),
+        }
+    }
+
+    /// Whether no further try helps: RFC 4380, section 5.2.6.
+    #[tactic(auto, unfolding(crate::specs::Judged::is_spent))]
+    pub fn is_spent(&self, now: Millis) -> bool
+        ensures { result ≡ is_spent now.0 self.now }
+    {
+        self.tries.is_spent(now)
+    }
+
+    /// Whether it may not be tried now: RFC 4380, section 5.2.6.
+    #[tactic(auto, unfolding(crate::specs::Judged::is_barred, crate::specs::Judged::is_spent))]
+    pub fn is_barred(&self, now: Millis) -> bool
+        ensures { result ≡ is_barred now.0 self.now }
+    {
+        self.tries.is_spent(now) || self.tries.is_recent(now)
+    }
+
+    /// Whether no further packet may wait for it.
+    #[tactic(auto, unfolding(crate::specs::Judged::is_full))]
+    pub fn is_full(&self) -> bool
+        ensures { result ≡ is_full self.now }
+    {
+        MOST_WAITING <= self.waiting.len()
+    }
+
+    /// When its next try is due.
+    #[tactic(auto, unfolding(crate::specs::Judged::due_of))]
+    pub fn due(&self) -> Millis
+        ensures { result.0 ≡ due_of self.now }
+    {
+        self.tries.next()
+    }
+
+    pub(crate) fn touch(&mut self, now: Millis)
+        ensures { self.new ≡ touched_at now.0 self.old }
+    {
+        self.touched = now;
+    }
+
+    pub(crate) fn trust(&mut self, now: Millis, at: Ep)
+        ensures { self.new ≡ trusted_at now.0 at self.old }
+    {
+        self.touched = now;
+        self.trusted = Some(at);
+        self.tries.clear();
+        self.nonce = None;
+    }
+
+    pub(crate) fn hear(&mut self, now: Millis)
+        ensures { self.new ≡ heard_at now.0 self.old }
+    {
+        self.touched = now;
+        self.heard = Some(now);
+        self.tries.clear();
+    }
+
+    pub(crate) fn note_try(&mut self, now: Millis, nonce: Option<u64>)
+        requires { now.0 < CLOCK_END_MS }
+        ensures { self.new ≡ tried_at now.0 nonce self.old }
+    {
+        self.touched = now;
+        self.tries.push(now);
+        self.nonce = nonce.or(self.nonce);
+    }
+
+    /// Lets a packet wait, and touches the peer. A refusal leaves it as it was.
+    #[tactic(auto, unfolding(crate::specs::Judged::is_full))]
+    pub(crate) fn queue(&mut self, alloc: Global, now: Millis, packet: &[u8]) -> Result<(), QueueRefusal>
+        requires short { length packet.now ≤ PACKET_MAX }
+        ensures answer { Queues self.old result }
+        ensures queued { OnOk result (self.new ≡ queued_at now.0 packet.now self.old) }
+        ensures kept { OnErr result (self.new ≡ self.old) }
+    {
+        if self.is_full() {
+            return Err(QueueRefusal::Full);
+        }
+        self.waiting.push(Octets::new(alloc, packet)?)?;
+        self.touched = now;
+        Ok(())
+    }
+
+    pub(crate) fn release(&mut self, side: Side, to: Ep, step: &mut Step)
+        requires { step.old.sends ≡ [] }
+        ensures sends { step.new ≡ record step.old { sends = sends_of side to self.old.waiting } }
+        ensures rest { self.new ≡ emptied self.old }
+    {
+        for packet in &self.waiting {
+            step.push(side, to, packet.as_slice());
+        }
+        self.waiting.clear();
+    }
+
+    pub(crate) fn give_up(&mut self) -> u8
+        ensures count { result ≡ length self.old.waiting }
+        ensures rest { self.new ≡ emptied self.old }
+    {
+        let count = self.waiting.len() as u8;
+        self.waiting.clear();
+        count
+    }
+}

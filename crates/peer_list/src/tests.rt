@@ -1,0 +1,114 @@
+//! The peers of a node at the moments at which something changes, and each refusal.
+ghost use Rattle.std.specs.Prelude.{◌≡◌, ◌≤◌, ◌<◌, length};
+ghost use Rattle.td_outside.specs.declared.clock.TheConstants.{CLOCK_END_MS};
+
+use crate::{Peers, PeersRefusal, QueueRefusal};
+use std::process::Abort;
+use std::test::Fail;
+use td_base::{Ep, Ip4, Ip6, Millis, Side};
+use teredo_node::{Fate, Step};
+
+const FROM: Ep = Ep {
+    ip: Ip4([192, 0, 2, 45]),
+    port: 40000,
+};
+
+const PEER: Ip6 = Ip6([0x20, 1, 0, 0, 65, 54, 227, 120, 128, 0, 99, 191, 63, 255, 253, 210]);
+
+fn address(number: u16) -> Ip6 {
+    let [high, low] = number.to_be_bytes();
+    Ip6([0x20, 1, 0xd, 0xb8, 0, 0, 0, 0, 0, 0, 0, 0, 0, 0, high, low])
+}
+
+/// Queues a packet of one byte.
+fn queue(rt: &impl Abort, peers: &mut Peers, now: Millis, byte: u8) -> Result<(), QueueRefusal>
+    requires { peers.old.moment ≤ now.0 }
+    ensures { peers.new.moment ≡ now.0 }
+{
+    assert!(rt; peers.has_room(now, PEER));
+    peers.queue(now, PEER, &[byte])
+}
+
+/// Tries the peer.
+fn try_at(rt: &impl Abort, peers: &mut Peers, now: Millis)
+    requires clock { peers.old.moment ≤ now.0 }
+    requires early { now.0 < CLOCK_END_MS }
+    ensures { peers.new.moment ≡ now.0 }
+{
+    assert!(rt; peers.is_listed(now, PEER));
+    assert!(rt; !peers.is_barred(now, PEER));
+    peers.tried(now, PEER, None);
+}
+
+#[test]
+fn a_256th_peer_and_a_257th(rt: HostRuntime) -> Result<(), Fail> {
+    let mut peers = Peers::new(rt.alloc());
+    for number in 0..256 {
+        peers.admit(Millis(7), address(number))?;
+    }
+    assert_eq!(rt; peers.admit(Millis(300_006), address(256)), Err(PeersRefusal::Full));
+    assert_eq!(rt; peers.admit(Millis(300_006), address(0)), Ok(()));
+    assert_eq!(rt; peers.admit(Millis(300_007), address(256)), Ok(()));
+    assert_eq!(rt; peers.count(Millis(300_007)), 2);
+    Ok(())
+}
+
+#[test]
+fn eight_packets_and_a_ninth(rt: HostRuntime) -> Result<(), Fail> {
+    let mut peers = Peers::new(rt.alloc());
+    for byte in 0..8 {
+        queue(&rt, &mut peers, Millis(0), byte)?;
+    }
+    assert_eq!(rt; queue(&rt, &mut peers, Millis(0), 8), Err(QueueRefusal::Full));
+    assert_eq!(rt; peers.waiting(Millis(0)), 8);
+    let mut step = Step::new();
+    step.reset(Fate::Rule1);
+    assert!(rt; peers.is_listed(Millis(0), PEER));
+    peers.release(PEER, Side::Primary, FROM, &mut step);
+    assert_eq!(rt; step.count(), 8);
+    assert_eq!(rt; step.send(0).2, [0].as_slice());
+    assert_eq!(rt; peers.waiting(Millis(0)), 0);
+    Ok(())
+}
+
+#[test]
+fn late_ticks(rt: HostRuntime) -> Result<(), Fail> {
+    let mut peers = Peers::new(rt.alloc());
+    queue(&rt, &mut peers, Millis(0), 1)?;
+    try_at(&rt, &mut peers, Millis(0));
+    queue(&rt, &mut peers, Millis(1_999), 2)?;
+    assert!(rt; peers.is_barred(Millis(1_999), PEER));
+    assert_eq!(rt; peers.due(Millis(301_500)), Some((Millis(2_000), PEER)));
+    assert_eq!(rt; peers.due(Millis(301_998)), Some((Millis(2_000), PEER)));
+    assert_eq!(rt; peers.due(Millis(301_999)), None);
+    Ok(())
+}
+
+#[test]
+fn four_tries(rt: HostRuntime) -> Result<(), Fail> {
+    let mut peers = Peers::new(rt.alloc());
+    queue(&rt, &mut peers, Millis(0), 1)?;
+    for turn in 0..4 {
+        try_at(&rt, &mut peers, Millis(2_000 * turn));
+    }
+    assert!(rt; peers.is_spent(Millis(8_000), PEER));
+    assert!(rt; peers.is_listed(Millis(8_000), PEER));
+    assert_eq!(rt; peers.give_up(Millis(8_000), PEER), 1);
+    queue(&rt, &mut peers, Millis(299_999), 2)?;
+    assert!(rt; peers.is_barred(Millis(299_999), PEER));
+    assert!(rt; !peers.is_barred(Millis(300_000), PEER));
+    Ok(())
+}
+
+#[test]
+fn trust_and_time(rt: HostRuntime) -> Result<(), Fail> {
+    for (later, trusted) in [(299_999, true), (300_000, false)] {
+        let mut peers = Peers::new(rt.alloc());
+        peers.admit(Millis(1), PEER)?;
+        assert!(rt; peers.is_listed(Millis(1), PEER));
+        peers.trust(Millis(1), PEER, FROM);
+        peers.admit(Millis(1 + later), PEER)?;
+        assert_eq!(rt; peers.is_trusted_at(Millis(1 + later), PEER, FROM), trusted);
+    }
+    Ok(())
+}

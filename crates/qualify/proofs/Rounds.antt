@@ -1,0 +1,122 @@
+-- What a tick makes of a phase, or of an address.
+use Rattle.std.proofs.Common.{◌≡◌, ℕ, ◌+◌, Bool, true, false, cond, nat_lt, List, [], ◌∷◌, length, Option, Some, None, refl, sym, ap, ◌∙◌, subst, arith}
+use Rattle.std.specs.Prelude.{option_to_list}
+use Rattle.td_base.specs.declared.ipv6.Ip6.{Ip6}
+use Rattle.td_base.specs.declared.endpoint.Ep.{Ep}
+use Rattle.teredo_addr.specs.Teredo.{has_cone}
+use Rattle.teredo_node.specs.declared.fate.Fate.{Fate}
+use Rattle.teredo_node.specs.declared.fate.Fate.TheVariants as fate
+use Rattle.teredo_node.specs.Step.{Step, just}
+use Rattle.teredo_node.specs.Words.{drawn_words, nonce_from}
+use Rattle.teredo_node.specs.Journal.{Words}
+use Rattle.qualify.specs.declared.settings.Settings.{Settings}
+use Rattle.qualify.specs.declared.phase.Phase.{Phase}
+use Rattle.qualify.specs.declared.phase.Phase.TheVariants.{Cone, Restricted, Secondary, Qualified, OffLine}
+use Rattle.qualify.specs.declared.limits.TheConstants.{SOLICITATION_GAP_MS, SOLICITATIONS_MAX}
+use Rattle.qualify.specs.declared.round.Round.{Round}
+use Rattle.qualify.specs.declared.upkeep.Upkeep.{Upkeep}
+use Rattle.qualify.specs.Turns.{interval_of}
+use Rattle.qualify.specs.Qualification.{Qualification}
+use Rattle.qualify.specs.Solicitations.{own_address, solicits, solicits_by, due_step}
+use Rattle.qualify.specs.declared.state.State.{State}
+use Rattle.qualify.specs.declared.state.State.TheVariants as states
+use Rattle.qualify.specs.State.{nonces_of, asks_so, keeps_up, lasts, qualification_of}
+use Rattle.qualify.specs.Qualifier.{TurnsBy, TicksBy}
+
+-- PARTS OF A PHASE
+
+pub begun_so : (phase : Phase) (kept : Option Ep) (r : Round) (m : ℕ) → r.due.0 ≡ m → nonces_of r.nonces ≡ []
+    → asks_so phase r kept ≡ record { phase = phase; due = Some m; sends = 0; open_nonces = []; kept = kept; address = None; interval = 0 }
+begun_so phase kept r m due none =
+    let len : length (nonces_of r.nonces) ≡ 0 = ap length none in
+    λ i. record { phase = phase; due = Some (due i); sends = len i; open_nonces = none i; kept = kept; address = None; interval = 0 }
+
+asked_so : (phase : Phase) (kept : Option Ep) (r : Round) (m drawn : ℕ) (before : List ℕ) → r.due.0 ≡ m → nonces_of r.nonces ≡ drawn ∷ before
+    → asks_so phase r kept ≡ record { phase = phase; due = Some m; sends = length before + 1; open_nonces = drawn ∷ before; kept = kept; address = None; interval = 0 }
+asked_so phase kept r m drawn before due nonces =
+    let len : length (nonces_of r.nonces) ≡ length before + 1 = ap length nonces ∙ omega arith in
+    λ i. record { phase = phase; due = Some (due i); sends = len i; open_nonces = nonces i; kept = kept; address = None; interval = 0 }
+
+kept_up : (a : Upkeep) (m drawn interval : ℕ) (address : Ip6) → a.due.0 ≡ m → a.nonce ≡ Some drawn → a.interval ≡ interval → a.address ≡ address
+    → keeps_up a ≡ record { phase = Qualified; due = Some m; sends = 0; open_nonces = drawn ∷ []; kept = None; address = Some address; interval = interval }
+kept_up a m drawn interval address due is long same =
+    let nonces : option_to_list a.nonce ≡ drawn ∷ [] = ap option_to_list is in
+    λ i. record { phase = Qualified; due = Some (due i); sends = 0; open_nonces = nonces i; kept = None; address = Some (same i); interval = long i }
+
+-- TICKS
+
+-- a step that is what is done, and what one entry more makes of it
+ticks_by : (s : Settings) (n : ℕ) (w : Words) (before after : Qualification) (does done step : Step) → step ≡ done → does ≡ done
+    → ((origin : Option Ep) → TurnsBy s n done.fate (drawn_words done.drawn w) origin before after) → TicksBy s n w does before step after
+ticks_by s n w before after does done step is so turns = record {
+  is = is ∙ sym so;
+  turns = λ origin. subst (λ (x : Step). TurnsBy s n x.fate (drawn_words x.drawn w) origin before after) (sym is) (turns origin);
+}
+
+-- which of two steps is due
+due_of_two : (s : Settings) (q : Qualification) (w : Words) (b : Bool) (here there : Fate) (c : Bool) → b ≡ c → solicits_by s q w (cond b here there) ≡ solicits_by s q w (cond c here there)
+due_of_two s q w b here there c h = ap (λ (x : Bool). solicits_by s q w (cond x here there)) h
+
+pub cone_asks : (s : Settings) (n : ℕ) (w : Words) (r after : Round) (drawn : ℕ) (step : Step) → nat_lt (length (nonces_of r.nonces)) SOLICITATIONS_MAX ≡ true
+    → step ≡ solicits s fate.RsCone Cone true 2 w → drawn ≡ nonce_from w → after.due.0 ≡ n + SOLICITATION_GAP_MS → nonces_of after.nonces ≡ drawn ∷ nonces_of r.nonces
+    → TicksBy s n w (due_step s (asks_so Cone r None) w) (asks_so Cone r None) step (asks_so Cone after None)
+unfolding due_step
+cone_asks s n w r after drawn step again is from due nonces =
+    ticks_by s n w (asks_so Cone r None) (asks_so Cone after None) _ (solicits s fate.RsCone Cone true 2 w) step is
+    (due_of_two s (asks_so Cone r None) w (nat_lt (length (nonces_of r.nonces)) SOLICITATIONS_MAX) fate.RsCone fate.RsRestricted true again)
+    (λ origin. asked_so Cone None after (n + SOLICITATION_GAP_MS) (nonce_from w) (nonces_of r.nonces) due (nonces ∙ ap (λ (x : ℕ). x ∷ nonces_of r.nonces) from))
+
+pub cone_is_over : (s : Settings) (n : ℕ) (w : Words) (r begun after : Round) (drawn : ℕ) (step : Step) → nat_lt (length (nonces_of r.nonces)) SOLICITATIONS_MAX ≡ false
+    → step ≡ solicits s fate.RsRestricted Restricted false 2 w → drawn ≡ nonce_from w → nonces_of begun.nonces ≡ [] → after.due.0 ≡ n + SOLICITATION_GAP_MS → nonces_of after.nonces ≡ drawn ∷ nonces_of begun.nonces
+    → TicksBy s n w (due_step s (asks_so Cone r None) w) (asks_so Cone r None) step (asks_so Restricted after None)
+unfolding due_step
+cone_is_over s n w r begun after drawn step over is from none due nonces =
+    ticks_by s n w (asks_so Cone r None) (asks_so Restricted after None) _ (solicits s fate.RsRestricted Restricted false 2 w) step is
+    (due_of_two s (asks_so Cone r None) w (nat_lt (length (nonces_of r.nonces)) SOLICITATIONS_MAX) fate.RsCone fate.RsRestricted false over)
+    (λ origin. asked_so Restricted None after (n + SOLICITATION_GAP_MS) (nonce_from w) [] due (nonces ∙ (λ i. from i ∷ none i)))
+
+pub restricted_asks : (s : Settings) (n : ℕ) (w : Words) (r after : Round) (drawn : ℕ) (step : Step) → nat_lt (length (nonces_of r.nonces)) SOLICITATIONS_MAX ≡ true
+    → step ≡ solicits s fate.RsRestricted Restricted false 2 w → drawn ≡ nonce_from w → after.due.0 ≡ n + SOLICITATION_GAP_MS → nonces_of after.nonces ≡ drawn ∷ nonces_of r.nonces
+    → TicksBy s n w (due_step s (asks_so Restricted r None) w) (asks_so Restricted r None) step (asks_so Restricted after None)
+unfolding due_step
+restricted_asks s n w r after drawn step again is from due nonces =
+    ticks_by s n w (asks_so Restricted r None) (asks_so Restricted after None) _ (solicits s fate.RsRestricted Restricted false 2 w) step is
+    (due_of_two s (asks_so Restricted r None) w (nat_lt (length (nonces_of r.nonces)) SOLICITATIONS_MAX) fate.RsRestricted fate.OffLine true again)
+    (λ origin. asked_so Restricted None after (n + SOLICITATION_GAP_MS) (nonce_from w) (nonces_of r.nonces) due (nonces ∙ ap (λ (x : ℕ). x ∷ nonces_of r.nonces) from))
+
+pub restricted_is_over : (s : Settings) (n : ℕ) (w : Words) (r : Round) (step : Step) → nat_lt (length (nonces_of r.nonces)) SOLICITATIONS_MAX ≡ false → step ≡ just fate.OffLine
+    → TicksBy s n w (due_step s (asks_so Restricted r None) w) (asks_so Restricted r None) step (lasts OffLine)
+unfolding due_step
+restricted_is_over s n w r step over is =
+    ticks_by s n w (asks_so Restricted r None) (lasts OffLine) _ (just fate.OffLine) step is
+    (due_of_two s (asks_so Restricted r None) w (nat_lt (length (nonces_of r.nonces)) SOLICITATIONS_MAX) fate.RsRestricted fate.OffLine false over)
+    (λ origin. refl)
+
+pub secondary_asks : (s : Settings) (n : ℕ) (w : Words) (r after : Round) (kept : Ep) (drawn : ℕ) (step : Step) → nat_lt (length (nonces_of r.nonces)) SOLICITATIONS_MAX ≡ true
+    → step ≡ solicits s fate.RsSecondary Secondary false 2 w → drawn ≡ nonce_from w → after.due.0 ≡ n + SOLICITATION_GAP_MS → nonces_of after.nonces ≡ drawn ∷ nonces_of r.nonces
+    → TicksBy s n w (due_step s (asks_so Secondary r (Some kept)) w) (asks_so Secondary r (Some kept)) step (asks_so Secondary after (Some kept))
+unfolding due_step
+secondary_asks s n w r after kept drawn step again is from due nonces =
+    ticks_by s n w (asks_so Secondary r (Some kept)) (asks_so Secondary after (Some kept)) _ (solicits s fate.RsSecondary Secondary false 2 w) step is
+    (due_of_two s (asks_so Secondary r (Some kept)) w (nat_lt (length (nonces_of r.nonces)) SOLICITATIONS_MAX) fate.RsSecondary fate.OffLine true again)
+    (λ origin. asked_so Secondary (Some kept) after (n + SOLICITATION_GAP_MS) (nonce_from w) (nonces_of r.nonces) due (nonces ∙ ap (λ (x : ℕ). x ∷ nonces_of r.nonces) from))
+
+pub secondary_is_over : (s : Settings) (n : ℕ) (w : Words) (r : Round) (kept : Ep) (step : Step) → nat_lt (length (nonces_of r.nonces)) SOLICITATIONS_MAX ≡ false → step ≡ just fate.OffLine
+    → TicksBy s n w (due_step s (asks_so Secondary r (Some kept)) w) (asks_so Secondary r (Some kept)) step (lasts OffLine)
+unfolding due_step
+secondary_is_over s n w r kept step over is =
+    ticks_by s n w (asks_so Secondary r (Some kept)) (lasts OffLine) _ (just fate.OffLine) step is
+    (due_of_two s (asks_so Secondary r (Some kept)) w (nat_lt (length (nonces_of r.nonces)) SOLICITATIONS_MAX) fate.RsSecondary fate.OffLine false over)
+    (λ origin. refl)
+
+pub refreshes_so : (s : Settings) (n : ℕ) (w : Words) (a after : Upkeep) (step : Step) → step ≡ solicits s fate.Refresh Qualified (has_cone a.address) 3 w
+    → after.due.0 ≡ n + interval_of s (w 2) → after.nonce ≡ Some (nonce_from w) → after.interval ≡ interval_of s (w 2) → after.address ≡ a.address
+    → TicksBy s n w (due_step s (keeps_up a) w) (keeps_up a) step (keeps_up after)
+unfolding due_step own_address
+refreshes_so s n w a after step is due drawn long same =
+    ticks_by s n w (keeps_up a) (keeps_up after) _ (solicits s fate.Refresh Qualified (has_cone a.address) 3 w) step is refl
+    (λ origin. kept_up after (n + interval_of s (w 2)) (nonce_from w) (interval_of s (w 2)) a.address due drawn long same)
+
+-- the same of a state that is known to be off line
+pub over_by : (s : Settings) (n : ℕ) (w : Words) (does : Step) (before : Qualification) (step : Step) (x : State) → x ≡ states.OffLine → TicksBy s n w does before step (lasts OffLine) → TicksBy s n w does before step (qualification_of x)
+over_by s n w does before step x is ticks = subst (λ (y : State). TicksBy s n w does before step (qualification_of y)) (sym is) ticks

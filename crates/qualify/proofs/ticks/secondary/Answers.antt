@@ -1,0 +1,19 @@
+use Rattle.std.proofs.Common.{sym, ap, ◌∙◌}
+use Rattle.teredo_node.specs.Step.{Step}
+use Rattle.qualify.specs.Generator.{words_of, after_words}
+use Rattle.qualify.proofs.Rounds.{secondary_asks, secondary_is_over, over_by}
+use Rattle.qualify.proofs.ticks.secondary.Goals as goal
+
+pub returns-else-asks_again-clause-tick : goal.returns-else-asks_again-clause-tick
+returns-else-asks_again-clause-tick c =
+    over_by c.args.settings.now c.args.now.0 (words_of c.args.rng.now) _ _ c.off_line.new.step c.off_line.result c.off_line.ensures.state
+    (secondary_is_over c.args.settings.now c.args.now.0 (words_of c.args.rng.now) c.args.round c.args.kept c.off_line.new.step (sym c.asks_again.ensures ∙ c.if-asks_again.false) c.off_line.ensures.step)
+
+pub returns-else-asks_again-clause-place : goal.returns-else-asks_again-clause-place
+unfolding after_words
+returns-else-asks_again-clause-place c = ap (λ (x : Step). after_words x.drawn c.args.rng.now) (sym c.off_line.ensures.step)
+
+pub returns-then-asks_again-clause-tick : goal.returns-then-asks_again-clause-tick
+returns-then-asks_again-clause-tick c =
+    secondary_asks c.args.settings.now c.args.now.0 (words_of c.args.rng.now) c.args.round c.asked.result c.args.kept c.solicit-nonce.result c.solicit-nonce.new.step (sym c.asks_again.ensures ∙ c.if-asks_again.true)
+    c.solicit-nonce.ensures.step c.solicit-nonce.ensures.nonce c.asked.ensures.due c.asked.ensures.nonces

@@ -1,0 +1,40 @@
+//! What is drawn of a generator's words.
+ghost use Rattle.std.specs.Prelude.{◌≡◌, ◌≤◌};
+ghost use Rattle.teredo_node.specs.Words.{nonce_from};
+ghost use Rattle.qualify.specs.Generator.{words_of, after_words};
+ghost use Rattle.qualify.specs.Turns.{interval_of};
+ghost use Rattle.qualify.specs.declared.limits.TheConstants.{INTERVAL_MIN_MS};
+ghost use Rattle.qualify.specs.Qualifier.{IsSettings};
+
+use crate::settings::Settings;
+use rand_chacha::ChaCha20Rng;
+use rand_core::utils::NextWord;
+
+/// How many words a nonce is.
+pub const NONCE_WORDS: u8 = 2;
+
+/// How many words an interval is.
+pub const INTERVAL_WORDS: u8 = 1;
+
+/// A nonce: two words, the first one the high half.
+#[tactic(auto, unfolding(crate::specs::Generator::words_of, crate::specs::Generator::after_words))]
+pub fn draw_nonce(rng: &mut ChaCha20Rng) -> u64
+    ensures value { result ≡ nonce_from (words_of rng.old) }
+    ensures place { rng.new ≡ after_words 2 rng.old }
+{
+    let high = rng.next_word();
+    let low = rng.next_word();
+    u64::from(high) << 32 | u64::from(low)
+}
+
+/// The time to a refresh, in milliseconds: one word, brought between the shortest and the longest time.
+#[tactic(auto, unfolding(crate::specs::Generator::words_of, crate::specs::Generator::after_words, crate::specs::Turns::interval_of))]
+pub fn draw_interval(settings: &Settings, rng: &mut ChaCha20Rng) -> u32
+    requires settings { IsSettings settings.now }
+    ensures value { result ≡ interval_of settings.now (words_of rng.old 0) }
+    ensures least { INTERVAL_MIN_MS ≤ result }
+    ensures place { rng.new ≡ after_words 1 rng.old }
+{
+    let word = rng.next_word();
+    settings.low + word % (settings.high - settings.low + 1)
+}

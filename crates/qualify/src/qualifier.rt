@@ -1,0 +1,140 @@
+//! A client's qualification.
+ghost use Rattle.std.specs.Prelude.{◌≡◌, ◌≤◌, ◌<◌, ℕ, [], length, false, is_some, option_map, IfSome};
+ghost use Rattle.td_outside.specs.declared.clock.TheConstants.{CLOCK_END_MS};
+ghost use Rattle.td_base.specs.declared.datagram.TheConstants.{DATAGRAM_MAX};
+ghost use Rattle.bubble.specs.Payloads.{view};
+ghost use Rattle.teredo_node.specs.Journal.{Entry, Journal, with_entry};
+ghost use Rattle.qualify.specs.declared.limits.TheConstants.{DUE_END_MS};
+ghost use Rattle.qualify.specs.Qualification.{qualification};
+ghost use Rattle.qualify.specs.Solicitations.{is_due, is_qualified, step_at};
+ghost use Rattle.qualify.specs.Advertisements.{advert_row, advert_words};
+ghost use Rattle.qualify.specs.Generator.{words_of, after_words};
+ghost use Rattle.qualify.specs.Qualifier.{IsSettings, StandsFor, IsOfAdvert, IsOfTick, IsOfServer, has_due};
+
+use crate::answers::heard;
+use crate::phase::Phase;
+use crate::settings::Settings;
+use crate::state::State;
+use crate::ticks::ticked;
+use bubble::Payload;
+use rand_chacha::ChaCha20Rng;
+use std::marker::Model;
+use td_base::{Ep, Ip6, Millis};
+use teredo_node::{Fate, Step};
+
+/// A client's phase, its address, and what is due of them.
+#[derive(Drop)]
+pub struct Qualifier {
+    settings: Settings,
+    state: State,
+}
+
+impl Model for Qualifier {
+    ghost use Rattle.qualify.specs.Qualifier.{QualifierState, IsSettings};
+    ghost use Rattle.qualify.specs.State.{qualification_of};
+
+    ghost Value = { QualifierState };
+
+    ghost view = { λ a. record { settings = a.settings; now = qualification_of a.state } };
+
+    ghost invariant = { λ a. IsSettings a.settings };
+}
+
+impl Qualifier {
+    /// A client that starts now: its first phase begins, and asks at once.
+    pub fn start(settings: Settings, now: Millis) -> Qualifier
+        requires settings { IsSettings settings }
+        requires bound { now.0 < CLOCK_END_MS }
+        ensures settings { result.settings ≡ settings }
+        ensures stands { StandsFor result (record { start = now.0; entries = [] }) }
+    {
+        Qualifier {
+            settings,
+            state: State::begun(now),
+        }
+    }
+
+    /// Those that it was started with.
+    pub fn settings(&self) -> &Settings
+        ensures { result.now ≡ self.now.settings }
+    {
+        &self.settings
+    }
+
+    pub fn phase(&self) -> Phase
+        ensures { result ≡ self.now.now.phase }
+    {
+        self.state.phase()
+    }
+
+    /// The client's address, exactly while it is qualified.
+    pub fn address(&self) -> Option<Ip6>
+        ensures value { result ≡ self.now.now.address }
+        ensures qualified { is_some result ≡ is_qualified self.now.now.phase }
+    {
+        self.state.address()
+    }
+
+    /// When the phase or the refresh is due; nothing is, in the two phases that last.
+    pub fn due(&self) -> Option<Millis>
+        ensures value { option_map (λ m. m.0) result ≡ self.now.now.due }
+        ensures some { is_some result ≡ has_due self.now.now.phase }
+        ensures bound { IfSome result (λ m. m.0 < DUE_END_MS) }
+    {
+        self.state.due()
+    }
+
+    /// Takes an advertisement that came from `from`, or drops it. It draws a word where the client becomes qualified.
+    pub fn on_advert(
+        &mut self,
+        now: Millis,
+        from: Ep,
+        payload: &Payload<'_>,
+        rng: &mut ChaCha20Rng,
+    ) -> Fate
+        requires bound { now.0 < CLOCK_END_MS }
+        requires short { length payload.now.packet.body.now ≤ DATAGRAM_MAX }
+
+        // After each journal that it stood for, this is the fate; then it stands for that journal with this entry.
+        ensures fate { (j : Journal) → StandsFor self.old j →
+            result ≡ advert_row self.old.settings (qualification self.old.settings j) from (view payload.now) }
+        ensures stands { (j : Journal) (e : Entry) → StandsFor self.old j →
+            IsOfAdvert now.0 (view payload.now) result (words_of rng.old) e → StandsFor self.new (with_entry j e) }
+
+        ensures place { rng.new ≡ after_words (advert_words result) rng.old }
+        ensures settings { self.new.settings ≡ self.old.settings }
+    {
+        let (state, fate) = heard(&self.settings, self.state, from, payload, now, rng);
+        self.state = state;
+        fate
+    }
+
+    /// A bubble came through the server: the next refresh is an interval from now.
+    pub fn heard_server(&mut self, now: Millis)
+        requires bound { now.0 < CLOCK_END_MS }
+        ensures stands { (j : Journal) (e : Entry) → StandsFor self.old j →
+            IsOfServer now.0 e → StandsFor self.new (with_entry j e) }
+        ensures settings { self.new.settings ≡ self.old.settings }
+    {
+        self.state = self.state.renewed(now);
+    }
+
+    /// Does what is due by now, or nothing, with the fate `Idle`: the phase's solicitation or its end, or the refresh.
+    /// A solicitation draws a nonce, and one that refreshes an interval after it.
+    pub fn on_tick(&mut self, now: Millis, rng: &mut ChaCha20Rng, step: &mut Step)
+        requires bound { now.0 < CLOCK_END_MS }
+
+        // After each journal that it stood for, this is done; then it stands for that journal with this entry.
+        ensures step { (j : Journal) → StandsFor self.old j →
+            step.new ≡ step_at self.old.settings (qualification self.old.settings j) now.0 (words_of rng.old) }
+        ensures stands { (j : Journal) (e : Entry) → StandsFor self.old j →
+            IsOfTick now.0 step.new (words_of rng.old) e → StandsFor self.new (with_entry j e) }
+        // Nothing is due at this moment any more.
+        ensures done { is_due now.0 self.new.now.due ≡ false }
+
+        ensures place { rng.new ≡ after_words step.new.drawn rng.old }
+        ensures settings { self.new.settings ≡ self.old.settings }
+    {
+        self.state = ticked(&self.settings, self.state, now, rng, step);
+    }
+}

@@ -1,0 +1,279 @@
+-- One more node whose name and addresses no node has keeps the rules of a topology.
+use Rattle.std.proofs.Common.{◌≡◌, ◌≢◌, ◌<◌, true, false, List, [], ◌∷◌, ◌++◌, length, map, refl, sym, ap, subst, ◌∙◌, arith, append_assoc, length-append}
+use Rattle.std.specs.Prelude.{is_some, slice_get, option_and_then}
+use Rattle.std.specs.Cmp.{nat_eq_equiv}
+use Rattle.std.specs.List.{list_any, AllByRecursion}
+use Rattle.std.proofs.lemmas.List.{map-append}
+use Rattle.td_base.specs.declared.ipv4.Ip4.{Ip4}
+use Rattle.td_base.specs.declared.ipv6.Ip6.{Ip6}
+use Rattle.td_base.specs.declared.node_name.Name.{Name}
+use Rattle.td_base.specs.declared.reach.Policy.TheVariants.{Strict}
+use Rattle.td_base.specs.Ip4.{same_ip, same_ip_equiv}
+use Rattle.td_base.specs.Ip6.{same_ip6, same_ip6_equiv}
+use Rattle.td_base.specs.Ep.{same_ep_equiv}
+use Rattle.td_base.specs.Names.{name_text, same_name, same_name_equiv}
+use Rattle.td_base.specs.Reach.{is_global}
+use Rattle.topology.specs.declared.server_node.ServerNode.{ServerNode}
+use Rattle.topology.specs.declared.nat_node.NatNode.{NatNode}
+use Rattle.topology.specs.declared.client_node.ClientNode.{ClientNode}
+use Rattle.topology.specs.declared.relay_node.RelayNode.{RelayNode}
+use Rattle.topology.specs.declared.native_node.NativeNode.{NativeNode}
+use Rattle.topology.specs.declared.topology.TheConstants.{MOST_SERVERS, MOST_NATS, MOST_CLIENTS, MOST_RELAYS, MOST_NATIVES}
+use Rattle.topology.specs.NodeNames.{is_name}
+use Rattle.topology.specs.Rows.{TopologyState, with_server, with_nat, with_client, with_relay, with_native}
+use Rattle.topology.specs.Topology.{Node, server, nat, client, relay, native, nodes, name_of, as_server, as_nat, as_relay, relay_at}
+use Rattle.topology.specs.Rules.{AreDistinct, names_of, addresses_of, sixes_of, same_inside, IsIdle, IsClient, IsOutside, IsTopology}
+use Rattle.scenario.specs.declared.node_kind.NodeKind.TheVariants as kind
+use Rattle.scenario.specs.Filling.{HasNoneBehind}
+use Rattle.scenario.proofs.Lasts.{none_last, distinct_last, each_last, each_as, each_of_none, nodes_server, nodes_nat, nodes_client, nodes_relay, nodes_native, addresses_server, addresses_nat, addresses_relay, sixes_relay, sixes_native, number_kept}
+
+-- ---- names, addresses and numbers
+
+pub record IsFreeName (t : TopologyState) (a : Name) : Type 0 where
+  pub free : list_any (same_name a) (names_of t) ≡ false
+  pub spelled : is_name (name_text a) ≡ true
+
+abbrev IsSpelled : Name → Type 0
+IsSpelled a = is_name (name_text a) ≡ true
+
+record AreNames (names : List Name) : Type 0 where
+  distinct : AreDistinct same_name names
+  spelled : AllByRecursion IsSpelled names
+
+names_grown : (t u : TopologyState) (n : Node) → nodes u ≡ nodes t ++ n ∷ [] → IsTopology t → IsFreeName t (name_of n) → AreNames (names_of u)
+names_grown t u n e is free =
+    let whole : names_of u ≡ names_of t ++ name_of n ∷ [] = ap (map name_of) e ∙ map-append name_of (nodes t) (n ∷ []) in
+    let grown : AreNames (names_of t ++ name_of n ∷ []) = record {
+      distinct = distinct_last same_name_equiv.symm (names_of t) (name_of n) is.names free.free;
+      spelled = each_last IsSpelled (names_of t) (name_of n) is.spelled free.spelled;
+    } in
+    subst AreNames (sym whole) grown
+
+pub record IsFreeIp (t : TopologyState) (ip : Ip4) : Type 0 where
+  pub free : list_any (same_ip ip) (addresses_of t) ≡ false
+  pub global : is_global Strict ip ≡ true
+
+abbrev IsGlobal : Ip4 → Type 0
+IsGlobal ip = is_global Strict ip ≡ true
+
+record AreAddresses (ips : List Ip4) : Type 0 where
+  distinct : AreDistinct same_ip ips
+  global : AllByRecursion IsGlobal ips
+
+one_address : (ips : List Ip4) (ip : Ip4) → AreAddresses ips → list_any (same_ip ip) ips ≡ false → is_global Strict ip ≡ true → AreAddresses (ips ++ ip ∷ [])
+one_address ips ip h free global = record {
+  distinct = distinct_last same_ip_equiv.symm ips ip h.distinct free;
+  global = each_last IsGlobal ips ip h.global global;
+}
+
+addresses_are : (t : TopologyState) → IsTopology t → AreAddresses (addresses_of t)
+addresses_are t is = record { distinct = is.addresses; global = is.global }
+
+pub record IsFreeSix (t : TopologyState) (ip : Ip6) : Type 0 where
+  pub free : list_any (same_ip6 ip) (sixes_of t) ≡ false
+  pub outside : IsOutside ip
+
+record AreSixes (ips : List Ip6) : Type 0 where
+  distinct : AreDistinct same_ip6 ips
+  outside : AllByRecursion IsOutside ips
+
+sixes_grown : (t : TopologyState) (ips : List Ip6) (ip : Ip6) → ips ≡ sixes_of t ++ ip ∷ [] → IsTopology t → IsFreeSix t ip → AreSixes ips
+sixes_grown t ips ip e is free =
+    let grown : AreSixes (sixes_of t ++ ip ∷ []) = record {
+      distinct = distinct_last same_ip6_equiv.symm (sixes_of t) ip is.sixes free.free;
+      outside = each_last IsOutside (sixes_of t) ip is.outside free.outside;
+    } in
+    subst AreSixes (sym e) grown
+
+client_stays : (t u : TopologyState) (n : Node) → nodes u ≡ nodes t ++ n ∷ [] → (c : ClientNode) → IsClient t c → IsClient u c
+client_stays t u n e c is =
+    let Nat : List Node → Type 0 = λ ns. is_some (option_and_then as_nat (slice_get ns c.nat)) ≡ true in
+    let Server : List Node → Type 0 = λ ns. is_some (option_and_then as_server (slice_get ns c.server)) ≡ true in
+    record {
+      behind = subst Nat (sym e) (number_kept as_nat (nodes t) (n ∷ []) c.nat is.behind);
+      asks = subst Server (sym e) (number_kept as_server (nodes t) (n ∷ []) c.server is.asks);
+      port = is.port;
+      least = is.least;
+      order = is.order;
+      most = is.most;
+    }
+
+abbrev IsThrough : TopologyState → NativeNode → Type 0
+IsThrough t h = is_some (relay_at t h.relay) ≡ true
+
+through_stays : (t u : TopologyState) (n : Node) → nodes u ≡ nodes t ++ n ∷ [] → (h : NativeNode) → IsThrough t h → IsThrough u h
+through_stays t u n e h is =
+    let Relay : List Node → Type 0 = λ ns. is_some (option_and_then as_relay (slice_get ns h.relay)) ≡ true in
+    subst Relay (sym e) (number_kept as_relay (nodes t) (n ∷ []) h.relay is)
+
+-- ---- servers
+
+pub record IsFreshServer (t : TopologyState) (row : ServerNode) : Type 0 where
+  pub name : IsFreeName t row.name
+  pub primary : IsFreeIp t row.primary
+  pub secondary : IsFreeIp t row.secondary
+  pub two : same_ip row.primary row.secondary ≡ false
+
+two_addresses : (t : TopologyState) (row : ServerNode) → IsTopology t → IsFreshServer t row → AreAddresses (addresses_of t ++ row.primary ∷ row.secondary ∷ [])
+two_addresses t row is fresh =
+    let one = one_address (addresses_of t) row.primary (addresses_are t is) fresh.primary.free fresh.primary.global in
+    let other : list_any (same_ip row.secondary) (addresses_of t ++ row.primary ∷ []) ≡ false = none_last (same_ip row.secondary) (addresses_of t) row.primary fresh.secondary.free (same_ip_equiv.symm row.secondary row.primary ∙ fresh.two) in
+    let both = one_address (addresses_of t ++ row.primary ∷ []) row.secondary one other fresh.secondary.global in
+    subst AreAddresses (append_assoc (addresses_of t) (row.primary ∷ []) (row.secondary ∷ [])) both
+
+pub grown_server : (t : TopologyState) (row : ServerNode) → IsTopology t → IsFreshServer t row → length t.servers < MOST_SERVERS → HasNoneBehind kind.Server t → IsTopology (with_server t row)
+grown_server t row is fresh few h =
+    let names = names_grown t (with_server t row) (server row) (nodes_server t row h) is fresh.name in
+    let ips = subst AreAddresses (sym (addresses_server t row h)) (two_addresses t row is fresh) in
+    record {
+      servers = omega (arith, few, length-append t.servers (row ∷ []));
+      nats = is.nats;
+      clients = is.clients;
+      relays = is.relays;
+      natives = is.natives;
+      names = names.distinct;
+      spelled = names.spelled;
+      addresses = ips.distinct;
+      global = ips.global;
+      idle = is.idle;
+      each_client = each_of_none _ t.clients h.1;
+      inside = is.inside;
+      ports = is.ports;
+      outside = is.outside;
+      sixes = is.sixes;
+      through = each_of_none _ t.natives h.3;
+    }
+
+-- ---- NATs
+
+pub record IsFreshNat (t : TopologyState) (row : NatNode) : Type 0 where
+  pub name : IsFreeName t row.name
+  pub external : IsFreeIp t row.external
+  pub idle : IsIdle row
+
+pub grown_nat : (t : TopologyState) (row : NatNode) → IsTopology t → IsFreshNat t row → length t.nats < MOST_NATS → HasNoneBehind kind.Nat t → IsTopology (with_nat t row)
+grown_nat t row is fresh few h =
+    let names = names_grown t (with_nat t row) (nat row) (nodes_nat t row h) is fresh.name in
+    let ips = subst AreAddresses (sym (addresses_nat t row h)) (one_address (addresses_of t) row.external (addresses_are t is) fresh.external.free fresh.external.global) in
+    record {
+      servers = is.servers;
+      nats = omega (arith, few, length-append t.nats (row ∷ []));
+      clients = is.clients;
+      relays = is.relays;
+      natives = is.natives;
+      names = names.distinct;
+      spelled = names.spelled;
+      addresses = ips.distinct;
+      global = ips.global;
+      idle = each_last IsIdle t.nats row is.idle fresh.idle;
+      each_client = each_of_none _ t.clients h.0;
+      inside = is.inside;
+      ports = is.ports;
+      outside = is.outside;
+      sixes = is.sixes;
+      through = each_of_none _ t.natives h.2;
+    }
+
+-- ---- clients
+
+pub record IsFreshClient (t : TopologyState) (row : ClientNode) : Type 0 where
+  pub name : IsFreeName t row.name
+  pub client : IsClient t row
+  pub inside : list_any (same_inside row) t.clients ≡ false
+
+same_inside-symm : (a b : ClientNode) → same_inside a b ≡ same_inside b a
+same_inside-symm a b = rw (nat_eq_equiv.symm a.nat b.nat, same_ep_equiv.symm a.inside b.inside) refl
+
+pub grown_client : (t : TopologyState) (row : ClientNode) → IsTopology t → IsFreshClient t row → length t.clients < MOST_CLIENTS → HasNoneBehind kind.Client t → IsTopology (with_client t row)
+grown_client t row is fresh few h =
+    let u = with_client t row in
+    let stays = client_stays t u (client row) (nodes_client t row h) in
+    let names = names_grown t u (client row) (nodes_client t row h) is fresh.name in
+    record {
+      servers = is.servers;
+      nats = is.nats;
+      clients = omega (arith, few, length-append t.clients (row ∷ []));
+      relays = is.relays;
+      natives = is.natives;
+      names = names.distinct;
+      spelled = names.spelled;
+      addresses = is.addresses;
+      global = is.global;
+      idle = is.idle;
+      each_client = each_last (IsClient u) t.clients row (each_as (IsClient t) (IsClient u) stays t.clients is.each_client) (stays row fresh.client);
+      inside = distinct_last same_inside-symm t.clients row is.inside fresh.inside;
+      ports = is.ports;
+      outside = is.outside;
+      sixes = is.sixes;
+      through = each_of_none _ t.natives h.1;
+    }
+
+-- ---- relays
+
+pub record IsFreshRelay (t : TopologyState) (row : RelayNode) : Type 0 where
+  pub name : IsFreeName t row.name
+  pub at : IsFreeIp t row.at.ip
+  pub port : row.at.port ≢ 0
+  pub six : IsFreeSix t row.six
+
+abbrev HasPort : RelayNode → Type 0
+HasPort r = r.at.port ≢ 0
+
+pub grown_relay : (t : TopologyState) (row : RelayNode) → IsTopology t → IsFreshRelay t row → length t.relays < MOST_RELAYS → HasNoneBehind kind.Relay t → IsTopology (with_relay t row)
+grown_relay t row is fresh few h =
+    let u = with_relay t row in
+    let stays = client_stays t u (relay row) (nodes_relay t row h) in
+    let names = names_grown t u (relay row) (nodes_relay t row h) is fresh.name in
+    let ips = subst AreAddresses (sym (addresses_relay t row)) (one_address (addresses_of t) row.at.ip (addresses_are t is) fresh.at.free fresh.at.global) in
+    let sixes = sixes_grown t (sixes_of u) row.six (sixes_relay t row h) is fresh.six in
+    record {
+      servers = is.servers;
+      nats = is.nats;
+      clients = is.clients;
+      relays = omega (arith, few, length-append t.relays (row ∷ []));
+      natives = is.natives;
+      names = names.distinct;
+      spelled = names.spelled;
+      addresses = ips.distinct;
+      global = ips.global;
+      idle = is.idle;
+      each_client = each_as (IsClient t) (IsClient u) stays t.clients is.each_client;
+      inside = is.inside;
+      ports = each_last HasPort t.relays row is.ports fresh.port;
+      outside = sixes.outside;
+      sixes = sixes.distinct;
+      through = each_of_none _ t.natives h;
+    }
+
+-- ---- native hosts
+
+pub record IsFreshNative (t : TopologyState) (row : NativeNode) : Type 0 where
+  pub name : IsFreeName t row.name
+  pub six : IsFreeSix t row.six
+  pub through : is_some (relay_at t row.relay) ≡ true
+
+pub grown_native : (t : TopologyState) (row : NativeNode) → IsTopology t → IsFreshNative t row → length t.natives < MOST_NATIVES → IsTopology (with_native t row)
+grown_native t row is fresh few =
+    let u = with_native t row in
+    let client_stays = client_stays t u (native row) (nodes_native t row) in
+    let stays = through_stays t u (native row) (nodes_native t row) in
+    let names = names_grown t u (native row) (nodes_native t row) is fresh.name in
+    let sixes = sixes_grown t (sixes_of u) row.six (sixes_native t row) is fresh.six in
+    record {
+      servers = is.servers;
+      nats = is.nats;
+      clients = is.clients;
+      relays = is.relays;
+      natives = omega (arith, few, length-append t.natives (row ∷ []));
+      names = names.distinct;
+      spelled = names.spelled;
+      addresses = is.addresses;
+      global = is.global;
+      idle = is.idle;
+      each_client = each_as (IsClient t) (IsClient u) client_stays t.clients is.each_client;
+      inside = is.inside;
+      ports = is.ports;
+      outside = sixes.outside;
+      sixes = sixes.distinct;
+      through = each_last (IsThrough u) t.natives row (each_as (IsThrough t) (IsThrough u) stays t.natives is.through) (stays row fresh.through);
+    }

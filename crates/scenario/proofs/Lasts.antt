@@ -1,0 +1,133 @@
+-- Lists that grow at their ends, and topologies that do.
+use Rattle.std.proofs.Common.{◌≡◌, ℕ, ◌||◌, Bool, true, false, zero, suc, List, [], ◌∷◌, ◌++◌, map, Option, refl, sym, ap, ◌∙◌, append_assoc, append-nil}
+use Rattle.std.specs.Prelude.{flat_map, is_some, slice_get, option_and_then}
+use Rattle.std.specs.List.{list_any, AllByRecursion}
+use Rattle.std.proofs.lemmas.List.{map-append}
+use Rattle.std.proofs.lemmas.Grind.{flat_map-append}
+use Rattle.td_base.specs.declared.ipv4.Ip4.{Ip4}
+use Rattle.td_base.specs.declared.ipv6.Ip6.{Ip6}
+use Rattle.topology.specs.declared.server_node.ServerNode.{ServerNode}
+use Rattle.topology.specs.declared.nat_node.NatNode.{NatNode}
+use Rattle.topology.specs.declared.client_node.ClientNode.{ClientNode}
+use Rattle.topology.specs.declared.relay_node.RelayNode.{RelayNode}
+use Rattle.topology.specs.declared.native_node.NativeNode.{NativeNode}
+use Rattle.topology.specs.Rows.{TopologyState, with_server, with_nat, with_client, with_relay, with_native}
+use Rattle.topology.specs.Topology.{Node, server, nat, client, relay, native, nodes}
+use Rattle.topology.specs.Rules.{AreDistinct, addresses_of, sixes_of}
+use Rattle.scenario.specs.declared.node_kind.NodeKind.TheVariants as kind
+use Rattle.scenario.specs.Filling.{HasNoneBehind}
+
+-- ---- one more at the end of a list
+
+neither : (a b : Bool) → (a || b) ≡ false → (a ≡ false) × (b ≡ false)
+neither true b e = absurd cc
+neither false b e = (refl, e)
+
+pub none_last : {A : Type 0} (test : A → Bool) (xs : List A) (y : A) → list_any test xs ≡ false → test y ≡ false → list_any test (xs ++ y ∷ []) ≡ false
+none_last test [] y h e = rw e refl
+none_last test (x ∷ xs) y h e =
+    let both = neither (test x) (list_any test xs) h in
+    rw (both.0, none_last test xs y both.1 e) refl
+
+pub distinct_last : {A : Type 0} {same : A → A → Bool} → ((a b : A) → same a b ≡ same b a) → (xs : List A) (y : A) → AreDistinct same xs → list_any (same y) xs ≡ false → AreDistinct same (xs ++ y ∷ [])
+distinct_last symm [] y h e = (refl, tt)
+distinct_last {same = same} symm (x ∷ xs) y h e =
+    let both = neither (same y x) (list_any (same y) xs) e in
+    (none_last (same x) xs y h.0 (symm x y ∙ both.0), distinct_last symm xs y h.1 both.1)
+
+pub each_last : {A : Type 0} (P : A → Type 0) (xs : List A) (y : A) → AllByRecursion P xs → P y → AllByRecursion P (xs ++ y ∷ [])
+each_last P [] y h p = (p, tt)
+each_last P (x ∷ xs) y h p = (h.0, each_last P xs y h.1 p)
+
+pub each_as : {A : Type 0} (P Q : A → Type 0) → ((x : A) → P x → Q x) → (xs : List A) → AllByRecursion P xs → AllByRecursion Q xs
+each_as P Q f [] h = tt
+each_as P Q f (x ∷ xs) h = (f x h.0, each_as P Q f xs h.1)
+
+pub each_of_none : {A : Type 0} (P : A → Type 0) (xs : List A) → xs ≡ [] → AllByRecursion P xs
+each_of_none P [] e = tt
+each_of_none P (x ∷ xs) e = absurd cc
+
+-- ---- lists of lists
+
+-- more at the end of what stands behind a list
+behind : {A : Type 0} (front l xs more : List A) → l ≡ xs ++ more → front ++ l ≡ (front ++ xs) ++ more
+behind front l xs more e = ap (λ (ys : List _). front ++ ys) e ∙ sym (append_assoc front xs more)
+
+before_none : {A : Type 0} (l xs more back : List A) → l ≡ xs ++ more → back ≡ [] → l ++ back ≡ (xs ++ back) ++ more
+before_none l xs more [] e none = append-nil l ∙ e ∙ ap (λ (ys : List _). ys ++ more) (sym (append-nil xs))
+before_none l xs more (y ∷ ys) e none = absurd cc
+
+mapped_last : {A B : Type 0} (f : A → B) (xs : List A) (x : A) → map f (xs ++ x ∷ []) ≡ map f xs ++ f x ∷ []
+mapped_last f xs x = map-append f xs (x ∷ [])
+
+-- ---- the nodes
+
+pub nodes_server : (t : TopologyState) (row : ServerNode) → HasNoneBehind kind.Server t → nodes (with_server t row) ≡ nodes t ++ server row ∷ []
+nodes_server t row h =
+    let none : map nat t.nats ++ (map client t.clients ++ (map relay t.relays ++ map native t.natives)) ≡ [] = rw (h.0, h.1, h.2, h.3) refl in
+    before_none (map server (t.servers ++ row ∷ [])) (map server t.servers) (server row ∷ []) _ (mapped_last server t.servers row) none
+
+pub nodes_nat : (t : TopologyState) (row : NatNode) → HasNoneBehind kind.Nat t → nodes (with_nat t row) ≡ nodes t ++ nat row ∷ []
+nodes_nat t row h =
+    let none : map client t.clients ++ (map relay t.relays ++ map native t.natives) ≡ [] = rw (h.0, h.1, h.2) refl in
+    behind (map server t.servers) _ _ (nat row ∷ []) (before_none (map nat (t.nats ++ row ∷ [])) (map nat t.nats) (nat row ∷ []) _ (mapped_last nat t.nats row) none)
+
+pub nodes_client : (t : TopologyState) (row : ClientNode) → HasNoneBehind kind.Client t → nodes (with_client t row) ≡ nodes t ++ client row ∷ []
+nodes_client t row h =
+    let none : map relay t.relays ++ map native t.natives ≡ [] = rw (h.0, h.1) refl in
+    behind (map server t.servers) _ _ (client row ∷ []) (behind (map nat t.nats) _ _ (client row ∷ []) (before_none (map client (t.clients ++ row ∷ [])) (map client t.clients) (client row ∷ []) _ (mapped_last client t.clients row) none))
+
+pub nodes_relay : (t : TopologyState) (row : RelayNode) → HasNoneBehind kind.Relay t → nodes (with_relay t row) ≡ nodes t ++ relay row ∷ []
+nodes_relay t row h =
+    let none : map native t.natives ≡ [] = rw h refl in
+    behind (map server t.servers) _ _ (relay row ∷ []) (behind (map nat t.nats) _ _ (relay row ∷ []) (behind (map client t.clients) _ _ (relay row ∷ []) (before_none (map relay (t.relays ++ row ∷ [])) (map relay t.relays) (relay row ∷ []) _ (mapped_last relay t.relays row) none)))
+
+pub nodes_native : (t : TopologyState) (row : NativeNode) → nodes (with_native t row) ≡ nodes t ++ native row ∷ []
+nodes_native t row =
+    behind (map server t.servers) _ _ (native row ∷ []) (behind (map nat t.nats) _ _ (native row ∷ []) (behind (map client t.clients) _ _ (native row ∷ []) (behind (map relay t.relays) _ _ (native row ∷ []) (mapped_last native t.natives row))))
+
+-- ---- the addresses
+
+abbrev two_of : ServerNode → List Ip4
+two_of a = a.primary ∷ a.secondary ∷ []
+
+abbrev external_of : NatNode → Ip4
+external_of a = a.external
+
+abbrev ip_of : RelayNode → Ip4
+ip_of r = r.at.ip
+
+pub addresses_server : (t : TopologyState) (row : ServerNode) → HasNoneBehind kind.Server t → addresses_of (with_server t row) ≡ addresses_of t ++ row.primary ∷ row.secondary ∷ []
+addresses_server t row h =
+    let none : map external_of t.nats ++ map ip_of t.relays ≡ [] = rw (h.0, h.2) refl in
+    before_none (flat_map two_of (t.servers ++ row ∷ [])) (flat_map two_of t.servers) (row.primary ∷ row.secondary ∷ []) (map external_of t.nats ++ map ip_of t.relays) (flat_map-append two_of t.servers (row ∷ [])) none
+
+pub addresses_nat : (t : TopologyState) (row : NatNode) → HasNoneBehind kind.Nat t → addresses_of (with_nat t row) ≡ addresses_of t ++ row.external ∷ []
+addresses_nat t row h =
+    let none : map ip_of t.relays ≡ [] = rw h.1 refl in
+    behind (flat_map two_of t.servers) _ _ (row.external ∷ []) (before_none (map external_of (t.nats ++ row ∷ [])) (map external_of t.nats) (row.external ∷ []) _ (mapped_last external_of t.nats row) none)
+
+pub addresses_relay : (t : TopologyState) (row : RelayNode) → addresses_of (with_relay t row) ≡ addresses_of t ++ row.at.ip ∷ []
+addresses_relay t row =
+    behind (flat_map two_of t.servers) _ _ (row.at.ip ∷ []) (behind (map external_of t.nats) _ _ (row.at.ip ∷ []) (mapped_last ip_of t.relays row))
+
+abbrev six_of_relay : RelayNode → Ip6
+six_of_relay r = r.six
+
+abbrev six_of_native : NativeNode → Ip6
+six_of_native h = h.six
+
+pub sixes_relay : (t : TopologyState) (row : RelayNode) → HasNoneBehind kind.Relay t → sixes_of (with_relay t row) ≡ sixes_of t ++ row.six ∷ []
+sixes_relay t row h =
+    let none : map six_of_native t.natives ≡ [] = rw h refl in
+    before_none (map six_of_relay (t.relays ++ row ∷ [])) (map six_of_relay t.relays) (row.six ∷ []) _ (mapped_last six_of_relay t.relays row) none
+
+pub sixes_native : (t : TopologyState) (row : NativeNode) → sixes_of (with_native t row) ≡ sixes_of t ++ row.six ∷ []
+sixes_native t row = behind (map six_of_relay t.relays) _ _ (row.six ∷ []) (mapped_last six_of_native t.natives row)
+
+-- ---- numbers stay
+
+pub number_kept : {A : Type 0} (seen : Node → Option A) (xs more : List Node) (n : ℕ) → is_some (option_and_then seen (slice_get xs n)) ≡ true → is_some (option_and_then seen (slice_get (xs ++ more) n)) ≡ true
+number_kept seen [] more n h = absurd cc
+number_kept seen (x ∷ xs) more zero h = h
+number_kept seen (x ∷ xs) more (suc n) h = number_kept seen xs more n h

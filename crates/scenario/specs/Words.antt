@@ -1,2 +1,0 @@
--- What a text says, as events have it.
-pub use Rattle.history.specs.Words.{◌>>=◌, same_text, ip4_of}

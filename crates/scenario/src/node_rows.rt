@@ -1,0 +1,134 @@
+//! The nodes that tables describe beside the nodes of the tables before them: a line for each key, in order.
+ghost use Rattle.std.specs.Prelude.{◌≡◌, option_map, option_and_then};
+ghost use Rattle.toml.specs.Data.{as_array};
+ghost use Rattle.toml.specs.View.{view, table_view, items_view};
+ghost use Rattle.scenario.specs.NodeRows.{server_row, nat_row, two_integers, given_refresh, refresh_in, client_row, relay_row, native_row};
+
+use crate::fresh::{
+    idle_of, kind_of, new_address, new_endpoint, new_inside, new_name, new_six, other_address,
+    refresh_of,
+};
+use crate::row::Row;
+use crate::scenario_fault::ScenarioFault;
+use history::{
+    ClientNode, NatNode, NativeNode, RelayNode, ServerNode, Topology, nat_named, relay_named,
+    server_named,
+};
+use toml::Value;
+
+/// The shortest and the longest time between two refreshes where a client's table gives none, in milliseconds: three
+/// quarters of the 30 s of RFC 4380, section 5.2.5, and these.
+pub const REFRESH_LOW: u32 = 22_500;
+
+pub const REFRESH_HIGH: u32 = 30_000;
+
+/// The server of a table.
+#[tactic(auto, unfolding(crate::specs::NodeRows::server_row))]
+pub(crate) fn server_row(t: &Topology, row: &Row) -> Result<ServerNode, ScenarioFault>
+    ensures { result ≡ server_row t.now row.now.place (table_view row.now.table.now) }
+{
+    let name = row.known("name", new_name(t, row.text("name")?))?;
+    let primary = row.ruled("primary", new_address(t, row.text("primary")?))?;
+    let secondary = row.ruled(
+        "secondary",
+        other_address(t, primary, row.text("secondary")?),
+    )?;
+    Ok(ServerNode {
+        name,
+        primary,
+        secondary,
+    })
+}
+
+/// The NAT of a table.
+#[tactic(auto, unfolding(crate::specs::NodeRows::nat_row))]
+pub(crate) fn nat_row(t: &Topology, row: &Row) -> Result<NatNode, ScenarioFault>
+    ensures { result ≡ nat_row t.now row.now.place (table_view row.now.table.now) }
+{
+    let name = row.known("name", new_name(t, row.text("name")?))?;
+    let kind = row.ruled("kind", kind_of(row.text("kind")?))?;
+    let external = row.ruled("external", new_address(t, row.text("external")?))?;
+    let idle = row.ruled("idle", idle_of(row.integer("idle")?))?;
+    Ok(NatNode {
+        name,
+        kind,
+        external,
+        idle,
+    })
+}
+
+/// The two whole numbers of a list that has no other value.
+fn two_integers(values: &[Value]) -> Option<(i64, i64)>
+    ensures { result ≡ two_integers (items_view values.now) }
+{
+    let [first, second] = values else {
+        return None;
+    };
+    Some((first.as_integer()?, second.as_integer()?))
+}
+
+fn integers_in(value: &Value) -> Option<(i64, i64)>
+    ensures { result ≡ option_and_then two_integers (as_array (view value.now)) }
+{
+    two_integers(value.as_array()?)
+}
+
+/// The shortest and the longest time between two refreshes that a value gives.
+fn given_refresh(row: &Row, value: &Value) -> Result<(u32, u32), ScenarioFault>
+    ensures { result ≡ given_refresh row.now.place (view value.now) }
+{
+    let times = row.typed("refresh", integers_in(value))?;
+    row.ruled("refresh", refresh_of(times))
+}
+
+/// The shortest and the longest time between two refreshes.
+fn refresh_in(row: &Row, value: Option<&Value>) -> Result<(u32, u32), ScenarioFault>
+    ensures { result ≡ refresh_in row.now.place (option_map (λ v. view v.now) value.entry) }
+{
+    match value {
+        Some(value) => given_refresh(row, value),
+        None => Ok((REFRESH_LOW, REFRESH_HIGH)),
+    }
+}
+
+/// The client of a table.
+#[tactic(auto, unfolding(crate::specs::NodeRows::client_row))]
+pub(crate) fn client_row(t: &Topology, row: &Row) -> Result<ClientNode, ScenarioFault>
+    ensures { result ≡ client_row t.now row.now.place (table_view row.now.table.now) }
+{
+    let name = row.known("name", new_name(t, row.text("name")?))?;
+    let nat = row.known("nat", nat_named(t, row.text("nat")?.as_bytes()))?;
+    let inside = row.ruled("inside", new_inside(t, nat, row.text("inside")?))?;
+    let server = row.known("server", server_named(t, row.text("server")?.as_bytes()))?;
+    let (low, high) = refresh_in(row, row.given("refresh"))?;
+    Ok(ClientNode {
+        name,
+        nat,
+        inside,
+        server,
+        low,
+        high,
+    })
+}
+
+/// The relay of a table.
+#[tactic(auto, unfolding(crate::specs::NodeRows::relay_row))]
+pub(crate) fn relay_row(t: &Topology, row: &Row) -> Result<RelayNode, ScenarioFault>
+    ensures { result ≡ relay_row t.now row.now.place (table_view row.now.table.now) }
+{
+    let name = row.known("name", new_name(t, row.text("name")?))?;
+    let at = row.ruled("at", new_endpoint(t, row.text("at")?))?;
+    let six = row.ruled("six", new_six(t, row.text("six")?))?;
+    Ok(RelayNode { name, at, six })
+}
+
+/// The native host of a table.
+#[tactic(auto, unfolding(crate::specs::NodeRows::native_row))]
+pub(crate) fn native_row(t: &Topology, row: &Row) -> Result<NativeNode, ScenarioFault>
+    ensures { result ≡ native_row t.now row.now.place (table_view row.now.table.now) }
+{
+    let name = row.known("name", new_name(t, row.text("name")?))?;
+    let six = row.ruled("six", new_six(t, row.text("six")?))?;
+    let relay = row.known("relay", relay_named(t, row.text("relay")?.as_bytes()))?;
+    Ok(NativeNode { name, six, relay })
+}

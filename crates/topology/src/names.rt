@@ -1,0 +1,150 @@
+//! The nodes that have a name.
+ghost use Rattle.std.specs.Prelude.{◌≡◌, ◌+◌, ◌==◌, ◌&&◌, nat_eq, length, position, option_map};
+ghost use Rattle.std.specs.Cmp.Lexicographic.{pointwise};
+ghost use Rattle.td_base.specs.Names.{name_text};
+ghost use Rattle.topology.specs.Named.{has_host, is_nat, is_client_of, any_kind, named};
+
+use crate::client_node::ClientNode;
+use crate::nat_node::NatNode;
+use crate::native_node::NativeNode;
+use crate::relay_node::RelayNode;
+use crate::server_node::ServerNode;
+use crate::topology::Topology;
+
+fn server_place(rows: &[ServerNode], word: &[u8]) -> Option<usize>
+    ensures { result ≡ position (λ row. pointwise nat_eq (name_text row.name) word.now) rows.now }
+{
+    rows.iter().position(|row| row.name.as_slice() == word)
+}
+
+fn nat_place(rows: &[NatNode], word: &[u8]) -> Option<usize>
+    ensures { result ≡ position (λ row. pointwise nat_eq (name_text row.name) word.now) rows.now }
+{
+    rows.iter().position(|row| row.name.as_slice() == word)
+}
+
+fn client_place(rows: &[ClientNode], word: &[u8]) -> Option<usize>
+    ensures { result ≡ position (λ row. pointwise nat_eq (name_text row.name) word.now) rows.now }
+{
+    rows.iter().position(|row| row.name.as_slice() == word)
+}
+
+fn relay_place(rows: &[RelayNode], word: &[u8]) -> Option<usize>
+    ensures { result ≡ position (λ row. pointwise nat_eq (name_text row.name) word.now) rows.now }
+{
+    rows.iter().position(|row| row.name.as_slice() == word)
+}
+
+fn native_place(rows: &[NativeNode], word: &[u8]) -> Option<usize>
+    ensures { result ≡ position (λ row. pointwise nat_eq (name_text row.name) word.now) rows.now }
+{
+    rows.iter().position(|row| row.name.as_slice() == word)
+}
+
+fn place_behind(rows: &[ClientNode], nat: u16, word: &[u8]) -> Option<usize>
+    ensures { result ≡ position (λ row. (row.nat == nat) && pointwise nat_eq (name_text row.name) word.now) rows.now }
+{
+    rows.iter()
+        .position(|row| row.nat == nat && row.name.as_slice() == word)
+}
+
+fn server_number(t: &Topology, word: &[u8]) -> Option<u16>
+    ensures { result ≡ position (λ row. pointwise nat_eq (name_text row.name) word.now) t.now.servers }
+{
+    let Some(place) = server_place(t.servers(), word) else {
+        return None;
+    };
+    Some(place as u16)
+}
+
+fn nat_number(t: &Topology, word: &[u8]) -> Option<u16>
+    ensures { result ≡ option_map (λ k. length t.now.servers + k) (position (λ row. pointwise nat_eq (name_text row.name) word.now) t.now.nats) }
+{
+    let Some(place) = nat_place(t.nats(), word) else {
+        return None;
+    };
+    Some((t.servers().len() + place) as u16)
+}
+
+fn client_number(t: &Topology, word: &[u8]) -> Option<u16>
+    ensures { result ≡ option_map (λ k. length t.now.servers + length t.now.nats + k) (position (λ row. pointwise nat_eq (name_text row.name) word.now) t.now.clients) }
+{
+    let Some(place) = client_place(t.clients(), word) else {
+        return None;
+    };
+    Some((t.servers().len() + t.nats().len() + place) as u16)
+}
+
+fn relay_number(t: &Topology, word: &[u8]) -> Option<u16>
+    ensures { result ≡ option_map (λ k. length t.now.servers + length t.now.nats + length t.now.clients + k) (position (λ row. pointwise nat_eq (name_text row.name) word.now) t.now.relays) }
+{
+    let Some(place) = relay_place(t.relays(), word) else {
+        return None;
+    };
+    Some((t.servers().len() + t.nats().len() + t.clients().len() + place) as u16)
+}
+
+fn native_number(t: &Topology, word: &[u8]) -> Option<u16>
+    ensures { result ≡ option_map (λ k. length t.now.servers + length t.now.nats + length t.now.clients + length t.now.relays + k) (position (λ row. pointwise nat_eq (name_text row.name) word.now) t.now.natives) }
+{
+    let Some(place) = native_place(t.natives(), word) else {
+        return None;
+    };
+    Some((t.servers().len() + t.nats().len() + t.clients().len() + t.relays().len() + place) as u16)
+}
+
+/// The number of the client or native host of a name.
+#[tactic(auto, using(crate::proofs::Numbering::host_at))]
+pub fn host_named(t: &Topology, word: &[u8]) -> Option<u16>
+    ensures { result ≡ named has_host t.now word.now }
+{
+    if let Some(number) = client_number(t, word) {
+        return Some(number);
+    }
+    native_number(t, word)
+}
+
+/// The number of the NAT of a name.
+#[tactic(auto, using(crate::proofs::Numbering::nat_numbered))]
+pub fn nat_named(t: &Topology, word: &[u8]) -> Option<u16>
+    ensures { result ≡ named is_nat t.now word.now }
+{
+    nat_number(t, word)
+}
+
+fn number_behind(t: &Topology, nat: u16, word: &[u8]) -> Option<u16>
+    ensures { result ≡ option_map (λ k. length t.now.servers + length t.now.nats + k) (position (λ row. (row.nat == nat) && pointwise nat_eq (name_text row.name) word.now) t.now.clients) }
+{
+    let Some(place) = place_behind(t.clients(), nat, word) else {
+        return None;
+    };
+    Some((t.servers().len() + t.nats().len() + place) as u16)
+}
+
+/// The number of the client of a name behind a NAT.
+#[tactic(auto, using(crate::proofs::Numbering::client_at))]
+pub fn client_named(t: &Topology, nat: u16, word: &[u8]) -> Option<u16>
+    ensures { result ≡ named (is_client_of nat) t.now word.now }
+{
+    number_behind(t, nat, word)
+}
+
+/// The number of the node of a name.
+#[tactic(auto, using(crate::proofs::Numbering::any_at))]
+pub fn node_named(t: &Topology, word: &[u8]) -> Option<u16>
+    ensures { result ≡ named any_kind t.now word.now }
+{
+    if let Some(number) = server_number(t, word) {
+        return Some(number);
+    }
+    if let Some(number) = nat_number(t, word) {
+        return Some(number);
+    }
+    if let Some(number) = client_number(t, word) {
+        return Some(number);
+    }
+    if let Some(number) = relay_number(t, word) {
+        return Some(number);
+    }
+    native_number(t, word)
+}
