@@ -13,7 +13,7 @@ use Rattle.peer_list.specs.Waiting.{Listing, first_among}
 use Rattle.peer_list.specs.Laws.{after, peer_if, view_after, AreSame, CountTheSame}
 use Rattle.peer_list.specs.Table.{Table, while_listed, peer_listed, is_of, peer_in, known_to, listed_in, has_room_in}
 use Rattle.peer_list.specs.Calls.{touched_at, tried_at}
-use Rattle.peer_list.specs.Stands.{StandsForMentions, TableIsRead, NextStands, IsIdle, about_nobody, bears_nothing, IdleStands, KeptStands, CallsOfAnEntry}
+use Rattle.peer_list.specs.Stands.{StandsForMentions, TableIsRead, NextStands, MeansNothing, about_nobody, bears_nothing, IdleStands, KeptStands, CallsOfAnEntry}
 use Rattle.peer_list.proofs.Lists.{listed_are, listed_once}
 use Rattle.peer_list.proofs.Bearings.{one_entry, listed_is_known}
 use Rattle.peer_list.proofs.Orders.{order_is_free}
@@ -131,7 +131,7 @@ idle_if : (b y : Bool) (m : ℕ) (who : Option Ip6) (before now : Option Peer) �
 idle_if false y m who before now = refl
 idle_if true y m who before now = idle_map m who now
 
-idle_view : (e : Mention) (j : List Mention) (n : ℕ) (p : Ip6) → IsIdle e → view_after e (peer_at j) n p ≡ peer_at j n p
+idle_view : (e : Mention) (j : List Mention) (n : ℕ) (p : Ip6) → MeansNothing e → view_after e (peer_at j) n p ≡ peer_at j n p
 idle_view e j n p (about_nobody none) = let no : is_about p e ≡ false = ap (is_peer p) none in rw no refl
 idle_view e j n p (bears_nothing none) =
     subst (λ (b : _). peer_if (is_about p e) b.touches (is_young LISTED_MS n e.moment) (record e { bearing = b }) (peer_at j e.moment p) (peer_at j n p) ≡ peer_at j n p) (sym none) (idle_if (is_about p e) (is_young LISTED_MS n e.moment) e.moment e.peer (peer_at j e.moment p) (peer_at j n p))

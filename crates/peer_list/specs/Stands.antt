@@ -37,13 +37,13 @@ NextStands = (old new : Table) (e : Mention) (j : List Mention) (who : Ip6)
     → Updates old new e.moment who (after e (known_to old e.moment who)) → StandsForMentions new (e ∷ j)
 
 -- an entry that is about no peer, or means nothing for it
-pub data IsIdle (e : Mention) : Type 0 where
-  about_nobody : e.peer ≡ None → IsIdle e
-  bears_nothing : e.bearing ≡ no_bearing → IsIdle e
+pub data MeansNothing (e : Mention) : Type 0 where
+  about_nobody : e.peer ≡ None → MeansNothing e
+  bears_nothing : e.bearing ≡ no_bearing → MeansNothing e
 
 -- it changes nothing
 abbrev pub IdleStands : Type 0
-IdleStands = (t : Table) (e : Mention) (j : List Mention) → StandsForMentions t j → IsIdle e → StandsForMentions t (e ∷ j)
+IdleStands = (t : Table) (e : Mention) (j : List Mention) → StandsForMentions t j → MeansNothing e → StandsForMentions t (e ∷ j)
 
 -- a refusal leaves what a table stands for
 abbrev pub KeptStands : Type 0
