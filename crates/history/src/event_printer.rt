@@ -17,10 +17,10 @@ ghost use Rattle.history.specs.EventSpelling.{hex_word, name_word, target_word, 
 use crate::acts::Verb;
 use crate::event::{Event, MOST_ADVANCE, MOST_BYTES, MOST_NUMBER};
 use crate::target::Target;
-use topology::Topology;
 use itoa::Buffer;
 use std::alloc::Global;
 use td_base::{Ep, Ip6, LineBuf, NoMemory, print_ep, print_ip6};
+use topology::Topology;
 
 /// The most digits of a word of bytes.
 const MOST_DIGITS: usize = 2 * MOST_BYTES;

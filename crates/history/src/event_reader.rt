@@ -13,8 +13,8 @@ use crate::event_fault::EventFault;
 use crate::event_words::{
     WordsLeft, bytes, client, endpoint, host, nat, no_more, node, number, target, verb,
 };
-use topology::Topology;
 use std::alloc::Global;
+use topology::Topology;
 
 #[tactic(auto, unfolding(crate::specs::EventText::event_behind))]
 fn advance(words: WordsLeft) -> Result<Event, EventFault>

@@ -15,11 +15,11 @@ use crate::event::{Event, MOST_BYTES};
 use crate::event_fault::EventFault;
 use crate::node_words::target_word;
 use crate::target::Target;
-use topology::{Topology, client_named, host_named, nat_named, node_named};
 use crate::word_texts::{bytes_word, ep_word, number_word};
 use std::alloc::Global;
 use td_base::Ep;
 use td_outside::Octets;
+use topology::{Topology, client_named, host_named, nat_named, node_named};
 
 /// The words of a text from a place on. Behind the last word's end none is left.
 #[derive(Clone, Copy)]

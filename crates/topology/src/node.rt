@@ -38,7 +38,8 @@ impl Node {
         ensures { result ≡ is_at dst self }
     {
         match self {
-            Node::Server(row) => dst == Ep::of_server(row.primary) || dst == Ep::of_server(row.secondary),
+            Node::Server(row) => dst == Ep::of_server(row.primary)
+                || dst == Ep::of_server(row.secondary),
             Node::Nat(row) => dst.ip == row.external,
             Node::Relay(row) => dst == row.at,
             Node::Client(_) => false,

@@ -29,8 +29,7 @@ pub const MOST_RELAYS: usize = 4;
 pub const MOST_NATIVES: usize = 64;
 
 /// How many nodes a scenario has at most.
-pub const NODES_MAX: usize =
-    MOST_SERVERS + MOST_NATS + MOST_CLIENTS + MOST_RELAYS + MOST_NATIVES;
+pub const NODES_MAX: usize = MOST_SERVERS + MOST_NATS + MOST_CLIENTS + MOST_RELAYS + MOST_NATIVES;
 
 /// The nodes of a scenario, numbered from 0: the servers in order, then the NATs, the clients, the relays, the native
 /// hosts. It keeps the rules of `specs/Rules.antt`.
@@ -208,8 +207,7 @@ impl Topology {
     fn number_with(&self, ip: Ip6) -> Option<u16>
         ensures { result ≡ option_map (λ k. length self.now.servers + length self.now.nats + length self.now.clients + length self.now.relays + k) (position (λ row. is_native ip (native row)) self.now.natives) }
     {
-        let number =
-            self.servers.len() + self.nats.len() + self.clients.len() + self.relays.len();
+        let number = self.servers.len() + self.nats.len() + self.clients.len() + self.relays.len();
         match native_with(self.natives.as_slice(), ip) {
             Some(place) => Some((number + place) as u16),
             None => None,
