@@ -36,18 +36,18 @@ use Rattle.qualify.specs.Turns.{interval_of}
 use Rattle.qualify.specs.Qualification.{first_phase, qualification}
 use Rattle.qualify.specs.Solicitations.{own_address, expected, solicitation, due_step}
 use Rattle.qualify.specs.Advertisements.{prefixes_in, advert_row}
-use Rattle.client_core.specs.Bearings.{mentions as client_mentions}
-use Rattle.client_core.specs.Standing.{standing_at as client_standing_at}
-use Rattle.client_core.specs.Tries.{test, try_sends}
-use Rattle.client_core.specs.Reception.{is_from_server, seen as client_seen, reception_fate, reception as client_reception}
-use Rattle.client_core.specs.Transmission.{given as client_given, transmission as client_transmission}
-use Rattle.client_core.specs.Ticks.{due_at as client_due_at, next_due}
-use Rattle.client_core.specs.Journals.{client_in, client_out, client_tick, client_due}
-use Rattle.relay_core.specs.Bearings.{mentions as relay_mentions}
-use Rattle.relay_core.specs.Standing.{standing_at as relay_standing_at}
-use Rattle.relay_core.specs.Transmission.{given as relay_given, bubble_to, transmission as relay_transmission}
-use Rattle.relay_core.specs.Reception.{seen as relay_seen, reception as relay_reception}
-use Rattle.relay_core.specs.Journals.{relay_in, relay_six, relay_tick, relay_due}
+use Rattle.client_rules.specs.Bearings.{mentions as client_mentions}
+use Rattle.client_rules.specs.Standing.{standing_at as client_standing_at}
+use Rattle.client_rules.specs.Tries.{test, try_sends}
+use Rattle.client_rules.specs.Reception.{is_from_server, seen as client_seen, reception_fate, reception as client_reception}
+use Rattle.client_rules.specs.Transmission.{given as client_given, transmission as client_transmission}
+use Rattle.client_rules.specs.Ticks.{due_at as client_due_at, next_due}
+use Rattle.client_rules.specs.Journals.{client_in, client_out, client_tick, client_due}
+use Rattle.relay_rules.specs.Bearings.{mentions as relay_mentions}
+use Rattle.relay_rules.specs.Standing.{standing_at as relay_standing_at}
+use Rattle.relay_rules.specs.Transmission.{given as relay_given, bubble_to, transmission as relay_transmission}
+use Rattle.relay_rules.specs.Reception.{seen as relay_seen, reception as relay_reception}
+use Rattle.relay_rules.specs.Journals.{relay_in, relay_six, relay_tick, relay_due}
 use Rattle.nat_kinds.specs.declared.kind.NatKind.TheVariants as kind
 use Rattle.history.specs.declared.event.Event.TheVariants as event
 use Rattle.history.specs.declared.target.Target.TheVariants as target

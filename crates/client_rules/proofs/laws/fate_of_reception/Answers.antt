@@ -1,0 +1,5 @@
+use Rattle.client_rules.proofs.Fates.{fate_of_reception}
+use Rattle.client_rules.proofs.laws.fate_of_reception.Goals as goal
+
+pub returns : goal.returns
+returns c = fate_of_reception

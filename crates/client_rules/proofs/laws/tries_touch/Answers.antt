@@ -1,0 +1,5 @@
+use Rattle.client_rules.proofs.Fates.{tries_touch}
+use Rattle.client_rules.proofs.laws.tries_touch.Goals as goal
+
+pub returns : goal.returns
+returns c = tries_touch

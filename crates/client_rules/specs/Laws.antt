@@ -1,0 +1,34 @@
+-- What holds of every client's tables and journals.
+use Rattle.std.specs.Prelude.{◌≡◌, ◌≤◌, ℕ, true, if◌then◌else◌, List, [], ◌∷◌}
+use Rattle.td_base.specs.declared.endpoint.Ep.{Ep}
+use Rattle.teredo_node.specs.Journal.{Entry, Journal, Words, is_changed}
+use Rattle.peer_list.specs.Laws.{IsTried}
+use Rattle.qualify.specs.declared.settings.Settings.{Settings}
+use Rattle.client_rules.specs.Bearings.{mention, mentions}
+use Rattle.client_rules.specs.Standing.{Standing}
+use Rattle.client_rules.specs.Reception.{reception_fate, reception}
+use Rattle.client_rules.specs.Transmission.{transmission_row, given, transmission}
+use Rattle.client_rules.specs.Journals.{last_moment, IsJournal}
+
+-- THE TABLES
+
+-- what is done has the fate of the line
+abbrev pub FateOfReception : Type 0
+FateOfReception = (s : Settings) (a : Standing) (from : Ep) (x : List ℕ) (w : Words) → (reception s a from x w).fate ≡ reception_fate s a from x
+
+abbrev pub FateOfTransmission : Type 0
+FateOfTransmission = (s : Settings) (a : Standing) (x : List ℕ) (w : Words) → (transmission s a x w).fate ≡ transmission_row (given s a x)
+
+-- MENTIONS
+
+-- one further entry is one further mention, and a change of address ends all
+abbrev pub NextMentions : Type 0
+NextMentions = (e : Entry) (j : List Entry) → mentions (e ∷ j) ≡ (if is_changed e.step.fate then [] else mention e ∷ mentions j)
+
+-- each try touches its peer
+abbrev pub TriesTouch : Type 0
+TriesTouch = (e : Entry) → (mention e).bearing.tries ≡ true → (mention e).bearing.touches ≡ true
+
+-- so in a journal spent and barred are what they are without regard to a stay
+abbrev pub JournalIsTried : Type 0
+JournalIsTried = (s : Settings) (j : Journal) (n : ℕ) → IsJournal s j → last_moment j.start j.entries ≤ n → IsTried (mentions j.entries) n

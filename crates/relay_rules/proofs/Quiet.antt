@@ -1,0 +1,177 @@
+-- An address with the cone bit has no tries and nothing waiting.
+use Rattle.std.proofs.Common.{◌≡◌, ℕ, ◌||◌, not, Bool, true, false, cond, List, [], ◌∷◌, ◌++◌, Option, Some, None, refl, sym, ap, ◌∙◌, subst}
+use Rattle.std.specs.Prelude.{option_map, option_to_list, unwrap_or, is_some, nat_le}
+use Rattle.std.specs.List.{AllByRecursion}
+use Rattle.std.proofs.lemmas.Bool.{false≢true}
+use Rattle.td_base.specs.Ip6.{same_ip6-true}
+use Rattle.td_base.specs.declared.ipv6.Ip6.{Ip6}
+use Rattle.td_base.specs.declared.endpoint.Ep.{Ep}
+use Rattle.teredo_addr.specs.Teredo.{has_cone}
+use Rattle.ipv6_packet.specs.Reads.{is_packet, fields_in}
+use Rattle.bubble.specs.PacketsIn.{source_in, destination_in}
+use Rattle.teredo_node.specs.declared.fate.Fate.{Fate}
+use Rattle.teredo_node.specs.declared.fate.Fate.TheVariants as fate
+use Rattle.teredo_node.specs.Rows.{first_line}
+use Rattle.teredo_node.specs.Journal.{Input, arrived, given, from_six, ticked, Entry}
+use Rattle.peer_list.specs.declared.limits.TheConstants.{LISTED_MS}
+use Rattle.peer_list.specs.Mentions.{Mention, is_peer, is_about}
+use Rattle.peer_list.specs.Listed.{is_young, is_listed}
+use Rattle.peer_list.specs.Peers.{Peer, no_peer, peer_at, known}
+use Rattle.peer_list.specs.Judged.{is_none, due_of}
+use Rattle.peer_list.specs.Waiting.{Listing, first_due}
+use Rattle.peer_list.specs.Laws.{tries_after, after}
+use Rattle.peer_list.proofs.Bearings.{of_another, of_a_touch, of_no_touch}
+use Rattle.peer_list.proofs.Orders.{first_waits}
+use Rattle.relay_rules.specs.Bearings.{mention, mentions}
+use Rattle.relay_rules.specs.Standing.{RelaySettings, standing_of}
+use Rattle.relay_rules.specs.Reception.{Seen, seen, reception_lines, reception_row}
+use Rattle.relay_rules.specs.Transmission.{Given, given as given_of_packet, packet_lines, destination_lines, transmission_row}
+use Rattle.relay_rules.specs.Ticks.{due_at}
+use Rattle.relay_rules.specs.Journals.{relay_in, relay_six, ticks, relay_tick, relay_entry, IsJournal}
+use Rattle.relay_rules.specs.Laws.{IsQuiet, ConeIsQuiet}
+use Rattle.relay_rules.proofs.Fates.{fate_of_reception, fate_of_transmission, is_attempt, no_attempt}
+
+-- ROWS
+
+-- no line of these attempts
+abbrev AreNone : List (Bool × Fate) → Type 0
+AreNone ls = AllByRecursion (λ (l : Bool × Fate). is_attempt l.1 ≡ false) ls
+
+skip_one : (b : Bool) (f : Fate) (ls : List (Bool × Fate)) (last : Fate) → is_attempt f ≡ false → is_attempt (first_line ls last) ≡ false → is_attempt (first_line ((b, f) ∷ ls) last) ≡ false
+skip_one true f ls last h k = h
+skip_one false f ls last h k = k
+
+-- so the fate is one of the lines after them
+skip : (ls rest : List (Bool × Fate)) (last : Fate) → AreNone ls → is_attempt (first_line rest last) ≡ false → is_attempt (first_line (ls ++ rest) last) ≡ false
+skip [] rest last a h = h
+skip (l ∷ ls) rest last a h = skip_one l.0 l.1 (ls ++ rest) last a.0 (skip ls rest last a.1 h)
+
+-- a datagram is no attempt
+received_is_none : (a : Seen) → is_attempt (reception_row a) ≡ false
+received_is_none a = skip (reception_lines a) [] fate.Unserved (refl, (refl, (refl, (refl, (refl, (refl, (refl, (refl, tt)))))))) refl
+
+at_cone : (b : Bool) (ls : List (Bool × Fate)) (last : Fate) → b ≡ true → is_attempt (first_line ((b, fate.SentCone) ∷ ls) last) ≡ false
+at_cone true ls last h = refl
+at_cone false ls last h = absurd (false≢true h)
+
+-- nor is a packet to an address with the cone bit
+cone_is_none : (a : Given) → a.cone ≡ true → is_attempt (transmission_row a) ≡ false
+cone_is_none a cone =
+    let rest : List (Bool × Fate) = (a.cone, fate.SentCone) ∷ (a.spent, fate.Barred) ∷ (a.full, fate.QueueFull) ∷ [] in
+    let from_room : is_attempt (first_line ((a.trusted, fate.Sent) ∷ (not a.room, fate.PeersFull) ∷ rest) fate.Queued) ≡ false =
+    skip ((a.trusted, fate.Sent) ∷ (not a.room, fate.PeersFull) ∷ []) rest fate.Queued (refl, (refl, tt)) (at_cone a.cone ((a.spent, fate.Barred) ∷ (a.full, fate.QueueFull) ∷ []) fate.Queued cone) in
+    skip (packet_lines a) (destination_lines a) fate.Queued (refl, (refl, (refl, (refl, (refl, (refl, tt)))))) from_room
+
+-- ONE FURTHER ENTRY
+
+quiet_none : IsQuiet no_peer
+quiet_none = record { tries = refl; waiting = refl }
+
+tries_stay : (h t : Bool) (m : ℕ) (ms : List ℕ) → t ≡ false → ms ≡ [] → tries_after h t m ms ≡ []
+tries_stay true t m ms e f = refl
+tries_stay false false m ms e f = f
+tries_stay false true m ms e f = absurd (false≢true (sym e))
+
+waiting_stays : (b : Bool) (o : Option (List ℕ)) (xs : List (List ℕ)) → o ≡ None → xs ≡ [] → cond b [] (xs ++ option_to_list o) ≡ []
+waiting_stays true o xs e f = refl
+waiting_stays false o xs e f = rw (e, f) refl
+
+quiet_after : (e : Mention) (x : Peer) → e.bearing.tries ≡ false → e.bearing.queues ≡ None → IsQuiet x → IsQuiet (after e x)
+quiet_after e x t q h = record {
+  tries = tries_stay e.bearing.hears e.bearing.tries e.moment x.tries t h.tries;
+  waiting = waiting_stays (e.bearing.hears || e.bearing.gives_up) e.bearing.queues x.waiting q h.waiting;
+}
+
+quiet_if : (b : Bool) (x : Peer) → IsQuiet x → IsQuiet (unwrap_or (cond b (Some x) None) no_peer)
+quiet_if true x h = h
+quiet_if false x h = quiet_none
+
+quiet_map : (e : Mention) (o : Option Peer) → e.bearing.tries ≡ false → e.bearing.queues ≡ None → IsQuiet (unwrap_or o no_peer) → IsQuiet (unwrap_or (option_map (after e) o) no_peer)
+quiet_map e None t q h = quiet_none
+quiet_map e (Some x) t q h = quiet_after e x t q h
+
+abbrev AreQuiet : Ip6 → List Mention → Type 0
+AreQuiet p ms = (n : ℕ) → IsQuiet (known ms n p)
+
+quiet_more : (e : Mention) (ms : List Mention) (p : Ip6) → (is_about p e ≡ true → (e.bearing.tries ≡ false) × (e.bearing.queues ≡ None)) → AreQuiet p ms → AreQuiet p (e ∷ ms)
+quiet_more e ms p none before n = by_about (is_about p e) refl where
+  by_touch : (t : Bool) → is_about p e ≡ true → e.bearing.touches ≡ t → IsQuiet (known (e ∷ ms) n p)
+  by_touch true about t =
+      let parts = none about in
+      subst (λ o. IsQuiet (unwrap_or o no_peer)) (sym (of_a_touch e ms n p about t)) (quiet_if (is_young LISTED_MS n e.moment) (after e (known ms e.moment p)) (quiet_after e (known ms e.moment p) parts.0 parts.1 (before e.moment)))
+  by_touch false about t =
+      let parts = none about in
+      subst (λ o. IsQuiet (unwrap_or o no_peer)) (sym (of_no_touch e ms n p about t)) (quiet_map e (peer_at ms n p) parts.0 parts.1 (before n))
+
+  by_about : (b : Bool) → is_about p e ≡ b → IsQuiet (known (e ∷ ms) n p)
+  by_about true about = by_touch e.bearing.touches about refl
+  by_about false other = subst (λ o. IsQuiet (unwrap_or o no_peer)) (sym (of_another e ms n p other)) (before n)
+
+-- WHAT AN ENTRY IS ABOUT
+
+-- the entry neither tries nor queues, if it is about p
+abbrev NoAttempt : Ip6 → Entry → Type 0
+NoAttempt p e = is_about p (mention e) ≡ true → ((mention e).bearing.tries ≡ false) × ((mention e).bearing.queues ≡ None)
+
+by_fate : (p : Ip6) (e : Entry) → is_attempt e.step.fate ≡ false → NoAttempt p e
+by_fate p e h about = no_attempt e.step.fate e h
+
+is_some_if : (b : Bool) (p q : Ip6) → is_peer p (cond b (Some q) None) ≡ true → p ≡ q
+is_some_if true p q h = same_ip6-true p q h
+is_some_if false p q h = absurd (false≢true h)
+
+of_datagram : (s : RelaySettings) (j : List Entry) (n : ℕ) (from : Ep) (x : List ℕ) (p : Ip6) → NoAttempt p (relay_in s j n from x)
+unfolding relay_in
+of_datagram s j n from x p = by_fate p (relay_in s j n from x) (ap is_attempt (fate_of_reception s (standing_of j n (source_in x)) from x) ∙ received_is_none (seen s (standing_of j n (source_in x)) from x))
+
+of_packet : (s : RelaySettings) (j : List Entry) (n : ℕ) (x : List ℕ) (p : Ip6) → has_cone p ≡ true → NoAttempt p (relay_six s j n x)
+unfolding relay_six given_of_packet destination_in
+of_packet s j n x p cone about =
+    let is : p ≡ (fields_in x).dst = is_some_if (is_packet x) p (fields_in x).dst about in
+    let at : has_cone (fields_in x).dst ≡ true = subst (λ q. has_cone q ≡ true) is cone in
+    by_fate p (relay_six s j n x) (ap is_attempt (fate_of_transmission s (standing_of j n (destination_in x)) x) ∙ cone_is_none (given_of_packet s (standing_of j n (destination_in x)) x) at) about
+
+waits_no_more : (xs : List (List ℕ)) → xs ≡ [] → is_none xs ≡ false → ⊥
+waits_no_more [] e h = false≢true (sym h)
+waits_no_more (x ∷ xs) e h = false≢true (sym h ∙ ap is_none e)
+
+-- a peer that is due isn't quiet
+due_waits : (ms : List Mention) (n : ℕ) (l : Listing) → due_at n (first_due ms n) ≡ Some l → is_none (known ms n l.who).waiting ≡ false
+due_waits ms n l h = by_first (first_due ms n) refl h where
+  waits : (k : Listing) → first_due ms n ≡ Some k → is_none (known ms n k.who).waiting ≡ false
+  waits k e = let found = first_waits ms n k e in ap (λ (x : Peer). is_none x.waiting) (sym found.peer) ∙ found.waits
+
+  by_due : (b : Bool) (k : Listing) → first_due ms n ≡ Some k → cond b (Some k) None ≡ Some l → is_none (known ms n l.who).waiting ≡ false
+  by_due true k e g = subst (λ (x : Listing). is_none (known ms n x.who).waiting ≡ false) (ap (λ (o : Option Listing). unwrap_or o l) g) (waits k e)
+  by_due false k e g = absurd (false≢true (ap is_some g))
+
+  by_first : (o : Option Listing) → first_due ms n ≡ o → due_at n o ≡ Some l → is_none (known ms n l.who).waiting ≡ false
+  by_first None e g = absurd (false≢true (ap is_some g))
+  by_first (Some k) e g = by_due (nat_le (due_of k.peer) n) k e g
+
+of_due : (s : RelaySettings) (j : List Entry) (n : ℕ) (p : Ip6) → AreQuiet p (mentions j) → (due : Option Listing) → due_at n (first_due (mentions j) n) ≡ due → NoAttempt p (ticks s n due)
+of_due s j n p quiet None e = by_fate p (ticks s n None) refl
+of_due s j n p quiet (Some l) e = λ about.
+    let is : p ≡ l.who = same_ip6-true p l.who about in
+    absurd (waits_no_more (known (mentions j) n l.who).waiting (ap (λ q. (known (mentions j) n q).waiting) (sym is) ∙ (quiet n).waiting) (due_waits (mentions j) n l e))
+
+of_tick : (s : RelaySettings) (j : List Entry) (n : ℕ) (p : Ip6) → AreQuiet p (mentions j) → NoAttempt p (relay_tick s j n)
+unfolding relay_tick
+of_tick s j n p quiet = of_due s j n p quiet (due_at n (first_due (mentions j) n)) refl
+
+of_entry : (s : RelaySettings) (j : List Entry) (n : ℕ) (input : Input) (p : Ip6) → has_cone p ≡ true → AreQuiet p (mentions j) → NoAttempt p (relay_entry s j n input)
+of_entry s j n (arrived from x) p cone quiet = of_datagram s j n from x p
+of_entry s j n (from_six x) p cone quiet = of_packet s j n x p cone
+of_entry s j n ticked p cone quiet = of_tick s j n p quiet
+of_entry s j n (given x) p cone quiet = by_fate p (relay_entry s j n (given x)) refl
+
+all_quiet : (s : RelaySettings) (j : List Entry) (p : Ip6) → IsJournal s j → has_cone p ≡ true → AreQuiet p (mentions j)
+unfolding mentions peer_at is_listed
+all_quiet s [] p a cone = λ n. quiet_none
+all_quiet s (e ∷ j) p a cone =
+    let before : AreQuiet p (mentions j) = all_quiet s j p a.1 cone in
+    let none : NoAttempt p e = subst (λ (x : Entry). NoAttempt p x) (sym a.0.is) (of_entry s j e.moment e.input p cone before) in
+    quiet_more (mention e) (mentions j) p none before
+
+pub cone_is_quiet : ConeIsQuiet
+cone_is_quiet s j n p a cone = all_quiet s j p a cone n

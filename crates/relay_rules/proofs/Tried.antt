@@ -1,0 +1,42 @@
+-- A relay's mentions are in order.
+use Rattle.std.proofs.Common.{◌≡◌, ◌≤◌, ℕ, true, List, [], ◌∷◌, map}
+use Rattle.std.specs.List.{AllByRecursion}
+use Rattle.std.proofs.Math.Nat.{le_refl, le_trans}
+use Rattle.teredo_node.specs.Journal.{Entry}
+use Rattle.peer_list.specs.Mentions.{Mention}
+use Rattle.peer_list.specs.Laws.{InOrder}
+use Rattle.relay_rules.specs.Bearings.{mention, mentions}
+use Rattle.relay_rules.specs.Standing.{RelaySettings}
+use Rattle.relay_rules.specs.Journals.{last_moment, IsJournal}
+use Rattle.relay_rules.specs.Laws.{JournalIsTried}
+use Rattle.relay_rules.proofs.Fates.{tries_touch}
+
+abbrev IsBefore : ℕ → Mention → Type 0
+IsBefore n x = x.moment ≤ n
+
+all_later : (m n : ℕ) (ms : List Mention) → m ≤ n → AllByRecursion (IsBefore m) ms → AllByRecursion (IsBefore n) ms
+all_later m n [] l a = tt
+all_later m n (x ∷ ms) l a = (le_trans a.0 l, all_later m n ms l a.1)
+
+-- no mention is later than the journal
+before_last : (s : RelaySettings) (j : List Entry) → IsJournal s j → AllByRecursion (IsBefore (last_moment j)) (mentions j)
+unfolding mentions
+before_last s [] a = tt
+before_last s (e ∷ j) a = (le_refl e.moment, all_later (last_moment j) e.moment (map mention j) a.0.later (before_last s j a.1))
+
+in_order : (s : RelaySettings) (j : List Entry) → IsJournal s j → InOrder (mentions j)
+unfolding mentions
+in_order s [] a = tt
+in_order s (e ∷ j) a = (all_later (last_moment j) e.moment (map mention j) a.0.later (before_last s j a.1), in_order s j a.1)
+
+all_touch : (j : List Entry) → AllByRecursion (λ (x : Mention). x.bearing.tries ≡ true → x.bearing.touches ≡ true) (mentions j)
+unfolding mentions
+all_touch [] = tt
+all_touch (e ∷ j) = (tries_touch e, all_touch j)
+
+pub journal_is_tried : JournalIsTried
+journal_is_tried s j n a l = record {
+  order = in_order s j a;
+  past = all_later (last_moment j) n (mentions j) l (before_last s j a);
+  touches = all_touch j;
+}

@@ -1,0 +1,5 @@
+use Rattle.relay_rules.proofs.Fates.{fate_of_transmission}
+use Rattle.relay_rules.proofs.laws.fate_of_transmission.Goals as goal
+
+pub returns : goal.returns
+returns c = fate_of_transmission

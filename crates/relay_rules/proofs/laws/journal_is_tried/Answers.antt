@@ -1,0 +1,5 @@
+use Rattle.relay_rules.proofs.Tried.{journal_is_tried}
+use Rattle.relay_rules.proofs.laws.journal_is_tried.Goals as goal
+
+pub returns : goal.returns
+returns c = journal_is_tried

@@ -1,0 +1,37 @@
+-- How a relay is set up, and what its tables read of its journal.
+use Rattle.std.specs.Prelude.{ℕ, Bool, List, Option, unwrap_or}
+use Rattle.td_base.specs.declared.ipv6.Ip6.{Ip6}
+use Rattle.td_base.specs.declared.endpoint.Ep.{Ep}
+use Rattle.td_base.specs.declared.reach.Policy.{Policy}
+use Rattle.teredo_addr.specs.Teredo.{unspecified}
+use Rattle.teredo_node.specs.Journal.{Entry}
+use Rattle.peer_list.specs.Listed.{has_room}
+use Rattle.peer_list.specs.Peers.{Peer, no_peer, peer_at}
+use Rattle.relay_rules.specs.Bearings.{mentions}
+
+-- its endpoint and its IPv6 address, which addresses are global, the natives that it serves
+pub record RelaySettings : Type 0 where
+  pub at : Ep
+  pub six : Ip6
+  pub policy : Policy
+  pub served : List Ip6
+
+pub record Standing : Type 0 where
+  pub moment : ℕ
+  pub peer : Option Peer  -- what is known of the address, where it is listed
+  pub room : Bool  -- it is listed, or there is room for it
+
+-- what is known of the address, be it listed or not
+abbrev pub known_in : Standing → Peer
+known_in a = unwrap_or a.peer no_peer
+
+unfoldable pub standing_at : List Entry → ℕ → Ip6 → Standing
+standing_at j n p = record {
+  moment = n;
+  peer = peer_at (mentions j) n p;
+  room = has_room (mentions j) n p;
+}
+
+-- the same where there may be no address
+abbrev pub standing_of : List Entry → ℕ → Option Ip6 → Standing
+standing_of j n p = standing_at j n (unwrap_or p unspecified)
