@@ -1,15 +1,10 @@
-mod Unique
-mod Framed
-mod Asked
-mod ByKind
-mod Position
-mod Routes
 mod Wires
+mod States
 mod Arrivals
+mod Routes
 mod Emitted
-mod Delivered
-pub mod NextLaws
-mod NoClients
+mod Played
+mod Answered
 mod Opened
-mod NewNats
+mod Unhosted
 mod Stepped
