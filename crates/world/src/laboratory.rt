@@ -263,6 +263,8 @@ impl World {
         ensures cause { IfErr result (λ stop. Stops self.old.stopped self.old index event.now stop) }
         ensures err { IfErr result (λ stop. self.new ≡ record self.old { stopped = Some stop }) }
     {
+        legal::of_its_event();
+        legal::told();
         if let Some(stop) = self.stopped {
             return Err(stop);
         }
