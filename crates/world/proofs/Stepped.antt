@@ -15,14 +15,14 @@ use Rattle.history.specs.declared.turn.Stop.TheVariants.{WireFull, NoMemory}
 use Rattle.topology.specs.Rows.{TopologyState}
 use Rattle.topology.specs.Topology.{nodes}
 use Rattle.history.specs.Full.{Full, item_in, items_of}
-use Rattle.world.specs.declared.laboratory.TheConstants.{MOST_LEFT}
+use Rattle.world.specs.declared.world.TheConstants.{MOST_LEFT}
 use Rattle.legal.specs.Past.{Draws, began, has_more, forgotten, is_number}
 use Rattle.legal.specs.Next.{numbered, plain, advanced, least_due, advance_with, next_of}
 use Rattle.legal.specs.Legal.{GoesOn, Grown}
 use Rattle.world.specs.Held.{WireState}
 use Rattle.world.specs.Ways.{topology_of, NatsOf, IsRestartOf}
 use Rattle.world.specs.Steps.{said, Has, Plays}
-use Rattle.world.specs.World.{WorldState, StandsFor, Steps}
+use Rattle.world.specs.World.{WorldState, StandsFor, IsAgain, Steps}
 use Rattle.world.specs.Playing.{kept_wire, After, PlaysOut}
 use Rattle.legal.specs.Laws.{IsOf, EachIsOfItsEvent, EachIsTold}
 use Rattle.world.proofs.NextLaws.{is_at_once, next_once, forgets_nobody}
@@ -130,8 +130,8 @@ starts_anew old new d H i n word s is same restarts says = (
 
 stands : (d : Draws) (old new : WorldState) (H : List Full) (i : ℕ) (e : Event) (r : Full)
     → StandsFor d old H → GoesOn H e → r ≡ next_of d old.topology H i e → r.event ≡ i → r.asked ≡ e → has_more r.asked r.act ≡ false
-    → new.topology ≡ old.topology → new.left ≡ MOST_LEFT → After old new H r → StandsFor d new (r ∷ H)
-stands d old new H i e r s goes is number asked last t l a = record {
+    → new.topology ≡ old.topology → new.left ≡ MOST_LEFT → new.going ≡ None → After old new H r → StandsFor d new (r ∷ H)
+stands d old new H i e r s goes is number asked last t l g a = record {
   grown = subst (λ (x : TopologyState). Grown d x (r ∷ H)) (sym t) (
     record {
       goes_on = subst (GoesOn H) (sym asked) goes;
@@ -141,24 +141,33 @@ stands d old new H i e r s goes is number asked last t l a = record {
   );
   moment = a.moment;
   began = a.began ∙ rw last refl;
+  going = g ∙ rw last refl;
   nats = subst (λ (x : TopologyState). NatsOf x new.nats (r ∷ H)) (sym t) a.nats;
   wire = a.wire.items ∙ ap (λ xs. xs ++ items_of r) s.wire;
   done = λ k. a.wire.done k ∙ ap (λ (b : Bool). is_number k r.delivered || b) (s.done k);
   left = l ∙ rw last refl;
 }
 
+-- an event that comes again where it goes on is the one that goes on
+goes_from : (d : Draws) (w : WorldState) (H : List Full) (e : Event) → StandsFor d w H → IsAgain w.going e → GoesOn H e
+goes_from d w [] e s again = tt
+goes_from d w (r ∷ H) e s again = λ more.
+    let same : w.going ≡ Some r.asked = s.going ∙ rw more refl in
+    subst (λ (o : Option Event). IsAgain o e) same again
+
 pub steps : EachIsOfItsEvent → EachIsTold → (servers : List ServerNode) (rows : List NatNode) (old new : WorldState) (i : ℕ) (e : Event) (word : Record)
-    → topology_of servers rows ≡ old.topology → new.topology ≡ old.topology → new.left ≡ MOST_LEFT → new.stopped ≡ None
+    → topology_of servers rows ≡ old.topology → new.topology ≡ old.topology → new.left ≡ MOST_LEFT → new.stopped ≡ None → new.going ≡ None → IsAgain old.going e
     → ((d : Draws) (H : List Full) → StandsFor d old H → PlaysOut old new H (next_of d old.topology H i e) (Ok word))
     → Steps old new i e (Last word)
-steps of_event told servers rows old new i e word t same l going plays = record {
+steps of_event told servers rows old new i e word t same l going none again plays = record {
   topology = same;
   goes_on = going;
-  record_is = λ d H s goes. (plays d H s).0;
-  stands = λ d H s goes.
+  going = none;
+  record_is = λ d H s. (plays d H s).0;
+  stands = λ d H s.
       let is = of_event d old.topology H i e in
       let last = nothing_more old.topology servers rows t d H i e in
-      stands d old new H i e (next_of d old.topology H i e) s goes refl is.event is.asked (ap (λ (x : Event). has_more x (next_of d old.topology H i e).act) is.asked ∙ last) same l (plays d H s).1;
-  more = λ d H s goes. nothing_more old.topology servers rows t d H i e;
-  tells = λ d H s goes. told d old.topology H i e;
+      stands d old new H i e (next_of d old.topology H i e) s (goes_from d old H e s again) refl is.event is.asked (ap (λ (x : Event). has_more x (next_of d old.topology H i e).act) is.asked ∙ last) same l none (plays d H s).1;
+  more = λ d H s. nothing_more old.topology servers rows t d H i e;
+  tells = λ d H s. told d old.topology H i e;
 }

@@ -14,7 +14,7 @@
 //!
 //! | module | holds | stated in |
 //! |---|---|---|
-//! | `laboratory` | `World` | `specs/World.antt` |
+//! | `world` | `World` | `specs/World.antt` |
 //! | `wire` | everything that was sent, and what of it was delivered | `specs/Held.antt`, `Lent.antt` |
 //! | `deliveries`, `puts`, `quiet` | the records of deliveries, of datagrams from nowhere, of the other events | `specs/Knows.antt`, `Steps.antt` |
 //! | `way` | where a datagram goes | `specs/Ways.antt` |
@@ -25,11 +25,11 @@ mod arriving;
 mod asking;
 mod deliveries;
 mod emitting;
-mod laboratory;
 mod puts;
 mod quiet;
 mod way;
 mod wire;
+mod world;
 
-pub use laboratory::{MOST_LEFT, MOST_MOMENT, World};
 pub use wire::{MOST_ENTRIES, WireEntry};
+pub use world::{MOST_LEFT, MOST_MOMENT, World};
