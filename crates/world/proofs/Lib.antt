@@ -1,7 +1,3 @@
-mod Unique
-mod Framed
-mod Asked
-mod ByKind
 mod Position
 mod Routes
 mod Wires

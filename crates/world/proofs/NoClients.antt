@@ -64,9 +64,10 @@ nodes_count servers rows =
     omega (arith, a, b, c, e)
 
 -- nothing falls due
-pub nothing_due : (t : TopologyState) (H : List Full) (n : ℕ) (ns : List Node) → least_due t H n ns ≡ None
-nothing_due t H n [] = refl
-nothing_due t H n (a ∷ ns) = nothing_due t H (n + 1) ns
+pub nothing_due : (t : TopologyState) (H : List Full) (n : ℕ) (servers : List ServerNode) (rows : List NatNode) → least_due t H n (map (λ x. server x) servers ++ (map (λ x. nat x) rows ++ [])) ≡ None
+nothing_due t H n [] [] = refl
+nothing_due t H n [] (row ∷ rows) = nothing_due t H (n + 1) [] rows
+nothing_due t H n (row ∷ servers) rows = nothing_due t H (n + 1) servers rows
 
 -- NAT HISTORIES
 

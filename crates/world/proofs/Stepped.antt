@@ -15,21 +15,22 @@ use Rattle.history.specs.declared.turn.Stop.TheVariants.{WireFull, NoMemory}
 use Rattle.topology.specs.Rows.{TopologyState}
 use Rattle.topology.specs.Topology.{nodes}
 use Rattle.history.specs.Full.{Full, item_in, items_of}
-use Rattle.world.specs.declared.laboratory.TheConstants.{MOST_LEFT}
+use Rattle.world.specs.declared.world.TheConstants.{MOST_LEFT}
 use Rattle.legal.specs.Past.{Draws, began, has_more, forgotten, is_number}
-use Rattle.legal.specs.Next.{numbered, plain, advanced, advance_with, next_of}
+use Rattle.legal.specs.Next.{numbered, plain, advanced, least_due, advance_with, next_of}
 use Rattle.legal.specs.Legal.{GoesOn, Grown}
 use Rattle.world.specs.Held.{WireState}
 use Rattle.world.specs.Ways.{topology_of, NatsOf, IsRestartOf}
 use Rattle.world.specs.Steps.{said, Has, Plays}
-use Rattle.world.specs.World.{WorldState, StandsFor, Steps}
+use Rattle.world.specs.World.{WorldState, StandsFor, IsAgain, Steps}
 use Rattle.world.specs.Playing.{kept_wire, After, PlaysOut}
-use Rattle.world.proofs.NextLaws.{next_is_of, next_tells, is_at_once, next_once, forgets_nobody}
+use Rattle.legal.specs.Laws.{IsOf, EachIsOfItsEvent, EachIsTold}
+use Rattle.world.proofs.NextLaws.{is_at_once, next_once, forgets_nobody}
 use Rattle.world.proofs.NoClients.{nothing_due, nats_stay}
 
 -- no event has a further record
 no_more : (servers : List ServerNode) (rows : List NatNode) (d : Draws) (H : List Full) (i : ℕ) (e : Event) → has_more e (next_of d (topology_of servers rows) H i e).act ≡ false
-no_more servers rows d H i (event.Advance ms) = rw (nothing_due (topology_of servers rows) H 0 (nodes (topology_of servers rows))) refl
+no_more servers rows d H i (event.Advance ms) = rw (nothing_due (topology_of servers rows) H 0 servers rows) refl
 no_more servers rows d H i (event.Deliver n) = refl
 no_more servers rows d H i event.Next = refl
 no_more servers rows d H i (event.Host n to body) = refl
@@ -53,9 +54,8 @@ pub at_once : (old new : WorldState) (servers : List ServerNode) (rows : List Na
     → PlaysOut old new H (next_of d old.topology H i e) result
 at_once old new servers rows d H i e (Ok word) t s once m b ns p =
     let r = next_of d old.topology H i e in
-    let is = next_is_of d old.topology H i e in
     let same = next_once d old.topology H i e once in
-    let nobody : forgotten old.topology r.asked ≡ [] = ap (forgotten old.topology) is.asked ∙ forgets_nobody old.topology e once in
+    let nobody : forgotten old.topology r.asked ≡ [] = ap (forgotten old.topology) same.asked ∙ forgets_nobody old.topology e once in
     let before : NatsOf (topology_of servers rows) old.nats H = subst (λ (x : TopologyState). NatsOf x old.nats H) (sym t) s.nats in
     let stay : NatsOf (topology_of servers rows) old.nats (r ∷ H) = nats_stay servers rows old.nats H r before same.starts (ap (λ (x : TopologyState). forgotten x r.asked) t ∙ nobody) in (
       p.0,
@@ -96,7 +96,7 @@ pub time_passes : (old new : WorldState) (servers : List ServerNode) (rows : Lis
     → PlaysOut old new H (next_of d old.topology H i (event.Advance ms)) (Ok word)
 time_passes old new servers rows d H i ms word t s is same says =
     let e = numbered i (event.Advance ms) in
-    let next : next_of d old.topology H i (event.Advance ms) ≡ advanced H e (began H + ms) = ap (advance_with d old.topology H e (began H + ms)) (nothing_due old.topology H 0 (nodes old.topology)) in
+    let next : next_of d old.topology H i (event.Advance ms) ≡ advanced H e (began H + ms) = ap (advance_with d old.topology H e (began H + ms)) (subst (λ (x : TopologyState). least_due x H 0 (nodes x) ≡ None) t (nothing_due (topology_of servers rows) H 0 servers rows)) in
     let then : old.moment + ms ≡ began H + ms = ap (λ (m : ℕ). m + ms) (sym same ∙ s.began) in
     let before : NatsOf (topology_of servers rows) old.nats H = subst (λ (x : TopologyState). NatsOf x old.nats H) (sym t) s.nats in
     let stay : NatsOf (topology_of servers rows) old.nats (advanced H e (began H + ms) ∷ H) = nats_stay servers rows old.nats H (advanced H e (began H + ms)) before refl refl in
@@ -130,8 +130,8 @@ starts_anew old new d H i n word s is same restarts says = (
 
 stands : (d : Draws) (old new : WorldState) (H : List Full) (i : ℕ) (e : Event) (r : Full)
     → StandsFor d old H → GoesOn H e → r ≡ next_of d old.topology H i e → r.event ≡ i → r.asked ≡ e → has_more r.asked r.act ≡ false
-    → new.topology ≡ old.topology → new.left ≡ MOST_LEFT → After old new H r → StandsFor d new (r ∷ H)
-stands d old new H i e r s goes is number asked last t l a = record {
+    → new.topology ≡ old.topology → new.left ≡ MOST_LEFT → new.going ≡ None → After old new H r → StandsFor d new (r ∷ H)
+stands d old new H i e r s goes is number asked last t l g a = record {
   grown = subst (λ (x : TopologyState). Grown d x (r ∷ H)) (sym t) (
     record {
       goes_on = subst (GoesOn H) (sym asked) goes;
@@ -141,24 +141,33 @@ stands d old new H i e r s goes is number asked last t l a = record {
   );
   moment = a.moment;
   began = a.began ∙ rw last refl;
+  going = g ∙ rw last refl;
   nats = subst (λ (x : TopologyState). NatsOf x new.nats (r ∷ H)) (sym t) a.nats;
   wire = a.wire.items ∙ ap (λ xs. xs ++ items_of r) s.wire;
   done = λ k. a.wire.done k ∙ ap (λ (b : Bool). is_number k r.delivered || b) (s.done k);
   left = l ∙ rw last refl;
 }
 
-pub steps : (servers : List ServerNode) (rows : List NatNode) (old new : WorldState) (i : ℕ) (e : Event) (word : Record)
-    → topology_of servers rows ≡ old.topology → new.topology ≡ old.topology → new.left ≡ MOST_LEFT → new.stopped ≡ None
+-- an event that comes again where it goes on is the one that goes on
+goes_from : (d : Draws) (w : WorldState) (H : List Full) (e : Event) → StandsFor d w H → IsAgain w.going e → GoesOn H e
+goes_from d w [] e s again = tt
+goes_from d w (r ∷ H) e s again = λ more.
+    let same : w.going ≡ Some r.asked = s.going ∙ rw more refl in
+    subst (λ (o : Option Event). IsAgain o e) same again
+
+pub steps : EachIsOfItsEvent → EachIsTold → (servers : List ServerNode) (rows : List NatNode) (old new : WorldState) (i : ℕ) (e : Event) (word : Record)
+    → topology_of servers rows ≡ old.topology → new.topology ≡ old.topology → new.left ≡ MOST_LEFT → new.stopped ≡ None → new.going ≡ None → IsAgain old.going e
     → ((d : Draws) (H : List Full) → StandsFor d old H → PlaysOut old new H (next_of d old.topology H i e) (Ok word))
     → Steps old new i e (Last word)
-steps servers rows old new i e word t same l going plays = record {
+steps of_event told servers rows old new i e word t same l going none again plays = record {
   topology = same;
   goes_on = going;
-  record_is = λ d H s goes. (plays d H s).0;
-  stands = λ d H s goes.
-      let is = next_is_of d old.topology H i e in
+  going = none;
+  record_is = λ d H s. (plays d H s).0;
+  stands = λ d H s.
+      let is = of_event d old.topology H i e in
       let last = nothing_more old.topology servers rows t d H i e in
-      stands d old new H i e (next_of d old.topology H i e) s goes refl is.event is.asked (ap (λ (x : Event). has_more x (next_of d old.topology H i e).act) is.asked ∙ last) same l (plays d H s).1;
-  more = λ d H s goes. nothing_more old.topology servers rows t d H i e;
-  tells = λ d H s goes. next_tells d old.topology H i e;
+      stands d old new H i e (next_of d old.topology H i e) s (goes_from d old H e s again) refl is.event is.asked (ap (λ (x : Event). has_more x (next_of d old.topology H i e).act) is.asked ∙ last) same l none (plays d H s).1;
+  more = λ d H s. nothing_more old.topology servers rows t d H i e;
+  tells = λ d H s. told d old.topology H i e;
 }

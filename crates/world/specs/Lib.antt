@@ -1,9 +1,3 @@
-pub mod Past
-pub mod Emit
-pub mod Next
-pub mod Legal
-pub mod Frame
-pub mod Kinds
 pub mod Held
 pub mod Lent
 pub mod Arriving

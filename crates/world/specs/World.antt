@@ -1,5 +1,5 @@
 -- What contracts see of a world, and how `step` follows the history.
-use Rattle.std.specs.Prelude.{◌≡◌, ◌≢◌, ℕ, ◌+◌, ◌-◌, ◌<◌, nat_le, max, if◌then◌else◌, Bool, true, false, List, [], ◌∷◌, ◌++◌, length, filter, sum_by, get_or, Option, Some, None}
+use Rattle.std.specs.Prelude.{◌≡◌, ℕ, ◌+◌, ◌-◌, ◌<◌, nat_le, max, if◌then◌else◌, Bool, true, false, List, [], ◌∷◌, ◌++◌, length, filter, sum_by, get_or, Option, Some, None}
 use Rattle.nat_kinds.specs.Nat.{NatState}
 use Rattle.history.specs.declared.event.Event.{Event}
 use Rattle.history.specs.declared.event.Event.TheVariants as event
@@ -15,16 +15,19 @@ use Rattle.history.specs.Full.{Item, Full, wire, items_of}
 use Rattle.history.specs.Records.{record_of}
 use Rattle.history.specs.Telling.{IsTold}
 use Rattle.world.specs.declared.wire.TheConstants.{MOST_ENTRIES}
-use Rattle.world.specs.declared.laboratory.TheConstants.{MOST_LEFT}
-use Rattle.legal.specs.Past.{now, began, has_more, was_delivered, Draws}
+use Rattle.world.specs.declared.world.TheConstants.{MOST_LEFT, MOST_MOMENT}
+use Rattle.teredo_node.specs.declared.fates.Fate.{Fate}
+use Rattle.teredo_node.specs.declared.fates.Fate.TheVariants as fate
+use Rattle.legal.specs.Past.{now, began, has_more, going, was_delivered, Draws}
 use Rattle.legal.specs.Next.{next_of}
-use Rattle.legal.specs.Legal.{GoesOn, Grown}
+use Rattle.legal.specs.Legal.{Grown}
 use Rattle.world.specs.Ways.{NatsOf}
 
 pub record WorldState : Type 0 where
   pub topology : TopologyState
   pub moment : ℕ
   pub began : ℕ  -- when the event of the next record began
+  pub going : Option Event  -- the event that goes on: the next record is of it
   pub nats : List NatState
   pub wire : List Item
   pub done : List Bool  -- for each entry of the wire, whether it was delivered
@@ -67,12 +70,23 @@ pub record StandsFor (d : Draws) (w : WorldState) (H : List Full) : Type 0 where
   pub grown : Grown d w.topology H
   pub moment : w.moment ≡ now H
   pub began : w.began ≡ began H
+  pub going : w.going ≡ going H
   pub nats : NatsOf w.topology w.nats H
   pub wire : w.wire ≡ wire H
   pub done : (i : ℕ) → get_or w.done i false ≡ was_delivered i H
   pub left : w.left ≡ left w.topology H
 
 -- WHAT A STEP DOES
+
+-- an event that goes on comes again
+abbrev pub IsAgain : Option Event → Event → Type 0
+IsAgain None e = Unit {0}
+IsAgain (Some before) e = e ≡ before
+
+-- an advance, which began at this moment, ends before the last moment that a world reaches
+abbrev pub EndsInTime : ℕ → Event → Type 0
+EndsInTime began (event.Advance ms) = began + ms < MOST_MOMENT
+EndsInTime began _ = Unit {0}
 
 abbrev pub record_in : Turn → Record
 record_in (More r) = r
@@ -82,40 +96,55 @@ abbrev pub is_more : Turn → Bool
 is_more (More r) = true
 is_more (Last r) = false
 
+-- the event that goes on after a turn
+abbrev pub going_after : Event → Turn → Option Event
+going_after e (More r) = Some e
+going_after e (Last r) = None
+
 -- The step gave the record that follows for its event, and the world then stands for the history with it.
 pub record Steps (old new : WorldState) (index : ℕ) (event : Event) (turn : Turn) : Type 0 where
   pub topology : new.topology ≡ old.topology
   pub goes_on : new.stopped ≡ None
-  pub record_is : (d : Draws) (H : List Full) → StandsFor d old H → GoesOn H event → record_in turn ≡ record_of (next_of d old.topology H index event)
-  pub stands : (d : Draws) (H : List Full) → StandsFor d old H → GoesOn H event → StandsFor d new (next_of d old.topology H index event ∷ H)
+  pub going : new.going ≡ going_after event turn
+  pub record_is : (d : Draws) (H : List Full) → StandsFor d old H → record_in turn ≡ record_of (next_of d old.topology H index event)
+  pub stands : (d : Draws) (H : List Full) → StandsFor d old H → StandsFor d new (next_of d old.topology H index event ∷ H)
   -- the event has further records exactly where the turn says so
-  pub more : (d : Draws) (H : List Full) → StandsFor d old H → GoesOn H event → has_more event (next_of d old.topology H index event).act ≡ is_more turn
-  pub tells : (d : Draws) (H : List Full) → StandsFor d old H → GoesOn H event → IsTold (next_of d old.topology H index event)
+  pub more : (d : Draws) (H : List Full) → StandsFor d old H → has_more event (next_of d old.topology H index event).act ≡ is_more turn
+  pub tells : (d : Draws) (H : List Full) → StandsFor d old H → IsTold (next_of d old.topology H index event)
 
 -- after a record that has further ones, fewer are left
 abbrev pub Falls : WorldState → WorldState → Turn → Type 0
 Falls old new (More r) = new.left < old.left
 Falls old new (Last r) = Unit {0}
 
--- the event has no further record
-abbrev pub IsLast : Turn → Type 0
-IsLast (More r) = ⊥
-IsLast (Last r) = Unit {0}
+-- WHY IT STOPS
 
--- The record that follows would make too long a wire.
-abbrev pub Overflows : WorldState → ℕ → Event → Type 0
-Overflows w index event = (d : Draws) (H : List Full) → StandsFor d w H → GoesOn H event → MOST_ENTRIES < length w.wire + length (items_of (next_of d w.topology H index event))
+-- the record would make too long a wire
+abbrev pub Overflows : WorldState → Full → Type 0
+Overflows w r = MOST_ENTRIES < length w.wire + length (items_of r)
 
--- The record that follows has a mark: only there memory is needed.
-abbrev pub NeedsMemory : WorldState → ℕ → Event → Type 0
-NeedsMemory w index event = (d : Draws) (H : List Full) → StandsFor d w H → GoesOn H event → (next_of d w.topology H index event).made ≢ []
+-- a packet is kept, or a peer listed, at these fates of a client or relay
+abbrev pub takes_memory : Fate → Bool
+takes_memory fate.Queued = true
+takes_memory fate.Rule3 = true
+takes_memory fate.Rule3Bubble = true
+takes_memory _ = false
 
--- why a world stops that hadn't stopped before
+-- it has a mark, or such a fate: at no other record memory is needed
+abbrev pub NeedsMemory : Full → Type 0
+NeedsMemory r = r.made ≡ [] → takes_memory r.fate ≡ true
+
+abbrev pub IsCause : WorldState → Full → Stop → Type 0
+IsCause w r WireFull = Overflows w r
+IsCause w r NoMemory = NeedsMemory r
+
+-- why a world stops that hadn't stopped before: for the record that follows
 abbrev pub StopsFor : WorldState → ℕ → Event → Stop → Type 0
-StopsFor w index event WireFull = Overflows w index event
-StopsFor w index event NoMemory = NeedsMemory w index event
+StopsFor w index event stop = (d : Draws) (H : List Full) → StandsFor d w H → IsCause w (next_of d w.topology H index event) stop
 
--- a world that stopped answers the same stop and stays as it is; another stops for a cause
-abbrev pub Stops : Option Stop → WorldState → ℕ → Event → Stop → Type 0
-Stops (Some before) w index event stop = stop ≡ before
-Stops None w index event stop = StopsFor w index event stop
+-- What stays where it stops. Of time and nodes nothing is promised: they may have begun to change.
+pub record Stays (old new : WorldState) (stop : Stop) : Type 0 where
+  pub topology : new.topology ≡ old.topology
+  pub wire : new.wire ≡ old.wire
+  pub done : new.done ≡ old.done
+  pub stopped : new.stopped ≡ Some stop

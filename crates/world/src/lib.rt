@@ -5,10 +5,6 @@
 //! - A new world stands for the history without records.
 //! - Whatever history a world stands for, `World::step` gives the record that follows in it, and the world then
 //!   stands for the history with that record (`specs/World.antt`).
-//! - A scenario has one legal history at most (`one_history`), which is one of its topology (`grown`).
-//! - A record changes one journal and one NAT's history at most (`frame`).
-//! - Each record that follows is of one of five kinds: quiet, a stranger's datagram, a copy, a tick, a delivery to a
-//!   node (`kinds`).
 //!
 //! # What it does not know
 //!
@@ -18,26 +14,22 @@
 //!
 //! | module | holds | stated in |
 //! |---|---|---|
-//! | | the records so far, what a node does, the record that follows, the legal history | `specs/Past.antt`, `Emit.antt`, `Next.antt`, `Legal.antt` |
-//! | `laboratory` | `World` | `specs/World.antt` |
+//! | `world` | `World` | `specs/World.antt` |
 //! | `wire` | everything that was sent, and what of it was delivered | `specs/Held.antt`, `Lent.antt` |
 //! | `deliveries`, `puts`, `quiet` | the records of deliveries, of datagrams from nowhere, of the other events | `specs/Knows.antt`, `Steps.antt` |
 //! | `way` | where a datagram goes | `specs/Ways.antt` |
 //! | `arriving`, `asking`, `emitting` | a server is lent the datagram, answers, and its sends go on the wire | `specs/Arriving.antt`, `Steps.antt` |
-//! | `laws` | what holds of every history | `specs/Legal.antt`, `Frame.antt`, `Kinds.antt` |
 #![tactic(auto)]
 
 mod arriving;
 mod asking;
 mod deliveries;
 mod emitting;
-mod laboratory;
-mod laws;
 mod puts;
 mod quiet;
 mod way;
 mod wire;
+mod world;
 
-pub use laboratory::{MOST_LEFT, MOST_MOMENT, World};
-pub use laws::{frame, grown, kinds, one_history};
 pub use wire::{MOST_ENTRIES, WireEntry};
+pub use world::{MOST_LEFT, MOST_MOMENT, World};

@@ -1,7 +1,7 @@
-use Rattle.std.proofs.Common.{◌≡◌, ◌∙◌, refl, sym, ap, subst, List, ℕ}
+use Rattle.std.proofs.Common.{◌≡◌, ◌∙◌, refl, sym, ap, subst, List, ℕ, None}
 use Rattle.history.specs.declared.event.Event.TheVariants as event
 use Rattle.history.specs.Events.{IsEvent}
-use Rattle.world.specs.declared.laboratory.TheConstants.{MOST_LEFT}
+use Rattle.world.specs.declared.world.TheConstants.{MOST_LEFT}
 use Rattle.world.specs.Ways.{topology_of}
 use Rattle.history.specs.declared.acts.Verb.TheVariants as verb
 use Rattle.legal.specs.Next.{numbered, plain, puts}
@@ -11,7 +11,7 @@ use Rattle.world.specs.World.{WorldState, StandsFor}
 use Rattle.world.specs.Playing.{kept_wire}
 use Rattle.world.proofs.Stepped.{at_once, put_once, time_passes, starts_anew}
 use Rattle.world.proofs.NoClients.{none_sends, none_is_forgotten}
-use Rattle.world.proofs.laboratory.World.play.Goals as goal
+use Rattle.world.proofs.world.World.play.Goals as goal
 
 pub unreachable-requires : goal.unreachable-requires
 unreachable-requires c =
@@ -54,7 +54,7 @@ returns-in-Stranger-clause-plays c = λ d H s.
     let e = event.Stranger c.in-Stranger.src c.in-Stranger.dst c.in-Stranger.bytes in
     let v = subst (λ (x : WorldState). StandsFor d x H) (sym c.self.view_is) s in
     let k : Knows (topology_of w.servers.items w.rows.items) w.nats.items w.moment.0 w.wire H = record { moment = v.moment; items = v.wire; done = v.done; nats = v.nats } in
-    let new : WorldState = record { topology = topology_of w.servers.items w.rows.items; moment = w.moment.0; began = w.moment.0; nats = w.nats.items; wire = c.put_bytes.new.wire.items; done = c.put_bytes.new.wire.done; left = MOST_LEFT; stopped = w.stopped } in
+    let new : WorldState = record { topology = topology_of w.servers.items w.rows.items; moment = w.moment.0; began = w.moment.0; going = None; nats = w.nats.items; wire = c.put_bytes.new.wire.items; done = c.put_bytes.new.wire.done; left = MOST_LEFT; stopped = w.stopped } in
     let is : new ≡ record c.args.self.now { wire = c.put_bytes.new.wire.items; done = c.put_bytes.new.wire.done } = ap (λ (x : WorldState). record x { wire = c.put_bytes.new.wire.items; done = c.put_bytes.new.wire.done }) c.self.view_is in
     rw (c.in-Stranger.is) (put_once c.args.self.now new w.wire c.put_bytes.new.wire w.servers.items w.rows.items d H c.args.index e c.put_bytes.result (ap (λ (x : WorldState). x.topology) c.self.view_is) s refl is (ap kept_wire c.self.view_is) (sym (ap (λ (x : WorldState). x.began) c.self.view_is) ∙ ap (λ (x : WorldState). x.moment) c.self.view_is)
     (subst (λ (x : List ℕ). Plays w.wire c.put_bytes.new.wire (puts H (numbered c.args.index e) (plain verb.Stranger) c.in-Stranger.src c.in-Stranger.dst x) c.put_bytes.result) c.as_slice-bytes.ensures (c.put_bytes.ensures.plays (topology_of w.servers.items w.rows.items) w.nats.items H e k)))
@@ -65,7 +65,7 @@ returns-in-Copy-clause-plays c = λ d H s.
     let e = event.Copy c.in-Copy.number c.in-Copy.src c.in-Copy.dst in
     let v = subst (λ (x : WorldState). StandsFor d x H) (sym c.self.view_is) s in
     let k : Knows (topology_of w.servers.items w.rows.items) w.nats.items w.moment.0 w.wire H = record { moment = v.moment; items = v.wire; done = v.done; nats = v.nats } in
-    let new : WorldState = record { topology = topology_of w.servers.items w.rows.items; moment = w.moment.0; began = w.moment.0; nats = w.nats.items; wire = c.copy.new.wire.items; done = c.copy.new.wire.done; left = MOST_LEFT; stopped = w.stopped } in
+    let new : WorldState = record { topology = topology_of w.servers.items w.rows.items; moment = w.moment.0; began = w.moment.0; going = None; nats = w.nats.items; wire = c.copy.new.wire.items; done = c.copy.new.wire.done; left = MOST_LEFT; stopped = w.stopped } in
     let is : new ≡ record c.args.self.now { wire = c.copy.new.wire.items; done = c.copy.new.wire.done } = ap (λ (x : WorldState). record x { wire = c.copy.new.wire.items; done = c.copy.new.wire.done }) c.self.view_is in
     rw (c.in-Copy.is) (put_once c.args.self.now new w.wire c.copy.new.wire w.servers.items w.rows.items d H c.args.index e c.copy.result (ap (λ (x : WorldState). x.topology) c.self.view_is) s refl is (ap kept_wire c.self.view_is) (sym (ap (λ (x : WorldState). x.began) c.self.view_is) ∙ ap (λ (x : WorldState). x.moment) c.self.view_is)
     (c.copy.ensures.plays (topology_of w.servers.items w.rows.items) w.nats.items H e k))

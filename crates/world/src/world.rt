@@ -1,5 +1,5 @@
-ghost use Rattle.std.specs.Prelude.{◌≡◌, ◌<◌, ◌≤◌, ◌+◌, List, [], ◌∷◌, length, Some, None, slice_get, option_map, IfOk, IfErr, OnErr, IsErrOf};
-ghost use Rattle.teredo_node.specs.declared.fate.Fate.TheVariants as fates;
+ghost use Rattle.std.specs.Prelude.{◌≡◌, ◌<◌, ◌≤◌, ◌+◌, List, [], ◌∷◌, length, Some, None, slice_get, option_map, Err, IfSome, IfOk, IfErr, OnErr, IsErrOf};
+ghost use Rattle.teredo_node.specs.declared.fates.Fate.TheVariants as fates;
 ghost use Rattle.history.specs.declared.event.Event.{Event};
 ghost use Rattle.history.specs.declared.event.Event.TheVariants as event;
 ghost use Rattle.history.specs.declared.event.TheConstants.{MOST_ADVANCE};
@@ -7,19 +7,20 @@ ghost use Rattle.history.specs.declared.acts.Verb.TheVariants as verb;
 ghost use Rattle.history.specs.Events.{IsEvent};
 ghost use Rattle.history.specs.Full.{Full};
 ghost use Rattle.world.specs.declared.wire.TheConstants.{MOST_ENTRIES};
-ghost use Rattle.world.specs.declared.laboratory.TheConstants.{MOST_MOMENT};
+ghost use Rattle.world.specs.declared.world.TheConstants.{MOST_MOMENT};
 ghost use Rattle.legal.specs.Past.{Draws};
+ghost use Rattle.legal.specs.Legal.{draws};
 ghost use Rattle.legal.specs.Next.{numbered, plain, delivers, next_of};
 ghost use Rattle.world.specs.Lent.{item_lent};
 ghost use Rattle.world.specs.Ways.{NatsOf, AreReady, AreNew, IsRestartOf};
 ghost use Rattle.world.specs.Steps.{said, Plays};
-ghost use Rattle.world.specs.World.{StandsFor, HasNoHosts, Steps, Stops, Falls, IsLast};
+ghost use Rattle.world.specs.World.{StandsFor, HasNoHosts, IsAgain, EndsInTime, Steps, StopsFor, Stays, Falls};
 ghost use Rattle.world.specs.Playing.{kept_wire, PlaysOut};
 
 use crate::deliveries::deliver;
 use crate::puts::{copy, put_bytes};
 use crate::quiet::quiet;
-use crate::wire::{Wire, WireEntry};
+use crate::wire::{MOST_ENTRIES, Wire, WireEntry};
 use history::{Act, Event, NatNode, Record, ServerNode, Stop, Topology, Turn, Verb};
 use nat_kinds::Nat;
 use std::alloc::Global;
@@ -48,9 +49,9 @@ pub struct World {
 }
 
 impl Model for World {
-    ghost use Rattle.std.specs.Prelude.{◌≡◌, ◌≤◌, length};
+    ghost use Rattle.std.specs.Prelude.{◌≡◌, ◌≤◌, length, None};
     ghost use Rattle.topology.specs.declared.topology.TheConstants.{MOST_SERVERS, MOST_NATS};
-    ghost use Rattle.world.specs.declared.laboratory.TheConstants.{MOST_LEFT};
+    ghost use Rattle.world.specs.declared.world.TheConstants.{MOST_LEFT};
     ghost use Rattle.world.specs.Ways.{topology_of, AreReady};
     ghost use Rattle.world.specs.World.{WorldState};
 
@@ -60,6 +61,7 @@ impl Model for World {
       topology = topology_of w.servers.items w.rows.items;
       moment = w.moment.0;
       began = w.moment.0;
+      going = None;
       nats = w.nats.items;
       wire = w.wire.items;
       done = w.wire.done;
@@ -86,10 +88,10 @@ fn nats_of(alloc: Global, rows: &[NatNode]) -> Result<Vec<Nat>, NoMemory>
 
 impl World {
     /// The nodes at moment 0, with nothing on the wire. The seed is that of the nodes' random words.
-    pub fn new(alloc: Global, topology: &Topology, _seed: u64) -> Result<World, NoMemory>
+    pub fn new(alloc: Global, topology: &Topology, seed: u64) -> Result<World, NoMemory>
         requires built { HasNoHosts topology.now }
         ensures topology { IfOk result (λ w. w.topology ≡ topology.now) }
-        ensures stands { IfOk result (λ w. (d : Draws) → StandsFor d w []) }
+        ensures stands { IfOk result (λ w. StandsFor (draws seed) w []) }
         ensures goes_on { IfOk result (λ w. w.stopped ≡ None) }
     {
         let servers = Vec::from_slice(alloc, topology.servers())?;
@@ -199,7 +201,7 @@ impl World {
 
     fn play(&mut self, index: u32, event: &Event) -> Result<Record, Stop>
         requires event { IsEvent self.old.topology event.now }
-        requires time { self.old.moment + MOST_ADVANCE < MOST_MOMENT }
+        requires time { EndsInTime self.old.began event.now }
         ensures plays { (d : Draws) (H : List Full) → StandsFor d self.old H
             → PlaysOut self.old self.new H (next_of d self.old.topology H index event.now) result }
         ensures rest { self.new ≡ record self.old { moment = self.new.moment; began = self.new.moment; nats = self.new.nats; wire = self.new.wire; done = self.new.done } }
@@ -252,22 +254,26 @@ impl World {
     /// Plays the next record of event number `index`. After a `Stop` every later call answers the same.
     pub fn step(&mut self, index: u32, event: &Event) -> Result<Turn, Stop>
         requires event { IsEvent self.old.topology event.now }
-        requires time { self.old.began + MOST_ADVANCE < MOST_MOMENT }
+        requires again { IsAgain self.old.going event.now }
+        requires time { EndsInTime self.old.began event.now }
         ensures ok { IfOk result (λ turn. Steps self.old self.new index event.now turn) }
         ensures falls { IfOk result (λ turn. Falls self.old self.new turn) }
-        // No event of servers and NATs has a further record, and each makes one entry at most.
-        ensures last { IfOk result (λ turn. IsLast turn) }
-        ensures grows { length self.new.wire ≤ length self.old.wire + 1 }
-        ensures time { self.new.moment ≤ self.old.began + MOST_ADVANCE }
-        ensures full { self.old.stopped ≡ None → IsErrOf result Stop.WireFull → MOST_ENTRIES ≤ length self.old.wire }
-        ensures cause { IfErr result (λ stop. Stops self.old.stopped self.old index event.now stop) }
-        ensures err { IfErr result (λ stop. self.new ≡ record self.old { stopped = Some stop }) }
+        ensures time { IfOk result (λ turn. self.new.moment ≤ self.old.began + MOST_ADVANCE) }
+        ensures entries { IfOk result (λ _. length self.new.wire ≤ MOST_ENTRIES) }
+        ensures for_good { IfSome self.old.stopped (λ stop. (result ≡ Err stop) × (self.new ≡ self.old)) }
+        ensures cause { self.old.stopped ≡ None → IfErr result (λ stop. StopsFor self.old index event.now stop) }
+        ensures err { IfErr result (λ stop. Stays self.old self.new stop) }
     {
+        legal::of_its_event();
+        legal::told();
         if let Some(stop) = self.stopped {
             return Err(stop);
         }
         match self.play(index, event) {
-            Ok(record) => Ok(Turn::Last(record)),
+            Ok(record) => {
+                prove!(self.wire.len() <= MOST_ENTRIES);
+                Ok(Turn::Last(record))
+            }
             Err(stop) => {
                 self.stopped = Some(stop);
                 Err(stop)

@@ -1,6 +1,6 @@
 use Rattle.world.specs.Ways.{topology_of}
 use Rattle.world.specs.Knows.{Knows}
-use Rattle.world.proofs.laboratory.World.deliver.Goals as goal
+use Rattle.world.proofs.world.World.deliver.Goals as goal
 
 pub returns-clause-plays : goal.returns-clause-plays
 returns-clause-plays c = rw (← c.self.view_is) (λ d H e s.

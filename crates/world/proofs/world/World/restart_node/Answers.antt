@@ -2,7 +2,7 @@ use Rattle.std.proofs.Common.{refl, sym, ap, subst, ◌+◌, ◌-◌, ◌≡◌,
 use Rattle.std.proofs.lemmas.Option.{slice_get_read}
 use Rattle.world.specs.World.{WorldState}
 use Rattle.world.proofs.NoClients.{server_restarts_in, nat_restarts_in}
-use Rattle.world.proofs.laboratory.World.restart_node.Goals as goal
+use Rattle.world.proofs.world.World.restart_node.Goals as goal
 
 pub returns-then-place-len-clause-nats : goal.returns-then-place-len-clause-nats
 returns-then-place-len-clause-nats c =

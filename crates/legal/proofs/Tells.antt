@@ -1,0 +1,216 @@
+-- No node says of a datagram or packet that came to it that its entry is missing.
+use Rattle.std.proofs.Common.{◌≡◌, ℕ, ◌+◌, Bool, true, false, not, nat_le, cond, List, [], ◌∷◌, ◌++◌, Option, Some, None, Result, Ok, Err, refl, sym, ap, ◌∙◌}
+use Rattle.std.specs.Prelude.{slice_get, max}
+use Rattle.td_base.specs.declared.endpoint.Ep.{Ep}
+use Rattle.td_base.specs.declared.small.Side.{Side}
+use Rattle.ipv6_packet.specs.Packets.{Fields, packet_bytes}
+use Rattle.ipv6_packet.specs.Reads.{fields_in}
+use Rattle.icmp6.specs.Message.{Message, echo_request}
+use Rattle.bubble.specs.Payloads.{Value, payload_at}
+use Rattle.bubble.specs.declared.fault.PayloadFault.{PayloadFault}
+use Rattle.bubble.specs.Parts.{source_in, destination_in}
+use Rattle.bubble.specs.Messages.{message_in}
+use Rattle.bubble.specs.Reads.{value_in}
+use Rattle.td_base.specs.Reach.{is_global6}
+use Rattle.teredo_node.specs.declared.fates.Fate.{Fate}
+use Rattle.teredo_node.specs.declared.fates.Fate.TheVariants as fate
+use Rattle.teredo_node.specs.Rows.{first_line}
+use Rattle.teredo_node.specs.Journal.{Input, arrived, given, from_six, ticked, Entry, Journal, Words}
+use Rattle.server_core.specs.declared.server.ServerSettings.{ServerSettings}
+use Rattle.server_core.specs.declared.rules.Rule.{Rule}
+use Rattle.server_core.specs.Rules.{seen, datagram_lines, packet_lines, destination_lines, last_line, rule_of}
+use Rattle.server_core.specs.Server.{step_of, by_payload, server_row}
+use Rattle.qualify.specs.declared.settings.Settings.{Settings}
+use Rattle.qualify.specs.declared.phase.Phase.{Phase}
+use Rattle.qualify.specs.declared.phase.Phase.TheVariants as phase
+use Rattle.qualify.specs.Qualification.{Qualification}
+use Rattle.qualify.specs.Advertisements.{heard, advert_lines, phase_line, advert_row}
+use Rattle.client_core.specs.Standing.{Standing, standing_of}
+use Rattle.client_core.specs.Reception as reception
+use Rattle.client_core.specs.Journals.{client_in, client_entry}
+use Rattle.client_core.specs.Laws.{FateOfReception}
+use Rattle.relay_core.specs.Standing as relaying
+use Rattle.relay_core.specs.Standing.{RelaySettings}
+use Rattle.relay_core.specs.Reception as relay_reception
+use Rattle.relay_core.specs.Transmission as relay_transmission
+use Rattle.relay_core.specs.Journals.{relay_in, relay_six, relay_entry}
+use Rattle.relay_core.specs.Laws as relay_laws
+use Rattle.history.specs.declared.event.Event.{Event}
+use Rattle.history.specs.declared.event.Event.TheVariants as event
+use Rattle.history.specs.declared.acts.Act.TheVariants as act
+use Rattle.history.specs.declared.acts.Verb.TheVariants as verb
+use Rattle.history.specs.declared.acts.Verb.{Verb}
+use Rattle.topology.specs.Rows.{TopologyState}
+use Rattle.topology.specs.Topology.{Node, server, nat, client, relay, native, nodes, node_at, side_at}
+use Rattle.history.specs.Telling.{is_no_entry, IsTold}
+use Rattle.history.specs.Full.{Item, udp, six, Full, wire}
+use Rattle.legal.specs.Past.{Draws, now, began, first_undelivered, journal, words}
+use Rattle.legal.specs.Natives.{Native, kept, echo_of, native_in}
+use Rattle.legal.specs.Settings.{server_settings, client_settings, relay_settings}
+use Rattle.legal.specs.Emit.{Route, reaches, closed, astray, route, entry_of}
+use Rattle.legal.specs.Next.{Numbered, numbered, Due, least_due, plain, advance_with, advanced, acts, no_ep, blank, delivers_to, delivers_item, delivers_or, copies, data_packet, echo_packet, address_at, target_address, hands_in, next_of}
+
+-- THE TABLES
+
+-- each outcome of a table
+abbrev Each : {A : Type 0} → (A → Type 0) → List (Bool × A) → Type 0
+Each Q [] = Unit {0}
+Each Q (line ∷ lines) = Q line.1 × Each Q lines
+
+either : {A : Type 0} → (Q : A → Type 0) (b : Bool) (x y : A) → Q x → Q y → Q (cond b x y)
+either Q true x y p q = p
+either Q false x y p q = q
+
+first_of_each : {A : Type 0} → (Q : A → Type 0) (lines : List (Bool × A)) (last : A) → Each Q lines → Q last → Q (first_line lines last)
+first_of_each Q [] last p q = q
+first_of_each Q (line ∷ lines) last p q = either Q line.0 line.1 (first_line lines last) p.0 (first_of_each Q lines last p.1 q)
+
+abbrev IsOther : Fate → Type 0
+IsOther f = is_no_entry f ≡ false
+
+-- SERVERS
+
+server_payload : (s : ServerSettings) (side : Side) (from : Ep) (x : List ℕ) (v : Value) → IsOther (step_of s side from x v (rule_of s from v)).fate
+unfolding rule_of
+server_payload s side from x v =
+    let a = seen s from v in
+    first_of_each (λ (r : Rule). IsOther (step_of s side from x v r).fate) (datagram_lines a ++ (packet_lines a ++ destination_lines a)) last_line
+    (refl, (refl, (refl, (refl, (refl, (refl, (refl, (refl, (refl, (refl, (refl, (refl, (refl, (refl, (refl, tt)))))))))))))))
+    refl
+
+server_read : (s : ServerSettings) (side : Side) (from : Ep) (x : List ℕ) (r : Result Value PayloadFault) → IsOther (by_payload s side from x r).fate
+server_read s side from x (Ok v) = server_payload s side from x v
+server_read s side from x (Err fault) = refl
+
+server_tells : (s : ServerSettings) (side : Side) (from : Ep) (x : List ℕ) → IsOther (server_row s side from x).fate
+unfolding server_row
+server_tells s side from x = server_read s side from x (payload_at x)
+
+-- CLIENTS
+
+phase_tells : (p : Phase) (same : Bool) → IsOther (phase_line p same)
+phase_tells phase.Cone same = refl
+phase_tells phase.Restricted same = refl
+phase_tells phase.Secondary true = refl
+phase_tells phase.Secondary false = refl
+phase_tells phase.Qualified true = refl
+phase_tells phase.Qualified false = refl
+phase_tells phase.Symmetric same = refl
+phase_tells phase.OffLine same = refl
+
+advert_tells : (s : Settings) (q : Qualification) (from : Ep) (v : Value) → IsOther (advert_row s q from v)
+unfolding advert_row
+advert_tells s q from v =
+    let a = heard s q from v in
+    first_of_each IsOther (advert_lines a) (phase_line a.phase a.same_origin) (refl, (refl, (refl, (refl, (refl, tt))))) (phase_tells a.phase a.same_origin)
+
+client_row_tells : (a : reception.Seen) (f : Fate) → IsOther f → IsOther (reception.reception_row a f)
+client_row_tells a f h =
+    first_of_each IsOther (reception.server_lines a f ++ (reception.packet_lines a ++ (reception.indirect_lines a ++ reception.direct_lines a))) fate.Suspicious
+    (refl, (refl, (refl, (refl, (refl, (h, (refl, (refl, (refl, (refl, (refl, (refl, (refl, (refl, (refl, (refl, (refl, (refl, (refl, (refl, (refl, (refl, tt))))))))))))))))))))))
+    refl
+
+client_fate_tells : (s : Settings) (a : Standing) (from : Ep) (x : List ℕ) → IsOther (reception.reception_fate s a from x)
+unfolding reception.reception_fate
+client_fate_tells s a from x = client_row_tells (reception.seen s a from x) (advert_row s a.qualification from (value_in x)) (advert_tells s a.qualification from (value_in x))
+
+client_tells : FateOfReception → (s : Settings) (j : Journal) (n : ℕ) (from : Ep) (x : List ℕ) (w : Words) → IsOther (client_in s j n from x w).step.fate
+unfolding client_in
+client_tells by s j n from x w =
+    let a = standing_of s j n (source_in x) in
+    ap is_no_entry (by s a from x w) ∙ client_fate_tells s a from x
+
+-- RELAYS
+
+relay_in_tells : relay_laws.FateOfReception → (s : RelaySettings) (j : List Entry) (n : ℕ) (from : Ep) (x : List ℕ) → IsOther (relay_in s j n from x).step.fate
+unfolding relay_in
+relay_in_tells by s j n from x =
+    let a = relaying.standing_of j n (source_in x) in
+    ap is_no_entry (by s a from x)
+    ∙ first_of_each IsOther (relay_reception.reception_lines (relay_reception.seen s a from x)) fate.Unserved (refl, (refl, (refl, (refl, (refl, (refl, (refl, (refl, tt)))))))) refl
+
+relay_six_tells : relay_laws.FateOfTransmission → (s : RelaySettings) (j : List Entry) (n : ℕ) (x : List ℕ) → IsOther (relay_six s j n x).step.fate
+unfolding relay_six
+relay_six_tells by s j n x =
+    let a = relaying.standing_of j n (destination_in x) in
+    let g = relay_transmission.given s a x in
+    ap is_no_entry (by s a x)
+    ∙ first_of_each IsOther (relay_transmission.packet_lines g ++ relay_transmission.destination_lines g) fate.Queued
+    (refl, (refl, (refl, (refl, (refl, (refl, (refl, (refl, (refl, (refl, (refl, tt))))))))))) refl
+
+-- NATIVES
+
+echo_tells : (p : Fields) (global : Bool) (m : Option Message) → IsOther (echo_of p global m).fate
+echo_tells p true (Some (echo_request id seq body)) = refl
+echo_tells p true (Some _) = refl
+echo_tells p true None = refl
+echo_tells p false m = refl
+
+native_tells : (x : List ℕ) → IsOther (native_in x).fate
+unfolding native_in
+native_tells x = echo_tells (fields_in x) (is_global6 (fields_in x).src) (message_in (fields_in x))
+
+-- ALL NODES
+
+-- what the tables of clients and relays say of their fates
+pub record Tables : Type 0 where
+  pub client : FateOfReception
+  pub relay : relay_laws.FateOfReception
+  pub six : relay_laws.FateOfTransmission
+
+came_tells : Tables → (d : Draws) (t : TopologyState) (H : List Full) (m n : ℕ) (dst from : Ep) (x : List ℕ) (a : Node) → IsOther (entry_of d t H m n dst (arrived from x) a).step.fate
+came_tells by d t H m n dst from x (server a) = server_tells (server_settings a) (side_at (server a) dst) from x
+came_tells by d t H m n dst from x (nat a) = refl
+came_tells by d t H m n dst from x (client c) = client_tells by.client (client_settings t c) (journal n H) m from x (words d n H)
+came_tells by d t H m n dst from x (relay r) = relay_in_tells by.relay (relay_settings t n r) (journal n H).entries m from x
+came_tells by d t H m n dst from x (native h) = refl
+
+six_tells : Tables → (d : Draws) (t : TopologyState) (H : List Full) (m n : ℕ) (dst : Ep) (x : List ℕ) (a : Node) → IsOther (entry_of d t H m n dst (from_six x) a).step.fate
+six_tells by d t H m n dst x (server a) = refl
+six_tells by d t H m n dst x (nat a) = refl
+six_tells by d t H m n dst x (client c) = refl
+six_tells by d t H m n dst x (relay r) = relay_six_tells by.six (relay_settings t n r) (journal n H).entries m x
+six_tells by d t H m n dst x (native h) = native_tells x
+
+-- THE RECORD THAT FOLLOWS
+
+to_tells : Tables → (d : Draws) (t : TopologyState) (H : List Full) (e : Numbered) (n : ℕ) (item : Item) (r : Route) → IsTold (delivers_to d t H e n item r)
+to_tells by d t H e n (udp src dst x) (reaches k a) = record { delivered = sym (ap not (came_tells by d t H (now H) k dst src x a)) }
+to_tells by d t H e n (six to x) (reaches k a) = record { delivered = sym (ap not (six_tells by d t H (now H) k no_ep x a)) }
+to_tells by d t H e n item (closed k) = record { delivered = refl }
+to_tells by d t H e n item astray = record { delivered = refl }
+
+item_tells : Tables → (d : Draws) (t : TopologyState) (H : List Full) (e : Numbered) (n : ℕ) (o : Option Item) → IsTold (delivers_item d t H e n o)
+item_tells by d t H e n None = record { delivered = refl }
+item_tells by d t H e n (Some item) = to_tells by d t H e n item (route t H (now H) item)
+
+advance_tells : (d : Draws) (t : TopologyState) (H : List Full) (e : Numbered) (end : ℕ) (o : Option Due) → IsTold (advance_with d t H e end o)
+advance_tells d t H e end None = record { delivered = refl }
+advance_tells d t H e end (Some a) = by (nat_le a.moment end) where
+  by : (b : Bool) → IsTold (cond b (acts d t H e act.Tick None (max a.moment (now H)) a.number no_ep ticked a.node) (advanced H e end))
+  by true = record { delivered = refl }
+  by false = record { delivered = refl }
+
+or_tells : Tables → (d : Draws) (t : TopologyState) (H : List Full) (e : Numbered) (last : Full) (o : Option ℕ) → IsTold last → IsTold (delivers_or d t H e last o)
+or_tells by d t H e last None is = is
+or_tells by d t H e last (Some n) is = item_tells by d t H e n (slice_get (wire H) n)
+
+copies_tell : (H : List Full) (e : Numbered) (n : ℕ) (src dst : Ep) (o : Option Item) → IsTold (copies H e n src dst o)
+copies_tell H e n src dst None = record { delivered = refl }
+copies_tell H e n src dst (Some item) = record { delivered = refl }
+
+hands_tell : (d : Draws) (t : TopologyState) (H : List Full) (e : Numbered) (v : Verb) (n : ℕ) (x : List ℕ) (o : Option Node) → IsTold (hands_in d t H e v n x o)
+hands_tell d t H e v n x None = record { delivered = refl }
+hands_tell d t H e v n x (Some a) = record { delivered = refl }
+
+pub next_tells : Tables → (d : Draws) (t : TopologyState) (H : List Full) (i : ℕ) (e : Event) → IsTold (next_of d t H i e)
+next_tells by d t H i (event.Advance ms) = advance_tells d t H (numbered i (event.Advance ms)) (began H + ms) (least_due t H 0 (nodes t))
+next_tells by d t H i (event.Deliver n) = item_tells by d t H (numbered i (event.Deliver n)) n (slice_get (wire H) n)
+next_tells by d t H i event.Next = or_tells by d t H (numbered i event.Next) (blank H (numbered i event.Next) (plain verb.Next) None fate.NoEntry) (first_undelivered H) (record { delivered = refl })
+next_tells by d t H i (event.Host n to body) = hands_tell d t H (numbered i (event.Host n to body)) verb.Host n (packet_bytes (data_packet (address_at t H n) (target_address t H to) body)) (node_at t n)
+next_tells by d t H i (event.Echo n to s) = hands_tell d t H (numbered i (event.Echo n to s)) verb.Echo n (packet_bytes (echo_packet (address_at t H n) (target_address t H to) s)) (node_at t n)
+next_tells by d t H i (event.Raw n bytes) = hands_tell d t H (numbered i (event.Raw n bytes)) verb.Raw n bytes (node_at t n)
+next_tells by d t H i (event.Stranger src dst x) = record { delivered = refl }
+next_tells by d t H i (event.Copy n src dst) = copies_tell H (numbered i (event.Copy n src dst)) n src dst (slice_get (wire H) n)
+next_tells by d t H i (event.Restart n) = record { delivered = refl }
+next_tells by d t H i (event.Forget n who) = record { delivered = refl }
