@@ -2,18 +2,18 @@
 use Rattle.std.proofs.Common.{◌≡◌, ℕ, ◌+◌, Bool, true, false, not, nat_le, cond, List, [], ◌∷◌, ◌++◌, Option, Some, None, Result, Ok, Err, refl, sym, ap, ◌∙◌}
 use Rattle.std.specs.Prelude.{slice_get, max}
 use Rattle.td_base.specs.declared.endpoint.Ep.{Ep}
-use Rattle.td_base.specs.declared.small.Side.{Side}
+use Rattle.td_base.specs.declared.side.Side.{Side}
 use Rattle.ipv6_packet.specs.Packets.{Fields, packet_bytes}
 use Rattle.ipv6_packet.specs.Reads.{fields_in}
 use Rattle.icmp6.specs.Message.{Message, echo_request}
 use Rattle.bubble.specs.Payloads.{Value, payload_at}
 use Rattle.bubble.specs.declared.fault.PayloadFault.{PayloadFault}
-use Rattle.bubble.specs.Parts.{source_in, destination_in}
+use Rattle.bubble.specs.PacketsIn.{source_in, destination_in}
 use Rattle.bubble.specs.Messages.{message_in}
 use Rattle.bubble.specs.Reads.{value_in}
 use Rattle.td_base.specs.Reach.{is_global6}
-use Rattle.teredo_node.specs.declared.fates.Fate.{Fate}
-use Rattle.teredo_node.specs.declared.fates.Fate.TheVariants as fate
+use Rattle.teredo_node.specs.declared.fate.Fate.{Fate}
+use Rattle.teredo_node.specs.declared.fate.Fate.TheVariants as fate
 use Rattle.teredo_node.specs.Rows.{first_line}
 use Rattle.teredo_node.specs.Journal.{Input, arrived, given, from_six, ticked, Entry, Journal, Words}
 use Rattle.server_core.specs.declared.server.ServerSettings.{ServerSettings}

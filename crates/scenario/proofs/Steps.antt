@@ -1,7 +1,7 @@
 -- What steps that succeeded gave.
 use Rattle.std.proofs.Common.{◌≡◌, ℕ, ℤ, Bool, true, false, List, Option, Some, None, Result, Ok, Err, refl}
 use Rattle.std.specs.Prelude.{ok_or}
-use Rattle.td_base.specs.Reading.{◌>>=◌}
+use Rattle.td_base.specs.Results.{◌>>=◌}
 use Rattle.toml.specs.Data.{Members}
 use Rattle.scenario.specs.declared.place.Place.{Place}
 use Rattle.scenario.specs.Keys.{ruled, known, text_at, integer_at, word_at, name_at, number_at}

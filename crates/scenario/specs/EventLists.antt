@@ -1,7 +1,7 @@
 -- The events of a text, or why the text is refused.
 use Rattle.std.specs.Prelude.{ℕ, ◌+◌, nat_le, if◌then◌else◌, List, [], ◌∷◌, length, codes, Option, Some, option_and_then, option_map, Result, Ok, Err}
 use Rattle.toml.specs.Data.{as_str, Items, no_items, item, Members}
-use Rattle.td_base.specs.Reading.{◌>>=◌}
+use Rattle.td_base.specs.Results.{◌>>=◌}
 use Rattle.history.specs.declared.event.Event.{Event}
 use Rattle.topology.specs.Rows.{TopologyState}
 use Rattle.history.specs.EventText.{event_of}

@@ -3,7 +3,7 @@ use Rattle.std.specs.Prelude.{ℕ, nat_lt, if◌then◌else◌, List, length, co
 use Rattle.std.specs.Str.{is_utf8}
 use Rattle.toml.specs.Data.{Members}
 use Rattle.toml.specs.Parse.{parse_document}
-use Rattle.td_base.specs.Reading.{◌>>=◌}
+use Rattle.td_base.specs.Results.{◌>>=◌}
 use Rattle.history.specs.Scenario.{Scenario}
 use Rattle.scenario.specs.declared.reader.TheConstants.{TEXT_MOST}
 use Rattle.scenario.specs.declared.scenario_fault.ScenarioFault.{ScenarioFault}

@@ -16,8 +16,8 @@ use Rattle.history.specs.Records.{record_of}
 use Rattle.history.specs.Telling.{IsTold}
 use Rattle.world.specs.declared.wire.TheConstants.{MOST_ENTRIES}
 use Rattle.world.specs.declared.world.TheConstants.{MOST_LEFT, MOST_MOMENT}
-use Rattle.teredo_node.specs.declared.fates.Fate.{Fate}
-use Rattle.teredo_node.specs.declared.fates.Fate.TheVariants as fate
+use Rattle.teredo_node.specs.declared.fate.Fate.{Fate}
+use Rattle.teredo_node.specs.declared.fate.Fate.TheVariants as fate
 use Rattle.legal.specs.Past.{now, began, has_more, going, was_delivered, Draws}
 use Rattle.legal.specs.Next.{next_of}
 use Rattle.legal.specs.Legal.{Grown}

@@ -1,5 +1,5 @@
 ghost use Rattle.std.specs.Prelude.{◌≡◌, ◌<◌, ◌≤◌, ◌+◌, List, [], ◌∷◌, length, Some, None, slice_get, option_map, Err, IfSome, IfOk, IfErr, OnErr, IsErrOf};
-ghost use Rattle.teredo_node.specs.declared.fates.Fate.TheVariants as fates;
+ghost use Rattle.teredo_node.specs.declared.fate.Fate.TheVariants as fates;
 ghost use Rattle.history.specs.declared.event.Event.{Event};
 ghost use Rattle.history.specs.declared.event.Event.TheVariants as event;
 ghost use Rattle.history.specs.declared.event.TheConstants.{MOST_ADVANCE};
