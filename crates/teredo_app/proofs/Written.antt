@@ -93,7 +93,7 @@ pub line_broken_off : (line : List ℕ) (at : ℕ) (a b c : SinkTold) → Handed
 line_broken_off line at a b c h gains within =
     let more = one_handed line at 1 a.pieces b.pieces c.pieces h gains within (omega arith) in
     let from : HandsFrom line 0 more.pieces = subst (HandsFrom line 0) (append-nil more.pieces) (more.on [] tt) in
-    (more.pieces, more.grown, one_line line more.pieces (hands_line line more.pieces from (λ e. absurd (no_end h.pieces (take (length line - at) (drop at line)) e))))
+    (more.pieces, more.grown, one_line line more.pieces (hands_line line more.pieces from (λ e. let none = more.begun e in absurd (omega (arith, none)))))
 
 -- ---- lines
 

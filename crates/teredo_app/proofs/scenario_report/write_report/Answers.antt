@@ -2,6 +2,8 @@ use Rattle.std.proofs.Common.{◌≡◌, ◌≤◌, List, [], Some, sym, subst, 
 use Rattle.std.specs.Prelude.{slice_get}
 use Rattle.std.proofs.lemmas.Option.{slice_get_read}
 use Rattle.history.specs.declared.event.Event.{Event}
+use Rattle.history.specs.declared.turn.Stop.{Stop}
+use Rattle.world.specs.World.{StopsFor}
 use Rattle.report.specs.declared.totals.Sums.{Sums}
 use Rattle.scenario.specs.Told.{told}
 use Rattle.teredo_app.specs.Outside.{SinkTold}
@@ -121,4 +123,4 @@ returns-in-Err-WireFull-clause-err g c = played.stopped _ _ _ c.loop-turn.world 
 pub returns-in-Err-WireFull-clause-full : goal.returns-in-Err-WireFull-clause-full
 returns-in-Err-WireFull-clause-full g c = λ e.
     let event : slice_get c.args.s.now.events c.loop-index.index ≡ Some c.event-item.result = subst (λ (es : List Event). slice_get es c.loop-index.index ≡ Some c.event-item.result) c.as_slice-event-items.ensures (slice_get_read c.as_slice-event-items.result.now _ c.loop-index.index c.event-item.result refl (omega arith) c.event-item.is) in
-    played.wire_filled (told c.args.s.now) _ _ c.loop-turn.world c.loop-turn.sums c.loop-index.index c.event-item.result c.loop-turn.invariant.played event ?
+    played.wire_filled (told c.args.s.now) _ _ c.loop-turn.world c.loop-turn.sums c.loop-index.index c.event-item.result c.loop-turn.invariant.played event (subst (λ (z : Stop). StopsFor c.loop-turn.world c.loop-index.index c.event-item.result z) c.in-Err-WireFull.field-0-is (c.in-Err-WireFull.ensures.cause c.loop-turn.invariant.played.open_still))
