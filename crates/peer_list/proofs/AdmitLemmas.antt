@@ -1,7 +1,7 @@
 -- What a call that lists a peer finds once it has taken out whoever isn't listed any more.
-use Rattle.std.proofs.Common.{◌≡◌, ◌≤◌, ◌<◌, ℕ, ◌||◌, Bool, true, false, cond, List, [], ◌∷◌, ◌++◌, length, filter, find, get_or, Option, Some, None, Result, Ok, Err, refl, sym, ap, ◌∙◌, subst, arith}
+use Rattle.std.proofs.Common.{◌≡◌, ℕ, ◌||◌, Bool, true, false, cond, List, [], ◌∷◌, ◌++◌, length, filter, find, Option, Some, None, Result, Ok, Err, refl, sym, ap, ◌∙◌, subst, arith}
 use Rattle.std.specs.Prelude.{unwrap_or, is_some, nat_lt, slice_set}
-use Rattle.std.specs.List.{AllByRecursion, position_or_len}
+use Rattle.std.specs.List.{AllByRecursion}
 use Rattle.std.proofs.lemmas.List.{set-get_or}
 use Rattle.td_base.specs.declared.ipv6.Ip6.{Ip6}
 use Rattle.peer_list.specs.declared.limits.TheConstants.{MOST_PEERS}
@@ -15,7 +15,7 @@ use Rattle.peer_list.specs.declared.refusals.QueueRefusal.{QueueRefusal}
 use Rattle.peer_list.specs.declared.refusals.QueueRefusal.TheVariants as queue
 use Rattle.peer_list.specs.Sound.{AreApart, AreSound}
 use Rattle.peer_list.proofs.DueLemmas.{count_is}
-use Rattle.peer_list.proofs.ListingLemmas.{Placed, all_at, purged, sound_kept, found, missing, known_there, changed, added}
+use Rattle.peer_list.proofs.ListingLemmas.{Placed, all_at, purged, sound_kept, found, known_there, changed, added}
 
 -- `kept` are those of ls that are listed at m
 pub record Purged (m : ℕ) (ls kept : List Listing) : Type 0 where

@@ -1,23 +1,21 @@
 -- Who is listed in a table, how many packets wait and who is due first, listing by listing.
-use Rattle.std.proofs.Common.{◌≡◌, ◌≤◌, ◌<◌, ℕ, zero, suc, ◌+◌, ◌||◌, ◌&&◌, not, Bool, true, false, cond, List, [], ◌∷◌, ◌++◌, length, map, filter, find, get_or, take, drop, Option, Some, None, refl, sym, ap, ◌∙◌, subst, arith}
+use Rattle.std.proofs.Common.{◌≡◌, ◌<◌, ℕ, zero, suc, ◌+◌, ◌||◌, ◌&&◌, not, Bool, true, false, cond, List, [], ◌∷◌, ◌++◌, length, map, filter, find, get_or, take, Option, Some, None, refl, sym, ap, ◌∙◌, arith}
 use Rattle.std.specs.Prelude.{option_map, unwrap_or, is_some, sum_by}
 use Rattle.std.specs.Ordering.{nat_cmp, ordering_then, is_lt}
-use Rattle.std.specs.List.{list_any, AllByRecursion}
-use Rattle.std.proofs.lemmas.Bool.{false≢true, or_left}
+use Rattle.std.specs.List.{AllByRecursion}
+use Rattle.std.proofs.lemmas.Bool.{false≢true}
 use Rattle.std.proofs.lemmas.List.{append-nil, take_more}
 use Rattle.std.proofs.lemmas.List.Sums.{sum_by-cons}
 use Rattle.td_base.specs.Ip6.{same_ip6, same_ip6-self, cmp_ip6}
 use Rattle.td_base.specs.declared.ipv6.Ip6.{Ip6}
 use Rattle.td_base.specs.declared.millis.Millis.{Millis}
-use Rattle.peer_list.specs.declared.limits.TheConstants.{LISTED_MS}
-use Rattle.peer_list.specs.Listed.{with_peer}
 use Rattle.peer_list.specs.Peers.{Peer, no_peer}
-use Rattle.peer_list.specs.Judged.{is_within, is_none, due_of}
+use Rattle.peer_list.specs.Judged.{is_none, due_of}
 use Rattle.peer_list.specs.Waiting.{Listing, waiting_among, cmp_due, first_of_two, least_by_due, first_among}
-use Rattle.peer_list.specs.Table.{Table, table, while_listed, peer_listed, is_of, is_listed_at, peer_in, known_to, addresses, listed_in, waiting_in, first_due_in, due_and_who, earlier_due}
+use Rattle.peer_list.specs.Table.{table, peer_listed, is_of, is_listed_at, peer_in, addresses, listed_in, waiting_in, first_due_in, due_and_who, earlier_due}
 use Rattle.peer_list.specs.Sound.{AreApart}
 use Rattle.peer_list.proofs.Lists.{other_way}
-use Rattle.peer_list.proofs.Orders.{has, SameMembers, IsBest, best, best_with, same_best}
+use Rattle.peer_list.proofs.Orders.{has, best, best_with, same_best}
 use Rattle.peer_list.proofs.ListingLemmas.{all_kept, all_at}
 
 abbrev whose : List Listing → List Ip6

@@ -1,22 +1,21 @@
 -- The listings of a table, one by one: what is taken out, changed, or added.
-use Rattle.std.proofs.Common.{◌≡◌, ◌≤◌, ◌<◌, ℕ, zero, suc, add-one, ◌+◌, ◌-◌, ◌||◌, ◌&&◌, not, Bool, true, false, cond, List, [], ◌∷◌, ◌++◌, length, map, filter, find, get_or, drop, take, Option, Some, None, refl, sym, ap, ◌∙◌, subst, arith}
-use Rattle.std.specs.Prelude.{option_map, unwrap_or, is_some, nat_lt, sum_by, slice_get, slice_set}
+use Rattle.std.proofs.Common.{◌≡◌, ◌≤◌, ◌<◌, ℕ, zero, suc, add-one, ◌+◌, Bool, true, false, cond, List, [], ◌∷◌, ◌++◌, length, filter, find, get_or, drop, Option, Some, None, refl, sym, ap, ◌∙◌, subst, arith}
+use Rattle.std.specs.Prelude.{unwrap_or, is_some, nat_lt, slice_get, slice_set}
 use Rattle.std.specs.Option.{option_or}
-use Rattle.std.specs.List.{list_any, AllByRecursion, position_or_len}
+use Rattle.std.specs.List.{AllByRecursion, position_or_len}
 use Rattle.std.proofs.Math.Seq.{drop-cons}
 use Rattle.std.proofs.lemmas.Bool.{false≢true, ltb-true, ltb-false}
 use Rattle.std.proofs.lemmas.Option.{slice_get-get_or, slice_get_past}
 use Rattle.std.proofs.lemmas.List.Sums.{passes_at_first}
 use Rattle.std.proofs.lemmas.List.{length-set, length-append}
 use Rattle.std.proofs.lemmas.List.Folds.{find_at, find-set, find_past}
-use Rattle.td_base.specs.Ip6.{same_ip6, same_ip6-true, same_ip6-self}
+use Rattle.td_base.specs.Ip6.{same_ip6, same_ip6-true}
 use Rattle.td_base.specs.declared.ipv6.Ip6.{Ip6}
 use Rattle.peer_list.specs.declared.limits.TheConstants.{LISTED_MS, MOST_PEERS}
-use Rattle.peer_list.specs.Listed.{with_peer}
 use Rattle.peer_list.specs.Peers.{Peer, no_peer}
 use Rattle.peer_list.specs.Judged.{is_within}
 use Rattle.peer_list.specs.Waiting.{Listing}
-use Rattle.peer_list.specs.Table.{Table, table, while_listed, peer_listed, is_of, is_listed_at, peer_in, known_to, addresses, listed_in}
+use Rattle.peer_list.specs.Table.{Table, table, while_listed, peer_listed, is_of, is_listed_at, peer_in, known_to}
 use Rattle.peer_list.specs.Calls.{Updates, Keeps}
 use Rattle.peer_list.specs.Sound.{AreApart, AreSound}
 use Rattle.peer_list.proofs.Lists.{other_way}

@@ -1,20 +1,19 @@
 -- What a table stands for, and what its calls add.
-use Rattle.std.proofs.Common.{◌≡◌, ◌≤◌, ◌<◌, ℕ, ◌-◌, ◌||◌, Bool, true, false, nat_lt, cond, List, [], ◌∷◌, ◌++◌, length, find, take, Option, Some, None, refl, sym, ap, ◌∙◌, subst, arith}
-use Rattle.std.specs.Prelude.{option_map, option_to_list, unwrap_or, is_some}
-use Rattle.std.specs.Option.{option_or}
+use Rattle.std.proofs.Common.{◌≡◌, ◌≤◌, ℕ, ◌||◌, Bool, true, false, nat_lt, cond, List, [], ◌++◌, length, find, Option, Some, None, refl, sym, ap, ◌∙◌, subst, arith}
+use Rattle.std.specs.Prelude.{option_map, unwrap_or, is_some}
 use Rattle.std.proofs.lemmas.List.{append-nil}
 use Rattle.td_base.specs.Ip6.{same_ip6, same_ip6-true}
 use Rattle.td_base.specs.declared.ipv6.Ip6.{Ip6}
-use Rattle.peer_list.specs.declared.limits.TheConstants.{LISTED_MS, MOST_PEERS, MOST_TRIES}
+use Rattle.peer_list.specs.declared.limits.TheConstants.{LISTED_MS, MOST_PEERS}
 use Rattle.peer_list.specs.Mentions.{Mention, no_bearing, is_peer, is_about}
 use Rattle.peer_list.specs.Listed.{is_young, is_listed, listed, has_room}
 use Rattle.peer_list.specs.Peers.{Peer, no_peer, peer_at, known}
 use Rattle.peer_list.specs.Judged.{is_within}
-use Rattle.peer_list.specs.Waiting.{Listing, waiting_among, first_among, waiting_count, first_due}
+use Rattle.peer_list.specs.Waiting.{Listing, first_among}
 use Rattle.peer_list.specs.Laws.{after, peer_if, view_after, AreSame, CountTheSame}
-use Rattle.peer_list.specs.Table.{Table, table, empty_table, while_listed, peer_listed, is_of, peer_in, known_to, listed_in, has_room_in, waiting_in, first_due_in}
-use Rattle.peer_list.specs.Calls.{Updates, Keeps, touched_at, tried_at, queued_at, emptied}
-use Rattle.peer_list.specs.Stands.{StandsForMentions, SaysTheSame, TableIsRead, NextStands, IsIdle, about_nobody, bears_nothing, IdleStands, KeptStands, CallsAre, CallsOfAnEntry}
+use Rattle.peer_list.specs.Table.{Table, while_listed, peer_listed, is_of, peer_in, known_to, listed_in, has_room_in}
+use Rattle.peer_list.specs.Calls.{touched_at, tried_at}
+use Rattle.peer_list.specs.Stands.{StandsForMentions, TableIsRead, NextStands, IsIdle, about_nobody, bears_nothing, IdleStands, KeptStands, CallsOfAnEntry}
 use Rattle.peer_list.proofs.Lists.{listed_are, listed_once}
 use Rattle.peer_list.proofs.Bearings.{one_entry, listed_is_known}
 use Rattle.peer_list.proofs.Orders.{order_is_free}

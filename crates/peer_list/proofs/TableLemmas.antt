@@ -1,8 +1,8 @@
 -- What a table says of an address, and how its listings say it.
-use Rattle.std.proofs.Common.{◌≡◌, ◌≤◌, ◌<◌, ℕ, ◌-◌, ◌||◌, ◌&&◌, not, Bool, true, false, cond, List, [], ◌∷◌, ◌++◌, length, filter, find, Option, Some, None, Result, Ok, Err, refl, sym, ap, ◌∙◌, subst, arith}
-use Rattle.std.specs.Prelude.{option_map, unwrap_or, is_some}
-use Rattle.std.specs.List.{list_any, AllByRecursion, IsDistinct}
-use Rattle.std.proofs.lemmas.Bool.{ltb-true, ltb-false, lt-ltb, le-ltb, false≢true}
+use Rattle.std.proofs.Common.{◌≡◌, ◌≤◌, ◌<◌, ℕ, ◌-◌, Bool, true, false, cond, List, [], ◌∷◌, length, find, Option, Some, None, Result, Ok, Err, refl, sym, ap, ◌∙◌, arith}
+use Rattle.std.specs.Prelude.{unwrap_or, is_some}
+use Rattle.std.specs.List.{list_any, IsDistinct}
+use Rattle.std.proofs.lemmas.Bool.{ltb-true, lt-ltb, false≢true}
 use Rattle.std.proofs.lemmas.Map.Views.{any-filter_same}
 use Rattle.td_base.specs.Ip6.{same_ip6, same_ip6-true, same_ip6-self}
 use Rattle.td_base.specs.declared.ipv6.Ip6.{Ip6}
@@ -13,7 +13,7 @@ use Rattle.peer_list.specs.Judged.{is_within}
 use Rattle.peer_list.specs.Waiting.{Listing}
 use Rattle.peer_list.specs.declared.refusals.PeersRefusal.{PeersRefusal}
 use Rattle.peer_list.specs.declared.refusals.PeersRefusal.TheVariants as peers
-use Rattle.peer_list.specs.Table.{Table, table, while_listed, peer_listed, is_of, is_listed_at, peer_in, known_to, addresses, listed_in, has_room_in, waiting_in, first_due_in}
+use Rattle.peer_list.specs.Table.{Table, table, while_listed, peer_listed, is_of, peer_in, known_to, addresses, listed_in, has_room_in, waiting_in, first_due_in}
 use Rattle.peer_list.specs.Calls.{Updates, Keeps, Admits}
 use Rattle.peer_list.specs.Stands.{UpdateIsSeen, TouchedIsListed, FoundIsListed, UpdatesTwice}
 use Rattle.peer_list.proofs.Lists.{still, now_too, once_with, once_kept, narrowed}

@@ -1,5 +1,5 @@
 -- What each call does to what is known of its peer (RFC 4380, sections 5.2 and 5.2.6).
-use Rattle.std.specs.Prelude.{◌≡◌, ◌≤◌, ℕ, Bool, true, false, List, [], ◌∷◌, ◌++◌, map, take, Option, Some, None, if◌then◌else◌, is_some, Result, Ok, Err}
+use Rattle.std.specs.Prelude.{◌≡◌, ◌≤◌, ℕ, true, false, List, [], ◌∷◌, ◌++◌, map, take, Option, Some, None, if◌then◌else◌, is_some, Result, Ok, Err}
 use Rattle.std.specs.Option.{option_or}
 use Rattle.td_base.specs.Ip6.{same_ip6}
 use Rattle.td_base.specs.declared.ipv6.Ip6.{Ip6}
@@ -13,7 +13,7 @@ use Rattle.peer_list.specs.declared.refusals.QueueRefusal.{QueueRefusal}
 use Rattle.peer_list.specs.declared.refusals.QueueRefusal.TheVariants as queue
 use Rattle.peer_list.specs.Peers.{Peer}
 use Rattle.peer_list.specs.Judged.{is_full}
-use Rattle.peer_list.specs.Table.{Table, while_listed, peer_in, known_to, has_room_in}
+use Rattle.peer_list.specs.Table.{Table, while_listed, peer_in, has_room_in}
 
 -- A PEER AFTER A CALL AT m
 

@@ -1,5 +1,5 @@
 -- What holds of the listings of a table.
-use Rattle.std.specs.Prelude.{◌≡◌, ◌≤◌, Bool, false, List, [], ◌∷◌, length}
+use Rattle.std.specs.Prelude.{◌≡◌, ◌≤◌, false, List, [], ◌∷◌, length}
 use Rattle.std.specs.List.{AllByRecursion}
 use Rattle.td_base.specs.Ip6.{same_ip6}
 use Rattle.peer_list.specs.declared.limits.TheConstants.{MOST_PEERS}

@@ -1,5 +1,5 @@
 -- What contracts see of the peers that a node keeps: the listings, in no order that matters (RFC 4380, section 5.2).
-use Rattle.std.specs.Prelude.{◌≡◌, ℕ, ◌||◌, Bool, nat_lt, List, [], ◌∷◌, length, filter, find, Option, Some, None, if◌then◌else◌, option_map, unwrap_or, is_some}
+use Rattle.std.specs.Prelude.{ℕ, ◌||◌, Bool, nat_lt, List, [], ◌∷◌, length, filter, find, Option, Some, None, if◌then◌else◌, option_map, unwrap_or, is_some}
 use Rattle.std.specs.Ordering.{nat_cmp, ordering_then, is_lt}
 use Rattle.td_base.specs.Ip6.{same_ip6, cmp_ip6}
 use Rattle.td_base.specs.declared.ipv6.Ip6.{Ip6}

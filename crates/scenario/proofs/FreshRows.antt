@@ -27,10 +27,13 @@ use Rattle.topology.specs.declared.relay_node.RelayNode.{RelayNode}
 use Rattle.topology.specs.declared.native_node.NativeNode.{NativeNode}
 use Rattle.topology.specs.NodeNames.{is_name}
 use Rattle.topology.specs.Rows.{TopologyState}
-use Rattle.topology.specs.Topology.{Node, server, nat, client, relay, native, nodes, as_server, as_nat, as_relay}
+use Rattle.topology.specs.declared.node.Node.{Node}
+use Rattle.topology.specs.declared.node.Node.TheVariants.{Server as server, Nat as nat, Client as client, Relay as relay, Native as native}
+use Rattle.topology.specs.Topology.{nodes, as_server, as_nat, as_relay}
 use Rattle.topology.specs.Rules.{names_of, addresses_of, sixes_of, IsClient}
-use Rattle.history.specs.Events.{is_server, is_nat, is_relay}
-use Rattle.history.specs.NodeWords.{named, is_named}
+use Rattle.topology.specs.Named.{is_nat}
+use Rattle.history.specs.Events.{is_server, is_relay}
+use Rattle.topology.specs.Named.{named, is_named}
 use Rattle.history.specs.Words.{ip4_of, ep_of}
 use Rattle.history.specs.Ip6Words.{ip6_of}
 use Rattle.scenario.specs.declared.place.Place.{Place}

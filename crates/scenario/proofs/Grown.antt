@@ -21,7 +21,9 @@ use Rattle.topology.specs.declared.native_node.NativeNode.{NativeNode}
 use Rattle.topology.specs.declared.topology.TheConstants.{MOST_SERVERS, MOST_NATS, MOST_CLIENTS, MOST_RELAYS, MOST_NATIVES}
 use Rattle.topology.specs.NodeNames.{is_name}
 use Rattle.topology.specs.Rows.{TopologyState, with_server, with_nat, with_client, with_relay, with_native}
-use Rattle.topology.specs.Topology.{Node, server, nat, client, relay, native, nodes, name_of, as_server, as_nat, as_relay, relay_at}
+use Rattle.topology.specs.declared.node.Node.{Node}
+use Rattle.topology.specs.declared.node.Node.TheVariants.{Server as server, Nat as nat, Client as client, Relay as relay, Native as native}
+use Rattle.topology.specs.Topology.{nodes, name_of, as_server, as_nat, as_relay, relay_at}
 use Rattle.topology.specs.Rules.{AreDistinct, names_of, addresses_of, sixes_of, same_inside, IsIdle, IsClient, IsOutside, IsTopology}
 use Rattle.scenario.specs.declared.node_kind.NodeKind.TheVariants as kind
 use Rattle.scenario.specs.Filling.{HasNoneBehind}

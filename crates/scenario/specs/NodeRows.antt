@@ -8,8 +8,9 @@ use Rattle.topology.specs.declared.client_node.ClientNode.{ClientNode}
 use Rattle.topology.specs.declared.relay_node.RelayNode.{RelayNode}
 use Rattle.topology.specs.declared.native_node.NativeNode.{NativeNode}
 use Rattle.topology.specs.Rows.{TopologyState}
-use Rattle.history.specs.Events.{is_server, is_nat, is_relay}
-use Rattle.history.specs.NodeWords.{named}
+use Rattle.topology.specs.Named.{is_nat}
+use Rattle.history.specs.Events.{is_server, is_relay}
+use Rattle.topology.specs.Named.{named}
 use Rattle.scenario.specs.declared.scenario_fault.ScenarioFault.{ScenarioFault}
 use Rattle.scenario.specs.declared.node_rows.TheConstants.{REFRESH_LOW, REFRESH_HIGH}
 use Rattle.scenario.specs.declared.place.Place.{Place}

@@ -1,4 +1,4 @@
-use Rattle.std.proofs.Common.{◌≡◌, ◌+◌, refl, sym, ap, ◌∙◌, length, filter, drop, arith}
+use Rattle.std.proofs.Common.{◌≡◌, sym, ap, ◌∙◌, length, filter, drop, arith}
 use Rattle.std.proofs.lemmas.List.{drop_all}
 use Rattle.peer_list.specs.Table.{is_listed_at}
 use Rattle.peer_list.proofs.DueLemmas.{count_is}

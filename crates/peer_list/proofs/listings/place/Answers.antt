@@ -1,4 +1,4 @@
-use Rattle.std.proofs.Common.{◌≡◌, ◌+◌, refl, sym, ◌∙◌, arith}
+use Rattle.std.proofs.Common.{sym, ◌∙◌, arith}
 use Rattle.peer_list.specs.Table.{is_of}
 use Rattle.peer_list.proofs.ListingLemmas.{place_here, place_next}
 use Rattle.peer_list.proofs.listings.place.Goals as goal

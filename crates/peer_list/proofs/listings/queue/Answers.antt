@@ -1,14 +1,14 @@
-use Rattle.std.proofs.Common.{◌≡◌, ◌≤◌, ◌<◌, true, false, find, length, None, Err, refl, sym, ap, ◌∙◌, subst, arith}
-use Rattle.std.specs.Prelude.{is_some, nat_lt, unwrap_or, slice_set}
+use Rattle.std.proofs.Common.{◌≡◌, ◌≤◌, ◌<◌, true, find, length, None, Err, sym, ap, ◌∙◌, subst}
+use Rattle.std.specs.Prelude.{nat_lt, unwrap_or, slice_set}
 use Rattle.std.specs.List.{position_or_len}
 use Rattle.std.proofs.lemmas.Bool.{ltb-true}
 use Rattle.std.proofs.lemmas.Result.{err_from_is_err_and, on_ok_weaker, on_err_weaker}
 use Rattle.peer_list.specs.declared.limits.TheConstants.{MOST_PEERS}
 use Rattle.peer_list.specs.Peers.{Peer, no_peer}
-use Rattle.peer_list.specs.Table.{Table, table, is_of, peer_in, known_to, has_room_in}
-use Rattle.peer_list.specs.Calls.{Updates, Keeps, touched_at, queued_at, Queues}
+use Rattle.peer_list.specs.Table.{Table, table, is_of, known_to}
+use Rattle.peer_list.specs.Calls.{Updates, queued_at, Queues}
 use Rattle.peer_list.proofs.ListingLemmas.{Placed, missing, sound_changed, sound_added}
-use Rattle.peer_list.proofs.AdmitLemmas.{Purged, keeps_purged, sound_purged, was_there, room_there, was_nowhere, room_nowhere, updates_there, keeps_there, updates_new, keeps_same, empty_not_full, new_queues}
+use Rattle.peer_list.proofs.AdmitLemmas.{Purged, keeps_purged, sound_purged, was_there, was_nowhere, room_nowhere, updates_there, keeps_there, updates_new, keeps_same, empty_not_full, new_queues}
 use Rattle.peer_list.proofs.listings.queue.Goals as goal
 
 pub returns-then-place-len-clause-sound : goal.returns-then-place-len-clause-sound

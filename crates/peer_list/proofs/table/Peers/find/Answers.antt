@@ -1,9 +1,6 @@
-use Rattle.std.proofs.Common.{◌≡◌, ◌≤◌, ◌<◌, true, false, cond, find, get_or, length, Some, None, sym, ap, ◌∙◌, subst}
+use Rattle.std.proofs.Common.{◌≡◌, ◌≤◌, ◌<◌, cond, get_or, length, Some, None, sym, ap, ◌∙◌, subst}
 use Rattle.std.specs.List.{position_or_len}
 use Rattle.std.proofs.lemmas.Bool.{ltb-true, ltb-false}
-use Rattle.peer_list.specs.Peers.{Peer}
-use Rattle.std.specs.Prelude.{Option}
-use Rattle.peer_list.specs.Waiting.{Listing}
 use Rattle.peer_list.specs.Table.{table, is_of}
 use Rattle.peer_list.proofs.ListingLemmas.{Placed, missing, nowhere, somewhere}
 use Rattle.peer_list.proofs.table.Peers.find.Goals as goal

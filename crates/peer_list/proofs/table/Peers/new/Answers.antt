@@ -1,4 +1,3 @@
-use Rattle.std.proofs.Common.{refl}
 use Rattle.peer_list.proofs.StandsLemmas.{empty_stands}
 use Rattle.peer_list.proofs.table.Peers.new.Goals as goal
 

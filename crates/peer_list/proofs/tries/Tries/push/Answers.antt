@@ -1,6 +1,5 @@
-use Rattle.std.proofs.Common.{◌≡◌, ◌+◌, ◌≤◌, ◌∷◌, [], ℕ, List, min, take, map, get_or, refl, sym, ap, ◌∙◌, subst}
+use Rattle.std.proofs.Common.{◌∷◌, ℕ, List, take, map, refl, sym, ap, ◌∙◌, subst}
 use Rattle.td_base.specs.declared.millis.Millis.{Millis}
-use Rattle.peer_list.specs.declared.limits.TheConstants.{MOST_TRIES}
 use Rattle.peer_list.specs.Bounds.{AreEarly}
 use Rattle.peer_list.proofs.PushLemmas.{pushed, early_pushed, at_most}
 use Rattle.peer_list.proofs.tries.Tries.push.Goals as goal
