@@ -12,7 +12,9 @@ use Rattle.topology.specs.declared.client_node.ClientNode.{ClientNode}
 use Rattle.topology.specs.declared.relay_node.RelayNode.{RelayNode}
 use Rattle.topology.specs.declared.native_node.NativeNode.{NativeNode}
 use Rattle.topology.specs.Rows.{TopologyState, with_server, with_nat, with_client, with_relay, with_native}
-use Rattle.topology.specs.Topology.{Node, server, nat, client, relay, native, nodes}
+use Rattle.topology.specs.declared.node.Node.{Node}
+use Rattle.topology.specs.declared.node.Node.TheVariants.{Server as server, Nat as nat, Client as client, Relay as relay, Native as native}
+use Rattle.topology.specs.Topology.{nodes}
 use Rattle.topology.specs.Rules.{AreDistinct, addresses_of, sixes_of}
 use Rattle.scenario.specs.declared.node_kind.NodeKind.TheVariants as kind
 use Rattle.scenario.specs.Filling.{HasNoneBehind}

@@ -14,7 +14,9 @@ use Rattle.topology.specs.declared.client_node.ClientNode.{ClientNode}
 use Rattle.topology.specs.declared.relay_node.RelayNode.{RelayNode}
 use Rattle.topology.specs.declared.native_node.NativeNode.{NativeNode}
 use Rattle.topology.specs.Rows.{TopologyState}
-use Rattle.topology.specs.Topology.{Node, server, nat, client, relay, native, name_of}
+use Rattle.topology.specs.declared.node.Node.{Node}
+use Rattle.topology.specs.declared.node.Node.TheVariants.{Server as server, Nat as nat, Client as client, Relay as relay, Native as native}
+use Rattle.topology.specs.Topology.{name_of}
 use Rattle.scenario.specs.Fresh.{is_free_name, is_free_address, is_free_six}
 
 or_assoc : (a b c : Bool) → (a || (b || c)) ≡ ((a || b) || c)

@@ -8,29 +8,28 @@ use Rattle.topology.specs.declared.client_node.ClientNode.{ClientNode}
 use Rattle.topology.specs.declared.relay_node.RelayNode.{RelayNode}
 use Rattle.topology.specs.declared.native_node.NativeNode.{NativeNode}
 use Rattle.topology.specs.Rows.{TopologyState}
-use Rattle.history.specs.Events.{is_server, is_nat, is_relay}
-use Rattle.history.specs.NodeWords.{named}
+use Rattle.topology.specs.Named.{is_server, is_nat, is_relay, named}
 use Rattle.scenario.specs.declared.scenario_fault.ScenarioFault.{ScenarioFault}
 use Rattle.scenario.specs.declared.node_rows.TheConstants.{REFRESH_LOW, REFRESH_HIGH}
 use Rattle.scenario.specs.declared.place.Place.{Place}
-use Rattle.scenario.specs.Keys.{typed, ruled, word_at, name_at, number_at}
+use Rattle.scenario.specs.Keys.{typed, ruled, word_at, name_at, whole_number_at}
 use Rattle.scenario.specs.Fresh.{new_name, new_address, other_address, new_endpoint, new_six, new_inside, kind_of, idle_of, refresh_of}
 
 -- a server
-unfoldable pub server_row : TopologyState → Place → Members → Result ServerNode ScenarioFault
-server_row t place table = do
+unfoldable pub server_of_table : TopologyState → Place → Members → Result ServerNode ScenarioFault
+server_of_table t place table = do
   name ← name_at place (codes "name") (new_name t) table
   primary ← word_at place (codes "primary") (new_address t) table
   secondary ← word_at place (codes "secondary") (other_address t primary) table
   Ok (record { name = name; primary = primary; secondary = secondary })
 
 -- a NAT
-unfoldable pub nat_row : TopologyState → Place → Members → Result NatNode ScenarioFault
-nat_row t place table = do
+unfoldable pub nat_of_table : TopologyState → Place → Members → Result NatNode ScenarioFault
+nat_of_table t place table = do
   name ← name_at place (codes "name") (new_name t) table
   kind ← word_at place (codes "kind") kind_of table
   external ← word_at place (codes "external") (new_address t) table
-  idle ← number_at place (codes "idle") idle_of table
+  idle ← whole_number_at place (codes "idle") idle_of table
   Ok (record { name = name; kind = kind; external = external; idle = idle })
 
 -- the two whole numbers of a list that has no other value
@@ -50,8 +49,8 @@ refresh_in place None = Ok (REFRESH_LOW, REFRESH_HIGH)
 refresh_in place (Some value) = given_refresh place value
 
 -- a client
-unfoldable pub client_row : TopologyState → Place → Members → Result ClientNode ScenarioFault
-client_row t place table = do
+unfoldable pub client_of_table : TopologyState → Place → Members → Result ClientNode ScenarioFault
+client_of_table t place table = do
   name ← name_at place (codes "name") (new_name t) table
   nat ← name_at place (codes "nat") (named is_nat t) table
   inside ← word_at place (codes "inside") (new_inside t nat) table
@@ -60,16 +59,16 @@ client_row t place table = do
   Ok (record { name = name; nat = nat; inside = inside; server = server; low = times.0; high = times.1 })
 
 -- a relay
-unfoldable pub relay_row : TopologyState → Place → Members → Result RelayNode ScenarioFault
-relay_row t place table = do
+unfoldable pub relay_of_table : TopologyState → Place → Members → Result RelayNode ScenarioFault
+relay_of_table t place table = do
   name ← name_at place (codes "name") (new_name t) table
   at ← word_at place (codes "at") (new_endpoint t) table
   six ← word_at place (codes "six") (new_six t) table
   Ok (record { name = name; at = at; six = six })
 
 -- a native host
-unfoldable pub native_row : TopologyState → Place → Members → Result NativeNode ScenarioFault
-native_row t place table = do
+unfoldable pub native_of_table : TopologyState → Place → Members → Result NativeNode ScenarioFault
+native_of_table t place table = do
   name ← name_at place (codes "name") (new_name t) table
   six ← word_at place (codes "six") (new_six t) table
   relay ← name_at place (codes "relay") (named is_relay t) table
