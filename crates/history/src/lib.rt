@@ -53,7 +53,6 @@ pub use event_printer::print_event;
 pub use event_reader::read_event;
 pub use mark::{Loss, Mark};
 pub use mark_list::{MOST_MARKS, Marks};
-pub use node_words::{nat_named, relay_named, server_named};
 pub use records::Record;
 pub use target::Target;
 pub use topology::{

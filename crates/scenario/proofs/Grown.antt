@@ -8,9 +8,9 @@ use Rattle.td_base.specs.declared.ipv4.Ip4.{Ip4}
 use Rattle.td_base.specs.declared.ipv6.Ip6.{Ip6}
 use Rattle.td_base.specs.declared.node_name.Name.{Name}
 use Rattle.td_base.specs.declared.reach.Policy.TheVariants.{Strict}
-use Rattle.td_base.specs.Ip4.{same_ip, same_ip_equiv}
-use Rattle.td_base.specs.Ip6.{same_ip6, same_ip6_equiv}
-use Rattle.td_base.specs.Ep.{same_ep_equiv}
+use Rattle.td_base.specs.Ip4.{IsIp4, same_ip, same_ip_equiv}
+use Rattle.td_base.specs.Ip6.{IsIp6, same_ip6, same_ip6_equiv}
+use Rattle.td_base.specs.Ep.{IsEp, same_ep_equiv}
 use Rattle.td_base.specs.Names.{name_text, same_name, same_name_equiv}
 use Rattle.td_base.specs.Reach.{is_global}
 use Rattle.topology.specs.declared.server_node.ServerNode.{ServerNode}
@@ -54,6 +54,7 @@ names_grown t u n e is free =
 pub record IsFreeIp (t : TopologyState) (ip : Ip4) : Type 0 where
   pub free : list_any (same_ip ip) (addresses_of t) ≡ false
   pub global : is_global Strict ip ≡ true
+  pub made : IsIp4 ip
 
 abbrev IsGlobal : Ip4 → Type 0
 IsGlobal ip = is_global Strict ip ≡ true
@@ -61,29 +62,34 @@ IsGlobal ip = is_global Strict ip ≡ true
 record AreAddresses (ips : List Ip4) : Type 0 where
   distinct : AreDistinct same_ip ips
   global : AllByRecursion IsGlobal ips
+  made : AllByRecursion IsIp4 ips
 
-one_address : (ips : List Ip4) (ip : Ip4) → AreAddresses ips → list_any (same_ip ip) ips ≡ false → is_global Strict ip ≡ true → AreAddresses (ips ++ ip ∷ [])
-one_address ips ip h free global = record {
+one_address : (t : TopologyState) (ips : List Ip4) (ip : Ip4) → AreAddresses ips → list_any (same_ip ip) ips ≡ false → IsFreeIp t ip → AreAddresses (ips ++ ip ∷ [])
+one_address t ips ip h free is = record {
   distinct = distinct_last same_ip_equiv.symm ips ip h.distinct free;
-  global = each_last IsGlobal ips ip h.global global;
+  global = each_last IsGlobal ips ip h.global is.global;
+  made = each_last IsIp4 ips ip h.made is.made;
 }
 
 addresses_are : (t : TopologyState) → IsTopology t → AreAddresses (addresses_of t)
-addresses_are t is = record { distinct = is.addresses; global = is.global }
+addresses_are t is = record { distinct = is.addresses; global = is.global; made = is.made.addresses }
 
 pub record IsFreeSix (t : TopologyState) (ip : Ip6) : Type 0 where
   pub free : list_any (same_ip6 ip) (sixes_of t) ≡ false
   pub outside : IsOutside ip
+  pub made : IsIp6 ip
 
 record AreSixes (ips : List Ip6) : Type 0 where
   distinct : AreDistinct same_ip6 ips
   outside : AllByRecursion IsOutside ips
+  made : AllByRecursion IsIp6 ips
 
 sixes_grown : (t : TopologyState) (ips : List Ip6) (ip : Ip6) → ips ≡ sixes_of t ++ ip ∷ [] → IsTopology t → IsFreeSix t ip → AreSixes ips
 sixes_grown t ips ip e is free =
     let grown : AreSixes (sixes_of t ++ ip ∷ []) = record {
       distinct = distinct_last same_ip6_equiv.symm (sixes_of t) ip is.sixes free.free;
       outside = each_last IsOutside (sixes_of t) ip is.outside free.outside;
+      made = each_last IsIp6 (sixes_of t) ip is.made.sixes free.made;
     } in
     subst AreSixes (sym e) grown
 
@@ -118,9 +124,9 @@ pub record IsFreshServer (t : TopologyState) (row : ServerNode) : Type 0 where
 
 two_addresses : (t : TopologyState) (row : ServerNode) → IsTopology t → IsFreshServer t row → AreAddresses (addresses_of t ++ row.primary ∷ row.secondary ∷ [])
 two_addresses t row is fresh =
-    let one = one_address (addresses_of t) row.primary (addresses_are t is) fresh.primary.free fresh.primary.global in
+    let one = one_address t (addresses_of t) row.primary (addresses_are t is) fresh.primary.free fresh.primary in
     let other : list_any (same_ip row.secondary) (addresses_of t ++ row.primary ∷ []) ≡ false = none_last (same_ip row.secondary) (addresses_of t) row.primary fresh.secondary.free (same_ip_equiv.symm row.secondary row.primary ∙ fresh.two) in
-    let both = one_address (addresses_of t ++ row.primary ∷ []) row.secondary one other fresh.secondary.global in
+    let both = one_address t (addresses_of t ++ row.primary ∷ []) row.secondary one other fresh.secondary in
     subst AreAddresses (append_assoc (addresses_of t) (row.primary ∷ []) (row.secondary ∷ [])) both
 
 pub grown_server : (t : TopologyState) (row : ServerNode) → IsTopology t → IsFreshServer t row → length t.servers < MOST_SERVERS → HasNoneBehind kind.Server t → IsTopology (with_server t row)
@@ -144,6 +150,7 @@ grown_server t row is fresh few h =
       outside = is.outside;
       sixes = is.sixes;
       through = each_of_none _ t.natives h.3;
+      made = record { addresses = ips.made; sixes = is.made.sixes; inside = is.made.inside; at = is.made.at };
     }
 
 -- ---- NATs
@@ -156,7 +163,7 @@ pub record IsFreshNat (t : TopologyState) (row : NatNode) : Type 0 where
 pub grown_nat : (t : TopologyState) (row : NatNode) → IsTopology t → IsFreshNat t row → length t.nats < MOST_NATS → HasNoneBehind kind.Nat t → IsTopology (with_nat t row)
 grown_nat t row is fresh few h =
     let names = names_grown t (with_nat t row) (nat row) (nodes_nat t row h) is fresh.name in
-    let ips = subst AreAddresses (sym (addresses_nat t row h)) (one_address (addresses_of t) row.external (addresses_are t is) fresh.external.free fresh.external.global) in
+    let ips = subst AreAddresses (sym (addresses_nat t row h)) (one_address t (addresses_of t) row.external (addresses_are t is) fresh.external.free fresh.external) in
     record {
       servers = is.servers;
       nats = omega (arith, few, length-append t.nats (row ∷ []));
@@ -174,6 +181,7 @@ grown_nat t row is fresh few h =
       outside = is.outside;
       sixes = is.sixes;
       through = each_of_none _ t.natives h.2;
+      made = record { addresses = ips.made; sixes = is.made.sixes; inside = is.made.inside; at = is.made.at };
     }
 
 -- ---- clients
@@ -182,6 +190,10 @@ pub record IsFreshClient (t : TopologyState) (row : ClientNode) : Type 0 where
   pub name : IsFreeName t row.name
   pub client : IsClient t row
   pub inside : list_any (same_inside row) t.clients ≡ false
+  pub made : IsEp row.inside
+
+abbrev IsMadeInside : ClientNode → Type 0
+IsMadeInside c = IsEp c.inside
 
 same_inside-symm : (a b : ClientNode) → same_inside a b ≡ same_inside b a
 same_inside-symm a b = rw (nat_eq_equiv.symm a.nat b.nat, same_ep_equiv.symm a.inside b.inside) refl
@@ -208,6 +220,7 @@ grown_client t row is fresh few h =
       outside = is.outside;
       sixes = is.sixes;
       through = each_of_none _ t.natives h.1;
+      made = record { addresses = is.made.addresses; sixes = is.made.sixes; inside = each_last IsMadeInside t.clients row is.made.inside fresh.made; at = is.made.at };
     }
 
 -- ---- relays
@@ -217,6 +230,10 @@ pub record IsFreshRelay (t : TopologyState) (row : RelayNode) : Type 0 where
   pub at : IsFreeIp t row.at.ip
   pub port : row.at.port ≢ 0
   pub six : IsFreeSix t row.six
+  pub made : IsEp row.at
+
+abbrev IsMadeAt : RelayNode → Type 0
+IsMadeAt r = IsEp r.at
 
 abbrev HasPort : RelayNode → Type 0
 HasPort r = r.at.port ≢ 0
@@ -226,7 +243,7 @@ grown_relay t row is fresh few h =
     let u = with_relay t row in
     let stays = client_stays t u (relay row) (nodes_relay t row h) in
     let names = names_grown t u (relay row) (nodes_relay t row h) is fresh.name in
-    let ips = subst AreAddresses (sym (addresses_relay t row)) (one_address (addresses_of t) row.at.ip (addresses_are t is) fresh.at.free fresh.at.global) in
+    let ips = subst AreAddresses (sym (addresses_relay t row)) (one_address t (addresses_of t) row.at.ip (addresses_are t is) fresh.at.free fresh.at) in
     let sixes = sixes_grown t (sixes_of u) row.six (sixes_relay t row h) is fresh.six in
     record {
       servers = is.servers;
@@ -245,6 +262,7 @@ grown_relay t row is fresh few h =
       outside = sixes.outside;
       sixes = sixes.distinct;
       through = each_of_none _ t.natives h;
+      made = record { addresses = ips.made; sixes = sixes.made; inside = is.made.inside; at = each_last IsMadeAt t.relays row is.made.at fresh.made };
     }
 
 -- ---- native hosts
@@ -278,4 +296,5 @@ grown_native t row is fresh few =
       outside = sixes.outside;
       sixes = sixes.distinct;
       through = each_last (IsThrough u) t.natives row (each_as (IsThrough t) (IsThrough u) stays t.natives is.through) (stays row fresh.through);
+      made = record { addresses = is.made.addresses; sixes = sixes.made; inside = is.made.inside; at = is.made.at };
     }

@@ -18,9 +18,9 @@ use Rattle.scenario.specs.declared.event_lists.TheConstants.{MOST_EVENTS}
 use Rattle.scenario.specs.declared.scenario_fault.ScenarioFault.{ScenarioFault}
 use Rattle.scenario.specs.declared.scenario_fault.ScenarioFault.TheVariants as fault
 use Rattle.scenario.specs.NodeKinds.{list_key, most_rows, row_keys, scenario_keys}
-use Rattle.scenario.specs.Keys.{only_keys, typed, number_at}
+use Rattle.scenario.specs.Keys.{only_keys, typed, whole_number_at}
 use Rattle.scenario.specs.Fresh.{natural}
-use Rattle.scenario.specs.NodeRows.{server_row, nat_row, client_row, relay_row, native_row}
+use Rattle.scenario.specs.NodeRows.{server_of_table, nat_of_table, client_of_table, relay_of_table, native_of_table}
 use Rattle.scenario.specs.NodeTables.{with_row, with_value, with_values, item_count, with_few, with_list, with_nodes, nodes_of}
 use Rattle.scenario.specs.EventLists.{events_of}
 use Rattle.scenario.specs.Filling.{row_count, HasNoneBehind, HasNoneFrom}
@@ -28,7 +28,7 @@ use Rattle.scenario.specs.Paths.{row_path}
 use Rattle.scenario.specs.Scenario.{scenario_in, document_of, written, scenario_of}
 use Rattle.scenario.proofs.Steps.{bind_ok, ok_same}
 use Rattle.scenario.proofs.Grown.{grown_server, grown_nat, grown_client, grown_relay, grown_native}
-use Rattle.scenario.proofs.FreshRows.{server_row-fresh, nat_row-fresh, client_row-fresh, relay_row-fresh, native_row-fresh}
+use Rattle.scenario.proofs.FreshRows.{server_of_table-fresh, nat_of_table-fresh, client_of_table-fresh, relay_of_table-fresh, native_of_table-fresh}
 use Rattle.scenario.proofs.EventsSoFar.{length-events_of}
 
 -- ---- one node
@@ -42,24 +42,24 @@ record KeepsWithOne (kind : NodeKind) (t more : TopologyState) : Type 0 where
 with_row-keeps : (kind : NodeKind) (t more : TopologyState) (place : Place) (table : Members) → with_row kind t place table ≡ Ok more → IsTopology t → HasNoneBehind kind t → row_count kind t < most_rows kind → KeepsWithOne kind t more
 unfolding with_row
 with_row-keeps kind.Server t more place table e is h few =
-    let row = bind_ok (server_row t place table) _ more e in
-    let grown : KeepsWithOne kind.Server t (with_server t row.0) = record { rules = grown_server t row.0 is (server_row-fresh t place table row.0 row.1) few h; order = h; one = omega (arith, length-append t.servers (row.0 ∷ [])) } in
+    let row = bind_ok (server_of_table t place table) _ more e in
+    let grown : KeepsWithOne kind.Server t (with_server t row.0) = record { rules = grown_server t row.0 is (server_of_table-fresh t place table row.0 row.1) few h; order = h; one = omega (arith, length-append t.servers (row.0 ∷ [])) } in
     subst (KeepsWithOne kind.Server t) (ok_same _ _ row.2) grown
 with_row-keeps kind.Nat t more place table e is h few =
-    let row = bind_ok (nat_row t place table) _ more e in
-    let grown : KeepsWithOne kind.Nat t (with_nat t row.0) = record { rules = grown_nat t row.0 is (nat_row-fresh t place table row.0 row.1) few h; order = h; one = omega (arith, length-append t.nats (row.0 ∷ [])) } in
+    let row = bind_ok (nat_of_table t place table) _ more e in
+    let grown : KeepsWithOne kind.Nat t (with_nat t row.0) = record { rules = grown_nat t row.0 is (nat_of_table-fresh t place table row.0 row.1) few h; order = h; one = omega (arith, length-append t.nats (row.0 ∷ [])) } in
     subst (KeepsWithOne kind.Nat t) (ok_same _ _ row.2) grown
 with_row-keeps kind.Client t more place table e is h few =
-    let row = bind_ok (client_row t place table) _ more e in
-    let grown : KeepsWithOne kind.Client t (with_client t row.0) = record { rules = grown_client t row.0 is (client_row-fresh t place table row.0 row.1) few h; order = h; one = omega (arith, length-append t.clients (row.0 ∷ [])) } in
+    let row = bind_ok (client_of_table t place table) _ more e in
+    let grown : KeepsWithOne kind.Client t (with_client t row.0) = record { rules = grown_client t row.0 is (client_of_table-fresh t place table row.0 row.1) few h; order = h; one = omega (arith, length-append t.clients (row.0 ∷ [])) } in
     subst (KeepsWithOne kind.Client t) (ok_same _ _ row.2) grown
 with_row-keeps kind.Relay t more place table e is h few =
-    let row = bind_ok (relay_row t place table) _ more e in
-    let grown : KeepsWithOne kind.Relay t (with_relay t row.0) = record { rules = grown_relay t row.0 is (relay_row-fresh t place table row.0 row.1) few h; order = h; one = omega (arith, length-append t.relays (row.0 ∷ [])) } in
+    let row = bind_ok (relay_of_table t place table) _ more e in
+    let grown : KeepsWithOne kind.Relay t (with_relay t row.0) = record { rules = grown_relay t row.0 is (relay_of_table-fresh t place table row.0 row.1) few h; order = h; one = omega (arith, length-append t.relays (row.0 ∷ [])) } in
     subst (KeepsWithOne kind.Relay t) (ok_same _ _ row.2) grown
 with_row-keeps kind.Native t more place table e is h few =
-    let row = bind_ok (native_row t place table) _ more e in
-    let grown : KeepsWithOne kind.Native t (with_native t row.0) = record { rules = grown_native t row.0 is (native_row-fresh t place table row.0 row.1) few; order = h; one = omega (arith, length-append t.natives (row.0 ∷ [])) } in
+    let row = bind_ok (native_of_table t place table) _ more e in
+    let grown : KeepsWithOne kind.Native t (with_native t row.0) = record { rules = grown_native t row.0 is (native_of_table-fresh t place table row.0 row.1) few; order = h; one = omega (arith, length-append t.natives (row.0 ∷ [])) } in
     subst (KeepsWithOne kind.Native t) (ok_same _ _ row.2) grown
 
 with_value-keeps : (kind : NodeKind) (index : ℕ) (t more : TopologyState) (value : Data) → with_value kind index t value ≡ Ok more → IsTopology t → HasNoneBehind kind t → row_count kind t < most_rows kind → KeepsWithOne kind t more
@@ -98,7 +98,7 @@ with_list-keeps kind t more (Some value) e is h =
 -- ---- the five lists
 
 none_keeps : IsTopology no_nodes
-none_keeps = record { servers = omega arith; nats = omega arith; clients = omega arith; relays = omega arith; natives = omega arith; names = tt; spelled = tt; addresses = tt; global = tt; idle = tt; each_client = tt; inside = tt; ports = tt; outside = tt; sixes = tt; through = tt }
+none_keeps = record { servers = omega arith; nats = omega arith; clients = omega arith; relays = omega arith; natives = omega arith; names = tt; spelled = tt; addresses = tt; global = tt; idle = tt; each_client = tt; inside = tt; ports = tt; outside = tt; sixes = tt; through = tt; made = record { addresses = tt; sixes = tt; inside = tt; at = tt } }
 
 no_rows : {A : Type 0} (xs : List A) → xs ≡ [] → length xs ≡ 0
 no_rows [] e = refl
@@ -137,7 +137,7 @@ unfolding scenario_in
 there text s e =
     let table = bind_ok (ok_or (document_of text) fault.NotToml) scenario_in s e in
     let only = bind_ok (only_keys scenario_keys place.Text table.0) _ s table.2 in
-    let seed = bind_ok (number_at place.Text (codes "seed") natural table.0) _ s only.2 in
+    let seed = bind_ok (whole_number_at place.Text (codes "seed") natural table.0) _ s only.2 in
     let topology = bind_ok (nodes_of table.0) _ s seed.2 in
     let events = bind_ok (events_of topology.0 table.0) _ s topology.2 in
     let found : StandsThere (made seed.0 topology.0 events.0) = record { table = table.0; nodes = topology.1; events = events.1 } in

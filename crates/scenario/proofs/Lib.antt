@@ -1,3 +1,4 @@
+mod Options
 mod Steps
 mod Names
 mod Taken

@@ -10,7 +10,7 @@ use Rattle.td_base.specs.declared.node_name.TheConstants.{NAME_LEN}
 use Rattle.td_base.specs.Names.{name_text}
 use Rattle.scenario.specs.NodeName.{name, padded}
 use Rattle.topology.specs.NodeNames.{is_name, begins_with_letter, is_name_byte}
-use Rattle.scenario.specs.Fresh.{name_of}
+use Rattle.scenario.specs.Fresh.{spelled_name}
 
 abbrev build : (n : ℕ) (l : List ℕ) → length l ≡ NAME_LEN → n ≤ NAME_LEN → l ≡ take n l ++ replicate (NAME_LEN - n) 0 → Name
 build n l w s p = record { len = n; bytes = l; whole = w; short = s; padded = p }
@@ -69,15 +69,15 @@ is_name-some [] e f = absurd cc
 is_name-some (x ∷ xs) e f = absurd cc
 
 -- a name that was made of a text
-pub name_of-made : (text : List ℕ) (r : Option Name) → is_name text ≡ true → IfSome r (λ a. (name_text a ≡ text) × (text ≢ [])) → IfNone r ((text ≡ []) ⊎ (NAME_LEN < length text)) → r ≡ name_of text
-unfolding name_of
-name_of-made text None e some none =
+pub spelled_name-made : (text : List ℕ) (r : Option Name) → is_name text ≡ true → IfSome r (λ a. (name_text a ≡ text) × (text ≢ [])) → IfNone r ((text ≡ []) ⊎ (NAME_LEN < length text)) → r ≡ spelled_name text
+unfolding spelled_name
+spelled_name-made text None e some none =
     elim none [
       | inl h ↦ absurd (is_name-some text e h)
       | inr h ↦ absurd (omega (arith, h, is_name-short text e))
     ]
-name_of-made text (Some a) e some none = rw e (ap Some (name_is a text (is_name-short text e) some.0))
+spelled_name-made text (Some a) e some none = rw e (ap Some (name_is a text (is_name-short text e) some.0))
 
-pub name_of-not : (text : List ℕ) → is_name text ≡ false → name_of text ≡ None
-unfolding name_of
-name_of-not text e = rw e refl
+pub spelled_name-not : (text : List ℕ) → is_name text ≡ false → spelled_name text ≡ None
+unfolding spelled_name
+spelled_name-not text e = rw e refl

@@ -4,9 +4,9 @@ use Rattle.std.specs.Prelude.{ok_or}
 use Rattle.td_base.specs.Results.{◌>>=◌}
 use Rattle.toml.specs.Data.{Members}
 use Rattle.scenario.specs.declared.place.Place.{Place}
-use Rattle.scenario.specs.Keys.{ruled, known, text_at, integer_at, word_at, name_at, number_at}
+use Rattle.scenario.specs.Keys.{ruled, recognized, text_at, integer_at, word_at, name_at, whole_number_at}
 use Rattle.scenario.specs.Fresh.{where_holds}
-pub use Rattle.history.proofs.Numbers.{bind_some, some_same}
+pub use Rattle.scenario.proofs.Options.{bind_some, some_same}
 
 pub bind_ok : {A B E : Type 0} (r : Result A E) (f : A → Result B E) (y : B) → (r >>= f) ≡ Ok y → (x : A) × (r ≡ Ok x) × (f x ≡ Ok y)
 bind_ok (Ok x) f y e = (x, refl, e)
@@ -31,10 +31,10 @@ word_kept place key rule table x e =
 
 pub name_kept : {A : Type 0} (place : Place) (key : List ℕ) (rule : List ℕ → Option A) (table : Members) (x : A) → name_at place key rule table ≡ Ok x → (text : List ℕ) × (rule text ≡ Some x)
 name_kept place key rule table x e =
-    let text = bind_ok (text_at place key table) (λ text. known place key (rule text)) x e in
+    let text = bind_ok (text_at place key table) (λ text. recognized place key (rule text)) x e in
     (text.0, given (rule text.0) _ x text.2)
 
-pub number_kept : {A : Type 0} (place : Place) (key : List ℕ) (rule : ℤ → Option A) (table : Members) (x : A) → number_at place key rule table ≡ Ok x → (number : ℤ) × (rule number ≡ Some x)
+pub number_kept : {A : Type 0} (place : Place) (key : List ℕ) (rule : ℤ → Option A) (table : Members) (x : A) → whole_number_at place key rule table ≡ Ok x → (number : ℤ) × (rule number ≡ Some x)
 number_kept place key rule table x e =
     let number = bind_ok (integer_at place key table) (λ number. ruled place key (rule number)) x e in
     (number.0, given (rule number.0) _ x number.2)

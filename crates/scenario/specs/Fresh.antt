@@ -31,8 +31,8 @@ where_holds test x = if test then Some x else None
 -- NAMES
 
 -- the name that a text is
-unfoldable pub name_of : List ℕ → Option Name
-name_of text = if is_name text then Some (name text) else None
+unfoldable pub spelled_name : List ℕ → Option Name
+spelled_name text = if is_name text then Some (name text) else None
 
 -- no node has this name
 unfoldable pub is_free_name : TopologyState → Name → Bool
@@ -40,7 +40,7 @@ is_free_name t a = not (list_any (same_name a) (names_of t))
 
 -- the name that a text gives to a further node
 unfoldable pub new_name : TopologyState → List ℕ → Option Name
-new_name t text = name_of text >>= (λ a. where_holds (is_free_name t a) a)
+new_name t text = spelled_name text >>= (λ a. where_holds (is_free_name t a) a)
 
 -- ADDRESSES
 

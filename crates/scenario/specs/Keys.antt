@@ -63,8 +63,8 @@ abbrev pub ruled : {A : Type 0} → Place → List ℕ → Option A → Result A
 ruled place key o = ok_or o (fault.Range (key_path place key))
 
 -- a name that is known, or new
-abbrev pub known : {A : Type 0} → Place → List ℕ → Option A → Result A ScenarioFault
-known place key o = ok_or o (fault.Name (key_path place key))
+abbrev pub recognized : {A : Type 0} → Place → List ℕ → Option A → Result A ScenarioFault
+recognized place key o = ok_or o (fault.Name (key_path place key))
 
 -- the text at a required key
 abbrev pub text_at : Place → List ℕ → Members → Result (List ℕ) ScenarioFault
@@ -84,8 +84,8 @@ word_at place key rule table = text_at place key table >>= (λ text. ruled place
 
 -- what a name names by a rule
 abbrev pub name_at : {A : Type 0} → Place → List ℕ → (List ℕ → Option A) → Members → Result A ScenarioFault
-name_at place key rule table = text_at place key table >>= (λ text. known place key (rule text))
+name_at place key rule table = text_at place key table >>= (λ text. recognized place key (rule text))
 
 -- what a number says by a rule
-abbrev pub number_at : {A : Type 0} → Place → List ℕ → (ℤ → Option A) → Members → Result A ScenarioFault
-number_at place key rule table = integer_at place key table >>= (λ number. ruled place key (rule number))
+abbrev pub whole_number_at : {A : Type 0} → Place → List ℕ → (ℤ → Option A) → Members → Result A ScenarioFault
+whole_number_at place key rule table = integer_at place key table >>= (λ number. ruled place key (rule number))

@@ -1,37 +1,35 @@
 -- The node that a table describes beside the nodes of the tables before it, or why the text is refused: the keys in order.
 use Rattle.std.specs.Prelude.{ℕ, ℤ, codes, Option, Some, None, option_and_then, option_map, Result, Ok}
 use Rattle.toml.specs.Data.{Data, as_integer, as_array, Items, no_items, item, Members, get_member}
-use Rattle.td_base.specs.Results.{◌>>=◌}
+use Rattle.td_base.specs.Reading.{◌>>=◌}
 use Rattle.topology.specs.declared.server_node.ServerNode.{ServerNode}
 use Rattle.topology.specs.declared.nat_node.NatNode.{NatNode}
 use Rattle.topology.specs.declared.client_node.ClientNode.{ClientNode}
 use Rattle.topology.specs.declared.relay_node.RelayNode.{RelayNode}
 use Rattle.topology.specs.declared.native_node.NativeNode.{NativeNode}
 use Rattle.topology.specs.Rows.{TopologyState}
-use Rattle.topology.specs.Named.{is_nat}
-use Rattle.history.specs.Events.{is_server, is_relay}
-use Rattle.topology.specs.Named.{named}
+use Rattle.topology.specs.Named.{is_server, is_nat, is_relay, named}
 use Rattle.scenario.specs.declared.scenario_fault.ScenarioFault.{ScenarioFault}
 use Rattle.scenario.specs.declared.node_rows.TheConstants.{REFRESH_LOW, REFRESH_HIGH}
 use Rattle.scenario.specs.declared.place.Place.{Place}
-use Rattle.scenario.specs.Keys.{typed, ruled, word_at, name_at, number_at}
+use Rattle.scenario.specs.Keys.{typed, ruled, word_at, name_at, whole_number_at}
 use Rattle.scenario.specs.Fresh.{new_name, new_address, other_address, new_endpoint, new_six, new_inside, kind_of, idle_of, refresh_of}
 
 -- a server
-unfoldable pub server_row : TopologyState → Place → Members → Result ServerNode ScenarioFault
-server_row t place table = do
+unfoldable pub server_of_table : TopologyState → Place → Members → Result ServerNode ScenarioFault
+server_of_table t place table = do
   name ← name_at place (codes "name") (new_name t) table
   primary ← word_at place (codes "primary") (new_address t) table
   secondary ← word_at place (codes "secondary") (other_address t primary) table
   Ok (record { name = name; primary = primary; secondary = secondary })
 
 -- a NAT
-unfoldable pub nat_row : TopologyState → Place → Members → Result NatNode ScenarioFault
-nat_row t place table = do
+unfoldable pub nat_of_table : TopologyState → Place → Members → Result NatNode ScenarioFault
+nat_of_table t place table = do
   name ← name_at place (codes "name") (new_name t) table
   kind ← word_at place (codes "kind") kind_of table
   external ← word_at place (codes "external") (new_address t) table
-  idle ← number_at place (codes "idle") idle_of table
+  idle ← whole_number_at place (codes "idle") idle_of table
   Ok (record { name = name; kind = kind; external = external; idle = idle })
 
 -- the two whole numbers of a list that has no other value
@@ -51,8 +49,8 @@ refresh_in place None = Ok (REFRESH_LOW, REFRESH_HIGH)
 refresh_in place (Some value) = given_refresh place value
 
 -- a client
-unfoldable pub client_row : TopologyState → Place → Members → Result ClientNode ScenarioFault
-client_row t place table = do
+unfoldable pub client_of_table : TopologyState → Place → Members → Result ClientNode ScenarioFault
+client_of_table t place table = do
   name ← name_at place (codes "name") (new_name t) table
   nat ← name_at place (codes "nat") (named is_nat t) table
   inside ← word_at place (codes "inside") (new_inside t nat) table
@@ -61,16 +59,16 @@ client_row t place table = do
   Ok (record { name = name; nat = nat; inside = inside; server = server; low = times.0; high = times.1 })
 
 -- a relay
-unfoldable pub relay_row : TopologyState → Place → Members → Result RelayNode ScenarioFault
-relay_row t place table = do
+unfoldable pub relay_of_table : TopologyState → Place → Members → Result RelayNode ScenarioFault
+relay_of_table t place table = do
   name ← name_at place (codes "name") (new_name t) table
   at ← word_at place (codes "at") (new_endpoint t) table
   six ← word_at place (codes "six") (new_six t) table
   Ok (record { name = name; at = at; six = six })
 
 -- a native host
-unfoldable pub native_row : TopologyState → Place → Members → Result NativeNode ScenarioFault
-native_row t place table = do
+unfoldable pub native_of_table : TopologyState → Place → Members → Result NativeNode ScenarioFault
+native_of_table t place table = do
   name ← name_at place (codes "name") (new_name t) table
   six ← word_at place (codes "six") (new_six t) table
   relay ← name_at place (codes "relay") (named is_relay t) table

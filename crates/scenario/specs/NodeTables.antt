@@ -12,15 +12,15 @@ use Rattle.scenario.specs.declared.place.Place.TheVariants as place
 use Rattle.scenario.specs.NodeKinds.{list_key, most_rows, row_keys}
 use Rattle.scenario.specs.Paths.{row_path, key_path}
 use Rattle.scenario.specs.Keys.{only_keys, typed}
-use Rattle.scenario.specs.NodeRows.{server_row, nat_row, client_row, relay_row, native_row}
+use Rattle.scenario.specs.NodeRows.{server_of_table, nat_of_table, client_of_table, relay_of_table, native_of_table}
 
 -- the nodes, and the one of a table that has no unknown key
 unfoldable pub with_row : NodeKind → TopologyState → Place → Members → Result TopologyState ScenarioFault
-with_row kind.Server t place table = server_row t place table >>= (λ row. Ok (with_server t row))
-with_row kind.Nat t place table = nat_row t place table >>= (λ row. Ok (with_nat t row))
-with_row kind.Client t place table = client_row t place table >>= (λ row. Ok (with_client t row))
-with_row kind.Relay t place table = relay_row t place table >>= (λ row. Ok (with_relay t row))
-with_row kind.Native t place table = native_row t place table >>= (λ row. Ok (with_native t row))
+with_row kind.Server t place table = server_of_table t place table >>= (λ row. Ok (with_server t row))
+with_row kind.Nat t place table = nat_of_table t place table >>= (λ row. Ok (with_nat t row))
+with_row kind.Client t place table = client_of_table t place table >>= (λ row. Ok (with_client t row))
+with_row kind.Relay t place table = relay_of_table t place table >>= (λ row. Ok (with_relay t row))
+with_row kind.Native t place table = native_of_table t place table >>= (λ row. Ok (with_native t row))
 
 -- the nodes, and the one of a value of a list
 unfoldable pub with_value : NodeKind → ℕ → TopologyState → Data → Result TopologyState ScenarioFault

@@ -10,7 +10,7 @@ use Rattle.scenario.specs.declared.scenario_fault.ScenarioFault.{ScenarioFault}
 use Rattle.scenario.specs.declared.scenario_fault.ScenarioFault.TheVariants as fault
 use Rattle.scenario.specs.declared.place.Place.TheVariants as place
 use Rattle.scenario.specs.NodeKinds.{scenario_keys}
-use Rattle.scenario.specs.Keys.{only_keys, number_at}
+use Rattle.scenario.specs.Keys.{only_keys, whole_number_at}
 use Rattle.scenario.specs.Fresh.{natural}
 use Rattle.scenario.specs.NodeTables.{nodes_of}
 use Rattle.scenario.specs.EventLists.{events_of}
@@ -19,7 +19,7 @@ use Rattle.scenario.specs.EventLists.{events_of}
 unfoldable pub scenario_in : Members → Result Scenario ScenarioFault
 scenario_in table = do
   only ← only_keys scenario_keys place.Text table
-  seed ← number_at place.Text (codes "seed") natural table
+  seed ← whole_number_at place.Text (codes "seed") natural table
   topology ← nodes_of table
   events ← events_of topology table
   Ok (record { seed = seed; topology = topology; events = events })

@@ -12,9 +12,10 @@ ghost use Rattle.scenario.specs.Answers.{IsReadAs};
 use crate::place::Place;
 use crate::row::Row;
 use crate::scenario_fault::ScenarioFault;
-use history::{Event, EventFault, Events, Topology, read_event};
+use history::{Event, EventFault, Events, read_event};
 use std::alloc::Global;
 use toml::Value;
+use topology::Topology;
 
 /// The most events of a scenario.
 pub const MOST_EVENTS: usize = 50_000;

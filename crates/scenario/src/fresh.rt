@@ -6,15 +6,16 @@ ghost use Rattle.td_base.specs.Ip6.{same_ip6};
 ghost use Rattle.td_base.specs.Ep.{same_ep};
 ghost use Rattle.td_base.specs.Names.{same_name};
 ghost use Rattle.topology.specs.NodeNames.{is_name_byte, begins_with_letter, is_name};
-ghost use Rattle.scenario.specs.Fresh.{name_of, is_free_name, new_name, is_free_address, is_new_address, new_address, other_address, new_endpoint, is_free_six, is_new_six, new_six, is_free_inside, new_inside, kind_of, natural, idle_of, is_refresh, refresh_of};
+ghost use Rattle.scenario.specs.Fresh.{spelled_name, is_free_name, new_name, is_free_address, is_new_address, new_address, other_address, new_endpoint, is_free_six, is_new_six, new_six, is_free_inside, new_inside, kind_of, natural, idle_of, is_refresh, refresh_of};
 
-use history::{
-    ClientNode, LEAST_REFRESH, MOST_IDLE, MOST_REFRESH, NatNode, NativeNode, RelayNode, ServerNode,
-    Topology, ep_word, ip4_word, ip6_word,
-};
+use history::{ep_word, ip4_word, ip6_word};
 use nat_kinds::NatKind;
 use td_base::{Ep, Ip4, Ip6, NAME_LEN, Name, Policy, is_global, is_global6};
 use teredo_addr::is_teredo;
+use topology::{
+    ClientNode, LEAST_REFRESH, MOST_IDLE, MOST_REFRESH, NatNode, NativeNode, RelayNode, ServerNode,
+    Topology,
+};
 
 fn is_name_byte(byte: u8) -> bool
     ensures { result ≡ is_name_byte byte }
@@ -44,8 +45,8 @@ fn is_name(text: &[u8]) -> bool
     begins_with_letter(text) && all_name_bytes(text) && text.len() <= NAME_LEN
 }
 
-fn name_of(text: &[u8]) -> Option<Name>
-    ensures { result ≡ name_of text.now }
+fn spelled_name(text: &[u8]) -> Option<Name>
+    ensures { result ≡ spelled_name text.now }
 {
     if !is_name(text) {
         return None;
@@ -132,7 +133,7 @@ fn is_free_address(topology: &Topology, ip: Ip4) -> bool
 pub(crate) fn new_name(topology: &Topology, text: &str) -> Option<Name>
     ensures { result ≡ new_name topology.now text.now }
 {
-    let name = name_of(text.as_bytes())?;
+    let name = spelled_name(text.as_bytes())?;
     if !is_free_name(topology, name) {
         return None;
     }

@@ -2,7 +2,7 @@
 ghost use Rattle.std.specs.Prelude.{◌≡◌, ◌≤◌, length, map};
 ghost use Rattle.scenario.specs.NodeKinds.{list_key, most_rows, row_keys};
 
-use history::{MOST_CLIENTS, MOST_NATIVES, MOST_NATS, MOST_RELAYS, MOST_SERVERS};
+use topology::{MOST_CLIENTS, MOST_NATIVES, MOST_NATS, MOST_RELAYS, MOST_SERVERS};
 
 /// How many bytes the key of a list has at most.
 pub(crate) const LIST_KEY_LEN: usize = 6;

@@ -2,7 +2,7 @@
 ghost use Rattle.std.specs.Prelude.{◌≡◌, option_map, option_and_then};
 ghost use Rattle.toml.specs.Data.{as_array};
 ghost use Rattle.toml.specs.View.{view, table_view, items_view};
-ghost use Rattle.scenario.specs.NodeRows.{server_row, nat_row, two_integers, given_refresh, refresh_in, client_row, relay_row, native_row};
+ghost use Rattle.scenario.specs.NodeRows.{server_of_table, nat_of_table, two_integers, given_refresh, refresh_in, client_of_table, relay_of_table, native_of_table};
 
 use crate::fresh::{
     idle_of, kind_of, new_address, new_endpoint, new_inside, new_name, new_six, other_address,
@@ -10,7 +10,7 @@ use crate::fresh::{
 };
 use crate::row::Row;
 use crate::scenario_fault::ScenarioFault;
-use history::{
+use topology::{
     ClientNode, NatNode, NativeNode, RelayNode, ServerNode, Topology, nat_named, relay_named,
     server_named,
 };
@@ -23,11 +23,11 @@ pub const REFRESH_LOW: u32 = 22_500;
 pub const REFRESH_HIGH: u32 = 30_000;
 
 /// The server of a table.
-#[tactic(auto, unfolding(crate::specs::NodeRows::server_row))]
-pub(crate) fn server_row(t: &Topology, row: &Row) -> Result<ServerNode, ScenarioFault>
-    ensures { result ≡ server_row t.now row.now.place (table_view row.now.table.now) }
+#[tactic(auto, unfolding(crate::specs::NodeRows::server_of_table))]
+pub(crate) fn server_of_table(t: &Topology, row: &Row) -> Result<ServerNode, ScenarioFault>
+    ensures { result ≡ server_of_table t.now row.now.place (table_view row.now.table.now) }
 {
-    let name = row.known("name", new_name(t, row.text("name")?))?;
+    let name = row.recognized("name", new_name(t, row.text("name")?))?;
     let primary = row.ruled("primary", new_address(t, row.text("primary")?))?;
     let secondary = row.ruled(
         "secondary",
@@ -41,11 +41,11 @@ pub(crate) fn server_row(t: &Topology, row: &Row) -> Result<ServerNode, Scenario
 }
 
 /// The NAT of a table.
-#[tactic(auto, unfolding(crate::specs::NodeRows::nat_row))]
-pub(crate) fn nat_row(t: &Topology, row: &Row) -> Result<NatNode, ScenarioFault>
-    ensures { result ≡ nat_row t.now row.now.place (table_view row.now.table.now) }
+#[tactic(auto, unfolding(crate::specs::NodeRows::nat_of_table))]
+pub(crate) fn nat_of_table(t: &Topology, row: &Row) -> Result<NatNode, ScenarioFault>
+    ensures { result ≡ nat_of_table t.now row.now.place (table_view row.now.table.now) }
 {
-    let name = row.known("name", new_name(t, row.text("name")?))?;
+    let name = row.recognized("name", new_name(t, row.text("name")?))?;
     let kind = row.ruled("kind", kind_of(row.text("kind")?))?;
     let external = row.ruled("external", new_address(t, row.text("external")?))?;
     let idle = row.ruled("idle", idle_of(row.integer("idle")?))?;
@@ -92,14 +92,14 @@ fn refresh_in(row: &Row, value: Option<&Value>) -> Result<(u32, u32), ScenarioFa
 }
 
 /// The client of a table.
-#[tactic(auto, unfolding(crate::specs::NodeRows::client_row))]
-pub(crate) fn client_row(t: &Topology, row: &Row) -> Result<ClientNode, ScenarioFault>
-    ensures { result ≡ client_row t.now row.now.place (table_view row.now.table.now) }
+#[tactic(auto, unfolding(crate::specs::NodeRows::client_of_table))]
+pub(crate) fn client_of_table(t: &Topology, row: &Row) -> Result<ClientNode, ScenarioFault>
+    ensures { result ≡ client_of_table t.now row.now.place (table_view row.now.table.now) }
 {
-    let name = row.known("name", new_name(t, row.text("name")?))?;
-    let nat = row.known("nat", nat_named(t, row.text("nat")?.as_bytes()))?;
+    let name = row.recognized("name", new_name(t, row.text("name")?))?;
+    let nat = row.recognized("nat", nat_named(t, row.text("nat")?.as_bytes()))?;
     let inside = row.ruled("inside", new_inside(t, nat, row.text("inside")?))?;
-    let server = row.known("server", server_named(t, row.text("server")?.as_bytes()))?;
+    let server = row.recognized("server", server_named(t, row.text("server")?.as_bytes()))?;
     let (low, high) = refresh_in(row, row.given("refresh"))?;
     Ok(ClientNode {
         name,
@@ -112,23 +112,23 @@ pub(crate) fn client_row(t: &Topology, row: &Row) -> Result<ClientNode, Scenario
 }
 
 /// The relay of a table.
-#[tactic(auto, unfolding(crate::specs::NodeRows::relay_row))]
-pub(crate) fn relay_row(t: &Topology, row: &Row) -> Result<RelayNode, ScenarioFault>
-    ensures { result ≡ relay_row t.now row.now.place (table_view row.now.table.now) }
+#[tactic(auto, unfolding(crate::specs::NodeRows::relay_of_table))]
+pub(crate) fn relay_of_table(t: &Topology, row: &Row) -> Result<RelayNode, ScenarioFault>
+    ensures { result ≡ relay_of_table t.now row.now.place (table_view row.now.table.now) }
 {
-    let name = row.known("name", new_name(t, row.text("name")?))?;
+    let name = row.recognized("name", new_name(t, row.text("name")?))?;
     let at = row.ruled("at", new_endpoint(t, row.text("at")?))?;
     let six = row.ruled("six", new_six(t, row.text("six")?))?;
     Ok(RelayNode { name, at, six })
 }
 
 /// The native host of a table.
-#[tactic(auto, unfolding(crate::specs::NodeRows::native_row))]
-pub(crate) fn native_row(t: &Topology, row: &Row) -> Result<NativeNode, ScenarioFault>
-    ensures { result ≡ native_row t.now row.now.place (table_view row.now.table.now) }
+#[tactic(auto, unfolding(crate::specs::NodeRows::native_of_table))]
+pub(crate) fn native_of_table(t: &Topology, row: &Row) -> Result<NativeNode, ScenarioFault>
+    ensures { result ≡ native_of_table t.now row.now.place (table_view row.now.table.now) }
 {
-    let name = row.known("name", new_name(t, row.text("name")?))?;
+    let name = row.recognized("name", new_name(t, row.text("name")?))?;
     let six = row.ruled("six", new_six(t, row.text("six")?))?;
-    let relay = row.known("relay", relay_named(t, row.text("relay")?.as_bytes()))?;
+    let relay = row.recognized("relay", relay_named(t, row.text("relay")?.as_bytes()))?;
     Ok(NativeNode { name, six, relay })
 }

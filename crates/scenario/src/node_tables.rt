@@ -8,13 +8,13 @@ ghost use Rattle.scenario.specs.Answers.{IsReadAs};
 ghost use Rattle.scenario.specs.Filling.{row_count, HasNoneFrom, HasNoneBehind};
 
 use crate::node_kind::NodeKind;
-use crate::node_rows::{client_row, nat_row, native_row, relay_row, server_row};
+use crate::node_rows::{client_of_table, nat_of_table, native_of_table, relay_of_table, server_of_table};
 use crate::place::{Place, row_path};
 use crate::row::Row;
 use crate::scenario_fault::ScenarioFault;
-use history::Topology;
 use std::alloc::Global;
 use toml::{Table, Value};
+use topology::Topology;
 
 /// The nodes, and the one of a table that has no unknown key.
 #[tactic(auto, unfolding(crate::specs::NodeTables::with_row))]
@@ -28,23 +28,23 @@ fn with_row(kind: NodeKind, mut topology: Topology, row: &Row) -> Result<Topolog
     let nodes = &topology;
     match kind {
         NodeKind::Server => {
-            let server = server_row(nodes, row)?;
+            let server = server_of_table(nodes, row)?;
             topology.add_server(server)?;
         }
         NodeKind::Nat => {
-            let nat = nat_row(nodes, row)?;
+            let nat = nat_of_table(nodes, row)?;
             topology.add_nat(nat)?;
         }
         NodeKind::Client => {
-            let client = client_row(nodes, row)?;
+            let client = client_of_table(nodes, row)?;
             topology.add_client(client)?;
         }
         NodeKind::Relay => {
-            let relay = relay_row(nodes, row)?;
+            let relay = relay_of_table(nodes, row)?;
             topology.add_relay(relay)?;
         }
         NodeKind::Native => {
-            let native = native_row(nodes, row)?;
+            let native = native_of_table(nodes, row)?;
             topology.add_native(native)?;
         }
     }

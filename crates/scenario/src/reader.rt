@@ -15,9 +15,10 @@ use crate::node_tables::nodes_of;
 use crate::place::Place;
 use crate::row::Row;
 use crate::scenario_fault::ScenarioFault;
-use history::{Events, Topology};
+use history::Events;
 use std::alloc::Global;
 use toml::Table;
+use topology::Topology;
 
 /// The most bytes of a text.
 pub const TEXT_MOST: usize = 4_194_304;

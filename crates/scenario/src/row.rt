@@ -8,7 +8,7 @@ ghost use Rattle.toml.specs.View.{view, table_view, items_view};
 ghost use Rattle.toml.specs.Data.{get_member};
 ghost use Rattle.td_base.specs.Results.{Gives};
 ghost use Rattle.history.specs.Words.{same_text};
-ghost use Rattle.scenario.specs.Keys.{is_unknown, unknown_key, only_keys, value_at, text_at, integer_at, list_at, typed, ruled, known};
+ghost use Rattle.scenario.specs.Keys.{is_unknown, unknown_key, only_keys, value_at, text_at, integer_at, list_at, typed, ruled, recognized};
 
 use crate::place::Place;
 use crate::scenario_fault::ScenarioFault;
@@ -112,8 +112,8 @@ impl<'a> Row<'a> {
     }
 
     /// What a name is, or whom it names.
-    pub(crate) fn known<T>(&self, key: &str, value: Option<T>) -> Result<T, ScenarioFault>
-        ensures { result ≡ known self.now.place key.now value }
+    pub(crate) fn recognized<T>(&self, key: &str, value: Option<T>) -> Result<T, ScenarioFault>
+        ensures { result ≡ recognized self.now.place key.now value }
     {
         match value {
             Some(value) => Ok(value),

@@ -15,7 +15,7 @@ use Rattle.topology.specs.declared.client_node.ClientNode.{ClientNode}
 use Rattle.topology.specs.declared.relay_node.RelayNode.{RelayNode}
 use Rattle.topology.specs.declared.native_node.NativeNode.{NativeNode}
 use Rattle.topology.specs.Rows.{TopologyState}
-use Rattle.topology.specs.Named.{has_host, is_nat, is_client_of, any_kind, is_named, named}
+use Rattle.topology.specs.Named.{has_host, is_server, is_nat, is_relay, is_client_of, any_kind, is_named, named}
 use Rattle.topology.specs.declared.node.Node.{Node}
 use Rattle.topology.specs.declared.node.Node.TheVariants.{Server as server, Nat as nat, Client as client, Relay as relay, Native as native}
 use Rattle.topology.specs.Topology.{nodes, number_of, is_at, is_behind, is_native}
@@ -116,6 +116,18 @@ unfolding named
 nat_numbered t text =
     parts (λ node. is_nat (Some node) && is_named text node) t
     ∙ rw (from_none 0 t.servers, from_none (length t.servers + length t.nats) t.clients, from_none (length t.servers + length t.nats + length t.clients) t.relays, from_none (length t.servers + length t.nats + length t.clients + length t.relays) t.natives, behind (λ (a : NatNode). pointwise nat_eq (name_text a.name) text) (length t.servers) t.nats, or_none) refl
+
+pub server_numbered : (t : TopologyState) (text : List ℕ) → named is_server t text ≡ server_place t text
+unfolding named
+server_numbered t text =
+    parts (λ node. is_server (Some node) && is_named text node) t
+    ∙ rw (from_none (length t.servers) t.nats, from_none (length t.servers + length t.nats) t.clients, from_none (length t.servers + length t.nats + length t.clients) t.relays, from_none (length t.servers + length t.nats + length t.clients + length t.relays) t.natives, sym (at_front (λ (a : ServerNode). pointwise nat_eq (name_text a.name) text) t.servers), or_none) refl
+
+pub relay_numbered : (t : TopologyState) (text : List ℕ) → named is_relay t text ≡ relay_place t text
+unfolding named
+relay_numbered t text =
+    parts (λ node. is_relay (Some node) && is_named text node) t
+    ∙ rw (from_none 0 t.servers, from_none (length t.servers) t.nats, from_none (length t.servers + length t.nats) t.clients, from_none (length t.servers + length t.nats + length t.clients + length t.relays) t.natives, behind (λ (r : RelayNode). pointwise nat_eq (name_text r.name) text) (length t.servers + length t.nats + length t.clients) t.relays, or_none) refl
 
 pub client_at : (t : TopologyState) (n : ℕ) (text : List ℕ) → named (is_client_of n) t text ≡ option_map (λ k. length t.servers + length t.nats + k) (position (λ (c : ClientNode). (c.nat == n) && pointwise nat_eq (name_text c.name) text) t.clients)
 unfolding named

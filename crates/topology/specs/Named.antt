@@ -4,7 +4,7 @@ use Rattle.std.specs.Cmp.Lexicographic.{pointwise}
 use Rattle.td_base.specs.Names.{name_text}
 use Rattle.topology.specs.Rows.{TopologyState}
 use Rattle.topology.specs.declared.node.Node.{Node}
-use Rattle.topology.specs.declared.node.Node.TheVariants.{Nat as nat, Client as client, Native as native}
+use Rattle.topology.specs.declared.node.Node.TheVariants.{Server as server, Nat as nat, Client as client, Relay as relay, Native as native}
 use Rattle.topology.specs.Topology.{name_of, number_of}
 
 -- a client or a native host: a node with a host of its own
@@ -12,6 +12,14 @@ abbrev pub has_host : Option Node → Bool
 has_host (Some (client c)) = true
 has_host (Some (native h)) = true
 has_host _ = false
+
+abbrev pub is_server : Option Node → Bool
+is_server (Some (server a)) = true
+is_server _ = false
+
+abbrev pub is_relay : Option Node → Bool
+is_relay (Some (relay r)) = true
+is_relay _ = false
 
 abbrev pub is_nat : Option Node → Bool
 is_nat (Some (nat a)) = true

@@ -30,7 +30,9 @@ mod server_node;
 mod topology;
 
 pub use client_node::{ClientNode, LEAST_REFRESH, MOST_REFRESH};
-pub use names::{client_named, host_named, nat_named, node_named};
+pub use names::{
+    client_named, host_named, nat_named, node_named, relay_named, server_named,
+};
 pub use nat_node::{MOST_IDLE, NatNode};
 pub use native_node::NativeNode;
 pub use node::Node;

@@ -2,7 +2,7 @@
 ghost use Rattle.std.specs.Prelude.{◌≡◌, ◌+◌, ◌==◌, ◌&&◌, nat_eq, length, position, option_map};
 ghost use Rattle.std.specs.Cmp.Lexicographic.{pointwise};
 ghost use Rattle.td_base.specs.Names.{name_text};
-ghost use Rattle.topology.specs.Named.{has_host, is_nat, is_client_of, any_kind, named};
+ghost use Rattle.topology.specs.Named.{has_host, is_server, is_nat, is_relay, is_client_of, any_kind, named};
 
 use crate::client_node::ClientNode;
 use crate::nat_node::NatNode;
@@ -102,6 +102,22 @@ pub fn host_named(t: &Topology, word: &[u8]) -> Option<u16>
         return Some(number);
     }
     native_number(t, word)
+}
+
+/// The number of the server of a name.
+#[tactic(auto, using(crate::proofs::Numbering::server_numbered))]
+pub fn server_named(t: &Topology, word: &[u8]) -> Option<u16>
+    ensures { result ≡ named is_server t.now word.now }
+{
+    server_number(t, word)
+}
+
+/// The number of the relay of a name.
+#[tactic(auto, using(crate::proofs::Numbering::relay_numbered))]
+pub fn relay_named(t: &Topology, word: &[u8]) -> Option<u16>
+    ensures { result ≡ named is_relay t.now word.now }
+{
+    relay_number(t, word)
 }
 
 /// The number of the NAT of a name.
