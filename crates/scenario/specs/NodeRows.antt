@@ -1,7 +1,7 @@
 -- The node that a table describes beside the nodes of the tables before it, or why the text is refused: the keys in order.
 use Rattle.std.specs.Prelude.{ℕ, ℤ, codes, Option, Some, None, option_and_then, option_map, Result, Ok}
 use Rattle.toml.specs.Data.{Data, as_integer, as_array, Items, no_items, item, Members, get_member}
-use Rattle.td_base.specs.Reading.{◌>>=◌}
+use Rattle.td_base.specs.Results.{◌>>=◌}
 use Rattle.topology.specs.declared.server_node.ServerNode.{ServerNode}
 use Rattle.topology.specs.declared.nat_node.NatNode.{NatNode}
 use Rattle.topology.specs.declared.client_node.ClientNode.{ClientNode}
