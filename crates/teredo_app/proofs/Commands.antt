@@ -2,10 +2,10 @@
 use Rattle.std.proofs.Common.{◌≡◌, ℕ, List, Option, Some, None, refl, sym}
 use Rattle.std.specs.Prelude.{option_map, IfSome}
 use Rattle.teredo_app.specs.declared.command.Command.{Command}
-use Rattle.teredo_app.specs.Command.{Asked, AsksFor, IsCommand, asked_by}
+use Rattle.teredo_app.specs.Command.{Request, AsksFor, IsCommand, request_of}
 
-pub one_command : (words : List (List ℕ)) (c : Option Command) → IfSome c (λ x. AsksFor words (asked_by x)) → ((asked : Asked) → AsksFor words asked → option_map asked_by c ≡ Some asked)
-    → (asked : Option Asked) → IsCommand words asked → option_map asked_by c ≡ asked
+pub one_command : (words : List (List ℕ)) (c : Option Command) → IfSome c (λ x. AsksFor words (request_of x)) → ((asked : Request) → AsksFor words asked → option_map request_of c ≡ Some asked)
+    → (asked : Option Request) → IsCommand words asked → option_map request_of c ≡ asked
 one_command words c found only (Some asked) is = only asked is
 one_command words None found only None is = refl
-one_command words (Some c) found only None is = absurd (is (asked_by c) found)
+one_command words (Some c) found only None is = absurd (is (request_of c) found)

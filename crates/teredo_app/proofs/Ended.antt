@@ -4,7 +4,7 @@ use Rattle.td_outside.specs.Causes.{Rose}
 use Rattle.td_outside.specs.Moves.{Gains}
 use Rattle.history.specs.Scenario.{Scenario}
 use Rattle.report.specs.Lines.{record_lines}
-use Rattle.teredo_app.specs.Outside.{SinkTold, Input, Output}
+use Rattle.teredo_app.specs.Outside.{SinkTold, AtSource, AtSink}
 use Rattle.teredo_app.specs.SourceText.{TakesAtMost}
 use Rattle.teredo_app.specs.SinkLines.{WritesNothing}
 use Rattle.teredo_app.specs.ScenarioReport.{wire_full, last_line}
@@ -22,7 +22,7 @@ full_ends s a b c before now later result full same (line_written is line) = rep
 full_ends s a b c before now later result full same (line_failed is rose line) =
     report_failed is (subst (λ (n : ℕ). Rose n later) same rose) (last_line full.history full.fills (BeginsLines-then a b c (record_lines s.topology full.history) (wire_full ∷ []) full.lines line))
 
-module _ (i : Input) (o : Output) (file : List ℕ) (opened : Gains i.openings.0 i.openings.1 file) (taken : TakesAtMost 4194305 i.taken.0 i.taken.1) where
+module _ (i : AtSource) (o : AtSink) (file : List ℕ) (opened : Gains i.openings.0 i.openings.1 file) (taken : TakesAtMost 4194305 i.taken.0 i.taken.1) where
 
   -- the source failed
   pub unread_ends : Rose i.faults.0 i.faults.1 → WritesNothing o.told.0 o.told.1 → LabEnds i o file 4

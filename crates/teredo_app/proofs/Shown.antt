@@ -1,12 +1,12 @@
 -- How `show` ends, by what was on its page.
 use Rattle.std.proofs.Common.{◌≡◌, ◌⊎◌, ℕ, List, sym, subst, inl, inr, refl, lit<, arith}
 use Rattle.show.specs.Shown.{ShowsPayload, ShowsNoText, ShowsFault}
-use Rattle.teredo_app.specs.Outside.{Output}
+use Rattle.teredo_app.specs.Outside.{AtSink}
 use Rattle.teredo_app.specs.Ends.{ShowEnds}
 use Rattle.teredo_app.specs.Endings.{LineEnds, line_written, line_failed}
 
 -- the page has a payload's lines
-pub payload_ends : (o : Output) (word page : List ℕ) (result : ℕ) → ShowsPayload word page → LineEnds o page 0 result → ShowEnds o word result
+pub payload_ends : (o : AtSink) (word page : List ℕ) (result : ℕ) → ShowsPayload word page → LineEnds o page 0 result → ShowEnds o word result
 payload_ends o word page result shown (line_written is lines) = subst (λ (n : ℕ). ShowEnds o word n) (sym is) (record {
   statuses = (0, lit< tt, refl);
   done = λ _. (page, shown, lines);
@@ -21,7 +21,7 @@ payload_ends o word page result shown (line_failed is rose lines) = subst (λ (n
 })
 
 -- the page has a fault's line
-pub fault_ends : (o : Output) (word page : List ℕ) (result : ℕ) → ShowsNoText word page ⊎ ShowsFault word page → LineEnds o page 1 result → ShowEnds o word result
+pub fault_ends : (o : AtSink) (word page : List ℕ) (result : ℕ) → ShowsNoText word page ⊎ ShowsFault word page → LineEnds o page 1 result → ShowEnds o word result
 fault_ends o word page result shown (line_written is lines) = subst (λ (n : ℕ). ShowEnds o word n) (sym is) (record {
   statuses = (1, lit< tt, refl);
   done = λ e. absurd (omega arith);

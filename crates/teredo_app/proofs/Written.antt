@@ -8,7 +8,7 @@ use Rattle.std.specs.Io.KnownBytes.{Appends, Keeps}
 use Rattle.td_outside.specs.Moves.{GainsAll, Gains, Stays}
 use Rattle.td_outside.specs.MoveLaws.{Stays-refl, GainsAll-nil, GainsAll-append}
 use Rattle.teredo_app.specs.Outside.{SinkTold}
-use Rattle.teredo_app.specs.SinkLines.{HandsFrom, HandsLine, HandsLines, Hands, WritesLines, BeginsLines, WritesNothing}
+use Rattle.teredo_app.specs.SinkLines.{HandsFrom, HandsLine, HandsLines, HandsOver, WritesLines, BeginsLines, WritesNothing}
 
 -- ---- the bytes
 
@@ -83,13 +83,13 @@ short [] few = refl
 short (x ∷ xs) few = absurd (omega (arith, few))
 
 -- all of the line
-pub line_handed : (line : List ℕ) (at : ℕ) (a b : SinkTold) → HandedTo line at a.pieces b.pieces → length line ≤ at → Hands a b (line ∷ [])
+pub line_handed : (line : List ℕ) (at : ℕ) (a b : SinkTold) → HandedTo line at a.pieces b.pieces → length line ≤ at → HandsOver a b (line ∷ [])
 line_handed line at a b h end =
     let from : HandsFrom line 0 h.pieces = subst (HandsFrom line 0) (append-nil h.pieces) (h.on [] tt) in
     (h.pieces, h.grown, one_line line h.pieces (hands_line line h.pieces from (λ e. short line (let none = h.begun e in omega (arith, end, none)))))
 
 -- the sink failed at the next piece
-pub line_broken_off : (line : List ℕ) (at : ℕ) (a b c : SinkTold) → HandedTo line at a.pieces b.pieces → Gains b.pieces c.pieces (take (length line - at) (drop at line)) → at < length line → Hands a c (line ∷ [])
+pub line_broken_off : (line : List ℕ) (at : ℕ) (a b c : SinkTold) → HandedTo line at a.pieces b.pieces → Gains b.pieces c.pieces (take (length line - at) (drop at line)) → at < length line → HandsOver a c (line ∷ [])
 line_broken_off line at a b c h gains within =
     let more = one_handed line at 1 a.pieces b.pieces c.pieces h gains within (omega arith) in
     let from : HandsFrom line 0 more.pieces = subst (HandsFrom line 0) (append-nil more.pieces) (more.on [] tt) in
@@ -124,8 +124,8 @@ HandsLines-append [] ys ps qs p q = subst (λ (z : List (List ℕ)). HandsLines 
 HandsLines-append (x ∷ xs) ys ps qs (first, rest, is, line, lines) q =
     (first, rest ++ qs, ap (λ (z : List (List ℕ)). z ++ qs) is ∙ append_assoc first rest qs, line, HandsLines-append xs ys rest qs lines q)
 
-Hands-then : (a b c : SinkTold) (xs ys : List (List ℕ)) → Hands a b xs → Hands b c ys → Hands a c (xs ++ ys)
-Hands-then a b c xs ys (ps, grown, lines) (qs, more, others) =
+HandsOver-then : (a b c : SinkTold) (xs ys : List (List ℕ)) → HandsOver a b xs → HandsOver b c ys → HandsOver a c (xs ++ ys)
+HandsOver-then a b c xs ys (ps, grown, lines) (qs, more, others) =
     (ps ++ qs, GainsAll-append a.pieces b.pieces c.pieces ps qs grown more, HandsLines-append xs ys ps qs lines others)
 
 pub none_written : (a : SinkTold) → WritesLines a a []
@@ -138,7 +138,7 @@ nothing_written a = record { bytes = Keeps-refl a.held; pieces = Stays-refl a.pi
 pub WritesLines-then : (a b c : SinkTold) (xs ys : List (List ℕ)) → WritesLines a b xs → WritesLines b c ys → WritesLines a c (xs ++ ys)
 WritesLines-then a b c xs ys p q = record {
   bytes = subst (λ (z : List ℕ). Appends a.held c.held z) (sym (lines_text-append xs ys)) (Appends-then a.held b.held c.held (lines_text xs) (lines_text ys) p.bytes q.bytes);
-  pieces = Hands-then a b c xs ys p.pieces q.pieces;
+  pieces = HandsOver-then a b c xs ys p.pieces q.pieces;
 }
 
 -- a front of some lines after lines
@@ -152,7 +152,7 @@ BeginsLines-then a b c xs ys p q = record {
   handed = xs ++ q.handed;
   other = q.other;
   all = ap (λ (z : List (List ℕ)). xs ++ z) q.all ∙ sym (append_assoc xs q.handed q.other);
-  pieces = Hands-then a b c xs q.handed p.pieces q.pieces;
+  pieces = HandsOver-then a b c xs q.handed p.pieces q.pieces;
 }
 
 -- all of them

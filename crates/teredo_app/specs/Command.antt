@@ -6,24 +6,24 @@ use Rattle.teredo_app.specs.declared.serve_words.ServeWords.{ServeWords}
 use Rattle.teredo_app.specs.ServeWords.{Asks}
 
 -- what the words of the command line ask for
-pub data Asked : Type 0 where
-  lab : (file : List ℕ) → Asked
-  serve : (words : ServeWords) → Asked
-  show : (word : List ℕ) → Asked
+pub data Request : Type 0 where
+  lab : (file : List ℕ) → Request
+  serve : (words : ServeWords) → Request
+  show : (word : List ℕ) → Request
 
 -- the words ask for this: each has one spelling
-abbrev pub AsksFor : List (List ℕ) → Asked → Type 0
+abbrev pub AsksFor : List (List ℕ) → Request → Type 0
 AsksFor words (lab file) = words ≡ codes "lab" ∷ file ∷ []
 AsksFor words (serve asked) = Asks words asked
 AsksFor words (show word) = words ≡ codes "show" ∷ word ∷ []
 
 -- the command that the words are, or that they are none
-abbrev pub IsCommand : List (List ℕ) → Option Asked → Type 0
+abbrev pub IsCommand : List (List ℕ) → Option Request → Type 0
 IsCommand words (Some asked) = AsksFor words asked
-IsCommand words None = (asked : Asked) → AsksFor words asked → ⊥
+IsCommand words None = (asked : Request) → AsksFor words asked → ⊥
 
 -- a command without where its words lie in memory
-abbrev pub asked_by : Command → Asked
-asked_by (Lab file) = lab file.now
-asked_by (Serve words) = serve words
-asked_by (Show word) = show word.now
+abbrev pub request_of : Command → Request
+request_of (Lab file) = lab file.now
+request_of (Serve words) = serve words
+request_of (Show word) = show word.now

@@ -5,17 +5,17 @@ use Rattle.history.specs.Scenario.{Scenario}
 use Rattle.history.specs.Full.{Full}
 use Rattle.report.specs.Lines.{record_lines}
 use Rattle.teredo_app.specs.declared.statuses.TheConstants.{DONE, UNWRITABLE, NO_MEMORY, WIRE_FULL}
-use Rattle.teredo_app.specs.Outside.{SinkTold, Output}
+use Rattle.teredo_app.specs.Outside.{SinkTold, AtSink}
 use Rattle.teredo_app.specs.SinkLines.{WritesLines, BeginsLines}
 use Rattle.teredo_app.specs.ScenarioReport.{FillsWire, WritesReport, WritesFull, BeginsReport}
 
 -- how the writing of one line ends: with its status, or because the sink failed
-pub data LineEnds (o : Output) (line : List ℕ) (status result : ℕ) : Type 0 where
+pub data LineEnds (o : AtSink) (line : List ℕ) (status result : ℕ) : Type 0 where
   line_written : result ≡ status → WritesLines o.told.0 o.told.1 (line ∷ []) → LineEnds o line status result
   line_failed : result ≡ UNWRITABLE → Rose o.faults.0 o.faults.1 → BeginsLines o.told.0 o.told.1 (line ∷ []) → LineEnds o line status result
 
 -- how the writing of a scenario's report ends
-pub data ReportEnds (o : Output) (s : Scenario) (result : ℕ) : Type 0 where
+pub data ReportEnds (o : AtSink) (s : Scenario) (result : ℕ) : Type 0 where
   report_written : result ≡ DONE → WritesReport s o.told.0 o.told.1 → ReportEnds o s result
   report_filled : result ≡ WIRE_FULL → WritesFull s o.told.0 o.told.1 → ReportEnds o s result
   report_failed : result ≡ UNWRITABLE → Rose o.faults.0 o.faults.1 → BeginsReport s o.told.0 o.told.1 → ReportEnds o s result

@@ -7,12 +7,12 @@ use Rattle.scenario.specs.Built.{built_scenario_of}
 use Rattle.show.specs.Shown.{ShowsPayload, ShowsNoText, ShowsFault}
 use Rattle.teredo_app.specs.declared.statuses.TheConstants.{DONE, BAD_PAYLOAD, BAD_WORDS, BAD_SCENARIO, UNREADABLE, UNWRITABLE, NO_MEMORY, WIRE_FULL}
 use Rattle.teredo_app.specs.declared.source_text.TheConstants.{TEXT_READ_MAX}
-use Rattle.teredo_app.specs.Outside.{Input, Output, Network, NoFault}
+use Rattle.teredo_app.specs.Outside.{AtSource, AtSink, Network, NoFault}
 use Rattle.teredo_app.specs.SourceText.{TakesAtMost}
 use Rattle.teredo_app.specs.SinkLines.{WritesLines, BeginsLines, WritesNothing}
 use Rattle.teredo_app.specs.ScenarioReport.{WritesReport, WritesFull, BeginsReport}
 use Rattle.teredo_app.specs.Session.{ServeEnds}
-use Rattle.teredo_app.specs.Command.{Asked, lab, serve, show}
+use Rattle.teredo_app.specs.Command.{Request, lab, serve, show}
 
 -- the line of a text that is refused
 abbrev pub refusal : List ℕ
@@ -23,20 +23,20 @@ abbrev pub bad_words : List ℕ
 bad_words = codes "words\n"
 
 -- The text is all the bytes that the name stands for, where the source tells them.
-abbrev pub IsNamed : Option (List ℕ) → List ℕ → Type 0
-IsNamed told text = IfSome told (λ bytes. text ≡ bytes)
+abbrev pub IsNamedText : Option (List ℕ) → List ℕ → Type 0
+IsNamedText told text = IfSome told (λ bytes. text ≡ bytes)
 
 -- The text of the file is this scenario of servers and NATs, or isn't one.
-abbrev pub Reads : Input → List ℕ → Option Scenario → Type 0
-Reads i file s = (text : List ℕ) × IsNamed (i.stands_for file) text × (built_scenario_of text ≡ s)
+abbrev pub Reads : AtSource → List ℕ → Option Scenario → Type 0
+Reads i file s = (text : List ℕ) × IsNamedText (i.stands_for file) text × (built_scenario_of text ≡ s)
 
 -- what a sink that failed was to hold
-abbrev pub LabBegins : Input → Output → List ℕ → Type 0
+abbrev pub LabBegins : AtSource → AtSink → List ℕ → Type 0
 LabBegins i o file =
     ((s : Scenario) × Reads i file (Some s) × BeginsReport s o.told.0 o.told.1) ⊎ (Reads i file None × BeginsLines o.told.0 o.told.1 (refusal ∷ []))
 
 -- How `lab FILE` ends: for each status its cause, and what was written.
-pub record LabEnds (i : Input) (o : Output) (file : List ℕ) (status : ℕ) : Type 0 where
+pub record LabEnds (i : AtSource) (o : AtSink) (file : List ℕ) (status : ℕ) : Type 0 where
   pub statuses : Contains (DONE ∷ BAD_SCENARIO ∷ UNREADABLE ∷ UNWRITABLE ∷ NO_MEMORY ∷ WIRE_FULL ∷ []) status
   -- the file alone was opened, once, and no more of it was read than a text may have, and one byte
   pub opened : Gains i.openings.0 i.openings.1 file
@@ -56,7 +56,7 @@ pub record LabEnds (i : Input) (o : Output) (file : List ℕ) (status : ℕ) : T
   pub full : status ≡ WIRE_FULL → (s : Scenario) × Reads i file (Some s) × WritesFull s o.told.0 o.told.1
 
 -- How `show HEX` ends: the page of the payload was written, or the line of its first fault. It never wants memory.
-pub record ShowEnds (o : Output) (word : List ℕ) (status : ℕ) : Type 0 where
+pub record ShowEnds (o : AtSink) (word : List ℕ) (status : ℕ) : Type 0 where
   pub statuses : Contains (DONE ∷ BAD_PAYLOAD ∷ UNWRITABLE ∷ []) status
   pub done : status ≡ DONE → (page : List ℕ) × ShowsPayload word page × WritesLines o.told.0 o.told.1 (page ∷ [])
   pub refused : status ≡ BAD_PAYLOAD → (line : List ℕ) × (ShowsNoText word line ⊎ ShowsFault word line) × WritesLines o.told.0 o.told.1 (line ∷ [])
@@ -64,14 +64,14 @@ pub record ShowEnds (o : Output) (word : List ℕ) (status : ℕ) : Type 0 where
       × ((page : List ℕ) × (ShowsPayload word page ⊎ (ShowsNoText word page ⊎ ShowsFault word page)) × BeginsLines o.told.0 o.told.1 (page ∷ []))
 
 -- How it ends where the words are no command.
-pub record WordsEnd (o : Output) (status : ℕ) : Type 0 where
+pub record WordsEnd (o : AtSink) (status : ℕ) : Type 0 where
   pub statuses : Contains (BAD_WORDS ∷ UNWRITABLE ∷ []) status
   pub refused : status ≡ BAD_WORDS → WritesLines o.told.0 o.told.1 (bad_words ∷ [])
   pub unwritten : status ≡ UNWRITABLE → Rose o.faults.0 o.faults.1 × BeginsLines o.told.0 o.told.1 (bad_words ∷ [])
 
 -- How the program ends, by the command that its words are. Only `lab` touches the source, and only `serve` the link and
 -- the clock.
-abbrev pub RunEnds : Input → Output → Network → Option Asked → ℕ → Type 0
+abbrev pub RunEnds : AtSource → AtSink → Network → Option Request → ℕ → Type 0
 RunEnds i o n (Some (lab file)) status = LabEnds i o file status × n.kept
 RunEnds i o n (Some (serve asked)) status = ServeEnds o n asked status × i.kept
 RunEnds i o n (Some (show word)) status = ShowEnds o word status × i.kept × n.kept

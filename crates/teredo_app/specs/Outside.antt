@@ -5,7 +5,7 @@ use Rattle.td_outside.specs.Link.{Told}
 
 -- the source: that it is as it was; the bytes that each name stands for, the names that it was asked to open and how many
 -- bytes it gave, where they are told; its count of faults
-pub record Input : Type 1 where
+pub record AtSource : Type 1 where
   pub kept : Type 0
   pub stands_for : List ℕ → Option (List ℕ)
   pub openings : Option (List (List ℕ)) × Option (List (List ℕ))
@@ -18,7 +18,7 @@ pub record SinkTold : Type 0 where
   pub pieces : Option (List (List ℕ))
 
 -- the sink: what it tells, and its count of faults
-pub record Output : Type 0 where
+pub record AtSink : Type 0 where
   pub told : SinkTold × SinkTold
   pub faults : ℕ × ℕ
 
@@ -34,6 +34,6 @@ pub record Network : Type 1 where
   pub moments : ℕ × ℕ
 
 -- No count of faults rose.
-pub record NoFault (i : Input) (o : Output) : Type 0 where
+pub record NoFault (i : AtSource) (o : AtSink) : Type 0 where
   pub source : i.faults.1 ≡ i.faults.0
   pub sink : o.faults.1 ≡ o.faults.0

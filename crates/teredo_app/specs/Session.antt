@@ -16,7 +16,7 @@ use Rattle.server_core.specs.declared.server.ServerSettings.{ServerSettings}
 use Rattle.server_core.specs.Endpoint as server
 use Rattle.teredo_app.specs.declared.serve_words.ServeWords.{ServeWords}
 use Rattle.teredo_app.specs.declared.statuses.TheConstants.{DONE, UNWRITABLE, NO_LINK}
-use Rattle.teredo_app.specs.Outside.{Output, Network}
+use Rattle.teredo_app.specs.Outside.{AtSink, Network}
 use Rattle.teredo_app.specs.SinkLines.{WritesLines, BeginsLines, WritesNothing}
 use Rattle.teredo_app.specs.ServeLine.{serve_line}
 
@@ -63,7 +63,7 @@ pub record StaysShut (n : Network) : Type 0 where
   pub moments : n.moments.1 ≡ n.moments.0
 
 -- How `serve IP1 IP2 COUNT IDLES` ends: for each status its cause, and what was written. It never wants memory.
-pub record ServeEnds (o : Output) (n : Network) (asked : ServeWords) (status : ℕ) : Type 0 where
+pub record ServeEnds (o : AtSink) (n : Network) (asked : ServeWords) (status : ℕ) : Type 0 where
   pub statuses : Contains (DONE ∷ UNWRITABLE ∷ NO_LINK ∷ []) status
   -- the link was asked once to open, on these two addresses
   pub opened : Gains n.openings.0 n.openings.1 (both_at asked.primary asked.secondary)

@@ -21,13 +21,13 @@ HandsLines [] pieces = pieces ≡ []
 HandsLines (line ∷ lines) pieces = (first : List (List ℕ)) × (rest : List (List ℕ)) × (pieces ≡ first ++ rest) × HandsLine line first × HandsLines lines rest
 
 -- the pieces that a sink tells grew by those of the lines
-abbrev pub Hands : SinkTold → SinkTold → List (List ℕ) → Type 0
-Hands old new lines = (pieces : List (List ℕ)) × GainsAll old.pieces new.pieces pieces × HandsLines lines pieces
+abbrev pub HandsOver : SinkTold → SinkTold → List (List ℕ) → Type 0
+HandsOver old new lines = (pieces : List (List ℕ)) × GainsAll old.pieces new.pieces pieces × HandsLines lines pieces
 
 -- The lines were written, each in pieces of its own.
 pub record WritesLines (old new : SinkTold) (lines : List (List ℕ)) : Type 0 where
   pub bytes : Appends old.held new.held (lines_text lines)
-  pub pieces : Hands old new lines
+  pub pieces : HandsOver old new lines
 
 -- A front of their bytes was written, which may be none or all of them: the first lines were handed over, the last of
 -- them perhaps in part.
@@ -37,7 +37,7 @@ pub record BeginsLines (old new : SinkTold) (lines : List (List ℕ)) : Type 0 w
   pub handed : List (List ℕ)
   pub other : List (List ℕ)
   pub all : lines ≡ handed ++ other
-  pub pieces : Hands old new handed
+  pub pieces : HandsOver old new handed
 
 -- Nothing was written.
 pub record WritesNothing (old new : SinkTold) : Type 0 where

@@ -1,6 +1,6 @@
 //! The command that the words of the command line are.
 ghost use Rattle.std.specs.Prelude.{◌≡◌, ◌≤◌, List, [], ◌∷◌, Option, Some, map, option_map, IfSome, string_bytes};
-ghost use Rattle.teredo_app.specs.Command.{Asked, AsksFor, asked_by};
+ghost use Rattle.teredo_app.specs.Command.{Request, AsksFor, request_of};
 
 use crate::serve_words::{ServeWords, serve_words};
 
@@ -17,8 +17,8 @@ pub enum Command<'a> {
 
 /// The command of two words.
 fn with_word<'a>(command: &str, word: &'a str) -> Option<Command<'a>>
-    ensures found { IfSome result (λ c. AsksFor (command.now ∷ word.now ∷ []) (asked_by c)) }
-    ensures only { (asked : Asked) → AsksFor (command.now ∷ word.now ∷ []) asked → option_map asked_by result ≡ Some asked }
+    ensures found { IfSome result (λ c. AsksFor (command.now ∷ word.now ∷ []) (request_of c)) }
+    ensures only { (asked : Request) → AsksFor (command.now ∷ word.now ∷ []) asked → option_map request_of result ≡ Some asked }
 {
     if command == "lab" {
         return Some(Command::Lab { file: word });
@@ -37,8 +37,8 @@ fn with_addresses<'a>(
     count: &str,
     idles: &str,
 ) -> Option<Command<'a>>
-    ensures found { IfSome result (λ c. AsksFor (command.now ∷ primary.now ∷ secondary.now ∷ count.now ∷ idles.now ∷ []) (asked_by c)) }
-    ensures only { (asked : Asked) → AsksFor (command.now ∷ primary.now ∷ secondary.now ∷ count.now ∷ idles.now ∷ []) asked → option_map asked_by result ≡ Some asked }
+    ensures found { IfSome result (λ c. AsksFor (command.now ∷ primary.now ∷ secondary.now ∷ count.now ∷ idles.now ∷ []) (request_of c)) }
+    ensures only { (asked : Request) → AsksFor (command.now ∷ primary.now ∷ secondary.now ∷ count.now ∷ idles.now ∷ []) asked → option_map request_of result ≡ Some asked }
 {
     if command == "serve" {
         let asked = serve_words(primary, secondary, count, idles)?;
@@ -49,8 +49,8 @@ fn with_addresses<'a>(
 
 /// The command of the words, where they are one.
 pub fn command_of(words: &[String]) -> Option<Command<'_>>
-    ensures found { IfSome result (λ c. AsksFor (map string_bytes words.now) (asked_by c)) }
-    ensures only { (asked : Asked) → AsksFor (map string_bytes words.now) asked → option_map asked_by result ≡ Some asked }
+    ensures found { IfSome result (λ c. AsksFor (map string_bytes words.now) (request_of c)) }
+    ensures only { (asked : Request) → AsksFor (map string_bytes words.now) asked → option_map request_of result ≡ Some asked }
 {
     match words {
         [command, word] => with_word(command.as_str(), word.as_str()),

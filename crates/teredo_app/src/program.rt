@@ -4,7 +4,7 @@ ghost use Rattle.std.specs.List.{AllByRecursion};
 ghost use Rattle.history.specs.Events.{IsEvent};
 ghost use Rattle.scenario.specs.Built.{HasOnlyBuilt, built_scenario_of};
 ghost use Rattle.scenario.specs.Told.{told};
-ghost use Rattle.teredo_app.specs.Command.{Asked, IsCommand};
+ghost use Rattle.teredo_app.specs.Command.{Request, IsCommand};
 ghost use Rattle.teredo_app.specs.Ends.{LabEnds, ShowEnds, RunEnds};
 ghost use Rattle.teredo_app.specs.Session.{ServeEnds};
 ghost use Rattle.teredo_app.specs.Endings.{ReportEnds};
@@ -144,7 +144,7 @@ pub fn run<S: Source, K: Sink, L: Link, C: Clock>(
     link: &mut L,
     clock: &mut C,
 ) -> u8
-    ensures ends { (asked : Option Asked) → IsCommand (map string_bytes words.now.items) asked → RunEnds (record {
+    ensures ends { (asked : Option Request) → IsCommand (map string_bytes words.now.items) asked → RunEnds (record {
       kept = src.new ≡ src.old;
       stands_for = S.stands_for src.old;
       openings = (S.openings src.old, S.openings src.new);

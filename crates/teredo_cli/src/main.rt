@@ -8,7 +8,7 @@
 
 ghost use Rattle.std.specs.Prelude.{◌≡◌, Option, map, string_bytes};
 ghost use Rattle.std.specs.Process.{exit_status};
-ghost use Rattle.teredo_app.specs.Command.{Asked, IsCommand};
+ghost use Rattle.teredo_app.specs.Command.{Request, IsCommand};
 ghost use Rattle.teredo_app.specs.Ends.{RunEnds};
 
 use std::process::ExitCode;
@@ -49,7 +49,7 @@ fn run_on<S: Source, K: Sink, L: Link, C: Clock>(
     link: &mut L,
     clock: &mut C,
 ) -> ExitCode
-    ensures ends { (asked : Option Asked) → IsCommand (map string_bytes words.now.items) asked → RunEnds (record {
+    ensures ends { (asked : Option Request) → IsCommand (map string_bytes words.now.items) asked → RunEnds (record {
       kept = src.new ≡ src.old;
       stands_for = S.stands_for src.old;
       openings = (S.openings src.old, S.openings src.new);
