@@ -41,7 +41,9 @@ use Rattle.history.specs.declared.acts.Act.TheVariants as act
 use Rattle.history.specs.declared.acts.Verb.TheVariants as verb
 use Rattle.history.specs.declared.acts.Verb.{Verb}
 use Rattle.topology.specs.Rows.{TopologyState}
-use Rattle.topology.specs.Topology.{Node, server, nat, client, relay, native, nodes, node_at, side_at}
+use Rattle.topology.specs.declared.node.Node.{Node}
+use Rattle.topology.specs.declared.node.Node.TheVariants.{Server as server, Nat as nat, Client as client, Relay as relay, Native as native}
+use Rattle.topology.specs.Topology.{nodes, node_at, side_at}
 use Rattle.history.specs.Telling.{is_no_entry, IsTold}
 use Rattle.history.specs.Full.{Item, udp, six, Full, wire}
 use Rattle.legal.specs.Past.{Draws, now, began, first_undelivered, journal, words}

@@ -13,8 +13,8 @@ use Rattle.teredo_node.specs.declared.turn.PumpFault.{PumpFault}
 use Rattle.server_core.specs.declared.server.ServerSettings.{ServerSettings}
 use Rattle.server_core.specs.Server.{server_row}
 use Rattle.server_core.specs.Endpoint.{MeetsRow}
-use Rattle.world.specs.declared.arriving.Arriving.{Arriving}
-use Rattle.world.specs.Arriving.{told_of}
+use Rattle.world.specs.declared.one_arrival.OneArrival.{OneArrival}
+use Rattle.world.specs.OneArrival.{told_of}
 
 -- what was copied into a buffer is the front of the datagram
 pub copied_front : (x copied rest : List ℕ) (len most : ℕ) → len ≡ min (length x) most → copied ≡ take len x → take len (copied ++ rest) ≡ take most x
@@ -24,11 +24,11 @@ copied_front x copied rest len most is copy =
     let least : len ≡ min most (length x) = omega (arith, is) in
     ap (λ (n : ℕ). take n (copied ++ rest)) (sym size) ∙ take-append_seam copied rest ∙ copy ∙ ap (λ (n : ℕ). take n x) least ∙ take_min most x
 
-pub received : (l : Arriving) (x : List ℕ) → l.is_taken ≡ false → x ≡ take DATAGRAM_MAX l.bytes.now → Receives (told_of l) (told_of (record l { is_taken = true })) (Datagram l.side l.from x)
+pub received : (l : OneArrival) (x : List ℕ) → l.is_taken ≡ false → x ≡ take DATAGRAM_MAX l.bytes.now → Receives (told_of l) (told_of (record l { is_taken = true })) (Datagram l.side l.from x)
 received l x free is = rw (free, is) (record { coming = (refl, refl); taken = tt; attempts = tt })
 
 -- a server that is asked through such a link answers that datagram
-pub asked : (s : ServerSettings) (l l' : Arriving) (step : Step) (new : ServerSettings) (from : Ep) (len failed : ℕ)
+pub asked : (s : ServerSettings) (l l' : OneArrival) (step : Step) (new : ServerSettings) (from : Ep) (len failed : ℕ)
     → l.is_taken ≡ false → length l.bytes.now ≤ DATAGRAM_MAX
     → AnswersArrival (λ side from x step new. MeetsRow s side from x step new) new (told_of l) (told_of l') step from len failed
     → step ≡ server_row s l.side l.from l.bytes.now
@@ -40,7 +40,7 @@ asked s l l' step new from len failed free short answers =
     let bytes : answers.bytes ≡ take DATAGRAM_MAX l.bytes.now = cc in
     answers.answered.1 ∙ rw (side, source, bytes, take_all DATAGRAM_MAX l.bytes.now short) refl
 
-pub asked_by : (s : ServerSettings) (l l' : Arriving) (step : Step) (new : ServerSettings) (from : Ep) (len failed : ℕ) (taken : Pumped) (result : Result Pumped PumpFault)
+pub asked_by : (s : ServerSettings) (l l' : OneArrival) (step : Step) (new : ServerSettings) (from : Ep) (len failed : ℕ) (taken : Pumped) (result : Result Pumped PumpFault)
     → result ≡ Ok taken → taken ≡ Took from len failed → l.is_taken ≡ false → length l.bytes.now ≤ DATAGRAM_MAX
     → Pumps (λ side from x step new. MeetsRow s side from x step new) (λ side from x. ⊥) new (told_of l) (told_of l') step result
     → step ≡ server_row s l.side l.from l.bytes.now

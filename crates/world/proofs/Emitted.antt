@@ -6,21 +6,29 @@ use Rattle.std.proofs.Math.Seq.{take-append_seam}
 use Rattle.std.proofs.lemmas.Option.{slice_get_within, get_or_from_slice_get}
 use Rattle.td_base.specs.declared.endpoint.Ep.{Ep}
 use Rattle.teredo_node.specs.Step.{Send}
-use Rattle.topology.specs.declared.server_node.ServerNode.{ServerNode}
 use Rattle.history.specs.declared.mark.Mark.{Mark}
 use Rattle.history.specs.declared.mark.Mark.TheVariants as mark
 use Rattle.topology.specs.declared.node.Node.{Node}
-use Rattle.topology.specs.declared.node.Node.TheVariants.{Server as server}
-use Rattle.topology.specs.Topology.{own_ep}
 use Rattle.history.specs.Full.{Item, udp, Made, sent, lost, item_in}
 use Rattle.history.specs.Records.{mark_of, marks_of}
-use Rattle.legal.specs.Emit.{outright, made_outright}
-use Rattle.world.specs.Held.{WireState, with_item, front_of}
-use Rattle.world.specs.Steps.{Extends, Grows}
+use Rattle.legal.specs.Emit.{outright}
+use Rattle.world.specs.Wire.{WireState, with_item, front_of}
+use Rattle.world.specs.declared.outlet.Outlet.{Outlet}
+use Rattle.td_base.specs.declared.side.Side.{Side}
+use Rattle.topology.specs.Topology.{own_ep}
+use Rattle.world.specs.Sends.{source_of, made_by, Extends, Grows}
 
-pub outright_snoc : (a : Node) (j : ℕ) (xs : List Send) (x : Send) → outright a None j (xs ++ x ∷ []) ≡ outright a None j xs ++ made_outright false a x ∷ []
-outright_snoc a j [] x = refl
-outright_snoc a j (y ∷ xs) x = ap (λ (ms : List Made). made_outright false a y ∷ ms) (outright_snoc a (j + 1) xs x)
+-- one send more
+made_more : (outlet : Outlet) (xs : List Send) (x : Send) → made_by outlet (xs ++ x ∷ []) ≡ made_by outlet xs ++ sent (udp (source_of outlet x.side) x.to x.bytes) ∷ []
+made_more outlet [] x = refl
+made_more outlet (y ∷ xs) x = ap (λ (ms : List Made). sent (udp (source_of outlet y.side) y.to y.bytes) ∷ ms) (made_more outlet xs x)
+
+-- by an outlet with a node's own endpoints its sends leave outright
+pub made_outright_by : (outlet : Outlet) (a : Node) (j : ℕ) (xs : List Send) → ((side : Side) → source_of outlet side ≡ own_ep a side) → made_by outlet xs ≡ outright a None j xs
+made_outright_by outlet a j [] own = refl
+made_outright_by outlet a j (x ∷ xs) own =
+    ap (λ (from : Ep). sent (udp from x.to x.bytes) ∷ made_by outlet xs) (own x.side)
+    ∙ ap (λ (ms : List Made). sent (udp (own_ep a x.side) x.to x.bytes) ∷ ms) (made_outright_by outlet a (j + 1) xs own)
 
 -- the entries among what was made
 abbrev pub entries_in : List Made → List Item
@@ -59,35 +67,39 @@ both_marks a b ms ns said more p is next =
     rw (next, is, behind, marks_append (length a.items) ms ns) refl
 
 -- the first i sends are on the wire, with their marks
-pub record SoFar (old now : WireState) (row : ServerNode) (sends : List Send) (i : ℕ) (said : List Mark) : Type 0 where
-  pub grows : Grows old now (outright (server row) None 0 (take i sends))
-  pub marks : said ≡ marks_of (length old.items) (outright (server row) None 0 (take i sends))
+pub record SoFar (old now : WireState) (outlet : Outlet) (sends : List Send) (i : ℕ) (said : List Mark) : Type 0 where
+  pub grows : Grows old now (made_by outlet (take i sends))
+  pub marks : said ≡ marks_of (length old.items) (made_by outlet (take i sends))
   pub entries : length now.items ≡ length old.items + i
   pub count : length said ≡ i
 
-pub none_yet : (w : WireState) (row : ServerNode) (sends : List Send) (marks : List Mark) → marks ≡ [] → SoFar w w row sends 0 marks
-none_yet w row sends marks e = record {
+pub none_yet : (w : WireState) (outlet : Outlet) (sends : List Send) (marks : List Mark) → marks ≡ [] → SoFar w w outlet sends 0 marks
+none_yet w outlet sends marks e = record {
   grows = record { items = sym (append-nil w.items); done = sym (append-nil w.done) };
   marks = e;
   entries = omega arith;
   count = ap (λ (ms : List Mark). length ms) e;
 }
 
-pub one_more : (old now new : WireState) (row : ServerNode) (sends : List Send) (i : ℕ) (marks : List Mark) (x : Send) (number : ℕ) (src : Ep) (bytes : List ℕ)
-    → SoFar old now row sends i marks → slice_get sends i ≡ Some x
-    → number ≡ length now.items → src ≡ own_ep (server row) x.side → bytes ≡ x.bytes
-    → new ≡ with_item now (udp src x.to bytes)
-    → SoFar old new row sends (i + 1) (marks ++ mark.Udp number src x.to (length x.bytes) ∷ [])
-one_more old now new row sends i marks x number src bytes so at next from copied is =
-    let front = outright (server row) None 0 (take i sends) in
-    let item = udp (own_ep (server row) x.side) x.to x.bytes in
-    let one : Grows now new (sent item ∷ []) = rw (is, from, copied) (record { items = refl; done = refl }) in
+-- the datagram that was put, and what was said of it
+pub record Puts (now new : WireState) (outlet : Outlet) (x : Send) (number : ℕ) (src : Ep) : Type 0 where
+  pub numbered : number ≡ length now.items
+  pub leaves : src ≡ source_of outlet x.side
+  pub item : new ≡ with_item now (udp src x.to x.bytes)
+
+pub one_more : (old now new : WireState) (outlet : Outlet) (sends : List Send) (i : ℕ) (marks : List Mark) (x : Send) (number : ℕ) (src : Ep)
+    → SoFar old now outlet sends i marks → slice_get sends i ≡ Some x → Puts now new outlet x number src
+    → SoFar old new outlet sends (i + 1) (marks ++ mark.Udp number src x.to (length x.bytes) ∷ [])
+one_more old now new outlet sends i marks x number src so at puts =
+    let front = made_by outlet (take i sends) in
+    let item = udp (source_of outlet x.side) x.to x.bytes in
+    let one : Grows now new (sent item ∷ []) = rw (puts.item, puts.leaves) (record { items = refl; done = refl }) in
     let more : take (i + 1) sends ≡ take i sends ++ x ∷ [] = take_more sends i x (slice_get_within sends i x at) ∙ ap (λ (y : Send). take i sends ++ y ∷ []) (get_or_from_slice_get sends i x x at) in
-    let made : outright (server row) None 0 (take (i + 1) sends) ≡ front ++ sent item ∷ [] = ap (λ (xs : List Send). outright (server row) None 0 xs) more ∙ outright_snoc (server row) 0 (take i sends) x in
+    let made : made_by outlet (take (i + 1) sends) ≡ front ++ sent item ∷ [] = ap (made_by outlet) more ∙ made_more outlet (take i sends) x in
     let marked = both_marks old now front (sent item ∷ []) marks (marks ++ mark_of (length now.items) (sent item) ∷ []) so.grows so.marks refl in
     record {
       grows = subst (λ (ms : List Made). Grows old new ms) (sym made) (both_parts old now new front (sent item ∷ []) so.grows one);
-      marks = rw (next, from, made) marked;
+      marks = rw (puts.numbered, puts.leaves, made) marked;
       entries = let grown : length new.items ≡ length now.items + 1 = ap (λ (xs : List Item). length xs) one.items ∙ length-append now.items (item ∷ []) in omega (arith, grown, so.entries);
       count = let longer : length (marks ++ mark.Udp number src x.to (length x.bytes) ∷ []) ≡ length marks + 1 = length-append marks _ in omega (arith, longer, so.count);
     }

@@ -1,11 +1,10 @@
-mod Position
-mod Routes
 mod Wires
+mod States
 mod Arrivals
+mod Routes
 mod Emitted
-mod Delivered
-pub mod NextLaws
-mod NoClients
+mod Played
+mod Answered
 mod Opened
-mod NewNats
+mod Unhosted
 mod Stepped

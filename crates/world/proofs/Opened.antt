@@ -1,5 +1,5 @@
 -- The least-numbered entry that was never delivered, by what a world remembers.
-use Rattle.std.proofs.Common.{◌≡◌, ◌<◌, ◌+◌, ℕ, zero, suc, Bool, true, false, List, [], ◌∷◌, length, get_or, append-nil, Some, None, Result, Ok, refl, sym, ap, subst, ◌∙◌, arith}
+use Rattle.std.proofs.Common.{◌≡◌, ◌<◌, ◌+◌, ℕ, zero, suc, Bool, true, false, List, [], ◌∷◌, length, get_or, Some, None, Result, Ok, refl, sym, ap, subst, ◌∙◌, arith}
 use Rattle.teredo_node.specs.declared.fate.Fate.TheVariants as fate
 use Rattle.history.specs.declared.event.Event.TheVariants as event
 use Rattle.history.specs.declared.acts.Verb.TheVariants as verb
@@ -8,10 +8,11 @@ use Rattle.history.specs.declared.turn.Stop.{Stop}
 use Rattle.history.specs.Full.{Item, Full, wire}
 use Rattle.legal.specs.Past.{Draws, was_delivered, first_open, first_undelivered}
 use Rattle.legal.specs.Next.{numbered, plain, blank, delivers, delivers_or, next_of}
-use Rattle.world.specs.Held.{WireState}
-use Rattle.world.specs.Steps.{said, Has, Plays}
+use Rattle.legal.specs.Frame.{EachFrames}
+use Rattle.world.specs.Record.{said}
 use Rattle.world.specs.World.{WorldState, StandsFor}
-use Rattle.world.specs.Playing.{kept_wire}
+use Rattle.world.specs.Playing.{Plays}
+use Rattle.world.proofs.Played.{rests, said_blank}
 
 -- the first ones were all delivered
 open_after : (H : List Full) (i n : ℕ) (xs : List Item) → n < length xs → ((k : ℕ) → k < n → was_delivered (i + k) H ≡ true) → was_delivered (i + n) H ≡ false → first_open H i xs ≡ Some (i + n)
@@ -54,33 +55,22 @@ first_is_none H items done is marks all =
 -- THE EVENT `next`
 
 -- the entry of this number is delivered
-pub plays_next : (old mid new : WorldState) (w : WireState) (d : Draws) (H : List Full) (i n : ℕ) (result : Result Record Stop)
-    → mid ≡ old → kept_wire old ≡ w → StandsFor d old H
-    → (n < length w.items) × (get_or w.done n false ≡ false) × ((k : ℕ) → k < n → get_or w.done k false ≡ true)
-    → (StandsFor d mid H → Plays (kept_wire mid) (kept_wire new) (delivers d mid.topology H (numbered i event.Next) n) result)
-    → Plays (kept_wire old) (kept_wire new) (next_of d old.topology H i event.Next) result
-plays_next old mid new w d H i n result is held s facts plays =
-    let items : w.items ≡ wire H = ap (λ (x : WireState). x.items) (sym held) ∙ s.wire in
-    let marks : (k : ℕ) → get_or w.done k false ≡ was_delivered k H = λ k. ap (λ (x : WireState). get_or x.done k false) (sym held) ∙ s.done k in
-    let first = first_is H w.items w.done n items marks facts.0 facts.1 facts.2 in
+pub plays_next : (d : Draws) (old new : WorldState) (H : List Full) (i n : ℕ) (result : Result Record Stop) → StandsFor d old H
+    → (n < length old.wire) × (get_or old.done n false ≡ false) × ((k : ℕ) → k < n → get_or old.done k false ≡ true)
+    → Plays old new H (delivers d old.topology H (numbered i event.Next) n) result → Plays old new H (next_of d old.topology H i event.Next) result
+plays_next d old new H i n result s facts plays =
     let e = numbered i event.Next in
+    let first = first_is H old.wire old.done n s.wire s.done facts.0 facts.1 facts.2 in
     let next : next_of d old.topology H i event.Next ≡ delivers d old.topology H e n = ap (delivers_or d old.topology H e (blank H e (plain verb.Next) None fate.NoEntry)) first in
-    let played : Plays (kept_wire old) (kept_wire new) (delivers d old.topology H e n) result = subst (λ (x : WorldState). Plays (kept_wire x) (kept_wire new) (delivers d x.topology H e n) result) is (plays (subst (λ (x : WorldState). StandsFor d x H) (sym is) s)) in
-    subst (λ (r : Full). Plays (kept_wire old) (kept_wire new) r result) (sym next) played
+    subst (λ (r : Full). Plays old new H r result) (sym next) plays
 
 -- there is none
-pub plays_none : (old new : WorldState) (w : WireState) (d : Draws) (H : List Full) (i m : ℕ) (word : Record)
-    → kept_wire new ≡ kept_wire old → kept_wire old ≡ w → m ≡ old.moment → StandsFor d old H
-    → ((k : ℕ) → k < length w.items → get_or w.done k false ≡ true)
-    → word ≡ said m i (plain verb.Next) None fate.NoEntry []
-    → Plays (kept_wire old) (kept_wire new) (next_of d old.topology H i event.Next) (Ok word)
-plays_none old new w d H i m word same held at s all says =
-    let items : w.items ≡ wire H = ap (λ (x : WireState). x.items) (sym held) ∙ s.wire in
-    let marks : (k : ℕ) → get_or w.done k false ≡ was_delivered k H = λ k. ap (λ (x : WireState). get_or x.done k false) (sym held) ∙ s.done k in
+pub plays_none : EachFrames → (d : Draws) (old : WorldState) (H : List Full) (i : ℕ) → StandsFor d old H → ((k : ℕ) → k < length old.wire → get_or old.done k false ≡ true)
+    → Plays old old H (next_of d old.topology H i event.Next) (Ok (said old.moment i (plain verb.Next) None fate.NoEntry []))
+plays_none frame d old H i s all =
     let e = numbered i event.Next in
     let last = blank H e (plain verb.Next) None fate.NoEntry in
-    let next : next_of d old.topology H i event.Next ≡ last = ap (delivers_or d old.topology H e last) (first_is_none H w.items w.done items marks all) in
-    subst (λ (r : Full). Plays (kept_wire old) (kept_wire new) r (Ok word)) (sym next) (
-      says ∙ ap (λ (j : ℕ). said j i (plain verb.Next) None fate.NoEntry []) (at ∙ s.moment),
-      subst (λ (x : WireState). Has (kept_wire old) x last) (sym same) (record { items = sym (append-nil old.wire); done = λ k. refl }),
-    )
+    let next : next_of d old.topology H i event.Next ≡ last = ap (delivers_or d old.topology H e last) (first_is_none H old.wire old.done s.wire s.done all) in
+    subst (λ (r : Full). Plays old old H r (Ok (said old.moment i (plain verb.Next) None fate.NoEntry []))) (sym next)
+    (said_blank old.moment H e (plain verb.Next) None fate.NoEntry None s.moment,
+      rests frame old old H last s.nats (record { made = refl; nothing = refl; moment = s.moment; nodes = refl; wire = refl; done = λ k. refl }))

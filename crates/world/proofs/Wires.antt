@@ -3,7 +3,7 @@ use Rattle.std.proofs.Common.{◌≡◌, ◌≤◌, ℕ, zero, suc, false, Bool,
 use Rattle.std.specs.List.{AllByRecursion}
 use Rattle.std.proofs.lemmas.List.{get_or-take, length-take-le}
 use Rattle.history.specs.Full.{Item}
-use Rattle.world.specs.Held.{IsShort, IsWire}
+use Rattle.world.specs.Wire.{IsShort, IsWire}
 
 pub all_take : {X : Type 0} (P : X → Type 0) (n : ℕ) (xs : List X) → AllByRecursion P xs → AllByRecursion P (take n xs)
 all_take P zero xs all = tt

@@ -1,8 +1,9 @@
-pub mod Held
-pub mod Lent
-pub mod Arriving
-pub mod Ways
-pub mod Knows
-pub mod Steps
+pub mod Wire
+pub mod WireEntry
+pub mod OneArrival
+pub mod NodeState
+pub mod Way
+pub mod Sends
+pub mod Record
 pub mod World
 pub mod Playing

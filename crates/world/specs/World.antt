@@ -1,6 +1,14 @@
 -- What contracts see of a world, and how `step` follows the history.
-use Rattle.std.specs.Prelude.{◌≡◌, ℕ, ◌+◌, ◌-◌, ◌<◌, nat_le, max, if◌then◌else◌, Bool, true, false, List, [], ◌∷◌, ◌++◌, length, filter, sum_by, get_or, Option, Some, None}
-use Rattle.nat_kinds.specs.Nat.{NatState}
+use Rattle.std.specs.Prelude.{◌≡◌, ℕ, ◌+◌, ◌-◌, ◌<◌, nat_le, max, if◌then◌else◌, Bool, true, false, List, [], ◌∷◌, ◌++◌, length, filter, flat_map, sum_by, get_or, option_to_list, Option, Some, None}
+use Rattle.td_base.specs.declared.ipv6.Ip6.{Ip6}
+use Rattle.peer_list.specs.Mentions.{Mention}
+use Rattle.peer_list.specs.Listed.{listed}
+use Rattle.peer_list.specs.Peers.{Peer, known}
+use Rattle.peer_list.specs.Judged.{is_none, due_of}
+use Rattle.qualify.specs.Qualification.{qualification}
+use Rattle.client_core.specs.Bearings as client_bearings
+use Rattle.relay_core.specs.Bearings as relay_bearings
+use Rattle.legal.specs.Settings.{client_settings}
 use Rattle.history.specs.declared.event.Event.{Event}
 use Rattle.history.specs.declared.event.Event.TheVariants as event
 use Rattle.history.specs.declared.records.Record.{Record}
@@ -10,6 +18,7 @@ use Rattle.history.specs.declared.turn.Stop.{Stop}
 use Rattle.history.specs.declared.turn.Stop.TheVariants.{WireFull, NoMemory}
 use Rattle.topology.specs.Rows.{TopologyState}
 use Rattle.topology.specs.declared.node.Node.{Node}
+use Rattle.topology.specs.declared.node.Node.TheVariants.{Server as server, Nat as nat, Client as client, Relay as relay, Native as native}
 use Rattle.topology.specs.Topology.{nodes}
 use Rattle.history.specs.Full.{Item, Full, wire, items_of}
 use Rattle.history.specs.Records.{record_of}
@@ -18,23 +27,36 @@ use Rattle.world.specs.declared.wire.TheConstants.{MOST_ENTRIES}
 use Rattle.world.specs.declared.world.TheConstants.{MOST_LEFT, MOST_MOMENT}
 use Rattle.teredo_node.specs.declared.fate.Fate.{Fate}
 use Rattle.teredo_node.specs.declared.fate.Fate.TheVariants as fate
-use Rattle.legal.specs.Past.{now, began, has_more, going, was_delivered, Draws}
+use Rattle.legal.specs.Past.{now, began, has_more, going, journal, was_delivered, Draws}
 use Rattle.legal.specs.Next.{next_of}
 use Rattle.legal.specs.Legal.{Grown}
-use Rattle.world.specs.Ways.{NatsOf}
+use Rattle.world.specs.declared.node_state.NodeState.{NodeState}
+use Rattle.world.specs.NodeState.{NatsOf}
+use Rattle.world.specs.Wire.{WireState}
 
 pub record WorldState : Type 0 where
   pub topology : TopologyState
   pub moment : ℕ
   pub began : ℕ  -- when the event of the next record began
   pub going : Option Event  -- the event that goes on: the next record is of it
-  pub nats : List NatState
+  pub nodes : List NodeState
   pub wire : List Item
   pub done : List Bool  -- for each entry of the wire, whether it was delivered
   pub left : ℕ  -- falls with each further record of an event
   pub stopped : Option Stop
 
+-- between two events: nothing goes on
+abbrev pub at_rest : TopologyState → ℕ → List NodeState → WireState → Option Stop → WorldState
+at_rest t m nodes wire stopped = record { topology = t; moment = m; began = m; going = None; nodes = nodes; wire = wire.items; done = wire.done; left = MOST_LEFT; stopped = stopped }
+
 -- servers and NATs alone: the nodes of a world so far
+abbrev pub IsBuilt : Node → Type 0
+IsBuilt (server a) = Unit {0}
+IsBuilt (nat a) = Unit {0}
+IsBuilt (client c) = ⊥
+IsBuilt (relay r) = ⊥
+IsBuilt (native h) = ⊥
+
 pub record HasNoHosts (t : TopologyState) : Type 0 where
   pub clients : t.clients ≡ []
   pub relays : t.relays ≡ []
@@ -42,9 +64,19 @@ pub record HasNoHosts (t : TopologyState) : Type 0 where
 
 -- WHAT IS LEFT OF AN EVENT
 
--- all due moments of a node: a server and a NAT have none
+-- when the packets that wait for a listed peer are due
+abbrev pub waits_until : Peer → List ℕ
+waits_until peer = if is_none peer.waiting then [] else due_of peer ∷ []
+
+-- the due moments of all peers, as a journal mentions them, at a moment
+abbrev pub peers_due : List Mention → ℕ → List ℕ
+peers_due j m = flat_map (λ (p : Ip6). waits_until (known j m p)) (listed j m)
+
+-- all due moments of a node: a client's phase or refresh, and its peers; a relay's peers
 abbrev pub due_moments : TopologyState → List Full → ℕ → Node → List ℕ
-due_moments t H n a = []
+due_moments t H n (client c) = option_to_list (qualification (client_settings t c) (journal n H)).due ++ peers_due (client_bearings.mentions (journal n H).entries) (now H)
+due_moments t H n (relay r) = peers_due (relay_bearings.mentions (journal n H).entries) (now H)
+due_moments t H n _ = []
 
 abbrev pub all_due : TopologyState → List Full → ℕ → List Node → List ℕ
 all_due t H n [] = []
@@ -71,7 +103,7 @@ pub record StandsFor (d : Draws) (w : WorldState) (H : List Full) : Type 0 where
   pub moment : w.moment ≡ now H
   pub began : w.began ≡ began H
   pub going : w.going ≡ going H
-  pub nats : NatsOf w.topology w.nats H
+  pub nats : NatsOf w.topology w.nodes H
   pub wire : w.wire ≡ wire H
   pub done : (i : ℕ) → get_or w.done i false ≡ was_delivered i H
   pub left : w.left ≡ left w.topology H

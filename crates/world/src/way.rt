@@ -1,82 +1,121 @@
-//! Where a datagram goes.
-ghost use Rattle.std.specs.Prelude.{◌≡◌, ◌≤◌, ℕ, List, length, position};
-ghost use Rattle.topology.specs.declared.node.Node.TheVariants.{Server as server, Nat as nat};
-ghost use Rattle.topology.specs.Topology.{is_at};
-ghost use Rattle.history.specs.Full.{Full, udp};
-ghost use Rattle.legal.specs.Emit.{route};
-ghost use Rattle.world.specs.Ways.{by_way, topology_of, NatsOf, AreReady};
+//! Where an entry of the wire goes.
+ghost use Rattle.std.specs.Prelude.{◌≡◌, ℕ, List, Some};
+ghost use Rattle.topology.specs.declared.nat_node.NatNode.{NatNode};
+ghost use Rattle.topology.specs.Rows.{TopologyState};
+ghost use Rattle.topology.specs.Topology.{nat_at, nat_settings};
+ghost use Rattle.nat_kinds.specs.Entering.{lets_in};
+ghost use Rattle.history.specs.Full.{Full, udp, six};
+ghost use Rattle.legal.specs.Past.{nat_history};
+ghost use Rattle.legal.specs.Emit.{reach, route_inside, route};
+ghost use Rattle.world.specs.WireEntry.{item_lent};
+ghost use Rattle.world.specs.NodeState.{NatsOf, AreReady};
+ghost use Rattle.world.specs.Way.{by_way, IsThere};
 
-use history::{MOST_NATS, MOST_SERVERS, NatNode, ServerNode};
-use nat_kinds::Nat;
+use crate::node_state::NodeState;
+use crate::wire::WireEntry;
 use td_base::{Ep, Millis};
+use topology::{Node, Topology};
 
-/// Where a datagram goes: to a server, to a NAT that lets it in to nobody, or to nobody at all. Nodes stand by their
+/// Where an entry goes: to a node, to a NAT that lets it in to nobody, or to nobody at all. Nodes stand by their
 /// numbers.
 #[derive(Clone, Copy, Debug)]
 pub enum Way {
-    Server { node: u16, row: ServerNode },
-    Closed { node: u16 },
+    Reaches { number: u16, node: Node },
+    Closed { number: u16 },
     Astray,
 }
 
-/// Whether datagrams to an endpoint come to the server.
-fn is_at_server(row: &ServerNode, dst: Ep) -> bool
-    ensures { result ≡ is_at dst (server row.now) }
+/// The way to the node of a number.
+fn way_to(topology: &Topology, number: Option<u16>) -> Way
+    ensures way { by_way result ≡ reach topology.now number }
+    ensures there { IsThere topology.now result }
 {
-    dst == Ep::of_server(row.primary) || dst == Ep::of_server(row.secondary)
-}
-
-/// Whether datagrams to an endpoint come to the NAT.
-fn is_at_nat(row: &NatNode, dst: Ep) -> bool
-    ensures { result ≡ is_at dst (nat row.now) }
-{
-    dst.ip == row.external
-}
-
-/// The place of the server that datagrams to an endpoint come to.
-fn server_at(servers: &[ServerNode], dst: Ep) -> Option<usize>
-    ensures { result ≡ position (λ row. is_at dst (server row)) servers.now }
-{
-    servers.iter().position(|row| is_at_server(row, dst))
-}
-
-/// The place of the NAT that datagrams to an endpoint come to.
-fn nat_at(rows: &[NatNode], dst: Ep) -> Option<usize>
-    ensures { result ≡ position (λ row. is_at dst (nat row)) rows.now }
-{
-    rows.iter().position(|row| is_at_nat(row, dst))
-}
-
-/// The way of a datagram that is delivered now.
-pub fn way_of(
-    servers: &[ServerNode],
-    rows: &[NatNode],
-    nats: &[Nat],
-    now: Millis,
-    src: Ep,
-    dst: Ep,
-) -> Way
-    requires few { length servers.now ≤ MOST_SERVERS }
-    requires rows { length rows.now ≤ MOST_NATS }
-    requires each { length nats.now ≡ length rows.now }
-    requires ready { AreReady now.0 nats.now }
-    ensures { (H : List Full) → NatsOf (topology_of servers.now rows.now) nats.now H
-        → (bytes : List ℕ) → route (topology_of servers.now rows.now) H now.0 (udp src dst bytes) ≡ by_way result }
-{
-    if let Some(place) = server_at(servers, dst) {
-        return Way::Server {
-            node: place as u16,
-            row: servers[place],
-        };
-    }
-    let Some(place) = nat_at(rows, dst) else {
+    let Some(number) = number else {
         return Way::Astray;
     };
-    match nats[place].inward(now, src, dst.port) {
-        None => Way::Closed {
-            node: (servers.len() + place) as u16,
-        },
-        // Nobody is behind a NAT yet.
-        Some(_) => Way::Astray,
+    let Some(node) = topology.node(usize::from(number)) else {
+        return Way::Astray;
+    };
+    Way::Reaches { number, node }
+}
+
+/// The inside endpoint that a NAT lets a datagram in to.
+fn inside_of(states: &[NodeState], nat: u16, now: Millis, src: Ep, port: u16) -> Option<Ep>
+    requires ready { AreReady now.0 states.now }
+    ensures { (H : List Full) (t : TopologyState) → NatsOf t states.now H → (a : NatNode) → nat_at t nat ≡ Some a
+        → result ≡ lets_in (nat_settings a) (nat_history t nat H) now.0 src port }
+{
+    let state = states.get(usize::from(nat))?;
+    match state {
+        NodeState::Nat(nat) => nat.inward(now, src, port),
+        NodeState::Nothing => None,
+    }
+}
+
+/// The way through a NAT.
+fn way_inside(
+    topology: &Topology,
+    states: &[NodeState],
+    nat: u16,
+    now: Millis,
+    src: Ep,
+    port: u16,
+) -> Way
+    requires ready { AreReady now.0 states.now }
+    ensures there { IsThere topology.now result }
+    ensures way { (H : List Full) → NatsOf topology.now states.now H → (a : NatNode) → nat_at topology.now nat ≡ Some a
+        → by_way result ≡ route_inside topology.now nat (lets_in (nat_settings a) (nat_history topology.now nat H) now.0 src port) }
+{
+    match inside_of(states, nat, now, src, port) {
+        None => Way::Closed { number: nat },
+        Some(inside) => way_to(topology, topology.client_behind(nat, inside)),
+    }
+}
+
+/// The way of a datagram.
+fn datagram_way(topology: &Topology, states: &[NodeState], now: Millis, src: Ep, dst: Ep) -> Way
+    requires ready { AreReady now.0 states.now }
+    ensures there { IsThere topology.now result }
+    ensures way { (H : List Full) → NatsOf topology.now states.now H → (bytes : List ℕ)
+        → by_way result ≡ route topology.now H now.0 (udp src dst bytes) }
+{
+    let Some(number) = topology.at(dst) else {
+        return Way::Astray;
+    };
+    let Some(node) = topology.node(usize::from(number)) else {
+        return Way::Astray;
+    };
+    match node {
+        Node::Nat(_) => way_inside(topology, states, number, now, src, dst.port),
+        Node::Server(_) => Way::Reaches { number, node },
+        Node::Client(_) => Way::Reaches { number, node },
+        Node::Relay(_) => Way::Reaches { number, node },
+        Node::Native(_) => Way::Reaches { number, node },
+    }
+}
+
+/// The way of an IPv6 packet: to its relay, or to the native host with its destination.
+fn packet_way(topology: &Topology, relay: Option<u16>, bytes: &[u8]) -> Way
+    ensures there { IsThere topology.now result }
+    ensures way { (H : List Full) (m : ℕ) → by_way result ≡ route topology.now H m (six relay bytes.now) }
+{
+    if let Some(relay) = relay {
+        return way_to(topology, Some(relay));
+    }
+    match ipv6_packet::read(bytes) {
+        Ok(packet) => way_to(topology, topology.native_with(packet.dst)),
+        Err(_) => Way::Astray,
+    }
+}
+
+/// The way of an entry that is delivered now.
+pub fn way_of(topology: &Topology, states: &[NodeState], now: Millis, entry: WireEntry) -> Way
+    requires ready { AreReady now.0 states.now }
+    ensures there { IsThere topology.now result }
+    ensures way { (H : List Full) → NatsOf topology.now states.now H → by_way result ≡ route topology.now H now.0 (item_lent entry.entry) }
+{
+    match entry {
+        WireEntry::Udp { src, dst, .. } => datagram_way(topology, states, now, src, dst),
+        WireEntry::Six { relay, bytes } => packet_way(topology, relay, bytes),
     }
 }

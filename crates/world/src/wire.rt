@@ -2,8 +2,8 @@
 ghost use Rattle.std.specs.Prelude.{◌≡◌, ◌<◌, ◌≤◌, ◌∷◌, [], ◌++◌, ℕ, true, false, length, map, take, set, get_or, slice_get, option_map, OnOk, OnErr, IfSome, IfNone};
 ghost use Rattle.history.specs.Full.{udp, six, bytes_of};
 ghost use Rattle.history.specs.declared.event.TheConstants.{MOST_BYTES};
-ghost use Rattle.world.specs.Held.{item_of, WireState, no_wire, with_item, front_of, IsForAnybody};
-ghost use Rattle.world.specs.Lent.{item_lent};
+ghost use Rattle.world.specs.Wire.{item_of, WireState, no_wire, with_item, front_of};
+ghost use Rattle.world.specs.WireEntry.{item_lent};
 
 use std::alloc::Global;
 use std::marker::Model;
@@ -18,8 +18,8 @@ pub const MOST_ENTRIES: usize = 65_536;
 pub enum Entry {
     /// A datagram.
     Udp { src: Ep, dst: Ep, bytes: Octets },
-    /// An IPv6 packet, for whoever has its destination.
-    Six { bytes: Octets },
+    /// An IPv6 packet, for the relay of that number, or for whoever has its destination.
+    Six { relay: Option<u16>, bytes: Octets },
 }
 
 /// An entry of the wire, lent.
@@ -54,7 +54,7 @@ pub struct Wire {
 
 impl Model for Wire {
     ghost use Rattle.std.specs.Prelude.{map};
-    ghost use Rattle.world.specs.Held.{item_of, WireState, IsWire};
+    ghost use Rattle.world.specs.Wire.{item_of, WireState, IsWire};
 
     ghost Value = { WireState };
 
@@ -90,7 +90,6 @@ impl Wire {
         ensures within { IfSome result (λ _. number < length self.now.items) }
         ensures marked { IfSome result (λ _. number < length self.now.done) }
         ensures short { IfSome result (λ e. length (bytes_of (item_lent e)) ≤ MOST_BYTES) }
-        ensures anybody { IfSome result (λ e. IsForAnybody (item_lent e)) }
     {
         lend(self.entries.as_slice(), number)
     }
@@ -119,14 +118,14 @@ impl Wire {
         self.push(Entry::Udp { src, dst, bytes })
     }
 
-    /// Appends an IPv6 packet, for whoever has its destination.
-    pub fn push_packet(&mut self, bytes: Octets) -> Result<(), NoMemory>
+    /// Appends an IPv6 packet, for the relay of that number, or for whoever has its destination.
+    pub fn push_packet(&mut self, relay: Option<u16>, bytes: Octets) -> Result<(), NoMemory>
         requires room { length self.old.items < MOST_ENTRIES }
         requires short { length bytes ≤ MOST_BYTES }
-        ensures ok { OnOk result (self.new ≡ with_item self.old (six None bytes)) }
+        ensures ok { OnOk result (self.new ≡ with_item self.old (six relay bytes)) }
         ensures err { OnErr result (self.new ≡ self.old) }
     {
-        self.push(Entry::Six { bytes })
+        self.push(Entry::Six { relay, bytes })
     }
 
     /// Takes away all but the first `len` entries.
@@ -167,8 +166,7 @@ impl Wire {
 
 /// What an entry lends.
 fn lend_entry(entry: &Entry) -> WireEntry<'_>
-    ensures lent { item_lent result ≡ item_of entry.now }
-    ensures anybody { IsForAnybody (item_lent result) }
+    ensures { item_lent result ≡ item_of entry.now }
 {
     match entry {
         Entry::Udp { src, dst, bytes } => WireEntry::Udp {
@@ -176,8 +174,8 @@ fn lend_entry(entry: &Entry) -> WireEntry<'_>
             dst: *dst,
             bytes: bytes.as_slice(),
         },
-        Entry::Six { bytes } => WireEntry::Six {
-            relay: None,
+        Entry::Six { relay, bytes } => WireEntry::Six {
+            relay: *relay,
             bytes: bytes.as_slice(),
         },
     }
@@ -185,8 +183,7 @@ fn lend_entry(entry: &Entry) -> WireEntry<'_>
 
 /// Lends the entry at a place.
 fn lend(entries: &[Entry], number: usize) -> Option<WireEntry<'_>>
-    ensures lent { option_map item_lent result ≡ slice_get (map item_of entries.now) number }
-    ensures anybody { IfSome result (λ e. IsForAnybody (item_lent e)) }
+    ensures { option_map item_lent result ≡ slice_get (map item_of entries.now) number }
 {
     let entry = entries.get(number)?;
     Some(lend_entry(entry))

@@ -1,32 +1,33 @@
-ghost use Rattle.std.specs.Prelude.{◌≡◌, ◌<◌, ◌≤◌, ◌+◌, List, [], ◌∷◌, length, Some, None, slice_get, option_map, Err, IfSome, IfOk, IfErr, OnErr, IsErrOf};
+ghost use Rattle.std.specs.Prelude.{◌≡◌, ◌<◌, ◌≤◌, ◌+◌, List, [], length, None, Ok, Err, slice_get, option_map, IfSome, IfOk, IfErr, OnErr};
 ghost use Rattle.teredo_node.specs.declared.fate.Fate.TheVariants as fates;
 ghost use Rattle.history.specs.declared.event.Event.{Event};
 ghost use Rattle.history.specs.declared.event.Event.TheVariants as event;
-ghost use Rattle.history.specs.declared.event.TheConstants.{MOST_ADVANCE};
+ghost use Rattle.history.specs.declared.event.TheConstants.{MOST_ADVANCE, MOST_BYTES};
 ghost use Rattle.history.specs.declared.acts.Verb.TheVariants as verb;
 ghost use Rattle.history.specs.Events.{IsEvent};
 ghost use Rattle.history.specs.Full.{Full};
+ghost use Rattle.legal.specs.Past.{Draws, forgotten};
+ghost use Rattle.legal.specs.Next.{numbered, plain, puts, copies, delivers, next_of};
+ghost use Rattle.legal.specs.Legal.{draws};
 ghost use Rattle.world.specs.declared.wire.TheConstants.{MOST_ENTRIES};
 ghost use Rattle.world.specs.declared.world.TheConstants.{MOST_MOMENT};
-ghost use Rattle.legal.specs.Past.{Draws};
-ghost use Rattle.legal.specs.Legal.{draws};
-ghost use Rattle.legal.specs.Next.{numbered, plain, delivers, next_of};
-ghost use Rattle.world.specs.Lent.{item_lent};
-ghost use Rattle.world.specs.Ways.{NatsOf, AreReady, AreNew, IsRestartOf};
-ghost use Rattle.world.specs.Steps.{said, Plays};
+ghost use Rattle.world.specs.WireEntry.{item_lent};
 ghost use Rattle.world.specs.World.{StandsFor, HasNoHosts, IsAgain, EndsInTime, Steps, StopsFor, Stays, Falls};
-ghost use Rattle.world.specs.Playing.{kept_wire, PlaysOut};
+ghost use Rattle.world.specs.Playing.{Plays};
 
-use crate::deliveries::deliver;
-use crate::puts::{copy, put_bytes};
-use crate::quiet::quiet;
+use crate::answer::{answer, handed_of, packet_of};
+use crate::node_state::{NodeState, first_states, restart_at};
+use crate::outlet::Outlet;
+use crate::record::{acted, blank};
+use crate::way::{Way, way_of};
 use crate::wire::{MOST_ENTRIES, Wire, WireEntry};
-use history::{Act, Event, NatNode, Record, ServerNode, Stop, Topology, Turn, Verb};
-use nat_kinds::Nat;
+use history::{Act, Event, Mark, Record, Stop, Turn, Verb};
 use std::alloc::Global;
 use std::marker::Model;
-use td_base::{Millis, NoMemory};
+use td_base::{Ep, Millis, NoMemory};
+use td_outside::Octets;
 use teredo_node::{Fate, Step};
+use topology::Topology;
 
 /// More than is left of any event after a record of it: an advance of a thousand million milliseconds, and what falls
 /// due in it.
@@ -37,72 +38,41 @@ pub const MOST_MOMENT: u64 = 281_474_976_710_656;
 
 /// The nodes of a scenario, and everything that they sent.
 #[derive(Drop)]
-pub struct World {
-    servers: Vec<ServerNode>,
-    rows: Vec<NatNode>,
-    nats: Vec<Nat>,
-    moment: Millis,
+pub struct World<'a> {
+    topology: &'a Topology,
+    nodes: Vec<NodeState>,
     wire: Wire,
+    moment: Millis,
     stopped: Option<Stop>,
     // what the node does that is being asked
     step: Step,
 }
 
-impl Model for World {
-    ghost use Rattle.std.specs.Prelude.{◌≡◌, ◌≤◌, length, None};
-    ghost use Rattle.topology.specs.declared.topology.TheConstants.{MOST_SERVERS, MOST_NATS};
-    ghost use Rattle.world.specs.declared.world.TheConstants.{MOST_LEFT};
-    ghost use Rattle.world.specs.Ways.{topology_of, AreReady};
-    ghost use Rattle.world.specs.World.{WorldState};
+impl<'a> Model for World<'a> {
+    ghost use Rattle.world.specs.NodeState.{AreReady};
+    ghost use Rattle.world.specs.World.{WorldState, at_rest, HasNoHosts};
 
     ghost Value = { WorldState };
 
-    ghost view = { λ w. record {
-      topology = topology_of w.servers.items w.rows.items;
-      moment = w.moment.0;
-      began = w.moment.0;
-      going = None;
-      nats = w.nats.items;
-      wire = w.wire.items;
-      done = w.wire.done;
-      left = MOST_LEFT;
-      stopped = w.stopped;
-    } };
+    ghost view = { λ w. at_rest w.topology.now w.moment.0 w.nodes.items w.wire w.stopped };
 
-    ghost invariant = { λ w. (length w.servers.items ≤ MOST_SERVERS) × (length w.rows.items ≤ MOST_NATS)
-        × (length w.nats.items ≡ length w.rows.items) × AreReady w.moment.0 w.nats.items };
+    ghost invariant = { λ w. HasNoHosts w.topology.now × AreReady w.moment.0 w.nodes.items };
 }
 
-/// A NAT for each row, as it is at first.
-fn nats_of(alloc: Global, rows: &[NatNode]) -> Result<Vec<Nat>, NoMemory>
-    ensures each { IfOk result (λ nats. length nats.items ≡ length rows.now) }
-    ensures ready { IfOk result (λ nats. AreReady 0 nats.items) }
-    ensures new { IfOk result (λ nats. AreNew rows.now nats.items) }
-{
-    let mut nats = Vec::new(alloc);
-    for row in rows {
-        nats.push(Nat::new(alloc, row.kind, row.external, row.idle))?;
-    }
-    Ok(nats)
-}
-
-impl World {
+impl<'a> World<'a> {
     /// The nodes at moment 0, with nothing on the wire. The seed is that of the nodes' random words.
-    pub fn new(alloc: Global, topology: &Topology, seed: u64) -> Result<World, NoMemory>
+    pub fn new(alloc: Global, topology: &'a Topology, seed: u64) -> Result<World<'a>, NoMemory>
         requires built { HasNoHosts topology.now }
         ensures topology { IfOk result (λ w. w.topology ≡ topology.now) }
         ensures stands { IfOk result (λ w. StandsFor (draws seed) w []) }
         ensures goes_on { IfOk result (λ w. w.stopped ≡ None) }
     {
-        let servers = Vec::from_slice(alloc, topology.servers())?;
-        let rows = Vec::from_slice(alloc, topology.nats())?;
-        let nats = nats_of(alloc, topology.nats())?;
+        let nodes = first_states(alloc, topology)?;
         Ok(World {
-            servers,
-            rows,
-            nats,
-            moment: Millis(0),
+            topology,
+            nodes,
             wire: Wire::new(alloc),
+            moment: Millis(0),
             stopped: None,
             step: Step::new(),
         })
@@ -123,94 +93,183 @@ impl World {
         self.wire.get(number as usize)
     }
 
+    /// Delivers entry `number` to whoever is at its destination.
     fn deliver(&mut self, index: u32, number: u32) -> Result<Record, Stop>
-        ensures plays { (d : Draws) (H : List Full) (e : Event) → StandsFor d self.old H
-            → Plays (kept_wire self.old) (kept_wire self.new) (delivers d self.old.topology H (numbered index e) number) result }
+        ensures plays { (d : Draws) (H : List Full) → StandsFor d self.old H → (e : Event) → forgotten self.old.topology e ≡ []
+            → Plays self.old self.new H (delivers d self.old.topology H (numbered index e) number) result }
         ensures rest { self.new ≡ record self.old { wire = self.new.wire; done = self.new.done } }
-        ensures grows { length self.new.wire ≤ length self.old.wire + 1 }
         ensures err { OnErr result (self.new ≡ self.old) }
-        ensures full { IsErrOf result Stop.WireFull → MOST_ENTRIES ≤ length self.old.wire }
     {
-        deliver(
-            *self.servers.allocator(),
-            self.servers.as_slice(),
-            self.rows.as_slice(),
-            self.nats.as_slice(),
-            self.moment,
-            &mut self.wire,
-            &mut self.step,
-            index,
-            number,
-        )
-    }
-
-    fn deliver_next(&mut self, index: u32) -> Result<Record, Stop>
-        ensures plays { (d : Draws) (H : List Full) → StandsFor d self.old H
-            → Plays (kept_wire self.old) (kept_wire self.new) (next_of d self.old.topology H index event.Next) result }
-        ensures rest { self.new ≡ record self.old { wire = self.new.wire; done = self.new.done } }
-        ensures grows { length self.new.wire ≤ length self.old.wire + 1 }
-        ensures err { OnErr result (self.new ≡ self.old) }
-        ensures full { IsErrOf result Stop.WireFull → MOST_ENTRIES ≤ length self.old.wire }
-    {
-        match self.wire.first_undelivered() {
-            Some(number) => self.deliver(index, number as u32),
-            None => {
-                let act = Act::Plain { verb: Verb::Next };
-                Ok(quiet(self.moment, index, act, None, Fate::NoEntry))
+        legal::frame();
+        let now = self.moment;
+        let alloc = *self.nodes.allocator();
+        let act = Act::Deliver { number };
+        let place = number as usize;
+        let Some(entry) = self.wire.get(place) else {
+            return Ok(blank(now, index, act, None, Fate::NoEntry));
+        };
+        match way_of(self.topology, self.nodes.as_slice(), now, entry) {
+            Way::Astray => {
+                self.wire.set_delivered(place);
+                Ok(blank(now, index, act, None, Fate::Nowhere))
+            }
+            Way::Closed { number: nat } => {
+                self.wire.set_delivered(place);
+                Ok(blank(now, index, act, Some(nat), Fate::NatClosed))
+            }
+            Way::Reaches { number: at, node } => {
+                answer(node, now, entry, &mut self.step);
+                let Ok(packet) = packet_of(alloc, entry, &self.step) else {
+                    return Err(Stop::NoMemory);
+                };
+                let handed = handed_of(entry, &self.step);
+                let outlet = Outlet::of(node);
+                match outlet.send(alloc, &mut self.wire, &self.step, packet) {
+                    Ok(marks) => {
+                        self.wire.set_delivered(place);
+                        let mut record = acted(now, index, act, at, &self.step, marks);
+                        record.handed = handed;
+                        Ok(record)
+                    }
+                    Err(stop) => Err(stop),
+                }
             }
         }
     }
 
+    /// Delivers the least-numbered entry that was never delivered.
+    fn deliver_next(&mut self, index: u32) -> Result<Record, Stop>
+        ensures plays { (d : Draws) (H : List Full) → StandsFor d self.old H
+            → Plays self.old self.new H (next_of d self.old.topology H index event.Next) result }
+        ensures rest { self.new ≡ record self.old { wire = self.new.wire; done = self.new.done } }
+        ensures err { OnErr result (self.new ≡ self.old) }
+    {
+        legal::frame();
+        match self.wire.first_undelivered() {
+            Some(number) => self.deliver(index, number as u32),
+            None => {
+                let act = Act::Plain { verb: Verb::Next };
+                Ok(blank(self.moment, index, act, None, Fate::NoEntry))
+            }
+        }
+    }
+
+    /// Puts a datagram on the wire.
+    fn put(
+        &mut self,
+        index: u32,
+        act: Act,
+        src: Ep,
+        dst: Ep,
+        bytes: Octets,
+    ) -> Result<Record, Stop>
+        requires room { length self.old.wire < MOST_ENTRIES }
+        requires short { length bytes ≤ MOST_BYTES }
+        ensures plays { (d : Draws) (H : List Full) → StandsFor d self.old H → (e : Event)
+            → Plays self.old self.new H (puts H (numbered index e) act src dst bytes) result }
+        ensures rest { self.new ≡ record self.old { wire = self.new.wire; done = self.new.done } }
+        ensures err { OnErr result (self.new ≡ self.old) }
+    {
+        legal::frame();
+        let number = self.wire.len() as u32;
+        let len = bytes.as_slice().len();
+        let Ok(()) = self.wire.push_datagram(src, dst, bytes) else {
+            return Err(Stop::NoMemory);
+        };
+        let mut record = blank(self.moment, index, act, None, Fate::Put);
+        record.marks.push(Mark::Udp {
+            number,
+            src,
+            dst,
+            len,
+        });
+        Ok(record)
+    }
+
+    /// Puts a datagram with these bytes on the wire.
+    fn put_bytes(
+        &mut self,
+        index: u32,
+        act: Act,
+        src: Ep,
+        dst: Ep,
+        bytes: &[u8],
+    ) -> Result<Record, Stop>
+        requires short { length bytes.now ≤ MOST_BYTES }
+        ensures plays { (d : Draws) (H : List Full) → StandsFor d self.old H → (e : Event)
+            → Plays self.old self.new H (puts H (numbered index e) act src dst bytes.now) result }
+        ensures rest { self.new ≡ record self.old { wire = self.new.wire; done = self.new.done } }
+        ensures err { OnErr result (self.new ≡ self.old) }
+    {
+        if self.wire.len() >= MOST_ENTRIES {
+            return Err(Stop::WireFull);
+        }
+        let Ok(bytes) = Octets::new(*self.nodes.allocator(), bytes) else {
+            return Err(Stop::NoMemory);
+        };
+        self.put(index, act, src, dst, bytes)
+    }
+
+    /// Puts the bytes of entry `number` on the wire again, between other endpoints.
+    fn copy(&mut self, index: u32, number: u32, src: Ep, dst: Ep) -> Result<Record, Stop>
+        ensures plays { (d : Draws) (H : List Full) → StandsFor d self.old H
+            → Plays self.old self.new H (next_of d self.old.topology H index (event.Copy number src dst)) result }
+        ensures rest { self.new ≡ record self.old { wire = self.new.wire; done = self.new.done } }
+        ensures err { OnErr result (self.new ≡ self.old) }
+    {
+        legal::frame();
+        let act = Act::Copy { number };
+        let Some(entry) = self.wire.get(number as usize) else {
+            return Ok(blank(self.moment, index, act, None, Fate::NoEntry));
+        };
+        if self.wire.len() >= MOST_ENTRIES {
+            return Err(Stop::WireFull);
+        }
+        let Ok(bytes) = Octets::new(*self.nodes.allocator(), entry.bytes()) else {
+            return Err(Stop::NoMemory);
+        };
+        self.put(index, act, src, dst, bytes)
+    }
+
+    /// Lets time pass.
     fn advance(&mut self, index: u32, ms: u64) -> Record
         requires { self.old.moment + ms < MOST_MOMENT }
-        ensures said { result ≡ said (self.old.moment + ms) index (plain verb.Advance) None fates.Done [] }
+        ensures plays { (d : Draws) (H : List Full) → StandsFor d self.old H
+            → Plays self.old self.new H (next_of d self.old.topology H index (event.Advance ms)) (Ok result) }
         ensures state { self.new ≡ record self.old { moment = self.old.moment + ms; began = self.old.moment + ms } }
     {
+        legal::frame();
         self.moment = Millis(self.moment.0 + ms);
         let act = Act::Plain {
             verb: Verb::Advance,
         };
-        quiet(self.moment, index, act, None, Fate::Done)
+        blank(self.moment, index, act, None, Fate::Done)
     }
 
-    fn restart_node(&mut self, place: usize)
-        requires { place < length self.old.topology.servers + length self.old.topology.nats }
-        ensures rest { self.new ≡ record self.old { nats = self.new.nats } }
-        ensures nats { (H : List Full) → NatsOf self.old.topology self.old.nats H
-            → (r : Full) → IsRestartOf place r → NatsOf self.old.topology self.new.nats (r ∷ H) }
+    /// Lets a node start anew.
+    fn restart(&mut self, index: u32, number: u16) -> Record
+        ensures plays { (d : Draws) (H : List Full) → StandsFor d self.old H
+            → Plays self.old self.new H (next_of d self.old.topology H index (event.Restart number)) (Ok result) }
+        ensures rest { self.new ≡ record self.old { nodes = self.new.nodes } }
     {
-        if place < self.servers.len() {
-            return;
-        }
-        self.nats[place - self.servers.len()].restart();
-    }
-
-    fn restart(&mut self, index: u32, node: u16) -> Record
-        requires { node < length self.old.topology.servers + length self.old.topology.nats }
-        ensures said { result ≡ said self.old.moment index (plain verb.Restart) (Some node) fates.Done [] }
-        ensures rest { self.new ≡ record self.old { nats = self.new.nats } }
-        ensures nats { (H : List Full) → NatsOf self.old.topology self.old.nats H
-            → (r : Full) → IsRestartOf node r → NatsOf self.old.topology self.new.nats (r ∷ H) }
-    {
-        self.restart_node(usize::from(node));
+        legal::frame();
+        restart_at(&mut self.nodes, usize::from(number));
         let act = Act::Plain {
             verb: Verb::Restart,
         };
-        quiet(self.moment, index, act, Some(node), Fate::Done)
+        blank(self.moment, index, act, Some(number), Fate::Done)
     }
 
     fn play(&mut self, index: u32, event: &Event) -> Result<Record, Stop>
         requires event { IsEvent self.old.topology event.now }
         requires time { EndsInTime self.old.began event.now }
         ensures plays { (d : Draws) (H : List Full) → StandsFor d self.old H
-            → PlaysOut self.old self.new H (next_of d self.old.topology H index event.now) result }
-        ensures rest { self.new ≡ record self.old { moment = self.new.moment; began = self.new.moment; nats = self.new.nats; wire = self.new.wire; done = self.new.done } }
-        ensures grows { length self.new.wire ≤ length self.old.wire + 1 }
+            → Plays self.old self.new H (next_of d self.old.topology H index event.now) result }
+        ensures rest { self.new ≡ record self.old { moment = self.new.moment; began = self.new.moment; nodes = self.new.nodes; wire = self.new.wire; done = self.new.done } }
         ensures time { self.new.moment ≤ self.old.moment + MOST_ADVANCE }
         ensures err { OnErr result (self.new ≡ self.old) }
-        ensures full { IsErrOf result Stop.WireFull → MOST_ENTRIES ≤ length self.old.wire }
     {
-        let alloc = *self.servers.allocator();
+        let _ = &self.nodes;
         match event {
             Event::Advance { ms } => Ok(self.advance(index, *ms)),
             Event::Deliver { number } => self.deliver(index, *number),
@@ -219,29 +278,9 @@ impl World {
                 let act = Act::Plain {
                     verb: Verb::Stranger,
                 };
-                let bytes = bytes.as_slice();
-                put_bytes(
-                    alloc,
-                    &mut self.wire,
-                    self.moment,
-                    index,
-                    act,
-                    *src,
-                    *dst,
-                    bytes,
-                )
+                self.put_bytes(index, act, *src, *dst, bytes.as_slice())
             }
-            Event::Copy { number, src, dst } => {
-                copy(
-                    alloc,
-                    &mut self.wire,
-                    self.moment,
-                    index,
-                    *number,
-                    *src,
-                    *dst,
-                )
-            }
+            Event::Copy { number, src, dst } => self.copy(index, *number, *src, *dst),
             Event::Restart { node } => Ok(self.restart(index, *node)),
             // No node of this world has a host, and no client is behind a NAT.
             Event::Host { .. } => unreachable!(),

@@ -1,6 +1,6 @@
 use Rattle.std.proofs.Common.{◌≤◌, refl, sym, subst, map, length}
 use Rattle.std.proofs.lemmas.List.{take-map}
-use Rattle.world.specs.Held.{item_of, WireState}
+use Rattle.world.specs.Wire.{item_of, WireState}
 use Rattle.world.proofs.Wires.{cut_is_wire}
 use Rattle.world.proofs.wire.Wire.cut.Goals as goal
 

@@ -1,5 +1,5 @@
 use Rattle.std.proofs.Common.{◌≡◌, ◌-◌, length, map}
-use Rattle.world.specs.Held.{item_of, IsWire}
+use Rattle.world.specs.Wire.{item_of, IsWire}
 use Rattle.world.proofs.wire.Wire.first_undelivered.Given as goal
 
 abbrev pub invariant-loop-self : goal.invariant-loop-self

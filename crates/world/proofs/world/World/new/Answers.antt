@@ -1,8 +1,11 @@
-use Rattle.std.proofs.Common.{List, refl, sym, ap, subst, ◌∙◌}
-use Rattle.topology.specs.declared.nat_node.NatNode.{NatNode}
-use Rattle.world.specs.Held.{WireState}
-use Rattle.world.specs.Ways.{AreNew}
+use Rattle.std.proofs.Common.{refl, ap}
+use Rattle.topology.specs.Topology.{nodes}
+use Rattle.world.specs.Wire.{WireState}
+use Rattle.world.proofs.States.{first_stand, all_ready}
 use Rattle.world.proofs.world.World.new.Goals as goal
+
+pub invariant_of-result : goal.invariant_of-result
+invariant_of-result c = (c.requires.built, all_ready (nodes c.args.topology.now) c.in_ok-nodes.nodes.items c.in_ok-nodes.ensures)
 
 pub returns-clause-stands : goal.returns-clause-stands
 returns-clause-stands c = record {
@@ -10,7 +13,7 @@ returns-clause-stands c = record {
   moment = refl;
   began = refl;
   going = refl;
-  nats = subst (λ (rows : List NatNode). AreNew rows c.in_ok-nats.nats.items) (c.nats-2.ensures.value ∙ sym c.nats.ensures.value ∙ sym c.in_ok-rows.ensures.items) c.in_ok-nats.ensures.new;
+  nats = first_stand c.args.topology.now c.in_ok-nodes.nodes.items c.in_ok-nodes.ensures;
   wire = ap (λ (w : WireState). w.items) c.new.ensures;
   done = λ i. rw (c.new.ensures) refl;
   left = refl;

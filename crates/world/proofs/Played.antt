@@ -1,0 +1,101 @@
+-- What a record does to a world.
+use Rattle.std.proofs.Common.{◌≡◌, ◌≢◌, ◌<◌, ℕ, zero, suc, ◌+◌, ◌==◌, Bool, true, false, not, List, [], ◌∷◌, ◌++◌, length, set, get_or, replicate, append-nil, Option, Some, None, Ok, refl, sym, ap, subst, ◌∙◌, arith, ◌⊎◌, inl, inr}
+use Rattle.std.specs.Prelude.{◌||◌, filter_map, slice_get, option_and_then, is_some}
+use Rattle.std.proofs.lemmas.Bool.{false≢true}
+use Rattle.std.proofs.lemmas.Bool.Decides.{eqb_tells}
+use Rattle.std.proofs.lemmas.List.{get_or-set_other}
+use Rattle.std.proofs.lemmas.Grind.{get_or-set_at}
+use Rattle.td_base.specs.declared.endpoint.Ep.{Ep}
+use Rattle.teredo_node.specs.declared.fate.Fate.{Fate}
+use Rattle.teredo_node.specs.declared.fate.Fate.TheVariants as fate
+use Rattle.topology.specs.declared.nat_node.NatNode.{NatNode}
+use Rattle.topology.specs.Rows.{TopologyState}
+use Rattle.topology.specs.Topology.{nat_at}
+use Rattle.history.specs.declared.acts.Act.{Act}
+use Rattle.history.specs.declared.mark.Mark.TheVariants as mark
+use Rattle.history.specs.Full.{Item, Made, Full, udp, item_in, items_of, wire}
+use Rattle.history.specs.Records.{record_of}
+use Rattle.legal.specs.Past.{Draws, now, is_number, at_nat, nat_history}
+use Rattle.legal.specs.Next.{Numbered, blank, puts}
+use Rattle.legal.specs.Frame.{nat_of, EachFrames}
+use Rattle.world.specs.declared.node_state.NodeState.{NodeState}
+use Rattle.world.specs.NodeState.{IsNatIn, NatsOf}
+use Rattle.world.specs.Record.{said}
+use Rattle.world.specs.World.{WorldState, StandsFor}
+use Rattle.world.specs.Playing.{Comes, Plays}
+
+-- NATS
+
+nats_as : (t : TopologyState) (states : List NodeState) (H : List Full) (r : Full) → NatsOf t states H
+    → ((k : ℕ) (a : NatNode) → nat_at t k ≡ Some a → nat_history t k (r ∷ H) ≡ nat_history t k H) → NatsOf t states (r ∷ H)
+nats_as t states H r of same = λ k a at. subst (IsNatIn (slice_get states k) a) (sym (same k a at)) (of k a at)
+
+-- after a record that makes nothing, restarts nothing and forgets nobody
+pub silent : EachFrames → (t : TopologyState) (states : List NodeState) (H : List Full) (r : Full) → NatsOf t states H → r.made ≡ [] → at_nat t r.asked r.act ≡ [] → NatsOf t states (r ∷ H)
+silent frame t states H r of none nothing = nats_as t states H r of (λ k a at. (frame t H r).silent k none nothing)
+
+-- after a record whose node is no NAT, nor behind one
+pub elsewhere : EachFrames → (t : TopologyState) (states : List NodeState) (H : List Full) (r : Full) → NatsOf t states H → option_and_then (nat_of t) r.node ≡ None → NatsOf t states (r ∷ H)
+elsewhere frame t states H r of nobody = nats_as t states H r of (λ k a at. (frame t H r).nats k a at (λ e. false≢true (ap (λ (o : Option ℕ). is_some o) (sym nobody ∙ e))))
+
+-- WHAT WAS DELIVERED
+
+-- a number is remembered
+pub remembered : (done : List Bool) (n : ℕ) → n < length done → (i : ℕ) → get_or (set done n true) i false ≡ (is_number i (Some n) || get_or done i false)
+remembered done n within i = by (eqb_tells n i) where
+  by : ((n == i) ≡ true) × (n ≡ i) ⊎ ((n == i) ≡ false) × (n ≢ i) → get_or (set done n true) i false ≡ ((n == i) || get_or done i false)
+  by (inl (is, same)) = get_or-set_at done n i true false (sym same) within ∙ rw is refl
+  by (inr (not_is, other)) = get_or-set_other done n i true false (λ e. other (sym e)) ∙ rw not_is refl
+
+blank_flag : (k i : ℕ) → get_or (replicate k false) i false ≡ false
+blank_flag zero i = refl
+blank_flag (suc k) zero = refl
+blank_flag (suc k) (suc i) = blank_flag k i
+
+-- new entries weren't delivered
+pub flags_same : (done : List Bool) (k i : ℕ) → get_or (done ++ replicate k false) i false ≡ get_or done i false
+flags_same [] k i = blank_flag k i
+flags_same (x ∷ done) k zero = refl
+flags_same (x ∷ done) k (suc i) = flags_same done k i
+
+-- A RECORD THAT MAKES NOTHING
+
+pub record Rests (old new : WorldState) (r : Full) : Type 0 where
+  pub made : r.made ≡ []
+  pub nothing : at_nat old.topology r.asked r.act ≡ []
+  pub moment : new.moment ≡ r.moment
+  pub nodes : new.nodes ≡ old.nodes
+  pub wire : new.wire ≡ old.wire
+  pub done : (i : ℕ) → get_or new.done i false ≡ (is_number i r.delivered || get_or old.done i false)
+
+pub nothing_made : (old : WorldState) (r : Full) → r.made ≡ [] → old.wire ≡ old.wire ++ items_of r
+nothing_made old r none = sym (append-nil old.wire) ∙ ap (λ (ms : List Made). old.wire ++ filter_map item_in ms) (sym none)
+
+pub rests : EachFrames → (old new : WorldState) (H : List Full) (r : Full) → NatsOf old.topology old.nodes H → Rests old new r → Comes old new H r
+rests frame old new H r of is = record {
+  moment = is.moment;
+  nats = subst (λ (states : List NodeState). NatsOf old.topology states (r ∷ H)) (sym is.nodes) (silent frame old.topology old.nodes H r of is.made is.nothing);
+  wire = is.wire ∙ nothing_made old r is.made;
+  done = is.done;
+}
+
+-- the record of it
+pub said_blank : (m : ℕ) (H : List Full) (e : Numbered) (a : Act) (n : Option ℕ) (f : Fate) (o : Option ℕ) → m ≡ now H → said m e.number a n f [] ≡ record_of (record (blank H e a n f) { delivered = o })
+said_blank m H e a n f o is = ap (λ (j : ℕ). said j e.number a n f []) is
+
+-- DATAGRAMS FROM NOWHERE
+
+pub puts_one : EachFrames → (d : Draws) (old new : WorldState) (H : List Full) (e : Numbered) (a : Act) (src dst : Ep) (bytes : List ℕ)
+    → StandsFor d old H → new ≡ record old { wire = old.wire ++ udp src dst bytes ∷ []; done = old.done ++ false ∷ [] }
+    → Plays old new H (puts H e a src dst bytes) (Ok (said old.moment e.number a None fate.Put (mark.Udp (length old.wire) src dst (length bytes) ∷ [])))
+puts_one frame d old new H e a src dst bytes s is =
+    let r = puts H e a src dst bytes in (
+      ap (λ (m : ℕ). said m e.number a None fate.Put (mark.Udp (length old.wire) src dst (length bytes) ∷ [])) s.moment
+      ∙ ap (λ (xs : List Item). said (now H) e.number a None fate.Put (mark.Udp (length xs) src dst (length bytes) ∷ [])) s.wire,
+      record {
+        moment = ap (λ (w : WorldState). w.moment) is ∙ s.moment;
+        nats = subst (λ (states : List NodeState). NatsOf old.topology states (r ∷ H)) (sym (ap (λ (w : WorldState). w.nodes) is)) (elsewhere frame old.topology old.nodes H r s.nats refl);
+        wire = ap (λ (w : WorldState). w.wire) is;
+        done = λ i. ap (λ (w : WorldState). get_or w.done i false) is ∙ flags_same old.done 1 i;
+      },
+    )

@@ -1,8 +1,0 @@
-use Rattle.teredo_node.specs.Step.{Send}
-use Rattle.world.proofs.Emitted.{one_more}
-use Rattle.world.proofs.emitting.put_sends.Goals as goal
-
-pub loop-i-preserved : goal.loop-i-preserved
-loop-i-preserved c =
-    let x : Send = record { side = c.send-side.result.0; to = c.send-side.result.1; bytes = c.send-side.result.2.now } in
-    rw (c.push.ensures) (one_more c.args.wire.now c.loop-i.wire c.push_datagram.new.self c.args.row.now c.args.step.now.sends c.loop-i.i c.loop-i.marks x c.len-number.result c.own_endpoint-src.result c.in_ok-new.field-0 c.loop-i.invariant c.send-side.ensures.place c.len-number.ensures.count c.own_endpoint-src.ensures c.in_ok-new.ensures.copied c.in_ok-push_datagram.ensures.ok)

@@ -1,0 +1,48 @@
+use Rattle.std.proofs.Common.{rules, ◌≡◌, ◌<◌, ◌≤◌, length, Some, None, refl, sym, ap, ◌∙◌, arith}
+use Rattle.std.specs.Prelude.{slice_get}
+use Rattle.std.proofs.lemmas.Bool.Decides.{nat_tests}
+use Rattle.std.proofs.lemmas.Grind.{common_steps}
+use Rattle.std.proofs.lemmas.Option.{slice_get_read, slice_get_past}
+use Rattle.legal.specs.Past.{nat_history}
+use Rattle.world.specs.declared.node_state.NodeState.TheVariants as state
+use Rattle.world.proofs.Routes.{not_none, not_nothing, kept_nat, lets}
+use Rattle.world.proofs.way.inside_of.Goals as goal
+
+pub returns-in_err-state : goal.returns-in_err-state
+returns-in_err-state c = λ H t of a at.
+    let none : slice_get c.args.states.now c.args.nat ≡ None = grind (arith, common_steps, c.in_err-state.ensures.lookup, c.from.ensures) in
+    absurd (not_none _ a (nat_history t c.args.nat H) none (of c.args.nat a at))
+
+pub returns-in-Nat : goal.returns-in-Nat
+returns-in-Nat c = λ H t of a at.
+    let here : slice_get c.args.states.now c.args.nat ≡ Some (state.Nat c.in-Nat.nat) = grind (arith, common_steps, c.in_ok-state.ensures.lookup, c.from.ensures, c.in-Nat.is) in
+    lets a c.in-Nat.nat (nat_history t c.args.nat H) c.args.now.0 c.args.port c.args.src c.inward.result (kept_nat _ a (nat_history t c.args.nat H) c.in-Nat.nat here (of c.args.nat a at)) c.inward.ensures.answer
+
+pub returns-in-Nothing : goal.returns-in-Nothing
+returns-in-Nothing c = λ H t of a at.
+    let here : slice_get c.args.states.now c.args.nat ≡ Some state.Nothing = grind (arith, common_steps, c.in_ok-state.ensures.lookup, c.from.ensures, c.in-Nothing.is) in
+    absurd (not_nothing _ a (nat_history t c.args.nat H) here (of c.args.nat a at))
+
+-- alternatives
+try_a : goal.returns-in_err-state
+try_a c = λ H t of a at.
+    let l = c.in_err-state.ensures.lookup.0 in
+    let f = c.from.ensures in
+    let past : length c.args.states.now ≤ c.args.nat = grind (arith, nat_tests) in
+    absurd (not_none _ a (nat_history t c.args.nat H) (slice_get_past c.args.states.now c.args.nat past) (of c.args.nat a at))
+
+try_b : goal.returns-in-Nat
+try_b c = λ H t of a at.
+    let l = c.in_ok-state.ensures.lookup.0 in
+    let f = c.from.ensures in
+    let within : c.args.nat < length c.args.states.now = grind (arith, nat_tests) in
+    let here : slice_get c.args.states.now c.args.nat ≡ Some (state.Nat c.in-Nat.nat) = ap (λ n. slice_get c.args.states.now n) (sym f) ∙ slice_get_read c.args.states.now (length c.args.states.now) c.from.result c.in_ok-state.state.now refl (rw f within) c.in_ok-state.ensures.lookup.1 ∙ ap (λ s. Some s) c.in-Nat.is in
+    lets a c.in-Nat.nat (nat_history t c.args.nat H) c.args.now.0 c.args.port c.args.src c.inward.result (kept_nat _ a (nat_history t c.args.nat H) c.in-Nat.nat here (of c.args.nat a at)) c.inward.ensures.answer
+
+try_c : goal.returns-in-Nothing
+try_c c = λ H t of a at.
+    let l = c.in_ok-state.ensures.lookup.0 in
+    let f = c.from.ensures in
+    let within : c.args.nat < length c.args.states.now = grind (arith, nat_tests) in
+    let here : slice_get c.args.states.now c.args.nat ≡ Some state.Nothing = ap (λ n. slice_get c.args.states.now n) (sym f) ∙ slice_get_read c.args.states.now (length c.args.states.now) c.from.result c.in_ok-state.state.now refl (rw f within) c.in_ok-state.ensures.lookup.1 ∙ ap (λ s. Some s) c.in-Nothing.is in
+    absurd (not_nothing _ a (nat_history t c.args.nat H) here (of c.args.nat a at))
