@@ -20,6 +20,7 @@ enum Comes {
 
 /// A run: what comes, its COUNT and IDLES, which calls fail, and then its status, what was written and how many
 /// answers were attempted.
+#[derive(Clone, Copy)]
 struct Row<'a> {
     comes: &'a [Comes],
     count: &'a str,

@@ -78,6 +78,13 @@ idle = 60000
 const CLOSED_NAT_REPORT: &str =
     "0 0 0 stranger - put #0=198.51.100.7:40000>198.51.100.1:1024/1\n1 0 1 deliver:0 n1 nat_closed\n2 60000 2 advance - done\n3 60000 3 copy:0 - put #1=203.0.113.5:3544>198.51.100.1:1025/1\n4 60000 4 deliver:1 n1 nat_closed\n5 60000 5 next - no_entry\n6 60000 6 restart n1 done\ntotal records 7 entries 2 delivered 2 handed 0 kept 0 dropped 3\n";
 
+/// A relay, which isn't played yet.
+const RELAY: &str = r#"
+seed = 1
+events = []
+relay = [{ name = "r1", at = "203.0.113.9:3545", six = "2001:db8::9" }]
+"#;
+
 /// A bubble from one client to another.
 const BUBBLE: &str =
     "6000000000003bff200100004136e378800063bf3ffffdd2200100004136e378000063bf39cc9bf8";
@@ -98,6 +105,7 @@ const CUT_BUBBLE: &str =
     "6000000000003bff200100004136e378800063bf3ffffdd2200100004136e378000063bf39cc9b";
 
 /// A run: its words, the text of its file, which calls fail, and then its status and what was written.
+#[derive(Clone, Copy)]
 struct Row<'a> {
     words: &'a [&'a str],
     text: &'a [u8],
@@ -108,7 +116,7 @@ struct Row<'a> {
 }
 
 /// A run in which no call fails.
-fn row<'a>(words: &'a [&'a str], text: &'a str, status: u8, written: &'a str) -> Row<'a> {
+fn ending<'a>(words: &'a [&'a str], text: &'a str, status: u8, written: &'a str) -> Row<'a> {
     Row {
         words,
         text: text.as_bytes(),
@@ -133,31 +141,31 @@ fn ends_so(alloc: Global, row: &Row) -> Result<bool, NoMemory> {
 #[test]
 fn files_are_played_and_words_are_shown(rt: HostRuntime) -> Result<(), Fail> {
     let rows = [
-        row(&LAB, ASKED, 0, ASKED_REPORT),
-        row(&LAB, CONE, 0, CONE_REPORT),
-        row(&LAB, LOOP, 0, LOOP_REPORT),
-        row(&LAB, NO_EVENTS, 0, NO_EVENTS_REPORT),
-        row(&LAB, CLOSED_NAT, 0, CLOSED_NAT_REPORT),
-        row(&["show", BUBBLE], "", 0, BUBBLE_LINES),
-        row(&["show", WRONG_ORDER], "", 1, "fault order at 8\n"),
-        row(&["show", CUT], "", 1, "fault length said 8 there 7 at 13\n"),
-        row(&["show", CUT_BUBBLE], "", 1, "fault short 39 at 0\n"),
-        row(&["show", "-"], "", 1, "fault hex at 0\n"),
-        row(&["show", ""], "", 1, "fault cut at 0\n"),
-        row(&[], "", 2, "words\n"),
-        row(&["lab"], "", 2, "words\n"),
-        row(&["show"], "", 2, "words\n"),
-        row(&["--help"], "", 2, "words\n"),
-        row(&["gen", "01", "5"], "", 2, "words\n"),
-        row(&["serve", "127.0.0.1", "127.0.0.1", "1", "1"], "", 2, "words\n"),
-        row(&["serve", "127.0.0.1", "127.0.0.256", "1", "1"], "", 2, "words\n"),
-        row(&["serve", "127.0.0.1", "127.0.0.2", "1000000001", "1"], "", 2, "words\n"),
-        row(&["serve", "127.0.0.1", "127.0.0.2", "01", "1"], "", 2, "words\n"),
-        row(&["serve", "127.0.0.1", "127.0.0.2", "1", "0"], "", 2, "words\n"),
-        row(&LAB, "", 3, "scenario: unbuilt\n"),
-        row(&LAB, "seed", 3, "scenario: unbuilt\n"),
-        row(&LAB, "seed = 1\nevents = [\"host a a 00\"]\n", 3, "scenario: unbuilt\n"),
-        row(&LAB, "seed = 1\nevents = []\nclient = []\n", 3, "scenario: unbuilt\n"),
+        ending(&LAB, ASKED, 0, ASKED_REPORT),
+        ending(&LAB, CONE, 0, CONE_REPORT),
+        ending(&LAB, LOOP, 0, LOOP_REPORT),
+        ending(&LAB, NO_EVENTS, 0, NO_EVENTS_REPORT),
+        ending(&LAB, CLOSED_NAT, 0, CLOSED_NAT_REPORT),
+        ending(&["show", BUBBLE], "", 0, BUBBLE_LINES),
+        ending(&["show", WRONG_ORDER], "", 1, "fault order at 8\n"),
+        ending(&["show", CUT], "", 1, "fault length said 8 there 7 at 13\n"),
+        ending(&["show", CUT_BUBBLE], "", 1, "fault short 39 at 0\n"),
+        ending(&["show", "-"], "", 1, "fault hex at 0\n"),
+        ending(&["show", ""], "", 1, "fault cut at 0\n"),
+        ending(&[], "", 2, "words\n"),
+        ending(&["lab"], "", 2, "words\n"),
+        ending(&["show"], "", 2, "words\n"),
+        ending(&["--help"], "", 2, "words\n"),
+        ending(&["gen", "01", "5"], "", 2, "words\n"),
+        ending(&["serve", "127.0.0.1", "127.0.0.1", "1", "1"], "", 2, "words\n"),
+        ending(&["serve", "127.0.0.1", "127.0.0.256", "1", "1"], "", 2, "words\n"),
+        ending(&["serve", "127.0.0.1", "127.0.0.2", "1000000001", "1"], "", 2, "words\n"),
+        ending(&["serve", "127.0.0.1", "127.0.0.2", "01", "1"], "", 2, "words\n"),
+        ending(&["serve", "127.0.0.1", "127.0.0.2", "1", "0"], "", 2, "words\n"),
+        ending(&LAB, "", 3, "scenario: unbuilt\n"),
+        ending(&LAB, "seed", 3, "scenario: unbuilt\n"),
+        ending(&LAB, "seed = 1\nevents = [\"host a a 00\"]\n", 3, "scenario: unbuilt\n"),
+        ending(&LAB, RELAY, 3, "scenario: unbuilt\n"),
     ];
     for row in rows.iter() {
         assert!(rt; ends_so(rt.alloc(), row)?, "{}", row.written);
@@ -168,10 +176,10 @@ fn files_are_played_and_words_are_shown(rt: HostRuntime) -> Result<(), Fail> {
 #[test]
 fn what_fails_outside_ends_the_run(rt: HostRuntime) -> Result<(), Fail> {
     let rows = [
-        Row { read_fails: &[1], ..row(&LAB, ASKED, 4, "") },
-        Row { write_fails: &[1], ..row(&LAB, ASKED, 5, ASKED_FIRST) },
-        Row { write_fails: &[0], ..row(&["show", BUBBLE], "", 5, "") },
-        Row { text: b"\xff\xfe", ..row(&LAB, "", 3, "scenario: unbuilt\n") },
+        Row { read_fails: &[1], ..ending(&LAB, ASKED, 4, "") },
+        Row { write_fails: &[1], ..ending(&LAB, ASKED, 5, ASKED_FIRST) },
+        Row { write_fails: &[0], ..ending(&["show", BUBBLE], "", 5, "") },
+        Row { text: b"\xff\xfe", ..ending(&LAB, "", 3, "scenario: unbuilt\n") },
     ];
     for row in rows.iter() {
         assert!(rt; ends_so(rt.alloc(), row)?, "{}", row.written);

@@ -21,7 +21,7 @@ fn what_a_stranger_sends_is_lent(rt: HostRuntime) -> Result<(), Fail> {
     assert!(rt; world.step(0, &event).is_ok());
     assert_eq!(rt; world.entries(), 1);
     let sent = match world.entry(0) {
-        Some(WireEntry::Udp { src, bytes, .. }) => src == at && bytes == b"abc",
+        Some(WireEntry::Udp { src, bytes, .. }) => src == at && bytes == b"abc".as_slice(),
         _ => false,
     };
     assert!(rt; sent && world.entry(1).is_none());
