@@ -74,7 +74,12 @@ tail_text t r = address_text r.address ++ (handed_text r.handed ++ (gone_text r.
 abbrev pub record_line : TopologyState → ℕ → Record → List ℕ
 record_line t index r = head_text t index r ++ tail_text t r
 
+-- one line after the other
+abbrev pub lines_text : List (List ℕ) → List ℕ
+lines_text [] = []
+lines_text (line ∷ lines) = line ++ lines_text lines
+
 -- the lines of a history, which has its latest record first
-abbrev pub lines : TopologyState → List Full → List ℕ
-lines t [] = []
-lines t (r ∷ H) = lines t H ++ record_line t (length H) (record_of r)
+abbrev pub record_lines : TopologyState → List Full → List (List ℕ)
+record_lines t [] = []
+record_lines t (r ∷ H) = record_lines t H ++ record_line t (length H) (record_of r) ∷ []

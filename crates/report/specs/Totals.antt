@@ -1,5 +1,5 @@
 -- The totals of a history, and its report.
-use Rattle.std.specs.Prelude.{ℕ, ◌+◌, ◌-◌, ◌^◌, ◌≤◌, List, ◌++◌, length, count_by, codes, decimal, is_some, if◌then◌else◌}
+use Rattle.std.specs.Prelude.{ℕ, ◌+◌, ◌-◌, ◌^◌, ◌≤◌, List, [], ◌∷◌, ◌++◌, length, count_by, codes, decimal, is_some, if◌then◌else◌}
 use Rattle.teredo_node.specs.Fate.{is_drop}
 use Rattle.history.specs.declared.records.Record.{Record}
 use Rattle.topology.specs.Rows.{TopologyState}
@@ -7,7 +7,7 @@ use Rattle.history.specs.Full.{Full, wire}
 use Rattle.history.specs.Records.{handed_of}
 use Rattle.history.specs.Telling.{is_kept, is_delivery, is_entry}
 use Rattle.report.specs.declared.totals.Sums.{Sums}
-use Rattle.report.specs.Lines.{lines}
+use Rattle.report.specs.Lines.{lines_text, record_lines}
 
 -- how many records, entries, deliveries of entries, packets handed to hosts, packets kept by natives, drops
 abbrev pub sums_of : List Full → Sums
@@ -29,8 +29,11 @@ abbrev pub totals : List Full → List ℕ
 totals H = totals_line (sums_of H)
 
 -- a line for each record, and the totals
+abbrev pub report_lines : TopologyState → List Full → List (List ℕ)
+report_lines t H = record_lines t H ++ totals H ∷ []
+
 abbrev pub report : TopologyState → List Full → List ℕ
-report t H = lines t H ++ totals H
+report t H = lines_text (report_lines t H)
 
 -- what a record adds
 abbrev pub added : Sums → Record → Sums

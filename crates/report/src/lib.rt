@@ -21,10 +21,6 @@
 mod lines;
 mod marks;
 mod pieces;
-#[cfg(test)]
-mod sample;
-#[cfg(test)]
-mod tests;
 mod totals;
 
 pub use lines::line;

@@ -1,6 +1,7 @@
 pub mod Written
-pub mod Told
-pub mod Playing
-pub mod Ended
+pub mod WholeText
+pub mod Commands
 pub mod Shown
+pub mod Ended
+pub mod Played
 pub mod Sessions

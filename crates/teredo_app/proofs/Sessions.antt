@@ -3,16 +3,18 @@ use Rattle.std.proofs.Common.{◌≡◌, ℕ, ◌+◌, not, List, [], ◌∷◌,
 use Rattle.std.proofs.lemmas.List.Sums.{count_by-le-length}
 use Rattle.td_outside.specs.declared.link.Addresses.{Addresses}
 use Rattle.td_outside.specs.Link.{Came, Attempt, Told, KeepsTold, open_on}
-use Rattle.td_outside.specs.Moves.{Moves, Stays}
+use Rattle.td_outside.specs.MoveLaws.{Stays-Moves}
 use Rattle.teredo_node.specs.Turn.{Carries, LeftBy, SendFaults, ReceiveFaults}
 use Rattle.teredo_node.specs.Serve.{Turn, Waited, Answered, Goes, Carried, Serves, came_in, made_in, totals_of}
 use Rattle.teredo_node.specs.declared.turn.PumpFault.{PumpFault}
 use Rattle.teredo_node.specs.declared.turn.PumpFault.TheVariants.{Receive, NoMemory}
 use Rattle.teredo_node.specs.declared.serve.Totals.{Totals}
 use Rattle.server_core.specs.declared.server.ServerSettings.{ServerSettings}
-use Rattle.server_core.proofs.Outcomes.{outcomes, one_outcome}
+use Rattle.server_core.specs.Bounds.{outcomes}
+use Rattle.server_core.specs.Laws.{OneOutcome}
 use Rattle.teredo_app.specs.declared.serve_words.ServeWords.{ServeWords}
-use Rattle.teredo_app.specs.Serving.{Network, server_on, AnswersByTable, WantsMemory, IsSame, Session, BreaksOff}
+use Rattle.teredo_app.specs.Outside.{Network}
+use Rattle.teredo_app.specs.Session.{server_on, AnswersByTable, WantsMemory, IsSame, Session, BreaksOff}
 
 -- the server stays as it is
 stays : (old : ServerSettings) (turns : List Turn) (new : ServerSettings) → Goes AnswersByTable old turns new → new ≡ old
@@ -21,26 +23,20 @@ stays old (Waited ∷ turns) new g = stays old turns new g
 stays old (Answered moment side from bytes step sent ∷ turns) new g = g.2.0 ∙ stays old turns g.0 g.1
 
 -- each arrival has one outcome
-each_once : (old : ServerSettings) (turns : List Turn) (new : ServerSettings) → Goes AnswersByTable old turns new → (totals_of turns).served ≡ (totals_of turns).sent + (totals_of turns).failed + (totals_of turns).six + (totals_of turns).dropped
-each_once old [] new g = refl
-each_once old (Waited ∷ turns) new g = each_once old turns new g
-each_once old (Answered moment side from bytes step sent ∷ turns) new g =
-    let one : outcomes step ≡ 1 = ap outcomes g.2.1 ∙ one_outcome g.0 side from bytes in
-    omega (arith, each_once old turns g.0 g.1, one, count_by-le-length not sent, g.3)
+each_once : (one : OneOutcome) (old : ServerSettings) (turns : List Turn) (new : ServerSettings) → Goes AnswersByTable old turns new → (totals_of turns).served ≡ (totals_of turns).sent + (totals_of turns).failed + (totals_of turns).six + (totals_of turns).dropped
+each_once one old [] new g = refl
+each_once one old (Waited ∷ turns) new g = each_once one old turns new g
+each_once one old (Answered moment side from bytes step sent ∷ turns) new g =
+    let once : outcomes step ≡ 1 = ap outcomes g.2.1 ∙ one g.0 side from bytes in
+    omega (arith, each_once one old turns g.0 g.1, once, count_by-le-length not sent, g.3)
 
 -- ---- the lists that a link tells, over a call that leaves them
 
-moves_after : {A : Type 0} (fact : List A → List A → Type 0) (a b c : Option (List A)) → Stays a b → Moves b c fact → Moves a c fact
-moves_after fact a b None same moves = tt
-moves_after fact a None (Some after) same moves = absurd moves
-moves_after fact None (Some mid) (Some after) same moves = absurd same
-moves_after {A} fact (Some before) (Some mid) (Some after) same moves = subst (λ (xs : List A). fact xs after) same moves
-
 carries_after : (a b c : Told) (came : List Came) (made : List Attempt) → KeepsTold a b → Carries b c came made → Carries a c came made
 carries_after a b c came made same carried = record {
-  coming = moves_after _ a.coming b.coming c.coming same.coming carried.coming;
-  taken = moves_after _ a.taken b.taken c.taken same.taken carried.taken;
-  attempts = moves_after _ a.attempts b.attempts c.attempts same.attempts carried.attempts;
+  coming = Stays-Moves _ a.coming b.coming c.coming same.coming carried.coming;
+  taken = Stays-Moves _ a.taken b.taken c.taken same.taken carried.taken;
+  attempts = Stays-Moves _ a.attempts b.attempts c.attempts same.attempts carried.attempts;
 }
 
 carried_after : (a b c : Told) (s s' : ServerSettings) (last : ℕ) (turns : List Turn) (ended : Result (Unit {0}) PumpFault) → KeepsTold a b → Carried (WantsMemory s last) b c turns ended → Carried (WantsMemory s' last) a c turns ended
@@ -56,7 +52,7 @@ left_so s (Err NoMemory) = refl
 
 -- ---- a session
 
-module _ (n : Network) (asked : ServeWords) (totals : Totals) (mid : Told) (receives sends : ℕ) (places : Option Addresses) (s new : ServerSettings) (opened : places ≡ open_on asked.primary asked.secondary) (same : KeepsTold n.told.0 mid) (kept : receives ≡ n.receive_faults.0) (other : sends ≡ n.send_faults.0) (made : s ≡ server_on asked) where
+module _ (one : OneOutcome) (n : Network) (asked : ServeWords) (totals : Totals) (mid : Told) (receives sends : ℕ) (places : Option Addresses) (s new : ServerSettings) (opened : places ≡ open_on asked.primary asked.secondary) (same : KeepsTold n.told.0 mid) (kept : receives ≡ n.receive_faults.0) (other : sends ≡ n.send_faults.0) (made : s ≡ server_on asked) where
   -- the turns after the link was opened
   pub session : (ended : Result (Unit {0}) PumpFault)
       → Serves AnswersByTable WantsMemory IsSame asked.count asked.idles s new n.moments.0 n.moments.1 mid n.told.1 totals ended
@@ -77,7 +73,7 @@ module _ (n : Network) (asked : ServeWords) (totals : Totals) (mid : Told) (rece
           begun = served.begun;
           ended = served.ended;
         };
-        outcomes = subst (λ (t : Totals). t.served ≡ t.sent + t.failed + t.six + t.dropped) (sym served.sums) (each_once s served.turns served.state served.states);
+        outcomes = subst (λ (t : Totals). t.served ≡ t.sent + t.failed + t.six + t.dropped) (sym served.sums) (each_once one s served.turns served.state served.states);
         receives = subst (λ (m : ℕ). ReceiveFaults m n.receive_faults.1 ended) kept received;
         sends = subst (λ (m : ℕ). SendFaults m n.send_faults.1 totals.failed) other sent;
       }

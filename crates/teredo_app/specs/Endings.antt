@@ -1,19 +1,28 @@
 -- How one part of a run ends, for the contracts of private functions.
-use Rattle.std.specs.Prelude.{◌≡◌, ℕ, List, Option}
-use Rattle.std.specs.Io.KnownBytes.{Appends}
+use Rattle.std.specs.Prelude.{◌≡◌, ℕ, List, [], ◌∷◌}
 use Rattle.td_outside.specs.Causes.{Rose}
 use Rattle.history.specs.Scenario.{Scenario}
-use Rattle.teredo_app.specs.declared.statuses.TheConstants.{DONE, UNWRITABLE, NO_MEMORY}
-use Rattle.teredo_app.specs.Streams.{AppendsFront}
-use Rattle.teredo_app.specs.Reports.{ReportsOn, BeginsToReport}
+use Rattle.history.specs.Full.{Full}
+use Rattle.report.specs.Lines.{record_lines}
+use Rattle.teredo_app.specs.declared.statuses.TheConstants.{DONE, UNWRITABLE, NO_MEMORY, WIRE_FULL}
+use Rattle.teredo_app.specs.Outside.{SinkTold, AtSink}
+use Rattle.teredo_app.specs.SinkLines.{WritesLines, BeginsLines}
+use Rattle.teredo_app.specs.ScenarioReport.{FillsWire, WritesReport, WritesFull, BeginsReport}
 
 -- how the writing of one line ends: with its status, or because the sink failed
-pub data LineEnds (before after : Option (List ℕ)) (faults_before faults_after : ℕ) (line : List ℕ) (status result : ℕ) : Type 0 where
-  line_written : result ≡ status → Appends before after line → LineEnds before after faults_before faults_after line status result
-  line_failed : result ≡ UNWRITABLE → Rose faults_before faults_after → AppendsFront before after line → LineEnds before after faults_before faults_after line status result
+pub data LineEnds (o : AtSink) (line : List ℕ) (status result : ℕ) : Type 0 where
+  line_written : result ≡ status → WritesLines o.told.0 o.told.1 (line ∷ []) → LineEnds o line status result
+  line_failed : result ≡ UNWRITABLE → Rose o.faults.0 o.faults.1 → BeginsLines o.told.0 o.told.1 (line ∷ []) → LineEnds o line status result
 
 -- how the writing of a scenario's report ends
-pub data ReportEnds (before after : Option (List ℕ)) (faults_before faults_after : ℕ) (s : Scenario) (result : ℕ) : Type 0 where
-  report_written : result ≡ DONE → ReportsOn s before after → ReportEnds before after faults_before faults_after s result
-  report_failed : result ≡ UNWRITABLE → Rose faults_before faults_after → BeginsToReport s before after → ReportEnds before after faults_before faults_after s result
-  report_starved : result ≡ NO_MEMORY → faults_after ≡ faults_before → BeginsToReport s before after → ReportEnds before after faults_before faults_after s result
+pub data ReportEnds (o : AtSink) (s : Scenario) (result : ℕ) : Type 0 where
+  report_written : result ≡ DONE → WritesReport s o.told.0 o.told.1 → ReportEnds o s result
+  report_filled : result ≡ WIRE_FULL → WritesFull s o.told.0 o.told.1 → ReportEnds o s result
+  report_failed : result ≡ UNWRITABLE → Rose o.faults.0 o.faults.1 → BeginsReport s o.told.0 o.told.1 → ReportEnds o s result
+  report_starved : result ≡ NO_MEMORY → o.faults.1 ≡ o.faults.0 → BeginsReport s o.told.0 o.told.1 → ReportEnds o s result
+
+-- The lines of all records before the one that would make too long a wire were written.
+pub record EndsFull (s : Scenario) (old new : SinkTold) : Type 0 where
+  pub history : List Full
+  pub fills : FillsWire s history
+  pub lines : WritesLines old new (record_lines s.topology history)

@@ -1,79 +1,78 @@
--- How the program may end, and what it has then written.
-use Rattle.std.specs.Prelude.{◌≡◌, ℕ, List, [], ◌∷◌, ◌⊎◌, if◌then◌else◌, codes, Contains, Option, Some, None, IfSome, Ok, Err}
-use Rattle.std.specs.Io.KnownBytes.{Appends, Keeps}
+-- How the program may end, and what it has then done.
+use Rattle.std.specs.Prelude.{◌≡◌, ℕ, List, [], ◌∷◌, ◌++◌, ◌⊎◌, codes, Contains, Option, Some, None, IfSome}
 use Rattle.td_outside.specs.Causes.{Rose}
+use Rattle.td_outside.specs.Moves.{Gains}
 use Rattle.history.specs.Scenario.{Scenario}
-use Rattle.history.specs.Words.{same_text}
 use Rattle.scenario.specs.Built.{built_scenario_of}
-use Rattle.teredo_app.specs.declared.statuses.TheConstants.{DONE, BAD_PAYLOAD, BAD_WORDS, BAD_SCENARIO, UNREADABLE, UNWRITABLE, NO_MEMORY}
-use Rattle.show.specs.Explained.{explained, text_of}
-use Rattle.teredo_app.specs.Streams.{AppendsFront}
-use Rattle.teredo_app.specs.Reports.{ReportsOn, BeginsToReport}
-
--- the file of the words `lab FILE`
-abbrev pub lab_file : List (List ℕ) → Option (List ℕ)
-lab_file (command ∷ file ∷ []) = if same_text command (codes "lab") then Some file else None
-lab_file _ = None
+use Rattle.show.specs.Shown.{ShowsPayload, ShowsNoText, ShowsFault}
+use Rattle.teredo_app.specs.declared.statuses.TheConstants.{DONE, BAD_PAYLOAD, BAD_WORDS, BAD_SCENARIO, UNREADABLE, UNWRITABLE, NO_MEMORY, WIRE_FULL}
+use Rattle.teredo_app.specs.declared.source_text.TheConstants.{TEXT_READ_MAX}
+use Rattle.teredo_app.specs.Outside.{AtSource, AtSink, Network, NoFault}
+use Rattle.teredo_app.specs.SourceText.{TakesAtMost}
+use Rattle.teredo_app.specs.SinkLines.{WritesLines, BeginsLines, WritesNothing}
+use Rattle.teredo_app.specs.ScenarioReport.{WritesReport, WritesFull, BeginsReport}
+use Rattle.teredo_app.specs.Session.{ServeEnds}
+use Rattle.teredo_app.specs.Command.{Request, lab, serve, show}
 
 -- the line of a text that is refused
 abbrev pub refusal : List ℕ
 refusal = codes "scenario: unbuilt\n"
 
--- the line of words that have no shape
+-- the line of words that are no command
 abbrev pub bad_words : List ℕ
 bad_words = codes "words\n"
 
--- the word of the words `show HEX`
-abbrev pub show_word : List (List ℕ) → Option (List ℕ)
-show_word (command ∷ word ∷ []) = if same_text command (codes "show") then Some word else None
-show_word _ = None
-
--- what a call did to the two things outside: the bytes that the file's name stands for, where they are told; the source's
--- count of faults, the bytes that the sink holds, where they are told, and its count of faults, each before and after
-pub record Outside : Type 0 where
-  pub told : Option (List ℕ)
-  pub source_faults : ℕ × ℕ
-  pub held : Option (List ℕ) × Option (List ℕ)
-  pub sink_faults : ℕ × ℕ
-
 -- The text is all the bytes that the name stands for, where the source tells them.
-abbrev pub IsTold : Option (List ℕ) → List ℕ → Type 0
-IsTold told text = IfSome told (λ bytes. text ≡ bytes)
+abbrev pub IsNamedText : Option (List ℕ) → List ℕ → Type 0
+IsNamedText told text = IfSome told (λ bytes. text ≡ bytes)
 
 -- The text of the file is this scenario of servers and NATs, or isn't one.
-abbrev pub Reads : Outside → Option Scenario → Type 0
-Reads o s = (text : List ℕ) × IsTold o.told text × (built_scenario_of text ≡ s)
+abbrev pub Reads : AtSource → List ℕ → Option Scenario → Type 0
+Reads i file s = (text : List ℕ) × IsNamedText (i.stands_for file) text × (built_scenario_of text ≡ s)
 
--- No count of faults rose.
-pub record NoFault (o : Outside) : Type 0 where
-  pub source : o.source_faults.1 ≡ o.source_faults.0
-  pub sink : o.sink_faults.1 ≡ o.sink_faults.0
+-- what a sink that failed was to hold
+abbrev pub LabBegins : AtSource → AtSink → List ℕ → Type 0
+LabBegins i o file =
+    ((s : Scenario) × Reads i file (Some s) × BeginsReport s o.told.0 o.told.1) ⊎ (Reads i file None × BeginsLines o.told.0 o.told.1 (refusal ∷ []))
 
 -- How `lab FILE` ends: for each status its cause, and what was written.
-pub record LabEnds (o : Outside) (status : ℕ) : Type 0 where
-  pub statuses : Contains (DONE ∷ BAD_SCENARIO ∷ UNREADABLE ∷ UNWRITABLE ∷ NO_MEMORY ∷ []) status
+pub record LabEnds (i : AtSource) (o : AtSink) (file : List ℕ) (status : ℕ) : Type 0 where
+  pub statuses : Contains (DONE ∷ BAD_SCENARIO ∷ UNREADABLE ∷ UNWRITABLE ∷ NO_MEMORY ∷ WIRE_FULL ∷ []) status
+  -- the file alone was opened, once, and no more of it was read than a text may have, and one byte
+  pub opened : Gains i.openings.0 i.openings.1 file
+  pub taken : TakesAtMost TEXT_READ_MAX i.taken.0 i.taken.1
   -- the text is a scenario, and its report was written
-  pub done : status ≡ DONE → (s : Scenario) × Reads o (Some s) × ReportsOn s o.held.0 o.held.1
+  pub done : status ≡ DONE → (s : Scenario) × Reads i file (Some s) × WritesReport s o.told.0 o.told.1
   -- the text is no scenario, and the line that says so was written
-  pub refused : status ≡ BAD_SCENARIO → Reads o None × Appends o.held.0 o.held.1 refusal
+  pub refused : status ≡ BAD_SCENARIO → Reads i file None × WritesLines o.told.0 o.told.1 (refusal ∷ [])
   -- the source failed, and nothing was written
-  pub unread : status ≡ UNREADABLE → Rose o.source_faults.0 o.source_faults.1 × Keeps o.held.0 o.held.1
+  pub unread : status ≡ UNREADABLE → Rose i.faults.0 i.faults.1 × WritesNothing o.told.0 o.told.1
   -- the sink failed, and a front was written of what was to be written
-  pub unwritten : status ≡ UNWRITABLE → Rose o.sink_faults.0 o.sink_faults.1
-      × (((s : Scenario) × Reads o (Some s) × BeginsToReport s o.held.0 o.held.1) ⊎ (Reads o None × AppendsFront o.held.0 o.held.1 refusal))
+  pub unwritten : status ≡ UNWRITABLE → Rose o.faults.0 o.faults.1 × LabBegins i o file
   -- memory ran out, nothing failed, and nothing was written or a front of the report
-  pub starved : status ≡ NO_MEMORY → NoFault o
-      × (Keeps o.held.0 o.held.1 ⊎ ((s : Scenario) × Reads o (Some s) × BeginsToReport s o.held.0 o.held.1))
+  pub starved : status ≡ NO_MEMORY → NoFault i o
+      × (WritesNothing o.told.0 o.told.1 ⊎ ((s : Scenario) × Reads i file (Some s) × BeginsReport s o.told.0 o.told.1))
+  -- the next record would make too long a wire; the lines of those before it were written, and the line that says so
+  pub full : status ≡ WIRE_FULL → (s : Scenario) × Reads i file (Some s) × WritesFull s o.told.0 o.told.1
 
--- How `show HEX` ends: the lines of the payload were written, or the line of its first fault. It takes no memory.
-pub record ShowEnds (o : Outside) (word : List ℕ) (status : ℕ) : Type 0 where
+-- How `show HEX` ends: the page of the payload was written, or the line of its first fault. It never wants memory.
+pub record ShowEnds (o : AtSink) (word : List ℕ) (status : ℕ) : Type 0 where
   pub statuses : Contains (DONE ∷ BAD_PAYLOAD ∷ UNWRITABLE ∷ []) status
-  pub done : status ≡ DONE → (lines : List ℕ) × (explained word ≡ Ok lines) × Appends o.held.0 o.held.1 lines
-  pub refused : status ≡ BAD_PAYLOAD → (line : List ℕ) × (explained word ≡ Err line) × Appends o.held.0 o.held.1 line
-  pub unwritten : status ≡ UNWRITABLE → Rose o.sink_faults.0 o.sink_faults.1 × AppendsFront o.held.0 o.held.1 (text_of (explained word))
+  pub done : status ≡ DONE → (page : List ℕ) × ShowsPayload word page × WritesLines o.told.0 o.told.1 (page ∷ [])
+  pub refused : status ≡ BAD_PAYLOAD → (line : List ℕ) × (ShowsNoText word line ⊎ ShowsFault word line) × WritesLines o.told.0 o.told.1 (line ∷ [])
+  pub unwritten : status ≡ UNWRITABLE → Rose o.faults.0 o.faults.1
+      × ((page : List ℕ) × (ShowsPayload word page ⊎ (ShowsNoText word page ⊎ ShowsFault word page)) × BeginsLines o.told.0 o.told.1 (page ∷ []))
 
--- How it ends where the words have no shape.
-pub record WordsEnd (o : Outside) (status : ℕ) : Type 0 where
+-- How it ends where the words are no command.
+pub record WordsEnd (o : AtSink) (status : ℕ) : Type 0 where
   pub statuses : Contains (BAD_WORDS ∷ UNWRITABLE ∷ []) status
-  pub refused : status ≡ BAD_WORDS → Appends o.held.0 o.held.1 bad_words
-  pub unwritten : status ≡ UNWRITABLE → Rose o.sink_faults.0 o.sink_faults.1 × AppendsFront o.held.0 o.held.1 bad_words
+  pub refused : status ≡ BAD_WORDS → WritesLines o.told.0 o.told.1 (bad_words ∷ [])
+  pub unwritten : status ≡ UNWRITABLE → Rose o.faults.0 o.faults.1 × BeginsLines o.told.0 o.told.1 (bad_words ∷ [])
+
+-- How the program ends, by the command that its words are. Only `lab` touches the source, and only `serve` the link and
+-- the clock.
+abbrev pub RunEnds : AtSource → AtSink → Network → Option Request → ℕ → Type 0
+RunEnds i o n (Some (lab file)) status = LabEnds i o file status × n.kept
+RunEnds i o n (Some (serve asked)) status = ServeEnds o n asked status × i.kept
+RunEnds i o n (Some (show word)) status = ShowEnds o word status × i.kept × n.kept
+RunEnds i o n None status = WordsEnd o status × i.kept × n.kept

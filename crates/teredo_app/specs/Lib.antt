@@ -1,7 +1,10 @@
-pub mod Streams
-pub mod Reports
-pub mod Ends
+pub mod Outside
+pub mod SourceText
+pub mod SinkLines
 pub mod ServeWords
+pub mod Command
+pub mod ScenarioReport
 pub mod ServeLine
-pub mod Serving
+pub mod Session
+pub mod Ends
 pub mod Endings

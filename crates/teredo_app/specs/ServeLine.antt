@@ -3,9 +3,9 @@ use Rattle.std.specs.Prelude.{ℕ, List, ◌++◌, codes, decimal}
 use Rattle.teredo_node.specs.declared.serve.Totals.{Totals}
 
 -- a word and a number
-abbrev pub part : List ℕ → ℕ → List ℕ
-part word number = word ++ decimal number
+abbrev pub word_and_number : List ℕ → ℕ → List ℕ
+word_and_number word number = word ++ decimal number
 
 abbrev pub serve_line : Totals → List ℕ
 serve_line totals =
-    part (codes "served ") totals.served ++ (part (codes " sent ") totals.sent ++ (part (codes " failed ") totals.failed ++ (part (codes " six ") totals.six ++ (part (codes " dropped ") totals.dropped ++ codes "\n"))))
+    word_and_number (codes "served ") totals.served ++ (word_and_number (codes " sent ") totals.sent ++ (word_and_number (codes " failed ") totals.failed ++ (word_and_number (codes " six ") totals.six ++ (word_and_number (codes " dropped ") totals.dropped ++ codes "\n"))))

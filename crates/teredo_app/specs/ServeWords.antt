@@ -18,7 +18,3 @@ pub record Asks (words : List (List ℕ)) (asked : ServeWords) : Type 0 where
   pub count : asked.count ≤ TURNS_MAX
   pub some_idles : 1 ≤ asked.idles
   pub few_idles : asked.idles ≤ TURNS_MAX
-
--- The words don't ask to serve.
-abbrev pub AskNothing : List (List ℕ) → Type 0
-AskNothing words = (asked : ServeWords) → Asks words asked → ⊥

@@ -3,11 +3,14 @@
 //!
 //! # What the layer above may rely on
 //!
-//! - `run` ends with the status of `docs/SCENARIOS.md`, and has then written what that status says. On `lab FILE`
-//!   that is the report of the one legal history of the scenario, or one line that refuses its text; on `show HEX`
-//!   the lines of the payload, or one line that names its first fault; on `serve IP1 IP2 COUNT IDLES` the line of the
-//!   totals, after a server at these addresses answered each arrival by its table.
-//! - Only `lab` touches the source, and only `serve` the link and the clock.
+//! - The words are one command or none, and `run` ends by it, with the status of `docs/SCENARIOS.md` and what that
+//!   status says it has written. On `lab FILE` that is the report of the one legal history of the scenario, or one line
+//!   that refuses its text; on `show HEX` the page of the payload, or one line that names its first fault; on
+//!   `serve IP1 IP2 COUNT IDLES` the line of the totals, after a server at these addresses answered each arrival by its
+//!   table.
+//! - `lab` opens its file alone, once, and reads no more of it than the longest text and one byte; `serve` opens the
+//!   link on its two addresses alone. Each line begins a piece of its own. Only `lab` touches the source, and only
+//!   `serve` the link and the clock.
 //!
 //! # What it does not know
 //!
@@ -18,28 +21,31 @@
 //! | module | holds | stated in |
 //! |---|---|---|
 //! | `statuses` | the numbers that the program ends with | `specs/Ends.antt` |
-//! | `streams` | a source is read whole, a piece is written whole | `specs/Streams.antt` |
-//! | `play` | a scenario is played and reported | `specs/Reports.antt` |
+//! | `command` | the command that the words are | `specs/Command.antt` |
 //! | `serve_words` | the words of `serve` | `specs/ServeWords.antt` |
-//! | `serving` | a server at a link | `specs/Serving.antt` |
+//! | `source_text` | the text of a file | `specs/SourceText.antt` |
+//! | `sink_lines` | lines that are written to a sink | `specs/SinkLines.antt` |
+//! | `scenario_report` | a scenario is played and reported | `specs/ScenarioReport.antt` |
+//! | `session` | a server at a link | `specs/Session.antt` |
 //! | `serve_line` | the line that `serve` ends with | `specs/ServeLine.antt` |
-//! | `top` | `run` | `specs/Ends.antt`, `specs/Serving.antt` |
+//! | `program` | `run` | `specs/Ends.antt`, over `specs/Outside.antt` |
 #![tactic(auto)]
 
-mod play;
+mod command;
+mod program;
+mod scenario_report;
 mod serve_line;
-#[cfg(test)]
-mod serve_tests;
 mod serve_words;
-mod serving;
+mod session;
+mod sink_lines;
+mod source_text;
 mod statuses;
-mod streams;
-#[cfg(test)]
-mod tests;
-mod top;
 
+pub use command::Command;
+pub use program::run;
 pub use serve_words::ServeWords;
+pub use source_text::TEXT_READ_MAX;
 pub use statuses::{
     BAD_PAYLOAD, BAD_SCENARIO, BAD_WORDS, DONE, NO_LINK, NO_MEMORY, UNREADABLE, UNWRITABLE,
+    WIRE_FULL,
 };
-pub use top::run;

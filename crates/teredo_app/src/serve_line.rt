@@ -1,6 +1,6 @@
 //! The line that `serve` ends with.
 ghost use Rattle.std.specs.Prelude.{◌≡◌, ◌+◌, ◌≤◌, ◌++◌, length};
-ghost use Rattle.teredo_app.specs.ServeLine.{part, serve_line};
+ghost use Rattle.teredo_app.specs.ServeLine.{word_and_number, serve_line};
 
 use td_base::{LINE_LEN, LineBuf, NUMBER_LEN, print_number};
 use teredo_node::Totals;
@@ -8,7 +8,7 @@ use teredo_node::Totals;
 /// Appends a word and a number.
 fn put_part(word: &[u8], number: u64, out: &mut LineBuf)
     requires { length out.old + length word.now + NUMBER_LEN ≤ LINE_LEN }
-    ensures text { out.new ≡ out.old ++ part word.now number }
+    ensures text { out.new ≡ out.old ++ word_and_number word.now number }
     ensures short { length out.new ≤ length out.old + length word.now + NUMBER_LEN }
 {
     out.push_text(word);

@@ -1,5 +1,5 @@
 //! The words `serve IP1 IP2 COUNT IDLES`.
-ghost use Rattle.std.specs.Prelude.{◌≡◌, ◌≤◌, ℕ, List, [], ◌∷◌, map, codes, decimal, string_bytes, IfSome};
+ghost use Rattle.std.specs.Prelude.{◌≡◌, ◌≤◌, ℕ, [], ◌∷◌, Some, codes, decimal, IfSome};
 ghost use Rattle.td_base.specs.Ip4.{IsIp4};
 ghost use Rattle.td_base.specs.Texts.{ip4_text};
 ghost use Rattle.teredo_app.specs.ServeWords.{Asks};
@@ -35,7 +35,7 @@ fn turns(word: &str) -> Option<u64>
 }
 
 /// What the words behind `serve` ask for.
-fn asked_by(primary: &str, secondary: &str, count: &str, idles: &str) -> Option<ServeWords>
+pub fn serve_words(primary: &str, secondary: &str, count: &str, idles: &str) -> Option<ServeWords>
     ensures found { IfSome result (λ asked. Asks (codes "serve" ∷ primary.now ∷ secondary.now ∷ count.now ∷ idles.now ∷ []) asked) }
     ensures only { (asked : ServeWords) → Asks (codes "serve" ∷ primary.now ∷ secondary.now ∷ count.now ∷ idles.now ∷ []) asked → result ≡ Some asked }
 {
@@ -55,26 +55,4 @@ fn asked_by(primary: &str, secondary: &str, count: &str, idles: &str) -> Option<
         count,
         idles,
     })
-}
-
-/// What the words ask for, where they ask to serve.
-pub fn serve_asked(words: &[String]) -> Option<ServeWords>
-    ensures found { IfSome result (λ asked. Asks (map string_bytes words.now) asked) }
-    ensures only { (asked : ServeWords) → Asks (map string_bytes words.now) asked → result ≡ Some asked }
-{
-    match words {
-        [command, primary, secondary, count, idles] => {
-            if command.as_str() == "serve" {
-                asked_by(
-                    primary.as_str(),
-                    secondary.as_str(),
-                    count.as_str(),
-                    idles.as_str(),
-                )
-            } else {
-                None
-            }
-        }
-        _ => None,
-    }
 }

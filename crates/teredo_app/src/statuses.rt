@@ -1,10 +1,11 @@
+//! The numbers that the program ends with.
 /// The command did all its work.
 pub const DONE: u8 = 0;
 
 /// The word of `show` is no payload.
 pub const BAD_PAYLOAD: u8 = 1;
 
-/// The words have none of the shapes.
+/// The words are no command.
 pub const BAD_WORDS: u8 = 2;
 
 /// The scenario is refused.
@@ -21,3 +22,6 @@ pub const NO_LINK: u8 = 6;
 
 /// Memory ran out.
 pub const NO_MEMORY: u8 = 7;
+
+/// The next record would make more entries of the wire than it holds.
+pub const WIRE_FULL: u8 = 8;

@@ -6,10 +6,15 @@
 //! What the words mean: `teredo_app` does.
 #![tactic(auto)]
 
+ghost use Rattle.std.specs.Prelude.{◌≡◌, Option, map, string_bytes};
+ghost use Rattle.std.specs.Process.{exit_status};
+ghost use Rattle.teredo_app.specs.Command.{Request, IsCommand};
+ghost use Rattle.teredo_app.specs.Ends.{RunEnds};
+
 use std::process::ExitCode;
 use std::{env, io};
-use td_outside::{FileSource, StdSink, SystemClock, UdpPair};
-use teredo_app::{NO_MEMORY, run};
+use td_outside::{Clock, FileSource, Link, Sink, Source, StdSink, SystemClock, UdpPair};
+use teredo_app::{BAD_WORDS, NO_LINK, NO_MEMORY, UNREADABLE, UNWRITABLE, WIRE_FULL, run};
 
 /// The words of the command line without the program's name.
 fn words_of(rt: &HostRuntime) -> io::Result<Vec<String>> {
@@ -20,31 +25,81 @@ fn words_of(rt: &HostRuntime) -> io::Result<Vec<String>> {
     Ok(words)
 }
 
+/// What a status means and what to look at, where nothing on standard output says so.
+fn hint_at(status: u8) -> Option<&'static str> {
+    match status {
+        BAD_WORDS => Some("the words are `lab FILE`, `show HEX` or `serve IP1 IP2 COUNT IDLES`"),
+        UNREADABLE => Some("the file could not be read: look at its name and its permissions"),
+        UNWRITABLE => Some("standard output could not be written: is it closed, or full?"),
+        NO_LINK => Some(
+            "the addresses could not be served: both must be this machine's, with UDP port 3544 free",
+        ),
+        NO_MEMORY => Some("there was not enough memory"),
+        WIRE_FULL => Some("the scenario sends more than 65,536 datagrams and packets"),
+        _ => None,
+    }
+}
+
+/// Runs, and ends with the status that `run` answers. Standard error, which `run` doesn't know, gets one plain line.
+fn run_on<S: Source, K: Sink, L: Link, C: Clock>(
+    rt: &HostRuntime,
+    words: &Vec<String>,
+    src: &mut S,
+    out: &mut K,
+    link: &mut L,
+    clock: &mut C,
+) -> ExitCode
+    ensures ends { (asked : Option Request) → IsCommand (map string_bytes words.now.items) asked → RunEnds (record {
+      kept = src.new ≡ src.old;
+      stands_for = S.stands_for src.old;
+      openings = (S.openings src.old, S.openings src.new);
+      taken = (S.taken src.old, S.taken src.new);
+      faults = (S.faults src.old, S.faults src.new);
+    }) (record {
+      told = (record { held = K.holds out.old; pieces = K.pieces out.old }, record { held = K.holds out.new; pieces = K.pieces out.new });
+      faults = (K.faults out.old, K.faults out.new);
+    }) (record {
+      kept = (link.new ≡ link.old) × (clock.new ≡ clock.old);
+      told = (L.told link.old, L.told link.new);
+      openings = (L.openings link.old, L.openings link.new);
+      addresses = (L.addresses link.old, L.addresses link.new);
+      receive_faults = (L.recv_faults link.old, L.recv_faults link.new);
+      send_faults = (L.send_faults link.old, L.send_faults link.new);
+      moments = (C.last clock.old, C.last clock.new);
+    }) asked (exit_status result) }
+{
+    let status = run(rt.alloc(), words, src, out, link, clock);
+    if let Some(hint) = hint_at(status) {
+        let _ = eprintln!(rt; "teredo_cli: {hint}");
+    }
+    ExitCode::from(status)
+}
+
 /// Runs over real files, standard output and sockets.
-fn run_on(rt: &HostRuntime, words: &Vec<String>) -> ExitCode {
+fn run_on_system(rt: &HostRuntime, words: &Vec<String>) -> ExitCode {
     let mut source = FileSource::new(rt);
     let mut sink = StdSink::new(io::writer(rt));
     let mut link = UdpPair::new(rt);
     let mut clock = SystemClock::new(rt);
-    ExitCode::from(run(
-        rt.alloc(),
+    run_on(
+        rt,
         words,
         &mut source,
         &mut sink,
         &mut link,
         &mut clock,
-    ))
+    )
 }
 
 fn main(rt: HostRuntime) -> ExitCode {
     match words_of(&rt) {
-        Ok(words) => run_on(&rt, &words),
+        Ok(words) => run_on_system(&rt, &words),
         Err(error) => {
             if error.kind() == io::ErrorKind::OutOfMemory {
                 return ExitCode::from(NO_MEMORY);
             }
             // Words that aren't text have no shape, and neither has an empty list.
-            run_on(&rt, &Vec::new(rt.alloc()))
+            run_on_system(&rt, &Vec::new(rt.alloc()))
         }
     }
 }

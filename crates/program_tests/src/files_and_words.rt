@@ -1,0 +1,188 @@
+//! `lab`, `show` and words that are no command, over a source and a sink in memory.
+use crate::vectors::{ROOM, words_of};
+use std::alloc::Global;
+use std::test::Fail;
+use td_base::{Millis, NoMemory};
+use td_outside::{MemLink, MemSink, MemSource, TestClock};
+use teredo_app::run;
+
+const NAME: &str = "f.toml";
+
+const LAB: [&str; 2] = ["lab", NAME];
+
+/// A server is asked by a client that isn't cone.
+const ASKED: &str = r#"
+seed = 1
+events = [
+  "stranger 198.51.100.7:40000 192.0.2.1:3544 000100000102030405060708006000000000083afffe80000000000000000063bf39cc9bf8ff020000000000000000000000000002850043b300000000",
+  "deliver 0",
+]
+server = [{ name = "s1", primary = "192.0.2.1", secondary = "192.0.2.2" }]
+"#;
+
+const ASKED_FIRST: &str = "0 0 0 stranger - put #0=198.51.100.7:40000>192.0.2.1:3544/61\n";
+
+const ASKED_REPORT: &str =
+    "0 0 0 stranger - put #0=198.51.100.7:40000>192.0.2.1:3544/61\n1 0 1 deliver:0 s1 advert #1=192.0.2.1:3544>198.51.100.7:40000/117\ntotal records 2 entries 2 delivered 1 handed 0 kept 0 dropped 0\n";
+
+/// The same with the cone bit: the answer comes from the secondary address (RFC 4380, section 5.3.1).
+const CONE: &str = r#"
+seed = 1
+events = [
+  "stranger 198.51.100.7:40000 192.0.2.1:3544 000100000102030405060708006000000000083afffe80000000000000800063bf39cc9bf8ff0200000000000000000000000000028500c3b200000000",
+  "deliver 0",
+]
+server = [{ name = "s1", primary = "192.0.2.1", secondary = "192.0.2.2" }]
+"#;
+
+const CONE_REPORT: &str =
+    "0 0 0 stranger - put #0=198.51.100.7:40000>192.0.2.1:3544/61\n1 0 1 deliver:0 s1 advert #1=192.0.2.2:3544>198.51.100.7:40000/117\ntotal records 2 entries 2 delivered 1 handed 0 kept 0 dropped 0\n";
+
+/// A bubble to an address that embeds the server itself.
+const LOOP: &str = r#"
+seed = 1
+events = [
+  "stranger 198.51.100.7:40000 192.0.2.1:3544 6000000000003bff20010000c0000201000063bf39cc9bf820010000c00002010000f2273ffffdfe",
+  "deliver 0",
+]
+server = [{ name = "s1", primary = "192.0.2.1", secondary = "192.0.2.2" }]
+"#;
+
+const LOOP_REPORT: &str =
+    "0 0 0 stranger - put #0=198.51.100.7:40000>192.0.2.1:3544/40\n1 0 1 deliver:0 s1 loop\ntotal records 2 entries 1 delivered 1 handed 0 kept 0 dropped 1\n";
+
+const NO_EVENTS: &str = "seed = 1\nevents = []\n";
+
+const NO_EVENTS_REPORT: &str = "total records 0 entries 0 delivered 0 handed 0 kept 0 dropped 0\n";
+
+/// A NAT without a mapping lets nothing in, whenever it is asked.
+const CLOSED_NAT: &str = r#"
+seed = 1
+events = [
+  "stranger 198.51.100.7:40000 198.51.100.1:1024 00",
+  "deliver 0",
+  "advance 60000",
+  "copy 0 203.0.113.5:3544 198.51.100.1:1025",
+  "next",
+  "next",
+  "restart n1",
+]
+
+[[nat]]
+name = "n1"
+kind = "cone"
+external = "198.51.100.1"
+idle = 60000
+"#;
+
+const CLOSED_NAT_REPORT: &str =
+    "0 0 0 stranger - put #0=198.51.100.7:40000>198.51.100.1:1024/1\n1 0 1 deliver:0 n1 nat_closed\n2 60000 2 advance - done\n3 60000 3 copy:0 - put #1=203.0.113.5:3544>198.51.100.1:1025/1\n4 60000 4 deliver:1 n1 nat_closed\n5 60000 5 next - no_entry\n6 60000 6 restart n1 done\ntotal records 7 entries 2 delivered 2 handed 0 kept 0 dropped 3\n";
+
+/// A relay, which isn't played yet.
+const RELAY: &str = r#"
+seed = 1
+events = []
+relay = [{ name = "r1", at = "203.0.113.9:3545", six = "2001:db8::9" }]
+"#;
+
+/// A bubble from one client to another.
+const BUBBLE: &str =
+    "6000000000003bff200100004136e378800063bf3ffffdd2200100004136e378000063bf39cc9bf8";
+
+const BUBBLE_LINES: &str =
+    "auth none\norigin none\npacket class 0 flow 0 next 59 hop 255 length 0\nsource 2001:0:4136:e378:8000:63bf:3fff:fdd2\nteredo server 65.54.227.120 flags 8000 mapped 192.0.2.45:40000\ndestination 2001:0:4136:e378:0:63bf:39cc:9bf8\nteredo server 65.54.227.120 flags 0000 mapped 198.51.100.7:40000\nbody bubble -\n";
+
+/// An origin before an authentication.
+const WRONG_ORDER: &str =
+    "000063bf39cc9bf8000100000102030405060708006000000000083afffe80000000000000000063bf39cc9bf8ff020000000000000000000000000002850043b300000000";
+
+/// A solicitation without its last byte.
+const CUT: &str =
+    "000100000102030405060708006000000000083afffe80000000000000000063bf39cc9bf8ff020000000000000000000000000002850043b3000000";
+
+/// A bubble without its last byte.
+const CUT_BUBBLE: &str =
+    "6000000000003bff200100004136e378800063bf3ffffdd2200100004136e378000063bf39cc9b";
+
+/// A run: its words, the text of its file, which calls fail, and then its status and what was written.
+#[derive(Clone, Copy)]
+struct Row<'a> {
+    words: &'a [&'a str],
+    text: &'a [u8],
+    read_fails: &'a [u64],
+    write_fails: &'a [u64],
+    status: u8,
+    written: &'a str,
+}
+
+/// A run in which no call fails.
+fn ending<'a>(words: &'a [&'a str], text: &'a str, status: u8, written: &'a str) -> Row<'a> {
+    Row {
+        words,
+        text: text.as_bytes(),
+        read_fails: &[],
+        write_fails: &[],
+        status,
+        written,
+    }
+}
+
+/// Whether the run ends so.
+fn ends_so(alloc: Global, row: &Row) -> Result<bool, NoMemory> {
+    let words = words_of(alloc, row.words)?;
+    let mut source = MemSource::new(alloc, NAME, row.text, row.read_fails)?;
+    let mut sink = MemSink::new(alloc, ROOM, row.write_fails)?;
+    let mut link = MemLink::new(alloc, Vec::new(alloc), 0, &[], &[])?;
+    let mut clock = TestClock::new([Millis(0); 4]);
+    let status = run(alloc, &words, &mut source, &mut sink, &mut link, &mut clock);
+    Ok(status == row.status && sink.as_slice() == row.written.as_bytes())
+}
+
+#[test]
+fn files_are_played_and_words_are_shown(rt: HostRuntime) -> Result<(), Fail> {
+    let rows = [
+        ending(&LAB, ASKED, 0, ASKED_REPORT),
+        ending(&LAB, CONE, 0, CONE_REPORT),
+        ending(&LAB, LOOP, 0, LOOP_REPORT),
+        ending(&LAB, NO_EVENTS, 0, NO_EVENTS_REPORT),
+        ending(&LAB, CLOSED_NAT, 0, CLOSED_NAT_REPORT),
+        ending(&["show", BUBBLE], "", 0, BUBBLE_LINES),
+        ending(&["show", WRONG_ORDER], "", 1, "fault order at 8\n"),
+        ending(&["show", CUT], "", 1, "fault length said 8 there 7 at 13\n"),
+        ending(&["show", CUT_BUBBLE], "", 1, "fault short 39 at 0\n"),
+        ending(&["show", "-"], "", 1, "fault hex at 0\n"),
+        ending(&["show", ""], "", 1, "fault cut at 0\n"),
+        ending(&[], "", 2, "words\n"),
+        ending(&["lab"], "", 2, "words\n"),
+        ending(&["show"], "", 2, "words\n"),
+        ending(&["--help"], "", 2, "words\n"),
+        ending(&["gen", "01", "5"], "", 2, "words\n"),
+        ending(&["serve", "127.0.0.1", "127.0.0.1", "1", "1"], "", 2, "words\n"),
+        ending(&["serve", "127.0.0.1", "127.0.0.256", "1", "1"], "", 2, "words\n"),
+        ending(&["serve", "127.0.0.1", "127.0.0.2", "1000000001", "1"], "", 2, "words\n"),
+        ending(&["serve", "127.0.0.1", "127.0.0.2", "01", "1"], "", 2, "words\n"),
+        ending(&["serve", "127.0.0.1", "127.0.0.2", "1", "0"], "", 2, "words\n"),
+        ending(&LAB, "", 3, "scenario: unbuilt\n"),
+        ending(&LAB, "seed", 3, "scenario: unbuilt\n"),
+        ending(&LAB, "seed = 1\nevents = [\"host a a 00\"]\n", 3, "scenario: unbuilt\n"),
+        ending(&LAB, RELAY, 3, "scenario: unbuilt\n"),
+    ];
+    for row in rows.iter() {
+        assert!(rt; ends_so(rt.alloc(), row)?, "{}", row.written);
+    }
+    Ok(())
+}
+
+#[test]
+fn what_fails_outside_ends_the_run(rt: HostRuntime) -> Result<(), Fail> {
+    let rows = [
+        Row { read_fails: &[1], ..ending(&LAB, ASKED, 4, "") },
+        Row { write_fails: &[1], ..ending(&LAB, ASKED, 5, ASKED_FIRST) },
+        Row { write_fails: &[0], ..ending(&["show", BUBBLE], "", 5, "") },
+        Row { text: b"\xff\xfe", ..ending(&LAB, "", 3, "scenario: unbuilt\n") },
+    ];
+    for row in rows.iter() {
+        assert!(rt; ends_so(rt.alloc(), row)?, "{}", row.written);
+    }
+    Ok(())
+}

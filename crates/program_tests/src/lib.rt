@@ -1,0 +1,36 @@
+//! The tests of the program: `run` over forms in memory and over real sockets, and the laboratory's calls once each.
+//!
+//! Expected lines are worked out by hand from the rules, never taken from what the program wrote. A crate with tests is
+//! proved twice, so those of the crates from `report` to `teredo_app` stand here, once for all of them: they need public
+//! calls alone.
+//!
+//! # What it does not know
+//!
+//! Private items of any crate: nothing is made public for a test.
+//!
+//! # Parts
+//!
+//! | module | tries |
+//! |---|---|
+//! | `vectors` | nothing: the datagrams of the others |
+//! | `files_and_words` | `run` on `lab` and `show`, and on words that are no command |
+//! | `arrivals` | `run` on `serve`, over a link in memory |
+//! | `sockets` | `run` on `serve`, over two sockets |
+//! | `worlds` | `scenario` and `world` |
+//! | `lines` | `report` |
+#![tactic(auto)]
+
+#[cfg(test)]
+mod arrivals;
+#[cfg(test)]
+mod files_and_words;
+#[cfg(test)]
+mod lines;
+#[cfg(test)]
+mod nodes;
+#[cfg(test)]
+mod sockets;
+#[cfg(test)]
+mod vectors;
+#[cfg(test)]
+mod worlds;

@@ -1,0 +1,126 @@
+use Rattle.std.proofs.Common.{◌≡◌, ◌≤◌, List, [], Some, sym, subst, refl, arith, ◌∙◌, ap, length}
+use Rattle.std.specs.Prelude.{slice_get}
+use Rattle.std.proofs.lemmas.Option.{slice_get_read}
+use Rattle.history.specs.declared.event.Event.{Event}
+use Rattle.history.specs.declared.turn.Stop.{Stop}
+use Rattle.world.specs.World.{StopsFor}
+use Rattle.report.specs.declared.totals.Sums.{Sums}
+use Rattle.scenario.specs.Told.{told}
+use Rattle.teredo_app.specs.Outside.{SinkTold}
+use Rattle.teredo_app.specs.ScenarioReport.{some_lines}
+use Rattle.teredo_app.proofs.Written.{none_written, BeginsLines-whole}
+use Rattle.teredo_app.proofs.Played as played
+use Rattle.teredo_app.proofs.scenario_report.write_report.Goals as goal
+
+pub loop-index-init : goal.loop-index-init
+loop-index-init g c =
+    let s = told c.args.s.now in
+    let a : SinkTold = record { held = g.K.Sink.holds c.args.out.now; pieces = g.K.Sink.pieces c.args.out.now } in
+    let made = played.nothing_played s a c.in-Ok.world c.in-Ok.ensures.topology c.in-Ok.ensures.goes_on c.in-Ok.ensures.stands in
+    record { played = subst (λ (z : Sums). played.Played s a a c.in-Ok.world z 0 played.IsFree) (sym c.new-sums.ensures) made; same = refl }
+
+pub returns-in_default-clause-err : goal.returns-in_default-clause-err
+returns-in_default-clause-err g c = some_lines [] tt (BeginsLines-whole _ _ [] (none_written _))
+
+pub returns-in-Ok-write_totals-clause-ok : goal.returns-in-Ok-write_totals-clause-ok
+returns-in-Ok-write_totals-clause-ok g c =
+    let end : length c.args.s.now.events ≤ c.loop-index.index = omega (arith, ap length c.as_slice-event-items.ensures, c.loop-index-test.false) in
+    played.all_played (told c.args.s.now) _ _ _ c.loop-index.world c.loop-index.sums c.loop-index.index c.loop-index.invariant.played end c.in-Ok-write_totals.ensures.ok
+
+pub returns-clause-err : goal.returns-clause-err
+returns-clause-err g c =
+    let end : length c.args.s.now.events ≤ c.loop-index.index = omega (arith, ap length c.as_slice-event-items.ensures, c.loop-index-test.false) in
+    played.totals_broken (told c.args.s.now) _ _ _ c.loop-index.world c.loop-index.sums c.loop-index.index c.loop-index.invariant.played end c.in-Err.ensures.err
+
+pub loop-turn-init : goal.loop-turn-init
+loop-turn-init g c = record { played = played.event_begins (told c.args.s.now) _ _ _ _ _ c.event-item.result c.loop-index.invariant.played; same = c.loop-index.invariant.same }
+
+pub loop-turn-preserved : goal.loop-turn-preserved
+loop-turn-preserved g c =
+    let event : slice_get c.args.s.now.events c.loop-index.index ≡ Some c.event-item.result = subst (λ (es : List Event). slice_get es c.loop-index.index ≡ Some c.event-item.result) c.as_slice-event-items.ensures (slice_get_read c.as_slice-event-items.result.now _ c.loop-index.index c.event-item.result refl (omega arith) c.event-item.is) in
+    let before : SinkTold = record { held = g.K.Sink.holds c.args.out.now; pieces = g.K.Sink.pieces c.args.out.now } in
+    let now : SinkTold = record { held = g.K.Sink.holds c.loop-turn.out; pieces = g.K.Sink.pieces c.loop-turn.out } in
+    let turned : played.Turned (told c.args.s.now) before now = record {
+      w = c.loop-turn.world;
+      new = c.step.new.self;
+      sums = c.loop-turn.sums;
+      index = c.loop-index.index;
+      event = c.event-item.result;
+      turn = c.in-Ok-step.turn;
+      played = c.loop-turn.invariant.played;
+      is = event;
+      steps = c.in-Ok-step.ensures.ok;
+      falls = c.in-Ok-step.ensures.falls;
+      time = c.in-Ok-step.ensures.time;
+      entries = c.in-Ok-step.ensures.entries;
+    } in
+    let line = rw c.record_in-r.ensures at c.in-Ok-write_record.ensures.ok in
+    let adds = rw c.record_in-r.ensures at c.add.ensures.sums in
+    let more = sym c.is_more.ensures ∙ c.if-not-is_more.false in
+    record {
+      played = played.goes_on c.of_its_event.ensures (told c.args.s.now) before now _ turned c.add.new.self more line adds;
+      same = c.in-Ok-write_record.ensures.cause.kept ∙ c.loop-turn.invariant.same;
+    }
+
+pub loop-turn-smaller : goal.loop-turn-smaller
+loop-turn-smaller g c = played.falls_by c.loop-turn.world c.step.new.self c.in-Ok-step.turn (sym c.is_more.ensures ∙ c.if-not-is_more.false) c.in-Ok-step.ensures.falls
+
+pub loop-index-preserved : goal.loop-index-preserved
+loop-index-preserved g c =
+    let event : slice_get c.args.s.now.events c.loop-index.index ≡ Some c.event-item.result = subst (λ (es : List Event). slice_get es c.loop-index.index ≡ Some c.event-item.result) c.as_slice-event-items.ensures (slice_get_read c.as_slice-event-items.result.now _ c.loop-index.index c.event-item.result refl (omega arith) c.event-item.is) in
+    let before : SinkTold = record { held = g.K.Sink.holds c.args.out.now; pieces = g.K.Sink.pieces c.args.out.now } in
+    let now : SinkTold = record { held = g.K.Sink.holds c.loop-turn.out; pieces = g.K.Sink.pieces c.loop-turn.out } in
+    let turned : played.Turned (told c.args.s.now) before now = record {
+      w = c.loop-turn.world;
+      new = c.step.new.self;
+      sums = c.loop-turn.sums;
+      index = c.loop-index.index;
+      event = c.event-item.result;
+      turn = c.in-Ok-step.turn;
+      played = c.loop-turn.invariant.played;
+      is = event;
+      steps = c.in-Ok-step.ensures.ok;
+      falls = c.in-Ok-step.ensures.falls;
+      time = c.in-Ok-step.ensures.time;
+      entries = c.in-Ok-step.ensures.entries;
+    } in
+    let line = rw c.record_in-r.ensures at c.in-Ok-write_record.ensures.ok in
+    let adds = rw c.record_in-r.ensures at c.add.ensures.sums in
+    let last = sym c.is_more.ensures ∙ c.if-not-is_more.true in
+    record {
+      played = played.event_ends c.of_its_event.ensures (told c.args.s.now) before now _ turned c.add.new.self last line adds;
+      same = c.in-Ok-write_record.ensures.cause.kept ∙ c.loop-turn.invariant.same;
+    }
+
+pub returns-in_default-write_record-clause-err : goal.returns-in_default-write_record-clause-err
+returns-in_default-write_record-clause-err g c =
+    let event : slice_get c.args.s.now.events c.loop-index.index ≡ Some c.event-item.result = subst (λ (es : List Event). slice_get es c.loop-index.index ≡ Some c.event-item.result) c.as_slice-event-items.ensures (slice_get_read c.as_slice-event-items.result.now _ c.loop-index.index c.event-item.result refl (omega arith) c.event-item.is) in
+    let before : SinkTold = record { held = g.K.Sink.holds c.args.out.now; pieces = g.K.Sink.pieces c.args.out.now } in
+    let now : SinkTold = record { held = g.K.Sink.holds c.loop-turn.out; pieces = g.K.Sink.pieces c.loop-turn.out } in
+    let turned : played.Turned (told c.args.s.now) before now = record {
+      w = c.loop-turn.world;
+      new = c.step.new.self;
+      sums = c.loop-turn.sums;
+      index = c.loop-index.index;
+      event = c.event-item.result;
+      turn = c.in-Ok-step.turn;
+      played = c.loop-turn.invariant.played;
+      is = event;
+      steps = c.in-Ok-step.ensures.ok;
+      falls = c.in-Ok-step.ensures.falls;
+      time = c.in-Ok-step.ensures.time;
+      entries = c.in-Ok-step.ensures.entries;
+    } in
+    let line = rw c.record_in-r.ensures at c.in_default-write_record.ensures.err in
+    played.record_broken (told c.args.s.now) before now _ turned line
+
+pub returns-in-Err-NoMemory-clause-err : goal.returns-in-Err-NoMemory-clause-err
+returns-in-Err-NoMemory-clause-err g c = played.stopped _ _ _ c.loop-turn.world c.loop-turn.sums c.loop-index.index c.event-item.result c.loop-turn.invariant.played
+
+pub returns-in-Err-WireFull-clause-err : goal.returns-in-Err-WireFull-clause-err
+returns-in-Err-WireFull-clause-err g c = played.stopped _ _ _ c.loop-turn.world c.loop-turn.sums c.loop-index.index c.event-item.result c.loop-turn.invariant.played
+
+pub returns-in-Err-WireFull-clause-full : goal.returns-in-Err-WireFull-clause-full
+returns-in-Err-WireFull-clause-full g c = λ e.
+    let event : slice_get c.args.s.now.events c.loop-index.index ≡ Some c.event-item.result = subst (λ (es : List Event). slice_get es c.loop-index.index ≡ Some c.event-item.result) c.as_slice-event-items.ensures (slice_get_read c.as_slice-event-items.result.now _ c.loop-index.index c.event-item.result refl (omega arith) c.event-item.is) in
+    played.wire_filled (told c.args.s.now) _ _ c.loop-turn.world c.loop-turn.sums c.loop-index.index c.event-item.result c.loop-turn.invariant.played event (subst (λ (z : Stop). StopsFor c.loop-turn.world c.loop-index.index c.event-item.result z) c.in-Err-WireFull.field-0-is (c.in-Err-WireFull.ensures.cause c.loop-turn.invariant.played.open_still))

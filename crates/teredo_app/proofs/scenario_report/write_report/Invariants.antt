@@ -1,0 +1,20 @@
+use Rattle.std.proofs.Common.{◌≡◌}
+use Rattle.world.specs.World.{IsAgain}
+use Rattle.scenario.specs.Told.{told}
+use Rattle.teredo_app.proofs.Played.{Played, IsFree}
+use Rattle.teredo_app.proofs.scenario_report.write_report.Given as goal
+
+abbrev pub invariant-loop-index : goal.invariant-loop-index
+invariant-loop-index g l = record {
+  played : Played (told l.s) (record { held = g.K.Sink.holds l.fn.out; pieces = g.K.Sink.pieces l.fn.out }) (record { held = g.K.Sink.holds l.out; pieces = g.K.Sink.pieces l.out }) l.world l.sums l.index IsFree;
+  same : g.K.Sink.faults l.out ≡ g.K.Sink.faults l.fn.out;
+}
+
+abbrev pub invariant-loop-turn : goal.invariant-loop-turn
+invariant-loop-turn g l = record {
+  played : Played (told l.s) (record { held = g.K.Sink.holds l.fn.out; pieces = g.K.Sink.pieces l.fn.out }) (record { held = g.K.Sink.holds l.out; pieces = g.K.Sink.pieces l.out }) l.world l.sums l.index (λ going. IsAgain going l.event);
+  same : g.K.Sink.faults l.out ≡ g.K.Sink.faults l.fn.out;
+}
+
+abbrev pub decreases-loop-turn : goal.decreases-loop-turn
+decreases-loop-turn g l = l.world.left

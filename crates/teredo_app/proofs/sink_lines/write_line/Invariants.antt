@@ -1,0 +1,15 @@
+use Rattle.std.proofs.Common.{◌≡◌, ◌≤◌, ◌-◌, length, take}
+use Rattle.std.specs.Io.KnownBytes.{Appends}
+use Rattle.teredo_app.proofs.Written.{HandedTo}
+use Rattle.teredo_app.proofs.sink_lines.write_line.Given as goal
+
+abbrev pub invariant-loop-at : goal.invariant-loop-at
+invariant-loop-at g l = record {
+  within : l.at ≤ length l.line;
+  written : Appends (g.K.Sink.holds l.fn.out) (g.K.Sink.holds l.out) (take l.at l.line);
+  handed : HandedTo l.line l.at (g.K.Sink.pieces l.fn.out) (g.K.Sink.pieces l.out);
+  same : g.K.Sink.faults l.out ≡ g.K.Sink.faults l.fn.out;
+}
+
+abbrev pub decreases-loop-at : goal.decreases-loop-at
+decreases-loop-at g l = length l.initial.line - l.at

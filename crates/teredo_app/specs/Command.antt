@@ -1,0 +1,29 @@
+-- The words of the command line, and the command that they are.
+use Rattle.std.specs.Prelude.{◌≡◌, ℕ, List, [], ◌∷◌, codes, Option, Some, None}
+use Rattle.teredo_app.specs.declared.command.Command.{Command}
+use Rattle.teredo_app.specs.declared.command.Command.TheVariants.{Lab, Serve, Show}
+use Rattle.teredo_app.specs.declared.serve_words.ServeWords.{ServeWords}
+use Rattle.teredo_app.specs.ServeWords.{Asks}
+
+-- what the words of the command line ask for
+pub data Request : Type 0 where
+  lab : (file : List ℕ) → Request
+  serve : (words : ServeWords) → Request
+  show : (word : List ℕ) → Request
+
+-- the words ask for this: each has one spelling
+abbrev pub AsksFor : List (List ℕ) → Request → Type 0
+AsksFor words (lab file) = words ≡ codes "lab" ∷ file ∷ []
+AsksFor words (serve asked) = Asks words asked
+AsksFor words (show word) = words ≡ codes "show" ∷ word ∷ []
+
+-- the command that the words are, or that they are none
+abbrev pub IsCommand : List (List ℕ) → Option Request → Type 0
+IsCommand words (Some asked) = AsksFor words asked
+IsCommand words None = (asked : Request) → AsksFor words asked → ⊥
+
+-- a command without where its words lie in memory
+abbrev pub request_of : Command → Request
+request_of (Lab file) = lab file.now
+request_of (Serve words) = serve words
+request_of (Show word) = show word.now

@@ -1,0 +1,77 @@
+-- What `serve` does at a link, and how it ends (RFC 4380, section 5.3).
+use Rattle.std.specs.Prelude.{◌≡◌, ◌+◌, ◌⊎◌, ℕ, List, [], ◌∷◌, Contains, Result, Ok, Err}
+use Rattle.td_base.specs.declared.endpoint.Ep.{Ep}
+use Rattle.td_base.specs.declared.side.Side.{Side}
+use Rattle.td_base.specs.declared.reach.Policy.TheVariants.{Loopback}
+use Rattle.td_outside.specs.Causes.{Rose}
+use Rattle.td_outside.specs.Moves.{Gains}
+use Rattle.td_outside.specs.Link.{KeepsTold, both_at, open_on}
+use Rattle.teredo_node.specs.Step.{Step}
+use Rattle.teredo_node.specs.Turn.{SendFaults, ReceiveFaults}
+use Rattle.teredo_node.specs.Serve.{Serves}
+use Rattle.teredo_node.specs.declared.turn.PumpFault.{PumpFault}
+use Rattle.teredo_node.specs.declared.turn.PumpFault.TheVariants.{Receive}
+use Rattle.teredo_node.specs.declared.serve.Totals.{Totals}
+use Rattle.server_core.specs.declared.server.ServerSettings.{ServerSettings}
+use Rattle.server_core.specs.Endpoint as server
+use Rattle.teredo_app.specs.declared.serve_words.ServeWords.{ServeWords}
+use Rattle.teredo_app.specs.declared.statuses.TheConstants.{DONE, UNWRITABLE, NO_LINK}
+use Rattle.teredo_app.specs.Outside.{AtSink, Network}
+use Rattle.teredo_app.specs.SinkLines.{WritesLines, BeginsLines, WritesNothing}
+use Rattle.teredo_app.specs.ServeLine.{serve_line}
+
+-- the server that is asked for
+abbrev pub server_on : ServeWords → ServerSettings
+server_on asked = record { primary = asked.primary; secondary = asked.secondary; policy = Loopback }
+
+-- it answers a datagram by its table, at every moment, and stays as it is
+abbrev pub AnswersByTable : ServerSettings → ℕ → Side → Ep → List ℕ → Step → ServerSettings → Type 0
+AnswersByTable s moment side from bytes step new = server.MeetsRow s side from bytes step new
+
+-- it never wants memory
+abbrev pub WantsMemory : ServerSettings → ℕ → Side → Ep → List ℕ → Type 0
+WantsMemory s moment side from bytes = ⊥
+
+-- it is as before where it is the same
+abbrev pub IsSame : ServerSettings → ServerSettings → Type 0
+IsSame old new = new ≡ old
+
+-- The server took turns at the link, up to their end or a fault of the link, with these totals.
+pub record Session (n : Network) (asked : ServeWords) (totals : Totals) (ended : Result (Unit {0}) PumpFault) : Type 0 where
+  -- at these two addresses
+  pub places : n.addresses.1 ≡ open_on asked.primary asked.secondary
+  -- each datagram that came was answered by the server's table, and each of its sends attempted, in order; the end is
+  -- that so many arrivals were taken, or so many turns in a row were idle
+  pub turns : Serves AnswersByTable WantsMemory IsSame asked.count asked.idles (server_on asked) (server_on asked) n.moments.0 n.moments.1 n.told.0 n.told.1 totals ended
+  -- each arrival was answered, or its answer failed, or it went to the IPv6 side, or it was dropped
+  pub outcomes : totals.served ≡ totals.sent + totals.failed + totals.six + totals.dropped
+  pub receives : ReceiveFaults n.receive_faults.0 n.receive_faults.1 ended
+  pub sends : SendFaults n.send_faults.0 n.send_faults.1 totals.failed
+
+-- The turns went on to their end.
+abbrev pub Served : Network → ServeWords → Totals → Type 0
+Served n asked totals = Session n asked totals (Ok tt)
+
+-- A receiving call failed after some turns, or before the first one.
+abbrev pub BreaksOff : Network → ServeWords → Type 0
+BreaksOff n asked = (totals : Totals) × Session n asked totals (Err Receive)
+
+-- The link couldn't be opened, and nothing else was asked of it.
+pub record StaysShut (n : Network) : Type 0 where
+  pub lists : KeepsTold n.told.0 n.told.1
+  pub sends : n.send_faults.1 ≡ n.send_faults.0
+  pub moments : n.moments.1 ≡ n.moments.0
+
+-- How `serve IP1 IP2 COUNT IDLES` ends: for each status its cause, and what was written. It never wants memory.
+pub record ServeEnds (o : AtSink) (n : Network) (asked : ServeWords) (status : ℕ) : Type 0 where
+  pub statuses : Contains (DONE ∷ UNWRITABLE ∷ NO_LINK ∷ []) status
+  -- the link was asked once to open, on these two addresses
+  pub opened : Gains n.openings.0 n.openings.1 (both_at asked.primary asked.secondary)
+  -- the server came to its end, and the line of its totals was written
+  pub done : status ≡ DONE → (totals : Totals) × Served n asked totals × WritesLines o.told.0 o.told.1 (serve_line totals ∷ [])
+  -- it came to its end, the sink failed, and a front of the line was written
+  pub unwritten : status ≡ UNWRITABLE → Rose o.faults.0 o.faults.1
+      × ((totals : Totals) × Served n asked totals × BeginsLines o.told.0 o.told.1 (serve_line totals ∷ []))
+  -- the link failed, when it was opened or later, and nothing was written
+  pub unlinked : status ≡ NO_LINK → Rose n.receive_faults.0 n.receive_faults.1 × WritesNothing o.told.0 o.told.1
+      × (StaysShut n ⊎ BreaksOff n asked)

@@ -1,0 +1,45 @@
+-- Lines that are written to a sink, whole or in part.
+use Rattle.std.specs.Prelude.{◌≡◌, ℕ, ◌<◌, ⊤, List, [], ◌∷◌, ◌++◌, length, take, drop, Option}
+use Rattle.report.specs.Lines.{lines_text}
+use Rattle.std.specs.Io.KnownBytes.{Appends, Keeps}
+use Rattle.td_outside.specs.Moves.{GainsAll, Stays}
+use Rattle.teredo_app.specs.Outside.{SinkTold}
+
+-- What is left of a line from a place on is a piece; so it goes on at a later place.
+abbrev pub HandsFrom : List ℕ → ℕ → List (List ℕ) → Type 0
+HandsFrom line at [] = ⊤
+HandsFrom line at (piece ∷ more) = (at < length line) × (piece ≡ drop at line) × (later : ℕ) × (at < later) × HandsFrom line later more
+
+-- A line begins a piece of its own, and each further piece is what was left of it.
+abbrev pub HandsLine : List ℕ → List (List ℕ) → Type 0
+HandsLine line [] = line ≡ []
+HandsLine line (piece ∷ more) = HandsFrom line 0 (piece ∷ more)
+
+-- one line after the other
+abbrev pub HandsLines : List (List ℕ) → List (List ℕ) → Type 0
+HandsLines [] pieces = pieces ≡ []
+HandsLines (line ∷ lines) pieces = (first : List (List ℕ)) × (rest : List (List ℕ)) × (pieces ≡ first ++ rest) × HandsLine line first × HandsLines lines rest
+
+-- the pieces that a sink tells grew by those of the lines
+abbrev pub HandsOver : SinkTold → SinkTold → List (List ℕ) → Type 0
+HandsOver old new lines = (pieces : List (List ℕ)) × GainsAll old.pieces new.pieces pieces × HandsLines lines pieces
+
+-- The lines were written, each in pieces of its own.
+pub record WritesLines (old new : SinkTold) (lines : List (List ℕ)) : Type 0 where
+  pub bytes : Appends old.held new.held (lines_text lines)
+  pub pieces : HandsOver old new lines
+
+-- A front of their bytes was written, which may be none or all of them: the first lines were handed over, the last of
+-- them perhaps in part.
+pub record BeginsLines (old new : SinkTold) (lines : List (List ℕ)) : Type 0 where
+  pub most : ℕ
+  pub bytes : Appends old.held new.held (take most (lines_text lines))
+  pub handed : List (List ℕ)
+  pub other : List (List ℕ)
+  pub all : lines ≡ handed ++ other
+  pub pieces : HandsOver old new handed
+
+-- Nothing was written.
+pub record WritesNothing (old new : SinkTold) : Type 0 where
+  pub bytes : Keeps old.held new.held
+  pub pieces : Stays old.pieces new.pieces

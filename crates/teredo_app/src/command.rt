@@ -1,0 +1,66 @@
+//! The command that the words of the command line are.
+ghost use Rattle.std.specs.Prelude.{◌≡◌, ◌≤◌, List, [], ◌∷◌, Option, Some, map, option_map, IfSome, string_bytes};
+ghost use Rattle.teredo_app.specs.Command.{Request, AsksFor, request_of};
+
+use crate::serve_words::{ServeWords, serve_words};
+
+/// What the program is asked to do.
+#[derive(Clone, Copy, Debug)]
+pub enum Command<'a> {
+    /// Plays the scenario of a file and reports it.
+    Lab { file: &'a str },
+    /// Serves at two addresses.
+    Serve(ServeWords),
+    /// Shows the datagram that a word spells.
+    Show { word: &'a str },
+}
+
+/// The command of two words.
+fn with_word<'a>(command: &str, word: &'a str) -> Option<Command<'a>>
+    ensures found { IfSome result (λ c. AsksFor (command.now ∷ word.now ∷ []) (request_of c)) }
+    ensures only { (asked : Request) → AsksFor (command.now ∷ word.now ∷ []) asked → option_map request_of result ≡ Some asked }
+{
+    if command == "lab" {
+        return Some(Command::Lab { file: word });
+    }
+    if command == "show" {
+        return Some(Command::Show { word });
+    }
+    None
+}
+
+/// The command of five words.
+fn with_addresses<'a>(
+    command: &str,
+    primary: &str,
+    secondary: &str,
+    count: &str,
+    idles: &str,
+) -> Option<Command<'a>>
+    ensures found { IfSome result (λ c. AsksFor (command.now ∷ primary.now ∷ secondary.now ∷ count.now ∷ idles.now ∷ []) (request_of c)) }
+    ensures only { (asked : Request) → AsksFor (command.now ∷ primary.now ∷ secondary.now ∷ count.now ∷ idles.now ∷ []) asked → option_map request_of result ≡ Some asked }
+{
+    if command == "serve" {
+        let asked = serve_words(primary, secondary, count, idles)?;
+        return Some(Command::Serve(asked));
+    }
+    None
+}
+
+/// The command of the words, where they are one.
+pub fn command_of(words: &[String]) -> Option<Command<'_>>
+    ensures found { IfSome result (λ c. AsksFor (map string_bytes words.now) (request_of c)) }
+    ensures only { (asked : Request) → AsksFor (map string_bytes words.now) asked → option_map request_of result ≡ Some asked }
+{
+    match words {
+        [command, word] => with_word(command.as_str(), word.as_str()),
+        [command, primary, secondary, count, idles] => with_addresses(
+            command.as_str(),
+            primary.as_str(),
+            secondary.as_str(),
+            count.as_str(),
+            idles.as_str(),
+        ),
+        _ => None,
+    }
+}

@@ -1,0 +1,61 @@
+//! A server at a link.
+ghost use Rattle.std.specs.Prelude.{◌≡◌, ◌≤◌, ◌⊎◌, IfOk, OnErr};
+ghost use Rattle.td_outside.specs.Causes.{Rose};
+ghost use Rattle.td_outside.specs.Link.{both_at};
+ghost use Rattle.td_outside.specs.Moves.{Gains};
+ghost use Rattle.teredo_app.specs.Outside.{Network};
+ghost use Rattle.teredo_app.specs.Session.{Served, BreaksOff, StaysShut};
+
+use crate::serve_words::ServeWords;
+use server_core::Server;
+use td_base::Policy;
+use td_outside::{Clock, Failed, Link};
+use teredo_node::{TURNS_MAX, Totals, serve_loop};
+
+/// Opens the link and serves on it to the end that is asked for, under the policy that lets loopback addresses in.
+/// Only the link can fail.
+pub fn serve_on<L: Link, C: Clock>(
+    asked: &ServeWords,
+    link: &mut L,
+    clock: &mut C,
+) -> Result<Totals, Failed>
+    requires count { asked.now.count ≤ TURNS_MAX }
+    requires idles { asked.now.idles ≤ TURNS_MAX }
+    ensures opened { Gains (L.openings link.old) (L.openings link.new) (both_at asked.now.primary asked.now.secondary) }
+    ensures served { IfOk result (λ totals. Served (record {
+      kept = (link.new ≡ link.old) × (clock.new ≡ clock.old);
+      told = (L.told link.old, L.told link.new);
+      openings = (L.openings link.old, L.openings link.new);
+      addresses = (L.addresses link.old, L.addresses link.new);
+      receive_faults = (L.recv_faults link.old, L.recv_faults link.new);
+      send_faults = (L.send_faults link.old, L.send_faults link.new);
+      moments = (C.last clock.old, C.last clock.new);
+    }) asked.now totals) }
+    ensures rose { OnErr result (Rose (L.recv_faults link.old) (L.recv_faults link.new)) }
+    ensures failed { let n : Network = record {
+      kept = (link.new ≡ link.old) × (clock.new ≡ clock.old);
+      told = (L.told link.old, L.told link.new);
+      openings = (L.openings link.old, L.openings link.new);
+      addresses = (L.addresses link.old, L.addresses link.new);
+      receive_faults = (L.recv_faults link.old, L.recv_faults link.new);
+      send_faults = (L.send_faults link.old, L.send_faults link.new);
+      moments = (C.last clock.old, C.last clock.new);
+    } in OnErr result (StaysShut n ⊎ BreaksOff n asked.now) }
+{
+    server_core::one_outcome();
+    link.open(asked.primary, asked.secondary)?;
+    let mut server = Server::new(asked.primary, asked.secondary, Policy::Loopback);
+    let mut totals = Totals::NONE;
+    match serve_loop(
+        &mut server,
+        link,
+        clock,
+        asked.count,
+        asked.idles,
+        &mut totals,
+    ) {
+        Ok(()) => Ok(totals),
+        // The server wants no memory.
+        Err(_) => Err(Failed),
+    }
+}
