@@ -61,7 +61,10 @@ fn arrival(alloc: Global, comes: Comes) -> Result<MemArrival, NoMemory> {
 
 /// Whether the run ends so.
 fn ends_so(alloc: Global, row: &Row) -> Result<bool, NoMemory> {
-    let words = words_of(alloc, &["serve", "127.0.0.1", "127.0.0.2", row.count, row.idles])?;
+    let words = words_of(
+        alloc,
+        &["serve", "127.0.0.1", "127.0.0.2", row.count, row.idles],
+    )?;
     let mut arrivals = Vec::new(alloc);
     for comes in row.comes {
         arrivals.push(arrival(alloc, *comes)?)?;
@@ -78,10 +81,12 @@ fn ends_so(alloc: Global, row: &Row) -> Result<bool, NoMemory> {
             && attempt.to() == CLIENT
             && attempt.bytes().len() == ANSWER_LEN;
     }
-    Ok(answers
-        && status == row.status
-        && sink.as_slice() == row.written.as_bytes()
-        && link.attempts().len() == row.attempts)
+    Ok(
+        answers
+            && status == row.status
+            && sink.as_slice() == row.written.as_bytes()
+            && link.attempts().len() == row.attempts,
+    )
 }
 
 #[test]

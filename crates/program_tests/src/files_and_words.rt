@@ -157,14 +157,44 @@ fn files_are_played_and_words_are_shown(rt: HostRuntime) -> Result<(), Fail> {
         ending(&["show"], "", 2, "words\n"),
         ending(&["--help"], "", 2, "words\n"),
         ending(&["gen", "01", "5"], "", 2, "words\n"),
-        ending(&["serve", "127.0.0.1", "127.0.0.1", "1", "1"], "", 2, "words\n"),
-        ending(&["serve", "127.0.0.1", "127.0.0.256", "1", "1"], "", 2, "words\n"),
-        ending(&["serve", "127.0.0.1", "127.0.0.2", "1000000001", "1"], "", 2, "words\n"),
-        ending(&["serve", "127.0.0.1", "127.0.0.2", "01", "1"], "", 2, "words\n"),
-        ending(&["serve", "127.0.0.1", "127.0.0.2", "1", "0"], "", 2, "words\n"),
+        ending(
+            &["serve", "127.0.0.1", "127.0.0.1", "1", "1"],
+            "",
+            2,
+            "words\n",
+        ),
+        ending(
+            &["serve", "127.0.0.1", "127.0.0.256", "1", "1"],
+            "",
+            2,
+            "words\n",
+        ),
+        ending(
+            &["serve", "127.0.0.1", "127.0.0.2", "1000000001", "1"],
+            "",
+            2,
+            "words\n",
+        ),
+        ending(
+            &["serve", "127.0.0.1", "127.0.0.2", "01", "1"],
+            "",
+            2,
+            "words\n",
+        ),
+        ending(
+            &["serve", "127.0.0.1", "127.0.0.2", "1", "0"],
+            "",
+            2,
+            "words\n",
+        ),
         ending(&LAB, "", 3, "scenario: unbuilt\n"),
         ending(&LAB, "seed", 3, "scenario: unbuilt\n"),
-        ending(&LAB, "seed = 1\nevents = [\"host a a 00\"]\n", 3, "scenario: unbuilt\n"),
+        ending(
+            &LAB,
+            "seed = 1\nevents = [\"host a a 00\"]\n",
+            3,
+            "scenario: unbuilt\n",
+        ),
         ending(&LAB, RELAY, 3, "scenario: unbuilt\n"),
     ];
     for row in rows.iter() {
@@ -176,10 +206,22 @@ fn files_are_played_and_words_are_shown(rt: HostRuntime) -> Result<(), Fail> {
 #[test]
 fn what_fails_outside_ends_the_run(rt: HostRuntime) -> Result<(), Fail> {
     let rows = [
-        Row { read_fails: &[1], ..ending(&LAB, ASKED, 4, "") },
-        Row { write_fails: &[1], ..ending(&LAB, ASKED, 5, ASKED_FIRST) },
-        Row { write_fails: &[0], ..ending(&["show", BUBBLE], "", 5, "") },
-        Row { text: b"\xff\xfe", ..ending(&LAB, "", 3, "scenario: unbuilt\n") },
+        Row {
+            read_fails: &[1],
+            ..ending(&LAB, ASKED, 4, "")
+        },
+        Row {
+            write_fails: &[1],
+            ..ending(&LAB, ASKED, 5, ASKED_FIRST)
+        },
+        Row {
+            write_fails: &[0],
+            ..ending(&["show", BUBBLE], "", 5, "")
+        },
+        Row {
+            text: b"\xff\xfe",
+            ..ending(&LAB, "", 3, "scenario: unbuilt\n")
+        },
     ];
     for row in rows.iter() {
         assert!(rt; ends_so(rt.alloc(), row)?, "{}", row.written);

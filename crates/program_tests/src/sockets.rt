@@ -20,7 +20,14 @@ fn a_socket_is_answered(rt: HostRuntime) -> Result<(), Fail> {
     let mut source = MemSource::new(rt.alloc(), "", b"", &[])?;
     let mut sink = MemSink::new(rt.alloc(), ROOM, &[])?;
     let mut clock = TestClock::new([Millis(0); 4]);
-    let status = run(rt.alloc(), &words, &mut source, &mut sink, &mut link, &mut clock);
+    let status = run(
+        rt.alloc(),
+        &words,
+        &mut source,
+        &mut sink,
+        &mut link,
+        &mut clock,
+    );
     let mut answer = [0; 1500];
     let (len, from) = client.recv_from(&mut answer)?;
     assert_eq!(rt; (status, len, from.port()), (0, ANSWER_LEN, 3544));

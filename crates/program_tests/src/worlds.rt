@@ -3,7 +3,7 @@ use history::{Event, Topology};
 use std::test::Fail;
 use td_base::{Ep, Ip4};
 use td_outside::Octets;
-use world::{World, WireEntry};
+use world::{WireEntry, World};
 
 #[test]
 fn what_a_stranger_sends_is_lent(rt: HostRuntime) -> Result<(), Fail> {

@@ -23,7 +23,6 @@ full_ends s a b c before now later result full same (line_failed is rose line) =
     report_failed is (subst (λ (n : ℕ). Rose n later) same rose) (last_line full.history full.fills (BeginsLines-then a b c (record_lines s.topology full.history) (wire_full ∷ []) full.lines line))
 
 module _ (i : AtSource) (o : AtSink) (file : List ℕ) (opened : Gains i.openings.0 i.openings.1 file) (taken : TakesAtMost 4194305 i.taken.0 i.taken.1) where
-
   -- the source failed
   pub unread_ends : Rose i.faults.0 i.faults.1 → WritesNothing o.told.0 o.told.1 → LabEnds i o file 4
   unread_ends rose nothing = record {

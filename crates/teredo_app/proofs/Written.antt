@@ -147,7 +147,7 @@ BeginsLines-then a b c xs ys p q = record {
   most = length (lines_text xs) + q.most;
   bytes =
       let front : take (length (lines_text xs) + q.most) (lines_text (xs ++ ys)) ≡ lines_text xs ++ take q.most (lines_text ys) =
-          ap (take (length (lines_text xs) + q.most)) (lines_text-append xs ys) ∙ take-append-add (lines_text xs) (lines_text ys) q.most in
+      ap (take (length (lines_text xs) + q.most)) (lines_text-append xs ys) ∙ take-append-add (lines_text xs) (lines_text ys) q.most in
       subst (λ (z : List ℕ). Appends a.held c.held z) (sym front) (Appends-then a.held b.held c.held (lines_text xs) (take q.most (lines_text ys)) p.bytes q.bytes);
   handed = xs ++ q.handed;
   other = q.other;

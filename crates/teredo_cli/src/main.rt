@@ -81,14 +81,7 @@ fn run_on_system(rt: &HostRuntime, words: &Vec<String>) -> ExitCode {
     let mut sink = StdSink::new(io::writer(rt));
     let mut link = UdpPair::new(rt);
     let mut clock = SystemClock::new(rt);
-    run_on(
-        rt,
-        words,
-        &mut source,
-        &mut sink,
-        &mut link,
-        &mut clock,
-    )
+    run_on(rt, words, &mut source, &mut sink, &mut link, &mut clock)
 }
 
 fn main(rt: HostRuntime) -> ExitCode {
