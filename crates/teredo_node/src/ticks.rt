@@ -1,5 +1,6 @@
 //! What is due of an endpoint at a moment, done at a link.
 ghost use Rattle.std.specs.Prelude.{◌≡◌, ℕ, nat_lt, option_map, unwrap_or};
+ghost use Rattle.td_outside.specs.Moves.{Stays};
 ghost use Rattle.teredo_node.specs.Turn.{SendFaults};
 ghost use Rattle.teredo_node.specs.Ticks.{TicksIfDue, TicksThrough};
 
@@ -33,6 +34,7 @@ pub fn tick<E: Endpoint, L: Link>(
     ensures receives { L.recv_faults link.new ≡ L.recv_faults link.old }
     ensures sends { SendFaults (L.send_faults link.old) (L.send_faults link.new) (unwrap_or result 0) }
     ensures places { L.addresses link.new ≡ L.addresses link.old }
+    ensures asked { Stays (L.openings link.old) (L.openings link.new) }
 {
     if !is_due(e, now) {
         return None;
@@ -55,6 +57,7 @@ pub fn tick_through<E: Endpoint, L: Link>(
     ensures receives { L.recv_faults link.new ≡ L.recv_faults link.old }
     ensures sends { SendFaults (L.send_faults link.old) (L.send_faults link.new) result }
     ensures places { L.addresses link.new ≡ L.addresses link.old }
+    ensures asked { Stays (L.openings link.old) (L.openings link.new) }
 {
     let mut failures: u64 = 0;
     while let Some(failed) = tick(e, link, now, step) {

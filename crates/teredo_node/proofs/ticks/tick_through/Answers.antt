@@ -1,5 +1,6 @@
 use Rattle.std.proofs.Common.{◌≡◌, ◌+◌, min, count_ones, ◌∙◌, arith}
 use Rattle.td_outside.specs.Causes.{count_end}
+use Rattle.td_outside.specs.MoveLaws.{Stays-Moves}
 use Rattle.teredo_node.proofs.Turns.{faults_on}
 use Rattle.teredo_node.proofs.Lessened.{ran_ticked, faults_up_to}
 use Rattle.teredo_node.proofs.ticks.tick_through.Goals as goal
@@ -13,4 +14,5 @@ loop-failed-preserved g c =
       receives = c.in-Some.ensures.receives ∙ c.loop-failed.invariant.receives;
       sends = faults_up_to _ _ (c.loop-failed.failures + count_ones c.in-Some.failed) _ (faults_on _ _ _ c.loop-failed.failures c.in-Some.failed c.loop-failed.invariant.sends c.in-Some.ensures.sends) sum;
       places = c.in-Some.ensures.places ∙ c.loop-failed.invariant.places;
+      asked = Stays-Moves _ _ _ _ c.loop-failed.invariant.asked c.in-Some.ensures.asked;
     }

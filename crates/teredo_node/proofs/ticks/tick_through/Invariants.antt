@@ -1,4 +1,5 @@
 use Rattle.std.proofs.Common.{◌≡◌}
+use Rattle.td_outside.specs.Moves.{Stays}
 use Rattle.teredo_node.specs.Turn.{SendFaults}
 use Rattle.teredo_node.proofs.Lessened.{Ran}
 use Rattle.teredo_node.proofs.ticks.tick_through.Given as goal
@@ -10,6 +11,7 @@ invariant-loop-failed g l = record {
   receives : g.L.Link.recv_faults l.link ≡ g.L.Link.recv_faults l.fn.link;
   sends : SendFaults (g.L.Link.send_faults l.fn.link) (g.L.Link.send_faults l.link) l.failures;
   places : g.L.Link.addresses l.link ≡ g.L.Link.addresses l.fn.link;
+  asked : Stays (g.L.Link.openings l.fn.link) (g.L.Link.openings l.link);
 }
 
 abbrev pub decreases-loop-failed : goal.decreases-loop-failed
