@@ -1,19 +1,39 @@
 -- What holds of every record that follows, whatever nodes there are.
-use Rattle.std.specs.Prelude.{◌≡◌, ℕ, List}
+use Rattle.std.specs.Prelude.{◌≡◌, ◌≤◌, ◌+◌, ℕ, List, ◌∷◌, ◌++◌, length, slice_get, Some}
 use Rattle.history.specs.declared.event.Event.{Event}
 use Rattle.topology.specs.Rows.{TopologyState}
-use Rattle.history.specs.Full.{Full}
+use Rattle.history.specs.Full.{Item, Full, wire, items_of}
 use Rattle.history.specs.Telling.{IsTold}
-use Rattle.legal.specs.Past.{Draws}
+use Rattle.legal.specs.Past.{Draws, now}
 use Rattle.legal.specs.Next.{next_of}
+use Rattle.legal.specs.Legal.{Grown}
 
--- the record is of event number i
-pub record IsOf (i : ℕ) (e : Event) (r : Full) : Type 0 where
+-- the record after H is of event number i, and its entries come behind those of the wire
+pub record IsOf (H : List Full) (i : ℕ) (e : Event) (r : Full) : Type 0 where
   pub event : r.event ≡ i
   pub asked : r.asked ≡ e
+  pub first : r.first ≡ length (wire H)
 
 abbrev pub EachIsOfItsEvent : Type 0
-EachIsOfItsEvent = (d : Draws) (t : TopologyState) (H : List Full) (i : ℕ) (e : Event) → IsOf i e (next_of d t H i e)
+EachIsOfItsEvent = (d : Draws) (t : TopologyState) (H : List Full) (i : ℕ) (e : Event) → IsOf H i e (next_of d t H i e)
+
+-- moments don't fall: it happens at the moment of the record before it, or later
+abbrev pub EachIsLater : Type 0
+EachIsLater = (d : Draws) (t : TopologyState) (H : List Full) (r : Full) → Grown d t (r ∷ H) → now H ≤ r.moment
+
+-- an item of the wire was made by this record, as its entry number k
+pub record IsMaker (H : List Full) (n : ℕ) (item : Item) : Type 0 where
+  pub later : List Full
+  pub maker : Full
+  pub earlier : List Full
+  pub place : ℕ
+  pub split : H ≡ later ++ maker ∷ earlier
+  pub number : n ≡ maker.first + place
+  pub made : slice_get (items_of maker) place ≡ Some item
+
+-- each item of the wire has a maker
+abbrev pub EachIsMade : Type 0
+EachIsMade = (d : Draws) (t : TopologyState) (H : List Full) (n : ℕ) (item : Item) → Grown d t H → slice_get (wire H) n ≡ Some item → IsMaker H n item
 
 -- it says that an entry was delivered exactly where one was
 abbrev pub EachIsTold : Type 0

@@ -2,6 +2,7 @@
 use Rattle.std.proofs.Common.{◌≡◌, ℕ, Bool, true, false, List, [], ◌∷◌, ◌++◌, Option, Some, None, Ok, refl, sym, ap, subst, ◌∙◌}
 use Rattle.std.specs.Prelude.{◌||◌}
 use Rattle.history.specs.declared.event.Event.{Event}
+use Rattle.history.specs.Events.{IsEvent}
 use Rattle.history.specs.declared.records.Record.{Record}
 use Rattle.history.specs.declared.turn.Turn.TheVariants.{Last}
 use Rattle.topology.specs.Rows.{TopologyState}
@@ -35,7 +36,8 @@ goes_from d w (r ∷ H) e s again = λ more.
 record IsNext (d : Draws) (old : WorldState) (H : List Full) (i : ℕ) (e : Event) (r : Full) : Type 0 where
   goes : GoesOn H e
   is : r ≡ next_of d old.topology H i e
-  of : IsOf i e r
+  of : IsOf H i e r
+  event : IsEvent old.topology e
   last : has_more r.asked r.act ≡ false
 
 stands : (d : Draws) (old new : WorldState) (H : List Full) (i : ℕ) (e : Event) (r : Full) → StandsFor d old H → IsNext d old H i e r → IsAtRest old new → Comes old new H r → StandsFor d new (r ∷ H)
@@ -43,6 +45,7 @@ stands d old new H i e r s next rest comes = record {
   grown = subst (λ (x : TopologyState). Grown d x (r ∷ H)) (sym rest.topology) (
     record {
       goes_on = subst (GoesOn H) (sym next.of.asked) next.goes;
+      event = subst (IsEvent old.topology) (sym next.of.asked) next.event;
       is = next.is ∙ ap (λ (j : ℕ). next_of d old.topology H j e) (sym next.of.event) ∙ ap (next_of d old.topology H r.event) (sym next.of.asked);
     },
     s.grown,
@@ -56,9 +59,9 @@ stands d old new H i e r s next rest comes = record {
   left = rest.left ∙ rw next.last refl;
 }
 
-pub steps : EachIsOfItsEvent → EachIsTold → (old new : WorldState) (i : ℕ) (e : Event) (word : Record) → HasNoHosts old.topology → IsAtRest old new → IsAgain old.going e
+pub steps : EachIsOfItsEvent → EachIsTold → (old new : WorldState) (i : ℕ) (e : Event) (word : Record) → HasNoHosts old.topology → IsAtRest old new → IsEvent old.topology e × IsAgain old.going e
     → ((d : Draws) (H : List Full) → StandsFor d old H → Plays old new H (next_of d old.topology H i e) (Ok word)) → Steps old new i e (Last word)
-steps of_event told old new i e word unhosted rest again plays = record {
+steps of_event told old new i e word unhosted rest asked plays = record {
   topology = rest.topology;
   goes_on = rest.stopped;
   going = rest.going;
@@ -66,7 +69,7 @@ steps of_event told old new i e word unhosted rest again plays = record {
   stands = λ d H s.
       let of = of_event d old.topology H i e in
       let r = next_of d old.topology H i e in
-      stands d old new H i e r s (record { goes = goes_from d old H e s again; is = refl; of = of; last = ap (λ (x : Event). has_more x r.act) of.asked ∙ no_more old.topology unhosted d H i e }) rest (plays d H s).1;
+      stands d old new H i e r s (record { goes = goes_from d old H e s asked.1; is = refl; of = of; event = asked.0; last = ap (λ (x : Event). has_more x r.act) of.asked ∙ no_more old.topology unhosted d H i e }) rest (plays d H s).1;
   more = λ d H s. no_more old.topology unhosted d H i e;
   tells = λ d H s. told d old.topology H i e;
 }

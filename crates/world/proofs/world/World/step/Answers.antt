@@ -14,4 +14,4 @@ returns-in-Ok-clause-ok c =
       left = sym (ap (λ (x : WorldState). x.left) c.self-2.view_is);
       stopped = ap (λ (x : WorldState). x.stopped) c.play.ensures.rest ∙ sym (ap (λ (x : WorldState). x.stopped) c.self.view_is) ∙ c.in_default.is;
     })
-    c.requires.again c.in-Ok.ensures.plays
+    (c.requires.event, c.requires.again) c.in-Ok.ensures.plays

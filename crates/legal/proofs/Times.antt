@@ -1,0 +1,85 @@
+-- Moments don't fall.
+use Rattle.std.proofs.Common.{◌≡◌, ◌≤◌, ℕ, ◌+◌, Bool, true, false, nat_le, cond, List, [], ◌∷◌, Option, Some, None, refl, sym, ap, subst, ◌∙◌, arith}
+use Rattle.std.specs.Prelude.{slice_get, max}
+use Rattle.std.proofs.lemmas.Bool.Decides.{nat_tests}
+use Rattle.std.proofs.Math.Nat.{le_refl}
+use Rattle.td_base.specs.declared.endpoint.Ep.{Ep}
+use Rattle.teredo_node.specs.declared.fate.Fate.TheVariants as fate
+use Rattle.teredo_node.specs.Journal.{ticked}
+use Rattle.ipv6_packet.specs.Packets.{packet_bytes}
+use Rattle.history.specs.declared.event.Event.{Event}
+use Rattle.history.specs.declared.event.Event.TheVariants as event
+use Rattle.history.specs.declared.acts.Act.TheVariants as act
+use Rattle.history.specs.declared.acts.Verb.{Verb}
+use Rattle.history.specs.declared.acts.Verb.TheVariants as verb
+use Rattle.topology.specs.Rows.{TopologyState}
+use Rattle.topology.specs.declared.node.Node.{Node}
+use Rattle.topology.specs.Topology.{nodes, node_at}
+use Rattle.history.specs.Full.{Item, Full, wire}
+use Rattle.legal.specs.Past.{Draws, now, began, has_more, first_undelivered}
+use Rattle.legal.specs.Emit.{Route, reaches, closed, astray, route}
+use Rattle.legal.specs.Next.{Numbered, numbered, Due, least_due, plain, advance_with, advanced, acts, no_ep, blank, delivers_to, delivers_item, delivers_or, copies, data_packet, echo_packet, address_at, target_address, hands_in, next_of}
+use Rattle.legal.specs.Legal.{GoesOn, Grown}
+
+-- it happens no earlier than the record before it, and no later than the end of its advance
+record IsWithin (H : List Full) (end : ℕ) (r : Full) : Type 0 where
+  later : now H ≤ r.moment
+  ends : r.moment ≤ end
+
+advance_within : (d : Draws) (t : TopologyState) (H : List Full) (e : Numbered) (end : ℕ) (o : Option Due) → now H ≤ end → IsWithin H end (advance_with d t H e end o)
+advance_within d t H e end None h = record { later = h; ends = le_refl end }
+advance_within d t H e end (Some a) h = by (nat_le a.moment end) refl where
+  by : (b : Bool) → nat_le a.moment end ≡ b → IsWithin H end (cond b (acts d t H e act.Tick None (max a.moment (now H)) a.number no_ep ticked a.node) (advanced H e end))
+  by true le =
+      let within : a.moment ≤ end = grind (arith, nat_tests) in
+      record { later = omega arith; ends = omega (arith, within, h) }
+  by false le = record { later = h; ends = le_refl end }
+
+-- the moment is within the advance that goes on
+pub ends : (d : Draws) (t : TopologyState) (H : List Full) (ms : ℕ) → Grown d t H → GoesOn H (event.Advance ms) → now H ≤ began H + ms
+ends d t [] ms g goes = omega arith
+ends d t (q ∷ H) ms g goes = by (ends d t H ms g.1) (has_more q.asked q.act) refl where
+  by : (GoesOn H (event.Advance ms) → now H ≤ began H + ms) → (b : Bool) → has_more q.asked q.act ≡ b → q.moment ≤ cond b (began H) q.moment + ms
+  by ih true more =
+      let same : event.Advance ms ≡ q.asked = goes more in
+      let before : now H ≤ began H + ms = ih (subst (GoesOn H) (sym same) g.0.goes_on) in
+      let is : q ≡ next_of d t H q.event (event.Advance ms) = g.0.is ∙ ap (next_of d t H q.event) (sym same) in
+      let within = advance_within d t H (numbered q.event (event.Advance ms)) (began H + ms) (least_due t H 0 (nodes t)) before in
+      subst (λ (z : Full). z.moment ≤ began H + ms) (sym is) within.ends
+  by ih false more = omega arith
+
+to_later : (d : Draws) (t : TopologyState) (H : List Full) (e : Numbered) (n : ℕ) (item : Item) (r : Route) → now H ≤ (delivers_to d t H e n item r).moment
+to_later d t H e n item (reaches k a) = le_refl (now H)
+to_later d t H e n item (closed k) = le_refl (now H)
+to_later d t H e n item astray = le_refl (now H)
+
+item_later : (d : Draws) (t : TopologyState) (H : List Full) (e : Numbered) (n : ℕ) (o : Option Item) → now H ≤ (delivers_item d t H e n o).moment
+item_later d t H e n None = le_refl (now H)
+item_later d t H e n (Some item) = to_later d t H e n item (route t H (now H) item)
+
+or_later : (d : Draws) (t : TopologyState) (H : List Full) (e : Numbered) (last : Full) (o : Option ℕ) → now H ≤ last.moment → now H ≤ (delivers_or d t H e last o).moment
+or_later d t H e last None h = h
+or_later d t H e last (Some n) h = item_later d t H e n (slice_get (wire H) n)
+
+copies_later : (H : List Full) (e : Numbered) (n : ℕ) (src dst : Ep) (o : Option Item) → now H ≤ (copies H e n src dst o).moment
+copies_later H e n src dst None = le_refl (now H)
+copies_later H e n src dst (Some item) = le_refl (now H)
+
+hands_later : (d : Draws) (t : TopologyState) (H : List Full) (e : Numbered) (v : Verb) (n : ℕ) (x : List ℕ) (o : Option Node) → now H ≤ (hands_in d t H e v n x o).moment
+hands_later d t H e v n x None = le_refl (now H)
+hands_later d t H e v n x (Some a) = le_refl (now H)
+
+next_later : (d : Draws) (t : TopologyState) (H : List Full) (i : ℕ) (e : Event) → Grown d t H → GoesOn H e → now H ≤ (next_of d t H i e).moment
+next_later d t H i (event.Advance ms) g goes = (advance_within d t H (numbered i (event.Advance ms)) (began H + ms) (least_due t H 0 (nodes t)) (ends d t H ms g goes)).later
+next_later d t H i (event.Deliver n) g goes = item_later d t H (numbered i (event.Deliver n)) n (slice_get (wire H) n)
+next_later d t H i event.Next g goes = or_later d t H (numbered i event.Next) (blank H (numbered i event.Next) (plain verb.Next) None fate.NoEntry) (first_undelivered H) (le_refl (now H))
+next_later d t H i (event.Host n to body) g goes = hands_later d t H (numbered i (event.Host n to body)) verb.Host n (packet_bytes (data_packet (address_at t H n) (target_address t H to) body)) (node_at t n)
+next_later d t H i (event.Echo n to s) g goes = hands_later d t H (numbered i (event.Echo n to s)) verb.Echo n (packet_bytes (echo_packet (address_at t H n) (target_address t H to) s)) (node_at t n)
+next_later d t H i (event.Raw n bytes) g goes = hands_later d t H (numbered i (event.Raw n bytes)) verb.Raw n bytes (node_at t n)
+next_later d t H i (event.Stranger src dst x) g goes = le_refl (now H)
+next_later d t H i (event.Copy n src dst) g goes = copies_later H (numbered i (event.Copy n src dst)) n src dst (slice_get (wire H) n)
+next_later d t H i (event.Restart n) g goes = le_refl (now H)
+next_later d t H i (event.Forget n who) g goes = le_refl (now H)
+
+pub is_later : (d : Draws) (t : TopologyState) (H : List Full) (r : Full) → Grown d t (r ∷ H) → now H ≤ r.moment
+is_later d t H r g = subst (λ (z : Full). now H ≤ z.moment) (sym g.0.is) (next_later d t H r.event r.asked g.1 g.0.goes_on)
