@@ -1,5 +1,5 @@
 //! Texts that are scenarios, and which refusal of a text is named.
-use crate::{ScenarioFault, put_refusal_line, read};
+use crate::{put_refusal_line, read};
 use history::Event;
 use std::alloc::Global;
 use std::test::Fail;
@@ -39,14 +39,13 @@ relay = \"r1\"
 ";
 
 /// Puts the line of a text's refusal into a buffer, or `read` where it is a scenario.
-fn put_answer(alloc: Global, text: &[u8], line: &mut LineBuf) -> Result<(), Fail> {
+fn put_answer(alloc: Global, text: &[u8], line: &mut LineBuf) {
     line.clear();
-    match read(alloc, text) {
-        Ok(_) => line.push_text(b"read\n"),
-        Err(ScenarioFault::NoMemory) => return Err(Fail::new("out of memory")),
-        Err(fault) => put_refusal_line(&fault, line),
-    }
-    Ok(())
+    let Err(fault) = read(alloc, text) else {
+        line.push_text(b"read\n");
+        return;
+    };
+    put_refusal_line(&fault, line);
 }
 
 /// The text with another part in place of the first such part.
@@ -268,10 +267,10 @@ fn names_each_refusal(rt: HostRuntime) -> Result<(), Fail> {
         } else {
             changed(rt.alloc(), EACH_KIND, old, new)?
         };
-        put_answer(rt.alloc(), text.as_str().as_bytes(), &mut line)?;
+        put_answer(rt.alloc(), text.as_str().as_bytes(), &mut line);
         assert_eq!(rt; line.as_slice(), wanted.as_bytes(), "at {new}");
     }
-    put_answer(rt.alloc(), b"#\xff\n", &mut line)?;
+    put_answer(rt.alloc(), b"#\xff\n", &mut line);
     assert_eq!(rt; line.as_slice(), b"scenario: not toml\n".as_slice());
     Ok(())
 }
@@ -315,7 +314,7 @@ fn of_two_faults_the_first_is_named(rt: HostRuntime) -> Result<(), Fail> {
         let one = changed(rt.alloc(), EACH_KIND, old, new)?;
         for (later_old, later_new, _) in FAULTS.into_iter().skip(place + 1) {
             let both = changed(rt.alloc(), one.as_str(), later_old, later_new)?;
-            put_answer(rt.alloc(), both.as_str().as_bytes(), &mut line)?;
+            put_answer(rt.alloc(), both.as_str().as_bytes(), &mut line);
             assert_eq!(rt;
                 line.as_slice(),
                 wanted.as_bytes(),
@@ -365,7 +364,7 @@ fn keeps_its_limits(rt: HostRuntime) -> Result<(), Fail> {
     ] {
         for (count, said) in [(most, "[0].name: key\n"), (most + 1, ": range\n")] {
             let text = rows(rt.alloc(), list, count)?;
-            put_answer(rt.alloc(), text.as_str().as_bytes(), &mut line)?;
+            put_answer(rt.alloc(), text.as_str().as_bytes(), &mut line);
             let wanted = format!(in rt.alloc(); "scenario {list}{said}")?;
             assert_eq!(rt; line.as_slice(), wanted.as_str().as_bytes(), "at {count}");
         }
@@ -380,7 +379,7 @@ fn keeps_its_limits(rt: HostRuntime) -> Result<(), Fail> {
         (head, "[", 100, "]", "scenario: not toml\n"),
     ] {
         let text = repeated(rt.alloc(), begin, part, count, end)?;
-        put_answer(rt.alloc(), text.as_str().as_bytes(), &mut line)?;
+        put_answer(rt.alloc(), text.as_str().as_bytes(), &mut line);
         assert_eq!(rt; line.as_slice(), wanted.as_bytes(), "at {count}");
     }
     Ok(())
