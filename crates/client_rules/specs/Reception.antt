@@ -1,7 +1,6 @@
 -- What a client does with a datagram: the first line whose condition holds decides (RFC 4380, section 5.2.3).
-use Rattle.std.specs.Prelude.{ℕ, ◌&&◌, ◌||◌, not, Bool, false, List, [], ◌∷◌, ◌++◌, map, Option, Some, None, option_to_list, is_some}
+use Rattle.std.specs.Prelude.{ℕ, nat_eq, ◌&&◌, ◌||◌, not, Bool, false, List, [], ◌∷◌, ◌++◌, map, Option, Some, None, option_to_list, is_some}
 use Rattle.std.specs.Cmp.Lexicographic.{pointwise}
-use Rattle.std.specs.Prelude.{nat_eq}
 use Rattle.byteorder.specs.Endian.{big_bytes}
 use Rattle.td_base.specs.Ip6.{same_ip6}
 use Rattle.td_base.specs.Ep.{same_ep, server_ep}
@@ -111,23 +110,28 @@ seen s a from x = seen_of s a from (is_payload x) (value_in x)
 
 -- THE TABLE
 
--- what is asked of the datagram, and what is the server's own
-abbrev pub server_lines : Seen → (advert : Fate) → List (Bool × Fate)
-server_lines a advert =
+-- what is asked of the datagram
+abbrev pub datagram_lines : Seen → List (Bool × Fate)
+datagram_lines a =
     (not a.payload, fate.Malformed)
     ∷ (a.keyed, fate.Keyed)
     ∷ (a.confirmed, fate.Confirmation)
     ∷ (a.big, fate.Big)
-    ∷ (a.from_server && a.ill_formed, fate.Icmp)
+    ∷ []
+
+-- what is the server's own
+abbrev pub server_lines : Seen → (advert : Fate) → List (Bool × Fate)
+server_lines a advert =
+    (a.from_server && a.ill_formed, fate.Icmp)
     ∷ (a.from_server && a.advert, advert)
     ∷ (a.from_server && not (a.bubble && a.origin), fate.ServerOther)
-    ∷ (not a.qualified, fate.Off)
     ∷ []
 
 -- who sent the packet to whom
 abbrev pub packet_lines : Seen → List (Bool × Fate)
 packet_lines a =
-    (not a.mine, fate.NotMine)
+    (not a.qualified, fate.Off)
+    ∷ (not a.mine, fate.NotMine)
     ∷ (a.itself, fate.Itself)
     ∷ []
 
@@ -140,22 +144,36 @@ indirect_lines a =
     ∷ (a.from_server, fate.Indirect)
     ∷ []
 
--- packets of peers: rules 1, 2, 3 and 6
-abbrev pub direct_lines : Seen → List (Bool × Fate)
-direct_lines a =
+-- packets of peers that are trusted, or answer a test: rules 1 and 2
+abbrev pub trusted_lines : Seen → List (Bool × Fate)
+trusted_lines a =
     (a.trusted_here && a.bubble, fate.Rule1Bubble)
     ∷ (a.trusted_here, fate.Rule1)
     ∷ (not a.teredo && (a.listed && (not a.fresh && a.reply)), fate.Rule2)
-    ∷ (a.embedded_here && not a.room, fate.PeersFull)
+    ∷ []
+
+-- packets of other clients: rule 3
+abbrev pub teredo_lines : Seen → List (Bool × Fate)
+teredo_lines a =
+    (a.embedded_here && not a.room, fate.PeersFull)
     ∷ (a.embedded_here && a.bubble, fate.Rule3Bubble)
     ∷ (a.embedded_here, fate.Rule3)
     ∷ (a.teredo, fate.Mismatch)
-    ∷ (a.global && (not a.fresh && (not a.barred && (a.room && (not a.bubble && not a.echo_reply)))), fate.SuspiciousTest)
     ∷ []
+
+-- all others: rule 6
+abbrev pub suspicious_lines : Seen → List (Bool × Fate)
+suspicious_lines a =
+    (a.global && (not a.fresh && (not a.barred && (a.room && (not a.bubble && not a.echo_reply)))), fate.SuspiciousTest)
+    ∷ []
+
+-- the lines on packets that come from a peer itself
+abbrev pub direct_lines : Seen → List (Bool × Fate)
+direct_lines a = trusted_lines a ++ (teredo_lines a ++ suspicious_lines a)
 
 -- the fate, where an advertisement has this one
 abbrev pub reception_row : Seen → (advert : Fate) → Fate
-reception_row a advert = first_line (server_lines a advert ++ (packet_lines a ++ (indirect_lines a ++ direct_lines a))) fate.Suspicious
+reception_row a advert = first_line (datagram_lines a ++ (server_lines a advert ++ (packet_lines a ++ (indirect_lines a ++ direct_lines a)))) fate.Suspicious
 
 unfoldable pub reception_fate : Settings → Standing → Ep → List ℕ → Fate
 reception_fate s a from x = reception_row (seen s a from x) (advert_row s a.qualification from (value_in x))

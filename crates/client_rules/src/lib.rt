@@ -24,7 +24,9 @@
 #![tactic(auto)]
 
 mod laws;
+mod limits;
 
 pub use laws::{
     fate_of_reception, fate_of_transmission, journal_is_tried, next_mentions, tries_touch,
 };
+pub use limits::{TEST_ID, TEST_SEQ};

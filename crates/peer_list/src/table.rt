@@ -222,12 +222,12 @@ impl Peers {
         self.listings[place].peer.hear(now);
     }
 
-    /// Touches a listed peer that was tried, where there is one with a test and its nonce.
+    /// Touches a listed peer that was tried, where there is one with a test and its nonce. Whether it may be tried is
+    /// the caller's question: `is_barred`.
     pub fn tried(&mut self, now: Millis, who: Ip6, nonce: Option<u64>)
         requires clock { self.old.moment ≤ now.0 }
         requires early { now.0 < CLOCK_END_MS }
         requires listed { is_some (peer_in self.old now.0 who) ≡ true }
-        requires free { is_barred now.0 (known_to self.old now.0 who) ≡ false }
         ensures { Updates self.old self.new now.0 who (tried_at now.0 nonce (known_to self.old now.0 who)) }
     {
         self.moment = now;

@@ -56,7 +56,8 @@ impl Qualifier {
 
     /// Those that it was started with.
     pub fn settings(&self) -> &Settings
-        ensures { result.now ≡ self.now.settings }
+        ensures value { result.now ≡ self.now.settings }
+        ensures sound { IsSettings result.now }
     {
         &self.settings
     }
@@ -129,6 +130,8 @@ impl Qualifier {
             step.new ≡ step_at self.old.settings (qualification self.old.settings j) now.0 (words_of rng.old) }
         ensures stands { (j : Journal) (e : Entry) → StandsFor self.old j →
             IsOfTick now.0 step.new (words_of rng.old) e → StandsFor self.new (with_entry j e) }
+        // Whatever it stands for, it is what its own state gives.
+        ensures does { step.new ≡ step_at self.old.settings self.old.now now.0 (words_of rng.old) }
         // Nothing is due at this moment any more.
         ensures done { is_due now.0 self.new.now.due ≡ false }
 

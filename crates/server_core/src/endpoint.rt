@@ -68,7 +68,7 @@ impl Endpoint for Server {
 
     ghost stays_on = { λ old mid new first second. second ∙ first };
 
-    ghost ready_later = { λ s now later le ready. tt };
+    ghost ready_later = { λ s now later le early ready. tt };
 
     ghost ready_again = { λ old now side from bytes step new ready rule. tt };
 

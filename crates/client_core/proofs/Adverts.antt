@@ -1,0 +1,273 @@
+-- What is done with an advertisement.
+use Rattle.std.proofs.Common.{◌≡◌, ◌≤◌, ℕ, Bool, true, false, List, [], Option, refl, ap, sym, subst, ◌∙◌}
+use Rattle.std.specs.Prelude.{if◌then◌else◌, not, length, ◌==◌}
+use Rattle.td_base.specs.declared.endpoint.Ep.{Ep}
+use Rattle.bubble.specs.Payloads.{Value}
+use Rattle.bubble.specs.Reads.{value_in}
+use Rattle.indications.specs.Leads.{origin_in}
+use Rattle.teredo_node.specs.declared.fate.Fate.{Fate}
+use Rattle.teredo_node.specs.declared.fate.Fate.TheVariants as fate
+use Rattle.teredo_node.specs.Step.{Step, just}
+use Rattle.teredo_node.specs.Words.{drawn_words}
+use Rattle.teredo_node.specs.Journal.{Entry, Journal, Words, is_changed, with_entry}
+use Rattle.peer_list.specs.Mentions.{Mention, no_bearing}
+use Rattle.peer_list.specs.Table.{Table, waiting_in}
+use Rattle.peer_list.specs.Stands.{StandsForMentions, IsIdle, bears_nothing}
+use Rattle.qualify.specs.declared.settings.Settings.{Settings}
+use Rattle.qualify.specs.declared.phase.Phase.{Phase}
+use Rattle.qualify.specs.declared.phase.Phase.TheVariants.{Cone, Restricted, Secondary, Qualified, Symmetric, OffLine}
+use Rattle.qualify.specs.Qualification.{Qualification, qualification}
+use Rattle.qualify.specs.Advertisements.{heard, advert_lines, phase_line, advert_row, advert_words}
+use Rattle.qualify.specs.Generator.{after_words}
+use Rattle.qualify.specs.Qualifier.{StandsFor, stands_whole, IsOfAdvert}
+use Rattle.client_core.specs.declared.client.Client.{Client}
+use Rattle.client_rules.specs.Bearings.{mentions, mention, bearing_of}
+use Rattle.client_rules.specs.Standing.{Standing}
+use Rattle.client_rules.specs.Reception.{reception_step}
+use Rattle.client_core.specs.Client.{settings_of, words_ahead, standing_in, ClientStandsFor, Receives, IsPayloadOf, entry_of}
+use Rattle.client_core.proofs.Entered.{peers_idle, changed}
+
+-- THE FATES OF ADVERTISEMENTS
+
+pub data Kind : Type 0 where
+  is_nonce : Kind
+  is_source : Kind
+  is_origin : Kind
+  is_prefix : Kind
+  is_cone : Kind
+  is_first : Kind
+  is_restricted : Kind
+  is_symmetric : Kind
+  is_same : Kind
+  is_moved : Kind
+
+abbrev pub kind_fate : Kind → Fate
+kind_fate is_nonce = fate.Nonce
+kind_fate is_source = fate.AdvertSource
+kind_fate is_origin = fate.Origin
+kind_fate is_prefix = fate.Prefix
+kind_fate is_cone = fate.QualifiedCone
+kind_fate is_first = fate.FirstAnswer
+kind_fate is_restricted = fate.QualifiedRestricted
+kind_fate is_symmetric = fate.Symmetric
+kind_fate is_same = fate.Same
+kind_fate is_moved = fate.Changed
+
+-- a fate is that of one of them
+pub record AdvertFate (f : Fate) : Type 0 where
+  pub kind : Kind
+  pub is : f ≡ kind_fate kind
+
+of_kind : (k : Kind) → AdvertFate (kind_fate k)
+of_kind k = record { kind = k; is = refl }
+
+by_phase : (p : Phase) (same : Bool) → AdvertFate (phase_line p same)
+by_phase Cone same = of_kind is_cone
+by_phase Restricted same = of_kind is_first
+by_phase Secondary true = of_kind is_restricted
+by_phase Secondary false = of_kind is_symmetric
+by_phase Qualified true = of_kind is_same
+by_phase Qualified false = of_kind is_moved
+by_phase Symmetric same = of_kind is_nonce
+by_phase OffLine same = of_kind is_nonce
+
+by_lines : (a b c d e : Bool) (p : Phase) (same : Bool)
+    → AdvertFate (if a then fate.Nonce else (if b then fate.AdvertSource else (if c then fate.Origin else (if d then fate.Prefix else (if e then fate.Prefix else phase_line p same)))))
+by_lines true b c d e p same = of_kind is_nonce
+by_lines false true c d e p same = of_kind is_source
+by_lines false false true d e p same = of_kind is_origin
+by_lines false false false true e p same = of_kind is_prefix
+by_lines false false false false true p same = of_kind is_prefix
+by_lines false false false false false p same = by_phase p same
+
+pub advert_fate : (s : Settings) (q : Qualification) (from : Ep) (v : Value) → AdvertFate (advert_row s q from v)
+unfolding advert_row
+advert_fate s q from v =
+    let a = heard s q from v in
+    by_lines (not a.open_nonce) (not a.from_expected) (not a.usable_origin) (not a.one_prefix) (not a.own_prefix) a.phase a.same_origin
+
+-- what they mean for peers, and what is done, where none is another address
+kind_bears : (k : Kind) (e : Entry) → bearing_of (kind_fate k) e ≡ no_bearing
+kind_bears is_nonce e = refl
+kind_bears is_source e = refl
+kind_bears is_origin e = refl
+kind_bears is_prefix e = refl
+kind_bears is_cone e = refl
+kind_bears is_first e = refl
+kind_bears is_restricted e = refl
+kind_bears is_symmetric e = refl
+kind_bears is_same e = refl
+kind_bears is_moved e = refl
+
+bears_none : (f : Fate) (e : Entry) → AdvertFate f → bearing_of f e ≡ no_bearing
+bears_none f e a = ap (λ (g : Fate). bearing_of g e) a.is ∙ kind_bears a.kind e
+
+kind_epoch : (k : Kind) → (kind_fate k ≡ fate.Changed → ⊥) → is_changed (kind_fate k) ≡ false
+kind_epoch is_nonce other = refl
+kind_epoch is_source other = refl
+kind_epoch is_origin other = refl
+kind_epoch is_prefix other = refl
+kind_epoch is_cone other = refl
+kind_epoch is_first other = refl
+kind_epoch is_restricted other = refl
+kind_epoch is_symmetric other = refl
+kind_epoch is_same other = refl
+kind_epoch is_moved other = absurd (other refl)
+
+keeps_epoch : (f : Fate) → AdvertFate f → (f ≡ fate.Changed → ⊥) → is_changed f ≡ false
+keeps_epoch f a other = ap (λ (g : Fate). is_changed g) a.is ∙ kind_epoch a.kind (λ e. other (a.is ∙ e))
+
+abbrev pub told : Fate → Step
+told f = record (just f) { drawn = advert_words f }
+
+kind_done : (s : Settings) (a : Standing) (from : Ep) (x : List ℕ) (v : Value) (w : Words) (k : Kind) → (kind_fate k ≡ fate.Changed → ⊥) → told (kind_fate k) ≡ reception_step s a from x v w (kind_fate k)
+kind_done s a from x v w is_nonce other = refl
+kind_done s a from x v w is_source other = refl
+kind_done s a from x v w is_origin other = refl
+kind_done s a from x v w is_prefix other = refl
+kind_done s a from x v w is_cone other = refl
+kind_done s a from x v w is_first other = refl
+kind_done s a from x v w is_restricted other = refl
+kind_done s a from x v w is_symmetric other = refl
+kind_done s a from x v w is_same other = refl
+kind_done s a from x v w is_moved other = absurd (other refl)
+
+done : (s : Settings) (a : Standing) (from : Ep) (x : List ℕ) (v : Value) (w : Words) (f : Fate) → AdvertFate f → (f ≡ fate.Changed → ⊥) → told f ≡ reception_step s a from x v w f
+done s a from x v w f k other =
+    ap (λ (g : Fate). told g) k.is ∙ kind_done s a from x v w k.kind (λ e. other (k.is ∙ e)) ∙ ap (λ (g : Fate). reception_step s a from x v w g) (sym k.is)
+
+-- WHAT A CLIENT STANDS FOR THEN
+
+-- qualification took an advertisement with this fate
+pub record Took (old : Client) (n : ℕ) (from : Ep) (v : Value) (f : Fate) (new : Client) : Type 0 where
+  pub clock : old.peers.moment ≤ n
+  pub row : (j : Journal) → StandsFor old.qualifier j → f ≡ advert_row (settings_of old) (qualification (settings_of old) j) from v
+  pub stands : (j : Journal) (e : Entry) → StandsFor old.qualifier j → IsOfAdvert n v f (words_ahead old) e → StandsFor new.qualifier (with_entry j e)
+  pub place : new.rng ≡ after_words (advert_words f) old.rng
+  pub settings : settings_of new ≡ settings_of old
+
+row_now : (old new : Client) (n : ℕ) (from : Ep) (v : Value) (f : Fate) → Took old n from v f new → (j : Journal) → StandsFor old.qualifier j → f ≡ advert_row (settings_of old) old.qualifier.now from v
+row_now old new n from v f t j h = t.row j h ∙ ap (λ (q : Qualification). advert_row (settings_of old) q from v) (sym (stands_whole old.qualifier j h))
+
+fate_now : (old new : Client) (n : ℕ) (from : Ep) (v : Value) (f : Fate) → Took old n from v f new → (j : Journal) → StandsFor old.qualifier j → AdvertFate f
+fate_now old new n from v f t j h = subst (λ (g : Fate). AdvertFate g) (sym (row_now old new n from v f t j h)) (advert_fate (settings_of old) old.qualifier.now from v)
+
+-- the entry of it
+of_advert : (old : Client) (n : ℕ) (from : Ep) (v : Value) (step : Step) (x : List ℕ) → IsPayloadOf x v → step.drawn ≡ advert_words step.fate
+    → IsOfAdvert n v step.fate (words_ahead old) (entry_of old n from x v.packet.src step)
+of_advert old n from v step x is drawn = record {
+  moment = refl;
+  origin = ap (λ (u : Value). origin_in u.lead) is.value;
+  became = refl;
+  words = ap (λ (k : ℕ). drawn_words k (words_ahead old)) drawn;
+}
+
+-- the peers stay, unless the address changed
+pub advert_kept : (old new : Client) (n : ℕ) (from : Ep) (v : Value) (f : Fate) → Took old n from v f new → (f ≡ fate.Changed → ⊥) → new.peers ≡ old.peers
+    → Receives old n from v (advert_row (settings_of old) old.qualifier.now from v) (told f) new
+advert_kept old new n from v f t other same = record {
+  did = λ j x h is.
+      done (settings_of old) (standing_in old n v.packet.src) from x v (words_ahead old) f (fate_now old new n from v f t j h.qualification) other
+      ∙ ap (λ (g : Fate). reception_step (settings_of old) (standing_in old n v.packet.src) from x v (words_ahead old) g) (row_now old new n from v f t j h.qualification);
+  stands = λ j x h is.
+      let e = entry_of old n from x v.packet.src (told f) in
+      let is_fate = fate_now old new n from v f t j h.qualification in
+      record {
+        qualification = t.stands j e h.qualification (of_advert old n from v (told f) x is refl);
+        peers = peers_idle new.peers j.entries e (keeps_epoch f is_fate other) (bears_nothing (bears_none f e is_fate)) (subst (λ (p : Table). StandsForMentions p (mentions j.entries)) (sym same) h.peers);
+      };
+  place = t.place;
+  settings = t.settings;
+  clock = subst (λ (p : Table). p.moment ≤ n) (sym same) t.clock;
+}
+
+abbrev pub moved : Client → ℕ → Step
+moved c n = record (just fate.Changed) { gone = waiting_in c.peers n }
+
+-- then they are forgotten
+pub advert_changed : (old new : Client) (n : ℕ) (from : Ep) (v : Value) → Took old n from v fate.Changed new → StandsForMentions new.peers [] → new.peers.moment ≤ n
+    → Receives old n from v (advert_row (settings_of old) old.qualifier.now from v) (moved old n) new
+advert_changed old new n from v t none clock = record {
+  did = λ j x h is. ap (λ (g : Fate). reception_step (settings_of old) (standing_in old n v.packet.src) from x v (words_ahead old) g) (row_now old new n from v fate.Changed t j h.qualification);
+  stands = λ j x h is.
+      let e = entry_of old n from x v.packet.src (moved old n) in
+      record {
+        qualification = t.stands j e h.qualification (of_advert old n from v (moved old n) x is refl);
+        peers = subst (λ (ms : List Mention). StandsForMentions new.peers ms) (sym (changed e j.entries refl)) none;
+      };
+  place = t.place;
+  settings = t.settings;
+  clock = clock;
+}
+
+-- ANY OTHER FATE DRAWS NOTHING
+
+pub no_words : (f : Fate) → (f ≡ fate.QualifiedCone → ⊥) → (f ≡ fate.QualifiedRestricted → ⊥) → advert_words f ≡ 0
+no_words fate.Malformed a b = refl
+no_words fate.Keyed a b = refl
+no_words fate.Big a b = refl
+no_words fate.Kind a b = refl
+no_words fate.Icmp a b = refl
+no_words fate.Source a b = refl
+no_words fate.Loop a b = refl
+no_words fate.OwnEcho a b = refl
+no_words fate.Advert a b = refl
+no_words fate.Mismatch a b = refl
+no_words fate.NotOurs a b = refl
+no_words fate.Embedded a b = refl
+no_words fate.ForwardOrigin a b = refl
+no_words fate.Forward a b = refl
+no_words fate.Six a b = refl
+no_words fate.Dest a b = refl
+no_words fate.RsCone a b = refl
+no_words fate.RsRestricted a b = refl
+no_words fate.RsSecondary a b = refl
+no_words fate.OffLine a b = refl
+no_words fate.Refresh a b = refl
+no_words fate.Nonce a b = refl
+no_words fate.AdvertSource a b = refl
+no_words fate.Origin a b = refl
+no_words fate.Prefix a b = refl
+no_words fate.QualifiedCone a b = absurd (a refl)
+no_words fate.FirstAnswer a b = refl
+no_words fate.QualifiedRestricted a b = absurd (b refl)
+no_words fate.Symmetric a b = refl
+no_words fate.Same a b = refl
+no_words fate.Changed a b = refl
+no_words fate.Confirmation a b = refl
+no_words fate.ServerOther a b = refl
+no_words fate.Off a b = refl
+no_words fate.NotMine a b = refl
+no_words fate.Itself a b = refl
+no_words fate.PeersFull a b = refl
+no_words fate.Barred a b = refl
+no_words fate.Indirect a b = refl
+no_words fate.Rule1 a b = refl
+no_words fate.Rule1Bubble a b = refl
+no_words fate.Rule2 a b = refl
+no_words fate.Rule3 a b = refl
+no_words fate.Rule3Bubble a b = refl
+no_words fate.SuspiciousTest a b = refl
+no_words fate.Suspicious a b = refl
+no_words fate.Bubble a b = refl
+no_words fate.Sent a b = refl
+no_words fate.SentCone a b = refl
+no_words fate.QueueFull a b = refl
+no_words fate.Queued a b = refl
+no_words fate.Bubbles a b = refl
+no_words fate.Test a b = refl
+no_words fate.GiveUp a b = refl
+no_words fate.Idle a b = refl
+no_words fate.Unlisted a b = refl
+no_words fate.FromClientBubble a b = refl
+no_words fate.FromClient a b = refl
+no_words fate.Unserved a b = refl
+no_words fate.SentSix a b = refl
+no_words fate.Echoed a b = refl
+no_words fate.Kept a b = refl
+no_words fate.Put a b = refl
+no_words fate.Done a b = refl
+no_words fate.NoEntry a b = refl
+no_words fate.Nowhere a b = refl
+no_words fate.NatClosed a b = refl
+no_words fate.Unbuilt a b = refl

@@ -1,0 +1,54 @@
+-- Laws of the crates below, under the names of the functions that promise them.
+use Rattle.std.specs.Prelude.{◌≡◌, ℕ, ◌+◌}
+use Rattle.rand_chacha.specs.ChaCha.{ChaCha}
+use Rattle.peer_list.specs.Stands.{TableIsRead, NextStands, IdleStands, KeptStands, UpdateIsSeen, TouchedIsListed, FoundIsListed, UpdatesTwice, CallsOfAnEntry}
+use Rattle.peer_list.specs.Overdue.{NothingOverdue, FirstOverdue, LessOverdue}
+use Rattle.peer_list.proofs.StandsLemmas as stands
+use Rattle.peer_list.proofs.OverdueLemmas as overdue
+use Rattle.peer_list.proofs.TableLemmas as tables
+use Rattle.qualify.specs.Laws.{KeepsStill}
+use Rattle.qualify.specs.Generator.{after_words}
+use Rattle.qualify.proofs.Stands as qualified
+use Rattle.qualify.proofs.Streams as streams
+
+pub table_is_read : TableIsRead
+table_is_read = stands.table_is_read
+
+pub next_stands : NextStands
+next_stands = stands.next_stands
+
+pub idle_stands : IdleStands
+idle_stands = stands.idle_stands
+
+pub kept_stands : KeptStands
+kept_stands = stands.kept_stands
+
+pub update_is_seen : UpdateIsSeen
+update_is_seen = tables.update_is_seen
+
+pub touched_is_listed : TouchedIsListed
+touched_is_listed = tables.touched_is_listed
+
+pub found_is_listed : FoundIsListed
+found_is_listed = tables.found_is_listed
+
+pub updates_twice : UpdatesTwice
+updates_twice = tables.updates_twice
+
+pub calls_of_an_entry : CallsOfAnEntry
+calls_of_an_entry = stands.calls_of_an_entry
+
+pub nothing_overdue : NothingOverdue
+nothing_overdue = overdue.nothing_overdue
+
+pub first_overdue : FirstOverdue
+first_overdue = overdue.first_overdue
+
+pub less_overdue : LessOverdue
+less_overdue = overdue.less_overdue
+
+pub keeps_still : KeepsStill
+keeps_still = qualified.keeps_still
+
+pub place_goes_on : (g : ChaCha) (m n : ℕ) → after_words n (after_words m g) ≡ after_words (m + n) g
+place_goes_on = streams.after_after

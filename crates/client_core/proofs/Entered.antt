@@ -1,0 +1,117 @@
+-- One entry more: what a client then stands for.
+use Rattle.std.proofs.Common.{◌≡◌, ◌≤◌, ℕ, Bool, true, false, List, [], ◌∷◌, Option, Some, None, refl, sym, ap, ◌∙◌, subst}
+use Rattle.std.specs.Prelude.{if◌then◌else◌}
+use Rattle.std.proofs.Math.Nat.{le_refl}
+use Rattle.td_base.specs.declared.ipv6.Ip6.{Ip6}
+use Rattle.teredo_node.specs.Journal.{Entry, Journal, with_entry, is_changed}
+use Rattle.peer_list.specs.Mentions.{Mention}
+use Rattle.peer_list.specs.Peers.{Peer}
+use Rattle.peer_list.specs.Laws.{after}
+use Rattle.peer_list.specs.Table.{Table, known_to}
+use Rattle.peer_list.specs.Calls.{Updates, Keeps}
+use Rattle.peer_list.specs.Stands.{StandsForMentions, IsIdle}
+use Rattle.qualify.specs.declared.settings.Settings.{Settings}
+use Rattle.qualify.specs.Turns.{turn_of, says_nothing}
+use Rattle.qualify.specs.Qualification.{Qualification, qualification}
+use Rattle.qualify.specs.Qualifier.{QualifierState, StandsFor, stands_whole}
+use Rattle.qualify.specs.Generator.{after_words}
+use Rattle.client_core.specs.declared.client.Client.{Client}
+use Rattle.client_rules.specs.Bearings.{mention, mentions}
+use Rattle.client_core.specs.Client.{settings_of, ClientStandsFor, Enters, KeepsAll, Stays}
+use Rattle.client_core.proofs.Below.{next_stands, idle_stands, kept_stands, keeps_still}
+use Rattle.client_rules.proofs.Tried.{next_mentions}
+
+-- QUALIFICATION
+
+-- the parts of an equal whole
+stands_by : (q : QualifierState) (j : Journal) → q.now ≡ qualification q.settings j → StandsFor q j
+stands_by q j e = record {
+  phase = ap (λ (x : Qualification). x.phase) e;
+  due = ap (λ (x : Qualification). x.due) e;
+  sends = ap (λ (x : Qualification). x.sends) e;
+  open_nonces = ap (λ (x : Qualification). x.open_nonces) e;
+  kept = ap (λ (x : Qualification). x.kept) e;
+  address = ap (λ (x : Qualification). x.address) e;
+  interval = ap (λ (x : Qualification). x.interval) e;
+}
+
+-- an entry that says nothing of it leaves it
+pub still_stands : (q : QualifierState) (j : Journal) (e : Entry) → turn_of e ≡ says_nothing → StandsFor q j → StandsFor q (with_entry j e)
+still_stands q j e quiet h = stands_by q (with_entry j e) (stands_whole q j h ∙ sym (keeps_still q.settings j e quiet))
+
+-- PEERS
+
+-- an entry of the same epoch is one further mention
+mentioned : (e : Entry) (j : List Entry) → is_changed e.step.fate ≡ false → mentions (e ∷ j) ≡ mention e ∷ mentions j
+mentioned e j same = next_mentions e j ∙ ap (λ (b : Bool). if b then [] else mention e ∷ mentions j) same
+
+-- a change of address ends all
+pub changed : (e : Entry) (j : List Entry) → is_changed e.step.fate ≡ true → mentions (e ∷ j) ≡ []
+changed e j it = next_mentions e j ∙ ap (λ (b : Bool). if b then [] else mention e ∷ mentions j) it
+
+-- an entry that means nothing for a peer leaves them
+pub peers_idle : (t : Table) (j : List Entry) (e : Entry) → is_changed e.step.fate ≡ false → IsIdle (mention e) → StandsForMentions t (mentions j) → StandsForMentions t (mentions (e ∷ j))
+peers_idle t j e same idle h = subst (λ (ms : List Mention). StandsForMentions t ms) (sym (mentioned e j same)) (idle_stands t (mention e) (mentions j) h idle)
+
+-- what an entry means for its peer
+pub record OfPeer (old : Client) (e : Entry) (who : Ip6) (new : Client) : Type 0 where
+  pub peer : e.peer ≡ Some who
+  pub epoch : is_changed e.step.fate ≡ false
+  pub clock : old.peers.moment ≤ e.moment
+  pub peers : Updates old.peers new.peers e.moment who (after (mention e) (known_to old.peers e.moment who))
+
+-- and nothing else
+pub record Bears (old : Client) (e : Entry) (who : Ip6) (new : Client) : Type 0 where
+  pub of_peer : OfPeer old e who new
+  pub quiet : turn_of e ≡ says_nothing
+  pub qualifier : new.qualifier ≡ old.qualifier
+  pub place : new.rng ≡ after_words e.step.drawn old.rng
+
+pub peers_on : (old new : Client) (e : Entry) (who : Ip6) → OfPeer old e who new → (j : Journal) → ClientStandsFor old j → StandsForMentions new.peers (mentions (e ∷ j.entries))
+peers_on old new e who b j h =
+    subst (λ (ms : List Mention). StandsForMentions new.peers ms) (sym (mentioned e j.entries b.epoch))
+    (next_stands old.peers new.peers (mention e) (mentions j.entries) who h.peers b.clock b.peer b.peers)
+
+pub bears_enters : (old new : Client) (e : Entry) (who : Ip6) → Bears old e who new → Enters old e new
+bears_enters old new e who b = record {
+  stands = λ j h. record {
+    qualification = still_stands new.qualifier j e b.quiet (subst (λ (q : QualifierState). StandsFor q j) (sym b.qualifier) h.qualification);
+    peers = peers_on old new e who b.of_peer j h;
+  };
+  place = b.place;
+  settings = ap (λ (q : QualifierState). q.settings) b.qualifier;
+  clock = subst (λ (n : ℕ). n ≤ e.moment) (sym b.of_peer.peers.moment) (le_refl e.moment);
+}
+
+-- an entry that means nothing at all: the client is the same
+pub record MeansNone (c : Client) (e : Entry) : Type 0 where
+  pub idle : IsIdle (mention e)
+  pub epoch : is_changed e.step.fate ≡ false
+  pub quiet : turn_of e ≡ says_nothing
+  pub clock : c.peers.moment ≤ e.moment
+  pub drawn : e.step.drawn ≡ 0
+
+pub none_enters : (c : Client) (e : Entry) → MeansNone c e → Enters c e c
+unfolding after_words
+none_enters c e b = record {
+  stands = λ j h. record {
+    qualification = still_stands c.qualifier j e b.quiet h.qualification;
+    peers = peers_idle c.peers j.entries e b.epoch b.idle h.peers;
+  };
+  place = sym (ap (λ (n : ℕ). after_words n c.rng) b.drawn);
+  settings = refl;
+  clock = b.clock;
+}
+
+-- REFUSALS
+
+-- whatever keeps all stays as it was
+pub keeps_stays : (old new : Client) (n : ℕ) → old.peers.moment ≤ n → KeepsAll old n new → Stays old new
+keeps_stays old new n clock k = record {
+  stands = λ j h. record {
+    qualification = subst (λ (q : QualifierState). StandsFor q j) (sym k.qualifier) h.qualification;
+    peers = kept_stands old.peers new.peers n (mentions j.entries) h.peers clock k.peers;
+  };
+  words = k.rng;
+  settings = ap (λ (q : QualifierState). q.settings) k.qualifier;
+}

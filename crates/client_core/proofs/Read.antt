@@ -1,0 +1,113 @@
+-- What a client reads of itself is what each journal says that it stands for.
+use Rattle.std.proofs.Common.{◌≡◌, ◌≤◌, ℕ, Bool, true, false, List, Option, Some, None, refl, ap, sym, subst, ◌∙◌}
+use Rattle.std.specs.Prelude.{unwrap_or, is_some, if◌then◌else◌}
+use Rattle.td_base.specs.declared.ipv6.Ip6.{Ip6}
+use Rattle.td_base.specs.declared.endpoint.Ep.{Ep}
+use Rattle.teredo_addr.specs.Teredo.{unspecified}
+use Rattle.bubble.specs.Payloads.{Value}
+use Rattle.bubble.specs.Reads.{is_payload, value_in}
+use Rattle.bubble.specs.PacketsIn.{source_in, packet_in}
+use Rattle.teredo_node.specs.declared.fate.Fate.{Fate}
+use Rattle.teredo_node.specs.declared.fate.Fate.TheVariants as fate
+use Rattle.teredo_node.specs.Step.{Step, just}
+use Rattle.teredo_node.specs.Journal.{Entry, Journal, Words, arrived, with_entry}
+use Rattle.peer_list.specs.Peers.{Peer, peer_at}
+use Rattle.peer_list.specs.Stands.{SaysTheSame, bears_nothing}
+use Rattle.qualify.specs.declared.settings.Settings.{Settings}
+use Rattle.qualify.specs.Qualifier.{stands_whole}
+use Rattle.qualify.specs.Advertisements.{advert_row}
+use Rattle.client_core.specs.declared.client.Client.{Client}
+use Rattle.client_rules.specs.Bearings.{mentions}
+use Rattle.client_rules.specs.Standing.{Standing, standing_at, standing_of}
+use Rattle.client_rules.specs.Reception.{Seen, seen_of, seen, reception_row, reception_fate, reception_step, reception}
+use Rattle.client_rules.specs.Journals.{entry, client_in}
+use Rattle.client_core.specs.Client.{settings_of, words_ahead, standing_in, ClientStandsFor, Does, Receives, KeepsPlace, WantsPlace, IsPayloadOf, lists, fate_in, entry_of}
+use Rattle.client_core.proofs.Below.{table_is_read}
+use Rattle.client_core.proofs.Entered.{none_enters}
+use Rattle.client_rules.proofs.Fates.{fate_of_reception}
+
+pub read_same : (c : Client) (j : Journal) (n : ℕ) → ClientStandsFor c j → c.peers.moment ≤ n → SaysTheSame c.peers (mentions j.entries) n
+read_same c j n h l = table_is_read c.peers (mentions j.entries) n h.peers l
+
+pub standing_is : (c : Client) (j : Journal) (n : ℕ) (p : Ip6) → ClientStandsFor c j → c.peers.moment ≤ n → standing_in c n p ≡ standing_at (settings_of c) j n p
+unfolding standing_at
+standing_is c j n p h l =
+    let r = read_same c j n h l in
+    let q = stands_whole c.qualifier j h.qualification in
+    λ i. record { moment = n; qualification = q i; peer = r.peer p i; room = r.room p i; waiting = r.waiting i }
+
+-- DATAGRAMS
+
+source_there : (x : List ℕ) (v : Value) → is_payload x ≡ true → value_in x ≡ v → source_in x ≡ Some v.packet.src
+unfolding source_in
+source_there x v payload value = λ i. if payload i then Some (value i).packet.src else None
+
+reception_by : (s : Settings) (a : Standing) (from : Ep) (x : List ℕ) (v : Value) (w : Words) (b : Bool) → is_payload x ≡ b → value_in x ≡ v
+    → reception s a from x w ≡ reception_step s a from x v w (reception_row (seen_of s a from b v) (advert_row s a.qualification from v))
+unfolding reception reception_fate seen
+reception_by s a from x v w b payload value =
+    λ i. reception_step s a from x (value i) w (reception_row (seen_of s a from (payload i) (value i)) (advert_row s a.qualification from (value i)))
+
+step_there : (c : Client) (j : Journal) (n : ℕ) (from : Ep) (x : List ℕ) (v : Value) → ClientStandsFor c j → c.peers.moment ≤ n → is_payload x ≡ true → value_in x ≡ v
+    → reception (settings_of c) (standing_of (settings_of c) j n (source_in x)) from x (words_ahead c) ≡ reception_step (settings_of c) (standing_in c n v.packet.src) from x v (words_ahead c) (fate_in c n from v)
+step_there c j n from x v h l payload value =
+    let a : standing_of (settings_of c) j n (source_in x) ≡ standing_in c n v.packet.src = ap (standing_of (settings_of c) j n) (source_there x v payload value) ∙ sym (standing_is c j n v.packet.src h l) in
+    ap (λ (b : Standing). reception (settings_of c) b from x (words_ahead c)) a
+    ∙ reception_by (settings_of c) (standing_in c n v.packet.src) from x v (words_ahead c) true payload value
+
+pub received : (old new : Client) (n : ℕ) (from : Ep) (x : List ℕ) (v : Value) (step : Step) → is_payload x ≡ true → IsPayloadOf x v → old.peers.moment ≤ n
+    → Receives old n from v (fate_in old n from v) step new → Does old n (arrived from x) step new
+unfolding client_in
+received old new n from x v step payload is l r =
+    let did : (j : Journal) → ClientStandsFor old j → step ≡ reception (settings_of old) (standing_of (settings_of old) j n (source_in x)) from x (words_ahead old) =
+    (λ j h. r.did j x h is ∙ sym (step_there old j n from x v h l payload is.value)) in
+    record {
+      did = did;
+      stands = λ j h. subst (λ (e : Entry). ClientStandsFor new (with_entry j e))
+          (λ i. entry n (arrived from x) (packet_in x) (sym (source_there x v payload is.value) i) (words_ahead old) (did j h i)) (r.stands j x h is);
+      place = r.place;
+      settings = r.settings;
+      clock = r.clock;
+    }
+
+-- what isn't a payload is dropped
+malformed_by : (s : Settings) (a : Standing) (from : Ep) (x : List ℕ) (w : Words) → is_payload x ≡ false → reception s a from x w ≡ just fate.Malformed
+unfolding reception reception_fate seen
+malformed_by s a from x w isnt = λ i. reception_step s a from x (value_in x) w (reception_row (seen_of s a from (isnt i) (value_in x)) (advert_row s a.qualification from (value_in x)))
+
+pub malformed : (c : Client) (n : ℕ) (from : Ep) (x : List ℕ) → c.peers.moment ≤ n → is_payload x ≡ false → Does c n (arrived from x) (just fate.Malformed) c
+unfolding client_in
+malformed c n from x l isnt =
+    let whole : (j : Journal) → just fate.Malformed ≡ reception (settings_of c) (standing_of (settings_of c) j n (source_in x)) from x (words_ahead c) =
+    (λ j. sym (malformed_by (settings_of c) (standing_of (settings_of c) j n (source_in x)) from x (words_ahead c) isnt)) in
+    let e : Entry = entry n (arrived from x) (packet_in x) (source_in x) (words_ahead c) (just fate.Malformed) in
+    let entered = none_enters c e (record { idle = bears_nothing refl; epoch = refl; quiet = refl; clock = l; drawn = refl }) in
+    record {
+      did = λ j h. whole j;
+      stands = λ j h. subst (λ (k : Entry). ClientStandsFor c (with_entry j k)) (λ i. entry n (arrived from x) (packet_in x) (source_in x) (words_ahead c) (whole j i)) (entered.stands j h);
+      place = entered.place;
+      settings = refl;
+      clock = l;
+    }
+
+-- WHERE MEMORY WAS WANTING
+
+fate_there : (c : Client) (j : Journal) (n : ℕ) (from : Ep) (x : List ℕ) (v : Value) → ClientStandsFor c j → c.peers.moment ≤ n → is_payload x ≡ true → value_in x ≡ v
+    → reception_fate (settings_of c) (standing_of (settings_of c) j n (source_in x)) from x ≡ fate_in c n from v
+unfolding reception_fate seen
+fate_there c j n from x v h l payload value =
+    let a : standing_of (settings_of c) j n (source_in x) ≡ standing_in c n v.packet.src = ap (standing_of (settings_of c) j n) (source_there x v payload value) ∙ sym (standing_is c j n v.packet.src h l) in
+    λ i. reception_row (seen_of (settings_of c) (a i) from (payload i) (value i)) (advert_row (settings_of c) (a i).qualification from (value i))
+
+pub wants_place : (old new : Client) (n : ℕ) (from : Ep) (x : List ℕ) (v : Value) → is_payload x ≡ true → value_in x ≡ v → old.peers.moment ≤ n
+    → KeepsPlace old n v (fate_in old n from v) new → WantsPlace old n from x
+unfolding client_in
+wants_place old new n from x v payload value l k j h = record {
+  line =
+      ap (λ (f : Fate). lists f) (fate_of_reception (settings_of old) (standing_of (settings_of old) j n (source_in x)) from x (words_ahead old) ∙ fate_there old j n from x v h l payload value)
+      ∙ k.line;
+  unlisted =
+      ap (λ (p : Option Ip6). is_some (peer_at (mentions j.entries) n (unwrap_or p unspecified))) (source_there x v payload value)
+      ∙ ap (λ (p : Option Peer). is_some p) (sym ((read_same old j n h l).peer v.packet.src))
+      ∙ k.unlisted;
+}

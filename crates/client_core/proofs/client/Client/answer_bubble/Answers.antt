@@ -1,0 +1,40 @@
+use Rattle.std.proofs.Common.{◌≡◌, [], ◌∷◌, refl, sym, subst, ◌∙◌}
+use Rattle.std.specs.Prelude.{None}
+use Rattle.bubble.specs.Payloads.{view}
+use Rattle.teredo_node.specs.declared.fate.Fate.TheVariants as fate
+use Rattle.teredo_node.specs.Step.{Step, with_send}
+use Rattle.teredo_node.specs.Sends.{sending}
+use Rattle.peer_list.specs.Peers.{Peer}
+use Rattle.peer_list.specs.Table.{known_to}
+use Rattle.peer_list.specs.Calls.{tried_at}
+use Rattle.qualify.specs.Solicitations.{own_address}
+use Rattle.client_core.specs.declared.client.Client.{Client}
+use Rattle.client_rules.specs.Tries.{direct_bubble}
+use Rattle.client_core.specs.Client.{Receives}
+use Rattle.client_core.proofs.Peered.{seen_listed, then_call}
+use Rattle.client_core.proofs.Acts.{indirect}
+use Rattle.client_core.proofs.client.Client.answer_bubble.Goals as goal
+
+pub tried-requires-clause-listed : goal.tried-requires-clause-listed
+tried-requires-clause-listed c =
+    let known = known_to c.args.self.now.peers c.args.now.0 c.args.payload.now.packet.src in
+    seen_listed c.args.self.now.peers c.list.new.peers c.args.now.0 c.args.payload.now.packet.src known c.in_ok-list.ensures.listed
+
+pub returns-clause-done : goal.returns-clause-done
+returns-clause-done c from =
+    let n = c.args.now.0 in
+    let v = view c.args.payload.now in
+    let old = c.args.self.now in
+    let new : Client = record { qualifier = c.heard_server.new.self; peers = c.tried.new.self; rng = old.rng } in
+    let known = known_to old.peers n v.packet.src in
+    let step : c.send_bubble.new.step ≡ sending fate.Indirect (direct_bubble (own_address old.qualifier.now) v.packet.src c.args.origin ∷ []) =
+    c.send_bubble.ensures ∙ (λ i. with_send (c.reset.ensures i) (direct_bubble (c.own_address.ensures i) v.packet.src c.args.origin)) in
+    subst (λ (s : Step). Receives old n from v fate.Indirect s new) (sym step)
+    (indirect old new n from v c.args.origin (record {
+      clock = c.requires.callable.clock;
+      origin = c.requires.origin;
+      peers = then_call old.peers c.list.new.peers c.tried.new.self n v.packet.src known (λ (p : Peer). tried_at n None p) c.in_ok-list.ensures.listed c.tried.ensures;
+      qualified = c.heard_server.ensures.stands;
+      settings = c.heard_server.ensures.settings;
+      rng = refl;
+    }))

@@ -1,0 +1,33 @@
+use Rattle.std.proofs.Common.{◌≡◌, Some, refl, sym, subst, ◌∙◌, ap}
+use Rattle.std.specs.Prelude.{Bool}
+use Rattle.teredo_node.specs.Step.{Step}
+use Rattle.teredo_node.specs.Journal.{given}
+use Rattle.peer_list.specs.Table.{known_to}
+use Rattle.peer_list.specs.Calls.{queued_at}
+use Rattle.qualify.specs.Generator.{after_words}
+use Rattle.client_rules.specs.Transmission.{queues}
+use Rattle.client_rules.specs.Journals.{entry}
+use Rattle.client_core.specs.Client.{settings_of, words_ahead, standing_in, Enters}
+use Rattle.client_core.proofs.Peered.{seen_listed}
+use Rattle.client_core.proofs.TickActs.{queued}
+use Rattle.client_core.proofs.client.Client.queue.Goals as goal
+
+pub try_unless-requires-clause-listed : goal.try_unless-requires-clause-listed
+try_unless-requires-clause-listed c =
+    seen_listed c.args.self.now.peers c.wait.new.peers c.args.now.0 c.args.who (queued_at c.args.now.0 c.args.bytes.now (known_to c.args.self.now.peers c.args.now.0 c.args.who)) c.in_ok-wait.ensures.queued
+
+pub returns-clause-entered : goal.returns-clause-entered
+returns-clause-entered c =
+    let old = c.args.self.now in
+    let n = c.args.now.0 in
+    let a = standing_in old n c.args.who in
+    let barred = c.is_barred-barred.result in
+    let step : c.try_unless.new.step ≡ queues barred (settings_of old) a c.args.who (words_ahead old) = c.try_unless.ensures.step a refl in
+    subst (λ (s : Step). Enters old (entry n (given c.args.bytes.now) (Some c.args.bytes.now) (Some c.args.who) (words_ahead old) s) c.try_unless.new.self) (sym step)
+    (queued old c.try_unless.new.self n c.args.who c.args.bytes.now barred a (record {
+      clock = c.requires.callable.clock;
+      mid = c.wait.new.peers;
+      waits = c.in_ok-wait.ensures.queued;
+      tries = c.try_unless.ensures.peers;
+      qualifier = c.try_unless.ensures.qualifier;
+    }) (c.try_unless.ensures.place ∙ ap (λ (s : Step). after_words s.drawn old.rng) step))

@@ -1,0 +1,51 @@
+use Rattle.std.proofs.Common.{◌≡◌, refl, sym, subst, ◌∙◌, ap, arith}
+use Rattle.bubble.specs.Payloads.{view}
+use Rattle.teredo_node.specs.declared.fate.Fate.{Fate}
+use Rattle.teredo_node.specs.declared.fate.Fate.TheVariants as fate
+use Rattle.teredo_node.specs.Step.{Step, just}
+use Rattle.peer_list.specs.Table.{Table}
+use Rattle.qualify.specs.Advertisements.{advert_row, advert_words}
+use Rattle.client_core.specs.declared.client.Client.{Client}
+use Rattle.client_core.specs.Client.{settings_of, Receives}
+use Rattle.client_core.proofs.Adverts.{Took, told, moved, advert_kept, advert_changed}
+use Rattle.client_core.proofs.client.Client.take_advert.Goals as goal
+
+pub returns-in_default : goal.returns-in_default
+returns-in_default c =
+    let old = c.args.self.now in
+    let v = view c.args.payload.now in
+    let f = c.on_advert-fate.result in
+    let new : Client = record { qualifier = c.on_advert-fate.new.self; peers = old.peers; rng = c.on_advert-fate.new.rng } in
+    let step : c.set_drawn.new.self ≡ told f = c.set_drawn.ensures ∙ (λ i. record (c.reset.ensures i) { drawn = c.words_of_advert.ensures i }) in
+    record {
+      done = subst (λ (s : Step). Receives old c.args.now.0 c.args.from v (advert_row (settings_of old) old.qualifier.now c.args.from v) s new) (sym step)
+          (advert_kept old new c.args.now.0 c.args.from v f (record {
+            clock = c.requires.callable.clock;
+            row = c.on_advert-fate.ensures.fate;
+            stands = c.on_advert-fate.ensures.stands;
+            place = c.on_advert-fate.ensures.place;
+            settings = c.on_advert-fate.ensures.settings;
+          }) c.in_default.not-Changed refl);
+    }
+
+pub returns-in-Changed : goal.returns-in-Changed
+returns-in-Changed c =
+    let old = c.args.self.now in
+    let n = c.args.now.0 in
+    let v = view c.args.payload.now in
+    let new : Client = record { qualifier = c.on_advert-fate.new.self; peers = c.clear.new.self; rng = c.on_advert-fate.new.rng } in
+    let is = c.in-Changed.is in
+    let drawn : c.words_of_advert.result ≡ 0 = c.words_of_advert.ensures ∙ ap (λ (f : Fate). advert_words f) is in
+    let begun : c.set_drawn.new.self ≡ just fate.Changed = c.set_drawn.ensures ∙ (λ i. record (c.reset.ensures i) { drawn = drawn i }) ∙ ap (λ (f : Fate). just f) is in
+    let step : c.set_gone.new.self ≡ moved old n = c.set_gone.ensures ∙ (λ i. record (begun i) { gone = c.waiting.ensures i }) in
+    let took : Took old n c.args.from v c.on_advert-fate.result new = record {
+      clock = c.requires.callable.clock;
+      row = c.on_advert-fate.ensures.fate;
+      stands = c.on_advert-fate.ensures.stands;
+      place = c.on_advert-fate.ensures.place;
+      settings = c.on_advert-fate.ensures.settings;
+    } in
+    record {
+      done = subst (λ (s : Step). Receives old n c.args.from v (advert_row (settings_of old) old.qualifier.now c.args.from v) s new) (sym step)
+          (advert_changed old new n c.args.from v (subst (λ (f : Fate). Took old n c.args.from v f new) is took) c.clear.ensures.stands (omega (arith, ap (λ (t : Table). t.moment) c.clear.ensures.empty)));
+    }

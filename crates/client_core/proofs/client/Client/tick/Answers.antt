@@ -1,0 +1,48 @@
+use Rattle.std.proofs.Common.{◌≡◌, false, refl, sym, ◌∙◌, ap}
+use Rattle.std.specs.Prelude.{Option, ℕ, is_some}
+use Rattle.peer_list.specs.Table.{first_due_in}
+use Rattle.qualify.specs.Solicitations.{is_due}
+use Rattle.client_core.specs.declared.client.Client.{Client}
+use Rattle.client_core.specs.Client.{words_ahead}
+use Rattle.client_rules.specs.Ticks.{peer_due}
+use Rattle.client_core.proofs.Ticked.{ticked_does, of_peers, asked}
+use Rattle.client_core.proofs.Owed.{OfPhase, phase_idles, phase_lessens, peers_idle_too, peers_lessen, some_too}
+use Rattle.client_core.proofs.client.Client.tick.Goals as goal
+
+pub returns-then-is_past : goal.returns-then-is_past
+returns-then-is_past c =
+    let old = c.args.self.now in
+    let n = c.args.now.0 in
+    let new : Client = record old { qualifier = c.on_tick.new.self; rng = c.on_tick.new.rng } in
+    let due = ap (λ (d : Option ℕ). is_due n d) (sym c.due.ensures.value) ∙ sym c.is_past.ensures ∙ c.if-is_past.true in
+    let of_phase : OfPhase old n (words_ahead old) c.on_tick.new.step new = record {
+      due = due;
+      some = ap (λ (d : Option ℕ). is_some d) (sym c.due.ensures.value) ∙ some_too c.due.result ∙ c.due.ensures.some;
+      does = c.on_tick.ensures.does;
+      done = c.on_tick.ensures.done;
+      peers = refl;
+    } in
+    record {
+      done = asked old new n c.on_tick.new.step (record {
+        clock = c.requires.callable.clock;
+        due = due;
+        did = c.on_tick.ensures.step;
+        stands = c.on_tick.ensures.stands;
+        place = c.on_tick.ensures.place;
+        settings = c.on_tick.ensures.settings;
+        peers = refl;
+      });
+      idle = phase_idles old new n (words_ahead old) c.on_tick.new.step of_phase;
+      less = phase_lessens old new n (words_ahead old) c.on_tick.new.step of_phase;
+    }
+
+pub returns : goal.returns
+returns c =
+    let old = c.args.self.now in
+    let n = c.args.now.0 in
+    let phase : is_due n old.qualifier.now.due ≡ false = ap (λ (d : Option ℕ). is_due n d) (sym c.due.ensures.value) ∙ sym c.is_past.ensures ∙ c.if-is_past.false in
+    record {
+      done = ticked_does old c.tick_peer.new.self n (peer_due n (first_due_in old.peers n)) c.tick_peer.new.step c.requires.callable.clock (of_peers old n phase) (λ j h. c.tick_peer.ensures.step) c.tick_peer.ensures.entered;
+      idle = peers_idle_too old c.tick_peer.new.self n c.tick_peer.new.step phase c.tick_peer.ensures.less;
+      less = peers_lessen old c.tick_peer.new.self n c.tick_peer.new.step phase c.tick_peer.ensures.less;
+    }

@@ -1,0 +1,148 @@
+-- What a client keeps, the journals that it stands for, and what a call does for each of them (RFC 4380, section 5.2).
+use Rattle.std.specs.Prelude.{◌≡◌, ◌≤◌, ◌<◌, ◌+◌, ℕ, Bool, true, false, List, length, Option, Some, is_some, unwrap_or}
+use Rattle.td_base.specs.declared.ipv6.Ip6.{Ip6}
+use Rattle.td_base.specs.declared.endpoint.Ep.{Ep}
+use Rattle.td_outside.specs.declared.clock.TheConstants.{CLOCK_END_MS}
+use Rattle.teredo_addr.specs.Teredo.{unspecified}
+use Rattle.ipv6_packet.specs.declared.header.TheConstants.{HEADER}
+use Rattle.bubble.specs.Payloads.{Value}
+use Rattle.bubble.specs.Reads.{value_in}
+use Rattle.bubble.specs.PacketsIn.{packet_in, source_in}
+use Rattle.teredo_node.specs.declared.fate.Fate.{Fate}
+use Rattle.teredo_node.specs.declared.fate.Fate.TheVariants as fate
+use Rattle.teredo_node.specs.Step.{Step}
+use Rattle.teredo_node.specs.Journal.{Input, arrived, given, Entry, Journal, with_entry, Words}
+use Rattle.peer_list.specs.Peers.{peer_at}
+use Rattle.peer_list.specs.Table.{Table, peer_in, known_to, has_room_in, waiting_in}
+use Rattle.peer_list.specs.Calls.{tried_at, Updates, Keeps}
+use Rattle.peer_list.specs.Stands.{StandsForMentions}
+use Rattle.qualify.specs.declared.settings.Settings.{Settings}
+use Rattle.qualify.specs.Advertisements.{advert_row}
+use Rattle.qualify.specs.Generator.{words_of, after_words}
+use Rattle.qualify.specs.Qualifier.{StandsFor}
+use Rattle.client_core.specs.declared.client.Client.{Client}
+use Rattle.client_rules.specs.Bearings.{mentions}
+use Rattle.client_rules.specs.Standing.{Standing}
+use Rattle.client_rules.specs.Reception.{seen_of, reception_row, reception_step}
+use Rattle.client_rules.specs.Journals.{entry, client_entry}
+
+-- how it is set up
+abbrev pub settings_of : Client → Settings
+settings_of c = c.qualifier.settings
+
+-- the words that it draws next
+abbrev pub words_ahead : Client → Words
+words_ahead c = words_of c.rng
+
+-- qualification is what the journal says, and so is what is known of each address
+pub record ClientStandsFor (c : Client) (j : Journal) : Type 0 where
+  pub qualification : StandsFor c.qualifier j
+  pub peers : StandsForMentions c.peers (mentions j.entries)
+
+-- it may be called at n: at no moment before that of an earlier call, and while a clock runs
+pub record IsCallable (c : Client) (n : ℕ) : Type 0 where
+  pub clock : c.peers.moment ≤ n
+  pub early : n < CLOCK_END_MS
+
+-- how it stands to an address at n: what the tables read
+abbrev pub standing_in : Client → ℕ → Ip6 → Standing
+standing_in c n p = record {
+  moment = n;
+  qualification = c.qualifier.now;
+  peer = peer_in c.peers n p;
+  room = has_room_in c.peers n p;
+  waiting = waiting_in c.peers n;
+}
+
+-- WHAT A CALL DOES
+
+-- the entry of an input at n, after a journal
+abbrev pub next_entry : Client → Journal → ℕ → Input → Entry
+next_entry c j n input = client_entry (settings_of c) j n input (words_ahead c)
+
+-- for each journal that it stood for it did what the next entry says, and stands for the journal with that entry
+pub record Does (old : Client) (n : ℕ) (input : Input) (step : Step) (new : Client) : Type 0 where
+  pub did : (j : Journal) → ClientStandsFor old j → step ≡ (next_entry old j n input).step
+  pub stands : (j : Journal) → ClientStandsFor old j → ClientStandsFor new (with_entry j (next_entry old j n input))
+  pub place : new.rng ≡ after_words step.drawn old.rng
+  pub settings : settings_of new ≡ settings_of old
+  pub clock : new.peers.moment ≤ n
+
+-- it is as before: it stands for what it stood for, and draws the same words next
+pub record Stays (old new : Client) : Type 0 where
+  pub stands : (j : Journal) → ClientStandsFor old j → ClientStandsFor new j
+  pub words : new.rng ≡ old.rng
+  pub settings : settings_of new ≡ settings_of old
+
+-- WHERE MEMORY MAY BE WANTING
+
+-- the fates by which a datagram's source is listed
+abbrev pub lists : Fate → Bool
+lists fate.Indirect = true
+lists fate.Rule3 = true
+lists fate.Rule3Bubble = true
+lists fate.SuspiciousTest = true
+lists _ = false
+
+-- the line of a datagram lists its source, and that isn't listed yet
+pub record ListsAnew (c : Client) (n : ℕ) (from : Ep) (x : List ℕ) (j : Journal) : Type 0 where
+  pub line : lists (next_entry c j n (arrived from x)).step.fate ≡ true
+  pub unlisted : is_some (peer_at (mentions j.entries) n (unwrap_or (source_in x) unspecified)) ≡ false
+
+abbrev pub WantsPlace : Client → ℕ → Ep → List ℕ → Type 0
+WantsPlace c n from x = (j : Journal) → ClientStandsFor c j → ListsAnew c n from x j
+
+-- the line of a packet of the host lets it wait
+abbrev pub WantsQueue : Client → ℕ → List ℕ → Type 0
+WantsQueue c n x = (j : Journal) → ClientStandsFor c j → (next_entry c j n (given x)).step.fate ≡ fate.Queued
+
+-- THE LAST ENTRY OF ITS JOURNALS
+
+-- for each journal that it stood for it stands for that journal with this entry, whose words were drawn
+pub record Enters (old : Client) (e : Entry) (new : Client) : Type 0 where
+  pub stands : (j : Journal) → ClientStandsFor old j → ClientStandsFor new (with_entry j e)
+  pub place : new.rng ≡ after_words e.step.drawn old.rng
+  pub settings : settings_of new ≡ settings_of old
+  pub clock : new.peers.moment ≤ e.moment
+
+-- memory was wanting for an address that isn't listed, and nothing changed but that others may have been taken out
+pub record KeepsAll (old : Client) (n : ℕ) (new : Client) : Type 0 where
+  pub peers : Keeps old.peers new.peers n
+  pub qualifier : new.qualifier ≡ old.qualifier
+  pub rng : new.rng ≡ old.rng
+
+-- a peer was tried with the nonce of a test, unless it is barred
+abbrev pub TriesUnless : (barred : Bool) → Table → ℕ → Ip6 → Option ℕ → Table → Type 0
+TriesUnless true old n who nonce new = new ≡ old
+TriesUnless false old n who nonce new = Updates old new n who (tried_at n nonce (known_to old n who))
+
+-- DATAGRAMS
+
+-- a datagram of this payload from `from` has this fate, by what a client sees
+abbrev pub fate_in : Client → ℕ → Ep → Value → Fate
+fate_in c n from v = reception_row (seen_of (settings_of c) (standing_in c n v.packet.src) from true v) (advert_row (settings_of c) c.qualifier.now from v)
+
+-- the entry of a datagram x about `who`, where this was done
+abbrev pub entry_of : Client → ℕ → Ep → List ℕ → Ip6 → Step → Entry
+entry_of c n from x who step = entry n (arrived from x) (packet_in x) (Some who) (words_ahead c) step
+
+-- x spells this payload
+pub record IsPayloadOf (x : List ℕ) (v : Value) : Type 0 where
+  pub value : value_in x ≡ v
+  pub inside : v.lead.at + HEADER + length v.packet.body ≡ length x
+
+-- what was done with a payload by the line of a fate
+pub record Receives (old : Client) (n : ℕ) (from : Ep) (v : Value) (f : Fate) (step : Step) (new : Client) : Type 0 where
+  pub did : (j : Journal) (x : List ℕ) → ClientStandsFor old j → IsPayloadOf x v
+      → step ≡ reception_step (settings_of old) (standing_in old n v.packet.src) from x v (words_ahead old) f
+  pub stands : (j : Journal) (x : List ℕ) → ClientStandsFor old j → IsPayloadOf x v
+      → ClientStandsFor new (with_entry j (entry_of old n from x v.packet.src step))
+  pub place : new.rng ≡ after_words step.drawn old.rng
+  pub settings : settings_of new ≡ settings_of old
+  pub clock : new.peers.moment ≤ n
+
+-- memory was wanting for the source of a payload by the line of a fate, and all is kept
+pub record KeepsPlace (old : Client) (n : ℕ) (v : Value) (f : Fate) (new : Client) : Type 0 where
+  pub line : lists f ≡ true
+  pub unlisted : is_some (peer_in old.peers n v.packet.src) ≡ false
+  pub kept : KeepsAll old n new

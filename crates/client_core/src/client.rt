@@ -1,0 +1,68 @@
+//! A client.
+ghost use Rattle.std.specs.Prelude.{◌≡◌, ◌<◌, [], is_some};
+ghost use Rattle.td_outside.specs.declared.clock.TheConstants.{CLOCK_END_MS};
+ghost use Rattle.teredo_node.specs.Journal.{Journal};
+ghost use Rattle.qualify.specs.Qualification.{qualification};
+ghost use Rattle.qualify.specs.Qualifier.{IsSettings};
+ghost use Rattle.qualify.specs.Solicitations.{is_qualified};
+ghost use Rattle.client_core.specs.Client.{settings_of, ClientStandsFor};
+ghost use Rattle.client_rules.specs.Journals.{journal};
+
+use peer_list::Peers;
+use qualify::{Phase, Qualifier, Settings};
+use rand_chacha::ChaCha20Rng;
+use std::alloc::Global;
+use td_base::{Ip6, Millis};
+
+/// A Teredo client. All that it keeps is its qualification, its peers, and the generator of its random words.
+#[derive(Drop)]
+pub struct Client {
+    pub(crate) qualifier: Qualifier,
+    pub(crate) peers: Peers,
+    pub(crate) rng: ChaCha20Rng,
+}
+
+impl Client {
+    /// A client that starts now. Its random words are those of the generator, from its place on.
+    pub fn new(alloc: Global, s: Settings, rng: ChaCha20Rng, now: Millis) -> Client
+        requires settings { IsSettings s }
+        requires early { now.0 < CLOCK_END_MS }
+        ensures stands { ClientStandsFor result (journal now.0 []) }
+        ensures settings { settings_of result ≡ s }
+        ensures words { result.rng ≡ rng }
+        ensures clock { result.peers.moment ≡ 0 }
+    {
+        Client {
+            qualifier: Qualifier::start(s, now),
+            peers: Peers::new(alloc),
+            rng,
+        }
+    }
+
+    /// Starts anew: the first phase begins, and no peer is known. The random words go on where they were.
+    pub fn restart(&mut self, now: Millis)
+        requires early { now.0 < CLOCK_END_MS }
+        ensures stands { ClientStandsFor self.new (journal now.0 []) }
+        ensures settings { settings_of self.new ≡ settings_of self.old }
+        ensures words { self.new.rng ≡ self.old.rng }
+        ensures clock { self.new.peers.moment ≡ 0 }
+    {
+        self.qualifier = Qualifier::start(*self.qualifier.settings(), now);
+        self.peers.clear();
+    }
+
+    /// Its address, exactly while it is qualified.
+    pub fn address(&self) -> Option<Ip6>
+        ensures value { (j : Journal) → ClientStandsFor self.now j → result ≡ (qualification (settings_of self.now) j).address }
+        ensures qualified { (j : Journal) → ClientStandsFor self.now j → is_some result ≡ is_qualified (qualification (settings_of self.now) j).phase }
+    {
+        self.qualifier.address()
+    }
+
+    /// Its phase.
+    pub fn phase(&self) -> Phase
+        ensures { (j : Journal) → ClientStandsFor self.now j → result ≡ (qualification (settings_of self.now) j).phase }
+    {
+        self.qualifier.phase()
+    }
+}

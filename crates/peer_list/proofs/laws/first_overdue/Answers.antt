@@ -1,0 +1,5 @@
+use Rattle.peer_list.proofs.OverdueLemmas.{first_overdue}
+use Rattle.peer_list.proofs.laws.first_overdue.Goals as goal
+
+pub returns : goal.returns
+returns c = first_overdue

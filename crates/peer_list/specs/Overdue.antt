@@ -1,0 +1,43 @@
+-- How much is due of the peers that a table lists (RFC 4380, section 5.2.6).
+use Rattle.std.specs.Prelude.{◌≡◌, ◌≤◌, ◌<◌, ℕ, true, false, nat_le, if◌then◌else◌, Option, Some, None, is_some}
+use Rattle.td_base.specs.declared.ipv6.Ip6.{Ip6}
+use Rattle.peer_list.specs.Peers.{Peer, no_peer}
+use Rattle.peer_list.specs.Judged.{is_none, due_of}
+use Rattle.peer_list.specs.Waiting.{Listing, waiting_among}
+use Rattle.peer_list.specs.Table.{Table, while_listed, peer_in, known_to, listed_in, first_due_in}
+use Rattle.peer_list.specs.Calls.{Updates}
+
+-- a peer whose next try is due at n, else one for whom nothing waits
+abbrev pub while_due : ℕ → Peer → Peer
+while_due n peer = if nat_le (due_of peer) n then peer else no_peer
+
+-- how many packets wait at n for listed peers whose next try is due then
+unfoldable pub overdue_in : Table → ℕ → ℕ
+overdue_in t n = waiting_among (λ p. while_due n (known_to t n p)) (listed_in t n)
+
+-- where nothing waits at n, nothing is due from then on
+abbrev pub NothingOverdue : Type 0
+NothingOverdue = (t : Table) (n m : ℕ) → n ≤ m → first_due_in t n ≡ None → overdue_in t m ≡ 0
+
+-- the peer that is due first at n: what is known of it, and when something is due
+pub record IsFirstOverdue (t : Table) (n : ℕ) (l : Listing) : Type 0 where
+  pub peer : l.peer ≡ known_to t n l.who
+  pub listed : is_some (peer_in t n l.who) ≡ true
+  pub waits : is_none (known_to t n l.who).waiting ≡ false
+  pub before : (m : ℕ) → n ≤ m → m < due_of l.peer → overdue_in t m ≡ 0
+  pub now : due_of l.peer ≤ n → 0 < overdue_in t n
+
+abbrev pub FirstOverdue : Type 0
+FirstOverdue = (t : Table) (n : ℕ) (l : Listing) → first_due_in t n ≡ Some l → IsFirstOverdue t n l
+
+-- packets wait for a peer that is due at n, and after a call none do, or it isn't due any more
+pub record IsPutOff (t : Table) (n : ℕ) (who : Ip6) (peer : Peer) : Type 0 where
+  pub listed : is_some (peer_in t n who) ≡ true
+  pub waits : is_none (known_to t n who).waiting ≡ false
+  pub due : due_of (known_to t n who) ≤ n
+  pub stays : while_listed n peer ≡ Some peer
+  pub over : is_none (while_due n peer).waiting ≡ true
+
+-- then less is due
+abbrev pub LessOverdue : Type 0
+LessOverdue = (old new : Table) (n : ℕ) (who : Ip6) (peer : Peer) → IsPutOff old n who peer → Updates old new n who peer → overdue_in new n < overdue_in old n
