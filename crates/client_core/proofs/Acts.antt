@@ -18,7 +18,7 @@ use Rattle.peer_list.specs.Peers.{Peer}
 use Rattle.peer_list.specs.Laws.{after}
 use Rattle.peer_list.specs.Table.{Table, known_to}
 use Rattle.peer_list.specs.Calls.{Updates, touched_at, trusted_at, heard_at, tried_at, emptied}
-use Rattle.peer_list.specs.Stands.{IsIdle, bears_nothing}
+use Rattle.peer_list.specs.Stands.{bears_nothing}
 use Rattle.qualify.specs.declared.settings.Settings.{Settings}
 use Rattle.qualify.specs.Turns.{turn, says_nothing}
 use Rattle.qualify.specs.Generator.{after_words}
@@ -29,7 +29,7 @@ use Rattle.client_rules.specs.Bearings.{mention, bearing_of}
 use Rattle.client_rules.specs.Tries.{direct_bubble, test}
 use Rattle.client_rules.specs.Reception.{reception_step}
 use Rattle.client_core.specs.Client.{settings_of, words_ahead, standing_in, ClientStandsFor, Enters, Receives, IsPayloadOf, entry_of}
-use Rattle.client_core.specs.Lines.{MeansNothing, DropsDatagram}
+use Rattle.client_core.specs.Lines.{SaysNothing, DropsDatagram}
 use Rattle.client_core.proofs.Below.{calls_of_an_entry}
 use Rattle.client_core.proofs.Entered.{Bears, bears_enters, OfPeer, peers_on, MeansNone, none_enters}
 

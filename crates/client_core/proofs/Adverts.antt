@@ -12,7 +12,7 @@ use Rattle.teredo_node.specs.Words.{drawn_words}
 use Rattle.teredo_node.specs.Journal.{Entry, Journal, Words, is_changed, with_entry}
 use Rattle.peer_list.specs.Mentions.{Mention, no_bearing}
 use Rattle.peer_list.specs.Table.{Table, waiting_in}
-use Rattle.peer_list.specs.Stands.{StandsForMentions, IsIdle, bears_nothing}
+use Rattle.peer_list.specs.Stands.{StandsForMentions, MeansNothing, bears_nothing}
 use Rattle.qualify.specs.declared.settings.Settings.{Settings}
 use Rattle.qualify.specs.declared.phase.Phase.{Phase}
 use Rattle.qualify.specs.declared.phase.Phase.TheVariants.{Cone, Restricted, Secondary, Qualified, Symmetric, OffLine}

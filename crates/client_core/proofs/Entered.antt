@@ -9,7 +9,7 @@ use Rattle.peer_list.specs.Peers.{Peer}
 use Rattle.peer_list.specs.Laws.{after}
 use Rattle.peer_list.specs.Table.{Table, known_to}
 use Rattle.peer_list.specs.Calls.{Updates, Keeps}
-use Rattle.peer_list.specs.Stands.{StandsForMentions, IsIdle}
+use Rattle.peer_list.specs.Stands.{StandsForMentions, MeansNothing}
 use Rattle.qualify.specs.declared.settings.Settings.{Settings}
 use Rattle.qualify.specs.Turns.{turn_of, says_nothing}
 use Rattle.qualify.specs.Qualification.{Qualification, qualification}
@@ -50,7 +50,7 @@ pub changed : (e : Entry) (j : List Entry) → is_changed e.step.fate ≡ true �
 changed e j it = next_mentions e j ∙ ap (λ (b : Bool). if b then [] else mention e ∷ mentions j) it
 
 -- an entry that means nothing for a peer leaves them
-pub peers_idle : (t : Table) (j : List Entry) (e : Entry) → is_changed e.step.fate ≡ false → IsIdle (mention e) → StandsForMentions t (mentions j) → StandsForMentions t (mentions (e ∷ j))
+pub peers_idle : (t : Table) (j : List Entry) (e : Entry) → is_changed e.step.fate ≡ false → MeansNothing (mention e) → StandsForMentions t (mentions j) → StandsForMentions t (mentions (e ∷ j))
 peers_idle t j e same idle h = subst (λ (ms : List Mention). StandsForMentions t ms) (sym (mentioned e j same)) (idle_stands t (mention e) (mentions j) h idle)
 
 -- what an entry means for its peer
@@ -85,7 +85,7 @@ bears_enters old new e who b = record {
 
 -- an entry that means nothing at all: the client is the same
 pub record MeansNone (c : Client) (e : Entry) : Type 0 where
-  pub idle : IsIdle (mention e)
+  pub idle : MeansNothing (mention e)
   pub epoch : is_changed e.step.fate ≡ false
   pub quiet : turn_of e ≡ says_nothing
   pub clock : c.peers.moment ≤ e.moment

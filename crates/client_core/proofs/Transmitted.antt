@@ -16,7 +16,7 @@ use Rattle.teredo_node.specs.Journal.{Entry, Journal, Words, given, is_changed, 
 use Rattle.peer_list.specs.Peers.{Peer}
 use Rattle.peer_list.specs.Table.{Table, known_to}
 use Rattle.peer_list.specs.Calls.{Updates, touched_at}
-use Rattle.peer_list.specs.Stands.{IsIdle, about_nobody, bears_nothing}
+use Rattle.peer_list.specs.Stands.{about_nobody, bears_nothing}
 use Rattle.qualify.specs.declared.settings.Settings.{Settings}
 use Rattle.qualify.specs.Turns.{turn, says_nothing}
 use Rattle.qualify.specs.Solicitations.{is_qualified}
@@ -28,7 +28,7 @@ use Rattle.client_rules.specs.Transmission.{Given, given_of, transmission_row, t
 use Rattle.client_rules.specs.Transmission as table
 use Rattle.client_rules.specs.Journals.{entry, client_out}
 use Rattle.client_core.specs.Client.{settings_of, words_ahead, standing_in, ClientStandsFor, Enters, Does, WantsQueue}
-use Rattle.client_core.specs.Lines.{MeansNothing, DropsPacket, given_by}
+use Rattle.client_core.specs.Lines.{SaysNothing, DropsPacket, given_by}
 use Rattle.client_core.proofs.Below.{calls_of_an_entry}
 use Rattle.client_core.proofs.Entered.{Bears, bears_enters, MeansNone, none_enters}
 use Rattle.client_rules.proofs.Fates.{fate_of_transmission}
@@ -124,7 +124,7 @@ unfolding transmission table.given
 malformed_by s a x w on isnt = λ i. transmission_step s a x (fields_in x).dst w (transmission_row (record (given_of s a (isnt i) (fields_in x)) { qualified = on i }))
 
 -- whatever it is about, nothing is done
-nothing : (c : Client) (n : ℕ) (x : List ℕ) (f : Fate) → c.peers.moment ≤ n → MeansNothing f
+nothing : (c : Client) (n : ℕ) (x : List ℕ) (f : Fate) → c.peers.moment ≤ n → SaysNothing f
     → ((j : Journal) → ClientStandsFor c j → transmission (settings_of c) (standing_of (settings_of c) j n (destination_in x)) x (words_ahead c) ≡ just f) → Does c n (given x) (just f) c
 unfolding client_out
 nothing c n x f l d whole =
@@ -138,10 +138,10 @@ nothing c n x f l d whole =
       clock = l;
     }
 
-means_nothing_off : MeansNothing fate.Off
+means_nothing_off : SaysNothing fate.Off
 means_nothing_off = record { turn = refl; epoch = refl; bearing = λ e. refl }
 
-means_nothing_malformed : MeansNothing fate.Malformed
+means_nothing_malformed : SaysNothing fate.Malformed
 means_nothing_malformed = record { turn = refl; epoch = refl; bearing = λ e. refl }
 
 qualified_there : (c : Client) (j : Journal) (n : ℕ) (p : Ip6) (b : Bool) → ClientStandsFor c j → c.peers.moment ≤ n → is_qualified c.qualifier.now.phase ≡ b → is_qualified (standing_at (settings_of c) j n p).qualification.phase ≡ b

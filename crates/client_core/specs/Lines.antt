@@ -26,7 +26,7 @@ use Rattle.client_rules.specs.Transmission.{Given, given_of, transmission_row, t
 use Rattle.client_core.specs.Client.{settings_of, standing_in}
 
 -- a fate that means nothing for any peer, and nothing for qualification
-pub record MeansNothing (f : Fate) : Type 0 where
+pub record SaysNothing (f : Fate) : Type 0 where
   pub turn : turn f ≡ says_nothing
   pub epoch : is_changed f ≡ false
   pub bearing : (e : Entry) → bearing_of f e ≡ no_bearing
@@ -51,7 +51,7 @@ seen_by c n from v = seen_of (settings_of c) (standing_in c n v.packet.src) from
 
 -- it does nothing with a datagram
 pub record DropsDatagram (f : Fate) : Type 0 where
-  pub nothing : MeansNothing f
+  pub nothing : SaysNothing f
   pub step : (s : Settings) (a : Standing) (from : Ep) (x : List ℕ) (v : Value) (w : Words) → reception_step s a from x v w f ≡ just f
 
 -- where a bubble goes, and that its source may be tried
@@ -85,7 +85,7 @@ given_by c n p = given_of (settings_of c) (standing_in c n p.dst) true p
 
 -- it does nothing with a packet
 pub record DropsPacket (f : Fate) : Type 0 where
-  pub nothing : MeansNothing f
+  pub nothing : SaysNothing f
   pub step : (s : Settings) (a : Standing) (x : List ℕ) (p : Ip6) (w : Words) → transmission_step s a x p w f ≡ just f
 
 -- where a packet goes, and that its destination is listed
