@@ -1,5 +1,5 @@
 -- What is done with a payload by one line.
-use Rattle.std.proofs.Common.{◌≡◌, ◌≤◌, ◌+◌, ◌-◌, ℕ, Bool, true, false, List, [], ◌∷◌, length, Option, Some, None, refl, ap, sym, subst, ◌∙◌, arith}
+use Rattle.std.proofs.Common.{◌≡◌, ◌≤◌, ◌+◌, ◌-◌, ℕ, false, List, [], ◌∷◌, length, Option, Some, None, refl, ap, sym, subst, arith}
 use Rattle.std.specs.Prelude.{map, option_to_list}
 use Rattle.std.proofs.Math.Nat.{le_refl}
 use Rattle.td_base.specs.declared.ipv6.Ip6.{Ip6}
@@ -13,38 +13,36 @@ use Rattle.teredo_node.specs.Step.{Step, just, rest_of}
 use Rattle.teredo_node.specs.Sends.{sending, releases}
 use Rattle.teredo_node.specs.Words.{nonce_from}
 use Rattle.teredo_node.specs.Journal.{Entry, Journal, is_changed, with_entry}
-use Rattle.peer_list.specs.Mentions.{Bearing}
 use Rattle.peer_list.specs.Peers.{Peer}
 use Rattle.peer_list.specs.Laws.{after}
-use Rattle.peer_list.specs.Table.{Table, known_to}
-use Rattle.peer_list.specs.Calls.{Updates, touched_at, trusted_at, heard_at, tried_at, emptied}
+use Rattle.peer_list.specs.Table.{known_to}
+use Rattle.peer_list.specs.Calls.{Updates, trusted_at, heard_at, tried_at, emptied}
 use Rattle.peer_list.specs.Stands.{bears_nothing}
-use Rattle.qualify.specs.declared.settings.Settings.{Settings}
 use Rattle.qualify.specs.Turns.{turn, says_nothing}
 use Rattle.qualify.specs.Generator.{after_words}
 use Rattle.qualify.specs.Qualifier.{QualifierState, StandsFor, IsOfServer}
 use Rattle.qualify.specs.Solicitations.{own_address}
 use Rattle.client_core.specs.declared.client.Client.{Client}
-use Rattle.client_rules.specs.Bearings.{mention, bearing_of}
+use Rattle.client_rules.specs.Bearings.{mention}
 use Rattle.client_rules.specs.Tries.{direct_bubble, test}
 use Rattle.client_rules.specs.Reception.{reception_step}
-use Rattle.client_core.specs.Client.{settings_of, words_ahead, standing_in, ClientStandsFor, Enters, Receives, IsPayloadOf, entry_of}
-use Rattle.client_core.specs.Lines.{SaysNothing, DropsDatagram}
+use Rattle.client_core.specs.Client.{settings_of, words_ahead, standing_in, TakesPayload, IsPayloadOf, entry_about}
+use Rattle.client_core.specs.Lines.{DropsDatagram}
 use Rattle.client_core.proofs.Below.{calls_of_an_entry}
-use Rattle.client_core.proofs.Entered.{Bears, bears_enters, OfPeer, peers_on, MeansNone, none_enters}
+use Rattle.client_core.proofs.Entered.{Bears, bears_enters, peers_on, none_enters}
 
 -- what was done with a payload, and that of its source this is known then
 pub record Acts (old : Client) (n : ℕ) (from : Ep) (v : Value) (step : Step) (peer : Peer) (new : Client) : Type 0 where
   pub clock : old.peers.moment ≤ n
   pub peers : Updates old.peers new.peers n v.packet.src peer
-  pub means : (x : List ℕ) → after (mention (entry_of old n from x v.packet.src step)) (known_to old.peers n v.packet.src) ≡ peer
+  pub means : (x : List ℕ) → after (mention (entry_about old n from x v.packet.src step)) (known_to old.peers n v.packet.src) ≡ peer
   pub epoch : is_changed step.fate ≡ false
   pub quiet : turn step.fate ≡ says_nothing
   pub qualifier : new.qualifier ≡ old.qualifier
   pub place : new.rng ≡ after_words step.drawn old.rng
 
 bears : (old new : Client) (n : ℕ) (from : Ep) (v : Value) (step : Step) (peer : Peer) → Acts old n from v step peer new
-    → (x : List ℕ) → Bears old (entry_of old n from x v.packet.src step) v.packet.src new
+    → (x : List ℕ) → Bears old (entry_about old n from x v.packet.src step) v.packet.src new
 bears old new n from v step peer a x = record {
   of_peer = record { peer = refl; epoch = a.epoch; clock = a.clock; peers = subst (λ (p : Peer). Updates old.peers new.peers n v.packet.src p) (sym (a.means x)) a.peers };
   quiet = a.quiet;
@@ -54,22 +52,22 @@ bears old new n from v step peer a x = record {
 
 pub acts_receives : (old new : Client) (n : ℕ) (from : Ep) (v : Value) (f : Fate) (step : Step) (peer : Peer) → Acts old n from v step peer new
     → ((x : List ℕ) → IsPayloadOf x v → step ≡ reception_step (settings_of old) (standing_in old n v.packet.src) from x v (words_ahead old) f)
-    → Receives old n from v f step new
+    → TakesPayload old n from v f step new
 acts_receives old new n from v f step peer a did = record {
   did = λ j x h is. did x is;
-  stands = λ j x h is. (bears_enters old new (entry_of old n from x v.packet.src step) v.packet.src (bears old new n from v step peer a x)).stands j h;
+  stands = λ j x h is. (bears_enters old new (entry_about old n from x v.packet.src step) v.packet.src (bears old new n from v step peer a x)).stands j h;
   place = a.place;
   settings = ap (λ (q : QualifierState). q.settings) a.qualifier;
   clock = subst (λ (m : ℕ). m ≤ n) (sym a.peers.moment) (le_refl n);
 }
 
 -- nothing is done
-pub drops : (c : Client) (n : ℕ) (from : Ep) (v : Value) (f : Fate) → c.peers.moment ≤ n → DropsDatagram f → Receives c n from v f (just f) c
+pub drops : (c : Client) (n : ℕ) (from : Ep) (v : Value) (f : Fate) → c.peers.moment ≤ n → DropsDatagram f → TakesPayload c n from v f (just f) c
 unfolding after_words
 drops c n from v f l d = record {
   did = λ j x h is. sym (d.step (settings_of c) (standing_in c n v.packet.src) from x v (words_ahead c));
-  stands = λ j x h is. (none_enters c (entry_of c n from x v.packet.src (just f)) (record {
-    idle = bears_nothing (d.nothing.bearing (entry_of c n from x v.packet.src (just f)));
+  stands = λ j x h is. (none_enters c (entry_about c n from x v.packet.src (just f)) (record {
+    idle = bears_nothing (d.nothing.bearing (entry_about c n from x v.packet.src (just f)));
     epoch = d.nothing.epoch;
     quiet = d.nothing.turn;
     clock = l;
@@ -105,35 +103,35 @@ pub record OnlyPeers (old : Client) (n : ℕ) (who : Ip6) (peer : Peer) (new : C
   pub qualifier : new.qualifier ≡ old.qualifier
   pub rng : new.rng ≡ old.rng
 
-pub rule1 : (old new : Client) (n : ℕ) (from : Ep) (v : Value) → OnlyPeers old n v.packet.src (heard old n v) new → Receives old n from v fate.Rule1 (handed_over old n from v fate.Rule1) new
+pub rule1 : (old new : Client) (n : ℕ) (from : Ep) (v : Value) → OnlyPeers old n v.packet.src (heard old n v) new → TakesPayload old n from v fate.Rule1 (handed_over old n from v fate.Rule1) new
 unfolding after_words
 rule1 old new n from v o =
     acts_receives old new n from v fate.Rule1 (handed_over old n from v fate.Rule1) (heard old n v)
     (record { clock = o.clock; peers = o.peers; means = λ x. (calls_of_an_entry n (known_to old.peers n v.packet.src) (Some v.packet.src)).heard_release; epoch = refl; quiet = refl; qualifier = o.qualifier; place = o.rng })
     (λ x is. ap (λ (s : Span). record (released old n from v fate.Rule1) { handed = Some s }) (sym (rest_is x v is)))
 
-pub rule1_bubble : (old new : Client) (n : ℕ) (from : Ep) (v : Value) → OnlyPeers old n v.packet.src (heard old n v) new → Receives old n from v fate.Rule1Bubble (released old n from v fate.Rule1Bubble) new
+pub rule1_bubble : (old new : Client) (n : ℕ) (from : Ep) (v : Value) → OnlyPeers old n v.packet.src (heard old n v) new → TakesPayload old n from v fate.Rule1Bubble (released old n from v fate.Rule1Bubble) new
 unfolding after_words
 rule1_bubble old new n from v o =
     acts_receives old new n from v fate.Rule1Bubble (released old n from v fate.Rule1Bubble) (heard old n v)
     (record { clock = o.clock; peers = o.peers; means = λ x. (calls_of_an_entry n (known_to old.peers n v.packet.src) (Some v.packet.src)).heard_release; epoch = refl; quiet = refl; qualifier = o.qualifier; place = o.rng })
     (λ x is. refl)
 
-pub rule2 : (old new : Client) (n : ℕ) (from : Ep) (v : Value) → OnlyPeers old n v.packet.src (trusted old n from v) new → Receives old n from v fate.Rule2 (released old n from v fate.Rule2) new
+pub rule2 : (old new : Client) (n : ℕ) (from : Ep) (v : Value) → OnlyPeers old n v.packet.src (trusted old n from v) new → TakesPayload old n from v fate.Rule2 (released old n from v fate.Rule2) new
 unfolding after_words
 rule2 old new n from v o =
     acts_receives old new n from v fate.Rule2 (released old n from v fate.Rule2) (trusted old n from v)
     (record { clock = o.clock; peers = o.peers; means = λ x. (calls_of_an_entry n (known_to old.peers n v.packet.src) (Some v.packet.src)).trust_heard_release from; epoch = refl; quiet = refl; qualifier = o.qualifier; place = o.rng })
     (λ x is. refl)
 
-pub rule3 : (old new : Client) (n : ℕ) (from : Ep) (v : Value) → OnlyPeers old n v.packet.src (trusted old n from v) new → Receives old n from v fate.Rule3 (handed_over old n from v fate.Rule3) new
+pub rule3 : (old new : Client) (n : ℕ) (from : Ep) (v : Value) → OnlyPeers old n v.packet.src (trusted old n from v) new → TakesPayload old n from v fate.Rule3 (handed_over old n from v fate.Rule3) new
 unfolding after_words
 rule3 old new n from v o =
     acts_receives old new n from v fate.Rule3 (handed_over old n from v fate.Rule3) (trusted old n from v)
     (record { clock = o.clock; peers = o.peers; means = λ x. (calls_of_an_entry n (known_to old.peers n v.packet.src) (Some v.packet.src)).trust_heard_release from; epoch = refl; quiet = refl; qualifier = o.qualifier; place = o.rng })
     (λ x is. ap (λ (s : Span). record (released old n from v fate.Rule3) { handed = Some s }) (sym (rest_is x v is)))
 
-pub rule3_bubble : (old new : Client) (n : ℕ) (from : Ep) (v : Value) → OnlyPeers old n v.packet.src (trusted old n from v) new → Receives old n from v fate.Rule3Bubble (released old n from v fate.Rule3Bubble) new
+pub rule3_bubble : (old new : Client) (n : ℕ) (from : Ep) (v : Value) → OnlyPeers old n v.packet.src (trusted old n from v) new → TakesPayload old n from v fate.Rule3Bubble (released old n from v fate.Rule3Bubble) new
 unfolding after_words
 rule3_bubble old new n from v o =
     acts_receives old new n from v fate.Rule3Bubble (released old n from v fate.Rule3Bubble) (trusted old n from v)
@@ -152,12 +150,12 @@ pub record AnswersBubble (old : Client) (n : ℕ) (v : Value) (to : Ep) (new : C
 abbrev pub bubble_back : Client → Value → Ep → Step
 bubble_back c v to = sending fate.Indirect (direct_bubble (own_address c.qualifier.now) v.packet.src to ∷ [])
 
-pub indirect : (old new : Client) (n : ℕ) (from : Ep) (v : Value) (to : Ep) → AnswersBubble old n v to new → Receives old n from v fate.Indirect (bubble_back old v to) new
+pub indirect : (old new : Client) (n : ℕ) (from : Ep) (v : Value) (to : Ep) → AnswersBubble old n v to new → TakesPayload old n from v fate.Indirect (bubble_back old v to) new
 unfolding after_words
 indirect old new n from v to a = record {
   did = λ j x h is. ap (λ (o : Option Ep). sending fate.Indirect (map (direct_bubble (own_address old.qualifier.now) v.packet.src) (option_to_list o))) (sym a.origin);
   stands = λ j x h is.
-      let e = entry_of old n from x v.packet.src (bubble_back old v to) in
+      let e = entry_about old n from x v.packet.src (bubble_back old v to) in
       record {
         qualification = a.qualified j e h.qualification (record { moment = refl; renewed = refl });
         peers = peers_on old new e v.packet.src (record { peer = refl; epoch = refl; clock = a.clock; peers = subst (λ (p : Peer). Updates old.peers new.peers n v.packet.src p) (sym ((calls_of_an_entry n (known_to old.peers n v.packet.src) (Some v.packet.src)).tried None)) a.peers }) j h;
@@ -172,7 +170,7 @@ tested c p = record (sending fate.SuspiciousTest (test (settings_of c) (own_addr
 
 pub suspicious_test : (old new : Client) (n : ℕ) (from : Ep) (v : Value) → old.peers.moment ≤ n
     → Updates old.peers new.peers n v.packet.src (tried_at n (Some (nonce_from (words_ahead old))) (known_to old.peers n v.packet.src))
-    → new.qualifier ≡ old.qualifier → new.rng ≡ after_words 2 old.rng → Receives old n from v fate.SuspiciousTest (tested old v.packet.src) new
+    → new.qualifier ≡ old.qualifier → new.rng ≡ after_words 2 old.rng → TakesPayload old n from v fate.SuspiciousTest (tested old v.packet.src) new
 suspicious_test old new n from v l u q g =
     acts_receives old new n from v fate.SuspiciousTest (tested old v.packet.src) (tried_at n (Some (nonce_from (words_ahead old))) (known_to old.peers n v.packet.src))
     (record { clock = l; peers = u; means = λ x. (calls_of_an_entry n (known_to old.peers n v.packet.src) (Some v.packet.src)).tried (Some (nonce_from (words_ahead old))); epoch = refl; quiet = refl; qualifier = q; place = g })

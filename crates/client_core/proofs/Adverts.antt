@@ -1,9 +1,8 @@
 -- What is done with an advertisement.
-use Rattle.std.proofs.Common.{◌≡◌, ◌≤◌, ℕ, Bool, true, false, List, [], Option, refl, ap, sym, subst, ◌∙◌}
-use Rattle.std.specs.Prelude.{if◌then◌else◌, not, length, ◌==◌}
+use Rattle.std.proofs.Common.{◌≡◌, ◌≤◌, ℕ, Bool, true, false, List, [], refl, ap, sym, subst, ◌∙◌}
+use Rattle.std.specs.Prelude.{if◌then◌else◌, not}
 use Rattle.td_base.specs.declared.endpoint.Ep.{Ep}
 use Rattle.bubble.specs.Payloads.{Value}
-use Rattle.bubble.specs.Reads.{value_in}
 use Rattle.indications.specs.Leads.{origin_in}
 use Rattle.teredo_node.specs.declared.fate.Fate.{Fate}
 use Rattle.teredo_node.specs.declared.fate.Fate.TheVariants as fate
@@ -12,19 +11,19 @@ use Rattle.teredo_node.specs.Words.{drawn_words}
 use Rattle.teredo_node.specs.Journal.{Entry, Journal, Words, is_changed, with_entry}
 use Rattle.peer_list.specs.Mentions.{Mention, no_bearing}
 use Rattle.peer_list.specs.Table.{Table, waiting_in}
-use Rattle.peer_list.specs.Stands.{StandsForMentions, MeansNothing, bears_nothing}
+use Rattle.peer_list.specs.Stands.{StandsForMentions, bears_nothing}
 use Rattle.qualify.specs.declared.settings.Settings.{Settings}
 use Rattle.qualify.specs.declared.phase.Phase.{Phase}
 use Rattle.qualify.specs.declared.phase.Phase.TheVariants.{Cone, Restricted, Secondary, Qualified, Symmetric, OffLine}
 use Rattle.qualify.specs.Qualification.{Qualification, qualification}
-use Rattle.qualify.specs.Advertisements.{heard, advert_lines, phase_line, advert_row, advert_words}
+use Rattle.qualify.specs.Advertisements.{heard, phase_line, advert_row, advert_words}
 use Rattle.qualify.specs.Generator.{after_words}
 use Rattle.qualify.specs.Qualifier.{StandsFor, stands_whole, IsOfAdvert}
 use Rattle.client_core.specs.declared.client.Client.{Client}
-use Rattle.client_rules.specs.Bearings.{mentions, mention, bearing_of}
+use Rattle.client_rules.specs.Bearings.{mentions, bearing_of}
 use Rattle.client_rules.specs.Standing.{Standing}
 use Rattle.client_rules.specs.Reception.{reception_step}
-use Rattle.client_core.specs.Client.{settings_of, words_ahead, standing_in, ClientStandsFor, Receives, IsPayloadOf, entry_of}
+use Rattle.client_core.specs.Client.{settings_of, words_ahead, standing_in, TakesPayload, IsPayloadOf, entry_about}
 use Rattle.client_core.proofs.Entered.{peers_idle, changed}
 
 -- THE FATES OF ADVERTISEMENTS
@@ -154,7 +153,7 @@ fate_now old new n from v f t j h = subst (λ (g : Fate). AdvertFate g) (sym (ro
 
 -- the entry of it
 of_advert : (old : Client) (n : ℕ) (from : Ep) (v : Value) (step : Step) (x : List ℕ) → IsPayloadOf x v → step.drawn ≡ advert_words step.fate
-    → IsOfAdvert n v step.fate (words_ahead old) (entry_of old n from x v.packet.src step)
+    → IsOfAdvert n v step.fate (words_ahead old) (entry_about old n from x v.packet.src step)
 of_advert old n from v step x is drawn = record {
   moment = refl;
   origin = ap (λ (u : Value). origin_in u.lead) is.value;
@@ -164,13 +163,13 @@ of_advert old n from v step x is drawn = record {
 
 -- the peers stay, unless the address changed
 pub advert_kept : (old new : Client) (n : ℕ) (from : Ep) (v : Value) (f : Fate) → Took old n from v f new → (f ≡ fate.Changed → ⊥) → new.peers ≡ old.peers
-    → Receives old n from v (advert_row (settings_of old) old.qualifier.now from v) (told f) new
+    → TakesPayload old n from v (advert_row (settings_of old) old.qualifier.now from v) (told f) new
 advert_kept old new n from v f t other same = record {
   did = λ j x h is.
       done (settings_of old) (standing_in old n v.packet.src) from x v (words_ahead old) f (fate_now old new n from v f t j h.qualification) other
       ∙ ap (λ (g : Fate). reception_step (settings_of old) (standing_in old n v.packet.src) from x v (words_ahead old) g) (row_now old new n from v f t j h.qualification);
   stands = λ j x h is.
-      let e = entry_of old n from x v.packet.src (told f) in
+      let e = entry_about old n from x v.packet.src (told f) in
       let is_fate = fate_now old new n from v f t j h.qualification in
       record {
         qualification = t.stands j e h.qualification (of_advert old n from v (told f) x is refl);
@@ -186,11 +185,11 @@ moved c n = record (just fate.Changed) { gone = waiting_in c.peers n }
 
 -- then they are forgotten
 pub advert_changed : (old new : Client) (n : ℕ) (from : Ep) (v : Value) → Took old n from v fate.Changed new → StandsForMentions new.peers [] → new.peers.moment ≤ n
-    → Receives old n from v (advert_row (settings_of old) old.qualifier.now from v) (moved old n) new
+    → TakesPayload old n from v (advert_row (settings_of old) old.qualifier.now from v) (moved old n) new
 advert_changed old new n from v t none clock = record {
   did = λ j x h is. ap (λ (g : Fate). reception_step (settings_of old) (standing_in old n v.packet.src) from x v (words_ahead old) g) (row_now old new n from v fate.Changed t j h.qualification);
   stands = λ j x h is.
-      let e = entry_of old n from x v.packet.src (moved old n) in
+      let e = entry_about old n from x v.packet.src (moved old n) in
       record {
         qualification = t.stands j e h.qualification (of_advert old n from v (moved old n) x is refl);
         peers = subst (λ (ms : List Mention). StandsForMentions new.peers ms) (sym (changed e j.entries refl)) none;

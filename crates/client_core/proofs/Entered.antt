@@ -1,23 +1,21 @@
 -- One entry more: what a client then stands for.
-use Rattle.std.proofs.Common.{◌≡◌, ◌≤◌, ℕ, Bool, true, false, List, [], ◌∷◌, Option, Some, None, refl, sym, ap, ◌∙◌, subst}
+use Rattle.std.proofs.Common.{◌≡◌, ◌≤◌, ℕ, Bool, true, false, List, [], ◌∷◌, Some, refl, sym, ap, ◌∙◌, subst}
 use Rattle.std.specs.Prelude.{if◌then◌else◌}
 use Rattle.std.proofs.Math.Nat.{le_refl}
 use Rattle.td_base.specs.declared.ipv6.Ip6.{Ip6}
 use Rattle.teredo_node.specs.Journal.{Entry, Journal, with_entry, is_changed}
 use Rattle.peer_list.specs.Mentions.{Mention}
-use Rattle.peer_list.specs.Peers.{Peer}
 use Rattle.peer_list.specs.Laws.{after}
 use Rattle.peer_list.specs.Table.{Table, known_to}
-use Rattle.peer_list.specs.Calls.{Updates, Keeps}
+use Rattle.peer_list.specs.Calls.{Updates}
 use Rattle.peer_list.specs.Stands.{StandsForMentions, MeansNothing}
-use Rattle.qualify.specs.declared.settings.Settings.{Settings}
 use Rattle.qualify.specs.Turns.{turn_of, says_nothing}
 use Rattle.qualify.specs.Qualification.{Qualification, qualification}
 use Rattle.qualify.specs.Qualifier.{QualifierState, StandsFor, stands_whole}
 use Rattle.qualify.specs.Generator.{after_words}
 use Rattle.client_core.specs.declared.client.Client.{Client}
 use Rattle.client_rules.specs.Bearings.{mention, mentions}
-use Rattle.client_core.specs.Client.{settings_of, ClientStandsFor, Enters, KeepsAll, Stays}
+use Rattle.client_core.specs.Client.{ClientStandsFor, Enters, KeepsAll, AsBefore}
 use Rattle.client_core.proofs.Below.{next_stands, idle_stands, kept_stands, keeps_still}
 use Rattle.client_rules.proofs.Tried.{next_mentions}
 
@@ -106,7 +104,7 @@ none_enters c e b = record {
 -- REFUSALS
 
 -- whatever keeps all stays as it was
-pub keeps_stays : (old new : Client) (n : ℕ) → old.peers.moment ≤ n → KeepsAll old n new → Stays old new
+pub keeps_stays : (old new : Client) (n : ℕ) → old.peers.moment ≤ n → KeepsAll old n new → AsBefore old new
 keeps_stays old new n clock k = record {
   stands = λ j h. record {
     qualification = subst (λ (q : QualifierState). StandsFor q j) (sym k.qualifier) h.qualification;

@@ -1,5 +1,5 @@
 -- The peer that is due first is listed, since packets wait for it.
-use Rattle.std.proofs.Common.{◌≡◌, ℕ, Bool, true, false, List, [], ◌∷◌, Option, Some, None, refl, ap, sym, subst, ◌∙◌}
+use Rattle.std.proofs.Common.{◌≡◌, ℕ, Bool, true, false, List, [], ◌∷◌, Option, Some, None, refl, ap, subst, ◌∙◌}
 use Rattle.std.specs.Prelude.{not, filter, option_map, is_some, unwrap_or, nat_le, if◌then◌else◌}
 use Rattle.std.specs.Ordering.{is_lt}
 use Rattle.td_base.specs.declared.ipv6.Ip6.{Ip6}

@@ -1,5 +1,5 @@
 -- Of whom something is known, that one is listed.
-use Rattle.std.proofs.Common.{◌≡◌, ℕ, Bool, true, false, List, [], ◌∷◌, Option, Some, None, refl}
+use Rattle.std.proofs.Common.{◌≡◌, true, Option, Some, None, refl}
 use Rattle.std.specs.Prelude.{is_some, unwrap_or}
 use Rattle.td_base.specs.declared.endpoint.Ep.{Ep}
 use Rattle.peer_list.specs.Judged.{is_trusted_at}

@@ -1,10 +1,10 @@
 -- When something is due of a client, and how much.
-use Rattle.std.proofs.Common.{◌≡◌, ◌≤◌, ◌<◌, ◌+◌, ℕ, Bool, true, false, List, [], ◌∷◌, Option, Some, None, refl, ap, sym, subst, ◌∙◌, arith}
+use Rattle.std.proofs.Common.{◌≡◌, ◌≤◌, ◌<◌, ◌+◌, ℕ, Bool, true, false, Option, Some, None, refl, ap, sym, subst, ◌∙◌, arith}
 use Rattle.std.specs.Prelude.{if◌then◌else◌, option_map, unwrap_or, is_some, nat_lt, nat_le, nat_eq}
 use Rattle.std.specs.Ordering.{nat_cmp, is_lt}
 use Rattle.std.specs.declared.cmp.Ordering.TheVariants.{Less, Equal, Greater}
 use Rattle.std.proofs.Math.Nat.{le_refl}
-use Rattle.std.proofs.lemmas.Bool.{false≢true, lt-leb, le-leb, leb-true, leb-false, ltb-true, ltb-false}
+use Rattle.std.proofs.lemmas.Bool.{false≢true, lt-leb, le-leb, leb-false, ltb-true, ltb-false}
 use Rattle.td_base.specs.declared.ipv6.Ip6.{Ip6}
 use Rattle.td_base.specs.declared.millis.Millis.{Millis}
 use Rattle.teredo_node.specs.declared.fate.Fate.{Fate}
@@ -29,7 +29,7 @@ use Rattle.qualify.specs.Solicitations.{is_due, due_fate, solicits_by, due_step,
 use Rattle.client_core.specs.declared.client.Client.{Client}
 use Rattle.client_rules.specs.Ticks.{tries, nothing, peer_due, peer_of_due, sooner, next_due, try_fate}
 use Rattle.client_rules.specs.Journals.{client_due}
-use Rattle.client_core.specs.Client.{settings_of, ClientStandsFor, Stays}
+use Rattle.client_core.specs.Client.{settings_of, ClientStandsFor, AsBefore}
 use Rattle.client_core.specs.Endpoint.{owing, PutsOff}
 use Rattle.client_core.proofs.Below.{nothing_overdue, first_overdue, less_overdue, found_is_listed, touched_is_listed}
 use Rattle.client_core.proofs.Read.{read_same}
@@ -134,7 +134,7 @@ pub record OfPhase (old : Client) (n : ℕ) (w : Words) (step : Step) (new : Cli
   pub done : is_due n new.qualifier.now.due ≡ false
   pub peers : new.peers ≡ old.peers
 
-pub phase_idles : (old new : Client) (n : ℕ) (w : Words) (step : Step) → OfPhase old n w step new → Idles (owing old n) (Stays old new) step
+pub phase_idles : (old new : Client) (n : ℕ) (w : Words) (step : Step) → OfPhase old n w step new → Idles (owing old n) (AsBefore old new) step
 phase_idles old new n w step o none = let some = owes_phase old n o.due in absurd (omega (arith, some, none))
 
 pub phase_lessens : (old new : Client) (n : ℕ) (w : Words) (step : Step) → OfPhase old n w step new → Lessens (owing old n) (owing new n) step
@@ -147,10 +147,10 @@ phase_lessens old new n w step o some =
 
 -- OF THE PEERS
 
-same_stays : (old new : Client) → new ≡ old → Stays old new
-same_stays old new e = subst (λ (c : Client). Stays old c) (sym e) (record { stands = λ j h. h; words = refl; settings = refl })
+same_stays : (old new : Client) → new ≡ old → AsBefore old new
+same_stays old new e = subst (λ (c : Client). AsBefore old c) (sym e) (record { stands = λ j h. h; words = refl; settings = refl })
 
-pub peers_idle_too : (old new : Client) (n : ℕ) (step : Step) → is_due n old.qualifier.now.due ≡ false → PutsOff old new n step → Idles (owing old n) (Stays old new) step
+pub peers_idle_too : (old new : Client) (n : ℕ) (step : Step) → is_due n old.qualifier.now.due ≡ false → PutsOff old new n step → Idles (owing old n) (AsBefore old new) step
 peers_idle_too old new n step phase p none =
     let both = p.idle (sym (owes_peers old n phase) ∙ none) in
     (both.0, same_stays old new both.1)

@@ -19,9 +19,9 @@ use Rattle.qualify.specs.Advertisements.{advert_row}
 use Rattle.client_core.specs.declared.client.Client.{Client}
 use Rattle.client_rules.specs.Bearings.{mentions}
 use Rattle.client_rules.specs.Standing.{Standing, standing_at, standing_of}
-use Rattle.client_rules.specs.Reception.{Seen, seen_of, seen, reception_row, reception_fate, reception_step, reception}
+use Rattle.client_rules.specs.Reception.{seen_of, seen, reception_row, reception_fate, reception_step, reception}
 use Rattle.client_rules.specs.Journals.{entry, client_in}
-use Rattle.client_core.specs.Client.{settings_of, words_ahead, standing_in, ClientStandsFor, Does, Receives, KeepsPlace, WantsPlace, IsPayloadOf, lists, fate_in, entry_of}
+use Rattle.client_core.specs.Client.{settings_of, words_ahead, standing_in, ClientStandsFor, Does, TakesPayload, KeepsPlace, WantsPlace, IsPayloadOf, lists, fate_in}
 use Rattle.client_core.proofs.Below.{table_is_read}
 use Rattle.client_core.proofs.Entered.{none_enters}
 use Rattle.client_rules.proofs.Fates.{fate_of_reception}
@@ -56,7 +56,7 @@ step_there c j n from x v h l payload value =
     ∙ reception_by (settings_of c) (standing_in c n v.packet.src) from x v (words_ahead c) true payload value
 
 pub received : (old new : Client) (n : ℕ) (from : Ep) (x : List ℕ) (v : Value) (step : Step) → is_payload x ≡ true → IsPayloadOf x v → old.peers.moment ≤ n
-    → Receives old n from v (fate_in old n from v) step new → Does old n (arrived from x) step new
+    → TakesPayload old n from v (fate_in old n from v) step new → Does old n (arrived from x) step new
 unfolding client_in
 received old new n from x v step payload is l r =
     let did : (j : Journal) → ClientStandsFor old j → step ≡ reception (settings_of old) (standing_of (settings_of old) j n (source_in x)) from x (words_ahead old) =

@@ -1,5 +1,5 @@
 -- What a client stands for after a tick about a peer, and after a packet that waits.
-use Rattle.std.proofs.Common.{◌≡◌, ◌≤◌, ℕ, Bool, true, false, List, [], ◌∷◌, Option, Some, None, refl, ap, sym, subst, ◌∙◌}
+use Rattle.std.proofs.Common.{◌≡◌, ◌≤◌, ℕ, Bool, true, false, List, [], ◌∷◌, Some, None, refl, sym, subst}
 use Rattle.std.specs.Prelude.{if◌then◌else◌}
 use Rattle.td_base.specs.declared.ipv6.Ip6.{Ip6}
 use Rattle.teredo_addr.specs.Teredo.{is_teredo, has_cone}
@@ -7,7 +7,7 @@ use Rattle.teredo_node.specs.declared.fate.Fate.TheVariants as fate
 use Rattle.teredo_node.specs.Step.{Step, Send, just}
 use Rattle.teredo_node.specs.Sends.{sending, has_any}
 use Rattle.teredo_node.specs.Words.{nonce_of_words, drawn_words}
-use Rattle.teredo_node.specs.Journal.{Entry, Words, is_changed, ticked, given}
+use Rattle.teredo_node.specs.Journal.{Words, is_changed, ticked, given}
 use Rattle.peer_list.specs.Peers.{Peer}
 use Rattle.peer_list.specs.Laws.{after}
 use Rattle.peer_list.specs.Table.{Table, known_to}
@@ -25,7 +25,7 @@ use Rattle.client_rules.specs.Transmission.{queues}
 use Rattle.client_rules.specs.Journals.{entry}
 use Rattle.client_core.specs.Client.{settings_of, words_ahead, Enters, TriesUnless}
 use Rattle.client_core.proofs.Below.{calls_of_an_entry}
-use Rattle.client_core.proofs.Entered.{Bears, bears_enters}
+use Rattle.client_core.proofs.Entered.{bears_enters}
 use Rattle.client_core.proofs.Peered.{then_call}
 
 -- TICKS

@@ -1,6 +1,6 @@
 -- What is done with a packet of the host, for each journal.
 use Rattle.std.proofs.Common.{◌≡◌, ◌≤◌, ℕ, Bool, true, false, List, [], ◌∷◌, Option, Some, None, refl, ap, sym, subst, ◌∙◌, ◌+◌, length, arith}
-use Rattle.std.specs.Prelude.{if◌then◌else◌, unwrap_or, not, map, option_to_list}
+use Rattle.std.specs.Prelude.{if◌then◌else◌, unwrap_or, map, option_to_list}
 use Rattle.std.proofs.lemmas.Bool.{ltb-false}
 use Rattle.td_base.specs.declared.ipv6.Ip6.{Ip6}
 use Rattle.td_base.specs.declared.endpoint.Ep.{Ep}
@@ -12,25 +12,23 @@ use Rattle.teredo_node.specs.declared.fate.Fate.{Fate}
 use Rattle.teredo_node.specs.declared.fate.Fate.TheVariants as fate
 use Rattle.teredo_node.specs.Step.{Step, just}
 use Rattle.teredo_node.specs.Sends.{send, sending}
-use Rattle.teredo_node.specs.Journal.{Entry, Journal, Words, given, is_changed, with_entry}
+use Rattle.teredo_node.specs.Journal.{Entry, Journal, Words, given, with_entry}
 use Rattle.peer_list.specs.Peers.{Peer}
-use Rattle.peer_list.specs.Table.{Table, known_to}
+use Rattle.peer_list.specs.Table.{known_to}
 use Rattle.peer_list.specs.Calls.{Updates, touched_at}
-use Rattle.peer_list.specs.Stands.{about_nobody, bears_nothing}
+use Rattle.peer_list.specs.Stands.{bears_nothing}
 use Rattle.qualify.specs.declared.settings.Settings.{Settings}
-use Rattle.qualify.specs.Turns.{turn, says_nothing}
 use Rattle.qualify.specs.Solicitations.{is_qualified}
 use Rattle.qualify.specs.Generator.{after_words}
 use Rattle.client_core.specs.declared.client.Client.{Client}
-use Rattle.client_rules.specs.Bearings.{mention}
 use Rattle.client_rules.specs.Standing.{Standing, standing_at, standing_of}
 use Rattle.client_rules.specs.Transmission.{Given, given_of, transmission_row, transmission_step, transmission}
 use Rattle.client_rules.specs.Transmission as table
 use Rattle.client_rules.specs.Journals.{entry, client_out}
 use Rattle.client_core.specs.Client.{settings_of, words_ahead, standing_in, ClientStandsFor, Enters, Does, WantsQueue}
-use Rattle.client_core.specs.Lines.{SaysNothing, DropsPacket, given_by}
+use Rattle.client_core.specs.Lines.{SaysNothing, DropsPacket, given_to}
 use Rattle.client_core.proofs.Below.{calls_of_an_entry}
-use Rattle.client_core.proofs.Entered.{Bears, bears_enters, MeansNone, none_enters}
+use Rattle.client_core.proofs.Entered.{bears_enters, none_enters}
 use Rattle.client_rules.proofs.Fates.{fate_of_transmission}
 use Rattle.client_core.proofs.Read.{standing_is}
 
@@ -50,7 +48,7 @@ transmission_by s a x p w b packet fields = λ i. transmission_step s a x (field
 -- what the table gives, as the client reads itself
 pub transmission_there : (c : Client) (j : Journal) (n : ℕ) (x : List ℕ) (p : Fields) → ClientStandsFor c j → c.peers.moment ≤ n → is_packet x ≡ true → fields_in x ≡ p
     → transmission (settings_of c) (standing_of (settings_of c) j n (destination_in x)) x (words_ahead c)
-    ≡ transmission_step (settings_of c) (standing_in c n p.dst) x p.dst (words_ahead c) (transmission_row (given_by c n p))
+    ≡ transmission_step (settings_of c) (standing_in c n p.dst) x p.dst (words_ahead c) (transmission_row (given_to c n p))
 transmission_there c j n x p h l packet fields =
     let a : standing_of (settings_of c) j n (destination_in x) ≡ standing_in c n p.dst = ap (standing_of (settings_of c) j n) (destination_there x p packet fields) ∙ sym (standing_is c j n p.dst h l) in
     ap (λ (b : Standing). transmission (settings_of c) b x (words_ahead c)) a
@@ -63,7 +61,7 @@ pub record IsFields (x : List ℕ) (p : Fields) : Type 0 where
 
 -- what a line did with it
 pub transmitted : (old new : Client) (n : ℕ) (x : List ℕ) (p : Fields) (f : Fate) (step : Step) → IsFields x p → old.peers.moment ≤ n
-    → f ≡ transmission_row (given_by old n p) → step ≡ transmission_step (settings_of old) (standing_in old n p.dst) x p.dst (words_ahead old) f
+    → f ≡ transmission_row (given_to old n p) → step ≡ transmission_step (settings_of old) (standing_in old n p.dst) x p.dst (words_ahead old) f
     → Enters old (entry n (given x) (Some x) (Some p.dst) (words_ahead old) step) new → Does old n (given x) step new
 unfolding client_out
 transmitted old new n x p f step is l row did entered =
@@ -80,7 +78,7 @@ transmitted old new n x p f step is l row did entered =
 
 -- THE LINES
 
-pub drops_packet : (c : Client) (n : ℕ) (x : List ℕ) (p : Fields) (f : Fate) → IsFields x p → c.peers.moment ≤ n → f ≡ transmission_row (given_by c n p) → DropsPacket f → Does c n (given x) (just f) c
+pub drops_packet : (c : Client) (n : ℕ) (x : List ℕ) (p : Fields) (f : Fate) → IsFields x p → c.peers.moment ≤ n → f ≡ transmission_row (given_to c n p) → DropsPacket f → Does c n (given x) (just f) c
 drops_packet c n x p f is l row d =
     transmitted c c n x p f (just f) is l row (sym (d.step (settings_of c) (standing_in c n p.dst) x p.dst (words_ahead c)))
     (none_enters c (entry n (given x) (Some x) (Some p.dst) (words_ahead c) (just f)) (record {
@@ -91,7 +89,7 @@ drops_packet c n x p f is l row d =
       drawn = refl;
     }))
 
-pub sent : (old new : Client) (n : ℕ) (x : List ℕ) (p : Fields) (to : Ep) → IsFields x p → old.peers.moment ≤ n → fate.Sent ≡ transmission_row (given_by old n p)
+pub sent : (old new : Client) (n : ℕ) (x : List ℕ) (p : Fields) (to : Ep) → IsFields x p → old.peers.moment ≤ n → fate.Sent ≡ transmission_row (given_to old n p)
     → (known_to old.peers n p.dst).trusted ≡ Some to → Updates old.peers new.peers n p.dst (touched_at n (known_to old.peers n p.dst)) → new.qualifier ≡ old.qualifier → new.rng ≡ old.rng
     → Does old n (given x) (sending fate.Sent (send to x ∷ [])) new
 unfolding after_words
@@ -105,7 +103,7 @@ sent old new n x p to is l row trusted u q g =
       place = g;
     }))
 
-pub sent_cone : (c : Client) (n : ℕ) (x : List ℕ) (p : Fields) → IsFields x p → c.peers.moment ≤ n → fate.SentCone ≡ transmission_row (given_by c n p)
+pub sent_cone : (c : Client) (n : ℕ) (x : List ℕ) (p : Fields) → IsFields x p → c.peers.moment ≤ n → fate.SentCone ≡ transmission_row (given_to c n p)
     → Does c n (given x) (sending fate.SentCone (send (embedded p.dst) x ∷ [])) c
 sent_cone c n x p is l row =
     transmitted c c n x p fate.SentCone (sending fate.SentCone (send (embedded p.dst) x ∷ [])) is l row refl
@@ -163,13 +161,13 @@ short x p small inside = let most = ltb-false _ _ small in omega (arith, inside,
 -- WHERE MEMORY WAS WANTING
 
 row_there : (c : Client) (j : Journal) (n : ℕ) (x : List ℕ) (p : Fields) → ClientStandsFor c j → c.peers.moment ≤ n → IsFields x p
-    → transmission_row (table.given (settings_of c) (standing_of (settings_of c) j n (destination_in x)) x) ≡ transmission_row (given_by c n p)
+    → transmission_row (table.given (settings_of c) (standing_of (settings_of c) j n (destination_in x)) x) ≡ transmission_row (given_to c n p)
 unfolding table.given
 row_there c j n x p h l is =
     let a : standing_of (settings_of c) j n (destination_in x) ≡ standing_in c n p.dst = ap (standing_of (settings_of c) j n) (destination_there x p is.packet is.fields) ∙ sym (standing_is c j n p.dst h l) in
     λ i. transmission_row (given_of (settings_of c) (a i) (is.packet i) (is.fields i))
 
-pub wants_queue : (c : Client) (n : ℕ) (x : List ℕ) (p : Fields) → IsFields x p → c.peers.moment ≤ n → fate.Queued ≡ transmission_row (given_by c n p) → WantsQueue c n x
+pub wants_queue : (c : Client) (n : ℕ) (x : List ℕ) (p : Fields) → IsFields x p → c.peers.moment ≤ n → fate.Queued ≡ transmission_row (given_to c n p) → WantsQueue c n x
 unfolding client_out
 wants_queue c n x p is l row j h =
     fate_of_transmission (settings_of c) (standing_of (settings_of c) j n (destination_in x)) x (words_ahead c) ∙ row_there c j n x p h l is ∙ sym row

@@ -1,5 +1,5 @@
 -- What is written into a buffer of its length.
-use Rattle.std.proofs.Common.{◌≡◌, ◌≤◌, ◌+◌, ℕ, List, [], ◌++◌, length, drop, Some, None, Result, Ok, Err, refl, ap, subst, ◌∙◌, arith}
+use Rattle.std.proofs.Common.{◌≡◌, ◌≤◌, ◌+◌, ℕ, List, ◌++◌, length, Result, Ok, Err, refl, ap, subst, ◌∙◌, arith}
 use Rattle.std.specs.Result.{IsOk}
 use Rattle.std.proofs.lemmas.List.{length-append, drop_all, append-nil}
 use Rattle.byteorder.specs.Endian.{big_bytes}

@@ -69,7 +69,7 @@ pub record Does (old : Client) (n : ℕ) (input : Input) (step : Step) (new : Cl
   pub clock : new.peers.moment ≤ n
 
 -- it is as before: it stands for what it stood for, and draws the same words next
-pub record Stays (old new : Client) : Type 0 where
+pub record AsBefore (old new : Client) : Type 0 where
   pub stands : (j : Journal) → ClientStandsFor old j → ClientStandsFor new j
   pub words : new.rng ≡ old.rng
   pub settings : settings_of new ≡ settings_of old
@@ -123,8 +123,8 @@ abbrev pub fate_in : Client → ℕ → Ep → Value → Fate
 fate_in c n from v = reception_row (seen_of (settings_of c) (standing_in c n v.packet.src) from true v) (advert_row (settings_of c) c.qualifier.now from v)
 
 -- the entry of a datagram x about `who`, where this was done
-abbrev pub entry_of : Client → ℕ → Ep → List ℕ → Ip6 → Step → Entry
-entry_of c n from x who step = entry n (arrived from x) (packet_in x) (Some who) (words_ahead c) step
+abbrev pub entry_about : Client → ℕ → Ep → List ℕ → Ip6 → Step → Entry
+entry_about c n from x who step = entry n (arrived from x) (packet_in x) (Some who) (words_ahead c) step
 
 -- x spells this payload
 pub record IsPayloadOf (x : List ℕ) (v : Value) : Type 0 where
@@ -132,11 +132,11 @@ pub record IsPayloadOf (x : List ℕ) (v : Value) : Type 0 where
   pub inside : v.lead.at + HEADER + length v.packet.body ≡ length x
 
 -- what was done with a payload by the line of a fate
-pub record Receives (old : Client) (n : ℕ) (from : Ep) (v : Value) (f : Fate) (step : Step) (new : Client) : Type 0 where
+pub record TakesPayload (old : Client) (n : ℕ) (from : Ep) (v : Value) (f : Fate) (step : Step) (new : Client) : Type 0 where
   pub did : (j : Journal) (x : List ℕ) → ClientStandsFor old j → IsPayloadOf x v
       → step ≡ reception_step (settings_of old) (standing_in old n v.packet.src) from x v (words_ahead old) f
   pub stands : (j : Journal) (x : List ℕ) → ClientStandsFor old j → IsPayloadOf x v
-      → ClientStandsFor new (with_entry j (entry_of old n from x v.packet.src step))
+      → ClientStandsFor new (with_entry j (entry_about old n from x v.packet.src step))
   pub place : new.rng ≡ after_words step.drawn old.rng
   pub settings : settings_of new ≡ settings_of old
   pub clock : new.peers.moment ≤ n

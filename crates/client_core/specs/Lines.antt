@@ -1,5 +1,5 @@
 -- The lines of a client's tables as they are found, and what holds where one is.
-use Rattle.std.specs.Prelude.{◌≡◌, ◌≤◌, Bool, true, false, ℕ, List, length, Option, Some, is_some}
+use Rattle.std.specs.Prelude.{◌≡◌, true, false, ℕ, List, Some, is_some}
 use Rattle.td_base.specs.declared.ipv6.Ip6.{Ip6}
 use Rattle.td_base.specs.declared.endpoint.Ep.{Ep}
 use Rattle.ipv6_packet.specs.Packets.{Fields}
@@ -8,7 +8,7 @@ use Rattle.indications.specs.Leads.{origin_in}
 use Rattle.bubble.specs.Payloads.{Value}
 use Rattle.teredo_node.specs.declared.fate.Fate.{Fate}
 use Rattle.teredo_node.specs.declared.fate.Fate.TheVariants as fate
-use Rattle.teredo_node.specs.Step.{Step, just}
+use Rattle.teredo_node.specs.Step.{just}
 use Rattle.teredo_node.specs.Journal.{Entry, Words, is_changed}
 use Rattle.peer_list.specs.Mentions.{no_bearing}
 use Rattle.peer_list.specs.Judged.{is_full}
@@ -21,8 +21,8 @@ use Rattle.client_core.specs.declared.transmission_line.TransmissionLine.{Transm
 use Rattle.client_core.specs.declared.transmission_line.TransmissionLine.TheVariants as host
 use Rattle.client_rules.specs.Bearings.{bearing_of}
 use Rattle.client_rules.specs.Standing.{Standing, known_in}
-use Rattle.client_rules.specs.Reception.{Seen, seen_of, reception_row, reception_step}
-use Rattle.client_rules.specs.Transmission.{Given, given_of, transmission_row, transmission_step}
+use Rattle.client_rules.specs.Reception.{Seen, seen_of, reception_step}
+use Rattle.client_rules.specs.Transmission.{Given, given_of, transmission_step}
 use Rattle.client_core.specs.Client.{settings_of, standing_in}
 
 -- a fate that means nothing for any peer, and nothing for qualification
@@ -60,16 +60,16 @@ pub record MayAnswer (a : Standing) (v : Value) (to : Ep) : Type 0 where
   pub room : a.room ≡ true
 
 -- what holds where a line is found, at this standing to the payload's source
-abbrev pub Warrants : Standing → Value → ReceptionLine → Type 0
-Warrants a v (line.Drop f) = DropsDatagram f
-Warrants a v line.Advert = Unit {0}
-Warrants a v (line.Indirect to) = MayAnswer a v to
-Warrants a v line.Rule1 = is_some a.peer ≡ true
-Warrants a v line.Rule1Bubble = is_some a.peer ≡ true
-Warrants a v line.Rule2 = is_some a.peer ≡ true
-Warrants a v line.Rule3 = a.room ≡ true
-Warrants a v line.Rule3Bubble = a.room ≡ true
-Warrants a v line.SuspiciousTest = a.room ≡ true
+abbrev pub WarrantsDatagram : Standing → Value → ReceptionLine → Type 0
+WarrantsDatagram a v (line.Drop f) = DropsDatagram f
+WarrantsDatagram a v line.Advert = Unit {0}
+WarrantsDatagram a v (line.Indirect to) = MayAnswer a v to
+WarrantsDatagram a v line.Rule1 = is_some a.peer ≡ true
+WarrantsDatagram a v line.Rule1Bubble = is_some a.peer ≡ true
+WarrantsDatagram a v line.Rule2 = is_some a.peer ≡ true
+WarrantsDatagram a v line.Rule3 = a.room ≡ true
+WarrantsDatagram a v line.Rule3Bubble = a.room ≡ true
+WarrantsDatagram a v line.SuspiciousTest = a.room ≡ true
 
 -- PACKETS OF THE HOST
 
@@ -80,8 +80,8 @@ fate_for host.SentCone = fate.SentCone
 fate_for host.Queued = fate.Queued
 
 -- what a client sees of a packet at n
-abbrev pub given_by : Client → ℕ → Fields → Given
-given_by c n p = given_of (settings_of c) (standing_in c n p.dst) true p
+abbrev pub given_to : Client → ℕ → Fields → Given
+given_to c n p = given_of (settings_of c) (standing_in c n p.dst) true p
 
 -- it does nothing with a packet
 pub record DropsPacket (f : Fate) : Type 0 where
@@ -106,8 +106,8 @@ WarrantsPacket a host.SentCone = Unit {0}
 WarrantsPacket a host.Queued = MayWait a
 
 -- a packet that is sent or waits isn't big
-abbrev pub IsSmall : Fields → TransmissionLine → Type 0
-IsSmall p (host.Drop f) = Unit {0}
-IsSmall p (host.Sent to) = is_big p ≡ false
-IsSmall p host.SentCone = is_big p ≡ false
-IsSmall p host.Queued = is_big p ≡ false
+abbrev pub IsCarried : Fields → TransmissionLine → Type 0
+IsCarried p (host.Drop f) = Unit {0}
+IsCarried p (host.Sent to) = is_big p ≡ false
+IsCarried p host.SentCone = is_big p ≡ false
+IsCarried p host.Queued = is_big p ≡ false

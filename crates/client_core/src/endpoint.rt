@@ -10,7 +10,7 @@ impl Endpoint for Client {
     ghost use Rattle.std.proofs.Common.{◌∙◌};
     ghost use Rattle.std.proofs.Math.Nat.{le_trans};
     ghost use Rattle.teredo_node.specs.Journal.{arrived, ticked};
-    ghost use Rattle.client_core.specs.Client.{IsCallable, Does, Stays, WantsPlace};
+    ghost use Rattle.client_core.specs.Client.{IsCallable, Does, AsBefore, WantsPlace};
     ghost use Rattle.client_core.specs.Endpoint.{IsClientDue, owing};
 
     const FRUGAL: bool = false;
@@ -19,7 +19,7 @@ impl Endpoint for Client {
 
     ghost ready = { λ c now. IsCallable c now };
 
-    ghost stays = { λ old new. Stays old new };
+    ghost stays = { λ old new. AsBefore old new };
 
     ghost rule = { λ c now side from x step new. Does c now (arrived from x) step new };
 

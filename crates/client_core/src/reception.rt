@@ -12,7 +12,7 @@ ghost use Rattle.teredo_node.specs.Step.{just};
 ghost use Rattle.peer_list.specs.Table.{peer_in, known_to, has_room_in};
 ghost use Rattle.peer_list.specs.Calls.{touched_at, trusted_at, heard_at, emptied, Updates, Keeps};
 ghost use Rattle.qualify.specs.Advertisements.{advert_row, advert_words};
-ghost use Rattle.client_core.specs.Client.{settings_of, fate_in, IsCallable, Does, Receives, Stays, KeepsPlace, WantsPlace};
+ghost use Rattle.client_core.specs.Client.{settings_of, fate_in, IsCallable, Does, TakesPayload, AsBefore, KeepsPlace, WantsPlace};
 
 use crate::client::Client;
 use crate::reception_line::{ReceptionLine, line_of};
@@ -98,7 +98,7 @@ impl Client {
         requires callable { IsCallable self.old now.0 }
         ensures done { OnOk result (Does self.old now.0 (arrived from bytes.now) step.new self.new) }
         ensures starved { OnErr result (WantsPlace self.old now.0 from bytes.now) }
-        ensures as_before { OnErr result (Stays self.old self.new) }
+        ensures as_before { OnErr result (AsBefore self.old self.new) }
         ensures again { OnErr result (IsCallable self.new now.0) }
         ensures untouched { OnErr result (step.new ≡ step.old) }
     {
@@ -120,7 +120,7 @@ impl Client {
     ) -> Result<(), NoMemory>
         requires callable { IsCallable self.old now.0 }
         requires short { length payload.now.packet.body.now ≤ DATAGRAM_MAX }
-        ensures done { OnOk result (Receives self.old now.0 from (view payload.now) (fate_in self.old now.0 from (view payload.now)) step.new self.new) }
+        ensures done { OnOk result (TakesPayload self.old now.0 from (view payload.now) (fate_in self.old now.0 from (view payload.now)) step.new self.new) }
         ensures kept { OnErr result (KeepsPlace self.old now.0 (view payload.now) (fate_in self.old now.0 from (view payload.now)) self.new) }
         ensures untouched { OnErr result (step.new ≡ step.old) }
     {
@@ -159,7 +159,7 @@ impl Client {
     fn take_advert(&mut self, now: Millis, from: Ep, payload: &Payload<'_>, step: &mut Step)
         requires callable { IsCallable self.old now.0 }
         requires short { length payload.now.packet.body.now ≤ DATAGRAM_MAX }
-        ensures done { Receives self.old now.0 from (view payload.now) (advert_row (settings_of self.old) self.old.qualifier.now from (view payload.now)) step.new self.new }
+        ensures done { TakesPayload self.old now.0 from (view payload.now) (advert_row (settings_of self.old) self.old.qualifier.now from (view payload.now)) step.new self.new }
     {
         let fate = self.qualifier.on_advert(now, from, payload, &mut self.rng);
         step.reset(fate);
@@ -184,7 +184,7 @@ impl Client {
         requires callable { IsCallable self.old now.0 }
         requires origin { origin_in payload.now.lead ≡ Some origin }
         requires room { has_room_in self.old.peers now.0 payload.now.packet.src ≡ true }
-        ensures done { (from : Ep) → OnOk result (Receives self.old now.0 from (view payload.now) Fate.Indirect step.new self.new) }
+        ensures done { (from : Ep) → OnOk result (TakesPayload self.old now.0 from (view payload.now) Fate.Indirect step.new self.new) }
         ensures kept { OnErr result (KeepsPlace self.old now.0 (view payload.now) Fate.Indirect self.new) }
         ensures untouched { OnErr result (step.new ≡ step.old) }
     {
@@ -208,7 +208,7 @@ impl Client {
         requires callable { IsCallable self.old now.0 }
         requires short { length payload.now.packet.body.now ≤ DATAGRAM_MAX }
         requires room { has_room_in self.old.peers now.0 payload.now.packet.src ≡ true }
-        ensures done { OnOk result (Receives self.old now.0 from (view payload.now) Fate.Rule3 step.new self.new) }
+        ensures done { OnOk result (TakesPayload self.old now.0 from (view payload.now) Fate.Rule3 step.new self.new) }
         ensures kept { OnErr result (KeepsPlace self.old now.0 (view payload.now) Fate.Rule3 self.new) }
         ensures untouched { OnErr result (step.new ≡ step.old) }
     {
@@ -229,7 +229,7 @@ impl Client {
     ) -> Result<(), NoMemory>
         requires callable { IsCallable self.old now.0 }
         requires room { has_room_in self.old.peers now.0 payload.now.packet.src ≡ true }
-        ensures done { OnOk result (Receives self.old now.0 from (view payload.now) Fate.Rule3Bubble step.new self.new) }
+        ensures done { OnOk result (TakesPayload self.old now.0 from (view payload.now) Fate.Rule3Bubble step.new self.new) }
         ensures kept { OnErr result (KeepsPlace self.old now.0 (view payload.now) Fate.Rule3Bubble self.new) }
         ensures untouched { OnErr result (step.new ≡ step.old) }
     {
@@ -249,7 +249,7 @@ impl Client {
     ) -> Result<(), NoMemory>
         requires callable { IsCallable self.old now.0 }
         requires room { has_room_in self.old.peers now.0 payload.now.packet.src ≡ true }
-        ensures done { (from : Ep) → OnOk result (Receives self.old now.0 from (view payload.now) Fate.SuspiciousTest step.new self.new) }
+        ensures done { (from : Ep) → OnOk result (TakesPayload self.old now.0 from (view payload.now) Fate.SuspiciousTest step.new self.new) }
         ensures kept { OnErr result (KeepsPlace self.old now.0 (view payload.now) Fate.SuspiciousTest self.new) }
         ensures untouched { OnErr result (step.new ≡ step.old) }
     {

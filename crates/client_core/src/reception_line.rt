@@ -8,7 +8,7 @@ ghost use Rattle.teredo_node.specs.Rows.{first_line};
 ghost use Rattle.qualify.specs.Solicitations.{is_qualified};
 ghost use Rattle.client_core.specs.Client.{settings_of, standing_in};
 ghost use Rattle.client_rules.specs.Reception.{is_from_server, server_lines, packet_lines, indirect_lines, direct_lines, teredo_lines, suspicious_lines, reception_row};
-ghost use Rattle.client_core.specs.Lines.{fate_of, seen_by, Warrants};
+ghost use Rattle.client_core.specs.Lines.{fate_of, seen_by, WarrantsDatagram};
 
 use crate::client::Client;
 use crate::conditions::{good_origin, is_advert, is_echo_reply, is_from_server, is_reply_to};
@@ -42,7 +42,7 @@ pub fn line_of(client: &Client, now: Millis, from: Ep, payload: &Payload<'_>) ->
     requires clock { client.now.peers.moment ≤ now.0 }
     requires short { length payload.now.packet.body.now ≤ DATAGRAM_MAX }
     ensures row { (advert : Fate) → fate_of result advert ≡ reception_row (seen_by client.now now.0 from (view payload.now)) advert }
-    ensures warrant { Warrants (standing_in client.now now.0 payload.now.packet.src) (view payload.now) result }
+    ensures warrant { WarrantsDatagram (standing_in client.now now.0 payload.now.packet.src) (view payload.now) result }
 {
     // keyed: our choice
     if is_keyed(&payload.lead) {
@@ -68,7 +68,7 @@ fn line_of_server(client: &Client, now: Millis, from: Ep, payload: &Payload<'_>)
     requires short { length payload.now.packet.body.now ≤ DATAGRAM_MAX }
     requires server { is_from_server (settings_of client.now) from ≡ true }
     ensures row { let a = seen_by client.now now.0 from (view payload.now) in (advert : Fate) → fate_of result advert ≡ first_line (server_lines a advert ++ (packet_lines a ++ (indirect_lines a ++ direct_lines a))) Fate.Suspicious }
-    ensures warrant { Warrants (standing_in client.now now.0 payload.now.packet.src) (view payload.now) result }
+    ensures warrant { WarrantsDatagram (standing_in client.now now.0 payload.now.packet.src) (view payload.now) result }
 {
     let packet = &payload.packet;
     let message = message_of(packet);
@@ -93,7 +93,7 @@ fn line_of_packet(client: &Client, now: Millis, from: Ep, payload: &Payload<'_>)
     requires clock { client.now.peers.moment ≤ now.0 }
     requires short { length payload.now.packet.body.now ≤ DATAGRAM_MAX }
     ensures row { let a = seen_by client.now now.0 from (view payload.now) in (advert : Fate) → fate_of result advert ≡ first_line (packet_lines a ++ (indirect_lines a ++ direct_lines a)) Fate.Suspicious }
-    ensures warrant { Warrants (standing_in client.now now.0 payload.now.packet.src) (view payload.now) result }
+    ensures warrant { WarrantsDatagram (standing_in client.now now.0 payload.now.packet.src) (view payload.now) result }
 {
     let packet = &payload.packet;
     // off: RFC 4380, section 5.2.3
@@ -119,7 +119,7 @@ fn line_of_indirect(client: &Client, now: Millis, from: Ep, payload: &Payload<'_
     requires clock { client.now.peers.moment ≤ now.0 }
     requires server { is_from_server (settings_of client.now) from ≡ true }
     ensures row { let a = seen_by client.now now.0 from (view payload.now) in (advert : Fate) → fate_of result advert ≡ first_line (indirect_lines a ++ direct_lines a) Fate.Suspicious }
-    ensures warrant { Warrants (standing_in client.now now.0 payload.now.packet.src) (view payload.now) result }
+    ensures warrant { WarrantsDatagram (standing_in client.now now.0 payload.now.packet.src) (view payload.now) result }
 {
     let source = payload.packet.src;
     // origin: RFC 4380, section 5.2.3
@@ -149,7 +149,7 @@ fn line_of_direct(client: &Client, now: Millis, from: Ep, payload: &Payload<'_>)
     requires short { length payload.now.packet.body.now ≤ DATAGRAM_MAX }
     requires peer { is_from_server (settings_of client.now) from ≡ false }
     ensures row { let a = seen_by client.now now.0 from (view payload.now) in (advert : Fate) → fate_of result advert ≡ first_line (indirect_lines a ++ direct_lines a) Fate.Suspicious }
-    ensures warrant { Warrants (standing_in client.now now.0 payload.now.packet.src) (view payload.now) result }
+    ensures warrant { WarrantsDatagram (standing_in client.now now.0 payload.now.packet.src) (view payload.now) result }
 {
     let packet = &payload.packet;
     if client.peers.is_trusted_at(now, packet.src, from) {
@@ -180,7 +180,7 @@ fn line_of_teredo(client: &Client, now: Millis, from: Ep, payload: &Payload<'_>)
     requires clock { client.now.peers.moment ≤ now.0 }
     requires teredo { is_teredo payload.now.packet.src ≡ true }
     ensures row { let a = seen_by client.now now.0 from (view payload.now) in (advert : Fate) → fate_of result advert ≡ first_line (teredo_lines a ++ suspicious_lines a) Fate.Suspicious }
-    ensures warrant { Warrants (standing_in client.now now.0 payload.now.packet.src) (view payload.now) result }
+    ensures warrant { WarrantsDatagram (standing_in client.now now.0 payload.now.packet.src) (view payload.now) result }
 {
     let packet = &payload.packet;
     // mismatch: RFC 4380, section 5.2.3, rule 3

@@ -6,7 +6,7 @@ ghost use Rattle.peer_list.specs.Judged.{is_none, due_of};
 ghost use Rattle.peer_list.specs.Table.{peer_in, known_to, first_due_in};
 ghost use Rattle.qualify.specs.Solicitations.{is_due, own_address};
 ghost use Rattle.teredo_addr.specs.Teredo.{is_teredo};
-ghost use Rattle.client_core.specs.Client.{settings_of, words_ahead, IsCallable, Enters, Does, Stays};
+ghost use Rattle.client_core.specs.Client.{settings_of, words_ahead, IsCallable, Enters, Does, AsBefore};
 ghost use Rattle.client_core.specs.Endpoint.{IsClientDue, owing, PutsOff};
 ghost use Rattle.client_rules.specs.Journals.{entry};
 ghost use Rattle.client_rules.specs.Ticks.{peer_due, peer_of_due, tries_peer, tick, try_fate, sooner};
@@ -63,7 +63,7 @@ impl Client {
     pub(crate) fn tick(&mut self, now: Millis, step: &mut Step)
         requires callable { IsCallable self.old now.0 }
         ensures done { Does self.old now.0 ticked step.new self.new }
-        ensures idle { Idles (owing self.old now.0) (Stays self.old self.new) step.new }
+        ensures idle { Idles (owing self.old now.0) (AsBefore self.old self.new) step.new }
         ensures less { Lessens (owing self.old now.0) (owing self.new now.0) step.new }
     {
         if is_past(self.qualifier.due(), now) {

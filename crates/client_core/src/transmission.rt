@@ -8,7 +8,7 @@ ghost use Rattle.peer_list.specs.Calls.{queued_at, Updates, Keeps};
 ghost use Rattle.client_rules.specs.Standing.{Standing};
 ghost use Rattle.client_rules.specs.Tries.{try_nonce, try_words};
 ghost use Rattle.client_rules.specs.Transmission.{queues};
-ghost use Rattle.client_core.specs.Client.{settings_of, words_ahead, standing_in, IsCallable, Enters, Does, Stays, KeepsAll, TriesUnless, WantsQueue};
+ghost use Rattle.client_core.specs.Client.{settings_of, words_ahead, standing_in, IsCallable, Enters, Does, AsBefore, KeepsAll, TriesUnless, WantsQueue};
 ghost use Rattle.client_rules.specs.Journals.{entry};
 ghost use Rattle.qualify.specs.Generator.{after_words};
 
@@ -42,7 +42,7 @@ impl Client {
         requires callable { IsCallable self.old now.0 }
         ensures done { OnOk result (Does self.old now.0 (given bytes.now) step.new self.new) }
         ensures starved { OnErr result (WantsQueue self.old now.0 bytes.now) }
-        ensures as_before { OnErr result (Stays self.old self.new) }
+        ensures as_before { OnErr result (AsBefore self.old self.new) }
         ensures again { OnErr result (IsCallable self.new now.0) }
         ensures untouched { OnErr result (step.new ≡ step.old) }
     {

@@ -7,7 +7,7 @@ ghost use Rattle.peer_list.specs.Table.{peer_in, known_to};
 ghost use Rattle.qualify.specs.Solicitations.{is_qualified};
 ghost use Rattle.client_core.specs.Client.{standing_in};
 ghost use Rattle.client_rules.specs.Transmission.{destination_lines, transmission_row};
-ghost use Rattle.client_core.specs.Lines.{fate_for, given_by, WarrantsPacket, IsSmall};
+ghost use Rattle.client_core.specs.Lines.{fate_for, given_to, WarrantsPacket, IsCarried};
 ghost use Rattle.teredo_node.specs.declared.fate.Fate.{Fate};
 ghost use Rattle.teredo_node.specs.Rows.{first_line};
 
@@ -38,9 +38,9 @@ pub fn line_for(client: &Client, now: Millis, own: Ip6, packet: &Packet<'_>) -> 
     requires clock { client.now.peers.moment ≤ now.0 }
     requires own { client.now.qualifier.now.address ≡ Some own }
     requires qualified { is_qualified client.now.qualifier.now.phase ≡ true }
-    ensures row { fate_for result ≡ transmission_row (given_by client.now now.0 (packet_view packet.now)) }
+    ensures row { fate_for result ≡ transmission_row (given_to client.now now.0 (packet_view packet.now)) }
     ensures warrant { WarrantsPacket (standing_in client.now now.0 packet.now.dst) result }
-    ensures small { IsSmall (packet_view packet.now) result }
+    ensures small { IsCarried (packet_view packet.now) result }
 {
     // big: our choice
     if is_big(packet) {
@@ -69,9 +69,9 @@ pub fn line_for(client: &Client, now: Millis, own: Ip6, packet: &Packet<'_>) -> 
 fn line_for_destination(client: &Client, now: Millis, packet: &Packet<'_>) -> TransmissionLine
     requires clock { client.now.peers.moment ≤ now.0 }
     requires small { is_big (packet_view packet.now) ≡ false }
-    ensures row { fate_for result ≡ first_line (destination_lines (given_by client.now now.0 (packet_view packet.now))) Fate.Queued }
+    ensures row { fate_for result ≡ first_line (destination_lines (given_to client.now now.0 (packet_view packet.now))) Fate.Queued }
     ensures warrant { WarrantsPacket (standing_in client.now now.0 packet.now.dst) result }
-    ensures small { IsSmall (packet_view packet.now) result }
+    ensures small { IsCarried (packet_view packet.now) result }
 {
     let who = packet.dst;
     // embedded: our choice

@@ -6,7 +6,7 @@ use Rattle.teredo_node.specs.Sends.{releases}
 use Rattle.peer_list.specs.Peers.{Peer}
 use Rattle.peer_list.specs.Table.{known_to}
 use Rattle.peer_list.specs.Calls.{trusted_at, heard_at, emptied}
-use Rattle.client_core.specs.Client.{Receives}
+use Rattle.client_core.specs.Client.{TakesPayload}
 use Rattle.client_core.proofs.Peered.{seen_listed, seen_known, then_call}
 use Rattle.client_core.proofs.Acts.{handed_over, rule3}
 use Rattle.client_core.proofs.client.Client.admit.Goals as goal
@@ -24,7 +24,7 @@ returns-clause-done c =
     let known = known_to old.peers n v.packet.src in
     let mid = seen_known old.peers c.list.new.peers n v.packet.src known c.in_ok-list.ensures.listed in
     let step : c.trust.new.step ≡ handed_over old n c.args.from v fate.Rule3 = c.trust.ensures.sends ∙ (λ i. record (c.hand_over.ensures i) { sends = releases c.args.from (mid i).waiting }) in
-    subst (λ (s : Step). Receives old n c.args.from v fate.Rule3 s (record old { peers = c.trust.new.peers })) (sym step)
+    subst (λ (s : Step). TakesPayload old n c.args.from v fate.Rule3 s (record old { peers = c.trust.new.peers })) (sym step)
     (rule3 old (record old { peers = c.trust.new.peers }) n c.args.from v (record {
       clock = c.requires.callable.clock;
       peers = then_call old.peers c.list.new.peers c.trust.new.peers n v.packet.src known (λ (p : Peer). emptied (heard_at n (trusted_at n c.args.from p))) c.in_ok-list.ensures.listed c.trust.ensures.peer;

@@ -10,7 +10,7 @@ use Rattle.peer_list.specs.Calls.{tried_at}
 use Rattle.qualify.specs.Solicitations.{own_address}
 use Rattle.client_core.specs.declared.client.Client.{Client}
 use Rattle.client_rules.specs.Tries.{direct_bubble}
-use Rattle.client_core.specs.Client.{Receives}
+use Rattle.client_core.specs.Client.{TakesPayload}
 use Rattle.client_core.proofs.Peered.{seen_listed, then_call}
 use Rattle.client_core.proofs.Acts.{indirect}
 use Rattle.client_core.proofs.client.Client.answer_bubble.Goals as goal
@@ -29,7 +29,7 @@ returns-clause-done c from =
     let known = known_to old.peers n v.packet.src in
     let step : c.send_bubble.new.step ≡ sending fate.Indirect (direct_bubble (own_address old.qualifier.now) v.packet.src c.args.origin ∷ []) =
     c.send_bubble.ensures ∙ (λ i. with_send (c.reset.ensures i) (direct_bubble (c.own_address.ensures i) v.packet.src c.args.origin)) in
-    subst (λ (s : Step). Receives old n from v fate.Indirect s new) (sym step)
+    subst (λ (s : Step). TakesPayload old n from v fate.Indirect s new) (sym step)
     (indirect old new n from v c.args.origin (record {
       clock = c.requires.callable.clock;
       origin = c.requires.origin;

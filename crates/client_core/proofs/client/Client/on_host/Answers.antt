@@ -1,16 +1,14 @@
-use Rattle.std.proofs.Common.{◌≡◌, Some, false, [], ◌∷◌, refl, ap, sym, subst, ◌∙◌, arith}
+use Rattle.std.proofs.Common.{◌≡◌, [], ◌∷◌, refl, ap, sym, subst, ◌∙◌, arith}
 use Rattle.std.specs.Prelude.{is_some, Option}
 use Rattle.td_base.specs.declared.ipv6.Ip6.{Ip6}
-use Rattle.td_base.specs.declared.endpoint.Ep.{Ep}
 use Rattle.ipv6_packet.specs.Packets.{view as packet_view}
 use Rattle.teredo_addr.specs.Teredo.{embedded}
 use Rattle.teredo_node.specs.declared.fate.Fate.TheVariants as fate
-use Rattle.teredo_node.specs.Step.{Step, just, with_send}
+use Rattle.teredo_node.specs.Step.{Step, with_send}
 use Rattle.teredo_node.specs.Sends.{send, sending}
 use Rattle.teredo_node.specs.Journal.{given}
 use Rattle.client_core.specs.declared.client.Client.{Client}
-use Rattle.client_rules.specs.Transmission.{transmission_step}
-use Rattle.client_core.specs.Client.{settings_of, standing_in, words_ahead, Does}
+use Rattle.client_core.specs.Client.{Does}
 use Rattle.client_core.proofs.Results.{on_ok_both, on_err_always}
 use Rattle.client_core.proofs.Transmitted.{off, malformed, drops_packet, sent, sent_cone, transmitted, short, wants_queue}
 use Rattle.client_core.proofs.client.Client.on_host.Goals as goal

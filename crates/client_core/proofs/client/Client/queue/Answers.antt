@@ -1,5 +1,4 @@
 use Rattle.std.proofs.Common.{◌≡◌, Some, refl, sym, subst, ◌∙◌, ap}
-use Rattle.std.specs.Prelude.{Bool}
 use Rattle.teredo_node.specs.Step.{Step}
 use Rattle.teredo_node.specs.Journal.{given}
 use Rattle.peer_list.specs.Table.{known_to}

@@ -7,9 +7,7 @@ use Rattle.teredo_node.specs.Sends.{releases}
 use Rattle.peer_list.specs.Table.{known_to}
 use Rattle.qualify.specs.Advertisements.{advert_row}
 use Rattle.client_core.specs.declared.client.Client.{Client}
-use Rattle.client_core.specs.Client.{settings_of, fate_in, Receives}
-use Rattle.client_core.specs.Lines.{fate_of}
-use Rattle.client_core.specs.declared.reception_line.ReceptionLine.{ReceptionLine}
+use Rattle.client_core.specs.Client.{settings_of, fate_in, TakesPayload}
 use Rattle.client_core.proofs.Acts.{drops, released, handed_over, rule1, rule1_bubble, rule2}
 use Rattle.client_core.proofs.client.Client.receive_payload.Goals as goal
 
@@ -19,8 +17,8 @@ returns-in-Drop-clause-done c =
     let n = c.args.now.0 in
     let v = view c.args.payload.now in
     let advert = advert_row (settings_of old) old.qualifier.now c.args.from v in
-    subst (λ (s : Step). Receives old n c.args.from v (fate_in old n c.args.from v) s old) (sym c.reset.ensures)
-    (subst (λ (f : Fate). Receives old n c.args.from v f (just c.in-Drop.fate) old) (c.in-Drop.ensures.row advert)
+    subst (λ (s : Step). TakesPayload old n c.args.from v (fate_in old n c.args.from v) s old) (sym c.reset.ensures)
+    (subst (λ (f : Fate). TakesPayload old n c.args.from v f (just c.in-Drop.fate) old) (c.in-Drop.ensures.row advert)
     (drops old n c.args.from v c.in-Drop.fate c.requires.callable.clock c.in-Drop.ensures.warrant))
 
 pub returns-in-Rule1-clause-done : goal.returns-in-Rule1-clause-done
@@ -30,8 +28,8 @@ returns-in-Rule1-clause-done c =
     let v = view c.args.payload.now in
     let new : Client = record old { peers = c.hear.new.peers } in
     let step : c.hear.new.step ≡ handed_over old n c.args.from v fate.Rule1 = c.hear.ensures.sends ∙ (λ i. record (c.hand_over.ensures i) { sends = releases c.args.from (known_to old.peers n v.packet.src).waiting }) in
-    subst (λ (s : Step). Receives old n c.args.from v (fate_in old n c.args.from v) s new) (sym step)
-    (subst (λ (f : Fate). Receives old n c.args.from v f (handed_over old n c.args.from v fate.Rule1) new) (c.in-Rule1.ensures.row (advert_row (settings_of old) old.qualifier.now c.args.from v))
+    subst (λ (s : Step). TakesPayload old n c.args.from v (fate_in old n c.args.from v) s new) (sym step)
+    (subst (λ (f : Fate). TakesPayload old n c.args.from v f (handed_over old n c.args.from v fate.Rule1) new) (c.in-Rule1.ensures.row (advert_row (settings_of old) old.qualifier.now c.args.from v))
     (rule1 old new n c.args.from v (record { clock = c.requires.callable.clock; peers = c.hear.ensures.peer; qualifier = refl; rng = refl })))
 
 pub returns-in-Rule1Bubble-clause-done : goal.returns-in-Rule1Bubble-clause-done
@@ -41,8 +39,8 @@ returns-in-Rule1Bubble-clause-done c =
     let v = view c.args.payload.now in
     let new : Client = record old { peers = c.hear-in-Rule1Bubble.new.peers } in
     let step : c.hear-in-Rule1Bubble.new.step ≡ released old n c.args.from v fate.Rule1Bubble = c.hear-in-Rule1Bubble.ensures.sends ∙ (λ i. record (c.reset-in-Rule1Bubble.ensures i) { sends = releases c.args.from (known_to old.peers n v.packet.src).waiting }) in
-    subst (λ (s : Step). Receives old n c.args.from v (fate_in old n c.args.from v) s new) (sym step)
-    (subst (λ (f : Fate). Receives old n c.args.from v f (released old n c.args.from v fate.Rule1Bubble) new) (c.in-Rule1Bubble.ensures.row (advert_row (settings_of old) old.qualifier.now c.args.from v))
+    subst (λ (s : Step). TakesPayload old n c.args.from v (fate_in old n c.args.from v) s new) (sym step)
+    (subst (λ (f : Fate). TakesPayload old n c.args.from v f (released old n c.args.from v fate.Rule1Bubble) new) (c.in-Rule1Bubble.ensures.row (advert_row (settings_of old) old.qualifier.now c.args.from v))
     (rule1_bubble old new n c.args.from v (record { clock = c.requires.callable.clock; peers = c.hear-in-Rule1Bubble.ensures.peer; qualifier = refl; rng = refl })))
 
 pub returns-in-Rule2-clause-done : goal.returns-in-Rule2-clause-done
@@ -52,6 +50,6 @@ returns-in-Rule2-clause-done c =
     let v = view c.args.payload.now in
     let new : Client = record old { peers = c.trust.new.peers } in
     let step : c.trust.new.step ≡ released old n c.args.from v fate.Rule2 = c.trust.ensures.sends ∙ (λ i. record (c.reset-in-Rule2.ensures i) { sends = releases c.args.from (known_to old.peers n v.packet.src).waiting }) in
-    subst (λ (s : Step). Receives old n c.args.from v (fate_in old n c.args.from v) s new) (sym step)
-    (subst (λ (f : Fate). Receives old n c.args.from v f (released old n c.args.from v fate.Rule2) new) (c.in-Rule2.ensures.row (advert_row (settings_of old) old.qualifier.now c.args.from v))
+    subst (λ (s : Step). TakesPayload old n c.args.from v (fate_in old n c.args.from v) s new) (sym step)
+    (subst (λ (f : Fate). TakesPayload old n c.args.from v f (released old n c.args.from v fate.Rule2) new) (c.in-Rule2.ensures.row (advert_row (settings_of old) old.qualifier.now c.args.from v))
     (rule2 old new n c.args.from v (record { clock = c.requires.callable.clock; peers = c.trust.ensures.peer; qualifier = refl; rng = refl })))

@@ -6,7 +6,7 @@ use Rattle.teredo_node.specs.Step.{Step, just}
 use Rattle.peer_list.specs.Table.{Table}
 use Rattle.qualify.specs.Advertisements.{advert_row, advert_words}
 use Rattle.client_core.specs.declared.client.Client.{Client}
-use Rattle.client_core.specs.Client.{settings_of, Receives}
+use Rattle.client_core.specs.Client.{settings_of, TakesPayload}
 use Rattle.client_core.proofs.Adverts.{Took, told, moved, advert_kept, advert_changed}
 use Rattle.client_core.proofs.client.Client.take_advert.Goals as goal
 
@@ -18,7 +18,7 @@ returns-in_default c =
     let new : Client = record { qualifier = c.on_advert-fate.new.self; peers = old.peers; rng = c.on_advert-fate.new.rng } in
     let step : c.set_drawn.new.self ≡ told f = c.set_drawn.ensures ∙ (λ i. record (c.reset.ensures i) { drawn = c.words_of_advert.ensures i }) in
     record {
-      done = subst (λ (s : Step). Receives old c.args.now.0 c.args.from v (advert_row (settings_of old) old.qualifier.now c.args.from v) s new) (sym step)
+      done = subst (λ (s : Step). TakesPayload old c.args.now.0 c.args.from v (advert_row (settings_of old) old.qualifier.now c.args.from v) s new) (sym step)
           (advert_kept old new c.args.now.0 c.args.from v f (record {
             clock = c.requires.callable.clock;
             row = c.on_advert-fate.ensures.fate;
@@ -46,6 +46,6 @@ returns-in-Changed c =
       settings = c.on_advert-fate.ensures.settings;
     } in
     record {
-      done = subst (λ (s : Step). Receives old n c.args.from v (advert_row (settings_of old) old.qualifier.now c.args.from v) s new) (sym step)
+      done = subst (λ (s : Step). TakesPayload old n c.args.from v (advert_row (settings_of old) old.qualifier.now c.args.from v) s new) (sym step)
           (advert_changed old new n c.args.from v (subst (λ (f : Fate). Took old n c.args.from v f new) is took) c.clear.ensures.stands (omega (arith, ap (λ (t : Table). t.moment) c.clear.ensures.empty)));
     }

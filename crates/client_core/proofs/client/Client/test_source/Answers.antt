@@ -1,4 +1,4 @@
-use Rattle.std.proofs.Common.{◌≡◌, ℕ, [], ◌∷◌, refl, sym, subst, ap, ◌∙◌}
+use Rattle.std.proofs.Common.{◌≡◌, ℕ, [], ◌∷◌, refl, sym, subst, ◌∙◌}
 use Rattle.std.specs.Prelude.{Some}
 use Rattle.bubble.specs.Payloads.{view}
 use Rattle.teredo_node.specs.declared.fate.Fate.TheVariants as fate
@@ -9,7 +9,7 @@ use Rattle.peer_list.specs.Table.{known_to}
 use Rattle.peer_list.specs.Calls.{Updates, tried_at}
 use Rattle.client_core.specs.declared.client.Client.{Client}
 use Rattle.client_rules.specs.Tries.{test}
-use Rattle.client_core.specs.Client.{Receives, words_ahead}
+use Rattle.client_core.specs.Client.{TakesPayload, words_ahead}
 use Rattle.client_core.proofs.Peered.{seen_listed, then_call}
 use Rattle.client_core.proofs.Acts.{tested, suspicious_test}
 use Rattle.client_core.proofs.client.Client.test_source.Goals as goal
@@ -27,7 +27,7 @@ returns-clause-done c from =
     let new : Client = record { qualifier = old.qualifier; peers = c.tried.new.self; rng = c.send_test-nonce.new.rng } in
     let known = known_to old.peers n v.packet.src in
     let step : c.send_test-nonce.new.step ≡ tested old v.packet.src = c.send_test-nonce.ensures.step ∙ (λ i. record (tested old v.packet.src) { sends = test (c.settings-settings.ensures.value i) (c.own_address-own.ensures i) v.packet.src (nonce_from (words_ahead old)) ∷ [] }) in
-    subst (λ (s : Step). Receives old n from v fate.SuspiciousTest s new) (sym step)
+    subst (λ (s : Step). TakesPayload old n from v fate.SuspiciousTest s new) (sym step)
     (suspicious_test old new n from v c.requires.callable.clock
     (subst (λ (k : ℕ). Updates old.peers c.tried.new.self n v.packet.src (tried_at n (Some k) known)) c.send_test-nonce.ensures.nonce
     (then_call old.peers c.list.new.peers c.tried.new.self n v.packet.src known (λ (p : Peer). tried_at n (Some c.send_test-nonce.result) p) c.in_ok-list.ensures.listed c.tried.ensures))
