@@ -4,7 +4,10 @@ use Rattle.history.specs.declared.event.Event.{Event}
 use Rattle.topology.specs.Rows.{TopologyState}
 use Rattle.history.specs.Full.{Item, Full, wire, items_of}
 use Rattle.history.specs.Telling.{IsTold}
-use Rattle.legal.specs.Past.{Draws, now}
+use Rattle.nat_kinds.specs.Laws.{IsPast}
+use Rattle.topology.specs.declared.nat_node.NatNode.{NatNode}
+use Rattle.topology.specs.Topology.{nat_at, nat_settings}
+use Rattle.legal.specs.Past.{Draws, now, nat_history}
 use Rattle.legal.specs.Next.{next_of}
 use Rattle.legal.specs.Legal.{Grown}
 
@@ -38,3 +41,8 @@ EachIsMade = (d : Draws) (t : TopologyState) (H : List Full) (n : ℕ) (item : I
 -- it says that an entry was delivered exactly where one was
 abbrev pub EachIsTold : Type 0
 EachIsTold = (d : Draws) (t : TopologyState) (H : List Full) (i : ℕ) (e : Event) → IsTold (next_of d t H i e)
+
+-- a NAT's history in a history of its topology is one that the laws of NATs speak of: each datagram left from the port
+-- that the history before it answers, and moments don't fall
+abbrev pub EachNatIsPast : Type 0
+EachNatIsPast = (d : Draws) (t : TopologyState) (H : List Full) (k : ℕ) (a : NatNode) → Grown d t H → nat_at t k ≡ Some a → IsPast (nat_settings a) (nat_history t k H) (now H)
