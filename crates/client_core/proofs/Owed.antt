@@ -204,14 +204,14 @@ given_up old new n who step d u q f =
     u q (λ e. let no_way : fate.GiveUp ≡ fate.Idle = sym f ∙ e in cc)
 
 -- the next try is 2,000 ms away
-tried_later : (n : ℕ) (nonce : Option ℕ) (p : Peer) → due_of (tried_at n nonce p) ≡ n + 2000
+tried_later : (n : ℕ) (test : Option ℕ) (p : Peer) → due_of (tried_at n test p) ≡ n + 2000
 unfolding due_of
-tried_later n nonce p = refl
+tried_later n test p = refl
 
-tried_over : (n : ℕ) (nonce : Option ℕ) (p : Peer) → is_none (while_due n (tried_at n nonce p)).waiting ≡ true
-tried_over n nonce p =
-    let later : nat_le (due_of (tried_at n nonce p)) n ≡ false = ap (λ (m : ℕ). nat_le m n) (tried_later n nonce p) ∙ lt-leb (n + 2000) n (omega arith) in
-    ap (λ (b : Bool). is_none (if b then tried_at n nonce p else no_peer).waiting) later
+tried_over : (n : ℕ) (test : Option ℕ) (p : Peer) → is_none (while_due n (tried_at n test p)).waiting ≡ true
+tried_over n test p =
+    let later : nat_le (due_of (tried_at n test p)) n ≡ false = ap (λ (m : ℕ). nat_le m n) (tried_later n test p) ∙ lt-leb (n + 2000) n (omega arith) in
+    ap (λ (b : Bool). is_none (if b then tried_at n test p else no_peer).waiting) later
 
 try_busy : (b : Bool) → try_fate b ≡ fate.Idle → ⊥
 try_busy true e = cc

@@ -113,8 +113,8 @@ pub record KeepsAll (old : Client) (n : ℕ) (new : Client) : Type 0 where
 
 -- a peer was tried with the nonce of a test, unless it is barred
 abbrev pub TriesUnless : (barred : Bool) → Table → ℕ → Ip6 → Option ℕ → Table → Type 0
-TriesUnless true old n who nonce new = new ≡ old
-TriesUnless false old n who nonce new = Updates old new n who (tried_at n nonce (known_to old n who))
+TriesUnless true old n who test new = new ≡ old
+TriesUnless false old n who test new = Updates old new n who (tried_at n test (known_to old n who))
 
 -- DATAGRAMS
 
