@@ -18,6 +18,7 @@
 //! | `sockets` | `run` on `serve`, over two sockets |
 //! | `worlds` | `scenario` and `world` |
 //! | `lines` | `report` |
+//! | `names` | `topology` |
 #![tactic(auto)]
 
 #[cfg(test)]
@@ -26,6 +27,8 @@ mod arrivals;
 mod files_and_words;
 #[cfg(test)]
 mod lines;
+#[cfg(test)]
+mod names;
 #[cfg(test)]
 mod nodes;
 #[cfg(test)]

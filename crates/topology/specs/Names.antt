@@ -2,7 +2,7 @@
 use Rattle.std.specs.Cmp.{IsEquivalence, on_equiv, nat_eq_equiv}
 use Rattle.std.specs.Cmp.Lexicographic.{pointwise, lists_equiv}
 use Rattle.std.specs.Prelude.{ℕ, Bool, nat_eq, List, take}
-use Rattle.td_base.specs.declared.node_name.Name.{Name}
+use Rattle.topology.specs.declared.node_name.Name.{Name}
 
 -- its bytes, as many as it says
 abbrev pub name_text : Name → List ℕ

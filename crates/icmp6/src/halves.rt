@@ -1,8 +1,8 @@
 //! The one's complement sum of bytes: RFC 1071.
 ghost use Rattle.std.specs.Prelude.{◌≡◌, ◌+◌};
-ghost use Rattle.td_base.specs.Sums.{halves_sum, folded};
+ghost use Rattle.icmp6.specs.Sums.{halves_sum, folded};
 
-use crate::fields::{field16, field64};
+use td_base::{field16, field64};
 
 /// How many bytes are summed at a time.
 const WORD: usize = 8;

@@ -6,9 +6,9 @@ use Rattle.std.proofs.Common.{◌≡◌, ℕ, ◌≤◌, true, List, ◌++◌, l
 use Rattle.std.proofs.Props.{props}
 use Rattle.std.proofs.lemmas.Bool.Decides.{Decides-eqb}
 use Rattle.std.proofs.lemmas.List.{length-take-le}
-use Rattle.td_base.specs.declared.node_name.Name.{Name}
-use Rattle.td_base.specs.declared.node_name.TheConstants.{NAME_LEN}
-use Rattle.td_base.specs.Names.{name_text, same_name}
+use Rattle.topology.specs.declared.node_name.Name.{Name}
+use Rattle.topology.specs.declared.node_name.TheConstants.{NAME_LEN}
+use Rattle.topology.specs.Names.{name_text, same_name}
 
 -- what a name's type keeps
 abbrev Kept : ℕ → List ℕ → Type 0

@@ -1,6 +1,6 @@
 //! The name of a node.
 ghost use Rattle.std.specs.Prelude.{◌≡◌, ◌-◌, ◌≤◌, ◌++◌, length, take, replicate};
-ghost use Rattle.td_base.specs.declared.node_name.TheConstants.{NAME_LEN};
+ghost use Rattle.topology.specs.declared.node_name.TheConstants.{NAME_LEN};
 
 /// How many bytes a name has at most.
 pub const NAME_LEN: usize = 16;
@@ -16,7 +16,7 @@ pub struct Name {
 }
 
 impl Name {
-    ghost use Rattle.td_base.specs.Names.{name_text};
+    ghost use Rattle.topology.specs.Names.{name_text};
     ghost use Rattle.std.specs.Prelude.{◌≢◌, ◌<◌, ◌⊎◌, [], IfSome, IfNone};
 
     /// The name of a text.
@@ -48,7 +48,7 @@ impl Name {
 
 impl PartialEq for Name {
     ghost use Rattle.std.specs.Cmp.{partial_equiv_from_equiv};
-    ghost use Rattle.td_base.specs.Names.{same_name, same_name_equiv};
+    ghost use Rattle.topology.specs.Names.{same_name, same_name_equiv};
 
     ghost eq = { same_name };
 
@@ -61,7 +61,7 @@ impl PartialEq for Name {
 }
 
 impl Eq for Name {
-    ghost use Rattle.td_base.specs.Names.{same_name_equiv};
+    ghost use Rattle.topology.specs.Names.{same_name_equiv};
 
     ghost laws = { same_name_equiv };
 }
