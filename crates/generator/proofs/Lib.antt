@@ -1,0 +1,5 @@
+mod Decided
+mod Fitting
+mod EventRules
+mod Names
+mod Stream

@@ -1,0 +1,5 @@
+use Rattle.generator.proofs.EventRules.{made_events_are}
+use Rattle.generator.proofs.generated.generate.Goals as goal
+
+pub returns-clause-legal : goal.returns-clause-legal
+returns-clause-legal c = made_events_are _ _ c.args.seed c.args.count c.in_ok-generated_nodes.ensures c.in_ok-generated_events.ensures c.requires.few

@@ -1,0 +1,3 @@
+pub mod GeneratedNodes
+pub mod GeneratedEvent
+pub mod Generated
