@@ -1,5 +1,5 @@
 //! Laws of every journal of a client.
-ghost use Rattle.client_rules.specs.Laws.{FateOfReception, FateOfTransmission, NextMentions, TriesTouch, JournalIsTried};
+ghost use Rattle.client_rules.specs.Laws.{FateOfReception, FateOfTransmission, ReceptionIsWarranted, TransmissionIsWarranted, NextMentions, TriesTouch, JournalIsTried};
 
 /// What is done with a datagram has the fate of its line.
 pub fn fate_of_reception()
@@ -9,6 +9,16 @@ pub fn fate_of_reception()
 /// So has what is done with a packet of the host.
 pub fn fate_of_transmission()
     ensures { FateOfTransmission }
+{}
+
+/// A datagram has a fate other than a drop's only by the line of that fate.
+pub fn reception_is_warranted()
+    ensures { ReceptionIsWarranted }
+{}
+
+/// So has a packet of the host.
+pub fn transmission_is_warranted()
+    ensures { TransmissionIsWarranted }
 {}
 
 /// One further entry is one further mention, and a change of address ends all.

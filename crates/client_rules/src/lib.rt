@@ -27,6 +27,7 @@ mod laws;
 mod limits;
 
 pub use laws::{
-    fate_of_reception, fate_of_transmission, journal_is_tried, next_mentions, tries_touch,
+    fate_of_reception, fate_of_transmission, journal_is_tried, next_mentions, reception_is_warranted,
+    transmission_is_warranted, tries_touch,
 };
 pub use limits::{TEST_ID, TEST_SEQ};
