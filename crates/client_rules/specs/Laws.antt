@@ -1,13 +1,16 @@
 -- What holds of every client's tables and journals.
 use Rattle.std.specs.Prelude.{◌≡◌, ◌≤◌, ℕ, true, if◌then◌else◌, List, [], ◌∷◌}
 use Rattle.td_base.specs.declared.endpoint.Ep.{Ep}
+use Rattle.bubble.specs.Reads.{value_in}
 use Rattle.teredo_node.specs.Journal.{Entry, Journal, Words, is_changed}
 use Rattle.peer_list.specs.Laws.{IsTried}
 use Rattle.qualify.specs.declared.settings.Settings.{Settings}
+use Rattle.qualify.specs.Advertisements.{heard}
 use Rattle.client_rules.specs.Bearings.{mention, mentions}
 use Rattle.client_rules.specs.Standing.{Standing}
-use Rattle.client_rules.specs.Reception.{reception_fate, reception}
+use Rattle.client_rules.specs.Reception.{seen, reception_fate, reception}
 use Rattle.client_rules.specs.Transmission.{transmission_row, given, transmission}
+use Rattle.client_rules.specs.Warrants.{ReceivedOnlyIf, SentOnlyIf}
 use Rattle.client_rules.specs.Journals.{last_moment, IsJournal}
 
 -- THE TABLES
@@ -18,6 +21,14 @@ FateOfReception = (s : Settings) (a : Standing) (from : Ep) (x : List ℕ) (w : 
 
 abbrev pub FateOfTransmission : Type 0
 FateOfTransmission = (s : Settings) (a : Standing) (x : List ℕ) (w : Words) → (transmission s a x w).fate ≡ transmission_row (given s a x)
+
+-- what was seen of a datagram with a fate, and of a packet of the host
+abbrev pub ReceptionIsWarranted : Type 0
+ReceptionIsWarranted = (s : Settings) (a : Standing) (from : Ep) (x : List ℕ)
+    → ReceivedOnlyIf (reception_fate s a from x) (seen s a from x) (heard s a.qualification from (value_in x))
+
+abbrev pub TransmissionIsWarranted : Type 0
+TransmissionIsWarranted = (s : Settings) (a : Standing) (x : List ℕ) → SentOnlyIf (transmission_row (given s a x)) (given s a x)
 
 -- MENTIONS
 
