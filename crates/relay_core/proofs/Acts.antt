@@ -1,7 +1,6 @@
 -- What is done with a payload by one line.
-use Rattle.std.proofs.Common.{◌≡◌, ◌≤◌, ◌+◌, ◌-◌, ℕ, List, length, Some, refl, ap, sym, subst, ◌∙◌, arith}
+use Rattle.std.proofs.Common.{◌≡◌, ◌≤◌, ◌+◌, ◌-◌, ℕ, List, length, Some, refl, ap, sym, subst, arith}
 use Rattle.std.proofs.Math.Nat.{le_refl}
-use Rattle.td_base.specs.declared.ipv6.Ip6.{Ip6}
 use Rattle.td_base.specs.declared.endpoint.Ep.{Ep}
 use Rattle.td_base.specs.declared.span.Span.{Span}
 use Rattle.teredo_addr.specs.Teredo.{embedded}

@@ -1,5 +1,5 @@
 -- One entry more: what a relay then stands for.
-use Rattle.std.proofs.Common.{◌≡◌, ◌≤◌, ℕ, Bool, true, false, cond, List, ◌∷◌, Option, Some, None, refl, sym, ap, ◌∙◌, subst}
+use Rattle.std.proofs.Common.{◌≡◌, ◌≤◌, ℕ, Bool, true, false, List, [], ◌∷◌, Option, Some, None, refl, sym, ap, ◌∙◌, subst}
 use Rattle.std.specs.Prelude.{unwrap_or, if◌then◌else◌}
 use Rattle.std.proofs.Math.Nat.{le_refl, le_trans}
 use Rattle.td_base.specs.Ip6.{same_ip6, same_ip6-true}
@@ -10,9 +10,9 @@ use Rattle.peer_list.specs.declared.limits.TheConstants.{LISTED_MS}
 use Rattle.peer_list.specs.Peers.{Peer, no_peer}
 use Rattle.peer_list.specs.Judged.{is_within}
 use Rattle.peer_list.specs.Laws.{after}
-use Rattle.peer_list.specs.Table.{Table, while_listed, peer_in, known_to}
+use Rattle.peer_list.specs.Table.{Table, empty_table, while_listed, peer_in, known_to}
 use Rattle.peer_list.specs.Calls.{Updates}
-use Rattle.peer_list.specs.Stands.{MeansNothing}
+use Rattle.peer_list.specs.Stands.{StandsForMentions, MeansNothing}
 use Rattle.relay_core.specs.declared.relay.Relay.{Relay}
 use Rattle.relay_rules.specs.Bearings.{mention, mentions}
 use Rattle.relay_rules.specs.Laws.{IsQuiet}
@@ -41,6 +41,14 @@ quiet_next old new m who peer clock u quiet before n p l cone = by_who (same_ip6
   by_who false is =
       subst (λ (o : Option Peer). IsQuiet (unwrap_or o no_peer)) (sym (u.view n p (subst (λ (k : ℕ). k ≤ n) u.moment l) ∙ ap (λ (t : Bool). if t then while_listed n peer else peer_in old n p) is))
       (before n p (le_trans clock (subst (λ (k : ℕ). k ≤ n) u.moment l)) cone)
+
+-- nobody is listed at first
+pub nobody_stands : (r : Relay) → r.peers ≡ empty_table → StandsForMentions r.peers [] → RelayStandsFor r []
+unfolding mentions peer_in
+nobody_stands r is stands = record {
+  peers = stands;
+  quiet = λ n p l cone. subst (λ (t : Table). IsQuiet (known_to t n p)) (sym is) quiet_none;
+}
 
 -- ONE ENTRY MORE
 

@@ -1,10 +1,10 @@
 -- When something is due of a relay, and how much.
-use Rattle.std.proofs.Common.{◌≡◌, ◌≤◌, ◌<◌, ◌+◌, ℕ, Bool, true, false, Option, Some, None, refl, ap, sym, subst, ◌∙◌, arith, List}
+use Rattle.std.proofs.Common.{◌≡◌, ◌≤◌, ◌+◌, ℕ, Bool, true, false, Option, Some, None, refl, ap, sym, subst, ◌∙◌, arith, List}
 use Rattle.std.specs.Prelude.{if◌then◌else◌, option_map, unwrap_or, is_some, nat_lt, nat_le, nat_eq}
 use Rattle.std.specs.Ordering.{nat_cmp, is_lt}
 use Rattle.std.specs.declared.cmp.Ordering.TheVariants.{Less, Equal, Greater}
 use Rattle.std.proofs.Math.Nat.{le_refl}
-use Rattle.std.proofs.lemmas.Bool.{false≢true, lt-leb, le-leb, leb-false, ltb-true, ltb-false}
+use Rattle.std.proofs.lemmas.Bool.{false≢true, lt-leb, leb-false, ltb-false}
 use Rattle.td_base.specs.declared.ipv6.Ip6.{Ip6}
 use Rattle.td_base.specs.declared.millis.Millis.{Millis}
 use Rattle.teredo_node.specs.declared.fate.Fate.TheVariants as fate
@@ -17,12 +17,12 @@ use Rattle.peer_list.specs.Judged.{is_none, is_within, due_of}
 use Rattle.peer_list.specs.Waiting.{Listing}
 use Rattle.peer_list.specs.Table.{Table, while_listed, known_to, first_due_in, due_and_who}
 use Rattle.peer_list.specs.Calls.{Updates, tried_at, emptied}
-use Rattle.peer_list.specs.Overdue.{while_due, overdue_in, IsPutOff}
+use Rattle.peer_list.specs.Overdue.{while_due, overdue_in}
 use Rattle.relay_core.specs.declared.relay.Relay.{Relay}
 use Rattle.relay_rules.specs.Ticks.{due_at}
 use Rattle.relay_rules.specs.Journals.{relay_due}
 use Rattle.relay_core.specs.Relay.{RelayStandsFor, AsBefore}
-use Rattle.relay_core.specs.Endpoint.{owing, IsOverdue, PutsOff}
+use Rattle.relay_core.specs.Endpoint.{owing, IsOverdue, DoesDue}
 use Rattle.relay_core.proofs.Below.{nothing_overdue, first_overdue, less_overdue, found_is_listed, touched_is_listed}
 use Rattle.relay_core.proofs.Read.{read_same}
 
@@ -66,10 +66,10 @@ rests_too r n k some = let none = nothing_due r.peers n k in absurd (omega (arit
 
 -- A TICK WHERE A PEER IS DUE
 
-pub put_off_idles : (old new : Relay) (n : ℕ) (step : Step) → PutsOff old new n step → Idles (owing old n) (AsBefore old new) step
+pub put_off_idles : (old new : Relay) (n : ℕ) (step : Step) → DoesDue old new n step → Idles (owing old n) (AsBefore old new) step
 put_off_idles old new n step p none = let less = p.less in absurd (omega (arith, less, none))
 
-pub put_off_lessens : (old new : Relay) (n : ℕ) (step : Step) → PutsOff old new n step → Lessens (owing old n) (owing new n) step
+pub put_off_lessens : (old new : Relay) (n : ℕ) (step : Step) → DoesDue old new n step → Lessens (owing old n) (owing new n) step
 put_off_lessens old new n step p some = (p.less, p.busy)
 
 none_by : (b : Bool) (p : Peer) → is_none (if b then emptied p else no_peer).waiting ≡ true
@@ -82,7 +82,7 @@ emptied_stays n p h = by_test (is_within LISTED_MS n p.touched) h where
   by_test true k = refl
   by_test false k = absurd (false≢true (ap (λ (o : Option Peer). is_some o) k))
 
-pub given_up : (old new : Relay) (n : ℕ) (who : Ip6) (step : Step) → IsOverdue old.peers n who → Updates old.peers new.peers n who (emptied (known_to old.peers n who)) → step.fate ≡ fate.GiveUp → PutsOff old new n step
+pub given_up : (old new : Relay) (n : ℕ) (who : Ip6) (step : Step) → IsOverdue old.peers n who → Updates old.peers new.peers n who (emptied (known_to old.peers n who)) → step.fate ≡ fate.GiveUp → DoesDue old new n step
 given_up old new n who step d u f =
     let known = known_to old.peers n who in
     record {
@@ -101,7 +101,7 @@ tried_over n p =
     let later : nat_le (due_of (tried_at n None p)) n ≡ false = ap (λ (m : ℕ). nat_le m n) (tried_later n p) ∙ lt-leb (n + 2000) n (omega arith) in
     ap (λ (b : Bool). is_none (if b then tried_at n None p else no_peer).waiting) later
 
-pub tried_off : (old new : Relay) (n : ℕ) (who : Ip6) (step : Step) → IsOverdue old.peers n who → Updates old.peers new.peers n who (tried_at n None (known_to old.peers n who)) → step.fate ≡ fate.Bubbles → PutsOff old new n step
+pub tried_off : (old new : Relay) (n : ℕ) (who : Ip6) (step : Step) → IsOverdue old.peers n who → Updates old.peers new.peers n who (tried_at n None (known_to old.peers n who)) → step.fate ≡ fate.Bubbles → DoesDue old new n step
 tried_off old new n who step d u f =
     let known = known_to old.peers n who in
     record {
@@ -134,39 +134,13 @@ named_by t n at who (Some l) e k =
 pub named : (t : Table) (n : ℕ) (at : Millis) (who : Ip6) → option_map due_and_who (first_due_in t n) ≡ Some (at, who) → IsNamed t n at who
 named t n at who k = named_by t n at who (first_due_in t n) refl k
 
--- where it is due by now
-pub due_named : (t : Table) (n : ℕ) (at : Millis) (who : Ip6) → IsNamed t n at who → at.0 ≤ n → due_at n (first_due_in t n) ≡ Some (listed_at t n who)
-due_named t n at who k l =
-    let past : nat_le (due_of (known_to t n who)) n ≡ true = le-leb (due_of (known_to t n who)) n (omega (arith, k.at_moment, l)) in
-    ap (λ (o : Option Listing). due_at n o) k.first ∙ ap (λ (b : Bool). if b then Some (listed_at t n who) else None) past
-
+-- it is overdue, where that is by now
 pub overdue_named : (t : Table) (n : ℕ) (at : Millis) (who : Ip6) → IsNamed t n at who → at.0 ≤ n → IsOverdue t n who
 overdue_named t n at who k l =
     let f = first_overdue t n (listed_at t n who) k.first in
     record { listed = f.listed; waits = f.waits; due = omega (arith, k.at_moment, l) }
 
--- where it isn't
-pub later_named : (t : Table) (n : ℕ) (at : Millis) (who : Ip6) → IsNamed t n at who → n < at.0 → due_at n (first_due_in t n) ≡ None
-later_named t n at who k l =
-    let later : nat_le (due_of (known_to t n who)) n ≡ false = lt-leb (due_of (known_to t n who)) n (omega (arith, k.at_moment, l)) in
-    ap (λ (o : Option Listing). due_at n o) k.first ∙ ap (λ (b : Bool). if b then Some (listed_at t n who) else None) later
-
--- and where nobody is
-none_by_map : (n : ℕ) (o : Option Listing) → option_map due_and_who o ≡ None → due_at n o ≡ None
-none_by_map n None k = refl
-none_by_map n (Some l) k = absurd (false≢true (sym (ap (λ (o : Option (Millis × Ip6)). is_some o) k)))
-
-pub none_named : (t : Table) (n : ℕ) → option_map due_and_who (first_due_in t n) ≡ None → due_at n (first_due_in t n) ≡ None
-none_named t n k = none_by_map n (first_due_in t n) k
-
--- a moment that another is before, or isn't
-pub before : (a b : ℕ) → is_lt (nat_cmp a b) ≡ true → a < b
-before a b h = by_test (nat_lt a b) (nat_eq a b) refl h where
-  by_test : (t e : Bool) → nat_lt a b ≡ t → is_lt (if t then Less else (if e then Equal else Greater)) ≡ true → a < b
-  by_test true e is k = ltb-true a b is
-  by_test false true is k = absurd (false≢true k)
-  by_test false false is k = absurd (false≢true k)
-
+-- a moment that another isn't before
 pub not_before : (a b : ℕ) → is_lt (nat_cmp a b) ≡ false → b ≤ a
 not_before a b h = by_test (nat_lt a b) refl where
   by_test : (t : Bool) → nat_lt a b ≡ t → b ≤ a

@@ -1,6 +1,5 @@
 -- What is done at a tick, for each journal.
-use Rattle.std.proofs.Common.{◌≡◌, ◌≤◌, ℕ, Bool, true, false, List, [], ◌∷◌, Option, Some, None, refl, ap, sym, subst, ◌∙◌}
-use Rattle.std.specs.Prelude.{if◌then◌else◌, is_some}
+use Rattle.std.proofs.Common.{◌≡◌, ◌≤◌, ℕ, Bool, false, List, [], ◌∷◌, Option, Some, None, refl, ap, sym, subst, ◌∙◌}
 use Rattle.std.proofs.lemmas.Bool.{false≢true}
 use Rattle.td_base.specs.declared.ipv6.Ip6.{Ip6}
 use Rattle.teredo_node.specs.declared.fate.Fate.TheVariants as fate
@@ -10,11 +9,10 @@ use Rattle.teredo_node.specs.Journal.{Entry, ticked}
 use Rattle.peer_list.specs.Peers.{Peer}
 use Rattle.peer_list.specs.Judged.{is_none, is_spent}
 use Rattle.peer_list.specs.Waiting.{Listing}
-use Rattle.peer_list.specs.Table.{Table, known_to, first_due_in}
+use Rattle.peer_list.specs.Table.{known_to, first_due_in}
 use Rattle.peer_list.specs.Calls.{Updates, tried_at, emptied}
 use Rattle.peer_list.specs.Stands.{about_nobody}
 use Rattle.relay_core.specs.declared.relay.Relay.{Relay}
-use Rattle.relay_rules.specs.Standing.{RelaySettings}
 use Rattle.relay_rules.specs.Transmission.{bubble_to}
 use Rattle.relay_rules.specs.Ticks.{due_at, peer_of_due, tries_peer, tick}
 use Rattle.relay_rules.specs.Journals.{entry, first_peer, relay_tick}

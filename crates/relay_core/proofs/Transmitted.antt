@@ -3,7 +3,6 @@ use Rattle.std.proofs.Common.{◌≡◌, ◌≤◌, ℕ, Bool, true, false, List
 use Rattle.std.specs.Prelude.{if◌then◌else◌, unwrap_or, is_some}
 use Rattle.std.proofs.lemmas.Bool.{ltb-false, false≢true}
 use Rattle.td_base.specs.declared.ipv6.Ip6.{Ip6}
-use Rattle.td_base.specs.declared.endpoint.Ep.{Ep}
 use Rattle.ipv6_packet.specs.Packets.{Fields}
 use Rattle.ipv6_packet.specs.Reads.{is_packet, fields_in, is_big}
 use Rattle.teredo_addr.specs.Teredo.{embedded, has_cone, unspecified}
@@ -24,7 +23,7 @@ use Rattle.relay_rules.specs.Transmission.{given_of, queues, transmission_row, t
 use Rattle.relay_rules.specs.Transmission as table
 use Rattle.relay_rules.specs.Journals.{entry, relay_six}
 use Rattle.relay_rules.specs.Laws.{IsQuiet}
-use Rattle.relay_core.specs.Relay.{settings_of, standing_in, RelayStandsFor, Enters, Does, TriesUnless, WantsMemory, waits, lists}
+use Rattle.relay_core.specs.Relay.{settings_of, standing_in, RelayStandsFor, Enters, Does, TriesUnless, WantsMemory, to_wait, to_list}
 use Rattle.relay_core.specs.Lines.{DropsPacket, given_to}
 use Rattle.relay_core.proofs.Below.{calls_of_an_entry, fate_of_transmission}
 use Rattle.relay_core.proofs.Entered.{bears_enters, none_enters, none_stands}
@@ -110,7 +109,7 @@ sent_cone old mid new n who x l cone listed trusted same =
     })
 
 -- the table after a packet that waits, and a try unless the peer is barred
-pub record Queues (old : Relay) (n : ℕ) (who : Ip6) (x : List ℕ) (barred : Bool) (new : Relay) : Type 0 where
+pub record Waits (old : Relay) (n : ℕ) (who : Ip6) (x : List ℕ) (barred : Bool) (new : Relay) : Type 0 where
   pub clock : old.peers.moment ≤ n
   pub plain : has_cone who ≡ false
   pub mid : Table
@@ -118,7 +117,7 @@ pub record Queues (old : Relay) (n : ℕ) (who : Ip6) (x : List ℕ) (barred : B
   pub tries : TriesUnless barred mid n who new.peers
   pub settings : settings_of new ≡ settings_of old
 
-pub queued : (old new : Relay) (n : ℕ) (who : Ip6) (x : List ℕ) (barred : Bool) → Queues old n who x barred new
+pub queued : (old new : Relay) (n : ℕ) (who : Ip6) (x : List ℕ) (barred : Bool) → Waits old n who x barred new
     → Enters old (entry n (from_six x) (Some x) (Some who) (queues barred (settings_of old) who)) new
 queued old new n who x true k =
     let known = known_to old.peers n who in
@@ -176,12 +175,12 @@ fate_there r j n x p h l is =
     fate_of_transmission (settings_of r) (standing_of j n (destination_in x)) x ∙ (λ i. transmission_row (given_of (settings_of r) (a i) (is.packet i) (is.fields i)))
 
 pub wants_queue : (r : Relay) (n : ℕ) (x : List ℕ) (p : Fields) → IsFields x p → r.peers.moment ≤ n → fate.Queued ≡ transmission_row (given_to r n p) → WantsMemory r n x
-wants_queue r n x p is l row j h = waits (fate_there r j n x p h l is ∙ sym row)
+wants_queue r n x p is l row j h = to_wait (fate_there r j n x p h l is ∙ sym row)
 
 pub wants_place : (r : Relay) (n : ℕ) (x : List ℕ) (p : Fields) → IsFields x p → r.peers.moment ≤ n → fate.SentCone ≡ transmission_row (given_to r n p)
     → is_some (peer_in r.peers n p.dst) ≡ false → WantsMemory r n x
 wants_place r n x p is l row unlisted j h =
-    lists (fate_there r j n x p h l is ∙ sym row)
+    to_list (fate_there r j n x p h l is ∙ sym row)
     (ap (λ (q : Option Ip6). is_some (peer_at (mentions j) n (unwrap_or q unspecified))) (destination_there x p is)
     ∙ ap (λ (q : Option Peer). is_some q) (sym ((read_same r j n h l).peer p.dst))
     ∙ unlisted)

@@ -26,7 +26,7 @@ pub record IsOverdue (t : Table) (n : ℕ) (who : Ip6) : Type 0 where
   pub waits : is_none (known_to t n who).waiting ≡ false
   pub due : due_of (known_to t n who) ≤ n
 
--- something was done, and less is due after it
-pub record PutsOff (old new : Relay) (n : ℕ) (step : Step) : Type 0 where
+-- what was due was done: less is due after it
+pub record DoesDue (old new : Relay) (n : ℕ) (step : Step) : Type 0 where
   pub less : owing new n < owing old n
   pub busy : step.fate ≡ Idle → ⊥

@@ -1,5 +1,5 @@
 -- What a relay keeps, the journals that it stands for, and what a call does for each of them (RFC 4380, section 5.4).
-use Rattle.std.specs.Prelude.{◌≡◌, ◌≤◌, ◌<◌, ◌+◌, ℕ, Bool, true, false, List, ◌∷◌, length, Option, Some, None, is_some, unwrap_or}
+use Rattle.std.specs.Prelude.{◌≡◌, ◌≤◌, ◌<◌, ◌+◌, ℕ, Bool, true, false, List, ◌∷◌, length, Some, None, is_some, unwrap_or}
 use Rattle.td_base.specs.declared.ipv6.Ip6.{Ip6}
 use Rattle.td_base.specs.declared.endpoint.Ep.{Ep}
 use Rattle.td_outside.specs.declared.clock.TheConstants.{CLOCK_END_MS}
@@ -66,13 +66,13 @@ pub record AsBefore (old new : Relay) : Type 0 where
 -- WHERE MEMORY MAY BE WANTING
 
 -- the line of a packet lets it wait, or sends it to an address with the cone bit that isn't listed yet
-pub data Keeping (r : Relay) (n : ℕ) (x : List ℕ) (j : List Entry) : Type 0 where
-  waits : (next_entry r j n (from_six x)).step.fate ≡ fate.Queued → Keeping r n x j
-  lists : (next_entry r j n (from_six x)).step.fate ≡ fate.SentCone
-      → is_some (peer_at (mentions j) n (unwrap_or (destination_in x) unspecified)) ≡ false → Keeping r n x j
+pub data TakesRoom (r : Relay) (n : ℕ) (x : List ℕ) (j : List Entry) : Type 0 where
+  to_wait : (next_entry r j n (from_six x)).step.fate ≡ fate.Queued → TakesRoom r n x j
+  to_list : (next_entry r j n (from_six x)).step.fate ≡ fate.SentCone
+      → is_some (peer_at (mentions j) n (unwrap_or (destination_in x) unspecified)) ≡ false → TakesRoom r n x j
 
 abbrev pub WantsMemory : Relay → ℕ → List ℕ → Type 0
-WantsMemory r n x = (j : List Entry) → RelayStandsFor r j → Keeping r n x j
+WantsMemory r n x = (j : List Entry) → RelayStandsFor r j → TakesRoom r n x j
 
 -- THE LAST ENTRY OF ITS JOURNALS
 

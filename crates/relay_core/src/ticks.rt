@@ -7,7 +7,7 @@ ghost use Rattle.peer_list.specs.Table.{known_to, first_due_in};
 ghost use Rattle.relay_rules.specs.Journals.{entry};
 ghost use Rattle.relay_rules.specs.Ticks.{due_at, tries_peer};
 ghost use Rattle.relay_core.specs.Relay.{settings_of, IsCallable, Enters, Does, AsBefore};
-ghost use Rattle.relay_core.specs.Endpoint.{IsRelayDue, owing, IsOverdue, PutsOff};
+ghost use Rattle.relay_core.specs.Endpoint.{IsRelayDue, owing, IsOverdue, DoesDue};
 
 use crate::relay::Relay;
 use td_base::{Ip6, Millis};
@@ -53,7 +53,7 @@ impl Relay {
         requires overdue { IsOverdue self.old.peers now.0 who }
         ensures step { step.new ≡ tries_peer true (settings_of self.old) (record { who = who; peer = known_to self.old.peers now.0 who }) }
         ensures entered { Enters self.old (entry now.0 ticked None (Some who) step.new) self.new }
-        ensures less { PutsOff self.old self.new now.0 step.new }
+        ensures less { DoesDue self.old self.new now.0 step.new }
     {
         let gone = self.peers.give_up(now, who);
         step.reset(Fate::GiveUp);
@@ -66,17 +66,25 @@ impl Relay {
         requires overdue { IsOverdue self.old.peers now.0 who }
         ensures step { step.new ≡ tries_peer false (settings_of self.old) (record { who = who; peer = known_to self.old.peers now.0 who }) }
         ensures entered { Enters self.old (entry now.0 ticked None (Some who) step.new) self.new }
-        ensures less { PutsOff self.old self.new now.0 step.new }
+        ensures less { DoesDue self.old self.new now.0 step.new }
     {
         self.send_bubble(who, Fate::Bubbles, step);
         self.peers.tried(now, who, None);
     }
 
-    /// When the next try at a peer is due.
+    /// When something is due: a try at a peer, or the end of the packets that wait for it.
     pub(crate) fn next_due(&self, now: Millis) -> Option<Millis>
         requires callable { IsCallable self.now now.0 }
         ensures told { IsRelayDue self.now now.0 result }
         ensures first { IsFirstDue (owing self.now) now.0 result }
+    {
+        self.first_try(now)
+    }
+
+    /// When the next try at a peer is due.
+    fn first_try(&self, now: Millis) -> Option<Millis>
+        requires clock { self.now.peers.moment ≤ now.0 }
+        ensures { option_map (λ m. m.0) result ≡ option_map (λ l. due_of l.peer) (first_due_in self.now.peers now.0) }
     {
         let (at, _) = self.peers.due(now)?;
         Some(at)

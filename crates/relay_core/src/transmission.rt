@@ -91,7 +91,13 @@ impl Relay {
     }
 
     /// Sends a packet to a client behind a cone NAT, which is listed and trusted from now on.
-    fn send_cone(&mut self, now: Millis, who: Ip6, bytes: &[u8], step: &mut Step) -> Result<(), NoMemory>
+    fn send_cone(
+        &mut self,
+        now: Millis,
+        who: Ip6,
+        bytes: &[u8],
+        step: &mut Step,
+    ) -> Result<(), NoMemory>
         requires callable { IsCallable self.old now.0 }
         requires room { has_room_in self.old.peers now.0 who ≡ true }
         requires cone { has_cone who ≡ true }
@@ -109,7 +115,13 @@ impl Relay {
     }
 
     /// Lets a packet wait, and tries its destination unless that is barred.
-    fn queue(&mut self, now: Millis, who: Ip6, bytes: &[u8], step: &mut Step) -> Result<(), NoMemory>
+    fn queue(
+        &mut self,
+        now: Millis,
+        who: Ip6,
+        bytes: &[u8],
+        step: &mut Step,
+    ) -> Result<(), NoMemory>
         requires callable { IsCallable self.old now.0 }
         requires room { has_room_in self.old.peers now.0 who ≡ true }
         requires plain { has_cone who ≡ false }
