@@ -64,7 +64,7 @@ impl Relay {
         requires callable { IsCallable self.old now.0 }
         ensures { Does self.old now.0 (arrived from bytes.now) step.new self.new }
     {
-        // malformed: our choice
+        // malformed: RFC 4380, section 5.4.2
         let Ok(payload) = bubble::read(bytes) else {
             step.reset(Fate::Malformed);
             return;

@@ -50,7 +50,7 @@ pub fn line_for(relay: &Relay, now: Millis, packet: &Packet<'_>) -> Transmission
     if !is_foreign(packet.src) {
         return TransmissionLine::Drop(Fate::Source);
     }
-    // embedded: RFC 4380, section 5.4.1
+    // embedded: our choice
     if !is_reachable(relay, packet.dst) {
         return TransmissionLine::Drop(Fate::Embedded);
     }
