@@ -59,18 +59,18 @@ nothing_due : (t : Table) (n : ℕ) → due_at n (first_due_in t n) ≡ None →
 nothing_due t n k = nothing_by t n (first_due_in t n) refl k
 
 pub rests : (r : Relay) (n : ℕ) → Idles (owing r n) (AsBefore r r) (just fate.Idle)
-rests r n none = (refl, record { stands = λ j h. h; settings = refl })
+rests r n owed = (refl, record { stands = λ j h. h; settings = refl })
 
 pub rests_too : (r : Relay) (n : ℕ) → due_at n (first_due_in r.peers n) ≡ None → Lessens (owing r n) (owing r n) (just fate.Idle)
-rests_too r n k some = let none = nothing_due r.peers n k in absurd (omega (arith, none, some))
+rests_too r n k owed = let idle = nothing_due r.peers n k in absurd (omega (arith, idle, owed))
 
 -- A TICK WHERE A PEER IS DUE
 
 pub put_off_idles : (old new : Relay) (n : ℕ) (step : Step) → DoesDue old new n step → Idles (owing old n) (AsBefore old new) step
-put_off_idles old new n step p none = let less = p.less in absurd (omega (arith, less, none))
+put_off_idles old new n step p owed = let less = p.less in absurd (omega (arith, less, owed))
 
 pub put_off_lessens : (old new : Relay) (n : ℕ) (step : Step) → DoesDue old new n step → Lessens (owing old n) (owing new n) step
-put_off_lessens old new n step p some = (p.less, p.busy)
+put_off_lessens old new n step p owed = (p.less, p.busy)
 
 none_by : (b : Bool) (p : Peer) → is_none (if b then emptied p else no_peer).waiting ≡ true
 none_by true p = refl

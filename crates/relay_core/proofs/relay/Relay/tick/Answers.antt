@@ -14,11 +14,11 @@ pub returns-in_default : goal.returns-in_default
 returns-in_default c =
     let r = c.args.self.now in
     let n = c.args.now.0 in
-    let none : due_now r n ≡ None = c.due_peer.ensures.first ∙ ap (λ (o : Option Ip6). option_map (λ (who : Ip6). listing r n who) o) c.in_default.is in
+    let nobody : due_now r n ≡ None = c.due_peer.ensures.first ∙ ap (λ (o : Option Ip6). option_map (λ (who : Ip6). listing r n who) o) c.in_default.is in
     record {
-      done = subst (λ (s : Step). Does r n ticked s r) (sym c.reset.ensures) (idles r n c.requires.callable.clock none);
+      done = subst (λ (s : Step). Does r n ticked s r) (sym c.reset.ensures) (idles r n c.requires.callable.clock nobody);
       idle = subst (λ (s : Step). Idles (owing r n) (AsBefore r r) s) (sym c.reset.ensures) (rests r n);
-      less = subst (λ (s : Step). Lessens (owing r n) (owing r n) s) (sym c.reset.ensures) (rests_too r n none);
+      less = subst (λ (s : Step). Lessens (owing r n) (owing r n) s) (sym c.reset.ensures) (rests_too r n nobody);
     }
 
 pub returns-then-is_spent : goal.returns-then-is_spent
