@@ -1,5 +1,5 @@
 -- What holds of every record that follows, whatever nodes there are.
-use Rattle.std.specs.Prelude.{◌≡◌, ◌≤◌, ◌+◌, ℕ, List, ◌∷◌, ◌++◌, length, slice_get, Some}
+use Rattle.std.specs.Prelude.{◌≡◌, ◌≤◌, ◌<◌, ◌+◌, ℕ, true, List, ◌∷◌, ◌++◌, length, slice_get, Some}
 use Rattle.history.specs.declared.event.Event.{Event}
 use Rattle.topology.specs.Rows.{TopologyState}
 use Rattle.history.specs.Full.{Item, Full, wire, items_of}
@@ -7,9 +7,11 @@ use Rattle.history.specs.Telling.{IsTold}
 use Rattle.nat_kinds.specs.Laws.{IsPast}
 use Rattle.topology.specs.declared.nat_node.NatNode.{NatNode}
 use Rattle.topology.specs.Topology.{nat_at, nat_settings}
-use Rattle.legal.specs.Past.{Draws, now, nat_history}
+use Rattle.topology.specs.Rules.{IsTopology}
+use Rattle.legal.specs.Past.{Draws, now, has_more, nat_history}
 use Rattle.legal.specs.Next.{next_of}
-use Rattle.legal.specs.Legal.{Grown}
+use Rattle.legal.specs.Legal.{Follows, Grown}
+use Rattle.legal.specs.Left.{left}
 
 -- the record after H is of event number i, and its entries come behind those of the wire
 pub record IsOf (H : List Full) (i : ℕ) (e : Event) (r : Full) : Type 0 where
@@ -46,3 +48,8 @@ EachIsTold = (d : Draws) (t : TopologyState) (H : List Full) (i : ℕ) (e : Even
 -- that the history before it answers, and moments don't fall
 abbrev pub EachNatIsPast : Type 0
 EachNatIsPast = (d : Draws) (t : TopologyState) (H : List Full) (k : ℕ) (a : NatNode) → Grown d t H → nat_at t k ≡ Some a → IsPast (nat_settings a) (nat_history t k H) (now H)
+
+-- after a record that has further ones, less is left
+abbrev pub EachFalls : Type 0
+EachFalls = (d : Draws) (t : TopologyState) (H : List Full) (r : Full) → IsTopology t → Grown d t H → Follows d t H r
+    → has_more r.asked r.act ≡ true → left t (r ∷ H) < left t H
