@@ -135,7 +135,7 @@ same_due laws s j m n end e l says =
 
 tried_by : ClientLaws → (s : Settings) (j : Journal) (m n end : ℕ) (w : Words) (l : Listing) (step : Step) → m ≤ n → first_peer j n ≡ Some l
     → let e : Entry = entry n ticked None (Some l.who) w step in
-      is_changed step.fate ≡ false → turn step.fate ≡ says_nothing → peer_weight end n (after (mention e) l.peer) < peer_weight end n l.peer
+    is_changed step.fate ≡ false → turn step.fate ≡ says_nothing → peer_weight end n (after (mention e) l.peer) < peer_weight end n l.peer
     → weights end n (moments s (with_entry j e) n) < weights end m (moments s j m)
 tried_by laws s j m n end w l step le first keeps says less =
     let e : Entry = entry n ticked None (Some l.who) w step in

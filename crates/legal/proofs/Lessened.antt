@@ -151,7 +151,7 @@ advance_ticks d t H i ms None e more is = absurd (false≢true more)
 advance_ticks d t H i ms (Some a) e more is = by (nat_le a.moment (began H + ms)) refl more is where
   by : (b : Bool) → nat_le a.moment (began H + ms) ≡ b
       → let r : Full = cond b (acts d t H (numbered i (event.Advance ms)) act.Tick None (max a.moment (now H)) a.number no_ep ticked a.node) (advanced H (numbered i (event.Advance ms)) (began H + ms)) in
-        has_more (event.Advance ms) r.act ≡ true → next_of d t H i (event.Advance ms) ≡ r → IsTick d t H i (event.Advance ms)
+      has_more (event.Advance ms) r.act ≡ true → next_of d t H i (event.Advance ms) ≡ r → IsTick d t H i (event.Advance ms)
   by true le more is = record { ms = ms; x = a; asked = refl; due = least_is t H a e; within = leb-true a.moment (began H + ms) le; is = is }
   by false le more is = absurd (false≢true more)
 

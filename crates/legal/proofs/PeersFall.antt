@@ -325,7 +325,7 @@ let_go end n old new waits due within none =
     omega (arith, is, nothing, some)
 
 -- a try puts it off
-pub tried_later : (n : ℕ) (who : Option Ip6) (nonce : Option ℕ) (peer : Peer)
-    → n < due_of (after (record { moment = n; peer = who; bearing = record no_bearing { touches = true; tries = true; nonce = nonce } }) peer)
+pub tried_later : (n : ℕ) (who : Option Ip6) (drawn : Option ℕ) (peer : Peer)
+    → n < due_of (after (record { moment = n; peer = who; bearing = record no_bearing { touches = true; tries = true; nonce = drawn } }) peer)
 unfolding due_of
-tried_later n who nonce peer = omega arith
+tried_later n who drawn peer = omega arith
