@@ -202,7 +202,7 @@ held : Turns → TurnsAtStart → (s : Settings) (start : ℕ) (j : List Entry) 
 held turns first s start [] a = subst (λ q. IsHeld q []) (sym (first s start)) (at_start s start)
 held turns first s start (e ∷ j) a =
     subst (λ q. IsHeld q (epoch (e ∷ j))) (sym (turns s (journal start j) e))
-        (next s (qualification s (journal start j)) e (epoch j) (effect s (journal start j) e a.0) (held turns first s start j a.1))
+    (next s (qualification s (journal start j)) e (epoch j) (effect s (journal start j) e a.0) (held turns first s start j a.1))
 
 pub qualified_has_address : Turns → TurnsAtStart → QualifiedHasAddress
 qualified_has_address turns first s j a = (held turns first s j.start j.entries a).addressed
@@ -237,4 +237,4 @@ unfolding mentions
 waiting_is_own turns first one s j n p a =
     let own = (qualification s j).address in
     kept one (λ x. AllByRecursion (IsOwnTo own (Some p)) x.waiting) (λ m. IfSome m.bearing.queues (IsOwnTo own (Some p))) (waiting_is_kept (IsOwnTo own (Some p))) p (map mention (epoch j.entries))
-        (own_mentions own p (epoch j.entries) (held turns first s j.start j.entries a).queued) n
+    (own_mentions own p (epoch j.entries) (held turns first s j.start j.entries a).queued) n

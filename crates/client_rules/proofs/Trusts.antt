@@ -59,9 +59,9 @@ of_datagram s a n from x w p teredo about =
     let seen_so = reception_is_warranted s a from x in
     let h = heard s a.qualification from (value_in x) in
     trusted_by (reception s a from x w).fate (entry n (arrived from x) (packet_in x) (source_in x) w (reception s a from x w)) (IsThere p)
-        (λ k. absurd (never_tested s a from x p teredo is (subst (λ f. ReceivedOnlyIf f (seen s a from x) h) (fate_is ∙ k) seen_so)))
-        (λ k. sent_there s a from x p false is (subst (λ f. ReceivedOnlyIf f (seen s a from x) h) (fate_is ∙ k) seen_so))
-        (λ k. sent_there s a from x p true is (subst (λ f. ReceivedOnlyIf f (seen s a from x) h) (fate_is ∙ k) seen_so))
+    (λ k. absurd (never_tested s a from x p teredo is (subst (λ f. ReceivedOnlyIf f (seen s a from x) h) (fate_is ∙ k) seen_so)))
+    (λ k. sent_there s a from x p false is (subst (λ f. ReceivedOnlyIf f (seen s a from x) h) (fate_is ∙ k) seen_so))
+    (λ k. sent_there s a from x p true is (subst (λ f. ReceivedOnlyIf f (seen s a from x) h) (fate_is ∙ k) seen_so))
 
 of_entry : (s : Settings) (j : Journal) (n : ℕ) (input : Input) (w : Words) (p : Ip6) → is_teredo p ≡ true → TrustsThere p (client_entry s j n input w)
 unfolding client_in client_out client_tick

@@ -1,5 +1,5 @@
 //! Laws of every journal of a client.
-ghost use Rattle.client_rules.specs.Laws.{FateOfReception, FateOfTransmission, ReceptionIsWarranted, TransmissionIsWarranted, NextMentions, TriesTouch, JournalIsTried};
+ghost use Rattle.client_rules.specs.Laws.{FateOfReception, FateOfTransmission, ReceptionIsWarranted, TransmissionIsWarranted, NextMentions, TriesTouch, JournalIsTried, JournalHasFew};
 ghost use Rattle.client_rules.specs.Epochs.{QualifiedHasAddress, QualifiedStays, QueuedIsOwn, NoneQueued, WaitingIsOwn, TrustedIsEmbedded};
 
 /// What is done with a datagram has the fate of its line.
@@ -82,4 +82,12 @@ pub fn trusted_is_embedded()
     ensures { TrustedIsEmbedded }
 {
     peer_list::one_entry();
+}
+
+/// Each entry that touches a peer finds room for it, so no more than 256 are listed.
+pub fn journal_has_few()
+    ensures { JournalHasFew }
+{
+    peer_list::first_waits();
+    peer_list::few_listed();
 }
