@@ -2,7 +2,7 @@
 use Rattle.std.proofs.Common.{◌≡◌, ◌&&◌, not, ℕ, Bool, true, false, cond, List, [], ◌∷◌, ◌++◌, Option, Some, None, refl, sym, ap, subst, ◌∙◌}
 use Rattle.std.specs.Prelude.{IfSome, is_some, nat_lt}
 use Rattle.std.specs.List.{AllByRecursion}
-use Rattle.std.proofs.lemmas.Bool.{true≢false, false≢true}
+use Rattle.std.proofs.lemmas.Bool.{false≢true}
 use Rattle.td_base.specs.Ip6.{same_ip6-true}
 use Rattle.td_base.specs.declared.ipv6.Ip6.{Ip6}
 use Rattle.td_base.specs.declared.endpoint.Ep.{Ep}
@@ -34,7 +34,7 @@ use Rattle.client_rules.specs.Journals.{entry, client_in, client_out, ticks, cli
 use Rattle.client_rules.specs.Warrants.{SentOnlyIf, GoesLater}
 use Rattle.client_rules.specs.Epochs.{IsOwnTo}
 use Rattle.client_rules.proofs.Fates.{fate_of_reception, fate_of_transmission}
-use Rattle.client_rules.proofs.Lines.{ByLines, by_lines, not_false}
+use Rattle.client_rules.proofs.Lines.{by_lines, not_false}
 use Rattle.client_rules.proofs.Given.{transmission_is_warranted}
 
 -- FATES
@@ -97,13 +97,23 @@ by_phase Symmetric same o h = (record { still = λ q. absurd (false≢true q); t
 by_phase OffLine same o h = (record { still = λ q. absurd (false≢true q); told = λ _. h }, refl)
 
 advertised : (h : Heard) (phase : Phase) (o : Option Ep) → h.phase ≡ phase → (h.usable_origin ≡ true → is_some o ≡ true) → IsReceived phase o (first_line (advert_lines h) (phase_line h.phase h.same_origin))
-advertised h phase o is some = by_lines (λ f. IsReceived phase o f) (advert_lines h) (phase_line h.phase h.same_origin)
-    ((λ _. (plain phase o fate.Nonce refl refl, refl)), (λ _.
-    ((λ _. (plain phase o fate.AdvertSource refl refl, refl)), (λ _.
-    ((λ _. (plain phase o fate.Origin refl refl, refl)), (λ usable.
-    ((λ _. (plain phase o fate.Prefix refl refl, refl)), (λ _.
-    ((λ _. (plain phase o fate.Prefix refl refl, refl)), (λ _.
-    subst (λ ph. IsReceived phase o (phase_line ph h.same_origin)) (sym is) (by_phase phase h.same_origin o (some (not_false h.usable_origin usable)))))))))))))
+advertised h phase o is some = by_lines (λ f. IsReceived phase o f) (advert_lines h) (phase_line h.phase h.same_origin) (
+  (λ _. (plain phase o fate.Nonce refl refl, refl)),
+  (λ _. (
+    (λ _. (plain phase o fate.AdvertSource refl refl, refl)),
+    (λ _. (
+      (λ _. (plain phase o fate.Origin refl refl, refl)),
+      (λ usable. (
+        (λ _. (plain phase o fate.Prefix refl refl, refl)),
+        (λ _. (
+          (λ _. (plain phase o fate.Prefix refl refl, refl)),
+          (λ _.
+              subst (λ ph. IsReceived phase o (phase_line ph h.same_origin)) (sym is) (by_phase phase h.same_origin o (some (not_false h.usable_origin usable)))),
+        )),
+      )),
+    )),
+  )),
+)
 
 received_row : (a : Seen) (phase : Phase) (o : Option Ep) (advert : Fate) → IsReceived phase o advert → IsReceived phase o (reception_row a advert)
 received_row a phase o advert h =
@@ -111,19 +121,19 @@ received_row a phase o advert h =
     let direct : P (first_line (direct_lines a ++ []) fate.Suspicious) = skip P (direct_lines a) [] fate.Suspicious ((plain phase o fate.Rule1Bubble refl refl, refl), ((plain phase o fate.Rule1 refl refl, refl), ((plain phase o fate.Rule2 refl refl, refl), ((plain phase o fate.PeersFull refl refl, refl), ((plain phase o fate.Rule3Bubble refl refl, refl), ((plain phase o fate.Rule3 refl refl, refl), ((plain phase o fate.Mismatch refl refl, refl), ((plain phase o fate.SuspiciousTest refl refl, refl), tt)))))))) (plain phase o fate.Suspicious refl refl, refl) in
     let inner : List (Bool × Fate) = packet_lines a ++ (indirect_lines a ++ direct_lines a) in
     let packet : P (first_line inner fate.Suspicious) = skip P (packet_lines a) (indirect_lines a ++ direct_lines a) fate.Suspicious ((plain phase o fate.Off refl refl, refl), ((plain phase o fate.NotMine refl refl, refl), ((plain phase o fate.Itself refl refl, refl), tt)))
-        (skip P (indirect_lines a) (direct_lines a) fate.Suspicious ((plain phase o fate.Origin refl refl, refl), ((plain phase o fate.PeersFull refl refl, refl), ((plain phase o fate.Barred refl refl, refl), ((plain phase o fate.Indirect refl refl, refl), tt)))) direct) in
+    (skip P (indirect_lines a) (direct_lines a) fate.Suspicious ((plain phase o fate.Origin refl refl, refl), ((plain phase o fate.PeersFull refl refl, refl), ((plain phase o fate.Barred refl refl, refl), ((plain phase o fate.Indirect refl refl, refl), tt)))) direct) in
     skip P (datagram_lines a) ((a.from_server && a.ill_formed, fate.Icmp) ∷ (a.from_server && a.advert, advert) ∷ (a.from_server && not (a.bubble && a.origin), fate.ServerOther) ∷ inner) fate.Suspicious
-        ((plain phase o fate.Malformed refl refl, refl), ((plain phase o fate.Keyed refl refl, refl), ((plain phase o fate.Confirmation refl refl, refl), ((plain phase o fate.Big refl refl, refl), tt))))
-        (skip_one P (a.from_server && a.ill_formed) fate.Icmp ((a.from_server && a.advert, advert) ∷ (a.from_server && not (a.bubble && a.origin), fate.ServerOther) ∷ inner) fate.Suspicious (plain phase o fate.Icmp refl refl, refl)
-        (skip_one P (a.from_server && a.advert) advert ((a.from_server && not (a.bubble && a.origin), fate.ServerOther) ∷ inner) fate.Suspicious h
-        (skip_one P (a.from_server && not (a.bubble && a.origin)) fate.ServerOther inner fate.Suspicious (plain phase o fate.ServerOther refl refl, refl) packet)))
+    ((plain phase o fate.Malformed refl refl, refl), ((plain phase o fate.Keyed refl refl, refl), ((plain phase o fate.Confirmation refl refl, refl), ((plain phase o fate.Big refl refl, refl), tt))))
+    (skip_one P (a.from_server && a.ill_formed) fate.Icmp ((a.from_server && a.advert, advert) ∷ (a.from_server && not (a.bubble && a.origin), fate.ServerOther) ∷ inner) fate.Suspicious (plain phase o fate.Icmp refl refl, refl)
+    (skip_one P (a.from_server && a.advert) advert ((a.from_server && not (a.bubble && a.origin), fate.ServerOther) ∷ inner) fate.Suspicious h
+    (skip_one P (a.from_server && not (a.bubble && a.origin)) fate.ServerOther inner fate.Suspicious (plain phase o fate.ServerOther refl refl, refl) packet)))
 
 received : (s : Settings) (a : Standing) (from : Ep) (x : List ℕ) → IsReceived a.qualification.phase (origin_in (value_in x).lead) (reception_fate s a from x)
 unfolding reception_fate advert_row
 received s a from x =
     let h = heard s a.qualification from (value_in x) in
     received_row (seen s a from x) a.qualification.phase (origin_in (value_in x).lead) (first_line (advert_lines h) (phase_line h.phase h.same_origin))
-        (advertised h a.qualification.phase (origin_in (value_in x).lead) refl (usable_some s.policy (origin_in (value_in x).lead)))
+    (advertised h a.qualification.phase (origin_in (value_in x).lead) refl (usable_some s.policy (origin_in (value_in x).lead)))
 
 -- ENTRIES
 
@@ -173,7 +183,9 @@ queued_at s a n x w step g = record {
   qualified = g.out.qualified;
   there = is_there (is_packet x) x g.out.packet;
   packet = if_there (is_packet x) x (λ y. IsOwnTo (Some (own_address a.qualification)) (cond (is_packet x) (Some (fields_in x).dst) None) y) (record {
-    well_formed = g.out.packet; short = g.out.short; no_bubble = g.out.no_bubble;
+    well_formed = g.out.packet;
+    short = g.out.short;
+    no_bubble = g.out.no_bubble;
     source = ap Some (sym (same_ip6-true (fields_in x).src (own_address a.qualification) g.out.own_source));
     destination = is_that (is_packet x) (fields_in x).dst g.out.packet;
   });

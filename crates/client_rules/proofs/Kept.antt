@@ -32,8 +32,8 @@ pub kept : OneEntry → (Q : Peer → Type 0) (R : Mention → Type 0) → IsKep
 kept one Q R k p [] a n = subst Q (sym (known_none n p)) k.none
 kept one Q R k p (e ∷ ms) a n =
     subst (λ o. Q (unwrap_or o no_peer)) (sym (one e ms n p))
-        (kept_if Q R k e (is_about p e) e.bearing.touches (is_young LISTED_MS n e.moment) (peer_at ms e.moment p) (peer_at ms n p) a.0
-            (kept one Q R k p ms a.1 e.moment) (kept one Q R k p ms a.1 n))
+    (kept_if Q R k e (is_about p e) e.bearing.touches (is_young LISTED_MS n e.moment) (peer_at ms e.moment p) (peer_at ms n p) a.0
+    (kept one Q R k p ms a.1 e.moment) (kept one Q R k p ms a.1 n))
 
 -- PACKETS THAT WAIT
 

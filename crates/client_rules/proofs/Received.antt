@@ -1,19 +1,16 @@
 -- What was seen of a datagram where it has a fate.
-use Rattle.std.proofs.Common.{◌≡◌, ◌&&◌, not, Bool, true, false, List, [], ◌∷◌, ◌++◌, ℕ, refl}
-use Rattle.td_base.specs.declared.endpoint.Ep.{Ep}
+use Rattle.std.proofs.Common.{◌≡◌, ◌&&◌, not, Bool, true, false, ◌++◌, refl}
 use Rattle.bubble.specs.Reads.{value_in}
 use Rattle.teredo_node.specs.declared.fate.Fate.{Fate}
 use Rattle.teredo_node.specs.declared.fate.Fate.TheVariants as fate
 use Rattle.teredo_node.specs.Rows.{first_line}
-use Rattle.qualify.specs.declared.settings.Settings.{Settings}
 use Rattle.qualify.specs.declared.phase.Phase.{Phase}
 use Rattle.qualify.specs.declared.phase.Phase.TheVariants.{Cone, Restricted, Secondary, Qualified, Symmetric, OffLine}
 use Rattle.qualify.specs.Advertisements.{Heard, heard, advert_lines, phase_line, advert_row}
-use Rattle.client_rules.specs.Standing.{Standing}
 use Rattle.client_rules.specs.Reception.{Seen, seen, datagram_lines, server_lines, packet_lines, indirect_lines, direct_lines, reception_row, reception_fate}
-use Rattle.client_rules.specs.Warrants.{IsSound, IsAdvert, IsForClient, IsIndirect, IsDirect, IsTrusted, IsTested, IsEmbedded, IsSuspect, ReceivedOnlyIf}
+use Rattle.client_rules.specs.Warrants.{IsSound, IsAdvert, IsForClient, IsIndirect, IsDirect, IsTested, IsSuspect, ReceivedOnlyIf}
 use Rattle.client_rules.specs.Laws.{ReceptionIsWarranted}
-use Rattle.client_rules.proofs.Lines.{ByLines, by_lines, not_false, not_true, and_first, and_second, fails_with}
+use Rattle.client_rules.proofs.Lines.{by_lines, not_false, not_true, and_first, and_second, fails_with}
 
 -- THE SERVER'S ADVERTISEMENTS
 
@@ -34,8 +31,15 @@ record IsUnrefused (h : Heard) : Type 0 where
 
 is_advert : (f : Fate) (a : Seen) (h : Heard) → IsHeard a → IsUnrefused h → phase_line h.phase h.same_origin ≡ f → IsAdvert f a h
 is_advert f a h b u e = record {
-  sound = b.sound; server = b.server; well_formed = b.well_formed; advert = b.advert;
-  open_nonce = u.open_nonce; from_expected = u.from_expected; usable_origin = u.usable_origin; one_prefix = u.one_prefix; own_prefix = u.own_prefix;
+  sound = b.sound;
+  server = b.server;
+  well_formed = b.well_formed;
+  advert = b.advert;
+  open_nonce = u.open_nonce;
+  from_expected = u.from_expected;
+  usable_origin = u.usable_origin;
+  one_prefix = u.one_prefix;
+  own_prefix = u.own_prefix;
   phase = e;
 }
 
@@ -50,16 +54,29 @@ by_phase a h Symmetric same is = tt
 by_phase a h OffLine same is = tt
 
 advertised : (a : Seen) (h : Heard) → IsHeard a → ReceivedOnlyIf (first_line (advert_lines h) (phase_line h.phase h.same_origin)) a h
-advertised a h b = by_lines (λ f. ReceivedOnlyIf f a h) (advert_lines h) (phase_line h.phase h.same_origin)
-    ((λ _. tt), (λ nonce.
-    ((λ _. tt), (λ from.
-    ((λ _. tt), (λ origin.
-    ((λ _. tt), (λ one.
-    ((λ _. tt), (λ own.
-    by_phase a h h.phase h.same_origin (λ f e. is_advert f a h b (record {
-      open_nonce = not_false h.open_nonce nonce; from_expected = not_false h.from_expected from; usable_origin = not_false h.usable_origin origin;
-      one_prefix = not_false h.one_prefix one; own_prefix = not_false h.own_prefix own;
-    }) e)))))))))))
+advertised a h b = by_lines (λ f. ReceivedOnlyIf f a h) (advert_lines h) (phase_line h.phase h.same_origin) (
+  (λ _. tt),
+  (λ nonce. (
+    (λ _. tt),
+    (λ from. (
+      (λ _. tt),
+      (λ origin. (
+        (λ _. tt),
+        (λ one. (
+          (λ _. tt),
+          (λ own.
+              by_phase a h h.phase h.same_origin (λ f e. is_advert f a h b (record {
+                open_nonce = not_false h.open_nonce nonce;
+                from_expected = not_false h.from_expected from;
+                usable_origin = not_false h.usable_origin origin;
+                one_prefix = not_false h.one_prefix one;
+                own_prefix = not_false h.own_prefix own;
+              }) e)),
+        )),
+      )),
+    )),
+  )),
+)
 
 -- PACKETS OF PEERS
 
@@ -67,7 +84,8 @@ advertised a h b = by_lines (λ f. ReceivedOnlyIf f a h) (advert_lines h) (phase
 indirect : (a : Seen) → IsForClient a → a.from_server && not (a.bubble && a.origin) ≡ false
     → a.from_server && not a.good_origin ≡ false → a.from_server && not a.room ≡ false → a.from_server && a.barred ≡ false → a.from_server ≡ true → IsIndirect a
 indirect a mine bubble origin room barred server = record {
-  mine = mine; server = server;
+  mine = mine;
+  server = server;
   bubble = and_first a.bubble a.origin (not_false (a.bubble && a.origin) (fails_with a.from_server (not (a.bubble && a.origin)) server bubble));
   origin = not_false a.good_origin (fails_with a.from_server (not a.good_origin) server origin);
   room = not_false a.room (fails_with a.from_server (not a.room) server room);
@@ -79,7 +97,8 @@ tested a direct untrusted h =
     let listed = and_second (not a.teredo) (a.listed && (not a.fresh && a.reply)) h in
     let stale = and_second a.listed (not a.fresh && a.reply) listed in
     record {
-      direct = direct; untrusted = untrusted;
+      direct = direct;
+      untrusted = untrusted;
       native = not_true a.teredo (and_first (not a.teredo) (a.listed && (not a.fresh && a.reply)) h);
       listed = and_first a.listed (not a.fresh && a.reply) listed;
       stale = not_true a.fresh (and_first (not a.fresh) a.reply stale);
@@ -94,7 +113,9 @@ suspect a direct untrusted native h =
     let room = and_second (not a.barred) (a.room && (not a.bubble && not a.echo_reply)) unbarred in
     let kind = and_second a.room (not a.bubble && not a.echo_reply) room in
     record {
-      direct = direct; untrusted = untrusted; native = native;
+      direct = direct;
+      untrusted = untrusted;
+      native = native;
       global = and_first a.global (not a.fresh && (not a.barred && (a.room && (not a.bubble && not a.echo_reply)))) h;
       stale = not_true a.fresh (and_first (not a.fresh) (not a.barred && (a.room && (not a.bubble && not a.echo_reply))) stale);
       unbarred = not_true a.barred (and_first (not a.barred) (a.room && (not a.bubble && not a.echo_reply)) unbarred);
@@ -105,44 +126,96 @@ suspect a direct untrusted native h =
 
 -- from a peer itself
 directly : (a : Seen) (h : Heard) → IsDirect a → ReceivedOnlyIf (first_line (direct_lines a) fate.Suspicious) a h
-directly a h direct = by_lines (λ f. ReceivedOnlyIf f a h) (direct_lines a) fate.Suspicious
-    ((λ both. record { direct = direct; trusted = and_first a.trusted_here a.bubble both; kind = and_second a.trusted_here a.bubble both }), (λ bubble.
-    ((λ trusted. record { direct = direct; trusted = trusted; kind = fails_with a.trusted_here a.bubble trusted bubble }), (λ untrusted.
-    ((λ all. tested a direct untrusted all), (λ _.
-    ((λ _. tt), (λ room.
-    ((λ both. record { direct = direct; untrusted = untrusted; embedded = and_first a.embedded_here a.bubble both;
-        room = not_false a.room (fails_with a.embedded_here (not a.room) (and_first a.embedded_here a.bubble both) room); kind = and_second a.embedded_here a.bubble both }), (λ bubble_too.
-    ((λ here. record { direct = direct; untrusted = untrusted; embedded = here;
-        room = not_false a.room (fails_with a.embedded_here (not a.room) here room); kind = fails_with a.embedded_here a.bubble here bubble_too }), (λ _.
-    ((λ _. tt), (λ native.
-    ((λ all. suspect a direct untrusted native all), (λ _. tt))))))))))))))))
+directly a h direct = by_lines (λ f. ReceivedOnlyIf f a h) (direct_lines a) fate.Suspicious (
+  (λ both. record { direct = direct; trusted = and_first a.trusted_here a.bubble both; kind = and_second a.trusted_here a.bubble both }),
+  (λ bubble. (
+    (λ trusted. record { direct = direct; trusted = trusted; kind = fails_with a.trusted_here a.bubble trusted bubble }),
+    (λ untrusted. (
+      (λ all. tested a direct untrusted all),
+      (λ _. (
+        (λ _. tt),
+        (λ room. (
+          (λ both. record {
+            direct = direct;
+            untrusted = untrusted;
+            embedded = and_first a.embedded_here a.bubble both;
+            room = not_false a.room (fails_with a.embedded_here (not a.room) (and_first a.embedded_here a.bubble both) room);
+            kind = and_second a.embedded_here a.bubble both;
+          }),
+          (λ bubble_too. (
+            (λ here. record {
+              direct = direct;
+              untrusted = untrusted;
+              embedded = here;
+              room = not_false a.room (fails_with a.embedded_here (not a.room) here room);
+              kind = fails_with a.embedded_here a.bubble here bubble_too;
+            }),
+            (λ _. (
+              (λ _. tt),
+              (λ native.
+                  ((λ all. suspect a direct untrusted native all), (λ _. tt))),
+            )),
+          )),
+        )),
+      )),
+    )),
+  )),
+)
 
 -- to the client
 addressed : (a : Seen) (h : Heard) → IsForClient a → a.from_server && not (a.bubble && a.origin) ≡ false → ReceivedOnlyIf (first_line (indirect_lines a ++ direct_lines a) fate.Suspicious) a h
-addressed a h mine bubble = by_lines (λ f. ReceivedOnlyIf f a h) (indirect_lines a) (first_line (direct_lines a) fate.Suspicious)
-    ((λ _. tt), (λ origin.
-    ((λ _. tt), (λ room.
-    ((λ _. tt), (λ barred.
-    ((λ server. indirect a mine bubble origin room barred server), (λ peer.
-    directly a h (record { mine = mine; direct = peer })))))))))
+addressed a h mine bubble = by_lines (λ f. ReceivedOnlyIf f a h) (indirect_lines a) (first_line (direct_lines a) fate.Suspicious) (
+  (λ _. tt),
+  (λ origin. (
+    (λ _. tt),
+    (λ room. (
+      (λ _. tt),
+      (λ barred. (
+        (λ server. indirect a mine bubble origin room barred server),
+        (λ peer.
+            directly a h (record { mine = mine; direct = peer })),
+      )),
+    )),
+  )),
+)
 
 -- THE WHOLE
 
 row : (a : Seen) (h : Heard) → ReceivedOnlyIf (reception_row a (first_line (advert_lines h) (phase_line h.phase h.same_origin))) a h
-row a h = by_lines (λ f. ReceivedOnlyIf f a h) (datagram_lines a ++ (server_lines a (first_line (advert_lines h) (phase_line h.phase h.same_origin)) ++ packet_lines a)) (first_line (indirect_lines a ++ direct_lines a) fate.Suspicious)
-    ((λ _. tt), (λ payload.
-    ((λ _. tt), (λ unkeyed.
-    ((λ _. tt), (λ unconfirmed.
-    ((λ _. tt), (λ short.
-    let sound : IsSound a = record { payload = not_false a.payload payload; unkeyed = unkeyed; unconfirmed = unconfirmed; short = short } in
-    ((λ _. tt), (λ well.
-    ((λ both. let server = and_first a.from_server a.advert both in
-        advertised a h (record { sound = sound; server = server; well_formed = fails_with a.from_server a.ill_formed server well; advert = and_second a.from_server a.advert both })), (λ _.
-    ((λ _. tt), (λ bubble.
-    ((λ _. tt), (λ qualified.
-    ((λ _. tt), (λ mine.
-    ((λ _. tt), (λ foreign.
-    addressed a h (record { sound = sound; qualified = not_false a.qualified qualified; mine = not_false a.mine mine; foreign = foreign }) bubble))))))))))))))))))))
+row a h = by_lines (λ f. ReceivedOnlyIf f a h) (datagram_lines a ++ (server_lines a (first_line (advert_lines h) (phase_line h.phase h.same_origin)) ++ packet_lines a)) (first_line (indirect_lines a ++ direct_lines a) fate.Suspicious) (
+  (λ _. tt),
+  (λ payload. (
+    (λ _. tt),
+    (λ unkeyed. (
+      (λ _. tt),
+      (λ unconfirmed. (
+        (λ _. tt),
+        (λ short.
+            let sound : IsSound a = record { payload = not_false a.payload payload; unkeyed = unkeyed; unconfirmed = unconfirmed; short = short } in (
+              (λ _. tt),
+              (λ well. (
+                (λ both. let server = and_first a.from_server a.advert both in
+                    advertised a h (record { sound = sound; server = server; well_formed = fails_with a.from_server a.ill_formed server well; advert = and_second a.from_server a.advert both })),
+                (λ _. (
+                  (λ _. tt),
+                  (λ bubble. (
+                    (λ _. tt),
+                    (λ qualified. (
+                      (λ _. tt),
+                      (λ mine. (
+                        (λ _. tt),
+                        (λ foreign.
+                            addressed a h (record { sound = sound; qualified = not_false a.qualified qualified; mine = not_false a.mine mine; foreign = foreign }) bubble),
+                      )),
+                    )),
+                  )),
+                )),
+              )),
+            )),
+      )),
+    )),
+  )),
+)
 
 pub reception_is_warranted : ReceptionIsWarranted
 unfolding reception_fate advert_row
