@@ -8,20 +8,19 @@ use Rattle.td_base.specs.declared.ipv6.Ip6.{Ip6}
 use Rattle.td_base.specs.declared.endpoint.Ep.{Ep}
 use Rattle.teredo_addr.specs.Teredo.{unspecified, has_cone, flags_of, teredo_ip}
 use Rattle.teredo_node.specs.declared.fate.Fate.TheVariants as fate
-use Rattle.teredo_node.specs.Journal.{Entry, Journal, with_entry, epoch, is_changed}
+use Rattle.teredo_node.specs.Journal.{Entry, Journal, epoch, is_changed}
 use Rattle.peer_list.specs.Mentions.{Mention, is_peer, is_about}
-use Rattle.peer_list.specs.Peers.{known}
 use Rattle.peer_list.specs.Laws.{OneEntry}
 use Rattle.qualify.specs.declared.settings.Settings.{Settings}
 use Rattle.qualify.specs.declared.phase.Phase.{Phase}
 use Rattle.qualify.specs.declared.phase.Phase.TheVariants.{Cone, Restricted, Secondary, Qualified, Symmetric, OffLine}
-use Rattle.qualify.specs.Turns.{Turn, asks_cone, asks_restricted, asks_secondary, ends, refreshes, qualifies, is_answered, differs, is_same, renews, says_nothing, turn, turn_of, begins, leaves, origin_given}
+use Rattle.qualify.specs.Turns.{Turn, asks_cone, asks_restricted, asks_secondary, ends, refreshes, qualifies, is_answered, differs, is_same, renews, says_nothing, turn_of, begins, leaves, origin_given}
 use Rattle.qualify.specs.Turns.{is_changed as changes_turn}
-use Rattle.qualify.specs.Qualification.{first_phase, address_of, address_after, Qualification, qualification}
+use Rattle.qualify.specs.Qualification.{first_phase, address_after, Qualification, qualification}
 use Rattle.qualify.specs.Solicitations.{is_qualified, own_address}
-use Rattle.qualify.specs.Laws.{fresh, Tidings, tidings, goes_on, turned, Turns, TurnsAtStart}
-use Rattle.client_rules.specs.Bearings.{bearing_of, mention, mentions}
-use Rattle.client_rules.specs.Journals.{journal, client_entry, Follows, AreEntries, IsJournal}
+use Rattle.qualify.specs.Laws.{fresh, tidings, goes_on, turned, Turns, TurnsAtStart}
+use Rattle.client_rules.specs.Bearings.{mention, mentions}
+use Rattle.client_rules.specs.Journals.{journal, Follows, AreEntries}
 use Rattle.client_rules.specs.Epochs.{IsOwnTo, QueuesOwn, QualifiedHasAddress, QualifiedStays, QueuedIsOwn, NoneQueued, WaitingIsOwn}
 use Rattle.client_rules.proofs.Bearings.{queued_by, changes, changes_alike}
 use Rattle.client_rules.proofs.Entered.{sets, IsQueuedAt, IsEffect, of_entry}

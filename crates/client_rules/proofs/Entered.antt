@@ -2,7 +2,7 @@
 use Rattle.std.proofs.Common.{◌≡◌, ◌&&◌, not, ℕ, Bool, true, false, cond, List, [], ◌∷◌, ◌++◌, Option, Some, None, refl, sym, ap, subst, ◌∙◌}
 use Rattle.std.specs.Prelude.{IfSome, is_some, nat_lt}
 use Rattle.std.specs.List.{AllByRecursion}
-use Rattle.std.proofs.lemmas.Bool.{true≢false, false≢true}
+use Rattle.std.proofs.lemmas.Bool.{false≢true}
 use Rattle.td_base.specs.Ip6.{same_ip6-true}
 use Rattle.td_base.specs.declared.ipv6.Ip6.{Ip6}
 use Rattle.td_base.specs.declared.endpoint.Ep.{Ep}
@@ -34,7 +34,7 @@ use Rattle.client_rules.specs.Journals.{entry, client_in, client_out, ticks, cli
 use Rattle.client_rules.specs.Warrants.{SentOnlyIf, GoesLater}
 use Rattle.client_rules.specs.Epochs.{IsOwnTo}
 use Rattle.client_rules.proofs.Fates.{fate_of_reception, fate_of_transmission}
-use Rattle.client_rules.proofs.Lines.{ByLines, by_lines, not_false}
+use Rattle.client_rules.proofs.Lines.{by_lines, not_false}
 use Rattle.client_rules.proofs.Given.{transmission_is_warranted}
 
 -- FATES

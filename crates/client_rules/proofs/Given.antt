@@ -1,11 +1,10 @@
 -- What was seen of a packet of the host where it has a fate.
-use Rattle.std.proofs.Common.{◌≡◌, not, Bool, true, false, List, ◌++◌, ℕ, refl}
-use Rattle.teredo_node.specs.declared.fate.Fate.{Fate}
+use Rattle.std.proofs.Common.{◌++◌}
 use Rattle.teredo_node.specs.declared.fate.Fate.TheVariants as fate
 use Rattle.client_rules.specs.Transmission.{Given, given, host_lines, destination_lines, transmission_row}
 use Rattle.client_rules.specs.Warrants.{GoesOut, SentOnlyIf}
 use Rattle.client_rules.specs.Laws.{TransmissionIsWarranted}
-use Rattle.client_rules.proofs.Lines.{ByLines, by_lines, not_false}
+use Rattle.client_rules.proofs.Lines.{by_lines, not_false}
 
 row : (a : Given) → SentOnlyIf (transmission_row a) a
 row a = by_lines (λ f. SentOnlyIf f a) (host_lines a ++ destination_lines a) fate.Queued (

@@ -1,19 +1,16 @@
 -- What was seen of a datagram where it has a fate.
-use Rattle.std.proofs.Common.{◌≡◌, ◌&&◌, not, Bool, true, false, List, [], ◌∷◌, ◌++◌, ℕ, refl}
-use Rattle.td_base.specs.declared.endpoint.Ep.{Ep}
+use Rattle.std.proofs.Common.{◌≡◌, ◌&&◌, not, Bool, true, false, ◌++◌, refl}
 use Rattle.bubble.specs.Reads.{value_in}
 use Rattle.teredo_node.specs.declared.fate.Fate.{Fate}
 use Rattle.teredo_node.specs.declared.fate.Fate.TheVariants as fate
 use Rattle.teredo_node.specs.Rows.{first_line}
-use Rattle.qualify.specs.declared.settings.Settings.{Settings}
 use Rattle.qualify.specs.declared.phase.Phase.{Phase}
 use Rattle.qualify.specs.declared.phase.Phase.TheVariants.{Cone, Restricted, Secondary, Qualified, Symmetric, OffLine}
 use Rattle.qualify.specs.Advertisements.{Heard, heard, advert_lines, phase_line, advert_row}
-use Rattle.client_rules.specs.Standing.{Standing}
 use Rattle.client_rules.specs.Reception.{Seen, seen, datagram_lines, server_lines, packet_lines, indirect_lines, direct_lines, reception_row, reception_fate}
-use Rattle.client_rules.specs.Warrants.{IsSound, IsAdvert, IsForClient, IsIndirect, IsDirect, IsTrusted, IsTested, IsEmbedded, IsSuspect, ReceivedOnlyIf}
+use Rattle.client_rules.specs.Warrants.{IsSound, IsAdvert, IsForClient, IsIndirect, IsDirect, IsTested, IsSuspect, ReceivedOnlyIf}
 use Rattle.client_rules.specs.Laws.{ReceptionIsWarranted}
-use Rattle.client_rules.proofs.Lines.{ByLines, by_lines, not_false, not_true, and_first, and_second, fails_with}
+use Rattle.client_rules.proofs.Lines.{by_lines, not_false, not_true, and_first, and_second, fails_with}
 
 -- THE SERVER'S ADVERTISEMENTS
 

@@ -1,5 +1,5 @@
 -- Where a client trusts another.
-use Rattle.std.proofs.Common.{◌≡◌, ℕ, Bool, true, false, cond, List, [], ◌∷◌, map, Option, Some, None, refl, sym, ap, subst, ◌∙◌}
+use Rattle.std.proofs.Common.{◌≡◌, ℕ, Bool, true, false, cond, List, [], ◌∷◌, map, Some, None, sym, ap, subst, ◌∙◌}
 use Rattle.std.specs.Prelude.{IfSome}
 use Rattle.std.specs.List.{AllByRecursion}
 use Rattle.std.proofs.lemmas.Bool.{false≢true}
@@ -10,7 +10,6 @@ use Rattle.td_base.specs.declared.endpoint.Ep.{Ep}
 use Rattle.teredo_addr.specs.Teredo.{is_teredo, embedded}
 use Rattle.bubble.specs.Reads.{is_payload, value_in}
 use Rattle.bubble.specs.PacketsIn.{packet_in, source_in}
-use Rattle.teredo_node.specs.declared.fate.Fate.TheVariants as fate
 use Rattle.teredo_node.specs.Journal.{Input, arrived, given, from_six, ticked, Entry, Journal, Words, epoch, is_changed}
 use Rattle.peer_list.specs.Mentions.{Mention, is_peer, is_about}
 use Rattle.peer_list.specs.Peers.{known}
@@ -19,7 +18,7 @@ use Rattle.qualify.specs.declared.settings.Settings.{Settings}
 use Rattle.qualify.specs.Advertisements.{heard}
 use Rattle.client_rules.specs.Bearings.{mention, mentions}
 use Rattle.client_rules.specs.Standing.{Standing, standing_of}
-use Rattle.client_rules.specs.Reception.{seen, reception_fate, reception}
+use Rattle.client_rules.specs.Reception.{seen, reception}
 use Rattle.client_rules.specs.Journals.{entry, client_in, client_out, client_tick, client_entry, journal, AreEntries}
 use Rattle.client_rules.specs.Warrants.{IsTested, IsEmbedded, ReceivedOnlyIf}
 use Rattle.client_rules.specs.Epochs.{TrustedIsEmbedded}

@@ -6,6 +6,9 @@
 //! - `specs/Journals.antt` has the entry that each input makes after a journal, and when something is due.
 //! - The journal is read once, to what is known of one address (`specs/Standing.antt`). The tables look at nothing else.
 //! - One entry more is one mention more of its peer, and the fate of a step is that of a line of its table: `laws`.
+//! - Where a datagram or a packet isn't dropped, the conditions of its line held (`specs/Warrants.antt`).
+//! - In every journal a client has an address exactly while it is qualified, what waits is from that address, and another
+//!   client is trusted at its embedded endpoint alone (`specs/Epochs.antt`).
 //!
 //! # What it does not know
 //!
@@ -20,7 +23,9 @@
 //! | a try at a peer | `specs/Tries.antt` |
 //! | datagrams, packets of the host, ticks | `specs/Reception.antt`, `Transmission.antt`, `Ticks.antt` |
 //! | the entries of a journal | `specs/Journals.antt` |
-//! | what holds of every journal | `specs/Laws.antt` |
+//! | what was seen where a fate is given | `specs/Warrants.antt` |
+//! | what holds of the tables, and of mentions | `specs/Laws.antt` |
+//! | what holds of address, waiting packets and trust | `specs/Epochs.antt` |
 #![tactic(auto)]
 
 mod laws;
