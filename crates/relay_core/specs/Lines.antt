@@ -73,6 +73,11 @@ pub record DropsPacket (f : Fate) : Type 0 where
   pub nothing : SaysNothing f
   pub step : (s : RelaySettings) (a : Standing) (x : List ℕ) (p : Ip6) → transmission_step s a x p f ≡ just f
 
+-- that a packet may go to an address at once: there is room for it, and it has the cone bit
+pub record MayPass (a : Standing) (p : Ip6) : Type 0 where
+  pub room : a.room ≡ true
+  pub cone : has_cone p ≡ true
+
 -- that a packet may wait for an address, which has no cone bit
 pub record MayWait (a : Standing) (p : Ip6) : Type 0 where
   pub room : a.room ≡ true
@@ -83,7 +88,7 @@ pub record MayWait (a : Standing) (p : Ip6) : Type 0 where
 abbrev pub WarrantsPacket : Standing → Ip6 → TransmissionLine → Type 0
 WarrantsPacket a p (six.Drop f) = DropsPacket f
 WarrantsPacket a p six.Sent = is_some a.peer ≡ true
-WarrantsPacket a p six.SentCone = a.room ≡ true
+WarrantsPacket a p six.SentCone = MayPass a p
 WarrantsPacket a p six.Queued = MayWait a p
 
 -- a packet that is sent or waits isn't big
