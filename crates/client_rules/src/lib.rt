@@ -6,6 +6,7 @@
 //! - `specs/Journals.antt` has the entry that each input makes after a journal, and when something is due.
 //! - The journal is read once, to what is known of one address (`specs/Standing.antt`). The tables look at nothing else.
 //! - One entry more is one mention more of its peer, and the fate of a step is that of a line of its table: `laws`.
+//! - Each entry that touches a peer finds room for it, so a journal never lists more than 256.
 //!
 //! # What it does not know
 //!

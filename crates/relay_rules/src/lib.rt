@@ -6,6 +6,7 @@
 //! - `specs/Journals.antt` has the entry that each input makes after a journal, and when something is due.
 //! - The journal is read once, to what is known of one address (`specs/Standing.antt`). The tables look at nothing else.
 //! - In a journal an address with the cone bit has no tries, and nothing waits for it: `laws`, with those of a client.
+//! - Each entry that touches a peer finds room for it, so a journal never lists more than 256.
 //!
 //! # What it does not know
 //!
