@@ -29,6 +29,9 @@ pub record PeerLaws : Type 0 where
 abbrev has : Ip6 → List Ip6 → Bool
 has p ps = list_any (same_ip6 p) ps
 
+abbrev without : Ip6 → List Ip6 → List Ip6
+without p ps = filter (λ q. not (same_ip6 p q)) ps
+
 -- SUMS OVER ADDRESSES
 
 less_of : (w v : Ip6 → ℕ) (p : Ip6) (ps : List Ip6) → ((q : Ip6) → w q ≤ v q) → w p < v p → has p ps ≡ true → sum_by w ps < sum_by v ps
@@ -61,20 +64,17 @@ fewer_pass w test (p ∷ ps) = by (test p) (fewer_pass w test ps) where
   by false rest = omega (arith, rest, sum_by-cons w p ps)
 
 -- one of them in front, and the others behind it
-moved : (w : Ip6 → ℕ) (p : Ip6) (ps : List Ip6) → has p ps ≡ true → sum_by w (p ∷ filter (λ q. not (same_ip6 p q)) ps) ≤ sum_by w ps
+moved : (w : Ip6 → ℕ) (p : Ip6) (ps : List Ip6) → has p ps ≡ true → sum_by w (p ∷ without p ps) ≤ sum_by w ps
 moved w p [] h = absurd (false≢true h)
 moved w p (q ∷ ps) h = by (same_ip6 p q) refl h (moved w p ps) where
-  rest : List Ip6
-  rest = filter (λ r. not (same_ip6 p r)) ps
-
-  by : (b : Bool) → same_ip6 p q ≡ b → (b || has p ps) ≡ true → (has p ps ≡ true → sum_by w (p ∷ filter (λ r. not (same_ip6 p r)) ps) ≤ sum_by w ps) → sum_by w (p ∷ cond (not b) (q ∷ filter (λ r. not (same_ip6 p r)) ps) (filter (λ r. not (same_ip6 p r)) ps)) ≤ sum_by w (q ∷ ps)
+  by : (b : Bool) → same_ip6 p q ≡ b → (b || has p ps) ≡ true → (has p ps ≡ true → sum_by w (p ∷ without p ps) ≤ sum_by w ps) → sum_by w (p ∷ cond (not b) (q ∷ without p ps) (without p ps)) ≤ sum_by w (q ∷ ps)
   by true is k before =
       let same : w p ≡ w q = ap w (same_ip6-true p q is) in
-      let few : sum_by w (filter (λ r. not (same_ip6 p r)) ps) ≤ sum_by w ps = fewer_pass w (λ r. not (same_ip6 p r)) ps in
-      omega (arith, same, few, sum_by-cons w p (filter (λ r. not (same_ip6 p r)) ps), sum_by-cons w q ps)
+      let few : sum_by w (without p ps) ≤ sum_by w ps = fewer_pass w (λ r. not (same_ip6 p r)) ps in
+      omega (arith, same, few, sum_by-cons w p (without p ps), sum_by-cons w q ps)
   by false is k before =
-      let inner : sum_by w (p ∷ filter (λ r. not (same_ip6 p r)) ps) ≤ sum_by w ps = before k in
-      omega (arith, inner, sum_by-cons w p (filter (λ r. not (same_ip6 p r)) ps), sum_by-cons w p (q ∷ filter (λ r. not (same_ip6 p r)) ps), sum_by-cons w q (filter (λ r. not (same_ip6 p r)) ps), sum_by-cons w q ps)
+      let inner : sum_by w (p ∷ without p ps) ≤ sum_by w ps = before k in
+      omega (arith, inner, sum_by-cons w p (without p ps), sum_by-cons w p (q ∷ without p ps), sum_by-cons w q (without p ps), sum_by-cons w q ps)
 
 -- WHAT PEERS WEIGH
 

@@ -54,12 +54,6 @@ weights end m ds = sum_by (λ (d : ℕ). end + 1 - max d m) (filter (λ (d : ℕ
 
 pub weights_cons : (end m d : ℕ) (ds : List ℕ) → weights end m (d ∷ ds) ≡ weight end m d + weights end m ds
 weights_cons end m d ds = by (nat_le d end) where
-  w : ℕ → ℕ
-  w x = end + 1 - max x m
-
-  rest : List ℕ
-  rest = filter (λ (x : ℕ). nat_le x end) ds
-
   by : (b : Bool) → sum_by (λ (x : ℕ). end + 1 - max x m) (cond b (d ∷ filter (λ (x : ℕ). nat_le x end) ds) (filter (λ (x : ℕ). nat_le x end) ds)) ≡ cond b (end + 1 - max d m) 0 + weights end m ds
   by true = sum_by-cons (λ (x : ℕ). end + 1 - max x m) d (filter (λ (x : ℕ). nat_le x end) ds)
   by false = omega arith

@@ -11,12 +11,7 @@ use Rattle.peer_list.specs.Mentions.{Mention, is_about, is_touch_of}
 use Rattle.peer_list.specs.Listed.{is_young, is_recent, is_listed, with_peer, touched, listed, has_room}
 use Rattle.peer_list.specs.Few.{HasRoom, FewListed}
 use Rattle.peer_list.proofs.Lists.{listed_was_touched, other_way}
-
-abbrev has : Ip6 → List Ip6 → Bool
-has p ps = list_any (same_ip6 p) ps
-
-abbrev without : Ip6 → List Ip6 → List Ip6
-without p ps = filter (λ q. not (same_ip6 p q)) ps
+use Rattle.peer_list.proofs.Orders.{has, without}
 
 -- SUMS
 
