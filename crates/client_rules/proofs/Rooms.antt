@@ -1,13 +1,12 @@
 -- Each entry that touches a peer finds room for it.
-use Rattle.std.proofs.Common.{◌≡◌, ◌≤◌, ℕ, ◌&&◌, ◌||◌, not, Bool, true, false, cond, List, [], ◌∷◌, ◌++◌, length, map, Option, Some, None, refl, sym, ap, subst, ◌∙◌}
+use Rattle.std.proofs.Common.{◌≡◌, ℕ, ◌&&◌, ◌||◌, not, Bool, true, false, cond, List, [], ◌∷◌, ◌++◌, length, map, Option, Some, None, refl, sym, ap, subst, ◌∙◌}
 use Rattle.std.specs.Prelude.{nat_lt, nat_le, unwrap_or, is_some}
 use Rattle.std.proofs.lemmas.Bool.{false≢true}
 use Rattle.td_base.specs.declared.ipv6.Ip6.{Ip6}
 use Rattle.td_base.specs.declared.endpoint.Ep.{Ep}
 use Rattle.bubble.specs.Payloads.{Value}
-use Rattle.bubble.specs.Reads.{is_payload, value_in}
+use Rattle.bubble.specs.Reads.{value_in}
 use Rattle.bubble.specs.PacketsIn.{source_in, destination_in}
-use Rattle.ipv6_packet.specs.Reads.{is_packet, fields_in}
 use Rattle.teredo_node.specs.declared.fate.Fate.{Fate}
 use Rattle.teredo_node.specs.declared.fate.Fate.TheVariants as fate
 use Rattle.teredo_node.specs.Rows.{first_line}
@@ -17,7 +16,7 @@ use Rattle.peer_list.specs.Mentions.{Mention}
 use Rattle.peer_list.specs.Listed.{is_listed, listed, has_room}
 use Rattle.peer_list.specs.Peers.{Peer, no_peer, peer_at}
 use Rattle.peer_list.specs.Judged.{is_trusted_at, is_fresh, due_of}
-use Rattle.peer_list.specs.Waiting.{Listing, first_due}
+use Rattle.peer_list.specs.Waiting.{Listing}
 use Rattle.peer_list.specs.Laws.{FirstWaits}
 use Rattle.peer_list.specs.Few.{HasRoom, HaveRoom, FewListed}
 use Rattle.qualify.specs.declared.settings.Settings.{Settings}
@@ -27,11 +26,11 @@ use Rattle.qualify.specs.Qualification.{Qualification, qualification}
 use Rattle.qualify.specs.Solicitations.{is_due}
 use Rattle.qualify.specs.Advertisements.{heard, advert_lines, phase_line, advert_row}
 use Rattle.client_rules.specs.Bearings.{bearing_of, mention, mentions}
-use Rattle.client_rules.specs.Standing.{Standing, known_in, standing_at, standing_of}
+use Rattle.client_rules.specs.Standing.{Standing, standing_at, standing_of}
 use Rattle.client_rules.specs.Reception.{Seen, seen, datagram_lines, server_lines, packet_lines, indirect_lines, trusted_lines, teredo_lines, suspicious_lines, reception_row, reception_fate}
 use Rattle.client_rules.specs.Transmission.{Given, given, host_lines, transmission_row}
 use Rattle.client_rules.specs.Ticks.{Due, asks, tries, nothing, due_at, peer_due}
-use Rattle.client_rules.specs.Journals.{client_in, client_out, client_tick, client_entry, first_peer, ticks, last_moment, journal, Follows, AreEntries}
+use Rattle.client_rules.specs.Journals.{client_in, client_out, client_tick, client_entry, first_peer, ticks, journal, AreEntries}
 use Rattle.client_rules.specs.Laws.{JournalHasFew}
 use Rattle.client_rules.proofs.Fates.{fate_of_reception, fate_of_transmission}
 use Rattle.client_rules.proofs.Tried.{journal_is_tried}

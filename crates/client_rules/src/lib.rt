@@ -9,6 +9,7 @@
 //! - Where a datagram or a packet isn't dropped, the conditions of its line held (`specs/Warrants.antt`).
 //! - In every journal a client has an address exactly while it is qualified, what waits is from that address, and another
 //!   client is trusted at its embedded endpoint alone (`specs/Epochs.antt`).
+//! - Each entry that touches a peer finds room for it, so a journal never lists more than 256.
 //!
 //! # What it does not know
 //!

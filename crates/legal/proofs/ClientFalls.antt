@@ -1,25 +1,22 @@
 -- What the due moments of a client weigh: less after a tick of it.
 use Rattle.std.proofs.Common.{◌≡◌, ◌≤◌, ◌<◌, ℕ, ◌+◌, Bool, true, false, cond, List, [], ◌∷◌, ◌++◌, length, Option, Some, None, refl, sym, ap, subst, ◌∙◌, arith}
 use Rattle.std.specs.Prelude.{nat_lt, nat_le, option_map, option_to_list, unwrap_or, is_some}
-use Rattle.std.proofs.Math.Nat.{le_refl}
 use Rattle.std.proofs.lemmas.Bool.{false≢true, leb-true, leb-false}
 use Rattle.td_base.specs.declared.ipv6.Ip6.{Ip6}
 use Rattle.td_base.specs.declared.endpoint.Ep.{Ep}
 use Rattle.teredo_addr.specs.Teredo.{is_teredo}
 use Rattle.teredo_node.specs.declared.fate.Fate.TheVariants as fate
-use Rattle.teredo_node.specs.Step.{Step, just}
+use Rattle.teredo_node.specs.Step.{Step}
 use Rattle.teredo_node.specs.Sends.{sending}
 use Rattle.teredo_node.specs.Words.{drawn_words, nonce_of_words}
 use Rattle.teredo_node.specs.Journal.{ticked, Entry, Journal, Words, with_entry, is_changed}
-use Rattle.peer_list.specs.Mentions.{Mention}
 use Rattle.peer_list.specs.Judged.{is_none, is_spent, due_of}
-use Rattle.peer_list.specs.Peers.{Peer}
-use Rattle.peer_list.specs.Waiting.{Listing, first_due}
-use Rattle.peer_list.specs.Laws.{after, IsWaiting}
+use Rattle.peer_list.specs.Waiting.{Listing}
+use Rattle.peer_list.specs.Laws.{after}
 use Rattle.qualify.specs.declared.settings.Settings.{Settings}
 use Rattle.qualify.specs.declared.phase.Phase.{Phase}
 use Rattle.qualify.specs.declared.phase.Phase.TheVariants.{Cone, Restricted, Secondary, Qualified, Symmetric, OffLine}
-use Rattle.qualify.specs.declared.limits.TheConstants.{SOLICITATIONS_MAX, SOLICITATION_GAP_MS}
+use Rattle.qualify.specs.declared.limits.TheConstants.{SOLICITATIONS_MAX}
 use Rattle.qualify.specs.Turns.{says_nothing, turn, turn_of, interval_of}
 use Rattle.qualify.specs.Qualification.{phase_of, phase_began, in_phase, asked as asked_in, due_in, nonces_in, kept_origin, address_in, last_interval, Qualification, qualification}
 use Rattle.qualify.specs.Solicitations.{own_address, is_due, due_fate, solicits_by, due_step}

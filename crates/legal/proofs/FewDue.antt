@@ -1,5 +1,5 @@
 -- How many due moments there are: at most 256 peers of each client and relay, and one moment more of each client.
-use Rattle.std.proofs.Common.{◌≡◌, ◌≤◌, ◌<◌, ℕ, suc, ◌+◌, ◌*◌, Bool, true, false, cond, List, [], ◌∷◌, ◌++◌, length, map, Option, Some, None, refl, sym, ap, subst, ◌∙◌, arith, length-append}
+use Rattle.std.proofs.Common.{◌≡◌, ◌≤◌, ℕ, suc, ◌+◌, ◌*◌, Bool, true, false, cond, List, [], ◌∷◌, ◌++◌, length, map, Option, Some, None, refl, ap, subst, arith, length-append}
 use Rattle.std.specs.Prelude.{slice_get, flat_map, option_to_list}
 use Rattle.td_base.specs.declared.ipv6.Ip6.{Ip6}
 use Rattle.peer_list.specs.declared.limits.TheConstants.{MOST_PEERS}
@@ -47,6 +47,10 @@ few_peers : (j : List Mention) (m : ℕ) → length (listed j m) ≤ MOST_PEERS 
 few_peers j m few = let each : length (peers_due j m) ≤ length (listed j m) = one_each (known j m) (listed j m) in omega (arith, each, few)
 
 -- OF NODES
+
+-- those of 64 clients and 4 relays
+abbrev pub most_due : ℕ
+most_due = 17476
 
 -- as many as a node has at most
 abbrev most : Node → ℕ
@@ -100,7 +104,7 @@ most_map f m (x ∷ xs) each =
     let one : most (f x) ≡ m = each x in
     omega (arith, rest, one)
 
-most_nodes : (t : TopologyState) → IsTopology t → most_of (nodes t) ≤ 17476
+most_nodes : (t : TopologyState) → IsTopology t → most_of (nodes t) ≤ most_due
 most_nodes t is =
     let servers : most_of (map server t.servers) ≡ length t.servers * 0 = most_map server 0 t.servers (λ x. refl) in
     let nats : most_of (map nat t.nats) ≡ length t.nats * 0 = most_map nat 0 t.nats (λ x. refl) in
@@ -122,7 +126,7 @@ most_nodes t is =
       most_append (map relay t.relays) (map native t.natives),
     )
 
-pub few_due : FewLaws → (d : Draws) (t : TopologyState) (H : List Full) → IsTopology t → Grown d t H → length (all_due t H 0 (nodes t)) ≤ 17476
+pub few_due : FewLaws → (d : Draws) (t : TopologyState) (H : List Full) → IsTopology t → Grown d t H → length (all_due t H 0 (nodes t)) ≤ most_due
 few_due laws d t H is g =
     let all : length (all_due t H 0 (nodes t)) ≤ most_of (nodes t) = among laws d t H 0 (nodes t) g (λ (k : ℕ). let same : 0 + k ≡ k = omega arith in ap (slice_get (nodes t)) same) in
     omega (arith, all, most_nodes t is)

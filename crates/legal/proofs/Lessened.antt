@@ -1,10 +1,9 @@
 -- After a tick less is left of its advance.
 use Rattle.std.proofs.Common.{◌≡◌, ◌≢◌, ◌≤◌, ◌<◌, ℕ, zero, suc, ◌+◌, ◌-◌, ◌*◌, Bool, true, false, cond, List, [], ◌∷◌, ◌++◌, length, map, mul-le-mul, Option, Some, None, refl, sym, ap, subst, ◌∙◌, arith}
-use Rattle.std.specs.Prelude.{nat_le, max, option_to_list, slice_get, unwrap_or, is_some, ◌==◌}
+use Rattle.std.specs.Prelude.{nat_le, max, option_to_list, slice_get, unwrap_or, is_some}
 use Rattle.std.specs.List.{AllByRecursion}
 use Rattle.std.proofs.lemmas.Bool.{false≢true, leb-true, eq-eqb}
-use Rattle.td_base.specs.declared.endpoint.Ep.{Ep}
-use Rattle.teredo_node.specs.Journal.{ticked, Entry, Journal, with_entry}
+use Rattle.teredo_node.specs.Journal.{ticked, Journal, with_entry}
 use Rattle.history.specs.declared.event.Event.{Event}
 use Rattle.history.specs.declared.event.Event.TheVariants as event
 use Rattle.history.specs.declared.event.TheConstants.{MOST_ADVANCE}
@@ -32,6 +31,7 @@ use Rattle.legal.proofs.ByKind.{least_is}
 use Rattle.legal.proofs.Framed.{frames}
 use Rattle.legal.proofs.Times.{ends}
 use Rattle.legal.proofs.Weights.{weights, weights_append, weights_most}
+use Rattle.legal.proofs.FewDue.{most_due}
 use Rattle.legal.proofs.ClientFalls.{ClientLaws, client_fades, client_falls}
 use Rattle.legal.proofs.RelayFalls.{relay_fades, relay_falls}
 
@@ -175,19 +175,18 @@ less_to : ClientLaws → (d : Draws) (t : TopologyState) (H : List Full) (e : Nu
 less_to laws d t H e x end is due within past =
     among laws d t H e (max x.moment (now H)) x.number end x.node (omega arith) (omega (arith, within, past)) x.moment 0 x.number (nodes t) (omega arith) due.there due.due (omega arith) (one_slow (nodes t) x.number x.node (all_slow t is) due.there)
 
--- no more due moments than these
-abbrev pub FewDue : TopologyState → List Full → Type 0
-FewDue t H = length (all_due t H 0 (nodes t)) ≤ 17476
+abbrev pub HasFewDue : TopologyState → List Full → Type 0
+HasFewDue t H = length (all_due t H 0 (nodes t)) ≤ most_due
 
-at_rest : (t : TopologyState) (H : List Full) (ms : ℕ) → FewDue t H → ms ≤ MOST_ADVANCE → left_to t H (now H + ms) ≤ MOST_LEFT
+at_rest : (t : TopologyState) (H : List Full) (ms : ℕ) → HasFewDue t H → ms ≤ MOST_ADVANCE → left_to t H (now H + ms) ≤ MOST_LEFT
 at_rest t H ms few short =
     let most : left_to t H (now H + ms) ≤ length (all_due t H 0 (nodes t)) * (now H + ms + 1 - now H) = weights_most (now H + ms) (now H) (all_due t H 0 (nodes t)) in
     let span : now H + ms + 1 - now H ≤ 1000000001 = omega (arith, short) in
-    let product : length (all_due t H 0 (nodes t)) * (now H + ms + 1 - now H) ≤ 17476 * 1000000001 = mul-le-mul few span in
+    let product : length (all_due t H 0 (nodes t)) * (now H + ms + 1 - now H) ≤ most_due * 1000000001 = mul-le-mul few span in
     omega (arith, most, product)
 
 -- before the record no less is left than of its advance
-before : (t : TopologyState) (H : List Full) (ms : ℕ) → FewDue t H → GoesOn H (event.Advance ms) → ms ≤ MOST_ADVANCE → left_to t H (began H + ms) ≤ left t H
+before : (t : TopologyState) (H : List Full) (ms : ℕ) → HasFewDue t H → GoesOn H (event.Advance ms) → ms ≤ MOST_ADVANCE → left_to t H (began H + ms) ≤ left t H
 before t [] ms few goes short = at_rest t [] ms few short
 before t (q ∷ H) ms few goes short = by (has_more q.asked q.act) refl where
   by : (b : Bool) → has_more q.asked q.act ≡ b → left_to t (q ∷ H) (began (q ∷ H) + ms) ≤ cond b (left_of_event t (q ∷ H) q.asked) MOST_LEFT
@@ -198,7 +197,7 @@ before t (q ∷ H) ms few goes short = by (has_more q.asked q.act) refl where
       let start : began (q ∷ H) ≡ q.moment = ap (λ b. cond b (began H) q.moment) last in
       subst (λ (x : ℕ). left_to t (q ∷ H) (x + ms) ≤ MOST_LEFT) (sym start) (at_rest t (q ∷ H) ms few short)
 
-pub falls : ClientLaws → (d : Draws) (t : TopologyState) (H : List Full) (r : Full) → IsTopology t → Grown d t H → FewDue t H → Follows d t H r → has_more r.asked r.act ≡ true → left t (r ∷ H) < left t H
+pub falls : ClientLaws → (d : Draws) (t : TopologyState) (H : List Full) (r : Full) → IsTopology t → Grown d t H → HasFewDue t H → Follows d t H r → has_more r.asked r.act ≡ true → left t (r ∷ H) < left t H
 falls laws d t H r is grown few follows more =
     let tick : IsTick d t H r.event r.asked = more_ticks d t H r.event r.asked (subst (λ (x : Full). has_more r.asked x.act ≡ true) follows.is more) in
     let end : ℕ = began H + tick.ms in

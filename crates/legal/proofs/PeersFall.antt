@@ -1,23 +1,19 @@
 -- What the due moments of peers weigh: less once a peer that was due was tried, given up, or is listed no more.
-use Rattle.std.proofs.Common.{◌≡◌, ◌≤◌, ◌<◌, ℕ, ◌+◌, ◌-◌, ◌&&◌, ◌||◌, not, Bool, true, false, cond, List, [], ◌∷◌, ◌++◌, length, filter, Option, Some, None, refl, sym, ap, subst, ◌∙◌, ⊎_elim, arith}
-use Rattle.std.specs.Prelude.{sum_by, nat_lt, nat_le, nat_eq, max, flat_map, option_map, unwrap_or, is_some}
+use Rattle.std.proofs.Common.{◌≡◌, ◌≤◌, ◌<◌, ℕ, ◌||◌, not, Bool, true, false, cond, List, [], ◌∷◌, filter, Option, Some, None, refl, sym, ap, subst, ◌∙◌, arith}
+use Rattle.std.specs.Prelude.{sum_by, unwrap_or}
 use Rattle.std.specs.List.{list_any}
-use Rattle.std.specs.declared.cmp.Ordering.{Ordering}
-use Rattle.std.specs.declared.cmp.Ordering.TheVariants.{Less, Equal, Greater}
-use Rattle.std.specs.Ordering.{nat_cmp, ordering_then, is_lt}
-use Rattle.std.proofs.lemmas.Bool.{false≢true, or_left, or_right, ltb-true, ltb-false, eqb-true, lt-ltb}
+use Rattle.std.proofs.lemmas.Bool.{false≢true, or_right, lt-ltb}
 use Rattle.std.proofs.lemmas.List.Sums.{sum_by-cons, sum_by-le-sum_by}
-use Rattle.std.proofs.lemmas.Map.Views.{any-filter_same}
 use Rattle.std.proofs.Math.Nat.{le_refl}
-use Rattle.td_base.specs.Ip6.{same_ip6, same_ip6-true, same_ip6-self, cmp_ip6}
+use Rattle.td_base.specs.Ip6.{same_ip6, same_ip6-true, same_ip6-self}
 use Rattle.td_base.specs.declared.ipv6.Ip6.{Ip6}
 use Rattle.peer_list.specs.declared.limits.TheConstants.{LISTED_MS}
-use Rattle.peer_list.specs.Mentions.{Bearing, no_bearing, Mention, is_about}
-use Rattle.peer_list.specs.Listed.{is_young, is_listed, with_peer, touched_by, touched, listed}
+use Rattle.peer_list.specs.Mentions.{Bearing, no_bearing, Mention}
+use Rattle.peer_list.specs.Listed.{is_young, is_listed, with_peer, touched, listed}
 use Rattle.peer_list.specs.Peers.{Peer, no_peer, peer_at, known}
 use Rattle.peer_list.specs.Judged.{is_none, due_of}
-use Rattle.peer_list.specs.Waiting.{Listing, cmp_due, first_of_two, least_by_due, first_among, first_due}
-use Rattle.peer_list.specs.Laws.{after, peer_if, view_after, OneEntry, Lasts, Unlisted, ListedIsKnown, ListedAre, IsWaiting, FirstWaits}
+use Rattle.peer_list.specs.Waiting.{Listing, first_due}
+use Rattle.peer_list.specs.Laws.{after, peer_if, OneEntry, Lasts, Unlisted, ListedAre, IsWaiting, FirstWaits, IsFirstBy, FirstIsEarliest}
 use Rattle.legal.specs.Left.{waits_until, peers_due}
 use Rattle.legal.proofs.Weights.{weights, weights_fade, weights_each, one_some, lighter_after}
 
@@ -28,9 +24,13 @@ pub record PeerLaws : Type 0 where
   pub unlisted : Unlisted
   pub are : ListedAre
   pub first : FirstWaits
+  pub earliest : FirstIsEarliest
 
 abbrev has : Ip6 → List Ip6 → Bool
 has p ps = list_any (same_ip6 p) ps
+
+abbrev without : Ip6 → List Ip6 → List Ip6
+without p ps = filter (λ q. not (same_ip6 p q)) ps
 
 -- SUMS OVER ADDRESSES
 
@@ -64,20 +64,17 @@ fewer_pass w test (p ∷ ps) = by (test p) (fewer_pass w test ps) where
   by false rest = omega (arith, rest, sum_by-cons w p ps)
 
 -- one of them in front, and the others behind it
-moved : (w : Ip6 → ℕ) (p : Ip6) (ps : List Ip6) → has p ps ≡ true → sum_by w (p ∷ filter (λ q. not (same_ip6 p q)) ps) ≤ sum_by w ps
+moved : (w : Ip6 → ℕ) (p : Ip6) (ps : List Ip6) → has p ps ≡ true → sum_by w (p ∷ without p ps) ≤ sum_by w ps
 moved w p [] h = absurd (false≢true h)
 moved w p (q ∷ ps) h = by (same_ip6 p q) refl h (moved w p ps) where
-  rest : List Ip6
-  rest = filter (λ r. not (same_ip6 p r)) ps
-
-  by : (b : Bool) → same_ip6 p q ≡ b → (b || has p ps) ≡ true → (has p ps ≡ true → sum_by w (p ∷ filter (λ r. not (same_ip6 p r)) ps) ≤ sum_by w ps) → sum_by w (p ∷ cond (not b) (q ∷ filter (λ r. not (same_ip6 p r)) ps) (filter (λ r. not (same_ip6 p r)) ps)) ≤ sum_by w (q ∷ ps)
+  by : (b : Bool) → same_ip6 p q ≡ b → (b || has p ps) ≡ true → (has p ps ≡ true → sum_by w (p ∷ without p ps) ≤ sum_by w ps) → sum_by w (p ∷ cond (not b) (q ∷ without p ps) (without p ps)) ≤ sum_by w (q ∷ ps)
   by true is k before =
       let same : w p ≡ w q = ap w (same_ip6-true p q is) in
-      let few : sum_by w (filter (λ r. not (same_ip6 p r)) ps) ≤ sum_by w ps = fewer_pass w (λ r. not (same_ip6 p r)) ps in
-      omega (arith, same, few, sum_by-cons w p (filter (λ r. not (same_ip6 p r)) ps), sum_by-cons w q ps)
+      let few : sum_by w (without p ps) ≤ sum_by w ps = fewer_pass w (λ r. not (same_ip6 p r)) ps in
+      omega (arith, same, few, sum_by-cons w p (without p ps), sum_by-cons w q ps)
   by false is k before =
-      let inner : sum_by w (p ∷ filter (λ r. not (same_ip6 p r)) ps) ≤ sum_by w ps = before k in
-      omega (arith, inner, sum_by-cons w p (filter (λ r. not (same_ip6 p r)) ps), sum_by-cons w p (q ∷ filter (λ r. not (same_ip6 p r)) ps), sum_by-cons w q (filter (λ r. not (same_ip6 p r)) ps), sum_by-cons w q ps)
+      let inner : sum_by w (p ∷ without p ps) ≤ sum_by w ps = before k in
+      omega (arith, inner, sum_by-cons w p (without p ps), sum_by-cons w p (q ∷ without p ps), sum_by-cons w q (without p ps), sum_by-cons w q ps)
 
 -- WHAT PEERS WEIGH
 
@@ -114,75 +111,20 @@ peer_fades laws end m n j p l = by (is_listed p n j) refl where
 pub peers_fade : PeerLaws → (end m n : ℕ) (j : List Mention) → m ≤ n → peers_weight end n j ≤ peers_weight end m j
 peers_fade laws end m n j l = sum_by-le-sum_by (λ p. peer_weight end n (known j n p)) (λ p. peer_weight end m (known j m p)) (touched j) (λ p. peer_fades laws end m n j p l)
 
--- WHO IS FIRST
-
-not_less : (a b : ℕ) (c : Ordering) → is_lt (ordering_then (nat_cmp a b) c) ≡ false → b ≤ a
-not_less a b c h = by_test (nat_lt a b) refl where
-  by_test : (t : Bool) → nat_lt a b ≡ t → b ≤ a
-  by_test true e = absurd (false≢true (sym h ∙ ap (λ t. is_lt (ordering_then (cond t Less (cond (nat_eq a b) Equal Greater)) c)) e))
-  by_test false e = ltb-false a b e
-
-is_less : (a b : ℕ) (c : Ordering) → is_lt (ordering_then (nat_cmp a b) c) ≡ true → a ≤ b
-is_less a b c h = by_test (nat_lt a b) refl (nat_eq a b) refl where
-  by_test : (t : Bool) → nat_lt a b ≡ t → (u : Bool) → nat_eq a b ≡ u → a ≤ b
-  by_test true e u f = let less : a < b = ltb-true a b e in omega (arith, less)
-  by_test false e true f = let same : a ≡ b = eqb-true a b f in omega (arith, same)
-  by_test false e false f = absurd (false≢true (sym (ap (λ t. is_lt (ordering_then (cond t Less (cond (nat_eq a b) Equal Greater)) c)) e ∙ ap (λ u. is_lt (ordering_then (cond u Equal Greater) c)) f) ∙ h))
-
--- one of these is first, and due no later than this one
-pub record IsFirstBefore (f : Ip6 → Peer) (due : ℕ) (o : Option Ip6) : Type 0 where
-  pub who : Ip6
-  pub is : o ≡ Some who
-  pub before : due_of (f who) ≤ due
-
-least_before : (f : Ip6 → Peer) (ps : List Ip6) (p : Ip6) → has p ps ≡ true → IsFirstBefore f (due_of (f p)) (least_by_due f ps)
-unfolding cmp_due
-least_before f [] p h = absurd (false≢true h)
-least_before f (q ∷ ps) p h = by (same_ip6 p q) refl h (least_before f ps p) where
-  front : (o : Option Ip6) → p ≡ q → IsFirstBefore f (due_of (f p)) (first_of_two f q o)
-  front None same = record { who = q; is = refl; before = let e : due_of (f p) ≡ due_of (f q) = ap (λ x. due_of (f x)) same in omega (arith, e) }
-  front (Some r) same = at (is_lt (ordering_then (nat_cmp (due_of (f r)) (due_of (f q))) (cmp_ip6 r q))) refl where
-    at : (b : Bool) → is_lt (ordering_then (nat_cmp (due_of (f r)) (due_of (f q))) (cmp_ip6 r q)) ≡ b → IsFirstBefore f (due_of (f p)) (cond b (Some r) (Some q))
-    at true e = record { who = r; is = refl; before = let e2 : due_of (f p) ≡ due_of (f q) = ap (λ x. due_of (f x)) same in let le : due_of (f r) ≤ due_of (f q) = is_less (due_of (f r)) (due_of (f q)) (cmp_ip6 r q) e in omega (arith, e2, le) }
-    at false e = record { who = q; is = refl; before = let e2 : due_of (f p) ≡ due_of (f q) = ap (λ x. due_of (f x)) same in omega (arith, e2) }
-
-  back : (o : Option Ip6) → IsFirstBefore f (due_of (f p)) o → IsFirstBefore f (due_of (f p)) (first_of_two f q o)
-  back None first = absurd (false≢true (ap is_some first.is))
-  back (Some r) first = at (is_lt (ordering_then (nat_cmp (due_of (f r)) (due_of (f q))) (cmp_ip6 r q))) refl where
-    known_first : due_of (f r) ≤ due_of (f p)
-    known_first = subst (λ x. due_of (f x) ≤ due_of (f p)) (sym (ap (λ (o : Option Ip6). unwrap_or o r) first.is)) first.before
-
-    at : (b : Bool) → is_lt (ordering_then (nat_cmp (due_of (f r)) (due_of (f q))) (cmp_ip6 r q)) ≡ b → IsFirstBefore f (due_of (f p)) (cond b (Some r) (Some q))
-    at true e = record { who = r; is = refl; before = known_first }
-    at false e = record { who = q; is = refl; before = let le : due_of (f q) ≤ due_of (f r) = not_less (due_of (f r)) (due_of (f q)) (cmp_ip6 r q) e in omega (arith, le, known_first) }
-
-  by : (b : Bool) → same_ip6 p q ≡ b → (b || has p ps) ≡ true → (has p ps ≡ true → IsFirstBefore f (due_of (f p)) (least_by_due f ps)) → IsFirstBefore f (due_of (f p)) (first_of_two f q (least_by_due f ps))
-  by true e k rest = front (least_by_due f ps) (same_ip6-true p q e)
-  by false e k rest = back (least_by_due f ps) (rest k)
-
--- whoever is listed and waits has one before it that is first due
-first_before : PeerLaws → (j : List Mention) (n : ℕ) (p : Ip6) → is_listed p n j ≡ true → is_none (known j n p).waiting ≡ false → IsFirstBefore (known j n) (due_of (known j n p)) (first_among (known j n) (listed j n))
-unfolding first_among
-first_before laws j n p h w =
-    let there : has p (listed j n) ≡ true = laws.are j n p ∙ h in
-    let waits : (q : Ip6) → same_ip6 p q ≡ true → not (is_none (known j n q).waiting) ≡ true = λ q same. ap (λ x. not (is_none (known j n x).waiting)) (sym (same_ip6-true p q same)) ∙ ap not w in
-    let among : has p (filter (λ q. not (is_none (known j n q).waiting)) (listed j n)) ≡ true = any-filter_same (same_ip6 p) (λ q. not (is_none (known j n q).waiting)) true waits (listed j n) ∙ there in
-    least_before (known j n) (filter (λ q. not (is_none (known j n q).waiting)) (listed j n)) p among
+-- NONE DUE ANY MORE
 
 -- no listed peer is due at n
 abbrev pub NoneDue : List Mention → ℕ → Type 0
 NoneDue j n = (l : Listing) → first_due j n ≡ Some l → n < due_of l.peer
 
 -- so one that was due is listed no more
-was_due : PeerLaws → (end n : ℕ) (j : List Mention) (p : Ip6) → NoneDue j n → (b : Bool) → is_listed p n j ≡ b → is_none (known j n p).waiting ≡ false → due_of (known j n p) ≤ n → b ≡ false
-was_due laws end n j p none false h w due = refl
-was_due laws end n j p none true h w due =
-    let first = first_before laws j n p h w in
-    let l : Listing = record { who = first.who; peer = known j n first.who } in
-    let is : first_due j n ≡ Some l = ap (option_map {U = Listing} (λ q. record { who = q; peer = known j n q })) first.is in
-    let later : n < due_of (known j n first.who) = none l is in
-    let before : due_of (known j n first.who) ≤ due_of (known j n p) = first.before in
-    absurd (omega (arith, later, before, due))
+was_due : PeerLaws → (n : ℕ) (j : List Mention) (p : Ip6) → NoneDue j n → is_listed p n j ≡ true → is_none (known j n p).waiting ≡ false → due_of (known j n p) ≤ n → ⊥
+was_due laws n j p none h w due = by (first_due j n) refl (laws.earliest j n p h w) where
+  by : (o : Option Listing) → first_due j n ≡ o → IsFirstBy (due_of (known j n p)) o → ⊥
+  by None e before = before
+  by (Some l) e before =
+      let later : n < due_of l.peer = none l e in
+      omega (arith, later, before, due)
 
 one_waiting : (end m : ℕ) (peer : Peer) → is_none peer.waiting ≡ false → peer_weight end m peer ≡ weights end m (due_of peer ∷ [])
 one_waiting end m peer w = ap (λ b. weights end m (cond b [] (due_of peer ∷ []))) w
@@ -218,7 +160,7 @@ fall_lost laws end m n j l le within first due none =
         let same : known j m l.who ≡ known j n l.who = sym (ap (λ (o : Option Peer). unwrap_or o no_peer) (laws.lasts j m n l.who le h)) in
         let waits_then : is_none (known j n l.who).waiting ≡ false = subst (λ (x : Peer). is_none x.waiting ≡ false) same waits in
         let past_then : due_of (known j n l.who) ≤ n = subst (λ (x : Peer). due_of x ≤ n) same past in
-        absurd (false≢true (sym (was_due laws end n j l.who none true h waits_then past_then)))
+        absurd (was_due laws n j l.who none h waits_then past_then)
     here waits past false h =
         let nothing : peer_weight end n (known j n l.who) ≡ 0 = nothing_known laws end n j l.who h in
         let is : peer_weight end m (known j m l.who) ≡ weights end m (due_of (known j m l.who) ∷ []) = one_waiting end m (known j m l.who) waits in

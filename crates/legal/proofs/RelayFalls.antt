@@ -1,14 +1,13 @@
 -- What the due moments of a relay weigh: less after a tick of it.
-use Rattle.std.proofs.Common.{◌≡◌, ◌≤◌, ◌<◌, ℕ, ◌+◌, Bool, true, false, cond, List, [], ◌∷◌, ◌++◌, Option, Some, None, refl, sym, ap, subst, ◌∙◌, arith}
+use Rattle.std.proofs.Common.{◌≡◌, ◌≤◌, ◌<◌, ℕ, Bool, true, false, cond, List, ◌∷◌, Option, Some, None, refl, sym, ap, subst, ◌∙◌, arith}
 use Rattle.std.specs.Prelude.{nat_le, option_map, unwrap_or, is_some}
 use Rattle.std.proofs.lemmas.Bool.{false≢true, leb-true, leb-false}
 use Rattle.teredo_node.specs.declared.fate.Fate.TheVariants as fate
 use Rattle.teredo_node.specs.Step.{Step}
 use Rattle.teredo_node.specs.Journal.{ticked, Entry}
-use Rattle.peer_list.specs.Mentions.{Mention}
 use Rattle.peer_list.specs.Judged.{is_none, is_spent, due_of}
-use Rattle.peer_list.specs.Waiting.{Listing, first_due}
-use Rattle.peer_list.specs.Laws.{after, IsWaiting}
+use Rattle.peer_list.specs.Waiting.{Listing}
+use Rattle.peer_list.specs.Laws.{after}
 use Rattle.relay_rules.specs.Bearings.{bearing_of, mention, mentions}
 use Rattle.relay_rules.specs.Standing.{RelaySettings}
 use Rattle.relay_rules.specs.Ticks.{due_at, tries_peer}

@@ -1,8 +1,8 @@
 -- What due moments weigh up to an end: each the time from it on, or from now on where it is past.
 use Rattle.std.proofs.Common.{◌≡◌, ◌≤◌, ◌<◌, ℕ, suc, ◌+◌, ◌-◌, ◌*◌, Bool, true, false, cond, List, [], ◌∷◌, ◌++◌, length, filter, Option, Some, None, refl, sym, ap, subst, ◌∙◌, arith}
 use Rattle.std.specs.Prelude.{sum_by, nat_le, max, flat_map, option_to_list}
-use Rattle.std.proofs.lemmas.Bool.{leb-true, leb-false, le-leb, lt-leb}
-use Rattle.std.proofs.lemmas.List.Sums.{sum_by-cons, sum_by-append}
+use Rattle.std.proofs.lemmas.Bool.{leb-true, le-leb, lt-leb}
+use Rattle.std.proofs.lemmas.List.Sums.{sum_by-cons}
 
 -- ONE DUE MOMENT
 
@@ -54,12 +54,6 @@ weights end m ds = sum_by (λ (d : ℕ). end + 1 - max d m) (filter (λ (d : ℕ
 
 pub weights_cons : (end m d : ℕ) (ds : List ℕ) → weights end m (d ∷ ds) ≡ weight end m d + weights end m ds
 weights_cons end m d ds = by (nat_le d end) where
-  w : ℕ → ℕ
-  w x = end + 1 - max x m
-
-  rest : List ℕ
-  rest = filter (λ (x : ℕ). nat_le x end) ds
-
   by : (b : Bool) → sum_by (λ (x : ℕ). end + 1 - max x m) (cond b (d ∷ filter (λ (x : ℕ). nat_le x end) ds) (filter (λ (x : ℕ). nat_le x end) ds)) ≡ cond b (end + 1 - max d m) 0 + weights end m ds
   by true = sum_by-cons (λ (x : ℕ). end + 1 - max x m) d (filter (λ (x : ℕ). nat_le x end) ds)
   by false = omega arith

@@ -1,5 +1,5 @@
 //! How much can be left of an event.
 
-/// More than is left of any event after a record of it, in milliseconds over all that falls due: an advance of a thousand
-/// million milliseconds, and 256 peers and one deadline of each client and relay.
+/// More than is left of any event after a record of it, in milliseconds: those of an advance, once for each moment that can
+/// be due. Our choice: of 64 clients and 4 relays with 256 peers each it is about half.
 pub const MOST_LEFT: u64 = 35_184_372_088_832;

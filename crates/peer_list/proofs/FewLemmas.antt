@@ -1,23 +1,17 @@
 -- Never more than 256 peers are listed.
-use Rattle.std.proofs.Common.{◌≡◌, ◌≤◌, ◌<◌, ℕ, ◌+◌, ◌-◌, ◌||◌, not, Bool, true, false, cond, List, [], ◌∷◌, length, filter, find, Option, Some, None, refl, sym, ap, ◌∙◌, arith}
+use Rattle.std.proofs.Common.{◌≡◌, ◌≤◌, ◌<◌, ℕ, ◌+◌, ◌-◌, ◌||◌, not, Bool, true, false, cond, List, [], ◌∷◌, length, filter, find, Option, Some, None, refl, ap, ◌∙◌, arith}
 use Rattle.std.specs.Prelude.{sum_by, nat_lt}
-use Rattle.std.specs.List.{list_any, AllByRecursion}
+use Rattle.std.specs.List.{list_any}
 use Rattle.std.proofs.lemmas.Bool.{false≢true, ltb-true, lt-ltb}
 use Rattle.std.proofs.lemmas.List.Sums.{sum_by-cons, sum_by-le-sum_by, length-filter}
-use Rattle.td_base.specs.Ip6.{same_ip6, same_ip6-true, same_ip6-self}
+use Rattle.td_base.specs.Ip6.{same_ip6, same_ip6-true}
 use Rattle.td_base.specs.declared.ipv6.Ip6.{Ip6}
 use Rattle.peer_list.specs.declared.limits.TheConstants.{LISTED_MS, MOST_PEERS}
 use Rattle.peer_list.specs.Mentions.{Mention, is_about, is_touch_of}
-use Rattle.peer_list.specs.Listed.{is_young, is_recent, is_listed, with_peer, touched_by, touched, listed, has_room}
-use Rattle.peer_list.specs.Laws.{InOrder}
-use Rattle.peer_list.specs.Few.{HasRoom, HaveRoom, FewListed}
+use Rattle.peer_list.specs.Listed.{is_young, is_recent, is_listed, with_peer, touched, listed, has_room}
+use Rattle.peer_list.specs.Few.{HasRoom, FewListed}
 use Rattle.peer_list.proofs.Lists.{listed_was_touched, other_way}
-
-abbrev has : Ip6 → List Ip6 → Bool
-has p ps = list_any (same_ip6 p) ps
-
-abbrev without : Ip6 → List Ip6 → List Ip6
-without p ps = filter (λ q. not (same_ip6 p q)) ps
+use Rattle.peer_list.proofs.Orders.{has, without}
 
 -- SUMS
 

@@ -1,5 +1,5 @@
 -- Each entry that touches a peer finds room for it.
-use Rattle.std.proofs.Common.{◌≡◌, ◌≤◌, ℕ, ◌||◌, not, Bool, true, false, cond, List, [], ◌∷◌, ◌++◌, length, Option, Some, None, refl, sym, ap, subst, ◌∙◌}
+use Rattle.std.proofs.Common.{◌≡◌, ℕ, ◌||◌, not, Bool, true, false, cond, List, [], ◌∷◌, ◌++◌, length, Option, Some, None, refl, sym, ap, subst, ◌∙◌}
 use Rattle.std.specs.Prelude.{nat_lt, nat_le, unwrap_or, is_some}
 use Rattle.std.proofs.lemmas.Bool.{false≢true}
 use Rattle.td_base.specs.declared.ipv6.Ip6.{Ip6}
@@ -14,11 +14,11 @@ use Rattle.peer_list.specs.Mentions.{Mention}
 use Rattle.peer_list.specs.Listed.{is_listed, listed, has_room}
 use Rattle.peer_list.specs.Peers.{Peer, no_peer, peer_at}
 use Rattle.peer_list.specs.Judged.{due_of}
-use Rattle.peer_list.specs.Waiting.{Listing, first_due}
+use Rattle.peer_list.specs.Waiting.{Listing}
 use Rattle.peer_list.specs.Laws.{FirstWaits}
 use Rattle.peer_list.specs.Few.{HasRoom, HaveRoom, FewListed}
 use Rattle.relay_rules.specs.Bearings.{bearing_of, mention, mentions}
-use Rattle.relay_rules.specs.Standing.{RelaySettings, Standing, known_in, standing_at, standing_of}
+use Rattle.relay_rules.specs.Standing.{RelaySettings, Standing, standing_at, standing_of}
 use Rattle.relay_rules.specs.Reception.{Seen, seen, reception_row}
 use Rattle.relay_rules.specs.Transmission.{Given, given, packet_lines, transmission_row}
 use Rattle.relay_rules.specs.Ticks.{due_at}

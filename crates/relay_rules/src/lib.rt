@@ -9,6 +9,7 @@
 //!   (`specs/Warrants.antt`).
 //! - In every journal what waits is from outside Teredo, a client is trusted at its embedded endpoint alone, and an address
 //!   with the cone bit has no tries and nothing waiting (`specs/Laws.antt`).
+//! - Each entry that touches a peer finds room for it, so a journal never lists more than 256.
 //!
 //! # What it does not know
 //!
