@@ -5,3 +5,4 @@ pub mod Steps
 pub mod Worked
 pub mod RowFates
 pub mod Outcomes
+pub mod ReadsBack

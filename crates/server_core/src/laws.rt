@@ -1,5 +1,5 @@
 //! What holds of every datagram that a server is given.
-ghost use Rattle.server_core.specs.Laws.{FateOfRow, OneOutput, OneOutcome};
+ghost use Rattle.server_core.specs.Laws.{FateOfRow, OneOutput, OneOutcome, AdvertReadsBack, ForwardedReadsBack, EachTellsWhereTo};
 
 /// A datagram has a fate of the server's table.
 pub fn fate_of_row()
@@ -15,3 +15,31 @@ pub fn one_output()
 pub fn one_outcome()
     ensures { OneOutcome }
 {}
+
+/// An advertisement reads back: the nonce, the origin, the message and its options.
+pub fn advert_reads_back()
+    ensures { AdvertReadsBack }
+{
+    teredo_addr::link_local_tells();
+    icmp6::options_read_back();
+    bubble::message_is_carried();
+    bubble::payload_reads_back();
+    bubble::payload_is_bytes();
+    icmp6::message_is_bytes();
+}
+
+/// A packet that goes on is read as it was.
+pub fn forwarded_reads_back()
+    ensures { ForwardedReadsBack }
+{
+    bubble::packet_goes_on();
+}
+
+/// What is sent is a payload; with an authentication, its origin is the endpoint that it goes to.
+pub fn each_tells_where_to()
+    ensures { EachTellsWhereTo }
+{
+    bubble::payload_is_spelled();
+    advert_reads_back();
+    forwarded_reads_back();
+}

@@ -8,6 +8,7 @@
 //! - `Server::answer` gives the first line of the table that holds, with its one output or none.
 //! - An answer is at most 56 bytes longer than the datagram that drew it, and never goes to the server itself.
 //! - What the server sends draws nothing where it comes back to the server.
+//! - What the server sends reads back: an advertisement as what it was made of, a packet that goes on as it was.
 //! - No call takes memory, and no byte of a peer makes a call fail.
 //! - `Server` is a frugal `Endpoint` of a link: its step is the table's, it stays as it is, and nothing is ever due.
 //!
@@ -28,7 +29,7 @@
 //! | `conditions` | what the lines of the table ask | `specs/Conditions.antt` |
 //! | `advertisement` | the Router Advertisement | `specs/Outputs.antt` |
 //! | `forwarded` | the forwarded packet | `specs/Outputs.antt` |
-//! | `laws` | what holds of every datagram | `specs/Laws.antt` |
+//! | `laws` | what holds of every datagram, and of what is sent | `specs/Laws.antt` |
 #![tactic(auto)]
 
 mod advertisement;
@@ -42,6 +43,9 @@ mod server;
 #[cfg(test)]
 mod tests;
 
-pub use laws::{fate_of_row, one_outcome, one_output};
+pub use laws::{
+    advert_reads_back, each_tells_where_to, fate_of_row, forwarded_reads_back, one_outcome,
+    one_output,
+};
 pub use reply::Answer;
 pub use server::{DATAGRAM_LIMIT, GROWTH_LIMIT, Server, ServerSettings};
