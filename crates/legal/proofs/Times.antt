@@ -20,6 +20,7 @@ use Rattle.legal.specs.Past.{Draws, now, began, has_more, first_undelivered}
 use Rattle.legal.specs.Emit.{Route, reaches, closed, astray, route}
 use Rattle.legal.specs.Next.{Numbered, numbered, Due, least_due, plain, advance_with, advanced, acts, no_ep, blank, delivers_to, delivers_item, delivers_or, copies, data_packet, echo_packet, address_at, target_address, hands_in, next_of}
 use Rattle.legal.specs.Legal.{GoesOn, Grown}
+use Rattle.legal.specs.Laws.{is_advance, EachIsAtOnce}
 
 -- it happens no earlier than the record before it, and no later than the end of its advance
 record IsWithin (H : List Full) (end : ℕ) (r : Full) : Type 0 where
@@ -83,3 +84,41 @@ next_later d t H i (event.Forget n who) g goes = le_refl (now H)
 
 pub is_later : (d : Draws) (t : TopologyState) (H : List Full) (r : Full) → Grown d t (r ∷ H) → now H ≤ r.moment
 is_later d t H r g = subst (λ (z : Full). now H ≤ z.moment) (sym g.0.is) (next_later d t H r.event r.asked g.1 g.0.goes_on)
+
+-- AT ONCE
+
+to_now : (d : Draws) (t : TopologyState) (H : List Full) (e : Numbered) (n : ℕ) (item : Item) (r : Route) → (delivers_to d t H e n item r).moment ≡ now H
+to_now d t H e n item (reaches k a) = refl
+to_now d t H e n item (closed k) = refl
+to_now d t H e n item astray = refl
+
+item_now : (d : Draws) (t : TopologyState) (H : List Full) (e : Numbered) (n : ℕ) (o : Option Item) → (delivers_item d t H e n o).moment ≡ now H
+item_now d t H e n None = refl
+item_now d t H e n (Some item) = to_now d t H e n item (route t H (now H) item)
+
+or_now : (d : Draws) (t : TopologyState) (H : List Full) (e : Numbered) (last : Full) (o : Option ℕ) → last.moment ≡ now H → (delivers_or d t H e last o).moment ≡ now H
+or_now d t H e last None h = h
+or_now d t H e last (Some n) h = item_now d t H e n (slice_get (wire H) n)
+
+copies_now : (H : List Full) (e : Numbered) (n : ℕ) (src dst : Ep) (o : Option Item) → (copies H e n src dst o).moment ≡ now H
+copies_now H e n src dst None = refl
+copies_now H e n src dst (Some item) = refl
+
+hands_now : (d : Draws) (t : TopologyState) (H : List Full) (e : Numbered) (v : Verb) (n : ℕ) (x : List ℕ) (o : Option Node) → (hands_in d t H e v n x o).moment ≡ now H
+hands_now d t H e v n x None = refl
+hands_now d t H e v n x (Some a) = refl
+
+next_now : (d : Draws) (t : TopologyState) (H : List Full) (i : ℕ) (e : Event) → is_advance e ≡ false → (next_of d t H i e).moment ≡ now H
+next_now d t H i (event.Advance ms) other = absurd cc
+next_now d t H i (event.Deliver n) other = item_now d t H (numbered i (event.Deliver n)) n (slice_get (wire H) n)
+next_now d t H i event.Next other = or_now d t H (numbered i event.Next) (blank H (numbered i event.Next) (plain verb.Next) None fate.NoEntry) (first_undelivered H) refl
+next_now d t H i (event.Host n to body) other = hands_now d t H (numbered i (event.Host n to body)) verb.Host n (packet_bytes (data_packet (address_at t H n) (target_address t H to) body)) (node_at t n)
+next_now d t H i (event.Echo n to s) other = hands_now d t H (numbered i (event.Echo n to s)) verb.Echo n (packet_bytes (echo_packet (address_at t H n) (target_address t H to) s)) (node_at t n)
+next_now d t H i (event.Raw n bytes) other = hands_now d t H (numbered i (event.Raw n bytes)) verb.Raw n bytes (node_at t n)
+next_now d t H i (event.Stranger src dst x) other = refl
+next_now d t H i (event.Copy n src dst) other = copies_now H (numbered i (event.Copy n src dst)) n src dst (slice_get (wire H) n)
+next_now d t H i (event.Restart n) other = refl
+next_now d t H i (event.Forget n who) other = refl
+
+pub is_at_once : EachIsAtOnce
+is_at_once d t H r follows other = ap (λ (z : Full). z.moment) follows.is ∙ next_now d t H r.event r.asked other

@@ -1,8 +1,9 @@
 -- What holds of every record that follows, whatever nodes there are.
-use Rattle.std.specs.Prelude.{◌≡◌, ◌≤◌, ◌<◌, ◌+◌, ℕ, true, List, ◌∷◌, ◌++◌, length, slice_get, Some}
+use Rattle.std.specs.Prelude.{◌≡◌, ◌≤◌, ◌<◌, ◌-◌, ℕ, Bool, true, false, List, ◌∷◌, ◌++◌, length, slice_get, Some}
 use Rattle.history.specs.declared.event.Event.{Event}
+use Rattle.history.specs.declared.event.Event.TheVariants as event
 use Rattle.topology.specs.Rows.{TopologyState}
-use Rattle.history.specs.Full.{Item, Full, wire, items_of}
+use Rattle.history.specs.Full.{Full, wire, items_of}
 use Rattle.history.specs.Telling.{IsTold}
 use Rattle.nat_kinds.specs.Laws.{IsPast}
 use Rattle.teredo_node.specs.Journal.{Journal}
@@ -35,19 +36,34 @@ EachIsOfItsEvent = (d : Draws) (t : TopologyState) (H : List Full) (i : ℕ) (e 
 abbrev pub EachIsLater : Type 0
 EachIsLater = (d : Draws) (t : TopologyState) (H : List Full) (r : Full) → Grown d t (r ∷ H) → now H ≤ r.moment
 
--- an item of the wire was made by this record, as its entry number k
-pub record IsMaker (H : List Full) (n : ℕ) (item : Item) : Type 0 where
+-- nothing but an advance takes time
+abbrev pub is_advance : Event → Bool
+is_advance (event.Advance ms) = true
+is_advance _ = false
+
+-- so a delivery, a packet of a host and a stranger's datagram happen at the moment of the record before them
+abbrev pub EachIsAtOnce : Type 0
+EachIsAtOnce = (d : Draws) (t : TopologyState) (H : List Full) (r : Full) → Follows d t H r → is_advance r.asked ≡ false → r.moment ≡ now H
+
+-- the records split at one of them, which made entry number n of the wire
+pub record Makes (H : List Full) (n : ℕ) (later : List Full) (maker : Full) (earlier : List Full) : Type 0 where
+  pub split : H ≡ later ++ maker ∷ earlier
+  pub begins : length (wire earlier) ≤ n
+  pub ends : n < length (wire (maker ∷ earlier))
+
+-- entry number n of the wire has a maker, of whose items it is the one at that place, and no other
+pub record HasOneMaker (H : List Full) (n : ℕ) : Type 0 where
   pub later : List Full
   pub maker : Full
   pub earlier : List Full
-  pub place : ℕ
-  pub split : H ≡ later ++ maker ∷ earlier
-  pub number : n ≡ maker.first + place
-  pub made : slice_get (items_of maker) place ≡ Some item
+  pub makes : Makes H n later maker earlier
+  pub first : maker.first ≡ length (wire earlier)
+  pub item : slice_get (items_of maker) (n - length (wire earlier)) ≡ slice_get (wire H) n
+  pub only : (l e : List Full) (r : Full) → Makes H n l r e → (l ≡ later) × (r ≡ maker) × (e ≡ earlier)
 
--- each item of the wire has a maker
-abbrev pub EachIsMade : Type 0
-EachIsMade = (d : Draws) (t : TopologyState) (H : List Full) (n : ℕ) (item : Item) → Grown d t H → slice_get (wire H) n ≡ Some item → IsMaker H n item
+-- each entry of the wire has
+abbrev pub EachHasOneMaker : Type 0
+EachHasOneMaker = (d : Draws) (t : TopologyState) (H : List Full) (n : ℕ) → Grown d t H → n < length (wire H) → HasOneMaker H n
 
 -- it says that an entry was delivered exactly where one was
 abbrev pub EachIsTold : Type 0

@@ -2,4 +2,4 @@ use Rattle.legal.proofs.Makers as makers
 use Rattle.legal.proofs.laws.made.Goals as goal
 
 pub returns : goal.returns
-returns c = makers.has_maker
+returns c = makers.one_maker
