@@ -34,7 +34,12 @@ pub fn journal_is_tried()
 /// An address with the cone bit has no tries and nothing waiting.
 pub fn cone_is_quiet()
     ensures { ConeIsQuiet }
-{}
+{
+    peer_list::of_another();
+    peer_list::of_a_touch();
+    peer_list::of_no_touch();
+    peer_list::first_waits();
+}
 
 /// Each entry that touches a peer finds room for it, so no more than 256 are listed.
 pub fn journal_has_few()
