@@ -32,8 +32,8 @@ mod laws;
 mod limits;
 
 pub use laws::{
-    fate_of_reception, fate_of_transmission, journal_is_tried, next_mentions, none_queued,
-    qualified_has_address, qualified_stays, queued_is_own, reception_is_warranted,
+    each_send, fate_of_reception, fate_of_transmission, journal_is_tried, next_mentions,
+    none_queued, qualified_has_address, qualified_stays, queued_is_own, reception_is_warranted,
     transmission_is_warranted, tries_touch, trusted_is_embedded, waiting_is_own,
 };
 pub use limits::{TEST_ID, TEST_SEQ};
