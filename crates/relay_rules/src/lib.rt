@@ -29,7 +29,7 @@
 mod laws;
 
 pub use laws::{
-    cone_is_quiet, fate_of_reception, fate_of_transmission, journal_is_tried,
+    cone_is_quiet, each_send, fate_of_reception, fate_of_transmission, journal_is_tried,
     reception_is_warranted, transmission_is_warranted, tries_touch, trusted_is_embedded,
     waiting_is_foreign,
 };
