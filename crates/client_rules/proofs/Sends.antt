@@ -11,7 +11,7 @@ use Rattle.indications.specs.Leads.{origin_in}
 use Rattle.teredo_addr.specs.Teredo.{unspecified, is_teredo, server_in, has_cone, embedded}
 use Rattle.bubble.specs.Payloads.{Value}
 use Rattle.bubble.specs.Reads.{is_payload, value_in}
-use Rattle.bubble.specs.PacketsIn.{packet_in, source_in, packet_given, destination_in}
+use Rattle.bubble.specs.PacketsIn.{source_in, destination_in}
 use Rattle.teredo_node.specs.declared.fate.Fate.{Fate}
 use Rattle.teredo_node.specs.declared.fate.Fate.TheVariants as fate
 use Rattle.teredo_node.specs.Step.{Send}
@@ -20,22 +20,23 @@ use Rattle.teredo_node.specs.Words.{nonce_from}
 use Rattle.teredo_node.specs.Journal.{Input, arrived, given, from_six, ticked, Entry, Journal, with_entry, Words}
 use Rattle.peer_list.specs.Peers.{known}
 use Rattle.peer_list.specs.Judged.{is_none, is_spent, is_barred, due_of}
-use Rattle.peer_list.specs.Waiting.{Listing, first_due}
+use Rattle.peer_list.specs.Waiting.{Listing}
 use Rattle.peer_list.specs.Laws.{FirstWaits}
 use Rattle.qualify.specs.declared.settings.Settings.{Settings}
 use Rattle.qualify.specs.declared.limits.TheConstants.{SOLICITATIONS_MAX}
 use Rattle.qualify.specs.declared.phase.Phase.{Phase}
 use Rattle.qualify.specs.declared.phase.Phase.TheVariants.{Cone, Restricted, Secondary, Qualified, Symmetric, OffLine}
+use Rattle.qualify.specs.Turns.{turn, begins}
 use Rattle.qualify.specs.Qualification.{Qualification, qualification}
-use Rattle.qualify.specs.Solicitations.{is_qualified, own_address, is_cone, is_due, due_fate, solicits_by, due_step}
+use Rattle.qualify.specs.Solicitations.{is_qualified, own_address, is_due, due_fate, solicits_by, due_step}
 use Rattle.qualify.specs.Advertisements.{heard}
 use Rattle.client_rules.specs.Bearings.{mentions}
 use Rattle.client_rules.specs.Standing.{Standing, known_in, standing_at, standing_of}
 use Rattle.client_rules.specs.Tries.{direct_bubble, both_bubbles, tries_by, try_sends}
-use Rattle.client_rules.specs.Reception.{Seen, seen, answers_bubble, tests_source, reception_step, reception_fate, reception}
-use Rattle.client_rules.specs.Transmission.{Given, given as given_to, queues, transmission_row, transmission_step, transmission}
+use Rattle.client_rules.specs.Reception.{seen, answers_bubble, tests_source, reception_step, reception_fate, reception}
+use Rattle.client_rules.specs.Transmission.{given as given_to, queues, transmission_row, transmission_step, transmission}
 use Rattle.client_rules.specs.Ticks.{Due, asks, tries, nothing, peer_due, due_at, peer_of_due, tries_peer, tick}
-use Rattle.client_rules.specs.Journals.{entry, client_in, client_out, client_tick, first_peer, client_entry, IsJournal}
+use Rattle.client_rules.specs.Journals.{client_in, client_out, client_tick, first_peer, client_entry, IsJournal}
 use Rattle.client_rules.specs.Warrants.{IsForClient, ReceivedOnlyIf, GoesOut, SentOnlyIf}
 use Rattle.client_rules.specs.Epochs.{IsOwnTo, QualifiedHasAddress, WaitingIsOwn}
 use Rattle.client_rules.specs.Sendings.{IsSending, solicits, bubbles, tests, carries, EachSend}
@@ -204,21 +205,21 @@ by_transmission P s a x p w fate.Unbuilt h = tt
 
 -- EACH KIND OF SENDING
 
-carried : (s : Settings) (q : Qualification) (peer : Option Ip6) (to : Ep) (xs : List (List ℕ)) → AllByRecursion (IsOwnTo q.address peer) xs → AllByRecursion (IsSending s q peer) (releases to xs)
-carried s q peer to [] a = tt
-carried s q peer to (x ∷ xs) a = (carries to x a.0 refl, carried s q peer to xs a.1)
+carried : (s : Settings) (q : Qualification) (after : Phase) (peer : Option Ip6) (to : Ep) (xs : List (List ℕ)) → AllByRecursion (IsOwnTo q.address peer) xs → AllByRecursion (IsSending s q after peer) (releases to xs)
+carried s q after peer to [] a = tt
+carried s q after peer to (x ∷ xs) a = (carries to x a.0 refl, carried s q after peer to xs a.1)
 
-two_bubbles : (cone : Bool) (s : Settings) (q : Qualification) (own p : Ip6) → q.address ≡ Some own → AllByRecursion (IsSending s q (Some p)) (both_bubbles cone own p)
-two_bubbles true s q own p is = (bubbles own p (server_ep (server_in p)) is refl refl, tt)
-two_bubbles false s q own p is = (bubbles own p (embedded p) is refl refl, (bubbles own p (server_ep (server_in p)) is refl refl, tt))
+two_bubbles : (cone : Bool) (s : Settings) (q : Qualification) (after : Phase) (own p : Ip6) → q.address ≡ Some own → AllByRecursion (IsSending s q after (Some p)) (both_bubbles cone own p)
+two_bubbles true s q after own p is = (bubbles own p (server_ep (server_in p)) is refl refl, tt)
+two_bubbles false s q after own p is = (bubbles own p (embedded p) is refl refl, (bubbles own p (server_ep (server_in p)) is refl refl, tt))
 
-tried_by : (teredo : Bool) (s : Settings) (q : Qualification) (own p : Ip6) (w : Words) → q.address ≡ Some own → AllByRecursion (IsSending s q (Some p)) (tries_by teredo s own p w)
-tried_by true s q own p w is = two_bubbles (has_cone own) s q own p is
-tried_by false s q own p w is = (tests own p (nonce_from w) is refl refl, tt)
+tried_by : (teredo : Bool) (s : Settings) (q : Qualification) (after : Phase) (own p : Ip6) (w : Words) → q.address ≡ Some own → AllByRecursion (IsSending s q after (Some p)) (tries_by teredo s own p w)
+tried_by true s q after own p w is = two_bubbles (has_cone own) s q after own p is
+tried_by false s q after own p w is = (tests own p (nonce_from w) is refl refl, tt)
 
-tried : (s : Settings) (q : Qualification) (own p : Ip6) (w : Words) → q.address ≡ Some own → AllByRecursion (IsSending s q (Some p)) (try_sends s own p w)
+tried : (s : Settings) (q : Qualification) (after : Phase) (own p : Ip6) (w : Words) → q.address ≡ Some own → AllByRecursion (IsSending s q after (Some p)) (try_sends s own p w)
 unfolding try_sends
-tried s q own p w is = tried_by (is_teredo p) s q own p w is
+tried s q after own p w is = tried_by (is_teredo p) s q after own p w is
 
 -- DATAGRAMS
 
@@ -247,27 +248,27 @@ has_source s a from x m = record { qualified = m.qualified; source = that_source
 given_back : (o : Option Ip6) (p : Ip6) → o ≡ Some p → Some (unwrap_or o unspecified) ≡ o
 given_back o p h = subst (λ k. Some (unwrap_or k unspecified) ≡ k) (sym h) refl
 
-released : (s : Settings) (a : Standing) (from : Ep) (x : List ℕ) → IsReady a (source_in x) → HasSource s a from x → AllByRecursion (IsSending s a.qualification (source_in x)) (releases from (known_in a).waiting)
-released s a from x r h =
-    carried s a.qualification (source_in x) from (known_in a).waiting
+released : (s : Settings) (a : Standing) (after : Phase) (from : Ep) (x : List ℕ) → IsReady a (source_in x) → HasSource s a from x → AllByRecursion (IsSending s a.qualification after (source_in x)) (releases from (known_in a).waiting)
+released s a after from x r h =
+    carried s a.qualification after (source_in x) from (known_in a).waiting
     (subst (λ to. AllByRecursion (IsOwnTo a.qualification.address to) (known_in a).waiting) (given_back (source_in x) (value_in x).packet.src h.source) r.waiting)
 
-answered_to : (s : Settings) (q : Qualification) (own p : Ip6) (o : Option Ep) → q.address ≡ Some own → AllByRecursion (IsSending s q (Some p)) (map (direct_bubble own p) (option_to_list o))
-answered_to s q own p None is = tt
-answered_to s q own p (Some to) is = (bubbles own p to is refl refl, tt)
+answered_to : (s : Settings) (q : Qualification) (after : Phase) (own p : Ip6) (o : Option Ep) → q.address ≡ Some own → AllByRecursion (IsSending s q after (Some p)) (map (direct_bubble own p) (option_to_list o))
+answered_to s q after own p None is = tt
+answered_to s q after own p (Some to) is = (bubbles own p to is refl refl, tt)
 
-of_datagram : (s : Settings) (a : Standing) (from : Ep) (x : List ℕ) (w : Words) → IsReady a (source_in x) → AllByRecursion (IsSending s a.qualification (source_in x)) (reception s a from x w).sends
+of_datagram : (s : Settings) (a : Standing) (after : Phase) (from : Ep) (x : List ℕ) (w : Words) → IsReady a (source_in x) → AllByRecursion (IsSending s a.qualification after (source_in x)) (reception s a from x w).sends
 unfolding reception
-of_datagram s a from x w r =
+of_datagram s a after from x w r =
     let f = reception_fate s a from x in
     let h = heard s a.qualification from (value_in x) in
     let told : (g : Fate) → f ≡ g → ReceivedOnlyIf g (seen s a from x) h = λ g k. subst (λ i. ReceivedOnlyIf i (seen s a from x) h) k (reception_is_warranted s a from x) in
-    let release = λ (m : IsForClient (seen s a from x)). released s a from x r (has_source s a from x m) in
-    by_reception (IsSending s a.qualification (source_in x)) s a from x (value_in x) w f (record {
+    let release = λ (m : IsForClient (seen s a from x)). released s a after from x r (has_source s a from x m) in
+    by_reception (IsSending s a.qualification after (source_in x)) s a from x (value_in x) w f (record {
       answered = λ k.
           let m = has_source s a from x (told fate.Indirect k).mine in
-          subst (λ peer. AllByRecursion (IsSending s a.qualification peer) (answers_bubble s a (value_in x)).sends) (sym m.source)
-          (answered_to s a.qualification (own_address a.qualification) (value_in x).packet.src (origin_in (value_in x).lead) (address_is a (source_in x) r m.qualified));
+          subst (λ peer. AllByRecursion (IsSending s a.qualification after peer) (answers_bubble s a (value_in x)).sends) (sym m.source)
+          (answered_to s a.qualification after (own_address a.qualification) (value_in x).packet.src (origin_in (value_in x).lead) (address_is a (source_in x) r m.qualified));
       rule1 = λ k. release (told fate.Rule1 k).direct.mine;
       rule1_bubble = λ k. release (told fate.Rule1Bubble k).direct.mine;
       rule2 = λ k. release (told fate.Rule2 k).direct.mine;
@@ -293,35 +294,42 @@ sendable s a x r out =
     let own = own_to s a x out in
     record { address = address; own = subst (λ o. IsOwnTo o (destination_in x) x) (sym address) own; to = own.destination }
 
-sent_at : (s : Settings) (q : Qualification) (peer : Option Ip6) (x : List ℕ) (o : Option Ep) → IsOwnTo q.address peer x → AllByRecursion (IsSending s q peer) (map (λ (at : Ep). send at x) (option_to_list o))
-sent_at s q peer x None h = tt
-sent_at s q peer x (Some at) h = (carries at x h refl, tt)
+sent_at : (s : Settings) (q : Qualification) (after : Phase) (peer : Option Ip6) (x : List ℕ) (o : Option Ep) → IsOwnTo q.address peer x → AllByRecursion (IsSending s q after peer) (map (λ (at : Ep). send at x) (option_to_list o))
+sent_at s q after peer x None h = tt
+sent_at s q after peer x (Some at) h = (carries at x h refl, tt)
 
-queued_try : (b : Bool) (s : Settings) (a : Standing) (p : Ip6) (w : Words) → a.qualification.address ≡ Some (own_address a.qualification) → AllByRecursion (IsSending s a.qualification (Some p)) (queues b s a p w).sends
-queued_try true s a p w is = tt
-queued_try false s a p w is = tried s a.qualification (own_address a.qualification) p w is
+queued_try : (b : Bool) (s : Settings) (a : Standing) (after : Phase) (p : Ip6) (w : Words) → a.qualification.address ≡ Some (own_address a.qualification) → AllByRecursion (IsSending s a.qualification after (Some p)) (queues b s a p w).sends
+queued_try true s a after p w is = tt
+queued_try false s a after p w is = tried s a.qualification after (own_address a.qualification) p w is
 
-of_packet : (s : Settings) (a : Standing) (x : List ℕ) (w : Words) → IsReady a (destination_in x) → AllByRecursion (IsSending s a.qualification (destination_in x)) (transmission s a x w).sends
+of_packet : (s : Settings) (a : Standing) (after : Phase) (x : List ℕ) (w : Words) → IsReady a (destination_in x) → AllByRecursion (IsSending s a.qualification after (destination_in x)) (transmission s a x w).sends
 unfolding transmission
-of_packet s a x w r =
+of_packet s a after x w r =
     let f = transmission_row (given_to s a x) in
     let told : (g : Fate) → f ≡ g → SentOnlyIf g (given_to s a x) = λ g k. subst (λ i. SentOnlyIf i (given_to s a x)) k (transmission_is_warranted s a x) in
-    by_transmission (IsSending s a.qualification (destination_in x)) s a x (fields_in x).dst w f (record {
-      sent = λ k. sent_at s a.qualification (destination_in x) x (known_in a).trusted (sendable s a x r (told fate.Sent k).out).own;
+    by_transmission (IsSending s a.qualification after (destination_in x)) s a x (fields_in x).dst w f (record {
+      sent = λ k. sent_at s a.qualification after (destination_in x) x (known_in a).trusted (sendable s a x r (told fate.Sent k).out).own;
       sent_cone = λ k. (carries (embedded (fields_in x).dst) x (sendable s a x r (told fate.SentCone k).out).own refl, tt);
       queued = λ k.
           let m = sendable s a x r (told fate.Queued k).out in
-          subst (λ peer. AllByRecursion (IsSending s a.qualification peer) (queues (is_barred a.moment (known_in a)) s a (fields_in x).dst w).sends) (sym m.to)
-          (queued_try (is_barred a.moment (known_in a)) s a (fields_in x).dst w m.address);
+          subst (λ peer. AllByRecursion (IsSending s a.qualification after peer) (queues (is_barred a.moment (known_in a)) s a (fields_in x).dst w).sends) (sym m.to)
+          (queued_try (is_barred a.moment (known_in a)) s a after (fields_in x).dst w m.address);
     })
 
 -- TICKS
 
-solicited : (s : Settings) (q : Qualification) (w : Words) (phase : Phase) (sends : ℕ) → AllByRecursion (IsSending s q None) (solicits_by s q w (due_fate phase sends)).sends
-solicited s q w Cone sends = elim (nat_lt sends SOLICITATIONS_MAX) as (λ b. AllByRecursion (IsSending s q None) (solicits_by s q w (cond b fate.RsCone fate.RsRestricted)).sends) [ true ↦ (solicits Cone true (nonce_from w) refl, tt) | false ↦ (solicits Restricted false (nonce_from w) refl, tt) ]
-solicited s q w Restricted sends = elim (nat_lt sends SOLICITATIONS_MAX) as (λ b. AllByRecursion (IsSending s q None) (solicits_by s q w (cond b fate.RsRestricted fate.OffLine)).sends) [ true ↦ (solicits Restricted false (nonce_from w) refl, tt) | false ↦ tt ]
-solicited s q w Secondary sends = elim (nat_lt sends SOLICITATIONS_MAX) as (λ b. AllByRecursion (IsSending s q None) (solicits_by s q w (cond b fate.RsSecondary fate.OffLine)).sends) [ true ↦ (solicits Secondary false (nonce_from w) refl, tt) | false ↦ tt ]
-solicited s q w Qualified sends = (solicits Qualified (is_cone q) (nonce_from w) refl, tt)
+-- the phase after a fate
+abbrev phase_after : Fate → Phase → Phase
+phase_after f phase = unwrap_or (begins (turn f)) phase
+
+abbrev AreSolicits : Settings → Qualification → Words → Phase → Fate → Type 0
+AreSolicits s q w phase f = AllByRecursion (IsSending s q (phase_after (solicits_by s q w f).fate phase) None) (solicits_by s q w f).sends
+
+solicited : (s : Settings) (q : Qualification) (w : Words) (phase : Phase) (sends : ℕ) → AreSolicits s q w phase (due_fate phase sends)
+solicited s q w Cone sends = elim (nat_lt sends SOLICITATIONS_MAX) as (λ b. AreSolicits s q w Cone (cond b fate.RsCone fate.RsRestricted)) [ true ↦ (solicits (nonce_from w) refl, tt) | false ↦ (solicits (nonce_from w) refl, tt) ]
+solicited s q w Restricted sends = elim (nat_lt sends SOLICITATIONS_MAX) as (λ b. AreSolicits s q w Restricted (cond b fate.RsRestricted fate.OffLine)) [ true ↦ (solicits (nonce_from w) refl, tt) | false ↦ tt ]
+solicited s q w Secondary sends = elim (nat_lt sends SOLICITATIONS_MAX) as (λ b. AreSolicits s q w Secondary (cond b fate.RsSecondary fate.OffLine)) [ true ↦ (solicits (nonce_from w) refl, tt) | false ↦ tt ]
+solicited s q w Qualified sends = (solicits (nonce_from w) refl, tt)
 solicited s q w Symmetric sends = tt
 solicited s q w OffLine sends = tt
 
@@ -349,9 +357,9 @@ own_waits : (own to : Option Ip6) (xs : List (List ℕ)) → is_none xs ≡ fals
 own_waits own to [] h a = absurd (true≢false h)
 own_waits own to (x ∷ xs) h a = ap is_some a.0.source
 
-tried_peer : (spent : Bool) (s : Settings) (q : Qualification) (l : Listing) (w : Words) → q.address ≡ Some (own_address q) → AllByRecursion (IsSending s q (Some l.who)) (tries_peer spent s q l w).sends
-tried_peer true s q l w is = tt
-tried_peer false s q l w is = tried s q (own_address q) l.who w is
+tried_peer : (spent : Bool) (s : Settings) (q : Qualification) (after : Phase) (l : Listing) (w : Words) → q.address ≡ Some (own_address q) → AllByRecursion (IsSending s q after (Some l.who)) (tries_peer spent s q l w).sends
+tried_peer true s q after l w is = tt
+tried_peer false s q after l w is = tried s q after (own_address q) l.who w is
 
 -- a peer that is due has packets waiting, so there is an address
 tried_address : FirstWaits → WaitingIsOwn → (s : Settings) (j : Journal) (n : ℕ) (l : Listing) → IsJournal s j → first_peer j n ≡ Some l → (qualification s j).address ≡ Some (own_address (qualification s j))
@@ -362,11 +370,12 @@ tried_address waits wait s j n l a is =
     (ap (λ peer. is_none peer.waiting) (sym found.peer) ∙ found.waits) (wait s j n l.who a))
 
 of_due : FirstWaits → WaitingIsOwn → (s : Settings) (j : Journal) (n : ℕ) (w : Words) → IsJournal s j → (due : Due) → due_at n (qualification s j) (first_peer j n) ≡ due
-    → AllByRecursion (IsSending s (qualification s j) (peer_of_due due)) (tick s n (qualification s j) w due).sends
+    → AllByRecursion (IsSending s (qualification s j) (phase_after (tick s n (qualification s j) w due).fate (qualification s j).phase) (peer_of_due due)) (tick s n (qualification s j) w due).sends
 unfolding due_step
 of_due waits wait s j n w a asks is = solicited s (qualification s j) w (qualification s j).phase (qualification s j).sends
 of_due waits wait s j n w a (tries l) is =
-    tried_peer (is_spent n l.peer) s (qualification s j) l w (tried_address waits wait s j n l a (due_first n (qualification s j) (first_peer j n) l (ap tried_in is)))
+    tried_peer (is_spent n l.peer) s (qualification s j) (phase_after (tick s n (qualification s j) w (tries l)).fate (qualification s j).phase) l w
+    (tried_address waits wait s j n l a (due_first n (qualification s j) (first_peer j n) l (ap tried_in is)))
 of_due waits wait s j n w a nothing is = tt
 
 -- ANY ENTRY
@@ -375,14 +384,26 @@ ready : QualifiedHasAddress → WaitingIsOwn → (s : Settings) (j : Journal) (n
 unfolding standing_at
 ready has wait s j n peer a = record { addressed = has s j a; waiting = wait s j n (unwrap_or peer unspecified) a }
 
-of_entry : QualifiedHasAddress → WaitingIsOwn → FirstWaits → (s : Settings) (j : Journal) (n : ℕ) (input : Input) (w : Words) → IsJournal s j
-    → AllByRecursion (IsSending s (qualification s j) (client_entry s j n input w).peer) (client_entry s j n input w).step.sends
+-- each datagram of an entry
+abbrev AllSend : Settings → Journal → Entry → Type 0
+AllSend s j e = AllByRecursion (IsSending s (qualification s j) (phase_after e.step.fate (qualification s j).phase) e.peer) e.step.sends
+
+of_entry : QualifiedHasAddress → WaitingIsOwn → FirstWaits → (s : Settings) (j : Journal) (n : ℕ) (input : Input) (w : Words) → IsJournal s j → AllSend s j (client_entry s j n input w)
 unfolding client_in client_out client_tick standing_at
-of_entry has wait waits s j n (arrived from x) w a = of_datagram s (standing_of s j n (source_in x)) from x w (ready has wait s j n (source_in x) a)
-of_entry has wait waits s j n (given x) w a = of_packet s (standing_of s j n (destination_in x)) x w (ready has wait s j n (destination_in x) a)
+of_entry has wait waits s j n (arrived from x) w a =
+    let e = client_entry s j n (arrived from x) w in
+    of_datagram s (standing_of s j n (source_in x)) (phase_after e.step.fate (qualification s j).phase) from x w (ready has wait s j n (source_in x) a)
+of_entry has wait waits s j n (given x) w a =
+    let e = client_entry s j n (given x) w in
+    of_packet s (standing_of s j n (destination_in x)) (phase_after e.step.fate (qualification s j).phase) x w (ready has wait s j n (destination_in x) a)
 of_entry has wait waits s j n ticked w a = of_due waits wait s j n w a (due_at n (qualification s j) (first_peer j n)) refl
 of_entry has wait waits s j n (from_six x) w a = tt
 
+next_phase : (s : Settings) (j : Journal) (e : Entry) → phase_after e.step.fate (qualification s j).phase ≡ (qualification s (with_entry j e)).phase
+unfolding qualification
+next_phase s j e = refl
+
 pub each_send : QualifiedHasAddress → WaitingIsOwn → FirstWaits → EachSend
 each_send has wait waits s j e a =
-    subst (λ (x : Entry). AllByRecursion (IsSending s (qualification s j) x.peer) x.step.sends) (sym a.0.is) (of_entry has wait waits s j e.moment e.input a.0.words a.1)
+    let sends : AllSend s j e = subst (λ (x : Entry). AllSend s j x) (sym a.0.is) (of_entry has wait waits s j e.moment e.input a.0.words a.1) in
+    subst (λ phase. AllByRecursion (IsSending s (qualification s j) phase e.peer) e.step.sends) (next_phase s j e) sends

@@ -8,7 +8,8 @@
 //! - One entry more is one mention more of its peer, and the fate of a step is that of a line of its table: `laws`.
 //! - Where a datagram or a packet isn't dropped, the conditions of its line held (`specs/Warrants.antt`).
 //! - In every journal a client has an address exactly while it is qualified, what waits is from that address, and another
-//!   client is trusted at its embedded endpoint alone (`specs/Epochs.antt`).
+//!   client is trusted at its embedded endpoint alone (`specs/Epochs.antt`). Each datagram is of one of four kinds
+//!   (`specs/Sendings.antt`).
 //!
 //! # What it does not know
 //!
@@ -26,6 +27,7 @@
 //! | what was seen where a fate is given | `specs/Warrants.antt` |
 //! | what holds of the tables, and of mentions | `specs/Laws.antt` |
 //! | what holds of address, waiting packets and trust | `specs/Epochs.antt` |
+//! | what is sent | `specs/Sendings.antt` |
 #![tactic(auto)]
 
 mod laws;

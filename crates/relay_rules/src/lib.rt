@@ -8,7 +8,8 @@
 //! - Where a packet goes out or waits, and where a datagram is a listed client's, the conditions of its line held
 //!   (`specs/Warrants.antt`).
 //! - In every journal what waits is from outside Teredo, a client is trusted at its embedded endpoint alone, and an address
-//!   with the cone bit has no tries and nothing waiting (`specs/Laws.antt`).
+//!   with the cone bit has no tries and nothing waiting (`specs/Laws.antt`). Each datagram is of one of two kinds
+//!   (`specs/Sendings.antt`).
 //!
 //! # What it does not know
 //!
@@ -24,6 +25,7 @@
 //! | the entries of a journal | `specs/Journals.antt` |
 //! | what was seen where a fate is given | `specs/Warrants.antt` |
 //! | what holds of every journal | `specs/Laws.antt` |
+//! | what is sent | `specs/Sendings.antt` |
 #![tactic(auto)]
 
 mod laws;
