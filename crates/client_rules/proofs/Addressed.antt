@@ -36,7 +36,7 @@ none_is : (o : Option Ip6) → is_some o ≡ false → o ≡ None
 none_is None h = refl
 none_is (Some x) h = absurd (true≢false h)
 
-own_is : (o : Option Ip6) → is_some o ≡ true → o ≡ Some (unwrap_or o unspecified)
+pub own_is : (o : Option Ip6) → is_some o ≡ true → o ≡ Some (unwrap_or o unspecified)
 own_is None h = absurd (false≢true h)
 own_is (Some p) h = refl
 

@@ -31,7 +31,7 @@ use Rattle.client_rules.specs.Reception.{Seen, seen, datagram_lines, packet_line
 use Rattle.client_rules.specs.Transmission.{Given, given as given_to, host_lines, destination_lines, transmission_row, transmission}
 use Rattle.client_rules.specs.Ticks.{Due, asks, tries, nothing, due_at, try_fate, tries_peer}
 use Rattle.client_rules.specs.Journals.{entry, client_in, client_out, ticks, client_tick, first_peer, client_entry}
-use Rattle.client_rules.specs.Warrants.{SentOnlyIf, GoesLater}
+use Rattle.client_rules.specs.Warrants.{SentOnlyIf, GoesOut, GoesLater}
 use Rattle.client_rules.specs.Epochs.{IsOwnTo}
 use Rattle.client_rules.proofs.Fates.{fate_of_reception, fate_of_transmission}
 use Rattle.client_rules.proofs.Lines.{by_lines, not_false}
@@ -177,18 +177,23 @@ is_that : (b : Bool) (p : Ip6) → b ≡ true → cond b (Some p) None ≡ Some 
 is_that true p h = refl
 is_that false p h = absurd (false≢true h)
 
+-- it is from the client's address
+pub own_to : (s : Settings) (a : Standing) (x : List ℕ) → GoesOut (given_to s a x) → IsOwnTo (Some (own_address a.qualification)) (destination_in x) x
+unfolding given_to destination_in
+own_to s a x out = record {
+  well_formed = out.packet;
+  short = out.short;
+  no_bubble = out.no_bubble;
+  source = ap Some (sym (same_ip6-true (fields_in x).src (own_address a.qualification) out.own_source));
+  destination = is_that (is_packet x) (fields_in x).dst out.packet;
+}
+
 queued_at : (s : Settings) (a : Standing) (n : ℕ) (x : List ℕ) (w : Words) (step : Step) → GoesLater (given_to s a x) → IsQueuedAt a.qualification (entry n (given x) (packet_given x) (destination_in x) w step)
-unfolding given_to packet_given destination_in
+unfolding given_to packet_given
 queued_at s a n x w step g = record {
   qualified = g.out.qualified;
   there = is_there (is_packet x) x g.out.packet;
-  packet = if_there (is_packet x) x (λ y. IsOwnTo (Some (own_address a.qualification)) (cond (is_packet x) (Some (fields_in x).dst) None) y) (record {
-    well_formed = g.out.packet;
-    short = g.out.short;
-    no_bubble = g.out.no_bubble;
-    source = ap Some (sym (same_ip6-true (fields_in x).src (own_address a.qualification) g.out.own_source));
-    destination = is_that (is_packet x) (fields_in x).dst g.out.packet;
-  });
+  packet = if_there (is_packet x) x (λ y. IsOwnTo (Some (own_address a.qualification)) (destination_in x) y) (own_to s a x g.out);
 }
 
 of_packet : (s : Settings) (a : Standing) (n : ℕ) (x : List ℕ) (w : Words) → IsEffect a.qualification (entry n (given x) (packet_given x) (destination_in x) w (transmission s a x w))

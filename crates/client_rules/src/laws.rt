@@ -1,6 +1,7 @@
 //! Laws of every journal of a client.
 ghost use Rattle.client_rules.specs.Laws.{FateOfReception, FateOfTransmission, ReceptionIsWarranted, TransmissionIsWarranted, NextMentions, TriesTouch, JournalIsTried, JournalHasFew};
 ghost use Rattle.client_rules.specs.Epochs.{QualifiedHasAddress, QualifiedStays, QueuedIsOwn, NoneQueued, WaitingIsOwn, TrustedIsEmbedded};
+ghost use Rattle.client_rules.specs.Sendings.{EachSend};
 
 /// What is done with a datagram has the fate of its line.
 pub fn fate_of_reception()
@@ -90,4 +91,13 @@ pub fn journal_has_few()
 {
     peer_list::first_waits();
     peer_list::few_listed();
+}
+
+/// Each datagram that a client sends is a solicitation, a bubble, a test or a packet of its host.
+pub fn each_send()
+    ensures { EachSend }
+{
+    qualified_has_address();
+    waiting_is_own();
+    peer_list::first_waits();
 }

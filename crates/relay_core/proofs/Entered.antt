@@ -17,7 +17,7 @@ use Rattle.relay_core.specs.declared.relay.Relay.{Relay}
 use Rattle.relay_rules.specs.Bearings.{mention, mentions}
 use Rattle.relay_rules.specs.Laws.{IsQuiet}
 use Rattle.relay_core.specs.Relay.{settings_of, RelayStandsFor, Enters, KeepsAll, AsBefore}
-use Rattle.relay_core.proofs.Below.{next_stands, idle_stands, kept_stands}
+use Rattle.relay_core.specs.Below.{Below}
 
 -- WHO IS QUIET
 
@@ -59,37 +59,37 @@ pub record Bears (old : Relay) (e : Entry) (who : Ip6) (new : Relay) : Type 0 wh
   pub peers : Updates old.peers new.peers e.moment who (after (mention e) (known_to old.peers e.moment who))
   pub quiet : has_cone who ≡ true → IsQuiet (known_to old.peers e.moment who) → IsQuiet (after (mention e) (known_to old.peers e.moment who))
 
-pub bears_stands : (old new : Relay) (e : Entry) (who : Ip6) → Bears old e who new → (j : List Entry) → RelayStandsFor old j → RelayStandsFor new (e ∷ j)
+pub bears_stands : (law : Below) (old new : Relay) (e : Entry) (who : Ip6) → Bears old e who new → (j : List Entry) → RelayStandsFor old j → RelayStandsFor new (e ∷ j)
 unfolding mentions
-bears_stands old new e who b j h = record {
-  peers = next_stands old.peers new.peers (mention e) (mentions j) who h.peers b.clock b.peer b.peers;
+bears_stands law old new e who b j h = record {
+  peers = law.next_stands old.peers new.peers (mention e) (mentions j) who h.peers b.clock b.peer b.peers;
   quiet = quiet_next old.peers new.peers e.moment who (after (mention e) (known_to old.peers e.moment who)) b.clock b.peers (λ cone. b.quiet cone (h.quiet e.moment who b.clock cone)) h.quiet;
 }
 
 -- for each journal, where that may rest on what it stands for
-pub bears_enters : (old new : Relay) (e : Entry) (who : Ip6) (peer : Peer) → Updates old.peers new.peers e.moment who peer → settings_of new ≡ settings_of old
+pub bears_enters : (law : Below) (old new : Relay) (e : Entry) (who : Ip6) (peer : Peer) → Updates old.peers new.peers e.moment who peer → settings_of new ≡ settings_of old
     → ((j : List Entry) → RelayStandsFor old j → Bears old e who new) → Enters old e new
-bears_enters old new e who peer u same b = record {
-  stands = λ j h. bears_stands old new e who (b j h) j h;
+bears_enters law old new e who peer u same b = record {
+  stands = λ j h. bears_stands law old new e who (b j h) j h;
   settings = same;
   clock = subst (λ (n : ℕ). n ≤ e.moment) (sym u.moment) (le_refl e.moment);
 }
 
 -- an entry that means nothing for a peer: the relay is the same
-pub none_stands : (r : Relay) (e : Entry) → MeansNothing (mention e) → (j : List Entry) → RelayStandsFor r j → RelayStandsFor r (e ∷ j)
+pub none_stands : (law : Below) (r : Relay) (e : Entry) → MeansNothing (mention e) → (j : List Entry) → RelayStandsFor r j → RelayStandsFor r (e ∷ j)
 unfolding mentions
-none_stands r e idle j h = record { peers = idle_stands r.peers (mention e) (mentions j) h.peers idle; quiet = h.quiet }
+none_stands law r e idle j h = record { peers = law.idle_stands r.peers (mention e) (mentions j) h.peers idle; quiet = h.quiet }
 
-pub none_enters : (r : Relay) (e : Entry) → MeansNothing (mention e) → r.peers.moment ≤ e.moment → Enters r e r
-none_enters r e idle clock = record { stands = none_stands r e idle; settings = refl; clock = clock }
+pub none_enters : (law : Below) (r : Relay) (e : Entry) → MeansNothing (mention e) → r.peers.moment ≤ e.moment → Enters r e r
+none_enters law r e idle clock = record { stands = none_stands law r e idle; settings = refl; clock = clock }
 
 -- REFUSALS
 
 -- whatever keeps all stays as it was
-pub keeps_stays : (old new : Relay) (n : ℕ) → old.peers.moment ≤ n → KeepsAll old n new → AsBefore old new
-keeps_stays old new n clock k = record {
+pub keeps_stays : (law : Below) (old new : Relay) (n : ℕ) → old.peers.moment ≤ n → KeepsAll old n new → AsBefore old new
+keeps_stays law old new n clock k = record {
   stands = λ j h. record {
-    peers = kept_stands old.peers new.peers n (mentions j) h.peers clock k.peers;
+    peers = law.kept_stands old.peers new.peers n (mentions j) h.peers clock k.peers;
     quiet = λ m p l cone.
         let later : n ≤ m = subst (λ (i : ℕ). i ≤ m) k.peers.moment l in
         subst (λ (o : Option Peer). IsQuiet (unwrap_or o no_peer)) (sym (k.peers.view m p later)) (h.quiet m p (le_trans clock later) cone);

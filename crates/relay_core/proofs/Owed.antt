@@ -23,46 +23,46 @@ use Rattle.relay_rules.specs.Ticks.{due_at}
 use Rattle.relay_rules.specs.Journals.{relay_due}
 use Rattle.relay_core.specs.Relay.{RelayStandsFor, AsBefore}
 use Rattle.relay_core.specs.Endpoint.{owing, IsOverdue, DoesDue}
-use Rattle.relay_core.proofs.Below.{nothing_overdue, first_overdue, less_overdue, found_is_listed, touched_is_listed}
+use Rattle.relay_core.specs.Below.{Below}
 use Rattle.relay_core.proofs.Read.{read_same}
 
 -- WHEN
 
-pub due_told : (r : Relay) (n : ℕ) (d : Option ℕ) → r.peers.moment ≤ n → d ≡ option_map (λ (l : Listing). due_of l.peer) (first_due_in r.peers n)
+pub due_told : (law : Below) (r : Relay) (n : ℕ) (d : Option ℕ) → r.peers.moment ≤ n → d ≡ option_map (λ (l : Listing). due_of l.peer) (first_due_in r.peers n)
     → (j : List Entry) → RelayStandsFor r j → d ≡ relay_due j n
 unfolding relay_due
-due_told r n d l e j h = let s = read_same r j n h l in e ∙ (λ i. option_map (λ (x : Listing). due_of x.peer) (s.first i))
+due_told law r n d l e j h = let s = read_same law r j n h l in e ∙ (λ i. option_map (λ (x : Listing). due_of x.peer) (s.first i))
 
-first_due_by : (r : Relay) (n : ℕ) (first : Option Listing) (d : Option Millis) → first_due_in r.peers n ≡ first
+first_due_by : (law : Below) (r : Relay) (n : ℕ) (first : Option Listing) (d : Option Millis) → first_due_in r.peers n ≡ first
     → option_map (λ (m : Millis). m.0) d ≡ option_map (λ (l : Listing). due_of l.peer) first → IsFirstDue (owing r) n d
-first_due_by r n None None f is = λ m le. nothing_overdue r.peers n m le f
-first_due_by r n None (Some at) f is = absurd (false≢true (sym (ap (λ (o : Option ℕ). is_some o) is)))
-first_due_by r n (Some l) None f is = absurd (false≢true (ap (λ (o : Option ℕ). is_some o) is))
-first_due_by r n (Some l) (Some at) f is =
-    let first = first_overdue r.peers n l f in
+first_due_by law r n None None f is = λ m le. law.nothing_overdue r.peers n m le f
+first_due_by law r n None (Some at) f is = absurd (false≢true (sym (ap (λ (o : Option ℕ). is_some o) is)))
+first_due_by law r n (Some l) None f is = absurd (false≢true (ap (λ (o : Option ℕ). is_some o) is))
+first_due_by law r n (Some l) (Some at) f is =
+    let first = law.first_overdue r.peers n l f in
     let same : at.0 ≡ due_of l.peer = cc in
     ((λ m le lt. first.before m le (omega (arith, same, lt))), (λ le. first.now (omega (arith, same, le))))
 
-pub first_due_holds : (r : Relay) (n : ℕ) (d : Option Millis) → option_map (λ (m : Millis). m.0) d ≡ option_map (λ (l : Listing). due_of l.peer) (first_due_in r.peers n) → IsFirstDue (owing r) n d
-first_due_holds r n d is = first_due_by r n (first_due_in r.peers n) d refl is
+pub first_due_holds : (law : Below) (r : Relay) (n : ℕ) (d : Option Millis) → option_map (λ (m : Millis). m.0) d ≡ option_map (λ (l : Listing). due_of l.peer) (first_due_in r.peers n) → IsFirstDue (owing r) n d
+first_due_holds law r n d is = first_due_by law r n (first_due_in r.peers n) d refl is
 
 -- A TICK WHERE NOTHING IS DUE
 
-nothing_by : (t : Table) (n : ℕ) (o : Option Listing) → first_due_in t n ≡ o → due_at n o ≡ None → overdue_in t n ≡ 0
-nothing_by t n None e k = nothing_overdue t n n (le_refl n) e
-nothing_by t n (Some l) e k = by_test (nat_le (due_of l.peer) n) refl k where
+nothing_by : (law : Below) (t : Table) (n : ℕ) (o : Option Listing) → first_due_in t n ≡ o → due_at n o ≡ None → overdue_in t n ≡ 0
+nothing_by law t n None e k = law.nothing_overdue t n n (le_refl n) e
+nothing_by law t n (Some l) e k = by_test (nat_le (due_of l.peer) n) refl k where
   by_test : (b : Bool) → nat_le (due_of l.peer) n ≡ b → (if b then Some l else None) ≡ None → overdue_in t n ≡ 0
   by_test true is h = absurd (false≢true (sym (ap (λ (o : Option Listing). is_some o) h)))
-  by_test false is h = (first_overdue t n l e).before n (le_refl n) (leb-false (due_of l.peer) n is)
+  by_test false is h = (law.first_overdue t n l e).before n (le_refl n) (leb-false (due_of l.peer) n is)
 
-nothing_due : (t : Table) (n : ℕ) → due_at n (first_due_in t n) ≡ None → overdue_in t n ≡ 0
-nothing_due t n k = nothing_by t n (first_due_in t n) refl k
+nothing_due : (law : Below) (t : Table) (n : ℕ) → due_at n (first_due_in t n) ≡ None → overdue_in t n ≡ 0
+nothing_due law t n k = nothing_by law t n (first_due_in t n) refl k
 
 pub rests : (r : Relay) (n : ℕ) → Idles (owing r n) (AsBefore r r) (just fate.Idle)
 rests r n owed = (refl, record { stands = λ j h. h; settings = refl })
 
-pub rests_too : (r : Relay) (n : ℕ) → due_at n (first_due_in r.peers n) ≡ None → Lessens (owing r n) (owing r n) (just fate.Idle)
-rests_too r n k owed = let idle = nothing_due r.peers n k in absurd (omega (arith, idle, owed))
+pub rests_too : (law : Below) (r : Relay) (n : ℕ) → due_at n (first_due_in r.peers n) ≡ None → Lessens (owing r n) (owing r n) (just fate.Idle)
+rests_too law r n k owed = let idle = nothing_due law r.peers n k in absurd (omega (arith, idle, owed))
 
 -- A TICK WHERE A PEER IS DUE
 
@@ -82,12 +82,12 @@ emptied_stays n p h = by_test (is_within LISTED_MS n p.touched) h where
   by_test true k = refl
   by_test false k = absurd (false≢true (ap (λ (o : Option Peer). is_some o) k))
 
-pub given_up : (old new : Relay) (n : ℕ) (who : Ip6) (step : Step) → IsOverdue old.peers n who → Updates old.peers new.peers n who (emptied (known_to old.peers n who)) → step.fate ≡ fate.GiveUp → DoesDue old new n step
-given_up old new n who step d u f =
+pub given_up : (law : Below) (old new : Relay) (n : ℕ) (who : Ip6) (step : Step) → IsOverdue old.peers n who → Updates old.peers new.peers n who (emptied (known_to old.peers n who)) → step.fate ≡ fate.GiveUp → DoesDue old new n step
+given_up law old new n who step d u f =
     let known = known_to old.peers n who in
     record {
-      less = less_overdue old.peers new.peers n who (emptied known)
-          (record { listed = d.listed; waits = d.waits; due = d.due; stays = emptied_stays n known (found_is_listed old.peers n who d.listed); over = none_by (nat_le (due_of (emptied known)) n) known }) u;
+      less = law.less_overdue old.peers new.peers n who (emptied known)
+          (record { listed = d.listed; waits = d.waits; due = d.due; stays = emptied_stays n known (law.found_is_listed old.peers n who d.listed); over = none_by (nat_le (due_of (emptied known)) n) known }) u;
       busy = λ e. let no_way : fate.GiveUp ≡ fate.Idle = sym f ∙ e in cc;
     }
 
@@ -101,12 +101,12 @@ tried_over n p =
     let later : nat_le (due_of (tried_at n None p)) n ≡ false = ap (λ (m : ℕ). nat_le m n) (tried_later n p) ∙ lt-leb (n + 2000) n (omega arith) in
     ap (λ (b : Bool). is_none (if b then tried_at n None p else no_peer).waiting) later
 
-pub tried_off : (old new : Relay) (n : ℕ) (who : Ip6) (step : Step) → IsOverdue old.peers n who → Updates old.peers new.peers n who (tried_at n None (known_to old.peers n who)) → step.fate ≡ fate.Bubbles → DoesDue old new n step
-tried_off old new n who step d u f =
+pub tried_off : (law : Below) (old new : Relay) (n : ℕ) (who : Ip6) (step : Step) → IsOverdue old.peers n who → Updates old.peers new.peers n who (tried_at n None (known_to old.peers n who)) → step.fate ≡ fate.Bubbles → DoesDue old new n step
+tried_off law old new n who step d u f =
     let known = known_to old.peers n who in
     record {
-      less = less_overdue old.peers new.peers n who (tried_at n None known)
-          (record { listed = d.listed; waits = d.waits; due = d.due; stays = touched_is_listed n (tried_at n None known) refl; over = tried_over n known }) u;
+      less = law.less_overdue old.peers new.peers n who (tried_at n None known)
+          (record { listed = d.listed; waits = d.waits; due = d.due; stays = law.touched_is_listed n (tried_at n None known) refl; over = tried_over n known }) u;
       busy = λ e. let no_way : fate.Bubbles ≡ fate.Idle = sym f ∙ e in cc;
     }
 
@@ -120,10 +120,10 @@ pub record IsNamed (t : Table) (n : ℕ) (at : Millis) (who : Ip6) : Type 0 wher
   pub first : first_due_in t n ≡ Some (listed_at t n who)
   pub at_moment : due_of (known_to t n who) ≡ at.0
 
-named_by : (t : Table) (n : ℕ) (at : Millis) (who : Ip6) (o : Option Listing) → first_due_in t n ≡ o → option_map due_and_who o ≡ Some (at, who) → IsNamed t n at who
-named_by t n at who None e k = absurd (false≢true (ap (λ (o : Option (Millis × Ip6)). is_some o) k))
-named_by t n at who (Some l) e k =
-    let known = (first_overdue t n l e).peer in
+named_by : (law : Below) (t : Table) (n : ℕ) (at : Millis) (who : Ip6) (o : Option Listing) → first_due_in t n ≡ o → option_map due_and_who o ≡ Some (at, who) → IsNamed t n at who
+named_by law t n at who None e k = absurd (false≢true (ap (λ (o : Option (Millis × Ip6)). is_some o) k))
+named_by law t n at who (Some l) e k =
+    let known = (law.first_overdue t n l e).peer in
     let same : l.who ≡ who = ap (λ (o : Option (Millis × Ip6)). (unwrap_or o (at, who)).1) k in
     let moment : due_of l.peer ≡ at.0 = ap (λ (o : Option (Millis × Ip6)). (unwrap_or o (at, who)).0.0) k in
     subst (λ (p : Ip6). IsNamed t n at p) same (record {
@@ -131,13 +131,13 @@ named_by t n at who (Some l) e k =
       at_moment = ap (λ (p : Peer). due_of p) (sym known) ∙ moment;
     })
 
-pub named : (t : Table) (n : ℕ) (at : Millis) (who : Ip6) → option_map due_and_who (first_due_in t n) ≡ Some (at, who) → IsNamed t n at who
-named t n at who k = named_by t n at who (first_due_in t n) refl k
+pub named : (law : Below) (t : Table) (n : ℕ) (at : Millis) (who : Ip6) → option_map due_and_who (first_due_in t n) ≡ Some (at, who) → IsNamed t n at who
+named law t n at who k = named_by law t n at who (first_due_in t n) refl k
 
 -- it is overdue, where that is by now
-pub overdue_named : (t : Table) (n : ℕ) (at : Millis) (who : Ip6) → IsNamed t n at who → at.0 ≤ n → IsOverdue t n who
-overdue_named t n at who k l =
-    let f = first_overdue t n (listed_at t n who) k.first in
+pub overdue_named : (law : Below) (t : Table) (n : ℕ) (at : Millis) (who : Ip6) → IsNamed t n at who → at.0 ≤ n → IsOverdue t n who
+overdue_named law t n at who k l =
+    let f = law.first_overdue t n (listed_at t n who) k.first in
     record { listed = f.listed; waits = f.waits; due = omega (arith, k.at_moment, l) }
 
 -- a moment that another isn't before

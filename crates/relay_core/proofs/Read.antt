@@ -16,15 +16,15 @@ use Rattle.relay_rules.specs.Standing.{RelaySettings, Standing, standing_at, sta
 use Rattle.relay_rules.specs.Reception.{seen_of, seen, reception_row, reception_step, reception}
 use Rattle.relay_rules.specs.Journals.{entry, relay_in}
 use Rattle.relay_core.specs.Relay.{settings_of, standing_in, RelayStandsFor, Does, TakesPayload, IsPayloadOf, fate_in}
-use Rattle.relay_core.proofs.Below.{table_is_read}
+use Rattle.relay_core.specs.Below.{Below}
 use Rattle.relay_core.proofs.Entered.{none_stands}
 
-pub read_same : (r : Relay) (j : List Entry) (n : ℕ) → RelayStandsFor r j → r.peers.moment ≤ n → SaysTheSame r.peers (mentions j) n
-read_same r j n h l = table_is_read r.peers (mentions j) n h.peers l
+pub read_same : (law : Below) (r : Relay) (j : List Entry) (n : ℕ) → RelayStandsFor r j → r.peers.moment ≤ n → SaysTheSame r.peers (mentions j) n
+read_same law r j n h l = law.table_is_read r.peers (mentions j) n h.peers l
 
-pub standing_is : (r : Relay) (j : List Entry) (n : ℕ) (p : Ip6) → RelayStandsFor r j → r.peers.moment ≤ n → standing_in r n p ≡ standing_at j n p
+pub standing_is : (law : Below) (r : Relay) (j : List Entry) (n : ℕ) (p : Ip6) → RelayStandsFor r j → r.peers.moment ≤ n → standing_in r n p ≡ standing_at j n p
 unfolding standing_at
-standing_is r j n p h l = let s = read_same r j n h l in λ i. record { moment = n; peer = s.peer p i; room = s.room p i }
+standing_is law r j n p h l = let s = read_same law r j n h l in λ i. record { moment = n; peer = s.peer p i; room = s.room p i }
 
 -- DATAGRAMS
 
@@ -37,19 +37,19 @@ reception_by : (s : RelaySettings) (a : Standing) (from : Ep) (x : List ℕ) (v 
 unfolding reception seen
 reception_by s a from x v b payload value = λ i. reception_step a x (value i) (reception_row (seen_of s a from (payload i) (value i)))
 
-step_there : (r : Relay) (j : List Entry) (n : ℕ) (from : Ep) (x : List ℕ) (v : Value) → RelayStandsFor r j → r.peers.moment ≤ n → is_payload x ≡ true → value_in x ≡ v
+step_there : (law : Below) (r : Relay) (j : List Entry) (n : ℕ) (from : Ep) (x : List ℕ) (v : Value) → RelayStandsFor r j → r.peers.moment ≤ n → is_payload x ≡ true → value_in x ≡ v
     → reception (settings_of r) (standing_of j n (source_in x)) from x ≡ reception_step (standing_in r n v.packet.src) x v (fate_in r n from v)
-step_there r j n from x v h l payload value =
-    let a : standing_of j n (source_in x) ≡ standing_in r n v.packet.src = ap (standing_of j n) (source_there x v payload value) ∙ sym (standing_is r j n v.packet.src h l) in
+step_there law r j n from x v h l payload value =
+    let a : standing_of j n (source_in x) ≡ standing_in r n v.packet.src = ap (standing_of j n) (source_there x v payload value) ∙ sym (standing_is law r j n v.packet.src h l) in
     ap (λ (b : Standing). reception (settings_of r) b from x) a
     ∙ reception_by (settings_of r) (standing_in r n v.packet.src) from x v true payload value
 
-pub received : (old new : Relay) (n : ℕ) (from : Ep) (x : List ℕ) (v : Value) (step : Step) → is_payload x ≡ true → IsPayloadOf x v → old.peers.moment ≤ n
+pub received : (law : Below) (old new : Relay) (n : ℕ) (from : Ep) (x : List ℕ) (v : Value) (step : Step) → is_payload x ≡ true → IsPayloadOf x v → old.peers.moment ≤ n
     → TakesPayload old n from v (fate_in old n from v) step new → Does old n (arrived from x) step new
 unfolding relay_in
-received old new n from x v step payload is l r =
+received law old new n from x v step payload is l r =
     let did : (j : List Entry) → RelayStandsFor old j → step ≡ reception (settings_of old) (standing_of j n (source_in x)) from x =
-    (λ j h. r.did x is ∙ sym (step_there old j n from x v h l payload is.value)) in
+    (λ j h. r.did x is ∙ sym (step_there law old j n from x v h l payload is.value)) in
     record {
       did = did;
       stands = λ j h. subst (λ (e : Entry). RelayStandsFor new (e ∷ j))
@@ -63,15 +63,15 @@ malformed_by : (s : RelaySettings) (a : Standing) (from : Ep) (x : List ℕ) →
 unfolding reception seen
 malformed_by s a from x isnt = λ i. reception_step a x (value_in x) (reception_row (seen_of s a from (isnt i) (value_in x)))
 
-pub malformed : (r : Relay) (n : ℕ) (from : Ep) (x : List ℕ) → r.peers.moment ≤ n → is_payload x ≡ false → Does r n (arrived from x) (just fate.Malformed) r
+pub malformed : (law : Below) (r : Relay) (n : ℕ) (from : Ep) (x : List ℕ) → r.peers.moment ≤ n → is_payload x ≡ false → Does r n (arrived from x) (just fate.Malformed) r
 unfolding relay_in
-malformed r n from x l isnt =
+malformed law r n from x l isnt =
     let whole : (j : List Entry) → just fate.Malformed ≡ reception (settings_of r) (standing_of j n (source_in x)) from x =
     (λ j. sym (malformed_by (settings_of r) (standing_of j n (source_in x)) from x isnt)) in
     let e : Entry = entry n (arrived from x) (packet_in x) (source_in x) (just fate.Malformed) in
     record {
       did = λ j h. whole j;
-      stands = λ j h. subst (λ (k : Entry). RelayStandsFor r (k ∷ j)) (λ i. entry n (arrived from x) (packet_in x) (source_in x) (whole j i)) (none_stands r e (bears_nothing refl) j h);
+      stands = λ j h. subst (λ (k : Entry). RelayStandsFor r (k ∷ j)) (λ i. entry n (arrived from x) (packet_in x) (source_in x) (whole j i)) (none_stands law r e (bears_nothing refl) j h);
       settings = refl;
       clock = l;
     }

@@ -12,6 +12,7 @@ ghost use Rattle.peer_list.specs.Table.{peer_in, known_to};
 ghost use Rattle.peer_list.specs.Calls.{trusted_at, heard_at, emptied, Updates};
 ghost use Rattle.relay_core.specs.Relay.{fate_in, IsCallable, Does, TakesPayload};
 
+use crate::below::below;
 use crate::reception_line::{ReceptionLine, line_of};
 use crate::relay::Relay;
 use bubble::Payload;
@@ -29,6 +30,7 @@ fn release(peers: &mut Peers, now: Millis, who: Ip6, at: Ep, step: &mut Step)
     ensures sends { step.new ≡ record step.old { sends = releases at (known_to peers.old now.0 who).waiting } }
     ensures peer { Updates peers.old peers.new now.0 who (emptied (heard_at now.0 (known_to peers.old now.0 who))) }
 {
+    below();
     peers.heard(now, who);
     peers.release(who, Side::Primary, at, step);
 }
@@ -41,6 +43,7 @@ fn hear(peers: &mut Peers, now: Millis, who: Ip6, step: &mut Step)
     ensures sends { step.new ≡ record step.old { sends = releases (embedded who) (known_to peers.old now.0 who).waiting } }
     ensures peer { Updates peers.old peers.new now.0 who (emptied (heard_at now.0 (trusted_at now.0 (embedded who) (known_to peers.old now.0 who)))) }
 {
+    below();
     let at = embedded(who);
     peers.trust(now, who, at);
     release(peers, now, who, at, step);
@@ -64,6 +67,7 @@ impl Relay {
         requires callable { IsCallable self.old now.0 }
         ensures { Does self.old now.0 (arrived from bytes.now) step.new self.new }
     {
+        below();
         // malformed: RFC 4380, section 5.4.2
         let Ok(payload) = bubble::read(bytes) else {
             step.reset(Fate::Malformed);
@@ -78,6 +82,7 @@ impl Relay {
         requires short { length payload.now.packet.body.now ≤ DATAGRAM_MAX }
         ensures { TakesPayload self.old now.0 from (view payload.now) (fate_in self.old now.0 from (view payload.now)) step.new self.new }
     {
+        below();
         let who = payload.packet.src;
         match line_of(self, now, from, payload) {
             ReceptionLine::Drop(fate) => step.reset(fate),

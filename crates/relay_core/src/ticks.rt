@@ -9,6 +9,7 @@ ghost use Rattle.relay_rules.specs.Ticks.{due_at, tries_peer};
 ghost use Rattle.relay_core.specs.Relay.{settings_of, IsCallable, Enters, Does, AsBefore};
 ghost use Rattle.relay_core.specs.Endpoint.{IsRelayDue, owing, IsOverdue, DoesDue};
 
+use crate::below::below;
 use crate::relay::Relay;
 use td_base::{Ip6, Millis};
 use teredo_node::{Fate, Step};
@@ -21,6 +22,7 @@ impl Relay {
         ensures idle { Idles (owing self.old now.0) (AsBefore self.old self.new) step.new }
         ensures less { Lessens (owing self.old now.0) (owing self.new now.0) step.new }
     {
+        below();
         let Some(who) = self.due_peer(now) else {
             step.reset(Fate::Idle);
             return;
@@ -40,6 +42,7 @@ impl Relay {
         ensures first { due_at now.0 (first_due_in self.now.peers now.0) ≡ option_map (λ who. record { who = who; peer = known_to self.now.peers now.0 who }) result }
         ensures overdue { IfSome result (λ who. IsOverdue self.now.peers now.0 who) }
     {
+        below();
         let (at, who) = self.peers.due(now)?;
         if now < at {
             return None;
@@ -55,6 +58,7 @@ impl Relay {
         ensures entered { Enters self.old (entry now.0 ticked None (Some who) step.new) self.new }
         ensures less { DoesDue self.old self.new now.0 step.new }
     {
+        below();
         let gone = self.peers.give_up(now, who);
         step.reset(Fate::GiveUp);
         step.set_gone(u16::from(gone));
@@ -68,6 +72,7 @@ impl Relay {
         ensures entered { Enters self.old (entry now.0 ticked None (Some who) step.new) self.new }
         ensures less { DoesDue self.old self.new now.0 step.new }
     {
+        below();
         self.send_bubble(who, Fate::Bubbles, step);
         self.peers.tried(now, who, None);
     }
@@ -78,6 +83,7 @@ impl Relay {
         ensures told { IsRelayDue self.now now.0 result }
         ensures first { IsFirstDue (owing self.now) now.0 result }
     {
+        below();
         self.first_try(now)
     }
 

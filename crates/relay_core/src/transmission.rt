@@ -12,6 +12,7 @@ ghost use Rattle.relay_rules.specs.Transmission.{queues};
 ghost use Rattle.relay_rules.specs.Journals.{entry};
 ghost use Rattle.relay_core.specs.Relay.{settings_of, IsCallable, Enters, Does, AsBefore, KeepsAll, TriesUnless, WantsMemory};
 
+use crate::below::below;
 use crate::relay::Relay;
 use crate::transmission_line::{TransmissionLine, line_for};
 use peer_list::{Peers, PeersRefusal, QueueRefusal};
@@ -70,6 +71,7 @@ impl Relay {
         ensures again { OnErr result (IsCallable self.new now.0) }
         ensures untouched { OnErr result (step.new ≡ step.old) }
     {
+        below();
         // malformed: our choice
         let Ok(packet) = ipv6_packet::read(bytes) else {
             step.reset(Fate::Malformed);
@@ -108,6 +110,7 @@ impl Relay {
         ensures unlisted { OnErr result (is_some (peer_in self.old.peers now.0 who) ≡ false) }
         ensures untouched { OnErr result (step.new ≡ step.old) }
     {
+        below();
         list(&mut self.peers, now, who)?;
         send_packet(who, Fate::SentCone, bytes, step);
         self.peers.trust(now, who, embedded(who));
@@ -132,6 +135,7 @@ impl Relay {
         ensures kept { OnErr result (KeepsAll self.old now.0 self.new) }
         ensures untouched { OnErr result (step.new ≡ step.old) }
     {
+        below();
         let barred = self.peers.is_barred(now, who);
         wait(&mut self.peers, now, who, bytes)?;
         self.try_unless(barred, now, who, step);

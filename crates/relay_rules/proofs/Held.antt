@@ -21,7 +21,7 @@ use Rattle.relay_rules.specs.Standing.{RelaySettings, Standing, standing_of}
 use Rattle.relay_rules.specs.Reception.{Seen, seen, reception_lines, reception_row, reception}
 use Rattle.relay_rules.specs.Transmission.{given as given_to, transmission}
 use Rattle.relay_rules.specs.Journals.{entry, relay_in, relay_six, relay_tick, relay_entry, IsJournal}
-use Rattle.relay_rules.specs.Warrants.{GoesLater, SentOnlyIf}
+use Rattle.relay_rules.specs.Warrants.{GoesOut, GoesLater, SentOnlyIf}
 use Rattle.relay_rules.specs.Laws.{IsForeignTo, WaitingIsForeign, TrustedIsEmbedded}
 use Rattle.relay_rules.proofs.Fates.{fate_of_reception, fate_of_transmission}
 use Rattle.relay_rules.proofs.Lines.{by_lines}
@@ -60,17 +60,22 @@ is_that : (b : Bool) (p : Ip6) → b ≡ true → cond b (Some p) None ≡ Some 
 is_that true p h = refl
 is_that false p h = absurd (false≢true h)
 
-foreign : (s : RelaySettings) (a : Standing) (x : List ℕ) → GoesLater (given_to s a x) → IfSome (packet_given x) (IsForeignTo (destination_in x))
-unfolding given_to packet_given destination_in
-foreign s a x g =
-    let source = both_hold (is_teredo (fields_in x).src) (is_global6 (fields_in x).src) g.out.foreign_source in
-    if_there (is_packet x) x (IsForeignTo (cond (is_packet x) (Some (fields_in x).dst) None)) (record {
-      well_formed = g.out.packet;
-      short = g.out.short;
+-- a packet that goes out is from outside
+pub foreign_to : (s : RelaySettings) (a : Standing) (x : List ℕ) → GoesOut (given_to s a x) → IsForeignTo (destination_in x) x
+unfolding given_to destination_in
+foreign_to s a x out =
+    let source = both_hold (is_teredo (fields_in x).src) (is_global6 (fields_in x).src) out.foreign_source in
+    record {
+      well_formed = out.packet;
+      short = out.short;
       native = source.0;
       global = source.1;
-      destination = is_that (is_packet x) (fields_in x).dst g.out.packet;
-    })
+      destination = is_that (is_packet x) (fields_in x).dst out.packet;
+    }
+
+foreign : (s : RelaySettings) (a : Standing) (x : List ℕ) → GoesLater (given_to s a x) → IfSome (packet_given x) (IsForeignTo (destination_in x))
+unfolding packet_given
+foreign s a x g = if_there (is_packet x) x (IsForeignTo (destination_in x)) (foreign_to s a x g.out)
 
 of_packet : (s : RelaySettings) (a : Standing) (n : ℕ) (x : List ℕ) → QueuesForeign (entry n (from_six x) (packet_given x) (destination_in x) (transmission s a x))
 of_packet s a n x = queued_by (transmission s a x).fate (entry n (from_six x) (packet_given x) (destination_in x) (transmission s a x)) (IsForeignTo (destination_in x))

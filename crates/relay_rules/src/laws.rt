@@ -1,5 +1,6 @@
 //! Laws of every journal of a relay.
 ghost use Rattle.relay_rules.specs.Laws.{FateOfReception, FateOfTransmission, ReceptionIsWarranted, TransmissionIsWarranted, TriesTouch, JournalIsTried, ConeIsQuiet, WaitingIsForeign, TrustedIsEmbedded, JournalHasFew};
+ghost use Rattle.relay_rules.specs.Sendings.{EachSend};
 
 /// What is done with a datagram has the fate of its line.
 pub fn fate_of_reception()
@@ -34,7 +35,12 @@ pub fn journal_is_tried()
 /// An address with the cone bit has no tries and nothing waiting.
 pub fn cone_is_quiet()
     ensures { ConeIsQuiet }
-{}
+{
+    peer_list::of_another();
+    peer_list::of_a_touch();
+    peer_list::of_no_touch();
+    peer_list::first_waits();
+}
 
 /// Each entry that touches a peer finds room for it, so no more than 256 are listed.
 pub fn journal_has_few()
@@ -56,4 +62,11 @@ pub fn trusted_is_embedded()
     ensures { TrustedIsEmbedded }
 {
     peer_list::one_entry();
+}
+
+/// Each datagram that a relay sends is a bubble, or a packet from outside Teredo.
+pub fn each_send()
+    ensures { EachSend }
+{
+    waiting_is_foreign();
 }

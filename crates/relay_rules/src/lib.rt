@@ -8,7 +8,8 @@
 //! - Where a packet goes out or waits, and where a datagram is a listed client's, the conditions of its line held
 //!   (`specs/Warrants.antt`).
 //! - In every journal what waits is from outside Teredo, a client is trusted at its embedded endpoint alone, and an address
-//!   with the cone bit has no tries and nothing waiting (`specs/Laws.antt`).
+//!   with the cone bit has no tries and nothing waiting (`specs/Laws.antt`). Each datagram is of one of two kinds
+//!   (`specs/Sendings.antt`).
 //! - Each entry that touches a peer finds room for it, so a journal never lists more than 256.
 //!
 //! # What it does not know
@@ -25,12 +26,13 @@
 //! | the entries of a journal | `specs/Journals.antt` |
 //! | what was seen where a fate is given | `specs/Warrants.antt` |
 //! | what holds of every journal | `specs/Laws.antt` |
+//! | what is sent | `specs/Sendings.antt` |
 #![tactic(auto)]
 
 mod laws;
 
 pub use laws::{
-    cone_is_quiet, fate_of_reception, fate_of_transmission, journal_has_few, journal_is_tried,
-    reception_is_warranted, transmission_is_warranted, tries_touch, trusted_is_embedded,
-    waiting_is_foreign,
+    cone_is_quiet, each_send, fate_of_reception, fate_of_transmission, journal_has_few,
+    journal_is_tried, reception_is_warranted, transmission_is_warranted, tries_touch,
+    trusted_is_embedded, waiting_is_foreign,
 };

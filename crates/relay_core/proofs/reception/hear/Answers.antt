@@ -11,4 +11,4 @@ returns-clause-peer c =
     let n = c.args.now.0 in
     let known = known_to c.args.peers.now n c.args.who in
     subst (λ (at : Ep). Updates c.args.peers.now c.release.new.peers n c.args.who (emptied (heard_at n (trusted_at n at known)))) c.embedded-at.ensures
-    (then_call c.args.peers.now c.trust.new.self c.release.new.peers n c.args.who (trusted_at n c.embedded-at.result known) (λ (p : Peer). emptied (heard_at n p)) c.trust.ensures c.release.ensures.peer)
+    (then_call c.below.ensures c.args.peers.now c.trust.new.self c.release.new.peers n c.args.who (trusted_at n c.embedded-at.result known) (λ (p : Peer). emptied (heard_at n p)) c.trust.ensures c.release.ensures.peer)

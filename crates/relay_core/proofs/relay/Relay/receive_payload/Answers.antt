@@ -18,7 +18,7 @@ returns-in-Drop c =
     let v = view c.args.payload.now in
     subst (λ (s : Step). TakesPayload old n c.args.from v (fate_in old n c.args.from v) s old) (sym c.reset.ensures)
     (subst (λ (f : Fate). TakesPayload old n c.args.from v f (just c.in-Drop.fate) old) c.in-Drop.ensures.row
-    (drops old n c.args.from v c.in-Drop.fate c.requires.callable.clock c.in-Drop.ensures.warrant))
+    (drops c.below.ensures old n c.args.from v c.in-Drop.fate c.requires.callable.clock c.in-Drop.ensures.warrant))
 
 pub returns-in-FromClientBubble : goal.returns-in-FromClientBubble
 returns-in-FromClientBubble c =
@@ -29,7 +29,7 @@ returns-in-FromClientBubble c =
     let step : c.hear.new.step ≡ released old n v fate.FromClientBubble = c.hear.ensures.sends ∙ (λ i. record (c.reset-in-FromClientBubble.ensures i) { sends = releases (embedded v.packet.src) (known_to old.peers n v.packet.src).waiting }) in
     subst (λ (s : Step). TakesPayload old n c.args.from v (fate_in old n c.args.from v) s new) (sym step)
     (subst (λ (f : Fate). TakesPayload old n c.args.from v f (released old n v fate.FromClientBubble) new) c.in-FromClientBubble.ensures.row
-    (from_client_bubble old new n c.args.from v (record { clock = c.requires.callable.clock; peers = c.hear.ensures.peer; settings = refl })))
+    (from_client_bubble c.below.ensures old new n c.args.from v (record { clock = c.requires.callable.clock; peers = c.hear.ensures.peer; settings = refl })))
 
 pub returns-in-FromClient : goal.returns-in-FromClient
 returns-in-FromClient c =
@@ -40,7 +40,7 @@ returns-in-FromClient c =
     let step : c.hear-in-FromClient.new.step ≡ passed_on old n v = c.hear-in-FromClient.ensures.sends ∙ (λ i. record (c.pass_on.ensures i) { sends = releases (embedded v.packet.src) (known_to old.peers n v.packet.src).waiting }) in
     subst (λ (s : Step). TakesPayload old n c.args.from v (fate_in old n c.args.from v) s new) (sym step)
     (subst (λ (f : Fate). TakesPayload old n c.args.from v f (passed_on old n v) new) c.in-FromClient.ensures.row
-    (from_client old new n c.args.from v (record { clock = c.requires.callable.clock; peers = c.hear-in-FromClient.ensures.peer; settings = refl })))
+    (from_client c.below.ensures old new n c.args.from v (record { clock = c.requires.callable.clock; peers = c.hear-in-FromClient.ensures.peer; settings = refl })))
 
 pub returns-in-Unserved : goal.returns-in-Unserved
 returns-in-Unserved c =
@@ -51,4 +51,4 @@ returns-in-Unserved c =
     let step : c.hear-in-Unserved.new.step ≡ released old n v fate.Unserved = c.hear-in-Unserved.ensures.sends ∙ (λ i. record (c.reset-in-Unserved.ensures i) { sends = releases (embedded v.packet.src) (known_to old.peers n v.packet.src).waiting }) in
     subst (λ (s : Step). TakesPayload old n c.args.from v (fate_in old n c.args.from v) s new) (sym step)
     (subst (λ (f : Fate). TakesPayload old n c.args.from v f (released old n v fate.Unserved) new) c.in-Unserved.ensures.row
-    (unserved old new n c.args.from v (record { clock = c.requires.callable.clock; peers = c.hear-in-Unserved.ensures.peer; settings = refl })))
+    (unserved c.below.ensures old new n c.args.from v (record { clock = c.requires.callable.clock; peers = c.hear-in-Unserved.ensures.peer; settings = refl })))

@@ -13,7 +13,7 @@ use Rattle.relay_core.proofs.relay.Relay.send_cone.Goals as goal
 
 pub trust-requires-clause-listed : goal.trust-requires-clause-listed
 trust-requires-clause-listed c =
-    seen_listed c.args.self.now.peers c.list.new.peers c.args.now.0 c.args.who (known_to c.args.self.now.peers c.args.now.0 c.args.who) c.in_ok-list.ensures.listed
+    seen_listed c.below.ensures c.args.self.now.peers c.list.new.peers c.args.now.0 c.args.who (known_to c.args.self.now.peers c.args.now.0 c.args.who) c.in_ok-list.ensures.listed
 
 pub returns-clause-entered : goal.returns-clause-entered
 returns-clause-entered c =
@@ -22,5 +22,5 @@ returns-clause-entered c =
     let mid : Relay = record old { peers = c.list.new.peers } in
     let new : Relay = record old { peers = c.trust.new.self } in
     subst (λ (s : Step). Enters old (entry n (from_six c.args.bytes.now) (Some c.args.bytes.now) (Some c.args.who) s) new) (sym c.send_packet.ensures)
-    (sent_cone old mid new n c.args.who c.args.bytes.now c.requires.callable.clock c.requires.cone c.in_ok-list.ensures.listed
+    (sent_cone c.below.ensures old mid new n c.args.who c.args.bytes.now c.requires.callable.clock c.requires.cone c.in_ok-list.ensures.listed
     (subst (λ (at : Ep). Updates mid.peers new.peers n c.args.who (trusted_at n at (known_to mid.peers n c.args.who))) c.embedded.ensures c.trust.ensures) refl)

@@ -16,9 +16,9 @@ returns-in_default c =
     let n = c.args.now.0 in
     let nobody : due_now r n ≡ None = c.due_peer.ensures.first ∙ ap (λ (o : Option Ip6). option_map (λ (who : Ip6). listing r n who) o) c.in_default.is in
     record {
-      done = subst (λ (s : Step). Does r n ticked s r) (sym c.reset.ensures) (idles r n c.requires.callable.clock nobody);
+      done = subst (λ (s : Step). Does r n ticked s r) (sym c.reset.ensures) (idles c.below.ensures r n c.requires.callable.clock nobody);
       idle = subst (λ (s : Step). Idles (owing r n) (AsBefore r r) s) (sym c.reset.ensures) (rests r n);
-      less = subst (λ (s : Step). Lessens (owing r n) (owing r n) s) (sym c.reset.ensures) (rests_too r n nobody);
+      less = subst (λ (s : Step). Lessens (owing r n) (owing r n) s) (sym c.reset.ensures) (rests_too c.below.ensures r n nobody);
     }
 
 pub returns-then-is_spent : goal.returns-then-is_spent
@@ -26,7 +26,7 @@ returns-then-is_spent c =
     let old = c.args.self.now in
     let n = c.args.now.0 in
     record {
-      done = does_peer old c.give_up.new.self n c.in-Some.who _ c.give_up.new.step c.requires.callable.clock
+      done = does_peer c.below.ensures old c.give_up.new.self n c.in-Some.who _ c.give_up.new.step c.requires.callable.clock
           (c.due_peer.ensures.first ∙ ap (λ (o : Option Ip6). option_map (λ (who : Ip6). listing old n who) o) c.in-Some.is)
           (sym c.is_spent.ensures ∙ c.if-is_spent.true) c.give_up.ensures.step c.give_up.ensures.entered;
       idle = put_off_idles old c.give_up.new.self n c.give_up.new.step c.give_up.ensures.less;
@@ -38,7 +38,7 @@ returns c =
     let old = c.args.self.now in
     let n = c.args.now.0 in
     record {
-      done = does_peer old c.try_again.new.self n c.in-Some.who _ c.try_again.new.step c.requires.callable.clock
+      done = does_peer c.below.ensures old c.try_again.new.self n c.in-Some.who _ c.try_again.new.step c.requires.callable.clock
           (c.due_peer.ensures.first ∙ ap (λ (o : Option Ip6). option_map (λ (who : Ip6). listing old n who) o) c.in-Some.is)
           (sym c.is_spent.ensures ∙ c.if-is_spent.false) c.try_again.ensures.step c.try_again.ensures.entered;
       idle = put_off_idles old c.try_again.new.self n c.try_again.new.step c.try_again.ensures.less;
