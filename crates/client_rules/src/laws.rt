@@ -2,6 +2,7 @@
 ghost use Rattle.client_rules.specs.Laws.{FateOfReception, FateOfTransmission, ReceptionIsWarranted, TransmissionIsWarranted, NextMentions, TriesTouch, JournalIsTried, JournalHasFew};
 ghost use Rattle.client_rules.specs.Epochs.{QualifiedHasAddress, QualifiedStays, QueuedIsOwn, NoneQueued, WaitingIsOwn, TrustedIsEmbedded};
 ghost use Rattle.client_rules.specs.Sendings.{EachSend};
+ghost use Rattle.client_rules.specs.Handed.{EachHanded};
 
 /// What is done with a datagram has the fate of its line.
 pub fn fate_of_reception()
@@ -100,4 +101,12 @@ pub fn each_send()
     qualified_has_address();
     waiting_is_own();
     peer_list::first_waits();
+}
+
+/// Each packet that a client hands to its host came from a peer itself: from another client only from where its source says.
+pub fn each_handed()
+    ensures { EachHanded }
+{
+    qualified_has_address();
+    trusted_is_embedded();
 }

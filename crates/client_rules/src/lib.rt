@@ -9,7 +9,7 @@
 //! - Where a datagram or a packet isn't dropped, the conditions of its line held (`specs/Warrants.antt`).
 //! - In every journal a client has an address exactly while it is qualified, what waits is from that address, and another
 //!   client is trusted at its embedded endpoint alone (`specs/Epochs.antt`). Each datagram is of one of four kinds
-//!   (`specs/Sendings.antt`).
+//!   (`specs/Sendings.antt`), and what is handed to the host came from a peer itself (`specs/Handed.antt`).
 //! - Each entry that touches a peer finds room for it, so a journal never lists more than 256.
 //!
 //! # What it does not know
@@ -28,16 +28,16 @@
 //! | what was seen where a fate is given | `specs/Warrants.antt` |
 //! | what holds of the tables, and of mentions | `specs/Laws.antt` |
 //! | what holds of address, waiting packets and trust | `specs/Epochs.antt` |
-//! | what is sent | `specs/Sendings.antt` |
+//! | what is sent, and what is handed to the host | `specs/Sendings.antt`, `Handed.antt` |
 #![tactic(auto)]
 
 mod laws;
 mod limits;
 
 pub use laws::{
-    each_send, fate_of_reception, fate_of_transmission, journal_has_few, journal_is_tried,
-    next_mentions, none_queued, qualified_has_address, qualified_stays, queued_is_own,
-    reception_is_warranted, transmission_is_warranted, tries_touch, trusted_is_embedded,
-    waiting_is_own,
+    each_handed, each_send, fate_of_reception, fate_of_transmission, journal_has_few,
+    journal_is_tried, next_mentions, none_queued, qualified_has_address, qualified_stays,
+    queued_is_own, reception_is_warranted, transmission_is_warranted, tries_touch,
+    trusted_is_embedded, waiting_is_own,
 };
 pub use limits::{TEST_ID, TEST_SEQ};

@@ -1,0 +1,276 @@
+-- What a client hands to its host, by the fates.
+use Rattle.std.proofs.Common.{◌≡◌, ℕ, Bool, true, false, cond, List, Option, Some, None, refl, sym, ap, subst, ◌∙◌}
+use Rattle.std.specs.Prelude.{is_some, nat_lt, unwrap_or}
+use Rattle.std.proofs.lemmas.Bool.{false≢true}
+use Rattle.td_base.specs.Ip6.{same_ip6-true}
+use Rattle.td_base.specs.Ep.{same_ep, same_ep-true}
+use Rattle.td_base.specs.declared.ipv6.Ip6.{Ip6}
+use Rattle.td_base.specs.declared.endpoint.Ep.{Ep}
+use Rattle.td_base.specs.declared.span.Span.{Span}
+use Rattle.teredo_addr.specs.Teredo.{unspecified, is_teredo, embedded}
+use Rattle.ipv6_packet.specs.Reads.{fields_in}
+use Rattle.bubble.specs.Payloads.{Value}
+use Rattle.bubble.specs.Reads.{is_payload, value_in}
+use Rattle.bubble.specs.PacketsIn.{source_in, destination_in}
+use Rattle.teredo_node.specs.declared.fate.Fate.{Fate}
+use Rattle.teredo_node.specs.declared.fate.Fate.TheVariants as fate
+use Rattle.teredo_node.specs.Step.{rest_of}
+use Rattle.teredo_node.specs.Journal.{Input, arrived, given, from_six, ticked, Entry, Journal, Words}
+use Rattle.peer_list.specs.Judged.{is_spent, is_barred, is_ep, is_trusted_at}
+use Rattle.qualify.specs.declared.settings.Settings.{Settings}
+use Rattle.qualify.specs.declared.limits.TheConstants.{SOLICITATIONS_MAX}
+use Rattle.qualify.specs.declared.phase.Phase.{Phase}
+use Rattle.qualify.specs.declared.phase.Phase.TheVariants.{Cone, Restricted, Secondary, Qualified, Symmetric, OffLine}
+use Rattle.qualify.specs.Qualification.{Qualification, qualification}
+use Rattle.qualify.specs.Solicitations.{is_qualified, own_address, due_fate, solicits_by, due_step}
+use Rattle.qualify.specs.Advertisements.{heard}
+use Rattle.client_rules.specs.Standing.{Standing, known_in, standing_at, standing_of}
+use Rattle.client_rules.specs.Reception.{seen, reception_step, reception_fate, reception}
+use Rattle.client_rules.specs.Transmission.{given as given_to, queues, transmission_row, transmission_step, transmission}
+use Rattle.client_rules.specs.Ticks.{Due, asks, tries, nothing, due_at, tries_peer, tick}
+use Rattle.client_rules.specs.Journals.{client_in, client_out, client_tick, first_peer, client_entry, IsJournal}
+use Rattle.client_rules.specs.Warrants.{IsDirect, IsTrusted, IsEmbedded, ReceivedOnlyIf}
+use Rattle.client_rules.specs.Epochs.{QualifiedHasAddress, TrustedIsEmbedded}
+use Rattle.client_rules.specs.Handed.{IsHanded, HandsOver, EachHanded}
+use Rattle.client_rules.proofs.Lines.{and_second}
+use Rattle.client_rules.proofs.Received.{reception_is_warranted}
+use Rattle.client_rules.proofs.Addressed.{own_is}
+
+-- EACH FATE
+
+-- rules 1 and 3 alone hand over
+by_reception : (R : Option Span → Type 0) (s : Settings) (a : Standing) (from : Ep) (x : List ℕ) (v : Value) (w : Words) (f : Fate)
+    → (f ≡ fate.Rule1 → R (Some (rest_of v.lead.at x))) → (f ≡ fate.Rule3 → R (Some (rest_of v.lead.at x)))
+    → is_some (reception_step s a from x v w f).handed ≡ true → R (reception_step s a from x v w f).handed
+by_reception R s a from x v w fate.Malformed one three h = absurd (false≢true h)
+by_reception R s a from x v w fate.Keyed one three h = absurd (false≢true h)
+by_reception R s a from x v w fate.Big one three h = absurd (false≢true h)
+by_reception R s a from x v w fate.Kind one three h = absurd (false≢true h)
+by_reception R s a from x v w fate.Icmp one three h = absurd (false≢true h)
+by_reception R s a from x v w fate.Source one three h = absurd (false≢true h)
+by_reception R s a from x v w fate.Loop one three h = absurd (false≢true h)
+by_reception R s a from x v w fate.OwnEcho one three h = absurd (false≢true h)
+by_reception R s a from x v w fate.Advert one three h = absurd (false≢true h)
+by_reception R s a from x v w fate.Mismatch one three h = absurd (false≢true h)
+by_reception R s a from x v w fate.NotOurs one three h = absurd (false≢true h)
+by_reception R s a from x v w fate.Embedded one three h = absurd (false≢true h)
+by_reception R s a from x v w fate.ForwardOrigin one three h = absurd (false≢true h)
+by_reception R s a from x v w fate.Forward one three h = absurd (false≢true h)
+by_reception R s a from x v w fate.Six one three h = absurd (false≢true h)
+by_reception R s a from x v w fate.Dest one three h = absurd (false≢true h)
+by_reception R s a from x v w fate.RsCone one three h = absurd (false≢true h)
+by_reception R s a from x v w fate.RsRestricted one three h = absurd (false≢true h)
+by_reception R s a from x v w fate.RsSecondary one three h = absurd (false≢true h)
+by_reception R s a from x v w fate.OffLine one three h = absurd (false≢true h)
+by_reception R s a from x v w fate.Refresh one three h = absurd (false≢true h)
+by_reception R s a from x v w fate.Nonce one three h = absurd (false≢true h)
+by_reception R s a from x v w fate.AdvertSource one three h = absurd (false≢true h)
+by_reception R s a from x v w fate.Origin one three h = absurd (false≢true h)
+by_reception R s a from x v w fate.Prefix one three h = absurd (false≢true h)
+by_reception R s a from x v w fate.QualifiedCone one three h = absurd (false≢true h)
+by_reception R s a from x v w fate.FirstAnswer one three h = absurd (false≢true h)
+by_reception R s a from x v w fate.QualifiedRestricted one three h = absurd (false≢true h)
+by_reception R s a from x v w fate.Symmetric one three h = absurd (false≢true h)
+by_reception R s a from x v w fate.Same one three h = absurd (false≢true h)
+by_reception R s a from x v w fate.Changed one three h = absurd (false≢true h)
+by_reception R s a from x v w fate.Confirmation one three h = absurd (false≢true h)
+by_reception R s a from x v w fate.ServerOther one three h = absurd (false≢true h)
+by_reception R s a from x v w fate.Off one three h = absurd (false≢true h)
+by_reception R s a from x v w fate.NotMine one three h = absurd (false≢true h)
+by_reception R s a from x v w fate.Itself one three h = absurd (false≢true h)
+by_reception R s a from x v w fate.PeersFull one three h = absurd (false≢true h)
+by_reception R s a from x v w fate.Barred one three h = absurd (false≢true h)
+by_reception R s a from x v w fate.Indirect one three h = absurd (false≢true h)
+by_reception R s a from x v w fate.Rule1 one three h = one refl
+by_reception R s a from x v w fate.Rule1Bubble one three h = absurd (false≢true h)
+by_reception R s a from x v w fate.Rule2 one three h = absurd (false≢true h)
+by_reception R s a from x v w fate.Rule3 one three h = three refl
+by_reception R s a from x v w fate.Rule3Bubble one three h = absurd (false≢true h)
+by_reception R s a from x v w fate.SuspiciousTest one three h = absurd (false≢true h)
+by_reception R s a from x v w fate.Suspicious one three h = absurd (false≢true h)
+by_reception R s a from x v w fate.Bubble one three h = absurd (false≢true h)
+by_reception R s a from x v w fate.Sent one three h = absurd (false≢true h)
+by_reception R s a from x v w fate.SentCone one three h = absurd (false≢true h)
+by_reception R s a from x v w fate.QueueFull one three h = absurd (false≢true h)
+by_reception R s a from x v w fate.Queued one three h = absurd (false≢true h)
+by_reception R s a from x v w fate.Bubbles one three h = absurd (false≢true h)
+by_reception R s a from x v w fate.Test one three h = absurd (false≢true h)
+by_reception R s a from x v w fate.GiveUp one three h = absurd (false≢true h)
+by_reception R s a from x v w fate.Idle one three h = absurd (false≢true h)
+by_reception R s a from x v w fate.Unlisted one three h = absurd (false≢true h)
+by_reception R s a from x v w fate.FromClientBubble one three h = absurd (false≢true h)
+by_reception R s a from x v w fate.FromClient one three h = absurd (false≢true h)
+by_reception R s a from x v w fate.Unserved one three h = absurd (false≢true h)
+by_reception R s a from x v w fate.SentSix one three h = absurd (false≢true h)
+by_reception R s a from x v w fate.Echoed one three h = absurd (false≢true h)
+by_reception R s a from x v w fate.Kept one three h = absurd (false≢true h)
+by_reception R s a from x v w fate.Put one three h = absurd (false≢true h)
+by_reception R s a from x v w fate.Done one three h = absurd (false≢true h)
+by_reception R s a from x v w fate.NoEntry one three h = absurd (false≢true h)
+by_reception R s a from x v w fate.Nowhere one three h = absurd (false≢true h)
+by_reception R s a from x v w fate.NatClosed one three h = absurd (false≢true h)
+by_reception R s a from x v w fate.Unbuilt one three h = absurd (false≢true h)
+
+queued : (b : Bool) (s : Settings) (a : Standing) (p : Ip6) (w : Words) → is_some (queues b s a p w).handed ≡ false
+queued true s a p w = refl
+queued false s a p w = refl
+
+by_transmission : (s : Settings) (a : Standing) (x : List ℕ) (p : Ip6) (w : Words) (f : Fate) → is_some (transmission_step s a x p w f).handed ≡ false
+by_transmission s a x p w fate.Malformed = refl
+by_transmission s a x p w fate.Keyed = refl
+by_transmission s a x p w fate.Big = refl
+by_transmission s a x p w fate.Kind = refl
+by_transmission s a x p w fate.Icmp = refl
+by_transmission s a x p w fate.Source = refl
+by_transmission s a x p w fate.Loop = refl
+by_transmission s a x p w fate.OwnEcho = refl
+by_transmission s a x p w fate.Advert = refl
+by_transmission s a x p w fate.Mismatch = refl
+by_transmission s a x p w fate.NotOurs = refl
+by_transmission s a x p w fate.Embedded = refl
+by_transmission s a x p w fate.ForwardOrigin = refl
+by_transmission s a x p w fate.Forward = refl
+by_transmission s a x p w fate.Six = refl
+by_transmission s a x p w fate.Dest = refl
+by_transmission s a x p w fate.RsCone = refl
+by_transmission s a x p w fate.RsRestricted = refl
+by_transmission s a x p w fate.RsSecondary = refl
+by_transmission s a x p w fate.OffLine = refl
+by_transmission s a x p w fate.Refresh = refl
+by_transmission s a x p w fate.Nonce = refl
+by_transmission s a x p w fate.AdvertSource = refl
+by_transmission s a x p w fate.Origin = refl
+by_transmission s a x p w fate.Prefix = refl
+by_transmission s a x p w fate.QualifiedCone = refl
+by_transmission s a x p w fate.FirstAnswer = refl
+by_transmission s a x p w fate.QualifiedRestricted = refl
+by_transmission s a x p w fate.Symmetric = refl
+by_transmission s a x p w fate.Same = refl
+by_transmission s a x p w fate.Changed = refl
+by_transmission s a x p w fate.Confirmation = refl
+by_transmission s a x p w fate.ServerOther = refl
+by_transmission s a x p w fate.Off = refl
+by_transmission s a x p w fate.NotMine = refl
+by_transmission s a x p w fate.Itself = refl
+by_transmission s a x p w fate.PeersFull = refl
+by_transmission s a x p w fate.Barred = refl
+by_transmission s a x p w fate.Indirect = refl
+by_transmission s a x p w fate.Rule1 = refl
+by_transmission s a x p w fate.Rule1Bubble = refl
+by_transmission s a x p w fate.Rule2 = refl
+by_transmission s a x p w fate.Rule3 = refl
+by_transmission s a x p w fate.Rule3Bubble = refl
+by_transmission s a x p w fate.SuspiciousTest = refl
+by_transmission s a x p w fate.Suspicious = refl
+by_transmission s a x p w fate.Bubble = refl
+by_transmission s a x p w fate.Sent = refl
+by_transmission s a x p w fate.SentCone = refl
+by_transmission s a x p w fate.QueueFull = refl
+by_transmission s a x p w fate.Queued = queued (is_barred a.moment (known_in a)) s a p w
+by_transmission s a x p w fate.Bubbles = refl
+by_transmission s a x p w fate.Test = refl
+by_transmission s a x p w fate.GiveUp = refl
+by_transmission s a x p w fate.Idle = refl
+by_transmission s a x p w fate.Unlisted = refl
+by_transmission s a x p w fate.FromClientBubble = refl
+by_transmission s a x p w fate.FromClient = refl
+by_transmission s a x p w fate.Unserved = refl
+by_transmission s a x p w fate.SentSix = refl
+by_transmission s a x p w fate.Echoed = refl
+by_transmission s a x p w fate.Kept = refl
+by_transmission s a x p w fate.Put = refl
+by_transmission s a x p w fate.Done = refl
+by_transmission s a x p w fate.NoEntry = refl
+by_transmission s a x p w fate.Nowhere = refl
+by_transmission s a x p w fate.NatClosed = refl
+by_transmission s a x p w fate.Unbuilt = refl
+
+-- DATAGRAMS
+
+-- what the journal says of the address, and of where this peer is trusted
+record IsReady (a : Standing) (peer : Option Ip6) : Type 0 where
+  addressed : is_some a.qualification.address ≡ is_qualified a.qualification.phase
+  trusted : (at : Ep) → is_teredo (unwrap_or peer unspecified) ≡ true → (known_in a).trusted ≡ Some at → at ≡ embedded (unwrap_or peer unspecified)
+
+trusted_at : (from : Ep) (o : Option Ep) → is_ep from o ≡ true → o ≡ Some from
+trusted_at from None h = absurd (false≢true h)
+trusted_at from (Some at) h = ap Some (same_ep-true at from h)
+
+that_source : (b : Bool) (p : Ip6) → b ≡ true → unwrap_or (cond b (Some p) None) unspecified ≡ p
+that_source true p h = refl
+that_source false p h = absurd (false≢true h)
+
+handed : (s : Settings) (a : Standing) (from : Ep) (x : List ℕ) → IsReady a (source_in x) → IsDirect (seen s a from x) → (seen s a from x).bubble ≡ false
+    → (is_teredo (value_in x).packet.src ≡ true → from ≡ embedded (value_in x).packet.src) → IsHanded s a.qualification.address from x (Some (rest_of (value_in x).lead.at x))
+unfolding seen own_address
+handed s a from x r direct bubble there = record {
+  payload = direct.mine.sound.payload;
+  packet = refl;
+  no_bubble = bubble;
+  short = direct.mine.sound.short;
+  mine = own_is a.qualification.address (r.addressed ∙ direct.mine.qualified) ∙ ap Some (sym (same_ip6-true (value_in x).packet.dst (unwrap_or a.qualification.address unspecified) direct.mine.mine));
+  direct = direct.direct;
+  there = there;
+}
+
+-- rule 1
+trusted_there : (s : Settings) (a : Standing) (from : Ep) (x : List ℕ) → IsReady a (source_in x) → IsTrusted false (seen s a from x) → is_teredo (value_in x).packet.src ≡ true → from ≡ embedded (value_in x).packet.src
+unfolding seen source_in is_trusted_at
+trusted_there s a from x r t teredo =
+    let same = that_source (is_payload x) (value_in x).packet.src t.direct.mine.sound.payload in
+    r.trusted from (ap is_teredo same ∙ teredo) (trusted_at from (known_in a).trusted t.trusted) ∙ ap embedded same
+
+-- rule 3
+sent_there : (s : Settings) (a : Standing) (from : Ep) (x : List ℕ) → IsEmbedded false (seen s a from x) → from ≡ embedded (value_in x).packet.src
+unfolding seen
+sent_there s a from x t = sym (same_ep-true (embedded (value_in x).packet.src) from (and_second (is_teredo (value_in x).packet.src) (same_ep (embedded (value_in x).packet.src) from) t.embedded))
+
+of_datagram : (s : Settings) (a : Standing) (from : Ep) (x : List ℕ) (w : Words) → IsReady a (source_in x) → is_some (reception s a from x w).handed ≡ true → IsHanded s a.qualification.address from x (reception s a from x w).handed
+unfolding reception
+of_datagram s a from x w r =
+    let f = reception_fate s a from x in
+    let told : (g : Fate) → f ≡ g → ReceivedOnlyIf g (seen s a from x) (heard s a.qualification from (value_in x)) =
+    λ g k. subst (λ i. ReceivedOnlyIf i (seen s a from x) (heard s a.qualification from (value_in x))) k (reception_is_warranted s a from x) in
+    by_reception (IsHanded s a.qualification.address from x) s a from x (value_in x) w f
+    (λ k. let t = told fate.Rule1 k in handed s a from x r t.direct t.kind (trusted_there s a from x r t))
+    (λ k. let t = told fate.Rule3 k in handed s a from x r t.direct t.kind (λ _. sent_there s a from x t))
+
+-- PACKETS AND TICKS
+
+of_packet : (s : Settings) (a : Standing) (x : List ℕ) (w : Words) → is_some (transmission s a x w).handed ≡ false
+unfolding transmission
+of_packet s a x w = by_transmission s a x (fields_in x).dst w (transmission_row (given_to s a x))
+
+solicited : (s : Settings) (q : Qualification) (w : Words) (phase : Phase) (sends : ℕ) → is_some (solicits_by s q w (due_fate phase sends)).handed ≡ false
+solicited s q w Cone sends = elim (nat_lt sends SOLICITATIONS_MAX) as (λ b. is_some (solicits_by s q w (cond b fate.RsCone fate.RsRestricted)).handed ≡ false) [ true ↦ refl | false ↦ refl ]
+solicited s q w Restricted sends = elim (nat_lt sends SOLICITATIONS_MAX) as (λ b. is_some (solicits_by s q w (cond b fate.RsRestricted fate.OffLine)).handed ≡ false) [ true ↦ refl | false ↦ refl ]
+solicited s q w Secondary sends = elim (nat_lt sends SOLICITATIONS_MAX) as (λ b. is_some (solicits_by s q w (cond b fate.RsSecondary fate.OffLine)).handed ≡ false) [ true ↦ refl | false ↦ refl ]
+solicited s q w Qualified sends = refl
+solicited s q w Symmetric sends = refl
+solicited s q w OffLine sends = refl
+
+of_due : (s : Settings) (n : ℕ) (q : Qualification) (w : Words) (due : Due) → is_some (tick s n q w due).handed ≡ false
+unfolding due_step
+of_due s n q w asks = solicited s q w q.phase q.sends
+of_due s n q w (tries l) = elim (is_spent n l.peer) as (λ b. is_some (tries_peer b s q l w).handed ≡ false) [ true ↦ refl | false ↦ refl ]
+of_due s n q w nothing = refl
+
+-- ANY ENTRY
+
+ready : QualifiedHasAddress → TrustedIsEmbedded → (s : Settings) (j : Journal) (n : ℕ) (peer : Option Ip6) → IsJournal s j → IsReady (standing_of s j n peer) peer
+unfolding standing_at
+ready has trust s j n peer a = record { addressed = has s j a; trusted = λ at teredo is. trust s j n (unwrap_or peer unspecified) at a teredo is }
+
+-- an entry hands over only so
+abbrev HandsSo : Settings → Journal → Entry → Type 0
+HandsSo s j e = is_some e.step.handed ≡ true → HandsOver s (qualification s j).address e.input e.step.handed
+
+of_entry : QualifiedHasAddress → TrustedIsEmbedded → (s : Settings) (j : Journal) (n : ℕ) (input : Input) (w : Words) → IsJournal s j → HandsSo s j (client_entry s j n input w)
+unfolding client_in client_out client_tick standing_at
+of_entry has trust s j n (arrived from x) w a = of_datagram s (standing_of s j n (source_in x)) from x w (ready has trust s j n (source_in x) a)
+of_entry has trust s j n (given x) w a = λ h. false≢true (sym (of_packet s (standing_of s j n (destination_in x)) x w) ∙ h)
+of_entry has trust s j n ticked w a = λ h. false≢true (sym (of_due s n (qualification s j) w (due_at n (qualification s j) (first_peer j n))) ∙ h)
+of_entry has trust s j n (from_six x) w a = λ h. false≢true h
+
+pub each_handed : QualifiedHasAddress → TrustedIsEmbedded → EachHanded
+each_handed has trust s j e a = subst (λ (x : Entry). HandsSo s j x) (sym a.0.is) (of_entry has trust s j e.moment e.input a.0.words a.1)
