@@ -1,5 +1,5 @@
 -- Letting in: one pass over the outward datagrams finds what the mapping and the kind's test say.
-use Rattle.std.proofs.Common.{◌≡◌, ℕ, ◌≤◌, Bool, true, false, ◌&&◌, cond, ◌==◌, List, find, Option, Some, None, refl, sym, ap, ◌∙◌}
+use Rattle.std.proofs.Common.{◌≡◌, ℕ, Bool, true, false, ◌&&◌, cond, ◌==◌, List, find, Option, Some, None, refl, sym, ap, ◌∙◌}
 use Rattle.std.specs.List.{list_any, AllByRecursion}
 use Rattle.std.specs.Option.{is_some}
 use Rattle.std.proofs.lemmas.Bool.{eqb-true, and_parts}
@@ -10,12 +10,10 @@ use Rattle.nat_kinds.specs.declared.kind.NatKind.{NatKind}
 use Rattle.nat_kinds.specs.declared.kind.NatKind.TheVariants.{Cone, Restricted, Port, Symmetric}
 use Rattle.nat_kinds.specs.declared.outgoing.Outward.{Outward}
 use Rattle.nat_kinds.specs.Mappings.{has_key}
-use Rattle.nat_kinds.specs.Entering.{reaches, is_way_in, inside_in, inside_if, inside_of, lets_in}
-use Rattle.nat_kinds.specs.History.{Entry, young}
-use Rattle.nat_kinds.specs.Nat.{NatState, StandsFor}
-use Rattle.nat_kinds.specs.Sound.{Sound, Agree, AgreesWith}
+use Rattle.nat_kinds.specs.Entering.{reaches, is_way_in, inside_in, inside_if, inside_of}
+use Rattle.nat_kinds.specs.Sound.{Agree, AgreesWith}
 use Rattle.nat_kinds.proofs.ListLemmas.{all_map, any_found, found_passes, none_found, find_alike, find_none}
-use Rattle.nat_kinds.proofs.PortLemmas.{AgreesWith-found, Agree-filter}
+use Rattle.nat_kinds.proofs.PortLemmas.{AgreesWith-found}
 use Rattle.nat_kinds.proofs.ChoiceLemmas.{inside_is}
 
 -- some datagram of m's inside endpoint passes the test: the first one does
@@ -72,7 +70,3 @@ inside_of-is kind outs src port a = inside_is kind outs src port a ∙ by_mappin
     by_mapping : (r : Option Outward) → find (λ e. port == e.port) outs ≡ r → inside_if kind outs src r ≡ inside_in (find (is_way_in kind src port) outs)
     by_mapping None f = sym (ap inside_in (find_none _ outs (all_map _ _ outs (λ o h. ap (λ b. b && reaches kind src o) h) (none_found _ outs f))))
     by_mapping (Some m) f = through kind outs src port m (AgreesWith-found kind _ outs m a f) (eqb-true port m.port (found_passes _ outs m f)) f
-
--- a NAT that stands for a history lets in what the history does
-pub lets_in-stands : (nat : NatState) (now : ℕ) (src : Ep) (port : ℕ) (r : Option Ep) → Sound nat.settings.kind nat.outs → nat.moment ≤ now → r ≡ inside_in (find (is_way_in nat.settings.kind src port) (young nat.settings.idle now nat.outs)) → (h : List Entry) → StandsFor nat h → r ≡ lets_in nat.settings h now src port
-lets_in-stands nat now src port r sound l e h s = e ∙ sym (inside_of-is nat.settings.kind (young nat.settings.idle now nat.outs) src port (Agree-filter _ _ nat.outs sound.agree)) ∙ ap (λ outs. inside_of nat.settings.kind outs src port) (s.counts now l)

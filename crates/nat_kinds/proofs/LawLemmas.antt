@@ -22,7 +22,7 @@ use Rattle.nat_kinds.proofs.PortLemmas.{has_itself, Sound-filter, AgreesWith-fou
 use Rattle.nat_kinds.proofs.ChoiceLemmas.{live_is, joins_given}
 use Rattle.nat_kinds.proofs.AnswerLemmas.{answer-is}
 use Rattle.nat_kinds.proofs.EnteringLemmas.{inside_of-is}
-use Rattle.nat_kinds.proofs.StandsLemmas.{young-again}
+use Rattle.nat_kinds.proofs.OrderLemmas.{young-again}
 
 -- WHAT COUNTS IS SOUND
 
@@ -67,7 +67,7 @@ held_by s outs inside dst port h = holds_found (find (has_key s.kind inside dst)
 
 -- KEYS
 
-key_inside : (kind : NatKind) (inside dst : Ep) (e : Outward) → has_key kind inside dst e ≡ true → e.inside ≡ inside
+pub key_inside : (kind : NatKind) (inside dst : Ep) (e : Outward) → has_key kind inside dst e ≡ true → e.inside ≡ inside
 key_inside Cone inside dst e h = same_ep-true e.inside inside h
 key_inside Restricted inside dst e h = same_ep-true e.inside inside h
 key_inside Port inside dst e h = same_ep-true e.inside inside h

@@ -1,6 +1,13 @@
+pub mod WayLemmas
+pub mod ForgetLemmas
+pub mod PlaceLemmas
+pub mod AskedLemmas
+pub mod IndexLemmas
 pub mod ListLemmas
 pub mod PortLemmas
 pub mod ChoiceLemmas
+pub mod SearchLemmas
+pub mod ShowsLemmas
 pub mod StandsLemmas
 pub mod AnswerLemmas
 pub mod EnteringLemmas

@@ -1,9 +1,9 @@
 -- The latest datagram of each key: moments that don't fall make it the same whether age is looked at before or after.
-use Rattle.std.proofs.Common.{◌≡◌, ℕ, ◌-◌, ◌≤◌, Bool, true, false, not, cond, List, [], ◌∷◌, filter, refl, sym, ap, ◌∙◌, arith}
+use Rattle.std.proofs.Common.{◌≡◌, ℕ, ◌-◌, ◌<◌, ◌≤◌, Bool, true, false, not, cond, List, [], ◌∷◌, filter, refl, sym, ap, ◌∙◌, arith}
 use Rattle.std.specs.Prelude.{nat_lt}
 use Rattle.std.specs.List.{AllByRecursion}
 use Rattle.std.proofs.Math.Nat.{le_refl, le_trans}
-use Rattle.std.proofs.lemmas.Bool.{ltb-false, le-ltb}
+use Rattle.std.proofs.lemmas.Bool.{ltb-true, lt-ltb, ltb-false, le-ltb}
 use Rattle.nat_kinds.specs.declared.kind.NatKind.{NatKind}
 use Rattle.nat_kinds.specs.declared.outgoing.Outward.{Outward}
 use Rattle.nat_kinds.specs.declared.settings.NatSettings.{NatSettings}
@@ -11,7 +11,15 @@ use Rattle.nat_kinds.specs.History.{Entry, Out, Forget, Restart, kept, young, is
 use Rattle.nat_kinds.specs.Mappings.{has_key, latest}
 use Rattle.nat_kinds.specs.Answer.{live_after}
 use Rattle.nat_kinds.specs.Laws.{latest_moment, IsHistory}
-use Rattle.nat_kinds.proofs.ListLemmas.{all_filter, all_map, filter_swap}
+use Rattle.nat_kinds.proofs.ListLemmas.{all_filter, all_map, filter_swap, filter_wider}
+
+-- what is young later is young now
+young_before : (idle m n : ℕ) (e : Outward) → m ≤ n → is_young idle n e ≡ true → is_young idle m e ≡ true
+young_before idle m n e l h = let k : n - e.moment.0 < idle = ltb-true _ _ h in lt-ltb _ _ (omega arith)
+
+-- to take out what doesn't count now changes nothing later
+pub young-again : (idle m n : ℕ) (outs : List Outward) → m ≤ n → young idle n (young idle m outs) ≡ young idle n outs
+young-again idle m n outs l = filter_wider (is_young idle n) (is_young idle m) (λ e h. young_before idle m n e l h) outs
 
 -- the moments don't fall as the history goes on
 abbrev InOrder : List Outward → Type 0
@@ -23,7 +31,7 @@ InOrder-filter p [] o = tt
 InOrder-filter p (e ∷ outs) o = elim (p e) as (λ b. InOrder (cond b (e ∷ filter p outs) (filter p outs))) [ true ↦ (all_filter _ p outs o.0, InOrder-filter p outs o.1) | false ↦ InOrder-filter p outs o.1 ]
 
 -- what is kept of a history is not later than its latest moment
-kept_before : (s : NatSettings) (h : List Entry) → IsHistory s h → AllByRecursion (λ o. o.moment.0 ≤ latest_moment h) (kept h)
+pub kept_before : (s : NatSettings) (h : List Entry) → IsHistory s h → AllByRecursion (λ o. o.moment.0 ≤ latest_moment h) (kept h)
 kept_before s [] i = tt
 kept_before s (Out e ∷ h) i = (le_refl e.moment.0, all_map (λ o. o.moment.0 ≤ latest_moment h) (λ o. o.moment.0 ≤ e.moment.0) (kept h) (λ o l. le_trans l i.0) (kept_before s h i.2))
 kept_before s (Forget who ∷ h) i = all_filter (λ o. o.moment.0 ≤ latest_moment h) _ (kept h) (kept_before s h i)
@@ -36,7 +44,7 @@ kept_in_order s (Forget who ∷ h) i = InOrder-filter _ (kept h) (kept_in_order 
 kept_in_order s (Restart ∷ h) i = tt
 
 -- where the latest isn't young, none is
-none_young : (idle n m : ℕ) (outs : List Outward) → AllByRecursion (λ o. o.moment.0 ≤ m) outs → nat_lt (n - m) idle ≡ false → young idle n outs ≡ []
+pub none_young : (idle n m : ℕ) (outs : List Outward) → AllByRecursion (λ o. o.moment.0 ≤ m) outs → nat_lt (n - m) idle ≡ false → young idle n outs ≡ []
 none_young idle n m [] a y = refl
 none_young idle n m (o ∷ outs) a y = rw (old o a.0) (none_young idle n m outs a.1 y)
   where

@@ -3,5 +3,8 @@ pub mod Mappings
 pub mod Answer
 pub mod Entering
 pub mod Sound
+pub mod Way
+pub mod Places
+pub mod Asked
 pub mod Nat
 pub mod Laws

@@ -16,29 +16,36 @@
 //! # What it does not know
 //!
 //! Packets, sockets and clocks. It moves no bytes: it names endpoints. Moments come with each call and never
-//! fall. Each call looks through all outward datagrams that it keeps.
+//! fall. The latest outward datagram of each port is kept, and when each was asked last; earlier ones aren't.
 //!
 //! # Parts
 //!
 //! | module | holds | stated in |
 //! |---|---|---|
 //! | `kind`, `refusal`, `settings`, `limits` | the small types, the ports that are given | |
-//! | `outgoing` | `Outward`: its age, its key, whom it lets in | `specs/History.antt`, `Mappings.antt`, `Entering.antt` |
-//! | `mappings` | searches over the outward datagrams | `specs/Answer.antt`, `Entering.antt`, `Sound.antt` |
+//! | `outgoing` | `Outward`: its age, its key | `specs/History.antt`, `Mappings.antt` |
+//! | `way` | what mappings and permissions are found by | `specs/Way.antt` |
+//! | `places`, `index` | the latest datagram of each port, and the port of each key | `specs/Places.antt` |
+//! | `asked` | whom the inside endpoints asked, and when last | `specs/Asked.antt` |
+//! | `mappings` | the answers over these | `specs/Answer.antt`, `Entering.antt`, `Sound.antt` |
 //! | `translator` | `Nat` | `specs/Nat.antt` |
 //! | `laws` | what holds of every history | `specs/Laws.antt` |
 #![tactic(auto)]
 
+mod asked;
+mod index;
 mod kind;
 mod laws;
 mod limits;
 mod mappings;
 mod outgoing;
+mod places;
 mod refusal;
 mod settings;
 #[cfg(test)]
 mod tests;
 mod translator;
+mod way;
 
 pub use kind::NatKind;
 pub use laws::{

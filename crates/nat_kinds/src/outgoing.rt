@@ -15,7 +15,6 @@ impl Outward {
     ghost use Rattle.std.specs.Prelude.{◌≡◌};
     ghost use Rattle.nat_kinds.specs.History.{is_young};
     ghost use Rattle.nat_kinds.specs.Mappings.{has_key};
-    ghost use Rattle.nat_kinds.specs.Entering.{reaches};
 
     /// Whether it is less than `idle` milliseconds old.
     pub(crate) fn is_young(&self, idle: u32, now: Millis) -> bool
@@ -31,17 +30,6 @@ impl Outward {
         match kind {
             NatKind::Cone | NatKind::Restricted | NatKind::Port => self.inside == inside,
             NatKind::Symmetric => self.inside == inside && self.dst == dst,
-        }
-    }
-
-    /// Whether it lets a datagram from `src` in at its port.
-    pub(crate) fn reaches(&self, kind: NatKind, src: Ep) -> bool
-        ensures { result ≡ reaches kind src self.now }
-    {
-        match kind {
-            NatKind::Cone => true,
-            NatKind::Restricted => self.dst.ip == src.ip,
-            NatKind::Port | NatKind::Symmetric => self.dst == src,
         }
     }
 }

@@ -5,12 +5,15 @@ ghost use Rattle.nat_kinds.specs.Answer.{nat_answer, GivesAnswer};
 ghost use Rattle.nat_kinds.specs.Entering.{lets_in};
 ghost use Rattle.nat_kinds.specs.Nat.{StandsFor, StandsAsBefore};
 
+use crate::asked::Asked;
+use crate::index::Index;
 use crate::kind::NatKind;
 use crate::mappings;
 use crate::outgoing::Outward;
 use crate::refusal::NatRefusal;
 use crate::settings::NatSettings;
 use std::alloc::Global;
+use std::collections::HashMap;
 use std::marker::Model;
 use td_base::{Ep, Ip4, Millis};
 
@@ -19,18 +22,20 @@ use td_base::{Ep, Ip4, Millis};
 pub struct Nat {
     settings: NatSettings,
     moment: Millis,
-    outs: Vec<Outward>,
+    places: Vec<Option<Outward>>,
+    index: Index,
+    asked: Asked,
 }
 
 impl Model for Nat {
     ghost use Rattle.nat_kinds.specs.Nat.{NatState};
-    ghost use Rattle.nat_kinds.specs.Sound.{Sound};
+    ghost use Rattle.nat_kinds.specs.Places.{IsIndexed};
 
     ghost Value = { NatState };
 
-    ghost view = { λ a. record { settings = a.settings; moment = a.moment.0; outs = a.outs.items } };
+    ghost view = { λ a. record { settings = a.settings; moment = a.moment.0; places = a.places.items; asked = a.asked.entries } };
 
-    ghost invariant = { λ a. Sound a.settings.kind a.outs.items };
+    ghost invariant = { λ a. IsIndexed a.settings.kind a.places.items a.index.entries };
 }
 
 impl Nat {
@@ -47,7 +52,9 @@ impl Nat {
                 idle,
             },
             moment: Millis(0),
-            outs: Vec::new(alloc),
+            places: Vec::new(alloc),
+            index: HashMap::new(alloc),
+            asked: HashMap::new(alloc),
         }
     }
 
@@ -66,7 +73,15 @@ impl Nat {
         ensures settings { self.new.settings ≡ self.old.settings }
     {
         self.moment = now;
-        mappings::send(&mut self.outs, &self.settings, now, inside, dst)
+        mappings::send(
+            &mut self.places,
+            &mut self.index,
+            &mut self.asked,
+            &self.settings,
+            now,
+            inside,
+            dst,
+        )
     }
 
     /// The inside endpoint that a datagram from `src` to an external port is let in to. It refreshes nothing.
@@ -75,7 +90,7 @@ impl Nat {
         ensures answer { (h : List Entry) → StandsFor self.now h →
             result ≡ lets_in self.now.settings h now.0 src port }
     {
-        mappings::inside_at(&self.outs, &self.settings, now, src, port)
+        mappings::inside_at(&self.places, &self.asked, &self.settings, now, src, port)
     }
 
     /// Drops the mappings and permissions of one inside endpoint. Its ports are free from then on.
@@ -84,7 +99,13 @@ impl Nat {
         ensures moment { self.new.moment ≡ self.old.moment }
         ensures settings { self.new.settings ≡ self.old.settings }
     {
-        mappings::take_out_of(&mut self.outs, inside);
+        mappings::forget(
+            &mut self.places,
+            &mut self.index,
+            &mut self.asked,
+            &self.settings,
+            inside,
+        );
     }
 
     /// Drops all mappings and permissions.
@@ -93,6 +114,8 @@ impl Nat {
         ensures moment { self.new.moment ≡ self.old.moment }
         ensures settings { self.new.settings ≡ self.old.settings }
     {
-        self.outs.clear();
+        self.places.clear();
+        self.index.clear();
+        self.asked.clear();
     }
 }

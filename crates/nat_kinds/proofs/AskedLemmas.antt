@@ -1,0 +1,30 @@
+-- Whom the inside endpoints asked: what is left once old moments are taken out.
+use Rattle.std.proofs.Common.{◌≡◌, ℕ, ◌-◌, ◌≤◌, Bool, true, false, cond, List, [], ◌∷◌, filter, Some, None, refl, sym, ap, ◌∙◌, subst, arith}
+use Rattle.std.specs.Prelude.{nat_lt}
+use Rattle.std.specs.List.{AllByRecursion, IsDistinct}
+use Rattle.std.specs.Map.{lookup, keys_of}
+use Rattle.std.proofs.lemmas.Map.Keys.{IsDistinct-head, IsDistinct-tail}
+use Rattle.std.proofs.lemmas.Bool.{ltb-false, le-ltb}
+use Rattle.td_base.specs.declared.millis.Millis.{Millis}
+use Rattle.nat_kinds.specs.declared.way.Way.{Way}
+use Rattle.nat_kinds.specs.Way.{same_way, same_way-true}
+use Rattle.nat_kinds.specs.Asked.{asked_at, is_recent}
+
+none_from_keys : (way : Way) (es : List (Way × Millis)) → AllByRecursion (λ k. same_way way k ≡ false) (keys_of es) → lookup (same_way way) es ≡ None
+none_from_keys way [] a = refl
+none_from_keys way (e ∷ es) a = ap (λ b. cond b (Some e.1) (lookup (same_way way) es)) a.0 ∙ none_from_keys way es a.1
+
+pub recent_left : (idle now n : ℕ) (way : Way) (es : List (Way × Millis)) → now ≤ n → IsDistinct same_way (keys_of es) → is_recent idle n (asked_at (filter (λ e. nat_lt (now - e.1.0) idle) es) way) ≡ is_recent idle n (asked_at es way)
+recent_left idle now n way [] l d = refl
+recent_left idle now n way (e ∷ es) l d = by_cases (nat_lt (now - e.1.0) idle) refl (same_way way e.0) refl (recent_left idle now n way es l (IsDistinct-tail same_way e.0 (keys_of es) d))
+  where
+    left : List (Way × Millis)
+    left = filter (λ e. nat_lt (now - e.1.0) idle) es
+
+    by_cases : (y : Bool) → nat_lt (now - e.1.0) idle ≡ y → (b : Bool) → same_way way e.0 ≡ b → is_recent idle n (asked_at left way) ≡ is_recent idle n (asked_at es way) → is_recent idle n (asked_at (cond y (e ∷ left) left) way) ≡ is_recent idle n (cond b (Some e.1) (asked_at es way))
+    by_cases true y true h i = ap (λ b. is_recent idle n (cond b (Some e.1) (asked_at left way))) h
+    by_cases true y false h i = ap (λ b. is_recent idle n (cond b (Some e.1) (asked_at left way))) h ∙ i
+    by_cases false y false h i = i
+    by_cases false y true h i =
+        let none : asked_at es way ≡ None = none_from_keys way es (subst (λ (w : Way). AllByRecursion (λ k. same_way w k ≡ false) (keys_of es)) (sym (same_way-true way e.0 h)) (IsDistinct-head same_way e.0 (keys_of es) d)) in
+        i ∙ ap (is_recent idle n) none ∙ sym (le-ltb _ _ (let k : idle ≤ now - e.1.0 = ltb-false _ _ y in omega arith))

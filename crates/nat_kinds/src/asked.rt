@@ -1,0 +1,112 @@
+//! Whom the inside endpoints asked, and when last.
+ghost use Rattle.std.specs.Prelude.{◌≡◌, ℕ, ◌<◌, ◌≤◌, if◌then◌else◌, true, Some, OnOk};
+ghost use Rattle.std.specs.HashMap.{spare};
+ghost use Rattle.nat_kinds.specs.Way.{same_way, asked_way};
+ghost use Rattle.nat_kinds.specs.Places.{unless_in};
+ghost use Rattle.nat_kinds.specs.Asked.{asked_at, is_recent, keeps_asked, passes};
+ghost use Rattle.nat_kinds.specs.declared.way.Way.{Way};
+
+use crate::kind::NatKind;
+use crate::outgoing::Outward;
+use crate::settings::NatSettings;
+use crate::way::{Way, asked_of};
+use std::alloc::AllocError;
+use std::collections::HashMap;
+use td_base::{Ep, Millis};
+
+/// The latest moment at which each was asked.
+pub type Asked = HashMap<Way, Millis>;
+
+/// Whether a kind of NAT looks at it.
+fn keeps_asked(kind: NatKind) -> bool
+    ensures { result ≡ keeps_asked kind }
+{
+    match kind {
+        NatKind::Restricted | NatKind::Port => true,
+        NatKind::Cone | NatKind::Symmetric => false,
+    }
+}
+
+/// Whether this was asked less than `idle` milliseconds ago.
+fn is_recent(asked: &Asked, way: Way, idle: u32, now: Millis) -> bool
+    ensures { result ≡ is_recent idle now.0 (asked_at asked.now.entries way) }
+{
+    match asked.get(&way).copied() {
+        Some(moment) => now.0.saturating_sub(moment.0) < u64::from(idle),
+        None => false,
+    }
+}
+
+/// Whether a mapping lets a datagram from `src` in: RFC 3489, section 5.
+pub fn passes(asked: &Asked, settings: &NatSettings, now: Millis, src: Ep, sent: &Outward) -> bool
+    ensures { result ≡ passes settings.now.kind settings.now.idle now.0 asked.now.entries src sent.now }
+{
+    match settings.kind {
+        NatKind::Cone => true,
+        NatKind::Restricted | NatKind::Port => {
+            let way = asked_of(settings.kind, sent.inside, src);
+            is_recent(asked, way, settings.idle, now)
+        }
+        NatKind::Symmetric => sent.dst == src,
+    }
+}
+
+/// Takes out what was asked too long ago, before memory is taken for twice as much as is left.
+fn grow(asked: &mut Asked, idle: u32, now: Millis) -> Result<(), AllocError>
+    ensures recent { (n : ℕ) → now.0 ≤ n → (way : Way) →
+        is_recent idle n (asked_at asked.new.entries way) ≡ is_recent idle n (asked_at asked.old.entries way) }
+    ensures ok { OnOk result (0 < spare asked.new) }
+{
+    take_out_old(asked, idle, now);
+    asked.reserve(asked.len() + 1)
+}
+
+/// Takes out what was asked too long ago.
+fn take_out_old(asked: &mut Asked, idle: u32, now: Millis)
+    ensures recent { (n : ℕ) → now.0 ≤ n → (way : Way) →
+        is_recent idle n (asked_at asked.new.entries way) ≡ is_recent idle n (asked_at asked.old.entries way) }
+{
+    asked.retain(|_, moment| now.0.saturating_sub(moment.0) < u64::from(idle));
+}
+
+/// Takes the memory that one more wants, where the kind of NAT looks at it.
+pub fn room(asked: &mut Asked, settings: &NatSettings, now: Millis) -> Result<(), AllocError>
+    ensures recent { (n : ℕ) → now.0 ≤ n → (way : Way) →
+        is_recent settings.now.idle n (asked_at asked.new.entries way) ≡ is_recent settings.now.idle n (asked_at asked.old.entries way) }
+    ensures ok { OnOk result (keeps_asked settings.now.kind ≡ true → 0 < spare asked.new) }
+{
+    if !keeps_asked(settings.kind) {
+        return Ok(());
+    }
+    if asked.len() < asked.capacity() {
+        return Ok(());
+    }
+    grow(asked, settings.idle, now)
+}
+
+/// Puts a moment at a way, for which there is room.
+fn put(asked: &mut Asked, way: Way, now: Millis)
+    requires room { 0 < spare asked.old }
+    ensures put { (w : Way) → asked_at asked.new.entries w ≡ (if same_way way w then Some now else asked_at asked.old.entries w) }
+{
+    let _ = asked.insert(way, now);
+}
+
+/// Keeps that a datagram asked its destination, where the kind of NAT looks at it.
+pub fn note(asked: &mut Asked, kind: NatKind, sent: Outward)
+    requires room { keeps_asked kind ≡ true → 0 < spare asked.old }
+    ensures noted { keeps_asked kind ≡ true → (w : Way) →
+        asked_at asked.new.entries w ≡ (if same_way (asked_way kind sent.inside sent.dst) w then Some sent.moment else asked_at asked.old.entries w) }
+{
+    if !keeps_asked(kind) {
+        return;
+    }
+    put(asked, asked_of(kind, sent.inside, sent.dst), sent.moment);
+}
+
+/// Takes out what an inside endpoint asked.
+pub fn forget_asked(asked: &mut Asked, inside: Ep)
+    ensures forgets { (way : Way) → asked_at asked.new.entries way ≡ unless_in inside way (asked_at asked.old.entries way) }
+{
+    asked.retain(|way, _| way.inside != inside);
+}

@@ -1,0 +1,99 @@
+//! The table of a NAT: the latest outward datagram of each port.
+ghost use Rattle.std.specs.Prelude.{◌≡◌, ℕ, ◌+◌, ◌<◌, ◌≤◌, None, length, is_some, true, IfNone, IfSome, OnOk};
+ghost use Rattle.nat_kinds.specs.Places.{place_at, if_young, unless_of, IsPlace, IsSetAt, IsFree};
+
+use crate::limits::{FIRST_PORT, MOST_LIVE};
+use crate::outgoing::Outward;
+use std::alloc::AllocError;
+use td_base::{Ep, Millis};
+
+/// The latest datagram of a port.
+#[inline(always)]
+pub fn at(places: &[Option<Outward>], port: u16) -> Option<Outward>
+    ensures { result ≡ place_at places.now port }
+{
+    if port < FIRST_PORT {
+        return None;
+    }
+    match places.get(usize::from(port - FIRST_PORT)) {
+        Some(place) => *place,
+        None => None,
+    }
+}
+
+/// Sets the place of a port.
+#[inline(always)]
+pub fn set(places: &mut [Option<Outward>], port: u16, place: Option<Outward>)
+    requires is_place { IsPlace places.old port }
+    ensures set { IsSetAt places.old places.new port place }
+    ensures len { length places.new ≡ length places.old }
+{
+    places[usize::from(port - FIRST_PORT)] = place;
+}
+
+/// Makes the table long enough for a port, which takes memory and changes nothing else.
+pub fn widen(places: &mut Vec<Option<Outward>>, port: u16) -> Result<(), AllocError>
+    requires from_first { FIRST_PORT ≤ port }
+    requires next { port ≤ FIRST_PORT + length places.old.items }
+    requires few { port < FIRST_PORT + MOST_LIVE }
+    requires short { length places.old.items ≤ MOST_LIVE }
+    ensures same { (p : ℕ) → place_at places.new.items p ≡ place_at places.old.items p }
+    ensures ok { OnOk result (IsPlace places.new.items port) }
+    ensures short { length places.new.items ≤ MOST_LIVE }
+{
+    if usize::from(port - FIRST_PORT) < places.len() {
+        return Ok(());
+    }
+    if places.push(None).is_err() {
+        return Err(AllocError);
+    }
+    Ok(())
+}
+
+/// Whether a place holds a datagram that counts.
+#[inline(always)]
+fn is_live(place: &Option<Outward>, idle: u32, now: Millis) -> bool
+    ensures { result ≡ is_some (if_young idle now.0 place.now) }
+{
+    match place {
+        Some(sent) => sent.is_young(idle, now),
+        None => false,
+    }
+}
+
+/// The lowest port that no live mapping holds, if there is one.
+pub fn lowest_free(places: &[Option<Outward>], idle: u32, now: Millis) -> Option<u16>
+    requires few { length places.now ≤ MOST_LIVE }
+    ensures all { IfNone result ((q : ℕ) → FIRST_PORT ≤ q → q < FIRST_PORT + MOST_LIVE → is_some (if_young idle now.0 (place_at places.now q)) ≡ true) }
+    ensures below { IfSome result (λ port. port < FIRST_PORT + MOST_LIVE) }
+    ensures next { IfSome result (λ port. port ≤ FIRST_PORT + length places.now) }
+    ensures from_first { IfSome result (λ port. FIRST_PORT ≤ port) }
+    ensures free { IfSome result (λ port. IsFree idle now.0 places.now port) }
+    ensures lowest { IfSome result (λ port. (q : ℕ) → FIRST_PORT ≤ q → q < port → is_some (if_young idle now.0 (place_at places.now q)) ≡ true) }
+{
+    for (i, place) in places.iter().enumerate() {
+        if !is_live(place, idle, now) {
+            return Some(FIRST_PORT + i as u16);
+        }
+    }
+    if places.len() == MOST_LIVE {
+        return None;
+    }
+    Some(FIRST_PORT + places.len() as u16)
+}
+
+/// Takes out the datagrams of an inside endpoint.
+pub fn forget(places: &mut Vec<Option<Outward>>, inside: Ep)
+    ensures forgets { (p : ℕ) → place_at places.new.items p ≡ unless_of inside (place_at places.old.items p) }
+    ensures len { length places.new.items ≡ length places.old.items }
+{
+    let mut i = 0;
+    while i < places.len() {
+        if let Some(sent) = places[i] {
+            if sent.inside == inside {
+                places[i] = None;
+            }
+        }
+        i += 1;
+    }
+}
