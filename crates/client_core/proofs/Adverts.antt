@@ -24,6 +24,7 @@ use Rattle.client_rules.specs.Bearings.{mentions, bearing_of}
 use Rattle.client_rules.specs.Standing.{Standing}
 use Rattle.client_rules.specs.Reception.{reception_step}
 use Rattle.client_core.specs.Client.{settings_of, words_ahead, standing_in, TakesPayload, IsPayloadOf, entry_about}
+use Rattle.client_core.specs.Below.{Below}
 use Rattle.client_core.proofs.Entered.{peers_idle, changed}
 
 -- THE FATES OF ADVERTISEMENTS
@@ -162,9 +163,9 @@ of_advert old n from v step x is drawn = record {
 }
 
 -- the peers stay, unless the address changed
-pub advert_kept : (old new : Client) (n : ℕ) (from : Ep) (v : Value) (f : Fate) → Took old n from v f new → (f ≡ fate.Changed → ⊥) → new.peers ≡ old.peers
+pub advert_kept : (law : Below) (old new : Client) (n : ℕ) (from : Ep) (v : Value) (f : Fate) → Took old n from v f new → (f ≡ fate.Changed → ⊥) → new.peers ≡ old.peers
     → TakesPayload old n from v (advert_row (settings_of old) old.qualifier.now from v) (told f) new
-advert_kept old new n from v f t other same = record {
+advert_kept law old new n from v f t other same = record {
   did = λ j x h is.
       done (settings_of old) (standing_in old n v.packet.src) from x v (words_ahead old) f (fate_now old new n from v f t j h.qualification) other
       ∙ ap (λ (g : Fate). reception_step (settings_of old) (standing_in old n v.packet.src) from x v (words_ahead old) g) (row_now old new n from v f t j h.qualification);
@@ -173,7 +174,7 @@ advert_kept old new n from v f t other same = record {
       let is_fate = fate_now old new n from v f t j h.qualification in
       record {
         qualification = t.stands j e h.qualification (of_advert old n from v (told f) x is refl);
-        peers = peers_idle new.peers j.entries e (keeps_epoch f is_fate other) (bears_nothing (bears_none f e is_fate)) (subst (λ (p : Table). StandsForMentions p (mentions j.entries)) (sym same) h.peers);
+        peers = peers_idle law new.peers j.entries e (keeps_epoch f is_fate other) (bears_nothing (bears_none f e is_fate)) (subst (λ (p : Table). StandsForMentions p (mentions j.entries)) (sym same) h.peers);
       };
   place = t.place;
   settings = t.settings;
@@ -184,15 +185,15 @@ abbrev pub moved : Client → ℕ → Step
 moved c n = record (just fate.Changed) { gone = waiting_in c.peers n }
 
 -- then they are forgotten
-pub advert_changed : (old new : Client) (n : ℕ) (from : Ep) (v : Value) → Took old n from v fate.Changed new → StandsForMentions new.peers [] → new.peers.moment ≤ n
+pub advert_changed : (law : Below) (old new : Client) (n : ℕ) (from : Ep) (v : Value) → Took old n from v fate.Changed new → StandsForMentions new.peers [] → new.peers.moment ≤ n
     → TakesPayload old n from v (advert_row (settings_of old) old.qualifier.now from v) (moved old n) new
-advert_changed old new n from v t none clock = record {
+advert_changed law old new n from v t none clock = record {
   did = λ j x h is. ap (λ (g : Fate). reception_step (settings_of old) (standing_in old n v.packet.src) from x v (words_ahead old) g) (row_now old new n from v fate.Changed t j h.qualification);
   stands = λ j x h is.
       let e = entry_about old n from x v.packet.src (moved old n) in
       record {
         qualification = t.stands j e h.qualification (of_advert old n from v (moved old n) x is refl);
-        peers = subst (λ (ms : List Mention). StandsForMentions new.peers ms) (sym (changed e j.entries refl)) none;
+        peers = subst (λ (ms : List Mention). StandsForMentions new.peers ms) (sym (changed law e j.entries refl)) none;
       };
   place = t.place;
   settings = t.settings;

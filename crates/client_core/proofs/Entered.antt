@@ -16,8 +16,7 @@ use Rattle.qualify.specs.Generator.{after_words}
 use Rattle.client_core.specs.declared.client.Client.{Client}
 use Rattle.client_rules.specs.Bearings.{mention, mentions}
 use Rattle.client_core.specs.Client.{ClientStandsFor, Enters, KeepsAll, AsBefore}
-use Rattle.client_core.proofs.Below.{next_stands, idle_stands, kept_stands, keeps_still}
-use Rattle.client_rules.proofs.Tried.{next_mentions}
+use Rattle.client_core.specs.Below.{Below}
 
 -- QUALIFICATION
 
@@ -34,22 +33,22 @@ stands_by q j e = record {
 }
 
 -- an entry that says nothing of it leaves it
-pub still_stands : (q : QualifierState) (j : Journal) (e : Entry) → turn_of e ≡ says_nothing → StandsFor q j → StandsFor q (with_entry j e)
-still_stands q j e quiet h = stands_by q (with_entry j e) (stands_whole q j h ∙ sym (keeps_still q.settings j e quiet))
+pub still_stands : (law : Below) (q : QualifierState) (j : Journal) (e : Entry) → turn_of e ≡ says_nothing → StandsFor q j → StandsFor q (with_entry j e)
+still_stands law q j e quiet h = stands_by q (with_entry j e) (stands_whole q j h ∙ sym (law.keeps_still q.settings j e quiet))
 
 -- PEERS
 
 -- an entry of the same epoch is one further mention
-mentioned : (e : Entry) (j : List Entry) → is_changed e.step.fate ≡ false → mentions (e ∷ j) ≡ mention e ∷ mentions j
-mentioned e j same = next_mentions e j ∙ ap (λ (b : Bool). if b then [] else mention e ∷ mentions j) same
+mentioned : (law : Below) (e : Entry) (j : List Entry) → is_changed e.step.fate ≡ false → mentions (e ∷ j) ≡ mention e ∷ mentions j
+mentioned law e j same = law.next_mentions e j ∙ ap (λ (b : Bool). if b then [] else mention e ∷ mentions j) same
 
 -- a change of address ends all
-pub changed : (e : Entry) (j : List Entry) → is_changed e.step.fate ≡ true → mentions (e ∷ j) ≡ []
-changed e j it = next_mentions e j ∙ ap (λ (b : Bool). if b then [] else mention e ∷ mentions j) it
+pub changed : (law : Below) (e : Entry) (j : List Entry) → is_changed e.step.fate ≡ true → mentions (e ∷ j) ≡ []
+changed law e j it = law.next_mentions e j ∙ ap (λ (b : Bool). if b then [] else mention e ∷ mentions j) it
 
 -- an entry that means nothing for a peer leaves them
-pub peers_idle : (t : Table) (j : List Entry) (e : Entry) → is_changed e.step.fate ≡ false → MeansNothing (mention e) → StandsForMentions t (mentions j) → StandsForMentions t (mentions (e ∷ j))
-peers_idle t j e same idle h = subst (λ (ms : List Mention). StandsForMentions t ms) (sym (mentioned e j same)) (idle_stands t (mention e) (mentions j) h idle)
+pub peers_idle : (law : Below) (t : Table) (j : List Entry) (e : Entry) → is_changed e.step.fate ≡ false → MeansNothing (mention e) → StandsForMentions t (mentions j) → StandsForMentions t (mentions (e ∷ j))
+peers_idle law t j e same idle h = subst (λ (ms : List Mention). StandsForMentions t ms) (sym (mentioned law e j same)) (law.idle_stands t (mention e) (mentions j) h idle)
 
 -- what an entry means for its peer
 pub record OfPeer (old : Client) (e : Entry) (who : Ip6) (new : Client) : Type 0 where
@@ -65,16 +64,16 @@ pub record Bears (old : Client) (e : Entry) (who : Ip6) (new : Client) : Type 0 
   pub qualifier : new.qualifier ≡ old.qualifier
   pub place : new.rng ≡ after_words e.step.drawn old.rng
 
-pub peers_on : (old new : Client) (e : Entry) (who : Ip6) → OfPeer old e who new → (j : Journal) → ClientStandsFor old j → StandsForMentions new.peers (mentions (e ∷ j.entries))
-peers_on old new e who b j h =
-    subst (λ (ms : List Mention). StandsForMentions new.peers ms) (sym (mentioned e j.entries b.epoch))
-    (next_stands old.peers new.peers (mention e) (mentions j.entries) who h.peers b.clock b.peer b.peers)
+pub peers_on : (law : Below) (old new : Client) (e : Entry) (who : Ip6) → OfPeer old e who new → (j : Journal) → ClientStandsFor old j → StandsForMentions new.peers (mentions (e ∷ j.entries))
+peers_on law old new e who b j h =
+    subst (λ (ms : List Mention). StandsForMentions new.peers ms) (sym (mentioned law e j.entries b.epoch))
+    (law.next_stands old.peers new.peers (mention e) (mentions j.entries) who h.peers b.clock b.peer b.peers)
 
-pub bears_enters : (old new : Client) (e : Entry) (who : Ip6) → Bears old e who new → Enters old e new
-bears_enters old new e who b = record {
+pub bears_enters : (law : Below) (old new : Client) (e : Entry) (who : Ip6) → Bears old e who new → Enters old e new
+bears_enters law old new e who b = record {
   stands = λ j h. record {
-    qualification = still_stands new.qualifier j e b.quiet (subst (λ (q : QualifierState). StandsFor q j) (sym b.qualifier) h.qualification);
-    peers = peers_on old new e who b.of_peer j h;
+    qualification = still_stands law new.qualifier j e b.quiet (subst (λ (q : QualifierState). StandsFor q j) (sym b.qualifier) h.qualification);
+    peers = peers_on law old new e who b.of_peer j h;
   };
   place = b.place;
   settings = ap (λ (q : QualifierState). q.settings) b.qualifier;
@@ -89,12 +88,12 @@ pub record MeansNone (c : Client) (e : Entry) : Type 0 where
   pub clock : c.peers.moment ≤ e.moment
   pub drawn : e.step.drawn ≡ 0
 
-pub none_enters : (c : Client) (e : Entry) → MeansNone c e → Enters c e c
+pub none_enters : (law : Below) (c : Client) (e : Entry) → MeansNone c e → Enters c e c
 unfolding after_words
-none_enters c e b = record {
+none_enters law c e b = record {
   stands = λ j h. record {
-    qualification = still_stands c.qualifier j e b.quiet h.qualification;
-    peers = peers_idle c.peers j.entries e b.epoch b.idle h.peers;
+    qualification = still_stands law c.qualifier j e b.quiet h.qualification;
+    peers = peers_idle law c.peers j.entries e b.epoch b.idle h.peers;
   };
   place = sym (ap (λ (n : ℕ). after_words n c.rng) b.drawn);
   settings = refl;
@@ -104,11 +103,11 @@ none_enters c e b = record {
 -- REFUSALS
 
 -- whatever keeps all stays as it was
-pub keeps_stays : (old new : Client) (n : ℕ) → old.peers.moment ≤ n → KeepsAll old n new → AsBefore old new
-keeps_stays old new n clock k = record {
+pub keeps_stays : (law : Below) (old new : Client) (n : ℕ) → old.peers.moment ≤ n → KeepsAll old n new → AsBefore old new
+keeps_stays law old new n clock k = record {
   stands = λ j h. record {
     qualification = subst (λ (q : QualifierState). StandsFor q j) (sym k.qualifier) h.qualification;
-    peers = kept_stands old.peers new.peers n (mentions j.entries) h.peers clock k.peers;
+    peers = law.kept_stands old.peers new.peers n (mentions j.entries) h.peers clock k.peers;
   };
   words = k.rng;
   settings = ap (λ (q : QualifierState). q.settings) k.qualifier;

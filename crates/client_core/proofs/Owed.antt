@@ -31,7 +31,7 @@ use Rattle.client_rules.specs.Ticks.{tries, nothing, peer_due, peer_of_due, soon
 use Rattle.client_rules.specs.Journals.{client_due}
 use Rattle.client_core.specs.Client.{settings_of, ClientStandsFor, AsBefore}
 use Rattle.client_core.specs.Endpoint.{owing, PutsOff}
-use Rattle.client_core.proofs.Below.{nothing_overdue, first_overdue, less_overdue, found_is_listed, touched_is_listed}
+use Rattle.client_core.specs.Below.{Below}
 use Rattle.client_core.proofs.Read.{read_same}
 
 -- WHEN
@@ -39,12 +39,12 @@ use Rattle.client_core.proofs.Read.{read_same}
 abbrev try_moment : Listing → ℕ
 try_moment l = due_of l.peer
 
-pub due_told : (c : Client) (n : ℕ) (d : Option ℕ) → c.peers.moment ≤ n → d ≡ sooner c.qualifier.now.due (option_map (λ (l : Listing). due_of l.peer) (first_due_in c.peers n))
+pub due_told : (law : Below) (c : Client) (n : ℕ) (d : Option ℕ) → c.peers.moment ≤ n → d ≡ sooner c.qualifier.now.due (option_map (λ (l : Listing). due_of l.peer) (first_due_in c.peers n))
     → (j : Journal) → ClientStandsFor c j → d ≡ client_due (settings_of c) j n
 unfolding client_due next_due
-due_told c n d l e j h =
+due_told law c n d l e j h =
     let q = stands_whole c.qualifier j h.qualification in
-    let r = read_same c j n h l in
+    let r = read_same law c j n h l in
     e ∙ (λ i. sooner (q i).due (option_map (λ (x : Listing). due_of x.peer) (r.first i)))
 
 -- HOW MUCH
@@ -85,27 +85,27 @@ first_of_both c n q l at false e f t is =
       (λ le. already c n q e (omega (arith, same, le))),
     )
 
-by_both : (c : Client) (n : ℕ) (qd : Option ℕ) (fd : Option Listing) (d : Option Millis) → c.qualifier.now.due ≡ qd → first_due_in c.peers n ≡ fd
+by_both : (law : Below) (c : Client) (n : ℕ) (qd : Option ℕ) (fd : Option Listing) (d : Option Millis) → c.qualifier.now.due ≡ qd → first_due_in c.peers n ≡ fd
     → option_map (λ (m : Millis). m.0) d ≡ sooner qd (option_map (λ (l : Listing). due_of l.peer) fd) → IsFirstDue (owing c) n d
-by_both c n None None None e f is = λ m le. owes_nothing c m (never c m e) (nothing_overdue c.peers n m le f)
-by_both c n None None (Some at) e f is = absurd (false≢true (sym (ap (λ (o : Option ℕ). is_some o) is)))
-by_both c n None (Some l) None e f is = absurd (false≢true (ap (λ (o : Option ℕ). is_some o) is))
-by_both c n None (Some l) (Some at) e f is =
-    let first = first_overdue c.peers n l f in
+by_both law c n None None None e f is = λ m le. owes_nothing c m (never c m e) (law.nothing_overdue c.peers n m le f)
+by_both law c n None None (Some at) e f is = absurd (false≢true (sym (ap (λ (o : Option ℕ). is_some o) is)))
+by_both law c n None (Some l) None e f is = absurd (false≢true (ap (λ (o : Option ℕ). is_some o) is))
+by_both law c n None (Some l) (Some at) e f is =
+    let first = law.first_overdue c.peers n l f in
     let same : at.0 ≡ due_of l.peer = cc in
     ((λ m le lt. owes_nothing c m (never c m e) (first.before m le (omega (arith, same, lt)))), (λ le. peers_owe c n (first.now (omega (arith, same, le)))))
-by_both c n (Some q) None None e f is = absurd (false≢true (ap (λ (o : Option ℕ). is_some o) is))
-by_both c n (Some q) None (Some at) e f is =
+by_both law c n (Some q) None None e f is = absurd (false≢true (ap (λ (o : Option ℕ). is_some o) is))
+by_both law c n (Some q) None (Some at) e f is =
     let same : at.0 ≡ q = cc in
-    ((λ m le lt. owes_nothing c m (not_yet c m q e (omega (arith, same, lt))) (nothing_overdue c.peers n m le f)), (λ le. already c n q e (omega (arith, same, le))))
-by_both c n (Some q) (Some l) None e f is = none_of_two (nat_lt (due_of l.peer) q) is where
+    ((λ m le lt. owes_nothing c m (not_yet c m q e (omega (arith, same, lt))) (law.nothing_overdue c.peers n m le f)), (λ le. already c n q e (omega (arith, same, le))))
+by_both law c n (Some q) (Some l) None e f is = none_of_two (nat_lt (due_of l.peer) q) is where
   none_of_two : (b : Bool) → None ≡ (if b then Some (due_of l.peer) else Some q) → IsFirstDue (owing c) n None
   none_of_two true k = absurd (false≢true (ap (λ (o : Option ℕ). is_some o) k))
   none_of_two false k = absurd (false≢true (ap (λ (o : Option ℕ). is_some o) k))
-by_both c n (Some q) (Some l) (Some at) e f is = first_of_both c n q l at (nat_lt (due_of l.peer) q) e (first_overdue c.peers n l f) refl is
+by_both law c n (Some q) (Some l) (Some at) e f is = first_of_both c n q l at (nat_lt (due_of l.peer) q) e (law.first_overdue c.peers n l f) refl is
 
-pub first_due_holds : (c : Client) (n : ℕ) (d : Option Millis) → option_map (λ (m : Millis). m.0) d ≡ sooner c.qualifier.now.due (option_map (λ (l : Listing). due_of l.peer) (first_due_in c.peers n)) → IsFirstDue (owing c) n d
-first_due_holds c n d is = by_both c n c.qualifier.now.due (first_due_in c.peers n) d refl refl is
+pub first_due_holds : (law : Below) (c : Client) (n : ℕ) (d : Option Millis) → option_map (λ (m : Millis). m.0) d ≡ sooner c.qualifier.now.due (option_map (λ (l : Listing). due_of l.peer) (first_due_in c.peers n)) → IsFirstDue (owing c) n d
+first_due_holds law c n d is = by_both law c n c.qualifier.now.due (first_due_in c.peers n) d refl refl is
 
 -- OF THE PHASE OR THE REFRESH
 
@@ -171,9 +171,9 @@ nothing_put_off c n none = record {
   qualifier = refl;
 }
 
-put_off : (old new : Client) (n : ℕ) (who : Ip6) (peer : Peer) (step : Step) → IsPutOff old.peers n who peer → Updates old.peers new.peers n who peer → new.qualifier ≡ old.qualifier → (step.fate ≡ fate.Idle → ⊥) → PutsOff old new n step
-put_off old new n who peer step o u q f =
-    let less = less_overdue old.peers new.peers n who peer o u in
+put_off : (law : Below) (old new : Client) (n : ℕ) (who : Ip6) (peer : Peer) (step : Step) → IsPutOff old.peers n who peer → Updates old.peers new.peers n who peer → new.qualifier ≡ old.qualifier → (step.fate ≡ fate.Idle → ⊥) → PutsOff old new n step
+put_off law old new n who peer step o u q f =
+    let less = law.less_overdue old.peers new.peers n who peer o u in
     record {
       idle = λ none. absurd (omega (arith, less, none));
       less = λ some. (less, f);
@@ -196,11 +196,11 @@ emptied_stays n p h = by_test (is_within LISTED_MS n p.touched) h where
   by_test true k = refl
   by_test false k = absurd (false≢true (ap (λ (o : Option Peer). is_some o) k))
 
-pub given_up : (old new : Client) (n : ℕ) (who : Ip6) (step : Step) → IsDueNow old.peers n who → Updates old.peers new.peers n who (emptied (known_to old.peers n who)) → new.qualifier ≡ old.qualifier → step.fate ≡ fate.GiveUp → PutsOff old new n step
-given_up old new n who step d u q f =
+pub given_up : (law : Below) (old new : Client) (n : ℕ) (who : Ip6) (step : Step) → IsDueNow old.peers n who → Updates old.peers new.peers n who (emptied (known_to old.peers n who)) → new.qualifier ≡ old.qualifier → step.fate ≡ fate.GiveUp → PutsOff old new n step
+given_up law old new n who step d u q f =
     let known = known_to old.peers n who in
-    put_off old new n who (emptied known) step
-    (record { listed = d.listed; waits = d.waits; due = d.due; stays = emptied_stays n known (found_is_listed old.peers n who d.listed); over = none_by (nat_le (due_of (emptied known)) n) known })
+    put_off law old new n who (emptied known) step
+    (record { listed = d.listed; waits = d.waits; due = d.due; stays = emptied_stays n known (law.found_is_listed old.peers n who d.listed); over = none_by (nat_le (due_of (emptied known)) n) known })
     u q (λ e. let no_way : fate.GiveUp ≡ fate.Idle = sym f ∙ e in cc)
 
 -- the next try is 2,000 ms away
@@ -217,23 +217,23 @@ try_busy : (b : Bool) → try_fate b ≡ fate.Idle → ⊥
 try_busy true e = cc
 try_busy false e = cc
 
-pub tried_off : (old new : Client) (n : ℕ) (who : Ip6) (nonce : Option ℕ) (b : Bool) (step : Step) → IsDueNow old.peers n who → Updates old.peers new.peers n who (tried_at n nonce (known_to old.peers n who)) → new.qualifier ≡ old.qualifier → step.fate ≡ try_fate b → PutsOff old new n step
-tried_off old new n who nonce b step d u q f =
+pub tried_off : (law : Below) (old new : Client) (n : ℕ) (who : Ip6) (nonce : Option ℕ) (b : Bool) (step : Step) → IsDueNow old.peers n who → Updates old.peers new.peers n who (tried_at n nonce (known_to old.peers n who)) → new.qualifier ≡ old.qualifier → step.fate ≡ try_fate b → PutsOff old new n step
+tried_off law old new n who nonce b step d u q f =
     let known = known_to old.peers n who in
-    put_off old new n who (tried_at n nonce known) step
-    (record { listed = d.listed; waits = d.waits; due = d.due; stays = touched_is_listed n (tried_at n nonce known) refl; over = tried_over n nonce known })
+    put_off law old new n who (tried_at n nonce known) step
+    (record { listed = d.listed; waits = d.waits; due = d.due; stays = law.touched_is_listed n (tried_at n nonce known) refl; over = tried_over n nonce known })
     u q (λ e. try_busy b (sym f ∙ e))
 
 -- where none is due nothing is
-nothing_by : (t : Table) (n : ℕ) (o : Option Listing) → first_due_in t n ≡ o → peer_of_due (peer_due n o) ≡ None → overdue_in t n ≡ 0
-nothing_by t n None e k = nothing_overdue t n n (le_refl n) e
-nothing_by t n (Some l) e k = by_test (nat_le (due_of l.peer) n) refl k where
+nothing_by : (law : Below) (t : Table) (n : ℕ) (o : Option Listing) → first_due_in t n ≡ o → peer_of_due (peer_due n o) ≡ None → overdue_in t n ≡ 0
+nothing_by law t n None e k = law.nothing_overdue t n n (le_refl n) e
+nothing_by law t n (Some l) e k = by_test (nat_le (due_of l.peer) n) refl k where
   by_test : (b : Bool) → nat_le (due_of l.peer) n ≡ b → peer_of_due (if b then tries l else nothing) ≡ None → overdue_in t n ≡ 0
   by_test true is h = absurd (false≢true (sym (ap (λ (o : Option Ip6). is_some o) h)))
-  by_test false is h = (first_overdue t n l e).before n (le_refl n) (leb-false (due_of l.peer) n is)
+  by_test false is h = (law.first_overdue t n l e).before n (le_refl n) (leb-false (due_of l.peer) n is)
 
-pub nothing_due : (t : Table) (n : ℕ) → peer_of_due (peer_due n (first_due_in t n)) ≡ None → overdue_in t n ≡ 0
-nothing_due t n k = nothing_by t n (first_due_in t n) refl k
+pub nothing_due : (law : Below) (t : Table) (n : ℕ) → peer_of_due (peer_due n (first_due_in t n)) ≡ None → overdue_in t n ≡ 0
+nothing_due law t n k = nothing_by law t n (first_due_in t n) refl k
 
 -- who is named as first, and when
 pub record IsNamed (t : Table) (n : ℕ) (at : Millis) (who : Ip6) : Type 0 where
@@ -241,10 +241,10 @@ pub record IsNamed (t : Table) (n : ℕ) (at : Millis) (who : Ip6) : Type 0 wher
   pub waits : is_none (known_to t n who).waiting ≡ false
   pub at_moment : due_of (known_to t n who) ≡ at.0
 
-named_by : (t : Table) (n : ℕ) (at : Millis) (who : Ip6) (o : Option Listing) → first_due_in t n ≡ o → option_map due_and_who o ≡ Some (at, who) → IsNamed t n at who
-named_by t n at who None e k = absurd (false≢true (ap (λ (o : Option (Millis × Ip6)). is_some o) k))
-named_by t n at who (Some l) e k =
-    let f = first_overdue t n l e in
+named_by : (law : Below) (t : Table) (n : ℕ) (at : Millis) (who : Ip6) (o : Option Listing) → first_due_in t n ≡ o → option_map due_and_who o ≡ Some (at, who) → IsNamed t n at who
+named_by law t n at who None e k = absurd (false≢true (ap (λ (o : Option (Millis × Ip6)). is_some o) k))
+named_by law t n at who (Some l) e k =
+    let f = law.first_overdue t n l e in
     let same : l.who ≡ who = ap (λ (o : Option (Millis × Ip6)). (unwrap_or o (at, who)).1) k in
     let moment : due_of l.peer ≡ at.0 = ap (λ (o : Option (Millis × Ip6)). (unwrap_or o (at, who)).0.0) k in
     subst (λ (p : Ip6). IsNamed t n at p) same (record {
@@ -253,8 +253,8 @@ named_by t n at who (Some l) e k =
       at_moment = ap (λ (p : Peer). due_of p) (sym f.peer) ∙ moment;
     })
 
-pub named : (t : Table) (n : ℕ) (at : Millis) (who : Ip6) → option_map due_and_who (first_due_in t n) ≡ Some (at, who) → IsNamed t n at who
-named t n at who k = named_by t n at who (first_due_in t n) refl k
+pub named : (law : Below) (t : Table) (n : ℕ) (at : Millis) (who : Ip6) → option_map due_and_who (first_due_in t n) ≡ Some (at, who) → IsNamed t n at who
+named law t n at who k = named_by law t n at who (first_due_in t n) refl k
 
 -- a moment is there before and after it is read
 pub some_too : (o : Option Millis) → is_some (option_map (λ (m : Millis). m.0) o) ≡ is_some o

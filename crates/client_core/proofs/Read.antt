@@ -22,17 +22,16 @@ use Rattle.client_rules.specs.Standing.{Standing, standing_at, standing_of}
 use Rattle.client_rules.specs.Reception.{seen_of, seen, reception_row, reception_fate, reception_step, reception}
 use Rattle.client_rules.specs.Journals.{entry, client_in}
 use Rattle.client_core.specs.Client.{settings_of, words_ahead, standing_in, ClientStandsFor, Does, TakesPayload, KeepsPlace, WantsPlace, IsPayloadOf, lists, fate_in}
-use Rattle.client_core.proofs.Below.{table_is_read}
+use Rattle.client_core.specs.Below.{Below}
 use Rattle.client_core.proofs.Entered.{none_enters}
-use Rattle.client_rules.proofs.Fates.{fate_of_reception}
 
-pub read_same : (c : Client) (j : Journal) (n : ℕ) → ClientStandsFor c j → c.peers.moment ≤ n → SaysTheSame c.peers (mentions j.entries) n
-read_same c j n h l = table_is_read c.peers (mentions j.entries) n h.peers l
+pub read_same : (law : Below) (c : Client) (j : Journal) (n : ℕ) → ClientStandsFor c j → c.peers.moment ≤ n → SaysTheSame c.peers (mentions j.entries) n
+read_same law c j n h l = law.table_is_read c.peers (mentions j.entries) n h.peers l
 
-pub standing_is : (c : Client) (j : Journal) (n : ℕ) (p : Ip6) → ClientStandsFor c j → c.peers.moment ≤ n → standing_in c n p ≡ standing_at (settings_of c) j n p
+pub standing_is : (law : Below) (c : Client) (j : Journal) (n : ℕ) (p : Ip6) → ClientStandsFor c j → c.peers.moment ≤ n → standing_in c n p ≡ standing_at (settings_of c) j n p
 unfolding standing_at
-standing_is c j n p h l =
-    let r = read_same c j n h l in
+standing_is law c j n p h l =
+    let r = read_same law c j n h l in
     let q = stands_whole c.qualifier j h.qualification in
     λ i. record { moment = n; qualification = q i; peer = r.peer p i; room = r.room p i; waiting = r.waiting i }
 
@@ -48,19 +47,19 @@ unfolding reception reception_fate seen
 reception_by s a from x v w b payload value =
     λ i. reception_step s a from x (value i) w (reception_row (seen_of s a from (payload i) (value i)) (advert_row s a.qualification from (value i)))
 
-step_there : (c : Client) (j : Journal) (n : ℕ) (from : Ep) (x : List ℕ) (v : Value) → ClientStandsFor c j → c.peers.moment ≤ n → is_payload x ≡ true → value_in x ≡ v
+step_there : (law : Below) (c : Client) (j : Journal) (n : ℕ) (from : Ep) (x : List ℕ) (v : Value) → ClientStandsFor c j → c.peers.moment ≤ n → is_payload x ≡ true → value_in x ≡ v
     → reception (settings_of c) (standing_of (settings_of c) j n (source_in x)) from x (words_ahead c) ≡ reception_step (settings_of c) (standing_in c n v.packet.src) from x v (words_ahead c) (fate_in c n from v)
-step_there c j n from x v h l payload value =
-    let a : standing_of (settings_of c) j n (source_in x) ≡ standing_in c n v.packet.src = ap (standing_of (settings_of c) j n) (source_there x v payload value) ∙ sym (standing_is c j n v.packet.src h l) in
+step_there law c j n from x v h l payload value =
+    let a : standing_of (settings_of c) j n (source_in x) ≡ standing_in c n v.packet.src = ap (standing_of (settings_of c) j n) (source_there x v payload value) ∙ sym (standing_is law c j n v.packet.src h l) in
     ap (λ (b : Standing). reception (settings_of c) b from x (words_ahead c)) a
     ∙ reception_by (settings_of c) (standing_in c n v.packet.src) from x v (words_ahead c) true payload value
 
-pub received : (old new : Client) (n : ℕ) (from : Ep) (x : List ℕ) (v : Value) (step : Step) → is_payload x ≡ true → IsPayloadOf x v → old.peers.moment ≤ n
+pub received : (law : Below) (old new : Client) (n : ℕ) (from : Ep) (x : List ℕ) (v : Value) (step : Step) → is_payload x ≡ true → IsPayloadOf x v → old.peers.moment ≤ n
     → TakesPayload old n from v (fate_in old n from v) step new → Does old n (arrived from x) step new
 unfolding client_in
-received old new n from x v step payload is l r =
+received law old new n from x v step payload is l r =
     let did : (j : Journal) → ClientStandsFor old j → step ≡ reception (settings_of old) (standing_of (settings_of old) j n (source_in x)) from x (words_ahead old) =
-    (λ j h. r.did j x h is ∙ sym (step_there old j n from x v h l payload is.value)) in
+    (λ j h. r.did j x h is ∙ sym (step_there law old j n from x v h l payload is.value)) in
     record {
       did = did;
       stands = λ j h. subst (λ (e : Entry). ClientStandsFor new (with_entry j e))
@@ -75,13 +74,13 @@ malformed_by : (s : Settings) (a : Standing) (from : Ep) (x : List ℕ) (w : Wor
 unfolding reception reception_fate seen
 malformed_by s a from x w isnt = λ i. reception_step s a from x (value_in x) w (reception_row (seen_of s a from (isnt i) (value_in x)) (advert_row s a.qualification from (value_in x)))
 
-pub malformed : (c : Client) (n : ℕ) (from : Ep) (x : List ℕ) → c.peers.moment ≤ n → is_payload x ≡ false → Does c n (arrived from x) (just fate.Malformed) c
+pub malformed : (law : Below) (c : Client) (n : ℕ) (from : Ep) (x : List ℕ) → c.peers.moment ≤ n → is_payload x ≡ false → Does c n (arrived from x) (just fate.Malformed) c
 unfolding client_in
-malformed c n from x l isnt =
+malformed law c n from x l isnt =
     let whole : (j : Journal) → just fate.Malformed ≡ reception (settings_of c) (standing_of (settings_of c) j n (source_in x)) from x (words_ahead c) =
     (λ j. sym (malformed_by (settings_of c) (standing_of (settings_of c) j n (source_in x)) from x (words_ahead c) isnt)) in
     let e : Entry = entry n (arrived from x) (packet_in x) (source_in x) (words_ahead c) (just fate.Malformed) in
-    let entered = none_enters c e (record { idle = bears_nothing refl; epoch = refl; quiet = refl; clock = l; drawn = refl }) in
+    let entered = none_enters law c e (record { idle = bears_nothing refl; epoch = refl; quiet = refl; clock = l; drawn = refl }) in
     record {
       did = λ j h. whole j;
       stands = λ j h. subst (λ (k : Entry). ClientStandsFor c (with_entry j k)) (λ i. entry n (arrived from x) (packet_in x) (source_in x) (words_ahead c) (whole j i)) (entered.stands j h);
@@ -92,22 +91,22 @@ malformed c n from x l isnt =
 
 -- WHERE MEMORY WAS WANTING
 
-fate_there : (c : Client) (j : Journal) (n : ℕ) (from : Ep) (x : List ℕ) (v : Value) → ClientStandsFor c j → c.peers.moment ≤ n → is_payload x ≡ true → value_in x ≡ v
+fate_there : (law : Below) (c : Client) (j : Journal) (n : ℕ) (from : Ep) (x : List ℕ) (v : Value) → ClientStandsFor c j → c.peers.moment ≤ n → is_payload x ≡ true → value_in x ≡ v
     → reception_fate (settings_of c) (standing_of (settings_of c) j n (source_in x)) from x ≡ fate_in c n from v
 unfolding reception_fate seen
-fate_there c j n from x v h l payload value =
-    let a : standing_of (settings_of c) j n (source_in x) ≡ standing_in c n v.packet.src = ap (standing_of (settings_of c) j n) (source_there x v payload value) ∙ sym (standing_is c j n v.packet.src h l) in
+fate_there law c j n from x v h l payload value =
+    let a : standing_of (settings_of c) j n (source_in x) ≡ standing_in c n v.packet.src = ap (standing_of (settings_of c) j n) (source_there x v payload value) ∙ sym (standing_is law c j n v.packet.src h l) in
     λ i. reception_row (seen_of (settings_of c) (a i) from (payload i) (value i)) (advert_row (settings_of c) (a i).qualification from (value i))
 
-pub wants_place : (old new : Client) (n : ℕ) (from : Ep) (x : List ℕ) (v : Value) → is_payload x ≡ true → value_in x ≡ v → old.peers.moment ≤ n
+pub wants_place : (law : Below) (old new : Client) (n : ℕ) (from : Ep) (x : List ℕ) (v : Value) → is_payload x ≡ true → value_in x ≡ v → old.peers.moment ≤ n
     → KeepsPlace old n v (fate_in old n from v) new → WantsPlace old n from x
 unfolding client_in
-wants_place old new n from x v payload value l k j h = record {
+wants_place law old new n from x v payload value l k j h = record {
   line =
-      ap (λ (f : Fate). lists f) (fate_of_reception (settings_of old) (standing_of (settings_of old) j n (source_in x)) from x (words_ahead old) ∙ fate_there old j n from x v h l payload value)
+      ap (λ (f : Fate). lists f) (law.fate_of_reception (settings_of old) (standing_of (settings_of old) j n (source_in x)) from x (words_ahead old) ∙ fate_there law old j n from x v h l payload value)
       ∙ k.line;
   unlisted =
       ap (λ (p : Option Ip6). is_some (peer_at (mentions j.entries) n (unwrap_or p unspecified))) (source_there x v payload value)
-      ∙ ap (λ (p : Option Peer). is_some p) (sym ((read_same old j n h l).peer v.packet.src))
+      ∙ ap (λ (p : Option Peer). is_some p) (sym ((read_same law old j n h l).peer v.packet.src))
       ∙ k.unlisted;
 }

@@ -24,19 +24,19 @@ use Rattle.client_rules.specs.Ticks.{try_fate}
 use Rattle.client_rules.specs.Transmission.{queues}
 use Rattle.client_rules.specs.Journals.{entry}
 use Rattle.client_core.specs.Client.{settings_of, words_ahead, Enters, TriesUnless}
-use Rattle.client_core.proofs.Below.{calls_of_an_entry}
+use Rattle.client_core.specs.Below.{Below}
 use Rattle.client_core.proofs.Entered.{bears_enters}
 use Rattle.client_core.proofs.Peered.{then_call}
 
 -- TICKS
 
-pub gave_up : (old new : Client) (n : ℕ) (who : Ip6) (gone : ℕ) → old.peers.moment ≤ n → Updates old.peers new.peers n who (emptied (known_to old.peers n who))
+pub gave_up : (law : Below) (old new : Client) (n : ℕ) (who : Ip6) (gone : ℕ) → old.peers.moment ≤ n → Updates old.peers new.peers n who (emptied (known_to old.peers n who))
     → new.qualifier ≡ old.qualifier → new.rng ≡ old.rng → Enters old (entry n ticked None (Some who) (words_ahead old) (record (just fate.GiveUp) { gone = gone })) new
 unfolding after_words
-gave_up old new n who gone l u q g =
-    bears_enters old new (entry n ticked None (Some who) (words_ahead old) (record (just fate.GiveUp) { gone = gone })) who
+gave_up law old new n who gone l u q g =
+    bears_enters law old new (entry n ticked None (Some who) (words_ahead old) (record (just fate.GiveUp) { gone = gone })) who
     (record {
-      of_peer = record { peer = refl; epoch = refl; clock = l; peers = subst (λ (p : Peer). Updates old.peers new.peers n who p) (sym (calls_of_an_entry n (known_to old.peers n who) (Some who)).give_up) u };
+      of_peer = record { peer = refl; epoch = refl; clock = l; peers = subst (λ (p : Peer). Updates old.peers new.peers n who p) (sym (law.calls_of_an_entry n (known_to old.peers n who) (Some who)).give_up) u };
       quiet = refl;
       qualifier = q;
       place = g;
@@ -45,10 +45,10 @@ gave_up old new n who gone l u q g =
 abbrev try_step : Bool → List Send → Step
 try_step b sends = record (sending (try_fate b) sends) { drawn = if b then 0 else 2 }
 
-try_means : (n : ℕ) (who : Ip6) (w : Words) (sends : List Send) (known : Peer) (b : Bool)
+try_means : (law : Below) (n : ℕ) (who : Ip6) (w : Words) (sends : List Send) (known : Peer) (b : Bool)
     → after (mention (entry n ticked None (Some who) w (try_step b sends))) known ≡ tried_at n (nonce_of_words (drawn_words (if b then 0 else 2) w)) known
-try_means n who w sends known true = (calls_of_an_entry n known (Some who)).tried None
-try_means n who w sends known false = (calls_of_an_entry n known (Some who)).tried (nonce_of_words (drawn_words 2 w))
+try_means law n who w sends known true = (law.calls_of_an_entry n known (Some who)).tried None
+try_means law n who w sends known false = (law.calls_of_an_entry n known (Some who)).tried (nonce_of_words (drawn_words 2 w))
 
 try_epoch : (b : Bool) → is_changed (try_fate b) ≡ false
 try_epoch true = refl
@@ -58,13 +58,13 @@ try_quiet : (b : Bool) → turn (try_fate b) ≡ says_nothing
 try_quiet true = refl
 try_quiet false = refl
 
-pub tried_again : (old new : Client) (n : ℕ) (who : Ip6) (sends : List Send) → old.peers.moment ≤ n → Updates old.peers new.peers n who (tried_at n (try_nonce who (words_ahead old)) (known_to old.peers n who))
+pub tried_again : (law : Below) (old new : Client) (n : ℕ) (who : Ip6) (sends : List Send) → old.peers.moment ≤ n → Updates old.peers new.peers n who (tried_at n (try_nonce who (words_ahead old)) (known_to old.peers n who))
     → new.qualifier ≡ old.qualifier → new.rng ≡ after_words (try_words who) old.rng
     → Enters old (entry n ticked None (Some who) (words_ahead old) (record (sending (try_fate (is_teredo who)) sends) { drawn = try_words who })) new
-tried_again old new n who sends l u q g =
-    bears_enters old new (entry n ticked None (Some who) (words_ahead old) (try_step (is_teredo who) sends)) who
+tried_again law old new n who sends l u q g =
+    bears_enters law old new (entry n ticked None (Some who) (words_ahead old) (try_step (is_teredo who) sends)) who
     (record {
-      of_peer = record { peer = refl; epoch = try_epoch (is_teredo who); clock = l; peers = subst (λ (p : Peer). Updates old.peers new.peers n who p) (sym (try_means n who (words_ahead old) sends (known_to old.peers n who) (is_teredo who))) u };
+      of_peer = record { peer = refl; epoch = try_epoch (is_teredo who); clock = l; peers = subst (λ (p : Peer). Updates old.peers new.peers n who p) (sym (try_means law n who (words_ahead old) sends (known_to old.peers n who) (is_teredo who))) u };
       quiet = try_quiet (is_teredo who);
       qualifier = q;
       place = g;
@@ -88,10 +88,10 @@ try_sends_any s own p w = any_try (is_teredo p) s own p w
 abbrev queued_step : Ip6 → List Send → Step
 queued_step who sends = record (sending fate.Queued sends) { drawn = try_words who }
 
-queued_means : (n : ℕ) (who : Ip6) (x : List ℕ) (w : Words) (sends : List Send) (known : Peer) (b : Bool) → has_any sends ≡ b → b ≡ true
+queued_means : (law : Below) (n : ℕ) (who : Ip6) (x : List ℕ) (w : Words) (sends : List Send) (known : Peer) (b : Bool) → has_any sends ≡ b → b ≡ true
     → after (mention (entry n (given x) (Some x) (Some who) w (queued_step who sends))) known ≡ tried_at n (try_nonce who w) (queued_at n x known)
-queued_means n who x w [] known b e h = cc
-queued_means n who x w (s ∷ sends) known b e h = (calls_of_an_entry n known (Some who)).queue_tried x (try_nonce who w)
+queued_means law n who x w [] known b e h = cc
+queued_means law n who x w (s ∷ sends) known b e h = (law.calls_of_an_entry n known (Some who)).queue_tried x (try_nonce who w)
 
 -- the table after a packet that waits, and a try unless the peer is barred
 pub record Queued (old : Client) (n : ℕ) (who : Ip6) (x : List ℕ) (barred : Bool) (new : Client) : Type 0 where
@@ -101,34 +101,34 @@ pub record Queued (old : Client) (n : ℕ) (who : Ip6) (x : List ℕ) (barred : 
   pub tries : TriesUnless barred mid n who (try_nonce who (words_ahead old)) new.peers
   pub qualifier : new.qualifier ≡ old.qualifier
 
-pub queued : (old new : Client) (n : ℕ) (who : Ip6) (x : List ℕ) (barred : Bool) (a : Standing) → Queued old n who x barred new
+pub queued : (law : Below) (old new : Client) (n : ℕ) (who : Ip6) (x : List ℕ) (barred : Bool) (a : Standing) → Queued old n who x barred new
     → new.rng ≡ after_words (queues barred (settings_of old) a who (words_ahead old)).drawn old.rng
     → Enters old (entry n (given x) (Some x) (Some who) (words_ahead old) (queues barred (settings_of old) a who (words_ahead old))) new
-queued old new n who x true a k g =
-    bears_enters old new (entry n (given x) (Some x) (Some who) (words_ahead old) (just fate.Queued)) who
+queued law old new n who x true a k g =
+    bears_enters law old new (entry n (given x) (Some x) (Some who) (words_ahead old) (just fate.Queued)) who
     (record {
       of_peer = record {
         peer = refl;
         epoch = refl;
         clock = k.clock;
-        peers = subst (λ (p : Peer). Updates old.peers new.peers n who p) (sym ((calls_of_an_entry n (known_to old.peers n who) (Some who)).queue x))
+        peers = subst (λ (p : Peer). Updates old.peers new.peers n who p) (sym ((law.calls_of_an_entry n (known_to old.peers n who) (Some who)).queue x))
             (subst (λ (t : Table). Updates old.peers t n who (queued_at n x (known_to old.peers n who))) (sym k.tries) k.waits);
       };
       quiet = refl;
       qualifier = k.qualifier;
       place = g;
     })
-queued old new n who x false a k g =
+queued law old new n who x false a k g =
     let sends = try_sends (settings_of old) (own_address a.qualification) who (words_ahead old) in
-    bears_enters old new (entry n (given x) (Some x) (Some who) (words_ahead old) (queued_step who sends)) who
+    bears_enters law old new (entry n (given x) (Some x) (Some who) (words_ahead old) (queued_step who sends)) who
     (record {
       of_peer = record {
         peer = refl;
         epoch = refl;
         clock = k.clock;
         peers = subst (λ (p : Peer). Updates old.peers new.peers n who p)
-            (sym (queued_means n who x (words_ahead old) sends (known_to old.peers n who) true (try_sends_any (settings_of old) (own_address a.qualification) who (words_ahead old)) refl))
-            (then_call old.peers k.mid new.peers n who (queued_at n x (known_to old.peers n who)) (λ (p : Peer). tried_at n (try_nonce who (words_ahead old)) p) k.waits k.tries);
+            (sym (queued_means law n who x (words_ahead old) sends (known_to old.peers n who) true (try_sends_any (settings_of old) (own_address a.qualification) who (words_ahead old)) refl))
+            (then_call law old.peers k.mid new.peers n who (queued_at n x (known_to old.peers n who)) (λ (p : Peer). tried_at n (try_nonce who (words_ahead old)) p) k.waits k.tries);
       };
       quiet = refl;
       qualifier = k.qualifier;

@@ -27,9 +27,8 @@ use Rattle.client_rules.specs.Transmission as table
 use Rattle.client_rules.specs.Journals.{entry, client_out}
 use Rattle.client_core.specs.Client.{settings_of, words_ahead, standing_in, ClientStandsFor, Enters, Does, WantsQueue}
 use Rattle.client_core.specs.Lines.{SaysNothing, DropsPacket, given_to}
-use Rattle.client_core.proofs.Below.{calls_of_an_entry}
+use Rattle.client_core.specs.Below.{Below}
 use Rattle.client_core.proofs.Entered.{bears_enters, none_enters}
-use Rattle.client_rules.proofs.Fates.{fate_of_transmission}
 use Rattle.client_core.proofs.Read.{standing_is}
 
 destination_there : (x : List ℕ) (p : Fields) → is_packet x ≡ true → fields_in x ≡ p → destination_in x ≡ Some p.dst
@@ -46,11 +45,11 @@ unfolding transmission table.given
 transmission_by s a x p w b packet fields = λ i. transmission_step s a x (fields i).dst w (transmission_row (given_of s a (packet i) (fields i)))
 
 -- what the table gives, as the client reads itself
-pub transmission_there : (c : Client) (j : Journal) (n : ℕ) (x : List ℕ) (p : Fields) → ClientStandsFor c j → c.peers.moment ≤ n → is_packet x ≡ true → fields_in x ≡ p
+pub transmission_there : (law : Below) (c : Client) (j : Journal) (n : ℕ) (x : List ℕ) (p : Fields) → ClientStandsFor c j → c.peers.moment ≤ n → is_packet x ≡ true → fields_in x ≡ p
     → transmission (settings_of c) (standing_of (settings_of c) j n (destination_in x)) x (words_ahead c)
     ≡ transmission_step (settings_of c) (standing_in c n p.dst) x p.dst (words_ahead c) (transmission_row (given_to c n p))
-transmission_there c j n x p h l packet fields =
-    let a : standing_of (settings_of c) j n (destination_in x) ≡ standing_in c n p.dst = ap (standing_of (settings_of c) j n) (destination_there x p packet fields) ∙ sym (standing_is c j n p.dst h l) in
+transmission_there law c j n x p h l packet fields =
+    let a : standing_of (settings_of c) j n (destination_in x) ≡ standing_in c n p.dst = ap (standing_of (settings_of c) j n) (destination_there x p packet fields) ∙ sym (standing_is law c j n p.dst h l) in
     ap (λ (b : Standing). transmission (settings_of c) b x (words_ahead c)) a
     ∙ transmission_by (settings_of c) (standing_in c n p.dst) x p (words_ahead c) true packet fields
 
@@ -60,13 +59,13 @@ pub record IsFields (x : List ℕ) (p : Fields) : Type 0 where
   pub fields : fields_in x ≡ p
 
 -- what a line did with it
-pub transmitted : (old new : Client) (n : ℕ) (x : List ℕ) (p : Fields) (f : Fate) (step : Step) → IsFields x p → old.peers.moment ≤ n
+pub transmitted : (law : Below) (old new : Client) (n : ℕ) (x : List ℕ) (p : Fields) (f : Fate) (step : Step) → IsFields x p → old.peers.moment ≤ n
     → f ≡ transmission_row (given_to old n p) → step ≡ transmission_step (settings_of old) (standing_in old n p.dst) x p.dst (words_ahead old) f
     → Enters old (entry n (given x) (Some x) (Some p.dst) (words_ahead old) step) new → Does old n (given x) step new
 unfolding client_out
-transmitted old new n x p f step is l row did entered =
+transmitted law old new n x p f step is l row did entered =
     let whole : (j : Journal) → ClientStandsFor old j → step ≡ transmission (settings_of old) (standing_of (settings_of old) j n (destination_in x)) x (words_ahead old) =
-    (λ j h. did ∙ ap (λ (g : Fate). transmission_step (settings_of old) (standing_in old n p.dst) x p.dst (words_ahead old) g) row ∙ sym (transmission_there old j n x p h l is.packet is.fields)) in
+    (λ j h. did ∙ ap (λ (g : Fate). transmission_step (settings_of old) (standing_in old n p.dst) x p.dst (words_ahead old) g) row ∙ sym (transmission_there law old j n x p h l is.packet is.fields)) in
     record {
       did = whole;
       stands = λ j h. subst (λ (e : Entry). ClientStandsFor new (with_entry j e))
@@ -78,10 +77,10 @@ transmitted old new n x p f step is l row did entered =
 
 -- THE LINES
 
-pub drops_packet : (c : Client) (n : ℕ) (x : List ℕ) (p : Fields) (f : Fate) → IsFields x p → c.peers.moment ≤ n → f ≡ transmission_row (given_to c n p) → DropsPacket f → Does c n (given x) (just f) c
-drops_packet c n x p f is l row d =
-    transmitted c c n x p f (just f) is l row (sym (d.step (settings_of c) (standing_in c n p.dst) x p.dst (words_ahead c)))
-    (none_enters c (entry n (given x) (Some x) (Some p.dst) (words_ahead c) (just f)) (record {
+pub drops_packet : (law : Below) (c : Client) (n : ℕ) (x : List ℕ) (p : Fields) (f : Fate) → IsFields x p → c.peers.moment ≤ n → f ≡ transmission_row (given_to c n p) → DropsPacket f → Does c n (given x) (just f) c
+drops_packet law c n x p f is l row d =
+    transmitted law c c n x p f (just f) is l row (sym (d.step (settings_of c) (standing_in c n p.dst) x p.dst (words_ahead c)))
+    (none_enters law c (entry n (given x) (Some x) (Some p.dst) (words_ahead c) (just f)) (record {
       idle = bears_nothing (d.nothing.bearing (entry n (given x) (Some x) (Some p.dst) (words_ahead c) (just f)));
       epoch = d.nothing.epoch;
       quiet = d.nothing.turn;
@@ -89,25 +88,25 @@ drops_packet c n x p f is l row d =
       drawn = refl;
     }))
 
-pub sent : (old new : Client) (n : ℕ) (x : List ℕ) (p : Fields) (to : Ep) → IsFields x p → old.peers.moment ≤ n → fate.Sent ≡ transmission_row (given_to old n p)
+pub sent : (law : Below) (old new : Client) (n : ℕ) (x : List ℕ) (p : Fields) (to : Ep) → IsFields x p → old.peers.moment ≤ n → fate.Sent ≡ transmission_row (given_to old n p)
     → (known_to old.peers n p.dst).trusted ≡ Some to → Updates old.peers new.peers n p.dst (touched_at n (known_to old.peers n p.dst)) → new.qualifier ≡ old.qualifier → new.rng ≡ old.rng
     → Does old n (given x) (sending fate.Sent (send to x ∷ [])) new
 unfolding after_words
-sent old new n x p to is l row trusted u q g =
-    transmitted old new n x p fate.Sent (sending fate.Sent (send to x ∷ [])) is l row
+sent law old new n x p to is l row trusted u q g =
+    transmitted law old new n x p fate.Sent (sending fate.Sent (send to x ∷ [])) is l row
     (ap (λ (o : Option Ep). sending fate.Sent (map (λ (at : Ep). send at x) (option_to_list o))) (sym trusted))
-    (bears_enters old new (entry n (given x) (Some x) (Some p.dst) (words_ahead old) (sending fate.Sent (send to x ∷ []))) p.dst (record {
-      of_peer = record { peer = refl; epoch = refl; clock = l; peers = subst (λ (k : Peer). Updates old.peers new.peers n p.dst k) (sym (calls_of_an_entry n (known_to old.peers n p.dst) (Some p.dst)).touch) u };
+    (bears_enters law old new (entry n (given x) (Some x) (Some p.dst) (words_ahead old) (sending fate.Sent (send to x ∷ []))) p.dst (record {
+      of_peer = record { peer = refl; epoch = refl; clock = l; peers = subst (λ (k : Peer). Updates old.peers new.peers n p.dst k) (sym (law.calls_of_an_entry n (known_to old.peers n p.dst) (Some p.dst)).touch) u };
       quiet = refl;
       qualifier = q;
       place = g;
     }))
 
-pub sent_cone : (c : Client) (n : ℕ) (x : List ℕ) (p : Fields) → IsFields x p → c.peers.moment ≤ n → fate.SentCone ≡ transmission_row (given_to c n p)
+pub sent_cone : (law : Below) (c : Client) (n : ℕ) (x : List ℕ) (p : Fields) → IsFields x p → c.peers.moment ≤ n → fate.SentCone ≡ transmission_row (given_to c n p)
     → Does c n (given x) (sending fate.SentCone (send (embedded p.dst) x ∷ [])) c
-sent_cone c n x p is l row =
-    transmitted c c n x p fate.SentCone (sending fate.SentCone (send (embedded p.dst) x ∷ [])) is l row refl
-    (none_enters c (entry n (given x) (Some x) (Some p.dst) (words_ahead c) (sending fate.SentCone (send (embedded p.dst) x ∷ []))) (record { idle = bears_nothing refl; epoch = refl; quiet = refl; clock = l; drawn = refl }))
+sent_cone law c n x p is l row =
+    transmitted law c c n x p fate.SentCone (sending fate.SentCone (send (embedded p.dst) x ∷ [])) is l row refl
+    (none_enters law c (entry n (given x) (Some x) (Some p.dst) (words_ahead c) (sending fate.SentCone (send (embedded p.dst) x ∷ []))) (record { idle = bears_nothing refl; epoch = refl; quiet = refl; clock = l; drawn = refl }))
 
 -- WHERE NO LINE ASKS FOR THE PACKET
 
@@ -122,12 +121,12 @@ unfolding transmission table.given
 malformed_by s a x w on isnt = λ i. transmission_step s a x (fields_in x).dst w (transmission_row (record (given_of s a (isnt i) (fields_in x)) { qualified = on i }))
 
 -- whatever it is about, nothing is done
-nothing : (c : Client) (n : ℕ) (x : List ℕ) (f : Fate) → c.peers.moment ≤ n → SaysNothing f
+nothing : (law : Below) (c : Client) (n : ℕ) (x : List ℕ) (f : Fate) → c.peers.moment ≤ n → SaysNothing f
     → ((j : Journal) → ClientStandsFor c j → transmission (settings_of c) (standing_of (settings_of c) j n (destination_in x)) x (words_ahead c) ≡ just f) → Does c n (given x) (just f) c
 unfolding client_out
-nothing c n x f l d whole =
+nothing law c n x f l d whole =
     let e : Entry = entry n (given x) (packet_given x) (destination_in x) (words_ahead c) (just f) in
-    let entered = none_enters c e (record { idle = bears_nothing (d.bearing e); epoch = d.epoch; quiet = d.turn; clock = l; drawn = refl }) in
+    let entered = none_enters law c e (record { idle = bears_nothing (d.bearing e); epoch = d.epoch; quiet = d.turn; clock = l; drawn = refl }) in
     record {
       did = λ j h. sym (whole j h);
       stands = λ j h. subst (λ (k : Entry). ClientStandsFor c (with_entry j k)) (λ i. entry n (given x) (packet_given x) (destination_in x) (words_ahead c) (sym (whole j h) i)) (entered.stands j h);
@@ -142,14 +141,14 @@ means_nothing_off = record { turn = refl; epoch = refl; bearing = λ e. refl }
 means_nothing_malformed : SaysNothing fate.Malformed
 means_nothing_malformed = record { turn = refl; epoch = refl; bearing = λ e. refl }
 
-qualified_there : (c : Client) (j : Journal) (n : ℕ) (p : Ip6) (b : Bool) → ClientStandsFor c j → c.peers.moment ≤ n → is_qualified c.qualifier.now.phase ≡ b → is_qualified (standing_at (settings_of c) j n p).qualification.phase ≡ b
-qualified_there c j n p b h l is = ap (λ (a : Standing). is_qualified a.qualification.phase) (sym (standing_is c j n p h l)) ∙ is
+qualified_there : (law : Below) (c : Client) (j : Journal) (n : ℕ) (p : Ip6) (b : Bool) → ClientStandsFor c j → c.peers.moment ≤ n → is_qualified c.qualifier.now.phase ≡ b → is_qualified (standing_at (settings_of c) j n p).qualification.phase ≡ b
+qualified_there law c j n p b h l is = ap (λ (a : Standing). is_qualified a.qualification.phase) (sym (standing_is law c j n p h l)) ∙ is
 
-pub off : (c : Client) (n : ℕ) (x : List ℕ) → c.peers.moment ≤ n → is_qualified c.qualifier.now.phase ≡ false → Does c n (given x) (just fate.Off) c
-off c n x l isnt = nothing c n x fate.Off l means_nothing_off (λ j h. off_by (settings_of c) (standing_of (settings_of c) j n (destination_in x)) x (words_ahead c) false (qualified_there c j n (unwrap_or (destination_in x) unspecified) false h l isnt) refl)
+pub off : (law : Below) (c : Client) (n : ℕ) (x : List ℕ) → c.peers.moment ≤ n → is_qualified c.qualifier.now.phase ≡ false → Does c n (given x) (just fate.Off) c
+off law c n x l isnt = nothing law c n x fate.Off l means_nothing_off (λ j h. off_by (settings_of c) (standing_of (settings_of c) j n (destination_in x)) x (words_ahead c) false (qualified_there law c j n (unwrap_or (destination_in x) unspecified) false h l isnt) refl)
 
-pub malformed : (c : Client) (n : ℕ) (x : List ℕ) → c.peers.moment ≤ n → is_qualified c.qualifier.now.phase ≡ true → is_packet x ≡ false → Does c n (given x) (just fate.Malformed) c
-malformed c n x l on isnt = nothing c n x fate.Malformed l means_nothing_malformed (λ j h. malformed_by (settings_of c) (standing_of (settings_of c) j n (destination_in x)) x (words_ahead c) (qualified_there c j n (unwrap_or (destination_in x) unspecified) true h l on) isnt)
+pub malformed : (law : Below) (c : Client) (n : ℕ) (x : List ℕ) → c.peers.moment ≤ n → is_qualified c.qualifier.now.phase ≡ true → is_packet x ≡ false → Does c n (given x) (just fate.Malformed) c
+malformed law c n x l on isnt = nothing law c n x fate.Malformed l means_nothing_malformed (λ j h. malformed_by (settings_of c) (standing_of (settings_of c) j n (destination_in x)) x (words_ahead c) (qualified_there law c j n (unwrap_or (destination_in x) unspecified) true h l on) isnt)
 
 -- SIZES
 
@@ -160,14 +159,14 @@ short x p small inside = let most = ltb-false _ _ small in omega (arith, inside,
 
 -- WHERE MEMORY WAS WANTING
 
-row_there : (c : Client) (j : Journal) (n : ℕ) (x : List ℕ) (p : Fields) → ClientStandsFor c j → c.peers.moment ≤ n → IsFields x p
+row_there : (law : Below) (c : Client) (j : Journal) (n : ℕ) (x : List ℕ) (p : Fields) → ClientStandsFor c j → c.peers.moment ≤ n → IsFields x p
     → transmission_row (table.given (settings_of c) (standing_of (settings_of c) j n (destination_in x)) x) ≡ transmission_row (given_to c n p)
 unfolding table.given
-row_there c j n x p h l is =
-    let a : standing_of (settings_of c) j n (destination_in x) ≡ standing_in c n p.dst = ap (standing_of (settings_of c) j n) (destination_there x p is.packet is.fields) ∙ sym (standing_is c j n p.dst h l) in
+row_there law c j n x p h l is =
+    let a : standing_of (settings_of c) j n (destination_in x) ≡ standing_in c n p.dst = ap (standing_of (settings_of c) j n) (destination_there x p is.packet is.fields) ∙ sym (standing_is law c j n p.dst h l) in
     λ i. transmission_row (given_of (settings_of c) (a i) (is.packet i) (is.fields i))
 
-pub wants_queue : (c : Client) (n : ℕ) (x : List ℕ) (p : Fields) → IsFields x p → c.peers.moment ≤ n → fate.Queued ≡ transmission_row (given_to c n p) → WantsQueue c n x
+pub wants_queue : (law : Below) (c : Client) (n : ℕ) (x : List ℕ) (p : Fields) → IsFields x p → c.peers.moment ≤ n → fate.Queued ≡ transmission_row (given_to c n p) → WantsQueue c n x
 unfolding client_out
-wants_queue c n x p is l row j h =
-    fate_of_transmission (settings_of c) (standing_of (settings_of c) j n (destination_in x)) x (words_ahead c) ∙ row_there c j n x p h l is ∙ sym row
+wants_queue law c n x p is l row j h =
+    law.fate_of_transmission (settings_of c) (standing_of (settings_of c) j n (destination_in x)) x (words_ahead c) ∙ row_there law c j n x p h l is ∙ sym row

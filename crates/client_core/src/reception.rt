@@ -14,6 +14,7 @@ ghost use Rattle.peer_list.specs.Calls.{touched_at, trusted_at, heard_at, emptie
 ghost use Rattle.qualify.specs.Advertisements.{advert_row, advert_words};
 ghost use Rattle.client_core.specs.Client.{settings_of, fate_in, IsCallable, Does, TakesPayload, AsBefore, KeepsPlace, WantsPlace};
 
+use crate::below::below;
 use crate::client::Client;
 use crate::reception_line::{ReceptionLine, line_of};
 use crate::tries::{send_bubble, send_test};
@@ -47,6 +48,7 @@ fn hear(peers: &mut Peers, now: Millis, who: Ip6, from: Ep, step: &mut Step)
     ensures sends { step.new ≡ record step.old { sends = releases from (known_to peers.old now.0 who).waiting } }
     ensures peer { Updates peers.old peers.new now.0 who (emptied (heard_at now.0 (known_to peers.old now.0 who))) }
 {
+    below();
     peers.heard(now, who);
     peers.release(who, Side::Primary, from, step);
 }
@@ -59,6 +61,7 @@ fn trust(peers: &mut Peers, now: Millis, who: Ip6, from: Ep, step: &mut Step)
     ensures sends { step.new ≡ record step.old { sends = releases from (known_to peers.old now.0 who).waiting } }
     ensures peer { Updates peers.old peers.new now.0 who (emptied (heard_at now.0 (trusted_at now.0 from (known_to peers.old now.0 who)))) }
 {
+    below();
     peers.trust(now, who, from);
     hear(peers, now, who, from, step);
 }
@@ -102,6 +105,7 @@ impl Client {
         ensures again { OnErr result (IsCallable self.new now.0) }
         ensures untouched { OnErr result (step.new ≡ step.old) }
     {
+        below();
         // malformed: our choice
         let Ok(payload) = bubble::read(bytes) else {
             step.reset(Fate::Malformed);
@@ -124,6 +128,7 @@ impl Client {
         ensures kept { OnErr result (KeepsPlace self.old now.0 (view payload.now) (fate_in self.old now.0 from (view payload.now)) self.new) }
         ensures untouched { OnErr result (step.new ≡ step.old) }
     {
+        below();
         match line_of(self, now, from, payload) {
             ReceptionLine::Drop(fate) => {
                 step.reset(fate);
@@ -161,6 +166,7 @@ impl Client {
         requires short { length payload.now.packet.body.now ≤ DATAGRAM_MAX }
         ensures done { TakesPayload self.old now.0 from (view payload.now) (advert_row (settings_of self.old) self.old.qualifier.now from (view payload.now)) step.new self.new }
     {
+        below();
         let fate = self.qualifier.on_advert(now, from, payload, &mut self.rng);
         step.reset(fate);
         step.set_drawn(words_of_advert(fate));
@@ -188,6 +194,7 @@ impl Client {
         ensures kept { OnErr result (KeepsPlace self.old now.0 (view payload.now) Fate.Indirect self.new) }
         ensures untouched { OnErr result (step.new ≡ step.old) }
     {
+        below();
         let who = payload.packet.src;
         list(&mut self.peers, now, who)?;
         step.reset(Fate::Indirect);
@@ -212,6 +219,7 @@ impl Client {
         ensures kept { OnErr result (KeepsPlace self.old now.0 (view payload.now) Fate.Rule3 self.new) }
         ensures untouched { OnErr result (step.new ≡ step.old) }
     {
+        below();
         let who = payload.packet.src;
         list(&mut self.peers, now, who)?;
         hand_over(Fate::Rule3, payload, step);
@@ -233,6 +241,7 @@ impl Client {
         ensures kept { OnErr result (KeepsPlace self.old now.0 (view payload.now) Fate.Rule3Bubble self.new) }
         ensures untouched { OnErr result (step.new ≡ step.old) }
     {
+        below();
         let who = payload.packet.src;
         list(&mut self.peers, now, who)?;
         step.reset(Fate::Rule3Bubble);
@@ -253,6 +262,7 @@ impl Client {
         ensures kept { OnErr result (KeepsPlace self.old now.0 (view payload.now) Fate.SuspiciousTest self.new) }
         ensures untouched { OnErr result (step.new ≡ step.old) }
     {
+        below();
         let who = payload.packet.src;
         list(&mut self.peers, now, who)?;
         let own = self.own_address();

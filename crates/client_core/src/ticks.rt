@@ -11,6 +11,7 @@ ghost use Rattle.client_core.specs.Endpoint.{IsClientDue, owing, PutsOff};
 ghost use Rattle.client_rules.specs.Journals.{entry};
 ghost use Rattle.client_rules.specs.Ticks.{peer_due, peer_of_due, tries_peer, tick, try_fate, sooner};
 
+use crate::below::below;
 use crate::client::Client;
 use crate::tries::send_try;
 use td_base::{Ip6, Millis};
@@ -66,6 +67,7 @@ impl Client {
         ensures idle { Idles (owing self.old now.0) (AsBefore self.old self.new) step.new }
         ensures less { Lessens (owing self.old now.0) (owing self.new now.0) step.new }
     {
+        below();
         if is_past(self.qualifier.due(), now) {
             self.qualifier.on_tick(now, &mut self.rng, step);
             return;
@@ -80,6 +82,7 @@ impl Client {
         ensures entered { Enters self.old (entry now.0 ticked None (peer_of_due (peer_due now.0 (first_due_in self.old.peers now.0))) (words_ahead self.old) step.new) self.new }
         ensures less { PutsOff self.old self.new now.0 step.new }
     {
+        below();
         let Some(who) = self.due_peer(now) else {
             step.reset(Fate::Idle);
             return;
@@ -101,6 +104,7 @@ impl Client {
         ensures waits { IfSome result (λ who. is_none (known_to self.now.peers now.0 who).waiting ≡ false) }
         ensures past { IfSome result (λ who. due_of (known_to self.now.peers now.0 who) ≤ now.0) }
     {
+        below();
         let (at, who) = self.peers.due(now)?;
         if now < at {
             return None;
@@ -118,6 +122,7 @@ impl Client {
         ensures entered { Enters self.old (entry now.0 ticked None (Some who) (words_ahead self.old) step.new) self.new }
         ensures less { PutsOff self.old self.new now.0 step.new }
     {
+        below();
         let gone = self.peers.give_up(now, who);
         step.reset(Fate::GiveUp);
         step.set_gone(u16::from(gone));
@@ -133,6 +138,7 @@ impl Client {
         ensures entered { Enters self.old (entry now.0 ticked None (Some who) (words_ahead self.old) step.new) self.new }
         ensures less { PutsOff self.old self.new now.0 step.new }
     {
+        below();
         let own = self.own_address();
         let fate = fate_of_try(who);
         let settings = self.qualifier.settings();
@@ -146,6 +152,7 @@ impl Client {
         ensures told { IsClientDue self.now now.0 result }
         ensures first { IsFirstDue (owing self.now) now.0 result }
     {
+        below();
         sooner(self.qualifier.due(), self.first_try(now))
     }
 

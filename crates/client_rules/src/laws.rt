@@ -1,5 +1,7 @@
 //! Laws of every journal of a client.
-ghost use Rattle.client_rules.specs.Laws.{FateOfReception, FateOfTransmission, NextMentions, TriesTouch, JournalIsTried};
+ghost use Rattle.client_rules.specs.Laws.{FateOfReception, FateOfTransmission, ReceptionIsWarranted, TransmissionIsWarranted, NextMentions, TriesTouch, JournalIsTried, JournalHasFew};
+ghost use Rattle.client_rules.specs.Epochs.{QualifiedHasAddress, QualifiedStays, QueuedIsOwn, NoneQueued, WaitingIsOwn, TrustedIsEmbedded};
+ghost use Rattle.client_rules.specs.Sendings.{EachSend};
 
 /// What is done with a datagram has the fate of its line.
 pub fn fate_of_reception()
@@ -9,6 +11,16 @@ pub fn fate_of_reception()
 /// So has what is done with a packet of the host.
 pub fn fate_of_transmission()
     ensures { FateOfTransmission }
+{}
+
+/// A datagram has a fate other than a drop's only by the line of that fate.
+pub fn reception_is_warranted()
+    ensures { ReceptionIsWarranted }
+{}
+
+/// So has a packet of the host.
+pub fn transmission_is_warranted()
+    ensures { TransmissionIsWarranted }
 {}
 
 /// One further entry is one further mention, and a change of address ends all.
@@ -25,3 +37,67 @@ pub fn tries_touch()
 pub fn journal_is_tried()
     ensures { JournalIsTried }
 {}
+
+/// A client has an address exactly while it is qualified.
+pub fn qualified_has_address()
+    ensures { QualifiedHasAddress }
+{
+    qualify::turns();
+    qualify::turns_at_start();
+}
+
+/// A qualified client stays qualified.
+pub fn qualified_stays()
+    ensures { QualifiedStays }
+{
+    qualify::turns();
+}
+
+/// Each packet that was queued since the last change of address is from the client's address, and to its entry's peer.
+pub fn queued_is_own()
+    ensures { QueuedIsOwn }
+{
+    qualify::turns();
+    qualify::turns_at_start();
+}
+
+/// Without an address nothing was queued.
+pub fn none_queued()
+    ensures { NoneQueued }
+{
+    qualify::turns();
+    qualify::turns_at_start();
+}
+
+/// Each packet that waits is from the client's address, and to the one for which it waits.
+pub fn waiting_is_own()
+    ensures { WaitingIsOwn }
+{
+    qualify::turns();
+    qualify::turns_at_start();
+    peer_list::one_entry();
+}
+
+/// Another client is trusted at the endpoint that its address embeds, and nowhere else.
+pub fn trusted_is_embedded()
+    ensures { TrustedIsEmbedded }
+{
+    peer_list::one_entry();
+}
+
+/// Each entry that touches a peer finds room for it, so no more than 256 are listed.
+pub fn journal_has_few()
+    ensures { JournalHasFew }
+{
+    peer_list::first_waits();
+    peer_list::few_listed();
+}
+
+/// Each datagram that a client sends is a solicitation, a bubble, a test or a packet of its host.
+pub fn each_send()
+    ensures { EachSend }
+{
+    qualified_has_address();
+    waiting_is_own();
+    peer_list::first_waits();
+}

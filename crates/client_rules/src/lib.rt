@@ -6,6 +6,11 @@
 //! - `specs/Journals.antt` has the entry that each input makes after a journal, and when something is due.
 //! - The journal is read once, to what is known of one address (`specs/Standing.antt`). The tables look at nothing else.
 //! - One entry more is one mention more of its peer, and the fate of a step is that of a line of its table: `laws`.
+//! - Where a datagram or a packet isn't dropped, the conditions of its line held (`specs/Warrants.antt`).
+//! - In every journal a client has an address exactly while it is qualified, what waits is from that address, and another
+//!   client is trusted at its embedded endpoint alone (`specs/Epochs.antt`). Each datagram is of one of four kinds
+//!   (`specs/Sendings.antt`).
+//! - Each entry that touches a peer finds room for it, so a journal never lists more than 256.
 //!
 //! # What it does not know
 //!
@@ -20,13 +25,19 @@
 //! | a try at a peer | `specs/Tries.antt` |
 //! | datagrams, packets of the host, ticks | `specs/Reception.antt`, `Transmission.antt`, `Ticks.antt` |
 //! | the entries of a journal | `specs/Journals.antt` |
-//! | what holds of every journal | `specs/Laws.antt` |
+//! | what was seen where a fate is given | `specs/Warrants.antt` |
+//! | what holds of the tables, and of mentions | `specs/Laws.antt` |
+//! | what holds of address, waiting packets and trust | `specs/Epochs.antt` |
+//! | what is sent | `specs/Sendings.antt` |
 #![tactic(auto)]
 
 mod laws;
 mod limits;
 
 pub use laws::{
-    fate_of_reception, fate_of_transmission, journal_is_tried, next_mentions, tries_touch,
+    each_send, fate_of_reception, fate_of_transmission, journal_has_few, journal_is_tried,
+    next_mentions, none_queued, qualified_has_address, qualified_stays, queued_is_own,
+    reception_is_warranted, transmission_is_warranted, tries_touch, trusted_is_embedded,
+    waiting_is_own,
 };
 pub use limits::{TEST_ID, TEST_SEQ};

@@ -1,9 +1,10 @@
-//! Numbers, addresses and endpoints as text; lines, names, sums; the blocks of addresses.
+//! Numbers, addresses and endpoints as text; lines, sums; the blocks of addresses.
 use crate::vectors::CLIENT;
+use icmp6::ones_sum;
 use std::test::Fail;
 use td_base::{
-    BadText, Ep, Ip4, LineBuf, Name, Policy, Room, is_global, ones_sum, print_ep, print_ip4,
-    print_ip6, print_number, print_text, read_ep, read_ip4, read_ip6, read_number,
+    BadText, Ep, Ip4, LineBuf, Policy, Room, is_global, print_ep, print_ip4, print_ip6,
+    print_number, print_text, read_ep, read_ip4, read_ip6, read_number,
 };
 
 /// What a text is read as.
@@ -135,21 +136,6 @@ fn a_line_fills_up(rt: HostRuntime) {
     line.clear();
     assert!(rt; print_ep(ep, &mut line).is_ok());
     assert_eq!(rt; line.as_slice(), b"192.0.2.45:40000".as_slice());
-}
-
-#[test]
-fn names(rt: HostRuntime) -> Result<(), Fail> {
-    let name = Name::new(b"client_a").ok_or("a name")?;
-    assert_eq!(rt; name.as_slice(), b"client_a".as_slice());
-    assert!(rt; Name::new(b"client_a") == Some(name) && Name::new(b"client_b") != Some(name));
-    for (text, is_name) in [
-        ("0123456789abcdef", true),
-        ("0123456789abcdefg", false),
-        ("", false),
-    ] {
-        assert_eq!(rt; Name::new(text.as_bytes()).is_some(), is_name, "at {text}");
-    }
-    Ok(())
 }
 
 /// RFC 1071's example, an IPv4 header of RFC 791's form, odd lengths, and what folds over.

@@ -3,7 +3,7 @@ use Rattle.std.proofs.Common.{◌≡◌, ◌<◌, ℕ, zero, suc, true, [], ◌�
 use Rattle.td_base.specs.Ip4.{same_ip}
 use Rattle.td_base.specs.Ip6.{same_ip6}
 use Rattle.td_base.specs.Ep.{same_ep}
-use Rattle.td_base.specs.Names.{same_name}
+use Rattle.topology.specs.Names.{same_name}
 use Rattle.td_base.specs.Reach.{is_global, is_global6}
 use Rattle.teredo_addr.specs.Teredo.{is_teredo}
 use Rattle.topology.specs.NodeNames.{is_name}

@@ -2,8 +2,8 @@
 use Rattle.std.proofs.Common.{◌≡◌, ℕ, ◌+◌, ◌-◌, ◌≤◌, List, ◌∷◌, ◌++◌, length, take, ap, ◌∙◌}
 use Rattle.std.specs.Prelude.{replicate}
 use Rattle.std.proofs.Props.{props}
-use Rattle.td_base.specs.declared.node_name.Name.{Name}
-use Rattle.td_base.specs.declared.node_name.TheConstants.{NAME_LEN}
+use Rattle.topology.specs.declared.node_name.Name.{Name}
+use Rattle.topology.specs.declared.node_name.TheConstants.{NAME_LEN}
 use Rattle.generator.specs.GeneratedNodes.{lettered_name}
 
 abbrev build : (n : ℕ) (bytes : List ℕ) → length bytes ≡ NAME_LEN → n ≤ NAME_LEN → bytes ≡ take n bytes ++ replicate (NAME_LEN - n) 0 → Name

@@ -3,7 +3,7 @@ use Rattle.std.specs.Prelude.{ℕ, zero, suc, ◌+◌, ◌*◌, ◌%◌, ◌==�
 use Rattle.std.proofs.Common.{refl, lit≤}
 use Rattle.td_base.specs.declared.ipv4.Ip4.{Ip4}
 use Rattle.td_base.specs.declared.ipv6.Ip6.{Ip6}
-use Rattle.td_base.specs.declared.node_name.Name.{Name}
+use Rattle.topology.specs.declared.node_name.Name.{Name}
 use Rattle.nat_kinds.specs.declared.kind.NatKind.{NatKind}
 use Rattle.nat_kinds.specs.declared.kind.NatKind.TheVariants.{Cone, Restricted, Port, Symmetric}
 use Rattle.topology.specs.declared.server_node.ServerNode.{ServerNode}

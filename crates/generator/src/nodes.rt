@@ -4,8 +4,8 @@ ghost use Rattle.generator.specs.GeneratedNodes.{lettered_name, documentation_ip
 
 use nat_kinds::NatKind;
 use std::alloc::Global;
-use td_base::{Ep, Ip4, Ip6, Name, NoMemory};
-use topology::{ClientNode, NatNode, NativeNode, RelayNode, ServerNode, Topology};
+use td_base::{Ep, Ip4, Ip6, NoMemory};
+use topology::{ClientNode, Name, NatNode, NativeNode, RelayNode, ServerNode, Topology};
 
 /// The numbers of the first NAT, the first client, the relay and the first native host, among all nodes.
 pub const FIRST_NAT: u16 = 2;

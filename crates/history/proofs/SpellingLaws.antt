@@ -7,8 +7,8 @@ use Rattle.std.proofs.lemmas.Bool.{and_from, and_parts, or_parts, false≢true}
 use Rattle.std.proofs.lemmas.Bool.Decides.{eqb_tells}
 use Rattle.hex.specs.Hex.{IsBytes}
 use Rattle.td_base.specs.Results.{◌>>=◌}
-use Rattle.td_base.specs.Names.{name_text, same_name}
-use Rattle.td_base.specs.declared.node_name.Name.{Name}
+use Rattle.topology.specs.Names.{name_text, same_name}
+use Rattle.topology.specs.declared.node_name.Name.{Name}
 use Rattle.td_base.specs.declared.endpoint.Ep.{Ep}
 use Rattle.td_base.specs.Ep.{IsEp}
 use Rattle.td_base.specs.Ip6Texts.{ip6_text}
@@ -20,7 +20,7 @@ use Rattle.history.specs.declared.acts.Verb.{Verb}
 use Rattle.history.specs.declared.acts.Verb.TheVariants as verb
 use Rattle.history.specs.declared.target.Target.{Target}
 use Rattle.history.specs.declared.target.Target.TheVariants as target
-use Rattle.td_base.specs.declared.node_name.TheConstants.{NAME_LEN}
+use Rattle.topology.specs.declared.node_name.TheConstants.{NAME_LEN}
 use Rattle.topology.specs.NodeNames.{is_name_byte, begins_with_letter, is_name}
 use Rattle.topology.specs.Rows.{TopologyState}
 use Rattle.topology.specs.declared.node.Node.{Node}

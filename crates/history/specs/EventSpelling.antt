@@ -2,11 +2,11 @@
 use Rattle.std.specs.Prelude.{◌≡◌, ℕ, ◌==◌, ◌&&◌, not, Bool, true, List, [], ◌∷◌, codes, decimal, option_map, Option, Some, None}
 use Rattle.std.specs.List.{list_all, join_with_byte, AllByRecursion}
 use Rattle.hex.specs.Hex.{encode_lower}
-use Rattle.td_base.specs.Names.{name_text}
+use Rattle.topology.specs.Names.{name_text}
 use Rattle.td_base.specs.Texts.{ep_text}
 use Rattle.td_base.specs.Ip6.{IsIp6}
 use Rattle.td_base.specs.Ip6Texts.{ip6_text}
-use Rattle.td_base.specs.declared.node_name.Name.{Name}
+use Rattle.topology.specs.declared.node_name.Name.{Name}
 use Rattle.history.specs.declared.event.Event.{Event}
 use Rattle.history.specs.declared.event.Event.TheVariants as event
 use Rattle.history.specs.declared.acts.Verb.TheVariants as verb

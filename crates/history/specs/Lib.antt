@@ -10,3 +10,4 @@ pub mod Answers
 pub mod Full
 pub mod Records
 pub mod Telling
+pub mod Laws

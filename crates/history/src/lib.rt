@@ -21,6 +21,7 @@
 //! | `event_words` | the words of a text, one after the other | `specs/EventText.antt`, `Answers.antt` |
 //! | `word_texts`, `node_words` | what one word says: numbers, addresses, bytes; nodes | `specs/Words.antt`, `Ip6Words.antt`, `NodeWords.antt` |
 //! | `event_printer` | the text of an event | `specs/EventSpelling.antt` |
+//! | `laws` | what holds of every word | `specs/Laws.antt` |
 //! | `mark`, `mark_list` | `Mark`, `Loss`, `Marks` | |
 //! | `turn` | `Turn`, `Stop` | |
 //! | `records` | `Record`, the full record behind it, and what it tells the totals | `specs/Full.antt`, `Records.antt`, `Telling.antt` |
@@ -33,6 +34,7 @@ mod event_list;
 mod event_printer;
 mod event_reader;
 mod event_words;
+mod laws;
 mod mark;
 mod mark_list;
 mod node_words;
@@ -51,6 +53,7 @@ pub use event_fault::EventFault;
 pub use event_list::Events;
 pub use event_printer::print_event;
 pub use event_reader::read_event;
+pub use laws::words_are_made;
 pub use mark::{Loss, Mark};
 pub use mark_list::{MOST_MARKS, Marks};
 pub use records::Record;

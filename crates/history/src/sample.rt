@@ -3,7 +3,8 @@ use crate::{ClientNode, NatNode, NativeNode, RelayNode, ServerNode, Topology};
 use nat_kinds::NatKind;
 use std::alloc::Global;
 use std::test::Fail;
-use td_base::{Ep, Ip4, Ip6, Name};
+use td_base::{Ep, Ip4, Ip6};
+use topology::Name;
 
 const SERVER_NODE: ServerNode = ServerNode {
     name: Name {

@@ -1,3 +1,4 @@
+pub mod Folding
 pub mod SumLaws
 pub mod WalkSteps
 pub mod Steps

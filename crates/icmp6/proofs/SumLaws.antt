@@ -4,7 +4,7 @@ use Rattle.std.proofs.lemmas.List.{length-take}
 use Rattle.byteorder.specs.Endian.{big_bytes}
 use Rattle.td_base.specs.declared.ipv6.Ip6.{Ip6}
 use Rattle.td_base.specs.Bytes.{number_at}
-use Rattle.td_base.specs.Sums.{halves_sum, folded}
+use Rattle.icmp6.specs.Sums.{halves_sum, folded}
 use Rattle.icmp6.specs.Checksum.{checksum_of, summed}
 
 pub halves_sum-append : (a b : List ℕ) → length a % 2 ≡ 0 → halves_sum (a ++ b) ≡ halves_sum a + halves_sum b

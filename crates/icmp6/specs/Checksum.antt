@@ -2,7 +2,7 @@
 use Rattle.std.specs.Prelude.{ℕ, ◌-◌, List, [], ◌∷◌, ◌++◌, length, take, drop}
 use Rattle.byteorder.specs.Endian.{big_bytes}
 use Rattle.td_base.specs.declared.ipv6.Ip6.{Ip6}
-use Rattle.td_base.specs.Sums.{halves_sum, folded}
+use Rattle.icmp6.specs.Sums.{halves_sum, folded}
 use Rattle.icmp6.specs.declared.numbers.TheConstants.{ICMPV6}
 
 -- source, destination, length and next header as 32 bits each, and the message with checksum 0

@@ -1,3 +1,4 @@
+pub mod Sums
 pub mod Checksum
 pub mod Options
 pub mod Message

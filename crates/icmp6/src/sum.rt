@@ -2,8 +2,9 @@
 ghost use Rattle.std.specs.Prelude.{◌≡◌, ◌≤◌, length};
 ghost use Rattle.icmp6.specs.Checksum.{checksum_of};
 
+use crate::halves::ones_sum;
 use crate::numbers::{HEAD_LEN, ICMPV6};
-use td_base::{Ip6, field16, ones_sum};
+use td_base::{Ip6, field16};
 
 /// The right checksum of a message, whatever its checksum field says: RFC 4443, section 2.3.
 #[inline(always)]

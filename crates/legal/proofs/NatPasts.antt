@@ -24,7 +24,7 @@ use Rattle.history.specs.declared.event.Event.TheVariants as event
 use Rattle.history.specs.declared.acts.Act.{Act}
 use Rattle.history.specs.declared.acts.Act.TheVariants as act
 use Rattle.history.specs.Full.{Made, Full}
-use Rattle.legal.specs.Past.{Draws, now, is_node, is_restart, out_of, outs_of, forgotten, at_nat, nat_entries, nat_history}
+use Rattle.legal.specs.Past.{Draws, now, is_node, is_restart, out_of, outs_of, forgotten, at_nat, nat_history}
 use Rattle.legal.specs.Emit.{or_loss, marked, after_send, through_nat}
 use Rattle.legal.specs.Next.{Numbered, acts, plain, no_ep, dst_of, input_of}
 use Rattle.legal.specs.Legal.{Grown}

@@ -15,7 +15,7 @@ use Rattle.td_base.specs.Reach.{is_global6}
 use Rattle.teredo_node.specs.declared.fate.Fate.{Fate}
 use Rattle.teredo_node.specs.declared.fate.Fate.TheVariants as fate
 use Rattle.teredo_node.specs.Rows.{first_line}
-use Rattle.teredo_node.specs.Journal.{Input, arrived, given, from_six, ticked, Entry, Journal, Words}
+use Rattle.teredo_node.specs.Journal.{arrived, from_six, ticked, Entry, Journal, Words}
 use Rattle.server_core.specs.declared.server.ServerSettings.{ServerSettings}
 use Rattle.server_core.specs.declared.rules.Rule.{Rule}
 use Rattle.server_core.specs.Rules.{seen, datagram_lines, packet_lines, destination_lines, last_line, rule_of}
@@ -27,13 +27,13 @@ use Rattle.qualify.specs.Qualification.{Qualification}
 use Rattle.qualify.specs.Advertisements.{heard, advert_lines, phase_line, advert_row}
 use Rattle.client_rules.specs.Standing.{Standing, standing_of}
 use Rattle.client_rules.specs.Reception as reception
-use Rattle.client_rules.specs.Journals.{client_in, client_entry}
+use Rattle.client_rules.specs.Journals.{client_in}
 use Rattle.client_rules.specs.Laws.{FateOfReception}
 use Rattle.relay_rules.specs.Standing as relaying
 use Rattle.relay_rules.specs.Standing.{RelaySettings}
 use Rattle.relay_rules.specs.Reception as relay_reception
 use Rattle.relay_rules.specs.Transmission as relay_transmission
-use Rattle.relay_rules.specs.Journals.{relay_in, relay_six, relay_entry}
+use Rattle.relay_rules.specs.Journals.{relay_in, relay_six}
 use Rattle.relay_rules.specs.Laws as relay_laws
 use Rattle.history.specs.declared.event.Event.{Event}
 use Rattle.history.specs.declared.event.Event.TheVariants as event
@@ -47,7 +47,7 @@ use Rattle.topology.specs.Topology.{nodes, node_at, side_at}
 use Rattle.history.specs.Telling.{is_no_entry, IsTold}
 use Rattle.history.specs.Full.{Item, udp, six, Full, wire}
 use Rattle.legal.specs.Past.{Draws, now, began, first_undelivered, journal, words}
-use Rattle.legal.specs.Natives.{Native, kept, echo_of, native_in}
+use Rattle.native_host.specs.Natives.{echo_of, native_in}
 use Rattle.legal.specs.Settings.{server_settings, client_settings, relay_settings}
 use Rattle.legal.specs.Emit.{Route, reaches, closed, astray, route, entry_of}
 use Rattle.legal.specs.Next.{Numbered, numbered, Due, least_due, plain, advance_with, advanced, acts, no_ep, blank, delivers_to, delivers_item, delivers_or, copies, data_packet, echo_packet, address_at, target_address, hands_in, next_of}

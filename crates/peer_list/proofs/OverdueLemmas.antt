@@ -1,7 +1,6 @@
 -- How much is due of a table's peers.
-use Rattle.std.proofs.Common.{◌≡◌, ◌≤◌, ◌<◌, ℕ, ◌+◌, ◌||◌, ◌&&◌, not, Bool, true, false, cond, List, [], ◌∷◌, length, filter, find, Option, Some, None, refl, sym, ap, ◌∙◌, subst, arith}
+use Rattle.std.proofs.Common.{◌≡◌, ◌≤◌, ◌<◌, ℕ, ◌||◌, ◌&&◌, not, Bool, true, false, cond, List, [], ◌∷◌, length, filter, find, Option, Some, None, refl, sym, ap, ◌∙◌, subst, arith}
 use Rattle.std.specs.Prelude.{sum_by, option_map, unwrap_or, is_some, nat_lt, nat_le, nat_eq}
-use Rattle.std.specs.List.{list_any}
 use Rattle.std.specs.declared.cmp.Ordering.{Ordering}
 use Rattle.std.specs.declared.cmp.Ordering.TheVariants.{Less, Equal, Greater}
 use Rattle.std.specs.Ordering.{nat_cmp, ordering_then, is_lt}
@@ -11,12 +10,16 @@ use Rattle.std.proofs.lemmas.Map.Views.{any-filter_same}
 use Rattle.td_base.specs.Ip6.{same_ip6, same_ip6-true, same_ip6-self, cmp_ip6}
 use Rattle.td_base.specs.declared.ipv6.Ip6.{Ip6}
 use Rattle.peer_list.specs.declared.limits.TheConstants.{LISTED_MS}
-use Rattle.peer_list.specs.Peers.{Peer, no_peer}
+use Rattle.peer_list.specs.Mentions.{Mention}
+use Rattle.peer_list.specs.Listed.{listed}
+use Rattle.peer_list.specs.Peers.{Peer, no_peer, known}
 use Rattle.peer_list.specs.Judged.{is_none, is_within, due_of}
-use Rattle.peer_list.specs.Waiting.{Listing, waiting_among, cmp_due, least_by_due, first_among}
-use Rattle.peer_list.specs.Table.{Table, while_listed, peer_listed, is_of, peer_in, known_to, listed_in, first_due_in}
+use Rattle.peer_list.specs.Waiting.{Listing, waiting_among, cmp_due, first_among}
+use Rattle.peer_list.specs.Table.{Table, while_listed, peer_listed, is_of, peer_in, known_to, listed_in}
 use Rattle.peer_list.specs.Calls.{Updates}
 use Rattle.peer_list.specs.Overdue.{while_due, overdue_in, NothingOverdue, IsFirstOverdue, FirstOverdue, IsPutOff, LessOverdue}
+use Rattle.peer_list.specs.Laws.{IsFirstBy, FirstIsEarliest}
+use Rattle.peer_list.proofs.Lists.{listed_are}
 use Rattle.peer_list.proofs.Orders.{has, SameMembers, IsLeast, IsBest, best, first_of, same_waiting}
 use Rattle.peer_list.proofs.TableLemmas.{within_before, listed_while, members, members_once}
 
@@ -121,6 +124,14 @@ no_earlier f ps first p e h w =
     let least : IsLeast f first (filter (waits f) ps) = subst (λ o. IsBest f (filter (waits f) ps) o) e (best f (filter (waits f) ps)) in
     let among : has p (filter (waits f) ps) ≡ true = kept f ps p ∙ ap (λ b. not b && has p ps) w ∙ h in
     not_less (due_of (f p)) (due_of (f first)) (cmp_ip6 p first) (least.1 p among)
+
+first_by_due : (j : List Mention) (n : ℕ) (p : Ip6) (o : Option Ip6) → first_among (known j n) (listed j n) ≡ o → has p (listed j n) ≡ true → is_none (known j n p).waiting ≡ false
+    → IsFirstBy (due_of (known j n p)) (option_map {U = Listing} (λ q. record { who = q; peer = known j n q }) o)
+first_by_due j n p None e h w = false≢true (sym w ∙ nobody (known j n) (listed j n) p e h)
+first_by_due j n p (Some first) e h w = no_earlier (known j n) (listed j n) first p e h w
+
+pub first_is_earliest : FirstIsEarliest
+first_is_earliest j n p h w = first_by_due j n p (first_among (known j n) (listed j n)) refl (listed_are j n p ∙ h) w
 
 -- THE LAWS
 

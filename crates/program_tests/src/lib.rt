@@ -21,6 +21,7 @@
 //! | `sockets` | `run` on `serve`, over two sockets |
 //! | `worlds` | `scenario` and `world` |
 //! | `lines` | `report` |
+//! | `names` | `topology` |
 #![tactic(auto)]
 
 #[cfg(test)]
@@ -31,6 +32,8 @@ mod clients;
 mod files_and_words;
 #[cfg(test)]
 mod lines;
+#[cfg(test)]
+mod names;
 #[cfg(test)]
 mod nets;
 #[cfg(test)]

@@ -5,7 +5,8 @@ use history::{ClientNode, NatNode, NativeNode, RelayNode, ServerNode, Topology};
 use nat_kinds::NatKind;
 use std::alloc::Global;
 use std::test::Fail;
-use td_base::{Ep, Ip4, Ip6, Name};
+use td_base::{Ep, Ip4, Ip6};
+use topology::Name;
 
 pub const SERVER: u16 = 0;
 

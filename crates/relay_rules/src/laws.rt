@@ -1,5 +1,6 @@
 //! Laws of every journal of a relay.
-ghost use Rattle.relay_rules.specs.Laws.{FateOfReception, FateOfTransmission, TriesTouch, JournalIsTried, ConeIsQuiet};
+ghost use Rattle.relay_rules.specs.Laws.{FateOfReception, FateOfTransmission, ReceptionIsWarranted, TransmissionIsWarranted, TriesTouch, JournalIsTried, ConeIsQuiet, WaitingIsForeign, TrustedIsEmbedded, JournalHasFew};
+ghost use Rattle.relay_rules.specs.Sendings.{EachSend};
 
 /// What is done with a datagram has the fate of its line.
 pub fn fate_of_reception()
@@ -9,6 +10,16 @@ pub fn fate_of_reception()
 /// So has what is done with a packet of the IPv6 side.
 pub fn fate_of_transmission()
     ensures { FateOfTransmission }
+{}
+
+/// A datagram has the fate of a listed client's packet only by the line of that fate.
+pub fn reception_is_warranted()
+    ensures { ReceptionIsWarranted }
+{}
+
+/// A packet of the IPv6 side has a fate other than a drop's only by the line of that fate.
+pub fn transmission_is_warranted()
+    ensures { TransmissionIsWarranted }
 {}
 
 /// Each try touches its peer.
@@ -24,4 +35,38 @@ pub fn journal_is_tried()
 /// An address with the cone bit has no tries and nothing waiting.
 pub fn cone_is_quiet()
     ensures { ConeIsQuiet }
-{}
+{
+    peer_list::of_another();
+    peer_list::of_a_touch();
+    peer_list::of_no_touch();
+    peer_list::first_waits();
+}
+
+/// Each entry that touches a peer finds room for it, so no more than 256 are listed.
+pub fn journal_has_few()
+    ensures { JournalHasFew }
+{
+    peer_list::first_waits();
+    peer_list::few_listed();
+}
+
+/// Each packet that waits is from outside Teredo, and to the client for which it waits.
+pub fn waiting_is_foreign()
+    ensures { WaitingIsForeign }
+{
+    peer_list::one_entry();
+}
+
+/// A client is trusted at the endpoint that its address embeds, and nowhere else.
+pub fn trusted_is_embedded()
+    ensures { TrustedIsEmbedded }
+{
+    peer_list::one_entry();
+}
+
+/// Each datagram that a relay sends is a bubble, or a packet from outside Teredo.
+pub fn each_send()
+    ensures { EachSend }
+{
+    waiting_is_foreign();
+}

@@ -3,7 +3,7 @@ use Rattle.std.specs.Prelude.{ℕ, ◌==◌, List, [], ◌∷◌, ◌++◌, leng
 use Rattle.td_base.specs.declared.ipv6.Ip6.{Ip6}
 use Rattle.td_base.specs.Ip6Texts.{ip6_text}
 use Rattle.td_base.specs.Texts.{ep_text}
-use Rattle.td_base.specs.Names.{name_text}
+use Rattle.topology.specs.Names.{name_text}
 use Rattle.teredo_node.specs.Fate.{fate_word}
 use Rattle.history.specs.declared.acts.Act.{Act}
 use Rattle.history.specs.declared.acts.Act.TheVariants as act

@@ -7,8 +7,9 @@ ghost use Rattle.report.specs.Lines.{act_text, node_text, address_text, handed_t
 
 use history::{Act, Topology, Verb};
 use td_base::{
-    Ep, Ip6, LINE_LEN, LineBuf, NAME_LEN, NUMBER_LEN, SHORT_LEN, print_ep, print_ip6, print_number,
+    Ep, Ip6, LINE_LEN, LineBuf, NUMBER_LEN, SHORT_LEN, print_ep, print_ip6, print_number,
 };
+use topology::NAME_LEN;
 
 /// The most bytes of an endpoint.
 pub const EP_LEN: usize = 21;

@@ -10,12 +10,12 @@ use Rattle.toml.specs.Data.{Members, Data, as_array, get_member}
 use Rattle.td_base.specs.declared.ipv4.Ip4.{Ip4}
 use Rattle.td_base.specs.declared.ipv6.Ip6.{Ip6}
 use Rattle.td_base.specs.declared.endpoint.Ep.{Ep}
-use Rattle.td_base.specs.declared.node_name.Name.{Name}
+use Rattle.topology.specs.declared.node_name.Name.{Name}
 use Rattle.td_base.specs.declared.reach.Policy.TheVariants.{Strict}
 use Rattle.td_base.specs.Ip4.{IsIp4, same_ip}
 use Rattle.td_base.specs.Ip6.{same_ip6}
 use Rattle.td_base.specs.Ep.{IsEp, same_ep}
-use Rattle.td_base.specs.Names.{name_text, same_name}
+use Rattle.topology.specs.Names.{name_text, same_name}
 use Rattle.td_base.specs.Reach.{is_global, is_global6}
 use Rattle.teredo_addr.specs.Teredo.{is_teredo}
 use Rattle.topology.specs.declared.server_node.ServerNode.{ServerNode}
@@ -33,9 +33,8 @@ use Rattle.topology.specs.Topology.{nodes, as_server, as_nat, as_relay}
 use Rattle.topology.specs.Rules.{names_of, addresses_of, sixes_of, IsClient}
 use Rattle.topology.specs.Named.{is_server, is_nat, is_relay, named, is_named}
 use Rattle.history.specs.Words.{ip4_of, ep_of}
-use Rattle.history.proofs.Addresses.{ip4_of-sound, ep_of-sound}
-use Rattle.history.proofs.Ip6WordLemmas.{ip6_of-sound}
 use Rattle.history.specs.Ip6Words.{ip6_of}
+use Rattle.history.specs.Laws.{WordsAreMade}
 use Rattle.scenario.specs.declared.place.Place.{Place}
 use Rattle.scenario.specs.declared.node_rows.TheConstants.{REFRESH_LOW, REFRESH_HIGH}
 use Rattle.scenario.specs.Keys.{typed, ruled, word_at, name_at, whole_number_at}
@@ -70,48 +69,48 @@ free_ip t ip e made =
     let both = and_parts (is_global Strict ip) (is_free_address t ip) e in
     record { free = not_true (list_any (same_ip ip) (addresses_of t)) both.1; global = both.0; made = made }
 
-free_address : (t : TopologyState) (text : List ℕ) (ip : Ip4) → new_address t text ≡ Some ip → IsFreeIp t ip
+free_address : (law : WordsAreMade) (t : TopologyState) (text : List ℕ) (ip : Ip4) → new_address t text ≡ Some ip → IsFreeIp t ip
 unfolding new_address
-free_address t text ip e =
+free_address law t text ip e =
     let made = bind_some (ip4_of text) (λ x. where_holds (is_new_address t x) x) ip e in
     let kept = held (is_new_address t made.0) made.0 ip made.2 in
-    subst (IsFreeIp t) kept.1 (free_ip t made.0 kept.0 (ip4_of-sound made.0 text made.1).0)
+    subst (IsFreeIp t) kept.1 (free_ip t made.0 kept.0 (law.ip4 text made.0 made.1))
 
-free_other : (t : TopologyState) (first : Ip4) (text : List ℕ) (ip : Ip4) → other_address t first text ≡ Some ip → IsFreeIp t ip × (same_ip first ip ≡ false)
+free_other : (law : WordsAreMade) (t : TopologyState) (first : Ip4) (text : List ℕ) (ip : Ip4) → other_address t first text ≡ Some ip → IsFreeIp t ip × (same_ip first ip ≡ false)
 unfolding other_address
-free_other t first text ip e =
+free_other law t first text ip e =
     let made = bind_some (new_address t text) (λ x. where_holds (not (same_ip first x)) x) ip e in
     let kept = held (not (same_ip first made.0)) made.0 ip made.2 in
     let P : Ip4 → Type 0 = λ x. IsFreeIp t x × (same_ip first x ≡ false) in
-    subst P kept.1 (free_address t text made.0 made.1, not_true (same_ip first made.0) kept.0)
+    subst P kept.1 (free_address law t text made.0 made.1, not_true (same_ip first made.0) kept.0)
 
-free_endpoint : (t : TopologyState) (text : List ℕ) (at : Ep) → new_endpoint t text ≡ Some at → IsFreeIp t at.ip × (at.port ≢ 0) × IsEp at
+free_endpoint : (law : WordsAreMade) (t : TopologyState) (text : List ℕ) (at : Ep) → new_endpoint t text ≡ Some at → IsFreeIp t at.ip × (at.port ≢ 0) × IsEp at
 unfolding new_endpoint
-free_endpoint t text at e =
+free_endpoint law t text at e =
     let made = bind_some (ep_of text) (λ x. where_holds (not (x.port == 0) && is_new_address t x.ip) x) at e in
     let kept = held (not (made.0.port == 0) && is_new_address t made.0.ip) made.0 at made.2 in
     let both = and_parts (not (made.0.port == 0)) (is_new_address t made.0.ip) kept.0 in
-    let is = (ep_of-sound made.0 text made.1).0 in
+    let is = law.ep text made.0 made.1 in
     let P : Ep → Type 0 = λ x. IsFreeIp t x.ip × (x.port ≢ 0) × IsEp x in
     subst P kept.1 (free_ip t made.0.ip both.1 is.0, no_zero made.0.port both.0, is)
 
-free_six : (t : TopologyState) (text : List ℕ) (ip : Ip6) → new_six t text ≡ Some ip → IsFreeSix t ip
+free_six : (law : WordsAreMade) (t : TopologyState) (text : List ℕ) (ip : Ip6) → new_six t text ≡ Some ip → IsFreeSix t ip
 unfolding new_six is_free_six
-free_six t text ip e =
+free_six law t text ip e =
     let made = bind_some (ip6_of text) (λ x. where_holds (is_new_six t x) x) ip e in
     let kept = held (is_new_six t made.0) made.0 ip made.2 in
     let both = and_parts (is_global6 made.0 && not (is_teredo made.0)) (is_free_six t made.0) kept.0 in
     let outside = and_parts (is_global6 made.0) (not (is_teredo made.0)) both.0 in
-    subst (IsFreeSix t) kept.1 (record { free = not_true (list_any (same_ip6 made.0) (sixes_of t)) both.1; outside = record { global = outside.0; other = not_true (is_teredo made.0) outside.1 }; made = (ip6_of-sound made.0 text made.1).0 })
+    subst (IsFreeSix t) kept.1 (record { free = not_true (list_any (same_ip6 made.0) (sixes_of t)) both.1; outside = record { global = outside.0; other = not_true (is_teredo made.0) outside.1 }; made = law.ip6 text made.0 made.1 })
 
-free_inside : (t : TopologyState) (n : ℕ) (text : List ℕ) (inside : Ep) → new_inside t n text ≡ Some inside → (inside.port ≢ 0) × (list_any (λ (c : ClientNode). (n == c.nat) && same_ep inside c.inside) t.clients ≡ false) × IsEp inside
+free_inside : (law : WordsAreMade) (t : TopologyState) (n : ℕ) (text : List ℕ) (inside : Ep) → new_inside t n text ≡ Some inside → (inside.port ≢ 0) × (list_any (λ (c : ClientNode). (n == c.nat) && same_ep inside c.inside) t.clients ≡ false) × IsEp inside
 unfolding new_inside is_free_inside
-free_inside t n text inside e =
+free_inside law t n text inside e =
     let made = bind_some (ep_of text) (λ x. where_holds (not (x.port == 0) && is_free_inside t n x) x) inside e in
     let kept = held (not (made.0.port == 0) && is_free_inside t n made.0) made.0 inside made.2 in
     let both = and_parts (not (made.0.port == 0)) (is_free_inside t n made.0) kept.0 in
     let P : Ep → Type 0 = λ x. (x.port ≢ 0) × (list_any (λ (c : ClientNode). (n == c.nat) && same_ep x c.inside) t.clients ≡ false) × IsEp x in
-    subst P kept.1 (no_zero made.0.port both.0, not_true (list_any (λ (c : ClientNode). (n == c.nat) && same_ep made.0 c.inside) t.clients) both.1, (ep_of-sound made.0 text made.1).0)
+    subst P kept.1 (no_zero made.0.port both.0, not_true (list_any (λ (c : ClientNode). (n == c.nat) && same_ep made.0 c.inside) t.clients) both.1, (law.ep text made.0 made.1))
 
 idle_within : (number : ℤ) (idle : ℕ) → idle_of number ≡ Some idle → (1 ≤ idle) × (idle ≤ MOST_IDLE)
 unfolding idle_of
@@ -193,22 +192,22 @@ relay_named-is t text n e = numbered is_relay as_relay as_relay-is text (nodes t
 
 -- ---- a node
 
-pub server_of_table-fresh : (t : TopologyState) (place : Place) (table : Members) (row : ServerNode) → server_of_table t place table ≡ Ok row → IsFreshServer t row
+pub server_of_table-fresh : (law : WordsAreMade) (t : TopologyState) (place : Place) (table : Members) (row : ServerNode) → server_of_table t place table ≡ Ok row → IsFreshServer t row
 unfolding server_of_table
-server_of_table-fresh t place table row e =
+server_of_table-fresh law t place table row e =
     let name = bind_ok (name_at place (codes "name") (new_name t) table) _ row e in
     let primary = bind_ok (word_at place (codes "primary") (new_address t) table) _ row name.2 in
     let secondary = bind_ok (word_at place (codes "secondary") (other_address t primary.0) table) _ row primary.2 in
     let named = name_kept place (codes "name") (new_name t) table name.0 name.1 in
     let first = word_kept place (codes "primary") (new_address t) table primary.0 primary.1 in
     let second = word_kept place (codes "secondary") (other_address t primary.0) table secondary.0 secondary.1 in
-    let other = free_other t primary.0 second.0 secondary.0 second.1 in
-    let fresh : IsFreshServer t (record { name = name.0; primary = primary.0; secondary = secondary.0 }) = record { name = free_name t named.0 name.0 named.1; primary = free_address t first.0 primary.0 first.1; secondary = other.0; two = other.1 } in
+    let other = free_other law t primary.0 second.0 secondary.0 second.1 in
+    let fresh : IsFreshServer t (record { name = name.0; primary = primary.0; secondary = secondary.0 }) = record { name = free_name t named.0 name.0 named.1; primary = free_address law t first.0 primary.0 first.1; secondary = other.0; two = other.1 } in
     subst (IsFreshServer t) (ok_same _ _ secondary.2) fresh
 
-pub nat_of_table-fresh : (t : TopologyState) (place : Place) (table : Members) (row : NatNode) → nat_of_table t place table ≡ Ok row → IsFreshNat t row
+pub nat_of_table-fresh : (law : WordsAreMade) (t : TopologyState) (place : Place) (table : Members) (row : NatNode) → nat_of_table t place table ≡ Ok row → IsFreshNat t row
 unfolding nat_of_table
-nat_of_table-fresh t place table row e =
+nat_of_table-fresh law t place table row e =
     let name = bind_ok (name_at place (codes "name") (new_name t) table) _ row e in
     let kind = bind_ok (word_at place (codes "kind") kind_of table) _ row name.2 in
     let external = bind_ok (word_at place (codes "external") (new_address t) table) _ row kind.2 in
@@ -217,12 +216,12 @@ nat_of_table-fresh t place table row e =
     let outside = word_kept place (codes "external") (new_address t) table external.0 external.1 in
     let number = number_kept place (codes "idle") idle_of table idle.0 idle.1 in
     let within = idle_within number.0 idle.0 number.1 in
-    let fresh : IsFreshNat t (record { name = name.0; kind = kind.0; external = external.0; idle = idle.0 }) = record { name = free_name t named.0 name.0 named.1; external = free_address t outside.0 external.0 outside.1; idle = record { least = within.0; most = within.1 } } in
+    let fresh : IsFreshNat t (record { name = name.0; kind = kind.0; external = external.0; idle = idle.0 }) = record { name = free_name t named.0 name.0 named.1; external = free_address law t outside.0 external.0 outside.1; idle = record { least = within.0; most = within.1 } } in
     subst (IsFreshNat t) (ok_same _ _ idle.2) fresh
 
-pub client_of_table-fresh : (t : TopologyState) (place : Place) (table : Members) (row : ClientNode) → client_of_table t place table ≡ Ok row → IsFreshClient t row
+pub client_of_table-fresh : (law : WordsAreMade) (t : TopologyState) (place : Place) (table : Members) (row : ClientNode) → client_of_table t place table ≡ Ok row → IsFreshClient t row
 unfolding client_of_table
-client_of_table-fresh t place table row e =
+client_of_table-fresh law t place table row e =
     let name = bind_ok (name_at place (codes "name") (new_name t) table) _ row e in
     let behind = bind_ok (name_at place (codes "nat") (named is_nat t) table) _ row name.2 in
     let inside = bind_ok (word_at place (codes "inside") (new_inside t behind.0) table) _ row behind.2 in
@@ -232,7 +231,7 @@ client_of_table-fresh t place table row e =
     let of_nat = name_kept place (codes "nat") (named is_nat t) table behind.0 behind.1 in
     let of_server = name_kept place (codes "server") (named is_server t) table asks.0 asks.1 in
     let endpoint = word_kept place (codes "inside") (new_inside t behind.0) table inside.0 inside.1 in
-    let free = free_inside t behind.0 endpoint.0 inside.0 endpoint.1 in
+    let free = free_inside law t behind.0 endpoint.0 inside.0 endpoint.1 in
     let within = refresh_is place (get_member (codes "refresh") table) times.0 times.1 in
     let made : ClientNode = record { name = name.0; nat = behind.0; inside = inside.0; server = asks.0; low = times.0.0; high = times.0.1 } in
     let client : IsClient t made = record {
@@ -246,27 +245,27 @@ client_of_table-fresh t place table row e =
     let fresh : IsFreshClient t made = record { name = free_name t spelled.0 name.0 spelled.1; client = client; inside = free.1; made = free.2 } in
     subst (IsFreshClient t) (ok_same _ _ times.2) fresh
 
-pub relay_of_table-fresh : (t : TopologyState) (place : Place) (table : Members) (row : RelayNode) → relay_of_table t place table ≡ Ok row → IsFreshRelay t row
+pub relay_of_table-fresh : (law : WordsAreMade) (t : TopologyState) (place : Place) (table : Members) (row : RelayNode) → relay_of_table t place table ≡ Ok row → IsFreshRelay t row
 unfolding relay_of_table
-relay_of_table-fresh t place table row e =
+relay_of_table-fresh law t place table row e =
     let name = bind_ok (name_at place (codes "name") (new_name t) table) _ row e in
     let at = bind_ok (word_at place (codes "at") (new_endpoint t) table) _ row name.2 in
     let six = bind_ok (word_at place (codes "six") (new_six t) table) _ row at.2 in
     let spelled = name_kept place (codes "name") (new_name t) table name.0 name.1 in
     let endpoint = word_kept place (codes "at") (new_endpoint t) table at.0 at.1 in
     let address = word_kept place (codes "six") (new_six t) table six.0 six.1 in
-    let free = free_endpoint t endpoint.0 at.0 endpoint.1 in
-    let fresh : IsFreshRelay t (record { name = name.0; at = at.0; six = six.0 }) = record { name = free_name t spelled.0 name.0 spelled.1; at = free.0; port = free.1; made = free.2; six = free_six t address.0 six.0 address.1 } in
+    let free = free_endpoint law t endpoint.0 at.0 endpoint.1 in
+    let fresh : IsFreshRelay t (record { name = name.0; at = at.0; six = six.0 }) = record { name = free_name t spelled.0 name.0 spelled.1; at = free.0; port = free.1; made = free.2; six = free_six law t address.0 six.0 address.1 } in
     subst (IsFreshRelay t) (ok_same _ _ six.2) fresh
 
-pub native_of_table-fresh : (t : TopologyState) (place : Place) (table : Members) (row : NativeNode) → native_of_table t place table ≡ Ok row → IsFreshNative t row
+pub native_of_table-fresh : (law : WordsAreMade) (t : TopologyState) (place : Place) (table : Members) (row : NativeNode) → native_of_table t place table ≡ Ok row → IsFreshNative t row
 unfolding native_of_table
-native_of_table-fresh t place table row e =
+native_of_table-fresh law t place table row e =
     let name = bind_ok (name_at place (codes "name") (new_name t) table) _ row e in
     let six = bind_ok (word_at place (codes "six") (new_six t) table) _ row name.2 in
     let through = bind_ok (name_at place (codes "relay") (named is_relay t) table) _ row six.2 in
     let spelled = name_kept place (codes "name") (new_name t) table name.0 name.1 in
     let address = word_kept place (codes "six") (new_six t) table six.0 six.1 in
     let of_relay = name_kept place (codes "relay") (named is_relay t) table through.0 through.1 in
-    let fresh : IsFreshNative t (record { name = name.0; six = six.0; relay = through.0 }) = record { name = free_name t spelled.0 name.0 spelled.1; six = free_six t address.0 six.0 address.1; through = relay_named-is t of_relay.0 through.0 of_relay.1 } in
+    let fresh : IsFreshNative t (record { name = name.0; six = six.0; relay = through.0 }) = record { name = free_name t spelled.0 name.0 spelled.1; six = free_six law t address.0 six.0 address.1; through = relay_named-is t of_relay.0 through.0 of_relay.1 } in
     subst (IsFreshNative t) (ok_same _ _ through.2) fresh

@@ -6,12 +6,12 @@ use Rattle.std.specs.List.{list_any, AllByRecursion}
 use Rattle.std.proofs.lemmas.List.{map-append}
 use Rattle.td_base.specs.declared.ipv4.Ip4.{Ip4}
 use Rattle.td_base.specs.declared.ipv6.Ip6.{Ip6}
-use Rattle.td_base.specs.declared.node_name.Name.{Name}
+use Rattle.topology.specs.declared.node_name.Name.{Name}
 use Rattle.td_base.specs.declared.reach.Policy.TheVariants.{Strict}
 use Rattle.td_base.specs.Ip4.{IsIp4, same_ip, same_ip_equiv}
 use Rattle.td_base.specs.Ip6.{IsIp6, same_ip6, same_ip6_equiv}
 use Rattle.td_base.specs.Ep.{IsEp, same_ep_equiv}
-use Rattle.td_base.specs.Names.{name_text, same_name, same_name_equiv}
+use Rattle.topology.specs.Names.{name_text, same_name, same_name_equiv}
 use Rattle.td_base.specs.Reach.{is_global}
 use Rattle.topology.specs.declared.server_node.ServerNode.{ServerNode}
 use Rattle.topology.specs.declared.nat_node.NatNode.{NatNode}

@@ -5,9 +5,9 @@ use Rattle.std.proofs.lemmas.List.{length-take, take_all, take_at}
 use Rattle.std.proofs.lemmas.Bool.{and_parts}
 use Rattle.std.proofs.Props.{props}
 use Rattle.std.specs.List.{list_all}
-use Rattle.td_base.specs.declared.node_name.Name.{Name}
-use Rattle.td_base.specs.declared.node_name.TheConstants.{NAME_LEN}
-use Rattle.td_base.specs.Names.{name_text}
+use Rattle.topology.specs.declared.node_name.Name.{Name}
+use Rattle.topology.specs.declared.node_name.TheConstants.{NAME_LEN}
+use Rattle.topology.specs.Names.{name_text}
 use Rattle.scenario.specs.NodeName.{name, padded}
 use Rattle.topology.specs.NodeNames.{is_name, begins_with_letter, is_name_byte}
 use Rattle.scenario.specs.Fresh.{spelled_name}

@@ -3,11 +3,11 @@ use Rattle.std.proofs.Common.{◌≡◌, ◌||◌, Bool, true, false, List, [], 
 use Rattle.std.specs.Prelude.{flat_map, not}
 use Rattle.std.specs.List.{list_any}
 use Rattle.td_base.specs.declared.ipv4.Ip4.{Ip4}
-use Rattle.td_base.specs.declared.node_name.Name.{Name}
+use Rattle.topology.specs.declared.node_name.Name.{Name}
 use Rattle.td_base.specs.declared.ipv6.Ip6.{Ip6}
 use Rattle.td_base.specs.Ip4.{same_ip}
 use Rattle.td_base.specs.Ip6.{same_ip6}
-use Rattle.td_base.specs.Names.{same_name}
+use Rattle.topology.specs.Names.{same_name}
 use Rattle.topology.specs.declared.server_node.ServerNode.{ServerNode}
 use Rattle.topology.specs.declared.nat_node.NatNode.{NatNode}
 use Rattle.topology.specs.declared.client_node.ClientNode.{ClientNode}

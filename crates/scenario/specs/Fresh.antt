@@ -4,12 +4,12 @@ use Rattle.std.specs.List.{list_any}
 use Rattle.td_base.specs.declared.ipv4.Ip4.{Ip4}
 use Rattle.td_base.specs.declared.ipv6.Ip6.{Ip6}
 use Rattle.td_base.specs.declared.endpoint.Ep.{Ep}
-use Rattle.td_base.specs.declared.node_name.Name.{Name}
+use Rattle.topology.specs.declared.node_name.Name.{Name}
 use Rattle.td_base.specs.declared.reach.Policy.TheVariants.{Strict}
 use Rattle.td_base.specs.Ip4.{same_ip}
 use Rattle.td_base.specs.Ip6.{same_ip6}
 use Rattle.td_base.specs.Ep.{same_ep}
-use Rattle.td_base.specs.Names.{same_name}
+use Rattle.topology.specs.Names.{same_name}
 use Rattle.td_base.specs.Reach.{is_global, is_global6}
 use Rattle.teredo_addr.specs.Teredo.{is_teredo}
 use Rattle.nat_kinds.specs.declared.kind.NatKind.{NatKind}

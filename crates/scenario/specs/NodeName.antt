@@ -2,8 +2,8 @@
 use Rattle.std.specs.Prelude.{◌≡◌, ℕ, ◌-◌, ◌≤◌, List, ◌++◌, length, take, replicate}
 use Rattle.std.proofs.Common.{refl, sym, ap, arith}
 use Rattle.std.proofs.lemmas.List.{length-append, length-replicate, length-take, take_at}
-use Rattle.td_base.specs.declared.node_name.Name.{Name}
-use Rattle.td_base.specs.declared.node_name.TheConstants.{NAME_LEN}
+use Rattle.topology.specs.declared.node_name.Name.{Name}
+use Rattle.topology.specs.declared.node_name.TheConstants.{NAME_LEN}
 
 -- the bytes of a name: those of its text, and zeros
 abbrev pub padded : List ℕ → List ℕ

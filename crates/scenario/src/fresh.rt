@@ -4,17 +4,17 @@ ghost use Rattle.std.specs.List.{list_all, list_any};
 ghost use Rattle.td_base.specs.Ip4.{same_ip};
 ghost use Rattle.td_base.specs.Ip6.{same_ip6};
 ghost use Rattle.td_base.specs.Ep.{same_ep};
-ghost use Rattle.td_base.specs.Names.{same_name};
+ghost use Rattle.topology.specs.Names.{same_name};
 ghost use Rattle.topology.specs.NodeNames.{is_name_byte, begins_with_letter, is_name};
 ghost use Rattle.scenario.specs.Fresh.{spelled_name, is_free_name, new_name, is_free_address, is_new_address, new_address, other_address, new_endpoint, is_free_six, is_new_six, new_six, is_free_inside, new_inside, kind_of, natural, idle_of, is_refresh, refresh_of};
 
 use history::{ep_word, ip4_word, ip6_word};
 use nat_kinds::NatKind;
-use td_base::{Ep, Ip4, Ip6, NAME_LEN, Name, Policy, is_global, is_global6};
+use td_base::{Ep, Ip4, Ip6, Policy, is_global, is_global6};
 use teredo_addr::is_teredo;
 use topology::{
-    ClientNode, LEAST_REFRESH, MOST_IDLE, MOST_REFRESH, NatNode, NativeNode, RelayNode, ServerNode,
-    Topology,
+    ClientNode, LEAST_REFRESH, MOST_IDLE, MOST_REFRESH, NAME_LEN, Name, NatNode, NativeNode,
+    RelayNode, ServerNode, Topology,
 };
 
 fn is_name_byte(byte: u8) -> bool

@@ -7,4 +7,6 @@ ghost use Rattle.scenario.specs.Scenario.{scenario_of};
 /// The nodes of a scenario keep the rules of a topology.
 pub fn rules_kept()
     ensures { (text : List ℕ) (s : Scenario) → scenario_of text ≡ Ok s → IsTopology s.topology }
-{}
+{
+    history::words_are_made();
+}

@@ -1,12 +1,10 @@
 pub mod AddressGroups
 pub mod BytesLemmas
 pub mod Decimals
-pub mod Folding
 pub mod GroupLemmas
 pub mod Halting
 pub mod Ip4Lemmas
 pub mod Ip6Lemmas
-pub mod NameLemmas
 pub mod NumberLemmas
 pub mod ResultLaws
 pub mod SpellingLemmas

@@ -5,8 +5,6 @@ pub mod Ip6
 pub mod Ep
 pub mod Side
 pub mod Reach
-pub mod Names
-pub mod Sums
 pub mod Prints
 pub mod Texts
 pub mod Fronts

@@ -1,13 +1,13 @@
-//! Addresses and endpoints, their texts, sums of bytes, and numbers in bytes.
+//! Addresses and endpoints, their texts, and numbers in bytes.
 //!
-//! Standards: RFC 4291 (IPv6 addresses), RFC 5952 section 4 (their text), RFC 1071 (the checksum's sum),
-//! RFC 4380 section 4 (which IPv4 addresses may be embedded). Our choices: `docs/DECISIONS.md`, "Addresses".
+//! Standards: RFC 4291 (IPv6 addresses), RFC 5952 section 4 (their text), RFC 4380 section 4 (which IPv4
+//! addresses may be embedded). Our choices: `docs/DECISIONS.md`, "Addresses".
 //!
 //! # What the layer above may rely on
 //!
 //! - A value prints as one text, which reads back as the value. Of an IPv6 address each other spelling is read as it, too.
 //! - A text that is refused is refused at its place: the length of the longest front that begins an accepted text.
-//! - `==` on addresses, endpoints and names is an opaque test with laws (`specs/Ip4.antt`, `Ip6.antt`, `Ep.antt`, `proofs/NameLemmas.antt`).
+//! - `==` on addresses and endpoints is an opaque test with laws (`specs/Ip4.antt`, `Ip6.antt`, `Ep.antt`).
 //! - No call takes memory.
 //!
 //! # What it does not know
@@ -23,9 +23,7 @@
 //! | `millis`, `span`, `datagram` | `Millis`, `Span`, and the most bytes of a datagram | |
 //! | `side` | `Side` | `specs/Side.antt` |
 //! | `refusals` | `BadText`, `Room`, `NoMemory` | |
-//! | `node_name` | `Name` | `specs/Names.antt` |
 //! | `fields` | numbers in network order, and addresses, at a place | `specs/Bytes.antt` |
-//! | `sum` | the one's complement sum | `specs/Sums.antt` |
 //! | `line` | `LineBuf`, a line that is being made | `specs/Prints.antt` |
 //! | `numeral`, `ipv4_text`, `endpoint_text` | the texts of numbers, IPv4 addresses and endpoints | `specs/Texts.antt` |
 //! | `ipv6_text`, `ipv6_reader` | the texts of IPv6 addresses, printed and read | `specs/Ip6Texts.antt` |
@@ -46,14 +44,12 @@ mod ipv6_reader;
 mod ipv6_text;
 mod line;
 mod millis;
-mod node_name;
 mod numeral;
 mod reach;
 mod refusals;
 mod short_text;
 mod side;
 mod span;
-mod sum;
 
 pub use datagram::DATAGRAM_MAX;
 pub use endpoint::{Ep, TEREDO_PORT};
@@ -66,11 +62,9 @@ pub use ipv6_reader::read_ip6;
 pub use ipv6_text::print_ip6;
 pub use line::{LINE_LEN, LineBuf, print_text};
 pub use millis::Millis;
-pub use node_name::{NAME_LEN, Name};
 pub use numeral::{NUMBER_LEN, print_number, read_number};
 pub use reach::{Policy, is_global, is_global6, is_link_local, usable};
 pub use refusals::{BadText, NoMemory, Room};
 pub use short_text::SHORT_LEN;
 pub use side::Side;
 pub use span::Span;
-pub use sum::ones_sum;

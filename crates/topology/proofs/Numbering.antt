@@ -6,7 +6,7 @@ use Rattle.std.specs.List.{position_from}
 use Rattle.std.proofs.lemmas.Iterator.Adapters.{position_from-zero}
 use Rattle.std.proofs.lemmas.List.{length-map}
 use Rattle.std.specs.Cmp.Lexicographic.{pointwise}
-use Rattle.td_base.specs.Names.{name_text}
+use Rattle.topology.specs.Names.{name_text}
 use Rattle.td_base.specs.declared.endpoint.Ep.{Ep}
 use Rattle.td_base.specs.declared.ipv6.Ip6.{Ip6}
 use Rattle.topology.specs.declared.server_node.ServerNode.{ServerNode}

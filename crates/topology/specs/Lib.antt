@@ -1,5 +1,6 @@
 pub mod Rows
 pub mod Topology
+pub mod Names
 pub mod NodeNames
 pub mod Rules
 pub mod Named

@@ -1,7 +1,7 @@
 -- Nodes by their names, and of which kind they are.
 use Rattle.std.specs.Prelude.{ℕ, ◌==◌, ◌&&◌, nat_eq, Bool, true, false, List, Option, Some}
 use Rattle.std.specs.Cmp.Lexicographic.{pointwise}
-use Rattle.td_base.specs.Names.{name_text}
+use Rattle.topology.specs.Names.{name_text}
 use Rattle.topology.specs.Rows.{TopologyState}
 use Rattle.topology.specs.declared.node.Node.{Node}
 use Rattle.topology.specs.declared.node.Node.TheVariants.{Server as server, Nat as nat, Client as client, Relay as relay, Native as native}

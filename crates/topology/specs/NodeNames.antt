@@ -2,7 +2,7 @@
 use Rattle.std.specs.Prelude.{ℕ, ◌==◌, ◌&&◌, ◌||◌, nat_le, Bool, false, List, [], ◌∷◌, length}
 use Rattle.std.specs.List.{list_all}
 use Rattle.std.specs.Char.{is_ascii_lowercase, is_ascii_digit}
-use Rattle.td_base.specs.declared.node_name.TheConstants.{NAME_LEN}
+use Rattle.topology.specs.declared.node_name.TheConstants.{NAME_LEN}
 
 -- the byte `_`
 abbrev pub underscore : ℕ

@@ -4,11 +4,11 @@ use Rattle.std.specs.List.{list_any, AllByRecursion}
 use Rattle.td_base.specs.Ip4.{IsIp4, same_ip}
 use Rattle.td_base.specs.Ip6.{IsIp6, same_ip6}
 use Rattle.td_base.specs.Ep.{IsEp, same_ep}
-use Rattle.td_base.specs.Names.{name_text, same_name}
+use Rattle.topology.specs.Names.{name_text, same_name}
 use Rattle.td_base.specs.Reach.{is_global, is_global6}
 use Rattle.td_base.specs.declared.ipv4.Ip4.{Ip4}
 use Rattle.td_base.specs.declared.ipv6.Ip6.{Ip6}
-use Rattle.td_base.specs.declared.node_name.Name.{Name}
+use Rattle.topology.specs.declared.node_name.Name.{Name}
 use Rattle.td_base.specs.declared.reach.Policy.TheVariants.{Strict}
 use Rattle.teredo_addr.specs.Teredo.{is_teredo}
 use Rattle.topology.specs.declared.topology.TheConstants.{MOST_SERVERS, MOST_NATS, MOST_CLIENTS, MOST_RELAYS, MOST_NATIVES}

@@ -1,4 +1,5 @@
-use td_base::{Ep, Name};
+use crate::node_name::Name;
+use td_base::Ep;
 
 /// The shortest and the longest time between two refreshes of a client, in milliseconds.
 pub const LEAST_REFRESH: u32 = 1_000;

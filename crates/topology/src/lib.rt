@@ -3,7 +3,8 @@
 //! # What the layer above may rely on
 //!
 //! A `Topology` holds the rows of a scenario's nodes, by number, and keeps the rules of `specs/Rules.antt`: names and
-//! addresses differ, addresses are global, numbers are of nodes of the right kind.
+//! addresses differ, addresses are global, numbers are of nodes of the right kind. `==` on names is an opaque test with
+//! laws (`specs/Names.antt`, `proofs/NameLemmas.antt`).
 //!
 //! # What it does not know
 //!
@@ -13,6 +14,7 @@
 //!
 //! | module | holds | stated in |
 //! |---|---|---|
+//! | `node_name` | `Name` | `specs/Names.antt` |
 //! | `server_node`, `nat_node`, `client_node`, `relay_node`, `native_node` | a row for each kind of node | |
 //! | `node` | a node of any kind | `specs/Topology.antt` |
 //! | `topology` | `Topology` | `specs/Rows.antt`, `Topology.antt`, `Rules.antt`, `NodeNames.antt` |
@@ -24,6 +26,7 @@ mod names;
 mod nat_node;
 mod native_node;
 mod node;
+mod node_name;
 mod places;
 mod relay_node;
 mod server_node;
@@ -34,6 +37,7 @@ pub use names::{client_named, host_named, nat_named, node_named, relay_named, se
 pub use nat_node::{MOST_IDLE, NatNode};
 pub use native_node::NativeNode;
 pub use node::Node;
+pub use node_name::{NAME_LEN, Name};
 pub use relay_node::RelayNode;
 pub use server_node::ServerNode;
 pub use topology::{

@@ -1,7 +1,7 @@
 //! The nodes that have a name.
 ghost use Rattle.std.specs.Prelude.{◌≡◌, ◌+◌, ◌==◌, ◌&&◌, nat_eq, length, position, option_map};
 ghost use Rattle.std.specs.Cmp.Lexicographic.{pointwise};
-ghost use Rattle.td_base.specs.Names.{name_text};
+ghost use Rattle.topology.specs.Names.{name_text};
 ghost use Rattle.topology.specs.Named.{has_host, is_server, is_nat, is_relay, is_client_of, any_kind, named};
 
 use crate::client_node::ClientNode;

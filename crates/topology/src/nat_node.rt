@@ -1,5 +1,6 @@
+use crate::node_name::Name;
 use nat_kinds::NatKind;
-use td_base::{Ip4, Name};
+use td_base::Ip4;
 
 /// How long a mapping of a scenario's NAT lives at most after its latest outward datagram, in milliseconds.
 pub const MOST_IDLE: u32 = 10_000_000;

@@ -1,4 +1,5 @@
-use td_base::{Ip6, Name};
+use crate::node_name::Name;
+use td_base::Ip6;
 
 /// A host of the IPv6 Internet: its name, its address, and the number of the relay that it reaches Teredo hosts through.
 #[derive(Clone, Copy, Debug)]

@@ -5,9 +5,10 @@ ghost use Rattle.topology.specs.Topology.{is_at, is_behind, is_native, name_of};
 use crate::client_node::ClientNode;
 use crate::nat_node::NatNode;
 use crate::native_node::NativeNode;
+use crate::node_name::Name;
 use crate::relay_node::RelayNode;
 use crate::server_node::ServerNode;
-use td_base::{Ep, Ip6, Name};
+use td_base::{Ep, Ip6};
 
 /// A node of a scenario, with its row.
 #[derive(Clone, Copy, Debug)]

@@ -1,4 +1,5 @@
-use td_base::{Ep, Ip6, Name};
+use crate::node_name::Name;
+use td_base::{Ep, Ip6};
 
 /// A relay: its name, its endpoint and its IPv6 address.
 #[derive(Clone, Copy, Debug)]

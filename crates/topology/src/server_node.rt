@@ -1,4 +1,5 @@
-use td_base::{Ip4, Name};
+use crate::node_name::Name;
+use td_base::Ip4;
 
 /// A server: its name and its two addresses.
 #[derive(Clone, Copy, Debug)]

@@ -6,12 +6,13 @@ use crate::client_node::ClientNode;
 use crate::nat_node::NatNode;
 use crate::native_node::NativeNode;
 use crate::node::Node;
+use crate::node_name::Name;
 use crate::places::{client_behind, nat_at, native_with, relay_at, server_at};
 use crate::relay_node::RelayNode;
 use crate::server_node::ServerNode;
 use std::alloc::Global;
 use std::marker::Model;
-use td_base::{Ep, Ip6, Name, NoMemory};
+use td_base::{Ep, Ip6, NoMemory};
 
 /// How many servers a scenario has at most.
 pub const MOST_SERVERS: usize = 8;

@@ -5,4 +5,4 @@ use Rattle.client_core.proofs.reception.hear.Goals as goal
 
 pub returns-clause-peer : goal.returns-clause-peer
 returns-clause-peer c =
-    then_release c.args.peers.now c.heard.new.self c.release.new.self c.args.now.0 c.args.who (heard_at c.args.now.0 (known_to c.args.peers.now c.args.now.0 c.args.who)) c.heard.ensures c.release.ensures.rest
+    then_release c.below.ensures c.args.peers.now c.heard.new.self c.release.new.self c.args.now.0 c.args.who (heard_at c.args.now.0 (known_to c.args.peers.now c.args.now.0 c.args.who)) c.heard.ensures c.release.ensures.rest

@@ -1,7 +1,7 @@
 use Rattle.std.proofs.Common.{rules}
 use Rattle.td_base.specs.Ip4.{same_ip}
 use Rattle.td_base.specs.Ip6.{same_ip6}
-use Rattle.td_base.specs.Names.{same_name}
+use Rattle.topology.specs.Names.{same_name}
 use Rattle.td_base.specs.Reach.{is_global, is_global6}
 use Rattle.topology.specs.NodeNames.{is_name}
 use Rattle.teredo_addr.specs.Teredo.{is_teredo}

@@ -11,7 +11,7 @@ pub add_server-requires-clause-rules : goal.add_server-requires-clause-rules
 add_server-requires-clause-rules c =
     let t = c.args.topology in
     let row = c.in_ok-server-in-Server.server in
-    let fresh = server_of_table-fresh t _ _ row (sym c.in_ok-server-in-Server.ensures) in
+    let fresh = server_of_table-fresh c.words_are_made.ensures t _ _ row (sym c.in_ok-server-in-Server.ensures) in
     let Room : NodeKind → Type 0 = λ kind. row_count kind t < most_rows kind in
     let room = subst Room c.in-Server.is c.requires.room in
     let Order : NodeKind → Type 0 = λ kind. HasNoneBehind kind t in
@@ -21,7 +21,7 @@ pub add_nat-requires-clause-rules : goal.add_nat-requires-clause-rules
 add_nat-requires-clause-rules c =
     let t = c.args.topology in
     let row = c.in_ok-nat-in-Nat.nat in
-    let fresh = nat_of_table-fresh t _ _ row (sym c.in_ok-nat-in-Nat.ensures) in
+    let fresh = nat_of_table-fresh c.words_are_made.ensures t _ _ row (sym c.in_ok-nat-in-Nat.ensures) in
     let Room : NodeKind → Type 0 = λ kind. row_count kind t < most_rows kind in
     let room = subst Room c.in-Nat.is c.requires.room in
     let Order : NodeKind → Type 0 = λ kind. HasNoneBehind kind t in
@@ -31,7 +31,7 @@ pub add_client-requires-clause-rules : goal.add_client-requires-clause-rules
 add_client-requires-clause-rules c =
     let t = c.args.topology in
     let row = c.in_ok-client-in-Client.client in
-    let fresh = client_of_table-fresh t _ _ row (sym c.in_ok-client-in-Client.ensures) in
+    let fresh = client_of_table-fresh c.words_are_made.ensures t _ _ row (sym c.in_ok-client-in-Client.ensures) in
     let Room : NodeKind → Type 0 = λ kind. row_count kind t < most_rows kind in
     let room = subst Room c.in-Client.is c.requires.room in
     let Order : NodeKind → Type 0 = λ kind. HasNoneBehind kind t in
@@ -41,7 +41,7 @@ pub add_relay-requires-clause-rules : goal.add_relay-requires-clause-rules
 add_relay-requires-clause-rules c =
     let t = c.args.topology in
     let row = c.in_ok-relay-in-Relay.relay in
-    let fresh = relay_of_table-fresh t _ _ row (sym c.in_ok-relay-in-Relay.ensures) in
+    let fresh = relay_of_table-fresh c.words_are_made.ensures t _ _ row (sym c.in_ok-relay-in-Relay.ensures) in
     let Room : NodeKind → Type 0 = λ kind. row_count kind t < most_rows kind in
     let room = subst Room c.in-Relay.is c.requires.room in
     let Order : NodeKind → Type 0 = λ kind. HasNoneBehind kind t in
@@ -51,7 +51,7 @@ pub add_native-requires : goal.add_native-requires
 add_native-requires c =
     let t = c.args.topology in
     let row = c.in_ok-native-in-Native.native in
-    let fresh = native_of_table-fresh t _ _ row (sym c.in_ok-native-in-Native.ensures) in
+    let fresh = native_of_table-fresh c.words_are_made.ensures t _ _ row (sym c.in_ok-native-in-Native.ensures) in
     let Room : NodeKind → Type 0 = λ kind. row_count kind t < most_rows kind in
     let room = subst Room c.in-Native.is c.requires.room in
     grown_native t row (subst IsTopology c.topology.view_is c.topology.invariant) fresh room

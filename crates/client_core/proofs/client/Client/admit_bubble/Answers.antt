@@ -14,7 +14,7 @@ use Rattle.client_core.proofs.client.Client.admit_bubble.Goals as goal
 pub trust-requires-clause-listed : goal.trust-requires-clause-listed
 trust-requires-clause-listed c =
     let known = known_to c.args.self.now.peers c.args.now.0 c.args.payload.now.packet.src in
-    seen_listed c.args.self.now.peers c.list.new.peers c.args.now.0 c.args.payload.now.packet.src known c.in_ok-list.ensures.listed
+    seen_listed c.below.ensures c.args.self.now.peers c.list.new.peers c.args.now.0 c.args.payload.now.packet.src known c.in_ok-list.ensures.listed
 
 pub returns-clause-done : goal.returns-clause-done
 returns-clause-done c =
@@ -22,12 +22,12 @@ returns-clause-done c =
     let v = view c.args.payload.now in
     let old = c.args.self.now in
     let known = known_to old.peers n v.packet.src in
-    let mid = seen_known old.peers c.list.new.peers n v.packet.src known c.in_ok-list.ensures.listed in
+    let mid = seen_known c.below.ensures old.peers c.list.new.peers n v.packet.src known c.in_ok-list.ensures.listed in
     let step : c.trust.new.step ≡ released old n c.args.from v fate.Rule3Bubble = c.trust.ensures.sends ∙ (λ i. record (c.reset.ensures i) { sends = releases c.args.from (mid i).waiting }) in
     subst (λ (s : Step). TakesPayload old n c.args.from v fate.Rule3Bubble s (record old { peers = c.trust.new.peers })) (sym step)
-    (rule3_bubble old (record old { peers = c.trust.new.peers }) n c.args.from v (record {
+    (rule3_bubble c.below.ensures old (record old { peers = c.trust.new.peers }) n c.args.from v (record {
       clock = c.requires.callable.clock;
-      peers = then_call old.peers c.list.new.peers c.trust.new.peers n v.packet.src known (λ (p : Peer). emptied (heard_at n (trusted_at n c.args.from p))) c.in_ok-list.ensures.listed c.trust.ensures.peer;
+      peers = then_call c.below.ensures old.peers c.list.new.peers c.trust.new.peers n v.packet.src known (λ (p : Peer). emptied (heard_at n (trusted_at n c.args.from p))) c.in_ok-list.ensures.listed c.trust.ensures.peer;
       qualifier = refl;
       rng = refl;
     }))

@@ -18,7 +18,7 @@ use Rattle.client_core.proofs.client.Client.answer_bubble.Goals as goal
 pub tried-requires-clause-listed : goal.tried-requires-clause-listed
 tried-requires-clause-listed c =
     let known = known_to c.args.self.now.peers c.args.now.0 c.args.payload.now.packet.src in
-    seen_listed c.args.self.now.peers c.list.new.peers c.args.now.0 c.args.payload.now.packet.src known c.in_ok-list.ensures.listed
+    seen_listed c.below.ensures c.args.self.now.peers c.list.new.peers c.args.now.0 c.args.payload.now.packet.src known c.in_ok-list.ensures.listed
 
 pub returns-clause-done : goal.returns-clause-done
 returns-clause-done c from =
@@ -30,10 +30,10 @@ returns-clause-done c from =
     let step : c.send_bubble.new.step ≡ sending fate.Indirect (direct_bubble (own_address old.qualifier.now) v.packet.src c.args.origin ∷ []) =
     c.send_bubble.ensures ∙ (λ i. with_send (c.reset.ensures i) (direct_bubble (c.own_address.ensures i) v.packet.src c.args.origin)) in
     subst (λ (s : Step). TakesPayload old n from v fate.Indirect s new) (sym step)
-    (indirect old new n from v c.args.origin (record {
+    (indirect c.below.ensures old new n from v c.args.origin (record {
       clock = c.requires.callable.clock;
       origin = c.requires.origin;
-      peers = then_call old.peers c.list.new.peers c.tried.new.self n v.packet.src known (λ (p : Peer). tried_at n None p) c.in_ok-list.ensures.listed c.tried.ensures;
+      peers = then_call c.below.ensures old.peers c.list.new.peers c.tried.new.self n v.packet.src known (λ (p : Peer). tried_at n None p) c.in_ok-list.ensures.listed c.tried.ensures;
       qualified = c.heard_server.ensures.stands;
       settings = c.heard_server.ensures.settings;
       rng = refl;

@@ -14,11 +14,11 @@ returns-clause-entered c =
     let old = c.args.self.now in
     let step : c.set_gone.new.self ≡ record (just fate.GiveUp) { gone = c.give_up-gone.result } = c.set_gone.ensures ∙ (λ i. record (c.reset.ensures i) { gone = c.from.ensures i }) in
     subst (λ (s : Step). Enters old (entry n ticked None (Some c.args.who) (words_ahead old) s) (record old { peers = c.give_up-gone.new.self })) (sym step)
-    (gave_up old (record old { peers = c.give_up-gone.new.self }) n c.args.who c.give_up-gone.result c.requires.callable.clock c.give_up-gone.ensures.rest refl refl)
+    (gave_up c.below.ensures old (record old { peers = c.give_up-gone.new.self }) n c.args.who c.give_up-gone.result c.requires.callable.clock c.give_up-gone.ensures.rest refl refl)
 
 pub returns-clause-less : goal.returns-clause-less
 returns-clause-less c =
     let old = c.args.self.now in
-    given_up old (record old { peers = c.give_up-gone.new.self }) c.args.now.0 c.args.who c.set_gone.new.self
+    given_up c.below.ensures old (record old { peers = c.give_up-gone.new.self }) c.args.now.0 c.args.who c.set_gone.new.self
     (record { listed = c.requires.listed; waits = c.requires.waits; due = c.requires.due }) c.give_up-gone.ensures.rest refl
     (ap (λ (s : Step). s.fate) (c.set_gone.ensures ∙ (λ i. record (c.reset.ensures i) { gone = c.from.result })))

@@ -7,10 +7,10 @@ use Rattle.client_core.proofs.client.Client.next_due.Goals as goal
 
 pub returns-clause-told : goal.returns-clause-told
 returns-clause-told c j h =
-    due_told c.args.self.now c.args.now.0 (option_map (λ (m : Millis). m.0) c.sooner.result) c.requires.callable.clock
+    due_told c.below.ensures c.args.self.now c.args.now.0 (option_map (λ (m : Millis). m.0) c.sooner.result) c.requires.callable.clock
     (c.sooner.ensures ∙ (λ i. sooner (c.due.ensures.value i) (c.first_try.ensures i))) j h
 
 pub returns-clause-first : goal.returns-clause-first
 returns-clause-first c =
-    first_due_holds c.args.self.now c.args.now.0 c.sooner.result
+    first_due_holds c.below.ensures c.args.self.now c.args.now.0 c.sooner.result
     (c.sooner.ensures ∙ (λ i. sooner (c.due.ensures.value i) (c.first_try.ensures i)))

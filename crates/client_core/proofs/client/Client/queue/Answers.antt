@@ -13,7 +13,7 @@ use Rattle.client_core.proofs.client.Client.queue.Goals as goal
 
 pub try_unless-requires-clause-listed : goal.try_unless-requires-clause-listed
 try_unless-requires-clause-listed c =
-    seen_listed c.args.self.now.peers c.wait.new.peers c.args.now.0 c.args.who (queued_at c.args.now.0 c.args.bytes.now (known_to c.args.self.now.peers c.args.now.0 c.args.who)) c.in_ok-wait.ensures.queued
+    seen_listed c.below.ensures c.args.self.now.peers c.wait.new.peers c.args.now.0 c.args.who (queued_at c.args.now.0 c.args.bytes.now (known_to c.args.self.now.peers c.args.now.0 c.args.who)) c.in_ok-wait.ensures.queued
 
 pub returns-clause-entered : goal.returns-clause-entered
 returns-clause-entered c =
@@ -23,7 +23,7 @@ returns-clause-entered c =
     let barred = c.is_barred-barred.result in
     let step : c.try_unless.new.step ≡ queues barred (settings_of old) a c.args.who (words_ahead old) = c.try_unless.ensures.step a refl in
     subst (λ (s : Step). Enters old (entry n (given c.args.bytes.now) (Some c.args.bytes.now) (Some c.args.who) (words_ahead old) s) c.try_unless.new.self) (sym step)
-    (queued old c.try_unless.new.self n c.args.who c.args.bytes.now barred a (record {
+    (queued c.below.ensures old c.try_unless.new.self n c.args.who c.args.bytes.now barred a (record {
       clock = c.requires.callable.clock;
       mid = c.wait.new.peers;
       waits = c.in_ok-wait.ensures.queued;

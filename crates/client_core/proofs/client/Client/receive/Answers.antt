@@ -10,13 +10,13 @@ use Rattle.client_core.proofs.client.Client.receive.Goals as goal
 pub returns-in_default-clause-done : goal.returns-in_default-clause-done
 returns-in_default-clause-done c =
     subst (λ (s : Step). Does c.args.self.now c.args.now.0 (arrived c.args.from c.args.bytes.now) s c.args.self.now) (sym c.reset.ensures)
-    (malformed c.args.self.now c.args.now.0 c.args.from c.args.bytes.now c.requires.callable.clock c.in_default.ensures.unseen)
+    (malformed c.below.ensures c.args.self.now c.args.now.0 c.args.from c.args.bytes.now c.requires.callable.clock c.in_default.ensures.unseen)
 
 pub returns-clause-done : goal.returns-clause-done
 returns-clause-done c =
     let v = view c.in-Ok.payload in
     on_ok_weaker c.receive_payload.result
-    (received c.args.self.now c.receive_payload.new.self c.args.now.0 c.args.from c.args.bytes.now v c.receive_payload.new.step c.in-Ok.ensures.seen.0
+    (received c.below.ensures c.args.self.now c.receive_payload.new.self c.args.now.0 c.args.from c.args.bytes.now v c.receive_payload.new.step c.in-Ok.ensures.seen.0
     (record { value = c.in-Ok.ensures.seen.1; inside = c.in-Ok.ensures.inside }) c.requires.callable.clock)
     c.receive_payload.ensures.done
 
@@ -24,5 +24,5 @@ pub returns-clause-starved : goal.returns-clause-starved
 returns-clause-starved c =
     let v = view c.in-Ok.payload in
     on_err_weaker c.receive_payload.result
-    (wants_place c.args.self.now c.receive_payload.new.self c.args.now.0 c.args.from c.args.bytes.now v c.in-Ok.ensures.seen.0 c.in-Ok.ensures.seen.1 c.requires.callable.clock)
+    (wants_place c.below.ensures c.args.self.now c.receive_payload.new.self c.args.now.0 c.args.from c.args.bytes.now v c.in-Ok.ensures.seen.0 c.in-Ok.ensures.seen.1 c.requires.callable.clock)
     c.receive_payload.ensures.kept

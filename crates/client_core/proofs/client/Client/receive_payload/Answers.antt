@@ -19,7 +19,7 @@ returns-in-Drop-clause-done c =
     let advert = advert_row (settings_of old) old.qualifier.now c.args.from v in
     subst (λ (s : Step). TakesPayload old n c.args.from v (fate_in old n c.args.from v) s old) (sym c.reset.ensures)
     (subst (λ (f : Fate). TakesPayload old n c.args.from v f (just c.in-Drop.fate) old) (c.in-Drop.ensures.row advert)
-    (drops old n c.args.from v c.in-Drop.fate c.requires.callable.clock c.in-Drop.ensures.warrant))
+    (drops c.below.ensures old n c.args.from v c.in-Drop.fate c.requires.callable.clock c.in-Drop.ensures.warrant))
 
 pub returns-in-Rule1-clause-done : goal.returns-in-Rule1-clause-done
 returns-in-Rule1-clause-done c =
@@ -30,7 +30,7 @@ returns-in-Rule1-clause-done c =
     let step : c.hear.new.step ≡ handed_over old n c.args.from v fate.Rule1 = c.hear.ensures.sends ∙ (λ i. record (c.hand_over.ensures i) { sends = releases c.args.from (known_to old.peers n v.packet.src).waiting }) in
     subst (λ (s : Step). TakesPayload old n c.args.from v (fate_in old n c.args.from v) s new) (sym step)
     (subst (λ (f : Fate). TakesPayload old n c.args.from v f (handed_over old n c.args.from v fate.Rule1) new) (c.in-Rule1.ensures.row (advert_row (settings_of old) old.qualifier.now c.args.from v))
-    (rule1 old new n c.args.from v (record { clock = c.requires.callable.clock; peers = c.hear.ensures.peer; qualifier = refl; rng = refl })))
+    (rule1 c.below.ensures old new n c.args.from v (record { clock = c.requires.callable.clock; peers = c.hear.ensures.peer; qualifier = refl; rng = refl })))
 
 pub returns-in-Rule1Bubble-clause-done : goal.returns-in-Rule1Bubble-clause-done
 returns-in-Rule1Bubble-clause-done c =
@@ -41,7 +41,7 @@ returns-in-Rule1Bubble-clause-done c =
     let step : c.hear-in-Rule1Bubble.new.step ≡ released old n c.args.from v fate.Rule1Bubble = c.hear-in-Rule1Bubble.ensures.sends ∙ (λ i. record (c.reset-in-Rule1Bubble.ensures i) { sends = releases c.args.from (known_to old.peers n v.packet.src).waiting }) in
     subst (λ (s : Step). TakesPayload old n c.args.from v (fate_in old n c.args.from v) s new) (sym step)
     (subst (λ (f : Fate). TakesPayload old n c.args.from v f (released old n c.args.from v fate.Rule1Bubble) new) (c.in-Rule1Bubble.ensures.row (advert_row (settings_of old) old.qualifier.now c.args.from v))
-    (rule1_bubble old new n c.args.from v (record { clock = c.requires.callable.clock; peers = c.hear-in-Rule1Bubble.ensures.peer; qualifier = refl; rng = refl })))
+    (rule1_bubble c.below.ensures old new n c.args.from v (record { clock = c.requires.callable.clock; peers = c.hear-in-Rule1Bubble.ensures.peer; qualifier = refl; rng = refl })))
 
 pub returns-in-Rule2-clause-done : goal.returns-in-Rule2-clause-done
 returns-in-Rule2-clause-done c =
@@ -52,4 +52,4 @@ returns-in-Rule2-clause-done c =
     let step : c.trust.new.step ≡ released old n c.args.from v fate.Rule2 = c.trust.ensures.sends ∙ (λ i. record (c.reset-in-Rule2.ensures i) { sends = releases c.args.from (known_to old.peers n v.packet.src).waiting }) in
     subst (λ (s : Step). TakesPayload old n c.args.from v (fate_in old n c.args.from v) s new) (sym step)
     (subst (λ (f : Fate). TakesPayload old n c.args.from v f (released old n c.args.from v fate.Rule2) new) (c.in-Rule2.ensures.row (advert_row (settings_of old) old.qualifier.now c.args.from v))
-    (rule2 old new n c.args.from v (record { clock = c.requires.callable.clock; peers = c.trust.ensures.peer; qualifier = refl; rng = refl })))
+    (rule2 c.below.ensures old new n c.args.from v (record { clock = c.requires.callable.clock; peers = c.trust.ensures.peer; qualifier = refl; rng = refl })))

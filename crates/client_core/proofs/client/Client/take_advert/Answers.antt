@@ -19,7 +19,7 @@ returns-in_default c =
     let step : c.set_drawn.new.self ≡ told f = c.set_drawn.ensures ∙ (λ i. record (c.reset.ensures i) { drawn = c.words_of_advert.ensures i }) in
     record {
       done = subst (λ (s : Step). TakesPayload old c.args.now.0 c.args.from v (advert_row (settings_of old) old.qualifier.now c.args.from v) s new) (sym step)
-          (advert_kept old new c.args.now.0 c.args.from v f (record {
+          (advert_kept c.below.ensures old new c.args.now.0 c.args.from v f (record {
             clock = c.requires.callable.clock;
             row = c.on_advert-fate.ensures.fate;
             stands = c.on_advert-fate.ensures.stands;
@@ -47,5 +47,5 @@ returns-in-Changed c =
     } in
     record {
       done = subst (λ (s : Step). TakesPayload old n c.args.from v (advert_row (settings_of old) old.qualifier.now c.args.from v) s new) (sym step)
-          (advert_changed old new n c.args.from v (subst (λ (f : Fate). Took old n c.args.from v f new) is took) c.clear.ensures.stands (omega (arith, ap (λ (t : Table). t.moment) c.clear.ensures.empty)));
+          (advert_changed c.below.ensures old new n c.args.from v (subst (λ (f : Fate). Took old n c.args.from v f new) is took) c.clear.ensures.stands (omega (arith, ap (λ (t : Table). t.moment) c.clear.ensures.empty)));
     }

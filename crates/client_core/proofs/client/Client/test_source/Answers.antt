@@ -17,7 +17,7 @@ use Rattle.client_core.proofs.client.Client.test_source.Goals as goal
 pub tried-requires-clause-listed : goal.tried-requires-clause-listed
 tried-requires-clause-listed c =
     let known = known_to c.args.self.now.peers c.args.now.0 c.args.payload.now.packet.src in
-    seen_listed c.args.self.now.peers c.list.new.peers c.args.now.0 c.args.payload.now.packet.src known c.in_ok-list.ensures.listed
+    seen_listed c.below.ensures c.args.self.now.peers c.list.new.peers c.args.now.0 c.args.payload.now.packet.src known c.in_ok-list.ensures.listed
 
 pub returns-clause-done : goal.returns-clause-done
 returns-clause-done c from =
@@ -28,7 +28,7 @@ returns-clause-done c from =
     let known = known_to old.peers n v.packet.src in
     let step : c.send_test-nonce.new.step ≡ tested old v.packet.src = c.send_test-nonce.ensures.step ∙ (λ i. record (tested old v.packet.src) { sends = test (c.settings-settings.ensures.value i) (c.own_address-own.ensures i) v.packet.src (nonce_from (words_ahead old)) ∷ [] }) in
     subst (λ (s : Step). TakesPayload old n from v fate.SuspiciousTest s new) (sym step)
-    (suspicious_test old new n from v c.requires.callable.clock
+    (suspicious_test c.below.ensures old new n from v c.requires.callable.clock
     (subst (λ (k : ℕ). Updates old.peers c.tried.new.self n v.packet.src (tried_at n (Some k) known)) c.send_test-nonce.ensures.nonce
-    (then_call old.peers c.list.new.peers c.tried.new.self n v.packet.src known (λ (p : Peer). tried_at n (Some c.send_test-nonce.result) p) c.in_ok-list.ensures.listed c.tried.ensures))
+    (then_call c.below.ensures old.peers c.list.new.peers c.tried.new.self n v.packet.src known (λ (p : Peer). tried_at n (Some c.send_test-nonce.result) p) c.in_ok-list.ensures.listed c.tried.ensures))
     refl c.send_test-nonce.ensures.place)

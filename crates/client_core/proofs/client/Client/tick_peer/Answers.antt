@@ -18,7 +18,7 @@ returns-in_default-clause-entered c =
     let old = c.args.self.now in
     let who = peer_of_due (peer_due n (first_due_in old.peers n)) in
     subst (λ (s : Step). Enters old (entry n ticked None who (words_ahead old) s) old) (sym c.reset.ensures)
-    (none_enters old (entry n ticked None who (words_ahead old) (just fate.Idle)) (record {
+    (none_enters c.below.ensures old (entry n ticked None who (words_ahead old) (just fate.Idle)) (record {
       idle = about_nobody (sym c.due_peer.ensures.first ∙ c.in_default.is);
       epoch = refl;
       quiet = refl;
@@ -30,4 +30,4 @@ pub returns-in_default-clause-less : goal.returns-in_default-clause-less
 returns-in_default-clause-less c =
     let old = c.args.self.now in
     subst (λ (s : Step). PutsOff old old c.args.now.0 s) (sym c.reset.ensures)
-    (nothing_put_off old c.args.now.0 (nothing_due old.peers c.args.now.0 (sym c.due_peer.ensures.first ∙ c.in_default.is)))
+    (nothing_put_off old c.args.now.0 (nothing_due c.below.ensures old.peers c.args.now.0 (sym c.due_peer.ensures.first ∙ c.in_default.is)))

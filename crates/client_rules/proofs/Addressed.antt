@@ -1,0 +1,239 @@
+-- A client's address, and the packets that were queued under it.
+use Rattle.std.proofs.Common.{◌≡◌, ℕ, Bool, true, false, cond, List, [], ◌∷◌, map, Option, Some, None, refl, sym, ap, subst, ◌∙◌}
+use Rattle.std.specs.Prelude.{IfSome, is_some, option_map, unwrap_or}
+use Rattle.std.specs.List.{AllByRecursion}
+use Rattle.std.proofs.lemmas.Bool.{true≢false, false≢true}
+use Rattle.td_base.specs.Ip6.{same_ip6-true}
+use Rattle.td_base.specs.declared.ipv6.Ip6.{Ip6}
+use Rattle.td_base.specs.declared.endpoint.Ep.{Ep}
+use Rattle.teredo_addr.specs.Teredo.{unspecified, has_cone, flags_of, teredo_ip}
+use Rattle.teredo_node.specs.declared.fate.Fate.TheVariants as fate
+use Rattle.teredo_node.specs.Journal.{Entry, Journal, epoch, is_changed}
+use Rattle.peer_list.specs.Mentions.{Mention, is_peer, is_about}
+use Rattle.peer_list.specs.Laws.{OneEntry}
+use Rattle.qualify.specs.declared.settings.Settings.{Settings}
+use Rattle.qualify.specs.declared.phase.Phase.{Phase}
+use Rattle.qualify.specs.declared.phase.Phase.TheVariants.{Cone, Restricted, Secondary, Qualified, Symmetric, OffLine}
+use Rattle.qualify.specs.Turns.{Turn, asks_cone, asks_restricted, asks_secondary, ends, refreshes, qualifies, is_answered, differs, is_same, renews, says_nothing, turn_of, begins, leaves, origin_given}
+use Rattle.qualify.specs.Turns.{is_changed as changes_turn}
+use Rattle.qualify.specs.Qualification.{first_phase, address_after, Qualification, qualification}
+use Rattle.qualify.specs.Solicitations.{is_qualified, own_address}
+use Rattle.qualify.specs.Laws.{fresh, tidings, goes_on, turned, Turns, TurnsAtStart}
+use Rattle.client_rules.specs.Bearings.{mention, mentions}
+use Rattle.client_rules.specs.Journals.{journal, Follows, AreEntries}
+use Rattle.client_rules.specs.Epochs.{IsOwnTo, QueuesOwn, QualifiedHasAddress, QualifiedStays, QueuedIsOwn, NoneQueued, WaitingIsOwn}
+use Rattle.client_rules.proofs.Bearings.{queued_by, changes, changes_alike}
+use Rattle.client_rules.proofs.Entered.{sets, IsQueuedAt, IsEffect, of_entry}
+use Rattle.client_rules.proofs.Kept.{kept, waiting_is_kept}
+
+-- OPTIONS
+
+some_map : {A B : Type 0} → (f : A → B) (o : Option A) → is_some o ≡ true → is_some (option_map f o) ≡ true
+some_map f None h = absurd (false≢true h)
+some_map f (Some x) h = refl
+
+none_is : (o : Option Ip6) → is_some o ≡ false → o ≡ None
+none_is None h = refl
+none_is (Some x) h = absurd (true≢false h)
+
+pub own_is : (o : Option Ip6) → is_some o ≡ true → o ≡ Some (unwrap_or o unspecified)
+own_is None h = absurd (false≢true h)
+own_is (Some p) h = refl
+
+-- THE ADDRESS AFTER A TURN
+
+to_qualified : (phase : Phase) (cone : Bool) → leaves phase (qualifies cone) ≡ true
+to_qualified Cone cone = refl
+to_qualified Restricted cone = refl
+to_qualified Secondary cone = refl
+to_qualified Qualified cone = refl
+to_qualified Symmetric cone = refl
+to_qualified OffLine cone = refl
+
+-- while qualified
+qualified_after : (s : Settings) (phase : Phase) (t : Turn) (o : Option Ep) (a : Ip6) → leaves phase t ≡ false → (sets t ≡ true → is_some o ≡ true) → is_some (address_after s t o (Some a)) ≡ true
+qualified_after s phase asks_cone o a l h = refl
+qualified_after s phase asks_restricted o a l h = refl
+qualified_after s phase asks_secondary o a l h = refl
+qualified_after s phase ends o a l h = refl
+qualified_after s phase refreshes o a l h = refl
+qualified_after s phase (qualifies cone) o a l h = absurd (true≢false (sym (to_qualified phase cone) ∙ l))
+qualified_after s phase is_answered o a l h = refl
+qualified_after s phase differs o a l h = refl
+qualified_after s phase is_same o a l h = refl
+qualified_after s phase changes_turn o a l h = some_map (teredo_ip s.primary (flags_of (has_cone a))) o (h refl)
+qualified_after s phase renews o a l h = refl
+qualified_after s phase says_nothing o a l h = refl
+
+-- it is the same, unless it changes
+same_after : (s : Settings) (phase : Phase) (t : Turn) (o : Option Ep) (a : Option Ip6) → leaves phase t ≡ false → changes t ≡ false → address_after s t o a ≡ a
+same_after s phase asks_cone o a l h = refl
+same_after s phase asks_restricted o a l h = refl
+same_after s phase asks_secondary o a l h = refl
+same_after s phase ends o a l h = refl
+same_after s phase refreshes o a l h = refl
+same_after s phase (qualifies cone) o a l h = absurd (true≢false (sym (to_qualified phase cone) ∙ l))
+same_after s phase is_answered o a l h = refl
+same_after s phase differs o a l h = refl
+same_after s phase is_same o a l h = refl
+same_after s phase changes_turn o a l h = absurd (true≢false h)
+same_after s phase renews o a l h = refl
+same_after s phase says_nothing o a l h = refl
+
+-- of one that leaves a phase without an address
+left_after : (s : Settings) (phase : Phase) (t : Turn) (o : Option Ep) → is_qualified phase ≡ false → (sets t ≡ true → is_some o ≡ true) → is_some (address_after s t o None) ≡ is_qualified (unwrap_or (begins t) phase)
+left_after s phase asks_cone o q h = sym q
+left_after s phase asks_restricted o q h = refl
+left_after s phase asks_secondary o q h = sym q
+left_after s phase ends o q h = refl
+left_after s phase refreshes o q h = sym q
+left_after s phase (qualifies cone) o q h = some_map (teredo_ip s.primary (flags_of cone)) o (h refl)
+left_after s phase is_answered o q h = refl
+left_after s phase differs o q h = refl
+left_after s phase is_same o q h = sym q
+left_after s phase changes_turn o q h = sym q
+left_after s phase renews o q h = sym q
+left_after s phase says_nothing o q h = sym q
+
+-- of one that stays in it
+unleft_after : (s : Settings) (phase : Phase) (t : Turn) (o : Option Ep) → is_qualified phase ≡ false → leaves phase t ≡ false → is_some (address_after s t o None) ≡ is_qualified phase
+unleft_after s phase asks_cone o q l = sym q
+unleft_after s phase asks_restricted o q l = sym q
+unleft_after s phase asks_secondary o q l = sym q
+unleft_after s phase ends o q l = sym q
+unleft_after s phase refreshes o q l = sym q
+unleft_after s phase (qualifies cone) o q l = absurd (true≢false (sym (to_qualified phase cone) ∙ l))
+unleft_after s phase is_answered o q l = sym q
+unleft_after s phase differs o q l = sym q
+unleft_after s phase is_same o q l = sym q
+unleft_after s phase changes_turn o q l = sym q
+unleft_after s phase renews o q l = sym q
+unleft_after s phase says_nothing o q l = sym q
+
+-- ONE FURTHER ENTRY
+
+abbrev IsOwn : Option Ip6 → Entry → Type 0
+IsOwn own e = e.step.fate ≡ fate.Queued → QueuesOwn own e
+
+abbrev IsUnqueued : Entry → Type 0
+IsUnqueued e = e.step.fate ≡ fate.Queued → ⊥
+
+-- what a journal says of its address and of the entries since the last change of it
+record IsHeld (q : Qualification) (es : List Entry) : Type 0 where
+  addressed : is_some q.address ≡ is_qualified q.phase
+  queued : AllByRecursion (IsOwn q.address) es
+
+no_own : (e : Entry) → QueuesOwn None e → ⊥
+no_own e h = no_packet e.packet e.peer h.there h.packet where
+  no_packet : (o : Option (List ℕ)) (to : Option Ip6) → is_some o ≡ true → IfSome o (λ x. IsOwnTo None to x) → ⊥
+  no_packet None to t p = false≢true t
+  no_packet (Some x) to t p = false≢true (ap is_some p.source)
+
+none_queued : (es : List Entry) → AllByRecursion (IsOwn None) es → AllByRecursion IsUnqueued es
+none_queued [] a = tt
+none_queued (e ∷ es) a = ((λ k. no_own e (a.0 k)), none_queued es a.1)
+
+any_own : (own : Option Ip6) (es : List Entry) → AllByRecursion IsUnqueued es → AllByRecursion (IsOwn own) es
+any_own own [] a = tt
+any_own own (e ∷ es) a = ((λ k. absurd (a.0 k)), any_own own es a.1)
+
+own_of : (q : Qualification) (e : Entry) → q.address ≡ Some (own_address q) → IsQueuedAt q e → QueuesOwn q.address e
+own_of q e is h = record { there = h.there; packet = subst (λ o. IfSome e.packet (λ x. IsOwnTo o e.peer x)) (sym is) h.packet }
+
+-- after any turn in a phase with an address
+next_qualified : (s : Settings) (q : Qualification) (e : Entry) (es : List Entry) → IsEffect q e → IsHeld q es → is_qualified q.phase ≡ true
+    → IsHeld (goes_on s (tidings s e) q) (cond (is_changed e.step.fate) [] (e ∷ es))
+unfolding own_address
+next_qualified s q e es f h qual = record {
+  addressed = subst (λ a. is_some (address_after s (turn_of e) (origin_given e.input) a) ≡ is_qualified q.phase) (sym own) (qualified_after s q.phase (turn_of e) (origin_given e.input) (unwrap_or q.address unspecified) (f.still qual) f.told ∙ sym qual);
+  queued = by_change (is_changed e.step.fate) refl;
+} where
+  own : q.address ≡ Some (unwrap_or q.address unspecified)
+  own = own_is q.address (h.addressed ∙ qual)
+
+  by_change : (b : Bool) → is_changed e.step.fate ≡ b → AllByRecursion (IsOwn (address_after s (turn_of e) (origin_given e.input) q.address)) (cond b [] (e ∷ es))
+  by_change true c = tt
+  by_change false c =
+      let same = same_after s q.phase (turn_of e) (origin_given e.input) q.address (f.still qual) (changes_alike e.step.fate ∙ c) in
+      subst (λ a. AllByRecursion (IsOwn a) (e ∷ es)) (sym same) ((λ k. own_of q e own (f.queued k)), h.queued)
+
+-- and in one without
+next_unqualified : (s : Settings) (q : Qualification) (e : Entry) (es : List Entry) → IsEffect q e → IsHeld q es → is_qualified q.phase ≡ false
+    → IsHeld (turned s (tidings s e) q) (cond (is_changed e.step.fate) [] (e ∷ es))
+next_unqualified s q e es f h unqual = record {
+  addressed = by_left (leaves q.phase (turn_of e)) refl;
+  queued = by_change (turned s (tidings s e) q).address (is_changed e.step.fate);
+} where
+  none : q.address ≡ None
+  none = none_is q.address (h.addressed ∙ unqual)
+
+  nobody : AllByRecursion IsUnqueued (e ∷ es)
+  nobody = ((λ k. false≢true (sym unqual ∙ (f.queued k).qualified)), none_queued es (subst (λ a. AllByRecursion (IsOwn a) es) none h.queued))
+
+  by_left : (b : Bool) → leaves q.phase (turn_of e) ≡ b
+      → is_some (goes_on s (tidings s e) (cond b (fresh (unwrap_or (begins (turn_of e)) q.phase) e.moment) q)).address ≡ is_qualified (cond b (fresh (unwrap_or (begins (turn_of e)) q.phase) e.moment) q).phase
+  by_left true l = left_after s q.phase (turn_of e) (origin_given e.input) unqual f.told
+  by_left false l = subst (λ a. is_some (address_after s (turn_of e) (origin_given e.input) a) ≡ is_qualified q.phase) (sym none) (unleft_after s q.phase (turn_of e) (origin_given e.input) unqual l)
+
+  by_change : (own : Option Ip6) (b : Bool) → AllByRecursion (IsOwn own) (cond b [] (e ∷ es))
+  by_change own true = tt
+  by_change own false = any_own own (e ∷ es) nobody
+
+stays_in : (s : Settings) (q : Qualification) (e : Entry) → leaves q.phase (turn_of e) ≡ false → turned s (tidings s e) q ≡ goes_on s (tidings s e) q
+stays_in s q e l = ap (λ b. goes_on s (tidings s e) (cond b (fresh (unwrap_or (begins (turn_of e)) q.phase) e.moment) q)) l
+
+next : (s : Settings) (q : Qualification) (e : Entry) (es : List Entry) → IsEffect q e → IsHeld q es → IsHeld (turned s (tidings s e) q) (cond (is_changed e.step.fate) [] (e ∷ es))
+next s q e es f h = by_phase (is_qualified q.phase) refl where
+  by_phase : (b : Bool) → is_qualified q.phase ≡ b → IsHeld (turned s (tidings s e) q) (cond (is_changed e.step.fate) [] (e ∷ es))
+  by_phase true k = subst (λ x. IsHeld x (cond (is_changed e.step.fate) [] (e ∷ es))) (sym (stays_in s q e (f.still k))) (next_qualified s q e es f h k)
+  by_phase false k = next_unqualified s q e es f h k
+
+-- JOURNALS
+
+effect : (s : Settings) (j : Journal) (e : Entry) → Follows s j e → IsEffect (qualification s j) e
+effect s j e f = subst (λ x. IsEffect (qualification s j) x) (sym f.is) (of_entry s j e.moment e.input f.words)
+
+at_start : (s : Settings) (start : ℕ) → IsHeld (fresh (first_phase s) start) []
+unfolding first_phase
+at_start s start = record { addressed = refl; queued = tt }
+
+held : Turns → TurnsAtStart → (s : Settings) (start : ℕ) (j : List Entry) → AreEntries s start j → IsHeld (qualification s (journal start j)) (epoch j)
+held turns first s start [] a = subst (λ q. IsHeld q []) (sym (first s start)) (at_start s start)
+held turns first s start (e ∷ j) a =
+    subst (λ q. IsHeld q (epoch (e ∷ j))) (sym (turns s (journal start j) e))
+    (next s (qualification s (journal start j)) e (epoch j) (effect s (journal start j) e a.0) (held turns first s start j a.1))
+
+pub qualified_has_address : Turns → TurnsAtStart → QualifiedHasAddress
+qualified_has_address turns first s j a = (held turns first s j.start j.entries a).addressed
+
+pub qualified_stays : Turns → QualifiedStays
+qualified_stays turns s j e a qual =
+    let is = turns s j e ∙ stays_in s (qualification s j) e ((effect s j e a.0).still qual) in
+    ap (λ (q : Qualification). is_qualified q.phase) is ∙ qual
+
+pub queued_is_own : Turns → TurnsAtStart → QueuedIsOwn
+queued_is_own turns first s j a = (held turns first s j.start j.entries a).queued
+
+pub none_is_queued : Turns → TurnsAtStart → NoneQueued
+none_is_queued turns first s j a unqual =
+    let h = held turns first s j.start j.entries a in
+    none_queued (epoch j.entries) (subst (λ o. AllByRecursion (IsOwn o) (epoch j.entries)) (none_is (qualification s j).address (h.addressed ∙ unqual)) h.queued)
+
+-- WHAT WAITS
+
+peer_is : (p : Ip6) (o : Option Ip6) → is_peer p o ≡ true → o ≡ Some p
+peer_is p None h = absurd (false≢true h)
+peer_is p (Some q) h = ap Some (sym (same_ip6-true p q h))
+
+own_mentions : (own : Option Ip6) (p : Ip6) (es : List Entry) → AllByRecursion (IsOwn own) es
+    → AllByRecursion (λ (m : Mention). is_about p m ≡ true → IfSome m.bearing.queues (IsOwnTo own (Some p))) (map mention es)
+own_mentions own p [] a = tt
+own_mentions own p (e ∷ es) a =
+    ((λ about. queued_by e.step.fate e (IsOwnTo own (Some p)) (λ k. subst (λ to. IfSome e.packet (IsOwnTo own to)) (peer_is p e.peer about) (a.0 k).packet)), own_mentions own p es a.1)
+
+pub waiting_is_own : Turns → TurnsAtStart → OneEntry → WaitingIsOwn
+unfolding mentions
+waiting_is_own turns first one s j n p a =
+    let own = (qualification s j).address in
+    kept one (λ x. AllByRecursion (IsOwnTo own (Some p)) x.waiting) (λ m. IfSome m.bearing.queues (IsOwnTo own (Some p))) (waiting_is_kept (IsOwnTo own (Some p))) p (map mention (epoch j.entries))
+    (own_mentions own p (epoch j.entries) (held turns first s j.start j.entries a).queued) n

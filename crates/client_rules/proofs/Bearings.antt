@@ -1,0 +1,227 @@
+-- What each fate means for an entry's peer and for the address: a clause for each fate.
+use Rattle.std.proofs.Common.{◌≡◌, ℕ, Bool, true, false, List, refl}
+use Rattle.std.specs.Prelude.{IfSome}
+use Rattle.td_base.specs.declared.endpoint.Ep.{Ep}
+use Rattle.teredo_node.specs.declared.fate.Fate.{Fate}
+use Rattle.teredo_node.specs.declared.fate.Fate.TheVariants as fate
+use Rattle.teredo_node.specs.Journal.{Entry, is_changed}
+use Rattle.qualify.specs.Turns.{Turn, turn}
+use Rattle.qualify.specs.Turns.{is_changed as changes_turn}
+use Rattle.client_rules.specs.Bearings.{source_of, bearing_of}
+
+-- whatever holds of the packet of an entry that queues holds of what an entry queues
+pub queued_by : (f : Fate) (e : Entry) (P : List ℕ → Type 0) → (f ≡ fate.Queued → IfSome e.packet P) → IfSome (bearing_of f e).queues P
+queued_by fate.Malformed e P h = tt
+queued_by fate.Keyed e P h = tt
+queued_by fate.Big e P h = tt
+queued_by fate.Kind e P h = tt
+queued_by fate.Icmp e P h = tt
+queued_by fate.Source e P h = tt
+queued_by fate.Loop e P h = tt
+queued_by fate.OwnEcho e P h = tt
+queued_by fate.Advert e P h = tt
+queued_by fate.Mismatch e P h = tt
+queued_by fate.NotOurs e P h = tt
+queued_by fate.Embedded e P h = tt
+queued_by fate.ForwardOrigin e P h = tt
+queued_by fate.Forward e P h = tt
+queued_by fate.Six e P h = tt
+queued_by fate.Dest e P h = tt
+queued_by fate.RsCone e P h = tt
+queued_by fate.RsRestricted e P h = tt
+queued_by fate.RsSecondary e P h = tt
+queued_by fate.OffLine e P h = tt
+queued_by fate.Refresh e P h = tt
+queued_by fate.Nonce e P h = tt
+queued_by fate.AdvertSource e P h = tt
+queued_by fate.Origin e P h = tt
+queued_by fate.Prefix e P h = tt
+queued_by fate.QualifiedCone e P h = tt
+queued_by fate.FirstAnswer e P h = tt
+queued_by fate.QualifiedRestricted e P h = tt
+queued_by fate.Symmetric e P h = tt
+queued_by fate.Same e P h = tt
+queued_by fate.Changed e P h = tt
+queued_by fate.Confirmation e P h = tt
+queued_by fate.ServerOther e P h = tt
+queued_by fate.Off e P h = tt
+queued_by fate.NotMine e P h = tt
+queued_by fate.Itself e P h = tt
+queued_by fate.PeersFull e P h = tt
+queued_by fate.Barred e P h = tt
+queued_by fate.Indirect e P h = tt
+queued_by fate.Rule1 e P h = tt
+queued_by fate.Rule1Bubble e P h = tt
+queued_by fate.Rule2 e P h = tt
+queued_by fate.Rule3 e P h = tt
+queued_by fate.Rule3Bubble e P h = tt
+queued_by fate.SuspiciousTest e P h = tt
+queued_by fate.Suspicious e P h = tt
+queued_by fate.Bubble e P h = tt
+queued_by fate.Sent e P h = tt
+queued_by fate.SentCone e P h = tt
+queued_by fate.QueueFull e P h = tt
+queued_by fate.Queued e P h = h refl
+queued_by fate.Bubbles e P h = tt
+queued_by fate.Test e P h = tt
+queued_by fate.GiveUp e P h = tt
+queued_by fate.Idle e P h = tt
+queued_by fate.Unlisted e P h = tt
+queued_by fate.FromClientBubble e P h = tt
+queued_by fate.FromClient e P h = tt
+queued_by fate.Unserved e P h = tt
+queued_by fate.SentSix e P h = tt
+queued_by fate.Echoed e P h = tt
+queued_by fate.Kept e P h = tt
+queued_by fate.Put e P h = tt
+queued_by fate.Done e P h = tt
+queued_by fate.NoEntry e P h = tt
+queued_by fate.Nowhere e P h = tt
+queued_by fate.NatClosed e P h = tt
+queued_by fate.Unbuilt e P h = tt
+
+-- and so for the source of a datagram
+pub trusted_by : (f : Fate) (e : Entry) (P : Ep → Type 0) → (f ≡ fate.Rule2 → IfSome (source_of e.input) P) → (f ≡ fate.Rule3 → IfSome (source_of e.input) P)
+    → (f ≡ fate.Rule3Bubble → IfSome (source_of e.input) P) → IfSome (bearing_of f e).trusts P
+trusted_by fate.Malformed e P a b c = tt
+trusted_by fate.Keyed e P a b c = tt
+trusted_by fate.Big e P a b c = tt
+trusted_by fate.Kind e P a b c = tt
+trusted_by fate.Icmp e P a b c = tt
+trusted_by fate.Source e P a b c = tt
+trusted_by fate.Loop e P a b c = tt
+trusted_by fate.OwnEcho e P a b c = tt
+trusted_by fate.Advert e P a b c = tt
+trusted_by fate.Mismatch e P a b c = tt
+trusted_by fate.NotOurs e P a b c = tt
+trusted_by fate.Embedded e P a b c = tt
+trusted_by fate.ForwardOrigin e P a b c = tt
+trusted_by fate.Forward e P a b c = tt
+trusted_by fate.Six e P a b c = tt
+trusted_by fate.Dest e P a b c = tt
+trusted_by fate.RsCone e P a b c = tt
+trusted_by fate.RsRestricted e P a b c = tt
+trusted_by fate.RsSecondary e P a b c = tt
+trusted_by fate.OffLine e P a b c = tt
+trusted_by fate.Refresh e P a b c = tt
+trusted_by fate.Nonce e P a b c = tt
+trusted_by fate.AdvertSource e P a b c = tt
+trusted_by fate.Origin e P a b c = tt
+trusted_by fate.Prefix e P a b c = tt
+trusted_by fate.QualifiedCone e P a b c = tt
+trusted_by fate.FirstAnswer e P a b c = tt
+trusted_by fate.QualifiedRestricted e P a b c = tt
+trusted_by fate.Symmetric e P a b c = tt
+trusted_by fate.Same e P a b c = tt
+trusted_by fate.Changed e P a b c = tt
+trusted_by fate.Confirmation e P a b c = tt
+trusted_by fate.ServerOther e P a b c = tt
+trusted_by fate.Off e P a b c = tt
+trusted_by fate.NotMine e P a b c = tt
+trusted_by fate.Itself e P a b c = tt
+trusted_by fate.PeersFull e P a b c = tt
+trusted_by fate.Barred e P a b c = tt
+trusted_by fate.Indirect e P a b c = tt
+trusted_by fate.Rule1 e P a b c = tt
+trusted_by fate.Rule1Bubble e P a b c = tt
+trusted_by fate.Rule2 e P a b c = a refl
+trusted_by fate.Rule3 e P a b c = b refl
+trusted_by fate.Rule3Bubble e P a b c = c refl
+trusted_by fate.SuspiciousTest e P a b c = tt
+trusted_by fate.Suspicious e P a b c = tt
+trusted_by fate.Bubble e P a b c = tt
+trusted_by fate.Sent e P a b c = tt
+trusted_by fate.SentCone e P a b c = tt
+trusted_by fate.QueueFull e P a b c = tt
+trusted_by fate.Queued e P a b c = tt
+trusted_by fate.Bubbles e P a b c = tt
+trusted_by fate.Test e P a b c = tt
+trusted_by fate.GiveUp e P a b c = tt
+trusted_by fate.Idle e P a b c = tt
+trusted_by fate.Unlisted e P a b c = tt
+trusted_by fate.FromClientBubble e P a b c = tt
+trusted_by fate.FromClient e P a b c = tt
+trusted_by fate.Unserved e P a b c = tt
+trusted_by fate.SentSix e P a b c = tt
+trusted_by fate.Echoed e P a b c = tt
+trusted_by fate.Kept e P a b c = tt
+trusted_by fate.Put e P a b c = tt
+trusted_by fate.Done e P a b c = tt
+trusted_by fate.NoEntry e P a b c = tt
+trusted_by fate.Nowhere e P a b c = tt
+trusted_by fate.NatClosed e P a b c = tt
+trusted_by fate.Unbuilt e P a b c = tt
+
+abbrev pub changes : Turn → Bool
+changes changes_turn = true
+changes _ = false
+
+pub changes_alike : (f : Fate) → changes (turn f) ≡ is_changed f
+changes_alike fate.Malformed = refl
+changes_alike fate.Keyed = refl
+changes_alike fate.Big = refl
+changes_alike fate.Kind = refl
+changes_alike fate.Icmp = refl
+changes_alike fate.Source = refl
+changes_alike fate.Loop = refl
+changes_alike fate.OwnEcho = refl
+changes_alike fate.Advert = refl
+changes_alike fate.Mismatch = refl
+changes_alike fate.NotOurs = refl
+changes_alike fate.Embedded = refl
+changes_alike fate.ForwardOrigin = refl
+changes_alike fate.Forward = refl
+changes_alike fate.Six = refl
+changes_alike fate.Dest = refl
+changes_alike fate.RsCone = refl
+changes_alike fate.RsRestricted = refl
+changes_alike fate.RsSecondary = refl
+changes_alike fate.OffLine = refl
+changes_alike fate.Refresh = refl
+changes_alike fate.Nonce = refl
+changes_alike fate.AdvertSource = refl
+changes_alike fate.Origin = refl
+changes_alike fate.Prefix = refl
+changes_alike fate.QualifiedCone = refl
+changes_alike fate.FirstAnswer = refl
+changes_alike fate.QualifiedRestricted = refl
+changes_alike fate.Symmetric = refl
+changes_alike fate.Same = refl
+changes_alike fate.Changed = refl
+changes_alike fate.Confirmation = refl
+changes_alike fate.ServerOther = refl
+changes_alike fate.Off = refl
+changes_alike fate.NotMine = refl
+changes_alike fate.Itself = refl
+changes_alike fate.PeersFull = refl
+changes_alike fate.Barred = refl
+changes_alike fate.Indirect = refl
+changes_alike fate.Rule1 = refl
+changes_alike fate.Rule1Bubble = refl
+changes_alike fate.Rule2 = refl
+changes_alike fate.Rule3 = refl
+changes_alike fate.Rule3Bubble = refl
+changes_alike fate.SuspiciousTest = refl
+changes_alike fate.Suspicious = refl
+changes_alike fate.Bubble = refl
+changes_alike fate.Sent = refl
+changes_alike fate.SentCone = refl
+changes_alike fate.QueueFull = refl
+changes_alike fate.Queued = refl
+changes_alike fate.Bubbles = refl
+changes_alike fate.Test = refl
+changes_alike fate.GiveUp = refl
+changes_alike fate.Idle = refl
+changes_alike fate.Unlisted = refl
+changes_alike fate.FromClientBubble = refl
+changes_alike fate.FromClient = refl
+changes_alike fate.Unserved = refl
+changes_alike fate.SentSix = refl
+changes_alike fate.Echoed = refl
+changes_alike fate.Kept = refl
+changes_alike fate.Put = refl
+changes_alike fate.Done = refl
+changes_alike fate.NoEntry = refl
+changes_alike fate.Nowhere = refl
+changes_alike fate.NatClosed = refl
+changes_alike fate.Unbuilt = refl

@@ -1,0 +1,222 @@
+-- What was seen of a datagram where it has a fate.
+use Rattle.std.proofs.Common.{◌≡◌, ◌&&◌, not, Bool, true, false, ◌++◌, refl}
+use Rattle.bubble.specs.Reads.{value_in}
+use Rattle.teredo_node.specs.declared.fate.Fate.{Fate}
+use Rattle.teredo_node.specs.declared.fate.Fate.TheVariants as fate
+use Rattle.teredo_node.specs.Rows.{first_line}
+use Rattle.qualify.specs.declared.phase.Phase.{Phase}
+use Rattle.qualify.specs.declared.phase.Phase.TheVariants.{Cone, Restricted, Secondary, Qualified, Symmetric, OffLine}
+use Rattle.qualify.specs.Advertisements.{Heard, heard, advert_lines, phase_line, advert_row}
+use Rattle.client_rules.specs.Reception.{Seen, seen, datagram_lines, server_lines, packet_lines, indirect_lines, direct_lines, reception_row, reception_fate}
+use Rattle.client_rules.specs.Warrants.{IsSound, IsAdvert, IsForClient, IsIndirect, IsDirect, IsTested, IsSuspect, ReceivedOnlyIf}
+use Rattle.client_rules.specs.Laws.{ReceptionIsWarranted}
+use Rattle.client_rules.proofs.Lines.{by_lines, not_false, not_true, and_first, and_second, fails_with}
+
+-- THE SERVER'S ADVERTISEMENTS
+
+-- what was seen of an advertisement before its own table
+record IsHeard (a : Seen) : Type 0 where
+  sound : IsSound a
+  server : a.from_server ≡ true
+  well_formed : a.ill_formed ≡ false
+  advert : a.advert ≡ true
+
+-- where no line of its table holds
+record IsUnrefused (h : Heard) : Type 0 where
+  open_nonce : h.open_nonce ≡ true
+  from_expected : h.from_expected ≡ true
+  usable_origin : h.usable_origin ≡ true
+  one_prefix : h.one_prefix ≡ true
+  own_prefix : h.own_prefix ≡ true
+
+is_advert : (f : Fate) (a : Seen) (h : Heard) → IsHeard a → IsUnrefused h → phase_line h.phase h.same_origin ≡ f → IsAdvert f a h
+is_advert f a h b u e = record {
+  sound = b.sound;
+  server = b.server;
+  well_formed = b.well_formed;
+  advert = b.advert;
+  open_nonce = u.open_nonce;
+  from_expected = u.from_expected;
+  usable_origin = u.usable_origin;
+  one_prefix = u.one_prefix;
+  own_prefix = u.own_prefix;
+  phase = e;
+}
+
+by_phase : (a : Seen) (h : Heard) (phase : Phase) (same : Bool) → ((f : Fate) → phase_line phase same ≡ f → IsAdvert f a h) → ReceivedOnlyIf (phase_line phase same) a h
+by_phase a h Cone same is = is fate.QualifiedCone refl
+by_phase a h Restricted same is = is fate.FirstAnswer refl
+by_phase a h Secondary true is = is fate.QualifiedRestricted refl
+by_phase a h Secondary false is = is fate.Symmetric refl
+by_phase a h Qualified true is = is fate.Same refl
+by_phase a h Qualified false is = is fate.Changed refl
+by_phase a h Symmetric same is = tt
+by_phase a h OffLine same is = tt
+
+advertised : (a : Seen) (h : Heard) → IsHeard a → ReceivedOnlyIf (first_line (advert_lines h) (phase_line h.phase h.same_origin)) a h
+advertised a h b = by_lines (λ f. ReceivedOnlyIf f a h) (advert_lines h) (phase_line h.phase h.same_origin) (
+  (λ _. tt),
+  (λ nonce. (
+    (λ _. tt),
+    (λ from. (
+      (λ _. tt),
+      (λ origin. (
+        (λ _. tt),
+        (λ one. (
+          (λ _. tt),
+          (λ own.
+              by_phase a h h.phase h.same_origin (λ f e. is_advert f a h b (record {
+                open_nonce = not_false h.open_nonce nonce;
+                from_expected = not_false h.from_expected from;
+                usable_origin = not_false h.usable_origin origin;
+                one_prefix = not_false h.one_prefix one;
+                own_prefix = not_false h.own_prefix own;
+              }) e)),
+        )),
+      )),
+    )),
+  )),
+)
+
+-- PACKETS OF PEERS
+
+-- an indirect bubble: no line refuses it
+indirect : (a : Seen) → IsForClient a → a.from_server && not (a.bubble && a.origin) ≡ false
+    → a.from_server && not a.good_origin ≡ false → a.from_server && not a.room ≡ false → a.from_server && a.barred ≡ false → a.from_server ≡ true → IsIndirect a
+indirect a mine bubble origin room barred server = record {
+  mine = mine;
+  server = server;
+  bubble = and_first a.bubble a.origin (not_false (a.bubble && a.origin) (fails_with a.from_server (not (a.bubble && a.origin)) server bubble));
+  origin = not_false a.good_origin (fails_with a.from_server (not a.good_origin) server origin);
+  room = not_false a.room (fails_with a.from_server (not a.room) server room);
+  unbarred = fails_with a.from_server a.barred server barred;
+}
+
+tested : (a : Seen) → IsDirect a → a.trusted_here ≡ false → not a.teredo && (a.listed && (not a.fresh && a.reply)) ≡ true → IsTested a
+tested a direct untrusted h =
+    let listed = and_second (not a.teredo) (a.listed && (not a.fresh && a.reply)) h in
+    let stale = and_second a.listed (not a.fresh && a.reply) listed in
+    record {
+      direct = direct;
+      untrusted = untrusted;
+      native = not_true a.teredo (and_first (not a.teredo) (a.listed && (not a.fresh && a.reply)) h);
+      listed = and_first a.listed (not a.fresh && a.reply) listed;
+      stale = not_true a.fresh (and_first (not a.fresh) a.reply stale);
+      reply = and_second (not a.fresh) a.reply stale;
+    }
+
+suspect : (a : Seen) → IsDirect a → a.trusted_here ≡ false → a.teredo ≡ false
+    → a.global && (not a.fresh && (not a.barred && (a.room && (not a.bubble && not a.echo_reply)))) ≡ true → IsSuspect a
+suspect a direct untrusted native h =
+    let stale = and_second a.global (not a.fresh && (not a.barred && (a.room && (not a.bubble && not a.echo_reply)))) h in
+    let unbarred = and_second (not a.fresh) (not a.barred && (a.room && (not a.bubble && not a.echo_reply))) stale in
+    let room = and_second (not a.barred) (a.room && (not a.bubble && not a.echo_reply)) unbarred in
+    let kind = and_second a.room (not a.bubble && not a.echo_reply) room in
+    record {
+      direct = direct;
+      untrusted = untrusted;
+      native = native;
+      global = and_first a.global (not a.fresh && (not a.barred && (a.room && (not a.bubble && not a.echo_reply)))) h;
+      stale = not_true a.fresh (and_first (not a.fresh) (not a.barred && (a.room && (not a.bubble && not a.echo_reply))) stale);
+      unbarred = not_true a.barred (and_first (not a.barred) (a.room && (not a.bubble && not a.echo_reply)) unbarred);
+      room = and_first a.room (not a.bubble && not a.echo_reply) room;
+      no_bubble = not_true a.bubble (and_first (not a.bubble) (not a.echo_reply) kind);
+      no_reply = not_true a.echo_reply (and_second (not a.bubble) (not a.echo_reply) kind);
+    }
+
+-- from a peer itself
+directly : (a : Seen) (h : Heard) → IsDirect a → ReceivedOnlyIf (first_line (direct_lines a) fate.Suspicious) a h
+directly a h direct = by_lines (λ f. ReceivedOnlyIf f a h) (direct_lines a) fate.Suspicious (
+  (λ both. record { direct = direct; trusted = and_first a.trusted_here a.bubble both; kind = and_second a.trusted_here a.bubble both }),
+  (λ bubble. (
+    (λ trusted. record { direct = direct; trusted = trusted; kind = fails_with a.trusted_here a.bubble trusted bubble }),
+    (λ untrusted. (
+      (λ all. tested a direct untrusted all),
+      (λ _. (
+        (λ _. tt),
+        (λ room. (
+          (λ both. record {
+            direct = direct;
+            untrusted = untrusted;
+            embedded = and_first a.embedded_here a.bubble both;
+            room = not_false a.room (fails_with a.embedded_here (not a.room) (and_first a.embedded_here a.bubble both) room);
+            kind = and_second a.embedded_here a.bubble both;
+          }),
+          (λ bubble_too. (
+            (λ here. record {
+              direct = direct;
+              untrusted = untrusted;
+              embedded = here;
+              room = not_false a.room (fails_with a.embedded_here (not a.room) here room);
+              kind = fails_with a.embedded_here a.bubble here bubble_too;
+            }),
+            (λ _. (
+              (λ _. tt),
+              (λ native.
+                  ((λ all. suspect a direct untrusted native all), (λ _. tt))),
+            )),
+          )),
+        )),
+      )),
+    )),
+  )),
+)
+
+-- to the client
+addressed : (a : Seen) (h : Heard) → IsForClient a → a.from_server && not (a.bubble && a.origin) ≡ false → ReceivedOnlyIf (first_line (indirect_lines a ++ direct_lines a) fate.Suspicious) a h
+addressed a h mine bubble = by_lines (λ f. ReceivedOnlyIf f a h) (indirect_lines a) (first_line (direct_lines a) fate.Suspicious) (
+  (λ _. tt),
+  (λ origin. (
+    (λ _. tt),
+    (λ room. (
+      (λ _. tt),
+      (λ barred. (
+        (λ server. indirect a mine bubble origin room barred server),
+        (λ peer.
+            directly a h (record { mine = mine; direct = peer })),
+      )),
+    )),
+  )),
+)
+
+-- THE WHOLE
+
+row : (a : Seen) (h : Heard) → ReceivedOnlyIf (reception_row a (first_line (advert_lines h) (phase_line h.phase h.same_origin))) a h
+row a h = by_lines (λ f. ReceivedOnlyIf f a h) (datagram_lines a ++ (server_lines a (first_line (advert_lines h) (phase_line h.phase h.same_origin)) ++ packet_lines a)) (first_line (indirect_lines a ++ direct_lines a) fate.Suspicious) (
+  (λ _. tt),
+  (λ payload. (
+    (λ _. tt),
+    (λ unkeyed. (
+      (λ _. tt),
+      (λ unconfirmed. (
+        (λ _. tt),
+        (λ short.
+            let sound : IsSound a = record { payload = not_false a.payload payload; unkeyed = unkeyed; unconfirmed = unconfirmed; short = short } in (
+              (λ _. tt),
+              (λ well. (
+                (λ both. let server = and_first a.from_server a.advert both in
+                    advertised a h (record { sound = sound; server = server; well_formed = fails_with a.from_server a.ill_formed server well; advert = and_second a.from_server a.advert both })),
+                (λ _. (
+                  (λ _. tt),
+                  (λ bubble. (
+                    (λ _. tt),
+                    (λ qualified. (
+                      (λ _. tt),
+                      (λ mine. (
+                        (λ _. tt),
+                        (λ foreign.
+                            addressed a h (record { sound = sound; qualified = not_false a.qualified qualified; mine = not_false a.mine mine; foreign = foreign }) bubble),
+                      )),
+                    )),
+                  )),
+                )),
+              )),
+            )),
+      )),
+    )),
+  )),
+)
+
+pub reception_is_warranted : ReceptionIsWarranted
+unfolding reception_fate advert_row
+reception_is_warranted s a from x = row (seen s a from x) (heard s a.qualification from (value_in x))

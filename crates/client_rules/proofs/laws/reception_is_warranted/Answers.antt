@@ -1,0 +1,5 @@
+use Rattle.client_rules.proofs.Received.{reception_is_warranted}
+use Rattle.client_rules.proofs.laws.reception_is_warranted.Goals as goal
+
+pub returns : goal.returns
+returns c = reception_is_warranted

@@ -1,0 +1,5 @@
+use Rattle.client_rules.proofs.Given.{transmission_is_warranted}
+use Rattle.client_rules.proofs.laws.transmission_is_warranted.Goals as goal
+
+pub returns : goal.returns
+returns c = transmission_is_warranted

@@ -1,0 +1,124 @@
+-- The packets that wait, and where a relay trusts.
+use Rattle.std.proofs.Common.{◌≡◌, ◌||◌, not, ℕ, Bool, true, false, cond, List, [], ◌∷◌, map, Option, Some, None, refl, sym, ap, subst, ◌∙◌}
+use Rattle.std.specs.Prelude.{IfSome, option_map}
+use Rattle.std.specs.List.{AllByRecursion}
+use Rattle.std.proofs.lemmas.Bool.{false≢true}
+use Rattle.td_base.specs.Ip6.{same_ip6-true}
+use Rattle.td_base.specs.Reach.{is_global6}
+use Rattle.td_base.specs.declared.ipv6.Ip6.{Ip6}
+use Rattle.td_base.specs.declared.endpoint.Ep.{Ep}
+use Rattle.teredo_addr.specs.Teredo.{is_teredo, embedded}
+use Rattle.ipv6_packet.specs.Reads.{is_packet, fields_in}
+use Rattle.bubble.specs.PacketsIn.{packet_in, source_in, packet_given, destination_in}
+use Rattle.teredo_node.specs.declared.fate.Fate.{Fate}
+use Rattle.teredo_node.specs.declared.fate.Fate.TheVariants as fate
+use Rattle.teredo_node.specs.Journal.{Input, arrived, given, from_six, ticked, Entry}
+use Rattle.peer_list.specs.Mentions.{Mention, is_peer, is_about}
+use Rattle.peer_list.specs.Peers.{known}
+use Rattle.peer_list.specs.Laws.{OneEntry}
+use Rattle.relay_rules.specs.Bearings.{mention, mentions}
+use Rattle.relay_rules.specs.Standing.{RelaySettings, Standing, standing_of}
+use Rattle.relay_rules.specs.Reception.{Seen, seen, reception_lines, reception_row, reception}
+use Rattle.relay_rules.specs.Transmission.{given as given_to, transmission}
+use Rattle.relay_rules.specs.Journals.{entry, relay_in, relay_six, relay_tick, relay_entry, IsJournal}
+use Rattle.relay_rules.specs.Warrants.{GoesOut, GoesLater, SentOnlyIf}
+use Rattle.relay_rules.specs.Laws.{IsForeignTo, WaitingIsForeign, TrustedIsEmbedded}
+use Rattle.relay_rules.proofs.Fates.{fate_of_reception, fate_of_transmission}
+use Rattle.relay_rules.proofs.Lines.{by_lines}
+use Rattle.relay_rules.proofs.Warranted.{transmission_is_warranted}
+use Rattle.relay_rules.proofs.Bearings.{queued_by, trusted_by}
+use Rattle.relay_rules.proofs.Kept.{kept, waiting_is_kept, trust_is_kept}
+
+peer_is : (p : Ip6) (o : Option Ip6) → is_peer p o ≡ true → o ≡ Some p
+peer_is p None h = absurd (false≢true h)
+peer_is p (Some q) h = ap Some (sym (same_ip6-true p q h))
+
+-- PACKETS THAT WAIT
+
+abbrev is_queued : Fate → Bool
+is_queued fate.Queued = true
+is_queued _ = false
+
+-- no datagram is queued
+never_queued : (a : Seen) → is_queued (reception_row a) ≡ false
+never_queued a = by_lines (λ f. is_queued f ≡ false) (reception_lines a) fate.Unserved ((λ _. refl), (λ _. ((λ _. refl), (λ _. ((λ _. refl), (λ _. ((λ _. refl), (λ _. ((λ _. refl), (λ _. ((λ _. refl), (λ _. ((λ _. refl), (λ _. ((λ _. refl), (λ _. refl))))))))))))))))
+
+-- an entry queues, if anything, a packet from outside to its peer
+abbrev QueuesForeign : Entry → Type 0
+QueuesForeign e = IfSome (mention e).bearing.queues (IsForeignTo e.peer)
+
+both_hold : (t g : Bool) → not (t || not g) ≡ true → (t ≡ false) × (g ≡ true)
+both_hold true g h = absurd (false≢true h)
+both_hold false true h = (refl, refl)
+both_hold false false h = absurd (false≢true h)
+
+if_there : (b : Bool) (x : List ℕ) (P : List ℕ → Type 0) → P x → IfSome (cond b (Some x) None) P
+if_there true x P h = h
+if_there false x P h = tt
+
+is_that : (b : Bool) (p : Ip6) → b ≡ true → cond b (Some p) None ≡ Some p
+is_that true p h = refl
+is_that false p h = absurd (false≢true h)
+
+-- a packet that goes out is from outside
+pub foreign_to : (s : RelaySettings) (a : Standing) (x : List ℕ) → GoesOut (given_to s a x) → IsForeignTo (destination_in x) x
+unfolding given_to destination_in
+foreign_to s a x out =
+    let source = both_hold (is_teredo (fields_in x).src) (is_global6 (fields_in x).src) out.foreign_source in
+    record {
+      well_formed = out.packet;
+      short = out.short;
+      native = source.0;
+      global = source.1;
+      destination = is_that (is_packet x) (fields_in x).dst out.packet;
+    }
+
+foreign : (s : RelaySettings) (a : Standing) (x : List ℕ) → GoesLater (given_to s a x) → IfSome (packet_given x) (IsForeignTo (destination_in x))
+unfolding packet_given
+foreign s a x g = if_there (is_packet x) x (IsForeignTo (destination_in x)) (foreign_to s a x g.out)
+
+of_packet : (s : RelaySettings) (a : Standing) (n : ℕ) (x : List ℕ) → QueuesForeign (entry n (from_six x) (packet_given x) (destination_in x) (transmission s a x))
+of_packet s a n x = queued_by (transmission s a x).fate (entry n (from_six x) (packet_given x) (destination_in x) (transmission s a x)) (IsForeignTo (destination_in x))
+    (λ k. foreign s a x (subst (λ f. SentOnlyIf f (given_to s a x)) (sym (fate_of_transmission s a x) ∙ k) (transmission_is_warranted s a x)))
+
+of_datagram : (s : RelaySettings) (a : Standing) (n : ℕ) (from : Ep) (x : List ℕ) → QueuesForeign (entry n (arrived from x) (packet_in x) (source_in x) (reception s a from x))
+of_datagram s a n from x = queued_by (reception s a from x).fate (entry n (arrived from x) (packet_in x) (source_in x) (reception s a from x)) (IsForeignTo (source_in x))
+    (λ k. absurd (false≢true (sym (never_queued (seen s a from x)) ∙ ap is_queued (sym (fate_of_reception s a from x) ∙ k))))
+
+of_entry : (s : RelaySettings) (j : List Entry) (n : ℕ) (input : Input) → QueuesForeign (relay_entry s j n input)
+unfolding relay_in relay_six relay_tick
+of_entry s j n (arrived from x) = of_datagram s (standing_of j n (source_in x)) n from x
+of_entry s j n (from_six x) = of_packet s (standing_of j n (destination_in x)) n x
+of_entry s j n ticked = queued_by (relay_entry s j n ticked).step.fate (relay_entry s j n ticked) (IsForeignTo (relay_entry s j n ticked).peer) (λ _. tt)
+of_entry s j n (given x) = tt
+
+foreign_mentions : (s : RelaySettings) (j : List Entry) (p : Ip6) → IsJournal s j → AllByRecursion (λ (m : Mention). is_about p m ≡ true → IfSome m.bearing.queues (IsForeignTo (Some p))) (map mention j)
+foreign_mentions s [] p a = tt
+foreign_mentions s (e ∷ j) p a =
+    let own : QueuesForeign e = subst (λ x. QueuesForeign x) (sym a.0.is) (of_entry s j e.moment e.input) in
+    ((λ about. subst (λ to. IfSome (mention e).bearing.queues (IsForeignTo to)) (peer_is p e.peer about) own), foreign_mentions s j p a.1)
+
+pub waiting_is_foreign : OneEntry → WaitingIsForeign
+unfolding mentions
+waiting_is_foreign one s j n p a =
+    kept one (λ x. AllByRecursion (IsForeignTo (Some p)) x.waiting) (λ m. IfSome m.bearing.queues (IsForeignTo (Some p))) (waiting_is_kept (IsForeignTo (Some p))) p (map mention j) (foreign_mentions s j p a) n
+
+-- TRUST
+
+abbrev IsThere : Ip6 → Ep → Type 0
+IsThere p at = at ≡ embedded p
+
+embedded_there : (p : Ip6) (o : Option Ip6) → is_peer p o ≡ true → IfSome (option_map embedded o) (IsThere p)
+embedded_there p None h = tt
+embedded_there p (Some q) h = ap embedded (sym (same_ip6-true p q h))
+
+there_mentions : (j : List Entry) (p : Ip6) → AllByRecursion (λ (m : Mention). is_about p m ≡ true → IfSome m.bearing.trusts (IsThere p)) (map mention j)
+there_mentions [] p = tt
+there_mentions (e ∷ j) p = ((λ about. trusted_by e.step.fate e (IsThere p) (embedded_there p e.peer about)), there_mentions j p)
+
+pub trusted_is_embedded : OneEntry → TrustedIsEmbedded
+unfolding mentions
+trusted_is_embedded one j n p at is =
+    let there : IfSome (known (map mention j) n p).trusted (IsThere p) =
+    kept one (λ x. IfSome x.trusted (IsThere p)) (λ m. IfSome m.bearing.trusts (IsThere p)) (trust_is_kept (IsThere p)) p (map mention j) (there_mentions j p) n in
+    subst (λ o. IfSome o (IsThere p)) is there

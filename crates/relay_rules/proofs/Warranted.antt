@@ -1,0 +1,95 @@
+-- What was seen of a datagram and of a packet where it has a fate.
+use Rattle.std.proofs.Common.{◌++◌}
+use Rattle.teredo_node.specs.declared.fate.Fate.TheVariants as fate
+use Rattle.relay_rules.specs.Reception.{Seen, seen, reception_lines, reception_row}
+use Rattle.relay_rules.specs.Transmission.{Given, given, packet_lines, destination_lines, transmission_row}
+use Rattle.relay_rules.specs.Warrants.{IsOfPeer, GoesOut, ReceivedOnlyIf, SentOnlyIf}
+use Rattle.relay_rules.specs.Laws.{ReceptionIsWarranted, TransmissionIsWarranted}
+use Rattle.relay_rules.proofs.Lines.{by_lines, not_false}
+
+received : (a : Seen) → ReceivedOnlyIf (reception_row a) a
+received a = by_lines (λ f. ReceivedOnlyIf f a) (reception_lines a) fate.Unserved (
+  (λ _. tt),
+  (λ payload. (
+    (λ _. tt),
+    (λ unkeyed. (
+      (λ _. tt),
+      (λ short. (
+        (λ _. tt),
+        (λ teredo. (
+          (λ _. tt),
+          (λ embedded. (
+            (λ _. tt),
+            (λ listed.
+                let peer : IsOfPeer a = record {
+                  payload = not_false a.payload payload;
+                  unkeyed = unkeyed;
+                  short = short;
+                  teredo = not_false a.teredo teredo;
+                  embedded = not_false a.embedded_here embedded;
+                  listed = not_false a.listed listed;
+                } in (
+                  (λ bubble. record { peer = peer; bubble = bubble }),
+                  (λ no_bubble. (
+                    (λ served. record { peer = peer; no_bubble = no_bubble; served = served }),
+                    (λ unserved.
+                        record { peer = peer; no_bubble = no_bubble; unserved = unserved }),
+                  )),
+                )),
+          )),
+        )),
+      )),
+    )),
+  )),
+)
+
+pub reception_is_warranted : ReceptionIsWarranted
+reception_is_warranted s a from x = received (seen s a from x)
+
+sent : (a : Given) → SentOnlyIf (transmission_row a) a
+sent a = by_lines (λ f. SentOnlyIf f a) (packet_lines a ++ destination_lines a) fate.Queued (
+  (λ _. tt),
+  (λ packet. (
+    (λ _. tt),
+    (λ short. (
+      (λ _. tt),
+      (λ teredo. (
+        (λ _. tt),
+        (λ foreign. (
+          (λ _. tt),
+          (λ reachable. (
+            (λ _. tt),
+            (λ unlooped.
+                let out : GoesOut a = record {
+                  packet = not_false a.packet packet;
+                  short = short;
+                  teredo = not_false a.teredo teredo;
+                  foreign_source = not_false a.foreign_source foreign;
+                  reachable = not_false a.reachable reachable;
+                  unlooped = unlooped;
+                } in (
+                  (λ trusted. record { out = out; trusted = trusted }),
+                  (λ untrusted. (
+                    (λ _. tt),
+                    (λ room. (
+                      (λ cone. record { out = out; untrusted = untrusted; room = not_false a.room room; cone = cone }),
+                      (λ no_cone. (
+                        (λ _. tt),
+                        (λ unspent. (
+                          (λ _. tt),
+                          (λ free.
+                              record { out = out; untrusted = untrusted; room = not_false a.room room; no_cone = no_cone; unspent = unspent; free = free }),
+                        )),
+                      )),
+                    )),
+                  )),
+                )),
+          )),
+        )),
+      )),
+    )),
+  )),
+)
+
+pub transmission_is_warranted : TransmissionIsWarranted
+transmission_is_warranted s a x = sent (given s a x)

@@ -1,0 +1,5 @@
+use Rattle.relay_rules.proofs.Warranted.{reception_is_warranted}
+use Rattle.relay_rules.proofs.laws.reception_is_warranted.Goals as goal
+
+pub returns : goal.returns
+returns c = reception_is_warranted
