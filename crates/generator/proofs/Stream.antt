@@ -1,5 +1,5 @@
 -- The words of the events, as a generator gives them.
-use Rattle.std.proofs.Common.{◌≡◌, ℕ, ◌+◌, ◌*◌, ◌^◌, ◌<◌, suc, List, [], ◌∷◌, ◌++◌, refl, ap, ◌∙◌, arith}
+use Rattle.std.proofs.Common.{◌≡◌, ℕ, ◌+◌, ◌*◌, ◌^◌, ◌<◌, zero, suc, length, length-append, List, [], ◌∷◌, ◌++◌, refl, ap, ◌∙◌, arith}
 use Rattle.rand_chacha.specs.ChaCha.{ChaCha, key_of, of_seed, word_at}
 use Rattle.qualify.specs.Generator.{chacha20, words_of, after_words}
 use Rattle.legal.specs.Legal.{stream_key, draws}
@@ -59,3 +59,12 @@ event_added seed i before after e so_far is added =
 pub all_events : (seed i count : ℕ) (es : List Event) → es ≡ firsts (event_numbered seed) i → i ≡ count → es ≡ generated_events seed count
 unfolding generated_events
 all_events seed i count es is end = is ∙ ap (firsts (event_numbered seed)) end
+
+firsts_count : {A : Type 0} (f : ℕ → A) (n : ℕ) → length (firsts f n) ≡ n
+unfolding firsts
+firsts_count f zero = refl
+firsts_count f (suc n) = omega (arith, firsts_count f n, length-append (firsts f n) (f n ∷ []))
+
+pub so_many : (seed count : ℕ) (es : List Event) → es ≡ generated_events seed count → length es ≡ count
+unfolding generated_events
+so_many seed count es is = ap length is ∙ firsts_count (event_numbered seed) count

@@ -1,5 +1,5 @@
 //! The generated scenario.
-ghost use Rattle.std.specs.Prelude.{◌≡◌, ◌≤◌, ◌<◌, ◌+◌, IfOk};
+ghost use Rattle.std.specs.Prelude.{◌≡◌, ◌≤◌, ◌<◌, length, IfOk};
 ghost use Rattle.std.specs.List.{AllByRecursion};
 ghost use Rattle.history.specs.Events.{IsEvent};
 ghost use Rattle.qualify.specs.Generator.{words_of, after_words};
@@ -60,6 +60,7 @@ pub fn generate(alloc: Global, seed: u64, count: u32) -> Result<Generated, NoMem
     requires few { count ≤ EVENTS_MAX }
     ensures nodes { IfOk result (λ g. g.topology ≡ generated_nodes) }
     ensures events { IfOk result (λ g. g.events ≡ generated_events seed count) }
+    ensures count { IfOk result (λ g. length g.events ≡ count) }
     // Its events are such as its nodes can be asked for.
     ensures legal { IfOk result (λ g. AllByRecursion (IsEvent g.topology) g.events) }
 {

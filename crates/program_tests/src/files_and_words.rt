@@ -1,14 +1,6 @@
-//! `lab`, `show` and words that are no command, over a source and a sink in memory.
-use crate::vectors::{ROOM, words_of};
-use std::alloc::Global;
+//! `lab` on servers and NATs, `show`, `gen`, and words that are no command, over a source and a sink in memory.
+use crate::runs::{LAB, Row, ending, ends_so};
 use std::test::Fail;
-use td_base::{Millis, NoMemory};
-use td_outside::{MemLink, MemSink, MemSource, TestClock};
-use teredo_app::run;
-
-const NAME: &str = "f.toml";
-
-const LAB: [&str; 2] = ["lab", NAME];
 
 /// A server is asked by a client that isn't cone.
 const ASKED: &str = r#"
@@ -55,6 +47,10 @@ const NO_EVENTS: &str = "seed = 1\nevents = []\n";
 
 const NO_EVENTS_REPORT: &str = "total records 0 entries 0 delivered 0 handed 0 kept 0 dropped 0\n";
 
+/// What another program says of the same scenario.
+const GENERATED_TOTALS: &str =
+    "total records 2318 entries 757 delivered 803 handed 22 kept 3 dropped 1038\n";
+
 /// A NAT without a mapping lets nothing in, whenever it is asked.
 const CLOSED_NAT: &str = r#"
 seed = 1
@@ -78,13 +74,6 @@ idle = 60000
 const CLOSED_NAT_REPORT: &str =
     "0 0 0 stranger - put #0=198.51.100.7:40000>198.51.100.1:1024/1\n1 0 1 deliver:0 n1 nat_closed\n2 60000 2 advance - done\n3 60000 3 copy:0 - put #1=203.0.113.5:3544>198.51.100.1:1025/1\n4 60000 4 deliver:1 n1 nat_closed\n5 60000 5 next - no_entry\n6 60000 6 restart n1 done\ntotal records 7 entries 2 delivered 2 handed 0 kept 0 dropped 3\n";
 
-/// A relay, which isn't played yet.
-const RELAY: &str = r#"
-seed = 1
-events = []
-relay = [{ name = "r1", at = "203.0.113.9:3545", six = "2001:db8::9" }]
-"#;
-
 /// A bubble from one client to another.
 const BUBBLE: &str =
     "6000000000003bff200100004136e378800063bf3ffffdd2200100004136e378000063bf39cc9bf8";
@@ -104,40 +93,6 @@ const CUT: &str =
 const CUT_BUBBLE: &str =
     "6000000000003bff200100004136e378800063bf3ffffdd2200100004136e378000063bf39cc9b";
 
-/// A run: its words, the text of its file, which calls fail, and then its status and what was written.
-#[derive(Clone, Copy)]
-struct Row<'a> {
-    words: &'a [&'a str],
-    text: &'a [u8],
-    read_fails: &'a [u64],
-    write_fails: &'a [u64],
-    status: u8,
-    written: &'a str,
-}
-
-/// A run in which no call fails.
-fn ending<'a>(words: &'a [&'a str], text: &'a str, status: u8, written: &'a str) -> Row<'a> {
-    Row {
-        words,
-        text: text.as_bytes(),
-        read_fails: &[],
-        write_fails: &[],
-        status,
-        written,
-    }
-}
-
-/// Whether the run ends so.
-fn ends_so(alloc: Global, row: &Row) -> Result<bool, NoMemory> {
-    let words = words_of(alloc, row.words)?;
-    let mut source = MemSource::new(alloc, NAME, row.text, row.read_fails)?;
-    let mut sink = MemSink::new(alloc, ROOM, row.write_fails)?;
-    let mut link = MemLink::new(alloc, Vec::new(alloc), 0, &[], &[])?;
-    let mut clock = TestClock::new([Millis(0); 4]);
-    let status = run(alloc, &words, &mut source, &mut sink, &mut link, &mut clock);
-    Ok(status == row.status && sink.as_slice() == row.written.as_bytes())
-}
-
 #[test]
 fn files_are_played_and_words_are_shown(rt: HostRuntime) -> Result<(), Fail> {
     let rows = [
@@ -156,7 +111,12 @@ fn files_are_played_and_words_are_shown(rt: HostRuntime) -> Result<(), Fail> {
         ending(&["lab"], "", 2, "words\n"),
         ending(&["show"], "", 2, "words\n"),
         ending(&["--help"], "", 2, "words\n"),
+        ending(&["gen", "7", "0"], "", 0, NO_EVENTS_REPORT),
+        ending(&["gen", "7", "2000"], "", 0, GENERATED_TOTALS),
+        ending(&["gen", "7"], "", 2, "words\n"),
         ending(&["gen", "01", "5"], "", 2, "words\n"),
+        ending(&["gen", "9223372036854775808", "5"], "", 2, "words\n"),
+        ending(&["gen", "1", "50001"], "", 2, "words\n"),
         ending(
             &["serve", "127.0.0.1", "127.0.0.1", "1", "1"],
             "",
@@ -187,15 +147,6 @@ fn files_are_played_and_words_are_shown(rt: HostRuntime) -> Result<(), Fail> {
             2,
             "words\n",
         ),
-        ending(&LAB, "", 3, "scenario: unbuilt\n"),
-        ending(&LAB, "seed", 3, "scenario: unbuilt\n"),
-        ending(
-            &LAB,
-            "seed = 1\nevents = [\"host a a 00\"]\n",
-            3,
-            "scenario: unbuilt\n",
-        ),
-        ending(&LAB, RELAY, 3, "scenario: unbuilt\n"),
     ];
     for row in rows.iter() {
         assert!(rt; ends_so(rt.alloc(), row)?, "{}", row.written);
@@ -219,8 +170,12 @@ fn what_fails_outside_ends_the_run(rt: HostRuntime) -> Result<(), Fail> {
             ..ending(&["show", BUBBLE], "", 5, "")
         },
         Row {
-            text: b"\xff\xfe",
-            ..ending(&LAB, "", 3, "scenario: unbuilt\n")
+            write_fails: &[0],
+            ..ending(&LAB, "", 5, "")
+        },
+        Row {
+            write_fails: &[0],
+            ..ending(&["gen", "7", "0"], "", 5, "")
         },
     ];
     for row in rows.iter() {

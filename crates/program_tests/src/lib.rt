@@ -13,7 +13,10 @@
 //! | module | tries |
 //! |---|---|
 //! | `vectors` | nothing: the datagrams of the others |
-//! | `files_and_words` | `run` on `lab` and `show`, and on words that are no command |
+//! | `runs`, `nets` | nothing: how a run ends, and the tables of nodes of the others |
+//! | `files_and_words` | `run` on `lab`, `show` and `gen`, and on words that are no command |
+//! | `refusals` | `run` on `lab`, with texts that are no scenario |
+//! | `clients`, `peers`, `relays` | `run` on `lab`, with clients, two of them, and a native host |
 //! | `arrivals` | `run` on `serve`, over a link in memory |
 //! | `sockets` | `run` on `serve`, over two sockets |
 //! | `worlds` | `scenario` and `world` |
@@ -24,13 +27,25 @@
 #[cfg(test)]
 mod arrivals;
 #[cfg(test)]
+mod clients;
+#[cfg(test)]
 mod files_and_words;
 #[cfg(test)]
 mod lines;
 #[cfg(test)]
 mod names;
 #[cfg(test)]
+mod nets;
+#[cfg(test)]
 mod nodes;
+#[cfg(test)]
+mod peers;
+#[cfg(test)]
+mod refusals;
+#[cfg(test)]
+mod relays;
+#[cfg(test)]
+mod runs;
 #[cfg(test)]
 mod sockets;
 #[cfg(test)]

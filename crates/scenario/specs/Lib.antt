@@ -9,6 +9,5 @@ pub mod NodeTables
 pub mod Filling
 pub mod EventLists
 pub mod Scenario
-pub mod Built
 pub mod Answers
 pub mod Told

@@ -20,7 +20,7 @@
 //!
 //! | module | holds | stated in |
 //! |---|---|---|
-//! | `reader` | `Scenario`, `read` | `specs/Scenario.antt`, `Built.antt` |
+//! | `reader` | `Scenario`, `read` | `specs/Scenario.antt` |
 //! | `scenario_fault`, `refusal_line` | `ScenarioFault`, and its line | `specs/Refusals.antt` |
 //! | `path`, `place` | the path of a key | `specs/Paths.antt` |
 //! | `row` | what a table has at a key | `specs/Keys.antt` |

@@ -1,12 +1,11 @@
 //! The scenario that a text is, or its first refusal.
-ghost use Rattle.std.specs.Prelude.{◌≡◌, ◌≢◌, ◌≤◌, ◌↔◌, Option, Some, None, true, length, option_map, IfOk, IfErr, ok_or};
+ghost use Rattle.std.specs.Prelude.{◌≡◌, ◌≢◌, ◌≤◌, ◌↔◌, Option, Some, None, length, option_map, IfOk, IfErr, ok_or};
 ghost use Rattle.std.specs.List.{AllByRecursion};
 ghost use Rattle.toml.specs.View.{table_view};
 ghost use Rattle.history.specs.Events.{IsEvent};
 ghost use Rattle.scenario.specs.declared.scenario_fault.ScenarioFault.TheVariants.{NotToml, NoMemory};
 ghost use Rattle.scenario.specs.Scenario.{scenario_in, document_of, written, scenario_of};
 ghost use Rattle.scenario.specs.Answers.{IsReadAs};
-ghost use Rattle.scenario.specs.Built.{has_only_built, HasOnlyBuilt};
 ghost use Rattle.scenario.specs.Told.{told};
 
 use crate::event_lists::{MOST_EVENTS, events_of};
@@ -35,18 +34,6 @@ pub struct Scenario {
     pub seed: u64,
     pub topology: Topology,
     pub events: Events,
-}
-
-impl Scenario {
-    /// Whether it has only servers and NATs, the kinds of nodes that are played so far.
-    pub fn has_only_built(&self) -> bool
-        ensures value { result ≡ has_only_built self.now.topology }
-        ensures fact { result ≡ true → HasOnlyBuilt self.now.topology }
-    {
-        self.topology.clients().is_empty()
-            && self.topology.relays().is_empty()
-            && self.topology.natives().is_empty()
-    }
 }
 
 /// The scenario of a table.

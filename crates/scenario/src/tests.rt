@@ -60,7 +60,6 @@ fn changed(alloc: Global, text: &str, old: &str, new: &str) -> Result<String, Fa
 fn reads_each_kind_of_node(rt: HostRuntime) -> Result<(), Fail> {
     let scenario = read(rt.alloc(), EACH_KIND.as_bytes())?;
     assert_eq!(rt; scenario.seed, 7);
-    assert!(rt; !scenario.has_only_built());
     let ([server], [nat], [a, b]) = (
         scenario.topology.servers(),
         scenario.topology.nats(),

@@ -1,5 +1,5 @@
 -- The words are one command at most.
-use Rattle.std.proofs.Common.{◌≡◌, ℕ, List, Option, Some, None, refl, sym}
+use Rattle.std.proofs.Common.{◌≡◌, ℕ, List, Option, Some, None, refl}
 use Rattle.std.specs.Prelude.{option_map, IfSome}
 use Rattle.teredo_app.specs.declared.command.Command.{Command}
 use Rattle.teredo_app.specs.Command.{Request, AsksFor, IsCommand, request_of}

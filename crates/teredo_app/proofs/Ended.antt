@@ -1,14 +1,16 @@
 -- How `lab` ends, by how its last step ended.
-use Rattle.std.proofs.Common.{◌≡◌, ℕ, List, [], ◌∷◌, Some, None, sym, subst, inl, inr, refl, lit<, arith, ◌∙◌}
+use Rattle.std.proofs.Common.{◌≡◌, ℕ, List, [], ◌∷◌, Ok, Err, sym, subst, inl, inr, refl, lit<, arith}
 use Rattle.td_outside.specs.Causes.{Rose}
 use Rattle.td_outside.specs.Moves.{Gains}
 use Rattle.history.specs.Scenario.{Scenario}
 use Rattle.report.specs.Lines.{record_lines}
+use Rattle.scenario.specs.declared.scenario_fault.ScenarioFault.{ScenarioFault}
+use Rattle.scenario.specs.Refusals.{refusal_line}
 use Rattle.teredo_app.specs.Outside.{SinkTold, AtSource, AtSink}
 use Rattle.teredo_app.specs.SourceText.{TakesAtMost}
 use Rattle.teredo_app.specs.SinkLines.{WritesNothing}
 use Rattle.teredo_app.specs.ScenarioReport.{wire_full, last_line}
-use Rattle.teredo_app.specs.Ends.{LabEnds, Reads, refusal}
+use Rattle.teredo_app.specs.Ends.{LabEnds, Reads}
 use Rattle.teredo_app.specs.Endings.{LineEnds, line_written, line_failed, ReportEnds, report_written, report_filled, report_failed, report_starved, EndsFull}
 use Rattle.teredo_app.proofs.Written.{WritesLines-then, BeginsLines-then}
 
@@ -52,32 +54,32 @@ module _ (i : AtSource) (o : AtSink) (file : List ℕ) (opened : Gains i.opening
   }
 
   -- the text is refused
-  pub refused_ends : (result : ℕ) → Reads i file None → LineEnds o refusal 3 result → LabEnds i o file result
-  refused_ends result reads (line_written is lines) = subst (λ (n : ℕ). LabEnds i o file n) (sym is) (record {
+  pub refused_ends : (result : ℕ) (fault : ScenarioFault) → Reads i file (Err fault) → LineEnds o (refusal_line fault) 3 result → LabEnds i o file result
+  refused_ends result fault reads (line_written is lines) = subst (λ (n : ℕ). LabEnds i o file n) (sym is) (record {
     statuses = (1, lit< tt, refl);
     opened = opened;
     taken = taken;
     done = λ e. absurd (omega arith);
-    refused = λ _. (reads, lines);
+    refused = λ _. (fault, reads, lines);
     unread = λ e. absurd (omega arith);
     unwritten = λ e. absurd (omega arith);
     starved = λ e. absurd (omega arith);
     full = λ e. absurd (omega arith);
   })
-  refused_ends result reads (line_failed is rose lines) = subst (λ (n : ℕ). LabEnds i o file n) (sym is) (record {
+  refused_ends result fault reads (line_failed is rose lines) = subst (λ (n : ℕ). LabEnds i o file n) (sym is) (record {
     statuses = (3, lit< tt, refl);
     opened = opened;
     taken = taken;
     done = λ e. absurd (omega arith);
     refused = λ e. absurd (omega arith);
     unread = λ e. absurd (omega arith);
-    unwritten = λ _. (rose, inr (reads, lines));
+    unwritten = λ _. (rose, inr (fault, reads, lines));
     starved = λ e. absurd (omega arith);
     full = λ e. absurd (omega arith);
   })
 
   -- the text is a scenario
-  pub report_ends : (result : ℕ) (s : Scenario) → Reads i file (Some s) → i.faults.1 ≡ i.faults.0 → ReportEnds o s result → LabEnds i o file result
+  pub report_ends : (result : ℕ) (s : Scenario) → Reads i file (Ok s) → i.faults.1 ≡ i.faults.0 → ReportEnds o s result → LabEnds i o file result
   report_ends result s reads quiet (report_written is lines) = subst (λ (n : ℕ). LabEnds i o file n) (sym is) (record {
     statuses = (0, lit< tt, refl);
     opened = opened;

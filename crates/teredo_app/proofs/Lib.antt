@@ -5,3 +5,4 @@ pub mod Shown
 pub mod Ended
 pub mod Played
 pub mod Sessions
+pub mod Generated

@@ -1,6 +1,6 @@
 -- How a report that is being written goes on.
-use Rattle.std.proofs.Common.{◌≡◌, ℕ, ◌+◌, ◌*◌, ◌≤◌, ◌<◌, Bool, false, true, None, List, [], ◌∷◌, ◌++◌, length, Option, Some, refl, sym, ap, subst, ◌∙◌, arith, length-append}
-use Rattle.std.specs.Prelude.{slice_get, option_map, is_some}
+use Rattle.std.proofs.Common.{◌≡◌, ℕ, ◌+◌, ◌*◌, ◌≤◌, ◌<◌, false, true, None, List, [], ◌∷◌, length, Option, Some, Err, refl, sym, ap, subst, ◌∙◌, arith, length-append}
+use Rattle.std.specs.Prelude.{slice_get, option_map, is_some, IsErrOf}
 use Rattle.std.proofs.lemmas.Option.{slice_get_past}
 use Rattle.std.proofs.lemmas.List.Sums.{count_by-le-length}
 use Rattle.std.proofs.lemmas.Bool.{false≢true}
@@ -12,7 +12,8 @@ use Rattle.history.specs.declared.event.TheConstants.{MOST_ADVANCE}
 use Rattle.history.specs.declared.records.Record.{Record}
 use Rattle.history.specs.declared.turn.Turn.{Turn}
 use Rattle.history.specs.declared.turn.Turn.TheVariants.{More, Last}
-use Rattle.history.specs.declared.turn.Stop.TheVariants.{WireFull}
+use Rattle.history.specs.declared.turn.Stop.{Stop}
+use Rattle.history.specs.declared.turn.Stop.TheVariants.{WireFull, NoMemory}
 use Rattle.history.specs.Events.{IsEvent}
 use Rattle.history.specs.Scenario.{Scenario}
 use Rattle.history.specs.Full.{Full, wire, items_of}
@@ -31,8 +32,8 @@ use Rattle.report.specs.Lines.{record_line, record_lines}
 use Rattle.report.specs.Totals.{sums_of, totals_line, IsSmall}
 use Rattle.teredo_app.specs.Outside.{SinkTold}
 use Rattle.teredo_app.specs.SinkLines.{WritesLines, BeginsLines}
-use Rattle.teredo_app.specs.ScenarioReport.{FillsWire, WritesReport, BeginsReport, some_lines, all_lines}
-use Rattle.teredo_app.specs.Endings.{EndsFull}
+use Rattle.teredo_app.specs.ScenarioReport.{WritesReport, BeginsReport, some_lines, all_lines}
+use Rattle.teredo_app.specs.Endings.{EndsFull, SumsUp, Overfills}
 use Rattle.teredo_app.proofs.Written.{none_written, WritesLines-then, BeginsLines-then, BeginsLines-whole}
 
 -- any event may come next
@@ -272,6 +273,16 @@ wire_filled s a b w sums i e p is stops =
       lines = p.written;
     }
 
+stop_is : (stop : Stop) → IsErrOf {T = Sums} (Err stop) WireFull → stop ≡ WireFull
+stop_is WireFull e = refl
+stop_is NoMemory e = absurd cc
+
+-- the sums break off there
+pub overfilled : (s : Scenario) (a b : SinkTold) (w : WorldState) (sums : Sums) (i : ℕ) (e : Event) → Played s a b w sums i (λ going. IsAgain going e) → slice_get s.events i ≡ Some e → (stop : Stop) → IsErrOf {T = Sums} (Err stop) WireFull → StopsFor w i e stop → Overfills s
+overfilled s a b w sums i e p at stop is stops =
+    let full = wire_filled s a b w sums i e p at (subst (λ (z : Stop). StopsFor w i e z) (stop_is stop is) stops) in
+    (full.history, full.fills)
+
 -- ---- the end
 
 whole : (s : Scenario) (H : List Full) (n : ℕ) → Begun (draws s.seed) s H → place H ≡ n → length s.events ≤ n → IsWhole (draws s.seed) s H
@@ -287,6 +298,10 @@ all_played s a b c w sums n p end line = record {
   legal = whole s p.history n p.begun p.place end;
   lines = WritesLines-then a b c (record_lines s.topology p.history) _ p.written (subst (λ (z : Sums). WritesLines b c (totals_line z ∷ [])) p.summed line);
 }
+
+-- the sums alone
+pub all_summed : (s : Scenario) (a b : SinkTold) (w : WorldState) (sums : Sums) (n : ℕ) → Played s a b w sums n IsFree → length s.events ≤ n → SumsUp s sums
+all_summed s a b w sums n p end = (p.history, whole s p.history n p.begun p.place end, p.summed)
 
 pub totals_broken : (s : Scenario) (a b c : SinkTold) (w : WorldState) (sums : Sums) (n : ℕ) → Played s a b w sums n IsFree → length s.events ≤ n → BeginsLines b c (totals_line sums ∷ []) → BeginsReport s a c
 totals_broken s a b c w sums n p end line =

@@ -1,5 +1,5 @@
 -- What the turns of a server at a link come to.
-use Rattle.std.proofs.Common.{◌≡◌, ℕ, ◌+◌, not, List, [], ◌∷◌, Option, Some, None, Result, Ok, Err, refl, sym, ap, subst, ◌∙◌, arith}
+use Rattle.std.proofs.Common.{◌≡◌, ℕ, ◌+◌, not, List, [], ◌∷◌, Option, Result, Ok, Err, refl, sym, ap, subst, ◌∙◌, arith}
 use Rattle.std.proofs.lemmas.List.Sums.{count_by-le-length}
 use Rattle.td_outside.specs.declared.link.Addresses.{Addresses}
 use Rattle.td_outside.specs.Link.{Came, Attempt, Told, KeepsTold, open_on}

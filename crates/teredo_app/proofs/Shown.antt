@@ -1,5 +1,5 @@
 -- How `show` ends, by what was on its page.
-use Rattle.std.proofs.Common.{◌≡◌, ◌⊎◌, ℕ, List, sym, subst, inl, inr, refl, lit<, arith}
+use Rattle.std.proofs.Common.{◌⊎◌, ℕ, List, sym, subst, inl, inr, refl, lit<, arith}
 use Rattle.show.specs.Shown.{ShowsPayload, ShowsNoText, ShowsFault}
 use Rattle.teredo_app.specs.Outside.{AtSink}
 use Rattle.teredo_app.specs.Ends.{ShowEnds}

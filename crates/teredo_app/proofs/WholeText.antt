@@ -1,22 +1,22 @@
 -- What was read of a text, and the whole text.
-use Rattle.std.proofs.Common.{◌≡◌, ℕ, ◌<◌, ◌≤◌, true, nat_lt, List, length, Option, Some, None, refl, sym, ap, ◌∙◌, inl, inr, arith, length-append}
+use Rattle.std.proofs.Common.{◌≡◌, ℕ, ◌<◌, ◌≤◌, true, nat_lt, List, length, Option, Some, None, Err, refl, sym, ap, ◌∙◌, inl, inr, arith, length-append}
 use Rattle.std.proofs.lemmas.Bool.{cases_lt}
 use Rattle.std.proofs.lemmas.Bool.Decides.{nat_tests}
 use Rattle.scenario.specs.Scenario.{scenario_of}
-use Rattle.scenario.specs.Built.{built_scenario_of}
+use Rattle.scenario.specs.declared.scenario_fault.ScenarioFault.TheVariants.{TooLong}
 use Rattle.teredo_app.specs.SourceText.{IsTextOf, IsFrontOf}
 use Rattle.teredo_app.specs.Ends.{IsNamedText}
 
--- a text above the limit is no scenario
-too_long : (text : List ℕ) → 4194304 < length text → built_scenario_of text ≡ None
+-- a text above the limit is refused as such
+too_long : (text : List ℕ) → 4194304 < length text → scenario_of text ≡ Err TooLong
 unfolding scenario_of
 too_long text long = let yes : nat_lt 4194304 (length text) ≡ true = grind (arith, nat_tests) in rw yes refl
 
 longer : (bytes text : List ℕ) → IsFrontOf bytes 4194305 text → 4194305 ≤ length text → 4194304 < length bytes
 longer bytes text f long = let (rest, is) = f.front in omega (arith, ap length is, length-append text rest)
 
--- what was read is the same scenario, or none, as the whole text
-pub whole_text : (told : Option (List ℕ)) (text : List ℕ) → IsTextOf told 4194305 text → (whole : List ℕ) × IsNamedText told whole × (built_scenario_of whole ≡ built_scenario_of text)
+-- what was read is the same scenario as the whole text, or has the same first refusal
+pub whole_text : (told : Option (List ℕ)) (text : List ℕ) → IsTextOf told 4194305 text → (whole : List ℕ) × IsNamedText told whole × (scenario_of whole ≡ scenario_of text)
 whole_text None text r = (text, tt, refl)
 whole_text (Some bytes) text r =
     elim (cases_lt (length text) 4194305) [

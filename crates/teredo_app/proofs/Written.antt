@@ -1,11 +1,11 @@
 -- What a sink tells after several lines.
-use Rattle.std.proofs.Common.{◌≡◌, ℕ, ◌+◌, ◌-◌, ◌<◌, ◌≤◌, Result, Ok, Err, List, [], ◌∷◌, ◌++◌, take, drop, length, Option, Some, None, refl, sym, ap, subst, ◌∙◌, append_assoc, append-nil, arith}
+use Rattle.std.proofs.Common.{◌≡◌, ℕ, ◌+◌, ◌-◌, ◌<◌, ◌≤◌, Result, Ok, Err, List, [], ◌∷◌, ◌++◌, take, drop, length, Option, Some, None, refl, sym, ap, subst, ◌∙◌, append_assoc, append-nil, lit<, arith}
 use Rattle.std.proofs.lemmas.List.{length-drop}
 use Rattle.std.proofs.Math.Seq.{take-add, take-append-add, take-length}
 use Rattle.report.specs.Lines.{lines_text}
 use Rattle.std.specs.Prelude.{OnErr}
 use Rattle.std.specs.Io.KnownBytes.{Appends, Keeps}
-use Rattle.td_outside.specs.Moves.{GainsAll, Gains, Stays}
+use Rattle.td_outside.specs.Moves.{GainsAll, Gains}
 use Rattle.td_outside.specs.MoveLaws.{Stays-refl, GainsAll-nil, GainsAll-append}
 use Rattle.teredo_app.specs.Outside.{SinkTold}
 use Rattle.teredo_app.specs.SinkLines.{HandsFrom, HandsLine, HandsLines, HandsOver, WritesLines, BeginsLines, WritesNothing}
@@ -165,6 +165,19 @@ BeginsLines-whole a b xs p = record {
   all = sym (append-nil xs);
   pieces = p.pieces;
 }
+
+-- ---- a sink that tells nothing
+
+abbrev pub untold : SinkTold
+untold = record { held = None; pieces = None }
+
+one_piece : (line : List ℕ) → (pieces : List (List ℕ)) × HandsLine line pieces
+one_piece [] = ([], refl)
+one_piece (x ∷ xs) = ((x ∷ xs) ∷ [], (omega arith, refl, 1, lit< tt, tt))
+
+-- any line may have been written to it
+pub untold_line : (line : List ℕ) → WritesLines untold untold (line ∷ [])
+untold_line line = let (pieces, hands) = one_piece line in record { bytes = tt; pieces = (pieces, tt, one_line line pieces hands) }
 
 -- ---- how a call ended
 

@@ -1,21 +1,25 @@
 -- The words of the command line, and the command that they are.
 use Rattle.std.specs.Prelude.{◌≡◌, ℕ, List, [], ◌∷◌, codes, Option, Some, None}
 use Rattle.teredo_app.specs.declared.command.Command.{Command}
-use Rattle.teredo_app.specs.declared.command.Command.TheVariants.{Lab, Serve, Show}
+use Rattle.teredo_app.specs.declared.command.Command.TheVariants.{Lab, Serve, Show, Gen}
 use Rattle.teredo_app.specs.declared.serve_words.ServeWords.{ServeWords}
 use Rattle.teredo_app.specs.ServeWords.{Asks}
+use Rattle.teredo_app.specs.declared.gen_words.GenWords.{GenWords}
+use Rattle.teredo_app.specs.GenWords.{AsksToGenerate}
 
 -- what the words of the command line ask for
 pub data Request : Type 0 where
   lab : (file : List ℕ) → Request
   serve : (words : ServeWords) → Request
   show : (word : List ℕ) → Request
+  gen : (words : GenWords) → Request
 
 -- the words ask for this: each has one spelling
 abbrev pub AsksFor : List (List ℕ) → Request → Type 0
 AsksFor words (lab file) = words ≡ codes "lab" ∷ file ∷ []
 AsksFor words (serve asked) = Asks words asked
 AsksFor words (show word) = words ≡ codes "show" ∷ word ∷ []
+AsksFor words (gen asked) = AsksToGenerate words asked
 
 -- the command that the words are, or that they are none
 abbrev pub IsCommand : List (List ℕ) → Option Request → Type 0
@@ -27,3 +31,4 @@ abbrev pub request_of : Command → Request
 request_of (Lab file) = lab file.now
 request_of (Serve words) = serve words
 request_of (Show word) = show word.now
+request_of (Gen words) = gen words

@@ -3,7 +3,10 @@ use Rattle.std.specs.Prelude.{◌≡◌, ℕ, List, [], ◌∷◌}
 use Rattle.td_outside.specs.Causes.{Rose}
 use Rattle.history.specs.Scenario.{Scenario}
 use Rattle.history.specs.Full.{Full}
+use Rattle.legal.specs.Legal.{Legal}
+use Rattle.report.specs.declared.totals.Sums.{Sums}
 use Rattle.report.specs.Lines.{record_lines}
+use Rattle.report.specs.Totals.{sums_of}
 use Rattle.teredo_app.specs.declared.statuses.TheConstants.{DONE, UNWRITABLE, NO_MEMORY, WIRE_FULL}
 use Rattle.teredo_app.specs.Outside.{SinkTold, AtSink}
 use Rattle.teredo_app.specs.SinkLines.{WritesLines, BeginsLines}
@@ -26,3 +29,11 @@ pub record EndsFull (s : Scenario) (old new : SinkTold) : Type 0 where
   pub history : List Full
   pub fills : FillsWire s history
   pub lines : WritesLines old new (record_lines s.topology history)
+
+-- The sums are those of the scenario's one legal history.
+abbrev pub SumsUp : Scenario → Sums → Type 0
+SumsUp s sums = (history : List Full) × Legal history s × (sums ≡ sums_of history)
+
+-- The next record of the scenario would make too long a wire.
+abbrev pub Overfills : Scenario → Type 0
+Overfills s = (history : List Full) × FillsWire s history

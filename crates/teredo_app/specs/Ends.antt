@@ -1,22 +1,25 @@
 -- How the program may end, and what it has then done.
-use Rattle.std.specs.Prelude.{◌≡◌, ℕ, List, [], ◌∷◌, ◌++◌, ◌⊎◌, codes, Contains, Option, Some, None, IfSome}
+use Rattle.std.specs.Prelude.{◌≡◌, ℕ, List, [], ◌∷◌, ◌⊎◌, codes, Contains, Option, Some, None, IfSome, Result, Ok, Err}
 use Rattle.td_outside.specs.Causes.{Rose}
 use Rattle.td_outside.specs.Moves.{Gains}
 use Rattle.history.specs.Scenario.{Scenario}
-use Rattle.scenario.specs.Built.{built_scenario_of}
+use Rattle.history.specs.Full.{Full}
+use Rattle.legal.specs.Legal.{Legal}
+use Rattle.report.specs.Totals.{totals}
+use Rattle.scenario.specs.declared.scenario_fault.ScenarioFault.{ScenarioFault}
+use Rattle.scenario.specs.Scenario.{scenario_of}
+use Rattle.scenario.specs.Refusals.{refusal_line}
+use Rattle.generator.specs.Generated.{generated}
 use Rattle.show.specs.Shown.{ShowsPayload, ShowsNoText, ShowsFault}
 use Rattle.teredo_app.specs.declared.statuses.TheConstants.{DONE, BAD_PAYLOAD, BAD_WORDS, BAD_SCENARIO, UNREADABLE, UNWRITABLE, NO_MEMORY, WIRE_FULL}
 use Rattle.teredo_app.specs.declared.source_text.TheConstants.{TEXT_READ_MAX}
 use Rattle.teredo_app.specs.Outside.{AtSource, AtSink, Network, NoFault}
 use Rattle.teredo_app.specs.SourceText.{TakesAtMost}
 use Rattle.teredo_app.specs.SinkLines.{WritesLines, BeginsLines, WritesNothing}
-use Rattle.teredo_app.specs.ScenarioReport.{WritesReport, WritesFull, BeginsReport}
+use Rattle.teredo_app.specs.ScenarioReport.{FillsWire, WritesReport, WritesFull, BeginsReport, wire_full}
 use Rattle.teredo_app.specs.Session.{ServeEnds}
-use Rattle.teredo_app.specs.Command.{Request, lab, serve, show}
-
--- the line of a text that is refused
-abbrev pub refusal : List ℕ
-refusal = codes "scenario: unbuilt\n"
+use Rattle.teredo_app.specs.Command.{Request, lab, serve, show, gen}
+use Rattle.teredo_app.specs.declared.gen_words.GenWords.{GenWords}
 
 -- the line of words that are no command
 abbrev pub bad_words : List ℕ
@@ -26,14 +29,15 @@ bad_words = codes "words\n"
 abbrev pub IsNamedText : Option (List ℕ) → List ℕ → Type 0
 IsNamedText told text = IfSome told (λ bytes. text ≡ bytes)
 
--- The text of the file is this scenario of servers and NATs, or isn't one.
-abbrev pub Reads : AtSource → List ℕ → Option Scenario → Type 0
-Reads i file s = (text : List ℕ) × IsNamedText (i.stands_for file) text × (built_scenario_of text ≡ s)
+-- The text of the file is this scenario, or this is its first refusal.
+abbrev pub Reads : AtSource → List ℕ → Result Scenario ScenarioFault → Type 0
+Reads i file answer = (text : List ℕ) × IsNamedText (i.stands_for file) text × (scenario_of text ≡ answer)
 
 -- what a sink that failed was to hold
 abbrev pub LabBegins : AtSource → AtSink → List ℕ → Type 0
 LabBegins i o file =
-    ((s : Scenario) × Reads i file (Some s) × BeginsReport s o.told.0 o.told.1) ⊎ (Reads i file None × BeginsLines o.told.0 o.told.1 (refusal ∷ []))
+    ((s : Scenario) × Reads i file (Ok s) × BeginsReport s o.told.0 o.told.1)
+    ⊎ ((fault : ScenarioFault) × Reads i file (Err fault) × BeginsLines o.told.0 o.told.1 (refusal_line fault ∷ []))
 
 -- How `lab FILE` ends: for each status its cause, and what was written.
 pub record LabEnds (i : AtSource) (o : AtSink) (file : List ℕ) (status : ℕ) : Type 0 where
@@ -42,18 +46,18 @@ pub record LabEnds (i : AtSource) (o : AtSink) (file : List ℕ) (status : ℕ) 
   pub opened : Gains i.openings.0 i.openings.1 file
   pub taken : TakesAtMost TEXT_READ_MAX i.taken.0 i.taken.1
   -- the text is a scenario, and its report was written
-  pub done : status ≡ DONE → (s : Scenario) × Reads i file (Some s) × WritesReport s o.told.0 o.told.1
-  -- the text is no scenario, and the line that says so was written
-  pub refused : status ≡ BAD_SCENARIO → Reads i file None × WritesLines o.told.0 o.told.1 (refusal ∷ [])
+  pub done : status ≡ DONE → (s : Scenario) × Reads i file (Ok s) × WritesReport s o.told.0 o.told.1
+  -- the text is refused, and the line of its first refusal was written
+  pub refused : status ≡ BAD_SCENARIO → (fault : ScenarioFault) × Reads i file (Err fault) × WritesLines o.told.0 o.told.1 (refusal_line fault ∷ [])
   -- the source failed, and nothing was written
   pub unread : status ≡ UNREADABLE → Rose i.faults.0 i.faults.1 × WritesNothing o.told.0 o.told.1
   -- the sink failed, and a front was written of what was to be written
   pub unwritten : status ≡ UNWRITABLE → Rose o.faults.0 o.faults.1 × LabBegins i o file
   -- memory ran out, nothing failed, and nothing was written or a front of the report
   pub starved : status ≡ NO_MEMORY → NoFault i o
-      × (WritesNothing o.told.0 o.told.1 ⊎ ((s : Scenario) × Reads i file (Some s) × BeginsReport s o.told.0 o.told.1))
+      × (WritesNothing o.told.0 o.told.1 ⊎ ((s : Scenario) × Reads i file (Ok s) × BeginsReport s o.told.0 o.told.1))
   -- the next record would make too long a wire; the lines of those before it were written, and the line that says so
-  pub full : status ≡ WIRE_FULL → (s : Scenario) × Reads i file (Some s) × WritesFull s o.told.0 o.told.1
+  pub full : status ≡ WIRE_FULL → (s : Scenario) × Reads i file (Ok s) × WritesFull s o.told.0 o.told.1
 
 -- How `show HEX` ends: the page of the payload was written, or the line of its first fault. It never wants memory.
 pub record ShowEnds (o : AtSink) (word : List ℕ) (status : ℕ) : Type 0 where
@@ -62,6 +66,28 @@ pub record ShowEnds (o : AtSink) (word : List ℕ) (status : ℕ) : Type 0 where
   pub refused : status ≡ BAD_PAYLOAD → (line : List ℕ) × (ShowsNoText word line ⊎ ShowsFault word line) × WritesLines o.told.0 o.told.1 (line ∷ [])
   pub unwritten : status ≡ UNWRITABLE → Rose o.faults.0 o.faults.1
       × ((page : List ℕ) × (ShowsPayload word page ⊎ (ShowsNoText word page ⊎ ShowsFault word page)) × BeginsLines o.told.0 o.told.1 (page ∷ []))
+
+-- the scenario that is asked for
+abbrev pub asked_for : GenWords → Scenario
+asked_for asked = generated asked.seed asked.count
+
+-- what a sink that failed was to hold: the totals of the one legal history, or the line that the wire is full
+abbrev pub GenBegins : AtSink → GenWords → Type 0
+GenBegins o asked =
+    ((history : List Full) × Legal history (asked_for asked) × BeginsLines o.told.0 o.told.1 (totals history ∷ []))
+    ⊎ ((history : List Full) × FillsWire (asked_for asked) history × BeginsLines o.told.0 o.told.1 (wire_full ∷ []))
+
+-- How `gen SEED COUNT` ends: for each status its cause, and what was written.
+pub record GenEnds (o : AtSink) (asked : GenWords) (status : ℕ) : Type 0 where
+  pub statuses : Contains (DONE ∷ UNWRITABLE ∷ NO_MEMORY ∷ WIRE_FULL ∷ []) status
+  -- the totals of the scenario's one legal history were written, and no other line
+  pub done : status ≡ DONE → (history : List Full) × Legal history (asked_for asked) × WritesLines o.told.0 o.told.1 (totals history ∷ [])
+  -- the sink failed, and a front was written of what was to be written
+  pub unwritten : status ≡ UNWRITABLE → Rose o.faults.0 o.faults.1 × GenBegins o asked
+  -- memory ran out, nothing failed, and nothing was written
+  pub starved : status ≡ NO_MEMORY → (o.faults.1 ≡ o.faults.0) × WritesNothing o.told.0 o.told.1
+  -- the next record would make too long a wire, and the line that says so was written, and no other
+  pub full : status ≡ WIRE_FULL → (history : List Full) × FillsWire (asked_for asked) history × WritesLines o.told.0 o.told.1 (wire_full ∷ [])
 
 -- How it ends where the words are no command.
 pub record WordsEnd (o : AtSink) (status : ℕ) : Type 0 where
@@ -75,4 +101,5 @@ abbrev pub RunEnds : AtSource → AtSink → Network → Option Request → ℕ 
 RunEnds i o n (Some (lab file)) status = LabEnds i o file status × n.kept
 RunEnds i o n (Some (serve asked)) status = ServeEnds o n asked status × i.kept
 RunEnds i o n (Some (show word)) status = ShowEnds o word status × i.kept × n.kept
+RunEnds i o n (Some (gen asked)) status = GenEnds o asked status × i.kept × n.kept
 RunEnds i o n None status = WordsEnd o status × i.kept × n.kept

@@ -2,6 +2,7 @@ pub mod Outside
 pub mod SourceText
 pub mod SinkLines
 pub mod ServeWords
+pub mod GenWords
 pub mod Command
 pub mod ScenarioReport
 pub mod ServeLine

@@ -1,5 +1,5 @@
 -- The report of a scenario, whole or in part.
-use Rattle.std.specs.Prelude.{◌≡◌, ℕ, ◌<◌, List, [], ◌∷◌, ◌++◌, length, codes, Option, Some}
+use Rattle.std.specs.Prelude.{◌≡◌, ℕ, ◌<◌, List, [], ◌∷◌, ◌++◌, length, codes, Some}
 use Rattle.history.specs.Scenario.{Scenario}
 use Rattle.history.specs.Full.{Full, wire}
 use Rattle.world.specs.declared.wire.TheConstants.{MOST_ENTRIES}

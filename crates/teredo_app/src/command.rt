@@ -2,6 +2,7 @@
 ghost use Rattle.std.specs.Prelude.{◌≡◌, ◌≤◌, List, [], ◌∷◌, Option, Some, map, option_map, IfSome, string_bytes};
 ghost use Rattle.teredo_app.specs.Command.{Request, AsksFor, request_of};
 
+use crate::gen_words::{GenWords, gen_words};
 use crate::serve_words::{ServeWords, serve_words};
 
 /// What the program is asked to do.
@@ -13,6 +14,8 @@ pub enum Command<'a> {
     Serve(ServeWords),
     /// Shows the datagram that a word spells.
     Show { word: &'a str },
+    /// Plays a generated scenario and writes its totals.
+    Gen(GenWords),
 }
 
 /// The command of two words.
@@ -25,6 +28,18 @@ fn with_word<'a>(command: &str, word: &'a str) -> Option<Command<'a>>
     }
     if command == "show" {
         return Some(Command::Show { word });
+    }
+    None
+}
+
+/// The command of three words.
+fn with_numbers<'a>(command: &str, seed: &str, count: &str) -> Option<Command<'a>>
+    ensures found { IfSome result (λ c. AsksFor (command.now ∷ seed.now ∷ count.now ∷ []) (request_of c)) }
+    ensures only { (asked : Request) → AsksFor (command.now ∷ seed.now ∷ count.now ∷ []) asked → option_map request_of result ≡ Some asked }
+{
+    if command == "gen" {
+        let asked = gen_words(seed, count)?;
+        return Some(Command::Gen(asked));
     }
     None
 }
@@ -54,6 +69,7 @@ pub fn command_of(words: &[String]) -> Option<Command<'_>>
 {
     match words {
         [command, word] => with_word(command.as_str(), word.as_str()),
+        [command, seed, count] => with_numbers(command.as_str(), seed.as_str(), count.as_str()),
         [command, primary, secondary, count, idles] => with_addresses(
             command.as_str(),
             primary.as_str(),

@@ -5,9 +5,9 @@
 //!
 //! - The words are one command or none, and `run` ends by it, with the status of `docs/SCENARIOS.md` and what that
 //!   status says it has written. On `lab FILE` that is the report of the one legal history of the scenario, or one line
-//!   that refuses its text; on `show HEX` the page of the payload, or one line that names its first fault; on
-//!   `serve IP1 IP2 COUNT IDLES` the line of the totals, after a server at these addresses answered each arrival by its
-//!   table.
+//!   of its text's first refusal; on `show HEX` the page of the payload, or one line that names its first fault; on
+//!   `gen SEED COUNT` the totals line of the generated scenario; on `serve IP1 IP2 COUNT IDLES` the line of the totals,
+//!   after a server at these addresses answered each arrival by its table.
 //! - `lab` opens its file alone, once, and reads no more of it than the longest text and one byte; `serve` opens the
 //!   link on its two addresses alone. Each line begins a piece of its own. Only `lab` touches the source, and only
 //!   `serve` the link and the clock.
@@ -25,13 +25,17 @@
 //! | `serve_words` | the words of `serve` | `specs/ServeWords.antt` |
 //! | `source_text` | the text of a file | `specs/SourceText.antt` |
 //! | `sink_lines` | lines that are written to a sink | `specs/SinkLines.antt` |
+//! | `gen_words` | the words of `gen` | `specs/GenWords.antt` |
 //! | `scenario_report` | a scenario is played and reported | `specs/ScenarioReport.antt` |
+//! | `generated_totals` | a scenario is played for its sums alone | `specs/Endings.antt` |
 //! | `session` | a server at a link | `specs/Session.antt` |
 //! | `serve_line` | the line that `serve` ends with | `specs/ServeLine.antt` |
 //! | `program` | `run` | `specs/Ends.antt`, over `specs/Outside.antt` |
 #![tactic(auto)]
 
 mod command;
+mod gen_words;
+mod generated_totals;
 mod program;
 mod scenario_report;
 mod serve_line;
@@ -42,6 +46,7 @@ mod source_text;
 mod statuses;
 
 pub use command::Command;
+pub use gen_words::{GenWords, SEED_MAX};
 pub use program::run;
 pub use serve_words::ServeWords;
 pub use source_text::TEXT_READ_MAX;

@@ -1,15 +1,17 @@
 //! The program: a command is carried out, and its status is the answer.
-ghost use Rattle.std.specs.Prelude.{◌≡◌, ◌≤◌, Option, map, string_bytes, length, option_map, IfOk, IfSome};
+ghost use Rattle.std.specs.Prelude.{◌≡◌, ◌≤◌, Option, map, string_bytes, length};
 ghost use Rattle.std.specs.List.{AllByRecursion};
 ghost use Rattle.history.specs.Events.{IsEvent};
-ghost use Rattle.scenario.specs.Built.{HasOnlyBuilt, built_scenario_of};
 ghost use Rattle.scenario.specs.Told.{told};
 ghost use Rattle.teredo_app.specs.Command.{Request, IsCommand};
-ghost use Rattle.teredo_app.specs.Ends.{LabEnds, ShowEnds, RunEnds};
+ghost use Rattle.teredo_app.specs.Ends.{LabEnds, ShowEnds, GenEnds, RunEnds};
 ghost use Rattle.teredo_app.specs.Session.{ServeEnds};
 ghost use Rattle.teredo_app.specs.Endings.{ReportEnds};
+ghost use Rattle.generator.specs.declared.generated.TheConstants.{EVENTS_MAX};
 
 use crate::command::{Command, command_of};
+use crate::gen_words::GenWords;
+use crate::generated_totals::{generated_scenario, sums_of};
 use crate::scenario_report::{ReportFault, write_report};
 use crate::serve_line::put_serve_line;
 use crate::serve_words::ServeWords;
@@ -20,17 +22,19 @@ use crate::statuses::{
     BAD_PAYLOAD, BAD_SCENARIO, BAD_WORDS, DONE, NO_LINK, NO_MEMORY, UNREADABLE, UNWRITABLE,
     WIRE_FULL,
 };
-use scenario::{MOST_EVENTS, Scenario, ScenarioFault, read};
+use generator::EVENTS_MAX;
+use history::Stop;
+use report::summary;
+use scenario::{MOST_EVENTS, Scenario, ScenarioFault, put_refusal_line, read};
 use show::{Page, explain};
 use std::alloc::Global;
-use td_base::{LineBuf, NoMemory};
+use td_base::LineBuf;
 use td_outside::{Clock, Link, Sink, Source};
 use teredo_node::TURNS_MAX;
 
 /// Writes the report of a scenario, and answers the status.
 fn report_on<K: Sink>(alloc: Global, s: &Scenario, out: &mut K) -> u8
     requires few { length s.now.events ≤ MOST_EVENTS }
-    requires built { HasOnlyBuilt s.now.topology }
     requires legal { AllByRecursion (IsEvent s.now.topology) s.now.events }
     ensures { ReportEnds (record {
       told = (record { held = K.holds out.old; pieces = K.pieces out.old }, record { held = K.holds out.new; pieces = K.pieces out.new });
@@ -42,25 +46,6 @@ fn report_on<K: Sink>(alloc: Global, s: &Scenario, out: &mut K) -> u8
         Err(ReportFault::Failed) => UNWRITABLE,
         Err(ReportFault::NoMemory) => NO_MEMORY,
         Err(ReportFault::WireFull) => end_with(out, b"wire full\n", WIRE_FULL),
-    }
-}
-
-/// The scenario that a text is, where it has only the kinds of nodes that are played so far.
-fn read_built(alloc: Global, text: &[u8]) -> Result<Option<Scenario>, NoMemory>
-    ensures value { IfOk result (λ o. built_scenario_of text.now ≡ option_map told o) }
-    ensures built { IfOk result (λ o. IfSome o (λ s. HasOnlyBuilt s.topology)) }
-    ensures few { IfOk result (λ o. IfSome o (λ s. length s.events ≤ MOST_EVENTS)) }
-    ensures legal { IfOk result (λ o. IfSome o (λ s. AllByRecursion (IsEvent s.topology) s.events)) }
-{
-    match read(alloc, text) {
-        Ok(scenario) => {
-            if !scenario.has_only_built() {
-                return Ok(None);
-            }
-            Ok(Some(scenario))
-        }
-        Err(ScenarioFault::NoMemory) => Err(NoMemory),
-        Err(_) => Ok(None),
     }
 }
 
@@ -82,12 +67,14 @@ fn lab<S: Source, K: Sink>(alloc: Global, file: &str, src: &mut S, out: &mut K) 
         Err(ReadFault::Failed) => return UNREADABLE,
         Err(ReadFault::NoMemory) => return NO_MEMORY,
     };
-    let Ok(scenario) = read_built(alloc, &text) else {
-        return NO_MEMORY;
-    };
-    match scenario {
-        Some(s) => report_on(alloc, &s, out),
-        None => end_with(out, b"scenario: unbuilt\n", BAD_SCENARIO),
+    match read(alloc, &text) {
+        Ok(s) => report_on(alloc, &s, out),
+        Err(ScenarioFault::NoMemory) => NO_MEMORY,
+        Err(fault) => {
+            let mut line = LineBuf::new();
+            put_refusal_line(&fault, &mut line);
+            end_with(out, line.as_slice(), BAD_SCENARIO)
+        }
     }
 }
 
@@ -135,6 +122,28 @@ fn serve<K: Sink, L: Link, C: Clock>(
     end_with(out, line.as_slice(), DONE)
 }
 
+/// The command `gen SEED COUNT`.
+fn play_generated<K: Sink>(alloc: Global, asked: &GenWords, out: &mut K) -> u8
+    requires { asked.now.count ≤ EVENTS_MAX }
+    ensures { GenEnds (record {
+      told = (record { held = K.holds out.old; pieces = K.pieces out.old }, record { held = K.holds out.new; pieces = K.pieces out.new });
+      faults = (K.faults out.old, K.faults out.new);
+    }) asked.now result }
+{
+    let Ok(s) = generated_scenario(alloc, asked.seed, asked.count) else {
+        return NO_MEMORY;
+    };
+    match sums_of(alloc, &s) {
+        Ok(sums) => {
+            let mut line = LineBuf::new();
+            summary(&sums, &mut line);
+            end_with(out, line.as_slice(), DONE)
+        }
+        Err(Stop::WireFull) => end_with(out, b"wire full\n", WIRE_FULL),
+        Err(Stop::NoMemory) => NO_MEMORY,
+    }
+}
+
 /// Does what the words of the command line ask for, and answers the program's status.
 pub fn run<S: Source, K: Sink, L: Link, C: Clock>(
     alloc: Global,
@@ -170,5 +179,6 @@ pub fn run<S: Source, K: Sink, L: Link, C: Clock>(
         Command::Lab { file } => lab(alloc, file, src, out),
         Command::Serve(asked) => serve(&asked, out, link, clock),
         Command::Show { word } => show(word, out),
+        Command::Gen(asked) => play_generated(alloc, &asked, out),
     }
 }

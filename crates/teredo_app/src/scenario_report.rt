@@ -5,7 +5,6 @@ ghost use Rattle.td_outside.specs.Causes.{HasCause, Rose};
 ghost use Rattle.history.specs.Events.{IsEvent};
 ghost use Rattle.report.specs.Lines.{record_line};
 ghost use Rattle.report.specs.Totals.{totals_line};
-ghost use Rattle.scenario.specs.Built.{HasOnlyBuilt};
 ghost use Rattle.scenario.specs.Told.{told};
 ghost use Rattle.world.specs.World.{record_in, is_more};
 ghost use Rattle.teredo_app.specs.SinkLines.{WritesLines, BeginsLines};
@@ -57,7 +56,7 @@ fn write_totals<K: Sink>(sums: &Sums, buf: &mut LineBuf, out: &mut K) -> Result<
 }
 
 /// The record of a turn.
-fn record_in(turn: &Turn) -> &Record
+pub fn record_in(turn: &Turn) -> &Record
     ensures { result.now ≡ record_in turn.now }
 {
     match turn {
@@ -67,7 +66,7 @@ fn record_in(turn: &Turn) -> &Record
 }
 
 /// Whether the event of a turn has further records.
-fn is_more(turn: &Turn) -> bool
+pub fn is_more(turn: &Turn) -> bool
     ensures { result ≡ is_more turn.now }
 {
     match turn {
@@ -79,7 +78,6 @@ fn is_more(turn: &Turn) -> bool
 /// Plays the scenario, and writes its report, each line as soon as its record is made.
 pub fn write_report<K: Sink>(alloc: Global, s: &Scenario, out: &mut K) -> Result<(), ReportFault>
     requires few { length s.now.events ≤ MOST_EVENTS }
-    requires built { HasOnlyBuilt s.now.topology }
     requires legal { AllByRecursion (IsEvent s.now.topology) s.now.events }
     ensures ok { OnOk result (WritesReport (told s.now) (record { held = K.holds out.old; pieces = K.pieces out.old }) (record { held = K.holds out.new; pieces = K.pieces out.new })) }
     ensures err { OnErr result (BeginsReport (told s.now) (record { held = K.holds out.old; pieces = K.pieces out.old }) (record { held = K.holds out.new; pieces = K.pieces out.new })) }

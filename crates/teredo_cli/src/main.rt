@@ -28,7 +28,9 @@ fn words_of(rt: &HostRuntime) -> io::Result<Vec<String>> {
 /// What a status means and what to look at, where nothing on standard output says so.
 fn hint_at(status: u8) -> Option<&'static str> {
     match status {
-        BAD_WORDS => Some("the words are `lab FILE`, `show HEX` or `serve IP1 IP2 COUNT IDLES`"),
+        BAD_WORDS => Some(
+            "the words are `lab FILE`, `show HEX`, `gen SEED COUNT` or `serve IP1 IP2 COUNT IDLES`",
+        ),
         UNREADABLE => Some("the file could not be read: look at its name and its permissions"),
         UNWRITABLE => Some("standard output could not be written: is it closed, or full?"),
         NO_LINK => Some(
