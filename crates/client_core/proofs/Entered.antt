@@ -1,21 +1,24 @@
 -- One entry more: what a client then stands for.
-use Rattle.std.proofs.Common.{◌≡◌, ◌≤◌, ℕ, Bool, true, false, List, [], ◌∷◌, Some, refl, sym, ap, ◌∙◌, subst}
+use Rattle.std.proofs.Common.{◌≡◌, ◌≤◌, ℕ, Bool, true, false, List, [], ◌∷◌, Some, None, refl, sym, ap, ◌∙◌, subst}
 use Rattle.std.specs.Prelude.{if◌then◌else◌}
 use Rattle.std.proofs.Math.Nat.{le_refl}
 use Rattle.td_base.specs.declared.ipv6.Ip6.{Ip6}
-use Rattle.teredo_node.specs.Journal.{Entry, Journal, with_entry, is_changed}
+use Rattle.teredo_node.specs.declared.fate.Fate.TheVariants as fate
+use Rattle.teredo_node.specs.Step.{just}
+use Rattle.teredo_node.specs.Journal.{Entry, Journal, from_six, with_entry, is_changed}
 use Rattle.peer_list.specs.Mentions.{Mention}
 use Rattle.peer_list.specs.Laws.{after}
 use Rattle.peer_list.specs.Table.{Table, known_to}
 use Rattle.peer_list.specs.Calls.{Updates}
-use Rattle.peer_list.specs.Stands.{StandsForMentions, MeansNothing}
+use Rattle.peer_list.specs.Stands.{StandsForMentions, MeansNothing, bears_nothing}
 use Rattle.qualify.specs.Turns.{turn_of, says_nothing}
 use Rattle.qualify.specs.Qualification.{Qualification, qualification}
 use Rattle.qualify.specs.Qualifier.{QualifierState, StandsFor, stands_whole}
 use Rattle.qualify.specs.Generator.{after_words}
 use Rattle.client_core.specs.declared.client.Client.{Client}
 use Rattle.client_rules.specs.Bearings.{mention, mentions}
-use Rattle.client_core.specs.Client.{ClientStandsFor, Enters, KeepsAll, AsBefore}
+use Rattle.client_rules.specs.Journals.{entry}
+use Rattle.client_core.specs.Client.{words_ahead, ClientStandsFor, Enters, Does, KeepsAll, AsBefore}
 use Rattle.client_core.proofs.Below.{next_stands, idle_stands, kept_stands, keeps_still}
 use Rattle.client_rules.proofs.Tried.{next_mentions}
 
@@ -100,6 +103,13 @@ none_enters c e b = record {
   settings = refl;
   clock = b.clock;
 }
+
+-- the entry of a packet of the IPv6 side does
+pub takes_no_six : (c : Client) (n : ℕ) (x : List ℕ) → c.peers.moment ≤ n → Does c n (from_six x) (just fate.Idle) c
+takes_no_six c n x l =
+    let e : Entry = entry n (from_six x) None None (words_ahead c) (just fate.Idle) in
+    let entered = none_enters c e (record { idle = bears_nothing refl; epoch = refl; quiet = refl; clock = l; drawn = refl }) in
+    record { did = λ j h. refl; stands = entered.stands; place = entered.place; settings = refl; clock = l }
 
 -- REFUSALS
 

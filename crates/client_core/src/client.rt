@@ -1,11 +1,11 @@
 //! A client.
-ghost use Rattle.std.specs.Prelude.{◌≡◌, ◌<◌, [], is_some};
+ghost use Rattle.std.specs.Prelude.{◌≡◌, ◌<◌, ℕ, List, [], is_some};
 ghost use Rattle.td_outside.specs.declared.clock.TheConstants.{CLOCK_END_MS};
-ghost use Rattle.teredo_node.specs.Journal.{Journal};
+ghost use Rattle.teredo_node.specs.Journal.{Journal, from_six};
 ghost use Rattle.qualify.specs.Qualification.{qualification};
 ghost use Rattle.qualify.specs.Qualifier.{IsSettings};
 ghost use Rattle.qualify.specs.Solicitations.{is_qualified};
-ghost use Rattle.client_core.specs.Client.{settings_of, ClientStandsFor};
+ghost use Rattle.client_core.specs.Client.{settings_of, ClientStandsFor, IsCallable, Does};
 ghost use Rattle.client_rules.specs.Journals.{journal};
 
 use peer_list::Peers;
@@ -13,6 +13,7 @@ use qualify::{Phase, Qualifier, Settings};
 use rand_chacha::ChaCha20Rng;
 use std::alloc::Global;
 use td_base::{Ip6, Millis};
+use teredo_node::{Fate, Step};
 
 /// A Teredo client. All that it keeps is its qualification, its peers, and the generator of its random words.
 #[derive(Drop)]
@@ -49,6 +50,14 @@ impl Client {
     {
         self.qualifier = Qualifier::start(*self.qualifier.settings(), now);
         self.peers.clear();
+    }
+
+    /// Takes a packet of the IPv6 side: with any such a client does nothing.
+    pub fn on_six(&self, now: Millis, step: &mut Step)
+        requires callable { IsCallable self.now now.0 }
+        ensures done { (bytes : List ℕ) → Does self.now now.0 (from_six bytes) step.new self.now }
+    {
+        step.reset(Fate::Idle);
     }
 
     /// Its address, exactly while it is qualified.

@@ -2,6 +2,7 @@ pub mod Wire
 pub mod WireEntry
 pub mod OneArrival
 pub mod NodeState
+pub mod Changes
 pub mod Way
 pub mod Sends
 pub mod Record
