@@ -28,6 +28,8 @@
 #![tactic(auto)]
 
 mod answer;
+mod call;
+mod emission;
 mod node_state;
 mod one_arrival;
 mod outlet;
