@@ -23,7 +23,8 @@ use Rattle.legal.specs.Next.{next_of, next}
 use Rattle.legal.specs.Legal.{Begun, IsWhole, draws}
 use Rattle.legal.specs.Laws.{EachIsOfItsEvent}
 use Rattle.world.specs.declared.wire.TheConstants.{MOST_ENTRIES}
-use Rattle.world.specs.declared.world.TheConstants.{MOST_LEFT, MOST_MOMENT}
+use Rattle.world.specs.declared.world.TheConstants.{MOST_MOMENT}
+use Rattle.legal.specs.declared.left.TheConstants.{MOST_LEFT}
 use Rattle.world.specs.World.{WorldState, StandsFor, Steps, Falls, IsAgain, EndsInTime, StopsFor, going_after, record_in, is_more}
 use Rattle.report.specs.declared.totals.Sums.{Sums}
 use Rattle.report.specs.Lines.{record_line, record_lines}

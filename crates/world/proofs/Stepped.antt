@@ -7,7 +7,7 @@ use Rattle.history.specs.declared.records.Record.{Record}
 use Rattle.history.specs.declared.turn.Turn.TheVariants.{Last}
 use Rattle.topology.specs.Rows.{TopologyState}
 use Rattle.history.specs.Full.{Full, items_of}
-use Rattle.world.specs.declared.world.TheConstants.{MOST_LEFT}
+use Rattle.legal.specs.declared.left.TheConstants.{MOST_LEFT}
 use Rattle.legal.specs.Past.{Draws, has_more, is_number}
 use Rattle.legal.specs.Next.{next_of}
 use Rattle.legal.specs.Legal.{GoesOn, Grown}

@@ -1,14 +1,5 @@
 -- What contracts see of a world, and how `step` follows the history.
-use Rattle.std.specs.Prelude.{◌≡◌, ℕ, ◌+◌, ◌-◌, ◌<◌, nat_le, max, if◌then◌else◌, Bool, true, false, List, [], ◌∷◌, ◌++◌, length, filter, flat_map, sum_by, get_or, option_to_list, Option, Some, None}
-use Rattle.td_base.specs.declared.ipv6.Ip6.{Ip6}
-use Rattle.peer_list.specs.Mentions.{Mention}
-use Rattle.peer_list.specs.Listed.{listed}
-use Rattle.peer_list.specs.Peers.{Peer, known}
-use Rattle.peer_list.specs.Judged.{is_none, due_of}
-use Rattle.qualify.specs.Qualification.{qualification}
-use Rattle.client_rules.specs.Bearings as client_bearings
-use Rattle.relay_rules.specs.Bearings as relay_bearings
-use Rattle.legal.specs.Settings.{client_settings}
+use Rattle.std.specs.Prelude.{◌≡◌, ℕ, ◌+◌, ◌<◌, Bool, true, false, List, [], ◌∷◌, length, get_or, Option, Some, None}
 use Rattle.history.specs.declared.event.Event.{Event}
 use Rattle.history.specs.declared.event.Event.TheVariants as event
 use Rattle.history.specs.declared.records.Record.{Record}
@@ -19,17 +10,18 @@ use Rattle.history.specs.declared.turn.Stop.TheVariants.{WireFull, NoMemory}
 use Rattle.topology.specs.Rows.{TopologyState}
 use Rattle.topology.specs.declared.node.Node.{Node}
 use Rattle.topology.specs.declared.node.Node.TheVariants.{Server as server, Nat as nat, Client as client, Relay as relay, Native as native}
-use Rattle.topology.specs.Topology.{nodes}
 use Rattle.history.specs.Full.{Item, Full, wire, items_of}
 use Rattle.history.specs.Records.{record_of}
 use Rattle.history.specs.Telling.{IsTold}
 use Rattle.world.specs.declared.wire.TheConstants.{MOST_ENTRIES}
-use Rattle.world.specs.declared.world.TheConstants.{MOST_LEFT, MOST_MOMENT}
+use Rattle.world.specs.declared.world.TheConstants.{MOST_MOMENT}
 use Rattle.teredo_node.specs.declared.fate.Fate.{Fate}
 use Rattle.teredo_node.specs.declared.fate.Fate.TheVariants as fate
-use Rattle.legal.specs.Past.{now, began, has_more, going, journal, was_delivered, Draws}
+use Rattle.legal.specs.Past.{now, began, has_more, going, was_delivered, Draws}
 use Rattle.legal.specs.Next.{next_of}
 use Rattle.legal.specs.Legal.{Grown}
+use Rattle.legal.specs.declared.left.TheConstants.{MOST_LEFT}
+use Rattle.legal.specs.Left.{left}
 use Rattle.world.specs.declared.node_state.NodeState.{NodeState}
 use Rattle.world.specs.NodeState.{NatsOf}
 use Rattle.world.specs.Wire.{WireState}
@@ -61,39 +53,6 @@ pub record HasNoHosts (t : TopologyState) : Type 0 where
   pub clients : t.clients ≡ []
   pub relays : t.relays ≡ []
   pub natives : t.natives ≡ []
-
--- WHAT IS LEFT OF AN EVENT
-
--- when the packets that wait for a listed peer are due
-abbrev pub waits_until : Peer → List ℕ
-waits_until peer = if is_none peer.waiting then [] else due_of peer ∷ []
-
--- the due moments of all peers, as a journal mentions them, at a moment
-abbrev pub peers_due : List Mention → ℕ → List ℕ
-peers_due j m = flat_map (λ (p : Ip6). waits_until (known j m p)) (listed j m)
-
--- all due moments of a node: a client's phase or refresh, and its peers; a relay's peers
-abbrev pub due_moments : TopologyState → List Full → ℕ → Node → List ℕ
-due_moments t H n (client c) = option_to_list (qualification (client_settings t c) (journal n H)).due ++ peers_due (client_bearings.mentions (journal n H).entries) (now H)
-due_moments t H n (relay r) = peers_due (relay_bearings.mentions (journal n H).entries) (now H)
-due_moments t H n _ = []
-
-abbrev pub all_due : TopologyState → List Full → ℕ → List Node → List ℕ
-all_due t H n [] = []
-all_due t H n (a ∷ rest) = due_moments t H n a ++ all_due t H (n + 1) rest
-
--- for an advance that ends at `end`
-abbrev pub left_to : TopologyState → List Full → ℕ → ℕ
-left_to t H end = sum_by (λ m. end + 1 - max m (now H)) (filter (λ m. nat_le m end) (all_due t H 0 (nodes t)))
-
-abbrev pub left_of_event : TopologyState → List Full → Event → ℕ
-left_of_event t H (event.Advance ms) = left_to t H (began H + ms)
-left_of_event t H _ = 0
-
--- as much as may be where the next record begins an event
-abbrev pub left : TopologyState → List Full → ℕ
-left t [] = MOST_LEFT
-left t (r ∷ H) = if has_more r.asked r.act then left_of_event t (r ∷ H) r.asked else MOST_LEFT
 
 -- WHAT A WORLD STANDS FOR
 

@@ -39,4 +39,4 @@ mod wire;
 mod world;
 
 pub use wire::{MOST_ENTRIES, WireEntry};
-pub use world::{MOST_LEFT, MOST_MOMENT, World};
+pub use world::{MOST_MOMENT, World};

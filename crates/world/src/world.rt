@@ -29,10 +29,6 @@ use td_outside::Octets;
 use teredo_node::{Fate, Step};
 use topology::Topology;
 
-/// More than is left of any event after a record of it: an advance of a thousand million milliseconds, and what falls
-/// due in it.
-pub const MOST_LEFT: u64 = 35_184_372_088_832;
-
 /// The moment at which no scenario has arrived yet, in milliseconds.
 pub const MOST_MOMENT: u64 = 281_474_976_710_656;
 
