@@ -9,6 +9,7 @@ pub mod Memory
 pub mod Answers
 pub mod Sends
 pub mod Emission
+pub mod Due
 pub mod Record
 pub mod World
 pub mod Playing

@@ -29,7 +29,10 @@
 
 mod answer;
 mod call;
+mod due;
 mod emission;
+mod going;
+mod host;
 mod node_state;
 mod one_arrival;
 mod outlet;

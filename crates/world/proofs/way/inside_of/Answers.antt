@@ -8,14 +8,14 @@ use Rattle.world.proofs.Routes.{not_none, not_nothing, kept_nat, lets}
 use Rattle.world.proofs.way.inside_of.Goals as goal
 
 pub returns-in_err-state : goal.returns-in_err-state
-returns-in_err-state c = λ H t of a at.
+returns-in_err-state c = λ d H t of a at.
     let l = c.in_err-state.ensures.lookup.0 in
     let f = c.from.ensures in
     let past : length c.args.states.now ≤ c.args.nat = grind (arith, nat_tests) in
     absurd (not_none _ a (nat_history t c.args.nat H) (slice_get_past c.args.states.now c.args.nat past) (of c.args.nat a at))
 
 pub returns-in-Nat : goal.returns-in-Nat
-returns-in-Nat c = λ H t of a at.
+returns-in-Nat c = λ d H t of a at.
     let l = c.in_ok-state.ensures.lookup.0 in
     let f = c.from.ensures in
     let within : c.args.nat < length c.args.states.now = grind (arith, nat_tests) in
@@ -23,7 +23,7 @@ returns-in-Nat c = λ H t of a at.
     lets a c.in-Nat.nat (nat_history t c.args.nat H) c.args.now.0 c.args.port c.args.src c.inward.result (kept_nat _ a (nat_history t c.args.nat H) c.in-Nat.nat here (of c.args.nat a at)) c.inward.ensures.answer
 
 pub returns-in-Nothing : goal.returns-in-Nothing
-returns-in-Nothing c = λ H t of a at.
+returns-in-Nothing c = λ d H t of a at.
     let l = c.in_ok-state.ensures.lookup.0 in
     let f = c.from.ensures in
     let within : c.args.nat < length c.args.states.now = grind (arith, nat_tests) in
