@@ -3,6 +3,7 @@ mod States
 mod Arrivals
 mod Routes
 mod Emitted
+mod Passed
 mod Played
 mod Answered
 mod Opened

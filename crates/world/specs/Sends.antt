@@ -68,7 +68,7 @@ history_after m inside made h = reverse (filter_map (out_of m inside) made) ++ h
 
 -- This was made of sends at m, after the history h of their NAT: it came onto the wire, with these marks, and the NAT
 -- stands for the history with it.
-pub record Passes (m : ℕ) (inside : Ep) (old new : WireState) (nat : NatState) (h : List Entry) (made : List Made) (marks : List Mark) : Type 0 where
+pub record Passes (m : ℕ) (inside : Ep) (old new : WireState) (nat : NatState) (h : List Entry) (made : List Made) (said : List Mark) : Type 0 where
   pub grows : Grows old new made
-  pub marks : marks ≡ marks_of (length old.items) made
+  pub marks : said ≡ marks_of (length old.items) made
   pub stands : StandsFor nat (history_after m inside made h)
