@@ -1,11 +1,13 @@
 mod Wires
+mod Streams
 mod States
 mod Arrivals
 mod Routes
 mod Emitted
 mod Passed
+mod Kept
 mod Played
+mod Acting
 mod Answered
 mod Opened
-mod Unhosted
 mod Stepped

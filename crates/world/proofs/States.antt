@@ -34,7 +34,7 @@ pub nat_there : (t : TopologyState) (n : ℕ) (a : NatNode) → nat_at t n ≡ S
 nat_there t n a e = is_nat (node_at t n) a e
 
 -- the row of a client, if it is one
-as_row : Node → Option ClientNode
+abbrev as_row : Node → Option ClientNode
 as_row (client c) = Some c
 as_row _ = None
 

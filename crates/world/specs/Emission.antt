@@ -22,9 +22,9 @@ use Rattle.world.specs.Sends.{Grows, history_after}
 use Rattle.world.specs.Wire.{WireState}
 
 -- what is sent: what the entry of a node's journal says, and the NAT of a client is kept
-pub record IsEmission (d : Draws) (t : TopologyState) (H : List Full) (x : Sender) (nodes : List NodeState) (step : Step) (packet : Option (List ℕ)) (e : Entry) : Type 0 where
-  pub step : e.step ≡ step
-  pub packet : packet ≡ packet_by x.node e
+pub record IsEmission (d : Draws) (t : TopologyState) (H : List Full) (x : Sender) (nodes : List NodeState) (done : Step) (given : Option (List ℕ)) (e : Entry) : Type 0 where
+  pub step : e.step ≡ done
+  pub packet : given ≡ packet_by x.node e
   pub behind : (c : ClientNode) → x.node ≡ client c → is_some (nat_at t c.nat) ≡ true
   pub through : (c : ClientNode) → x.node ≡ client c → (b : NatNode) → nat_at t c.nat ≡ Some b
       → IsKeptIn t c.nat (nat b) (past_of d t c.nat H) (slice_get nodes c.nat)
@@ -34,9 +34,9 @@ abbrev pub sent_through : Draws → TopologyState → List Full → ℕ → Entr
 sent_through d t H m e c = record (past_of d t c.nat H) { history = history_after m c.inside (made_of t H m e (client c)) (past_of d t c.nat H).history }
 
 -- it came onto the wire, with these marks, and a client's NAT stands for its past with it
-pub record Emitted (d : Draws) (t : TopologyState) (H : List Full) (x : Sender) (nodes : List NodeState) (old new : WireState) (marks : List Mark) (e : Entry) : Type 0 where
+pub record Emitted (d : Draws) (t : TopologyState) (H : List Full) (x : Sender) (nodes : List NodeState) (old new : WireState) (said : List Mark) (e : Entry) : Type 0 where
   pub grows : Grows old new (made_of t H x.now.0 e x.node)
-  pub marks : marks ≡ marks_of (length old.items) (made_of t H x.now.0 e x.node)
+  pub marks : said ≡ marks_of (length old.items) (made_of t H x.now.0 e x.node)
   pub through : (c : ClientNode) → x.node ≡ client c → (b : NatNode) → nat_at t c.nat ≡ Some b
       → IsKeptIn t c.nat (nat b) (sent_through d t H x.now.0 e c) (slice_get nodes c.nat)
 

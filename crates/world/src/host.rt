@@ -91,6 +91,7 @@ pub fn echo(src: Ip6, dst: Ip6, seq: u16) -> [u8; ECHO]
 }
 
 /// The address of a client whose state this is, or `::` where it has none.
+#[tactic(auto, unfolding(qualify::specs::Solicitations::own_address))]
 fn address_in(state: &NodeState) -> Ip6
     ensures { (t : TopologyState) (n : ℕ) (row : ClientNode) (x : NodePast) → IsKept t n (client row) x state.now
         → result ≡ own_address (qualification (client_settings t row) x.journal) }

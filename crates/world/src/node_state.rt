@@ -71,7 +71,6 @@ fn first_client(alloc: Global, topology: &Topology, seed: u64, number: usize, ro
     ensures kept { IsClientOf (client_settings topology.now row) result (new_journal 0) (λ k. draws seed number (0 + k)) }
     ensures moment { result.peers.moment ≡ 0 }
 {
-    qualify::seed_gives_words();
     let rng = ChaCha20Rng::from_seed(stream_seed(seed, number));
     Client::new(alloc, settings_of(topology, row), rng, Millis(0))
 }
