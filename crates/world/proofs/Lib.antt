@@ -4,6 +4,7 @@ mod Arrivals
 mod Routes
 mod Emitted
 mod Passed
+mod Dues
 mod Played
 mod Answered
 mod Opened
