@@ -1,6 +1,7 @@
 mod Wires
 mod Streams
 mod States
+mod Dues
 mod Arrivals
 mod Routes
 mod Emitted
