@@ -1,7 +1,9 @@
 -- What holds of every client's tables and journals.
-use Rattle.std.specs.Prelude.{◌≡◌, ◌≤◌, ℕ, true, if◌then◌else◌, List, [], ◌∷◌}
+use Rattle.std.specs.Prelude.{◌≡◌, ◌≤◌, ℕ, true, if◌then◌else◌, List, [], ◌∷◌, length}
 use Rattle.td_base.specs.declared.endpoint.Ep.{Ep}
 use Rattle.teredo_node.specs.Journal.{Entry, Journal, Words, is_changed}
+use Rattle.peer_list.specs.declared.limits.TheConstants.{MOST_PEERS}
+use Rattle.peer_list.specs.Listed.{listed}
 use Rattle.peer_list.specs.Laws.{IsTried}
 use Rattle.qualify.specs.declared.settings.Settings.{Settings}
 use Rattle.client_rules.specs.Bearings.{mention, mentions}
@@ -32,3 +34,7 @@ TriesTouch = (e : Entry) → (mention e).bearing.tries ≡ true → (mention e).
 -- so in a journal spent and barred are what they are without regard to a stay
 abbrev pub JournalIsTried : Type 0
 JournalIsTried = (s : Settings) (j : Journal) (n : ℕ) → IsJournal s j → last_moment j.start j.entries ≤ n → IsTried (mentions j.entries) n
+
+-- no more than 256 peers are ever listed
+abbrev pub JournalHasFew : Type 0
+JournalHasFew = (s : Settings) (j : Journal) (n : ℕ) → IsJournal s j → last_moment j.start j.entries ≤ n → length (listed (mentions j.entries) n) ≤ MOST_PEERS

@@ -1,5 +1,5 @@
 //! Laws of every journal of a client.
-ghost use Rattle.client_rules.specs.Laws.{FateOfReception, FateOfTransmission, NextMentions, TriesTouch, JournalIsTried};
+ghost use Rattle.client_rules.specs.Laws.{FateOfReception, FateOfTransmission, NextMentions, TriesTouch, JournalIsTried, JournalHasFew};
 
 /// What is done with a datagram has the fate of its line.
 pub fn fate_of_reception()
@@ -25,3 +25,11 @@ pub fn tries_touch()
 pub fn journal_is_tried()
     ensures { JournalIsTried }
 {}
+
+/// Each entry that touches a peer finds room for it, so no more than 256 are listed.
+pub fn journal_has_few()
+    ensures { JournalHasFew }
+{
+    peer_list::first_waits();
+    peer_list::few_listed();
+}

@@ -27,6 +27,7 @@ mod laws;
 mod limits;
 
 pub use laws::{
-    fate_of_reception, fate_of_transmission, journal_is_tried, next_mentions, tries_touch,
+    fate_of_reception, fate_of_transmission, journal_has_few, journal_is_tried, next_mentions,
+    tries_touch,
 };
 pub use limits::{TEST_ID, TEST_SEQ};

@@ -1,9 +1,11 @@
 -- What holds of every relay's tables and journals.
-use Rattle.std.specs.Prelude.{◌≡◌, ◌≤◌, ℕ, true, List, []}
+use Rattle.std.specs.Prelude.{◌≡◌, ◌≤◌, ℕ, true, List, [], length}
 use Rattle.td_base.specs.declared.ipv6.Ip6.{Ip6}
 use Rattle.td_base.specs.declared.endpoint.Ep.{Ep}
 use Rattle.teredo_addr.specs.Teredo.{has_cone}
 use Rattle.teredo_node.specs.Journal.{Entry}
+use Rattle.peer_list.specs.declared.limits.TheConstants.{MOST_PEERS}
+use Rattle.peer_list.specs.Listed.{listed}
 use Rattle.peer_list.specs.Peers.{Peer, known}
 use Rattle.peer_list.specs.Laws.{IsTried}
 use Rattle.relay_rules.specs.Bearings.{mention, mentions}
@@ -39,3 +41,7 @@ pub record IsQuiet (peer : Peer) : Type 0 where
 -- an address with the cone bit has no tries and nothing waiting: packets to it go out at once
 abbrev pub ConeIsQuiet : Type 0
 ConeIsQuiet = (s : RelaySettings) (j : List Entry) (n : ℕ) (p : Ip6) → IsJournal s j → has_cone p ≡ true → IsQuiet (known (mentions j) n p)
+
+-- no more than 256 peers are ever listed
+abbrev pub JournalHasFew : Type 0
+JournalHasFew = (s : RelaySettings) (j : List Entry) (n : ℕ) → IsJournal s j → last_moment j ≤ n → length (listed (mentions j) n) ≤ MOST_PEERS

@@ -1,5 +1,5 @@
 //! Laws of every journal of a relay.
-ghost use Rattle.relay_rules.specs.Laws.{FateOfReception, FateOfTransmission, TriesTouch, JournalIsTried, ConeIsQuiet};
+ghost use Rattle.relay_rules.specs.Laws.{FateOfReception, FateOfTransmission, TriesTouch, JournalIsTried, ConeIsQuiet, JournalHasFew};
 
 /// What is done with a datagram has the fate of its line.
 pub fn fate_of_reception()
@@ -25,3 +25,11 @@ pub fn journal_is_tried()
 pub fn cone_is_quiet()
     ensures { ConeIsQuiet }
 {}
+
+/// Each entry that touches a peer finds room for it, so no more than 256 are listed.
+pub fn journal_has_few()
+    ensures { JournalHasFew }
+{
+    peer_list::first_waits();
+    peer_list::few_listed();
+}

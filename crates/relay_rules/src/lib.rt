@@ -25,5 +25,6 @@
 mod laws;
 
 pub use laws::{
-    cone_is_quiet, fate_of_reception, fate_of_transmission, journal_is_tried, tries_touch,
+    cone_is_quiet, fate_of_reception, fate_of_transmission, journal_has_few, journal_is_tried,
+    tries_touch,
 };

@@ -1,0 +1,128 @@
+-- How many due moments there are: at most 256 peers of each client and relay, and one moment more of each client.
+use Rattle.std.proofs.Common.{◌≡◌, ◌≤◌, ◌<◌, ℕ, suc, ◌+◌, ◌*◌, Bool, true, false, cond, List, [], ◌∷◌, ◌++◌, length, map, Option, Some, None, refl, sym, ap, subst, ◌∙◌, arith, length-append}
+use Rattle.std.specs.Prelude.{slice_get, flat_map, option_to_list}
+use Rattle.td_base.specs.declared.ipv6.Ip6.{Ip6}
+use Rattle.peer_list.specs.declared.limits.TheConstants.{MOST_PEERS}
+use Rattle.peer_list.specs.Mentions.{Mention}
+use Rattle.peer_list.specs.Listed.{listed}
+use Rattle.peer_list.specs.Peers.{Peer, known}
+use Rattle.peer_list.specs.Judged.{is_none, due_of}
+use Rattle.qualify.specs.Qualification.{qualification}
+use Rattle.client_rules.specs.Bearings as client_bearings
+use Rattle.client_rules.specs.Laws as client_laws
+use Rattle.relay_rules.specs.Bearings as relay_bearings
+use Rattle.relay_rules.specs.Laws as relay_laws
+use Rattle.topology.specs.Rows.{TopologyState}
+use Rattle.topology.specs.Rules.{IsTopology}
+use Rattle.topology.specs.declared.node.Node.{Node}
+use Rattle.topology.specs.declared.node.Node.TheVariants.{Server as server, Nat as nat, Client as client, Relay as relay, Native as native}
+use Rattle.topology.specs.Topology.{nodes, node_at}
+use Rattle.history.specs.Full.{Full}
+use Rattle.legal.specs.Settings.{client_settings, relay_settings}
+use Rattle.legal.specs.Past.{Draws, now, journal}
+use Rattle.legal.specs.Legal.{Grown}
+use Rattle.legal.specs.Left.{waits_until, peers_due, due_moments, all_due}
+use Rattle.legal.specs.Laws.{IsOfClient, IsOfRelay}
+use Rattle.legal.proofs.Journals.{of_client, of_relay}
+
+-- the laws of journals that this needs
+pub record FewLaws : Type 0 where
+  pub client : client_laws.JournalHasFew
+  pub relay : relay_laws.JournalHasFew
+
+-- OF PEERS
+
+one_each : (f : Ip6 → Peer) (ps : List Ip6) → length (flat_map (λ (p : Ip6). waits_until (f p)) ps) ≤ length ps
+one_each f [] = omega arith
+one_each f (p ∷ ps) =
+    let rest : length (flat_map (λ (q : Ip6). waits_until (f q)) ps) ≤ length ps = one_each f ps in
+    let one : length (waits_until (f p)) ≤ 1 = at_most_one (is_none (f p).waiting) in
+    omega (arith, rest, one, length-append (waits_until (f p)) (flat_map (λ (q : Ip6). waits_until (f q)) ps))
+  where
+    at_most_one : (b : Bool) → length (cond b [] (due_of (f p) ∷ [])) ≤ 1
+    at_most_one true = omega arith
+    at_most_one false = omega arith
+
+few_peers : (j : List Mention) (m : ℕ) → length (listed j m) ≤ MOST_PEERS → length (peers_due j m) ≤ 256
+few_peers j m few = let each : length (peers_due j m) ≤ length (listed j m) = one_each (known j m) (listed j m) in omega (arith, each, few)
+
+-- OF NODES
+
+-- as many as a node has at most
+abbrev most : Node → ℕ
+most (client c) = 257
+most (relay r) = 257
+most _ = 0
+
+few_moments : FewLaws → (d : Draws) (t : TopologyState) (H : List Full) (n : ℕ) (a : Node) → Grown d t H → node_at t n ≡ Some a → length (due_moments t H n a) ≤ most a
+few_moments laws d t H n (server a) g there = omega arith
+few_moments laws d t H n (nat a) g there = omega arith
+few_moments laws d t H n (client c) g there =
+    let is : IsOfClient (client_settings t c) (journal n H) (now H) = of_client d t H n c g there in
+    let peers : length (peers_due (client_bearings.mentions (journal n H).entries) (now H)) ≤ 256 = few_peers (client_bearings.mentions (journal n H).entries) (now H) (laws.client (client_settings t c) (journal n H) (now H) is.journal is.moments) in
+    let o : Option ℕ = (qualification (client_settings t c) (journal n H)).due in
+    let one : length (option_to_list o) ≤ 1 = at_most_one o in
+    omega (arith, peers, one, length-append (option_to_list o) (peers_due (client_bearings.mentions (journal n H).entries) (now H)))
+  where
+    at_most_one : (o : Option ℕ) → length (option_to_list o) ≤ 1
+    at_most_one None = omega arith
+    at_most_one (Some x) = omega arith
+few_moments laws d t H n (relay r) g there =
+    let is : IsOfRelay (relay_settings t n r) (journal n H) (now H) = of_relay d t H n r g there in
+    let peers : length (peers_due (relay_bearings.mentions (journal n H).entries) (now H)) ≤ 256 = few_peers (relay_bearings.mentions (journal n H).entries) (now H) (laws.relay (relay_settings t n r) (journal n H).entries (now H) is.journal is.moments) in
+    omega (arith, peers)
+few_moments laws d t H n (native a) g there = omega arith
+
+-- OF ALL
+
+abbrev most_of : List Node → ℕ
+most_of [] = 0
+most_of (a ∷ rest) = most a + most_of rest
+
+among : FewLaws → (d : Draws) (t : TopologyState) (H : List Full) (n : ℕ) (rest : List Node) → Grown d t H → ((k : ℕ) → slice_get (nodes t) (n + k) ≡ slice_get rest k) → length (all_due t H n rest) ≤ most_of rest
+among laws d t H n [] g same = omega arith
+among laws d t H n (a ∷ rest) g same =
+    let zeroth : n + 0 ≡ n = omega arith in
+    let here : node_at t n ≡ Some a = subst (λ (k : ℕ). slice_get (nodes t) k ≡ Some a) zeroth (same 0) in
+    let tail : (k : ℕ) → slice_get (nodes t) (n + 1 + k) ≡ slice_get rest k = λ (k : ℕ). let moved : n + suc k ≡ n + 1 + k = omega arith in subst (λ (j : ℕ). slice_get (nodes t) j ≡ slice_get rest k) moved (same (suc k)) in
+    let others : length (all_due t H (n + 1) rest) ≤ most_of rest = among laws d t H (n + 1) rest g tail in
+    let one : length (due_moments t H n a) ≤ most a = few_moments laws d t H n a g here in
+    omega (arith, others, one, length-append (due_moments t H n a) (all_due t H (n + 1) rest))
+
+most_append : (xs ys : List Node) → most_of (xs ++ ys) ≡ most_of xs + most_of ys
+most_append [] ys = omega arith
+most_append (x ∷ xs) ys = let rest : most_of (xs ++ ys) ≡ most_of xs + most_of ys = most_append xs ys in omega (arith, rest)
+
+most_map : {A : Type 0} (f : A → Node) (m : ℕ) (xs : List A) → ((x : A) → most (f x) ≡ m) → most_of (map f xs) ≡ length xs * m
+most_map f m [] each = omega arith
+most_map f m (x ∷ xs) each =
+    let rest : most_of (map f xs) ≡ length xs * m = most_map f m xs each in
+    let one : most (f x) ≡ m = each x in
+    omega (arith, rest, one)
+
+most_nodes : (t : TopologyState) → IsTopology t → most_of (nodes t) ≤ 17476
+most_nodes t is =
+    let servers : most_of (map server t.servers) ≡ length t.servers * 0 = most_map server 0 t.servers (λ x. refl) in
+    let nats : most_of (map nat t.nats) ≡ length t.nats * 0 = most_map nat 0 t.nats (λ x. refl) in
+    let clients : most_of (map client t.clients) ≡ length t.clients * 257 = most_map client 257 t.clients (λ x. refl) in
+    let relays : most_of (map relay t.relays) ≡ length t.relays * 257 = most_map relay 257 t.relays (λ x. refl) in
+    let natives : most_of (map native t.natives) ≡ length t.natives * 0 = most_map native 0 t.natives (λ x. refl) in
+    omega (
+      arith,
+      servers,
+      nats,
+      clients,
+      relays,
+      natives,
+      is.clients,
+      is.relays,
+      most_append (map server t.servers) (map nat t.nats ++ (map client t.clients ++ (map relay t.relays ++ map native t.natives))),
+      most_append (map nat t.nats) (map client t.clients ++ (map relay t.relays ++ map native t.natives)),
+      most_append (map client t.clients) (map relay t.relays ++ map native t.natives),
+      most_append (map relay t.relays) (map native t.natives),
+    )
+
+pub few_due : FewLaws → (d : Draws) (t : TopologyState) (H : List Full) → IsTopology t → Grown d t H → length (all_due t H 0 (nodes t)) ≤ 17476
+few_due laws d t H is g =
+    let all : length (all_due t H 0 (nodes t)) ≤ most_of (nodes t) = among laws d t H 0 (nodes t) g (λ (k : ℕ). let same : 0 + k ≡ k = omega arith in ap (slice_get (nodes t)) same) in
+    omega (arith, all, most_nodes t is)

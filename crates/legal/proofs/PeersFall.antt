@@ -1,0 +1,331 @@
+-- What the due moments of peers weigh: less once a peer that was due was tried, given up, or is listed no more.
+use Rattle.std.proofs.Common.{◌≡◌, ◌≤◌, ◌<◌, ℕ, ◌+◌, ◌-◌, ◌&&◌, ◌||◌, not, Bool, true, false, cond, List, [], ◌∷◌, ◌++◌, length, filter, Option, Some, None, refl, sym, ap, subst, ◌∙◌, ⊎_elim, arith}
+use Rattle.std.specs.Prelude.{sum_by, nat_lt, nat_le, nat_eq, max, flat_map, option_map, unwrap_or, is_some}
+use Rattle.std.specs.List.{list_any}
+use Rattle.std.specs.declared.cmp.Ordering.{Ordering}
+use Rattle.std.specs.declared.cmp.Ordering.TheVariants.{Less, Equal, Greater}
+use Rattle.std.specs.Ordering.{nat_cmp, ordering_then, is_lt}
+use Rattle.std.proofs.lemmas.Bool.{false≢true, or_left, or_right, ltb-true, ltb-false, eqb-true, lt-ltb}
+use Rattle.std.proofs.lemmas.List.Sums.{sum_by-cons, sum_by-le-sum_by}
+use Rattle.std.proofs.lemmas.Map.Views.{any-filter_same}
+use Rattle.std.proofs.Math.Nat.{le_refl}
+use Rattle.td_base.specs.Ip6.{same_ip6, same_ip6-true, same_ip6-self, cmp_ip6}
+use Rattle.td_base.specs.declared.ipv6.Ip6.{Ip6}
+use Rattle.peer_list.specs.declared.limits.TheConstants.{LISTED_MS}
+use Rattle.peer_list.specs.Mentions.{Bearing, no_bearing, Mention, is_about}
+use Rattle.peer_list.specs.Listed.{is_young, is_listed, with_peer, touched_by, touched, listed}
+use Rattle.peer_list.specs.Peers.{Peer, no_peer, peer_at, known}
+use Rattle.peer_list.specs.Judged.{is_none, due_of}
+use Rattle.peer_list.specs.Waiting.{Listing, cmp_due, first_of_two, least_by_due, first_among, first_due}
+use Rattle.peer_list.specs.Laws.{after, peer_if, view_after, OneEntry, Lasts, Unlisted, ListedIsKnown, ListedAre, IsWaiting, FirstWaits}
+use Rattle.legal.specs.Left.{waits_until, peers_due}
+use Rattle.legal.proofs.Weights.{weights, weights_fade, weights_each, one_some, lighter_after}
+
+-- the laws of peers that this needs
+pub record PeerLaws : Type 0 where
+  pub one_entry : OneEntry
+  pub lasts : Lasts
+  pub unlisted : Unlisted
+  pub are : ListedAre
+  pub first : FirstWaits
+
+abbrev has : Ip6 → List Ip6 → Bool
+has p ps = list_any (same_ip6 p) ps
+
+-- SUMS OVER ADDRESSES
+
+less_of : (w v : Ip6 → ℕ) (p : Ip6) (ps : List Ip6) → ((q : Ip6) → w q ≤ v q) → w p < v p → has p ps ≡ true → sum_by w ps < sum_by v ps
+less_of w v p [] all one h = absurd (false≢true h)
+less_of w v p (q ∷ ps) all one h = by_test (same_ip6 p q) refl h (less_of w v p ps all one) where
+  by_test : (b : Bool) → same_ip6 p q ≡ b → (b || has p ps) ≡ true → (has p ps ≡ true → sum_by w ps < sum_by v ps) → sum_by w (q ∷ ps) < sum_by v (q ∷ ps)
+  by_test true is k rest =
+      let here : w q < v q = subst (λ x. w x < v x) (same_ip6-true p q is) one in
+      let others : sum_by w ps ≤ sum_by v ps = sum_by-le-sum_by w v ps all in
+      omega (arith, sum_by-cons w q ps, sum_by-cons v q ps, here, others)
+  by_test false is k rest =
+      let here : w q ≤ v q = all q in
+      let others : sum_by w ps < sum_by v ps = rest k in
+      omega (arith, sum_by-cons w q ps, sum_by-cons v q ps, here, others)
+
+-- those that don't pass add nothing
+all_that_pass : (w : Ip6 → ℕ) (test : Ip6 → Bool) (ps : List Ip6) → ((p : Ip6) → test p ≡ false → w p ≡ 0) → sum_by w (filter test ps) ≡ sum_by w ps
+all_that_pass w test [] none = refl
+all_that_pass w test (p ∷ ps) none = by (test p) refl (all_that_pass w test ps none) where
+  by : (b : Bool) → test p ≡ b → sum_by w (filter test ps) ≡ sum_by w ps → sum_by w (cond b (p ∷ filter test ps) (filter test ps)) ≡ sum_by w (p ∷ ps)
+  by true e rest = omega (arith, rest, sum_by-cons w p (filter test ps), sum_by-cons w p ps)
+  by false e rest = let zero_here : w p ≡ 0 = none p e in omega (arith, rest, zero_here, sum_by-cons w p ps)
+
+-- those that pass add no more than all
+fewer_pass : (w : Ip6 → ℕ) (test : Ip6 → Bool) (ps : List Ip6) → sum_by w (filter test ps) ≤ sum_by w ps
+fewer_pass w test [] = omega arith
+fewer_pass w test (p ∷ ps) = by (test p) (fewer_pass w test ps) where
+  by : (b : Bool) → sum_by w (filter test ps) ≤ sum_by w ps → sum_by w (cond b (p ∷ filter test ps) (filter test ps)) ≤ sum_by w (p ∷ ps)
+  by true rest = omega (arith, rest, sum_by-cons w p (filter test ps), sum_by-cons w p ps)
+  by false rest = omega (arith, rest, sum_by-cons w p ps)
+
+-- one of them in front, and the others behind it
+moved : (w : Ip6 → ℕ) (p : Ip6) (ps : List Ip6) → has p ps ≡ true → sum_by w (p ∷ filter (λ q. not (same_ip6 p q)) ps) ≤ sum_by w ps
+moved w p [] h = absurd (false≢true h)
+moved w p (q ∷ ps) h = by (same_ip6 p q) refl h (moved w p ps) where
+  rest : List Ip6
+  rest = filter (λ r. not (same_ip6 p r)) ps
+
+  by : (b : Bool) → same_ip6 p q ≡ b → (b || has p ps) ≡ true → (has p ps ≡ true → sum_by w (p ∷ filter (λ r. not (same_ip6 p r)) ps) ≤ sum_by w ps) → sum_by w (p ∷ cond (not b) (q ∷ filter (λ r. not (same_ip6 p r)) ps) (filter (λ r. not (same_ip6 p r)) ps)) ≤ sum_by w (q ∷ ps)
+  by true is k before =
+      let same : w p ≡ w q = ap w (same_ip6-true p q is) in
+      let few : sum_by w (filter (λ r. not (same_ip6 p r)) ps) ≤ sum_by w ps = fewer_pass w (λ r. not (same_ip6 p r)) ps in
+      omega (arith, same, few, sum_by-cons w p (filter (λ r. not (same_ip6 p r)) ps), sum_by-cons w q ps)
+  by false is k before =
+      let inner : sum_by w (p ∷ filter (λ r. not (same_ip6 p r)) ps) ≤ sum_by w ps = before k in
+      omega (arith, inner, sum_by-cons w p (filter (λ r. not (same_ip6 p r)) ps), sum_by-cons w p (q ∷ filter (λ r. not (same_ip6 p r)) ps), sum_by-cons w q (filter (λ r. not (same_ip6 p r)) ps), sum_by-cons w q ps)
+
+-- WHAT PEERS WEIGH
+
+-- what one weighs at m, up to the end
+abbrev pub peer_weight : (end m : ℕ) → Peer → ℕ
+peer_weight end m peer = weights end m (waits_until peer)
+
+-- what the listed ones weigh: whoever isn't listed weighs nothing
+abbrev pub peers_weight : (end m : ℕ) → List Mention → ℕ
+peers_weight end m j = sum_by (λ p. peer_weight end m (known j m p)) (touched j)
+
+nothing_known : PeerLaws → (end m : ℕ) (j : List Mention) (p : Ip6) → is_listed p m j ≡ false → peer_weight end m (known j m p) ≡ 0
+nothing_known laws end m j p h = ap (λ (x : Peer). peer_weight end m x) (laws.unlisted j m p h)
+
+pub peers_weigh : PeerLaws → (end m : ℕ) (j : List Mention) → weights end m (peers_due j m) ≡ peers_weight end m j
+unfolding listed
+peers_weigh laws end m j =
+    weights_each end m (λ (p : Ip6). waits_until (known j m p)) (filter (λ p. is_listed p m j) (touched j))
+    ∙ all_that_pass (λ p. peer_weight end m (known j m p)) (λ p. is_listed p m j) (touched j) (nothing_known laws end m j)
+
+-- TIME ALONE
+
+-- a peer weighs no more later
+peer_fades : PeerLaws → (end m n : ℕ) (j : List Mention) (p : Ip6) → m ≤ n → peer_weight end n (known j n p) ≤ peer_weight end m (known j m p)
+peer_fades laws end m n j p l = by (is_listed p n j) refl where
+  by : (b : Bool) → is_listed p n j ≡ b → peer_weight end n (known j n p) ≤ peer_weight end m (known j m p)
+  by true h =
+      let same : known j n p ≡ known j m p = ap (λ (o : Option Peer). unwrap_or o no_peer) (laws.lasts j m n p l h) in
+      subst (λ (x : Peer). peer_weight end n x ≤ peer_weight end m (known j m p)) (sym same) (weights_fade end m n (waits_until (known j m p)) l)
+  by false h =
+      let none : peer_weight end n (known j n p) ≡ 0 = nothing_known laws end n j p h in
+      omega (arith, none)
+
+pub peers_fade : PeerLaws → (end m n : ℕ) (j : List Mention) → m ≤ n → peers_weight end n j ≤ peers_weight end m j
+peers_fade laws end m n j l = sum_by-le-sum_by (λ p. peer_weight end n (known j n p)) (λ p. peer_weight end m (known j m p)) (touched j) (λ p. peer_fades laws end m n j p l)
+
+-- WHO IS FIRST
+
+not_less : (a b : ℕ) (c : Ordering) → is_lt (ordering_then (nat_cmp a b) c) ≡ false → b ≤ a
+not_less a b c h = by_test (nat_lt a b) refl where
+  by_test : (t : Bool) → nat_lt a b ≡ t → b ≤ a
+  by_test true e = absurd (false≢true (sym h ∙ ap (λ t. is_lt (ordering_then (cond t Less (cond (nat_eq a b) Equal Greater)) c)) e))
+  by_test false e = ltb-false a b e
+
+is_less : (a b : ℕ) (c : Ordering) → is_lt (ordering_then (nat_cmp a b) c) ≡ true → a ≤ b
+is_less a b c h = by_test (nat_lt a b) refl (nat_eq a b) refl where
+  by_test : (t : Bool) → nat_lt a b ≡ t → (u : Bool) → nat_eq a b ≡ u → a ≤ b
+  by_test true e u f = let less : a < b = ltb-true a b e in omega (arith, less)
+  by_test false e true f = let same : a ≡ b = eqb-true a b f in omega (arith, same)
+  by_test false e false f = absurd (false≢true (sym (ap (λ t. is_lt (ordering_then (cond t Less (cond (nat_eq a b) Equal Greater)) c)) e ∙ ap (λ u. is_lt (ordering_then (cond u Equal Greater) c)) f) ∙ h))
+
+-- one of these is first, and due no later than this one
+pub record IsFirstBefore (f : Ip6 → Peer) (due : ℕ) (o : Option Ip6) : Type 0 where
+  pub who : Ip6
+  pub is : o ≡ Some who
+  pub before : due_of (f who) ≤ due
+
+least_before : (f : Ip6 → Peer) (ps : List Ip6) (p : Ip6) → has p ps ≡ true → IsFirstBefore f (due_of (f p)) (least_by_due f ps)
+unfolding cmp_due
+least_before f [] p h = absurd (false≢true h)
+least_before f (q ∷ ps) p h = by (same_ip6 p q) refl h (least_before f ps p) where
+  front : (o : Option Ip6) → p ≡ q → IsFirstBefore f (due_of (f p)) (first_of_two f q o)
+  front None same = record { who = q; is = refl; before = let e : due_of (f p) ≡ due_of (f q) = ap (λ x. due_of (f x)) same in omega (arith, e) }
+  front (Some r) same = at (is_lt (ordering_then (nat_cmp (due_of (f r)) (due_of (f q))) (cmp_ip6 r q))) refl where
+    at : (b : Bool) → is_lt (ordering_then (nat_cmp (due_of (f r)) (due_of (f q))) (cmp_ip6 r q)) ≡ b → IsFirstBefore f (due_of (f p)) (cond b (Some r) (Some q))
+    at true e = record { who = r; is = refl; before = let e2 : due_of (f p) ≡ due_of (f q) = ap (λ x. due_of (f x)) same in let le : due_of (f r) ≤ due_of (f q) = is_less (due_of (f r)) (due_of (f q)) (cmp_ip6 r q) e in omega (arith, e2, le) }
+    at false e = record { who = q; is = refl; before = let e2 : due_of (f p) ≡ due_of (f q) = ap (λ x. due_of (f x)) same in omega (arith, e2) }
+
+  back : (o : Option Ip6) → IsFirstBefore f (due_of (f p)) o → IsFirstBefore f (due_of (f p)) (first_of_two f q o)
+  back None first = absurd (false≢true (ap is_some first.is))
+  back (Some r) first = at (is_lt (ordering_then (nat_cmp (due_of (f r)) (due_of (f q))) (cmp_ip6 r q))) refl where
+    known_first : due_of (f r) ≤ due_of (f p)
+    known_first = subst (λ x. due_of (f x) ≤ due_of (f p)) (sym (ap (λ (o : Option Ip6). unwrap_or o r) first.is)) first.before
+
+    at : (b : Bool) → is_lt (ordering_then (nat_cmp (due_of (f r)) (due_of (f q))) (cmp_ip6 r q)) ≡ b → IsFirstBefore f (due_of (f p)) (cond b (Some r) (Some q))
+    at true e = record { who = r; is = refl; before = known_first }
+    at false e = record { who = q; is = refl; before = let le : due_of (f q) ≤ due_of (f r) = not_less (due_of (f r)) (due_of (f q)) (cmp_ip6 r q) e in omega (arith, le, known_first) }
+
+  by : (b : Bool) → same_ip6 p q ≡ b → (b || has p ps) ≡ true → (has p ps ≡ true → IsFirstBefore f (due_of (f p)) (least_by_due f ps)) → IsFirstBefore f (due_of (f p)) (first_of_two f q (least_by_due f ps))
+  by true e k rest = front (least_by_due f ps) (same_ip6-true p q e)
+  by false e k rest = back (least_by_due f ps) (rest k)
+
+-- whoever is listed and waits has one before it that is first due
+first_before : PeerLaws → (j : List Mention) (n : ℕ) (p : Ip6) → is_listed p n j ≡ true → is_none (known j n p).waiting ≡ false → IsFirstBefore (known j n) (due_of (known j n p)) (first_among (known j n) (listed j n))
+unfolding first_among
+first_before laws j n p h w =
+    let there : has p (listed j n) ≡ true = laws.are j n p ∙ h in
+    let waits : (q : Ip6) → same_ip6 p q ≡ true → not (is_none (known j n q).waiting) ≡ true = λ q same. ap (λ x. not (is_none (known j n x).waiting)) (sym (same_ip6-true p q same)) ∙ ap not w in
+    let among : has p (filter (λ q. not (is_none (known j n q).waiting)) (listed j n)) ≡ true = any-filter_same (same_ip6 p) (λ q. not (is_none (known j n q).waiting)) true waits (listed j n) ∙ there in
+    least_before (known j n) (filter (λ q. not (is_none (known j n q).waiting)) (listed j n)) p among
+
+-- no listed peer is due at n
+abbrev pub NoneDue : List Mention → ℕ → Type 0
+NoneDue j n = (l : Listing) → first_due j n ≡ Some l → n < due_of l.peer
+
+-- so one that was due is listed no more
+was_due : PeerLaws → (end n : ℕ) (j : List Mention) (p : Ip6) → NoneDue j n → (b : Bool) → is_listed p n j ≡ b → is_none (known j n p).waiting ≡ false → due_of (known j n p) ≤ n → b ≡ false
+was_due laws end n j p none false h w due = refl
+was_due laws end n j p none true h w due =
+    let first = first_before laws j n p h w in
+    let l : Listing = record { who = first.who; peer = known j n first.who } in
+    let is : first_due j n ≡ Some l = ap (option_map {U = Listing} (λ q. record { who = q; peer = known j n q })) first.is in
+    let later : n < due_of (known j n first.who) = none l is in
+    let before : due_of (known j n first.who) ≤ due_of (known j n p) = first.before in
+    absurd (omega (arith, later, before, due))
+
+one_waiting : (end m : ℕ) (peer : Peer) → is_none peer.waiting ≡ false → peer_weight end m peer ≡ weights end m (due_of peer ∷ [])
+one_waiting end m peer w = ap (λ b. weights end m (cond b [] (due_of peer ∷ []))) w
+
+passes_in : (test : Ip6 → Bool) (p : Ip6) (ps : List Ip6) → has p (filter test ps) ≡ true → has p ps ≡ true
+passes_in test p [] h = h
+passes_in test p (q ∷ ps) h = by (test q) h (passes_in test p ps) where
+  by : (b : Bool) → has p (cond b (q ∷ filter test ps) (filter test ps)) ≡ true → (has p (filter test ps) ≡ true → has p ps ≡ true) → (same_ip6 p q || has p ps) ≡ true
+  by true k rest = at (same_ip6 p q) k where
+    at : (x : Bool) → (x || has p (filter test ps)) ≡ true → (x || has p ps) ≡ true
+    at true g = refl
+    at false g = rest g
+  by false k rest = or_right (same_ip6 p q) (has p ps) (rest k)
+
+was_touched : PeerLaws → (j : List Mention) (n : ℕ) (p : Ip6) → is_listed p n j ≡ true → has p (touched j) ≡ true
+unfolding listed
+was_touched laws j n p h = passes_in (λ q. is_listed q n j) p (touched j) (laws.are j n p ∙ h)
+
+young_now : (m : ℕ) → is_young LISTED_MS m m ≡ true
+young_now m = lt-ltb _ _ (omega arith)
+
+-- where a peer was due, and none is any more, they weigh less
+pub fall_lost : PeerLaws → (end m n : ℕ) (j : List Mention) (l : Listing) → m ≤ n → n ≤ end → first_due j m ≡ Some l → due_of l.peer ≤ n → NoneDue j n → peers_weight end n j < peers_weight end m j
+fall_lost laws end m n j l le within first due none =
+    let found : IsWaiting j m l = laws.first j m l first in
+    let waits : is_none (known j m l.who).waiting ≡ false = ap (λ (x : Peer). is_none x.waiting) (sym found.peer) ∙ found.waits in
+    let past : due_of (known j m l.who) ≤ n = subst (λ (x : Peer). due_of x ≤ n) found.peer due in
+    less_of (λ p. peer_weight end n (known j n p)) (λ p. peer_weight end m (known j m p)) l.who (touched j) (λ p. peer_fades laws end m n j p le)
+    (here waits past (is_listed l.who n j) refl) (was_touched laws j m l.who found.listed)
+  where
+    here : is_none (known j m l.who).waiting ≡ false → due_of (known j m l.who) ≤ n → (b : Bool) → is_listed l.who n j ≡ b → peer_weight end n (known j n l.who) < peer_weight end m (known j m l.who)
+    here waits past true h =
+        let same : known j m l.who ≡ known j n l.who = sym (ap (λ (o : Option Peer). unwrap_or o no_peer) (laws.lasts j m n l.who le h)) in
+        let waits_then : is_none (known j n l.who).waiting ≡ false = subst (λ (x : Peer). is_none x.waiting ≡ false) same waits in
+        let past_then : due_of (known j n l.who) ≤ n = subst (λ (x : Peer). due_of x ≤ n) same past in
+        absurd (false≢true (sym (was_due laws end n j l.who none true h waits_then past_then)))
+    here waits past false h =
+        let nothing : peer_weight end n (known j n l.who) ≡ 0 = nothing_known laws end n j l.who h in
+        let is : peer_weight end m (known j m l.who) ≡ weights end m (due_of (known j m l.who) ∷ []) = one_waiting end m (known j m l.who) waits in
+        let some : 0 < weights end m (due_of (known j m l.who) ∷ []) = one_some end m n (due_of (known j m l.who)) past le within in
+        omega (arith, nothing, is, some)
+
+-- A FURTHER ENTRY
+
+-- one that is about no peer
+pub peers_still : PeerLaws → (end n : ℕ) (b : Bearing) (j : List Mention) → peers_weight end n (record { moment = n; peer = None; bearing = b } ∷ j) ≤ peers_weight end n j
+unfolding touched
+peers_still laws end n b j = by b.touches where
+  e : Mention
+  e = record { moment = n; peer = None; bearing = b }
+
+  same : (p : Ip6) → peer_weight end n (known (e ∷ j) n p) ≤ peer_weight end n (known j n p)
+  same p =
+      let is : peer_weight end n (known (e ∷ j) n p) ≡ peer_weight end n (known j n p) = ap (λ (o : Option Peer). peer_weight end n (unwrap_or o no_peer)) (laws.one_entry e j n p) in
+      omega (arith, is)
+
+  by : (t : Bool) → sum_by (λ p. peer_weight end n (known (e ∷ j) n p)) (with_peer (cond t None None) (touched j)) ≤ peers_weight end n j
+  by true = sum_by-le-sum_by (λ p. peer_weight end n (known (e ∷ j) n p)) (λ p. peer_weight end n (known j n p)) (touched j) same
+  by false = sum_by-le-sum_by (λ p. peer_weight end n (known (e ∷ j) n p)) (λ p. peer_weight end n (known j n p)) (touched j) same
+
+-- a peer for whom packets wait, after an entry about it
+after_entry : (t : Bool) (e : Mention) (o : Option Peer) → is_none (unwrap_or o no_peer).waiting ≡ false → unwrap_or (peer_if true t true e o o) no_peer ≡ after e (unwrap_or o no_peer)
+after_entry t e None w = absurd (false≢true (sym w))
+after_entry true e (Some x) w = refl
+after_entry false e (Some x) w = refl
+
+-- where the first that is due weighs less after an entry about it, they all do
+pub fall_turn : PeerLaws → (end n : ℕ) (b : Bearing) (j : List Mention) (l : Listing) → first_due j n ≡ Some l
+    → peer_weight end n (after (record { moment = n; peer = Some l.who; bearing = b }) l.peer) < peer_weight end n l.peer
+    → peers_weight end n (record { moment = n; peer = Some l.who; bearing = b } ∷ j) < peers_weight end n j
+unfolding touched
+fall_turn laws end n b j l first less =
+    let found : IsWaiting j n l = laws.first j n l first in
+    let waits : is_none (known j n l.who).waiting ≡ false = ap (λ (x : Peer). is_none x.waiting) (sym found.peer) ∙ found.waits in
+    let there : has l.who (touched j) ≡ true = was_touched laws j n l.who found.listed in
+    let all : sum_by new (touched j) < sum_by old (touched j) = less_of new old l.who (touched j) (no_more waits found.peer) (here waits found.peer) there in
+    let front : sum_by new (with_peer (cond b.touches (Some l.who) None) (touched j)) ≤ sum_by new (touched j) = in_front there b.touches in
+    omega (arith, all, front)
+  where
+    e : Mention
+    e = record { moment = n; peer = Some l.who; bearing = b }
+
+    new : Ip6 → ℕ
+    new p = peer_weight end n (known (e ∷ j) n p)
+
+    old : Ip6 → ℕ
+    old p = peer_weight end n (known j n p)
+
+    in_front : has l.who (touched j) ≡ true → (t : Bool) → sum_by new (with_peer (cond t (Some l.who) None) (touched j)) ≤ sum_by new (touched j)
+    in_front there true = moved new l.who (touched j) there
+    in_front there false = omega arith
+
+    entry : (p : Ip6) → peer_at (e ∷ j) n p ≡ peer_if (same_ip6 p l.who) b.touches (is_young LISTED_MS n n) e (peer_at j n p) (peer_at j n p)
+    entry p = laws.one_entry e j n p
+
+    turned : is_none (known j n l.who).waiting ≡ false → known (e ∷ j) n l.who ≡ after e (known j n l.who)
+    turned waits =
+        ap (λ (o : Option Peer). unwrap_or o no_peer) (entry l.who)
+        ∙ ap (λ x. unwrap_or (peer_if x b.touches (is_young LISTED_MS n n) e (peer_at j n l.who) (peer_at j n l.who)) no_peer) (same_ip6-self l.who)
+        ∙ ap (λ x. unwrap_or (peer_if true b.touches x e (peer_at j n l.who) (peer_at j n l.who)) no_peer) (young_now n)
+        ∙ after_entry b.touches e (peer_at j n l.who) waits
+
+    here : is_none (known j n l.who).waiting ≡ false → l.peer ≡ known j n l.who → new l.who < old l.who
+    here waits is =
+        let then : new l.who ≡ peer_weight end n (after e l.peer) = ap (λ (x : Peer). peer_weight end n x) (turned waits ∙ ap (λ (x : Peer). after e x) (sym is)) in
+        let before : old l.who ≡ peer_weight end n l.peer = ap (λ (x : Peer). peer_weight end n x) (sym is) in
+        omega (arith, then, before, less)
+
+    no_more : is_none (known j n l.who).waiting ≡ false → l.peer ≡ known j n l.who → (p : Ip6) → new p ≤ old p
+    no_more waits found_peer p = by (same_ip6 p l.who) refl where
+      by : (x : Bool) → same_ip6 p l.who ≡ x → new p ≤ old p
+      by true same =
+          let is : p ≡ l.who = same_ip6-true p l.who same in
+          let at : new l.who < old l.who = here waits found_peer in
+          subst (λ x. new x ≤ old x) (sym is) (omega (arith, at))
+      by false other =
+          let is : new p ≡ old p =
+          ap (λ (o : Option Peer). peer_weight end n (unwrap_or o no_peer)) (entry p ∙ ap (λ x. peer_if x b.touches (is_young LISTED_MS n n) e (peer_at j n p) (peer_at j n p)) other) in
+          omega (arith, is)
+
+-- WHAT A TRY DOES
+
+-- a peer that was due weighs less once it is due later
+pub put_off : (end n : ℕ) (old new : Peer) → is_none old.waiting ≡ false → due_of old ≤ n → n ≤ end → n < due_of new → peer_weight end n new < peer_weight end n old
+put_off end n old new waits due within later =
+    let is : peer_weight end n old ≡ weights end n (due_of old ∷ []) = one_waiting end n old waits in
+    let less : peer_weight end n new < weights end n (due_of old ∷ []) = by (is_none new.waiting) in
+    omega (arith, is, less)
+  where
+    by : (b : Bool) → weights end n (cond b [] (due_of new ∷ [])) < weights end n (due_of old ∷ [])
+    by true = lighter_after end n n (due_of old) None due (le_refl n) within tt
+    by false = lighter_after end n n (due_of old) (Some (due_of new)) due (le_refl n) within later
+
+-- or nothing waits for it
+pub let_go : (end n : ℕ) (old new : Peer) → is_none old.waiting ≡ false → due_of old ≤ n → n ≤ end → new.waiting ≡ [] → peer_weight end n new < peer_weight end n old
+let_go end n old new waits due within none =
+    let is : peer_weight end n old ≡ weights end n (due_of old ∷ []) = one_waiting end n old waits in
+    let nothing : peer_weight end n new ≡ 0 = ap (λ (xs : List (List ℕ)). weights end n (cond (is_none xs) [] (due_of new ∷ []))) none in
+    let some : 0 < weights end n (due_of old ∷ []) = one_some end n n (due_of old) due (le_refl n) within in
+    omega (arith, is, nothing, some)
+
+-- a try puts it off
+pub tried_later : (n : ℕ) (who : Option Ip6) (drawn : Option ℕ) (peer : Peer)
+    → n < due_of (after (record { moment = n; peer = who; bearing = record no_bearing { touches = true; tries = true; nonce = drawn } }) peer)
+unfolding due_of
+tried_later n who drawn peer = omega arith
