@@ -1,6 +1,8 @@
 #!/usr/bin/env bash
 # check.sh [PROGRAM]: plays each scenario and shows each datagram with the built program, compares what it writes with
-# the file NAME.stdout beside it, and its exit status with NAME.status (0 where there is no such file).
+# the file NAME.stdout beside it, and its exit status with NAME.status (0 where there is no such file). Then plays every
+# pair of NAT kinds and compares with pairs.txt, makes the examples' datagrams and compares them with the files, and plays
+# what the documents quote.
 # Ends with the line 'N passed, M failed', and with status 1 where one failed or none was played.
 set -u
 here=$(cd -- "$(dirname -- "${BASH_SOURCE[0]}")" >/dev/null && pwd) || exit 1
@@ -33,6 +35,16 @@ try() {
   fi
 }
 
+# run WORDS..: runs a script of this folder, and counts.
+run() {
+  if "$here/$1" "${@:2}"; then
+    passed=$((passed + 1))
+  else
+    failed=$((failed + 1))
+    echo "$1 differs"
+  fi
+}
+
 made=$(mktemp) || exit 1
 trap 'rm -f "$made"' EXIT
 cd "$here" || exit 1
@@ -44,5 +56,8 @@ done
 for datagram in datagrams/*.hex; do
   try "$datagram" show "$(cat "$datagram")"
 done
+run pairs.py --check "$program"
+run make.py --check
+run quoted.py "$program"
 echo "$passed passed, $failed failed"
 [ "$failed" -eq 0 ] && [ "$passed" -gt 0 ]

@@ -1,0 +1,88 @@
+-- What is done with a payload by one line.
+use Rattle.std.proofs.Common.{◌≡◌, ◌≤◌, ◌+◌, ◌-◌, ℕ, List, length, Some, refl, ap, sym, subst, arith}
+use Rattle.std.proofs.Math.Nat.{le_refl}
+use Rattle.td_base.specs.declared.endpoint.Ep.{Ep}
+use Rattle.td_base.specs.declared.span.Span.{Span}
+use Rattle.teredo_addr.specs.Teredo.{embedded}
+use Rattle.bubble.specs.Payloads.{Value}
+use Rattle.teredo_node.specs.declared.fate.Fate.{Fate}
+use Rattle.teredo_node.specs.declared.fate.Fate.TheVariants as fate
+use Rattle.teredo_node.specs.Step.{Step, just, rest_of}
+use Rattle.teredo_node.specs.Sends.{sending, releases}
+use Rattle.peer_list.specs.Peers.{Peer}
+use Rattle.peer_list.specs.Laws.{after}
+use Rattle.peer_list.specs.Table.{known_to}
+use Rattle.peer_list.specs.Calls.{Updates, trusted_at, heard_at, emptied}
+use Rattle.peer_list.specs.Stands.{bears_nothing}
+use Rattle.relay_core.specs.declared.relay.Relay.{Relay}
+use Rattle.relay_rules.specs.Bearings.{mention}
+use Rattle.relay_rules.specs.Reception.{reception_step}
+use Rattle.relay_rules.specs.Laws.{IsQuiet}
+use Rattle.relay_core.specs.Relay.{settings_of, standing_in, TakesPayload, IsPayloadOf, entry_about}
+use Rattle.relay_core.specs.Lines.{DropsDatagram}
+use Rattle.relay_core.proofs.Below.{calls_of_an_entry}
+use Rattle.relay_core.proofs.Entered.{bears_stands, none_stands}
+
+-- nothing is done
+pub drops : (r : Relay) (n : ℕ) (from : Ep) (v : Value) (f : Fate) → r.peers.moment ≤ n → DropsDatagram f → TakesPayload r n from v f (just f) r
+drops r n from v f l d = record {
+  did = λ x is. sym (d.step (standing_in r n v.packet.src) x v);
+  stands = λ j x h. none_stands r (entry_about n from x v.packet.src (just f)) (bears_nothing (d.nothing (entry_about n from x v.packet.src (just f)))) j h;
+  settings = refl;
+  clock = l;
+}
+
+-- the source of a payload, trusted where it says and heard
+abbrev pub heard : Relay → ℕ → Value → Peer
+heard r n v = emptied (heard_at n (trusted_at n (embedded v.packet.src) (known_to r.peers n v.packet.src)))
+
+-- that is known of the source from then on, and all else is as it was
+pub record Hears (old : Relay) (n : ℕ) (v : Value) (new : Relay) : Type 0 where
+  pub clock : old.peers.moment ≤ n
+  pub peers : Updates old.peers new.peers n v.packet.src (heard old n v)
+  pub settings : settings_of new ≡ settings_of old
+
+hears : (old new : Relay) (n : ℕ) (from : Ep) (v : Value) (f : Fate) (step : Step) → Hears old n v new
+    → ((x : List ℕ) → after (mention (entry_about n from x v.packet.src step)) (known_to old.peers n v.packet.src) ≡ heard old n v)
+    → ((x : List ℕ) → IsPayloadOf x v → step ≡ reception_step (standing_in old n v.packet.src) x v f) → TakesPayload old n from v f step new
+hears old new n from v f step o means did = record {
+  did = did;
+  stands = λ j x h. bears_stands old new (entry_about n from x v.packet.src step) v.packet.src (record {
+    peer = refl;
+    clock = o.clock;
+    peers = subst (λ (p : Peer). Updates old.peers new.peers n v.packet.src p) (sym (means x)) o.peers;
+    quiet = λ cone before. subst (λ (p : Peer). IsQuiet p) (sym (means x)) (record { tries = refl; waiting = refl });
+  }) j h;
+  settings = o.settings;
+  clock = subst (λ (m : ℕ). m ≤ n) (sym o.peers.moment) (le_refl n);
+}
+
+-- what waits is sent
+abbrev pub released : Relay → ℕ → Value → Fate → Step
+released r n v f = sending f (releases (embedded v.packet.src) (known_to r.peers n v.packet.src).waiting)
+
+pub from_client_bubble : (old new : Relay) (n : ℕ) (from : Ep) (v : Value) → Hears old n v new → TakesPayload old n from v fate.FromClientBubble (released old n v fate.FromClientBubble) new
+from_client_bubble old new n from v o =
+    hears old new n from v fate.FromClientBubble (released old n v fate.FromClientBubble) o
+    (λ x. (calls_of_an_entry n (known_to old.peers n v.packet.src) (Some v.packet.src)).trust_heard_release (embedded v.packet.src)) (λ x is. refl)
+
+pub unserved : (old new : Relay) (n : ℕ) (from : Ep) (v : Value) → Hears old n v new → TakesPayload old n from v fate.Unserved (released old n v fate.Unserved) new
+unserved old new n from v o =
+    hears old new n from v fate.Unserved (released old n v fate.Unserved) o
+    (λ x. (calls_of_an_entry n (known_to old.peers n v.packet.src) (Some v.packet.src)).trust_heard_release (embedded v.packet.src)) (λ x is. refl)
+
+-- and the packet is passed on
+abbrev pub passed_on : Relay → ℕ → Value → Step
+passed_on r n v = record (released r n v fate.FromClient) { six = Some (record { at = v.lead.at; len = 40 + length v.packet.body }) }
+
+-- the rest of a datagram is its packet
+rest_is : (x : List ℕ) (v : Value) → IsPayloadOf x v → rest_of v.lead.at x ≡ record { at = v.lead.at; len = 40 + length v.packet.body }
+rest_is x v is =
+    let len : length x - v.lead.at ≡ 40 + length v.packet.body = omega (arith, is.inside) in
+    ap (λ (n : ℕ). record { at = v.lead.at; len = n }) len
+
+pub from_client : (old new : Relay) (n : ℕ) (from : Ep) (v : Value) → Hears old n v new → TakesPayload old n from v fate.FromClient (passed_on old n v) new
+from_client old new n from v o =
+    hears old new n from v fate.FromClient (passed_on old n v) o
+    (λ x. (calls_of_an_entry n (known_to old.peers n v.packet.src) (Some v.packet.src)).trust_heard_release (embedded v.packet.src))
+    (λ x is. ap (λ (s : Span). record (released old n v fate.FromClient) { six = Some s }) (sym (rest_is x v is)))

@@ -1,0 +1,98 @@
+-- One entry more: what a relay then stands for.
+use Rattle.std.proofs.Common.{◌≡◌, ◌≤◌, ℕ, Bool, true, false, List, [], ◌∷◌, Option, Some, None, refl, sym, ap, ◌∙◌, subst}
+use Rattle.std.specs.Prelude.{unwrap_or, if◌then◌else◌}
+use Rattle.std.proofs.Math.Nat.{le_refl, le_trans}
+use Rattle.td_base.specs.Ip6.{same_ip6, same_ip6-true}
+use Rattle.td_base.specs.declared.ipv6.Ip6.{Ip6}
+use Rattle.teredo_addr.specs.Teredo.{has_cone}
+use Rattle.teredo_node.specs.Journal.{Entry}
+use Rattle.peer_list.specs.declared.limits.TheConstants.{LISTED_MS}
+use Rattle.peer_list.specs.Peers.{Peer, no_peer}
+use Rattle.peer_list.specs.Judged.{is_within}
+use Rattle.peer_list.specs.Laws.{after}
+use Rattle.peer_list.specs.Table.{Table, empty_table, while_listed, peer_in, known_to}
+use Rattle.peer_list.specs.Calls.{Updates}
+use Rattle.peer_list.specs.Stands.{StandsForMentions, MeansNothing}
+use Rattle.relay_core.specs.declared.relay.Relay.{Relay}
+use Rattle.relay_rules.specs.Bearings.{mention, mentions}
+use Rattle.relay_rules.specs.Laws.{IsQuiet}
+use Rattle.relay_core.specs.Relay.{settings_of, RelayStandsFor, Enters, KeepsAll, AsBefore}
+use Rattle.relay_core.proofs.Below.{next_stands, idle_stands, kept_stands}
+
+-- WHO IS QUIET
+
+abbrev AreQuiet : Table → Type 0
+AreQuiet t = (n : ℕ) (p : Ip6) → t.moment ≤ n → has_cone p ≡ true → IsQuiet (known_to t n p)
+
+quiet_none : IsQuiet no_peer
+quiet_none = record { tries = refl; waiting = refl }
+
+quiet_if : (b : Bool) (x : Peer) → IsQuiet x → IsQuiet (unwrap_or (if b then Some x else None) no_peer)
+quiet_if true x h = h
+quiet_if false x h = quiet_none
+
+-- a table that is changed so
+quiet_next : (old new : Table) (m : ℕ) (who : Ip6) (peer : Peer) → old.moment ≤ m → Updates old new m who peer → (has_cone who ≡ true → IsQuiet peer) → AreQuiet old → AreQuiet new
+quiet_next old new m who peer clock u quiet before n p l cone = by_who (same_ip6 p who) refl where
+  by_who : (b : Bool) → same_ip6 p who ≡ b → IsQuiet (known_to new n p)
+  by_who true is =
+      subst (λ (o : Option Peer). IsQuiet (unwrap_or o no_peer)) (sym (u.view n p (subst (λ (k : ℕ). k ≤ n) u.moment l) ∙ ap (λ (t : Bool). if t then while_listed n peer else peer_in old n p) is))
+      (quiet_if (is_within LISTED_MS n peer.touched) peer (quiet (subst (λ (q : Ip6). has_cone q ≡ true) (same_ip6-true p who is) cone)))
+  by_who false is =
+      subst (λ (o : Option Peer). IsQuiet (unwrap_or o no_peer)) (sym (u.view n p (subst (λ (k : ℕ). k ≤ n) u.moment l) ∙ ap (λ (t : Bool). if t then while_listed n peer else peer_in old n p) is))
+      (before n p (le_trans clock (subst (λ (k : ℕ). k ≤ n) u.moment l)) cone)
+
+-- nobody is listed at first
+pub nobody_stands : (r : Relay) → r.peers ≡ empty_table → StandsForMentions r.peers [] → RelayStandsFor r []
+unfolding mentions peer_in
+nobody_stands r is stands = record {
+  peers = stands;
+  quiet = λ n p l cone. subst (λ (t : Table). IsQuiet (known_to t n p)) (sym is) quiet_none;
+}
+
+-- ONE ENTRY MORE
+
+-- what an entry means for its peer
+pub record Bears (old : Relay) (e : Entry) (who : Ip6) (new : Relay) : Type 0 where
+  pub peer : e.peer ≡ Some who
+  pub clock : old.peers.moment ≤ e.moment
+  pub peers : Updates old.peers new.peers e.moment who (after (mention e) (known_to old.peers e.moment who))
+  pub quiet : has_cone who ≡ true → IsQuiet (known_to old.peers e.moment who) → IsQuiet (after (mention e) (known_to old.peers e.moment who))
+
+pub bears_stands : (old new : Relay) (e : Entry) (who : Ip6) → Bears old e who new → (j : List Entry) → RelayStandsFor old j → RelayStandsFor new (e ∷ j)
+unfolding mentions
+bears_stands old new e who b j h = record {
+  peers = next_stands old.peers new.peers (mention e) (mentions j) who h.peers b.clock b.peer b.peers;
+  quiet = quiet_next old.peers new.peers e.moment who (after (mention e) (known_to old.peers e.moment who)) b.clock b.peers (λ cone. b.quiet cone (h.quiet e.moment who b.clock cone)) h.quiet;
+}
+
+-- for each journal, where that may rest on what it stands for
+pub bears_enters : (old new : Relay) (e : Entry) (who : Ip6) (peer : Peer) → Updates old.peers new.peers e.moment who peer → settings_of new ≡ settings_of old
+    → ((j : List Entry) → RelayStandsFor old j → Bears old e who new) → Enters old e new
+bears_enters old new e who peer u same b = record {
+  stands = λ j h. bears_stands old new e who (b j h) j h;
+  settings = same;
+  clock = subst (λ (n : ℕ). n ≤ e.moment) (sym u.moment) (le_refl e.moment);
+}
+
+-- an entry that means nothing for a peer: the relay is the same
+pub none_stands : (r : Relay) (e : Entry) → MeansNothing (mention e) → (j : List Entry) → RelayStandsFor r j → RelayStandsFor r (e ∷ j)
+unfolding mentions
+none_stands r e idle j h = record { peers = idle_stands r.peers (mention e) (mentions j) h.peers idle; quiet = h.quiet }
+
+pub none_enters : (r : Relay) (e : Entry) → MeansNothing (mention e) → r.peers.moment ≤ e.moment → Enters r e r
+none_enters r e idle clock = record { stands = none_stands r e idle; settings = refl; clock = clock }
+
+-- REFUSALS
+
+-- whatever keeps all stays as it was
+pub keeps_stays : (old new : Relay) (n : ℕ) → old.peers.moment ≤ n → KeepsAll old n new → AsBefore old new
+keeps_stays old new n clock k = record {
+  stands = λ j h. record {
+    peers = kept_stands old.peers new.peers n (mentions j) h.peers clock k.peers;
+    quiet = λ m p l cone.
+        let later : n ≤ m = subst (λ (i : ℕ). i ≤ m) k.peers.moment l in
+        subst (λ (o : Option Peer). IsQuiet (unwrap_or o no_peer)) (sym (k.peers.view m p later)) (h.quiet m p (le_trans clock later) cone);
+  };
+  settings = k.settings;
+}

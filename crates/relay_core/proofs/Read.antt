@@ -1,0 +1,77 @@
+-- What a relay reads of itself is what each journal says that it stands for.
+use Rattle.std.proofs.Common.{◌≡◌, ◌≤◌, ℕ, Bool, true, false, List, ◌∷◌, Some, None, refl, ap, sym, subst, ◌∙◌}
+use Rattle.std.specs.Prelude.{if◌then◌else◌}
+use Rattle.td_base.specs.declared.ipv6.Ip6.{Ip6}
+use Rattle.td_base.specs.declared.endpoint.Ep.{Ep}
+use Rattle.bubble.specs.Payloads.{Value}
+use Rattle.bubble.specs.Reads.{is_payload, value_in}
+use Rattle.bubble.specs.PacketsIn.{source_in, packet_in}
+use Rattle.teredo_node.specs.declared.fate.Fate.TheVariants as fate
+use Rattle.teredo_node.specs.Step.{Step, just}
+use Rattle.teredo_node.specs.Journal.{Entry, arrived}
+use Rattle.peer_list.specs.Stands.{SaysTheSame, bears_nothing}
+use Rattle.relay_core.specs.declared.relay.Relay.{Relay}
+use Rattle.relay_rules.specs.Bearings.{mentions}
+use Rattle.relay_rules.specs.Standing.{RelaySettings, Standing, standing_at, standing_of}
+use Rattle.relay_rules.specs.Reception.{seen_of, seen, reception_row, reception_step, reception}
+use Rattle.relay_rules.specs.Journals.{entry, relay_in}
+use Rattle.relay_core.specs.Relay.{settings_of, standing_in, RelayStandsFor, Does, TakesPayload, IsPayloadOf, fate_in}
+use Rattle.relay_core.proofs.Below.{table_is_read}
+use Rattle.relay_core.proofs.Entered.{none_stands}
+
+pub read_same : (r : Relay) (j : List Entry) (n : ℕ) → RelayStandsFor r j → r.peers.moment ≤ n → SaysTheSame r.peers (mentions j) n
+read_same r j n h l = table_is_read r.peers (mentions j) n h.peers l
+
+pub standing_is : (r : Relay) (j : List Entry) (n : ℕ) (p : Ip6) → RelayStandsFor r j → r.peers.moment ≤ n → standing_in r n p ≡ standing_at j n p
+unfolding standing_at
+standing_is r j n p h l = let s = read_same r j n h l in λ i. record { moment = n; peer = s.peer p i; room = s.room p i }
+
+-- DATAGRAMS
+
+source_there : (x : List ℕ) (v : Value) → is_payload x ≡ true → value_in x ≡ v → source_in x ≡ Some v.packet.src
+unfolding source_in
+source_there x v payload value = λ i. if payload i then Some (value i).packet.src else None
+
+reception_by : (s : RelaySettings) (a : Standing) (from : Ep) (x : List ℕ) (v : Value) (b : Bool) → is_payload x ≡ b → value_in x ≡ v
+    → reception s a from x ≡ reception_step a x v (reception_row (seen_of s a from b v))
+unfolding reception seen
+reception_by s a from x v b payload value = λ i. reception_step a x (value i) (reception_row (seen_of s a from (payload i) (value i)))
+
+step_there : (r : Relay) (j : List Entry) (n : ℕ) (from : Ep) (x : List ℕ) (v : Value) → RelayStandsFor r j → r.peers.moment ≤ n → is_payload x ≡ true → value_in x ≡ v
+    → reception (settings_of r) (standing_of j n (source_in x)) from x ≡ reception_step (standing_in r n v.packet.src) x v (fate_in r n from v)
+step_there r j n from x v h l payload value =
+    let a : standing_of j n (source_in x) ≡ standing_in r n v.packet.src = ap (standing_of j n) (source_there x v payload value) ∙ sym (standing_is r j n v.packet.src h l) in
+    ap (λ (b : Standing). reception (settings_of r) b from x) a
+    ∙ reception_by (settings_of r) (standing_in r n v.packet.src) from x v true payload value
+
+pub received : (old new : Relay) (n : ℕ) (from : Ep) (x : List ℕ) (v : Value) (step : Step) → is_payload x ≡ true → IsPayloadOf x v → old.peers.moment ≤ n
+    → TakesPayload old n from v (fate_in old n from v) step new → Does old n (arrived from x) step new
+unfolding relay_in
+received old new n from x v step payload is l r =
+    let did : (j : List Entry) → RelayStandsFor old j → step ≡ reception (settings_of old) (standing_of j n (source_in x)) from x =
+    (λ j h. r.did x is ∙ sym (step_there old j n from x v h l payload is.value)) in
+    record {
+      did = did;
+      stands = λ j h. subst (λ (e : Entry). RelayStandsFor new (e ∷ j))
+          (λ i. entry n (arrived from x) (packet_in x) (sym (source_there x v payload is.value) i) (did j h i)) (r.stands j x h);
+      settings = r.settings;
+      clock = r.clock;
+    }
+
+-- what isn't a payload is dropped
+malformed_by : (s : RelaySettings) (a : Standing) (from : Ep) (x : List ℕ) → is_payload x ≡ false → reception s a from x ≡ just fate.Malformed
+unfolding reception seen
+malformed_by s a from x isnt = λ i. reception_step a x (value_in x) (reception_row (seen_of s a from (isnt i) (value_in x)))
+
+pub malformed : (r : Relay) (n : ℕ) (from : Ep) (x : List ℕ) → r.peers.moment ≤ n → is_payload x ≡ false → Does r n (arrived from x) (just fate.Malformed) r
+unfolding relay_in
+malformed r n from x l isnt =
+    let whole : (j : List Entry) → just fate.Malformed ≡ reception (settings_of r) (standing_of j n (source_in x)) from x =
+    (λ j. sym (malformed_by (settings_of r) (standing_of j n (source_in x)) from x isnt)) in
+    let e : Entry = entry n (arrived from x) (packet_in x) (source_in x) (just fate.Malformed) in
+    record {
+      did = λ j h. whole j;
+      stands = λ j h. subst (λ (k : Entry). RelayStandsFor r (k ∷ j)) (λ i. entry n (arrived from x) (packet_in x) (source_in x) (whole j i)) (none_stands r e (bears_nothing refl) j h);
+      settings = refl;
+      clock = l;
+    }

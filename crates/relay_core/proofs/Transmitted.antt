@@ -1,0 +1,186 @@
+-- What is done with a packet of the IPv6 side, for each journal.
+use Rattle.std.proofs.Common.{◌≡◌, ◌≤◌, ℕ, Bool, true, false, List, [], ◌∷◌, Option, Some, None, refl, ap, sym, subst, ◌∙◌, ◌+◌, length, arith}
+use Rattle.std.specs.Prelude.{if◌then◌else◌, unwrap_or, is_some}
+use Rattle.std.proofs.lemmas.Bool.{ltb-false, false≢true}
+use Rattle.td_base.specs.declared.ipv6.Ip6.{Ip6}
+use Rattle.ipv6_packet.specs.Packets.{Fields}
+use Rattle.ipv6_packet.specs.Reads.{is_packet, fields_in, is_big}
+use Rattle.teredo_addr.specs.Teredo.{embedded, has_cone, unspecified}
+use Rattle.bubble.specs.PacketsIn.{packet_given, destination_in}
+use Rattle.teredo_node.specs.declared.fate.Fate.{Fate}
+use Rattle.teredo_node.specs.declared.fate.Fate.TheVariants as fate
+use Rattle.teredo_node.specs.Step.{Step, just}
+use Rattle.teredo_node.specs.Sends.{send, sending}
+use Rattle.teredo_node.specs.Journal.{Entry, from_six}
+use Rattle.peer_list.specs.Peers.{Peer, peer_at}
+use Rattle.peer_list.specs.Table.{Table, peer_in, known_to}
+use Rattle.peer_list.specs.Calls.{Updates, touched_at, trusted_at, queued_at, tried_at}
+use Rattle.peer_list.specs.Stands.{bears_nothing}
+use Rattle.relay_core.specs.declared.relay.Relay.{Relay}
+use Rattle.relay_rules.specs.Bearings.{mentions}
+use Rattle.relay_rules.specs.Standing.{RelaySettings, Standing, standing_of}
+use Rattle.relay_rules.specs.Transmission.{given_of, queues, transmission_row, transmission_step, transmission}
+use Rattle.relay_rules.specs.Transmission as table
+use Rattle.relay_rules.specs.Journals.{entry, relay_six}
+use Rattle.relay_rules.specs.Laws.{IsQuiet}
+use Rattle.relay_core.specs.Relay.{settings_of, standing_in, RelayStandsFor, Enters, Does, TriesUnless, WantsMemory, to_wait, to_list}
+use Rattle.relay_core.specs.Lines.{DropsPacket, given_to}
+use Rattle.relay_core.proofs.Below.{calls_of_an_entry, fate_of_transmission}
+use Rattle.relay_core.proofs.Entered.{bears_enters, none_enters, none_stands}
+use Rattle.relay_core.proofs.Peered.{then_call}
+use Rattle.relay_core.proofs.Read.{read_same, standing_is}
+
+-- a packet that was read
+pub record IsFields (x : List ℕ) (p : Fields) : Type 0 where
+  pub packet : is_packet x ≡ true
+  pub fields : fields_in x ≡ p
+
+destination_there : (x : List ℕ) (p : Fields) → IsFields x p → destination_in x ≡ Some p.dst
+unfolding destination_in
+destination_there x p is = λ i. if is.packet i then Some (is.fields i).dst else None
+
+packet_there : (x : List ℕ) → is_packet x ≡ true → packet_given x ≡ Some x
+unfolding packet_given
+packet_there x packet = λ i. if packet i then Some x else None
+
+standing_there : (r : Relay) (j : List Entry) (n : ℕ) (x : List ℕ) (p : Fields) → RelayStandsFor r j → r.peers.moment ≤ n → IsFields x p → standing_of j n (destination_in x) ≡ standing_in r n p.dst
+standing_there r j n x p h l is = ap (standing_of j n) (destination_there x p is) ∙ sym (standing_is r j n p.dst h l)
+
+transmission_by : (s : RelaySettings) (a : Standing) (x : List ℕ) (p : Fields) → IsFields x p → transmission s a x ≡ transmission_step s a x p.dst (transmission_row (given_of s a true p))
+unfolding transmission table.given
+transmission_by s a x p is = λ i. transmission_step s a x (is.fields i).dst (transmission_row (given_of s a (is.packet i) (is.fields i)))
+
+-- what the table gives, as the relay reads itself
+transmission_there : (r : Relay) (j : List Entry) (n : ℕ) (x : List ℕ) (p : Fields) → RelayStandsFor r j → r.peers.moment ≤ n → IsFields x p
+    → transmission (settings_of r) (standing_of j n (destination_in x)) x ≡ transmission_step (settings_of r) (standing_in r n p.dst) x p.dst (transmission_row (given_to r n p))
+transmission_there r j n x p h l is =
+    ap (λ (a : Standing). transmission (settings_of r) a x) (standing_there r j n x p h l is) ∙ transmission_by (settings_of r) (standing_in r n p.dst) x p is
+
+-- what a line did with it
+pub transmitted : (old new : Relay) (n : ℕ) (x : List ℕ) (p : Fields) (f : Fate) (step : Step) → IsFields x p → old.peers.moment ≤ n
+    → f ≡ transmission_row (given_to old n p) → step ≡ transmission_step (settings_of old) (standing_in old n p.dst) x p.dst f
+    → Enters old (entry n (from_six x) (Some x) (Some p.dst) step) new → Does old n (from_six x) step new
+unfolding relay_six
+transmitted old new n x p f step is l row did entered =
+    let whole : (j : List Entry) → RelayStandsFor old j → step ≡ transmission (settings_of old) (standing_of j n (destination_in x)) x =
+    (λ j h. did ∙ ap (λ (g : Fate). transmission_step (settings_of old) (standing_in old n p.dst) x p.dst g) row ∙ sym (transmission_there old j n x p h l is)) in
+    record {
+      did = whole;
+      stands = λ j h. subst (λ (e : Entry). RelayStandsFor new (e ∷ j))
+          (λ i. entry n (from_six x) (sym (packet_there x is.packet) i) (sym (destination_there x p is) i) (whole j h i)) (entered.stands j h);
+      settings = entered.settings;
+      clock = entered.clock;
+    }
+
+-- THE LINES
+
+pub drops_packet : (r : Relay) (n : ℕ) (x : List ℕ) (p : Fields) (f : Fate) → IsFields x p → r.peers.moment ≤ n → f ≡ transmission_row (given_to r n p) → DropsPacket f → Does r n (from_six x) (just f) r
+drops_packet r n x p f is l row d =
+    let e : Entry = entry n (from_six x) (Some x) (Some p.dst) (just f) in
+    transmitted r r n x p f (just f) is l row (sym (d.step (settings_of r) (standing_in r n p.dst) x p.dst)) (none_enters r e (bears_nothing (d.nothing e)) l)
+
+pub sent : (old new : Relay) (n : ℕ) (x : List ℕ) (p : Fields) → IsFields x p → old.peers.moment ≤ n → fate.Sent ≡ transmission_row (given_to old n p)
+    → Updates old.peers new.peers n p.dst (touched_at n (known_to old.peers n p.dst)) → settings_of new ≡ settings_of old
+    → Does old n (from_six x) (sending fate.Sent (send (embedded p.dst) x ∷ [])) new
+sent old new n x p is l row u same =
+    let step = sending fate.Sent (send (embedded p.dst) x ∷ []) in
+    let known = known_to old.peers n p.dst in
+    transmitted old new n x p fate.Sent step is l row refl
+    (bears_enters old new (entry n (from_six x) (Some x) (Some p.dst) step) p.dst (touched_at n known) u same (λ j h. record {
+      peer = refl;
+      clock = l;
+      peers = subst (λ (k : Peer). Updates old.peers new.peers n p.dst k) (sym (calls_of_an_entry n known (Some p.dst)).touch) u;
+      quiet = λ cone before. subst (λ (k : Peer). IsQuiet k) (sym (calls_of_an_entry n known (Some p.dst)).touch) (record { tries = before.tries; waiting = before.waiting });
+    }))
+
+-- an address with the cone bit that was listed and trusted where it says
+pub sent_cone : (old mid new : Relay) (n : ℕ) (who : Ip6) (x : List ℕ) → old.peers.moment ≤ n → has_cone who ≡ true
+    → Updates old.peers mid.peers n who (touched_at n (known_to old.peers n who)) → Updates mid.peers new.peers n who (trusted_at n (embedded who) (known_to mid.peers n who))
+    → settings_of new ≡ settings_of old
+    → Enters old (entry n (from_six x) (Some x) (Some who) (sending fate.SentCone (send (embedded who) x ∷ []))) new
+sent_cone old mid new n who x l cone listed trusted same =
+    let known = known_to old.peers n who in
+    let u : Updates old.peers new.peers n who (trusted_at n (embedded who) known) = then_call old.peers mid.peers new.peers n who known (λ (p : Peer). trusted_at n (embedded who) p) listed trusted in
+    bears_enters old new (entry n (from_six x) (Some x) (Some who) (sending fate.SentCone (send (embedded who) x ∷ []))) who (trusted_at n (embedded who) known) u same (λ j h. record {
+      peer = refl;
+      clock = l;
+      peers = subst (λ (k : Peer). Updates old.peers new.peers n who k) (sym ((calls_of_an_entry n known (Some who)).trust (embedded who) (h.quiet n who l cone).tries)) u;
+      quiet = λ it before. subst (λ (k : Peer). IsQuiet k) (sym ((calls_of_an_entry n known (Some who)).trust (embedded who) before.tries)) (record { tries = refl; waiting = before.waiting });
+    })
+
+-- the table after a packet that waits, and a try unless the peer is barred
+pub record Waits (old : Relay) (n : ℕ) (who : Ip6) (x : List ℕ) (barred : Bool) (new : Relay) : Type 0 where
+  pub clock : old.peers.moment ≤ n
+  pub plain : has_cone who ≡ false
+  pub mid : Table
+  pub waits : Updates old.peers mid n who (queued_at n x (known_to old.peers n who))
+  pub tries : TriesUnless barred mid n who new.peers
+  pub settings : settings_of new ≡ settings_of old
+
+pub queued : (old new : Relay) (n : ℕ) (who : Ip6) (x : List ℕ) (barred : Bool) → Waits old n who x barred new
+    → Enters old (entry n (from_six x) (Some x) (Some who) (queues barred (settings_of old) who)) new
+queued old new n who x true k =
+    let known = known_to old.peers n who in
+    let u : Updates old.peers new.peers n who (queued_at n x known) = subst (λ (t : Table). Updates old.peers t n who (queued_at n x known)) (sym k.tries) k.waits in
+    bears_enters old new (entry n (from_six x) (Some x) (Some who) (queues true (settings_of old) who)) who (queued_at n x known) u k.settings (λ j h. record {
+      peer = refl;
+      clock = k.clock;
+      peers = subst (λ (p : Peer). Updates old.peers new.peers n who p) (sym ((calls_of_an_entry n known (Some who)).queue x)) u;
+      quiet = λ cone before. absurd (false≢true (sym k.plain ∙ cone));
+    })
+queued old new n who x false k =
+    let known = known_to old.peers n who in
+    let u : Updates old.peers new.peers n who (tried_at n None (queued_at n x known)) = then_call old.peers k.mid new.peers n who (queued_at n x known) (λ (p : Peer). tried_at n None p) k.waits k.tries in
+    bears_enters old new (entry n (from_six x) (Some x) (Some who) (queues false (settings_of old) who)) who (tried_at n None (queued_at n x known)) u k.settings (λ j h. record {
+      peer = refl;
+      clock = k.clock;
+      peers = subst (λ (p : Peer). Updates old.peers new.peers n who p) (sym ((calls_of_an_entry n known (Some who)).queue_tried x None)) u;
+      quiet = λ cone before. absurd (false≢true (sym k.plain ∙ cone));
+    })
+
+-- WHERE NO LINE ASKS FOR THE PACKET
+
+malformed_by : (s : RelaySettings) (a : Standing) (x : List ℕ) → is_packet x ≡ false → transmission s a x ≡ just fate.Malformed
+unfolding transmission table.given
+malformed_by s a x isnt = λ i. transmission_step s a x (fields_in x).dst (transmission_row (given_of s a (isnt i) (fields_in x)))
+
+-- whatever it is about, nothing is done
+pub malformed : (r : Relay) (n : ℕ) (x : List ℕ) → r.peers.moment ≤ n → is_packet x ≡ false → Does r n (from_six x) (just fate.Malformed) r
+unfolding relay_six
+malformed r n x l isnt =
+    let whole : (j : List Entry) → just fate.Malformed ≡ transmission (settings_of r) (standing_of j n (destination_in x)) x =
+    (λ j. sym (malformed_by (settings_of r) (standing_of j n (destination_in x)) x isnt)) in
+    let e : Entry = entry n (from_six x) (packet_given x) (destination_in x) (just fate.Malformed) in
+    record {
+      did = λ j h. whole j;
+      stands = λ j h. subst (λ (k : Entry). RelayStandsFor r (k ∷ j)) (λ i. entry n (from_six x) (packet_given x) (destination_in x) (whole j i)) (none_stands r e (bears_nothing refl) j h);
+      settings = refl;
+      clock = l;
+    }
+
+-- SIZES
+
+-- a packet that isn't big
+pub short : (x : List ℕ) (p : Fields) → is_big p ≡ false → 40 + length p.body ≡ length x → length x ≤ 1280
+unfolding is_big
+short x p small inside = let most = ltb-false _ _ small in omega (arith, inside, most)
+
+-- WHERE MEMORY WAS WANTING
+
+fate_there : (r : Relay) (j : List Entry) (n : ℕ) (x : List ℕ) (p : Fields) → RelayStandsFor r j → r.peers.moment ≤ n → IsFields x p
+    → (relay_six (settings_of r) j n x).step.fate ≡ transmission_row (given_to r n p)
+unfolding relay_six table.given
+fate_there r j n x p h l is =
+    let a = standing_there r j n x p h l is in
+    fate_of_transmission (settings_of r) (standing_of j n (destination_in x)) x ∙ (λ i. transmission_row (given_of (settings_of r) (a i) (is.packet i) (is.fields i)))
+
+pub wants_queue : (r : Relay) (n : ℕ) (x : List ℕ) (p : Fields) → IsFields x p → r.peers.moment ≤ n → fate.Queued ≡ transmission_row (given_to r n p) → WantsMemory r n x
+wants_queue r n x p is l row j h = to_wait (fate_there r j n x p h l is ∙ sym row)
+
+pub wants_place : (r : Relay) (n : ℕ) (x : List ℕ) (p : Fields) → IsFields x p → r.peers.moment ≤ n → fate.SentCone ≡ transmission_row (given_to r n p)
+    → is_some (peer_in r.peers n p.dst) ≡ false → WantsMemory r n x
+wants_place r n x p is l row unlisted j h =
+    to_list (fate_there r j n x p h l is ∙ sym row)
+    (ap (λ (q : Option Ip6). is_some (peer_at (mentions j) n (unwrap_or q unspecified))) (destination_there x p is)
+    ∙ ap (λ (q : Option Peer). is_some q) (sym ((read_same r j n h l).peer p.dst))
+    ∙ unlisted)

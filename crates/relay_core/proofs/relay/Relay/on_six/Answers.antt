@@ -1,0 +1,64 @@
+use Rattle.std.proofs.Common.{refl, sym, subst}
+use Rattle.std.proofs.lemmas.Result.{on_err_weaker}
+use Rattle.ipv6_packet.specs.Packets.{view as packet_view}
+use Rattle.teredo_node.specs.declared.fate.Fate.TheVariants as fate
+use Rattle.teredo_node.specs.Step.{Step}
+use Rattle.teredo_node.specs.Journal.{from_six}
+use Rattle.relay_core.specs.declared.relay.Relay.{Relay}
+use Rattle.relay_core.specs.Relay.{Does}
+use Rattle.relay_core.proofs.Results.{on_ok_both, on_err_always}
+use Rattle.relay_core.proofs.Transmitted.{malformed, drops_packet, sent, transmitted, short, wants_queue, wants_place}
+use Rattle.relay_core.proofs.relay.Relay.on_six.Goals as goal
+
+pub returns-in_default-clause-done : goal.returns-in_default-clause-done
+returns-in_default-clause-done c =
+    subst (λ (s : Step). Does c.args.self.now c.args.now.0 (from_six c.args.bytes.now) s c.args.self.now) (sym c.reset.ensures)
+    (malformed c.args.self.now c.args.now.0 c.args.bytes.now c.requires.callable.clock c.in_default.ensures.unseen)
+
+pub send_packet-requires : goal.send_packet-requires
+send_packet-requires c = record { short = short c.args.bytes.now (packet_view c.in-Ok.packet) c.in-Sent.ensures.small c.in-Ok.ensures.inside }
+
+pub send_cone-requires-clause-short : goal.send_cone-requires-clause-short
+send_cone-requires-clause-short c = short c.args.bytes.now (packet_view c.in-Ok.packet) c.in-SentCone.ensures.small c.in-Ok.ensures.inside
+
+pub queue-requires-clause-short : goal.queue-requires-clause-short
+queue-requires-clause-short c = short c.args.bytes.now (packet_view c.in-Ok.packet) c.in-Queued.ensures.small c.in-Ok.ensures.inside
+
+pub returns-in-Drop-clause-done : goal.returns-in-Drop-clause-done
+returns-in-Drop-clause-done c =
+    subst (λ (s : Step). Does c.args.self.now c.args.now.0 (from_six c.args.bytes.now) s c.args.self.now) (sym c.reset-in-Drop.ensures)
+    (drops_packet c.args.self.now c.args.now.0 c.args.bytes.now (packet_view c.in-Ok.packet) c.in-Drop.fate (record { packet = c.in-Ok.ensures.seen.0; fields = c.in-Ok.ensures.seen.1 }) c.requires.callable.clock c.in-Drop.ensures.row c.in-Drop.ensures.warrant)
+
+pub returns-in-Sent-clause-done : goal.returns-in-Sent-clause-done
+returns-in-Sent-clause-done c =
+    let old = c.args.self.now in
+    let new : Relay = record old { peers = c.touch.new.self } in
+    subst (λ (s : Step). Does old c.args.now.0 (from_six c.args.bytes.now) s new) (sym c.send_packet.ensures)
+    (sent old new c.args.now.0 c.args.bytes.now (packet_view c.in-Ok.packet) (record { packet = c.in-Ok.ensures.seen.0; fields = c.in-Ok.ensures.seen.1 }) c.requires.callable.clock c.in-Sent.ensures.row c.touch.ensures refl)
+
+pub returns-in-SentCone-clause-done : goal.returns-in-SentCone-clause-done
+returns-in-SentCone-clause-done c =
+    let old = c.args.self.now in
+    let p = packet_view c.in-Ok.packet in
+    on_ok_both c.send_cone.result
+    (transmitted old c.send_cone.new.self c.args.now.0 c.args.bytes.now p fate.SentCone c.send_cone.new.step (record { packet = c.in-Ok.ensures.seen.0; fields = c.in-Ok.ensures.seen.1 }) c.requires.callable.clock c.in-SentCone.ensures.row)
+    c.send_cone.ensures.step c.send_cone.ensures.entered
+
+pub returns-in-SentCone-clause-starved : goal.returns-in-SentCone-clause-starved
+returns-in-SentCone-clause-starved c =
+    on_err_weaker c.send_cone.result
+    (wants_place c.args.self.now c.args.now.0 c.args.bytes.now (packet_view c.in-Ok.packet) (record { packet = c.in-Ok.ensures.seen.0; fields = c.in-Ok.ensures.seen.1 }) c.requires.callable.clock c.in-SentCone.ensures.row)
+    c.send_cone.ensures.unlisted
+
+pub returns-in-Queued-clause-done : goal.returns-in-Queued-clause-done
+returns-in-Queued-clause-done c =
+    let old = c.args.self.now in
+    let p = packet_view c.in-Ok.packet in
+    on_ok_both c.queue.result
+    (transmitted old c.queue.new.self c.args.now.0 c.args.bytes.now p fate.Queued c.queue.new.step (record { packet = c.in-Ok.ensures.seen.0; fields = c.in-Ok.ensures.seen.1 }) c.requires.callable.clock c.in-Queued.ensures.row)
+    c.queue.ensures.step c.queue.ensures.entered
+
+pub returns-in-Queued-clause-starved : goal.returns-in-Queued-clause-starved
+returns-in-Queued-clause-starved c =
+    on_err_always c.queue.result
+    (wants_queue c.args.self.now c.args.now.0 c.args.bytes.now (packet_view c.in-Ok.packet) (record { packet = c.in-Ok.ensures.seen.0; fields = c.in-Ok.ensures.seen.1 }) c.requires.callable.clock c.in-Queued.ensures.row)

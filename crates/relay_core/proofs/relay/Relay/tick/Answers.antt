@@ -1,0 +1,46 @@
+use Rattle.std.proofs.Common.{◌≡◌, sym, subst, ◌∙◌, ap, Option, None}
+use Rattle.std.specs.Prelude.{option_map}
+use Rattle.td_base.specs.declared.ipv6.Ip6.{Ip6}
+use Rattle.teredo_node.specs.Step.{Step}
+use Rattle.teredo_node.specs.Due.{Idles, Lessens}
+use Rattle.teredo_node.specs.Journal.{ticked}
+use Rattle.relay_core.specs.Relay.{Does, AsBefore}
+use Rattle.relay_core.specs.Endpoint.{owing}
+use Rattle.relay_core.proofs.Ticked.{due_now, listing, idles, does_peer}
+use Rattle.relay_core.proofs.Owed.{rests, rests_too, put_off_idles, put_off_lessens}
+use Rattle.relay_core.proofs.relay.Relay.tick.Goals as goal
+
+pub returns-in_default : goal.returns-in_default
+returns-in_default c =
+    let r = c.args.self.now in
+    let n = c.args.now.0 in
+    let nobody : due_now r n ≡ None = c.due_peer.ensures.first ∙ ap (λ (o : Option Ip6). option_map (λ (who : Ip6). listing r n who) o) c.in_default.is in
+    record {
+      done = subst (λ (s : Step). Does r n ticked s r) (sym c.reset.ensures) (idles r n c.requires.callable.clock nobody);
+      idle = subst (λ (s : Step). Idles (owing r n) (AsBefore r r) s) (sym c.reset.ensures) (rests r n);
+      less = subst (λ (s : Step). Lessens (owing r n) (owing r n) s) (sym c.reset.ensures) (rests_too r n nobody);
+    }
+
+pub returns-then-is_spent : goal.returns-then-is_spent
+returns-then-is_spent c =
+    let old = c.args.self.now in
+    let n = c.args.now.0 in
+    record {
+      done = does_peer old c.give_up.new.self n c.in-Some.who _ c.give_up.new.step c.requires.callable.clock
+          (c.due_peer.ensures.first ∙ ap (λ (o : Option Ip6). option_map (λ (who : Ip6). listing old n who) o) c.in-Some.is)
+          (sym c.is_spent.ensures ∙ c.if-is_spent.true) c.give_up.ensures.step c.give_up.ensures.entered;
+      idle = put_off_idles old c.give_up.new.self n c.give_up.new.step c.give_up.ensures.less;
+      less = put_off_lessens old c.give_up.new.self n c.give_up.new.step c.give_up.ensures.less;
+    }
+
+pub returns : goal.returns
+returns c =
+    let old = c.args.self.now in
+    let n = c.args.now.0 in
+    record {
+      done = does_peer old c.try_again.new.self n c.in-Some.who _ c.try_again.new.step c.requires.callable.clock
+          (c.due_peer.ensures.first ∙ ap (λ (o : Option Ip6). option_map (λ (who : Ip6). listing old n who) o) c.in-Some.is)
+          (sym c.is_spent.ensures ∙ c.if-is_spent.false) c.try_again.ensures.step c.try_again.ensures.entered;
+      idle = put_off_idles old c.try_again.new.self n c.try_again.new.step c.try_again.ensures.less;
+      less = put_off_lessens old c.try_again.new.self n c.try_again.new.step c.try_again.ensures.less;
+    }

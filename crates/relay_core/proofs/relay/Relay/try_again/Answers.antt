@@ -1,0 +1,19 @@
+use Rattle.std.proofs.Common.{None, Some, refl, ap, sym, subst}
+use Rattle.teredo_node.specs.Step.{Step}
+use Rattle.teredo_node.specs.Journal.{ticked}
+use Rattle.relay_rules.specs.Journals.{entry}
+use Rattle.relay_core.specs.Relay.{Enters}
+use Rattle.relay_core.proofs.Ticked.{tried_again}
+use Rattle.relay_core.proofs.Owed.{tried_off}
+use Rattle.relay_core.proofs.relay.Relay.try_again.Goals as goal
+
+pub returns-clause-entered : goal.returns-clause-entered
+returns-clause-entered c =
+    let old = c.args.self.now in
+    let n = c.args.now.0 in
+    subst (λ (s : Step). Enters old (entry n ticked None (Some c.args.who) s) (record old { peers = c.tried.new.self })) (sym c.send_bubble.ensures)
+    (tried_again old (record old { peers = c.tried.new.self }) n c.args.who c.requires.callable.clock c.requires.overdue c.tried.ensures refl)
+
+pub returns-clause-less : goal.returns-clause-less
+returns-clause-less c =
+    tried_off c.args.self.now (record c.args.self.now { peers = c.tried.new.self }) c.args.now.0 c.args.who c.send_bubble.new.step c.requires.overdue c.tried.ensures (ap (λ (s : Step). s.fate) c.send_bubble.ensures)

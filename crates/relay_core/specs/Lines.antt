@@ -1,0 +1,94 @@
+-- The lines of a relay's tables as they are found, and what holds where one is.
+use Rattle.std.specs.Prelude.{◌≡◌, true, false, ℕ, List, [], ◌∷◌, is_some}
+use Rattle.td_base.specs.declared.ipv6.Ip6.{Ip6}
+use Rattle.td_base.specs.declared.endpoint.Ep.{Ep}
+use Rattle.teredo_addr.specs.Teredo.{has_cone}
+use Rattle.ipv6_packet.specs.Packets.{Fields}
+use Rattle.ipv6_packet.specs.Reads.{is_big}
+use Rattle.bubble.specs.Payloads.{Value}
+use Rattle.teredo_node.specs.declared.fate.Fate.{Fate}
+use Rattle.teredo_node.specs.declared.fate.Fate.TheVariants as fate
+use Rattle.teredo_node.specs.Step.{just}
+use Rattle.teredo_node.specs.Rows.{first_line}
+use Rattle.teredo_node.specs.Journal.{Entry}
+use Rattle.peer_list.specs.Mentions.{no_bearing}
+use Rattle.peer_list.specs.Judged.{is_full}
+use Rattle.relay_core.specs.declared.relay.Relay.{Relay}
+use Rattle.relay_core.specs.declared.reception_line.ReceptionLine.{ReceptionLine}
+use Rattle.relay_core.specs.declared.reception_line.ReceptionLine.TheVariants as line
+use Rattle.relay_core.specs.declared.transmission_line.TransmissionLine.{TransmissionLine}
+use Rattle.relay_core.specs.declared.transmission_line.TransmissionLine.TheVariants as six
+use Rattle.relay_rules.specs.Bearings.{bearing_of}
+use Rattle.relay_rules.specs.Standing.{RelaySettings, Standing, known_in}
+use Rattle.relay_rules.specs.Reception.{Seen, seen_of, reception_step}
+use Rattle.relay_rules.specs.Transmission.{Given, given_of, transmission_step}
+use Rattle.relay_core.specs.Relay.{settings_of, standing_in}
+
+-- a fate that means nothing for any peer
+abbrev pub SaysNothing : Fate → Type 0
+SaysNothing f = (e : Entry) → bearing_of f e ≡ no_bearing
+
+-- DATAGRAMS
+
+abbrev pub fate_of : ReceptionLine → Fate
+fate_of (line.Drop f) = f
+fate_of line.FromClientBubble = fate.FromClientBubble
+fate_of line.FromClient = fate.FromClient
+fate_of line.Unserved = fate.Unserved
+
+-- the fate of a packet of a listed client
+abbrev pub client_row : Seen → Fate
+client_row a = first_line ((a.bubble, fate.FromClientBubble) ∷ (a.served, fate.FromClient) ∷ []) fate.Unserved
+
+-- what a relay sees of a payload from `from` at n
+abbrev pub seen_by : Relay → ℕ → Ep → Value → Seen
+seen_by r n from v = seen_of (settings_of r) (standing_in r n v.packet.src) from true v
+
+-- it does nothing with a datagram
+pub record DropsDatagram (f : Fate) : Type 0 where
+  pub nothing : SaysNothing f
+  pub step : (a : Standing) (x : List ℕ) (v : Value) → reception_step a x v f ≡ just f
+
+-- what holds where a line is found, at this standing to the payload's source
+abbrev pub WarrantsDatagram : Standing → ReceptionLine → Type 0
+WarrantsDatagram a (line.Drop f) = DropsDatagram f
+WarrantsDatagram a line.FromClientBubble = is_some a.peer ≡ true
+WarrantsDatagram a line.FromClient = is_some a.peer ≡ true
+WarrantsDatagram a line.Unserved = is_some a.peer ≡ true
+
+-- PACKETS OF THE IPV6 SIDE
+
+abbrev pub fate_for : TransmissionLine → Fate
+fate_for (six.Drop f) = f
+fate_for six.Sent = fate.Sent
+fate_for six.SentCone = fate.SentCone
+fate_for six.Queued = fate.Queued
+
+-- what a relay sees of a packet at n
+abbrev pub given_to : Relay → ℕ → Fields → Given
+given_to r n p = given_of (settings_of r) (standing_in r n p.dst) true p
+
+-- it does nothing with a packet
+pub record DropsPacket (f : Fate) : Type 0 where
+  pub nothing : SaysNothing f
+  pub step : (s : RelaySettings) (a : Standing) (x : List ℕ) (p : Ip6) → transmission_step s a x p f ≡ just f
+
+-- that a packet may wait for an address, which has no cone bit
+pub record MayWait (a : Standing) (p : Ip6) : Type 0 where
+  pub room : a.room ≡ true
+  pub plain : has_cone p ≡ false
+  pub free : is_full (known_in a) ≡ false
+
+-- what holds where a line is found, at this standing to the packet's destination
+abbrev pub WarrantsPacket : Standing → Ip6 → TransmissionLine → Type 0
+WarrantsPacket a p (six.Drop f) = DropsPacket f
+WarrantsPacket a p six.Sent = is_some a.peer ≡ true
+WarrantsPacket a p six.SentCone = a.room ≡ true
+WarrantsPacket a p six.Queued = MayWait a p
+
+-- a packet that is sent or waits isn't big
+abbrev pub IsCarried : Fields → TransmissionLine → Type 0
+IsCarried p (six.Drop f) = Unit {0}
+IsCarried p six.Sent = is_big p ≡ false
+IsCarried p six.SentCone = is_big p ≡ false
+IsCarried p six.Queued = is_big p ≡ false

@@ -1,0 +1,115 @@
+-- What a relay keeps, the journals that it stands for, and what a call does for each of them (RFC 4380, section 5.4).
+use Rattle.std.specs.Prelude.{◌≡◌, ◌≤◌, ◌<◌, ◌+◌, ℕ, Bool, true, false, List, ◌∷◌, length, Some, None, is_some, unwrap_or}
+use Rattle.td_base.specs.declared.ipv6.Ip6.{Ip6}
+use Rattle.td_base.specs.declared.endpoint.Ep.{Ep}
+use Rattle.td_outside.specs.declared.clock.TheConstants.{CLOCK_END_MS}
+use Rattle.teredo_addr.specs.Teredo.{unspecified, has_cone}
+use Rattle.ipv6_packet.specs.declared.header.TheConstants.{HEADER}
+use Rattle.bubble.specs.Payloads.{Value}
+use Rattle.bubble.specs.Reads.{value_in}
+use Rattle.bubble.specs.PacketsIn.{packet_in, destination_in}
+use Rattle.teredo_node.specs.declared.fate.Fate.{Fate}
+use Rattle.teredo_node.specs.declared.fate.Fate.TheVariants as fate
+use Rattle.teredo_node.specs.Step.{Step}
+use Rattle.teredo_node.specs.Journal.{Input, arrived, from_six, Entry}
+use Rattle.peer_list.specs.Peers.{peer_at}
+use Rattle.peer_list.specs.Table.{Table, peer_in, known_to, has_room_in}
+use Rattle.peer_list.specs.Calls.{tried_at, Updates, Keeps}
+use Rattle.peer_list.specs.Stands.{StandsForMentions}
+use Rattle.relay_core.specs.declared.relay.Relay.{Relay}
+use Rattle.relay_rules.specs.Bearings.{mentions}
+use Rattle.relay_rules.specs.Standing.{RelaySettings, Standing}
+use Rattle.relay_rules.specs.Reception.{seen_of, reception_row, reception_step}
+use Rattle.relay_rules.specs.Journals.{entry, relay_entry}
+use Rattle.relay_rules.specs.Laws.{IsQuiet}
+
+-- how it is set up
+abbrev pub settings_of : Relay → RelaySettings
+settings_of r = record { at = r.at; six = r.six; policy = r.policy; served = r.served.items }
+
+-- what is known of each address is what the journal says, and one with the cone bit has no tries and nothing waiting
+pub record RelayStandsFor (r : Relay) (j : List Entry) : Type 0 where
+  pub peers : StandsForMentions r.peers (mentions j)
+  pub quiet : (n : ℕ) (p : Ip6) → r.peers.moment ≤ n → has_cone p ≡ true → IsQuiet (known_to r.peers n p)
+
+-- it may be called at n: at no moment before that of an earlier call, and while a clock runs
+pub record IsCallable (r : Relay) (n : ℕ) : Type 0 where
+  pub clock : r.peers.moment ≤ n
+  pub early : n < CLOCK_END_MS
+
+-- how it stands to an address at n: what the tables read
+abbrev pub standing_in : Relay → ℕ → Ip6 → Standing
+standing_in r n p = record {
+  moment = n;
+  peer = peer_in r.peers n p;
+  room = has_room_in r.peers n p;
+}
+
+-- WHAT A CALL DOES
+
+-- the entry of an input at n, after a journal
+abbrev pub next_entry : Relay → List Entry → ℕ → Input → Entry
+next_entry r j n input = relay_entry (settings_of r) j n input
+
+-- for each journal that it stood for it did what the next entry says, and stands for the journal with that entry
+pub record Does (old : Relay) (n : ℕ) (input : Input) (step : Step) (new : Relay) : Type 0 where
+  pub did : (j : List Entry) → RelayStandsFor old j → step ≡ (next_entry old j n input).step
+  pub stands : (j : List Entry) → RelayStandsFor old j → RelayStandsFor new (next_entry old j n input ∷ j)
+  pub settings : settings_of new ≡ settings_of old
+  pub clock : new.peers.moment ≤ n
+
+-- it is as before: it stands for what it stood for
+pub record AsBefore (old new : Relay) : Type 0 where
+  pub stands : (j : List Entry) → RelayStandsFor old j → RelayStandsFor new j
+  pub settings : settings_of new ≡ settings_of old
+
+-- WHERE MEMORY MAY BE WANTING
+
+-- the line of a packet lets it wait, or sends it to an address with the cone bit that isn't listed yet
+pub data TakesRoom (r : Relay) (n : ℕ) (x : List ℕ) (j : List Entry) : Type 0 where
+  to_wait : (next_entry r j n (from_six x)).step.fate ≡ fate.Queued → TakesRoom r n x j
+  to_list : (next_entry r j n (from_six x)).step.fate ≡ fate.SentCone
+      → is_some (peer_at (mentions j) n (unwrap_or (destination_in x) unspecified)) ≡ false → TakesRoom r n x j
+
+abbrev pub WantsMemory : Relay → ℕ → List ℕ → Type 0
+WantsMemory r n x = (j : List Entry) → RelayStandsFor r j → TakesRoom r n x j
+
+-- THE LAST ENTRY OF ITS JOURNALS
+
+-- for each journal that it stood for it stands for that journal with this entry
+pub record Enters (old : Relay) (e : Entry) (new : Relay) : Type 0 where
+  pub stands : (j : List Entry) → RelayStandsFor old j → RelayStandsFor new (e ∷ j)
+  pub settings : settings_of new ≡ settings_of old
+  pub clock : new.peers.moment ≤ e.moment
+
+-- memory was wanting, and nothing changed but that others may have been taken out
+pub record KeepsAll (old : Relay) (n : ℕ) (new : Relay) : Type 0 where
+  pub peers : Keeps old.peers new.peers n
+  pub settings : settings_of new ≡ settings_of old
+
+-- a peer was tried, unless it is barred
+abbrev pub TriesUnless : (barred : Bool) → Table → ℕ → Ip6 → Table → Type 0
+TriesUnless true old n who new = new ≡ old
+TriesUnless false old n who new = Updates old new n who (tried_at n None (known_to old n who))
+
+-- DATAGRAMS
+
+-- a datagram of this payload from `from` has this fate, by what a relay sees
+abbrev pub fate_in : Relay → ℕ → Ep → Value → Fate
+fate_in r n from v = reception_row (seen_of (settings_of r) (standing_in r n v.packet.src) from true v)
+
+-- the entry of a datagram x about `who`, where this was done
+abbrev pub entry_about : ℕ → Ep → List ℕ → Ip6 → Step → Entry
+entry_about n from x who step = entry n (arrived from x) (packet_in x) (Some who) step
+
+-- x spells this payload
+pub record IsPayloadOf (x : List ℕ) (v : Value) : Type 0 where
+  pub value : value_in x ≡ v
+  pub inside : v.lead.at + HEADER + length v.packet.body ≡ length x
+
+-- what was done with a payload by the line of a fate
+pub record TakesPayload (old : Relay) (n : ℕ) (from : Ep) (v : Value) (f : Fate) (step : Step) (new : Relay) : Type 0 where
+  pub did : (x : List ℕ) → IsPayloadOf x v → step ≡ reception_step (standing_in old n v.packet.src) x v f
+  pub stands : (j : List Entry) (x : List ℕ) → RelayStandsFor old j → RelayStandsFor new (entry_about n from x v.packet.src step ∷ j)
+  pub settings : settings_of new ≡ settings_of old
+  pub clock : new.peers.moment ≤ n

@@ -1,0 +1,65 @@
+//! The relay as an endpoint of a link.
+use crate::relay::Relay;
+use td_base::{Ep, Millis, NoMemory, Side};
+use teredo_node::{Endpoint, Step};
+
+/// A relay has one endpoint: it answers by its table of datagrams, and memory is wanting for none. At a tick it does
+/// the first thing that is due.
+impl Endpoint for Relay {
+    ghost use Rattle.std.specs.Prelude.{◌≡◌, false, refl};
+    ghost use Rattle.std.proofs.Common.{◌∙◌};
+    ghost use Rattle.std.proofs.Math.Nat.{le_trans};
+    ghost use Rattle.teredo_node.specs.Journal.{arrived, ticked};
+    ghost use Rattle.relay_core.specs.Relay.{IsCallable, Does, AsBefore};
+    ghost use Rattle.relay_core.specs.Endpoint.{IsRelayDue, owing};
+
+    const FRUGAL: bool = false;
+
+    ghost FRUGAL = { false };
+
+    ghost ready = { λ r now. IsCallable r now };
+
+    ghost stays = { λ old new. AsBefore old new };
+
+    ghost rule = { λ r now side from x step new. Does r now (arrived from x) step new };
+
+    ghost starves = { λ r now side from x. ⊥ };
+
+    ghost ticks = { λ r now step new. Does r now ticked step new };
+
+    ghost is_due = { λ r now due. IsRelayDue r now due };
+
+    ghost owing = { λ r now. owing r now };
+
+    fn on_datagram(
+        &mut self,
+        now: Millis,
+        _side: Side,
+        from: Ep,
+        bytes: &[u8],
+        step: &mut Step,
+    ) -> Result<(), NoMemory> {
+        self.receive(now, from, bytes, step);
+        Ok(())
+    }
+
+    fn on_tick(&mut self, now: Millis, step: &mut Step) {
+        self.tick(now, step);
+    }
+
+    fn due(&self, now: Millis) -> Option<Millis> {
+        self.next_due(now)
+    }
+
+    ghost stays_so = { λ r. record { stands = λ j h. h; settings = refl } };
+
+    ghost stays_on = { λ old mid new first second. record { stands = λ j h. second.stands j (first.stands j h); settings = second.settings ∙ first.settings } };
+
+    ghost ready_later = { λ r now later le early ready. record { clock = le_trans ready.clock le; early = early } };
+
+    ghost ready_again = { λ old now side from bytes step new ready done. record { clock = done.clock; early = ready.early } };
+
+    ghost ready_ticked = { λ old now step new ready done. record { clock = done.clock; early = ready.early } };
+
+    ghost frugal = { λ r now side from bytes never starved. starved };
+}

@@ -1,0 +1,43 @@
+//! A relay.
+ghost use Rattle.std.specs.Prelude.{◌≡◌, []};
+ghost use Rattle.relay_core.specs.Relay.{settings_of, RelayStandsFor};
+
+use peer_list::Peers;
+use std::alloc::Global;
+use td_base::{Ep, Ip6, Policy};
+
+/// A Teredo relay. All that it keeps is how it is set up, and its peers.
+#[derive(Drop)]
+pub struct Relay {
+    pub(crate) at: Ep,
+    pub(crate) six: Ip6,
+    pub(crate) policy: Policy,
+    pub(crate) served: Vec<Ip6>,
+    pub(crate) peers: Peers,
+}
+
+impl Relay {
+    /// A relay at an endpoint, with an IPv6 address of its own, that serves these natives.
+    pub fn new(alloc: Global, at: Ep, six: Ip6, policy: Policy, served: Vec<Ip6>) -> Relay
+        ensures stands { RelayStandsFor result [] }
+        ensures settings { settings_of result ≡ record { at = at; six = six; policy = policy; served = served.items } }
+        ensures clock { result.peers.moment ≡ 0 }
+    {
+        Relay {
+            at,
+            six,
+            policy,
+            served,
+            peers: Peers::new(alloc),
+        }
+    }
+
+    /// Starts anew: no peer is known.
+    pub fn restart(&mut self)
+        ensures stands { RelayStandsFor self.new [] }
+        ensures settings { settings_of self.new ≡ settings_of self.old }
+        ensures clock { self.new.peers.moment ≡ 0 }
+    {
+        self.peers.clear();
+    }
+}

@@ -1,0 +1,92 @@
+//! What a relay does where something is due.
+ghost use Rattle.std.specs.Prelude.{◌≡◌, ◌≤◌, true, false, None, Some, is_some, option_map, IfSome};
+ghost use Rattle.teredo_node.specs.Journal.{ticked};
+ghost use Rattle.teredo_node.specs.Due.{IsFirstDue, Idles, Lessens};
+ghost use Rattle.peer_list.specs.Judged.{due_of};
+ghost use Rattle.peer_list.specs.Table.{known_to, first_due_in};
+ghost use Rattle.relay_rules.specs.Journals.{entry};
+ghost use Rattle.relay_rules.specs.Ticks.{due_at, tries_peer};
+ghost use Rattle.relay_core.specs.Relay.{settings_of, IsCallable, Enters, Does, AsBefore};
+ghost use Rattle.relay_core.specs.Endpoint.{IsRelayDue, owing, IsOverdue, DoesDue};
+
+use crate::relay::Relay;
+use td_base::{Ip6, Millis};
+use teredo_node::{Fate, Step};
+
+impl Relay {
+    /// Does what is due of the peer that is due first.
+    pub(crate) fn tick(&mut self, now: Millis, step: &mut Step)
+        requires callable { IsCallable self.old now.0 }
+        ensures done { Does self.old now.0 ticked step.new self.new }
+        ensures idle { Idles (owing self.old now.0) (AsBefore self.old self.new) step.new }
+        ensures less { Lessens (owing self.old now.0) (owing self.new now.0) step.new }
+    {
+        let Some(who) = self.due_peer(now) else {
+            step.reset(Fate::Idle);
+            return;
+        };
+        // give_up: RFC 4380, section 5.2.6
+        if self.peers.is_spent(now, who) {
+            self.give_up(now, who, step);
+            return;
+        }
+        // bubbles: RFC 4380, section 5.2.6
+        self.try_again(now, who, step);
+    }
+
+    /// The peer that is due first, where it is due by now.
+    fn due_peer(&self, now: Millis) -> Option<Ip6>
+        requires clock { self.now.peers.moment ≤ now.0 }
+        ensures first { due_at now.0 (first_due_in self.now.peers now.0) ≡ option_map (λ who. record { who = who; peer = known_to self.now.peers now.0 who }) result }
+        ensures overdue { IfSome result (λ who. IsOverdue self.now.peers now.0 who) }
+    {
+        let (at, who) = self.peers.due(now)?;
+        if now < at {
+            return None;
+        }
+        Some(who)
+    }
+
+    /// Drops the packets that wait for a peer.
+    fn give_up(&mut self, now: Millis, who: Ip6, step: &mut Step)
+        requires callable { IsCallable self.old now.0 }
+        requires overdue { IsOverdue self.old.peers now.0 who }
+        ensures step { step.new ≡ tries_peer true (settings_of self.old) (record { who = who; peer = known_to self.old.peers now.0 who }) }
+        ensures entered { Enters self.old (entry now.0 ticked None (Some who) step.new) self.new }
+        ensures less { DoesDue self.old self.new now.0 step.new }
+    {
+        let gone = self.peers.give_up(now, who);
+        step.reset(Fate::GiveUp);
+        step.set_gone(u16::from(gone));
+    }
+
+    /// Tries a peer for which packets wait.
+    fn try_again(&mut self, now: Millis, who: Ip6, step: &mut Step)
+        requires callable { IsCallable self.old now.0 }
+        requires overdue { IsOverdue self.old.peers now.0 who }
+        ensures step { step.new ≡ tries_peer false (settings_of self.old) (record { who = who; peer = known_to self.old.peers now.0 who }) }
+        ensures entered { Enters self.old (entry now.0 ticked None (Some who) step.new) self.new }
+        ensures less { DoesDue self.old self.new now.0 step.new }
+    {
+        self.send_bubble(who, Fate::Bubbles, step);
+        self.peers.tried(now, who, None);
+    }
+
+    /// When something is due: a try at a peer, or the end of the packets that wait for it.
+    pub(crate) fn next_due(&self, now: Millis) -> Option<Millis>
+        requires callable { IsCallable self.now now.0 }
+        ensures told { IsRelayDue self.now now.0 result }
+        ensures first { IsFirstDue (owing self.now) now.0 result }
+    {
+        self.first_try(now)
+    }
+
+    /// When the next try at a peer is due.
+    fn first_try(&self, now: Millis) -> Option<Millis>
+        requires clock { self.now.peers.moment ≤ now.0 }
+        ensures { option_map (λ m. m.0) result ≡ option_map (λ l. due_of l.peer) (first_due_in self.now.peers now.0) }
+    {
+        let (at, _) = self.peers.due(now)?;
+        Some(at)
+    }
+}

@@ -1,0 +1,156 @@
+//! What a relay does with a packet of the IPv6 side.
+ghost use Rattle.std.specs.Prelude.{◌≡◌, ◌≤◌, ◌∷◌, [], true, false, Some, length, is_some, OnOk, OnErr};
+ghost use Rattle.ipv6_packet.specs.declared.header.TheConstants.{PACKET_MAX};
+ghost use Rattle.teredo_addr.specs.Teredo.{embedded, has_cone};
+ghost use Rattle.teredo_node.specs.declared.fate.Fate.{Fate};
+ghost use Rattle.teredo_node.specs.Journal.{from_six};
+ghost use Rattle.teredo_node.specs.Sends.{send, sending};
+ghost use Rattle.peer_list.specs.Judged.{is_barred, is_full};
+ghost use Rattle.peer_list.specs.Table.{peer_in, known_to, has_room_in};
+ghost use Rattle.peer_list.specs.Calls.{touched_at, queued_at, Updates, Keeps};
+ghost use Rattle.relay_rules.specs.Transmission.{queues};
+ghost use Rattle.relay_rules.specs.Journals.{entry};
+ghost use Rattle.relay_core.specs.Relay.{settings_of, IsCallable, Enters, Does, AsBefore, KeepsAll, TriesUnless, WantsMemory};
+
+use crate::relay::Relay;
+use crate::transmission_line::{TransmissionLine, line_for};
+use peer_list::{Peers, PeersRefusal, QueueRefusal};
+use td_base::{Ip6, Millis, NoMemory, Side};
+use teredo_addr::embedded;
+use teredo_node::{Fate, Step};
+
+/// Lists and touches a peer for which there is room.
+fn list(peers: &mut Peers, now: Millis, who: Ip6) -> Result<(), NoMemory>
+    requires clock { peers.old.moment ≤ now.0 }
+    requires room { has_room_in peers.old now.0 who ≡ true }
+    ensures listed { OnOk result (Updates peers.old peers.new now.0 who (touched_at now.0 (known_to peers.old now.0 who))) }
+    ensures kept { OnErr result (Keeps peers.old peers.new now.0) }
+    ensures unlisted { OnErr result (is_some (peer_in peers.old now.0 who) ≡ false) }
+{
+    match peers.admit(now, who) {
+        Ok(()) => Ok(()),
+        Err(PeersRefusal::NoMemory) => Err(NoMemory),
+        Err(PeersRefusal::Full) => unreachable!(),
+    }
+}
+
+/// Lets a packet wait for a peer that has room for it.
+fn wait(peers: &mut Peers, now: Millis, who: Ip6, packet: &[u8]) -> Result<(), NoMemory>
+    requires clock { peers.old.moment ≤ now.0 }
+    requires room { has_room_in peers.old now.0 who ≡ true }
+    requires free { is_full (known_to peers.old now.0 who) ≡ false }
+    requires short { length packet.now ≤ PACKET_MAX }
+    ensures queued { OnOk result (Updates peers.old peers.new now.0 who (queued_at now.0 packet.now (known_to peers.old now.0 who))) }
+    ensures kept { OnErr result (Keeps peers.old peers.new now.0) }
+{
+    match peers.queue(now, who, packet) {
+        Ok(()) => Ok(()),
+        Err(QueueRefusal::NoMemory) => Err(NoMemory),
+        Err(QueueRefusal::Full) => unreachable!(),
+    }
+}
+
+/// Begins a step with this fate by a packet to the endpoint that a client embeds.
+fn send_packet(who: Ip6, fate: Fate, packet: &[u8], step: &mut Step)
+    requires short { length packet.now ≤ PACKET_MAX }
+    ensures { step.new ≡ sending fate (send (embedded who) packet.now ∷ []) }
+{
+    step.reset(fate);
+    step.push(Side::Primary, embedded(who), packet);
+}
+
+impl Relay {
+    /// Takes a packet of the IPv6 side. Memory may be wanting where the packet is to wait, or its destination to be
+    /// listed.
+    pub fn on_six(&mut self, now: Millis, bytes: &[u8], step: &mut Step) -> Result<(), NoMemory>
+        requires callable { IsCallable self.old now.0 }
+        ensures done { OnOk result (Does self.old now.0 (from_six bytes.now) step.new self.new) }
+        ensures starved { OnErr result (WantsMemory self.old now.0 bytes.now) }
+        ensures as_before { OnErr result (AsBefore self.old self.new) }
+        ensures again { OnErr result (IsCallable self.new now.0) }
+        ensures untouched { OnErr result (step.new ≡ step.old) }
+    {
+        // malformed: our choice
+        let Ok(packet) = ipv6_packet::read(bytes) else {
+            step.reset(Fate::Malformed);
+            return Ok(());
+        };
+        match line_for(self, now, &packet) {
+            TransmissionLine::Drop(fate) => {
+                step.reset(fate);
+                Ok(())
+            }
+            TransmissionLine::Sent => {
+                send_packet(packet.dst, Fate::Sent, bytes, step);
+                self.peers.touch(now, packet.dst);
+                Ok(())
+            }
+            TransmissionLine::SentCone => self.send_cone(now, packet.dst, bytes, step),
+            TransmissionLine::Queued => self.queue(now, packet.dst, bytes, step),
+        }
+    }
+
+    /// Sends a packet to a client behind a cone NAT, which is listed and trusted from now on.
+    fn send_cone(
+        &mut self,
+        now: Millis,
+        who: Ip6,
+        bytes: &[u8],
+        step: &mut Step,
+    ) -> Result<(), NoMemory>
+        requires callable { IsCallable self.old now.0 }
+        requires room { has_room_in self.old.peers now.0 who ≡ true }
+        requires cone { has_cone who ≡ true }
+        requires short { length bytes.now ≤ PACKET_MAX }
+        ensures step { OnOk result (step.new ≡ sending Fate.SentCone (send (embedded who) bytes.now ∷ [])) }
+        ensures entered { OnOk result (Enters self.old (entry now.0 (from_six bytes.now) (Some bytes.now) (Some who) step.new) self.new) }
+        ensures kept { OnErr result (KeepsAll self.old now.0 self.new) }
+        ensures unlisted { OnErr result (is_some (peer_in self.old.peers now.0 who) ≡ false) }
+        ensures untouched { OnErr result (step.new ≡ step.old) }
+    {
+        list(&mut self.peers, now, who)?;
+        send_packet(who, Fate::SentCone, bytes, step);
+        self.peers.trust(now, who, embedded(who));
+        Ok(())
+    }
+
+    /// Lets a packet wait, and tries its destination unless that is barred.
+    fn queue(
+        &mut self,
+        now: Millis,
+        who: Ip6,
+        bytes: &[u8],
+        step: &mut Step,
+    ) -> Result<(), NoMemory>
+        requires callable { IsCallable self.old now.0 }
+        requires room { has_room_in self.old.peers now.0 who ≡ true }
+        requires plain { has_cone who ≡ false }
+        requires free { is_full (known_to self.old.peers now.0 who) ≡ false }
+        requires short { length bytes.now ≤ PACKET_MAX }
+        ensures step { OnOk result (step.new ≡ queues (is_barred now.0 (known_to self.old.peers now.0 who)) (settings_of self.old) who) }
+        ensures entered { OnOk result (Enters self.old (entry now.0 (from_six bytes.now) (Some bytes.now) (Some who) step.new) self.new) }
+        ensures kept { OnErr result (KeepsAll self.old now.0 self.new) }
+        ensures untouched { OnErr result (step.new ≡ step.old) }
+    {
+        let barred = self.peers.is_barred(now, who);
+        wait(&mut self.peers, now, who, bytes)?;
+        self.try_unless(barred, now, who, step);
+        Ok(())
+    }
+
+    /// Tries a peer whose packet waits, unless it is barred.
+    fn try_unless(&mut self, barred: bool, now: Millis, who: Ip6, step: &mut Step)
+        requires callable { IsCallable self.old now.0 }
+        requires listed { is_some (peer_in self.old.peers now.0 who) ≡ true }
+        ensures step { step.new ≡ queues barred (settings_of self.old) who }
+        ensures peers { TriesUnless barred self.old.peers now.0 who self.new.peers }
+        ensures settings { settings_of self.new ≡ settings_of self.old }
+    {
+        if barred {
+            step.reset(Fate::Queued);
+            return;
+        }
+        self.send_bubble(who, Fate::Queued, step);
+        self.peers.tried(now, who, None);
+    }
+}
