@@ -48,5 +48,5 @@ pub const MTU_OPTION: u8 = 5;
 /// Units that an MTU option has.
 pub const MTU_UNITS: u8 = 1;
 
-/// The most bytes of a message that is written: a packet of 1,280 bytes without its header.
-pub const MESSAGE_MAX: usize = 1240;
+/// The most bytes of a message that is written: a packet of 1,400 bytes, as a datagram holds, without its header.
+pub const MESSAGE_MAX: usize = 1360;

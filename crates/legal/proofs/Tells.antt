@@ -47,7 +47,7 @@ use Rattle.topology.specs.Topology.{nodes, node_at, side_at}
 use Rattle.history.specs.Telling.{is_no_entry, IsTold}
 use Rattle.history.specs.Full.{Item, udp, six, Full, wire}
 use Rattle.legal.specs.Past.{Draws, now, began, first_undelivered, journal, words}
-use Rattle.legal.specs.Natives.{Native, kept, echo_of, native_in}
+use Rattle.native_host.specs.Natives.{Native, kept, echo_of, native_in}
 use Rattle.legal.specs.Settings.{server_settings, client_settings, relay_settings}
 use Rattle.legal.specs.Emit.{Route, reaches, closed, astray, route, entry_of}
 use Rattle.legal.specs.Next.{Numbered, numbered, Due, least_due, plain, advance_with, advanced, acts, no_ep, blank, delivers_to, delivers_item, delivers_or, copies, data_packet, echo_packet, address_at, target_address, hands_in, next_of}

@@ -48,7 +48,7 @@ use Rattle.relay_rules.specs.Standing.{standing_at as relay_standing_at}
 use Rattle.relay_rules.specs.Transmission.{given as relay_given, bubble_to, transmission as relay_transmission}
 use Rattle.relay_rules.specs.Reception.{seen as relay_seen, reception as relay_reception}
 use Rattle.relay_rules.specs.Journals.{relay_in, relay_six, relay_tick, relay_due}
-use Rattle.legal.specs.Natives.{native_in, native_out}
+use Rattle.native_host.specs.Natives.{native_in, native_out}
 use Rattle.legal.specs.Next.{next}
 use Rattle.worked_scenarios.proofs.Scenes.{ip, ip6, ep}
 use Rattle.std.specs.Prelude.{false, length, ◌+◌, replicate}

@@ -49,7 +49,7 @@ use Rattle.relay_rules.specs.Transmission.{given as relay_given, bubble_to, tran
 use Rattle.relay_rules.specs.Reception.{seen as relay_seen, reception as relay_reception}
 use Rattle.relay_rules.specs.Journals.{relay_in, relay_six, relay_tick, relay_due}
 use Rattle.report.specs.Totals.{report}
-use Rattle.legal.specs.Natives.{native_in, native_out}
+use Rattle.native_host.specs.Natives.{native_in, native_out}
 use Rattle.legal.specs.Next.{next}
 use Rattle.worked_scenarios.proofs.Scenes.{play}
 use Rattle.rand_chacha.specs.Block.{block_word, double_rounds, diagonal_round, quarter_round, column_round}

@@ -53,7 +53,7 @@ use Rattle.history.specs.declared.event.Event.TheVariants as event
 use Rattle.history.specs.declared.target.Target.TheVariants as target
 use Rattle.history.specs.Scenario.{Scenario}
 use Rattle.report.specs.Totals.{report}
-use Rattle.legal.specs.Natives.{native_in, native_out}
+use Rattle.native_host.specs.Natives.{native_in, native_out}
 use Rattle.legal.specs.Next.{next}
 use Rattle.worked_scenarios.proofs.Scenes.{name1, name2, ip, ip6, ep, some_words, play}
 
