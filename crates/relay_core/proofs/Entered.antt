@@ -5,18 +5,21 @@ use Rattle.std.proofs.Math.Nat.{le_refl, le_trans}
 use Rattle.td_base.specs.Ip6.{same_ip6, same_ip6-true}
 use Rattle.td_base.specs.declared.ipv6.Ip6.{Ip6}
 use Rattle.teredo_addr.specs.Teredo.{has_cone}
-use Rattle.teredo_node.specs.Journal.{Entry}
+use Rattle.teredo_node.specs.declared.fate.Fate.TheVariants as fate
+use Rattle.teredo_node.specs.Step.{just}
+use Rattle.teredo_node.specs.Journal.{Entry, given}
 use Rattle.peer_list.specs.declared.limits.TheConstants.{LISTED_MS}
 use Rattle.peer_list.specs.Peers.{Peer, no_peer}
 use Rattle.peer_list.specs.Judged.{is_within}
 use Rattle.peer_list.specs.Laws.{after}
 use Rattle.peer_list.specs.Table.{Table, empty_table, while_listed, peer_in, known_to}
 use Rattle.peer_list.specs.Calls.{Updates}
-use Rattle.peer_list.specs.Stands.{StandsForMentions, MeansNothing}
+use Rattle.peer_list.specs.Stands.{StandsForMentions, MeansNothing, bears_nothing}
 use Rattle.relay_core.specs.declared.relay.Relay.{Relay}
 use Rattle.relay_rules.specs.Bearings.{mention, mentions}
 use Rattle.relay_rules.specs.Laws.{IsQuiet}
-use Rattle.relay_core.specs.Relay.{settings_of, RelayStandsFor, Enters, KeepsAll, AsBefore}
+use Rattle.relay_rules.specs.Journals.{entry}
+use Rattle.relay_core.specs.Relay.{settings_of, RelayStandsFor, Does, Enters, KeepsAll, AsBefore}
 use Rattle.relay_core.proofs.Below.{next_stands, idle_stands, kept_stands}
 
 -- WHO IS QUIET
@@ -96,3 +99,9 @@ keeps_stays old new n clock k = record {
   };
   settings = k.settings;
 }
+
+-- the entry of a packet of a host, which a relay doesn't have
+pub takes_no_host : (r : Relay) (n : ℕ) (x : List ℕ) → r.peers.moment ≤ n → Does r n (given x) (just fate.Idle) r
+takes_no_host r n x l =
+    let entered = none_enters r (entry n (given x) None None (just fate.Idle)) (bears_nothing refl) l in
+    record { did = λ j h. refl; stands = entered.stands; settings = refl; clock = l }

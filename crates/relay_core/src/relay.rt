@@ -1,10 +1,12 @@
 //! A relay.
-ghost use Rattle.std.specs.Prelude.{◌≡◌, []};
-ghost use Rattle.relay_core.specs.Relay.{settings_of, RelayStandsFor};
+ghost use Rattle.std.specs.Prelude.{◌≡◌, ℕ, List, []};
+ghost use Rattle.teredo_node.specs.Journal.{given};
+ghost use Rattle.relay_core.specs.Relay.{settings_of, RelayStandsFor, IsCallable, Does};
 
 use peer_list::Peers;
 use std::alloc::Global;
-use td_base::{Ep, Ip6, Policy};
+use td_base::{Ep, Ip6, Millis, Policy};
+use teredo_node::{Fate, Step};
 
 /// A Teredo relay. All that it keeps is how it is set up, and its peers.
 #[derive(Drop)]
@@ -30,6 +32,14 @@ impl Relay {
             served,
             peers: Peers::new(alloc),
         }
+    }
+
+    /// Takes a packet of a host, with which a relay does nothing, since it has none.
+    pub fn on_host(&self, now: Millis, step: &mut Step)
+        requires callable { IsCallable self.now now.0 }
+        ensures done { (bytes : List ℕ) → Does self.now now.0 (given bytes) step.new self.now }
+    {
+        step.reset(Fate::Idle);
     }
 
     /// Starts anew: no peer is known.

@@ -4,9 +4,10 @@ use Rattle.std.specs.Prelude.{slice_get, option_and_then, is_some}
 use Rattle.std.proofs.lemmas.Bool.{false≢true}
 use Rattle.std.proofs.lemmas.Bool.Decides.{eqb_tells}
 use Rattle.nat_kinds.specs.Nat as nats
-use Rattle.nat_kinds.specs.History.{Entry as NatEntry}
+use Rattle.nat_kinds.specs.History.{Entry as NatEntry, Restart}
 use Rattle.teredo_node.specs.Journal.{Entry, Journal, Words}
 use Rattle.client_core.specs.Client.{ClientStandsFor}
+use Rattle.relay_core.specs.Relay.{RelayStandsFor}
 use Rattle.topology.specs.declared.nat_node.NatNode.{NatNode}
 use Rattle.topology.specs.declared.client_node.ClientNode.{ClientNode}
 use Rattle.topology.specs.Rows.{TopologyState}
@@ -35,6 +36,7 @@ kept_as : (t : TopologyState) (n : ℕ) (a : Node) (x y : NodePast) (s : NodeSta
 kept_as t n (nat b) x y (state.Nat is) same h = record { settings = h.settings; stands = subst (λ (g : List NatEntry). nats.StandsFor is g) (sym same) h.stands }
 kept_as t n (nat b) x y state.Nothing same h = absurd h
 kept_as t n (nat b) x y (state.Client is) same h = absurd h
+kept_as t n (nat b) x y (state.Relay is) same h = absurd h
 kept_as t n (client c) x y (state.Client is) same h = record {
   settings = h.settings;
   stands = subst (λ (j : Journal). ClientStandsFor is j) (sym same.0) h.stands;
@@ -42,8 +44,12 @@ kept_as t n (client c) x y (state.Client is) same h = record {
 }
 kept_as t n (client c) x y state.Nothing same h = absurd h
 kept_as t n (client c) x y (state.Nat is) same h = absurd h
+kept_as t n (client c) x y (state.Relay is) same h = absurd h
+kept_as t n (relay r) x y (state.Relay is) same h = record { settings = h.settings; stands = subst (λ (j : Journal). RelayStandsFor is j.entries) (sym same) h.stands }
+kept_as t n (relay r) x y state.Nothing same h = absurd h
+kept_as t n (relay r) x y (state.Nat is) same h = absurd h
+kept_as t n (relay r) x y (state.Client is) same h = absurd h
 kept_as t n (server a) x y s same h = tt
-kept_as t n (relay r) x y s same h = tt
 kept_as t n (native h) x y s same k = tt
 
 pub kept_in_as : (t : TopologyState) (n : ℕ) (a : Node) (x y : NodePast) (o : Option NodeState) → AsPast a x y → IsKeptIn t n a x o → IsKeptIn t n a y o
@@ -65,10 +71,10 @@ is_itself n = by (eqb_tells n n) where
   by (inl (yeah, same)) = yeah
   by (inr (nope, apart)) = absurd (apart refl)
 
-words_same : (d : Draws) (k : ℕ) (r : Full) (H : List Full) → drawn k (r ∷ H) ≡ drawn k H → words d k (r ∷ H) ≡ words d k H
+pub words_same : (d : Draws) (k : ℕ) (r : Full) (H : List Full) → drawn k (r ∷ H) ≡ drawn k H → words d k (r ∷ H) ≡ words d k H
 words_same d k r H same = ap (λ (m : ℕ). λ (j : ℕ). d k (m + j)) same
 
-draws_none : (k : ℕ) (r : Full) (H : List Full) → is_node k r.node ≡ false → drawn k (r ∷ H) ≡ drawn k H
+pub draws_none : (k : ℕ) (r : Full) (H : List Full) → is_node k r.node ≡ false → drawn k (r ∷ H) ≡ drawn k H
 draws_none k r H nope = let none : drawn k H + 0 ≡ drawn k H = omega arith in rw nope none
 
 -- a NAT of the topology
@@ -85,14 +91,15 @@ away frame d t H r k (native h) at other behind = tt
 
 -- RECORDS AT WHICH NO NODE DOES ANYTHING
 
+abbrev is_none_of : List NatEntry → Bool
+is_none_of [] = true
+is_none_of (x ∷ l) = false
+
 -- it is no restart
 pub starts_none : (t : TopologyState) (e : Event) (a : Act) → at_nat t e a ≡ [] → is_restart a ≡ false
 starts_none t e a nothing = by (is_restart a) refl where
   by : (b : Bool) → is_restart a ≡ b → is_restart a ≡ false
-  by true yeah = absurd (false≢true (sym (ap (λ (l : List NatEntry). is_empty l) (sym nothing ∙ rw yeah refl)))) where
-    abbrev is_empty : List NatEntry → Bool
-    is_empty [] = true
-    is_empty (x ∷ l) = false
+  by true yeah = let one : at_nat t e a ≡ Restart ∷ [] = rw yeah refl in absurd (false≢true (sym (ap (λ (l : List NatEntry). is_none_of l) (sym nothing ∙ one))))
   by false nope = nope
 
 journal_rests : (k : ℕ) (r : Full) (H : List Full) → r.entry ≡ None → is_restart r.act ≡ false → journal k (r ∷ H) ≡ journal k H
@@ -125,6 +132,6 @@ all_rest frame d t states H r of is = λ k b at. kept_in_as t k b (past_of d t k
 -- a record of no node leaves all
 pub all_away : EachFrames → (d : Draws) (t : TopologyState) (states : List NodeState) (H : List Full) (r : Full) → NodesOf d t states H → r.node ≡ None → NodesOf d t states (r ∷ H)
 all_away frame d t states H r of nobody = λ k b at.
-    let none : {A : Type 0} → (x : A) → None {T = A} ≡ Some x → ⊥ = λ x e. false≢true (ap (λ (o : Option _). is_some o) e) in
     kept_in_as t k b (past_of d t k H) (past_of d t k (r ∷ H)) (slice_get states k) (away frame d t H r k b at
-    (λ e. none k (sym nobody ∙ e)) (λ e. none k (ap (option_and_then (nat_of t)) (sym nobody) ∙ e))) (of k b at)
+    (λ e. false≢true (ap (λ (o : Option ℕ). is_some o) (sym nobody ∙ e)))
+    (λ e. false≢true (ap (λ (o : Option ℕ). is_some o) (sym (ap (option_and_then (nat_of t)) nobody) ∙ e)))) (of k b at)

@@ -1,5 +1,5 @@
 -- What a record does to a world.
-use Rattle.std.proofs.Common.{◌≡◌, ◌≢◌, ◌<◌, ℕ, zero, suc, ◌+◌, ◌==◌, Bool, true, false, not, List, [], ◌∷◌, ◌++◌, length, set, get_or, replicate, append-nil, Option, Some, None, Ok, refl, sym, ap, subst, ◌∙◌, arith, ◌⊎◌, inl, inr}
+use Rattle.std.proofs.Common.{◌≡◌, ◌≢◌, ◌<◌, ℕ, zero, suc, ◌+◌, ◌==◌, Bool, true, false, not, List, [], ◌∷◌, ◌++◌, length, set, get_or, replicate, append-nil, Option, Some, None, Result, Ok, Err, refl, sym, ap, subst, ◌∙◌, arith, ◌⊎◌, inl, inr}
 use Rattle.std.specs.Prelude.{◌||◌, filter_map, slice_get, option_and_then, is_some}
 use Rattle.std.proofs.lemmas.Bool.{false≢true}
 use Rattle.std.proofs.lemmas.Bool.Decides.{eqb_tells}
@@ -13,6 +13,10 @@ use Rattle.topology.specs.Rows.{TopologyState}
 use Rattle.topology.specs.Topology.{nat_at}
 use Rattle.history.specs.declared.acts.Act.{Act}
 use Rattle.history.specs.declared.mark.Mark.TheVariants as mark
+use Rattle.history.specs.declared.records.Record.{Record}
+use Rattle.history.specs.declared.turn.Stop.{Stop}
+use Rattle.history.specs.declared.turn.Stop.TheVariants as stop
+use Rattle.world.specs.declared.wire.TheConstants.{MOST_ENTRIES}
 use Rattle.history.specs.Full.{Item, Made, Full, udp, item_in, items_of, wire}
 use Rattle.history.specs.Records.{record_of}
 use Rattle.legal.specs.Past.{Draws, now, is_number, at_nat, nat_history}
@@ -85,3 +89,20 @@ puts_one frame d old new H e a src dst bytes s is =
         done = λ i. ap (λ (w : WorldState). get_or w.done i false) is ∙ flags_same old.done 1 i;
       },
     )
+
+-- FROM ANOTHER WORLD
+
+-- what is said of a world is said of one with the same nodes of the topology, and the same wire
+pub plays_from : (d : Draws) (mid old new : WorldState) (H : List Full) (r : Full) (result : Result Record Stop) → (mid.topology ≡ old.topology) × (mid.wire ≡ old.wire) × (mid.done ≡ old.done)
+    → Plays d mid new H r result → Plays d old new H r result
+plays_from d mid old new H r (Ok word) same plays = (
+  plays.0,
+  record {
+    moment = plays.1.moment;
+    nodes = subst (λ (t : TopologyState). NodesOf d t new.nodes (r ∷ H)) same.0 plays.1.nodes;
+    wire = plays.1.wire ∙ ap (λ (items : List Item). items ++ items_of r) same.1;
+    done = λ i. plays.1.done i ∙ ap (λ (bs : List Bool). is_number i r.delivered || get_or bs i false) same.2;
+  },
+)
+plays_from d mid old new H r (Err stop.WireFull) same plays = subst (λ (items : List Item). MOST_ENTRIES < length items + length (items_of r)) same.1 plays
+plays_from d mid old new H r (Err stop.NoMemory) same plays = plays

@@ -1,6 +1,6 @@
 -- What a world keeps of its nodes.
 use Rattle.std.proofs.Common.{◌≡◌, ◌≢◌, ◌≤◌, ◌<◌, ℕ, zero, suc, ◌+◌, ◌%◌, ◌^◌, ◌==◌, Bool, true, false, List, [], ◌∷◌, ◌++◌, length, map, set, Option, Some, None, refl, sym, ap, subst, ◌∙◌, arith, ◌⊎◌, inl, inr}
-use Rattle.std.specs.Prelude.{slice_get, option_and_then, is_some}
+use Rattle.std.specs.Prelude.{slice_get, option_and_then, is_some, unwrap_or}
 use Rattle.std.specs.List.{AllByRecursion}
 use Rattle.std.proofs.lemmas.Bool.{false≢true}
 use Rattle.std.proofs.lemmas.List.{length-append}
@@ -38,11 +38,8 @@ abbrev as_row : Node → Option ClientNode
 as_row (client c) = Some c
 as_row _ = None
 
-some_inj : {A : Type 0} → (x y : A) → Some x ≡ Some y → x ≡ y
-some_inj x y e = ap (λ (o : Option _). get x o) e where
-  get : {A : Type 0} → A → Option A → A
-  get z None = z
-  get z (Some w) = w
+pub some_inj : {A : Type 0} → (x y : A) → Some x ≡ Some y → x ≡ y
+some_inj x y e = ap (λ (o : Option _). unwrap_or o x) e
 
 -- a client among other rows is among those behind them
 skip : {A : Type 0} → (f : A → Node) (xs : List A) (ys : List Node) (n : ℕ) (c : ClientNode) → ((x : A) → f x ≡ client c → ⊥) → slice_get (map f xs ++ ys) n ≡ Some (client c)
@@ -150,6 +147,7 @@ later : (m n : ℕ) (s : NodeState) → m ≤ n → IsReady m s → IsReady n s
 later m n state.Nothing le h = tt
 later m n (state.Nat is) le h = omega (arith, le, h)
 later m n (state.Client is) le h = omega (arith, le, h)
+later m n (state.Relay is) le h = omega (arith, le, h)
 
 pub ready_later : (m n : ℕ) (states : List NodeState) → m ≤ n → AreReady m states → AreReady n states
 ready_later m n [] le all = tt

@@ -19,7 +19,3 @@ words_at key place (suc k) h =
 pub first_words : (seed n : ℕ) → words_of (of_seed (stream_key seed n)) ≡ (λ k. draws seed n (0 + k))
 unfolding draws
 first_words seed n = λ i k. words_at (key_of (stream_key seed n)) 0 k (omega arith) i
-
--- the words after some are the later ones
-pub words_on : ((g : ChaCha) (m k : ℕ) → words_of (after_words m g) k ≡ words_of g (m + k)) → (g : ChaCha) (m : ℕ) → words_of (after_words m g) ≡ (λ k. words_of g (m + k))
-words_on law g m = λ i k. law g m k i

@@ -3,6 +3,9 @@ use Rattle.std.specs.Prelude.{◌≡◌, ◌≢◌, ℕ, true, List, [], length,
 use Rattle.td_base.specs.declared.span.Span.{Span}
 use Rattle.teredo_node.specs.Step.{Step, part}
 use Rattle.teredo_node.specs.Journal.{Input, arrived, given, from_six, ticked, Entry, Journal}
+use Rattle.relay_core.specs.declared.relay.Relay.{Relay}
+use Rattle.relay_core.specs.Relay.{RelayStandsFor}
+use Rattle.relay_core.specs.Relay as relays
 use Rattle.client_core.specs.declared.client.Client.{Client}
 use Rattle.client_core.specs.Client.{ClientStandsFor, next_entry}
 use Rattle.topology.specs.Rows.{TopologyState}
@@ -19,15 +22,26 @@ use Rattle.world.specs.NodeState.{past_of, IsKept, IsKeptIn}
 use Rattle.world.specs.Changes.{with_call}
 use Rattle.world.specs.Memory.{takes_memory}
 
--- CLIENTS
+-- NODES OF A KIND
 
 abbrev pub IsClientNode : Node → Type 0
 IsClientNode (client c) = Unit {0}
 IsClientNode _ = ⊥
 
+abbrev pub IsRelayNode : Node → Type 0
+IsRelayNode (relay r) = Unit {0}
+IsRelayNode _ = ⊥
+
+abbrev pub IsNoNative : Node → Type 0
+IsNoNative (native h) = ⊥
+IsNoNative _ = Unit {0}
+
 -- memory is wanting where something is to be kept
 abbrev pub Starves : Client → ℕ → Input → Type 0
 Starves c m input = (j : Journal) → ClientStandsFor c j → takes_memory (next_entry c j m input).step.fate ≡ true
+
+abbrev pub RelayStarves : Relay → ℕ → Input → Type 0
+RelayStarves r m input = (j : List Entry) → RelayStandsFor r j → takes_memory (relays.next_entry r j m input).step.fate ≡ true
 
 -- STATES
 

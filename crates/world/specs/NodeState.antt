@@ -5,7 +5,12 @@ use Rattle.nat_kinds.specs.History.{Entry}
 use Rattle.nat_kinds.specs.Nat.{NatState}
 use Rattle.nat_kinds.specs.Nat as nats
 use Rattle.teredo_node.specs.Journal.{Journal, Words}
+use Rattle.teredo_node.specs.Journal as journals
 use Rattle.qualify.specs.declared.settings.Settings.{Settings}
+use Rattle.relay_rules.specs.Standing.{RelaySettings}
+use Rattle.relay_core.specs.declared.relay.Relay.{Relay}
+use Rattle.relay_core.specs.Relay.{RelayStandsFor}
+use Rattle.relay_core.specs.Relay as relays
 use Rattle.client_core.specs.declared.client.Client.{Client}
 use Rattle.client_core.specs.Client.{settings_of, words_ahead, ClientStandsFor}
 use Rattle.topology.specs.declared.nat_node.NatNode.{NatNode}
@@ -15,7 +20,7 @@ use Rattle.topology.specs.declared.node.Node.TheVariants.{Server as server, Nat 
 use Rattle.topology.specs.Topology.{node_at, nat_settings}
 use Rattle.history.specs.Full.{Full}
 use Rattle.legal.specs.Past.{Draws, journal, words, nat_history}
-use Rattle.legal.specs.Settings.{client_settings}
+use Rattle.legal.specs.Settings.{client_settings, relay_settings}
 use Rattle.world.specs.declared.node_state.NodeState.{NodeState}
 use Rattle.world.specs.declared.node_state.NodeState.TheVariants as state
 
@@ -39,17 +44,19 @@ pub record IsClientOf (s : Settings) (is : Client) (j : Journal) (w : Words) : T
   pub stands : ClientStandsFor is j
   pub words : words_ahead is ≡ w
 
+-- a relay is set up so, and stands for these entries
+pub record IsRelayOf (s : RelaySettings) (is : Relay) (j : List journals.Entry) : Type 0 where
+  pub settings : relays.settings_of is ≡ s
+  pub stands : RelayStandsFor is j
+
 -- what is kept of node n stands for its past. Of a server and a native host nothing is
 abbrev pub IsKept : TopologyState → ℕ → Node → NodePast → NodeState → Type 0
 IsKept t n (nat a) x (state.Nat is) = IsNatOf a is x.history
-IsKept t n (nat a) x state.Nothing = ⊥
-IsKept t n (nat a) x (state.Client is) = ⊥
 IsKept t n (client c) x (state.Client is) = IsClientOf (client_settings t c) is x.journal x.words
-IsKept t n (client c) x state.Nothing = ⊥
-IsKept t n (client c) x (state.Nat is) = ⊥
+IsKept t n (relay r) x (state.Relay is) = IsRelayOf (relay_settings t n r) is x.journal.entries
 IsKept t n (server a) x s = Unit {0}
-IsKept t n (relay r) x s = Unit {0}
 IsKept t n (native h) x s = Unit {0}
+IsKept t n a x s = ⊥
 
 -- such a state is kept there
 abbrev pub IsKeptIn : TopologyState → ℕ → Node → NodePast → Option NodeState → Type 0
@@ -65,6 +72,7 @@ abbrev pub IsReady : ℕ → NodeState → Type 0
 IsReady m state.Nothing = Unit {0}
 IsReady m (state.Nat is) = is.moment ≤ m
 IsReady m (state.Client is) = is.peers.moment ≤ m
+IsReady m (state.Relay is) = is.peers.moment ≤ m
 
 abbrev pub AreReady : ℕ → List NodeState → Type 0
 AreReady m states = AllByRecursion (IsReady m) states

@@ -23,7 +23,7 @@ use Rattle.world.specs.declared.going.Going.{Going}
 use Rattle.world.specs.declared.node_state.NodeState.{NodeState}
 use Rattle.world.specs.declared.world.TheConstants.{MOST_MOMENT}
 use Rattle.world.specs.NodeState.{NodesOf, AreReady}
-use Rattle.world.specs.World.{WorldState, HasNoHosts, IsCause, going_after, is_more, record_in}
+use Rattle.world.specs.World.{WorldState, IsCause, going_after, is_more, record_in}
 
 -- WHAT A WORLD KEEPS TO
 
@@ -33,7 +33,6 @@ IsGoing m None = Unit {0}
 IsGoing m (Some g) = (m ≤ g.began.0 + g.ms) × (g.left ≤ MOST_LEFT)
 
 pub record IsWorld (t : TopologyState) (m : ℕ) (g : Option Going) (nodes : List NodeState) : Type 0 where
-  pub built : HasNoHosts t
   pub rules : IsTopology t
   pub ready : AreReady m nodes
   pub early : m < MOST_MOMENT

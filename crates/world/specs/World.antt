@@ -8,8 +8,6 @@ use Rattle.history.specs.declared.turn.Turn.TheVariants.{More, Last}
 use Rattle.history.specs.declared.turn.Stop.{Stop}
 use Rattle.history.specs.declared.turn.Stop.TheVariants.{WireFull, NoMemory}
 use Rattle.topology.specs.Rows.{TopologyState}
-use Rattle.topology.specs.declared.node.Node.{Node}
-use Rattle.topology.specs.declared.node.Node.TheVariants.{Server as server, Nat as nat, Client as client, Relay as relay, Native as native}
 use Rattle.history.specs.Full.{Item, Full, wire, items_of}
 use Rattle.history.specs.Records.{record_of}
 use Rattle.history.specs.Telling.{IsTold}
@@ -52,18 +50,6 @@ left_in (Some g) = g.left
 
 abbrev pub state_of : TopologyState → ℕ → Option Going → List NodeState → WireState → Option Stop → WorldState
 state_of t m g nodes wire stopped = record { topology = t; moment = m; began = began_in m g; going = event_in g; nodes = nodes; wire = wire.items; done = wire.done; left = left_in g; stopped = stopped }
-
--- servers, NATs and clients alone: the nodes of a world so far
-abbrev pub IsBuilt : Node → Type 0
-IsBuilt (server a) = Unit {0}
-IsBuilt (nat a) = Unit {0}
-IsBuilt (client c) = Unit {0}
-IsBuilt (relay r) = ⊥
-IsBuilt (native h) = ⊥
-
-pub record HasNoHosts (t : TopologyState) : Type 0 where
-  pub relays : t.relays ≡ []
-  pub natives : t.natives ≡ []
 
 -- WHAT A WORLD STANDS FOR
 

@@ -1,15 +1,13 @@
 //! Which tick is due first.
 ghost use Rattle.std.specs.Prelude.{◌≡◌, ◌<◌, ℕ, List, Some, slice_get, option_map};
 ghost use Rattle.td_outside.specs.declared.clock.TheConstants.{CLOCK_END_MS};
-ghost use Rattle.topology.specs.declared.node.Node.{Node};
 ghost use Rattle.topology.specs.Rows.{TopologyState};
-ghost use Rattle.topology.specs.Topology.{nodes, node_at};
+ghost use Rattle.topology.specs.Topology.{nodes};
 ghost use Rattle.history.specs.Full.{Full};
 ghost use Rattle.legal.specs.Past.{Draws, now};
 ghost use Rattle.legal.specs.Emit.{due_of};
 ghost use Rattle.legal.specs.Next as next;
 ghost use Rattle.world.specs.NodeState.{past_of, IsKept, IsKeptIn, NodesOf, IsReady, AreReady};
-ghost use Rattle.world.specs.World.{IsBuilt};
 ghost use Rattle.world.specs.Due.{due_is};
 
 use crate::node_state::NodeState;
@@ -27,7 +25,6 @@ pub struct Due {
 
 /// When a tick of a node is due: a server, a NAT and a native host have none.
 fn due_of(node: Node, state: &NodeState, at: Millis) -> Option<Millis>
-    requires built { IsBuilt node }
     requires ready { IsReady at.0 state.now }
     requires early { at.0 < CLOCK_END_MS }
     ensures { (d : Draws) (t : TopologyState) (H : List Full) (n : ℕ) → IsKept t n node (past_of d t n H) state.now
@@ -38,17 +35,22 @@ fn due_of(node: Node, state: &NodeState, at: Millis) -> Option<Millis>
             NodeState::Client(client) => client.due(at),
             NodeState::Nothing => None,
             NodeState::Nat(_) => None,
+            NodeState::Relay(_) => None,
         },
         Node::Server(_) => None,
         Node::Nat(_) => None,
-        Node::Relay(_) => unreachable!(),
+        Node::Relay(_) => match state {
+            NodeState::Relay(relay) => relay.due(at),
+            NodeState::Nothing => None,
+            NodeState::Nat(_) => None,
+            NodeState::Client(_) => None,
+        },
         Node::Native(_) => None,
     }
 }
 
 /// The tick of the node of a number.
 fn due_at(states: &[NodeState], number: u16, node: Node, at: Millis) -> Option<Due>
-    requires built { IsBuilt node }
     requires ready { AreReady at.0 states.now }
     requires early { at.0 < CLOCK_END_MS }
     ensures { (d : Draws) (t : TopologyState) (H : List Full) → IsKeptIn t number node (past_of d t number H) (slice_get states.now number)
@@ -82,7 +84,6 @@ fn earlier(first: Option<Due>, other: Option<Due>) -> Option<Due>
 
 /// The tick that is due first, of the node with the least number among those of one moment.
 pub fn first_due(topology: &Topology, states: &[NodeState], at: Millis) -> Option<Due>
-    requires built { (n : ℕ) (a : Node) → node_at topology.now n ≡ Some a → IsBuilt a }
     requires ready { AreReady at.0 states.now }
     requires early { at.0 < CLOCK_END_MS }
     ensures { (d : Draws) (H : List Full) → NodesOf d topology.now states.now H → at.0 ≡ now H

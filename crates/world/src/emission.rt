@@ -4,10 +4,9 @@ ghost use Rattle.topology.specs.declared.node.Node.TheVariants.{Client as client
 ghost use Rattle.history.specs.declared.event.TheConstants.{MOST_BYTES};
 ghost use Rattle.world.specs.NodeState.{AreReady};
 ghost use Rattle.world.specs.Emission.{Emits, IsTooMuch, MakesAny, IsBehind};
-ghost use Rattle.world.specs.World.{IsBuilt};
 
 use crate::node_state::NodeState;
-use crate::outlet::{Outlet, send_through};
+use crate::outlet::{Outlet, send_native, send_through};
 use crate::wire::Wire;
 use history::{Marks, Stop};
 use td_base::Millis;
@@ -47,6 +46,7 @@ fn emit_client(
     match &mut nodes[number] {
         NodeState::Nat(nat) => send_through(alloc, wire, nat, sender.now, row.inside, step),
         NodeState::Client(_) => Err(Stop::NoMemory),
+        NodeState::Relay(_) => Err(Stop::NoMemory),
         NodeState::Nothing => Err(Stop::NoMemory),
     }
 }
@@ -60,7 +60,6 @@ pub fn emit(
     step: &Step,
     packet: Option<Octets>,
 ) -> Result<Marks, Stop>
-    requires built { IsBuilt sender.node }
     requires short { IfSome packet (λ bytes. length bytes ≤ MOST_BYTES) }
     requires ready { AreReady sender.now.0 nodes.old.items }
     ensures ready { AreReady sender.now.0 nodes.new.items }
@@ -75,7 +74,7 @@ pub fn emit(
         Node::Client(row) => emit_client(sender, row, nodes, wire, step),
         Node::Server(_) => Outlet::of(sender.node).send(alloc, wire, step, packet),
         Node::Nat(_) => Ok(Marks::new()),
-        Node::Relay(_) => unreachable!(),
-        Node::Native(_) => unreachable!(),
+        Node::Relay(_) => Outlet::of(sender.node).send(alloc, wire, step, packet),
+        Node::Native(row) => send_native(wire, &row, packet),
     }
 }

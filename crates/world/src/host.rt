@@ -19,12 +19,10 @@ use crate::node_state::NodeState;
 use history::{MOST_BODY, Target};
 use icmp6::Msg;
 use ipv6_packet::{HEADER, NEXT_ICMP, Packet};
+use native_host::HOST_HOP;
 use td_base::Ip6;
 use teredo_addr::UNSPECIFIED;
 use topology::{Node, Topology};
-
-/// The hop limit of a host's packets (own).
-const HOST_HOP: u8 = 64;
 
 /// The header after the IPv6 header of a host's data: none that a node knows (own, of those for experiments: RFC 3692).
 const NEXT_DATA: u8 = 253;
@@ -99,6 +97,7 @@ fn address_in(state: &NodeState) -> Ip6
     match state {
         NodeState::Client(client) => client.address().unwrap_or(UNSPECIFIED),
         NodeState::Nat(_) => UNSPECIFIED,
+        NodeState::Relay(_) => UNSPECIFIED,
         NodeState::Nothing => UNSPECIFIED,
     }
 }
@@ -108,10 +107,11 @@ fn address_of_client(nodes: &[NodeState], number: u16) -> Ip6
     ensures { (t : TopologyState) (row : ClientNode) (x : NodePast) → IsKeptIn t number (client row) x (slice_get nodes.now number)
         → result ≡ own_address (qualification (client_settings t row) x.journal) }
 {
-    match nodes.get(usize::from(number)) {
-        Some(state) => address_in(state),
-        None => UNSPECIFIED,
+    let place = usize::from(number);
+    if place >= nodes.len() {
+        return UNSPECIFIED;
     }
+    address_in(&nodes[place])
 }
 
 /// The address of the host of a node: a client's, or `::` where it isn't qualified; a native host's.

@@ -4,9 +4,9 @@ ghost use Rattle.td_outside.specs.declared.clock.TheConstants.{CLOCK_END_MS};
 ghost use Rattle.topology.specs.Topology.{node_at, server_at};
 ghost use Rattle.legal.specs.Past.{new_journal};
 ghost use Rattle.legal.specs.Legal.{draws, stream_key};
-ghost use Rattle.legal.specs.Settings.{primary_of, secondary_of, client_settings};
+ghost use Rattle.legal.specs.Settings.{primary_of, secondary_of, client_settings, served, relay_settings};
 ghost use Rattle.qualify.specs.Qualifier.{IsSettings};
-ghost use Rattle.world.specs.NodeState.{past_of, IsClientOf, IsKept, NodesOf, IsReady, AreReady};
+ghost use Rattle.world.specs.NodeState.{past_of, IsClientOf, IsRelayOf, IsKept, NodesOf, IsReady, AreReady};
 ghost use Rattle.world.specs.Changes.{RestartsIn, ForgetsIn};
 
 use client_core::Client;
@@ -14,9 +14,10 @@ use nat_kinds::Nat;
 use qualify::Settings;
 use rand_chacha::ChaCha20Rng;
 use rand_core::SeedableRng;
+use relay_core::Relay;
 use std::alloc::Global;
-use td_base::{Ep, Ip4, Millis, NoMemory, Policy, put64};
-use topology::{ClientNode, Node, Topology};
+use td_base::{Ep, Ip4, Ip6, Millis, NoMemory, Policy, put64};
+use topology::{ClientNode, Node, RelayNode, Topology};
 
 /// What a world keeps of a node besides its row: of a server or a native host nothing.
 #[derive(Drop)]
@@ -24,6 +25,7 @@ pub enum NodeState {
     Nothing,
     Nat(Nat),
     Client(Client),
+    Relay(Relay),
 }
 
 /// How many bytes the seed of a stream of random words has.
@@ -75,21 +77,59 @@ fn first_client(alloc: Global, topology: &Topology, seed: u64, number: usize, ro
     Client::new(alloc, settings_of(topology, row), rng, Millis(0))
 }
 
+/// The addresses of the native hosts that name the relay of a number.
+fn served(alloc: Global, topology: &Topology, number: usize) -> Result<Vec<Ip6>, NoMemory>
+    ensures { IfOk result (λ list. list.items ≡ served topology.now number) }
+{
+    let mut list = Vec::new(alloc);
+    for row in topology.natives() {
+        if usize::from(row.relay) == number {
+            list.push(row.six)?;
+        }
+    }
+    Ok(list)
+}
+
+/// A relay that starts.
+fn first_relay(
+    alloc: Global,
+    topology: &Topology,
+    number: usize,
+    row: RelayNode,
+) -> Result<Relay, NoMemory>
+    ensures kept { IfOk result (λ relay. IsRelayOf (relay_settings topology.now number row) relay []) }
+    ensures moment { IfOk result (λ relay. relay.peers.moment ≡ 0) }
+{
+    let list = served(alloc, topology, number)?;
+    Ok(Relay::new(alloc, row.at, row.six, Policy::Strict, list))
+}
+
 /// That of a node to which nothing happened yet.
-fn first_state(alloc: Global, topology: &Topology, seed: u64, number: usize, node: Node) -> NodeState
+fn first_state(
+    alloc: Global,
+    topology: &Topology,
+    seed: u64,
+    number: usize,
+    node: Node,
+) -> Result<NodeState, NoMemory>
     requires there { node_at topology.now number ≡ Some node }
-    ensures kept { IsKept topology.now number node (past_of (draws seed) topology.now number []) result }
-    ensures ready { IsReady 0 result }
+    ensures kept { IfOk result (λ s. IsKept topology.now number node (past_of (draws seed) topology.now number []) s) }
+    ensures ready { IfOk result (λ s. IsReady 0 s) }
 {
     let _rules = topology.clients();
     match node {
-        Node::Nat(row) => NodeState::Nat(Nat::new(alloc, row.kind, row.external, row.idle)),
-        Node::Client(row) => {
-            NodeState::Client(first_client(alloc, topology, seed, number, row))
-        }
-        Node::Server(_) => NodeState::Nothing,
-        Node::Relay(_) => NodeState::Nothing,
-        Node::Native(_) => NodeState::Nothing,
+        Node::Nat(row) => Ok(NodeState::Nat(Nat::new(
+            alloc,
+            row.kind,
+            row.external,
+            row.idle,
+        ))),
+        Node::Client(row) => Ok(NodeState::Client(first_client(
+            alloc, topology, seed, number, row,
+        ))),
+        Node::Relay(row) => Ok(NodeState::Relay(first_relay(alloc, topology, number, row)?)),
+        Node::Server(_) => Ok(NodeState::Nothing),
+        Node::Native(_) => Ok(NodeState::Nothing),
     }
 }
 
@@ -100,12 +140,14 @@ pub fn first_states(alloc: Global, topology: &Topology, seed: u64) -> Result<Vec
 {
     let mut states = Vec::new(alloc);
     while let Some(node) = topology.node(states.len()) {
-        states.push(first_state(alloc, topology, seed, states.len(), node))?;
+        let state = first_state(alloc, topology, seed, states.len(), node)?;
+        states.push(state)?;
     }
     Ok(states)
 }
 
-/// Lets the node of a number start anew: a NAT drops all its mappings, a client all that it knows.
+/// Lets the node of a number start anew: a NAT drops all its mappings, a client or relay all that it
+/// knows.
 pub fn restart_at(states: &mut Vec<NodeState>, number: usize, now: Millis)
     requires early { now.0 < CLOCK_END_MS }
     ensures elsewhere { (n : ℕ) → n ≢ number → slice_get states.new.items n ≡ slice_get states.old.items n }
@@ -119,6 +161,7 @@ pub fn restart_at(states: &mut Vec<NodeState>, number: usize, now: Millis)
         NodeState::Nothing => {}
         NodeState::Nat(nat) => nat.restart(),
         NodeState::Client(client) => client.restart(now),
+        NodeState::Relay(relay) => relay.restart(),
     }
 }
 

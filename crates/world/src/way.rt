@@ -49,6 +49,7 @@ fn inside_of(states: &[NodeState], nat: u16, now: Millis, src: Ep, port: u16) ->
     match state {
         NodeState::Nat(nat) => nat.inward(now, src, port),
         NodeState::Client(_) => None,
+        NodeState::Relay(_) => None,
         NodeState::Nothing => None,
     }
 }

@@ -1,4 +1,4 @@
-ghost use Rattle.std.specs.Prelude.{◌≡◌, ◌<◌, ◌≤◌, ◌+◌, ℕ, List, [], length, None, Some, Ok, Err, slice_get, option_map, IfSome, IfNone, IfOk, IfErr, OnErr};
+ghost use Rattle.std.specs.Prelude.{◌≡◌, ◌<◌, ◌≤◌, ◌+◌, ℕ, max, List, [], length, None, Some, Ok, Err, slice_get, option_map, IfSome, IfNone, IfOk, IfErr, OnErr};
 ghost use Rattle.teredo_node.specs.declared.fate.Fate.TheVariants as fates;
 ghost use Rattle.topology.specs.Topology.{node_at, nodes};
 ghost use Rattle.history.specs.declared.event.Event.{Event};
@@ -10,7 +10,7 @@ ghost use Rattle.history.specs.Events.{IsEvent, IsForgotten};
 ghost use Rattle.history.specs.Full.{Item, Full};
 ghost use Rattle.legal.specs.declared.left.TheConstants.{MOST_LEFT};
 ghost use Rattle.legal.specs.Past.{Draws, now, began, at_nat, forgotten};
-ghost use Rattle.legal.specs.Next.{Numbered, numbered, plain, puts, copies, delivers, hands_in, least_due, advanced, next_of};
+ghost use Rattle.legal.specs.Next.{numbered, plain, puts, copies, delivers, hands_in, least_due, advanced, next_of};
 ghost use Rattle.legal.specs.Legal.{draws};
 ghost use Rattle.world.specs.declared.wire.TheConstants.{MOST_ENTRIES};
 ghost use Rattle.world.specs.declared.world.TheConstants.{MOST_MOMENT};
@@ -18,7 +18,7 @@ ghost use Rattle.world.specs.WireEntry.{item_lent};
 ghost use Rattle.world.specs.Call.{dst_lent, input_lent, IsShortInput};
 ghost use Rattle.world.specs.Due.{due_is};
 ghost use Rattle.world.specs.Record.{said};
-ghost use Rattle.world.specs.World.{StandsFor, HasNoHosts, IsAgain, EndsInTime, Steps, StopsFor, Stays, Falls};
+ghost use Rattle.world.specs.World.{StandsFor, IsAgain, EndsInTime, Steps, StopsFor, Stays, Falls};
 ghost use Rattle.world.specs.Playing.{acts_in, reached_by, ticks_at, IsPast, Finds, Plays, last_of, PlaysTurn, Turned};
 
 use crate::answer::{Asked, ask};
@@ -70,7 +70,6 @@ impl<'a> Model for World<'a> {
 impl<'a> World<'a> {
     /// The nodes at moment 0, with nothing on the wire. The seed is that of the nodes' random words.
     pub fn new(alloc: Global, topology: &'a Topology, seed: u64) -> Result<World<'a>, NoMemory>
-        requires built { HasNoHosts topology.now }
         ensures topology { IfOk result (λ w. w.topology ≡ topology.now) }
         ensures stands { IfOk result (λ w. StandsFor (draws seed) w []) }
         ensures goes_on { IfOk result (λ w. w.stopped ≡ None) }
@@ -105,14 +104,14 @@ impl<'a> World<'a> {
 
     /// Lets a node do what is asked of it now, and puts what it sends on the wire.
     fn act(&mut self, index: u32, act: Act, call: Call<'_>) -> Result<Record, Stop>
-        requires there { node_at self.old.topology call.number ≡ Some call.node }
         requires now { call.now.0 ≡ self.old.moment }
         requires short { IsShortInput (input_lent call.coming) }
-        ensures plays { (d : Draws) (H : List Full) → Finds d self.old H → (e : Numbered) → at_nat self.old.topology e.event act ≡ []
-            → Plays d self.old self.new H (acts_in d self.old.topology H e act None call.entry) result }
+        ensures plays { (d : Draws) (H : List Full) → Finds d self.old H → (e : Event) → at_nat self.old.topology e act ≡ []
+            → node_at self.old.topology call.entry.number ≡ Some call.entry.node → Plays d self.old self.new H (acts_in d self.old.topology H (numbered index e) act None call.entry) result }
         ensures rest { self.new ≡ record self.old { nodes = self.new.nodes; wire = self.new.wire; done = self.new.done } }
         ensures err { OnErr result ((self.new.wire ≡ self.old.wire) × (self.new.done ≡ self.old.done)) }
     {
+        legal::frame();
         let Ok(asked) = ask(&mut self.nodes, call, &mut self.step) else {
             return Err(Stop::NoMemory);
         };
@@ -125,27 +124,27 @@ impl<'a> World<'a> {
             handed,
             address,
         } = asked;
-        match emit(sender, &mut self.nodes, &mut self.wire, &self.step, packet) {
-            Ok(marks) => {
-                let mut record = acted(call.now, index, act, call.number, &self.step, marks);
-                record.handed = handed;
-                record.address = address;
-                Ok(record)
-            }
-            Err(stop) => Err(stop),
-        }
+        let marks = match emit(sender, &mut self.nodes, &mut self.wire, &self.step, packet) {
+            Ok(marks) => marks,
+            Err(stop) => return Err(stop),
+        };
+        let mut record = acted(call.now, index, act, call.number, &self.step, marks);
+        record.handed = handed;
+        record.address = address;
+        Ok(record)
     }
 
     /// Delivers entry `number` to a node.
     fn reach(&mut self, index: u32, number: u32, at: u16, node: Node) -> Result<Record, Stop>
         requires there { node_at self.old.topology at ≡ Some node }
         requires within { number < length self.old.wire }
-        ensures plays { (d : Draws) (H : List Full) → Finds d self.old H → (e : Numbered) → at_nat self.old.topology e.event (acts.Deliver number) ≡ []
+        ensures plays { (d : Draws) (H : List Full) → Finds d self.old H → (e : Event) → at_nat self.old.topology e (acts.Deliver number) ≡ []
             → (x : Item) → slice_get self.old.wire number ≡ Some x
-            → Plays d self.old self.new H (reached_by d self.old H e number at x node) result }
+            → Plays d self.old self.new H (reached_by d self.old H (numbered index e) number at x node) result }
         ensures rest { self.new ≡ record self.old { nodes = self.new.nodes; wire = self.new.wire; done = self.new.done } }
         ensures err { OnErr result ((self.new.wire ≡ self.old.wire) × (self.new.done ≡ self.old.done)) }
     {
+        legal::frame();
         let place = number as usize;
         let Some(entry) = self.wire.get(place) else {
             unreachable!()
@@ -165,16 +164,16 @@ impl<'a> World<'a> {
             handed,
             address,
         } = asked;
-        match emit(Sender { node, now }, &mut self.nodes, &mut self.wire, &self.step, packet) {
-            Ok(marks) => {
-                self.wire.set_delivered(place);
-                let mut record = acted(now, index, Act::Deliver { number }, at, &self.step, marks);
-                record.handed = handed;
-                record.address = address;
-                Ok(record)
-            }
-            Err(stop) => Err(stop),
-        }
+        let sender = Sender { node, now };
+        let marks = match emit(sender, &mut self.nodes, &mut self.wire, &self.step, packet) {
+            Ok(marks) => marks,
+            Err(stop) => return Err(stop),
+        };
+        self.wire.set_delivered(place);
+        let mut record = acted(now, index, Act::Deliver { number }, at, &self.step, marks);
+        record.handed = handed;
+        record.address = address;
+        Ok(record)
     }
 
     /// Delivers entry `number` to whoever is at its destination.
@@ -348,6 +347,7 @@ impl<'a> World<'a> {
             → Plays d self.old self.new H (next_of d self.old.topology H index (event.Restart number)) (Ok result) }
         ensures rest { self.new ≡ record self.old { nodes = self.new.nodes } }
     {
+        legal::frame();
         restart_at(&mut self.nodes, usize::from(number), self.moment);
         let act = Act::Plain {
             verb: Verb::Restart,
@@ -362,9 +362,14 @@ impl<'a> World<'a> {
             → Plays d self.old self.new H (next_of d self.old.topology H index (event.Forget number who)) (Ok result) }
         ensures rest { self.new ≡ record self.old { nodes = self.new.nodes } }
     {
-        if let Some(Node::Client(row)) = self.topology.node(usize::from(who)) {
-            forget_at(&mut self.nodes, usize::from(number), row.inside);
-        }
+        legal::frame();
+        let Some(node) = self.topology.node(usize::from(who)) else {
+            unreachable!()
+        };
+        let Node::Client(row) = node else {
+            unreachable!()
+        };
+        forget_at(&mut self.nodes, usize::from(number), row.inside);
         let act = Act::Plain { verb: Verb::Forget };
         blank(self.moment, index, act, Some(number), Fate::Done)
     }
@@ -390,10 +395,11 @@ impl<'a> World<'a> {
         ensures due { (d : Draws) (H : List Full) → StandsFor d self.now H → IfSome result (λ x. (least_due self.now.topology H 0 (nodes self.now.topology) ≡ Some (due_is x)) × (x.moment.0 ≤ end.0)) }
         ensures none { (d : Draws) (H : List Full) → StandsFor d self.now H → IfNone result (IsPast end.0 (least_due self.now.topology H 0 (nodes self.now.topology))) }
         ensures early { IfSome result (λ x. x.moment.0 ≤ end.0) }
-        ensures there { IfSome result (λ x. node_at self.now.topology x.number ≡ Some x.node) }
     {
-        let due = first_due(self.topology, self.nodes.as_slice(), self.moment)?;
-        if due.moment > end {
+        let Some(due) = first_due(self.topology, self.nodes.as_slice(), self.moment) else {
+            return None;
+        };
+        if end.0 < due.moment.0 {
             return None;
         }
         Some(due)
@@ -416,17 +422,16 @@ impl<'a> World<'a> {
 
     /// Lets the tick of a node be played that is due.
     fn tick(&mut self, index: u32, going: Going, due: Due) -> Result<Record, Stop>
-        requires there { node_at self.old.topology due.number ≡ Some due.node }
         requires early { due.moment.0 ≤ going.began.0 + going.ms }
         requires going { (self.old.moment ≤ going.began.0 + going.ms) × (going.began.0 + going.ms < MOST_MOMENT) × (going.left ≤ MOST_LEFT) × (0 < going.left) }
-        ensures plays { (d : Draws) (H : List Full) → StandsFor d self.old H → (e : Numbered) → (e.number ≡ index) × (forgotten self.old.topology e.event ≡ [])
-            → Plays d self.old self.new H (ticks_at d self.old H e (due_is due)) result }
+        ensures plays { (d : Draws) (H : List Full) → StandsFor d self.old H → (e : Event) → forgotten self.old.topology e ≡ []
+            → node_at self.old.topology due.number ≡ Some due.node → Plays d self.old self.new H (ticks_at d self.old H (numbered index e) (due_is due)) result }
         ensures rest { self.new ≡ record self.old { moment = self.new.moment; began = going.began.0; going = Some (event.Advance going.ms); left = self.new.left; nodes = self.new.nodes; wire = self.new.wire; done = self.new.done } }
         ensures left { self.new.left + 1 ≡ going.left }
         ensures moment { self.new.moment ≤ going.began.0 + going.ms }
         ensures err { OnErr result ((self.new.wire ≡ self.old.wire) × (self.new.done ≡ self.old.done)) }
     {
-        let now = self.moment.max(due.moment);
+        let now = later(self.moment, due.moment);
         self.moment = now;
         self.going = Some(Going {
             left: going.left - 1,
@@ -453,6 +458,8 @@ impl<'a> World<'a> {
         ensures err { OnErr result ((self.new.topology ≡ self.old.topology) × (self.new.wire ≡ self.old.wire) × (self.new.done ≡ self.old.done)) }
     {
         legal::frame();
+        legal::of_its_event();
+        legal::falls();
         let going = self.going_on(ms);
         let end = Millis(going.began.0 + ms);
         let Some(due) = self.due_by(end) else {
@@ -478,6 +485,7 @@ impl<'a> World<'a> {
         ensures time { self.new.moment ≤ self.old.began + MOST_ADVANCE }
         ensures err { OnErr result ((self.new.topology ≡ self.old.topology) × (self.new.wire ≡ self.old.wire) × (self.new.done ≡ self.old.done)) }
     {
+        legal::of_its_event();
         match event {
             Event::Advance { ms } => self.advance(index, *ms),
             Event::Deliver { number } => last(self.deliver(index, *number)),
@@ -514,6 +522,7 @@ impl<'a> World<'a> {
     {
         legal::of_its_event();
         legal::told();
+        legal::falls();
         if let Some(stop) = self.stopped {
             return Err(stop);
         }
@@ -528,6 +537,13 @@ impl<'a> World<'a> {
             }
         }
     }
+}
+
+/// The later of two moments.
+fn later(a: Millis, b: Millis) -> Millis
+    ensures { result.0 ≡ max b.0 a.0 }
+{
+    if a.0 < b.0 { b } else { a }
 }
 
 /// The turn of a record that has no further ones.

@@ -7,7 +7,7 @@ use Rattle.world.proofs.node_state.first_client.Goals as goal
 
 pub returns-clause-kept : goal.returns-clause-kept
 returns-clause-kept c =
-    let seeded : c.from_seed.result ≡ of_seed (stream_key c.args.seed c.args.number) = c.from_seed.ensures ∙ ap (λ b. of_seed b) c.stream_seed.ensures in
+    let seeded : c.from_seed-rng.result ≡ of_seed (stream_key c.args.seed c.args.number) = c.from_seed-rng.ensures ∙ ap (λ b. of_seed b) c.stream_seed.ensures in
     record {
       settings = c.new.ensures.settings ∙ c.settings_of.ensures;
       stands = c.new.ensures.stands;
