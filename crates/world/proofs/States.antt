@@ -178,3 +178,8 @@ set_elsewhere (x ∷ xs) zero zero y other = absurd (other refl)
 set_elsewhere (x ∷ xs) zero (suc k) y other = refl
 set_elsewhere (x ∷ xs) (suc j) zero y other = refl
 set_elsewhere (x ∷ xs) (suc j) (suc k) y other = set_elsewhere xs j k y (λ e. other (ap (λ (n : ℕ). suc n) e))
+
+pub set_past : {A : Type 0} → (xs : List A) (j : ℕ) (y : A) → length xs ≤ j → set xs j y ≡ xs
+set_past [] j y h = refl
+set_past (x ∷ xs) zero y h = absurd (omega (arith, h))
+set_past (x ∷ xs) (suc j) y h = ap (λ (zs : List _). x ∷ zs) (set_past xs j y (omega (arith, h)))

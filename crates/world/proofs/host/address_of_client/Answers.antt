@@ -8,9 +8,8 @@ use Rattle.world.proofs.host.address_of_client.Goals as goal
 
 pub returns : goal.returns
 returns c = λ t row x kept.
-    let l = c.len.ensures in
-    let test = c.if-place-len.false in
+    let test = c.if-place-nodes.false in
     let items = c.args.nodes.now in
     let within : c.from-place.result < length items = grind (arith, nat_tests) in
-    let here : slice_get items c.args.number ≡ Some c.index.result.now = ap (slice_get items) (sym c.from-place.ensures) ∙ slice_get_read items (length items) c.from-place.result c.index.result.now refl within c.index.ensures in
+    let here : slice_get items c.args.number ≡ Some c.index-nodes-place.result.now = ap (slice_get items) (sym c.from-place.ensures) ∙ slice_get_read items (length items) c.from-place.result c.index-nodes-place.result.now refl within c.index-nodes-place.ensures in
     c.address_in.ensures t c.args.number row x (subst (IsKeptIn t c.args.number (client row) x) here kept)
