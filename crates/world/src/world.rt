@@ -460,6 +460,7 @@ impl<'a> World<'a> {
         legal::frame();
         legal::of_its_event();
         legal::falls();
+        let _ = &self.nodes;
         let going = self.going_on(ms);
         let end = Millis(going.began.0 + ms);
         let Some(due) = self.due_by(end) else {
@@ -486,6 +487,7 @@ impl<'a> World<'a> {
         ensures err { OnErr result ((self.new.topology ≡ self.old.topology) × (self.new.wire ≡ self.old.wire) × (self.new.done ≡ self.old.done)) }
     {
         legal::of_its_event();
+        let _ = &self.nodes;
         match event {
             Event::Advance { ms } => self.advance(index, *ms),
             Event::Deliver { number } => last(self.deliver(index, *number)),

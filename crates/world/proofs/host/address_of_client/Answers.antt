@@ -11,5 +11,5 @@ returns c = λ t row x kept.
     let test = c.if-place-nodes.false in
     let items = c.args.nodes.now in
     let within : c.from-place.result < length items = grind (arith, nat_tests) in
-    let here : slice_get items c.args.number ≡ Some c.index-nodes-place.result.now = ap (slice_get items) (sym c.from-place.ensures) ∙ slice_get_read items (length items) c.from-place.result c.index-nodes-place.result.now refl within c.index-nodes-place.ensures in
+    let here : slice_get items c.args.number ≡ Some c.index-nodes-place.result = ap (slice_get items) (sym c.from-place.ensures) ∙ slice_get_read items (length items) c.from-place.result c.index-nodes-place.result refl within c.index-nodes-place.ensures in
     c.address_in.ensures t c.args.number row x (subst (IsKeptIn t c.args.number (client row) x) here kept)

@@ -11,20 +11,20 @@ use Rattle.world.proofs.States.{some_inj}
 use Rattle.world.proofs.Starts.{Changes, forgets, client_forgotten}
 use Rattle.world.proofs.world.World.forget.Goals as goal
 
-pub unreachable-requires-in_default-node : goal.unreachable-requires-in_default-node
-unreachable-requires-in_default-node c =
-    let w = c.self.inside in
-    let is = client_forgotten w.topology.now c.args.number c.args.who (subst (λ (x : WorldState). IsForgotten x.topology c.args.number c.args.who) (sym c.self.view_is) c.requires.event) in
-    let none : node_at w.topology.now c.args.who ≡ None = ap (node_at w.topology.now) (sym c.from.ensures) ∙ sym c.node.ensures.found ∙ c.in_default-node.is in
-    false≢true (ap (λ o. is_some o) (sym none ∙ is.1))
-
 pub unreachable-requires : goal.unreachable-requires
 unreachable-requires c =
     let w = c.self.inside in
     let is = client_forgotten w.topology.now c.args.number c.args.who (subst (λ (x : WorldState). IsForgotten x.topology c.args.number c.args.who) (sym c.self.view_is) c.requires.event) in
+    let none : node_at w.topology.now c.args.who ≡ None = ap (node_at w.topology.now) (sym c.from.ensures) ∙ sym c.node.ensures.found ∙ c.in_default.is in
+    false≢true (ap (λ o. is_some o) (sym none ∙ is.1))
+
+pub unreachable-requires-in_default-node : goal.unreachable-requires-in_default-node
+unreachable-requires-in_default-node c =
+    let w = c.self.inside in
+    let is = client_forgotten w.topology.now c.args.number c.args.who (subst (λ (x : WorldState). IsForgotten x.topology c.args.number c.args.who) (sym c.self.view_is) c.requires.event) in
     let there : node_at w.topology.now c.args.who ≡ Some c.in-Some.node = ap (node_at w.topology.now) (sym c.from.ensures) ∙ sym c.node.ensures.found ∙ c.in-Some.is in
     let same : c.in-Some.node ≡ client is.0 = some_inj c.in-Some.node (client is.0) (sym there ∙ is.1) in
-    c.in_default.not-Client is.0 same
+    c.in_default-node.not-Client is.0 same
 
 pub invariant_of-self : goal.invariant_of-self
 invariant_of-self c = record { rules = c.self.invariant.rules; ready = c.forget_at.ensures.ready c.self.inside.moment.0 c.self.invariant.ready; early = c.self.invariant.early; going = c.self.invariant.going }

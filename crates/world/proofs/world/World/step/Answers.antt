@@ -14,7 +14,7 @@ returns-in-Ok-clause-ok c =
       again = c.requires.again;
       stopped = sym (ap (λ (x : WorldState). x.stopped) c.self.view_is) ∙ c.in_default.is;
     } in
-    rw (← c.self-2.view_is) (steps laws c.args.self.now c.play.new.self c.args.index c.args.event.now c.in-Ok.turn asked c.in-Ok.ensures.turned c.in-Ok.ensures.plays)
+    (steps laws c.args.self.now c.play.new.self c.args.index c.args.event.now c.in-Ok.turn asked c.in-Ok.ensures.turned c.in-Ok.ensures.plays)
 
 pub returns-in-Ok-clause-falls : goal.returns-in-Ok-clause-falls
-returns-in-Ok-clause-falls c = rw (← c.self-2.view_is) (falls c.args.self.now c.play.new.self c.args.event.now c.in-Ok.turn c.in-Ok.ensures.turned)
+returns-in-Ok-clause-falls c = (falls c.args.self.now c.play.new.self c.args.event.now c.in-Ok.turn c.in-Ok.ensures.turned)
