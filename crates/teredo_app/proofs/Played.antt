@@ -64,7 +64,7 @@ nothing_played s a w t going stands = record {
   topology = t;
   open_still = going;
   began = let at : w.began ≡ 0 = stands.began in omega (arith, at);
-  left = let most : w.left ≡ MOST_LEFT = stands.left in omega (arith, most);
+  left = let most : w.left ≤ MOST_LEFT = stands.most in omega (arith, most);
   stands = stands;
   begun = tt;
   entries = let none : length w.wire ≡ 0 = ap length stands.wire in omega (arith, none);
@@ -233,7 +233,7 @@ event_ends law s a b c t sums is-last line adds =
           let time : w'.moment ≤ t.w.began + MOST_ADVANCE = t.time in
           omega (arith, at, now, most, time, p.began);
       left =
-          let whole : w'.left ≡ MOST_LEFT = one.stands.left ∙ rw last refl in
+          let whole : w'.left ≤ MOST_LEFT = one.stands.most in
           omega (arith, whole, p.left);
       stands = one.stands;
       begun = begun_on s a b t;

@@ -57,21 +57,21 @@ first_is_none H items done is marks all =
 -- the entry of this number is delivered
 pub plays_next : (d : Draws) (old new : WorldState) (H : List Full) (i n : ℕ) (result : Result Record Stop) → StandsFor d old H
     → (n < length old.wire) × (get_or old.done n false ≡ false) × ((k : ℕ) → k < n → get_or old.done k false ≡ true)
-    → Plays old new H (delivers d old.topology H (numbered i event.Next) n) result → Plays old new H (next_of d old.topology H i event.Next) result
+    → Plays d old new H (delivers d old.topology H (numbered i event.Next) n) result → Plays d old new H (next_of d old.topology H i event.Next) result
 plays_next d old new H i n result s facts plays =
     let e = numbered i event.Next in
     let first = first_is H old.wire old.done n s.wire s.done facts.0 facts.1 facts.2 in
     let next : next_of d old.topology H i event.Next ≡ delivers d old.topology H e n = ap (delivers_or d old.topology H e (blank H e (plain verb.Next) None fate.NoEntry)) first in
-    subst (λ (r : Full). Plays old new H r result) (sym next) plays
+    subst (λ (r : Full). Plays d old new H r result) (sym next) plays
 
 -- there is none
 pub plays_none : EachFrames → (d : Draws) (old : WorldState) (H : List Full) (i : ℕ) → StandsFor d old H → ((k : ℕ) → k < length old.wire → get_or old.done k false ≡ true)
-    → Plays old old H (next_of d old.topology H i event.Next) (Ok (said old.moment i (plain verb.Next) None fate.NoEntry []))
+    → Plays d old old H (next_of d old.topology H i event.Next) (Ok (said old.moment i (plain verb.Next) None fate.NoEntry []))
 plays_none frame d old H i s all =
     let e = numbered i event.Next in
     let last = blank H e (plain verb.Next) None fate.NoEntry in
     let next : next_of d old.topology H i event.Next ≡ last = ap (delivers_or d old.topology H e last) (first_is_none H old.wire old.done s.wire s.done all) in
-    subst (λ (r : Full). Plays old old H r (Ok (said old.moment i (plain verb.Next) None fate.NoEntry []))) (sym next) (
+    subst (λ (r : Full). Plays d old old H r (Ok (said old.moment i (plain verb.Next) None fate.NoEntry []))) (sym next) (
       said_blank old.moment H e (plain verb.Next) None fate.NoEntry None s.moment,
-      rests frame old old H last s.nats (record { made = refl; nothing = refl; moment = s.moment; nodes = refl; wire = refl; done = λ k. refl }),
+      rests frame d old old H last s.nodes (record { still = record { entry = refl; made = refl; nothing = refl }; moment = s.moment; nodes = refl; wire = refl; done = λ k. refl }),
     )

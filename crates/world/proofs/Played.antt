@@ -1,5 +1,5 @@
 -- What a record does to a world.
-use Rattle.std.proofs.Common.{◌≡◌, ◌≢◌, ◌<◌, ℕ, zero, suc, ◌+◌, ◌==◌, Bool, true, false, not, List, [], ◌∷◌, ◌++◌, length, set, get_or, replicate, append-nil, Option, Some, None, Ok, refl, sym, ap, subst, ◌∙◌, arith, ◌⊎◌, inl, inr}
+use Rattle.std.proofs.Common.{◌≡◌, ◌≢◌, ◌<◌, ℕ, zero, suc, ◌+◌, ◌==◌, Bool, true, false, not, List, [], ◌∷◌, ◌++◌, length, set, get_or, replicate, append-nil, Option, Some, None, Result, Ok, Err, refl, sym, ap, subst, ◌∙◌, arith, ◌⊎◌, inl, inr}
 use Rattle.std.specs.Prelude.{◌||◌, filter_map, slice_get, option_and_then, is_some}
 use Rattle.std.proofs.lemmas.Bool.{false≢true}
 use Rattle.std.proofs.lemmas.Bool.Decides.{eqb_tells}
@@ -13,30 +13,21 @@ use Rattle.topology.specs.Rows.{TopologyState}
 use Rattle.topology.specs.Topology.{nat_at}
 use Rattle.history.specs.declared.acts.Act.{Act}
 use Rattle.history.specs.declared.mark.Mark.TheVariants as mark
+use Rattle.history.specs.declared.records.Record.{Record}
+use Rattle.history.specs.declared.turn.Stop.{Stop}
+use Rattle.history.specs.declared.turn.Stop.TheVariants as stop
+use Rattle.world.specs.declared.wire.TheConstants.{MOST_ENTRIES}
 use Rattle.history.specs.Full.{Item, Made, Full, udp, item_in, items_of, wire}
 use Rattle.history.specs.Records.{record_of}
 use Rattle.legal.specs.Past.{Draws, now, is_number, at_nat, nat_history}
 use Rattle.legal.specs.Next.{Numbered, blank, puts}
 use Rattle.legal.specs.Frame.{nat_of, EachFrames}
 use Rattle.world.specs.declared.node_state.NodeState.{NodeState}
-use Rattle.world.specs.NodeState.{IsNatIn, NatsOf}
+use Rattle.world.specs.NodeState.{NodesOf}
+use Rattle.world.proofs.Kept.{IsStill, all_rest, all_away}
 use Rattle.world.specs.Record.{said}
 use Rattle.world.specs.World.{WorldState, StandsFor}
 use Rattle.world.specs.Playing.{Comes, Plays}
-
--- NATS
-
-nats_as : (t : TopologyState) (states : List NodeState) (H : List Full) (r : Full) → NatsOf t states H
-    → ((k : ℕ) (a : NatNode) → nat_at t k ≡ Some a → nat_history t k (r ∷ H) ≡ nat_history t k H) → NatsOf t states (r ∷ H)
-nats_as t states H r of same = λ k a at. subst (IsNatIn (slice_get states k) a) (sym (same k a at)) (of k a at)
-
--- after a record that makes nothing, restarts nothing and forgets nobody
-pub silent : EachFrames → (t : TopologyState) (states : List NodeState) (H : List Full) (r : Full) → NatsOf t states H → r.made ≡ [] → at_nat t r.asked r.act ≡ [] → NatsOf t states (r ∷ H)
-silent frame t states H r of none nothing = nats_as t states H r of (λ k a at. (frame t H r).silent k none nothing)
-
--- after a record whose node is no NAT, nor behind one
-pub elsewhere : EachFrames → (t : TopologyState) (states : List NodeState) (H : List Full) (r : Full) → NatsOf t states H → option_and_then (nat_of t) r.node ≡ None → NatsOf t states (r ∷ H)
-elsewhere frame t states H r of nobody = nats_as t states H r of (λ k a at. (frame t H r).nats k a at (λ e. false≢true (ap (λ (o : Option ℕ). is_some o) (sym nobody ∙ e))))
 
 -- WHAT WAS DELIVERED
 
@@ -61,8 +52,7 @@ flags_same (x ∷ done) k (suc i) = flags_same done k i
 -- A RECORD THAT MAKES NOTHING
 
 pub record Rests (old new : WorldState) (r : Full) : Type 0 where
-  pub made : r.made ≡ []
-  pub nothing : at_nat old.topology r.asked r.act ≡ []
+  pub still : IsStill old.topology r
   pub moment : new.moment ≡ r.moment
   pub nodes : new.nodes ≡ old.nodes
   pub wire : new.wire ≡ old.wire
@@ -71,11 +61,11 @@ pub record Rests (old new : WorldState) (r : Full) : Type 0 where
 pub nothing_made : (old : WorldState) (r : Full) → r.made ≡ [] → old.wire ≡ old.wire ++ items_of r
 nothing_made old r none = sym (append-nil old.wire) ∙ ap (λ (ms : List Made). old.wire ++ filter_map item_in ms) (sym none)
 
-pub rests : EachFrames → (old new : WorldState) (H : List Full) (r : Full) → NatsOf old.topology old.nodes H → Rests old new r → Comes old new H r
-rests frame old new H r of is = record {
+pub rests : EachFrames → (d : Draws) (old new : WorldState) (H : List Full) (r : Full) → NodesOf d old.topology old.nodes H → Rests old new r → Comes d old new H r
+rests frame d old new H r of is = record {
   moment = is.moment;
-  nats = subst (λ (states : List NodeState). NatsOf old.topology states (r ∷ H)) (sym is.nodes) (silent frame old.topology old.nodes H r of is.made is.nothing);
-  wire = is.wire ∙ nothing_made old r is.made;
+  nodes = subst (λ (states : List NodeState). NodesOf d old.topology states (r ∷ H)) (sym is.nodes) (all_rest frame d old.topology old.nodes H r of is.still);
+  wire = is.wire ∙ nothing_made old r is.still.made;
   done = is.done;
 }
 
@@ -87,15 +77,32 @@ said_blank m H e a n f o is = ap (λ (j : ℕ). said j e.number a n f []) is
 
 pub puts_one : EachFrames → (d : Draws) (old new : WorldState) (H : List Full) (e : Numbered) (a : Act) (src dst : Ep) (bytes : List ℕ)
     → StandsFor d old H → new ≡ record old { wire = old.wire ++ udp src dst bytes ∷ []; done = old.done ++ false ∷ [] }
-    → Plays old new H (puts H e a src dst bytes) (Ok (said old.moment e.number a None fate.Put (mark.Udp (length old.wire) src dst (length bytes) ∷ [])))
+    → Plays d old new H (puts H e a src dst bytes) (Ok (said old.moment e.number a None fate.Put (mark.Udp (length old.wire) src dst (length bytes) ∷ [])))
 puts_one frame d old new H e a src dst bytes s is =
     let r = puts H e a src dst bytes in (
       ap (λ (m : ℕ). said m e.number a None fate.Put (mark.Udp (length old.wire) src dst (length bytes) ∷ [])) s.moment
           ∙ ap (λ (xs : List Item). said (now H) e.number a None fate.Put (mark.Udp (length xs) src dst (length bytes) ∷ [])) s.wire,
       record {
         moment = ap (λ (w : WorldState). w.moment) is ∙ s.moment;
-        nats = subst (λ (states : List NodeState). NatsOf old.topology states (r ∷ H)) (sym (ap (λ (w : WorldState). w.nodes) is)) (elsewhere frame old.topology old.nodes H r s.nats refl);
+        nodes = subst (λ (states : List NodeState). NodesOf d old.topology states (r ∷ H)) (sym (ap (λ (w : WorldState). w.nodes) is)) (all_away frame d old.topology old.nodes H r s.nodes refl);
         wire = ap (λ (w : WorldState). w.wire) is;
         done = λ i. ap (λ (w : WorldState). get_or w.done i false) is ∙ flags_same old.done 1 i;
       },
     )
+
+-- FROM ANOTHER WORLD
+
+-- what is said of a world is said of one with the same nodes of the topology, and the same wire
+pub plays_from : (d : Draws) (mid old new : WorldState) (H : List Full) (r : Full) (result : Result Record Stop) → (mid.topology ≡ old.topology) × (mid.wire ≡ old.wire) × (mid.done ≡ old.done)
+    → Plays d mid new H r result → Plays d old new H r result
+plays_from d mid old new H r (Ok word) same plays = (
+  plays.0,
+  record {
+    moment = plays.1.moment;
+    nodes = subst (λ (t : TopologyState). NodesOf d t new.nodes (r ∷ H)) same.0 plays.1.nodes;
+    wire = plays.1.wire ∙ ap (λ (items : List Item). items ++ items_of r) same.1;
+    done = λ i. plays.1.done i ∙ ap (λ (bs : List Bool). is_number i r.delivered || get_or bs i false) same.2;
+  },
+)
+plays_from d mid old new H r (Err stop.WireFull) same plays = subst (λ (items : List Item). MOST_ENTRIES < length items + length (items_of r)) same.1 plays
+plays_from d mid old new H r (Err stop.NoMemory) same plays = plays

@@ -11,17 +11,13 @@ use Rattle.topology.specs.declared.nat_node.NatNode.{NatNode}
 use Rattle.topology.specs.Topology.{nat_settings}
 use Rattle.world.specs.declared.node_state.NodeState.{NodeState}
 use Rattle.world.specs.declared.node_state.NodeState.TheVariants as state
-use Rattle.world.specs.NodeState.{IsNatOf, IsNatIn}
+use Rattle.topology.specs.Rows.{TopologyState}
+use Rattle.topology.specs.declared.node.Node.TheVariants.{Nat as nat}
+use Rattle.world.specs.NodeState.{NodePast, IsNatOf, IsKeptIn}
 
--- nothing is kept there
-pub not_none : (o : Option NodeState) (a : NatNode) (h : List Entry) → o ≡ None → IsNatIn o a h → ⊥
-not_none o a h e is = subst (λ (x : Option NodeState). IsNatIn x a h) e is
-
-pub not_nothing : (o : Option NodeState) (a : NatNode) (h : List Entry) → o ≡ Some state.Nothing → IsNatIn o a h → ⊥
-not_nothing o a h e is = subst (λ (x : Option NodeState). IsNatIn x a h) e is
-
-pub kept_nat : (o : Option NodeState) (a : NatNode) (h : List Entry) (is : NatState) → o ≡ Some (state.Nat is) → IsNatIn o a h → IsNatOf a is h
-kept_nat o a h is e of = subst (λ (x : Option NodeState). IsNatIn x a h) e of
+-- what is kept of a NAT is one
+pub kept_nat : (t : TopologyState) (n : ℕ) (a : NatNode) (x : NodePast) (o : Option NodeState) (is : NatState) → o ≡ Some (state.Nat is) → IsKeptIn t n (nat a) x o → IsNatOf a is x.history
+kept_nat t n a x o is e of = subst (IsKeptIn t n (nat a) x) e of
 
 -- what the NAT of a row answers
 pub lets : (a : NatNode) (is : NatState) (h : List Entry) (m port : ℕ) (src : Ep) (inside : Option Ep) → IsNatOf a is h

@@ -1,29 +1,23 @@
 -- What one step does to the histories that a world stands for.
-use Rattle.std.proofs.Common.{◌≡◌, ℕ, Bool, true, false, List, [], ◌∷◌, ◌++◌, Option, Some, None, Ok, refl, sym, ap, subst, ◌∙◌}
+use Rattle.std.proofs.Common.{◌≡◌, ◌≤◌, ◌<◌, ◌+◌, ℕ, Bool, true, false, List, [], ◌∷◌, ◌++◌, Option, Some, None, Ok, refl, sym, ap, subst, ◌∙◌, arith}
 use Rattle.std.specs.Prelude.{◌||◌}
 use Rattle.history.specs.declared.event.Event.{Event}
 use Rattle.history.specs.Events.{IsEvent}
 use Rattle.history.specs.declared.records.Record.{Record}
-use Rattle.history.specs.declared.turn.Turn.TheVariants.{Last}
+use Rattle.history.specs.declared.turn.Turn.{Turn}
+use Rattle.history.specs.declared.turn.Turn.TheVariants.{More, Last}
 use Rattle.topology.specs.Rows.{TopologyState}
+use Rattle.topology.specs.Rules.{IsTopology}
 use Rattle.history.specs.Full.{Full, items_of}
 use Rattle.legal.specs.declared.left.TheConstants.{MOST_LEFT}
-use Rattle.legal.specs.Past.{Draws, has_more, is_number}
+use Rattle.legal.specs.Left.{left}
+use Rattle.legal.specs.Past.{Draws, began, going, has_more, is_number}
 use Rattle.legal.specs.Next.{next_of}
-use Rattle.legal.specs.Legal.{GoesOn, Grown}
-use Rattle.legal.specs.Laws.{IsOf, EachIsOfItsEvent, EachIsTold}
-use Rattle.world.specs.NodeState.{NatsOf}
-use Rattle.world.specs.World.{WorldState, StandsFor, HasNoHosts, IsAgain, Steps}
-use Rattle.world.specs.Playing.{Comes, Plays}
-use Rattle.world.proofs.Unhosted.{no_more}
-
--- what a world of servers and NATs is between two events
-pub record IsAtRest (old new : WorldState) : Type 0 where
-  pub topology : new.topology ≡ old.topology
-  pub began : new.began ≡ new.moment
-  pub going : new.going ≡ None
-  pub left : new.left ≡ MOST_LEFT
-  pub stopped : new.stopped ≡ None
+use Rattle.legal.specs.Legal.{GoesOn, Follows, Grown}
+use Rattle.legal.specs.Laws.{IsOf, EachIsOfItsEvent, EachIsTold, EachFalls}
+use Rattle.world.specs.NodeState.{NodesOf}
+use Rattle.world.specs.World.{WorldState, StandsFor, IsAgain, Steps, Falls, going_after, is_more}
+use Rattle.world.specs.Playing.{Comes, PlaysTurn, GoesFrom, Turned}
 
 -- an event that comes again where it goes on is the one that goes on
 goes_from : (d : Draws) (w : WorldState) (H : List Full) (e : Event) → StandsFor d w H → IsAgain w.going e → GoesOn H e
@@ -32,44 +26,98 @@ goes_from d w (r ∷ H) e s again = λ more.
     let same : w.going ≡ Some r.asked = s.going ∙ rw more refl in
     subst (λ (o : Option Event). IsAgain o e) same again
 
--- a record that follows for an event
-record IsNext (d : Draws) (old : WorldState) (H : List Full) (i : ℕ) (e : Event) (r : Full) : Type 0 where
-  goes : GoesOn H e
-  is : r ≡ next_of d old.topology H i e
-  of : IsOf H i e r
-  event : IsEvent old.topology e
-  last : has_more r.asked r.act ≡ false
+-- a record that follows for an event, and its turn
+pub record IsNext (d : Draws) (old : WorldState) (H : List Full) (e : Event) (turn : Turn) (r : Full) : Type 0 where
+  pub stands : StandsFor d old H
+  pub rules : IsTopology old.topology
+  pub follows : Follows d old.topology H r
+  pub asked : r.asked ≡ e
+  pub more : has_more r.asked r.act ≡ is_more turn
 
-stands : (d : Draws) (old new : WorldState) (H : List Full) (i : ℕ) (e : Event) (r : Full) → StandsFor d old H → IsNext d old H i e r → IsAtRest old new → Comes old new H r → StandsFor d new (r ∷ H)
-stands d old new H i e r s next rest comes = record {
-  grown = subst (λ (x : TopologyState). Grown d x (r ∷ H)) (sym rest.topology) (
-    record {
-      goes_on = subst (GoesOn H) (sym next.of.asked) next.goes;
-      event = subst (IsEvent old.topology) (sym next.of.asked) next.event;
-      is = next.is ∙ ap (λ (j : ℕ). next_of d old.topology H j e) (sym next.of.event) ∙ ap (next_of d old.topology H r.event) (sym next.of.asked);
-    },
-    s.grown,
-  );
+-- when the event of the next record began, and what goes on and is left of it
+began_on : (d : Draws) (old new : WorldState) (H : List Full) (e : Event) (turn : Turn) (r : Full) → IsNext d old H e turn r → new.moment ≡ r.moment → GoesFrom old new turn → new.began ≡ began (r ∷ H)
+began_on d old new H e (More said) r next at goes = goes.0 ∙ next.stands.began ∙ rw (next.more) refl
+began_on d old new H e (Last said) r next at goes = goes.0 ∙ at ∙ rw (next.more) refl
+
+going_on : (d : Draws) (old : WorldState) (H : List Full) (e : Event) (turn : Turn) (r : Full) → IsNext d old H e turn r → going_after e turn ≡ going (r ∷ H)
+going_on d old H e (More said) r next = rw (next.more, next.asked) refl
+going_on d old H e (Last said) r next = rw (next.more) refl
+
+left_on : EachFalls → (d : Draws) (old new : WorldState) (H : List Full) (e : Event) (turn : Turn) (r : Full) → IsNext d old H e turn r → GoesFrom old new turn → left old.topology (r ∷ H) ≤ new.left
+left_on falls d old new H e (More said) r next goes =
+    let fell = falls d old.topology H r next.rules next.stands.grown next.follows next.more in
+    let enough = next.stands.left in
+    let one = goes.1 in
+    omega (arith, fell, enough, one)
+left_on falls d old new H e (Last said) r next goes =
+    let all : left old.topology (r ∷ H) ≡ MOST_LEFT = rw (next.more) refl in
+    let these = goes.1 in
+    omega (arith, all, these)
+
+most_on : (d : Draws) (old new : WorldState) (H : List Full) (turn : Turn) → StandsFor d old H → GoesFrom old new turn → new.left ≤ MOST_LEFT
+most_on d old new H (More said) s goes = let one = goes.1 in let most = s.most in omega (arith, one, most)
+most_on d old new H (Last said) s goes = let these = goes.1 in omega (arith, these)
+
+stands : EachFalls → (d : Draws) (old new : WorldState) (H : List Full) (e : Event) (turn : Turn) (r : Full) → IsNext d old H e turn r → Turned old new e turn → Comes d old new H r → StandsFor d new (r ∷ H)
+stands falls d old new H e turn r next turned comes = record {
+  grown = subst (λ (x : TopologyState). Grown d x (r ∷ H)) (sym turned.topology) (next.follows, next.stands.grown);
   moment = comes.moment;
-  began = rest.began ∙ comes.moment ∙ rw next.last refl;
-  going = rest.going ∙ rw next.last refl;
-  nats = subst (λ (x : TopologyState). NatsOf x new.nodes (r ∷ H)) (sym rest.topology) comes.nats;
-  wire = comes.wire ∙ ap (λ xs. xs ++ items_of r) s.wire;
-  done = λ k. comes.done k ∙ ap (λ (b : Bool). is_number k r.delivered || b) (s.done k);
-  left = rest.left ∙ rw next.last refl;
+  began = began_on d old new H e turn r next comes.moment turned.goes;
+  going = turned.going ∙ going_on d old H e turn r next;
+  nodes = subst (λ (x : TopologyState). NodesOf d x new.nodes (r ∷ H)) (sym turned.topology) comes.nodes;
+  wire = comes.wire ∙ ap (λ xs. xs ++ items_of r) next.stands.wire;
+  done = λ k. comes.done k ∙ ap (λ (b : Bool). is_number k r.delivered || b) (next.stands.done k);
+  left = subst (λ (x : TopologyState). left x (r ∷ H) ≤ new.left) (sym turned.topology) (left_on falls d old new H e turn r next turned.goes);
+  most = most_on d old new H turn next.stands turned.goes;
 }
 
-pub steps : EachIsOfItsEvent → EachIsTold → (old new : WorldState) (i : ℕ) (e : Event) (word : Record) → HasNoHosts old.topology → IsAtRest old new → IsEvent old.topology e × IsAgain old.going e
-    → ((d : Draws) (H : List Full) → StandsFor d old H → Plays old new H (next_of d old.topology H i e) (Ok word)) → Steps old new i e (Last word)
-steps of_event told old new i e word unhosted rest asked plays = record {
-  topology = rest.topology;
-  goes_on = rest.stopped;
-  going = rest.going;
+-- what a world is asked
+pub record IsAsked (old : WorldState) (e : Event) : Type 0 where
+  pub rules : IsTopology old.topology
+  pub event : IsEvent old.topology e
+  pub again : IsAgain old.going e
+  pub stopped : old.stopped ≡ None
+
+-- the laws of histories
+pub record Laws : Type 0 where
+  pub of_event : EachIsOfItsEvent
+  pub told : EachIsTold
+  pub falls : EachFalls
+
+-- the record of an event that may be asked for follows
+pub follows : EachIsOfItsEvent → (d : Draws) (old : WorldState) (H : List Full) (i : ℕ) (e : Event) → IsEvent old.topology e → IsAgain old.going e → StandsFor d old H → Follows d old.topology H (next_of d old.topology H i e)
+follows of_event d old H i e event again s =
+    let r = next_of d old.topology H i e in
+    let of = of_event d old.topology H i e in
+    record {
+      goes_on = subst (GoesOn H) (sym of.asked) (goes_from d old H e s again);
+      event = subst (IsEvent old.topology) (sym of.asked) event;
+      is = ap (λ (j : ℕ). next_of d old.topology H j e) (sym of.event) ∙ ap (next_of d old.topology H r.event) (sym of.asked);
+    }
+
+is_next : Laws → (d : Draws) (old new : WorldState) (H : List Full) (i : ℕ) (e : Event) (turn : Turn) → IsAsked old e → StandsFor d old H
+    → PlaysTurn d old new H (next_of d old.topology H i e) (Ok turn) → IsNext d old H e turn (next_of d old.topology H i e)
+is_next laws d old new H i e turn asked s plays =
+    record {
+      stands = s;
+      rules = asked.rules;
+      follows = follows laws.of_event d old H i e asked.event asked.again s;
+      asked = (laws.of_event d old.topology H i e).asked;
+      more = plays.1;
+    }
+
+pub steps : Laws → (old new : WorldState) (i : ℕ) (e : Event) (turn : Turn) → IsAsked old e → Turned old new e turn
+    → ((d : Draws) (H : List Full) → StandsFor d old H → PlaysTurn d old new H (next_of d old.topology H i e) (Ok turn)) → Steps old new i e turn
+steps laws old new i e turn asked turned plays = record {
+  topology = turned.topology;
+  goes_on = turned.stopped ∙ asked.stopped;
+  going = turned.going;
   record_is = λ d H s. (plays d H s).0;
-  stands = λ d H s.
-      let of = of_event d old.topology H i e in
-      let r = next_of d old.topology H i e in
-      stands d old new H i e r s (record { goes = goes_from d old H e s asked.1; is = refl; of = of; event = asked.0; last = ap (λ (x : Event). has_more x r.act) of.asked ∙ no_more old.topology unhosted d H i e }) rest (plays d H s).1;
-  more = λ d H s. no_more old.topology unhosted d H i e;
-  tells = λ d H s. told d old.topology H i e;
+  stands = λ d H s. stands laws.falls d old new H e turn (next_of d old.topology H i e) (is_next laws d old new H i e turn asked s (plays d H s)) turned (plays d H s).2;
+  more = λ d H s. ap (λ (x : Event). has_more x (next_of d old.topology H i e).act) (sym (laws.of_event d old.topology H i e).asked) ∙ (plays d H s).1;
+  tells = λ d H s. laws.told d old.topology H i e;
 }
+
+pub falls : (old new : WorldState) (e : Event) (turn : Turn) → Turned old new e turn → Falls old new turn
+falls old new e (More said) turned = let one = turned.goes.1 in omega (arith, one)
+falls old new e (Last said) turned = tt

@@ -1,21 +1,101 @@
 -- What one event does to a world, for the contracts of private functions.
-use Rattle.std.specs.Prelude.{◌≡◌, ◌||◌, false, ℕ, List, ◌∷◌, ◌++◌, get_or, Result, Ok, Err}
+use Rattle.std.specs.Prelude.{◌≡◌, ◌≤◌, ◌<◌, ◌+◌, ◌||◌, false, ℕ, max, List, ◌++◌, ◌∷◌, get_or, Option, Some, None, Result, Ok, Err}
+use Rattle.history.specs.declared.event.Event.{Event}
 use Rattle.history.specs.declared.records.Record.{Record}
+use Rattle.history.specs.declared.turn.Turn.{Turn}
+use Rattle.history.specs.declared.turn.Turn.TheVariants.{More, Last}
 use Rattle.history.specs.declared.turn.Stop.{Stop}
-use Rattle.history.specs.Full.{Full, items_of}
+use Rattle.topology.specs.Rows.{TopologyState}
+use Rattle.topology.specs.Rules.{IsTopology}
+use Rattle.teredo_node.specs.Journal.{ticked}
+use Rattle.topology.specs.declared.node.Node.{Node}
+use Rattle.history.specs.declared.acts.Act.{Act}
+use Rattle.history.specs.declared.acts.Act.TheVariants as act
+use Rattle.history.specs.Full.{Item, Full, wire, items_of}
 use Rattle.history.specs.Records.{record_of}
-use Rattle.legal.specs.Past.{is_number}
-use Rattle.world.specs.NodeState.{NatsOf}
-use Rattle.world.specs.World.{WorldState, IsCause}
+use Rattle.legal.specs.declared.left.TheConstants.{MOST_LEFT}
+use Rattle.legal.specs.Past.{Draws, has_more, is_number, was_delivered}
+use Rattle.legal.specs.Next as next
+use Rattle.legal.specs.Next.{Numbered, acts, no_ep, dst_of, input_of}
+use Rattle.world.specs.declared.call.Call.{Call}
+use Rattle.world.specs.Call.{dst_lent, input_lent}
+use Rattle.world.specs.declared.going.Going.{Going}
+use Rattle.world.specs.declared.node_state.NodeState.{NodeState}
+use Rattle.world.specs.declared.world.TheConstants.{MOST_MOMENT}
+use Rattle.world.specs.NodeState.{NodesOf, AreReady}
+use Rattle.world.specs.World.{WorldState, IsCause, going_after, is_more, record_in}
+
+-- WHAT A WORLD KEEPS TO
+
+-- an advance that goes on isn't over
+abbrev pub IsGoing : ℕ → Option Going → Type 0
+IsGoing m None = Unit {0}
+IsGoing m (Some g) = (m ≤ g.began.0 + g.ms) × (g.left ≤ MOST_LEFT)
+
+pub record IsWorld (t : TopologyState) (m : ℕ) (g : Option Going) (nodes : List NodeState) : Type 0 where
+  pub rules : IsTopology t
+  pub ready : AreReady m nodes
+  pub early : m < MOST_MOMENT
+  pub going : IsGoing m g
+
+-- THE RECORDS
+
+-- a node acts by a call
+abbrev pub acts_in : Draws → TopologyState → List Full → Numbered → Act → Option ℕ → Call → Full
+acts_in d t H e a number x = acts d t H e a number x.now.0 x.number (dst_lent x.coming) (input_lent x.coming) x.node
+
+-- an entry of the wire is delivered to a node
+abbrev pub reached_by : Draws → WorldState → List Full → Numbered → ℕ → ℕ → Item → Node → Full
+reached_by d w H e number at x node = acts d w.topology H e (act.Deliver number) (Some number) w.moment at (dst_of x) (input_of x) node
+
+-- a tick that is due
+abbrev pub ticks_at : Draws → WorldState → List Full → Numbered → next.Due → Full
+ticks_at d w H e x = acts d w.topology H e act.Tick None (max x.moment w.moment) x.number no_ep ticked x.node
+
+-- no tick is due up to a moment
+abbrev pub IsPast : ℕ → Option next.Due → Type 0
+IsPast end None = Unit {0}
+IsPast end (Some x) = end < x.moment
+
+-- ONE RECORD
+
+-- what a record finds: nodes and wire as the history leaves them
+pub record Finds (d : Draws) (w : WorldState) (H : List Full) : Type 0 where
+  pub nodes : NodesOf d w.topology w.nodes H
+  pub wire : w.wire ≡ wire H
 
 -- the world after the record r, which comes after H
-pub record Comes (old new : WorldState) (H : List Full) (r : Full) : Type 0 where
+pub record Comes (d : Draws) (old new : WorldState) (H : List Full) (r : Full) : Type 0 where
   pub moment : new.moment ≡ r.moment
-  pub nats : NatsOf old.topology new.nodes (r ∷ H)
+  pub nodes : NodesOf d old.topology new.nodes (r ∷ H)
   pub wire : new.wire ≡ old.wire ++ items_of r
   pub done : (i : ℕ) → get_or new.done i false ≡ (is_number i r.delivered || get_or old.done i false)
 
 -- the record was played, or wasn't for a cause
-abbrev pub Plays : WorldState → WorldState → List Full → Full → Result Record Stop → Type 0
-Plays old new H r (Ok said) = (said ≡ record_of r) × Comes old new H r
-Plays old new H r (Err stop) = IsCause old r stop
+abbrev pub Plays : Draws → WorldState → WorldState → List Full → Full → Result Record Stop → Type 0
+Plays d old new H r (Ok said) = (said ≡ record_of r) × Comes d old new H r
+Plays d old new H r (Err stop) = IsCause old r stop
+
+-- THE TURN OF AN EVENT
+
+-- the turn of a record that has no further ones
+abbrev pub last_of : Result Record Stop → Result Turn Stop
+last_of (Ok said) = Ok (Last said)
+last_of (Err stop) = Err stop
+
+-- the same with a turn, which says whether the event has further records
+abbrev pub PlaysTurn : Draws → WorldState → WorldState → List Full → Full → Result Turn Stop → Type 0
+PlaysTurn d old new H r (Ok turn) = (record_in turn ≡ record_of r) × (has_more r.asked r.act ≡ is_more turn) × Comes d old new H r
+PlaysTurn d old new H r (Err stop) = IsCause old r stop
+
+-- after a turn with further ones the event goes on, and fewer are left
+abbrev pub GoesFrom : WorldState → WorldState → Turn → Type 0
+GoesFrom old new (More r) = (new.began ≡ old.began) × (new.left + 1 ≡ old.left)
+GoesFrom old new (Last r) = (new.began ≡ new.moment) × (new.left ≡ MOST_LEFT)
+
+-- what a turn of an event does to a world, whatever it stands for
+pub record Turned (old new : WorldState) (event : Event) (turn : Turn) : Type 0 where
+  pub topology : new.topology ≡ old.topology
+  pub stopped : new.stopped ≡ old.stopped
+  pub going : new.going ≡ going_after event turn
+  pub goes : GoesFrom old new turn

@@ -1,5 +1,5 @@
 -- What contracts see of a world, and how `step` follows the history.
-use Rattle.std.specs.Prelude.{◌≡◌, ℕ, ◌+◌, ◌<◌, Bool, true, false, List, [], ◌∷◌, length, get_or, Option, Some, None}
+use Rattle.std.specs.Prelude.{◌≡◌, ℕ, ◌+◌, ◌<◌, ◌≤◌, Bool, true, false, List, [], ◌∷◌, length, get_or, Option, Some, None}
 use Rattle.history.specs.declared.event.Event.{Event}
 use Rattle.history.specs.declared.event.Event.TheVariants as event
 use Rattle.history.specs.declared.records.Record.{Record}
@@ -8,22 +8,20 @@ use Rattle.history.specs.declared.turn.Turn.TheVariants.{More, Last}
 use Rattle.history.specs.declared.turn.Stop.{Stop}
 use Rattle.history.specs.declared.turn.Stop.TheVariants.{WireFull, NoMemory}
 use Rattle.topology.specs.Rows.{TopologyState}
-use Rattle.topology.specs.declared.node.Node.{Node}
-use Rattle.topology.specs.declared.node.Node.TheVariants.{Server as server, Nat as nat, Client as client, Relay as relay, Native as native}
 use Rattle.history.specs.Full.{Item, Full, wire, items_of}
 use Rattle.history.specs.Records.{record_of}
 use Rattle.history.specs.Telling.{IsTold}
 use Rattle.world.specs.declared.wire.TheConstants.{MOST_ENTRIES}
 use Rattle.world.specs.declared.world.TheConstants.{MOST_MOMENT}
-use Rattle.teredo_node.specs.declared.fate.Fate.{Fate}
-use Rattle.teredo_node.specs.declared.fate.Fate.TheVariants as fate
+use Rattle.world.specs.declared.going.Going.{Going}
 use Rattle.legal.specs.Past.{now, began, has_more, going, was_delivered, Draws}
 use Rattle.legal.specs.Next.{next_of}
 use Rattle.legal.specs.Legal.{Grown}
 use Rattle.legal.specs.declared.left.TheConstants.{MOST_LEFT}
 use Rattle.legal.specs.Left.{left}
 use Rattle.world.specs.declared.node_state.NodeState.{NodeState}
-use Rattle.world.specs.NodeState.{NatsOf}
+use Rattle.world.specs.NodeState.{NodesOf}
+use Rattle.world.specs.Memory.{takes_memory}
 use Rattle.world.specs.Wire.{WireState}
 
 pub record WorldState : Type 0 where
@@ -37,22 +35,21 @@ pub record WorldState : Type 0 where
   pub left : ℕ  -- falls with each further record of an event
   pub stopped : Option Stop
 
--- between two events: nothing goes on
-abbrev pub at_rest : TopologyState → ℕ → List NodeState → WireState → Option Stop → WorldState
-at_rest t m nodes wire stopped = record { topology = t; moment = m; began = m; going = None; nodes = nodes; wire = wire.items; done = wire.done; left = MOST_LEFT; stopped = stopped }
+-- the event that goes on, when it began, and what is left of it
+abbrev pub event_in : Option Going → Option Event
+event_in None = None
+event_in (Some g) = Some (event.Advance g.ms)
 
--- servers and NATs alone: the nodes of a world so far
-abbrev pub IsBuilt : Node → Type 0
-IsBuilt (server a) = Unit {0}
-IsBuilt (nat a) = Unit {0}
-IsBuilt (client c) = ⊥
-IsBuilt (relay r) = ⊥
-IsBuilt (native h) = ⊥
+abbrev pub began_in : ℕ → Option Going → ℕ
+began_in m None = m
+began_in m (Some g) = g.began.0
 
-pub record HasNoHosts (t : TopologyState) : Type 0 where
-  pub clients : t.clients ≡ []
-  pub relays : t.relays ≡ []
-  pub natives : t.natives ≡ []
+abbrev pub left_in : Option Going → ℕ
+left_in None = MOST_LEFT
+left_in (Some g) = g.left
+
+abbrev pub state_of : TopologyState → ℕ → Option Going → List NodeState → WireState → Option Stop → WorldState
+state_of t m g nodes wire stopped = record { topology = t; moment = m; began = began_in m g; going = event_in g; nodes = nodes; wire = wire.items; done = wire.done; left = left_in g; stopped = stopped }
 
 -- WHAT A WORLD STANDS FOR
 
@@ -62,10 +59,12 @@ pub record StandsFor (d : Draws) (w : WorldState) (H : List Full) : Type 0 where
   pub moment : w.moment ≡ now H
   pub began : w.began ≡ began H
   pub going : w.going ≡ going H
-  pub nats : NatsOf w.topology w.nodes H
+  pub nodes : NodesOf d w.topology w.nodes H
   pub wire : w.wire ≡ wire H
   pub done : (i : ℕ) → get_or w.done i false ≡ was_delivered i H
-  pub left : w.left ≡ left w.topology H
+  -- no less than is left of the event in the history, and all where the next record begins one
+  pub left : left w.topology H ≤ w.left
+  pub most : w.left ≤ MOST_LEFT
 
 -- WHAT A STEP DOES
 
@@ -113,13 +112,6 @@ Falls old new (Last r) = Unit {0}
 -- the record would make too long a wire
 abbrev pub Overflows : WorldState → Full → Type 0
 Overflows w r = MOST_ENTRIES < length w.wire + length (items_of r)
-
--- a packet is kept, or a peer listed, at these fates of a client or relay
-abbrev pub takes_memory : Fate → Bool
-takes_memory fate.Queued = true
-takes_memory fate.Rule3 = true
-takes_memory fate.Rule3Bubble = true
-takes_memory _ = false
 
 -- it has a mark, or such a fate: at no other record memory is needed
 abbrev pub NeedsMemory : Full → Type 0

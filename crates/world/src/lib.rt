@@ -9,25 +9,32 @@
 //!
 //! # What it does not know
 //!
-//! Texts: neither scenarios nor lines. Which record follows is said in `legal`, who is where in `topology`.
-//!
-//! Servers and NATs alone can be played so far: `World::new` asks for no other node, and in `answer` the branches of the
-//! others are missing. All else is there for every kind of node.
+//! Texts: neither scenarios nor lines. Which record follows is said in `legal`, who is where in `topology`, what each kind
+//! of node does in its own crate.
 //!
 //! # Parts
 //!
 //! | module | holds | stated in |
 //! |---|---|---|
 //! | `world` | `World`: nodes, wire, moment and step, and what each event does to them | `specs/World.antt`, `Playing.antt` |
-//! | `node_state` | what is kept of each node | `specs/NodeState.antt` |
+//! | `going` | an advance that goes on | `specs/World.antt` |
+//! | `node_state` | what is kept of each node | `specs/NodeState.antt`, `Changes.antt` |
+//! | `call`, `answer` | what comes to a node, and what it does with it | `specs/Call.antt`, `Answers.antt`, `Memory.antt` |
+//! | `one_arrival` | a server is lent a datagram | `specs/OneArrival.antt` |
+//! | `emission`, `outlet` | how what a node sends comes onto the wire | `specs/Emission.antt`, `Sends.antt` |
+//! | `host` | what the hosts of nodes send | |
+//! | `due` | which tick is due first | `specs/Due.antt` |
 //! | `wire` | everything that was sent, and what of it was delivered | `specs/Wire.antt`, `WireEntry.antt` |
 //! | `way` | where an entry goes | `specs/Way.antt` |
-//! | `one_arrival`, `answer` | a node is lent what comes to it, and answers | `specs/OneArrival.antt` |
-//! | `outlet` | how what a node sends comes onto the wire | `specs/Sends.antt` |
 //! | `record` | what is said of a step | `specs/Record.antt` |
 #![tactic(auto)]
 
 mod answer;
+mod call;
+mod due;
+mod emission;
+mod going;
+mod host;
 mod node_state;
 mod one_arrival;
 mod outlet;

@@ -1,21 +1,26 @@
 //! How what a node sends comes onto the wire.
-ghost use Rattle.std.specs.Prelude.{◌≡◌, ◌≤◌, ◌<◌, ◌+◌, [], ◌++◌, Some, List, length, IfOk, IfSome, OnErr, OnOk, IsErrOf};
+ghost use Rattle.std.specs.Prelude.{◌≡◌, ◌≤◌, ◌<◌, ◌+◌, ℕ, [], ◌∷◌, ◌++◌, None, Some, List, length, filter_map, IfOk, IfErr, IfSome, OnErr, OnOk, IsErrOf};
 ghost use Rattle.history.specs.declared.event.TheConstants.{MOST_BYTES};
-ghost use Rattle.history.specs.Full.{Item};
-ghost use Rattle.history.specs.Records.{marks_of};
+ghost use Rattle.history.specs.Full.{Item, item_in};
+ghost use Rattle.history.specs.Records.{mark_of, marks_of};
+ghost use Rattle.legal.specs.Emit.{through_nat, relay_for, native_made};
+ghost use Rattle.nat_kinds.specs.Answer.{nat_answer};
+ghost use Rattle.nat_kinds.specs.History.{Entry};
+ghost use Rattle.nat_kinds.specs.Nat.{StandsFor};
 ghost use Rattle.td_base.specs.declared.side.Side.{Side};
 ghost use Rattle.topology.specs.Topology.{own_ep};
 ghost use Rattle.teredo_node.specs.declared.step.TheConstants.{SENDS_MAX};
 ghost use Rattle.world.specs.declared.wire.TheConstants.{MOST_ENTRIES};
-ghost use Rattle.world.specs.Sends.{packet_made, Grows};
+ghost use Rattle.world.specs.Sends.{packet_for, packet_made, Extends, Grows, source_through, made_from, history_after, Passes};
 
 use crate::wire::{MOST_ENTRIES, Wire};
-use history::{Mark, Marks, Stop};
+use history::{Loss, Mark, Marks, Stop};
+use nat_kinds::{Nat, NatRefusal};
 use std::alloc::Global;
-use td_base::{Ep, Ip4, NoMemory, Side};
+use td_base::{Ep, Ip4, Millis, NoMemory, Side};
 use td_outside::Octets;
 use teredo_node::Step;
-use topology::Node;
+use topology::{NativeNode, Node};
 
 /// How what a node sends leaves it.
 #[derive(Clone, Copy, Debug)]
@@ -125,7 +130,7 @@ impl Outlet {
         match packet {
             None => Ok(()),
             Some(packet) => {
-                put_packet(wire, packet, marks)?;
+                put_packet(wire, None, packet, marks)?;
                 Ok(())
             }
         }
@@ -162,22 +167,179 @@ impl Outlet {
     }
 }
 
-/// Puts the packet for the IPv6 side on the wire, and a mark for it into `marks`.
-fn put_packet(wire: &mut Wire, packet: Octets, marks: &mut Marks) -> Result<(), NoMemory>
+/// Puts an IPv6 packet on the wire, for the relay of that number, or for whoever has its destination, and a mark for it
+/// into `marks`.
+fn put_packet(
+    wire: &mut Wire,
+    relay: Option<u16>,
+    packet: Octets,
+    marks: &mut Marks,
+) -> Result<(), NoMemory>
     requires room { length wire.old.items < MOST_ENTRIES }
     requires short { length packet ≤ MOST_BYTES }
     requires few { length marks.old ≤ SENDS_MAX }
-    ensures ok { OnOk result (Grows wire.old wire.new (packet_made (Some packet))) }
-    ensures marked { OnOk result (marks.new ≡ marks.old ++ marks_of (length wire.old.items) (packet_made (Some packet))) }
+    ensures ok { OnOk result (Grows wire.old wire.new (packet_for relay packet)) }
+    ensures marked { OnOk result (marks.new ≡ marks.old ++ marks_of (length wire.old.items) (packet_for relay packet)) }
     ensures err { OnErr result (wire.new ≡ wire.old) }
 {
     let number = wire.len() as u32;
     let len = packet.as_slice().len();
-    wire.push_packet(None, packet)?;
-    marks.push(Mark::Six {
-        number,
-        relay: None,
-        len,
-    });
+    wire.push_packet(relay, packet)?;
+    marks.push(Mark::Six { number, relay, len });
     Ok(())
+}
+
+/// The number of the relay that a native host's packet goes to, where its destination is a Teredo address.
+fn relay_for(row: &NativeNode, bytes: &[u8]) -> Option<u16>
+    ensures { result ≡ relay_for row.now bytes.now }
+{
+    let Ok(packet) = ipv6_packet::read(bytes) else {
+        return None;
+    };
+    if teredo_addr::is_teredo(packet.dst) {
+        Some(row.relay)
+    } else {
+        None
+    }
+}
+
+/// Puts the packet that a native host sends on the wire, and answers its mark. At a stop nothing is put there.
+pub fn send_native(wire: &mut Wire, row: &NativeNode, packet: Option<Octets>) -> Result<Marks, Stop>
+    requires short { IfSome packet (λ bytes. length bytes ≤ MOST_BYTES) }
+    ensures ok { OnOk result (Grows wire.old wire.new (native_made row.now packet)) }
+    ensures marks { IfOk result (λ marks. marks ≡ marks_of (length wire.old.items) (native_made row.now packet)) }
+    ensures err { OnErr result (wire.new ≡ wire.old) }
+    ensures full { IsErrOf result Stop.WireFull → MOST_ENTRIES < length wire.old.items + length (native_made row.now packet) }
+    ensures needs { IsErrOf result Stop.NoMemory → 0 < length (native_made row.now packet) }
+{
+    let mut marks = Marks::new();
+    let Some(packet) = packet else {
+        return Ok(marks);
+    };
+    if wire.len() >= MOST_ENTRIES {
+        return Err(Stop::WireFull);
+    }
+    let relay = relay_for(row, packet.as_slice());
+    match put_packet(wire, relay, packet, &mut marks) {
+        Ok(()) => Ok(marks),
+        Err(NoMemory) => Err(Stop::NoMemory),
+    }
+}
+
+/// The source that a NAT gives a datagram from `inside`, or why the datagram is lost.
+fn translate(nat: &mut Nat, now: Millis, inside: Ep, to: Ep) -> Result<Result<Ep, Loss>, Stop>
+    requires clock { nat.old.moment ≤ now.0 }
+    ensures source { IfOk result (λ src. (h : List Entry) → StandsFor nat.old h
+        → src ≡ source_through nat.old.settings (nat_answer nat.old.settings h now.0 inside to)) }
+    ensures stands { IfOk result (λ src. (h : List Entry) (bytes : List ℕ) → StandsFor nat.old h
+        → StandsFor nat.new (history_after now.0 inside (made_from src to bytes ∷ []) h)) }
+    ensures needs { IfErr result (λ stop. stop ≡ Stop.NoMemory) }
+    ensures moment { nat.new.moment ≡ now.0 }
+    ensures settings { nat.new.settings ≡ nat.old.settings }
+{
+    match nat.outward(now, inside, to) {
+        Ok(src) => Ok(Ok(src)),
+        Err(refusal) => match refusal {
+            NatRefusal::Hairpin => Ok(Err(Loss::Hairpin)),
+            NatRefusal::Full => Ok(Err(Loss::Full)),
+            NatRefusal::NoMemory => Err(Stop::NoMemory),
+        },
+    }
+}
+
+/// Puts a datagram that has a source on the wire, and answers its mark, or that of one that is lost.
+fn put_datagram(
+    alloc: Global,
+    wire: &mut Wire,
+    src: Result<Ep, Loss>,
+    to: Ep,
+    bytes: &[u8],
+) -> Result<Mark, Stop>
+    requires short { length bytes.now ≤ MOST_BYTES }
+    ensures ok { OnOk result (Grows wire.old wire.new (made_from src to bytes.now ∷ [])) }
+    ensures marked { IfOk result (λ mark. mark ≡ mark_of (length wire.old.items) (made_from src to bytes.now)) }
+    ensures err { OnErr result (wire.new ≡ wire.old) }
+    ensures full { IsErrOf result Stop.WireFull → MOST_ENTRIES < length wire.old.items + length (filter_map item_in (made_from src to bytes.now ∷ [])) }
+{
+    let len = bytes.len();
+    let src = match src {
+        Ok(src) => src,
+        Err(why) => return Ok(Mark::Lost { why, dst: to, len }),
+    };
+    if wire.len() >= MOST_ENTRIES {
+        return Err(Stop::WireFull);
+    }
+    let number = wire.len() as u32;
+    let Ok(octets) = Octets::new(alloc, bytes) else {
+        return Err(Stop::NoMemory);
+    };
+    let Ok(()) = wire.push_datagram(src, to, octets) else {
+        return Err(Stop::NoMemory);
+    };
+    Ok(Mark::Udp {
+        number,
+        src,
+        dst: to,
+        len,
+    })
+}
+
+/// Puts those datagrams of a step on the wire that a NAT lets out, and answers a mark for each. At a stop some of them
+/// are there.
+fn put_through(
+    alloc: Global,
+    wire: &mut Wire,
+    nat: &mut Nat,
+    now: Millis,
+    inside: Ep,
+    step: &Step,
+) -> Result<Marks, Stop>
+    requires clock { nat.old.moment ≤ now.0 }
+    ensures passes { IfOk result (λ marks. (h : List Entry) → StandsFor nat.old h
+        → Passes now.0 inside wire.old wire.new nat.new h (through_nat nat.old.settings None now.0 inside 0 h step.now.sends) marks) }
+    ensures err { OnErr result ((more : List Item) × Extends wire.old wire.new more) }
+    ensures full { IsErrOf result Stop.WireFull → (h : List Entry) → StandsFor nat.old h
+        → MOST_ENTRIES < length wire.old.items + length (filter_map item_in (through_nat nat.old.settings None now.0 inside 0 h step.now.sends)) }
+    ensures needs { IsErrOf result Stop.NoMemory → 0 < length step.now.sends }
+    ensures moment { nat.new.moment ≤ now.0 }
+    ensures settings { nat.new.settings ≡ nat.old.settings }
+{
+    let mut marks = Marks::new();
+    for i in 0..step.count() {
+        let (_, to, bytes) = step.send(i);
+        let src = translate(nat, now, inside, to)?;
+        let mark = put_datagram(alloc, wire, src, to, bytes)?;
+        marks.push(mark);
+    }
+    Ok(marks)
+}
+
+/// Sends the datagrams of a step from an endpoint inside a NAT, in order: those that the NAT lets out come onto the wire.
+/// Answers a mark for each. At a stop nothing is put on the wire, but the NAT may know of some of them.
+pub fn send_through(
+    alloc: Global,
+    wire: &mut Wire,
+    nat: &mut Nat,
+    now: Millis,
+    inside: Ep,
+    step: &Step,
+) -> Result<Marks, Stop>
+    requires clock { nat.old.moment ≤ now.0 }
+    ensures passes { IfOk result (λ marks. (h : List Entry) → StandsFor nat.old h
+        → Passes now.0 inside wire.old wire.new nat.new h (through_nat nat.old.settings None now.0 inside 0 h step.now.sends) marks) }
+    ensures err { OnErr result (wire.new ≡ wire.old) }
+    ensures full { IsErrOf result Stop.WireFull → (h : List Entry) → StandsFor nat.old h
+        → MOST_ENTRIES < length wire.old.items + length (filter_map item_in (through_nat nat.old.settings None now.0 inside 0 h step.now.sends)) }
+    ensures needs { IsErrOf result Stop.NoMemory → 0 < length step.now.sends }
+    ensures moment { nat.new.moment ≤ now.0 }
+    ensures settings { nat.new.settings ≡ nat.old.settings }
+{
+    let len = wire.len();
+    match put_through(alloc, wire, nat, now, inside, step) {
+        Ok(marks) => Ok(marks),
+        Err(stop) => {
+            wire.cut(len);
+            Err(stop)
+        }
+    }
 }

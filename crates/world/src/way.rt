@@ -5,10 +5,10 @@ ghost use Rattle.topology.specs.Rows.{TopologyState};
 ghost use Rattle.topology.specs.Topology.{nat_at, nat_settings};
 ghost use Rattle.nat_kinds.specs.Entering.{lets_in};
 ghost use Rattle.history.specs.Full.{Full, udp, six};
-ghost use Rattle.legal.specs.Past.{nat_history};
+ghost use Rattle.legal.specs.Past.{Draws, nat_history};
 ghost use Rattle.legal.specs.Emit.{reach, route_inside, route};
 ghost use Rattle.world.specs.WireEntry.{item_lent};
-ghost use Rattle.world.specs.NodeState.{NatsOf, AreReady};
+ghost use Rattle.world.specs.NodeState.{NodesOf, AreReady};
 ghost use Rattle.world.specs.Way.{by_way, IsThere};
 
 use crate::node_state::NodeState;
@@ -42,12 +42,14 @@ fn way_to(topology: &Topology, number: Option<u16>) -> Way
 /// The inside endpoint that a NAT lets a datagram in to.
 fn inside_of(states: &[NodeState], nat: u16, now: Millis, src: Ep, port: u16) -> Option<Ep>
     requires ready { AreReady now.0 states.now }
-    ensures { (H : List Full) (t : TopologyState) → NatsOf t states.now H → (a : NatNode) → nat_at t nat ≡ Some a
+    ensures { (d : Draws) (H : List Full) (t : TopologyState) → NodesOf d t states.now H → (a : NatNode) → nat_at t nat ≡ Some a
         → result ≡ lets_in (nat_settings a) (nat_history t nat H) now.0 src port }
 {
     let state = states.get(usize::from(nat))?;
     match state {
         NodeState::Nat(nat) => nat.inward(now, src, port),
+        NodeState::Client(_) => None,
+        NodeState::Relay(_) => None,
         NodeState::Nothing => None,
     }
 }
@@ -63,7 +65,7 @@ fn way_inside(
 ) -> Way
     requires ready { AreReady now.0 states.now }
     ensures there { IsThere topology.now result }
-    ensures way { (H : List Full) → NatsOf topology.now states.now H → (a : NatNode) → nat_at topology.now nat ≡ Some a
+    ensures way { (d : Draws) (H : List Full) → NodesOf d topology.now states.now H → (a : NatNode) → nat_at topology.now nat ≡ Some a
         → by_way result ≡ route_inside topology.now nat (lets_in (nat_settings a) (nat_history topology.now nat H) now.0 src port) }
 {
     match inside_of(states, nat, now, src, port) {
@@ -76,7 +78,7 @@ fn way_inside(
 fn datagram_way(topology: &Topology, states: &[NodeState], now: Millis, src: Ep, dst: Ep) -> Way
     requires ready { AreReady now.0 states.now }
     ensures there { IsThere topology.now result }
-    ensures way { (H : List Full) → NatsOf topology.now states.now H → (bytes : List ℕ)
+    ensures way { (d : Draws) (H : List Full) → NodesOf d topology.now states.now H → (bytes : List ℕ)
         → by_way result ≡ route topology.now H now.0 (udp src dst bytes) }
 {
     let Some(number) = topology.at(dst) else {
@@ -112,7 +114,7 @@ fn packet_way(topology: &Topology, relay: Option<u16>, bytes: &[u8]) -> Way
 pub fn way_of(topology: &Topology, states: &[NodeState], now: Millis, entry: WireEntry) -> Way
     requires ready { AreReady now.0 states.now }
     ensures there { IsThere topology.now result }
-    ensures way { (H : List Full) → NatsOf topology.now states.now H → by_way result ≡ route topology.now H now.0 (item_lent entry.entry) }
+    ensures way { (d : Draws) (H : List Full) → NodesOf d topology.now states.now H → by_way result ≡ route topology.now H now.0 (item_lent entry.entry) }
 {
     match entry {
         WireEntry::Udp { src, dst, .. } => datagram_way(topology, states, now, src, dst),

@@ -138,11 +138,13 @@ impl Wire {
         self.low = self.low.min(len);
     }
 
-    /// Remembers that an entry was delivered.
+    /// Remembers that an entry was delivered, if there is one of the number.
     pub fn set_delivered(&mut self, number: usize)
-        requires { number < length self.old.items }
         ensures { self.new ≡ record self.old { done = set self.old.done number true } }
     {
+        if number >= self.delivered.len() {
+            return;
+        }
         self.delivered[number] = true;
     }
 

@@ -1,21 +1,25 @@
-use Rattle.std.proofs.Common.{◌≡◌, ◌≤◌, ℕ, ◌+◌, List, [], ◌∷◌, ◌++◌, length, take, take_all, Some, None, refl, sym, ap, subst, ◌∙◌, arith}
-use Rattle.std.specs.Prelude.{slice_get}
-use Rattle.std.proofs.lemmas.List.{take_more, length-append}
-use Rattle.std.proofs.lemmas.Option.{slice_get_within, get_or_from_slice_get}
-use Rattle.topology.specs.declared.node.Node.{Node}
-use Rattle.topology.specs.Topology.{nodes}
-use Rattle.world.specs.NodeState.{AreFirst}
-use Rattle.world.proofs.States.{one_first, first_more, first_whole}
+use Rattle.std.proofs.Common.{◌≡◌, ℕ, [], length, Some, None, sym, ap, subst, ◌∙◌}
+use Rattle.topology.specs.Topology.{node_at}
+use Rattle.legal.specs.Legal.{draws}
+use Rattle.world.specs.NodeState.{past_of, IsKept}
+use Rattle.world.proofs.States.{first_more, first_stand}
 use Rattle.world.proofs.node_state.first_states.Goals as goal
 
 pub loop-node-preserved : goal.loop-node-preserved
 loop-node-preserved c =
-    let size : length c.loop-node.states.items ≡ c.len.result = sym c.loop-node.states.ok.0 ∙ sym c.len.ensures in
-    let here : slice_get (nodes c.args.topology.now) (length c.loop-node.states.items) ≡ Some c.in-Some.node = ap (λ (n : ℕ). slice_get (nodes c.args.topology.now) n) size ∙ sym c.node.ensures.found ∙ c.in-Some.is in
-    rw (c.in_ok-push.ensures.items) (first_more (nodes c.args.topology.now) c.loop-node.states.items c.in-Some.node c.first_state.result here c.loop-node.invariant c.first_state.ensures)
+    let states = c.loop-node.states.items in
+    let size : length states ≡ c.len.result = sym c.loop-node.states.ok.0 ∙ sym c.len.ensures in
+    let here : node_at c.args.topology.now (length states) ≡ Some c.in-Some.node = ap (node_at c.args.topology.now) size ∙ sym c.node.ensures.found ∙ c.in-Some.is in
+    let same : c.len-in-Some.result ≡ length states = c.len-in-Some.ensures ∙ c.loop-node.states.ok.0 in
+    let kept = subst (λ (n : ℕ). IsKept c.args.topology.now n c.in-Some.node (past_of (draws c.args.seed) c.args.topology.now n []) c.in_ok-state.state) same c.in_ok-state.ensures.kept in
+    rw (c.in_ok-push.ensures.items) (first_more (draws c.args.seed) c.args.topology.now states c.in-Some.node c.in_ok-state.state here c.loop-node.invariant kept c.in_ok-state.ensures.ready)
 
-pub returns : goal.returns
-returns c =
-    let size : length c.loop-node.states.items ≡ c.len.result = sym c.loop-node.states.ok.0 ∙ sym c.len.ensures in
-    let none : slice_get (nodes c.args.topology.now) (length c.loop-node.states.items) ≡ None = ap (λ (n : ℕ). slice_get (nodes c.args.topology.now) n) size ∙ sym c.node.ensures.found ∙ c.in_default.is in
-    first_whole (nodes c.args.topology.now) c.loop-node.states.items none c.loop-node.invariant
+pub returns-clause-kept : goal.returns-clause-kept
+returns-clause-kept c =
+    let states = c.loop-node.states.items in
+    let size : length states ≡ c.len.result = sym c.loop-node.states.ok.0 ∙ sym c.len.ensures in
+    let none : node_at c.args.topology.now (length states) ≡ None = ap (node_at c.args.topology.now) size ∙ sym c.node.ensures.found ∙ c.in_default.is in
+    first_stand (draws c.args.seed) c.args.topology.now states none c.loop-node.invariant
+
+pub returns-clause-ready : goal.returns-clause-ready
+returns-clause-ready c = c.loop-node.invariant.ready

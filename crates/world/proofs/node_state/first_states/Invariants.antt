@@ -1,11 +1,11 @@
-use Rattle.std.proofs.Common.{◌-◌, ◌≤◌, length, take}
+use Rattle.std.proofs.Common.{◌-◌, length}
 use Rattle.topology.specs.declared.topology.TheConstants.{NODES_MAX}
-use Rattle.topology.specs.Topology.{nodes}
-use Rattle.world.specs.NodeState.{AreFirst}
+use Rattle.legal.specs.Legal.{draws}
+use Rattle.world.proofs.States.{FirstStand}
 use Rattle.world.proofs.node_state.first_states.Given as goal
 
 abbrev pub invariant-loop-node : goal.invariant-loop-node
-invariant-loop-node l = AreFirst (take (length l.states.items) (nodes l.topology)) l.states.items × (length l.states.items ≤ length (nodes l.topology))
+invariant-loop-node l = FirstStand (draws l.seed) l.topology l.states.items
 
 abbrev pub decreases-loop-node : goal.decreases-loop-node
 decreases-loop-node l = NODES_MAX - length l.states.items

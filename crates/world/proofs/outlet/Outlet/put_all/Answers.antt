@@ -1,4 +1,4 @@
-use Rattle.std.proofs.Common.{None, Some}
+use Rattle.std.proofs.Common.{Some}
 use Rattle.world.specs.Sends.{made_by, packet_made}
 use Rattle.world.proofs.Emitted.{both_parts, both_marks}
 use Rattle.world.proofs.outlet.Outlet.put_all.Goals as goal

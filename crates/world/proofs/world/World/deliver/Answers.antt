@@ -1,125 +1,67 @@
 use Rattle.std.proofs.Common.{◌≡◌, ℕ, List, ◌++◌, [], Some, None, Ok, sym, ap, subst, ◌∙◌, refl}
 use Rattle.std.specs.Prelude.{slice_get, option_map}
 use Rattle.teredo_node.specs.declared.fate.Fate.TheVariants as fate
+use Rattle.topology.specs.Topology.{node_at}
 use Rattle.history.specs.declared.event.Event.{Event}
-use Rattle.history.specs.declared.event.Event.TheVariants as event
 use Rattle.history.specs.declared.acts.Act.TheVariants as act
-use Rattle.history.specs.declared.acts.Verb.TheVariants as verb
 use Rattle.history.specs.Full.{Item, Full}
 use Rattle.legal.specs.Past.{Draws, forgotten}
-use Rattle.legal.specs.Emit.{route, reaches}
-use Rattle.legal.specs.Next.{numbered, plain, delivers, next_of}
+use Rattle.legal.specs.Emit.{route}
+use Rattle.legal.specs.Next.{numbered}
 use Rattle.world.specs.Wire.{WireState}
 use Rattle.world.specs.WireEntry.{item_lent}
 use Rattle.world.specs.Way.{by_way, IsThere}
-use Rattle.world.specs.NodeState.{NatsOf}
-use Rattle.world.specs.Sends.{all_made}
+use Rattle.world.specs.NodeState.{NodesOf}
 use Rattle.world.specs.Record.{said}
-use Rattle.world.specs.World.{WorldState, StandsFor, at_rest, HasNoHosts}
-use Rattle.world.specs.Playing.{Plays}
+use Rattle.world.specs.World.{WorldState, StandsFor, state_of}
+use Rattle.world.specs.Playing.{Finds, Plays, reached_by}
 use Rattle.world.specs.declared.way.Way.TheVariants.{Reaches}
-use Rattle.world.proofs.Unhosted.{built}
 use Rattle.world.proofs.Answered as answered
-use Rattle.world.proofs.Answered.{Delivery, IsDelivery, IsReached, record_in, all_is}
+use Rattle.world.proofs.Answered.{Delivery, IsDelivery, record_in}
 use Rattle.world.proofs.world.World.deliver.Goals as goal
 
-pub answer-requires-clause-built : goal.answer-requires-clause-built
-answer-requires-clause-built c =
+pub reach-requires-clause-there : goal.reach-requires-clause-there
+reach-requires-clause-there c =
     let w = c.self.inside in
-    let node : IsThere w.topology.now (Reaches c.in-Reaches.at c.in-Reaches.node) = subst (IsThere w.topology.now) c.in-Reaches.is c.way_of.ensures.there in
-    built w.topology.now c.self.invariant.0 c.in-Reaches.at c.in-Reaches.node node
+    subst (λ (x : WorldState). node_at x.topology c.in-Reaches.at ≡ Some c.in-Reaches.node) c.self.view_is (subst (IsThere w.topology.now) c.in-Reaches.is c.way_of.ensures.there)
 
 pub returns-in-Astray-clause-plays : goal.returns-in-Astray-clause-plays
 returns-in-Astray-clause-plays c =
     let w = c.self.inside in
-    let old = at_rest w.topology.now w.moment.0 w.nodes.items w.wire w.stopped in
+    let old = state_of w.topology.now w.moment.0 w.going w.nodes.items w.wire w.stopped in
     let item = item_lent c.in-Some.entry in
     let there : slice_get w.wire.items c.args.number ≡ Some item = sym c.get.ensures.lent ∙ ap (λ o. option_map item_lent o) c.in-Some.is in
+    let x : Draws → List Full → Event → Delivery = λ d H e. record { draws = d; world = old; history = H; event = numbered c.args.index e; number = c.args.number; item = item } in
+    let is : (d : Draws) (H : List Full) (e : Event) → StandsFor d old H → forgotten w.topology.now e ≡ [] → IsDelivery (x d H e) = λ d H e s keeps. record { stands = s; there = there; within = c.in-Some.ensures.marked; keeps = keeps } in
+    let nodes : (d : Draws) (H : List Full) → StandsFor d old H → NodesOf d w.topology.now c.as_slice.result.now H = λ d H s. rw (c.as_slice.ensures.value) s.nodes in
     rw (← c.self.view_is, c.blank-in-Astray.ensures) (λ d H s e keeps.
-    let x : Delivery = record { draws = d; world = old; history = H; event = numbered c.args.index e; number = c.args.number; item = item } in
-    let is : IsDelivery x = record { stands = s; there = there; within = c.in-Some.ensures.marked; keeps = keeps } in
-    let nats : NatsOf w.topology.now c.as_slice.result.now H = rw (c.as_slice.ensures.value) s.nats in
-    let goes = sym (c.way_of.ensures.way H nats) ∙ ap by_way c.in-Astray.is in
-    subst (λ (z : WireState). Plays old (at_rest w.topology.now w.moment.0 w.nodes.items z w.stopped) H (record_in x) (Ok (said w.moment.0 c.args.index (act.Deliver c.args.number) None fate.Nowhere []))) (sym c.set_delivered.ensures) (answered.strays c.frame.ensures x is goes))
+    let goes = sym (c.way_of.ensures.way d H (nodes d H s)) ∙ ap by_way c.in-Astray.is in
+    subst (λ (z : WireState). Plays d old (state_of w.topology.now w.moment.0 w.going w.nodes.items z w.stopped) H (record_in (x d H e)) (Ok (said w.moment.0 c.args.index (act.Deliver c.args.number) None fate.Nowhere []))) (sym c.set_delivered.ensures) (answered.strays c.frame.ensures (x d H e) (is d H e s keeps) goes))
 
 pub returns-in-Closed-clause-plays : goal.returns-in-Closed-clause-plays
 returns-in-Closed-clause-plays c =
     let w = c.self.inside in
-    let old = at_rest w.topology.now w.moment.0 w.nodes.items w.wire w.stopped in
+    let old = state_of w.topology.now w.moment.0 w.going w.nodes.items w.wire w.stopped in
     let item = item_lent c.in-Some.entry in
     let there : slice_get w.wire.items c.args.number ≡ Some item = sym c.get.ensures.lent ∙ ap (λ o. option_map item_lent o) c.in-Some.is in
+    let x : Draws → List Full → Event → Delivery = λ d H e. record { draws = d; world = old; history = H; event = numbered c.args.index e; number = c.args.number; item = item } in
+    let is : (d : Draws) (H : List Full) (e : Event) → StandsFor d old H → forgotten w.topology.now e ≡ [] → IsDelivery (x d H e) = λ d H e s keeps. record { stands = s; there = there; within = c.in-Some.ensures.marked; keeps = keeps } in
+    let nodes : (d : Draws) (H : List Full) → StandsFor d old H → NodesOf d w.topology.now c.as_slice.result.now H = λ d H s. rw (c.as_slice.ensures.value) s.nodes in
     rw (← c.self.view_is, c.blank-in-Closed.ensures) (λ d H s e keeps.
-    let x : Delivery = record { draws = d; world = old; history = H; event = numbered c.args.index e; number = c.args.number; item = item } in
-    let is : IsDelivery x = record { stands = s; there = there; within = c.in-Some.ensures.marked; keeps = keeps } in
-    let nats : NatsOf w.topology.now c.as_slice.result.now H = rw (c.as_slice.ensures.value) s.nats in
-    let goes = sym (c.way_of.ensures.way H nats) ∙ ap by_way c.in-Closed.is in
-    subst (λ (z : WireState). Plays old (at_rest w.topology.now w.moment.0 w.nodes.items z w.stopped) H (record_in x) (Ok (said w.moment.0 c.args.index (act.Deliver c.args.number) (Some c.in-Closed.nat) fate.NatClosed []))) (sym c.set_delivered-in-Closed.ensures) (answered.shut_out c.frame.ensures x c.in-Closed.nat is goes))
+    let goes = sym (c.way_of.ensures.way d H (nodes d H s)) ∙ ap by_way c.in-Closed.is in
+    subst (λ (z : WireState). Plays d old (state_of w.topology.now w.moment.0 w.going w.nodes.items z w.stopped) H (record_in (x d H e)) (Ok (said w.moment.0 c.args.index (act.Deliver c.args.number) (Some c.in-Closed.nat) fate.NatClosed []))) (sym c.set_delivered-in-Closed.ensures) (answered.shut_out c.frame.ensures (x d H e) c.in-Closed.nat (is d H e s keeps) goes))
 
-pub returns-in_default-packet_of-clause-plays : goal.returns-in_default-packet_of-clause-plays
-returns-in_default-packet_of-clause-plays c =
+pub returns-in-Reaches-clause-plays : goal.returns-in-Reaches-clause-plays
+returns-in-Reaches-clause-plays c =
     let w = c.self.inside in
-    let old = at_rest w.topology.now w.moment.0 w.nodes.items w.wire w.stopped in
+    let old = state_of w.topology.now w.moment.0 w.going w.nodes.items w.wire w.stopped in
     let item = item_lent c.in-Some.entry in
     let there : slice_get w.wire.items c.args.number ≡ Some item = sym c.get.ensures.lent ∙ ap (λ o. option_map item_lent o) c.in-Some.is in
+    let x : Draws → List Full → Event → Delivery = λ d H e. record { draws = d; world = old; history = H; event = numbered c.args.index e; number = c.args.number; item = item } in
+    let is : (d : Draws) (H : List Full) (e : Event) → StandsFor d old H → forgotten w.topology.now e ≡ [] → IsDelivery (x d H e) = λ d H e s keeps. record { stands = s; there = there; within = c.in-Some.ensures.marked; keeps = keeps } in
+    let nodes : (d : Draws) (H : List Full) → StandsFor d old H → NodesOf d w.topology.now c.as_slice.result.now H = λ d H s. rw (c.as_slice.ensures.value) s.nodes in
     rw (← c.self.view_is) (λ d H s e keeps.
-    let x : Delivery = record { draws = d; world = old; history = H; event = numbered c.args.index e; number = c.args.number; item = item } in
-    let is : IsDelivery x = record { stands = s; there = there; within = c.in-Some.ensures.marked; keeps = keeps } in
-    let nats : NatsOf w.topology.now c.as_slice.result.now H = rw (c.as_slice.ensures.value) s.nats in
-    let node : IsThere w.topology.now (Reaches c.in-Reaches.at c.in-Reaches.node) = subst (IsThere w.topology.now) c.in-Reaches.is c.way_of.ensures.there in
-    let reached : IsReached x c.in-Reaches.at c.in-Reaches.node c.answer.new.step = record {
-      delivery = is;
-      built = built w.topology.now c.self.invariant.0 c.in-Reaches.at c.in-Reaches.node node;
-      node = node;
-      goes = sym (c.way_of.ensures.way H nats) ∙ ap by_way c.in-Reaches.is;
-      does = c.answer.ensures d w.topology.now H c.in-Reaches.at;
-    } in
-    answered.needs x c.in-Reaches.at c.in-Reaches.node c.answer.new.step reached (answered.six_counts x c.in-Reaches.node c.answer.new.step c.in_default-packet_of.ensures.needs))
-
-pub returns-in-Err-clause-plays : goal.returns-in-Err-clause-plays
-returns-in-Err-clause-plays c =
-    let w = c.self.inside in
-    let old = at_rest w.topology.now w.moment.0 w.nodes.items w.wire w.stopped in
-    let item = item_lent c.in-Some.entry in
-    let there : slice_get w.wire.items c.args.number ≡ Some item = sym c.get.ensures.lent ∙ ap (λ o. option_map item_lent o) c.in-Some.is in
-    rw (← c.self.view_is) (λ d H s e keeps.
-    let x : Delivery = record { draws = d; world = old; history = H; event = numbered c.args.index e; number = c.args.number; item = item } in
-    let is : IsDelivery x = record { stands = s; there = there; within = c.in-Some.ensures.marked; keeps = keeps } in
-    let nats : NatsOf w.topology.now c.as_slice.result.now H = rw (c.as_slice.ensures.value) s.nats in
-    let node : IsThere w.topology.now (Reaches c.in-Reaches.at c.in-Reaches.node) = subst (IsThere w.topology.now) c.in-Reaches.is c.way_of.ensures.there in
-    let reached : IsReached x c.in-Reaches.at c.in-Reaches.node c.answer.new.step = record {
-      delivery = is;
-      built = built w.topology.now c.self.invariant.0 c.in-Reaches.at c.in-Reaches.node node;
-      node = node;
-      goes = sym (c.way_of.ensures.way H nats) ∙ ap by_way c.in-Reaches.is;
-      does = c.answer.ensures d w.topology.now H c.in-Reaches.at;
-    } in
-    let all = all_is x c.in-Reaches.node c.answer.new.step c.of-outlet.result c.in-Ok.packet c.of-outlet.ensures c.in-Ok.ensures.made in
-    answered.stops_for old (record_in x) c.send.result c.in-Err.stop c.in-Err.is
-    (λ e. answered.overflows x c.in-Reaches.at c.in-Reaches.node c.answer.new.step c.of-outlet.result c.in-Ok.packet reached all (c.send.ensures.full e))
-    (λ e. answered.needs_all x c.in-Reaches.at c.in-Reaches.node c.answer.new.step c.of-outlet.result c.in-Ok.packet reached all (c.send.ensures.needs e)))
-
-pub returns-in-Ok-send-clause-plays : goal.returns-in-Ok-send-clause-plays
-returns-in-Ok-send-clause-plays c =
-    let w = c.self.inside in
-    let old = at_rest w.topology.now w.moment.0 w.nodes.items w.wire w.stopped in
-    let item = item_lent c.in-Some.entry in
-    let there : slice_get w.wire.items c.args.number ≡ Some item = sym c.get.ensures.lent ∙ ap (λ o. option_map item_lent o) c.in-Some.is in
-    rw (← c.self.view_is, c.acted-record.ensures, c.handed_of-handed.ensures) (λ d H s e keeps.
-    let x : Delivery = record { draws = d; world = old; history = H; event = numbered c.args.index e; number = c.args.number; item = item } in
-    let is : IsDelivery x = record { stands = s; there = there; within = c.in-Some.ensures.marked; keeps = keeps } in
-    let nats : NatsOf w.topology.now c.as_slice.result.now H = rw (c.as_slice.ensures.value) s.nats in
-    let node : IsThere w.topology.now (Reaches c.in-Reaches.at c.in-Reaches.node) = subst (IsThere w.topology.now) c.in-Reaches.is c.way_of.ensures.there in
-    let reached : IsReached x c.in-Reaches.at c.in-Reaches.node c.answer.new.step = record {
-      delivery = is;
-      built = built w.topology.now c.self.invariant.0 c.in-Reaches.at c.in-Reaches.node node;
-      node = node;
-      goes = sym (c.way_of.ensures.way H nats) ∙ ap by_way c.in-Reaches.is;
-      does = c.answer.ensures d w.topology.now H c.in-Reaches.at;
-    } in
-    let all = all_is x c.in-Reaches.node c.answer.new.step c.of-outlet.result c.in-Ok.packet c.of-outlet.ensures c.in-Ok.ensures.made in
-    answered.answers c.frame.ensures x c.in-Reaches.at c.in-Reaches.node c.answer.new.step _ c.send.new.wire c.in-Ok-send.marks reached (record {
-      items = rw (← all) c.in-Ok-send.ensures.ok.items;
-      done = rw (← all) c.in-Ok-send.ensures.ok.done;
-      said = rw (← all) c.in-Ok-send.ensures.marks;
-      after = ap (λ (z : WireState). at_rest w.topology.now w.moment.0 w.nodes.items z w.stopped) c.set_delivered-in-Ok-send.ensures;
-    }))
+    let goes = sym (c.way_of.ensures.way d H (nodes d H s)) ∙ ap by_way c.in-Reaches.is in
+    answered.taken (x d H e) c.reach.new.self c.reach.result c.in-Reaches.at c.in-Reaches.node (is d H e s keeps) goes
+    (subst (λ (z : WorldState). Plays d z c.reach.new.self H (reached_by d z H (numbered c.args.index e) c.args.number c.in-Reaches.at item c.in-Reaches.node) c.reach.result) (sym c.self.view_is)
+    (c.reach.ensures.plays d H (subst (λ (z : WorldState). Finds d z H) c.self.view_is (record { nodes = s.nodes; wire = s.wire })) e (subst (λ (z : WorldState). forgotten z.topology e ≡ []) c.self.view_is keeps) item (subst (λ (z : WorldState). slice_get z.wire c.args.number ≡ Some item) c.self.view_is there))))

@@ -1,17 +1,20 @@
-use Rattle.std.proofs.Common.{◌≡◌, ◌∙◌, sym, ap, subst}
-use Rattle.world.specs.World.{WorldState, HasNoHosts}
-use Rattle.world.proofs.Stepped.{steps}
+use Rattle.std.proofs.Common.{◌≡◌, ◌∙◌, sym, ap, subst, Some, None}
+use Rattle.topology.specs.Rules.{IsTopology}
+use Rattle.world.specs.World.{WorldState}
+use Rattle.world.specs.Playing.{Turned}
+use Rattle.world.proofs.Stepped.{Laws, IsAsked, steps, falls}
 use Rattle.world.proofs.world.World.step.Goals as goal
 
 pub returns-in-Ok-clause-ok : goal.returns-in-Ok-clause-ok
 returns-in-Ok-clause-ok c =
-    let unhosted : HasNoHosts c.args.self.now.topology = subst (λ (x : WorldState). HasNoHosts x.topology) c.self.view_is c.self.invariant.0 in
-    steps c.of_its_event.ensures c.told.ensures c.args.self.now c.play.new.self c.args.index c.args.event.now c.in-Ok.record unhosted
-    (record {
-      topology = ap (λ (x : WorldState). x.topology) c.play.ensures.rest;
-      began = ap (λ (x : WorldState). x.began) c.play.ensures.rest;
-      going = sym (ap (λ (x : WorldState). x.going) c.self-2.view_is);
-      left = sym (ap (λ (x : WorldState). x.left) c.self-2.view_is);
-      stopped = ap (λ (x : WorldState). x.stopped) c.play.ensures.rest ∙ sym (ap (λ (x : WorldState). x.stopped) c.self.view_is) ∙ c.in_default.is;
-    })
-    (c.requires.event, c.requires.again) c.in-Ok.ensures.plays
+    let laws : Laws = record { of_event = c.of_its_event.ensures; told = c.told.ensures; falls = c.falls.ensures } in
+    let asked : IsAsked c.args.self.now c.args.event.now = record {
+      rules = subst (λ (x : WorldState). IsTopology x.topology) c.self.view_is c.self.invariant.rules;
+      event = c.requires.event;
+      again = c.requires.again;
+      stopped = sym (ap (λ (x : WorldState). x.stopped) c.self.view_is) ∙ c.in_default.is;
+    } in
+    (steps laws c.args.self.now c.play.new.self c.args.index c.args.event.now c.in-Ok.turn asked c.in-Ok.ensures.turned c.in-Ok.ensures.plays)
+
+pub returns-in-Ok-clause-falls : goal.returns-in-Ok-clause-falls
+returns-in-Ok-clause-falls c = (falls c.args.self.now c.play.new.self c.args.event.now c.in-Ok.turn c.in-Ok.ensures.turned)

@@ -1,0 +1,74 @@
+-- Which of several ticks comes first.
+use Rattle.std.proofs.Common.{◌≡◌, ◌<◌, ◌≤◌, ◌+◌, ℕ, zero, suc, List, [], ◌∷◌, length, drop, drop-cons, Option, Some, None, refl, sym, ap, ◌∙◌, arith, inl, inr}
+use Rattle.std.specs.Prelude.{slice_get, option_map, is_some}
+use Rattle.std.proofs.lemmas.Bool.{cases_lt, lt-ltb, le-ltb, false≢true}
+use Rattle.std.proofs.lemmas.List.{at_drop_all}
+use Rattle.std.proofs.lemmas.Option.{slice_get_within, get_or_from_slice_get}
+use Rattle.topology.specs.declared.node.Node.{Node}
+use Rattle.topology.specs.Rows.{TopologyState}
+use Rattle.history.specs.Full.{Full}
+use Rattle.legal.specs.Past.{now}
+use Rattle.legal.specs.Emit.{due_of}
+use Rattle.legal.specs.Next.{Due, earlier, least_due}
+
+-- the second of two is earlier, or it isn't
+later : (a b : Due) → a.moment ≤ b.moment → earlier (Some a) (Some b) ≡ Some a
+later a b le = rw (le-ltb b.moment a.moment le) refl
+
+sooner : (a b : Due) → b.moment < a.moment → earlier (Some a) (Some b) ≡ Some b
+sooner a b lt = rw (lt-ltb b.moment a.moment lt) refl
+
+of_three : (a b c : Due) → earlier (earlier (Some a) (Some b)) (Some c) ≡ earlier (Some a) (earlier (Some b) (Some c))
+of_three a b c = elim (cases_lt b.moment a.moment) [
+  | inl ba ↦ ap (λ (x : Option Due). earlier x (Some c)) (sooner a b ba) ∙ elim (cases_lt c.moment b.moment) [
+    | inl cb ↦ sooner b c cb ∙ sym (sooner a c (omega (arith, ba, cb))) ∙ ap (earlier (Some a)) (sym (sooner b c cb))
+    | inr bc ↦ later b c bc ∙ sym (sooner a b ba) ∙ ap (earlier (Some a)) (sym (later b c bc))
+  ]
+  | inr ab ↦ ap (λ (x : Option Due). earlier x (Some c)) (later a b ab) ∙ elim (cases_lt c.moment b.moment) [
+    | inl cb ↦ ap (earlier (Some a)) (sym (sooner b c cb))
+    | inr bc ↦ later a c (omega (arith, ab, bc)) ∙ sym (later a b ab) ∙ ap (earlier (Some a)) (sym (later b c bc))
+  ]
+]
+
+earlier_alone : (x : Option Due) → earlier x None ≡ x
+earlier_alone None = refl
+earlier_alone (Some a) = refl
+
+-- it is one which two come together first
+pub in_turn : (a b c : Option Due) → earlier (earlier a b) c ≡ earlier a (earlier b c)
+in_turn None b c = refl
+in_turn (Some a) None c = refl
+in_turn (Some a) (Some b) None = earlier_alone (earlier (Some a) (Some b))
+in_turn (Some a) (Some b) (Some c) = of_three a b c
+
+-- THE FIRST NODES
+
+-- the tick of one node
+abbrev pub tick_of : TopologyState → List Full → ℕ → ℕ → Node → Option Due
+tick_of t H m n a = option_map (λ (k : ℕ). record { moment = k; number = n; node = a }) (due_of t H m n a)
+
+-- the first tick of the nodes before n, and those of the others
+pub record IsFirstSo (t : TopologyState) (H : List Full) (all : List Node) (n : ℕ) (first : Option Due) : Type 0 where
+  pub whole : earlier first (least_due t H n (drop n all)) ≡ least_due t H 0 all
+
+dropped : (all : List Node) (n : ℕ) (a : Node) → slice_get all n ≡ Some a → drop n all ≡ a ∷ drop (n + 1) all
+dropped all n a at =
+    let next : suc n ≡ n + 1 = omega arith in
+    drop-cons all n a (slice_get_within all n a at) ∙ ap (λ (x : Node). x ∷ drop (suc n) all) (get_or_from_slice_get all n a a at)
+    ∙ ap (λ (k : ℕ). a ∷ drop k all) next
+
+pub one_further : (t : TopologyState) (H : List Full) (all : List Node) (n : ℕ) (a : Node) (first new : Option Due) → slice_get all n ≡ Some a
+    → IsFirstSo t H all n first → new ≡ earlier first (tick_of t H (now H) n a) → IsFirstSo t H all (n + 1) new
+one_further t H all n a first new at so is = record {
+  whole = rw is (in_turn first (tick_of t H (now H) n a) (least_due t H (n + 1) (drop (n + 1) all)))
+      ∙ ap (λ (xs : List Node). earlier first (least_due t H n xs)) (sym (dropped all n a at)) ∙ so.whole;
+}
+
+no_more : (all : List Node) (n : ℕ) → slice_get all n ≡ None → length all ≤ n
+no_more [] n e = omega arith
+no_more (a ∷ all) zero e = absurd (false≢true (sym (ap (λ (o : Option Node). is_some o) e)))
+no_more (a ∷ all) (suc n) e = let h = no_more all n e in omega (arith, h)
+
+pub at_the_end : (t : TopologyState) (H : List Full) (all : List Node) (n : ℕ) (first : Option Due) → slice_get all n ≡ None → IsFirstSo t H all n first → first ≡ least_due t H 0 all
+at_the_end t H all n first none so =
+    sym (earlier_alone first) ∙ ap (earlier first) (sym (at_drop_all (least_due t H n) all n (no_more all n none))) ∙ so.whole

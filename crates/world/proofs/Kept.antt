@@ -1,0 +1,137 @@
+-- What a record leaves of what is kept of the nodes.
+use Rattle.std.proofs.Common.{◌≡◌, ◌≢◌, ◌≤◌, ◌<◌, ℕ, ◌+◌, ◌==◌, Bool, true, false, List, [], ◌∷◌, ◌++◌, Option, Some, None, refl, sym, ap, subst, ◌∙◌, arith, ◌⊎◌, inl, inr}
+use Rattle.std.specs.Prelude.{slice_get, option_and_then, is_some}
+use Rattle.std.proofs.lemmas.Bool.{false≢true}
+use Rattle.std.proofs.lemmas.Bool.Decides.{eqb_tells}
+use Rattle.nat_kinds.specs.Nat as nats
+use Rattle.nat_kinds.specs.History.{Entry as NatEntry, Restart}
+use Rattle.teredo_node.specs.Journal.{Entry, Journal, Words}
+use Rattle.client_core.specs.Client.{ClientStandsFor}
+use Rattle.relay_core.specs.Relay.{RelayStandsFor}
+use Rattle.topology.specs.declared.nat_node.NatNode.{NatNode}
+use Rattle.topology.specs.declared.client_node.ClientNode.{ClientNode}
+use Rattle.topology.specs.Rows.{TopologyState}
+use Rattle.topology.specs.declared.node.Node.{Node}
+use Rattle.topology.specs.declared.node.Node.TheVariants.{Server as server, Nat as nat, Client as client, Relay as relay, Native as native}
+use Rattle.topology.specs.Topology.{node_at, nat_at, as_nat}
+use Rattle.history.specs.declared.acts.Act.{Act}
+use Rattle.history.specs.declared.event.Event.{Event}
+use Rattle.history.specs.Full.{Full}
+use Rattle.legal.specs.Past.{Draws, is_node, is_restart, at_nat, journal, drawn, drawn_by, words, nat_history}
+use Rattle.legal.specs.Frame.{nat_of, EachFrames}
+use Rattle.world.specs.declared.node_state.NodeState.{NodeState}
+use Rattle.world.specs.declared.node_state.NodeState.TheVariants as state
+use Rattle.world.specs.NodeState.{NodePast, past_of, IsKept, IsKeptIn, NodesOf}
+
+-- PASTS THAT ARE THE SAME FOR A NODE
+
+abbrev pub AsPast : Node → NodePast → NodePast → Type 0
+AsPast (nat b) x y = y.history ≡ x.history
+AsPast (client c) x y = (y.journal ≡ x.journal) × (y.words ≡ x.words)
+AsPast (server a) x y = Unit {0}
+AsPast (relay r) x y = y.journal ≡ x.journal
+AsPast (native h) x y = Unit {0}
+
+kept_as : (t : TopologyState) (n : ℕ) (a : Node) (x y : NodePast) (s : NodeState) → AsPast a x y → IsKept t n a x s → IsKept t n a y s
+kept_as t n (nat b) x y (state.Nat is) same h = record { settings = h.settings; stands = subst (λ (g : List NatEntry). nats.StandsFor is g) (sym same) h.stands }
+kept_as t n (nat b) x y state.Nothing same h = absurd h
+kept_as t n (nat b) x y (state.Client is) same h = absurd h
+kept_as t n (nat b) x y (state.Relay is) same h = absurd h
+kept_as t n (client c) x y (state.Client is) same h = record {
+  settings = h.settings;
+  stands = subst (λ (j : Journal). ClientStandsFor is j) (sym same.0) h.stands;
+  words = h.words ∙ sym same.1;
+}
+kept_as t n (client c) x y state.Nothing same h = absurd h
+kept_as t n (client c) x y (state.Nat is) same h = absurd h
+kept_as t n (client c) x y (state.Relay is) same h = absurd h
+kept_as t n (relay r) x y (state.Relay is) same h = record { settings = h.settings; stands = subst (λ (j : Journal). RelayStandsFor is j.entries) (sym same) h.stands }
+kept_as t n (relay r) x y state.Nothing same h = absurd h
+kept_as t n (relay r) x y (state.Nat is) same h = absurd h
+kept_as t n (relay r) x y (state.Client is) same h = absurd h
+kept_as t n (server a) x y s same h = tt
+kept_as t n (native h) x y s same k = tt
+
+pub kept_in_as : (t : TopologyState) (n : ℕ) (a : Node) (x y : NodePast) (o : Option NodeState) → AsPast a x y → IsKeptIn t n a x o → IsKeptIn t n a y o
+kept_in_as t n a x y None same h = absurd h
+kept_in_as t n a x y (Some s) same h = kept_as t n a x y s same h
+
+-- NODES THAT A RECORD ISN'T ABOUT
+
+pub not_node : (k : ℕ) (o : Option ℕ) → o ≢ Some k → is_node k o ≡ false
+not_node k None other = refl
+not_node k (Some m) other = by (eqb_tells k m) where
+  by : ((k == m) ≡ true) × (k ≡ m) ⊎ ((k == m) ≡ false) × (k ≢ m) → (k == m) ≡ false
+  by (inl (yeah, same)) = absurd (other (ap (λ (j : ℕ). Some j) (sym same)))
+  by (inr (nope, apart)) = nope
+
+pub is_itself : (n : ℕ) → is_node n (Some n) ≡ true
+is_itself n = by (eqb_tells n n) where
+  by : ((n == n) ≡ true) × (n ≡ n) ⊎ ((n == n) ≡ false) × (n ≢ n) → (n == n) ≡ true
+  by (inl (yeah, same)) = yeah
+  by (inr (nope, apart)) = absurd (apart refl)
+
+pub words_same : (d : Draws) (k : ℕ) (r : Full) (H : List Full) → drawn k (r ∷ H) ≡ drawn k H → words d k (r ∷ H) ≡ words d k H
+words_same d k r H same = ap (λ (m : ℕ). λ (j : ℕ). d k (m + j)) same
+
+pub draws_none : (k : ℕ) (r : Full) (H : List Full) → is_node k r.node ≡ false → drawn k (r ∷ H) ≡ drawn k H
+draws_none k r H nope = let none : drawn k H + 0 ≡ drawn k H = omega arith in rw nope none
+
+-- a NAT of the topology
+nat_is : (t : TopologyState) (k : ℕ) (b : NatNode) → node_at t k ≡ Some (nat b) → nat_at t k ≡ Some b
+nat_is t k b at = ap (option_and_then as_nat) at
+
+pub away : EachFrames → (d : Draws) (t : TopologyState) (H : List Full) (r : Full) (k : ℕ) (b : Node) → node_at t k ≡ Some b → r.node ≢ Some k
+    → option_and_then (nat_of t) r.node ≢ Some k → AsPast b (past_of d t k H) (past_of d t k (r ∷ H))
+away frame d t H r k (nat b) at other behind = (frame t H r).nats k b (nat_is t k b at) behind
+away frame d t H r k (client c) at other behind = ((frame t H r).journals k other, words_same d k r H (draws_none k r H (not_node k r.node other)))
+away frame d t H r k (server a) at other behind = tt
+away frame d t H r k (relay a) at other behind = (frame t H r).journals k other
+away frame d t H r k (native h) at other behind = tt
+
+-- RECORDS AT WHICH NO NODE DOES ANYTHING
+
+abbrev is_none_of : List NatEntry → Bool
+is_none_of [] = true
+is_none_of (x ∷ l) = false
+
+-- it is no restart
+pub starts_none : (t : TopologyState) (e : Event) (a : Act) → at_nat t e a ≡ [] → is_restart a ≡ false
+starts_none t e a nothing = by (is_restart a) refl where
+  by : (b : Bool) → is_restart a ≡ b → is_restart a ≡ false
+  by true yeah = let one : at_nat t e a ≡ Restart ∷ [] = rw yeah refl in absurd (false≢true (sym (ap (λ (l : List NatEntry). is_none_of l) (sym nothing ∙ one))))
+  by false nope = nope
+
+journal_rests : (k : ℕ) (r : Full) (H : List Full) → r.entry ≡ None → is_restart r.act ≡ false → journal k (r ∷ H) ≡ journal k H
+journal_rests k r H none nope = by (is_node k r.node) refl where
+  by : (b : Bool) → is_node k r.node ≡ b → journal k (r ∷ H) ≡ journal k H
+  by true e = rw (e, nope, none) refl
+  by false e = rw e refl
+
+drawn_rests : (k : ℕ) (r : Full) (H : List Full) → r.entry ≡ None → drawn k (r ∷ H) ≡ drawn k H
+drawn_rests k r H none = by (is_node k r.node) refl where
+  by : (b : Bool) → is_node k r.node ≡ b → drawn k (r ∷ H) ≡ drawn k H
+  by true e = let zero_more : drawn k H + 0 ≡ drawn k H = omega arith in rw (e, none) zero_more
+  by false e = draws_none k r H e
+
+pub record IsStill (t : TopologyState) (r : Full) : Type 0 where
+  pub entry : r.entry ≡ None
+  pub made : r.made ≡ []
+  pub nothing : at_nat t r.asked r.act ≡ []
+
+rests_as : EachFrames → (d : Draws) (t : TopologyState) (H : List Full) (r : Full) (k : ℕ) (b : Node) → IsStill t r → AsPast b (past_of d t k H) (past_of d t k (r ∷ H))
+rests_as frame d t H r k (nat b) is = (frame t H r).silent k is.made is.nothing
+rests_as frame d t H r k (client c) is = (journal_rests k r H is.entry (starts_none t r.asked r.act is.nothing), words_same d k r H (drawn_rests k r H is.entry))
+rests_as frame d t H r k (server a) is = tt
+rests_as frame d t H r k (relay a) is = journal_rests k r H is.entry (starts_none t r.asked r.act is.nothing)
+rests_as frame d t H r k (native h) is = tt
+
+pub all_rest : EachFrames → (d : Draws) (t : TopologyState) (states : List NodeState) (H : List Full) (r : Full) → NodesOf d t states H → IsStill t r → NodesOf d t states (r ∷ H)
+all_rest frame d t states H r of is = λ k b at. kept_in_as t k b (past_of d t k H) (past_of d t k (r ∷ H)) (slice_get states k) (rests_as frame d t H r k b is) (of k b at)
+
+-- a record of no node leaves all
+pub all_away : EachFrames → (d : Draws) (t : TopologyState) (states : List NodeState) (H : List Full) (r : Full) → NodesOf d t states H → r.node ≡ None → NodesOf d t states (r ∷ H)
+all_away frame d t states H r of nobody = λ k b at.
+    kept_in_as t k b (past_of d t k H) (past_of d t k (r ∷ H)) (slice_get states k) (away frame d t H r k b at
+    (λ e. false≢true (ap (λ (o : Option ℕ). is_some o) (sym nobody ∙ e)))
+    (λ e. false≢true (ap (λ (o : Option ℕ). is_some o) (sym (ap (option_and_then (nat_of t)) nobody) ∙ e)))) (of k b at)

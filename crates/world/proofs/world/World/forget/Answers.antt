@@ -1,0 +1,38 @@
+use Rattle.std.proofs.Common.{◌≡◌, ℕ, Some, None, sym, ap, subst, ◌∙◌}
+use Rattle.std.specs.Prelude.{option_and_then, is_some}
+use Rattle.std.proofs.lemmas.Bool.{false≢true}
+use Rattle.history.specs.Events.{IsForgotten}
+use Rattle.topology.specs.declared.node.Node.{Node}
+use Rattle.topology.specs.declared.node.Node.TheVariants.{Client as client}
+use Rattle.topology.specs.Topology.{node_at, as_client}
+use Rattle.world.specs.Changes.{ForgetsIn}
+use Rattle.world.specs.World.{WorldState, state_of}
+use Rattle.world.proofs.States.{some_inj}
+use Rattle.world.proofs.Starts.{Changes, forgets, client_forgotten}
+use Rattle.world.proofs.world.World.forget.Goals as goal
+
+pub unreachable-requires : goal.unreachable-requires
+unreachable-requires c =
+    let w = c.self.inside in
+    let is = client_forgotten w.topology.now c.args.number c.args.who (subst (λ (x : WorldState). IsForgotten x.topology c.args.number c.args.who) (sym c.self.view_is) c.requires.event) in
+    let none : node_at w.topology.now c.args.who ≡ None = ap (node_at w.topology.now) (sym c.from.ensures) ∙ sym c.node.ensures.found ∙ c.in_default.is in
+    false≢true (ap (λ o. is_some o) (sym none ∙ is.1))
+
+pub unreachable-requires-in_default-node : goal.unreachable-requires-in_default-node
+unreachable-requires-in_default-node c =
+    let w = c.self.inside in
+    let is = client_forgotten w.topology.now c.args.number c.args.who (subst (λ (x : WorldState). IsForgotten x.topology c.args.number c.args.who) (sym c.self.view_is) c.requires.event) in
+    let there : node_at w.topology.now c.args.who ≡ Some c.in-Some.node = ap (node_at w.topology.now) (sym c.from.ensures) ∙ sym c.node.ensures.found ∙ c.in-Some.is in
+    let same : c.in-Some.node ≡ client is.0 = some_inj c.in-Some.node (client is.0) (sym there ∙ is.1) in
+    c.in_default-node.not-Client is.0 same
+
+pub invariant_of-self : goal.invariant_of-self
+invariant_of-self c = record { rules = c.self.invariant.rules; ready = c.forget_at.ensures.ready c.self.inside.moment.0 c.self.invariant.ready; early = c.self.invariant.early; going = c.self.invariant.going }
+
+pub returns-clause-plays : goal.returns-clause-plays
+returns-clause-plays c =
+    let w = c.self.inside in
+    let old = state_of w.topology.now w.moment.0 w.going w.nodes.items w.wire w.stopped in
+    let there : node_at w.topology.now c.args.who ≡ Some (client c.in-Client.row) = ap (node_at w.topology.now) (sym c.from.ensures) ∙ sym c.node.ensures.found ∙ c.in-Some.is ∙ ap (λ (a : Node). Some a) c.in-Client.is in
+    let is : Changes w.nodes.items c.forget_at.new.states.items c.args.number (ForgetsIn c.in-Client.row.inside) = subst (λ (n : ℕ). Changes w.nodes.items c.forget_at.new.states.items n (ForgetsIn c.in-Client.row.inside)) c.from-2.ensures (record { elsewhere = c.forget_at.ensures.elsewhere; there = c.forget_at.ensures.there }) in
+    rw (← c.self.view_is, c.blank.ensures) (λ d H s. forgets d old c.forget_at.new.states.items H c.args.index c.args.number c.args.who c.in-Client.row s (ap (option_and_then as_client) there) is)

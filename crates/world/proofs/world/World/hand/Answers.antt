@@ -1,0 +1,28 @@
+use Rattle.std.proofs.Common.{◌≡◌, List, [], Some, None, Ok, refl, sym, ap, subst, ◌∙◌}
+use Rattle.teredo_node.specs.declared.fate.Fate.TheVariants as fate
+use Rattle.topology.specs.declared.node.Node.{Node}
+use Rattle.topology.specs.Topology.{node_at}
+use Rattle.history.specs.Full.{Full}
+use Rattle.legal.specs.Past.{at_nat}
+use Rattle.legal.specs.Next.{numbered, plain, hands_in}
+use Rattle.world.specs.Record.{said}
+use Rattle.world.specs.World.{WorldState, StandsFor, state_of}
+use Rattle.world.specs.Playing.{Finds, Plays}
+use Rattle.world.proofs.Hands.{nobody, hands}
+use Rattle.world.proofs.world.World.hand.Goals as goal
+
+pub returns-in_default-clause-plays : goal.returns-in_default-clause-plays
+returns-in_default-clause-plays c =
+    let w = c.self.inside in
+    let old = state_of w.topology.now w.moment.0 w.going w.nodes.items w.wire w.stopped in
+    let none : node_at w.topology.now c.args.number ≡ None = ap (node_at w.topology.now) (sym c.from.ensures) ∙ sym c.node.ensures.found ∙ c.in_default.is in
+    rw (← c.self.view_is, c.blank.ensures) (λ d H s e quiet. nobody c.frame.ensures d old H (numbered c.args.index e) c.args.verb c.args.number c.args.bytes.now s quiet none)
+
+pub returns-clause-plays : goal.returns-clause-plays
+returns-clause-plays c = λ d H s e quiet.
+    let w = c.self.inside in
+    let there : node_at w.topology.now c.args.number ≡ Some c.in-Some.node = ap (node_at w.topology.now) (sym c.from.ensures) ∙ sym c.node.ensures.found ∙ c.in-Some.is in
+    let here = subst (λ (x : WorldState). node_at x.topology c.args.number ≡ Some c.in-Some.node) c.self.view_is there in
+    let at = ap (λ (x : WorldState). x.moment) c.self.view_is in
+    hands d c.args.self.now c.act.new.self H (numbered c.args.index e) c.args.verb c.args.number c.args.bytes.now c.in-Some.node c.self.inside.moment.0 c.act.result at s here
+    (c.act.ensures.plays d H (record { nodes = s.nodes; wire = s.wire }) e quiet here)
