@@ -1,7 +1,6 @@
 -- How much is due of a table's peers.
-use Rattle.std.proofs.Common.{◌≡◌, ◌≤◌, ◌<◌, ℕ, ◌+◌, ◌||◌, ◌&&◌, not, Bool, true, false, cond, List, [], ◌∷◌, length, filter, find, Option, Some, None, refl, sym, ap, ◌∙◌, subst, arith}
+use Rattle.std.proofs.Common.{◌≡◌, ◌≤◌, ◌<◌, ℕ, ◌||◌, ◌&&◌, not, Bool, true, false, cond, List, [], ◌∷◌, length, filter, find, Option, Some, None, refl, sym, ap, ◌∙◌, subst, arith}
 use Rattle.std.specs.Prelude.{sum_by, option_map, unwrap_or, is_some, nat_lt, nat_le, nat_eq}
-use Rattle.std.specs.List.{list_any}
 use Rattle.std.specs.declared.cmp.Ordering.{Ordering}
 use Rattle.std.specs.declared.cmp.Ordering.TheVariants.{Less, Equal, Greater}
 use Rattle.std.specs.Ordering.{nat_cmp, ordering_then, is_lt}
@@ -13,8 +12,8 @@ use Rattle.td_base.specs.declared.ipv6.Ip6.{Ip6}
 use Rattle.peer_list.specs.declared.limits.TheConstants.{LISTED_MS}
 use Rattle.peer_list.specs.Peers.{Peer, no_peer}
 use Rattle.peer_list.specs.Judged.{is_none, is_within, due_of}
-use Rattle.peer_list.specs.Waiting.{Listing, waiting_among, cmp_due, least_by_due, first_among}
-use Rattle.peer_list.specs.Table.{Table, while_listed, peer_listed, is_of, peer_in, known_to, listed_in, first_due_in}
+use Rattle.peer_list.specs.Waiting.{Listing, waiting_among, cmp_due, first_among}
+use Rattle.peer_list.specs.Table.{Table, while_listed, peer_listed, is_of, peer_in, known_to, listed_in}
 use Rattle.peer_list.specs.Calls.{Updates}
 use Rattle.peer_list.specs.Overdue.{while_due, overdue_in, NothingOverdue, IsFirstOverdue, FirstOverdue, IsPutOff, LessOverdue}
 use Rattle.peer_list.proofs.Orders.{has, SameMembers, IsLeast, IsBest, best, first_of, same_waiting}
