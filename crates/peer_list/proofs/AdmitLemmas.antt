@@ -1,7 +1,7 @@
 -- What a call that lists a peer finds once it has taken out whoever isn't listed any more.
-use Rattle.std.proofs.Common.{◌≡◌, ℕ, ◌||◌, Bool, true, false, cond, List, [], ◌∷◌, ◌++◌, length, filter, find, Option, Some, None, Result, Ok, Err, refl, sym, ap, ◌∙◌, subst, arith}
+use Rattle.std.proofs.Common.{◌≡◌, ℕ, ◌||◌, Bool, true, false, cond, List, [], ◌∷◌, length, filter, find, Option, Some, None, Result, Ok, Err, refl, sym, ap, ◌∙◌, subst, arith}
 use Rattle.std.specs.Prelude.{unwrap_or, is_some, nat_lt, slice_set}
-use Rattle.std.specs.List.{AllByRecursion}
+use Rattle.std.specs.List.{AllByRecursion, insert}
 use Rattle.std.proofs.lemmas.List.{set-get_or}
 use Rattle.td_base.specs.declared.ipv6.Ip6.{Ip6}
 use Rattle.peer_list.specs.declared.limits.TheConstants.{MOST_PEERS}
@@ -87,10 +87,10 @@ keeps_there m ls kept who place l peer p at same =
     ap (λ (x : Peer). slice_set kept place (record { who = l.who; peer = x })) same ∙ ap (slice_set kept place) at.is ∙ set-get_or kept place l in
     subst (λ ks. Keeps (table m ls) (table m ks) m) (sym back) (keeps_purged m ls kept p)
 
-pub updates_new : (m : ℕ) (ls kept items : List Listing) (who : Ip6) (peer : Peer) → Purged m ls kept → find (is_of who) kept ≡ None → items ≡ kept ++ record { who = who; peer = peer } ∷ []
+pub updates_new : (m : ℕ) (ls kept items : List Listing) (who : Ip6) (peer : Peer) (i : ℕ) → Purged m ls kept → find (is_of who) kept ≡ None → items ≡ insert kept i (record { who = who; peer = peer })
     → Updates (table m ls) (table m items) m who peer
-updates_new m ls kept items who peer p none is =
-    then_updates (table m ls) (table m kept) (table m items) m who peer (keeps_purged m ls kept p) (added (table m kept) (table m items) m who peer none refl is)
+updates_new m ls kept items who peer i p none is =
+    then_updates (table m ls) (table m kept) (table m items) m who peer (keeps_purged m ls kept p) (added (table m kept) (table m items) m who peer i none refl is)
 
 pub keeps_same : (m : ℕ) (ls kept items : List Listing) → Purged m ls kept → items ≡ kept → Keeps (table m ls) (table m items) m
 keeps_same m ls kept items p is = subst (λ ks. Keeps (table m ls) (table m ks) m) (sym is) (keeps_purged m ls kept p)

@@ -18,7 +18,7 @@ use Rattle.peer_list.proofs.Lists.{other_way}
 use Rattle.peer_list.proofs.Orders.{has, best, best_with, same_best}
 use Rattle.peer_list.proofs.ListingLemmas.{all_kept, all_at}
 
-abbrev whose : List Listing → List Ip6
+abbrev pub whose : List Listing → List Ip6
 whose ls = map (λ (l : Listing). l.who) ls
 
 -- what a table with these listings knows of p at n
@@ -79,20 +79,20 @@ count_is m n ls a = ap length (listed_are_whose m n ls a) ∙ length_whose (filt
 -- WHAT IS KNOWN OF THEM
 
 -- f knows of each of these what its listing says
-abbrev Knows : (Ip6 → Peer) → List Listing → Type 0
+abbrev pub Knows : (Ip6 → Peer) → List Listing → Type 0
 Knows f ls = AllByRecursion (λ (l : Listing). f l.who ≡ l.peer) ls
 
-abbrev known_of_ls : List Listing → ℕ → Ip6 → Peer
+abbrev pub known_of_ls : List Listing → ℕ → Ip6 → Peer
 known_of_ls ls n p = unwrap_or (peer_of_ls ls n p) no_peer
 
-all_both : (P Q R : Listing → Type 0) (ls : List Listing) → ((l : Listing) → P l → Q l → R l) → AllByRecursion P ls → AllByRecursion Q ls → AllByRecursion R ls
+pub all_both : (P Q R : Listing → Type 0) (ls : List Listing) → ((l : Listing) → P l → Q l → R l) → AllByRecursion P ls → AllByRecursion Q ls → AllByRecursion R ls
 all_both P Q R [] f a b = tt
 all_both P Q R (l ∷ ls) f a b = (f l a.0 b.0, all_both P Q R ls f a.1 b.1)
 
 known_front : (n : ℕ) (x : Listing) (ls : List Listing) → is_listed_at n x ≡ true → known_of_ls (x ∷ ls) n x.who ≡ x.peer
 known_front n x ls listed = ap (λ o. unwrap_or (peer_listed n o) no_peer) (find_front x ls) ∙ ap (λ b. unwrap_or (cond b (Some x.peer) None) no_peer) listed
 
-knows : (n : ℕ) (ls : List Listing) → AreApart ls → Knows (known_of_ls ls n) (filter (is_listed_at n) ls)
+pub knows : (n : ℕ) (ls : List Listing) → AreApart ls → Knows (known_of_ls ls n) (filter (is_listed_at n) ls)
 knows n [] a = tt
 knows n (x ∷ ls) a =
     let rest : Knows (known_of_ls (x ∷ ls) n) (filter (is_listed_at n) ls) =
@@ -138,7 +138,7 @@ waits_whose f (l ∷ ls) k =
     by_test true = refl
     by_test false = refl
 
-filter_twice : (n : ℕ) (ls : List Listing) → filter (λ (l : Listing). not (is_none l.peer.waiting)) (filter (is_listed_at n) ls) ≡ filter (waits_at n) ls
+pub filter_twice : (n : ℕ) (ls : List Listing) → filter (λ (l : Listing). not (is_none l.peer.waiting)) (filter (is_listed_at n) ls) ≡ filter (waits_at n) ls
 filter_twice n [] = refl
 filter_twice n (l ∷ ls) = by_test (is_listed_at n l) (filter_twice n ls) where
   by_test : (b : Bool) → filter (λ (x : Listing). not (is_none x.peer.waiting)) (filter (is_listed_at n) ls) ≡ filter (waits_at n) ls

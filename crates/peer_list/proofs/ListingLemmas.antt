@@ -1,15 +1,16 @@
 -- The listings of a table, one by one: what is taken out, changed, or added.
-use Rattle.std.proofs.Common.{◌≡◌, ◌≤◌, ◌<◌, ℕ, zero, suc, add-one, ◌+◌, Bool, true, false, cond, List, [], ◌∷◌, ◌++◌, length, filter, find, get_or, drop, Option, Some, None, refl, sym, ap, ◌∙◌, subst, arith}
+use Rattle.std.proofs.Common.{◌≡◌, ◌≤◌, ◌<◌, ℕ, zero, suc, add-one, ◌+◌, Bool, true, false, cond, List, [], ◌∷◌, ◌++◌, length, filter, find, get_or, take, drop, Some, None, refl, sym, ap, ◌∙◌, subst, arith}
 use Rattle.std.specs.Prelude.{unwrap_or, is_some, nat_lt, slice_get, slice_set}
-use Rattle.std.specs.Option.{option_or}
-use Rattle.std.specs.List.{AllByRecursion, position_or_len}
+use Rattle.std.specs.declared.cmp.Ordering.TheVariants.{Less}
+use Rattle.std.specs.List.{AllByRecursion, position_or_len, insert}
 use Rattle.std.proofs.Math.Seq.{drop-cons}
 use Rattle.std.proofs.lemmas.Bool.{false≢true, ltb-true, ltb-false}
 use Rattle.std.proofs.lemmas.Option.{slice_get-get_or, slice_get_past}
 use Rattle.std.proofs.lemmas.List.Sums.{passes_at_first}
-use Rattle.std.proofs.lemmas.List.{length-set, length-append}
+use Rattle.std.proofs.lemmas.List.{length-set, take-append-drop}
+use Rattle.std.proofs.lemmas.List.Edits.{length-insert}
 use Rattle.std.proofs.lemmas.List.Folds.{find_at, find-set, find_past}
-use Rattle.td_base.specs.Ip6.{same_ip6, same_ip6-true}
+use Rattle.td_base.specs.Ip6.{same_ip6, same_ip6-true, cmp_ip6}
 use Rattle.td_base.specs.declared.ipv6.Ip6.{Ip6}
 use Rattle.peer_list.specs.declared.limits.TheConstants.{LISTED_MS, MOST_PEERS}
 use Rattle.peer_list.specs.Peers.{Peer, no_peer}
@@ -17,8 +18,7 @@ use Rattle.peer_list.specs.Judged.{is_within}
 use Rattle.peer_list.specs.Waiting.{Listing}
 use Rattle.peer_list.specs.Table.{Table, table, while_listed, peer_listed, is_of, is_listed_at, peer_in, known_to}
 use Rattle.peer_list.specs.Calls.{Updates, Keeps}
-use Rattle.peer_list.specs.Sound.{AreApart, AreSound}
-use Rattle.peer_list.proofs.Lists.{other_way}
+use Rattle.peer_list.specs.Sound.{AreInOrder, AreApart, AreSound, IsGapFor}
 use Rattle.peer_list.proofs.TableLemmas.{within_after, listed_while}
 
 -- OF AN ADDRESS WITH A LISTING THERE IS NO OTHER
@@ -33,9 +33,9 @@ pub all_kept : (P : Listing → Type 0) (test : Listing → Bool) (ls : List Lis
 all_kept P test [] a = tt
 all_kept P test (l ∷ ls) a = elim (test l) as (λ b. AllByRecursion P (cond b (l ∷ filter test ls) (filter test ls))) [ true ↦ (a.0, all_kept P test ls a.1) | false ↦ all_kept P test ls a.1 ]
 
-apart_kept : (test : Listing → Bool) (ls : List Listing) → AreApart ls → AreApart (filter test ls)
-apart_kept test [] a = tt
-apart_kept test (l ∷ ls) a = elim (test l) as (λ b. AreApart (cond b (l ∷ filter test ls) (filter test ls))) [ true ↦ (all_kept (λ (o : Listing). same_ip6 l.who o.who ≡ false) test ls a.0, apart_kept test ls a.1) | false ↦ apart_kept test ls a.1 ]
+order_kept : (test : Listing → Bool) (ls : List Listing) → AreInOrder ls → AreInOrder (filter test ls)
+order_kept test [] a = tt
+order_kept test (l ∷ ls) a = elim (test l) as (λ b. AreInOrder (cond b (l ∷ filter test ls) (filter test ls))) [ true ↦ (all_kept (λ (o : Listing). cmp_ip6 l.who o.who ≡ Less) test ls a.0, order_kept test ls a.1) | false ↦ order_kept test ls a.1 ]
 
 -- TAKING OUT WHAT ISN'T LISTED
 
@@ -61,7 +61,7 @@ shorter test (l ∷ ls) = by_test (test l) (shorter test ls) where
   by_test false h = omega arith
 
 pub sound_kept : (test : Listing → Bool) (ls : List Listing) → AreSound ls → AreSound (filter test ls)
-sound_kept test ls s = record { apart = apart_kept test ls s.apart; few = let few = s.few in let less = shorter test ls in omega arith }
+sound_kept test ls s = record { order = order_kept test ls s.order; few = let few = s.few in let less = shorter test ls in omega arith }
 
 -- from m on the same is known
 pub purged : (m : ℕ) (ls : List Listing) → AreApart ls → Keeps (table m ls) (table m (filter (is_listed_at m) ls)) m
@@ -148,66 +148,86 @@ all_at P [] i d k a = absurd (omega arith)
 all_at P (x ∷ ls) zero d k a = a.0
 all_at P (x ∷ ls) (suc i) d k a = all_at P ls i d (omega arith) a.1
 
-all_set : (P : Listing → Type 0) (ls : List Listing) (i : ℕ) (y : Listing) → P y → AllByRecursion P ls → AllByRecursion P (slice_set ls i y)
+pub all_set : (P : Listing → Type 0) (ls : List Listing) (i : ℕ) (y : Listing) → P y → AllByRecursion P ls → AllByRecursion P (slice_set ls i y)
 all_set P [] i y h a = tt
 all_set P (x ∷ ls) zero y h a = (h, a.1)
 all_set P (x ∷ ls) (suc i) y h a = (a.0, all_set P ls i y h a.1)
 
-apart_set : (ls : List Listing) (i : ℕ) (y d : Listing) → i < length ls → y.who ≡ (get_or ls i d).who → AreApart ls → AreApart (slice_set ls i y)
-apart_set [] i y d k e a = absurd (omega arith)
-apart_set (x ∷ ls) zero y d k e a = (subst (λ q. AllByRecursion (λ (o : Listing). same_ip6 q o.who ≡ false) ls) (sym e) a.0, a.1)
-apart_set (x ∷ ls) (suc i) y d k e a =
-    let other : same_ip6 x.who y.who ≡ false = ap (λ q. same_ip6 x.who q) e ∙ all_at (λ (o : Listing). same_ip6 x.who o.who ≡ false) ls i d (omega arith) a.0 in
-    (all_set (λ (o : Listing). same_ip6 x.who o.who ≡ false) ls i y other a.0, apart_set ls i y d (omega arith) e a.1)
+pub order_set : (ls : List Listing) (i : ℕ) (y d : Listing) → i < length ls → y.who ≡ (get_or ls i d).who → AreInOrder ls → AreInOrder (slice_set ls i y)
+order_set [] i y d k e a = absurd (omega arith)
+order_set (x ∷ ls) zero y d k e a = (subst (λ q. AllByRecursion (λ (o : Listing). cmp_ip6 q o.who ≡ Less) ls) (sym e) a.0, a.1)
+order_set (x ∷ ls) (suc i) y d k e a =
+    let other : cmp_ip6 x.who y.who ≡ Less = ap (λ q. cmp_ip6 x.who q) e ∙ all_at (λ (o : Listing). cmp_ip6 x.who o.who ≡ Less) ls i d (omega arith) a.0 in
+    (all_set (λ (o : Listing). cmp_ip6 x.who o.who ≡ Less) ls i y other a.0, order_set ls i y d (omega arith) e a.1)
 
 pub sound_changed : (ls : List Listing) (who : Ip6) (place : ℕ) (l : Listing) (peer : Peer) → Placed ls who place l → AreSound ls → AreSound (slice_set ls place (record { who = l.who; peer = peer }))
 sound_changed ls who place l peer at s = record {
-  apart = apart_set ls place (record { who = l.who; peer = peer }) l at.within (ap (λ (x : Listing). x.who) at.is) s.apart;
+  order = order_set ls place (record { who = l.who; peer = peer }) l at.within (ap (λ (x : Listing). x.who) at.is) s.order;
   few = rw length-set s.few;
 }
 
 -- ADDING A LISTING
 
-found_more : (p : Listing → Bool) (ls : List Listing) (y : Listing) → find p (ls ++ y ∷ []) ≡ option_or (find p ls) (cond (p y) (Some y) None)
-found_more p [] y = refl
-found_more p (x ∷ ls) y = by_test (p x) (found_more p ls y) where
-  by_test : (b : Bool) → find p (ls ++ y ∷ []) ≡ option_or (find p ls) (cond (p y) (Some y) None) → cond b (Some x) (find p (ls ++ y ∷ [])) ≡ option_or (cond b (Some x) (find p ls)) (cond (p y) (Some y) None)
-  by_test true h = refl
-  by_test false h = h
+-- one more between others
+find_past_new : (p : Listing → Bool) (xs ys : List Listing) (y : Listing) → p y ≡ false → find p (xs ++ y ∷ ys) ≡ find p (xs ++ ys)
+find_past_new p [] ys y h = rw h refl
+find_past_new p (x ∷ xs) ys y h = ap (λ o. cond (p x) (Some x) o) (find_past_new p xs ys y h)
 
-or_none : {A : Type 0} (o : Option A) → option_or o None ≡ o
-or_none None = refl
-or_none (Some x) = refl
+find_new : (p : Listing → Bool) (xs ys : List Listing) (y : Listing) → find p (xs ++ ys) ≡ None → p y ≡ true → find p (xs ++ y ∷ ys) ≡ Some y
+find_new p [] ys y none h = rw h refl
+find_new p (x ∷ xs) ys y none h = by_test (p x) none (λ n. find_new p xs ys y n h) where
+  by_test : (b : Bool) → cond b (Some x) (find p (xs ++ ys)) ≡ None → (find p (xs ++ ys) ≡ None → find p (xs ++ y ∷ ys) ≡ Some y) → cond b (Some x) (find p (xs ++ y ∷ ys)) ≡ Some y
+  by_test true n rest = absurd (false≢true (sym (ap is_some n)))
+  by_test false n rest = rest n
 
-pub added : (old new : Table) (m : ℕ) (who : Ip6) (peer : Peer) → find (is_of who) old.listings ≡ None
-    → new.moment ≡ m → new.listings ≡ old.listings ++ record { who = who; peer = peer } ∷ [] → Updates old new m who peer
+pub added : (old new : Table) (m : ℕ) (who : Ip6) (peer : Peer) (i : ℕ) → find (is_of who) old.listings ≡ None
+    → new.moment ≡ m → new.listings ≡ insert old.listings i (record { who = who; peer = peer }) → Updates old new m who peer
 unfolding peer_in
-added old new m who peer none moment items = record {
+added old new m who peer i none moment items = record {
   moment = moment;
-  view = λ n p k. ap (λ ls. peer_listed n (find (is_of p) ls)) items ∙ ap (peer_listed n) (found_more (is_of p) old.listings y) ∙ by_test n p (same_ip6 p who) refl;
+  view = λ n p k. ap (λ ls. peer_listed n (find (is_of p) ls)) items ∙ by_test n p (same_ip6 p who) refl;
 } where
   y : Listing
   y = record { who = who; peer = peer }
 
-  by_test : (n : ℕ) (p : Ip6) (b : Bool) → same_ip6 p who ≡ b → peer_listed n (option_or (find (is_of p) old.listings) (cond (same_ip6 p who) (Some y) None)) ≡ cond (same_ip6 p who) (while_listed n peer) (peer_listed n (find (is_of p) old.listings))
+  front : List Listing
+  front = take i old.listings
+
+  back : List Listing
+  back = drop i old.listings
+
+  both : front ++ back ≡ old.listings
+  both = take-append-drop i old.listings
+
+  by_test : (n : ℕ) (p : Ip6) (b : Bool) → same_ip6 p who ≡ b → peer_listed n (find (is_of p) (front ++ y ∷ back)) ≡ cond (same_ip6 p who) (while_listed n peer) (peer_listed n (find (is_of p) old.listings))
   by_test n p true is =
-      let nowhere : find (is_of p) old.listings ≡ None = ap (λ q. find (is_of q) old.listings) (same_ip6-true p who is) ∙ none in
-      rw (is, nowhere) refl
-  by_test n p false other = rw other (ap (peer_listed n) (or_none (find (is_of p) old.listings)))
+      let nowhere : find (is_of p) (front ++ back) ≡ None = ap (find (is_of p)) both ∙ ap (λ q. find (is_of q) old.listings) (same_ip6-true p who is) ∙ none in
+      ap (peer_listed n) (find_new (is_of p) front back y nowhere is) ∙ sym (ap (λ b. cond b (while_listed n peer) (peer_listed n (find (is_of p) old.listings))) is)
+  by_test n p false other =
+      ap (peer_listed n) (find_past_new (is_of p) front back y other ∙ ap (find (is_of p)) both) ∙ sym (ap (λ b. cond b (while_listed n peer) (peer_listed n (find (is_of p) old.listings))) other)
 
-all_more : (P : Listing → Type 0) (ls : List Listing) (y : Listing) → AllByRecursion P ls → P y → AllByRecursion P (ls ++ y ∷ [])
-all_more P [] y a h = (h, tt)
-all_more P (x ∷ ls) y a h = (a.0, all_more P ls y a.1 h)
+all_more : (P : Listing → Type 0) (xs ys : List Listing) (y : Listing) → P y → AllByRecursion P (xs ++ ys) → AllByRecursion P (xs ++ y ∷ ys)
+all_more P [] ys y h a = (h, a)
+all_more P (x ∷ xs) ys y h a = (a.0, all_more P xs ys y h a.1)
 
-apart_more : (ls : List Listing) (y : Listing) → find (is_of y.who) ls ≡ None → AreApart ls → AreApart (ls ++ y ∷ [])
-apart_more [] y none a = (tt, tt)
-apart_more (x ∷ ls) y none a = by_test (is_of y.who x) refl none (λ h. apart_more ls y h a.1) where
-  by_test : (b : Bool) → is_of y.who x ≡ b → cond b (Some x) (find (is_of y.who) ls) ≡ None → (find (is_of y.who) ls ≡ None → AreApart (ls ++ y ∷ [])) → AreApart (x ∷ ls ++ y ∷ [])
-  by_test true is h rest = absurd (false≢true (sym (ap is_some h)))
-  by_test false other h rest = (all_more (λ (o : Listing). same_ip6 x.who o.who ≡ false) ls y a.0 (other_way y.who x.who other), rest h)
+pub all_added : (P : Listing → Type 0) (ls : List Listing) (i : ℕ) (y : Listing) → P y → AllByRecursion P ls → AllByRecursion P (insert ls i y)
+all_added P ls i y h a = all_more P (take i ls) (drop i ls) y h (subst (AllByRecursion P) (sym (take-append-drop i ls)) a)
 
-pub sound_added : (ls : List Listing) (who : Ip6) (peer : Peer) → find (is_of who) ls ≡ None → length ls < MOST_PEERS → AreSound ls → AreSound (ls ++ record { who = who; peer = peer } ∷ [])
-sound_added ls who peer none room s = record {
-  apart = apart_more ls (record { who = who; peer = peer }) none s.apart;
-  few = simp length-append (omega arith);
+order_more : (xs ys : List Listing) (y : Listing) → AllByRecursion (λ (l : Listing). cmp_ip6 l.who y.who ≡ Less) xs → AllByRecursion (λ (l : Listing). cmp_ip6 y.who l.who ≡ Less) ys → AreInOrder (xs ++ ys) → AreInOrder (xs ++ y ∷ ys)
+order_more [] ys y before behind a = (behind, a)
+order_more (x ∷ xs) ys y before behind a = (all_more (λ (o : Listing). cmp_ip6 x.who o.who ≡ Less) xs ys y before.0 a.0, order_more xs ys y before.1 behind a.1)
+
+pub sound_added : (ls : List Listing) (who : Ip6) (peer : Peer) (i : ℕ) → IsGapFor ls who i → length ls < MOST_PEERS → AreSound ls → AreSound (insert ls i (record { who = who; peer = peer }))
+sound_added ls who peer i gap room s = record {
+  order = order_more (take i ls) (drop i ls) (record { who = who; peer = peer }) gap.before gap.behind (subst AreInOrder (sym (take-append-drop i ls)) s.order);
+  few = let more = length-insert ls i (record { who = who; peer = peer }) gap.within in omega (arith, more, room);
 }
+
+-- WHERE NONE STANDS
+
+pub none_len : (p : Listing → Bool) (ls : List Listing) → find p ls ≡ None → length ls ≡ position_or_len p ls
+none_len p [] none = refl
+none_len p (x ∷ ls) none = by_test (p x) refl none (none_len p ls) where
+  by_test : (b : Bool) → p x ≡ b → cond b (Some x) (find p ls) ≡ None → (find p ls ≡ None → length ls ≡ position_or_len p ls) → length (x ∷ ls) ≡ position_or_len p (x ∷ ls)
+  by_test true e n rest = absurd (false≢true (sym (ap is_some n)))
+  by_test false e n rest = let more = rest n in rw e (omega (arith, more))

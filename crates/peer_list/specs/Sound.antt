@@ -1,16 +1,80 @@
--- What holds of the listings of a table.
-use Rattle.std.specs.Prelude.{◌≡◌, ◌≤◌, false, List, [], ◌∷◌, length}
-use Rattle.std.specs.List.{AllByRecursion}
-use Rattle.td_base.specs.Ip6.{same_ip6}
+-- How the listings of a table stand, and what lies below none of them.
+use Rattle.std.specs.Prelude.{◌≡◌, ◌≤◌, ◌<◌, ℕ, Bool, true, false, List, [], ◌∷◌, length, take, drop, find, Option, Some, None}
+use Rattle.std.specs.List.{AllByRecursion, position_or_len}
+use Rattle.std.specs.Ordering.{nat_cmp, ordering_then, is_lt}
+use Rattle.std.specs.declared.cmp.Ordering.TheVariants.{Less}
+use Rattle.td_base.specs.Ip6.{same_ip6, cmp_ip6}
+use Rattle.td_base.specs.declared.ipv6.Ip6.{Ip6}
+use Rattle.td_base.specs.declared.millis.Millis.{Millis}
+use Rattle.peer_list.specs.declared.earliest.Earliest.{Earliest}
 use Rattle.peer_list.specs.declared.limits.TheConstants.{MOST_PEERS}
+use Rattle.peer_list.specs.Judged.{is_none, due_of}
 use Rattle.peer_list.specs.Waiting.{Listing}
+use Rattle.peer_list.specs.Table.{is_of, is_listed_at, due_and_who}
 
--- of no address there are two listings
+-- THE LISTINGS
+
+-- each address comes before those after it
+abbrev pub AreInOrder : List Listing → Type 0
+AreInOrder [] = Unit {0}
+AreInOrder (l ∷ ls) = AllByRecursion (λ (o : Listing). cmp_ip6 l.who o.who ≡ Less) ls × AreInOrder ls
+
+-- so of no address there are two listings
 abbrev pub AreApart : List Listing → Type 0
 AreApart [] = Unit {0}
 AreApart (l ∷ ls) = AllByRecursion (λ (o : Listing). same_ip6 l.who o.who ≡ false) ls × AreApart ls
 
 -- and there are at most 256 in all
 pub record AreSound (ls : List Listing) : Type 0 where
-  pub apart : AreApart ls
+  pub order : AreInOrder ls
   pub few : length ls ≤ MOST_PEERS
+
+-- the listing of an address stands at i
+pub record IsPlaceOf (ls : List Listing) (who : Ip6) (i : ℕ) : Type 0 where
+  pub at : i ≡ position_or_len (is_of who) ls
+  pub within : i < length ls
+
+-- there is none, and it would stand at i
+pub record IsGapFor (ls : List Listing) (who : Ip6) (i : ℕ) : Type 0 where
+  pub within : i ≤ length ls
+  pub before : AllByRecursion (λ (l : Listing). cmp_ip6 l.who who ≡ Less) (take i ls)
+  pub behind : AllByRecursion (λ (l : Listing). cmp_ip6 who l.who ≡ Less) (drop i ls)
+
+-- WHAT LIES BELOW NONE OF THEM
+
+-- touched at m or later
+abbrev pub IsSince : ℕ → Option ℕ → Type 0
+IsSince m None = ⊥
+IsSince m (Some k) = m ≤ k
+
+-- due before the first, or there is no first
+abbrev pub is_before : Millis × Ip6 → Option (Millis × Ip6) → Bool
+is_before x None = true
+is_before x (Some first) = is_lt (ordering_then (nat_cmp x.0.0 first.0.0) (cmp_ip6 x.1 first.1))
+
+-- if packets wait for it, it isn't due before the first
+abbrev pub IsNotBefore : Option (Millis × Ip6) → Listing → Type 0
+IsNotBefore first l = is_none l.peer.waiting ≡ false → is_before (due_and_who l) first ≡ false
+
+abbrev pub NoneBefore : Option (Millis × Ip6) → List Listing → Type 0
+NoneBefore first ls = AllByRecursion (IsNotBefore first) ls
+
+abbrev pub AllSince : ℕ → List Listing → Type 0
+AllSince m ls = AllByRecursion (λ (l : Listing). IsSince m l.peer.touched) ls
+
+-- at the moment m
+pub record IsKept (e : Earliest) (m : ℕ) (ls : List Listing) : Type 0 where
+  pub sound : AreSound ls
+  pub touched : AllSince e.touched.0 ls
+  pub due : NoneBefore e.due ls
+  pub past : e.touched.0 ≤ m
+
+-- WHO WAITS
+
+-- p is listed at n, packets wait for it, and its next try is due at this moment
+pub record WaitsTill (ls : List Listing) (n at : ℕ) (p : Ip6) : Type 0 where
+  pub listing : Listing
+  pub found : find (is_of p) ls ≡ Some listing
+  pub listed : is_listed_at n listing ≡ true
+  pub waits : is_none listing.peer.waiting ≡ false
+  pub due : due_of listing.peer ≡ at

@@ -118,7 +118,14 @@ impl Peer {
     pub(crate) fn waits(&self, now: Millis) -> bool
         ensures { result ≡ (is_within LISTED_MS now.0 self.now.touched && not (is_none self.now.waiting)) }
     {
-        self.is_listed(now) && !self.waiting.is_empty()
+        self.is_listed(now) && !self.is_idle()
+    }
+
+    /// Whether no packet waits for it.
+    pub(crate) fn is_idle(&self) -> bool
+        ensures { result ≡ is_none self.now.waiting }
+    {
+        self.waiting.is_empty()
     }
 
     /// Whether it is trusted at this very endpoint, port and all.

@@ -7,6 +7,7 @@ ghost use Rattle.peer_list.specs.Table.{empty_table, peer_in, known_to, listed_i
 ghost use Rattle.peer_list.specs.Calls.{touched_at, trusted_at, heard_at, tried_at, queued_at, emptied, Updates, Keeps, Admits, Queues, sends_of};
 ghost use Rattle.peer_list.specs.Stands.{StandsForMentions};
 
+use crate::earliest::Earliest;
 use crate::limits::MOST_PEERS;
 use crate::listed_peer::Peer;
 use crate::listings::{self, Listing};
@@ -16,23 +17,24 @@ use std::marker::Model;
 use td_base::{Ep, Ip6, Millis, Side};
 use teredo_node::Step;
 
-/// The peers that a node keeps, in the order in which they were listed.
+/// The peers that a node keeps, in the order of their addresses.
 #[derive(Drop)]
 pub struct Peers {
     alloc: Global,
     moment: Millis,
     listings: Vec<Listing>,
+    earliest: Earliest,
 }
 
 impl Model for Peers {
     ghost use Rattle.peer_list.specs.Table.{Table};
-    ghost use Rattle.peer_list.specs.Sound.{AreSound};
+    ghost use Rattle.peer_list.specs.Sound.{IsKept};
 
     ghost Value = { Table };
 
     ghost view = { λ s. record { moment = s.moment.0; listings = s.listings.items } };
 
-    ghost invariant = { λ s. AreSound s.listings.items };
+    ghost invariant = { λ s. IsKept s.earliest s.moment.0 s.listings.items };
 }
 
 impl Peers {
@@ -45,6 +47,7 @@ impl Peers {
             alloc,
             moment: Millis(0),
             listings: Vec::new(alloc),
+            earliest: Earliest::none(),
         }
     }
 
@@ -173,7 +176,7 @@ impl Peers {
         ensures kept { OnErr result (Keeps self.old self.new now.0) }
     {
         self.moment = now;
-        listings::admit(&mut self.listings, self.alloc, now, who)
+        listings::admit(&mut self.listings, &mut self.earliest, self.alloc, now, who)
     }
 
     /// Lets a packet wait for a peer, which it lists and touches. A refusal leaves all as it was.
@@ -186,7 +189,14 @@ impl Peers {
         ensures kept { OnErr result (Keeps self.old self.new now.0) }
     {
         self.moment = now;
-        listings::queue(&mut self.listings, self.alloc, now, who, packet)
+        listings::queue(
+            &mut self.listings,
+            &mut self.earliest,
+            self.alloc,
+            now,
+            who,
+            packet,
+        )
     }
 
     /// Touches a listed peer: it stays listed for `LISTED_MS` from now.
@@ -209,6 +219,7 @@ impl Peers {
         self.moment = now;
         let place = listings::place(&self.listings, who);
         self.listings[place].peer.trust(now, at);
+        self.earliest.due = listings::first_due_after(&self.listings, self.earliest.due, place);
     }
 
     /// Touches a listed peer of which a direct reception came. What was tried is over; what waits goes by `release`.
@@ -220,6 +231,7 @@ impl Peers {
         self.moment = now;
         let place = listings::place(&self.listings, who);
         self.listings[place].peer.hear(now);
+        self.earliest.due = listings::first_due_after(&self.listings, self.earliest.due, place);
     }
 
     /// Touches a listed peer that was tried, where there is one with a test and its nonce. Whether it may be tried is
@@ -233,6 +245,7 @@ impl Peers {
         self.moment = now;
         let place = listings::place(&self.listings, who);
         self.listings[place].peer.note_try(now, nonce);
+        self.earliest.due = listings::first_due_after(&self.listings, self.earliest.due, place);
     }
 
     /// Sends the packets that wait for a peer, in order, from one side to one endpoint.
@@ -244,6 +257,7 @@ impl Peers {
     {
         let place = listings::place(&self.listings, who);
         self.listings[place].peer.release(side, to, step);
+        self.earliest.due = listings::first_due_after(&self.listings, self.earliest.due, place);
     }
 
     /// Drops the packets that wait for a peer, and says how many there were. It doesn't touch the peer.
@@ -255,7 +269,9 @@ impl Peers {
     {
         self.moment = now;
         let place = listings::place(&self.listings, who);
-        self.listings[place].peer.give_up()
+        let count = self.listings[place].peer.give_up();
+        self.earliest.due = listings::first_due_after(&self.listings, self.earliest.due, place);
+        count
     }
 
     /// When the next try is due, and whose: of those for whom packets wait the earliest, then the least address.
@@ -263,7 +279,7 @@ impl Peers {
         requires clock { self.now.moment ≤ now.0 }
         ensures { result ≡ option_map due_and_who (first_due_in self.now now.0) }
     {
-        listings::due(&self.listings, now)
+        listings::due(&self.listings, self.earliest.due, now)
     }
 
     /// How many packets wait, for all listed peers.
@@ -281,5 +297,6 @@ impl Peers {
     {
         self.moment = Millis(0);
         self.listings.clear();
+        self.earliest = Earliest::none();
     }
 }

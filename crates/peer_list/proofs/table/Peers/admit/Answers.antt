@@ -11,4 +11,4 @@ pub returns-clause-admitted : goal.returns-clause-admitted
 returns-clause-admitted c = rw (← c.self.view_is) (on_ok_weaker c.admit.result (other_updates c.args.now.0 c.self.inside.moment.0 c.args.now.0 c.self.inside.listings.items (table c.args.now.0 c.admit.new.listings.items) c.args.who (touched_at c.args.now.0)) c.admit.ensures.admitted)
 
 pub returns-clause-kept : goal.returns-clause-kept
-returns-clause-kept c = rw (← c.self.view_is) (on_err_weaker c.admit.result (other_keeps c.args.now.0 c.self.inside.moment.0 c.args.now.0 c.self.inside.listings.items (table c.args.now.0 c.admit.new.listings.items)) c.admit.ensures.kept)
+returns-clause-kept c = rw (← c.self.view_is) (on_err_weaker c.admit.result (other_keeps c.args.now.0 c.self.inside.moment.0 c.args.now.0 c.self.inside.listings.items (table c.args.now.0 c.admit.new.listings.items)) c.admit.ensures.same)

@@ -19,4 +19,4 @@ pub returns-clause-queued : goal.returns-clause-queued
 returns-clause-queued c = rw (← c.self.view_is) (on_ok_weaker c.queue.result (other_updates c.args.now.0 c.self.inside.moment.0 c.args.now.0 c.self.inside.listings.items (table c.args.now.0 c.queue.new.listings.items) c.args.who (queued_at c.args.now.0 c.args.packet.now)) c.queue.ensures.queued)
 
 pub returns-clause-kept : goal.returns-clause-kept
-returns-clause-kept c = rw (← c.self.view_is) (on_err_weaker c.queue.result (other_keeps c.args.now.0 c.self.inside.moment.0 c.args.now.0 c.self.inside.listings.items (table c.args.now.0 c.queue.new.listings.items)) c.queue.ensures.kept)
+returns-clause-kept c = rw (← c.self.view_is) (on_err_weaker c.queue.result (other_keeps c.args.now.0 c.self.inside.moment.0 c.args.now.0 c.self.inside.listings.items (table c.args.now.0 c.queue.new.listings.items)) c.queue.ensures.same)
