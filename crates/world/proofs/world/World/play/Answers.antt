@@ -70,16 +70,18 @@ returns-in-Stranger-clause-turned c =
     let w = c.self.inside in
     let old = state_of w.topology.now w.moment.0 w.going w.nodes.items w.wire w.stopped in
     let again = subst (λ (x : WorldState). IsAgain x.going (event.Stranger c.in-Stranger.src c.in-Stranger.dst c.in-Stranger.bytes)) (sym c.self.view_is) (subst (IsAgain c.args.self.now.going) c.in-Stranger.is c.requires.again) in
-    let rest = subst (λ (x : WorldState). c.put_bytes.new.self ≡ record x { nodes = c.put_bytes.new.self.nodes; wire = c.put_bytes.new.self.wire; done = c.put_bytes.new.self.done }) (sym c.self.view_is) c.put_bytes.ensures.rest in
-    rw (c.in-Stranger.is, c.last-in-Stranger.ensures) (if_last c.put_bytes.result _ (λ word. subst (λ (x : WorldState). Turned x c.put_bytes.new.self (event.Stranger c.in-Stranger.src c.in-Stranger.dst c.in-Stranger.bytes) (Last word)) c.self.view_is (turned_last w.topology.now w.moment.0 w.going w.nodes.items w.wire w.stopped c.put_bytes.new.self (event.Stranger c.in-Stranger.src c.in-Stranger.dst c.in-Stranger.bytes) word refl again rest)))
+    let rest = subst (λ (x : WorldState). c.put_bytes.new.self ≡ record x { wire = c.put_bytes.new.self.wire; done = c.put_bytes.new.self.done }) (sym c.self.view_is) c.put_bytes.ensures.rest in
+    let whole = rest ∙ ap (λ (x : WorldState). record old { nodes = x.nodes; wire = c.put_bytes.new.self.wire; done = c.put_bytes.new.self.done }) (sym rest) in
+    rw (c.in-Stranger.is, c.last-in-Stranger.ensures) (if_last c.put_bytes.result _ (λ word. subst (λ (x : WorldState). Turned x c.put_bytes.new.self (event.Stranger c.in-Stranger.src c.in-Stranger.dst c.in-Stranger.bytes) (Last word)) c.self.view_is (turned_last w.topology.now w.moment.0 w.going w.nodes.items w.wire w.stopped c.put_bytes.new.self (event.Stranger c.in-Stranger.src c.in-Stranger.dst c.in-Stranger.bytes) word refl again whole)))
 
 pub returns-in-Copy-clause-turned : goal.returns-in-Copy-clause-turned
 returns-in-Copy-clause-turned c =
     let w = c.self.inside in
     let old = state_of w.topology.now w.moment.0 w.going w.nodes.items w.wire w.stopped in
     let again = subst (λ (x : WorldState). IsAgain x.going (event.Copy c.in-Copy.number c.in-Copy.src c.in-Copy.dst)) (sym c.self.view_is) (subst (IsAgain c.args.self.now.going) c.in-Copy.is c.requires.again) in
-    let rest = subst (λ (x : WorldState). c.copy.new.self ≡ record x { nodes = c.copy.new.self.nodes; wire = c.copy.new.self.wire; done = c.copy.new.self.done }) (sym c.self.view_is) c.copy.ensures.rest in
-    rw (c.in-Copy.is, c.last-in-Copy.ensures) (if_last c.copy.result _ (λ word. subst (λ (x : WorldState). Turned x c.copy.new.self (event.Copy c.in-Copy.number c.in-Copy.src c.in-Copy.dst) (Last word)) c.self.view_is (turned_last w.topology.now w.moment.0 w.going w.nodes.items w.wire w.stopped c.copy.new.self (event.Copy c.in-Copy.number c.in-Copy.src c.in-Copy.dst) word refl again rest)))
+    let rest = subst (λ (x : WorldState). c.copy.new.self ≡ record x { wire = c.copy.new.self.wire; done = c.copy.new.self.done }) (sym c.self.view_is) c.copy.ensures.rest in
+    let whole = rest ∙ ap (λ (x : WorldState). record old { nodes = x.nodes; wire = c.copy.new.self.wire; done = c.copy.new.self.done }) (sym rest) in
+    rw (c.in-Copy.is, c.last-in-Copy.ensures) (if_last c.copy.result _ (λ word. subst (λ (x : WorldState). Turned x c.copy.new.self (event.Copy c.in-Copy.number c.in-Copy.src c.in-Copy.dst) (Last word)) c.self.view_is (turned_last w.topology.now w.moment.0 w.going w.nodes.items w.wire w.stopped c.copy.new.self (event.Copy c.in-Copy.number c.in-Copy.src c.in-Copy.dst) word refl again whole)))
 
 pub returns-in-Deliver-clause-time : goal.returns-in-Deliver-clause-time
 returns-in-Deliver-clause-time c =
