@@ -1,15 +1,11 @@
-use Rattle.std.proofs.Common.{◌≡◌, ◌≤◌, ℕ, List, refl, sym, ap, subst, ◌∙◌, arith}
+use Rattle.std.proofs.Common.{◌≡◌, ℕ, List, refl, sym, ap, subst, ◌∙◌, arith}
 use Rattle.history.specs.declared.turn.Turn.TheVariants.{Last}
-use Rattle.history.specs.declared.event.Event.{Event}
 use Rattle.history.specs.declared.event.Event.TheVariants as event
 use Rattle.history.specs.declared.acts.Verb.TheVariants as verb
-use Rattle.history.specs.declared.records.Record.{Record}
 use Rattle.topology.specs.Topology.{node_at}
-use Rattle.history.specs.Full.{Full}
-use Rattle.legal.specs.Past.{Draws}
-use Rattle.legal.specs.Next.{numbered, plain, puts, hands_in, next_of}
-use Rattle.world.specs.World.{WorldState, StandsFor, IsAgain, state_of}
-use Rattle.world.specs.Playing.{Plays, PlaysTurn, Turned}
+use Rattle.legal.specs.Next.{numbered, plain, puts, hands_in}
+use Rattle.world.specs.World.{WorldState, IsAgain, state_of}
+use Rattle.world.specs.Playing.{Plays, Turned}
 use Rattle.world.proofs.Lasting.{plays_last, turned_last, if_last, rest_time}
 use Rattle.world.proofs.world.World.play.Goals as goal
 
@@ -188,4 +184,3 @@ returns-in-Forget-clause-turned c =
     let rest = subst (λ (x : WorldState). c.forget.new.self ≡ record x { nodes = c.forget.new.self.nodes }) (sym c.self.view_is) c.forget.ensures.rest in
     let whole = rest ∙ ap (λ (x : WorldState). record (state_of w.topology.now w.moment.0 w.going c.forget.new.self.nodes w.wire w.stopped) { wire = x.wire; done = x.done }) (sym rest) in
     rw (c.in-Forget.is) (subst (λ (x : WorldState). Turned x c.forget.new.self (event.Forget c.in-Forget.nat c.in-Forget.client) (Last c.forget.result)) c.self.view_is (turned_last w.topology.now w.moment.0 w.going w.nodes.items w.wire w.stopped c.forget.new.self (event.Forget c.in-Forget.nat c.in-Forget.client) c.forget.result refl again whole))
-
