@@ -1,11 +1,11 @@
 -- A node that acts: what it is asked, what comes onto the wire, and the record.
-use Rattle.std.proofs.Common.{◌≡◌, ◌≢◌, ◌≤◌, ◌<◌, ℕ, ◌+◌, ◌==◌, Bool, true, false, List, [], ◌∷◌, ◌++◌, length, append_assoc, Option, Some, None, Result, Ok, Err, refl, sym, ap, subst, ◌∙◌, arith, ◌⊎◌, inl, inr}
-use Rattle.std.specs.Prelude.{slice_get, option_and_then, option_map, filter_map, reverse, is_some}
+use Rattle.std.proofs.Common.{◌≡◌, ◌≢◌, ℕ, ◌+◌, ◌==◌, true, false, List, [], ◌∷◌, ◌++◌, length, Option, Some, refl, sym, ap, subst, ◌∙◌, arith, ◌⊎◌, inl, inr}
+use Rattle.std.specs.Prelude.{slice_get, option_and_then, filter_map, reverse, is_some}
 use Rattle.std.proofs.lemmas.Bool.{false≢true}
 use Rattle.std.proofs.lemmas.Bool.Decides.{eqb_tells}
 use Rattle.nat_kinds.specs.History.{Entry as NatEntry}
 use Rattle.teredo_node.specs.Step.{Step}
-use Rattle.teredo_node.specs.Journal.{Entry, Journal, with_entry}
+use Rattle.teredo_node.specs.Journal.{Entry, with_entry}
 use Rattle.topology.specs.declared.nat_node.NatNode.{NatNode}
 use Rattle.topology.specs.declared.client_node.ClientNode.{ClientNode}
 use Rattle.topology.specs.Rows.{TopologyState}
@@ -16,9 +16,9 @@ use Rattle.topology.specs.Topology.{node_at, nat_at, client_at, as_nat, as_clien
 use Rattle.history.specs.declared.acts.Act.{Act}
 use Rattle.history.specs.declared.mark.Mark.{Mark}
 use Rattle.history.specs.declared.records.Record.{Record}
-use Rattle.history.specs.Full.{Item, Made, Full, item_in, wire}
+use Rattle.history.specs.Full.{Item, Full, wire}
 use Rattle.history.specs.Records.{record_of, marks_of}
-use Rattle.legal.specs.Past.{Draws, is_node, is_restart, at_nat, with_entries, journal, drawn, words, out_of, outs_of, nat_entries, nat_history}
+use Rattle.legal.specs.Past.{Draws, is_node, at_nat, journal, drawn, words, out_of, outs_of, nat_entries, nat_history}
 use Rattle.legal.specs.Emit.{made_of}
 use Rattle.legal.specs.Next.{Numbered}
 use Rattle.legal.specs.Frame.{nat_of, nat_by, EachFrames}
@@ -26,7 +26,7 @@ use Rattle.world.specs.declared.answer.Asked.{Asked}
 use Rattle.world.specs.declared.call.Call.{Call}
 use Rattle.world.specs.declared.emission.Sender.{Sender}
 use Rattle.world.specs.declared.node_state.NodeState.{NodeState}
-use Rattle.world.specs.NodeState.{NodePast, past_of, IsKeptIn, NodesOf}
+use Rattle.world.specs.NodeState.{past_of, IsKeptIn, NodesOf}
 use Rattle.world.specs.Changes.{with_call}
 use Rattle.world.specs.Call.{entry_in}
 use Rattle.world.specs.Answers.{AsksFor, Asks}
@@ -45,10 +45,13 @@ itself_as : (d : Draws) (t : TopologyState) (H : List Full) (e : Numbered) (a : 
 itself_as d t H e a number x nothing = by x.node refl where
   r : Full
   r = acts_in d t H e a number x
+
   entry : Entry
   entry = entry_in d t H x
+
   its_journal : journal x.number (acts_in d t H e a number x ∷ H) ≡ with_entry (journal x.number H) (entry_in d t H x)
   its_journal = rw (is_itself x.number, starts_none t e.event a nothing) refl
+
   its_words : words d x.number (acts_in d t H e a number x ∷ H) ≡ (λ k. words d x.number H ((entry_in d t H x).step.drawn + k))
   its_words =
       let n = drawn x.number H in
@@ -56,8 +59,10 @@ itself_as d t H e a number x nothing = by x.node refl where
       let total : drawn x.number (acts_in d t H e a number x ∷ H) ≡ n + more = rw (is_itself x.number) refl in
       let regrouped : (k : ℕ) → n + more + k ≡ n + (more + k) = λ k. omega arith in
       ap (λ (m : ℕ). λ (k : ℕ). d x.number (m + k)) total ∙ (λ i k. d x.number (regrouped k i))
+
   its_history : nat_history t x.number (acts_in d t H e a number x ∷ H) ≡ nat_history t x.number H
   its_history = rw (is_itself x.number, nothing) refl
+
   by : (b : Node) → x.node ≡ b → AsPast b (with_call (entry_in d t H x) (past_of d t x.number H)) (past_of d t x.number (acts_in d t H e a number x ∷ H))
   by (server s) is = tt
   by (nat s) is = its_history
@@ -245,6 +250,7 @@ nodes_after frame x after new marks is done = λ k b at. by k b at (eqb_tells k 
   other k b at apart (inl (c, client_is, same)) =
       subst (λ (j : ℕ). After x after j b) same (after_its_nat frame x after new marks c b is done client_is (ap (node_at x.topology) same ∙ at))
   other k b at apart (inr elsewhere) = after_other frame x after new marks k b is done apart elsewhere at
+
   by : (k : ℕ) (b : Node) → node_at x.topology k ≡ Some b → ((k == x.call.number) ≡ true) × (k ≡ x.call.number) ⊎ ((k == x.call.number) ≡ false) × (k ≢ x.call.number) → After x after k b
   by k b at (inl (yeah, same)) =
       let is_a : x.call.node ≡ b = some_inj x.call.node b (sym is.there ∙ ap (node_at x.topology) (sym same) ∙ at) in

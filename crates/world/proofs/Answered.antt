@@ -1,5 +1,5 @@
 -- The record of a delivery, and of a node that acts.
-use Rattle.std.proofs.Common.{◌≡◌, ◌≢◌, ◌<◌, ◌+◌, ℕ, suc, Bool, true, false, List, [], ◌∷◌, ◌++◌, length, set, get_or, replicate, Option, Some, None, Result, Ok, Err, refl, sym, ap, subst, ◌∙◌, arith}
+use Rattle.std.proofs.Common.{◌≡◌, ◌<◌, ◌+◌, ℕ, Bool, true, false, List, [], ◌∷◌, ◌++◌, length, set, get_or, replicate, Option, Some, None, Result, Ok, Err, refl, sym, ap, subst, ◌∙◌, arith}
 use Rattle.std.specs.Prelude.{◌||◌, filter_map, slice_get, IsErrOf}
 use Rattle.std.proofs.lemmas.List.{length-append}
 use Rattle.teredo_node.specs.declared.fate.Fate.{Fate}
@@ -11,15 +11,13 @@ use Rattle.history.specs.declared.acts.Act.{Act}
 use Rattle.history.specs.declared.acts.Act.TheVariants as act
 use Rattle.history.specs.declared.mark.Mark.{Mark}
 use Rattle.history.specs.declared.records.Record.{Record}
-use Rattle.history.specs.Full.{Item, Made, Full, item_in, items_of, wire}
-use Rattle.history.specs.Records.{record_of}
-use Rattle.legal.specs.Past.{Draws, now, is_number, forgotten}
-use Rattle.legal.specs.Emit.{Route, reaches, closed, astray, route, made_of}
+use Rattle.history.specs.Full.{Item, Made, Full, item_in, items_of}
+use Rattle.legal.specs.Past.{Draws, is_number, forgotten}
+use Rattle.legal.specs.Emit.{Route, reaches, closed, astray, route}
 use Rattle.legal.specs.Next.{Numbered, acts, dst_of, input_of, blank, delivers, delivers_item, delivers_to}
 use Rattle.legal.specs.Frame.{EachFrames}
 use Rattle.history.specs.declared.turn.Stop.{Stop}
 use Rattle.history.specs.declared.turn.Stop.TheVariants as stop
-use Rattle.world.specs.declared.wire.TheConstants.{MOST_ENTRIES}
 use Rattle.world.specs.declared.node_state.NodeState.{NodeState}
 use Rattle.world.specs.NodeState.{NodesOf}
 use Rattle.world.specs.Answers.{WantsAny}
@@ -32,9 +30,9 @@ use Rattle.world.specs.Call.{dst_lent, input_lent}
 use Rattle.world.specs.declared.wire.WireEntry.{WireEntry}
 use Rattle.world.specs.WireEntry.{item_lent}
 use Rattle.world.proofs.States.{some_inj}
-use Rattle.world.specs.Playing.{acts_in, reached_by, Finds, Comes, Plays}
+use Rattle.world.specs.Playing.{acts_in, reached_by, Plays}
 use Rattle.world.proofs.Acting.{Doing, IsDoing, IsDone, sender_of, entry_by, record_by, said_by, said_is, nodes_after, is_emission, emitted}
-use Rattle.world.proofs.Played.{remembered, flags_same, Rests, rests, said_blank}
+use Rattle.world.proofs.Played.{remembered, flags_same, rests, said_blank}
 
 -- A NODE ACTS
 

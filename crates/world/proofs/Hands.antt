@@ -1,5 +1,5 @@
 -- Packets that hosts hand in.
-use Rattle.std.proofs.Common.{◌≡◌, ℕ, List, [], Option, Some, None, Result, Ok, refl, sym, ap, subst, ◌∙◌}
+use Rattle.std.proofs.Common.{◌≡◌, ℕ, List, [], Some, None, Result, Ok, refl, sym, ap, subst, ◌∙◌}
 use Rattle.teredo_node.specs.declared.fate.Fate.TheVariants as fate
 use Rattle.teredo_node.specs.Journal.{given}
 use Rattle.topology.specs.declared.node.Node.{Node}
@@ -8,7 +8,7 @@ use Rattle.history.specs.declared.acts.Verb.{Verb}
 use Rattle.history.specs.declared.records.Record.{Record}
 use Rattle.history.specs.declared.turn.Stop.{Stop}
 use Rattle.history.specs.Full.{Full}
-use Rattle.legal.specs.Past.{Draws, now, at_nat}
+use Rattle.legal.specs.Past.{Draws, at_nat}
 use Rattle.legal.specs.Next.{Numbered, plain, blank, acts, no_ep, hands_in}
 use Rattle.legal.specs.Frame.{EachFrames}
 use Rattle.world.specs.Record.{said}

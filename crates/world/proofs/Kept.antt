@@ -1,15 +1,14 @@
 -- What a record leaves of what is kept of the nodes.
-use Rattle.std.proofs.Common.{◌≡◌, ◌≢◌, ◌≤◌, ◌<◌, ℕ, ◌+◌, ◌==◌, Bool, true, false, List, [], ◌∷◌, ◌++◌, Option, Some, None, refl, sym, ap, subst, ◌∙◌, arith, ◌⊎◌, inl, inr}
+use Rattle.std.proofs.Common.{◌≡◌, ◌≢◌, ℕ, ◌+◌, ◌==◌, Bool, true, false, List, [], ◌∷◌, Option, Some, None, refl, sym, ap, subst, ◌∙◌, arith, ◌⊎◌, inl, inr}
 use Rattle.std.specs.Prelude.{slice_get, option_and_then, is_some}
 use Rattle.std.proofs.lemmas.Bool.{false≢true}
 use Rattle.std.proofs.lemmas.Bool.Decides.{eqb_tells}
 use Rattle.nat_kinds.specs.Nat as nats
 use Rattle.nat_kinds.specs.History.{Entry as NatEntry, Restart}
-use Rattle.teredo_node.specs.Journal.{Entry, Journal, Words}
+use Rattle.teredo_node.specs.Journal.{Journal}
 use Rattle.client_core.specs.Client.{ClientStandsFor}
 use Rattle.relay_core.specs.Relay.{RelayStandsFor}
 use Rattle.topology.specs.declared.nat_node.NatNode.{NatNode}
-use Rattle.topology.specs.declared.client_node.ClientNode.{ClientNode}
 use Rattle.topology.specs.Rows.{TopologyState}
 use Rattle.topology.specs.declared.node.Node.{Node}
 use Rattle.topology.specs.declared.node.Node.TheVariants.{Server as server, Nat as nat, Client as client, Relay as relay, Native as native}
@@ -17,7 +16,7 @@ use Rattle.topology.specs.Topology.{node_at, nat_at, as_nat}
 use Rattle.history.specs.declared.acts.Act.{Act}
 use Rattle.history.specs.declared.event.Event.{Event}
 use Rattle.history.specs.Full.{Full}
-use Rattle.legal.specs.Past.{Draws, is_node, is_restart, at_nat, journal, drawn, drawn_by, words, nat_history}
+use Rattle.legal.specs.Past.{Draws, is_node, is_restart, at_nat, journal, drawn, words}
 use Rattle.legal.specs.Frame.{nat_of, EachFrames}
 use Rattle.world.specs.declared.node_state.NodeState.{NodeState}
 use Rattle.world.specs.declared.node_state.NodeState.TheVariants as state

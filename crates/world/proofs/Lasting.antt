@@ -1,12 +1,12 @@
 -- Events that have one record.
-use Rattle.std.proofs.Common.{◌≡◌, ◌≤◌, ℕ, Bool, true, false, List, [], Option, Some, None, Result, Ok, Err, refl, sym, ap, subst, ◌∙◌, arith}
+use Rattle.std.proofs.Common.{◌≡◌, ◌≤◌, ℕ, Bool, true, false, List, Option, Some, None, Result, Ok, Err, refl, sym, ap, ◌∙◌, arith}
 use Rattle.std.specs.Prelude.{IfOk}
 use Rattle.std.proofs.lemmas.Bool.{false≢true}
 use Rattle.history.specs.declared.event.Event.{Event}
 use Rattle.history.specs.declared.event.Event.TheVariants as event
 use Rattle.history.specs.declared.records.Record.{Record}
 use Rattle.history.specs.declared.turn.Turn.{Turn}
-use Rattle.history.specs.declared.turn.Turn.TheVariants.{More, Last}
+use Rattle.history.specs.declared.turn.Turn.TheVariants.{Last}
 use Rattle.history.specs.declared.turn.Stop.{Stop}
 use Rattle.topology.specs.Rows.{TopologyState}
 use Rattle.history.specs.Full.{Full}
@@ -16,7 +16,7 @@ use Rattle.legal.specs.Laws.{EachIsOfItsEvent}
 use Rattle.world.specs.declared.going.Going.{Going}
 use Rattle.world.specs.declared.node_state.NodeState.{NodeState}
 use Rattle.world.specs.Wire.{WireState}
-use Rattle.world.specs.World.{WorldState, StandsFor, IsAgain, event_in, began_in, state_of}
+use Rattle.world.specs.World.{WorldState, IsAgain, event_in, began_in, state_of}
 use Rattle.world.specs.Playing.{Plays, last_of, PlaysTurn, Turned}
 
 abbrev pub is_advance : Event → Bool

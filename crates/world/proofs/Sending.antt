@@ -1,6 +1,6 @@
 -- What a client sends comes onto the wire through its NAT.
-use Rattle.std.proofs.Common.{◌≡◌, ◌≢◌, ◌<◌, ℕ, suc, ◌+◌, Bool, true, false, List, [], ◌∷◌, ◌++◌, length, Option, Some, None, refl, sym, ap, subst, ◌∙◌, arith}
-use Rattle.std.specs.Prelude.{slice_get, option_and_then, is_some, filter_map}
+use Rattle.std.proofs.Common.{◌≡◌, ◌<◌, ℕ, suc, ◌+◌, Bool, true, false, List, [], ◌∷◌, ◌++◌, length, Option, Some, None, refl, sym, ap, subst, ◌∙◌, arith}
+use Rattle.std.specs.Prelude.{slice_get, is_some, filter_map}
 use Rattle.std.proofs.lemmas.Bool.{false≢true}
 use Rattle.td_base.specs.declared.endpoint.Ep.{Ep}
 use Rattle.nat_kinds.specs.declared.settings.NatSettings.{NatSettings}
@@ -17,7 +17,7 @@ use Rattle.topology.specs.declared.client_node.ClientNode.{ClientNode}
 use Rattle.topology.specs.Rows.{TopologyState}
 use Rattle.topology.specs.declared.node.Node.{Node}
 use Rattle.topology.specs.declared.node.Node.TheVariants.{Server as server, Nat as nat, Client as client, Relay as relay, Native as native}
-use Rattle.topology.specs.Topology.{nat_at, nat_settings, settings_of_nat, as_client, own_ep}
+use Rattle.topology.specs.Topology.{nat_at, settings_of_nat, as_client, own_ep}
 use Rattle.history.specs.declared.mark.Mark.{Mark}
 use Rattle.history.specs.Full.{Item, Made, Full, item_in}
 use Rattle.history.specs.Records.{marks_of}
@@ -32,7 +32,7 @@ use Rattle.world.specs.declared.outlet.Outlet.{Outlet}
 use Rattle.world.specs.Sends.{Grows, history_after, Passes, source_of, made_by, packet_made, all_made}
 use Rattle.world.specs.Answers.{packet_by, six_part}
 use Rattle.world.proofs.Emitted.{entries_append, made_outright_by}
-use Rattle.world.specs.Emission.{IsEmission, sent_through, Emitted, Emits, IsTooMuch, MakesAny}
+use Rattle.world.specs.Emission.{IsEmission, sent_through, Emits, IsTooMuch, MakesAny}
 use Rattle.world.specs.Wire.{WireState}
 use Rattle.world.proofs.States.{some_inj}
 

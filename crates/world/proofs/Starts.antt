@@ -1,26 +1,23 @@
 -- Restarts, and NATs that forget.
-use Rattle.std.proofs.Common.{◌≡◌, ◌≢◌, ℕ, ◌+◌, ◌==◌, Bool, true, false, List, [], ◌∷◌, ◌++◌, Option, Some, None, Ok, refl, sym, ap, subst, ◌∙◌, arith, ◌⊎◌, inl, inr}
-use Rattle.std.specs.Prelude.{slice_get, option_and_then, is_some, filter_map, reverse}
+use Rattle.std.proofs.Common.{◌≡◌, ◌≢◌, ℕ, ◌+◌, ◌==◌, Bool, true, false, List, [], ◌∷◌, Option, Some, None, Ok, refl, sym, ap, subst, ◌∙◌, arith, ◌⊎◌, inl, inr}
+use Rattle.std.specs.Prelude.{slice_get, option_and_then}
 use Rattle.std.proofs.lemmas.Bool.{false≢true}
 use Rattle.std.proofs.lemmas.Bool.Decides.{eqb_tells}
-use Rattle.td_base.specs.declared.endpoint.Ep.{Ep}
-use Rattle.nat_kinds.specs.History.{Entry as NatEntry, Restart, Forget}
 use Rattle.teredo_node.specs.declared.fate.Fate.TheVariants as fate
-use Rattle.topology.specs.declared.nat_node.NatNode.{NatNode}
 use Rattle.topology.specs.declared.client_node.ClientNode.{ClientNode}
 use Rattle.topology.specs.declared.node.Node.{Node}
 use Rattle.topology.specs.declared.node.Node.TheVariants.{Server as server, Nat as nat, Client as client, Relay as relay, Native as native}
 use Rattle.topology.specs.Rows.{TopologyState}
 use Rattle.topology.specs.Named.{is_client_of}
-use Rattle.topology.specs.Topology.{node_at, nat_at, client_at, as_client}
+use Rattle.topology.specs.Topology.{node_at, client_at}
 use Rattle.history.specs.declared.event.Event.TheVariants as event
 use Rattle.history.specs.declared.acts.Verb.TheVariants as verb
 use Rattle.history.specs.Events.{IsForgotten}
 use Rattle.history.specs.Full.{Full}
-use Rattle.legal.specs.Past.{Draws, now, is_node, drawn, journal, outs_of, out_of, nat_entries, nat_history, new_journal}
+use Rattle.legal.specs.Past.{Draws, now, is_node, drawn, journal, outs_of, new_journal}
 use Rattle.legal.specs.Next.{plain, next_of}
 use Rattle.world.specs.declared.node_state.NodeState.{NodeState}
-use Rattle.world.specs.NodeState.{NodePast, past_of, IsKeptIn, NodesOf}
+use Rattle.world.specs.NodeState.{past_of, IsKeptIn, NodesOf}
 use Rattle.world.specs.Changes.{restarted, forgetting, RestartsIn, ForgetsIn}
 use Rattle.world.specs.Record.{said}
 use Rattle.world.specs.World.{WorldState, StandsFor}
@@ -41,8 +38,10 @@ others : (d : Draws) (t : TopologyState) (H : List Full) (r : Full) (k : ℕ) (b
 others d t H r k b apart none = by b where
   nope : is_node k r.node ≡ false
   nope = not_node k r.node apart
+
   its_journal : journal k (r ∷ H) ≡ journal k H
   its_journal = rw nope refl
+
   by : (b : Node) → AsPast b (past_of d t k H) (past_of d t k (r ∷ H))
   by (nat a) = rw (nope, none, no_outs k r.moment (option_and_then (client_at t) r.node)) refl
   by (client c) = (its_journal, words_same d k r H (draws_none k r H nope))
@@ -76,10 +75,13 @@ restart_as : (d : Draws) (t : TopologyState) (H : List Full) (i n m : ℕ) (b : 
 restart_as d t H i n m b same = by b where
   r : Full
   r = next_of d t H i (event.Restart n)
+
   its_journal : journal n (next_of d t H i (event.Restart n) ∷ H) ≡ new_journal m
   its_journal = rw (is_itself n) (ap new_journal (sym same))
+
   its_words : drawn n (next_of d t H i (event.Restart n) ∷ H) ≡ drawn n H
   its_words = let none : drawn n H + 0 ≡ drawn n H = omega arith in rw (is_itself n) none
+
   by : (b : Node) → AsPast b (restarted m (past_of d t n H)) (past_of d t n (next_of d t H i (event.Restart n) ∷ H))
   by (nat a) = rw (is_itself n) refl
   by (client c) = (its_journal, words_same d n (next_of d t H i (event.Restart n)) H its_words)
@@ -109,8 +111,10 @@ forget_as : (d : Draws) (t : TopologyState) (H : List Full) (i n who : ℕ) (c :
 forget_as d t H i n who c b there = by b where
   its_journal : journal n (next_of d t H i (event.Forget n who) ∷ H) ≡ journal n H
   its_journal = rw (is_itself n) refl
+
   its_words : drawn n (next_of d t H i (event.Forget n who) ∷ H) ≡ drawn n H
   its_words = let none : drawn n H + 0 ≡ drawn n H = omega arith in rw (is_itself n) none
+
   by : (b : Node) → AsPast b (forgetting c.inside (past_of d t n H)) (past_of d t n (next_of d t H i (event.Forget n who) ∷ H))
   by (nat a) = rw (is_itself n, there) refl
   by (client x) = (its_journal, words_same d n (next_of d t H i (event.Forget n who)) H its_words)

@@ -1,9 +1,8 @@
 -- What one step does to the histories that a world stands for.
-use Rattle.std.proofs.Common.{◌≡◌, ◌≤◌, ◌<◌, ◌+◌, ℕ, Bool, true, false, List, [], ◌∷◌, ◌++◌, Option, Some, None, Ok, refl, sym, ap, subst, ◌∙◌, arith}
+use Rattle.std.proofs.Common.{◌≡◌, ◌≤◌, ℕ, Bool, List, [], ◌∷◌, ◌++◌, Option, Some, None, Ok, refl, sym, ap, subst, ◌∙◌, arith}
 use Rattle.std.specs.Prelude.{◌||◌}
 use Rattle.history.specs.declared.event.Event.{Event}
 use Rattle.history.specs.Events.{IsEvent}
-use Rattle.history.specs.declared.records.Record.{Record}
 use Rattle.history.specs.declared.turn.Turn.{Turn}
 use Rattle.history.specs.declared.turn.Turn.TheVariants.{More, Last}
 use Rattle.topology.specs.Rows.{TopologyState}
@@ -14,7 +13,7 @@ use Rattle.legal.specs.Left.{left}
 use Rattle.legal.specs.Past.{Draws, began, going, has_more, is_number}
 use Rattle.legal.specs.Next.{next_of}
 use Rattle.legal.specs.Legal.{GoesOn, Follows, Grown}
-use Rattle.legal.specs.Laws.{IsOf, EachIsOfItsEvent, EachIsTold, EachFalls}
+use Rattle.legal.specs.Laws.{EachIsOfItsEvent, EachIsTold, EachFalls}
 use Rattle.world.specs.NodeState.{NodesOf}
 use Rattle.world.specs.World.{WorldState, StandsFor, IsAgain, Steps, Falls, going_after, is_more}
 use Rattle.world.specs.Playing.{Comes, PlaysTurn, GoesFrom, Turned}

@@ -1,7 +1,7 @@
 -- The words that clients draw.
-use Rattle.std.proofs.Common.{◌≡◌, ℕ, zero, suc, ◌+◌, ◌%◌, ◌^◌, ◌<◌, List, sym, ap, ◌∙◌, arith}
-use Rattle.rand_chacha.specs.ChaCha.{ChaCha, next_word, word_at, key_of, of_seed}
-use Rattle.qualify.specs.Generator.{chacha20, words_of, after_words}
+use Rattle.std.proofs.Common.{◌≡◌, ℕ, zero, suc, ◌+◌, ◌%◌, ◌^◌, ◌<◌, List, ap, ◌∙◌, arith}
+use Rattle.rand_chacha.specs.ChaCha.{ChaCha, word_at, key_of, of_seed}
+use Rattle.qualify.specs.Generator.{chacha20, words_of}
 use Rattle.legal.specs.Legal.{stream_key, draws}
 
 abbrev at : List ℕ → ℕ → ChaCha

@@ -1,6 +1,6 @@
 -- The ticks of an advance, and its end.
-use Rattle.std.proofs.Common.{◌≡◌, ◌≤◌, ◌<◌, ◌+◌, ℕ, suc, zero, Bool, true, false, max, List, [], ◌∷◌, ◌++◌, get_or, Option, Some, None, Ok, refl, sym, ap, subst, ◌∙◌, arith, ◌⊎◌, inl, inr}
-use Rattle.std.specs.Prelude.{slice_get, option_map, nat_lt, nat_le, is_some, IfSome, if◌then◌else◌}
+use Rattle.std.proofs.Common.{◌≡◌, ◌≤◌, ◌<◌, ◌+◌, ℕ, suc, Bool, true, false, max, List, [], ◌∷◌, get_or, Option, Some, None, Ok, refl, sym, ap, subst, ◌∙◌, arith, ◌⊎◌, inl, inr}
+use Rattle.std.specs.Prelude.{slice_get, option_map, nat_lt, nat_le, is_some, IfSome}
 use Rattle.std.proofs.lemmas.Bool.{false≢true}
 use Rattle.std.proofs.lemmas.Bool.Decides.{nat_tests}
 use Rattle.teredo_node.specs.declared.fate.Fate.TheVariants as fate
@@ -17,7 +17,7 @@ use Rattle.history.specs.declared.turn.Turn.TheVariants.{More, Last}
 use Rattle.history.specs.Full.{Full}
 use Rattle.legal.specs.Past.{Draws, now, began, has_more}
 use Rattle.legal.specs.Emit.{due_of}
-use Rattle.legal.specs.Next.{Numbered, numbered, plain, acts, no_ep, Due, earlier, least_due, advanced, advance_with, next_of}
+use Rattle.legal.specs.Next.{numbered, plain, acts, no_ep, Due, earlier, least_due, advanced, advance_with, next_of}
 use Rattle.legal.specs.Frame.{EachFrames}
 use Rattle.world.specs.declared.due.Due as found
 use Rattle.world.specs.Due.{due_is}

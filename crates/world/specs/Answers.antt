@@ -1,8 +1,8 @@
 -- What a node that is asked does, for all that its state stands for.
-use Rattle.std.specs.Prelude.{◌≡◌, ◌≢◌, ℕ, true, List, [], length, slice_get, Option, Some, None, option_map}
+use Rattle.std.specs.Prelude.{◌≡◌, ℕ, true, List, [], length, slice_get, Option, Some, None, option_map}
 use Rattle.td_base.specs.declared.span.Span.{Span}
 use Rattle.teredo_node.specs.Step.{Step, part}
-use Rattle.teredo_node.specs.Journal.{Input, arrived, given, from_six, ticked, Entry, Journal}
+use Rattle.teredo_node.specs.Journal.{Input, arrived, Entry, Journal}
 use Rattle.relay_core.specs.declared.relay.Relay.{Relay}
 use Rattle.relay_core.specs.Relay.{RelayStandsFor}
 use Rattle.relay_core.specs.Relay as relays
@@ -10,7 +10,7 @@ use Rattle.client_core.specs.declared.client.Client.{Client}
 use Rattle.client_core.specs.Client.{ClientStandsFor, next_entry}
 use Rattle.topology.specs.Rows.{TopologyState}
 use Rattle.topology.specs.declared.node.Node.{Node}
-use Rattle.topology.specs.declared.node.Node.TheVariants.{Server as server, Nat as nat, Client as client, Relay as relay, Native as native}
+use Rattle.topology.specs.declared.node.Node.TheVariants.{Nat as nat, Client as client, Relay as relay, Native as native}
 use Rattle.history.specs.Full.{Full}
 use Rattle.legal.specs.Past.{Draws}
 use Rattle.legal.specs.Emit.{native_packet, made_of, address_by, handed_by}

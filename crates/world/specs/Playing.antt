@@ -14,7 +14,7 @@ use Rattle.history.specs.declared.acts.Act.TheVariants as act
 use Rattle.history.specs.Full.{Item, Full, wire, items_of}
 use Rattle.history.specs.Records.{record_of}
 use Rattle.legal.specs.declared.left.TheConstants.{MOST_LEFT}
-use Rattle.legal.specs.Past.{Draws, has_more, is_number, was_delivered}
+use Rattle.legal.specs.Past.{Draws, has_more, is_number}
 use Rattle.legal.specs.Next as next
 use Rattle.legal.specs.Next.{Numbered, acts, no_ep, dst_of, input_of}
 use Rattle.world.specs.declared.call.Call.{Call}

@@ -391,11 +391,7 @@ fn ask_native(
 }
 
 /// Lets a node of a number within reach, which is no native host, do what is asked of it.
-fn ask_kept(
-    nodes: &mut Vec<NodeState>,
-    call: Call<'_>,
-    step: &mut Step,
-) -> Result<Asked, NoMemory>
+fn ask_kept(nodes: &mut Vec<NodeState>, call: Call<'_>, step: &mut Step) -> Result<Asked, NoMemory>
     requires kind { IsNoNative call.node }
     requires within { call.number < length nodes.old.items }
     requires short { IsShortInput (input_lent call.coming) }
@@ -425,11 +421,7 @@ fn ask_kept(
 }
 
 /// Lets a node do what is asked of it.
-pub fn ask(
-    nodes: &mut Vec<NodeState>,
-    call: Call<'_>,
-    step: &mut Step,
-) -> Result<Asked, NoMemory>
+pub fn ask(nodes: &mut Vec<NodeState>, call: Call<'_>, step: &mut Step) -> Result<Asked, NoMemory>
     requires short { IsShortInput (input_lent call.coming) }
     requires early { call.now.0 < CLOCK_END_MS }
     requires ready { AreReady call.now.0 nodes.old.items }

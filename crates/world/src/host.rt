@@ -107,11 +107,10 @@ fn address_of_client(nodes: &[NodeState], number: u16) -> Ip6
     ensures { (t : TopologyState) (row : ClientNode) (x : NodePast) → IsKeptIn t number (client row) x (slice_get nodes.now number)
         → result ≡ own_address (qualification (client_settings t row) x.journal) }
 {
-    let place = usize::from(number);
-    if place >= nodes.len() {
-        return UNSPECIFIED;
+    match nodes.get(usize::from(number)) {
+        Some(state) => address_in(state),
+        None => UNSPECIFIED,
     }
-    address_in(&nodes[place])
 }
 
 /// The address of the host of a node: a client's, or `::` where it isn't qualified; a native host's.

@@ -68,7 +68,13 @@ fn settings_of(topology: &Topology, row: ClientNode) -> Settings
 }
 
 /// A client that starts at moment 0, with its own stream of random words.
-fn first_client(alloc: Global, topology: &Topology, seed: u64, number: usize, row: ClientNode) -> Client
+fn first_client(
+    alloc: Global,
+    topology: &Topology,
+    seed: u64,
+    number: usize,
+    row: ClientNode,
+) -> Client
     requires settings { IsSettings (client_settings topology.now row) }
     ensures kept { IsClientOf (client_settings topology.now row) result (new_journal 0) (λ k. draws seed number (0 + k)) }
     ensures moment { result.peers.moment ≡ 0 }
@@ -118,12 +124,7 @@ fn first_state(
 {
     let _rules = topology.clients();
     match node {
-        Node::Nat(row) => Ok(NodeState::Nat(Nat::new(
-            alloc,
-            row.kind,
-            row.external,
-            row.idle,
-        ))),
+        Node::Nat(row) => Ok(NodeState::Nat(Nat::new(alloc, row.kind, row.external, row.idle))),
         Node::Client(row) => Ok(NodeState::Client(first_client(
             alloc, topology, seed, number, row,
         ))),
@@ -134,7 +135,11 @@ fn first_state(
 }
 
 /// Those of all nodes, by their numbers.
-pub fn first_states(alloc: Global, topology: &Topology, seed: u64) -> Result<Vec<NodeState>, NoMemory>
+pub fn first_states(
+    alloc: Global,
+    topology: &Topology,
+    seed: u64,
+) -> Result<Vec<NodeState>, NoMemory>
     ensures kept { IfOk result (λ states. NodesOf (draws seed) topology.now states.items []) }
     ensures ready { IfOk result (λ states. AreReady 0 states.items) }
 {

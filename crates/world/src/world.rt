@@ -243,7 +243,13 @@ impl<'a> World<'a> {
     }
 
     /// Lets the host of a node send data.
-    fn send_data(&mut self, index: u32, number: u16, to: Target, body: &[u8]) -> Result<Record, Stop>
+    fn send_data(
+        &mut self,
+        index: u32,
+        number: u16,
+        to: Target,
+        body: &[u8],
+    ) -> Result<Record, Stop>
         requires short { length body.now ≤ MOST_BODY }
         ensures plays { (d : Draws) (H : List Full) → StandsFor d self.old H
             → Plays d self.old self.new H (next_of d self.old.topology H index (event.Host number to body.now)) result }
@@ -496,7 +502,12 @@ impl<'a> World<'a> {
                 last(self.send_data(index, *node, *to, body.as_slice()))
             }
             Event::Echo { node, to, seq } => last(self.send_echo(index, *node, *to, *seq)),
-            Event::Raw { node, bytes } => last(self.hand(index, Verb::Raw, *node, bytes.as_slice())),
+            Event::Raw { node, bytes } => last(self.hand(
+                index,
+                Verb::Raw,
+                *node,
+                bytes.as_slice(),
+            )),
             Event::Stranger { src, dst, bytes } => {
                 let act = Act::Plain {
                     verb: Verb::Stranger,

@@ -1,4 +1,3 @@
-use Rattle.std.proofs.Common.{◌≡◌}
 use Rattle.world.proofs.answer.address_of.Goals as goal
 
 pub returns-in-Client : goal.returns-in-Client

@@ -1,5 +1,3 @@
-use Rattle.std.proofs.Common.{◌≡◌, ap, sym, subst, ◌∙◌}
-use Rattle.topology.specs.declared.node.Node.{Node}
 use Rattle.world.proofs.Results.{if_ok_map, if_ok_both}
 use Rattle.world.proofs.Sending.{without_packet, IsOwn, emits_outright, too_much_outright, makes_outright}
 use Rattle.world.proofs.emission.emit.Goals as goal

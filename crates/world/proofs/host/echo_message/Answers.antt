@@ -1,4 +1,4 @@
-use Rattle.std.proofs.Common.{ℕ, [], arith}
+use Rattle.std.proofs.Common.{[], arith}
 use Rattle.std.specs.Prelude.{replicate}
 use Rattle.icmp6.specs.Message.{echo_request}
 use Rattle.icmp6.specs.Layout.{message_bytes}

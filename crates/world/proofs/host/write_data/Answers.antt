@@ -1,5 +1,4 @@
-use Rattle.std.proofs.Common.{ℕ, arith}
-use Rattle.std.specs.Prelude.{replicate}
+use Rattle.std.proofs.Common.{arith}
 use Rattle.ipv6_packet.specs.Packets.{packet_bytes}
 use Rattle.legal.specs.Next.{data_packet}
 use Rattle.world.proofs.Hosts.{has_room, packet_len}

@@ -1,4 +1,4 @@
-use Rattle.std.proofs.Common.{◌≡◌, Some, ap, ◌∙◌}
+use Rattle.std.proofs.Common.{Some, ap, ◌∙◌}
 use Rattle.topology.specs.declared.node.Node.{Node}
 use Rattle.world.proofs.States.{is_settings}
 use Rattle.world.proofs.node_state.first_state.Goals as goal

@@ -1,8 +1,8 @@
-use Rattle.std.proofs.Common.{◌≡◌, Some, None, ap, sym, ◌∙◌}
+use Rattle.std.proofs.Common.{◌≡◌, Some, ap, sym, ◌∙◌}
 use Rattle.std.specs.Prelude.{option_and_then}
 use Rattle.topology.specs.declared.node.Node.{Node}
 use Rattle.topology.specs.declared.node.Node.TheVariants.{Nat as nat}
-use Rattle.topology.specs.Topology.{node_at, as_nat, number_of, is_at}
+use Rattle.topology.specs.Topology.{node_at, as_nat}
 use Rattle.legal.specs.Emit.{reach, reach_node, through}
 use Rattle.world.proofs.way.datagram_way.Goals as goal
 

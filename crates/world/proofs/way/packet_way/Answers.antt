@@ -1,4 +1,4 @@
-use Rattle.std.proofs.Common.{◌≡◌, None, ◌∙◌, ap, sym}
+use Rattle.std.proofs.Common.{◌∙◌, ap}
 use Rattle.legal.specs.Emit.{reach}
 use Rattle.world.proofs.way.packet_way.Goals as goal
 

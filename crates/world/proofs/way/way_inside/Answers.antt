@@ -1,7 +1,4 @@
-use Rattle.std.proofs.Common.{◌≡◌, Some, None, ap, sym, ◌∙◌}
-use Rattle.topology.specs.Topology.{nat_settings}
-use Rattle.nat_kinds.specs.Entering.{lets_in}
-use Rattle.legal.specs.Past.{nat_history}
+use Rattle.std.proofs.Common.{ap, sym, ◌∙◌}
 use Rattle.legal.specs.Emit.{route_inside, reach}
 use Rattle.world.proofs.way.way_inside.Goals as goal
 

@@ -1,8 +1,8 @@
-use Rattle.std.proofs.Common.{◌≡◌, ℕ, List, [], Some, None, Ok, Err, refl, sym, ap, subst, ◌∙◌}
+use Rattle.std.proofs.Common.{◌≡◌, List, [], Some, None, Ok, refl, sym, ap, subst, ◌∙◌}
 use Rattle.topology.specs.Topology.{node_at}
 use Rattle.history.specs.declared.event.Event.{Event}
 use Rattle.history.specs.declared.records.Record.{Record}
-use Rattle.history.specs.Full.{Item, Full}
+use Rattle.history.specs.Full.{Full}
 use Rattle.legal.specs.Past.{Draws, at_nat}
 use Rattle.legal.specs.Next.{numbered}
 use Rattle.world.specs.World.{WorldState, NeedsMemory, IsCause, state_of}
@@ -22,11 +22,27 @@ returns-in-Err-clause-plays c =
     let w = c.self.inside in
     let old = state_of w.topology.now w.moment.0 w.going w.nodes.items w.wire w.stopped in
     let doing : Draws → List Full → Event → Doing = λ d H e. record {
-      draws = d; topology = w.topology.now; history = H; event = numbered c.args.index e; act = c.args.act; delivered = None; call = c.args.call;
-      before = w.nodes.items; mid = c.ask.new.nodes.items; step = c.ask.new.step; asked = c.in-Ok.asked; old = w.wire;
+      draws = d;
+      topology = w.topology.now;
+      history = H;
+      event = numbered c.args.index e;
+      act = c.args.act;
+      delivered = None;
+      call = c.args.call;
+      before = w.nodes.items;
+      mid = c.ask.new.nodes.items;
+      step = c.ask.new.step;
+      asked = c.in-Ok.asked;
+      old = w.wire;
     } in
     let is : (d : Draws) (H : List Full) (e : Event) → Finds d old H → at_nat w.topology.now e c.args.act ≡ [] → node_at w.topology.now c.args.call.number ≡ Some c.args.call.node → IsDoing (doing d H e) = λ d H e s quiet there. record {
-      nodes = s.nodes; wire = s.wire; there = there; rules = c.self.invariant.rules; quiet = quiet; asks = c.in-Ok.ensures.asks; elsewhere = c.ask.ensures.elsewhere;
+      nodes = s.nodes;
+      wire = s.wire;
+      there = there;
+      rules = c.self.invariant.rules;
+      quiet = quiet;
+      asks = c.in-Ok.ensures.asks;
+      elsewhere = c.ask.ensures.elsewhere;
     } in
     subst (λ (x : WorldState). (d : Draws) (H : List Full) → Finds d x H → (e : Event) → at_nat x.topology e c.args.act ≡ [] → node_at x.topology c.args.call.number ≡ Some c.args.call.node → IsCause x (acts_in d x.topology H (numbered c.args.index e) c.args.act None c.args.call) c.in-Err.stop) c.self.view_is (λ d H s e quiet there.
     stops_for old (record_by (doing d H e)) c.emit.result c.in-Err.stop c.in-Err.is
@@ -38,11 +54,27 @@ returns-clause-plays c =
     let w = c.self.inside in
     let old = state_of w.topology.now w.moment.0 w.going w.nodes.items w.wire w.stopped in
     let doing : Draws → List Full → Event → Doing = λ d H e. record {
-      draws = d; topology = w.topology.now; history = H; event = numbered c.args.index e; act = c.args.act; delivered = None; call = c.args.call;
-      before = w.nodes.items; mid = c.ask.new.nodes.items; step = c.ask.new.step; asked = c.in-Ok.asked; old = w.wire;
+      draws = d;
+      topology = w.topology.now;
+      history = H;
+      event = numbered c.args.index e;
+      act = c.args.act;
+      delivered = None;
+      call = c.args.call;
+      before = w.nodes.items;
+      mid = c.ask.new.nodes.items;
+      step = c.ask.new.step;
+      asked = c.in-Ok.asked;
+      old = w.wire;
     } in
     let is : (d : Draws) (H : List Full) (e : Event) → Finds d old H → at_nat w.topology.now e c.args.act ≡ [] → node_at w.topology.now c.args.call.number ≡ Some c.args.call.node → IsDoing (doing d H e) = λ d H e s quiet there. record {
-      nodes = s.nodes; wire = s.wire; there = there; rules = c.self.invariant.rules; quiet = quiet; asks = c.in-Ok.ensures.asks; elsewhere = c.ask.ensures.elsewhere;
+      nodes = s.nodes;
+      wire = s.wire;
+      there = there;
+      rules = c.self.invariant.rules;
+      quiet = quiet;
+      asks = c.in-Ok.ensures.asks;
+      elsewhere = c.ask.ensures.elsewhere;
     } in
     let new = state_of w.topology.now w.moment.0 w.going c.emit.new.nodes.items c.emit.new.wire w.stopped in
     let said : Record = record c.acted-record.result { handed = c.in-Ok.asked.handed; address = c.in-Ok.asked.address } in

@@ -1,17 +1,15 @@
-use Rattle.std.proofs.Common.{◌≡◌, ◌≤◌, ◌<◌, ◌+◌, ℕ, [], Some, None, Ok, refl, sym, ap, subst, ◌∙◌, arith}
+use Rattle.std.proofs.Common.{◌≡◌, ◌+◌, ℕ, [], None, refl, sym, ap, subst, ◌∙◌, arith}
 use Rattle.std.proofs.lemmas.Bool.Decides.{nat_tests}
 use Rattle.teredo_node.specs.declared.fate.Fate.TheVariants as fate
 use Rattle.history.specs.declared.acts.Verb.TheVariants as verb
 use Rattle.history.specs.declared.event.Event.TheVariants as event
-use Rattle.history.specs.declared.turn.Turn.TheVariants.{Last}
-use Rattle.history.specs.Full.{Full}
 use Rattle.topology.specs.Rules.{IsTopology}
 use Rattle.topology.specs.Topology.{nodes}
-use Rattle.legal.specs.Next.{plain, least_due, next_of}
+use Rattle.legal.specs.Next.{plain, least_due}
 use Rattle.world.specs.Due.{due_is}
 use Rattle.world.specs.Record.{said}
-use Rattle.world.specs.World.{WorldState, IsAgain, event_in, began_in, left_in}
-use Rattle.world.specs.Playing.{IsPast, PlaysTurn}
+use Rattle.world.specs.World.{WorldState, IsAgain}
+use Rattle.world.specs.Playing.{IsPast}
 use Rattle.world.proofs.Ticking.{passes, ticks, tick_stops, some_left, due_is_there, same_ms, in_going, few_left}
 use Rattle.world.proofs.world.World.advance.Goals as goal
 

@@ -1,12 +1,11 @@
-use Rattle.std.proofs.Common.{◌≡◌, ℕ, List, ◌++◌, [], Some, None, Ok, sym, ap, subst, ◌∙◌, refl}
+use Rattle.std.proofs.Common.{◌≡◌, List, [], Some, None, Ok, sym, ap, subst, ◌∙◌}
 use Rattle.std.specs.Prelude.{slice_get, option_map}
 use Rattle.teredo_node.specs.declared.fate.Fate.TheVariants as fate
 use Rattle.topology.specs.Topology.{node_at}
 use Rattle.history.specs.declared.event.Event.{Event}
 use Rattle.history.specs.declared.acts.Act.TheVariants as act
-use Rattle.history.specs.Full.{Item, Full}
+use Rattle.history.specs.Full.{Full}
 use Rattle.legal.specs.Past.{Draws, forgotten}
-use Rattle.legal.specs.Emit.{route}
 use Rattle.legal.specs.Next.{numbered}
 use Rattle.world.specs.Wire.{WireState}
 use Rattle.world.specs.WireEntry.{item_lent}
@@ -15,7 +14,6 @@ use Rattle.world.specs.NodeState.{NodesOf}
 use Rattle.world.specs.Record.{said}
 use Rattle.world.specs.World.{WorldState, StandsFor, state_of}
 use Rattle.world.specs.Playing.{Finds, Plays, reached_by}
-use Rattle.world.specs.declared.way.Way.TheVariants.{Reaches}
 use Rattle.world.proofs.Answered as answered
 use Rattle.world.proofs.Answered.{Delivery, IsDelivery, record_in}
 use Rattle.world.proofs.world.World.deliver.Goals as goal

@@ -1,17 +1,9 @@
-use Rattle.std.proofs.Common.{◌≡◌, ◌<◌, ℕ, List, [], length, get_or, true, false, None, Ok, sym, ap, subst, ◌∙◌, refl}
-use Rattle.std.specs.Prelude.{slice_get, option_map}
+use Rattle.std.proofs.Common.{◌≡◌, ◌<◌, ℕ, [], length, get_or, true, false, None, Ok, sym, ap, subst, ◌∙◌, refl}
 use Rattle.teredo_node.specs.declared.fate.Fate.TheVariants as fate
-use Rattle.history.specs.declared.event.Event.{Event}
 use Rattle.history.specs.declared.event.Event.TheVariants as event
-use Rattle.history.specs.declared.acts.Act.TheVariants as act
 use Rattle.history.specs.declared.acts.Verb.TheVariants as verb
-use Rattle.history.specs.Full.{Item, Full}
-use Rattle.legal.specs.Past.{Draws, forgotten}
-use Rattle.legal.specs.Emit.{route, reaches}
 use Rattle.legal.specs.Next.{numbered, plain, delivers, next_of}
 use Rattle.world.specs.Wire.{WireState}
-use Rattle.world.specs.WireEntry.{item_lent}
-use Rattle.world.specs.Way.{by_way, IsThere}
 use Rattle.world.specs.Record.{said}
 use Rattle.world.specs.World.{WorldState, StandsFor, state_of}
 use Rattle.world.specs.Playing.{Plays}

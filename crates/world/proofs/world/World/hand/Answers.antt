@@ -1,13 +1,7 @@
-use Rattle.std.proofs.Common.{◌≡◌, List, [], Some, None, Ok, refl, sym, ap, subst, ◌∙◌}
-use Rattle.teredo_node.specs.declared.fate.Fate.TheVariants as fate
-use Rattle.topology.specs.declared.node.Node.{Node}
+use Rattle.std.proofs.Common.{◌≡◌, Some, None, sym, ap, subst, ◌∙◌}
 use Rattle.topology.specs.Topology.{node_at}
-use Rattle.history.specs.Full.{Full}
-use Rattle.legal.specs.Past.{at_nat}
-use Rattle.legal.specs.Next.{numbered, plain, hands_in}
-use Rattle.world.specs.Record.{said}
-use Rattle.world.specs.World.{WorldState, StandsFor, state_of}
-use Rattle.world.specs.Playing.{Finds, Plays}
+use Rattle.legal.specs.Next.{numbered}
+use Rattle.world.specs.World.{WorldState, state_of}
 use Rattle.world.proofs.Hands.{nobody, hands}
 use Rattle.world.proofs.world.World.hand.Goals as goal
 

@@ -1,15 +1,11 @@
-use Rattle.std.proofs.Common.{◌≡◌, ◌≤◌, ℕ, List, refl, sym, ap, subst, ◌∙◌, arith}
+use Rattle.std.proofs.Common.{◌≡◌, ℕ, List, refl, sym, ap, subst, ◌∙◌, arith}
 use Rattle.history.specs.declared.turn.Turn.TheVariants.{Last}
-use Rattle.history.specs.declared.event.Event.{Event}
 use Rattle.history.specs.declared.event.Event.TheVariants as event
 use Rattle.history.specs.declared.acts.Verb.TheVariants as verb
-use Rattle.history.specs.declared.records.Record.{Record}
 use Rattle.topology.specs.Topology.{node_at}
-use Rattle.history.specs.Full.{Full}
-use Rattle.legal.specs.Past.{Draws}
-use Rattle.legal.specs.Next.{numbered, plain, puts, hands_in, next_of}
-use Rattle.world.specs.World.{WorldState, StandsFor, IsAgain, state_of}
-use Rattle.world.specs.Playing.{Plays, PlaysTurn, Turned}
+use Rattle.legal.specs.Next.{numbered, plain, puts, hands_in}
+use Rattle.world.specs.World.{WorldState, IsAgain, state_of}
+use Rattle.world.specs.Playing.{Plays, Turned}
 use Rattle.world.proofs.Lasting.{plays_last, turned_last, if_last, rest_time}
 use Rattle.world.proofs.world.World.play.Goals as goal
 
@@ -70,16 +66,18 @@ returns-in-Stranger-clause-turned c =
     let w = c.self.inside in
     let old = state_of w.topology.now w.moment.0 w.going w.nodes.items w.wire w.stopped in
     let again = subst (λ (x : WorldState). IsAgain x.going (event.Stranger c.in-Stranger.src c.in-Stranger.dst c.in-Stranger.bytes)) (sym c.self.view_is) (subst (IsAgain c.args.self.now.going) c.in-Stranger.is c.requires.again) in
-    let rest = subst (λ (x : WorldState). c.put_bytes.new.self ≡ record x { nodes = c.put_bytes.new.self.nodes; wire = c.put_bytes.new.self.wire; done = c.put_bytes.new.self.done }) (sym c.self.view_is) c.put_bytes.ensures.rest in
-    rw (c.in-Stranger.is, c.last-in-Stranger.ensures) (if_last c.put_bytes.result _ (λ word. subst (λ (x : WorldState). Turned x c.put_bytes.new.self (event.Stranger c.in-Stranger.src c.in-Stranger.dst c.in-Stranger.bytes) (Last word)) c.self.view_is (turned_last w.topology.now w.moment.0 w.going w.nodes.items w.wire w.stopped c.put_bytes.new.self (event.Stranger c.in-Stranger.src c.in-Stranger.dst c.in-Stranger.bytes) word refl again rest)))
+    let rest = subst (λ (x : WorldState). c.put_bytes.new.self ≡ record x { wire = c.put_bytes.new.self.wire; done = c.put_bytes.new.self.done }) (sym c.self.view_is) c.put_bytes.ensures.rest in
+    let whole = rest ∙ ap (λ (x : WorldState). record old { nodes = x.nodes; wire = c.put_bytes.new.self.wire; done = c.put_bytes.new.self.done }) (sym rest) in
+    rw (c.in-Stranger.is, c.last-in-Stranger.ensures) (if_last c.put_bytes.result _ (λ word. subst (λ (x : WorldState). Turned x c.put_bytes.new.self (event.Stranger c.in-Stranger.src c.in-Stranger.dst c.in-Stranger.bytes) (Last word)) c.self.view_is (turned_last w.topology.now w.moment.0 w.going w.nodes.items w.wire w.stopped c.put_bytes.new.self (event.Stranger c.in-Stranger.src c.in-Stranger.dst c.in-Stranger.bytes) word refl again whole)))
 
 pub returns-in-Copy-clause-turned : goal.returns-in-Copy-clause-turned
 returns-in-Copy-clause-turned c =
     let w = c.self.inside in
     let old = state_of w.topology.now w.moment.0 w.going w.nodes.items w.wire w.stopped in
     let again = subst (λ (x : WorldState). IsAgain x.going (event.Copy c.in-Copy.number c.in-Copy.src c.in-Copy.dst)) (sym c.self.view_is) (subst (IsAgain c.args.self.now.going) c.in-Copy.is c.requires.again) in
-    let rest = subst (λ (x : WorldState). c.copy.new.self ≡ record x { nodes = c.copy.new.self.nodes; wire = c.copy.new.self.wire; done = c.copy.new.self.done }) (sym c.self.view_is) c.copy.ensures.rest in
-    rw (c.in-Copy.is, c.last-in-Copy.ensures) (if_last c.copy.result _ (λ word. subst (λ (x : WorldState). Turned x c.copy.new.self (event.Copy c.in-Copy.number c.in-Copy.src c.in-Copy.dst) (Last word)) c.self.view_is (turned_last w.topology.now w.moment.0 w.going w.nodes.items w.wire w.stopped c.copy.new.self (event.Copy c.in-Copy.number c.in-Copy.src c.in-Copy.dst) word refl again rest)))
+    let rest = subst (λ (x : WorldState). c.copy.new.self ≡ record x { wire = c.copy.new.self.wire; done = c.copy.new.self.done }) (sym c.self.view_is) c.copy.ensures.rest in
+    let whole = rest ∙ ap (λ (x : WorldState). record old { nodes = x.nodes; wire = c.copy.new.self.wire; done = c.copy.new.self.done }) (sym rest) in
+    rw (c.in-Copy.is, c.last-in-Copy.ensures) (if_last c.copy.result _ (λ word. subst (λ (x : WorldState). Turned x c.copy.new.self (event.Copy c.in-Copy.number c.in-Copy.src c.in-Copy.dst) (Last word)) c.self.view_is (turned_last w.topology.now w.moment.0 w.going w.nodes.items w.wire w.stopped c.copy.new.self (event.Copy c.in-Copy.number c.in-Copy.src c.in-Copy.dst) word refl again whole)))
 
 pub returns-in-Deliver-clause-time : goal.returns-in-Deliver-clause-time
 returns-in-Deliver-clause-time c =
@@ -186,4 +184,3 @@ returns-in-Forget-clause-turned c =
     let rest = subst (λ (x : WorldState). c.forget.new.self ≡ record x { nodes = c.forget.new.self.nodes }) (sym c.self.view_is) c.forget.ensures.rest in
     let whole = rest ∙ ap (λ (x : WorldState). record (state_of w.topology.now w.moment.0 w.going c.forget.new.self.nodes w.wire w.stopped) { wire = x.wire; done = x.done }) (sym rest) in
     rw (c.in-Forget.is) (subst (λ (x : WorldState). Turned x c.forget.new.self (event.Forget c.in-Forget.nat c.in-Forget.client) (Last c.forget.result)) c.self.view_is (turned_last w.topology.now w.moment.0 w.going w.nodes.items w.wire w.stopped c.forget.new.self (event.Forget c.in-Forget.nat c.in-Forget.client) c.forget.result refl again whole))
-

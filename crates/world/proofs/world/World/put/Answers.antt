@@ -1,10 +1,9 @@
-use Rattle.std.proofs.Common.{◌≡◌, ◌++◌, [], ◌∷◌, None, ap}
+use Rattle.std.proofs.Common.{◌≡◌, [], None, ap}
 use Rattle.teredo_node.specs.declared.fate.Fate.TheVariants as fate
-use Rattle.history.specs.declared.mark.Mark.TheVariants as mark
 use Rattle.legal.specs.Next.{numbered}
 use Rattle.world.specs.Wire.{WireState}
 use Rattle.world.specs.Record.{said}
-use Rattle.world.specs.World.{WorldState, state_of}
+use Rattle.world.specs.World.{state_of}
 use Rattle.world.proofs.Played.{puts_one}
 use Rattle.world.proofs.world.World.put.Goals as goal
 

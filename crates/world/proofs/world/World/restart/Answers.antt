@@ -1,6 +1,6 @@
-use Rattle.std.proofs.Common.{◌≡◌, sym, subst, ℕ}
+use Rattle.std.proofs.Common.{subst, ℕ}
 use Rattle.world.specs.Changes.{RestartsIn}
-use Rattle.world.specs.World.{WorldState, state_of}
+use Rattle.world.specs.World.{state_of}
 use Rattle.world.proofs.Starts.{Changes, starts_anew}
 use Rattle.world.proofs.world.World.restart.Goals as goal
 

@@ -1,5 +1,4 @@
 use Rattle.std.proofs.Common.{◌≡◌, ℕ, List, refl, sym, ap, subst, ◌∙◌}
-use Rattle.history.specs.Full.{Full}
 use Rattle.history.specs.declared.event.Event.TheVariants as event
 use Rattle.history.specs.declared.acts.Verb.TheVariants as verb
 use Rattle.ipv6_packet.specs.Packets.{packet_bytes}

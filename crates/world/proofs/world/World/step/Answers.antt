@@ -1,7 +1,6 @@
-use Rattle.std.proofs.Common.{◌≡◌, ◌∙◌, sym, ap, subst, Some, None}
+use Rattle.std.proofs.Common.{◌∙◌, sym, ap, subst}
 use Rattle.topology.specs.Rules.{IsTopology}
 use Rattle.world.specs.World.{WorldState}
-use Rattle.world.specs.Playing.{Turned}
 use Rattle.world.proofs.Stepped.{Laws, IsAsked, steps, falls}
 use Rattle.world.proofs.world.World.step.Goals as goal
 
