@@ -1,4 +1,4 @@
-ghost use Rattle.std.specs.Prelude.{true, ◌≡◌, ◌<◌, ◌≤◌, ◌+◌, List, [], length, None, Ok, Err, slice_get, option_map, IfSome, IfOk, IfErr, OnErr};
+ghost use Rattle.std.specs.Prelude.{◌≡◌, ◌<◌, ◌≤◌, ◌+◌, List, [], length, None, Ok, Err, slice_get, option_map, IfSome, IfOk, IfErr, OnErr};
 ghost use Rattle.teredo_node.specs.declared.fate.Fate.TheVariants as fates;
 ghost use Rattle.history.specs.declared.event.Event.{Event};
 ghost use Rattle.history.specs.declared.event.Event.TheVariants as event;
@@ -32,14 +32,6 @@ use topology::Topology;
 /// The moment at which no scenario has arrived yet, in milliseconds.
 pub const MOST_MOMENT: u64 = 281_474_976_710_656;
 
-fn has_no_hosts(topology: &Topology) -> bool
-    ensures { result ≡ true → HasNoHosts topology.now }
-{
-    topology.clients().is_empty()
-        && topology.relays().is_empty()
-        && topology.natives().is_empty()
-}
-
 /// The nodes of a scenario, and everything that they sent.
 #[derive(Drop)]
 pub struct World<'a> {
@@ -66,13 +58,11 @@ impl<'a> Model for World<'a> {
 impl<'a> World<'a> {
     /// The nodes at moment 0, with nothing on the wire. The seed is that of the nodes' random words.
     pub fn new(alloc: Global, topology: &'a Topology, seed: u64) -> Result<World<'a>, NoMemory>
+        requires built { HasNoHosts topology.now }
         ensures topology { IfOk result (λ w. w.topology ≡ topology.now) }
         ensures stands { IfOk result (λ w. StandsFor (draws seed) w []) }
         ensures goes_on { IfOk result (λ w. w.stopped ≡ None) }
     {
-        if !has_no_hosts(topology) {
-            return Err(NoMemory);
-        }
         let nodes = first_states(alloc, topology)?;
         Ok(World {
             topology,

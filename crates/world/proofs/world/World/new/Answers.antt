@@ -5,7 +5,7 @@ use Rattle.world.proofs.States.{first_stand, all_ready}
 use Rattle.world.proofs.world.World.new.Goals as goal
 
 pub invariant_of-result : goal.invariant_of-result
-invariant_of-result c = (c.has_no_hosts.ensures c.if-not-has_no_hosts.false, all_ready (nodes c.args.topology.now) c.in_ok-nodes.nodes.items c.in_ok-nodes.ensures)
+invariant_of-result c = (c.requires.built, all_ready (nodes c.args.topology.now) c.in_ok-nodes.nodes.items c.in_ok-nodes.ensures)
 
 pub returns-clause-stands : goal.returns-clause-stands
 returns-clause-stands c = record {
