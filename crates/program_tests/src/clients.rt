@@ -107,11 +107,14 @@ const DIGITS: [&str; 16] = [
 fn to_many_peers(alloc: Global) -> Result<String, NoMemory> {
     let mut events = String::new(alloc);
     for peer in 0..257 {
+        if peer > 0 {
+            events.push_str(", ")?;
+        }
         events.push_str("\"host a 2001:0:c000:201:0:fbff:cb00:7")?;
         for digit in [1 + peer / 256, peer / 16 % 16, peer % 16] {
             events.push_str(DIGITS[digit])?;
         }
-        events.push_str(" 04\", ")?;
+        events.push_str(" 04\"")?;
     }
     Ok(events)
 }
