@@ -270,4 +270,3 @@ no_words fate.Done a b = refl
 no_words fate.NoEntry a b = refl
 no_words fate.Nowhere a b = refl
 no_words fate.NatClosed a b = refl
-no_words fate.Unbuilt a b = refl

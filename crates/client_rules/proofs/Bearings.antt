@@ -78,7 +78,6 @@ queued_by fate.Done e P h = tt
 queued_by fate.NoEntry e P h = tt
 queued_by fate.Nowhere e P h = tt
 queued_by fate.NatClosed e P h = tt
-queued_by fate.Unbuilt e P h = tt
 
 -- and so for the source of a datagram
 pub trusted_by : (f : Fate) (e : Entry) (P : Ep → Type 0) → (f ≡ fate.Rule2 → IfSome (source_of e.input) P) → (f ≡ fate.Rule3 → IfSome (source_of e.input) P)
@@ -150,7 +149,6 @@ trusted_by fate.Done e P a b c = tt
 trusted_by fate.NoEntry e P a b c = tt
 trusted_by fate.Nowhere e P a b c = tt
 trusted_by fate.NatClosed e P a b c = tt
-trusted_by fate.Unbuilt e P a b c = tt
 
 abbrev pub changes : Turn → Bool
 changes changes_turn = true
@@ -224,4 +222,3 @@ changes_alike fate.Done = refl
 changes_alike fate.NoEntry = refl
 changes_alike fate.Nowhere = refl
 changes_alike fate.NatClosed = refl
-changes_alike fate.Unbuilt = refl

@@ -84,7 +84,6 @@ received s a from x v w fate.Done = refl
 received s a from x v w fate.NoEntry = refl
 received s a from x v w fate.Nowhere = refl
 received s a from x v w fate.NatClosed = refl
-received s a from x v w fate.Unbuilt = refl
 
 pub fate_of_reception : FateOfReception
 unfolding reception
@@ -162,7 +161,6 @@ given_out s a x p w fate.Done = refl
 given_out s a x p w fate.NoEntry = refl
 given_out s a x p w fate.Nowhere = refl
 given_out s a x p w fate.NatClosed = refl
-given_out s a x p w fate.Unbuilt = refl
 
 pub fate_of_transmission : FateOfTransmission
 unfolding transmission
@@ -236,7 +234,6 @@ touching fate.Done e h = h
 touching fate.NoEntry e h = h
 touching fate.Nowhere e h = h
 touching fate.NatClosed e h = h
-touching fate.Unbuilt e h = h
 
 pub tries_touch : TriesTouch
 tries_touch e h = touching e.step.fate e h

@@ -109,7 +109,6 @@ by_reception R s a from x v w fate.Done one three h = absurd (false≢true h)
 by_reception R s a from x v w fate.NoEntry one three h = absurd (false≢true h)
 by_reception R s a from x v w fate.Nowhere one three h = absurd (false≢true h)
 by_reception R s a from x v w fate.NatClosed one three h = absurd (false≢true h)
-by_reception R s a from x v w fate.Unbuilt one three h = absurd (false≢true h)
 
 queued : (b : Bool) (s : Settings) (a : Standing) (p : Ip6) (w : Words) → is_some (queues b s a p w).handed ≡ false
 queued true s a p w = refl
@@ -183,7 +182,6 @@ by_transmission s a x p w fate.Done = refl
 by_transmission s a x p w fate.NoEntry = refl
 by_transmission s a x p w fate.Nowhere = refl
 by_transmission s a x p w fate.NatClosed = refl
-by_transmission s a x p w fate.Unbuilt = refl
 
 -- DATAGRAMS
 

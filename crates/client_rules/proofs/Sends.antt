@@ -125,7 +125,6 @@ by_reception P s a from x v w fate.Done h = tt
 by_reception P s a from x v w fate.NoEntry h = tt
 by_reception P s a from x v w fate.Nowhere h = tt
 by_reception P s a from x v w fate.NatClosed h = tt
-by_reception P s a from x v w fate.Unbuilt h = tt
 
 -- and a packet's
 record OfTransmission (P : Send → Type 0) (s : Settings) (a : Standing) (x : List ℕ) (p : Ip6) (w : Words) (f : Fate) : Type 0 where
@@ -201,7 +200,6 @@ by_transmission P s a x p w fate.Done h = tt
 by_transmission P s a x p w fate.NoEntry h = tt
 by_transmission P s a x p w fate.Nowhere h = tt
 by_transmission P s a x p w fate.NatClosed h = tt
-by_transmission P s a x p w fate.Unbuilt h = tt
 
 -- EACH KIND OF SENDING
 

@@ -76,7 +76,6 @@ queued_by fate.Done e P h = tt
 queued_by fate.NoEntry e P h = tt
 queued_by fate.Nowhere e P h = tt
 queued_by fate.NatClosed e P h = tt
-queued_by fate.Unbuilt e P h = tt
 
 -- and so for where an entry trusts
 pub trusted_by : (f : Fate) (e : Entry) (P : Ep → Type 0) → IfSome (embedded_at e) P → IfSome (bearing_of f e).trusts P
@@ -147,4 +146,3 @@ trusted_by fate.Done e P h = tt
 trusted_by fate.NoEntry e P h = tt
 trusted_by fate.Nowhere e P h = tt
 trusted_by fate.NatClosed e P h = tt
-trusted_by fate.Unbuilt e P h = tt

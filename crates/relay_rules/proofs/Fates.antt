@@ -83,7 +83,6 @@ received a x v fate.Done = refl
 received a x v fate.NoEntry = refl
 received a x v fate.Nowhere = refl
 received a x v fate.NatClosed = refl
-received a x v fate.Unbuilt = refl
 
 pub fate_of_reception : FateOfReception
 unfolding reception
@@ -161,7 +160,6 @@ given_out s a x p fate.Done = refl
 given_out s a x p fate.NoEntry = refl
 given_out s a x p fate.Nowhere = refl
 given_out s a x p fate.NatClosed = refl
-given_out s a x p fate.Unbuilt = refl
 
 pub fate_of_transmission : FateOfTransmission
 unfolding transmission
@@ -235,7 +233,6 @@ touching fate.Done e h = h
 touching fate.NoEntry e h = h
 touching fate.Nowhere e h = h
 touching fate.NatClosed e h = h
-touching fate.Unbuilt e h = h
 
 pub tries_touch : TriesTouch
 tries_touch e h = touching e.step.fate e h
@@ -315,4 +312,3 @@ no_attempt fate.Done e h = (refl, refl)
 no_attempt fate.NoEntry e h = (refl, refl)
 no_attempt fate.Nowhere e h = (refl, refl)
 no_attempt fate.NatClosed e h = (refl, refl)
-no_attempt fate.Unbuilt e h = (refl, refl)

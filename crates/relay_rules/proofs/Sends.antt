@@ -104,7 +104,6 @@ by_reception P a x v fate.Done h = tt
 by_reception P a x v fate.NoEntry h = tt
 by_reception P a x v fate.Nowhere h = tt
 by_reception P a x v fate.NatClosed h = tt
-by_reception P a x v fate.Unbuilt h = tt
 
 -- and a packet's
 record OfTransmission (P : Send → Type 0) (s : RelaySettings) (a : Standing) (x : List ℕ) (p : Ip6) (f : Fate) : Type 0 where
@@ -180,7 +179,6 @@ by_transmission P s a x p fate.Done h = tt
 by_transmission P s a x p fate.NoEntry h = tt
 by_transmission P s a x p fate.Nowhere h = tt
 by_transmission P s a x p fate.NatClosed h = tt
-by_transmission P s a x p fate.Unbuilt h = tt
 
 -- DATAGRAMS
 

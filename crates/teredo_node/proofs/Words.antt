@@ -72,4 +72,3 @@ short_word fate.Done = omega arith
 short_word fate.NoEntry = omega arith
 short_word fate.Nowhere = omega arith
 short_word fate.NatClosed = omega arith
-short_word fate.Unbuilt = omega arith
