@@ -22,19 +22,20 @@ use Rattle.legal.specs.Past.{Draws, is_node, at_nat, journal, drawn, words, out_
 use Rattle.legal.specs.Emit.{made_of}
 use Rattle.legal.specs.Next.{Numbered}
 use Rattle.legal.specs.Frame.{nat_of, nat_by, EachFrames}
-use Rattle.world.specs.declared.answer.Asked.{Asked}
-use Rattle.world.specs.declared.call.Call.{Call}
+use Rattle.lab_nodes.specs.Laws.{EachClientKeepsRules}
+use Rattle.lab_nodes.specs.declared.answer.Asked.{Asked}
+use Rattle.lab_nodes.specs.declared.call.Call.{Call}
 use Rattle.world.specs.declared.emission.Sender.{Sender}
-use Rattle.world.specs.declared.node_state.NodeState.{NodeState}
-use Rattle.world.specs.NodeState.{past_of, IsKeptIn, NodesOf}
-use Rattle.world.specs.Changes.{with_call}
-use Rattle.world.specs.Call.{entry_in}
-use Rattle.world.specs.Answers.{AsksFor, Asks}
+use Rattle.lab_nodes.specs.declared.node_state.NodeState.{NodeState}
+use Rattle.lab_nodes.specs.NodeState.{past_of, IsKeptIn, NodesOf}
+use Rattle.lab_nodes.specs.Changes.{with_call}
+use Rattle.lab_nodes.specs.Call.{entry_in}
+use Rattle.lab_nodes.specs.Answers.{AsksFor, Asks}
 use Rattle.world.specs.Emission.{IsEmission, sent_through, Emitted, Emits, IsBehind}
 use Rattle.world.specs.Wire.{WireState}
 use Rattle.world.specs.Record.{said}
 use Rattle.world.specs.Playing.{acts_in}
-use Rattle.world.proofs.States.{some_inj, nat_there, client_rules}
+use Rattle.world.proofs.States.{some_inj, nat_there}
 use Rattle.world.proofs.Kept.{AsPast, kept_in_as, is_itself, not_node, starts_none, away}
 
 -- WHAT THE RECORD LEAVES OF THE NODE ITSELF
@@ -43,12 +44,6 @@ use Rattle.world.proofs.Kept.{AsPast, kept_in_as, is_itself, not_node, starts_no
 itself_as : (d : Draws) (t : TopologyState) (H : List Full) (e : Numbered) (a : Act) (number : Option ℕ) (x : Call) → at_nat t e.event a ≡ []
     → AsPast x.node (with_call (entry_in d t H x) (past_of d t x.number H)) (past_of d t x.number (acts_in d t H e a number x ∷ H))
 itself_as d t H e a number x nothing = by x.node refl where
-  r : Full
-  r = acts_in d t H e a number x
-
-  entry : Entry
-  entry = entry_in d t H x
-
   its_journal : journal x.number (acts_in d t H e a number x ∷ H) ≡ with_entry (journal x.number H) (entry_in d t H x)
   its_journal = rw (is_itself x.number, starts_none t e.event a nothing) refl
 
@@ -123,6 +118,7 @@ pub record IsDoing (x : Doing) : Type 0 where
   pub wire : x.old.items ≡ wire x.history
   pub there : node_at x.topology x.call.number ≡ Some x.call.node
   pub rules : IsTopology x.topology
+  pub rows : EachClientKeepsRules
   pub quiet : at_nat x.topology x.event.event x.act ≡ []
   pub asks : Asks x.call x.before x.mid x.step x.asked
   pub elsewhere : (k : ℕ) → k ≢ x.call.number → slice_get x.mid k ≡ slice_get x.before k
@@ -134,7 +130,7 @@ asked_for x is = is.asks x.draws x.topology x.history (is.nodes x.call.number x.
 apart_from_nat : (x : Doing) (c : ClientNode) → IsDoing x → x.call.node ≡ client c → c.nat ≢ x.call.number
 apart_from_nat x c is client_is same =
     let there : node_at x.topology x.call.number ≡ Some (client c) = is.there ∙ ap (λ (b : Node). Some b) client_is in
-    let behind = (client_rules x.topology x.call.number c is.rules there).behind in
+    let behind = (is.rows x.topology x.call.number c is.rules there).behind in
     false≢true (ap (λ (o : Option Node). is_some (option_and_then as_nat o)) (sym there) ∙ ap (λ (k : ℕ). is_some (nat_at x.topology k)) (sym same) ∙ behind)
 
 -- what it sends is an emission
@@ -144,7 +140,7 @@ is_emission x is =
     record {
       step = sym asked.did;
       packet = asked.packet;
-      behind = λ c client_is. (client_rules x.topology x.call.number c is.rules (is.there ∙ ap (λ (b : Node). Some b) client_is)).behind;
+      behind = λ c client_is. (is.rows x.topology x.call.number c is.rules (is.there ∙ ap (λ (b : Node). Some b) client_is)).behind;
       through = λ c client_is b at.
           subst (IsKeptIn x.topology c.nat (nat b) (past_of x.draws x.topology c.nat x.history)) (sym (is.elsewhere c.nat (apart_from_nat x c is client_is)))
           (is.nodes c.nat (nat b) (nat_there x.topology c.nat b at));

@@ -1,6 +1,6 @@
 -- The record of a delivery, and of a node that acts.
 use Rattle.std.proofs.Common.{◌≡◌, ◌<◌, ◌+◌, ℕ, Bool, true, false, List, [], ◌∷◌, ◌++◌, length, set, get_or, replicate, Option, Some, None, Result, Ok, Err, refl, sym, ap, subst, ◌∙◌, arith}
-use Rattle.std.specs.Prelude.{◌||◌, filter_map, slice_get, IsErrOf}
+use Rattle.std.specs.Prelude.{◌||◌, slice_get, IsErrOf}
 use Rattle.std.proofs.lemmas.List.{length-append}
 use Rattle.teredo_node.specs.declared.fate.Fate.{Fate}
 use Rattle.teredo_node.specs.declared.fate.Fate.TheVariants as fate
@@ -11,22 +11,22 @@ use Rattle.history.specs.declared.acts.Act.{Act}
 use Rattle.history.specs.declared.acts.Act.TheVariants as act
 use Rattle.history.specs.declared.mark.Mark.{Mark}
 use Rattle.history.specs.declared.records.Record.{Record}
-use Rattle.history.specs.Full.{Item, Made, Full, item_in, items_of}
+use Rattle.history.specs.Full.{Item, Full, items_of}
 use Rattle.legal.specs.Past.{Draws, is_number, forgotten}
 use Rattle.legal.specs.Emit.{Route, reaches, closed, astray, route}
 use Rattle.legal.specs.Next.{Numbered, acts, dst_of, input_of, blank, delivers, delivers_item, delivers_to}
 use Rattle.legal.specs.Frame.{EachFrames}
 use Rattle.history.specs.declared.turn.Stop.{Stop}
 use Rattle.history.specs.declared.turn.Stop.TheVariants as stop
-use Rattle.world.specs.declared.node_state.NodeState.{NodeState}
-use Rattle.world.specs.NodeState.{NodesOf}
-use Rattle.world.specs.Answers.{WantsAny}
+use Rattle.lab_nodes.specs.declared.node_state.NodeState.{NodeState}
+use Rattle.lab_nodes.specs.NodeState.{NodesOf}
+use Rattle.lab_nodes.specs.Answers.{WantsAny}
 use Rattle.world.specs.Emission.{IsTooMuch, MakesAny}
 use Rattle.world.specs.Wire.{WireState}
 use Rattle.world.specs.Record.{said}
 use Rattle.world.specs.World.{WorldState, StandsFor, Overflows, NeedsMemory, IsCause}
-use Rattle.world.specs.declared.call.Call.{Call}
-use Rattle.world.specs.Call.{dst_lent, input_lent}
+use Rattle.lab_nodes.specs.declared.call.Call.{Call}
+use Rattle.lab_nodes.specs.Call.{dst_lent, input_lent}
 use Rattle.world.specs.declared.wire.WireEntry.{WireEntry}
 use Rattle.world.specs.WireEntry.{item_lent}
 use Rattle.world.proofs.States.{some_inj}
@@ -35,10 +35,6 @@ use Rattle.world.proofs.Acting.{Doing, IsDoing, IsDone, sender_of, entry_by, rec
 use Rattle.world.proofs.Played.{remembered, flags_same, rests, said_blank}
 
 -- A NODE ACTS
-
--- the entries among what was made
-abbrev pub made_items : List Made → List Item
-made_items made = filter_map item_in made
 
 -- it acted, and nothing was delivered
 pub acted_plays : EachFrames → (x : Doing) (w new : WorldState) (after : List NodeState) (wires : WireState) (marks : List Mark) → IsDoing x → IsDone x after wires marks

@@ -18,9 +18,9 @@ use Rattle.history.specs.declared.event.Event.{Event}
 use Rattle.history.specs.Full.{Full}
 use Rattle.legal.specs.Past.{Draws, is_node, is_restart, at_nat, journal, drawn, words}
 use Rattle.legal.specs.Frame.{nat_of, EachFrames}
-use Rattle.world.specs.declared.node_state.NodeState.{NodeState}
-use Rattle.world.specs.declared.node_state.NodeState.TheVariants as state
-use Rattle.world.specs.NodeState.{NodePast, past_of, IsKept, IsKeptIn, NodesOf}
+use Rattle.lab_nodes.specs.declared.node_state.NodeState.{NodeState}
+use Rattle.lab_nodes.specs.declared.node_state.NodeState.TheVariants as state
+use Rattle.lab_nodes.specs.NodeState.{NodePast, past_of, IsKept, IsKeptIn, NodesOf}
 
 -- PASTS THAT ARE THE SAME FOR A NODE
 

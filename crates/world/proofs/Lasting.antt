@@ -14,7 +14,7 @@ use Rattle.legal.specs.Past.{Draws, has_more}
 use Rattle.legal.specs.Next.{next_of}
 use Rattle.legal.specs.Laws.{EachIsOfItsEvent}
 use Rattle.world.specs.declared.going.Going.{Going}
-use Rattle.world.specs.declared.node_state.NodeState.{NodeState}
+use Rattle.lab_nodes.specs.declared.node_state.NodeState.{NodeState}
 use Rattle.world.specs.Wire.{WireState}
 use Rattle.world.specs.World.{WorldState, IsAgain, event_in, began_in, state_of}
 use Rattle.world.specs.Playing.{Plays, last_of, PlaysTurn, Turned}

@@ -1,15 +1,9 @@
 mod Wires
 mod Results
-mod Streams
 mod States
-mod Served
-mod Dues
-mod Arrivals
 mod Routes
 mod Emitted
 mod Passed
-mod Asked
-mod Hosts
 mod Sending
 mod Kept
 mod Played

@@ -19,8 +19,8 @@ use Rattle.history.specs.Records.{record_of}
 use Rattle.legal.specs.Past.{Draws, now, is_number}
 use Rattle.legal.specs.Next.{Numbered, blank, puts}
 use Rattle.legal.specs.Frame.{EachFrames}
-use Rattle.world.specs.declared.node_state.NodeState.{NodeState}
-use Rattle.world.specs.NodeState.{NodesOf}
+use Rattle.lab_nodes.specs.declared.node_state.NodeState.{NodeState}
+use Rattle.lab_nodes.specs.NodeState.{NodesOf}
 use Rattle.world.proofs.Kept.{IsStill, all_rest, all_away}
 use Rattle.world.specs.Record.{said}
 use Rattle.world.specs.World.{WorldState, StandsFor}

@@ -8,11 +8,11 @@ use Rattle.nat_kinds.specs.Nat as nats
 use Rattle.nat_kinds.specs.declared.settings.NatSettings.{NatSettings}
 use Rattle.topology.specs.declared.nat_node.NatNode.{NatNode}
 use Rattle.topology.specs.Topology.{nat_settings}
-use Rattle.world.specs.declared.node_state.NodeState.{NodeState}
-use Rattle.world.specs.declared.node_state.NodeState.TheVariants as state
+use Rattle.lab_nodes.specs.declared.node_state.NodeState.{NodeState}
+use Rattle.lab_nodes.specs.declared.node_state.NodeState.TheVariants as state
 use Rattle.topology.specs.Rows.{TopologyState}
 use Rattle.topology.specs.declared.node.Node.TheVariants.{Nat as nat}
-use Rattle.world.specs.NodeState.{NodePast, IsNatOf, IsKeptIn}
+use Rattle.lab_nodes.specs.NodeState.{NodePast, IsNatOf, IsKeptIn}
 
 -- what is kept of a NAT is one
 pub kept_nat : (t : TopologyState) (n : ℕ) (a : NatNode) (x : NodePast) (o : Option NodeState) (is : NatState) → o ≡ Some (state.Nat is) → IsKeptIn t n (nat a) x o → IsNatOf a is x.history

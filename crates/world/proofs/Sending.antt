@@ -25,12 +25,12 @@ use Rattle.legal.specs.Past.{Draws, nat_history}
 use Rattle.legal.specs.Emit.{through_nat, six_made, made_of}
 use Rattle.world.specs.declared.wire.TheConstants.{MOST_ENTRIES}
 use Rattle.world.specs.declared.emission.Sender.{Sender}
-use Rattle.world.specs.declared.node_state.NodeState.{NodeState}
-use Rattle.world.specs.declared.node_state.NodeState.TheVariants as state
-use Rattle.world.specs.NodeState.{past_of, IsNatOf, IsKeptIn}
+use Rattle.lab_nodes.specs.declared.node_state.NodeState.{NodeState}
+use Rattle.lab_nodes.specs.declared.node_state.NodeState.TheVariants as state
+use Rattle.lab_nodes.specs.NodeState.{past_of, IsNatOf, IsKeptIn}
 use Rattle.world.specs.declared.outlet.Outlet.{Outlet}
 use Rattle.world.specs.Sends.{Grows, history_after, Passes, source_of, made_by, packet_made, all_made}
-use Rattle.world.specs.Answers.{packet_by, six_part}
+use Rattle.lab_nodes.specs.Answers.{packet_by, six_part}
 use Rattle.world.proofs.Emitted.{entries_append, made_outright_by}
 use Rattle.world.specs.Emission.{IsEmission, sent_through, Emits, IsTooMuch, MakesAny}
 use Rattle.world.specs.Wire.{WireState}

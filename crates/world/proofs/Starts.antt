@@ -16,9 +16,9 @@ use Rattle.history.specs.Events.{IsForgotten}
 use Rattle.history.specs.Full.{Full}
 use Rattle.legal.specs.Past.{Draws, now, is_node, drawn, journal, outs_of, new_journal}
 use Rattle.legal.specs.Next.{plain, next_of}
-use Rattle.world.specs.declared.node_state.NodeState.{NodeState}
-use Rattle.world.specs.NodeState.{past_of, IsKeptIn, NodesOf}
-use Rattle.world.specs.Changes.{restarted, forgetting, RestartsIn, ForgetsIn}
+use Rattle.lab_nodes.specs.declared.node_state.NodeState.{NodeState}
+use Rattle.lab_nodes.specs.NodeState.{past_of, IsKeptIn, NodesOf}
+use Rattle.lab_nodes.specs.Changes.{restarted, forgetting, RestartsIn, ForgetsIn}
 use Rattle.world.specs.Record.{said}
 use Rattle.world.specs.World.{WorldState, StandsFor}
 use Rattle.world.specs.Playing.{Plays}

@@ -14,7 +14,7 @@ use Rattle.legal.specs.Past.{Draws, began, going, has_more, is_number}
 use Rattle.legal.specs.Next.{next_of}
 use Rattle.legal.specs.Legal.{GoesOn, Follows, Grown}
 use Rattle.legal.specs.Laws.{EachIsOfItsEvent, EachIsTold, EachFalls}
-use Rattle.world.specs.NodeState.{NodesOf}
+use Rattle.lab_nodes.specs.NodeState.{NodesOf}
 use Rattle.world.specs.World.{WorldState, StandsFor, IsAgain, Steps, Falls, going_after, is_more}
 use Rattle.world.specs.Playing.{Comes, PlaysTurn, GoesFrom, Turned}
 

@@ -19,8 +19,8 @@ use Rattle.legal.specs.Past.{Draws, now, began, has_more}
 use Rattle.legal.specs.Emit.{due_of}
 use Rattle.legal.specs.Next.{numbered, plain, acts, no_ep, Due, earlier, least_due, advanced, advance_with, next_of}
 use Rattle.legal.specs.Frame.{EachFrames}
-use Rattle.world.specs.declared.due.Due as found
-use Rattle.world.specs.Due.{due_is}
+use Rattle.lab_nodes.specs.declared.due.Due as found
+use Rattle.lab_nodes.specs.Due.{due_is}
 use Rattle.topology.specs.Rules.{IsTopology}
 use Rattle.history.specs.declared.event.TheConstants.{MOST_ADVANCE}
 use Rattle.history.specs.declared.turn.Stop.{Stop}

@@ -14,10 +14,10 @@ use Rattle.history.specs.Records.{marks_of}
 use Rattle.legal.specs.Past.{Draws}
 use Rattle.legal.specs.Emit.{made_of}
 use Rattle.world.specs.declared.wire.TheConstants.{MOST_ENTRIES}
-use Rattle.world.specs.declared.node_state.NodeState.{NodeState}
+use Rattle.lab_nodes.specs.declared.node_state.NodeState.{NodeState}
 use Rattle.world.specs.declared.emission.Sender.{Sender}
-use Rattle.world.specs.NodeState.{NodePast, past_of, IsKeptIn}
-use Rattle.world.specs.Answers.{packet_by}
+use Rattle.lab_nodes.specs.NodeState.{NodePast, past_of, IsKeptIn}
+use Rattle.lab_nodes.specs.Answers.{packet_by}
 use Rattle.world.specs.Sends.{Grows, history_after}
 use Rattle.world.specs.Wire.{WireState}
 

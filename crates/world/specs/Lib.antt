@@ -1,15 +1,8 @@
 pub mod Wire
 pub mod WireEntry
-pub mod OneArrival
-pub mod NodeState
-pub mod Changes
 pub mod Way
-pub mod Call
-pub mod Memory
-pub mod Answers
 pub mod Sends
 pub mod Emission
-pub mod Due
 pub mod Record
 pub mod World
 pub mod Playing

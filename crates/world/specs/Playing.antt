@@ -17,12 +17,12 @@ use Rattle.legal.specs.declared.left.TheConstants.{MOST_LEFT}
 use Rattle.legal.specs.Past.{Draws, has_more, is_number}
 use Rattle.legal.specs.Next as next
 use Rattle.legal.specs.Next.{Numbered, acts, no_ep, dst_of, input_of}
-use Rattle.world.specs.declared.call.Call.{Call}
-use Rattle.world.specs.Call.{dst_lent, input_lent}
+use Rattle.lab_nodes.specs.declared.call.Call.{Call}
+use Rattle.lab_nodes.specs.Call.{dst_lent, input_lent}
 use Rattle.world.specs.declared.going.Going.{Going}
-use Rattle.world.specs.declared.node_state.NodeState.{NodeState}
+use Rattle.lab_nodes.specs.declared.node_state.NodeState.{NodeState}
 use Rattle.world.specs.declared.world.TheConstants.{MOST_MOMENT}
-use Rattle.world.specs.NodeState.{NodesOf, AreReady}
+use Rattle.lab_nodes.specs.NodeState.{NodesOf, AreReady}
 use Rattle.world.specs.World.{WorldState, IsCause, going_after, is_more, record_in}
 
 -- WHAT A WORLD KEEPS TO

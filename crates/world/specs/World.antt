@@ -19,9 +19,9 @@ use Rattle.legal.specs.Next.{next_of}
 use Rattle.legal.specs.Legal.{Grown}
 use Rattle.legal.specs.declared.left.TheConstants.{MOST_LEFT}
 use Rattle.legal.specs.Left.{left}
-use Rattle.world.specs.declared.node_state.NodeState.{NodeState}
-use Rattle.world.specs.NodeState.{NodesOf}
-use Rattle.world.specs.Memory.{takes_memory}
+use Rattle.lab_nodes.specs.declared.node_state.NodeState.{NodeState}
+use Rattle.lab_nodes.specs.NodeState.{NodesOf}
+use Rattle.lab_nodes.specs.Memory.{takes_memory}
 use Rattle.world.specs.Wire.{WireState}
 
 pub record WorldState : Type 0 where

@@ -2,13 +2,13 @@
 ghost use Rattle.std.specs.Prelude.{◌≡◌, ◌≢◌, ◌≤◌, ℕ, None, length, slice_get, IfOk, IfSome, OnErr, IsErrOf};
 ghost use Rattle.topology.specs.declared.node.Node.TheVariants.{Client as client};
 ghost use Rattle.history.specs.declared.event.TheConstants.{MOST_BYTES};
-ghost use Rattle.world.specs.NodeState.{AreReady};
+ghost use Rattle.lab_nodes.specs.NodeState.{AreReady};
 ghost use Rattle.world.specs.Emission.{Emits, IsTooMuch, MakesAny, IsBehind};
 
-use crate::node_state::NodeState;
 use crate::outlet::{Outlet, send_native, send_through};
 use crate::wire::Wire;
 use history::{Marks, Stop};
+use lab_nodes::NodeState;
 use td_base::Millis;
 use td_outside::Octets;
 use teredo_node::Step;

@@ -9,8 +9,8 @@
 //!
 //! # What it does not know
 //!
-//! Texts: neither scenarios nor lines. Which record follows is said in `legal`, who is where in `topology`, what each kind
-//! of node does in its own crate.
+//! Texts: neither scenarios nor lines. Which record follows is said in `legal`, who is where in `topology`, what is kept of
+//! each node and what it does with what comes to it in `lab_nodes`.
 //!
 //! # Parts
 //!
@@ -18,25 +18,15 @@
 //! |---|---|---|
 //! | `world` | `World`: nodes, wire, moment and step, and what each event does to them | `specs/World.antt`, `Playing.antt` |
 //! | `going` | an advance that goes on | `specs/World.antt` |
-//! | `node_state` | what is kept of each node | `specs/NodeState.antt`, `Changes.antt` |
-//! | `call`, `answer` | what comes to a node, and what it does with it | `specs/Call.antt`, `Answers.antt`, `Memory.antt` |
-//! | `one_arrival` | a server is lent a datagram | `specs/OneArrival.antt` |
 //! | `emission`, `outlet` | how what a node sends comes onto the wire | `specs/Emission.antt`, `Sends.antt` |
-//! | `host` | what the hosts of nodes send | |
-//! | `due` | which tick is due first | `specs/Due.antt` |
 //! | `wire` | everything that was sent, and what of it was delivered | `specs/Wire.antt`, `WireEntry.antt` |
-//! | `way` | where an entry goes | `specs/Way.antt` |
+//! | `way`, `coming` | where an entry goes, and how it comes to a node | `specs/Way.antt` |
 //! | `record` | what is said of a step | `specs/Record.antt` |
 #![tactic(auto)]
 
-mod answer;
-mod call;
-mod due;
+mod coming;
 mod emission;
 mod going;
-mod host;
-mod node_state;
-mod one_arrival;
 mod outlet;
 mod record;
 mod way;

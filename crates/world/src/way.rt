@@ -8,11 +8,11 @@ ghost use Rattle.history.specs.Full.{Full, udp, six};
 ghost use Rattle.legal.specs.Past.{Draws, nat_history};
 ghost use Rattle.legal.specs.Emit.{reach, route_inside, route};
 ghost use Rattle.world.specs.WireEntry.{item_lent};
-ghost use Rattle.world.specs.NodeState.{NodesOf, AreReady};
+ghost use Rattle.lab_nodes.specs.NodeState.{NodesOf, AreReady};
 ghost use Rattle.world.specs.Way.{by_way, IsThere};
 
-use crate::node_state::NodeState;
 use crate::wire::WireEntry;
+use lab_nodes::NodeState;
 use td_base::{Ep, Millis};
 use topology::{Node, Topology};
 

@@ -15,23 +15,23 @@ ghost use Rattle.legal.specs.Legal.{draws};
 ghost use Rattle.world.specs.declared.wire.TheConstants.{MOST_ENTRIES};
 ghost use Rattle.world.specs.declared.world.TheConstants.{MOST_MOMENT};
 ghost use Rattle.world.specs.WireEntry.{item_lent};
-ghost use Rattle.world.specs.Call.{dst_lent, input_lent, IsShortInput};
-ghost use Rattle.world.specs.Due.{due_is};
+ghost use Rattle.lab_nodes.specs.Call.{dst_lent, input_lent, IsShortInput};
+ghost use Rattle.lab_nodes.specs.Due.{due_is};
 ghost use Rattle.world.specs.Record.{said};
 ghost use Rattle.world.specs.World.{StandsFor, IsAgain, EndsInTime, Steps, StopsFor, Stays, Falls};
 ghost use Rattle.world.specs.Playing.{acts_in, reached_by, ticks_at, IsPast, Finds, Plays, last_of, PlaysTurn, Turned};
 
-use crate::answer::{Asked, ask};
-use crate::call::{Call, Coming, coming_by};
-use crate::due::{Due, first_due};
+use crate::coming::coming_by;
 use crate::emission::{Sender, emit};
 use crate::going::Going;
-use crate::host::{DATA_MAX, address_at, echo, target_address, write_data};
-use crate::node_state::{NodeState, first_states, forget_at, restart_at};
 use crate::record::{acted, blank};
 use crate::way::{Way, way_of};
 use crate::wire::{MOST_ENTRIES, Wire, WireEntry};
 use history::{Act, Event, Mark, Record, Stop, Target, Turn, Verb};
+use lab_nodes::{
+    Asked, Call, Coming, DATA_MAX, Due, NodeState, address_at, ask, echo, first_due, first_states,
+    forget_at, restart_at, target_address, write_data,
+};
 use legal::MOST_LEFT;
 use std::alloc::Global;
 use std::marker::Model;
@@ -112,6 +112,7 @@ impl<'a> World<'a> {
         ensures err { OnErr result ((self.new.wire ≡ self.old.wire) × (self.new.done ≡ self.old.done)) }
     {
         legal::frame();
+        lab_nodes::rows_keep_rules();
         let Ok(asked) = ask(&mut self.nodes, call, &mut self.step) else {
             return Err(Stop::NoMemory);
         };
@@ -145,6 +146,7 @@ impl<'a> World<'a> {
         ensures err { OnErr result ((self.new.wire ≡ self.old.wire) × (self.new.done ≡ self.old.done)) }
     {
         legal::frame();
+        lab_nodes::rows_keep_rules();
         let place = number as usize;
         let Some(entry) = self.wire.get(place) else {
             unreachable!()

@@ -3,9 +3,9 @@ use Rattle.std.specs.Prelude.{slice_get}
 use Rattle.std.proofs.lemmas.Bool.Decides.{nat_tests}
 use Rattle.std.proofs.lemmas.Option.{slice_get_read, slice_get_past}
 use Rattle.topology.specs.declared.node.Node.TheVariants.{Nat as nat}
-use Rattle.world.specs.declared.node_state.NodeState.{NodeState}
-use Rattle.world.specs.declared.node_state.NodeState.TheVariants as state
-use Rattle.world.specs.NodeState.{past_of, IsKeptIn}
+use Rattle.lab_nodes.specs.declared.node_state.NodeState.{NodeState}
+use Rattle.lab_nodes.specs.declared.node_state.NodeState.TheVariants as state
+use Rattle.lab_nodes.specs.NodeState.{past_of, IsKeptIn}
 use Rattle.world.proofs.Results.{if_ok_map}
 use Rattle.world.proofs.States.{set_there, set_elsewhere}
 use Rattle.world.proofs.Sending.{no_nat, IsThrough, emits_through, too_much_through, makes_through}

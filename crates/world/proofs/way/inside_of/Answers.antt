@@ -4,8 +4,8 @@ use Rattle.std.proofs.lemmas.Bool.Decides.{nat_tests}
 use Rattle.std.proofs.lemmas.Option.{slice_get_read, slice_get_past}
 use Rattle.topology.specs.declared.node.Node.TheVariants.{Nat as nat}
 use Rattle.legal.specs.Past.{nat_history}
-use Rattle.world.specs.declared.node_state.NodeState.TheVariants as state
-use Rattle.world.specs.NodeState.{past_of, IsKeptIn}
+use Rattle.lab_nodes.specs.declared.node_state.NodeState.TheVariants as state
+use Rattle.lab_nodes.specs.NodeState.{past_of, IsKeptIn}
 use Rattle.world.proofs.States.{nat_there}
 use Rattle.world.proofs.Routes.{kept_nat, lets}
 use Rattle.world.proofs.way.inside_of.Goals as goal

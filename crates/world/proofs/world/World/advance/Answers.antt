@@ -6,7 +6,7 @@ use Rattle.history.specs.declared.event.Event.TheVariants as event
 use Rattle.topology.specs.Rules.{IsTopology}
 use Rattle.topology.specs.Topology.{nodes}
 use Rattle.legal.specs.Next.{plain, least_due}
-use Rattle.world.specs.Due.{due_is}
+use Rattle.lab_nodes.specs.Due.{due_is}
 use Rattle.world.specs.Record.{said}
 use Rattle.world.specs.World.{WorldState, IsAgain}
 use Rattle.world.specs.Playing.{IsPast}

@@ -10,7 +10,7 @@ use Rattle.legal.specs.Next.{numbered}
 use Rattle.world.specs.Wire.{WireState}
 use Rattle.world.specs.WireEntry.{item_lent}
 use Rattle.world.specs.Way.{by_way, IsThere}
-use Rattle.world.specs.NodeState.{NodesOf}
+use Rattle.lab_nodes.specs.NodeState.{NodesOf}
 use Rattle.world.specs.Record.{said}
 use Rattle.world.specs.World.{WorldState, StandsFor, state_of}
 use Rattle.world.specs.Playing.{Finds, Plays, reached_by}

@@ -1,6 +1,6 @@
 use Rattle.std.proofs.Common.{◌≤◌, ◌<◌, arith}
 use Rattle.std.proofs.lemmas.Bool.Decides.{nat_tests}
-use Rattle.world.specs.NodeState.{NodesOf}
+use Rattle.lab_nodes.specs.NodeState.{NodesOf}
 use Rattle.world.proofs.Ticking.{found_first, past_none, past_later}
 use Rattle.world.proofs.world.World.due_by.Goals as goal
 

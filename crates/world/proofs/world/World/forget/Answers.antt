@@ -5,7 +5,7 @@ use Rattle.history.specs.Events.{IsForgotten}
 use Rattle.topology.specs.declared.node.Node.{Node}
 use Rattle.topology.specs.declared.node.Node.TheVariants.{Client as client}
 use Rattle.topology.specs.Topology.{node_at, as_client}
-use Rattle.world.specs.Changes.{ForgetsIn}
+use Rattle.lab_nodes.specs.Changes.{ForgetsIn}
 use Rattle.world.specs.World.{WorldState, state_of}
 use Rattle.world.proofs.States.{some_inj}
 use Rattle.world.proofs.Starts.{Changes, forgets, client_forgotten}

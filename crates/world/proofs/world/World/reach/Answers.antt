@@ -8,7 +8,7 @@ use Rattle.history.specs.Full.{Item, Full}
 use Rattle.legal.specs.Past.{Draws, at_nat}
 use Rattle.legal.specs.Next.{numbered}
 use Rattle.world.specs.WireEntry.{item_lent}
-use Rattle.world.specs.declared.call.Call.{Call}
+use Rattle.lab_nodes.specs.declared.call.Call.{Call}
 use Rattle.world.specs.Wire.{WireState}
 use Rattle.world.specs.World.{WorldState, NeedsMemory, IsCause, state_of}
 use Rattle.world.specs.Playing.{Finds, Plays, acts_in, reached_by}
@@ -59,6 +59,7 @@ returns-in-Err-clause-plays c =
       wire = s.wire;
       there = there;
       rules = c.self.invariant.rules;
+      rows = c.rows_keep_rules.ensures;
       quiet = quiet;
       asks = c.in-Ok.ensures.asks;
       elsewhere = c.ask.ensures.elsewhere;
@@ -98,6 +99,7 @@ returns-clause-plays c =
       wire = s.wire;
       there = there;
       rules = c.self.invariant.rules;
+      rows = c.rows_keep_rules.ensures;
       quiet = quiet;
       asks = c.in-Ok.ensures.asks;
       elsewhere = c.ask.ensures.elsewhere;

@@ -1,5 +1,5 @@
 use Rattle.std.proofs.Common.{subst, ℕ}
-use Rattle.world.specs.Changes.{RestartsIn}
+use Rattle.lab_nodes.specs.Changes.{RestartsIn}
 use Rattle.world.specs.World.{state_of}
 use Rattle.world.proofs.Starts.{Changes, starts_anew}
 use Rattle.world.proofs.world.World.restart.Goals as goal

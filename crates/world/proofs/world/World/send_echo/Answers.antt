@@ -4,7 +4,7 @@ use Rattle.history.specs.declared.acts.Verb.TheVariants as verb
 use Rattle.ipv6_packet.specs.Packets.{packet_bytes}
 use Rattle.topology.specs.Topology.{node_at}
 use Rattle.legal.specs.Next.{numbered, echo_packet, address_at, target_address, hands_in}
-use Rattle.world.specs.NodeState.{NodesOf}
+use Rattle.lab_nodes.specs.NodeState.{NodesOf}
 use Rattle.world.specs.World.{WorldState, StandsFor}
 use Rattle.world.specs.Playing.{Plays}
 use Rattle.world.proofs.world.World.send_echo.Goals as goal

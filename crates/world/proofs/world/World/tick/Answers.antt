@@ -4,7 +4,7 @@ use Rattle.world.specs.World.{WorldState, StandsFor, state_of}
 use Rattle.history.specs.declared.event.Event.{Event}
 use Rattle.history.specs.Full.{Full}
 use Rattle.legal.specs.Past.{Draws, forgotten}
-use Rattle.world.specs.Due.{due_is}
+use Rattle.lab_nodes.specs.Due.{due_is}
 use Rattle.world.specs.Playing.{Plays, ticks_at}
 use Rattle.teredo_node.specs.Journal.{ticked}
 use Rattle.history.specs.declared.acts.Act.TheVariants as act

@@ -1,0 +1,7 @@
+mod Streams
+mod States
+mod Served
+mod Dues
+mod Arrivals
+mod Inputs
+mod Hosts

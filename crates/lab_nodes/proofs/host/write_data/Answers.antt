@@ -1,0 +1,10 @@
+use Rattle.std.proofs.Common.{arith}
+use Rattle.ipv6_packet.specs.Packets.{packet_bytes}
+use Rattle.legal.specs.Next.{data_packet}
+use Rattle.lab_nodes.proofs.Hosts.{has_room, packet_len}
+use Rattle.lab_nodes.proofs.host.write_data.Goals as goal
+
+pub unwrap-requires : goal.unwrap-requires
+unwrap-requires c =
+    let p = data_packet c.args.src c.args.dst c.args.body.now in
+    has_room (packet_bytes p) c.args.out.now _ c.write.result c.write.ensures.written (omega (arith, packet_len p (omega arith) (omega arith)))

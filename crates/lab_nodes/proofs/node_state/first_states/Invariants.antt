@@ -1,0 +1,11 @@
+use Rattle.std.proofs.Common.{◌-◌, length}
+use Rattle.topology.specs.declared.topology.TheConstants.{NODES_MAX}
+use Rattle.legal.specs.Legal.{draws}
+use Rattle.lab_nodes.proofs.States.{FirstStand}
+use Rattle.lab_nodes.proofs.node_state.first_states.Given as goal
+
+abbrev pub invariant-loop-node : goal.invariant-loop-node
+invariant-loop-node l = FirstStand (draws l.seed) l.topology l.states.items
+
+abbrev pub decreases-loop-node : goal.decreases-loop-node
+decreases-loop-node l = NODES_MAX - length l.states.items

@@ -1,0 +1,36 @@
+-- What is asked of a node.
+use Rattle.std.specs.Prelude.{◌≤◌, List, length}
+use Rattle.td_base.specs.declared.endpoint.Ep.{Ep}
+use Rattle.teredo_node.specs.Journal.{Input, arrived, given, from_six, ticked, Entry}
+use Rattle.topology.specs.Rows.{TopologyState}
+use Rattle.history.specs.declared.event.TheConstants.{MOST_BYTES}
+use Rattle.history.specs.Full.{Full}
+use Rattle.legal.specs.Past.{Draws}
+use Rattle.legal.specs.Emit.{entry_of}
+use Rattle.legal.specs.Next.{no_ep}
+use Rattle.lab_nodes.specs.declared.call.Coming.{Coming}
+use Rattle.lab_nodes.specs.declared.call.Coming.TheVariants.{Arrived, Given, FromSix, Ticked}
+use Rattle.lab_nodes.specs.declared.call.Call.{Call}
+
+-- what comes
+abbrev pub input_lent : Coming → Input
+input_lent (Arrived src dst bytes) = arrived src bytes.now
+input_lent (Given bytes) = given bytes.now
+input_lent (FromSix bytes) = from_six bytes.now
+input_lent Ticked = ticked
+
+-- the endpoint that it was sent to
+abbrev pub dst_lent : Coming → Ep
+dst_lent (Arrived src dst bytes) = dst
+dst_lent _ = no_ep
+
+-- no more bytes come than an event or a node may give
+abbrev pub IsShortInput : Input → Type 0
+IsShortInput (arrived from x) = length x ≤ MOST_BYTES
+IsShortInput (given x) = length x ≤ MOST_BYTES
+IsShortInput (from_six x) = length x ≤ MOST_BYTES
+IsShortInput ticked = Unit {0}
+
+-- the entry of a call in the node's journal
+abbrev pub entry_in : Draws → TopologyState → List Full → Call → Entry
+entry_in d t H x = entry_of d t H x.now.0 x.number (dst_lent x.coming) (input_lent x.coming) x.node

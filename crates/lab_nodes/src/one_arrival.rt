@@ -1,0 +1,70 @@
+//! A link that lends one datagram.
+ghost use Rattle.std.specs.Prelude.{◌≡◌, ◌≤◌, [], ◌∷◌, None, length, take, is_ok, IsOk, IfOk};
+ghost use Rattle.td_outside.specs.Link.{attempt, open_on, Datagram, FitsBuffer, Receives, Sends, KeepsTold, came_by};
+ghost use Rattle.lab_nodes.specs.OneArrival.{told_of};
+
+use std::marker::Model;
+use td_base::{Ep, Ip4, Side};
+use td_outside::{Addresses, Arrival, DATAGRAM_MAX, Failed, Link};
+
+/// A link on which one datagram is to come. Every attempt to send succeeds: what a node sends is asked of its step,
+/// and whoever asks puts it on the wire.
+#[derive(Drop)]
+pub struct OneArrival<'a> {
+    on: Option<Addresses>,
+    side: Side,
+    from: Ep,
+    bytes: &'a [u8],
+    is_taken: bool,
+}
+
+impl<'a> OneArrival<'a> {
+    ghost use Rattle.std.specs.Prelude.{None, false};
+
+    pub fn new(side: Side, from: Ep, bytes: &'a [u8]) -> OneArrival<'a>
+        ensures { result ≡ record { on = None; side = side; from = from; bytes = bytes.entry; is_taken = false } }
+    {
+        OneArrival {
+            on: None,
+            side,
+            from,
+            bytes,
+            is_taken: false,
+        }
+    }
+}
+
+impl<'a> Link for OneArrival<'a> {
+    ghost addresses = { λ l. l.on };
+
+    ghost openings = { λ l. None };
+
+    ghost told = { told_of };
+
+    ghost recv_faults = { λ l. 0 };
+
+    ghost send_faults = { λ l. 0 };
+
+    fn open(&mut self, primary: Ip4, secondary: Ip4) -> Result<(), Failed> {
+        self.on = Some(Addresses { primary, secondary });
+        Ok(())
+    }
+
+    fn recv(&mut self, buf: &mut [u8; DATAGRAM_MAX]) -> Result<Arrival, Failed> {
+        if self.is_taken {
+            return Ok(Arrival::Idle);
+        }
+        self.is_taken = true;
+        let len = self.bytes.len().min(DATAGRAM_MAX);
+        buf[..len].copy_from_slice(&self.bytes[..len]);
+        Ok(Arrival::Got {
+            side: self.side,
+            from: self.from,
+            len,
+        })
+    }
+
+    fn send(&mut self, _side: Side, _to: Ep, _bytes: &[u8]) -> Result<(), Failed> {
+        Ok(())
+    }
+}

@@ -1,4 +1,0 @@
-use Rattle.world.proofs.answer.ask_client.Goals as goal
-
-pub returns-in-FromSix-clause-done : goal.returns-in-FromSix-clause-done
-returns-in-FromSix-clause-done c = rw (c.in-FromSix.is) (c.on_six.ensures.done _)

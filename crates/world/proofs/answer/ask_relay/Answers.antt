@@ -1,4 +1,0 @@
-use Rattle.world.proofs.answer.ask_relay.Goals as goal
-
-pub returns-in-Given-clause-done : goal.returns-in-Given-clause-done
-returns-in-Given-clause-done c = rw (c.in-Given.is) (c.on_host.ensures.done _)

@@ -1,6 +1,0 @@
--- Which tick is due first, as a world finds it.
-use Rattle.legal.specs.Next as next
-use Rattle.world.specs.declared.due.Due.{Due}
-
-abbrev pub due_is : Due → next.Due
-due_is x = record { moment = x.moment.0; number = x.number; node = x.node }
