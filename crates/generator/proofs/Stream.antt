@@ -1,5 +1,5 @@
 -- The words of the events, as a generator gives them.
-use Rattle.std.proofs.Common.{◌≡◌, ℕ, ◌+◌, ◌*◌, ◌^◌, ◌<◌, zero, suc, length, length-append, List, [], ◌∷◌, ◌++◌, refl, ap, ◌∙◌, arith}
+use Rattle.std.proofs.Common.{◌≡◌, ℕ, ◌+◌, ◌*◌, ◌%◌, ◌^◌, ◌<◌, zero, suc, length, length-append, List, [], ◌∷◌, ◌++◌, refl, ap, ◌∙◌, arith}
 use Rattle.rand_chacha.specs.ChaCha.{ChaCha, key_of, of_seed, word_at}
 use Rattle.qualify.specs.Generator.{chacha20, words_of, after_words}
 use Rattle.legal.specs.Legal.{stream_key, draws}
@@ -34,7 +34,9 @@ three_more follow seed i rng is =
 word_is : GoOn → OfSeed → (seed n k : ℕ) (rng : ChaCha) → n + k < 2 ^ 68 → rng ≡ after_words n (start seed) → words_of rng k ≡ event_word seed (n + k)
 unfolding draws
 word_is go_on of_seed seed n k rng few is =
+    let same : n + k ≡ (n + k) % 2 ^ 68 = omega (arith, few) in
     ap (λ (g : ChaCha). words_of g k) is ∙ go_on (start seed) n k ∙ of_seed (stream_key seed EVENTS_STREAM) (n + k) few
+    ∙ ap (word_at chacha20 (key_of (stream_key seed EVENTS_STREAM)) 0) same
 
 pub event_is : GoOn → OfSeed → (seed i : ℕ) (rng : ChaCha) → i < 50000 → rng ≡ after_words (3 * i) (start seed) → generated_event i (words_of rng 0) (words_of rng 1) (words_of rng 2) ≡ event_numbered seed i
 event_is go_on of_seed seed i rng few is =
