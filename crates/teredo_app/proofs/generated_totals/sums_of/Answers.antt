@@ -7,6 +7,27 @@ use Rattle.teredo_app.proofs.Written.{untold, untold_line}
 use Rattle.teredo_app.proofs.Played as played
 use Rattle.teredo_app.proofs.generated_totals.sums_of.Goals as goal
 
+pub loop-turn-preserved : goal.loop-turn-preserved
+loop-turn-preserved c =
+    let event : slice_get c.args.s.now.events c.loop-index.index ≡ Some c.event-item.result = subst (λ (es : List Event). slice_get es c.loop-index.index ≡ Some c.event-item.result) c.as_slice-event-items.ensures (slice_get_read c.as_slice-event-items.result.now _ c.loop-index.index c.event-item.result refl (omega arith) c.event-item.is) in
+    let turned : played.Turned (told c.args.s.now) untold untold = record {
+      w = c.loop-turn.world;
+      new = c.step.new.self;
+      sums = c.loop-turn.sums;
+      index = c.loop-index.index;
+      event = c.event-item.result;
+      turn = c.in-Ok-step.turn;
+      played = c.loop-turn.invariant;
+      is = event;
+      steps = c.in-Ok-step.ensures.ok;
+      falls = c.in-Ok-step.ensures.falls;
+      time = c.in-Ok-step.ensures.time;
+      entries = c.in-Ok-step.ensures.entries;
+    } in
+    let adds = rw c.record_in.ensures at c.add.ensures.sums in
+    let more = sym c.is_more.ensures ∙ c.if-not-is_more.false in
+    played.goes_on c.of_its_event.ensures (told c.args.s.now) untold untold untold turned c.add.new.self more (untold_line _) adds
+
 pub loop-index-preserved : goal.loop-index-preserved
 loop-index-preserved c =
     let event : slice_get c.args.s.now.events c.loop-index.index ≡ Some c.event-item.result = subst (λ (es : List Event). slice_get es c.loop-index.index ≡ Some c.event-item.result) c.as_slice-event-items.ensures (slice_get_read c.as_slice-event-items.result.now _ c.loop-index.index c.event-item.result refl (omega arith) c.event-item.is) in
