@@ -4,4 +4,5 @@ mod Served
 mod Dues
 mod Arrivals
 mod Inputs
+mod Unsent
 mod Hosts

@@ -36,12 +36,15 @@ abbrev pub IsNoNative : Node → Type 0
 IsNoNative (native h) = ⊥
 IsNoNative _ = Unit {0}
 
--- memory is wanting where something is to be kept
+-- a step in which memory may be wanting: it sends something, or has a fate at which something is kept
+abbrev pub SendsOrKeeps : Step → Type 0
+SendsOrKeeps step = step.sends ≡ [] → takes_memory step.fate ≡ true
+
 abbrev pub Starves : Client → ℕ → Input → Type 0
-Starves c m input = (j : Journal) → ClientStandsFor c j → takes_memory (next_entry c j m input).step.fate ≡ true
+Starves c m input = (j : Journal) → ClientStandsFor c j → SendsOrKeeps (next_entry c j m input).step
 
 abbrev pub RelayStarves : Relay → ℕ → Input → Type 0
-RelayStarves r m input = (j : List Entry) → RelayStandsFor r j → takes_memory (relays.next_entry r j m input).step.fate ≡ true
+RelayStarves r m input = (j : List Entry) → RelayStandsFor r j → SendsOrKeeps (relays.next_entry r j m input).step
 
 -- STATES
 
@@ -55,7 +58,7 @@ pub record Answers (x : Call) (old new : NodeState) (step : Step) : Type 0 where
 -- memory was wanting
 abbrev pub Wants : Call → NodeState → Type 0
 Wants x old = (d : Draws) (t : TopologyState) (H : List Full) → IsKept t x.number x.node (past_of d t x.number H) old
-    → takes_memory (entry_in d t H x).step.fate ≡ true
+    → SendsOrKeeps (entry_in d t H x).step
 
 -- ALL THAT COMES OF A CALL
 

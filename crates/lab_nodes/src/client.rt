@@ -29,6 +29,8 @@ fn ask_client(client: &mut Client, call: Call<'_>, step: &mut Step) -> Result<()
     ensures starved { OnErr result (Starves client.old call.entry.now.0 (input_lent call.entry.coming)) }
     ensures again { client.new.peers.moment ≤ call.entry.now.0 }
 {
+    client_rules::fate_of_reception();
+    client_rules::reception_is_warranted();
     match call.coming {
         Coming::Arrived { src, bytes, .. } => {
             client.on_datagram(call.now, Side::Primary, src, bytes, step)

@@ -20,6 +20,7 @@ fn ask_relay(relay: &mut Relay, call: Call<'_>, step: &mut Step) -> Result<(), N
     ensures starved { OnErr result (RelayStarves relay.old call.entry.now.0 (input_lent call.entry.coming)) }
     ensures again { relay.new.peers.moment ≤ call.entry.now.0 }
 {
+    relay_rules::fate_of_transmission();
     match call.coming {
         Coming::Arrived { src, bytes, .. } => {
             relay.on_datagram(call.now, Side::Primary, src, bytes, step)

@@ -6,6 +6,7 @@ use Rattle.lab_nodes.specs.Call.{dst_lent, input_lent, entry_in}
 use Rattle.lab_nodes.specs.NodeState.{past_of, IsKeptIn}
 use Rattle.lab_nodes.specs.Changes.{with_call}
 use Rattle.lab_nodes.proofs.Inputs.{input_is}
+use Rattle.lab_nodes.proofs.Unsent.{none_sent}
 use Rattle.lab_nodes.proofs.States.{set_there, set_elsewhere}
 use Rattle.lab_nodes.proofs.answer.ask_kept.Goals as goal
 
@@ -18,7 +19,7 @@ returns-in_default-clause-wants c = λ d t H kept none.
     let items = c.args.nodes.now.items in
     let within : c.from-number.result < length items = rw (c.from-number.ensures) c.requires.within in
     let here : slice_get items x.number ≡ Some c.index_mut-state.result.now = ap (slice_get items) (sym c.from-number.ensures) ∙ slice_get_read items (length items) c.from-number.result c.index_mut-state.result.now refl within c.index_mut-state.ensures.value in
-    c.in_default.ensures.starved d t H (subst (IsKeptIn t x.number x.node (past_of d t x.number H)) here kept)
+    c.in_default.ensures.starved d t H (subst (IsKeptIn t x.number x.node (past_of d t x.number H)) here kept) (none_sent d t H x.now.0 x.number (dst_lent x.coming) (input_lent x.coming) x.node c.requires.kind none)
 
 pub returns-in_default-packet_of-clause-wants : goal.returns-in_default-packet_of-clause-wants
 returns-in_default-packet_of-clause-wants c = λ d t H kept none.

@@ -1,0 +1,104 @@
+-- Where nothing is made of an entry it sends nothing, and has a fate at which something is kept.
+use Rattle.std.proofs.Common.{◌≡◌, ℕ, Bool, true, false, List, [], ◌∷◌, ◌++◌, Option, Some, None, refl, sym, ap, ◌∙◌}
+use Rattle.std.specs.Prelude.{map, option_to_list}
+use Rattle.std.proofs.lemmas.Bool.{false≢true}
+use Rattle.td_base.specs.declared.endpoint.Ep.{Ep}
+use Rattle.td_base.specs.declared.ipv6.Ip6.{Ip6}
+use Rattle.td_base.specs.declared.reach.Policy.{Policy}
+use Rattle.indications.specs.Leads.{origin_in}
+use Rattle.ipv6_packet.specs.Reads.{fields_in}
+use Rattle.bubble.specs.Reads.{value_in}
+use Rattle.bubble.specs.PacketsIn.{source_in, destination_in}
+use Rattle.teredo_node.specs.declared.fate.Fate.{Fate}
+use Rattle.teredo_node.specs.declared.fate.Fate.TheVariants as fate
+use Rattle.teredo_node.specs.Step.{Send}
+use Rattle.teredo_node.specs.Sends.{has_any}
+use Rattle.teredo_node.specs.Journal.{Input, arrived, given, from_six, ticked, Entry, Journal, Words}
+use Rattle.nat_kinds.specs.History.{Entry as NatEntry}
+use Rattle.nat_kinds.specs.declared.settings.NatSettings.{NatSettings}
+use Rattle.qualify.specs.declared.settings.Settings.{Settings}
+use Rattle.qualify.specs.Advertisements.{heard}
+use Rattle.client_core.specs.Client.{lists}
+use Rattle.client_rules.specs.Standing.{Standing, standing_of}
+use Rattle.client_rules.specs.Reception.{is_good_origin, seen, reception_fate, reception_step, reception}
+use Rattle.client_rules.specs.Warrants.{ReceivedOnlyIf}
+use Rattle.client_rules.specs.Laws.{FateOfReception, ReceptionIsWarranted}
+use Rattle.client_rules.specs.Journals.{client_in}
+use Rattle.relay_core.specs.declared.relay.Relay.{Relay}
+use Rattle.relay_core.specs.Relay.{settings_of, TakesRoom, to_wait, to_list}
+use Rattle.relay_rules.specs.Standing.{RelaySettings, standing_of as relay_standing_of}
+use Rattle.relay_rules.specs.Transmission.{given as given_to, transmission_row, transmission_step, transmission}
+use Rattle.relay_rules.specs.Laws.{FateOfTransmission}
+use Rattle.relay_rules.specs.Journals.{relay_six}
+use Rattle.topology.specs.Rows.{TopologyState}
+use Rattle.topology.specs.declared.node.Node.{Node}
+use Rattle.topology.specs.declared.node.Node.TheVariants.{Server as server, Nat as nat, Client as client, Relay as relay, Native as native}
+use Rattle.topology.specs.Topology.{nat_at, settings_of_nat}
+use Rattle.history.specs.Full.{Made, Full}
+use Rattle.legal.specs.Past.{Draws, nat_history, armed}
+use Rattle.legal.specs.Emit.{entry_of, through_nat, outright, six_made, made_of}
+use Rattle.lab_nodes.specs.Memory.{takes_memory}
+use Rattle.lab_nodes.specs.Answers.{IsNoNative, SendsOrKeeps}
+
+-- WHERE NOTHING IS MADE
+
+filled : {A : Type 0} (x : A) (xs : List A) → x ∷ xs ≡ [] → ⊥
+filled x xs e = false≢true (sym (ap has_any e))
+
+none_through : (s : NatSettings) (fails : Option ℕ) (m : ℕ) (inside : Ep) (i : ℕ) (h : List NatEntry) (sends : List Send) → through_nat s fails m inside i h sends ≡ [] → sends ≡ []
+none_through s fails m inside i h [] e = refl
+none_through s fails m inside i h (y ∷ ys) e = absurd (false≢true (sym (ap has_any e)))
+
+none_outright : (a : Node) (fails : Option ℕ) (i : ℕ) (sends : List Send) (more : List Made) → outright a fails i sends ++ more ≡ [] → sends ≡ []
+none_outright a fails i [] more e = refl
+none_outright a fails i (y ∷ ys) more e = absurd (false≢true (sym (ap has_any e)))
+
+-- where nothing is made of an entry it sends nothing
+pub none_sent : (d : Draws) (t : TopologyState) (H : List Full) (m n : ℕ) (dst : Ep) (input : Input) (a : Node) → IsNoNative a
+    → made_of t H m (entry_of d t H m n dst input a) a ≡ [] → (entry_of d t H m n dst input a).step.sends ≡ []
+none_sent d t H m n dst input (server a) no_native e = let x = entry_of d t H m n dst input (server a) in none_outright (server a) (armed H) 0 x.step.sends (six_made x.input x.step.six) e
+none_sent d t H m n dst input (client c) no_native e = none_through (settings_of_nat (nat_at t c.nat)) (armed H) m c.inside 0 (nat_history t c.nat H) (entry_of d t H m n dst input (client c)).step.sends e
+none_sent d t H m n dst input (relay r) no_native e = let x = entry_of d t H m n dst input (relay r) in none_outright (relay r) (armed H) 0 x.step.sends (six_made x.input x.step.six) e
+none_sent d t H m n dst input (native h) no_native e = absurd no_native
+none_sent d t H m n dst (arrived from x) (nat a) no_native e = refl
+none_sent d t H m n dst (given x) (nat a) no_native e = refl
+none_sent d t H m n dst (from_six x) (nat a) no_native e = refl
+none_sent d t H m n dst ticked (nat a) no_native e = refl
+
+-- WHERE NOTHING IS SENT
+
+-- a good origin is there, so a bubble goes to it
+answered : {A : Type 0} (policy : Policy) (p : Ip6) (origin : Option Ep) (f : Ep → A) → is_good_origin policy p origin ≡ true → map f (option_to_list origin) ≡ [] → ⊥
+answered policy p None f good e = false≢true good
+answered policy p (Some at) f good e = false≢true (sym (ap has_any e))
+
+-- a line that lists the source of a datagram and sends nothing has a fate that takes memory
+listing : (s : Settings) (a : Standing) (from : Ep) (x : List ℕ) (w : Words) (f : Fate) → ReceivedOnlyIf f (seen s a from x) (heard s a.qualification from (value_in x)) → lists f ≡ true
+    → (reception_step s a from x (value_in x) w f).sends ≡ [] → takes_memory f ≡ true
+unfolding seen
+listing s a from x w fate.Indirect h l unsent = absurd (answered s.policy (value_in x).packet.src (origin_in (value_in x).lead) _ h.origin unsent)
+listing s a from x w fate.SuspiciousTest h l unsent = absurd (filled _ _ unsent)
+listing s a from x w fate.Rule3 h l unsent = refl
+listing s a from x w fate.Rule3Bubble h l unsent = refl
+listing s a from x w _ h l unsent = absurd (false≢true l)
+
+pub lists_unsent : FateOfReception → ReceptionIsWarranted → (s : Settings) (j : Journal) (m : ℕ) (from : Ep) (x : List ℕ) (w : Words) → lists (client_in s j m from x w).step.fate ≡ true
+    → SendsOrKeeps (client_in s j m from x w).step
+unfolding client_in reception
+lists_unsent fates warranted s j m from x w l unsent =
+    let a = standing_of s j m (source_in x) in
+    let is = fates s a from x w in
+    ap takes_memory is ∙ listing s a from x w (reception_fate s a from x) (warranted s a from x) (sym (ap lists is) ∙ l) unsent
+
+-- a packet to a cone is sent
+cone_sent : FateOfTransmission → (s : RelaySettings) (j : List Entry) (m : ℕ) (x : List ℕ) → (relay_six s j m x).step.fate ≡ fate.SentCone → SendsOrKeeps (relay_six s j m x).step
+unfolding relay_six transmission
+cone_sent fates s j m x is unsent =
+    let a = relay_standing_of j m (destination_in x) in
+    let row : transmission_row (given_to s a x) ≡ fate.SentCone = sym (fates s a x) ∙ is in
+    absurd (filled _ _ (sym (ap (λ (f : Fate). (transmission_step s a x (fields_in x).dst f).sends) row) ∙ unsent))
+
+-- so what takes room and sends nothing is a packet that waits
+pub room_unsent : FateOfTransmission → (r : Relay) (j : List Entry) (m : ℕ) (x : List ℕ) → TakesRoom r m x j → SendsOrKeeps (relay_six (settings_of r) j m x).step
+room_unsent fates r j m x (to_wait is) unsent = ap takes_memory is
+room_unsent fates r j m x (to_list is new) unsent = cone_sent fates (settings_of r) j m x is unsent
