@@ -1,6 +1,6 @@
 //! Clients behind a NAT, played by `run`: how they qualify, what a restart does, what waits and what is given up.
 use crate::nets::{CLIENT, CONE_NAT, PORT_NAT, SERVER, SYMMETRIC_NAT};
-use crate::runs::{LAB, Scene, ended, ending, plays_so, text_of};
+use crate::runs::{LAB, Scene, ended, ending, plays_so, text_with};
 use std::alloc::Global;
 use std::test::Fail;
 use td_base::NoMemory;
@@ -103,14 +103,11 @@ const DIGITS: [&str; 16] = [
     "0", "1", "2", "3", "4", "5", "6", "7", "8", "9", "a", "b", "c", "d", "e", "f",
 ];
 
-/// Its host sends once to each of 257 peers.
+/// A client is qualified, and its host sends once to each of 257 peers.
 fn to_many_peers(alloc: Global) -> Result<String, NoMemory> {
-    let mut events = String::new(alloc);
+    let mut events = String::from_str(alloc, FOUR_TRIES)?;
     for peer in 0..257 {
-        if peer > 0 {
-            events.push_str(", ")?;
-        }
-        events.push_str("\"host a 2001:0:c000:201:0:fbff:cb00:7")?;
+        events.push_str(", \"host a 2001:0:c000:201:0:fbff:cb00:7")?;
         for digit in [1 + peer / 256, peer / 16 % 16, peer % 16] {
             events.push_str(DIGITS[digit])?;
         }
@@ -126,31 +123,35 @@ const UNTIL_THE_WIRE_IS_FULL: &str = r#""advance 1000000000", "advance 100000000
 const PEERS_FULL: &[u8] =
     b"270 12000 265 host a peers_full\ntotal records 271 entries 520 delivered 6 handed 0 kept 0 dropped 2\n";
 
+/// Whether the scenario ends with this status, after so many lines, the last of which are these.
+fn ends_with(
+    alloc: Global,
+    text: &str,
+    status: u8,
+    lines: usize,
+    last: &[u8],
+) -> Result<bool, NoMemory> {
+    let (found, sink) = ended(alloc, &ending(&LAB, text, 0, ""))?;
+    let written = sink.as_slice();
+    let count = written.iter().filter(|byte| **byte == b'\n').count();
+    Ok(found == status && count == lines && written.ends_with(last))
+}
+
 #[test]
-fn a_peer_too_many_and_an_entry_too_many(rt: HostRuntime) -> Result<(), Fail> {
+fn a_peer_too_many(rt: HostRuntime) -> Result<(), Fail> {
     let events = to_many_peers(rt.alloc())?;
-    let many_peers = Scene {
-        nodes: &[SERVER, PORT_NAT, CLIENT],
-        events: &[FOUR_TRIES, events.as_str()],
-        report: "",
-    };
-    let full_wire = Scene {
-        nodes: &[SERVER, CONE_NAT, CLIENT],
-        events: &[ONE_TRY, UNTIL_THE_WIRE_IS_FULL],
-        report: "",
-    };
-    for (scene, status, lines, last) in [
-        (many_peers, 0, 272, PEERS_FULL),
-        (full_wire, 8, 65_540, b"wire full\n".as_slice()),
-    ] {
-        let text = text_of(rt.alloc(), &scene)?;
-        let (found, sink) = ended(rt.alloc(), &ending(&LAB, text.as_str(), 0, ""))?;
-        let written = sink.as_slice();
-        let count = written.iter().filter(|byte| **byte == b'\n').count();
-        assert!(rt;
-            found == status && count == lines && written.ends_with(last),
-            "{status}"
-        );
-    }
+    let nodes = [SERVER, PORT_NAT, CLIENT];
+    let text = text_with(rt.alloc(), &nodes, &[events.as_str()])?;
+    assert!(rt; ends_with(rt.alloc(), text.as_str(), 0, 272, PEERS_FULL)?);
+    Ok(())
+}
+
+#[test]
+fn an_entry_too_many(rt: HostRuntime) -> Result<(), Fail> {
+    let nodes = [SERVER, CONE_NAT, CLIENT];
+    let events = [ONE_TRY, UNTIL_THE_WIRE_IS_FULL];
+    let text = text_with(rt.alloc(), &nodes, &events)?;
+    let last = b"wire full\n".as_slice();
+    assert!(rt; ends_with(rt.alloc(), text.as_str(), 8, 65_540, last)?);
     Ok(())
 }

@@ -1,5 +1,5 @@
 //! Texts that are no scenario, and the line of the first refusal of each.
-use crate::runs::{LAB, Row, ending, ends_so};
+use crate::runs::{LAB, ending, ending_on, ends_so};
 use std::test::Fail;
 use teredo_app::TEXT_READ_MAX;
 
@@ -83,16 +83,10 @@ fn the_first_refusal_is_named(rt: HostRuntime) -> Result<(), Fail> {
 
 #[test]
 fn bytes_that_are_no_text(rt: HostRuntime) -> Result<(), Fail> {
+    let row = ending_on(&LAB, b"\xff\xfe".as_slice(), 3, "scenario: not toml\n");
+    assert!(rt; ends_so(rt.alloc(), &row)?);
     let long = vec![in rt.alloc(); b' '; TEXT_READ_MAX]?;
-    for (text, line) in [
-        (b"\xff\xfe".as_slice(), "scenario: not toml\n"),
-        (long.as_slice(), "scenario: too long\n"),
-    ] {
-        let row = Row {
-            text,
-            ..ending(&LAB, "", 3, line)
-        };
-        assert!(rt; ends_so(rt.alloc(), &row)?, "{line}");
-    }
+    let row = ending_on(&LAB, long.as_slice(), 3, "scenario: too long\n");
+    assert!(rt; ends_so(rt.alloc(), &row)?);
     Ok(())
 }

@@ -23,9 +23,19 @@ pub struct Row<'a> {
 
 /// A run in which no call fails.
 pub fn ending<'a>(words: &'a [&'a str], text: &'a str, status: u8, written: &'a str) -> Row<'a> {
+    ending_on(words, text.as_bytes(), status, written)
+}
+
+/// A run in which no call fails, on bytes that may be no text.
+pub fn ending_on<'a>(
+    words: &'a [&'a str],
+    text: &'a [u8],
+    status: u8,
+    written: &'a str,
+) -> Row<'a> {
     Row {
         words,
-        text: text.as_bytes(),
+        text,
         read_fails: &[],
         write_fails: &[],
         status,
@@ -58,22 +68,22 @@ pub struct Scene<'a> {
     pub report: &'a str,
 }
 
-/// The text of a scene.
-pub fn text_of(alloc: Global, scene: &Scene) -> Result<String, NoMemory> {
+/// The text with these lists of events and these tables of nodes.
+pub fn text_with(alloc: Global, nodes: &[&str], events: &[&str]) -> Result<String, NoMemory> {
     let mut text = String::from_str(alloc, "seed = 1\nevents = [")?;
-    for events in scene.events {
-        text.push_str(events)?;
+    for list in events {
+        text.push_str(list)?;
         text.push_str(", ")?;
     }
     text.push_str("]\n")?;
-    for nodes in scene.nodes {
-        text.push_str(nodes)?;
+    for table in nodes {
+        text.push_str(table)?;
     }
     Ok(text)
 }
 
 /// Whether the scene is played to its end, with its report.
 pub fn plays_so(alloc: Global, scene: &Scene) -> Result<bool, NoMemory> {
-    let text = text_of(alloc, scene)?;
+    let text = text_with(alloc, scene.nodes, scene.events)?;
     ends_so(alloc, &ending(&LAB, text.as_str(), 0, scene.report))
 }
