@@ -47,6 +47,15 @@ in_turn (Some a) (Some b) (Some c) = of_three a b c
 abbrev pub tick_of : TopologyState → List Full → ℕ → ℕ → Node → Option Due
 tick_of t H m n a = option_map (λ (k : ℕ). record { moment = k; number = n; node = a }) (due_of t H m n a)
 
+-- the tick of a node at a moment
+abbrev at_moment : ℕ → Node → ℕ → Due
+at_moment n a k = record { moment = k; number = n; node = a }
+
+pub tick_at : {A : Type 0} → (f : A → ℕ) (n : ℕ) (a : Node) (o : Option A) (due : Option ℕ) → option_map f o ≡ due
+    → option_map (λ (m : A). at_moment n a (f m)) o ≡ option_map (at_moment n a) due
+tick_at f n a None due is = ap (option_map (at_moment n a)) is
+tick_at f n a (Some m) due is = ap (option_map (at_moment n a)) is
+
 -- the first tick of the nodes before n, and those of the others
 pub record IsFirstSo (t : TopologyState) (H : List Full) (all : List Node) (n : ℕ) (first : Option Due) : Type 0 where
   pub whole : earlier first (least_due t H n (drop n all)) ≡ least_due t H 0 all

@@ -1,5 +1,5 @@
 //! Which tick is due first.
-ghost use Rattle.std.specs.Prelude.{◌≡◌, ◌<◌, ℕ, List, Some, slice_get, option_map};
+ghost use Rattle.std.specs.Prelude.{◌≡◌, ◌<◌, ℕ, if◌then◌else◌, List, Some, slice_get, option_map};
 ghost use Rattle.td_outside.specs.declared.clock.TheConstants.{CLOCK_END_MS};
 ghost use Rattle.topology.specs.Rows.{TopologyState};
 ghost use Rattle.topology.specs.Topology.{nodes};
@@ -24,11 +24,11 @@ pub struct Due {
 }
 
 /// When a tick of a node is due: a server, a NAT and a native host have none.
-fn due_of(node: Node, state: &NodeState, at: Millis) -> Option<Millis>
+fn due_of(node: &Node, state: &NodeState, at: Millis) -> Option<Millis>
     requires ready { IsReady at.0 state.now }
     requires early { at.0 < CLOCK_END_MS }
-    ensures { (d : Draws) (t : TopologyState) (H : List Full) (n : ℕ) → IsKept t n node (past_of d t n H) state.now
-        → option_map (λ m. m.0) result ≡ due_of t H at.0 n node }
+    ensures { (d : Draws) (t : TopologyState) (H : List Full) (n : ℕ) → IsKept t n node.now (past_of d t n H) state.now
+        → option_map (λ m. m.0) result ≡ due_of t H at.0 n node.now }
 {
     match node {
         Node::Client(_) => match state {
@@ -49,36 +49,40 @@ fn due_of(node: Node, state: &NodeState, at: Millis) -> Option<Millis>
     }
 }
 
-/// The tick of the node of a number.
-fn due_at(states: &[NodeState], number: u16, node: Node, at: Millis) -> Option<Due>
+/// When a tick of the node of a number is due.
+fn due_at(states: &[NodeState], number: u16, node: &Node, at: Millis) -> Option<Millis>
     requires ready { AreReady at.0 states.now }
     requires early { at.0 < CLOCK_END_MS }
-    ensures { (d : Draws) (t : TopologyState) (H : List Full) → IsKeptIn t number node (past_of d t number H) (slice_get states.now number)
-        → option_map due_is result ≡ option_map (λ m. record { moment = m; number = number; node = node }) (due_of t H at.0 number node) }
+    ensures { (d : Draws) (t : TopologyState) (H : List Full) → IsKeptIn t number node.now (past_of d t number H) (slice_get states.now number)
+        → option_map (λ m. m.0) result ≡ due_of t H at.0 number node.now }
 {
     let state = states.get(usize::from(number))?;
-    let moment = due_of(node, state, at)?;
-    Some(Due {
-        moment,
-        number,
-        node,
-    })
+    due_of(node, state, at)
 }
 
-/// The earlier one of two, the first where they are due at one moment.
-fn earlier(first: Option<Due>, other: Option<Due>) -> Option<Due>
-    ensures { option_map due_is result ≡ next.earlier (option_map due_is first) (option_map due_is other) }
+/// Whether a tick at a moment is due before the first one so far, if there is one.
+fn comes_first(first: &Option<Due>, moment: Millis) -> bool
+    ensures { (x : next.Due) → x.moment ≡ moment.0 → next.earlier (option_map due_is first.now) (Some x) ≡ (if result then Some x else option_map due_is first.now) }
 {
-    let Some(one) = first else {
-        return other;
+    match first {
+        None => true,
+        Some(one) => moment.0 < one.moment.0,
+    }
+}
+
+/// Puts the tick of a node in the place of the first one, where it is due earlier.
+fn put_earlier(first: &mut Option<Due>, moment: Option<Millis>, number: u16, node: &Node)
+    ensures { option_map due_is first.new ≡ next.earlier (option_map due_is first.old) (option_map (λ m. record { moment = m.0; number = number; node = node.now }) moment) }
+{
+    let Some(moment) = moment else {
+        return;
     };
-    let Some(two) = other else {
-        return first;
-    };
-    if two.moment.0 < one.moment.0 {
-        other
-    } else {
-        first
+    if comes_first(first, moment) {
+        *first = Some(Due {
+            moment,
+            number,
+            node: *node,
+        });
     }
 }
 
@@ -92,7 +96,8 @@ pub fn first_due(topology: &Topology, states: &[NodeState], at: Millis) -> Optio
     let mut first = None;
     let mut number: u16 = 0;
     while let Some(node) = topology.node(usize::from(number)) {
-        first = earlier(first, due_at(states, number, node, at));
+        let moment = due_at(states, number, &node, at);
+        put_earlier(&mut first, moment, number, &node);
         number += 1;
     }
     first
