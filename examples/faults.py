@@ -1,0 +1,92 @@
+#!/usr/bin/env python3
+"""faults.py [--check] [PROGRAM]: which of two faults in one text is named.
+
+Each fault is put into a scenario that is right otherwise, alone and together with each other one that leaves it in the
+text. The table says which is named. `--check` prints nothing where the table is that of `faults.txt`, and else what
+differs, with status 1.
+"""
+import os
+import subprocess
+import sys
+import tempfile
+
+HERE = os.path.dirname(os.path.abspath(__file__))
+PROGRAM = os.path.join(HERE, '..', 'crates', 'teredo_cli', 'out', 'teredo_cli')
+STORED = os.path.join(HERE, 'faults.txt')
+GOOD = {
+    'first': '',
+    'seed': 'seed = 1\n',
+    'events': 'events = ["next"]\n',
+    'server': '[[server]]\nname = "s1"\nprimary = "192.0.2.1"\nsecondary = "192.0.2.2"\n',
+    'nat': '[[nat]]\nname = "n1"\nkind = "cone"\nexternal = "198.51.100.1"\nidle = 60000\n',
+    'client': '[[client]]\nname = "a"\nnat = "n1"\ninside = "10.0.0.2:4000"\nserver = "s1"\n',
+    'relay': '[[relay]]\nname = "r1"\nat = "203.0.113.9:3545"\nsix = "2001:db8::9"\n',
+    'native': '[[native]]\nname = "h"\nsix = "2001:db8::1"\nrelay = "r1"\n',
+    'last': '',
+}
+# What is wrong, and the parts of the text that say so.
+FAULTS = [
+    ('too long', {'last': '#' * 4_194_304}),
+    ('no TOML', {'last': '}\n'}),
+    ('unknown key', {'first': 'zzz = 1\n'}),
+    ('no seed', {'seed': ''}),
+    ('seed of another kind', {'seed': 'seed = true\n'}),
+    ('seed out of range', {'seed': 'seed = -1\n'}),
+    ('server no list', {'server': '[server]\n'}),
+    ('unknown key of a server', {'server': GOOD['server'] + 'zz = 1\n'}),
+    ('bad name of a server', {'server': GOOD['server'].replace('s1', 'S1')}),
+    ('addresses of a server alike', {'server': GOOD['server'].replace('192.0.2.2', '192.0.2.1')}),
+    ('kind of NAT', {'nat': GOOD['nat'].replace('cone', 'con')}),
+    ('address that a server has', {'nat': GOOD['nat'].replace('198.51.100.1', '192.0.2.1')}),
+    ('unknown NAT of a client', {'client': GOOD['client'].replace('n1', 'n2')}),
+    ('port 0 of a relay', {'relay': GOOD['relay'].replace('3545', '0')}),
+    ('Teredo address of a native host', {'native': GOOD['native'].replace('2001:db8::1', '2001::1')}),
+    ('no events', {'events': ''}),
+    ('events of another kind', {'events': 'events = [5]\n'}),
+    ('bad event', {'events': 'events = ["next", "deliver x"]\n'}),
+]
+
+
+def text_of(*faults):
+    parts = dict(GOOD)
+    for _, changes in faults:
+        parts.update(changes)
+    return ''.join(parts.values())
+
+
+def line_of(program, text):
+    with tempfile.NamedTemporaryFile('w', suffix='.toml') as file:
+        file.write(text)
+        file.flush()
+        played = subprocess.run([program, 'lab', file.name], capture_output=True, text=True, timeout=60)
+    if played.returncode != 3:
+        sys.exit(f'status {played.returncode} for\n{text[:2000]}')
+    return played.stdout.strip()
+
+
+def table(program):
+    lines = [f'{fault[0]}: {line_of(program, text_of(fault))}' for fault in FAULTS]
+    for at, one in enumerate(FAULTS):
+        for two in FAULTS[at + 1:]:
+            if not set(one[1]) & set(two[1]):
+                lines.append(f'{one[0]}, {two[0]}: {line_of(program, text_of(one, two))}')
+    return '\n'.join(lines) + '\n'
+
+
+def main(words):
+    check = words[:1] == ['--check']
+    programs = words[check:] or [PROGRAM]
+    made = table(programs[0])
+    if not check:
+        print(made, end='')
+        return 0
+    with open(STORED, encoding='utf-8') as file:
+        stored = file.read()
+    for old, new in zip(stored.splitlines(), made.splitlines()):
+        if old != new:
+            print(f'stored {old!r}\nmade   {new!r}')
+    return 0 if made == stored else 1
+
+
+if __name__ == '__main__':
+    sys.exit(main(sys.argv[1:]))
