@@ -134,6 +134,9 @@ PACKETS = {
     'scenarios/spoofed_advertisement.toml': [
         authentication(NONCE) + origin('203.0.113.66:9') + advertisement('192.0.2.1', link_local('10.0.0.2:4000', cone=True)),
     ],
+    'scenarios/unserved_host.toml': [
+        packet(teredo('192.0.2.1', '198.51.100.1:1024'), '2001:db8::77', DATA, b'\x04'),
+    ],
     'datagrams/solicitation.hex': [ASKS],
     'datagrams/advertisement.hex': [authentication(NONCE) + origin(HOST) + advertisement('192.0.2.1', link_local(HOST))],
     'datagrams/bubble.hex': [bubble(teredo('65.54.227.120', '192.0.2.45:40000', cone=True), teredo('65.54.227.120', HOST))],
