@@ -89,30 +89,14 @@ advert_fate s q from v =
 -- what they mean for peers, and what is done, where none is another address
 kind_bears : (k : Kind) (e : Entry) → bearing_of (kind_fate k) e ≡ no_bearing
 kind_bears is_nonce e = refl
-kind_bears is_source e = refl
-kind_bears is_origin e = refl
-kind_bears is_prefix e = refl
-kind_bears is_cone e = refl
-kind_bears is_first e = refl
-kind_bears is_restricted e = refl
-kind_bears is_symmetric e = refl
-kind_bears is_same e = refl
-kind_bears is_moved e = refl
+kind_bears _ e = refl
 
 bears_none : (f : Fate) (e : Entry) → AdvertFate f → bearing_of f e ≡ no_bearing
 bears_none f e a = ap (λ (g : Fate). bearing_of g e) a.is ∙ kind_bears a.kind e
 
 kind_epoch : (k : Kind) → (kind_fate k ≡ fate.Changed → ⊥) → is_changed (kind_fate k) ≡ false
-kind_epoch is_nonce other = refl
-kind_epoch is_source other = refl
-kind_epoch is_origin other = refl
-kind_epoch is_prefix other = refl
-kind_epoch is_cone other = refl
-kind_epoch is_first other = refl
-kind_epoch is_restricted other = refl
-kind_epoch is_symmetric other = refl
-kind_epoch is_same other = refl
 kind_epoch is_moved other = absurd (other refl)
+kind_epoch _ other = refl
 
 keeps_epoch : (f : Fate) → AdvertFate f → (f ≡ fate.Changed → ⊥) → is_changed f ≡ false
 keeps_epoch f a other = ap (λ (g : Fate). is_changed g) a.is ∙ kind_epoch a.kind (λ e. other (a.is ∙ e))
@@ -121,16 +105,8 @@ abbrev pub told : Fate → Step
 told f = record (just f) { drawn = advert_words f }
 
 kind_done : (s : Settings) (a : Standing) (from : Ep) (x : List ℕ) (v : Value) (w : Words) (k : Kind) → (kind_fate k ≡ fate.Changed → ⊥) → told (kind_fate k) ≡ reception_step s a from x v w (kind_fate k)
-kind_done s a from x v w is_nonce other = refl
-kind_done s a from x v w is_source other = refl
-kind_done s a from x v w is_origin other = refl
-kind_done s a from x v w is_prefix other = refl
-kind_done s a from x v w is_cone other = refl
-kind_done s a from x v w is_first other = refl
-kind_done s a from x v w is_restricted other = refl
-kind_done s a from x v w is_symmetric other = refl
-kind_done s a from x v w is_same other = refl
 kind_done s a from x v w is_moved other = absurd (other refl)
+kind_done s a from x v w _ other = refl
 
 done : (s : Settings) (a : Standing) (from : Ep) (x : List ℕ) (v : Value) (w : Words) (f : Fate) → AdvertFate f → (f ≡ fate.Changed → ⊥) → told f ≡ reception_step s a from x v w f
 done s a from x v w f k other =
@@ -203,70 +179,6 @@ advert_changed law old new n from v t none clock = record {
 -- ANY OTHER FATE DRAWS NOTHING
 
 pub no_words : (f : Fate) → (f ≡ fate.QualifiedCone → ⊥) → (f ≡ fate.QualifiedRestricted → ⊥) → advert_words f ≡ 0
-no_words fate.Malformed a b = refl
-no_words fate.Keyed a b = refl
-no_words fate.Big a b = refl
-no_words fate.Kind a b = refl
-no_words fate.Icmp a b = refl
-no_words fate.Source a b = refl
-no_words fate.Loop a b = refl
-no_words fate.OwnEcho a b = refl
-no_words fate.Advert a b = refl
-no_words fate.Mismatch a b = refl
-no_words fate.NotOurs a b = refl
-no_words fate.Embedded a b = refl
-no_words fate.ForwardOrigin a b = refl
-no_words fate.Forward a b = refl
-no_words fate.Six a b = refl
-no_words fate.Dest a b = refl
-no_words fate.RsCone a b = refl
-no_words fate.RsRestricted a b = refl
-no_words fate.RsSecondary a b = refl
-no_words fate.OffLine a b = refl
-no_words fate.Refresh a b = refl
-no_words fate.Nonce a b = refl
-no_words fate.AdvertSource a b = refl
-no_words fate.Origin a b = refl
-no_words fate.Prefix a b = refl
 no_words fate.QualifiedCone a b = absurd (a refl)
-no_words fate.FirstAnswer a b = refl
 no_words fate.QualifiedRestricted a b = absurd (b refl)
-no_words fate.Symmetric a b = refl
-no_words fate.Same a b = refl
-no_words fate.Changed a b = refl
-no_words fate.Confirmation a b = refl
-no_words fate.ServerOther a b = refl
-no_words fate.Off a b = refl
-no_words fate.NotMine a b = refl
-no_words fate.Itself a b = refl
-no_words fate.PeersFull a b = refl
-no_words fate.Barred a b = refl
-no_words fate.Indirect a b = refl
-no_words fate.Rule1 a b = refl
-no_words fate.Rule1Bubble a b = refl
-no_words fate.Rule2 a b = refl
-no_words fate.Rule3 a b = refl
-no_words fate.Rule3Bubble a b = refl
-no_words fate.SuspiciousTest a b = refl
-no_words fate.Suspicious a b = refl
-no_words fate.Bubble a b = refl
-no_words fate.Sent a b = refl
-no_words fate.SentCone a b = refl
-no_words fate.QueueFull a b = refl
-no_words fate.Queued a b = refl
-no_words fate.Bubbles a b = refl
-no_words fate.Test a b = refl
-no_words fate.GiveUp a b = refl
-no_words fate.Idle a b = refl
-no_words fate.Unlisted a b = refl
-no_words fate.FromClientBubble a b = refl
-no_words fate.FromClient a b = refl
-no_words fate.Unserved a b = refl
-no_words fate.SentSix a b = refl
-no_words fate.Echoed a b = refl
-no_words fate.Kept a b = refl
-no_words fate.Put a b = refl
-no_words fate.Done a b = refl
-no_words fate.NoEntry a b = refl
-no_words fate.Nowhere a b = refl
-no_words fate.NatClosed a b = refl
+no_words _ a b = refl

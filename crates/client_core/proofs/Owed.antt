@@ -18,7 +18,7 @@ use Rattle.peer_list.specs.Judged.{is_none, is_within, due_of}
 use Rattle.peer_list.specs.Waiting.{Listing}
 use Rattle.peer_list.specs.Table.{Table, while_listed, peer_in, known_to, first_due_in, due_and_who}
 use Rattle.peer_list.specs.Calls.{Updates, tried_at, emptied}
-use Rattle.peer_list.specs.Overdue.{while_due, overdue_in, IsFirstOverdue, IsPutOff}
+use Rattle.peer_list.specs.Overdue.{due_moment, IsNoSooner, while_due, overdue_in, IsFirstOverdue, IsPutOff}
 use Rattle.qualify.specs.declared.settings.Settings.{Settings}
 use Rattle.qualify.specs.declared.phase.Phase.{Phase}
 use Rattle.qualify.specs.declared.phase.Phase.TheVariants.{Cone, Restricted, Secondary, Qualified, Symmetric, OffLine}
@@ -46,6 +46,21 @@ due_told law c n d l e j h =
     let q = stands_whole c.qualifier j h.qualification in
     let r = read_same law c j n h l in
     e ∙ (λ i. sooner (q i).due (option_map (λ (x : Listing). due_of x.peer) (r.first i)))
+
+sooner_no_sooner : (m : ℕ) (a b : Option ℕ) → IsNoSooner m a → IsNoSooner m b → IsNoSooner m (sooner a b)
+sooner_no_sooner m None b h k = k
+sooner_no_sooner m (Some a) None h k = h
+sooner_no_sooner m (Some a) (Some b) h k = by_test (nat_lt b a) where
+  by_test : (t : Bool) → IsNoSooner m (if t then Some b else Some a)
+  by_test true = k
+  by_test false = h
+
+-- where neither phase nor peers have something before a moment, nothing is due before it
+pub none_sooner : (law : Below) (c : Client) (m : ℕ) → IsNoSooner m c.qualifier.now.due → ((n : ℕ) → IsNoSooner m (option_map due_moment (first_due_in c.peers n)))
+    → (j : Journal) (n : ℕ) → ClientStandsFor c j → c.peers.moment ≤ n → IsNoSooner m (client_due (settings_of c) j n)
+none_sooner law c m phase peers j n h l =
+    let due : Option ℕ = sooner c.qualifier.now.due (option_map due_moment (first_due_in c.peers n)) in
+    subst (IsNoSooner m) (due_told law c n due l refl j h) (sooner_no_sooner m c.qualifier.now.due (option_map due_moment (first_due_in c.peers n)) phase (peers n))
 
 -- HOW MUCH
 

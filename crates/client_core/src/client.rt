@@ -24,6 +24,12 @@ pub struct Client {
     pub(crate) rng: ChaCha20Rng,
 }
 
+// No clause sees a field that nothing reads, such as a journal: so it is its parts, and no byte more.
+const _: () = prove_eq!(
+    size_of::<Client>(),
+    size_of::<Qualifier>() + size_of::<Peers>() + size_of::<ChaCha20Rng>()
+);
+
 impl Client {
     /// A client that starts now. Its random words are those of the generator, from its place on.
     pub fn new(alloc: Global, s: Settings, rng: ChaCha20Rng, now: Millis) -> Client

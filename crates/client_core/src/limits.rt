@@ -1,4 +1,4 @@
-//! The numbers of a test.
+//! How long a test is.
 /// How many bytes a test's message has: those of an echo request whose data is a nonce.
 pub const TEST_MESSAGE_LEN: usize = 16;
 

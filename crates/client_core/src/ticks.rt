@@ -1,14 +1,15 @@
 //! What a client does where something is due.
-ghost use Rattle.std.specs.Prelude.{◌≡◌, ◌≤◌, true, false, None, Some, is_some, option_map, IfSome};
-ghost use Rattle.teredo_node.specs.Journal.{ticked};
+ghost use Rattle.std.specs.Prelude.{◌≡◌, ◌≤◌, ℕ, true, false, None, Some, is_some, option_map, IfSome};
+ghost use Rattle.teredo_node.specs.Journal.{Journal, ticked};
 ghost use Rattle.teredo_node.specs.Due.{IsFirstDue, Idles, Lessens};
 ghost use Rattle.peer_list.specs.Judged.{is_none, due_of};
 ghost use Rattle.peer_list.specs.Table.{peer_in, known_to, first_due_in};
+ghost use Rattle.peer_list.specs.Overdue.{IsNoSooner};
 ghost use Rattle.qualify.specs.Solicitations.{is_due, own_address};
 ghost use Rattle.teredo_addr.specs.Teredo.{is_teredo};
-ghost use Rattle.client_core.specs.Client.{settings_of, words_ahead, IsCallable, Enters, Does, AsBefore};
+ghost use Rattle.client_core.specs.Client.{settings_of, words_ahead, ClientStandsFor, IsCallable, Enters, Does, AsBefore};
 ghost use Rattle.client_core.specs.Endpoint.{IsClientDue, owing, PutsOff};
-ghost use Rattle.client_rules.specs.Journals.{entry};
+ghost use Rattle.client_rules.specs.Journals.{entry, client_due};
 ghost use Rattle.client_rules.specs.Ticks.{peer_due, peer_of_due, tries_peer, tick, try_fate, sooner};
 
 use crate::below::below;
@@ -36,6 +37,16 @@ fn fate_of_try(peer: Ip6) -> Fate
         Fate::Bubbles
     } else {
         Fate::Test
+    }
+}
+
+/// Whether something is due before a moment.
+fn is_before(due: Option<Millis>, moment: Millis) -> bool
+    ensures { result ≡ false → IsNoSooner moment.0 (option_map (λ m. m.0) due) }
+{
+    match due {
+        Some(at) => at.0 < moment.0,
+        None => false,
     }
 }
 
@@ -154,6 +165,18 @@ impl Client {
     {
         below();
         sooner(self.qualifier.due(), self.first_try(now))
+    }
+
+    /// Whether something may be due before a moment, whenever it is asked. It looks at two bounds alone, and so may say
+    /// that something is where nothing is.
+    pub fn may_be_due_before(&self, moment: Millis) -> bool
+        ensures { result ≡ false → (j : Journal) (n : ℕ) → ClientStandsFor self.now j → self.now.peers.moment ≤ n → IsNoSooner moment.0 (client_due (settings_of self.now) j n) }
+    {
+        below();
+        if is_before(self.qualifier.due(), moment) {
+            return true;
+        }
+        self.peers.may_be_due_before(moment)
     }
 
     /// When the next try at a peer is due.

@@ -24,7 +24,7 @@ use Rattle.client_rules.specs.Journals.{journal, Follows, AreEntries}
 use Rattle.client_rules.specs.Epochs.{IsOwnTo, QueuesOwn, QualifiedHasAddress, QualifiedStays, QueuedIsOwn, NoneQueued, WaitingIsOwn}
 use Rattle.client_rules.proofs.Bearings.{queued_by, changes, changes_alike}
 use Rattle.client_rules.proofs.Entered.{sets, IsQueuedAt, IsEffect, of_entry}
-use Rattle.client_rules.proofs.Kept.{kept, waiting_is_kept}
+use Rattle.peer_list.proofs.FromMentions.{peer_is, kept, waiting_is_kept}
 
 -- OPTIONS
 
@@ -52,33 +52,15 @@ to_qualified OffLine cone = refl
 
 -- while qualified
 qualified_after : (s : Settings) (phase : Phase) (t : Turn) (o : Option Ep) (a : Ip6) → leaves phase t ≡ false → (sets t ≡ true → is_some o ≡ true) → is_some (address_after s t o (Some a)) ≡ true
-qualified_after s phase asks_cone o a l h = refl
-qualified_after s phase asks_restricted o a l h = refl
-qualified_after s phase asks_secondary o a l h = refl
-qualified_after s phase ends o a l h = refl
-qualified_after s phase refreshes o a l h = refl
 qualified_after s phase (qualifies cone) o a l h = absurd (true≢false (sym (to_qualified phase cone) ∙ l))
-qualified_after s phase is_answered o a l h = refl
-qualified_after s phase differs o a l h = refl
-qualified_after s phase is_same o a l h = refl
 qualified_after s phase changes_turn o a l h = some_map (teredo_ip s.primary (flags_of (has_cone a))) o (h refl)
-qualified_after s phase renews o a l h = refl
-qualified_after s phase says_nothing o a l h = refl
+qualified_after s phase _ o a l h = refl
 
 -- it is the same, unless it changes
 same_after : (s : Settings) (phase : Phase) (t : Turn) (o : Option Ep) (a : Option Ip6) → leaves phase t ≡ false → changes t ≡ false → address_after s t o a ≡ a
-same_after s phase asks_cone o a l h = refl
-same_after s phase asks_restricted o a l h = refl
-same_after s phase asks_secondary o a l h = refl
-same_after s phase ends o a l h = refl
-same_after s phase refreshes o a l h = refl
 same_after s phase (qualifies cone) o a l h = absurd (true≢false (sym (to_qualified phase cone) ∙ l))
-same_after s phase is_answered o a l h = refl
-same_after s phase differs o a l h = refl
-same_after s phase is_same o a l h = refl
 same_after s phase changes_turn o a l h = absurd (true≢false h)
-same_after s phase renews o a l h = refl
-same_after s phase says_nothing o a l h = refl
+same_after s phase _ o a l h = refl
 
 -- of one that leaves a phase without an address
 left_after : (s : Settings) (phase : Phase) (t : Turn) (o : Option Ep) → is_qualified phase ≡ false → (sets t ≡ true → is_some o ≡ true) → is_some (address_after s t o None) ≡ is_qualified (unwrap_or (begins t) phase)
@@ -97,18 +79,8 @@ left_after s phase says_nothing o q h = sym q
 
 -- of one that stays in it
 unleft_after : (s : Settings) (phase : Phase) (t : Turn) (o : Option Ep) → is_qualified phase ≡ false → leaves phase t ≡ false → is_some (address_after s t o None) ≡ is_qualified phase
-unleft_after s phase asks_cone o q l = sym q
-unleft_after s phase asks_restricted o q l = sym q
-unleft_after s phase asks_secondary o q l = sym q
-unleft_after s phase ends o q l = sym q
-unleft_after s phase refreshes o q l = sym q
 unleft_after s phase (qualifies cone) o q l = absurd (true≢false (sym (to_qualified phase cone) ∙ l))
-unleft_after s phase is_answered o q l = sym q
-unleft_after s phase differs o q l = sym q
-unleft_after s phase is_same o q l = sym q
-unleft_after s phase changes_turn o q l = sym q
-unleft_after s phase renews o q l = sym q
-unleft_after s phase says_nothing o q l = sym q
+unleft_after s phase _ o q l = sym q
 
 -- ONE FURTHER ENTRY
 
@@ -220,10 +192,6 @@ none_is_queued turns first s j a unqual =
     none_queued (epoch j.entries) (subst (λ o. AllByRecursion (IsOwn o) (epoch j.entries)) (none_is (qualification s j).address (h.addressed ∙ unqual)) h.queued)
 
 -- WHAT WAITS
-
-peer_is : (p : Ip6) (o : Option Ip6) → is_peer p o ≡ true → o ≡ Some p
-peer_is p None h = absurd (false≢true h)
-peer_is p (Some q) h = ap Some (sym (same_ip6-true p q h))
 
 own_mentions : (own : Option Ip6) (p : Ip6) (es : List Entry) → AllByRecursion (IsOwn own) es
     → AllByRecursion (λ (m : Mention). is_about p m ≡ true → IfSome m.bearing.queues (IsOwnTo own (Some p))) (map mention es)

@@ -2,7 +2,7 @@
 use Rattle.std.proofs.Common.{◌≡◌, ◌&&◌, not, ℕ, Bool, true, false, cond, List, [], ◌∷◌, ◌++◌, Option, Some, None, refl, sym, ap, subst, ◌∙◌}
 use Rattle.std.specs.Prelude.{IfSome, is_some, nat_lt}
 use Rattle.std.specs.List.{AllByRecursion}
-use Rattle.std.proofs.lemmas.Bool.{false≢true}
+use Rattle.std.proofs.lemmas.Bool.{false≢true, not-false}
 use Rattle.td_base.specs.Ip6.{same_ip6-true}
 use Rattle.td_base.specs.declared.ipv6.Ip6.{Ip6}
 use Rattle.td_base.specs.declared.endpoint.Ep.{Ep}
@@ -34,7 +34,7 @@ use Rattle.client_rules.specs.Journals.{entry, client_in, client_out, ticks, cli
 use Rattle.client_rules.specs.Warrants.{SentOnlyIf, GoesOut, GoesLater}
 use Rattle.client_rules.specs.Epochs.{IsOwnTo}
 use Rattle.client_rules.proofs.Fates.{fate_of_reception, fate_of_transmission}
-use Rattle.client_rules.proofs.Lines.{by_lines, not_false}
+use Rattle.teredo_node.proofs.FirstLines.{by_lines, skip_one, skip}
 use Rattle.client_rules.proofs.Given.{transmission_is_warranted}
 
 -- FATES
@@ -68,14 +68,6 @@ plain phase o f h k = record {
   told = λ s. absurd (false≢true (sym k ∙ s));
 }
 
-skip_one : (P : Fate → Type 0) (b : Bool) (f : Fate) (ls : List (Bool × Fate)) (last : Fate) → P f → P (first_line ls last) → P (first_line ((b, f) ∷ ls) last)
-skip_one P true f ls last h k = h
-skip_one P false f ls last h k = k
-
-skip : (P : Fate → Type 0) (ls rest : List (Bool × Fate)) (last : Fate) → AllByRecursion (λ (l : Bool × Fate). P l.1) ls → P (first_line rest last) → P (first_line (ls ++ rest) last)
-skip P [] rest last a h = h
-skip P (l ∷ ls) rest last a h = skip_one P l.0 l.1 (ls ++ rest) last a.0 (skip P ls rest last a.1 h)
-
 -- DATAGRAMS
 
 -- such a step, which queues nothing
@@ -97,7 +89,7 @@ by_phase Symmetric same o h = (record { still = λ q. absurd (false≢true q); t
 by_phase OffLine same o h = (record { still = λ q. absurd (false≢true q); told = λ _. h }, refl)
 
 advertised : (h : Heard) (phase : Phase) (o : Option Ep) → h.phase ≡ phase → (h.usable_origin ≡ true → is_some o ≡ true) → IsReceived phase o (first_line (advert_lines h) (phase_line h.phase h.same_origin))
-advertised h phase o is some = by_lines (λ f. IsReceived phase o f) (advert_lines h) (phase_line h.phase h.same_origin) (
+advertised h phase o is some = by_lines (λ (f : Fate). IsReceived phase o f) (advert_lines h) (phase_line h.phase h.same_origin) (
   (λ _. (plain phase o fate.Nonce refl refl, refl)),
   (λ _. (
     (λ _. (plain phase o fate.AdvertSource refl refl, refl)),
@@ -108,7 +100,7 @@ advertised h phase o is some = by_lines (λ f. IsReceived phase o f) (advert_lin
         (λ _. (
           (λ _. (plain phase o fate.Prefix refl refl, refl)),
           (λ _.
-              subst (λ ph. IsReceived phase o (phase_line ph h.same_origin)) (sym is) (by_phase phase h.same_origin o (some (not_false h.usable_origin usable)))),
+              subst (λ ph. IsReceived phase o (phase_line ph h.same_origin)) (sym is) (by_phase phase h.same_origin o (some (not-false h.usable_origin usable)))),
         )),
       )),
     )),
@@ -163,7 +155,7 @@ of_datagram s a n from x w = unqueued a.qualification (entry n (arrived from x) 
 -- PACKETS OF THE HOST
 
 sent_row : (a : Given) (phase : Phase) (o : Option Ep) → IsStep phase o (transmission_row a)
-sent_row a phase o = skip (λ f. IsStep phase o f) (host_lines a ++ destination_lines a) [] fate.Queued (plain phase o fate.Off refl refl, (plain phase o fate.Malformed refl refl, (plain phase o fate.Big refl refl, (plain phase o fate.Source refl refl, (plain phase o fate.Dest refl refl, (plain phase o fate.Bubble refl refl, (plain phase o fate.Itself refl refl, (plain phase o fate.Embedded refl refl, (plain phase o fate.Sent refl refl, (plain phase o fate.SentCone refl refl, (plain phase o fate.PeersFull refl refl, (plain phase o fate.Barred refl refl, (plain phase o fate.QueueFull refl refl, tt))))))))))))) (plain phase o fate.Queued refl refl)
+sent_row a phase o = skip (λ (f : Fate). IsStep phase o f) (host_lines a ++ destination_lines a) [] fate.Queued (plain phase o fate.Off refl refl, (plain phase o fate.Malformed refl refl, (plain phase o fate.Big refl refl, (plain phase o fate.Source refl refl, (plain phase o fate.Dest refl refl, (plain phase o fate.Bubble refl refl, (plain phase o fate.Itself refl refl, (plain phase o fate.Embedded refl refl, (plain phase o fate.Sent refl refl, (plain phase o fate.SentCone refl refl, (plain phase o fate.PeersFull refl refl, (plain phase o fate.Barred refl refl, (plain phase o fate.QueueFull refl refl, tt))))))))))))) (plain phase o fate.Queued refl refl)
 
 is_there : (b : Bool) (x : List ℕ) → b ≡ true → is_some (cond b (Some x) None) ≡ true
 is_there true x h = refl
@@ -173,10 +165,6 @@ if_there : (b : Bool) (x : List ℕ) (P : List ℕ → Type 0) → P x → IfSom
 if_there true x P h = h
 if_there false x P h = tt
 
-is_that : (b : Bool) (p : Ip6) → b ≡ true → cond b (Some p) None ≡ Some p
-is_that true p h = refl
-is_that false p h = absurd (false≢true h)
-
 -- it is from the client's address
 pub own_to : (s : Settings) (a : Standing) (x : List ℕ) → GoesOut (given_to s a x) → IsOwnTo (Some (own_address a.qualification)) (destination_in x) x
 unfolding given_to destination_in
@@ -185,7 +173,7 @@ own_to s a x out = record {
   short = out.short;
   no_bubble = out.no_bubble;
   source = ap Some (sym (same_ip6-true (fields_in x).src (own_address a.qualification) out.own_source));
-  destination = is_that (is_packet x) (fields_in x).dst out.packet;
+  destination = ap (λ (b : Bool). cond b (Some (fields_in x).dst) None) out.packet;
 }
 
 queued_at : (s : Settings) (a : Standing) (n : ℕ) (x : List ℕ) (w : Words) (step : Step) → GoesLater (given_to s a x) → IsQueuedAt a.qualification (entry n (given x) (packet_given x) (destination_in x) w step)

@@ -1,13 +1,15 @@
 -- What was seen of a packet of the host where it has a fate.
 use Rattle.std.proofs.Common.{◌++◌}
+use Rattle.std.proofs.lemmas.Bool.{not-false}
+use Rattle.teredo_node.specs.declared.fate.Fate.{Fate}
 use Rattle.teredo_node.specs.declared.fate.Fate.TheVariants as fate
 use Rattle.client_rules.specs.Transmission.{Given, given, host_lines, destination_lines, transmission_row}
 use Rattle.client_rules.specs.Warrants.{GoesOut, SentOnlyIf}
 use Rattle.client_rules.specs.Laws.{TransmissionIsWarranted}
-use Rattle.client_rules.proofs.Lines.{by_lines, not_false}
+use Rattle.teredo_node.proofs.FirstLines.{by_lines}
 
 row : (a : Given) → SentOnlyIf (transmission_row a) a
-row a = by_lines (λ f. SentOnlyIf f a) (host_lines a ++ destination_lines a) fate.Queued (
+row a = by_lines (λ (f : Fate). SentOnlyIf f a) (host_lines a ++ destination_lines a) fate.Queued (
   (λ _. tt),
   (λ qualified. (
     (λ _. tt),
@@ -25,11 +27,11 @@ row a = by_lines (λ f. SentOnlyIf f a) (host_lines a ++ destination_lines a) fa
                 (λ _. tt),
                 (λ reachable.
                     let out : GoesOut a = record {
-                      qualified = not_false a.qualified qualified;
-                      packet = not_false a.packet packet;
+                      qualified = not-false a.qualified qualified;
+                      packet = not-false a.packet packet;
                       short = short;
-                      own_source = not_false a.own_source source;
-                      global = not_false a.global global;
+                      own_source = not-false a.own_source source;
+                      global = not-false a.global global;
                       no_bubble = no_bubble;
                       foreign = foreign;
                       reachable = reachable;
@@ -44,7 +46,7 @@ row a = by_lines (λ f. SentOnlyIf f a) (host_lines a ++ destination_lines a) fa
                             (λ unspent. (
                               (λ _. tt),
                               (λ free.
-                                  record { out = out; stale = stale; no_cone = no_cone; room = not_false a.room room; unspent = unspent; free = free }),
+                                  record { out = out; stale = stale; no_cone = no_cone; room = not-false a.room room; unspent = unspent; free = free }),
                             )),
                           )),
                         )),

@@ -1,7 +1,7 @@
 -- What a client hands to its host, by the fates.
 use Rattle.std.proofs.Common.{◌≡◌, ℕ, Bool, true, false, cond, List, Option, Some, None, refl, sym, ap, subst, ◌∙◌}
 use Rattle.std.specs.Prelude.{is_some, nat_lt, unwrap_or}
-use Rattle.std.proofs.lemmas.Bool.{false≢true}
+use Rattle.std.proofs.lemmas.Bool.{false≢true, and_parts}
 use Rattle.td_base.specs.Ip6.{same_ip6-true}
 use Rattle.td_base.specs.Ep.{same_ep, same_ep-true}
 use Rattle.td_base.specs.declared.ipv6.Ip6.{Ip6}
@@ -32,7 +32,6 @@ use Rattle.client_rules.specs.Journals.{client_in, client_out, client_tick, firs
 use Rattle.client_rules.specs.Warrants.{IsDirect, IsTrusted, IsEmbedded, ReceivedOnlyIf}
 use Rattle.client_rules.specs.Epochs.{QualifiedHasAddress, TrustedIsEmbedded}
 use Rattle.client_rules.specs.Handed.{IsHanded, HandsOver, EachHanded}
-use Rattle.client_rules.proofs.Lines.{and_second}
 use Rattle.client_rules.proofs.Received.{reception_is_warranted}
 use Rattle.client_rules.proofs.Addressed.{own_is}
 
@@ -42,146 +41,17 @@ use Rattle.client_rules.proofs.Addressed.{own_is}
 by_reception : (R : Option Span → Type 0) (s : Settings) (a : Standing) (from : Ep) (x : List ℕ) (v : Value) (w : Words) (f : Fate)
     → (f ≡ fate.Rule1 → R (Some (rest_of v.lead.at x))) → (f ≡ fate.Rule3 → R (Some (rest_of v.lead.at x)))
     → is_some (reception_step s a from x v w f).handed ≡ true → R (reception_step s a from x v w f).handed
-by_reception R s a from x v w fate.Malformed one three h = absurd (false≢true h)
-by_reception R s a from x v w fate.Keyed one three h = absurd (false≢true h)
-by_reception R s a from x v w fate.Big one three h = absurd (false≢true h)
-by_reception R s a from x v w fate.Kind one three h = absurd (false≢true h)
-by_reception R s a from x v w fate.Icmp one three h = absurd (false≢true h)
-by_reception R s a from x v w fate.Source one three h = absurd (false≢true h)
-by_reception R s a from x v w fate.Loop one three h = absurd (false≢true h)
-by_reception R s a from x v w fate.OwnEcho one three h = absurd (false≢true h)
-by_reception R s a from x v w fate.Advert one three h = absurd (false≢true h)
-by_reception R s a from x v w fate.Mismatch one three h = absurd (false≢true h)
-by_reception R s a from x v w fate.NotOurs one three h = absurd (false≢true h)
-by_reception R s a from x v w fate.Embedded one three h = absurd (false≢true h)
-by_reception R s a from x v w fate.ForwardOrigin one three h = absurd (false≢true h)
-by_reception R s a from x v w fate.Forward one three h = absurd (false≢true h)
-by_reception R s a from x v w fate.Six one three h = absurd (false≢true h)
-by_reception R s a from x v w fate.Dest one three h = absurd (false≢true h)
-by_reception R s a from x v w fate.RsCone one three h = absurd (false≢true h)
-by_reception R s a from x v w fate.RsRestricted one three h = absurd (false≢true h)
-by_reception R s a from x v w fate.RsSecondary one three h = absurd (false≢true h)
-by_reception R s a from x v w fate.OffLine one three h = absurd (false≢true h)
-by_reception R s a from x v w fate.Refresh one three h = absurd (false≢true h)
-by_reception R s a from x v w fate.Nonce one three h = absurd (false≢true h)
-by_reception R s a from x v w fate.AdvertSource one three h = absurd (false≢true h)
-by_reception R s a from x v w fate.Origin one three h = absurd (false≢true h)
-by_reception R s a from x v w fate.Prefix one three h = absurd (false≢true h)
-by_reception R s a from x v w fate.QualifiedCone one three h = absurd (false≢true h)
-by_reception R s a from x v w fate.FirstAnswer one three h = absurd (false≢true h)
-by_reception R s a from x v w fate.QualifiedRestricted one three h = absurd (false≢true h)
-by_reception R s a from x v w fate.Symmetric one three h = absurd (false≢true h)
-by_reception R s a from x v w fate.Same one three h = absurd (false≢true h)
-by_reception R s a from x v w fate.Changed one three h = absurd (false≢true h)
-by_reception R s a from x v w fate.Confirmation one three h = absurd (false≢true h)
-by_reception R s a from x v w fate.ServerOther one three h = absurd (false≢true h)
-by_reception R s a from x v w fate.Off one three h = absurd (false≢true h)
-by_reception R s a from x v w fate.NotMine one three h = absurd (false≢true h)
-by_reception R s a from x v w fate.Itself one three h = absurd (false≢true h)
-by_reception R s a from x v w fate.PeersFull one three h = absurd (false≢true h)
-by_reception R s a from x v w fate.Barred one three h = absurd (false≢true h)
-by_reception R s a from x v w fate.Indirect one three h = absurd (false≢true h)
 by_reception R s a from x v w fate.Rule1 one three h = one refl
-by_reception R s a from x v w fate.Rule1Bubble one three h = absurd (false≢true h)
-by_reception R s a from x v w fate.Rule2 one three h = absurd (false≢true h)
 by_reception R s a from x v w fate.Rule3 one three h = three refl
-by_reception R s a from x v w fate.Rule3Bubble one three h = absurd (false≢true h)
-by_reception R s a from x v w fate.SuspiciousTest one three h = absurd (false≢true h)
-by_reception R s a from x v w fate.Suspicious one three h = absurd (false≢true h)
-by_reception R s a from x v w fate.Bubble one three h = absurd (false≢true h)
-by_reception R s a from x v w fate.Sent one three h = absurd (false≢true h)
-by_reception R s a from x v w fate.SentCone one three h = absurd (false≢true h)
-by_reception R s a from x v w fate.QueueFull one three h = absurd (false≢true h)
-by_reception R s a from x v w fate.Queued one three h = absurd (false≢true h)
-by_reception R s a from x v w fate.Bubbles one three h = absurd (false≢true h)
-by_reception R s a from x v w fate.Test one three h = absurd (false≢true h)
-by_reception R s a from x v w fate.GiveUp one three h = absurd (false≢true h)
-by_reception R s a from x v w fate.Idle one three h = absurd (false≢true h)
-by_reception R s a from x v w fate.Unlisted one three h = absurd (false≢true h)
-by_reception R s a from x v w fate.FromClientBubble one three h = absurd (false≢true h)
-by_reception R s a from x v w fate.FromClient one three h = absurd (false≢true h)
-by_reception R s a from x v w fate.Unserved one three h = absurd (false≢true h)
-by_reception R s a from x v w fate.SentSix one three h = absurd (false≢true h)
-by_reception R s a from x v w fate.Echoed one three h = absurd (false≢true h)
-by_reception R s a from x v w fate.Kept one three h = absurd (false≢true h)
-by_reception R s a from x v w fate.Put one three h = absurd (false≢true h)
-by_reception R s a from x v w fate.Done one three h = absurd (false≢true h)
-by_reception R s a from x v w fate.NoEntry one three h = absurd (false≢true h)
-by_reception R s a from x v w fate.Nowhere one three h = absurd (false≢true h)
-by_reception R s a from x v w fate.NatClosed one three h = absurd (false≢true h)
+by_reception R s a from x v w _ one three h = absurd (false≢true h)
 
 queued : (b : Bool) (s : Settings) (a : Standing) (p : Ip6) (w : Words) → is_some (queues b s a p w).handed ≡ false
 queued true s a p w = refl
 queued false s a p w = refl
 
 by_transmission : (s : Settings) (a : Standing) (x : List ℕ) (p : Ip6) (w : Words) (f : Fate) → is_some (transmission_step s a x p w f).handed ≡ false
-by_transmission s a x p w fate.Malformed = refl
-by_transmission s a x p w fate.Keyed = refl
-by_transmission s a x p w fate.Big = refl
-by_transmission s a x p w fate.Kind = refl
-by_transmission s a x p w fate.Icmp = refl
-by_transmission s a x p w fate.Source = refl
-by_transmission s a x p w fate.Loop = refl
-by_transmission s a x p w fate.OwnEcho = refl
-by_transmission s a x p w fate.Advert = refl
-by_transmission s a x p w fate.Mismatch = refl
-by_transmission s a x p w fate.NotOurs = refl
-by_transmission s a x p w fate.Embedded = refl
-by_transmission s a x p w fate.ForwardOrigin = refl
-by_transmission s a x p w fate.Forward = refl
-by_transmission s a x p w fate.Six = refl
-by_transmission s a x p w fate.Dest = refl
-by_transmission s a x p w fate.RsCone = refl
-by_transmission s a x p w fate.RsRestricted = refl
-by_transmission s a x p w fate.RsSecondary = refl
-by_transmission s a x p w fate.OffLine = refl
-by_transmission s a x p w fate.Refresh = refl
-by_transmission s a x p w fate.Nonce = refl
-by_transmission s a x p w fate.AdvertSource = refl
-by_transmission s a x p w fate.Origin = refl
-by_transmission s a x p w fate.Prefix = refl
-by_transmission s a x p w fate.QualifiedCone = refl
-by_transmission s a x p w fate.FirstAnswer = refl
-by_transmission s a x p w fate.QualifiedRestricted = refl
-by_transmission s a x p w fate.Symmetric = refl
-by_transmission s a x p w fate.Same = refl
-by_transmission s a x p w fate.Changed = refl
-by_transmission s a x p w fate.Confirmation = refl
-by_transmission s a x p w fate.ServerOther = refl
-by_transmission s a x p w fate.Off = refl
-by_transmission s a x p w fate.NotMine = refl
-by_transmission s a x p w fate.Itself = refl
-by_transmission s a x p w fate.PeersFull = refl
-by_transmission s a x p w fate.Barred = refl
-by_transmission s a x p w fate.Indirect = refl
-by_transmission s a x p w fate.Rule1 = refl
-by_transmission s a x p w fate.Rule1Bubble = refl
-by_transmission s a x p w fate.Rule2 = refl
-by_transmission s a x p w fate.Rule3 = refl
-by_transmission s a x p w fate.Rule3Bubble = refl
-by_transmission s a x p w fate.SuspiciousTest = refl
-by_transmission s a x p w fate.Suspicious = refl
-by_transmission s a x p w fate.Bubble = refl
-by_transmission s a x p w fate.Sent = refl
-by_transmission s a x p w fate.SentCone = refl
-by_transmission s a x p w fate.QueueFull = refl
 by_transmission s a x p w fate.Queued = queued (is_barred a.moment (known_in a)) s a p w
-by_transmission s a x p w fate.Bubbles = refl
-by_transmission s a x p w fate.Test = refl
-by_transmission s a x p w fate.GiveUp = refl
-by_transmission s a x p w fate.Idle = refl
-by_transmission s a x p w fate.Unlisted = refl
-by_transmission s a x p w fate.FromClientBubble = refl
-by_transmission s a x p w fate.FromClient = refl
-by_transmission s a x p w fate.Unserved = refl
-by_transmission s a x p w fate.SentSix = refl
-by_transmission s a x p w fate.Echoed = refl
-by_transmission s a x p w fate.Kept = refl
-by_transmission s a x p w fate.Put = refl
-by_transmission s a x p w fate.Done = refl
-by_transmission s a x p w fate.NoEntry = refl
-by_transmission s a x p w fate.Nowhere = refl
-by_transmission s a x p w fate.NatClosed = refl
+by_transmission s a x p w _ = refl
 
 -- DATAGRAMS
 
@@ -193,10 +63,6 @@ record IsReady (a : Standing) (peer : Option Ip6) : Type 0 where
 trusted_at : (from : Ep) (o : Option Ep) → is_ep from o ≡ true → o ≡ Some from
 trusted_at from None h = absurd (false≢true h)
 trusted_at from (Some at) h = ap Some (same_ep-true at from h)
-
-that_source : (b : Bool) (p : Ip6) → b ≡ true → unwrap_or (cond b (Some p) None) unspecified ≡ p
-that_source true p h = refl
-that_source false p h = absurd (false≢true h)
 
 handed : (s : Settings) (a : Standing) (from : Ep) (x : List ℕ) → IsReady a (source_in x) → IsDirect (seen s a from x) → (seen s a from x).bubble ≡ false
     → (is_teredo (value_in x).packet.src ≡ true → from ≡ embedded (value_in x).packet.src) → IsHanded s a.qualification.address from x (Some (rest_of (value_in x).lead.at x))
@@ -215,13 +81,13 @@ handed s a from x r direct bubble there = record {
 trusted_there : (s : Settings) (a : Standing) (from : Ep) (x : List ℕ) → IsReady a (source_in x) → IsTrusted false (seen s a from x) → is_teredo (value_in x).packet.src ≡ true → from ≡ embedded (value_in x).packet.src
 unfolding seen source_in is_trusted_at
 trusted_there s a from x r t teredo =
-    let same = that_source (is_payload x) (value_in x).packet.src t.direct.mine.sound.payload in
+    let same = ap (λ (b : Bool). unwrap_or (cond b (Some (value_in x).packet.src) None) unspecified) t.direct.mine.sound.payload in
     r.trusted from (ap is_teredo same ∙ teredo) (trusted_at from (known_in a).trusted t.trusted) ∙ ap embedded same
 
 -- rule 3
 sent_there : (s : Settings) (a : Standing) (from : Ep) (x : List ℕ) → IsEmbedded false (seen s a from x) → from ≡ embedded (value_in x).packet.src
 unfolding seen
-sent_there s a from x t = sym (same_ep-true (embedded (value_in x).packet.src) from (and_second (is_teredo (value_in x).packet.src) (same_ep (embedded (value_in x).packet.src) from) t.embedded))
+sent_there s a from x t = sym (same_ep-true (embedded (value_in x).packet.src) from ((and_parts (is_teredo (value_in x).packet.src) (same_ep (embedded (value_in x).packet.src) from) t.embedded).1))
 
 of_datagram : (s : Settings) (a : Standing) (from : Ep) (x : List ℕ) (w : Words) → IsReady a (source_in x) → is_some (reception s a from x w).handed ≡ true → IsHanded s a.qualification.address from x (reception s a from x w).handed
 unfolding reception

@@ -1,16 +1,22 @@
 -- What was seen of a datagram where it has a fate.
 use Rattle.std.proofs.Common.{◌≡◌, ◌&&◌, not, Bool, true, false, ◌++◌, refl}
+use Rattle.std.proofs.lemmas.Bool.{false≢true, and_parts, not-false, not-true}
 use Rattle.bubble.specs.Reads.{value_in}
 use Rattle.teredo_node.specs.declared.fate.Fate.{Fate}
 use Rattle.teredo_node.specs.declared.fate.Fate.TheVariants as fate
 use Rattle.teredo_node.specs.Rows.{first_line}
+use Rattle.teredo_node.proofs.FirstLines.{by_lines}
 use Rattle.qualify.specs.declared.phase.Phase.{Phase}
 use Rattle.qualify.specs.declared.phase.Phase.TheVariants.{Cone, Restricted, Secondary, Qualified, Symmetric, OffLine}
 use Rattle.qualify.specs.Advertisements.{Heard, heard, advert_lines, phase_line, advert_row}
 use Rattle.client_rules.specs.Reception.{Seen, seen, datagram_lines, server_lines, packet_lines, indirect_lines, direct_lines, reception_row, reception_fate}
 use Rattle.client_rules.specs.Warrants.{IsSound, IsAdvert, IsForClient, IsIndirect, IsDirect, IsTested, IsSuspect, ReceivedOnlyIf}
 use Rattle.client_rules.specs.Laws.{ReceptionIsWarranted}
-use Rattle.client_rules.proofs.Lines.{by_lines, not_false, not_true, and_first, and_second, fails_with}
+
+-- of two tests the other one fails
+fails_with : (b c : Bool) → b ≡ true → b && c ≡ false → c ≡ false
+fails_with true c is h = h
+fails_with false c is h = absurd (false≢true is)
 
 -- THE SERVER'S ADVERTISEMENTS
 
@@ -54,7 +60,7 @@ by_phase a h Symmetric same is = tt
 by_phase a h OffLine same is = tt
 
 advertised : (a : Seen) (h : Heard) → IsHeard a → ReceivedOnlyIf (first_line (advert_lines h) (phase_line h.phase h.same_origin)) a h
-advertised a h b = by_lines (λ f. ReceivedOnlyIf f a h) (advert_lines h) (phase_line h.phase h.same_origin) (
+advertised a h b = by_lines (λ (f : Fate). ReceivedOnlyIf f a h) (advert_lines h) (phase_line h.phase h.same_origin) (
   (λ _. tt),
   (λ nonce. (
     (λ _. tt),
@@ -66,11 +72,11 @@ advertised a h b = by_lines (λ f. ReceivedOnlyIf f a h) (advert_lines h) (phase
           (λ _. tt),
           (λ own.
               by_phase a h h.phase h.same_origin (λ f e. is_advert f a h b (record {
-                open_nonce = not_false h.open_nonce nonce;
-                from_expected = not_false h.from_expected from;
-                usable_origin = not_false h.usable_origin origin;
-                one_prefix = not_false h.one_prefix one;
-                own_prefix = not_false h.own_prefix own;
+                open_nonce = not-false h.open_nonce nonce;
+                from_expected = not-false h.from_expected from;
+                usable_origin = not-false h.usable_origin origin;
+                one_prefix = not-false h.one_prefix one;
+                own_prefix = not-false h.own_prefix own;
               }) e)),
         )),
       )),
@@ -86,48 +92,43 @@ indirect : (a : Seen) → IsForClient a → a.from_server && not (a.bubble && a.
 indirect a mine bubble origin room barred server = record {
   mine = mine;
   server = server;
-  bubble = and_first a.bubble a.origin (not_false (a.bubble && a.origin) (fails_with a.from_server (not (a.bubble && a.origin)) server bubble));
-  origin = not_false a.good_origin (fails_with a.from_server (not a.good_origin) server origin);
-  room = not_false a.room (fails_with a.from_server (not a.room) server room);
+  bubble = (and_parts a.bubble a.origin (not-false (a.bubble && a.origin) (fails_with a.from_server (not (a.bubble && a.origin)) server bubble))).0;
+  origin = not-false a.good_origin (fails_with a.from_server (not a.good_origin) server origin);
+  room = not-false a.room (fails_with a.from_server (not a.room) server room);
   unbarred = fails_with a.from_server a.barred server barred;
 }
 
 tested : (a : Seen) → IsDirect a → a.trusted_here ≡ false → not a.teredo && (a.listed && (not a.fresh && a.reply)) ≡ true → IsTested a
 tested a direct untrusted h =
-    let listed = and_second (not a.teredo) (a.listed && (not a.fresh && a.reply)) h in
-    let stale = and_second a.listed (not a.fresh && a.reply) listed in
-    record {
-      direct = direct;
-      untrusted = untrusted;
-      native = not_true a.teredo (and_first (not a.teredo) (a.listed && (not a.fresh && a.reply)) h);
-      listed = and_first a.listed (not a.fresh && a.reply) listed;
-      stale = not_true a.fresh (and_first (not a.fresh) a.reply stale);
-      reply = and_second (not a.fresh) a.reply stale;
-    }
+    let native = and_parts (not a.teredo) (a.listed && (not a.fresh && a.reply)) h in
+    let listed = and_parts a.listed (not a.fresh && a.reply) native.1 in
+    let stale = and_parts (not a.fresh) a.reply listed.1 in
+    record { direct = direct; untrusted = untrusted; native = not-true a.teredo native.0; listed = listed.0; stale = not-true a.fresh stale.0; reply = stale.1 }
 
 suspect : (a : Seen) → IsDirect a → a.trusted_here ≡ false → a.teredo ≡ false
     → a.global && (not a.fresh && (not a.barred && (a.room && (not a.bubble && not a.echo_reply)))) ≡ true → IsSuspect a
 suspect a direct untrusted native h =
-    let stale = and_second a.global (not a.fresh && (not a.barred && (a.room && (not a.bubble && not a.echo_reply)))) h in
-    let unbarred = and_second (not a.fresh) (not a.barred && (a.room && (not a.bubble && not a.echo_reply))) stale in
-    let room = and_second (not a.barred) (a.room && (not a.bubble && not a.echo_reply)) unbarred in
-    let kind = and_second a.room (not a.bubble && not a.echo_reply) room in
+    let global = and_parts a.global (not a.fresh && (not a.barred && (a.room && (not a.bubble && not a.echo_reply)))) h in
+    let stale = and_parts (not a.fresh) (not a.barred && (a.room && (not a.bubble && not a.echo_reply))) global.1 in
+    let unbarred = and_parts (not a.barred) (a.room && (not a.bubble && not a.echo_reply)) stale.1 in
+    let room = and_parts a.room (not a.bubble && not a.echo_reply) unbarred.1 in
+    let kind = and_parts (not a.bubble) (not a.echo_reply) room.1 in
     record {
       direct = direct;
       untrusted = untrusted;
       native = native;
-      global = and_first a.global (not a.fresh && (not a.barred && (a.room && (not a.bubble && not a.echo_reply)))) h;
-      stale = not_true a.fresh (and_first (not a.fresh) (not a.barred && (a.room && (not a.bubble && not a.echo_reply))) stale);
-      unbarred = not_true a.barred (and_first (not a.barred) (a.room && (not a.bubble && not a.echo_reply)) unbarred);
-      room = and_first a.room (not a.bubble && not a.echo_reply) room;
-      no_bubble = not_true a.bubble (and_first (not a.bubble) (not a.echo_reply) kind);
-      no_reply = not_true a.echo_reply (and_second (not a.bubble) (not a.echo_reply) kind);
+      global = global.0;
+      stale = not-true a.fresh stale.0;
+      unbarred = not-true a.barred unbarred.0;
+      room = room.0;
+      no_bubble = not-true a.bubble kind.0;
+      no_reply = not-true a.echo_reply kind.1;
     }
 
 -- from a peer itself
 directly : (a : Seen) (h : Heard) → IsDirect a → ReceivedOnlyIf (first_line (direct_lines a) fate.Suspicious) a h
-directly a h direct = by_lines (λ f. ReceivedOnlyIf f a h) (direct_lines a) fate.Suspicious (
-  (λ both. record { direct = direct; trusted = and_first a.trusted_here a.bubble both; kind = and_second a.trusted_here a.bubble both }),
+directly a h direct = by_lines (λ (f : Fate). ReceivedOnlyIf f a h) (direct_lines a) fate.Suspicious (
+  (λ both. record { direct = direct; trusted = (and_parts a.trusted_here a.bubble both).0; kind = (and_parts a.trusted_here a.bubble both).1 }),
   (λ bubble. (
     (λ trusted. record { direct = direct; trusted = trusted; kind = fails_with a.trusted_here a.bubble trusted bubble }),
     (λ untrusted. (
@@ -138,16 +139,16 @@ directly a h direct = by_lines (λ f. ReceivedOnlyIf f a h) (direct_lines a) fat
           (λ both. record {
             direct = direct;
             untrusted = untrusted;
-            embedded = and_first a.embedded_here a.bubble both;
-            room = not_false a.room (fails_with a.embedded_here (not a.room) (and_first a.embedded_here a.bubble both) room);
-            kind = and_second a.embedded_here a.bubble both;
+            embedded = (and_parts a.embedded_here a.bubble both).0;
+            room = not-false a.room (fails_with a.embedded_here (not a.room) (and_parts a.embedded_here a.bubble both).0 room);
+            kind = (and_parts a.embedded_here a.bubble both).1;
           }),
           (λ bubble_too. (
             (λ here. record {
               direct = direct;
               untrusted = untrusted;
               embedded = here;
-              room = not_false a.room (fails_with a.embedded_here (not a.room) here room);
+              room = not-false a.room (fails_with a.embedded_here (not a.room) here room);
               kind = fails_with a.embedded_here a.bubble here bubble_too;
             }),
             (λ _. (
@@ -164,7 +165,7 @@ directly a h direct = by_lines (λ f. ReceivedOnlyIf f a h) (direct_lines a) fat
 
 -- to the client
 addressed : (a : Seen) (h : Heard) → IsForClient a → a.from_server && not (a.bubble && a.origin) ≡ false → ReceivedOnlyIf (first_line (indirect_lines a ++ direct_lines a) fate.Suspicious) a h
-addressed a h mine bubble = by_lines (λ f. ReceivedOnlyIf f a h) (indirect_lines a) (first_line (direct_lines a) fate.Suspicious) (
+addressed a h mine bubble = by_lines (λ (f : Fate). ReceivedOnlyIf f a h) (indirect_lines a) (first_line (direct_lines a) fate.Suspicious) (
   (λ _. tt),
   (λ origin. (
     (λ _. tt),
@@ -182,7 +183,7 @@ addressed a h mine bubble = by_lines (λ f. ReceivedOnlyIf f a h) (indirect_line
 -- THE WHOLE
 
 row : (a : Seen) (h : Heard) → ReceivedOnlyIf (reception_row a (first_line (advert_lines h) (phase_line h.phase h.same_origin))) a h
-row a h = by_lines (λ f. ReceivedOnlyIf f a h) (datagram_lines a ++ (server_lines a (first_line (advert_lines h) (phase_line h.phase h.same_origin)) ++ packet_lines a)) (first_line (indirect_lines a ++ direct_lines a) fate.Suspicious) (
+row a h = by_lines (λ (f : Fate). ReceivedOnlyIf f a h) (datagram_lines a ++ (server_lines a (first_line (advert_lines h) (phase_line h.phase h.same_origin)) ++ packet_lines a)) (first_line (indirect_lines a ++ direct_lines a) fate.Suspicious) (
   (λ _. tt),
   (λ payload. (
     (λ _. tt),
@@ -191,11 +192,11 @@ row a h = by_lines (λ f. ReceivedOnlyIf f a h) (datagram_lines a ++ (server_lin
       (λ unconfirmed. (
         (λ _. tt),
         (λ short.
-            let sound : IsSound a = record { payload = not_false a.payload payload; unkeyed = unkeyed; unconfirmed = unconfirmed; short = short } in (
+            let sound : IsSound a = record { payload = not-false a.payload payload; unkeyed = unkeyed; unconfirmed = unconfirmed; short = short } in (
               (λ _. tt),
               (λ well. (
-                (λ both. let server = and_first a.from_server a.advert both in
-                    advertised a h (record { sound = sound; server = server; well_formed = fails_with a.from_server a.ill_formed server well; advert = and_second a.from_server a.advert both })),
+                (λ both. let server = (and_parts a.from_server a.advert both).0 in
+                    advertised a h (record { sound = sound; server = server; well_formed = fails_with a.from_server a.ill_formed server well; advert = (and_parts a.from_server a.advert both).1 })),
                 (λ _. (
                   (λ _. tt),
                   (λ bubble. (
@@ -205,7 +206,7 @@ row a h = by_lines (λ f. ReceivedOnlyIf f a h) (datagram_lines a ++ (server_lin
                       (λ mine. (
                         (λ _. tt),
                         (λ foreign.
-                            addressed a h (record { sound = sound; qualified = not_false a.qualified qualified; mine = not_false a.mine mine; foreign = foreign }) bubble),
+                            addressed a h (record { sound = sound; qualified = not-false a.qualified qualified; mine = not-false a.mine mine; foreign = foreign }) bubble),
                       )),
                     )),
                   )),

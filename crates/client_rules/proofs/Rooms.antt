@@ -9,16 +9,16 @@ use Rattle.bubble.specs.Reads.{value_in}
 use Rattle.bubble.specs.PacketsIn.{source_in, destination_in}
 use Rattle.teredo_node.specs.declared.fate.Fate.{Fate}
 use Rattle.teredo_node.specs.declared.fate.Fate.TheVariants as fate
-use Rattle.teredo_node.specs.Rows.{first_line}
+use Rattle.teredo_node.proofs.FirstLines.{first_where}
 use Rattle.teredo_node.specs.Journal.{Input, arrived, given as handed, from_six, ticked, Entry, Journal, Words, is_changed, epoch}
-use Rattle.peer_list.specs.declared.limits.TheConstants.{MOST_PEERS}
 use Rattle.peer_list.specs.Mentions.{Mention}
-use Rattle.peer_list.specs.Listed.{is_listed, listed, has_room}
-use Rattle.peer_list.specs.Peers.{Peer, no_peer, peer_at}
+use Rattle.peer_list.specs.Listed.{has_room}
+use Rattle.peer_list.specs.Peers.{Peer, no_peer}
 use Rattle.peer_list.specs.Judged.{is_trusted_at, is_fresh, due_of}
 use Rattle.peer_list.specs.Waiting.{Listing}
 use Rattle.peer_list.specs.Laws.{FirstWaits}
 use Rattle.peer_list.specs.Few.{HasRoom, HaveRoom, FewListed}
+use Rattle.peer_list.proofs.Rooms.{not_known, listed_has_room, room_by, room_of_none}
 use Rattle.qualify.specs.declared.settings.Settings.{Settings}
 use Rattle.qualify.specs.declared.phase.Phase.{Phase}
 use Rattle.qualify.specs.declared.phase.Phase.TheVariants as phase
@@ -40,19 +40,6 @@ use Rattle.client_rules.proofs.Tried.{journal_is_tried}
 -- it touches nobody
 abbrev IsIdle : Fate → Type 0
 IsIdle f = (e : Entry) → (bearing_of f e).touches ≡ false
-
--- no line that holds touches anybody
-abbrev AreIdle : List (Bool × Fate) → Type 0
-AreIdle [] = Unit {0}
-AreIdle (line ∷ lines) = (line.0 ≡ true → IsIdle line.1) × AreIdle lines
-
-either : (b : Bool) (f g : Fate) → (b ≡ true → IsIdle f) → IsIdle g → IsIdle (cond b f g)
-either true f g p q = p refl
-either false f g p q = q
-
-first_idle : (lines : List (Bool × Fate)) (last : Fate) → AreIdle lines → IsIdle last → IsIdle (first_line lines last)
-first_idle [] last p q = q
-first_idle (line ∷ lines) last p q = either line.0 line.1 (first_line lines last) p.0 (first_idle lines last p.1 q)
 
 -- a test that fails because of its last part
 never2 : (a : Bool) → (a && false) ≡ true → ⊥
@@ -81,7 +68,7 @@ advert_idle : (s : Settings) (q : Qualification) (from : Ep) (v : Value) → IsI
 unfolding advert_row
 advert_idle s q from v =
     let a = heard s q from v in
-    first_idle (advert_lines a) (phase_line a.phase a.same_origin) ((λ h e. refl), ((λ h e. refl), ((λ h e. refl), ((λ h e. refl), ((λ h e. refl), tt))))) (phase_idle a.phase a.same_origin)
+    first_where IsIdle (advert_lines a) (phase_line a.phase a.same_origin) ((λ h e. refl), ((λ h e. refl), ((λ h e. refl), ((λ h e. refl), ((λ h e. refl), tt))))) (phase_idle a.phase a.same_origin)
 
 -- DATAGRAMS
 
@@ -92,16 +79,16 @@ crowded z server here = record z { from_server = server; embedded_here = here; r
 crowded_idle : (z : Seen) (advert : Fate) (server here : Bool) → IsIdle advert → IsIdle (reception_row (crowded z server here) advert)
 crowded_idle z advert true here a =
     let y : Seen = crowded z true here in
-    first_idle (datagram_lines y ++ (server_lines y advert ++ (packet_lines y ++ (not y.good_origin, fate.Origin) ∷ []))) fate.PeersFull
+    first_where IsIdle (datagram_lines y ++ (server_lines y advert ++ (packet_lines y ++ (not y.good_origin, fate.Origin) ∷ []))) fate.PeersFull
     ((λ h e. refl), ((λ h e. refl), ((λ h e. refl), ((λ h e. refl), ((λ h e. refl), ((λ h. a), ((λ h e. refl), ((λ h e. refl), ((λ h e. refl), ((λ h e. refl), ((λ h e. refl), tt))))))))))) (λ e. refl)
 crowded_idle z advert false true a =
     let y : Seen = crowded z false true in
-    first_idle (datagram_lines y ++ (server_lines y advert ++ (packet_lines y ++ (indirect_lines y ++ trusted_lines y)))) fate.PeersFull
+    first_where IsIdle (datagram_lines y ++ (server_lines y advert ++ (packet_lines y ++ (indirect_lines y ++ trusted_lines y)))) fate.PeersFull
     ((λ h e. refl), ((λ h e. refl), ((λ h e. refl), ((λ h e. refl), ((λ h e. refl), ((λ h. a), ((λ h e. refl), ((λ h e. refl), ((λ h e. refl), ((λ h e. refl), ((λ h e. refl), ((λ h e. refl), ((λ h e. refl), ((λ h. absurd (false≢true h)), ((λ h. absurd (false≢true h)), ((λ h. absurd (false≢true h)), ((λ h. absurd (never2 (not y.teredo) h)), tt)))))))))))))))))
     (λ e. refl)
 crowded_idle z advert false false a =
     let y : Seen = crowded z false false in
-    first_idle (datagram_lines y ++ (server_lines y advert ++ (packet_lines y ++ (indirect_lines y ++ (trusted_lines y ++ (teredo_lines y ++ suspicious_lines y)))))) fate.Suspicious
+    first_where IsIdle (datagram_lines y ++ (server_lines y advert ++ (packet_lines y ++ (indirect_lines y ++ (trusted_lines y ++ (teredo_lines y ++ suspicious_lines y)))))) fate.Suspicious
     ((λ h e. refl), ((λ h e. refl), ((λ h e. refl), ((λ h e. refl), ((λ h e. refl), ((λ h. a), ((λ h e. refl), ((λ h e. refl), ((λ h e. refl), ((λ h e. refl), ((λ h e. refl), ((λ h e. refl), ((λ h e. refl), ((λ h. absurd (false≢true h)), ((λ h. absurd (false≢true h)), ((λ h. absurd (false≢true h)), ((λ h. absurd (never2 (not y.teredo) h)), ((λ h e. refl), ((λ h. absurd (false≢true h)), ((λ h. absurd (false≢true h)), ((λ h e. refl), ((λ h. absurd (never4 y.global (not y.fresh) (not y.barred) h)), tt))))))))))))))))))))))
     (λ e. refl)
 
@@ -124,7 +111,7 @@ crowded_out z = record z { fresh = false; room = false }
 out_idle : (z : Given) → IsIdle (transmission_row (crowded_out z))
 out_idle z =
     let y : Given = crowded_out z in
-    first_idle (host_lines y ++ (y.unreachable, fate.Embedded) ∷ (y.fresh, fate.Sent) ∷ (y.cone, fate.SentCone) ∷ []) fate.PeersFull
+    first_where IsIdle (host_lines y ++ (y.unreachable, fate.Embedded) ∷ (y.fresh, fate.Sent) ∷ (y.cone, fate.SentCone) ∷ []) fate.PeersFull
     ((λ h e. refl), ((λ h e. refl), ((λ h e. refl), ((λ h e. refl), ((λ h e. refl), ((λ h e. refl), ((λ h e. refl), ((λ h e. refl), ((λ h. absurd (false≢true h)), ((λ h e. refl), tt)))))))))) (λ e. refl)
 
 sent_idle : (s : Settings) (a : Standing) (x : List ℕ) → a.room ≡ false → a.peer ≡ None → IsIdle (transmission_row (given s a x))
@@ -137,42 +124,11 @@ sent_idle s a x room unlisted =
 
 -- AN ENTRY
 
--- one that touches nobody for whom there is no room
-room_by : (e : Entry) (ms : List Mention) → ((p : Ip6) → e.peer ≡ Some p → has_room ms e.moment p ≡ false → (mention e).bearing.touches ≡ false) → HasRoom (mention e) ms
-room_by e ms idle p touched = by (mention e).bearing.touches refl touched where
-  by_room : (b : Bool) → has_room ms e.moment p ≡ b → (mention e).bearing.touches ≡ true → e.peer ≡ Some p → has_room ms e.moment p ≡ true
-  by_room true room t about = room
-  by_room false none t about = absurd (false≢true (sym (idle p about none) ∙ t))
-
-  by : (b : Bool) → (mention e).bearing.touches ≡ b → cond b e.peer None ≡ Some p → has_room ms e.moment p ≡ true
-  by true t about = by_room (has_room ms e.moment p) refl t about
-  by false t about = absurd (false≢true (ap is_some about))
-
--- one that is about nobody
-room_of_none : (e : Entry) (ms : List Mention) → e.peer ≡ None → HasRoom (mention e) ms
-room_of_none e ms nobody = room_by e ms (λ p about none. absurd (false≢true (ap is_some (sym nobody ∙ about))))
-
--- where there is no room for it, an address isn't listed
-not_listed : (ms : List Mention) (n : ℕ) (p : Ip6) → has_room ms n p ≡ false → is_listed p n ms ≡ false
-unfolding has_room
-not_listed ms n p none = by (is_listed p n ms) none where
-  by : (b : Bool) → (b || nat_lt (length (listed ms n)) MOST_PEERS) ≡ false → b ≡ false
-  by true h = h
-  by false h = refl
-
-not_known : (ms : List Mention) (n : ℕ) (p : Ip6) → has_room ms n p ≡ false → peer_at ms n p ≡ None
-unfolding peer_at
-not_known ms n p none = let out = not_listed ms n p none in rw out refl
-
-listed_has_room : (ms : List Mention) (n : ℕ) (p : Ip6) → is_listed p n ms ≡ true → has_room ms n p ≡ true
-unfolding has_room
-listed_has_room ms n p there = rw there refl
-
 of_datagram : (s : Settings) (j : Journal) (n : ℕ) (from : Ep) (x : List ℕ) (w : Words) → HasRoom (mention (client_in s j n from x w)) (mentions j.entries)
 unfolding client_in standing_at
 of_datagram s j n from x w =
     let e : Entry = client_in s j n from x w in
-    room_by e (mentions j.entries) (λ p about none.
+    room_by (mention e) (mentions j.entries) (λ p about none.
     let a : Standing = standing_of s j n (source_in x) in
     let room : a.room ≡ false = ap (λ (o : Option Ip6). (standing_of s j n o).room) about ∙ none in
     let unlisted : a.peer ≡ None = ap (λ (o : Option Ip6). (standing_of s j n o).peer) about ∙ not_known (mentions j.entries) n p none in
@@ -182,7 +138,7 @@ of_packet : (s : Settings) (j : Journal) (n : ℕ) (x : List ℕ) (w : Words) �
 unfolding client_out standing_at
 of_packet s j n x w =
     let e : Entry = client_out s j n x w in
-    room_by e (mentions j.entries) (λ p about none.
+    room_by (mention e) (mentions j.entries) (λ p about none.
     let a : Standing = standing_of s j n (destination_in x) in
     let room : a.room ≡ false = ap (λ (o : Option Ip6). (standing_of s j n o).room) about ∙ none in
     let unlisted : a.peer ≡ None = ap (λ (o : Option Ip6). (standing_of s j n o).peer) about ∙ not_known (mentions j.entries) n p none in
@@ -197,25 +153,25 @@ of_tick first s j n w = by_phase (is_due n (qualification s j).due) where
 
   by_time : (b : Bool) (l : Listing) → first_peer j n ≡ Some l → finds (cond b (tries l) nothing)
   by_time true l is =
-      room_by (ticks s j n w (tries l)) (mentions j.entries) (λ p about none.
+      room_by (mention (ticks s j n w (tries l))) (mentions j.entries) (λ p about none.
       let same : l.who ≡ p = ap (λ (o : Option Ip6). unwrap_or o l.who) about in
       let room : has_room (mentions j.entries) n l.who ≡ true = listed_has_room (mentions j.entries) n l.who (first (mentions j.entries) n l is).listed in
       absurd (false≢true (sym none ∙ ap (has_room (mentions j.entries) n) (sym same) ∙ room)))
-  by_time false l is = room_of_none (ticks s j n w nothing) (mentions j.entries) refl
+  by_time false l is = room_of_none (mention (ticks s j n w nothing)) (mentions j.entries) refl
 
   by_peer : (o : Option Listing) → first_peer j n ≡ o → finds (peer_due n o)
-  by_peer None is = room_of_none (ticks s j n w nothing) (mentions j.entries) refl
+  by_peer None is = room_of_none (mention (ticks s j n w nothing)) (mentions j.entries) refl
   by_peer (Some l) is = by_time (nat_le (due_of l.peer) n) l is
 
   by_phase : (b : Bool) → finds (cond b asks (peer_due n (first_peer j n)))
-  by_phase true = room_of_none (ticks s j n w asks) (mentions j.entries) refl
+  by_phase true = room_of_none (mention (ticks s j n w asks)) (mentions j.entries) refl
   by_phase false = by_peer (first_peer j n) refl
 
 of_entry : FirstWaits → (s : Settings) (j : Journal) (n : ℕ) (input : Input) (w : Words) → HasRoom (mention (client_entry s j n input w)) (mentions j.entries)
 of_entry first s j n (arrived from x) w = of_datagram s j n from x w
 of_entry first s j n (handed x) w = of_packet s j n x w
 of_entry first s j n ticked w = of_tick first s j n w
-of_entry first s j n (from_six x) w = room_of_none (client_entry s j n (from_six x) w) (mentions j.entries) refl
+of_entry first s j n (from_six x) w = room_of_none (mention (client_entry s j n (from_six x) w)) (mentions j.entries) refl
 
 -- JOURNALS
 

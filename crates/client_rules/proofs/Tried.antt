@@ -1,10 +1,11 @@
 -- A client's mentions: of one further entry, and in order.
 use Rattle.std.proofs.Common.{◌≡◌, ◌≤◌, ℕ, Bool, true, false, cond, List, [], ◌∷◌, map, refl}
 use Rattle.std.specs.List.{AllByRecursion}
-use Rattle.std.proofs.Math.Nat.{le_refl, le_trans}
+use Rattle.std.proofs.Math.Nat.{le_refl}
 use Rattle.teredo_node.specs.Journal.{Entry, is_changed, epoch}
 use Rattle.peer_list.specs.Mentions.{Mention}
 use Rattle.peer_list.specs.Laws.{InOrder}
+use Rattle.peer_list.proofs.FromMentions.{IsBefore, all_later}
 use Rattle.qualify.specs.declared.settings.Settings.{Settings}
 use Rattle.client_rules.specs.Bearings.{mention, mentions}
 use Rattle.client_rules.specs.Journals.{last_moment, AreEntries}
@@ -18,13 +19,6 @@ mapped false e j = refl
 pub next_mentions : NextMentions
 unfolding mentions
 next_mentions e j = mapped (is_changed e.step.fate) e j
-
-abbrev IsBefore : ℕ → Mention → Type 0
-IsBefore n x = x.moment ≤ n
-
-all_later : (m n : ℕ) (ms : List Mention) → m ≤ n → AllByRecursion (IsBefore m) ms → AllByRecursion (IsBefore n) ms
-all_later m n [] l a = tt
-all_later m n (x ∷ ms) l a = (le_trans a.0 l, all_later m n ms l a.1)
 
 -- no mention is later than the journal
 before_last : (s : Settings) (start : ℕ) (j : List Entry) → AreEntries s start j → AllByRecursion (IsBefore (last_moment start j)) (mentions j)

@@ -2,7 +2,7 @@
 use Rattle.std.proofs.Common.{◌≡◌, ℕ, Bool, true, false, cond, List, [], ◌∷◌, map, Some, None, sym, ap, subst, ◌∙◌}
 use Rattle.std.specs.Prelude.{IfSome}
 use Rattle.std.specs.List.{AllByRecursion}
-use Rattle.std.proofs.lemmas.Bool.{false≢true}
+use Rattle.std.proofs.lemmas.Bool.{false≢true, and_parts}
 use Rattle.td_base.specs.Ip6.{same_ip6-true}
 use Rattle.td_base.specs.Ep.{same_ep, same_ep-true}
 use Rattle.td_base.specs.declared.ipv6.Ip6.{Ip6}
@@ -23,10 +23,9 @@ use Rattle.client_rules.specs.Journals.{entry, client_in, client_out, client_tic
 use Rattle.client_rules.specs.Warrants.{IsTested, IsEmbedded, ReceivedOnlyIf}
 use Rattle.client_rules.specs.Epochs.{TrustedIsEmbedded}
 use Rattle.client_rules.proofs.Fates.{fate_of_reception}
-use Rattle.client_rules.proofs.Lines.{and_second}
 use Rattle.client_rules.proofs.Received.{reception_is_warranted}
 use Rattle.client_rules.proofs.Bearings.{trusted_by}
-use Rattle.client_rules.proofs.Kept.{kept, trust_is_kept}
+use Rattle.peer_list.proofs.FromMentions.{peer_is_if, kept, trust_is_kept}
 
 abbrev IsThere : Ip6 → Ep → Type 0
 IsThere p at = at ≡ embedded p
@@ -34,10 +33,6 @@ IsThere p at = at ≡ embedded p
 -- an entry about p trusts it, if at all, there
 abbrev TrustsThere : Ip6 → Entry → Type 0
 TrustsThere p e = is_about p (mention e) ≡ true → IfSome (mention e).bearing.trusts (IsThere p)
-
-source_is : (b : Bool) (p q : Ip6) → is_peer p (cond b (Some q) None) ≡ true → p ≡ q
-source_is true p q h = same_ip6-true p q h
-source_is false p q h = absurd (false≢true h)
 
 -- rule 2 is for natives
 never_tested : (s : Settings) (a : Standing) (from : Ep) (x : List ℕ) (p : Ip6) → is_teredo p ≡ true → p ≡ (value_in x).packet.src → IsTested (seen s a from x) → ⊥
@@ -48,12 +43,12 @@ never_tested s a from x p teredo is t = false≢true (sym t.native ∙ ap is_ter
 sent_there : (s : Settings) (a : Standing) (from : Ep) (x : List ℕ) (p : Ip6) (bubble : Bool) → p ≡ (value_in x).packet.src → IsEmbedded bubble (seen s a from x) → IsThere p from
 unfolding seen
 sent_there s a from x p bubble is t =
-    sym (same_ep-true (embedded (value_in x).packet.src) from (and_second (is_teredo (value_in x).packet.src) (same_ep (embedded (value_in x).packet.src) from) t.embedded)) ∙ ap embedded (sym is)
+    sym (same_ep-true (embedded (value_in x).packet.src) from ((and_parts (is_teredo (value_in x).packet.src) (same_ep (embedded (value_in x).packet.src) from) t.embedded).1)) ∙ ap embedded (sym is)
 
 of_datagram : (s : Settings) (a : Standing) (n : ℕ) (from : Ep) (x : List ℕ) (w : Words) (p : Ip6) → is_teredo p ≡ true → TrustsThere p (entry n (arrived from x) (packet_in x) (source_in x) w (reception s a from x w))
 unfolding source_in
 of_datagram s a n from x w p teredo about =
-    let is : p ≡ (value_in x).packet.src = source_is (is_payload x) p (value_in x).packet.src about in
+    let is : p ≡ (value_in x).packet.src = peer_is_if (is_payload x) p (value_in x).packet.src about in
     let fate_is = sym (fate_of_reception s a from x w) in
     let seen_so = reception_is_warranted s a from x in
     let h = heard s a.qualification from (value_in x) in

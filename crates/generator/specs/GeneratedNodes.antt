@@ -12,7 +12,8 @@ use Rattle.topology.specs.declared.client_node.ClientNode.{ClientNode}
 use Rattle.topology.specs.declared.relay_node.RelayNode.{RelayNode}
 use Rattle.topology.specs.declared.native_node.NativeNode.{NativeNode}
 use Rattle.topology.specs.Rows.{TopologyState}
-use Rattle.generator.specs.declared.nodes.TheConstants.{FIRST_NAT, FIRST_CLIENT, THE_RELAY, FIRST_NATIVE, MAPPING_IDLE_MS, REFRESH_LOW_MS, REFRESH_HIGH_MS, INSIDE_PORT}
+use Rattle.generator.specs.declared.nodes.TheConstants.{FIRST_NAT, FIRST_CLIENT, THE_RELAY, FIRST_NATIVE, MAPPING_IDLE_MS, INSIDE_PORT}
+use Rattle.topology.specs.declared.client_node.TheConstants.{REFRESH_LOW_MS, REFRESH_HIGH_MS}
 
 -- NUMBERS OF NODES: servers 0 and 1, NATs 2 to 5, clients 6 to 13, the relay 14, native hosts 15 and 16
 

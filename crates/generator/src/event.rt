@@ -1,7 +1,7 @@
 //! An event of three words.
 ghost use Rattle.std.specs.Prelude.{◌≡◌, ◌<◌, ◌≤◌, ◌%◌, ◌+◌, IfOk};
 ghost use Rattle.history.specs.Events.{IsEvent};
-ghost use Rattle.generator.specs.declared.generated.TheConstants.{EVENTS_MAX};
+ghost use Rattle.history.specs.declared.event.TheConstants.{EVENTS_MAX};
 ghost use Rattle.generator.specs.GeneratedNodes.{nat_number, client_number, native_number, generated_nodes};
 ghost use Rattle.generator.specs.GeneratedEvent.{host_event, copy_event, upset_event, sent_event, event_of_kind, generated_event};
 

@@ -1,6 +1,7 @@
 //! The generated scenario.
 ghost use Rattle.std.specs.Prelude.{◌≡◌, ◌≤◌, ◌<◌, length, IfOk};
 ghost use Rattle.std.specs.List.{AllByRecursion};
+ghost use Rattle.history.specs.declared.event.TheConstants.{EVENTS_MAX};
 ghost use Rattle.history.specs.Events.{IsEvent};
 ghost use Rattle.qualify.specs.Generator.{words_of, after_words};
 ghost use Rattle.generator.specs.GeneratedNodes.{generated_nodes};
@@ -16,9 +17,6 @@ use rand_core::utils::NextWord;
 use std::alloc::Global;
 use td_base::NoMemory;
 use topology::Topology;
-
-/// The most events.
-pub const EVENTS_MAX: u32 = 50_000;
 
 /// The nodes and the events.
 #[derive(Drop)]

@@ -29,9 +29,6 @@ mod tests;
 mod words;
 
 pub use event::ADVANCE_END_MS;
-pub use generated::{EVENTS_MAX, Generated, generate};
-pub use nodes::{
-    FIRST_CLIENT, FIRST_NAT, FIRST_NATIVE, INSIDE_PORT, MAPPING_IDLE_MS, REFRESH_HIGH_MS,
-    REFRESH_LOW_MS, THE_RELAY,
-};
+pub use generated::{Generated, generate};
+pub use nodes::{FIRST_CLIENT, FIRST_NAT, FIRST_NATIVE, INSIDE_PORT, MAPPING_IDLE_MS, THE_RELAY};
 pub use words::EVENTS_STREAM;

@@ -5,7 +5,10 @@ ghost use Rattle.generator.specs.GeneratedNodes.{lettered_name, documentation_ip
 use nat_kinds::NatKind;
 use std::alloc::Global;
 use td_base::{Ep, Ip4, Ip6, NoMemory};
-use topology::{ClientNode, Name, NatNode, NativeNode, RelayNode, ServerNode, Topology};
+use topology::{
+    ClientNode, Name, NatNode, NativeNode, REFRESH_HIGH_MS, REFRESH_LOW_MS, RelayNode, ServerNode,
+    Topology,
+};
 
 /// The numbers of the first NAT, the first client, the relay and the first native host, among all nodes.
 pub const FIRST_NAT: u16 = 2;
@@ -18,12 +21,6 @@ pub const FIRST_NATIVE: u16 = 15;
 
 /// How long a mapping of a NAT lives, in milliseconds.
 pub const MAPPING_IDLE_MS: u32 = 60_000;
-
-/// The shortest and the longest time between two refreshes of a client, in milliseconds: those of a client that says
-/// nothing of it (RFC 4380, section 5.2.5).
-pub const REFRESH_LOW_MS: u32 = 22_500;
-
-pub const REFRESH_HIGH_MS: u32 = 30_000;
 
 /// The port of each client behind its NAT.
 pub const INSIDE_PORT: u16 = 4000;

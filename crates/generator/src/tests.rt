@@ -1,6 +1,6 @@
 //! The events of a seed, beside those that another program made.
 ghost use Rattle.std.specs.Prelude.{◌≤◌};
-ghost use Rattle.generator.specs.declared.generated.TheConstants.{EVENTS_MAX};
+ghost use Rattle.history.specs.declared.event.TheConstants.{EVENTS_MAX};
 
 use crate::generate;
 use history::print_event;

@@ -2,6 +2,9 @@ use crate::target::Target;
 use td_base::Ep;
 use td_outside::Octets;
 
+/// The most events of a scenario.
+pub const EVENTS_MAX: usize = 50_000;
+
 /// How far one event advances the time at most, in milliseconds.
 pub const MOST_ADVANCE: u64 = 1_000_000_000;
 

@@ -48,7 +48,9 @@ mod turn;
 mod word_texts;
 
 pub use acts::{Act, Verb};
-pub use event::{Event, MOST_ADVANCE, MOST_BODY, MOST_BYTES, MOST_NUMBER, MOST_SEQUENCE};
+pub use event::{
+    EVENTS_MAX, Event, MOST_ADVANCE, MOST_BODY, MOST_BYTES, MOST_NUMBER, MOST_SEQUENCE,
+};
 pub use event_fault::EventFault;
 pub use event_list::Events;
 pub use event_printer::print_event;

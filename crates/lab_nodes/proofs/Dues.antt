@@ -1,15 +1,19 @@
 -- Which of several ticks comes first.
-use Rattle.std.proofs.Common.{◌≡◌, ◌<◌, ◌≤◌, ◌+◌, ℕ, zero, suc, List, [], ◌∷◌, length, drop, drop-cons, Option, Some, None, refl, sym, ap, ◌∙◌, arith, inl, inr}
+use Rattle.std.proofs.Common.{◌≡◌, ◌<◌, ◌≤◌, ◌+◌, ℕ, zero, suc, List, [], ◌∷◌, length, drop, drop-cons, Option, Some, None, refl, sym, ap, subst, ◌∙◌, arith, inl, inr}
 use Rattle.std.specs.Prelude.{slice_get, option_map, is_some}
 use Rattle.std.proofs.lemmas.Bool.{cases_lt, lt-ltb, le-ltb, false≢true}
 use Rattle.std.proofs.lemmas.List.{at_drop_all}
-use Rattle.std.proofs.lemmas.Option.{slice_get_within, get_or_from_slice_get}
+use Rattle.std.proofs.lemmas.Option.{slice_get_within, get_or_from_slice_get, slice_get_past}
 use Rattle.topology.specs.declared.node.Node.{Node}
 use Rattle.topology.specs.Rows.{TopologyState}
 use Rattle.history.specs.Full.{Full}
-use Rattle.legal.specs.Past.{now}
-use Rattle.legal.specs.Emit.{due_of}
+use Rattle.legal.specs.Past.{Draws, now}
+use Rattle.topology.specs.Topology.{nodes, node_at}
+use Rattle.lab_nodes.specs.declared.node_state.NodeState.{NodeState}
+use Rattle.lab_nodes.specs.NodeState.{past_of, IsKeptIn, NodesOf, IsReady, AreReady}
 use Rattle.legal.specs.Next.{Due, earlier, least_due}
+use Rattle.lab_nodes.specs.Due.{tick_of}
+use Rattle.lab_nodes.proofs.States.{some_inj}
 
 -- the second of two is earlier, or it isn't
 later : (a b : Due) → a.moment ≤ b.moment → earlier (Some a) (Some b) ≡ Some a
@@ -43,10 +47,6 @@ in_turn (Some a) (Some b) (Some c) = of_three a b c
 
 -- THE FIRST NODES
 
--- the tick of one node
-abbrev pub tick_of : TopologyState → List Full → ℕ → ℕ → Node → Option Due
-tick_of t H m n a = option_map (λ (k : ℕ). record { moment = k; number = n; node = a }) (due_of t H m n a)
-
 -- the tick of a node at a moment
 abbrev at_moment : ℕ → Node → ℕ → Due
 at_moment n a k = record { moment = k; number = n; node = a }
@@ -77,6 +77,34 @@ no_more : (all : List Node) (n : ℕ) → slice_get all n ≡ None → length al
 no_more [] n e = omega arith
 no_more (a ∷ all) zero e = absurd (false≢true (sym (ap (λ (o : Option Node). is_some o) e)))
 no_more (a ∷ all) (suc n) e = let h = no_more all n e in omega (arith, h)
+
+-- behind the last node nothing changes
+pub none_further : (t : TopologyState) (H : List Full) (all : List Node) (n : ℕ) (first : Option Due) → slice_get all n ≡ None → IsFirstSo t H all n first → IsFirstSo t H all (n + 1) first
+none_further t H all n first none so = record {
+  whole =
+      let past = no_more all n none in
+      ap (earlier first) (at_drop_all (least_due t H (n + 1)) all (n + 1) (omega (arith, past))) ∙ ap (earlier first) (sym (at_drop_all (least_due t H n) all n past)) ∙ so.whole;
+}
+
+-- so it goes on by each number
+pub further : (t : TopologyState) (H : List Full) (n : ℕ) (first new : Option Due) → IsFirstSo t H (nodes t) n first → (node_at t n ≡ None → new ≡ first)
+    → ((a : Node) → node_at t n ≡ Some a → new ≡ earlier first (tick_of t H (now H) n a)) → IsFirstSo t H (nodes t) (n + 1) new
+further t H n first new so none some = by (node_at t n) refl where
+  by : (o : Option Node) → node_at t n ≡ o → IsFirstSo t H (nodes t) (n + 1) new
+  by None e = subst (IsFirstSo t H (nodes t) (n + 1)) (sym (none e)) (none_further t H (nodes t) n first e so)
+  by (Some a) e = one_further t H (nodes t) n a first new e so (some a e)
+
+-- of each node something is kept
+pub all_seen : (d : Draws) (t : TopologyState) (states : List NodeState) (H : List Full) (n : ℕ) → NodesOf d t states H → length states ≤ n → node_at t n ≡ None
+all_seen d t states H n of le = by (node_at t n) refl where
+  by : (o : Option Node) → node_at t n ≡ o → node_at t n ≡ None
+  by None e = e
+  by (Some a) e = absurd (subst (IsKeptIn t n a (past_of d t n H)) (slice_get_past states n le) (of n a e))
+
+pub ready_at : (m : ℕ) (states : List NodeState) (n : ℕ) (s : NodeState) → AreReady m states → slice_get states n ≡ Some s → IsReady m s
+ready_at m [] n s all e = absurd (false≢true (ap (λ (o : Option NodeState). is_some o) e))
+ready_at m (x ∷ states) zero s all e = subst (IsReady m) (some_inj x s e) all.0
+ready_at m (x ∷ states) (suc n) s all e = ready_at m states n s all.1 e
 
 pub at_the_end : (t : TopologyState) (H : List Full) (all : List Node) (n : ℕ) (first : Option Due) → slice_get all n ≡ None → IsFirstSo t H all n first → first ≡ least_due t H 0 all
 at_the_end t H all n first none so =

@@ -2,7 +2,8 @@ mod Streams
 mod States
 mod Served
 mod Dues
+mod Moments
 mod Arrivals
 mod Inputs
 mod Unsent
-mod Hosts
+mod Lengths

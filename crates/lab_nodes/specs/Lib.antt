@@ -5,4 +5,5 @@ pub mod Call
 pub mod Memory
 pub mod Answers
 pub mod Due
+pub mod Moments
 pub mod Laws

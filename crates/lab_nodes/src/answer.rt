@@ -15,10 +15,10 @@ ghost use Rattle.lab_nodes.specs.Answers.{IsNoNative, Answers, Wants, Asks, Want
 
 use crate::call::Call;
 use crate::client::{address_by_step, answer_client};
+use crate::handed::{handed_of, six_of};
 use crate::idle::idle;
 use crate::native::answer_native;
 use crate::node_state::NodeState;
-use crate::parts::{handed_of, six_of};
 use crate::relay::answer_relay;
 use crate::server::serve_call;
 use std::alloc::Global;

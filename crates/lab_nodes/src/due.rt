@@ -1,14 +1,15 @@
 //! Which tick is due first.
-ghost use Rattle.std.specs.Prelude.{◌≡◌, ◌<◌, ℕ, if◌then◌else◌, List, Some, slice_get, option_map};
+ghost use Rattle.std.specs.Prelude.{◌≡◌, ◌<◌, ℕ, false, if◌then◌else◌, List, Some, None, option_map};
 ghost use Rattle.td_outside.specs.declared.clock.TheConstants.{CLOCK_END_MS};
 ghost use Rattle.topology.specs.Rows.{TopologyState};
-ghost use Rattle.topology.specs.Topology.{nodes};
+ghost use Rattle.topology.specs.declared.node.Node.{Node};
+ghost use Rattle.topology.specs.Topology.{node_at, nodes};
 ghost use Rattle.history.specs.Full.{Full};
 ghost use Rattle.legal.specs.Past.{Draws, now};
 ghost use Rattle.legal.specs.Emit.{due_of};
 ghost use Rattle.legal.specs.Next as next;
-ghost use Rattle.lab_nodes.specs.NodeState.{past_of, IsKept, IsKeptIn, NodesOf, IsReady, AreReady};
-ghost use Rattle.lab_nodes.specs.Due.{due_is};
+ghost use Rattle.lab_nodes.specs.NodeState.{past_of, IsKept, NodesOf, IsReady, AreReady};
+ghost use Rattle.lab_nodes.specs.Due.{due_is, tick_of};
 
 use crate::node_state::NodeState;
 use td_base::Millis;
@@ -49,15 +50,24 @@ fn due_of(node: &Node, state: &NodeState, at: Millis) -> Option<Millis>
     }
 }
 
-/// When a tick of the node of a number is due.
-fn due_at(states: &[NodeState], number: u16, node: &Node, at: Millis) -> Option<Millis>
-    requires ready { AreReady at.0 states.now }
-    requires early { at.0 < CLOCK_END_MS }
-    ensures { (d : Draws) (t : TopologyState) (H : List Full) → IsKeptIn t number node.now (past_of d t number H) (slice_get states.now number)
-        → option_map (λ m. m.0) result ≡ due_of t H at.0 number node.now }
+/// Whether a tick of a node whose state this is may be due before the first one so far. It looks at the bounds that
+/// clients and relays keep, and so may say that one is where none is.
+fn may_come_first(first: &Option<Due>, state: &NodeState) -> bool
+    ensures { result ≡ false → (d : Draws) (t : TopologyState) (H : List Full) (m n : ℕ) (a : Node) → IsReady m state.now → IsKept t n a (past_of d t n H) state.now
+        → next.earlier (option_map due_is first.now) (tick_of t H m n a) ≡ option_map due_is first.now }
 {
-    let state = states.get(usize::from(number))?;
-    due_of(node, state, at)
+    match state {
+        NodeState::Client(client) => match first {
+            Some(one) => client.may_be_due_before(one.moment),
+            None => true,
+        },
+        NodeState::Relay(relay) => match first {
+            Some(one) => relay.may_be_due_before(one.moment),
+            None => true,
+        },
+        NodeState::Nothing => false,
+        NodeState::Nat(_) => false,
+    }
 }
 
 /// Whether a tick at a moment is due before the first one so far, if there is one.
@@ -70,23 +80,37 @@ fn comes_first(first: &Option<Due>, moment: Millis) -> bool
     }
 }
 
-/// Puts the tick of a node in the place of the first one, where it is due earlier.
-fn put_earlier(first: &mut Option<Due>, moment: Option<Millis>, number: u16, node: &Node)
-    ensures { option_map due_is first.new ≡ next.earlier (option_map due_is first.old) (option_map (λ m. record { moment = m.0; number = number; node = node.now }) moment) }
+/// Puts the tick of the node of a number in the place of the first one, where it is due earlier.
+fn put_earlier(
+    first: &mut Option<Due>,
+    topology: &Topology,
+    number: usize,
+    state: &NodeState,
+    at: Millis,
+)
+    requires ready { IsReady at.0 state.now }
+    requires early { at.0 < CLOCK_END_MS }
+    ensures there { (d : Draws) (H : List Full) (a : Node) → node_at topology.now number ≡ Some a → IsKept topology.now number a (past_of d topology.now number H) state.now
+        → option_map due_is first.new ≡ next.earlier (option_map due_is first.old) (tick_of topology.now H at.0 number a) }
+    ensures nowhere { node_at topology.now number ≡ None → first.new ≡ first.old }
 {
-    let Some(moment) = moment else {
+    let Some(node) = topology.node(number) else {
+        return;
+    };
+    let Some(moment) = due_of(&node, state, at) else {
         return;
     };
     if comes_first(first, moment) {
         *first = Some(Due {
             moment,
-            number,
-            node: *node,
+            number: number as u16,
+            node,
         });
     }
 }
 
-/// The tick that is due first, of the node with the least number among those of one moment.
+/// The tick that is due first, of the node with the least number among those of one moment. The topology is asked only
+/// for the few nodes that may come before all those in front of them.
 pub fn first_due(topology: &Topology, states: &[NodeState], at: Millis) -> Option<Due>
     requires ready { AreReady at.0 states.now }
     requires early { at.0 < CLOCK_END_MS }
@@ -94,11 +118,10 @@ pub fn first_due(topology: &Topology, states: &[NodeState], at: Millis) -> Optio
         → option_map due_is result ≡ next.least_due topology.now H 0 (nodes topology.now) }
 {
     let mut first = None;
-    let mut number: u16 = 0;
-    while let Some(node) = topology.node(usize::from(number)) {
-        let moment = due_at(states, number, &node, at);
-        put_earlier(&mut first, moment, number, &node);
-        number += 1;
+    for (number, state) in states.iter().enumerate() {
+        if may_come_first(&first, state) {
+            put_earlier(&mut first, topology, number, state, at);
+        }
     }
     first
 }

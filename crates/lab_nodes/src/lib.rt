@@ -11,6 +11,7 @@
 //!   other nodes stay in each call.
 //! - The tick that is found is the one that is due first (`specs/Due.antt`); what a host sends has exactly the bytes of its
 //!   packet.
+//! - All due moments of the nodes can be read off what is kept of them (`specs/Moments.antt`).
 //!
 //! # What it does not know
 //!
@@ -25,24 +26,24 @@
 //! | `call` | what comes to a node | `specs/Call.antt` |
 //! | `answer` | what a node does with it, and gives besides its step | `specs/Answers.antt`, `Memory.antt` |
 //! | `server`, `client`, `relay`, `native` | the same for each kind of node | |
-//! | `idle`, `parts` | nothing done; what a step hands of a datagram to others | |
+//! | `idle`, `handed` | nothing done; what a step hands of a datagram to others | |
 //! | `one_arrival` | a server is lent a datagram | `specs/OneArrival.antt` |
 //! | `due` | which tick is due first | `specs/Due.antt` |
 //! | `host` | what the hosts of nodes send | |
-//! | `laws` | what holds of each row of a topology | `specs/Laws.antt` |
+//! | `laws` | what holds of each row of a topology, and of all due moments | `specs/Laws.antt`, `Moments.antt` |
 #![tactic(auto)]
 
 mod answer;
 mod call;
 mod client;
 mod due;
+mod handed;
 mod host;
 mod idle;
 mod laws;
 mod native;
 mod node_state;
 mod one_arrival;
-mod parts;
 mod relay;
 mod server;
 
@@ -50,5 +51,5 @@ pub use answer::{Asked, ask};
 pub use call::{Call, Coming};
 pub use due::{Due, first_due};
 pub use host::{DATA_MAX, ECHO, address_at, echo, target_address, write_data};
-pub use laws::rows_keep_rules;
+pub use laws::{due_as_in_the_past, rows_keep_rules};
 pub use node_state::{NodeState, first_states, forget_at, restart_at};

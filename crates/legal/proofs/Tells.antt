@@ -44,6 +44,7 @@ use Rattle.topology.specs.Rows.{TopologyState}
 use Rattle.topology.specs.declared.node.Node.{Node}
 use Rattle.topology.specs.declared.node.Node.TheVariants.{Server as server, Nat as nat, Client as client, Relay as relay, Native as native}
 use Rattle.topology.specs.Topology.{nodes, node_at, side_at}
+use Rattle.teredo_node.proofs.FirstLines.{first_of_each}
 use Rattle.history.specs.Telling.{is_no_entry, IsTold}
 use Rattle.history.specs.Full.{Item, udp, six, Full, wire}
 use Rattle.legal.specs.Past.{Draws, now, began, first_undelivered, journal, words}
@@ -51,21 +52,6 @@ use Rattle.native_host.specs.Natives.{echo_of, native_in}
 use Rattle.legal.specs.Settings.{server_settings, client_settings, relay_settings}
 use Rattle.legal.specs.Emit.{Route, reaches, closed, astray, route, entry_of}
 use Rattle.legal.specs.Next.{Numbered, numbered, Due, least_due, plain, advance_with, advanced, acts, no_ep, blank, delivers_to, delivers_item, delivers_or, copies, data_packet, echo_packet, address_at, target_address, hands_in, next_of}
-
--- THE TABLES
-
--- each outcome of a table
-abbrev Each : {A : Type 0} → (A → Type 0) → List (Bool × A) → Type 0
-Each Q [] = Unit {0}
-Each Q (line ∷ lines) = Q line.1 × Each Q lines
-
-either : {A : Type 0} → (Q : A → Type 0) (b : Bool) (x y : A) → Q x → Q y → Q (cond b x y)
-either Q true x y p q = p
-either Q false x y p q = q
-
-first_of_each : {A : Type 0} → (Q : A → Type 0) (lines : List (Bool × A)) (last : A) → Each Q lines → Q last → Q (first_line lines last)
-first_of_each Q [] last p q = q
-first_of_each Q (line ∷ lines) last p q = either Q line.0 line.1 (first_line lines last) p.0 (first_of_each Q lines last p.1 q)
 
 abbrev IsOther : Fate → Type 0
 IsOther f = is_no_entry f ≡ false

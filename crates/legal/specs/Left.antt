@@ -37,9 +37,13 @@ abbrev pub all_due : TopologyState → List Full → ℕ → List Node → List 
 all_due t H n [] = []
 all_due t H n (a ∷ rest) = due_moments t H n a ++ all_due t H (n + 1) rest
 
+-- over the due moments up to `end`, the time from each on, or from now on where it is past
+abbrev pub time_left : (end at : ℕ) → List ℕ → ℕ
+time_left end at moments = sum_by (λ m. end + 1 - max m at) (filter (λ m. nat_le m end) moments)
+
 -- for an advance that ends at `end`
 abbrev pub left_to : TopologyState → List Full → ℕ → ℕ
-left_to t H end = sum_by (λ m. end + 1 - max m (now H)) (filter (λ m. nat_le m end) (all_due t H 0 (nodes t)))
+left_to t H end = time_left end (now H) (all_due t H 0 (nodes t))
 
 abbrev pub left_of_event : TopologyState → List Full → Event → ℕ
 left_of_event t H (event.Advance ms) = left_to t H (began H + ms)

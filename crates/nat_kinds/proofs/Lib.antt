@@ -8,6 +8,7 @@ pub mod PortLemmas
 pub mod ChoiceLemmas
 pub mod SearchLemmas
 pub mod ShowsLemmas
+pub mod RecallLemmas
 pub mod StandsLemmas
 pub mod AnswerLemmas
 pub mod EnteringLemmas

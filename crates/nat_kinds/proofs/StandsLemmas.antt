@@ -24,7 +24,7 @@ use Rattle.nat_kinds.specs.Sound.{Sound}
 use Rattle.nat_kinds.specs.Laws.{latest_moment, IsPast}
 use Rattle.nat_kinds.specs.Way.{asked_way}
 use Rattle.nat_kinds.specs.Places.{place_at, if_young, unless_key, unless_of, unless_in, IsPutIn, Shows}
-use Rattle.nat_kinds.specs.Asked.{asked_at, is_recent, passes, inside_by, IsNoted}
+use Rattle.nat_kinds.specs.Asked.{asked_at, is_recent, passes, inside_by, recalled, IsNoted, IsOnce, Recalls}
 use Rattle.nat_kinds.specs.Nat.{NatState, StandsFor, StandsAsBefore}
 use Rattle.nat_kinds.proofs.ListLemmas.{all_map, all_found, found_passes, filter_swap}
 use Rattle.nat_kinds.proofs.OrderLemmas.{kept_before, none_young}
@@ -32,6 +32,7 @@ use Rattle.nat_kinds.proofs.LawLemmas.{sound_past}
 use Rattle.nat_kinds.proofs.ChoiceLemmas.{inside_is}
 use Rattle.nat_kinds.proofs.WayLemmas.{asked_same}
 use Rattle.nat_kinds.proofs.ForgetLemmas.{find_without, young_unless, any_without}
+use Rattle.nat_kinds.proofs.RecallLemmas.{Within, Lately, recalls_same, recalls_out, recalls_forgot, recalls_none}
 
 later_past : (s : NatSettings) (h : List Entry) (m n : ℕ) → IsPast s h m → m ≤ n → IsPast s h n
 later_past s h m n p le = record { history = p.history; moments = le_trans p.moments le }
@@ -84,21 +85,35 @@ asks true false T e outs idle n o h k none old = old ∙ sym (ap (λ b. b || lis
 asks false true T e outs idle n o h k none old = h ∙ sym (ap (list_any T) (none refl))
 asks false false T e outs idle n o h k none old = old
 
-lets_out : (kind : NatKind) (idle n : ℕ) (e : Outward) (outs : List Outward) (old new : List (Way × Millis)) → e.moment.0 ≤ n → (is_young idle n e ≡ false → outs ≡ []) → IsNoted kind idle old new e → (src : Ep) (m : Outward) → passes kind idle n old src m ≡ admits kind outs src m → passes kind idle n new src m ≡ admits kind (cond (is_young idle n e) (e ∷ outs) outs) src m
-lets_out Cone idle n e outs old new l none noted src m h = refl
-lets_out Symmetric idle n e outs old new l none noted src m h = refl
-lets_out Restricted idle n e outs old new l none noted src m h =
-    noted n l refl (asked_way Restricted m.inside src)
+lets_out : (kind : NatKind) (idle n : ℕ) (e : Outward) (outs : List Outward) (old new : List (Way × Millis)) → (is_young idle n e ≡ false → outs ≡ []) → IsNoted kind old new e → (src : Ep) (m : Outward) → passes kind idle n old src m ≡ admits kind outs src m → passes kind idle n new src m ≡ admits kind (cond (is_young idle n e) (e ∷ outs) outs) src m
+lets_out Cone idle n e outs old new none noted src m h = refl
+lets_out Symmetric idle n e outs old new none noted src m h = refl
+lets_out Restricted idle n e outs old new none noted src m h =
+    ap (is_recent idle n) (noted (asked_way Restricted m.inside src))
     ∙ ap (λ b. is_recent idle n (cond b (Some e.moment) (asked_at old (asked_way Restricted m.inside src)))) (asked_same Restricted e m.inside src)
     ∙ asks (is_young idle n e) (same_ep e.inside m.inside && same_ip e.dst.ip src.ip) (λ o. same_ep o.inside m.inside && same_ip o.dst.ip src.ip) e outs idle n _ refl refl none h
-lets_out Port idle n e outs old new l none noted src m h =
-    noted n l refl (asked_way Port m.inside src)
+lets_out Port idle n e outs old new none noted src m h =
+    ap (is_recent idle n) (noted (asked_way Port m.inside src))
     ∙ ap (λ b. is_recent idle n (cond b (Some e.moment) (asked_at old (asked_way Port m.inside src)))) (asked_same Port e m.inside src)
     ∙ asks (is_young idle n e) (same_ep e.inside m.inside && same_ep e.dst src) (λ o. same_ep o.inside m.inside && same_ep o.dst src) e outs idle n _ refl refl none h
 
+-- what is seen of whom was asked stays while old ones are taken out
+abbrev pub Swept : (idle now : ℕ) (old new : List (Way × Millis)) → Type 0
+Swept idle now old new = ((n : ℕ) → now ≤ n → (way : Way) → is_recent idle n (asked_at new way) ≡ is_recent idle n (asked_at old way)) × Within new old × (IsOnce old → IsOnce new) × Lately idle now new
+
+passes_same : (kind : NatKind) (idle n : ℕ) (old new : List (Way × Millis)) → ((way : Way) → is_recent idle n (asked_at new way) ≡ is_recent idle n (asked_at old way)) → (src : Ep) (m : Outward) → passes kind idle n new src m ≡ passes kind idle n old src m
+passes_same Cone idle n old new same src m = refl
+passes_same Restricted idle n old new same src m = same (asked_way Restricted m.inside src)
+passes_same Port idle n old new same src m = same (asked_way Port m.inside src)
+passes_same Symmetric idle n old new same src m = refl
+
+-- with the settings and the moment that stand there
+recalls_at : (old new : NatState) (outs : List Outward) (asked : List (Way × Millis)) (n : ℕ) → new.moment ≡ n → new.settings ≡ old.settings → Recalls old.settings.kind (recalled old.settings.kind old.settings.idle n outs) asked → Recalls new.settings.kind (recalled new.settings.kind new.settings.idle new.moment outs) asked
+recalls_at old new outs asked n m i is = subst (λ (s : NatSettings). Recalls s.kind (recalled s.kind s.idle new.moment outs) asked) (sym i) (subst (λ (k : ℕ). Recalls old.settings.kind (recalled old.settings.kind old.settings.idle k outs) asked) (sym m) is)
+
 -- an outward datagram at now joins what counts now
-pub stands_out : (old new : NatState) (e : Outward) → old.moment ≤ e.moment.0 → new.moment ≡ e.moment.0 → new.settings ≡ old.settings → IsPutIn old.settings.kind old.places new.places e → IsNoted old.settings.kind old.settings.idle old.asked new.asked e → (h : List Entry) → nat_answer old.settings h e.moment.0 e.inside e.dst ≡ Ok e.port → StandsFor old h → StandsFor new (Out e ∷ h)
-stands_out old new e l m i put noted h answer is =
+pub stands_out : (old new : NatState) (mid : List (Way × Millis)) (e : Outward) → old.moment ≤ e.moment.0 → new.moment ≡ e.moment.0 → new.settings ≡ old.settings → IsPutIn old.settings.kind old.places new.places e → Swept old.settings.idle e.moment.0 old.asked mid → IsNoted old.settings.kind mid new.asked e → (IsOnce mid → IsOnce new.asked) → (h : List Entry) → nat_answer old.settings h e.moment.0 e.inside e.dst ≡ Ok e.port → StandsFor old h → StandsFor new (Out e ∷ h)
+stands_out old new mid e l m i put swept noted once h answer is =
     let s : NatSettings = old.settings in
     let now : IsPast s (Out e ∷ h) e.moment.0 = record { history = (le_trans is.past.moments l, answer, is.past.history); moments = le_refl e.moment.0 } in
     record {
@@ -108,19 +123,14 @@ stands_out old new e l m i put noted h answer is =
           subst (λ (t : NatSettings). Shows t.idle n new.places (counting t.idle n (Out e ∷ h))) (sym i) (shows_out s h old.moment n e old.places new.places is.past l (later_past s (Out e ∷ h) e.moment.0 n now from) put (is.ports n (le_trans l from)));
       lets = λ n k src o.
           let from : e.moment.0 ≤ n = omega (arith, m) in
-          subst (λ (t : NatSettings). passes t.kind t.idle n new.asked src o ≡ admits t.kind (counting t.idle n (Out e ∷ h)) src o) (sym i) (lets_out s.kind s.idle n e (counting s.idle n h) old.asked new.asked from (none_count s h old.moment n e is.past l) noted src o (is.lets n (le_trans l from) src o));
+          subst (λ (t : NatSettings). passes t.kind t.idle n new.asked src o ≡ admits t.kind (counting t.idle n (Out e ∷ h)) src o) (sym i) (lets_out s.kind s.idle n e (counting s.idle n h) mid new.asked (none_count s h old.moment n e is.past l) noted src o (passes_same s.kind s.idle n old.asked mid (swept.0 n from) src o ∙ is.lets n (le_trans l from) src o));
+      recalls = recalls_at old new (e ∷ kept h) new.asked e.moment.0 m i (recalls_out s.kind s.idle old.moment e (kept h) old.asked mid new.asked l swept.1 swept.3 noted (once (swept.2 is.recalls.once)) is.recalls);
     }
 
 -- WHERE NOTHING IS SEEN TO CHANGE
 
-passes_same : (kind : NatKind) (idle n : ℕ) (old new : List (Way × Millis)) → ((way : Way) → is_recent idle n (asked_at new way) ≡ is_recent idle n (asked_at old way)) → (src : Ep) (m : Outward) → passes kind idle n new src m ≡ passes kind idle n old src m
-passes_same Cone idle n old new same src m = refl
-passes_same Restricted idle n old new same src m = same (asked_way Restricted m.inside src)
-passes_same Port idle n old new same src m = same (asked_way Port m.inside src)
-passes_same Symmetric idle n old new same src m = refl
-
-pub stands_refused : (old new : NatState) (now : ℕ) → old.moment ≤ now → new.moment ≡ now → new.settings ≡ old.settings → ((p : ℕ) → place_at new.places p ≡ place_at old.places p) → ((n : ℕ) → now ≤ n → (way : Way) → is_recent old.settings.idle n (asked_at new.asked way) ≡ is_recent old.settings.idle n (asked_at old.asked way)) → StandsAsBefore old new
-stands_refused old new now l m i same recent h is =
+pub stands_refused : (old new : NatState) (mid : List (Way × Millis)) (now : ℕ) → old.moment ≤ now → new.moment ≡ now → new.settings ≡ old.settings → ((p : ℕ) → place_at new.places p ≡ place_at old.places p) → Swept old.settings.idle now old.asked mid → ((way : Way) → asked_at new.asked way ≡ asked_at mid way) → (IsOnce mid → IsOnce new.asked) → StandsAsBefore old new
+stands_refused old new mid now l m i same swept asked once h is =
     let s : NatSettings = old.settings in
     record {
       past = rw (i, m) (later_past s h old.moment now is.past l);
@@ -129,7 +139,8 @@ stands_refused old new now l m i same recent h is =
           rw i (λ port. ap (if_young s.idle n) (same port) ∙ is.ports n (le_trans l from) port);
       lets = λ n k src o.
           let from : now ≤ n = omega (arith, m) in
-          rw i (passes_same s.kind s.idle n old.asked new.asked (recent n from) src o ∙ is.lets n (le_trans l from) src o);
+          rw i (passes_same s.kind s.idle n old.asked new.asked (λ way. ap (is_recent s.idle n) (asked way) ∙ swept.0 n from way) src o ∙ is.lets n (le_trans l from) src o);
+      recalls = recalls_at old new (kept h) new.asked now m i (recalls_same s.kind s.idle old.moment now (kept h) old.asked new.asked l (λ way t k. swept.1 way t (sym (asked way) ∙ k)) (λ way t k. swept.3 way t (sym (asked way) ∙ k)) (once (swept.2 is.recalls.once)) is.recalls);
     }
 
 -- FORGETTING
@@ -148,8 +159,8 @@ passes_forgot Port idle n who outs old new forgets src m h = ap (is_recent idle 
     forgot true o i = refl
     forgot false o i = i
 
-pub stands_forget : (old new : NatState) (who : Ep) → new.moment ≡ old.moment → new.settings ≡ old.settings → ((p : ℕ) → place_at new.places p ≡ unless_of who (place_at old.places p)) → ((way : Way) → asked_at new.asked way ≡ unless_in who way (asked_at old.asked way)) → (h : List Entry) → StandsFor old h → StandsFor new (Forget who ∷ h)
-stands_forget old new who m i table forgets h is =
+pub stands_forget : (old new : NatState) (who : Ep) → new.moment ≡ old.moment → new.settings ≡ old.settings → ((p : ℕ) → place_at new.places p ≡ unless_of who (place_at old.places p)) → ((way : Way) → asked_at new.asked way ≡ unless_in who way (asked_at old.asked way)) → IsOnce new.asked → (h : List Entry) → StandsFor old h → StandsFor new (Forget who ∷ h)
+stands_forget old new who m i table forgets once h is =
     let s : NatSettings = old.settings in
     let swapped : (n : ℕ) → without who (counting s.idle n h) ≡ counting s.idle n (Forget who ∷ h) = λ n. filter_swap _ (is_young s.idle n) (kept h) in
     record {
@@ -161,6 +172,7 @@ stands_forget old new who m i table forgets h is =
       lets = λ n k src o.
           let from : old.moment ≤ n = omega (arith, m) in
           rw i (passes_forgot s.kind s.idle n who (counting s.idle n h) old.asked new.asked forgets src o (is.lets n from src o) ∙ ap (λ outs. admits s.kind outs src o) (swapped n));
+      recalls = recalls_at old new (without who (kept h)) new.asked old.moment m i (recalls_forgot s.kind s.idle old.moment who (kept h) old.asked new.asked forgets once is.recalls);
     }
 
 -- NOTHING IS KEPT
@@ -183,6 +195,7 @@ stands_none nat h p a past none = record {
   past = past;
   ports = λ n k port. ap (λ places. if_young nat.settings.idle n (place_at places port)) p ∙ shows_none nat.settings.idle n port ∙ sym (ap (find (λ o. port == o.port)) (none n));
   lets = λ n k src m. ap (λ asked. passes nat.settings.kind nat.settings.idle n asked src m) a ∙ passes_none nat.settings.kind nat.settings.idle n src m ∙ sym (ap (λ outs. admits nat.settings.kind outs src m) (none n));
+  recalls = recalls_none nat.settings.kind _ nat.asked a;
 }
 
 -- LETTING IN
@@ -211,15 +224,15 @@ AnswersBy nat now inside dst r = (outs : List Outward) → Sound nat.settings.ki
 pub answers : (nat : NatState) (now : ℕ) (inside dst : Ep) (r : Result Ep NatRefusal) → nat.moment ≤ now → AnswersBy nat now inside dst r → (h : List Entry) → StandsFor nat h → GivesAnswer nat.settings (nat_answer nat.settings h now inside dst) r
 answers nat now inside dst r l answer h is = answer (counting nat.settings.idle now h) (sound_past nat.settings h now (later_past nat.settings h nat.moment now is.past l)) (is.ports now l)
 
-pub stands_out_or : (old new : NatState) (now : Millis) (inside dst : Ep) → old.moment ≤ now.0 → new.moment ≡ now.0 → new.settings ≡ old.settings → (r : Result Ep NatRefusal) → AnswersBy old now.0 inside dst r
+pub stands_out_or : (old new : NatState) (mid : List (Way × Millis)) (now : Millis) (inside dst : Ep) → old.moment ≤ now.0 → new.moment ≡ now.0 → new.settings ≡ old.settings → Swept old.settings.idle now.0 old.asked mid → (IsOnce mid → IsOnce new.asked) → (r : Result Ep NatRefusal) → AnswersBy old now.0 inside dst r
     → IfOk r (λ ep. IsPutIn old.settings.kind old.places new.places (record { moment = now; inside = inside; dst = dst; port = ep.port }))
-    → IfOk r (λ ep. IsNoted old.settings.kind old.settings.idle old.asked new.asked (record { moment = now; inside = inside; dst = dst; port = ep.port }))
+    → IfOk r (λ ep. IsNoted old.settings.kind mid new.asked (record { moment = now; inside = inside; dst = dst; port = ep.port }))
     → IfOk r (λ ep. (h : List Entry) → StandsFor old h → StandsFor new (Out (record { moment = now; inside = inside; dst = dst; port = ep.port }) ∷ h))
-stands_out_or old new now inside dst l m i (Ok ep) answer put noted = λ h is. stands_out old new (record { moment = now; inside = inside; dst = dst; port = ep.port }) l m i put noted h (answers old now.0 inside dst (Ok ep) l answer h is).0 is
-stands_out_or old new now inside dst l m i (Err e) answer put noted = tt
+stands_out_or old new mid now inside dst l m i swept once (Ok ep) answer put noted = λ h is. stands_out old new mid (record { moment = now; inside = inside; dst = dst; port = ep.port }) l m i put swept noted once h (answers old now.0 inside dst (Ok ep) l answer h is).0 is
+stands_out_or old new mid now inside dst l m i swept once (Err e) answer put noted = tt
 
-pub stands_refused_or : (old new : NatState) (now : Millis) → old.moment ≤ now.0 → new.moment ≡ now.0 → new.settings ≡ old.settings → (r : Result Ep NatRefusal) → OnErr r ((p : ℕ) → place_at new.places p ≡ place_at old.places p)
-    → OnErr r ((n : ℕ) → now.0 ≤ n → (way : Way) → is_recent old.settings.idle n (asked_at new.asked way) ≡ is_recent old.settings.idle n (asked_at old.asked way))
+pub stands_refused_or : (old new : NatState) (mid : List (Way × Millis)) (now : Millis) → old.moment ≤ now.0 → new.moment ≡ now.0 → new.settings ≡ old.settings → Swept old.settings.idle now.0 old.asked mid → (IsOnce mid → IsOnce new.asked) → (r : Result Ep NatRefusal) → OnErr r ((p : ℕ) → place_at new.places p ≡ place_at old.places p)
+    → OnErr r ((way : Way) → asked_at new.asked way ≡ asked_at mid way)
     → OnErr r (StandsAsBefore old new)
-stands_refused_or old new now l m i (Ok ep) same recent = tt
-stands_refused_or old new now l m i (Err e) same recent = stands_refused old new now.0 l m i same recent
+stands_refused_or old new mid now l m i swept once (Ok ep) same asked = tt
+stands_refused_or old new mid now l m i swept once (Err e) same asked = stands_refused old new mid now.0 l m i same swept asked once

@@ -1,9 +1,10 @@
 //! Whom the inside endpoints asked, and when last.
-ghost use Rattle.std.specs.Prelude.{◌≡◌, ℕ, ◌<◌, ◌≤◌, if◌then◌else◌, true, Some, OnOk};
+ghost use Rattle.std.specs.Prelude.{◌≡◌, ℕ, ◌+◌, ◌<◌, ◌≤◌, if◌then◌else◌, true, Some, OnOk};
 ghost use Rattle.std.specs.HashMap.{spare};
-ghost use Rattle.nat_kinds.specs.Way.{same_way, asked_way};
+ghost use Rattle.td_base.specs.declared.millis.Millis.{Millis};
+ghost use Rattle.nat_kinds.specs.Way.{same_way};
 ghost use Rattle.nat_kinds.specs.Places.{unless_in};
-ghost use Rattle.nat_kinds.specs.Asked.{asked_at, is_recent, keeps_asked, passes};
+ghost use Rattle.nat_kinds.specs.Asked.{asked_at, is_recent, keeps_asked, passes, IsOnce, IsNoted, IsSwept};
 ghost use Rattle.nat_kinds.specs.declared.way.Way.{Way};
 
 use crate::kind::NatKind;
@@ -51,43 +52,52 @@ pub fn passes(asked: &Asked, settings: &NatSettings, now: Millis, src: Ep, sent:
     }
 }
 
-/// Takes out what was asked too long ago, before memory is taken for twice as much as is left.
-fn grow(asked: &mut Asked, idle: u32, now: Millis) -> Result<(), AllocError>
-    ensures recent { (n : ℕ) → now.0 ≤ n → (way : Way) →
-        is_recent idle n (asked_at asked.new.entries way) ≡ is_recent idle n (asked_at asked.old.entries way) }
-    ensures ok { OnOk result (0 < spare asked.new) }
-{
-    take_out_old(asked, idle, now);
-    asked.reserve(asked.len() + 1)
-}
-
 /// Takes out what was asked too long ago.
 fn take_out_old(asked: &mut Asked, idle: u32, now: Millis)
     ensures recent { (n : ℕ) → now.0 ≤ n → (way : Way) →
         is_recent idle n (asked_at asked.new.entries way) ≡ is_recent idle n (asked_at asked.old.entries way) }
+    ensures kept { (way : Way) (m : Millis) → asked_at asked.new.entries way ≡ Some m →
+        (asked_at asked.old.entries way ≡ Some m) × (is_recent idle now.0 (Some m) ≡ true) }
+    ensures once { IsOnce asked.new.entries }
 {
     asked.retain(|_, moment| now.0.saturating_sub(moment.0) < u64::from(idle));
 }
 
-/// Takes the memory that one more wants, where the kind of NAT looks at it.
-pub fn room(asked: &mut Asked, settings: &NatSettings, now: Millis) -> Result<(), AllocError>
+/// Looks for what was asked too long ago and takes it out, once in `idle` milliseconds. So each asking is looked at
+/// twice at most.
+pub fn sweep(asked: &mut Asked, swept: &mut Millis, idle: u32, now: Millis)
+    requires past { swept.old.0 ≤ now.0 }
+    requires kept { (way : Way) (m : Millis) → asked_at asked.old.entries way ≡ Some m → swept.old.0 ≤ m.0 + idle }
     ensures recent { (n : ℕ) → now.0 ≤ n → (way : Way) →
-        is_recent settings.now.idle n (asked_at asked.new.entries way) ≡ is_recent settings.now.idle n (asked_at asked.old.entries way) }
-    ensures ok { OnOk result (keeps_asked settings.now.kind ≡ true → 0 < spare asked.new) }
+        is_recent idle n (asked_at asked.new.entries way) ≡ is_recent idle n (asked_at asked.old.entries way) }
+    ensures kept { (way : Way) (m : Millis) → asked_at asked.new.entries way ≡ Some m → asked_at asked.old.entries way ≡ Some m }
+    ensures once { IsOnce asked.old.entries → IsOnce asked.new.entries }
+    ensures swept { IsSwept idle now.0 swept.new.0 asked.new.entries }
 {
-    if !keeps_asked(settings.kind) {
+    if now.0.saturating_sub(swept.0) < u64::from(idle) {
+        return;
+    }
+    take_out_old(asked, idle, now);
+    *swept = now;
+}
+
+/// Takes the memory that one more wants, where the kind of NAT looks at it.
+pub fn room(asked: &mut Asked, kind: NatKind) -> Result<(), AllocError>
+    ensures same { (way : Way) → asked_at asked.new.entries way ≡ asked_at asked.old.entries way }
+    ensures once { IsOnce asked.old.entries → IsOnce asked.new.entries }
+    ensures ok { OnOk result (keeps_asked kind ≡ true → 0 < spare asked.new) }
+{
+    if !keeps_asked(kind) {
         return Ok(());
     }
-    if asked.len() < asked.capacity() {
-        return Ok(());
-    }
-    grow(asked, settings.idle, now)
+    asked.reserve(1)
 }
 
 /// Puts a moment at a way, for which there is room.
 fn put(asked: &mut Asked, way: Way, now: Millis)
     requires room { 0 < spare asked.old }
     ensures put { (w : Way) → asked_at asked.new.entries w ≡ (if same_way way w then Some now else asked_at asked.old.entries w) }
+    ensures once { IsOnce asked.new.entries }
 {
     let _ = asked.insert(way, now);
 }
@@ -95,8 +105,8 @@ fn put(asked: &mut Asked, way: Way, now: Millis)
 /// Keeps that a datagram asked its destination, where the kind of NAT looks at it.
 pub fn note(asked: &mut Asked, kind: NatKind, sent: Outward)
     requires room { keeps_asked kind ≡ true → 0 < spare asked.old }
-    ensures noted { keeps_asked kind ≡ true → (w : Way) →
-        asked_at asked.new.entries w ≡ (if same_way (asked_way kind sent.inside sent.dst) w then Some sent.moment else asked_at asked.old.entries w) }
+    ensures noted { IsNoted kind asked.old.entries asked.new.entries sent }
+    ensures once { IsOnce asked.old.entries → IsOnce asked.new.entries }
 {
     if !keeps_asked(kind) {
         return;
@@ -107,6 +117,7 @@ pub fn note(asked: &mut Asked, kind: NatKind, sent: Outward)
 /// Takes out what an inside endpoint asked.
 pub fn forget_asked(asked: &mut Asked, inside: Ep)
     ensures forgets { (way : Way) → asked_at asked.new.entries way ≡ unless_in inside way (asked_at asked.old.entries way) }
+    ensures once { IsOnce asked.new.entries }
 {
     asked.retain(|way, _| way.inside != inside);
 }

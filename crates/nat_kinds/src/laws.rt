@@ -7,6 +7,8 @@ ghost use Rattle.nat_kinds.specs.History.{Entry, kept, young, counting};
 ghost use Rattle.nat_kinds.specs.Mappings.{latest, live_port};
 ghost use Rattle.nat_kinds.specs.Answer.{IsAnswer, live_after, nat_answer};
 ghost use Rattle.nat_kinds.specs.Entering.{lets_in};
+ghost use Rattle.nat_kinds.specs.Asked.{recalled};
+ghost use Rattle.nat_kinds.specs.Nat.{NatState, StandsFor};
 ghost use Rattle.nat_kinds.specs.Laws.{IsHistory, IsPast, SameKey, WasAsked};
 
 use crate::kind::NatKind;
@@ -48,6 +50,13 @@ pub fn live_mappings_are_few()
         (inside dst : Ep) (port : ℕ) →
         live_port s.kind inside dst (live_after s h n) ≡ Some port →
         (FIRST_PORT ≤ port) × (port < FIRST_PORT + MOST_LIVE) }
+{}
+
+/// Of whom the inside endpoints asked no more is kept than they asked in the last two idle times. A cone and a symmetric
+/// NAT keep nothing of it.
+pub fn asked_are_few()
+    ensures { (nat : NatState) (h : List Entry) → StandsFor nat h →
+        length nat.asked ≤ length (recalled nat.settings.kind nat.settings.idle nat.moment (kept h)) }
 {}
 
 /// A datagram is let in to an inside endpoint exactly where that one asked its source from the port.

@@ -12,11 +12,13 @@
 //!   from `outward`, and the NAT then stands for what it stood for. No other call takes memory.
 //! - The laws of `laws` hold of every history: no two keys hold a port, a reply is let in while what it answers
 //!   counts, what is let in reaches the endpoint that owns the port and asked the source.
+//! - Of whom the inside endpoints asked a NAT keeps no more than they asked in the last two idle times, each once.
 //!
 //! # What it does not know
 //!
 //! Packets, sockets and clocks. It moves no bytes: it names endpoints. Moments come with each call and never
-//! fall. The latest outward datagram of each port is kept, and when each was asked last; earlier ones aren't.
+//! fall. The latest outward datagram of each port is kept, and when each was asked last; earlier ones aren't. What was
+//! asked too long ago is looked for once in an idle time, by `outward`.
 //!
 //! # Parts
 //!
@@ -49,7 +51,7 @@ mod way;
 
 pub use kind::NatKind;
 pub use laws::{
-    answer_is_lowest_free, cone_lets_all_in, counting_datagram_holds_its_port,
+    answer_is_lowest_free, asked_are_few, cone_lets_all_in, counting_datagram_holds_its_port,
     latest_datagram_decides, let_in_where_asked, live_mappings_are_few, owner_is_reached,
     port_has_one_key, reply_is_let_in,
 };

@@ -1,16 +1,17 @@
 //! The answers of a NAT, over its table, its index and what was asked.
-ghost use Rattle.std.specs.Prelude.{◌≡◌, ℕ, ◌<◌, ◌≤◌, true, List, IfOk, IfErr, OnOk, OnErr};
+ghost use Rattle.std.specs.Prelude.{◌≡◌, ℕ, ◌<◌, true, List, IfOk, IfErr, OnOk, OnErr};
 ghost use Rattle.std.specs.HashMap.{spare};
 ghost use Rattle.nat_kinds.specs.Mappings.{latest, live_port};
 ghost use Rattle.nat_kinds.specs.Answer.{port_for, answer_of, GivesAnswer};
 ghost use Rattle.nat_kinds.specs.Sound.{Sound};
 ghost use Rattle.nat_kinds.specs.Places.{place_at, if_young, unless_of, unless_in, HasRoom, IsIndexed, IsNext, IsPutIn, Shows};
-ghost use Rattle.nat_kinds.specs.Asked.{asked_at, is_recent, inside_by, keeps_asked, IsNoted};
+ghost use Rattle.nat_kinds.specs.Asked.{asked_at, inside_by, keeps_asked, IsNoted, IsOnce};
 ghost use Rattle.nat_kinds.specs.declared.outgoing.Outward.{Outward};
 ghost use Rattle.nat_kinds.specs.declared.way.Way.{Way};
 
 use crate::asked::{self, Asked};
 use crate::index::{self, Index};
+use crate::kind::NatKind;
 use crate::outgoing::Outward;
 use crate::places;
 use crate::refusal::NatRefusal;
@@ -50,32 +51,23 @@ fn room(
     places: &mut Vec<Option<Outward>>,
     index: &mut Index,
     asked: &mut Asked,
-    settings: &NatSettings,
+    kind: NatKind,
     sent: &Outward,
 ) -> Result<(), NatRefusal>
-    requires indexed { IsIndexed settings.now.kind places.old.items index.old.entries }
+    requires indexed { IsIndexed kind places.old.items index.old.entries }
     requires next { IsNext places.old.items sent.now.port }
-    ensures indexed { IsIndexed settings.now.kind places.new.items index.new.entries }
+    ensures indexed { IsIndexed kind places.new.items index.new.entries }
     ensures same { (p : ℕ) → place_at places.new.items p ≡ place_at places.old.items p }
-    ensures recent { (n : ℕ) → sent.now.moment.0 ≤ n → (way : Way) →
-        is_recent settings.now.idle n (asked_at asked.new.entries way) ≡ is_recent settings.now.idle n (asked_at asked.old.entries way) }
-    ensures ok { OnOk result (HasRoom settings.now.kind places.new.items (spare index.new) sent.now.port sent.now.inside sent.now.dst) }
-    ensures ok_asked { OnOk result (keeps_asked settings.now.kind ≡ true → 0 < spare asked.new) }
+    ensures same_asked { (way : Way) → asked_at asked.new.entries way ≡ asked_at asked.old.entries way }
+    ensures once { IsOnce asked.old.entries → IsOnce asked.new.entries }
+    ensures ok { OnOk result (HasRoom kind places.new.items (spare index.new) sent.now.port sent.now.inside sent.now.dst) }
+    ensures ok_asked { OnOk result (keeps_asked kind ≡ true → 0 < spare asked.new) }
     ensures only { IfErr result (λ refusal. refusal ≡ NatRefusal.NoMemory) }
 {
-    if index::room(
-        places,
-        index,
-        settings.kind,
-        sent.port,
-        sent.inside,
-        sent.dst,
-    )
-    .is_err()
-    {
+    if index::room(places, index, kind, sent.port, sent.inside, sent.dst).is_err() {
         return Err(NatRefusal::NoMemory);
     }
-    if asked::room(asked, settings, sent.moment).is_err() {
+    if asked::room(asked, kind).is_err() {
         return Err(NatRefusal::NoMemory);
     }
     Ok(())
@@ -96,10 +88,10 @@ pub fn send(
     ensures answer { (outs : List Outward) → Sound settings.now.kind outs → Shows settings.now.idle now.0 places.old.items outs →
         GivesAnswer settings.now (answer_of settings.now (latest settings.now.kind outs) inside dst) result }
     ensures put { IfOk result (λ ep. IsPutIn settings.now.kind places.old.items places.new.items (record { moment = now; inside = inside; dst = dst; port = ep.port })) }
-    ensures noted { IfOk result (λ ep. IsNoted settings.now.kind settings.now.idle asked.old.entries asked.new.entries (record { moment = now; inside = inside; dst = dst; port = ep.port })) }
+    ensures noted { IfOk result (λ ep. IsNoted settings.now.kind asked.old.entries asked.new.entries (record { moment = now; inside = inside; dst = dst; port = ep.port })) }
     ensures same { OnErr result ((p : ℕ) → place_at places.new.items p ≡ place_at places.old.items p) }
-    ensures recent { OnErr result ((n : ℕ) → now.0 ≤ n → (way : Way) →
-        is_recent settings.now.idle n (asked_at asked.new.entries way) ≡ is_recent settings.now.idle n (asked_at asked.old.entries way)) }
+    ensures same_asked { OnErr result ((way : Way) → asked_at asked.new.entries way ≡ asked_at asked.old.entries way) }
+    ensures once { IsOnce asked.old.entries → IsOnce asked.new.entries }
 {
     if dst.ip == settings.external {
         return Err(NatRefusal::Hairpin);
@@ -111,7 +103,7 @@ pub fn send(
         dst,
         port,
     };
-    room(places, index, asked, settings, &sent)?;
+    room(places, index, asked, settings.kind, &sent)?;
     index::put(places, index, settings.kind, sent);
     asked::note(asked, settings.kind, sent);
     Ok(Ep {
@@ -132,6 +124,7 @@ pub fn forget(
     ensures indexed { IsIndexed settings.now.kind places.new.items index.new.entries }
     ensures forgets { (p : ℕ) → place_at places.new.items p ≡ unless_of inside (place_at places.old.items p) }
     ensures asked { (way : Way) → asked_at asked.new.entries way ≡ unless_in inside way (asked_at asked.old.entries way) }
+    ensures once { IsOnce asked.new.entries }
 {
     places::forget(places, inside);
     index::forget_keys(index, inside);

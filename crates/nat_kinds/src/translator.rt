@@ -5,7 +5,7 @@ ghost use Rattle.nat_kinds.specs.Answer.{nat_answer, GivesAnswer};
 ghost use Rattle.nat_kinds.specs.Entering.{lets_in};
 ghost use Rattle.nat_kinds.specs.Nat.{StandsFor, StandsAsBefore};
 
-use crate::asked::Asked;
+use crate::asked::{self, Asked};
 use crate::index::Index;
 use crate::kind::NatKind;
 use crate::mappings;
@@ -25,17 +25,20 @@ pub struct Nat {
     places: Vec<Option<Outward>>,
     index: Index,
     asked: Asked,
+    // when what was asked too long ago was looked for
+    swept: Millis,
 }
 
 impl Model for Nat {
     ghost use Rattle.nat_kinds.specs.Nat.{NatState};
     ghost use Rattle.nat_kinds.specs.Places.{IsIndexed};
+    ghost use Rattle.nat_kinds.specs.Asked.{IsSwept};
 
     ghost Value = { NatState };
 
     ghost view = { λ a. record { settings = a.settings; moment = a.moment.0; places = a.places.items; asked = a.asked.entries } };
 
-    ghost invariant = { λ a. IsIndexed a.settings.kind a.places.items a.index.entries };
+    ghost invariant = { λ a. IsIndexed a.settings.kind a.places.items a.index.entries × IsSwept a.settings.idle a.moment.0 a.swept.0 a.asked.entries };
 }
 
 impl Nat {
@@ -55,6 +58,7 @@ impl Nat {
             places: Vec::new(alloc),
             index: HashMap::new(alloc),
             asked: HashMap::new(alloc),
+            swept: Millis(0),
         }
     }
 
@@ -73,6 +77,7 @@ impl Nat {
         ensures settings { self.new.settings ≡ self.old.settings }
     {
         self.moment = now;
+        asked::sweep(&mut self.asked, &mut self.swept, self.settings.idle, now);
         mappings::send(
             &mut self.places,
             &mut self.index,

@@ -1,2 +1,2 @@
 mod Arrivals
-mod Writes
+mod Lengths

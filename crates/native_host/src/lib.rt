@@ -25,8 +25,6 @@
 mod incoming;
 mod limits;
 mod outgoing;
-#[cfg(test)]
-mod tests;
 
 pub use incoming::receive;
 pub use limits::HOST_HOP;

@@ -1,8 +1,8 @@
 -- What a call that lists a peer finds once it has taken out whoever isn't listed any more.
 use Rattle.std.proofs.Common.{◌≡◌, ℕ, ◌||◌, Bool, true, false, cond, List, [], ◌∷◌, length, filter, find, Option, Some, None, Result, Ok, Err, refl, sym, ap, ◌∙◌, subst, arith}
-use Rattle.std.specs.Prelude.{unwrap_or, is_some, nat_lt, slice_set}
-use Rattle.std.specs.List.{AllByRecursion, insert}
-use Rattle.std.proofs.lemmas.List.{set-get_or}
+use Rattle.std.specs.Prelude.{unwrap_or, is_some, nat_lt}
+use Rattle.std.specs.List.{AllByRecursion}
+use Rattle.std.proofs.lemmas.Bool.{false≢true}
 use Rattle.td_base.specs.declared.ipv6.Ip6.{Ip6}
 use Rattle.peer_list.specs.declared.limits.TheConstants.{MOST_PEERS}
 use Rattle.peer_list.specs.Peers.{Peer, no_peer}
@@ -13,9 +13,9 @@ use Rattle.peer_list.specs.Judged.{is_full}
 use Rattle.peer_list.specs.Calls.{Updates, Keeps, Queues, touched_at}
 use Rattle.peer_list.specs.declared.refusals.QueueRefusal.{QueueRefusal}
 use Rattle.peer_list.specs.declared.refusals.QueueRefusal.TheVariants as queue
-use Rattle.peer_list.specs.Sound.{AreApart, AreSound}
+use Rattle.peer_list.specs.Sound.{AreApart}
 use Rattle.peer_list.proofs.DueLemmas.{count_is}
-use Rattle.peer_list.proofs.ListingLemmas.{Placed, all_at, purged, sound_kept, found, known_there, changed, added}
+use Rattle.peer_list.proofs.ListingLemmas.{purged, known_there, updates_by}
 
 -- `kept` are those of ls that are listed at m
 pub record Purged (m : ℕ) (ls kept : List Listing) : Type 0 where
@@ -24,9 +24,6 @@ pub record Purged (m : ℕ) (ls kept : List Listing) : Type 0 where
 
 pub keeps_purged : (m : ℕ) (ls kept : List Listing) → Purged m ls kept → Keeps (table m ls) (table m kept) m
 keeps_purged m ls kept p = subst (λ ks. Keeps (table m ls) (table m ks) m) (sym p.is) (purged m ls p.apart)
-
-pub sound_purged : (m : ℕ) (ls kept : List Listing) → kept ≡ filter (is_listed_at m) ls → AreSound ls → AreSound kept
-sound_purged m ls kept is s = subst AreSound (sym is) (sound_kept (is_listed_at m) ls s)
 
 peer_purged : (m : ℕ) (ls kept : List Listing) (who : Ip6) → Purged m ls kept → peer_in (table m kept) m who ≡ peer_in (table m ls) m who
 peer_purged m ls kept who p = (keeps_purged m ls kept p).view m who (omega arith)
@@ -43,20 +40,27 @@ all_listed m (l ∷ ls) = by_test (is_listed_at m l) refl (all_listed m ls) wher
 
 -- WHO IS FOUND
 
-pub there : (m : ℕ) (ls kept : List Listing) (who : Ip6) (place : ℕ) (l : Listing) → Purged m ls kept → Placed kept who place l → is_some (peer_in (table m kept) m who) ≡ true
+found_passes : (test : Listing → Bool) (p : Listing → Bool) (ls : List Listing) (l : Listing) → AllByRecursion (λ (x : Listing). test x ≡ true) ls → find p ls ≡ Some l → test l ≡ true
+found_passes test p [] l a h = absurd (false≢true (ap is_some h))
+found_passes test p (x ∷ ls) l a h = by_test (p x) h (found_passes test p ls l a.1) where
+  by_test : (b : Bool) → cond b (Some x) (find p ls) ≡ Some l → (find p ls ≡ Some l → test l ≡ true) → test l ≡ true
+  by_test true e rest = ap test (sym (ap (λ (o : Option Listing). unwrap_or o x) e)) ∙ a.0
+  by_test false e rest = rest e
+
+pub there : (m : ℕ) (ls kept : List Listing) (who : Ip6) (l : Listing) → Purged m ls kept → find (is_of who) kept ≡ Some l → is_some (peer_in (table m kept) m who) ≡ true
 unfolding peer_in
-there m ls kept who place l p at =
+there m ls kept who l p at =
     let all : AllByRecursion (λ (x : Listing). is_listed_at m x ≡ true) kept = subst (AllByRecursion (λ (x : Listing). is_listed_at m x ≡ true)) (sym p.is) (all_listed m ls) in
-    let listed : is_listed_at m l ≡ true = ap (is_listed_at m) at.is ∙ all_at (λ (x : Listing). is_listed_at m x ≡ true) kept place l at.within all in
-    ap (λ o. is_some (peer_listed m o)) (found kept who place l at) ∙ ap (λ b. is_some (cond b (Some l.peer) None)) listed
+    let listed : is_listed_at m l ≡ true = found_passes (is_listed_at m) (is_of who) kept l all at in
+    ap (λ o. is_some (peer_listed m o)) at ∙ ap (λ b. is_some (cond b (Some l.peer) None)) listed
 
-pub was_there : (m : ℕ) (ls kept : List Listing) (who : Ip6) (place : ℕ) (l : Listing) → Purged m ls kept → Placed kept who place l → known_to (table m ls) m who ≡ l.peer
-was_there m ls kept who place l p at = sym (known_purged m ls kept who p) ∙ known_there (table m kept) m who place l at (there m ls kept who place l p at)
+pub was_there : (m : ℕ) (ls kept : List Listing) (who : Ip6) (l : Listing) → Purged m ls kept → find (is_of who) kept ≡ Some l → known_to (table m ls) m who ≡ l.peer
+was_there m ls kept who l p at = sym (known_purged m ls kept who p) ∙ known_there (table m kept) m who l at (there m ls kept who l p at)
 
-pub room_there : (m : ℕ) (ls kept : List Listing) (who : Ip6) (place : ℕ) (l : Listing) → Purged m ls kept → Placed kept who place l → has_room_in (table m ls) m who ≡ true
+pub room_there : (m : ℕ) (ls kept : List Listing) (who : Ip6) (l : Listing) → Purged m ls kept → find (is_of who) kept ≡ Some l → has_room_in (table m ls) m who ≡ true
 unfolding has_room_in
-room_there m ls kept who place l p at =
-    let listed : is_some (peer_in (table m ls) m who) ≡ true = ap is_some (sym (peer_purged m ls kept who p)) ∙ there m ls kept who place l p at in
+room_there m ls kept who l p at =
+    let listed : is_some (peer_in (table m ls) m who) ≡ true = ap is_some (sym (peer_purged m ls kept who p)) ∙ there m ls kept who l p at in
     ap (λ b. b || nat_lt (length (listed_in (table m ls) m)) MOST_PEERS) listed
 
 pub was_nowhere : (m : ℕ) (ls kept : List Listing) (who : Ip6) → Purged m ls kept → find (is_of who) kept ≡ None → peer_in (table m ls) m who ≡ None
@@ -74,23 +78,11 @@ room_nowhere m ls kept who p none =
 then_updates : (a b c : Table) (m : ℕ) (who : Ip6) (peer : Peer) → Keeps a b m → Updates b c m who peer → Updates a c m who peer
 then_updates a b c m who peer k u = record { moment = u.moment; view = λ n p l. u.view n p l ∙ ap (λ o. cond (same_ip6 p who) (while_listed n peer) o) (k.view n p l) }
 
-pub updates_there : (m : ℕ) (ls kept : List Listing) (who : Ip6) (place : ℕ) (l : Listing) (peer : Peer) → Purged m ls kept → Placed kept who place l
-    → Updates (table m ls) (table m (slice_set kept place (record { who = l.who; peer = peer }))) m who peer
-updates_there m ls kept who place l peer p at =
-    then_updates (table m ls) (table m kept) (table m (slice_set kept place (record { who = l.who; peer = peer }))) m who peer (keeps_purged m ls kept p)
-    (changed (table m kept) (table m (slice_set kept place (record { who = l.who; peer = peer }))) m who place l peer at refl refl)
-
-pub keeps_there : (m : ℕ) (ls kept : List Listing) (who : Ip6) (place : ℕ) (l : Listing) (peer : Peer) → Purged m ls kept → Placed kept who place l → peer ≡ l.peer
-    → Keeps (table m ls) (table m (slice_set kept place (record { who = l.who; peer = peer }))) m
-keeps_there m ls kept who place l peer p at same =
-    let back : slice_set kept place (record { who = l.who; peer = peer }) ≡ kept =
-    ap (λ (x : Peer). slice_set kept place (record { who = l.who; peer = x })) same ∙ ap (slice_set kept place) at.is ∙ set-get_or kept place l in
-    subst (λ ks. Keeps (table m ls) (table m ks) m) (sym back) (keeps_purged m ls kept p)
-
-pub updates_new : (m : ℕ) (ls kept items : List Listing) (who : Ip6) (peer : Peer) (i : ℕ) → Purged m ls kept → find (is_of who) kept ≡ None → items ≡ insert kept i (record { who = who; peer = peer })
-    → Updates (table m ls) (table m items) m who peer
-updates_new m ls kept items who peer i p none is =
-    then_updates (table m ls) (table m kept) (table m items) m who peer (keeps_purged m ls kept p) (added (table m kept) (table m items) m who peer i none refl is)
+-- one address has a listing of its own, or another one
+pub updates_purged : (m : ℕ) (ls kept items : List Listing) (who : Ip6) (l : Listing) → Purged m ls kept → ((p : Ip6) → find (is_of p) items ≡ cond (same_ip6 p who) (Some l) (find (is_of p) kept))
+    → Updates (table m ls) (table m items) m who l.peer
+updates_purged m ls kept items who l p is =
+    then_updates (table m ls) (table m kept) (table m items) m who l.peer (keeps_purged m ls kept p) (updates_by (table m kept) (table m items) m who l refl is)
 
 pub keeps_same : (m : ℕ) (ls kept items : List Listing) → Purged m ls kept → items ≡ kept → Keeps (table m ls) (table m items) m
 keeps_same m ls kept items p is = subst (λ ks. Keeps (table m ls) (table m ks) m) (sym is) (keeps_purged m ls kept p)

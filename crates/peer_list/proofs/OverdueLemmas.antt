@@ -111,7 +111,7 @@ nobody f ps p e h =
       by_test true is k = is
       by_test false is k = absurd (false≢true (sym k ∙ h))
 
-not_less : (a b : ℕ) (c : Ordering) → is_lt (ordering_then (nat_cmp a b) c) ≡ false → b ≤ a
+pub not_less : (a b : ℕ) (c : Ordering) → is_lt (ordering_then (nat_cmp a b) c) ≡ false → b ≤ a
 not_less a b c h = by_test (nat_lt a b) refl where
   by_test : (t : Bool) → nat_lt a b ≡ t → b ≤ a
   by_test true e = absurd (false≢true (sym h ∙ ap (λ t. is_lt (ordering_then (cond t Less (cond (nat_eq a b) Equal Greater)) c)) e))

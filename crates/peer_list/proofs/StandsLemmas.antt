@@ -49,6 +49,7 @@ table_is_read t j n s l =
       waiting = count.waiting;
       first = ap (λ (f : Ip6 → Peer). option_map (λ p. record { who = p; peer = f p }) (first_among (known_to t n) (listed_in t n))) all
           ∙ ap (λ o. option_map (λ p. record { who = p; peer = known j n p }) o) count.first;
+      sum = count.sum;
     }
 
 -- WHAT IS ADDED

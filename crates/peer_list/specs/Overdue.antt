@@ -1,11 +1,20 @@
 -- How much is due of the peers that a table lists (RFC 4380, section 5.2.6).
-use Rattle.std.specs.Prelude.{◌≡◌, ◌≤◌, ◌<◌, ℕ, true, false, nat_le, if◌then◌else◌, Some, None, is_some}
+use Rattle.std.specs.Prelude.{◌≡◌, ◌≤◌, ◌<◌, ℕ, true, false, nat_le, if◌then◌else◌, Option, Some, None, is_some}
 use Rattle.td_base.specs.declared.ipv6.Ip6.{Ip6}
 use Rattle.peer_list.specs.Peers.{Peer, no_peer}
 use Rattle.peer_list.specs.Judged.{is_none, due_of}
 use Rattle.peer_list.specs.Waiting.{Listing, waiting_among}
 use Rattle.peer_list.specs.Table.{Table, while_listed, peer_in, known_to, listed_in, first_due_in}
 use Rattle.peer_list.specs.Calls.{Updates}
+
+-- when the next try at a listed peer is due
+abbrev pub due_moment : Listing → ℕ
+due_moment l = due_of l.peer
+
+-- nothing is due before m
+abbrev pub IsNoSooner : ℕ → Option ℕ → Type 0
+IsNoSooner m None = Unit {0}
+IsNoSooner m (Some due) = m ≤ due
 
 -- a peer whose next try is due at n, else one for whom nothing waits
 abbrev pub while_due : ℕ → Peer → Peer

@@ -1,16 +1,15 @@
--- How the listings of a table stand, and what lies below none of them.
-use Rattle.std.specs.Prelude.{◌≡◌, ◌≤◌, ◌<◌, ℕ, Bool, true, false, List, [], ◌∷◌, length, take, drop, find, Option, Some, None}
-use Rattle.std.specs.List.{AllByRecursion, position_or_len}
+-- How the listings of a table stand, and what is due before what.
+use Rattle.std.specs.Prelude.{◌≡◌, ◌≤◌, ℕ, Bool, true, false, List, [], ◌∷◌, length, Option, Some, None}
+use Rattle.std.specs.List.{AllByRecursion}
 use Rattle.std.specs.Ordering.{nat_cmp, ordering_then, is_lt}
 use Rattle.std.specs.declared.cmp.Ordering.TheVariants.{Less}
 use Rattle.td_base.specs.Ip6.{same_ip6, cmp_ip6}
 use Rattle.td_base.specs.declared.ipv6.Ip6.{Ip6}
 use Rattle.td_base.specs.declared.millis.Millis.{Millis}
-use Rattle.peer_list.specs.declared.earliest.Earliest.{Earliest}
 use Rattle.peer_list.specs.declared.limits.TheConstants.{MOST_PEERS}
-use Rattle.peer_list.specs.Judged.{is_none, due_of}
+use Rattle.peer_list.specs.Judged.{is_none}
 use Rattle.peer_list.specs.Waiting.{Listing}
-use Rattle.peer_list.specs.Table.{is_of, is_listed_at, due_and_who}
+use Rattle.peer_list.specs.Table.{due_and_who}
 
 -- THE LISTINGS
 
@@ -29,18 +28,7 @@ pub record AreSound (ls : List Listing) : Type 0 where
   pub order : AreInOrder ls
   pub few : length ls ≤ MOST_PEERS
 
--- the listing of an address stands at i
-pub record IsPlaceOf (ls : List Listing) (who : Ip6) (i : ℕ) : Type 0 where
-  pub at : i ≡ position_or_len (is_of who) ls
-  pub within : i < length ls
-
--- there is none, and it would stand at i
-pub record IsGapFor (ls : List Listing) (who : Ip6) (i : ℕ) : Type 0 where
-  pub within : i ≤ length ls
-  pub before : AllByRecursion (λ (l : Listing). cmp_ip6 l.who who ≡ Less) (take i ls)
-  pub behind : AllByRecursion (λ (l : Listing). cmp_ip6 who l.who ≡ Less) (drop i ls)
-
--- WHAT LIES BELOW NONE OF THEM
+-- MOMENTS
 
 -- touched at m or later
 abbrev pub IsSince : ℕ → Option ℕ → Type 0
@@ -58,23 +46,3 @@ IsNotBefore first l = is_none l.peer.waiting ≡ false → is_before (due_and_wh
 
 abbrev pub NoneBefore : Option (Millis × Ip6) → List Listing → Type 0
 NoneBefore first ls = AllByRecursion (IsNotBefore first) ls
-
-abbrev pub AllSince : ℕ → List Listing → Type 0
-AllSince m ls = AllByRecursion (λ (l : Listing). IsSince m l.peer.touched) ls
-
--- at the moment m
-pub record IsKept (e : Earliest) (m : ℕ) (ls : List Listing) : Type 0 where
-  pub sound : AreSound ls
-  pub touched : AllSince e.touched.0 ls
-  pub due : NoneBefore e.due ls
-  pub past : e.touched.0 ≤ m
-
--- WHO WAITS
-
--- p is listed at n, packets wait for it, and its next try is due at this moment
-pub record WaitsTill (ls : List Listing) (n at : ℕ) (p : Ip6) : Type 0 where
-  pub listing : Listing
-  pub found : find (is_of p) ls ≡ Some listing
-  pub listed : is_listed_at n listing ≡ true
-  pub waits : is_none listing.peer.waiting ≡ false
-  pub due : due_of listing.peer ≡ at

@@ -1,5 +1,5 @@
 -- The mentions that a table stands for, and what its calls add to them.
-use Rattle.std.specs.Prelude.{◌≡◌, ◌≤◌, ℕ, true, List, [], ◌∷◌, length, Option, Some, None, is_some}
+use Rattle.std.specs.Prelude.{◌≡◌, ◌≤◌, ℕ, true, List, [], ◌∷◌, length, sum_by, Option, Some, None, is_some}
 use Rattle.td_base.specs.declared.ipv6.Ip6.{Ip6}
 use Rattle.td_base.specs.declared.endpoint.Ep.{Ep}
 use Rattle.peer_list.specs.Mentions.{Bearing, no_bearing, Mention}
@@ -19,6 +19,7 @@ pub record StandsForMentions (t : Table) (j : List Mention) : Type 0 where
 -- whatever is asked of a table is what its mentions say
 pub record SaysTheSame (t : Table) (j : List Mention) (n : ℕ) : Type 0 where
   pub peer : (p : Ip6) → peer_in t n p ≡ peer_at j n p
+  pub sum : (weight : Peer → ℕ) → sum_by (λ p. weight (known_to t n p)) (listed_in t n) ≡ sum_by (λ p. weight (known j n p)) (listed j n)
   pub known : (p : Ip6) → known_to t n p ≡ known j n p
   pub count : length (listed_in t n) ≡ length (listed j n)
   pub room : (p : Ip6) → has_room_in t n p ≡ has_room j n p

@@ -42,6 +42,17 @@ impl<T: Drop> From<AllocFailed<T>> for PeersRefusal {
     }
 }
 
+impl From<NoMemory> for PeersRefusal {
+    ghost use Rattle.std.specs.Prelude.{◌≡◌};
+    ghost use Rattle.peer_list.specs.declared.refusals.PeersRefusal.{PeersRefusal};
+
+    ghost from_gives = { λ _ refusal. refusal ≡ PeersRefusal.NoMemory };
+
+    fn from(_: NoMemory) -> Self {
+        PeersRefusal::NoMemory
+    }
+}
+
 impl fmt::Display for QueueRefusal {
     fn fmt<W: fmt::Write>(&self, f: &mut fmt::Formatter<W>) -> fmt::Result {
         match self {

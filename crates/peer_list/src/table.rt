@@ -1,40 +1,40 @@
 //! The peers that a node keeps.
-ghost use Rattle.std.specs.Prelude.{◌≡◌, ◌≤◌, ◌<◌, ◌∷◌, [], true, false, length, option_map, is_some, OnOk, OnErr};
+ghost use Rattle.std.specs.Prelude.{◌≡◌, ◌≤◌, ◌<◌, ◌∷◌, [], ℕ, true, false, length, option_map, is_some, OnOk, OnErr};
 ghost use Rattle.ipv6_packet.specs.declared.header.TheConstants.{PACKET_MAX};
 ghost use Rattle.td_outside.specs.declared.clock.TheConstants.{CLOCK_END_MS};
 ghost use Rattle.peer_list.specs.Judged.{is_trusted_at, is_fresh, is_spent, is_barred, is_full};
 ghost use Rattle.peer_list.specs.Table.{empty_table, peer_in, known_to, listed_in, has_room_in, waiting_in, first_due_in, due_and_who};
+ghost use Rattle.peer_list.specs.Overdue.{due_moment, IsNoSooner};
 ghost use Rattle.peer_list.specs.Calls.{touched_at, trusted_at, heard_at, tried_at, queued_at, emptied, Updates, Keeps, Admits, Queues, sends_of};
 ghost use Rattle.peer_list.specs.Stands.{StandsForMentions};
 
-use crate::earliest::Earliest;
+use crate::entries::Entries;
 use crate::limits::MOST_PEERS;
 use crate::listed_peer::Peer;
-use crate::listings::{self, Listing};
+use crate::listings;
 use crate::refusals::{PeersRefusal, QueueRefusal};
 use std::alloc::Global;
 use std::marker::Model;
 use td_base::{Ep, Ip6, Millis, Side};
 use teredo_node::Step;
 
-/// The peers that a node keeps, in the order of their addresses.
+/// The peers that a node keeps.
 #[derive(Drop)]
 pub struct Peers {
     alloc: Global,
     moment: Millis,
-    listings: Vec<Listing>,
-    earliest: Earliest,
+    entries: Entries,
 }
 
 impl Model for Peers {
     ghost use Rattle.peer_list.specs.Table.{Table};
-    ghost use Rattle.peer_list.specs.Sound.{IsKept};
+    ghost use Rattle.peer_list.specs.Entries.{listings_of, IsKept};
 
     ghost Value = { Table };
 
-    ghost view = { λ s. record { moment = s.moment.0; listings = s.listings.items } };
+    ghost view = { λ s. record { moment = s.moment.0; listings = listings_of s.entries } };
 
-    ghost invariant = { λ s. IsKept s.earliest s.moment.0 s.listings.items };
+    ghost invariant = { λ s. IsKept s.entries s.moment.0 };
 }
 
 impl Peers {
@@ -46,8 +46,7 @@ impl Peers {
         Peers {
             alloc,
             moment: Millis(0),
-            listings: Vec::new(alloc),
-            earliest: Earliest::none(),
+            entries: Entries::new(alloc),
         }
     }
 
@@ -56,10 +55,7 @@ impl Peers {
         requires clock { self.now.moment ≤ now.0 }
         ensures { option_map (λ peer. peer.now) result ≡ peer_in self.now now.0 who }
     {
-        let peer = &self
-            .listings
-            .get(listings::place(&self.listings, who))?
-            .peer;
+        let peer = self.entries.find(who)?;
         if !peer.is_listed(now) {
             return None;
         }
@@ -156,7 +152,7 @@ impl Peers {
         ensures count { result ≡ length (listed_in self.now now.0) }
         ensures most { result ≤ MOST_PEERS }
     {
-        listings::count(&self.listings, now)
+        self.entries.count(now)
     }
 
     /// Whether an address is listed, or may still be.
@@ -165,6 +161,9 @@ impl Peers {
         requires clock { self.now.moment ≤ now.0 }
         ensures { result ≡ has_room_in self.now now.0 who }
     {
+        if self.entries.is_short() {
+            return true;
+        }
         self.is_listed(now, who) || self.count(now) < MOST_PEERS
     }
 
@@ -176,7 +175,7 @@ impl Peers {
         ensures kept { OnErr result (Keeps self.old self.new now.0) }
     {
         self.moment = now;
-        listings::admit(&mut self.listings, &mut self.earliest, self.alloc, now, who)
+        listings::admit(&mut self.entries, self.alloc, now, who)
     }
 
     /// Lets a packet wait for a peer, which it lists and touches. A refusal leaves all as it was.
@@ -189,14 +188,7 @@ impl Peers {
         ensures kept { OnErr result (Keeps self.old self.new now.0) }
     {
         self.moment = now;
-        listings::queue(
-            &mut self.listings,
-            &mut self.earliest,
-            self.alloc,
-            now,
-            who,
-            packet,
-        )
+        listings::queue(&mut self.entries, self.alloc, now, who, packet)
     }
 
     /// Touches a listed peer: it stays listed for `LISTED_MS` from now.
@@ -206,8 +198,8 @@ impl Peers {
         ensures { Updates self.old self.new now.0 who (touched_at now.0 (known_to self.old now.0 who)) }
     {
         self.moment = now;
-        let place = listings::place(&self.listings, who);
-        self.listings[place].peer.touch(now);
+        let key = self.entries.key(who);
+        self.entries.slab[key].peer.touch(now);
     }
 
     /// Touches a listed peer, and trusts it at an endpoint from now on. What was tried is over, a test too.
@@ -217,9 +209,9 @@ impl Peers {
         ensures { Updates self.old self.new now.0 who (trusted_at now.0 at (known_to self.old now.0 who)) }
     {
         self.moment = now;
-        let place = listings::place(&self.listings, who);
-        self.listings[place].peer.trust(now, at);
-        self.earliest.due = listings::first_due_after(&self.listings, self.earliest.due, place);
+        let key = self.entries.key(who);
+        self.entries.slab[key].peer.trust(now, at);
+        self.entries.settle(key);
     }
 
     /// Touches a listed peer of which a direct reception came. What was tried is over; what waits goes by `release`.
@@ -229,9 +221,9 @@ impl Peers {
         ensures { Updates self.old self.new now.0 who (heard_at now.0 (known_to self.old now.0 who)) }
     {
         self.moment = now;
-        let place = listings::place(&self.listings, who);
-        self.listings[place].peer.hear(now);
-        self.earliest.due = listings::first_due_after(&self.listings, self.earliest.due, place);
+        let key = self.entries.key(who);
+        self.entries.slab[key].peer.hear(now);
+        self.entries.settle(key);
     }
 
     /// Touches a listed peer that was tried, where there is one with a test and its nonce. Whether it may be tried is
@@ -243,9 +235,9 @@ impl Peers {
         ensures { Updates self.old self.new now.0 who (tried_at now.0 nonce (known_to self.old now.0 who)) }
     {
         self.moment = now;
-        let place = listings::place(&self.listings, who);
-        self.listings[place].peer.note_try(now, nonce);
-        self.earliest.due = listings::first_due_after(&self.listings, self.earliest.due, place);
+        let key = self.entries.key(who);
+        self.entries.slab[key].peer.note_try(now, nonce);
+        self.entries.settle(key);
     }
 
     /// Sends the packets that wait for a peer, in order, from one side to one endpoint.
@@ -255,9 +247,9 @@ impl Peers {
         ensures sends { step.new ≡ record step.old { sends = sends_of side to (known_to self.old self.old.moment who).waiting } }
         ensures rest { Updates self.old self.new self.old.moment who (emptied (known_to self.old self.old.moment who)) }
     {
-        let place = listings::place(&self.listings, who);
-        self.listings[place].peer.release(side, to, step);
-        self.earliest.due = listings::first_due_after(&self.listings, self.earliest.due, place);
+        let key = self.entries.key(who);
+        self.entries.slab[key].peer.release(side, to, step);
+        self.entries.settle(key);
     }
 
     /// Drops the packets that wait for a peer, and says how many there were. It doesn't touch the peer.
@@ -268,9 +260,9 @@ impl Peers {
         ensures rest { Updates self.old self.new now.0 who (emptied (known_to self.old now.0 who)) }
     {
         self.moment = now;
-        let place = listings::place(&self.listings, who);
-        let count = self.listings[place].peer.give_up();
-        self.earliest.due = listings::first_due_after(&self.listings, self.earliest.due, place);
+        let key = self.entries.key(who);
+        let count = self.entries.slab[key].peer.give_up();
+        self.entries.settle(key);
         count
     }
 
@@ -279,7 +271,15 @@ impl Peers {
         requires clock { self.now.moment ≤ now.0 }
         ensures { result ≡ option_map due_and_who (first_due_in self.now now.0) }
     {
-        listings::due(&self.listings, self.earliest.due, now)
+        self.entries.due(now)
+    }
+
+    /// Whether a try may be due before a moment, whenever it is asked. It looks at one entry, listed or not, and so may
+    /// say that one is where none is.
+    pub fn may_be_due_before(&self, moment: Millis) -> bool
+        ensures { result ≡ false → (n : ℕ) → IsNoSooner moment.0 (option_map due_moment (first_due_in self.now n)) }
+    {
+        listings::may_be_due_before(self.entries.first(), moment)
     }
 
     /// How many packets wait, for all listed peers.
@@ -287,7 +287,7 @@ impl Peers {
         requires clock { self.now.moment ≤ now.0 }
         ensures { result ≡ waiting_in self.now now.0 }
     {
-        listings::waiting(&self.listings, now)
+        self.entries.waiting(now)
     }
 
     /// Takes out all peers: it is as a new one.
@@ -296,7 +296,6 @@ impl Peers {
         ensures stands { StandsForMentions self.new [] }
     {
         self.moment = Millis(0);
-        self.listings.clear();
-        self.earliest = Earliest::none();
+        self.entries.clear();
     }
 }

@@ -1,8 +1,8 @@
 //! The tests of the program: `run` over forms in memory and over real sockets, and the laboratory's calls once each.
 //!
 //! Expected lines are worked out by hand from the rules, never taken from what the program wrote. A crate with tests is
-//! proved twice, so those of the crates from `report` to `teredo_app` stand here, once for all of them: they need public
-//! calls alone.
+//! proved twice, so those of `native_host`, `topology` and the crates from `report` to `teredo_app` stand here, once for
+//! all of them: they need public calls alone.
 //!
 //! # What it does not know
 //!
@@ -22,6 +22,7 @@
 //! | `worlds` | `scenario` and `world` |
 //! | `lines` | `report` |
 //! | `names` | `topology` |
+//! | `natives` | `native_host` |
 #![tactic(auto)]
 
 #[cfg(test)]
@@ -34,6 +35,8 @@ mod files_and_words;
 mod lines;
 #[cfg(test)]
 mod names;
+#[cfg(test)]
+mod natives;
 #[cfg(test)]
 mod nets;
 #[cfg(test)]

@@ -17,7 +17,7 @@ use Rattle.peer_list.specs.Judged.{is_none, is_within, due_of}
 use Rattle.peer_list.specs.Waiting.{Listing}
 use Rattle.peer_list.specs.Table.{Table, while_listed, known_to, first_due_in, due_and_who}
 use Rattle.peer_list.specs.Calls.{Updates, tried_at, emptied}
-use Rattle.peer_list.specs.Overdue.{while_due, overdue_in}
+use Rattle.peer_list.specs.Overdue.{due_moment, IsNoSooner, while_due, overdue_in}
 use Rattle.relay_core.specs.declared.relay.Relay.{Relay}
 use Rattle.relay_rules.specs.Ticks.{due_at}
 use Rattle.relay_rules.specs.Journals.{relay_due}
@@ -32,6 +32,11 @@ pub due_told : (law : Below) (r : Relay) (n : ℕ) (d : Option ℕ) → r.peers.
     → (j : List Entry) → RelayStandsFor r j → d ≡ relay_due j n
 unfolding relay_due
 due_told law r n d l e j h = let s = read_same law r j n h l in e ∙ (λ i. option_map (λ (x : Listing). due_of x.peer) (s.first i))
+
+-- where no peer has something before a moment, nothing is due before it
+pub none_sooner : (law : Below) (r : Relay) (m : ℕ) → ((n : ℕ) → IsNoSooner m (option_map due_moment (first_due_in r.peers n)))
+    → (j : List Entry) (n : ℕ) → RelayStandsFor r j → r.peers.moment ≤ n → IsNoSooner m (relay_due j n)
+none_sooner law r m peers j n h l = subst (IsNoSooner m) (due_told law r n (option_map due_moment (first_due_in r.peers n)) l refl j h) (peers n)
 
 first_due_by : (law : Below) (r : Relay) (n : ℕ) (first : Option Listing) (d : Option Millis) → first_due_in r.peers n ≡ first
     → option_map (λ (m : Millis). m.0) d ≡ option_map (λ (l : Listing). due_of l.peer) first → IsFirstDue (owing r) n d

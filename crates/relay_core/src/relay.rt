@@ -19,6 +19,12 @@ pub struct Relay {
     pub(crate) peers: Peers,
 }
 
+// No clause sees a field that nothing reads, such as a journal: so it is its parts, and no byte more.
+const _: () = prove_eq!(
+    size_of::<Relay>(),
+    size_of::<(Ep, Ip6, Policy, Vec<Ip6>)>() + size_of::<Peers>()
+);
+
 impl Relay {
     /// A relay at an endpoint, with an IPv6 address of its own, that serves these natives.
     pub fn new(alloc: Global, at: Ep, six: Ip6, policy: Policy, served: Vec<Ip6>) -> Relay

@@ -1,12 +1,13 @@
 //! What a relay does where something is due.
-ghost use Rattle.std.specs.Prelude.{◌≡◌, ◌≤◌, true, false, None, Some, is_some, option_map, IfSome};
-ghost use Rattle.teredo_node.specs.Journal.{ticked};
+ghost use Rattle.std.specs.Prelude.{◌≡◌, ◌≤◌, ℕ, List, true, false, None, Some, is_some, option_map, IfSome};
+ghost use Rattle.teredo_node.specs.Journal.{Entry, ticked};
 ghost use Rattle.teredo_node.specs.Due.{IsFirstDue, Idles, Lessens};
 ghost use Rattle.peer_list.specs.Judged.{due_of};
 ghost use Rattle.peer_list.specs.Table.{known_to, first_due_in};
-ghost use Rattle.relay_rules.specs.Journals.{entry};
+ghost use Rattle.peer_list.specs.Overdue.{IsNoSooner};
+ghost use Rattle.relay_rules.specs.Journals.{entry, relay_due};
 ghost use Rattle.relay_rules.specs.Ticks.{due_at, tries_peer};
-ghost use Rattle.relay_core.specs.Relay.{settings_of, IsCallable, Enters, Does, AsBefore};
+ghost use Rattle.relay_core.specs.Relay.{settings_of, RelayStandsFor, IsCallable, Enters, Does, AsBefore};
 ghost use Rattle.relay_core.specs.Endpoint.{IsRelayDue, owing, IsOverdue, DoesDue};
 
 use crate::below::below;
@@ -85,6 +86,15 @@ impl Relay {
     {
         below();
         self.first_try(now)
+    }
+
+    /// Whether something may be due before a moment, whenever it is asked. It looks at one bound alone, and so may say
+    /// that something is where nothing is.
+    pub fn may_be_due_before(&self, moment: Millis) -> bool
+        ensures { result ≡ false → (j : List Entry) (n : ℕ) → RelayStandsFor self.now j → self.now.peers.moment ≤ n → IsNoSooner moment.0 (relay_due j n) }
+    {
+        below();
+        self.peers.may_be_due_before(moment)
     }
 
     /// When the next try at a peer is due.

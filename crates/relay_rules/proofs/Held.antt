@@ -24,14 +24,10 @@ use Rattle.relay_rules.specs.Journals.{entry, relay_in, relay_six, relay_tick, r
 use Rattle.relay_rules.specs.Warrants.{GoesOut, GoesLater, SentOnlyIf}
 use Rattle.relay_rules.specs.Laws.{IsForeignTo, WaitingIsForeign, TrustedIsEmbedded}
 use Rattle.relay_rules.proofs.Fates.{fate_of_reception, fate_of_transmission}
-use Rattle.relay_rules.proofs.Lines.{by_lines}
+use Rattle.teredo_node.proofs.FirstLines.{by_lines}
 use Rattle.relay_rules.proofs.Warranted.{transmission_is_warranted}
 use Rattle.relay_rules.proofs.Bearings.{queued_by, trusted_by}
-use Rattle.relay_rules.proofs.Kept.{kept, waiting_is_kept, trust_is_kept}
-
-peer_is : (p : Ip6) (o : Option Ip6) → is_peer p o ≡ true → o ≡ Some p
-peer_is p None h = absurd (false≢true h)
-peer_is p (Some q) h = ap Some (sym (same_ip6-true p q h))
+use Rattle.peer_list.proofs.FromMentions.{peer_is, kept, waiting_is_kept, trust_is_kept}
 
 -- PACKETS THAT WAIT
 
@@ -41,7 +37,7 @@ is_queued _ = false
 
 -- no datagram is queued
 never_queued : (a : Seen) → is_queued (reception_row a) ≡ false
-never_queued a = by_lines (λ f. is_queued f ≡ false) (reception_lines a) fate.Unserved ((λ _. refl), (λ _. ((λ _. refl), (λ _. ((λ _. refl), (λ _. ((λ _. refl), (λ _. ((λ _. refl), (λ _. ((λ _. refl), (λ _. ((λ _. refl), (λ _. ((λ _. refl), (λ _. refl))))))))))))))))
+never_queued a = by_lines (λ (f : Fate). is_queued f ≡ false) (reception_lines a) fate.Unserved ((λ _. refl), (λ _. ((λ _. refl), (λ _. ((λ _. refl), (λ _. ((λ _. refl), (λ _. ((λ _. refl), (λ _. ((λ _. refl), (λ _. ((λ _. refl), (λ _. ((λ _. refl), (λ _. refl))))))))))))))))
 
 -- an entry queues, if anything, a packet from outside to its peer
 abbrev QueuesForeign : Entry → Type 0
@@ -56,10 +52,6 @@ if_there : (b : Bool) (x : List ℕ) (P : List ℕ → Type 0) → P x → IfSom
 if_there true x P h = h
 if_there false x P h = tt
 
-is_that : (b : Bool) (p : Ip6) → b ≡ true → cond b (Some p) None ≡ Some p
-is_that true p h = refl
-is_that false p h = absurd (false≢true h)
-
 -- a packet that goes out is from outside
 pub foreign_to : (s : RelaySettings) (a : Standing) (x : List ℕ) → GoesOut (given_to s a x) → IsForeignTo (destination_in x) x
 unfolding given_to destination_in
@@ -70,7 +62,7 @@ foreign_to s a x out =
       short = out.short;
       native = source.0;
       global = source.1;
-      destination = is_that (is_packet x) (fields_in x).dst out.packet;
+      destination = ap (λ (b : Bool). cond b (Some (fields_in x).dst) None) out.packet;
     }
 
 foreign : (s : RelaySettings) (a : Standing) (x : List ℕ) → GoesLater (given_to s a x) → IfSome (packet_given x) (IsForeignTo (destination_in x))

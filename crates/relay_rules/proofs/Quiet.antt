@@ -12,6 +12,7 @@ use Rattle.bubble.specs.PacketsIn.{source_in, destination_in}
 use Rattle.teredo_node.specs.declared.fate.Fate.{Fate}
 use Rattle.teredo_node.specs.declared.fate.Fate.TheVariants as fate
 use Rattle.teredo_node.specs.Rows.{first_line}
+use Rattle.teredo_node.proofs.FirstLines.{skip}
 use Rattle.teredo_node.specs.Journal.{Input, arrived, given, from_six, ticked, Entry}
 use Rattle.peer_list.specs.declared.limits.TheConstants.{LISTED_MS}
 use Rattle.peer_list.specs.Mentions.{Mention, is_peer, is_about}
@@ -20,6 +21,7 @@ use Rattle.peer_list.specs.Peers.{Peer, no_peer, peer_at, known}
 use Rattle.peer_list.specs.Judged.{is_none, due_of}
 use Rattle.peer_list.specs.Waiting.{Listing, first_due}
 use Rattle.peer_list.specs.Laws.{tries_after, after, OfAnother, OfATouch, OfNoTouch, FirstWaits}
+use Rattle.peer_list.proofs.FromMentions.{peer_is_if}
 use Rattle.relay_rules.specs.Bearings.{mention, mentions}
 use Rattle.relay_rules.specs.Standing.{RelaySettings, standing_of}
 use Rattle.relay_rules.specs.Reception.{Seen, seen, reception_lines, reception_row}
@@ -38,22 +40,13 @@ pub record OfPeers : Type 0 where
 
 -- ROWS
 
--- no line of these attempts
-abbrev AreNone : List (Bool × Fate) → Type 0
-AreNone ls = AllByRecursion (λ (l : Bool × Fate). is_attempt l.1 ≡ false) ls
-
-skip_one : (b : Bool) (f : Fate) (ls : List (Bool × Fate)) (last : Fate) → is_attempt f ≡ false → is_attempt (first_line ls last) ≡ false → is_attempt (first_line ((b, f) ∷ ls) last) ≡ false
-skip_one true f ls last h k = h
-skip_one false f ls last h k = k
-
--- so the fate is one of the lines after them
-skip : (ls rest : List (Bool × Fate)) (last : Fate) → AreNone ls → is_attempt (first_line rest last) ≡ false → is_attempt (first_line (ls ++ rest) last) ≡ false
-skip [] rest last a h = h
-skip (l ∷ ls) rest last a h = skip_one l.0 l.1 (ls ++ rest) last a.0 (skip ls rest last a.1 h)
+-- this is none
+abbrev IsNone : Fate → Type 0
+IsNone f = is_attempt f ≡ false
 
 -- a datagram is no attempt
 received_is_none : (a : Seen) → is_attempt (reception_row a) ≡ false
-received_is_none a = skip (reception_lines a) [] fate.Unserved (refl, (refl, (refl, (refl, (refl, (refl, (refl, (refl, tt)))))))) refl
+received_is_none a = skip IsNone (reception_lines a) [] fate.Unserved (refl, (refl, (refl, (refl, (refl, (refl, (refl, (refl, tt)))))))) refl
 
 at_cone : (b : Bool) (ls : List (Bool × Fate)) (last : Fate) → b ≡ true → is_attempt (first_line ((b, fate.SentCone) ∷ ls) last) ≡ false
 at_cone true ls last h = refl
@@ -64,8 +57,8 @@ cone_is_none : (a : Given) → a.cone ≡ true → is_attempt (transmission_row 
 cone_is_none a cone =
     let rest : List (Bool × Fate) = (a.cone, fate.SentCone) ∷ (a.spent, fate.Barred) ∷ (a.full, fate.QueueFull) ∷ [] in
     let from_room : is_attempt (first_line ((a.trusted, fate.Sent) ∷ (not a.room, fate.PeersFull) ∷ rest) fate.Queued) ≡ false =
-    skip ((a.trusted, fate.Sent) ∷ (not a.room, fate.PeersFull) ∷ []) rest fate.Queued (refl, (refl, tt)) (at_cone a.cone ((a.spent, fate.Barred) ∷ (a.full, fate.QueueFull) ∷ []) fate.Queued cone) in
-    skip (packet_lines a) (destination_lines a) fate.Queued (refl, (refl, (refl, (refl, (refl, (refl, tt)))))) from_room
+    skip IsNone ((a.trusted, fate.Sent) ∷ (not a.room, fate.PeersFull) ∷ []) rest fate.Queued (refl, (refl, tt)) (at_cone a.cone ((a.spent, fate.Barred) ∷ (a.full, fate.QueueFull) ∷ []) fate.Queued cone) in
+    skip IsNone (packet_lines a) (destination_lines a) fate.Queued (refl, (refl, (refl, (refl, (refl, (refl, tt)))))) from_room
 
 -- ONE FURTHER ENTRY
 
@@ -121,10 +114,6 @@ NoAttempt p e = is_about p (mention e) ≡ true → ((mention e).bearing.tries �
 by_fate : (p : Ip6) (e : Entry) → is_attempt e.step.fate ≡ false → NoAttempt p e
 by_fate p e h about = no_attempt e.step.fate e h
 
-is_some_if : (b : Bool) (p q : Ip6) → is_peer p (cond b (Some q) None) ≡ true → p ≡ q
-is_some_if true p q h = same_ip6-true p q h
-is_some_if false p q h = absurd (false≢true h)
-
 of_datagram : (s : RelaySettings) (j : List Entry) (n : ℕ) (from : Ep) (x : List ℕ) (p : Ip6) → NoAttempt p (relay_in s j n from x)
 unfolding relay_in
 of_datagram s j n from x p = by_fate p (relay_in s j n from x) (ap is_attempt (fate_of_reception s (standing_of j n (source_in x)) from x) ∙ received_is_none (seen s (standing_of j n (source_in x)) from x))
@@ -132,7 +121,7 @@ of_datagram s j n from x p = by_fate p (relay_in s j n from x) (ap is_attempt (f
 of_packet : (s : RelaySettings) (j : List Entry) (n : ℕ) (x : List ℕ) (p : Ip6) → has_cone p ≡ true → NoAttempt p (relay_six s j n x)
 unfolding relay_six given_of_packet destination_in
 of_packet s j n x p cone about =
-    let is : p ≡ (fields_in x).dst = is_some_if (is_packet x) p (fields_in x).dst about in
+    let is : p ≡ (fields_in x).dst = peer_is_if (is_packet x) p (fields_in x).dst about in
     let at : has_cone (fields_in x).dst ≡ true = subst (λ q. has_cone q ≡ true) is cone in
     by_fate p (relay_six s j n x) (ap is_attempt (fate_of_transmission s (standing_of j n (destination_in x)) x) ∙ cone_is_none (given_of_packet s (standing_of j n (destination_in x)) x) at) about
 

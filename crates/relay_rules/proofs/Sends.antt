@@ -1,5 +1,5 @@
 -- What a relay sends, by the fates.
-use Rattle.std.proofs.Common.{◌≡◌, ℕ, Bool, true, false, cond, List, [], ◌∷◌, Option, Some, None, refl, sym, subst}
+use Rattle.std.proofs.Common.{◌≡◌, ℕ, Bool, true, false, cond, List, [], ◌∷◌, Option, Some, None, refl, sym, subst, ap}
 use Rattle.std.specs.Prelude.{unwrap_or}
 use Rattle.std.specs.List.{AllByRecursion}
 use Rattle.std.proofs.lemmas.Bool.{false≢true}
@@ -37,73 +37,10 @@ record OfReception (P : Send → Type 0) (a : Standing) (v : Value) (f : Fate) :
   unserved : f ≡ fate.Unserved → AllByRecursion P (released a v)
 
 by_reception : (P : Send → Type 0) (a : Standing) (x : List ℕ) (v : Value) (f : Fate) → OfReception P a v f → AllByRecursion P (reception_step a x v f).sends
-by_reception P a x v fate.Malformed h = tt
-by_reception P a x v fate.Keyed h = tt
-by_reception P a x v fate.Big h = tt
-by_reception P a x v fate.Kind h = tt
-by_reception P a x v fate.Icmp h = tt
-by_reception P a x v fate.Source h = tt
-by_reception P a x v fate.Loop h = tt
-by_reception P a x v fate.OwnEcho h = tt
-by_reception P a x v fate.Advert h = tt
-by_reception P a x v fate.Mismatch h = tt
-by_reception P a x v fate.NotOurs h = tt
-by_reception P a x v fate.Embedded h = tt
-by_reception P a x v fate.ForwardOrigin h = tt
-by_reception P a x v fate.Forward h = tt
-by_reception P a x v fate.Six h = tt
-by_reception P a x v fate.Dest h = tt
-by_reception P a x v fate.RsCone h = tt
-by_reception P a x v fate.RsRestricted h = tt
-by_reception P a x v fate.RsSecondary h = tt
-by_reception P a x v fate.OffLine h = tt
-by_reception P a x v fate.Refresh h = tt
-by_reception P a x v fate.Nonce h = tt
-by_reception P a x v fate.AdvertSource h = tt
-by_reception P a x v fate.Origin h = tt
-by_reception P a x v fate.Prefix h = tt
-by_reception P a x v fate.QualifiedCone h = tt
-by_reception P a x v fate.FirstAnswer h = tt
-by_reception P a x v fate.QualifiedRestricted h = tt
-by_reception P a x v fate.Symmetric h = tt
-by_reception P a x v fate.Same h = tt
-by_reception P a x v fate.Changed h = tt
-by_reception P a x v fate.Confirmation h = tt
-by_reception P a x v fate.ServerOther h = tt
-by_reception P a x v fate.Off h = tt
-by_reception P a x v fate.NotMine h = tt
-by_reception P a x v fate.Itself h = tt
-by_reception P a x v fate.PeersFull h = tt
-by_reception P a x v fate.Barred h = tt
-by_reception P a x v fate.Indirect h = tt
-by_reception P a x v fate.Rule1 h = tt
-by_reception P a x v fate.Rule1Bubble h = tt
-by_reception P a x v fate.Rule2 h = tt
-by_reception P a x v fate.Rule3 h = tt
-by_reception P a x v fate.Rule3Bubble h = tt
-by_reception P a x v fate.SuspiciousTest h = tt
-by_reception P a x v fate.Suspicious h = tt
-by_reception P a x v fate.Bubble h = tt
-by_reception P a x v fate.Sent h = tt
-by_reception P a x v fate.SentCone h = tt
-by_reception P a x v fate.QueueFull h = tt
-by_reception P a x v fate.Queued h = tt
-by_reception P a x v fate.Bubbles h = tt
-by_reception P a x v fate.Test h = tt
-by_reception P a x v fate.GiveUp h = tt
-by_reception P a x v fate.Idle h = tt
-by_reception P a x v fate.Unlisted h = tt
 by_reception P a x v fate.FromClientBubble h = h.bubble refl
 by_reception P a x v fate.FromClient h = h.client refl
 by_reception P a x v fate.Unserved h = h.unserved refl
-by_reception P a x v fate.SentSix h = tt
-by_reception P a x v fate.Echoed h = tt
-by_reception P a x v fate.Kept h = tt
-by_reception P a x v fate.Put h = tt
-by_reception P a x v fate.Done h = tt
-by_reception P a x v fate.NoEntry h = tt
-by_reception P a x v fate.Nowhere h = tt
-by_reception P a x v fate.NatClosed h = tt
+by_reception P a x v _ h = tt
 
 -- and a packet's
 record OfTransmission (P : Send → Type 0) (s : RelaySettings) (a : Standing) (x : List ℕ) (p : Ip6) (f : Fate) : Type 0 where
@@ -112,73 +49,10 @@ record OfTransmission (P : Send → Type 0) (s : RelaySettings) (a : Standing) (
   queued : f ≡ fate.Queued → AllByRecursion P (queues (is_barred a.moment (known_in a)) s p).sends
 
 by_transmission : (P : Send → Type 0) (s : RelaySettings) (a : Standing) (x : List ℕ) (p : Ip6) (f : Fate) → OfTransmission P s a x p f → AllByRecursion P (transmission_step s a x p f).sends
-by_transmission P s a x p fate.Malformed h = tt
-by_transmission P s a x p fate.Keyed h = tt
-by_transmission P s a x p fate.Big h = tt
-by_transmission P s a x p fate.Kind h = tt
-by_transmission P s a x p fate.Icmp h = tt
-by_transmission P s a x p fate.Source h = tt
-by_transmission P s a x p fate.Loop h = tt
-by_transmission P s a x p fate.OwnEcho h = tt
-by_transmission P s a x p fate.Advert h = tt
-by_transmission P s a x p fate.Mismatch h = tt
-by_transmission P s a x p fate.NotOurs h = tt
-by_transmission P s a x p fate.Embedded h = tt
-by_transmission P s a x p fate.ForwardOrigin h = tt
-by_transmission P s a x p fate.Forward h = tt
-by_transmission P s a x p fate.Six h = tt
-by_transmission P s a x p fate.Dest h = tt
-by_transmission P s a x p fate.RsCone h = tt
-by_transmission P s a x p fate.RsRestricted h = tt
-by_transmission P s a x p fate.RsSecondary h = tt
-by_transmission P s a x p fate.OffLine h = tt
-by_transmission P s a x p fate.Refresh h = tt
-by_transmission P s a x p fate.Nonce h = tt
-by_transmission P s a x p fate.AdvertSource h = tt
-by_transmission P s a x p fate.Origin h = tt
-by_transmission P s a x p fate.Prefix h = tt
-by_transmission P s a x p fate.QualifiedCone h = tt
-by_transmission P s a x p fate.FirstAnswer h = tt
-by_transmission P s a x p fate.QualifiedRestricted h = tt
-by_transmission P s a x p fate.Symmetric h = tt
-by_transmission P s a x p fate.Same h = tt
-by_transmission P s a x p fate.Changed h = tt
-by_transmission P s a x p fate.Confirmation h = tt
-by_transmission P s a x p fate.ServerOther h = tt
-by_transmission P s a x p fate.Off h = tt
-by_transmission P s a x p fate.NotMine h = tt
-by_transmission P s a x p fate.Itself h = tt
-by_transmission P s a x p fate.PeersFull h = tt
-by_transmission P s a x p fate.Barred h = tt
-by_transmission P s a x p fate.Indirect h = tt
-by_transmission P s a x p fate.Rule1 h = tt
-by_transmission P s a x p fate.Rule1Bubble h = tt
-by_transmission P s a x p fate.Rule2 h = tt
-by_transmission P s a x p fate.Rule3 h = tt
-by_transmission P s a x p fate.Rule3Bubble h = tt
-by_transmission P s a x p fate.SuspiciousTest h = tt
-by_transmission P s a x p fate.Suspicious h = tt
-by_transmission P s a x p fate.Bubble h = tt
 by_transmission P s a x p fate.Sent h = h.sent refl
 by_transmission P s a x p fate.SentCone h = h.sent_cone refl
-by_transmission P s a x p fate.QueueFull h = tt
 by_transmission P s a x p fate.Queued h = h.queued refl
-by_transmission P s a x p fate.Bubbles h = tt
-by_transmission P s a x p fate.Test h = tt
-by_transmission P s a x p fate.GiveUp h = tt
-by_transmission P s a x p fate.Idle h = tt
-by_transmission P s a x p fate.Unlisted h = tt
-by_transmission P s a x p fate.FromClientBubble h = tt
-by_transmission P s a x p fate.FromClient h = tt
-by_transmission P s a x p fate.Unserved h = tt
-by_transmission P s a x p fate.SentSix h = tt
-by_transmission P s a x p fate.Echoed h = tt
-by_transmission P s a x p fate.Kept h = tt
-by_transmission P s a x p fate.Put h = tt
-by_transmission P s a x p fate.Done h = tt
-by_transmission P s a x p fate.NoEntry h = tt
-by_transmission P s a x p fate.Nowhere h = tt
-by_transmission P s a x p fate.NatClosed h = tt
+by_transmission P s a x p _ h = tt
 
 -- DATAGRAMS
 
@@ -190,13 +64,9 @@ carried s peer p (x ∷ xs) is a = (carries p x is a.0 refl, carried s peer p xs
 abbrev IsReady : Standing → Option Ip6 → Type 0
 IsReady a peer = AllByRecursion (IsForeignTo (Some (unwrap_or peer unspecified))) (known_in a).waiting
 
-that_source : (b : Bool) (p : Ip6) → b ≡ true → cond b (Some p) None ≡ Some p
-that_source true p h = refl
-that_source false p h = absurd (false≢true h)
-
 source_is : (s : RelaySettings) (a : Standing) (from : Ep) (x : List ℕ) → IsOfPeer (seen s a from x) → source_in x ≡ Some (value_in x).packet.src
 unfolding seen source_in
-source_is s a from x m = that_source (is_payload x) (value_in x).packet.src m.payload
+source_is s a from x m = ap (λ (b : Bool). cond b (Some (value_in x).packet.src) None) m.payload
 
 given_back : (o : Option Ip6) (p : Ip6) → o ≡ Some p → Some (unwrap_or o unspecified) ≡ o
 given_back o p h = subst (λ k. Some (unwrap_or k unspecified) ≡ k) (sym h) refl

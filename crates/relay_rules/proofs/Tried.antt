@@ -1,22 +1,16 @@
 -- A relay's mentions are in order.
 use Rattle.std.proofs.Common.{◌≡◌, ◌≤◌, ℕ, true, List, [], ◌∷◌, map}
 use Rattle.std.specs.List.{AllByRecursion}
-use Rattle.std.proofs.Math.Nat.{le_refl, le_trans}
+use Rattle.std.proofs.Math.Nat.{le_refl}
 use Rattle.teredo_node.specs.Journal.{Entry}
 use Rattle.peer_list.specs.Mentions.{Mention}
 use Rattle.peer_list.specs.Laws.{InOrder}
+use Rattle.peer_list.proofs.FromMentions.{IsBefore, all_later}
 use Rattle.relay_rules.specs.Bearings.{mention, mentions}
 use Rattle.relay_rules.specs.Standing.{RelaySettings}
 use Rattle.relay_rules.specs.Journals.{last_moment, IsJournal}
 use Rattle.relay_rules.specs.Laws.{JournalIsTried}
 use Rattle.relay_rules.proofs.Fates.{tries_touch}
-
-abbrev IsBefore : ℕ → Mention → Type 0
-IsBefore n x = x.moment ≤ n
-
-all_later : (m n : ℕ) (ms : List Mention) → m ≤ n → AllByRecursion (IsBefore m) ms → AllByRecursion (IsBefore n) ms
-all_later m n [] l a = tt
-all_later m n (x ∷ ms) l a = (le_trans a.0 l, all_later m n ms l a.1)
 
 -- no mention is later than the journal
 before_last : (s : RelaySettings) (j : List Entry) → IsJournal s j → AllByRecursion (IsBefore (last_moment j)) (mentions j)

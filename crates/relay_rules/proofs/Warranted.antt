@@ -1,14 +1,16 @@
 -- What was seen of a datagram and of a packet where it has a fate.
 use Rattle.std.proofs.Common.{◌++◌}
+use Rattle.std.proofs.lemmas.Bool.{not-false}
+use Rattle.teredo_node.specs.declared.fate.Fate.{Fate}
 use Rattle.teredo_node.specs.declared.fate.Fate.TheVariants as fate
 use Rattle.relay_rules.specs.Reception.{Seen, seen, reception_lines, reception_row}
 use Rattle.relay_rules.specs.Transmission.{Given, given, packet_lines, destination_lines, transmission_row}
 use Rattle.relay_rules.specs.Warrants.{IsOfPeer, GoesOut, ReceivedOnlyIf, SentOnlyIf}
 use Rattle.relay_rules.specs.Laws.{ReceptionIsWarranted, TransmissionIsWarranted}
-use Rattle.relay_rules.proofs.Lines.{by_lines, not_false}
+use Rattle.teredo_node.proofs.FirstLines.{by_lines}
 
 received : (a : Seen) → ReceivedOnlyIf (reception_row a) a
-received a = by_lines (λ f. ReceivedOnlyIf f a) (reception_lines a) fate.Unserved (
+received a = by_lines (λ (f : Fate). ReceivedOnlyIf f a) (reception_lines a) fate.Unserved (
   (λ _. tt),
   (λ payload. (
     (λ _. tt),
@@ -22,12 +24,12 @@ received a = by_lines (λ f. ReceivedOnlyIf f a) (reception_lines a) fate.Unserv
             (λ _. tt),
             (λ listed.
                 let peer : IsOfPeer a = record {
-                  payload = not_false a.payload payload;
+                  payload = not-false a.payload payload;
                   unkeyed = unkeyed;
                   short = short;
-                  teredo = not_false a.teredo teredo;
-                  embedded = not_false a.embedded_here embedded;
-                  listed = not_false a.listed listed;
+                  teredo = not-false a.teredo teredo;
+                  embedded = not-false a.embedded_here embedded;
+                  listed = not-false a.listed listed;
                 } in (
                   (λ bubble. record { peer = peer; bubble = bubble }),
                   (λ no_bubble. (
@@ -47,7 +49,7 @@ pub reception_is_warranted : ReceptionIsWarranted
 reception_is_warranted s a from x = received (seen s a from x)
 
 sent : (a : Given) → SentOnlyIf (transmission_row a) a
-sent a = by_lines (λ f. SentOnlyIf f a) (packet_lines a ++ destination_lines a) fate.Queued (
+sent a = by_lines (λ (f : Fate). SentOnlyIf f a) (packet_lines a ++ destination_lines a) fate.Queued (
   (λ _. tt),
   (λ packet. (
     (λ _. tt),
@@ -61,24 +63,24 @@ sent a = by_lines (λ f. SentOnlyIf f a) (packet_lines a ++ destination_lines a)
             (λ _. tt),
             (λ unlooped.
                 let out : GoesOut a = record {
-                  packet = not_false a.packet packet;
+                  packet = not-false a.packet packet;
                   short = short;
-                  teredo = not_false a.teredo teredo;
-                  foreign_source = not_false a.foreign_source foreign;
-                  reachable = not_false a.reachable reachable;
+                  teredo = not-false a.teredo teredo;
+                  foreign_source = not-false a.foreign_source foreign;
+                  reachable = not-false a.reachable reachable;
                   unlooped = unlooped;
                 } in (
                   (λ trusted. record { out = out; trusted = trusted }),
                   (λ untrusted. (
                     (λ _. tt),
                     (λ room. (
-                      (λ cone. record { out = out; untrusted = untrusted; room = not_false a.room room; cone = cone }),
+                      (λ cone. record { out = out; untrusted = untrusted; room = not-false a.room room; cone = cone }),
                       (λ no_cone. (
                         (λ _. tt),
                         (λ unspent. (
                           (λ _. tt),
                           (λ free.
-                              record { out = out; untrusted = untrusted; room = not_false a.room room; no_cone = no_cone; unspent = unspent; free = free }),
+                              record { out = out; untrusted = untrusted; room = not-false a.room room; no_cone = no_cone; unspent = unspent; free = free }),
                         )),
                       )),
                     )),

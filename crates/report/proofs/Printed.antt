@@ -8,7 +8,7 @@ use Rattle.td_base.specs.declared.line.TheConstants.{LINE_LEN}
 use Rattle.td_base.specs.declared.refusals.Room.{Room}
 use Rattle.td_base.specs.Prints.{Prints}
 use Rattle.td_base.specs.Texts.{ep_text}
-use Rattle.report.specs.declared.pieces.TheConstants.{EP_LEN}
+use Rattle.report.specs.declared.fields.TheConstants.{EP_LEN}
 
 pub printed : (r : Result (Unit {0}) Room) (old new text : List ℕ) → Prints r old new text → length old + length text ≤ LINE_LEN → new ≡ old ++ text
 printed (Ok x) old new text p room = p.1

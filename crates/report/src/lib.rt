@@ -13,14 +13,14 @@
 //!
 //! | module | holds | stated in |
 //! |---|---|---|
-//! | `pieces`, `marks` | the parts of a line | `specs/Lines.antt` |
+//! | `fields`, `marks` | the parts of a line | `specs/Lines.antt` |
 //! | `lines` | `line` | `specs/Lines.antt` |
 //! | `totals` | `Sums`, `summary` | `specs/Totals.antt` |
 #![tactic(auto)]
 
+mod fields;
 mod lines;
 mod marks;
-mod pieces;
 mod totals;
 
 pub use lines::line;

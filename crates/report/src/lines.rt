@@ -2,8 +2,8 @@
 ghost use Rattle.std.specs.Prelude.{◌≡◌, ◌+◌, ◌≤◌, ◌++◌, length};
 ghost use Rattle.report.specs.Lines.{head_text, tail_text, record_line};
 
+use crate::fields::{put_act, put_address, put_gone, put_handed, put_node, put_number};
 use crate::marks::put_marks;
-use crate::pieces::{put_act, put_address, put_gone, put_handed, put_node, put_number};
 use history::{Record, Topology};
 use td_base::{LINE_LEN, LineBuf};
 

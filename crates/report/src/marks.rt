@@ -4,7 +4,7 @@ ghost use Rattle.topology.specs.Rows.{TopologyState};
 ghost use Rattle.history.specs.declared.mark.Mark.TheVariants as mark;
 ghost use Rattle.report.specs.Lines.{loss_word, mark_text, marks_text};
 
-use crate::pieces::{put_ep, put_node, put_number};
+use crate::fields::{put_ep, put_node, put_number};
 use history::{Loss, Mark, Topology};
 use td_base::{Ep, LINE_LEN, LineBuf};
 

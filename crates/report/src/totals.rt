@@ -5,7 +5,7 @@ ghost use Rattle.history.specs.Records.{record_of};
 ghost use Rattle.history.specs.Telling.{is_kept, is_delivery, is_entry, IsTold};
 ghost use Rattle.report.specs.Totals.{totals_line};
 
-use crate::pieces::put_number;
+use crate::fields::put_number;
 use history::{Act, Mark, Record};
 use td_base::LineBuf;
 use teredo_node::Fate;

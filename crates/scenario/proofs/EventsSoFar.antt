@@ -12,7 +12,7 @@ use Rattle.history.specs.declared.event.Event.{Event}
 use Rattle.history.specs.Events.{IsEvent}
 use Rattle.history.specs.EventText.{event_of}
 use Rattle.scenario.specs.declared.scenario_fault.ScenarioFault.{ScenarioFault}
-use Rattle.scenario.specs.declared.event_lists.TheConstants.{MOST_EVENTS}
+use Rattle.history.specs.declared.event.TheConstants.{EVENTS_MAX}
 use Rattle.scenario.specs.declared.place.Place.{Place}
 use Rattle.scenario.specs.declared.place.Place.TheVariants as place
 use Rattle.scenario.specs.declared.scenario_fault.ScenarioFault.TheVariants as fault
@@ -84,11 +84,11 @@ length-texts (v ∷ vs) texts e = step (as_str (view v)) (texts_of (items_view v
     step (Some t) (Some ts) e h = omega (arith, ap length (some_same (t ∷ ts) texts e), h ts refl)
 
 -- too many texts
-pub long_events : (t : TopologyState) (vs : List Value) (texts : List (List ℕ)) → texts_of (items_view vs) ≡ Some texts → MOST_EVENTS < length vs → few_events t texts ≡ Err (fault.Range (key_path place.Text (codes "events")))
-long_events t vs texts e long = let no : nat_le (length texts) MOST_EVENTS ≡ false = lt-leb (length texts) MOST_EVENTS (omega (arith, long, length-texts vs texts e)) in rw no refl
+pub long_events : (t : TopologyState) (vs : List Value) (texts : List (List ℕ)) → texts_of (items_view vs) ≡ Some texts → EVENTS_MAX < length vs → few_events t texts ≡ Err (fault.Range (key_path place.Text (codes "events")))
+long_events t vs texts e long = let no : nat_le (length texts) EVENTS_MAX ≡ false = lt-leb (length texts) EVENTS_MAX (omega (arith, long, length-texts vs texts e)) in rw no refl
 
-pub short_events : (t : TopologyState) (vs : List Value) (texts : List (List ℕ)) → texts_of (items_view vs) ≡ Some texts → length vs ≤ MOST_EVENTS → few_events t texts ≡ each_event t 0 texts
-short_events t vs texts e short = rw (le-leb (length texts) MOST_EVENTS (omega (arith, short, length-texts vs texts e))) refl
+pub short_events : (t : TopologyState) (vs : List Value) (texts : List (List ℕ)) → texts_of (items_view vs) ≡ Some texts → length vs ≤ EVENTS_MAX → few_events t texts ≡ each_event t 0 texts
+short_events t vs texts e short = rw (le-leb (length texts) EVENTS_MAX (omega (arith, short, length-texts vs texts e))) refl
 
 pub some_is : {A : Type 0} (o : Option A) → IsSome o → (x : A) × (o ≡ Some x)
 some_is None h = absurd cc
@@ -103,12 +103,12 @@ passed : {A E : Type 0} (b : Bool) (r : Result A E) (fault : E) (x : A) → (if 
 passed true r fault x e = (refl, e)
 passed false r fault x e = absurd cc
 
-pub length-events_of : (t : TopologyState) (table : Members) (events : List Event) → events_of t table ≡ Ok events → length events ≤ MOST_EVENTS
+pub length-events_of : (t : TopologyState) (table : Members) (events : List Event) → events_of t table ≡ Ok events → length events ≤ EVENTS_MAX
 unfolding events_of
 length-events_of t table events e =
     let values = bind_ok (list_at place.Text (codes "events") table) _ events e in
     let texts = bind_ok (typed place.Text (codes "events") (texts_of values.0)) _ events values.2 in
-    let few = passed (nat_le (length texts.0) MOST_EVENTS) (each_event t 0 texts.0) _ events texts.2 in
+    let few = passed (nat_le (length texts.0) EVENTS_MAX) (each_event t 0 texts.0) _ events texts.2 in
     omega (arith, leb-true _ _ few.0, length-each t 0 texts.0 events few.1)
 
 -- the texts that were given, and the events of them

@@ -22,7 +22,7 @@ use Rattle.topology.specs.declared.server_node.ServerNode.{ServerNode}
 use Rattle.topology.specs.declared.nat_node.NatNode.{NatNode}
 use Rattle.topology.specs.declared.nat_node.TheConstants.{MOST_IDLE}
 use Rattle.topology.specs.declared.client_node.ClientNode.{ClientNode}
-use Rattle.topology.specs.declared.client_node.TheConstants.{LEAST_REFRESH, MOST_REFRESH}
+use Rattle.topology.specs.declared.client_node.TheConstants.{LEAST_REFRESH, MOST_REFRESH, REFRESH_LOW_MS, REFRESH_HIGH_MS}
 use Rattle.topology.specs.declared.relay_node.RelayNode.{RelayNode}
 use Rattle.topology.specs.declared.native_node.NativeNode.{NativeNode}
 use Rattle.topology.specs.NodeNames.{is_name}
@@ -36,7 +36,6 @@ use Rattle.history.specs.Words.{ip4_of, ep_of}
 use Rattle.history.specs.Ip6Words.{ip6_of}
 use Rattle.history.specs.Laws.{WordsAreMade}
 use Rattle.scenario.specs.declared.place.Place.{Place}
-use Rattle.scenario.specs.declared.node_rows.TheConstants.{REFRESH_LOW, REFRESH_HIGH}
 use Rattle.scenario.specs.Keys.{typed, ruled, word_at, name_at, whole_number_at}
 use Rattle.scenario.specs.Fresh.{where_holds, spelled_name, is_free_name, new_name, is_free_address, is_new_address, new_address, other_address, new_endpoint, is_free_six, is_new_six, new_six, is_free_inside, new_inside, kind_of, natural, idle_of, is_refresh, refresh_of}
 use Rattle.scenario.specs.NodeRows.{two_integers, refresh_in, server_of_table, nat_of_table, client_of_table, relay_of_table, native_of_table}
@@ -138,7 +137,7 @@ refresh_within numbers times e =
 
 refresh_is : (place : Place) (value : Option Data) (times : ℕ × ℕ) → refresh_in place value ≡ Ok times → IsRefresh times
 refresh_is place None times e =
-    let default : IsRefresh (REFRESH_LOW, REFRESH_HIGH) = record { least = omega arith; order = omega arith; most = omega arith } in
+    let default : IsRefresh (REFRESH_LOW_MS, REFRESH_HIGH_MS) = record { least = omega arith; order = omega arith; most = omega arith } in
     subst IsRefresh (ok_same _ _ e) default
 refresh_is place (Some value) times e =
     let numbers = bind_ok (typed place (codes "refresh") (option_and_then two_integers (as_array value))) (λ ns. ruled place (codes "refresh") (refresh_of ns)) times e in

@@ -15,7 +15,7 @@ use Rattle.scenario.specs.declared.reader.Scenario.{Scenario as CodeScenario}
 use Rattle.scenario.specs.Answers.{IsReadAs}
 use Rattle.scenario.specs.Told.{told}
 use Rattle.scenario.specs.declared.reader.TheConstants.{TEXT_MOST}
-use Rattle.scenario.specs.declared.event_lists.TheConstants.{MOST_EVENTS}
+use Rattle.history.specs.declared.event.TheConstants.{EVENTS_MAX}
 use Rattle.scenario.specs.declared.scenario_fault.ScenarioFault.{ScenarioFault}
 use Rattle.scenario.specs.declared.scenario_fault.ScenarioFault.TheVariants as fault
 use Rattle.scenario.specs.NodeKinds.{list_key, most_rows, row_keys, scenario_keys}
@@ -149,6 +149,6 @@ unfolding scenario_of
 scenario_of-rules law text s e = let found = there text s (not_refused (nat_lt TEXT_MOST (length text)) (written text) fault.TooLong s e) in nodes_of-keeps law found.table s.topology found.nodes
 
 -- a scenario that was read has few events
-pub few_read : (text : List ℕ) (r : Result CodeScenario ScenarioFault) → IsReadAs told r (written text) → IfOk r (λ s. length s.events ≤ MOST_EVENTS)
+pub few_read : (text : List ℕ) (r : Result CodeScenario ScenarioFault) → IsReadAs told r (written text) → IfOk r (λ s. length s.events ≤ EVENTS_MAX)
 few_read text (Ok s) h = let found = there text (told s) h in length-events_of s.topology found.table s.events found.events
 few_read text (Err e) h = tt

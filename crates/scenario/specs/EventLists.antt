@@ -7,7 +7,7 @@ use Rattle.topology.specs.Rows.{TopologyState}
 use Rattle.history.specs.EventText.{event_of}
 use Rattle.scenario.specs.declared.scenario_fault.ScenarioFault.{ScenarioFault}
 use Rattle.scenario.specs.declared.scenario_fault.ScenarioFault.TheVariants as fault
-use Rattle.scenario.specs.declared.event_lists.TheConstants.{MOST_EVENTS}
+use Rattle.history.specs.declared.event.TheConstants.{EVENTS_MAX}
 use Rattle.scenario.specs.declared.place.Place.TheVariants as place
 use Rattle.scenario.specs.Paths.{key_path}
 use Rattle.scenario.specs.Keys.{typed, list_at}
@@ -32,7 +32,7 @@ each_event t index (text ∷ more) = do
 
 -- the events of texts that aren't too many
 abbrev pub few_events : TopologyState → List (List ℕ) → Result (List Event) ScenarioFault
-few_events t texts = if nat_le (length texts) MOST_EVENTS then each_event t 0 texts else Err (fault.Range (key_path place.Text (codes "events")))
+few_events t texts = if nat_le (length texts) EVENTS_MAX then each_event t 0 texts else Err (fault.Range (key_path place.Text (codes "events")))
 
 -- the events of the list of texts
 unfoldable pub events_of : TopologyState → Members → Result (List Event) ScenarioFault

@@ -10,7 +10,7 @@ use Rattle.topology.specs.declared.native_node.NativeNode.{NativeNode}
 use Rattle.topology.specs.Rows.{TopologyState}
 use Rattle.topology.specs.Named.{is_server, is_nat, is_relay, named}
 use Rattle.scenario.specs.declared.scenario_fault.ScenarioFault.{ScenarioFault}
-use Rattle.scenario.specs.declared.node_rows.TheConstants.{REFRESH_LOW, REFRESH_HIGH}
+use Rattle.topology.specs.declared.client_node.TheConstants.{REFRESH_LOW_MS, REFRESH_HIGH_MS}
 use Rattle.scenario.specs.declared.place.Place.{Place}
 use Rattle.scenario.specs.Keys.{typed, ruled, word_at, name_at, whole_number_at}
 use Rattle.scenario.specs.Fresh.{new_name, new_address, other_address, new_endpoint, new_six, new_inside, kind_of, idle_of, refresh_of}
@@ -45,7 +45,7 @@ given_refresh place value = do
 
 -- the times between refreshes, which may be missing
 abbrev pub refresh_in : Place → Option Data → Result (ℕ × ℕ) ScenarioFault
-refresh_in place None = Ok (REFRESH_LOW, REFRESH_HIGH)
+refresh_in place None = Ok (REFRESH_LOW_MS, REFRESH_HIGH_MS)
 refresh_in place (Some value) = given_refresh place value
 
 -- a client

@@ -12,13 +12,10 @@ ghost use Rattle.scenario.specs.Answers.{IsReadAs};
 use crate::place::Place;
 use crate::row::Row;
 use crate::scenario_fault::ScenarioFault;
-use history::{Event, EventFault, Events, read_event};
+use history::{EVENTS_MAX, Event, EventFault, Events, read_event};
 use std::alloc::Global;
 use toml::Value;
 use topology::Topology;
-
-/// The most events of a scenario.
-pub const MOST_EVENTS: usize = 50_000;
 
 /// The event of the text of this number.
 fn event_at(
@@ -76,7 +73,7 @@ fn few_events(alloc: Global, topology: &Topology, texts: &[Value]) -> Result<Eve
     ensures value { (ts : List (List ℕ)) → texts_of (items_view texts.now) ≡ Some ts → IsReadAs (λ es. es) result (few_events topology.now ts) }
     ensures legal { IfOk result (λ es. AllByRecursion (IsEvent topology.now) es) }
 {
-    if texts.len() > MOST_EVENTS {
+    if texts.len() > EVENTS_MAX {
         return Err(ScenarioFault::Range {
             path: Place::Text.key_path("events"),
         });

@@ -47,9 +47,7 @@ mod scenario_fault;
 #[cfg(test)]
 mod tests;
 
-pub use event_lists::MOST_EVENTS;
 pub use laws::rules_kept;
-pub use node_rows::{REFRESH_HIGH, REFRESH_LOW};
 pub use path::{KEY_SHOWN, PATH_LEN, Path};
 pub use reader::{Scenario, TEXT_MOST, read};
 pub use refusal_line::put_refusal_line;

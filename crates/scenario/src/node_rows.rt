@@ -12,15 +12,9 @@ use crate::row::Row;
 use crate::scenario_fault::ScenarioFault;
 use toml::Value;
 use topology::{
-    ClientNode, NatNode, NativeNode, RelayNode, ServerNode, Topology, nat_named, relay_named,
-    server_named,
+    ClientNode, NatNode, NativeNode, REFRESH_HIGH_MS, REFRESH_LOW_MS, RelayNode, ServerNode,
+    Topology, nat_named, relay_named, server_named,
 };
-
-/// The shortest and the longest time between two refreshes where a client's table gives none, in milliseconds: three
-/// quarters of the 30 s of RFC 4380, section 5.2.5, and these.
-pub const REFRESH_LOW: u32 = 22_500;
-
-pub const REFRESH_HIGH: u32 = 30_000;
 
 /// The server of a table.
 #[tactic(auto, unfolding(crate::specs::NodeRows::server_of_table))]
@@ -87,7 +81,7 @@ fn refresh_in(row: &Row, value: Option<&Value>) -> Result<(u32, u32), ScenarioFa
 {
     match value {
         Some(value) => given_refresh(row, value),
-        None => Ok((REFRESH_LOW, REFRESH_HIGH)),
+        None => Ok((REFRESH_LOW_MS, REFRESH_HIGH_MS)),
     }
 }
 

@@ -8,13 +8,13 @@ ghost use Rattle.scenario.specs.Scenario.{scenario_in, document_of, written, sce
 ghost use Rattle.scenario.specs.Answers.{IsReadAs};
 ghost use Rattle.scenario.specs.Told.{told};
 
-use crate::event_lists::{MOST_EVENTS, events_of};
+use crate::event_lists::events_of;
 use crate::fresh::natural;
 use crate::node_tables::nodes_of;
 use crate::place::Place;
 use crate::row::Row;
 use crate::scenario_fault::ScenarioFault;
-use history::Events;
+use history::{EVENTS_MAX, Events};
 use std::alloc::Global;
 use toml::Table;
 use topology::Topology;
@@ -86,7 +86,7 @@ pub fn read(alloc: Global, bytes: &[u8]) -> Result<Scenario, ScenarioFault>
     ensures read { IfOk result (λ s. scenario_of bytes.now ≡ Ok (told s)) }
     // A refusal is the text's first; want of memory says nothing of the text.
     ensures refused { IfErr result (λ e. e ≢ NoMemory → scenario_of bytes.now ≡ Err e) }
-    ensures few { IfOk result (λ s. length s.events ≤ MOST_EVENTS) }
+    ensures few { IfOk result (λ s. length s.events ≤ EVENTS_MAX) }
     // Its events are such as its nodes can be asked for.
     ensures legal { IfOk result (λ s. AllByRecursion (IsEvent s.topology) s.events) }
 {

@@ -1,47 +1,20 @@
--- How long what is written is, and what a writer that has the room answers.
-use Rattle.std.proofs.Common.{false, ◌≡◌, ◌≤◌, ◌+◌, ◌-◌, ℕ, List, [], ◌∷◌, ◌++◌, length, take, drop, Option, Some, None, Result, Ok, Err, refl, sym, ap, subst, ◌∙◌, arith}
+-- How long what is written is.
+use Rattle.std.proofs.Common.{false, ◌≡◌, ◌≤◌, ◌+◌, ℕ, List, [], ◌∷◌, ◌++◌, length, Option, Some, None, sym, subst, ◌∙◌, arith}
 use Rattle.std.specs.Prelude.{option_map}
-use Rattle.std.specs.Result.{IsOk}
 use Rattle.std.proofs.lemmas.Bool.{ltb-false}
 use Rattle.byteorder.specs.Endian.{big_bytes}
 use Rattle.ipv6_packet.specs.Reads.{is_big}
-use Rattle.std.proofs.lemmas.List.{length-append, length-map, take_at, drop_all, append-nil}
-use Rattle.td_base.specs.Bytes.{Writes}
-use Rattle.td_base.specs.declared.refusals.Room.{Room}
+use Rattle.std.proofs.lemmas.List.{length-append}
 use Rattle.td_base.specs.declared.endpoint.Ep.{Ep}
-use Rattle.teredo_addr.specs.Hidden.{hidden_ep}
 use Rattle.ipv6_packet.specs.Packets.{Fields, packet_bytes}
+use Rattle.ipv6_packet.proofs.PacketLaws.{packet_len}
 use Rattle.indications.specs.Blocks.{AuthBlock, Blocks, spans_of, lead, optional, auth_bytes, origin_bytes, indications_bytes, indications_len, nonce_len}
 use Rattle.indications.specs.declared.blocks.Auth.{Auth}
 use Rattle.indications.specs.declared.blocks.Lead.{Lead}
 use Rattle.indications.specs.Leads.{nonce_of}
+use Rattle.indications.proofs.FoundLaws.{origin_bytes_len}
 use Rattle.bubble.specs.Payloads.{Value, PayloadBytes}
 use Rattle.bubble.specs.Reads.{payload_bytes}
-
--- a writer that has the room is done
-pub has_room : (bytes old new : List ℕ) (r : Result ℕ Room) → Writes bytes old new r → length bytes ≤ length old → IsOk r
-has_room bytes old new (Ok n) w room = refl
-has_room bytes old new (Err e) w room = absurd (omega arith)
-
--- and what is written stands in front
-pub stands_in_front : (bytes old new : List ℕ) (r : Result ℕ Room) (n : ℕ) → r ≡ Ok n → Writes bytes old new r → (n ≡ length bytes) × (take n new ≡ bytes)
-stands_in_front bytes old new r n e w =
-    let done : Writes bytes old new (Ok n) = subst (λ (q : Result ℕ Room). Writes bytes old new q) e w in
-    (done.0, ap (take n) done.2 ∙ take_at bytes (drop n old) n (sym done.0))
-
--- and is all of a buffer of its length
-pub fills : (bytes old new : List ℕ) (r : Result ℕ Room) (n : ℕ) → r ≡ Ok n → Writes bytes old new r → length old ≡ length bytes → new ≡ bytes
-fills bytes old new r n e w same =
-    let done : Writes bytes old new (Ok n) = subst (λ (q : Result ℕ Room). Writes bytes old new q) e w in
-    done.2 ∙ ap (λ (t : List ℕ). bytes ++ t) (drop_all n old (omega (arith, done.0))) ∙ append-nil bytes
-
-origin_bytes_len : (ep : Ep) → length ep.ip.0 ≡ 4 → length (origin_bytes ep) ≡ 8
-unfolding hidden_ep
-origin_bytes_len ep four = omega (arith, length-map ep.ip.0 (λ b. 255 - b), four)
-
-packet_len : (p : Fields) → length p.src.0 ≡ 16 → length p.dst.0 ≡ 16 → length (packet_bytes p) ≡ 40 + length p.body
-unfolding packet_bytes
-packet_len p src dst = omega (arith, src, dst, length-append p.src.0 p.dst.0, length-append (p.src.0 ++ p.dst.0) p.body)
 
 pub indications_bytes_len : (nonce : Option ℕ) (ep : Ep) → length ep.ip.0 ≡ 4 → length (indications_bytes nonce (Some ep)) ≡ indications_len nonce (Some ep)
 indications_bytes_len None ep four = origin_bytes_len ep four

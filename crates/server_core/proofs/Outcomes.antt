@@ -10,7 +10,7 @@ use Rattle.server_core.specs.Rules.{seen, datagram_lines, packet_lines, destinat
 use Rattle.server_core.specs.Bounds.{outcomes}
 use Rattle.server_core.specs.Laws.{OneOutcome}
 use Rattle.server_core.specs.Server.{step_of, by_payload, server_row}
-use Rattle.server_core.proofs.RowFates.{first_of_each}
+use Rattle.teredo_node.proofs.FirstLines.{first_of_each}
 
 one_of_payload : (s : ServerSettings) (side : Side) (from : Ep) (x : List ℕ) (v : Value) → outcomes (step_of s side from x v (rule_of s from v)) ≡ 1
 unfolding rule_of

@@ -8,25 +8,12 @@ use Rattle.td_base.specs.declared.side.Side.{Side}
 use Rattle.bubble.specs.Payloads.{Value, payload_at}
 use Rattle.bubble.specs.declared.fault.PayloadFault.{PayloadFault}
 use Rattle.teredo_node.specs.declared.fate.Fate.{Fate}
-use Rattle.teredo_node.specs.Rows.{first_line}
+use Rattle.teredo_node.proofs.FirstLines.{first_of_each}
 use Rattle.server_core.specs.declared.server.ServerSettings.{ServerSettings}
 use Rattle.server_core.specs.declared.rules.Rule.{Rule}
 use Rattle.server_core.specs.Rules.{seen, datagram_lines, packet_lines, destination_lines, last_line, rule_of}
 use Rattle.server_core.specs.Laws.{FateOfRow, row_fates}
 use Rattle.server_core.specs.Server.{step_of, by_payload, server_row}
-
--- each outcome of a table
-abbrev pub Each : (Rule → Type 0) → List (Bool × Rule) → Type 0
-Each Q [] = Unit {0}
-Each Q (line ∷ lines) = Q line.1 × Each Q lines
-
-either : (Q : Rule → Type 0) (b : Bool) (x y : Rule) → Q x → Q y → Q (if b then x else y)
-either Q true x y p q = p
-either Q false x y p q = q
-
-pub first_of_each : (Q : Rule → Type 0) (lines : List (Bool × Rule)) (last : Rule) → Each Q lines → Q last → Q (first_line lines last)
-first_of_each Q [] last p q = q
-first_of_each Q (line ∷ lines) last p q = either Q line.0 line.1 (first_line lines last) p.0 (first_of_each Q lines last p.1 q)
 
 fate_of_payload : (P : Fate → Type 0) → AllByRecursion P row_fates → (s : ServerSettings) (side : Side) (from : Ep) (x : List ℕ) (v : Value) → P (step_of s side from x v (rule_of s from v)).fate
 unfolding rule_of

@@ -6,6 +6,8 @@ pub mod Halting
 pub mod Ip4Lemmas
 pub mod Ip6Lemmas
 pub mod NumberLemmas
+pub mod OrderLemmas
 pub mod ResultLaws
 pub mod SpellingLemmas
 pub mod WholeLemmas
+pub mod WriteLemmas

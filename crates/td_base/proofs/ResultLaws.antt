@@ -1,5 +1,6 @@
 -- What an answer that came by tests and steps tells of them.
 use Rattle.std.proofs.Common.{◌≡◌, true, false, Bool, cond, ◌⊎◌, inl, inr, Result, Ok, Err, refl}
+use Rattle.std.specs.Prelude.{OnOk, OnErr}
 use Rattle.td_base.specs.Results.{◌>>=◌}
 
 -- a test that did not fail
@@ -21,3 +22,13 @@ bind_ok (Err d) f y e = absurd cc
 pub chosen : {X : Type 0} (b : Bool) (x y z : X) → cond b x y ≡ z → ((b ≡ true) × (x ≡ z)) ⊎ ((b ≡ false) × (y ≡ z))
 chosen true x y z e = inl (refl, e)
 chosen false x y z e = inr (refl, e)
+
+-- what holds of a value, from two facts of it
+pub on_ok_both : {T E P Q R : Type 0} (r : Result T E) → (P → Q → R) → OnOk r P → OnOk r Q → OnOk r R
+on_ok_both (Ok v) f p q = f p q
+on_ok_both (Err e) f p q = tt
+
+-- what holds of a refusal where it holds of every answer
+pub on_err_always : {T E Q : Type 0} (r : Result T E) → Q → OnErr r Q
+on_err_always (Ok v) q = tt
+on_err_always (Err e) q = q

@@ -76,8 +76,11 @@ impl Ord for Ip6 {
 
     ghost matches_eq = { cmp_ip6_ties };
 
-    #[tactic(auto, unfolding(crate::specs::Ip6::cmp_ip6))]
+    /// As numbers, half by half: byte by byte was measured to be slow.
+    #[inline(always)]
     fn cmp(&self, other: &Ip6) -> Ordering {
-        self.0.cmp(&other.0)
+        let (first, last) = halves(&self.0);
+        let (other_first, other_last) = halves(&other.0);
+        first.cmp(&other_first).then(last.cmp(&other_last))
     }
 }

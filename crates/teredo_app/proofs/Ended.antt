@@ -113,7 +113,8 @@ module _ (i : AtSource) (o : AtSink) (file : List ℕ) (opened : Gains i.opening
     starved = λ e. absurd (omega arith);
     full = λ e. absurd (omega arith);
   })
-  report_ends result s reads quiet (report_starved is same begun) = subst (λ (n : ℕ). LabEnds i o file n) (sym is) (record {
+  report_ends result s reads quiet (report_starved is same (inl nothing)) = subst (λ (n : ℕ). LabEnds i o file n) (sym is) (starved_ends quiet same nothing)
+  report_ends result s reads quiet (report_starved is same (inr lines)) = subst (λ (n : ℕ). LabEnds i o file n) (sym is) (record {
     statuses = (4, lit< tt, refl);
     opened = opened;
     taken = taken;
@@ -121,6 +122,6 @@ module _ (i : AtSource) (o : AtSink) (file : List ℕ) (opened : Gains i.opening
     refused = λ e. absurd (omega arith);
     unread = λ e. absurd (omega arith);
     unwritten = λ e. absurd (omega arith);
-    starved = λ _. (record { source = quiet; sink = same }, inr (s, reads, begun));
+    starved = λ _. (record { source = quiet; sink = same }, inr (s, reads, lines));
     full = λ e. absurd (omega arith);
   })

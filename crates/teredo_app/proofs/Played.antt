@@ -26,13 +26,13 @@ use Rattle.legal.specs.Laws.{EachIsOfItsEvent}
 use Rattle.world.specs.declared.wire.TheConstants.{MOST_ENTRIES}
 use Rattle.world.specs.declared.world.TheConstants.{MOST_MOMENT}
 use Rattle.legal.specs.declared.left.TheConstants.{MOST_LEFT}
-use Rattle.world.specs.World.{WorldState, StandsFor, Steps, Falls, IsAgain, EndsInTime, StopsFor, going_after, record_in, is_more}
+use Rattle.world.specs.World.{WorldState, StandsFor, Steps, Falls, IsAgain, EndsInTime, StopsFor, NeedsMemory, going_after, record_in, is_more, left_in}
 use Rattle.report.specs.declared.totals.Sums.{Sums}
 use Rattle.report.specs.Lines.{record_line, record_lines}
 use Rattle.report.specs.Totals.{sums_of, totals_line, IsSmall}
 use Rattle.teredo_app.specs.Outside.{SinkTold}
 use Rattle.teredo_app.specs.SinkLines.{WritesLines, BeginsLines}
-use Rattle.teredo_app.specs.ScenarioReport.{WritesReport, BeginsReport, some_lines, all_lines}
+use Rattle.teredo_app.specs.ScenarioReport.{WritesReport, WritesStarved, BeginsReport, some_lines, all_lines}
 use Rattle.teredo_app.specs.Endings.{EndsFull, SumsUp, Overfills}
 use Rattle.teredo_app.proofs.Written.{none_written, WritesLines-then, BeginsLines-then, BeginsLines-whole}
 
@@ -49,7 +49,7 @@ pub record Played (s : Scenario) (before after : SinkTold) (w : WorldState) (sum
   pub open_still : w.stopped ≡ None
   pub began : w.began ≤ count * MOST_ADVANCE
   -- each record that has further ones leaves less
-  pub left : length history + w.left ≤ count * (MOST_LEFT + 1) + MOST_LEFT
+  pub left : length history + left_in w ≤ count * (MOST_LEFT + 1) + MOST_LEFT
   pub stands : StandsFor (draws s.seed) w history
   pub begun : Begun (draws s.seed) s history
   pub entries : length w.wire ≤ MOST_ENTRIES
@@ -64,7 +64,7 @@ nothing_played s a w t going stands = record {
   topology = t;
   open_still = going;
   began = let at : w.began ≡ 0 = stands.began in omega (arith, at);
-  left = let most : w.left ≤ MOST_LEFT = stands.most in omega (arith, most);
+  left = let most : left_in w ≤ MOST_LEFT = stands.most in omega (arith, most);
   stands = stands;
   begun = tt;
   entries = let none : length w.wire ≡ 0 = ap length stands.wire in omega (arith, none);
@@ -180,7 +180,7 @@ is_free : (e : Event) (turn : Turn) → is_more turn ≡ false → going_after e
 is_free e (More r) is = absurd (false≢true (sym is))
 is_free e (Last r) is = refl
 
-pub falls_by : (w w' : WorldState) (turn : Turn) → is_more turn ≡ true → Falls w w' turn → w'.left < w.left
+pub falls_by : (w w' : WorldState) (turn : Turn) → is_more turn ≡ true → Falls w w' turn → left_in w' < left_in w
 falls_by w w' (More r) is fell = fell
 falls_by w w' (Last r) is fell = absurd (false≢true is)
 
@@ -203,7 +203,7 @@ goes_on law s a b c t sums is-more line adds =
           let old : t.w.began ≡ began p.history = p.stands.began in
           let new : w'.began ≡ began p.history = one.stands.began ∙ rw more refl in
           omega (arith, old, new, p.began);
-      left = let fell : w'.left < t.w.left = falls_by t.w w' t.turn is-more t.falls in omega (arith, fell, p.left);
+      left = let fell : left_in w' < left_in t.w = falls_by t.w w' t.turn is-more t.falls in omega (arith, fell, p.left);
       stands = one.stands;
       begun = begun_on s a b t;
       entries = t.entries;
@@ -233,7 +233,7 @@ event_ends law s a b c t sums is-last line adds =
           let time : w'.moment ≤ t.w.began + MOST_ADVANCE = t.time in
           omega (arith, at, now, most, time, p.began);
       left =
-          let whole : w'.left ≤ MOST_LEFT = one.stands.most in
+          let whole : left_in w' ≤ MOST_LEFT = one.stands.most in
           omega (arith, whole, p.left);
       stands = one.stands;
       begun = begun_on s a b t;
@@ -269,6 +269,21 @@ wire_filled s a b w sums i e p is stops =
             let over : MOST_ENTRIES < length w.wire + length (items_of r) = subst (λ (z : TopologyState). MOST_ENTRIES < length w.wire + length (items_of (next_of d z H i e))) p.topology (stops d H p.stands) in
             let old : length w.wire ≡ length (wire H) = ap length p.stands.wire in
             omega (arith, over, old, length-append (wire H) (items_of r));
+      };
+      lines = p.written;
+    }
+
+-- memory ran out for the next record
+pub starves : (s : Scenario) (a b : SinkTold) (w : WorldState) (sums : Sums) (i : ℕ) (e : Event) → Played s a b w sums i (λ going. IsAgain going e) → slice_get s.events i ≡ Some e → StopsFor w i e NoMemory → WritesStarved s a b
+starves s a b w sums i e p is stops =
+    let d : Draws = draws s.seed in
+    record {
+      history = p.history;
+      starves = record {
+        begun = p.begun;
+        last = next_of d s.topology p.history i e;
+        next = next_is s p.history i e p.place is;
+        needs = subst (λ (z : TopologyState). NeedsMemory (next_of d z p.history i e)) p.topology (stops d p.history p.stands);
       };
       lines = p.written;
     }

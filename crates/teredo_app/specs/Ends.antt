@@ -16,7 +16,7 @@ use Rattle.teredo_app.specs.declared.source_text.TheConstants.{TEXT_READ_MAX}
 use Rattle.teredo_app.specs.Outside.{AtSource, AtSink, Network, NoFault}
 use Rattle.teredo_app.specs.SourceText.{TakesAtMost}
 use Rattle.teredo_app.specs.SinkLines.{WritesLines, BeginsLines, WritesNothing}
-use Rattle.teredo_app.specs.ScenarioReport.{FillsWire, WritesReport, WritesFull, BeginsReport, wire_full}
+use Rattle.teredo_app.specs.ScenarioReport.{FillsWire, WritesReport, WritesFull, WritesStarved, BeginsReport, wire_full}
 use Rattle.teredo_app.specs.Session.{ServeEnds}
 use Rattle.teredo_app.specs.Command.{Request, lab, serve, show, gen}
 use Rattle.teredo_app.specs.declared.gen_words.GenWords.{GenWords}
@@ -53,9 +53,10 @@ pub record LabEnds (i : AtSource) (o : AtSink) (file : List ℕ) (status : ℕ) 
   pub unread : status ≡ UNREADABLE → Rose i.faults.0 i.faults.1 × WritesNothing o.told.0 o.told.1
   -- the sink failed, and a front was written of what was to be written
   pub unwritten : status ≡ UNWRITABLE → Rose o.faults.0 o.faults.1 × LabBegins i o file
-  -- memory ran out, nothing failed, and nothing was written or a front of the report
+  -- memory ran out, nothing failed, and nothing was written; or it ran out for a record that may want some, and the
+  -- lines of those before it were written, whole, and nothing else
   pub starved : status ≡ NO_MEMORY → NoFault i o
-      × (WritesNothing o.told.0 o.told.1 ⊎ ((s : Scenario) × Reads i file (Ok s) × BeginsReport s o.told.0 o.told.1))
+      × (WritesNothing o.told.0 o.told.1 ⊎ ((s : Scenario) × Reads i file (Ok s) × WritesStarved s o.told.0 o.told.1))
   -- the next record would make too long a wire; the lines of those before it were written, and the line that says so
   pub full : status ≡ WIRE_FULL → (s : Scenario) × Reads i file (Ok s) × WritesFull s o.told.0 o.told.1
 

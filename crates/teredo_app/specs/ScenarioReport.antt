@@ -5,6 +5,7 @@ use Rattle.history.specs.Full.{Full, wire}
 use Rattle.world.specs.declared.wire.TheConstants.{MOST_ENTRIES}
 use Rattle.legal.specs.Next.{next}
 use Rattle.legal.specs.Legal.{Begun, Legal, draws}
+use Rattle.world.specs.World.{NeedsMemory}
 use Rattle.report.specs.Lines.{record_lines}
 use Rattle.report.specs.Totals.{report_lines}
 use Rattle.teredo_app.specs.Outside.{SinkTold}
@@ -36,6 +37,19 @@ pub record WritesFull (s : Scenario) (old new : SinkTold) : Type 0 where
   pub history : List Full
   pub fills : FillsWire s history
   pub lines : WritesLines old new (full_lines s history)
+
+-- The next record of the scenario may want memory: it has a mark, or a packet waits or a peer is trusted in it.
+pub record MayStarve (s : Scenario) (history : List Full) : Type 0 where
+  pub begun : Begun (draws s.seed) s history
+  pub last : Full
+  pub next : next (draws s.seed) s history ≡ Some last
+  pub needs : NeedsMemory last
+
+-- The lines of all records before that one were written, whole, and nothing else.
+pub record WritesStarved (s : Scenario) (old new : SinkTold) : Type 0 where
+  pub history : List Full
+  pub starves : MayStarve s history
+  pub lines : WritesLines old new (record_lines s.topology history)
 
 -- A front was written: of the lines of the first records, of the whole report, or of the report that ends with a full wire.
 pub data BeginsReport (s : Scenario) (old new : SinkTold) : Type 0 where

@@ -1,10 +1,10 @@
 //! The words `gen SEED COUNT`.
 ghost use Rattle.std.specs.Prelude.{◌≡◌, ◌≤◌, ℕ, [], ◌∷◌, Some, codes, decimal, IfSome};
-ghost use Rattle.generator.specs.declared.generated.TheConstants.{EVENTS_MAX};
+ghost use Rattle.history.specs.declared.event.TheConstants.{EVENTS_MAX};
 ghost use Rattle.teredo_app.specs.declared.gen_words.TheConstants.{SEED_MAX};
 ghost use Rattle.teredo_app.specs.GenWords.{AsksToGenerate};
 
-use generator::EVENTS_MAX;
+use history::EVENTS_MAX;
 use td_base::read_number;
 
 /// The largest seed, as that of a scenario's text.
@@ -30,7 +30,7 @@ fn count_word(word: &str) -> Option<u64>
     ensures found { IfSome result (λ count. (count ≤ EVENTS_MAX) × (word.now ≡ decimal count)) }
     ensures only { (count : ℕ) → count ≤ EVENTS_MAX → word.now ≡ decimal count → result ≡ Some count }
 {
-    read_number(word.as_bytes(), u64::from(EVENTS_MAX)).ok()
+    read_number(word.as_bytes(), EVENTS_MAX as u64).ok()
 }
 
 /// What the words behind `gen` ask for.

@@ -5,13 +5,13 @@ ghost use Rattle.history.specs.Events.{IsEvent};
 ghost use Rattle.scenario.specs.Told.{told};
 ghost use Rattle.generator.specs.Generated.{generated};
 ghost use Rattle.teredo_app.specs.Endings.{SumsUp, Overfills};
-ghost use Rattle.generator.specs.declared.generated.TheConstants.{EVENTS_MAX};
+ghost use Rattle.history.specs.declared.event.TheConstants.{EVENTS_MAX};
 
 use crate::scenario_report::{is_more, record_in};
-use generator::{EVENTS_MAX, Generated, generate};
-use history::Stop;
+use generator::{Generated, generate};
+use history::{EVENTS_MAX, Stop};
 use report::Sums;
-use scenario::{MOST_EVENTS, Scenario};
+use scenario::Scenario;
 use std::alloc::Global;
 use td_base::NoMemory;
 use world::World;
@@ -20,7 +20,7 @@ use world::World;
 pub fn generated_scenario(alloc: Global, seed: u64, count: u32) -> Result<Scenario, NoMemory>
     requires { count ≤ EVENTS_MAX }
     ensures value { IfOk result (λ s. told s ≡ generated seed count) }
-    ensures few { IfOk result (λ s. length s.events ≤ MOST_EVENTS) }
+    ensures few { IfOk result (λ s. length s.events ≤ EVENTS_MAX) }
     ensures legal { IfOk result (λ s. AllByRecursion (IsEvent s.topology) s.events) }
 {
     let Generated { topology, events } = generate(alloc, seed, count)?;
@@ -33,7 +33,7 @@ pub fn generated_scenario(alloc: Global, seed: u64, count: u32) -> Result<Scenar
 
 /// Plays the scenario, and sums up over its records.
 pub fn sums_of(alloc: Global, s: &Scenario) -> Result<Sums, Stop>
-    requires few { length s.now.events ≤ MOST_EVENTS }
+    requires few { length s.now.events ≤ EVENTS_MAX }
     requires legal { AllByRecursion (IsEvent s.now.topology) s.now.events }
     ensures ok { IfOk result (λ sums. SumsUp (told s.now) sums) }
     ensures full { IsErrOf result Stop.WireFull → Overfills (told s.now) }

@@ -7,7 +7,7 @@ ghost use Rattle.teredo_app.specs.Command.{Request, IsCommand};
 ghost use Rattle.teredo_app.specs.Ends.{LabEnds, ShowEnds, GenEnds, RunEnds};
 ghost use Rattle.teredo_app.specs.Session.{ServeEnds};
 ghost use Rattle.teredo_app.specs.Endings.{ReportEnds};
-ghost use Rattle.generator.specs.declared.generated.TheConstants.{EVENTS_MAX};
+ghost use Rattle.history.specs.declared.event.TheConstants.{EVENTS_MAX};
 
 use crate::command::{Command, command_of};
 use crate::gen_words::GenWords;
@@ -22,10 +22,9 @@ use crate::statuses::{
     BAD_PAYLOAD, BAD_SCENARIO, BAD_WORDS, DONE, NO_LINK, NO_MEMORY, UNREADABLE, UNWRITABLE,
     WIRE_FULL,
 };
-use generator::EVENTS_MAX;
-use history::Stop;
+use history::{EVENTS_MAX, Stop};
 use report::summary;
-use scenario::{MOST_EVENTS, Scenario, ScenarioFault, put_refusal_line, read};
+use scenario::{Scenario, ScenarioFault, put_refusal_line, read};
 use show::{Page, explain};
 use std::alloc::Global;
 use td_base::LineBuf;
@@ -34,7 +33,7 @@ use teredo_node::TURNS_MAX;
 
 /// Writes the report of a scenario, and answers the status.
 fn report_on<K: Sink>(alloc: Global, s: &Scenario, out: &mut K) -> u8
-    requires few { length s.now.events ≤ MOST_EVENTS }
+    requires few { length s.now.events ≤ EVENTS_MAX }
     requires legal { AllByRecursion (IsEvent s.now.topology) s.now.events }
     ensures { ReportEnds (record {
       told = (record { held = K.holds out.old; pieces = K.pieces out.old }, record { held = K.holds out.new; pieces = K.pieces out.new });

@@ -9,12 +9,12 @@ ghost use Rattle.scenario.specs.Told.{told};
 ghost use Rattle.world.specs.World.{record_in, is_more};
 ghost use Rattle.teredo_app.specs.SinkLines.{WritesLines, BeginsLines};
 ghost use Rattle.teredo_app.specs.ScenarioReport.{WritesReport, BeginsReport};
-ghost use Rattle.teredo_app.specs.Endings.{EndsFull};
+ghost use Rattle.teredo_app.specs.Endings.{EndsFull, EndsStarved};
 
 use crate::sink_lines::write_line;
-use history::{Record, Stop, Topology, Turn};
+use history::{EVENTS_MAX, Record, Stop, Topology, Turn};
 use report::{Sums, line, summary};
-use scenario::{MOST_EVENTS, Scenario};
+use scenario::Scenario;
 use std::alloc::Global;
 use td_base::LineBuf;
 use td_outside::{Failed, Sink};
@@ -24,6 +24,7 @@ use world::World;
 #[derive(Clone, Copy, Debug, PartialEq, Eq)]
 pub enum ReportFault {
     Failed,
+    /// Memory ran out before the first record, or for the next one. The lines before it are written.
     NoMemory,
     /// The next record would make more entries of the wire than it holds. The lines before it are written.
     WireFull,
@@ -77,11 +78,12 @@ pub fn is_more(turn: &Turn) -> bool
 
 /// Plays the scenario, and writes its report, each line as soon as its record is made.
 pub fn write_report<K: Sink>(alloc: Global, s: &Scenario, out: &mut K) -> Result<(), ReportFault>
-    requires few { length s.now.events ≤ MOST_EVENTS }
+    requires few { length s.now.events ≤ EVENTS_MAX }
     requires legal { AllByRecursion (IsEvent s.now.topology) s.now.events }
     ensures ok { OnOk result (WritesReport (told s.now) (record { held = K.holds out.old; pieces = K.pieces out.old }) (record { held = K.holds out.new; pieces = K.pieces out.new })) }
     ensures err { OnErr result (BeginsReport (told s.now) (record { held = K.holds out.old; pieces = K.pieces out.old }) (record { held = K.holds out.new; pieces = K.pieces out.new })) }
     ensures full { IsErrOf result ReportFault.WireFull → EndsFull (told s.now) (record { held = K.holds out.old; pieces = K.pieces out.old }) (record { held = K.holds out.new; pieces = K.pieces out.new }) }
+    ensures wanting { IsErrOf result ReportFault.NoMemory → EndsStarved (told s.now) (record { held = K.holds out.old; pieces = K.pieces out.old }) (record { held = K.holds out.new; pieces = K.pieces out.new }) }
     ensures quiet { OnOk result (K.faults out.new ≡ K.faults out.old) }
     ensures filled { IsErrOf result ReportFault.WireFull → K.faults out.new ≡ K.faults out.old }
     ensures starved { IsErrOf result ReportFault.NoMemory → K.faults out.new ≡ K.faults out.old }

@@ -32,7 +32,7 @@ mod relay_node;
 mod server_node;
 mod topology;
 
-pub use client_node::{ClientNode, LEAST_REFRESH, MOST_REFRESH};
+pub use client_node::{ClientNode, LEAST_REFRESH, MOST_REFRESH, REFRESH_HIGH_MS, REFRESH_LOW_MS};
 pub use names::{client_named, host_named, nat_named, node_named, relay_named, server_named};
 pub use nat_node::{MOST_IDLE, NatNode};
 pub use native_node::NativeNode;

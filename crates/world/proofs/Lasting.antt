@@ -53,7 +53,7 @@ turned_last t m None nodes wire stopped new e word single again is = record {
   topology = ap (λ (w : WorldState). w.topology) is;
   stopped = ap (λ (w : WorldState). w.stopped) is;
   going = ap (λ (w : WorldState). w.going) is;
-  goes = (ap (λ (w : WorldState). w.began) is ∙ sym (ap (λ (w : WorldState). w.moment) is), ap (λ (w : WorldState). w.left) is);
+  goes = ap (λ (w : WorldState). w.began) is ∙ sym (ap (λ (w : WorldState). w.moment) is);
 }
 turned_last t m (Some g) nodes wire stopped new e word single again is = absurd (false≢true (sym single ∙ ap is_advance again))
 

@@ -13,5 +13,6 @@ mod Starts
 mod Hands
 mod Opened
 mod Lasting
+mod Left
 mod Stepped
 mod Ticking

@@ -1,5 +1,5 @@
 -- What one step does to the histories that a world stands for.
-use Rattle.std.proofs.Common.{◌≡◌, ◌≤◌, ℕ, Bool, List, [], ◌∷◌, ◌++◌, Option, Some, None, Ok, refl, sym, ap, subst, ◌∙◌, arith}
+use Rattle.std.proofs.Common.{◌≡◌, ◌≤◌, ◌<◌, ℕ, Bool, List, [], ◌∷◌, ◌++◌, Option, Some, None, Ok, refl, sym, ap, subst, ◌∙◌, arith}
 use Rattle.std.specs.Prelude.{◌||◌}
 use Rattle.history.specs.declared.event.Event.{Event}
 use Rattle.history.specs.Events.{IsEvent}
@@ -14,9 +14,11 @@ use Rattle.legal.specs.Past.{Draws, began, going, has_more, is_number}
 use Rattle.legal.specs.Next.{next_of}
 use Rattle.legal.specs.Legal.{GoesOn, Follows, Grown}
 use Rattle.legal.specs.Laws.{EachIsOfItsEvent, EachIsTold, EachFalls}
-use Rattle.lab_nodes.specs.NodeState.{NodesOf}
-use Rattle.world.specs.World.{WorldState, StandsFor, IsAgain, Steps, Falls, going_after, is_more}
+use Rattle.lab_nodes.specs.NodeState.{NodesOf, AreReady}
+use Rattle.lab_nodes.specs.Moments.{EachSumIsOfThePast}
+use Rattle.world.specs.World.{WorldState, StandsFor, IsAgain, Steps, Falls, going_after, is_more, left_in}
 use Rattle.world.specs.Playing.{Comes, PlaysTurn, GoesFrom, Turned}
+use Rattle.world.proofs.Left.{left_is}
 
 -- an event that comes again where it goes on is the one that goes on
 goes_from : (d : Draws) (w : WorldState) (H : List Full) (e : Event) → StandsFor d w H → IsAgain w.going e → GoesOn H e
@@ -33,42 +35,45 @@ pub record IsNext (d : Draws) (old : WorldState) (H : List Full) (e : Event) (tu
   pub asked : r.asked ≡ e
   pub more : has_more r.asked r.act ≡ is_more turn
 
--- when the event of the next record began, and what goes on and is left of it
+-- when the event of the next record began, and what goes on
 began_on : (d : Draws) (old new : WorldState) (H : List Full) (e : Event) (turn : Turn) (r : Full) → IsNext d old H e turn r → new.moment ≡ r.moment → GoesFrom old new turn → new.began ≡ began (r ∷ H)
-began_on d old new H e (More said) r next at goes = goes.0 ∙ next.stands.began ∙ rw (next.more) refl
-began_on d old new H e (Last said) r next at goes = goes.0 ∙ at ∙ rw (next.more) refl
+began_on d old new H e (More said) r next at goes = goes ∙ next.stands.began ∙ rw (next.more) refl
+began_on d old new H e (Last said) r next at goes = goes ∙ at ∙ rw (next.more) refl
 
 going_on : (d : Draws) (old : WorldState) (H : List Full) (e : Event) (turn : Turn) (r : Full) → IsNext d old H e turn r → going_after e turn ≡ going (r ∷ H)
 going_on d old H e (More said) r next = rw (next.more, next.asked) refl
 going_on d old H e (Last said) r next = rw (next.more) refl
 
-left_on : EachFalls → (d : Draws) (old new : WorldState) (H : List Full) (e : Event) (turn : Turn) (r : Full) → IsNext d old H e turn r → GoesFrom old new turn → left old.topology (r ∷ H) ≤ new.left
-left_on falls d old new H e (More said) r next goes =
+-- what is left of it is never more than may be left
+most_on : EachFalls → (d : Draws) (old : WorldState) (H : List Full) (e : Event) (turn : Turn) (r : Full) → IsNext d old H e turn r → left old.topology (r ∷ H) ≤ MOST_LEFT
+most_on falls d old H e (More said) r next =
     let fell = falls d old.topology H r next.rules next.stands.grown next.follows next.more in
-    let enough = next.stands.left in
-    let one = goes.1 in
-    omega (arith, fell, enough, one)
-left_on falls d old new H e (Last said) r next goes =
+    let before = next.stands.left in
+    let most = next.stands.most in
+    omega (arith, fell, before, most)
+most_on falls d old H e (Last said) r next =
     let all : left old.topology (r ∷ H) ≡ MOST_LEFT = rw (next.more) refl in
-    let these = goes.1 in
-    omega (arith, all, these)
+    omega (arith, all)
 
-most_on : (d : Draws) (old new : WorldState) (H : List Full) (turn : Turn) → StandsFor d old H → GoesFrom old new turn → new.left ≤ MOST_LEFT
-most_on d old new H (More said) s goes = let one = goes.1 in let most = s.most in omega (arith, one, most)
-most_on d old new H (Last said) s goes = let these = goes.1 in omega (arith, these)
-
-stands : EachFalls → (d : Draws) (old new : WorldState) (H : List Full) (e : Event) (turn : Turn) (r : Full) → IsNext d old H e turn r → Turned old new e turn → Comes d old new H r → StandsFor d new (r ∷ H)
-stands falls d old new H e turn r next turned comes = record {
-  grown = subst (λ (x : TopologyState). Grown d x (r ∷ H)) (sym turned.topology) (next.follows, next.stands.grown);
-  moment = comes.moment;
-  began = began_on d old new H e turn r next comes.moment turned.goes;
-  going = turned.going ∙ going_on d old H e turn r next;
-  nodes = subst (λ (x : TopologyState). NodesOf d x new.nodes (r ∷ H)) (sym turned.topology) comes.nodes;
-  wire = comes.wire ∙ ap (λ xs. xs ++ items_of r) next.stands.wire;
-  done = λ k. comes.done k ∙ ap (λ (b : Bool). is_number k r.delivered || b) (next.stands.done k);
-  left = subst (λ (x : TopologyState). left x (r ∷ H) ≤ new.left) (sym turned.topology) (left_on falls d old new H e turn r next turned.goes);
-  most = most_on d old new H turn next.stands turned.goes;
-}
+stands : EachFalls → EachSumIsOfThePast → (d : Draws) (old new : WorldState) (H : List Full) (e : Event) (turn : Turn) (r : Full) → IsNext d old H e turn r → Turned old new e turn → AreReady new.moment new.nodes
+    → Comes d old new H r → StandsFor d new (r ∷ H)
+stands falls sums d old new H e turn r next turned ready comes =
+    let start = began_on d old new H e turn r next comes.moment turned.goes in
+    let goes = turned.going ∙ going_on d old H e turn r next in
+    let nodes = subst (λ (x : TopologyState). NodesOf d x new.nodes (r ∷ H)) (sym turned.topology) comes.nodes in
+    let same : left new.topology (r ∷ H) ≡ left_in new = left_is sums d new (r ∷ H) (record { moment = comes.moment; began = start; going = goes; nodes = nodes; ready = ready }) in
+    let most : left new.topology (r ∷ H) ≤ MOST_LEFT = subst (λ (x : TopologyState). left x (r ∷ H) ≤ MOST_LEFT) (sym turned.topology) (most_on falls d old H e turn r next) in
+    record {
+      grown = subst (λ (x : TopologyState). Grown d x (r ∷ H)) (sym turned.topology) (next.follows, next.stands.grown);
+      moment = comes.moment;
+      began = start;
+      going = goes;
+      nodes = nodes;
+      wire = comes.wire ∙ ap (λ xs. xs ++ items_of r) next.stands.wire;
+      done = λ k. comes.done k ∙ ap (λ (b : Bool). is_number k r.delivered || b) (next.stands.done k);
+      left = same;
+      most = omega (arith, same, most);
+    }
 
 -- what a world is asked
 pub record IsAsked (old : WorldState) (e : Event) : Type 0 where
@@ -82,6 +87,7 @@ pub record Laws : Type 0 where
   pub of_event : EachIsOfItsEvent
   pub told : EachIsTold
   pub falls : EachFalls
+  pub sums : EachSumIsOfThePast
 
 -- the record of an event that may be asked for follows
 pub follows : EachIsOfItsEvent → (d : Draws) (old : WorldState) (H : List Full) (i : ℕ) (e : Event) → IsEvent old.topology e → IsAgain old.going e → StandsFor d old H → Follows d old.topology H (next_of d old.topology H i e)
@@ -105,18 +111,35 @@ is_next laws d old new H i e turn asked s plays =
       more = plays.1;
     }
 
-pub steps : Laws → (old new : WorldState) (i : ℕ) (e : Event) (turn : Turn) → IsAsked old e → Turned old new e turn
-    → ((d : Draws) (H : List Full) → StandsFor d old H → PlaysTurn d old new H (next_of d old.topology H i e) (Ok turn)) → Steps old new i e turn
-steps laws old new i e turn asked turned plays = record {
+-- what a turn does for each history that the world stood for
+abbrev pub PlaysAll : WorldState → WorldState → ℕ → Event → Turn → Type 0
+PlaysAll old new i e turn = (d : Draws) (H : List Full) → StandsFor d old H → PlaysTurn d old new H (next_of d old.topology H i e) (Ok turn)
+
+stands_on : Laws → (d : Draws) (old new : WorldState) (H : List Full) (i : ℕ) (e : Event) (turn : Turn) → IsAsked old e → Turned old new e turn → AreReady new.moment new.nodes
+    → StandsFor d old H → PlaysTurn d old new H (next_of d old.topology H i e) (Ok turn) → StandsFor d new (next_of d old.topology H i e ∷ H)
+stands_on laws d old new H i e turn asked turned ready s plays =
+    stands laws.falls laws.sums d old new H e turn (next_of d old.topology H i e) (is_next laws d old new H i e turn asked s plays) turned ready plays.2
+
+pub steps : Laws → (old new : WorldState) (i : ℕ) (e : Event) (turn : Turn) → IsAsked old e → Turned old new e turn → AreReady new.moment new.nodes → PlaysAll old new i e turn → Steps old new i e turn
+steps laws old new i e turn asked turned ready plays = record {
   topology = turned.topology;
   goes_on = turned.stopped ∙ asked.stopped;
   going = turned.going;
   record_is = λ d H s. (plays d H s).0;
-  stands = λ d H s. stands laws.falls d old new H e turn (next_of d old.topology H i e) (is_next laws d old new H i e turn asked s (plays d H s)) turned (plays d H s).2;
+  stands = λ d H s. stands_on laws d old new H i e turn asked turned ready s (plays d H s);
   more = λ d H s. ap (λ (x : Event). has_more x (next_of d old.topology H i e).act) (sym (laws.of_event d old.topology H i e).asked) ∙ (plays d H s).1;
   tells = λ d H s. laws.told d old.topology H i e;
 }
 
-pub falls : (old new : WorldState) (e : Event) (turn : Turn) → Turned old new e turn → Falls old new turn
-falls old new e (More said) turned = let one = turned.goes.1 in omega (arith, one)
-falls old new e (Last said) turned = tt
+fell_on : EachFalls → (d : Draws) (old new : WorldState) (H : List Full) (e : Event) (turn : Turn) (r : Full) → IsNext d old H e turn r → new.topology ≡ old.topology → StandsFor d new (r ∷ H) → Falls old new turn
+fell_on falls d old new H e (Last said) r next same s = tt
+fell_on falls d old new H e (More said) r next same s =
+    let fell : left old.topology (r ∷ H) < left old.topology H = falls d old.topology H r next.rules next.stands.grown next.follows next.more in
+    let before : left old.topology H ≡ left_in old = next.stands.left in
+    let after : left old.topology (r ∷ H) ≡ left_in new = ap (λ (x : TopologyState). left x (r ∷ H)) (sym same) ∙ s.left in
+    omega (arith, fell, before, after)
+
+pub falls : Laws → (d : Draws) (old new : WorldState) (H : List Full) (i : ℕ) (e : Event) (turn : Turn) → IsAsked old e → Turned old new e turn → AreReady new.moment new.nodes
+    → PlaysAll old new i e turn → StandsFor d old H → Falls old new turn
+falls laws d old new H i e turn asked turned ready plays s =
+    fell_on laws.falls d old new H e turn (next_of d old.topology H i e) (is_next laws d old new H i e turn asked s (plays d H s)) turned.topology (stands_on laws d old new H i e turn asked turned ready s (plays d H s))

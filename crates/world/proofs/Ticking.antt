@@ -15,24 +15,19 @@ use Rattle.history.specs.declared.event.Event.TheVariants as event
 use Rattle.history.specs.declared.records.Record.{Record}
 use Rattle.history.specs.declared.turn.Turn.TheVariants.{More, Last}
 use Rattle.history.specs.Full.{Full}
-use Rattle.legal.specs.Past.{Draws, now, began, has_more}
+use Rattle.legal.specs.Past.{Draws, now, began}
 use Rattle.legal.specs.Emit.{due_of}
 use Rattle.legal.specs.Next.{numbered, plain, acts, no_ep, Due, earlier, least_due, advanced, advance_with, next_of}
 use Rattle.legal.specs.Frame.{EachFrames}
 use Rattle.lab_nodes.specs.declared.due.Due as found
 use Rattle.lab_nodes.specs.Due.{due_is}
-use Rattle.topology.specs.Rules.{IsTopology}
-use Rattle.history.specs.declared.event.TheConstants.{MOST_ADVANCE}
 use Rattle.history.specs.declared.turn.Stop.{Stop}
 use Rattle.world.specs.Record.{said}
-use Rattle.legal.specs.declared.left.TheConstants.{MOST_LEFT}
 use Rattle.world.specs.declared.going.Going.{Going}
-use Rattle.world.specs.World.{WorldState, StandsFor, IsAgain, IsCause, event_in, began_in, left_in}
+use Rattle.world.specs.World.{WorldState, StandsFor, IsAgain, IsCause, event_in, began_in}
 use Rattle.world.specs.Playing.{ticks_at, IsPast, IsGoing, Plays, PlaysTurn}
 use Rattle.world.proofs.States.{some_inj}
 use Rattle.world.proofs.Played.{rests}
-use Rattle.legal.specs.Laws.{EachIsOfItsEvent, EachFalls}
-use Rattle.world.proofs.Stepped.{follows}
 
 -- WHOSE TICK IT IS
 
@@ -90,14 +85,10 @@ pub same_ms : (going : Option Event) (ms found : ℕ) → IsAgain going (event.A
 same_ms None ms found again is = is.0 refl
 same_ms (Some e) ms found again is = ap ms_of (is.1 ∙ sym again)
 
--- an advance that goes on isn't over, and no more is left of it than of any
+-- an advance that goes on isn't over
 pub in_going : (m : ℕ) (g : Option Going) (ms : ℕ) → IsAgain (event_in g) (event.Advance ms) → IsGoing m g → m ≤ began_in m g + ms
 in_going m None ms again is = omega arith
-in_going m (Some g) ms again is = let long : ms ≡ g.ms = ap ms_of again in let within = is.0 in omega (arith, long, within)
-
-pub few_left : (m : ℕ) (g : Option Going) → IsGoing m g → left_in g ≤ MOST_LEFT
-few_left m None is = omega arith
-few_left m (Some g) is = is.1
+in_going m (Some g) ms again is = let long : ms ≡ g.ms = ap ms_of again in omega (arith, long, is)
 
 -- WHAT FOLLOWS
 
@@ -147,15 +138,3 @@ ticks d old new H i ms x word s least within plays =
 pub tick_stops : (d : Draws) (old : WorldState) (H : List Full) (i ms : ℕ) (x : Due) (why : Stop) → StandsFor d old H → least_due old.topology H 0 (nodes old.topology) ≡ Some x → x.moment ≤ old.began + ms
     → IsCause old (ticks_at d old H (numbered i (event.Advance ms)) x) why → IsCause old (next_of d old.topology H i (event.Advance ms)) why
 tick_stops d old H i ms x why s least within cause = subst (λ (z : Full). IsCause old z why) (sym (next_is_tick d old H i ms x s least within)) cause
-
--- where a tick is due something is left
-pub some_left : EachIsOfItsEvent → EachFalls → (d : Draws) (old : WorldState) (H : List Full) (i ms : ℕ) (x : Due) → IsTopology old.topology → ms ≤ MOST_ADVANCE → IsAgain old.going (event.Advance ms) → StandsFor d old H
-    → least_due old.topology H 0 (nodes old.topology) ≡ Some x → x.moment ≤ old.began + ms → old.left ≡ 0 → ⊥
-some_left of_event falls d old H i ms x rules short again s least within none =
-    let t = old.topology in
-    let e = event.Advance ms in
-    let r = next_of d t H i e in
-    let more : has_more r.asked r.act ≡ true = ap (λ (z : Full). has_more z.asked z.act) (next_is_tick d old H i ms x s least within) in
-    let fell = falls d t H r rules s.grown (follows of_event d old H i e short again s) more in
-    let enough = s.left in
-    omega (arith, fell, enough, none)

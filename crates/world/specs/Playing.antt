@@ -13,7 +13,6 @@ use Rattle.history.specs.declared.acts.Act.{Act}
 use Rattle.history.specs.declared.acts.Act.TheVariants as act
 use Rattle.history.specs.Full.{Item, Full, wire, items_of}
 use Rattle.history.specs.Records.{record_of}
-use Rattle.legal.specs.declared.left.TheConstants.{MOST_LEFT}
 use Rattle.legal.specs.Past.{Draws, has_more, is_number}
 use Rattle.legal.specs.Next as next
 use Rattle.legal.specs.Next.{Numbered, acts, no_ep, dst_of, input_of}
@@ -30,7 +29,7 @@ use Rattle.world.specs.World.{WorldState, IsCause, going_after, is_more, record_
 -- an advance that goes on isn't over
 abbrev pub IsGoing : ℕ → Option Going → Type 0
 IsGoing m None = Unit {0}
-IsGoing m (Some g) = (m ≤ g.began.0 + g.ms) × (g.left ≤ MOST_LEFT)
+IsGoing m (Some g) = m ≤ g.began.0 + g.ms
 
 pub record IsWorld (t : TopologyState) (m : ℕ) (g : Option Going) (nodes : List NodeState) : Type 0 where
   pub rules : IsTopology t
@@ -88,10 +87,10 @@ abbrev pub PlaysTurn : Draws → WorldState → WorldState → List Full → Ful
 PlaysTurn d old new H r (Ok turn) = (record_in turn ≡ record_of r) × (has_more r.asked r.act ≡ is_more turn) × Comes d old new H r
 PlaysTurn d old new H r (Err stop) = IsCause old r stop
 
--- after a turn with further ones the event goes on, and fewer are left
+-- after a turn with further ones the event goes on; after any other the next one begins
 abbrev pub GoesFrom : WorldState → WorldState → Turn → Type 0
-GoesFrom old new (More r) = (new.began ≡ old.began) × (new.left + 1 ≡ old.left)
-GoesFrom old new (Last r) = (new.began ≡ new.moment) × (new.left ≡ MOST_LEFT)
+GoesFrom old new (More r) = new.began ≡ old.began
+GoesFrom old new (Last r) = new.began ≡ new.moment
 
 -- what a turn of an event does to a world, whatever it stands for
 pub record Turned (old new : WorldState) (event : Event) (turn : Turn) : Type 0 where

@@ -8,6 +8,7 @@ use Rattle.history.specs.declared.turn.Turn.TheVariants.{More, Last}
 use Rattle.history.specs.declared.turn.Stop.{Stop}
 use Rattle.history.specs.declared.turn.Stop.TheVariants.{WireFull, NoMemory}
 use Rattle.topology.specs.Rows.{TopologyState}
+use Rattle.topology.specs.Topology.{nodes}
 use Rattle.history.specs.Full.{Item, Full, wire, items_of}
 use Rattle.history.specs.Records.{record_of}
 use Rattle.history.specs.Telling.{IsTold}
@@ -18,9 +19,10 @@ use Rattle.legal.specs.Past.{now, began, has_more, going, was_delivered, Draws}
 use Rattle.legal.specs.Next.{next_of}
 use Rattle.legal.specs.Legal.{Grown}
 use Rattle.legal.specs.declared.left.TheConstants.{MOST_LEFT}
-use Rattle.legal.specs.Left.{left}
+use Rattle.legal.specs.Left.{left, time_left}
 use Rattle.lab_nodes.specs.declared.node_state.NodeState.{NodeState}
 use Rattle.lab_nodes.specs.NodeState.{NodesOf}
+use Rattle.lab_nodes.specs.Moments.{all_due}
 use Rattle.lab_nodes.specs.Memory.{takes_memory}
 use Rattle.world.specs.Wire.{WireState}
 
@@ -32,10 +34,9 @@ pub record WorldState : Type 0 where
   pub nodes : List NodeState
   pub wire : List Item
   pub done : List Bool  -- for each entry of the wire, whether it was delivered
-  pub left : ℕ  -- falls with each further record of an event
   pub stopped : Option Stop
 
--- the event that goes on, when it began, and what is left of it
+-- the event that goes on, and when it began
 abbrev pub event_in : Option Going → Option Event
 event_in None = None
 event_in (Some g) = Some (event.Advance g.ms)
@@ -44,12 +45,24 @@ abbrev pub began_in : ℕ → Option Going → ℕ
 began_in m None = m
 began_in m (Some g) = g.began.0
 
-abbrev pub left_in : Option Going → ℕ
-left_in None = MOST_LEFT
-left_in (Some g) = g.left
-
 abbrev pub state_of : TopologyState → ℕ → Option Going → List NodeState → WireState → Option Stop → WorldState
-state_of t m g nodes wire stopped = record { topology = t; moment = m; began = began_in m g; going = event_in g; nodes = nodes; wire = wire.items; done = wire.done; left = left_in g; stopped = stopped }
+state_of t m g nodes wire stopped = record { topology = t; moment = m; began = began_in m g; going = event_in g; nodes = nodes; wire = wire.items; done = wire.done; stopped = stopped }
+
+-- WHAT IS LEFT
+
+-- for an advance that ends at `end`
+abbrev pub left_to : WorldState → ℕ → ℕ
+left_to w end = time_left end w.moment (all_due w.moment w.nodes 0 (nodes w.topology))
+
+-- of the event that goes on; as much as may be where none does
+abbrev pub left_of : WorldState → Option Event → ℕ
+left_of w None = MOST_LEFT
+left_of w (Some (event.Advance ms)) = left_to w (w.began + ms)
+left_of w (Some e) = 0
+
+-- it falls with each further record of an event
+abbrev pub left_in : WorldState → ℕ
+left_in w = left_of w w.going
 
 -- WHAT A WORLD STANDS FOR
 
@@ -62,9 +75,8 @@ pub record StandsFor (d : Draws) (w : WorldState) (H : List Full) : Type 0 where
   pub nodes : NodesOf d w.topology w.nodes H
   pub wire : w.wire ≡ wire H
   pub done : (i : ℕ) → get_or w.done i false ≡ was_delivered i H
-  -- no less than is left of the event in the history, and all where the next record begins one
-  pub left : left w.topology H ≤ w.left
-  pub most : w.left ≤ MOST_LEFT
+  pub left : left w.topology H ≡ left_in w
+  pub most : left_in w ≤ MOST_LEFT
 
 -- WHAT A STEP DOES
 
@@ -102,9 +114,9 @@ pub record Steps (old new : WorldState) (index : ℕ) (event : Event) (turn : Tu
   pub more : (d : Draws) (H : List Full) → StandsFor d old H → has_more event (next_of d old.topology H index event).act ≡ is_more turn
   pub tells : (d : Draws) (H : List Full) → StandsFor d old H → IsTold (next_of d old.topology H index event)
 
--- after a record that has further ones, fewer are left
+-- after a record that has further ones, less is left
 abbrev pub Falls : WorldState → WorldState → Turn → Type 0
-Falls old new (More r) = new.left < old.left
+Falls old new (More r) = left_in new < left_in old
 Falls old new (Last r) = Unit {0}
 
 -- WHY IT STOPS

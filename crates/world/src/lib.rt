@@ -16,7 +16,9 @@
 //!
 //! | module | holds | stated in |
 //! |---|---|---|
-//! | `world` | `World`: nodes, wire, moment and step, and what each event does to them | `specs/World.antt`, `Playing.antt` |
+//! | `world` | `World`: nodes, wire and moment, and the step | `specs/World.antt`, `Playing.antt` |
+//! | `asking` | a node is asked, and what it sends comes onto the wire | `specs/Playing.antt` |
+//! | `deliveries`, `packets`, `datagrams`, `restarts`, `advance` | what each event does to a world | `specs/Playing.antt` |
 //! | `going` | an advance that goes on | `specs/World.antt` |
 //! | `emission`, `outlet` | how what a node sends comes onto the wire | `specs/Emission.antt`, `Sends.antt` |
 //! | `wire` | everything that was sent, and what of it was delivered | `specs/Wire.antt`, `WireEntry.antt` |
@@ -24,11 +26,17 @@
 //! | `record` | what is said of a step | `specs/Record.antt` |
 #![tactic(auto)]
 
+mod advance;
+mod asking;
 mod coming;
+mod datagrams;
+mod deliveries;
 mod emission;
 mod going;
 mod outlet;
+mod packets;
 mod record;
+mod restarts;
 mod way;
 mod wire;
 mod world;

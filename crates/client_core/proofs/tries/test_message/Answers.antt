@@ -2,7 +2,8 @@ use Rattle.std.proofs.Common.{ℕ, List, length, ap, ◌∙◌, arith}
 use Rattle.std.specs.Prelude.{replicate}
 use Rattle.icmp6.specs.Message.{echo_request}
 use Rattle.icmp6.specs.Layout.{message_bytes}
-use Rattle.client_core.proofs.Writes.{has_room, fills, message_len}
+use Rattle.td_base.proofs.WriteLemmas.{has_room, fills}
+use Rattle.client_core.proofs.Lengths.{message_len}
 use Rattle.client_core.proofs.tries.test_message.Goals as goal
 
 pub unwrap-requires : goal.unwrap-requires

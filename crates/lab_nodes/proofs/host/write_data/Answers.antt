@@ -1,7 +1,8 @@
 use Rattle.std.proofs.Common.{arith}
 use Rattle.ipv6_packet.specs.Packets.{packet_bytes}
 use Rattle.legal.specs.Next.{data_packet}
-use Rattle.lab_nodes.proofs.Hosts.{has_room, packet_len}
+use Rattle.td_base.proofs.WriteLemmas.{has_room}
+use Rattle.ipv6_packet.proofs.PacketLaws.{packet_len}
 use Rattle.lab_nodes.proofs.host.write_data.Goals as goal
 
 pub unwrap-requires : goal.unwrap-requires

@@ -4,7 +4,9 @@ use Rattle.td_base.specs.declared.ipv6.Ip6.{Ip6}
 use Rattle.ipv6_packet.specs.Packets.{Fields, packet_bytes}
 use Rattle.icmp6.specs.Message.{echo_reply}
 use Rattle.icmp6.specs.Layout.{message_bytes}
-use Rattle.native_host.proofs.Writes.{has_room, stands_in_front, reply_len, packet_len}
+use Rattle.td_base.proofs.WriteLemmas.{has_room, stands_in_front}
+use Rattle.ipv6_packet.proofs.PacketLaws.{packet_len}
+use Rattle.native_host.proofs.Lengths.{reply_len}
 use Rattle.native_host.proofs.incoming.write_reply.Goals as goal
 
 abbrev packet_of : Ip6 → Ip6 → List ℕ → Fields

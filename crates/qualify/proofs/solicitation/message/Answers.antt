@@ -3,7 +3,8 @@ use Rattle.std.specs.Prelude.{replicate}
 use Rattle.teredo_addr.specs.Teredo.{all_routers}
 use Rattle.icmp6.specs.Message.{router_solicit}
 use Rattle.icmp6.specs.Layout.{message_bytes}
-use Rattle.qualify.proofs.Writes.{has_room, fills, solicit_len}
+use Rattle.td_base.proofs.WriteLemmas.{has_room, fills}
+use Rattle.qualify.proofs.Lengths.{solicit_len}
 use Rattle.qualify.proofs.solicitation.message.Goals as goal
 
 pub unwrap-requires : goal.unwrap-requires

@@ -7,7 +7,8 @@ use Rattle.icmp6.specs.Layout.{message_bytes}
 use Rattle.teredo_addr.specs.Teredo.{all_routers}
 use Rattle.bubble.specs.Reads.{payload_bytes}
 use Rattle.qualify.specs.Solicitations.{solicitation}
-use Rattle.qualify.proofs.Writes.{has_room, fills, payload_len}
+use Rattle.td_base.proofs.WriteLemmas.{has_room, fills}
+use Rattle.qualify.proofs.Lengths.{payload_len}
 use Rattle.qualify.proofs.solicitation.solicitation.Goals as goal
 
 abbrev packet_of : Ip6 → List ℕ → Fields

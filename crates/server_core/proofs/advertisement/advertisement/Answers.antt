@@ -2,7 +2,7 @@ use Rattle.std.proofs.Common.{ℕ, List, ap, ◌∙◌, arith}
 use Rattle.std.specs.Prelude.{replicate}
 use Rattle.icmp6.specs.Message.{router_advert}
 use Rattle.icmp6.specs.Layout.{message_bytes}
-use Rattle.server_core.proofs.Lengths.{has_room, fills}
+use Rattle.td_base.proofs.WriteLemmas.{has_room, fills}
 use Rattle.server_core.proofs.advertisement.advertisement.Goals as goal
 
 pub unwrap-requires : goal.unwrap-requires

@@ -1,6 +1,7 @@
 use Rattle.std.proofs.Common.{Some, None, arith}
 use Rattle.indications.specs.Blocks.{indications_bytes}
-use Rattle.server_core.proofs.Lengths.{has_room, stands_in_front, indications_bytes_len}
+use Rattle.td_base.proofs.WriteLemmas.{has_room, stands_in_front}
+use Rattle.server_core.proofs.Lengths.{indications_bytes_len}
 use Rattle.server_core.proofs.forwarded.write_with_origin.Goals as goal
 
 pub unwrap-at-requires : goal.unwrap-at-requires

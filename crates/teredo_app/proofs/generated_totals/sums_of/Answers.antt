@@ -20,13 +20,16 @@ loop-turn-preserved c =
       played = c.loop-turn.invariant;
       is = event;
       steps = c.in-Ok-step.ensures.ok;
-      falls = c.in-Ok-step.ensures.falls;
+      falls = c.in-Ok-step.ensures.falls _ _ c.loop-turn.invariant.stands;
       time = c.in-Ok-step.ensures.time;
       entries = c.in-Ok-step.ensures.entries;
     } in
     let adds = rw c.record_in.ensures at c.add.ensures.sums in
     let more = sym c.is_more.ensures ∙ c.if-not-is_more.false in
     played.goes_on c.of_its_event.ensures (told c.args.s.now) untold untold untold turned c.add.new.self more (untold_line _) adds
+
+pub loop-turn-smaller : goal.loop-turn-smaller
+loop-turn-smaller c = played.falls_by c.loop-turn.world c.step.new.self c.in-Ok-step.turn (sym c.is_more.ensures ∙ c.if-not-is_more.false) (c.in-Ok-step.ensures.falls _ _ c.loop-turn.invariant.stands)
 
 pub loop-index-preserved : goal.loop-index-preserved
 loop-index-preserved c =
@@ -41,7 +44,7 @@ loop-index-preserved c =
       played = c.loop-turn.invariant;
       is = event;
       steps = c.in-Ok-step.ensures.ok;
-      falls = c.in-Ok-step.ensures.falls;
+      falls = c.in-Ok-step.ensures.falls _ _ c.loop-turn.invariant.stands;
       time = c.in-Ok-step.ensures.time;
       entries = c.in-Ok-step.ensures.entries;
     } in

@@ -1,4 +1,4 @@
-use Rattle.world.specs.World.{IsAgain}
+use Rattle.world.specs.World.{IsAgain, left_in}
 use Rattle.scenario.specs.Told.{told}
 use Rattle.teredo_app.proofs.Written.{untold}
 use Rattle.teredo_app.proofs.Played.{Played, IsFree}
@@ -12,4 +12,4 @@ abbrev pub invariant-loop-turn : goal.invariant-loop-turn
 invariant-loop-turn l = Played (told l.s) untold untold l.world l.sums l.index (λ going. IsAgain going l.event)
 
 abbrev pub decreases-loop-turn : goal.decreases-loop-turn
-decreases-loop-turn l = l.world.left
+decreases-loop-turn l = left_in l.world

@@ -10,7 +10,9 @@ pub returns-in-Err-Failed : goal.returns-in-Err-Failed
 returns-in-Err-Failed g c = report_failed refl (c.write_report.ensures.failed (c.in-Err-Failed.is ∙ ap Err c.in-Err-Failed.field-0-is)) c.in-Err-Failed.ensures.err
 
 pub returns-in-Err-NoMemory : goal.returns-in-Err-NoMemory
-returns-in-Err-NoMemory g c = report_starved refl (c.write_report.ensures.starved (c.in-Err-NoMemory.is ∙ ap Err c.in-Err-NoMemory.field-0-is)) c.in-Err-NoMemory.ensures.err
+returns-in-Err-NoMemory g c =
+    let is = c.in-Err-NoMemory.is ∙ ap Err c.in-Err-NoMemory.field-0-is in
+    report_starved refl (c.write_report.ensures.starved is) (c.write_report.ensures.wanting is)
 
 pub returns-in-Err-WireFull : goal.returns-in-Err-WireFull
 returns-in-Err-WireFull g c =

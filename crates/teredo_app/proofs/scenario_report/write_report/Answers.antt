@@ -1,4 +1,4 @@
-use Rattle.std.proofs.Common.{◌≡◌, ◌≤◌, List, [], Some, sym, subst, refl, arith, ◌∙◌, ap, length}
+use Rattle.std.proofs.Common.{◌≡◌, ◌≤◌, List, [], Some, sym, subst, refl, arith, ◌∙◌, ap, length, inl, inr}
 use Rattle.std.specs.Prelude.{slice_get}
 use Rattle.std.proofs.lemmas.Option.{slice_get_read}
 use Rattle.history.specs.declared.event.Event.{Event}
@@ -8,7 +8,7 @@ use Rattle.report.specs.declared.totals.Sums.{Sums}
 use Rattle.scenario.specs.Told.{told}
 use Rattle.teredo_app.specs.Outside.{SinkTold}
 use Rattle.teredo_app.specs.ScenarioReport.{some_lines}
-use Rattle.teredo_app.proofs.Written.{none_written, BeginsLines-whole}
+use Rattle.teredo_app.proofs.Written.{none_written, nothing_written, BeginsLines-whole}
 use Rattle.teredo_app.proofs.Played as played
 use Rattle.teredo_app.proofs.scenario_report.write_report.Goals as goal
 
@@ -50,7 +50,7 @@ loop-turn-preserved g c =
       played = c.loop-turn.invariant.played;
       is = event;
       steps = c.in-Ok-step.ensures.ok;
-      falls = c.in-Ok-step.ensures.falls;
+      falls = c.in-Ok-step.ensures.falls _ _ c.loop-turn.invariant.played.stands;
       time = c.in-Ok-step.ensures.time;
       entries = c.in-Ok-step.ensures.entries;
     } in
@@ -63,7 +63,7 @@ loop-turn-preserved g c =
     }
 
 pub loop-turn-smaller : goal.loop-turn-smaller
-loop-turn-smaller g c = played.falls_by c.loop-turn.world c.step.new.self c.in-Ok-step.turn (sym c.is_more.ensures ∙ c.if-not-is_more.false) c.in-Ok-step.ensures.falls
+loop-turn-smaller g c = played.falls_by c.loop-turn.world c.step.new.self c.in-Ok-step.turn (sym c.is_more.ensures ∙ c.if-not-is_more.false) (c.in-Ok-step.ensures.falls _ _ c.loop-turn.invariant.played.stands)
 
 pub loop-index-preserved : goal.loop-index-preserved
 loop-index-preserved g c =
@@ -80,7 +80,7 @@ loop-index-preserved g c =
       played = c.loop-turn.invariant.played;
       is = event;
       steps = c.in-Ok-step.ensures.ok;
-      falls = c.in-Ok-step.ensures.falls;
+      falls = c.in-Ok-step.ensures.falls _ _ c.loop-turn.invariant.played.stands;
       time = c.in-Ok-step.ensures.time;
       entries = c.in-Ok-step.ensures.entries;
     } in
@@ -107,7 +107,7 @@ returns-in_default-write_record-clause-err g c =
       played = c.loop-turn.invariant.played;
       is = event;
       steps = c.in-Ok-step.ensures.ok;
-      falls = c.in-Ok-step.ensures.falls;
+      falls = c.in-Ok-step.ensures.falls _ _ c.loop-turn.invariant.played.stands;
       time = c.in-Ok-step.ensures.time;
       entries = c.in-Ok-step.ensures.entries;
     } in
@@ -116,6 +116,14 @@ returns-in_default-write_record-clause-err g c =
 
 pub returns-in-Err-NoMemory-clause-err : goal.returns-in-Err-NoMemory-clause-err
 returns-in-Err-NoMemory-clause-err g c = played.stopped _ _ _ c.loop-turn.world c.loop-turn.sums c.loop-index.index c.event-item.result c.loop-turn.invariant.played
+
+pub returns-in_default-clause-wanting : goal.returns-in_default-clause-wanting
+returns-in_default-clause-wanting g c = λ _. inl (nothing_written _)
+
+pub returns-in-Err-NoMemory-clause-wanting : goal.returns-in-Err-NoMemory-clause-wanting
+returns-in-Err-NoMemory-clause-wanting g c = λ _.
+    let event : slice_get c.args.s.now.events c.loop-index.index ≡ Some c.event-item.result = subst (λ (es : List Event). slice_get es c.loop-index.index ≡ Some c.event-item.result) c.as_slice-event-items.ensures (slice_get_read c.as_slice-event-items.result.now _ c.loop-index.index c.event-item.result refl (omega arith) c.event-item.is) in
+    inr (played.starves (told c.args.s.now) _ _ c.loop-turn.world c.loop-turn.sums c.loop-index.index c.event-item.result c.loop-turn.invariant.played event (subst (λ (z : Stop). StopsFor c.loop-turn.world c.loop-index.index c.event-item.result z) c.in-Err-NoMemory.field-0-is (c.in-Err-NoMemory.ensures.cause c.loop-turn.invariant.played.open_still)))
 
 pub returns-in-Err-WireFull-clause-err : goal.returns-in-Err-WireFull-clause-err
 returns-in-Err-WireFull-clause-err g c = played.stopped _ _ _ c.loop-turn.world c.loop-turn.sums c.loop-index.index c.event-item.result c.loop-turn.invariant.played

@@ -1,5 +1,5 @@
 use Rattle.std.proofs.Common.{◌≡◌}
-use Rattle.world.specs.World.{IsAgain}
+use Rattle.world.specs.World.{IsAgain, left_in}
 use Rattle.scenario.specs.Told.{told}
 use Rattle.teredo_app.proofs.Played.{Played, IsFree}
 use Rattle.teredo_app.proofs.scenario_report.write_report.Given as goal
@@ -17,4 +17,4 @@ invariant-loop-turn g l = record {
 }
 
 abbrev pub decreases-loop-turn : goal.decreases-loop-turn
-decreases-loop-turn g l = l.world.left
+decreases-loop-turn g l = left_in l.world

@@ -9,7 +9,7 @@ use Rattle.teredo_node.specs.Sends.{send, sending}
 use Rattle.teredo_node.specs.Journal.{given}
 use Rattle.client_core.specs.declared.client.Client.{Client}
 use Rattle.client_core.specs.Client.{Does}
-use Rattle.client_core.proofs.Results.{on_ok_both, on_err_always}
+use Rattle.td_base.proofs.ResultLaws.{on_ok_both, on_err_always}
 use Rattle.client_core.proofs.Transmitted.{off, malformed, drops_packet, sent, sent_cone, transmitted, short, wants_queue}
 use Rattle.client_core.proofs.client.Client.on_host.Goals as goal
 

@@ -2,13 +2,14 @@ use Rattle.std.proofs.lemmas.Result.{on_ok_weaker, on_err_weaker}
 use Rattle.peer_list.specs.Table.{table}
 use Rattle.peer_list.specs.Calls.{touched_at}
 use Rattle.peer_list.proofs.TableLemmas.{other_keeps, other_updates, other_admits}
+use Rattle.peer_list.specs.Entries.{listings_of}
 use Rattle.peer_list.proofs.table.Peers.admit.Goals as goal
 
 pub returns-clause-answer : goal.returns-clause-answer
-returns-clause-answer c = rw (← c.self.view_is) (other_admits c.args.now.0 c.self.inside.moment.0 c.args.now.0 c.self.inside.listings.items c.args.who c.admit.result c.admit.ensures.answer)
+returns-clause-answer c = rw (← c.self.view_is) (other_admits c.args.now.0 c.self.inside.moment.0 c.args.now.0 (listings_of c.self.inside.entries) c.args.who c.admit.result c.admit.ensures.answer)
 
 pub returns-clause-admitted : goal.returns-clause-admitted
-returns-clause-admitted c = rw (← c.self.view_is) (on_ok_weaker c.admit.result (other_updates c.args.now.0 c.self.inside.moment.0 c.args.now.0 c.self.inside.listings.items (table c.args.now.0 c.admit.new.listings.items) c.args.who (touched_at c.args.now.0)) c.admit.ensures.admitted)
+returns-clause-admitted c = rw (← c.self.view_is) (on_ok_weaker c.admit.result (other_updates c.args.now.0 c.self.inside.moment.0 c.args.now.0 (listings_of c.self.inside.entries) (table c.args.now.0 (listings_of c.admit.new.entries)) c.args.who (touched_at c.args.now.0)) c.admit.ensures.admitted)
 
 pub returns-clause-kept : goal.returns-clause-kept
-returns-clause-kept c = rw (← c.self.view_is) (on_err_weaker c.admit.result (other_keeps c.args.now.0 c.self.inside.moment.0 c.args.now.0 c.self.inside.listings.items (table c.args.now.0 c.admit.new.listings.items)) c.admit.ensures.same)
+returns-clause-kept c = rw (← c.self.view_is) (on_err_weaker c.admit.result (other_keeps c.args.now.0 c.self.inside.moment.0 c.args.now.0 (listings_of c.self.inside.entries) (table c.args.now.0 (listings_of c.admit.new.entries))) c.admit.ensures.same)

@@ -2,4 +2,4 @@ use Rattle.peer_list.proofs.StandsLemmas.{empty_stands}
 use Rattle.peer_list.proofs.table.Peers.clear.Goals as goal
 
 pub returns-clause-stands : goal.returns-clause-stands
-returns-clause-stands c = empty_stands _ c.clear.ensures.items
+returns-clause-stands c = empty_stands _ c.clear.ensures.empty

@@ -1,49 +1,40 @@
-use Rattle.std.proofs.Common.{◌≡◌, ◌≤◌, ◌<◌, List, true, length, refl, sym, ap, ◌∙◌, subst}
-use Rattle.std.specs.Prelude.{is_some, slice_set}
-use Rattle.std.specs.Vec.{vec_len}
-use Rattle.std.specs.List.{position_or_len}
-use Rattle.std.proofs.lemmas.List.{length-set}
+use Rattle.std.proofs.Common.{◌≡◌, ◌≤◌, true, refl, sym, ap, ◌∙◌, subst}
+use Rattle.std.specs.Prelude.{is_some}
 use Rattle.peer_list.specs.Peers.{Peer}
-use Rattle.peer_list.specs.Waiting.{Listing}
-use Rattle.peer_list.specs.Table.{Table, table, is_of, peer_in, known_to}
-use Rattle.peer_list.specs.Sound.{NoneBefore}
+use Rattle.peer_list.specs.Table.{Table, table, peer_in, known_to}
 use Rattle.peer_list.specs.Calls.{Updates, heard_at}
-use Rattle.peer_list.proofs.ListingLemmas.{Placed, place_within, known_there, changed}
-use Rattle.peer_list.proofs.KeptLemmas.{kept_touched}
+use Rattle.peer_list.specs.Entries.{listings_of, IsAfter}
+use Rattle.peer_list.proofs.ListingLemmas.{has_listing}
+use Rattle.peer_list.proofs.ChangeLemmas.{since_touched, known_at, whole_but, kept_after, updates_after}
 use Rattle.peer_list.proofs.table.Peers.heard.Goals as goal
 
-pub index_mut-requires : goal.index_mut-requires
-index_mut-requires c =
-    let at : c.place-place.result ≡ position_or_len (is_of c.args.who) c.self.inside.listings.items = c.place-place.ensures ∙ ap (position_or_len (is_of c.args.who)) c.deref.ensures.value in
-    let listed : is_some (peer_in (table c.self.inside.moment.0 c.self.inside.listings.items) c.args.now.0 c.args.who) ≡ true = subst (λ (v : Table). is_some (peer_in v c.args.now.0 c.args.who) ≡ true) (sym c.self.view_is) c.requires.listed in
-    let within : c.place-place.result < length c.self.inside.listings.items = place_within (table c.self.inside.moment.0 c.self.inside.listings.items) c.args.now.0 c.args.who c.place-place.result at listed in
-    let same : length c.self.inside.listings.items ≡ vec_len c.self.inside.listings = sym (ap length c.deref.ensures.value) ∙ c.deref.ensures.len in
-    subst (λ n. c.place-place.result < n) same within
+pub key-key-requires-clause-there : goal.key-key-requires-clause-there
+key-key-requires-clause-there c =
+    let e = c.self.inside.entries in
+    let listed : is_some (peer_in (table c.self.inside.moment.0 (listings_of e)) c.args.now.0 c.args.who) ≡ true = subst (λ (v : Table). is_some (peer_in v c.args.now.0 c.args.who) ≡ true) (sym c.self.view_is) c.requires.listed in
+    has_listing (table c.self.inside.moment.0 (listings_of e)) c.args.now.0 c.args.who listed
 
-pub first_due_after-self-inside-requires : goal.first_due_after-self-inside-requires
-first_due_after-self-inside-requires c =
-    let at : c.place-place.result ≡ position_or_len (is_of c.args.who) c.self.inside.listings.items = c.place-place.ensures ∙ ap (position_or_len (is_of c.args.who)) c.deref.ensures.value in
-    let listed : is_some (peer_in (table c.self.inside.moment.0 c.self.inside.listings.items) c.args.now.0 c.args.who) ≡ true = subst (λ (v : Table). is_some (peer_in v c.args.now.0 c.args.who) ≡ true) (sym c.self.view_is) c.requires.listed in
-    let within : c.place-place.result < length c.self.inside.listings.items = place_within (table c.self.inside.moment.0 c.self.inside.listings.items) c.args.now.0 c.args.who c.place-place.result at listed in
-    record { within = subst (λ ls. c.place-place.result < length ls) (sym c.deref-2.ensures.value) (rw length-set within) }
+pub settle-requires : goal.settle-requires
+settle-requires c =
+    let e = c.self.inside.entries in
+    let l = c.index_mut.result.now in
+    let a : IsAfter e _ c.key-key.result l c.hear.new.self = record { was = c.index_mut.ensures.value; slab = refl; index = refl; touched = refl } in
+    record { but = whole_but e _ c.key-key.result l c.hear.new.self a refl c.self.invariant.whole }
 
 pub invariant_of-self : goal.invariant_of-self
 invariant_of-self c =
-    let at : c.place-place.result ≡ position_or_len (is_of c.args.who) c.self.inside.listings.items = c.place-place.ensures ∙ ap (position_or_len (is_of c.args.who)) c.deref.ensures.value in
-    let listed : is_some (peer_in (table c.self.inside.moment.0 c.self.inside.listings.items) c.args.now.0 c.args.who) ≡ true = subst (λ (v : Table). is_some (peer_in v c.args.now.0 c.args.who) ≡ true) (sym c.self.view_is) c.requires.listed in
-    let within : c.place-place.result < length c.self.inside.listings.items = place_within (table c.self.inside.moment.0 c.self.inside.listings.items) c.args.now.0 c.args.who c.place-place.result at listed in
-    let new : List Listing = slice_set c.self.inside.listings.items c.place-place.result (record { who = c.index_mut.result.now.who; peer = c.hear.new.self }) in
-    let first : NoneBefore c.first_due_after-self-inside.result new = subst (NoneBefore c.first_due_after-self-inside.result) c.deref-2.ensures.value
-    (c.first_due_after-self-inside.ensures c.self.inside.listings.items (record { who = c.index_mut.result.now.who; peer = c.hear.new.self }) c.deref-2.ensures.value within c.self.invariant.due) in
-    kept_touched c.self.inside.earliest c.self.inside.moment.0 c.args.now.0 c.self.inside.listings.items c.place-place.result c.index_mut.result.now c.hear.new.self c.first_due_after-self-inside.result (record { within = within; is = c.index_mut.ensures.value }) c.self.invariant (subst (λ (v : Table). v.moment ≤ c.args.now.0) (sym c.self.view_is) c.requires.clock) (ap (λ (p : Peer). p.touched) c.hear.ensures) first
+    let e = c.self.inside.entries in
+    let l = c.index_mut.result.now in
+    let a : IsAfter e c.settle.new.self c.key-key.result l c.hear.new.self = record { was = c.index_mut.ensures.value; slab = c.settle.ensures.slab; index = c.settle.ensures.index; touched = c.settle.ensures.touched } in
+    kept_after e c.settle.new.self c.key-key.result l c.hear.new.self a c.self.inside.moment.0 c.args.now.0 c.self.invariant (subst (λ (v : Table). v.moment ≤ c.args.now.0) (sym c.self.view_is) c.requires.clock) c.settle.ensures.whole
+    (since_touched e c.self.inside.moment.0 c.args.now.0 c.hear.new.self c.self.invariant (subst (λ (v : Table). v.moment ≤ c.args.now.0) (sym c.self.view_is) c.requires.clock) (ap (λ (p : Peer). p.touched) c.hear.ensures))
 
 pub returns : goal.returns
 returns c =
-    let at : c.place-place.result ≡ position_or_len (is_of c.args.who) c.self.inside.listings.items = c.place-place.ensures ∙ ap (position_or_len (is_of c.args.who)) c.deref.ensures.value in
-    let listed : is_some (peer_in (table c.self.inside.moment.0 c.self.inside.listings.items) c.args.now.0 c.args.who) ≡ true = subst (λ (v : Table). is_some (peer_in v c.args.now.0 c.args.who) ≡ true) (sym c.self.view_is) c.requires.listed in
-    let within : c.place-place.result < length c.self.inside.listings.items = place_within (table c.self.inside.moment.0 c.self.inside.listings.items) c.args.now.0 c.args.who c.place-place.result at listed in
-    let placed : Placed c.self.inside.listings.items c.args.who c.place-place.result c.index_mut.result.now = record { at = at; within = within; is = c.index_mut.ensures.value } in
-    let known : known_to (table c.self.inside.moment.0 c.self.inside.listings.items) c.args.now.0 c.args.who ≡ c.index_mut.result.now.peer = known_there (table c.self.inside.moment.0 c.self.inside.listings.items) c.args.now.0 c.args.who c.place-place.result c.index_mut.result.now placed listed in
-    let new : Table = table c.args.now.0 (slice_set c.self.inside.listings.items c.place-place.result (record { who = c.index_mut.result.now.who; peer = c.hear.new.self })) in
-    let update : Updates (table c.self.inside.moment.0 c.self.inside.listings.items) new c.args.now.0 c.args.who c.hear.new.self = changed (table c.self.inside.moment.0 c.self.inside.listings.items) new c.args.now.0 c.args.who c.place-place.result c.index_mut.result.now c.hear.new.self placed refl refl in
-    rw (← c.self.view_is) (subst (λ (x : Peer). Updates (table c.self.inside.moment.0 c.self.inside.listings.items) new c.args.now.0 c.args.who x) (c.hear.ensures ∙ ap (heard_at c.args.now.0) (sym known)) update)
+    let e = c.self.inside.entries in
+    let listed : is_some (peer_in (table c.self.inside.moment.0 (listings_of e)) c.args.now.0 c.args.who) ≡ true = subst (λ (v : Table). is_some (peer_in v c.args.now.0 c.args.who) ≡ true) (sym c.self.view_is) c.requires.listed in
+    let l = c.index_mut.result.now in
+    let a : IsAfter e c.settle.new.self c.key-key.result l c.hear.new.self = record { was = c.index_mut.ensures.value; slab = c.settle.ensures.slab; index = c.settle.ensures.index; touched = c.settle.ensures.touched } in
+    let known : known_to (table c.self.inside.moment.0 (listings_of e)) c.args.now.0 c.args.who ≡ l.peer = known_at e c.self.inside.moment.0 c.args.now.0 c.args.who c.key-key.result l c.self.invariant.whole c.key-key.ensures.key c.index_mut.ensures.value listed in
+    rw (← c.self.view_is) (subst (λ (x : Peer). Updates (table c.self.inside.moment.0 (listings_of e)) (table c.args.now.0 (listings_of c.settle.new.self)) c.args.now.0 c.args.who x) (c.hear.ensures ∙ ap (heard_at c.args.now.0) (sym known))
+    (updates_after e c.settle.new.self c.key-key.result l c.hear.new.self a c.self.inside.moment.0 c.args.now.0 c.args.who c.self.invariant.whole c.key-key.ensures.key))

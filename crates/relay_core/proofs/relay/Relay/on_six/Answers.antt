@@ -6,7 +6,7 @@ use Rattle.teredo_node.specs.Step.{Step}
 use Rattle.teredo_node.specs.Journal.{from_six}
 use Rattle.relay_core.specs.declared.relay.Relay.{Relay}
 use Rattle.relay_core.specs.Relay.{Does}
-use Rattle.relay_core.proofs.Results.{on_ok_both, on_err_always}
+use Rattle.td_base.proofs.ResultLaws.{on_ok_both, on_err_always}
 use Rattle.relay_core.proofs.Transmitted.{malformed, drops_packet, sent, transmitted, short, wants_queue, wants_place}
 use Rattle.relay_core.proofs.relay.Relay.on_six.Goals as goal
 

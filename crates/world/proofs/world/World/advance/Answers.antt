@@ -1,30 +1,18 @@
 use Rattle.std.proofs.Common.{◌≡◌, ◌+◌, ℕ, [], None, refl, sym, ap, subst, ◌∙◌, arith}
-use Rattle.std.proofs.lemmas.Bool.Decides.{nat_tests}
 use Rattle.teredo_node.specs.declared.fate.Fate.TheVariants as fate
 use Rattle.history.specs.declared.acts.Verb.TheVariants as verb
 use Rattle.history.specs.declared.event.Event.TheVariants as event
-use Rattle.topology.specs.Rules.{IsTopology}
 use Rattle.topology.specs.Topology.{nodes}
 use Rattle.legal.specs.Next.{plain, least_due}
 use Rattle.lab_nodes.specs.Due.{due_is}
 use Rattle.world.specs.Record.{said}
 use Rattle.world.specs.World.{WorldState, IsAgain}
 use Rattle.world.specs.Playing.{IsPast}
-use Rattle.world.proofs.Ticking.{passes, ticks, tick_stops, some_left, due_is_there, same_ms, in_going, few_left}
+use Rattle.world.proofs.Ticking.{passes, ticks, tick_stops, due_is_there, same_ms, in_going}
 use Rattle.world.proofs.world.World.advance.Goals as goal
 
 pub pass-requires-clause-later : goal.pass-requires-clause-later
 pass-requires-clause-later c =
-    let w = c.self.inside in
-    let again = subst (λ (x : WorldState). IsAgain x.going (event.Advance c.args.ms)) (sym c.self.view_is) c.requires.again in
-    let le = in_going w.moment.0 w.going c.args.ms again c.self.invariant.going in
-    let at = ap (λ (x : WorldState). x.moment) c.self.view_is in
-    let from = ap (λ (x : WorldState). x.began) c.self.view_is in
-    let start = c.going_on-going.ensures.began in
-    omega (arith, le, at, from, start)
-
-pub pass-requires-then-going-eq0-clause-later : goal.pass-requires-then-going-eq0-clause-later
-pass-requires-then-going-eq0-clause-later c =
     let w = c.self.inside in
     let again = subst (λ (x : WorldState). IsAgain x.going (event.Advance c.args.ms)) (sym c.self.view_is) c.requires.again in
     let le = in_going w.moment.0 w.going c.args.ms again c.self.invariant.going in
@@ -38,16 +26,12 @@ tick-requires-clause-going c =
     let w = c.self.inside in
     let again = subst (λ (x : WorldState). IsAgain x.going (event.Advance c.args.ms)) (sym c.self.view_is) c.requires.again in
     let le = in_going w.moment.0 w.going c.args.ms again c.self.invariant.going in
-    let most = few_left w.moment.0 w.going c.self.invariant.going in
     let at = ap (λ (x : WorldState). x.moment) c.self.view_is in
     let from = ap (λ (x : WorldState). x.began) c.self.view_is in
-    let rest = ap (λ (x : WorldState). x.left) c.self.view_is in
     let start = c.going_on-going.ensures.began in
-    let left = c.going_on-going.ensures.left in
     let long = same_ms c.args.self.now.going c.args.ms c.going_on-going.result.ms c.requires.again c.going_on-going.ensures.ms in
     let time = c.requires.time in
-    let some = c.if-going-eq0.false in
-    (omega (arith, le, at, from, start, long), omega (arith, start, long, time), omega (arith, most, rest, left), grind (arith, nat_tests))
+    (omega (arith, le, at, from, start, long), omega (arith, start, long, time))
 
 pub returns-in_default-clause-plays : goal.returns-in_default-clause-plays
 returns-in_default-clause-plays c = λ d H s.
@@ -58,17 +42,6 @@ returns-in_default-clause-plays c = λ d H s.
     let turn = passes c.frame.ensures d w c.pass.new.self H c.args.index c.args.ms s past
     (ap (λ (x : WorldState). x.moment) same ∙ end, ap (λ (x : WorldState). x.nodes) same, ap (λ (x : WorldState). x.wire) same, ap (λ (x : WorldState). x.done) same) in
     (c.pass.ensures.record_is ∙ ap (λ (m : ℕ). said m c.args.index (plain verb.Advance) None fate.Done []) end ∙ turn.0, turn.1, turn.2)
-
-pub returns-then-going-eq0-clause-plays : goal.returns-then-going-eq0-clause-plays
-returns-then-going-eq0-clause-plays c = λ d H s.
-    let w = c.args.self.now in
-    let end : c.going_on-going.result.began.0 + c.args.ms ≡ w.began + c.args.ms = ap (λ (m : ℕ). m + c.args.ms) c.going_on-going.ensures.began in
-    let due = c.in-Some.ensures.due d H s in
-    let before = due.1 in
-    let test = c.if-going-eq0.true in
-    let zero : c.going_on-going.result.left ≡ 0 = grind (arith, nat_tests) in
-    absurd (some_left c.of_its_event.ensures c.falls.ensures d w H c.args.index c.args.ms (due_is c.in-Some.due) (subst (λ (x : WorldState). IsTopology x.topology) c.self.view_is c.self.invariant.rules) c.requires.event c.requires.again s due.0
-    (omega (arith, end, before)) (sym c.going_on-going.ensures.left ∙ zero))
 
 pub returns-in-Ok-clause-plays : goal.returns-in-Ok-clause-plays
 returns-in-Ok-clause-plays c = λ d H s.

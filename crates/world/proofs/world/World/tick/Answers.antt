@@ -1,4 +1,4 @@
-use Rattle.std.proofs.Common.{◌≡◌, ◌-◌, ℕ, [], List, Some, None, refl, subst}
+use Rattle.std.proofs.Common.{◌≡◌, ℕ, [], List, Some, None, refl, subst}
 use Rattle.topology.specs.Topology.{node_at}
 use Rattle.world.specs.World.{WorldState, StandsFor, state_of}
 use Rattle.history.specs.declared.event.Event.{Event}
@@ -19,5 +19,5 @@ returns-clause-plays c =
     subst (λ (x : WorldState). (d : Draws) (H : List Full) → StandsFor d x H → (e : Event) → forgotten x.topology e ≡ [] → node_at x.topology c.args.due.number ≡ Some c.args.due.node
     → Plays d x c.act.new.self H (ticks_at d x H (numbered c.args.index e) (due_is c.args.due)) c.act.result) c.self.view_is (λ d H s e quiet there.
     subst (λ (m : ℕ). Plays d old c.act.new.self H (acts d w.topology.now H (numbered c.args.index e) act.Tick None m c.args.due.number no_ep ticked c.args.due.node) c.act.result) c.later-now.ensures
-    (plays_from d (state_of w.topology.now c.later-now.result.0 (Some (record { began = c.args.going.began; ms = c.args.going.ms; left = c.args.going.left - 1 })) w.nodes.items w.wire w.stopped) old c.act.new.self H
+    (plays_from d (state_of w.topology.now c.later-now.result.0 (Some c.args.going) w.nodes.items w.wire w.stopped) old c.act.new.self H
     (acts d w.topology.now H (numbered c.args.index e) act.Tick None c.later-now.result.0 c.args.due.number no_ep ticked c.args.due.node) c.act.result (refl, refl, refl) (c.act.ensures.plays d H (record { nodes = s.nodes; wire = s.wire }) e quiet there)))

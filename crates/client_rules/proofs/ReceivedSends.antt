@@ -1,0 +1,93 @@
+-- What a client sends for a datagram, by its fate.
+use Rattle.std.proofs.Common.{◌≡◌, ℕ, Bool, true, cond, List, map, Option, Some, None, refl, sym, ap, subst}
+use Rattle.std.specs.Prelude.{option_to_list, unwrap_or}
+use Rattle.std.specs.List.{AllByRecursion}
+use Rattle.td_base.specs.declared.ipv6.Ip6.{Ip6}
+use Rattle.td_base.specs.declared.endpoint.Ep.{Ep}
+use Rattle.indications.specs.Leads.{origin_in}
+use Rattle.teredo_addr.specs.Teredo.{unspecified}
+use Rattle.bubble.specs.Payloads.{Value}
+use Rattle.bubble.specs.Reads.{value_in}
+use Rattle.bubble.specs.PacketsIn.{source_in}
+use Rattle.teredo_node.specs.declared.fate.Fate.{Fate}
+use Rattle.teredo_node.specs.declared.fate.Fate.TheVariants as fate
+use Rattle.teredo_node.specs.Step.{Send}
+use Rattle.teredo_node.specs.Sends.{send, releases}
+use Rattle.teredo_node.specs.Words.{nonce_from}
+use Rattle.teredo_node.specs.Journal.{Words}
+use Rattle.qualify.specs.declared.settings.Settings.{Settings}
+use Rattle.qualify.specs.declared.phase.Phase.{Phase}
+use Rattle.qualify.specs.Qualification.{Qualification, qualification}
+use Rattle.qualify.specs.Solicitations.{is_qualified, own_address}
+use Rattle.qualify.specs.Advertisements.{heard}
+use Rattle.client_rules.specs.Standing.{Standing, known_in}
+use Rattle.client_rules.specs.Tries.{direct_bubble}
+use Rattle.client_rules.specs.Reception.{seen, answers_bubble, tests_source, reception_step, reception_fate, reception}
+use Rattle.client_rules.specs.Warrants.{IsForClient, ReceivedOnlyIf}
+use Rattle.client_rules.specs.Epochs.{IsOwnTo}
+use Rattle.client_rules.specs.Sendings.{IsSending, bubbles, tests}
+use Rattle.client_rules.proofs.Received.{reception_is_warranted}
+use Rattle.client_rules.proofs.Sendings.{carried, IsReady, address_is}
+
+-- what holds of all that a datagram's fate may send
+record OfReception (P : Send → Type 0) (s : Settings) (a : Standing) (from : Ep) (v : Value) (w : Words) (f : Fate) : Type 0 where
+  answered : f ≡ fate.Indirect → AllByRecursion P (answers_bubble s a v).sends
+  rule1 : f ≡ fate.Rule1 → AllByRecursion P (releases from (known_in a).waiting)
+  rule1_bubble : f ≡ fate.Rule1Bubble → AllByRecursion P (releases from (known_in a).waiting)
+  rule2 : f ≡ fate.Rule2 → AllByRecursion P (releases from (known_in a).waiting)
+  rule3 : f ≡ fate.Rule3 → AllByRecursion P (releases from (known_in a).waiting)
+  rule3_bubble : f ≡ fate.Rule3Bubble → AllByRecursion P (releases from (known_in a).waiting)
+  tested : f ≡ fate.SuspiciousTest → AllByRecursion P (tests_source s a v w).sends
+
+by_reception : (P : Send → Type 0) (s : Settings) (a : Standing) (from : Ep) (x : List ℕ) (v : Value) (w : Words) (f : Fate) → OfReception P s a from v w f → AllByRecursion P (reception_step s a from x v w f).sends
+by_reception P s a from x v w fate.Indirect h = h.answered refl
+by_reception P s a from x v w fate.Rule1 h = h.rule1 refl
+by_reception P s a from x v w fate.Rule1Bubble h = h.rule1_bubble refl
+by_reception P s a from x v w fate.Rule2 h = h.rule2 refl
+by_reception P s a from x v w fate.Rule3 h = h.rule3 refl
+by_reception P s a from x v w fate.Rule3Bubble h = h.rule3_bubble refl
+by_reception P s a from x v w fate.SuspiciousTest h = h.tested refl
+by_reception P s a from x v w _ h = tt
+
+-- the source of a packet that every line looked at
+record HasSource (s : Settings) (a : Standing) (from : Ep) (x : List ℕ) : Type 0 where
+  qualified : is_qualified a.qualification.phase ≡ true
+  source : source_in x ≡ Some (value_in x).packet.src
+
+has_source : (s : Settings) (a : Standing) (from : Ep) (x : List ℕ) → IsForClient (seen s a from x) → HasSource s a from x
+unfolding seen source_in
+has_source s a from x m = record { qualified = m.qualified; source = ap (λ (b : Bool). cond b (Some (value_in x).packet.src) None) m.sound.payload }
+
+given_back : (o : Option Ip6) (p : Ip6) → o ≡ Some p → Some (unwrap_or o unspecified) ≡ o
+given_back o p h = subst (λ k. Some (unwrap_or k unspecified) ≡ k) (sym h) refl
+
+released : (s : Settings) (a : Standing) (after : Phase) (from : Ep) (x : List ℕ) → IsReady a (source_in x) → HasSource s a from x → AllByRecursion (IsSending s a.qualification after (source_in x)) (releases from (known_in a).waiting)
+released s a after from x r h =
+    carried s a.qualification after (source_in x) from (known_in a).waiting
+    (subst (λ to. AllByRecursion (IsOwnTo a.qualification.address to) (known_in a).waiting) (given_back (source_in x) (value_in x).packet.src h.source) r.waiting)
+
+answered_to : (s : Settings) (q : Qualification) (after : Phase) (own p : Ip6) (o : Option Ep) → q.address ≡ Some own → AllByRecursion (IsSending s q after (Some p)) (map (direct_bubble own p) (option_to_list o))
+answered_to s q after own p None is = tt
+answered_to s q after own p (Some to) is = (bubbles own p to is refl refl, tt)
+
+pub of_datagram : (s : Settings) (a : Standing) (after : Phase) (from : Ep) (x : List ℕ) (w : Words) → IsReady a (source_in x) → AllByRecursion (IsSending s a.qualification after (source_in x)) (reception s a from x w).sends
+unfolding reception
+of_datagram s a after from x w r =
+    let f = reception_fate s a from x in
+    let h = heard s a.qualification from (value_in x) in
+    let told : (g : Fate) → f ≡ g → ReceivedOnlyIf g (seen s a from x) h = λ g k. subst (λ i. ReceivedOnlyIf i (seen s a from x) h) k (reception_is_warranted s a from x) in
+    let release = λ (m : IsForClient (seen s a from x)). released s a after from x r (has_source s a from x m) in
+    by_reception (IsSending s a.qualification after (source_in x)) s a from x (value_in x) w f (record {
+      answered = λ k.
+          let m = has_source s a from x (told fate.Indirect k).mine in
+          subst (λ peer. AllByRecursion (IsSending s a.qualification after peer) (answers_bubble s a (value_in x)).sends) (sym m.source)
+          (answered_to s a.qualification after (own_address a.qualification) (value_in x).packet.src (origin_in (value_in x).lead) (address_is a (source_in x) r m.qualified));
+      rule1 = λ k. release (told fate.Rule1 k).direct.mine;
+      rule1_bubble = λ k. release (told fate.Rule1Bubble k).direct.mine;
+      rule2 = λ k. release (told fate.Rule2 k).direct.mine;
+      rule3 = λ k. release (told fate.Rule3 k).direct.mine;
+      rule3_bubble = λ k. release (told fate.Rule3Bubble k).direct.mine;
+      tested = λ k.
+          let m = has_source s a from x (told fate.SuspiciousTest k).direct.mine in
+          (tests (own_address a.qualification) (value_in x).packet.src (nonce_from w) (address_is a (source_in x) r m.qualified) m.source refl, tt);
+    })

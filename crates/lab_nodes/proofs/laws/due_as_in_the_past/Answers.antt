@@ -1,0 +1,5 @@
+use Rattle.lab_nodes.proofs.Moments.{as_in_the_past}
+use Rattle.lab_nodes.proofs.laws.due_as_in_the_past.Goals as goal
+
+pub returns : goal.returns
+returns c = as_in_the_past c.table_is_read.ensures

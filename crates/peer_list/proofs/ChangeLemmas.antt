@@ -1,0 +1,134 @@
+-- What a call on one entry leaves: what stays true, and what each address finds.
+use Rattle.std.proofs.Common.{◌≡◌, ◌≤◌, inl, inr, ℕ, true, cond, find, Option, Some, None, refl, sym, ap, ◌∙◌, subst, arith}
+use Rattle.std.specs.Prelude.{is_some}
+use Rattle.std.proofs.lemmas.Bool.{cases_eq}
+use Rattle.std.specs.BTreeMap as map
+use Rattle.slab.specs.Slab.{Slab, get, with_value, ContainsKey}
+use Rattle.slab.proofs.SlabLemmas.{Updates-with_value}
+use Rattle.td_base.specs.Ip6.{same_ip6, cmp_ip6}
+use Rattle.td_base.specs.declared.ipv6.Ip6.{Ip6}
+use Rattle.td_base.specs.declared.millis.Millis.{Millis}
+use Rattle.peer_list.specs.declared.entries.Entries.{Entries}
+use Rattle.peer_list.specs.Peers.{Peer}
+use Rattle.peer_list.specs.Judged.{due_of}
+use Rattle.peer_list.specs.Waiting.{Listing}
+use Rattle.peer_list.specs.Table.{table, is_of, peer_in, known_to}
+use Rattle.peer_list.specs.Calls.{Updates, touched_at}
+use Rattle.peer_list.specs.Sound.{IsSince}
+use Rattle.peer_list.specs.Entries.{listings_in, listings_of, key_of, entry_under, NameEachOther, due_at, IsWhole, IsWholeBut, IsKept, with_peer_at, IsAfter}
+use Rattle.peer_list.proofs.OrderLemmas.{turn_same}
+use Rattle.peer_list.proofs.ListingLemmas.{updates_by, known_there}
+use Rattle.peer_list.proofs.EntryLemmas.{Changes, finds, led, names_changed, once_changed, since_changed, entry_changed, turn_changed, listings_same}
+
+pub is_there : (s : Slab Listing) (key : ℕ) (l : Listing) → get s key ≡ Some l → ContainsKey s key
+is_there s key l was = ap is_some was
+
+pub change_at : (s : Slab Listing) (key : ℕ) (l : Listing) (peer : Peer) → get s key ≡ Some l → Changes s (with_value s key (with_peer_at l peer)) key l (with_peer_at l peer)
+change_at s key l peer was = record { was = was; who = refl; update = Updates-with_value s key (with_peer_at l peer) (is_there s key l was) }
+
+-- an address that finds its entry has a key, and the entry is its own
+pub who_is : (e : Entries) (who : Ip6) (key : ℕ) (l : Listing) → NameEachOther e.slab e.index → key_of e who ≡ Some key → get e.slab key ≡ Some l → l.who ≡ who
+who_is e who key l n k at =
+    let there = led e.slab e.index.entries who key n.leads k in
+    ap (λ o. who_of o) (sym at ∙ there.at) ∙ there.who
+  where
+    who_of : Option Listing → Ip6
+    who_of None = l.who
+    who_of (Some x) = x.who
+
+pub there_at : (e : Entries) (who : Ip6) (key : ℕ) → NameEachOther e.slab e.index → key_of e who ≡ Some key → ContainsKey e.slab key
+there_at e who key n k = ap is_some (led e.slab e.index.entries who key n.leads k).at
+
+pub found_at : (e : Entries) (who : Ip6) (key : ℕ) (l : Listing) → NameEachOther e.slab e.index → key_of e who ≡ Some key → get e.slab key ≡ Some l → find (is_of who) (listings_of e) ≡ Some l
+found_at e who key l n k at = finds e who n ∙ ap (entry_under e.slab) k ∙ at
+
+-- NEW IS OLD WITH ANOTHER PEER UNDER A KEY
+
+module _ (old new : Entries) (key : ℕ) (l : Listing) (peer : Peer) (a : IsAfter old new key l peer) where
+  change : Changes old.slab new.slab key l (with_peer_at l peer)
+  change = subst (λ (t : Slab Listing). Changes old.slab t key l (with_peer_at l peer)) (sym a.slab) (change_at old.slab key l peer a.was)
+
+  pub names_after : IsWhole old → NameEachOther new.slab new.index
+  names_after w = subst (NameEachOther new.slab) (sym a.index) (names_changed old.slab new.slab key l (with_peer_at l peer) change old.index w.names)
+
+  pub whole_but : new.order ≡ old.order → IsWhole old → IsWholeBut new key
+  whole_but order w = record {
+    names = names_after w;
+    there = ap is_some change.update.changed;
+    once = rw order (once_changed old.slab new.slab key l (with_peer_at l peer) change old.order.items w.once);
+    turn = rw order (turn_changed old.slab new.slab key l (with_peer_at l peer) change old.order.items w.turn);
+  }
+
+  pub kept_after : (m n : ℕ) → IsKept old m → m ≤ n → IsWhole new → IsSince old.touched.0 peer.touched → IsKept new n
+  kept_after m n k later w since = record {
+    whole = w;
+    touched = rw a.touched (since_changed old.slab new.slab key l (with_peer_at l peer) change old.touched.0 since k.touched);
+    past = let past = k.past in let same = ap (λ (t : Millis). t.0) a.touched in omega (arith, past, later, same);
+  }
+
+  -- each other address finds what it found
+  pub finds_after : IsWhole old → (p : Ip6) → find (is_of p) (listings_of new) ≡ cond (same_ip6 p l.who) (Some (with_peer_at l peer)) (find (is_of p) (listings_of old))
+  finds_after w p =
+      finds new p (names_after w)
+      ∙ ap (λ x. entry_under new.slab (map.get cmp_ip6 x p)) a.index
+      ∙ entry_changed old.slab new.slab key l (with_peer_at l peer) change old.index p w.names
+      ∙ ap (λ o. cond (same_ip6 p l.who) (Some (with_peer_at l peer)) o) (sym (finds old p w.names))
+
+  pub finds_at : (who : Ip6) → IsWhole old → key_of old who ≡ Some key → (p : Ip6) → find (is_of p) (listings_of new) ≡ cond (same_ip6 p who) (Some (with_peer_at l peer)) (find (is_of p) (listings_of old))
+  finds_at who w found p =
+      let same : l.who ≡ who = who_is old who key l w.names found a.was in
+      finds_after w p ∙ ap (λ q. cond (same_ip6 p q) (Some (with_peer_at l peer)) (find (is_of p) (listings_of old))) same
+
+  -- so the table is updated at that address
+  pub updates_after : (k m : ℕ) (who : Ip6) → IsWhole old → key_of old who ≡ Some key → Updates (table k (listings_of old)) (table m (listings_of new)) m who peer
+  updates_after k m who w found = updates_by (table k (listings_of old)) (table m (listings_of new)) m who (with_peer_at l peer) refl (finds_at who w found)
+
+  -- where it is due as before no key moves
+  whole_due : due_at (Some (with_peer_at l peer)) ≡ due_at (Some l) → new.order ≡ old.order → IsWhole old → IsWhole new
+  whole_due still order w = record {
+    names = names_after w;
+    once = rw order (once_changed old.slab new.slab key l (with_peer_at l peer) change old.order.items w.once);
+    turn = rw order (turn_same old.slab new.slab old.order.items due_same w.turn);
+  } where
+    due_same : (k : ℕ) → due_at (get new.slab k) ≡ due_at (get old.slab k)
+    due_same k = elim (cases_eq k key) [
+      | inl same ↦ ap (λ i. due_at (get new.slab i)) same ∙ ap due_at change.update.changed ∙ still ∙ sym (ap (λ i. due_at (get old.slab i)) same ∙ ap due_at a.was)
+      | inr differs ↦ ap due_at (change.update.others k differs)
+    ]
+
+  -- a touch moves none
+  due_kept : (n : ℕ) → peer ≡ touched_at n l.peer → due_at (Some (with_peer_at l peer)) ≡ due_at (Some l)
+  unfolding due_of
+  due_kept n is = ap (λ (p : Peer). due_at (Some (with_peer_at l p))) is
+
+  pub whole_touched : (n : ℕ) → peer ≡ touched_at n l.peer → new.order ≡ old.order → IsWhole old → IsWhole new
+  whole_touched n is order w = whole_due (due_kept n is) order w
+
+  -- nor does a call that leaves the peer
+  pub whole_left : peer ≡ l.peer → new.order ≡ old.order → IsWhole old → IsWhole new
+  whole_left is order w = whole_due (ap (λ (p : Peer). due_at (Some (with_peer_at l p))) is) order w
+
+  -- then all listings are as before
+  pub listings_left : peer ≡ l.peer → listings_of new ≡ listings_of old
+  listings_left is = listings_same old.slab new.slab same new.index.entries ∙ ap (λ x. listings_in old.slab x.entries) a.index where
+    same : (k : ℕ) → get new.slab k ≡ get old.slab k
+    same k = elim (cases_eq k key) [
+      | inl here ↦ ap (λ i. get new.slab i) here ∙ change.update.changed ∙ ap (λ (p : Peer). Some (with_peer_at l p)) is ∙ sym (ap (λ i. get old.slab i) here ∙ a.was)
+      | inr differs ↦ change.update.others k differs
+    ]
+
+-- what is known of an address that is listed, and has a key
+pub known_at : (e : Entries) (k n : ℕ) (who : Ip6) (key : ℕ) (l : Listing) → IsWhole e → key_of e who ≡ Some key → get e.slab key ≡ Some l → is_some (peer_in (table k (listings_of e)) n who) ≡ true → known_to (table k (listings_of e)) n who ≡ l.peer
+known_at e k n who key l w found at listed = known_there (table k (listings_of e)) n who l (found_at e who key l w.names found at) listed
+
+-- a peer that was touched then, or that wasn't touched
+pub since_touched : (e : Entries) (m n : ℕ) (peer : Peer) → IsKept e m → m ≤ n → peer.touched ≡ Some n → IsSince e.touched.0 peer.touched
+since_touched e m n peer k later touched = subst (IsSince e.touched.0) (sym touched) (let past = k.past in omega (arith, past, later))
+
+pub since_untouched : (e : Entries) (m key : ℕ) (l : Listing) (peer : Peer) → IsKept e m → get e.slab key ≡ Some l → peer.touched ≡ l.peer.touched → IsSince e.touched.0 peer.touched
+since_untouched e m key l peer k at touched = subst (IsSince e.touched.0) (sym touched) (k.touched key l at)
+
+-- whoever was touched since one moment was touched since one before
+pub since_before : (a b : ℕ) (o : Option ℕ) → a ≤ b → IsSince b o → IsSince a o
+since_before a b None le h = h
+since_before a b (Some k) le h = omega (arith, le, h)

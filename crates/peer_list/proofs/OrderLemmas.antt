@@ -1,0 +1,328 @@
+-- The keys of the entries in the order in which these are due: what is put among them, and what is taken out.
+use Rattle.std.proofs.Common.{◌≡◌, ◌≤◌, ◌<◌, ◌⊎◌, inl, inr, ⊎_elim, ℕ, zero, suc, ◌+◌, not, Bool, true, false, cond, List, [], ◌∷◌, ◌++◌, length, filter, get_or, take, drop, Option, Some, None, refl, sym, ap, ◌∙◌, subst, arith}
+use Rattle.std.specs.Prelude.{nat_eq, is_some}
+use Rattle.std.specs.List.{AllByRecursion, count_by, insert, remove, position, position_or_len}
+use Rattle.std.specs.List.Sorted.{IsPartitionedBy, IsPartitionPoint}
+use Rattle.std.proofs.lemmas.Bool.{false≢true, eqb-true, eq-eqb, eqb-false, ne_eqb, lt-ltb}
+use Rattle.std.proofs.lemmas.List.{take-append-drop}
+use Rattle.std.proofs.lemmas.List.Sums.{sum_by-cons}
+use Rattle.slab.specs.Slab.{Slab, get}
+use Rattle.td_base.specs.declared.ipv6.Ip6.{Ip6}
+use Rattle.td_base.specs.declared.millis.Millis.{Millis}
+use Rattle.peer_list.specs.Waiting.{Listing}
+use Rattle.peer_list.specs.Entries.{due_at, is_sooner, AreInTurn, AreKeysOnce, without}
+use Rattle.peer_list.proofs.FirstLemmas.{sooner_back, sooner_through}
+
+-- LISTS OF NUMBERS
+
+pub all_at : (P : ℕ → Type 0) (ks : List ℕ) (i d : ℕ) → i < length ks → AllByRecursion P ks → P (get_or ks i d)
+all_at P [] i d k a = absurd (omega arith)
+all_at P (x ∷ ks) zero d k a = a.0
+all_at P (x ∷ ks) (suc i) d k a = all_at P ks i d (omega arith) a.1
+
+pub all_to : (P Q : ℕ → Type 0) (ks : List ℕ) → ((k : ℕ) → P k → Q k) → AllByRecursion P ks → AllByRecursion Q ks
+all_to P Q [] f a = tt
+all_to P Q (k ∷ ks) f a = (f k a.0, all_to P Q ks f a.1)
+
+all_kept : (P : ℕ → Type 0) (test : ℕ → Bool) (ks : List ℕ) → AllByRecursion P ks → AllByRecursion P (filter test ks)
+all_kept P test [] a = tt
+all_kept P test (k ∷ ks) a = elim (test k) as (λ b. AllByRecursion P (cond b (k ∷ filter test ks) (filter test ks))) [ true ↦ (a.0, all_kept P test ks a.1) | false ↦ all_kept P test ks a.1 ]
+
+all_pass : (test : ℕ → Bool) (ks : List ℕ) → AllByRecursion (λ k. test k ≡ true) (filter test ks)
+all_pass test [] = tt
+all_pass test (k ∷ ks) = by_test (test k) refl (all_pass test ks) where
+  by_test : (b : Bool) → test k ≡ b → AllByRecursion (λ x. test x ≡ true) (filter test ks) → AllByRecursion (λ x. test x ≡ true) (cond b (k ∷ filter test ks) (filter test ks))
+  by_test true h rest = (h, rest)
+  by_test false h rest = rest
+
+all_more : (P : ℕ → Type 0) (xs ys : List ℕ) (y : ℕ) → P y → AllByRecursion P (xs ++ ys) → AllByRecursion P (xs ++ y ∷ ys)
+all_more P [] ys y h a = (h, a)
+all_more P (x ∷ xs) ys y h a = (a.0, all_more P xs ys y h a.1)
+
+front_all : (P : ℕ → Type 0) (ls : List ℕ) (i : ℕ) → i ≤ length ls → ((k d : ℕ) → 0 ≤ k → k < i → P (get_or ls k d)) → AllByRecursion P (take i ls)
+front_all P ls zero l f = tt
+front_all P [] (suc i) l f = absurd (omega arith)
+front_all P (x ∷ ls) (suc i) l f = (f 0 x (omega arith) (omega arith), front_all P ls i (omega arith) (λ k d z b. f (suc k) d (omega arith) (omega (arith, b))))
+
+back_all : (P : ℕ → Type 0) (ls : List ℕ) (i : ℕ) → ((k d : ℕ) → i ≤ k → k < length ls → P (get_or ls k d)) → AllByRecursion P (drop i ls)
+back_all P [] zero f = tt
+back_all P [] (suc i) f = tt
+back_all P (x ∷ ls) zero f = (f 0 x (omega arith) (omega arith), back_all P ls zero (λ k d z b. f (suc k) d (omega arith) (omega (arith, b))))
+back_all P (x ∷ ls) (suc i) f = back_all P ls i (λ k d z b. f (suc k) d (omega (arith, z)) (omega (arith, b)))
+
+-- HOW OFTEN A KEY STANDS THERE
+
+abbrev pub one_if : Bool → ℕ
+one_if b = cond b 1 0
+
+count_cons : (test : ℕ → Bool) (x : ℕ) (xs : List ℕ) → count_by test (x ∷ xs) ≡ one_if (test x) + count_by test xs
+count_cons test x xs = sum_by-cons (λ y. cond (test y) 1 0) x xs
+
+count_between : (test : ℕ → Bool) (xs ys : List ℕ) (y : ℕ) → count_by test (xs ++ y ∷ ys) ≡ count_by test (xs ++ ys) + cond (test y) 1 0
+count_between test [] ys y = let one = count_cons test y ys in omega (arith, one)
+count_between test (x ∷ xs) ys y =
+    let one = count_cons test x (xs ++ y ∷ ys) in
+    let two = count_cons test x (xs ++ ys) in
+    let rest = count_between test xs ys y in
+    omega (arith, one, two, rest)
+
+pub count_put : (test : ℕ → Bool) (ks : List ℕ) (i y : ℕ) → count_by test (insert ks i y) ≡ count_by test ks + cond (test y) 1 0
+count_put test ks i y = count_between test (take i ks) (drop i ks) y ∙ ap (λ xs. count_by test xs + cond (test y) 1 0) (take-append-drop i ks)
+
+eq_turned : (a b : ℕ) → nat_eq a b ≡ false → nat_eq b a ≡ false
+eq_turned a b h = ne_eqb b a (λ same. eqb-false a b h (sym same))
+
+eq_turned_true : (a b : ℕ) → nat_eq b a ≡ true → nat_eq a b ≡ true
+eq_turned_true a b h = eq-eqb a b (sym (eqb-true b a h))
+
+-- a key that stands in no place differs from each
+none_there : (key : ℕ) (ks : List ℕ) → count_by (nat_eq key) ks ≡ 0 → AllByRecursion (λ k. nat_eq key k ≡ false) ks
+none_there key [] h = tt
+none_there key (k ∷ ks) h = by_test (nat_eq key k) refl (none_there key ks) where
+  by_test : (b : Bool) → nat_eq key k ≡ b → (count_by (nat_eq key) ks ≡ 0 → AllByRecursion (λ x. nat_eq key x ≡ false) ks) → AllByRecursion (λ x. nat_eq key x ≡ false) (k ∷ ks)
+  by_test true e rest = absurd (let one = count_cons (nat_eq key) k ks in let here : one_if (nat_eq key k) ≡ 1 = ap one_if e in omega (arith, one, here, h))
+  by_test false e rest =
+      let one = count_cons (nat_eq key) k ks in
+      let here : one_if (nat_eq key k) ≡ 0 = ap one_if e in
+      (e, rest (omega (arith, one, here, h)))
+
+-- whoever stands there is counted
+pub counted_at : (ks : List ℕ) (i d : ℕ) → i < length ks → 0 < count_by (nat_eq (get_or ks i d)) ks
+counted_at [] i d k = absurd (omega arith)
+counted_at (x ∷ ks) zero d k =
+    let one = count_cons (nat_eq x) x ks in
+    let here : one_if (nat_eq x x) ≡ 1 = ap one_if (eq-eqb x x refl) in
+    omega (arith, one, here)
+counted_at (x ∷ ks) (suc i) d k =
+    let one = count_cons (nat_eq (get_or ks i d)) x ks in
+    let rest = counted_at ks i d (omega arith) in
+    omega (arith, one, rest)
+
+-- and whatever is counted stands there
+pub place_of : (key : ℕ) (ks : List ℕ) → 0 < count_by (nat_eq key) ks → (i : ℕ) × (i < length ks) × ((d : ℕ) → get_or ks i d ≡ key)
+place_of key [] h = absurd (omega (arith, h))
+place_of key (k ∷ ks) h = by_test (nat_eq key k) refl (place_of key ks) where
+  by_test : (b : Bool) → nat_eq key k ≡ b → (0 < count_by (nat_eq key) ks → (i : ℕ) × (i < length ks) × ((d : ℕ) → get_or ks i d ≡ key)) → (i : ℕ) × (i < length (k ∷ ks)) × ((d : ℕ) → get_or (k ∷ ks) i d ≡ key)
+  by_test true e rest = (0, omega arith, λ d. sym (eqb-true key k e))
+  by_test false e rest =
+      let one = count_cons (nat_eq key) k ks in
+      let here : one_if (nat_eq key k) ≡ 0 = ap one_if e in
+      let there = rest (omega (arith, one, here, h)) in
+      (suc there.0, omega (arith, there.1), there.2)
+
+-- those that pass a test
+pub count_kept : (key : ℕ) (test : ℕ → Bool) (ks : List ℕ) → count_by (nat_eq key) (filter test ks) ≡ cond (test key) (count_by (nat_eq key) ks) 0
+count_kept key test [] = by_test (test key) where
+  by_test : (b : Bool) → count_by (nat_eq key) [] ≡ cond b (count_by (nat_eq key) []) 0
+  by_test true = refl
+  by_test false = refl
+count_kept key test (k ∷ ks) = by_both (nat_eq key k) (test k) (test key) refl refl refl (count_kept key test ks) where
+  by_both : (b c t : Bool) → nat_eq key k ≡ b → test k ≡ c → test key ≡ t → count_by (nat_eq key) (filter test ks) ≡ cond (test key) (count_by (nat_eq key) ks) 0 → count_by (nat_eq key) (cond (test k) (k ∷ filter test ks) (filter test ks)) ≡ cond (test key) (count_by (nat_eq key) (k ∷ ks)) 0
+  by_both true true true e c t rest =
+      let one = count_cons (nat_eq key) k ks in
+      let two = count_cons (nat_eq key) k (filter test ks) in
+      let here : count_by (nat_eq key) (filter test ks) ≡ count_by (nat_eq key) ks = rest ∙ ap (λ x. cond x (count_by (nat_eq key) ks) 0) t in
+      rw (c, t) (omega (arith, one, two, here))
+  by_both true true false e c t rest = absurd (false≢true (sym t ∙ ap test (eqb-true key k e) ∙ c))
+  by_both true false true e c t rest = absurd (false≢true (sym c ∙ sym (ap test (eqb-true key k e)) ∙ t))
+  by_both true false false e c t rest = rw (c, t) (rest ∙ ap (λ x. cond x (count_by (nat_eq key) ks) 0) t)
+  by_both false true t e c f rest =
+      let here : one_if (nat_eq key k) ≡ 0 = ap one_if e in
+      let one = count_cons (nat_eq key) k ks in
+      let two = count_cons (nat_eq key) k (filter test ks) in
+      let same : count_by (nat_eq key) (k ∷ ks) ≡ count_by (nat_eq key) ks = omega (arith, one, here) in
+      let same_too : count_by (nat_eq key) (k ∷ filter test ks) ≡ count_by (nat_eq key) (filter test ks) = omega (arith, two, here) in
+      rw c (same_too ∙ rest ∙ ap (λ n. cond (test key) n 0) (sym same))
+  by_both false false t e c f rest =
+      let here : one_if (nat_eq key k) ≡ 0 = ap one_if e in
+      let one = count_cons (nat_eq key) k ks in
+      let same : count_by (nat_eq key) (k ∷ ks) ≡ count_by (nat_eq key) ks = omega (arith, one, here) in
+      rw c (rest ∙ ap (λ n. cond (test key) n 0) (sym same))
+
+-- one that stands there once makes the rest shorter
+pub shorter_without : (key : ℕ) (ks : List ℕ) → 0 < count_by (nat_eq key) ks → length (without key ks) < length ks
+shorter_without key [] h = absurd (omega (arith, h))
+shorter_without key (k ∷ ks) h = by_test (nat_eq k key) refl (shorter_without key ks) where
+  by_test : (b : Bool) → nat_eq k key ≡ b → (0 < count_by (nat_eq key) ks → length (without key ks) < length ks) → length (cond (not b) (k ∷ without key ks) (without key ks)) < length (k ∷ ks)
+  by_test true e rest = let less = at_most ks in omega (arith, less) where
+    at_most : (xs : List ℕ) → length (without key xs) ≤ length xs
+    at_most [] = omega arith
+    at_most (x ∷ xs) = by (not (nat_eq x key)) (at_most xs) where
+      by : (b : Bool) → length (without key xs) ≤ length xs → length (cond b (x ∷ without key xs) (without key xs)) ≤ length (x ∷ xs)
+      by true l = omega (arith, l)
+      by false l = omega (arith, l)
+  by_test false e rest =
+      let other : nat_eq key k ≡ false = differ (nat_eq key k) refl in
+      let one = count_cons (nat_eq key) k ks in
+      let here : one_if (nat_eq key k) ≡ 0 = ap one_if other in
+      let less = rest (omega (arith, one, here, h)) in
+      omega (arith, less)
+    where
+      differ : (b : Bool) → nat_eq key k ≡ b → nat_eq key k ≡ false
+      differ false d = d
+      differ true d = absurd (false≢true (sym e ∙ eq-eqb k key (sym (eqb-true key k d))))
+
+-- IN TURN
+
+module _ (s : Slab Listing) where
+  abbrev due : ℕ → Option (Millis × Ip6)
+  due k = due_at (get s k)
+
+  pub turn_at : (ks : List ℕ) (i j d : ℕ) → i < j → j < length ks → AreInTurn s ks → is_sooner (due (get_or ks j d)) (due (get_or ks i d)) ≡ false
+  turn_at [] i j d k l a = absurd (omega arith)
+  turn_at (x ∷ ks) i zero d k l a = absurd (omega arith)
+  turn_at (x ∷ ks) zero (suc j) d k l a = all_at (λ later. is_sooner (due later) (due x) ≡ false) ks j d (omega arith) a.0
+  turn_at (x ∷ ks) (suc i) (suc j) d k l a = turn_at ks i j d (omega arith) (omega arith) a.1
+
+  pub turn_kept : (test : ℕ → Bool) (ks : List ℕ) → AreInTurn s ks → AreInTurn s (filter test ks)
+  turn_kept test [] a = tt
+  turn_kept test (k ∷ ks) a = elim (test k) as (λ b. AreInTurn s (cond b (k ∷ filter test ks) (filter test ks))) [ true ↦ (all_kept (λ later. is_sooner (due later) (due k) ≡ false) test ks a.0, turn_kept test ks a.1) | false ↦ turn_kept test ks a.1 ]
+
+  turn_more : (xs ys : List ℕ) (y : ℕ) → AllByRecursion (λ x. is_sooner (due y) (due x) ≡ false) xs → AllByRecursion (λ x. is_sooner (due x) (due y) ≡ false) ys → AreInTurn s (xs ++ ys) → AreInTurn s (xs ++ y ∷ ys)
+  turn_more [] ys y before behind a = (behind, a)
+  turn_more (x ∷ xs) ys y before behind a = (all_more (λ later. is_sooner (due later) (due x) ≡ false) xs ys y before.0 a.0, turn_more xs ys y before.1 behind a.1)
+
+  -- what isn't due later than the key
+  abbrev pub stays : ℕ → ℕ → Bool
+  stays key other = not (is_sooner (due key) (due other))
+
+  not_of : (b : Bool) → not b ≡ true → b ≡ false
+  not_of true h = absurd (false≢true h)
+  not_of false h = refl
+
+  not_not : (b : Bool) → not b ≡ false → b ≡ true
+  not_not true h = refl
+  not_not false h = absurd (false≢true (sym h))
+
+  pub parted : (ks : List ℕ) (key : ℕ) → AreInTurn s ks → IsPartitionedBy (stays key) ks
+  parted ks key a i j d le lt late = ⊎_elim
+      (λ (below : i < j). by_test (is_sooner (due key) (due (get_or ks i d))) refl (turn_at ks i j d below lt a))
+      (λ (same : i ≡ j). subst (λ k. stays key (get_or ks k d) ≡ true) (sym same) late)
+      (split i j le)
+    where
+      by_test : (b : Bool) → is_sooner (due key) (due (get_or ks i d)) ≡ b → is_sooner (due (get_or ks j d)) (due (get_or ks i d)) ≡ false → not b ≡ true
+      by_test false e t = refl
+      by_test true e t = absurd (false≢true (sym (not_of (is_sooner (due key) (due (get_or ks j d))) late) ∙ sooner_through (due key) (due (get_or ks i d)) (due (get_or ks j d)) e t))
+
+      split : (i j : ℕ) → i ≤ j → (i < j) ⊎ (i ≡ j)
+      split zero zero l = inr refl
+      split zero (suc j) l = inl (omega arith)
+      split (suc i) zero l = absurd (omega arith)
+      split (suc i) (suc j) l = ⊎_elim (λ (b : i < j). inl (omega (arith, b))) (λ (e : i ≡ j). inr (ap suc e)) (split i j (omega arith))
+
+  pub turn_put : (ks : List ℕ) (i key : ℕ) → i ≤ length ks → IsPartitionPoint (λ k. stays key k ≡ true) (λ k. stays key k ≡ false) ks i → AreInTurn s ks → AreInTurn s (insert ks i key)
+  turn_put ks i key within point a =
+      turn_more (take i ks) (drop i ks) key
+      (all_to (λ k. stays key k ≡ true) (λ k. is_sooner (due key) (due k) ≡ false) (take i ks) (λ k h. not_of (is_sooner (due key) (due k)) h) (front_all (λ k. stays key k ≡ true) ks i within point.0))
+      (all_to (λ k. stays key k ≡ false) (λ k. is_sooner (due k) (due key) ≡ false) (drop i ks) (λ k h. sooner_back (due key) (due k) (not_not (is_sooner (due key) (due k)) h)) (back_all (λ k. stays key k ≡ false) ks i point.1))
+      (subst (AreInTurn s) (sym (take-append-drop i ks)) a)
+
+-- WHERE THE ENTRIES CHANGE
+
+turn_all : (s t : Slab Listing) (ks : List ℕ) → AllByRecursion (λ k. due_at (get t k) ≡ due_at (get s k)) ks → AreInTurn s ks → AreInTurn t ks
+turn_all s t [] e a = tt
+turn_all s t (k ∷ ks) e a = (first ks e.1 a.0, turn_all s t ks e.1 a.1) where
+  first : (xs : List ℕ) → AllByRecursion (λ x. due_at (get t x) ≡ due_at (get s x)) xs → AllByRecursion (λ later. is_sooner (due_at (get s later)) (due_at (get s k)) ≡ false) xs → AllByRecursion (λ later. is_sooner (due_at (get t later)) (due_at (get t k)) ≡ false) xs
+  first [] e' a' = tt
+  first (x ∷ xs) e' a' = (ap (λ o. is_sooner o (due_at (get t k))) e'.0 ∙ ap (is_sooner (due_at (get s x))) e.0 ∙ a'.0, first xs e'.1 a'.1)
+
+all_of : (P : ℕ → Type 0) (ks : List ℕ) → ((k : ℕ) → P k) → AllByRecursion P ks
+all_of P [] f = tt
+all_of P (k ∷ ks) f = (f k, all_of P ks f)
+
+-- none is due at another moment
+pub turn_same : (s t : Slab Listing) (ks : List ℕ) → ((k : ℕ) → due_at (get t k) ≡ due_at (get s k)) → AreInTurn s ks → AreInTurn t ks
+turn_same s t ks e a = turn_all s t ks (all_of (λ k. due_at (get t k) ≡ due_at (get s k)) ks e) a
+
+-- of those that pass a test none is
+pub turn_passing : (s t : Slab Listing) (test : ℕ → Bool) (ks : List ℕ) → ((k : ℕ) → test k ≡ true → get t k ≡ get s k) → AreInTurn s ks → AreInTurn t (filter test ks)
+turn_passing s t test ks e a =
+    turn_all s t (filter test ks) (all_to (λ k. test k ≡ true) (λ k. due_at (get t k) ≡ due_at (get s k)) (filter test ks) (λ k h. ap due_at (e k h)) (all_pass test ks)) (turn_kept s test ks a)
+
+-- an entry is added, or changed that stands in no place
+pub turn_other : (s t : Slab Listing) (key : ℕ) (ks : List ℕ) → count_by (nat_eq key) ks ≡ 0 → ((k : ℕ) → (k ≡ key → ⊥) → get t k ≡ get s k) → AreInTurn s ks → AreInTurn t ks
+turn_other s t key ks none e a =
+    turn_all s t ks (all_to (λ k. nat_eq key k ≡ false) (λ k. due_at (get t k) ≡ due_at (get s k)) ks (λ k h. ap due_at (e k (λ same. eqb-false key k h (sym same)))) (none_there key ks none)) a
+
+-- WHERE ONE IS TAKEN OUT AND PUT AGAIN
+
+pub once_settled : (s : Slab Listing) (key : ℕ) (ks kept new : List ℕ) → AreKeysOnce s ks → is_some (get s key) ≡ true → kept ≡ without key ks
+    → ((k : ℕ) → count_by (nat_eq k) new ≡ count_by (nat_eq k) kept + one_if (nat_eq k key)) → AreKeysOnce s new
+once_settled s key ks kept new once there is put k =
+    let rest : count_by (nat_eq k) kept ≡ cond (not (nat_eq k key)) (count_by (nat_eq k) ks) 0 = ap (count_by (nat_eq k)) is ∙ count_kept k (λ other. not (nat_eq other key)) ks in
+    by_test (nat_eq k key) refl (put k) rest
+  where
+    by_test : (b : Bool) → nat_eq k key ≡ b → count_by (nat_eq k) new ≡ count_by (nat_eq k) kept + one_if (nat_eq k key) → count_by (nat_eq k) kept ≡ cond (not (nat_eq k key)) (count_by (nat_eq k) ks) 0 → count_by (nat_eq k) new ≡ one_if (is_some (get s k))
+    by_test true e more rest =
+        let here : one_if (nat_eq k key) ≡ 1 = ap one_if e in
+        let none : count_by (nat_eq k) kept ≡ 0 = rest ∙ ap (λ b. cond (not b) (count_by (nat_eq k) ks) 0) e in
+        let full : one_if (is_some (get s k)) ≡ 1 = ap (λ i. one_if (is_some (get s i))) (eqb-true k key e) ∙ ap one_if there in
+        omega (arith, more, here, none, full)
+    by_test false e more rest =
+        let here : one_if (nat_eq k key) ≡ 0 = ap one_if e in
+        let same : count_by (nat_eq k) kept ≡ count_by (nat_eq k) ks = rest ∙ ap (λ b. cond (not b) (count_by (nat_eq k) ks) 0) e in
+        let was = once k in
+        omega (arith, more, here, same, was)
+
+-- there is room for the one that was taken out
+-- none is a key that differs from each
+all_differ : (key : ℕ) (ks : List ℕ) → AllByRecursion (λ k. nat_eq key k ≡ false) ks → without key ks ≡ ks
+all_differ key [] a = refl
+all_differ key (k ∷ ks) a =
+    let differs : nat_eq k key ≡ false = eq_turned key k a.0 in
+    ap (λ b. cond (not b) (k ∷ without key ks) (without key ks)) differs ∙ ap (λ (xs : List ℕ). k ∷ xs) (all_differ key ks a.1)
+
+-- a list without its first key of that number, where that stands there once, is the list without that key
+pub taken_out : (key : ℕ) (ks : List ℕ) → count_by (nat_eq key) ks ≡ 1 → remove ks (position_or_len (λ other. nat_eq other key) ks) ≡ without key ks
+taken_out key [] h = refl
+taken_out key (k ∷ ks) h = by_test (nat_eq k key) refl (taken_out key ks) where
+  first : ℕ
+  first = position_or_len (λ other. nat_eq other key) ks
+
+  by_test : (b : Bool) → nat_eq k key ≡ b → (count_by (nat_eq key) ks ≡ 1 → remove ks first ≡ without key ks) → remove (k ∷ ks) (cond (not b) (1 + first) 0) ≡ cond (not b) (k ∷ without key ks) (without key ks)
+  by_test true e rest =
+      let one = count_cons (nat_eq key) k ks in
+      let here : one_if (nat_eq key k) ≡ 1 = ap one_if (eq_turned_true key k e) in
+      sym (all_differ key ks (none_there key ks (omega (arith, one, here, h))))
+  by_test false e rest =
+      let one = count_cons (nat_eq key) k ks in
+      let here : one_if (nat_eq key k) ≡ 0 = ap one_if (eq_turned k key e) in
+      let next : 1 + first ≡ suc first = omega arith in
+      ap (remove (k ∷ ks)) next ∙ ap (λ (xs : List ℕ). k ∷ xs) (rest (omega (arith, one, here, h)))
+
+-- such a key has a place
+first_within : (key : ℕ) (ks : List ℕ) → count_by (nat_eq key) ks ≡ 1 → position_or_len (λ other. nat_eq other key) ks < length ks
+first_within key [] h = absurd (let none = h in omega (arith, none))
+first_within key (k ∷ ks) h = by_test (nat_eq k key) refl (first_within key ks) where
+  first : ℕ
+  first = position_or_len (λ other. nat_eq other key) ks
+
+  by_test : (b : Bool) → nat_eq k key ≡ b → (count_by (nat_eq key) ks ≡ 1 → first < length ks) → cond (not b) (1 + first) 0 < suc (length ks)
+  by_test true e rest = omega arith
+  by_test false e rest =
+      let one = count_cons (nat_eq key) k ks in
+      let here : one_if (nat_eq key k) ≡ 0 = ap one_if (eq_turned k key e) in
+      let within = rest (omega (arith, one, here, h)) in
+      omega (arith, within)
+
+-- and that is where it is found
+pub found_first : (key : ℕ) (ks : List ℕ) → count_by (nat_eq key) ks ≡ 1 → position (λ other. nat_eq other key) ks ≡ Some (position_or_len (λ other. nat_eq other key) ks)
+found_first key ks h = ap (λ b. cond b (Some (position_or_len (λ other. nat_eq other key) ks)) None) (lt-ltb _ _ (first_within key ks h))
+
+pub room_without : (s : Slab Listing) (key : ℕ) (ks : List ℕ) → AreKeysOnce s ks → is_some (get s key) ≡ true → length (without key ks) < length ks
+room_without s key ks once there =
+    let full : one_if (is_some (get s key)) ≡ 1 = ap one_if there in
+    let is = once key in
+    shorter_without key ks (omega (arith, is, full))
+
+-- A KEY THAT STANDS THERE HAS AN ENTRY
+
+pub filled_at : (s : Slab Listing) (ks : List ℕ) (i d : ℕ) → AreKeysOnce s ks → i < length ks → is_some (get s (get_or ks i d)) ≡ true
+filled_at s ks i d once k = by_test (is_some (get s (get_or ks i d))) refl where
+  by_test : (b : Bool) → is_some (get s (get_or ks i d)) ≡ b → is_some (get s (get_or ks i d)) ≡ true
+  by_test true e = e
+  by_test false e =
+      let none : one_if (is_some (get s (get_or ks i d))) ≡ 0 = ap one_if e in
+      let some = counted_at ks i d k in
+      let is = once (get_or ks i d) in
+      absurd (omega (arith, none, some, is))

@@ -1,0 +1,124 @@
+-- How the entries of the listed peers stand: slab and index, and the order in which they are due.
+use Rattle.std.specs.Prelude.{◌≡◌, ◌≤◌, ℕ, Bool, true, false, not, if◌then◌else◌, nat_eq, List, [], ◌∷◌, length, filter, Option, Some, None, is_some}
+use Rattle.std.specs.List.{AllByRecursion, count_by, filter_map}
+use Rattle.std.specs.BTreeMap.{BTreeMap, IsOrdered}
+use Rattle.std.specs.BTreeMap as map
+use Rattle.slab.specs.Slab.{Slab, get}
+use Rattle.slab.specs.Slab as slab
+use Rattle.td_base.specs.Ip6.{same_ip6, cmp_ip6}
+use Rattle.td_base.specs.declared.ipv6.Ip6.{Ip6}
+use Rattle.td_base.specs.declared.millis.Millis.{Millis}
+use Rattle.peer_list.specs.declared.entries.Entries.{Entries}
+use Rattle.peer_list.specs.declared.limits.TheConstants.{MOST_PEERS}
+use Rattle.peer_list.specs.Peers.{Peer}
+use Rattle.peer_list.specs.Judged.{is_none}
+use Rattle.peer_list.specs.Waiting.{Listing}
+use Rattle.peer_list.specs.Table.{due_and_who}
+use Rattle.peer_list.specs.Sound.{IsSince, is_before}
+
+-- SLAB AND INDEX
+
+-- the entries in the order of their addresses
+abbrev pub listings_in : Slab Listing → List (Ip6 × ℕ) → List Listing
+listings_in s pairs = filter_map (λ (pair : Ip6 × ℕ). get s pair.1) pairs
+
+abbrev pub listings_of : Entries → List Listing
+listings_of e = listings_in e.slab e.index.entries
+
+-- the key that an address has, and its entry
+abbrev pub key_of : Entries → Ip6 → Option ℕ
+key_of e p = map.get cmp_ip6 e.index p
+
+abbrev pub entry_under : Slab Listing → Option ℕ → Option Listing
+entry_under s None = None
+entry_under s (Some key) = get s key
+
+abbrev pub entry_of : Entries → Ip6 → Option Listing
+entry_of e p = entry_under e.slab (key_of e p)
+
+-- an address of the index leads to its entry
+pub record Leads (s : Slab Listing) (pair : Ip6 × ℕ) : Type 0 where
+  pub listing : Listing
+  pub at : get s pair.1 ≡ Some listing
+  pub who : listing.who ≡ pair.0
+
+-- slab and index name each other
+pub record NameEachOther (s : Slab Listing) (index : BTreeMap Ip6 ℕ) : Type 0 where
+  pub leads : AllByRecursion (Leads s) index.entries
+  pub named : (key : ℕ) (l : Listing) → get s key ≡ Some l → map.get cmp_ip6 index l.who ≡ Some key
+  pub order : IsOrdered cmp_ip6 index
+  pub few : length index.entries ≤ MOST_PEERS
+
+-- THE ORDER IN WHICH THEY ARE DUE
+
+-- when an entry is due, and its address; nothing where no packets wait
+abbrev pub due_at : Option Listing → Option (Millis × Ip6)
+due_at None = None
+due_at (Some l) = if is_none l.peer.waiting then None else Some (due_and_who l)
+
+-- what isn't due comes last
+abbrev pub is_sooner : Option (Millis × Ip6) → Option (Millis × Ip6) → Bool
+is_sooner None first = false
+is_sooner (Some next) first = is_before next first
+
+-- none is due before one in front of it
+abbrev pub AreInTurn : Slab Listing → List ℕ → Type 0
+AreInTurn s [] = Unit {0}
+AreInTurn s (key ∷ keys) = AllByRecursion (λ later. is_sooner (due_at (get s later)) (due_at (get s key)) ≡ false) keys × AreInTurn s keys
+
+-- the keys of the slab, each once
+abbrev pub AreKeysOnce : Slab Listing → List ℕ → Type 0
+AreKeysOnce s keys = (key : ℕ) → count_by (nat_eq key) keys ≡ (if is_some (get s key) then 1 else 0)
+
+abbrev pub without : ℕ → List ℕ → List ℕ
+without key keys = filter (λ other. not (nat_eq other key)) keys
+
+-- ALL IN ONE
+
+pub record IsWhole (e : Entries) : Type 0 where
+  pub names : NameEachOther e.slab e.index
+  pub once : AreKeysOnce e.slab e.order.items
+  pub turn : AreInTurn e.slab e.order.items
+
+-- one key may stand where it doesn't belong
+pub record IsWholeBut (e : Entries) (key : ℕ) : Type 0 where
+  pub names : NameEachOther e.slab e.index
+  pub there : is_some (get e.slab key) ≡ true
+  pub once : AreKeysOnce e.slab e.order.items
+  pub turn : AreInTurn e.slab (without key e.order.items)
+
+-- no entry was touched before m
+abbrev pub IsSinceAll : ℕ → Slab Listing → Type 0
+IsSinceAll m s = (key : ℕ) (l : Listing) → get s key ≡ Some l → IsSince m l.peer.touched
+
+-- at the moment m
+pub record IsKept (e : Entries) (m : ℕ) : Type 0 where
+  pub whole : IsWhole e
+  pub touched : IsSinceAll e.touched.0 e.slab
+  pub past : e.touched.0 ≤ m
+
+-- WHAT A CHANGE LEAVES
+
+abbrev pub with_peer_at : Listing → Peer → Listing
+with_peer_at l peer = record { who = l.who; peer = peer }
+
+-- an entry has another peer
+pub record IsAfter (old new : Entries) (key : ℕ) (l : Listing) (peer : Peer) : Type 0 where
+  pub was : get old.slab key ≡ Some l
+  pub slab : new.slab ≡ slab.with_value old.slab key (with_peer_at l peer)
+  pub index : new.index ≡ old.index
+  pub touched : new.touched ≡ old.touched
+
+-- WHAT AN ADDITION LEAVES
+
+-- one entry more, under a key of its own
+pub record Adds (old new : Entries) (l : Listing) : Type 0 where
+  pub key : ℕ
+  pub vacant : get old.slab key ≡ None
+  pub slab : slab.Updates old.slab new.slab key (Some l)
+  pub index : (p : Ip6) → key_of new p ≡ (if same_ip6 p l.who then Some key else key_of old p)
+
+-- each address leads to what it led to
+pub record SameEntries (old new : Entries) : Type 0 where
+  pub slots : new.slab.slots ≡ old.slab.slots
+  pub pairs : new.index.entries ≡ old.index.entries

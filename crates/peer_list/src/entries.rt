@@ -1,0 +1,212 @@
+//! The entries of the listed peers: a slab, and what leads to its keys.
+ghost use Rattle.std.specs.Prelude.{◌≡◌, ◌≤◌, ◌<◌, ℕ, Some, None, find, filter, length, option_map, is_some, true, nat_lt, [], OnOk, OnErr};
+ghost use Rattle.slab.specs.Slab.{get, ContainsKey};
+ghost use Rattle.peer_list.specs.Table.{table, is_of, is_listed_at, listed_in, waiting_in, first_due_in, due_and_who};
+ghost use Rattle.peer_list.specs.declared.limits.TheConstants.{MOST_PEERS};
+ghost use Rattle.peer_list.specs.Sound.{NoneBefore};
+ghost use Rattle.peer_list.specs.Entries.{listings_of, entry_of, key_of, IsWhole, IsWholeBut, IsSinceAll, IsKept, Adds, SameEntries};
+
+use crate::limits::{LISTED_MS, MOST_PEERS};
+use crate::listed_peer::Peer;
+use crate::listings::Listing;
+use crate::{order, tries};
+use slab::Slab;
+use std::alloc::Global;
+use std::collections::BTreeMap;
+use td_base::{Ip6, Millis, NoMemory};
+
+/// An entry for each address that is listed, or was when it was last looked.
+#[derive(Drop)]
+pub struct Entries {
+    pub slab: Slab<Listing>,
+    /// From an address to the key of its entry.
+    pub index: BTreeMap<Ip6, usize>,
+    /// The keys in the order in which the entries are due; those for which no packets wait come last.
+    pub order: Vec<usize>,
+    /// No entry was touched before, so that a call needn't look at each of them.
+    pub touched: Millis,
+}
+
+/// Whether there is an entry under a key.
+fn has_entry(slab: &Slab<Listing>, key: usize) -> bool
+    ensures { result ≡ is_some (get slab.now key) }
+{
+    slab.get(key).is_some()
+}
+
+impl Entries {
+    pub fn new(alloc: Global) -> Entries
+        ensures kept { IsKept result 0 }
+        ensures empty { listings_of result ≡ [] }
+    {
+        Entries {
+            slab: Slab::new(alloc),
+            index: BTreeMap::new(alloc),
+            order: Vec::new(alloc),
+            touched: Millis(0),
+        }
+    }
+
+    /// The key of the entry of an address, where it has one.
+    pub fn find_key(&self, who: Ip6) -> Option<usize>
+        ensures { result ≡ key_of self.now who }
+    {
+        self.index.get(&who).copied()
+    }
+
+    /// The key of the entry of an address that has one.
+    pub fn key(&self, who: Ip6) -> usize
+        requires whole { IsWhole self.now }
+        requires there { is_some (find (is_of who) (listings_of self.now)) ≡ true }
+        ensures key { key_of self.now who ≡ Some result }
+        ensures there { ContainsKey self.now.slab result }
+    {
+        self.index[&who]
+    }
+
+    /// What is known of an address that has an entry.
+    pub fn find(&self, who: Ip6) -> Option<&Peer>
+        requires whole { IsWhole self.now }
+        ensures { option_map (λ peer. peer.now) result ≡ option_map (λ l. l.peer) (find (is_of who) (listings_of self.now)) }
+    {
+        Some(&self.slab.get(self.find_key(who)?)?.peer)
+    }
+
+    /// Whether there is room for anybody: then nobody needs to be looked for.
+    pub fn is_short(&self) -> bool
+        ensures { result ≡ nat_lt (length self.now.index.entries) MOST_PEERS }
+    {
+        self.index.len() < MOST_PEERS
+    }
+
+    /// How many are listed.
+    pub fn count(&self, now: Millis) -> usize
+        requires whole { IsWhole self.now }
+        ensures count { result ≡ length (listed_in (table now.0 (listings_of self.now)) now.0) }
+        ensures most { result ≤ MOST_PEERS }
+    {
+        let mut count = 0;
+        for (_, key) in &self.index {
+            if self.slab[*key].peer.is_listed(now) {
+                count += 1;
+            }
+        }
+        count
+    }
+
+    /// How many packets wait for all that are listed.
+    pub fn waiting(&self, now: Millis) -> u16
+        requires whole { IsWhole self.now }
+        ensures { result ≡ waiting_in (table now.0 (listings_of self.now)) now.0 }
+    {
+        let mut waiting = 0;
+        for (_, key) in &self.index {
+            let peer = &self.slab[*key].peer;
+            if peer.is_listed(now) {
+                waiting += peer.waiting().len() as u16;
+            }
+        }
+        waiting
+    }
+
+    /// What is due before none of the entries, be they listed or not.
+    pub fn first(&self) -> Option<(Millis, Ip6)>
+        requires whole { IsWhole self.now }
+        ensures { NoneBefore result (listings_of self.now) }
+    {
+        order::due_at(&self.slab, *self.order.first()?)
+    }
+
+    /// When the next try is due, and whose: that of the first that is listed.
+    pub fn due(&self, now: Millis) -> Option<(Millis, Ip6)>
+        requires whole { IsWhole self.now }
+        ensures { result ≡ option_map due_and_who (first_due_in (table now.0 (listings_of self.now)) now.0) }
+    {
+        for key in &self.order {
+            let listing = &self.slab[*key];
+            if listing.peer.is_idle() {
+                return None;
+            }
+            if listing.peer.is_listed(now) {
+                return Some((listing.peer.due(), listing.who));
+            }
+        }
+        None
+    }
+
+    /// Puts a key, whose entry was changed, where it belongs now.
+    pub fn settle(&mut self, key: usize)
+        requires but { IsWholeBut self.old key }
+        ensures whole { IsWhole self.new }
+        ensures slab { self.new.slab ≡ self.old.slab }
+        ensures index { self.new.index ≡ self.old.index }
+        ensures touched { self.new.touched ≡ self.old.touched }
+    {
+        order::settle(&mut self.order, &self.slab, key);
+    }
+
+    /// When the first of all was touched.
+    fn first_touched(&self, now: Millis) -> Millis
+        ensures since { IsSinceAll result.0 self.now.slab }
+        ensures past { result.0 ≤ now.0 }
+    {
+        let mut first = now;
+        for (_, listing) in self.slab.iter() {
+            first = Millis(first.0.min(listing.peer.touched().0));
+        }
+        first
+    }
+
+    /// Takes out whoever isn't listed any more.
+    fn take_out_unlisted(&mut self, now: Millis)
+        requires whole { IsWhole self.old }
+        ensures whole { IsWhole self.new }
+        ensures listings { listings_of self.new ≡ filter (is_listed_at now.0) (listings_of self.old) }
+    {
+        self.slab.retain(|_, listing| listing.peer.is_listed(now));
+        let slab = &self.slab;
+        self.index.retain(|_, key| has_entry(slab, *key));
+        self.order.retain(|key| has_entry(slab, *key));
+    }
+
+    /// Takes out whoever isn't listed any more, where there may be one.
+    pub fn purge(&mut self, now: Millis)
+        requires kept { IsKept self.old now.0 }
+        ensures kept { IsKept self.new now.0 }
+        ensures listings { listings_of self.new ≡ filter (is_listed_at now.0) (listings_of self.old) }
+    {
+        if tries::is_young(LISTED_MS, now, self.touched) {
+            return;
+        }
+        self.take_out_unlisted(now);
+        self.touched = self.first_touched(now);
+    }
+
+    /// Adds an entry for an address that has none. All memory is taken before it is there.
+    pub fn add(&mut self, listing: Listing) -> Result<(), NoMemory>
+        requires whole { IsWhole self.old }
+        requires absent { key_of self.old listing.who ≡ None }
+        requires room { length self.old.index.entries < MOST_PEERS }
+        ensures whole { IsWhole self.new }
+        ensures touched { self.new.touched ≡ self.old.touched }
+        ensures added { OnOk result (Adds self.old self.new listing) }
+        ensures same { OnErr result (SameEntries self.old self.new) }
+    {
+        self.slab.reserve(1)?;
+        self.order.reserve(1)?;
+        self.index.insert(listing.who, self.slab.vacant_key())?;
+        let key = self.slab.insert_reserved(listing);
+        order::put(&mut self.order, &self.slab, key);
+        Ok(())
+    }
+
+    pub fn clear(&mut self)
+        ensures kept { IsKept self.new 0 }
+        ensures empty { listings_of self.new ≡ [] }
+    {
+        self.slab.clear();
+        self.index.clear();
+        self.order.clear();
+        self.touched = Millis(0);
+    }
+}

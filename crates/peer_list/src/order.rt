@@ -1,0 +1,80 @@
+//! The keys of the entries, in the order in which these are due.
+ghost use Rattle.std.specs.Prelude.{◌≡◌, ◌<◌, ◌+◌, ℕ, true, not, is_some, if◌then◌else◌, nat_eq, position};
+ghost use Rattle.std.specs.List.{count_by};
+ghost use Rattle.std.specs.Vec.{vec_len, vec_capacity};
+ghost use Rattle.slab.specs.Slab.{get};
+ghost use Rattle.peer_list.specs.Entries.{due_at, is_sooner, AreInTurn, AreKeysOnce, without};
+
+use crate::listings::Listing;
+use slab::Slab;
+use td_base::{Ip6, Millis};
+
+/// When the next try at the peer of an entry is due, and whose it is. Where no packets wait nothing is due.
+pub fn due_at(slab: &Slab<Listing>, key: usize) -> Option<(Millis, Ip6)>
+    ensures { result ≡ due_at (get slab.now key) }
+{
+    let listing = slab.get(key)?;
+    if listing.peer.is_idle() {
+        return None;
+    }
+    Some((listing.peer.due(), listing.who))
+}
+
+/// Whether one is due before another. What isn't due comes last.
+fn is_sooner(next: Option<(Millis, Ip6)>, first: Option<(Millis, Ip6)>) -> bool
+    ensures { result ≡ is_sooner next first }
+{
+    match (next, first) {
+        (None, _) => false,
+        (Some(_), None) => true,
+        (Some(next), Some(first)) => next.0.cmp(&first.0).then(next.1.cmp(&first.1)).is_lt(),
+    }
+}
+
+/// Whether an entry may stand in front of another: that one isn't due before it.
+fn is_in_turn(slab: &Slab<Listing>, first: usize, key: usize) -> bool
+    ensures { result ≡ not (is_sooner (due_at (get slab.now key)) (due_at (get slab.now first))) }
+{
+    !is_sooner(due_at(slab, key), due_at(slab, first))
+}
+
+/// Puts a key behind all whose entries aren't due later. There has to be room for it.
+pub fn put(order: &mut Vec<usize>, slab: &Slab<Listing>, key: usize)
+    requires room { vec_len order.old < vec_capacity order.old }
+    requires turn { AreInTurn slab.now order.old.items }
+    ensures turn { AreInTurn slab.now order.new.items }
+    ensures keys { (k : ℕ) → count_by (nat_eq k) order.new.items ≡ count_by (nat_eq k) order.old.items + (if nat_eq k key then 1 else 0) }
+{
+    let place = order.partition_point(|other| is_in_turn(slab, *other, key));
+    order.insert(place, key).unwrap();
+}
+
+/// The place of a key.
+fn place_of(order: &[usize], key: usize) -> Option<usize>
+    ensures { result ≡ position (λ other. nat_eq other key) order.now }
+{
+    order.iter().position(|other| *other == key)
+}
+
+/// Takes out a key that stands there once.
+fn take_out(order: &mut Vec<usize>, key: usize)
+    requires once { count_by (nat_eq key) order.old.items ≡ 1 }
+    ensures items { order.new.items ≡ without key order.old.items }
+    ensures capacity { vec_capacity order.new ≡ vec_capacity order.old }
+{
+    if let Some(place) = place_of(order, key) {
+        order.remove(place);
+    }
+}
+
+/// Puts a key, whose entry was changed, where it belongs now.
+pub fn settle(order: &mut Vec<usize>, slab: &Slab<Listing>, key: usize)
+    requires once { AreKeysOnce slab.now order.old.items }
+    requires there { is_some (get slab.now key) ≡ true }
+    requires others { AreInTurn slab.now (without key order.old.items) }
+    ensures once { AreKeysOnce slab.now order.new.items }
+    ensures turn { AreInTurn slab.now order.new.items }
+{
+    take_out(order, key);
+    put(order, slab, key);
+}

@@ -1,9 +1,0 @@
-use Rattle.std.proofs.Common.{arith}
-use Rattle.report.proofs.Printed.{printed, length_after}
-use Rattle.report.proofs.pieces.put_ip6.Goals as goal
-
-pub returns : goal.returns
-returns c =
-    let few = c.print_ip6.ensures.short in
-    let text = printed _ _ _ _ c.print_ip6.ensures.text (omega (arith, few, c.requires)) in
-    record { text = text; short = length_after _ _ _ _ text few }

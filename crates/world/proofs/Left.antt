@@ -1,0 +1,74 @@
+-- What is left of an event, by the history and by what a world keeps.
+use Rattle.std.proofs.Common.{◌≡◌, ◌<◌, ℕ, ◌+◌, ◌-◌, Bool, true, false, cond, max, List, [], ◌∷◌, Option, Some, None, refl, sym, ap, subst, ◌∙◌, arith}
+use Rattle.std.specs.Prelude.{nat_le, sum_by, filter}
+use Rattle.std.proofs.lemmas.List.Sums.{sum_by-cons}
+use Rattle.history.specs.declared.event.Event.{Event}
+use Rattle.history.specs.declared.event.Event.TheVariants as event
+use Rattle.topology.specs.Rows.{TopologyState}
+use Rattle.topology.specs.Topology.{nodes}
+use Rattle.history.specs.Full.{Full}
+use Rattle.legal.specs.declared.left.TheConstants.{MOST_LEFT}
+use Rattle.legal.specs.Past.{Draws, now, began, going, has_more}
+use Rattle.legal.specs.Left.{time_left, left_of_event, left}
+use Rattle.legal.specs.Left as legal
+use Rattle.lab_nodes.specs.NodeState.{NodesOf, AreReady}
+use Rattle.lab_nodes.specs.Moments.{all_due, EachSumIsOfThePast}
+use Rattle.world.specs.World.{WorldState, left_of, left_in}
+
+-- THE SAME DUE MOMENTS IN ANOTHER ORDER
+
+sum_of_passed : (f : ℕ → ℕ) (test : ℕ → Bool) (xs : List ℕ) → sum_by f (filter test xs) ≡ sum_by (λ m. cond (test m) (f m) 0) xs
+sum_of_passed f test [] = refl
+sum_of_passed f test (x ∷ xs) = by (test x) (sum_of_passed f test xs) ∙ sym (sum_by-cons (λ m. cond (test m) (f m) 0) x xs) where
+  by : (b : Bool) → sum_by f (filter test xs) ≡ sum_by (λ m. cond (test m) (f m) 0) xs → sum_by f (cond b (x ∷ filter test xs) (filter test xs)) ≡ cond b (f x) 0 + sum_by (λ m. cond (test m) (f m) 0) xs
+  by true rest = sum_by-cons f x (filter test xs) ∙ ap (λ (n : ℕ). f x + n) rest
+  by false rest = omega (arith, rest)
+
+same_time : (end at : ℕ) (xs ys : List ℕ) → ((weight : ℕ → ℕ) → sum_by weight xs ≡ sum_by weight ys) → time_left end at xs ≡ time_left end at ys
+same_time end at xs ys same =
+    let f : ℕ → ℕ = λ m. end + 1 - max m at in
+    let test : ℕ → Bool = λ m. nat_le m end in
+    sum_of_passed f test xs ∙ same (λ m. cond (test m) (f m) 0) ∙ sym (sum_of_passed f test ys)
+
+-- BY THE EVENT THAT GOES ON
+
+abbrev left_so : TopologyState → List Full → Option Event → ℕ
+left_so t H None = MOST_LEFT
+left_so t H (Some e) = left_of_event t H e
+
+left_by_going : (t : TopologyState) (H : List Full) → left t H ≡ left_so t H (going H)
+left_by_going t [] = refl
+left_by_going t (r ∷ H) = by (has_more r.asked r.act) where
+  by : (b : Bool) → cond b (left_of_event t (r ∷ H) r.asked) MOST_LEFT ≡ left_so t (r ∷ H) (cond b (Some r.asked) None)
+  by true = refl
+  by false = refl
+
+-- a world whose moment, event and nodes are those of the history
+pub record IsAt (d : Draws) (w : WorldState) (H : List Full) : Type 0 where
+  pub moment : w.moment ≡ now H
+  pub began : w.began ≡ began H
+  pub going : w.going ≡ going H
+  pub nodes : NodesOf d w.topology w.nodes H
+  pub ready : AreReady w.moment w.nodes
+
+-- has as much left
+pub left_is : EachSumIsOfThePast → (d : Draws) (w : WorldState) (H : List Full) → IsAt d w H → left w.topology H ≡ left_in w
+left_is law d w H is = left_by_going w.topology H ∙ ap (left_so w.topology H) (sym is.going) ∙ by w.going where
+  by : (o : Option Event) → left_so w.topology H o ≡ left_of w o
+  by None = refl
+  by (Some (event.Advance ms)) =
+      let ready : AreReady (now H) w.nodes = subst (λ (m : ℕ). AreReady m w.nodes) is.moment is.ready in
+      let same : time_left (began H + ms) (now H) (all_due (now H) w.nodes 0 (nodes w.topology)) ≡ time_left (began H + ms) (now H) (legal.all_due w.topology H 0 (nodes w.topology)) =
+      same_time (began H + ms) (now H) (all_due (now H) w.nodes 0 (nodes w.topology)) (legal.all_due w.topology H 0 (nodes w.topology)) (λ weight. law d w.topology w.nodes H weight is.nodes ready) in
+      sym same
+      ∙ ap (λ (m : ℕ). time_left (began H + ms) m (all_due m w.nodes 0 (nodes w.topology))) (sym is.moment)
+      ∙ ap (λ (m : ℕ). time_left (m + ms) w.moment (all_due w.moment w.nodes 0 (nodes w.topology))) (sym is.began)
+  by (Some (event.Deliver number)) = refl
+  by (Some event.Next) = refl
+  by (Some (event.Host node to body)) = refl
+  by (Some (event.Echo node to seq)) = refl
+  by (Some (event.Raw node bytes)) = refl
+  by (Some (event.Stranger src dst bytes)) = refl
+  by (Some (event.Copy number src dst)) = refl
+  by (Some (event.Restart node)) = refl
+  by (Some (event.Forget n who)) = refl

@@ -1,0 +1,91 @@
+//! Datagrams come onto the wire from nowhere.
+ghost use Rattle.std.specs.Prelude.{◌≡◌, ◌<◌, ◌≤◌, List, length, OnErr};
+ghost use Rattle.history.specs.declared.event.Event.{Event};
+ghost use Rattle.history.specs.declared.event.Event.TheVariants as event;
+ghost use Rattle.history.specs.declared.event.TheConstants.{MOST_BYTES};
+ghost use Rattle.history.specs.Full.{Full};
+ghost use Rattle.legal.specs.Past.{Draws};
+ghost use Rattle.legal.specs.Next.{numbered, puts, next_of};
+ghost use Rattle.world.specs.declared.wire.TheConstants.{MOST_ENTRIES};
+ghost use Rattle.world.specs.World.{StandsFor};
+ghost use Rattle.world.specs.Playing.{Plays};
+
+use crate::record::blank;
+use crate::wire::MOST_ENTRIES;
+use crate::world::World;
+use history::{Act, Mark, Record, Stop};
+use td_base::{Ep, NoMemory};
+use td_outside::Octets;
+use teredo_node::Fate;
+
+impl<'a> World<'a> {
+    /// Puts a datagram on the wire.
+    fn put(&mut self, index: u32, act: Act, src: Ep, dst: Ep, bytes: Octets) -> Result<Record, Stop>
+        requires room { length self.old.wire < MOST_ENTRIES }
+        requires short { length bytes ≤ MOST_BYTES }
+        ensures plays { (d : Draws) (H : List Full) → StandsFor d self.old H → (e : Event)
+            → Plays d self.old self.new H (puts H (numbered index e) act src dst bytes) result }
+        ensures rest { self.new ≡ record self.old { wire = self.new.wire; done = self.new.done } }
+        ensures err { OnErr result ((self.new.wire ≡ self.old.wire) × (self.new.done ≡ self.old.done)) }
+    {
+        legal::frame();
+        let number = self.wire.len() as u32;
+        let len = bytes.as_slice().len();
+        let Ok(()) = self.wire.push_datagram(src, dst, bytes) else {
+            return Err(Stop::NoMemory);
+        };
+        let mut record = blank(self.moment, index, act, None, Fate::Put);
+        record.marks.push(Mark::Udp {
+            number,
+            src,
+            dst,
+            len,
+        });
+        Ok(record)
+    }
+
+    /// Puts a datagram with these bytes on the wire.
+    pub(crate) fn put_bytes(
+        &mut self,
+        index: u32,
+        act: Act,
+        src: Ep,
+        dst: Ep,
+        bytes: &[u8],
+    ) -> Result<Record, Stop>
+        requires short { length bytes.now ≤ MOST_BYTES }
+        ensures plays { (d : Draws) (H : List Full) → StandsFor d self.old H → (e : Event)
+            → Plays d self.old self.new H (puts H (numbered index e) act src dst bytes.now) result }
+        ensures rest { self.new ≡ record self.old { wire = self.new.wire; done = self.new.done } }
+        ensures err { OnErr result ((self.new.wire ≡ self.old.wire) × (self.new.done ≡ self.old.done)) }
+    {
+        if self.wire.len() >= MOST_ENTRIES {
+            return Err(Stop::WireFull);
+        }
+        let Ok(bytes) = Octets::new(*self.nodes.allocator(), bytes) else {
+            return Err(Stop::NoMemory);
+        };
+        self.put(index, act, src, dst, bytes)
+    }
+
+    /// Puts the bytes of entry `number` on the wire again, between other endpoints.
+    pub(crate) fn copy(&mut self, index: u32, number: u32, src: Ep, dst: Ep) -> Result<Record, Stop>
+        ensures plays { (d : Draws) (H : List Full) → StandsFor d self.old H
+            → Plays d self.old self.new H (next_of d self.old.topology H index (event.Copy number src dst)) result }
+        ensures rest { self.new ≡ record self.old { wire = self.new.wire; done = self.new.done } }
+        ensures err { OnErr result ((self.new.wire ≡ self.old.wire) × (self.new.done ≡ self.old.done)) }
+    {
+        legal::frame();
+        let act = Act::Copy { number };
+        let Some(entry) = self.wire.get(number as usize) else {
+            return Ok(blank(self.moment, index, act, None, Fate::NoEntry));
+        };
+        if self.wire.len() >= MOST_ENTRIES {
+            return Err(Stop::WireFull);
+        }
+        let Ok(bytes) = Octets::new(*self.nodes.allocator(), entry.bytes()) else {
+            return Err(Stop::NoMemory);
+        };
+        self.put(index, act, src, dst, bytes)
+    }
+}

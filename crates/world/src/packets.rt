@@ -1,0 +1,88 @@
+//! Hosts hand in packets.
+ghost use Rattle.std.specs.Prelude.{◌≡◌, ◌≤◌, List, [], length, OnErr};
+ghost use Rattle.topology.specs.Topology.{node_at};
+ghost use Rattle.history.specs.declared.event.Event.{Event};
+ghost use Rattle.history.specs.declared.event.Event.TheVariants as event;
+ghost use Rattle.history.specs.declared.event.TheConstants.{MOST_BODY, MOST_BYTES};
+ghost use Rattle.history.specs.Full.{Full};
+ghost use Rattle.legal.specs.Past.{Draws, at_nat};
+ghost use Rattle.legal.specs.Next.{numbered, plain, hands_in, next_of};
+ghost use Rattle.world.specs.World.{StandsFor};
+ghost use Rattle.world.specs.Playing.{Plays};
+
+use crate::record::blank;
+use crate::world::World;
+use history::{Act, Record, Stop, Target, Verb};
+use lab_nodes::{Call, Coming, DATA_MAX, address_at, echo, target_address, write_data};
+use teredo_node::Fate;
+
+impl<'a> World<'a> {
+    /// Lets the host of a node hand in a packet.
+    pub(crate) fn hand(
+        &mut self,
+        index: u32,
+        verb: Verb,
+        number: u16,
+        bytes: &[u8],
+    ) -> Result<Record, Stop>
+        requires short { length bytes.now ≤ MOST_BYTES }
+        ensures plays { (d : Draws) (H : List Full) → StandsFor d self.old H → (e : Event) → at_nat self.old.topology e (plain verb) ≡ []
+            → Plays d self.old self.new H (hands_in d self.old.topology H (numbered index e) verb number bytes.now (node_at self.old.topology number)) result }
+        ensures rest { self.new ≡ record self.old { nodes = self.new.nodes; wire = self.new.wire; done = self.new.done } }
+        ensures err { OnErr result ((self.new.wire ≡ self.old.wire) × (self.new.done ≡ self.old.done)) }
+    {
+        legal::frame();
+        let act = Act::Plain { verb };
+        let Some(node) = self.topology.node(usize::from(number)) else {
+            return Ok(blank(self.moment, index, act, Some(number), Fate::Idle));
+        };
+        let call = Call {
+            number,
+            node,
+            now: self.moment,
+            coming: Coming::Given { bytes },
+        };
+        self.act(index, act, call)
+    }
+
+    /// Lets the host of a node send data.
+    pub(crate) fn send_data(
+        &mut self,
+        index: u32,
+        number: u16,
+        to: Target,
+        body: &[u8],
+    ) -> Result<Record, Stop>
+        requires short { length body.now ≤ MOST_BODY }
+        ensures plays { (d : Draws) (H : List Full) → StandsFor d self.old H
+            → Plays d self.old self.new H (next_of d self.old.topology H index (event.Host number to body.now)) result }
+        ensures rest { self.new ≡ record self.old { nodes = self.new.nodes; wire = self.new.wire; done = self.new.done } }
+        ensures err { OnErr result ((self.new.wire ≡ self.old.wire) × (self.new.done ≡ self.old.done)) }
+    {
+        let nodes = self.nodes.as_slice();
+        let src = address_at(self.topology, nodes, number);
+        let dst = target_address(self.topology, nodes, to);
+        let mut bytes = [0; DATA_MAX];
+        let len = write_data(src, dst, body, &mut bytes);
+        self.hand(index, Verb::Host, number, &bytes[..len])
+    }
+
+    /// Lets the host of a node send an echo request.
+    pub(crate) fn send_echo(
+        &mut self,
+        index: u32,
+        number: u16,
+        to: Target,
+        seq: u16,
+    ) -> Result<Record, Stop>
+        ensures plays { (d : Draws) (H : List Full) → StandsFor d self.old H
+            → Plays d self.old self.new H (next_of d self.old.topology H index (event.Echo number to seq)) result }
+        ensures rest { self.new ≡ record self.old { nodes = self.new.nodes; wire = self.new.wire; done = self.new.done } }
+        ensures err { OnErr result ((self.new.wire ≡ self.old.wire) × (self.new.done ≡ self.old.done)) }
+    {
+        let nodes = self.nodes.as_slice();
+        let src = address_at(self.topology, nodes, number);
+        let dst = target_address(self.topology, nodes, to);
+        self.hand(index, Verb::Echo, number, &echo(src, dst, seq))
+    }
+}

@@ -1,0 +1,51 @@
+//! Nodes start anew, and NATs forget.
+ghost use Rattle.std.specs.Prelude.{◌≡◌, List, Ok};
+ghost use Rattle.history.specs.declared.event.Event.TheVariants as event;
+ghost use Rattle.history.specs.Events.{IsForgotten};
+ghost use Rattle.history.specs.Full.{Full};
+ghost use Rattle.legal.specs.Past.{Draws};
+ghost use Rattle.legal.specs.Next.{next_of};
+ghost use Rattle.world.specs.World.{StandsFor};
+ghost use Rattle.world.specs.Playing.{Plays};
+
+use crate::record::blank;
+use crate::world::World;
+use history::{Act, Record, Verb};
+use lab_nodes::{forget_at, restart_at};
+use teredo_node::Fate;
+use topology::Node;
+
+impl<'a> World<'a> {
+    /// Lets a node start anew.
+    pub(crate) fn restart(&mut self, index: u32, number: u16) -> Record
+        ensures plays { (d : Draws) (H : List Full) → StandsFor d self.old H
+            → Plays d self.old self.new H (next_of d self.old.topology H index (event.Restart number)) (Ok result) }
+        ensures rest { self.new ≡ record self.old { nodes = self.new.nodes } }
+    {
+        legal::frame();
+        restart_at(&mut self.nodes, usize::from(number), self.moment);
+        let act = Act::Plain {
+            verb: Verb::Restart,
+        };
+        blank(self.moment, index, act, Some(number), Fate::Done)
+    }
+
+    /// Lets a NAT forget a client behind it.
+    pub(crate) fn forget(&mut self, index: u32, number: u16, who: u16) -> Record
+        requires event { IsForgotten self.old.topology number who }
+        ensures plays { (d : Draws) (H : List Full) → StandsFor d self.old H
+            → Plays d self.old self.new H (next_of d self.old.topology H index (event.Forget number who)) (Ok result) }
+        ensures rest { self.new ≡ record self.old { nodes = self.new.nodes } }
+    {
+        legal::frame();
+        let Some(node) = self.topology.node(usize::from(who)) else {
+            unreachable!()
+        };
+        let Node::Client(row) = node else {
+            unreachable!()
+        };
+        forget_at(&mut self.nodes, usize::from(number), row.inside);
+        let act = Act::Plain { verb: Verb::Forget };
+        blank(self.moment, index, act, Some(number), Fate::Done)
+    }
+}
