@@ -1,15 +1,14 @@
 -- Payloads as lists of bytes.
-use Rattle.std.proofs.Common.{◌≡◌, true, false, Bool, not, ltb, eqb, ℕ, ◌+◌, ◌<◌, ◌≤◌, ◌^◌, List, [], ◌++◌, length, drop, Option, Some, None, Result, Ok, Err, refl, sym, ap, subst, ◌∙◌, cond, arith}
-use Rattle.std.specs.Prelude.{IfSome, ◌&&◌}
+use Rattle.std.proofs.Common.{◌≡◌, true, false, Bool, ltb, eqb, ℕ, ◌+◌, ◌≤◌, List, ◌++◌, length, drop, Option, Some, None, Result, Ok, refl, sym, ap, subst, ◌∙◌, arith}
+use Rattle.std.specs.Prelude.{◌&&◌}
 use Rattle.std.proofs.lemmas.Bool.{ltb-false}
 use Rattle.std.proofs.lemmas.List.{drop_at}
 use Rattle.td_base.specs.Bytes.{IsBytes}
-use Rattle.td_base.specs.Ep.{IsEp}
 use Rattle.td_base.specs.declared.endpoint.Ep.{Ep}
 use Rattle.td_base.specs.declared.ipv6.Ip6.{Ip6}
 use Rattle.td_base.proofs.BytesLemmas.{no_bytes, IsBytes-append}
 use Rattle.ipv6_packet.specs.declared.header.TheConstants.{HEADER}
-use Rattle.ipv6_packet.specs.Packets.{Fields, IsPacket, packet_bytes, packet_at}
+use Rattle.ipv6_packet.specs.Packets.{Fields, packet_bytes}
 use Rattle.ipv6_packet.specs.Reads.{is_big}
 use Rattle.ipv6_packet.proofs.PacketLaws.{packet_found}
 use Rattle.ipv6_packet.proofs.LawProofs.{packet_is_bytes}
@@ -19,10 +18,9 @@ use Rattle.icmp6.specs.declared.fault.IcmpFault.{IcmpFault}
 use Rattle.icmp6.proofs.AgainLaws.{written_again as message_again, length-message_bytes}
 use Rattle.indications.specs.Blocks.{indications_bytes, indications_len, blocks_bytes}
 use Rattle.indications.proofs.LawProofs.{lead_is_bytes}
-use Rattle.bubble.specs.declared.fault.PayloadFault.{PayloadFault}
 use Rattle.bubble.specs.Payloads.{Value, PayloadBytes, payload_at, value_written}
-use Rattle.bubble.specs.Bubbles.{is_bubble, bubble_of, bubble_bytes}
-use Rattle.bubble.specs.Reads.{is_payload, value_in, payload_bytes}
+use Rattle.bubble.specs.Bubbles.{is_bubble, bubble_of}
+use Rattle.bubble.specs.Reads.{value_in, payload_bytes}
 use Rattle.bubble.specs.Messages.{message_in, is_ill_formed, message_packet, accepted}
 use Rattle.bubble.specs.Laws.{ReadsPayload, SpelledPayloadIsRead, PayloadIsSpelled, MayBeSent, PayloadReadsBack, PayloadIsBytes, PacketIsPayload, PacketGoesOn, BubbleReadsBack, MayBeCarried, MessageIsCarried}
 use Rattle.bubble.proofs.PayloadLaws.{payload_again, payload_found, payload_read}

@@ -1,5 +1,5 @@
 -- Payloads as lists of bytes: what is sent reads back.
-use Rattle.std.specs.Prelude.{◌≡◌, ◌+◌, ◌<◌, ◌≤◌, ◌^◌, ℕ, List, ◌++◌, length, drop, Bool, true, false, Option, Some, None, IfSome, Ok}
+use Rattle.std.specs.Prelude.{◌≡◌, ◌+◌, ◌<◌, ◌≤◌, ◌^◌, ℕ, List, ◌++◌, length, drop, true, false, Option, Some, None, IfSome, Ok}
 use Rattle.td_base.specs.Bytes.{IsBytes}
 use Rattle.td_base.specs.Ep.{IsEp}
 use Rattle.td_base.specs.Ip6.{IsIp6}

@@ -22,7 +22,7 @@ use Rattle.qualify.specs.Solicitations.{is_qualified}
 use Rattle.qualify.specs.Generator.{after_words}
 use Rattle.client_core.specs.declared.client.Client.{Client}
 use Rattle.client_rules.specs.Standing.{Standing, standing_at, standing_of}
-use Rattle.client_rules.specs.Transmission.{Given, given_of, transmission_row, transmission_step, transmission}
+use Rattle.client_rules.specs.Transmission.{given_of, transmission_row, transmission_step, transmission}
 use Rattle.client_rules.specs.Transmission as table
 use Rattle.client_rules.specs.Journals.{entry, client_out}
 use Rattle.client_core.specs.Client.{settings_of, words_ahead, standing_in, ClientStandsFor, Enters, Does, WantsQueue}

@@ -1,7 +1,6 @@
 -- What an entry of a client does to phase, address and queues.
 use Rattle.std.proofs.Common.{◌≡◌, ◌&&◌, not, ℕ, Bool, true, false, cond, List, [], ◌∷◌, ◌++◌, Option, Some, None, refl, sym, ap, subst, ◌∙◌}
 use Rattle.std.specs.Prelude.{IfSome, is_some, nat_lt}
-use Rattle.std.specs.List.{AllByRecursion}
 use Rattle.std.proofs.lemmas.Bool.{false≢true, not-false}
 use Rattle.td_base.specs.Ip6.{same_ip6-true}
 use Rattle.td_base.specs.declared.ipv6.Ip6.{Ip6}

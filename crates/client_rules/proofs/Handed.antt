@@ -10,7 +10,7 @@ use Rattle.td_base.specs.declared.span.Span.{Span}
 use Rattle.teredo_addr.specs.Teredo.{unspecified, is_teredo, embedded}
 use Rattle.ipv6_packet.specs.Reads.{fields_in}
 use Rattle.bubble.specs.Payloads.{Value}
-use Rattle.bubble.specs.Reads.{is_payload, value_in}
+use Rattle.bubble.specs.Reads.{value_in}
 use Rattle.bubble.specs.PacketsIn.{source_in, destination_in}
 use Rattle.teredo_node.specs.declared.fate.Fate.{Fate}
 use Rattle.teredo_node.specs.declared.fate.Fate.TheVariants as fate

@@ -12,7 +12,7 @@ use Rattle.bubble.specs.PacketsIn.{source_in}
 use Rattle.teredo_node.specs.declared.fate.Fate.{Fate}
 use Rattle.teredo_node.specs.declared.fate.Fate.TheVariants as fate
 use Rattle.teredo_node.specs.Step.{Send}
-use Rattle.teredo_node.specs.Sends.{send, releases}
+use Rattle.teredo_node.specs.Sends.{releases}
 use Rattle.teredo_node.specs.Words.{nonce_from}
 use Rattle.teredo_node.specs.Journal.{Words}
 use Rattle.qualify.specs.declared.settings.Settings.{Settings}

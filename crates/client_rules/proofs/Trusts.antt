@@ -1,9 +1,8 @@
 -- Where a client trusts another.
-use Rattle.std.proofs.Common.{◌≡◌, ℕ, Bool, true, false, cond, List, [], ◌∷◌, map, Some, None, sym, ap, subst, ◌∙◌}
+use Rattle.std.proofs.Common.{◌≡◌, ℕ, Bool, true, false, cond, List, [], ◌∷◌, map, sym, ap, subst, ◌∙◌}
 use Rattle.std.specs.Prelude.{IfSome}
 use Rattle.std.specs.List.{AllByRecursion}
 use Rattle.std.proofs.lemmas.Bool.{false≢true, and_parts}
-use Rattle.td_base.specs.Ip6.{same_ip6-true}
 use Rattle.td_base.specs.Ep.{same_ep, same_ep-true}
 use Rattle.td_base.specs.declared.ipv6.Ip6.{Ip6}
 use Rattle.td_base.specs.declared.endpoint.Ep.{Ep}
@@ -11,7 +10,7 @@ use Rattle.teredo_addr.specs.Teredo.{is_teredo, embedded}
 use Rattle.bubble.specs.Reads.{is_payload, value_in}
 use Rattle.bubble.specs.PacketsIn.{packet_in, source_in}
 use Rattle.teredo_node.specs.Journal.{Input, arrived, given, from_six, ticked, Entry, Journal, Words, epoch, is_changed}
-use Rattle.peer_list.specs.Mentions.{Mention, is_peer, is_about}
+use Rattle.peer_list.specs.Mentions.{Mention, is_about}
 use Rattle.peer_list.specs.Peers.{known}
 use Rattle.peer_list.specs.Laws.{OneEntry}
 use Rattle.qualify.specs.declared.settings.Settings.{Settings}

@@ -1,5 +1,5 @@
 -- What the events of texts keep.
-use Rattle.std.proofs.Common.{◌≡◌, ℕ, ◌<◌, ◌≤◌, ◌&&◌, nat_le, Bool, true, false, cond, List, [], ◌∷◌, length, get_or, Option, Some, None, Result, Ok, Err, refl, sym, ◌∙◌, ap, subst, arith, leb-true}
+use Rattle.std.proofs.Common.{◌≡◌, ℕ, ◌<◌, ◌≤◌, ◌&&◌, nat_le, Bool, true, false, cond, List, [], ◌∷◌, length, get_or, Option, Some, None, Result, Ok, Err, refl, ◌∙◌, ap, subst, arith, leb-true}
 use Rattle.std.specs.Prelude.{position, option_map, slice_get, codes, IfOk}
 use Rattle.history.specs.declared.event_fault.EventFault.{EventFault}
 use Rattle.history.specs.Answers.{Answers}

@@ -4,8 +4,8 @@ use Rattle.std.specs.Prelude.{option_map}
 use Rattle.td_base.specs.declared.endpoint.Ep.{Ep}
 use Rattle.td_base.proofs.BytesLemmas.{AreBytes, no_bytes, byte_first, bytes_first, number_first}
 use Rattle.teredo_addr.proofs.HiddenLaws.{IsBytes-hidden_ep}
-use Rattle.indications.specs.Blocks.{auth_bytes, origin_bytes, optional, with_nonce, blocks_given, indications_bytes}
-use Rattle.indications.specs.Laws.{MayBeGiven, LeadReadsBack, LeadIsBytes}
+use Rattle.indications.specs.Blocks.{auth_bytes, origin_bytes, optional, with_nonce}
+use Rattle.indications.specs.Laws.{LeadReadsBack, LeadIsBytes}
 use Rattle.indications.proofs.LeadLaws.{given_fits, written_again, indications_bytes_len}
 
 pub lead_reads_back : LeadReadsBack

@@ -1,7 +1,6 @@
 -- An address with the cone bit has no tries and nothing waiting.
 use Rattle.std.proofs.Common.{◌≡◌, ℕ, ◌||◌, not, Bool, true, false, cond, List, [], ◌∷◌, ◌++◌, Option, Some, None, refl, sym, ap, ◌∙◌, subst}
 use Rattle.std.specs.Prelude.{option_map, option_to_list, unwrap_or, is_some, nat_le}
-use Rattle.std.specs.List.{AllByRecursion}
 use Rattle.std.proofs.lemmas.Bool.{false≢true}
 use Rattle.td_base.specs.Ip6.{same_ip6-true}
 use Rattle.td_base.specs.declared.ipv6.Ip6.{Ip6}
@@ -15,7 +14,7 @@ use Rattle.teredo_node.specs.Rows.{first_line}
 use Rattle.teredo_node.proofs.FirstLines.{skip}
 use Rattle.teredo_node.specs.Journal.{Input, arrived, given, from_six, ticked, Entry}
 use Rattle.peer_list.specs.declared.limits.TheConstants.{LISTED_MS}
-use Rattle.peer_list.specs.Mentions.{Mention, is_peer, is_about}
+use Rattle.peer_list.specs.Mentions.{Mention, is_about}
 use Rattle.peer_list.specs.Listed.{is_young, is_listed}
 use Rattle.peer_list.specs.Peers.{Peer, no_peer, peer_at, known}
 use Rattle.peer_list.specs.Judged.{is_none, due_of}

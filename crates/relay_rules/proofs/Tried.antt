@@ -1,5 +1,5 @@
 -- A relay's mentions are in order.
-use Rattle.std.proofs.Common.{◌≡◌, ◌≤◌, ℕ, true, List, [], ◌∷◌, map}
+use Rattle.std.proofs.Common.{◌≡◌, true, List, [], ◌∷◌, map}
 use Rattle.std.specs.List.{AllByRecursion}
 use Rattle.std.proofs.Math.Nat.{le_refl}
 use Rattle.teredo_node.specs.Journal.{Entry}

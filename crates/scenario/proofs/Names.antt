@@ -7,7 +7,7 @@ use Rattle.std.specs.List.{list_all}
 use Rattle.topology.specs.declared.node_name.Name.{Name}
 use Rattle.topology.specs.declared.node_name.TheConstants.{NAME_LEN}
 use Rattle.topology.specs.Names.{name_text}
-use Rattle.scenario.specs.NodeName.{name, padded}
+use Rattle.scenario.specs.NodeName.{name}
 use Rattle.topology.proofs.NameLemmas.{one_name}
 use Rattle.topology.specs.NodeNames.{is_name, begins_with_letter, is_name_byte}
 use Rattle.scenario.specs.Fresh.{spelled_name}

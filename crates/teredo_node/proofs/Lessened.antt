@@ -1,7 +1,7 @@
 -- One more tick of what is due.
-use Rattle.std.proofs.Common.{◌≡◌, ◌≤◌, ◌<◌, ◌+◌, ℕ, Bool, not, min, List, [], ◌∷◌, ◌++◌, length, count_by, count_ones, refl, sym, ap, subst, ◌∙◌, arith}
+use Rattle.std.proofs.Common.{◌≡◌, ◌+◌, ℕ, not, min, List, [], ◌∷◌, count_by, count_ones, refl, sym, ap, subst, ◌∙◌, arith}
 use Rattle.td_outside.specs.Causes.{count_end}
-use Rattle.td_outside.specs.Link.{Attempt, Told}
+use Rattle.td_outside.specs.Link.{Told}
 use Rattle.teredo_node.specs.Step.{Step}
 use Rattle.teredo_node.specs.Turn.{Carries, SendFaults, attempts_of}
 use Rattle.teredo_node.specs.Ticks.{Ticked, TicksOnce, GoesBy, TicksThrough, NothingDue, made_by, failed_by, last_step}
