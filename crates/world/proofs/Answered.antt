@@ -1,18 +1,20 @@
 -- The record of a delivery, and of a node that acts.
-use Rattle.std.proofs.Common.{◌≡◌, ◌<◌, ◌+◌, ℕ, Bool, true, false, List, [], ◌∷◌, ◌++◌, length, set, get_or, replicate, Option, Some, None, Result, Ok, Err, refl, sym, ap, subst, ◌∙◌, arith}
+use Rattle.std.proofs.Common.{◌≡◌, ◌≢◌, ◌<◌, ◌+◌, ℕ, Bool, true, false, List, [], length, set, get_or, replicate, Option, Some, None, Result, Ok, Err, refl, sym, ap, subst, ◌∙◌, arith}
 use Rattle.std.specs.Prelude.{◌||◌, slice_get, IsErrOf}
 use Rattle.std.proofs.lemmas.List.{length-append}
+use Rattle.teredo_node.specs.Step.{Step}
 use Rattle.teredo_node.specs.declared.fate.Fate.{Fate}
 use Rattle.teredo_node.specs.declared.fate.Fate.TheVariants as fate
 use Rattle.topology.specs.declared.node.Node.{Node}
 use Rattle.topology.specs.Topology.{node_at}
 use Rattle.topology.specs.Rows.{TopologyState}
+use Rattle.topology.specs.Rules.{IsTopology}
 use Rattle.history.specs.declared.acts.Act.{Act}
 use Rattle.history.specs.declared.acts.Act.TheVariants as act
 use Rattle.history.specs.declared.mark.Mark.{Mark}
 use Rattle.history.specs.declared.records.Record.{Record}
 use Rattle.history.specs.Full.{Item, Full, items_of}
-use Rattle.legal.specs.Past.{Draws, is_number, forgotten}
+use Rattle.legal.specs.Past.{Draws, is_number, at_nat, forgotten}
 use Rattle.legal.specs.Emit.{Route, reaches, closed, astray, route}
 use Rattle.legal.specs.Next.{Numbered, acts, dst_of, input_of, blank, delivers, delivers_item, delivers_to}
 use Rattle.legal.specs.Frame.{EachFrames}
@@ -20,73 +22,131 @@ use Rattle.history.specs.declared.turn.Stop.{Stop}
 use Rattle.history.specs.declared.turn.Stop.TheVariants as stop
 use Rattle.lab_nodes.specs.declared.node_state.NodeState.{NodeState}
 use Rattle.lab_nodes.specs.NodeState.{NodesOf}
-use Rattle.lab_nodes.specs.Answers.{WantsAny}
+use Rattle.lab_nodes.specs.Laws.{EachClientKeepsRules}
+use Rattle.lab_nodes.specs.declared.answer.Asked.{Asked}
+use Rattle.lab_nodes.specs.Answers.{Asks, WantsAny}
 use Rattle.world.specs.Emission.{IsTooMuch, MakesAny}
 use Rattle.world.specs.Wire.{WireState}
 use Rattle.world.specs.Record.{said}
-use Rattle.world.specs.World.{WorldState, StandsFor, Overflows, NeedsMemory, IsCause}
+use Rattle.world.specs.World.{WorldState, StandsFor, NeedsMemory, IsCause}
 use Rattle.lab_nodes.specs.declared.call.Call.{Call}
 use Rattle.lab_nodes.specs.Call.{dst_lent, input_lent}
 use Rattle.world.specs.declared.wire.WireEntry.{WireEntry}
 use Rattle.world.specs.WireEntry.{item_lent}
 use Rattle.world.proofs.States.{some_inj}
-use Rattle.world.specs.Playing.{acts_in, reached_by, Plays}
+use Rattle.world.specs.Playing.{acts_in, reached_by, Finds, Plays}
 use Rattle.world.proofs.Acting.{Doing, IsDoing, IsDone, sender_of, entry_by, record_by, said_by, said_is, nodes_after, is_emission, emitted}
 use Rattle.world.proofs.Played.{remembered, flags_same, rests, said_blank}
 
--- A NODE ACTS
+-- A NODE OF A WORLD ACTS
+
+-- what it is asked, and what it did
+pub record Acted : Type 0 where
+  pub world : WorldState
+  pub act : Act
+  pub delivered : Option ℕ
+  pub call : Call
+  pub mid : List NodeState
+  pub step : Step
+  pub asked : Asked
+
+abbrev wire_in : WorldState → WireState
+wire_in w = record { items = w.wire; done = w.done }
+
+-- that after a history, for an event
+abbrev pub doing : Acted → Draws → List Full → Numbered → Doing
+doing a d H e = record {
+  draws = d;
+  topology = a.world.topology;
+  history = H;
+  event = e;
+  act = a.act;
+  delivered = a.delivered;
+  call = a.call;
+  before = a.world.nodes;
+  mid = a.mid;
+  step = a.step;
+  asked = a.asked;
+  old = wire_in a.world;
+}
+
+pub record IsActed (a : Acted) : Type 0 where
+  pub at : a.call.now.0 ≡ a.world.moment
+  pub rules : IsTopology a.world.topology
+  pub rows : EachClientKeepsRules
+  pub asks : Asks a.call a.world.nodes a.mid a.step a.asked
+  pub elsewhere : (k : ℕ) → k ≢ a.call.number → slice_get a.mid k ≡ slice_get a.world.nodes k
+
+-- the node is there, and no NAT is told of the event
+pub record IsFound (a : Acted) (d : Draws) (H : List Full) (e : Numbered) : Type 0 where
+  pub finds : Finds d a.world H
+  pub quiet : at_nat a.world.topology e.event a.act ≡ []
+  pub there : node_at a.world.topology a.call.number ≡ Some a.call.node
+
+is_doing : (a : Acted) (d : Draws) (H : List Full) (e : Numbered) → IsActed a → IsFound a d H e → IsDoing (doing a d H e)
+is_doing a d H e is asked = record {
+  nodes = asked.finds.nodes;
+  wire = asked.finds.wire;
+  there = asked.there;
+  rules = is.rules;
+  rows = is.rows;
+  quiet = asked.quiet;
+  asks = is.asks;
+  elsewhere = is.elsewhere;
+}
 
 -- it acted, and nothing was delivered
-pub acted_plays : EachFrames → (x : Doing) (w new : WorldState) (after : List NodeState) (wires : WireState) (marks : List Mark) → IsDoing x → IsDone x after wires marks
-    → (w.topology ≡ x.topology) × (w.wire ≡ x.old.items) × (w.done ≡ x.old.done) × (x.call.now.0 ≡ w.moment) × (x.delivered ≡ None)
-    → new ≡ record w { nodes = after; wire = wires.items; done = wires.done }
-    → Plays x.draws w new x.history (record_by x) (Ok (said_by x marks x.event.number))
-acted_plays frame x w new after wires marks is done same becomes =
-    let e = emitted x after wires marks is done in (
+pub acted_plays : EachFrames → (a : Acted) (after : List NodeState) (wires : WireState) (marks : List Mark) (d : Draws) (H : List Full) (e : Numbered) → IsActed a → IsFound a d H e
+    → IsDone (doing a d H e) after wires marks → a.delivered ≡ None
+    → Plays d a.world (record a.world { nodes = after; wire = wires.items; done = wires.done }) H (record_by (doing a d H e)) (Ok (said_by (doing a d H e) marks e.number))
+acted_plays frame a after wires marks d H e acted asked done nothing =
+    let x = doing a d H e in
+    let is = is_doing a d H e acted asked in
+    let sent = emitted x after wires marks is done in (
       said_is x after wires marks is done,
       record {
-        moment = ap (λ (z : WorldState). z.moment) becomes ∙ sym same.3;
-        nodes = subst (λ (z : WorldState). NodesOf x.draws w.topology z.nodes (record_by x ∷ x.history)) (sym becomes) (subst (λ t. NodesOf x.draws t after (record_by x ∷ x.history)) (sym same.0) (nodes_after frame x after wires marks is done));
-        wire = ap (λ (z : WorldState). z.wire) becomes ∙ e.grows.items ∙ ap (λ (items : List Item). items ++ items_of (record_by x)) (sym same.1);
-        done = λ i. ap (λ (z : WorldState). get_or z.done i false) becomes ∙ ap (λ (bs : List Bool). get_or bs i false) e.grows.done
-            ∙ flags_same x.old.done (length (items_of (record_by x))) i ∙ ap (λ (bs : List Bool). get_or bs i false) (sym same.2)
-            ∙ ap (λ (o : Option ℕ). is_number i o || get_or w.done i false) (sym same.4);
+        moment = sym acted.at;
+        nodes = nodes_after frame x after wires marks is done;
+        wire = sent.grows.items;
+        done = λ i. ap (λ (bs : List Bool). get_or bs i false) sent.grows.done ∙ flags_same a.world.done (length (items_of (record_by x))) i
+            ∙ ap (λ (o : Option ℕ). is_number i o || get_or a.world.done i false) (sym nothing);
       },
     )
 
 -- it acted on entry n, which is remembered
-pub reached_plays : EachFrames → (x : Doing) (w new : WorldState) (after : List NodeState) (wires : WireState) (marks : List Mark) (n : ℕ) → IsDoing x → IsDone x after wires marks
-    → (w.topology ≡ x.topology) × (w.wire ≡ x.old.items) × (w.done ≡ x.old.done) × (x.call.now.0 ≡ w.moment) × (x.delivered ≡ Some n)
-    → n < length w.done
-    → new ≡ record w { nodes = after; wire = wires.items; done = set wires.done n true }
-    → Plays x.draws w new x.history (record_by x) (Ok (said_by x marks x.event.number))
-reached_plays frame x w new after wires marks n is done same within becomes =
-    let e = emitted x after wires marks is done in
-    let longer : length wires.done ≡ length x.old.done + length (replicate (length (items_of (record_by x))) false) = ap (λ (xs : List Bool). length xs) e.grows.done ∙ length-append x.old.done _ in
-    let kept : length w.done ≡ length x.old.done = ap (λ (xs : List Bool). length xs) same.2 in (
+pub reached_plays : EachFrames → (a : Acted) (after : List NodeState) (wires : WireState) (marks : List Mark) (d : Draws) (H : List Full) (e : Numbered) (n : ℕ) → IsActed a → IsFound a d H e
+    → IsDone (doing a d H e) after wires marks → a.delivered ≡ Some n → n < length a.world.done
+    → Plays d a.world (record a.world { nodes = after; wire = wires.items; done = set wires.done n true }) H (record_by (doing a d H e)) (Ok (said_by (doing a d H e) marks e.number))
+reached_plays frame a after wires marks d H e n acted asked done it within =
+    let x = doing a d H e in
+    let is = is_doing a d H e acted asked in
+    let sent = emitted x after wires marks is done in
+    let longer : length wires.done ≡ length a.world.done + length (replicate (length (items_of (record_by x))) false) = ap (λ (xs : List Bool). length xs) sent.grows.done ∙ length-append a.world.done _ in (
       said_is x after wires marks is done,
       record {
-        moment = ap (λ (z : WorldState). z.moment) becomes ∙ sym same.3;
-        nodes = subst (λ (z : WorldState). NodesOf x.draws w.topology z.nodes (record_by x ∷ x.history)) (sym becomes) (subst (λ t. NodesOf x.draws t after (record_by x ∷ x.history)) (sym same.0) (nodes_after frame x after wires marks is done));
-        wire = ap (λ (z : WorldState). z.wire) becomes ∙ e.grows.items ∙ ap (λ (items : List Item). items ++ items_of (record_by x)) (sym same.1);
-        done = λ i. ap (λ (z : WorldState). get_or z.done i false) becomes
-            ∙ remembered wires.done n (omega (arith, longer, kept, within)) i
-            ∙ ap (λ (xs : List Bool). is_number i (Some n) || get_or xs i false) (e.grows.done)
-            ∙ ap (λ (b : Bool). is_number i (Some n) || b) (flags_same x.old.done (length (items_of (record_by x))) i)
-            ∙ ap (λ (bs : List Bool). is_number i (Some n) || get_or bs i false) (sym same.2)
-            ∙ ap (λ (o : Option ℕ). is_number i o || get_or w.done i false) (sym same.4);
+        moment = sym acted.at;
+        nodes = nodes_after frame x after wires marks is done;
+        wire = sent.grows.items;
+        done = λ i. remembered wires.done n (omega (arith, longer, within)) i
+            ∙ ap (λ (xs : List Bool). is_number i (Some n) || get_or xs i false) (sent.grows.done)
+            ∙ ap (λ (b : Bool). is_number i (Some n) || b) (flags_same a.world.done (length (items_of (record_by x))) i)
+            ∙ ap (λ (o : Option ℕ). is_number i o || get_or a.world.done i false) (sym it);
       },
     )
 
--- the call by an entry is that of the item
-pub same_reached : (d : Draws) (w : WorldState) (H : List Full) (e : Numbered) (n : ℕ) (call : Call) (lent x : Item) → dst_lent call.coming ≡ dst_of lent → input_lent call.coming ≡ input_of lent
-    → call.now.0 ≡ w.moment → lent ≡ x → acts_in d w.topology H e (act.Deliver n) (Some n) call ≡ reached_by d w H e n call.number x call.node
-same_reached d w H e n call lent x dst input at is =
-    (λ i. acts d w.topology H e (act.Deliver n) (Some n) (at i) call.number (dst i) (input i) call.node)
-    ∙ ap (λ (y : Item). reached_by d w H e n call.number y call.node) is
+-- the call by an entry that is there
+pub record IsBy (w : WorldState) (n : ℕ) (entry : WireEntry) (call : Call) : Type 0 where
+  pub there : slice_get w.wire n ≡ Some (item_lent entry)
+  pub at : call.now.0 ≡ w.moment
+  pub dst : dst_lent call.coming ≡ dst_of (item_lent entry)
+  pub input : input_lent call.coming ≡ input_of (item_lent entry)
 
-pub item_there : (items : List Item) (n : ℕ) (entry : WireEntry) (x : Item) → slice_get items n ≡ Some (item_lent entry) → slice_get items n ≡ Some x → item_lent entry ≡ x
-item_there items n entry x lent at = some_inj (item_lent entry) x (sym lent ∙ at)
+-- is that of the item
+pub same_reached : (w : WorldState) (n : ℕ) (entry : WireEntry) (call : Call) → IsBy w n entry call → (d : Draws) (H : List Full) (e : Numbered) (x : Item) → slice_get w.wire n ≡ Some x
+    → acts_in d w.topology H e (act.Deliver n) (Some n) call ≡ reached_by d w H e n call.number x call.node
+same_reached w n entry call is d H e x at =
+    (λ i. acts d w.topology H e (act.Deliver n) (Some n) (is.at i) call.number (is.dst i) (is.input i) call.node)
+    ∙ ap (λ (y : Item). reached_by d w H e n call.number y call.node) (some_inj (item_lent entry) x (sym is.there ∙ at))
 
 -- WHY IT DIDN'T
 
@@ -95,21 +155,17 @@ pub wants_memory : (d : Draws) (t : TopologyState) (H : List Full) (e : Numbered
     → node_at t x.number ≡ Some x.node → WantsAny x before → NeedsMemory (acts_in d t H e a number x)
 wants_memory d t H e a number x before nodes there wants = wants d t H (nodes x.number x.node there)
 
--- the wire has no room for what it sends
-pub overflows : (x : Doing) (w : WorldState) → IsDoing x → w.wire ≡ x.old.items → IsTooMuch (sender_of x.call) x.mid x.old x.step x.asked.packet → Overflows w (record_by x)
-overflows x w is same much =
-    let more = much x.draws x.topology x.history (entry_by x) (is_emission x is) in
-    let size : length w.wire ≡ length x.old.items = ap (λ (items : List Item). length items) same in
-    omega (arith, more, size)
-
--- memory was wanting for it
-pub needs_some : (x : Doing) → IsDoing x → MakesAny (sender_of x.call) x.mid x.step x.asked.packet → NeedsMemory (record_by x)
-needs_some x is makes = λ none. absurd (makes x.draws x.topology x.history (entry_by x) (is_emission x is) none)
-
--- why it stopped
-pub stops_for : {A : Type 0} (w : WorldState) (r : Full) (result : Result A Stop) (why : Stop) → result ≡ Err why → (IsErrOf result stop.WireFull → Overflows w r) → (IsErrOf result stop.NoMemory → NeedsMemory r) → IsCause w r why
-stops_for w r result stop.WireFull is full starved = full (subst (λ (z : Result _ Stop). IsErrOf z stop.WireFull) (sym is) refl)
-stops_for w r result stop.NoMemory is full starved = starved (subst (λ (z : Result _ Stop). IsErrOf z stop.NoMemory) (sym is) refl)
+-- the wire has no room for what it sends, or memory was wanting for it
+pub acted_stops : (a : Acted) (d : Draws) (H : List Full) (e : Numbered) (why : Stop) → IsActed a → IsFound a d H e
+    → (IsErrOf {T = Unit {0}} (Err why) stop.WireFull → IsTooMuch (sender_of a.call) a.mid (wire_in a.world) a.step a.asked.packet)
+    → (IsErrOf {T = Unit {0}} (Err why) stop.NoMemory → MakesAny (sender_of a.call) a.mid a.step a.asked.packet)
+    → IsCause a.world (record_by (doing a d H e)) why
+acted_stops a d H e stop.WireFull is asked full starved =
+    let x = doing a d H e in
+    full refl d a.world.topology H (entry_by x) (is_emission x (is_doing a d H e is asked))
+acted_stops a d H e stop.NoMemory is asked full starved = λ none.
+    let x = doing a d H e in
+    absurd (starved refl d a.world.topology H (entry_by x) (is_emission x (is_doing a d H e is asked)) none)
 
 -- A DELIVERY
 

@@ -1,22 +1,20 @@
 -- Events that have one record.
-use Rattle.std.proofs.Common.{◌≡◌, ◌≤◌, ℕ, Bool, true, false, List, Option, Some, None, Result, Ok, Err, refl, sym, ap, ◌∙◌, arith}
+use Rattle.std.proofs.Common.{◌≡◌, ◌≤◌, ◌+◌, ℕ, Bool, true, false, List, [], Option, Some, None, Result, Ok, Err, refl, sym, ap, ◌∙◌, arith}
 use Rattle.std.specs.Prelude.{IfOk}
 use Rattle.std.proofs.lemmas.Bool.{false≢true}
 use Rattle.history.specs.declared.event.Event.{Event}
 use Rattle.history.specs.declared.event.Event.TheVariants as event
+use Rattle.history.specs.declared.event.TheConstants.{MOST_ADVANCE}
 use Rattle.history.specs.declared.records.Record.{Record}
 use Rattle.history.specs.declared.turn.Turn.{Turn}
 use Rattle.history.specs.declared.turn.Turn.TheVariants.{Last}
 use Rattle.history.specs.declared.turn.Stop.{Stop}
-use Rattle.topology.specs.Rows.{TopologyState}
 use Rattle.history.specs.Full.{Full}
 use Rattle.legal.specs.Past.{Draws, has_more}
 use Rattle.legal.specs.Next.{next_of}
 use Rattle.legal.specs.Laws.{EachIsOfItsEvent}
 use Rattle.world.specs.declared.going.Going.{Going}
-use Rattle.lab_nodes.specs.declared.node_state.NodeState.{NodeState}
-use Rattle.world.specs.Wire.{WireState}
-use Rattle.world.specs.World.{WorldState, IsAgain, event_in, began_in, state_of}
+use Rattle.world.specs.World.{WorldState, IsAgain, event_in, began_in}
 use Rattle.world.specs.Playing.{Plays, last_of, PlaysTurn, Turned}
 
 abbrev pub is_advance : Event → Bool
@@ -46,22 +44,38 @@ plays_last law d old new H i e played single plays =
     let r = next_of d old.topology H i e in
     turns d old new H r played (ap (λ (x : Event). has_more x r.act) (law d old.topology H i e).asked ∙ no_more e single r) plays
 
--- then nothing goes on
-pub turned_last : (t : TopologyState) (m : ℕ) (g : Option Going) (nodes : List NodeState) (wire : WireState) (stopped : Option Stop) (new : WorldState) (e : Event) (word : Record) → is_advance e ≡ false → IsAgain (event_in g) e
-    → new ≡ record (state_of t m g nodes wire stopped) { nodes = new.nodes; wire = new.wire; done = new.done } → Turned (state_of t m g nodes wire stopped) new e (Last word)
-turned_last t m None nodes wire stopped new e word single again is = record {
-  topology = ap (λ (w : WorldState). w.topology) is;
-  stopped = ap (λ (w : WorldState). w.stopped) is;
-  going = ap (λ (w : WorldState). w.going) is;
-  goes = ap (λ (w : WorldState). w.began) is ∙ sym (ap (λ (w : WorldState). w.moment) is);
-}
-turned_last t m (Some g) nodes wire stopped new e word single again is = absurd (false≢true (sym single ∙ ap is_advance again))
+-- no event goes on
+abbrev pub IsAtRest : WorldState → Type 0
+IsAtRest w = (w.going ≡ None) × (w.began ≡ w.moment)
 
-pub if_last : (played : Result Record Stop) (P : Turn → Type 0) → ((word : Record) → P (Last word)) → IfOk (last_of played) P
-if_last (Ok word) P f = f word
-if_last (Err why) P f = tt
+-- so it is where an event comes that is no advance
+abbrev pub RestsAt : Event → WorldState → Type 0
+RestsAt e w = IsAgain w.going e → IsAtRest w
+
+pub rests : (m : ℕ) (g : Option Going) (e : Event) → is_advance e ≡ false → IsAgain (event_in g) e → (event_in g ≡ None) × (began_in m g ≡ m)
+rests m None e single again = (refl, refl)
+rests m (Some g) e single again = absurd (false≢true (sym single ∙ ap is_advance again))
+
+-- what stays of a world while no time passes
+abbrev pub lasting : WorldState → WorldState
+lasting w = record w { nodes = []; wire = []; done = [] }
+
+-- then nothing goes on
+pub turned_last : (old new : WorldState) (e : Event) (word : Record) → IsAtRest old → lasting new ≡ lasting old → Turned old new e (Last word)
+turned_last old new e word rest same = record {
+  topology = ap (λ (w : WorldState). w.topology) same;
+  stopped = ap (λ (w : WorldState). w.stopped) same;
+  going = ap (λ (w : WorldState). w.going) same ∙ rest.0;
+  goes = ap (λ (w : WorldState). w.began) same ∙ rest.1 ∙ sym (ap (λ (w : WorldState). w.moment) same);
+}
+
+pub turned_once : (old new : WorldState) (e : Event) (played : Result Record Stop) → IsAtRest old → lasting new ≡ lasting old → IfOk (last_of played) (λ turn. Turned old new e turn)
+turned_once old new e (Ok word) rest same = turned_last old new e word rest same
+turned_once old new e (Err why) rest same = tt
 
 -- nor does time pass
-pub rest_time : (m : ℕ) (g : Option Going) (e : Event) → is_advance e ≡ false → IsAgain (event_in g) e → m ≤ began_in m g
-rest_time m None e single again = omega arith
-rest_time m (Some g) e single again = absurd (false≢true (sym single ∙ ap is_advance again))
+pub no_time : (old new : WorldState) → IsAtRest old → lasting new ≡ lasting old → new.moment ≤ old.began + MOST_ADVANCE
+no_time old new rest same =
+    let at : new.moment ≡ old.moment = ap (λ (w : WorldState). w.moment) same in
+    let from = rest.1 in
+    omega (arith, at, from)

@@ -1,5 +1,4 @@
 mod Wires
-mod Results
 mod States
 mod Routes
 mod Emitted

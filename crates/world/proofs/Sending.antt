@@ -54,11 +54,11 @@ sent_some s m inside h [] some e = absurd (omega (arith, some))
 sent_some s m inside h (y ∷ ys) some e = false≢true (sym (ap is_filled e))
 
 -- no NAT is kept there, so nothing is emitted
-pub no_nat : (x : Sender) (row : ClientNode) (nodes : List NodeState) (step : Step) → x.node ≡ client row
-    → ((d : Draws) (t : TopologyState) (H : List Full) (b : NatNode) → IsKeptIn t row.nat (nat b) (past_of d t row.nat H) (slice_get nodes row.nat) → ⊥) → MakesAny x nodes step None
-no_nat x row nodes step client_is bad = λ d t H e is.
+pub no_nat : (x : Sender) (row : ClientNode) (nodes : List NodeState) (step : Step) (o : Option NodeState) → x.node ≡ client row → slice_get nodes row.nat ≡ o
+    → ((d : Draws) (t : TopologyState) (H : List Full) (b : NatNode) → IsKeptIn t row.nat (nat b) (past_of d t row.nat H) o → ⊥) → MakesAny x nodes step None
+no_nat x row nodes step o client_is there bad = λ d t H e is.
     let found = there_is (nat_at t row.nat) (is.behind row client_is) in
-    absurd (bad d t H found.0 (is.through row client_is found.0 found.1))
+    absurd (bad d t H found.0 (subst (IsKeptIn t row.nat (nat found.0) (past_of d t row.nat H)) there (is.through row client_is found.0 found.1)))
 
 -- a NAT is kept there, which let through what it let through
 pub record IsThrough (x : Sender) (row : ClientNode) (nodes : List NodeState) (old : NatState) : Type 0 where

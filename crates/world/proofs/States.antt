@@ -1,7 +1,8 @@
 -- NATs of a topology, and lists with one element replaced.
-use Rattle.std.proofs.Common.{◌≡◌, ◌≢◌, ◌<◌, ℕ, zero, suc, List, [], ◌∷◌, length, set, Option, Some, None, refl, ap, arith}
+use Rattle.std.proofs.Common.{◌≡◌, ◌≢◌, ◌<◌, ℕ, zero, suc, List, [], ◌∷◌, length, set, get_or, Option, Some, None, refl, sym, ap, ◌∙◌, arith}
 use Rattle.std.specs.Prelude.{slice_get, option_and_then, is_some, unwrap_or}
 use Rattle.std.proofs.lemmas.Bool.{false≢true}
+use Rattle.std.proofs.lemmas.Option.{slice_get_read}
 use Rattle.topology.specs.declared.nat_node.NatNode.{NatNode}
 use Rattle.topology.specs.Rows.{TopologyState}
 use Rattle.topology.specs.declared.node.Node.{Node}
@@ -34,3 +35,7 @@ set_elsewhere (x ∷ xs) zero zero y other = absurd (other refl)
 set_elsewhere (x ∷ xs) zero (suc k) y other = refl
 set_elsewhere (x ∷ xs) (suc j) zero y other = refl
 set_elsewhere (x ∷ xs) (suc j) (suc k) y other = set_elsewhere xs j k y (λ e. other (ap (λ (n : ℕ). suc n) e))
+
+-- what was read of a list at number j stands there
+pub read_there : {A : Type 0} → (xs : List A) (j k : ℕ) (x y : A) → j ≡ k → j < length xs → x ≡ get_or xs j x → x ≡ y → slice_get xs k ≡ Some y
+read_there xs j k x y same within read is = ap (slice_get xs) (sym same) ∙ slice_get_read xs (length xs) j x refl within read ∙ ap (λ z. Some z) is

@@ -1,10 +1,11 @@
 -- What one step does to the histories that a world stands for.
-use Rattle.std.proofs.Common.{◌≡◌, ◌≤◌, ◌<◌, ℕ, Bool, List, [], ◌∷◌, ◌++◌, Option, Some, None, Ok, refl, sym, ap, subst, ◌∙◌, arith}
-use Rattle.std.specs.Prelude.{◌||◌}
+use Rattle.std.proofs.Common.{◌≡◌, ◌≤◌, ◌<◌, ℕ, Bool, List, [], ◌∷◌, ◌++◌, Option, Some, None, Result, Ok, Err, refl, sym, ap, subst, ◌∙◌, arith}
+use Rattle.std.specs.Prelude.{◌||◌, IfOk}
 use Rattle.history.specs.declared.event.Event.{Event}
 use Rattle.history.specs.Events.{IsEvent}
 use Rattle.history.specs.declared.turn.Turn.{Turn}
 use Rattle.history.specs.declared.turn.Turn.TheVariants.{More, Last}
+use Rattle.history.specs.declared.turn.Stop.{Stop}
 use Rattle.topology.specs.Rows.{TopologyState}
 use Rattle.topology.specs.Rules.{IsTopology}
 use Rattle.history.specs.Full.{Full, items_of}
@@ -111,17 +112,19 @@ is_next laws d old new H i e turn asked s plays =
       more = plays.1;
     }
 
--- what a turn does for each history that the world stood for
-abbrev pub PlaysAll : WorldState → WorldState → ℕ → Event → Turn → Type 0
-PlaysAll old new i e turn = (d : Draws) (H : List Full) → StandsFor d old H → PlaysTurn d old new H (next_of d old.topology H i e) (Ok turn)
+-- what is played for each history that the world stood for
+abbrev pub PlaysAll : WorldState → WorldState → ℕ → Event → Result Turn Stop → Type 0
+PlaysAll old new i e played = (d : Draws) (H : List Full) → StandsFor d old H → PlaysTurn d old new H (next_of d old.topology H i e) played
 
 stands_on : Laws → (d : Draws) (old new : WorldState) (H : List Full) (i : ℕ) (e : Event) (turn : Turn) → IsAsked old e → Turned old new e turn → AreReady new.moment new.nodes
     → StandsFor d old H → PlaysTurn d old new H (next_of d old.topology H i e) (Ok turn) → StandsFor d new (next_of d old.topology H i e ∷ H)
 stands_on laws d old new H i e turn asked turned ready s plays =
     stands laws.falls laws.sums d old new H e turn (next_of d old.topology H i e) (is_next laws d old new H i e turn asked s plays) turned ready plays.2
 
-pub steps : Laws → (old new : WorldState) (i : ℕ) (e : Event) (turn : Turn) → IsAsked old e → Turned old new e turn → AreReady new.moment new.nodes → PlaysAll old new i e turn → Steps old new i e turn
-steps laws old new i e turn asked turned ready plays = record {
+pub steps : Laws → (old new : WorldState) (i : ℕ) (e : Event) (played : Result Turn Stop) → IsAsked old e → IfOk played (λ turn. Turned old new e turn) → AreReady new.moment new.nodes
+    → PlaysAll old new i e played → IfOk played (λ turn. Steps old new i e turn)
+steps laws old new i e (Err stop) asked turned ready plays = tt
+steps laws old new i e (Ok turn) asked turned ready plays = record {
   topology = turned.topology;
   goes_on = turned.stopped ∙ asked.stopped;
   going = turned.going;
@@ -139,7 +142,8 @@ fell_on falls d old new H e (More said) r next same s =
     let after : left old.topology (r ∷ H) ≡ left_in new = ap (λ (x : TopologyState). left x (r ∷ H)) (sym same) ∙ s.left in
     omega (arith, fell, before, after)
 
-pub falls : Laws → (d : Draws) (old new : WorldState) (H : List Full) (i : ℕ) (e : Event) (turn : Turn) → IsAsked old e → Turned old new e turn → AreReady new.moment new.nodes
-    → PlaysAll old new i e turn → StandsFor d old H → Falls old new turn
-falls laws d old new H i e turn asked turned ready plays s =
+pub falls : Laws → (old new : WorldState) (i : ℕ) (e : Event) (played : Result Turn Stop) → IsAsked old e → IfOk played (λ turn. Turned old new e turn) → AreReady new.moment new.nodes
+    → PlaysAll old new i e played → IfOk played (λ turn. (d : Draws) (H : List Full) → StandsFor d old H → Falls old new turn)
+falls laws old new i e (Err stop) asked turned ready plays = tt
+falls laws old new i e (Ok turn) asked turned ready plays = λ d H s.
     fell_on laws.falls d old new H e turn (next_of d old.topology H i e) (is_next laws d old new H i e turn asked s (plays d H s)) turned.topology (stands_on laws d old new H i e turn asked turned ready s (plays d H s))

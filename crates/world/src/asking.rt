@@ -42,11 +42,10 @@ impl<'a> World<'a> {
             handed,
             address,
         } = asked;
-        let marks = match emit(sender, &mut self.nodes, &mut self.wire, &self.step, packet) {
-            Ok(marks) => marks,
-            Err(stop) => return Err(stop),
-        };
-        let mut record = acted(call.now, index, act, call.number, &self.step, marks);
+        let mut record = acted(call.now, index, act, call.number, &self.step);
+        let nodes = &mut self.nodes;
+        let marks = &mut record.marks;
+        emit(sender, nodes, &mut self.wire, &self.step, packet, marks)?;
         record.handed = handed;
         record.address = address;
         Ok(record)
@@ -90,12 +89,11 @@ impl<'a> World<'a> {
             address,
         } = asked;
         let sender = Sender { node, now };
-        let marks = match emit(sender, &mut self.nodes, &mut self.wire, &self.step, packet) {
-            Ok(marks) => marks,
-            Err(stop) => return Err(stop),
-        };
+        let mut record = acted(now, index, Act::Deliver { number }, at, &self.step);
+        let nodes = &mut self.nodes;
+        let marks = &mut record.marks;
+        emit(sender, nodes, &mut self.wire, &self.step, packet, marks)?;
         self.wire.set_delivered(place);
-        let mut record = acted(now, index, Act::Deliver { number }, at, &self.step, marks);
         record.handed = handed;
         record.address = address;
         Ok(record)

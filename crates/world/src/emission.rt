@@ -1,5 +1,5 @@
 //! How what a node does comes onto the wire.
-ghost use Rattle.std.specs.Prelude.{◌≡◌, ◌≢◌, ◌≤◌, ℕ, None, length, slice_get, IfOk, IfSome, OnErr, IsErrOf};
+ghost use Rattle.std.specs.Prelude.{◌≡◌, ◌≢◌, ◌≤◌, ℕ, [], None, length, slice_get, IfSome, OnOk, OnErr, IsErrOf};
 ghost use Rattle.topology.specs.declared.node.Node.TheVariants.{Client as client};
 ghost use Rattle.history.specs.declared.event.TheConstants.{MOST_BYTES};
 ghost use Rattle.lab_nodes.specs.NodeState.{AreReady};
@@ -21,60 +21,63 @@ pub struct Sender {
     pub now: Millis,
 }
 
-/// Puts what a client sends on the wire, through its NAT. At a stop nothing is put there.
+/// Puts what a client sends on the wire, through its NAT, and the marks into `marks`. At a stop nothing is put on the
+/// wire.
 fn emit_client(
     sender: Sender,
     row: ClientNode,
     nodes: &mut Vec<NodeState>,
     wire: &mut Wire,
     step: &Step,
-) -> Result<Marks, Stop>
+    marks: &mut Marks,
+) -> Result<(), Stop>
+    requires none { marks.old ≡ [] }
     requires client { sender.node ≡ client row }
     requires ready { AreReady sender.now.0 nodes.old.items }
     ensures ready { AreReady sender.now.0 nodes.new.items }
     ensures elsewhere { (k : ℕ) → k ≢ row.nat → slice_get nodes.new.items k ≡ slice_get nodes.old.items k }
-    ensures ok { IfOk result (λ marks. Emits sender nodes.old.items nodes.new.items wire.old wire.new step.now None marks) }
+    ensures ok { OnOk result (Emits sender nodes.old.items nodes.new.items wire.old wire.new step.now None marks.new) }
     ensures err { OnErr result (wire.new ≡ wire.old) }
     ensures full { IsErrOf result Stop.WireFull → IsTooMuch sender nodes.old.items wire.old step.now None }
     ensures needs { IsErrOf result Stop.NoMemory → MakesAny sender nodes.old.items step.now None }
 {
-    let alloc = *nodes.allocator();
     let number = usize::from(row.nat);
     if number >= nodes.len() {
         return Err(Stop::NoMemory);
     }
     match &mut nodes[number] {
-        NodeState::Nat(nat) => send_through(alloc, wire, nat, sender.now, row.inside, step),
+        NodeState::Nat(nat) => send_through(wire, nat, sender.now, row.inside, step, marks),
         NodeState::Client(_) => Err(Stop::NoMemory),
         NodeState::Relay(_) => Err(Stop::NoMemory),
         NodeState::Nothing => Err(Stop::NoMemory),
     }
 }
 
-/// Puts what a node sends on the wire: the datagrams of its step, then the packet for the IPv6 side. At a stop nothing is
-/// put there.
+/// Puts what a node sends on the wire: the datagrams of its step, then the packet for the IPv6 side; and a mark for each
+/// into `marks`. At a stop nothing is put on the wire.
 pub fn emit(
     sender: Sender,
     nodes: &mut Vec<NodeState>,
     wire: &mut Wire,
     step: &Step,
     packet: Option<Octets>,
-) -> Result<Marks, Stop>
+    marks: &mut Marks,
+) -> Result<(), Stop>
+    requires none { marks.old ≡ [] }
     requires short { IfSome packet (λ bytes. length bytes ≤ MOST_BYTES) }
     requires ready { AreReady sender.now.0 nodes.old.items }
     ensures ready { AreReady sender.now.0 nodes.new.items }
     ensures elsewhere { (k : ℕ) → (IsBehind sender.node k → ⊥) → slice_get nodes.new.items k ≡ slice_get nodes.old.items k }
-    ensures ok { IfOk result (λ marks. Emits sender nodes.old.items nodes.new.items wire.old wire.new step.now packet marks) }
+    ensures ok { OnOk result (Emits sender nodes.old.items nodes.new.items wire.old wire.new step.now packet marks.new) }
     ensures err { OnErr result (wire.new ≡ wire.old) }
     ensures full { IsErrOf result Stop.WireFull → IsTooMuch sender nodes.old.items wire.old step.now packet }
     ensures needs { IsErrOf result Stop.NoMemory → MakesAny sender nodes.old.items step.now packet }
 {
-    let alloc = *nodes.allocator();
     match sender.node {
-        Node::Client(row) => emit_client(sender, row, nodes, wire, step),
-        Node::Server(_) => Outlet::of(sender.node).send(alloc, wire, step, packet),
-        Node::Nat(_) => Ok(Marks::new()),
-        Node::Relay(_) => Outlet::of(sender.node).send(alloc, wire, step, packet),
-        Node::Native(row) => send_native(wire, &row, packet),
+        Node::Client(row) => emit_client(sender, row, nodes, wire, step, marks),
+        Node::Server(_) => Outlet::of(sender.node).send(wire, step, packet, marks),
+        Node::Nat(_) => Ok(()),
+        Node::Relay(_) => Outlet::of(sender.node).send(wire, step, packet, marks),
+        Node::Native(row) => send_native(wire, &row, packet, marks),
     }
 }

@@ -16,7 +16,6 @@ ghost use Rattle.world.specs.Sends.{packet_for, packet_made, Extends, Grows, sou
 use crate::wire::{MOST_ENTRIES, Wire};
 use history::{Loss, Mark, Marks, Stop};
 use nat_kinds::{Nat, NatRefusal};
-use std::alloc::Global;
 use td_base::{Ep, Ip4, Millis, NoMemory, Side};
 use td_outside::Octets;
 use teredo_node::Step;
@@ -78,7 +77,6 @@ impl Outlet {
     /// Puts the datagrams of a step on the wire, and a mark for each into `marks`.
     fn put_sends(
         self,
-        alloc: Global,
         wire: &mut Wire,
         step: &Step,
         marks: &mut Marks,
@@ -97,7 +95,7 @@ impl Outlet {
             let number = wire.len() as u32;
             let src = self.source(side);
             let len = bytes.len();
-            wire.push_datagram(src, to, Octets::new(alloc, bytes)?)?;
+            wire.push_copy(src, to, bytes)?;
             marks.push(Mark::Udp {
                 number,
                 src,
@@ -112,7 +110,6 @@ impl Outlet {
     /// there.
     fn put_all(
         self,
-        alloc: Global,
         wire: &mut Wire,
         step: &Step,
         packet: Option<Octets>,
@@ -126,7 +123,7 @@ impl Outlet {
         ensures err { OnErr result ((more : List Item) × Extends wire.old wire.new more) }
         ensures needs { OnErr result (0 < length step.now.sends + length (packet_made packet)) }
     {
-        self.put_sends(alloc, wire, step, marks)?;
+        self.put_sends(wire, step, marks)?;
         match packet {
             None => Ok(()),
             Some(packet) => {
@@ -136,18 +133,19 @@ impl Outlet {
         }
     }
 
-    /// Puts all that a step sends on the wire, the packet for the IPv6 side last, and answers the marks. At a stop
-    /// nothing is put there.
+    /// Puts all that a step sends on the wire, the packet for the IPv6 side last, and the marks into `marks`. At a stop
+    /// nothing is put on the wire.
     pub fn send(
         self,
-        alloc: Global,
         wire: &mut Wire,
         step: &Step,
         packet: Option<Octets>,
-    ) -> Result<Marks, Stop>
+        marks: &mut Marks,
+    ) -> Result<(), Stop>
+        requires none { marks.old ≡ [] }
         requires short { IfSome packet (λ bytes. length bytes ≤ MOST_BYTES) }
         ensures ok { OnOk result (Grows wire.old wire.new (all_made self step.now.sends packet)) }
-        ensures marks { IfOk result (λ marks. marks ≡ marks_of (length wire.old.items) (all_made self step.now.sends packet)) }
+        ensures marked { OnOk result (marks.new ≡ marks_of (length wire.old.items) (all_made self step.now.sends packet)) }
         ensures err { OnErr result (wire.new ≡ wire.old) }
         ensures full { IsErrOf result Stop.WireFull → MOST_ENTRIES < length wire.old.items + (length step.now.sends + length (packet_made packet)) }
         ensures needs { IsErrOf result Stop.NoMemory → 0 < length step.now.sends + length (packet_made packet) }
@@ -156,9 +154,8 @@ impl Outlet {
         if step.count() + usize::from(packet.is_some()) > MOST_ENTRIES - len {
             return Err(Stop::WireFull);
         }
-        let mut marks = Marks::new();
-        match self.put_all(alloc, wire, step, packet, &mut marks) {
-            Ok(()) => Ok(marks),
+        match self.put_all(wire, step, packet, marks) {
+            Ok(()) => Ok(()),
             Err(NoMemory) => {
                 wire.cut(len);
                 Err(Stop::NoMemory)
@@ -203,25 +200,30 @@ fn relay_for(row: &NativeNode, bytes: &[u8]) -> Option<u16>
     }
 }
 
-/// Puts the packet that a native host sends on the wire, and answers its mark. At a stop nothing is put there.
-pub fn send_native(wire: &mut Wire, row: &NativeNode, packet: Option<Octets>) -> Result<Marks, Stop>
+/// Puts the packet that a native host sends on the wire, and its mark into `marks`. At a stop nothing is put on the wire.
+pub fn send_native(
+    wire: &mut Wire,
+    row: &NativeNode,
+    packet: Option<Octets>,
+    marks: &mut Marks,
+) -> Result<(), Stop>
+    requires none { marks.old ≡ [] }
     requires short { IfSome packet (λ bytes. length bytes ≤ MOST_BYTES) }
     ensures ok { OnOk result (Grows wire.old wire.new (native_made row.now packet)) }
-    ensures marks { IfOk result (λ marks. marks ≡ marks_of (length wire.old.items) (native_made row.now packet)) }
+    ensures marked { OnOk result (marks.new ≡ marks_of (length wire.old.items) (native_made row.now packet)) }
     ensures err { OnErr result (wire.new ≡ wire.old) }
     ensures full { IsErrOf result Stop.WireFull → MOST_ENTRIES < length wire.old.items + length (native_made row.now packet) }
     ensures needs { IsErrOf result Stop.NoMemory → 0 < length (native_made row.now packet) }
 {
-    let mut marks = Marks::new();
     let Some(packet) = packet else {
-        return Ok(marks);
+        return Ok(());
     };
     if wire.len() >= MOST_ENTRIES {
         return Err(Stop::WireFull);
     }
     let relay = relay_for(row, packet.as_slice());
-    match put_packet(wire, relay, packet, &mut marks) {
-        Ok(()) => Ok(marks),
+    match put_packet(wire, relay, packet, marks) {
+        Ok(()) => Ok(()),
         Err(NoMemory) => Err(Stop::NoMemory),
     }
 }
@@ -249,7 +251,6 @@ fn translate(nat: &mut Nat, now: Millis, inside: Ep, to: Ep) -> Result<Result<Ep
 
 /// Puts a datagram that has a source on the wire, and answers its mark, or that of one that is lost.
 fn put_datagram(
-    alloc: Global,
     wire: &mut Wire,
     src: Result<Ep, Loss>,
     to: Ep,
@@ -270,10 +271,7 @@ fn put_datagram(
         return Err(Stop::WireFull);
     }
     let number = wire.len() as u32;
-    let Ok(octets) = Octets::new(alloc, bytes) else {
-        return Err(Stop::NoMemory);
-    };
-    let Ok(()) = wire.push_datagram(src, to, octets) else {
+    let Ok(()) = wire.push_copy(src, to, bytes) else {
         return Err(Stop::NoMemory);
     };
     Ok(Mark::Udp {
@@ -284,19 +282,20 @@ fn put_datagram(
     })
 }
 
-/// Puts those datagrams of a step on the wire that a NAT lets out, and answers a mark for each. At a stop some of them
-/// are there.
+/// Puts those datagrams of a step on the wire that a NAT lets out, and a mark for each into `marks`. At a stop some of
+/// them are there.
 fn put_through(
-    alloc: Global,
     wire: &mut Wire,
     nat: &mut Nat,
     now: Millis,
     inside: Ep,
     step: &Step,
-) -> Result<Marks, Stop>
+    marks: &mut Marks,
+) -> Result<(), Stop>
+    requires none { marks.old ≡ [] }
     requires clock { nat.old.moment ≤ now.0 }
-    ensures passes { IfOk result (λ marks. (h : List Entry) → StandsFor nat.old h
-        → Passes now.0 inside wire.old wire.new nat.new h (through_nat nat.old.settings None now.0 inside 0 h step.now.sends) marks) }
+    ensures passes { OnOk result ((h : List Entry) → StandsFor nat.old h
+        → Passes now.0 inside wire.old wire.new nat.new h (through_nat nat.old.settings None now.0 inside 0 h step.now.sends) marks.new) }
     ensures err { OnErr result ((more : List Item) × Extends wire.old wire.new more) }
     ensures full { IsErrOf result Stop.WireFull → (h : List Entry) → StandsFor nat.old h
         → MOST_ENTRIES < length wire.old.items + length (filter_map item_in (through_nat nat.old.settings None now.0 inside 0 h step.now.sends)) }
@@ -304,29 +303,29 @@ fn put_through(
     ensures moment { nat.new.moment ≤ now.0 }
     ensures settings { nat.new.settings ≡ nat.old.settings }
 {
-    let mut marks = Marks::new();
     for i in 0..step.count() {
         let (_, to, bytes) = step.send(i);
         let src = translate(nat, now, inside, to)?;
-        let mark = put_datagram(alloc, wire, src, to, bytes)?;
+        let mark = put_datagram(wire, src, to, bytes)?;
         marks.push(mark);
     }
-    Ok(marks)
+    Ok(())
 }
 
 /// Sends the datagrams of a step from an endpoint inside a NAT, in order: those that the NAT lets out come onto the wire.
-/// Answers a mark for each. At a stop nothing is put on the wire, but the NAT may know of some of them.
+/// A mark for each comes into `marks`. At a stop nothing is put on the wire, but the NAT may know of some of them.
 pub fn send_through(
-    alloc: Global,
     wire: &mut Wire,
     nat: &mut Nat,
     now: Millis,
     inside: Ep,
     step: &Step,
-) -> Result<Marks, Stop>
+    marks: &mut Marks,
+) -> Result<(), Stop>
+    requires none { marks.old ≡ [] }
     requires clock { nat.old.moment ≤ now.0 }
-    ensures passes { IfOk result (λ marks. (h : List Entry) → StandsFor nat.old h
-        → Passes now.0 inside wire.old wire.new nat.new h (through_nat nat.old.settings None now.0 inside 0 h step.now.sends) marks) }
+    ensures passes { OnOk result ((h : List Entry) → StandsFor nat.old h
+        → Passes now.0 inside wire.old wire.new nat.new h (through_nat nat.old.settings None now.0 inside 0 h step.now.sends) marks.new) }
     ensures err { OnErr result (wire.new ≡ wire.old) }
     ensures full { IsErrOf result Stop.WireFull → (h : List Entry) → StandsFor nat.old h
         → MOST_ENTRIES < length wire.old.items + length (filter_map item_in (through_nat nat.old.settings None now.0 inside 0 h step.now.sends)) }
@@ -335,8 +334,8 @@ pub fn send_through(
     ensures settings { nat.new.settings ≡ nat.old.settings }
 {
     let len = wire.len();
-    match put_through(alloc, wire, nat, now, inside, step) {
-        Ok(marks) => Ok(marks),
+    match put_through(wire, nat, now, inside, step, marks) {
+        Ok(()) => Ok(()),
         Err(stop) => {
             wire.cut(len);
             Err(stop)

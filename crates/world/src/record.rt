@@ -23,19 +23,11 @@ pub fn blank(now: Millis, index: u32, act: Act, node: Option<u16>, fate: Fate) -
     }
 }
 
-/// The record of a node's step, whose sends have these marks. What a host was handed isn't in it.
-pub fn acted(now: Millis, index: u32, act: Act, node: u16, step: &Step, marks: Marks) -> Record
-    ensures { result ≡ record (said now.0 index act (Some node) step.now.fate marks) { gone = step.now.gone } }
+/// The record of a node's step. What it sends, and what a host was handed, isn't in it yet.
+pub fn acted(now: Millis, index: u32, act: Act, node: u16, step: &Step) -> Record
+    ensures { result ≡ record (said now.0 index act (Some node) step.now.fate []) { gone = step.now.gone } }
 {
-    Record {
-        event: index,
-        moment: now,
-        act,
-        node: Some(node),
-        fate: step.fate(),
-        address: None,
-        handed: None,
-        gone: step.gone(),
-        marks,
-    }
+    let mut record = blank(now, index, act, Some(node), step.fate());
+    record.gone = step.gone();
+    record
 }

@@ -118,6 +118,17 @@ impl Wire {
         self.push(Entry::Udp { src, dst, bytes })
     }
 
+    /// Appends a datagram with a copy of these bytes.
+    pub fn push_copy(&mut self, src: Ep, dst: Ep, bytes: &[u8]) -> Result<(), NoMemory>
+        requires room { length self.old.items < MOST_ENTRIES }
+        requires short { length bytes.now ≤ MOST_BYTES }
+        ensures ok { OnOk result (self.new ≡ with_item self.old (udp src dst bytes.now)) }
+        ensures err { OnErr result (self.new ≡ self.old) }
+    {
+        let bytes = Octets::new(*self.entries.allocator(), bytes)?;
+        self.push_datagram(src, dst, bytes)
+    }
+
     /// Appends an IPv6 packet, for the relay of that number, or for whoever has its destination.
     pub fn push_packet(&mut self, relay: Option<u16>, bytes: Octets) -> Result<(), NoMemory>
         requires room { length self.old.items < MOST_ENTRIES }

@@ -141,16 +141,13 @@ impl<'a> World<'a> {
         if let Some(stop) = self.stopped {
             return Err(stop);
         }
-        match self.play(index, event) {
-            Ok(turn) => {
-                prove!(self.wire.len() <= MOST_ENTRIES);
-                Ok(turn)
-            }
-            Err(stop) => {
-                self.stopped = Some(stop);
-                Err(stop)
-            }
+        let played = self.play(index, event);
+        if let Err(stop) = &played {
+            self.stopped = Some(*stop);
+            return played;
         }
+        prove!(self.wire.len() <= MOST_ENTRIES);
+        played
     }
 }
 

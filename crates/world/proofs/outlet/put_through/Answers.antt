@@ -9,7 +9,7 @@ use Rattle.world.proofs.outlet.put_through.Goals as goal
 pub loop-i-init : goal.loop-i-init
 loop-i-init c =
     let w : Sending = record { settings = c.args.nat.now.settings; moment = c.args.now.0; inside = c.args.inside } in
-    none_passed w (record { wire = c.args.wire.now; nat = c.args.nat.now }) c.args.step.now.sends c.new-marks.result c.new-marks.ensures refl c.requires.clock
+    none_passed w (record { wire = c.args.wire.now; nat = c.args.nat.now }) c.args.step.now.sends c.args.marks.now c.requires.none refl c.requires.clock
 
 pub loop-i-preserved : goal.loop-i-preserved
 loop-i-preserved c =
