@@ -46,12 +46,13 @@ pub fn sums_of(alloc: Global, s: &Scenario) -> Result<Sums, Stop>
     for (index, event) in s.events.as_slice().iter().enumerate() {
         // It ends, since less is left after each record that has further ones.
         loop {
-            let turn = match world.step(index as u32, event) {
+            let played = world.step(index as u32, event);
+            let turn = match &played {
                 Ok(turn) => turn,
-                Err(stop) => return Err(stop),
+                Err(stop) => return Err(*stop),
             };
-            sums.add(record_in(&turn));
-            if !is_more(&turn) {
+            sums.add(record_in(turn));
+            if !is_more(turn) {
                 break;
             }
         }

@@ -98,17 +98,18 @@ pub fn write_report<K: Sink>(alloc: Global, s: &Scenario, out: &mut K) -> Result
     for (index, event) in s.events.as_slice().iter().enumerate() {
         // It ends, since less is left after each record that has further ones.
         loop {
-            let turn = match world.step(index as u32, event) {
+            let played = world.step(index as u32, event);
+            let turn = match &played {
                 Ok(turn) => turn,
                 Err(Stop::WireFull) => return Err(ReportFault::WireFull),
                 Err(Stop::NoMemory) => return Err(ReportFault::NoMemory),
             };
-            let r = record_in(&turn);
+            let r = record_in(turn);
             let Ok(()) = write_record(sums.records, r, &s.topology, &mut buf, out) else {
                 return Err(ReportFault::Failed);
             };
             sums.add(r);
-            if !is_more(&turn) {
+            if !is_more(turn) {
                 break;
             }
         }

@@ -6,7 +6,6 @@ use Rattle.history.specs.declared.event.Event.{Event}
 use Rattle.history.specs.declared.event.Event.TheVariants as event
 use Rattle.history.specs.declared.event.TheConstants.{MOST_ADVANCE}
 use Rattle.history.specs.declared.records.Record.{Record}
-use Rattle.history.specs.declared.turn.Turn.{Turn}
 use Rattle.history.specs.declared.turn.Turn.TheVariants.{Last}
 use Rattle.history.specs.declared.turn.Stop.{Stop}
 use Rattle.history.specs.Full.{Full}
@@ -15,7 +14,7 @@ use Rattle.legal.specs.Next.{next_of}
 use Rattle.legal.specs.Laws.{EachIsOfItsEvent}
 use Rattle.world.specs.declared.going.Going.{Going}
 use Rattle.world.specs.World.{WorldState, IsAgain, event_in, began_in}
-use Rattle.world.specs.Playing.{Plays, last_of, PlaysTurn, Turned}
+use Rattle.world.specs.Playing.{Plays, played, PlaysTurn, Turned, ended, turn_of}
 
 abbrev pub is_advance : Event → Bool
 is_advance (event.Advance ms) = true
@@ -33,16 +32,17 @@ no_more (event.Copy number src dst) is r = refl
 no_more (event.Restart node) is r = refl
 no_more (event.Forget n who) is r = refl
 
-turns : (d : Draws) (old new : WorldState) (H : List Full) (r : Full) (played : Result Record Stop) → has_more r.asked r.act ≡ false → Plays d old new H r played → PlaysTurn d old new H r (last_of played)
-turns d old new H r (Ok word) last plays = (plays.0, last, plays.1)
-turns d old new H r (Err why) last plays = plays
+turns : (d : Draws) (old new : WorldState) (H : List Full) (r : Full) (done : Result (Unit {0}) Stop) (said : Record) → has_more r.asked r.act ≡ false
+    → Plays d old new H r (played done said) → PlaysTurn d old new H r (turn_of (ended done) said)
+turns d old new H r (Ok done) said last plays = (plays.0, last, plays.1)
+turns d old new H r (Err why) said last plays = plays
 
 -- what an event but an advance does is its last record
-pub plays_last : EachIsOfItsEvent → (d : Draws) (old new : WorldState) (H : List Full) (i : ℕ) (e : Event) (played : Result Record Stop) → is_advance e ≡ false
-    → Plays d old new H (next_of d old.topology H i e) played → PlaysTurn d old new H (next_of d old.topology H i e) (last_of played)
-plays_last law d old new H i e played single plays =
+pub plays_last : EachIsOfItsEvent → (d : Draws) (old new : WorldState) (H : List Full) (i : ℕ) (e : Event) (done : Result (Unit {0}) Stop) (said : Record) → is_advance e ≡ false
+    → Plays d old new H (next_of d old.topology H i e) (played done said) → PlaysTurn d old new H (next_of d old.topology H i e) (turn_of (ended done) said)
+plays_last law d old new H i e done said single plays =
     let r = next_of d old.topology H i e in
-    turns d old new H r played (ap (λ (x : Event). has_more x r.act) (law d old.topology H i e).asked ∙ no_more e single r) plays
+    turns d old new H r done said (ap (λ (x : Event). has_more x r.act) (law d old.topology H i e).asked ∙ no_more e single r) plays
 
 -- no event goes on
 abbrev pub IsAtRest : WorldState → Type 0
@@ -69,9 +69,9 @@ turned_last old new e word rest same = record {
   goes = ap (λ (w : WorldState). w.began) same ∙ rest.1 ∙ sym (ap (λ (w : WorldState). w.moment) same);
 }
 
-pub turned_once : (old new : WorldState) (e : Event) (played : Result Record Stop) → IsAtRest old → lasting new ≡ lasting old → IfOk (last_of played) (λ turn. Turned old new e turn)
-turned_once old new e (Ok word) rest same = turned_last old new e word rest same
-turned_once old new e (Err why) rest same = tt
+pub turned_once : (old new : WorldState) (e : Event) (done : Result (Unit {0}) Stop) (said : Record) → IsAtRest old → lasting new ≡ lasting old → IfOk (turn_of (ended done) said) (λ turn. Turned old new e turn)
+turned_once old new e (Ok done) said rest same = turned_last old new e said rest same
+turned_once old new e (Err why) said rest same = tt
 
 -- nor does time pass
 pub no_time : (old new : WorldState) → IsAtRest old → lasting new ≡ lasting old → new.moment ≤ old.began + MOST_ADVANCE

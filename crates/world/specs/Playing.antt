@@ -1,5 +1,5 @@
 -- What one event does to a world, for the contracts of private functions.
-use Rattle.std.specs.Prelude.{◌≡◌, ◌≤◌, ◌<◌, ◌+◌, ◌||◌, false, ℕ, max, List, ◌++◌, ◌∷◌, get_or, Option, Some, None, Result, Ok, Err}
+use Rattle.std.specs.Prelude.{◌≡◌, ◌≤◌, ◌<◌, ◌+◌, ◌||◌, Bool, true, false, ℕ, max, List, ◌++◌, ◌∷◌, get_or, Option, Some, None, Result, Ok, Err}
 use Rattle.history.specs.declared.event.Event.{Event}
 use Rattle.history.specs.declared.records.Record.{Record}
 use Rattle.history.specs.declared.turn.Turn.{Turn}
@@ -75,12 +75,23 @@ abbrev pub Plays : Draws → WorldState → WorldState → List Full → Full �
 Plays d old new H r (Ok said) = (said ≡ record_of r) × Comes d old new H r
 Plays d old new H r (Err stop) = IsCause old r stop
 
+-- what a call says by the record that it leaves
+abbrev pub played : Result (Unit {0}) Stop → Record → Result Record Stop
+played (Ok done) r = Ok r
+played (Err stop) r = Err stop
+
 -- THE TURN OF AN EVENT
 
--- the turn of a record that has no further ones
-abbrev pub last_of : Result Record Stop → Result Turn Stop
-last_of (Ok said) = Ok (Last said)
-last_of (Err stop) = Err stop
+-- the event has no further records
+abbrev pub ended : Result (Unit {0}) Stop → Result Bool Stop
+ended (Ok done) = Ok false
+ended (Err stop) = Err stop
+
+-- the turn of a record, by whether its event has further ones
+abbrev pub turn_of : Result Bool Stop → Record → Result Turn Stop
+turn_of (Ok true) r = Ok (More r)
+turn_of (Ok false) r = Ok (Last r)
+turn_of (Err stop) r = Err stop
 
 -- the same with a turn, which says whether the event has further records
 abbrev pub PlaysTurn : Draws → WorldState → WorldState → List Full → Full → Result Turn Stop → Type 0

@@ -13,12 +13,12 @@ ghost use Rattle.world.specs.declared.world.TheConstants.{MOST_MOMENT};
 ghost use Rattle.lab_nodes.specs.Due.{due_is};
 ghost use Rattle.world.specs.Record.{said};
 ghost use Rattle.world.specs.World.{StandsFor, IsAgain};
-ghost use Rattle.world.specs.Playing.{ticks_at, IsPast, Plays, PlaysTurn, Turned};
+ghost use Rattle.world.specs.Playing.{ticks_at, IsPast, Plays, PlaysTurn, Turned, played, turn_of};
 
 use crate::going::Going;
-use crate::record::blank;
+use crate::record::say;
 use crate::world::World;
-use history::{Act, Record, Stop, Turn, Verb};
+use history::{Act, Record, Stop, Verb};
 use lab_nodes::{Call, Coming, Due, first_due};
 use td_base::Millis;
 use teredo_node::Fate;
@@ -54,10 +54,11 @@ impl<'a> World<'a> {
     }
 
     /// Lets time pass up to the end of an advance.
-    fn pass(&mut self, index: u32, end: Millis) -> Record
+    fn pass(&mut self, index: u32, end: Millis, out: &mut Record)
+        requires empty { out.old.marks ≡ [] }
         requires later { self.old.moment ≤ end.0 }
         requires early { end.0 < MOST_MOMENT }
-        ensures record_is { result ≡ said end.0 index (plain verb.Advance) None fates.Done [] }
+        ensures record_is { out.new ≡ said end.0 index (plain verb.Advance) None fates.Done [] }
         ensures rest { self.new ≡ record self.old { moment = end.0; began = end.0; going = None } }
     {
         self.moment = end;
@@ -65,15 +66,16 @@ impl<'a> World<'a> {
         let act = Act::Plain {
             verb: Verb::Advance,
         };
-        blank(end, index, act, None, Fate::Done)
+        say(out, end, index, act, None, Fate::Done);
     }
 
     /// Lets the tick of a node be played that is due.
-    fn tick(&mut self, index: u32, going: Going, due: Due) -> Result<Record, Stop>
+    fn tick(&mut self, index: u32, going: Going, due: Due, out: &mut Record) -> Result<(), Stop>
+        requires empty { out.old.marks ≡ [] }
         requires early { due.moment.0 ≤ going.began.0 + going.ms }
         requires going { (self.old.moment ≤ going.began.0 + going.ms) × (going.began.0 + going.ms < MOST_MOMENT) }
         ensures plays { (d : Draws) (H : List Full) → StandsFor d self.old H → (e : Event) → forgotten self.old.topology e ≡ []
-            → node_at self.old.topology due.number ≡ Some due.node → Plays d self.old self.new H (ticks_at d self.old H (numbered index e) (due_is due)) result }
+            → node_at self.old.topology due.number ≡ Some due.node → Plays d self.old self.new H (ticks_at d self.old H (numbered index e) (due_is due)) (played result out.new) }
         ensures rest { self.new ≡ record self.old { moment = self.new.moment; began = going.began.0; going = Some (event.Advance going.ms); nodes = self.new.nodes; wire = self.new.wire; done = self.new.done } }
         ensures moment { self.new.moment ≤ going.began.0 + going.ms }
         ensures err { OnErr result ((self.new.wire ≡ self.old.wire) × (self.new.done ≡ self.old.done)) }
@@ -87,17 +89,19 @@ impl<'a> World<'a> {
             now,
             coming: Coming::Ticked,
         };
-        self.act(index, Act::Tick, call)
+        self.act(index, Act::Tick, call, out)
     }
 
-    /// Lets time pass up to the next tick that is due, else to the end of the advance.
-    pub(crate) fn advance(&mut self, index: u32, ms: u64) -> Result<Turn, Stop>
+    /// Lets time pass up to the next tick that is due, else to the end of the advance, and answers whether the advance
+    /// goes on.
+    pub(crate) fn advance(&mut self, index: u32, ms: u64, out: &mut Record) -> Result<bool, Stop>
+        requires empty { out.old.marks ≡ [] }
         requires event { ms ≤ MOST_ADVANCE }
         requires again { IsAgain self.old.going (event.Advance ms) }
         requires time { self.old.began + ms < MOST_MOMENT }
         ensures plays { (d : Draws) (H : List Full) → StandsFor d self.old H
-            → PlaysTurn d self.old self.new H (next_of d self.old.topology H index (event.Advance ms)) result }
-        ensures turned { IfOk result (λ turn. Turned self.old self.new (event.Advance ms) turn) }
+            → PlaysTurn d self.old self.new H (next_of d self.old.topology H index (event.Advance ms)) (turn_of result out.new) }
+        ensures turned { IfOk (turn_of result out.new) (λ turn. Turned self.old self.new (event.Advance ms) turn) }
         ensures time { self.new.moment ≤ self.old.began + ms }
         ensures err { OnErr result ((self.new.topology ≡ self.old.topology) × (self.new.wire ≡ self.old.wire) × (self.new.done ≡ self.old.done)) }
     {
@@ -106,10 +110,11 @@ impl<'a> World<'a> {
         let going = self.going_on(ms);
         let end = Millis(going.began.0 + ms);
         let Some(due) = self.due_by(end) else {
-            return Ok(Turn::Last(self.pass(index, end)));
+            self.pass(index, end, out);
+            return Ok(false);
         };
-        match self.tick(index, going, due) {
-            Ok(record) => Ok(Turn::More(record)),
+        match self.tick(index, going, due, out) {
+            Ok(()) => Ok(true),
             Err(stop) => Err(stop),
         }
     }

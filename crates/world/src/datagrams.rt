@@ -1,6 +1,8 @@
 //! Datagrams come onto the wire from nowhere.
-ghost use Rattle.std.specs.Prelude.{◌≡◌, ◌<◌, ◌≤◌, List, length, OnErr};
+ghost use Rattle.std.specs.Prelude.{◌≡◌, ◌<◌, ◌≤◌, ℕ, List, [], length, None, OnErr};
+ghost use Rattle.teredo_node.specs.declared.fate.Fate.TheVariants as fates;
 ghost use Rattle.history.specs.declared.event.Event.{Event};
+ghost use Rattle.history.specs.declared.acts.Act.{Act};
 ghost use Rattle.history.specs.declared.event.Event.TheVariants as event;
 ghost use Rattle.history.specs.declared.event.TheConstants.{MOST_BYTES};
 ghost use Rattle.history.specs.Full.{Full};
@@ -8,9 +10,10 @@ ghost use Rattle.legal.specs.Past.{Draws};
 ghost use Rattle.legal.specs.Next.{numbered, puts, next_of};
 ghost use Rattle.world.specs.declared.wire.TheConstants.{MOST_ENTRIES};
 ghost use Rattle.world.specs.World.{StandsFor};
-ghost use Rattle.world.specs.Playing.{Plays};
+ghost use Rattle.world.specs.Record.{said};
+ghost use Rattle.world.specs.Playing.{Plays, played};
 
-use crate::record::blank;
+use crate::record::say;
 use crate::wire::MOST_ENTRIES;
 use crate::world::World;
 use history::{Act, Mark, Record, Stop};
@@ -20,11 +23,12 @@ use teredo_node::Fate;
 
 impl<'a> World<'a> {
     /// Puts a datagram on the wire.
-    fn put(&mut self, index: u32, act: Act, src: Ep, dst: Ep, bytes: Octets) -> Result<Record, Stop>
+    fn put(&mut self, src: Ep, dst: Ep, bytes: Octets, out: &mut Record) -> Result<(), Stop>
+        requires empty { out.old.marks ≡ [] }
         requires room { length self.old.wire < MOST_ENTRIES }
         requires short { length bytes ≤ MOST_BYTES }
-        ensures plays { (d : Draws) (H : List Full) → StandsFor d self.old H → (e : Event)
-            → Plays d self.old self.new H (puts H (numbered index e) act src dst bytes) result }
+        ensures plays { (d : Draws) (H : List Full) → StandsFor d self.old H → (e : Event) (index : ℕ) (act : Act)
+            → out.old ≡ said self.old.moment index act None fates.Put [] → Plays d self.old self.new H (puts H (numbered index e) act src dst bytes) (played result out.new) }
         ensures rest { self.new ≡ record self.old { wire = self.new.wire; done = self.new.done } }
         ensures err { OnErr result ((self.new.wire ≡ self.old.wire) × (self.new.done ≡ self.old.done)) }
     {
@@ -34,28 +38,27 @@ impl<'a> World<'a> {
         let Ok(()) = self.wire.push_datagram(src, dst, bytes) else {
             return Err(Stop::NoMemory);
         };
-        let mut record = blank(self.moment, index, act, None, Fate::Put);
-        record.marks.push(Mark::Udp {
+        out.marks.push(Mark::Udp {
             number,
             src,
             dst,
             len,
         });
-        Ok(record)
+        Ok(())
     }
 
     /// Puts a datagram with these bytes on the wire.
     pub(crate) fn put_bytes(
         &mut self,
-        index: u32,
-        act: Act,
         src: Ep,
         dst: Ep,
         bytes: &[u8],
-    ) -> Result<Record, Stop>
+        out: &mut Record,
+    ) -> Result<(), Stop>
+        requires empty { out.old.marks ≡ [] }
         requires short { length bytes.now ≤ MOST_BYTES }
-        ensures plays { (d : Draws) (H : List Full) → StandsFor d self.old H → (e : Event)
-            → Plays d self.old self.new H (puts H (numbered index e) act src dst bytes.now) result }
+        ensures plays { (d : Draws) (H : List Full) → StandsFor d self.old H → (e : Event) (index : ℕ) (act : Act)
+            → out.old ≡ said self.old.moment index act None fates.Put [] → Plays d self.old self.new H (puts H (numbered index e) act src dst bytes.now) (played result out.new) }
         ensures rest { self.new ≡ record self.old { wire = self.new.wire; done = self.new.done } }
         ensures err { OnErr result ((self.new.wire ≡ self.old.wire) × (self.new.done ≡ self.old.done)) }
     {
@@ -65,20 +68,29 @@ impl<'a> World<'a> {
         let Ok(bytes) = Octets::new(*self.nodes.allocator(), bytes) else {
             return Err(Stop::NoMemory);
         };
-        self.put(index, act, src, dst, bytes)
+        self.put(src, dst, bytes, out)
     }
 
     /// Puts the bytes of entry `number` on the wire again, between other endpoints.
-    pub(crate) fn copy(&mut self, index: u32, number: u32, src: Ep, dst: Ep) -> Result<Record, Stop>
+    pub(crate) fn copy(
+        &mut self,
+        index: u32,
+        number: u32,
+        src: Ep,
+        dst: Ep,
+        out: &mut Record,
+    ) -> Result<(), Stop>
+        requires empty { out.old.marks ≡ [] }
         ensures plays { (d : Draws) (H : List Full) → StandsFor d self.old H
-            → Plays d self.old self.new H (next_of d self.old.topology H index (event.Copy number src dst)) result }
+            → Plays d self.old self.new H (next_of d self.old.topology H index (event.Copy number src dst)) (played result out.new) }
         ensures rest { self.new ≡ record self.old { wire = self.new.wire; done = self.new.done } }
         ensures err { OnErr result ((self.new.wire ≡ self.old.wire) × (self.new.done ≡ self.old.done)) }
     {
         legal::frame();
         let act = Act::Copy { number };
         let Some(entry) = self.wire.get(number as usize) else {
-            return Ok(blank(self.moment, index, act, None, Fate::NoEntry));
+            say(out, self.moment, index, act, None, Fate::NoEntry);
+            return Ok(());
         };
         if self.wire.len() >= MOST_ENTRIES {
             return Err(Stop::WireFull);
@@ -86,6 +98,7 @@ impl<'a> World<'a> {
         let Ok(bytes) = Octets::new(*self.nodes.allocator(), entry.bytes()) else {
             return Err(Stop::NoMemory);
         };
-        self.put(index, act, src, dst, bytes)
+        say(out, self.moment, index, act, None, Fate::Put);
+        self.put(src, dst, bytes, out)
     }
 }

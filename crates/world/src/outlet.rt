@@ -75,12 +75,7 @@ impl Outlet {
     }
 
     /// Puts the datagrams of a step on the wire, and a mark for each into `marks`.
-    fn put_sends(
-        self,
-        wire: &mut Wire,
-        step: &Step,
-        marks: &mut Marks,
-    ) -> Result<(), NoMemory>
+    fn put_sends(self, wire: &mut Wire, step: &Step, marks: &mut Marks) -> Result<(), NoMemory>
         requires none { marks.old ≡ [] }
         requires room { length wire.old.items + length step.now.sends ≤ MOST_ENTRIES }
         ensures ok { OnOk result (Grows wire.old wire.new (made_by self step.now.sends)) }
@@ -250,12 +245,7 @@ fn translate(nat: &mut Nat, now: Millis, inside: Ep, to: Ep) -> Result<Result<Ep
 }
 
 /// Puts a datagram that has a source on the wire, and answers its mark, or that of one that is lost.
-fn put_datagram(
-    wire: &mut Wire,
-    src: Result<Ep, Loss>,
-    to: Ep,
-    bytes: &[u8],
-) -> Result<Mark, Stop>
+fn put_datagram(wire: &mut Wire, src: Result<Ep, Loss>, to: Ep, bytes: &[u8]) -> Result<Mark, Stop>
     requires short { length bytes.now ≤ MOST_BYTES }
     ensures ok { OnOk result (Grows wire.old wire.new (made_from src to bytes.now ∷ [])) }
     ensures marked { IfOk result (λ mark. mark ≡ mark_of (length wire.old.items) (made_from src to bytes.now)) }

@@ -8,9 +8,9 @@ ghost use Rattle.history.specs.Full.{Full};
 ghost use Rattle.legal.specs.Past.{Draws, at_nat};
 ghost use Rattle.legal.specs.Next.{numbered, plain, hands_in, next_of};
 ghost use Rattle.world.specs.World.{StandsFor};
-ghost use Rattle.world.specs.Playing.{Plays};
+ghost use Rattle.world.specs.Playing.{Plays, played};
 
-use crate::record::blank;
+use crate::record::say;
 use crate::world::World;
 use history::{Act, Record, Stop, Target, Verb};
 use lab_nodes::{Call, Coming, DATA_MAX, address_at, echo, target_address, write_data};
@@ -24,17 +24,20 @@ impl<'a> World<'a> {
         verb: Verb,
         number: u16,
         bytes: &[u8],
-    ) -> Result<Record, Stop>
+        out: &mut Record,
+    ) -> Result<(), Stop>
+        requires empty { out.old.marks ≡ [] }
         requires short { length bytes.now ≤ MOST_BYTES }
         ensures plays { (d : Draws) (H : List Full) → StandsFor d self.old H → (e : Event) → at_nat self.old.topology e (plain verb) ≡ []
-            → Plays d self.old self.new H (hands_in d self.old.topology H (numbered index e) verb number bytes.now (node_at self.old.topology number)) result }
+            → Plays d self.old self.new H (hands_in d self.old.topology H (numbered index e) verb number bytes.now (node_at self.old.topology number)) (played result out.new) }
         ensures rest { self.new ≡ record self.old { nodes = self.new.nodes; wire = self.new.wire; done = self.new.done } }
         ensures err { OnErr result ((self.new.wire ≡ self.old.wire) × (self.new.done ≡ self.old.done)) }
     {
         legal::frame();
         let act = Act::Plain { verb };
         let Some(node) = self.topology.node(usize::from(number)) else {
-            return Ok(blank(self.moment, index, act, Some(number), Fate::Idle));
+            say(out, self.moment, index, act, Some(number), Fate::Idle);
+            return Ok(());
         };
         let call = Call {
             number,
@@ -42,7 +45,7 @@ impl<'a> World<'a> {
             now: self.moment,
             coming: Coming::Given { bytes },
         };
-        self.act(index, act, call)
+        self.act(index, act, call, out)
     }
 
     /// Lets the host of a node send data.
@@ -52,10 +55,12 @@ impl<'a> World<'a> {
         number: u16,
         to: Target,
         body: &[u8],
-    ) -> Result<Record, Stop>
+        out: &mut Record,
+    ) -> Result<(), Stop>
+        requires empty { out.old.marks ≡ [] }
         requires short { length body.now ≤ MOST_BODY }
         ensures plays { (d : Draws) (H : List Full) → StandsFor d self.old H
-            → Plays d self.old self.new H (next_of d self.old.topology H index (event.Host number to body.now)) result }
+            → Plays d self.old self.new H (next_of d self.old.topology H index (event.Host number to body.now)) (played result out.new) }
         ensures rest { self.new ≡ record self.old { nodes = self.new.nodes; wire = self.new.wire; done = self.new.done } }
         ensures err { OnErr result ((self.new.wire ≡ self.old.wire) × (self.new.done ≡ self.old.done)) }
     {
@@ -64,7 +69,7 @@ impl<'a> World<'a> {
         let dst = target_address(self.topology, nodes, to);
         let mut bytes = [0; DATA_MAX];
         let len = write_data(src, dst, body, &mut bytes);
-        self.hand(index, Verb::Host, number, &bytes[..len])
+        self.hand(index, Verb::Host, number, &bytes[..len], out)
     }
 
     /// Lets the host of a node send an echo request.
@@ -74,15 +79,18 @@ impl<'a> World<'a> {
         number: u16,
         to: Target,
         seq: u16,
-    ) -> Result<Record, Stop>
+        out: &mut Record,
+    ) -> Result<(), Stop>
+        requires empty { out.old.marks ≡ [] }
         ensures plays { (d : Draws) (H : List Full) → StandsFor d self.old H
-            → Plays d self.old self.new H (next_of d self.old.topology H index (event.Echo number to seq)) result }
+            → Plays d self.old self.new H (next_of d self.old.topology H index (event.Echo number to seq)) (played result out.new) }
         ensures rest { self.new ≡ record self.old { nodes = self.new.nodes; wire = self.new.wire; done = self.new.done } }
         ensures err { OnErr result ((self.new.wire ≡ self.old.wire) × (self.new.done ≡ self.old.done)) }
     {
         let nodes = self.nodes.as_slice();
         let src = address_at(self.topology, nodes, number);
         let dst = target_address(self.topology, nodes, to);
-        self.hand(index, Verb::Echo, number, &echo(src, dst, seq))
+        let bytes = echo(src, dst, seq);
+        self.hand(index, Verb::Echo, number, &bytes, out)
     }
 }

@@ -1,5 +1,5 @@
 //! Nodes start anew, and NATs forget.
-ghost use Rattle.std.specs.Prelude.{◌≡◌, List, Ok};
+ghost use Rattle.std.specs.Prelude.{◌≡◌, List, [], Ok};
 ghost use Rattle.history.specs.declared.event.Event.TheVariants as event;
 ghost use Rattle.history.specs.Events.{IsForgotten};
 ghost use Rattle.history.specs.Full.{Full};
@@ -8,7 +8,7 @@ ghost use Rattle.legal.specs.Next.{next_of};
 ghost use Rattle.world.specs.World.{StandsFor};
 ghost use Rattle.world.specs.Playing.{Plays};
 
-use crate::record::blank;
+use crate::record::say;
 use crate::world::World;
 use history::{Act, Record, Verb};
 use lab_nodes::{forget_at, restart_at};
@@ -17,9 +17,10 @@ use topology::Node;
 
 impl<'a> World<'a> {
     /// Lets a node start anew.
-    pub(crate) fn restart(&mut self, index: u32, number: u16) -> Record
+    pub(crate) fn restart(&mut self, index: u32, number: u16, out: &mut Record)
+        requires empty { out.old.marks ≡ [] }
         ensures plays { (d : Draws) (H : List Full) → StandsFor d self.old H
-            → Plays d self.old self.new H (next_of d self.old.topology H index (event.Restart number)) (Ok result) }
+            → Plays d self.old self.new H (next_of d self.old.topology H index (event.Restart number)) (Ok out.new) }
         ensures rest { self.new ≡ record self.old { nodes = self.new.nodes } }
     {
         legal::frame();
@@ -27,14 +28,15 @@ impl<'a> World<'a> {
         let act = Act::Plain {
             verb: Verb::Restart,
         };
-        blank(self.moment, index, act, Some(number), Fate::Done)
+        say(out, self.moment, index, act, Some(number), Fate::Done);
     }
 
     /// Lets a NAT forget a client behind it.
-    pub(crate) fn forget(&mut self, index: u32, number: u16, who: u16) -> Record
+    pub(crate) fn forget(&mut self, index: u32, number: u16, who: u16, out: &mut Record)
+        requires empty { out.old.marks ≡ [] }
         requires event { IsForgotten self.old.topology number who }
         ensures plays { (d : Draws) (H : List Full) → StandsFor d self.old H
-            → Plays d self.old self.new H (next_of d self.old.topology H index (event.Forget number who)) (Ok result) }
+            → Plays d self.old self.new H (next_of d self.old.topology H index (event.Forget number who)) (Ok out.new) }
         ensures rest { self.new ≡ record self.old { nodes = self.new.nodes } }
     {
         legal::frame();
@@ -46,6 +48,6 @@ impl<'a> World<'a> {
         };
         forget_at(&mut self.nodes, usize::from(number), row.inside);
         let act = Act::Plain { verb: Verb::Forget };
-        blank(self.moment, index, act, Some(number), Fate::Done)
+        say(out, self.moment, index, act, Some(number), Fate::Done);
     }
 }

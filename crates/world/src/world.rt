@@ -1,4 +1,4 @@
-ghost use Rattle.std.specs.Prelude.{◌≡◌, ◌≤◌, ◌+◌, List, [], length, None, Err, slice_get, option_map, IfSome, IfOk, IfErr, OnErr};
+ghost use Rattle.std.specs.Prelude.{◌≡◌, ◌≤◌, ◌+◌, List, [], length, None, Ok, Err, slice_get, option_map, IfSome, IfOk, IfErr, OnErr};
 ghost use Rattle.history.specs.declared.event.Event.TheVariants as event;
 ghost use Rattle.history.specs.declared.event.TheConstants.{MOST_ADVANCE};
 ghost use Rattle.history.specs.Events.{IsEvent};
@@ -9,16 +9,17 @@ ghost use Rattle.legal.specs.Legal.{draws};
 ghost use Rattle.world.specs.declared.wire.TheConstants.{MOST_ENTRIES};
 ghost use Rattle.world.specs.WireEntry.{item_lent};
 ghost use Rattle.world.specs.World.{StandsFor, IsAgain, EndsInTime, Steps, StopsFor, Stays, Falls};
-ghost use Rattle.world.specs.Playing.{last_of, PlaysTurn, Turned};
+ghost use Rattle.world.specs.Playing.{PlaysTurn, Turned, ended, turn_of};
 
 use crate::going::Going;
+use crate::record::{blank, say};
 use crate::wire::{MOST_ENTRIES, Wire, WireEntry};
 use history::{Act, Event, Record, Stop, Turn, Verb};
 use lab_nodes::{NodeState, first_states};
 use std::alloc::Global;
 use std::marker::Model;
 use td_base::{Millis, NoMemory};
-use teredo_node::Step;
+use teredo_node::{Fate, Step};
 use topology::Topology;
 
 /// The moment at which no scenario has arrived yet, in milliseconds.
@@ -83,41 +84,47 @@ impl<'a> World<'a> {
         self.wire.get(number as usize)
     }
 
-    fn play(&mut self, index: u32, event: &Event) -> Result<Turn, Stop>
+    /// Plays the next record of an event into `out`, and answers whether the event has further ones.
+    fn play(&mut self, index: u32, event: &Event, out: &mut Record) -> Result<bool, Stop>
+        requires empty { out.old.marks ≡ [] }
         requires event { IsEvent self.old.topology event.now }
         requires again { IsAgain self.old.going event.now }
         requires time { EndsInTime self.old.began event.now }
         ensures plays { (d : Draws) (H : List Full) → StandsFor d self.old H
-            → PlaysTurn d self.old self.new H (next_of d self.old.topology H index event.now) result }
-        ensures turned { IfOk result (λ turn. Turned self.old self.new event.now turn) }
+            → PlaysTurn d self.old self.new H (next_of d self.old.topology H index event.now) (turn_of result out.new) }
+        ensures turned { IfOk (turn_of result out.new) (λ turn. Turned self.old self.new event.now turn) }
         ensures time { self.new.moment ≤ self.old.began + MOST_ADVANCE }
         ensures err { OnErr result ((self.new.topology ≡ self.old.topology) × (self.new.wire ≡ self.old.wire) × (self.new.done ≡ self.old.done)) }
     {
         legal::of_its_event();
         let _ = &self.nodes;
         match event {
-            Event::Advance { ms } => self.advance(index, *ms),
-            Event::Deliver { number } => last(self.deliver(index, *number)),
-            Event::Next => last(self.deliver_next(index)),
+            Event::Advance { ms } => self.advance(index, *ms, out),
+            Event::Deliver { number } => last(self.deliver(index, *number, out)),
+            Event::Next => last(self.deliver_next(index, out)),
             Event::Host { node, to, body } => {
-                last(self.send_data(index, *node, *to, body.as_slice()))
+                last(self.send_data(index, *node, *to, body.as_slice(), out))
             }
-            Event::Echo { node, to, seq } => last(self.send_echo(index, *node, *to, *seq)),
-            Event::Raw { node, bytes } => last(self.hand(
-                index,
-                Verb::Raw,
-                *node,
-                bytes.as_slice(),
-            )),
+            Event::Echo { node, to, seq } => { last(self.send_echo(index, *node, *to, *seq, out)) }
+            Event::Raw { node, bytes } => {
+                last(self.hand(index, Verb::Raw, *node, bytes.as_slice(), out))
+            }
             Event::Stranger { src, dst, bytes } => {
                 let act = Act::Plain {
                     verb: Verb::Stranger,
                 };
-                last(self.put_bytes(index, act, *src, *dst, bytes.as_slice()))
+                say(out, self.moment, index, act, None, Fate::Put);
+                last(self.put_bytes(*src, *dst, bytes.as_slice(), out))
             }
-            Event::Copy { number, src, dst } => last(self.copy(index, *number, *src, *dst)),
-            Event::Restart { node } => Ok(Turn::Last(self.restart(index, *node))),
-            Event::Forget { nat, client } => Ok(Turn::Last(self.forget(index, *nat, *client))),
+            Event::Copy { number, src, dst } => { last(self.copy(index, *number, *src, *dst, out)) }
+            Event::Restart { node } => {
+                self.restart(index, *node, out);
+                Ok(false)
+            }
+            Event::Forget { nat, client } => {
+                self.forget(index, *nat, *client, out);
+                Ok(false)
+            }
         }
     }
 
@@ -141,22 +148,37 @@ impl<'a> World<'a> {
         if let Some(stop) = self.stopped {
             return Err(stop);
         }
-        let played = self.play(index, event);
-        if let Err(stop) = &played {
-            self.stopped = Some(*stop);
-            return played;
+        let mut record = blank(index);
+        match self.play(index, event, &mut record) {
+            Ok(more) => {
+                prove!(self.wire.len() <= MOST_ENTRIES);
+                Ok(turn_with(more, record))
+            }
+            Err(stop) => {
+                self.stopped = Some(stop);
+                Err(stop)
+            }
         }
-        prove!(self.wire.len() <= MOST_ENTRIES);
-        played
     }
 }
 
-/// The turn of a record that has no further ones.
-fn last(played: Result<Record, Stop>) -> Result<Turn, Stop>
-    ensures { result ≡ last_of played }
+/// Where a record was played its event has no further ones.
+fn last(done: Result<(), Stop>) -> Result<bool, Stop>
+    ensures { result ≡ ended done }
 {
-    match played {
-        Ok(record) => Ok(Turn::Last(record)),
+    match done {
+        Ok(()) => Ok(false),
         Err(stop) => Err(stop),
+    }
+}
+
+/// The turn of a record.
+fn turn_with(more: bool, said: Record) -> Turn
+    ensures { turn_of (Ok more) said ≡ Ok result }
+{
+    if more {
+        Turn::More(said)
+    } else {
+        Turn::Last(said)
     }
 }

@@ -48,7 +48,7 @@ returns-clause-plays c =
     let is : IsActed a = record { at = c.requires.now ∙ at; rules = c.self.invariant.rules; rows = c.rows_keep_rules.ensures; asks = c.in-Ok.ensures.asks; elsewhere = c.ask.ensures.elsewhere } in
     let new = state_of w.topology.now w.moment.0 w.going c.emit.new.nodes.items c.emit.new.wire w.stopped in
     let said : Record → Record = λ r. record r { marks = c.emit.new.marks; handed = c.in-Ok.asked.handed; address = c.in-Ok.asked.address } in
-    subst (OfEach c.args.index c.args.act c.args.call (λ d x H r. Plays d x new H r (Ok (said c.acted-record.result)))) c.self.view_is (λ d H s e quiet there.
-    subst (λ (r : Record). Plays d a.world new H (record_by (doing a d H (numbered c.args.index e))) (Ok (said r))) (sym c.acted-record.ensures)
+    subst (OfEach c.args.index c.args.act c.args.call (λ d x H r. Plays d x new H r (Ok (said c.say_step.new.out)))) c.self.view_is (λ d H s e quiet there.
+    subst (λ (r : Record). Plays d a.world new H (record_by (doing a d H (numbered c.args.index e))) (Ok (said r))) (sym c.say_step.ensures)
     (acted_plays c.frame.ensures a c.emit.new.nodes.items c.emit.new.wire c.emit.new.marks d H (numbered c.args.index e) is (record { finds = s; quiet = quiet; there = there })
     (record { emits = c.in_ok-emit.ensures.ok; elsewhere = c.emit.ensures.elsewhere }) refl))

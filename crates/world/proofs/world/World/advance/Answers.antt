@@ -49,7 +49,7 @@ returns-in-Ok-clause-plays c = λ d H s.
     let end : c.going_on-going.result.began.0 + c.args.ms ≡ w.began + c.args.ms = ap (λ (m : ℕ). m + c.args.ms) c.going_on-going.ensures.began in
     let due = c.in-Some.ensures.due d H s in
     let before = due.1 in
-    ticks d w c.tick.new.self H c.args.index c.args.ms (due_is c.in-Some.due) c.in-Ok.record s due.0 (omega (arith, end, before))
+    ticks d w c.tick.new.self H c.args.index c.args.ms (due_is c.in-Some.due) c.tick.new.out s due.0 (omega (arith, end, before))
     (c.in-Ok.ensures.plays d H s (event.Advance c.args.ms) refl (due_is_there w.topology H (due_is c.in-Some.due) due.0))
 
 pub returns-in-Err-clause-plays : goal.returns-in-Err-clause-plays

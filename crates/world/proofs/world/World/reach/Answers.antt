@@ -47,7 +47,7 @@ returns-clause-plays c =
     let by : IsBy old c.args.number c.in-Some.entry call = record { there = sym c.get.ensures.lent ∙ ap (λ o. option_map item_lent o) c.in-Some.is; at = refl; dst = c.coming_by.ensures.dst; input = c.coming_by.ensures.input } in
     let a : Acted = record { world = old; act = act.Deliver c.args.number; delivered = Some c.args.number; call = call; mid = c.ask.new.nodes.items; step = c.ask.new.step; asked = c.in-Ok.asked } in
     let is : IsActed a = record { at = refl; rules = c.self.invariant.rules; rows = c.rows_keep_rules.ensures; asks = c.in-Ok.ensures.asks; elsewhere = c.ask.ensures.elsewhere } in
-    rw (← c.self.view_is, c.acted-record.ensures, c.set_delivered.ensures) (λ d H s e quiet y at.
+    rw (← c.self.view_is, c.say_step.ensures, c.set_delivered.ensures) (λ d H s e quiet y at.
     subst (λ (r : Full). Plays d old (record old { nodes = c.emit.new.nodes.items; wire = c.emit.new.wire.items; done = set c.emit.new.wire.done c.args.number true }) H r (Ok (said_by (doing a d H (numbered c.args.index e)) c.emit.new.marks c.args.index))) (same_reached old c.args.number c.in-Some.entry call by d H (numbered c.args.index e) y at)
     (reached_plays c.frame.ensures a c.emit.new.nodes.items c.emit.new.wire c.emit.new.marks d H (numbered c.args.index e) c.args.number is (record { finds = s; quiet = quiet; there = there })
     (record { emits = c.in_ok-emit.ensures.ok; elsewhere = c.emit.ensures.elsewhere }) refl c.in-Some.ensures.marked))

@@ -12,4 +12,4 @@ returns-clause-plays c =
     let w = c.self.inside in
     let old = state_of w.topology.now w.moment.0 w.going w.nodes.items w.wire w.stopped in
     let is : Changes w.nodes.items c.restart_at.new.states.items c.args.number (RestartsIn w.moment.0) = subst (λ (n : ℕ). Changes w.nodes.items c.restart_at.new.states.items n (RestartsIn w.moment.0)) c.from.ensures (record { elsewhere = c.restart_at.ensures.elsewhere; there = c.restart_at.ensures.there }) in
-    rw (← c.self.view_is, c.blank.ensures) (λ d H s. starts_anew d old c.restart_at.new.states.items H c.args.index c.args.number s is)
+    rw (← c.self.view_is, c.say.ensures) (λ d H s. starts_anew d old c.restart_at.new.states.items H c.args.index c.args.number s is)

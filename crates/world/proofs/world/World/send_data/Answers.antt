@@ -6,7 +6,7 @@ use Rattle.topology.specs.Topology.{node_at}
 use Rattle.legal.specs.Next.{numbered, data_packet, address_at, target_address, hands_in}
 use Rattle.lab_nodes.specs.NodeState.{NodesOf}
 use Rattle.world.specs.World.{WorldState, StandsFor}
-use Rattle.world.specs.Playing.{Plays}
+use Rattle.world.specs.Playing.{Plays, played}
 use Rattle.world.proofs.world.World.send_data.Goals as goal
 
 pub returns-clause-plays : goal.returns-clause-plays
@@ -20,5 +20,5 @@ returns-clause-plays c = λ d H s.
     let dst : c.target_address-dst.result ≡ target_address t H c.args.to = c.target_address-dst.ensures d H nodes ∙ ap (λ (x : WorldState). target_address x.topology H c.args.to) same in
     let bytes = c.write_data-len.ensures.written ∙ (λ i. packet_bytes (data_packet (src i) (dst i) c.args.body.now)) in
     let e = event.Host c.args.number c.args.to c.args.body.now in
-    subst (λ (x : List ℕ). Plays d c.args.self.now c.hand.new.self H (hands_in d t H (numbered c.args.index e) verb.Host c.args.number x (node_at t c.args.number)) c.hand.result) bytes
+    subst (λ (x : List ℕ). Plays d c.args.self.now c.hand.new.self H (hands_in d t H (numbered c.args.index e) verb.Host c.args.number x (node_at t c.args.number)) (played c.hand.result c.hand.new.out)) bytes
     (c.hand.ensures.plays d H s e refl)

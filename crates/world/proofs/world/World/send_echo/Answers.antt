@@ -6,7 +6,7 @@ use Rattle.topology.specs.Topology.{node_at}
 use Rattle.legal.specs.Next.{numbered, echo_packet, address_at, target_address, hands_in}
 use Rattle.lab_nodes.specs.NodeState.{NodesOf}
 use Rattle.world.specs.World.{WorldState, StandsFor}
-use Rattle.world.specs.Playing.{Plays}
+use Rattle.world.specs.Playing.{Plays, played}
 use Rattle.world.proofs.world.World.send_echo.Goals as goal
 
 pub returns-clause-plays : goal.returns-clause-plays
@@ -18,7 +18,7 @@ returns-clause-plays c = λ d H s.
     let t = c.args.self.now.topology in
     let src : c.address_at-src.result ≡ address_at t H c.args.number = c.address_at-src.ensures d H nodes ∙ ap (λ (x : WorldState). address_at x.topology H c.args.number) same in
     let dst : c.target_address-dst.result ≡ target_address t H c.args.to = c.target_address-dst.ensures d H nodes ∙ ap (λ (x : WorldState). target_address x.topology H c.args.to) same in
-    let bytes = c.echo.ensures ∙ (λ i. packet_bytes (echo_packet (src i) (dst i) c.args.seq)) in
+    let bytes = c.echo-bytes.ensures ∙ (λ i. packet_bytes (echo_packet (src i) (dst i) c.args.seq)) in
     let e = event.Echo c.args.number c.args.to c.args.seq in
-    subst (λ (x : List ℕ). Plays d c.args.self.now c.hand.new.self H (hands_in d t H (numbered c.args.index e) verb.Echo c.args.number x (node_at t c.args.number)) c.hand.result) bytes
+    subst (λ (x : List ℕ). Plays d c.args.self.now c.hand.new.self H (hands_in d t H (numbered c.args.index e) verb.Echo c.args.number x (node_at t c.args.number)) (played c.hand.result c.hand.new.out)) bytes
     (c.hand.ensures.plays d H s e refl)

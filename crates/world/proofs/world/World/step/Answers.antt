@@ -1,12 +1,18 @@
-use Rattle.std.proofs.Common.{◌∙◌, sym, ap, subst}
+use Rattle.std.proofs.Common.{List, Result, Ok, ◌∙◌, sym, ap, subst}
+use Rattle.std.specs.Prelude.{IfOk}
+use Rattle.history.specs.declared.turn.Stop.{Stop}
+use Rattle.history.specs.declared.turn.Turn.{Turn}
+use Rattle.history.specs.Full.{Full}
+use Rattle.legal.specs.Past.{Draws}
 use Rattle.topology.specs.Rules.{IsTopology}
 use Rattle.lab_nodes.specs.NodeState.{AreReady}
-use Rattle.world.specs.World.{WorldState}
+use Rattle.world.specs.World.{WorldState, StandsFor, Steps, Falls}
+use Rattle.world.specs.Playing.{turn_of}
 use Rattle.world.proofs.Stepped.{Laws, IsAsked, steps, falls}
 use Rattle.world.proofs.world.World.step.Goals as goal
 
-pub returns-clause-ok : goal.returns-clause-ok
-returns-clause-ok c =
+pub returns-in-Ok-clause-ok : goal.returns-in-Ok-clause-ok
+returns-in-Ok-clause-ok c =
     let laws : Laws = record { of_event = c.of_its_event.ensures; told = c.told.ensures; falls = c.falls.ensures; sums = c.due_as_in_the_past.ensures } in
     let asked : IsAsked c.args.self.now c.args.event.now = record {
       rules = subst (λ (x : WorldState). IsTopology x.topology) c.self.view_is c.self.invariant.rules;
@@ -15,10 +21,11 @@ returns-clause-ok c =
       stopped = sym (ap (λ (x : WorldState). x.stopped) c.self.view_is) ∙ c.in_default.is;
     } in
     let ready = subst (λ (x : WorldState). AreReady x.moment x.nodes) c.self-2.view_is c.self-2.invariant.ready in
-    steps laws c.args.self.now c.play-played.new.self c.args.index c.args.event.now c.play-played.result asked c.play-played.ensures.turned ready c.play-played.ensures.plays
+    subst (λ (played : Result Turn Stop). IfOk played (λ turn. Steps c.args.self.now c.play.new.self c.args.index c.args.event.now turn)) c.turn_with.ensures
+    (steps laws c.args.self.now c.play.new.self c.args.index c.args.event.now (turn_of (Ok c.in-Ok.more) c.play.new.out) asked c.in-Ok.ensures.turned ready c.in-Ok.ensures.plays)
 
-pub returns-clause-falls : goal.returns-clause-falls
-returns-clause-falls c =
+pub returns-in-Ok-clause-falls : goal.returns-in-Ok-clause-falls
+returns-in-Ok-clause-falls c =
     let laws : Laws = record { of_event = c.of_its_event.ensures; told = c.told.ensures; falls = c.falls.ensures; sums = c.due_as_in_the_past.ensures } in
     let asked : IsAsked c.args.self.now c.args.event.now = record {
       rules = subst (λ (x : WorldState). IsTopology x.topology) c.self.view_is c.self.invariant.rules;
@@ -27,4 +34,5 @@ returns-clause-falls c =
       stopped = sym (ap (λ (x : WorldState). x.stopped) c.self.view_is) ∙ c.in_default.is;
     } in
     let ready = subst (λ (x : WorldState). AreReady x.moment x.nodes) c.self-2.view_is c.self-2.invariant.ready in
-    falls laws c.args.self.now c.play-played.new.self c.args.index c.args.event.now c.play-played.result asked c.play-played.ensures.turned ready c.play-played.ensures.plays
+    subst (λ (played : Result Turn Stop). IfOk played (λ turn. (d : Draws) (H : List Full) → StandsFor d c.args.self.now H → Falls c.args.self.now c.play.new.self turn)) c.turn_with.ensures
+    (falls laws c.args.self.now c.play.new.self c.args.index c.args.event.now (turn_of (Ok c.in-Ok.more) c.play.new.out) asked c.in-Ok.ensures.turned ready c.in-Ok.ensures.plays)
