@@ -1,7 +1,7 @@
 -- How a report that is being written goes on.
-use Rattle.std.proofs.Common.{◌≡◌, ℕ, ◌+◌, ◌*◌, ◌≤◌, ◌<◌, false, true, None, List, [], ◌∷◌, length, Option, Some, Err, refl, sym, ap, subst, ◌∙◌, arith, length-append}
-use Rattle.std.specs.Prelude.{slice_get, option_map, is_some, IsErrOf}
-use Rattle.std.proofs.lemmas.Option.{slice_get_past}
+use Rattle.std.proofs.Common.{◌≡◌, ℕ, ◌+◌, ◌*◌, ◌≤◌, ◌<◌, false, true, None, List, [], ◌∷◌, length, get_or, Option, Some, Result, Ok, Err, refl, sym, ap, subst, ◌∙◌, arith, length-append}
+use Rattle.std.specs.Prelude.{slice_get, option_map, is_some, IfOk, IfErr, IsErrOf}
+use Rattle.std.proofs.lemmas.Option.{slice_get_past, slice_get_read}
 use Rattle.std.proofs.lemmas.List.Sums.{count_by-le-length}
 use Rattle.std.proofs.lemmas.Bool.{false≢true}
 use Rattle.teredo_node.specs.Fate.{is_drop}
@@ -122,6 +122,40 @@ pub record Turned (s : Scenario) (before after : SinkTold) : Type 0 where
   pub falls : Falls w new turn
   pub time : new.moment ≤ w.began + MOST_ADVANCE
   pub entries : length new.wire ≤ MOST_ENTRIES
+
+-- what a turn leaves less
+pub fell : (s : Scenario) (w new : WorldState) (result : Result Turn Stop) (turn : Turn) (H : List Full) → result ≡ Ok turn → StandsFor (draws s.seed) w H
+    → IfOk result (λ x. (d : Draws) (H : List Full) → StandsFor d w H → Falls w new x) → Falls w new turn
+fell s w new result turn H is stands falls = subst (λ (r : Result Turn Stop). IfOk r (λ x. (d : Draws) (H : List Full) → StandsFor d w H → Falls w new x)) is falls (draws s.seed) H stands
+
+-- what `step` ensures of its result is so of the turn that it answers
+abbrev pub turned : (s : Scenario) (before after : SinkTold) (w new : WorldState) (sums : Sums) (index : ℕ) (event : Event) (result : Result Turn Stop) (turn : Turn) → result ≡ Ok turn
+    → Played s before after w sums index (λ going. IsAgain going event) → slice_get s.events index ≡ Some event
+    → IfOk result (λ x. Steps w new index event x) → IfOk result (λ x. (d : Draws) (H : List Full) → StandsFor d w H → Falls w new x)
+    → IfOk result (λ x. new.moment ≤ w.began + MOST_ADVANCE) → IfOk result (λ x. length new.wire ≤ MOST_ENTRIES) → Turned s before after
+turned s before after w new sums index event result turn is p at steps falls time entries = record {
+  w = w;
+  new = new;
+  sums = sums;
+  index = index;
+  event = event;
+  turn = turn;
+  played = p;
+  is = at;
+  steps = subst (λ (r : Result Turn Stop). IfOk r (λ x. Steps w new index event x)) is steps;
+  falls = fell s w new result turn p.history is p.stands falls;
+  time = subst (λ (r : Result Turn Stop). IfOk r (λ x. new.moment ≤ w.began + MOST_ADVANCE)) is time;
+  entries = subst (λ (r : Result Turn Stop). IfOk r (λ x. length new.wire ≤ MOST_ENTRIES)) is entries;
+}
+
+-- why it stopped
+pub stopped_for : (w : WorldState) (i : ℕ) (e : Event) (result : Result Turn Stop) (why : Stop) → result ≡ Err why → w.stopped ≡ None → (w.stopped ≡ None → IfErr result (λ stop. StopsFor w i e stop))
+    → StopsFor w i e why
+stopped_for w i e result why is going cause = subst (λ (r : Result Turn Stop). IfErr r (λ stop. StopsFor w i e stop)) is (cause going)
+
+-- the event that is read off a list is the scenario's
+pub event_at : (events items : List Event) (i : ℕ) (e : Event) → items ≡ events → i < length items → e ≡ get_or items i e → slice_get events i ≡ Some e
+event_at events items i e same within read = subst (λ (es : List Event). slice_get es i ≡ Some e) same (slice_get_read items _ i e refl within read)
 
 -- the record that the turn gave
 abbrev pub given : (s : Scenario) (a b : SinkTold) → Turned s a b → Full

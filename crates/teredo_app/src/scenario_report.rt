@@ -101,8 +101,10 @@ pub fn write_report<K: Sink>(alloc: Global, s: &Scenario, out: &mut K) -> Result
             let played = world.step(index as u32, event);
             let turn = match &played {
                 Ok(turn) => turn,
-                Err(Stop::WireFull) => return Err(ReportFault::WireFull),
-                Err(Stop::NoMemory) => return Err(ReportFault::NoMemory),
+                Err(stop) => match *stop {
+                    Stop::WireFull => return Err(ReportFault::WireFull),
+                    Stop::NoMemory => return Err(ReportFault::NoMemory),
+                },
             };
             let r = record_in(turn);
             let Ok(()) = write_record(sums.records, r, &s.topology, &mut buf, out) else {

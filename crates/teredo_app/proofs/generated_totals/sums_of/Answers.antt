@@ -1,7 +1,5 @@
-use Rattle.std.proofs.Common.{◌≡◌, ◌≤◌, List, Some, sym, subst, refl, arith, ◌∙◌, ap, length}
+use Rattle.std.proofs.Common.{◌≡◌, ◌≤◌, Some, sym, arith, ◌∙◌, ap, length}
 use Rattle.std.specs.Prelude.{slice_get}
-use Rattle.std.proofs.lemmas.Option.{slice_get_read}
-use Rattle.history.specs.declared.event.Event.{Event}
 use Rattle.scenario.specs.Told.{told}
 use Rattle.teredo_app.proofs.Written.{untold, untold_line}
 use Rattle.teredo_app.proofs.Played as played
@@ -9,45 +7,21 @@ use Rattle.teredo_app.proofs.generated_totals.sums_of.Goals as goal
 
 pub loop-turn-preserved : goal.loop-turn-preserved
 loop-turn-preserved c =
-    let event : slice_get c.args.s.now.events c.loop-index.index ≡ Some c.event-item.result = subst (λ (es : List Event). slice_get es c.loop-index.index ≡ Some c.event-item.result) c.as_slice-event-items.ensures (slice_get_read c.as_slice-event-items.result.now _ c.loop-index.index c.event-item.result refl (omega arith) c.event-item.is) in
-    let turned : played.Turned (told c.args.s.now) untold untold = record {
-      w = c.loop-turn.world;
-      new = c.step.new.self;
-      sums = c.loop-turn.sums;
-      index = c.loop-index.index;
-      event = c.event-item.result;
-      turn = c.in-Ok-step.turn;
-      played = c.loop-turn.invariant;
-      is = event;
-      steps = c.in-Ok-step.ensures.ok;
-      falls = c.in-Ok-step.ensures.falls _ _ c.loop-turn.invariant.stands;
-      time = c.in-Ok-step.ensures.time;
-      entries = c.in-Ok-step.ensures.entries;
-    } in
+    let event : slice_get c.args.s.now.events c.loop-index.index ≡ Some c.event-item.result = played.event_at c.args.s.now.events c.as_slice-event-items.result.now c.loop-index.index c.event-item.result c.as_slice-event-items.ensures (omega arith) c.event-item.is in
+    let turned = played.turned (told c.args.s.now) untold untold c.loop-turn.world c.step-played.new.self c.loop-turn.sums c.loop-index.index c.event-item.result c.step-played.result c.in-Ok-played.turn c.in-Ok-played.is c.loop-turn.invariant event c.step-played.ensures.ok c.step-played.ensures.falls c.step-played.ensures.time c.step-played.ensures.entries in
     let adds = rw c.record_in.ensures at c.add.ensures.sums in
     let more = sym c.is_more.ensures ∙ c.if-not-is_more.false in
     played.goes_on c.of_its_event.ensures (told c.args.s.now) untold untold untold turned c.add.new.self more (untold_line _) adds
 
 pub loop-turn-smaller : goal.loop-turn-smaller
-loop-turn-smaller c = played.falls_by c.loop-turn.world c.step.new.self c.in-Ok-step.turn (sym c.is_more.ensures ∙ c.if-not-is_more.false) (c.in-Ok-step.ensures.falls _ _ c.loop-turn.invariant.stands)
+loop-turn-smaller c =
+    let p = c.loop-turn.invariant in
+    played.falls_by c.loop-turn.world c.step-played.new.self c.in-Ok-played.turn (sym c.is_more.ensures ∙ c.if-not-is_more.false) (played.fell (told c.args.s.now) c.loop-turn.world c.step-played.new.self c.step-played.result c.in-Ok-played.turn p.history c.in-Ok-played.is p.stands c.step-played.ensures.falls)
 
 pub loop-index-preserved : goal.loop-index-preserved
 loop-index-preserved c =
-    let event : slice_get c.args.s.now.events c.loop-index.index ≡ Some c.event-item.result = subst (λ (es : List Event). slice_get es c.loop-index.index ≡ Some c.event-item.result) c.as_slice-event-items.ensures (slice_get_read c.as_slice-event-items.result.now _ c.loop-index.index c.event-item.result refl (omega arith) c.event-item.is) in
-    let turned : played.Turned (told c.args.s.now) untold untold = record {
-      w = c.loop-turn.world;
-      new = c.step.new.self;
-      sums = c.loop-turn.sums;
-      index = c.loop-index.index;
-      event = c.event-item.result;
-      turn = c.in-Ok-step.turn;
-      played = c.loop-turn.invariant;
-      is = event;
-      steps = c.in-Ok-step.ensures.ok;
-      falls = c.in-Ok-step.ensures.falls _ _ c.loop-turn.invariant.stands;
-      time = c.in-Ok-step.ensures.time;
-      entries = c.in-Ok-step.ensures.entries;
-    } in
+    let event : slice_get c.args.s.now.events c.loop-index.index ≡ Some c.event-item.result = played.event_at c.args.s.now.events c.as_slice-event-items.result.now c.loop-index.index c.event-item.result c.as_slice-event-items.ensures (omega arith) c.event-item.is in
+    let turned = played.turned (told c.args.s.now) untold untold c.loop-turn.world c.step-played.new.self c.loop-turn.sums c.loop-index.index c.event-item.result c.step-played.result c.in-Ok-played.turn c.in-Ok-played.is c.loop-turn.invariant event c.step-played.ensures.ok c.step-played.ensures.falls c.step-played.ensures.time c.step-played.ensures.entries in
     let adds = rw c.record_in.ensures at c.add.ensures.sums in
     let last = sym c.is_more.ensures ∙ c.if-not-is_more.true in
     played.event_ends c.of_its_event.ensures (told c.args.s.now) untold untold untold turned c.add.new.self last (untold_line _) adds
@@ -59,5 +33,5 @@ returns-clause-ok c =
 
 pub returns-in-Err-clause-full : goal.returns-in-Err-clause-full
 returns-in-Err-clause-full c = λ e.
-    let event : slice_get c.args.s.now.events c.loop-index.index ≡ Some c.event-item.result = subst (λ (es : List Event). slice_get es c.loop-index.index ≡ Some c.event-item.result) c.as_slice-event-items.ensures (slice_get_read c.as_slice-event-items.result.now _ c.loop-index.index c.event-item.result refl (omega arith) c.event-item.is) in
-    played.overfilled (told c.args.s.now) untold untold c.loop-turn.world c.loop-turn.sums c.loop-index.index c.event-item.result c.loop-turn.invariant event c.in-Err.stop e (c.in-Err.ensures.cause c.loop-turn.invariant.open_still)
+    let event : slice_get c.args.s.now.events c.loop-index.index ≡ Some c.event-item.result = played.event_at c.args.s.now.events c.as_slice-event-items.result.now c.loop-index.index c.event-item.result c.as_slice-event-items.ensures (omega arith) c.event-item.is in
+    played.overfilled (told c.args.s.now) untold untold c.loop-turn.world c.loop-turn.sums c.loop-index.index c.event-item.result c.loop-turn.invariant event c.in-Err.stop e (played.stopped_for c.loop-turn.world c.loop-index.index c.event-item.result c.step-played.result c.in-Err.stop c.in-Err.is c.loop-turn.invariant.open_still c.step-played.ensures.cause)

@@ -1,7 +1,5 @@
-use Rattle.std.proofs.Common.{◌≡◌, ◌≤◌, List, [], Some, sym, subst, refl, arith, ◌∙◌, ap, length, inl, inr}
+use Rattle.std.proofs.Common.{◌≡◌, ◌≤◌, [], Some, sym, subst, refl, arith, ◌∙◌, ap, length, inl, inr}
 use Rattle.std.specs.Prelude.{slice_get}
-use Rattle.std.proofs.lemmas.Option.{slice_get_read}
-use Rattle.history.specs.declared.event.Event.{Event}
 use Rattle.history.specs.declared.turn.Stop.{Stop}
 use Rattle.world.specs.World.{StopsFor}
 use Rattle.report.specs.declared.totals.Sums.{Sums}
@@ -30,30 +28,18 @@ returns-in-Ok-write_totals-clause-ok g c =
 pub returns-clause-err : goal.returns-clause-err
 returns-clause-err g c =
     let end : length c.args.s.now.events ≤ c.loop-index.index = omega (arith, ap length c.as_slice-event-items.ensures, c.loop-index-test.false) in
-    played.totals_broken (told c.args.s.now) _ _ _ c.loop-index.world c.loop-index.sums c.loop-index.index c.loop-index.invariant.played end c.in-Err.ensures.err
+    played.totals_broken (told c.args.s.now) _ _ _ c.loop-index.world c.loop-index.sums c.loop-index.index c.loop-index.invariant.played end c.in-Err-write_totals.ensures.err
 
 pub loop-turn-init : goal.loop-turn-init
 loop-turn-init g c = record { played = played.event_begins (told c.args.s.now) _ _ _ _ _ c.event-item.result c.loop-index.invariant.played; same = c.loop-index.invariant.same }
 
 pub loop-turn-preserved : goal.loop-turn-preserved
 loop-turn-preserved g c =
-    let event : slice_get c.args.s.now.events c.loop-index.index ≡ Some c.event-item.result = subst (λ (es : List Event). slice_get es c.loop-index.index ≡ Some c.event-item.result) c.as_slice-event-items.ensures (slice_get_read c.as_slice-event-items.result.now _ c.loop-index.index c.event-item.result refl (omega arith) c.event-item.is) in
+    let event : slice_get c.args.s.now.events c.loop-index.index ≡ Some c.event-item.result = played.event_at c.args.s.now.events c.as_slice-event-items.result.now c.loop-index.index c.event-item.result c.as_slice-event-items.ensures (omega arith) c.event-item.is in
     let before : SinkTold = record { held = g.K.Sink.holds c.args.out.now; pieces = g.K.Sink.pieces c.args.out.now } in
     let now : SinkTold = record { held = g.K.Sink.holds c.loop-turn.out; pieces = g.K.Sink.pieces c.loop-turn.out } in
-    let turned : played.Turned (told c.args.s.now) before now = record {
-      w = c.loop-turn.world;
-      new = c.step.new.self;
-      sums = c.loop-turn.sums;
-      index = c.loop-index.index;
-      event = c.event-item.result;
-      turn = c.in-Ok-step.turn;
-      played = c.loop-turn.invariant.played;
-      is = event;
-      steps = c.in-Ok-step.ensures.ok;
-      falls = c.in-Ok-step.ensures.falls _ _ c.loop-turn.invariant.played.stands;
-      time = c.in-Ok-step.ensures.time;
-      entries = c.in-Ok-step.ensures.entries;
-    } in
+    let p = c.loop-turn.invariant.played in
+    let turned = played.turned (told c.args.s.now) before now c.loop-turn.world c.step-played.new.self c.loop-turn.sums c.loop-index.index c.event-item.result c.step-played.result c.in-Ok-played.turn c.in-Ok-played.is p event c.step-played.ensures.ok c.step-played.ensures.falls c.step-played.ensures.time c.step-played.ensures.entries in
     let line = rw c.record_in-r.ensures at c.in-Ok-write_record.ensures.ok in
     let adds = rw c.record_in-r.ensures at c.add.ensures.sums in
     let more = sym c.is_more.ensures ∙ c.if-not-is_more.false in
@@ -63,27 +49,17 @@ loop-turn-preserved g c =
     }
 
 pub loop-turn-smaller : goal.loop-turn-smaller
-loop-turn-smaller g c = played.falls_by c.loop-turn.world c.step.new.self c.in-Ok-step.turn (sym c.is_more.ensures ∙ c.if-not-is_more.false) (c.in-Ok-step.ensures.falls _ _ c.loop-turn.invariant.played.stands)
+loop-turn-smaller g c =
+    let p = c.loop-turn.invariant.played in
+    played.falls_by c.loop-turn.world c.step-played.new.self c.in-Ok-played.turn (sym c.is_more.ensures ∙ c.if-not-is_more.false) (played.fell (told c.args.s.now) c.loop-turn.world c.step-played.new.self c.step-played.result c.in-Ok-played.turn p.history c.in-Ok-played.is p.stands c.step-played.ensures.falls)
 
 pub loop-index-preserved : goal.loop-index-preserved
 loop-index-preserved g c =
-    let event : slice_get c.args.s.now.events c.loop-index.index ≡ Some c.event-item.result = subst (λ (es : List Event). slice_get es c.loop-index.index ≡ Some c.event-item.result) c.as_slice-event-items.ensures (slice_get_read c.as_slice-event-items.result.now _ c.loop-index.index c.event-item.result refl (omega arith) c.event-item.is) in
+    let event : slice_get c.args.s.now.events c.loop-index.index ≡ Some c.event-item.result = played.event_at c.args.s.now.events c.as_slice-event-items.result.now c.loop-index.index c.event-item.result c.as_slice-event-items.ensures (omega arith) c.event-item.is in
     let before : SinkTold = record { held = g.K.Sink.holds c.args.out.now; pieces = g.K.Sink.pieces c.args.out.now } in
     let now : SinkTold = record { held = g.K.Sink.holds c.loop-turn.out; pieces = g.K.Sink.pieces c.loop-turn.out } in
-    let turned : played.Turned (told c.args.s.now) before now = record {
-      w = c.loop-turn.world;
-      new = c.step.new.self;
-      sums = c.loop-turn.sums;
-      index = c.loop-index.index;
-      event = c.event-item.result;
-      turn = c.in-Ok-step.turn;
-      played = c.loop-turn.invariant.played;
-      is = event;
-      steps = c.in-Ok-step.ensures.ok;
-      falls = c.in-Ok-step.ensures.falls _ _ c.loop-turn.invariant.played.stands;
-      time = c.in-Ok-step.ensures.time;
-      entries = c.in-Ok-step.ensures.entries;
-    } in
+    let p = c.loop-turn.invariant.played in
+    let turned = played.turned (told c.args.s.now) before now c.loop-turn.world c.step-played.new.self c.loop-turn.sums c.loop-index.index c.event-item.result c.step-played.result c.in-Ok-played.turn c.in-Ok-played.is p event c.step-played.ensures.ok c.step-played.ensures.falls c.step-played.ensures.time c.step-played.ensures.entries in
     let line = rw c.record_in-r.ensures at c.in-Ok-write_record.ensures.ok in
     let adds = rw c.record_in-r.ensures at c.add.ensures.sums in
     let last = sym c.is_more.ensures ∙ c.if-not-is_more.true in
@@ -94,41 +70,29 @@ loop-index-preserved g c =
 
 pub returns-in_default-write_record-clause-err : goal.returns-in_default-write_record-clause-err
 returns-in_default-write_record-clause-err g c =
-    let event : slice_get c.args.s.now.events c.loop-index.index ≡ Some c.event-item.result = subst (λ (es : List Event). slice_get es c.loop-index.index ≡ Some c.event-item.result) c.as_slice-event-items.ensures (slice_get_read c.as_slice-event-items.result.now _ c.loop-index.index c.event-item.result refl (omega arith) c.event-item.is) in
+    let event : slice_get c.args.s.now.events c.loop-index.index ≡ Some c.event-item.result = played.event_at c.args.s.now.events c.as_slice-event-items.result.now c.loop-index.index c.event-item.result c.as_slice-event-items.ensures (omega arith) c.event-item.is in
     let before : SinkTold = record { held = g.K.Sink.holds c.args.out.now; pieces = g.K.Sink.pieces c.args.out.now } in
     let now : SinkTold = record { held = g.K.Sink.holds c.loop-turn.out; pieces = g.K.Sink.pieces c.loop-turn.out } in
-    let turned : played.Turned (told c.args.s.now) before now = record {
-      w = c.loop-turn.world;
-      new = c.step.new.self;
-      sums = c.loop-turn.sums;
-      index = c.loop-index.index;
-      event = c.event-item.result;
-      turn = c.in-Ok-step.turn;
-      played = c.loop-turn.invariant.played;
-      is = event;
-      steps = c.in-Ok-step.ensures.ok;
-      falls = c.in-Ok-step.ensures.falls _ _ c.loop-turn.invariant.played.stands;
-      time = c.in-Ok-step.ensures.time;
-      entries = c.in-Ok-step.ensures.entries;
-    } in
+    let p = c.loop-turn.invariant.played in
+    let turned = played.turned (told c.args.s.now) before now c.loop-turn.world c.step-played.new.self c.loop-turn.sums c.loop-index.index c.event-item.result c.step-played.result c.in-Ok-played.turn c.in-Ok-played.is p event c.step-played.ensures.ok c.step-played.ensures.falls c.step-played.ensures.time c.step-played.ensures.entries in
     let line = rw c.record_in-r.ensures at c.in_default-write_record.ensures.err in
     played.record_broken (told c.args.s.now) before now _ turned line
 
-pub returns-in-Err-NoMemory-clause-err : goal.returns-in-Err-NoMemory-clause-err
-returns-in-Err-NoMemory-clause-err g c = played.stopped _ _ _ c.loop-turn.world c.loop-turn.sums c.loop-index.index c.event-item.result c.loop-turn.invariant.played
+pub returns-in-NoMemory-clause-err : goal.returns-in-NoMemory-clause-err
+returns-in-NoMemory-clause-err g c = played.stopped _ _ _ c.loop-turn.world c.loop-turn.sums c.loop-index.index c.event-item.result c.loop-turn.invariant.played
 
 pub returns-in_default-clause-wanting : goal.returns-in_default-clause-wanting
 returns-in_default-clause-wanting g c = λ _. inl (nothing_written _)
 
-pub returns-in-Err-NoMemory-clause-wanting : goal.returns-in-Err-NoMemory-clause-wanting
-returns-in-Err-NoMemory-clause-wanting g c = λ _.
-    let event : slice_get c.args.s.now.events c.loop-index.index ≡ Some c.event-item.result = subst (λ (es : List Event). slice_get es c.loop-index.index ≡ Some c.event-item.result) c.as_slice-event-items.ensures (slice_get_read c.as_slice-event-items.result.now _ c.loop-index.index c.event-item.result refl (omega arith) c.event-item.is) in
-    inr (played.starves (told c.args.s.now) _ _ c.loop-turn.world c.loop-turn.sums c.loop-index.index c.event-item.result c.loop-turn.invariant.played event (subst (λ (z : Stop). StopsFor c.loop-turn.world c.loop-index.index c.event-item.result z) c.in-Err-NoMemory.field-0-is (c.in-Err-NoMemory.ensures.cause c.loop-turn.invariant.played.open_still)))
+pub returns-in-NoMemory-clause-wanting : goal.returns-in-NoMemory-clause-wanting
+returns-in-NoMemory-clause-wanting g c = λ _.
+    let event : slice_get c.args.s.now.events c.loop-index.index ≡ Some c.event-item.result = played.event_at c.args.s.now.events c.as_slice-event-items.result.now c.loop-index.index c.event-item.result c.as_slice-event-items.ensures (omega arith) c.event-item.is in
+    inr (played.starves (told c.args.s.now) _ _ c.loop-turn.world c.loop-turn.sums c.loop-index.index c.event-item.result c.loop-turn.invariant.played event (subst (λ (z : Stop). StopsFor c.loop-turn.world c.loop-index.index c.event-item.result z) c.in-NoMemory.is (played.stopped_for c.loop-turn.world c.loop-index.index c.event-item.result c.step-played.result c.in-Err.stop c.in-Err.is c.loop-turn.invariant.played.open_still c.step-played.ensures.cause)))
 
-pub returns-in-Err-WireFull-clause-err : goal.returns-in-Err-WireFull-clause-err
-returns-in-Err-WireFull-clause-err g c = played.stopped _ _ _ c.loop-turn.world c.loop-turn.sums c.loop-index.index c.event-item.result c.loop-turn.invariant.played
+pub returns-in-WireFull-clause-err : goal.returns-in-WireFull-clause-err
+returns-in-WireFull-clause-err g c = played.stopped _ _ _ c.loop-turn.world c.loop-turn.sums c.loop-index.index c.event-item.result c.loop-turn.invariant.played
 
-pub returns-in-Err-WireFull-clause-full : goal.returns-in-Err-WireFull-clause-full
-returns-in-Err-WireFull-clause-full g c = λ e.
-    let event : slice_get c.args.s.now.events c.loop-index.index ≡ Some c.event-item.result = subst (λ (es : List Event). slice_get es c.loop-index.index ≡ Some c.event-item.result) c.as_slice-event-items.ensures (slice_get_read c.as_slice-event-items.result.now _ c.loop-index.index c.event-item.result refl (omega arith) c.event-item.is) in
-    played.wire_filled (told c.args.s.now) _ _ c.loop-turn.world c.loop-turn.sums c.loop-index.index c.event-item.result c.loop-turn.invariant.played event (subst (λ (z : Stop). StopsFor c.loop-turn.world c.loop-index.index c.event-item.result z) c.in-Err-WireFull.field-0-is (c.in-Err-WireFull.ensures.cause c.loop-turn.invariant.played.open_still))
+pub returns-in-WireFull-clause-full : goal.returns-in-WireFull-clause-full
+returns-in-WireFull-clause-full g c = λ e.
+    let event : slice_get c.args.s.now.events c.loop-index.index ≡ Some c.event-item.result = played.event_at c.args.s.now.events c.as_slice-event-items.result.now c.loop-index.index c.event-item.result c.as_slice-event-items.ensures (omega arith) c.event-item.is in
+    played.wire_filled (told c.args.s.now) _ _ c.loop-turn.world c.loop-turn.sums c.loop-index.index c.event-item.result c.loop-turn.invariant.played event (subst (λ (z : Stop). StopsFor c.loop-turn.world c.loop-index.index c.event-item.result z) c.in-WireFull.is (played.stopped_for c.loop-turn.world c.loop-index.index c.event-item.result c.step-played.result c.in-Err.stop c.in-Err.is c.loop-turn.invariant.played.open_still c.step-played.ensures.cause))
