@@ -1,5 +1,7 @@
--- NATs of a topology, and lists with one element replaced.
+-- NATs of a topology, and lists: with one element replaced, and what was read of one.
 use Rattle.std.proofs.Common.{◌≡◌, ◌≢◌, ◌<◌, ℕ, zero, suc, List, [], ◌∷◌, length, set, get_or, Option, Some, None, refl, sym, ap, ◌∙◌, arith}
+use Rattle.std.specs.Global.{Vec}
+use Rattle.std.specs.Vec.{vec_len}
 use Rattle.std.specs.Prelude.{slice_get, option_and_then, is_some, unwrap_or}
 use Rattle.std.proofs.lemmas.Bool.{false≢true}
 use Rattle.std.proofs.lemmas.Option.{slice_get_read}
@@ -36,6 +38,8 @@ set_elsewhere (x ∷ xs) zero (suc k) y other = refl
 set_elsewhere (x ∷ xs) (suc j) zero y other = refl
 set_elsewhere (x ∷ xs) (suc j) (suc k) y other = set_elsewhere xs j k y (λ e. other (ap (λ (n : ℕ). suc n) e))
 
--- what was read of a list at number j stands there
-pub read_there : {A : Type 0} → (xs : List A) (j k : ℕ) (x y : A) → j ≡ k → j < length xs → x ≡ get_or xs j x → x ≡ y → slice_get xs k ≡ Some y
-read_there xs j k x y same within read is = ap (slice_get xs) (sym same) ∙ slice_get_read xs (length xs) j x refl within read ∙ ap (λ z. Some z) is
+-- what was read of a vector at number j stands there
+pub read_there : {A : Type 0} → (v : Vec A) (n j k : ℕ) (x y : A) → n ≡ vec_len v → j < n → j ≡ k → x ≡ get_or v.items j x → x ≡ y → slice_get v.items k ≡ Some y
+read_there v n j k x y all less same read is =
+    let within : j < length v.items = grind (arith) in
+    ap (slice_get v.items) (sym same) ∙ slice_get_read v.items (length v.items) j x refl within read ∙ ap (λ z. Some z) is
