@@ -1,5 +1,5 @@
 -- What a call on one entry leaves: what stays true, and what each address finds.
-use Rattle.std.proofs.Common.{◌≡◌, ◌≤◌, inl, inr, ℕ, true, cond, find, Option, Some, None, refl, sym, ap, ◌∙◌, subst, arith}
+use Rattle.std.proofs.Common.{◌≡◌, ◌≤◌, inl, inr, ℕ, true, false, cond, find, List, [], ◌∷◌, ◌++◌, Option, Some, None, refl, sym, ap, ◌∙◌, subst, arith}
 use Rattle.std.specs.Prelude.{is_some}
 use Rattle.std.proofs.lemmas.Bool.{cases_eq}
 use Rattle.std.specs.BTreeMap as map
@@ -10,10 +10,10 @@ use Rattle.td_base.specs.declared.ipv6.Ip6.{Ip6}
 use Rattle.td_base.specs.declared.millis.Millis.{Millis}
 use Rattle.peer_list.specs.declared.entries.Entries.{Entries}
 use Rattle.peer_list.specs.Peers.{Peer}
-use Rattle.peer_list.specs.Judged.{due_of}
+use Rattle.peer_list.specs.Judged.{due_of, is_none}
 use Rattle.peer_list.specs.Waiting.{Listing}
-use Rattle.peer_list.specs.Table.{table, is_of, peer_in, known_to}
-use Rattle.peer_list.specs.Calls.{Updates, touched_at}
+use Rattle.peer_list.specs.Table.{table, is_of, peer_in, known_to, due_and_who}
+use Rattle.peer_list.specs.Calls.{Updates, touched_at, queued_at}
 use Rattle.peer_list.specs.Sound.{IsSince}
 use Rattle.peer_list.specs.Entries.{listings_in, listings_of, key_of, entry_under, NameEachOther, due_at, IsWhole, IsWholeBut, IsKept, with_peer_at, IsAfter}
 use Rattle.peer_list.proofs.OrderLemmas.{turn_same}
@@ -41,6 +41,10 @@ there_at e who key n k = ap is_some (led e.slab e.index.entries who key n.leads 
 
 pub found_at : (e : Entries) (who : Ip6) (key : ℕ) (l : Listing) → NameEachOther e.slab e.index → key_of e who ≡ Some key → get e.slab key ≡ Some l → find (is_of who) (listings_of e) ≡ Some l
 found_at e who key l n k at = finds e who n ∙ ap (entry_under e.slab) k ∙ at
+
+last_waits : (packets : List (List ℕ)) (packet : List ℕ) → is_none (packets ++ packet ∷ []) ≡ false
+last_waits [] packet = refl
+last_waits (p ∷ ps) packet = refl
 
 -- NEW IS OLD WITH ANOTHER PEER UNDER A KEY
 
@@ -103,6 +107,14 @@ module _ (old new : Entries) (key : ℕ) (l : Listing) (peer : Peer) (a : IsAfte
 
   pub whole_touched : (n : ℕ) → peer ≡ touched_at n l.peer → new.order ≡ old.order → IsWhole old → IsWhole new
   whole_touched n is order w = whole_due (due_kept n is) order w
+
+  -- nor does a packet behind others that wait
+  queued_same : (n : ℕ) (packet : List ℕ) → is_none l.peer.waiting ≡ false → due_at (Some (with_peer_at l (queued_at n packet l.peer))) ≡ due_at (Some l)
+  unfolding due_of
+  queued_same n packet some = ap (λ b. cond b None (Some (due_and_who l))) (last_waits l.peer.waiting packet) ∙ sym (ap (λ b. cond b None (Some (due_and_who l))) some)
+
+  pub whole_queued : (n : ℕ) (packet : List ℕ) → is_none l.peer.waiting ≡ false → peer ≡ queued_at n packet l.peer → new.order ≡ old.order → IsWhole old → IsWhole new
+  whole_queued n packet some is order w = whole_due (ap (λ (p : Peer). due_at (Some (with_peer_at l p))) is ∙ queued_same n packet some) order w
 
   -- nor does a call that leaves the peer
   pub whole_left : peer ≡ l.peer → new.order ≡ old.order → IsWhole old → IsWhole new
