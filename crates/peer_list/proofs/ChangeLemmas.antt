@@ -1,5 +1,5 @@
 -- What a call on one entry leaves: what stays true, and what each address finds.
-use Rattle.std.proofs.Common.{◌≡◌, ◌≤◌, inl, inr, ℕ, true, false, cond, find, List, [], ◌∷◌, ◌++◌, Option, Some, None, refl, sym, ap, ◌∙◌, subst, arith}
+use Rattle.std.proofs.Common.{◌≡◌, ◌≤◌, inl, inr, ℕ, true, cond, find, Option, Some, None, refl, sym, ap, ◌∙◌, subst, arith}
 use Rattle.std.specs.Prelude.{is_some}
 use Rattle.std.proofs.lemmas.Bool.{cases_eq}
 use Rattle.std.specs.BTreeMap as map
@@ -10,12 +10,12 @@ use Rattle.td_base.specs.declared.ipv6.Ip6.{Ip6}
 use Rattle.td_base.specs.declared.millis.Millis.{Millis}
 use Rattle.peer_list.specs.declared.entries.Entries.{Entries}
 use Rattle.peer_list.specs.Peers.{Peer}
-use Rattle.peer_list.specs.Judged.{due_of, is_none}
+use Rattle.peer_list.specs.Judged.{due_of}
 use Rattle.peer_list.specs.Waiting.{Listing}
-use Rattle.peer_list.specs.Table.{table, is_of, peer_in, known_to, due_and_who}
-use Rattle.peer_list.specs.Calls.{Updates, touched_at, queued_at}
+use Rattle.peer_list.specs.Table.{table, is_of, peer_in, known_to}
+use Rattle.peer_list.specs.Calls.{Updates, touched_at}
 use Rattle.peer_list.specs.Sound.{IsSince}
-use Rattle.peer_list.specs.Entries.{listings_in, listings_of, key_of, entry_under, NameEachOther, due_at, IsWhole, IsWholeBut, IsKept, with_peer_at, IsAfter}
+use Rattle.peer_list.specs.Entries.{listings_in, listings_of, key_of, entry_under, NameEachOther, due_at, AreInTurn, IsWhole, IsWholeBut, IsKept, with_peer_at, IsAfter}
 use Rattle.peer_list.proofs.OrderLemmas.{turn_same}
 use Rattle.peer_list.proofs.ListingLemmas.{updates_by, known_there}
 use Rattle.peer_list.proofs.EntryLemmas.{Changes, finds, led, names_changed, once_changed, since_changed, entry_changed, turn_changed, listings_same}
@@ -41,10 +41,6 @@ there_at e who key n k = ap is_some (led e.slab e.index.entries who key n.leads 
 
 pub found_at : (e : Entries) (who : Ip6) (key : ℕ) (l : Listing) → NameEachOther e.slab e.index → key_of e who ≡ Some key → get e.slab key ≡ Some l → find (is_of who) (listings_of e) ≡ Some l
 found_at e who key l n k at = finds e who n ∙ ap (entry_under e.slab) k ∙ at
-
-last_waits : (packets : List (List ℕ)) (packet : List ℕ) → is_none (packets ++ packet ∷ []) ≡ false
-last_waits [] packet = refl
-last_waits (p ∷ ps) packet = refl
 
 -- NEW IS OLD WITH ANOTHER PEER UNDER A KEY
 
@@ -88,17 +84,23 @@ module _ (old new : Entries) (key : ℕ) (l : Listing) (peer : Peer) (a : IsAfte
   updates_after k m who w found = updates_by (table k (listings_of old)) (table m (listings_of new)) m who (with_peer_at l peer) refl (finds_at who w found)
 
   -- where it is due as before no key moves
-  whole_due : due_at (Some (with_peer_at l peer)) ≡ due_at (Some l) → new.order ≡ old.order → IsWhole old → IsWhole new
-  whole_due still order w = record {
-    names = names_after w;
-    once = rw order (once_changed old.slab new.slab key l (with_peer_at l peer) change old.order.items w.once);
-    turn = rw order (turn_same old.slab new.slab old.order.items due_same w.turn);
-  } where
+  turn_due : due_at (Some (with_peer_at l peer)) ≡ due_at (Some l) → new.order ≡ old.order → IsWhole old → AreInTurn new.slab new.order.items
+  turn_due still order w = rw order (turn_same old.slab new.slab old.order.items due_same w.turn) where
     due_same : (k : ℕ) → due_at (get new.slab k) ≡ due_at (get old.slab k)
     due_same k = elim (cases_eq k key) [
       | inl same ↦ ap (λ i. due_at (get new.slab i)) same ∙ ap due_at change.update.changed ∙ still ∙ sym (ap (λ i. due_at (get old.slab i)) same ∙ ap due_at a.was)
       | inr differs ↦ ap due_at (change.update.others k differs)
     ]
+
+  whole_due : due_at (Some (with_peer_at l peer)) ≡ due_at (Some l) → new.order ≡ old.order → IsWhole old → IsWhole new
+  whole_due still order w = record {
+    names = names_after w;
+    once = rw order (once_changed old.slab new.slab key l (with_peer_at l peer) change old.order.items w.once);
+    turn = turn_due still order w;
+  }
+
+  pub turn_still : (before : Option (Millis × Ip6)) → before ≡ due_at (get old.slab key) → due_at (get new.slab key) ≡ before → new.order ≡ old.order → IsWhole old → AreInTurn new.slab new.order.items
+  turn_still before was now order w = turn_due (sym (ap due_at change.update.changed) ∙ now ∙ was ∙ ap due_at a.was) order w
 
   -- a touch moves none
   due_kept : (n : ℕ) → peer ≡ touched_at n l.peer → due_at (Some (with_peer_at l peer)) ≡ due_at (Some l)
@@ -107,14 +109,6 @@ module _ (old new : Entries) (key : ℕ) (l : Listing) (peer : Peer) (a : IsAfte
 
   pub whole_touched : (n : ℕ) → peer ≡ touched_at n l.peer → new.order ≡ old.order → IsWhole old → IsWhole new
   whole_touched n is order w = whole_due (due_kept n is) order w
-
-  -- nor does a packet behind others that wait
-  queued_same : (n : ℕ) (packet : List ℕ) → is_none l.peer.waiting ≡ false → due_at (Some (with_peer_at l (queued_at n packet l.peer))) ≡ due_at (Some l)
-  unfolding due_of
-  queued_same n packet some = ap (λ b. cond b None (Some (due_and_who l))) (last_waits l.peer.waiting packet) ∙ sym (ap (λ b. cond b None (Some (due_and_who l))) some)
-
-  pub whole_queued : (n : ℕ) (packet : List ℕ) → is_none l.peer.waiting ≡ false → peer ≡ queued_at n packet l.peer → new.order ≡ old.order → IsWhole old → IsWhole new
-  whole_queued n packet some is order w = whole_due (ap (λ (p : Peer). due_at (Some (with_peer_at l p))) is ∙ queued_same n packet some) order w
 
   -- nor does a call that leaves the peer
   pub whole_left : peer ≡ l.peer → new.order ≡ old.order → IsWhole old → IsWhole new

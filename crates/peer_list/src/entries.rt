@@ -4,7 +4,7 @@ ghost use Rattle.slab.specs.Slab.{get, ContainsKey};
 ghost use Rattle.peer_list.specs.Table.{table, is_of, is_listed_at, listed_in, waiting_in, first_due_in, due_and_who};
 ghost use Rattle.peer_list.specs.declared.limits.TheConstants.{MOST_PEERS};
 ghost use Rattle.peer_list.specs.Sound.{NoneBefore};
-ghost use Rattle.peer_list.specs.Entries.{listings_of, entry_of, key_of, IsWhole, IsWholeBut, IsSinceAll, IsKept, Adds, SameEntries};
+ghost use Rattle.peer_list.specs.Entries.{listings_of, entry_of, key_of, IsWhole, IsWholeBut, due_at, AreInTurn, IsSinceAll, IsKept, Adds, SameEntries};
 
 use crate::limits::{LISTED_MS, MOST_PEERS};
 use crate::listed_peer::Peer;
@@ -134,15 +134,23 @@ impl Entries {
         None
     }
 
-    /// Puts a key, whose entry was changed, where it belongs now.
-    pub fn settle(&mut self, key: usize)
+    /// When the entry under a key is due.
+    pub fn due_at(&self, key: usize) -> Option<(Millis, Ip6)>
+        ensures { result ≡ due_at (get self.now.slab key) }
+    {
+        order::due_at(&self.slab, key)
+    }
+
+    /// Puts a key, whose entry was changed, where it belongs now. Where it is due as before it stays.
+    pub fn settle(&mut self, key: usize, before: Option<(Millis, Ip6)>)
         requires but { IsWholeBut self.old key }
+        requires still { due_at (get self.old.slab key) ≡ before → AreInTurn self.old.slab self.old.order.items }
         ensures whole { IsWhole self.new }
         ensures slab { self.new.slab ≡ self.old.slab }
         ensures index { self.new.index ≡ self.old.index }
         ensures touched { self.new.touched ≡ self.old.touched }
     {
-        order::settle(&mut self.order, &self.slab, key);
+        order::settle(&mut self.order, &self.slab, key, before);
     }
 
     /// When the first of all was touched.

@@ -64,7 +64,7 @@ pub fn admit(
     }
 }
 
-/// Lets a packet wait for the peer of the entry under a key. Where one waits already it is due as before.
+/// Lets a packet wait for the peer of the entry under a key.
 fn queue_at(
     entries: &mut Entries,
     alloc: Global,
@@ -80,12 +80,9 @@ fn queue_at(
     ensures queued { (l : Kept) → get entries.old.slab key ≡ Some l → OnOk result (IsAfter entries.old entries.new key l (queued_at now.0 packet.now l.peer)) }
     ensures same { OnErr result (listings_of entries.new ≡ listings_of entries.old) }
 {
-    let peer = &mut entries.slab[key].peer;
-    let was_idle = peer.is_idle();
-    peer.queue(alloc, now, packet)?;
-    if was_idle {
-        entries.settle(key);
-    }
+    let before = entries.due_at(key);
+    entries.slab[key].peer.queue(alloc, now, packet)?;
+    entries.settle(key, before);
     Ok(())
 }
 

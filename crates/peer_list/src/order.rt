@@ -31,11 +31,27 @@ fn is_sooner(next: Option<(Millis, Ip6)>, first: Option<(Millis, Ip6)>) -> bool
     }
 }
 
-/// Whether an entry may stand in front of another: that one isn't due before it.
-fn is_in_turn(slab: &Slab<Listing>, first: usize, key: usize) -> bool
-    ensures { result ≡ not (is_sooner (due_at (get slab.now key)) (due_at (get slab.now first))) }
+/// Whether both are due at one moment, of one address, or neither is due.
+fn is_same(now: Option<(Millis, Ip6)>, before: Option<(Millis, Ip6)>) -> bool
+    ensures { result ≡ true → now ≡ before }
 {
-    !is_sooner(due_at(slab, key), due_at(slab, first))
+    match (now, before) {
+        (None, None) => true,
+        (Some(now), Some(before)) => {
+            if now.0.0 != before.0.0 {
+                return false;
+            }
+            now.1 == before.1
+        }
+        _ => false,
+    }
+}
+
+/// Whether an entry may stand in front of what is due then: that isn't due before it.
+fn is_in_turn(slab: &Slab<Listing>, first: usize, next: Option<(Millis, Ip6)>) -> bool
+    ensures { result ≡ not (is_sooner next (due_at (get slab.now first))) }
+{
+    !is_sooner(next, due_at(slab, first))
 }
 
 /// Puts a key behind all whose entries aren't due later. There has to be room for it.
@@ -45,11 +61,13 @@ pub fn put(order: &mut Vec<usize>, slab: &Slab<Listing>, key: usize)
     ensures turn { AreInTurn slab.now order.new.items }
     ensures keys { (k : ℕ) → count_by (nat_eq k) order.new.items ≡ count_by (nat_eq k) order.old.items + (if nat_eq k key then 1 else 0) }
 {
-    let place = order.partition_point(|other| is_in_turn(slab, *other, key));
+    let due = due_at(slab, key);
+    let place = order.partition_point(|other| is_in_turn(slab, *other, due));
     order.insert(place, key).unwrap();
 }
 
 /// The place of a key.
+#[inline(never)]
 fn place_of(order: &[usize], key: usize) -> Option<usize>
     ensures { result ≡ position (λ other. nat_eq other key) order.now }
 {
@@ -67,14 +85,23 @@ fn take_out(order: &mut Vec<usize>, key: usize)
     }
 }
 
-/// Puts a key, whose entry was changed, where it belongs now.
-pub fn settle(order: &mut Vec<usize>, slab: &Slab<Listing>, key: usize)
+/// Puts a key, whose entry was changed, where it belongs now. Where it is due as before it stays.
+pub fn settle(
+    order: &mut Vec<usize>,
+    slab: &Slab<Listing>,
+    key: usize,
+    before: Option<(Millis, Ip6)>,
+)
     requires once { AreKeysOnce slab.now order.old.items }
     requires there { is_some (get slab.now key) ≡ true }
     requires others { AreInTurn slab.now (without key order.old.items) }
+    requires still { due_at (get slab.now key) ≡ before → AreInTurn slab.now order.old.items }
     ensures once { AreKeysOnce slab.now order.new.items }
     ensures turn { AreInTurn slab.now order.new.items }
 {
+    if is_same(due_at(slab, key), before) {
+        return;
+    }
     take_out(order, key);
     put(order, slab, key);
 }

@@ -210,8 +210,9 @@ impl Peers {
     {
         self.moment = now;
         let key = self.entries.key(who);
+        let before = self.entries.due_at(key);
         self.entries.slab[key].peer.trust(now, at);
-        self.entries.settle(key);
+        self.entries.settle(key, before);
     }
 
     /// Touches a listed peer of which a direct reception came. What was tried is over; what waits goes by `release`.
@@ -222,8 +223,9 @@ impl Peers {
     {
         self.moment = now;
         let key = self.entries.key(who);
+        let before = self.entries.due_at(key);
         self.entries.slab[key].peer.hear(now);
-        self.entries.settle(key);
+        self.entries.settle(key, before);
     }
 
     /// Touches a listed peer that was tried, where there is one with a test and its nonce. Whether it may be tried is
@@ -236,8 +238,9 @@ impl Peers {
     {
         self.moment = now;
         let key = self.entries.key(who);
+        let before = self.entries.due_at(key);
         self.entries.slab[key].peer.note_try(now, nonce);
-        self.entries.settle(key);
+        self.entries.settle(key, before);
     }
 
     /// Sends the packets that wait for a peer, in order, from one side to one endpoint.
@@ -248,8 +251,9 @@ impl Peers {
         ensures rest { Updates self.old self.new self.old.moment who (emptied (known_to self.old self.old.moment who)) }
     {
         let key = self.entries.key(who);
+        let before = self.entries.due_at(key);
         self.entries.slab[key].peer.release(side, to, step);
-        self.entries.settle(key);
+        self.entries.settle(key, before);
     }
 
     /// Drops the packets that wait for a peer, and says how many there were. It doesn't touch the peer.
@@ -261,8 +265,9 @@ impl Peers {
     {
         self.moment = now;
         let key = self.entries.key(who);
+        let before = self.entries.due_at(key);
         let count = self.entries.slab[key].peer.give_up();
-        self.entries.settle(key);
+        self.entries.settle(key, before);
         count
     }
 

@@ -1,48 +1,33 @@
-use Rattle.std.proofs.Common.{◌≡◌, true, refl, sym, ap, ◌∙◌, subst, arith}
+use Rattle.std.proofs.Common.{◌≡◌, true, refl, sym, ◌∙◌, ap, subst, arith}
 use Rattle.std.specs.Prelude.{is_some}
 use Rattle.peer_list.specs.Peers.{Peer}
-use Rattle.peer_list.specs.Table.{Table, table, peer_in, known_to}
-use Rattle.peer_list.specs.Calls.{Updates, emptied, sends_of}
-use Rattle.peer_list.specs.Entries.{listings_of, IsAfter}
-use Rattle.peer_list.proofs.ListingLemmas.{has_listing}
-use Rattle.peer_list.proofs.ChangeLemmas.{since_untouched, known_at, whole_but, kept_after, updates_after}
+use Rattle.peer_list.specs.Table.{Table, table, peer_in}
+use Rattle.peer_list.specs.Entries.{listings_of}
+use Rattle.peer_list.specs.Calls.{emptied, sends_of}
+use Rattle.peer_list.proofs.SettleLemmas.{but_one, in_turn_still, is_settled, there, known_is, kept_untouched, updates_by_call}
 use Rattle.peer_list.proofs.table.Peers.release.Goals as goal
 
 pub key-key-requires-clause-there : goal.key-key-requires-clause-there
-key-key-requires-clause-there c =
-    let e = c.self.inside.entries in
-    let listed : is_some (peer_in (table c.self.inside.moment.0 (listings_of e)) c.self.inside.moment.0 c.args.who) ≡ true = subst (λ (v : Table). is_some (peer_in v v.moment c.args.who) ≡ true) (sym c.self.view_is) c.requires.listed in
-    has_listing (table c.self.inside.moment.0 (listings_of e)) c.self.inside.moment.0 c.args.who listed
+key-key-requires-clause-there c = there c.self.inside.entries _ _ _ _ c.self.view_is c.requires.listed
 
 pub settle-requires : goal.settle-requires
-settle-requires c =
-    let e = c.self.inside.entries in
-    let l = c.index_mut.result.now in
-    let a : IsAfter e _ c.key-key.result l c.release.new.self = record { was = c.index_mut.ensures.value; slab = refl; index = refl; touched = refl } in
-    record { but = whole_but e _ c.key-key.result l c.release.new.self a refl c.self.invariant.whole }
+settle-requires c = record {
+  but = but_one _ _ _ c.self.invariant.whole c.index_mut.ensures.value;
+  still = in_turn_still _ _ _ _ c.self.invariant.whole c.index_mut.ensures.value c.due_at-before.ensures;
+}
 
 pub invariant_of-self : goal.invariant_of-self
 invariant_of-self c =
-    let e = c.self.inside.entries in
-    let l = c.index_mut.result.now in
-    let a : IsAfter e c.settle.new.self c.key-key.result l c.release.new.self = record { was = c.index_mut.ensures.value; slab = c.settle.ensures.slab; index = c.settle.ensures.index; touched = c.settle.ensures.touched } in
-    kept_after e c.settle.new.self c.key-key.result l c.release.new.self a c.self.inside.moment.0 c.self.inside.moment.0 c.self.invariant (omega arith) c.settle.ensures.whole
-    (since_untouched e c.self.inside.moment.0 c.key-key.result l c.release.new.self c.self.invariant c.index_mut.ensures.value (ap (λ (p : Peer). p.touched) c.release.ensures.rest))
+    kept_untouched c.self.invariant (omega arith) c.settle.ensures.whole (is_settled c.self.inside.entries _ _ _ _ c.index_mut.ensures.value c.settle.ensures.slab c.settle.ensures.index c.settle.ensures.touched)
+    (ap (λ (p : Peer). p.touched) c.release.ensures.rest)
 
 pub returns-clause-rest : goal.returns-clause-rest
 returns-clause-rest c =
     let e = c.self.inside.entries in
-    let listed : is_some (peer_in (table c.self.inside.moment.0 (listings_of e)) c.self.inside.moment.0 c.args.who) ≡ true = subst (λ (v : Table). is_some (peer_in v v.moment c.args.who) ≡ true) (sym c.self.view_is) c.requires.listed in
-    let l = c.index_mut.result.now in
-    let a : IsAfter e c.settle.new.self c.key-key.result l c.release.new.self = record { was = c.index_mut.ensures.value; slab = c.settle.ensures.slab; index = c.settle.ensures.index; touched = c.settle.ensures.touched } in
-    let known : known_to (table c.self.inside.moment.0 (listings_of e)) c.self.inside.moment.0 c.args.who ≡ l.peer = known_at e c.self.inside.moment.0 c.self.inside.moment.0 c.args.who c.key-key.result l c.self.invariant.whole c.key-key.ensures.key c.index_mut.ensures.value listed in
-    rw (← c.self.view_is) (subst (λ (x : Peer). Updates (table c.self.inside.moment.0 (listings_of e)) (table c.self.inside.moment.0 (listings_of c.settle.new.self)) c.self.inside.moment.0 c.args.who x) (c.release.ensures.rest ∙ ap (emptied) (sym known))
-    (updates_after e c.settle.new.self c.key-key.result l c.release.new.self a c.self.inside.moment.0 c.self.inside.moment.0 c.args.who c.self.invariant.whole c.key-key.ensures.key))
+    let k = c.self.inside.moment.0 in
+    let listed : is_some (peer_in (table k (listings_of e)) k c.args.who) ≡ true = subst (λ (v : Table). is_some (peer_in v v.moment c.args.who) ≡ true) (sym c.self.view_is) c.requires.listed in
+    rw (← c.self.view_is) (updates_by_call e k k c.args.who (table k (listings_of e)) refl c.settle.new.self _ _ _ emptied c.self.invariant.whole listed c.key-key.ensures.key
+    (is_settled e _ _ _ _ c.index_mut.ensures.value c.settle.ensures.slab c.settle.ensures.index c.settle.ensures.touched) c.release.ensures.rest)
 
 pub returns-clause-sends : goal.returns-clause-sends
-returns-clause-sends c =
-    let e = c.self.inside.entries in
-    let listed : is_some (peer_in (table c.self.inside.moment.0 (listings_of e)) c.self.inside.moment.0 c.args.who) ≡ true = subst (λ (v : Table). is_some (peer_in v v.moment c.args.who) ≡ true) (sym c.self.view_is) c.requires.listed in
-    let l = c.index_mut.result.now in
-    let known : known_to (table c.self.inside.moment.0 (listings_of e)) c.self.inside.moment.0 c.args.who ≡ l.peer = known_at e c.self.inside.moment.0 c.self.inside.moment.0 c.args.who c.key-key.result l c.self.invariant.whole c.key-key.ensures.key c.index_mut.ensures.value listed in
-    rw (← c.self.view_is) (c.release.ensures.sends ∙ sym (ap (λ (x : Peer). record c.args.step.now { sends = sends_of c.args.side c.args.to x.waiting }) known))
+returns-clause-sends c = c.release.ensures.sends ∙ ap (λ (p : Peer). record c.args.step.now { sends = sends_of c.args.side c.args.to p.waiting }) (sym (known_is c.self.inside.entries _ _ _ _ c.self.view_is _ _ c.self.invariant.whole c.requires.listed c.key-key.ensures.key c.index_mut.ensures.value))

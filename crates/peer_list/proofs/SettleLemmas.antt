@@ -1,0 +1,65 @@
+-- A call on one entry, whose key is settled then: what the call needs, and what it leaves.
+use Rattle.std.proofs.Common.{◌≡◌, ◌≤◌, ℕ, true, find, Option, Some, refl, sym, ap, ◌∙◌, subst}
+use Rattle.std.specs.Prelude.{is_some}
+use Rattle.slab.specs.Slab.{get, with_value}
+use Rattle.td_base.specs.declared.ipv6.Ip6.{Ip6}
+use Rattle.td_base.specs.declared.millis.Millis.{Millis}
+use Rattle.peer_list.specs.declared.entries.Entries.{Entries}
+use Rattle.peer_list.specs.Peers.{Peer}
+use Rattle.peer_list.specs.Waiting.{Listing}
+use Rattle.peer_list.specs.Table.{Table, table, is_of, peer_in, known_to}
+use Rattle.peer_list.specs.Calls.{Updates}
+use Rattle.peer_list.specs.Sound.{IsSince}
+use Rattle.peer_list.specs.Entries.{listings_of, key_of, due_at, AreInTurn, IsWhole, IsWholeBut, IsKept, with_peer_at, IsAfter}
+use Rattle.peer_list.proofs.ListingLemmas.{has_listing}
+use Rattle.peer_list.proofs.ChangeLemmas.{known_at, whole_but, turn_still, kept_after, updates_after, since_touched, since_untouched}
+
+-- BEFORE THE KEY IS SETTLED
+
+abbrev pub with_peer : Entries → ℕ → Listing → Peer → Entries
+with_peer e key l peer = record e { slab = with_value e.slab key (with_peer_at l peer) }
+
+pub is_after : (e : Entries) {key : ℕ} {l : Listing} (peer : Peer) → get e.slab key ≡ Some l → IsAfter e (with_peer e key l peer) key l peer
+is_after e peer was = record { was = was; slab = refl; index = refl; touched = refl }
+
+pub but_one : {e : Entries} (key : ℕ) (l : Listing) (peer : Peer) → IsWhole e → get e.slab key ≡ Some l → IsWholeBut (with_peer e key l peer) key
+but_one {e} key l peer w was = whole_but e (with_peer e key l peer) key l peer (is_after e peer was) refl w
+
+pub in_turn_still : {e : Entries} (key : ℕ) (l : Listing) (peer : Peer) (before : Option (Millis × Ip6)) → IsWhole e → get e.slab key ≡ Some l → before ≡ due_at (get e.slab key)
+    → due_at (get (with_peer e key l peer).slab key) ≡ before → AreInTurn (with_peer e key l peer).slab e.order.items
+in_turn_still {e} key l peer before w was is now = turn_still e (with_peer e key l peer) key l peer (is_after e peer was) before is now refl w
+
+-- AND AFTER
+
+pub is_settled : (e new : Entries) (key : ℕ) (l : Listing) (peer : Peer) → get e.slab key ≡ Some l → new.slab ≡ with_value e.slab key (with_peer_at l peer) → new.index ≡ e.index → new.touched ≡ e.touched → IsAfter e new key l peer
+is_settled e new key l peer was slab index touched = record { was = was; slab = slab; index = index; touched = touched }
+
+-- by a call that touches, and by one that doesn't
+pub kept_touched : {e new : Entries} {k n key : ℕ} {l : Listing} {peer : Peer} → IsKept e k → k ≤ n → IsWhole new → IsAfter e new key l peer → peer.touched ≡ Some n → IsKept new n
+kept_touched {e} {new} {k} {n} {key} {l} {peer} kept later w a touched = kept_after e new key l peer a k n kept later w (since_touched e k n peer kept later touched)
+
+pub kept_untouched : {e new : Entries} {k n key : ℕ} {l : Listing} {peer : Peer} → IsKept e k → k ≤ n → IsWhole new → IsAfter e new key l peer → peer.touched ≡ l.peer.touched → IsKept new n
+kept_untouched {e} {new} {k} {n} {key} {l} {peer} kept later w a touched = kept_after e new key l peer a k n kept later w (since_untouched e k key l peer kept a.was touched)
+
+-- THE TABLE
+
+pub earlier : (e : Entries) (k n : ℕ) (v : Table) → table k (listings_of e) ≡ v → v.moment ≤ n → k ≤ n
+earlier e k n v is clock = subst (λ (t : Table). t.moment ≤ n) (sym is) clock
+
+-- a table before a call at n on a listed peer
+module _ (e : Entries) (k n : ℕ) (who : Ip6) (v : Table) (is : table k (listings_of e) ≡ v) where
+  seen : is_some (peer_in v n who) ≡ true → is_some (peer_in (table k (listings_of e)) n who) ≡ true
+  seen listed = subst (λ (t : Table). is_some (peer_in t n who) ≡ true) (sym is) listed
+
+  pub there : is_some (peer_in v n who) ≡ true → is_some (find (is_of who) (listings_of e)) ≡ true
+  there listed = has_listing (table k (listings_of e)) n who (seen listed)
+
+  pub known_is : (key : ℕ) (l : Listing) → IsWhole e → is_some (peer_in v n who) ≡ true → key_of e who ≡ Some key → get e.slab key ≡ Some l → known_to v n who ≡ l.peer
+  known_is key l w listed found was = ap (λ (t : Table). known_to t n who) (sym is) ∙ known_at e k n who key l w found was (seen listed)
+
+  -- what is known of the peer is what the call makes of it
+  pub updates_by_call : (new : Entries) (key : ℕ) (l : Listing) (peer : Peer) (call : Peer → Peer) → IsWhole e → is_some (peer_in v n who) ≡ true → key_of e who ≡ Some key → IsAfter e new key l peer → peer ≡ call l.peer
+      → Updates v (table n (listings_of new)) n who (call (known_to v n who))
+  updates_by_call new key l peer call w listed found a done =
+      subst (λ (p : Peer). Updates v (table n (listings_of new)) n who p) (done ∙ ap call (sym (known_is key l w listed found a.was)))
+      (subst (λ (t : Table). Updates t (table n (listings_of new)) n who peer) is (updates_after e new key l peer a k n who w found))
