@@ -110,19 +110,6 @@ module _ (old new : Entries) (key : ℕ) (l : Listing) (peer : Peer) (a : IsAfte
   pub whole_touched : (n : ℕ) → peer ≡ touched_at n l.peer → new.order ≡ old.order → IsWhole old → IsWhole new
   whole_touched n is order w = whole_due (due_kept n is) order w
 
-  -- nor does a call that leaves the peer
-  pub whole_left : peer ≡ l.peer → new.order ≡ old.order → IsWhole old → IsWhole new
-  whole_left is order w = whole_due (ap (λ (p : Peer). due_at (Some (with_peer_at l p))) is) order w
-
-  -- then all listings are as before
-  pub listings_left : peer ≡ l.peer → listings_of new ≡ listings_of old
-  listings_left is = listings_same old.slab new.slab same new.index.entries ∙ ap (λ x. listings_in old.slab x.entries) a.index where
-    same : (k : ℕ) → get new.slab k ≡ get old.slab k
-    same k = elim (cases_eq k key) [
-      | inl here ↦ ap (λ i. get new.slab i) here ∙ change.update.changed ∙ ap (λ (p : Peer). Some (with_peer_at l p)) is ∙ sym (ap (λ i. get old.slab i) here ∙ a.was)
-      | inr differs ↦ change.update.others k differs
-    ]
-
 -- what is known of an address that is listed, and has a key
 pub known_at : (e : Entries) (k n : ℕ) (who : Ip6) (key : ℕ) (l : Listing) → IsWhole e → key_of e who ≡ Some key → get e.slab key ≡ Some l → is_some (peer_in (table k (listings_of e)) n who) ≡ true → known_to (table k (listings_of e)) n who ≡ l.peer
 known_at e k n who key l w found at listed = known_there (table k (listings_of e)) n who l (found_at e who key l w.names found at) listed

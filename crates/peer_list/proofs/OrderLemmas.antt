@@ -162,6 +162,12 @@ shorter_without key (k ∷ ks) h = by_test (nat_eq k key) refl (shorter_without 
       differ false d = d
       differ true d = absurd (false≢true (sym e ∙ eq-eqb k key (sym (eqb-true key k d))))
 
+le_split : (i j : ℕ) → i ≤ j → (i < j) ⊎ (i ≡ j)
+le_split zero zero l = inr refl
+le_split zero (suc j) l = inl (omega arith)
+le_split (suc i) zero l = absurd (omega arith)
+le_split (suc i) (suc j) l = ⊎_elim (λ (b : i < j). inl (omega (arith, b))) (λ (e : i ≡ j). inr (ap suc e)) (le_split i j (omega arith))
+
 -- IN TURN
 
 module _ (s : Slab Listing) where
@@ -198,17 +204,11 @@ module _ (s : Slab Listing) where
   parted ks key a i j d le lt late = ⊎_elim
       (λ (below : i < j). by_test (is_sooner (due key) (due (get_or ks i d))) refl (turn_at ks i j d below lt a))
       (λ (same : i ≡ j). subst (λ k. stays key (get_or ks k d) ≡ true) (sym same) late)
-      (split i j le)
+      (le_split i j le)
     where
       by_test : (b : Bool) → is_sooner (due key) (due (get_or ks i d)) ≡ b → is_sooner (due (get_or ks j d)) (due (get_or ks i d)) ≡ false → not b ≡ true
       by_test false e t = refl
       by_test true e t = absurd (false≢true (sym (not_of (is_sooner (due key) (due (get_or ks j d))) late) ∙ sooner_through (due key) (due (get_or ks i d)) (due (get_or ks j d)) e t))
-
-      split : (i j : ℕ) → i ≤ j → (i < j) ⊎ (i ≡ j)
-      split zero zero l = inr refl
-      split zero (suc j) l = inl (omega arith)
-      split (suc i) zero l = absurd (omega arith)
-      split (suc i) (suc j) l = ⊎_elim (λ (b : i < j). inl (omega (arith, b))) (λ (e : i ≡ j). inr (ap suc e)) (split i j (omega arith))
 
   pub turn_put : (ks : List ℕ) (i key : ℕ) → i ≤ length ks → IsPartitionPoint (λ k. stays key k ≡ true) (λ k. stays key k ≡ false) ks i → AreInTurn s ks → AreInTurn s (insert ks i key)
   turn_put ks i key within point a =
@@ -272,42 +272,42 @@ all_differ key (k ∷ ks) a =
     let differs : nat_eq k key ≡ false = eq_turned key k a.0 in
     ap (λ b. cond (not b) (k ∷ without key ks) (without key ks)) differs ∙ ap (λ (xs : List ℕ). k ∷ xs) (all_differ key ks a.1)
 
--- a list without its first key of that number, where that stands there once, is the list without that key
-pub taken_out : (key : ℕ) (ks : List ℕ) → count_by (nat_eq key) ks ≡ 1 → remove ks (position_or_len (λ other. nat_eq other key) ks) ≡ without key ks
-taken_out key [] h = refl
-taken_out key (k ∷ ks) h = by_test (nat_eq k key) refl (taken_out key ks) where
-  first : ℕ
-  first = position_or_len (λ other. nat_eq other key) ks
+-- a list without the place of a key that stands there once is the list without that key
+pub taken_out : (key : ℕ) (ks : List ℕ) (i : ℕ) → count_by (nat_eq key) ks ≡ 1 → i < length ks → get_or ks i 0 ≡ key → remove ks i ≡ without key ks
+taken_out key [] i h k at = absurd (omega arith)
+taken_out key (x ∷ ks) zero h k at =
+    let one = count_cons (nat_eq key) x ks in
+    let here : one_if (nat_eq key x) ≡ 1 = ap one_if (eq-eqb key x (sym at)) in
+    let gone : without key (x ∷ ks) ≡ without key ks = ap (λ b. cond (not b) (x ∷ without key ks) (without key ks)) (eq-eqb x key at) in
+    sym (gone ∙ all_differ key ks (none_there key ks (omega (arith, one, here, h))))
+taken_out key (x ∷ ks) (suc i) h k at = by_test (nat_eq key x) refl (subst (λ y. 0 < count_by (nat_eq y) ks) at (counted_at ks i 0 (omega arith))) (λ one. taken_out key ks i one (omega arith) at) where
+  by_test : (b : Bool) → nat_eq key x ≡ b → 0 < count_by (nat_eq key) ks → (count_by (nat_eq key) ks ≡ 1 → remove ks i ≡ without key ks) → remove (x ∷ ks) (suc i) ≡ without key (x ∷ ks)
+  by_test true e more rest =
+      let one = count_cons (nat_eq key) x ks in
+      let here : one_if (nat_eq key x) ≡ 1 = ap one_if e in
+      absurd (omega (arith, one, here, h, more))
+  by_test false e more rest =
+      let one = count_cons (nat_eq key) x ks in
+      let here : one_if (nat_eq key x) ≡ 0 = ap one_if e in
+      ap (λ (xs : List ℕ). x ∷ xs) (rest (omega (arith, one, here, h))) ∙ sym (ap (λ b. cond (not b) (x ∷ without key ks) (without key ks)) (eq_turned key x e))
 
-  by_test : (b : Bool) → nat_eq k key ≡ b → (count_by (nat_eq key) ks ≡ 1 → remove ks first ≡ without key ks) → remove (k ∷ ks) (cond (not b) (1 + first) 0) ≡ cond (not b) (k ∷ without key ks) (without key ks)
-  by_test true e rest =
-      let one = count_cons (nat_eq key) k ks in
-      let here : one_if (nat_eq key k) ≡ 1 = ap one_if (eq_turned_true key k e) in
-      sym (all_differ key ks (none_there key ks (omega (arith, one, here, h))))
-  by_test false e rest =
-      let one = count_cons (nat_eq key) k ks in
-      let here : one_if (nat_eq key k) ≡ 0 = ap one_if (eq_turned k key e) in
-      let next : 1 + first ≡ suc first = omega arith in
-      ap (remove (k ∷ ks)) next ∙ ap (λ (xs : List ℕ). k ∷ xs) (rest (omega (arith, one, here, h)))
+-- where it stands at no place before this one, nor here, it stands behind; and where at none behind, before
+pub stands_behind : (key place : ℕ) (ks : List ℕ) → count_by (nat_eq key) ks ≡ 1 → ((i : ℕ) → i < length ks → get_or ks i 0 ≡ key → place ≤ i) → (get_or ks place 0 ≡ key → ⊥)
+    → (place + 1 < length ks) × ((i : ℕ) → i < length ks → get_or ks i 0 ≡ key → place + 1 ≤ i)
+stands_behind key place ks once back differs =
+    let more : (i : ℕ) → i < length ks → get_or ks i 0 ≡ key → place + 1 ≤ i = λ i k at. one_more i (back i k at) (λ same. differs (ap (λ j. get_or ks j 0) same ∙ at)) in
+    let p = place_of key ks (omega (arith, once)) in
+    let after = more p.0 p.1 (p.2 0) in
+    let within = p.1 in
+    (omega (arith, after, within), more)
+  where
+    one_more : (i : ℕ) → place ≤ i → (place ≡ i → ⊥) → place + 1 ≤ i
+    one_more i le ne = ⊎_elim (λ (lt : place < i). omega (arith, lt)) (λ (e : place ≡ i). absurd (ne e)) (le_split place i le)
 
--- such a key has a place
-first_within : (key : ℕ) (ks : List ℕ) → count_by (nat_eq key) ks ≡ 1 → position_or_len (λ other. nat_eq other key) ks < length ks
-first_within key [] h = absurd (let none = h in omega (arith, none))
-first_within key (k ∷ ks) h = by_test (nat_eq k key) refl (first_within key ks) where
-  first : ℕ
-  first = position_or_len (λ other. nat_eq other key) ks
-
-  by_test : (b : Bool) → nat_eq k key ≡ b → (count_by (nat_eq key) ks ≡ 1 → first < length ks) → cond (not b) (1 + first) 0 < suc (length ks)
-  by_test true e rest = omega arith
-  by_test false e rest =
-      let one = count_cons (nat_eq key) k ks in
-      let here : one_if (nat_eq key k) ≡ 0 = ap one_if (eq_turned k key e) in
-      let within = rest (omega (arith, one, here, h)) in
-      omega (arith, within)
-
--- and that is where it is found
-pub found_first : (key : ℕ) (ks : List ℕ) → count_by (nat_eq key) ks ≡ 1 → position (λ other. nat_eq other key) ks ≡ Some (position_or_len (λ other. nat_eq other key) ks)
-found_first key ks h = ap (λ b. cond b (Some (position_or_len (λ other. nat_eq other key) ks)) None) (lt-ltb _ _ (first_within key ks h))
+pub stands_before : (key place : ℕ) (ks : List ℕ) → count_by (nat_eq key) ks ≡ 1 → ((i : ℕ) → i < length ks → get_or ks i 0 ≡ key → i ≤ place) → (get_or ks place 0 ≡ key → ⊥) → 1 ≤ place
+stands_before key place ks once front differs =
+    let p = place_of key ks (omega (arith, once)) in
+    ⊎_elim (λ (lt : p.0 < place). omega (arith, lt)) (λ (e : p.0 ≡ place). absurd (differs (ap (λ j. get_or ks j 0) (sym e) ∙ p.2 0))) (le_split p.0 place (front p.0 p.1 (p.2 0)))
 
 pub room_without : (s : Slab Listing) (key : ℕ) (ks : List ℕ) → AreKeysOnce s ks → is_some (get s key) ≡ true → length (without key ks) < length ks
 room_without s key ks once there =

@@ -1,5 +1,5 @@
 //! The keys of the entries, in the order in which these are due.
-ghost use Rattle.std.specs.Prelude.{◌≡◌, ◌<◌, ◌+◌, ℕ, true, not, is_some, if◌then◌else◌, nat_eq, position};
+ghost use Rattle.std.specs.Prelude.{◌≡◌, ◌<◌, ◌+◌, ℕ, true, not, is_some, if◌then◌else◌, nat_eq, length, get_or};
 ghost use Rattle.std.specs.List.{count_by};
 ghost use Rattle.std.specs.Vec.{vec_len, vec_capacity};
 ghost use Rattle.slab.specs.Slab.{get};
@@ -66,23 +66,53 @@ pub fn put(order: &mut Vec<usize>, slab: &Slab<Listing>, key: usize)
     order.insert(place, key).unwrap();
 }
 
-/// The place of a key.
+/// The place of a key that stands there once, looked for from the front.
 #[inline(never)]
-fn place_of(order: &[usize], key: usize) -> Option<usize>
-    ensures { result ≡ position (λ other. nat_eq other key) order.now }
+fn first_place(order: &[usize], key: usize) -> usize
+    requires once { count_by (nat_eq key) order.now ≡ 1 }
+    ensures there { result < length order.now }
+    ensures key { get_or order.now result 0 ≡ key }
 {
-    order.iter().position(|other| *other == key)
+    let mut place = 0;
+    while order[place] != key {
+        place += 1;
+    }
+    place
+}
+
+/// The same, looked for from the back.
+#[inline(never)]
+fn last_place(order: &[usize], key: usize) -> usize
+    requires once { count_by (nat_eq key) order.now ≡ 1 }
+    ensures there { result < length order.now }
+    ensures key { get_or order.now result 0 ≡ key }
+{
+    let mut place = order.len() - 1;
+    while order[place] != key {
+        place -= 1;
+    }
+    place
+}
+
+/// The same, looked for from where it is nearer: what isn't due stands at the back.
+fn place_of(order: &[usize], key: usize, was_due: bool) -> usize
+    requires once { count_by (nat_eq key) order.now ≡ 1 }
+    ensures there { result < length order.now }
+    ensures key { get_or order.now result 0 ≡ key }
+{
+    if was_due {
+        return first_place(order, key);
+    }
+    last_place(order, key)
 }
 
 /// Takes out a key that stands there once.
-fn take_out(order: &mut Vec<usize>, key: usize)
+fn take_out(order: &mut Vec<usize>, key: usize, was_due: bool)
     requires once { count_by (nat_eq key) order.old.items ≡ 1 }
     ensures items { order.new.items ≡ without key order.old.items }
     ensures capacity { vec_capacity order.new ≡ vec_capacity order.old }
 {
-    if let Some(place) = place_of(order, key) {
-        order.remove(place);
-    }
+    order.remove(place_of(order, key, was_due));
 }
 
 /// Puts a key, whose entry was changed, where it belongs now. Where it is due as before it stays.
@@ -102,6 +132,6 @@ pub fn settle(
     if is_same(due_at(slab, key), before) {
         return;
     }
-    take_out(order, key);
+    take_out(order, key, before.is_some());
     put(order, slab, key);
 }
