@@ -1,0 +1,60 @@
+-- A call that lists a peer, over entries p, which are those of e that are still listed.
+use Rattle.std.proofs.Common.{◌≡◌, ℕ, true, false, length, filter, find, None, Some, sym, ap, ◌∙◌, subst}
+use Rattle.std.specs.Prelude.{unwrap_or, is_some, nat_lt}
+use Rattle.slab.specs.Slab.{get}
+use Rattle.td_base.specs.declared.ipv6.Ip6.{Ip6}
+use Rattle.peer_list.specs.declared.entries.Entries.{Entries}
+use Rattle.peer_list.specs.declared.limits.TheConstants.{MOST_PEERS}
+use Rattle.peer_list.specs.Peers.{Peer, no_peer}
+use Rattle.peer_list.specs.Waiting.{Listing}
+use Rattle.peer_list.specs.Table.{table, is_of, is_listed_at, peer_in, known_to, has_room_in}
+use Rattle.peer_list.specs.Calls.{Updates, Keeps}
+use Rattle.peer_list.specs.Entries.{listings_of, key_of, entry_under, with_peer_at, IsWhole, IsKept, IsAfter, Adds}
+use Rattle.peer_list.proofs.PlaceLemmas.{apart_of}
+use Rattle.peer_list.proofs.EntryLemmas.{finds, sound_of, length_of}
+use Rattle.peer_list.proofs.AdmitLemmas.{Purged, keeps_purged, keeps_same, was_there, room_there, was_nowhere, room_nowhere, updates_purged}
+use Rattle.peer_list.proofs.ChangeLemmas.{found_at, finds_at}
+use Rattle.peer_list.proofs.AddLemmas.{finds_added}
+
+module _ {e p : Entries} {m : ℕ} (was : IsKept e m) (kept : IsKept p m) (is : listings_of p ≡ filter (is_listed_at m) (listings_of e)) where
+  purge : Purged m (listings_of e) (listings_of p)
+  purge = record { apart = apart_of (sound_of e was.whole.names); is = is }
+
+  pub keeps : Keeps (table m (listings_of e)) (table m (listings_of p)) m
+  keeps = keeps_purged m (listings_of e) (listings_of p) purge
+
+  pub keeps_all : (new : Entries) → listings_of new ≡ listings_of p → Keeps (table m (listings_of e)) (table m (listings_of new)) m
+  keeps_all new same = keeps_same m (listings_of e) (listings_of p) (listings_of new) purge same
+
+  -- where an address has no key
+  nowhere : (who : Ip6) → key_of p who ≡ None → find (is_of who) (listings_of p) ≡ None
+  nowhere who none = finds p who kept.whole.names ∙ ap (entry_under p.slab) none
+
+  pub unlisted : (who : Ip6) → key_of p who ≡ None → peer_in (table m (listings_of e)) m who ≡ None
+  unlisted who none = was_nowhere m (listings_of e) (listings_of p) who purge (nowhere who none)
+
+  pub unknown : (who : Ip6) → key_of p who ≡ None → known_to (table m (listings_of e)) m who ≡ no_peer
+  unknown who none = ap (λ o. unwrap_or o no_peer) (unlisted who none)
+
+  pub room_is : (who : Ip6) → key_of p who ≡ None → has_room_in (table m (listings_of e)) m who ≡ nat_lt (length p.index.entries) MOST_PEERS
+  room_is who none = room_nowhere m (listings_of e) (listings_of p) who purge (nowhere who none) ∙ ap (λ n. nat_lt n MOST_PEERS) (length_of p kept.whole.names)
+
+  pub updates_added : (new : Entries) (l : Listing) (call : Peer → Peer) → key_of p l.who ≡ None → IsWhole new → Adds p new l → l.peer ≡ call no_peer
+      → Updates (table m (listings_of e)) (table m (listings_of new)) m l.who (call (known_to (table m (listings_of e)) m l.who))
+  updates_added new l call none w adds done =
+      subst (λ (x : Peer). Updates (table m (listings_of e)) (table m (listings_of new)) m l.who x) (done ∙ ap call (sym (unknown l.who none)))
+      (updates_purged m (listings_of e) (listings_of p) (listings_of new) l.who l purge (finds_added p new l kept.whole.names w.names adds))
+
+  -- where it has one, and an entry under it
+  module _ (who : Ip6) (key : ℕ) (l : Listing) (found : key_of p who ≡ Some key) (at : get p.slab key ≡ Some l) where
+    pub known : known_to (table m (listings_of e)) m who ≡ l.peer
+    known = was_there m (listings_of e) (listings_of p) who l purge (found_at p who key l kept.whole.names found at)
+
+    pub has_room : has_room_in (table m (listings_of e)) m who ≡ true
+    has_room = room_there m (listings_of e) (listings_of p) who l purge (found_at p who key l kept.whole.names found at)
+
+    pub updates_there : (new : Entries) (peer : Peer) (call : Peer → Peer) → IsAfter p new key l peer → peer ≡ call l.peer
+        → Updates (table m (listings_of e)) (table m (listings_of new)) m who (call (known_to (table m (listings_of e)) m who))
+    updates_there new peer call a done =
+        subst (λ (x : Peer). Updates (table m (listings_of e)) (table m (listings_of new)) m who x) (done ∙ ap call (sym known))
+        (updates_purged m (listings_of e) (listings_of p) (listings_of new) who (with_peer_at l peer) purge (finds_at p new key l peer a who kept.whole found))
