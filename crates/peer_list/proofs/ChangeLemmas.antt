@@ -15,10 +15,10 @@ use Rattle.peer_list.specs.Waiting.{Listing}
 use Rattle.peer_list.specs.Table.{table, is_of, peer_in, known_to}
 use Rattle.peer_list.specs.Calls.{Updates, touched_at}
 use Rattle.peer_list.specs.Sound.{IsSince}
-use Rattle.peer_list.specs.Entries.{listings_in, listings_of, key_of, entry_under, NameEachOther, due_at, AreInTurn, IsWhole, IsWholeBut, IsKept, with_peer_at, IsAfter}
+use Rattle.peer_list.specs.Entries.{listings_of, key_of, entry_under, NameEachOther, due_at, AreInTurn, IsWhole, IsWholeBut, IsKept, with_peer_at, IsAfter}
 use Rattle.peer_list.proofs.OrderLemmas.{turn_same}
 use Rattle.peer_list.proofs.ListingLemmas.{updates_by, known_there}
-use Rattle.peer_list.proofs.EntryLemmas.{Changes, finds, led, names_changed, once_changed, since_changed, entry_changed, turn_changed, listings_same}
+use Rattle.peer_list.proofs.EntryLemmas.{Changes, finds, led, names_changed, once_changed, since_changed, entry_changed, turn_changed}
 
 pub is_there : (s : Slab Listing) (key : ℕ) (l : Listing) → get s key ≡ Some l → ContainsKey s key
 is_there s key l was = ap is_some was

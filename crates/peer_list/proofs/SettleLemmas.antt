@@ -9,7 +9,6 @@ use Rattle.peer_list.specs.Peers.{Peer}
 use Rattle.peer_list.specs.Waiting.{Listing}
 use Rattle.peer_list.specs.Table.{Table, table, is_of, peer_in, known_to}
 use Rattle.peer_list.specs.Calls.{Updates}
-use Rattle.peer_list.specs.Sound.{IsSince}
 use Rattle.peer_list.specs.Entries.{listings_of, key_of, due_at, AreInTurn, IsWhole, IsWholeBut, IsKept, with_peer_at, IsAfter}
 use Rattle.peer_list.proofs.ListingLemmas.{has_listing}
 use Rattle.peer_list.proofs.ChangeLemmas.{known_at, whole_but, turn_still, kept_after, updates_after, since_touched, since_untouched}

@@ -1,7 +1,8 @@
 //! The entries of the listed peers: a slab, and what leads to its keys.
-ghost use Rattle.std.specs.Prelude.{◌≡◌, ◌≤◌, ◌<◌, ℕ, Some, None, find, filter, length, option_map, is_some, true, nat_lt, [], OnOk, OnErr};
+ghost use Rattle.std.specs.Prelude.{◌≡◌, ◌≤◌, ◌<◌, ℕ, Some, None, find, filter, length, option_map, is_some, true, false, nat_lt, [], OnOk, OnErr};
 ghost use Rattle.slab.specs.Slab.{get, ContainsKey};
 ghost use Rattle.peer_list.specs.Table.{table, is_of, is_listed_at, listed_in, waiting_in, first_due_in, due_and_who};
+ghost use Rattle.peer_list.specs.Overdue.{due_moment, IsNoSooner};
 ghost use Rattle.peer_list.specs.declared.limits.TheConstants.{MOST_PEERS};
 ghost use Rattle.peer_list.specs.Sound.{NoneBefore};
 ghost use Rattle.peer_list.specs.Entries.{listings_of, entry_of, key_of, IsWhole, IsWholeBut, due_at, AreInTurn, IsSinceAll, IsKept, Adds, SameEntries};
@@ -110,11 +111,22 @@ impl Entries {
     }
 
     /// What is due before none of the entries, be they listed or not.
-    pub fn first(&self) -> Option<(Millis, Ip6)>
+    fn first(&self) -> Option<(Millis, Ip6)>
         requires whole { IsWhole self.now }
         ensures { NoneBefore result (listings_of self.now) }
     {
         order::due_at(&self.slab, *self.order.first()?)
+    }
+
+    /// Whether one of them may be due before a moment, be it listed then or not.
+    pub fn may_be_due_before(&self, moment: Millis) -> bool
+        requires whole { IsWhole self.now }
+        ensures { result ≡ false → (n : ℕ) → IsNoSooner moment.0 (option_map due_moment (first_due_in (table n (listings_of self.now)) n)) }
+    {
+        match self.first() {
+            None => false,
+            Some((at, _)) => at.0 < moment.0,
+        }
     }
 
     /// When the next try is due, and whose: that of the first that is listed.

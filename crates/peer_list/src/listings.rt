@@ -1,9 +1,7 @@
 //! What lists a peer.
-ghost use Rattle.std.specs.Prelude.{◌≡◌, ◌≤◌, ℕ, true, false, List, length, option_map, Some, OnOk, OnErr};
+ghost use Rattle.std.specs.Prelude.{◌≡◌, ◌≤◌, true, length, Some, OnOk, OnErr};
 ghost use Rattle.ipv6_packet.specs.declared.header.TheConstants.{PACKET_MAX};
-ghost use Rattle.peer_list.specs.Table.{table, known_to, has_room_in, first_due_in};
-ghost use Rattle.peer_list.specs.Overdue.{due_moment, IsNoSooner};
-ghost use Rattle.peer_list.specs.Sound.{AreSound, NoneBefore};
+ghost use Rattle.peer_list.specs.Table.{table, known_to, has_room_in};
 ghost use Rattle.peer_list.specs.Calls.{touched_at, queued_at, Updates, Keeps, Admits, Queues};
 ghost use Rattle.slab.specs.Slab.{get, ContainsKey};
 ghost use Rattle.peer_list.specs.Waiting.{Listing as Kept};
@@ -21,16 +19,6 @@ use td_base::{Ip6, Millis};
 pub struct Listing {
     pub who: Ip6,
     pub peer: Peer,
-}
-
-/// Whether what comes before none may be due before a moment.
-pub fn may_be_due_before(first: Option<(Millis, Ip6)>, moment: Millis) -> bool
-    ensures { result ≡ false → (n : ℕ) (ls : List Kept) → AreSound ls → NoneBefore first ls → IsNoSooner moment.0 (option_map due_moment (first_due_in (table n ls) n)) }
-{
-    match first {
-        None => false,
-        Some((at, _)) => at.0 < moment.0,
-    }
 }
 
 /// Lists and touches a peer, after all that aren't listed any more are taken out.

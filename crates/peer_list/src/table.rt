@@ -284,7 +284,7 @@ impl Peers {
     pub fn may_be_due_before(&self, moment: Millis) -> bool
         ensures { result ≡ false → (n : ℕ) → IsNoSooner moment.0 (option_map due_moment (first_due_in self.now n)) }
     {
-        listings::may_be_due_before(self.entries.first(), moment)
+        self.entries.may_be_due_before(moment)
     }
 
     /// How many packets wait, for all listed peers.

@@ -1,4 +1,4 @@
-use Rattle.std.proofs.Common.{◌≡◌, ◌<◌, ℕ, List, length, get_or, ap, ◌∙◌, subst}
+use Rattle.std.proofs.Common.{◌≡◌, ◌<◌, ℕ, List, length, get_or, ◌∙◌, subst}
 use Rattle.peer_list.proofs.OrderLemmas.{taken_out}
 use Rattle.peer_list.proofs.order.take_out.Goals as goal
 

@@ -3,10 +3,7 @@ use Rattle.std.specs.Prelude.{option_map}
 use Rattle.peer_list.specs.Overdue.{due_moment, IsNoSooner}
 use Rattle.peer_list.specs.Entries.{listings_of}
 use Rattle.peer_list.proofs.TableLemmas.{other_first}
-use Rattle.peer_list.proofs.EntryLemmas.{sound_of}
 use Rattle.peer_list.proofs.table.Peers.may_be_due_before.Goals as goal
 
 pub returns : goal.returns
-returns c late n =
-    let e = c.self.inside.entries in
-    rw (← c.self.view_is) (subst (IsNoSooner c.args.moment.0) (ap (option_map due_moment) (other_first n c.self.inside.moment.0 n (listings_of e))) (c.may_be_due_before.ensures late n (listings_of e) (sound_of e c.self.invariant.whole.names) c.first.ensures))
+returns c late n = rw (← c.self.view_is) (subst (IsNoSooner c.args.moment.0) (ap (option_map due_moment) (other_first n c.self.inside.moment.0 n (listings_of c.self.inside.entries))) (c.may_be_due_before.ensures late n))
