@@ -11,6 +11,7 @@ ghost use Rattle.nat_kinds.specs.declared.limits.TheConstants.{FIRST_PORT, MOST_
 use crate::kind::NatKind;
 use crate::outgoing::Outward;
 use crate::places::{at, set, widen};
+use crate::settings::NatSettings;
 use crate::way::{Way, key_of};
 use std::alloc::AllocError;
 use std::collections::HashMap;
@@ -23,23 +24,22 @@ pub type Index = HashMap<Way, u16>;
 pub fn held_port(
     places: &[Option<Outward>],
     index: &Index,
-    kind: NatKind,
-    idle: u32,
+    settings: &NatSettings,
     now: Millis,
     inside: Ep,
     dst: Ep,
 ) -> Option<u16>
-    requires indexed { IsIndexed kind places.now index.now.entries }
-    ensures live { IfSome result (IsLiveAt kind idle now.0 places.now inside dst) }
-    ensures none { IfNone result (HasNoLive kind idle now.0 places.now inside dst) }
+    requires indexed { IsIndexed settings.now.kind places.now index.now.entries }
+    ensures live { IfSome result (IsLiveAt settings.now.kind settings.now.idle now.0 places.now inside dst) }
+    ensures none { IfNone result (HasNoLive settings.now.kind settings.now.idle now.0 places.now inside dst) }
 {
-    let Some(port) = port_of(index, key_of(kind, inside, dst)) else {
+    let Some(port) = port_of(index, key_of(settings.kind, inside, dst)) else {
         return None;
     };
     let Some(sent) = at(places, port) else {
         return None;
     };
-    if !sent.is_young(idle, now) {
+    if !sent.is_young(settings.idle, now) {
         return None;
     }
     Some(port)

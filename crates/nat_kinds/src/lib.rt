@@ -25,6 +25,7 @@
 //! | module | holds | stated in |
 //! |---|---|---|
 //! | `kind`, `refusal`, `settings`, `limits` | the small types, the ports that are given | |
+//! | `departure` | a datagram that is to go out | |
 //! | `outgoing` | `Outward`: its age, its key | `specs/History.antt`, `Mappings.antt` |
 //! | `way` | what mappings and permissions are found by | `specs/Way.antt` |
 //! | `places`, `index` | the latest datagram of each port, and the port of each key | `specs/Places.antt` |
@@ -35,6 +36,7 @@
 #![tactic(auto)]
 
 mod asked;
+mod departure;
 mod index;
 mod kind;
 mod laws;

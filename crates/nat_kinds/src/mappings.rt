@@ -10,6 +10,7 @@ ghost use Rattle.nat_kinds.specs.declared.outgoing.Outward.{Outward};
 ghost use Rattle.nat_kinds.specs.declared.way.Way.{Way};
 
 use crate::asked::{self, Asked};
+use crate::departure::Departure;
 use crate::index::{self, Index};
 use crate::kind::NatKind;
 use crate::outgoing::Outward;
@@ -32,15 +33,7 @@ fn port_for(
         result ≡ port_for (live_port settings.now.kind inside dst (latest settings.now.kind outs)) (latest settings.now.kind outs) }
     ensures next { IfOk result (IsNext places.now) }
 {
-    if let Some(port) = index::held_port(
-        places,
-        index,
-        settings.kind,
-        settings.idle,
-        now,
-        inside,
-        dst,
-    ) {
+    if let Some(port) = index::held_port(places, index, settings, now, inside, dst) {
         return Ok(port);
     }
     places::lowest_free(places, settings.idle, now).ok_or(NatRefusal::Full)
@@ -79,26 +72,29 @@ pub fn send(
     index: &mut Index,
     asked: &mut Asked,
     settings: &NatSettings,
-    now: Millis,
-    inside: Ep,
-    dst: Ep,
+    departure: Departure,
 ) -> Result<Ep, NatRefusal>
     requires indexed { IsIndexed settings.now.kind places.old.items index.old.entries }
     ensures indexed { IsIndexed settings.now.kind places.new.items index.new.entries }
-    ensures answer { (outs : List Outward) → Sound settings.now.kind outs → Shows settings.now.idle now.0 places.old.items outs →
-        GivesAnswer settings.now (answer_of settings.now (latest settings.now.kind outs) inside dst) result }
-    ensures put { IfOk result (λ ep. IsPutIn settings.now.kind places.old.items places.new.items (record { moment = now; inside = inside; dst = dst; port = ep.port })) }
-    ensures noted { IfOk result (λ ep. IsNoted settings.now.kind asked.old.entries asked.new.entries (record { moment = now; inside = inside; dst = dst; port = ep.port })) }
+    ensures answer { (outs : List Outward) → Sound settings.now.kind outs → Shows settings.now.idle departure.moment.0 places.old.items outs →
+        GivesAnswer settings.now (answer_of settings.now (latest settings.now.kind outs) departure.inside departure.dst) result }
+    ensures put { IfOk result (λ ep. IsPutIn settings.now.kind places.old.items places.new.items (record { moment = departure.moment; inside = departure.inside; dst = departure.dst; port = ep.port })) }
+    ensures noted { IfOk result (λ ep. IsNoted settings.now.kind asked.old.entries asked.new.entries (record { moment = departure.moment; inside = departure.inside; dst = departure.dst; port = ep.port })) }
     ensures same { OnErr result ((p : ℕ) → place_at places.new.items p ≡ place_at places.old.items p) }
     ensures same_asked { OnErr result ((way : Way) → asked_at asked.new.entries way ≡ asked_at asked.old.entries way) }
     ensures once { IsOnce asked.old.entries → IsOnce asked.new.entries }
 {
+    let Departure {
+        moment,
+        inside,
+        dst,
+    } = departure;
     if dst.ip == settings.external {
         return Err(NatRefusal::Hairpin);
     }
-    let port = port_for(places, index, settings, now, inside, dst)?;
+    let port = port_for(places, index, settings, moment, inside, dst)?;
     let sent = Outward {
-        moment: now,
+        moment,
         inside,
         dst,
         port,

@@ -6,6 +6,7 @@ ghost use Rattle.nat_kinds.specs.Entering.{lets_in};
 ghost use Rattle.nat_kinds.specs.Nat.{StandsFor, StandsAsBefore};
 
 use crate::asked::{self, Asked};
+use crate::departure::Departure;
 use crate::index::Index;
 use crate::kind::NatKind;
 use crate::mappings;
@@ -78,14 +79,17 @@ impl Nat {
     {
         self.moment = now;
         asked::sweep(&mut self.asked, &mut self.swept, self.settings.idle, now);
+        let departure = Departure {
+            moment: now,
+            inside,
+            dst,
+        };
         mappings::send(
             &mut self.places,
             &mut self.index,
             &mut self.asked,
             &self.settings,
-            now,
-            inside,
-            dst,
+            departure,
         )
     }
 

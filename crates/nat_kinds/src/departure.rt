@@ -1,0 +1,9 @@
+use td_base::{Ep, Millis};
+
+/// A datagram that is to go out: when, from which inside endpoint, and where to.
+#[derive(Clone, Copy, Debug)]
+pub struct Departure {
+    pub moment: Millis,
+    pub inside: Ep,
+    pub dst: Ep,
+}
