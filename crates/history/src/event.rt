@@ -1,5 +1,5 @@
 use crate::target::Target;
-use td_base::Ep;
+use td_base::{DATAGRAM_MAX, Ep};
 use td_outside::Octets;
 
 /// The most events of a scenario.
@@ -17,8 +17,8 @@ pub const MOST_SEQUENCE: u16 = 65_535;
 /// The most bytes of a body that a host sends.
 pub const MOST_BODY: usize = 1_240;
 
-/// The most bytes of a datagram or packet that an event gives.
-pub const MOST_BYTES: usize = 1_400;
+/// The most bytes of a datagram or packet that an event gives: what the wire carries.
+pub const MOST_BYTES: usize = DATAGRAM_MAX;
 
 /// What a scenario asks for. Nodes stand by their numbers.
 #[derive(Drop)]
