@@ -1,8 +1,8 @@
 ghost use Rattle.std.specs.Prelude.{◌≡◌, ◌≤◌, ◌+◌, List, [], length, None, Ok, Err, slice_get, option_map, IfSome, IfOk, IfErr, OnErr};
 ghost use Rattle.history.specs.declared.event.Event.TheVariants as event;
-ghost use Rattle.history.specs.declared.event.TheConstants.{MOST_ADVANCE};
+ghost use Rattle.history.specs.declared.event.TheConstants.{MOST_ADVANCE, MOST_BYTES};
 ghost use Rattle.history.specs.Events.{IsEvent};
-ghost use Rattle.history.specs.Full.{Full};
+ghost use Rattle.history.specs.Full.{Full, bytes_of};
 ghost use Rattle.legal.specs.Past.{Draws};
 ghost use Rattle.legal.specs.Next.{next_of};
 ghost use Rattle.legal.specs.Legal.{draws};
@@ -79,7 +79,8 @@ impl<'a> World<'a> {
 
     /// The entry of a number, if there is one.
     pub fn entry(&self, number: u32) -> Option<WireEntry<'_>>
-        ensures { option_map item_lent result ≡ slice_get self.now.wire number }
+        ensures lent { option_map item_lent result ≡ slice_get self.now.wire number }
+        ensures short { IfSome result (λ entry. length (bytes_of (item_lent entry)) ≤ MOST_BYTES) }
     {
         self.wire.get(number as usize)
     }
