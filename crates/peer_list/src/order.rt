@@ -67,6 +67,7 @@ pub fn put(order: &mut Vec<usize>, slab: &Slab<Listing>, key: usize)
 }
 
 /// The place of a key that stands there once, looked for from the front.
+// Inlined into its callers, the scan of 256 keys took 20 ns more.
 #[inline(never)]
 fn first_place(order: &[usize], key: usize) -> usize
     requires once { count_by (nat_eq key) order.now ≡ 1 }
@@ -81,6 +82,7 @@ fn first_place(order: &[usize], key: usize) -> usize
 }
 
 /// The same, looked for from the back.
+// As above.
 #[inline(never)]
 fn last_place(order: &[usize], key: usize) -> usize
     requires once { count_by (nat_eq key) order.now ≡ 1 }
