@@ -1,6 +1,6 @@
 -- When something is due of a client, and how much.
 use Rattle.std.proofs.Common.{◌≡◌, ◌≤◌, ◌<◌, ◌+◌, ℕ, Bool, true, false, Option, Some, None, refl, ap, sym, subst, ◌∙◌, arith}
-use Rattle.std.specs.Prelude.{if◌then◌else◌, option_map, unwrap_or, is_some, nat_lt, nat_le, nat_eq}
+use Rattle.std.specs.Prelude.{max, IfSome, if◌then◌else◌, option_map, unwrap_or, is_some, nat_lt, nat_le, nat_eq}
 use Rattle.std.specs.Ordering.{nat_cmp, is_lt}
 use Rattle.std.specs.declared.cmp.Ordering.TheVariants.{Less, Equal, Greater}
 use Rattle.std.proofs.Math.Nat.{le_refl}
@@ -85,42 +85,57 @@ already c n q e l = let is = owes_phase c n (ap (λ (d : Option ℕ). is_due n d
 peers_owe : (c : Client) (n : ℕ) → 0 < overdue_in c.peers n → 0 < owing c n
 peers_owe c n some = omega (arith, some)
 
-first_of_both : (c : Client) (n q : ℕ) (l : Listing) (at : Millis) (b : Bool) → c.qualifier.now.due ≡ Some q → IsFirstOverdue c.peers n l
+-- packets that wait for the peer that is due first are due when it is, or now where that is past
+abbrev Lasts : Client → ℕ → Option Listing → Type 0
+Lasts c n first = IfSome first (λ (l : Listing). 0 < overdue_in c.peers (max n (due_of l.peer)))
+
+first_of_both : (c : Client) (n q : ℕ) (l : Listing) (at : Millis) (b : Bool) → c.qualifier.now.due ≡ Some q → IsFirstOverdue c.peers n l → Lasts c n (Some l)
     → nat_lt (due_of l.peer) q ≡ b → Some at.0 ≡ (if b then Some (due_of l.peer) else Some q) → IsFirstDue (owing c) n (Some at)
-first_of_both c n q l at true e f t is =
+first_of_both c n q l at true e f lasts t is =
     let same : at.0 ≡ due_of l.peer = cc in
     let earlier = ltb-true (due_of l.peer) q t in (
       (λ m le lt. owes_nothing c m (not_yet c m q e (omega (arith, same, earlier, lt))) (f.before m le (omega (arith, same, lt)))),
-      (λ le. peers_owe c n (f.now (omega (arith, same, le)))),
+      subst (λ (m : ℕ). 0 < owing c (max n m)) (sym same) (peers_owe c (max n (due_of l.peer)) lasts),
     )
-first_of_both c n q l at false e f t is =
+first_of_both c n q l at false e f lasts t is =
     let same : at.0 ≡ q = cc in
     let later = ltb-false (due_of l.peer) q t in (
       (λ m le lt. owes_nothing c m (not_yet c m q e (omega (arith, same, lt))) (f.before m le (omega (arith, same, later, lt)))),
-      (λ le. already c n q e (omega (arith, same, le))),
+      already c (max n at.0) q e (omega (arith, same)),
     )
 
-by_both : (law : Below) (c : Client) (n : ℕ) (qd : Option ℕ) (fd : Option Listing) (d : Option Millis) → c.qualifier.now.due ≡ qd → first_due_in c.peers n ≡ fd
+by_both : (law : Below) (c : Client) (n : ℕ) (qd : Option ℕ) (fd : Option Listing) (d : Option Millis) → c.qualifier.now.due ≡ qd → first_due_in c.peers n ≡ fd → Lasts c n fd
     → option_map (λ (m : Millis). m.0) d ≡ sooner qd (option_map (λ (l : Listing). due_of l.peer) fd) → IsFirstDue (owing c) n d
-by_both law c n None None None e f is = λ m le. owes_nothing c m (never c m e) (law.nothing_overdue c.peers n m le f)
-by_both law c n None None (Some at) e f is = absurd (false≢true (sym (ap (λ (o : Option ℕ). is_some o) is)))
-by_both law c n None (Some l) None e f is = absurd (false≢true (ap (λ (o : Option ℕ). is_some o) is))
-by_both law c n None (Some l) (Some at) e f is =
+by_both law c n None None None e f lasts is = λ m le. owes_nothing c m (never c m e) (law.nothing_overdue c.peers n m le f)
+by_both law c n None None (Some at) e f lasts is = absurd (false≢true (sym (ap (λ (o : Option ℕ). is_some o) is)))
+by_both law c n None (Some l) None e f lasts is = absurd (false≢true (ap (λ (o : Option ℕ). is_some o) is))
+by_both law c n None (Some l) (Some at) e f lasts is =
     let first = law.first_overdue c.peers n l f in
-    let same : at.0 ≡ due_of l.peer = cc in
-    ((λ m le lt. owes_nothing c m (never c m e) (first.before m le (omega (arith, same, lt)))), (λ le. peers_owe c n (first.now (omega (arith, same, le)))))
-by_both law c n (Some q) None None e f is = absurd (false≢true (ap (λ (o : Option ℕ). is_some o) is))
-by_both law c n (Some q) None (Some at) e f is =
+    let same : at.0 ≡ due_of l.peer = cc in (
+      (λ m le lt. owes_nothing c m (never c m e) (first.before m le (omega (arith, same, lt)))),
+      subst (λ (m : ℕ). 0 < owing c (max n m)) (sym same) (peers_owe c (max n (due_of l.peer)) lasts),
+    )
+by_both law c n (Some q) None None e f lasts is = absurd (false≢true (ap (λ (o : Option ℕ). is_some o) is))
+by_both law c n (Some q) None (Some at) e f lasts is =
     let same : at.0 ≡ q = cc in
-    ((λ m le lt. owes_nothing c m (not_yet c m q e (omega (arith, same, lt))) (law.nothing_overdue c.peers n m le f)), (λ le. already c n q e (omega (arith, same, le))))
-by_both law c n (Some q) (Some l) None e f is = none_of_two (nat_lt (due_of l.peer) q) is where
+    ((λ m le lt. owes_nothing c m (not_yet c m q e (omega (arith, same, lt))) (law.nothing_overdue c.peers n m le f)), already c (max n at.0) q e (omega (arith, same)))
+by_both law c n (Some q) (Some l) None e f lasts is = none_of_two (nat_lt (due_of l.peer) q) is where
   none_of_two : (b : Bool) → None ≡ (if b then Some (due_of l.peer) else Some q) → IsFirstDue (owing c) n None
   none_of_two true k = absurd (false≢true (ap (λ (o : Option ℕ). is_some o) k))
   none_of_two false k = absurd (false≢true (ap (λ (o : Option ℕ). is_some o) k))
-by_both law c n (Some q) (Some l) (Some at) e f is = first_of_both c n q l at (nat_lt (due_of l.peer) q) e (law.first_overdue c.peers n l f) refl is
+by_both law c n (Some q) (Some l) (Some at) e f lasts is = first_of_both c n q l at (nat_lt (due_of l.peer) q) e (law.first_overdue c.peers n l f) lasts refl is
 
-pub first_due_holds : (law : Below) (c : Client) (n : ℕ) (d : Option Millis) → option_map (λ (m : Millis). m.0) d ≡ sooner c.qualifier.now.due (option_map (λ (l : Listing). due_of l.peer) (first_due_in c.peers n)) → IsFirstDue (owing c) n d
-first_due_holds law c n d is = by_both law c n c.qualifier.now.due (first_due_in c.peers n) d refl refl is
+-- as the moment of the first try says it
+lasts_by : (c : Client) (n : ℕ) (first : Option Listing) (try : Option Millis) → option_map (λ (m : Millis). m.0) try ≡ option_map (λ (l : Listing). due_of l.peer) first
+    → IfSome try (λ (m : Millis). 0 < overdue_in c.peers (max n m.0)) → Lasts c n first
+lasts_by c n None try is some = tt
+lasts_by c n (Some l) None is some = absurd (false≢true (ap (λ (o : Option ℕ). is_some o) is))
+lasts_by c n (Some l) (Some m) is some = let same : m.0 ≡ due_of l.peer = cc in subst (λ (k : ℕ). 0 < overdue_in c.peers (max n k)) same some
+
+pub first_due_holds : (law : Below) (c : Client) (n : ℕ) (try d : Option Millis) → option_map (λ (m : Millis). m.0) try ≡ option_map (λ (l : Listing). due_of l.peer) (first_due_in c.peers n)
+    → IfSome try (λ (m : Millis). 0 < overdue_in c.peers (max n m.0)) → option_map (λ (m : Millis). m.0) d ≡ sooner c.qualifier.now.due (option_map (λ (m : Millis). m.0) try) → IsFirstDue (owing c) n d
+first_due_holds law c n try d first lasts is =
+    by_both law c n c.qualifier.now.due (first_due_in c.peers n) d refl refl (lasts_by c n (first_due_in c.peers n) try first lasts) (is ∙ ap (sooner c.qualifier.now.due) first)
 
 -- OF THE PHASE OR THE REFRESH
 

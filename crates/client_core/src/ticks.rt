@@ -1,10 +1,10 @@
 //! What a client does where something is due.
-ghost use Rattle.std.specs.Prelude.{◌≡◌, ◌≤◌, ℕ, true, false, None, Some, is_some, option_map, IfSome};
+ghost use Rattle.std.specs.Prelude.{◌≡◌, ◌≤◌, ◌<◌, ℕ, max, true, false, None, Some, is_some, option_map, IfSome};
 ghost use Rattle.teredo_node.specs.Journal.{Journal, ticked};
 ghost use Rattle.teredo_node.specs.Due.{IsFirstDue, Idles, Lessens};
 ghost use Rattle.peer_list.specs.Judged.{is_none, due_of};
 ghost use Rattle.peer_list.specs.Table.{peer_in, known_to, first_due_in};
-ghost use Rattle.peer_list.specs.Overdue.{IsNoSooner};
+ghost use Rattle.peer_list.specs.Overdue.{IsNoSooner, overdue_in};
 ghost use Rattle.qualify.specs.Solicitations.{is_due, own_address};
 ghost use Rattle.teredo_addr.specs.Teredo.{is_teredo};
 ghost use Rattle.client_core.specs.Client.{settings_of, words_ahead, ClientStandsFor, IsCallable, Enters, Does, AsBefore};
@@ -182,7 +182,8 @@ impl Client {
     /// When the next try at a peer is due.
     fn first_try(&self, now: Millis) -> Option<Millis>
         requires clock { self.now.peers.moment ≤ now.0 }
-        ensures { option_map (λ m. m.0) result ≡ option_map (λ l. due_of l.peer) (first_due_in self.now.peers now.0) }
+        ensures first { option_map (λ m. m.0) result ≡ option_map (λ l. due_of l.peer) (first_due_in self.now.peers now.0) }
+        ensures lasts { IfSome result (λ at. 0 < overdue_in self.now.peers (max now.0 at.0)) }
     {
         let (at, _) = self.peers.due(now)?;
         Some(at)

@@ -64,7 +64,7 @@ later_by n m (Some x) l h =
       by_test true e k = e
       by_test false e k = absurd (false≢true k)
 
-later_same : (t : Table) (n m : ℕ) (p : Ip6) → n ≤ m → is_some (peer_in t m p) ≡ true → peer_in t m p ≡ peer_in t n p
+pub later_same : (t : Table) (n m : ℕ) (p : Ip6) → n ≤ m → is_some (peer_in t m p) ≡ true → peer_in t m p ≡ peer_in t n p
 unfolding peer_in
 later_same t n m p l h = later_by n m (find (is_of p) t.listings) l h
 
@@ -159,13 +159,16 @@ before_first t n m first l e early = none_of (λ p. length (while_due m (known_t
       by_waiting p before true w = due_none m (known_to t n p) w
       by_waiting p before false w = let later = no_earlier (known_to t n) (listed_in t n) first p e before w in due_later m (known_to t n p) (omega (arith, early, later))
 
-at_first : (t : Table) (n : ℕ) (first : Ip6) → first_among (known_to t n) (listed_in t n) ≡ Some first → due_of (known_to t n first) ≤ n → 0 < overdue_in t n
+-- something is due where packets wait for a listed peer that is due
+pub overdue_of : (t : Table) (n : ℕ) (p : Ip6) → is_some (peer_in t n p) ≡ true → is_none (known_to t n p).waiting ≡ false → due_of (known_to t n p) ≤ n → 0 < overdue_in t n
 unfolding overdue_in waiting_among
-at_first t n first e past =
-    let parts = first_of (known_to t n) (listed_in t n) first e in
-    let some : 0 < length (while_due n (known_to t n first)).waiting = subst (λ (q : Peer). 0 < length q.waiting) (sym (due_now n (known_to t n first) past)) (some_waiting (known_to t n first).waiting parts.0) in
-    let less = less_of (λ _. 0) (λ p. length (while_due n (known_to t n p)).waiting) first (listed_in t n) (λ q. omega arith) some parts.1 in
+overdue_of t n p listed waits past =
+    let some : 0 < length (while_due n (known_to t n p)).waiting = subst (λ (q : Peer). 0 < length q.waiting) (sym (due_now n (known_to t n p) past)) (some_waiting (known_to t n p).waiting waits) in
+    let less = less_of (λ _. 0) (λ q. length (while_due n (known_to t n q)).waiting) p (listed_in t n) (λ q. omega arith) some (members t n p ∙ listed) in
     omega (arith, less)
+
+at_first : (t : Table) (n : ℕ) (first : Ip6) → first_among (known_to t n) (listed_in t n) ≡ Some first → due_of (known_to t n first) ≤ n → 0 < overdue_in t n
+at_first t n first e past = let parts = first_of (known_to t n) (listed_in t n) first e in overdue_of t n first (sym (members t n first) ∙ parts.1) parts.0 past
 
 first_by : (t : Table) (n : ℕ) (l : Listing) (o : Option Ip6) → first_among (known_to t n) (listed_in t n) ≡ o → option_map (λ p. record { who = p; peer = known_to t n p }) o ≡ Some l → IsFirstOverdue t n l
 first_by t n l None e k = absurd (false≢true (ap is_some k))

@@ -10,7 +10,9 @@ use Rattle.peer_list.specs.Waiting.{Listing}
 use Rattle.peer_list.specs.Table.{Table, table, is_of, peer_in, known_to}
 use Rattle.peer_list.specs.Calls.{Updates}
 use Rattle.peer_list.specs.Entries.{listings_of, key_of, due_at, AreInTurn, IsWhole, IsWholeBut, IsKept, with_peer_at, IsAfter}
+use Rattle.peer_list.specs.Timely.{IsTimely, AreTimely, IsHeld}
 use Rattle.peer_list.proofs.ListingLemmas.{has_listing}
+use Rattle.peer_list.proofs.TimelyLemmas.{timely_updated}
 use Rattle.peer_list.proofs.ChangeLemmas.{known_at, whole_but, turn_still, kept_after, updates_after, since_touched, since_untouched}
 
 -- BEFORE THE KEY IS SETTLED
@@ -62,3 +64,10 @@ module _ (e : Entries) (k n : ℕ) (who : Ip6) (v : Table) (is : table k (listin
   updates_by_call new key l peer call w listed found a done =
       subst (λ (p : Peer). Updates v (table n (listings_of new)) n who p) (done ∙ ap call (sym (known_is key l w listed found a.was)))
       (subst (λ (t : Table). Updates t (table n (listings_of new)) n who peer) is (updates_after e new key l peer a k n who w found))
+
+  -- and it is due while it is listed
+  pub held_by_call : (new : Entries) (key : ℕ) (l : Listing) (peer : Peer) (call : Peer → Peer) → IsHeld e k → v.moment ≤ n → is_some (peer_in v n who) ≡ true → key_of e who ≡ Some key → IsAfter e new key l peer → peer ≡ call l.peer
+      → IsKept new n → (AreTimely v → v.moment ≤ n → IsTimely n (call (known_to v n who))) → IsHeld new n
+  held_by_call new key l peer call held clock listed found a done kept so =
+      let before : AreTimely v = subst AreTimely is held.timely in
+      record { kept = kept; timely = timely_updated v (table n (listings_of new)) n who (call (known_to v n who)) before clock (so before clock) (updates_by_call new key l peer call held.kept.whole listed found a done) }

@@ -5,6 +5,7 @@ ghost use Rattle.td_outside.specs.declared.clock.TheConstants.{CLOCK_END_MS};
 ghost use Rattle.peer_list.specs.Judged.{is_trusted_at, is_fresh, is_spent, is_barred, is_full};
 ghost use Rattle.peer_list.specs.Table.{empty_table, peer_in, known_to, listed_in, has_room_in, waiting_in, first_due_in, due_and_who};
 ghost use Rattle.peer_list.specs.Overdue.{due_moment, IsNoSooner};
+ghost use Rattle.peer_list.specs.Timely.{FirstLasts};
 ghost use Rattle.peer_list.specs.Calls.{touched_at, trusted_at, heard_at, tried_at, queued_at, emptied, Updates, Keeps, Admits, Queues, sends_of};
 ghost use Rattle.peer_list.specs.Stands.{StandsForMentions};
 
@@ -28,13 +29,14 @@ pub struct Peers {
 
 impl Model for Peers {
     ghost use Rattle.peer_list.specs.Table.{Table};
-    ghost use Rattle.peer_list.specs.Entries.{listings_of, IsKept};
+    ghost use Rattle.peer_list.specs.Entries.{listings_of};
+    ghost use Rattle.peer_list.specs.Timely.{IsHeld};
 
     ghost Value = { Table };
 
     ghost view = { λ s. record { moment = s.moment.0; listings = listings_of s.entries } };
 
-    ghost invariant = { λ s. IsKept s.entries s.moment.0 };
+    ghost invariant = { λ s. IsHeld s.entries s.moment.0 };
 }
 
 impl Peers {
@@ -271,10 +273,12 @@ impl Peers {
         count
     }
 
-    /// When the next try is due, and whose: of those for whom packets wait the earliest, then the least address.
+    /// When the next try is due, and whose: of those for whom packets wait the earliest, then the least address. That
+    /// one is still listed when it is due.
     pub fn due(&self, now: Millis) -> Option<(Millis, Ip6)>
         requires clock { self.now.moment ≤ now.0 }
-        ensures { result ≡ option_map due_and_who (first_due_in self.now now.0) }
+        ensures first { result ≡ option_map due_and_who (first_due_in self.now now.0) }
+        ensures lasts { FirstLasts self.now now.0 result }
     {
         self.entries.due(now)
     }

@@ -1,6 +1,6 @@
 -- When something is due of a relay, and how much.
-use Rattle.std.proofs.Common.{◌≡◌, ◌≤◌, ◌+◌, ℕ, Bool, true, false, Option, Some, None, refl, ap, sym, subst, ◌∙◌, arith, List}
-use Rattle.std.specs.Prelude.{if◌then◌else◌, option_map, unwrap_or, is_some, nat_lt, nat_le, nat_eq}
+use Rattle.std.proofs.Common.{◌≡◌, ◌≤◌, ◌<◌, ◌+◌, ℕ, Bool, true, false, Option, Some, None, refl, ap, sym, subst, ◌∙◌, arith, List}
+use Rattle.std.specs.Prelude.{max, IfSome, if◌then◌else◌, option_map, unwrap_or, is_some, nat_lt, nat_le, nat_eq}
 use Rattle.std.specs.Ordering.{nat_cmp, is_lt}
 use Rattle.std.specs.declared.cmp.Ordering.TheVariants.{Less, Equal, Greater}
 use Rattle.std.proofs.Math.Nat.{le_refl}
@@ -39,17 +39,18 @@ pub none_sooner : (law : Below) (r : Relay) (m : ℕ) → ((n : ℕ) → IsNoSoo
 none_sooner law r m peers j n h l = subst (IsNoSooner m) (due_told law r n (option_map due_moment (first_due_in r.peers n)) l refl j h) (peers n)
 
 first_due_by : (law : Below) (r : Relay) (n : ℕ) (first : Option Listing) (d : Option Millis) → first_due_in r.peers n ≡ first
-    → option_map (λ (m : Millis). m.0) d ≡ option_map (λ (l : Listing). due_of l.peer) first → IsFirstDue (owing r) n d
-first_due_by law r n None None f is = λ m le. law.nothing_overdue r.peers n m le f
-first_due_by law r n None (Some at) f is = absurd (false≢true (sym (ap (λ (o : Option ℕ). is_some o) is)))
-first_due_by law r n (Some l) None f is = absurd (false≢true (ap (λ (o : Option ℕ). is_some o) is))
-first_due_by law r n (Some l) (Some at) f is =
+    → option_map (λ (m : Millis). m.0) d ≡ option_map (λ (l : Listing). due_of l.peer) first → IfSome d (λ (m : Millis). 0 < owing r (max n m.0)) → IsFirstDue (owing r) n d
+first_due_by law r n None None f is lasts = λ m le. law.nothing_overdue r.peers n m le f
+first_due_by law r n None (Some at) f is lasts = absurd (false≢true (sym (ap (λ (o : Option ℕ). is_some o) is)))
+first_due_by law r n (Some l) None f is lasts = absurd (false≢true (ap (λ (o : Option ℕ). is_some o) is))
+first_due_by law r n (Some l) (Some at) f is lasts =
     let first = law.first_overdue r.peers n l f in
     let same : at.0 ≡ due_of l.peer = cc in
-    ((λ m le lt. first.before m le (omega (arith, same, lt))), (λ le. first.now (omega (arith, same, le))))
+    ((λ m le lt. first.before m le (omega (arith, same, lt))), lasts)
 
-pub first_due_holds : (law : Below) (r : Relay) (n : ℕ) (d : Option Millis) → option_map (λ (m : Millis). m.0) d ≡ option_map (λ (l : Listing). due_of l.peer) (first_due_in r.peers n) → IsFirstDue (owing r) n d
-first_due_holds law r n d is = first_due_by law r n (first_due_in r.peers n) d refl is
+pub first_due_holds : (law : Below) (r : Relay) (n : ℕ) (d : Option Millis) → option_map (λ (m : Millis). m.0) d ≡ option_map (λ (l : Listing). due_of l.peer) (first_due_in r.peers n)
+    → IfSome d (λ (m : Millis). 0 < owing r (max n m.0)) → IsFirstDue (owing r) n d
+first_due_holds law r n d is lasts = first_due_by law r n (first_due_in r.peers n) d refl is lasts
 
 -- A TICK WHERE NOTHING IS DUE
 

@@ -1,10 +1,10 @@
 //! What a relay does where something is due.
-ghost use Rattle.std.specs.Prelude.{◌≡◌, ◌≤◌, ℕ, List, true, false, None, Some, is_some, option_map, IfSome};
+ghost use Rattle.std.specs.Prelude.{◌≡◌, ◌≤◌, ◌<◌, ℕ, max, List, true, false, None, Some, is_some, option_map, IfSome};
 ghost use Rattle.teredo_node.specs.Journal.{Entry, ticked};
 ghost use Rattle.teredo_node.specs.Due.{IsFirstDue, Idles, Lessens};
 ghost use Rattle.peer_list.specs.Judged.{due_of};
 ghost use Rattle.peer_list.specs.Table.{known_to, first_due_in};
-ghost use Rattle.peer_list.specs.Overdue.{IsNoSooner};
+ghost use Rattle.peer_list.specs.Overdue.{IsNoSooner, overdue_in};
 ghost use Rattle.relay_rules.specs.Journals.{entry, relay_due};
 ghost use Rattle.relay_rules.specs.Ticks.{due_at, tries_peer};
 ghost use Rattle.relay_core.specs.Relay.{settings_of, RelayStandsFor, IsCallable, Enters, Does, AsBefore};
@@ -100,7 +100,8 @@ impl Relay {
     /// When the next try at a peer is due.
     fn first_try(&self, now: Millis) -> Option<Millis>
         requires clock { self.now.peers.moment ≤ now.0 }
-        ensures { option_map (λ m. m.0) result ≡ option_map (λ l. due_of l.peer) (first_due_in self.now.peers now.0) }
+        ensures first { option_map (λ m. m.0) result ≡ option_map (λ l. due_of l.peer) (first_due_in self.now.peers now.0) }
+        ensures lasts { IfSome result (λ at. 0 < overdue_in self.now.peers (max now.0 at.0)) }
     {
         let (at, _) = self.peers.due(now)?;
         Some(at)

@@ -10,7 +10,7 @@ use Rattle.peer_list.proofs.table.Peers.has_room.Goals as goal
 pub returns-then-is_short : goal.returns-then-is_short
 returns-then-is_short c =
     let e = c.self.inside.entries in
-    let same = length_of e c.self.invariant.whole.names in
+    let same = length_of e c.self.invariant.kept.whole.names in
     let short = ltb-true _ _ (sym c.is_short.ensures ∙ c.if-is_short.true) in
     let few : length (listings_of e) < MOST_PEERS = omega (arith, same, short) in
-    rw (← c.self.view_is) (sym (roomy c.self.inside.moment.0 c.args.now.0 c.args.who (listings_of e) (apart_of (sound_of e c.self.invariant.whole.names)) few))
+    rw (← c.self.view_is) (sym (roomy c.self.inside.moment.0 c.args.now.0 c.args.who (listings_of e) (apart_of (sound_of e c.self.invariant.kept.whole.names)) few))
