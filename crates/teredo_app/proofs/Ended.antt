@@ -1,5 +1,5 @@
 -- How `lab` ends, by how its last step ended.
-use Rattle.std.proofs.Common.{◌≡◌, ℕ, List, [], ◌∷◌, Ok, Err, sym, subst, inl, inr, refl, lit<, arith}
+use Rattle.std.proofs.Common.{◌≡◌, ◌∙◌, ℕ, List, [], ◌∷◌, Ok, Err, sym, subst, inl, inr, refl, lit<, arith}
 use Rattle.td_outside.specs.Causes.{Rose}
 use Rattle.td_outside.specs.Moves.{Gains}
 use Rattle.history.specs.Scenario.{Scenario}
@@ -16,7 +16,7 @@ use Rattle.teredo_app.proofs.Written.{WritesLines-then, BeginsLines-then}
 
 -- the last line of a report that ends with a full wire
 pub full_ends : (s : Scenario) (a b c : SinkTold) (before now later result : ℕ) → EndsFull s a b → now ≡ before → LineEnds (record { told = (b, c); faults = (now, later) }) wire_full 8 result → ReportEnds (record { told = (a, c); faults = (before, later) }) s result
-full_ends s a b c before now later result full same (line_written is line) = report_filled is (record {
+full_ends s a b c before now later result full same (line_written is kept line) = report_filled is (kept ∙ same) (record {
   history = full.history;
   fills = full.fills;
   lines = WritesLines-then a b c (record_lines s.topology full.history) (wire_full ∷ []) full.lines line;
@@ -26,14 +26,14 @@ full_ends s a b c before now later result full same (line_failed is rose line) =
 
 module _ (i : AtSource) (o : AtSink) (file : List ℕ) (opened : Gains i.openings.0 i.openings.1 file) (taken : TakesAtMost 4194305 i.taken.0 i.taken.1) where
   -- the source failed
-  pub unread_ends : Rose i.faults.0 i.faults.1 → WritesNothing o.told.0 o.told.1 → LabEnds i o file 4
-  unread_ends rose nothing = record {
+  pub unread_ends : Rose i.faults.0 i.faults.1 → o.faults.1 ≡ o.faults.0 → WritesNothing o.told.0 o.told.1 → LabEnds i o file 4
+  unread_ends rose same nothing = record {
     statuses = (2, lit< tt, refl);
     opened = opened;
     taken = taken;
     done = λ e. absurd (omega arith);
     refused = λ e. absurd (omega arith);
-    unread = λ _. (rose, nothing);
+    unread = λ _. (rose, same, nothing);
     unwritten = λ e. absurd (omega arith);
     starved = λ e. absurd (omega arith);
     full = λ e. absurd (omega arith);
@@ -54,44 +54,44 @@ module _ (i : AtSource) (o : AtSink) (file : List ℕ) (opened : Gains i.opening
   }
 
   -- the text is refused
-  pub refused_ends : (result : ℕ) (fault : ScenarioFault) → Reads i file (Err fault) → LineEnds o (refusal_line fault) 3 result → LabEnds i o file result
-  refused_ends result fault reads (line_written is lines) = subst (λ (n : ℕ). LabEnds i o file n) (sym is) (record {
+  pub refused_ends : (result : ℕ) (fault : ScenarioFault) → Reads i file (Err fault) → i.faults.1 ≡ i.faults.0 → LineEnds o (refusal_line fault) 3 result → LabEnds i o file result
+  refused_ends result fault reads quiet (line_written is same lines) = subst (λ (n : ℕ). LabEnds i o file n) (sym is) (record {
     statuses = (1, lit< tt, refl);
     opened = opened;
     taken = taken;
     done = λ e. absurd (omega arith);
-    refused = λ _. (fault, reads, lines);
+    refused = λ _. (record { source = quiet; sink = same }, (fault, reads, lines));
     unread = λ e. absurd (omega arith);
     unwritten = λ e. absurd (omega arith);
     starved = λ e. absurd (omega arith);
     full = λ e. absurd (omega arith);
   })
-  refused_ends result fault reads (line_failed is rose lines) = subst (λ (n : ℕ). LabEnds i o file n) (sym is) (record {
+  refused_ends result fault reads quiet (line_failed is rose lines) = subst (λ (n : ℕ). LabEnds i o file n) (sym is) (record {
     statuses = (3, lit< tt, refl);
     opened = opened;
     taken = taken;
     done = λ e. absurd (omega arith);
     refused = λ e. absurd (omega arith);
     unread = λ e. absurd (omega arith);
-    unwritten = λ _. (rose, inr (fault, reads, lines));
+    unwritten = λ _. (rose, quiet, inr (fault, reads, lines));
     starved = λ e. absurd (omega arith);
     full = λ e. absurd (omega arith);
   })
 
   -- the text is a scenario
   pub report_ends : (result : ℕ) (s : Scenario) → Reads i file (Ok s) → i.faults.1 ≡ i.faults.0 → ReportEnds o s result → LabEnds i o file result
-  report_ends result s reads quiet (report_written is lines) = subst (λ (n : ℕ). LabEnds i o file n) (sym is) (record {
+  report_ends result s reads quiet (report_written is same lines) = subst (λ (n : ℕ). LabEnds i o file n) (sym is) (record {
     statuses = (0, lit< tt, refl);
     opened = opened;
     taken = taken;
-    done = λ _. (s, reads, lines);
+    done = λ _. (record { source = quiet; sink = same }, (s, reads, lines));
     refused = λ e. absurd (omega arith);
     unread = λ e. absurd (omega arith);
     unwritten = λ e. absurd (omega arith);
     starved = λ e. absurd (omega arith);
     full = λ e. absurd (omega arith);
   })
-  report_ends result s reads quiet (report_filled is lines) = subst (λ (n : ℕ). LabEnds i o file n) (sym is) (record {
+  report_ends result s reads quiet (report_filled is same lines) = subst (λ (n : ℕ). LabEnds i o file n) (sym is) (record {
     statuses = (5, lit< tt, refl);
     opened = opened;
     taken = taken;
@@ -100,7 +100,7 @@ module _ (i : AtSource) (o : AtSink) (file : List ℕ) (opened : Gains i.opening
     unread = λ e. absurd (omega arith);
     unwritten = λ e. absurd (omega arith);
     starved = λ e. absurd (omega arith);
-    full = λ _. (s, reads, lines);
+    full = λ _. (record { source = quiet; sink = same }, (s, reads, lines));
   })
   report_ends result s reads quiet (report_failed is rose begun) = subst (λ (n : ℕ). LabEnds i o file n) (sym is) (record {
     statuses = (3, lit< tt, refl);
@@ -109,7 +109,7 @@ module _ (i : AtSource) (o : AtSink) (file : List ℕ) (opened : Gains i.opening
     done = λ e. absurd (omega arith);
     refused = λ e. absurd (omega arith);
     unread = λ e. absurd (omega arith);
-    unwritten = λ _. (rose, inl (s, reads, begun));
+    unwritten = λ _. (rose, quiet, inl (s, reads, begun));
     starved = λ e. absurd (omega arith);
     full = λ e. absurd (omega arith);
   })

@@ -14,9 +14,9 @@ use Rattle.teredo_app.specs.Endings.{LineEnds, line_written, line_failed, SumsUp
 module _ (o : AtSink) (asked : GenWords) (s : Scenario) (is : s ≡ asked_for asked) where
   -- the sums are there
   pub summed_ends : (sums : Sums) (result : ℕ) → SumsUp s sums → LineEnds o (totals_line sums) 0 result → GenEnds o asked result
-  summed_ends sums result (history, legal, same) (line_written ends lines) = subst (λ (n : ℕ). GenEnds o asked n) (sym ends) (record {
+  summed_ends sums result (history, legal, same) (line_written ends kept lines) = subst (λ (n : ℕ). GenEnds o asked n) (sym ends) (record {
     statuses = (0, lit< tt, refl);
-    done = λ _. (history, subst (λ (x : Scenario). Legal history x) is legal, subst (λ (x : Sums). WritesLines o.told.0 o.told.1 (totals_line x ∷ [])) same lines);
+    done = λ _. (kept, (history, subst (λ (x : Scenario). Legal history x) is legal, subst (λ (x : Sums). WritesLines o.told.0 o.told.1 (totals_line x ∷ [])) same lines));
     unwritten = λ e. absurd (omega arith);
     starved = λ e. absurd (omega arith);
     full = λ e. absurd (omega arith);
@@ -31,12 +31,12 @@ module _ (o : AtSink) (asked : GenWords) (s : Scenario) (is : s ≡ asked_for as
 
   -- the wire is full
   pub overfilled_ends : (result : ℕ) → Overfills s → LineEnds o wire_full 8 result → GenEnds o asked result
-  overfilled_ends result (history, fills) (line_written ends lines) = subst (λ (n : ℕ). GenEnds o asked n) (sym ends) (record {
+  overfilled_ends result (history, fills) (line_written ends kept lines) = subst (λ (n : ℕ). GenEnds o asked n) (sym ends) (record {
     statuses = (3, lit< tt, refl);
     done = λ e. absurd (omega arith);
     unwritten = λ e. absurd (omega arith);
     starved = λ e. absurd (omega arith);
-    full = λ _. (history, subst (λ (x : Scenario). FillsWire x history) is fills, lines);
+    full = λ _. (kept, (history, subst (λ (x : Scenario). FillsWire x history) is fills, lines));
   })
   overfilled_ends result (history, fills) (line_failed ends rose lines) = subst (λ (n : ℕ). GenEnds o asked n) (sym ends) (record {
     statuses = (1, lit< tt, refl);

@@ -7,9 +7,9 @@ use Rattle.teredo_app.specs.Endings.{LineEnds, line_written, line_failed}
 
 -- the page has a payload's lines
 pub payload_ends : (o : AtSink) (word page : List ℕ) (result : ℕ) → ShowsPayload word page → LineEnds o page 0 result → ShowEnds o word result
-payload_ends o word page result shown (line_written is lines) = subst (λ (n : ℕ). ShowEnds o word n) (sym is) (record {
+payload_ends o word page result shown (line_written is same lines) = subst (λ (n : ℕ). ShowEnds o word n) (sym is) (record {
   statuses = (0, lit< tt, refl);
-  done = λ _. (page, shown, lines);
+  done = λ _. (same, (page, shown, lines));
   refused = λ e. absurd (omega arith);
   unwritten = λ e. absurd (omega arith);
 })
@@ -22,10 +22,10 @@ payload_ends o word page result shown (line_failed is rose lines) = subst (λ (n
 
 -- the page has a fault's line
 pub fault_ends : (o : AtSink) (word page : List ℕ) (result : ℕ) → ShowsNoText word page ⊎ ShowsFault word page → LineEnds o page 1 result → ShowEnds o word result
-fault_ends o word page result shown (line_written is lines) = subst (λ (n : ℕ). ShowEnds o word n) (sym is) (record {
+fault_ends o word page result shown (line_written is same lines) = subst (λ (n : ℕ). ShowEnds o word n) (sym is) (record {
   statuses = (1, lit< tt, refl);
   done = λ e. absurd (omega arith);
-  refused = λ _. (page, shown, lines);
+  refused = λ _. (same, (page, shown, lines));
   unwritten = λ e. absurd (omega arith);
 })
 fault_ends o word page result shown (line_failed is rose lines) = subst (λ (n : ℕ). ShowEnds o word n) (sym is) (record {

@@ -14,7 +14,7 @@ use Rattle.teredo_app.specs.ScenarioReport.{FillsWire, WritesReport, WritesFull,
 
 -- how the writing of one line ends: with its status, or because the sink failed
 pub data LineEnds (o : AtSink) (line : List ℕ) (status result : ℕ) : Type 0 where
-  line_written : result ≡ status → WritesLines o.told.0 o.told.1 (line ∷ []) → LineEnds o line status result
+  line_written : result ≡ status → o.faults.1 ≡ o.faults.0 → WritesLines o.told.0 o.told.1 (line ∷ []) → LineEnds o line status result
   line_failed : result ≡ UNWRITABLE → Rose o.faults.0 o.faults.1 → BeginsLines o.told.0 o.told.1 (line ∷ []) → LineEnds o line status result
 
 -- Memory ran out before the first record, and nothing was written; or for a record that may want some, after the lines of those before it.
@@ -23,8 +23,8 @@ EndsStarved s old new = WritesNothing old new ⊎ WritesStarved s old new
 
 -- how the writing of a scenario's report ends
 pub data ReportEnds (o : AtSink) (s : Scenario) (result : ℕ) : Type 0 where
-  report_written : result ≡ DONE → WritesReport s o.told.0 o.told.1 → ReportEnds o s result
-  report_filled : result ≡ WIRE_FULL → WritesFull s o.told.0 o.told.1 → ReportEnds o s result
+  report_written : result ≡ DONE → o.faults.1 ≡ o.faults.0 → WritesReport s o.told.0 o.told.1 → ReportEnds o s result
+  report_filled : result ≡ WIRE_FULL → o.faults.1 ≡ o.faults.0 → WritesFull s o.told.0 o.told.1 → ReportEnds o s result
   report_failed : result ≡ UNWRITABLE → Rose o.faults.0 o.faults.1 → BeginsReport s o.told.0 o.told.1 → ReportEnds o s result
   report_starved : result ≡ NO_MEMORY → o.faults.1 ≡ o.faults.0 → EndsStarved s o.told.0 o.told.1 → ReportEnds o s result
 

@@ -45,26 +45,27 @@ pub record LabEnds (i : AtSource) (o : AtSink) (file : List ℕ) (status : ℕ) 
   -- the file alone was opened, once, and no more of it was read than a text may have, and one byte
   pub opened : Gains i.openings.0 i.openings.1 file
   pub taken : TakesAtMost TEXT_READ_MAX i.taken.0 i.taken.1
-  -- the text is a scenario, and its report was written
-  pub done : status ≡ DONE → (s : Scenario) × Reads i file (Ok s) × WritesReport s o.told.0 o.told.1
-  -- the text is refused, and the line of its first refusal was written
-  pub refused : status ≡ BAD_SCENARIO → (fault : ScenarioFault) × Reads i file (Err fault) × WritesLines o.told.0 o.told.1 (refusal_line fault ∷ [])
+  -- nothing failed, the text is a scenario, and its report was written
+  pub done : status ≡ DONE → NoFault i o × ((s : Scenario) × Reads i file (Ok s) × WritesReport s o.told.0 o.told.1)
+  -- nothing failed, the text is refused, and the line of its first refusal was written
+  pub refused : status ≡ BAD_SCENARIO → NoFault i o × ((fault : ScenarioFault) × Reads i file (Err fault) × WritesLines o.told.0 o.told.1 (refusal_line fault ∷ []))
   -- the source failed, and nothing was written
-  pub unread : status ≡ UNREADABLE → Rose i.faults.0 i.faults.1 × WritesNothing o.told.0 o.told.1
-  -- the sink failed, and a front was written of what was to be written
-  pub unwritten : status ≡ UNWRITABLE → Rose o.faults.0 o.faults.1 × LabBegins i o file
+  pub unread : status ≡ UNREADABLE → Rose i.faults.0 i.faults.1 × (o.faults.1 ≡ o.faults.0) × WritesNothing o.told.0 o.told.1
+  -- the sink failed, the source didn't, and a front was written of what was to be written
+  pub unwritten : status ≡ UNWRITABLE → Rose o.faults.0 o.faults.1 × (i.faults.1 ≡ i.faults.0) × LabBegins i o file
   -- memory ran out, nothing failed, and nothing was written; or it ran out for a record that may want some, and the
   -- lines of those before it were written, whole, and nothing else
   pub starved : status ≡ NO_MEMORY → NoFault i o
       × (WritesNothing o.told.0 o.told.1 ⊎ ((s : Scenario) × Reads i file (Ok s) × WritesStarved s o.told.0 o.told.1))
-  -- the next record would make too long a wire; the lines of those before it were written, and the line that says so
-  pub full : status ≡ WIRE_FULL → (s : Scenario) × Reads i file (Ok s) × WritesFull s o.told.0 o.told.1
+  -- nothing failed; the next record would make too long a wire; the lines of those before it were written, and the line
+  -- that says so
+  pub full : status ≡ WIRE_FULL → NoFault i o × ((s : Scenario) × Reads i file (Ok s) × WritesFull s o.told.0 o.told.1)
 
 -- How `show HEX` ends: the page of the payload was written, or the line of its first fault. It never wants memory.
 pub record ShowEnds (o : AtSink) (word : List ℕ) (status : ℕ) : Type 0 where
   pub statuses : Contains (DONE ∷ BAD_PAYLOAD ∷ UNWRITABLE ∷ []) status
-  pub done : status ≡ DONE → (page : List ℕ) × ShowsPayload word page × WritesLines o.told.0 o.told.1 (page ∷ [])
-  pub refused : status ≡ BAD_PAYLOAD → (line : List ℕ) × (ShowsNoText word line ⊎ ShowsFault word line) × WritesLines o.told.0 o.told.1 (line ∷ [])
+  pub done : status ≡ DONE → (o.faults.1 ≡ o.faults.0) × ((page : List ℕ) × ShowsPayload word page × WritesLines o.told.0 o.told.1 (page ∷ []))
+  pub refused : status ≡ BAD_PAYLOAD → (o.faults.1 ≡ o.faults.0) × ((line : List ℕ) × (ShowsNoText word line ⊎ ShowsFault word line) × WritesLines o.told.0 o.told.1 (line ∷ []))
   pub unwritten : status ≡ UNWRITABLE → Rose o.faults.0 o.faults.1
       × ((page : List ℕ) × (ShowsPayload word page ⊎ (ShowsNoText word page ⊎ ShowsFault word page)) × BeginsLines o.told.0 o.told.1 (page ∷ []))
 
@@ -81,19 +82,19 @@ GenBegins o asked =
 -- How `gen SEED COUNT` ends: for each status its cause, and what was written.
 pub record GenEnds (o : AtSink) (asked : GenWords) (status : ℕ) : Type 0 where
   pub statuses : Contains (DONE ∷ UNWRITABLE ∷ NO_MEMORY ∷ WIRE_FULL ∷ []) status
-  -- the totals of the scenario's one legal history were written, and no other line
-  pub done : status ≡ DONE → (history : List Full) × Legal history (asked_for asked) × WritesLines o.told.0 o.told.1 (totals history ∷ [])
+  -- nothing failed, and the totals of the scenario's one legal history were written, and no other line
+  pub done : status ≡ DONE → (o.faults.1 ≡ o.faults.0) × ((history : List Full) × Legal history (asked_for asked) × WritesLines o.told.0 o.told.1 (totals history ∷ []))
   -- the sink failed, and a front was written of what was to be written
   pub unwritten : status ≡ UNWRITABLE → Rose o.faults.0 o.faults.1 × GenBegins o asked
   -- memory ran out, nothing failed, and nothing was written
   pub starved : status ≡ NO_MEMORY → (o.faults.1 ≡ o.faults.0) × WritesNothing o.told.0 o.told.1
-  -- the next record would make too long a wire, and the line that says so was written, and no other
-  pub full : status ≡ WIRE_FULL → (history : List Full) × FillsWire (asked_for asked) history × WritesLines o.told.0 o.told.1 (wire_full ∷ [])
+  -- nothing failed; the next record would make too long a wire, and the line that says so was written, and no other
+  pub full : status ≡ WIRE_FULL → (o.faults.1 ≡ o.faults.0) × ((history : List Full) × FillsWire (asked_for asked) history × WritesLines o.told.0 o.told.1 (wire_full ∷ []))
 
 -- How it ends where the words are no command.
 pub record WordsEnd (o : AtSink) (status : ℕ) : Type 0 where
   pub statuses : Contains (BAD_WORDS ∷ UNWRITABLE ∷ []) status
-  pub refused : status ≡ BAD_WORDS → WritesLines o.told.0 o.told.1 (bad_words ∷ [])
+  pub refused : status ≡ BAD_WORDS → (o.faults.1 ≡ o.faults.0) × WritesLines o.told.0 o.told.1 (bad_words ∷ [])
   pub unwritten : status ≡ UNWRITABLE → Rose o.faults.0 o.faults.1 × BeginsLines o.told.0 o.told.1 (bad_words ∷ [])
 
 -- How the program ends, by the command that its words are. Only `lab` touches the source, and only `serve` the link and

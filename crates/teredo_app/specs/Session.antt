@@ -67,11 +67,11 @@ pub record ServeEnds (o : AtSink) (n : Network) (asked : ServeWords) (status : �
   pub statuses : Contains (DONE ∷ UNWRITABLE ∷ NO_LINK ∷ []) status
   -- the link was asked once to open, on these two addresses
   pub opened : Gains n.openings.0 n.openings.1 (both_at asked.primary asked.secondary)
-  -- the server came to its end, and the line of its totals was written
-  pub done : status ≡ DONE → (totals : Totals) × Served n asked totals × WritesLines o.told.0 o.told.1 (serve_line totals ∷ [])
+  -- the server came to its end, and the line of its totals was written; the sink didn't fail
+  pub done : status ≡ DONE → (o.faults.1 ≡ o.faults.0) × ((totals : Totals) × Served n asked totals × WritesLines o.told.0 o.told.1 (serve_line totals ∷ []))
   -- it came to its end, the sink failed, and a front of the line was written
   pub unwritten : status ≡ UNWRITABLE → Rose o.faults.0 o.faults.1
       × ((totals : Totals) × Served n asked totals × BeginsLines o.told.0 o.told.1 (serve_line totals ∷ []))
   -- the link failed, when it was opened or later, and nothing was written
-  pub unlinked : status ≡ NO_LINK → Rose n.receive_faults.0 n.receive_faults.1 × WritesNothing o.told.0 o.told.1
+  pub unlinked : status ≡ NO_LINK → Rose n.receive_faults.0 n.receive_faults.1 × (o.faults.1 ≡ o.faults.0) × WritesNothing o.told.0 o.told.1
       × (StaysShut n ⊎ BreaksOff n asked)

@@ -18,11 +18,11 @@ returns g c =
     let refused = rw c.deref.ensures.value at c.in-Err.ensures.refused other in
     let (whole, is_named, same) = whole_text _ c.in-Ok.text.items c.in-Ok.ensures.text in
     let line = rw c.as_slice.ensures.value at c.end_with.ensures in
-    refused_ends _ _ _ c.read_named.ensures.asked c.read_named.ensures.taken _ c.in-Err.fault (whole, is_named, same ∙ refused) (rw c.put_refusal_line.ensures at line)
+    refused_ends _ _ _ c.read_named.ensures.asked c.read_named.ensures.taken _ c.in-Err.fault (whole, is_named, same ∙ refused) c.in-Ok.ensures.quiet (rw c.put_refusal_line.ensures at line)
 
 pub returns-in-Err-Failed : goal.returns-in-Err-Failed
 returns-in-Err-Failed g c =
-    unread_ends _ _ _ c.read_named.ensures.asked c.read_named.ensures.taken (c.read_named.ensures.failed (c.in-Err-Failed.is ∙ ap Err c.in-Err-Failed.field-0-is)) (nothing_written _)
+    unread_ends _ _ _ c.read_named.ensures.asked c.read_named.ensures.taken (c.read_named.ensures.failed (c.in-Err-Failed.is ∙ ap Err c.in-Err-Failed.field-0-is)) refl (nothing_written _)
 
 pub returns-in-Err-NoMemory : goal.returns-in-Err-NoMemory
 returns-in-Err-NoMemory g c =

@@ -4,7 +4,7 @@ use Rattle.teredo_app.proofs.Ended.{full_ends}
 use Rattle.teredo_app.proofs.program.report_on.Goals as goal
 
 pub returns-in-Ok : goal.returns-in-Ok
-returns-in-Ok g c = report_written refl c.in-Ok.ensures.ok
+returns-in-Ok g c = report_written refl c.in-Ok.ensures.quiet c.in-Ok.ensures.ok
 
 pub returns-in-Err-Failed : goal.returns-in-Err-Failed
 returns-in-Err-Failed g c = report_failed refl (c.write_report.ensures.failed (c.in-Err-Failed.is ∙ ap Err c.in-Err-Failed.field-0-is)) c.in-Err-Failed.ensures.err
