@@ -3,7 +3,6 @@ use Rattle.std.proofs.Common.{◌≡◌, ◌&&◌, not, ℕ, Bool, true, false, 
 use Rattle.std.specs.Prelude.{IfSome, is_some, nat_lt}
 use Rattle.std.proofs.lemmas.Bool.{false≢true, not-false}
 use Rattle.td_base.specs.Ip6.{same_ip6-true}
-use Rattle.td_base.specs.declared.ipv6.Ip6.{Ip6}
 use Rattle.td_base.specs.declared.endpoint.Ep.{Ep}
 use Rattle.td_base.specs.declared.reach.Policy.{Policy}
 use Rattle.teredo_addr.specs.Teredo.{is_teredo}

@@ -15,7 +15,7 @@ use Rattle.teredo_node.specs.Journal.{Words}
 use Rattle.peer_list.specs.Judged.{is_barred}
 use Rattle.qualify.specs.declared.settings.Settings.{Settings}
 use Rattle.qualify.specs.declared.phase.Phase.{Phase}
-use Rattle.qualify.specs.Qualification.{Qualification, qualification}
+use Rattle.qualify.specs.Qualification.{Qualification}
 use Rattle.qualify.specs.Solicitations.{own_address}
 use Rattle.client_rules.specs.Standing.{Standing, known_in}
 use Rattle.client_rules.specs.Transmission.{given as given_to, queues, transmission_row, transmission_step, transmission}

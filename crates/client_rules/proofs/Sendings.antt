@@ -11,7 +11,7 @@ use Rattle.teredo_node.specs.Words.{nonce_from}
 use Rattle.teredo_node.specs.Journal.{Words}
 use Rattle.qualify.specs.declared.settings.Settings.{Settings}
 use Rattle.qualify.specs.declared.phase.Phase.{Phase}
-use Rattle.qualify.specs.Qualification.{Qualification, qualification}
+use Rattle.qualify.specs.Qualification.{Qualification}
 use Rattle.qualify.specs.Solicitations.{is_qualified, own_address}
 use Rattle.client_rules.specs.Standing.{Standing, known_in}
 use Rattle.client_rules.specs.Tries.{both_bubbles, tries_by, try_sends}

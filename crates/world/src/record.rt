@@ -6,7 +6,7 @@ use history::{Act, Marks, Record};
 use td_base::Millis;
 use teredo_node::{Fate, Step};
 
-/// A record that says nothing yet. It is filled where it lies: it has some 400 bytes, and no copy of it is made.
+/// A record that says nothing yet. It is filled where it lies, since it has some 400 bytes.
 pub fn blank(index: u32) -> Record
     ensures empty { result.marks ≡ [] }
 {
