@@ -1,4 +1,4 @@
--- A listed peer is due while it is listed: each call keeps that, and so whoever is due first is still listed then.
+-- A listed peer is still listed when it is due: each call keeps that, and so whoever is due first waits then.
 use Rattle.std.proofs.Common.{◌≡◌, ◌≤◌, ◌+◌, ℕ, max, Bool, true, false, cond, List, [], find, Option, Some, None, Result, Ok, Err, refl, sym, ap, ◌∙◌, subst, arith}
 use Rattle.std.specs.Prelude.{option_map, unwrap_or, is_some, OnOk, OnErr}
 use Rattle.std.proofs.lemmas.Bool.{false≢true, lt-ltb, ltb-true}

@@ -1,4 +1,4 @@
--- A peer for which packets wait is due while it is listed: what is so of whatever a table keeps.
+-- A listed peer is still listed when it is due: what is so of whatever a table keeps.
 use Rattle.std.specs.Prelude.{◌≡◌, ◌≤◌, ◌<◌, ◌+◌, ℕ, max, Option, Some, IfSome}
 use Rattle.td_base.specs.declared.ipv6.Ip6.{Ip6}
 use Rattle.td_base.specs.declared.millis.Millis.{Millis}
