@@ -3,7 +3,7 @@ use Rattle.std.specs.Prelude.{◌≡◌, ◌≤◌, ℕ, true, if◌then◌else�
 use Rattle.td_base.specs.declared.endpoint.Ep.{Ep}
 use Rattle.bubble.specs.Reads.{value_in}
 use Rattle.teredo_node.specs.Journal.{Entry, Journal, Words, is_changed}
-use Rattle.peer_list.specs.declared.limits.TheConstants.{MOST_PEERS}
+use Rattle.peer_list.specs.declared.limits.TheConstants.{PEERS_MAX}
 use Rattle.peer_list.specs.Listed.{listed}
 use Rattle.peer_list.specs.Laws.{IsTried}
 use Rattle.qualify.specs.declared.settings.Settings.{Settings}
@@ -48,4 +48,4 @@ JournalIsTried = (s : Settings) (j : Journal) (n : ℕ) → IsJournal s j → la
 
 -- no more than 256 peers are ever listed
 abbrev pub JournalHasFew : Type 0
-JournalHasFew = (s : Settings) (j : Journal) (n : ℕ) → IsJournal s j → last_moment j.start j.entries ≤ n → length (listed (mentions j.entries) n) ≤ MOST_PEERS
+JournalHasFew = (s : Settings) (j : Journal) (n : ℕ) → IsJournal s j → last_moment j.start j.entries ≤ n → length (listed (mentions j.entries) n) ≤ PEERS_MAX

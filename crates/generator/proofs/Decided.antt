@@ -15,9 +15,9 @@ use Rattle.td_base.specs.declared.endpoint.Ep.{Ep}
 use Rattle.topology.specs.declared.node_name.Name.{Name}
 use Rattle.td_base.specs.declared.reach.Policy.TheVariants.{Strict}
 use Rattle.teredo_addr.specs.Teredo.{is_teredo}
-use Rattle.topology.specs.declared.topology.TheConstants.{MOST_SERVERS, MOST_NATS, MOST_CLIENTS, MOST_RELAYS, MOST_NATIVES}
-use Rattle.topology.specs.declared.nat_node.TheConstants.{MOST_IDLE}
-use Rattle.topology.specs.declared.client_node.TheConstants.{LEAST_REFRESH, MOST_REFRESH}
+use Rattle.topology.specs.declared.topology.TheConstants.{SERVERS_MAX, NATS_MAX, CLIENTS_MAX, RELAYS_MAX, NATIVES_MAX}
+use Rattle.topology.specs.declared.nat_node.TheConstants.{IDLE_MAX_MS}
+use Rattle.topology.specs.declared.client_node.TheConstants.{REFRESH_MIN_MS, REFRESH_MAX_MS}
 use Rattle.topology.specs.declared.nat_node.NatNode.{NatNode}
 use Rattle.topology.specs.declared.client_node.ClientNode.{ClientNode}
 use Rattle.topology.specs.declared.relay_node.RelayNode.{RelayNode}
@@ -70,11 +70,11 @@ made_ep at = bytes_of 4 at.ip.0 && nat_lt at.port (2 ^ 16)
 
 -- ---- tests of nodes
 
-idle : (a : NatNode) → nat_le 1 a.idle && nat_le a.idle MOST_IDLE ≡ true → IsIdle a
-idle a e = let both = and_parts (nat_le 1 a.idle) (nat_le a.idle MOST_IDLE) e in record { least = leb-true _ _ both.0; most = leb-true _ _ both.1 }
+idle : (a : NatNode) → nat_le 1 a.idle && nat_le a.idle IDLE_MAX_MS ≡ true → IsIdle a
+idle a e = let both = and_parts (nat_le 1 a.idle) (nat_le a.idle IDLE_MAX_MS) e in record { least = leb-true _ _ both.0; most = leb-true _ _ both.1 }
 
 abbrev times : ClientNode → Bool
-times c = nat_le LEAST_REFRESH c.low && nat_le c.low c.high && nat_le c.high MOST_REFRESH
+times c = nat_le REFRESH_MIN_MS c.low && nat_le c.low c.high && nat_le c.high REFRESH_MAX_MS
 
 abbrev reaches : TopologyState → ClientNode → Bool
 reaches t c = is_some (nat_at t c.nat) && is_some (server_at t c.server) && not (c.inside.port == 0)
@@ -84,8 +84,8 @@ client t c e =
     let all = and_parts (reaches t c) (times c) e in
     let way = and_parts (is_some (nat_at t c.nat) && is_some (server_at t c.server)) (not (c.inside.port == 0)) all.0 in
     let nodes = and_parts (is_some (nat_at t c.nat)) (is_some (server_at t c.server)) way.0 in
-    let most = and_parts (nat_le LEAST_REFRESH c.low && nat_le c.low c.high) (nat_le c.high MOST_REFRESH) all.1 in
-    let least = and_parts (nat_le LEAST_REFRESH c.low) (nat_le c.low c.high) most.0 in
+    let most = and_parts (nat_le REFRESH_MIN_MS c.low && nat_le c.low c.high) (nat_le c.high REFRESH_MAX_MS) all.1 in
+    let least = and_parts (nat_le REFRESH_MIN_MS c.low) (nat_le c.low c.high) most.0 in
     record {
       behind = nodes.0;
       asks = nodes.1;
@@ -105,16 +105,16 @@ ep at e = let both = and_parts (bytes_of 4 at.ip.0) (nat_lt at.port (2 ^ 16)) e 
 
 abbrev tests : TopologyState → List Bool
 tests t =
-    (nat_le (length t.servers) MOST_SERVERS)
-    ∷ (nat_le (length t.nats) MOST_NATS)
-    ∷ (nat_le (length t.clients) MOST_CLIENTS)
-    ∷ (nat_le (length t.relays) MOST_RELAYS)
-    ∷ (nat_le (length t.natives) MOST_NATIVES)
+    (nat_le (length t.servers) SERVERS_MAX)
+    ∷ (nat_le (length t.nats) NATS_MAX)
+    ∷ (nat_le (length t.clients) CLIENTS_MAX)
+    ∷ (nat_le (length t.relays) RELAYS_MAX)
+    ∷ (nat_le (length t.natives) NATIVES_MAX)
     ∷ (distinct same_name (names_of t))
     ∷ (list_all (λ (a : Name). is_name (name_text a)) (names_of t))
     ∷ (distinct same_ip (addresses_of t))
     ∷ (list_all (is_global Strict) (addresses_of t))
-    ∷ (list_all (λ (a : NatNode). nat_le 1 a.idle && nat_le a.idle MOST_IDLE) t.nats)
+    ∷ (list_all (λ (a : NatNode). nat_le 1 a.idle && nat_le a.idle IDLE_MAX_MS) t.nats)
     ∷ (list_all (λ (c : ClientNode). reaches t c && times c) t.clients)
     ∷ (distinct same_inside t.clients)
     ∷ (list_all (λ (r : RelayNode). not (r.at.port == 0)) t.relays)
@@ -142,7 +142,7 @@ kept t e = let p = each (λ (b : Bool). b ≡ true) (λ b. b) (λ b h. h) (tests
   spelled = each (λ (a : Name). is_name (name_text a) ≡ true) (λ a. is_name (name_text a)) (λ a e. e) (names_of t) p.1.1.1.1.1.1.0;
   addresses = are_distinct same_ip (addresses_of t) p.1.1.1.1.1.1.1.0;
   global = each (λ (ip : Ip4). is_global Strict ip ≡ true) (is_global Strict) (λ ip e. e) (addresses_of t) p.1.1.1.1.1.1.1.1.0;
-  idle = each IsIdle (λ a. nat_le 1 a.idle && nat_le a.idle MOST_IDLE) idle t.nats p.1.1.1.1.1.1.1.1.1.0;
+  idle = each IsIdle (λ a. nat_le 1 a.idle && nat_le a.idle IDLE_MAX_MS) idle t.nats p.1.1.1.1.1.1.1.1.1.0;
   each_client = each (IsClient t) (λ c. reaches t c && times c) (client t) t.clients p.1.1.1.1.1.1.1.1.1.1.0;
   inside = are_distinct same_inside t.clients p.1.1.1.1.1.1.1.1.1.1.1.0;
   ports = each (λ (r : RelayNode). r.at.port ≢ 0) (λ r. not (r.at.port == 0)) (λ r e. no_zero r.at.port e) t.relays p.1.1.1.1.1.1.1.1.1.1.1.1.0;

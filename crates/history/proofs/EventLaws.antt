@@ -17,7 +17,8 @@ use Rattle.history.proofs.Ip6WordLemmas.{ip6_of-sound}
 use Rattle.td_base.specs.Results.{◌>>=◌}
 use Rattle.history.specs.declared.event.Event.{Event}
 use Rattle.history.specs.declared.event.Event.TheVariants as event
-use Rattle.history.specs.declared.event.TheConstants.{MOST_ADVANCE, MOST_NUMBER, MOST_SEQUENCE, MOST_BODY, MOST_BYTES}
+use Rattle.history.specs.declared.event.TheConstants.{ADVANCE_MAX_MS, ENTRY_NUMBER_MAX, SEQUENCE_MAX, BODY_MAX}
+use Rattle.td_base.specs.declared.datagram.TheConstants.{DATAGRAM_MAX}
 use Rattle.history.specs.declared.acts.Verb.{Verb}
 use Rattle.history.specs.declared.acts.Verb.TheVariants as verb
 use Rattle.td_base.specs.declared.ipv6.Ip6.{Ip6}
@@ -106,62 +107,62 @@ target_of-sound t text to e = target_at t text to (named has_host t text) (ip6_o
 pub legal_behind : (t : TopologyState) (v : Verb) (ws : Words) (e : Event) → event_behind t v ws ≡ Ok e → IsEvent t e
 unfolding event_behind
 legal_behind t verb.Advance ws e h =
-    let ms = bind_ok (word (number_of MOST_ADVANCE) ws) _ e h in
-    let w = word_ok (number_of MOST_ADVANCE) ws ms.0 ms.1 in
+    let ms = bind_ok (word (number_of ADVANCE_MAX_MS) ws) _ e h in
+    let w = word_ok (number_of ADVANCE_MAX_MS) ws ms.0 ms.1 in
     let P : Event → Type 0 = λ x. IsEvent t x in
-    subst P (no_more_ok _ e _ ms.2) (number_of-sound MOST_ADVANCE ms.0.0 w.0 w.1).0
+    subst P (no_more_ok _ e _ ms.2) (number_of-sound ADVANCE_MAX_MS ms.0.0 w.0 w.1).0
 legal_behind t verb.Deliver ws e h =
-    let number = bind_ok (word (number_of MOST_NUMBER) ws) _ e h in
-    let w = word_ok (number_of MOST_NUMBER) ws number.0 number.1 in
+    let number = bind_ok (word (number_of ENTRY_NUMBER_MAX) ws) _ e h in
+    let w = word_ok (number_of ENTRY_NUMBER_MAX) ws number.0 number.1 in
     let P : Event → Type 0 = λ x. IsEvent t x in
-    subst P (no_more_ok _ e _ number.2) (number_of-sound MOST_NUMBER number.0.0 w.0 w.1).0
+    subst P (no_more_ok _ e _ number.2) (number_of-sound ENTRY_NUMBER_MAX number.0.0 w.0 w.1).0
 legal_behind t verb.Next ws e h =
     let P : Event → Type 0 = λ x. IsEvent t x in
     subst P (no_more_ok event.Next e ws h) tt
 legal_behind t verb.Host ws e h =
     let node = bind_ok (word (named has_host t) ws) _ e h in
     let to = bind_ok (word (target_of t) node.0.1) _ e node.2 in
-    let body = bind_ok (word (bytes_of MOST_BODY) to.0.1) _ e to.2 in
+    let body = bind_ok (word (bytes_of BODY_MAX) to.0.1) _ e to.2 in
     let a = word_ok (named has_host t) ws node.0 node.1 in
     let b = word_ok (target_of t) node.0.1 to.0 to.1 in
-    let c = word_ok (bytes_of MOST_BODY) to.0.1 body.0 body.1 in
+    let c = word_ok (bytes_of BODY_MAX) to.0.1 body.0 body.1 in
     let P : Event → Type 0 = λ x. IsEvent t x in
-    subst P (no_more_ok _ e _ body.2) (record { from = (named-kind has_host t a.0 node.0.0 a.1).0; target = target_of-sound t b.0 to.0.0 b.1; short = (bytes_of-few MOST_BODY c.0 body.0.0 c.1).short; made = (bytes_of-few MOST_BODY c.0 body.0.0 c.1).made })
+    subst P (no_more_ok _ e _ body.2) (record { from = (named-kind has_host t a.0 node.0.0 a.1).0; target = target_of-sound t b.0 to.0.0 b.1; short = (bytes_of-few BODY_MAX c.0 body.0.0 c.1).short; made = (bytes_of-few BODY_MAX c.0 body.0.0 c.1).made })
 legal_behind t verb.Echo ws e h =
     let node = bind_ok (word (named has_host t) ws) _ e h in
     let to = bind_ok (word (target_of t) node.0.1) _ e node.2 in
-    let seq = bind_ok (word (number_of MOST_SEQUENCE) to.0.1) _ e to.2 in
+    let seq = bind_ok (word (number_of SEQUENCE_MAX) to.0.1) _ e to.2 in
     let a = word_ok (named has_host t) ws node.0 node.1 in
     let b = word_ok (target_of t) node.0.1 to.0 to.1 in
-    let c = word_ok (number_of MOST_SEQUENCE) to.0.1 seq.0 seq.1 in
+    let c = word_ok (number_of SEQUENCE_MAX) to.0.1 seq.0 seq.1 in
     let P : Event → Type 0 = λ x. IsEvent t x in
-    subst P (no_more_ok _ e _ seq.2) (record { from = (named-kind has_host t a.0 node.0.0 a.1).0; target = target_of-sound t b.0 to.0.0 b.1; most = (number_of-sound MOST_SEQUENCE seq.0.0 c.0 c.1).0 })
+    subst P (no_more_ok _ e _ seq.2) (record { from = (named-kind has_host t a.0 node.0.0 a.1).0; target = target_of-sound t b.0 to.0.0 b.1; most = (number_of-sound SEQUENCE_MAX seq.0.0 c.0 c.1).0 })
 legal_behind t verb.Raw ws e h =
     let node = bind_ok (word (named has_host t) ws) _ e h in
-    let bytes = bind_ok (word (bytes_of MOST_BYTES) node.0.1) _ e node.2 in
+    let bytes = bind_ok (word (bytes_of DATAGRAM_MAX) node.0.1) _ e node.2 in
     let a = word_ok (named has_host t) ws node.0 node.1 in
-    let b = word_ok (bytes_of MOST_BYTES) node.0.1 bytes.0 bytes.1 in
+    let b = word_ok (bytes_of DATAGRAM_MAX) node.0.1 bytes.0 bytes.1 in
     let P : Event → Type 0 = λ x. IsEvent t x in
-    subst P (no_more_ok _ e _ bytes.2) (record { from = (named-kind has_host t a.0 node.0.0 a.1).0; short = (bytes_of-few MOST_BYTES b.0 bytes.0.0 b.1).short; made = (bytes_of-few MOST_BYTES b.0 bytes.0.0 b.1).made })
+    subst P (no_more_ok _ e _ bytes.2) (record { from = (named-kind has_host t a.0 node.0.0 a.1).0; short = (bytes_of-few DATAGRAM_MAX b.0 bytes.0.0 b.1).short; made = (bytes_of-few DATAGRAM_MAX b.0 bytes.0.0 b.1).made })
 legal_behind t verb.Stranger ws e h =
     let src = bind_ok (word ep_of ws) _ e h in
     let dst = bind_ok (word ep_of src.0.1) _ e src.2 in
-    let bytes = bind_ok (word (bytes_of MOST_BYTES) dst.0.1) _ e dst.2 in
+    let bytes = bind_ok (word (bytes_of DATAGRAM_MAX) dst.0.1) _ e dst.2 in
     let from = word_ok ep_of ws src.0 src.1 in
     let to = word_ok ep_of src.0.1 dst.0 dst.1 in
-    let b = word_ok (bytes_of MOST_BYTES) dst.0.1 bytes.0 bytes.1 in
-    let few = bytes_of-few MOST_BYTES b.0 bytes.0.0 b.1 in
+    let b = word_ok (bytes_of DATAGRAM_MAX) dst.0.1 bytes.0 bytes.1 in
+    let few = bytes_of-few DATAGRAM_MAX b.0 bytes.0.0 b.1 in
     let P : Event → Type 0 = λ x. IsEvent t x in
     subst P (no_more_ok _ e _ bytes.2) (record { from = (ep_of-sound src.0.0 from.0 from.1).0; to = (ep_of-sound dst.0.0 to.0 to.1).0; short = few.short; made = few.made })
 legal_behind t verb.Copy ws e h =
-    let number = bind_ok (word (number_of MOST_NUMBER) ws) _ e h in
+    let number = bind_ok (word (number_of ENTRY_NUMBER_MAX) ws) _ e h in
     let src = bind_ok (word ep_of number.0.1) _ e number.2 in
     let dst = bind_ok (word ep_of src.0.1) _ e src.2 in
-    let w = word_ok (number_of MOST_NUMBER) ws number.0 number.1 in
+    let w = word_ok (number_of ENTRY_NUMBER_MAX) ws number.0 number.1 in
     let from = word_ok ep_of number.0.1 src.0 src.1 in
     let to = word_ok ep_of src.0.1 dst.0 dst.1 in
     let P : Event → Type 0 = λ x. IsEvent t x in
-    subst P (no_more_ok _ e _ dst.2) (record { most = (number_of-sound MOST_NUMBER number.0.0 w.0 w.1).0; from = (ep_of-sound src.0.0 from.0 from.1).0; to = (ep_of-sound dst.0.0 to.0 to.1).0 })
+    subst P (no_more_ok _ e _ dst.2) (record { most = (number_of-sound ENTRY_NUMBER_MAX number.0.0 w.0 w.1).0; from = (ep_of-sound src.0.0 from.0 from.1).0; to = (ep_of-sound dst.0.0 to.0 to.1).0 })
 legal_behind t verb.Restart ws e h =
     let node = bind_ok (word (named any_kind t) ws) _ e h in
     let a = word_ok (named any_kind t) ws node.0 node.1 in

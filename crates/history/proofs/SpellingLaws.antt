@@ -15,7 +15,8 @@ use Rattle.td_base.specs.Ip6Texts.{ip6_text}
 use Rattle.td_base.proofs.Ip6Lemmas.{printed_is_spelled}
 use Rattle.history.specs.declared.event.Event.{Event}
 use Rattle.history.specs.declared.event.Event.TheVariants as event
-use Rattle.history.specs.declared.event.TheConstants.{MOST_ADVANCE, MOST_NUMBER, MOST_SEQUENCE, MOST_BODY, MOST_BYTES}
+use Rattle.history.specs.declared.event.TheConstants.{ADVANCE_MAX_MS, ENTRY_NUMBER_MAX, SEQUENCE_MAX, BODY_MAX}
+use Rattle.td_base.specs.declared.datagram.TheConstants.{DATAGRAM_MAX}
 use Rattle.history.specs.declared.acts.Verb.{Verb}
 use Rattle.history.specs.declared.acts.Verb.TheVariants as verb
 use Rattle.history.specs.declared.target.Target.{Target}
@@ -175,17 +176,17 @@ read_back t e v more are plain =
     ∙ ap (λ l. word verb_of (placed 0 l) >>= (λ x. event_behind t x.0 x.1)) (split_join (verb_word v ∷ more) (omega arith) (is_word-verb v, plain))
     ∙ verb_first t v more
 
-pub again_advance : (t : TopologyState) (ms : ℕ) → ms ≤ MOST_ADVANCE → event_of t (event_text t (event.Advance ms)) ≡ Ok (event.Advance ms)
+pub again_advance : (t : TopologyState) (ms : ℕ) → ms ≤ ADVANCE_MAX_MS → event_of t (event_text t (event.Advance ms)) ≡ Ok (event.Advance ms)
 unfolding event_behind
 again_advance t ms le =
     read_back t (event.Advance ms) verb.Advance (decimal ms ∷ []) refl (is_word-decimal ms (omega (arith, le)), tt)
-    ∙ rw (number_back MOST_ADVANCE ms (omega arith) le) refl
+    ∙ rw (number_back ADVANCE_MAX_MS ms (omega arith) le) refl
 
-pub again_deliver : (t : TopologyState) (number : ℕ) → number ≤ MOST_NUMBER → event_of t (event_text t (event.Deliver number)) ≡ Ok (event.Deliver number)
+pub again_deliver : (t : TopologyState) (number : ℕ) → number ≤ ENTRY_NUMBER_MAX → event_of t (event_text t (event.Deliver number)) ≡ Ok (event.Deliver number)
 unfolding event_behind
 again_deliver t number le =
     read_back t (event.Deliver number) verb.Deliver (decimal number ∷ []) refl (is_word-decimal number (omega (arith, le)), tt)
-    ∙ rw (number_back MOST_NUMBER number (omega arith) le) refl
+    ∙ rw (number_back ENTRY_NUMBER_MAX number (omega arith) le) refl
 
 pub again_next : (t : TopologyState) → event_of t (event_text t event.Next) ≡ Ok event.Next
 unfolding event_behind
@@ -200,31 +201,31 @@ pub again_host : (t : TopologyState) (node : ℕ) (to : Target) (body : List ℕ
 unfolding event_behind
 again_host t node to body is legal made bytes =
     read_back t (event.Host node to body) verb.Host (name_word t node ∷ target_word t to ∷ hex_word body ∷ []) refl (is_word-name t node (plain_names t is), (is_word-target t to (plain_names t is) made, (is_word-bytes body bytes, tt)))
-    ∙ rw (kind_back has_host t node is.names refl legal.from, target_back t to is.names (plain_names t is) legal.target made, bytes_back MOST_BODY body legal.short bytes) refl
+    ∙ rw (kind_back has_host t node is.names refl legal.from, target_back t to is.names (plain_names t is) legal.target made, bytes_back BODY_MAX body legal.short bytes) refl
 
-pub again_echo : (t : TopologyState) (node : ℕ) (to : Target) (seq : ℕ) → IsTopology t → IsEvent t (event.Echo node to seq) → IsMadeTarget to → seq ≤ MOST_SEQUENCE → event_of t (event_text t (event.Echo node to seq)) ≡ Ok (event.Echo node to seq)
+pub again_echo : (t : TopologyState) (node : ℕ) (to : Target) (seq : ℕ) → IsTopology t → IsEvent t (event.Echo node to seq) → IsMadeTarget to → seq ≤ SEQUENCE_MAX → event_of t (event_text t (event.Echo node to seq)) ≡ Ok (event.Echo node to seq)
 unfolding event_behind
 again_echo t node to seq is legal made le =
     read_back t (event.Echo node to seq) verb.Echo (name_word t node ∷ target_word t to ∷ decimal seq ∷ []) refl (is_word-name t node (plain_names t is), (is_word-target t to (plain_names t is) made, (is_word-decimal seq (omega (arith, le)), tt)))
-    ∙ rw (kind_back has_host t node is.names refl legal.from, target_back t to is.names (plain_names t is) legal.target made, number_back MOST_SEQUENCE seq (omega arith) le) refl
+    ∙ rw (kind_back has_host t node is.names refl legal.from, target_back t to is.names (plain_names t is) legal.target made, number_back SEQUENCE_MAX seq (omega arith) le) refl
 
 pub again_raw : (t : TopologyState) (node : ℕ) (bytes : List ℕ) → IsTopology t → IsEvent t (event.Raw node bytes) → IsBytes bytes → event_of t (event_text t (event.Raw node bytes)) ≡ Ok (event.Raw node bytes)
 unfolding event_behind
 again_raw t node bytes is legal are =
     read_back t (event.Raw node bytes) verb.Raw (name_word t node ∷ hex_word bytes ∷ []) refl (is_word-name t node (plain_names t is), (is_word-bytes bytes are, tt))
-    ∙ rw (kind_back has_host t node is.names refl legal.from, bytes_back MOST_BYTES bytes legal.short are) refl
+    ∙ rw (kind_back has_host t node is.names refl legal.from, bytes_back DATAGRAM_MAX bytes legal.short are) refl
 
-pub again_stranger : (t : TopologyState) (src dst : Ep) (bytes : List ℕ) → length bytes ≤ MOST_BYTES → IsEp src → IsEp dst → IsBytes bytes → event_of t (event_text t (event.Stranger src dst bytes)) ≡ Ok (event.Stranger src dst bytes)
+pub again_stranger : (t : TopologyState) (src dst : Ep) (bytes : List ℕ) → length bytes ≤ DATAGRAM_MAX → IsEp src → IsEp dst → IsBytes bytes → event_of t (event_text t (event.Stranger src dst bytes)) ≡ Ok (event.Stranger src dst bytes)
 unfolding event_behind
 again_stranger t src dst bytes le from to are =
     read_back t (event.Stranger src dst bytes) verb.Stranger (_ ∷ _ ∷ hex_word bytes ∷ []) refl (is_word-ep src from, (is_word-ep dst to, (is_word-bytes bytes are, tt)))
-    ∙ rw (ep_of-text src from, ep_of-text dst to, bytes_back MOST_BYTES bytes le are) refl
+    ∙ rw (ep_of-text src from, ep_of-text dst to, bytes_back DATAGRAM_MAX bytes le are) refl
 
-pub again_copy : (t : TopologyState) (number : ℕ) (src dst : Ep) → number ≤ MOST_NUMBER → IsEp src → IsEp dst → event_of t (event_text t (event.Copy number src dst)) ≡ Ok (event.Copy number src dst)
+pub again_copy : (t : TopologyState) (number : ℕ) (src dst : Ep) → number ≤ ENTRY_NUMBER_MAX → IsEp src → IsEp dst → event_of t (event_text t (event.Copy number src dst)) ≡ Ok (event.Copy number src dst)
 unfolding event_behind
 again_copy t number src dst le from to =
     read_back t (event.Copy number src dst) verb.Copy (decimal number ∷ _ ∷ _ ∷ []) refl (is_word-decimal number (omega (arith, le)), (is_word-ep src from, (is_word-ep dst to, tt)))
-    ∙ rw (number_back MOST_NUMBER number (omega arith) le, ep_of-text src from, ep_of-text dst to) refl
+    ∙ rw (number_back ENTRY_NUMBER_MAX number (omega arith) le, ep_of-text src from, ep_of-text dst to) refl
 
 pub again_restart : (t : TopologyState) (node : ℕ) → IsTopology t → node < length (nodes t) → event_of t (event_text t (event.Restart node)) ≡ Ok (event.Restart node)
 unfolding event_behind

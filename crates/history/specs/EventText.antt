@@ -3,7 +3,8 @@ use Rattle.std.specs.Prelude.{ℕ, ◌+◌, List, [], ◌∷◌, length, Option,
 use Rattle.td_base.specs.Results.{◌>>=◌}
 use Rattle.history.specs.declared.event.Event.{Event}
 use Rattle.history.specs.declared.event.Event.TheVariants as event
-use Rattle.history.specs.declared.event.TheConstants.{MOST_ADVANCE, MOST_NUMBER, MOST_SEQUENCE, MOST_BODY, MOST_BYTES}
+use Rattle.history.specs.declared.event.TheConstants.{ADVANCE_MAX_MS, ENTRY_NUMBER_MAX, SEQUENCE_MAX, BODY_MAX}
+use Rattle.td_base.specs.declared.datagram.TheConstants.{DATAGRAM_MAX}
 use Rattle.history.specs.declared.acts.Verb.{Verb}
 use Rattle.history.specs.declared.acts.Verb.TheVariants as verb
 use Rattle.topology.specs.Rows.{TopologyState}
@@ -45,33 +46,33 @@ no_more e (a_word place text more) = Err place
 -- the event of the words behind the first
 unfoldable pub event_behind : TopologyState → Verb → Words → Result Event ℕ
 event_behind t verb.Advance more = do
-  ms ← word (number_of MOST_ADVANCE) more
+  ms ← word (number_of ADVANCE_MAX_MS) more
   no_more (event.Advance ms.0) ms.1
 event_behind t verb.Deliver more = do
-  number ← word (number_of MOST_NUMBER) more
+  number ← word (number_of ENTRY_NUMBER_MAX) more
   no_more (event.Deliver number.0) number.1
 event_behind t verb.Next more = no_more event.Next more
 event_behind t verb.Host more = do
   node ← word (named has_host t) more
   to ← word (target_of t) node.1
-  body ← word (bytes_of MOST_BODY) to.1
+  body ← word (bytes_of BODY_MAX) to.1
   no_more (event.Host node.0 to.0 body.0) body.1
 event_behind t verb.Echo more = do
   node ← word (named has_host t) more
   to ← word (target_of t) node.1
-  seq ← word (number_of MOST_SEQUENCE) to.1
+  seq ← word (number_of SEQUENCE_MAX) to.1
   no_more (event.Echo node.0 to.0 seq.0) seq.1
 event_behind t verb.Raw more = do
   node ← word (named has_host t) more
-  bytes ← word (bytes_of MOST_BYTES) node.1
+  bytes ← word (bytes_of DATAGRAM_MAX) node.1
   no_more (event.Raw node.0 bytes.0) bytes.1
 event_behind t verb.Stranger more = do
   src ← word ep_of more
   dst ← word ep_of src.1
-  bytes ← word (bytes_of MOST_BYTES) dst.1
+  bytes ← word (bytes_of DATAGRAM_MAX) dst.1
   no_more (event.Stranger src.0 dst.0 bytes.0) bytes.1
 event_behind t verb.Copy more = do
-  number ← word (number_of MOST_NUMBER) more
+  number ← word (number_of ENTRY_NUMBER_MAX) more
   src ← word ep_of number.1
   dst ← word ep_of src.1
   no_more (event.Copy number.0 src.0 dst.0) dst.1

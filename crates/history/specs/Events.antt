@@ -6,7 +6,8 @@ use Rattle.td_base.specs.Ep.{IsEp}
 use Rattle.td_base.specs.Ip6.{IsIp6}
 use Rattle.history.specs.declared.event.Event.{Event}
 use Rattle.history.specs.declared.event.Event.TheVariants as event
-use Rattle.history.specs.declared.event.TheConstants.{MOST_ADVANCE, MOST_NUMBER, MOST_SEQUENCE, MOST_BODY, MOST_BYTES}
+use Rattle.history.specs.declared.event.TheConstants.{ADVANCE_MAX_MS, ENTRY_NUMBER_MAX, SEQUENCE_MAX, BODY_MAX}
+use Rattle.td_base.specs.declared.datagram.TheConstants.{DATAGRAM_MAX}
 use Rattle.history.specs.declared.target.Target.{Target}
 use Rattle.history.specs.declared.target.Target.TheVariants as target
 use Rattle.topology.specs.Rows.{TopologyState}
@@ -22,31 +23,31 @@ IsTarget t (target.At ip) = IsIp6 ip
 pub record IsHosted (t : TopologyState) (node : ℕ) (to : Target) (body : List ℕ) : Type 0 where
   pub from : has_host (node_at t node) ≡ true
   pub target : IsTarget t to
-  pub short : length body ≤ MOST_BODY
+  pub short : length body ≤ BODY_MAX
   pub made : IsBytes body
 
 -- it sends an echo request with this sequence number
 pub record IsEcho (t : TopologyState) (node : ℕ) (to : Target) (seq : ℕ) : Type 0 where
   pub from : has_host (node_at t node) ≡ true
   pub target : IsTarget t to
-  pub most : seq ≤ MOST_SEQUENCE
+  pub most : seq ≤ SEQUENCE_MAX
 
 -- it hands in these bytes
 pub record IsHandedIn (t : TopologyState) (node : ℕ) (bytes : List ℕ) : Type 0 where
   pub from : has_host (node_at t node) ≡ true
-  pub short : length bytes ≤ MOST_BYTES
+  pub short : length bytes ≤ DATAGRAM_MAX
   pub made : IsBytes bytes
 
 -- a stranger's datagram
 pub record IsStranger (src dst : Ep) (bytes : List ℕ) : Type 0 where
   pub from : IsEp src
   pub to : IsEp dst
-  pub short : length bytes ≤ MOST_BYTES
+  pub short : length bytes ≤ DATAGRAM_MAX
   pub made : IsBytes bytes
 
 -- a copy of an entry, between other endpoints
 pub record IsCopy (number : ℕ) (src dst : Ep) : Type 0 where
-  pub most : number ≤ MOST_NUMBER
+  pub most : number ≤ ENTRY_NUMBER_MAX
   pub from : IsEp src
   pub to : IsEp dst
 
@@ -56,8 +57,8 @@ pub record IsForgotten (t : TopologyState) (n who : ℕ) : Type 0 where
 
 -- the numbers are of nodes that can do so, and within their limits; addresses, ports and bytes are as datagrams have them
 abbrev pub IsEvent : TopologyState → Event → Type 0
-IsEvent t (event.Advance ms) = ms ≤ MOST_ADVANCE
-IsEvent t (event.Deliver number) = number ≤ MOST_NUMBER
+IsEvent t (event.Advance ms) = ms ≤ ADVANCE_MAX_MS
+IsEvent t (event.Deliver number) = number ≤ ENTRY_NUMBER_MAX
 IsEvent t event.Next = Unit {0}
 IsEvent t (event.Host node to body) = IsHosted t node to body
 IsEvent t (event.Echo node to seq) = IsEcho t node to seq

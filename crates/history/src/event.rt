@@ -1,24 +1,21 @@
 use crate::target::Target;
-use td_base::{DATAGRAM_MAX, Ep};
+use td_base::Ep;
 use td_outside::Octets;
 
 /// The most events of a scenario.
 pub const EVENTS_MAX: usize = 50_000;
 
 /// How far one event advances the time at most, in milliseconds.
-pub const MOST_ADVANCE: u64 = 1_000_000_000;
+pub const ADVANCE_MAX_MS: u64 = 1_000_000_000;
 
 /// The largest number of an entry that an event can name.
-pub const MOST_NUMBER: u32 = 65_535;
+pub const ENTRY_NUMBER_MAX: u32 = 65_535;
 
 /// The largest sequence number of an echo request.
-pub const MOST_SEQUENCE: u16 = 65_535;
+pub const SEQUENCE_MAX: u16 = 65_535;
 
 /// The most bytes of a body that a host sends.
-pub const MOST_BODY: usize = 1_240;
-
-/// The most bytes of a datagram or packet that an event gives: what the wire carries.
-pub const MOST_BYTES: usize = DATAGRAM_MAX;
+pub const BODY_MAX: usize = 1_240;
 
 /// What a scenario asks for. Nodes stand by their numbers.
 #[derive(Drop)]

@@ -15,15 +15,15 @@ ghost use Rattle.history.specs.EventText.{event_of};
 ghost use Rattle.history.specs.EventSpelling.{hex_word, name_word, target_word, event_text, IsMadeTarget};
 
 use crate::acts::Verb;
-use crate::event::{Event, MOST_ADVANCE, MOST_BYTES, MOST_NUMBER};
+use crate::event::{ADVANCE_MAX_MS, ENTRY_NUMBER_MAX, Event};
 use crate::target::Target;
 use itoa::Buffer;
 use std::alloc::Global;
-use td_base::{Ep, Ip6, LineBuf, NoMemory, print_ep, print_ip6};
+use td_base::{DATAGRAM_MAX, Ep, Ip6, LineBuf, NoMemory, print_ep, print_ip6};
 use topology::Topology;
 
 /// The most digits of a word of bytes.
-const MOST_DIGITS: usize = 2 * MOST_BYTES;
+const DIGITS_MAX: usize = 2 * DATAGRAM_MAX;
 
 /// A text that begins with an event's word.
 fn begin(alloc: Global, verb: Verb) -> Result<Vec<u8>, NoMemory>
@@ -72,10 +72,10 @@ fn push_ip6(text: &mut Vec<u8>, ip: Ip6) -> Result<(), NoMemory>
 }
 
 fn push_digits(text: &mut Vec<u8>, bytes: &[u8]) -> Result<(), NoMemory>
-    requires { length bytes.now ≤ MOST_BYTES }
+    requires { length bytes.now ≤ DATAGRAM_MAX }
     ensures { OnOk result (text.new.items ≡ text.old.items ++ space ∷ encode_lower bytes.now) }
 {
-    let mut room = [0; MOST_DIGITS];
+    let mut room = [0; DIGITS_MAX];
     let digits = &mut room[..2 * bytes.len()];
     if hex::encode_to_slice(bytes, digits).is_err() {
         unreachable!();
@@ -84,7 +84,7 @@ fn push_digits(text: &mut Vec<u8>, bytes: &[u8]) -> Result<(), NoMemory>
 }
 
 fn push_bytes(text: &mut Vec<u8>, bytes: &[u8]) -> Result<(), NoMemory>
-    requires { length bytes.now ≤ MOST_BYTES }
+    requires { length bytes.now ≤ DATAGRAM_MAX }
     ensures { OnOk result (text.new.items ≡ text.old.items ++ space ∷ hex_word bytes.now) }
 {
     if bytes.is_empty() {
@@ -117,7 +117,7 @@ fn push_target(text: &mut Vec<u8>, t: &Topology, to: Target) -> Result<(), NoMem
 
 #[tactic(auto, unfolding(crate::specs::EventSpelling::event_text))]
 fn advance_text(alloc: Global, ms: u64) -> Result<Vec<u8>, NoMemory>
-    requires { ms ≤ MOST_ADVANCE }
+    requires { ms ≤ ADVANCE_MAX_MS }
     ensures text { (t : TopologyState) → IfOk result (λ text. text.items ≡ event_text t (event.Advance ms)) }
     ensures again { (t : TopologyState) → IfOk result (λ text. event_of t text.items ≡ Ok (event.Advance ms)) }
 {
@@ -128,7 +128,7 @@ fn advance_text(alloc: Global, ms: u64) -> Result<Vec<u8>, NoMemory>
 
 #[tactic(auto, unfolding(crate::specs::EventSpelling::event_text))]
 fn deliver_text(alloc: Global, number: u32) -> Result<Vec<u8>, NoMemory>
-    requires { number ≤ MOST_NUMBER }
+    requires { number ≤ ENTRY_NUMBER_MAX }
     ensures text { (t : TopologyState) → IfOk result (λ text. text.items ≡ event_text t (event.Deliver number)) }
     ensures again { (t : TopologyState) → IfOk result (λ text. event_of t text.items ≡ Ok (event.Deliver number)) }
 {
@@ -197,7 +197,7 @@ fn raw_text(alloc: Global, t: &Topology, node: u16, bytes: &[u8]) -> Result<Vec<
 
 #[tactic(auto, unfolding(crate::specs::EventSpelling::event_text), using(crate::proofs::SpellingLaws::joined_four))]
 fn stranger_text(alloc: Global, src: Ep, dst: Ep, bytes: &[u8]) -> Result<Vec<u8>, NoMemory>
-    requires { length bytes.now ≤ MOST_BYTES }
+    requires { length bytes.now ≤ DATAGRAM_MAX }
     ensures text { (t : TopologyState) → IfOk result (λ text. text.items ≡ event_text t (event.Stranger src dst bytes.now)) }
     ensures again { (t : TopologyState) → IfOk result (λ text. event_of t text.items ≡ Ok (event.Stranger src dst bytes.now)) }
 {
@@ -210,7 +210,7 @@ fn stranger_text(alloc: Global, src: Ep, dst: Ep, bytes: &[u8]) -> Result<Vec<u8
 
 #[tactic(auto, unfolding(crate::specs::EventSpelling::event_text), using(crate::proofs::SpellingLaws::joined_four))]
 fn copy_text(alloc: Global, number: u32, src: Ep, dst: Ep) -> Result<Vec<u8>, NoMemory>
-    requires { number ≤ MOST_NUMBER }
+    requires { number ≤ ENTRY_NUMBER_MAX }
     ensures text { (t : TopologyState) → IfOk result (λ text. text.items ≡ event_text t (event.Copy number src dst)) }
     ensures again { (t : TopologyState) → IfOk result (λ text. event_of t text.items ≡ Ok (event.Copy number src dst)) }
 {

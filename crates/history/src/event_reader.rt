@@ -8,7 +8,7 @@ ghost use Rattle.history.specs.declared.acts.Verb.TheVariants as verb;
 ghost use Rattle.history.specs.declared.event_fault.EventFault.TheVariants.{At};
 
 use crate::acts::Verb;
-use crate::event::{Event, MOST_ADVANCE, MOST_BODY, MOST_BYTES, MOST_NUMBER, MOST_SEQUENCE};
+use crate::event::{ADVANCE_MAX_MS, BODY_MAX, ENTRY_NUMBER_MAX, Event, SEQUENCE_MAX};
 use crate::event_fault::EventFault;
 use crate::event_words::{
     WordsLeft, bytes, client, endpoint, host, nat, no_more, node, number, target, verb,
@@ -20,7 +20,7 @@ use topology::Topology;
 fn advance(words: WordsLeft) -> Result<Event, EventFault>
     ensures { (t : TopologyState) → Answers (λ e. e) result (event_behind t verb.Advance (words_from words.entry.text.now words.entry.at)) }
 {
-    let (ms, words) = number(words, MOST_ADVANCE)?;
+    let (ms, words) = number(words, ADVANCE_MAX_MS)?;
     no_more(Event::Advance { ms }, words)
 }
 
@@ -28,7 +28,7 @@ fn advance(words: WordsLeft) -> Result<Event, EventFault>
 fn deliver(words: WordsLeft) -> Result<Event, EventFault>
     ensures { (t : TopologyState) → Answers (λ e. e) result (event_behind t verb.Deliver (words_from words.entry.text.now words.entry.at)) }
 {
-    let (number, words) = number(words, u64::from(MOST_NUMBER))?;
+    let (number, words) = number(words, u64::from(ENTRY_NUMBER_MAX))?;
     no_more(
         Event::Deliver {
             number: number as u32,
@@ -43,7 +43,7 @@ fn host_event(alloc: Global, t: &Topology, words: WordsLeft) -> Result<Event, Ev
 {
     let (node, words) = host(t, words)?;
     let (to, words) = target(t, words)?;
-    let (body, words) = bytes(alloc, words, MOST_BODY)?;
+    let (body, words) = bytes(alloc, words, BODY_MAX)?;
     no_more(Event::Host { node, to, body }, words)
 }
 
@@ -53,7 +53,7 @@ fn echo(t: &Topology, words: WordsLeft) -> Result<Event, EventFault>
 {
     let (node, words) = host(t, words)?;
     let (to, words) = target(t, words)?;
-    let (seq, words) = number(words, u64::from(MOST_SEQUENCE))?;
+    let (seq, words) = number(words, u64::from(SEQUENCE_MAX))?;
     no_more(
         Event::Echo {
             node,
@@ -69,7 +69,7 @@ fn raw(alloc: Global, t: &Topology, words: WordsLeft) -> Result<Event, EventFaul
     ensures { Answers (λ e. e) result (event_behind t.now verb.Raw (words_from words.entry.text.now words.entry.at)) }
 {
     let (node, words) = host(t, words)?;
-    let (bytes, words) = bytes(alloc, words, MOST_BYTES)?;
+    let (bytes, words) = bytes(alloc, words, DATAGRAM_MAX)?;
     no_more(Event::Raw { node, bytes }, words)
 }
 
@@ -79,7 +79,7 @@ fn stranger(alloc: Global, words: WordsLeft) -> Result<Event, EventFault>
 {
     let (src, words) = endpoint(words)?;
     let (dst, words) = endpoint(words)?;
-    let (bytes, words) = bytes(alloc, words, MOST_BYTES)?;
+    let (bytes, words) = bytes(alloc, words, DATAGRAM_MAX)?;
     no_more(Event::Stranger { src, dst, bytes }, words)
 }
 
@@ -87,7 +87,7 @@ fn stranger(alloc: Global, words: WordsLeft) -> Result<Event, EventFault>
 fn copy(words: WordsLeft) -> Result<Event, EventFault>
     ensures { (t : TopologyState) → Answers (λ e. e) result (event_behind t verb.Copy (words_from words.entry.text.now words.entry.at)) }
 {
-    let (number, words) = number(words, u64::from(MOST_NUMBER))?;
+    let (number, words) = number(words, u64::from(ENTRY_NUMBER_MAX))?;
     let (src, words) = endpoint(words)?;
     let (dst, words) = endpoint(words)?;
     no_more(

@@ -11,13 +11,13 @@ ghost use Rattle.history.specs.Answers.{Answers, words_from};
 ghost use Rattle.history.specs.declared.event_fault.EventFault.TheVariants.{At};
 
 use crate::acts::{VERBS, Verb};
-use crate::event::{Event, MOST_BYTES};
+use crate::event::Event;
 use crate::event_fault::EventFault;
 use crate::node_words::target_word;
 use crate::target::Target;
 use crate::word_texts::{bytes_word, ep_word, number_word};
 use std::alloc::Global;
-use td_base::Ep;
+use td_base::{DATAGRAM_MAX, Ep};
 use td_outside::Octets;
 use topology::{Topology, client_named, host_named, nat_named, node_named};
 
@@ -98,7 +98,7 @@ pub(crate) fn bytes(
     words: WordsLeft,
     most: usize,
 ) -> Result<(Octets, WordsLeft), EventFault>
-    requires { most ≤ MOST_BYTES }
+    requires { most ≤ DATAGRAM_MAX }
     ensures { Answers (λ x. (x.0, words_from x.1.text.now x.1.at)) result (word (bytes_of most) (words_from words.entry.text.now words.entry.at)) }
 {
     let (word, behind) = next_word(words)?;

@@ -49,7 +49,7 @@ mod word_texts;
 
 pub use acts::{Act, Verb};
 pub use event::{
-    EVENTS_MAX, Event, MOST_ADVANCE, MOST_BODY, MOST_BYTES, MOST_NUMBER, MOST_SEQUENCE,
+    ADVANCE_MAX_MS, BODY_MAX, DATAGRAM_MAX, ENTRY_NUMBER_MAX, EVENTS_MAX, Event, SEQUENCE_MAX,
 };
 pub use event_fault::EventFault;
 pub use event_list::Events;
@@ -57,12 +57,12 @@ pub use event_printer::print_event;
 pub use event_reader::read_event;
 pub use laws::words_are_made;
 pub use mark::{Loss, Mark};
-pub use mark_list::{MOST_MARKS, Marks};
+pub use mark_list::{MARKS_MAX, Marks};
 pub use records::Record;
 pub use target::Target;
 pub use topology::{
-    ClientNode, LEAST_REFRESH, MOST_CLIENTS, MOST_IDLE, MOST_NATIVES, MOST_NATS, MOST_REFRESH,
-    MOST_RELAYS, MOST_SERVERS, NatNode, NativeNode, RelayNode, ServerNode, Topology,
+    CLIENTS_MAX, ClientNode, IDLE_MAX_MS, NATIVES_MAX, NATS_MAX, NatNode, NativeNode,
+    REFRESH_MAX_MS, REFRESH_MIN_MS, RELAYS_MAX, RelayNode, SERVERS_MAX, ServerNode, Topology,
 };
 pub use turn::{Stop, Turn};
 pub use word_texts::{ep_word, ip4_word, ip6_word};

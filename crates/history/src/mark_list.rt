@@ -5,7 +5,7 @@ use std::marker::Model;
 use td_base::{Ep, Ip4};
 
 /// The most marks of a record: one for each send of a step, and one for a packet to the IPv6 side.
-pub const MOST_MARKS: usize = 9;
+pub const MARKS_MAX: usize = 9;
 
 /// At most nine marks.
 #[derive(Drop)]
@@ -51,14 +51,14 @@ impl Marks {
     /// The marks in order.
     pub fn as_slice(&self) -> &[Mark]
         ensures value { result.now ≡ self.now }
-        ensures few { length result.now ≤ MOST_MARKS }
+        ensures few { length result.now ≤ MARKS_MAX }
     {
         &self.marks[..self.len]
     }
 
     /// Appends a mark.
     pub fn push(&mut self, mark: Mark)
-        requires { length self.old < MOST_MARKS }
+        requires { length self.old < MARKS_MAX }
         ensures { self.new ≡ self.old ++ mark ∷ [] }
     {
         self.marks[self.len] = mark;

@@ -3,9 +3,8 @@ ghost use Rattle.std.specs.Prelude.{◌≡◌, ◌≤◌, IfOk, IfSome};
 ghost use Rattle.history.specs.Words.{number_of, ip4_of, ep_of, hex_of, bytes_of};
 ghost use Rattle.history.specs.Ip6Words.{ip6_of};
 
-use crate::event::MOST_BYTES;
 use std::alloc::Global;
-use td_base::{Ep, Ip4, Ip6, NoMemory, read_ep, read_ip4, read_ip6, read_number};
+use td_base::{DATAGRAM_MAX, Ep, Ip4, Ip6, NoMemory, read_ep, read_ip4, read_ip6, read_number};
 use td_outside::Octets;
 
 /// The number up to `most` that a word says.
@@ -39,7 +38,7 @@ pub fn ip6_word(word: &[u8]) -> Option<Ip6>
 
 /// The bytes that hexadecimal digits say, one to `most` of them.
 fn digits_word(alloc: Global, digits: &[u8], most: usize) -> Result<Option<Octets>, NoMemory>
-    requires { most ≤ MOST_BYTES }
+    requires { most ≤ DATAGRAM_MAX }
     ensures { IfOk result (λ o. o ≡ hex_of most digits.now) }
 {
     if digits.is_empty() {
@@ -49,7 +48,7 @@ fn digits_word(alloc: Global, digits: &[u8], most: usize) -> Result<Option<Octet
     if len > most {
         return Ok(None);
     }
-    let mut room = [0; MOST_BYTES];
+    let mut room = [0; DATAGRAM_MAX];
     let bytes = &mut room[..len];
     if hex::decode_to_slice(digits, bytes).is_err() {
         return Ok(None);
@@ -64,7 +63,7 @@ pub(crate) fn bytes_word(
     word: &[u8],
     most: usize,
 ) -> Result<Option<Octets>, NoMemory>
-    requires { most ≤ MOST_BYTES }
+    requires { most ≤ DATAGRAM_MAX }
     ensures { IfOk result (λ o. o ≡ bytes_of most word.now) }
 {
     if word == b"-".as_slice() {

@@ -3,7 +3,7 @@ use Rattle.std.specs.Prelude.{◌≤◌, List, length}
 use Rattle.td_base.specs.declared.endpoint.Ep.{Ep}
 use Rattle.teredo_node.specs.Journal.{Input, arrived, given, from_six, ticked, Entry}
 use Rattle.topology.specs.Rows.{TopologyState}
-use Rattle.history.specs.declared.event.TheConstants.{MOST_BYTES}
+use Rattle.td_base.specs.declared.datagram.TheConstants.{DATAGRAM_MAX}
 use Rattle.history.specs.Full.{Full}
 use Rattle.legal.specs.Past.{Draws}
 use Rattle.legal.specs.Emit.{entry_of}
@@ -26,9 +26,9 @@ dst_lent _ = no_ep
 
 -- no more bytes come than an event or a node may give
 abbrev pub IsShortInput : Input → Type 0
-IsShortInput (arrived from x) = length x ≤ MOST_BYTES
-IsShortInput (given x) = length x ≤ MOST_BYTES
-IsShortInput (from_six x) = length x ≤ MOST_BYTES
+IsShortInput (arrived from x) = length x ≤ DATAGRAM_MAX
+IsShortInput (given x) = length x ≤ DATAGRAM_MAX
+IsShortInput (from_six x) = length x ≤ DATAGRAM_MAX
 IsShortInput ticked = Unit {0}
 
 -- the entry of a call in the node's journal

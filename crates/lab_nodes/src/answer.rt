@@ -1,6 +1,6 @@
 //! What a node does with what comes to it.
 ghost use Rattle.std.specs.Prelude.{◌≡◌, ◌≢◌, ◌≤◌, ◌<◌, ℕ, [], List, length, slice_get, OnOk, OnErr, IfOk, IfSome};
-ghost use Rattle.history.specs.declared.event.TheConstants.{MOST_BYTES};
+ghost use Rattle.td_base.specs.declared.datagram.TheConstants.{DATAGRAM_MAX};
 ghost use Rattle.td_outside.specs.declared.clock.TheConstants.{CLOCK_END_MS};
 ghost use Rattle.topology.specs.Rows.{TopologyState};
 ghost use Rattle.topology.specs.declared.node.Node.TheVariants.{Native as native};
@@ -67,7 +67,7 @@ fn address_of(node: Node, state: &NodeState, step: &Step) -> Option<Ip6>
 fn packet_of(alloc: Global, call: Call<'_>, step: &Step) -> Result<Option<Octets>, NoMemory>
     requires kind { IsNoNative call.node }
     ensures made { IfOk result (λ packet. (e : Entry) → e.input ≡ input_lent call.entry.coming → e.step ≡ step.now → packet ≡ packet_by call.entry.node e) }
-    ensures short { IsShortInput (input_lent call.entry.coming) → IfOk result (λ packet. IfSome packet (λ copied. length copied ≤ MOST_BYTES)) }
+    ensures short { IsShortInput (input_lent call.entry.coming) → IfOk result (λ packet. IfSome packet (λ copied. length copied ≤ DATAGRAM_MAX)) }
     ensures needs { OnErr result ((d : Draws) (t : TopologyState) (H : List Full) (m : ℕ) (e : Entry) → e.input ≡ input_lent call.entry.coming → e.step ≡ step.now
         → made_of t H m e call.entry.node ≢ []) }
 {
@@ -99,7 +99,7 @@ fn ask_native(
     requires native { call.node ≡ native row }
     requires short { IsShortInput (input_lent call.coming) }
     ensures asks { IfOk result (λ asked. (nodes : List NodeState) → Asks call.entry nodes nodes step.new asked) }
-    ensures short { IfOk result (λ asked. IfSome asked.packet (λ packet. length packet ≤ MOST_BYTES)) }
+    ensures short { IfOk result (λ asked. IfSome asked.packet (λ packet. length packet ≤ DATAGRAM_MAX)) }
     ensures wants { OnErr result ((nodes : List NodeState) → WantsAny call.entry nodes) }
 {
     Ok(Asked {
@@ -119,7 +119,7 @@ fn ask_kept(nodes: &mut Vec<NodeState>, call: Call<'_>, step: &mut Step) -> Resu
     ensures ready { AreReady call.entry.now.0 nodes.new.items }
     ensures elsewhere { (n : ℕ) → n ≢ call.entry.number → slice_get nodes.new.items n ≡ slice_get nodes.old.items n }
     ensures asks { IfOk result (λ asked. Asks call.entry nodes.old.items nodes.new.items step.new asked) }
-    ensures short { IfOk result (λ asked. IfSome asked.packet (λ packet. length packet ≤ MOST_BYTES)) }
+    ensures short { IfOk result (λ asked. IfSome asked.packet (λ packet. length packet ≤ DATAGRAM_MAX)) }
     ensures wants { OnErr result (WantsAny call.entry nodes.old.items) }
 {
     let alloc = *nodes.allocator();
@@ -147,7 +147,7 @@ pub fn ask(nodes: &mut Vec<NodeState>, call: Call<'_>, step: &mut Step) -> Resul
     ensures ready { AreReady call.entry.now.0 nodes.new.items }
     ensures elsewhere { (n : ℕ) → n ≢ call.entry.number → slice_get nodes.new.items n ≡ slice_get nodes.old.items n }
     ensures asks { IfOk result (λ asked. Asks call.entry nodes.old.items nodes.new.items step.new asked) }
-    ensures short { IfOk result (λ asked. IfSome asked.packet (λ packet. length packet ≤ MOST_BYTES)) }
+    ensures short { IfOk result (λ asked. IfSome asked.packet (λ packet. length packet ≤ DATAGRAM_MAX)) }
     ensures wants { OnErr result (WantsAny call.entry nodes.old.items) }
 {
     let alloc = *nodes.allocator();

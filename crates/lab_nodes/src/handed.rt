@@ -1,6 +1,6 @@
 //! What a step hands of a datagram to the host, or to the IPv6 side.
 ghost use Rattle.std.specs.Prelude.{◌≡◌, ◌≢◌, ◌≤◌, [], length, option_map, option_and_then, OnErr, IfOk, IfSome};
-ghost use Rattle.history.specs.declared.event.TheConstants.{MOST_BYTES};
+ghost use Rattle.td_base.specs.declared.datagram.TheConstants.{DATAGRAM_MAX};
 ghost use Rattle.td_base.specs.declared.endpoint.Ep.{Ep};
 ghost use Rattle.teredo_node.specs.Step.{part};
 ghost use Rattle.teredo_node.specs.Journal.{arrived};
@@ -50,7 +50,7 @@ pub fn handed_of(coming: Coming<'_>, step: &Step) -> Option<usize>
 /// A copy of what a step gives of what came to the IPv6 side.
 pub fn six_of(alloc: Global, coming: Coming<'_>, step: &Step) -> Result<Option<Octets>, NoMemory>
     ensures made { IfOk result (λ packet. packet ≡ six_part (input_lent coming.entry) step.now.six) }
-    ensures short { IsShortInput (input_lent coming.entry) → IfOk result (λ packet. IfSome packet (λ copied. length copied ≤ MOST_BYTES)) }
+    ensures short { IsShortInput (input_lent coming.entry) → IfOk result (λ packet. IfSome packet (λ copied. length copied ≤ DATAGRAM_MAX)) }
     ensures needs { OnErr result (six_made (input_lent coming.entry) step.now.six ≢ []) }
 {
     match coming {

@@ -1,6 +1,6 @@
 //! What the hosts of nodes send.
 ghost use Rattle.std.specs.Prelude.{◌≡◌, ◌≤◌, ℕ, List, [], length, take, slice_get};
-ghost use Rattle.history.specs.declared.event.TheConstants.{MOST_BODY};
+ghost use Rattle.history.specs.declared.event.TheConstants.{BODY_MAX};
 ghost use Rattle.history.specs.Full.{Full};
 ghost use Rattle.ipv6_packet.specs.Packets.{packet_bytes};
 ghost use Rattle.icmp6.specs.Message.{echo_request};
@@ -16,7 +16,7 @@ ghost use Rattle.legal.specs.Next.{data_packet, echo_packet, address_at, target_
 ghost use Rattle.lab_nodes.specs.NodeState.{NodePast, IsKept, IsKeptIn, NodesOf};
 
 use crate::node_state::NodeState;
-use history::{MOST_BODY, Target};
+use history::{BODY_MAX, Target};
 use icmp6::Msg;
 use ipv6_packet::{HEADER, NEXT_ICMP, Packet};
 use native_host::HOST_HOP;
@@ -31,7 +31,7 @@ const NEXT_DATA: u8 = 253;
 const ECHO_ID: u16 = 1;
 
 /// The most bytes of a packet with a host's data.
-pub const DATA_MAX: usize = HEADER + MOST_BODY;
+pub const DATA_MAX: usize = HEADER + BODY_MAX;
 
 /// How many bytes an echo request of a host has: those of its message, which has no data, and of its packet.
 const ECHO_MESSAGE: usize = 8;
@@ -40,7 +40,7 @@ pub const ECHO: usize = HEADER + ECHO_MESSAGE;
 
 /// Writes a packet with a host's data, and answers its length.
 pub fn write_data(src: Ip6, dst: Ip6, body: &[u8], out: &mut [u8; DATA_MAX]) -> usize
-    requires short { length body.now ≤ MOST_BODY }
+    requires short { length body.now ≤ BODY_MAX }
     ensures written { take result out.new ≡ packet_bytes (data_packet src dst body.now) }
     ensures within { result ≤ DATA_MAX }
 {

@@ -1,6 +1,6 @@
 //! What a native host does with what comes to it.
 ghost use Rattle.std.specs.Prelude.{◌≡◌, ◌≤◌, true, is_some, List, length, OnErr, IfOk, IfSome};
-ghost use Rattle.history.specs.declared.event.TheConstants.{MOST_BYTES};
+ghost use Rattle.td_base.specs.declared.datagram.TheConstants.{DATAGRAM_MAX};
 ghost use Rattle.topology.specs.Rows.{TopologyState};
 ghost use Rattle.topology.specs.declared.node.Node.TheVariants.{Native as native};
 ghost use Rattle.teredo_node.specs.Step.{just};
@@ -26,7 +26,7 @@ fn give_native(
 ) -> Result<Option<Octets>, NoMemory>
     ensures did { IfOk result (λ packet. step.new ≡ just (native_out row.six bytes.now).fate) }
     ensures packet { IfOk result (λ packet. packet ≡ (native_out row.six bytes.now).packet) }
-    ensures short { length bytes.now ≤ MOST_BYTES → IfOk result (λ packet. IfSome packet (λ copied. length copied ≤ MOST_BYTES)) }
+    ensures short { length bytes.now ≤ DATAGRAM_MAX → IfOk result (λ packet. IfSome packet (λ copied. length copied ≤ DATAGRAM_MAX)) }
     ensures needs { OnErr result (is_some (native_out row.six bytes.now).packet ≡ true) }
 {
     let fate = native_host::send(row.six, bytes);
@@ -39,10 +39,10 @@ fn give_native(
 
 /// What a native host does with a packet of the IPv6 side.
 fn reply_native(alloc: Global, bytes: &[u8], step: &mut Step) -> Result<Option<Octets>, NoMemory>
-    requires short { length bytes.now ≤ MOST_BYTES }
+    requires short { length bytes.now ≤ DATAGRAM_MAX }
     ensures did { IfOk result (λ packet. step.new ≡ just (native_in bytes.now).fate) }
     ensures packet { IfOk result (λ packet. packet ≡ (native_in bytes.now).packet) }
-    ensures short { IfOk result (λ packet. IfSome packet (λ copied. length copied ≤ MOST_BYTES)) }
+    ensures short { IfOk result (λ packet. IfSome packet (λ copied. length copied ≤ DATAGRAM_MAX)) }
     ensures needs { OnErr result (is_some (native_in bytes.now).packet ≡ true) }
 {
     let mut reply = [0; DATAGRAM_MAX];
@@ -69,7 +69,7 @@ pub fn answer_native(
     requires short { IsShortInput (input_lent call.coming) }
     ensures did { IfOk result (λ packet. (d : Draws) (t : TopologyState) (H : List Full) → step.new ≡ (entry_in d t H call.entry).step) }
     ensures packet { IfOk result (λ packet. packet ≡ native_packet row (input_lent call.entry.coming)) }
-    ensures short { IfOk result (λ packet. IfSome packet (λ copied. length copied ≤ MOST_BYTES)) }
+    ensures short { IfOk result (λ packet. IfSome packet (λ copied. length copied ≤ DATAGRAM_MAX)) }
     ensures needs { OnErr result (is_some (native_packet row (input_lent call.entry.coming)) ≡ true) }
 {
     match call.coming {

@@ -4,8 +4,8 @@ ghost use Rattle.td_outside.specs.Link.{attempt, open_on, Datagram, FitsBuffer, 
 ghost use Rattle.lab_nodes.specs.OneArrival.{told_of};
 
 use std::marker::Model;
-use td_base::{Ep, Ip4, Side};
-use td_outside::{Addresses, Arrival, DATAGRAM_MAX, Failed, Link};
+use td_base::{DATAGRAM_MAX, Ep, Ip4, Side};
+use td_outside::{Addresses, Arrival, Failed, Link};
 
 /// A link on which one datagram is to come. Every attempt to send succeeds: what a node sends is asked of its step,
 /// and whoever asks puts it on the wire.

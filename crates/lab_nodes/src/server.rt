@@ -1,6 +1,6 @@
 //! What a server does with what comes to it.
 ghost use Rattle.std.specs.Prelude.{◌≡◌, ◌≤◌, ℕ, List, length};
-ghost use Rattle.history.specs.declared.event.TheConstants.{MOST_BYTES};
+ghost use Rattle.td_base.specs.declared.datagram.TheConstants.{DATAGRAM_MAX};
 ghost use Rattle.topology.specs.Rows.{TopologyState};
 ghost use Rattle.topology.specs.declared.node.Node.TheVariants.{Server as server};
 ghost use Rattle.topology.specs.Topology.{side_at};
@@ -32,7 +32,7 @@ fn side_of(row: &ServerNode, dst: Ep) -> Side
 
 /// Lets a server answer a datagram that came to one of its endpoints.
 fn serve(row: &ServerNode, now: Millis, src: Ep, dst: Ep, bytes: &[u8], step: &mut Step)
-    requires { length bytes.now ≤ MOST_BYTES }
+    requires { length bytes.now ≤ DATAGRAM_MAX }
     ensures { step.new ≡ server_row (server_settings row.now) (side_at (server row.now) dst) src bytes.now }
 {
     let mut server = Server::new(row.primary, row.secondary, Policy::Strict);

@@ -2,7 +2,7 @@
 use Rattle.std.proofs.Common.{◌≡◌, ◌≤◌, ℕ, suc, ◌+◌, ◌*◌, Bool, true, false, cond, List, [], ◌∷◌, ◌++◌, length, map, Option, Some, None, refl, ap, subst, arith, length-append}
 use Rattle.std.specs.Prelude.{slice_get, flat_map, option_to_list}
 use Rattle.td_base.specs.declared.ipv6.Ip6.{Ip6}
-use Rattle.peer_list.specs.declared.limits.TheConstants.{MOST_PEERS}
+use Rattle.peer_list.specs.declared.limits.TheConstants.{PEERS_MAX}
 use Rattle.peer_list.specs.Mentions.{Mention}
 use Rattle.peer_list.specs.Listed.{listed}
 use Rattle.peer_list.specs.Peers.{Peer, known}
@@ -43,7 +43,7 @@ one_each f (p ∷ ps) =
     at_most_one true = omega arith
     at_most_one false = omega arith
 
-few_peers : (j : List Mention) (m : ℕ) → length (listed j m) ≤ MOST_PEERS → length (peers_due j m) ≤ 256
+few_peers : (j : List Mention) (m : ℕ) → length (listed j m) ≤ PEERS_MAX → length (peers_due j m) ≤ 256
 few_peers j m few = let each : length (peers_due j m) ≤ length (listed j m) = one_each (known j m) (listed j m) in omega (arith, each, few)
 
 -- OF NODES

@@ -6,7 +6,7 @@ use Rattle.std.proofs.lemmas.Bool.{false≢true, leb-true, eq-eqb}
 use Rattle.teredo_node.specs.Journal.{ticked, Journal, with_entry}
 use Rattle.history.specs.declared.event.Event.{Event}
 use Rattle.history.specs.declared.event.Event.TheVariants as event
-use Rattle.history.specs.declared.event.TheConstants.{MOST_ADVANCE}
+use Rattle.history.specs.declared.event.TheConstants.{ADVANCE_MAX_MS}
 use Rattle.history.specs.declared.acts.Act.TheVariants as act
 use Rattle.history.specs.Events.{IsEvent}
 use Rattle.history.specs.Full.{Full}
@@ -19,7 +19,7 @@ use Rattle.topology.specs.Topology.{nodes}
 use Rattle.qualify.specs.Qualification.{qualification}
 use Rattle.client_rules.specs.Bearings as client_bearings
 use Rattle.relay_rules.specs.Bearings as relay_bearings
-use Rattle.legal.specs.declared.left.TheConstants.{MOST_LEFT}
+use Rattle.legal.specs.declared.left.TheConstants.{LEFT_MAX}
 use Rattle.legal.specs.Settings.{client_settings, relay_settings}
 use Rattle.legal.specs.Past.{Draws, now, began, has_more, journal, words}
 use Rattle.legal.specs.Emit.{entry_of, due_of}
@@ -178,7 +178,7 @@ less_to laws d t H e x end is due within past =
 abbrev pub HasFewDue : TopologyState → List Full → Type 0
 HasFewDue t H = length (all_due t H 0 (nodes t)) ≤ most_due
 
-at_rest : (t : TopologyState) (H : List Full) (ms : ℕ) → HasFewDue t H → ms ≤ MOST_ADVANCE → left_to t H (now H + ms) ≤ MOST_LEFT
+at_rest : (t : TopologyState) (H : List Full) (ms : ℕ) → HasFewDue t H → ms ≤ ADVANCE_MAX_MS → left_to t H (now H + ms) ≤ LEFT_MAX
 at_rest t H ms few short =
     let most : left_to t H (now H + ms) ≤ length (all_due t H 0 (nodes t)) * (now H + ms + 1 - now H) = weights_most (now H + ms) (now H) (all_due t H 0 (nodes t)) in
     let span : now H + ms + 1 - now H ≤ 1000000001 = omega (arith, short) in
@@ -186,28 +186,28 @@ at_rest t H ms few short =
     omega (arith, most, product)
 
 -- before the record no less is left than of its advance
-before : (t : TopologyState) (H : List Full) (ms : ℕ) → HasFewDue t H → GoesOn H (event.Advance ms) → ms ≤ MOST_ADVANCE → left_to t H (began H + ms) ≤ left t H
+before : (t : TopologyState) (H : List Full) (ms : ℕ) → HasFewDue t H → GoesOn H (event.Advance ms) → ms ≤ ADVANCE_MAX_MS → left_to t H (began H + ms) ≤ left t H
 before t [] ms few goes short = at_rest t [] ms few short
 before t (q ∷ H) ms few goes short = by (has_more q.asked q.act) refl where
-  by : (b : Bool) → has_more q.asked q.act ≡ b → left_to t (q ∷ H) (began (q ∷ H) + ms) ≤ cond b (left_of_event t (q ∷ H) q.asked) MOST_LEFT
+  by : (b : Bool) → has_more q.asked q.act ≡ b → left_to t (q ∷ H) (began (q ∷ H) + ms) ≤ cond b (left_of_event t (q ∷ H) q.asked) LEFT_MAX
   by true more =
       let same : left_to t (q ∷ H) (began (q ∷ H) + ms) ≡ left_of_event t (q ∷ H) q.asked = ap (left_of_event t (q ∷ H)) (goes more) in
       omega (arith, same)
   by false last =
       let start : began (q ∷ H) ≡ q.moment = ap (λ b. cond b (began H) q.moment) last in
-      subst (λ (x : ℕ). left_to t (q ∷ H) (x + ms) ≤ MOST_LEFT) (sym start) (at_rest t (q ∷ H) ms few short)
+      subst (λ (x : ℕ). left_to t (q ∷ H) (x + ms) ≤ LEFT_MAX) (sym start) (at_rest t (q ∷ H) ms few short)
 
 pub falls : ClientLaws → (d : Draws) (t : TopologyState) (H : List Full) (r : Full) → IsTopology t → Grown d t H → HasFewDue t H → Follows d t H r → has_more r.asked r.act ≡ true → left t (r ∷ H) < left t H
 falls laws d t H r is grown few follows more =
     let tick : IsTick d t H r.event r.asked = more_ticks d t H r.event r.asked (subst (λ (x : Full). has_more r.asked x.act ≡ true) follows.is more) in
     let end : ℕ = began H + tick.ms in
     let goes : GoesOn H (event.Advance tick.ms) = subst (GoesOn H) tick.asked follows.goes_on in
-    let short : tick.ms ≤ MOST_ADVANCE = subst (IsEvent t) tick.asked follows.event in
+    let short : tick.ms ≤ ADVANCE_MAX_MS = subst (IsEvent t) tick.asked follows.event in
     let past : now H ≤ end = ends d t H tick.ms grown goes in
     let less : left_to t (acts d t H (numbered r.event (event.Advance tick.ms)) act.Tick None (max tick.x.moment (now H)) tick.x.number no_ep ticked tick.x.node ∷ H) end < left_to t H end = less_to laws d t H (numbered r.event (event.Advance tick.ms)) tick.x end is tick.due tick.within past in
     let mine : left_to t (r ∷ H) end < left_to t H end = subst (λ (x : Full). left_to t (x ∷ H) end < left_to t H end) (sym (follows.is ∙ tick.is)) less in
     let start : began (r ∷ H) ≡ began H = ap (λ b. cond b (began H) r.moment) more in
     let now_left : left t (r ∷ H) ≡ left_to t (r ∷ H) end =
-    ap (λ b. cond b (left_of_event t (r ∷ H) r.asked) MOST_LEFT) more ∙ ap (left_of_event t (r ∷ H)) tick.asked ∙ ap (λ (x : ℕ). left_to t (r ∷ H) (x + tick.ms)) start in
+    ap (λ b. cond b (left_of_event t (r ∷ H) r.asked) LEFT_MAX) more ∙ ap (left_of_event t (r ∷ H)) tick.asked ∙ ap (λ (x : ℕ). left_to t (r ∷ H) (x + tick.ms)) start in
     let most : left_to t H end ≤ left t H = before t H tick.ms few goes short in
     omega (arith, mine, now_left, most)

@@ -15,7 +15,7 @@ use Rattle.topology.specs.declared.node.Node.{Node}
 use Rattle.topology.specs.declared.node.Node.TheVariants.{Client as client, Relay as relay}
 use Rattle.topology.specs.Topology.{nodes}
 use Rattle.history.specs.Full.{Full}
-use Rattle.legal.specs.declared.left.TheConstants.{MOST_LEFT}
+use Rattle.legal.specs.declared.left.TheConstants.{LEFT_MAX}
 use Rattle.legal.specs.Settings.{client_settings}
 use Rattle.legal.specs.Past.{now, began, has_more, journal}
 
@@ -51,5 +51,5 @@ left_of_event t H _ = 0
 
 -- as much as may be where the next record begins an event
 abbrev pub left : TopologyState → List Full → ℕ
-left t [] = MOST_LEFT
-left t (r ∷ H) = if has_more r.asked r.act then left_of_event t (r ∷ H) r.asked else MOST_LEFT
+left t [] = LEFT_MAX
+left t (r ∷ H) = if has_more r.asked r.act then left_of_event t (r ∷ H) r.asked else LEFT_MAX

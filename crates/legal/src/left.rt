@@ -2,4 +2,4 @@
 
 /// More than is left of any event after a record of it, in milliseconds: those of an advance, once for each moment that can
 /// be due. Our choice: of 64 clients and 4 relays with 256 peers each it is about half.
-pub const MOST_LEFT: u64 = 35_184_372_088_832;
+pub const LEFT_MAX: u64 = 35_184_372_088_832;

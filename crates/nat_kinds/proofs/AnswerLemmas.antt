@@ -8,7 +8,7 @@ use Rattle.std.proofs.lemmas.Map.Steps.{le-length_from_below}
 use Rattle.td_base.specs.Ip4.{same_ip, same_ip-true, same_ip_decides}
 use Rattle.td_base.specs.declared.ipv4.Ip4.{Ip4}
 use Rattle.td_base.specs.declared.endpoint.Ep.{Ep}
-use Rattle.nat_kinds.specs.declared.limits.TheConstants.{FIRST_PORT, MOST_LIVE}
+use Rattle.nat_kinds.specs.declared.limits.TheConstants.{FIRST_PORT, MAPPINGS_MAX}
 use Rattle.nat_kinds.specs.declared.outgoing.Outward.{Outward}
 use Rattle.nat_kinds.specs.declared.refusal.NatRefusal.TheVariants.{Hairpin, Full}
 use Rattle.nat_kinds.specs.declared.settings.NatSettings.{NatSettings}
@@ -75,13 +75,13 @@ apart a b n e = false≢true (sym n ∙ (same_ip_decides a b).1 e)
 pub answer-is : (s : NatSettings) (live : List Outward) (inside dst : Ep) → IsAnswer s live inside dst (answer_of s live inside dst)
 answer-is s live inside dst = by_case (same_ip dst.ip s.external) refl
   where
-    by_room : (b : Bool) → nat_lt (length live) MOST_LIVE ≡ b → same_ip dst.ip s.external ≡ false → live_port s.kind inside dst live ≡ None → IsAnswer s live inside dst (cond b (Ok (lowest_free live)) (Err Full))
+    by_room : (b : Bool) → nat_lt (length live) MAPPINGS_MAX ≡ b → same_ip dst.ip s.external ≡ false → live_port s.kind inside dst live ≡ None → IsAnswer s live inside dst (cond b (Ok (lowest_free live)) (Err Full))
     by_room true r n h = (apart _ _ n, subst (λ (o : Option ℕ). GivesPort o live (lowest_free live)) (sym h) (ltb-true _ _ r, lowest_free-is live))
     by_room false r n h = (apart _ _ n, (h, ltb-false _ _ r))
 
     by_held : (held : Option ℕ) → live_port s.kind inside dst live ≡ held → same_ip dst.ip s.external ≡ false → IsAnswer s live inside dst (port_for held live)
     by_held (Some port) h n = (apart _ _ n, subst (λ (o : Option ℕ). GivesPort o live port) (sym h) refl)
-    by_held None h n = by_room (nat_lt (length live) MOST_LIVE) refl n h
+    by_held None h n = by_room (nat_lt (length live) MAPPINGS_MAX) refl n h
 
     by_case : (b : Bool) → same_ip dst.ip s.external ≡ b → IsAnswer s live inside dst (cond b (Err Hairpin) (port_for (live_port s.kind inside dst live) live))
     by_case true e = same_ip-true _ _ e
@@ -93,14 +93,14 @@ pub port_for-given : (held : Option ℕ) (live : List Outward) (port : ℕ) → 
 port_for-given (Some held) live port g = ap (λ p. Ok p) (sym g)
 port_for-given None live port g = cond-true _ _ _ (lt-ltb _ _ g.0) ∙ ap (λ p. Ok p) (lowest-one live _ _ (lowest_free-is live) g.1)
 
-pub port_for-full : (live : List Outward) → MOST_LIVE ≤ length live → port_for None live ≡ Err Full
+pub port_for-full : (live : List Outward) → MAPPINGS_MAX ≤ length live → port_for None live ≡ Err Full
 port_for-full live l = cond-false _ _ _ (le-ltb _ _ l)
 
 -- and where a port is the answer, it is the one that the key is given
 pub port_for-is : (held : Option ℕ) (live : List Outward) (port : ℕ) → port_for held live ≡ Ok port → GivesPort held live port
 port_for-is (Some held) live port h = let same : port ≡ held = cc in same
-port_for-is None live port h = by_room (nat_lt (length live) MOST_LIVE) refl h
+port_for-is None live port h = by_room (nat_lt (length live) MAPPINGS_MAX) refl h
   where
-    by_room : (b : Bool) → nat_lt (length live) MOST_LIVE ≡ b → cond b (Ok (lowest_free live)) (Err Full) ≡ Ok port → GivesPort None live port
+    by_room : (b : Bool) → nat_lt (length live) MAPPINGS_MAX ≡ b → cond b (Ok (lowest_free live)) (Err Full) ≡ Ok port → GivesPort None live port
     by_room true r k = let same : lowest_free live ≡ port = cc in subst (GivesPort None live) same (ltb-true _ _ r, lowest_free-is live)
     by_room false r k = absurd (cc k)

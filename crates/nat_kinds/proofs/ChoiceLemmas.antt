@@ -4,7 +4,7 @@ use Rattle.std.specs.Prelude.{IfSome, IfNone}
 use Rattle.std.specs.Option.{ok_or}
 use Rattle.std.proofs.lemmas.Map.Steps.{le-length_from_below}
 use Rattle.td_base.specs.declared.endpoint.Ep.{Ep}
-use Rattle.nat_kinds.specs.declared.limits.TheConstants.{FIRST_PORT, MOST_LIVE}
+use Rattle.nat_kinds.specs.declared.limits.TheConstants.{FIRST_PORT, MAPPINGS_MAX}
 use Rattle.nat_kinds.proofs.ListLemmas.{all_found, length-mapped}
 use Rattle.nat_kinds.proofs.AnswerLemmas.{port_for-given, port_for-full}
 use Rattle.nat_kinds.proofs.PortLemmas.{slot, used_at_slot, find_latest, respects_key, respects_port, agree_again, agree_new, used_latest, count_full, count_free}
@@ -40,20 +40,20 @@ joins_live kind inside dst outs p s h e i d port = from (find (has_key kind insi
     from (Some x) f g =
         let same : x.port ≡ p = cc in
         let there : find (has_key kind e.inside e.dst) outs ≡ Some x = rw (i, d) f in
-        record { agree = (agree_again kind e outs x s.agree there (port ∙ sym same), s.agree); in_range = (subst (λ n. (FIRST_PORT ≤ n) × (n < FIRST_PORT + MOST_LIVE)) (same ∙ sym port) (all_found _ _ outs x s.in_range f), s.in_range) }
+        record { agree = (agree_again kind e outs x s.agree there (port ∙ sym same), s.agree); in_range = (subst (λ n. (FIRST_PORT ≤ n) × (n < FIRST_PORT + MAPPINGS_MAX)) (same ∙ sym port) (all_found _ _ outs x s.in_range f), s.in_range) }
 
 -- IT HAS NONE
 
-pub joins_free : (kind : NatKind) (inside dst : Ep) (outs : List Outward) (p : ℕ) → Sound kind outs → port_in (find (has_key kind inside dst) outs) ≡ None → p < FIRST_PORT + MOST_LIVE → IsLowestFree outs p → Joins kind inside dst outs p
+pub joins_free : (kind : NatKind) (inside dst : Ep) (outs : List Outward) (p : ℕ) → Sound kind outs → port_in (find (has_key kind inside dst) outs) ≡ None → p < FIRST_PORT + MAPPINGS_MAX → IsLowestFree outs p → Joins kind inside dst outs p
 joins_free kind inside dst outs p s h l f e i d port =
     let none : find (has_key kind inside dst) outs ≡ None = none_in _ h in
     let there : find (has_key kind e.inside e.dst) outs ≡ None = rw (i, d) none in
     record { agree = (agree_new kind e outs there (ap (is_used outs) port ∙ f.free), s.agree); in_range = ((omega (arith, f.from_first), omega arith), s.in_range) }
 
 -- a search finds the lowest free port, or each port is held
-pub port_for-free : (kind : NatKind) (inside dst : Ep) (outs : List Outward) → Sound kind outs → port_in (find (has_key kind inside dst) outs) ≡ None → (r : Option ℕ) → IfNone r ((q : ℕ) → FIRST_PORT ≤ q → q < FIRST_PORT + MOST_LIVE → is_used outs q ≡ true) → IfSome r (λ p. p < FIRST_PORT + MOST_LIVE) → IfSome r (IsLowestFree outs) → ok_or r Full ≡ port_for (live_port kind inside dst (latest kind outs)) (latest kind outs)
+pub port_for-free : (kind : NatKind) (inside dst : Ep) (outs : List Outward) → Sound kind outs → port_in (find (has_key kind inside dst) outs) ≡ None → (r : Option ℕ) → IfNone r ((q : ℕ) → FIRST_PORT ≤ q → q < FIRST_PORT + MAPPINGS_MAX → is_used outs q ≡ true) → IfSome r (λ p. p < FIRST_PORT + MAPPINGS_MAX) → IfSome r (IsLowestFree outs) → ok_or r Full ≡ port_for (live_port kind inside dst (latest kind outs)) (latest kind outs)
 port_for-free kind inside dst outs s h None all within lowest =
-    let many : length (latest kind outs) ≡ MOST_LIVE = count_full kind outs s all in
+    let many : length (latest kind outs) ≡ MAPPINGS_MAX = count_full kind outs s all in
     sym (ap (λ held. port_for held (latest kind outs)) (live_is kind inside dst outs ∙ h) ∙ port_for-full (latest kind outs) (omega arith))
 port_for-free kind inside dst outs s h (Some p) all within lowest =
     let live : IsLowestFree (latest kind outs) p = record { from_first = lowest.from_first; free = used_latest kind outs p s.agree ∙ lowest.free; lowest = λ q a b. used_latest kind outs q s.agree ∙ lowest.lowest q a b } in
@@ -62,7 +62,7 @@ port_for-free kind inside dst outs s h (Some p) all within lowest =
 -- WHAT IS GIVEN JOINS
 
 -- so many ports lie below it, each held by a mapping
-below_last : (live : List Outward) (p : ℕ) → length live < MOST_LIVE → IsLowestFree live p → p < FIRST_PORT + MOST_LIVE
+below_last : (live : List Outward) (p : ℕ) → length live < MAPPINGS_MAX → IsLowestFree live p → p < FIRST_PORT + MAPPINGS_MAX
 below_last live p few f =
     let many : p - FIRST_PORT ≤ length (map slot live) = le-length_from_below (map slot live) (p - FIRST_PORT) (λ q k. used_at_slot live q (f.lowest (q + FIRST_PORT) (omega arith) (omega arith))) in
     omega (arith, length-mapped slot live, f.from_first)

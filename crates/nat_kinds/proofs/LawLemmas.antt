@@ -6,7 +6,7 @@ use Rattle.std.proofs.lemmas.List.Elements.{All-contains, All-from_recursion, re
 use Rattle.td_base.specs.Ip4.{same_ip, same_ip-true, same_ip-self}
 use Rattle.td_base.specs.Ep.{same_ep, same_ep-true, same_ep-self}
 use Rattle.td_base.specs.declared.endpoint.Ep.{Ep}
-use Rattle.nat_kinds.specs.declared.limits.TheConstants.{FIRST_PORT, MOST_LIVE}
+use Rattle.nat_kinds.specs.declared.limits.TheConstants.{FIRST_PORT, MAPPINGS_MAX}
 use Rattle.nat_kinds.specs.declared.kind.NatKind.{NatKind}
 use Rattle.nat_kinds.specs.declared.kind.NatKind.TheVariants.{Cone, Restricted, Port, Symmetric}
 use Rattle.nat_kinds.specs.declared.outgoing.Outward.{Outward}
@@ -100,11 +100,11 @@ one_key s h n past inside dst inside' dst' port a b =
     let g = held_by s outs inside' dst' port b in
     same_from s.kind inside dst inside' dst' f.0 g.0 (found_passes _ outs f.0 f.1) (found_passes _ outs g.0 g.1) (agrees_at s outs _ f.0 g.0 sound f.1 (found_is_in _ outs g.0 g.1) ∙ eq-eqb f.0.port g.0.port (f.2 ∙ sym g.2))
 
-pub ports_in_range : (s : NatSettings) (h : List Entry) (n : ℕ) → IsPast s h n → (inside dst : Ep) (port : ℕ) → live_port s.kind inside dst (live_after s h n) ≡ Some port → (FIRST_PORT ≤ port) × (port < FIRST_PORT + MOST_LIVE)
+pub ports_in_range : (s : NatSettings) (h : List Entry) (n : ℕ) → IsPast s h n → (inside dst : Ep) (port : ℕ) → live_port s.kind inside dst (live_after s h n) ≡ Some port → (FIRST_PORT ≤ port) × (port < FIRST_PORT + MAPPINGS_MAX)
 ports_in_range s h n past inside dst port a =
     let outs : List Outward = counting s.idle n h in
     let f = held_by s outs inside dst port a in
-    subst (λ (p : ℕ). (FIRST_PORT ≤ p) × (p < FIRST_PORT + MOST_LIVE)) f.2 (all_found _ _ outs f.0 (sound_past s h n past).in_range f.1)
+    subst (λ (p : ℕ). (FIRST_PORT ≤ p) × (p < FIRST_PORT + MAPPINGS_MAX)) f.2 (all_found _ _ outs f.0 (sound_past s h n past).in_range f.1)
 
 -- LETTING IN
 

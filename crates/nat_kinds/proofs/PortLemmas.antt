@@ -10,7 +10,7 @@ use Rattle.std.specs.Cmp.{nat_eq_equiv, both_ways as both_tests}
 use Rattle.std.proofs.lemmas.Map.Steps.{length-le_from_distinct_below, le-length_from_below}
 use Rattle.td_base.specs.declared.endpoint.Ep.{Ep}
 use Rattle.td_base.specs.Ep.{same_ep, same_ep_equiv, same_ep-true, same_ep-self}
-use Rattle.nat_kinds.specs.declared.limits.TheConstants.{FIRST_PORT, MOST_LIVE}
+use Rattle.nat_kinds.specs.declared.limits.TheConstants.{FIRST_PORT, MAPPINGS_MAX}
 use Rattle.nat_kinds.specs.declared.kind.NatKind.TheVariants.{Cone, Restricted, Port, Symmetric}
 use Rattle.nat_kinds.proofs.ListLemmas.{all_filter, all_map, all_two, all_any, all_passed, any_found, found_passes, all_found, none_passes, none_found, all_mapped, distinct_none, distinct_filter, any_all, length-mapped}
 use Rattle.nat_kinds.specs.declared.kind.NatKind.{NatKind}
@@ -142,7 +142,7 @@ distinct_slots kind (e ∷ outs) a r =
     let other_port : AllByRecursion (λ o. (e.port == o.port) ≡ false) others =
     all_two _ (λ o. has_key kind e.inside e.dst o ≡ (e.port == o.port)) _ others (λ o n k. sym k ∙ not-true _ n) other_key (all_filter _ _ (latest kind outs) (all_latest _ kind outs a.0)) in
     let ranged : InRange others = all_filter _ _ (latest kind outs) (all_latest _ kind outs r.1) in
-    IsDistinct-cons eqb (slot e) (map slot others) (all_mapped slot _ others (all_two _ (λ o. (FIRST_PORT ≤ o.port) × (o.port < FIRST_PORT + MOST_LIVE)) _ others (λ o n g. apart e o r.0.0 g.0 n) other_port ranged)) (distinct_filter eqb slot _ (latest kind outs) (distinct_slots kind outs a.1 r.1))
+    IsDistinct-cons eqb (slot e) (map slot others) (all_mapped slot _ others (all_two _ (λ o. (FIRST_PORT ≤ o.port) × (o.port < FIRST_PORT + MAPPINGS_MAX)) _ others (λ o n g. apart e o r.0.0 g.0 n) other_port ranged)) (distinct_filter eqb slot _ (latest kind outs) (distinct_slots kind outs a.1 r.1))
 
 pub used_slot : (live : List Outward) (q : ℕ) → InRange live → list_any (eqb q) (map slot live) ≡ is_used live (q + FIRST_PORT)
 used_slot [] q r = refl
@@ -155,33 +155,33 @@ pub used_at_slot : (live : List Outward) (q : ℕ) → is_used live (q + FIRST_P
 used_at_slot [] q h = h
 used_at_slot (e ∷ live) q h = ⊎_elim (λ t. let k : q + FIRST_PORT ≡ e.port = eqb-true (q + FIRST_PORT) e.port t in let g : eqb q (slot e) ≡ true = eq-eqb q (slot e) (omega arith) in ap (λ b. b || list_any (eqb q) (map slot live)) g) (λ t. ap (λ b. eqb q (slot e) || b) (used_at_slot live q t) ∙ or-true (eqb q (slot e))) (or_cases ((q + FIRST_PORT) == e.port) (is_used live (q + FIRST_PORT)) h)
 
-below : (live : List Outward) (q : ℕ) → InRange live → list_any (eqb q) (map slot live) ≡ true → q < MOST_LIVE
-below live q r h = any_all (λ e. (q + FIRST_PORT) == e.port) _ (q < MOST_LIVE) live (λ e t g. let k : q + FIRST_PORT ≡ e.port = eqb-true (q + FIRST_PORT) e.port t in omega (arith, g.1)) r (sym (used_slot live q r) ∙ h)
+below : (live : List Outward) (q : ℕ) → InRange live → list_any (eqb q) (map slot live) ≡ true → q < MAPPINGS_MAX
+below live q r h = any_all (λ e. (q + FIRST_PORT) == e.port) _ (q < MAPPINGS_MAX) live (λ e t g. let k : q + FIRST_PORT ≡ e.port = eqb-true (q + FIRST_PORT) e.port t in omega (arith, g.1)) r (sym (used_slot live q r) ∙ h)
 
 -- there are no more mappings than ports
-pub count_most : (kind : NatKind) (outs : List Outward) → Sound kind outs → length (latest kind outs) ≤ MOST_LIVE
+pub count_most : (kind : NatKind) (outs : List Outward) → Sound kind outs → length (latest kind outs) ≤ MAPPINGS_MAX
 count_most kind outs s =
     let live : List Outward = latest kind outs in
     let r : InRange live = all_latest _ kind outs s.in_range in
-    let most : length (map slot live) ≤ MOST_LIVE = length-le_from_distinct_below (map slot live) MOST_LIVE (distinct_slots kind outs s.agree s.in_range) (λ q k. below live q r k) in
+    let most : length (map slot live) ≤ MAPPINGS_MAX = length-le_from_distinct_below (map slot live) MAPPINGS_MAX (distinct_slots kind outs s.agree s.in_range) (λ q k. below live q r k) in
     omega (arith, length-mapped slot live)
 
 -- each of the ports is used, so there are as many mappings
-pub count_full : (kind : NatKind) (outs : List Outward) → Sound kind outs → ((q : ℕ) → FIRST_PORT ≤ q → q < FIRST_PORT + MOST_LIVE → is_used outs q ≡ true) → length (latest kind outs) ≡ MOST_LIVE
+pub count_full : (kind : NatKind) (outs : List Outward) → Sound kind outs → ((q : ℕ) → FIRST_PORT ≤ q → q < FIRST_PORT + MAPPINGS_MAX → is_used outs q ≡ true) → length (latest kind outs) ≡ MAPPINGS_MAX
 count_full kind outs s h =
     let live : List Outward = latest kind outs in
     let r : InRange live = all_latest _ kind outs s.in_range in
-    let most : length live ≤ MOST_LIVE = count_most kind outs s in
-    let least : MOST_LIVE ≤ length (map slot live) = le-length_from_below (map slot live) MOST_LIVE (λ q k. used_slot live q r ∙ used_latest kind outs (q + FIRST_PORT) s.agree ∙ h (q + FIRST_PORT) (omega arith) (omega arith)) in
+    let most : length live ≤ MAPPINGS_MAX = count_most kind outs s in
+    let least : MAPPINGS_MAX ≤ length (map slot live) = le-length_from_below (map slot live) MAPPINGS_MAX (λ q k. used_slot live q r ∙ used_latest kind outs (q + FIRST_PORT) s.agree ∙ h (q + FIRST_PORT) (omega arith) (omega arith)) in
     omega (arith, length-mapped slot live)
 
 -- one isn't, so there are fewer
-pub count_free : (kind : NatKind) (outs : List Outward) (p : ℕ) → Sound kind outs → FIRST_PORT ≤ p → p < FIRST_PORT + MOST_LIVE → is_used outs p ≡ false → length (latest kind outs) < MOST_LIVE
+pub count_free : (kind : NatKind) (outs : List Outward) (p : ℕ) → Sound kind outs → FIRST_PORT ≤ p → p < FIRST_PORT + MAPPINGS_MAX → is_used outs p ≡ false → length (latest kind outs) < MAPPINGS_MAX
 count_free kind outs p s low high f =
     let live : List Outward = latest kind outs in
     let r : InRange live = all_latest _ kind outs s.in_range in
     let n : list_any (eqb (p - FIRST_PORT)) (map slot live) ≡ false = used_slot live (p - FIRST_PORT) r ∙ ap (is_used live) (back p low) ∙ used_latest kind outs p s.agree ∙ f in
-    let most : length ((p - FIRST_PORT) ∷ map slot live) ≤ MOST_LIVE = length-le_from_distinct_below ((p - FIRST_PORT) ∷ map slot live) MOST_LIVE (IsDistinct-cons eqb (p - FIRST_PORT) (map slot live) (none_passes _ _ n) (distinct_slots kind outs s.agree s.in_range)) (λ q k. ⊎_elim (λ e. let g : q ≡ p - FIRST_PORT = eqb-true q _ e in omega arith) (λ i. below live q r i) (or_cases _ _ k)) in
+    let most : length ((p - FIRST_PORT) ∷ map slot live) ≤ MAPPINGS_MAX = length-le_from_distinct_below ((p - FIRST_PORT) ∷ map slot live) MAPPINGS_MAX (IsDistinct-cons eqb (p - FIRST_PORT) (map slot live) (none_passes _ _ n) (distinct_slots kind outs s.agree s.in_range)) (λ q k. ⊎_elim (λ e. let g : q ≡ p - FIRST_PORT = eqb-true q _ e in omega arith) (λ i. below live q r i) (or_cases _ _ k)) in
     omega (arith, length-mapped slot live)
   where
     back : (p : ℕ) → FIRST_PORT ≤ p → p - FIRST_PORT + FIRST_PORT ≡ p

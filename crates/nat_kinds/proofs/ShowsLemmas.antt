@@ -4,7 +4,7 @@ use Rattle.std.specs.Prelude.{IfSome, IfNone, IfOk}
 use Rattle.std.specs.Option.{is_some, ok_or}
 use Rattle.std.proofs.lemmas.Bool.{eqb-true, eq-eqb, false≢true}
 use Rattle.td_base.specs.declared.endpoint.Ep.{Ep}
-use Rattle.nat_kinds.specs.declared.limits.TheConstants.{FIRST_PORT, MOST_LIVE}
+use Rattle.nat_kinds.specs.declared.limits.TheConstants.{FIRST_PORT, MAPPINGS_MAX}
 use Rattle.nat_kinds.specs.declared.kind.NatKind.{NatKind}
 use Rattle.nat_kinds.specs.declared.outgoing.Outward.{Outward}
 use Rattle.nat_kinds.specs.declared.refusal.NatRefusal.TheVariants.{Full}
@@ -63,8 +63,8 @@ used_is : (idle n : ℕ) (places : List (Option Outward)) (outs : List Outward) 
 used_is idle n places outs q shows = any_found _ outs ∙ ap is_some (sym (shows q))
 
 pub free_is : (kind : NatKind) (idle n : ℕ) (places : List (Option Outward)) (outs : List Outward) (inside dst : Ep) → Sound kind outs → Shows idle n places outs → HasNoLive kind idle n places inside dst → (r : Option ℕ)
-    → IfNone r ((q : ℕ) → FIRST_PORT ≤ q → q < FIRST_PORT + MOST_LIVE → is_some (if_young idle n (place_at places q)) ≡ true)
-    → IfSome r (λ port. port < FIRST_PORT + MOST_LIVE) → IfSome r (λ port. FIRST_PORT ≤ port) → IfSome r (λ port. IsFree idle n places port)
+    → IfNone r ((q : ℕ) → FIRST_PORT ≤ q → q < FIRST_PORT + MAPPINGS_MAX → is_some (if_young idle n (place_at places q)) ≡ true)
+    → IfSome r (λ port. port < FIRST_PORT + MAPPINGS_MAX) → IfSome r (λ port. FIRST_PORT ≤ port) → IfSome r (λ port. IsFree idle n places port)
     → IfSome r (λ port. (q : ℕ) → FIRST_PORT ≤ q → q < port → is_some (if_young idle n (place_at places q)) ≡ true)
     → ok_or r Full ≡ port_for (live_port kind inside dst (latest kind outs)) (latest kind outs)
 free_is kind idle n places outs inside dst s shows no_live None all below from free lowest =
@@ -73,9 +73,9 @@ free_is kind idle n places outs inside dst s shows no_live (Some port) all below
     let is_lowest : IsLowestFree outs port = record { from_first = from; free = used_is idle n places outs port shows ∙ ap is_some free; lowest = λ q l m. used_is idle n places outs q shows ∙ lowest q l m } in
     port_for-free kind inside dst outs s (ap port_in (none_found_by_key kind idle n places outs inside dst s shows no_live)) (Some port) all below is_lowest
 
-pub live_is_next : (kind : NatKind) (idle n : ℕ) (places : List (Option Outward)) (inside dst : Ep) (port : ℕ) → length places ≤ MOST_LIVE → IsLiveAt kind idle n places inside dst port → IsNext places port
+pub live_is_next : (kind : NatKind) (idle n : ℕ) (places : List (Option Outward)) (inside dst : Ep) (port : ℕ) → length places ≤ MAPPINGS_MAX → IsLiveAt kind idle n places inside dst port → IsNext places port
 live_is_next kind idle n places inside dst port few live = let within = place_within places port live.0 live.1 in (within.0, omega (arith, within.1), omega (arith, within.1))
 
-pub free_is_next : (places : List (Option Outward)) (r : Option ℕ) → IfSome r (λ port. port < FIRST_PORT + MOST_LIVE) → IfSome r (λ port. port ≤ FIRST_PORT + length places) → IfSome r (λ port. FIRST_PORT ≤ port) → IfOk (ok_or r Full) (IsNext places)
+pub free_is_next : (places : List (Option Outward)) (r : Option ℕ) → IfSome r (λ port. port < FIRST_PORT + MAPPINGS_MAX) → IfSome r (λ port. port ≤ FIRST_PORT + length places) → IfSome r (λ port. FIRST_PORT ≤ port) → IfOk (ok_or r Full) (IsNext places)
 free_is_next places None below next from = tt
 free_is_next places (Some port) below next from = (from, next, below)

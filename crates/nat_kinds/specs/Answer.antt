@@ -2,7 +2,7 @@
 use Rattle.std.specs.Prelude.{◌≡◌, ◌≢◌, ℕ, ◌<◌, ◌≤◌, nat_lt, if◌then◌else◌, List, length, Option, Some, None, Result, Ok, Err, IsOk}
 use Rattle.td_base.specs.Ip4.{same_ip}
 use Rattle.td_base.specs.declared.endpoint.Ep.{Ep}
-use Rattle.nat_kinds.specs.declared.limits.TheConstants.{MOST_LIVE}
+use Rattle.nat_kinds.specs.declared.limits.TheConstants.{MAPPINGS_MAX}
 use Rattle.nat_kinds.specs.declared.kind.NatKind.{NatKind}
 use Rattle.nat_kinds.specs.declared.outgoing.Outward.{Outward}
 use Rattle.nat_kinds.specs.declared.settings.NatSettings.{NatSettings}
@@ -15,10 +15,10 @@ use Rattle.nat_kinds.specs.Mappings.{latest, live_port, IsLowestFree, lowest_fre
 abbrev pub live_after : NatSettings → List Entry → ℕ → List Outward
 live_after s h n = latest s.kind (counting s.idle n h)
 
--- the port that the key holds, else the lowest free one, unless MOST_LIVE keys hold one
+-- the port that the key holds, else the lowest free one, unless MAPPINGS_MAX keys hold one
 abbrev pub port_for : Option ℕ → List Outward → Result ℕ NatRefusal
 port_for (Some port) live = Ok port
-port_for None live = if nat_lt (length live) MOST_LIVE then Ok (lowest_free live) else Err Full
+port_for None live = if nat_lt (length live) MAPPINGS_MAX then Ok (lowest_free live) else Err Full
 
 -- the answer where these mappings are live
 abbrev pub answer_of : NatSettings → List Outward → Ep → Ep → Result ℕ NatRefusal
@@ -28,16 +28,16 @@ answer_of s live inside dst = if same_ip dst.ip s.external then Err Hairpin else
 abbrev pub nat_answer : NatSettings → List Entry → ℕ → Ep → Ep → Result ℕ NatRefusal
 nat_answer s h n inside dst = answer_of s (live_after s h n) inside dst
 
--- the port that a key without a live port gets: the lowest free one, where fewer than MOST_LIVE keys hold one
+-- the port that a key without a live port gets: the lowest free one, where fewer than MAPPINGS_MAX keys hold one
 abbrev pub GivesPort : Option ℕ → List Outward → ℕ → Type 0
 GivesPort (Some held) live port = port ≡ held
-GivesPort None live port = (length live < MOST_LIVE) × IsLowestFree live port
+GivesPort None live port = (length live < MAPPINGS_MAX) × IsLowestFree live port
 
--- the key holds no port, and MOST_LIVE keys hold one
+-- the key holds no port, and MAPPINGS_MAX keys hold one
 abbrev pub IsFull : NatKind → Ep → Ep → List Outward → Type 0
-IsFull kind inside dst live = (live_port kind inside dst live ≡ None) × (MOST_LIVE ≤ length live)
+IsFull kind inside dst live = (live_port kind inside dst live ≡ None) × (MAPPINGS_MAX ≤ length live)
 
--- the same answer as a relation: Hairpin first, Full where the key holds no port and MOST_LIVE keys do, else the port
+-- the same answer as a relation: Hairpin first, Full where the key holds no port and MAPPINGS_MAX keys do, else the port
 abbrev pub IsAnswer : NatSettings → List Outward → Ep → Ep → Result ℕ NatRefusal → Type 0
 IsAnswer s live inside dst (Ok port) = (dst.ip ≢ s.external) × GivesPort (live_port s.kind inside dst live) live port
 IsAnswer s live inside dst (Err Hairpin) = dst.ip ≡ s.external

@@ -3,7 +3,7 @@ use Rattle.std.specs.Prelude.{◌≡◌, ◌==◌, ℕ, ◌+◌, ◌-◌, ◌<�
 use Rattle.std.specs.Map.{lookup}
 use Rattle.td_base.specs.Ep.{same_ep}
 use Rattle.td_base.specs.declared.endpoint.Ep.{Ep}
-use Rattle.nat_kinds.specs.declared.limits.TheConstants.{FIRST_PORT, MOST_LIVE}
+use Rattle.nat_kinds.specs.declared.limits.TheConstants.{FIRST_PORT, MAPPINGS_MAX}
 use Rattle.nat_kinds.specs.declared.kind.NatKind.{NatKind}
 use Rattle.nat_kinds.specs.declared.outgoing.Outward.{Outward}
 use Rattle.nat_kinds.specs.declared.way.Way.{Way}
@@ -63,7 +63,7 @@ IsPlace places port = (FIRST_PORT ≤ port) × (port < FIRST_PORT + length place
 
 -- the port has a place, or gets the next one
 abbrev pub IsNext : List (Option Outward) → ℕ → Type 0
-IsNext places port = (FIRST_PORT ≤ port) × (port ≤ FIRST_PORT + length places) × (port < FIRST_PORT + MOST_LIVE)
+IsNext places port = (FIRST_PORT ≤ port) × (port ≤ FIRST_PORT + length places) × (port < FIRST_PORT + MAPPINGS_MAX)
 
 -- a datagram of this key stands there
 abbrev pub has_key_in : NatKind → Ep → Ep → Option Outward → Bool
@@ -82,7 +82,7 @@ Shows idle n places outs = (port : ℕ) → if_young idle n (place_at places por
 pub record IsIndexed (kind : NatKind) (places : List (Option Outward)) (index : List (Way × ℕ)) : Type 0 where
   pub there : (port : ℕ) (e : Outward) → place_at places port ≡ Some e → indexed index (way_of kind e) ≡ Some port
   pub back : (key : Way) (port : ℕ) → indexed index key ≡ Some port → (e : Outward) × (place_at places port ≡ Some e) × (way_of kind e ≡ key)
-  pub few : length places ≤ MOST_LIVE
+  pub few : length places ≤ MAPPINGS_MAX
 
 -- new is old but for this port
 abbrev pub IsSetAt : List (Option Outward) → List (Option Outward) → ℕ → Option Outward → Type 0

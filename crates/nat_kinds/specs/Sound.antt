@@ -1,7 +1,7 @@
 -- What holds of the outward datagrams that a NAT keeps.
 use Rattle.std.specs.Prelude.{◌≡◌, ◌+◌, ◌<◌, ◌≤◌, ◌==◌, List, [], ◌∷◌}
 use Rattle.std.specs.List.{AllByRecursion}
-use Rattle.nat_kinds.specs.declared.limits.TheConstants.{FIRST_PORT, MOST_LIVE}
+use Rattle.nat_kinds.specs.declared.limits.TheConstants.{FIRST_PORT, MAPPINGS_MAX}
 use Rattle.nat_kinds.specs.declared.kind.NatKind.{NatKind}
 use Rattle.nat_kinds.specs.declared.outgoing.Outward.{Outward}
 use Rattle.nat_kinds.specs.Mappings.{has_key}
@@ -15,9 +15,9 @@ abbrev pub Agree : NatKind → List Outward → Type 0
 Agree kind [] = Unit {0}
 Agree kind (e ∷ outs) = AgreesWith kind e outs × Agree kind outs
 
--- each port is one of the MOST_LIVE ports from FIRST_PORT on
+-- each port is one of the MAPPINGS_MAX ports from FIRST_PORT on
 abbrev pub InRange : List Outward → Type 0
-InRange outs = AllByRecursion (λ e. (FIRST_PORT ≤ e.port) × (e.port < FIRST_PORT + MOST_LIVE)) outs
+InRange outs = AllByRecursion (λ e. (FIRST_PORT ≤ e.port) × (e.port < FIRST_PORT + MAPPINGS_MAX)) outs
 
 pub record Sound (kind : NatKind) (outs : List Outward) : Type 0 where
   pub agree : Agree kind outs

@@ -6,7 +6,7 @@ ghost use Rattle.nat_kinds.specs.Way.{same_way};
 ghost use Rattle.nat_kinds.specs.Places.{place_at, indexed, unless_at, unless_way, unless_in, has_key_in, IsPlace, IsNext, HasRoom, IsIndexed, IsPutIn, IsLiveAt, HasNoLive};
 ghost use Rattle.nat_kinds.specs.declared.outgoing.Outward.{Outward};
 ghost use Rattle.nat_kinds.specs.declared.way.Way.{Way};
-ghost use Rattle.nat_kinds.specs.declared.limits.TheConstants.{FIRST_PORT, MOST_LIVE};
+ghost use Rattle.nat_kinds.specs.declared.limits.TheConstants.{FIRST_PORT, MAPPINGS_MAX};
 
 use crate::kind::NatKind;
 use crate::outgoing::Outward;

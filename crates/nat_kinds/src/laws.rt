@@ -12,7 +12,7 @@ ghost use Rattle.nat_kinds.specs.Nat.{NatState, StandsFor};
 ghost use Rattle.nat_kinds.specs.Laws.{IsHistory, IsPast, SameKey, WasAsked};
 
 use crate::kind::NatKind;
-use crate::limits::{FIRST_PORT, MOST_LIVE};
+use crate::limits::{FIRST_PORT, MAPPINGS_MAX};
 
 /// The answer is the port that the key holds, else the lowest free one, else a refusal.
 pub fn answer_is_lowest_free()
@@ -42,14 +42,14 @@ pub fn port_has_one_key()
         SameKey s.kind inside dst inside' dst' }
 {}
 
-/// No more than `MOST_LIVE` mappings live, and they hold ports from `FIRST_PORT` on.
+/// No more than `MAPPINGS_MAX` mappings live, and they hold ports from `FIRST_PORT` on.
 pub fn live_mappings_are_few()
     ensures few { (s : NatSettings) (h : List Entry) (n : ℕ) → IsPast s h n →
-        length (live_after s h n) ≤ MOST_LIVE }
+        length (live_after s h n) ≤ MAPPINGS_MAX }
     ensures ports { (s : NatSettings) (h : List Entry) (n : ℕ) → IsPast s h n →
         (inside dst : Ep) (port : ℕ) →
         live_port s.kind inside dst (live_after s h n) ≡ Some port →
-        (FIRST_PORT ≤ port) × (port < FIRST_PORT + MOST_LIVE) }
+        (FIRST_PORT ≤ port) × (port < FIRST_PORT + MAPPINGS_MAX) }
 {}
 
 /// Of whom the inside endpoints asked no more is kept than they asked in the last two idle times. A cone and a symmetric

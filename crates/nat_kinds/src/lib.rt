@@ -57,7 +57,7 @@ pub use laws::{
     latest_datagram_decides, let_in_where_asked, live_mappings_are_few, owner_is_reached,
     port_has_one_key, reply_is_let_in,
 };
-pub use limits::{FIRST_PORT, MOST_LIVE};
+pub use limits::{FIRST_PORT, MAPPINGS_MAX};
 pub use outgoing::Outward;
 pub use refusal::NatRefusal;
 pub use settings::NatSettings;

@@ -3,4 +3,4 @@
 pub const FIRST_PORT: u16 = 1024;
 
 /// How many mappings of a NAT live at most (own: it bounds what a NAT keeps).
-pub const MOST_LIVE: usize = 4096;
+pub const MAPPINGS_MAX: usize = 4096;

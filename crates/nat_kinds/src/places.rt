@@ -2,7 +2,7 @@
 ghost use Rattle.std.specs.Prelude.{◌≡◌, ℕ, ◌+◌, ◌<◌, ◌≤◌, None, length, is_some, true, IfNone, IfSome, OnOk};
 ghost use Rattle.nat_kinds.specs.Places.{place_at, if_young, unless_of, IsPlace, IsSetAt, IsFree};
 
-use crate::limits::{FIRST_PORT, MOST_LIVE};
+use crate::limits::{FIRST_PORT, MAPPINGS_MAX};
 use crate::outgoing::Outward;
 use std::alloc::AllocError;
 use td_base::{Ep, Millis};
@@ -35,11 +35,11 @@ pub fn set(places: &mut [Option<Outward>], port: u16, place: Option<Outward>)
 pub fn widen(places: &mut Vec<Option<Outward>>, port: u16) -> Result<(), AllocError>
     requires from_first { FIRST_PORT ≤ port }
     requires next { port ≤ FIRST_PORT + length places.old.items }
-    requires few { port < FIRST_PORT + MOST_LIVE }
-    requires short { length places.old.items ≤ MOST_LIVE }
+    requires few { port < FIRST_PORT + MAPPINGS_MAX }
+    requires short { length places.old.items ≤ MAPPINGS_MAX }
     ensures same { (p : ℕ) → place_at places.new.items p ≡ place_at places.old.items p }
     ensures ok { OnOk result (IsPlace places.new.items port) }
-    ensures short { length places.new.items ≤ MOST_LIVE }
+    ensures short { length places.new.items ≤ MAPPINGS_MAX }
 {
     if usize::from(port - FIRST_PORT) < places.len() {
         return Ok(());
@@ -63,9 +63,9 @@ fn is_live(place: &Option<Outward>, idle: u32, now: Millis) -> bool
 
 /// The lowest port that no live mapping holds, if there is one.
 pub fn lowest_free(places: &[Option<Outward>], idle: u32, now: Millis) -> Option<u16>
-    requires few { length places.now ≤ MOST_LIVE }
-    ensures all { IfNone result ((q : ℕ) → FIRST_PORT ≤ q → q < FIRST_PORT + MOST_LIVE → is_some (if_young idle now.0 (place_at places.now q)) ≡ true) }
-    ensures below { IfSome result (λ port. port < FIRST_PORT + MOST_LIVE) }
+    requires few { length places.now ≤ MAPPINGS_MAX }
+    ensures all { IfNone result ((q : ℕ) → FIRST_PORT ≤ q → q < FIRST_PORT + MAPPINGS_MAX → is_some (if_young idle now.0 (place_at places.now q)) ≡ true) }
+    ensures below { IfSome result (λ port. port < FIRST_PORT + MAPPINGS_MAX) }
     ensures next { IfSome result (λ port. port ≤ FIRST_PORT + length places.now) }
     ensures from_first { IfSome result (λ port. FIRST_PORT ≤ port) }
     ensures free { IfSome result (λ port. IsFree idle now.0 places.now port) }
@@ -76,7 +76,7 @@ pub fn lowest_free(places: &[Option<Outward>], idle: u32, now: Millis) -> Option
             return Some(FIRST_PORT + i as u16);
         }
     }
-    if places.len() == MOST_LIVE {
+    if places.len() == MAPPINGS_MAX {
         return None;
     }
     Some(FIRST_PORT + places.len() as u16)

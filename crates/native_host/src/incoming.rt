@@ -9,10 +9,10 @@ ghost use Rattle.bubble.specs.Messages.{message_packet};
 ghost use Rattle.native_host.specs.Natives.{native_in, answered_by};
 
 use crate::limits::HOST_HOP;
-use bubble::{DATAGRAM_MAX, message_of};
+use bubble::message_of;
 use icmp6::{MESSAGE_MAX, Msg};
 use ipv6_packet::{NEXT_ICMP, Packet};
-use td_base::{Ip6, is_global6};
+use td_base::{DATAGRAM_MAX, Ip6, is_global6};
 
 /// Writes the answer to an echo request, from `src` to `dst`, to the front of `out`, and answers how many bytes it has.
 fn write_reply(

@@ -9,7 +9,7 @@ use Rattle.slab.specs.Slab.{Slab, get}
 use Rattle.td_base.specs.Ip6.{same_ip6, cmp_ip6, cmp_ip6_ties}
 use Rattle.td_base.specs.declared.ipv6.Ip6.{Ip6}
 use Rattle.peer_list.specs.declared.entries.Entries.{Entries}
-use Rattle.peer_list.specs.declared.limits.TheConstants.{MOST_PEERS}
+use Rattle.peer_list.specs.declared.limits.TheConstants.{PEERS_MAX}
 use Rattle.peer_list.specs.Waiting.{Listing}
 use Rattle.peer_list.specs.Table.{is_of}
 use Rattle.peer_list.specs.Sound.{IsSince}
@@ -32,7 +32,7 @@ module _ (s t : Slab Listing) (key : ℕ) (l : Listing) (c : Fills s t key l) (i
   leads_to is p = is p ∙ ap (λ b. cond b (Some key) (map.get cmp_ip6 index p)) (sym (cmp_ip6_ties l.who p) ∙ turned l.who p)
 
   pub names_filled : NameEachOther s index → map.get cmp_ip6 index l.who ≡ None → more.entries ≡ insert_entry cmp_ip6 index.entries l.who key
-      → ((p : Ip6) → map.get cmp_ip6 more p ≡ cond (same_ip6 p l.who) (Some key) (map.get cmp_ip6 index p)) → IsOrdered cmp_ip6 more → length more.entries ≤ MOST_PEERS → NameEachOther t more
+      → ((p : Ip6) → map.get cmp_ip6 more p ≡ cond (same_ip6 p l.who) (Some key) (map.get cmp_ip6 index p)) → IsOrdered cmp_ip6 more → length more.entries ≤ PEERS_MAX → NameEachOther t more
   names_filled n none entries is order few = record {
     leads = subst (AllByRecursion (Leads t)) (sym entries) (leads_filled s t key l c index.entries n.leads);
     named = named_filled s t key l c index more n none is;

@@ -4,7 +4,7 @@ use Rattle.std.specs.Prelude.{unwrap_or, is_some, nat_lt}
 use Rattle.std.specs.List.{AllByRecursion}
 use Rattle.std.proofs.lemmas.Bool.{false≢true}
 use Rattle.td_base.specs.declared.ipv6.Ip6.{Ip6}
-use Rattle.peer_list.specs.declared.limits.TheConstants.{MOST_PEERS}
+use Rattle.peer_list.specs.declared.limits.TheConstants.{PEERS_MAX}
 use Rattle.peer_list.specs.Peers.{Peer, no_peer}
 use Rattle.peer_list.specs.Waiting.{Listing}
 use Rattle.td_base.specs.Ip6.{same_ip6}
@@ -61,17 +61,17 @@ pub room_there : (m : ℕ) (ls kept : List Listing) (who : Ip6) (l : Listing) �
 unfolding has_room_in
 room_there m ls kept who l p at =
     let listed : is_some (peer_in (table m ls) m who) ≡ true = ap is_some (sym (peer_purged m ls kept who p)) ∙ there m ls kept who l p at in
-    ap (λ b. b || nat_lt (length (listed_in (table m ls) m)) MOST_PEERS) listed
+    ap (λ b. b || nat_lt (length (listed_in (table m ls) m)) PEERS_MAX) listed
 
 pub was_nowhere : (m : ℕ) (ls kept : List Listing) (who : Ip6) → Purged m ls kept → find (is_of who) kept ≡ None → peer_in (table m ls) m who ≡ None
 unfolding peer_in
 was_nowhere m ls kept who p none = sym (peer_purged m ls kept who p) ∙ ap (peer_listed m) none
 
-pub room_nowhere : (m : ℕ) (ls kept : List Listing) (who : Ip6) → Purged m ls kept → find (is_of who) kept ≡ None → has_room_in (table m ls) m who ≡ nat_lt (length kept) MOST_PEERS
+pub room_nowhere : (m : ℕ) (ls kept : List Listing) (who : Ip6) → Purged m ls kept → find (is_of who) kept ≡ None → has_room_in (table m ls) m who ≡ nat_lt (length kept) PEERS_MAX
 unfolding has_room_in
 room_nowhere m ls kept who p none =
-    ap (λ (o : Option Peer). is_some o || nat_lt (length (listed_in (table m ls) m)) MOST_PEERS) (was_nowhere m ls kept who p none)
-    ∙ ap (λ n. nat_lt n MOST_PEERS) (count_is m m ls p.apart ∙ ap length (sym p.is))
+    ap (λ (o : Option Peer). is_some o || nat_lt (length (listed_in (table m ls) m)) PEERS_MAX) (was_nowhere m ls kept who p none)
+    ∙ ap (λ n. nat_lt n PEERS_MAX) (count_is m m ls p.apart ∙ ap length (sym p.is))
 
 -- WHAT IS LEFT
 

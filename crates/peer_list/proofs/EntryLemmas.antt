@@ -17,7 +17,7 @@ use Rattle.slab.specs.Slab as slab
 use Rattle.td_base.specs.Ip6.{same_ip6, same_ip6-true, same_ip6-self, cmp_ip6, cmp_ip6_ties}
 use Rattle.td_base.specs.declared.ipv6.Ip6.{Ip6}
 use Rattle.peer_list.specs.declared.entries.Entries.{Entries}
-use Rattle.peer_list.specs.declared.limits.TheConstants.{MOST_PEERS}
+use Rattle.peer_list.specs.declared.limits.TheConstants.{PEERS_MAX}
 use Rattle.peer_list.specs.Waiting.{Listing}
 use Rattle.peer_list.specs.Table.{is_of, is_listed_at}
 use Rattle.peer_list.specs.Sound.{AreInOrder, AreSound, IsSince}
@@ -227,7 +227,7 @@ module _ (s t : Slab Listing) (same : (k : ℕ) → get t k ≡ get s k) where
     leads = subst (AllByRecursion (Leads t)) (sym is) (all_lead s t index.entries lead_same n.leads);
     named = λ k x h. ap (λ (ps : List (Ip6 × ℕ)). lookup (is_at (cmp_ip6 x.who)) ps) is ∙ n.named k x (sym (same k) ∙ h);
     order = subst (λ (ps : List (Ip6 × ℕ)). IsStrictlySortedBy cmp_ip6 (keys_of ps)) (sym is) n.order;
-    few = subst (λ (ps : List (Ip6 × ℕ)). length ps ≤ MOST_PEERS) (sym is) n.few;
+    few = subst (λ (ps : List (Ip6 × ℕ)). length ps ≤ PEERS_MAX) (sym is) n.few;
   }
 
   pub listings_same : (pairs : List (Ip6 × ℕ)) → listings_in t pairs ≡ listings_in s pairs

@@ -5,7 +5,7 @@ use Rattle.std.proofs.lemmas.Bool.{false≢true, ltb-true, lt-ltb}
 use Rattle.std.proofs.lemmas.List.Sums.{sum_by-cons, sum_by-le-sum_by, length-filter}
 use Rattle.td_base.specs.Ip6.{same_ip6, same_ip6-true}
 use Rattle.td_base.specs.declared.ipv6.Ip6.{Ip6}
-use Rattle.peer_list.specs.declared.limits.TheConstants.{LISTED_MS, MOST_PEERS}
+use Rattle.peer_list.specs.declared.limits.TheConstants.{LISTED_MS, PEERS_MAX}
 use Rattle.peer_list.specs.Mentions.{Mention, is_about, is_touch_of}
 use Rattle.peer_list.specs.Listed.{is_young, is_recent, is_listed, with_peer, touched, listed, has_room}
 use Rattle.peer_list.specs.Few.{HasRoom, FewListed}
@@ -85,15 +85,15 @@ no_touch true = refl
 no_touch false = refl
 
 abbrev MoreFew : Mention → List Mention → ℕ → List Ip6 → Type 0
-MoreFew e j n ps = sum_by (counts (e ∷ j) n) ps ≤ MOST_PEERS
+MoreFew e j n ps = sum_by (counts (e ∷ j) n) ps ≤ PEERS_MAX
 
-untouched : (e : Mention) (j : List Mention) (n : ℕ) → e.moment ≤ n → ((p : Ip6) → is_touch_of p e ≡ false) → length (listed j e.moment) ≤ MOST_PEERS → MoreFew e j n (touched j)
+untouched : (e : Mention) (j : List Mention) (n : ℕ) → e.moment ≤ n → ((p : Ip6) → is_touch_of p e ≡ false) → length (listed j e.moment) ≤ PEERS_MAX → MoreFew e j n (touched j)
 untouched e j n l none few =
     let less : sum_by (counts (e ∷ j) n) (touched j) ≤ sum_by (counts j e.moment) (touched j) = sum_by-le-sum_by (counts (e ∷ j) n) (counts j e.moment) (touched j) (λ p. count_before e j e.moment n p l (none p)) in
     omega (arith, less, few, count_is j e.moment)
 
 -- p is touched, and finds room
-with_room : (e : Mention) (j : List Mention) (n : ℕ) (p : Ip6) → e.moment ≤ n → ((q : Ip6) → same_ip6 p q ≡ false → is_touch_of q e ≡ false) → length (listed j e.moment) ≤ MOST_PEERS
+with_room : (e : Mention) (j : List Mention) (n : ℕ) (p : Ip6) → e.moment ≤ n → ((q : Ip6) → same_ip6 p q ≡ false → is_touch_of q e ≡ false) → length (listed j e.moment) ≤ PEERS_MAX
     → has_room j e.moment p ≡ true → MoreFew e j n (p ∷ without p (touched j))
 unfolding has_room
 with_room e j n p l other few room = by (is_listed p e.moment j) refl room where
@@ -103,18 +103,18 @@ with_room e j n p l other few room = by (is_listed p e.moment j) refl room where
   mine : counts (e ∷ j) n p ≤ 1
   mine = one_at_most (is_listed p n (e ∷ j))
 
-  by : (b : Bool) → is_listed p e.moment j ≡ b → (b || nat_lt (length (listed j e.moment)) MOST_PEERS) ≡ true → MoreFew e j n (p ∷ without p (touched j))
+  by : (b : Bool) → is_listed p e.moment j ≡ b → (b || nat_lt (length (listed j e.moment)) PEERS_MAX) ≡ true → MoreFew e j n (p ∷ without p (touched j))
   by true h room =
       let one : counts j e.moment p ≡ 1 = ap one_if h in
       let all : counts j e.moment p + sum_by (counts j e.moment) (without p (touched j)) ≤ sum_by (counts j e.moment) (touched j) = moved (counts j e.moment) p (touched j) (listed_was_touched j e.moment p h) in
       omega (arith, later, mine, one, all, few, count_is j e.moment, sum_by-cons (counts (e ∷ j) n) p (without p (touched j)))
   by false h room =
-      let fewer : length (listed j e.moment) < MOST_PEERS = ltb-true (length (listed j e.moment)) MOST_PEERS room in
+      let fewer : length (listed j e.moment) < PEERS_MAX = ltb-true (length (listed j e.moment)) PEERS_MAX room in
       let all : sum_by (counts j e.moment) (without p (touched j)) ≤ sum_by (counts j e.moment) (touched j) = fewer_pass (counts j e.moment) (λ q. not (same_ip6 p q)) (touched j) in
       omega (arith, later, mine, all, fewer, count_is j e.moment, sum_by-cons (counts (e ∷ j) n) p (without p (touched j)))
 
 -- the entry, by whether it touches, and whom it is about
-one_more : (n : ℕ) (t : Bool) (o : Option Ip6) (e : Mention) (j : List Mention) → e.moment ≤ n → e.peer ≡ o → e.bearing.touches ≡ t → HasRoom e j → length (listed j e.moment) ≤ MOST_PEERS
+one_more : (n : ℕ) (t : Bool) (o : Option Ip6) (e : Mention) (j : List Mention) → e.moment ≤ n → e.peer ≡ o → e.bearing.touches ≡ t → HasRoom e j → length (listed j e.moment) ≤ PEERS_MAX
     → MoreFew e j n (with_peer (cond t o None) (touched j))
 one_more n false o e j l about t room few = untouched e j n l (λ p. ap (λ b. cond (is_about p e) b false) t ∙ no_touch (is_about p e)) few
 one_more n true None e j l about t room few = untouched e j n l (λ p. ap (λ (x : Option Ip6). cond (is_about p (record e { peer = x })) e.bearing.touches false) about) few
@@ -126,9 +126,9 @@ one_more n true (Some p) e j l about t room few =
 pub few_listed : FewListed
 unfolding touched
 few_listed [] n order past room = no_peers n where
-  no_peers : (k : ℕ) → length (listed [] k) ≤ MOST_PEERS
+  no_peers : (k : ℕ) → length (listed [] k) ≤ PEERS_MAX
   no_peers k = let none : length (listed [] k) ≡ 0 = count_is [] k in omega (arith, none)
 few_listed (e ∷ j) n order past room =
-    let before : length (listed j e.moment) ≤ MOST_PEERS = few_listed j e.moment order.1 order.0 room.1 in
-    let more : sum_by (counts (e ∷ j) n) (touched (e ∷ j)) ≤ MOST_PEERS = one_more n e.bearing.touches e.peer e j past.0 refl refl room.0 before in
+    let before : length (listed j e.moment) ≤ PEERS_MAX = few_listed j e.moment order.1 order.0 room.1 in
+    let more : sum_by (counts (e ∷ j) n) (touched (e ∷ j)) ≤ PEERS_MAX = one_more n e.bearing.touches e.peer e j past.0 refl refl room.0 before in
     omega (arith, more, count_is (e ∷ j) n)

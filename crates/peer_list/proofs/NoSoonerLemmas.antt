@@ -7,7 +7,7 @@ use Rattle.std.proofs.lemmas.List.Filters.{length-filter_both}
 use Rattle.td_base.specs.Ip6.{same_ip6, same_ip6-true, cmp_ip6}
 use Rattle.td_base.specs.declared.ipv6.Ip6.{Ip6}
 use Rattle.td_base.specs.declared.millis.Millis.{Millis}
-use Rattle.peer_list.specs.declared.limits.TheConstants.{MOST_PEERS}
+use Rattle.peer_list.specs.declared.limits.TheConstants.{PEERS_MAX}
 use Rattle.peer_list.specs.Peers.{Peer}
 use Rattle.peer_list.specs.Judged.{is_none, due_of}
 use Rattle.peer_list.specs.Waiting.{Listing, least_by_due}
@@ -61,9 +61,9 @@ or_too : (a b : Bool) → b ≡ true → (a || b) ≡ true
 or_too true b h = refl
 or_too false b h = h
 
-pub roomy : (m n : ℕ) (p : Ip6) (ls : List Listing) → AreApart ls → length ls < MOST_PEERS → has_room_in (table m ls) n p ≡ true
+pub roomy : (m n : ℕ) (p : Ip6) (ls : List Listing) → AreApart ls → length ls < PEERS_MAX → has_room_in (table m ls) n p ≡ true
 unfolding has_room_in
 roomy m n p ls a few =
     let listed : length (listed_in (table m ls) n) ≡ length (filter (is_listed_at n) ls) = count_is m n ls a in
     let parts = length-filter_both (is_listed_at n) (λ l. not (is_listed_at n l)) (λ l. refl) ls in
-    or_too (is_some (peer_in (table m ls) n p)) (nat_lt (length (listed_in (table m ls) n)) MOST_PEERS) (lt-ltb _ _ (omega (arith, listed, parts, few)))
+    or_too (is_some (peer_in (table m ls) n p)) (nat_lt (length (listed_in (table m ls) n)) PEERS_MAX) (lt-ltb _ _ (omega (arith, listed, parts, few)))

@@ -4,7 +4,7 @@ use Rattle.std.specs.Prelude.{unwrap_or, nat_lt}
 use Rattle.slab.specs.Slab.{get}
 use Rattle.td_base.specs.declared.ipv6.Ip6.{Ip6}
 use Rattle.peer_list.specs.declared.entries.Entries.{Entries}
-use Rattle.peer_list.specs.declared.limits.TheConstants.{MOST_PEERS}
+use Rattle.peer_list.specs.declared.limits.TheConstants.{PEERS_MAX}
 use Rattle.peer_list.specs.Peers.{Peer, no_peer}
 use Rattle.peer_list.specs.Waiting.{Listing}
 use Rattle.peer_list.specs.Table.{table, is_of, is_listed_at, peer_in, known_to, has_room_in}
@@ -36,8 +36,8 @@ module _ {e p : Entries} {m : ℕ} (was : IsKept e m) (kept : IsKept p m) (is : 
   pub unknown : (who : Ip6) → key_of p who ≡ None → known_to (table m (listings_of e)) m who ≡ no_peer
   unknown who none = ap (λ o. unwrap_or o no_peer) (unlisted who none)
 
-  pub room_is : (who : Ip6) → key_of p who ≡ None → has_room_in (table m (listings_of e)) m who ≡ nat_lt (length p.index.entries) MOST_PEERS
-  room_is who none = room_nowhere m (listings_of e) (listings_of p) who purge (nowhere who none) ∙ ap (λ n. nat_lt n MOST_PEERS) (length_of p kept.whole.names)
+  pub room_is : (who : Ip6) → key_of p who ≡ None → has_room_in (table m (listings_of e)) m who ≡ nat_lt (length p.index.entries) PEERS_MAX
+  room_is who none = room_nowhere m (listings_of e) (listings_of p) who purge (nowhere who none) ∙ ap (λ n. nat_lt n PEERS_MAX) (length_of p kept.whole.names)
 
   pub updates_added : (new : Entries) (l : Listing) (call : Peer → Peer) → key_of p l.who ≡ None → IsWhole new → Adds p new l → l.peer ≡ call no_peer
       → Updates (table m (listings_of e)) (table m (listings_of new)) m l.who (call (known_to (table m (listings_of e)) m l.who))

@@ -2,7 +2,7 @@
 use Rattle.std.proofs.Common.{◌≡◌, ◌≤◌, ◌<◌, ℕ, zero, suc, ◌+◌, min, List, [], ◌∷◌, length, map, take, get_or, refl, arith}
 use Rattle.td_base.specs.declared.millis.Millis.{Millis}
 use Rattle.td_outside.specs.declared.clock.TheConstants.{CLOCK_END_MS}
-use Rattle.peer_list.specs.declared.limits.TheConstants.{MOST_TRIES}
+use Rattle.peer_list.specs.declared.limits.TheConstants.{TRIES_MAX}
 use Rattle.peer_list.specs.Bounds.{AreEarly}
 use Rattle.peer_list.proofs.TryLemmas.{all_taken}
 
@@ -12,8 +12,8 @@ moments ms = map (λ (m : Millis). m.0) ms
 abbrev none : Millis
 none = record { 0 = 0 }
 
-pub pushed : (ms : List Millis) (n : ℕ) (m : Millis) → length ms ≡ MOST_TRIES → n ≤ MOST_TRIES
-    → moments (take (min (n + 1) MOST_TRIES) (m ∷ get_or ms 0 none ∷ get_or ms 1 none ∷ get_or ms 2 none ∷ [])) ≡ m.0 ∷ take 3 (moments (take n ms))
+pub pushed : (ms : List Millis) (n : ℕ) (m : Millis) → length ms ≡ TRIES_MAX → n ≤ TRIES_MAX
+    → moments (take (min (n + 1) TRIES_MAX) (m ∷ get_or ms 0 none ∷ get_or ms 1 none ∷ get_or ms 2 none ∷ [])) ≡ m.0 ∷ take 3 (moments (take n ms))
 pushed [] n m l k = absurd (omega arith)
 pushed (a ∷ []) n m l k = absurd (omega arith)
 pushed (a ∷ b ∷ []) n m l k = absurd (omega arith)
@@ -29,5 +29,5 @@ pushed (a ∷ b ∷ c ∷ d ∷ []) (suc (suc (suc (suc (suc n))))) m l k = absu
 pub early_pushed : (ms : List ℕ) (m : ℕ) → m < CLOCK_END_MS → AreEarly ms → AreEarly (m ∷ take 3 ms)
 early_pushed ms m l a = (l, all_taken (λ (k : ℕ). k < CLOCK_END_MS) 3 ms a)
 
-pub at_most : (n : ℕ) → min (n + 1) MOST_TRIES ≤ MOST_TRIES
+pub at_most : (n : ℕ) → min (n + 1) TRIES_MAX ≤ TRIES_MAX
 at_most n = omega arith

@@ -3,7 +3,7 @@ use Rattle.std.proofs.Common.{◌≡◌, ℕ, Bool, true, false, cond, List, len
 use Rattle.std.specs.Prelude.{nat_lt, is_some}
 use Rattle.std.proofs.lemmas.Bool.{false≢true, or_parts}
 use Rattle.td_base.specs.declared.ipv6.Ip6.{Ip6}
-use Rattle.peer_list.specs.declared.limits.TheConstants.{MOST_PEERS}
+use Rattle.peer_list.specs.declared.limits.TheConstants.{PEERS_MAX}
 use Rattle.peer_list.specs.Mentions.{Mention}
 use Rattle.peer_list.specs.Listed.{is_listed, listed, has_room}
 use Rattle.peer_list.specs.Peers.{peer_at}
@@ -12,7 +12,7 @@ use Rattle.peer_list.specs.Few.{HasRoom}
 -- where there is none, it isn't listed
 not_listed : (ms : List Mention) (n : ℕ) (p : Ip6) → has_room ms n p ≡ false → is_listed p n ms ≡ false
 unfolding has_room
-not_listed ms n p none = (or_parts (is_listed p n ms) (nat_lt (length (listed ms n)) MOST_PEERS) none).0
+not_listed ms n p none = (or_parts (is_listed p n ms) (nat_lt (length (listed ms n)) PEERS_MAX) none).0
 
 pub not_known : (ms : List Mention) (n : ℕ) (p : Ip6) → has_room ms n p ≡ false → peer_at ms n p ≡ None
 unfolding peer_at

@@ -4,7 +4,7 @@ use Rattle.std.specs.Prelude.{option_map, unwrap_or, is_some}
 use Rattle.std.proofs.lemmas.List.{append-nil}
 use Rattle.td_base.specs.Ip6.{same_ip6, same_ip6-true}
 use Rattle.td_base.specs.declared.ipv6.Ip6.{Ip6}
-use Rattle.peer_list.specs.declared.limits.TheConstants.{LISTED_MS, MOST_PEERS}
+use Rattle.peer_list.specs.declared.limits.TheConstants.{LISTED_MS, PEERS_MAX}
 use Rattle.peer_list.specs.Mentions.{Mention, no_bearing, is_peer, is_about}
 use Rattle.peer_list.specs.Listed.{is_young, is_listed, listed, has_room}
 use Rattle.peer_list.specs.Peers.{Peer, no_peer, peer_at, known}
@@ -44,8 +44,8 @@ table_is_read t j n s l =
       known = knowns;
       count = count.count;
       room = λ p.
-          ap (λ b. b || nat_lt (length (listed_in t n)) MOST_PEERS) (ap is_some (peers p) ∙ listed_is_known j n p)
-          ∙ ap (λ k. is_listed p n j || nat_lt k MOST_PEERS) count.count;
+          ap (λ b. b || nat_lt (length (listed_in t n)) PEERS_MAX) (ap is_some (peers p) ∙ listed_is_known j n p)
+          ∙ ap (λ k. is_listed p n j || nat_lt k PEERS_MAX) count.count;
       waiting = count.waiting;
       first = ap (λ (f : Ip6 → Peer). option_map (λ p. record { who = p; peer = f p }) (first_among (known_to t n) (listed_in t n))) all
           ∙ ap (λ o. option_map (λ p. record { who = p; peer = known j n p }) o) count.first;

@@ -3,7 +3,7 @@ use Rattle.std.specs.Prelude.{◌≤◌, ◌<◌, ℕ, List, length}
 use Rattle.std.specs.List.{AllByRecursion}
 use Rattle.td_outside.specs.declared.clock.TheConstants.{CLOCK_END_MS}
 use Rattle.ipv6_packet.specs.declared.header.TheConstants.{PACKET_MAX}
-use Rattle.peer_list.specs.declared.limits.TheConstants.{MOST_WAITING}
+use Rattle.peer_list.specs.declared.limits.TheConstants.{WAITING_MAX}
 
 -- each is a moment that a clock gives
 abbrev pub AreEarly : List ℕ → Type 0
@@ -11,5 +11,5 @@ AreEarly ms = AllByRecursion (λ m. m < CLOCK_END_MS) ms
 
 -- at most eight packets, each short enough for every link
 pub record CanWait (packets : List (List ℕ)) : Type 0 where
-  pub few : length packets ≤ MOST_WAITING
+  pub few : length packets ≤ WAITING_MAX
   pub short : AllByRecursion (λ (x : List ℕ). length x ≤ PACKET_MAX) packets

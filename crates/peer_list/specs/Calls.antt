@@ -6,7 +6,7 @@ use Rattle.td_base.specs.declared.ipv6.Ip6.{Ip6}
 use Rattle.td_base.specs.declared.endpoint.Ep.{Ep}
 use Rattle.td_base.specs.declared.side.Side.{Side}
 use Rattle.teredo_node.specs.Step.{Send}
-use Rattle.peer_list.specs.declared.limits.TheConstants.{MOST_TRIES}
+use Rattle.peer_list.specs.declared.limits.TheConstants.{TRIES_MAX}
 use Rattle.peer_list.specs.declared.refusals.PeersRefusal.{PeersRefusal}
 use Rattle.peer_list.specs.declared.refusals.PeersRefusal.TheVariants as peers
 use Rattle.peer_list.specs.declared.refusals.QueueRefusal.{QueueRefusal}
@@ -31,7 +31,7 @@ heard_at m p = record p { touched = Some m; heard = Some m; tries = [] }
 
 -- `tried`: a nonce that is given replaces the one that is kept
 abbrev pub tried_at : ℕ → Option ℕ → Peer → Peer
-tried_at m nonce p = record p { touched = Some m; tries = take MOST_TRIES (m ∷ p.tries); nonce = option_or nonce p.nonce }
+tried_at m nonce p = record p { touched = Some m; tries = take TRIES_MAX (m ∷ p.tries); nonce = option_or nonce p.nonce }
 
 -- `queue`
 abbrev pub queued_at : ℕ → List ℕ → Peer → Peer

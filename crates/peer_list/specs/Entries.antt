@@ -9,7 +9,7 @@ use Rattle.td_base.specs.Ip6.{same_ip6, cmp_ip6}
 use Rattle.td_base.specs.declared.ipv6.Ip6.{Ip6}
 use Rattle.td_base.specs.declared.millis.Millis.{Millis}
 use Rattle.peer_list.specs.declared.entries.Entries.{Entries}
-use Rattle.peer_list.specs.declared.limits.TheConstants.{MOST_PEERS}
+use Rattle.peer_list.specs.declared.limits.TheConstants.{PEERS_MAX}
 use Rattle.peer_list.specs.Peers.{Peer}
 use Rattle.peer_list.specs.Judged.{is_none}
 use Rattle.peer_list.specs.Waiting.{Listing}
@@ -47,7 +47,7 @@ pub record NameEachOther (s : Slab Listing) (index : BTreeMap Ip6 ℕ) : Type 0 
   pub leads : AllByRecursion (Leads s) index.entries
   pub named : (key : ℕ) (l : Listing) → get s key ≡ Some l → map.get cmp_ip6 index l.who ≡ Some key
   pub order : IsOrdered cmp_ip6 index
-  pub few : length index.entries ≤ MOST_PEERS
+  pub few : length index.entries ≤ PEERS_MAX
 
 -- THE ORDER IN WHICH THEY ARE DUE
 

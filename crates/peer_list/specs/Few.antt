@@ -2,7 +2,7 @@
 use Rattle.std.specs.Prelude.{◌≡◌, ◌≤◌, ℕ, true, List, [], ◌∷◌, length, Some}
 use Rattle.std.specs.List.{AllByRecursion}
 use Rattle.td_base.specs.declared.ipv6.Ip6.{Ip6}
-use Rattle.peer_list.specs.declared.limits.TheConstants.{MOST_PEERS}
+use Rattle.peer_list.specs.declared.limits.TheConstants.{PEERS_MAX}
 use Rattle.peer_list.specs.Mentions.{Mention}
 use Rattle.peer_list.specs.Listed.{touched_by, listed, has_room}
 use Rattle.peer_list.specs.Laws.{InOrder}
@@ -18,4 +18,4 @@ HaveRoom (e ∷ j) = HasRoom e j × HaveRoom j
 
 -- then there are never more than 256, the moment n being none before the latest entry
 abbrev pub FewListed : Type 0
-FewListed = (j : List Mention) (n : ℕ) → InOrder j → AllByRecursion (λ (e : Mention). e.moment ≤ n) j → HaveRoom j → length (listed j n) ≤ MOST_PEERS
+FewListed = (j : List Mention) (n : ℕ) → InOrder j → AllByRecursion (λ (e : Mention). e.moment ≤ n) j → HaveRoom j → length (listed j n) ≤ PEERS_MAX

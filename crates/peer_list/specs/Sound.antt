@@ -6,7 +6,7 @@ use Rattle.std.specs.declared.cmp.Ordering.TheVariants.{Less}
 use Rattle.td_base.specs.Ip6.{same_ip6, cmp_ip6}
 use Rattle.td_base.specs.declared.ipv6.Ip6.{Ip6}
 use Rattle.td_base.specs.declared.millis.Millis.{Millis}
-use Rattle.peer_list.specs.declared.limits.TheConstants.{MOST_PEERS}
+use Rattle.peer_list.specs.declared.limits.TheConstants.{PEERS_MAX}
 use Rattle.peer_list.specs.Judged.{is_none}
 use Rattle.peer_list.specs.Waiting.{Listing}
 use Rattle.peer_list.specs.Table.{due_and_who}
@@ -26,7 +26,7 @@ AreApart (l ∷ ls) = AllByRecursion (λ (o : Listing). same_ip6 l.who o.who ≡
 -- and there are at most 256 in all
 pub record AreSound (ls : List Listing) : Type 0 where
   pub order : AreInOrder ls
-  pub few : length ls ≤ MOST_PEERS
+  pub few : length ls ≤ PEERS_MAX
 
 -- MOMENTS
 

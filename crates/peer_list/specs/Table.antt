@@ -4,7 +4,7 @@ use Rattle.std.specs.Ordering.{nat_cmp, ordering_then, is_lt}
 use Rattle.td_base.specs.Ip6.{same_ip6, cmp_ip6}
 use Rattle.td_base.specs.declared.ipv6.Ip6.{Ip6}
 use Rattle.td_base.specs.declared.millis.Millis.{Millis}
-use Rattle.peer_list.specs.declared.limits.TheConstants.{LISTED_MS, MOST_PEERS}
+use Rattle.peer_list.specs.declared.limits.TheConstants.{LISTED_MS, PEERS_MAX}
 use Rattle.peer_list.specs.Listed.{with_peer}
 use Rattle.peer_list.specs.Peers.{Peer, no_peer}
 use Rattle.peer_list.specs.Judged.{is_within, due_of}
@@ -60,7 +60,7 @@ listed_in t n = filter (λ p. is_some (peer_in t n p)) (addresses t.listings)
 
 -- p is listed, or fewer than 256 are
 unfoldable pub has_room_in : Table → ℕ → Ip6 → Bool
-has_room_in t n p = is_some (peer_in t n p) || nat_lt (length (listed_in t n)) MOST_PEERS
+has_room_in t n p = is_some (peer_in t n p) || nat_lt (length (listed_in t n)) PEERS_MAX
 
 -- how many packets wait for all listed peers
 abbrev pub waiting_in : Table → ℕ → ℕ

@@ -3,11 +3,11 @@ ghost use Rattle.std.specs.Prelude.{◌≡◌, ◌≤◌, ◌<◌, ℕ, Some, No
 ghost use Rattle.slab.specs.Slab.{get, ContainsKey};
 ghost use Rattle.peer_list.specs.Table.{table, is_of, is_listed_at, listed_in, waiting_in, first_due_in, due_and_who};
 ghost use Rattle.peer_list.specs.Overdue.{due_moment, IsNoSooner};
-ghost use Rattle.peer_list.specs.declared.limits.TheConstants.{MOST_PEERS};
+ghost use Rattle.peer_list.specs.declared.limits.TheConstants.{PEERS_MAX};
 ghost use Rattle.peer_list.specs.Sound.{NoneBefore};
 ghost use Rattle.peer_list.specs.Entries.{listings_of, entry_of, key_of, IsWhole, IsWholeBut, due_at, AreInTurn, IsSinceAll, IsKept, Adds, SameEntries};
 
-use crate::limits::{LISTED_MS, MOST_PEERS};
+use crate::limits::{LISTED_MS, PEERS_MAX};
 use crate::listed_peer::Peer;
 use crate::listings::Listing;
 use crate::{order, tries};
@@ -75,16 +75,16 @@ impl Entries {
 
     /// Whether there is room for anybody: then nobody needs to be looked for.
     pub fn is_short(&self) -> bool
-        ensures { result ≡ nat_lt (length self.now.index.entries) MOST_PEERS }
+        ensures { result ≡ nat_lt (length self.now.index.entries) PEERS_MAX }
     {
-        self.index.len() < MOST_PEERS
+        self.index.len() < PEERS_MAX
     }
 
     /// How many are listed.
     pub fn count(&self, now: Millis) -> usize
         requires whole { IsWhole self.now }
         ensures count { result ≡ length (listed_in (table now.0 (listings_of self.now)) now.0) }
-        ensures most { result ≤ MOST_PEERS }
+        ensures most { result ≤ PEERS_MAX }
     {
         let mut count = 0;
         for (_, key) in &self.index {
@@ -206,7 +206,7 @@ impl Entries {
     pub fn add(&mut self, listing: Listing) -> Result<(), NoMemory>
         requires whole { IsWhole self.old }
         requires absent { key_of self.old listing.who ≡ None }
-        requires room { length self.old.index.entries < MOST_PEERS }
+        requires room { length self.old.index.entries < PEERS_MAX }
         ensures whole { IsWhole self.new }
         ensures touched { self.new.touched ≡ self.old.touched }
         ensures added { OnOk result (Adds self.old self.new listing) }

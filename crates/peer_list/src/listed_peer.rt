@@ -7,7 +7,7 @@ ghost use Rattle.peer_list.specs.Peers.{no_peer};
 ghost use Rattle.peer_list.specs.Judged.{is_within, is_none, is_fresh, is_spent, is_barred, is_full, is_trusted_at, due_of};
 ghost use Rattle.peer_list.specs.Calls.{touched_at, trusted_at, heard_at, tried_at, queued_at, emptied, sends_of, Queues};
 
-use crate::limits::{FRESH_MS, LISTED_MS, MOST_TRIES, MOST_WAITING};
+use crate::limits::{FRESH_MS, LISTED_MS, TRIES_MAX, WAITING_MAX};
 use crate::refusals::QueueRefusal;
 use crate::tries::{self, Tries};
 use std::alloc::Global;
@@ -86,7 +86,7 @@ impl Peer {
     /// When it was tried since it was heard, the latest first.
     pub fn tries(&self) -> &[Millis]
         ensures value { self.now.tries ≡ map (λ m. m.0) result.now }
-        ensures most { length result.now ≤ MOST_TRIES }
+        ensures most { length result.now ≤ TRIES_MAX }
     {
         self.tries.as_slice()
     }
@@ -101,7 +101,7 @@ impl Peer {
     /// The packets that wait for it, in the order in which they came.
     pub fn waiting(&self) -> &[Octets]
         ensures value { result.now ≡ self.now.waiting }
-        ensures most { length result.now ≤ MOST_WAITING }
+        ensures most { length result.now ≤ WAITING_MAX }
         ensures short { AllByRecursion (λ x. length x ≤ PACKET_MAX) result.now }
     {
         self.waiting.as_slice()
@@ -171,7 +171,7 @@ impl Peer {
     pub fn is_full(&self) -> bool
         ensures { result ≡ is_full self.now }
     {
-        MOST_WAITING <= self.waiting.len()
+        WAITING_MAX <= self.waiting.len()
     }
 
     /// When its next try is due.

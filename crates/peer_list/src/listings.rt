@@ -8,7 +8,7 @@ ghost use Rattle.peer_list.specs.Waiting.{Listing as Kept};
 ghost use Rattle.peer_list.specs.Entries.{listings_of, IsKept, IsAfter};
 
 use crate::entries::Entries;
-use crate::limits::MOST_PEERS;
+use crate::limits::PEERS_MAX;
 use crate::listed_peer::Peer;
 use crate::refusals::{PeersRefusal, QueueRefusal};
 use std::alloc::Global;
@@ -42,7 +42,7 @@ pub fn admit(
             Ok(())
         }
         None => {
-            if MOST_PEERS <= entries.index.len() {
+            if PEERS_MAX <= entries.index.len() {
                 return Err(PeersRefusal::Full);
             }
             let peer = Peer::new(alloc, now);

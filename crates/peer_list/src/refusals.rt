@@ -7,7 +7,7 @@ use td_base::NoMemory;
 /// Why a peer was not listed.
 #[derive(Clone, Copy, Debug, PartialEq, Eq)]
 pub enum PeersRefusal {
-    /// `MOST_PEERS` others are listed (own).
+    /// `PEERS_MAX` others are listed (own).
     Full,
     NoMemory,
 }
@@ -15,7 +15,7 @@ pub enum PeersRefusal {
 /// Why a packet doesn't wait.
 #[derive(Clone, Copy, Debug, PartialEq, Eq)]
 pub enum QueueRefusal {
-    /// `MOST_WAITING` packets wait for its peer (own).
+    /// `WAITING_MAX` packets wait for its peer (own).
     Full,
     NoMemory,
 }

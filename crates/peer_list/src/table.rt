@@ -10,7 +10,7 @@ ghost use Rattle.peer_list.specs.Calls.{touched_at, trusted_at, heard_at, tried_
 ghost use Rattle.peer_list.specs.Stands.{StandsForMentions};
 
 use crate::entries::Entries;
-use crate::limits::MOST_PEERS;
+use crate::limits::PEERS_MAX;
 use crate::listed_peer::Peer;
 use crate::listings;
 use crate::refusals::{PeersRefusal, QueueRefusal};
@@ -152,7 +152,7 @@ impl Peers {
     pub fn count(&self, now: Millis) -> usize
         requires clock { self.now.moment ≤ now.0 }
         ensures count { result ≡ length (listed_in self.now now.0) }
-        ensures most { result ≤ MOST_PEERS }
+        ensures most { result ≤ PEERS_MAX }
     {
         self.entries.count(now)
     }
@@ -166,7 +166,7 @@ impl Peers {
         if self.entries.is_short() {
             return true;
         }
-        self.is_listed(now, who) || self.count(now) < MOST_PEERS
+        self.is_listed(now, who) || self.count(now) < PEERS_MAX
     }
 
     /// Lists and touches a peer. A refusal leaves all as it was.

@@ -6,7 +6,7 @@ ghost use Rattle.peer_list.specs.Listed.{is_young};
 ghost use Rattle.peer_list.specs.Judged.{next_try};
 ghost use Rattle.peer_list.specs.Bounds.{AreEarly};
 
-use crate::limits::{LISTED_MS, MOST_TRIES, TRY_GAP_MS};
+use crate::limits::{LISTED_MS, TRIES_MAX, TRY_GAP_MS};
 use std::marker::Model;
 use td_base::Millis;
 
@@ -14,21 +14,21 @@ use td_base::Millis;
 #[derive(Drop)]
 pub(crate) struct Tries {
     // the first `count` are the tries
-    moments: [Millis; MOST_TRIES],
+    moments: [Millis; TRIES_MAX],
     count: usize,
 }
 
 impl Model for Tries {
     ghost use Rattle.std.specs.Prelude.{◌≡◌, ◌≤◌, ℕ, List, map, take, length};
     ghost use Rattle.td_base.specs.declared.millis.Millis.{Millis};
-    ghost use Rattle.peer_list.specs.declared.limits.TheConstants.{MOST_TRIES};
+    ghost use Rattle.peer_list.specs.declared.limits.TheConstants.{TRIES_MAX};
     ghost use Rattle.peer_list.specs.Bounds.{AreEarly};
 
     ghost Value = { List ℕ };
 
     ghost view = { λ s. map (λ (m : Millis). m.0) (take s.count s.moments) };
 
-    ghost invariant = { λ s. (s.count ≤ MOST_TRIES) × (length s.moments ≡ MOST_TRIES) × AreEarly (map (λ (m : Millis). m.0) (take s.count s.moments)) };
+    ghost invariant = { λ s. (s.count ≤ TRIES_MAX) × (length s.moments ≡ TRIES_MAX) × AreEarly (map (λ (m : Millis). m.0) (take s.count s.moments)) };
 }
 
 /// Whether a moment is less than so many milliseconds ago.
@@ -43,14 +43,14 @@ impl Tries {
         ensures { result ≡ [] }
     {
         Tries {
-            moments: [Millis(0); MOST_TRIES],
+            moments: [Millis(0); TRIES_MAX],
             count: 0,
         }
     }
 
     pub(crate) fn as_slice(&self) -> &[Millis]
         ensures value { map (λ m. m.0) result.now ≡ self.now }
-        ensures most { length result.now ≤ MOST_TRIES }
+        ensures most { length result.now ≤ TRIES_MAX }
         ensures early { AreEarly self.now }
     {
         &self.moments[..self.count]
@@ -58,11 +58,11 @@ impl Tries {
 
     pub(crate) fn push(&mut self, now: Millis)
         requires { now.0 < CLOCK_END_MS }
-        ensures { self.new ≡ take MOST_TRIES (now.0 ∷ self.old) }
+        ensures { self.new ≡ take TRIES_MAX (now.0 ∷ self.old) }
     {
         let [first, second, third, _] = self.moments;
         self.moments = [now, first, second, third];
-        self.count = (self.count + 1).min(MOST_TRIES);
+        self.count = (self.count + 1).min(TRIES_MAX);
     }
 
     pub(crate) fn clear(&mut self)
@@ -71,9 +71,9 @@ impl Tries {
         self.count = 0;
     }
 
-    /// Whether `MOST_TRIES` of them are as young as a listing may be.
+    /// Whether `TRIES_MAX` of them are as young as a listing may be.
     pub(crate) fn is_spent(&self, now: Millis) -> bool
-        ensures { result ≡ nat_le MOST_TRIES (length (filter (is_young LISTED_MS now.0) self.now)) }
+        ensures { result ≡ nat_le TRIES_MAX (length (filter (is_young LISTED_MS now.0) self.now)) }
     {
         let mut young: usize = 0;
         for moment in self.as_slice() {
@@ -81,7 +81,7 @@ impl Tries {
                 young += 1;
             }
         }
-        MOST_TRIES <= young
+        TRIES_MAX <= young
     }
 
     /// Whether one of them is too young for another.

@@ -5,7 +5,7 @@ use crate::nodes::{
     CLIENT, MAPPED, NAT, NATIVE, RELAY, RELAY_AT, SERVER, SERVER_AT, one_long_server, one_of_each,
     one_server,
 };
-use history::{Act, Loss, MOST_MARKS, Mark, Marks, Record, Topology, Verb};
+use history::{Act, Loss, MARKS_MAX, Mark, Marks, Record, Topology, Verb};
 use report::{Sums, line, summary};
 use std::test::Fail;
 use td_base::{Ep, Ip4, Ip6, LineBuf, Millis, print_text};
@@ -293,8 +293,8 @@ fn the_longest_line(rt: HostRuntime) -> Result<(), Fail> {
     print_text(begin, &mut want).ok().ok_or("room")?;
     print_text(middle, &mut want).ok().ok_or("room")?;
     let mut marks = Marks::new();
-    for _ in 0..MOST_MARKS {
-        if marks.as_slice().len() == MOST_MARKS {
+    for _ in 0..MARKS_MAX {
+        if marks.as_slice().len() == MARKS_MAX {
             break;
         }
         marks.push(Mark::Udp {

@@ -7,7 +7,7 @@ use Rattle.td_base.specs.declared.endpoint.Ep.{Ep}
 use Rattle.teredo_addr.specs.Teredo.{is_teredo, embedded, has_cone}
 use Rattle.ipv6_packet.specs.Reads.{is_packet, is_big, fields_in}
 use Rattle.teredo_node.specs.Journal.{Entry}
-use Rattle.peer_list.specs.declared.limits.TheConstants.{MOST_PEERS}
+use Rattle.peer_list.specs.declared.limits.TheConstants.{PEERS_MAX}
 use Rattle.peer_list.specs.Listed.{listed}
 use Rattle.peer_list.specs.Peers.{Peer, known}
 use Rattle.peer_list.specs.Laws.{IsTried}
@@ -55,7 +55,7 @@ ConeIsQuiet = (s : RelaySettings) (j : List Entry) (n : ℕ) (p : Ip6) → IsJou
 
 -- no more than 256 peers are ever listed
 abbrev pub JournalHasFew : Type 0
-JournalHasFew = (s : RelaySettings) (j : List Entry) (n : ℕ) → IsJournal s j → last_moment j ≤ n → length (listed (mentions j) n) ≤ MOST_PEERS
+JournalHasFew = (s : RelaySettings) (j : List Entry) (n : ℕ) → IsJournal s j → last_moment j ≤ n → length (listed (mentions j) n) ≤ PEERS_MAX
 
 -- x is a packet from outside Teredo to that address, and not too long
 pub record IsForeignTo (to : Option Ip6) (x : List ℕ) : Type 0 where

@@ -20,9 +20,9 @@ use Rattle.td_base.specs.Reach.{is_global, is_global6}
 use Rattle.teredo_addr.specs.Teredo.{is_teredo}
 use Rattle.topology.specs.declared.server_node.ServerNode.{ServerNode}
 use Rattle.topology.specs.declared.nat_node.NatNode.{NatNode}
-use Rattle.topology.specs.declared.nat_node.TheConstants.{MOST_IDLE}
+use Rattle.topology.specs.declared.nat_node.TheConstants.{IDLE_MAX_MS}
 use Rattle.topology.specs.declared.client_node.ClientNode.{ClientNode}
-use Rattle.topology.specs.declared.client_node.TheConstants.{LEAST_REFRESH, MOST_REFRESH, REFRESH_LOW_MS, REFRESH_HIGH_MS}
+use Rattle.topology.specs.declared.client_node.TheConstants.{REFRESH_MIN_MS, REFRESH_MAX_MS, REFRESH_LOW_MS, REFRESH_HIGH_MS}
 use Rattle.topology.specs.declared.relay_node.RelayNode.{RelayNode}
 use Rattle.topology.specs.declared.native_node.NativeNode.{NativeNode}
 use Rattle.topology.specs.NodeNames.{is_name}
@@ -111,19 +111,19 @@ free_inside law t n text inside e =
     let P : Ep → Type 0 = λ x. (x.port ≢ 0) × (list_any (λ (c : ClientNode). (n == c.nat) && same_ep x c.inside) t.clients ≡ false) × IsEp x in
     subst P kept.1 (no_zero made.0.port both.0, not_true (list_any (λ (c : ClientNode). (n == c.nat) && same_ep made.0 c.inside) t.clients) both.1, (law.ep text made.0 made.1))
 
-idle_within : (number : ℤ) (idle : ℕ) → idle_of number ≡ Some idle → (1 ≤ idle) × (idle ≤ MOST_IDLE)
+idle_within : (number : ℤ) (idle : ℕ) → idle_of number ≡ Some idle → (1 ≤ idle) × (idle ≤ IDLE_MAX_MS)
 unfolding idle_of
 idle_within number idle e =
-    let ms = bind_some (natural number) (λ n. where_holds (nat_le 1 n && nat_le n MOST_IDLE) n) idle e in
-    let kept = held (nat_le 1 ms.0 && nat_le ms.0 MOST_IDLE) ms.0 idle ms.2 in
-    let both = and_parts (nat_le 1 ms.0) (nat_le ms.0 MOST_IDLE) kept.0 in
-    let P : ℕ → Type 0 = λ n. (1 ≤ n) × (n ≤ MOST_IDLE) in
+    let ms = bind_some (natural number) (λ n. where_holds (nat_le 1 n && nat_le n IDLE_MAX_MS) n) idle e in
+    let kept = held (nat_le 1 ms.0 && nat_le ms.0 IDLE_MAX_MS) ms.0 idle ms.2 in
+    let both = and_parts (nat_le 1 ms.0) (nat_le ms.0 IDLE_MAX_MS) kept.0 in
+    let P : ℕ → Type 0 = λ n. (1 ≤ n) × (n ≤ IDLE_MAX_MS) in
     subst P kept.1 (leb-true _ _ both.0, leb-true _ _ both.1)
 
 record IsRefresh (times : ℕ × ℕ) : Type 0 where
-  least : LEAST_REFRESH ≤ times.0
+  least : REFRESH_MIN_MS ≤ times.0
   order : times.0 ≤ times.1
-  most : times.1 ≤ MOST_REFRESH
+  most : times.1 ≤ REFRESH_MAX_MS
 
 refresh_within : (numbers : ℤ × ℤ) (times : ℕ × ℕ) → refresh_of numbers ≡ Some times → IsRefresh times
 unfolding refresh_of
@@ -131,8 +131,8 @@ refresh_within numbers times e =
     let low = bind_some (natural numbers.0) _ times e in
     let high = bind_some (natural numbers.1) (λ h. where_holds (is_refresh low.0 h) (low.0, h)) times low.2 in
     let kept = held (is_refresh low.0 high.0) (low.0, high.0) times high.2 in
-    let most = and_parts (nat_le LEAST_REFRESH low.0 && nat_le low.0 high.0) (nat_le high.0 MOST_REFRESH) kept.0 in
-    let least = and_parts (nat_le LEAST_REFRESH low.0) (nat_le low.0 high.0) most.0 in
+    let most = and_parts (nat_le REFRESH_MIN_MS low.0 && nat_le low.0 high.0) (nat_le high.0 REFRESH_MAX_MS) kept.0 in
+    let least = and_parts (nat_le REFRESH_MIN_MS low.0) (nat_le low.0 high.0) most.0 in
     subst IsRefresh kept.1 (record { least = leb-true _ _ least.0; order = leb-true _ _ least.1; most = leb-true _ _ most.1 })
 
 refresh_is : (place : Place) (value : Option Data) (times : ℕ × ℕ) → refresh_in place value ≡ Ok times → IsRefresh times

@@ -18,7 +18,7 @@ use Rattle.topology.specs.declared.nat_node.NatNode.{NatNode}
 use Rattle.topology.specs.declared.client_node.ClientNode.{ClientNode}
 use Rattle.topology.specs.declared.relay_node.RelayNode.{RelayNode}
 use Rattle.topology.specs.declared.native_node.NativeNode.{NativeNode}
-use Rattle.topology.specs.declared.topology.TheConstants.{MOST_SERVERS, MOST_NATS, MOST_CLIENTS, MOST_RELAYS, MOST_NATIVES}
+use Rattle.topology.specs.declared.topology.TheConstants.{SERVERS_MAX, NATS_MAX, CLIENTS_MAX, RELAYS_MAX, NATIVES_MAX}
 use Rattle.topology.specs.NodeNames.{is_name}
 use Rattle.topology.specs.Rows.{TopologyState, with_server, with_nat, with_client, with_relay, with_native}
 use Rattle.topology.specs.declared.node.Node.{Node}
@@ -129,7 +129,7 @@ two_addresses t row is fresh =
     let both = one_address t (addresses_of t ++ row.primary ∷ []) row.secondary one other fresh.secondary in
     subst AreAddresses (append_assoc (addresses_of t) (row.primary ∷ []) (row.secondary ∷ [])) both
 
-pub grown_server : (t : TopologyState) (row : ServerNode) → IsTopology t → IsFreshServer t row → length t.servers < MOST_SERVERS → HasNoneBehind kind.Server t → IsTopology (with_server t row)
+pub grown_server : (t : TopologyState) (row : ServerNode) → IsTopology t → IsFreshServer t row → length t.servers < SERVERS_MAX → HasNoneBehind kind.Server t → IsTopology (with_server t row)
 grown_server t row is fresh few h =
     let names = names_grown t (with_server t row) (server row) (nodes_server t row h) is fresh.name in
     let ips = subst AreAddresses (sym (addresses_server t row h)) (two_addresses t row is fresh) in
@@ -160,7 +160,7 @@ pub record IsFreshNat (t : TopologyState) (row : NatNode) : Type 0 where
   pub external : IsFreeIp t row.external
   pub idle : IsIdle row
 
-pub grown_nat : (t : TopologyState) (row : NatNode) → IsTopology t → IsFreshNat t row → length t.nats < MOST_NATS → HasNoneBehind kind.Nat t → IsTopology (with_nat t row)
+pub grown_nat : (t : TopologyState) (row : NatNode) → IsTopology t → IsFreshNat t row → length t.nats < NATS_MAX → HasNoneBehind kind.Nat t → IsTopology (with_nat t row)
 grown_nat t row is fresh few h =
     let names = names_grown t (with_nat t row) (nat row) (nodes_nat t row h) is fresh.name in
     let ips = subst AreAddresses (sym (addresses_nat t row h)) (one_address t (addresses_of t) row.external (addresses_are t is) fresh.external.free fresh.external) in
@@ -198,7 +198,7 @@ IsMadeInside c = IsEp c.inside
 same_inside-symm : (a b : ClientNode) → same_inside a b ≡ same_inside b a
 same_inside-symm a b = rw (nat_eq_equiv.symm a.nat b.nat, same_ep_equiv.symm a.inside b.inside) refl
 
-pub grown_client : (t : TopologyState) (row : ClientNode) → IsTopology t → IsFreshClient t row → length t.clients < MOST_CLIENTS → HasNoneBehind kind.Client t → IsTopology (with_client t row)
+pub grown_client : (t : TopologyState) (row : ClientNode) → IsTopology t → IsFreshClient t row → length t.clients < CLIENTS_MAX → HasNoneBehind kind.Client t → IsTopology (with_client t row)
 grown_client t row is fresh few h =
     let u = with_client t row in
     let stays = client_stays t u (client row) (nodes_client t row h) in
@@ -238,7 +238,7 @@ IsMadeAt r = IsEp r.at
 abbrev HasPort : RelayNode → Type 0
 HasPort r = r.at.port ≢ 0
 
-pub grown_relay : (t : TopologyState) (row : RelayNode) → IsTopology t → IsFreshRelay t row → length t.relays < MOST_RELAYS → HasNoneBehind kind.Relay t → IsTopology (with_relay t row)
+pub grown_relay : (t : TopologyState) (row : RelayNode) → IsTopology t → IsFreshRelay t row → length t.relays < RELAYS_MAX → HasNoneBehind kind.Relay t → IsTopology (with_relay t row)
 grown_relay t row is fresh few h =
     let u = with_relay t row in
     let stays = client_stays t u (relay row) (nodes_relay t row h) in
@@ -272,7 +272,7 @@ pub record IsFreshNative (t : TopologyState) (row : NativeNode) : Type 0 where
   pub six : IsFreeSix t row.six
   pub through : is_some (relay_at t row.relay) ≡ true
 
-pub grown_native : (t : TopologyState) (row : NativeNode) → IsTopology t → IsFreshNative t row → length t.natives < MOST_NATIVES → IsTopology (with_native t row)
+pub grown_native : (t : TopologyState) (row : NativeNode) → IsTopology t → IsFreshNative t row → length t.natives < NATIVES_MAX → IsTopology (with_native t row)
 grown_native t row is fresh few =
     let u = with_native t row in
     let client_stays = client_stays t u (native row) (nodes_native t row) in

@@ -14,7 +14,7 @@ use Rattle.scenario.specs.declared.place.Place.TheVariants as place
 use Rattle.scenario.specs.declared.reader.Scenario.{Scenario as CodeScenario}
 use Rattle.scenario.specs.Answers.{IsReadAs}
 use Rattle.scenario.specs.Told.{told}
-use Rattle.scenario.specs.declared.reader.TheConstants.{TEXT_MOST}
+use Rattle.scenario.specs.declared.reader.TheConstants.{TEXT_MAX}
 use Rattle.history.specs.declared.event.TheConstants.{EVENTS_MAX}
 use Rattle.scenario.specs.declared.scenario_fault.ScenarioFault.{ScenarioFault}
 use Rattle.scenario.specs.declared.scenario_fault.ScenarioFault.TheVariants as fault
@@ -146,7 +146,7 @@ there text s e =
 
 pub scenario_of-rules : (law : WordsAreMade) (text : List ℕ) (s : Scenario) → scenario_of text ≡ Ok s → IsTopology s.topology
 unfolding scenario_of
-scenario_of-rules law text s e = let found = there text s (not_refused (nat_lt TEXT_MOST (length text)) (written text) fault.TooLong s e) in nodes_of-keeps law found.table s.topology found.nodes
+scenario_of-rules law text s e = let found = there text s (not_refused (nat_lt TEXT_MAX (length text)) (written text) fault.TooLong s e) in nodes_of-keeps law found.table s.topology found.nodes
 
 -- a scenario that was read has few events
 pub few_read : (text : List ℕ) (r : Result CodeScenario ScenarioFault) → IsReadAs told r (written text) → IfOk r (λ s. length s.events ≤ EVENTS_MAX)

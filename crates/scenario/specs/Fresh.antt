@@ -14,8 +14,8 @@ use Rattle.td_base.specs.Reach.{is_global, is_global6}
 use Rattle.teredo_addr.specs.Teredo.{is_teredo}
 use Rattle.nat_kinds.specs.declared.kind.NatKind.{NatKind}
 use Rattle.nat_kinds.specs.declared.kind.NatKind.TheVariants.{Cone, Restricted, Port, Symmetric}
-use Rattle.topology.specs.declared.nat_node.TheConstants.{MOST_IDLE}
-use Rattle.topology.specs.declared.client_node.TheConstants.{LEAST_REFRESH, MOST_REFRESH}
+use Rattle.topology.specs.declared.nat_node.TheConstants.{IDLE_MAX_MS}
+use Rattle.topology.specs.declared.client_node.TheConstants.{REFRESH_MIN_MS, REFRESH_MAX_MS}
 use Rattle.topology.specs.declared.client_node.ClientNode.{ClientNode}
 use Rattle.topology.specs.NodeNames.{is_name}
 use Rattle.topology.specs.Rows.{TopologyState}
@@ -102,11 +102,11 @@ natural (negsuc n) = None
 
 -- how many milliseconds a mapping lives: at least one, and not too many
 unfoldable pub idle_of : ℤ → Option ℕ
-idle_of number = natural number >>= (λ ms. where_holds (nat_le 1 ms && nat_le ms MOST_IDLE) ms)
+idle_of number = natural number >>= (λ ms. where_holds (nat_le 1 ms && nat_le ms IDLE_MAX_MS) ms)
 
 -- the shortest and the longest time between two refreshes, in milliseconds
 abbrev pub is_refresh : ℕ → ℕ → Bool
-is_refresh low high = nat_le LEAST_REFRESH low && nat_le low high && nat_le high MOST_REFRESH
+is_refresh low high = nat_le REFRESH_MIN_MS low && nat_le low high && nat_le high REFRESH_MAX_MS
 
 unfoldable pub refresh_of : ℤ × ℤ → Option (ℕ × ℕ)
 refresh_of times = do

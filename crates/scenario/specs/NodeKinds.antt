@@ -1,6 +1,6 @@
 -- The five kinds of nodes, each with a list of tables of its own: the list's key, how many tables it has at most, and the keys of a table.
 use Rattle.std.specs.Prelude.{ℕ, List, [], ◌∷◌, codes}
-use Rattle.topology.specs.declared.topology.TheConstants.{MOST_SERVERS, MOST_NATS, MOST_CLIENTS, MOST_RELAYS, MOST_NATIVES}
+use Rattle.topology.specs.declared.topology.TheConstants.{SERVERS_MAX, NATS_MAX, CLIENTS_MAX, RELAYS_MAX, NATIVES_MAX}
 use Rattle.scenario.specs.declared.node_kind.NodeKind.{NodeKind}
 use Rattle.scenario.specs.declared.node_kind.NodeKind.TheVariants as kind
 
@@ -14,11 +14,11 @@ list_key kind.Native = codes "native"
 
 -- how many tables the list has at most
 abbrev pub most_rows : NodeKind → ℕ
-most_rows kind.Server = MOST_SERVERS
-most_rows kind.Nat = MOST_NATS
-most_rows kind.Client = MOST_CLIENTS
-most_rows kind.Relay = MOST_RELAYS
-most_rows kind.Native = MOST_NATIVES
+most_rows kind.Server = SERVERS_MAX
+most_rows kind.Nat = NATS_MAX
+most_rows kind.Client = CLIENTS_MAX
+most_rows kind.Relay = RELAYS_MAX
+most_rows kind.Native = NATIVES_MAX
 
 -- the keys of a table of the list
 abbrev pub row_keys : NodeKind → List (List ℕ)

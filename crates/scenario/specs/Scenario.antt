@@ -5,7 +5,7 @@ use Rattle.toml.specs.Data.{Members}
 use Rattle.toml.specs.Parse.{parse_document}
 use Rattle.td_base.specs.Results.{◌>>=◌}
 use Rattle.history.specs.Scenario.{Scenario}
-use Rattle.scenario.specs.declared.reader.TheConstants.{TEXT_MOST}
+use Rattle.scenario.specs.declared.reader.TheConstants.{TEXT_MAX}
 use Rattle.scenario.specs.declared.scenario_fault.ScenarioFault.{ScenarioFault}
 use Rattle.scenario.specs.declared.scenario_fault.ScenarioFault.TheVariants as fault
 use Rattle.scenario.specs.declared.place.Place.TheVariants as place
@@ -34,4 +34,4 @@ written text = ok_or (document_of text) fault.NotToml >>= scenario_in
 
 -- the scenario that a text is, or the first of the refusals that apply
 unfoldable pub scenario_of : List ℕ → Result Scenario ScenarioFault
-scenario_of text = if nat_lt TEXT_MOST (length text) then Err fault.TooLong else written text
+scenario_of text = if nat_lt TEXT_MAX (length text) then Err fault.TooLong else written text

@@ -13,7 +13,7 @@ use nat_kinds::NatKind;
 use td_base::{Ep, Ip4, Ip6, Policy, is_global, is_global6};
 use teredo_addr::is_teredo;
 use topology::{
-    ClientNode, LEAST_REFRESH, MOST_IDLE, MOST_REFRESH, NAME_LEN, Name, NatNode, NativeNode,
+    ClientNode, IDLE_MAX_MS, NAME_LEN, Name, NatNode, NativeNode, REFRESH_MAX_MS, REFRESH_MIN_MS,
     RelayNode, ServerNode, Topology,
 };
 
@@ -289,7 +289,7 @@ pub(crate) fn idle_of(number: i64) -> Option<u32>
     if ms == 0 {
         return None;
     }
-    if ms > u64::from(MOST_IDLE) {
+    if ms > u64::from(IDLE_MAX_MS) {
         return None;
     }
     Some(ms as u32)
@@ -298,7 +298,7 @@ pub(crate) fn idle_of(number: i64) -> Option<u32>
 fn is_refresh(low: u64, high: u64) -> bool
     ensures { result ≡ is_refresh low high }
 {
-    u64::from(LEAST_REFRESH) <= low && low <= high && high <= u64::from(MOST_REFRESH)
+    u64::from(REFRESH_MIN_MS) <= low && low <= high && high <= u64::from(REFRESH_MAX_MS)
 }
 
 /// The shortest and the longest time between two refreshes, in milliseconds.

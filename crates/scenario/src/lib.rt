@@ -49,6 +49,6 @@ mod tests;
 
 pub use laws::rules_kept;
 pub use path::{KEY_SHOWN, PATH_LEN, Path};
-pub use reader::{Scenario, TEXT_MOST, read};
+pub use reader::{Scenario, TEXT_MAX, read};
 pub use refusal_line::put_refusal_line;
 pub use scenario_fault::ScenarioFault;

@@ -2,7 +2,7 @@
 ghost use Rattle.std.specs.Prelude.{◌≡◌, ◌≤◌, length, map};
 ghost use Rattle.scenario.specs.NodeKinds.{list_key, most_rows, row_keys};
 
-use topology::{MOST_CLIENTS, MOST_NATIVES, MOST_NATS, MOST_RELAYS, MOST_SERVERS};
+use topology::{CLIENTS_MAX, NATIVES_MAX, NATS_MAX, RELAYS_MAX, SERVERS_MAX};
 
 /// How many bytes the key of a list has at most.
 pub(crate) const LIST_KEY_LEN: usize = 6;
@@ -37,11 +37,11 @@ impl NodeKind {
         ensures { result ≡ most_rows self }
     {
         match self {
-            NodeKind::Server => MOST_SERVERS,
-            NodeKind::Nat => MOST_NATS,
-            NodeKind::Client => MOST_CLIENTS,
-            NodeKind::Relay => MOST_RELAYS,
-            NodeKind::Native => MOST_NATIVES,
+            NodeKind::Server => SERVERS_MAX,
+            NodeKind::Nat => NATS_MAX,
+            NodeKind::Client => CLIENTS_MAX,
+            NodeKind::Relay => RELAYS_MAX,
+            NodeKind::Native => NATIVES_MAX,
         }
     }
 

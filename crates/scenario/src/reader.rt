@@ -20,7 +20,7 @@ use toml::Table;
 use topology::Topology;
 
 /// The most bytes of a text.
-pub const TEXT_MOST: usize = 4_194_304;
+pub const TEXT_MAX: usize = 4_194_304;
 
 /// The keys of a text, in the order in which what stands at them is refused.
 const SCENARIO_KEYS: [&str; 7] = [
@@ -90,7 +90,7 @@ pub fn read(alloc: Global, bytes: &[u8]) -> Result<Scenario, ScenarioFault>
     // Its events are such as its nodes can be asked for.
     ensures legal { IfOk result (λ s. AllByRecursion (IsEvent s.topology) s.events) }
 {
-    if bytes.len() > TEXT_MOST {
+    if bytes.len() > TEXT_MAX {
         return Err(ScenarioFault::TooLong);
     }
     written(alloc, bytes)

@@ -7,7 +7,7 @@ use Rattle.td_base.specs.declared.side.Side.TheVariants.{Primary, Secondary}
 use Rattle.teredo_node.specs.Fate.{is_drop}
 use Rattle.teredo_node.specs.Step.{Step}
 use Rattle.server_core.specs.declared.server.ServerSettings.{ServerSettings}
-use Rattle.server_core.specs.declared.server.TheConstants.{GROWTH_LIMIT}
+use Rattle.server_core.specs.declared.server.TheConstants.{GROWTH_MAX}
 use Rattle.server_core.specs.declared.reply.Answer.{Answer}
 use Rattle.server_core.specs.declared.reply.Answer.TheVariants.{Drop, Send, Six}
 use Rattle.server_core.specs.Rules.{IsPeer}
@@ -16,7 +16,7 @@ use Rattle.server_core.specs.Server.{server_row}
 -- what is sent is little longer than x, and the packet that goes on lies in x
 abbrev pub IsShort : Answer → List ℕ → Type 0
 IsShort (Drop fate) x = Unit {0}
-IsShort (Send fate side to len) x = len ≤ length x + GROWTH_LIMIT
+IsShort (Send fate side to len) x = len ≤ length x + GROWTH_MAX
 IsShort (Six span) x = span.at + span.len ≤ length x
 
 -- what is dropped has the fate of a drop, and what is sent hasn't

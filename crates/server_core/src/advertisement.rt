@@ -6,10 +6,9 @@ ghost use Rattle.server_core.specs.Outputs.{advert_options, advertisement, adver
 
 use crate::conditions::own_address;
 use crate::server::ServerSettings;
-use bubble::DATAGRAM_MAX;
 use icmp6::{Msg, ROUTER_HOP};
 use ipv6_packet::{HEADER, NEXT_ICMP, Packet};
-use td_base::{Ep, Ip4, Ip6, put};
+use td_base::{DATAGRAM_MAX, Ep, Ip4, Ip6, put};
 
 /// The bytes of the two options.
 const OPTIONS: usize = 40;

@@ -2,10 +2,9 @@
 ghost use Rattle.std.specs.Prelude.{◌≡◌, ◌≤◌, ◌+◌, length, take, Some, None};
 ghost use Rattle.server_core.specs.Outputs.{forwarded};
 
-use bubble::DATAGRAM_MAX;
 use indications::ORIGIN;
 use ipv6_packet::PACKET_MAX;
-use td_base::{Ep, put};
+use td_base::{DATAGRAM_MAX, Ep, put};
 
 /// Writes a packet with the origin `from`, and answers how many bytes that has.
 #[tactic(auto, unfolding(crate::specs::Outputs::forwarded))]

@@ -48,4 +48,4 @@ pub use laws::{
     one_output,
 };
 pub use reply::Answer;
-pub use server::{DATAGRAM_LIMIT, GROWTH_LIMIT, Server, ServerSettings};
+pub use server::{GROWTH_MAX, Server, ServerSettings};

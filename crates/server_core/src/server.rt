@@ -8,19 +8,15 @@ use crate::advertisement::write_advert;
 use crate::forwarded::{write_alone, write_with_origin};
 use crate::reply::Answer;
 use crate::rules::{Rule, first_rule};
-use bubble::DATAGRAM_MAX;
 use indications::nonce_of;
 use std::marker::Model;
-use td_base::{Ep, Ip4, Ip6, Policy, Side, Span};
+use td_base::{DATAGRAM_MAX, Ep, Ip4, Ip6, Policy, Side, Span};
 use teredo_addr::{embedded, has_cone};
 use teredo_node::Fate;
 
-/// The most bytes of a datagram, and of what the server sends.
-pub const DATAGRAM_LIMIT: usize = DATAGRAM_MAX;
-
 /// The most bytes that what is sent is longer than the datagram that drew it: an origin of 8, and an advertisement
 /// of 56 for a solicitation of 8.
-pub const GROWTH_LIMIT: usize = 56;
+pub const GROWTH_MAX: usize = 56;
 
 /// A server's two addresses, and which addresses it takes for global.
 #[derive(Clone, Copy, Debug)]
@@ -59,13 +55,7 @@ impl Server {
 
     /// What the server does with a datagram that came from `from` to the address `side`. What it sends stands
     /// at the front of `out`.
-    pub fn answer(
-        &self,
-        side: Side,
-        from: Ep,
-        bytes: &[u8],
-        out: &mut [u8; DATAGRAM_LIMIT],
-    ) -> Answer
+    pub fn answer(&self, side: Side, from: Ep, bytes: &[u8], out: &mut [u8; DATAGRAM_MAX]) -> Answer
         // It is the step that the table gives.
         ensures row { Answers result out.new (server_row self.now side from bytes.now) }
         // That step has one output at most.
@@ -94,7 +84,7 @@ fn answer_by(
     side: Side,
     from: Ep,
     bytes: &[u8],
-    out: &mut [u8; DATAGRAM_LIMIT],
+    out: &mut [u8; DATAGRAM_MAX],
 ) -> Answer
     ensures row { Answers result out.new (server_row settings.now side from bytes.now) }
     ensures named { IsNamed result }

@@ -1,8 +1,8 @@
 //! A datagram for each line of the table, and the answer that it draws.
 
-use crate::{Answer, DATAGRAM_LIMIT, Server};
+use crate::{Answer, Server};
 use std::test::Fail;
-use td_base::{Ep, Ip4, Millis, Policy, Side, Span};
+use td_base::{DATAGRAM_MAX, Ep, Ip4, Millis, Policy, Side, Span};
 use teredo_node::{Endpoint, Fate, Step};
 
 const CLIENT: Ep = Ep {
@@ -257,7 +257,7 @@ fn each_line_of_the_table(rt: HostRuntime) -> Result<(), Fail> {
         } = *line;
         let datagram = hex::decode(rt.alloc(), datagram)?;
         let sent = hex::decode(rt.alloc(), sent)?;
-        let mut out = [0; DATAGRAM_LIMIT];
+        let mut out = [0; DATAGRAM_MAX];
         let found = server(Policy::Strict).answer(
             Side::Primary,
             from,
@@ -281,7 +281,7 @@ const LARGEST: [u8; 44] = [
 fn the_largest_packet_goes_on(rt: HostRuntime) {
     let mut datagram = [0; 1281];
     datagram[..44].copy_from_slice(&LARGEST);
-    let mut out = [0; DATAGRAM_LIMIT];
+    let mut out = [0; DATAGRAM_MAX];
     let server = server(Policy::Strict);
     let largest = server.answer(Side::Primary, CLIENT, &datagram[..1280], &mut out);
     let forwarded = Answer::Send {
@@ -301,7 +301,7 @@ fn loopback_is_answered_where_it_is_allowed(rt: HostRuntime) -> Result<(), Fail>
     let datagram = hex::decode(rt.alloc(), SOLICITATION)?;
     let from = ep([127, 0, 0, 9], 40000);
     for (policy, is_answered) in [(Policy::Strict, false), (Policy::Loopback, true)] {
-        let mut out = [0; DATAGRAM_LIMIT];
+        let mut out = [0; DATAGRAM_MAX];
         let answer = server(policy).answer(Side::Primary, from, datagram.as_slice(), &mut out);
         assert_eq!(rt; answer != Answer::Drop { fate: Fate::Source }, is_answered);
     }
@@ -312,7 +312,7 @@ fn loopback_is_answered_where_it_is_allowed(rt: HostRuntime) -> Result<(), Fail>
 fn a_step_has_what_was_answered(rt: HostRuntime) -> Result<(), Fail> {
     let datagram = hex::decode(rt.alloc(), SOLICITATION)?;
     let mut server = server(Policy::Strict);
-    let mut out = [0; DATAGRAM_LIMIT];
+    let mut out = [0; DATAGRAM_MAX];
     let answer = server.answer(Side::Primary, CLIENT, datagram.as_slice(), &mut out);
     let mut step = Step::new();
     let done = server.on_datagram(

@@ -12,7 +12,8 @@ use crate::fault_lines::{put_fault, put_hex_fault};
 use crate::page::Page;
 use crate::payload_lines::put_payload;
 use crate::words::{bad_place, put_bytes};
-use bubble::{DATAGRAM_MAX, PayloadFault};
+use bubble::PayloadFault;
+use td_base::DATAGRAM_MAX;
 
 /// Puts what bytes are on an empty page.
 fn explain_bytes(bytes: &[u8], page: &mut Page) -> bool

@@ -6,10 +6,10 @@ ghost use Rattle.show.specs.Lines.{number_digits, span_bytes, AreShortSpans, key
 
 use crate::line_texts::{LINE_ROOM, put_ep, put_field, put_hex, put_ip4, put_ip6};
 use crate::page::{PAGE_LEN, Page};
-use bubble::{DATAGRAM_MAX, Kind, Payload};
+use bubble::{Kind, Payload};
 use indications::{Auth, NONCE, Origin};
 use ipv6_packet::Packet;
-use td_base::{Ip6, Span};
+use td_base::{DATAGRAM_MAX, Ip6, Span};
 use teredo_addr::{TeredoAddr, of_ip6};
 
 /// The most bytes of an identifier, and of an authentication value: their lengths stand in one byte.

@@ -8,14 +8,14 @@ ghost use Rattle.td_base.specs.declared.endpoint.Ep.{Ep};
 
 use crate::endpoint::Ep;
 use crate::ipv4::Ip4;
-use crate::ipv4_text::{PART_MOST, short_ip4};
+use crate::ipv4_text::{PART_MAX, short_ip4};
 use crate::line::{LineBuf, print_text};
 use crate::numeral::{number_last, number_then};
 use crate::refusals::{BadText, Room};
 use crate::short_text::SHORT_LEN;
 
 /// The largest port.
-const PORT_MOST: u64 = u16::MAX as u64;
+const PORT_MAX: u64 = u16::MAX as u64;
 
 /// Appends an endpoint.
 pub fn print_ep(ep: Ep, out: &mut LineBuf) -> Result<(), Room>
@@ -34,11 +34,11 @@ fn whole_ep(text: &[u8]) -> Result<Ep, usize>
     ensures found { IfOk result (λ ep. IsEp ep × (text.now ≡ ep_text ep)) }
     ensures halts { IfErr result (Halts IsEpText text.now) }
 {
-    let (a, rest) = number_then(text, PART_MOST, b'.')?;
-    let (b, rest) = number_then(rest, PART_MOST, b'.')?;
-    let (c, rest) = number_then(rest, PART_MOST, b'.')?;
-    let (d, rest) = number_then(rest, PART_MOST, b':')?;
-    let port = number_last(rest, PORT_MOST)?;
+    let (a, rest) = number_then(text, PART_MAX, b'.')?;
+    let (b, rest) = number_then(rest, PART_MAX, b'.')?;
+    let (c, rest) = number_then(rest, PART_MAX, b'.')?;
+    let (d, rest) = number_then(rest, PART_MAX, b':')?;
+    let port = number_last(rest, PORT_MAX)?;
     Ok(Ep {
         ip: Ip4([a as u8, b as u8, c as u8, d as u8]),
         port: port as u16,

@@ -13,7 +13,7 @@ use crate::refusals::{BadText, Room};
 use crate::short_text::{DIGITS, SHORT_LEN, ShortText};
 
 /// The largest of the four numbers.
-pub(crate) const PART_MOST: u64 = u8::MAX as u64;
+pub(crate) const PART_MAX: u64 = u8::MAX as u64;
 
 /// The text of an IPv4 address.
 pub(crate) fn short_ip4(ip: Ip4) -> ShortText
@@ -47,10 +47,10 @@ fn whole_ip4(text: &[u8]) -> Result<Ip4, usize>
     ensures found { IfOk result (λ ip. IsIp4 ip × (text.now ≡ ip4_text ip)) }
     ensures halts { IfErr result (Halts IsIp4Text text.now) }
 {
-    let (a, rest) = number_then(text, PART_MOST, b'.')?;
-    let (b, rest) = number_then(rest, PART_MOST, b'.')?;
-    let (c, rest) = number_then(rest, PART_MOST, b'.')?;
-    let d = number_last(rest, PART_MOST)?;
+    let (a, rest) = number_then(text, PART_MAX, b'.')?;
+    let (b, rest) = number_then(rest, PART_MAX, b'.')?;
+    let (c, rest) = number_then(rest, PART_MAX, b'.')?;
+    let d = number_last(rest, PART_MAX)?;
     Ok(Ip4([a as u8, b as u8, c as u8, d as u8]))
 }
 

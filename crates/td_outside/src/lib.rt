@@ -57,7 +57,7 @@ mod udp_pair;
 pub use clock::{CLOCK_END_MS, Clock};
 pub use fails::Failed;
 pub use file_source::FileSource;
-pub use link::{Addresses, Arrival, DATAGRAM_MAX, Link};
+pub use link::{Addresses, Arrival, Link};
 pub use mem_arrival::MemArrival;
 pub use mem_attempt::MemAttempt;
 pub use mem_link::MemLink;

@@ -6,8 +6,7 @@ ghost use Rattle.td_outside.specs.Link.{Told, Receives, Sends, KeepsTold, attemp
 ghost use Rattle.td_outside.specs.Moves.{Stays, Gains};
 
 use crate::Failed;
-pub use td_base::DATAGRAM_MAX;
-use td_base::{Ep, Ip4, Side};
+use td_base::{DATAGRAM_MAX, Ep, Ip4, Side};
 
 /// The addresses of a link's two sides.
 #[derive(Clone, Copy, Debug, PartialEq, Eq)]

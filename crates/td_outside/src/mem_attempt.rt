@@ -3,9 +3,8 @@ ghost use Rattle.std.specs.Prelude.{◌≡◌, ◌≤◌, length, take};
 ghost use Rattle.td_outside.specs.Link.{Attempt, attempt};
 ghost use Rattle.td_base.specs.declared.datagram.TheConstants.{DATAGRAM_MAX};
 
-use crate::DATAGRAM_MAX;
 use std::marker::Model;
-use td_base::{Ep, Side};
+use td_base::{DATAGRAM_MAX, Ep, Side};
 
 /// An attempt to send that a link in memory was asked for, with the answer that it gave.
 #[derive(Drop)]

@@ -7,10 +7,10 @@ ghost use Rattle.td_outside.specs.MemLink.{lists_of, came_from, received, sent};
 
 use crate::fails::Fails;
 use crate::mem_arrival::give;
-use crate::{Addresses, Arrival, DATAGRAM_MAX, Failed, Link, MemArrival, MemAttempt};
+use crate::{Addresses, Arrival, Failed, Link, MemArrival, MemAttempt};
 use std::alloc::Global;
 use std::marker::Model;
-use td_base::{Ep, Ip4, NoMemory, Side};
+use td_base::{DATAGRAM_MAX, Ep, Ip4, NoMemory, Side};
 
 /// A link that receives what it was made with, and keeps what is sent. Its `open` never fails. After its last
 /// arrival it answers `Idle`.

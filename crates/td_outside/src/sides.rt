@@ -4,7 +4,7 @@ ghost use Rattle.std.specs.Duration.{as_nanos};
 ghost use Rattle.std.specs.Time.{instant_nanos};
 ghost use Rattle.td_outside.specs.Link.{FitsBuffer};
 
-use crate::{Addresses, Arrival, DATAGRAM_MAX};
+use crate::{Addresses, Arrival};
 use mio::net::UdpSocket;
 use mio::{Events, Interest, Poll, Token};
 use std::alloc::Global;
@@ -12,7 +12,7 @@ use std::io;
 use std::io::ErrorKind;
 use std::net::{Ipv4Addr, Net, SocketAddr, SocketAddrV4};
 use std::time::{Clock, Duration, Instant};
-use td_base::{Ep, Ip4, Side, TEREDO_PORT};
+use td_base::{DATAGRAM_MAX, Ep, Ip4, Side, TEREDO_PORT};
 
 // How long a call waits where neither side has a datagram.
 const WAIT_MS: u64 = 20;

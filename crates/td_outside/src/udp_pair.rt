@@ -5,11 +5,11 @@ ghost use Rattle.td_outside.specs.Link.{FitsBuffer, open_on, told_nothing};
 ghost use Rattle.td_outside.specs.UdpPair.{Pair, pair_opened, pair_received, pair_sent};
 
 use crate::sides::Sides;
-use crate::{Addresses, Arrival, DATAGRAM_MAX, Failed, Link};
+use crate::{Addresses, Arrival, Failed, Link};
 use std::marker::Model;
 use std::net::Net;
 use std::time::Clock;
-use td_base::{Ep, Ip4, Side};
+use td_base::{DATAGRAM_MAX, Ep, Ip4, Side};
 
 /// A link over two UDP sockets. It tells nothing of what comes and goes. Each error of the system is `Failed`, with
 /// the count raised, and so is a `recv` or a `send` before `open`. The socket cuts a datagram of more than

@@ -8,7 +8,7 @@ use Rattle.teredo_node.specs.Fate.{is_drop}
 use Rattle.topology.specs.Rows.{TopologyState}
 use Rattle.history.specs.declared.event.Event.{Event}
 use Rattle.history.specs.declared.event.Event.TheVariants as event
-use Rattle.history.specs.declared.event.TheConstants.{MOST_ADVANCE}
+use Rattle.history.specs.declared.event.TheConstants.{ADVANCE_MAX_MS}
 use Rattle.history.specs.declared.records.Record.{Record}
 use Rattle.history.specs.declared.turn.Turn.{Turn}
 use Rattle.history.specs.declared.turn.Turn.TheVariants.{More, Last}
@@ -23,9 +23,9 @@ use Rattle.legal.specs.Past.{place, began, has_more, Draws}
 use Rattle.legal.specs.Next.{next_of, next}
 use Rattle.legal.specs.Legal.{Begun, IsWhole, draws}
 use Rattle.legal.specs.Laws.{EachIsOfItsEvent}
-use Rattle.world.specs.declared.wire.TheConstants.{MOST_ENTRIES}
-use Rattle.world.specs.declared.world.TheConstants.{MOST_MOMENT}
-use Rattle.legal.specs.declared.left.TheConstants.{MOST_LEFT}
+use Rattle.world.specs.declared.wire.TheConstants.{ENTRIES_MAX}
+use Rattle.td_outside.specs.declared.clock.TheConstants.{CLOCK_END_MS}
+use Rattle.legal.specs.declared.left.TheConstants.{LEFT_MAX}
 use Rattle.world.specs.World.{WorldState, StandsFor, Steps, Falls, IsAgain, EndsInTime, StopsFor, NeedsMemory, going_after, record_in, is_more, left_in}
 use Rattle.report.specs.declared.totals.Sums.{Sums}
 use Rattle.report.specs.Lines.{record_line, record_lines}
@@ -47,12 +47,12 @@ pub record Played (s : Scenario) (before after : SinkTold) (w : WorldState) (sum
   pub place : place history ≡ count
   pub topology : w.topology ≡ s.topology
   pub open_still : w.stopped ≡ None
-  pub began : w.began ≤ count * MOST_ADVANCE
+  pub began : w.began ≤ count * ADVANCE_MAX_MS
   -- each record that has further ones leaves less
-  pub left : length history + left_in w ≤ count * (MOST_LEFT + 1) + MOST_LEFT
+  pub left : length history + left_in w ≤ count * (LEFT_MAX + 1) + LEFT_MAX
   pub stands : StandsFor (draws s.seed) w history
   pub begun : Begun (draws s.seed) s history
-  pub entries : length w.wire ≤ MOST_ENTRIES
+  pub entries : length w.wire ≤ ENTRIES_MAX
   pub summed : sums ≡ sums_of history
   pub written : WritesLines before after (record_lines s.topology history)
 
@@ -64,7 +64,7 @@ nothing_played s a w t going stands = record {
   topology = t;
   open_still = going;
   began = let at : w.began ≡ 0 = stands.began in omega (arith, at);
-  left = let most : left_in w ≤ MOST_LEFT = stands.most in omega (arith, most);
+  left = let most : left_in w ≤ LEFT_MAX = stands.most in omega (arith, most);
   stands = stands;
   begun = tt;
   entries = let none : length w.wire ≡ 0 = ap length stands.wire in omega (arith, none);
@@ -90,8 +90,8 @@ event_begins s a b w sums i e p = record {
 }
 
 -- an advance ends in time
-pub in_time : (t : TopologyState) (e : Event) (began i : ℕ) → IsEvent t e → began ≤ i * MOST_ADVANCE → i < 50000 → EndsInTime began e
-in_time t (event.Advance ms) began i is before few = let most : MOST_ADVANCE ≡ 1000000000 = refl in let last : MOST_MOMENT ≡ 281474976710656 = refl in omega (arith, is, before, few, most, last)
+pub in_time : (t : TopologyState) (e : Event) (began i : ℕ) → IsEvent t e → began ≤ i * ADVANCE_MAX_MS → i < 50000 → EndsInTime began e
+in_time t (event.Advance ms) began i is before few = let most : ADVANCE_MAX_MS ≡ 1000000000 = refl in let last : CLOCK_END_MS ≡ 281474976710656 = refl in omega (arith, is, before, few, most, last)
 in_time t (event.Deliver number) began i is before few = tt
 in_time t event.Next began i is before few = tt
 in_time t (event.Host node to body) began i is before few = tt
@@ -120,8 +120,8 @@ pub record Turned (s : Scenario) (before after : SinkTold) : Type 0 where
   pub is : slice_get s.events index ≡ Some event
   pub steps : Steps w new index event turn
   pub falls : Falls w new turn
-  pub time : new.moment ≤ w.began + MOST_ADVANCE
-  pub entries : length new.wire ≤ MOST_ENTRIES
+  pub time : new.moment ≤ w.began + ADVANCE_MAX_MS
+  pub entries : length new.wire ≤ ENTRIES_MAX
 
 -- what a turn leaves less
 pub fell : (s : Scenario) (w new : WorldState) (result : Result Turn Stop) (turn : Turn) (H : List Full) → result ≡ Ok turn → StandsFor (draws s.seed) w H
@@ -132,7 +132,7 @@ fell s w new result turn H is stands falls = subst (λ (r : Result Turn Stop). I
 abbrev pub turned : (s : Scenario) (before after : SinkTold) (w new : WorldState) (sums : Sums) (index : ℕ) (event : Event) (result : Result Turn Stop) (turn : Turn) → result ≡ Ok turn
     → Played s before after w sums index (λ going. IsAgain going event) → slice_get s.events index ≡ Some event
     → IfOk result (λ x. Steps w new index event x) → IfOk result (λ x. (d : Draws) (H : List Full) → StandsFor d w H → Falls w new x)
-    → IfOk result (λ x. new.moment ≤ w.began + MOST_ADVANCE) → IfOk result (λ x. length new.wire ≤ MOST_ENTRIES) → Turned s before after
+    → IfOk result (λ x. new.moment ≤ w.began + ADVANCE_MAX_MS) → IfOk result (λ x. length new.wire ≤ ENTRIES_MAX) → Turned s before after
 turned s before after w new sums index event result turn is p at steps falls time entries = record {
   w = w;
   new = new;
@@ -144,8 +144,8 @@ turned s before after w new sums index event result turn is p at steps falls tim
   is = at;
   steps = subst (λ (r : Result Turn Stop). IfOk r (λ x. Steps w new index event x)) is steps;
   falls = fell s w new result turn p.history is p.stands falls;
-  time = subst (λ (r : Result Turn Stop). IfOk r (λ x. new.moment ≤ w.began + MOST_ADVANCE)) is time;
-  entries = subst (λ (r : Result Turn Stop). IfOk r (λ x. length new.wire ≤ MOST_ENTRIES)) is entries;
+  time = subst (λ (r : Result Turn Stop). IfOk r (λ x. new.moment ≤ w.began + ADVANCE_MAX_MS)) is time;
+  entries = subst (λ (r : Result Turn Stop). IfOk r (λ x. length new.wire ≤ ENTRIES_MAX)) is entries;
 }
 
 -- why it stopped
@@ -263,11 +263,11 @@ event_ends law s a b c t sums is-last line adds =
       began =
           let at : w'.began ≡ r.moment = one.stands.began ∙ rw last refl in
           let now : w'.moment ≡ r.moment = one.stands.moment in
-          let most : MOST_ADVANCE ≡ 1000000000 = refl in
-          let time : w'.moment ≤ t.w.began + MOST_ADVANCE = t.time in
+          let most : ADVANCE_MAX_MS ≡ 1000000000 = refl in
+          let time : w'.moment ≤ t.w.began + ADVANCE_MAX_MS = t.time in
           omega (arith, at, now, most, time, p.began);
       left =
-          let whole : left_in w' ≤ MOST_LEFT = one.stands.most in
+          let whole : left_in w' ≤ LEFT_MAX = one.stands.most in
           omega (arith, whole, p.left);
       stands = one.stands;
       begun = begun_on s a b t;
@@ -300,7 +300,7 @@ wire_filled s a b w sums i e p is stops =
         last = r;
         next = next_is s H i e p.place is;
         full =
-            let over : MOST_ENTRIES < length w.wire + length (items_of r) = subst (λ (z : TopologyState). MOST_ENTRIES < length w.wire + length (items_of (next_of d z H i e))) p.topology (stops d H p.stands) in
+            let over : ENTRIES_MAX < length w.wire + length (items_of r) = subst (λ (z : TopologyState). ENTRIES_MAX < length w.wire + length (items_of (next_of d z H i e))) p.topology (stops d H p.stands) in
             let old : length w.wire ≡ length (wire H) = ap length p.stands.wire in
             omega (arith, over, old, length-append (wire H) (items_of r));
       };
@@ -361,8 +361,8 @@ totals_broken s a b c w sums n p end line =
 pub sums_small : (s : Scenario) (a b : SinkTold) (w : WorldState) (sums : Sums) (i : ℕ) (e : Event) → Played s a b w sums i (λ going. IsAgain going e) → i ≤ 50000 → IsSmall sums
 sums_small s a b w sums i e p few =
     let H : List Full = p.history in
-    let most : MOST_LEFT ≡ 35184372088832 = refl in
-    let room : MOST_ENTRIES ≡ 65536 = refl in
+    let most : LEFT_MAX ≡ 35184372088832 = refl in
+    let room : ENTRIES_MAX ≡ 65536 = refl in
     let records : length H ≤ i * 35184372088833 + 35184372088832 = omega (arith, most, p.left) in
     let entries : length w.wire ≡ length (wire H) = ap length p.stands.wire in
     subst IsSmall (sym p.summed) (record {

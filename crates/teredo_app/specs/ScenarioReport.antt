@@ -2,7 +2,7 @@
 use Rattle.std.specs.Prelude.{◌≡◌, ℕ, ◌<◌, List, [], ◌∷◌, ◌++◌, length, codes, Some}
 use Rattle.history.specs.Scenario.{Scenario}
 use Rattle.history.specs.Full.{Full, wire}
-use Rattle.world.specs.declared.wire.TheConstants.{MOST_ENTRIES}
+use Rattle.world.specs.declared.wire.TheConstants.{ENTRIES_MAX}
 use Rattle.legal.specs.Next.{next}
 use Rattle.legal.specs.Legal.{Begun, Legal, draws}
 use Rattle.world.specs.World.{NeedsMemory}
@@ -22,7 +22,7 @@ pub record FillsWire (s : Scenario) (history : List Full) : Type 0 where
   pub begun : Begun (draws s.seed) s history
   pub last : Full
   pub next : next (draws s.seed) s history ≡ Some last
-  pub full : MOST_ENTRIES < length (wire (last ∷ history))
+  pub full : ENTRIES_MAX < length (wire (last ∷ history))
 
 -- the line that stands in place of further records
 abbrev pub wire_full : List ℕ

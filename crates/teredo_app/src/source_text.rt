@@ -5,12 +5,12 @@ ghost use Rattle.td_outside.specs.Causes.{Rose};
 ghost use Rattle.td_outside.specs.Moves.{Stays, Gains};
 ghost use Rattle.teredo_app.specs.SourceText.{IsTextOf, TakesAtMost};
 
-use scenario::TEXT_MOST;
+use scenario::TEXT_MAX;
 use std::alloc::Global;
 use td_outside::{Failed, Source};
 
 /// How many bytes of a file are read at most: those of the longest text, and one that shows that it is longer.
-pub const TEXT_READ_MAX: usize = TEXT_MOST + 1;
+pub const TEXT_READ_MAX: usize = TEXT_MAX + 1;
 
 /// Why a source was not read.
 #[derive(Clone, Copy, Debug, PartialEq, Eq)]

@@ -11,9 +11,9 @@ use Rattle.td_base.specs.declared.ipv6.Ip6.{Ip6}
 use Rattle.topology.specs.declared.node_name.Name.{Name}
 use Rattle.td_base.specs.declared.reach.Policy.TheVariants.{Strict}
 use Rattle.teredo_addr.specs.Teredo.{is_teredo}
-use Rattle.topology.specs.declared.topology.TheConstants.{MOST_SERVERS, MOST_NATS, MOST_CLIENTS, MOST_RELAYS, MOST_NATIVES}
-use Rattle.topology.specs.declared.nat_node.TheConstants.{MOST_IDLE}
-use Rattle.topology.specs.declared.client_node.TheConstants.{LEAST_REFRESH, MOST_REFRESH}
+use Rattle.topology.specs.declared.topology.TheConstants.{SERVERS_MAX, NATS_MAX, CLIENTS_MAX, RELAYS_MAX, NATIVES_MAX}
+use Rattle.topology.specs.declared.nat_node.TheConstants.{IDLE_MAX_MS}
+use Rattle.topology.specs.declared.client_node.TheConstants.{REFRESH_MIN_MS, REFRESH_MAX_MS}
 use Rattle.topology.specs.declared.server_node.ServerNode.{ServerNode}
 use Rattle.topology.specs.declared.nat_node.NatNode.{NatNode}
 use Rattle.topology.specs.declared.client_node.ClientNode.{ClientNode}
@@ -47,16 +47,16 @@ same_inside a b = (a.nat == b.nat) && same_ep a.inside b.inside
 -- how long a mapping lives
 pub record IsIdle (a : NatNode) : Type 0 where
   pub least : 1 ≤ a.idle
-  pub most : a.idle ≤ MOST_IDLE
+  pub most : a.idle ≤ IDLE_MAX_MS
 
 -- a client is behind a NAT and asks a server, and its times are in order
 pub record IsClient (t : TopologyState) (c : ClientNode) : Type 0 where
   pub behind : is_some (nat_at t c.nat) ≡ true
   pub asks : is_some (server_at t c.server) ≡ true
   pub port : c.inside.port ≢ 0
-  pub least : LEAST_REFRESH ≤ c.low
+  pub least : REFRESH_MIN_MS ≤ c.low
   pub order : c.low ≤ c.high
-  pub most : c.high ≤ MOST_REFRESH
+  pub most : c.high ≤ REFRESH_MAX_MS
 
 -- an address of the IPv6 Internet
 pub record IsOutside (ip : Ip6) : Type 0 where
@@ -72,11 +72,11 @@ pub record AreMade (t : TopologyState) : Type 0 where
 
 -- the rules that the nodes of a scenario keep
 pub record IsTopology (t : TopologyState) : Type 0 where
-  pub servers : length t.servers ≤ MOST_SERVERS
-  pub nats : length t.nats ≤ MOST_NATS
-  pub clients : length t.clients ≤ MOST_CLIENTS
-  pub relays : length t.relays ≤ MOST_RELAYS
-  pub natives : length t.natives ≤ MOST_NATIVES
+  pub servers : length t.servers ≤ SERVERS_MAX
+  pub nats : length t.nats ≤ NATS_MAX
+  pub clients : length t.clients ≤ CLIENTS_MAX
+  pub relays : length t.relays ≤ RELAYS_MAX
+  pub natives : length t.natives ≤ NATIVES_MAX
   pub names : AreDistinct same_name (names_of t)
   pub spelled : AllByRecursion (λ (a : Name). is_name (name_text a) ≡ true) (names_of t)
   pub addresses : AreDistinct same_ip (addresses_of t)

@@ -2,9 +2,9 @@ use crate::node_name::Name;
 use td_base::Ep;
 
 /// The shortest and the longest time between two refreshes of a client, in milliseconds.
-pub const LEAST_REFRESH: u32 = 1_000;
+pub const REFRESH_MIN_MS: u32 = 1_000;
 
-pub const MOST_REFRESH: u32 = 1_000_000;
+pub const REFRESH_MAX_MS: u32 = 1_000_000;
 
 /// The shortest and the longest time between two refreshes of a client for which none are given, in milliseconds: three
 /// quarters of the 30 s of RFC 4380, section 5.2.5, and these.

@@ -32,14 +32,16 @@ mod relay_node;
 mod server_node;
 mod topology;
 
-pub use client_node::{ClientNode, LEAST_REFRESH, MOST_REFRESH, REFRESH_HIGH_MS, REFRESH_LOW_MS};
+pub use client_node::{
+    ClientNode, REFRESH_HIGH_MS, REFRESH_LOW_MS, REFRESH_MAX_MS, REFRESH_MIN_MS,
+};
 pub use names::{client_named, host_named, nat_named, node_named, relay_named, server_named};
-pub use nat_node::{MOST_IDLE, NatNode};
+pub use nat_node::{IDLE_MAX_MS, NatNode};
 pub use native_node::NativeNode;
 pub use node::Node;
 pub use node_name::{NAME_LEN, Name};
 pub use relay_node::RelayNode;
 pub use server_node::ServerNode;
 pub use topology::{
-    MOST_CLIENTS, MOST_NATIVES, MOST_NATS, MOST_RELAYS, MOST_SERVERS, NODES_MAX, Topology,
+    CLIENTS_MAX, NATIVES_MAX, NATS_MAX, NODES_MAX, RELAYS_MAX, SERVERS_MAX, Topology,
 };

@@ -3,7 +3,7 @@ use nat_kinds::NatKind;
 use td_base::Ip4;
 
 /// How long a mapping of a scenario's NAT lives at most after its latest outward datagram, in milliseconds.
-pub const MOST_IDLE: u32 = 10_000_000;
+pub const IDLE_MAX_MS: u32 = 10_000_000;
 
 /// A NAT: its name, its kind, its address outside, and how long a mapping lives, in milliseconds.
 #[derive(Clone, Copy, Debug)]

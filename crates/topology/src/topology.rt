@@ -15,22 +15,22 @@ use std::marker::Model;
 use td_base::{Ep, Ip6, NoMemory};
 
 /// How many servers a scenario has at most.
-pub const MOST_SERVERS: usize = 8;
+pub const SERVERS_MAX: usize = 8;
 
 /// How many NATs a scenario has at most.
-pub const MOST_NATS: usize = 64;
+pub const NATS_MAX: usize = 64;
 
 /// How many clients a scenario has at most.
-pub const MOST_CLIENTS: usize = 64;
+pub const CLIENTS_MAX: usize = 64;
 
 /// How many relays a scenario has at most.
-pub const MOST_RELAYS: usize = 4;
+pub const RELAYS_MAX: usize = 4;
 
 /// How many native hosts a scenario has at most.
-pub const MOST_NATIVES: usize = 64;
+pub const NATIVES_MAX: usize = 64;
 
 /// How many nodes a scenario has at most.
-pub const NODES_MAX: usize = MOST_SERVERS + MOST_NATS + MOST_CLIENTS + MOST_RELAYS + MOST_NATIVES;
+pub const NODES_MAX: usize = SERVERS_MAX + NATS_MAX + CLIENTS_MAX + RELAYS_MAX + NATIVES_MAX;
 
 /// The nodes of a scenario, numbered from 0: the servers in order, then the NATs, the clients, the relays, the native
 /// hosts. It keeps the rules of `specs/Rules.antt`.

@@ -4,7 +4,7 @@ use Rattle.std.specs.Prelude.{IfOk}
 use Rattle.std.proofs.lemmas.Bool.{false≢true}
 use Rattle.history.specs.declared.event.Event.{Event}
 use Rattle.history.specs.declared.event.Event.TheVariants as event
-use Rattle.history.specs.declared.event.TheConstants.{MOST_ADVANCE}
+use Rattle.history.specs.declared.event.TheConstants.{ADVANCE_MAX_MS}
 use Rattle.history.specs.declared.records.Record.{Record}
 use Rattle.history.specs.declared.turn.Turn.TheVariants.{Last}
 use Rattle.history.specs.declared.turn.Stop.{Stop}
@@ -74,7 +74,7 @@ turned_once old new e (Ok done) said rest same = turned_last old new e said rest
 turned_once old new e (Err why) said rest same = tt
 
 -- nor does time pass
-pub no_time : (old new : WorldState) → IsAtRest old → lasting new ≡ lasting old → new.moment ≤ old.began + MOST_ADVANCE
+pub no_time : (old new : WorldState) → IsAtRest old → lasting new ≡ lasting old → new.moment ≤ old.began + ADVANCE_MAX_MS
 no_time old new rest same =
     let at : new.moment ≡ old.moment = ap (λ (w : WorldState). w.moment) same in
     let from = rest.1 in

@@ -7,7 +7,7 @@ use Rattle.history.specs.declared.event.Event.TheVariants as event
 use Rattle.topology.specs.Rows.{TopologyState}
 use Rattle.topology.specs.Topology.{nodes}
 use Rattle.history.specs.Full.{Full}
-use Rattle.legal.specs.declared.left.TheConstants.{MOST_LEFT}
+use Rattle.legal.specs.declared.left.TheConstants.{LEFT_MAX}
 use Rattle.legal.specs.Past.{Draws, now, began, going, has_more}
 use Rattle.legal.specs.Left.{time_left, left_of_event, left}
 use Rattle.legal.specs.Left as legal
@@ -33,13 +33,13 @@ same_time end at xs ys same =
 -- BY THE EVENT THAT GOES ON
 
 abbrev left_so : TopologyState → List Full → Option Event → ℕ
-left_so t H None = MOST_LEFT
+left_so t H None = LEFT_MAX
 left_so t H (Some e) = left_of_event t H e
 
 left_by_going : (t : TopologyState) (H : List Full) → left t H ≡ left_so t H (going H)
 left_by_going t [] = refl
 left_by_going t (r ∷ H) = by (has_more r.asked r.act) where
-  by : (b : Bool) → cond b (left_of_event t (r ∷ H) r.asked) MOST_LEFT ≡ left_so t (r ∷ H) (cond b (Some r.asked) None)
+  by : (b : Bool) → cond b (left_of_event t (r ∷ H) r.asked) LEFT_MAX ≡ left_so t (r ∷ H) (cond b (Some r.asked) None)
   by true = refl
   by false = refl
 

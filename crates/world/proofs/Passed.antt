@@ -17,7 +17,7 @@ use Rattle.history.specs.Full.{Item, udp, six, Made, sent, lost}
 use Rattle.history.specs.Records.{mark_of, marks_of}
 use Rattle.legal.specs.Past.{out_of}
 use Rattle.legal.specs.Emit.{or_loss, outcome, marked, after_send, through_nat}
-use Rattle.world.specs.declared.wire.TheConstants.{MOST_ENTRIES}
+use Rattle.world.specs.declared.wire.TheConstants.{ENTRIES_MAX}
 use Rattle.world.specs.Wire.{WireState}
 use Rattle.world.specs.Sends.{Extends, Grows, source_through, made_from, history_after, Passes}
 use Rattle.world.proofs.Emitted.{entries_in, entries_append, both_parts, both_marks, extends_twice}
@@ -176,8 +176,8 @@ one_passed w old now new sends i said x src mark so at t puts =
 -- where the next send finds no place, all sends don't
 pub overflows : (w : Sending) (old now : Passage) (sends : List Send) (i : ℕ) (said : List Mark) (x : Send) (src : Result Ep Loss) (new : NatState)
     → PassedSoFar w old now sends i said → slice_get sends i ≡ Some x → Translates w now.nat new x src
-    → MOST_ENTRIES < length now.wire.items + length (entries_in (made_from src x.to x.bytes ∷ []))
-    → (h : List Entry) → StandsFor old.nat h → MOST_ENTRIES < length old.wire.items + length (entries_in (made_in w 0 h sends))
+    → ENTRIES_MAX < length now.wire.items + length (entries_in (made_from src x.to x.bytes ∷ []))
+    → (h : List Entry) → StandsFor old.nat h → ENTRIES_MAX < length old.wire.items + length (entries_in (made_in w 0 h sends))
 overflows w old now sends i said x src new so at t more h stands =
     let made = made_in w 0 h (take i sends) in
     let one = made_from src x.to x.bytes in

@@ -13,7 +13,7 @@ use Rattle.history.specs.declared.mark.Mark.TheVariants as mark
 use Rattle.history.specs.declared.records.Record.{Record}
 use Rattle.history.specs.declared.turn.Stop.{Stop}
 use Rattle.history.specs.declared.turn.Stop.TheVariants as stop
-use Rattle.world.specs.declared.wire.TheConstants.{MOST_ENTRIES}
+use Rattle.world.specs.declared.wire.TheConstants.{ENTRIES_MAX}
 use Rattle.history.specs.Full.{Item, Made, Full, udp, item_in, items_of}
 use Rattle.history.specs.Records.{record_of}
 use Rattle.legal.specs.Past.{Draws, now, is_number}
@@ -101,5 +101,5 @@ plays_from d mid old new H r (Ok word) same plays = (
     done = λ i. plays.1.done i ∙ ap (λ (bs : List Bool). is_number i r.delivered || get_or bs i false) same.2;
   },
 )
-plays_from d mid old new H r (Err stop.WireFull) same plays = subst (λ (items : List Item). MOST_ENTRIES < length items + length (items_of r)) same.1 plays
+plays_from d mid old new H r (Err stop.WireFull) same plays = subst (λ (items : List Item). ENTRIES_MAX < length items + length (items_of r)) same.1 plays
 plays_from d mid old new H r (Err stop.NoMemory) same plays = plays

@@ -23,7 +23,7 @@ use Rattle.history.specs.Full.{Item, Made, Full, item_in}
 use Rattle.history.specs.Records.{marks_of}
 use Rattle.legal.specs.Past.{Draws, nat_history}
 use Rattle.legal.specs.Emit.{through_nat, six_made, made_of}
-use Rattle.world.specs.declared.wire.TheConstants.{MOST_ENTRIES}
+use Rattle.world.specs.declared.wire.TheConstants.{ENTRIES_MAX}
 use Rattle.world.specs.declared.emission.Sender.{Sender}
 use Rattle.lab_nodes.specs.declared.node_state.NodeState.{NodeState}
 use Rattle.lab_nodes.specs.declared.node_state.NodeState.TheVariants as state
@@ -106,11 +106,11 @@ module _ (x : Sender) (row : ClientNode) (nodes : List NodeState) (step : Step) 
       }
 
   pub too_much_through : (wire : WireState)
-      → ((h : List NatEntry) → nats.StandsFor old h → MOST_ENTRIES < length wire.items + length (filter_map item_in (through_nat old.settings None x.now.0 row.inside 0 h step.sends)))
+      → ((h : List NatEntry) → nats.StandsFor old h → ENTRIES_MAX < length wire.items + length (filter_map item_in (through_nat old.settings None x.now.0 row.inside 0 h step.sends)))
       → IsTooMuch x nodes wire step None
   too_much_through wire full = λ d t H e em.
       let made = made_through d t H x row nodes step None e old is em in
-      subst (λ (ms : List Made). MOST_ENTRIES < length wire.items + length (filter_map item_in ms)) (sym made.1) (full (nat_history t row.nat H) made.0)
+      subst (λ (ms : List Made). ENTRIES_MAX < length wire.items + length (filter_map item_in ms)) (sym made.1) (full (nat_history t row.nat H) made.0)
 
   pub makes_through : 0 < length step.sends → MakesAny x nodes step None
   makes_through some = λ d t H e em none.
@@ -187,11 +187,11 @@ module _ (x : Sender) (nodes : List NodeState) (step : Step) (extra : Option (Li
         through = λ c c_is b at. absurd (no_client x.node c is c_is);
       }
 
-  pub too_much_outright : (wire : WireState) → MOST_ENTRIES < length wire.items + (length step.sends + length (packet_made extra)) → IsTooMuch x nodes wire step extra
+  pub too_much_outright : (wire : WireState) → ENTRIES_MAX < length wire.items + (length step.sends + length (packet_made extra)) → IsTooMuch x nodes wire step extra
   too_much_outright wire full = λ d t H e em.
       let made = made_outright d t H x nodes step extra e outlet is own em in
       let size = all_count outlet step.sends extra in
-      subst (λ (ms : List Made). MOST_ENTRIES < length wire.items + length (filter_map item_in ms)) made (rw size full)
+      subst (λ (ms : List Made). ENTRIES_MAX < length wire.items + length (filter_map item_in ms)) made (rw size full)
 
   pub makes_outright : 0 < length step.sends + length (packet_made extra) → MakesAny x nodes step extra
   makes_outright some = λ d t H e em none.

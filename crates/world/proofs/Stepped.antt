@@ -9,7 +9,7 @@ use Rattle.history.specs.declared.turn.Stop.{Stop}
 use Rattle.topology.specs.Rows.{TopologyState}
 use Rattle.topology.specs.Rules.{IsTopology}
 use Rattle.history.specs.Full.{Full, items_of}
-use Rattle.legal.specs.declared.left.TheConstants.{MOST_LEFT}
+use Rattle.legal.specs.declared.left.TheConstants.{LEFT_MAX}
 use Rattle.legal.specs.Left.{left}
 use Rattle.legal.specs.Past.{Draws, began, going, has_more, is_number}
 use Rattle.legal.specs.Next.{next_of}
@@ -46,14 +46,14 @@ going_on d old H e (More said) r next = rw (next.more, next.asked) refl
 going_on d old H e (Last said) r next = rw (next.more) refl
 
 -- what is left of it is never more than may be left
-most_on : EachFalls → (d : Draws) (old : WorldState) (H : List Full) (e : Event) (turn : Turn) (r : Full) → IsNext d old H e turn r → left old.topology (r ∷ H) ≤ MOST_LEFT
+most_on : EachFalls → (d : Draws) (old : WorldState) (H : List Full) (e : Event) (turn : Turn) (r : Full) → IsNext d old H e turn r → left old.topology (r ∷ H) ≤ LEFT_MAX
 most_on falls d old H e (More said) r next =
     let fell = falls d old.topology H r next.rules next.stands.grown next.follows next.more in
     let before = next.stands.left in
     let most = next.stands.most in
     omega (arith, fell, before, most)
 most_on falls d old H e (Last said) r next =
-    let all : left old.topology (r ∷ H) ≡ MOST_LEFT = rw (next.more) refl in
+    let all : left old.topology (r ∷ H) ≡ LEFT_MAX = rw (next.more) refl in
     omega (arith, all)
 
 stands : EachFalls → EachSumIsOfThePast → (d : Draws) (old new : WorldState) (H : List Full) (e : Event) (turn : Turn) (r : Full) → IsNext d old H e turn r → Turned old new e turn → AreReady new.moment new.nodes
@@ -63,7 +63,7 @@ stands falls sums d old new H e turn r next turned ready comes =
     let goes = turned.going ∙ going_on d old H e turn r next in
     let nodes = subst (λ (x : TopologyState). NodesOf d x new.nodes (r ∷ H)) (sym turned.topology) comes.nodes in
     let same : left new.topology (r ∷ H) ≡ left_in new = left_is sums d new (r ∷ H) (record { moment = comes.moment; began = start; going = goes; nodes = nodes; ready = ready }) in
-    let most : left new.topology (r ∷ H) ≤ MOST_LEFT = subst (λ (x : TopologyState). left x (r ∷ H) ≤ MOST_LEFT) (sym turned.topology) (most_on falls d old H e turn r next) in
+    let most : left new.topology (r ∷ H) ≤ LEFT_MAX = subst (λ (x : TopologyState). left x (r ∷ H) ≤ LEFT_MAX) (sym turned.topology) (most_on falls d old H e turn r next) in
     record {
       grown = subst (λ (x : TopologyState). Grown d x (r ∷ H)) (sym turned.topology) (next.follows, next.stands.grown);
       moment = comes.moment;

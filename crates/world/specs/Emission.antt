@@ -13,7 +13,7 @@ use Rattle.history.specs.Full.{Full, item_in}
 use Rattle.history.specs.Records.{marks_of}
 use Rattle.legal.specs.Past.{Draws}
 use Rattle.legal.specs.Emit.{made_of}
-use Rattle.world.specs.declared.wire.TheConstants.{MOST_ENTRIES}
+use Rattle.world.specs.declared.wire.TheConstants.{ENTRIES_MAX}
 use Rattle.lab_nodes.specs.declared.node_state.NodeState.{NodeState}
 use Rattle.world.specs.declared.emission.Sender.{Sender}
 use Rattle.lab_nodes.specs.NodeState.{NodePast, past_of, IsKeptIn}
@@ -48,7 +48,7 @@ Emits x nodes nodes' old new step packet marks = (d : Draws) (t : TopologyState)
 -- the wire has no room for it
 abbrev pub IsTooMuch : Sender → List NodeState → WireState → Step → Option (List ℕ) → Type 0
 IsTooMuch x nodes old step packet = (d : Draws) (t : TopologyState) (H : List Full) (e : Entry) → IsEmission d t H x nodes step packet e
-    → MOST_ENTRIES < length old.items + length (filter_map item_in (made_of t H x.now.0 e x.node))
+    → ENTRIES_MAX < length old.items + length (filter_map item_in (made_of t H x.now.0 e x.node))
 
 -- something is made of it
 abbrev pub MakesAny : Sender → List NodeState → Step → Option (List ℕ) → Type 0

@@ -20,7 +20,7 @@ use Rattle.lab_nodes.specs.declared.call.Call.{Call}
 use Rattle.lab_nodes.specs.Call.{dst_lent, input_lent}
 use Rattle.world.specs.declared.going.Going.{Going}
 use Rattle.lab_nodes.specs.declared.node_state.NodeState.{NodeState}
-use Rattle.world.specs.declared.world.TheConstants.{MOST_MOMENT}
+use Rattle.td_outside.specs.declared.clock.TheConstants.{CLOCK_END_MS}
 use Rattle.lab_nodes.specs.NodeState.{NodesOf, AreReady}
 use Rattle.world.specs.World.{WorldState, IsCause, going_after, is_more, record_in}
 
@@ -34,7 +34,7 @@ IsGoing m (Some g) = m ≤ g.began.0 + g.ms
 pub record IsWorld (t : TopologyState) (m : ℕ) (g : Option Going) (nodes : List NodeState) : Type 0 where
   pub rules : IsTopology t
   pub ready : AreReady m nodes
-  pub early : m < MOST_MOMENT
+  pub early : m < CLOCK_END_MS
   pub going : IsGoing m g
 
 -- THE RECORDS

@@ -1,9 +1,9 @@
 -- What a world keeps of the wire.
 use Rattle.std.specs.Prelude.{◌≡◌, ◌≤◌, ◌<◌, ℕ, Bool, true, false, List, [], ◌∷◌, ◌++◌, length, take, get_or}
 use Rattle.std.specs.List.{AllByRecursion}
-use Rattle.history.specs.declared.event.TheConstants.{MOST_BYTES}
+use Rattle.td_base.specs.declared.datagram.TheConstants.{DATAGRAM_MAX}
 use Rattle.history.specs.Full.{Item, udp, six, bytes_of}
-use Rattle.world.specs.declared.wire.TheConstants.{MOST_ENTRIES}
+use Rattle.world.specs.declared.wire.TheConstants.{ENTRIES_MAX}
 use Rattle.world.specs.declared.wire.Entry.{Entry}
 use Rattle.world.specs.declared.wire.Entry.TheVariants.{Udp, Six}
 
@@ -30,9 +30,9 @@ front_of len w = record { items = take len w.items; done = take len w.done }
 
 -- the bytes of an entry are as few as an event or a node may give
 abbrev pub IsShort : Item → Type 0
-IsShort x = length (bytes_of x) ≤ MOST_BYTES
+IsShort x = length (bytes_of x) ≤ DATAGRAM_MAX
 
 -- a wire that isn't too long, whose entries before `low` were all delivered
 abbrev pub IsWire : List Item → List Bool → ℕ → Type 0
-IsWire items done low = (length done ≡ length items) × (length items ≤ MOST_ENTRIES) × AllByRecursion IsShort items
+IsWire items done low = (length done ≡ length items) × (length items ≤ ENTRIES_MAX) × AllByRecursion IsShort items
     × (low ≤ length items) × ((i : ℕ) → i < low → get_or done i false ≡ true)

@@ -12,13 +12,13 @@ use Rattle.topology.specs.Topology.{nodes}
 use Rattle.history.specs.Full.{Item, Full, wire, items_of}
 use Rattle.history.specs.Records.{record_of}
 use Rattle.history.specs.Telling.{IsTold}
-use Rattle.world.specs.declared.wire.TheConstants.{MOST_ENTRIES}
-use Rattle.world.specs.declared.world.TheConstants.{MOST_MOMENT}
+use Rattle.world.specs.declared.wire.TheConstants.{ENTRIES_MAX}
+use Rattle.td_outside.specs.declared.clock.TheConstants.{CLOCK_END_MS}
 use Rattle.world.specs.declared.going.Going.{Going}
 use Rattle.legal.specs.Past.{now, began, has_more, going, was_delivered, Draws}
 use Rattle.legal.specs.Next.{next_of}
 use Rattle.legal.specs.Legal.{Grown}
-use Rattle.legal.specs.declared.left.TheConstants.{MOST_LEFT}
+use Rattle.legal.specs.declared.left.TheConstants.{LEFT_MAX}
 use Rattle.legal.specs.Left.{left, time_left}
 use Rattle.lab_nodes.specs.declared.node_state.NodeState.{NodeState}
 use Rattle.lab_nodes.specs.NodeState.{NodesOf}
@@ -56,7 +56,7 @@ left_to w end = time_left end w.moment (all_due w.moment w.nodes 0 (nodes w.topo
 
 -- of the event that goes on; as much as may be where none does
 abbrev pub left_of : WorldState → Option Event → ℕ
-left_of w None = MOST_LEFT
+left_of w None = LEFT_MAX
 left_of w (Some (event.Advance ms)) = left_to w (w.began + ms)
 left_of w (Some e) = 0
 
@@ -76,7 +76,7 @@ pub record StandsFor (d : Draws) (w : WorldState) (H : List Full) : Type 0 where
   pub wire : w.wire ≡ wire H
   pub done : (i : ℕ) → get_or w.done i false ≡ was_delivered i H
   pub left : left w.topology H ≡ left_in w
-  pub most : left_in w ≤ MOST_LEFT
+  pub most : left_in w ≤ LEFT_MAX
 
 -- WHAT A STEP DOES
 
@@ -87,7 +87,7 @@ IsAgain (Some before) e = e ≡ before
 
 -- an advance, which began at this moment, ends before the last moment that a world reaches
 abbrev pub EndsInTime : ℕ → Event → Type 0
-EndsInTime began (event.Advance ms) = began + ms < MOST_MOMENT
+EndsInTime began (event.Advance ms) = began + ms < CLOCK_END_MS
 EndsInTime began _ = Unit {0}
 
 abbrev pub record_in : Turn → Record
@@ -123,7 +123,7 @@ Falls old new (Last r) = Unit {0}
 
 -- the record would make too long a wire
 abbrev pub Overflows : WorldState → Full → Type 0
-Overflows w r = MOST_ENTRIES < length w.wire + length (items_of r)
+Overflows w r = ENTRIES_MAX < length w.wire + length (items_of r)
 
 -- it has a mark, or such a fate: at no other record memory is needed
 abbrev pub NeedsMemory : Full → Type 0

@@ -4,12 +4,12 @@ ghost use Rattle.teredo_node.specs.declared.fate.Fate.TheVariants as fates;
 ghost use Rattle.topology.specs.Topology.{node_at, nodes};
 ghost use Rattle.history.specs.declared.event.Event.{Event};
 ghost use Rattle.history.specs.declared.event.Event.TheVariants as event;
-ghost use Rattle.history.specs.declared.event.TheConstants.{MOST_ADVANCE};
+ghost use Rattle.history.specs.declared.event.TheConstants.{ADVANCE_MAX_MS};
 ghost use Rattle.history.specs.declared.acts.Verb.TheVariants as verb;
 ghost use Rattle.history.specs.Full.{Full};
 ghost use Rattle.legal.specs.Past.{Draws, began, forgotten};
 ghost use Rattle.legal.specs.Next.{numbered, plain, least_due, next_of};
-ghost use Rattle.world.specs.declared.world.TheConstants.{MOST_MOMENT};
+ghost use Rattle.td_outside.specs.declared.clock.TheConstants.{CLOCK_END_MS};
 ghost use Rattle.lab_nodes.specs.Due.{due_is};
 ghost use Rattle.world.specs.Record.{said};
 ghost use Rattle.world.specs.World.{StandsFor, IsAgain};
@@ -57,7 +57,7 @@ impl<'a> World<'a> {
     fn pass(&mut self, index: u32, end: Millis, out: &mut Record)
         requires empty { out.old.marks ≡ [] }
         requires later { self.old.moment ≤ end.0 }
-        requires early { end.0 < MOST_MOMENT }
+        requires early { end.0 < CLOCK_END_MS }
         ensures record_is { out.new ≡ said end.0 index (plain verb.Advance) None fates.Done [] }
         ensures rest { self.new ≡ record self.old { moment = end.0; began = end.0; going = None } }
     {
@@ -73,7 +73,7 @@ impl<'a> World<'a> {
     fn tick(&mut self, index: u32, going: Going, due: Due, out: &mut Record) -> Result<(), Stop>
         requires empty { out.old.marks ≡ [] }
         requires early { due.moment.0 ≤ going.began.0 + going.ms }
-        requires going { (self.old.moment ≤ going.began.0 + going.ms) × (going.began.0 + going.ms < MOST_MOMENT) }
+        requires going { (self.old.moment ≤ going.began.0 + going.ms) × (going.began.0 + going.ms < CLOCK_END_MS) }
         ensures plays { (d : Draws) (H : List Full) → StandsFor d self.old H → (e : Event) → forgotten self.old.topology e ≡ []
             → node_at self.old.topology due.number ≡ Some due.node → Plays d self.old self.new H (ticks_at d self.old H (numbered index e) (due_is due)) (played result out.new) }
         ensures rest { self.new ≡ record self.old { moment = self.new.moment; began = going.began.0; going = Some (event.Advance going.ms); nodes = self.new.nodes; wire = self.new.wire; done = self.new.done } }
@@ -96,9 +96,9 @@ impl<'a> World<'a> {
     /// goes on.
     pub(crate) fn advance(&mut self, index: u32, ms: u64, out: &mut Record) -> Result<bool, Stop>
         requires empty { out.old.marks ≡ [] }
-        requires event { ms ≤ MOST_ADVANCE }
+        requires event { ms ≤ ADVANCE_MAX_MS }
         requires again { IsAgain self.old.going (event.Advance ms) }
-        requires time { self.old.began + ms < MOST_MOMENT }
+        requires time { self.old.began + ms < CLOCK_END_MS }
         ensures plays { (d : Draws) (H : List Full) → StandsFor d self.old H
             → PlaysTurn d self.old self.new H (next_of d self.old.topology H index (event.Advance ms)) (turn_of result out.new) }
         ensures turned { IfOk (turn_of result out.new) (λ turn. Turned self.old self.new (event.Advance ms) turn) }

@@ -4,17 +4,17 @@ ghost use Rattle.teredo_node.specs.declared.fate.Fate.TheVariants as fates;
 ghost use Rattle.history.specs.declared.event.Event.{Event};
 ghost use Rattle.history.specs.declared.acts.Act.{Act};
 ghost use Rattle.history.specs.declared.event.Event.TheVariants as event;
-ghost use Rattle.history.specs.declared.event.TheConstants.{MOST_BYTES};
+ghost use Rattle.td_base.specs.declared.datagram.TheConstants.{DATAGRAM_MAX};
 ghost use Rattle.history.specs.Full.{Full};
 ghost use Rattle.legal.specs.Past.{Draws};
 ghost use Rattle.legal.specs.Next.{numbered, puts, next_of};
-ghost use Rattle.world.specs.declared.wire.TheConstants.{MOST_ENTRIES};
+ghost use Rattle.world.specs.declared.wire.TheConstants.{ENTRIES_MAX};
 ghost use Rattle.world.specs.World.{StandsFor};
 ghost use Rattle.world.specs.Record.{said};
 ghost use Rattle.world.specs.Playing.{Plays, played};
 
 use crate::record::say;
-use crate::wire::MOST_ENTRIES;
+use crate::wire::ENTRIES_MAX;
 use crate::world::World;
 use history::{Act, Mark, Record, Stop};
 use td_base::{Ep, NoMemory};
@@ -25,8 +25,8 @@ impl<'a> World<'a> {
     /// Puts a datagram on the wire.
     fn put(&mut self, src: Ep, dst: Ep, bytes: Octets, out: &mut Record) -> Result<(), Stop>
         requires empty { out.old.marks ≡ [] }
-        requires room { length self.old.wire < MOST_ENTRIES }
-        requires short { length bytes ≤ MOST_BYTES }
+        requires room { length self.old.wire < ENTRIES_MAX }
+        requires short { length bytes ≤ DATAGRAM_MAX }
         ensures plays { (d : Draws) (H : List Full) → StandsFor d self.old H → (e : Event) (index : ℕ) (act : Act)
             → out.old ≡ said self.old.moment index act None fates.Put [] → Plays d self.old self.new H (puts H (numbered index e) act src dst bytes) (played result out.new) }
         ensures rest { self.new ≡ record self.old { wire = self.new.wire; done = self.new.done } }
@@ -56,13 +56,13 @@ impl<'a> World<'a> {
         out: &mut Record,
     ) -> Result<(), Stop>
         requires empty { out.old.marks ≡ [] }
-        requires short { length bytes.now ≤ MOST_BYTES }
+        requires short { length bytes.now ≤ DATAGRAM_MAX }
         ensures plays { (d : Draws) (H : List Full) → StandsFor d self.old H → (e : Event) (index : ℕ) (act : Act)
             → out.old ≡ said self.old.moment index act None fates.Put [] → Plays d self.old self.new H (puts H (numbered index e) act src dst bytes.now) (played result out.new) }
         ensures rest { self.new ≡ record self.old { wire = self.new.wire; done = self.new.done } }
         ensures err { OnErr result ((self.new.wire ≡ self.old.wire) × (self.new.done ≡ self.old.done)) }
     {
-        if self.wire.len() >= MOST_ENTRIES {
+        if self.wire.len() >= ENTRIES_MAX {
             return Err(Stop::WireFull);
         }
         let Ok(bytes) = Octets::new(*self.nodes.allocator(), bytes) else {
@@ -92,7 +92,7 @@ impl<'a> World<'a> {
             say(out, self.moment, index, act, None, Fate::NoEntry);
             return Ok(());
         };
-        if self.wire.len() >= MOST_ENTRIES {
+        if self.wire.len() >= ENTRIES_MAX {
             return Err(Stop::WireFull);
         }
         let Ok(bytes) = Octets::new(*self.nodes.allocator(), entry.bytes()) else {

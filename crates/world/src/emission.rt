@@ -1,7 +1,7 @@
 //! How what a node does comes onto the wire.
 ghost use Rattle.std.specs.Prelude.{◌≡◌, ◌≢◌, ◌≤◌, ℕ, [], None, length, slice_get, IfSome, OnOk, OnErr, IsErrOf};
 ghost use Rattle.topology.specs.declared.node.Node.TheVariants.{Client as client};
-ghost use Rattle.history.specs.declared.event.TheConstants.{MOST_BYTES};
+ghost use Rattle.td_base.specs.declared.datagram.TheConstants.{DATAGRAM_MAX};
 ghost use Rattle.lab_nodes.specs.NodeState.{AreReady};
 ghost use Rattle.world.specs.Emission.{Emits, IsTooMuch, MakesAny, IsBehind};
 
@@ -64,7 +64,7 @@ pub fn emit(
     marks: &mut Marks,
 ) -> Result<(), Stop>
     requires none { marks.old ≡ [] }
-    requires short { IfSome packet (λ bytes. length bytes ≤ MOST_BYTES) }
+    requires short { IfSome packet (λ bytes. length bytes ≤ DATAGRAM_MAX) }
     requires ready { AreReady sender.now.0 nodes.old.items }
     ensures ready { AreReady sender.now.0 nodes.new.items }
     ensures elsewhere { (k : ℕ) → (IsBehind sender.node k → ⊥) → slice_get nodes.new.items k ≡ slice_get nodes.old.items k }

@@ -41,5 +41,5 @@ mod way;
 mod wire;
 mod world;
 
-pub use wire::{MOST_ENTRIES, WireEntry};
-pub use world::{MOST_MOMENT, World};
+pub use wire::{ENTRIES_MAX, WireEntry};
+pub use world::World;

@@ -1,6 +1,6 @@
 //! How what a node sends comes onto the wire.
 ghost use Rattle.std.specs.Prelude.{◌≡◌, ◌≤◌, ◌<◌, ◌+◌, ℕ, [], ◌∷◌, ◌++◌, None, Some, List, length, filter_map, IfOk, IfErr, IfSome, OnErr, OnOk, IsErrOf};
-ghost use Rattle.history.specs.declared.event.TheConstants.{MOST_BYTES};
+ghost use Rattle.td_base.specs.declared.datagram.TheConstants.{DATAGRAM_MAX};
 ghost use Rattle.history.specs.Full.{Item, item_in};
 ghost use Rattle.history.specs.Records.{mark_of, marks_of};
 ghost use Rattle.legal.specs.Emit.{through_nat, relay_for, native_made};
@@ -10,10 +10,10 @@ ghost use Rattle.nat_kinds.specs.Nat.{StandsFor};
 ghost use Rattle.td_base.specs.declared.side.Side.{Side};
 ghost use Rattle.topology.specs.Topology.{own_ep};
 ghost use Rattle.teredo_node.specs.declared.step.TheConstants.{SENDS_MAX};
-ghost use Rattle.world.specs.declared.wire.TheConstants.{MOST_ENTRIES};
+ghost use Rattle.world.specs.declared.wire.TheConstants.{ENTRIES_MAX};
 ghost use Rattle.world.specs.Sends.{packet_for, packet_made, Extends, Grows, source_through, made_from, history_after, Passes};
 
-use crate::wire::{MOST_ENTRIES, Wire};
+use crate::wire::{ENTRIES_MAX, Wire};
 use history::{Loss, Mark, Marks, Stop};
 use nat_kinds::{Nat, NatRefusal};
 use td_base::{Ep, Ip4, Millis, NoMemory, Side};
@@ -77,7 +77,7 @@ impl Outlet {
     /// Puts the datagrams of a step on the wire, and a mark for each into `marks`.
     fn put_sends(self, wire: &mut Wire, step: &Step, marks: &mut Marks) -> Result<(), NoMemory>
         requires none { marks.old ≡ [] }
-        requires room { length wire.old.items + length step.now.sends ≤ MOST_ENTRIES }
+        requires room { length wire.old.items + length step.now.sends ≤ ENTRIES_MAX }
         ensures ok { OnOk result (Grows wire.old wire.new (made_by self step.now.sends)) }
         ensures marked { OnOk result (marks.new ≡ marks_of (length wire.old.items) (made_by self step.now.sends)) }
         ensures entries { OnOk result (length wire.new.items ≡ length wire.old.items + length step.now.sends) }
@@ -111,8 +111,8 @@ impl Outlet {
         marks: &mut Marks,
     ) -> Result<(), NoMemory>
         requires none { marks.old ≡ [] }
-        requires room { length wire.old.items + length step.now.sends + length (packet_made packet) ≤ MOST_ENTRIES }
-        requires short { IfSome packet (λ bytes. length bytes ≤ MOST_BYTES) }
+        requires room { length wire.old.items + length step.now.sends + length (packet_made packet) ≤ ENTRIES_MAX }
+        requires short { IfSome packet (λ bytes. length bytes ≤ DATAGRAM_MAX) }
         ensures ok { OnOk result (Grows wire.old wire.new (all_made self step.now.sends packet)) }
         ensures marked { OnOk result (marks.new ≡ marks_of (length wire.old.items) (all_made self step.now.sends packet)) }
         ensures err { OnErr result ((more : List Item) × Extends wire.old wire.new more) }
@@ -138,15 +138,15 @@ impl Outlet {
         marks: &mut Marks,
     ) -> Result<(), Stop>
         requires none { marks.old ≡ [] }
-        requires short { IfSome packet (λ bytes. length bytes ≤ MOST_BYTES) }
+        requires short { IfSome packet (λ bytes. length bytes ≤ DATAGRAM_MAX) }
         ensures ok { OnOk result (Grows wire.old wire.new (all_made self step.now.sends packet)) }
         ensures marked { OnOk result (marks.new ≡ marks_of (length wire.old.items) (all_made self step.now.sends packet)) }
         ensures err { OnErr result (wire.new ≡ wire.old) }
-        ensures full { IsErrOf result Stop.WireFull → MOST_ENTRIES < length wire.old.items + (length step.now.sends + length (packet_made packet)) }
+        ensures full { IsErrOf result Stop.WireFull → ENTRIES_MAX < length wire.old.items + (length step.now.sends + length (packet_made packet)) }
         ensures needs { IsErrOf result Stop.NoMemory → 0 < length step.now.sends + length (packet_made packet) }
     {
         let len = wire.len();
-        if step.count() + usize::from(packet.is_some()) > MOST_ENTRIES - len {
+        if step.count() + usize::from(packet.is_some()) > ENTRIES_MAX - len {
             return Err(Stop::WireFull);
         }
         match self.put_all(wire, step, packet, marks) {
@@ -167,8 +167,8 @@ fn put_packet(
     packet: Octets,
     marks: &mut Marks,
 ) -> Result<(), NoMemory>
-    requires room { length wire.old.items < MOST_ENTRIES }
-    requires short { length packet ≤ MOST_BYTES }
+    requires room { length wire.old.items < ENTRIES_MAX }
+    requires short { length packet ≤ DATAGRAM_MAX }
     requires few { length marks.old ≤ SENDS_MAX }
     ensures ok { OnOk result (Grows wire.old wire.new (packet_for relay packet)) }
     ensures marked { OnOk result (marks.new ≡ marks.old ++ marks_of (length wire.old.items) (packet_for relay packet)) }
@@ -203,17 +203,17 @@ pub fn send_native(
     marks: &mut Marks,
 ) -> Result<(), Stop>
     requires none { marks.old ≡ [] }
-    requires short { IfSome packet (λ bytes. length bytes ≤ MOST_BYTES) }
+    requires short { IfSome packet (λ bytes. length bytes ≤ DATAGRAM_MAX) }
     ensures ok { OnOk result (Grows wire.old wire.new (native_made row.now packet)) }
     ensures marked { OnOk result (marks.new ≡ marks_of (length wire.old.items) (native_made row.now packet)) }
     ensures err { OnErr result (wire.new ≡ wire.old) }
-    ensures full { IsErrOf result Stop.WireFull → MOST_ENTRIES < length wire.old.items + length (native_made row.now packet) }
+    ensures full { IsErrOf result Stop.WireFull → ENTRIES_MAX < length wire.old.items + length (native_made row.now packet) }
     ensures needs { IsErrOf result Stop.NoMemory → 0 < length (native_made row.now packet) }
 {
     let Some(packet) = packet else {
         return Ok(());
     };
-    if wire.len() >= MOST_ENTRIES {
+    if wire.len() >= ENTRIES_MAX {
         return Err(Stop::WireFull);
     }
     let relay = relay_for(row, packet.as_slice());
@@ -246,18 +246,18 @@ fn translate(nat: &mut Nat, now: Millis, inside: Ep, to: Ep) -> Result<Result<Ep
 
 /// Puts a datagram that has a source on the wire, and answers its mark, or that of one that is lost.
 fn put_datagram(wire: &mut Wire, src: Result<Ep, Loss>, to: Ep, bytes: &[u8]) -> Result<Mark, Stop>
-    requires short { length bytes.now ≤ MOST_BYTES }
+    requires short { length bytes.now ≤ DATAGRAM_MAX }
     ensures ok { OnOk result (Grows wire.old wire.new (made_from src to bytes.now ∷ [])) }
     ensures marked { IfOk result (λ mark. mark ≡ mark_of (length wire.old.items) (made_from src to bytes.now)) }
     ensures err { OnErr result (wire.new ≡ wire.old) }
-    ensures full { IsErrOf result Stop.WireFull → MOST_ENTRIES < length wire.old.items + length (filter_map item_in (made_from src to bytes.now ∷ [])) }
+    ensures full { IsErrOf result Stop.WireFull → ENTRIES_MAX < length wire.old.items + length (filter_map item_in (made_from src to bytes.now ∷ [])) }
 {
     let len = bytes.len();
     let src = match src {
         Ok(src) => src,
         Err(why) => return Ok(Mark::Lost { why, dst: to, len }),
     };
-    if wire.len() >= MOST_ENTRIES {
+    if wire.len() >= ENTRIES_MAX {
         return Err(Stop::WireFull);
     }
     let number = wire.len() as u32;
@@ -288,7 +288,7 @@ fn put_through(
         → Passes now.0 inside wire.old wire.new nat.new h (through_nat nat.old.settings None now.0 inside 0 h step.now.sends) marks.new) }
     ensures err { OnErr result ((more : List Item) × Extends wire.old wire.new more) }
     ensures full { IsErrOf result Stop.WireFull → (h : List Entry) → StandsFor nat.old h
-        → MOST_ENTRIES < length wire.old.items + length (filter_map item_in (through_nat nat.old.settings None now.0 inside 0 h step.now.sends)) }
+        → ENTRIES_MAX < length wire.old.items + length (filter_map item_in (through_nat nat.old.settings None now.0 inside 0 h step.now.sends)) }
     ensures needs { IsErrOf result Stop.NoMemory → 0 < length step.now.sends }
     ensures moment { nat.new.moment ≤ now.0 }
     ensures settings { nat.new.settings ≡ nat.old.settings }
@@ -318,7 +318,7 @@ pub fn send_through(
         → Passes now.0 inside wire.old wire.new nat.new h (through_nat nat.old.settings None now.0 inside 0 h step.now.sends) marks.new) }
     ensures err { OnErr result (wire.new ≡ wire.old) }
     ensures full { IsErrOf result Stop.WireFull → (h : List Entry) → StandsFor nat.old h
-        → MOST_ENTRIES < length wire.old.items + length (filter_map item_in (through_nat nat.old.settings None now.0 inside 0 h step.now.sends)) }
+        → ENTRIES_MAX < length wire.old.items + length (filter_map item_in (through_nat nat.old.settings None now.0 inside 0 h step.now.sends)) }
     ensures needs { IsErrOf result Stop.NoMemory → 0 < length step.now.sends }
     ensures moment { nat.new.moment ≤ now.0 }
     ensures settings { nat.new.settings ≡ nat.old.settings }

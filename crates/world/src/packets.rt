@@ -3,7 +3,8 @@ ghost use Rattle.std.specs.Prelude.{◌≡◌, ◌≤◌, List, [], length, OnEr
 ghost use Rattle.topology.specs.Topology.{node_at};
 ghost use Rattle.history.specs.declared.event.Event.{Event};
 ghost use Rattle.history.specs.declared.event.Event.TheVariants as event;
-ghost use Rattle.history.specs.declared.event.TheConstants.{MOST_BODY, MOST_BYTES};
+ghost use Rattle.history.specs.declared.event.TheConstants.{BODY_MAX};
+ghost use Rattle.td_base.specs.declared.datagram.TheConstants.{DATAGRAM_MAX};
 ghost use Rattle.history.specs.Full.{Full};
 ghost use Rattle.legal.specs.Past.{Draws, at_nat};
 ghost use Rattle.legal.specs.Next.{numbered, plain, hands_in, next_of};
@@ -27,7 +28,7 @@ impl<'a> World<'a> {
         out: &mut Record,
     ) -> Result<(), Stop>
         requires empty { out.old.marks ≡ [] }
-        requires short { length bytes.now ≤ MOST_BYTES }
+        requires short { length bytes.now ≤ DATAGRAM_MAX }
         ensures plays { (d : Draws) (H : List Full) → StandsFor d self.old H → (e : Event) → at_nat self.old.topology e (plain verb) ≡ []
             → Plays d self.old self.new H (hands_in d self.old.topology H (numbered index e) verb number bytes.now (node_at self.old.topology number)) (played result out.new) }
         ensures rest { self.new ≡ record self.old { nodes = self.new.nodes; wire = self.new.wire; done = self.new.done } }
@@ -58,7 +59,7 @@ impl<'a> World<'a> {
         out: &mut Record,
     ) -> Result<(), Stop>
         requires empty { out.old.marks ≡ [] }
-        requires short { length body.now ≤ MOST_BODY }
+        requires short { length body.now ≤ BODY_MAX }
         ensures plays { (d : Draws) (H : List Full) → StandsFor d self.old H
             → Plays d self.old self.new H (next_of d self.old.topology H index (event.Host number to body.now)) (played result out.new) }
         ensures rest { self.new ≡ record self.old { nodes = self.new.nodes; wire = self.new.wire; done = self.new.done } }

@@ -1,7 +1,7 @@
 //! The wire: everything that was sent.
 ghost use Rattle.std.specs.Prelude.{◌≡◌, ◌<◌, ◌≤◌, ◌∷◌, [], ◌++◌, ℕ, true, false, length, map, take, set, get_or, slice_get, option_map, OnOk, OnErr, IfSome, IfNone};
 ghost use Rattle.history.specs.Full.{udp, six, bytes_of};
-ghost use Rattle.history.specs.declared.event.TheConstants.{MOST_BYTES};
+ghost use Rattle.td_base.specs.declared.datagram.TheConstants.{DATAGRAM_MAX};
 ghost use Rattle.world.specs.Wire.{item_of, WireState, no_wire, with_item, front_of};
 ghost use Rattle.world.specs.WireEntry.{item_lent};
 
@@ -11,7 +11,7 @@ use td_base::{Ep, NoMemory};
 use td_outside::Octets;
 
 /// The most entries of a wire.
-pub const MOST_ENTRIES: usize = 65_536;
+pub const ENTRIES_MAX: usize = 65_536;
 
 /// What was sent, with its bytes.
 #[derive(Drop)]
@@ -79,7 +79,7 @@ impl Wire {
     pub fn len(&self) -> usize
         ensures count { result ≡ length self.now.items }
         ensures each { result ≡ length self.now.done }
-        ensures most { result ≤ MOST_ENTRIES }
+        ensures most { result ≤ ENTRIES_MAX }
     {
         self.entries.len()
     }
@@ -89,14 +89,14 @@ impl Wire {
         ensures lent { option_map item_lent result ≡ slice_get self.now.items number }
         ensures within { IfSome result (λ _. number < length self.now.items) }
         ensures marked { IfSome result (λ _. number < length self.now.done) }
-        ensures short { IfSome result (λ e. length (bytes_of (item_lent e)) ≤ MOST_BYTES) }
+        ensures short { IfSome result (λ e. length (bytes_of (item_lent e)) ≤ DATAGRAM_MAX) }
     {
         lend(self.entries.as_slice(), number)
     }
 
     fn push(&mut self, entry: Entry) -> Result<(), NoMemory>
-        requires room { length self.old.items < MOST_ENTRIES }
-        requires short { length (bytes_of (item_of entry)) ≤ MOST_BYTES }
+        requires room { length self.old.items < ENTRIES_MAX }
+        requires short { length (bytes_of (item_of entry)) ≤ DATAGRAM_MAX }
         ensures ok { OnOk result (self.new ≡ with_item self.old (item_of entry)) }
         ensures err { OnErr result (self.new ≡ self.old) }
     {
@@ -110,8 +110,8 @@ impl Wire {
 
     /// Appends a datagram.
     pub fn push_datagram(&mut self, src: Ep, dst: Ep, bytes: Octets) -> Result<(), NoMemory>
-        requires room { length self.old.items < MOST_ENTRIES }
-        requires short { length bytes ≤ MOST_BYTES }
+        requires room { length self.old.items < ENTRIES_MAX }
+        requires short { length bytes ≤ DATAGRAM_MAX }
         ensures ok { OnOk result (self.new ≡ with_item self.old (udp src dst bytes)) }
         ensures err { OnErr result (self.new ≡ self.old) }
     {
@@ -120,8 +120,8 @@ impl Wire {
 
     /// Appends a datagram with a copy of these bytes.
     pub fn push_copy(&mut self, src: Ep, dst: Ep, bytes: &[u8]) -> Result<(), NoMemory>
-        requires room { length self.old.items < MOST_ENTRIES }
-        requires short { length bytes.now ≤ MOST_BYTES }
+        requires room { length self.old.items < ENTRIES_MAX }
+        requires short { length bytes.now ≤ DATAGRAM_MAX }
         ensures ok { OnOk result (self.new ≡ with_item self.old (udp src dst bytes.now)) }
         ensures err { OnErr result (self.new ≡ self.old) }
     {
@@ -131,8 +131,8 @@ impl Wire {
 
     /// Appends an IPv6 packet, for the relay of that number, or for whoever has its destination.
     pub fn push_packet(&mut self, relay: Option<u16>, bytes: Octets) -> Result<(), NoMemory>
-        requires room { length self.old.items < MOST_ENTRIES }
-        requires short { length bytes ≤ MOST_BYTES }
+        requires room { length self.old.items < ENTRIES_MAX }
+        requires short { length bytes ≤ DATAGRAM_MAX }
         ensures ok { OnOk result (self.new ≡ with_item self.old (six relay bytes)) }
         ensures err { OnErr result (self.new ≡ self.old) }
     {
@@ -162,7 +162,7 @@ impl Wire {
     /// The least-numbered entry that was never delivered.
     pub fn first_undelivered(&mut self) -> Option<usize>
         ensures same { self.new ≡ self.old }
-        ensures few { IfSome result (λ n. n < MOST_ENTRIES) }
+        ensures few { IfSome result (λ n. n < ENTRIES_MAX) }
         ensures found { IfSome result (λ n. (n < length self.old.items) × (get_or self.old.done n false ≡ false)
             × ((i : ℕ) → i < n → get_or self.old.done i false ≡ true)) }
         ensures none { IfNone result ((i : ℕ) → i < length self.old.items → get_or self.old.done i false ≡ true) }

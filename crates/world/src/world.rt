@@ -1,19 +1,20 @@
 ghost use Rattle.std.specs.Prelude.{◌≡◌, ◌≤◌, ◌+◌, List, [], length, None, Ok, Err, slice_get, option_map, IfSome, IfOk, IfErr, OnErr};
 ghost use Rattle.history.specs.declared.event.Event.TheVariants as event;
-ghost use Rattle.history.specs.declared.event.TheConstants.{MOST_ADVANCE, MOST_BYTES};
+ghost use Rattle.history.specs.declared.event.TheConstants.{ADVANCE_MAX_MS};
+ghost use Rattle.td_base.specs.declared.datagram.TheConstants.{DATAGRAM_MAX};
 ghost use Rattle.history.specs.Events.{IsEvent};
 ghost use Rattle.history.specs.Full.{Full, bytes_of};
 ghost use Rattle.legal.specs.Past.{Draws};
 ghost use Rattle.legal.specs.Next.{next_of};
 ghost use Rattle.legal.specs.Legal.{draws};
-ghost use Rattle.world.specs.declared.wire.TheConstants.{MOST_ENTRIES};
+ghost use Rattle.world.specs.declared.wire.TheConstants.{ENTRIES_MAX};
 ghost use Rattle.world.specs.WireEntry.{item_lent};
 ghost use Rattle.world.specs.World.{StandsFor, IsAgain, EndsInTime, Steps, StopsFor, Stays, Falls};
 ghost use Rattle.world.specs.Playing.{PlaysTurn, Turned, ended, turn_of};
 
 use crate::going::Going;
 use crate::record::{blank, say};
-use crate::wire::{MOST_ENTRIES, Wire, WireEntry};
+use crate::wire::{ENTRIES_MAX, Wire, WireEntry};
 use history::{Act, Event, Record, Stop, Turn, Verb};
 use lab_nodes::{NodeState, first_states};
 use std::alloc::Global;
@@ -21,9 +22,6 @@ use std::marker::Model;
 use td_base::{Millis, NoMemory};
 use teredo_node::{Fate, Step};
 use topology::Topology;
-
-/// The moment at which no scenario has arrived yet, in milliseconds.
-pub const MOST_MOMENT: u64 = 281_474_976_710_656;
 
 /// The nodes of a scenario, and everything that they sent.
 #[derive(Drop)]
@@ -72,7 +70,7 @@ impl<'a> World<'a> {
     /// How many entries the wire has.
     pub fn entries(&self) -> u32
         ensures count { result ≡ length self.now.wire }
-        ensures most { result ≤ MOST_ENTRIES }
+        ensures most { result ≤ ENTRIES_MAX }
     {
         self.wire.len() as u32
     }
@@ -80,7 +78,7 @@ impl<'a> World<'a> {
     /// The entry of a number, if there is one.
     pub fn entry(&self, number: u32) -> Option<WireEntry<'_>>
         ensures lent { option_map item_lent result ≡ slice_get self.now.wire number }
-        ensures short { IfSome result (λ entry. length (bytes_of (item_lent entry)) ≤ MOST_BYTES) }
+        ensures short { IfSome result (λ entry. length (bytes_of (item_lent entry)) ≤ DATAGRAM_MAX) }
     {
         self.wire.get(number as usize)
     }
@@ -94,7 +92,7 @@ impl<'a> World<'a> {
         ensures plays { (d : Draws) (H : List Full) → StandsFor d self.old H
             → PlaysTurn d self.old self.new H (next_of d self.old.topology H index event.now) (turn_of result out.new) }
         ensures turned { IfOk (turn_of result out.new) (λ turn. Turned self.old self.new event.now turn) }
-        ensures time { self.new.moment ≤ self.old.began + MOST_ADVANCE }
+        ensures time { self.new.moment ≤ self.old.began + ADVANCE_MAX_MS }
         ensures err { OnErr result ((self.new.topology ≡ self.old.topology) × (self.new.wire ≡ self.old.wire) × (self.new.done ≡ self.old.done)) }
     {
         legal::of_its_event();
@@ -136,8 +134,8 @@ impl<'a> World<'a> {
         requires time { EndsInTime self.old.began event.now }
         ensures ok { IfOk result (λ turn. Steps self.old self.new index event.now turn) }
         ensures falls { IfOk result (λ turn. (d : Draws) (H : List Full) → StandsFor d self.old H → Falls self.old self.new turn) }
-        ensures time { IfOk result (λ turn. self.new.moment ≤ self.old.began + MOST_ADVANCE) }
-        ensures entries { IfOk result (λ _. length self.new.wire ≤ MOST_ENTRIES) }
+        ensures time { IfOk result (λ turn. self.new.moment ≤ self.old.began + ADVANCE_MAX_MS) }
+        ensures entries { IfOk result (λ _. length self.new.wire ≤ ENTRIES_MAX) }
         ensures for_good { IfSome self.old.stopped (λ stop. (result ≡ Err stop) × (self.new ≡ self.old)) }
         ensures cause { self.old.stopped ≡ None → IfErr result (λ stop. StopsFor self.old index event.now stop) }
         ensures err { IfErr result (λ stop. Stays self.old self.new stop) }
@@ -152,7 +150,7 @@ impl<'a> World<'a> {
         let mut record = blank(index);
         match self.play(index, event, &mut record) {
             Ok(more) => {
-                prove!(self.wire.len() <= MOST_ENTRIES);
+                prove!(self.wire.len() <= ENTRIES_MAX);
                 Ok(turn_with(more, record))
             }
             Err(stop) => {

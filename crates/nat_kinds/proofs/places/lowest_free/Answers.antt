@@ -1,7 +1,7 @@
 use Rattle.std.proofs.Common.{◌≡◌, ℕ, ◌+◌, ◌-◌, ◌<◌, ◌≤◌, true, List, length, Option, sym, ap, ◌∙◌, subst, ⊎_elim, arith}
 use Rattle.std.proofs.Math.Nat.{eq-or-lt_of_le}
 use Rattle.std.specs.Option.{is_some}
-use Rattle.nat_kinds.specs.declared.limits.TheConstants.{FIRST_PORT, MOST_LIVE}
+use Rattle.nat_kinds.specs.declared.limits.TheConstants.{FIRST_PORT, MAPPINGS_MAX}
 use Rattle.nat_kinds.specs.declared.outgoing.Outward.{Outward}
 use Rattle.nat_kinds.specs.Places.{place_at, if_young}
 use Rattle.nat_kinds.proofs.PlaceLemmas.{place_in, place_past}
@@ -22,8 +22,8 @@ loop-i-preserved c = λ q h. ⊎_elim
     (λ l. c.loop-i.invariant q l)
     (eq-or-lt_of_le {n = q} {m = c.loop-i.i} (omega arith))
 
-pub returns-then-places-eq-MOST_LIVE-clause-all : goal.returns-then-places-eq-MOST_LIVE-clause-all
-returns-then-places-eq-MOST_LIVE-clause-all c = λ q l m. by_port c.args.idle c.args.now.0 c.args.places.now MOST_LIVE (λ i k. c.loop-i.invariant i (omega arith)) q l m
+pub returns-then-places-eq-MAPPINGS_MAX-clause-all : goal.returns-then-places-eq-MAPPINGS_MAX-clause-all
+returns-then-places-eq-MAPPINGS_MAX-clause-all c = λ q l m. by_port c.args.idle c.args.now.0 c.args.places.now MAPPINGS_MAX (λ i k. c.loop-i.invariant i (omega arith)) q l m
 
 pub returns-clause-free : goal.returns-clause-free
 returns-clause-free c = ap (if_young c.args.idle c.args.now.0) (place_past c.args.places.now (length c.args.places.now) (omega arith))

@@ -29,11 +29,11 @@ returns-in-Some-clause-admitted c =
     updates_there c.requires.kept c.purge.ensures.kept c.purge.ensures.listings c.args.who c.in-Some.key l (sym c.in-Some.ensures) c.index_mut.ensures.value
     (with_peer p c.in-Some.key l c.touch.new.self) c.touch.new.self (touched_at c.args.now.0) (is_after p c.touch.new.self c.index_mut.ensures.value) c.touch.ensures
 
-pub returns-then-len-ge-MOST_PEERS-clause-answer : goal.returns-then-len-ge-MOST_PEERS-clause-answer
-returns-then-len-ge-MOST_PEERS-clause-answer c = room_is c.requires.kept c.purge.ensures.kept c.purge.ensures.listings c.args.who (sym c.in-None.ensures) ∙ le-ltb _ _ (omega arith)
+pub returns-then-len-ge-PEERS_MAX-clause-answer : goal.returns-then-len-ge-PEERS_MAX-clause-answer
+returns-then-len-ge-PEERS_MAX-clause-answer c = room_is c.requires.kept c.purge.ensures.kept c.purge.ensures.listings c.args.who (sym c.in-None.ensures) ∙ le-ltb _ _ (omega arith)
 
-pub returns-then-len-ge-MOST_PEERS-clause-same : goal.returns-then-len-ge-MOST_PEERS-clause-same
-returns-then-len-ge-MOST_PEERS-clause-same c = keeps c.requires.kept c.purge.ensures.kept c.purge.ensures.listings
+pub returns-then-len-ge-PEERS_MAX-clause-same : goal.returns-then-len-ge-PEERS_MAX-clause-same
+returns-then-len-ge-PEERS_MAX-clause-same c = keeps c.requires.kept c.purge.ensures.kept c.purge.ensures.listings
 
 pub returns-in_err-add-in-None-clause-kept : goal.returns-in_err-add-in-None-clause-kept
 returns-in_err-add-in-None-clause-kept c = kept_same c.purge.new.self c.add.new.self c.args.now.0 c.in_err-add-in-None.ensures.same c.add.ensures.touched c.add.ensures.whole c.purge.ensures.kept

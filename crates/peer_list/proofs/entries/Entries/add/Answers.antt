@@ -5,7 +5,7 @@ use Rattle.std.specs.BTreeMap as map
 use Rattle.slab.specs.Slab.{Slab, get}
 use Rattle.td_base.specs.Ip6.{same_ip6, cmp_ip6}
 use Rattle.td_base.specs.declared.ipv6.Ip6.{Ip6}
-use Rattle.peer_list.specs.declared.limits.TheConstants.{MOST_PEERS}
+use Rattle.peer_list.specs.declared.limits.TheConstants.{PEERS_MAX}
 use Rattle.peer_list.specs.Waiting.{Listing}
 use Rattle.peer_list.specs.Entries.{due_at}
 use Rattle.peer_list.proofs.OrderLemmas.{turn_same}
@@ -42,7 +42,7 @@ returns-clause-whole c =
     let key_is : c.vacant_key.result ≡ key = c.vacant_key.ensures.value ∙ sym c.insert_reserved-key.ensures.key in
     let leads : (p : Ip6) → map.get cmp_ip6 more p ≡ cond (same_ip6 p c.args.listing.who) (Some key) (map.get cmp_ip6 index p) =
     leads_to s t key c.args.listing fills index more (λ q. c.in_ok-insert.ensures.updates.0 q ∙ ap (λ k. cond (map.is_at (cmp_ip6 c.args.listing.who) q) (Some k) (map.get cmp_ip6 index q)) key_is) in
-    let few : length more.entries ≤ MOST_PEERS =
+    let few : length more.entries ≤ PEERS_MAX =
     let longer : length more.entries ≡ length index.entries + 1 = c.in_ok-insert.ensures.len ∙ ap (λ (o : Option ℕ). length index.entries + cond (is_some o) 0 1) (c.in_ok-insert.ensures.old ∙ c.requires.absent) in
     let room = c.requires.room in
     omega (arith, longer, room) in

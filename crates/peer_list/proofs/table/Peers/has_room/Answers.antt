@@ -1,6 +1,6 @@
 use Rattle.std.proofs.Common.{◌<◌, length, sym, ◌∙◌, arith}
 use Rattle.std.proofs.lemmas.Bool.{ltb-true}
-use Rattle.peer_list.specs.declared.limits.TheConstants.{MOST_PEERS}
+use Rattle.peer_list.specs.declared.limits.TheConstants.{PEERS_MAX}
 use Rattle.peer_list.specs.Entries.{listings_of}
 use Rattle.peer_list.proofs.PlaceLemmas.{apart_of}
 use Rattle.peer_list.proofs.EntryLemmas.{sound_of, length_of}
@@ -12,5 +12,5 @@ returns-then-is_short c =
     let e = c.self.inside.entries in
     let same = length_of e c.self.invariant.kept.whole.names in
     let short = ltb-true _ _ (sym c.is_short.ensures ∙ c.if-is_short.true) in
-    let few : length (listings_of e) < MOST_PEERS = omega (arith, same, short) in
+    let few : length (listings_of e) < PEERS_MAX = omega (arith, same, short) in
     rw (← c.self.view_is) (sym (roomy c.self.inside.moment.0 c.args.now.0 c.args.who (listings_of e) (apart_of (sound_of e c.self.invariant.kept.whole.names)) few))
