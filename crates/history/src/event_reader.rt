@@ -14,6 +14,7 @@ use crate::event_words::{
     WordsLeft, bytes, client, endpoint, host, nat, no_more, node, number, target, verb,
 };
 use std::alloc::Global;
+use td_base::DATAGRAM_MAX;
 use topology::Topology;
 
 #[tactic(auto, unfolding(crate::specs::EventText::event_behind))]

@@ -48,9 +48,7 @@ mod turn;
 mod word_texts;
 
 pub use acts::{Act, Verb};
-pub use event::{
-    ADVANCE_MAX_MS, BODY_MAX, DATAGRAM_MAX, ENTRY_NUMBER_MAX, EVENTS_MAX, Event, SEQUENCE_MAX,
-};
+pub use event::{ADVANCE_MAX_MS, BODY_MAX, ENTRY_NUMBER_MAX, EVENTS_MAX, Event, SEQUENCE_MAX};
 pub use event_fault::EventFault;
 pub use event_list::Events;
 pub use event_printer::print_event;
