@@ -1,13 +1,15 @@
 -- A client's address, and the packets that were queued under it.
 use Rattle.std.proofs.Common.{◌≡◌, ℕ, Bool, true, false, cond, List, [], ◌∷◌, map, Option, Some, None, refl, sym, ap, subst, ◌∙◌}
 use Rattle.std.specs.Prelude.{IfSome, is_some, option_map, unwrap_or}
+use Rattle.std.specs.Prelude.{Contains}
 use Rattle.std.specs.List.{AllByRecursion}
+use Rattle.std.proofs.lemmas.List.Elements.{All-contains_itself, recursion_from_All}
 use Rattle.std.proofs.lemmas.Bool.{true≢false, false≢true}
 use Rattle.td_base.specs.declared.ipv6.Ip6.{Ip6}
 use Rattle.td_base.specs.declared.endpoint.Ep.{Ep}
 use Rattle.teredo_addr.specs.Teredo.{unspecified, has_cone, flags_of, teredo_ip}
 use Rattle.teredo_node.specs.declared.fate.Fate.TheVariants as fate
-use Rattle.teredo_node.specs.Journal.{Entry, Journal, epoch, is_changed}
+use Rattle.teredo_node.specs.Journal.{given, Entry, Journal, epoch, is_changed}
 use Rattle.peer_list.specs.Mentions.{Mention, is_about}
 use Rattle.peer_list.specs.Laws.{OneEntry}
 use Rattle.qualify.specs.declared.settings.Settings.{Settings}
@@ -20,7 +22,7 @@ use Rattle.qualify.specs.Solicitations.{is_qualified, own_address}
 use Rattle.qualify.specs.Laws.{fresh, tidings, goes_on, turned, Turns, TurnsAtStart}
 use Rattle.client_rules.specs.Bearings.{mention, mentions}
 use Rattle.client_rules.specs.Journals.{journal, Follows, AreEntries}
-use Rattle.client_rules.specs.Epochs.{IsOwnTo, QueuesOwn, QualifiedHasAddress, QualifiedStays, QueuedIsOwn, NoneQueued, WaitingIsOwn}
+use Rattle.client_rules.specs.Epochs.{IsOwnTo, QueuesOwn, QualifiedHasAddress, QualifiedStays, QueuedIsOwn, NoneQueued, WaitingIsOwn, WasQueued, WasHandedIn, WaitingWasHandedIn}
 use Rattle.client_rules.proofs.Bearings.{queued_by, changes, changes_alike}
 use Rattle.client_rules.proofs.Entered.{sets, IsQueuedAt, IsEffect, of_entry}
 use Rattle.peer_list.proofs.FromMentions.{peer_is, kept, waiting_is_kept}
@@ -204,3 +206,46 @@ waiting_is_own turns first one s j n p a =
     let own = (qualification s j).address in
     kept one (λ x. AllByRecursion (IsOwnTo own (Some p)) x.waiting) (λ m. IfSome m.bearing.queues (IsOwnTo own (Some p))) (waiting_is_kept (IsOwnTo own (Some p))) p (map mention (epoch j.entries))
     (own_mentions own p (epoch j.entries) (held turns first s j.start j.entries a).queued) n
+
+-- WHOSE IT IS
+
+given_packet : (e : Entry) (o : Option (List ℕ)) → e.packet ≡ o → e.step.fate ≡ fate.Queued → IfSome o (λ x. e.input ≡ given x) → IfSome o (λ x. WasQueued e.peer x e)
+given_packet e None is k h = tt
+given_packet e (Some x) is k h = record { given = h; peer = refl; queued = k }
+
+-- each queued entry has the packet that was handed in
+abbrev HasGiven : Entry → Type 0
+HasGiven e = e.step.fate ≡ fate.Queued → IfSome e.packet (λ x. WasQueued e.peer x e)
+
+all_given : (s : Settings) (start : ℕ) (es : List Entry) → AreEntries s start es → AllByRecursion HasGiven es
+all_given s start [] a = tt
+all_given s start (e ∷ es) a = ((λ k. given_packet e e.packet refl k ((effect s (journal start es) e a.0).queued k).given), all_given s start es a.1)
+
+in_epoch : (P : Entry → Type 0) (es : List Entry) → AllByRecursion P es → AllByRecursion P (epoch es)
+in_epoch P [] a = tt
+in_epoch P (e ∷ es) a = by (is_changed e.step.fate) (in_epoch P es a.1) where
+  by : (b : Bool) → AllByRecursion P (epoch es) → AllByRecursion P (cond b [] (e ∷ epoch es))
+  by true rest = tt
+  by false rest = (a.0, rest)
+
+-- a mention of a packet is of an entry of these
+module _ (all : List Entry) (p : Ip6) where
+  one_given : (e : Entry) (o : Option (List ℕ)) → Contains all e → e.peer ≡ Some p → IfSome o (λ x. WasQueued e.peer x e) → IfSome o (WasHandedIn all (Some p))
+  one_given e None at is h = tt
+  one_given e (Some x) at is h = (e, at, subst (λ o. WasQueued o x e) is h)
+
+  given_mentions : (es : List Entry) → AllByRecursion (Contains all) es → AllByRecursion HasGiven es
+      → AllByRecursion (λ (m : Mention). is_about p m ≡ true → IfSome m.bearing.queues (WasHandedIn all (Some p))) (map mention es)
+  given_mentions [] at a = tt
+  given_mentions (e ∷ es) at a =
+      ((λ about. queued_by e.step.fate e (WasHandedIn all (Some p)) (λ k. one_given e e.packet at.0 (peer_is p e.peer about) (a.0 k))), given_mentions es at.1 a.1)
+
+each_within : (xs : List Entry) → AllByRecursion (Contains xs) xs
+each_within xs = recursion_from_All (Contains xs) xs (All-contains_itself xs)
+
+pub waiting_was_handed_in : OneEntry → WaitingWasHandedIn
+unfolding mentions
+waiting_was_handed_in one s j n p a =
+    let es = epoch j.entries in
+    kept one (λ x. AllByRecursion (WasHandedIn es (Some p)) x.waiting) (λ m. IfSome m.bearing.queues (WasHandedIn es (Some p))) (waiting_is_kept (WasHandedIn es (Some p))) p (map mention es)
+    (given_mentions es p es (each_within es) (in_epoch HasGiven j.entries (all_given s j.start j.entries a))) n

@@ -127,8 +127,9 @@ received s a from x =
 
 -- ENTRIES
 
--- a queued packet is of the client's address then
+-- a queued packet is of the client's address then, and the host handed it in
 pub record IsQueuedAt (q : Qualification) (e : Entry) : Type 0 where
+  pub given : IfSome e.packet (λ x. e.input ≡ given x)
   pub qualified : is_qualified q.phase ≡ true
   pub there : is_some e.packet ≡ true
   pub packet : IfSome e.packet (λ x. IsOwnTo (Some (own_address q)) e.peer x)
@@ -177,6 +178,7 @@ own_to s a x out = record {
 queued_at : (s : Settings) (a : Standing) (n : ℕ) (x : List ℕ) (w : Words) (step : Step) → GoesLater (given_to s a x) → IsQueuedAt a.qualification (entry n (given x) (packet_given x) (destination_in x) w step)
 unfolding given_to packet_given
 queued_at s a n x w step g = record {
+  given = if_there (is_packet x) x (λ y. given x ≡ given y) refl;
   qualified = g.out.qualified;
   there = is_there (is_packet x) x g.out.packet;
   packet = if_there (is_packet x) x (λ y. IsOwnTo (Some (own_address a.qualification)) (destination_in x) y) (own_to s a x g.out);

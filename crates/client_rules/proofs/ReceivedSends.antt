@@ -1,5 +1,5 @@
 -- What a client sends for a datagram, by its fate.
-use Rattle.std.proofs.Common.{◌≡◌, ℕ, Bool, true, cond, List, map, Option, Some, None, refl, sym, ap, subst}
+use Rattle.std.proofs.Common.{◌≡◌, ℕ, Bool, true, cond, List, [], ◌∷◌, map, Option, Some, None, refl, sym, ap, subst}
 use Rattle.std.specs.Prelude.{option_to_list, unwrap_or}
 use Rattle.std.specs.List.{AllByRecursion}
 use Rattle.td_base.specs.declared.ipv6.Ip6.{Ip6}
@@ -14,7 +14,7 @@ use Rattle.teredo_node.specs.declared.fate.Fate.TheVariants as fate
 use Rattle.teredo_node.specs.Step.{Send}
 use Rattle.teredo_node.specs.Sends.{releases}
 use Rattle.teredo_node.specs.Words.{nonce_from}
-use Rattle.teredo_node.specs.Journal.{Words}
+use Rattle.teredo_node.specs.Journal.{Entry, Words}
 use Rattle.qualify.specs.declared.settings.Settings.{Settings}
 use Rattle.qualify.specs.declared.phase.Phase.{Phase}
 use Rattle.qualify.specs.Qualification.{Qualification}
@@ -24,10 +24,10 @@ use Rattle.client_rules.specs.Standing.{Standing, known_in}
 use Rattle.client_rules.specs.Tries.{direct_bubble}
 use Rattle.client_rules.specs.Reception.{seen, answers_bubble, tests_source, reception_step, reception_fate, reception}
 use Rattle.client_rules.specs.Warrants.{IsForClient, ReceivedOnlyIf}
-use Rattle.client_rules.specs.Epochs.{IsOwnTo}
-use Rattle.client_rules.specs.Sendings.{IsSending, bubbles, tests}
+use Rattle.client_rules.specs.Epochs.{IsOwnTo, WasHandedIn}
+use Rattle.client_rules.specs.Sendings.{bubbles, tests}
 use Rattle.client_rules.proofs.Received.{reception_is_warranted}
-use Rattle.client_rules.proofs.Sendings.{carried, IsReady, address_is}
+use Rattle.client_rules.proofs.Sendings.{MaySend, carried_each, IsReady, address_is}
 
 -- what holds of all that a datagram's fate may send
 record OfReception (P : Send → Type 0) (s : Settings) (a : Standing) (from : Ep) (v : Value) (w : Words) (f : Fate) : Type 0 where
@@ -61,33 +61,47 @@ has_source s a from x m = record { qualified = m.qualified; source = ap (λ (b :
 given_back : (o : Option Ip6) (p : Ip6) → o ≡ Some p → Some (unwrap_or o unspecified) ≡ o
 given_back o p h = subst (λ k. Some (unwrap_or k unspecified) ≡ k) (sym h) refl
 
-released : (s : Settings) (a : Standing) (after : Phase) (from : Ep) (x : List ℕ) → IsReady a (source_in x) → HasSource s a from x → AllByRecursion (IsSending s a.qualification after (source_in x)) (releases from (known_in a).waiting)
-released s a after from x r h =
-    carried s a.qualification after (source_in x) from (known_in a).waiting
-    (subst (λ to. AllByRecursion (IsOwnTo a.qualification.address to) (known_in a).waiting) (given_back (source_in x) (value_in x).packet.src h.source) r.waiting)
+both : {A : Type 0} (P Q R : A → Type 0) (xs : List A) → ((x : A) → P x → Q x → R x) → AllByRecursion (λ x. P x × Q x) xs → AllByRecursion R xs
+both P Q R [] f a = tt
+both P Q R (x ∷ xs) f a = (f x a.0.0 a.0.1, both P Q R xs f a.1)
 
-answered_to : (s : Settings) (q : Qualification) (after : Phase) (own p : Ip6) (o : Option Ep) → q.address ≡ Some own → AllByRecursion (IsSending s q after (Some p)) (map (direct_bubble own p) (option_to_list o))
-answered_to s q after own p None is = tt
-answered_to s q after own p (Some to) is = (bubbles own p to is refl refl, tt)
+-- where what a datagram draws may go: packets that waited to where it came from, a bubble to its origin
+pub record MayAnswer (bubbled : Ip6 → Ep → Type 0) (carried : Ep → List ℕ → Type 0) (from : Ep) (x : List ℕ) (es : List Entry) (f : Fate) : Type 0 where
+  pub answer : f ≡ fate.Indirect → (to : Ep) → origin_in (value_in x).lead ≡ Some to → bubbled (value_in x).packet.src to
+  pub releases : (bytes : List ℕ) → WasHandedIn es (source_in x) bytes → carried from bytes
 
-pub of_datagram : (s : Settings) (a : Standing) (after : Phase) (from : Ep) (x : List ℕ) (w : Words) → IsReady a (source_in x) → AllByRecursion (IsSending s a.qualification after (source_in x)) (reception s a from x w).sends
-unfolding reception
-of_datagram s a after from x w r =
-    let f = reception_fate s a from x in
-    let h = heard s a.qualification from (value_in x) in
-    let told : (g : Fate) → f ≡ g → ReceivedOnlyIf g (seen s a from x) h = λ g k. subst (λ i. ReceivedOnlyIf i (seen s a from x) h) k (reception_is_warranted s a from x) in
-    let release = λ (m : IsForClient (seen s a from x)). released s a after from x r (has_source s a from x m) in
-    by_reception (IsSending s a.qualification after (source_in x)) s a from x (value_in x) w f (record {
-      answered = λ k.
-          let m = has_source s a from x (told fate.Indirect k).mine in
-          subst (λ peer. AllByRecursion (IsSending s a.qualification after peer) (answers_bubble s a (value_in x)).sends) (sym m.source)
-          (answered_to s a.qualification after (own_address a.qualification) (value_in x).packet.src (origin_in (value_in x).lead) (address_is a (source_in x) r m.qualified));
-      rule1 = λ k. release (told fate.Rule1 k).direct.mine;
-      rule1_bubble = λ k. release (told fate.Rule1Bubble k).direct.mine;
-      rule2 = λ k. release (told fate.Rule2 k).direct.mine;
-      rule3 = λ k. release (told fate.Rule3 k).direct.mine;
-      rule3_bubble = λ k. release (told fate.Rule3Bubble k).direct.mine;
-      tested = λ k.
-          let m = has_source s a from x (told fate.SuspiciousTest k).direct.mine in
-          (tests (own_address a.qualification) (value_in x).packet.src (nonce_from w) (address_is a (source_in x) r m.qualified) m.source refl, tt);
-    })
+module _ (bubbled : Ip6 → Ep → Type 0) (carried : Ep → List ℕ → Type 0) (s : Settings) where
+  released : (a : Standing) (after : Phase) (from : Ep) (x : List ℕ) (es : List Entry) → IsReady a (source_in x) es → HasSource s a from x → ((bytes : List ℕ) → WasHandedIn es (source_in x) bytes → carried from bytes)
+      → AllByRecursion (MaySend bubbled carried s a.qualification after (source_in x)) (releases from (known_in a).waiting)
+  released a after from x es r h may =
+      let waiting = subst (λ to. AllByRecursion (λ y. IsOwnTo a.qualification.address to y × WasHandedIn es to y) (known_in a).waiting) (given_back (source_in x) (value_in x).packet.src h.source) r.waiting in
+      carried_each bubbled carried s a.qualification after (source_in x) from (known_in a).waiting
+      (both (IsOwnTo a.qualification.address (source_in x)) (WasHandedIn es (source_in x)) (λ y. IsOwnTo a.qualification.address (source_in x) y × carried from y) (known_in a).waiting (λ y own given. (own, may y given)) waiting)
+
+  answered_to : (q : Qualification) (after : Phase) (own p : Ip6) (o : Option Ep) → ((to : Ep) → o ≡ Some to → bubbled p to) → q.address ≡ Some own
+      → AllByRecursion (MaySend bubbled carried s q after (Some p)) (map (direct_bubble own p) (option_to_list o))
+  answered_to q after own p None may is = tt
+  answered_to q after own p (Some to) may is = (bubbles own p to is refl (may to refl) refl, tt)
+
+  pub of_datagram : (a : Standing) (after : Phase) (from : Ep) (x : List ℕ) (w : Words) (es : List Entry) → IsReady a (source_in x) es → MayAnswer bubbled carried from x es (reception_fate s a from x)
+      → AllByRecursion (MaySend bubbled carried s a.qualification after (source_in x)) (reception s a from x w).sends
+  unfolding reception
+  of_datagram a after from x w es r may =
+      let f = reception_fate s a from x in
+      let h = heard s a.qualification from (value_in x) in
+      let told : (g : Fate) → f ≡ g → ReceivedOnlyIf g (seen s a from x) h = λ g k. subst (λ i. ReceivedOnlyIf i (seen s a from x) h) k (reception_is_warranted s a from x) in
+      let release = λ (m : IsForClient (seen s a from x)). released a after from x es r (has_source s a from x m) may.releases in
+      by_reception (MaySend bubbled carried s a.qualification after (source_in x)) s a from x (value_in x) w f (record {
+        answered = λ k.
+            let m = has_source s a from x (told fate.Indirect k).mine in
+            subst (λ peer. AllByRecursion (MaySend bubbled carried s a.qualification after peer) (answers_bubble s a (value_in x)).sends) (sym m.source)
+            (answered_to a.qualification after (own_address a.qualification) (value_in x).packet.src (origin_in (value_in x).lead) (may.answer k) (address_is a (source_in x) es r m.qualified));
+        rule1 = λ k. release (told fate.Rule1 k).direct.mine;
+        rule1_bubble = λ k. release (told fate.Rule1Bubble k).direct.mine;
+        rule2 = λ k. release (told fate.Rule2 k).direct.mine;
+        rule3 = λ k. release (told fate.Rule3 k).direct.mine;
+        rule3_bubble = λ k. release (told fate.Rule3Bubble k).direct.mine;
+        tested = λ k.
+            let m = has_source s a from x (told fate.SuspiciousTest k).direct.mine in
+            (tests (own_address a.qualification) (value_in x).packet.src (nonce_from w) (address_is a (source_in x) es r m.qualified) m.source refl, tt);
+      })

@@ -8,40 +8,51 @@ use Rattle.td_base.specs.declared.endpoint.Ep.{Ep}
 use Rattle.teredo_addr.specs.Teredo.{unspecified, is_teredo, server_in, has_cone, embedded}
 use Rattle.teredo_node.specs.Sends.{releases}
 use Rattle.teredo_node.specs.Words.{nonce_from}
-use Rattle.teredo_node.specs.Journal.{Words}
+use Rattle.teredo_node.specs.Step.{Send}
+use Rattle.teredo_node.specs.Journal.{Entry, Words}
 use Rattle.qualify.specs.declared.settings.Settings.{Settings}
 use Rattle.qualify.specs.declared.phase.Phase.{Phase}
 use Rattle.qualify.specs.Qualification.{Qualification}
 use Rattle.qualify.specs.Solicitations.{is_qualified, own_address}
 use Rattle.client_rules.specs.Standing.{Standing, known_in}
 use Rattle.client_rules.specs.Tries.{both_bubbles, tries_by, try_sends}
-use Rattle.client_rules.specs.Epochs.{IsOwnTo}
+use Rattle.client_rules.specs.Epochs.{IsOwnTo, WasHandedIn}
 use Rattle.client_rules.specs.Sendings.{IsSending, bubbles, tests, carries}
 use Rattle.client_rules.proofs.Addressed.{own_is}
 
-pub carried : (s : Settings) (q : Qualification) (after : Phase) (peer : Option Ip6) (to : Ep) (xs : List (List ℕ)) → AllByRecursion (IsOwnTo q.address peer) xs → AllByRecursion (IsSending s q after peer) (releases to xs)
-carried s q after peer to [] a = tt
-carried s q after peer to (x ∷ xs) a = (carries to x a.0 refl, carried s q after peer to xs a.1)
+-- where bubbles may go, and packets
+module _ (bubbled : Ip6 → Ep → Type 0) (carried : Ep → List ℕ → Type 0) (s : Settings) (q : Qualification) (after : Phase) where
+  abbrev pub MaySend : Option Ip6 → Send → Type 0
+  MaySend peer = IsSending s q after peer bubbled carried
 
-two_bubbles : (cone : Bool) (s : Settings) (q : Qualification) (after : Phase) (own p : Ip6) → q.address ≡ Some own → AllByRecursion (IsSending s q after (Some p)) (both_bubbles cone own p)
-two_bubbles true s q after own p is = (bubbles own p (server_ep (server_in p)) is refl refl, tt)
-two_bubbles false s q after own p is = (bubbles own p (embedded p) is refl refl, (bubbles own p (server_ep (server_in p)) is refl refl, tt))
+  pub carried_each : (peer : Option Ip6) (to : Ep) (xs : List (List ℕ)) → AllByRecursion (λ x. IsOwnTo q.address peer x × carried to x) xs → AllByRecursion (MaySend peer) (releases to xs)
+  carried_each peer to [] a = tt
+  carried_each peer to (x ∷ xs) a = (carries to x a.0.0 a.0.1 refl, carried_each peer to xs a.1)
 
-tried_by : (teredo : Bool) (s : Settings) (q : Qualification) (after : Phase) (own p : Ip6) (w : Words) → q.address ≡ Some own → AllByRecursion (IsSending s q after (Some p)) (tries_by teredo s own p w)
-tried_by true s q after own p w is = two_bubbles (has_cone own) s q after own p is
-tried_by false s q after own p w is = (tests own p (nonce_from w) is refl refl, tt)
+  -- a try at p sends bubbles to these two
+  pub record MayTry (p : Ip6) : Type 0 where
+    pub direct : bubbled p (embedded p)
+    pub indirect : bubbled p (server_ep (server_in p))
 
-pub tried : (s : Settings) (q : Qualification) (after : Phase) (own p : Ip6) (w : Words) → q.address ≡ Some own → AllByRecursion (IsSending s q after (Some p)) (try_sends s own p w)
-unfolding try_sends
-tried s q after own p w is = tried_by (is_teredo p) s q after own p w is
+  two_bubbles : (cone : Bool) (own p : Ip6) → MayTry p → q.address ≡ Some own → AllByRecursion (MaySend (Some p)) (both_bubbles cone own p)
+  two_bubbles true own p may is = (bubbles own p (server_ep (server_in p)) is refl may.indirect refl, tt)
+  two_bubbles false own p may is = (bubbles own p (embedded p) is refl may.direct refl, (bubbles own p (server_ep (server_in p)) is refl may.indirect refl, tt))
+
+  tried_by : (teredo : Bool) (own p : Ip6) (w : Words) → MayTry p → q.address ≡ Some own → AllByRecursion (MaySend (Some p)) (tries_by teredo s own p w)
+  tried_by true own p w may is = two_bubbles (has_cone own) own p may is
+  tried_by false own p w may is = (tests own p (nonce_from w) is refl refl, tt)
+
+  pub tried : (own p : Ip6) (w : Words) → MayTry p → q.address ≡ Some own → AllByRecursion (MaySend (Some p)) (try_sends s own p w)
+  unfolding try_sends
+  tried own p w may is = tried_by (is_teredo p) own p w may is
 
 -- THE ADDRESS
 
--- what the journal says of an address and of what waits for this peer
-pub record IsReady (a : Standing) (peer : Option Ip6) : Type 0 where
+-- what the journal with these entries of its epoch says of an address and of what waits for this peer
+pub record IsReady (a : Standing) (peer : Option Ip6) (es : List Entry) : Type 0 where
   pub addressed : is_some a.qualification.address ≡ is_qualified a.qualification.phase
-  pub waiting : AllByRecursion (IsOwnTo a.qualification.address (Some (unwrap_or peer unspecified))) (known_in a).waiting
+  pub waiting : AllByRecursion (λ x. IsOwnTo a.qualification.address (Some (unwrap_or peer unspecified)) x × WasHandedIn es (Some (unwrap_or peer unspecified)) x) (known_in a).waiting
 
-pub address_is : (a : Standing) (peer : Option Ip6) → IsReady a peer → is_qualified a.qualification.phase ≡ true → a.qualification.address ≡ Some (own_address a.qualification)
+pub address_is : (a : Standing) (peer : Option Ip6) (es : List Entry) → IsReady a peer es → is_qualified a.qualification.phase ≡ true → a.qualification.address ≡ Some (own_address a.qualification)
 unfolding own_address
-address_is a peer r qual = own_is a.qualification.address (r.addressed ∙ qual)
+address_is a peer es r qual = own_is a.qualification.address (r.addressed ∙ qual)

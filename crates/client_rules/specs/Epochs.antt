@@ -1,6 +1,6 @@
 -- What every journal of a client says: of its address, of the packets that wait, and of where it trusts (RFC 4380, sections
 -- 5.2.1, 5.2.3 and 5.2.4).
-use Rattle.std.specs.Prelude.{◌≡◌, ◌≢◌, ℕ, true, false, List, Option, Some, is_some, IfSome}
+use Rattle.std.specs.Prelude.{◌≡◌, ◌≢◌, ℕ, true, false, List, Contains, Option, Some, is_some, IfSome}
 use Rattle.std.specs.List.{AllByRecursion}
 use Rattle.td_base.specs.declared.ipv6.Ip6.{Ip6}
 use Rattle.td_base.specs.declared.endpoint.Ep.{Ep}
@@ -8,7 +8,7 @@ use Rattle.teredo_addr.specs.Teredo.{is_teredo, embedded}
 use Rattle.ipv6_packet.specs.Reads.{is_packet, is_big, fields_in}
 use Rattle.bubble.specs.Bubbles.{is_bubble}
 use Rattle.teredo_node.specs.declared.fate.Fate.TheVariants as fate
-use Rattle.teredo_node.specs.Journal.{Entry, Journal, with_entry, epoch}
+use Rattle.teredo_node.specs.Journal.{given, Entry, Journal, with_entry, epoch}
 use Rattle.peer_list.specs.Peers.{known}
 use Rattle.qualify.specs.declared.settings.Settings.{Settings}
 use Rattle.qualify.specs.Qualification.{qualification}
@@ -56,6 +56,21 @@ NoneQueued = (s : Settings) (j : Journal) → IsJournal s j → is_qualified (qu
 abbrev pub WaitingIsOwn : Type 0
 WaitingIsOwn = (s : Settings) (j : Journal) (n : ℕ) (p : Ip6) → IsJournal s j
     → AllByRecursion (IsOwnTo (qualification s j).address (Some p)) (known (mentions j.entries) n p).waiting
+
+-- an entry for x, which the host handed in for p and which was to wait
+pub record WasQueued (p : Option Ip6) (x : List ℕ) (e : Entry) : Type 0 where
+  pub given : e.input ≡ given x
+  pub peer : e.peer ≡ p
+  pub queued : e.step.fate ≡ fate.Queued
+
+-- one of these is such an entry
+abbrev pub WasHandedIn : List Entry → Option Ip6 → List ℕ → Type 0
+WasHandedIn es p x = (e : Entry) × Contains es e × WasQueued p x e
+
+-- what waits for p was handed in for p since the last change of address
+abbrev pub WaitingWasHandedIn : Type 0
+WaitingWasHandedIn = (s : Settings) (j : Journal) (n : ℕ) (p : Ip6) → IsJournal s j
+    → AllByRecursion (WasHandedIn (epoch j.entries) (Some p)) (known (mentions j.entries) n p).waiting
 
 -- TRUST
 

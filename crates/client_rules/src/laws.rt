@@ -1,8 +1,9 @@
 //! Laws of every journal of a client.
 ghost use Rattle.client_rules.specs.Laws.{FateOfReception, FateOfTransmission, ReceptionIsWarranted, TransmissionIsWarranted, NextMentions, TriesTouch, JournalIsTried, JournalHasFew};
-ghost use Rattle.client_rules.specs.Epochs.{QualifiedHasAddress, QualifiedStays, QueuedIsOwn, NoneQueued, WaitingIsOwn, TrustedIsEmbedded};
+ghost use Rattle.client_rules.specs.Epochs.{QualifiedHasAddress, QualifiedStays, QueuedIsOwn, NoneQueued, WaitingIsOwn, WaitingWasHandedIn, TrustedIsEmbedded};
 ghost use Rattle.client_rules.specs.Sendings.{EachSend};
 ghost use Rattle.client_rules.specs.Handed.{EachHanded};
+ghost use Rattle.client_rules.specs.MadeSends.{EachSendIsBytes};
 
 /// What is done with a datagram has the fate of its line.
 pub fn fate_of_reception()
@@ -79,6 +80,13 @@ pub fn waiting_is_own()
     peer_list::one_entry();
 }
 
+/// Each packet that waits was handed in by the client's host, for the one for which it waits, since the last change of address.
+pub fn waiting_was_handed_in()
+    ensures { WaitingWasHandedIn }
+{
+    peer_list::one_entry();
+}
+
 /// Another client is trusted at the endpoint that its address embeds, and nowhere else.
 pub fn trusted_is_embedded()
     ensures { TrustedIsEmbedded }
@@ -100,6 +108,7 @@ pub fn each_send()
 {
     qualified_has_address();
     waiting_is_own();
+    waiting_was_handed_in();
     peer_list::first_waits();
 }
 
@@ -109,4 +118,22 @@ pub fn each_handed()
 {
     qualified_has_address();
     trusted_is_embedded();
+}
+
+/// What a client sends are bytes, where what it was given are.
+pub fn each_send_is_bytes()
+    ensures { EachSendIsBytes }
+{
+    bubble::payload_is_spelled();
+    ipv6_packet::packet_is_spelled();
+    teredo_addr::teredo_tells();
+    qualify::turns();
+    qualify::turns_at_start();
+    peer_list::first_waits();
+    peer_list::one_entry();
+    bubble::bubble_reads_back();
+    teredo_addr::link_local_tells();
+    bubble::message_is_carried();
+    icmp6::message_is_bytes();
+    ipv6_packet::packet_is_bytes();
 }

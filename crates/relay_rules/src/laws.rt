@@ -1,6 +1,7 @@
 //! Laws of every journal of a relay.
 ghost use Rattle.relay_rules.specs.Laws.{FateOfReception, FateOfTransmission, ReceptionIsWarranted, TransmissionIsWarranted, TriesTouch, JournalIsTried, ConeIsQuiet, WaitingIsForeign, TrustedIsEmbedded, JournalHasFew};
 ghost use Rattle.relay_rules.specs.Sendings.{EachSend};
+ghost use Rattle.relay_rules.specs.ForeignSends.{EachSendIsForeign};
 
 /// What is done with a datagram has the fate of its line.
 pub fn fate_of_reception()
@@ -69,4 +70,18 @@ pub fn each_send()
     ensures { EachSend }
 {
     waiting_is_foreign();
+}
+
+/// What a relay sends are bytes, of packets from outside Teredo, where what it was given are bytes.
+pub fn each_send_is_foreign()
+    ensures { EachSendIsForeign }
+{
+    bubble::payload_is_spelled();
+    ipv6_packet::packet_is_spelled();
+    ipv6_packet::packet_is_bytes();
+    peer_list::first_waits();
+    peer_list::one_entry();
+    bubble::bubble_reads_back();
+    bubble::packet_is_payload();
+    each_send();
 }

@@ -27,12 +27,13 @@
 //! | what was seen where a fate is given | `specs/Warrants.antt` |
 //! | what holds of every journal | `specs/Laws.antt` |
 //! | what is sent | `specs/Sendings.antt` |
+//! | that what is sent are bytes, of packets from outside Teredo | `specs/ForeignSends.antt` |
 #![tactic(auto)]
 
 mod laws;
 
 pub use laws::{
-    cone_is_quiet, each_send, fate_of_reception, fate_of_transmission, journal_has_few,
-    journal_is_tried, reception_is_warranted, transmission_is_warranted, tries_touch,
-    trusted_is_embedded, waiting_is_foreign,
+    cone_is_quiet, each_send, each_send_is_foreign, fate_of_reception, fate_of_transmission,
+    journal_has_few, journal_is_tried, reception_is_warranted, transmission_is_warranted,
+    tries_touch, trusted_is_embedded, waiting_is_foreign,
 };

@@ -6,3 +6,5 @@ pub mod Worked
 pub mod RowFates
 pub mod Outcomes
 pub mod ReadsBack
+pub mod Warranted
+pub mod Outgoing

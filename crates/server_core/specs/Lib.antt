@@ -6,3 +6,5 @@ pub mod Answers
 pub mod Bounds
 pub mod Endpoint
 pub mod Laws
+pub mod RuleWarrants
+pub mod Outgoing

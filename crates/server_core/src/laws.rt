@@ -1,5 +1,7 @@
 //! What holds of every datagram that a server is given.
 ghost use Rattle.server_core.specs.Laws.{FateOfRow, OneOutput, OneOutcome, AdvertReadsBack, ForwardedReadsBack, EachTellsWhereTo};
+ghost use Rattle.server_core.specs.RuleWarrants.{RuleIsWarranted};
+ghost use Rattle.server_core.specs.Outgoing.{EachIsOutgoing, EachIsFromClient, EachOutputIsMade};
 
 /// A datagram has a fate of the server's table.
 pub fn fate_of_row()
@@ -42,4 +44,36 @@ pub fn each_tells_where_to()
     bubble::payload_is_spelled();
     advert_reads_back();
     forwarded_reads_back();
+}
+
+/// A datagram has a rule that isn't a drop only by the line of that rule.
+pub fn rule_is_warranted()
+    ensures { RuleIsWarranted }
+{}
+
+/// Each datagram that a server sends is an advertisement to whoever asked, or a packet that goes on.
+pub fn each_is_outgoing()
+    ensures { EachIsOutgoing }
+{}
+
+/// A packet with a Teredo source goes on only from the endpoint that the source embeds.
+pub fn each_is_from_client()
+    ensures { EachIsFromClient }
+{
+    advert_reads_back();
+    forwarded_reads_back();
+    teredo_addr::link_local_tells();
+    bubble::payload_is_spelled();
+}
+
+/// What a server sends are bytes, and not too many.
+pub fn each_output_is_made()
+    ensures { EachOutputIsMade }
+{
+    advert_reads_back();
+    forwarded_reads_back();
+    teredo_addr::link_local_tells();
+    bubble::payload_is_spelled();
+    indications::lead_is_bytes();
+    ipv6_packet::packet_is_bytes();
 }

@@ -1,3 +1,5 @@
 pub mod Counts
 pub mod NameLemmas
 pub mod Numbering
+pub mod Lists
+pub mod AtNodes

@@ -4,3 +4,4 @@ pub mod Names
 pub mod NodeNames
 pub mod Rules
 pub mod Named
+pub mod NodeRules

@@ -19,9 +19,11 @@
 //! | `node` | a node of any kind | `specs/Topology.antt` |
 //! | `topology` | `Topology` | `specs/Rows.antt`, `Topology.antt`, `Rules.antt`, `NodeNames.antt` |
 //! | `places`, `names` | who is where, and who has a name | `specs/Topology.antt`, `Named.antt` |
+//! | `laws` | the rules, read at one node; no address is that of two | `specs/NodeRules.antt` |
 #![tactic(auto)]
 
 mod client_node;
+mod laws;
 mod names;
 mod nat_node;
 mod native_node;
@@ -35,6 +37,7 @@ mod topology;
 pub use client_node::{
     ClientNode, REFRESH_HIGH_MS, REFRESH_LOW_MS, REFRESH_MAX_MS, REFRESH_MIN_MS,
 };
+pub use laws::{apart, each_node, taken};
 pub use names::{client_named, host_named, nat_named, node_named, relay_named, server_named};
 pub use nat_node::{IDLE_MAX_MS, NatNode};
 pub use native_node::NativeNode;

@@ -1,0 +1,193 @@
+-- What a relay sends, by the fates.
+use Rattle.std.proofs.Common.{◌≡◌, ◌≤◌, ℕ, ◌+◌, Bool, true, false, cond, List, [], ◌∷◌, map, length, Option, Some, None, refl, sym, ap, subst, ◌∙◌, arith}
+use Rattle.std.specs.Prelude.{IfSome, unwrap_or, nat_le, Ok, Result, Err}
+use Rattle.std.specs.List.{AllByRecursion}
+use Rattle.std.proofs.lemmas.Bool.{ltb-false}
+use Rattle.td_base.specs.Bytes.{IsBytes}
+use Rattle.td_base.specs.Ip6.{IsIp6}
+use Rattle.td_base.specs.declared.endpoint.Ep.{Ep}
+use Rattle.td_base.specs.declared.ipv6.Ip6.{Ip6}
+use Rattle.ipv6_packet.specs.declared.header.TheConstants.{HEADER, PACKET_MAX}
+use Rattle.ipv6_packet.specs.declared.fault.PacketFault.{PacketFault}
+use Rattle.ipv6_packet.specs.Packets.{Fields, packet_at}
+use Rattle.ipv6_packet.specs.Reads.{is_big, is_packet, fields_in, is_ok_packet, fields_or}
+use Rattle.ipv6_packet.specs.Laws.{PacketIsSpelled, PacketIsBytes}
+use Rattle.teredo_addr.specs.Teredo.{unspecified, is_teredo, embedded}
+use Rattle.bubble.specs.Payloads.{Value}
+use Rattle.bubble.specs.Reads.{value_in}
+use Rattle.bubble.specs.Laws.{PayloadIsSpelled, BubbleReadsBack, PacketIsPayload}
+use Rattle.bubble.specs.PacketsIn.{source_in, destination_in}
+use Rattle.teredo_node.specs.declared.fate.Fate.{Fate}
+use Rattle.teredo_node.specs.declared.fate.Fate.TheVariants as fate
+use Rattle.teredo_node.specs.Step.{Send}
+use Rattle.teredo_node.specs.Sends.{releases}
+use Rattle.teredo_node.specs.Journal.{Input, arrived, given, from_six, ticked, Entry}
+use Rattle.peer_list.specs.Waiting.{Listing}
+use Rattle.peer_list.specs.Judged.{is_spent, is_barred, due_of}
+use Rattle.peer_list.specs.Laws.{FirstWaits, OneEntry}
+use Rattle.relay_rules.specs.Standing.{RelaySettings, Standing, known_in, standing_at, standing_of}
+use Rattle.relay_rules.specs.Bearings.{bearing_of, mention, mentions}
+use Rattle.relay_rules.specs.Laws.{IsForeignTo}
+use Rattle.relay_rules.specs.Sendings.{IsSending, bubbles, carries, EachSend}
+use Rattle.relay_rules.specs.Reception.{seen, reception_row, reception_step, reception}
+use Rattle.relay_rules.specs.Transmission.{given as given_to, bubble_to, queues, transmission_row, transmission_step, transmission}
+use Rattle.relay_rules.specs.Ticks.{due_at, peer_of_due, tries_peer, tick}
+use Rattle.relay_rules.specs.Journals.{first_peer, relay_in, relay_six, relay_tick, relay_entry, IsJournal}
+use Rattle.teredo_node.specs.MadeInputs.{IsMadeInput, AreMadeInputs}
+use Rattle.bubble.proofs.MadeInputs.{source_is, destination_is, packet_is, packet_came, destination_made}
+use Rattle.peer_list.proofs.MadeMentions.{IsMadeMention, waiting_is, listed_peer}
+use Rattle.relay_rules.specs.ForeignSends.{IsMadeRelay, IsForeignSend, EachSendIsForeign}
+
+pub record RelayLaws : Type 0 where
+  pub payload : PayloadIsSpelled
+  pub packet : PacketIsSpelled
+  pub long : PacketIsBytes
+  pub waits : FirstWaits
+  pub one : OneEntry
+  pub bubble : BubbleReadsBack
+  pub whole : PacketIsPayload
+  pub sends : EachSend
+
+-- MENTIONS
+
+record IsMadeEntry (e : Entry) : Type 0 where
+  peer : IfSome e.peer IsIp6
+  packet : IfSome e.packet IsBytes
+
+queues_of : (f : Fate) (e : Entry) → IfSome e.packet IsBytes → IfSome (bearing_of f e).queues IsBytes
+queues_of fate.Queued e h = h
+queues_of _ e h = tt
+
+mentioned : (es : List Entry) → AllByRecursion IsMadeEntry es → AllByRecursion IsMadeMention (map mention es)
+mentioned [] a = tt
+mentioned (e ∷ es) a = (record { peer = a.0.peer; packet = queues_of e.step.fate e a.0.packet }, mentioned es a.1)
+
+all_mentions : (es : List Entry) → AllByRecursion IsMadeEntry es → AllByRecursion IsMadeMention (mentions es)
+unfolding mentions
+all_mentions es a = mentioned es a
+
+-- ENTRIES
+
+due_peer : FirstWaits → (j : List Entry) (n : ℕ) → AllByRecursion IsMadeMention (mentions j) → IfSome (peer_of_due (due_at n (first_peer j n))) IsIp6
+due_peer law j n a = by (first_peer j n) refl where
+  by : (o : Option Listing) → first_peer j n ≡ o → IfSome (peer_of_due (due_at n o)) IsIp6
+  by None e = tt
+  by (Some l) e = at (nat_le (due_of l.peer) n) where
+    at : (b : Bool) → IfSome (peer_of_due (cond b (Some l) None)) IsIp6
+    at true = listed_peer l.who n (mentions j) a ((law (mentions j) n l e).listed)
+    at false = tt
+
+entry_is : RelayLaws → (s : RelaySettings) (j : List Entry) (n : ℕ) (input : Input) → AllByRecursion IsMadeMention (mentions j) → IsMadeInput input → IsMadeEntry (relay_entry s j n input)
+unfolding relay_in relay_six relay_tick
+entry_is laws s j n (arrived from x) a h = record { peer = source_is laws.payload x h.1; packet = packet_came x h.1 }
+entry_is laws s j n (from_six x) a h = record { peer = destination_is laws.packet x h; packet = packet_is x h }
+entry_is laws s j n (given x) a h = record { peer = tt; packet = tt }
+entry_is laws s j n ticked a h = record { peer = due_peer laws.waits j n a; packet = tt }
+
+entries_are : RelayLaws → (s : RelaySettings) (es : List Entry) → IsJournal s es → AreMadeInputs es → AllByRecursion IsMadeEntry es
+entries_are laws s [] is a = tt
+entries_are laws s (e ∷ es) is a =
+    let rest = entries_are laws s es is.1 a.1 in
+    (subst IsMadeEntry (sym is.0.is) (entry_is laws s es e.moment e.input (all_mentions es rest) a.0), rest)
+
+-- STEPS
+
+abbrev AreBytesIn : List Send → Type 0
+AreBytesIn xs = AllByRecursion (λ (x : Send). IsBytes x.bytes) xs
+
+releases_are : (to : Ep) (xs : List (List ℕ)) → AllByRecursion IsBytes xs → AreBytesIn (releases to xs)
+releases_are to [] a = tt
+releases_are to (x ∷ xs) a = (a.0, releases_are to xs a.1)
+
+received : (a : Standing) (x : List ℕ) (v : Value) (f : Fate) → AllByRecursion IsBytes (known_in a).waiting → AreBytesIn (reception_step a x v f).sends
+received a x v fate.FromClientBubble w = releases_are (embedded v.packet.src) (known_in a).waiting w
+received a x v fate.FromClient w = releases_are (embedded v.packet.src) (known_in a).waiting w
+received a x v fate.Unserved w = releases_are (embedded v.packet.src) (known_in a).waiting w
+received a x v _ w = tt
+
+bubble_is : BubbleReadsBack → (s : RelaySettings) (p : Ip6) → IsIp6 s.six → IsIp6 p → IsBytes (bubble_to s p).bytes
+unfolding bubble_to
+bubble_is law s p six to = (law s.six p six to).bytes
+
+queued : BubbleReadsBack → (barred : Bool) (s : RelaySettings) (p : Ip6) → IsIp6 s.six → IsIp6 p → AreBytesIn (queues barred s p).sends
+queued law true s p six to = tt
+queued law false s p six to = (bubble_is law s p six to, tt)
+
+sent : BubbleReadsBack → (s : RelaySettings) (a : Standing) (x : List ℕ) (p : Ip6) (f : Fate) → IsIp6 s.six → IsIp6 p → IsBytes x → AreBytesIn (transmission_step s a x p f).sends
+sent law s a x p fate.Sent six to h = (h, tt)
+sent law s a x p fate.SentCone six to h = (h, tt)
+sent law s a x p fate.Queued six to h = queued law (is_barred a.moment (known_in a)) s p six to
+sent law s a x p _ six to h = tt
+
+ticks_of : BubbleReadsBack → (s : RelaySettings) (n : ℕ) (due : Option Listing) → IsIp6 s.six → IfSome (peer_of_due due) IsIp6 → AreBytesIn (tick s n due).sends
+ticks_of law s n None six peer = tt
+ticks_of law s n (Some l) six peer = by (is_spent n l.peer) where
+  by : (b : Bool) → AreBytesIn (tries_peer b s l).sends
+  by true = tt
+  by false = (bubble_is law s l.who six peer, tt)
+
+waits_of : OneEntry → (j : List Entry) (n : ℕ) (p : Option Ip6) → AllByRecursion IsMadeMention (mentions j) → AllByRecursion IsBytes (known_in (standing_of j n p)).waiting
+unfolding standing_at
+waits_of one j n p a = waiting_is one (mentions j) n (unwrap_or p unspecified) a
+
+of_entry : RelayLaws → (s : RelaySettings) (j : List Entry) (n : ℕ) (input : Input) → IsMadeRelay s → AllByRecursion IsMadeMention (mentions j) → IsMadeInput input → AreBytesIn (relay_entry s j n input).step.sends
+unfolding relay_in relay_six relay_tick reception transmission
+of_entry laws s j n (arrived from x) made a h = received (standing_of j n (source_in x)) x (value_in x) (reception_row (seen s (standing_of j n (source_in x)) from x)) (waits_of laws.one j n (source_in x) a)
+of_entry laws s j n (from_six x) made a h =
+    sent laws.bubble s (standing_of j n (destination_in x)) x (fields_in x).dst (transmission_row (given_to s (standing_of j n (destination_in x)) x)) made.six (destination_made laws.packet x h) h
+of_entry laws s j n (given x) made a h = tt
+of_entry laws s j n ticked made a h = ticks_of laws.bubble s n (due_at n (first_peer j n)) made.six (due_peer laws.waits j n a)
+
+-- WHOSE PACKETS
+
+same_fields : (x : List ℕ) (p : Fields) → packet_at x ≡ Ok p → fields_in x ≡ p
+unfolding fields_in
+same_fields x p e = ap fields_or e
+
+read_as : (x : List ℕ) → is_packet x ≡ true → packet_at x ≡ Ok (fields_in x)
+unfolding is_packet fields_in
+read_as x h = by (packet_at x) h where
+  by : (r : Result Fields PacketFault) → is_ok_packet r ≡ true → r ≡ Ok (fields_or r)
+  by (Ok p) g = refl
+  by (Err f) g = absurd cc
+
+short_is : (p : Fields) → is_big p ≡ false → HEADER + length p.body ≤ PACKET_MAX
+unfolding is_big
+short_is p h = ltb-false PACKET_MAX (HEADER + length p.body) h
+
+foreign_packet : RelayLaws → (to : Option Ip6) (x : List ℕ) → IsBytes x → IsForeignTo to x → is_teredo (value_in x).packet.src ≡ false
+foreign_packet laws to x fits f =
+    let spelled = laws.packet x fits f.well_formed in
+    let len = (laws.long (fields_in x) spelled.0).long in
+    let same : length x ≡ HEADER + length (fields_in x).body = ap length spelled.1 ∙ len in
+    let most = short_is (fields_in x) f.short in
+    let reads = laws.whole x (fields_in x) fits (omega (arith, same, most)) (read_as x f.well_formed) in
+    ap (λ (v : Value). is_teredo v.packet.src) reads.value ∙ f.native
+
+of_send : RelayLaws → (s : RelaySettings) (peer : Option Ip6) (x : Send) → IsMadeRelay s → IfSome peer IsIp6 → IsSending s peer x → IsBytes x.bytes → IsForeignSend x
+unfolding bubble_to
+of_send laws s peer x made there (bubbles p of is) fits =
+    let to : IsIp6 p = subst (λ (o : Option Ip6). IfSome o IsIp6) of there in
+    let reads = laws.bubble s.six p made.six to in
+    record {
+      bytes = fits;
+      foreign = ap (λ (z : Send). is_teredo (value_in z.bytes).packet.src) is ∙ ap (λ (v : Value). is_teredo v.packet.src) reads.payload.value ∙ made.native;
+    }
+of_send laws s peer x made there (carries p bytes of foreign is) fits =
+    let same : x.bytes ≡ bytes = ap (λ (z : Send). z.bytes) is in
+    record {
+      bytes = fits;
+      foreign = ap (λ (y : List ℕ). is_teredo (value_in y).packet.src) same ∙ foreign_packet laws peer bytes (subst IsBytes same fits) foreign;
+    }
+
+both : (s : RelaySettings) (peer : Option Ip6) (xs : List Send) → ((x : Send) → IsSending s peer x → IsBytes x.bytes → IsForeignSend x) → AllByRecursion (IsSending s peer) xs → AreBytesIn xs → AllByRecursion IsForeignSend xs
+both s peer [] f a b = tt
+both s peer (x ∷ xs) f a b = (f x a.0 b.0, both s peer xs f a.1 b.1)
+
+pub each_send_is_foreign : RelayLaws → EachSendIsForeign
+each_send_is_foreign laws s j e is made h a =
+    let rest = all_mentions j (entries_are laws s j is.1 a) in
+    let same : e ≡ relay_entry s j e.moment e.input = is.0.is in
+    let one = subst IsMadeEntry (sym same) (entry_is laws s j e.moment e.input rest h) in
+    both s e.peer e.step.sends (λ x sending fits. of_send laws s e.peer x made one.peer sending fits) (laws.sends s j e is)
+    (subst (λ (z : Entry). AreBytesIn z.step.sends) (sym same) (of_entry laws s j e.moment e.input made rest h))

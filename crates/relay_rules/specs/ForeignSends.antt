@@ -1,0 +1,23 @@
+-- What a relay sends are bytes, of packets from outside Teredo, where what it was given are bytes.
+use Rattle.std.specs.Prelude.{◌≡◌, ◌∷◌, true, false, List}
+use Rattle.std.specs.List.{AllByRecursion}
+use Rattle.td_base.specs.Bytes.{IsBytes}
+use Rattle.td_base.specs.Ip6.{IsIp6}
+use Rattle.teredo_addr.specs.Teredo.{is_teredo}
+use Rattle.bubble.specs.Reads.{value_in}
+use Rattle.teredo_node.specs.Step.{Send}
+use Rattle.teredo_node.specs.Journal.{Entry}
+use Rattle.relay_rules.specs.Standing.{RelaySettings}
+use Rattle.relay_rules.specs.Journals.{IsJournal}
+use Rattle.teredo_node.specs.MadeInputs.{IsMadeInput, AreMadeInputs}
+
+pub record IsMadeRelay (s : RelaySettings) : Type 0 where
+  pub six : IsIp6 s.six
+  pub native : is_teredo s.six ≡ false
+
+pub record IsForeignSend (send : Send) : Type 0 where
+  pub bytes : IsBytes send.bytes
+  pub foreign : is_teredo (value_in send.bytes).packet.src ≡ false
+
+abbrev pub EachSendIsForeign : Type 0
+EachSendIsForeign = (s : RelaySettings) (j : List Entry) (e : Entry) → IsJournal s (e ∷ j) → IsMadeRelay s → IsMadeInput e.input → AreMadeInputs j → AllByRecursion IsForeignSend e.step.sends

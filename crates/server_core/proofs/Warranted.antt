@@ -1,0 +1,66 @@
+-- What was seen of a datagram where it has a rule.
+use Rattle.std.proofs.Common.{◌≡◌, Bool, true, false, refl}
+use Rattle.std.proofs.lemmas.Bool.{not-false, not-true}
+use Rattle.td_base.specs.declared.endpoint.Ep.{Ep}
+use Rattle.bubble.specs.Payloads.{Value}
+use Rattle.teredo_node.proofs.FirstLines.{by_lines}
+use Rattle.server_core.specs.declared.server.ServerSettings.{ServerSettings}
+use Rattle.server_core.specs.declared.rules.Rule.{Rule}
+use Rattle.server_core.specs.Rules.{Seen, seen, rule_of, datagram_lines, packet_lines, destination_lines, last_line}
+use Rattle.server_core.specs.RuleWarrants.{IsSound, IsAnswered, GoesOn, RuledOnlyIf, RuleIsWarranted}
+use Rattle.std.specs.Prelude.{◌++◌}
+use Rattle.teredo_node.specs.Rows.{first_line}
+
+ruled : (a : Seen) → RuledOnlyIf (first_line (datagram_lines a ++ (packet_lines a ++ destination_lines a)) last_line) a
+ruled a = by_lines (λ (r : Rule). RuledOnlyIf r a) (datagram_lines a ++ (packet_lines a ++ destination_lines a)) last_line (
+  (λ _. tt),
+  (λ unkeyed. (
+    (λ _. tt),
+    (λ short. (
+      (λ _. tt),
+      (λ kind. (
+        (λ _. tt),
+        (λ well_formed. (
+          (λ _. tt),
+          (λ usable. (
+            (λ _. tt),
+            (λ foreign. (
+              (λ _. tt),
+              (λ others.
+                  let sound : IsSound a = record { unkeyed = unkeyed; short = short; kind = kind; well_formed = well_formed; usable = usable; foreign = foreign; for_others = others } in (
+                    (λ solicitation. record { sound = sound; solicitation = solicitation }),
+                    (λ no_solicitation. (
+                      (λ _. tt),
+                      (λ unforged. (
+                        (λ _. tt),
+                        (λ ours. (
+                          (λ _. tt),
+                          (λ usable_dest. (
+                            (λ _. tt),
+                            (λ unlooped.
+                                let on : GoesOn a = record { sound = sound; no_solicitation = no_solicitation; unforged = unforged; ours = ours; usable_dest = usable_dest; unlooped = unlooped } in (
+                                  (λ own. record { on = on; for_client = own }),
+                                  (λ others_too. (
+                                    (λ teredo. record { on = on; for_others = others_too; for_teredo = teredo }),
+                                    (λ native. (
+                                      (λ global. record { on = on; native = native; global = global }),
+                                      (λ _. tt),
+                                    )),
+                                  )),
+                                )),
+                          )),
+                        )),
+                      )),
+                    )),
+                  )),
+            )),
+          )),
+        )),
+      )),
+    )),
+  )),
+)
+
+pub rule_is_warranted : RuleIsWarranted
+unfolding rule_of
+rule_is_warranted s from v = ruled (seen s from v)

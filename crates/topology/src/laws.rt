@@ -1,0 +1,17 @@
+//! Laws of every topology.
+ghost use Rattle.topology.specs.NodeRules.{AddressesAreApart, OwnAddressIsTaken, EachNodeKeepsRules};
+
+/// No address is that of two nodes.
+pub fn apart()
+    ensures { AddressesAreApart }
+{}
+
+/// A node's address is one of the topology's.
+pub fn taken()
+    ensures { OwnAddressIsTaken }
+{}
+
+/// Each node keeps the rules.
+pub fn each_node()
+    ensures { EachNodeKeepsRules }
+{}
