@@ -56,7 +56,7 @@ sendable s a x es r out =
 pub record MayGo (bubbled : Ip6 → Ep → Type 0) (carried : Ep → List ℕ → Type 0) (a : Standing) (x : List ℕ) (f : Fate) : Type 0 where
   pub direct : bubbled (fields_in x).dst (embedded (fields_in x).dst)
   pub indirect : bubbled (fields_in x).dst (server_ep (server_in (fields_in x).dst))
-  pub sent : f ≡ fate.Sent → (to : Ep) → (known_in a).trusted ≡ Some to → carried to x
+  pub sent : f ≡ fate.Sent → destination_in x ≡ Some (fields_in x).dst → (to : Ep) → (known_in a).trusted ≡ Some to → carried to x
   pub sent_cone : f ≡ fate.SentCone → carried (embedded (fields_in x).dst) x
 
 module _ (bubbled : Ip6 → Ep → Type 0) (carried : Ep → List ℕ → Type 0) (s : Settings) where
@@ -77,7 +77,9 @@ module _ (bubbled : Ip6 → Ep → Type 0) (carried : Ep → List ℕ → Type 0
       let f = transmission_row (given_to s a x) in
       let told : (g : Fate) → f ≡ g → SentOnlyIf g (given_to s a x) = λ g k. subst (λ i. SentOnlyIf i (given_to s a x)) k (transmission_is_warranted s a x) in
       by_transmission (MaySend bubbled carried s a.qualification after (destination_in x)) s a x (fields_in x).dst w f (record {
-        sent = λ k. sent_at a.qualification after (destination_in x) x (known_in a).trusted (may.sent k) (sendable s a x es r (told fate.Sent k).out).own;
+        sent = λ k.
+            let m = sendable s a x es r (told fate.Sent k).out in
+            sent_at a.qualification after (destination_in x) x (known_in a).trusted (may.sent k m.to) m.own;
         sent_cone = λ k. (carries (embedded (fields_in x).dst) x (sendable s a x es r (told fate.SentCone k).out).own (may.sent_cone k) refl, tt);
         queued = λ k.
             let m = sendable s a x es r (told fate.Queued k).out in

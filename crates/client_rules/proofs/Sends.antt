@@ -66,7 +66,7 @@ may_go s j n x w =
     record {
       direct = direct refl;
       indirect = indirect refl;
-      sent = λ k to trusted. to_trusted refl (is ∙ k) trusted;
+      sent = λ k dst to trusted. to_trusted refl (is ∙ k) (subst (λ (p : Option Ip6). (known (mentions j.entries) n (unwrap_or p unspecified)).trusted ≡ Some to) dst trusted);
       sent_cone = λ k. to_cone refl (is ∙ k) refl;
     }
 
