@@ -31,7 +31,8 @@ use Rattle.client_rules.specs.Ticks.{Due, asks, tries, nothing, due_at, tries_pe
 use Rattle.client_rules.specs.Journals.{client_in, client_out, client_tick, first_peer, client_entry, IsJournal}
 use Rattle.client_rules.specs.Warrants.{IsDirect, IsTrusted, IsEmbedded, ReceivedOnlyIf}
 use Rattle.client_rules.specs.Epochs.{QualifiedHasAddress, TrustedIsEmbedded}
-use Rattle.client_rules.specs.Handed.{IsHanded, HandsOver, EachHanded}
+use Rattle.client_rules.specs.Handed.{IsHanded, HandsOver, HandingRule, rule1, rule3, EachHanded}
+use Rattle.client_rules.proofs.Fates.{fate_of_reception}
 use Rattle.client_rules.proofs.Received.{reception_is_warranted}
 use Rattle.client_rules.proofs.Addressed.{own_is}
 
@@ -89,15 +90,17 @@ sent_there : (s : Settings) (a : Standing) (from : Ep) (x : List ℕ) → IsEmbe
 unfolding seen
 sent_there s a from x t = sym (same_ep-true (embedded (value_in x).packet.src) from ((and_parts (is_teredo (value_in x).packet.src) (same_ep (embedded (value_in x).packet.src) from) t.embedded).1))
 
-of_datagram : (s : Settings) (a : Standing) (from : Ep) (x : List ℕ) (w : Words) → IsReady a (source_in x) → is_some (reception s a from x w).handed ≡ true → IsHanded s a.qualification.address from x (reception s a from x w).handed
+of_datagram : (s : Settings) (a : Standing) (from : Ep) (x : List ℕ) (w : Words) → IsReady a (source_in x) → is_some (reception s a from x w).handed ≡ true
+    → IsHanded s a.qualification.address from x (reception s a from x w).handed × HandingRule (reception s a from x w).fate
 unfolding reception
 of_datagram s a from x w r =
     let f = reception_fate s a from x in
+    let is = fate_of_reception s a from x w in
     let told : (g : Fate) → f ≡ g → ReceivedOnlyIf g (seen s a from x) (heard s a.qualification from (value_in x)) =
     λ g k. subst (λ i. ReceivedOnlyIf i (seen s a from x) (heard s a.qualification from (value_in x))) k (reception_is_warranted s a from x) in
-    by_reception (IsHanded s a.qualification.address from x) s a from x (value_in x) w f
-    (λ k. let t = told fate.Rule1 k in handed s a from x r t.direct t.kind (trusted_there s a from x r t))
-    (λ k. let t = told fate.Rule3 k in handed s a from x r t.direct t.kind (λ _. sent_there s a from x t))
+    by_reception (λ o. IsHanded s a.qualification.address from x o × HandingRule (reception s a from x w).fate) s a from x (value_in x) w f
+    (λ k. let t = told fate.Rule1 k in (handed s a from x r t.direct t.kind (trusted_there s a from x r t), rule1 (is ∙ k)))
+    (λ k. let t = told fate.Rule3 k in (handed s a from x r t.direct t.kind (λ _. sent_there s a from x t), rule3 (is ∙ k)))
 
 -- PACKETS AND TICKS
 
@@ -127,14 +130,14 @@ ready has trust s j n peer a = record { addressed = has s j a; trusted = λ at t
 
 -- an entry hands over only so
 abbrev HandsSo : Settings → Journal → Entry → Type 0
-HandsSo s j e = is_some e.step.handed ≡ true → HandsOver s (qualification s j).address e.input e.step.handed
+HandsSo s j e = is_some e.step.handed ≡ true → HandsOver s (qualification s j).address e.input e.step.handed × HandingRule e.step.fate
 
 of_entry : QualifiedHasAddress → TrustedIsEmbedded → (s : Settings) (j : Journal) (n : ℕ) (input : Input) (w : Words) → IsJournal s j → HandsSo s j (client_entry s j n input w)
 unfolding client_in client_out client_tick standing_at
 of_entry has trust s j n (arrived from x) w a = of_datagram s (standing_of s j n (source_in x)) from x w (ready has trust s j n (source_in x) a)
-of_entry has trust s j n (given x) w a = λ h. false≢true (sym (of_packet s (standing_of s j n (destination_in x)) x w) ∙ h)
-of_entry has trust s j n ticked w a = λ h. false≢true (sym (of_due s n (qualification s j) w (due_at n (qualification s j) (first_peer j n))) ∙ h)
-of_entry has trust s j n (from_six x) w a = λ h. false≢true h
+of_entry has trust s j n (given x) w a = λ h. absurd (false≢true (sym (of_packet s (standing_of s j n (destination_in x)) x w) ∙ h))
+of_entry has trust s j n ticked w a = λ h. absurd (false≢true (sym (of_due s n (qualification s j) w (due_at n (qualification s j) (first_peer j n))) ∙ h))
+of_entry has trust s j n (from_six x) w a = λ h. absurd (false≢true h)
 
 pub each_handed : QualifiedHasAddress → TrustedIsEmbedded → EachHanded
 each_handed has trust s j e a = subst (λ (x : Entry). HandsSo s j x) (sym a.0.is) (of_entry has trust s j e.moment e.input a.0.words a.1)

@@ -7,6 +7,8 @@ use Rattle.teredo_addr.specs.Teredo.{is_teredo, embedded}
 use Rattle.ipv6_packet.specs.Reads.{is_big}
 use Rattle.bubble.specs.Bubbles.{is_bubble}
 use Rattle.bubble.specs.Reads.{is_payload, value_in}
+use Rattle.teredo_node.specs.declared.fate.Fate.{Fate}
+use Rattle.teredo_node.specs.declared.fate.Fate.TheVariants as fate
 use Rattle.teredo_node.specs.Step.{rest_of}
 use Rattle.teredo_node.specs.Journal.{Input, arrived, given, from_six, ticked, Entry, Journal, with_entry}
 use Rattle.qualify.specs.declared.settings.Settings.{Settings}
@@ -32,7 +34,12 @@ HandsOver s own (given x) span = ⊥
 HandsOver s own (from_six x) span = ⊥
 HandsOver s own ticked span = ⊥
 
--- so is each that is handed over
+-- the rules that hand over
+pub data HandingRule (f : Fate) : Type 0 where
+  rule1 : f ≡ fate.Rule1 → HandingRule f
+  rule3 : f ≡ fate.Rule3 → HandingRule f
+
+-- so is each that is handed over, by one of these rules
 abbrev pub EachHanded : Type 0
 EachHanded = (s : Settings) (j : Journal) (e : Entry) → IsJournal s (with_entry j e) → is_some e.step.handed ≡ true
-    → HandsOver s (qualification s j).address e.input e.step.handed
+    → HandsOver s (qualification s j).address e.input e.step.handed × HandingRule e.step.fate
