@@ -1,9 +1,8 @@
 //! Numbers, addresses and endpoints as text; lines, sums; the blocks of addresses.
 use crate::vectors::CLIENT;
-use icmp6::ones_sum;
 use std::test::Fail;
 use td_base::{
-    BadText, Ep, Ip4, LineBuf, Policy, Room, is_global, print_ep, print_ip4, print_ip6,
+    BadText, Ep, Ip4, LineBuf, Policy, Room, is_global, ones_sum, print_ep, print_ip4, print_ip6,
     print_number, print_text, read_ep, read_ip4, read_ip6, read_number,
 };
 

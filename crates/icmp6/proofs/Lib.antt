@@ -1,5 +1,4 @@
-pub mod Folding
-pub mod SumLaws
+pub mod SumSteps
 pub mod WalkSteps
 pub mod Steps
 pub mod OptionLaws

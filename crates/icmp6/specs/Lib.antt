@@ -1,4 +1,3 @@
-pub mod Sums
 pub mod Checksum
 pub mod Options
 pub mod Message

@@ -1,6 +1,6 @@
 //! ICMPv6 messages: echoes, Router Solicitations and Router Advertisements, and any other as it is.
 //!
-//! Standards: RFC 1071 (the checksum's sum), RFC 4443 sections 2.3 (the checksum), 4.1 and 4.2 (echoes), RFC 4861
+//! Standards: RFC 4443 sections 2.3 (the checksum), 4.1 and 4.2 (echoes), RFC 4861
 //! sections 4.1, 4.2 and 4.6 (router messages and options), 6.1.1 and 6.1.2 (which of these are valid).
 //!
 //! # What the layer above may rely on
@@ -26,14 +26,12 @@
 //! | `opt` | `Opt` | `specs/Blocks.antt` |
 //! | `iter`, `lend` | `Options`, `options` | `specs/Blocks.antt` |
 //! | `walk` | whole options, one behind the other | `specs/Options.antt` |
-//! | `halves` | the one's complement sum | `specs/Sums.antt` |
 //! | `sum` | the checksum | `specs/Checksum.antt` |
 //! | `laws` | messages as lists of bytes | `specs/Laws.antt` |
 //! | `numbers` | types, lengths and limits | |
 #![tactic(auto)]
 
 mod fault;
-mod halves;
 mod iter;
 mod laws;
 mod lend;
@@ -46,7 +44,6 @@ mod walk;
 mod writer;
 
 pub use fault::IcmpFault;
-pub use halves::ones_sum;
 pub use iter::Options;
 pub use laws::{message_is_bytes, message_reads_back, options_read_back, spelling_is_read};
 pub use lend::options;

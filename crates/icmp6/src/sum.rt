@@ -2,9 +2,8 @@
 ghost use Rattle.std.specs.Prelude.{◌≡◌, ◌≤◌, length};
 ghost use Rattle.icmp6.specs.Checksum.{checksum_of};
 
-use crate::halves::ones_sum;
 use crate::numbers::{HEAD_LEN, ICMPV6};
-use td_base::{Ip6, field16};
+use td_base::{Ip6, field16, ones_sum};
 
 /// The right checksum of a message, whatever its checksum field says: RFC 4443, section 2.3.
 #[inline(always)]
@@ -13,8 +12,8 @@ pub fn checksum(src: Ip6, dst: Ip6, body: &[u8]) -> u16
     requires most { length body.now ≤ 65535 }
     ensures { result ≡ checksum_of src dst body.now }
 {
-    let sum = ones_sum(&src.0, u32::from(ICMPV6) + body.len() as u32);
-    let sum = ones_sum(&dst.0, u32::from(sum));
-    let sum = u32::from(sum) + u32::from(field16(body, 0));
-    !ones_sum(&body[HEAD_LEN..], sum)
+    let source = u32::from(ones_sum(&src.0, 0));
+    let addresses = u32::from(ones_sum(&dst.0, source));
+    let head = body.len() as u32 + u32::from(ICMPV6) + u32::from(field16(body, 0));
+    !ones_sum(&body[HEAD_LEN..], addresses + head)
 }

@@ -1,6 +1,7 @@
 pub mod AddressGroups
 pub mod BytesLemmas
 pub mod Decimals
+pub mod Folding
 pub mod GroupLemmas
 pub mod Halting
 pub mod Ip4Lemmas
@@ -9,5 +10,6 @@ pub mod NumberLemmas
 pub mod OrderLemmas
 pub mod ResultLaws
 pub mod SpellingLemmas
+pub mod SumLemmas
 pub mod WholeLemmas
 pub mod WriteLemmas

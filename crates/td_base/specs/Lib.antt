@@ -1,5 +1,6 @@
 pub mod Bytes
 pub mod Results
+pub mod Sums
 pub mod Ip4
 pub mod Ip6
 pub mod Ep

@@ -1,12 +1,13 @@
 //! Addresses and endpoints, their texts, and numbers in bytes.
 //!
 //! Standards: RFC 4291 (IPv6 addresses), RFC 5952 section 4 (their text), RFC 4380 section 4 (which IPv4
-//! addresses may be embedded). Our choices: `docs/DECISIONS.md`, "Addresses".
+//! addresses may be embedded), RFC 1071 (the checksums' sum). Our choices: `docs/DECISIONS.md`, "Addresses".
 //!
 //! # What the layer above may rely on
 //!
 //! - A value prints as one text, which reads back as the value. Of an IPv6 address each other spelling is read as it, too.
 //! - A text that is refused is refused at its place: the length of the longest front that begins an accepted text.
+//! - `ones_sum` is the sum of all Internet checksums, whole or in steps.
 //! - `==` on addresses and endpoints is an opaque test with laws (`specs/Ip4.antt`, `Ip6.antt`, `Ep.antt`).
 //! - No call takes memory.
 //!
@@ -24,6 +25,7 @@
 //! | `side` | `Side` | `specs/Side.antt` |
 //! | `refusals` | `BadText`, `Room`, `NoMemory` | |
 //! | `fields` | numbers in network order, and addresses, at a place | `specs/Bytes.antt` |
+//! | `halves` | the one's complement sum | `specs/Sums.antt` |
 //! | `line` | `LineBuf`, a line that is being made | `specs/Prints.antt` |
 //! | `numeral`, `ipv4_text`, `endpoint_text` | the texts of numbers, IPv4 addresses and endpoints | `specs/Texts.antt` |
 //! | `ipv6_text`, `ipv6_reader` | the texts of IPv6 addresses, printed and read | `specs/Ip6Texts.antt` |
@@ -36,6 +38,7 @@ mod datagram;
 mod endpoint;
 mod endpoint_text;
 mod fields;
+mod halves;
 mod ipv4;
 mod ipv4_text;
 mod ipv6;
@@ -55,6 +58,7 @@ pub use datagram::DATAGRAM_MAX;
 pub use endpoint::{Ep, TEREDO_PORT};
 pub use endpoint_text::{print_ep, read_ep};
 pub use fields::{field16, field32, field64, ip4_at, ip6_at, put, put8, put16, put32, put64};
+pub use halves::ones_sum;
 pub use ipv4::Ip4;
 pub use ipv4_text::{print_ip4, read_ip4};
 pub use ipv6::Ip6;

@@ -1,9 +1,18 @@
-use Rattle.std.proofs.Common.{◌∙◌, arith}
+use Rattle.std.proofs.Common.{◌∙◌, ◌-◌, ◌++◌, ℕ, ap, arith, length-append}
 use Rattle.std.proofs.lemmas.List.{take_rest}
-use Rattle.icmp6.proofs.SumLaws.{checksum_in_steps}
+use Rattle.td_base.specs.Sums.{SumsUp}
+use Rattle.td_base.proofs.SumLemmas.{nothing_summed, sum_stands, added}
+use Rattle.icmp6.specs.Checksum.{checksum_of, summed_head}
+use Rattle.icmp6.proofs.SumSteps.{head_sum, head_whole}
 use Rattle.icmp6.proofs.sum.checksum.Goals as goal
 
 pub returns : goal.returns
+unfolding checksum_of
 returns c =
-    checksum_in_steps c.args.src c.args.dst c.args.body.now _ _ _ _ _ _ _ _ (omega arith) (omega arith) c.requires.least (omega arith)
-    c.from.ensures c.ones_sum-sum.ensures c.from-2.ensures c.ones_sum-sum-2.ensures c.from-3.ensures (c.from-4.ensures ∙ c.field16.ensures) (take_rest c.args.body.now 4) c.ones_sum.ensures
+    let src = c.args.src.0 in
+    let dst = c.args.dst.0 in
+    let body = c.args.body.now in
+    let source : SumsUp c.from-source.result src = sum_stands _ src (omega arith) (c.from-source.ensures ∙ c.ones_sum.ensures.goes_on _ nothing_summed) in
+    let addresses : SumsUp c.from-addresses.result (src ++ dst) = sum_stands _ (src ++ dst) (omega (arith, length-append src dst)) (c.from-addresses.ensures ∙ c.ones_sum-2.ensures.goes_on src source) in
+    let head = added _ (summed_head body) addresses (head_whole body c.requires.least) (omega (arith, c.from.ensures, c.from-2.ensures, c.field16.ensures, head_sum body c.requires.least (omega arith))) in
+    rw (← take_rest body 4) (ap (λ (n : ℕ). 65535 - n) (c.ones_sum-3.ensures.goes_on _ head))

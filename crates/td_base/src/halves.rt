@@ -1,8 +1,8 @@
 //! The one's complement sum of bytes: RFC 1071.
-ghost use Rattle.std.specs.Prelude.{◌≡◌, ◌+◌};
-ghost use Rattle.icmp6.specs.Sums.{halves_sum, folded};
+ghost use Rattle.std.specs.Prelude.{◌≡◌, ℕ, ◌+◌, List, ◌++◌};
+ghost use Rattle.td_base.specs.Sums.{halves_sum, folded, SumsUp};
 
-use td_base::{field16, field64};
+use crate::fields::{field16, field64};
 
 /// How many bytes are summed at a time.
 const WORD: usize = 8;
@@ -40,10 +40,12 @@ fn fold_wide(sum: u128) -> u16
 }
 
 /// The folded one's complement sum of the bytes as 16-bit numbers, a last odd byte being the high
-/// half, and of `start`. It adds eight bytes at a time, since a carry out of 16 bits counts as it does
-/// in the fold at the end (RFC 1071, section 2).
+/// half, and of `start`: a front's sum, where the bytes go on. It adds eight bytes at a time, since a
+/// carry out of 16 bits counts as it does in the fold at the end (RFC 1071, section 2).
 pub fn ones_sum(bytes: &[u8], start: u32) -> u16
-    ensures { result ≡ folded (start + halves_sum bytes.now) }
+    ensures sum { result ≡ folded (start + halves_sum bytes.now) }
+    // In steps: where start is the sum of a front, it is the sum of the front and the bytes.
+    ensures goes_on { (front : List ℕ) → SumsUp start front → result ≡ folded (halves_sum (front ++ bytes.now)) }
 {
     let mut sum = u128::from(start);
     let mut rest = bytes;
