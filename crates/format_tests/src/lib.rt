@@ -19,11 +19,14 @@
 //! | `addresses` | `teredo_addr` |
 //! | `leads` | `indications` |
 //! | `payloads` | `bubble` |
+//! | `datagrams` | `td_ipv4` |
 //! | `pages` | `show` |
 #![tactic(auto)]
 
 #[cfg(test)]
 mod addresses;
+#[cfg(test)]
+mod datagrams;
 #[cfg(test)]
 mod leads;
 #[cfg(test)]

@@ -28,6 +28,12 @@ pub(crate) const HOST: Ep = Ep {
     port: 40_000,
 };
 
+/// The server's endpoint.
+pub(crate) const SERVER: Ep = Ep {
+    ip: Ip4([192, 0, 2, 1]),
+    port: 3544,
+};
+
 /// fe80::63bf:39cc:9bf8, its link-local address.
 pub(crate) const HOST_LINK: Ip6 = Ip6([
     0xfe, 0x80, 0, 0, 0, 0, 0, 0, 0, 0, 0x63, 0xbf, 0x39, 0xcc, 0x9b, 0xf8,

@@ -4,11 +4,10 @@ use Rattle.std.specs.Prelude.{slice_index, IfOk}
 use Rattle.std.proofs.lemmas.Bool.{ltb-false, eqb-true, eqb-false, not-false}
 use Rattle.std.proofs.lemmas.List.{drop_more}
 use Rattle.byteorder.specs.Endian.{big_bytes}
-use Rattle.byteorder.specs.Numbers.{big_from-lt}
 use Rattle.td_base.specs.Bytes.{IsBytes, number_at}
 use Rattle.td_base.specs.Results.{◌>>=◌, Gives}
 use Rattle.td_base.specs.declared.ipv6.Ip6.{Ip6}
-use Rattle.td_base.proofs.BytesLemmas.{IsBytes-drop, cut_2, cut_4}
+use Rattle.td_base.proofs.BytesLemmas.{two_fits, four_fits, cut_2, cut_4}
 use Rattle.td_base.proofs.ResultLaws.{guard_ok, bind_ok, chosen}
 use Rattle.icmp6.specs.declared.fault.IcmpFault.{IcmpFault}
 use Rattle.icmp6.specs.declared.fault.IcmpFault.TheVariants.{Short, Sum}
@@ -20,13 +19,6 @@ use Rattle.icmp6.specs.Grammar.{MessageBytes}
 use Rattle.icmp6.proofs.Steps.{ok_is, ok_len, ok_hop, ok_code, ok_source}
 use Rattle.icmp6.proofs.OptionLaws.{none_left, options_found}
 use Rattle.icmp6.proofs.AgainLaws.{typed}
-
--- a number of two or four bytes
-two_fits : (place : ℕ) (x : List ℕ) → IsBytes x → number_at place 2 x < 2 ^ 16
-two_fits place x fits = big_from-lt 0 2 (drop place x) (IsBytes-drop place x fits)
-
-four_fits : (place : ℕ) (x : List ℕ) → IsBytes x → number_at place 4 x < 2 ^ 32
-four_fits place x fits = big_from-lt 0 4 (drop place x) (IsBytes-drop place x fits)
 
 -- type, code, checksum and the rest
 head_is : (kind code sum : ℕ) (rest x : List ℕ) → IsBytes x → 4 ≤ length x → slice_index x 0 ≡ kind → slice_index x 1 ≡ code → number_at 2 2 x ≡ sum → drop 4 x ≡ rest → x ≡ kind ∷ code ∷ (big_bytes 2 sum ++ rest)

@@ -1,7 +1,7 @@
 -- The sum of joined lists of bytes, taken in steps.
 use Rattle.std.proofs.Common.{◌≡◌, ℕ, suc, zero, ◌+◌, ◌%◌, ◌^◌, ◌<◌, List, [], ◌∷◌, ◌++◌, length, refl, sym, ap, ◌∙◌, arith, length-append}
 use Rattle.byteorder.specs.Endian.{big_bytes}
-use Rattle.td_base.specs.Sums.{halves_sum, folded, SumsUp}
+use Rattle.td_base.specs.Sums.{halves_sum, folded, StandsForSum}
 
 pub halves_sum-append : (a b : List ℕ) → length a % 2 ≡ 0 → halves_sum (a ++ b) ≡ halves_sum a + halves_sum b
 halves_sum-append [] b even = omega arith
@@ -20,22 +20,22 @@ folded_again (suc a) b =
     rw (left, right) (ap suc same)
 
 -- no bytes have been summed
-pub nothing_summed : SumsUp 0 []
+pub nothing_summed : StandsForSum 0 []
 nothing_summed = record { whole = refl; same = refl }
 
 -- bytes are summed behind a front
-pub front_summed : {n r : ℕ} {front : List ℕ} (bytes : List ℕ) → SumsUp n front → r ≡ folded (n + halves_sum bytes) → r ≡ folded (halves_sum (front ++ bytes))
+pub front_summed : {n r : ℕ} {front : List ℕ} (bytes : List ℕ) → StandsForSum n front → r ≡ folded (n + halves_sum bytes) → r ≡ folded (halves_sum (front ++ bytes))
 front_summed {n} {r} {front} bytes so_far is =
     let joined : halves_sum front + halves_sum bytes ≡ halves_sum (front ++ bytes) = sym (halves_sum-append front bytes so_far.whole) in
     is ∙ sym (folded_again n (halves_sum bytes)) ∙ ap (λ (k : ℕ). folded (k + halves_sum bytes)) so_far.same ∙ folded_again (halves_sum front) (halves_sum bytes) ∙ ap folded joined
 
 -- whole halves are added behind a front, by their plain sum
-pub added : {n : ℕ} {front : List ℕ} (m : ℕ) (bytes : List ℕ) → SumsUp n front → length bytes % 2 ≡ 0 → m ≡ halves_sum bytes → SumsUp (n + m) (front ++ bytes)
+pub added : {n : ℕ} {front : List ℕ} (m : ℕ) (bytes : List ℕ) → StandsForSum n front → length bytes % 2 ≡ 0 → m ≡ halves_sum bytes → StandsForSum (n + m) (front ++ bytes)
 added {n} {front} m bytes so_far whole is =
     record { whole = omega (arith, length-append front bytes, so_far.whole); same = front_summed bytes so_far (ap (λ (k : ℕ). folded (n + k)) is) }
 
 -- the folded sum of whole halves stands for it
-pub sum_stands : (n : ℕ) (x : List ℕ) → length x % 2 ≡ 0 → n ≡ folded (halves_sum x) → SumsUp n x
+pub sum_stands : (n : ℕ) (x : List ℕ) → length x % 2 ≡ 0 → n ≡ folded (halves_sum x) → StandsForSum n x
 sum_stands n x whole is =
     let twice : folded (folded (halves_sum x)) ≡ folded (halves_sum x) = ap folded (omega arith) ∙ folded_again (halves_sum x) 0 ∙ ap folded (omega arith) in
     record { whole = whole; same = ap folded is ∙ twice }

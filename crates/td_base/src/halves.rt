@@ -1,6 +1,6 @@
 //! The one's complement sum of bytes: RFC 1071.
 ghost use Rattle.std.specs.Prelude.{◌≡◌, ℕ, ◌+◌, List, ◌++◌};
-ghost use Rattle.td_base.specs.Sums.{halves_sum, folded, SumsUp};
+ghost use Rattle.td_base.specs.Sums.{halves_sum, folded, StandsForSum};
 
 use crate::fields::{field16, field64};
 
@@ -45,7 +45,7 @@ fn fold_wide(sum: u128) -> u16
 pub fn ones_sum(bytes: &[u8], start: u32) -> u16
     ensures sum { result ≡ folded (start + halves_sum bytes.now) }
     // In steps: where start is the sum of a front, it is the sum of the front and the bytes.
-    ensures goes_on { (front : List ℕ) → SumsUp start front → result ≡ folded (halves_sum (front ++ bytes.now)) }
+    ensures goes_on { (front : List ℕ) → StandsForSum start front → result ≡ folded (halves_sum (front ++ bytes.now)) }
 {
     let mut sum = u128::from(start);
     let mut rest = bytes;

@@ -1,0 +1,5 @@
+pub mod Datagrams
+pub mod Tests
+pub mod Faults
+pub mod Checksums
+pub mod Laws
