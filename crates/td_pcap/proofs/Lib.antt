@@ -1,0 +1,4 @@
+pub mod OrderLaws
+pub mod HeadLaws
+pub mod RecordLaws
+pub mod StepLaws

@@ -1,0 +1,4 @@
+pub mod Orders
+pub mod Heads
+pub mod Records
+pub mod Captures
