@@ -9,7 +9,7 @@ use Rattle.td_base.proofs.BytesLemmas.{cut_4}
 use Rattle.td_base.proofs.ResultLaws.{guard_ok, guard_err, chosen}
 use Rattle.td_pcap.specs.declared.head.Head.{Head}
 use Rattle.td_pcap.specs.declared.fault.CapFault.{CapFault}
-use Rattle.td_pcap.specs.declared.fault.CapFault.TheVariants.{Cut, Magic, Version, Link}
+use Rattle.td_pcap.specs.declared.fault.CapFault.TheVariants.{Cut, Magic, Version, Link, Big}
 use Rattle.td_pcap.specs.Orders.{ordered_bytes, ordered_number}
 use Rattle.td_pcap.specs.Heads.{IsHead, BeginsWithHead, BeginsWithMagic, IsHeadFault, magic_bytes, magic_of, head_bytes, form_shown, head_of, head_behind, head_by, file_head}
 use Rattle.td_pcap.proofs.OrderLaws.{length-ordered_bytes, ordered_number-lt, number_in_front, number_stands, more_behind, stands_2, stands_4, joined}
@@ -29,7 +29,7 @@ no_form = None
 abbrev pub head : Head → Result Head CapFault
 head h = Ok h
 
-head_is : (a b : Head) → head a ≡ head b → a ≡ b
+pub head_is : (a b : Head) → head a ≡ head b → a ≡ b
 head_is a b e = cc
 
 pub head_len : (h : Head) → length (head_bytes h) ≡ 24
@@ -171,10 +171,18 @@ head_found x h fits read =
     let a = guard_ok (ltb (length x) 24) (Cut 0) (head_by (form_shown (number_at 0 4 x)) x) h read in
     by_form x (form_shown (number_at 0 4 x)) h refl fits (ltb-false _ _ a.0) a.1
 
--- a spelling is read, whatever follows
-pub head_again : (h : Head) (rest : List ℕ) → IsHead h → file_head (head_bytes h ++ rest) ≡ Ok h
-unfolding file_head head_behind head_of head_bytes
-head_again h rest fits =
+-- what a head that x begins with shows
+pub record ShownHead (h : Head) (x : List ℕ) : Type 0 where
+  pub magic : BeginsWithMagic h.little h.nano x
+  pub major : ordered_number h.little 4 2 x ≡ 2
+  pub minor : ordered_number h.little 6 2 x ≡ 4
+  pub link : ordered_number h.little 20 4 x ≡ 101
+  pub is : head_of h.little h.nano x ≡ h
+  pub long : 24 ≤ length x
+
+shown : (h : Head) (rest : List ℕ) → IsHead h → ShownHead h (head_bytes h ++ rest)
+unfolding head_of head_bytes
+shown h rest fits =
     let l = h.little in
     let x : List ℕ = head_bytes h ++ rest in
     let g : List ℕ = ordered_bytes l 4 101 in
@@ -189,20 +197,38 @@ head_again h rest fits =
     let at_12 : drop 12 x ≡ e ++ rest = more_behind l 8 4 12 h.zone x e rest refl at_8 in
     let at_16 : drop 16 x ≡ f ++ rest = more_behind l 12 4 16 h.figs x f rest refl at_12 in
     let at_20 : drop 20 x ≡ g ++ rest = more_behind l 16 4 20 h.snap x g rest refl at_16 in
-    let major : ordered_number l 4 2 x ≡ 2 = number_in_front l 4 2 2 x c rest (omega arith) at_4 in
-    let minor : ordered_number l 6 2 x ≡ 4 = number_in_front l 6 2 4 x d rest (omega arith) at_6 in
     let zone = number_in_front l 8 4 h.zone x e rest fits.zone at_8 in
     let figs = number_in_front l 12 4 h.figs x f rest fits.figs at_12 in
     let snap = number_in_front l 16 4 h.snap x g rest fits.snap at_16 in
-    let link : ordered_number l 20 4 x ≡ 101 = number_stands l 20 4 101 x rest (omega arith) at_20 in
-    let front : take 4 x ≡ magic_bytes l h.nano = ap (take 4) (append_assoc (magic_bytes l h.nano) b rest) ∙ take_at (magic_bytes l h.nano) (b ++ rest) 4 (length-ordered_bytes l 4 (magic_of h.nano)) in
-    let long : ltb (length x) 24 ≡ false = le-ltb _ _ (omega (arith, length-append (head_bytes h) rest, head_len h)) in
-    let version : not (version_is l x) ≡ false = ap not (and_from _ _ (eq-eqb _ _ major) (eq-eqb _ _ minor)) in
-    cond-false _ _ _ long ∙ ap (λ (o : Option Form). head_by o x) (shown_by_magic l h.nano x front)
-    ∙ cond-false _ _ _ version ∙ cond-false _ _ _ (ap not (eq-eqb _ _ link)) ∙ ap head (same_head (head_of l h.nano x) h refl refl zone figs snap)
+    record {
+      magic = ap (take 4) (append_assoc (magic_bytes l h.nano) b rest) ∙ take_at (magic_bytes l h.nano) (b ++ rest) 4 (length-ordered_bytes l 4 (magic_of h.nano));
+      major = number_in_front l 4 2 2 x c rest (omega arith) at_4;
+      minor = number_in_front l 6 2 4 x d rest (omega arith) at_6;
+      link = number_stands l 20 4 101 x rest (omega arith) at_20;
+      is = same_head (head_of l h.nano x) h refl refl zone figs snap;
+      long = omega (arith, length-append (head_bytes h) rest, head_len h);
+    }
+
+pub begins_shown : (h : Head) (x : List ℕ) → BeginsWithHead h x → ShownHead h x
+begins_shown h x begins = subst (ShownHead h) (sym begins.bytes) (shown h begins.rest begins.fits)
+
+-- what shows a head is read as it
+read_shown : (h : Head) (x : List ℕ) → ShownHead h x → file_head x ≡ Ok h
+unfolding file_head head_behind
+read_shown h x s =
+    let l = h.little in
+    let long = s.long in
+    let enough : ltb (length x) 24 ≡ false = le-ltb _ _ (omega arith) in
+    let version : not (version_is l x) ≡ false = ap not (and_from _ _ (eq-eqb _ _ s.major) (eq-eqb _ _ s.minor)) in
+    cond-false _ _ _ enough ∙ ap (λ (o : Option Form). head_by o x) (shown_by_magic l h.nano x s.magic)
+    ∙ cond-false _ _ _ version ∙ cond-false _ _ _ (ap not (eq-eqb _ _ s.link)) ∙ ap head s.is
+
+-- a spelling is read, whatever follows
+pub head_again : (h : Head) (rest : List ℕ) → IsHead h → file_head (head_bytes h ++ rest) ≡ Ok h
+head_again h rest fits = read_shown h (head_bytes h ++ rest) (shown h rest fits)
 
 pub head_read : (h : Head) (x : List ℕ) → BeginsWithHead h x → file_head x ≡ Ok h
-head_read h x begins = ap file_head begins.bytes ∙ head_again h begins.rest begins.fits
+head_read h x begins = read_shown h x (begins_shown h x begins)
 
 fault_behind : (little nano : Bool) (x : List ℕ) (e : CapFault) → 24 ≤ length x → BeginsWithMagic little nano x → head_behind little nano x ≡ Err e → IsHeadFault e x
 unfolding head_behind
@@ -265,3 +291,24 @@ is_head x (Err e) fits given = tt
 pub is_fault : (x : List ℕ) (r : Result Head CapFault) → IsBytes x → r ≡ file_head x → IfErr r (λ e. IsHeadFault e x)
 is_fault x (Ok h) fits given = tt
 is_fault x (Err e) fits given = head_fault x e fits (sym given)
+
+-- bytes begin with one magic at most
+one_magic : (h : Head) (little nano : Bool) (x : List ℕ) → ShownHead h x → BeginsWithMagic little nano x → h.little ≡ little
+one_magic h little nano x s magic =
+    ap (λ (f : Form). f.0) (form_is (h.little, h.nano) (little, nano) (sym (shown_by_magic h.little h.nano x s.magic) ∙ shown_by_magic little nano x magic))
+
+-- what begins with a head has no fault of a head
+pub no_head_fault : (h : Head) (x : List ℕ) (e : CapFault) → ShownHead h x → IsHeadFault e x → ⊥
+no_head_fault h x (Cut at) s fault = let long = s.long in omega (arith, fault.1, long)
+no_head_fault h x (Magic said) s fault = fault.2 h.little h.nano s.magic
+no_head_fault h x (Version major minor) s fault =
+    let o = fault.1 in
+    let order = one_magic h o.little o.nano x s o.magic in
+    let two = o.major_is ∙ ap (λ (l : Bool). ordered_number l 4 2 x) (sym order) ∙ s.major in
+    let four = o.minor_is ∙ ap (λ (l : Bool). ordered_number l 6 2 x) (sym order) ∙ s.minor in
+    o.other two four
+no_head_fault h x (Link said) s fault =
+    let o = fault.1 in
+    let order = one_magic h o.little o.nano x s o.magic in
+    o.other (o.said_is ∙ ap (λ (l : Bool). ordered_number l 20 4 x) (sym order) ∙ s.link)
+no_head_fault h x (Big at said) s fault = fault

@@ -7,7 +7,7 @@ use Rattle.td_base.specs.Bytes.{IsBytes}
 use Rattle.td_base.proofs.BytesLemmas.{cut}
 use Rattle.td_base.proofs.ResultLaws.{guard_ok, guard_err, chosen}
 use Rattle.td_pcap.specs.declared.fault.CapFault.{CapFault}
-use Rattle.td_pcap.specs.declared.fault.CapFault.TheVariants.{Cut, Big}
+use Rattle.td_pcap.specs.declared.fault.CapFault.TheVariants.{Cut, Magic, Version, Link, Big}
 use Rattle.td_pcap.specs.Orders.{ordered_bytes, ordered_number}
 use Rattle.td_pcap.specs.Records.{Captured, IsCaptured, StandsAt, IsRecordFault, record_bytes, record_of, kept_said, next_record}
 use Rattle.td_pcap.proofs.OrderLaws.{length-ordered_bytes, ordered_number-lt, number_in_front, more_behind, stands_4}
@@ -100,7 +100,7 @@ step s = Ok s
 step_is : (a b : Step) → step a ≡ step b → a ≡ b
 step_is a b e = cc
 
-pair_is : (a b : Captured × ℕ) → step (Some a) ≡ step (Some b) → a ≡ b
+pub pair_is : (a b : Captured × ℕ) → step (Some a) ≡ step (Some b) → a ≡ b
 pair_is a b e = cc
 
 -- the three tests behind the end's
@@ -197,3 +197,30 @@ IsStep little at x s = IfSome s (λ p. StandsAt little p.0 at p.1 x)
 is_step : (little : Bool) (at : ℕ) (x : List ℕ) (s : Step) → IsBytes x → next_record little at x ≡ Ok s → IsStep little at x s
 is_step little at x None fits read = tt
 is_step little at x (Some p) fits read = record_found little at p.1 x p.0 fits read
+
+-- where a record stands there is no fault
+pub no_record_fault : (little : Bool) (at : ℕ) (x rest : List ℕ) (r : Captured) (e : CapFault) → IsCaptured r → at ≤ length x → drop at x ≡ record_bytes little r ++ rest → IsRecordFault little at e x → ⊥
+no_record_fault little at x rest r (Cut place) fits inside is fault =
+    let s = shown little at x rest r fits inside is in
+    let kept = s.kept in
+    let long = s.long in
+    elim fault.2 [
+      | inl head ↦ omega (arith, head, long)
+      | inr body ↦ omega (arith, body.2, kept, long)
+    ]
+no_record_fault little at x rest r (Big place said) fits inside is fault =
+    let s = shown little at x rest r fits inside is in
+    let kept = s.kept in
+    let small = fits.kept in
+    omega (arith, fault.2, fault.3, kept, small)
+no_record_fault little at x rest r (Magic said) fits inside is fault = fault
+no_record_fault little at x rest r (Version major minor) fits inside is fault = fault
+no_record_fault little at x rest r (Link said) fits inside is fault = fault
+
+-- a fault is before the end
+pub fault_inside : (little : Bool) (at : ℕ) (x : List ℕ) (e : CapFault) → IsRecordFault little at e x → at < length x
+fault_inside little at x (Cut place) fault = fault.1
+fault_inside little at x (Big place said) fault = omega (arith, fault.1)
+fault_inside little at x (Magic said) fault = absurd fault
+fault_inside little at x (Version major minor) fault = absurd fault
+fault_inside little at x (Link said) fault = absurd fault
