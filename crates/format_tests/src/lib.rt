@@ -19,12 +19,15 @@
 //! | `addresses` | `teredo_addr` |
 //! | `leads` | `indications` |
 //! | `payloads` | `bubble` |
+//! | `captures` | `td_pcap` |
 //! | `datagrams` | `td_ipv4` |
 //! | `pages` | `show` |
 #![tactic(auto)]
 
 #[cfg(test)]
 mod addresses;
+#[cfg(test)]
+mod captures;
 #[cfg(test)]
 mod datagrams;
 #[cfg(test)]

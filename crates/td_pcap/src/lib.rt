@@ -42,7 +42,9 @@ pub use head::{
     HEAD, Head, LINK_RAW, MAGIC_MICRO, MAGIC_MICRO_LITTLE, MAGIC_NANO, MAGIC_NANO_LITTLE, MAJOR,
     MINOR,
 };
-pub use laws::{capture_has_no_fault, capture_is_bytes, capture_is_one, head_reads_back, record_reads_back};
+pub use laws::{
+    capture_has_no_fault, capture_is_bytes, capture_is_one, head_reads_back, record_reads_back,
+};
 pub use reader::{next, read_head};
 pub use record::{KEPT_MAX, REC_HEAD, Rec};
 pub use writer::{write_head, write_rec};
