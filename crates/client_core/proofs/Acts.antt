@@ -16,7 +16,7 @@ use Rattle.teredo_node.specs.Journal.{Entry, Journal, is_changed, with_entry}
 use Rattle.peer_list.specs.Peers.{Peer}
 use Rattle.peer_list.specs.Laws.{after}
 use Rattle.peer_list.specs.Table.{known_to}
-use Rattle.peer_list.specs.Calls.{Updates, trusted_at, heard_at, tried_at, emptied}
+use Rattle.peer_list.specs.Calls.{Updates, trusted_at, heard_at, tried_at}
 use Rattle.peer_list.specs.Stands.{bears_nothing}
 use Rattle.qualify.specs.Turns.{turn, says_nothing}
 use Rattle.qualify.specs.Generator.{after_words}
@@ -85,10 +85,10 @@ rest_is x v is =
     ap (λ (n : ℕ). record { at = v.lead.at; len = n }) len
 
 abbrev pub heard : Client → ℕ → Value → Peer
-heard c n v = emptied (heard_at n (known_to c.peers n v.packet.src))
+heard c n v = heard_at n (known_to c.peers n v.packet.src)
 
 abbrev pub trusted : Client → ℕ → Ep → Value → Peer
-trusted c n from v = emptied (heard_at n (trusted_at n from (known_to c.peers n v.packet.src)))
+trusted c n from v = heard_at n (trusted_at n from (known_to c.peers n v.packet.src))
 
 abbrev pub released : Client → ℕ → Ep → Value → Fate → Step
 released c n from v f = sending f (releases from (known_to c.peers n v.packet.src).waiting)
@@ -107,35 +107,35 @@ pub rule1 : (law : Below) (old new : Client) (n : ℕ) (from : Ep) (v : Value) �
 unfolding after_words
 rule1 law old new n from v o =
     acts_receives law old new n from v fate.Rule1 (handed_over old n from v fate.Rule1) (heard old n v)
-    (record { clock = o.clock; peers = o.peers; means = λ x. (law.calls_of_an_entry n (known_to old.peers n v.packet.src) (Some v.packet.src)).heard_release; epoch = refl; quiet = refl; qualifier = o.qualifier; place = o.rng })
+    (record { clock = o.clock; peers = o.peers; means = λ x. (law.peers.calls_of_an_entry n (known_to old.peers n v.packet.src) (Some v.packet.src)).hear; epoch = refl; quiet = refl; qualifier = o.qualifier; place = o.rng })
     (λ x is. ap (λ (s : Span). record (released old n from v fate.Rule1) { handed = Some s }) (sym (rest_is x v is)))
 
 pub rule1_bubble : (law : Below) (old new : Client) (n : ℕ) (from : Ep) (v : Value) → OnlyPeers old n v.packet.src (heard old n v) new → TakesPayload old n from v fate.Rule1Bubble (released old n from v fate.Rule1Bubble) new
 unfolding after_words
 rule1_bubble law old new n from v o =
     acts_receives law old new n from v fate.Rule1Bubble (released old n from v fate.Rule1Bubble) (heard old n v)
-    (record { clock = o.clock; peers = o.peers; means = λ x. (law.calls_of_an_entry n (known_to old.peers n v.packet.src) (Some v.packet.src)).heard_release; epoch = refl; quiet = refl; qualifier = o.qualifier; place = o.rng })
+    (record { clock = o.clock; peers = o.peers; means = λ x. (law.peers.calls_of_an_entry n (known_to old.peers n v.packet.src) (Some v.packet.src)).hear; epoch = refl; quiet = refl; qualifier = o.qualifier; place = o.rng })
     (λ x is. refl)
 
 pub rule2 : (law : Below) (old new : Client) (n : ℕ) (from : Ep) (v : Value) → OnlyPeers old n v.packet.src (trusted old n from v) new → TakesPayload old n from v fate.Rule2 (released old n from v fate.Rule2) new
 unfolding after_words
 rule2 law old new n from v o =
     acts_receives law old new n from v fate.Rule2 (released old n from v fate.Rule2) (trusted old n from v)
-    (record { clock = o.clock; peers = o.peers; means = λ x. (law.calls_of_an_entry n (known_to old.peers n v.packet.src) (Some v.packet.src)).trust_heard_release from; epoch = refl; quiet = refl; qualifier = o.qualifier; place = o.rng })
+    (record { clock = o.clock; peers = o.peers; means = λ x. (law.peers.calls_of_an_entry n (known_to old.peers n v.packet.src) (Some v.packet.src)).trust_and_hear from; epoch = refl; quiet = refl; qualifier = o.qualifier; place = o.rng })
     (λ x is. refl)
 
 pub rule3 : (law : Below) (old new : Client) (n : ℕ) (from : Ep) (v : Value) → OnlyPeers old n v.packet.src (trusted old n from v) new → TakesPayload old n from v fate.Rule3 (handed_over old n from v fate.Rule3) new
 unfolding after_words
 rule3 law old new n from v o =
     acts_receives law old new n from v fate.Rule3 (handed_over old n from v fate.Rule3) (trusted old n from v)
-    (record { clock = o.clock; peers = o.peers; means = λ x. (law.calls_of_an_entry n (known_to old.peers n v.packet.src) (Some v.packet.src)).trust_heard_release from; epoch = refl; quiet = refl; qualifier = o.qualifier; place = o.rng })
+    (record { clock = o.clock; peers = o.peers; means = λ x. (law.peers.calls_of_an_entry n (known_to old.peers n v.packet.src) (Some v.packet.src)).trust_and_hear from; epoch = refl; quiet = refl; qualifier = o.qualifier; place = o.rng })
     (λ x is. ap (λ (s : Span). record (released old n from v fate.Rule3) { handed = Some s }) (sym (rest_is x v is)))
 
 pub rule3_bubble : (law : Below) (old new : Client) (n : ℕ) (from : Ep) (v : Value) → OnlyPeers old n v.packet.src (trusted old n from v) new → TakesPayload old n from v fate.Rule3Bubble (released old n from v fate.Rule3Bubble) new
 unfolding after_words
 rule3_bubble law old new n from v o =
     acts_receives law old new n from v fate.Rule3Bubble (released old n from v fate.Rule3Bubble) (trusted old n from v)
-    (record { clock = o.clock; peers = o.peers; means = λ x. (law.calls_of_an_entry n (known_to old.peers n v.packet.src) (Some v.packet.src)).trust_heard_release from; epoch = refl; quiet = refl; qualifier = o.qualifier; place = o.rng })
+    (record { clock = o.clock; peers = o.peers; means = λ x. (law.peers.calls_of_an_entry n (known_to old.peers n v.packet.src) (Some v.packet.src)).trust_and_hear from; epoch = refl; quiet = refl; qualifier = o.qualifier; place = o.rng })
     (λ x is. refl)
 
 -- a bubble through the server, which goes back to this origin
@@ -158,7 +158,7 @@ indirect law old new n from v to a = record {
       let e = entry_about old n from x v.packet.src (bubble_back old v to) in
       record {
         qualification = a.qualified j e h.qualification (record { moment = refl; renewed = refl });
-        peers = peers_on law old new e v.packet.src (record { peer = refl; epoch = refl; clock = a.clock; peers = subst (λ (p : Peer). Updates old.peers new.peers n v.packet.src p) (sym ((law.calls_of_an_entry n (known_to old.peers n v.packet.src) (Some v.packet.src)).tried None)) a.peers }) j h;
+        peers = peers_on law old new e v.packet.src (record { peer = refl; epoch = refl; clock = a.clock; peers = subst (λ (p : Peer). Updates old.peers new.peers n v.packet.src p) (sym ((law.peers.calls_of_an_entry n (known_to old.peers n v.packet.src) (Some v.packet.src)).tried None)) a.peers }) j h;
       };
   place = a.rng;
   settings = a.settings;
@@ -173,5 +173,5 @@ pub suspicious_test : (law : Below) (old new : Client) (n : ℕ) (from : Ep) (v 
     → new.qualifier ≡ old.qualifier → new.rng ≡ after_words 2 old.rng → TakesPayload old n from v fate.SuspiciousTest (tested old v.packet.src) new
 suspicious_test law old new n from v l u q g =
     acts_receives law old new n from v fate.SuspiciousTest (tested old v.packet.src) (tried_at n (Some (nonce_from (words_ahead old))) (known_to old.peers n v.packet.src))
-    (record { clock = l; peers = u; means = λ x. (law.calls_of_an_entry n (known_to old.peers n v.packet.src) (Some v.packet.src)).tried (Some (nonce_from (words_ahead old))); epoch = refl; quiet = refl; qualifier = q; place = g })
+    (record { clock = l; peers = u; means = λ x. (law.peers.calls_of_an_entry n (known_to old.peers n v.packet.src) (Some v.packet.src)).tried (Some (nonce_from (words_ahead old))); epoch = refl; quiet = refl; qualifier = q; place = g })
     (λ x is. refl)

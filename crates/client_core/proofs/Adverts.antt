@@ -175,10 +175,3 @@ advert_changed law old new n from v t none clock = record {
   settings = t.settings;
   clock = clock;
 }
-
--- ANY OTHER FATE DRAWS NOTHING
-
-pub no_words : (f : Fate) → (f ≡ fate.QualifiedCone → ⊥) → (f ≡ fate.QualifiedRestricted → ⊥) → advert_words f ≡ 0
-no_words fate.QualifiedCone a b = absurd (a refl)
-no_words fate.QualifiedRestricted a b = absurd (b refl)
-no_words _ a b = refl

@@ -51,7 +51,7 @@ changed law e j it = law.next_mentions e j ∙ ap (λ (b : Bool). if b then [] e
 
 -- an entry that means nothing for a peer leaves them
 pub peers_idle : (law : Below) (t : Table) (j : List Entry) (e : Entry) → is_changed e.step.fate ≡ false → MeansNothing (mention e) → StandsForMentions t (mentions j) → StandsForMentions t (mentions (e ∷ j))
-peers_idle law t j e same idle h = subst (λ (ms : List Mention). StandsForMentions t ms) (sym (mentioned law e j same)) (law.idle_stands t (mention e) (mentions j) h idle)
+peers_idle law t j e same idle h = subst (λ (ms : List Mention). StandsForMentions t ms) (sym (mentioned law e j same)) (law.peers.idle_stands t (mention e) (mentions j) h idle)
 
 -- what an entry means for its peer
 pub record OfPeer (old : Client) (e : Entry) (who : Ip6) (new : Client) : Type 0 where
@@ -70,7 +70,7 @@ pub record Bears (old : Client) (e : Entry) (who : Ip6) (new : Client) : Type 0 
 pub peers_on : (law : Below) (old new : Client) (e : Entry) (who : Ip6) → OfPeer old e who new → (j : Journal) → ClientStandsFor old j → StandsForMentions new.peers (mentions (e ∷ j.entries))
 peers_on law old new e who b j h =
     subst (λ (ms : List Mention). StandsForMentions new.peers ms) (sym (mentioned law e j.entries b.epoch))
-    (law.next_stands old.peers new.peers (mention e) (mentions j.entries) who h.peers b.clock b.peer b.peers)
+    (law.peers.next_stands old.peers new.peers (mention e) (mentions j.entries) who h.peers b.clock b.peer b.peers)
 
 pub bears_enters : (law : Below) (old new : Client) (e : Entry) (who : Ip6) → Bears old e who new → Enters old e new
 bears_enters law old new e who b = record {
@@ -117,7 +117,7 @@ pub keeps_stays : (law : Below) (old new : Client) (n : ℕ) → old.peers.momen
 keeps_stays law old new n clock k = record {
   stands = λ j h. record {
     qualification = subst (λ (q : QualifierState). StandsFor q j) (sym k.qualifier) h.qualification;
-    peers = law.kept_stands old.peers new.peers n (mentions j.entries) h.peers clock k.peers;
+    peers = law.peers.kept_stands old.peers new.peers n (mentions j.entries) h.peers clock k.peers;
   };
   words = k.rng;
   settings = ap (λ (q : QualifierState). q.settings) k.qualifier;

@@ -1,10 +1,7 @@
 -- When something is due of a client, and how much.
 use Rattle.std.proofs.Common.{◌≡◌, ◌≤◌, ◌<◌, ◌+◌, ℕ, Bool, true, false, Option, Some, None, refl, ap, sym, subst, ◌∙◌, arith}
-use Rattle.std.specs.Prelude.{max, IfSome, if◌then◌else◌, option_map, unwrap_or, is_some, nat_lt, nat_le, nat_eq}
-use Rattle.std.specs.Ordering.{nat_cmp, is_lt}
-use Rattle.std.specs.declared.cmp.Ordering.TheVariants.{Less, Equal, Greater}
-use Rattle.std.proofs.Math.Nat.{le_refl}
-use Rattle.std.proofs.lemmas.Bool.{false≢true, lt-leb, le-leb, leb-false, ltb-true, ltb-false}
+use Rattle.std.specs.Prelude.{max, if◌then◌else◌, option_map, is_some, nat_lt, nat_le}
+use Rattle.std.proofs.lemmas.Bool.{false≢true, lt-leb, le-leb, ltb-true, ltb-false}
 use Rattle.td_base.specs.declared.ipv6.Ip6.{Ip6}
 use Rattle.td_base.specs.declared.millis.Millis.{Millis}
 use Rattle.teredo_node.specs.declared.fate.Fate.{Fate}
@@ -12,13 +9,10 @@ use Rattle.teredo_node.specs.declared.fate.Fate.TheVariants as fate
 use Rattle.teredo_node.specs.Step.{Step, just}
 use Rattle.teredo_node.specs.Journal.{Journal, Words}
 use Rattle.teredo_node.specs.Due.{IsFirstDue, Idles, Lessens}
-use Rattle.peer_list.specs.Peers.{Peer, no_peer}
-use Rattle.peer_list.specs.declared.limits.TheConstants.{LISTED_MS}
-use Rattle.peer_list.specs.Judged.{is_none, is_within, due_of}
+use Rattle.peer_list.specs.Judged.{due_of}
 use Rattle.peer_list.specs.Waiting.{Listing}
-use Rattle.peer_list.specs.Table.{Table, while_listed, peer_in, known_to, first_due_in, due_and_who}
-use Rattle.peer_list.specs.Calls.{Updates, tried_at, emptied}
-use Rattle.peer_list.specs.Overdue.{due_moment, IsNoSooner, while_due, overdue_in, IsFirstOverdue, IsPutOff}
+use Rattle.peer_list.specs.Table.{Table, first_due_in}
+use Rattle.peer_list.specs.Overdue.{due_moment, due_by, listing_at, IsNoSooner, overdue_in}
 use Rattle.qualify.specs.declared.settings.Settings.{Settings}
 use Rattle.qualify.specs.declared.phase.Phase.{Phase}
 use Rattle.qualify.specs.declared.phase.Phase.TheVariants.{Cone, Restricted, Secondary, Qualified, Symmetric, OffLine}
@@ -27,7 +21,7 @@ use Rattle.qualify.specs.Qualification.{Qualification}
 use Rattle.qualify.specs.Qualifier.{QualifierState, stands_whole, has_due}
 use Rattle.qualify.specs.Solicitations.{is_due, due_fate, solicits_by, due_step, step_at}
 use Rattle.client_core.specs.declared.client.Client.{Client}
-use Rattle.client_rules.specs.Ticks.{tries, nothing, peer_due, peer_of_due, sooner, next_due, try_fate}
+use Rattle.client_rules.specs.Ticks.{Due, tries, nothing, peer_due, sooner, next_due, try_fate}
 use Rattle.client_rules.specs.Journals.{client_due}
 use Rattle.client_core.specs.Client.{settings_of, ClientStandsFor, AsBefore}
 use Rattle.client_core.specs.Endpoint.{owing, PutsOff}
@@ -35,9 +29,6 @@ use Rattle.client_core.specs.Below.{Below}
 use Rattle.client_core.proofs.Read.{read_same}
 
 -- WHEN
-
-abbrev try_moment : Listing → ℕ
-try_moment l = due_of l.peer
 
 pub due_told : (law : Below) (c : Client) (n : ℕ) (d : Option ℕ) → c.peers.moment ≤ n → d ≡ sooner c.qualifier.now.due (option_map (λ (l : Listing). due_of l.peer) (first_due_in c.peers n))
     → (j : Journal) → ClientStandsFor c j → d ≡ client_due (settings_of c) j n
@@ -85,57 +76,41 @@ already c n q e l = let is = owes_phase c n (ap (λ (d : Option ℕ). is_due n d
 peers_owe : (c : Client) (n : ℕ) → 0 < overdue_in c.peers n → 0 < owing c n
 peers_owe c n some = omega (arith, some)
 
--- packets that wait for the peer that is due first are due when it is, or now where that is past
-abbrev Lasts : Client → ℕ → Option Listing → Type 0
-Lasts c n first = IfSome first (λ (l : Listing). 0 < overdue_in c.peers (max n (due_of l.peer)))
-
-first_of_both : (c : Client) (n q : ℕ) (l : Listing) (at : Millis) (b : Bool) → c.qualifier.now.due ≡ Some q → IsFirstOverdue c.peers n l → Lasts c n (Some l)
-    → nat_lt (due_of l.peer) q ≡ b → Some at.0 ≡ (if b then Some (due_of l.peer) else Some q) → IsFirstDue (owing c) n (Some at)
-first_of_both c n q l at true e f lasts t is =
-    let same : at.0 ≡ due_of l.peer = cc in
-    let earlier = ltb-true (due_of l.peer) q t in (
-      (λ m le lt. owes_nothing c m (not_yet c m q e (omega (arith, same, earlier, lt))) (f.before m le (omega (arith, same, lt)))),
-      subst (λ (m : ℕ). 0 < owing c (max n m)) (sym same) (peers_owe c (max n (due_of l.peer)) lasts),
+first_of_both : (c : Client) (n q : ℕ) (p at : Millis) (b : Bool) → c.qualifier.now.due ≡ Some q → IsFirstDue (overdue_in c.peers) n (Some p)
+    → nat_lt p.0 q ≡ b → Some at.0 ≡ (if b then Some p.0 else Some q) → IsFirstDue (owing c) n (Some at)
+first_of_both c n q p at true e f t is =
+    let same : at.0 ≡ p.0 = cc in
+    let earlier = ltb-true p.0 q t in (
+      (λ m le lt. owes_nothing c m (not_yet c m q e (omega (arith, same, earlier, lt))) (f.0 m le (omega (arith, same, lt)))),
+      subst (λ (m : ℕ). 0 < owing c (max n m)) (sym same) (peers_owe c (max n p.0) f.1),
     )
-first_of_both c n q l at false e f lasts t is =
+first_of_both c n q p at false e f t is =
     let same : at.0 ≡ q = cc in
-    let later = ltb-false (due_of l.peer) q t in (
-      (λ m le lt. owes_nothing c m (not_yet c m q e (omega (arith, same, lt))) (f.before m le (omega (arith, same, later, lt)))),
+    let later = ltb-false p.0 q t in (
+      (λ m le lt. owes_nothing c m (not_yet c m q e (omega (arith, same, lt))) (f.0 m le (omega (arith, same, later, lt)))),
       already c (max n at.0) q e (omega (arith, same)),
     )
 
-by_both : (law : Below) (c : Client) (n : ℕ) (qd : Option ℕ) (fd : Option Listing) (d : Option Millis) → c.qualifier.now.due ≡ qd → first_due_in c.peers n ≡ fd → Lasts c n fd
-    → option_map (λ (m : Millis). m.0) d ≡ sooner qd (option_map (λ (l : Listing). due_of l.peer) fd) → IsFirstDue (owing c) n d
-by_both law c n None None None e f lasts is = λ m le. owes_nothing c m (never c m e) (law.nothing_overdue c.peers n m le f)
-by_both law c n None None (Some at) e f lasts is = absurd (false≢true (sym (ap (λ (o : Option ℕ). is_some o) is)))
-by_both law c n None (Some l) None e f lasts is = absurd (false≢true (ap (λ (o : Option ℕ). is_some o) is))
-by_both law c n None (Some l) (Some at) e f lasts is =
-    let first = law.first_overdue c.peers n l f in
-    let same : at.0 ≡ due_of l.peer = cc in (
-      (λ m le lt. owes_nothing c m (never c m e) (first.before m le (omega (arith, same, lt)))),
-      subst (λ (m : ℕ). 0 < owing c (max n m)) (sym same) (peers_owe c (max n (due_of l.peer)) lasts),
+-- what is due first of the phase and of the peers is due first of both
+pub first_due_of : (c : Client) (n : ℕ) (qd : Option ℕ) (try d : Option Millis) → c.qualifier.now.due ≡ qd → IsFirstDue (overdue_in c.peers) n try
+    → option_map (λ (m : Millis). m.0) d ≡ sooner qd (option_map (λ (m : Millis). m.0) try) → IsFirstDue (owing c) n d
+first_due_of c n None None None e f is = λ m le. owes_nothing c m (never c m e) (f m le)
+first_due_of c n None None (Some at) e f is = absurd (false≢true (sym (ap (λ (o : Option ℕ). is_some o) is)))
+first_due_of c n None (Some p) None e f is = absurd (false≢true (ap (λ (o : Option ℕ). is_some o) is))
+first_due_of c n None (Some p) (Some at) e f is =
+    let same : at.0 ≡ p.0 = cc in (
+      (λ m le lt. owes_nothing c m (never c m e) (f.0 m le (omega (arith, same, lt)))),
+      subst (λ (m : ℕ). 0 < owing c (max n m)) (sym same) (peers_owe c (max n p.0) f.1),
     )
-by_both law c n (Some q) None None e f lasts is = absurd (false≢true (ap (λ (o : Option ℕ). is_some o) is))
-by_both law c n (Some q) None (Some at) e f lasts is =
+first_due_of c n (Some q) None None e f is = absurd (false≢true (ap (λ (o : Option ℕ). is_some o) is))
+first_due_of c n (Some q) None (Some at) e f is =
     let same : at.0 ≡ q = cc in
-    ((λ m le lt. owes_nothing c m (not_yet c m q e (omega (arith, same, lt))) (law.nothing_overdue c.peers n m le f)), already c (max n at.0) q e (omega (arith, same)))
-by_both law c n (Some q) (Some l) None e f lasts is = none_of_two (nat_lt (due_of l.peer) q) is where
-  none_of_two : (b : Bool) → None ≡ (if b then Some (due_of l.peer) else Some q) → IsFirstDue (owing c) n None
+    ((λ m le lt. owes_nothing c m (not_yet c m q e (omega (arith, same, lt))) (f m le)), already c (max n at.0) q e (omega (arith, same)))
+first_due_of c n (Some q) (Some p) None e f is = none_of_two (nat_lt p.0 q) is where
+  none_of_two : (b : Bool) → None ≡ (if b then Some p.0 else Some q) → IsFirstDue (owing c) n None
   none_of_two true k = absurd (false≢true (ap (λ (o : Option ℕ). is_some o) k))
   none_of_two false k = absurd (false≢true (ap (λ (o : Option ℕ). is_some o) k))
-by_both law c n (Some q) (Some l) (Some at) e f lasts is = first_of_both c n q l at (nat_lt (due_of l.peer) q) e (law.first_overdue c.peers n l f) lasts refl is
-
--- as the moment of the first try says it
-lasts_by : (c : Client) (n : ℕ) (first : Option Listing) (try : Option Millis) → option_map (λ (m : Millis). m.0) try ≡ option_map (λ (l : Listing). due_of l.peer) first
-    → IfSome try (λ (m : Millis). 0 < overdue_in c.peers (max n m.0)) → Lasts c n first
-lasts_by c n None try is some = tt
-lasts_by c n (Some l) None is some = absurd (false≢true (ap (λ (o : Option ℕ). is_some o) is))
-lasts_by c n (Some l) (Some m) is some = let same : m.0 ≡ due_of l.peer = cc in subst (λ (k : ℕ). 0 < overdue_in c.peers (max n k)) same some
-
-pub first_due_holds : (law : Below) (c : Client) (n : ℕ) (try d : Option Millis) → option_map (λ (m : Millis). m.0) try ≡ option_map (λ (l : Listing). due_of l.peer) (first_due_in c.peers n)
-    → IfSome try (λ (m : Millis). 0 < overdue_in c.peers (max n m.0)) → option_map (λ (m : Millis). m.0) d ≡ sooner c.qualifier.now.due (option_map (λ (m : Millis). m.0) try) → IsFirstDue (owing c) n d
-first_due_holds law c n try d first lasts is =
-    by_both law c n c.qualifier.now.due (first_due_in c.peers n) d refl refl (lasts_by c n (first_due_in c.peers n) try first lasts) (is ∙ ap (sooner c.qualifier.now.due) first)
+first_due_of c n (Some q) (Some p) (Some at) e f is = first_of_both c n q p at (nat_lt p.0 q) e f refl is
 
 -- OF THE PHASE OR THE REFRESH
 
@@ -201,99 +176,48 @@ nothing_put_off c n none = record {
   qualifier = refl;
 }
 
-put_off : (law : Below) (old new : Client) (n : ℕ) (who : Ip6) (peer : Peer) (step : Step) → IsPutOff old.peers n who peer → Updates old.peers new.peers n who peer → new.qualifier ≡ old.qualifier → (step.fate ≡ fate.Idle → ⊥) → PutsOff old new n step
-put_off law old new n who peer step o u q f =
-    let less = law.less_overdue old.peers new.peers n who peer o u in
-    record {
-      idle = λ none. absurd (omega (arith, less, none));
-      less = λ some. (less, f);
-      qualifier = q;
-    }
+put_off : (old new : Client) (n : ℕ) (step : Step) → overdue_in new.peers n < overdue_in old.peers n → new.qualifier ≡ old.qualifier → (step.fate ≡ fate.Idle → ⊥) → PutsOff old new n step
+put_off old new n step less q f = record {
+  idle = λ none. absurd (omega (arith, less, none));
+  less = λ some. (less, f);
+  qualifier = q;
+}
 
--- it is listed, and packets wait for it that are due
-pub record IsDueNow (t : Table) (n : ℕ) (who : Ip6) : Type 0 where
-  pub listed : is_some (peer_in t n who) ≡ true
-  pub waits : is_none (known_to t n who).waiting ≡ false
-  pub due : due_of (known_to t n who) ≤ n
-
-none_by : (b : Bool) (p : Peer) → is_none (if b then emptied p else no_peer).waiting ≡ true
-none_by true p = refl
-none_by false p = refl
-
-emptied_stays : (n : ℕ) (p : Peer) → while_listed n p ≡ Some p → while_listed n (emptied p) ≡ Some (emptied p)
-emptied_stays n p h = by_test (is_within LISTED_MS n p.touched) h where
-  by_test : (b : Bool) → (if b then Some p else None) ≡ Some p → (if b then Some (emptied p) else None) ≡ Some (emptied p)
-  by_test true k = refl
-  by_test false k = absurd (false≢true (ap (λ (o : Option Peer). is_some o) k))
-
-pub given_up : (law : Below) (old new : Client) (n : ℕ) (who : Ip6) (step : Step) → IsDueNow old.peers n who → Updates old.peers new.peers n who (emptied (known_to old.peers n who)) → new.qualifier ≡ old.qualifier → step.fate ≡ fate.GiveUp → PutsOff old new n step
-given_up law old new n who step d u q f =
-    let known = known_to old.peers n who in
-    put_off law old new n who (emptied known) step
-    (record { listed = d.listed; waits = d.waits; due = d.due; stays = emptied_stays n known (law.found_is_listed old.peers n who d.listed); over = none_by (nat_le (due_of (emptied known)) n) known })
-    u q (λ e. let no_way : fate.GiveUp ≡ fate.Idle = sym f ∙ e in cc)
-
--- the next try is 2,000 ms away
-tried_later : (n : ℕ) (test : Option ℕ) (p : Peer) → due_of (tried_at n test p) ≡ n + 2000
-unfolding due_of
-tried_later n test p = refl
-
-tried_over : (n : ℕ) (test : Option ℕ) (p : Peer) → is_none (while_due n (tried_at n test p)).waiting ≡ true
-tried_over n test p =
-    let later : nat_le (due_of (tried_at n test p)) n ≡ false = ap (λ (m : ℕ). nat_le m n) (tried_later n test p) ∙ lt-leb (n + 2000) n (omega arith) in
-    ap (λ (b : Bool). is_none (if b then tried_at n test p else no_peer).waiting) later
+pub given_up : (old new : Client) (n : ℕ) (step : Step) → overdue_in new.peers n < overdue_in old.peers n → new.qualifier ≡ old.qualifier → step.fate ≡ fate.GiveUp → PutsOff old new n step
+given_up old new n step less q f = put_off old new n step less q (λ e. let no_way : fate.GiveUp ≡ fate.Idle = sym f ∙ e in cc)
 
 try_busy : (b : Bool) → try_fate b ≡ fate.Idle → ⊥
 try_busy true e = cc
 try_busy false e = cc
 
-pub tried_off : (law : Below) (old new : Client) (n : ℕ) (who : Ip6) (nonce : Option ℕ) (b : Bool) (step : Step) → IsDueNow old.peers n who → Updates old.peers new.peers n who (tried_at n nonce (known_to old.peers n who)) → new.qualifier ≡ old.qualifier → step.fate ≡ try_fate b → PutsOff old new n step
-tried_off law old new n who nonce b step d u q f =
-    let known = known_to old.peers n who in
-    put_off law old new n who (tried_at n nonce known) step
-    (record { listed = d.listed; waits = d.waits; due = d.due; stays = law.touched_is_listed n (tried_at n nonce known) refl; over = tried_over n nonce known })
-    u q (λ e. try_busy b (sym f ∙ e))
-
--- where none is due nothing is
-nothing_by : (law : Below) (t : Table) (n : ℕ) (o : Option Listing) → first_due_in t n ≡ o → peer_of_due (peer_due n o) ≡ None → overdue_in t n ≡ 0
-nothing_by law t n None e k = law.nothing_overdue t n n (le_refl n) e
-nothing_by law t n (Some l) e k = by_test (nat_le (due_of l.peer) n) refl k where
-  by_test : (b : Bool) → nat_le (due_of l.peer) n ≡ b → peer_of_due (if b then tries l else nothing) ≡ None → overdue_in t n ≡ 0
-  by_test true is h = absurd (false≢true (sym (ap (λ (o : Option Ip6). is_some o) h)))
-  by_test false is h = (law.first_overdue t n l e).before n (le_refl n) (leb-false (due_of l.peer) n is)
-
-pub nothing_due : (law : Below) (t : Table) (n : ℕ) → peer_of_due (peer_due n (first_due_in t n)) ≡ None → overdue_in t n ≡ 0
-nothing_due law t n k = nothing_by law t n (first_due_in t n) refl k
-
--- who is named as first, and when
-pub record IsNamed (t : Table) (n : ℕ) (at : Millis) (who : Ip6) : Type 0 where
-  pub listed : is_some (peer_in t n who) ≡ true
-  pub waits : is_none (known_to t n who).waiting ≡ false
-  pub at_moment : due_of (known_to t n who) ≡ at.0
-
-named_by : (law : Below) (t : Table) (n : ℕ) (at : Millis) (who : Ip6) (o : Option Listing) → first_due_in t n ≡ o → option_map due_and_who o ≡ Some (at, who) → IsNamed t n at who
-named_by law t n at who None e k = absurd (false≢true (ap (λ (o : Option (Millis × Ip6)). is_some o) k))
-named_by law t n at who (Some l) e k =
-    let f = law.first_overdue t n l e in
-    let same : l.who ≡ who = ap (λ (o : Option (Millis × Ip6)). (unwrap_or o (at, who)).1) k in
-    let moment : due_of l.peer ≡ at.0 = ap (λ (o : Option (Millis × Ip6)). (unwrap_or o (at, who)).0.0) k in
-    subst (λ (p : Ip6). IsNamed t n at p) same (record {
-      listed = f.listed;
-      waits = f.waits;
-      at_moment = ap (λ (p : Peer). due_of p) (sym f.peer) ∙ moment;
-    })
-
-pub named : (law : Below) (t : Table) (n : ℕ) (at : Millis) (who : Ip6) → option_map due_and_who (first_due_in t n) ≡ Some (at, who) → IsNamed t n at who
-named law t n at who k = named_by law t n at who (first_due_in t n) refl k
+pub tried_off : (old new : Client) (n : ℕ) (b : Bool) (step : Step) → overdue_in new.peers n < overdue_in old.peers n → new.qualifier ≡ old.qualifier → step.fate ≡ try_fate b → PutsOff old new n step
+tried_off old new n b step less q f = put_off old new n step less q (λ e. try_busy b (sym f ∙ e))
 
 -- a moment is there before and after it is read
 pub some_too : (o : Option Millis) → is_some (option_map (λ (m : Millis). m.0) o) ≡ is_some o
 some_too None = refl
 some_too (Some m) = refl
 
--- a moment that another isn't before
-pub not_before : (a b : ℕ) → is_lt (nat_cmp a b) ≡ false → b ≤ a
-not_before a b h = by_test (nat_lt a b) refl where
-  by_test : (t : Bool) → nat_lt a b ≡ t → b ≤ a
-  by_test true e = absurd (false≢true (sym h ∙ ap (λ (t : Bool). is_lt (if t then Less else (if nat_eq a b then Equal else Greater))) e))
-  by_test false e = ltb-false a b e
+-- WHO IS DUE
+
+-- what is due of a peer
+abbrev of_peer : Option Listing → Due
+of_peer None = nothing
+of_peer (Some l) = tries l
+
+peer_is : (n : ℕ) (o : Option Listing) → peer_due n o ≡ of_peer (due_by n o)
+peer_is n None = refl
+peer_is n (Some l) = by_test (nat_le (due_of l.peer) n) where
+  by_test : (b : Bool) → (if b then tries l else nothing) ≡ of_peer (if b then Some l else None)
+  by_test true = refl
+  by_test false = refl
+
+due_is : (t : Table) (n : ℕ) (who : Option Ip6) → option_map (listing_at t n) who ≡ due_by n (first_due_in t n) → peer_due n (first_due_in t n) ≡ of_peer (option_map (listing_at t n) who)
+due_is t n who e = peer_is n (first_due_in t n) ∙ ap of_peer (sym e)
+
+-- where nobody is overdue, and where somebody is
+pub nobody_due : (t : Table) (n : ℕ) (who : Option Ip6) → option_map (listing_at t n) who ≡ due_by n (first_due_in t n) → who ≡ None → peer_due n (first_due_in t n) ≡ nothing
+nobody_due t n who e is = due_is t n who e ∙ ap (λ (o : Option Ip6). of_peer (option_map (listing_at t n) o)) is
+
+pub somebody_due : (t : Table) (n : ℕ) (who : Option Ip6) (p : Ip6) → option_map (listing_at t n) who ≡ due_by n (first_due_in t n) → who ≡ Some p → peer_due n (first_due_in t n) ≡ tries (listing_at t n p)
+somebody_due t n who p e is = due_is t n who e ∙ ap (λ (o : Option Ip6). of_peer (option_map (listing_at t n) o)) is

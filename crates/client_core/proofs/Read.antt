@@ -26,7 +26,7 @@ use Rattle.client_core.specs.Below.{Below}
 use Rattle.client_core.proofs.Entered.{none_enters}
 
 pub read_same : (law : Below) (c : Client) (j : Journal) (n : ℕ) → ClientStandsFor c j → c.peers.moment ≤ n → SaysTheSame c.peers (mentions j.entries) n
-read_same law c j n h l = law.table_is_read c.peers (mentions j.entries) n h.peers l
+read_same law c j n h l = law.peers.table_is_read c.peers (mentions j.entries) n h.peers l
 
 pub standing_is : (law : Below) (c : Client) (j : Journal) (n : ℕ) (p : Ip6) → ClientStandsFor c j → c.peers.moment ≤ n → standing_in c n p ≡ standing_at (settings_of c) j n p
 unfolding standing_at

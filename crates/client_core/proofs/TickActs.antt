@@ -26,7 +26,6 @@ use Rattle.client_rules.specs.Journals.{entry}
 use Rattle.client_core.specs.Client.{settings_of, words_ahead, Enters, TriesUnless}
 use Rattle.client_core.specs.Below.{Below}
 use Rattle.client_core.proofs.Entered.{bears_enters}
-use Rattle.client_core.proofs.Peered.{then_call}
 
 -- TICKS
 
@@ -36,7 +35,7 @@ unfolding after_words
 gave_up law old new n who gone l u q g =
     bears_enters law old new (entry n ticked None (Some who) (words_ahead old) (record (just fate.GiveUp) { gone = gone })) who
     (record {
-      of_peer = record { peer = refl; epoch = refl; clock = l; peers = subst (λ (p : Peer). Updates old.peers new.peers n who p) (sym (law.calls_of_an_entry n (known_to old.peers n who) (Some who)).give_up) u };
+      of_peer = record { peer = refl; epoch = refl; clock = l; peers = subst (λ (p : Peer). Updates old.peers new.peers n who p) (sym (law.peers.calls_of_an_entry n (known_to old.peers n who) (Some who)).give_up) u };
       quiet = refl;
       qualifier = q;
       place = g;
@@ -47,8 +46,8 @@ try_step b sends = record (sending (try_fate b) sends) { drawn = if b then 0 els
 
 try_means : (law : Below) (n : ℕ) (who : Ip6) (w : Words) (sends : List Send) (known : Peer) (b : Bool)
     → after (mention (entry n ticked None (Some who) w (try_step b sends))) known ≡ tried_at n (nonce_of_words (drawn_words (if b then 0 else 2) w)) known
-try_means law n who w sends known true = (law.calls_of_an_entry n known (Some who)).tried None
-try_means law n who w sends known false = (law.calls_of_an_entry n known (Some who)).tried (nonce_of_words (drawn_words 2 w))
+try_means law n who w sends known true = (law.peers.calls_of_an_entry n known (Some who)).tried None
+try_means law n who w sends known false = (law.peers.calls_of_an_entry n known (Some who)).tried (nonce_of_words (drawn_words 2 w))
 
 try_epoch : (b : Bool) → is_changed (try_fate b) ≡ false
 try_epoch true = refl
@@ -91,7 +90,7 @@ queued_step who sends = record (sending fate.Queued sends) { drawn = try_words w
 queued_means : (law : Below) (n : ℕ) (who : Ip6) (x : List ℕ) (w : Words) (sends : List Send) (known : Peer) (b : Bool) → has_any sends ≡ b → b ≡ true
     → after (mention (entry n (given x) (Some x) (Some who) w (queued_step who sends))) known ≡ tried_at n (try_nonce who w) (queued_at n x known)
 queued_means law n who x w [] known b e h = cc
-queued_means law n who x w (s ∷ sends) known b e h = (law.calls_of_an_entry n known (Some who)).queue_tried x (try_nonce who w)
+queued_means law n who x w (s ∷ sends) known b e h = (law.peers.calls_of_an_entry n known (Some who)).wait_tried x (try_nonce who w)
 
 -- the table after a packet that waits, and a try unless the peer is barred
 pub record Queued (old : Client) (n : ℕ) (who : Ip6) (x : List ℕ) (barred : Bool) (new : Client) : Type 0 where
@@ -111,7 +110,7 @@ queued law old new n who x true a k g =
         peer = refl;
         epoch = refl;
         clock = k.clock;
-        peers = subst (λ (p : Peer). Updates old.peers new.peers n who p) (sym ((law.calls_of_an_entry n (known_to old.peers n who) (Some who)).queue x))
+        peers = subst (λ (p : Peer). Updates old.peers new.peers n who p) (sym ((law.peers.calls_of_an_entry n (known_to old.peers n who) (Some who)).wait x))
             (subst (λ (t : Table). Updates old.peers t n who (queued_at n x (known_to old.peers n who))) (sym k.tries) k.waits);
       };
       quiet = refl;
@@ -128,7 +127,7 @@ queued law old new n who x false a k g =
         clock = k.clock;
         peers = subst (λ (p : Peer). Updates old.peers new.peers n who p)
             (sym (queued_means law n who x (words_ahead old) sends (known_to old.peers n who) true (try_sends_any (settings_of old) (own_address a.qualification) who (words_ahead old)) refl))
-            (then_call law old.peers k.mid new.peers n who (queued_at n x (known_to old.peers n who)) (λ (p : Peer). tried_at n (try_nonce who (words_ahead old)) p) k.waits k.tries);
+            ((law.peers.touch_goes_on old.peers k.mid n who (queued_at n x (known_to old.peers n who)) refl k.waits).next new.peers (tried_at n (try_nonce who (words_ahead old))) k.tries);
       };
       quiet = refl;
       qualifier = k.qualifier;

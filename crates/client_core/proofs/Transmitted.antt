@@ -96,7 +96,7 @@ sent law old new n x p to is l row trusted u q g =
     transmitted law old new n x p fate.Sent (sending fate.Sent (send to x ∷ [])) is l row
     (ap (λ (o : Option Ep). sending fate.Sent (map (λ (at : Ep). send at x) (option_to_list o))) (sym trusted))
     (bears_enters law old new (entry n (given x) (Some x) (Some p.dst) (words_ahead old) (sending fate.Sent (send to x ∷ []))) p.dst (record {
-      of_peer = record { peer = refl; epoch = refl; clock = l; peers = subst (λ (k : Peer). Updates old.peers new.peers n p.dst k) (sym (law.calls_of_an_entry n (known_to old.peers n p.dst) (Some p.dst)).touch) u };
+      of_peer = record { peer = refl; epoch = refl; clock = l; peers = subst (λ (k : Peer). Updates old.peers new.peers n p.dst k) (sym (law.peers.calls_of_an_entry n (known_to old.peers n p.dst) (Some p.dst)).touch) u };
       quiet = refl;
       qualifier = q;
       place = g;

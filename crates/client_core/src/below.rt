@@ -5,18 +5,7 @@ ghost use Rattle.client_core.specs.Below.{Below};
 pub(crate) fn below()
     ensures { Below }
 {
-    peer_list::table_is_read();
-    peer_list::next_stands();
-    peer_list::idle_stands();
-    peer_list::kept_stands();
-    peer_list::update_is_seen();
-    peer_list::touched_is_listed();
-    peer_list::found_is_listed();
-    peer_list::updates_twice();
-    peer_list::calls_of_an_entry();
-    peer_list::nothing_overdue();
-    peer_list::first_overdue();
-    peer_list::less_overdue();
+    peer_list::table_laws();
     qualify::keeps_still();
     client_rules::next_mentions();
     client_rules::fate_of_reception();

@@ -4,7 +4,6 @@ ghost use Rattle.std.specs.Option.{option_or};
 ghost use Rattle.byteorder.specs.Endian.{big_bytes};
 ghost use Rattle.td_base.specs.declared.datagram.TheConstants.{DATAGRAM_MAX};
 ghost use Rattle.ipv6_packet.specs.Packets.{view as packet_view};
-ghost use Rattle.teredo_addr.specs.Reaching.{is_reachable};
 ghost use Rattle.bubble.specs.Messages.{IsMessageOf, message_in, is_advert, is_echo_reply};
 ghost use Rattle.client_rules.specs.Reception.{is_from_server, is_good_origin, is_reply_to};
 
@@ -12,8 +11,8 @@ use icmp6::Msg;
 use indications::NONCE;
 use ipv6_packet::Packet;
 use qualify::Settings;
-use td_base::{Ep, Ip6, is_global, put64, usable};
-use teredo_addr::{embedded, is_teredo, server_of};
+use td_base::{Ep, Ip6, put64, usable};
+use teredo_addr::{embedded, is_teredo};
 
 /// Whether a datagram came from one of the server's two endpoints.
 #[tactic(auto, unfolding(client_rules::specs::Reception::is_from_server))]
@@ -79,12 +78,4 @@ pub fn good_origin(settings: &Settings, source: Ip6, origin: Option<Ep>) -> Opti
         return None;
     }
     Some(origin)
-}
-
-/// Whether bubbles can be sent to a Teredo address.
-#[tactic(auto, unfolding(teredo_addr::specs::Reaching::is_reachable))]
-pub fn is_reachable(settings: &Settings, ip: Ip6) -> bool
-    ensures { result ≡ is_reachable settings.now.policy ip }
-{
-    usable(settings.policy, embedded(ip)) && is_global(settings.policy, server_of(ip))
 }

@@ -1,5 +1,5 @@
 //! What a client does with a datagram.
-ghost use Rattle.std.specs.Prelude.{◌≡◌, ◌≤◌, ◌+◌, true, false, [], length, Some, is_some, OnOk, OnErr};
+ghost use Rattle.std.specs.Prelude.{◌≡◌, ◌≤◌, ◌+◌, true, length, Some, OnOk, OnErr};
 ghost use Rattle.td_base.specs.declared.datagram.TheConstants.{DATAGRAM_MAX};
 ghost use Rattle.ipv6_packet.specs.declared.header.TheConstants.{HEADER};
 ghost use Rattle.td_base.specs.declared.endpoint.Ep.{Ep};
@@ -7,11 +7,9 @@ ghost use Rattle.indications.specs.Leads.{origin_in};
 ghost use Rattle.bubble.specs.Payloads.{view};
 ghost use Rattle.teredo_node.specs.declared.fate.Fate.{Fate};
 ghost use Rattle.teredo_node.specs.Journal.{arrived};
-ghost use Rattle.teredo_node.specs.Sends.{releases};
 ghost use Rattle.teredo_node.specs.Step.{just};
-ghost use Rattle.peer_list.specs.Table.{peer_in, known_to, has_room_in};
-ghost use Rattle.peer_list.specs.Calls.{touched_at, trusted_at, heard_at, emptied, Updates, Keeps};
-ghost use Rattle.qualify.specs.Advertisements.{advert_row, advert_words};
+ghost use Rattle.peer_list.specs.Table.{has_room_in};
+ghost use Rattle.qualify.specs.Advertisements.{advert_row};
 ghost use Rattle.client_core.specs.Client.{settings_of, fate_in, IsCallable, Does, TakesPayload, AsBefore, KeepsPlace, WantsPlace};
 
 use crate::below::below;
@@ -20,51 +18,9 @@ use crate::reception_line::{ReceptionLine, line_of};
 use crate::tries::{send_bubble, send_test};
 use bubble::Payload;
 use ipv6_packet::HEADER;
-use peer_list::{Peers, PeersRefusal};
-use qualify::INTERVAL_WORDS;
-use td_base::{Ep, Ip6, Millis, NoMemory, Side, Span};
+use qualify::words_of_advert;
+use td_base::{Ep, Millis, NoMemory, Span};
 use teredo_node::{Fate, Step};
-
-/// Lists and touches a peer for which there is room.
-fn list(peers: &mut Peers, now: Millis, who: Ip6) -> Result<(), NoMemory>
-    requires clock { peers.old.moment ≤ now.0 }
-    requires room { has_room_in peers.old now.0 who ≡ true }
-    ensures listed { OnOk result (Updates peers.old peers.new now.0 who (touched_at now.0 (known_to peers.old now.0 who))) }
-    ensures kept { OnErr result (Keeps peers.old peers.new now.0) }
-    ensures unlisted { OnErr result (is_some (peer_in peers.old now.0 who) ≡ false) }
-{
-    match peers.admit(now, who) {
-        Ok(()) => Ok(()),
-        Err(PeersRefusal::NoMemory) => Err(NoMemory),
-        Err(PeersRefusal::Full) => unreachable!(),
-    }
-}
-
-/// A direct reception from a listed peer: tries are over, and what waits goes to where that came from.
-fn hear(peers: &mut Peers, now: Millis, who: Ip6, from: Ep, step: &mut Step)
-    requires clock { peers.old.moment ≤ now.0 }
-    requires listed { is_some (peer_in peers.old now.0 who) ≡ true }
-    requires first { step.old.sends ≡ [] }
-    ensures sends { step.new ≡ record step.old { sends = releases from (known_to peers.old now.0 who).waiting } }
-    ensures peer { Updates peers.old peers.new now.0 who (emptied (heard_at now.0 (known_to peers.old now.0 who))) }
-{
-    below();
-    peers.heard(now, who);
-    peers.release(who, Side::Primary, from, step);
-}
-
-/// The same from where the peer is trusted from now on.
-fn trust(peers: &mut Peers, now: Millis, who: Ip6, from: Ep, step: &mut Step)
-    requires clock { peers.old.moment ≤ now.0 }
-    requires listed { is_some (peer_in peers.old now.0 who) ≡ true }
-    requires first { step.old.sends ≡ [] }
-    ensures sends { step.new ≡ record step.old { sends = releases from (known_to peers.old now.0 who).waiting } }
-    ensures peer { Updates peers.old peers.new now.0 who (emptied (heard_at now.0 (trusted_at now.0 from (known_to peers.old now.0 who)))) }
-{
-    below();
-    peers.trust(now, who, from);
-    hear(peers, now, who, from, step);
-}
 
 /// Begins a step that hands a payload's packet to the host.
 fn hand_over(fate: Fate, payload: &Payload<'_>, step: &mut Step)
@@ -76,17 +32,6 @@ fn hand_over(fate: Fate, payload: &Payload<'_>, step: &mut Step)
         at: payload.lead.at,
         len: HEADER + payload.packet.body.len(),
     });
-}
-
-/// How many words an advertisement of this fate drew: those of an interval, where the client became qualified.
-fn words_of_advert(fate: Fate) -> u8
-    ensures { result ≡ advert_words fate }
-{
-    match fate {
-        Fate::QualifiedCone => INTERVAL_WORDS,
-        Fate::QualifiedRestricted => INTERVAL_WORDS,
-        _ => 0,
-    }
 }
 
 impl Client {
@@ -141,17 +86,18 @@ impl Client {
             ReceptionLine::Indirect(origin) => self.answer_bubble(now, origin, payload, step),
             ReceptionLine::Rule1 => {
                 hand_over(Fate::Rule1, payload, step);
-                hear(&mut self.peers, now, payload.packet.src, from, step);
+                self.peers.hear(now, payload.packet.src, from, step);
                 Ok(())
             }
             ReceptionLine::Rule1Bubble => {
                 step.reset(Fate::Rule1Bubble);
-                hear(&mut self.peers, now, payload.packet.src, from, step);
+                self.peers.hear(now, payload.packet.src, from, step);
                 Ok(())
             }
             ReceptionLine::Rule2 => {
                 step.reset(Fate::Rule2);
-                trust(&mut self.peers, now, payload.packet.src, from, step);
+                self.peers
+                    .trust_and_hear(now, payload.packet.src, from, step);
                 Ok(())
             }
             ReceptionLine::Rule3 => self.admit(now, from, payload, step),
@@ -196,7 +142,7 @@ impl Client {
     {
         below();
         let who = payload.packet.src;
-        list(&mut self.peers, now, who)?;
+        self.peers.list(now, who)?;
         step.reset(Fate::Indirect);
         send_bubble(self.own_address(), who, origin, step);
         self.peers.tried(now, who, None);
@@ -221,9 +167,9 @@ impl Client {
     {
         below();
         let who = payload.packet.src;
-        list(&mut self.peers, now, who)?;
+        self.peers.list(now, who)?;
         hand_over(Fate::Rule3, payload, step);
-        trust(&mut self.peers, now, who, from, step);
+        self.peers.trust_and_hear(now, who, from, step);
         Ok(())
     }
 
@@ -243,9 +189,9 @@ impl Client {
     {
         below();
         let who = payload.packet.src;
-        list(&mut self.peers, now, who)?;
+        self.peers.list(now, who)?;
         step.reset(Fate::Rule3Bubble);
-        trust(&mut self.peers, now, who, from, step);
+        self.peers.trust_and_hear(now, who, from, step);
         Ok(())
     }
 
@@ -264,7 +210,7 @@ impl Client {
     {
         below();
         let who = payload.packet.src;
-        list(&mut self.peers, now, who)?;
+        self.peers.list(now, who)?;
         let own = self.own_address();
         let settings = self.qualifier.settings();
         let nonce = send_test(

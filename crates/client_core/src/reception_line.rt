@@ -1,7 +1,8 @@
 //! The table of datagrams.
 ghost use Rattle.std.specs.Prelude.{◌≡◌, ◌≤◌, ◌&&◌, ◌++◌, not, true, false, length};
 ghost use Rattle.td_base.specs.declared.datagram.TheConstants.{DATAGRAM_MAX};
-ghost use Rattle.teredo_addr.specs.Teredo.{is_teredo};
+ghost use Rattle.td_base.specs.Ep.{same_ep};
+ghost use Rattle.teredo_addr.specs.Teredo.{is_teredo, embedded};
 ghost use Rattle.bubble.specs.Payloads.{view};
 ghost use Rattle.teredo_node.specs.declared.fate.Fate.{Fate};
 ghost use Rattle.teredo_node.specs.Rows.{first_line};
@@ -15,7 +16,7 @@ use crate::conditions::{good_origin, is_advert, is_echo_reply, is_from_server, i
 use bubble::{Payload, is_bubble, is_ill_formed, message_of};
 use indications::{is_confirmed, is_keyed, origin_in};
 use ipv6_packet::is_big;
-use td_base::{Ep, Millis, is_global6};
+use td_base::{Ep, Ip6, Millis, is_global6};
 use teredo_addr::{embedded, is_teredo};
 use teredo_node::Fate;
 
@@ -160,33 +161,24 @@ fn line_of_direct(client: &Client, now: Millis, from: Ep, payload: &Payload<'_>)
         // rule1: RFC 4380, section 5.2.3, rule 1
         return ReceptionLine::Rule1;
     }
-    if is_teredo(packet.src) {
-        return line_of_teredo(client, now, from, payload);
-    }
     // rule2: RFC 4380, section 5.2.3, rule 2
     if answers_test(client, now, from, payload) {
         return ReceptionLine::Rule2;
     }
-    // suspicious_test: RFC 4380, section 5.2.3, rule 6
-    if may_be_tested(client, now, from, payload) {
-        return ReceptionLine::SuspiciousTest;
+    if is_embedded_at(packet.src, from) {
+        return line_of_embedded(client, now, from, payload);
     }
-    // suspicious: RFC 4380, section 5.2.3, rule 6
-    ReceptionLine::Drop(Fate::Suspicious)
+    line_of_other(client, now, from, payload)
 }
 
-/// The lines on packets that a Teredo client sends itself.
-fn line_of_teredo(client: &Client, now: Millis, from: Ep, payload: &Payload<'_>) -> ReceptionLine
+/// The lines on packets that a Teredo client sends from the endpoint that its address embeds.
+fn line_of_embedded(client: &Client, now: Millis, from: Ep, payload: &Payload<'_>) -> ReceptionLine
     requires clock { client.now.peers.moment ≤ now.0 }
-    requires teredo { is_teredo payload.now.packet.src ≡ true }
+    requires here { (is_teredo payload.now.packet.src && same_ep (embedded payload.now.packet.src) from) ≡ true }
     ensures row { let a = seen_by client.now now.0 from (view payload.now) in (advert : Fate) → fate_of result advert ≡ first_line (teredo_lines a ++ suspicious_lines a) Fate.Suspicious }
     ensures warrant { WarrantsDatagram (standing_in client.now now.0 payload.now.packet.src) (view payload.now) result }
 {
     let packet = &payload.packet;
-    // mismatch: RFC 4380, section 5.2.3, rule 3
-    if embedded(packet.src) != from {
-        return ReceptionLine::Drop(Fate::Mismatch);
-    }
     // peers_full: our choice
     if !client.peers.has_room(now, packet.src) {
         return ReceptionLine::Drop(Fate::PeersFull);
@@ -199,14 +191,42 @@ fn line_of_teredo(client: &Client, now: Millis, from: Ep, payload: &Payload<'_>)
     ReceptionLine::Rule3
 }
 
-/// Whether a packet answers the test of its source, which isn't fresh.
+/// The lines on packets from elsewhere.
+fn line_of_other(client: &Client, now: Millis, from: Ep, payload: &Payload<'_>) -> ReceptionLine
+    requires clock { client.now.peers.moment ≤ now.0 }
+    requires short { length payload.now.packet.body.now ≤ DATAGRAM_MAX }
+    requires elsewhere { (is_teredo payload.now.packet.src && same_ep (embedded payload.now.packet.src) from) ≡ false }
+    ensures row { let a = seen_by client.now now.0 from (view payload.now) in (advert : Fate) → fate_of result advert ≡ first_line (teredo_lines a ++ suspicious_lines a) Fate.Suspicious }
+    ensures warrant { WarrantsDatagram (standing_in client.now now.0 payload.now.packet.src) (view payload.now) result }
+{
+    // mismatch: RFC 4380, section 5.2.3, rule 3
+    if is_teredo(payload.packet.src) {
+        return ReceptionLine::Drop(Fate::Mismatch);
+    }
+    // suspicious_test: RFC 4380, section 5.2.3, rule 6
+    if may_be_tested(client, now, from, payload) {
+        return ReceptionLine::SuspiciousTest;
+    }
+    // suspicious: RFC 4380, section 5.2.3, rule 6
+    ReceptionLine::Drop(Fate::Suspicious)
+}
+
+/// Whether an address is a Teredo client's that embeds this very endpoint.
+fn is_embedded_at(ip: Ip6, from: Ep) -> bool
+    ensures { result ≡ (is_teredo ip && same_ep (embedded ip) from) }
+{
+    is_teredo(ip) && embedded(ip) == from
+}
+
+/// Whether a packet answers the test of its source, which is no Teredo client and isn't fresh.
 fn answers_test(client: &Client, now: Millis, from: Ep, payload: &Payload<'_>) -> bool
     requires clock { client.now.peers.moment ≤ now.0 }
     requires short { length payload.now.packet.body.now ≤ DATAGRAM_MAX }
-    ensures { let a = seen_by client.now now.0 from (view payload.now) in result ≡ (a.listed && (not a.fresh && a.reply)) }
+    ensures { let a = seen_by client.now now.0 from (view payload.now) in result ≡ (not a.teredo && (a.listed && (not a.fresh && a.reply))) }
 {
     let packet = &payload.packet;
-    client.peers.is_listed(now, packet.src)
+    !is_teredo(packet.src)
+        && client.peers.is_listed(now, packet.src)
         && !client.peers.is_fresh(now, packet.src)
         && is_reply_to(
             client.peers.nonce(now, packet.src),

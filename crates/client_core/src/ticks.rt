@@ -1,14 +1,13 @@
 //! What a client does where something is due.
-ghost use Rattle.std.specs.Prelude.{◌≡◌, ◌≤◌, ◌<◌, ℕ, max, true, false, None, Some, is_some, option_map, IfSome};
+ghost use Rattle.std.specs.Prelude.{◌≡◌, ◌≤◌, ℕ, true, false, None, Some, option_map};
 ghost use Rattle.teredo_node.specs.Journal.{Journal, ticked};
 ghost use Rattle.teredo_node.specs.Due.{IsFirstDue, Idles, Lessens};
-ghost use Rattle.peer_list.specs.Judged.{is_none, due_of};
-ghost use Rattle.peer_list.specs.Table.{peer_in, known_to, first_due_in};
-ghost use Rattle.peer_list.specs.Overdue.{IsNoSooner, overdue_in};
+ghost use Rattle.peer_list.specs.Table.{known_to, first_due_in};
+ghost use Rattle.peer_list.specs.Overdue.{IsNoSooner, IsOverdue};
 ghost use Rattle.qualify.specs.Solicitations.{is_due, own_address};
 ghost use Rattle.teredo_addr.specs.Teredo.{is_teredo};
 ghost use Rattle.client_core.specs.Client.{settings_of, words_ahead, ClientStandsFor, IsCallable, Enters, Does, AsBefore};
-ghost use Rattle.client_core.specs.Endpoint.{IsClientDue, owing, PutsOff};
+ghost use Rattle.client_core.specs.Endpoint.{IsClientDue, owing, PutsOff, IsSooner, MayBeDue};
 ghost use Rattle.client_rules.specs.Journals.{entry, client_due};
 ghost use Rattle.client_rules.specs.Ticks.{peer_due, peer_of_due, tries_peer, tick, try_fate, sooner};
 
@@ -42,7 +41,8 @@ fn fate_of_try(peer: Ip6) -> Fate
 
 /// Whether something is due before a moment.
 fn is_before(due: Option<Millis>, moment: Millis) -> bool
-    ensures { result ≡ false → IsNoSooner moment.0 (option_map (λ m. m.0) due) }
+    ensures no { result ≡ false → IsNoSooner moment.0 (option_map (λ m. m.0) due) }
+    ensures yes { result ≡ true → IsSooner moment.0 (option_map (λ m. m.0) due) }
 {
     match due {
         Some(at) => at.0 < moment.0,
@@ -94,7 +94,7 @@ impl Client {
         ensures less { PutsOff self.old self.new now.0 step.new }
     {
         below();
-        let Some(who) = self.due_peer(now) else {
+        let Some(who) = self.peers.overdue(now) else {
             step.reset(Fate::Idle);
             return;
         };
@@ -107,28 +107,10 @@ impl Client {
         self.try_again(now, who, step);
     }
 
-    /// The peer that is due first, where it is due by now.
-    fn due_peer(&self, now: Millis) -> Option<Ip6>
-        requires clock { self.now.peers.moment ≤ now.0 }
-        ensures first { result ≡ peer_of_due (peer_due now.0 (first_due_in self.now.peers now.0)) }
-        ensures listed { IfSome result (λ who. is_some (peer_in self.now.peers now.0 who) ≡ true) }
-        ensures waits { IfSome result (λ who. is_none (known_to self.now.peers now.0 who).waiting ≡ false) }
-        ensures past { IfSome result (λ who. due_of (known_to self.now.peers now.0 who) ≤ now.0) }
-    {
-        below();
-        let (at, who) = self.peers.due(now)?;
-        if now < at {
-            return None;
-        }
-        Some(who)
-    }
-
     /// Drops the packets that wait for a peer.
     fn give_up(&mut self, now: Millis, who: Ip6, step: &mut Step)
         requires callable { IsCallable self.old now.0 }
-        requires listed { is_some (peer_in self.old.peers now.0 who) ≡ true }
-        requires waits { is_none (known_to self.old.peers now.0 who).waiting ≡ false }
-        requires due { due_of (known_to self.old.peers now.0 who) ≤ now.0 }
+        requires overdue { IsOverdue self.old.peers now.0 who }
         ensures step { step.new ≡ tries_peer true (settings_of self.old) self.old.qualifier.now (record { who = who; peer = known_to self.old.peers now.0 who }) (words_ahead self.old) }
         ensures entered { Enters self.old (entry now.0 ticked None (Some who) (words_ahead self.old) step.new) self.new }
         ensures less { PutsOff self.old self.new now.0 step.new }
@@ -142,9 +124,7 @@ impl Client {
     /// Tries a peer for which packets wait.
     fn try_again(&mut self, now: Millis, who: Ip6, step: &mut Step)
         requires callable { IsCallable self.old now.0 }
-        requires listed { is_some (peer_in self.old.peers now.0 who) ≡ true }
-        requires waits { is_none (known_to self.old.peers now.0 who).waiting ≡ false }
-        requires due { due_of (known_to self.old.peers now.0 who) ≤ now.0 }
+        requires overdue { IsOverdue self.old.peers now.0 who }
         ensures step { step.new ≡ tries_peer false (settings_of self.old) self.old.qualifier.now (record { who = who; peer = known_to self.old.peers now.0 who }) (words_ahead self.old) }
         ensures entered { Enters self.old (entry now.0 ticked None (Some who) (words_ahead self.old) step.new) self.new }
         ensures less { PutsOff self.old self.new now.0 step.new }
@@ -164,28 +144,19 @@ impl Client {
         ensures first { IsFirstDue (owing self.now) now.0 result }
     {
         below();
-        sooner(self.qualifier.due(), self.first_try(now))
+        sooner(self.qualifier.due(), self.peers.next_due(now))
     }
 
-    /// Whether something may be due before a moment, whenever it is asked. It looks at two bounds alone, and so may say
-    /// that something is where nothing is.
+    /// Whether something may be due before a moment, whenever it is asked. It looks at the phase or the refresh and at one
+    /// peer, listed or not, and so may say that something is where nothing is.
     pub fn may_be_due_before(&self, moment: Millis) -> bool
-        ensures { result ≡ false → (j : Journal) (n : ℕ) → ClientStandsFor self.now j → self.now.peers.moment ≤ n → IsNoSooner moment.0 (client_due (settings_of self.now) j n) }
+        ensures none { result ≡ false → (j : Journal) (n : ℕ) → ClientStandsFor self.now j → self.now.peers.moment ≤ n → IsNoSooner moment.0 (client_due (settings_of self.now) j n) }
+        ensures some { result ≡ true → MayBeDue self.now moment.0 }
     {
         below();
         if is_before(self.qualifier.due(), moment) {
             return true;
         }
         self.peers.may_be_due_before(moment)
-    }
-
-    /// When the next try at a peer is due.
-    fn first_try(&self, now: Millis) -> Option<Millis>
-        requires clock { self.now.peers.moment ≤ now.0 }
-        ensures first { option_map (λ m. m.0) result ≡ option_map (λ l. due_of l.peer) (first_due_in self.now.peers now.0) }
-        ensures lasts { IfSome result (λ at. 0 < overdue_in self.now.peers (max now.0 at.0)) }
-    {
-        let (at, _) = self.peers.due(now)?;
-        Some(at)
     }
 }

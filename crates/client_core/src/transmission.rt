@@ -4,7 +4,6 @@ ghost use Rattle.ipv6_packet.specs.declared.header.TheConstants.{PACKET_MAX};
 ghost use Rattle.teredo_node.specs.Journal.{given};
 ghost use Rattle.peer_list.specs.Judged.{is_barred, is_full};
 ghost use Rattle.peer_list.specs.Table.{peer_in, known_to, has_room_in};
-ghost use Rattle.peer_list.specs.Calls.{queued_at, Updates, Keeps};
 ghost use Rattle.client_rules.specs.Standing.{Standing};
 ghost use Rattle.client_rules.specs.Tries.{try_nonce, try_words};
 ghost use Rattle.client_rules.specs.Transmission.{queues};
@@ -16,26 +15,9 @@ use crate::below::below;
 use crate::client::Client;
 use crate::transmission_line::{TransmissionLine, line_for};
 use crate::tries::send_try;
-use peer_list::{Peers, QueueRefusal};
 use td_base::{Ip6, Millis, NoMemory, Side};
 use teredo_addr::embedded;
 use teredo_node::{Fate, Step};
-
-/// Lets a packet wait for a peer that has room for it.
-fn wait(peers: &mut Peers, now: Millis, who: Ip6, packet: &[u8]) -> Result<(), NoMemory>
-    requires clock { peers.old.moment ≤ now.0 }
-    requires room { has_room_in peers.old now.0 who ≡ true }
-    requires free { is_full (known_to peers.old now.0 who) ≡ false }
-    requires short { length packet.now ≤ PACKET_MAX }
-    ensures queued { OnOk result (Updates peers.old peers.new now.0 who (queued_at now.0 packet.now (known_to peers.old now.0 who))) }
-    ensures kept { OnErr result (Keeps peers.old peers.new now.0) }
-{
-    match peers.queue(now, who, packet) {
-        Ok(()) => Ok(()),
-        Err(QueueRefusal::NoMemory) => Err(NoMemory),
-        Err(QueueRefusal::Full) => unreachable!(),
-    }
-}
 
 impl Client {
     /// Takes a packet of the host. Memory may be wanting where the packet is to wait.
@@ -97,7 +79,7 @@ impl Client {
     {
         below();
         let barred = self.peers.is_barred(now, who);
-        wait(&mut self.peers, now, who, bytes)?;
+        self.peers.wait(now, who, bytes)?;
         self.try_unless(barred, now, who, step);
         Ok(())
     }

@@ -12,11 +12,10 @@ ghost use Rattle.teredo_node.specs.declared.fate.Fate.{Fate};
 ghost use Rattle.teredo_node.specs.Rows.{first_line};
 
 use crate::client::Client;
-use crate::conditions::is_reachable;
 use bubble::is_bubble;
 use ipv6_packet::{Packet, is_big};
 use td_base::{Ep, Ip6, Millis, is_global6};
-use teredo_addr::{has_cone, is_teredo};
+use teredo_addr::{has_cone, is_reachable, is_teredo};
 use teredo_node::Fate;
 
 /// What the table says of a packet of the host.
@@ -75,7 +74,7 @@ fn line_for_destination(client: &Client, now: Millis, packet: &Packet<'_>) -> Tr
 {
     let who = packet.dst;
     // embedded: our choice
-    if is_teredo(who) && !is_reachable(client.qualifier.settings(), who) {
+    if is_teredo(who) && !is_reachable(client.qualifier.settings().policy, who) {
         return TransmissionLine::Drop(Fate::Embedded);
     }
     // sent: RFC 4380, section 5.2.4, case 1

@@ -5,12 +5,13 @@ use Rattle.std.proofs.lemmas.Bool.{false≢true, leb-true, leb-false}
 use Rattle.teredo_node.specs.declared.fate.Fate.TheVariants as fate
 use Rattle.teredo_node.specs.Step.{Step}
 use Rattle.teredo_node.specs.Journal.{ticked, Entry}
+use Rattle.peer_list.specs.Overdue.{due_by}
 use Rattle.peer_list.specs.Judged.{is_none, is_spent, due_of}
 use Rattle.peer_list.specs.Waiting.{Listing}
 use Rattle.peer_list.specs.Laws.{after}
 use Rattle.relay_rules.specs.Bearings.{bearing_of, mention, mentions}
 use Rattle.relay_rules.specs.Standing.{RelaySettings}
-use Rattle.relay_rules.specs.Ticks.{due_at, tries_peer}
+use Rattle.relay_rules.specs.Ticks.{tries_peer}
 use Rattle.relay_rules.specs.Journals.{entry, first_peer, ticks, relay_tick, relay_due}
 use Rattle.legal.specs.Left.{peers_due}
 use Rattle.legal.proofs.Weights.{weights}
@@ -70,6 +71,6 @@ relay_falls laws s j m n end d l within due le = by_peer (first_peer j n) refl w
   by_time false x is e =
       idled laws s j m n end d l within (λ y is_too. let same : x ≡ y = ap (λ (o : Option Listing). unwrap_or o x) (sym is ∙ is_too) in subst (λ (z : Listing). n < due_of z.peer) same (leb-false (due_of x.peer) n e)) (first_peer j m) refl due le
 
-  by_peer : (o : Option Listing) → first_peer j n ≡ o → falls (due_at n o)
+  by_peer : (o : Option Listing) → first_peer j n ≡ o → falls (due_by n o)
   by_peer None is = idled laws s j m n end d l within (λ y is_too. absurd (false≢true (ap is_some (sym is ∙ is_too)))) (first_peer j m) refl due le
   by_peer (Some x) is = by_time (nat_le (due_of x.peer) n) x is refl

@@ -1,6 +1,6 @@
 -- What an added entry leaves.
-use Rattle.std.proofs.Common.{◌≡◌, ◌≤◌, inl, inr, ℕ, ◌+◌, Bool, true, false, cond, List, length, find, get_or, Option, Some, None, refl, sym, ap, ◌∙◌, subst, arith}
-use Rattle.std.specs.Prelude.{is_some, nat_eq}
+use Rattle.std.proofs.Common.{◌≡◌, ◌≤◌, inl, inr, ℕ, ◌+◌, Bool, true, false, cond, List, length, find, get_or, Option, Some, None, Result, Ok, Err, refl, sym, ap, ◌∙◌, subst, arith}
+use Rattle.std.specs.Prelude.{is_some, nat_eq, OnOk, OnErr}
 use Rattle.std.specs.List.{AllByRecursion, count_by}
 use Rattle.std.specs.BTreeMap.{BTreeMap, IsOrdered, insert_entry, is_at}
 use Rattle.std.specs.BTreeMap as map
@@ -78,7 +78,7 @@ finds_added old new l n m a p =
     ∙ entry_filled old.slab new.slab a.key l (record { vacant = a.vacant; update = a.slab }) old.index new.index p n a.index
     ∙ ap (λ o. cond (same_ip6 p l.who) (Some l) o) (sym (finds old p n))
 
-pub kept_added : (old new : Entries) (l : Listing) (m : ℕ) → IsKept old m → IsWhole new → Adds old new l → new.touched ≡ old.touched → l.peer.touched ≡ Some m → IsKept new m
+kept_added : (old new : Entries) (l : Listing) (m : ℕ) → IsKept old m → IsWhole new → Adds old new l → new.touched ≡ old.touched → l.peer.touched ≡ Some m → IsKept new m
 kept_added old new l m k w a same touched = record {
   whole = w;
   touched = rw same (since_filled old.slab new.slab a.key l (record { vacant = a.vacant; update = a.slab }) old.index new.index old.touched.0 (subst (IsSince old.touched.0) (sym touched) k.past) k.touched);
@@ -100,9 +100,13 @@ pub listings_kept : (old new : Entries) → SameEntries old new → listings_of 
 listings_kept old new e =
     listings_same old.slab new.slab (λ k. ap (λ ss. get_or ss k None) e.slots) new.index.entries ∙ ap (listings_in old.slab) e.pairs
 
-pub kept_same : (old new : Entries) (m : ℕ) → SameEntries old new → new.touched ≡ old.touched → IsWhole new → IsKept old m → IsKept new m
+kept_same : (old new : Entries) (m : ℕ) → SameEntries old new → new.touched ≡ old.touched → IsWhole new → IsKept old m → IsKept new m
 kept_same old new m e same w k = record {
   whole = w;
   touched = rw same (λ key x h. k.touched key x (sym (ap (λ ss. get_or ss key None) e.slots) ∙ h));
   past = rw same k.past;
 }
+
+pub kept_answered : {A E : Type 0} (old new : Entries) (l : Listing) (m : ℕ) (r : Result A E) → IsKept old m → IsWhole new → new.touched ≡ old.touched → OnOk r (Adds old new l) → OnErr r (SameEntries old new) → l.peer.touched ≡ Some m → IsKept new m
+kept_answered old new l m (Ok _) k w same added kept touched = kept_added old new l m k w added same touched
+kept_answered old new l m (Err _) k w same added kept touched = kept_same old new m kept same w k

@@ -1,5 +1,5 @@
 -- What a call that lists a peer finds once it has taken out whoever isn't listed any more.
-use Rattle.std.proofs.Common.{◌≡◌, ℕ, ◌||◌, Bool, true, false, cond, List, [], ◌∷◌, length, filter, find, Option, Some, None, Result, Ok, Err, refl, sym, ap, ◌∙◌, subst, arith}
+use Rattle.std.proofs.Common.{◌≡◌, ℕ, ◌||◌, Bool, true, false, cond, List, [], ◌∷◌, length, filter, find, Option, Some, None, refl, sym, ap, ◌∙◌, subst, arith}
 use Rattle.std.specs.Prelude.{unwrap_or, is_some, nat_lt}
 use Rattle.std.specs.List.{AllByRecursion}
 use Rattle.std.proofs.lemmas.Bool.{false≢true}
@@ -10,9 +10,7 @@ use Rattle.peer_list.specs.Waiting.{Listing}
 use Rattle.td_base.specs.Ip6.{same_ip6}
 use Rattle.peer_list.specs.Table.{Table, table, while_listed, peer_listed, is_of, is_listed_at, peer_in, known_to, listed_in, has_room_in}
 use Rattle.peer_list.specs.Judged.{is_full}
-use Rattle.peer_list.specs.Calls.{Updates, Keeps, Queues, touched_at}
-use Rattle.peer_list.specs.declared.refusals.QueueRefusal.{QueueRefusal}
-use Rattle.peer_list.specs.declared.refusals.QueueRefusal.TheVariants as queue
+use Rattle.peer_list.specs.Calls.{Updates, Keeps, touched_at}
 use Rattle.peer_list.specs.Sound.{AreApart}
 use Rattle.peer_list.proofs.DueLemmas.{count_is}
 use Rattle.peer_list.proofs.ListingLemmas.{purged, known_there, updates_by}
@@ -57,12 +55,6 @@ there m ls kept who l p at =
 pub was_there : (m : ℕ) (ls kept : List Listing) (who : Ip6) (l : Listing) → Purged m ls kept → find (is_of who) kept ≡ Some l → known_to (table m ls) m who ≡ l.peer
 was_there m ls kept who l p at = sym (known_purged m ls kept who p) ∙ known_there (table m kept) m who l at (there m ls kept who l p at)
 
-pub room_there : (m : ℕ) (ls kept : List Listing) (who : Ip6) (l : Listing) → Purged m ls kept → find (is_of who) kept ≡ Some l → has_room_in (table m ls) m who ≡ true
-unfolding has_room_in
-room_there m ls kept who l p at =
-    let listed : is_some (peer_in (table m ls) m who) ≡ true = ap is_some (sym (peer_purged m ls kept who p)) ∙ there m ls kept who l p at in
-    ap (λ b. b || nat_lt (length (listed_in (table m ls) m)) PEERS_MAX) listed
-
 pub was_nowhere : (m : ℕ) (ls kept : List Listing) (who : Ip6) → Purged m ls kept → find (is_of who) kept ≡ None → peer_in (table m ls) m who ≡ None
 unfolding peer_in
 was_nowhere m ls kept who p none = sym (peer_purged m ls kept who p) ∙ ap (peer_listed m) none
@@ -89,12 +81,6 @@ keeps_same m ls kept items p is = subst (λ ks. Keeps (table m ls) (table m ks) 
 
 -- A PEER THAT IS NEW HAS ROOM
 
-pub empty_not_full : is_full no_peer ≡ false
+pub new_free : (m : ℕ) → is_full (touched_at m no_peer) ≡ false
 unfolding is_full
-empty_not_full = refl
-
-pub new_queues : (m : ℕ) (r : Result (Unit {0}) QueueRefusal) → Queues (touched_at m no_peer) r → Queues no_peer r
-unfolding is_full
-new_queues m (Ok _) h = h
-new_queues m (Err queue.Full) h = h
-new_queues m (Err queue.NoMemory) h = h
+new_free m = refl

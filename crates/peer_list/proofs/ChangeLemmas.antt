@@ -10,10 +10,9 @@ use Rattle.td_base.specs.declared.ipv6.Ip6.{Ip6}
 use Rattle.td_base.specs.declared.millis.Millis.{Millis}
 use Rattle.peer_list.specs.declared.entries.Entries.{Entries}
 use Rattle.peer_list.specs.Peers.{Peer}
-use Rattle.peer_list.specs.Judged.{due_of}
 use Rattle.peer_list.specs.Waiting.{Listing}
 use Rattle.peer_list.specs.Table.{table, is_of, peer_in, known_to}
-use Rattle.peer_list.specs.Calls.{Updates, touched_at}
+use Rattle.peer_list.specs.Calls.{Updates}
 use Rattle.peer_list.specs.Sound.{IsSince}
 use Rattle.peer_list.specs.Entries.{listings_of, key_of, entry_under, NameEachOther, due_at, AreInTurn, IsWhole, IsWholeBut, IsKept, with_peer_at, IsAfter}
 use Rattle.peer_list.proofs.OrderLemmas.{turn_same}
@@ -92,34 +91,16 @@ module _ (old new : Entries) (key : ℕ) (l : Listing) (peer : Peer) (a : IsAfte
       | inr differs ↦ ap due_at (change.update.others k differs)
     ]
 
-  whole_due : due_at (Some (with_peer_at l peer)) ≡ due_at (Some l) → new.order ≡ old.order → IsWhole old → IsWhole new
-  whole_due still order w = record {
-    names = names_after w;
-    once = rw order (once_changed old.slab new.slab key l (with_peer_at l peer) change old.order.items w.once);
-    turn = turn_due still order w;
-  }
-
   pub turn_still : (before : Option (Millis × Ip6)) → before ≡ due_at (get old.slab key) → due_at (get new.slab key) ≡ before → new.order ≡ old.order → IsWhole old → AreInTurn new.slab new.order.items
   turn_still before was now order w = turn_due (sym (ap due_at change.update.changed) ∙ now ∙ was ∙ ap due_at a.was) order w
-
-  -- a touch moves none
-  due_kept : (n : ℕ) → peer ≡ touched_at n l.peer → due_at (Some (with_peer_at l peer)) ≡ due_at (Some l)
-  unfolding due_of
-  due_kept n is = ap (λ (p : Peer). due_at (Some (with_peer_at l p))) is
-
-  pub whole_touched : (n : ℕ) → peer ≡ touched_at n l.peer → new.order ≡ old.order → IsWhole old → IsWhole new
-  whole_touched n is order w = whole_due (due_kept n is) order w
 
 -- what is known of an address that is listed, and has a key
 pub known_at : (e : Entries) (k n : ℕ) (who : Ip6) (key : ℕ) (l : Listing) → IsWhole e → key_of e who ≡ Some key → get e.slab key ≡ Some l → is_some (peer_in (table k (listings_of e)) n who) ≡ true → known_to (table k (listings_of e)) n who ≡ l.peer
 known_at e k n who key l w found at listed = known_there (table k (listings_of e)) n who l (found_at e who key l w.names found at) listed
 
--- a peer that was touched then, or that wasn't touched
+-- a peer that was touched then
 pub since_touched : (e : Entries) (m n : ℕ) (peer : Peer) → IsKept e m → m ≤ n → peer.touched ≡ Some n → IsSince e.touched.0 peer.touched
 since_touched e m n peer k later touched = subst (IsSince e.touched.0) (sym touched) (let past = k.past in omega (arith, past, later))
-
-pub since_untouched : (e : Entries) (m key : ℕ) (l : Listing) (peer : Peer) → IsKept e m → get e.slab key ≡ Some l → peer.touched ≡ l.peer.touched → IsSince e.touched.0 peer.touched
-since_untouched e m key l peer k at touched = subst (IsSince e.touched.0) (sym touched) (k.touched key l at)
 
 -- whoever was touched since one moment was touched since one before
 pub since_before : (a b : ℕ) (o : Option ℕ) → a ≤ b → IsSince b o → IsSince a o

@@ -12,7 +12,7 @@ use Rattle.peer_list.specs.Calls.{Updates, Keeps}
 use Rattle.peer_list.specs.Entries.{listings_of, key_of, entry_under, with_peer_at, IsWhole, IsKept, IsAfter, Adds}
 use Rattle.peer_list.proofs.PlaceLemmas.{apart_of}
 use Rattle.peer_list.proofs.EntryLemmas.{finds, sound_of, length_of}
-use Rattle.peer_list.proofs.AdmitLemmas.{Purged, keeps_purged, keeps_same, was_there, room_there, was_nowhere, room_nowhere, updates_purged}
+use Rattle.peer_list.proofs.AdmitLemmas.{Purged, keeps_purged, keeps_same, was_there, was_nowhere, room_nowhere, updates_purged}
 use Rattle.peer_list.proofs.ChangeLemmas.{found_at, finds_at}
 use Rattle.peer_list.proofs.AddLemmas.{finds_added}
 
@@ -49,9 +49,6 @@ module _ {e p : Entries} {m : ℕ} (was : IsKept e m) (kept : IsKept p m) (is : 
   module _ (who : Ip6) (key : ℕ) (l : Listing) (found : key_of p who ≡ Some key) (at : get p.slab key ≡ Some l) where
     pub known : known_to (table m (listings_of e)) m who ≡ l.peer
     known = was_there m (listings_of e) (listings_of p) who l purge (found_at p who key l kept.whole.names found at)
-
-    pub has_room : has_room_in (table m (listings_of e)) m who ≡ true
-    has_room = room_there m (listings_of e) (listings_of p) who l purge (found_at p who key l kept.whole.names found at)
 
     pub updates_there : (new : Entries) (peer : Peer) (call : Peer → Peer) → IsAfter p new key l peer → peer ≡ call l.peer
         → Updates (table m (listings_of e)) (table m (listings_of new)) m who (call (known_to (table m (listings_of e)) m who))

@@ -1,6 +1,7 @@
 -- A call on one entry, whose key is settled then: what the call needs, and what it leaves.
-use Rattle.std.proofs.Common.{◌≡◌, ◌≤◌, ℕ, true, find, Option, Some, refl, sym, ap, ◌∙◌, subst}
-use Rattle.std.specs.Prelude.{is_some}
+use Rattle.std.proofs.Common.{◌≡◌, ◌≤◌, ℕ, true, find, Option, Some, None, Result, refl, sym, ap, ◌∙◌, subst, arith}
+use Rattle.std.specs.Prelude.{is_some, unwrap_or, option_map, OnOk, OnErr}
+use Rattle.std.proofs.lemmas.Bool.{false≢true}
 use Rattle.slab.specs.Slab.{get, with_value}
 use Rattle.td_base.specs.declared.ipv6.Ip6.{Ip6}
 use Rattle.td_base.specs.declared.millis.Millis.{Millis}
@@ -8,12 +9,15 @@ use Rattle.peer_list.specs.declared.entries.Entries.{Entries}
 use Rattle.peer_list.specs.Peers.{Peer}
 use Rattle.peer_list.specs.Waiting.{Listing}
 use Rattle.peer_list.specs.Table.{Table, table, is_of, peer_in, known_to}
-use Rattle.peer_list.specs.Calls.{Updates}
+use Rattle.peer_list.specs.declared.change.Change.{Change}
+use Rattle.peer_list.specs.declared.change.Change.TheVariants.{Touch, Trust, Hear, Try, GiveUp}
+use Rattle.peer_list.specs.Calls.{changed_at, Updates, Keeps}
+use Rattle.peer_list.specs.Sound.{IsSince}
 use Rattle.peer_list.specs.Entries.{listings_of, key_of, due_at, AreInTurn, IsWhole, IsWholeBut, IsKept, with_peer_at, IsAfter}
 use Rattle.peer_list.specs.Timely.{IsTimely, AreTimely, IsHeld}
-use Rattle.peer_list.proofs.ListingLemmas.{has_listing}
-use Rattle.peer_list.proofs.TimelyLemmas.{timely_updated}
-use Rattle.peer_list.proofs.ChangeLemmas.{known_at, whole_but, turn_still, kept_after, updates_after, since_touched, since_untouched}
+use Rattle.peer_list.proofs.ListingLemmas.{has_listing, known_there}
+use Rattle.peer_list.proofs.TimelyLemmas.{timely_updated, timely_later, timely_answered}
+use Rattle.peer_list.proofs.ChangeLemmas.{known_at, whole_but, turn_still, kept_after, updates_after, since_touched}
 
 -- BEFORE THE KEY IS SETTLED
 
@@ -35,12 +39,25 @@ in_turn_still {e} key l peer before w was is now = turn_still e (with_peer e key
 pub is_settled : (e new : Entries) (key : ℕ) (l : Listing) (peer : Peer) → get e.slab key ≡ Some l → new.slab ≡ with_value e.slab key (with_peer_at l peer) → new.index ≡ e.index → new.touched ≡ e.touched → IsAfter e new key l peer
 is_settled e new key l peer was slab index touched = record { was = was; slab = slab; index = index; touched = touched }
 
--- by a call that touches, and by one that doesn't
+-- by a call that touches
 pub kept_touched : {e new : Entries} {k n key : ℕ} {l : Listing} {peer : Peer} → IsKept e k → k ≤ n → IsWhole new → IsAfter e new key l peer → peer.touched ≡ Some n → IsKept new n
 kept_touched {e} {new} {k} {n} {key} {l} {peer} kept later w a touched = kept_after e new key l peer a k n kept later w (since_touched e k n peer kept later touched)
 
-pub kept_untouched : {e new : Entries} {k n key : ℕ} {l : Listing} {peer : Peer} → IsKept e k → k ≤ n → IsWhole new → IsAfter e new key l peer → peer.touched ≡ l.peer.touched → IsKept new n
-kept_untouched {e} {new} {k} {n} {key} {l} {peer} kept later w a touched = kept_after e new key l peer a k n kept later w (since_untouched e k key l peer kept a.was touched)
+-- by each change
+changed_since : {e : Entries} {n : ℕ} (key : ℕ) {l : Listing} (change : Change) → IsKept e n → get e.slab key ≡ Some l → IsSince e.touched.0 (changed_at n change l.peer).touched
+changed_since key Touch kept was = kept.past
+changed_since key (Trust at) kept was = kept.past
+changed_since key Hear kept was = kept.past
+changed_since key (Try test) kept was = kept.past
+changed_since {e} {n} key {l} GiveUp kept was = kept.touched key l was
+
+pub kept_changed : {e new : Entries} {n key : ℕ} {l : Listing} {peer : Peer} (change : Change) → IsKept e n → IsWhole new → IsAfter e new key l peer → peer ≡ changed_at n change l.peer → IsKept new n
+kept_changed {e} {new} {n} {key} {l} {peer} change kept w a is =
+    kept_after e new key l peer a n n kept (omega arith) w (subst (λ (p : Peer). IsSince e.touched.0 p.touched) (sym is) (changed_since key change kept a.was))
+
+-- time alone
+pub kept_later : {e : Entries} {k n : ℕ} → IsKept e k → k ≤ n → IsKept e n
+kept_later kept later = record { whole = kept.whole; touched = kept.touched; past = let past = kept.past in omega (arith, past, later) }
 
 -- THE TABLE
 
@@ -58,6 +75,14 @@ module _ (e : Entries) (k n : ℕ) (who : Ip6) (v : Table) (is : table k (listin
   pub known_is : (key : ℕ) (l : Listing) → IsWhole e → is_some (peer_in v n who) ≡ true → key_of e who ≡ Some key → get e.slab key ≡ Some l → known_to v n who ≡ l.peer
   known_is key l w listed found was = ap (λ (t : Table). known_to t n who) (sym is) ∙ known_at e k n who key l w found was (seen listed)
 
+  known_by : (o : Option Listing) (peer : Peer) → find (is_of who) (listings_of e) ≡ o → option_map (λ (l : Listing). l.peer) o ≡ Some peer → is_some (peer_in v n who) ≡ true → known_to v n who ≡ peer
+  known_by None peer found some listed = absurd (false≢true (ap is_some some))
+  known_by (Some l) peer found some listed = ap (λ (t : Table). known_to t n who) (sym is) ∙ known_there (table k (listings_of e)) n who l found (seen listed) ∙ ap (λ (o : Option Peer). unwrap_or o peer) some
+
+  -- whoever is found is known
+  pub known_found : (peer : Peer) → option_map (λ (l : Listing). l.peer) (find (is_of who) (listings_of e)) ≡ Some peer → is_some (peer_in v n who) ≡ true → known_to v n who ≡ peer
+  known_found peer some listed = known_by (find (is_of who) (listings_of e)) peer refl some listed
+
   -- what is known of the peer is what the call makes of it
   pub updates_by_call : (new : Entries) (key : ℕ) (l : Listing) (peer : Peer) (call : Peer → Peer) → IsWhole e → is_some (peer_in v n who) ≡ true → key_of e who ≡ Some key → IsAfter e new key l peer → peer ≡ call l.peer
       → Updates v (table n (listings_of new)) n who (call (known_to v n who))
@@ -71,3 +96,13 @@ module _ (e : Entries) (k n : ℕ) (who : Ip6) (v : Table) (is : table k (listin
   held_by_call new key l peer call held clock listed found a done kept so =
       let before : AreTimely v = subst AreTimely is held.timely in
       record { kept = kept; timely = timely_updated v (table n (listings_of new)) n who (call (known_to v n who)) before clock (so before clock) (updates_by_call new key l peer call held.kept.whole listed found a done) }
+
+-- a call that may be refused
+pub held_answered : {A E : Type 0} (e new : Entries) (k n : ℕ) (who : Ip6) (call : Peer → Peer) (r : Result A E) → IsHeld e k → k ≤ n → IsKept new n
+    → (AreTimely (table n (listings_of e)) → IsTimely n (call (known_to (table n (listings_of e)) n who)))
+    → OnOk r (Updates (table n (listings_of e)) (table n (listings_of new)) n who (call (known_to (table n (listings_of e)) n who)))
+    → OnErr r (Keeps (table n (listings_of e)) (table n (listings_of new)) n) → IsHeld new n
+held_answered e new k n who call r held later kept so done refused =
+    let old : Table = table n (listings_of e) in
+    let before : AreTimely old = timely_later k n (listings_of e) later held.timely in
+    record { kept = kept; timely = timely_answered old (table n (listings_of new)) n who (call (known_to old n who)) r before (omega arith) (so before) done refused }

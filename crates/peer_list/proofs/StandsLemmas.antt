@@ -148,11 +148,11 @@ still_waits p = ap (λ (w : List (List ℕ)). record p { waiting = w }) (append-
 pub calls_of_an_entry : CallsOfAnEntry
 calls_of_an_entry m p who = record {
   touch = still_waits (touched_at m p);
-  queue = λ x. refl;
-  queue_tried = λ x nonce. refl;
+  wait = λ x. refl;
+  wait_tried = λ x nonce. refl;
   tried = λ nonce. still_waits (tried_at m nonce p);
   trust = λ at none i. record p { touched = Some m; trusted = Some at; tries = none i; nonce = None; waiting = append-nil p.waiting i };
-  heard_release = refl;
-  trust_heard_release = λ at. refl;
+  hear = refl;
+  trust_and_hear = λ at. refl;
   give_up = refl;
 }

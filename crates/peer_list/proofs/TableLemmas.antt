@@ -1,5 +1,5 @@
 -- What a table says of an address, and how its listings say it.
-use Rattle.std.proofs.Common.{◌≡◌, ◌≤◌, ◌<◌, ℕ, ◌-◌, Bool, true, false, cond, List, [], ◌∷◌, length, find, Option, Some, None, Result, Ok, Err, refl, sym, ap, ◌∙◌, arith}
+use Rattle.std.proofs.Common.{◌≡◌, ◌≤◌, ◌<◌, ℕ, ◌-◌, Bool, true, false, cond, List, [], ◌∷◌, length, find, Option, Some, None, refl, sym, ap, ◌∙◌, arith}
 use Rattle.std.specs.Prelude.{unwrap_or, is_some}
 use Rattle.std.specs.List.{list_any, IsDistinct}
 use Rattle.std.proofs.lemmas.Bool.{ltb-true, lt-ltb, false≢true}
@@ -11,11 +11,9 @@ use Rattle.peer_list.specs.Listed.{is_young, with_peer}
 use Rattle.peer_list.specs.Peers.{Peer, no_peer}
 use Rattle.peer_list.specs.Judged.{is_within}
 use Rattle.peer_list.specs.Waiting.{Listing}
-use Rattle.peer_list.specs.declared.refusals.PeersRefusal.{PeersRefusal}
-use Rattle.peer_list.specs.declared.refusals.PeersRefusal.TheVariants as peers
 use Rattle.peer_list.specs.Table.{Table, table, while_listed, peer_listed, is_of, peer_in, known_to, addresses, listed_in, has_room_in, waiting_in, first_due_in}
-use Rattle.peer_list.specs.Calls.{Updates, Keeps, Admits}
-use Rattle.peer_list.specs.Stands.{UpdateIsSeen, TouchedIsListed, FoundIsListed, UpdatesTwice}
+use Rattle.peer_list.specs.Calls.{Updates, Keeps}
+use Rattle.peer_list.specs.Stands.{UpdateIsSeen, TouchedIsListed, FoundIsListed, UpdatesTwice, TouchGoesOn}
 use Rattle.peer_list.proofs.Lists.{still, now_too, once_with, once_kept, narrowed}
 
 -- TIME
@@ -74,6 +72,12 @@ updates_twice a b c m who first next l u v = record {
       ∙ twice_by (same_ip6 p who) (while_listed n (next first)) (while_listed n first) (peer_in a n p);
 }
 
+pub touch_goes_on : TouchGoesOn
+touch_goes_on old mid m who peer touched u =
+    let stays = touched_is_listed m peer touched in
+    let seen = update_is_seen old mid m who peer stays u in
+    record { listed = ap is_some seen.0; known = seen.1; next = λ new call v. updates_twice old mid new m who peer call stays u v }
+
 -- WHO IS LISTED
 
 found_has : (p : Ip6) (n : ℕ) (ls : List Listing) → is_some (peer_listed n (find (is_of p) ls)) ≡ true → list_any (same_ip6 p) (addresses ls) ≡ true
@@ -131,9 +135,3 @@ pub other_updates : (m k n : ℕ) (ls : List Listing) (new : Table) (who : Ip6) 
     → Updates (table m ls) new n who (f (known_to (table m ls) n who)) → Updates (table k ls) new n who (f (known_to (table k ls) n who))
 unfolding peer_in
 other_updates m k n ls new who f h = record { moment = h.moment; view = h.view }
-
-pub other_admits : (m k n : ℕ) (ls : List Listing) (who : Ip6) (r : Result (Unit {0}) PeersRefusal) → Admits (table m ls) n who r → Admits (table k ls) n who r
-unfolding has_room_in listed_in peer_in
-other_admits m k n ls who (Ok _) h = h
-other_admits m k n ls who (Err peers.Full) h = h
-other_admits m k n ls who (Err peers.NoMemory) h = h

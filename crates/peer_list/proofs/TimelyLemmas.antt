@@ -11,7 +11,9 @@ use Rattle.peer_list.specs.Peers.{Peer, no_peer}
 use Rattle.peer_list.specs.Judged.{is_none, is_within, due_of}
 use Rattle.peer_list.specs.Waiting.{Listing}
 use Rattle.peer_list.specs.Table.{Table, table, while_listed, peer_listed, is_of, peer_in, known_to, first_due_in, due_and_who}
-use Rattle.peer_list.specs.Calls.{touched_at, trusted_at, heard_at, tried_at, queued_at, emptied, Updates, Keeps}
+use Rattle.peer_list.specs.declared.change.Change.{Change}
+use Rattle.peer_list.specs.declared.change.Change.TheVariants.{Touch, Trust, Hear, Try, GiveUp}
+use Rattle.peer_list.specs.Calls.{touched_at, trusted_at, heard_at, tried_at, queued_at, emptied, changed_at, Updates, Keeps}
 use Rattle.peer_list.specs.Timely.{IsTimely, AreTimely, FirstLasts}
 use Rattle.peer_list.proofs.TableLemmas.{listed_while, found_is_listed, other_peer}
 use Rattle.peer_list.proofs.OverdueLemmas.{later_same, first_overdue, overdue_of}
@@ -51,21 +53,28 @@ module _ (t : Table) (n : ℕ) (who : Ip6) (all : AreTimely t) (later : t.moment
   unfolding due_of
   queued_so packet = record { touched = n; at = refl; past = omega arith; due = soon }
 
-  pub trusted_so : (at : Ep) → IsTimely n (trusted_at n at (known_to t n who))
+  trusted_so : (at : Ep) → IsTimely n (trusted_at n at (known_to t n who))
   unfolding due_of
   trusted_so at = record { touched = n; at = refl; past = omega arith; due = omega arith }
 
-  pub heard_so : IsTimely n (heard_at n (known_to t n who))
+  heard_so : IsTimely n (heard_at n (known_to t n who))
   unfolding due_of
   heard_so = record { touched = n; at = refl; past = omega arith; due = omega arith }
 
-  pub tried_so : (test : Option ℕ) → IsTimely n (tried_at n test (known_to t n who))
+  tried_so : (test : Option ℕ) → IsTimely n (tried_at n test (known_to t n who))
   unfolding due_of
   tried_so test = record { touched = n; at = refl; past = omega arith; due = omega arith }
 
-  pub emptied_so : is_some (peer_in t n who) ≡ true → IsTimely n (emptied (known_to t n who))
+  emptied_so : is_some (peer_in t n who) ≡ true → IsTimely n (emptied (known_to t n who))
   unfolding due_of
   emptied_so h = let f = found h in record { touched = f.touched; at = f.at; past = f.past; due = f.due }
+
+  pub changed_so : (change : Change) → is_some (peer_in t n who) ≡ true → IsTimely n (changed_at n change (known_to t n who))
+  changed_so Touch h = touched_so
+  changed_so (Trust at) h = trusted_so at
+  changed_so Hear h = heard_so
+  changed_so (Try test) h = tried_so test
+  changed_so GiveUp h = emptied_so h
 
 -- A TABLE AFTER A CALL
 

@@ -1,23 +1,19 @@
 -- What each call does to what is known of its peer (RFC 4380, sections 5.2 and 5.2.6).
-use Rattle.std.specs.Prelude.{◌≡◌, ◌≤◌, ℕ, true, false, List, [], ◌∷◌, ◌++◌, map, take, Option, Some, None, if◌then◌else◌, is_some, Result, Ok, Err}
+use Rattle.std.specs.Prelude.{◌≡◌, ◌≤◌, ◌<◌, ℕ, List, [], ◌∷◌, ◌++◌, take, Option, Some, None, if◌then◌else◌}
 use Rattle.std.specs.Option.{option_or}
 use Rattle.td_base.specs.Ip6.{same_ip6}
 use Rattle.td_base.specs.declared.ipv6.Ip6.{Ip6}
 use Rattle.td_base.specs.declared.endpoint.Ep.{Ep}
-use Rattle.td_base.specs.declared.side.Side.{Side}
-use Rattle.teredo_node.specs.Step.{Send}
+use Rattle.td_outside.specs.declared.clock.TheConstants.{CLOCK_END_MS}
 use Rattle.peer_list.specs.declared.limits.TheConstants.{TRIES_MAX}
-use Rattle.peer_list.specs.declared.refusals.PeersRefusal.{PeersRefusal}
-use Rattle.peer_list.specs.declared.refusals.PeersRefusal.TheVariants as peers
-use Rattle.peer_list.specs.declared.refusals.QueueRefusal.{QueueRefusal}
-use Rattle.peer_list.specs.declared.refusals.QueueRefusal.TheVariants as queue
+use Rattle.peer_list.specs.declared.change.Change.{Change}
+use Rattle.peer_list.specs.declared.change.Change.TheVariants.{Touch, Trust, Hear, Try, GiveUp}
 use Rattle.peer_list.specs.Peers.{Peer}
-use Rattle.peer_list.specs.Judged.{is_full}
-use Rattle.peer_list.specs.Table.{Table, while_listed, peer_in, has_room_in}
+use Rattle.peer_list.specs.Table.{Table, while_listed, peer_in}
 
 -- A PEER AFTER A CALL AT m
 
--- `touch`, `admit`: it stays listed, or is listed from then on
+-- `touch`, `list`: it stays listed, or is listed from then on
 abbrev pub touched_at : ℕ → Peer → Peer
 touched_at m p = record p { touched = Some m }
 
@@ -25,21 +21,34 @@ touched_at m p = record p { touched = Some m }
 abbrev pub trusted_at : ℕ → Ep → Peer → Peer
 trusted_at m at p = record p { touched = Some m; trusted = Some at; tries = []; nonce = None }
 
--- `heard`
+-- `hear`: tries end, and nothing waits any more
 abbrev pub heard_at : ℕ → Peer → Peer
-heard_at m p = record p { touched = Some m; heard = Some m; tries = [] }
+heard_at m p = record p { touched = Some m; heard = Some m; tries = []; waiting = [] }
 
 -- `tried`: a nonce that is given replaces the one that is kept
 abbrev pub tried_at : ℕ → Option ℕ → Peer → Peer
 tried_at m nonce p = record p { touched = Some m; tries = take TRIES_MAX (m ∷ p.tries); nonce = option_or nonce p.nonce }
 
--- `queue`
+-- `wait`
 abbrev pub queued_at : ℕ → List ℕ → Peer → Peer
 queued_at m packet p = record p { touched = Some m; waiting = p.waiting ++ packet ∷ [] }
 
--- `release` and `give_up`: nothing waits
+-- `give_up`: nothing waits any more
 abbrev pub emptied : Peer → Peer
 emptied p = record p { waiting = [] }
+
+-- each change of a listed peer
+abbrev pub changed_at : ℕ → Change → Peer → Peer
+changed_at m Touch p = touched_at m p
+changed_at m (Trust at) p = trusted_at m at p
+changed_at m Hear p = heard_at m p
+changed_at m (Try test) p = tried_at m test p
+changed_at m GiveUp p = emptied p
+
+-- a try is noted while a clock runs
+abbrev pub IsInTime : ℕ → Change → Type 0
+IsInTime m (Try test) = m < CLOCK_END_MS
+IsInTime m _ = Unit {0}
 
 -- THE TABLE AFTER A CALL
 
@@ -52,21 +61,3 @@ pub record Updates (old new : Table) (m : ℕ) (who : Ip6) (peer : Peer) : Type 
 pub record Keeps (old new : Table) (m : ℕ) : Type 0 where
   pub moment : new.moment ≡ m
   pub view : (n : ℕ) (p : Ip6) → m ≤ n → peer_in new n p ≡ peer_in old n p
-
--- THE ANSWERS
-
--- `admit`: Full exactly where there is no room; memory may be wanting only for a peer that isn't listed
-abbrev pub Admits : Table → ℕ → Ip6 → Result (Unit {0}) PeersRefusal → Type 0
-Admits t n who (Ok _) = has_room_in t n who ≡ true
-Admits t n who (Err peers.Full) = has_room_in t n who ≡ false
-Admits t n who (Err peers.NoMemory) = (has_room_in t n who ≡ true) × (is_some (peer_in t n who) ≡ false)
-
--- `queue`: Full exactly where eight packets wait
-abbrev pub Queues : Peer → Result (Unit {0}) QueueRefusal → Type 0
-Queues peer (Ok _) = is_full peer ≡ false
-Queues peer (Err queue.Full) = is_full peer ≡ true
-Queues peer (Err queue.NoMemory) = is_full peer ≡ false
-
--- `release`: the packets in order, from one side to one endpoint
-abbrev pub sends_of : Side → Ep → List (List ℕ) → List Send
-sends_of side to packets = map (λ x. record { side = side; to = to; bytes = x }) packets

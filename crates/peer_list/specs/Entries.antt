@@ -97,6 +97,14 @@ pub record IsKept (e : Entries) (m : ℕ) : Type 0 where
   pub touched : IsSinceAll e.touched.0 e.slab
   pub past : e.touched.0 ≤ m
 
+-- an entry for which packets wait, due so
+pub record IsFirstOf (e : Entries) (x : Millis × Ip6) : Type 0 where
+  pub key : ℕ
+  pub listing : Listing
+  pub at : get e.slab key ≡ Some listing
+  pub waits : is_none listing.peer.waiting ≡ false
+  pub is : due_and_who listing ≡ x
+
 -- WHAT A CHANGE LEAVES
 
 abbrev pub with_peer_at : Listing → Peer → Listing

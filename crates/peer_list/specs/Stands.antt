@@ -70,6 +70,16 @@ abbrev pub UpdatesTwice : Type 0
 UpdatesTwice = (a b c : Table) (m : ℕ) (who : Ip6) (first : Peer) (next : Peer → Peer)
     → while_listed m first ≡ Some first → Updates a b m who first → Updates b c m who (next (known_to b m who)) → Updates a c m who (next first)
 
+-- a call leaves a peer listed, and a further one at that moment goes on from there
+pub record GoesOn (old mid : Table) (m : ℕ) (who : Ip6) (peer : Peer) : Type 0 where
+  pub listed : is_some (peer_in mid m who) ≡ true
+  pub known : known_to mid m who ≡ peer
+  pub next : (new : Table) (call : Peer → Peer) → Updates mid new m who (call (known_to mid m who)) → Updates old new m who (call peer)
+
+-- so does each that touches its peer
+abbrev pub TouchGoesOn : Type 0
+TouchGoesOn = (old mid : Table) (m : ℕ) (who : Ip6) (peer : Peer) → peer.touched ≡ Some m → Updates old mid m who peer → GoesOn old mid m who peer
+
 -- WHICH CALLS MAKE AN ENTRY
 
 abbrev pub touching : Bearing
@@ -78,15 +88,26 @@ touching = record no_bearing { touches = true }
 -- the calls of one entry, one after the other, come to what follows that entry
 pub record CallsAre (m : ℕ) (p : Peer) (who : Option Ip6) : Type 0 where
   pub touch : after (record { moment = m; peer = who; bearing = touching }) p ≡ touched_at m p
-  pub queue : (x : List ℕ) → after (record { moment = m; peer = who; bearing = record touching { queues = Some x } }) p ≡ queued_at m x p
-  pub queue_tried : (x : List ℕ) (nonce : Option ℕ)
+  pub wait : (x : List ℕ) → after (record { moment = m; peer = who; bearing = record touching { queues = Some x } }) p ≡ queued_at m x p
+  pub wait_tried : (x : List ℕ) (nonce : Option ℕ)
       → after (record { moment = m; peer = who; bearing = record touching { queues = Some x; tries = true; nonce = nonce } }) p ≡ tried_at m nonce (queued_at m x p)
   pub tried : (nonce : Option ℕ) → after (record { moment = m; peer = who; bearing = record touching { tries = true; nonce = nonce } }) p ≡ tried_at m nonce p
   pub trust : (at : Ep) → p.tries ≡ [] → after (record { moment = m; peer = who; bearing = record touching { trusts = Some at } }) p ≡ trusted_at m at p
-  pub heard_release : after (record { moment = m; peer = who; bearing = record touching { hears = true } }) p ≡ emptied (heard_at m p)
-  pub trust_heard_release : (at : Ep)
-      → after (record { moment = m; peer = who; bearing = record touching { hears = true; trusts = Some at } }) p ≡ emptied (heard_at m (trusted_at m at p))
+  pub hear : after (record { moment = m; peer = who; bearing = record touching { hears = true } }) p ≡ heard_at m p
+  pub trust_and_hear : (at : Ep)
+      → after (record { moment = m; peer = who; bearing = record touching { hears = true; trusts = Some at } }) p ≡ heard_at m (trusted_at m at p)
   pub give_up : after (record { moment = m; peer = who; bearing = record no_bearing { gives_up = true } }) p ≡ emptied p
 
 abbrev pub CallsOfAnEntry : Type 0
 CallsOfAnEntry = (m : ℕ) (p : Peer) (who : Option Ip6) → CallsAre m p who
+
+-- ALL THAT A NODE RESTS ON
+
+-- each under the name of the function that promises it
+pub record TableLaws : Type 0 where
+  pub table_is_read : TableIsRead
+  pub next_stands : NextStands
+  pub idle_stands : IdleStands
+  pub kept_stands : KeptStands
+  pub touch_goes_on : TouchGoesOn
+  pub calls_of_an_entry : CallsOfAnEntry

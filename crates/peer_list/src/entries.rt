@@ -1,12 +1,15 @@
 //! The entries of the listed peers: a slab, and what leads to its keys.
-ghost use Rattle.std.specs.Prelude.{◌≡◌, ◌≤◌, ◌<◌, ℕ, Some, None, find, filter, length, option_map, is_some, true, false, nat_lt, [], OnOk, OnErr};
+ghost use Rattle.std.specs.Prelude.{◌≡◌, ◌≤◌, ◌<◌, ℕ, Some, None, find, filter, length, option_map, is_some, true, false, nat_lt, [], IfSome, OnOk, OnErr};
 ghost use Rattle.slab.specs.Slab.{get, ContainsKey};
+ghost use Rattle.peer_list.specs.Calls.{changed_at, IsInTime};
+ghost use Rattle.peer_list.specs.Waiting.{Listing as Kept};
 ghost use Rattle.peer_list.specs.Table.{table, is_of, is_listed_at, listed_in, waiting_in, first_due_in, due_and_who};
-ghost use Rattle.peer_list.specs.Overdue.{due_moment, IsNoSooner};
+ghost use Rattle.peer_list.specs.Overdue.{due_moment, IsNoSooner, IsKeptDue};
 ghost use Rattle.peer_list.specs.declared.limits.TheConstants.{PEERS_MAX};
 ghost use Rattle.peer_list.specs.Sound.{NoneBefore};
-ghost use Rattle.peer_list.specs.Entries.{listings_of, entry_of, key_of, IsWhole, IsWholeBut, due_at, AreInTurn, IsSinceAll, IsKept, Adds, SameEntries};
+ghost use Rattle.peer_list.specs.Entries.{listings_of, entry_of, key_of, IsWhole, IsWholeBut, due_at, AreInTurn, IsSinceAll, IsKept, IsFirstOf, IsAfter, Adds, SameEntries};
 
+use crate::change::Change;
 use crate::limits::{LISTED_MS, PEERS_MAX};
 use crate::listed_peer::Peer;
 use crate::listings::Listing;
@@ -27,6 +30,12 @@ pub struct Entries {
     /// No entry was touched before, so that a call needn't look at each of them.
     pub touched: Millis,
 }
+
+// No clause sees a field that nothing reads: so they are their parts, and no byte more.
+const _: () = prove_eq!(
+    size_of::<Entries>(),
+    size_of::<(Slab<Listing>, BTreeMap<Ip6, usize>, Vec<usize>, Millis)>()
+);
 
 /// Whether there is an entry under a key.
 fn has_entry(slab: &Slab<Listing>, key: usize) -> bool
@@ -73,6 +82,15 @@ impl Entries {
         Some(&self.slab.get(self.find_key(who)?)?.peer)
     }
 
+    /// What is known of an address that has an entry.
+    pub fn peer(&self, who: Ip6) -> &Peer
+        requires whole { IsWhole self.now }
+        requires there { is_some (find (is_of who) (listings_of self.now)) ≡ true }
+        ensures { option_map (λ l. l.peer) (find (is_of who) (listings_of self.now)) ≡ Some result.now }
+    {
+        &self.slab[self.key(who)].peer
+    }
+
     /// Whether there is room for anybody: then nobody needs to be looked for.
     pub fn is_short(&self) -> bool
         ensures { result ≡ nat_lt (length self.now.index.entries) PEERS_MAX }
@@ -113,7 +131,8 @@ impl Entries {
     /// What is due before none of the entries, be they listed or not.
     fn first(&self) -> Option<(Millis, Ip6)>
         requires whole { IsWhole self.now }
-        ensures { NoneBefore result (listings_of self.now) }
+        ensures before { NoneBefore result (listings_of self.now) }
+        ensures there { IfSome result (IsFirstOf self.now) }
     {
         order::due_at(&self.slab, *self.order.first()?)
     }
@@ -121,7 +140,8 @@ impl Entries {
     /// Whether one of them may be due before a moment, be it listed then or not.
     pub fn may_be_due_before(&self, moment: Millis) -> bool
         requires whole { IsWhole self.now }
-        ensures { result ≡ false → (n : ℕ) → IsNoSooner moment.0 (option_map due_moment (first_due_in (table n (listings_of self.now)) n)) }
+        ensures none { result ≡ false → (n : ℕ) → IsNoSooner moment.0 (option_map due_moment (first_due_in (table n (listings_of self.now)) n)) }
+        ensures some { result ≡ true → (n : ℕ) → IsKeptDue (table n (listings_of self.now)) moment.0 }
     {
         match self.first() {
             None => false,
@@ -163,6 +183,19 @@ impl Entries {
         ensures touched { self.new.touched ≡ self.old.touched }
     {
         order::settle(&mut self.order, &self.slab, key, before);
+    }
+
+    /// Changes the peer of the entry under a key, and puts the key where it belongs then.
+    pub fn change(&mut self, key: usize, now: Millis, change: Change)
+        requires kept { IsKept self.old now.0 }
+        requires there { ContainsKey self.old.slab key }
+        requires early { IsInTime now.0 change }
+        ensures kept { IsKept self.new now.0 }
+        ensures changed { (l : Kept) → get self.old.slab key ≡ Some l → IsAfter self.old self.new key l (changed_at now.0 change l.peer) }
+    {
+        let before = self.due_at(key);
+        self.slab[key].peer.change(now, change);
+        self.settle(key, before);
     }
 
     /// When the first of all was touched.

@@ -3,16 +3,17 @@ ghost use Rattle.std.specs.Prelude.{◌≡◌, ◌≤◌, ◌<◌, ◌&&◌, not
 ghost use Rattle.std.specs.List.{AllByRecursion};
 ghost use Rattle.ipv6_packet.specs.declared.header.TheConstants.{PACKET_MAX};
 ghost use Rattle.td_outside.specs.declared.clock.TheConstants.{CLOCK_END_MS};
+ghost use Rattle.teredo_node.specs.Sends.{releases};
 ghost use Rattle.peer_list.specs.Peers.{no_peer};
 ghost use Rattle.peer_list.specs.Judged.{is_within, is_none, is_fresh, is_spent, is_barred, is_full, is_trusted_at, due_of};
-ghost use Rattle.peer_list.specs.Calls.{touched_at, trusted_at, heard_at, tried_at, queued_at, emptied, sends_of, Queues};
+ghost use Rattle.peer_list.specs.Calls.{touched_at, trusted_at, heard_at, tried_at, queued_at, emptied, changed_at, IsInTime};
 
+use crate::change::Change;
 use crate::limits::{FRESH_MS, LISTED_MS, TRIES_MAX, WAITING_MAX};
-use crate::refusals::QueueRefusal;
 use crate::tries::{self, Tries};
 use std::alloc::Global;
 use std::marker::Model;
-use td_base::{Ep, Millis, Side};
+use td_base::{Ep, Millis, NoMemory, Side};
 use td_outside::Octets;
 use teredo_node::Step;
 
@@ -26,6 +27,21 @@ pub struct Peer {
     nonce: Option<u64>,
     waiting: Vec<Octets>,
 }
+
+// No clause sees a field that nothing reads: so it is its parts, and no byte more.
+const _: () = prove_eq!(
+    size_of::<Peer>(),
+    size_of::<
+        (
+            Millis,
+            Option<Ep>,
+            Option<Millis>,
+            Tries,
+            Option<u64>,
+            Vec<Octets>
+        )
+    >()
+);
 
 impl Model for Peer {
     ghost use Rattle.std.specs.Prelude.{Some, option_map};
@@ -182,13 +198,44 @@ impl Peer {
         self.tries.next()
     }
 
-    pub(crate) fn touch(&mut self, now: Millis)
+    /// How many packets wait for it.
+    pub(crate) fn waiting_count(&self) -> u8
+        ensures { result ≡ length self.now.waiting }
+    {
+        self.waiting.len() as u8
+    }
+
+    /// Sends the packets that wait for it, in order, to one endpoint.
+    pub(crate) fn send_waiting(&self, to: Ep, step: &mut Step)
+        requires { step.old.sends ≡ [] }
+        ensures { step.new ≡ record step.old { sends = releases to self.now.waiting } }
+    {
+        for packet in &self.waiting {
+            step.push(Side::Primary, to, packet.as_slice());
+        }
+    }
+
+    /// Changes what is known of it.
+    pub(crate) fn change(&mut self, now: Millis, change: Change)
+        requires { IsInTime now.0 change }
+        ensures { self.new ≡ changed_at now.0 change self.old }
+    {
+        match change {
+            Change::Touch => self.touch(now),
+            Change::Trust(at) => self.trust(now, at),
+            Change::Hear => self.hear(now),
+            Change::Try(nonce) => self.note_try(now, nonce),
+            Change::GiveUp => self.give_up(),
+        }
+    }
+
+    fn touch(&mut self, now: Millis)
         ensures { self.new ≡ touched_at now.0 self.old }
     {
         self.touched = now;
     }
 
-    pub(crate) fn trust(&mut self, now: Millis, at: Ep)
+    fn trust(&mut self, now: Millis, at: Ep)
         ensures { self.new ≡ trusted_at now.0 at self.old }
     {
         self.touched = now;
@@ -197,15 +244,16 @@ impl Peer {
         self.nonce = None;
     }
 
-    pub(crate) fn hear(&mut self, now: Millis)
+    fn hear(&mut self, now: Millis)
         ensures { self.new ≡ heard_at now.0 self.old }
     {
         self.touched = now;
         self.heard = Some(now);
         self.tries.clear();
+        self.give_up();
     }
 
-    pub(crate) fn note_try(&mut self, now: Millis, nonce: Option<u64>)
+    fn note_try(&mut self, now: Millis, nonce: Option<u64>)
         requires { now.0 < CLOCK_END_MS }
         ensures { self.new ≡ tried_at now.0 nonce self.old }
     {
@@ -214,44 +262,22 @@ impl Peer {
         self.nonce = nonce.or(self.nonce);
     }
 
+    fn give_up(&mut self)
+        ensures { self.new ≡ emptied self.old }
+    {
+        self.waiting.clear();
+    }
+
     /// Lets a packet wait, and touches the peer. A refusal leaves it as it was.
     #[tactic(auto, unfolding(crate::specs::Judged::is_full))]
-    pub(crate) fn queue(
-        &mut self,
-        alloc: Global,
-        now: Millis,
-        packet: &[u8],
-    ) -> Result<(), QueueRefusal>
+    pub(crate) fn wait(&mut self, alloc: Global, now: Millis, packet: &[u8]) -> Result<(), NoMemory>
+        requires free { is_full self.old ≡ false }
         requires short { length packet.now ≤ PACKET_MAX }
-        ensures answer { Queues self.old result }
         ensures queued { OnOk result (self.new ≡ queued_at now.0 packet.now self.old) }
         ensures kept { OnErr result (self.new ≡ self.old) }
     {
-        if self.is_full() {
-            return Err(QueueRefusal::Full);
-        }
         self.waiting.push(Octets::new(alloc, packet)?)?;
         self.touched = now;
         Ok(())
-    }
-
-    pub(crate) fn release(&mut self, side: Side, to: Ep, step: &mut Step)
-        requires { step.old.sends ≡ [] }
-        ensures sends { step.new ≡ record step.old { sends = sends_of side to self.old.waiting } }
-        ensures rest { self.new ≡ emptied self.old }
-    {
-        for packet in &self.waiting {
-            step.push(side, to, packet.as_slice());
-        }
-        self.waiting.clear();
-    }
-
-    pub(crate) fn give_up(&mut self) -> u8
-        ensures count { result ≡ length self.old.waiting }
-        ensures rest { self.new ≡ emptied self.old }
-    {
-        let count = self.waiting.len() as u8;
-        self.waiting.clear();
-        count
     }
 }

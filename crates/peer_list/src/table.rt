@@ -1,31 +1,29 @@
-//! The peers that a node keeps.
-ghost use Rattle.std.specs.Prelude.{◌≡◌, ◌≤◌, ◌<◌, ◌∷◌, [], ℕ, true, false, length, option_map, is_some, OnOk, OnErr};
-ghost use Rattle.ipv6_packet.specs.declared.header.TheConstants.{PACKET_MAX};
-ghost use Rattle.td_outside.specs.declared.clock.TheConstants.{CLOCK_END_MS};
+//! The peers that a node keeps, and what is asked of them.
+ghost use Rattle.std.specs.Prelude.{◌≡◌, ◌≤◌, ◌<◌, [], ℕ, true, false, length, option_map, is_some, IfSome, IfNone};
 ghost use Rattle.peer_list.specs.Judged.{is_trusted_at, is_fresh, is_spent, is_barred, is_full};
 ghost use Rattle.peer_list.specs.Table.{empty_table, peer_in, known_to, listed_in, has_room_in, waiting_in, first_due_in, due_and_who};
-ghost use Rattle.peer_list.specs.Overdue.{due_moment, IsNoSooner};
+ghost use Rattle.peer_list.specs.Overdue.{due_moment, due_by, overdue_in, listing_at, IsOverdue, IsNoSooner, IsKeptDue};
 ghost use Rattle.peer_list.specs.Timely.{FirstLasts};
-ghost use Rattle.peer_list.specs.Calls.{touched_at, trusted_at, heard_at, tried_at, queued_at, emptied, Updates, Keeps, Admits, Queues, sends_of};
 ghost use Rattle.peer_list.specs.Stands.{StandsForMentions};
+ghost use Rattle.teredo_node.specs.Due.{IsFirstDue};
 
 use crate::entries::Entries;
 use crate::limits::PEERS_MAX;
 use crate::listed_peer::Peer;
-use crate::listings;
-use crate::refusals::{PeersRefusal, QueueRefusal};
 use std::alloc::Global;
 use std::marker::Model;
-use td_base::{Ep, Ip6, Millis, Side};
-use teredo_node::Step;
+use td_base::{Ep, Ip6, Millis};
 
 /// The peers that a node keeps.
 #[derive(Drop)]
 pub struct Peers {
-    alloc: Global,
-    moment: Millis,
-    entries: Entries,
+    pub(crate) alloc: Global,
+    pub(crate) moment: Millis,
+    pub(crate) entries: Entries,
 }
+
+// No clause sees a field that nothing reads: so they are their parts, and no byte more.
+const _: () = prove_eq!(size_of::<Peers>(), size_of::<(Global, Millis, Entries)>());
 
 impl Model for Peers {
     ghost use Rattle.peer_list.specs.Table.{Table};
@@ -62,6 +60,15 @@ impl Peers {
             return None;
         }
         Some(peer)
+    }
+
+    /// What is known of a listed address.
+    pub(crate) fn peer(&self, now: Millis, who: Ip6) -> &Peer
+        requires clock { self.now.moment ≤ now.0 }
+        requires listed { is_some (peer_in self.now now.0 who) ≡ true }
+        ensures { result.now ≡ known_to self.now now.0 who }
+    {
+        self.entries.peer(who)
     }
 
     /// Whether an address is listed.
@@ -169,110 +176,6 @@ impl Peers {
         self.is_listed(now, who) || self.count(now) < PEERS_MAX
     }
 
-    /// Lists and touches a peer. A refusal leaves all as it was.
-    pub fn admit(&mut self, now: Millis, who: Ip6) -> Result<(), PeersRefusal>
-        requires clock { self.old.moment ≤ now.0 }
-        ensures answer { Admits self.old now.0 who result }
-        ensures admitted { OnOk result (Updates self.old self.new now.0 who (touched_at now.0 (known_to self.old now.0 who))) }
-        ensures kept { OnErr result (Keeps self.old self.new now.0) }
-    {
-        self.moment = now;
-        listings::admit(&mut self.entries, self.alloc, now, who)
-    }
-
-    /// Lets a packet wait for a peer, which it lists and touches. A refusal leaves all as it was.
-    pub fn queue(&mut self, now: Millis, who: Ip6, packet: &[u8]) -> Result<(), QueueRefusal>
-        requires clock { self.old.moment ≤ now.0 }
-        requires room { has_room_in self.old now.0 who ≡ true }
-        requires short { length packet.now ≤ PACKET_MAX }
-        ensures answer { Queues (known_to self.old now.0 who) result }
-        ensures queued { OnOk result (Updates self.old self.new now.0 who (queued_at now.0 packet.now (known_to self.old now.0 who))) }
-        ensures kept { OnErr result (Keeps self.old self.new now.0) }
-    {
-        self.moment = now;
-        listings::queue(&mut self.entries, self.alloc, now, who, packet)
-    }
-
-    /// Touches a listed peer: it stays listed for `LISTED_MS` from now.
-    pub fn touch(&mut self, now: Millis, who: Ip6)
-        requires clock { self.old.moment ≤ now.0 }
-        requires listed { is_some (peer_in self.old now.0 who) ≡ true }
-        ensures { Updates self.old self.new now.0 who (touched_at now.0 (known_to self.old now.0 who)) }
-    {
-        self.moment = now;
-        let key = self.entries.key(who);
-        self.entries.slab[key].peer.touch(now);
-    }
-
-    /// Touches a listed peer, and trusts it at an endpoint from now on. What was tried is over, a test too.
-    pub fn trust(&mut self, now: Millis, who: Ip6, at: Ep)
-        requires clock { self.old.moment ≤ now.0 }
-        requires listed { is_some (peer_in self.old now.0 who) ≡ true }
-        ensures { Updates self.old self.new now.0 who (trusted_at now.0 at (known_to self.old now.0 who)) }
-    {
-        self.moment = now;
-        let key = self.entries.key(who);
-        let before = self.entries.due_at(key);
-        self.entries.slab[key].peer.trust(now, at);
-        self.entries.settle(key, before);
-    }
-
-    /// Touches a listed peer of which a direct reception came. What was tried is over; what waits goes by `release`.
-    pub fn heard(&mut self, now: Millis, who: Ip6)
-        requires clock { self.old.moment ≤ now.0 }
-        requires listed { is_some (peer_in self.old now.0 who) ≡ true }
-        ensures { Updates self.old self.new now.0 who (heard_at now.0 (known_to self.old now.0 who)) }
-    {
-        self.moment = now;
-        let key = self.entries.key(who);
-        let before = self.entries.due_at(key);
-        self.entries.slab[key].peer.hear(now);
-        self.entries.settle(key, before);
-    }
-
-    /// Touches a listed peer that was tried, where there is one with a test and its nonce. Whether it may be tried is
-    /// the caller's question: `is_barred`.
-    pub fn tried(&mut self, now: Millis, who: Ip6, nonce: Option<u64>)
-        requires clock { self.old.moment ≤ now.0 }
-        requires early { now.0 < CLOCK_END_MS }
-        requires listed { is_some (peer_in self.old now.0 who) ≡ true }
-        ensures { Updates self.old self.new now.0 who (tried_at now.0 nonce (known_to self.old now.0 who)) }
-    {
-        self.moment = now;
-        let key = self.entries.key(who);
-        let before = self.entries.due_at(key);
-        self.entries.slab[key].peer.note_try(now, nonce);
-        self.entries.settle(key, before);
-    }
-
-    /// Sends the packets that wait for a peer, in order, from one side to one endpoint.
-    pub fn release(&mut self, who: Ip6, side: Side, to: Ep, step: &mut Step)
-        requires listed { is_some (peer_in self.old self.old.moment who) ≡ true }
-        requires first { step.old.sends ≡ [] }
-        ensures sends { step.new ≡ record step.old { sends = sends_of side to (known_to self.old self.old.moment who).waiting } }
-        ensures rest { Updates self.old self.new self.old.moment who (emptied (known_to self.old self.old.moment who)) }
-    {
-        let key = self.entries.key(who);
-        let before = self.entries.due_at(key);
-        self.entries.slab[key].peer.release(side, to, step);
-        self.entries.settle(key, before);
-    }
-
-    /// Drops the packets that wait for a peer, and says how many there were. It doesn't touch the peer.
-    pub fn give_up(&mut self, now: Millis, who: Ip6) -> u8
-        requires clock { self.old.moment ≤ now.0 }
-        requires listed { is_some (peer_in self.old now.0 who) ≡ true }
-        ensures count { result ≡ length (known_to self.old now.0 who).waiting }
-        ensures rest { Updates self.old self.new now.0 who (emptied (known_to self.old now.0 who)) }
-    {
-        self.moment = now;
-        let key = self.entries.key(who);
-        let before = self.entries.due_at(key);
-        let count = self.entries.slab[key].peer.give_up();
-        self.entries.settle(key, before);
-        count
-    }
-
     /// When the next try is due, and whose: of those for whom packets wait the earliest, then the least address. That
     /// one is still listed when it is due.
     pub fn due(&self, now: Millis) -> Option<(Millis, Ip6)>
@@ -283,10 +186,35 @@ impl Peers {
         self.entries.due(now)
     }
 
+    /// When something is due: the next try, or the end of the packets that wait.
+    pub fn next_due(&self, now: Millis) -> Option<Millis>
+        requires clock { self.now.moment ≤ now.0 }
+        ensures told { option_map (λ m. m.0) result ≡ option_map due_moment (first_due_in self.now now.0) }
+        ensures first { IsFirstDue (overdue_in self.now) now.0 result }
+    {
+        let (at, _) = self.due(now)?;
+        Some(at)
+    }
+
+    /// The peer that is due first, where it is due by now.
+    pub fn overdue(&self, now: Millis) -> Option<Ip6>
+        requires clock { self.now.moment ≤ now.0 }
+        ensures first { option_map (listing_at self.now now.0) result ≡ due_by now.0 (first_due_in self.now now.0) }
+        ensures overdue { IfSome result (IsOverdue self.now now.0) }
+        ensures none { IfNone result (overdue_in self.now now.0 ≡ 0) }
+    {
+        let (at, who) = self.due(now)?;
+        if now < at {
+            return None;
+        }
+        Some(who)
+    }
+
     /// Whether a try may be due before a moment, whenever it is asked. It looks at one entry, listed or not, and so may
     /// say that one is where none is.
     pub fn may_be_due_before(&self, moment: Millis) -> bool
-        ensures { result ≡ false → (n : ℕ) → IsNoSooner moment.0 (option_map due_moment (first_due_in self.now n)) }
+        ensures none { result ≡ false → (n : ℕ) → IsNoSooner moment.0 (option_map due_moment (first_due_in self.now n)) }
+        ensures some { result ≡ true → IsKeptDue self.now moment.0 }
     {
         self.entries.may_be_due_before(moment)
     }
@@ -297,14 +225,5 @@ impl Peers {
         ensures { result ≡ waiting_in self.now now.0 }
     {
         self.entries.waiting(now)
-    }
-
-    /// Takes out all peers: it is as a new one.
-    pub fn clear(&mut self)
-        ensures empty { self.new ≡ empty_table }
-        ensures stands { StandsForMentions self.new [] }
-    {
-        self.moment = Millis(0);
-        self.entries.clear();
     }
 }

@@ -2,10 +2,10 @@
 ghost use Rattle.std.specs.Prelude.{◌≡◌, ◌≤◌, ◌<◌, length};
 ghost use Rattle.td_outside.specs.declared.clock.TheConstants.{CLOCK_END_MS};
 
-use crate::{Peers, PeersRefusal, QueueRefusal};
+use crate::Peers;
 use std::process::Abort;
 use std::test::Fail;
-use td_base::{Ep, Ip4, Ip6, Millis, Side};
+use td_base::{Ep, Ip4, Ip6, Millis, NoMemory};
 use teredo_node::{Fate, Step};
 
 const FROM: Ep = Ep {
@@ -22,13 +22,23 @@ fn address(number: u16) -> Ip6 {
     Ip6([0x20, 1, 0xd, 0xb8, 0, 0, 0, 0, 0, 0, 0, 0, 0, 0, high, low])
 }
 
-/// Queues a packet of one byte.
-fn queue(rt: &impl Abort, peers: &mut Peers, now: Millis, byte: u8) -> Result<(), QueueRefusal>
+/// Lists an address.
+fn list(rt: &impl Abort, peers: &mut Peers, now: Millis, who: Ip6) -> Result<(), NoMemory>
+    requires { peers.old.moment ≤ now.0 }
+    ensures { peers.new.moment ≡ now.0 }
+{
+    assert!(rt; peers.has_room(now, who));
+    peers.list(now, who)
+}
+
+/// Lets a packet of one byte wait.
+fn wait(rt: &impl Abort, peers: &mut Peers, now: Millis, byte: u8) -> Result<(), NoMemory>
     requires { peers.old.moment ≤ now.0 }
     ensures { peers.new.moment ≡ now.0 }
 {
     assert!(rt; peers.has_room(now, PEER));
-    peers.queue(now, PEER, &[byte])
+    assert!(rt; !peers.is_full(now, PEER));
+    peers.wait(now, PEER, &[byte])
 }
 
 /// Tries the peer.
@@ -46,14 +56,11 @@ fn try_at(rt: &impl Abort, peers: &mut Peers, now: Millis)
 fn a_256th_peer_and_a_257th(rt: HostRuntime) -> Result<(), Fail> {
     let mut peers = Peers::new(rt.alloc());
     for number in 0..256 {
-        peers.admit(Millis(7), address(number))?;
+        list(&rt, &mut peers, Millis(7), address(number))?;
     }
-    assert_eq!(rt;
-        peers.admit(Millis(300_006), address(256)),
-        Err(PeersRefusal::Full)
-    );
-    assert_eq!(rt; peers.admit(Millis(300_006), address(0)), Ok(()));
-    assert_eq!(rt; peers.admit(Millis(300_007), address(256)), Ok(()));
+    assert!(rt; !peers.has_room(Millis(300_006), address(256)));
+    list(&rt, &mut peers, Millis(300_006), address(0))?;
+    list(&rt, &mut peers, Millis(300_007), address(256))?;
     assert_eq!(rt; peers.count(Millis(300_007)), 2);
     Ok(())
 }
@@ -62,17 +69,14 @@ fn a_256th_peer_and_a_257th(rt: HostRuntime) -> Result<(), Fail> {
 fn eight_packets_and_a_ninth(rt: HostRuntime) -> Result<(), Fail> {
     let mut peers = Peers::new(rt.alloc());
     for byte in 0..8 {
-        queue(&rt, &mut peers, Millis(0), byte)?;
+        wait(&rt, &mut peers, Millis(0), byte)?;
     }
-    assert_eq!(rt;
-        queue(&rt, &mut peers, Millis(0), 8),
-        Err(QueueRefusal::Full)
-    );
+    assert!(rt; peers.is_full(Millis(0), PEER));
     assert_eq!(rt; peers.waiting(Millis(0)), 8);
     let mut step = Step::new();
     step.reset(Fate::Rule1);
     assert!(rt; peers.is_listed(Millis(0), PEER));
-    peers.release(PEER, Side::Primary, FROM, &mut step);
+    peers.hear(Millis(0), PEER, FROM, &mut step);
     assert_eq!(rt; step.count(), 8);
     assert_eq!(rt; step.send(0).2, [0].as_slice());
     assert_eq!(rt; peers.waiting(Millis(0)), 0);
@@ -82,9 +86,9 @@ fn eight_packets_and_a_ninth(rt: HostRuntime) -> Result<(), Fail> {
 #[test]
 fn late_ticks(rt: HostRuntime) -> Result<(), Fail> {
     let mut peers = Peers::new(rt.alloc());
-    queue(&rt, &mut peers, Millis(0), 1)?;
+    wait(&rt, &mut peers, Millis(0), 1)?;
     try_at(&rt, &mut peers, Millis(0));
-    queue(&rt, &mut peers, Millis(1_999), 2)?;
+    wait(&rt, &mut peers, Millis(1_999), 2)?;
     assert!(rt; peers.is_barred(Millis(1_999), PEER));
     assert_eq!(rt; peers.due(Millis(301_500)), Some((Millis(2_000), PEER)));
     assert_eq!(rt; peers.due(Millis(301_998)), Some((Millis(2_000), PEER)));
@@ -95,14 +99,14 @@ fn late_ticks(rt: HostRuntime) -> Result<(), Fail> {
 #[test]
 fn four_tries(rt: HostRuntime) -> Result<(), Fail> {
     let mut peers = Peers::new(rt.alloc());
-    queue(&rt, &mut peers, Millis(0), 1)?;
+    wait(&rt, &mut peers, Millis(0), 1)?;
     for turn in 0..4 {
         try_at(&rt, &mut peers, Millis(2_000 * turn));
     }
     assert!(rt; peers.is_spent(Millis(8_000), PEER));
     assert!(rt; peers.is_listed(Millis(8_000), PEER));
     assert_eq!(rt; peers.give_up(Millis(8_000), PEER), 1);
-    queue(&rt, &mut peers, Millis(299_999), 2)?;
+    wait(&rt, &mut peers, Millis(299_999), 2)?;
     assert!(rt; peers.is_barred(Millis(299_999), PEER));
     assert!(rt; !peers.is_barred(Millis(300_000), PEER));
     Ok(())
@@ -112,10 +116,10 @@ fn four_tries(rt: HostRuntime) -> Result<(), Fail> {
 fn trust_and_time(rt: HostRuntime) -> Result<(), Fail> {
     for (later, trusted) in [(299_999, true), (300_000, false)] {
         let mut peers = Peers::new(rt.alloc());
-        peers.admit(Millis(1), PEER)?;
+        list(&rt, &mut peers, Millis(1), PEER)?;
         assert!(rt; peers.is_listed(Millis(1), PEER));
         peers.trust(Millis(1), PEER, FROM);
-        peers.admit(Millis(1 + later), PEER)?;
+        list(&rt, &mut peers, Millis(1 + later), PEER)?;
         assert_eq!(rt; peers.is_trusted_at(Millis(1 + later), PEER, FROM), trusted);
     }
     Ok(())

@@ -5,10 +5,12 @@ ghost use Rattle.qualify.specs.Generator.{words_of, after_words};
 ghost use Rattle.qualify.specs.Turns.{interval_of};
 ghost use Rattle.qualify.specs.declared.limits.TheConstants.{INTERVAL_MIN_MS};
 ghost use Rattle.qualify.specs.Qualifier.{IsSettings};
+ghost use Rattle.qualify.specs.Advertisements.{advert_words};
 
 use crate::settings::Settings;
 use rand_chacha::ChaCha20Rng;
 use rand_core::utils::NextWord;
+use teredo_node::Fate;
 
 /// How many words a nonce is.
 pub const NONCE_WORDS: u8 = 2;
@@ -37,4 +39,15 @@ pub fn draw_interval(settings: &Settings, rng: &mut ChaCha20Rng) -> u32
 {
     let word = rng.next_word();
     settings.low + word % (settings.high - settings.low + 1)
+}
+
+/// How many words an advertisement of this fate drew: those of an interval, where the client became qualified.
+pub fn words_of_advert(fate: Fate) -> u8
+    ensures { result ≡ advert_words fate }
+{
+    match fate {
+        Fate::QualifiedCone => INTERVAL_WORDS,
+        Fate::QualifiedRestricted => INTERVAL_WORDS,
+        _ => 0,
+    }
 }

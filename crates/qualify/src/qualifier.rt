@@ -29,6 +29,9 @@ pub struct Qualifier {
     state: State,
 }
 
+// No clause sees a field that nothing reads: so it is its parts, and no byte more.
+const _: () = prove_eq!(size_of::<Qualifier>(), size_of::<(Settings, State)>());
+
 impl Model for Qualifier {
     ghost use Rattle.qualify.specs.Qualifier.{QualifierState, IsSettings};
     ghost use Rattle.qualify.specs.State.{qualification_of};

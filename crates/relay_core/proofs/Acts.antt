@@ -12,7 +12,7 @@ use Rattle.teredo_node.specs.Sends.{sending, releases}
 use Rattle.peer_list.specs.Peers.{Peer}
 use Rattle.peer_list.specs.Laws.{after}
 use Rattle.peer_list.specs.Table.{known_to}
-use Rattle.peer_list.specs.Calls.{Updates, trusted_at, heard_at, emptied}
+use Rattle.peer_list.specs.Calls.{Updates, trusted_at, heard_at}
 use Rattle.peer_list.specs.Stands.{bears_nothing}
 use Rattle.relay_core.specs.declared.relay.Relay.{Relay}
 use Rattle.relay_rules.specs.Bearings.{mention}
@@ -34,7 +34,7 @@ drops law r n from v f l d = record {
 
 -- the source of a payload, trusted where it says and heard
 abbrev pub heard : Relay → ℕ → Value → Peer
-heard r n v = emptied (heard_at n (trusted_at n (embedded v.packet.src) (known_to r.peers n v.packet.src)))
+heard r n v = heard_at n (trusted_at n (embedded v.packet.src) (known_to r.peers n v.packet.src))
 
 -- that is known of the source from then on, and all else is as it was
 pub record Hears (old : Relay) (n : ℕ) (v : Value) (new : Relay) : Type 0 where
@@ -64,12 +64,12 @@ released r n v f = sending f (releases (embedded v.packet.src) (known_to r.peers
 pub from_client_bubble : (law : Below) (old new : Relay) (n : ℕ) (from : Ep) (v : Value) → Hears old n v new → TakesPayload old n from v fate.FromClientBubble (released old n v fate.FromClientBubble) new
 from_client_bubble law old new n from v o =
     hears law old new n from v fate.FromClientBubble (released old n v fate.FromClientBubble) o
-    (λ x. (law.calls_of_an_entry n (known_to old.peers n v.packet.src) (Some v.packet.src)).trust_heard_release (embedded v.packet.src)) (λ x is. refl)
+    (λ x. (law.peers.calls_of_an_entry n (known_to old.peers n v.packet.src) (Some v.packet.src)).trust_and_hear (embedded v.packet.src)) (λ x is. refl)
 
 pub unserved : (law : Below) (old new : Relay) (n : ℕ) (from : Ep) (v : Value) → Hears old n v new → TakesPayload old n from v fate.Unserved (released old n v fate.Unserved) new
 unserved law old new n from v o =
     hears law old new n from v fate.Unserved (released old n v fate.Unserved) o
-    (λ x. (law.calls_of_an_entry n (known_to old.peers n v.packet.src) (Some v.packet.src)).trust_heard_release (embedded v.packet.src)) (λ x is. refl)
+    (λ x. (law.peers.calls_of_an_entry n (known_to old.peers n v.packet.src) (Some v.packet.src)).trust_and_hear (embedded v.packet.src)) (λ x is. refl)
 
 -- and the packet is passed on
 abbrev pub passed_on : Relay → ℕ → Value → Step
@@ -84,5 +84,5 @@ rest_is x v is =
 pub from_client : (law : Below) (old new : Relay) (n : ℕ) (from : Ep) (v : Value) → Hears old n v new → TakesPayload old n from v fate.FromClient (passed_on old n v) new
 from_client law old new n from v o =
     hears law old new n from v fate.FromClient (passed_on old n v) o
-    (λ x. (law.calls_of_an_entry n (known_to old.peers n v.packet.src) (Some v.packet.src)).trust_heard_release (embedded v.packet.src))
+    (λ x. (law.peers.calls_of_an_entry n (known_to old.peers n v.packet.src) (Some v.packet.src)).trust_and_hear (embedded v.packet.src))
     (λ x is. ap (λ (s : Span). record (released old n v fate.FromClient) { six = Some s }) (sym (rest_is x v is)))

@@ -65,7 +65,7 @@ pub record Bears (old : Relay) (e : Entry) (who : Ip6) (new : Relay) : Type 0 wh
 pub bears_stands : (law : Below) (old new : Relay) (e : Entry) (who : Ip6) → Bears old e who new → (j : List Entry) → RelayStandsFor old j → RelayStandsFor new (e ∷ j)
 unfolding mentions
 bears_stands law old new e who b j h = record {
-  peers = law.next_stands old.peers new.peers (mention e) (mentions j) who h.peers b.clock b.peer b.peers;
+  peers = law.peers.next_stands old.peers new.peers (mention e) (mentions j) who h.peers b.clock b.peer b.peers;
   quiet = quiet_next old.peers new.peers e.moment who (after (mention e) (known_to old.peers e.moment who)) b.clock b.peers (λ cone. b.quiet cone (h.quiet e.moment who b.clock cone)) h.quiet;
 }
 
@@ -81,7 +81,7 @@ bears_enters law old new e who peer u same b = record {
 -- an entry that means nothing for a peer: the relay is the same
 pub none_stands : (law : Below) (r : Relay) (e : Entry) → MeansNothing (mention e) → (j : List Entry) → RelayStandsFor r j → RelayStandsFor r (e ∷ j)
 unfolding mentions
-none_stands law r e idle j h = record { peers = law.idle_stands r.peers (mention e) (mentions j) h.peers idle; quiet = h.quiet }
+none_stands law r e idle j h = record { peers = law.peers.idle_stands r.peers (mention e) (mentions j) h.peers idle; quiet = h.quiet }
 
 pub none_enters : (law : Below) (r : Relay) (e : Entry) → MeansNothing (mention e) → r.peers.moment ≤ e.moment → Enters r e r
 none_enters law r e idle clock = record { stands = none_stands law r e idle; settings = refl; clock = clock }
@@ -92,7 +92,7 @@ none_enters law r e idle clock = record { stands = none_stands law r e idle; set
 pub keeps_stays : (law : Below) (old new : Relay) (n : ℕ) → old.peers.moment ≤ n → KeepsAll old n new → AsBefore old new
 keeps_stays law old new n clock k = record {
   stands = λ j h. record {
-    peers = law.kept_stands old.peers new.peers n (mentions j) h.peers clock k.peers;
+    peers = law.peers.kept_stands old.peers new.peers n (mentions j) h.peers clock k.peers;
     quiet = λ m p l cone.
         let later : n ≤ m = subst (λ (i : ℕ). i ≤ m) k.peers.moment l in
         subst (λ (o : Option Peer). IsQuiet (unwrap_or o no_peer)) (sym (k.peers.view m p later)) (h.quiet m p (le_trans clock later) cone);

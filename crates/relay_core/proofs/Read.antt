@@ -20,7 +20,7 @@ use Rattle.relay_core.specs.Below.{Below}
 use Rattle.relay_core.proofs.Entered.{none_stands}
 
 pub read_same : (law : Below) (r : Relay) (j : List Entry) (n : ℕ) → RelayStandsFor r j → r.peers.moment ≤ n → SaysTheSame r.peers (mentions j) n
-read_same law r j n h l = law.table_is_read r.peers (mentions j) n h.peers l
+read_same law r j n h l = law.peers.table_is_read r.peers (mentions j) n h.peers l
 
 pub standing_is : (law : Below) (r : Relay) (j : List Entry) (n : ℕ) (p : Ip6) → RelayStandsFor r j → r.peers.moment ≤ n → standing_in r n p ≡ standing_at j n p
 unfolding standing_at

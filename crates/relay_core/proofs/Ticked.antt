@@ -10,30 +10,30 @@ use Rattle.peer_list.specs.Peers.{Peer}
 use Rattle.peer_list.specs.Judged.{is_none, is_spent}
 use Rattle.peer_list.specs.Waiting.{Listing}
 use Rattle.peer_list.specs.Table.{known_to, first_due_in}
+use Rattle.peer_list.specs.Overdue.{due_by, listing_at, IsOverdue}
 use Rattle.peer_list.specs.Calls.{Updates, tried_at, emptied}
 use Rattle.peer_list.specs.Stands.{about_nobody}
 use Rattle.relay_core.specs.declared.relay.Relay.{Relay}
 use Rattle.relay_rules.specs.Transmission.{bubble_to}
-use Rattle.relay_rules.specs.Ticks.{due_at, peer_of_due, tries_peer, tick}
+use Rattle.relay_rules.specs.Ticks.{peer_of_due, tries_peer, tick}
 use Rattle.relay_rules.specs.Journals.{entry, first_peer, relay_tick}
 use Rattle.relay_core.specs.Relay.{settings_of, RelayStandsFor, Enters, Does}
-use Rattle.relay_core.specs.Endpoint.{IsOverdue}
 use Rattle.relay_core.specs.Below.{Below}
 use Rattle.relay_core.proofs.Entered.{bears_enters, none_enters}
 use Rattle.relay_core.proofs.Read.{read_same}
 
 -- what is due of a relay at n
 abbrev pub due_now : Relay → ℕ → Option Listing
-due_now r n = due_at n (first_due_in r.peers n)
+due_now r n = due_by n (first_due_in r.peers n)
 
-due_there : (law : Below) (r : Relay) (j : List Entry) (n : ℕ) → RelayStandsFor r j → r.peers.moment ≤ n → due_now r n ≡ due_at n (first_peer j n)
-due_there law r j n h l = let s = read_same law r j n h l in λ i. due_at n (s.first i)
+due_there : (law : Below) (r : Relay) (j : List Entry) (n : ℕ) → RelayStandsFor r j → r.peers.moment ≤ n → due_now r n ≡ due_by n (first_peer j n)
+due_there law r j n h l = let s = read_same law r j n h l in λ i. due_by n (s.first i)
 
 pub ticked_does : (law : Below) (old new : Relay) (n : ℕ) (due : Option Listing) (step : Step) → old.peers.moment ≤ n → due_now old n ≡ due → step ≡ tick (settings_of old) n due
     → Enters old (entry n ticked None (peer_of_due due) step) new → Does old n ticked step new
 unfolding relay_tick
 ticked_does law old new n due step l is did entered =
-    let whole : (j : List Entry) → RelayStandsFor old j → step ≡ tick (settings_of old) n (due_at n (first_peer j n)) =
+    let whole : (j : List Entry) → RelayStandsFor old j → step ≡ tick (settings_of old) n (due_by n (first_peer j n)) =
     (λ j h. did ∙ ap (λ (d : Option Listing). tick (settings_of old) n d) (sym is ∙ due_there law old j n h l)) in
     record {
       did = whole;
@@ -48,15 +48,12 @@ ticked_does law old new n due step l is did entered =
 pub idles : (law : Below) (r : Relay) (n : ℕ) → r.peers.moment ≤ n → due_now r n ≡ None → Does r n ticked (just fate.Idle) r
 idles law r n l is = ticked_does law r r n None (just fate.Idle) l is refl (none_enters law r (entry n ticked None None (just fate.Idle)) (about_nobody refl) l)
 
-abbrev pub listing : Relay → ℕ → Ip6 → Listing
-listing r n who = record { who = who; peer = known_to r.peers n who }
-
 -- a peer is due, which is spent or not
-pub does_peer : (law : Below) (old new : Relay) (n : ℕ) (who : Ip6) (spent : Bool) (step : Step) → old.peers.moment ≤ n → due_now old n ≡ Some (listing old n who)
-    → is_spent n (known_to old.peers n who) ≡ spent → step ≡ tries_peer spent (settings_of old) (listing old n who)
+pub does_peer : (law : Below) (old new : Relay) (n : ℕ) (who : Ip6) (spent : Bool) (step : Step) → old.peers.moment ≤ n → due_now old n ≡ Some (listing_at old.peers n who)
+    → is_spent n (known_to old.peers n who) ≡ spent → step ≡ tries_peer spent (settings_of old) (listing_at old.peers n who)
     → Enters old (entry n ticked None (Some who) step) new → Does old n ticked step new
 does_peer law old new n who spent step l is so did entered =
-    ticked_does law old new n (Some (listing old n who)) step l is (did ∙ ap (λ (b : Bool). tries_peer b (settings_of old) (listing old n who)) (sym so)) entered
+    ticked_does law old new n (Some (listing_at old.peers n who)) step l is (did ∙ ap (λ (b : Bool). tries_peer b (settings_of old) (listing_at old.peers n who)) (sym so)) entered
 
 -- one with the cone bit isn't, since nothing waits for it
 waits_not : (xs : List (List ℕ)) → xs ≡ [] → is_none xs ≡ false → ⊥
@@ -69,7 +66,7 @@ gave_up law old new n who gone l u same =
     bears_enters law old new (entry n ticked None (Some who) (record (just fate.GiveUp) { gone = gone })) who (emptied known) u same (λ j h. record {
       peer = refl;
       clock = l;
-      peers = subst (λ (p : Peer). Updates old.peers new.peers n who p) (sym (law.calls_of_an_entry n known (Some who)).give_up) u;
+      peers = subst (λ (p : Peer). Updates old.peers new.peers n who p) (sym (law.peers.calls_of_an_entry n known (Some who)).give_up) u;
       quiet = λ cone before. record { tries = before.tries; waiting = refl };
     })
 
@@ -80,6 +77,6 @@ tried_again law old new n who l due u same =
     bears_enters law old new (entry n ticked None (Some who) (sending fate.Bubbles (bubble_to (settings_of old) who ∷ []))) who (tried_at n None known) u same (λ j h. record {
       peer = refl;
       clock = l;
-      peers = subst (λ (p : Peer). Updates old.peers new.peers n who p) (sym ((law.calls_of_an_entry n known (Some who)).tried None)) u;
+      peers = subst (λ (p : Peer). Updates old.peers new.peers n who p) (sym ((law.peers.calls_of_an_entry n known (Some who)).tried None)) u;
       quiet = λ cone before. absurd (waits_not known.waiting before.waiting due.waits);
     })

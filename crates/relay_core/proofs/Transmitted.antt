@@ -27,7 +27,6 @@ use Rattle.relay_core.specs.Relay.{settings_of, standing_in, RelayStandsFor, Ent
 use Rattle.relay_core.specs.Lines.{DropsPacket, given_to}
 use Rattle.relay_core.specs.Below.{Below}
 use Rattle.relay_core.proofs.Entered.{bears_enters, none_enters, none_stands}
-use Rattle.relay_core.proofs.Peered.{then_call}
 use Rattle.relay_core.proofs.Read.{read_same, standing_is}
 
 -- a packet that was read
@@ -89,8 +88,8 @@ sent law old new n x p is l row u same =
     (bears_enters law old new (entry n (from_six x) (Some x) (Some p.dst) step) p.dst (touched_at n known) u same (λ j h. record {
       peer = refl;
       clock = l;
-      peers = subst (λ (k : Peer). Updates old.peers new.peers n p.dst k) (sym (law.calls_of_an_entry n known (Some p.dst)).touch) u;
-      quiet = λ cone before. subst (λ (k : Peer). IsQuiet k) (sym (law.calls_of_an_entry n known (Some p.dst)).touch) (record { tries = before.tries; waiting = before.waiting });
+      peers = subst (λ (k : Peer). Updates old.peers new.peers n p.dst k) (sym (law.peers.calls_of_an_entry n known (Some p.dst)).touch) u;
+      quiet = λ cone before. subst (λ (k : Peer). IsQuiet k) (sym (law.peers.calls_of_an_entry n known (Some p.dst)).touch) (record { tries = before.tries; waiting = before.waiting });
     }))
 
 -- an address with the cone bit that was listed and trusted where it says
@@ -100,12 +99,12 @@ pub sent_cone : (law : Below) (old mid new : Relay) (n : ℕ) (who : Ip6) (x : L
     → Enters old (entry n (from_six x) (Some x) (Some who) (sending fate.SentCone (send (embedded who) x ∷ []))) new
 sent_cone law old mid new n who x l cone listed trusted same =
     let known = known_to old.peers n who in
-    let u : Updates old.peers new.peers n who (trusted_at n (embedded who) known) = then_call law old.peers mid.peers new.peers n who known (λ (p : Peer). trusted_at n (embedded who) p) listed trusted in
+    let u : Updates old.peers new.peers n who (trusted_at n (embedded who) known) = (law.peers.touch_goes_on old.peers mid.peers n who (touched_at n known) refl listed).next new.peers (trusted_at n (embedded who)) trusted in
     bears_enters law old new (entry n (from_six x) (Some x) (Some who) (sending fate.SentCone (send (embedded who) x ∷ []))) who (trusted_at n (embedded who) known) u same (λ j h. record {
       peer = refl;
       clock = l;
-      peers = subst (λ (k : Peer). Updates old.peers new.peers n who k) (sym ((law.calls_of_an_entry n known (Some who)).trust (embedded who) (h.quiet n who l cone).tries)) u;
-      quiet = λ it before. subst (λ (k : Peer). IsQuiet k) (sym ((law.calls_of_an_entry n known (Some who)).trust (embedded who) before.tries)) (record { tries = refl; waiting = before.waiting });
+      peers = subst (λ (k : Peer). Updates old.peers new.peers n who k) (sym ((law.peers.calls_of_an_entry n known (Some who)).trust (embedded who) (h.quiet n who l cone).tries)) u;
+      quiet = λ it before. subst (λ (k : Peer). IsQuiet k) (sym ((law.peers.calls_of_an_entry n known (Some who)).trust (embedded who) before.tries)) (record { tries = refl; waiting = before.waiting });
     })
 
 -- the table after a packet that waits, and a try unless the peer is barred
@@ -125,16 +124,16 @@ queued law old new n who x true k =
     bears_enters law old new (entry n (from_six x) (Some x) (Some who) (queues true (settings_of old) who)) who (queued_at n x known) u k.settings (λ j h. record {
       peer = refl;
       clock = k.clock;
-      peers = subst (λ (p : Peer). Updates old.peers new.peers n who p) (sym ((law.calls_of_an_entry n known (Some who)).queue x)) u;
+      peers = subst (λ (p : Peer). Updates old.peers new.peers n who p) (sym ((law.peers.calls_of_an_entry n known (Some who)).wait x)) u;
       quiet = λ cone before. absurd (false≢true (sym k.plain ∙ cone));
     })
 queued law old new n who x false k =
     let known = known_to old.peers n who in
-    let u : Updates old.peers new.peers n who (tried_at n None (queued_at n x known)) = then_call law old.peers k.mid new.peers n who (queued_at n x known) (λ (p : Peer). tried_at n None p) k.waits k.tries in
+    let u : Updates old.peers new.peers n who (tried_at n None (queued_at n x known)) = (law.peers.touch_goes_on old.peers k.mid n who (queued_at n x known) refl k.waits).next new.peers (tried_at n None) k.tries in
     bears_enters law old new (entry n (from_six x) (Some x) (Some who) (queues false (settings_of old) who)) who (tried_at n None (queued_at n x known)) u k.settings (λ j h. record {
       peer = refl;
       clock = k.clock;
-      peers = subst (λ (p : Peer). Updates old.peers new.peers n who p) (sym ((law.calls_of_an_entry n known (Some who)).queue_tried x None)) u;
+      peers = subst (λ (p : Peer). Updates old.peers new.peers n who p) (sym ((law.peers.calls_of_an_entry n known (Some who)).wait_tried x None)) u;
       quiet = λ cone before. absurd (false≢true (sym k.plain ∙ cone));
     })
 

@@ -1,12 +1,9 @@
 -- A relay as an endpoint of a link: when something is due of it, and how much.
-use Rattle.std.specs.Prelude.{◌≡◌, ◌≤◌, ◌<◌, ℕ, true, false, List, Option, option_map, is_some}
-use Rattle.td_base.specs.declared.ipv6.Ip6.{Ip6}
+use Rattle.std.specs.Prelude.{◌≡◌, ◌<◌, ℕ, List, Option, option_map}
 use Rattle.td_base.specs.declared.millis.Millis.{Millis}
 use Rattle.teredo_node.specs.declared.fate.Fate.TheVariants.{Idle}
 use Rattle.teredo_node.specs.Step.{Step}
 use Rattle.teredo_node.specs.Journal.{Entry}
-use Rattle.peer_list.specs.Judged.{is_none, due_of}
-use Rattle.peer_list.specs.Table.{Table, peer_in, known_to}
 use Rattle.peer_list.specs.Overdue.{overdue_in}
 use Rattle.relay_core.specs.declared.relay.Relay.{Relay}
 use Rattle.relay_core.specs.Relay.{RelayStandsFor}
@@ -19,12 +16,6 @@ IsRelayDue r n due = (j : List Entry) → RelayStandsFor r j → option_map (λ 
 -- how much is due at a moment: packets that wait for peers whose next try is due
 abbrev pub owing : Relay → ℕ → ℕ
 owing r n = overdue_in r.peers n
-
--- it is listed, and packets wait for it that are due
-pub record IsOverdue (t : Table) (n : ℕ) (who : Ip6) : Type 0 where
-  pub listed : is_some (peer_in t n who) ≡ true
-  pub waits : is_none (known_to t n who).waiting ≡ false
-  pub due : due_of (known_to t n who) ≤ n
 
 -- what was due was done: less is due after it
 pub record DoesDue (old new : Relay) (n : ℕ) (step : Step) : Type 0 where

@@ -1,14 +1,13 @@
 //! What a relay does where something is due.
-ghost use Rattle.std.specs.Prelude.{◌≡◌, ◌≤◌, ◌<◌, ℕ, max, List, true, false, None, Some, is_some, option_map, IfSome};
+ghost use Rattle.std.specs.Prelude.{◌≡◌, ◌≤◌, ℕ, List, true, false, None, Some};
 ghost use Rattle.teredo_node.specs.Journal.{Entry, ticked};
 ghost use Rattle.teredo_node.specs.Due.{IsFirstDue, Idles, Lessens};
-ghost use Rattle.peer_list.specs.Judged.{due_of};
-ghost use Rattle.peer_list.specs.Table.{known_to, first_due_in};
-ghost use Rattle.peer_list.specs.Overdue.{IsNoSooner, overdue_in};
+ghost use Rattle.peer_list.specs.Table.{known_to};
+ghost use Rattle.peer_list.specs.Overdue.{IsNoSooner, IsKeptDue, IsOverdue};
 ghost use Rattle.relay_rules.specs.Journals.{entry, relay_due};
-ghost use Rattle.relay_rules.specs.Ticks.{due_at, tries_peer};
+ghost use Rattle.relay_rules.specs.Ticks.{tries_peer};
 ghost use Rattle.relay_core.specs.Relay.{settings_of, RelayStandsFor, IsCallable, Enters, Does, AsBefore};
-ghost use Rattle.relay_core.specs.Endpoint.{IsRelayDue, owing, IsOverdue, DoesDue};
+ghost use Rattle.relay_core.specs.Endpoint.{IsRelayDue, owing, DoesDue};
 
 use crate::below::below;
 use crate::relay::Relay;
@@ -24,7 +23,7 @@ impl Relay {
         ensures less { Lessens (owing self.old now.0) (owing self.new now.0) step.new }
     {
         below();
-        let Some(who) = self.due_peer(now) else {
+        let Some(who) = self.peers.overdue(now) else {
             step.reset(Fate::Idle);
             return;
         };
@@ -35,20 +34,6 @@ impl Relay {
         }
         // bubbles: RFC 4380, section 5.2.6
         self.try_again(now, who, step);
-    }
-
-    /// The peer that is due first, where it is due by now.
-    fn due_peer(&self, now: Millis) -> Option<Ip6>
-        requires clock { self.now.peers.moment ≤ now.0 }
-        ensures first { due_at now.0 (first_due_in self.now.peers now.0) ≡ option_map (λ who. record { who = who; peer = known_to self.now.peers now.0 who }) result }
-        ensures overdue { IfSome result (λ who. IsOverdue self.now.peers now.0 who) }
-    {
-        below();
-        let (at, who) = self.peers.due(now)?;
-        if now < at {
-            return None;
-        }
-        Some(who)
     }
 
     /// Drops the packets that wait for a peer.
@@ -85,25 +70,16 @@ impl Relay {
         ensures first { IsFirstDue (owing self.now) now.0 result }
     {
         below();
-        self.first_try(now)
+        self.peers.next_due(now)
     }
 
-    /// Whether something may be due before a moment, whenever it is asked. It looks at one bound alone, and so may say
-    /// that something is where nothing is.
+    /// Whether something may be due before a moment, whenever it is asked. It looks at one peer, listed or not, and so
+    /// may say that something is where nothing is.
     pub fn may_be_due_before(&self, moment: Millis) -> bool
-        ensures { result ≡ false → (j : List Entry) (n : ℕ) → RelayStandsFor self.now j → self.now.peers.moment ≤ n → IsNoSooner moment.0 (relay_due j n) }
+        ensures none { result ≡ false → (j : List Entry) (n : ℕ) → RelayStandsFor self.now j → self.now.peers.moment ≤ n → IsNoSooner moment.0 (relay_due j n) }
+        ensures some { result ≡ true → IsKeptDue self.now.peers moment.0 }
     {
         below();
         self.peers.may_be_due_before(moment)
-    }
-
-    /// When the next try at a peer is due.
-    fn first_try(&self, now: Millis) -> Option<Millis>
-        requires clock { self.now.peers.moment ≤ now.0 }
-        ensures first { option_map (λ m. m.0) result ≡ option_map (λ l. due_of l.peer) (first_due_in self.now.peers now.0) }
-        ensures lasts { IfSome result (λ at. 0 < overdue_in self.now.peers (max now.0 at.0)) }
-    {
-        let (at, _) = self.peers.due(now)?;
-        Some(at)
     }
 }

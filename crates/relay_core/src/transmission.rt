@@ -7,7 +7,6 @@ ghost use Rattle.teredo_node.specs.Journal.{from_six};
 ghost use Rattle.teredo_node.specs.Sends.{send, sending};
 ghost use Rattle.peer_list.specs.Judged.{is_barred, is_full};
 ghost use Rattle.peer_list.specs.Table.{peer_in, known_to, has_room_in};
-ghost use Rattle.peer_list.specs.Calls.{touched_at, queued_at, Updates, Keeps};
 ghost use Rattle.relay_rules.specs.Transmission.{queues};
 ghost use Rattle.relay_rules.specs.Journals.{entry};
 ghost use Rattle.relay_core.specs.Relay.{settings_of, IsCallable, Enters, Does, AsBefore, KeepsAll, TriesUnless, WantsMemory};
@@ -15,41 +14,9 @@ ghost use Rattle.relay_core.specs.Relay.{settings_of, IsCallable, Enters, Does, 
 use crate::below::below;
 use crate::relay::Relay;
 use crate::transmission_line::{TransmissionLine, line_for};
-use peer_list::{Peers, PeersRefusal, QueueRefusal};
 use td_base::{Ip6, Millis, NoMemory, Side};
 use teredo_addr::embedded;
 use teredo_node::{Fate, Step};
-
-/// Lists and touches a peer for which there is room.
-fn list(peers: &mut Peers, now: Millis, who: Ip6) -> Result<(), NoMemory>
-    requires clock { peers.old.moment ≤ now.0 }
-    requires room { has_room_in peers.old now.0 who ≡ true }
-    ensures listed { OnOk result (Updates peers.old peers.new now.0 who (touched_at now.0 (known_to peers.old now.0 who))) }
-    ensures kept { OnErr result (Keeps peers.old peers.new now.0) }
-    ensures unlisted { OnErr result (is_some (peer_in peers.old now.0 who) ≡ false) }
-{
-    match peers.admit(now, who) {
-        Ok(()) => Ok(()),
-        Err(PeersRefusal::NoMemory) => Err(NoMemory),
-        Err(PeersRefusal::Full) => unreachable!(),
-    }
-}
-
-/// Lets a packet wait for a peer that has room for it.
-fn wait(peers: &mut Peers, now: Millis, who: Ip6, packet: &[u8]) -> Result<(), NoMemory>
-    requires clock { peers.old.moment ≤ now.0 }
-    requires room { has_room_in peers.old now.0 who ≡ true }
-    requires free { is_full (known_to peers.old now.0 who) ≡ false }
-    requires short { length packet.now ≤ PACKET_MAX }
-    ensures queued { OnOk result (Updates peers.old peers.new now.0 who (queued_at now.0 packet.now (known_to peers.old now.0 who))) }
-    ensures kept { OnErr result (Keeps peers.old peers.new now.0) }
-{
-    match peers.queue(now, who, packet) {
-        Ok(()) => Ok(()),
-        Err(QueueRefusal::NoMemory) => Err(NoMemory),
-        Err(QueueRefusal::Full) => unreachable!(),
-    }
-}
 
 /// Begins a step with this fate by a packet to the endpoint that a client embeds.
 fn send_packet(who: Ip6, fate: Fate, packet: &[u8], step: &mut Step)
@@ -111,7 +78,7 @@ impl Relay {
         ensures untouched { OnErr result (step.new ≡ step.old) }
     {
         below();
-        list(&mut self.peers, now, who)?;
+        self.peers.list(now, who)?;
         send_packet(who, Fate::SentCone, bytes, step);
         self.peers.trust(now, who, embedded(who));
         Ok(())
@@ -137,7 +104,7 @@ impl Relay {
     {
         below();
         let barred = self.peers.is_barred(now, who);
-        wait(&mut self.peers, now, who, bytes)?;
+        self.peers.wait(now, who, bytes)?;
         self.try_unless(barred, now, who, step);
         Ok(())
     }

@@ -4,7 +4,6 @@ ghost use Rattle.td_base.specs.Reach.{is_global6};
 ghost use Rattle.ipv6_packet.specs.Packets.{view as packet_view};
 ghost use Rattle.ipv6_packet.specs.Reads.{is_big};
 ghost use Rattle.teredo_addr.specs.Teredo.{is_teredo};
-ghost use Rattle.teredo_addr.specs.Reaching.{is_reachable};
 ghost use Rattle.teredo_node.specs.declared.fate.Fate.{Fate};
 ghost use Rattle.teredo_node.specs.Rows.{first_line};
 ghost use Rattle.peer_list.specs.Table.{peer_in, known_to};
@@ -14,8 +13,8 @@ ghost use Rattle.relay_core.specs.Lines.{fate_for, given_to, WarrantsPacket, IsC
 
 use crate::relay::Relay;
 use ipv6_packet::{Packet, is_big};
-use td_base::{Ip6, Millis, is_global, is_global6, usable};
-use teredo_addr::{embedded, has_cone, is_teredo, server_of};
+use td_base::{Ip6, Millis, is_global6};
+use teredo_addr::{embedded, has_cone, is_reachable, is_teredo};
 use teredo_node::Fate;
 
 /// What the table says of a packet of the IPv6 side.
@@ -51,7 +50,7 @@ pub fn line_for(relay: &Relay, now: Millis, packet: &Packet<'_>) -> Transmission
         return TransmissionLine::Drop(Fate::Source);
     }
     // embedded: our choice
-    if !is_reachable(relay, packet.dst) {
+    if !is_reachable(relay.policy, packet.dst) {
         return TransmissionLine::Drop(Fate::Embedded);
     }
     // loop: our choice
@@ -109,12 +108,4 @@ fn is_foreign(ip: Ip6) -> bool
     ensures { result ≡ not (is_teredo ip || not (is_global6 ip)) }
 {
     !is_teredo(ip) && is_global6(ip)
-}
-
-/// Whether bubbles can be sent to a Teredo address.
-#[tactic(auto, unfolding(teredo_addr::specs::Reaching::is_reachable))]
-fn is_reachable(relay: &Relay, ip: Ip6) -> bool
-    ensures { result ≡ is_reachable (settings_of relay.now).policy ip }
-{
-    usable(relay.policy, embedded(ip)) && is_global(relay.policy, server_of(ip))
 }

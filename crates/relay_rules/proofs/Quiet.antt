@@ -13,6 +13,7 @@ use Rattle.teredo_node.specs.declared.fate.Fate.TheVariants as fate
 use Rattle.teredo_node.specs.Rows.{first_line}
 use Rattle.teredo_node.proofs.FirstLines.{skip}
 use Rattle.teredo_node.specs.Journal.{Input, arrived, given, from_six, ticked, Entry}
+use Rattle.peer_list.specs.Overdue.{due_by}
 use Rattle.peer_list.specs.declared.limits.TheConstants.{LISTED_MS}
 use Rattle.peer_list.specs.Mentions.{Mention, is_about}
 use Rattle.peer_list.specs.Listed.{is_young, is_listed}
@@ -25,7 +26,6 @@ use Rattle.relay_rules.specs.Bearings.{mention, mentions}
 use Rattle.relay_rules.specs.Standing.{RelaySettings, standing_of}
 use Rattle.relay_rules.specs.Reception.{Seen, seen, reception_lines, reception_row}
 use Rattle.relay_rules.specs.Transmission.{Given, given as given_of_packet, packet_lines, destination_lines, transmission_row}
-use Rattle.relay_rules.specs.Ticks.{due_at}
 use Rattle.relay_rules.specs.Journals.{relay_in, relay_six, ticks, relay_tick, relay_entry, IsJournal}
 use Rattle.relay_rules.specs.Laws.{IsQuiet, ConeIsQuiet}
 use Rattle.relay_rules.proofs.Fates.{fate_of_reception, fate_of_transmission, is_attempt, no_attempt}
@@ -129,7 +129,7 @@ waits_no_more [] e h = false≢true (sym h)
 waits_no_more (x ∷ xs) e h = false≢true (sym h ∙ ap is_none e)
 
 -- a peer that is due isn't quiet
-due_waits : (law : OfPeers) (ms : List Mention) (n : ℕ) (l : Listing) → due_at n (first_due ms n) ≡ Some l → is_none (known ms n l.who).waiting ≡ false
+due_waits : (law : OfPeers) (ms : List Mention) (n : ℕ) (l : Listing) → due_by n (first_due ms n) ≡ Some l → is_none (known ms n l.who).waiting ≡ false
 due_waits law ms n l h = by_first (first_due ms n) refl h where
   waits : (k : Listing) → first_due ms n ≡ Some k → is_none (known ms n k.who).waiting ≡ false
   waits k e = let found = law.first ms n k e in ap (λ (x : Peer). is_none x.waiting) (sym found.peer) ∙ found.waits
@@ -138,11 +138,11 @@ due_waits law ms n l h = by_first (first_due ms n) refl h where
   by_due true k e g = subst (λ (x : Listing). is_none (known ms n x.who).waiting ≡ false) (ap (λ (o : Option Listing). unwrap_or o l) g) (waits k e)
   by_due false k e g = absurd (false≢true (ap is_some g))
 
-  by_first : (o : Option Listing) → first_due ms n ≡ o → due_at n o ≡ Some l → is_none (known ms n l.who).waiting ≡ false
+  by_first : (o : Option Listing) → first_due ms n ≡ o → due_by n o ≡ Some l → is_none (known ms n l.who).waiting ≡ false
   by_first None e g = absurd (false≢true (ap is_some g))
   by_first (Some k) e g = by_due (nat_le (due_of k.peer) n) k e g
 
-of_due : (law : OfPeers) (s : RelaySettings) (j : List Entry) (n : ℕ) (p : Ip6) → AreQuiet p (mentions j) → (due : Option Listing) → due_at n (first_due (mentions j) n) ≡ due → NoAttempt p (ticks s n due)
+of_due : (law : OfPeers) (s : RelaySettings) (j : List Entry) (n : ℕ) (p : Ip6) → AreQuiet p (mentions j) → (due : Option Listing) → due_by n (first_due (mentions j) n) ≡ due → NoAttempt p (ticks s n due)
 of_due law s j n p quiet None e = by_fate p (ticks s n None) refl
 of_due law s j n p quiet (Some l) e = λ about.
     let is : p ≡ l.who = same_ip6-true p l.who about in
@@ -150,7 +150,7 @@ of_due law s j n p quiet (Some l) e = λ about.
 
 of_tick : (law : OfPeers) (s : RelaySettings) (j : List Entry) (n : ℕ) (p : Ip6) → AreQuiet p (mentions j) → NoAttempt p (relay_tick s j n)
 unfolding relay_tick
-of_tick law s j n p quiet = of_due law s j n p quiet (due_at n (first_due (mentions j) n)) refl
+of_tick law s j n p quiet = of_due law s j n p quiet (due_by n (first_due (mentions j) n)) refl
 
 of_entry : (law : OfPeers) (s : RelaySettings) (j : List Entry) (n : ℕ) (input : Input) (p : Ip6) → has_cone p ≡ true → AreQuiet p (mentions j) → NoAttempt p (relay_entry s j n input)
 of_entry law s j n (arrived from x) p cone quiet = of_datagram s j n from x p

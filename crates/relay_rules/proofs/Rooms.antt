@@ -9,6 +9,7 @@ use Rattle.teredo_node.specs.declared.fate.Fate.{Fate}
 use Rattle.teredo_node.specs.declared.fate.Fate.TheVariants as fate
 use Rattle.teredo_node.proofs.FirstLines.{first_where}
 use Rattle.teredo_node.specs.Journal.{Input, arrived, given as handed, from_six, ticked, Entry}
+use Rattle.peer_list.specs.Overdue.{due_by}
 use Rattle.peer_list.specs.Listed.{has_room}
 use Rattle.peer_list.specs.Peers.{Peer, no_peer}
 use Rattle.peer_list.specs.Judged.{due_of}
@@ -20,7 +21,6 @@ use Rattle.relay_rules.specs.Bearings.{bearing_of, mention, mentions}
 use Rattle.relay_rules.specs.Standing.{RelaySettings, Standing, standing_at, standing_of}
 use Rattle.relay_rules.specs.Reception.{Seen, seen, reception_row}
 use Rattle.relay_rules.specs.Transmission.{Given, given, packet_lines, transmission_row}
-use Rattle.relay_rules.specs.Ticks.{due_at}
 use Rattle.relay_rules.specs.Journals.{relay_in, relay_six, relay_tick, relay_entry, first_peer, ticks, IsJournal}
 use Rattle.relay_rules.specs.Laws.{JournalHasFew}
 use Rattle.relay_rules.proofs.Fates.{fate_of_reception, fate_of_transmission}
@@ -105,7 +105,7 @@ of_tick first s j n = by_peer (first_peer j n) refl where
       absurd (false≢true (sym none ∙ ap (has_room (mentions j) n) (sym same) ∙ room)))
   by_time false l is = room_of_none (mention (ticks s n None)) (mentions j) refl
 
-  by_peer : (o : Option Listing) → first_peer j n ≡ o → finds (due_at n o)
+  by_peer : (o : Option Listing) → first_peer j n ≡ o → finds (due_by n o)
   by_peer None is = room_of_none (mention (ticks s n None)) (mentions j) refl
   by_peer (Some l) is = by_time (nat_le (due_of l.peer) n) l is
 

@@ -14,12 +14,13 @@ use Rattle.teredo_node.specs.declared.fate.Fate.TheVariants as fate
 use Rattle.teredo_node.specs.Step.{Send}
 use Rattle.teredo_node.specs.Sends.{send, releases}
 use Rattle.teredo_node.specs.Journal.{Input, arrived, given, from_six, ticked, Entry}
+use Rattle.peer_list.specs.Overdue.{due_by}
 use Rattle.peer_list.specs.Judged.{is_spent, is_barred}
 use Rattle.peer_list.specs.Waiting.{Listing}
 use Rattle.relay_rules.specs.Standing.{RelaySettings, Standing, known_in, standing_at, standing_of}
 use Rattle.relay_rules.specs.Reception.{seen, released, reception_row, reception_step, reception}
 use Rattle.relay_rules.specs.Transmission.{given as given_to, queues, transmission_row, transmission_step, transmission}
-use Rattle.relay_rules.specs.Ticks.{due_at, peer_of_due, tries_peer, tick}
+use Rattle.relay_rules.specs.Ticks.{peer_of_due, tries_peer, tick}
 use Rattle.relay_rules.specs.Journals.{relay_in, relay_six, relay_tick, first_peer, relay_entry, IsJournal}
 use Rattle.relay_rules.specs.Warrants.{IsOfPeer, ReceivedOnlyIf, GoesOut, SentOnlyIf}
 use Rattle.relay_rules.specs.Laws.{IsForeignTo, WaitingIsForeign}
@@ -129,7 +130,7 @@ of_entry : WaitingIsForeign → (s : RelaySettings) (j : List Entry) (n : ℕ) (
 unfolding relay_in relay_six relay_tick
 of_entry wait s j n (arrived from x) a = of_datagram s (standing_of j n (source_in x)) from x (ready wait s j n (source_in x) a)
 of_entry wait s j n (from_six x) a = of_packet s (standing_of j n (destination_in x)) x
-of_entry wait s j n ticked a = of_due s n (due_at n (first_peer j n))
+of_entry wait s j n ticked a = of_due s n (due_by n (first_peer j n))
 of_entry wait s j n (given x) a = tt
 
 pub each_send : WaitingIsForeign → EachSend

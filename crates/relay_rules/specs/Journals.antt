@@ -8,11 +8,12 @@ use Rattle.teredo_node.specs.Step.{Step, just}
 use Rattle.teredo_node.specs.Journal.{Input, arrived, given, from_six, ticked, Entry}
 use Rattle.peer_list.specs.Judged.{due_of}
 use Rattle.peer_list.specs.Waiting.{Listing, first_due}
+use Rattle.peer_list.specs.Overdue.{due_by}
 use Rattle.relay_rules.specs.Bearings.{mentions}
 use Rattle.relay_rules.specs.Standing.{RelaySettings, standing_of}
 use Rattle.relay_rules.specs.Reception.{reception}
 use Rattle.relay_rules.specs.Transmission.{transmission}
-use Rattle.relay_rules.specs.Ticks.{due_at, peer_of_due, tick}
+use Rattle.relay_rules.specs.Ticks.{peer_of_due, tick}
 
 -- a relay draws no words
 abbrev pub entry : ℕ → Input → Option (List ℕ) → Option Ip6 → Step → Entry
@@ -41,7 +42,7 @@ ticks s n due = entry n ticked None (peer_of_due due) (tick s n due)
 
 -- the entry of a tick
 unfoldable pub relay_tick : RelaySettings → List Entry → ℕ → Entry
-relay_tick s j n = ticks s n (due_at n (first_peer j n))
+relay_tick s j n = ticks s n (due_by n (first_peer j n))
 
 -- when a tick is due
 unfoldable pub relay_due : List Entry → ℕ → Option ℕ

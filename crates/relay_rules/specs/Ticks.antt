@@ -1,18 +1,13 @@
 -- What a relay does at a tick: the peer that is due first gets a bubble, or its packets are dropped (RFC 4380, section 5.2.6).
-use Rattle.std.specs.Prelude.{ℕ, Bool, true, false, nat_le, if◌then◌else◌, [], ◌∷◌, length, Option, Some, None, option_map}
+use Rattle.std.specs.Prelude.{ℕ, Bool, true, false, [], ◌∷◌, length, Option, Some, None, option_map}
 use Rattle.td_base.specs.declared.ipv6.Ip6.{Ip6}
 use Rattle.teredo_node.specs.declared.fate.Fate.TheVariants as fate
 use Rattle.teredo_node.specs.Step.{Step, just}
 use Rattle.teredo_node.specs.Sends.{sending}
-use Rattle.peer_list.specs.Judged.{is_spent, due_of}
+use Rattle.peer_list.specs.Judged.{is_spent}
 use Rattle.peer_list.specs.Waiting.{Listing}
 use Rattle.relay_rules.specs.Standing.{RelaySettings}
 use Rattle.relay_rules.specs.Transmission.{bubble_to}
-
--- the peer that is due first, where it is due at n
-abbrev pub due_at : ℕ → Option Listing → Option Listing
-due_at n None = None
-due_at n (Some l) = if nat_le (due_of l.peer) n then Some l else None
 
 -- whom a tick is about
 abbrev pub peer_of_due : Option Listing → Option Ip6

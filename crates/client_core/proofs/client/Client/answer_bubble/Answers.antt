@@ -4,21 +4,19 @@ use Rattle.bubble.specs.Payloads.{view}
 use Rattle.teredo_node.specs.declared.fate.Fate.TheVariants as fate
 use Rattle.teredo_node.specs.Step.{Step, with_send}
 use Rattle.teredo_node.specs.Sends.{sending}
-use Rattle.peer_list.specs.Peers.{Peer}
 use Rattle.peer_list.specs.Table.{known_to}
-use Rattle.peer_list.specs.Calls.{tried_at}
+use Rattle.peer_list.specs.Calls.{touched_at, tried_at}
 use Rattle.qualify.specs.Solicitations.{own_address}
 use Rattle.client_core.specs.declared.client.Client.{Client}
 use Rattle.client_rules.specs.Tries.{direct_bubble}
 use Rattle.client_core.specs.Client.{TakesPayload}
-use Rattle.client_core.proofs.Peered.{seen_listed, then_call}
 use Rattle.client_core.proofs.Acts.{indirect}
 use Rattle.client_core.proofs.client.Client.answer_bubble.Goals as goal
 
 pub tried-requires-clause-listed : goal.tried-requires-clause-listed
 tried-requires-clause-listed c =
     let known = known_to c.args.self.now.peers c.args.now.0 c.args.payload.now.packet.src in
-    seen_listed c.below.ensures c.args.self.now.peers c.list.new.peers c.args.now.0 c.args.payload.now.packet.src known c.in_ok-list.ensures.listed
+    (c.below.ensures.peers.touch_goes_on c.args.self.now.peers c.list.new.self c.args.now.0 c.args.payload.now.packet.src (touched_at c.args.now.0 known) refl c.in_ok-list.ensures.listed).listed
 
 pub returns-clause-done : goal.returns-clause-done
 returns-clause-done c from =
@@ -33,7 +31,7 @@ returns-clause-done c from =
     (indirect c.below.ensures old new n from v c.args.origin (record {
       clock = c.requires.callable.clock;
       origin = c.requires.origin;
-      peers = then_call c.below.ensures old.peers c.list.new.peers c.tried.new.self n v.packet.src known (λ (p : Peer). tried_at n None p) c.in_ok-list.ensures.listed c.tried.ensures;
+      peers = (c.below.ensures.peers.touch_goes_on old.peers c.list.new.self n v.packet.src (touched_at n known) refl c.in_ok-list.ensures.listed).next c.tried.new.self (tried_at n None) c.tried.ensures.tried;
       qualified = c.heard_server.ensures.stands;
       settings = c.heard_server.ensures.settings;
       rng = refl;

@@ -19,6 +19,5 @@ returns-clause-entered c =
 pub returns-clause-less : goal.returns-clause-less
 returns-clause-less c =
     let old = c.args.self.now in
-    given_up c.below.ensures old (record old { peers = c.give_up-gone.new.self }) c.args.now.0 c.args.who c.set_gone.new.self
-    (record { listed = c.requires.listed; waits = c.requires.waits; due = c.requires.due }) c.give_up-gone.ensures.rest refl
+    given_up old (record old { peers = c.give_up-gone.new.self }) c.args.now.0 c.set_gone.new.self (c.give_up-gone.ensures.less c.requires.overdue) refl
     (ap (λ (s : Step). s.fate) (c.set_gone.ensures ∙ (λ i. record (c.reset.ensures i) { gone = c.from.result })))

@@ -7,13 +7,12 @@ use Rattle.qualify.specs.Generator.{after_words}
 use Rattle.client_rules.specs.Transmission.{queues}
 use Rattle.client_rules.specs.Journals.{entry}
 use Rattle.client_core.specs.Client.{settings_of, words_ahead, standing_in, Enters}
-use Rattle.client_core.proofs.Peered.{seen_listed}
 use Rattle.client_core.proofs.TickActs.{queued}
 use Rattle.client_core.proofs.client.Client.queue.Goals as goal
 
 pub try_unless-requires-clause-listed : goal.try_unless-requires-clause-listed
 try_unless-requires-clause-listed c =
-    seen_listed c.below.ensures c.args.self.now.peers c.wait.new.peers c.args.now.0 c.args.who (queued_at c.args.now.0 c.args.bytes.now (known_to c.args.self.now.peers c.args.now.0 c.args.who)) c.in_ok-wait.ensures.queued
+    (c.below.ensures.peers.touch_goes_on c.args.self.now.peers c.wait.new.self c.args.now.0 c.args.who (queued_at c.args.now.0 c.args.bytes.now (known_to c.args.self.now.peers c.args.now.0 c.args.who)) refl c.in_ok-wait.ensures.queued).listed
 
 pub returns-clause-entered : goal.returns-clause-entered
 returns-clause-entered c =
@@ -25,7 +24,7 @@ returns-clause-entered c =
     subst (λ (s : Step). Enters old (entry n (given c.args.bytes.now) (Some c.args.bytes.now) (Some c.args.who) (words_ahead old) s) c.try_unless.new.self) (sym step)
     (queued c.below.ensures old c.try_unless.new.self n c.args.who c.args.bytes.now barred a (record {
       clock = c.requires.callable.clock;
-      mid = c.wait.new.peers;
+      mid = c.wait.new.self;
       waits = c.in_ok-wait.ensures.queued;
       tries = c.try_unless.ensures.peers;
       qualifier = c.try_unless.ensures.qualifier;

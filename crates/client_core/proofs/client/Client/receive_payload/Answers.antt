@@ -26,30 +26,30 @@ returns-in-Rule1-clause-done c =
     let old = c.args.self.now in
     let n = c.args.now.0 in
     let v = view c.args.payload.now in
-    let new : Client = record old { peers = c.hear.new.peers } in
+    let new : Client = record old { peers = c.hear.new.self } in
     let step : c.hear.new.step ≡ handed_over old n c.args.from v fate.Rule1 = c.hear.ensures.sends ∙ (λ i. record (c.hand_over.ensures i) { sends = releases c.args.from (known_to old.peers n v.packet.src).waiting }) in
     subst (λ (s : Step). TakesPayload old n c.args.from v (fate_in old n c.args.from v) s new) (sym step)
     (subst (λ (f : Fate). TakesPayload old n c.args.from v f (handed_over old n c.args.from v fate.Rule1) new) (c.in-Rule1.ensures.row (advert_row (settings_of old) old.qualifier.now c.args.from v))
-    (rule1 c.below.ensures old new n c.args.from v (record { clock = c.requires.callable.clock; peers = c.hear.ensures.peer; qualifier = refl; rng = refl })))
+    (rule1 c.below.ensures old new n c.args.from v (record { clock = c.requires.callable.clock; peers = c.hear.ensures.heard; qualifier = refl; rng = refl })))
 
 pub returns-in-Rule1Bubble-clause-done : goal.returns-in-Rule1Bubble-clause-done
 returns-in-Rule1Bubble-clause-done c =
     let old = c.args.self.now in
     let n = c.args.now.0 in
     let v = view c.args.payload.now in
-    let new : Client = record old { peers = c.hear-in-Rule1Bubble.new.peers } in
+    let new : Client = record old { peers = c.hear-in-Rule1Bubble.new.self } in
     let step : c.hear-in-Rule1Bubble.new.step ≡ released old n c.args.from v fate.Rule1Bubble = c.hear-in-Rule1Bubble.ensures.sends ∙ (λ i. record (c.reset-in-Rule1Bubble.ensures i) { sends = releases c.args.from (known_to old.peers n v.packet.src).waiting }) in
     subst (λ (s : Step). TakesPayload old n c.args.from v (fate_in old n c.args.from v) s new) (sym step)
     (subst (λ (f : Fate). TakesPayload old n c.args.from v f (released old n c.args.from v fate.Rule1Bubble) new) (c.in-Rule1Bubble.ensures.row (advert_row (settings_of old) old.qualifier.now c.args.from v))
-    (rule1_bubble c.below.ensures old new n c.args.from v (record { clock = c.requires.callable.clock; peers = c.hear-in-Rule1Bubble.ensures.peer; qualifier = refl; rng = refl })))
+    (rule1_bubble c.below.ensures old new n c.args.from v (record { clock = c.requires.callable.clock; peers = c.hear-in-Rule1Bubble.ensures.heard; qualifier = refl; rng = refl })))
 
 pub returns-in-Rule2-clause-done : goal.returns-in-Rule2-clause-done
 returns-in-Rule2-clause-done c =
     let old = c.args.self.now in
     let n = c.args.now.0 in
     let v = view c.args.payload.now in
-    let new : Client = record old { peers = c.trust.new.peers } in
-    let step : c.trust.new.step ≡ released old n c.args.from v fate.Rule2 = c.trust.ensures.sends ∙ (λ i. record (c.reset-in-Rule2.ensures i) { sends = releases c.args.from (known_to old.peers n v.packet.src).waiting }) in
+    let new : Client = record old { peers = c.trust_and_hear.new.self } in
+    let step : c.trust_and_hear.new.step ≡ released old n c.args.from v fate.Rule2 = c.trust_and_hear.ensures.sends ∙ (λ i. record (c.reset-in-Rule2.ensures i) { sends = releases c.args.from (known_to old.peers n v.packet.src).waiting }) in
     subst (λ (s : Step). TakesPayload old n c.args.from v (fate_in old n c.args.from v) s new) (sym step)
     (subst (λ (f : Fate). TakesPayload old n c.args.from v f (released old n c.args.from v fate.Rule2) new) (c.in-Rule2.ensures.row (advert_row (settings_of old) old.qualifier.now c.args.from v))
-    (rule2 c.below.ensures old new n c.args.from v (record { clock = c.requires.callable.clock; peers = c.trust.ensures.peer; qualifier = refl; rng = refl })))
+    (rule2 c.below.ensures old new n c.args.from v (record { clock = c.requires.callable.clock; peers = c.trust_and_hear.ensures.heard; qualifier = refl; rng = refl })))

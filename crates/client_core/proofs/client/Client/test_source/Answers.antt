@@ -4,20 +4,18 @@ use Rattle.bubble.specs.Payloads.{view}
 use Rattle.teredo_node.specs.declared.fate.Fate.TheVariants as fate
 use Rattle.teredo_node.specs.Step.{Step}
 use Rattle.teredo_node.specs.Words.{nonce_from}
-use Rattle.peer_list.specs.Peers.{Peer}
 use Rattle.peer_list.specs.Table.{known_to}
-use Rattle.peer_list.specs.Calls.{Updates, tried_at}
+use Rattle.peer_list.specs.Calls.{Updates, touched_at, tried_at}
 use Rattle.client_core.specs.declared.client.Client.{Client}
 use Rattle.client_rules.specs.Tries.{test}
 use Rattle.client_core.specs.Client.{TakesPayload, words_ahead}
-use Rattle.client_core.proofs.Peered.{seen_listed, then_call}
 use Rattle.client_core.proofs.Acts.{tested, suspicious_test}
 use Rattle.client_core.proofs.client.Client.test_source.Goals as goal
 
 pub tried-requires-clause-listed : goal.tried-requires-clause-listed
 tried-requires-clause-listed c =
     let known = known_to c.args.self.now.peers c.args.now.0 c.args.payload.now.packet.src in
-    seen_listed c.below.ensures c.args.self.now.peers c.list.new.peers c.args.now.0 c.args.payload.now.packet.src known c.in_ok-list.ensures.listed
+    (c.below.ensures.peers.touch_goes_on c.args.self.now.peers c.list.new.self c.args.now.0 c.args.payload.now.packet.src (touched_at c.args.now.0 known) refl c.in_ok-list.ensures.listed).listed
 
 pub returns-clause-done : goal.returns-clause-done
 returns-clause-done c from =
@@ -30,5 +28,5 @@ returns-clause-done c from =
     subst (λ (s : Step). TakesPayload old n from v fate.SuspiciousTest s new) (sym step)
     (suspicious_test c.below.ensures old new n from v c.requires.callable.clock
     (subst (λ (k : ℕ). Updates old.peers c.tried.new.self n v.packet.src (tried_at n (Some k) known)) c.send_test-nonce.ensures.nonce
-    (then_call c.below.ensures old.peers c.list.new.peers c.tried.new.self n v.packet.src known (λ (p : Peer). tried_at n (Some c.send_test-nonce.result) p) c.in_ok-list.ensures.listed c.tried.ensures))
+    ((c.below.ensures.peers.touch_goes_on old.peers c.list.new.self n v.packet.src (touched_at n known) refl c.in_ok-list.ensures.listed).next c.tried.new.self (tried_at n (Some c.send_test-nonce.result)) c.tried.ensures.tried))
     refl c.send_test-nonce.ensures.place)

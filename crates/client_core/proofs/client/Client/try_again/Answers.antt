@@ -25,13 +25,12 @@ returns-clause-entered c =
     c.send_try-nonce.ensures.step ∙ (λ i. record (sending (c.fate_of_try-fate.ensures i) sends) { drawn = try_words c.args.who }) in
     subst (λ (s : Step). Enters old (entry n ticked None (Some c.args.who) (words_ahead old) s) new) (sym step)
     (tried_again c.below.ensures old new n c.args.who sends c.requires.callable.clock
-    (subst (λ (k : Option ℕ). Updates old.peers c.tried.new.self n c.args.who (tried_at n k (known_to old.peers n c.args.who))) c.send_try-nonce.ensures.nonce c.tried.ensures)
+    (subst (λ (k : Option ℕ). Updates old.peers c.tried.new.self n c.args.who (tried_at n k (known_to old.peers n c.args.who))) c.send_try-nonce.ensures.nonce c.tried.ensures.tried)
     refl c.send_try-nonce.ensures.place)
 
 pub returns-clause-less : goal.returns-clause-less
 returns-clause-less c =
     let old = c.args.self.now in
     let new : Client = record { qualifier = old.qualifier; peers = c.tried.new.self; rng = c.send_try-nonce.new.rng } in
-    tried_off c.below.ensures old new c.args.now.0 c.args.who c.send_try-nonce.result (is_teredo c.args.who) c.send_try-nonce.new.step
-    (record { listed = c.requires.listed; waits = c.requires.waits; due = c.requires.due }) c.tried.ensures refl
+    tried_off old new c.args.now.0 (is_teredo c.args.who) c.send_try-nonce.new.step (c.tried.ensures.less c.requires.overdue) refl
     (ap (λ (s : Step). s.fate) c.send_try-nonce.ensures.step ∙ c.fate_of_try-fate.ensures)

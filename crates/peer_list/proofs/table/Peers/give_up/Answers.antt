@@ -1,30 +1,5 @@
-use Rattle.std.proofs.Common.{sym, ◌∙◌, length, ap}
-use Rattle.peer_list.specs.Peers.{Peer}
-use Rattle.peer_list.specs.Calls.{emptied}
-use Rattle.peer_list.proofs.SettleLemmas.{but_one, in_turn_still, is_settled, earlier, there, known_is, kept_untouched, updates_by_call, held_by_call}
-use Rattle.peer_list.proofs.TimelyLemmas.{emptied_so}
+use Rattle.peer_list.proofs.DueNowLemmas.{less_given_up}
 use Rattle.peer_list.proofs.table.Peers.give_up.Goals as goal
 
-pub key-key-requires-clause-there : goal.key-key-requires-clause-there
-key-key-requires-clause-there c = there c.self.inside.entries _ _ _ _ c.self.view_is c.requires.listed
-
-pub settle-requires : goal.settle-requires
-settle-requires c = record {
-  but = but_one _ _ _ c.self.invariant.kept.whole c.index_mut.ensures.value;
-  still = in_turn_still _ _ _ _ c.self.invariant.kept.whole c.index_mut.ensures.value c.due_at-before.ensures;
-}
-
-pub invariant_of-self : goal.invariant_of-self
-invariant_of-self c =
-    let e = c.self.inside.entries in
-    let after = is_settled e _ _ _ _ c.index_mut.ensures.value c.settle.ensures.slab c.settle.ensures.index c.settle.ensures.touched in
-    held_by_call e _ _ _ _ c.self.view_is c.settle.new.self _ _ _ (emptied) c.self.invariant c.requires.clock c.requires.listed c.key-key.ensures.key after c.give_up-count.ensures.rest
-    (kept_untouched c.self.invariant.kept (earlier e _ _ _ c.self.view_is c.requires.clock) c.settle.ensures.whole after (ap (λ (p : Peer). p.touched) c.give_up-count.ensures.rest)) (λ all later. emptied_so _ _ _ all later c.requires.listed)
-
-pub returns-clause-rest : goal.returns-clause-rest
-returns-clause-rest c =
-    updates_by_call c.self.inside.entries _ _ _ _ c.self.view_is c.settle.new.self _ _ _ (emptied) c.self.invariant.kept.whole c.requires.listed c.key-key.ensures.key (is_settled c.self.inside.entries _ _ _ _ c.index_mut.ensures.value c.settle.ensures.slab c.settle.ensures.index c.settle.ensures.touched)
-    c.give_up-count.ensures.rest
-
-pub returns-clause-count : goal.returns-clause-count
-returns-clause-count c = c.give_up-count.ensures.count ∙ ap (λ (p : Peer). length p.waiting) (sym (known_is c.self.inside.entries _ _ _ _ c.self.view_is _ _ c.self.invariant.kept.whole c.requires.listed c.key-key.ensures.key c.index_mut.ensures.value))
+pub returns-clause-less : goal.returns-clause-less
+returns-clause-less c = less_given_up _ _ _ _ c.change.ensures

@@ -1,27 +1,5 @@
-use Rattle.std.proofs.Common.{ap}
-use Rattle.peer_list.specs.Peers.{Peer}
-use Rattle.peer_list.specs.Calls.{tried_at}
-use Rattle.peer_list.proofs.SettleLemmas.{but_one, in_turn_still, is_settled, earlier, there, kept_touched, updates_by_call, held_by_call}
-use Rattle.peer_list.proofs.TimelyLemmas.{tried_so}
+use Rattle.peer_list.proofs.DueNowLemmas.{less_tried}
 use Rattle.peer_list.proofs.table.Peers.tried.Goals as goal
 
-pub key-key-requires-clause-there : goal.key-key-requires-clause-there
-key-key-requires-clause-there c = there c.self.inside.entries _ _ _ _ c.self.view_is c.requires.listed
-
-pub settle-requires : goal.settle-requires
-settle-requires c = record {
-  but = but_one _ _ _ c.self.invariant.kept.whole c.index_mut.ensures.value;
-  still = in_turn_still _ _ _ _ c.self.invariant.kept.whole c.index_mut.ensures.value c.due_at-before.ensures;
-}
-
-pub invariant_of-self : goal.invariant_of-self
-invariant_of-self c =
-    let e = c.self.inside.entries in
-    let after = is_settled e _ _ _ _ c.index_mut.ensures.value c.settle.ensures.slab c.settle.ensures.index c.settle.ensures.touched in
-    held_by_call e _ _ _ _ c.self.view_is c.settle.new.self _ _ _ (tried_at c.args.now.0 c.args.nonce) c.self.invariant c.requires.clock c.requires.listed c.key-key.ensures.key after c.note_try.ensures
-    (kept_touched c.self.invariant.kept (earlier e _ _ _ c.self.view_is c.requires.clock) c.settle.ensures.whole after (ap (λ (p : Peer). p.touched) c.note_try.ensures)) (λ all later. tried_so _ _ _ all later c.args.nonce)
-
-pub returns : goal.returns
-returns c =
-    updates_by_call c.self.inside.entries _ _ _ _ c.self.view_is c.settle.new.self _ _ _ (tried_at c.args.now.0 c.args.nonce) c.self.invariant.kept.whole c.requires.listed c.key-key.ensures.key (is_settled c.self.inside.entries _ _ _ _ c.index_mut.ensures.value c.settle.ensures.slab c.settle.ensures.index c.settle.ensures.touched)
-    c.note_try.ensures
+pub returns-clause-less : goal.returns-clause-less
+returns-clause-less c = less_tried _ _ _ _ c.args.nonce c.change.ensures

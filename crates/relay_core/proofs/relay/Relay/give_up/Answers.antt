@@ -18,5 +18,5 @@ returns-clause-entered c =
 
 pub returns-clause-less : goal.returns-clause-less
 returns-clause-less c =
-    given_up c.below.ensures c.args.self.now (record c.args.self.now { peers = c.give_up-gone.new.self }) c.args.now.0 c.args.who c.set_gone.new.self c.requires.overdue c.give_up-gone.ensures.rest
+    given_up c.args.self.now (record c.args.self.now { peers = c.give_up-gone.new.self }) c.args.now.0 c.set_gone.new.self (c.give_up-gone.ensures.less c.requires.overdue)
     (ap (λ (s : Step). s.fate) (c.set_gone.ensures ∙ (λ i. record (c.reset.ensures i) { gone = c.from.result })))

@@ -1,17 +1,16 @@
-use Rattle.std.proofs.Common.{Some, sym, subst}
+use Rattle.std.proofs.Common.{Some, refl, sym, subst}
 use Rattle.teredo_node.specs.Step.{Step}
 use Rattle.teredo_node.specs.Journal.{from_six}
 use Rattle.peer_list.specs.Table.{known_to}
 use Rattle.peer_list.specs.Calls.{queued_at}
 use Rattle.relay_rules.specs.Journals.{entry}
 use Rattle.relay_core.specs.Relay.{Enters}
-use Rattle.relay_core.proofs.Peered.{seen_listed}
 use Rattle.relay_core.proofs.Transmitted.{queued}
 use Rattle.relay_core.proofs.relay.Relay.queue.Goals as goal
 
 pub try_unless-requires-clause-listed : goal.try_unless-requires-clause-listed
 try_unless-requires-clause-listed c =
-    seen_listed c.below.ensures c.args.self.now.peers c.wait.new.peers c.args.now.0 c.args.who (queued_at c.args.now.0 c.args.bytes.now (known_to c.args.self.now.peers c.args.now.0 c.args.who)) c.in_ok-wait.ensures.queued
+    (c.below.ensures.peers.touch_goes_on c.args.self.now.peers c.wait.new.self c.args.now.0 c.args.who (queued_at c.args.now.0 c.args.bytes.now (known_to c.args.self.now.peers c.args.now.0 c.args.who)) refl c.in_ok-wait.ensures.queued).listed
 
 pub returns-clause-entered : goal.returns-clause-entered
 returns-clause-entered c =
@@ -21,7 +20,7 @@ returns-clause-entered c =
     (queued c.below.ensures old c.try_unless.new.self n c.args.who c.args.bytes.now c.is_barred-barred.result (record {
       clock = c.requires.callable.clock;
       plain = c.requires.plain;
-      mid = c.wait.new.peers;
+      mid = c.wait.new.self;
       waits = c.in_ok-wait.ensures.queued;
       tries = c.try_unless.ensures.peers;
       settings = c.try_unless.ensures.settings;

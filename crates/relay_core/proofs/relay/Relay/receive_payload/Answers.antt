@@ -1,11 +1,12 @@
 use Rattle.std.proofs.Common.{◌≡◌, refl, sym, subst, ◌∙◌}
 use Rattle.bubble.specs.Payloads.{view}
-use Rattle.teredo_addr.specs.Teredo.{embedded}
+use Rattle.td_base.specs.declared.endpoint.Ep.{Ep}
 use Rattle.teredo_node.specs.declared.fate.Fate.{Fate}
 use Rattle.teredo_node.specs.declared.fate.Fate.TheVariants as fate
 use Rattle.teredo_node.specs.Step.{Step, just}
 use Rattle.teredo_node.specs.Sends.{releases}
 use Rattle.peer_list.specs.Table.{known_to}
+use Rattle.peer_list.specs.Calls.{Updates, trusted_at, heard_at}
 use Rattle.relay_core.specs.declared.relay.Relay.{Relay}
 use Rattle.relay_core.specs.Relay.{fate_in, TakesPayload}
 use Rattle.relay_core.proofs.Acts.{drops, released, passed_on, from_client_bubble, from_client, unserved}
@@ -25,30 +26,30 @@ returns-in-FromClientBubble c =
     let old = c.args.self.now in
     let n = c.args.now.0 in
     let v = view c.args.payload.now in
-    let new : Relay = record old { peers = c.hear.new.peers } in
-    let step : c.hear.new.step ≡ released old n v fate.FromClientBubble = c.hear.ensures.sends ∙ (λ i. record (c.reset-in-FromClientBubble.ensures i) { sends = releases (embedded v.packet.src) (known_to old.peers n v.packet.src).waiting }) in
+    let new : Relay = record old { peers = c.trust_and_hear.new.self } in
+    let step : c.trust_and_hear.new.step ≡ released old n v fate.FromClientBubble = c.trust_and_hear.ensures.sends ∙ (λ i. record (c.reset-in-FromClientBubble.ensures i) { sends = releases (c.embedded-at.ensures i) (known_to old.peers n v.packet.src).waiting }) in
     subst (λ (s : Step). TakesPayload old n c.args.from v (fate_in old n c.args.from v) s new) (sym step)
     (subst (λ (f : Fate). TakesPayload old n c.args.from v f (released old n v fate.FromClientBubble) new) c.in-FromClientBubble.ensures.row
-    (from_client_bubble c.below.ensures old new n c.args.from v (record { clock = c.requires.callable.clock; peers = c.hear.ensures.peer; settings = refl })))
+    (from_client_bubble c.below.ensures old new n c.args.from v (record { clock = c.requires.callable.clock; peers = subst (λ (at : Ep). Updates old.peers c.trust_and_hear.new.self n v.packet.src (heard_at n (trusted_at n at (known_to old.peers n v.packet.src)))) c.embedded-at.ensures c.trust_and_hear.ensures.heard; settings = refl })))
 
 pub returns-in-FromClient : goal.returns-in-FromClient
 returns-in-FromClient c =
     let old = c.args.self.now in
     let n = c.args.now.0 in
     let v = view c.args.payload.now in
-    let new : Relay = record old { peers = c.hear-in-FromClient.new.peers } in
-    let step : c.hear-in-FromClient.new.step ≡ passed_on old n v = c.hear-in-FromClient.ensures.sends ∙ (λ i. record (c.pass_on.ensures i) { sends = releases (embedded v.packet.src) (known_to old.peers n v.packet.src).waiting }) in
+    let new : Relay = record old { peers = c.trust_and_hear-in-FromClient.new.self } in
+    let step : c.trust_and_hear-in-FromClient.new.step ≡ passed_on old n v = c.trust_and_hear-in-FromClient.ensures.sends ∙ (λ i. record (c.pass_on.ensures i) { sends = releases (c.embedded-at.ensures i) (known_to old.peers n v.packet.src).waiting }) in
     subst (λ (s : Step). TakesPayload old n c.args.from v (fate_in old n c.args.from v) s new) (sym step)
     (subst (λ (f : Fate). TakesPayload old n c.args.from v f (passed_on old n v) new) c.in-FromClient.ensures.row
-    (from_client c.below.ensures old new n c.args.from v (record { clock = c.requires.callable.clock; peers = c.hear-in-FromClient.ensures.peer; settings = refl })))
+    (from_client c.below.ensures old new n c.args.from v (record { clock = c.requires.callable.clock; peers = subst (λ (at : Ep). Updates old.peers c.trust_and_hear-in-FromClient.new.self n v.packet.src (heard_at n (trusted_at n at (known_to old.peers n v.packet.src)))) c.embedded-at.ensures c.trust_and_hear-in-FromClient.ensures.heard; settings = refl })))
 
 pub returns-in-Unserved : goal.returns-in-Unserved
 returns-in-Unserved c =
     let old = c.args.self.now in
     let n = c.args.now.0 in
     let v = view c.args.payload.now in
-    let new : Relay = record old { peers = c.hear-in-Unserved.new.peers } in
-    let step : c.hear-in-Unserved.new.step ≡ released old n v fate.Unserved = c.hear-in-Unserved.ensures.sends ∙ (λ i. record (c.reset-in-Unserved.ensures i) { sends = releases (embedded v.packet.src) (known_to old.peers n v.packet.src).waiting }) in
+    let new : Relay = record old { peers = c.trust_and_hear-in-Unserved.new.self } in
+    let step : c.trust_and_hear-in-Unserved.new.step ≡ released old n v fate.Unserved = c.trust_and_hear-in-Unserved.ensures.sends ∙ (λ i. record (c.reset-in-Unserved.ensures i) { sends = releases (c.embedded-at.ensures i) (known_to old.peers n v.packet.src).waiting }) in
     subst (λ (s : Step). TakesPayload old n c.args.from v (fate_in old n c.args.from v) s new) (sym step)
     (subst (λ (f : Fate). TakesPayload old n c.args.from v f (released old n v fate.Unserved) new) c.in-Unserved.ensures.row
-    (unserved c.below.ensures old new n c.args.from v (record { clock = c.requires.callable.clock; peers = c.hear-in-Unserved.ensures.peer; settings = refl })))
+    (unserved c.below.ensures old new n c.args.from v (record { clock = c.requires.callable.clock; peers = subst (λ (at : Ep). Updates old.peers c.trust_and_hear-in-Unserved.new.self n v.packet.src (heard_at n (trusted_at n at (known_to old.peers n v.packet.src)))) c.embedded-at.ensures c.trust_and_hear-in-Unserved.ensures.heard; settings = refl })))

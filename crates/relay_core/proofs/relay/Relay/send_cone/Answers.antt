@@ -3,23 +3,22 @@ use Rattle.td_base.specs.declared.endpoint.Ep.{Ep}
 use Rattle.teredo_node.specs.Step.{Step}
 use Rattle.teredo_node.specs.Journal.{from_six}
 use Rattle.peer_list.specs.Table.{known_to}
-use Rattle.peer_list.specs.Calls.{Updates, trusted_at}
+use Rattle.peer_list.specs.Calls.{Updates, touched_at, trusted_at}
 use Rattle.relay_rules.specs.Journals.{entry}
 use Rattle.relay_core.specs.declared.relay.Relay.{Relay}
 use Rattle.relay_core.specs.Relay.{Enters}
-use Rattle.relay_core.proofs.Peered.{seen_listed}
 use Rattle.relay_core.proofs.Transmitted.{sent_cone}
 use Rattle.relay_core.proofs.relay.Relay.send_cone.Goals as goal
 
 pub trust-requires-clause-listed : goal.trust-requires-clause-listed
 trust-requires-clause-listed c =
-    seen_listed c.below.ensures c.args.self.now.peers c.list.new.peers c.args.now.0 c.args.who (known_to c.args.self.now.peers c.args.now.0 c.args.who) c.in_ok-list.ensures.listed
+    (c.below.ensures.peers.touch_goes_on c.args.self.now.peers c.list.new.self c.args.now.0 c.args.who (touched_at c.args.now.0 (known_to c.args.self.now.peers c.args.now.0 c.args.who)) refl c.in_ok-list.ensures.listed).listed
 
 pub returns-clause-entered : goal.returns-clause-entered
 returns-clause-entered c =
     let old = c.args.self.now in
     let n = c.args.now.0 in
-    let mid : Relay = record old { peers = c.list.new.peers } in
+    let mid : Relay = record old { peers = c.list.new.self } in
     let new : Relay = record old { peers = c.trust.new.self } in
     subst (λ (s : Step). Enters old (entry n (from_six c.args.bytes.now) (Some c.args.bytes.now) (Some c.args.who) s) new) (sym c.send_packet.ensures)
     (sent_cone c.below.ensures old mid new n c.args.who c.args.bytes.now c.requires.callable.clock c.requires.cone c.in_ok-list.ensures.listed

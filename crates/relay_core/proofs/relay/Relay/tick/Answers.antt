@@ -1,12 +1,13 @@
 use Rattle.std.proofs.Common.{◌≡◌, sym, subst, ◌∙◌, ap, Option, None}
-use Rattle.std.specs.Prelude.{option_map}
+use Rattle.peer_list.specs.Overdue.{listing_at}
+use Rattle.std.specs.Prelude.{option_map, IfNone}
 use Rattle.td_base.specs.declared.ipv6.Ip6.{Ip6}
 use Rattle.teredo_node.specs.Step.{Step}
 use Rattle.teredo_node.specs.Due.{Idles, Lessens}
 use Rattle.teredo_node.specs.Journal.{ticked}
 use Rattle.relay_core.specs.Relay.{Does, AsBefore}
 use Rattle.relay_core.specs.Endpoint.{owing}
-use Rattle.relay_core.proofs.Ticked.{due_now, listing, idles, does_peer}
+use Rattle.relay_core.proofs.Ticked.{due_now, idles, does_peer}
 use Rattle.relay_core.proofs.Owed.{rests, rests_too, put_off_idles, put_off_lessens}
 use Rattle.relay_core.proofs.relay.Relay.tick.Goals as goal
 
@@ -14,11 +15,12 @@ pub returns-in_default : goal.returns-in_default
 returns-in_default c =
     let r = c.args.self.now in
     let n = c.args.now.0 in
-    let nobody : due_now r n ≡ None = c.due_peer.ensures.first ∙ ap (λ (o : Option Ip6). option_map (λ (who : Ip6). listing r n who) o) c.in_default.is in
+    let nobody : due_now r n ≡ None = sym c.overdue.ensures.first ∙ ap (λ (o : Option Ip6). option_map (λ (who : Ip6). listing_at r.peers n who) o) c.in_default.is in
+    let none : owing r n ≡ 0 = subst (λ (o : Option Ip6). IfNone o (owing r n ≡ 0)) c.in_default.is c.overdue.ensures.none in
     record {
       done = subst (λ (s : Step). Does r n ticked s r) (sym c.reset.ensures) (idles c.below.ensures r n c.requires.callable.clock nobody);
       idle = subst (λ (s : Step). Idles (owing r n) (AsBefore r r) s) (sym c.reset.ensures) (rests r n);
-      less = subst (λ (s : Step). Lessens (owing r n) (owing r n) s) (sym c.reset.ensures) (rests_too c.below.ensures r n nobody);
+      less = subst (λ (s : Step). Lessens (owing r n) (owing r n) s) (sym c.reset.ensures) (rests_too r n none);
     }
 
 pub returns-then-is_spent : goal.returns-then-is_spent
@@ -27,7 +29,7 @@ returns-then-is_spent c =
     let n = c.args.now.0 in
     record {
       done = does_peer c.below.ensures old c.give_up.new.self n c.in-Some.who _ c.give_up.new.step c.requires.callable.clock
-          (c.due_peer.ensures.first ∙ ap (λ (o : Option Ip6). option_map (λ (who : Ip6). listing old n who) o) c.in-Some.is)
+          (sym c.overdue.ensures.first ∙ ap (λ (o : Option Ip6). option_map (λ (who : Ip6). listing_at old.peers n who) o) c.in-Some.is)
           (sym c.is_spent.ensures ∙ c.if-is_spent.true) c.give_up.ensures.step c.give_up.ensures.entered;
       idle = put_off_idles old c.give_up.new.self n c.give_up.new.step c.give_up.ensures.less;
       less = put_off_lessens old c.give_up.new.self n c.give_up.new.step c.give_up.ensures.less;
@@ -39,7 +41,7 @@ returns c =
     let n = c.args.now.0 in
     record {
       done = does_peer c.below.ensures old c.try_again.new.self n c.in-Some.who _ c.try_again.new.step c.requires.callable.clock
-          (c.due_peer.ensures.first ∙ ap (λ (o : Option Ip6). option_map (λ (who : Ip6). listing old n who) o) c.in-Some.is)
+          (sym c.overdue.ensures.first ∙ ap (λ (o : Option Ip6). option_map (λ (who : Ip6). listing_at old.peers n who) o) c.in-Some.is)
           (sym c.is_spent.ensures ∙ c.if-is_spent.false) c.try_again.ensures.step c.try_again.ensures.entered;
       idle = put_off_idles old c.try_again.new.self n c.try_again.new.step c.try_again.ensures.less;
       less = put_off_lessens old c.try_again.new.self n c.try_again.new.step c.try_again.ensures.less;

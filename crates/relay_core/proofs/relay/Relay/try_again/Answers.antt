@@ -12,8 +12,8 @@ returns-clause-entered c =
     let old = c.args.self.now in
     let n = c.args.now.0 in
     subst (λ (s : Step). Enters old (entry n ticked None (Some c.args.who) s) (record old { peers = c.tried.new.self })) (sym c.send_bubble.ensures)
-    (tried_again c.below.ensures old (record old { peers = c.tried.new.self }) n c.args.who c.requires.callable.clock c.requires.overdue c.tried.ensures refl)
+    (tried_again c.below.ensures old (record old { peers = c.tried.new.self }) n c.args.who c.requires.callable.clock c.requires.overdue c.tried.ensures.tried refl)
 
 pub returns-clause-less : goal.returns-clause-less
 returns-clause-less c =
-    tried_off c.below.ensures c.args.self.now (record c.args.self.now { peers = c.tried.new.self }) c.args.now.0 c.args.who c.send_bubble.new.step c.requires.overdue c.tried.ensures (ap (λ (s : Step). s.fate) c.send_bubble.ensures)
+    tried_off c.args.self.now (record c.args.self.now { peers = c.tried.new.self }) c.args.now.0 c.send_bubble.new.step (c.tried.ensures.less c.requires.overdue) (ap (λ (s : Step). s.fate) c.send_bubble.ensures)

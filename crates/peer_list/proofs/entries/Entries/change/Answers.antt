@@ -1,0 +1,12 @@
+use Rattle.peer_list.proofs.SettleLemmas.{but_one, in_turn_still, is_settled, kept_changed}
+use Rattle.peer_list.proofs.entries.Entries.change.Goals as goal
+
+pub settle-requires : goal.settle-requires
+settle-requires c = record {
+  but = but_one _ _ _ c.requires.kept.whole c.index_mut.ensures.value;
+  still = in_turn_still _ _ _ _ c.requires.kept.whole c.index_mut.ensures.value c.due_at-before.ensures;
+}
+
+pub returns-clause-kept : goal.returns-clause-kept
+returns-clause-kept c =
+    kept_changed c.args.change c.requires.kept c.settle.ensures.whole (is_settled c.args.self.now _ _ _ _ c.index_mut.ensures.value c.settle.ensures.slab c.settle.ensures.index c.settle.ensures.touched) c.change.ensures

@@ -1,0 +1,7 @@
+use Rattle.std.proofs.Common.{◌≡◌, take}
+use Rattle.teredo_node.specs.Sends.{releases}
+use Rattle.peer_list.proofs.listed_peer.Peer.send_waiting.Given as goal
+
+-- what was sent so far
+abbrev pub invariant-loop-packet : goal.invariant-loop-packet
+invariant-loop-packet l = l.step ≡ record l.fn.step { sends = releases l.to (take l.packet-index l.packet-items) }

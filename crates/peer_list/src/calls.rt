@@ -1,0 +1,132 @@
+//! What is done with the peers that a node keeps.
+ghost use Rattle.std.specs.Prelude.{◌≡◌, ◌≤◌, ◌<◌, [], true, false, length, is_some, OnOk, OnErr};
+ghost use Rattle.ipv6_packet.specs.declared.header.TheConstants.{PACKET_MAX};
+ghost use Rattle.td_outside.specs.declared.clock.TheConstants.{CLOCK_END_MS};
+ghost use Rattle.teredo_node.specs.Sends.{releases};
+ghost use Rattle.peer_list.specs.Judged.{is_full};
+ghost use Rattle.peer_list.specs.Table.{empty_table, peer_in, known_to, has_room_in};
+ghost use Rattle.peer_list.specs.Overdue.{overdue_in, IsOverdue};
+ghost use Rattle.peer_list.specs.Calls.{touched_at, trusted_at, heard_at, tried_at, queued_at, emptied, changed_at, IsInTime, Updates, Keeps};
+ghost use Rattle.peer_list.specs.Stands.{StandsForMentions};
+
+use crate::change::Change;
+use crate::listings;
+use crate::table::Peers;
+use td_base::{Ep, Ip6, Millis, NoMemory};
+use teredo_node::Step;
+
+impl Peers {
+    /// Lists and touches a peer for which there is room. A refusal leaves all as it was.
+    pub fn list(&mut self, now: Millis, who: Ip6) -> Result<(), NoMemory>
+        requires clock { self.old.moment ≤ now.0 }
+        requires room { has_room_in self.old now.0 who ≡ true }
+        ensures listed { OnOk result (Updates self.old self.new now.0 who (touched_at now.0 (known_to self.old now.0 who))) }
+        ensures kept { OnErr result (Keeps self.old self.new now.0) }
+        ensures unlisted { OnErr result (is_some (peer_in self.old now.0 who) ≡ false) }
+    {
+        self.moment = now;
+        listings::list(&mut self.entries, self.alloc, now, who)
+    }
+
+    /// Lets a packet wait for a peer that has room for it, which it lists and touches. A refusal leaves all as it was.
+    pub fn wait(&mut self, now: Millis, who: Ip6, packet: &[u8]) -> Result<(), NoMemory>
+        requires clock { self.old.moment ≤ now.0 }
+        requires room { has_room_in self.old now.0 who ≡ true }
+        requires free { is_full (known_to self.old now.0 who) ≡ false }
+        requires short { length packet.now ≤ PACKET_MAX }
+        ensures queued { OnOk result (Updates self.old self.new now.0 who (queued_at now.0 packet.now (known_to self.old now.0 who))) }
+        ensures kept { OnErr result (Keeps self.old self.new now.0) }
+    {
+        self.moment = now;
+        listings::wait(&mut self.entries, self.alloc, now, who, packet)
+    }
+
+    /// Changes what is known of a listed peer, and nothing of any other.
+    fn change(&mut self, now: Millis, who: Ip6, change: Change)
+        requires clock { self.old.moment ≤ now.0 }
+        requires listed { is_some (peer_in self.old now.0 who) ≡ true }
+        requires early { IsInTime now.0 change }
+        ensures { Updates self.old self.new now.0 who (changed_at now.0 change (known_to self.old now.0 who)) }
+    {
+        self.moment = now;
+        let key = self.entries.key(who);
+        self.entries.change(key, now, change);
+    }
+
+    /// Touches a listed peer: it stays listed for `LISTED_MS` from now.
+    pub fn touch(&mut self, now: Millis, who: Ip6)
+        requires clock { self.old.moment ≤ now.0 }
+        requires listed { is_some (peer_in self.old now.0 who) ≡ true }
+        ensures { Updates self.old self.new now.0 who (touched_at now.0 (known_to self.old now.0 who)) }
+    {
+        self.change(now, who, Change::Touch);
+    }
+
+    /// Touches a listed peer, and trusts it at an endpoint from now on. What was tried is over, a test too.
+    pub fn trust(&mut self, now: Millis, who: Ip6, at: Ep)
+        requires clock { self.old.moment ≤ now.0 }
+        requires listed { is_some (peer_in self.old now.0 who) ≡ true }
+        ensures { Updates self.old self.new now.0 who (trusted_at now.0 at (known_to self.old now.0 who)) }
+    {
+        self.change(now, who, Change::Trust(at));
+    }
+
+    /// Touches a listed peer of which a direct reception came: what was tried is over, and what waits goes to an
+    /// endpoint, in order.
+    pub fn hear(&mut self, now: Millis, who: Ip6, to: Ep, step: &mut Step)
+        requires clock { self.old.moment ≤ now.0 }
+        requires listed { is_some (peer_in self.old now.0 who) ≡ true }
+        requires first { step.old.sends ≡ [] }
+        ensures sends { step.new ≡ record step.old { sends = releases to (known_to self.old now.0 who).waiting } }
+        ensures heard { Updates self.old self.new now.0 who (heard_at now.0 (known_to self.old now.0 who)) }
+    {
+        self.peer(now, who).send_waiting(to, step);
+        self.change(now, who, Change::Hear);
+    }
+
+    /// The same of a peer that is trusted from now on at the endpoint to which what waits goes.
+    pub fn trust_and_hear(&mut self, now: Millis, who: Ip6, at: Ep, step: &mut Step)
+        requires clock { self.old.moment ≤ now.0 }
+        requires listed { is_some (peer_in self.old now.0 who) ≡ true }
+        requires first { step.old.sends ≡ [] }
+        ensures sends { step.new ≡ record step.old { sends = releases at (known_to self.old now.0 who).waiting } }
+        ensures heard { Updates self.old self.new now.0 who (heard_at now.0 (trusted_at now.0 at (known_to self.old now.0 who))) }
+    {
+        self.trust(now, who, at);
+        self.hear(now, who, at, step);
+    }
+
+    /// Touches a listed peer that was tried, where there is one with a test and its nonce. Whether it may be tried is
+    /// the caller's question: `is_barred`.
+    pub fn tried(&mut self, now: Millis, who: Ip6, nonce: Option<u64>)
+        requires clock { self.old.moment ≤ now.0 }
+        requires early { now.0 < CLOCK_END_MS }
+        requires listed { is_some (peer_in self.old now.0 who) ≡ true }
+        ensures tried { Updates self.old self.new now.0 who (tried_at now.0 nonce (known_to self.old now.0 who)) }
+        ensures less { IsOverdue self.old now.0 who → overdue_in self.new now.0 < overdue_in self.old now.0 }
+    {
+        self.change(now, who, Change::Try(nonce));
+    }
+
+    /// Drops the packets that wait for a peer, and says how many there were. It doesn't touch the peer.
+    pub fn give_up(&mut self, now: Millis, who: Ip6) -> u8
+        requires clock { self.old.moment ≤ now.0 }
+        requires listed { is_some (peer_in self.old now.0 who) ≡ true }
+        ensures count { result ≡ length (known_to self.old now.0 who).waiting }
+        ensures rest { Updates self.old self.new now.0 who (emptied (known_to self.old now.0 who)) }
+        ensures less { IsOverdue self.old now.0 who → overdue_in self.new now.0 < overdue_in self.old now.0 }
+    {
+        let count = self.peer(now, who).waiting_count();
+        self.change(now, who, Change::GiveUp);
+        count
+    }
+
+    /// Takes out all peers: it is as a new one.
+    pub fn clear(&mut self)
+        ensures empty { self.new ≡ empty_table }
+        ensures stands { StandsForMentions self.new [] }
+    {
+        self.moment = Millis(0);
+        self.entries.clear();
+    }
+}
