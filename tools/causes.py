@@ -1,0 +1,327 @@
+"""Why a packet was lost or waits: a sentence for each way, from what the report says happened before."""
+import fates
+from report import SOLICITATIONS, Entry, teredo_parts
+
+# How long a peer is trusted, and listed, after it was heard, and what lies between two tries: docs/DEFINITIONS.md, "Peers".
+FRESH_MS, LISTED_MS, TRY_GAP_MS = 30_000, 300_000, 2_000
+TRIES = ('queued', 'bubbles', 'test', 'indirect', 'suspicious_test')
+DRAWS = ('queued', 'indirect', 'advert', 'echoed', 'forward', 'forward_origin', 'six', 'sent', 'sent_cone')
+HEARD = ('rule1', 'rule1_bubble', 'rule2', 'rule3', 'rule3_bubble')
+FATES = fates.table()
+
+
+def when(record):
+    return f'at {record.moment:,} ms'
+
+
+def of_drop(travels, record):
+    """Why the node of a record dropped what it was given."""
+    ways = {'nat_closed': of_closed_nat, 'off': of_off, 'dest': of_destination, 'barred': of_barred, 'mismatch': of_mismatch,
+            'unlisted': of_unlisted, 'not_mine': of_old_address, 'nowhere': of_nowhere, 'suspicious_test': of_suspicious}
+    way = ways.get(record.fate)
+    if way:
+        return way(travels, record)
+    fate = FATES.get(record.fate)
+    if fate is None:
+        return f'the fate {record.fate} stands in no table of docs/SCENARIOS.md'
+    return fate.means + (f' (likely: {fate.cause})' if fate.cause else '')
+
+
+def of_loss(loss):
+    if loss.word == 'hairpin':
+        return f'a NAT doesn\'t send back to itself what is for its own address, {loss.target}: sender and peer are behind one NAT'
+    if loss.word == 'full':
+        return f'the NAT has no room for another mapping: nothing went out to {loss.target}'
+    return f'!{loss.word}: nothing went out to {loss.target}'
+
+
+def of_undelivered(travels, entry):
+    when_not = 'wasn\'t delivered yet' if travels.report.delivered(entry) else 'was never delivered'
+    return f'#{entry.number}, the {travels.report.content(entry)} {entry.way}, {when_not}'
+
+
+# NATs
+
+
+def cut_of(report, nat, client, until):
+    """The latest restart of a NAT before a record, or `forget` that may be of this client."""
+    cuts = [record for record in report.of_node(nat, until) if record.act in ('restart', 'forget')]
+    return cuts[-1] if cuts else None
+
+
+def holder(report, endpoint, until):
+    """The entries that left by an endpoint outside before a record, in order."""
+    return [entry for record in report.records[:until.index] for entry in record.entries
+            if entry.source == endpoint and record.fate != 'put']
+
+
+def is_cone(report, client, until):
+    address = report.address_at(client, until)
+    return address is not None and teredo_parts(address).is_cone
+
+
+def of_closed_nat(travels, record):
+    report = travels.report
+    entry, nat = report.entries[record.delivered], record.node
+    sent = holder(report, entry.target, record)
+    if not sent:
+        return f'nobody behind {nat} ever sent from {entry.target}'
+    latest = sent[-1].maker
+    cut = cut_of(report, nat, latest.node, record)
+    if cut and cut.index > latest.index:
+        verb = 'restarted' if cut.act == 'restart' else 'was told to forget a client'
+        return f'{nat} {verb} {when(cut)}, and nothing was sent from {entry.target} since'
+    silence = record.moment - latest.moment
+    if is_cone(report, latest.node, record):
+        return f'{latest.node} sent nothing from {entry.target} for {silence:,} ms: its mapping is gone (idle below refresh)'
+    to_source = [mark for mark in sent if mark.target == entry.source]
+    if not to_source:
+        told = as_meant(report, entry) or other_port(report, entry, record)
+        return f'{nat} lets in whom {latest.node} sent to, and it never sent to {entry.source}' + told
+    silence = record.moment - to_source[-1].maker.moment
+    if cut and cut.index > to_source[-1].maker.index:
+        return f'{nat} restarted {when(cut)}, and {latest.node} sent nothing to {entry.source} since'
+    return f'{latest.node} sent nothing to {entry.source} for {silence:,} ms: {nat} has forgotten it (idle)'
+
+
+def as_meant(report, entry):
+    content = report.content(entry)
+    if content == 'advertisement':
+        return ' (as meant: this is the test for a cone NAT)'
+    if content == 'bubble' and entry.maker.fate in ('queued', 'bubbles'):
+        return ' (as meant: a direct bubble opens the NAT of its sender)'
+    return ''
+
+
+def other_port(report, entry, until):
+    """That the sender's address says another endpoint than it is seen at."""
+    address = report.address_at(entry.maker.node, until) if entry.maker.fate != 'put' else None
+    if address is None or teredo_parts(address).endpoint == entry.source:
+        return ''
+    return f'; the address of {entry.maker.node} says {teredo_parts(address).endpoint}: its NAT has another port for it'
+
+
+# Clients without an address
+
+
+def of_off(travels, record):
+    return f'{record.node} has no address: ' + unqualified(travels, record.node, record)
+
+
+def unqualified(travels, client, until):
+    """Why a client has no address before a record."""
+    report = travels.report
+    for record in reversed(report.of_node(client, until)):
+        if record.act == 'restart':
+            return f'it was restarted {when(record)}, and has asked nobody since'
+        if record.fate == 'symmetric':
+            return 'its NAT is symmetric: ' + two_ports(report, client, record)
+        if record.fate == 'offline':
+            return f'it gave up {when(record)}; ' + of_solicitation(travels, client, record)
+        if record.fate in SOLICITATIONS or record.fate == 'first_answer':
+            return restarted(report, client, record) + 'it asks still; ' + of_solicitation(travels, client, until)
+    return 'it never asked its server: no advance has let it'
+
+
+def restarted(report, client, until):
+    restarts = [record for record in report.of_node(client, until) if record.act == 'restart']
+    return f'it was restarted {when(restarts[-1])}; ' if restarts else ''
+
+
+def two_ports(report, client, until):
+    asked = {record.fate: record.entries for record in report.of_node(client, until) if record.fate in SOLICITATIONS}
+    seen = [entries[0].source for fate, entries in asked.items() if fate in ('rs_restricted', 'rs_secondary') and entries]
+    return 'it is seen at ' + ' and at '.join(seen)
+
+
+def of_solicitation(travels, client, until):
+    """What became of a client's latest solicitation, or of its answer."""
+    report = travels.report
+    asked = [record for record in report.of_node(client, until) if record.fate in SOLICITATIONS and record.marks]
+    if not asked:
+        return 'it has sent nothing'
+    return 'of its latest solicitation: ' + last_of(travels, asked[-1].marks[0], until)
+
+
+# Tries
+
+
+def came_of(travels, mark, until):
+    """The first delivery of a mark before a record, or None."""
+    came = travels.report.delivered(mark) if isinstance(mark, Entry) else []
+    return next((record for record in came if until is None or record.index < until.index), None)
+
+
+def next_of(travels, mark, until):
+    """The mark that a delivery of this one drew, or None: the bubble through the server, the answer, or what goes on."""
+    record = came_of(travels, mark, until)
+    if record is None or record.fate not in DRAWS or not record.marks:
+        return None
+    return record.marks[-1 if record.fate == 'queued' else 0]
+
+
+def last_of(travels, mark, until=None):
+    """How the chain of what a mark drew ended, as a sentence. Deliveries from a record on don't count."""
+    if not isinstance(mark, Entry):
+        return of_loss(mark)
+    drawn = next_of(travels, mark, until)
+    if drawn is not None:
+        return last_of(travels, drawn, until)
+    record, content = came_of(travels, mark, until), travels.report.content(mark)
+    if record is None:
+        return of_undelivered(travels, mark)
+    if record.fate in FATES and FATES[record.fate].is_drop:
+        return f'#{mark.number}, the {content}, ended at {place(record)}, {record.fate}: {of_drop(travels, record)}'
+    return f'#{mark.number}, the {content}, came to {record.node}: {record.fate}'
+
+
+def place(record):
+    return record.node if record.node != '-' else 'nobody'
+
+
+def tries_of(travels, wait, until=None):
+    """The records in which the node of a wait tried its peer, from the packet on that was the first to wait."""
+    first = wait if wait.since.marks else first_wait(travels, wait)
+    records = [first.since] + [record for record in travels.report.of_node(wait.since.node, until)
+                               if record.index > first.since.index and record.fate in ('bubbles', 'test')]
+    return [record for record in records if record.marks and is_of_peer(first, record)]
+
+
+def first_wait(travels, wait):
+    """The latest packet before that waited for the same peer, and for which a try went out."""
+    for other in reversed(list(travels.waits.values())):
+        if other.since.index < wait.since.index and other.since.node == wait.since.node and other.since.marks \
+                and other.peer == wait.peer:
+            return other
+    return wait
+
+
+def is_of_peer(wait, record):
+    if record is wait.since or wait.endpoint is None:
+        return True
+    return wait.endpoint in [mark.target for mark in record.marks]
+
+
+def hops(travels, mark, until):
+    """How far a mark came: the deliveries of the chain that it drew."""
+    drawn = next_of(travels, mark, until)
+    return 0 if drawn is None else 1 + hops(travels, drawn, until)
+
+
+def of_tries(travels, tries, until=None):
+    """What became of the try that came furthest, and of the latest where none did."""
+    if not tries:
+        return 'no bubble and no test went out for it, since its peer is barred'
+    marks = [record.marks[-1] for record in tries]
+    furthest = max(marks, key=lambda mark: (hops(travels, mark, until), mark.maker.index))
+    return last_of(travels, furthest, until)
+
+
+def of_waiting(travels, wait):
+    return of_lost_trust(travels, wait) + of_tries(travels, tries_of(travels, wait))
+
+
+def of_given_up(travels, wait):
+    record = wait.dropped
+    if record.act == 'restart':
+        return f'it waited at {record.node}, which was restarted {when(record)}'
+    if record.fate == 'changed':
+        return f'it waited at {record.node}, whose address changed {when(record)}'
+    return of_lost_trust(travels, wait) + unanswered(travels, tries_of(travels, wait, record), record)
+
+
+def unanswered(travels, tries, until):
+    return f'{len(tries)} tries got no answer; ' + of_tries(travels, tries, until)
+
+
+def of_lost_trust(travels, wait):
+    """That the peer was trusted before, where the report shows it."""
+    report, node = travels.report, wait.since.node
+    heard = [record for record in report.of_node(node, wait.since) if record.fate in HEARD and is_from(travels, record, wait)]
+    if not heard or [record for record in report.of_node(node, wait.since)
+                     if record.index > heard[-1].index and (record.act == 'restart' or record.fate == 'changed')]:
+        return ''
+    silence = wait.since.moment - heard[-1].moment
+    if silence < FRESH_MS:
+        return ''
+    return f'trust has expired: {node} heard nothing from there for {silence:,} ms; '
+
+
+def is_from(travels, record, wait):
+    entry = travels.report.entries[record.delivered]
+    if wait.peer:
+        name = travels.origin(entry)[0]
+        return wait.peer in (name, travels.report.address_at(name, record))
+    return wait.endpoint in (None, entry.source)
+
+
+def of_barred(travels, record):
+    tries = tries_before(travels, record)
+    gap = record.moment - tries[-1].moment if tries else TRY_GAP_MS
+    if record.delivered is not None and gap < TRY_GAP_MS:
+        return f'the latest bubble to this peer went out {gap:,} ms before, and {TRY_GAP_MS:,} ms lie between two'
+    return unanswered(travels, tries, record)
+
+
+def tries_before(travels, record):
+    """The tries at the peer of a packet that is barred."""
+    peer = travels.targets[record.event] if record.delivered is None and record.event < len(travels.targets) else None
+    waits = [wait for wait in travels.waits.values() if peer and wait.since.index < record.index
+             and (wait.since.node, wait.peer) == (record.node, peer)]
+    if waits:
+        return tries_of(travels, waits[-1], record)
+    return [other for other in travels.report.of_node(record.node, record)
+            if other.fate in TRIES and other.marks and record.moment - other.moment < LISTED_MS]
+
+
+# The rest
+
+
+def of_destination(travels, record):
+    report = travels.report
+    peer = travels.targets[record.event] if record.event < len(travels.targets) else None
+    without = [client for client in ([peer] if peer in report.clients() else report.clients())
+               if client != record.node and report.address_at(client, record) is None]
+    if not without:
+        return 'the destination is none that this node sends to'
+    return f'{without[0]} has no address, and stands for ::; ' + unqualified(travels, without[0], record)
+
+
+def of_mismatch(travels, record):
+    report = travels.report
+    entry = report.entries[record.delivered]
+    if entry.maker.fate == 'put':
+        word = entry.maker.act.partition(':')[0]
+        return f'{word} of event {entry.maker.event} put it there from {entry.source}, and its address embeds another endpoint'
+    return f'{entry.maker.node} sent it from {entry.source}, and its source embeds another endpoint' + other_port(report, entry, record)
+
+
+def of_unlisted(travels, record):
+    report, relay = travels.report, record.node
+    entry = report.entries[record.delivered]
+    before = report.of_node(relay, record)
+    known = [other for other in before if entry.source in [mark.target for mark in other.entries]
+             or other.delivered in report.entries and report.entries[other.delivered].source == entry.source and other is not record]
+    restarts = [other for other in before if other.act == 'restart']
+    if restarts and (not known or restarts[-1].index > known[-1].index):
+        return f'{relay} was restarted {when(restarts[-1])}, and knows nothing of {entry.source} since'
+    if known:
+        return f'{relay} had nothing to do with {entry.source} for {record.moment - known[-1].moment:,} ms: forgotten after 300 s'
+    return f'{relay} never had a packet for {entry.source}: the IPv6 side has to speak first'
+
+
+def of_old_address(travels, record):
+    told = [other for other in travels.report.of_node(record.node, record) if other.address]
+    return f'{record.node} has another address now, {told[-1].address}, ' + when(told[-1]) if told else 'it is for another address'
+
+
+def of_nowhere(travels, record):
+    entry = travels.report.entries[record.delivered]
+    if entry.is_six:
+        return 'no native host has its destination: there is no relay that would answer'
+    return f'nobody is at {entry.target}'
+
+
+def of_suspicious(travels, record):
+    test = f'; the test: {last_of(travels, record.marks[0])}' if record.marks else ''
+    return f'{record.node} doesn\'t trust its sender yet, and asks it first' + test

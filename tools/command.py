@@ -1,0 +1,95 @@
+"""What the tools of this folder share: where things lie, how the program is called, how a tool ends.
+
+A tool ends with 0 where all is well, 1 where it found something, 2 where its words are wrong, 4 where a file can't be
+read or written, and 125 where the program can't be built. A fault is one line on standard error, never a traceback.
+"""
+import argparse
+import os
+import subprocess
+import sys
+import tempfile
+
+TOP = os.path.dirname(os.path.dirname(os.path.abspath(__file__)))
+PROGRAM = os.path.join(TOP, 'teredo')  # which builds the program where it has to
+FOUND, WRONG_WORDS, UNREADABLE = 1, 2, 4
+SECONDS_MAX = 60  # that a scenario may take
+
+
+class Refusal(Exception):
+    """A reason to end: what is said on standard error, and the status."""
+
+    def __init__(self, text, status=FOUND):
+        super().__init__(text)
+        self.status = status
+
+
+def words(doc):
+    """A parser of a tool's words, which has its docstring for `--help`."""
+    return argparse.ArgumentParser(description=doc, formatter_class=argparse.RawDescriptionHelpFormatter)
+
+
+def with_program(parser):
+    """The same parser, with the program as an option."""
+    parser.add_argument('--program', metavar='PROGRAM', default=PROGRAM,
+                        help='the built program; where none is named ./teredo, which builds it')
+    return parser
+
+
+def read(path):
+    """The text of a file; `-` is standard input."""
+    try:
+        if path == '-':
+            return sys.stdin.buffer.read().decode('utf-8')
+        with open(path, 'rb') as file:
+            return file.read().decode('utf-8')
+    except OSError as fault:
+        raise Refusal(f'{path}: {fault.strerror}', UNREADABLE) from None
+    except UnicodeDecodeError:
+        raise Refusal(f'{path}: is no text in UTF-8', UNREADABLE) from None
+
+
+def write(path, text):
+    try:
+        with open(path, 'w', encoding='utf-8') as file:
+            file.write(text)
+    except OSError as fault:
+        raise Refusal(f'{path}: {fault.strerror}', UNREADABLE) from None
+
+
+def play_file(program, path):
+    """The status of `lab PATH`, and what it wrote."""
+    try:
+        played = subprocess.run([program, 'lab', path], stdin=subprocess.DEVNULL, stdout=subprocess.PIPE,
+                                stderr=subprocess.DEVNULL if program != PROGRAM else None, timeout=SECONDS_MAX * 60)
+    except OSError as fault:
+        raise Refusal(f'{program}: {fault.strerror}', UNREADABLE) from None
+    except subprocess.TimeoutExpired:
+        raise Refusal(f'{path}: no end within {SECONDS_MAX} minutes') from None
+    if played.returncode == 125:
+        raise Refusal('there is no program to play with', 125)
+    return played.returncode, played.stdout.decode('utf-8', 'replace')
+
+
+def play(program, text):
+    """The same of a scenario's text."""
+    with tempfile.NamedTemporaryFile('w', suffix='.toml', encoding='utf-8') as file:
+        file.write(text)
+        file.flush()
+        return play_file(program, file.name)
+
+
+def run(main):
+    """Runs a tool and ends with its status."""
+    name = os.path.basename(sys.argv[0])
+    try:
+        status = main()
+        sys.stdout.flush()
+    except Refusal as fault:
+        print(f'{name}: {fault}', file=sys.stderr)
+        status = fault.status
+    except BrokenPipeError:  # who reads has enough
+        os.dup2(os.open(os.devnull, os.O_WRONLY), sys.stdout.fileno())
+        status = 0
+    except KeyboardInterrupt:
+        status = 130
+    sys.exit(status)

@@ -1,0 +1,200 @@
+"""A report of `lab`, read: its records, the entries of the wire, and what became of each.
+
+docs/SCENARIOS.md, "The report", has the lines. A word that isn't known is passed over, as that page asks a script to.
+"""
+import ipaddress
+import re
+from dataclasses import dataclass, field
+
+from command import Refusal
+
+ENDPOINT = r'\d+\.\d+\.\d+\.\d+:\d+'
+ENTRY = re.compile(rf'#(\d+)=(?:(six)(?::(\w+))?|({ENDPOINT})>({ENDPOINT}))/(\d+)$')
+LOSS = re.compile(rf'!(\w+)=({ENDPOINT})/(\d+)$')
+HEAD = re.compile(r'(\d+) (\d+) (\d+) (\S+) (\S+) (\S+)(?: |$)')
+SOLICITATIONS = ('rs_cone', 'rs_restricted', 'rs_secondary', 'refresh')
+FORWARDS = ('forward', 'forward_origin', 'six', 'sent', 'sent_cone')  # of a delivery: what came goes on
+FIXED = {'advert': 'advertisement', 'echoed': 'echo reply', 'put': 'datagram', 'indirect': 'bubble',
+         'suspicious_test': 'echo request', 'test': 'echo request', 'bubbles': 'bubble'}
+TRIES = {'queued': {40: 'bubble', 56: 'echo request'}}  # by the length in bytes
+
+
+@dataclass
+class Entry:
+    """An entry of the wire: a datagram from `source` to `target`, or an IPv6 packet for a relay or a native host."""
+    number: int
+    maker: 'Record'
+    length: int
+    source: str = None
+    target: str = None
+    relay: str = None
+
+    @property
+    def is_six(self):
+        return self.target is None
+
+    @property
+    def way(self):
+        if self.is_six:
+            return f'IPv6, to {self.relay or "a native host"}'
+        return f'{self.source} > {self.target}'
+
+
+@dataclass
+class Loss:
+    """What a NAT didn't send: the word behind the mark `!`."""
+    word: str
+    maker: 'Record'
+    target: str
+    length: int
+
+
+@dataclass
+class Record:
+    index: int
+    moment: int
+    event: int
+    act: str
+    node: str
+    fate: str
+    address: str = None
+    handed: int = None
+    gone: int = 0
+    marks: list = field(default_factory=list)
+    line: str = ''
+
+    @property
+    def delivered(self):
+        """The number of the entry that was delivered, or None."""
+        return int(self.act[8:]) if self.act.startswith('deliver:') else None
+
+    @property
+    def entries(self):
+        return [mark for mark in self.marks if isinstance(mark, Entry)]
+
+    @property
+    def losses(self):
+        return [mark for mark in self.marks if isinstance(mark, Loss)]
+
+
+@dataclass(frozen=True)
+class TeredoAddress:
+    """The parts of an address in 2001:0::/32 (RFC 4380, section 4)."""
+    server: str
+    is_cone: bool
+    endpoint: str
+
+
+def teredo_parts(text):
+    data = ipaddress.IPv6Address(text).packed
+    port = int.from_bytes(data[10:12], 'big') ^ 0xffff
+    mapped = ipaddress.IPv4Address(bytes(byte ^ 0xff for byte in data[12:]))
+    return TeredoAddress(str(ipaddress.IPv4Address(data[4:8])), bool(data[8] & 0x80), f'{mapped}:{port}')
+
+
+class Report:
+    """The records of a report, its entries by number, and the deliveries of each entry."""
+
+    def __init__(self, text):
+        self.records, self.entries, self.deliveries, self.totals = [], {}, {}, None
+        for number, line in enumerate(text.splitlines(), 1):
+            if self.totals is not None:
+                raise Refusal(f'line {number}: there is no line behind the totals of a report')
+            if line.startswith('total ') or line == 'wire full':
+                self.totals = line
+            else:
+                self.add(record_of(line, number))
+        if self.totals is None:
+            raise Refusal('this is no whole report: its last line has no totals')
+
+    def add(self, record):
+        self.records.append(record)
+        for entry in record.entries:
+            self.entries[entry.number] = entry
+        if record.delivered is not None:
+            self.deliveries.setdefault(record.delivered, []).append(record)
+
+    def delivered(self, entry):
+        return self.deliveries.get(entry.number, [])
+
+    def of_node(self, node, until=None):
+        """The records in which a node acted or decided, up to a record and without it."""
+        return [record for record in self.records[:until.index if until else None] if record.node == node]
+
+    def address_at(self, node, until):
+        """The Teredo address that a client has before a record, or None."""
+        address = None
+        for record in self.of_node(node, until):
+            address = None if record.act == 'restart' else record.address or address
+        return address
+
+    def content(self, mark):
+        """What a mark is, in a word or two, as far as the report tells."""
+        maker = mark.maker
+        if maker.act.startswith('copy:') and int(maker.act[5:]) in self.entries:
+            return self.content(self.entries[int(maker.act[5:])])
+        if maker.fate in SOLICITATIONS:
+            return 'solicitation'
+        if maker.act == 'echo' and maker.fate in ('sent', 'sent_cone', 'sent_six'):
+            return 'echo request'
+        if maker.fate in FIXED:
+            return FIXED[maker.fate]
+        if maker.fate in TRIES and mark.length in TRIES[maker.fate]:
+            return TRIES[maker.fate][mark.length]
+        if maker.delivered in self.entries and self.is_passed_on(mark):
+            carried = self.content(self.entries[maker.delivered])
+            return carried + ', origin' if maker.fate == 'forward_origin' else carried
+        return 'packet'
+
+    @staticmethod
+    def is_passed_on(mark):
+        """Whether a mark is the packet whose delivery made it, and not one that waited."""
+        if mark.maker.fate == 'from_client':
+            return isinstance(mark, Entry) and mark.is_six
+        return mark.maker.fate in FORWARDS
+
+    def clients(self):
+        """The clients that acted, in the order in which they did."""
+        asked = (record.node for record in self.records if record.fate in SOLICITATIONS)
+        return list(dict.fromkeys(asked))
+
+    def nodes_at(self):
+        """The node at each endpoint that is known: makers of entries, and who was delivered one."""
+        found = {}
+        for entry in self.entries.values():
+            if entry.is_six:
+                continue
+            if entry.maker.node != '-' and entry.maker.fate != 'put':
+                found.setdefault(entry.source, entry.maker.node)
+            for record in self.delivered(entry):
+                if record.node != '-' and record.fate != 'nat_closed':
+                    found.setdefault(entry.target, record.node)
+        return found
+
+
+def record_of(line, number=1):
+    head = HEAD.match(line)
+    if not head:
+        raise Refusal(f'line {number}: this is no line of a report: {line[:60]}')
+    index, moment, event, act, node, fate = head.groups()
+    record = Record(int(index), int(moment), int(event), act, node, fate, line=line)
+    rest = line.split(' ')[6:]
+    for at, word in enumerate(rest):
+        entry, loss = ENTRY.match(word), LOSS.match(word)
+        if entry:
+            record.marks.append(Entry(int(entry[1]), record, int(entry[6]), entry[4], entry[5], entry[3]))
+        elif loss:
+            record.marks.append(Loss(loss[1], record, loss[2], int(loss[3])))
+        elif word == 'is' and at + 1 < len(rest):
+            record.address = rest[at + 1]
+        elif word.startswith('handed/'):
+            record.handed = int(word[7:])
+        elif word.startswith('gone/'):
+            record.gone = int(word[5:])
+    return record
+
+
+def is_report(text):
+    """Whether this is a report, and not a scenario's text."""
+    return bool(HEAD.match(text.partition('\n')[0])) or text.startswith(('total ', 'wire full'))
+

@@ -1,0 +1,274 @@
+"""A text in TOML with the place of each key and value: what a tool needs to say where something stands.
+
+Everything that TOML 1.1 allows is read, whatever Python's own reader knows. Places are offsets of characters.
+"""
+import re
+from dataclasses import dataclass, field
+
+from command import FOUND, Refusal
+
+BARE = re.compile(r'[A-Za-z0-9_-]+')
+PLAIN = re.compile(r'[^\s,\]}#]+')
+STRINGS = [('"""', True), ("'''", False), ('"', True), ("'", False)]
+ESCAPES = {'b': '\b', 't': '\t', 'n': '\n', 'f': '\f', 'r': '\r', 'e': '\x1b', '"': '"', '\\': '\\'}
+NUMBER = re.compile(r'[+-]?(0x[0-9a-fA-F_]+|0o[0-7_]+|0b[01_]+|[0-9][0-9_]*)$')
+FLOAT = re.compile(r'[+-]?([0-9][0-9_]*(\.[0-9_]+)?([eE][+-]?[0-9_]+)?|inf|nan)$')
+
+
+class NotToml(Exception):
+    """What is wrong, and where."""
+
+    def __init__(self, place, text):
+        super().__init__(text)
+        self.place = place
+
+
+@dataclass
+class Node:
+    """A value from `start` to `end`: of a table a dictionary of nodes, of a list a list of them. `keys` has the place of
+    each key of a table."""
+    value: object
+    start: int
+    end: int
+    keys: dict = field(default_factory=dict)
+    is_header: bool = False  # a table that a header in brackets begins
+
+    def plain(self):
+        """The value alone."""
+        if isinstance(self.value, dict):
+            return {key: node.plain() for key, node in self.value.items()}
+        if isinstance(self.value, list):
+            return [node.plain() for node in self.value]
+        return self.value
+
+
+class Reader:
+    def __init__(self, text):
+        self.text, self.at = text, 0
+
+    def fail(self, text, place=None):
+        raise NotToml(self.at if place is None else place, text)
+
+    def take(self, word):
+        if not self.text.startswith(word, self.at):
+            self.fail(f'{word} is missing')
+        self.at += len(word)
+
+    def blank(self, lines=False):
+        """Skips spaces, and with `lines` also line breaks and comments."""
+        while self.at < len(self.text):
+            if self.text[self.at] in ' \t' or lines and self.text[self.at] in '\r\n':
+                self.at += 1
+            elif lines and self.text[self.at] == '#':
+                self.comment()
+            else:
+                return
+
+    def comment(self):
+        end = self.text.find('\n', self.at)
+        self.at = len(self.text) if end < 0 else end
+
+    def line_end(self):
+        self.blank()
+        if self.at < len(self.text) and self.text[self.at] == '#':
+            self.comment()
+        if self.at < len(self.text) and self.text[self.at] not in '\r\n':
+            self.fail('the line should end here')
+
+    def key(self):
+        """The parts of a key, and the place of each."""
+        parts = []
+        while True:
+            self.blank()
+            place = self.at
+            quote = self.text[self.at:self.at + 1]
+            if quote and quote in '"\'':
+                parts.append((self.string(quote, quote == '"'), place))
+            else:
+                bare = BARE.match(self.text, self.at)
+                if not bare:
+                    self.fail('a key is missing')
+                self.at = bare.end()
+                parts.append((bare[0], place))
+            self.blank()
+            if self.text[self.at:self.at + 1] != '.':
+                return parts
+            self.at += 1
+
+    def string(self, quote, has_escapes):
+        self.at += len(quote)
+        start, made = self.at, []
+        while not self.text.startswith(quote, self.at):
+            if self.at >= len(self.text) or len(quote) == 1 and self.text[self.at] == '\n':
+                self.fail('the text has no end', start - len(quote))
+            if has_escapes and self.text[self.at] == '\\':
+                made.append(self.escape())
+            else:
+                made.append(self.text[self.at])
+                self.at += 1
+        self.at += len(quote)
+        while len(quote) == 3 and self.text.startswith(quote[0], self.at):  # quotes before the three
+            made.append(quote[0])
+            self.at += 1
+        whole = ''.join(made)
+        return re.sub(r'^\r?\n', '', whole) if len(quote) == 3 else whole
+
+    def escape(self):
+        letter = self.text[self.at + 1:self.at + 2]
+        if letter and letter in ESCAPES:
+            self.at += 2
+            return ESCAPES[letter]
+        digits = {'x': 2, 'u': 4, 'U': 8}.get(letter)
+        number = self.text[self.at + 2:self.at + 2 + (digits or 0)]
+        if digits and re.fullmatch(rf'[0-9a-fA-F]{{{digits}}}', number) and int(number, 16) < 0x110000:
+            self.at += 2 + digits
+            return chr(int(number, 16))
+        folded = re.compile(r'\\[ \t]*\r?\n\s*').match(self.text, self.at)
+        if not folded:
+            self.fail('there is no such escape')
+        self.at = folded.end()
+        return ''
+
+    def value(self):
+        start = self.at
+        for quote, has_escapes in STRINGS:
+            if self.text.startswith(quote, self.at):
+                return Node(self.string(quote, has_escapes), start, self.at)
+        if self.text.startswith('[', self.at):
+            return self.list()
+        if self.text.startswith('{', self.at):
+            return self.inline_table()
+        word = PLAIN.match(self.text, self.at)
+        if not word:
+            self.fail('a value is missing')
+        self.at = word.end()
+        return Node(self.scalar(word[0], start), start, self.at)
+
+    def scalar(self, word, start):
+        if word in ('true', 'false'):
+            return word == 'true'
+        if NUMBER.match(word):
+            digits = word.replace('_', '')
+            if re.match(r'[+-]?0[0-9]', digits):
+                self.fail('a number has no leading zeros', start)
+            return int(digits, 0)
+        if FLOAT.match(word):
+            return float(word.replace('_', ''))
+        if re.match(r'\d\d', word) and re.search('[-:]', word):
+            return Node  # a date or a time, which no scenario has
+        return self.fail('this is no value', start)
+
+    def list(self):
+        start, found = self.at, []
+        self.take('[')
+        while True:
+            self.blank(lines=True)
+            if self.text.startswith(']', self.at):
+                break
+            found.append(self.value())
+            self.blank(lines=True)
+            if self.text.startswith(']', self.at):
+                break
+            self.take(',')
+        self.take(']')
+        return Node(found, start, self.at)
+
+    def inline_table(self):
+        table = Node({}, self.at, self.at)
+        self.take('{')
+        while True:
+            self.blank(lines=True)
+            if self.text.startswith('}', self.at):
+                break
+            self.pair(table)
+            self.blank(lines=True)
+            if self.text.startswith('}', self.at):
+                break
+            self.take(',')
+        self.take('}')
+        table.end = self.at
+        return table
+
+    def pair(self, table):
+        *path, (last, place) = self.key()
+        table = self.inner(table, path)
+        self.take('=')
+        self.blank()
+        if last in table.value:
+            self.fail(f'the key {last} is there twice', place)
+        table.keys[last] = place
+        table.value[last] = self.value()
+
+    def inner(self, table, path):
+        """The table that a path leads to, made where it isn't there; of a list of tables the latest one."""
+        for part, place in path:
+            table.keys.setdefault(part, place)
+            table = table.value.setdefault(part, Node({}, place, place))
+            if isinstance(table.value, list) and table.value and isinstance(table.value[-1].value, dict):
+                table = table.value[-1]
+            if not isinstance(table.value, dict):
+                self.fail(f'{part} is no table', place)
+        return table
+
+    def header(self, top):
+        start = self.at
+        is_list = self.text.startswith('[[', self.at)
+        self.take('[[' if is_list else '[')
+        *path, (last, place) = self.key()
+        self.take(']]' if is_list else ']')
+        outer, table = self.inner(top, path), Node({}, start, self.at, is_header=True)
+        outer.keys.setdefault(last, place)
+        if is_list:
+            tables = outer.value.setdefault(last, Node([], start, self.at, is_header=True))
+            if not isinstance(tables.value, list) or not tables.is_header:
+                self.fail(f'{last} is no list of tables', place)
+            tables.value.append(table)
+        elif last in outer.value and (outer.value[last].is_header or not isinstance(outer.value[last].value, dict)):
+            self.fail(f'the table {last} is there twice', place)
+        else:
+            table = outer.value.setdefault(last, table)
+            table.is_header = True
+        return table
+
+    def document(self):
+        self.at = 1 if self.text.startswith('\ufeff') else 0
+        top = table = Node({}, 0, len(self.text))
+        while True:
+            self.blank(lines=True)
+            if self.at >= len(self.text):
+                return top
+            if self.text[self.at] == '[':
+                table = self.header(top)
+            else:
+                self.pair(table)
+            self.line_end()
+
+
+def read(text):
+    """The table of a whole text. Raises NotToml."""
+    return Reader(text).document()
+
+
+def place_of(text, offset):
+    """The line and the column of an offset, both from 1, and the line's text."""
+    start = text.rfind('\n', 0, offset) + 1
+    end = text.find('\n', offset)
+    line = text[start:len(text) if end < 0 else end].rstrip('\r')
+    return text.count('\n', 0, offset) + 1, offset - start + 1, line
+
+
+def scenario_node(path, text):
+    """The table of a scenario's text; a text that is no TOML or has no events is refused at once, and not played."""
+    try:
+        top = read(text)
+    except NotToml as fault:
+        line, column, _ = place_of(text, fault.place)
+        raise Refusal(f'{path}:{line}:{column}: is no report, and no TOML: {fault}', FOUND) from None
+    if not isinstance(top.value.get('events', Node(None, 0, 0)).value, list):
+        raise Refusal(f'{path}: is neither a report nor a scenario: it has no list of events', FOUND)
+    return top
+
+
+def scenario_events(path, text):
+    """The texts of a scenario's events."""
+    return [event.value for event in scenario_node(path, text).value['events'].value if isinstance(event.value, str)]

@@ -1,0 +1,145 @@
+#!/usr/bin/env python3
+"""Why didn't this packet arrive? What came of each event of a report, as a tree of causes.
+
+FILE is a report of `lab`, or a scenario, which is played first; `-` is standard input. Each entry of the wire stands
+below the record that made it, with where it ended and by which rule; `never delivered` is one that was lost.
+
+  trace FILE             the whole tree
+  trace FILE --event N   what came of event N alone, and what its last fate means
+  trace FILE --packets   each packet that a host handed in, in one line: arrived, waits, or lost, where and why
+"""
+import sys
+
+sys.dont_write_bytecode = True
+
+import causes
+import command
+import travel
+from report import Entry, Report, is_report
+from toml_places import scenario_events
+
+HEX_MAX = 16  # characters of an event's bytes that are shown
+
+
+def load(options):
+    """The report, and the scenario's events where there is one."""
+    text = command.read(options.file)
+    if is_report(text):
+        return Report(text), []
+    events = scenario_events(options.file, text)
+    status, written = command.play(options.program, text)
+    if status not in (0, 8):
+        raise command.Refusal(f'{options.file}: {written.strip() or f"status {status}"}; lint says where')
+    return Report(written), events
+
+
+def short(event):
+    """An event's text without most of its bytes."""
+    return ' '.join(word if len(word) <= 40 else word[:HEX_MAX] + '..' for word in event.split(' '))
+
+
+def title(record, events):
+    said = f'"{short(events[record.event])}"' if record.event < len(events) and record.act != 'tick' else record.act
+    return f'{record.moment:,} ms, event {record.event}, {said}: '
+
+
+def outcome(record):
+    """Who decided, and what."""
+    words = [record.node + ':' if record.node != '-' else '', record.fate]
+    words += [f'is {record.address}'] if record.address else []
+    words += [f'handed {record.handed} bytes'] if record.handed is not None else []
+    words += [f'{record.gone} dropped'] if record.gone else []
+    return ' '.join(word for word in words if word)
+
+
+class Tree:
+    """The lines below a record: each mark, below an entry its deliveries, and behind a drop its cause."""
+
+    def __init__(self, travels):
+        self.travels, self.report, self.lines = travels, travels.report, []
+
+    def said(self, record):
+        is_drop = record.fate in causes.FATES and causes.FATES[record.fate].is_drop
+        return outcome(record) + (': ' + causes.of_drop(self.travels, record) if is_drop and not record.gone else '')
+
+    def add(self, record, depth):
+        for mark in record.marks:
+            if isinstance(mark, Entry):
+                self.add_entry(mark, depth)
+            else:
+                self.lines.append('  ' * depth + f'!{mark.word} {self.report.content(mark)} > {mark.target}: not sent')
+
+    def add_entry(self, entry, depth):
+        came = self.report.delivered(entry)
+        lost = '' if came else ': never delivered'
+        self.lines.append('  ' * depth + f'#{entry.number} {self.report.content(entry)}, {entry.way}, {entry.length} bytes{lost}')
+        for record in came:
+            self.lines.append('  ' * (depth + 1) + f'{record.moment:,} ms, {self.said(record)}')
+            self.add(record, depth + 2)
+
+
+def is_root(record):
+    """Whether a record is the beginning of something, and not a delivery or an end of an `advance`."""
+    return record.delivered is None and record.fate != 'done' or record.act in ('restart', 'forget') or record.fate == 'no_entry'
+
+
+def tree_of(travels, record, events):
+    tree = Tree(travels)
+    tree.lines.append(title(record, events) + tree.said(record))
+    tree.add(record, 1)
+    return tree.lines
+
+
+def packet_line(travels, record, events):
+    said = short(events[record.event]) if record.event < len(events) else f'{record.act} {record.node}'
+    return f'{record.moment:,} ms, event {record.event}, {said}: {travels.end_of_event(record)}'
+
+
+def explained(word):
+    """The line of docs/SCENARIOS.md on a fate."""
+    fate = causes.FATES.get(word)
+    if fate is None:
+        return []
+    lines = [f'{word}, of {fate.of}: {fate.means}']
+    lines += [f'  likely cause: {fate.cause}'] if fate.cause else []
+    return lines + ([f'  look next: {fate.look}'] if fate.look else [])
+
+
+def event_lines(travels, number, events):
+    records = [record for record in travels.report.records if record.event == number]
+    if not records:
+        raise command.Refusal(f'there is no event {number} in this report', command.WRONG_WORDS)
+    lines = [line for record in records for line in tree_of(travels, record, events)]
+    last = records[-1]
+    if travel.text_of(travels, last) is None:
+        return lines + explained(last.fate)
+    end = travels.end_of_event(last)
+    return lines + ['', str(end)] + explained(end.record.fate)
+
+
+def options_of(words):
+    parser = command.with_program(command.words(__doc__))
+    parser.add_argument('file', metavar='FILE', help='a report or a scenario')
+    what = parser.add_mutually_exclusive_group()
+    what.add_argument('--event', metavar='N', type=int, help='this event alone')
+    what.add_argument('--packets', action='store_true', help='a line for each packet that a host handed in')
+    return parser.parse_args(words)
+
+
+def main():
+    options = options_of(sys.argv[1:])
+    report, events = load(options)
+    travels = travel.Travels(report, travel.targets_of(events))
+    if options.packets:
+        lines = [packet_line(travels, record, events) for record in report.records if record.act in travel.HANDED_IN] \
+            or ['no host handed in a packet']
+    elif options.event is not None:
+        lines = event_lines(travels, options.event, events)
+    else:
+        lines = [line for record in report.records if is_root(record) for line in tree_of(travels, record, events)]
+    print('\n'.join(lines))
+    return 0
+
+
+if __name__ == '__main__':
+    command.run(main)

@@ -1,0 +1,162 @@
+"""What became of each packet that a host handed in, and why, as far as a report tells.
+
+A report doesn't name the packets that wait: they are told apart by their order, by the peer that the event names where
+the scenario is at hand, and else by the endpoint that the peer's bubbles go to.
+"""
+from dataclasses import dataclass, field
+
+import causes
+from report import Entry
+
+HANDED_IN = ('host', 'echo', 'raw')
+RELEASES = ('rule1', 'rule1_bubble', 'rule2', 'rule3', 'rule3_bubble', 'from_client', 'from_client_bubble', 'unserved')
+SENT = ('sent', 'sent_cone', 'sent_six', 'put')
+TAKEN = ('kept', 'echoed', 'rule1_bubble', 'rule2', 'rule3_bubble', 'indirect', 'from_client_bubble')
+ARRIVED, WAITS, LOST = 'arrived', 'waits', 'lost'
+RANKS = (ARRIVED, WAITS, LOST)
+
+
+@dataclass
+class End:
+    """Where a packet is in the end: a state, the record that decided, and where it was lost or waits the reason."""
+    state: str
+    record: object
+    reason: str = ''
+    is_undelivered: bool = False
+    answer: 'End' = None  # of an echo request
+
+    def __str__(self):
+        node = self.record.node
+        if self.state == ARRIVED:
+            return f'arrived at {node}, {self.record.fate}' + (f'; its answer {self.answer}' if self.answer else '')
+        if self.state == WAITS:
+            return f'waits at {node}: {self.reason}'
+        if self.is_undelivered:
+            return f'lost on the wire: {self.reason}'
+        losses = [loss.word for loss in self.record.losses]
+        where = f'at {node}' if node != '-' else 'on the wire'
+        return f'lost {where}, {"!" + losses[0] if losses else self.record.fate}: {self.reason}'
+
+
+@dataclass
+class Waiting:
+    """A packet that waits at a node: since which record, for whom as far as is known, and how its wait ended."""
+    since: object
+    peer: str = None  # the node or the address that the event names
+    endpoint: str = None  # where the bubbles for its peer go
+    released: object = None  # the mark of its own
+    dropped: object = None  # the record that dropped it
+
+
+@dataclass
+class Travels:
+    """All waits of a report, by the record at which each begins."""
+    report: object
+    targets: list = field(default_factory=list)  # of each event the peer that it names, where the scenario is at hand
+    waits: dict = field(default_factory=dict)
+
+    def __post_init__(self):
+        at = {}
+        for record in self.report.records:
+            here = at.setdefault(record.node, [])
+            if record.act == 'restart' or record.fate == 'changed':
+                self.drop(here, here, record)
+            elif record.fate in RELEASES:
+                self.release(here, record)
+            elif record.gone:
+                self.drop(here, self.of_one_peer(here, record.gone), record)
+            if record.fate == 'queued':
+                wait = Waiting(record, self.peer_of(record), self.endpoint_of(record))
+                self.waits[record.index] = wait
+                here.append(wait)
+
+    def peer_of(self, record):
+        if record.act in HANDED_IN:
+            return self.targets[record.event] if record.event < len(self.targets) else None
+        return self.origin(self.report.entries[record.delivered])[1]
+
+    def endpoint_of(self, record):
+        """Where a direct bubble goes, which is the peer's own endpoint."""
+        bubbles = [mark for mark in record.marks if mark.length == 40]
+        return bubbles[0].target if len(bubbles) > 1 else None
+
+    @staticmethod
+    def drop(here, waits, record):
+        for wait in list(waits):
+            wait.dropped = record
+            here.remove(wait)
+
+    @staticmethod
+    def of_one_peer(here, count):
+        """So many packets that wait for one peer: the peer who has just so many, and else the first ones."""
+        for first in here:
+            same = [wait for wait in here if (wait.peer, wait.endpoint if not wait.peer else None)
+                    == (first.peer, first.endpoint if not first.peer else None)]
+            if len(same) == count:
+                return same
+        return here[:count]
+
+    def release(self, here, record):
+        """Gives the marks of a record that lets packets go to the waits at its node, in order."""
+        marks = [mark for mark in record.marks if not (isinstance(mark, Entry) and mark.is_six)]
+        entry = self.report.entries.get(record.delivered)
+        if not marks or entry is None:
+            return
+        names = {self.origin(entry)[0], self.report.address_at(self.origin(entry)[0], record)}
+        known = [wait for wait in here if wait.peer in names or not wait.peer and wait.endpoint == entry.source]
+        unknown = [wait for wait in here if not wait.peer and not wait.endpoint]
+        for mark, wait in zip(marks, known or unknown or list(here)):
+            wait.released = mark
+            here.remove(wait)
+
+    def origin(self, mark):
+        """The node that a packet began at, and the peer that its event names."""
+        record = mark.maker
+        while record.delivered in self.report.entries and self.report.is_passed_on(mark):
+            mark = self.report.entries[record.delivered]
+            record = mark.maker
+        return record.node, self.targets[record.event] if record.event < len(self.targets) else None
+
+    def end_of_event(self, record):
+        """What became of what a host handed in."""
+        if record.fate == 'queued':
+            return self.end_of_wait(self.waits[record.index])
+        if record.fate in SENT and record.marks:
+            return self.end_of_mark(record.marks[0])
+        return End(LOST, record, causes.of_drop(self, record))
+
+    def end_of_wait(self, wait):
+        if wait.released is not None:
+            return self.end_of_mark(wait.released)
+        if wait.dropped is not None:
+            return End(LOST, wait.dropped, causes.of_given_up(self, wait))
+        return End(WAITS, wait.since, causes.of_waiting(self, wait))
+
+    def end_of_mark(self, mark):
+        if not isinstance(mark, Entry):
+            return End(LOST, mark.maker, causes.of_loss(mark))
+        ends = [self.end_of_delivery(mark, record) for record in self.report.delivered(mark)]
+        if not ends:
+            return End(LOST, mark.maker, causes.of_undelivered(self, mark), is_undelivered=True)
+        return min(ends, key=lambda end: RANKS.index(end.state))
+
+    def end_of_delivery(self, entry, record):
+        if record.handed is not None or record.fate in TAKEN or record.fate in ('rule1', 'rule3'):
+            answer = self.end_of_mark(record.marks[0]) if record.fate == 'echoed' else None
+            return End(ARRIVED, record, answer=answer)
+        if record.fate == 'queued':
+            return self.end_of_wait(self.waits[record.index])
+        passed_on = [mark for mark in record.marks if self.report.is_passed_on(mark)]
+        if passed_on:
+            return self.end_of_mark(passed_on[0])
+        return End(LOST, record, causes.of_drop(self, record))
+
+
+def targets_of(events):
+    """The peer that each event names, and nothing where it names none."""
+    return [(event.split(' ') + ['', ''])[2] if event.split(' ')[0] in ('host', 'echo') else '' for event in events]
+
+
+def text_of(travels, record):
+    """What became of a packet that a host handed in or a stranger put on the wire, or None where a record has none."""
+    return str(travels.end_of_event(record)) if record.act in HANDED_IN or record.fate == 'put' else None
