@@ -1,12 +1,12 @@
 #!/usr/bin/env python3
 """quoted.py [PROGRAM]: plays what the documents quote, and compares.
 
-- Each console block of a page whose command is `./teredo lab`, `show` or `gen` is run, and the lines below the command
-  are what it must write. Commands are run from the top of the repository.
+- Each console block of a page whose command is `./teredo lab`, `show`, `gen` or a tool is run, and the lines below the
+  command are what it must write; its status follows from them. Commands are run from the top of the repository.
 - Each row of docs/SCENARIOS.md that says what is said of a text that is refused: the example at the top of that page is
   changed as the row says, and played.
 
-Ends with status 1 where something differs.
+Ends with status 1 where something differs, or where fewer are found than BLOCKS_MIN and ROWS_MIN say.
 """
 import glob
 import os
@@ -18,7 +18,13 @@ import tempfile
 
 TOP = os.path.dirname(os.path.dirname(os.path.abspath(__file__)))
 PROGRAM = os.path.join(TOP, 'crates', 'teredo_cli', 'out', 'teredo_cli')
-COMMAND = re.compile(r'^\$ \./teredo (lab examples/|show |gen )')
+TOOLS = ('trace', 'flow', 'lint', 'check', 'generated')
+COMMAND = re.compile(rf'^\$ \./teredo (lab examples/|show |gen |(?:{"|".join(TOOLS)}) )')
+# How many commands each page quotes at least, and how many refusals docs/SCENARIOS.md has: a check of nothing passes.
+BLOCKS_MIN = {'README.md': 2, 'docs/GUIDE.md': 15}
+ROWS_MIN = 40
+# The status of what ends so; 0 of all else.
+STATUSES = {'fault ': 1, 'words': 2, 'scenario ': 3, 'wire full': 8}
 
 
 def read(path):
@@ -40,18 +46,31 @@ def blocks(text):
 
 
 def run(program, command):
-    command = command[2:].replace('./teredo', shlex.quote(program), 1)
-    return subprocess.run(command, shell=True, cwd=TOP, stdout=subprocess.PIPE, timeout=60).stdout.decode().splitlines()
+    """The status of a quoted command, and the lines that it writes."""
+    word = command.split()[2]
+    ours = [sys.executable, '-B', f'tools/{word}.py', '--program', program] if word in TOOLS else [program, word]
+    command = command.replace(f'$ ./teredo {word}', shlex.join(ours), 1)
+    done = subprocess.run(['bash', '-o', 'pipefail', '-c', command], cwd=TOP, stdout=subprocess.PIPE, timeout=60)
+    return done.returncode, done.stdout.decode().splitlines()
+
+
+def status_of(lines):
+    return next((status for front, status in STATUSES.items() if lines[-1].startswith(front)), 0)
 
 
 def check_blocks(program):
-    wrong = 0
+    wrong, counts = 0, dict.fromkeys(BLOCKS_MIN, 0)
     for page in ['README.md'] + sorted(glob.glob('docs/*.md', root_dir=TOP)):
         for command, lines in blocks(read(os.path.join(TOP, page))):
-            written = run(program, command)
-            if written != lines:
+            counts[page] = counts.get(page, 0) + 1
+            status, written = run(program, command)
+            if written != lines or status != status_of(lines) and '|' not in command:
                 wrong += 1
-                print(f'{page}: {command}\nis quoted with {lines}\nand writes      {written}')
+                print(f'{page}: {command}\nis quoted with {lines}\nand writes      {written}, status {status}')
+    for page, least in BLOCKS_MIN.items():
+        if counts[page] < least:
+            wrong += 1
+            print(f'{page}: {counts[page]} commands are quoted, and {least} were once')
     return wrong
 
 
@@ -66,8 +85,8 @@ def rows(page):
 def check_refusals(program):
     page = read(os.path.join(TOP, 'docs', 'SCENARIOS.md'))
     example = re.search(r'## Example\n\n```toml\n(.*?)```', page, re.S)[1]
-    wrong = 0
-    for before, after, said in rows(page):
+    wrong, found = 0, list(rows(page))
+    for before, after, said in found:
         with tempfile.NamedTemporaryFile('w', suffix='.toml', encoding='utf-8') as file:
             file.write(example.replace(before, after, 1))
             file.flush()
@@ -75,10 +94,15 @@ def check_refusals(program):
         if before not in example or played.returncode != 3 or played.stdout.decode() != said + '\n':
             wrong += 1
             print(f'docs/SCENARIOS.md: `{before}` to `{after}` says {played.stdout.decode()[:80]!r}, status {played.returncode}')
+    if len(found) < ROWS_MIN:
+        wrong += 1
+        print(f'docs/SCENARIOS.md: {len(found)} refusals are found, and {ROWS_MIN} at least should be')
     return wrong
 
 
 def main():
+    if len(sys.argv) > 2 or not os.access(sys.argv[1] if len(sys.argv) > 1 else PROGRAM, os.X_OK):
+        sys.exit(__doc__.strip() if sys.argv[1:] in (['-h'], ['--help']) else 'quoted.py: one word, the built program, is wanted')
     program = os.path.abspath(sys.argv[1] if len(sys.argv) > 1 else PROGRAM)
     return 1 if check_blocks(program) + check_refusals(program) else 0
 

@@ -97,6 +97,7 @@ class Report:
 
     def __init__(self, text):
         self.records, self.entries, self.deliveries, self.totals = [], {}, {}, None
+        self.contents = {}  # of entries whose content is known from elsewhere
         for number, line in enumerate(text.splitlines(), 1):
             if self.totals is not None:
                 raise Refusal(f'line {number}: there is no line behind the totals of a report')
@@ -131,6 +132,8 @@ class Report:
     def content(self, mark):
         """What a mark is, in a word or two, as far as the report tells."""
         maker = mark.maker
+        if isinstance(mark, Entry) and mark.number in self.contents:
+            return self.contents[mark.number]
         if maker.act.startswith('copy:') and int(maker.act[5:]) in self.entries:
             return self.content(self.entries[int(maker.act[5:])])
         if maker.fate in SOLICITATIONS:

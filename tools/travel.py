@@ -108,6 +108,14 @@ class Travels:
         for mark, wait in zip(marks, known or unknown or list(here)):
             wait.released = mark
             here.remove(wait)
+            if isinstance(mark, Entry):
+                self.report.contents[mark.number] = self.content(wait.since)
+
+    def content(self, record):
+        """What a packet is that waits since a record."""
+        if record.delivered is not None:
+            return self.report.content(self.report.entries[record.delivered])
+        return 'echo request' if record.act == 'echo' else 'packet'
 
     def origin(self, mark):
         """The node that a packet began at, and the peer that its event names."""
