@@ -3,8 +3,7 @@
 
 - Each console block of a page whose command is `./teredo lab`, `show`, `gen` or a tool is run, and the lines below the
   command are what it must write; its status follows from them. Commands are run from the top of the repository.
-- Each row of docs/SCENARIOS.md that says what is said of a text that is refused: the example at the top of that page is
-  changed as the row says, and played.
+- Each row of examples/refusals.txt: the example at the top of docs/SCENARIOS.md is changed as it says, and played.
 
 Ends with status 1 where something differs, or where fewer are found than BLOCKS_MIN and ROWS_MIN say.
 """
@@ -20,9 +19,9 @@ TOP = os.path.dirname(os.path.dirname(os.path.abspath(__file__)))
 PROGRAM = os.path.join(TOP, 'crates', 'teredo_cli', 'out', 'teredo_cli')
 TOOLS = ('trace', 'flow', 'lint', 'check', 'generated')
 COMMAND = re.compile(rf'^\$ \./teredo (lab examples/|show |gen |(?:{"|".join(TOOLS)}) )')
-# How many commands each page quotes at least, and how many refusals docs/SCENARIOS.md has: a check of nothing passes.
+# How many commands each page quotes at least, and how many refusals there are: a check of nothing passes.
 BLOCKS_MIN = {'README.md': 2, 'docs/GUIDE.md': 15}
-ROWS_MIN = 40
+ROWS_MIN = 47
 # The status of what ends so; 0 of all else.
 STATUSES = {'fault ': 1, 'words': 2, 'scenario ': 3, 'wire full': 8}
 
@@ -74,18 +73,16 @@ def check_blocks(program):
     return wrong
 
 
-def rows(page):
+def rows():
     """What the example has, what it becomes, and the line."""
-    for line in page.split("| the example's | becomes")[1].splitlines()[2:]:
-        if not line.startswith('|'):
-            return
-        yield [cell.strip().strip('`') for cell in line.split('|')[1:-1]]
+    for line in read(os.path.join(TOP, 'examples', 'refusals.txt')).split('\n\n', 1)[1].splitlines():
+        yield re.fullmatch(r'(.*?) {2,}(.*?) {2,}(scenario.*)', line).groups()
 
 
 def check_refusals(program):
     page = read(os.path.join(TOP, 'docs', 'SCENARIOS.md'))
     example = re.search(r'## Example\n\n```toml\n(.*?)```', page, re.S)[1]
-    wrong, found = 0, list(rows(page))
+    wrong, found = 0, list(rows())
     for before, after, said in found:
         with tempfile.NamedTemporaryFile('w', suffix='.toml', encoding='utf-8') as file:
             file.write(example.replace(before, after, 1))
@@ -93,10 +90,10 @@ def check_refusals(program):
             played = subprocess.run([program, 'lab', file.name], stdout=subprocess.PIPE, timeout=60)
         if before not in example or played.returncode != 3 or played.stdout.decode() != said + '\n':
             wrong += 1
-            print(f'docs/SCENARIOS.md: `{before}` to `{after}` says {played.stdout.decode()[:80]!r}, status {played.returncode}')
+            print(f'examples/refusals.txt: `{before}` to `{after}` says {played.stdout.decode()[:80]!r}, status {played.returncode}')
     if len(found) < ROWS_MIN:
         wrong += 1
-        print(f'docs/SCENARIOS.md: {len(found)} refusals are found, and {ROWS_MIN} at least should be')
+        print(f'examples/refusals.txt: {len(found)} refusals are found, and {ROWS_MIN} at least should be')
     return wrong
 
 

@@ -1,0 +1,64 @@
+"""What docs/SCENARIOS.md and docs/scenario.schema.json want at each place of a scenario."""
+import difflib
+import json
+import os
+import re
+
+import command
+import fates
+
+# The list of tables, or the top, of each section of docs/SCENARIOS.md.
+SECTION = re.compile(r'^### (?:`\[\[(\w+)\]\]`|The top)', re.M)
+
+
+def schema():
+    return json.loads(command.read(os.path.join(command.TOP, 'docs', 'scenario.schema.json')))
+
+
+def properties(table=None):
+    """The keys of the schema: of the top, or of the tables of a list."""
+    top = schema()
+    return top['properties'] if table is None else top['properties'][table]['items']['properties']
+
+
+def described(value):
+    """What the schema says of a value, and where it refers to a definition what that says."""
+    if '$ref' in value:
+        value = schema()['definitions'][value['$ref'].rpartition('/')[2]]
+    return value['description']
+
+
+def page_keys():
+    """From (list, key) to the type that docs/SCENARIOS.md has. The list of the top is None."""
+    page, found = fates.page(), {}
+    parts = SECTION.split(page)
+    for table, section in zip(parts[1::2], parts[2::2]):
+        for key, kind, *_ in fates.rows(section.split('\n#')[0], 'key'):
+            found[table, key.strip('`')] = fates.plain(kind)
+    return found
+
+
+def rule(table, key):
+    """What may stand at a key: its type, and what is said of it."""
+    return f'{page_keys()[table, key]}: {described(properties(table)[key])}'
+
+
+def events():
+    """From an event's first word to its words and what they are."""
+    found = {}
+    for event in schema()['properties']['events']['items']['anyOf']:
+        shape, _, told = event['description'].partition(': ')
+        found[shape.split()[0]] = (shape.split(), told)
+    return found
+
+
+def page_events():
+    """The words of each event as docs/SCENARIOS.md has them."""
+    texts = [text.strip('`').split() for text, *_ in fates.rows(fates.page().split('## Events')[1].split('\n## ')[0], 'text')]
+    return {words[0]: words for words in texts}
+
+
+def nearest(word, known):
+    """What was meant, maybe."""
+    found = difflib.get_close_matches(str(word).lower(), list(known), 1, 0.6)
+    return f'; did you mean {found[0]}?' if found and found[0] != word else ''
