@@ -5,59 +5,51 @@ For each pair of NAT kinds, and for a host of the IPv6 Internet behind a relay, 
 and one sends two packets to the other; every datagram is delivered at once and in order. The table says how many
 deliveries it takes until a packet is there. `--check` prints nothing where the table is that of `pairs.txt`, which
 docs/GUIDE.md shows too, and else what differs, with status 1. `--scenario FROM TO` prints a pair's scenario instead.
+The scenarios are written with `tools/scenario.py`, with which any others can be.
 """
 import os
 import re
-import subprocess
 import sys
-import tempfile
+
+sys.dont_write_bytecode = True
 
 HERE = os.path.dirname(os.path.abspath(__file__))
+sys.path.insert(0, os.path.join(HERE, '..', 'tools'))
+
+import command
+from scenario import Scenario
+
 PROGRAM = os.path.join(HERE, '..', 'crates', 'teredo_cli', 'out', 'teredo_cli')
 STORED = os.path.join(HERE, 'pairs.txt')
 GUIDE = os.path.join(HERE, '..', 'docs', 'GUIDE.md')
 KINDS = ['cone', 'restricted', 'port', 'symmetric']
-SERVER = '[[server]]\nname = "s1"\nprimary = "192.0.2.1"\nsecondary = "192.0.2.2"\n'
-RELAY = '[[relay]]\nname = "r1"\nat = "203.0.113.9:3545"\nsix = "2001:db8::9"\n'
-# As many deliveries as there may be at once; where nothing is left to deliver, the event does nothing.
-ALL = ['next'] * 12
-QUALIFY = [event for ms in (0, 4000, 4000, 4000, 0) for event in [f'advance {ms}'] + ALL]
-
-
-def nat(number, kind):
-    return f'[[nat]]\nname = "n{number}"\nkind = "{kind}"\nexternal = "198.51.100.{number}"\nidle = 60000\n'
-
-
-def client(name, number, inside):
-    return f'[[client]]\nname = "{name}"\nnat = "n{number}"\ninside = "{inside}:4000"\nserver = "s1"\n'
-
-
-def native(name):
-    return f'[[native]]\nname = "{name}"\nsix = "2001:db8::{name}"\nrelay = "r1"\n'
 
 
 def scenario(source, target, one_nat=False):
     """The text of a pair: `a` behind a NAT of one kind or native, `b` likewise, maybe both behind one NAT."""
-    events = QUALIFY + ['host a b 00'] + ALL + ['host a b 00'] + ALL
-    text = 'seed = 1\nevents = [' + ', '.join(f'"{event}"' for event in events) + ']\n' + SERVER
-    clients = [(name, kind) for name, kind in (('a', source), ('b', target)) if kind != 'native']
-    for number, (name, kind) in enumerate(clients, 1):
-        text += nat(number, kind) if number == 1 or not one_nat else ''
-    for number, (name, kind) in enumerate(clients, 1):
-        text += client(name, 1 if one_nat else number, f'10.0.0.{number + 1}')
+    lab = Scenario()
+    lab.server('s1')
     if 'native' in (source, target):
-        text += RELAY + ''.join(native(name) for name, kind in (('a', source), ('b', target)) if kind == 'native')
-    return text
+        lab.relay('r1')
+    nat = None
+    for number, (name, kind) in enumerate((('a', source), ('b', target)), 1):
+        if kind == 'native':
+            lab.native(name)
+            continue
+        nat = nat if nat and one_nat else lab.nat(f'n{number}', kind)
+        lab.client(name, nat)
+    lab.qualify()
+    for _ in range(2):
+        lab.event('host a b 00')
+        lab.deliver()
+    return lab.text()
 
 
 def play(program, text):
-    with tempfile.NamedTemporaryFile('w', suffix='.toml') as file:
-        file.write(text)
-        file.flush()
-        played = subprocess.run([program, 'lab', file.name], stdout=subprocess.PIPE, timeout=60)
-    if played.returncode:
-        sys.exit(f'status {played.returncode}: {played.stdout.decode()}')
-    return [line.split() for line in played.stdout.decode().splitlines()[:-1]]
+    status, written = command.play(program, text)
+    if status:
+        raise command.Refusal(f'status {status}: {written}')
+    return [line.split() for line in written.splitlines()[:-1]]
 
 
 def verdict(records):
@@ -88,26 +80,34 @@ def table(program):
     return text + row('one NAT', cells)
 
 
+def differences(made):
+    """What differs from the table that is stored, and from the one that docs/GUIDE.md shows."""
+    found = []
+    if command.read(STORED) != made:
+        found.append(f'pairs.txt has another table than the one played:\n{made}')
+    if made not in re.sub('^    ', '', command.read(GUIDE), flags=re.M):
+        found.append('docs/GUIDE.md does not show the table')
+    return found
+
+
+def options_of(words):
+    parser = command.words(__doc__)
+    parser.add_argument('program', metavar='PROGRAM', nargs='?', default=PROGRAM)
+    what = parser.add_mutually_exclusive_group()
+    what.add_argument('--check', action='store_true', help='compare with the table that is stored')
+    what.add_argument('--scenario', nargs=2, metavar=('FROM', 'TO'), choices=KINDS + ['native'], help='print the scenario of a pair')
+    return parser.parse_args(words)
+
+
 def main():
-    words = sys.argv[1:]
-    if words[:1] == ['--scenario']:
-        print(scenario(*words[1:3]), end='')
+    options = options_of(sys.argv[1:])
+    if options.scenario:
+        print(scenario(*options.scenario), end='')
         return 0
-    check = words[:1] == ['--check']
-    words = words[1:] if check else words
-    made = table(os.path.abspath(words[0] if words else PROGRAM))
-    if not check:
-        print(made, end='')
-        return 0
-    wrong = 0
-    with open(STORED, encoding='ascii') as stored, open(GUIDE, encoding='utf-8') as guide:
-        if stored.read() != made:
-            wrong = 1
-            print(f'pairs.txt has another table than the one played:\n{made}', end='')
-        if made not in re.sub('^    ', '', guide.read(), flags=re.M):
-            wrong = 1
-            print('docs/GUIDE.md does not show the table')
-    return wrong
+    made = table(os.path.abspath(options.program))
+    found = differences(made) if options.check else [made.rstrip('\n')]
+    print('\n'.join(found), end='\n' if found else '')
+    return command.FOUND if options.check and found else 0
 
 
-sys.exit(main())
+command.run(main)

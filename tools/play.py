@@ -1,0 +1,203 @@
+#!/usr/bin/env python3
+"""A prompt over a scenario: type an event, see its records. The scenario is played anew each time.
+
+  EVENT          an event of docs/SCENARIOS.md, as `next` or `host a b 00`: is added, played, and its records are shown
+  all            delivers with `next` until nothing is left
+  until FATE     delivers with `next` until a record has this fate
+  undo           takes the last event back, or all that the last `all` or `until` added
+  report         the whole report
+  events         the events so far, with their numbers
+  nodes          each node that acted: its address, or how far it is
+  wire           each entry: who made it, where it goes, what came of it
+  why [N]        what became of each packet that a host handed in, or of event N
+  save FILE      writes the scenario as it is now
+  help           this; an empty line does nothing; `quit` or the end of the input ends
+"""
+import sys
+
+sys.dont_write_bytecode = True
+
+import command
+import travel
+from report import Report, record_of
+from toml_places import scenario_node
+
+NEXT_MAX = 1000  # deliveries of one `all` or `until`
+
+
+class Session:
+    """A scenario whose last events are typed."""
+
+    def __init__(self, program, path):
+        self.program, self.text = program, command.read(path)
+        self.list = scenario_node(path, self.text).value['events']
+        self.kept = len(self.list.value)  # events of the file that are still there
+        self.added = []
+        self.steps = []  # how many events each command added; 0 took one of the file
+        self.status, self.written = self.played()
+        if self.status == 3:
+            raise command.Refusal(f'{path}: {self.written.strip()}; lint says where')
+
+    def events(self):
+        return [event.value for event in self.list.value[:self.kept]] + self.added
+
+    def whole(self):
+        """The scenario's text: what is typed stands behind the events of the file."""
+        end = self.list.value[self.kept - 1].end if self.kept else self.list.start + 1
+        if self.kept == len(self.list.value) and not self.added:
+            return self.text
+        lines = ''.join(f',\n  "{event}"' if at or self.kept else f'\n  "{event}"' for at, event in enumerate(self.added))
+        return self.text[:end] + lines + ',\n]' + self.text[self.list.end:]
+
+    def played(self):
+        return command.play(self.program, self.whole())
+
+    def records(self):
+        return [record_of(line) for line in self.written.splitlines() if line[:1].isdigit()]
+
+    def add(self, event):
+        """Adds an event: the lines of its records, or what is wrong with it, and whether it is one."""
+        if not event.isprintable() or '"' in event or '\\' in event:
+            return [f'no event: {event!r}'], False
+        before = self.status, self.written
+        self.added.append(event)
+        self.status, self.written = self.played()
+        if self.status in (0, 8):
+            number = len(self.events()) - 1
+            return [record.line for record in self.records() if record.event == number] + self.full(), True
+        said = self.written.strip() or f'status {self.status}'
+        self.added.pop()
+        self.status, self.written = before
+        return [said], False
+
+    def full(self):
+        return ['wire full'] if self.status == 8 else []
+
+    def deliver(self, is_enough):
+        """Delivers until nothing is left or a record is enough: the lines, and how many events that were."""
+        lines, count = [], 0
+        while count < NEXT_MAX:
+            said, is_event = self.add('next')
+            if not is_event or record_of(said[0]).fate == 'no_entry':
+                self.take(is_event)
+                break
+            lines, count = lines + said, count + 1
+            if is_enough(record_of(said[0])) or self.status == 8:
+                break
+        return lines or ['nothing is left to deliver'], count
+
+    def take(self, count):
+        """Takes so many events back that were typed, and plays what is left."""
+        if count:
+            del self.added[len(self.added) - count:]
+            self.status, self.written = self.played()
+
+    def undo(self):
+        if self.steps:
+            taken = self.added[-self.steps[-1]:]
+            self.take(self.steps.pop())
+        elif self.kept:
+            self.kept -= 1
+            taken = [self.list.value[self.kept].value]
+            self.status, self.written = self.played()
+        else:
+            return ['there is no event to take back']
+        return [f'taken back: {event}' for event in taken]
+
+
+def report_of(session):
+    return Report(session.written)
+
+
+def nodes(session, words):
+    """The state of each node that acted, as the records tell it."""
+    report = report_of(session)
+    lines = []
+    for node in dict.fromkeys(record.node for record in report.records if record.node != '-'):
+        last = report.of_node(node)[-1]
+        address = report.address_at(node, None)
+        lines.append(f'{node}: {address or "no address" if node in report.clients() else "acted"}, last {last.fate} at {last.moment:,} ms')
+    return lines
+
+
+def wire(session, words):
+    report = report_of(session)
+    lines = []
+    for entry in report.entries.values():
+        came = ', '.join(f'{record.node}: {record.fate}' for record in report.delivered(entry)) or 'never delivered'
+        lines.append(f'#{entry.number} {entry.maker.node}, {report.content(entry)}, {entry.way}, {entry.length} bytes: {came}')
+    return lines or ['the wire is empty']
+
+
+def why(session, words):
+    travels = travel.Travels(report_of(session), travel.targets_of(session.events()))
+    lines = [f'{session.events()[record.event]}: {travel.text_of(travels, record)}' for record in travels.report.records
+             if travel.text_of(travels, record) and (record.event == number_of(words) if words else record.act in travel.HANDED_IN)]
+    return lines or ['there is no such packet']
+
+
+def number_of(words):
+    return int(words[0]) if words[0].isdecimal() else None
+
+
+def save(session, words):
+    command.write(words[0], session.whole())
+    return [f'saved as {words[0]}']
+
+
+# A command, how many words it wants, and what it answers.
+COMMANDS = {
+    'report': ((0,), lambda session, words: session.written.splitlines()),
+    'events': ((0,), lambda session, words: [f'{at} {event}' for at, event in enumerate(session.events())]),
+    'nodes': ((0,), nodes),
+    'wire': ((0,), wire),
+    'why': ((0, 1), why),
+    'save': ((1,), save),
+    'undo': ((0,), lambda session, words: session.undo()),
+    'help': ((0,), lambda session, words: __doc__.strip().splitlines()),
+}
+
+
+def answer(session, line):
+    """The lines that a typed line is answered with."""
+    first, *words = line.split(' ')
+    if first in COMMANDS and len(words) in COMMANDS[first][0]:
+        return COMMANDS[first][1](session, words)
+    if first == 'all' and not words:
+        lines, count = session.deliver(lambda record: False)
+    elif first == 'until' and len(words) == 1:
+        lines, count = session.deliver(lambda record: record.fate == words[0])
+    else:
+        lines, count = session.add(line)
+    session.steps += [int(count)] if count else []
+    return lines
+
+
+def lines_of(file, is_prompted):
+    """The typed lines, each behind a prompt where somebody types."""
+    while True:
+        if is_prompted:
+            print('> ', end='', flush=True)
+        line = file.readline()
+        if not line or line.strip() == 'quit':
+            return
+        if line.strip():
+            yield line.strip()
+
+
+def main():
+    parser = command.with_program(command.words(__doc__))
+    parser.add_argument('file', metavar='FILE', help='a scenario')
+    options = parser.parse_args()
+    session = Session(options.program, options.file)
+    print(session.written, end='', flush=True)
+    for line in lines_of(sys.stdin, sys.stdin.isatty()):
+        try:
+            print('\n'.join(answer(session, line)), flush=True)
+        except command.Refusal as fault:
+            print(fault, flush=True)
+    return 0
+
+
+if __name__ == '__main__':
+    command.run(main)

@@ -1,0 +1,87 @@
+"""A scenario, written in Python: nodes with the addresses that these pages use, and events one a line.
+
+    from scenario import Scenario
+
+    lab = Scenario()
+    lab.server('s1')
+    lab.client('a', lab.nat('n1', 'cone'))
+    lab.client('b', lab.nat('n2', 'port'))
+    lab.qualify()
+    lab.event('host a b 00')
+    lab.deliver(12)
+    print(lab.text(), end='')
+
+Every text that comes of it is one that docs/SCENARIOS.md allows, where the names and the events are.
+"""
+
+# What each client needs until it has an address: its questions, one after another, and as many deliveries as there may be.
+QUALIFY_MS = (0, 4000, 4000, 4000, 0)
+DELIVERIES = 12
+IDLE_MS = 60_000
+
+
+class Scenario:
+    """The nodes and the events of a scenario; each kind of node is numbered from 1, and has the addresses of its number."""
+
+    def __init__(self, seed=1):
+        self.seed, self.events = seed, []
+        self.lists = {'server': [], 'nat': [], 'client': [], 'relay': [], 'native': []}
+
+    def add(self, table, name, **keys):
+        """A node with the keys that are given, whatever they are."""
+        self.lists[table].append({'name': name, **keys})
+        return name
+
+    def next_number(self, kind):
+        return len(self.lists[kind]) + 1
+
+    def latest(self, kind):
+        return self.lists[kind][-1]['name']
+
+    def server(self, name):
+        """192.0.2.1 and .2, then .3 and .4, and so on."""
+        number = self.next_number('server')
+        return self.add('server', name, primary=f'192.0.2.{2 * number - 1}', secondary=f'192.0.2.{2 * number}')
+
+    def nat(self, name, kind, idle=IDLE_MS):
+        """198.51.100.1, and so on."""
+        return self.add('nat', name, kind=kind, external=f'198.51.100.{self.next_number("nat")}', idle=idle)
+
+    def client(self, name, nat, server=None, refresh=None):
+        """Inside 10.0.0.2:4000, and so on; of the latest server where none is named."""
+        inside = f'10.0.0.{self.next_number("client") + 1}:4000'
+        keys = {'nat': nat, 'inside': inside, 'server': server or self.latest('server')}
+        return self.add('client', name, **keys, **({'refresh': list(refresh)} if refresh else {}))
+
+    def relay(self, name):
+        """203.0.113.9:3545 and 2001:db8:9::1, and so on."""
+        number = self.next_number('relay')
+        return self.add('relay', name, at=f'203.0.113.{number + 8}:3545', six=f'2001:db8:9::{number}')
+
+    def native(self, name, relay=None):
+        """2001:db8::1, and so on; behind the latest relay where none is named."""
+        return self.add('native', name, six=f'2001:db8::{self.next_number("native"):x}', relay=relay or self.latest('relay'))
+
+    def event(self, *texts):
+        self.events += texts
+
+    def deliver(self, count=DELIVERIES):
+        """Delivers what is on the wire, at most so many; where nothing is left, `next` does nothing."""
+        self.event(*['next'] * count)
+
+    def qualify(self, deliveries=DELIVERIES):
+        """Lets every client that can have an address get it: time in four steps, with deliveries after each."""
+        for ms in QUALIFY_MS:
+            self.event(f'advance {ms}')
+            self.deliver(deliveries)
+
+    def text(self):
+        lines = [f'seed = {self.seed}', 'events = ['] + [f'  "{event}",' for event in self.events] + [']']
+        for kind, nodes in self.lists.items():
+            for node in nodes:
+                lines += ['', f'[[{kind}]]'] + [f'{key} = {quoted(value)}' for key, value in node.items()]
+        return '\n'.join(lines) + '\n'
+
+
+def quoted(value):
+    return f'"{value}"' if isinstance(value, str) else str(value)
