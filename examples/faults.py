@@ -6,11 +6,15 @@ text. The table says which is named. `--check` prints nothing where the table is
 differs, with status 1.
 """
 import os
-import subprocess
 import sys
-import tempfile
+
+sys.dont_write_bytecode = True
 
 HERE = os.path.dirname(os.path.abspath(__file__))
+sys.path.insert(0, os.path.join(HERE, '..', 'tools'))
+
+import command
+
 PROGRAM = os.path.join(HERE, '..', 'crates', 'teredo_cli', 'out', 'teredo_cli')
 STORED = os.path.join(HERE, 'faults.txt')
 GOOD = {
@@ -55,13 +59,10 @@ def text_of(*faults):
 
 
 def line_of(program, text):
-    with tempfile.NamedTemporaryFile('w', suffix='.toml') as file:
-        file.write(text)
-        file.flush()
-        played = subprocess.run([program, 'lab', file.name], capture_output=True, text=True, timeout=60)
-    if played.returncode != 3:
-        sys.exit(f'status {played.returncode} for\n{text[:2000]}')
-    return played.stdout.strip()
+    status, written = command.play(program, text)
+    if status != 3:
+        raise command.Refusal(f'status {status} for\n{text[:2000]}')
+    return written.strip()
 
 
 def table(program):
@@ -73,20 +74,21 @@ def table(program):
     return '\n'.join(lines) + '\n'
 
 
-def main(words):
-    check = words[:1] == ['--check']
-    programs = words[check:] or [PROGRAM]
-    made = table(programs[0])
-    if not check:
+def main():
+    parser = command.words(__doc__)
+    parser.add_argument('program', metavar='PROGRAM', nargs='?', default=PROGRAM)
+    parser.add_argument('--check', action='store_true', help='compare with the table that is stored')
+    options = parser.parse_args()
+    made = table(os.path.abspath(options.program))
+    if not options.check:
         print(made, end='')
         return 0
-    with open(STORED, encoding='utf-8') as file:
-        stored = file.read()
+    stored = command.read(STORED)
     for old, new in zip(stored.splitlines(), made.splitlines()):
         if old != new:
             print(f'stored {old!r}\nmade   {new!r}')
-    return 0 if made == stored else 1
+    return 0 if made == stored else command.FOUND
 
 
 if __name__ == '__main__':
-    sys.exit(main(sys.argv[1:]))
+    command.run(main)

@@ -163,7 +163,10 @@ def in_examples():
 
 def main():
     made = {name: [data.hex() or '-' for data in packets] for name, packets in PACKETS.items()}
-    if sys.argv[1:] != ['--check']:
+    if sys.argv[1:] not in ([], ['--check']):
+        print(__doc__.strip(), file=sys.stdout if sys.argv[1:] in (['-h'], ['--help']) else sys.stderr)
+        return 0 if sys.argv[1:] in (['-h'], ['--help']) else 2
+    if not sys.argv[1:]:
         for name, packets in made.items():
             for text in packets:
                 print(name, text)

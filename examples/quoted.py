@@ -98,9 +98,14 @@ def check_refusals(program):
 
 
 def main():
-    if len(sys.argv) > 2 or not os.access(sys.argv[1] if len(sys.argv) > 1 else PROGRAM, os.X_OK):
-        sys.exit(__doc__.strip() if sys.argv[1:] in (['-h'], ['--help']) else 'quoted.py: one word, the built program, is wanted')
-    program = os.path.abspath(sys.argv[1] if len(sys.argv) > 1 else PROGRAM)
+    words = sys.argv[1:]
+    if words in (['-h'], ['--help']):
+        print(__doc__.strip())
+        return 0
+    program = os.path.abspath(words[0] if words else PROGRAM)
+    if len(words) > 1 or not os.access(program, os.X_OK):
+        print(f'quoted.py: {program} is no program', file=sys.stderr)
+        return 1
     return 1 if check_blocks(program) + check_refusals(program) else 0
 
 
