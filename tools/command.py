@@ -44,8 +44,8 @@ def read(path):
             return file.read().decode('utf-8')
     except OSError as fault:
         raise Refusal(f'{path}: {fault.strerror}', UNREADABLE) from None
-    except UnicodeDecodeError:
-        raise Refusal(f'{path}: is no text in UTF-8', UNREADABLE) from None
+    except UnicodeDecodeError as fault:
+        raise Refusal(f'{path}: is no text in UTF-8, from byte {fault.start} on', FOUND) from None
 
 
 def write(path, text):
