@@ -4,6 +4,7 @@ use Rattle.td_base.specs.declared.endpoint.Ep.{Ep}
 use Rattle.td_base.specs.declared.ipv6.Ip6.{Ip6}
 use Rattle.teredo_node.specs.declared.fate.Fate.{Fate}
 use Rattle.teredo_node.specs.Journal.{Entry}
+use Rattle.topology.specs.Chains.{Passing}
 use Rattle.history.specs.declared.event.Event.{Event}
 use Rattle.history.specs.declared.acts.Act.{Act}
 use Rattle.history.specs.declared.mark.Loss.{Loss}
@@ -32,6 +33,7 @@ pub record Full : Type 0 where
   pub handed : Option (List ℕ)  -- the packet that a client's host was handed
   pub first : ℕ  -- the number of the first entry that was made
   pub made : List Made  -- its sends and entries, in order
+  pub passed : List Passing  -- what NATs let out of it, the latest first
 
 abbrev pub item_in : Made → Option Item
 item_in (sent item) = Some item

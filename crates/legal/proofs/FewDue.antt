@@ -19,11 +19,12 @@ use Rattle.topology.specs.declared.node.Node.TheVariants.{Server as server, Nat 
 use Rattle.topology.specs.Topology.{nodes, node_at}
 use Rattle.history.specs.Full.{Full}
 use Rattle.legal.specs.Settings.{client_settings, relay_settings}
-use Rattle.legal.specs.Past.{Draws, now, journal}
+use Rattle.legal.specs.Past.{now, journal}
 use Rattle.legal.specs.Legal.{Grown}
 use Rattle.legal.specs.Left.{waits_until, peers_due, due_moments, all_due}
 use Rattle.legal.specs.Laws.{IsOfClient, IsOfRelay}
 use Rattle.legal.proofs.Journals.{of_client, of_relay}
+use Rattle.legal.specs.Lab.{Lab}
 
 -- the laws of journals that this needs
 pub record FewLaws : Type 0 where
@@ -58,24 +59,24 @@ most (client c) = 257
 most (relay r) = 257
 most _ = 0
 
-few_moments : FewLaws → (d : Draws) (t : TopologyState) (H : List Full) (n : ℕ) (a : Node) → Grown d t H → node_at t n ≡ Some a → length (due_moments t H n a) ≤ most a
-few_moments laws d t H n (server a) g there = omega arith
-few_moments laws d t H n (nat a) g there = omega arith
-few_moments laws d t H n (client c) g there =
-    let is : IsOfClient (client_settings t c) (journal n H) (now H) = of_client d t H n c g there in
-    let peers : length (peers_due (client_bearings.mentions (journal n H).entries) (now H)) ≤ 256 = few_peers (client_bearings.mentions (journal n H).entries) (now H) (laws.client (client_settings t c) (journal n H) (now H) is.journal is.moments) in
-    let o : Option ℕ = (qualification (client_settings t c) (journal n H)).due in
+few_moments : FewLaws → (lab : Lab) (H : List Full) (n : ℕ) (a : Node) → Grown lab H → node_at lab.topology n ≡ Some a → length (due_moments lab H n a) ≤ most a
+few_moments laws lab H n (server a) g there = omega arith
+few_moments laws lab H n (nat a) g there = omega arith
+few_moments laws lab H n (client c) g there =
+    let is : IsOfClient (client_settings lab.topology c) (journal n H) (now H) = of_client lab H n c g there in
+    let peers : length (peers_due (client_bearings.mentions (journal n H).entries) (now H)) ≤ 256 = few_peers (client_bearings.mentions (journal n H).entries) (now H) (laws.client (client_settings lab.topology c) (journal n H) (now H) is.journal is.moments) in
+    let o : Option ℕ = (qualification (client_settings lab.topology c) (journal n H)).due in
     let one : length (option_to_list o) ≤ 1 = at_most_one o in
     omega (arith, peers, one, length-append (option_to_list o) (peers_due (client_bearings.mentions (journal n H).entries) (now H)))
   where
     at_most_one : (o : Option ℕ) → length (option_to_list o) ≤ 1
     at_most_one None = omega arith
     at_most_one (Some x) = omega arith
-few_moments laws d t H n (relay r) g there =
-    let is : IsOfRelay (relay_settings t n r) (journal n H) (now H) = of_relay d t H n r g there in
-    let peers : length (peers_due (relay_bearings.mentions (journal n H).entries) (now H)) ≤ 256 = few_peers (relay_bearings.mentions (journal n H).entries) (now H) (laws.relay (relay_settings t n r) (journal n H).entries (now H) is.journal is.moments) in
+few_moments laws lab H n (relay r) g there =
+    let is : IsOfRelay (relay_settings lab.topology n r) (journal n H) (now H) = of_relay lab H n r g there in
+    let peers : length (peers_due (relay_bearings.mentions (journal n H).entries) (now H)) ≤ 256 = few_peers (relay_bearings.mentions (journal n H).entries) (now H) (laws.relay (relay_settings lab.topology n r) (journal n H).entries (now H) is.journal is.moments) in
     omega (arith, peers)
-few_moments laws d t H n (native a) g there = omega arith
+few_moments laws lab H n (native a) g there = omega arith
 
 -- OF ALL
 
@@ -83,15 +84,15 @@ abbrev most_of : List Node → ℕ
 most_of [] = 0
 most_of (a ∷ rest) = most a + most_of rest
 
-among : FewLaws → (d : Draws) (t : TopologyState) (H : List Full) (n : ℕ) (rest : List Node) → Grown d t H → ((k : ℕ) → slice_get (nodes t) (n + k) ≡ slice_get rest k) → length (all_due t H n rest) ≤ most_of rest
-among laws d t H n [] g same = omega arith
-among laws d t H n (a ∷ rest) g same =
+among : FewLaws → (lab : Lab) (H : List Full) (n : ℕ) (rest : List Node) → Grown lab H → ((k : ℕ) → slice_get (nodes lab.topology) (n + k) ≡ slice_get rest k) → length (all_due lab H n rest) ≤ most_of rest
+among laws lab H n [] g same = omega arith
+among laws lab H n (a ∷ rest) g same =
     let zeroth : n + 0 ≡ n = omega arith in
-    let here : node_at t n ≡ Some a = subst (λ (k : ℕ). slice_get (nodes t) k ≡ Some a) zeroth (same 0) in
-    let tail : (k : ℕ) → slice_get (nodes t) (n + 1 + k) ≡ slice_get rest k = λ (k : ℕ). let moved : n + suc k ≡ n + 1 + k = omega arith in subst (λ (j : ℕ). slice_get (nodes t) j ≡ slice_get rest k) moved (same (suc k)) in
-    let others : length (all_due t H (n + 1) rest) ≤ most_of rest = among laws d t H (n + 1) rest g tail in
-    let one : length (due_moments t H n a) ≤ most a = few_moments laws d t H n a g here in
-    omega (arith, others, one, length-append (due_moments t H n a) (all_due t H (n + 1) rest))
+    let here : node_at lab.topology n ≡ Some a = subst (λ (k : ℕ). slice_get (nodes lab.topology) k ≡ Some a) zeroth (same 0) in
+    let tail : (k : ℕ) → slice_get (nodes lab.topology) (n + 1 + k) ≡ slice_get rest k = λ (k : ℕ). let moved : n + suc k ≡ n + 1 + k = omega arith in subst (λ (j : ℕ). slice_get (nodes lab.topology) j ≡ slice_get rest k) moved (same (suc k)) in
+    let others : length (all_due lab H (n + 1) rest) ≤ most_of rest = among laws lab H (n + 1) rest g tail in
+    let one : length (due_moments lab H n a) ≤ most a = few_moments laws lab H n a g here in
+    omega (arith, others, one, length-append (due_moments lab H n a) (all_due lab H (n + 1) rest))
 
 most_append : (xs ys : List Node) → most_of (xs ++ ys) ≡ most_of xs + most_of ys
 most_append [] ys = omega arith
@@ -126,7 +127,7 @@ most_nodes t is =
       most_append (map relay t.relays) (map native t.natives),
     )
 
-pub few_due : FewLaws → (d : Draws) (t : TopologyState) (H : List Full) → IsTopology t → Grown d t H → length (all_due t H 0 (nodes t)) ≤ most_due
-few_due laws d t H is g =
-    let all : length (all_due t H 0 (nodes t)) ≤ most_of (nodes t) = among laws d t H 0 (nodes t) g (λ (k : ℕ). let same : 0 + k ≡ k = omega arith in ap (slice_get (nodes t)) same) in
-    omega (arith, all, most_nodes t is)
+pub few_due : FewLaws → (lab : Lab) (H : List Full) → IsTopology lab.topology → Grown lab H → length (all_due lab H 0 (nodes lab.topology)) ≤ most_due
+few_due laws lab H is g =
+    let all : length (all_due lab H 0 (nodes lab.topology)) ≤ most_of (nodes lab.topology) = among laws lab H 0 (nodes lab.topology) g (λ (k : ℕ). let same : 0 + k ≡ k = omega arith in ap (slice_get (nodes lab.topology)) same) in
+    omega (arith, all, most_nodes lab.topology is)

@@ -16,7 +16,7 @@ use Rattle.topology.specs.declared.node.Node.{Node}
 use Rattle.topology.specs.declared.node.Node.TheVariants.{Client as client, Relay as relay}
 use Rattle.topology.specs.Topology.{node_at}
 use Rattle.legal.specs.Settings.{client_settings, relay_settings}
-use Rattle.legal.specs.Past.{Draws, now, is_node, is_restart, with_entries, new_journal, journal, words}
+use Rattle.legal.specs.Past.{now, is_node, is_restart, with_entries, new_journal, journal, words}
 use Rattle.legal.specs.Emit.{entry_of}
 use Rattle.legal.specs.Next.{Numbered, acts, plain, no_ep, dst_of, input_of}
 use Rattle.legal.specs.Kinds.{Kind, quiet, put, copied, ticks, handed, reached, event_of}
@@ -24,30 +24,31 @@ use Rattle.legal.specs.Laws.{IsOfClient, IsOfRelay, EachClientIsJournal, EachRel
 use Rattle.legal.proofs.Framed.{is_node-true}
 use Rattle.legal.proofs.ByKind.{kind_of}
 use Rattle.legal.proofs.Times.{is_later}
+use Rattle.legal.specs.Lab.{Lab}
 
 -- WHAT A RECORD'S ENTRY IS
 
 -- that of node n, which is a
-record IsEntryOf (d : Draws) (t : TopologyState) (H : List Full) (r : Full) (n : ℕ) (a : Node) : Type 0 where
+record IsEntryOf (lab : Lab) (H : List Full) (r : Full) (n : ℕ) (a : Node) : Type 0 where
   dst : Ep
   input : Input
-  is : r.entry ≡ Some (entry_of d t H r.moment n dst input a)
+  is : r.entry ≡ Some (entry_of lab H r.moment n dst input a)
 
-of_acts : (d : Draws) (t : TopologyState) (H : List Full) (e : Numbered) (w : Act) (number : Option ℕ) (m k n : ℕ) (dst : Ep) (input : Input) (a b : Node) (r : Full)
-    → r ≡ acts d t H e w number m k dst input b → r.node ≡ Some n → node_at t k ≡ Some b → node_at t n ≡ Some a → IsEntryOf d t H r n a
-of_acts d t H e w number m k n dst input a b r is at there here =
+of_acts : (lab : Lab) (H : List Full) (e : Numbered) (w : Act) (number : Option ℕ) (m k n : ℕ) (dst : Ep) (input : Input) (a b : Node) (r : Full)
+    → r ≡ acts lab H e w number m k dst input b → r.node ≡ Some n → node_at lab.topology k ≡ Some b → node_at lab.topology n ≡ Some a → IsEntryOf lab H r n a
+of_acts lab H e w number m k n dst input a b r is at there here =
     let same : k ≡ n = ap (λ (o : Option ℕ). unwrap_or o k) (ap (λ (z : Full). z.node) (sym is) ∙ at) in
-    let one : b ≡ a = ap (λ (o : Option Node). unwrap_or o b) (sym there ∙ ap (node_at t) same ∙ here) in
-    let whole : r ≡ acts d t H e w number m n dst input a = is ∙ ap (λ (y : ℕ). acts d t H e w number m y dst input b) same ∙ ap (acts d t H e w number m n dst input) one in
-    subst (λ (z : Full). IsEntryOf d t H z n a) (sym whole) (record { dst = dst; input = input; is = refl })
+    let one : b ≡ a = ap (λ (o : Option Node). unwrap_or o b) (sym there ∙ ap (node_at lab.topology) same ∙ here) in
+    let whole : r ≡ acts lab H e w number m n dst input a = is ∙ ap (λ (y : ℕ). acts lab H e w number m y dst input b) same ∙ ap (acts lab H e w number m n dst input) one in
+    subst (λ (z : Full). IsEntryOf lab H z n a) (sym whole) (record { dst = dst; input = input; is = refl })
 
-entry_kind : (d : Draws) (t : TopologyState) (H : List Full) (r : Full) (n : ℕ) (a : Node) → Kind d t H r → r.node ≡ Some n → node_at t n ≡ Some a → (r.entry ≡ None) ⊎ IsEntryOf d t H r n a
-entry_kind d t H r n a (quiet entry address made why) at here = inl entry
-entry_kind d t H r n a (put src dst bytes asked is) at here = inl (ap (λ (z : Full). z.entry) is)
-entry_kind d t H r n a (copied number src dst x asked there is) at here = inl (ap (λ (z : Full). z.entry) is)
-entry_kind d t H r n a (ticks ms x asked due within is) at here = inr (of_acts d t H (event_of r) act.Tick None (max x.moment (now H)) x.number n no_ep ticked a x.node r is at due.there here)
-entry_kind d t H r n a (handed v k x b hands there is) at here = inr (of_acts d t H (event_of r) (plain v) None (now H) k n no_ep (given x) a b r is at there here)
-entry_kind d t H r n a (reached number k x b delivers there goes to is) at here = inr (of_acts d t H (event_of r) (act.Deliver number) (Some number) (now H) k n (dst_of x) (input_of x) a b r is at to here)
+entry_kind : (lab : Lab) (H : List Full) (r : Full) (n : ℕ) (a : Node) → Kind lab H r → r.node ≡ Some n → node_at lab.topology n ≡ Some a → (r.entry ≡ None) ⊎ IsEntryOf lab H r n a
+entry_kind lab H r n a (quiet entry address made passed why) at here = inl entry
+entry_kind lab H r n a (put src dst bytes asked is) at here = inl (ap (λ (z : Full). z.entry) is)
+entry_kind lab H r n a (copied number src dst x asked there is) at here = inl (ap (λ (z : Full). z.entry) is)
+entry_kind lab H r n a (ticks ms x asked due within is) at here = inr (of_acts lab H (event_of r) act.Tick None (max x.moment (now H)) x.number n no_ep ticked a x.node r is at due.there here)
+entry_kind lab H r n a (handed v k x b hands there is) at here = inr (of_acts lab H (event_of r) (plain v) None (now H) k n no_ep (given x) a b r is at there here)
+entry_kind lab H r n a (reached number k x b delivers there goes to is) at here = inr (of_acts lab H (event_of r) (act.Deliver number) (Some number) (now H) k n (dst_of x) (input_of x) a b r is at to here)
 
 -- A FURTHER ENTRY
 
@@ -68,46 +69,46 @@ relay_follows s j m (given x) p = record { journal = (record { later = p.moments
 -- A FURTHER RECORD
 
 -- what holds of a node's journal at the moment of a record still holds with it, if it holds of each entry and each start
-module _ (Holds : Journal → ℕ → Type 0) (d : Draws) (t : TopologyState) (H : List Full) (n : ℕ) (a : Node) where
-  further : (r : Full) → node_at t n ≡ Some a → Kind d t H r → Holds (journal n H) r.moment → Holds (new_journal r.moment) r.moment
-      → ((dst : Ep) (input : Input) → Holds (with_entries (journal n H) (Some (entry_of d t H r.moment n dst input a))) r.moment) → Holds (journal n (r ∷ H)) r.moment
+module _ (Holds : Journal → ℕ → Type 0) (lab : Lab) (H : List Full) (n : ℕ) (a : Node) where
+  further : (r : Full) → node_at lab.topology n ≡ Some a → Kind lab H r → Holds (journal n H) r.moment → Holds (new_journal r.moment) r.moment
+      → ((dst : Ep) (input : Input) → Holds (with_entries (journal n H) (Some (entry_of lab H r.moment n dst input a))) r.moment) → Holds (journal n (r ∷ H)) r.moment
   further r here kind before start each = by_node (is_node n r.node) refl where
-    by_entry : (r.entry ≡ None) ⊎ IsEntryOf d t H r n a → Holds (with_entries (journal n H) r.entry) r.moment
+    by_entry : (r.entry ≡ None) ⊎ IsEntryOf lab H r n a → Holds (with_entries (journal n H) r.entry) r.moment
     by_entry (inl none) = subst (λ (o : Option Entry). Holds (with_entries (journal n H) o) r.moment) (sym none) before
     by_entry (inr one) = subst (λ (o : Option Entry). Holds (with_entries (journal n H) o) r.moment) (sym one.is) (each one.dst one.input)
 
     by_start : (b : Bool) → r.node ≡ Some n → Holds (cond b (new_journal r.moment) (with_entries (journal n H) r.entry)) r.moment
     by_start true at = start
-    by_start false at = by_entry (entry_kind d t H r n a kind at here)
+    by_start false at = by_entry (entry_kind lab H r n a kind at here)
 
     by_node : (b : Bool) → is_node n r.node ≡ b → Holds (cond b (cond (is_restart r.act) (new_journal r.moment) (with_entries (journal n H) r.entry)) (journal n H)) r.moment
     by_node true e = by_start (is_restart r.act) (is_node-true n r.node e)
     by_node false e = before
 
 pub of_client : EachClientIsJournal
-of_client d t [] n c g here = record { journal = tt; moments = le_refl 0 }
-of_client d t (r ∷ H) n c g here =
-    let s : Settings = client_settings t c in
-    let p : IsOfClient s (journal n H) (now H) = of_client d t H n c g.1 here in
-    let later : IsOfClient s (journal n H) r.moment = record { journal = p.journal; moments = le_trans p.moments (is_later d t H r g) } in
-    further (IsOfClient s) d t H n (client c) r here (kind_of d t H r g.0) later (record { journal = tt; moments = le_refl r.moment }) (λ dst input. each dst input later)
+of_client lab [] n c g here = record { journal = tt; moments = le_refl 0 }
+of_client lab (r ∷ H) n c g here =
+    let s : Settings = client_settings lab.topology c in
+    let p : IsOfClient s (journal n H) (now H) = of_client lab H n c g.1 here in
+    let later : IsOfClient s (journal n H) r.moment = record { journal = p.journal; moments = le_trans p.moments (is_later lab H r g) } in
+    further (IsOfClient s) lab H n (client c) r here (kind_of lab H r g.0) later (record { journal = tt; moments = le_refl r.moment }) (λ dst input. each dst input later)
   where
-    each : (dst : Ep) (input : Input) → IsOfClient (client_settings t c) (journal n H) r.moment → IsOfClient (client_settings t c) (with_entries (journal n H) (Some (entry_of d t H r.moment n dst input (client c)))) r.moment
-    each dst (arrived from x) p = client_follows (client_settings t c) (journal n H) r.moment (arrived from x) (words d n H) p
-    each dst (given x) p = client_follows (client_settings t c) (journal n H) r.moment (given x) (words d n H) p
-    each dst (from_six x) p = client_follows (client_settings t c) (journal n H) r.moment (from_six x) (words d n H) p
-    each dst ticked p = client_follows (client_settings t c) (journal n H) r.moment ticked (words d n H) p
+    each : (dst : Ep) (input : Input) → IsOfClient (client_settings lab.topology c) (journal n H) r.moment → IsOfClient (client_settings lab.topology c) (with_entries (journal n H) (Some (entry_of lab H r.moment n dst input (client c)))) r.moment
+    each dst (arrived from x) p = client_follows (client_settings lab.topology c) (journal n H) r.moment (arrived from x) (words lab n H) p
+    each dst (given x) p = client_follows (client_settings lab.topology c) (journal n H) r.moment (given x) (words lab n H) p
+    each dst (from_six x) p = client_follows (client_settings lab.topology c) (journal n H) r.moment (from_six x) (words lab n H) p
+    each dst ticked p = client_follows (client_settings lab.topology c) (journal n H) r.moment ticked (words lab n H) p
 
 pub of_relay : EachRelayIsJournal
-of_relay d t [] n c g here = record { journal = tt; moments = le_refl 0 }
-of_relay d t (r ∷ H) n c g here =
-    let s : RelaySettings = relay_settings t n c in
-    let p : IsOfRelay s (journal n H) (now H) = of_relay d t H n c g.1 here in
-    let later : IsOfRelay s (journal n H) r.moment = record { journal = p.journal; moments = le_trans p.moments (is_later d t H r g) } in
-    further (IsOfRelay s) d t H n (relay c) r here (kind_of d t H r g.0) later (record { journal = tt; moments = omega arith }) (λ dst input. each dst input later)
+of_relay lab [] n c g here = record { journal = tt; moments = le_refl 0 }
+of_relay lab (r ∷ H) n c g here =
+    let s : RelaySettings = relay_settings lab.topology n c in
+    let p : IsOfRelay s (journal n H) (now H) = of_relay lab H n c g.1 here in
+    let later : IsOfRelay s (journal n H) r.moment = record { journal = p.journal; moments = le_trans p.moments (is_later lab H r g) } in
+    further (IsOfRelay s) lab H n (relay c) r here (kind_of lab H r g.0) later (record { journal = tt; moments = omega arith }) (λ dst input. each dst input later)
   where
-    each : (dst : Ep) (input : Input) → IsOfRelay (relay_settings t n c) (journal n H) r.moment → IsOfRelay (relay_settings t n c) (with_entries (journal n H) (Some (entry_of d t H r.moment n dst input (relay c)))) r.moment
-    each dst (arrived from x) p = relay_follows (relay_settings t n c) (journal n H) r.moment (arrived from x) p
-    each dst (given x) p = relay_follows (relay_settings t n c) (journal n H) r.moment (given x) p
-    each dst (from_six x) p = relay_follows (relay_settings t n c) (journal n H) r.moment (from_six x) p
-    each dst ticked p = relay_follows (relay_settings t n c) (journal n H) r.moment ticked p
+    each : (dst : Ep) (input : Input) → IsOfRelay (relay_settings lab.topology n c) (journal n H) r.moment → IsOfRelay (relay_settings lab.topology n c) (with_entries (journal n H) (Some (entry_of lab H r.moment n dst input (relay c)))) r.moment
+    each dst (arrived from x) p = relay_follows (relay_settings lab.topology n c) (journal n H) r.moment (arrived from x) p
+    each dst (given x) p = relay_follows (relay_settings lab.topology n c) (journal n H) r.moment (given x) p
+    each dst (from_six x) p = relay_follows (relay_settings lab.topology n c) (journal n H) r.moment (from_six x) p
+    each dst ticked p = relay_follows (relay_settings lab.topology n c) (journal n H) r.moment ticked p

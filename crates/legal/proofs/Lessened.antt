@@ -21,7 +21,7 @@ use Rattle.client_rules.specs.Bearings as client_bearings
 use Rattle.relay_rules.specs.Bearings as relay_bearings
 use Rattle.legal.specs.declared.left.TheConstants.{LEFT_MAX}
 use Rattle.legal.specs.Settings.{client_settings, relay_settings}
-use Rattle.legal.specs.Past.{Draws, now, began, has_more, journal, words}
+use Rattle.legal.specs.Past.{now, began, has_more, journal, words}
 use Rattle.legal.specs.Emit.{entry_of, due_of}
 use Rattle.legal.specs.Next.{Numbered, numbered, Due, least_due, advanced, advance_with, acts, no_ep, next_of}
 use Rattle.legal.specs.Legal.{GoesOn, Follows, Grown}
@@ -34,6 +34,7 @@ use Rattle.legal.proofs.Weights.{weights, weights_append, weights_most}
 use Rattle.legal.proofs.FewDue.{most_due}
 use Rattle.legal.proofs.ClientFalls.{ClientLaws, client_fades, client_falls}
 use Rattle.legal.proofs.RelayFalls.{relay_fades, relay_falls}
+use Rattle.legal.specs.Lab.{Lab}
 
 -- THE REFRESHES OF A TOPOLOGY'S CLIENTS ARE APART
 
@@ -46,7 +47,7 @@ all_map f [] each = tt
 all_map f (x ∷ xs) each = (each x, all_map f xs each)
 
 all_clients : (t : TopologyState) (cs : List ClientNode) → AllByRecursion (IsClient t) cs → AllByRecursion IsSlow (map client cs)
-all_clients t [] a = tt
+all_clients lab [] a = tt
 all_clients t (c ∷ cs) a = let least = a.0.least in (omega (arith, least), all_clients t cs a.1)
 
 all_both : (xs ys : List Node) → AllByRecursion IsSlow xs → AllByRecursion IsSlow ys → AllByRecursion IsSlow (xs ++ ys)
@@ -67,147 +68,147 @@ one_slow (x ∷ xs) (suc n) a all is = one_slow xs n a all.1 is
 
 -- A TICK AT n OF NODE k, WHICH IS a
 
-module _ (laws : ClientLaws) (d : Draws) (t : TopologyState) (H : List Full) (e : Numbered) (n k end : ℕ) (a : Node) (later : now H ≤ n) (within : n ≤ end) where
+module _ (laws : ClientLaws) (lab : Lab) (H : List Full) (e : Numbered) (n k end : ℕ) (a : Node) (later : now H ≤ n) (within : n ≤ end) where
   abbrev r : Full
-  r = acts d t H e act.Tick None n k no_ep ticked a
+  r = acts lab H e act.Tick None n k no_ep ticked a
 
   same_journal : (i : ℕ) → i ≢ k → journal i (r ∷ H) ≡ journal i H
-  same_journal i other = (frames t H r).journals i (λ (is : Some k ≡ Some i). other (sym (ap (λ (o : Option ℕ). unwrap_or o k) is)))
+  same_journal i other = (frames lab H r).journals i (λ (is : Some k ≡ Some i). other (sym (ap (λ (o : Option ℕ). unwrap_or o k) is)))
 
-  next_journal : journal k (r ∷ H) ≡ with_entry (journal k H) (entry_of d t H n k no_ep ticked a)
-  next_journal = ap (λ b. cond b (with_entry (journal k H) (entry_of d t H n k no_ep ticked a)) (journal k H)) (eq-eqb k k refl)
+  next_journal : journal k (r ∷ H) ≡ with_entry (journal k H) (entry_of lab H n k no_ep ticked a)
+  next_journal = ap (λ b. cond b (with_entry (journal k H) (entry_of lab H n k no_ep ticked a)) (journal k H)) (eq-eqb k k refl)
 
-  other_node : (i : ℕ) (b : Node) → i ≢ k → weights end n (due_moments t (r ∷ H) i b) ≤ weights end (now H) (due_moments t H i b)
+  other_node : (i : ℕ) (b : Node) → i ≢ k → weights end n (due_moments lab (r ∷ H) i b) ≤ weights end (now H) (due_moments lab H i b)
   other_node i (server b) other = omega arith
   other_node i (nat b) other = omega arith
   other_node i (client c) other =
-      subst (λ (j : Journal). weights end n (option_to_list (qualification (client_settings t c) j).due ++ peers_due (client_bearings.mentions j.entries) n) ≤ weights end (now H) (due_moments t H i (client c)))
-      (sym (same_journal i other)) (client_fades laws (client_settings t c) (journal i H) (now H) n end later)
+      subst (λ (j : Journal). weights end n (option_to_list (qualification (client_settings lab.topology c) j).due ++ peers_due (client_bearings.mentions j.entries) n) ≤ weights end (now H) (due_moments lab H i (client c)))
+      (sym (same_journal i other)) (client_fades laws (client_settings lab.topology c) (journal i H) (now H) n end later)
   other_node i (relay b) other =
-      subst (λ (j : Journal). weights end n (peers_due (relay_bearings.mentions j.entries) n) ≤ weights end (now H) (due_moments t H i (relay b)))
+      subst (λ (j : Journal). weights end n (peers_due (relay_bearings.mentions j.entries) n) ≤ weights end (now H) (due_moments lab H i (relay b)))
       (sym (same_journal i other)) (relay_fades laws.peers (journal i H).entries (now H) n end later)
   other_node i (native b) other = omega arith
 
-  behind : (i : ℕ) (rest : List Node) → k < i → weights end n (all_due t (r ∷ H) i rest) ≤ weights end (now H) (all_due t H i rest)
+  behind : (i : ℕ) (rest : List Node) → k < i → weights end n (all_due lab (r ∷ H) i rest) ≤ weights end (now H) (all_due lab H i rest)
   behind i [] after = omega arith
   behind i (b ∷ rest) after =
-      let others : weights end n (all_due t (r ∷ H) (i + 1) rest) ≤ weights end (now H) (all_due t H (i + 1) rest) = behind (i + 1) rest (omega (arith, after)) in
-      let one : weights end n (due_moments t (r ∷ H) i b) ≤ weights end (now H) (due_moments t H i b) = other_node i b (omega (arith, after)) in
-      let new : weights end n (all_due t (r ∷ H) i (b ∷ rest)) ≡ weights end n (due_moments t (r ∷ H) i b) + weights end n (all_due t (r ∷ H) (i + 1) rest) = weights_append end n (due_moments t (r ∷ H) i b) (all_due t (r ∷ H) (i + 1) rest) in
-      let old : weights end (now H) (all_due t H i (b ∷ rest)) ≡ weights end (now H) (due_moments t H i b) + weights end (now H) (all_due t H (i + 1) rest) = weights_append end (now H) (due_moments t H i b) (all_due t H (i + 1) rest) in
+      let others : weights end n (all_due lab (r ∷ H) (i + 1) rest) ≤ weights end (now H) (all_due lab H (i + 1) rest) = behind (i + 1) rest (omega (arith, after)) in
+      let one : weights end n (due_moments lab (r ∷ H) i b) ≤ weights end (now H) (due_moments lab H i b) = other_node i b (omega (arith, after)) in
+      let new : weights end n (all_due lab (r ∷ H) i (b ∷ rest)) ≡ weights end n (due_moments lab (r ∷ H) i b) + weights end n (all_due lab (r ∷ H) (i + 1) rest) = weights_append end n (due_moments lab (r ∷ H) i b) (all_due lab (r ∷ H) (i + 1) rest) in
+      let old : weights end (now H) (all_due lab H i (b ∷ rest)) ≡ weights end (now H) (due_moments lab H i b) + weights end (now H) (all_due lab H (i + 1) rest) = weights_append end (now H) (due_moments lab H i b) (all_due lab H (i + 1) rest) in
       omega (arith, others, one, new, old)
 
   -- its own due moments weigh less
-  own : (m : ℕ) (x : Node) → x ≡ a → due_of t H (now H) k x ≡ Some m → m ≤ n → IsSlow x → weights end n (due_moments t (r ∷ H) k x) < weights end (now H) (due_moments t H k x)
+  own : (m : ℕ) (x : Node) → x ≡ a → due_of lab H (now H) k x ≡ Some m → m ≤ n → IsSlow x → weights end n (due_moments lab (r ∷ H) k x) < weights end (now H) (due_moments lab H k x)
   own m (server b) is due le slow = absurd (false≢true (ap is_some due))
   own m (nat b) is due le slow = absurd (false≢true (ap is_some due))
   own m (client c) is due le slow =
-      let s = client_settings t c in
-      let next : journal k (r ∷ H) ≡ with_entry (journal k H) (entry_of d t H n k no_ep ticked (client c)) = next_journal ∙ ap (λ (x : Node). with_entry (journal k H) (entry_of d t H n k no_ep ticked x)) (sym is) in
-      subst (λ (j : Journal). weights end n (option_to_list (qualification s j).due ++ peers_due (client_bearings.mentions j.entries) n) < weights end (now H) (due_moments t H k (client c)))
-      (sym next) (client_falls laws s (journal k H) (now H) n end m (words d k H) slow later within due le)
+      let s = client_settings lab.topology c in
+      let next : journal k (r ∷ H) ≡ with_entry (journal k H) (entry_of lab H n k no_ep ticked (client c)) = next_journal ∙ ap (λ (x : Node). with_entry (journal k H) (entry_of lab H n k no_ep ticked x)) (sym is) in
+      subst (λ (j : Journal). weights end n (option_to_list (qualification s j).due ++ peers_due (client_bearings.mentions j.entries) n) < weights end (now H) (due_moments lab H k (client c)))
+      (sym next) (client_falls laws s (journal k H) (now H) n end m (words lab k H) slow later within due le)
   own m (relay b) is due le slow =
-      let next : journal k (r ∷ H) ≡ with_entry (journal k H) (entry_of d t H n k no_ep ticked (relay b)) = next_journal ∙ ap (λ (x : Node). with_entry (journal k H) (entry_of d t H n k no_ep ticked x)) (sym is) in
-      subst (λ (j : Journal). weights end n (peers_due (relay_bearings.mentions j.entries) n) < weights end (now H) (due_moments t H k (relay b)))
-      (sym next) (relay_falls laws.peers (relay_settings t k b) (journal k H).entries (now H) n end m later within due le)
+      let next : journal k (r ∷ H) ≡ with_entry (journal k H) (entry_of lab H n k no_ep ticked (relay b)) = next_journal ∙ ap (λ (x : Node). with_entry (journal k H) (entry_of lab H n k no_ep ticked x)) (sym is) in
+      subst (λ (j : Journal). weights end n (peers_due (relay_bearings.mentions j.entries) n) < weights end (now H) (due_moments lab H k (relay b)))
+      (sym next) (relay_falls laws.peers (relay_settings lab.topology k b) (journal k H).entries (now H) n end m later within due le)
   own m (native b) is due le slow = absurd (false≢true (ap is_some due))
 
   -- all due moments do, from node i on
-  among : (m i p : ℕ) (rest : List Node) → i + p ≡ k → slice_get rest p ≡ Some a → due_of t H (now H) k a ≡ Some m → m ≤ n → IsSlow a
-      → weights end n (all_due t (r ∷ H) i rest) < weights end (now H) (all_due t H i rest)
+  among : (m i p : ℕ) (rest : List Node) → i + p ≡ k → slice_get rest p ≡ Some a → due_of lab H (now H) k a ≡ Some m → m ≤ n → IsSlow a
+      → weights end n (all_due lab (r ∷ H) i rest) < weights end (now H) (all_due lab H i rest)
   among m i p [] place there due le slow = absurd (false≢true (ap is_some there))
   among m i zero (b ∷ rest) place there due le slow =
       let at : i ≡ k = omega (arith, place) in
       let is : b ≡ a = ap (λ (o : Option Node). unwrap_or o b) there in
-      let here : weights end n (due_moments t (r ∷ H) k a) < weights end (now H) (due_moments t H k a) = own m a refl due le slow in
-      let one : weights end n (due_moments t (r ∷ H) i b) < weights end (now H) (due_moments t H i b) =
-      subst (λ (x : Node). weights end n (due_moments t (r ∷ H) i x) < weights end (now H) (due_moments t H i x)) (sym is)
-      (subst (λ (y : ℕ). weights end n (due_moments t (r ∷ H) y a) < weights end (now H) (due_moments t H y a)) (sym at) here) in
-      let others : weights end n (all_due t (r ∷ H) (i + 1) rest) ≤ weights end (now H) (all_due t H (i + 1) rest) = behind (i + 1) rest (omega (arith, at)) in
-      let new : weights end n (all_due t (r ∷ H) i (b ∷ rest)) ≡ weights end n (due_moments t (r ∷ H) i b) + weights end n (all_due t (r ∷ H) (i + 1) rest) = weights_append end n (due_moments t (r ∷ H) i b) (all_due t (r ∷ H) (i + 1) rest) in
-      let old : weights end (now H) (all_due t H i (b ∷ rest)) ≡ weights end (now H) (due_moments t H i b) + weights end (now H) (all_due t H (i + 1) rest) = weights_append end (now H) (due_moments t H i b) (all_due t H (i + 1) rest) in
+      let here : weights end n (due_moments lab (r ∷ H) k a) < weights end (now H) (due_moments lab H k a) = own m a refl due le slow in
+      let one : weights end n (due_moments lab (r ∷ H) i b) < weights end (now H) (due_moments lab H i b) =
+      subst (λ (x : Node). weights end n (due_moments lab (r ∷ H) i x) < weights end (now H) (due_moments lab H i x)) (sym is)
+      (subst (λ (y : ℕ). weights end n (due_moments lab (r ∷ H) y a) < weights end (now H) (due_moments lab H y a)) (sym at) here) in
+      let others : weights end n (all_due lab (r ∷ H) (i + 1) rest) ≤ weights end (now H) (all_due lab H (i + 1) rest) = behind (i + 1) rest (omega (arith, at)) in
+      let new : weights end n (all_due lab (r ∷ H) i (b ∷ rest)) ≡ weights end n (due_moments lab (r ∷ H) i b) + weights end n (all_due lab (r ∷ H) (i + 1) rest) = weights_append end n (due_moments lab (r ∷ H) i b) (all_due lab (r ∷ H) (i + 1) rest) in
+      let old : weights end (now H) (all_due lab H i (b ∷ rest)) ≡ weights end (now H) (due_moments lab H i b) + weights end (now H) (all_due lab H (i + 1) rest) = weights_append end (now H) (due_moments lab H i b) (all_due lab H (i + 1) rest) in
       omega (arith, others, one, new, old)
   among m i (suc p) (b ∷ rest) place there due le slow =
-      let others : weights end n (all_due t (r ∷ H) (i + 1) rest) < weights end (now H) (all_due t H (i + 1) rest) = among m (i + 1) p rest (omega (arith, place)) there due le slow in
-      let one : weights end n (due_moments t (r ∷ H) i b) ≤ weights end (now H) (due_moments t H i b) = other_node i b (omega (arith, place)) in
-      let new : weights end n (all_due t (r ∷ H) i (b ∷ rest)) ≡ weights end n (due_moments t (r ∷ H) i b) + weights end n (all_due t (r ∷ H) (i + 1) rest) = weights_append end n (due_moments t (r ∷ H) i b) (all_due t (r ∷ H) (i + 1) rest) in
-      let old : weights end (now H) (all_due t H i (b ∷ rest)) ≡ weights end (now H) (due_moments t H i b) + weights end (now H) (all_due t H (i + 1) rest) = weights_append end (now H) (due_moments t H i b) (all_due t H (i + 1) rest) in
+      let others : weights end n (all_due lab (r ∷ H) (i + 1) rest) < weights end (now H) (all_due lab H (i + 1) rest) = among m (i + 1) p rest (omega (arith, place)) there due le slow in
+      let one : weights end n (due_moments lab (r ∷ H) i b) ≤ weights end (now H) (due_moments lab H i b) = other_node i b (omega (arith, place)) in
+      let new : weights end n (all_due lab (r ∷ H) i (b ∷ rest)) ≡ weights end n (due_moments lab (r ∷ H) i b) + weights end n (all_due lab (r ∷ H) (i + 1) rest) = weights_append end n (due_moments lab (r ∷ H) i b) (all_due lab (r ∷ H) (i + 1) rest) in
+      let old : weights end (now H) (all_due lab H i (b ∷ rest)) ≡ weights end (now H) (due_moments lab H i b) + weights end (now H) (all_due lab H (i + 1) rest) = weights_append end (now H) (due_moments lab H i b) (all_due lab H (i + 1) rest) in
       omega (arith, others, one, new, old)
 
 -- WHICH RECORD HAS FURTHER ONES
 
 -- a tick within an advance
-record IsTick (d : Draws) (t : TopologyState) (H : List Full) (i : ℕ) (e : Event) : Type 0 where
+record IsTick (lab : Lab) (H : List Full) (i : ℕ) (e : Event) : Type 0 where
   ms : ℕ
   x : Due
   asked : e ≡ event.Advance ms
-  due : IsDue t H x
+  due : IsDue lab H x
   within : x.moment ≤ began H + ms
-  is : next_of d t H i e ≡ acts d t H (numbered i (event.Advance ms)) act.Tick None (max x.moment (now H)) x.number no_ep ticked x.node
+  is : next_of lab H i e ≡ acts lab H (numbered i (event.Advance ms)) act.Tick None (max x.moment (now H)) x.number no_ep ticked x.node
 
-advance_ticks : (d : Draws) (t : TopologyState) (H : List Full) (i ms : ℕ) (o : Option Due) → least_due t H 0 (nodes t) ≡ o
-    → let r : Full = advance_with d t H (numbered i (event.Advance ms)) (began H + ms) o in has_more (event.Advance ms) r.act ≡ true → next_of d t H i (event.Advance ms) ≡ r → IsTick d t H i (event.Advance ms)
-advance_ticks d t H i ms None e more is = absurd (false≢true more)
-advance_ticks d t H i ms (Some a) e more is = by (nat_le a.moment (began H + ms)) refl more is where
+advance_ticks : (lab : Lab) (H : List Full) (i ms : ℕ) (o : Option Due) → least_due lab H 0 (nodes lab.topology) ≡ o
+    → let r : Full = advance_with lab H (numbered i (event.Advance ms)) (began H + ms) o in has_more (event.Advance ms) r.act ≡ true → next_of lab H i (event.Advance ms) ≡ r → IsTick lab H i (event.Advance ms)
+advance_ticks lab H i ms None e more is = absurd (false≢true more)
+advance_ticks lab H i ms (Some a) e more is = by (nat_le a.moment (began H + ms)) refl more is where
   by : (b : Bool) → nat_le a.moment (began H + ms) ≡ b
-      → let r : Full = cond b (acts d t H (numbered i (event.Advance ms)) act.Tick None (max a.moment (now H)) a.number no_ep ticked a.node) (advanced H (numbered i (event.Advance ms)) (began H + ms)) in
-      has_more (event.Advance ms) r.act ≡ true → next_of d t H i (event.Advance ms) ≡ r → IsTick d t H i (event.Advance ms)
-  by true le more is = record { ms = ms; x = a; asked = refl; due = least_is t H a e; within = leb-true a.moment (began H + ms) le; is = is }
+      → let r : Full = cond b (acts lab H (numbered i (event.Advance ms)) act.Tick None (max a.moment (now H)) a.number no_ep ticked a.node) (advanced H (numbered i (event.Advance ms)) (began H + ms)) in
+      has_more (event.Advance ms) r.act ≡ true → next_of lab H i (event.Advance ms) ≡ r → IsTick lab H i (event.Advance ms)
+  by true le more is = record { ms = ms; x = a; asked = refl; due = least_is lab H a e; within = leb-true a.moment (began H + ms) le; is = is }
   by false le more is = absurd (false≢true more)
 
-more_ticks : (d : Draws) (t : TopologyState) (H : List Full) (i : ℕ) (e : Event) → has_more e (next_of d t H i e).act ≡ true → IsTick d t H i e
-more_ticks d t H i (event.Advance ms) more = advance_ticks d t H i ms (least_due t H 0 (nodes t)) refl more refl
-more_ticks d t H i (event.Deliver k) more = absurd (false≢true more)
-more_ticks d t H i event.Next more = absurd (false≢true more)
-more_ticks d t H i (event.Host n to body) more = absurd (false≢true more)
-more_ticks d t H i (event.Echo n to seq) more = absurd (false≢true more)
-more_ticks d t H i (event.Raw n bytes) more = absurd (false≢true more)
-more_ticks d t H i (event.Stranger src dst bytes) more = absurd (false≢true more)
-more_ticks d t H i (event.Copy k src dst) more = absurd (false≢true more)
-more_ticks d t H i (event.Restart n) more = absurd (false≢true more)
-more_ticks d t H i (event.Forget n who) more = absurd (false≢true more)
+more_ticks : (lab : Lab) (H : List Full) (i : ℕ) (e : Event) → has_more e (next_of lab H i e).act ≡ true → IsTick lab H i e
+more_ticks lab H i (event.Advance ms) more = advance_ticks lab H i ms (least_due lab H 0 (nodes lab.topology)) refl more refl
+more_ticks lab H i (event.Deliver k) more = absurd (false≢true more)
+more_ticks lab H i event.Next more = absurd (false≢true more)
+more_ticks lab H i (event.Host n to body) more = absurd (false≢true more)
+more_ticks lab H i (event.Echo n to seq) more = absurd (false≢true more)
+more_ticks lab H i (event.Raw n bytes) more = absurd (false≢true more)
+more_ticks lab H i (event.Stranger src dst bytes) more = absurd (false≢true more)
+more_ticks lab H i (event.Copy k src dst) more = absurd (false≢true more)
+more_ticks lab H i (event.Restart n) more = absurd (false≢true more)
+more_ticks lab H i (event.Forget n who) more = absurd (false≢true more)
 
 -- WHAT IS LEFT
 
 -- of the advance less is left after the tick
-less_to : ClientLaws → (d : Draws) (t : TopologyState) (H : List Full) (e : Numbered) (x : Due) (end : ℕ) → IsTopology t → IsDue t H x → x.moment ≤ end → now H ≤ end
-    → left_to t (acts d t H e act.Tick None (max x.moment (now H)) x.number no_ep ticked x.node ∷ H) end < left_to t H end
-less_to laws d t H e x end is due within past =
-    among laws d t H e (max x.moment (now H)) x.number end x.node (omega arith) (omega (arith, within, past)) x.moment 0 x.number (nodes t) (omega arith) due.there due.due (omega arith) (one_slow (nodes t) x.number x.node (all_slow t is) due.there)
+less_to : ClientLaws → (lab : Lab) (H : List Full) (e : Numbered) (x : Due) (end : ℕ) → IsTopology lab.topology → IsDue lab H x → x.moment ≤ end → now H ≤ end
+    → left_to lab (acts lab H e act.Tick None (max x.moment (now H)) x.number no_ep ticked x.node ∷ H) end < left_to lab H end
+less_to laws lab H e x end is due within past =
+    among laws lab H e (max x.moment (now H)) x.number end x.node (omega arith) (omega (arith, within, past)) x.moment 0 x.number (nodes lab.topology) (omega arith) due.there due.due (omega arith) (one_slow (nodes lab.topology) x.number x.node (all_slow lab.topology is) due.there)
 
-abbrev pub HasFewDue : TopologyState → List Full → Type 0
-HasFewDue t H = length (all_due t H 0 (nodes t)) ≤ most_due
+abbrev pub HasFewDue : Lab → List Full → Type 0
+HasFewDue lab H = length (all_due lab H 0 (nodes lab.topology)) ≤ most_due
 
-at_rest : (t : TopologyState) (H : List Full) (ms : ℕ) → HasFewDue t H → ms ≤ ADVANCE_MAX_MS → left_to t H (now H + ms) ≤ LEFT_MAX
-at_rest t H ms few short =
-    let most : left_to t H (now H + ms) ≤ length (all_due t H 0 (nodes t)) * (now H + ms + 1 - now H) = weights_most (now H + ms) (now H) (all_due t H 0 (nodes t)) in
+at_rest : (lab : Lab) (H : List Full) (ms : ℕ) → HasFewDue lab H → ms ≤ ADVANCE_MAX_MS → left_to lab H (now H + ms) ≤ LEFT_MAX
+at_rest lab H ms few short =
+    let most : left_to lab H (now H + ms) ≤ length (all_due lab H 0 (nodes lab.topology)) * (now H + ms + 1 - now H) = weights_most (now H + ms) (now H) (all_due lab H 0 (nodes lab.topology)) in
     let span : now H + ms + 1 - now H ≤ 1000000001 = omega (arith, short) in
-    let product : length (all_due t H 0 (nodes t)) * (now H + ms + 1 - now H) ≤ most_due * 1000000001 = mul-le-mul few span in
+    let product : length (all_due lab H 0 (nodes lab.topology)) * (now H + ms + 1 - now H) ≤ most_due * 1000000001 = mul-le-mul few span in
     omega (arith, most, product)
 
 -- before the record no less is left than of its advance
-before : (t : TopologyState) (H : List Full) (ms : ℕ) → HasFewDue t H → GoesOn H (event.Advance ms) → ms ≤ ADVANCE_MAX_MS → left_to t H (began H + ms) ≤ left t H
-before t [] ms few goes short = at_rest t [] ms few short
-before t (q ∷ H) ms few goes short = by (has_more q.asked q.act) refl where
-  by : (b : Bool) → has_more q.asked q.act ≡ b → left_to t (q ∷ H) (began (q ∷ H) + ms) ≤ cond b (left_of_event t (q ∷ H) q.asked) LEFT_MAX
+before : (lab : Lab) (H : List Full) (ms : ℕ) → HasFewDue lab H → GoesOn H (event.Advance ms) → ms ≤ ADVANCE_MAX_MS → left_to lab H (began H + ms) ≤ left lab H
+before lab [] ms few goes short = at_rest lab [] ms few short
+before lab (q ∷ H) ms few goes short = by (has_more q.asked q.act) refl where
+  by : (b : Bool) → has_more q.asked q.act ≡ b → left_to lab (q ∷ H) (began (q ∷ H) + ms) ≤ cond b (left_of_event lab (q ∷ H) q.asked) LEFT_MAX
   by true more =
-      let same : left_to t (q ∷ H) (began (q ∷ H) + ms) ≡ left_of_event t (q ∷ H) q.asked = ap (left_of_event t (q ∷ H)) (goes more) in
+      let same : left_to lab (q ∷ H) (began (q ∷ H) + ms) ≡ left_of_event lab (q ∷ H) q.asked = ap (left_of_event lab (q ∷ H)) (goes more) in
       omega (arith, same)
   by false last =
       let start : began (q ∷ H) ≡ q.moment = ap (λ b. cond b (began H) q.moment) last in
-      subst (λ (x : ℕ). left_to t (q ∷ H) (x + ms) ≤ LEFT_MAX) (sym start) (at_rest t (q ∷ H) ms few short)
+      subst (λ (x : ℕ). left_to lab (q ∷ H) (x + ms) ≤ LEFT_MAX) (sym start) (at_rest lab (q ∷ H) ms few short)
 
-pub falls : ClientLaws → (d : Draws) (t : TopologyState) (H : List Full) (r : Full) → IsTopology t → Grown d t H → HasFewDue t H → Follows d t H r → has_more r.asked r.act ≡ true → left t (r ∷ H) < left t H
-falls laws d t H r is grown few follows more =
-    let tick : IsTick d t H r.event r.asked = more_ticks d t H r.event r.asked (subst (λ (x : Full). has_more r.asked x.act ≡ true) follows.is more) in
+pub falls : ClientLaws → (lab : Lab) (H : List Full) (r : Full) → IsTopology lab.topology → Grown lab H → HasFewDue lab H → Follows lab H r → has_more r.asked r.act ≡ true → left lab (r ∷ H) < left lab H
+falls laws lab H r is grown few follows more =
+    let tick : IsTick lab H r.event r.asked = more_ticks lab H r.event r.asked (subst (λ (x : Full). has_more r.asked x.act ≡ true) follows.is more) in
     let end : ℕ = began H + tick.ms in
     let goes : GoesOn H (event.Advance tick.ms) = subst (GoesOn H) tick.asked follows.goes_on in
-    let short : tick.ms ≤ ADVANCE_MAX_MS = subst (IsEvent t) tick.asked follows.event in
-    let past : now H ≤ end = ends d t H tick.ms grown goes in
-    let less : left_to t (acts d t H (numbered r.event (event.Advance tick.ms)) act.Tick None (max tick.x.moment (now H)) tick.x.number no_ep ticked tick.x.node ∷ H) end < left_to t H end = less_to laws d t H (numbered r.event (event.Advance tick.ms)) tick.x end is tick.due tick.within past in
-    let mine : left_to t (r ∷ H) end < left_to t H end = subst (λ (x : Full). left_to t (x ∷ H) end < left_to t H end) (sym (follows.is ∙ tick.is)) less in
+    let short : tick.ms ≤ ADVANCE_MAX_MS = subst (IsEvent lab.topology) tick.asked follows.event in
+    let past : now H ≤ end = ends lab H tick.ms grown goes in
+    let less : left_to lab (acts lab H (numbered r.event (event.Advance tick.ms)) act.Tick None (max tick.x.moment (now H)) tick.x.number no_ep ticked tick.x.node ∷ H) end < left_to lab H end = less_to laws lab H (numbered r.event (event.Advance tick.ms)) tick.x end is tick.due tick.within past in
+    let mine : left_to lab (r ∷ H) end < left_to lab H end = subst (λ (x : Full). left_to lab (x ∷ H) end < left_to lab H end) (sym (follows.is ∙ tick.is)) less in
     let start : began (r ∷ H) ≡ began H = ap (λ b. cond b (began H) r.moment) more in
-    let now_left : left t (r ∷ H) ≡ left_to t (r ∷ H) end =
-    ap (λ b. cond b (left_of_event t (r ∷ H) r.asked) LEFT_MAX) more ∙ ap (left_of_event t (r ∷ H)) tick.asked ∙ ap (λ (x : ℕ). left_to t (r ∷ H) (x + tick.ms)) start in
-    let most : left_to t H end ≤ left t H = before t H tick.ms few goes short in
+    let now_left : left lab (r ∷ H) ≡ left_to lab (r ∷ H) end =
+    ap (λ b. cond b (left_of_event lab (r ∷ H) r.asked) LEFT_MAX) more ∙ ap (left_of_event lab (r ∷ H)) tick.asked ∙ ap (λ (x : ℕ). left_to lab (r ∷ H) (x + tick.ms)) start in
+    let most : left_to lab H end ≤ left lab H = before lab H tick.ms few goes short in
     omega (arith, mine, now_left, most)

@@ -85,10 +85,10 @@ among_earlier r H n ends one = record {
 }
 
 pub one_maker : EachHasOneMaker
-one_maker d t [] n g within = absurd (omega (arith, within))
-one_maker d t (r ∷ H) n g within = by (one_maker d t H n g.1) (nat_le (length (wire H)) n) refl where
+one_maker lab [] n g within = absurd (omega (arith, within))
+one_maker lab (r ∷ H) n g within = by (one_maker lab H n g.1) (nat_le (length (wire H)) n) refl where
   first : r.first ≡ length (wire H)
-  first = ap (λ (z : Full). z.first) g.0.is ∙ (next_is_of d t H r.event r.asked).first
+  first = ap (λ (z : Full). z.first) g.0.is ∙ (next_is_of lab H r.event r.asked).first
 
   by : (n < length (wire H) → HasOneMaker H n) → (b : Bool) → nat_le (length (wire H)) n ≡ b → HasOneMaker (r ∷ H) n
   by ih true e = latest r H n first (leb-true _ _ e) within

@@ -46,11 +46,12 @@ use Rattle.topology.specs.Topology.{nodes, node_at, side_at}
 use Rattle.teredo_node.proofs.FirstLines.{first_of_each}
 use Rattle.history.specs.Telling.{is_no_entry, IsTold}
 use Rattle.history.specs.Full.{Item, udp, six, Full, wire}
-use Rattle.legal.specs.Past.{Draws, now, began, first_undelivered, journal, words}
+use Rattle.legal.specs.Past.{now, began, first_undelivered, journal, words}
 use Rattle.native_host.specs.Natives.{echo_of, native_in}
 use Rattle.legal.specs.Settings.{server_settings, client_settings, relay_settings}
 use Rattle.legal.specs.Emit.{Route, reaches, closed, astray, route, entry_of}
 use Rattle.legal.specs.Next.{Numbered, numbered, Due, least_due, plain, advance_with, advanced, acts, no_ep, blank, delivers_to, delivers_item, delivers_or, copies, data_packet, echo_packet, address_at, target_address, hands_in, next_of}
+use Rattle.legal.specs.Lab.{Lab}
 
 abbrev IsOther : Fate → Type 0
 IsOther f = is_no_entry f ≡ false
@@ -145,59 +146,59 @@ pub record Tables : Type 0 where
   pub relay : relay_laws.FateOfReception
   pub six : relay_laws.FateOfTransmission
 
-came_tells : Tables → (d : Draws) (t : TopologyState) (H : List Full) (m n : ℕ) (dst from : Ep) (x : List ℕ) (a : Node) → IsOther (entry_of d t H m n dst (arrived from x) a).step.fate
-came_tells by d t H m n dst from x (server a) = server_tells (server_settings a) (side_at (server a) dst) from x
-came_tells by d t H m n dst from x (nat a) = refl
-came_tells by d t H m n dst from x (client c) = client_tells by.client (client_settings t c) (journal n H) m from x (words d n H)
-came_tells by d t H m n dst from x (relay r) = relay_in_tells by.relay (relay_settings t n r) (journal n H).entries m from x
-came_tells by d t H m n dst from x (native h) = refl
+came_tells : Tables → (lab : Lab) (H : List Full) (m n : ℕ) (dst from : Ep) (x : List ℕ) (a : Node) → IsOther (entry_of lab H m n dst (arrived from x) a).step.fate
+came_tells by lab H m n dst from x (server a) = server_tells (server_settings a) (side_at (server a) dst) from x
+came_tells by lab H m n dst from x (nat a) = refl
+came_tells by lab H m n dst from x (client c) = client_tells by.client (client_settings lab.topology c) (journal n H) m from x (words lab n H)
+came_tells by lab H m n dst from x (relay r) = relay_in_tells by.relay (relay_settings lab.topology n r) (journal n H).entries m from x
+came_tells by lab H m n dst from x (native h) = refl
 
-six_tells : Tables → (d : Draws) (t : TopologyState) (H : List Full) (m n : ℕ) (dst : Ep) (x : List ℕ) (a : Node) → IsOther (entry_of d t H m n dst (from_six x) a).step.fate
-six_tells by d t H m n dst x (server a) = refl
-six_tells by d t H m n dst x (nat a) = refl
-six_tells by d t H m n dst x (client c) = refl
-six_tells by d t H m n dst x (relay r) = relay_six_tells by.six (relay_settings t n r) (journal n H).entries m x
-six_tells by d t H m n dst x (native h) = native_tells x
+six_tells : Tables → (lab : Lab) (H : List Full) (m n : ℕ) (dst : Ep) (x : List ℕ) (a : Node) → IsOther (entry_of lab H m n dst (from_six x) a).step.fate
+six_tells by lab H m n dst x (server a) = refl
+six_tells by lab H m n dst x (nat a) = refl
+six_tells by lab H m n dst x (client c) = refl
+six_tells by lab H m n dst x (relay r) = relay_six_tells by.six (relay_settings lab.topology n r) (journal n H).entries m x
+six_tells by lab H m n dst x (native h) = native_tells x
 
 -- THE RECORD THAT FOLLOWS
 
-to_tells : Tables → (d : Draws) (t : TopologyState) (H : List Full) (e : Numbered) (n : ℕ) (item : Item) (r : Route) → IsTold (delivers_to d t H e n item r)
-to_tells by d t H e n (udp src dst x) (reaches k a) = record { delivered = sym (ap not (came_tells by d t H (now H) k dst src x a)) }
-to_tells by d t H e n (six to x) (reaches k a) = record { delivered = sym (ap not (six_tells by d t H (now H) k no_ep x a)) }
-to_tells by d t H e n item (closed k) = record { delivered = refl }
-to_tells by d t H e n item astray = record { delivered = refl }
+to_tells : Tables → (lab : Lab) (H : List Full) (e : Numbered) (n : ℕ) (item : Item) (r : Route) → IsTold (delivers_to lab H e n item r)
+to_tells by lab H e n (udp src dst x) (reaches k a) = record { delivered = sym (ap not (came_tells by lab H (now H) k dst src x a)) }
+to_tells by lab H e n (six to x) (reaches k a) = record { delivered = sym (ap not (six_tells by lab H (now H) k no_ep x a)) }
+to_tells by lab H e n item (closed k) = record { delivered = refl }
+to_tells by lab H e n item astray = record { delivered = refl }
 
-item_tells : Tables → (d : Draws) (t : TopologyState) (H : List Full) (e : Numbered) (n : ℕ) (o : Option Item) → IsTold (delivers_item d t H e n o)
-item_tells by d t H e n None = record { delivered = refl }
-item_tells by d t H e n (Some item) = to_tells by d t H e n item (route t H (now H) item)
+item_tells : Tables → (lab : Lab) (H : List Full) (e : Numbered) (n : ℕ) (o : Option Item) → IsTold (delivers_item lab H e n o)
+item_tells by lab H e n None = record { delivered = refl }
+item_tells by lab H e n (Some item) = to_tells by lab H e n item (route lab H (now H) item)
 
-advance_tells : (d : Draws) (t : TopologyState) (H : List Full) (e : Numbered) (end : ℕ) (o : Option Due) → IsTold (advance_with d t H e end o)
-advance_tells d t H e end None = record { delivered = refl }
-advance_tells d t H e end (Some a) = by (nat_le a.moment end) where
-  by : (b : Bool) → IsTold (cond b (acts d t H e act.Tick None (max a.moment (now H)) a.number no_ep ticked a.node) (advanced H e end))
+advance_tells : (lab : Lab) (H : List Full) (e : Numbered) (end : ℕ) (o : Option Due) → IsTold (advance_with lab H e end o)
+advance_tells lab H e end None = record { delivered = refl }
+advance_tells lab H e end (Some a) = by (nat_le a.moment end) where
+  by : (b : Bool) → IsTold (cond b (acts lab H e act.Tick None (max a.moment (now H)) a.number no_ep ticked a.node) (advanced H e end))
   by true = record { delivered = refl }
   by false = record { delivered = refl }
 
-or_tells : Tables → (d : Draws) (t : TopologyState) (H : List Full) (e : Numbered) (last : Full) (o : Option ℕ) → IsTold last → IsTold (delivers_or d t H e last o)
-or_tells by d t H e last None is = is
-or_tells by d t H e last (Some n) is = item_tells by d t H e n (slice_get (wire H) n)
+or_tells : Tables → (lab : Lab) (H : List Full) (e : Numbered) (last : Full) (o : Option ℕ) → IsTold last → IsTold (delivers_or lab H e last o)
+or_tells by lab H e last None is = is
+or_tells by lab H e last (Some n) is = item_tells by lab H e n (slice_get (wire H) n)
 
 copies_tell : (H : List Full) (e : Numbered) (n : ℕ) (src dst : Ep) (o : Option Item) → IsTold (copies H e n src dst o)
 copies_tell H e n src dst None = record { delivered = refl }
 copies_tell H e n src dst (Some item) = record { delivered = refl }
 
-hands_tell : (d : Draws) (t : TopologyState) (H : List Full) (e : Numbered) (v : Verb) (n : ℕ) (x : List ℕ) (o : Option Node) → IsTold (hands_in d t H e v n x o)
-hands_tell d t H e v n x None = record { delivered = refl }
-hands_tell d t H e v n x (Some a) = record { delivered = refl }
+hands_tell : (lab : Lab) (H : List Full) (e : Numbered) (v : Verb) (n : ℕ) (x : List ℕ) (o : Option Node) → IsTold (hands_in lab H e v n x o)
+hands_tell lab H e v n x None = record { delivered = refl }
+hands_tell lab H e v n x (Some a) = record { delivered = refl }
 
-pub next_tells : Tables → (d : Draws) (t : TopologyState) (H : List Full) (i : ℕ) (e : Event) → IsTold (next_of d t H i e)
-next_tells by d t H i (event.Advance ms) = advance_tells d t H (numbered i (event.Advance ms)) (began H + ms) (least_due t H 0 (nodes t))
-next_tells by d t H i (event.Deliver n) = item_tells by d t H (numbered i (event.Deliver n)) n (slice_get (wire H) n)
-next_tells by d t H i event.Next = or_tells by d t H (numbered i event.Next) (blank H (numbered i event.Next) (plain verb.Next) None fate.NoEntry) (first_undelivered H) (record { delivered = refl })
-next_tells by d t H i (event.Host n to body) = hands_tell d t H (numbered i (event.Host n to body)) verb.Host n (packet_bytes (data_packet (address_at t H n) (target_address t H to) body)) (node_at t n)
-next_tells by d t H i (event.Echo n to s) = hands_tell d t H (numbered i (event.Echo n to s)) verb.Echo n (packet_bytes (echo_packet (address_at t H n) (target_address t H to) s)) (node_at t n)
-next_tells by d t H i (event.Raw n bytes) = hands_tell d t H (numbered i (event.Raw n bytes)) verb.Raw n bytes (node_at t n)
-next_tells by d t H i (event.Stranger src dst x) = record { delivered = refl }
-next_tells by d t H i (event.Copy n src dst) = copies_tell H (numbered i (event.Copy n src dst)) n src dst (slice_get (wire H) n)
-next_tells by d t H i (event.Restart n) = record { delivered = refl }
-next_tells by d t H i (event.Forget n who) = record { delivered = refl }
+pub next_tells : Tables → (lab : Lab) (H : List Full) (i : ℕ) (e : Event) → IsTold (next_of lab H i e)
+next_tells by lab H i (event.Advance ms) = advance_tells lab H (numbered i (event.Advance ms)) (began H + ms) (least_due lab H 0 (nodes lab.topology))
+next_tells by lab H i (event.Deliver n) = item_tells by lab H (numbered i (event.Deliver n)) n (slice_get (wire H) n)
+next_tells by lab H i event.Next = or_tells by lab H (numbered i event.Next) (blank H (numbered i event.Next) (plain verb.Next) None fate.NoEntry) (first_undelivered H) (record { delivered = refl })
+next_tells by lab H i (event.Host n to body) = hands_tell lab H (numbered i (event.Host n to body)) verb.Host n (packet_bytes (data_packet (address_at lab H n) (target_address lab H to) body)) (node_at lab.topology n)
+next_tells by lab H i (event.Echo n to s) = hands_tell lab H (numbered i (event.Echo n to s)) verb.Echo n (packet_bytes (echo_packet (address_at lab H n) (target_address lab H to) s)) (node_at lab.topology n)
+next_tells by lab H i (event.Raw n bytes) = hands_tell lab H (numbered i (event.Raw n bytes)) verb.Raw n bytes (node_at lab.topology n)
+next_tells by lab H i (event.Stranger src dst x) = record { delivered = refl }
+next_tells by lab H i (event.Copy n src dst) = copies_tell H (numbered i (event.Copy n src dst)) n src dst (slice_get (wire H) n)
+next_tells by lab H i (event.Restart n) = record { delivered = refl }
+next_tells by lab H i (event.Forget n who) = record { delivered = refl }

@@ -18,10 +18,11 @@ use Rattle.topology.specs.declared.node.Node.TheVariants.{Client as client, Rela
 use Rattle.topology.specs.Topology.{node_at, nat_at, nat_settings}
 use Rattle.topology.specs.Rules.{IsTopology}
 use Rattle.legal.specs.Settings.{client_settings, relay_settings}
-use Rattle.legal.specs.Past.{Draws, now, has_more, journal, nat_history}
+use Rattle.legal.specs.Past.{now, has_more, journal, nat_history}
 use Rattle.legal.specs.Next.{next_of}
 use Rattle.legal.specs.Legal.{Follows, Grown}
 use Rattle.legal.specs.Left.{left}
+use Rattle.legal.specs.Lab.{Lab}
 
 -- the record after H is of event number i, and its entries come behind those of the wire
 pub record IsOf (H : List Full) (i : ℕ) (e : Event) (r : Full) : Type 0 where
@@ -30,11 +31,11 @@ pub record IsOf (H : List Full) (i : ℕ) (e : Event) (r : Full) : Type 0 where
   pub first : r.first ≡ length (wire H)
 
 abbrev pub EachIsOfItsEvent : Type 0
-EachIsOfItsEvent = (d : Draws) (t : TopologyState) (H : List Full) (i : ℕ) (e : Event) → IsOf H i e (next_of d t H i e)
+EachIsOfItsEvent = (lab : Lab) (H : List Full) (i : ℕ) (e : Event) → IsOf H i e (next_of lab H i e)
 
 -- moments don't fall: it happens at the moment of the record before it, or later
 abbrev pub EachIsLater : Type 0
-EachIsLater = (d : Draws) (t : TopologyState) (H : List Full) (r : Full) → Grown d t (r ∷ H) → now H ≤ r.moment
+EachIsLater = (lab : Lab) (H : List Full) (r : Full) → Grown lab (r ∷ H) → now H ≤ r.moment
 
 -- nothing but an advance takes time
 abbrev pub is_advance : Event → Bool
@@ -43,7 +44,7 @@ is_advance _ = false
 
 -- so a delivery, a packet of a host and a stranger's datagram happen at the moment of the record before them
 abbrev pub EachIsAtOnce : Type 0
-EachIsAtOnce = (d : Draws) (t : TopologyState) (H : List Full) (r : Full) → Follows d t H r → is_advance r.asked ≡ false → r.moment ≡ now H
+EachIsAtOnce = (lab : Lab) (H : List Full) (r : Full) → Follows lab H r → is_advance r.asked ≡ false → r.moment ≡ now H
 
 -- the records split at one of them, which made entry number n of the wire
 pub record Makes (H : List Full) (n : ℕ) (later : List Full) (maker : Full) (earlier : List Full) : Type 0 where
@@ -63,16 +64,16 @@ pub record HasOneMaker (H : List Full) (n : ℕ) : Type 0 where
 
 -- each entry of the wire has
 abbrev pub EachHasOneMaker : Type 0
-EachHasOneMaker = (d : Draws) (t : TopologyState) (H : List Full) (n : ℕ) → Grown d t H → n < length (wire H) → HasOneMaker H n
+EachHasOneMaker = (lab : Lab) (H : List Full) (n : ℕ) → Grown lab H → n < length (wire H) → HasOneMaker H n
 
 -- it says that an entry was delivered exactly where one was
 abbrev pub EachIsTold : Type 0
-EachIsTold = (d : Draws) (t : TopologyState) (H : List Full) (i : ℕ) (e : Event) → IsTold (next_of d t H i e)
+EachIsTold = (lab : Lab) (H : List Full) (i : ℕ) (e : Event) → IsTold (next_of lab H i e)
 
 -- a NAT's history in a history of its topology is one that the laws of NATs speak of: each datagram left from the port
 -- that the history before it answers, and moments don't fall
 abbrev pub EachNatIsPast : Type 0
-EachNatIsPast = (d : Draws) (t : TopologyState) (H : List Full) (k : ℕ) (a : NatNode) → Grown d t H → nat_at t k ≡ Some a → IsPast (nat_settings a) (nat_history t k H) (now H)
+EachNatIsPast = (lab : Lab) (H : List Full) (k : ℕ) (a : NatNode) → Grown lab H → nat_at lab.topology k ≡ Some a → IsPast (nat_settings a) (nat_history lab k H) (now H)
 
 -- a journal of a client, the moment m being none before its latest entry
 pub record IsOfClient (s : Settings) (j : Journal) (m : ℕ) : Type 0 where
@@ -81,7 +82,7 @@ pub record IsOfClient (s : Settings) (j : Journal) (m : ℕ) : Type 0 where
 
 -- a client's journal in a history of its topology is one that the laws of clients speak of
 abbrev pub EachClientIsJournal : Type 0
-EachClientIsJournal = (d : Draws) (t : TopologyState) (H : List Full) (n : ℕ) (c : ClientNode) → Grown d t H → node_at t n ≡ Some (client c) → IsOfClient (client_settings t c) (journal n H) (now H)
+EachClientIsJournal = (lab : Lab) (H : List Full) (n : ℕ) (c : ClientNode) → Grown lab H → node_at lab.topology n ≡ Some (client c) → IsOfClient (client_settings lab.topology c) (journal n H) (now H)
 
 -- a journal of a relay
 pub record IsOfRelay (s : RelaySettings) (j : Journal) (m : ℕ) : Type 0 where
@@ -90,9 +91,9 @@ pub record IsOfRelay (s : RelaySettings) (j : Journal) (m : ℕ) : Type 0 where
 
 -- and a relay's one that the laws of relays speak of
 abbrev pub EachRelayIsJournal : Type 0
-EachRelayIsJournal = (d : Draws) (t : TopologyState) (H : List Full) (n : ℕ) (r : RelayNode) → Grown d t H → node_at t n ≡ Some (relay r) → IsOfRelay (relay_settings t n r) (journal n H) (now H)
+EachRelayIsJournal = (lab : Lab) (H : List Full) (n : ℕ) (r : RelayNode) → Grown lab H → node_at lab.topology n ≡ Some (relay r) → IsOfRelay (relay_settings lab.topology n r) (journal n H) (now H)
 
 -- after a record that has further ones, less is left
 abbrev pub EachFalls : Type 0
-EachFalls = (d : Draws) (t : TopologyState) (H : List Full) (r : Full) → IsTopology t → Grown d t H → Follows d t H r
-    → has_more r.asked r.act ≡ true → left t (r ∷ H) < left t H
+EachFalls = (lab : Lab) (H : List Full) (r : Full) → IsTopology lab.topology → Grown lab H → Follows lab H r
+    → has_more r.asked r.act ≡ true → left lab (r ∷ H) < left lab H

@@ -18,6 +18,7 @@ use Rattle.history.specs.Full.{Full}
 use Rattle.legal.specs.declared.left.TheConstants.{LEFT_MAX}
 use Rattle.legal.specs.Settings.{client_settings}
 use Rattle.legal.specs.Past.{now, began, has_more, journal}
+use Rattle.legal.specs.Lab.{Lab}
 
 -- when the packets that wait for a listed peer are due
 abbrev pub waits_until : Peer → List ℕ
@@ -28,28 +29,28 @@ abbrev pub peers_due : List Mention → ℕ → List ℕ
 peers_due j m = flat_map (λ (p : Ip6). waits_until (known j m p)) (listed j m)
 
 -- all due moments of a node: a client's phase or refresh, and its peers; a relay's peers
-abbrev pub due_moments : TopologyState → List Full → ℕ → Node → List ℕ
-due_moments t H n (client c) = option_to_list (qualification (client_settings t c) (journal n H)).due ++ peers_due (client_bearings.mentions (journal n H).entries) (now H)
-due_moments t H n (relay r) = peers_due (relay_bearings.mentions (journal n H).entries) (now H)
-due_moments t H n _ = []
+abbrev pub due_moments : Lab → List Full → ℕ → Node → List ℕ
+due_moments lab H n (client c) = option_to_list (qualification (client_settings lab.topology c) (journal n H)).due ++ peers_due (client_bearings.mentions (journal n H).entries) (now H)
+due_moments lab H n (relay r) = peers_due (relay_bearings.mentions (journal n H).entries) (now H)
+due_moments lab H n _ = []
 
-abbrev pub all_due : TopologyState → List Full → ℕ → List Node → List ℕ
-all_due t H n [] = []
-all_due t H n (a ∷ rest) = due_moments t H n a ++ all_due t H (n + 1) rest
+abbrev pub all_due : Lab → List Full → ℕ → List Node → List ℕ
+all_due lab H n [] = []
+all_due lab H n (a ∷ rest) = due_moments lab H n a ++ all_due lab H (n + 1) rest
 
 -- over the due moments up to `end`, the time from each on, or from now on where it is past
 abbrev pub time_left : (end at : ℕ) → List ℕ → ℕ
 time_left end at moments = sum_by (λ m. end + 1 - max m at) (filter (λ m. nat_le m end) moments)
 
 -- for an advance that ends at `end`
-abbrev pub left_to : TopologyState → List Full → ℕ → ℕ
-left_to t H end = time_left end (now H) (all_due t H 0 (nodes t))
+abbrev pub left_to : Lab → List Full → ℕ → ℕ
+left_to lab H end = time_left end (now H) (all_due lab H 0 (nodes lab.topology))
 
-abbrev pub left_of_event : TopologyState → List Full → Event → ℕ
-left_of_event t H (event.Advance ms) = left_to t H (began H + ms)
-left_of_event t H _ = 0
+abbrev pub left_of_event : Lab → List Full → Event → ℕ
+left_of_event lab H (event.Advance ms) = left_to lab H (began H + ms)
+left_of_event lab H _ = 0
 
 -- as much as may be where the next record begins an event
-abbrev pub left : TopologyState → List Full → ℕ
-left t [] = LEFT_MAX
-left t (r ∷ H) = if has_more r.asked r.act then left_of_event t (r ∷ H) r.asked else LEFT_MAX
+abbrev pub left : Lab → List Full → ℕ
+left lab [] = LEFT_MAX
+left lab (r ∷ H) = if has_more r.asked r.act then left_of_event lab (r ∷ H) r.asked else LEFT_MAX

@@ -5,3 +5,4 @@ pub mod NodeNames
 pub mod Rules
 pub mod Named
 pub mod NodeRules
+pub mod Chains
