@@ -1,10 +1,8 @@
 -- A NAT's history in a history of its topology is one that the laws of NATs speak of.
-use Rattle.std.proofs.Common.{◌≡◌, ◌≤◌, ◌⊎◌, inl, inr, ℕ, ◌+◌, ◌==◌, Bool, true, false, cond, List, [], ◌∷◌, ◌++◌, Option, Some, None, Result, Ok, Err, refl, sym, ap, subst, ◌∙◌, arith, append_assoc}
-use Rattle.std.specs.Prelude.{filter_map, reverse, max, option_map, option_and_then, option_to_list, is_some}
+use Rattle.std.proofs.Common.{◌≡◌, ◌≤◌, ℕ, ◌+◌, ◌==◌, Bool, true, false, cond, List, [], ◌∷◌, ◌++◌, Option, Some, None, Result, Ok, Err, refl, sym, ap, subst, arith}
+use Rattle.std.specs.Prelude.{max, option_map, option_to_list}
 use Rattle.std.proofs.Math.Nat.{le_refl, le_trans}
-use Rattle.std.proofs.lemmas.Bool.{false≢true}
 use Rattle.std.proofs.lemmas.Bool.Decides.{nat_tests}
-use Rattle.std.proofs.lemmas.Grind.{reverse_onto}
 use Rattle.td_base.specs.declared.endpoint.Ep.{Ep}
 use Rattle.nat_kinds.specs.History.{Entry as NatEntry, Out, Forget, Restart}
 use Rattle.nat_kinds.specs.Answer.{nat_answer}
@@ -17,8 +15,7 @@ use Rattle.topology.specs.declared.client_node.ClientNode.{ClientNode}
 use Rattle.topology.specs.declared.nat_node.NatNode.{NatNode}
 use Rattle.topology.specs.declared.node.Node.{Node}
 use Rattle.topology.specs.declared.node.Node.TheVariants.{Server as server, Nat as nat, Client as client, Relay as relay, Native as native}
-use Rattle.topology.specs.Rows.{TopologyState}
-use Rattle.topology.specs.Topology.{node_at, nat_at, client_at, as_client, nat_settings, settings_of_nat}
+use Rattle.topology.specs.Topology.{nat_at, client_at, nat_settings, settings_of_nat}
 use Rattle.history.specs.declared.event.Event.{Event}
 use Rattle.history.specs.declared.event.Event.TheVariants as event
 use Rattle.history.specs.declared.acts.Act.{Act}
@@ -26,7 +23,7 @@ use Rattle.history.specs.declared.acts.Act.TheVariants as act
 use Rattle.history.specs.Full.{Full}
 use Rattle.legal.specs.Past.{now, is_node, is_restart, forgotten, at_nat, nat_history, nat_pasts, armed}
 use Rattle.legal.specs.Emit.{is_at_place, crossing_unless, by_way, sendings, entry_of}
-use Rattle.topology.specs.Chains.{Passing, nat_set_up, outs_at, after, way_out, passing, answered, crossing}
+use Rattle.topology.specs.Chains.{Passing, nat_set_up, outs_at, after_passing, way_out, passing, answered, crossing}
 use Rattle.legal.specs.Next.{Numbered, acts, plain, no_ep, dst_of, input_of}
 use Rattle.legal.specs.Legal.{Grown}
 use Rattle.legal.specs.Kinds.{Kind, quiet, put, copied, ticks, handed, reached, event_of}
@@ -45,7 +42,7 @@ module _ (lab : Lab) (H : List Full) (m k : ℕ) where
   Past passed = IsPast (nat_set_up lab.topology k) (outs_at k passed ++ nat_history lab k H) m
 
   -- one more, of any NAT, from the port that it answers
-  one_more : (j : ℕ) (inside dst : Ep) (port : ℕ) (passed : List Passing) → nat_answer (nat_set_up lab.topology j) (after passed (nat_pasts lab H) j) m inside dst ≡ Ok port → Past passed → Past (passing j m inside dst port ∷ passed)
+  one_more : (j : ℕ) (inside dst : Ep) (port : ℕ) (passed : List Passing) → nat_answer (nat_set_up lab.topology j) (after_passing passed (nat_pasts lab H) j) m inside dst ≡ Ok port → Past passed → Past (passing j m inside dst port ∷ passed)
   one_more j inside dst port passed is p = by (j == k) refl where
     out : NatEntry
     out = Out (passing j m inside dst port).datagram
@@ -53,13 +50,13 @@ module _ (lab : Lab) (H : List Full) (m k : ℕ) where
     by : (b : Bool) → (j == k) ≡ b → IsPast (nat_set_up lab.topology k) (cond b (Out (passing j m inside dst port).datagram ∷ outs_at k passed) (outs_at k passed) ++ nat_history lab k H) m
     by true e =
         let same : j ≡ k = grind (arith, nat_tests) in
-        record { history = (p.moments, subst (λ (x : ℕ). nat_answer (nat_set_up lab.topology x) (after passed (nat_pasts lab H) x) m inside dst ≡ Ok port) same is, p.history); moments = le_refl m }
+        record { history = (p.moments, subst (λ (x : ℕ). nat_answer (nat_set_up lab.topology x) (after_passing passed (nat_pasts lab H) x) m inside dst ≡ Ok port) same is, p.history); moments = le_refl m }
     by false e = p
 
   crossed : (way : List ℕ) (dst from : Ep) (passed : List Passing) → Past passed → Past (crossing lab.topology (nat_pasts lab H) m dst way from passed).passed
   crossed [] dst from passed p = p
-  crossed (j ∷ way) dst from passed p = by (nat_answer (nat_set_up lab.topology j) (after passed (nat_pasts lab H) j) m from dst) refl (λ (f : Ep) (ps : List Passing). crossed way dst f ps) where
-    by : (r : Result ℕ NatRefusal) → nat_answer (nat_set_up lab.topology j) (after passed (nat_pasts lab H) j) m from dst ≡ r → ((f : Ep) (ps : List Passing) → Past ps → Past (crossing lab.topology (nat_pasts lab H) m dst way f ps).passed)
+  crossed (j ∷ way) dst from passed p = by (nat_answer (nat_set_up lab.topology j) (after_passing passed (nat_pasts lab H) j) m from dst) refl (λ (f : Ep) (ps : List Passing). crossed way dst f ps) where
+    by : (r : Result ℕ NatRefusal) → nat_answer (nat_set_up lab.topology j) (after_passing passed (nat_pasts lab H) j) m from dst ≡ r → ((f : Ep) (ps : List Passing) → Past ps → Past (crossing lab.topology (nat_pasts lab H) m dst way f ps).passed)
         → Past (answered lab.topology m j from dst passed (crossing lab.topology (nat_pasts lab H) m dst way) r).passed
     by (Ok port) is ih = ih (record { ip = (nat_set_up lab.topology j).external; port = port }) (passing j m from dst port ∷ passed) (one_more j from dst port passed is p)
     by (Err why) is ih = p

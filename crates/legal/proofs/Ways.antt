@@ -1,5 +1,5 @@
 -- What a node sends is let out by NATs on its way alone.
-use Rattle.std.proofs.Common.{◌≡◌, ◌<◌, ℕ, suc, arith, length, ◌+◌, Bool, true, false, List, [], ◌∷◌, Option, Some, None, Result, Ok, Err, refl, sym, ap, subst, ◌∙◌}
+use Rattle.std.proofs.Common.{◌≡◌, ◌<◌, ℕ, suc, arith, length, ◌+◌, Bool, true, false, List, [], ◌∷◌, Option, Some, None, Result, Ok, Err, refl, sym, ap, subst}
 use Rattle.std.specs.Prelude.{max, option_and_then, Contains}
 use Rattle.std.specs.List.{AllByRecursion}
 use Rattle.td_base.specs.declared.endpoint.Ep.{Ep}
@@ -17,10 +17,10 @@ use Rattle.history.specs.Full.{Full}
 use Rattle.legal.specs.Lab.{Lab}
 use Rattle.legal.specs.Past.{now, nat_pasts, armed}
 use Rattle.legal.specs.Emit.{is_at_place, crossing_unless, by_way, sendings, entry_of}
-use Rattle.topology.specs.Chains.{Passing, nat_set_up, outs_at, after, way_out, passing, answered, crossing}
+use Rattle.topology.specs.Chains.{Passing, nat_set_up, after_passing, way_out, passing, answered, crossing}
 use Rattle.legal.specs.Next.{Numbered, acts, plain, no_ep, dst_of, input_of}
 use Rattle.legal.specs.Kinds.{Kind, quiet, put, copied, ticks, handed, reached, event_of}
-use Rattle.legal.specs.Frame.{way_by, way_of, KeepsToItsWay, EachKeepsToItsWay}
+use Rattle.legal.specs.Frame.{way_by, way_from, KeepsToItsWay, EachKeepsToItsWay}
 use Rattle.legal.proofs.ByKind.{kind_of}
 
 -- each was let out by one of these NATs
@@ -31,7 +31,7 @@ AreOn way passed = AllByRecursion (λ (p : Passing). Contains way p.nat) passed
 module _ (lab : Lab) (H : List Full) (m : ℕ) (whole : List ℕ) where
   on_way : (way : List ℕ) (dst from : Ep) (passed : List Passing) → AllByRecursion (Contains whole) way → AreOn whole passed → AreOn whole (crossing lab.topology (nat_pasts lab H) m dst way from passed).passed
   on_way [] dst from passed sub on = on
-  on_way (j ∷ way) dst from passed sub on = by (nat_answer (nat_set_up lab.topology j) (after passed (nat_pasts lab H) j) m from dst) (λ (f : Ep) (ps : List Passing). on_way way dst f ps sub.1) where
+  on_way (j ∷ way) dst from passed sub on = by (nat_answer (nat_set_up lab.topology j) (after_passing passed (nat_pasts lab H) j) m from dst) (λ (f : Ep) (ps : List Passing). on_way way dst f ps sub.1) where
     by : (r : Result ℕ NatRefusal) → ((f : Ep) (ps : List Passing) → AreOn whole ps → AreOn whole (crossing lab.topology (nat_pasts lab H) m dst way f ps).passed) → AreOn whole (answered lab.topology m j from dst passed (crossing lab.topology (nat_pasts lab H) m dst way) r).passed
     by (Ok port) ih = ih _ (passing j m from dst port ∷ passed) (sub.0, on)
     by (Err why) ih = on
@@ -57,7 +57,7 @@ all_own [] = tt
 all_own (x ∷ xs) = ((0, omega arith, refl), behind_one x xs xs (all_own xs))
 
 -- a record of node n, which is a
-of_node : (lab : Lab) (H : List Full) (m n : ℕ) (e : Entry) (a : Node) → node_at lab.topology n ≡ Some a → AreOn (way_of lab (Some n)) (sendings lab H m e a).passed
+of_node : (lab : Lab) (H : List Full) (m n : ℕ) (e : Entry) (a : Node) → node_at lab.topology n ≡ Some a → AreOn (way_from lab (Some n)) (sendings lab H m e a).passed
 of_node lab H m n e (server a) at = tt
 of_node lab H m n e (nat a) at = tt
 of_node lab H m n e (client c) at =
@@ -72,7 +72,7 @@ of_acts : (lab : Lab) (H : List Full) (e : Numbered) (w : Act) (number : Option 
 of_acts lab H e w number m n dst input a r is at = subst (λ (z : Full). KeepsToItsWay lab z) (sym is) (of_node lab H m n (entry_of lab H m n dst input a) a at)
 
 of_kind : (lab : Lab) (H : List Full) (r : Full) → Kind lab H r → KeepsToItsWay lab r
-of_kind lab H r (quiet entry address made passed why) = subst (λ (ps : List Passing). AreOn (way_of lab r.node) ps) (sym passed) tt
+of_kind lab H r (quiet entry address made passed why) = subst (λ (ps : List Passing). AreOn (way_from lab r.node) ps) (sym passed) tt
 of_kind lab H r (put src dst bytes asked is) = subst (λ (z : Full). KeepsToItsWay lab z) (sym is) tt
 of_kind lab H r (copied number src dst x asked there is) = subst (λ (z : Full). KeepsToItsWay lab z) (sym is) tt
 of_kind lab H r (ticks ms x asked due within is) = of_acts lab H (event_of r) act.Tick None (max x.moment (now H)) x.number no_ep ticked x.node r is due.there

@@ -1,5 +1,5 @@
 -- A laboratory: its nodes, the NATs that are behind others, and the words that nodes draw.
-use Rattle.std.specs.Prelude.{ℕ, ◌++◌, ◌%◌, ◌^◌, List, replicate}
+use Rattle.std.specs.Prelude.{ℕ, ◌++◌, ◌%◌, ◌^◌, List, [], replicate}
 use Rattle.byteorder.specs.Endian.{big_bytes}
 use Rattle.rand_chacha.specs.ChaCha.{word_at, key_of}
 use Rattle.topology.specs.Rows.{TopologyState}
@@ -10,7 +10,7 @@ use Rattle.history.specs.Scenario.{Scenario}
 abbrev pub Draws : Type 0
 Draws = ℕ → ℕ → ℕ
 
--- no NAT is behind another one where there are none of these
+-- who is in it, what they draw, and which NATs are behind others
 pub record Lab : Type 0 where
   pub draws : Draws
   pub topology : TopologyState
@@ -26,6 +26,14 @@ stream_key seed n = big_bytes 8 seed ++ (big_bytes 8 n ++ replicate 16 0)
 unfoldable pub draws : ℕ → Draws
 draws seed n k = word_at 10 (key_of (stream_key seed n)) 0 (k % 2 ^ 68)
 
+-- that of a topology whose nodes draw these words
+abbrev pub lab_on : Draws → TopologyState → List Behind → Lab
+lab_on d t chain = record { draws = d; topology = t; chain = chain }
+
 -- that of a scenario
 abbrev pub lab_of : Scenario → List Behind → Lab
-lab_of s chain = record { draws = draws s.seed; topology = s.topology; chain = chain }
+lab_of s chain = lab_on (draws s.seed) s.topology chain
+
+-- that of a topology in which no NAT is behind another one
+abbrev pub flat_lab : Draws → TopologyState → Lab
+flat_lab d t = lab_on d t []

@@ -10,7 +10,6 @@ use Rattle.client_rules.specs.Bearings as client_bearings
 use Rattle.relay_rules.specs.Bearings as relay_bearings
 use Rattle.history.specs.declared.event.Event.{Event}
 use Rattle.history.specs.declared.event.Event.TheVariants as event
-use Rattle.topology.specs.Rows.{TopologyState}
 use Rattle.topology.specs.declared.node.Node.{Node}
 use Rattle.topology.specs.declared.node.Node.TheVariants.{Client as client, Relay as relay}
 use Rattle.topology.specs.Topology.{nodes}

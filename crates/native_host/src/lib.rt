@@ -27,5 +27,5 @@ mod limits;
 mod outgoing;
 
 pub use incoming::receive;
-pub use limits::HOST_HOP;
+pub use limits::{HOST_DATA_NEXT, HOST_ECHO_ID, HOST_HOP};
 pub use outgoing::send;

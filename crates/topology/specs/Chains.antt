@@ -67,8 +67,8 @@ outs_at k [] = []
 outs_at k (p ∷ ps) = if p.nat == k then Out p.datagram ∷ outs_at k ps else outs_at k ps
 
 -- the histories with these
-abbrev pub after : List Passing → NatPasts → NatPasts
-after passed h = λ k. outs_at k passed ++ h k
+abbrev pub after_passing : List Passing → NatPasts → NatPasts
+after_passing passed h = λ k. outs_at k passed ++ h k
 
 -- what becomes of a datagram on its way out: where it leaves, or why it doesn't; and what was let out till then
 pub record Crossing : Type 0 where
@@ -86,7 +86,7 @@ answered t m k inside dst passed goes_on (Err why) = record { leaves = Err why; 
 -- past these NATs, each asked about the endpoint that the one before gave
 abbrev pub crossing : TopologyState → NatPasts → ℕ → Ep → List ℕ → Ep → List Passing → Crossing
 crossing t h m dst [] from passed = record { leaves = Ok from; passed = passed }
-crossing t h m dst (k ∷ way) from passed = answered t m k from dst passed (crossing t h m dst way) (nat_answer (nat_set_up t k) (after passed h k) m from dst)
+crossing t h m dst (k ∷ way) from passed = answered t m k from dst passed (crossing t h m dst way) (nat_answer (nat_set_up t k) (after_passing passed h k) m from dst)
 
 -- where a datagram from an endpoint behind NAT k leaves, or the first refusal
 abbrev pub chain_out : TopologyState → List Behind → NatPasts → ℕ → ℕ → Ep → Ep → Result Ep NatRefusal
