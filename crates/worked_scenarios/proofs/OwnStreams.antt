@@ -54,7 +54,7 @@ use Rattle.legal.specs.Next.{next}
 use Rattle.worked_scenarios.proofs.Scenes.{play}
 use Rattle.rand_chacha.specs.Block.{block_word, double_rounds, diagonal_round, quarter_round, column_round}
 use Rattle.rand_core.specs.Steps.{u32_at}
-use Rattle.legal.specs.Legal.{draws}
+use Rattle.legal.specs.Lab.{draws}
 use Rattle.worked_scenarios.proofs.QualifyReports.{cone-nat}
 
 -- the history of the scenario's own seed
