@@ -5,9 +5,9 @@ use Rattle.std.proofs.lemmas.Bool.{cases_lt, lt-ltb, le-ltb, false≢true}
 use Rattle.std.proofs.lemmas.List.{at_drop_all}
 use Rattle.std.proofs.lemmas.Option.{slice_get_within, get_or_from_slice_get, slice_get_past}
 use Rattle.topology.specs.declared.node.Node.{Node}
-use Rattle.topology.specs.Rows.{TopologyState}
 use Rattle.history.specs.Full.{Full}
-use Rattle.legal.specs.Past.{Draws, now}
+use Rattle.legal.specs.Lab.{Lab}
+use Rattle.legal.specs.Past.{now}
 use Rattle.topology.specs.Topology.{nodes, node_at}
 use Rattle.lab_nodes.specs.declared.node_state.NodeState.{NodeState}
 use Rattle.lab_nodes.specs.NodeState.{past_of, IsKeptIn, NodesOf, IsReady, AreReady}
@@ -57,8 +57,8 @@ tick_at f n a None due is = ap (option_map (at_moment n a)) is
 tick_at f n a (Some m) due is = ap (option_map (at_moment n a)) is
 
 -- the first tick of the nodes before n, and those of the others
-pub record IsFirstSo (t : TopologyState) (H : List Full) (all : List Node) (n : ℕ) (first : Option Due) : Type 0 where
-  pub whole : earlier first (least_due t H n (drop n all)) ≡ least_due t H 0 all
+pub record IsFirstSo (lab : Lab) (H : List Full) (all : List Node) (n : ℕ) (first : Option Due) : Type 0 where
+  pub whole : earlier first (least_due lab H n (drop n all)) ≡ least_due lab H 0 all
 
 dropped : (all : List Node) (n : ℕ) (a : Node) → slice_get all n ≡ Some a → drop n all ≡ a ∷ drop (n + 1) all
 dropped all n a at =
@@ -66,11 +66,11 @@ dropped all n a at =
     drop-cons all n a (slice_get_within all n a at) ∙ ap (λ (x : Node). x ∷ drop (suc n) all) (get_or_from_slice_get all n a a at)
     ∙ ap (λ (k : ℕ). a ∷ drop k all) next
 
-pub one_further : (t : TopologyState) (H : List Full) (all : List Node) (n : ℕ) (a : Node) (first new : Option Due) → slice_get all n ≡ Some a
-    → IsFirstSo t H all n first → new ≡ earlier first (tick_of t H (now H) n a) → IsFirstSo t H all (n + 1) new
-one_further t H all n a first new at so is = record {
-  whole = rw is (in_turn first (tick_of t H (now H) n a) (least_due t H (n + 1) (drop (n + 1) all)))
-      ∙ ap (λ (xs : List Node). earlier first (least_due t H n xs)) (sym (dropped all n a at)) ∙ so.whole;
+pub one_further : (lab : Lab) (H : List Full) (all : List Node) (n : ℕ) (a : Node) (first new : Option Due) → slice_get all n ≡ Some a
+    → IsFirstSo lab H all n first → new ≡ earlier first (tick_of lab H (now H) n a) → IsFirstSo lab H all (n + 1) new
+one_further lab H all n a first new at so is = record {
+  whole = rw is (in_turn first (tick_of lab H (now H) n a) (least_due lab H (n + 1) (drop (n + 1) all)))
+      ∙ ap (λ (xs : List Node). earlier first (least_due lab H n xs)) (sym (dropped all n a at)) ∙ so.whole;
 }
 
 no_more : (all : List Node) (n : ℕ) → slice_get all n ≡ None → length all ≤ n
@@ -79,33 +79,33 @@ no_more (a ∷ all) zero e = absurd (false≢true (sym (ap (λ (o : Option Node)
 no_more (a ∷ all) (suc n) e = let h = no_more all n e in omega (arith, h)
 
 -- behind the last node nothing changes
-pub none_further : (t : TopologyState) (H : List Full) (all : List Node) (n : ℕ) (first : Option Due) → slice_get all n ≡ None → IsFirstSo t H all n first → IsFirstSo t H all (n + 1) first
-none_further t H all n first none so = record {
+pub none_further : (lab : Lab) (H : List Full) (all : List Node) (n : ℕ) (first : Option Due) → slice_get all n ≡ None → IsFirstSo lab H all n first → IsFirstSo lab H all (n + 1) first
+none_further lab H all n first none so = record {
   whole =
       let past = no_more all n none in
-      ap (earlier first) (at_drop_all (least_due t H (n + 1)) all (n + 1) (omega (arith, past))) ∙ ap (earlier first) (sym (at_drop_all (least_due t H n) all n past)) ∙ so.whole;
+      ap (earlier first) (at_drop_all (least_due lab H (n + 1)) all (n + 1) (omega (arith, past))) ∙ ap (earlier first) (sym (at_drop_all (least_due lab H n) all n past)) ∙ so.whole;
 }
 
 -- so it goes on by each number
-pub further : (t : TopologyState) (H : List Full) (n : ℕ) (first new : Option Due) → IsFirstSo t H (nodes t) n first → (node_at t n ≡ None → new ≡ first)
-    → ((a : Node) → node_at t n ≡ Some a → new ≡ earlier first (tick_of t H (now H) n a)) → IsFirstSo t H (nodes t) (n + 1) new
-further t H n first new so none some = by (node_at t n) refl where
-  by : (o : Option Node) → node_at t n ≡ o → IsFirstSo t H (nodes t) (n + 1) new
-  by None e = subst (IsFirstSo t H (nodes t) (n + 1)) (sym (none e)) (none_further t H (nodes t) n first e so)
-  by (Some a) e = one_further t H (nodes t) n a first new e so (some a e)
+pub further : (lab : Lab) (H : List Full) (n : ℕ) (first new : Option Due) → IsFirstSo lab H (nodes lab.topology) n first → (node_at lab.topology n ≡ None → new ≡ first)
+    → ((a : Node) → node_at lab.topology n ≡ Some a → new ≡ earlier first (tick_of lab H (now H) n a)) → IsFirstSo lab H (nodes lab.topology) (n + 1) new
+further lab H n first new so none some = by (node_at lab.topology n) refl where
+  by : (o : Option Node) → node_at lab.topology n ≡ o → IsFirstSo lab H (nodes lab.topology) (n + 1) new
+  by None e = subst (IsFirstSo lab H (nodes lab.topology) (n + 1)) (sym (none e)) (none_further lab H (nodes lab.topology) n first e so)
+  by (Some a) e = one_further lab H (nodes lab.topology) n a first new e so (some a e)
 
 -- of each node something is kept
-pub all_seen : (d : Draws) (t : TopologyState) (states : List NodeState) (H : List Full) (n : ℕ) → NodesOf d t states H → length states ≤ n → node_at t n ≡ None
-all_seen d t states H n of le = by (node_at t n) refl where
-  by : (o : Option Node) → node_at t n ≡ o → node_at t n ≡ None
+pub all_seen : (lab : Lab) (states : List NodeState) (H : List Full) (n : ℕ) → NodesOf lab states H → length states ≤ n → node_at lab.topology n ≡ None
+all_seen lab states H n of le = by (node_at lab.topology n) refl where
+  by : (o : Option Node) → node_at lab.topology n ≡ o → node_at lab.topology n ≡ None
   by None e = e
-  by (Some a) e = absurd (subst (IsKeptIn t n a (past_of d t n H)) (slice_get_past states n le) (of n a e))
+  by (Some a) e = absurd (subst (IsKeptIn lab.topology n a (past_of lab n H)) (slice_get_past states n le) (of n a e))
 
 pub ready_at : (m : ℕ) (states : List NodeState) (n : ℕ) (s : NodeState) → AreReady m states → slice_get states n ≡ Some s → IsReady m s
 ready_at m [] n s all e = absurd (false≢true (ap (λ (o : Option NodeState). is_some o) e))
 ready_at m (x ∷ states) zero s all e = subst (IsReady m) (some_inj x s e) all.0
 ready_at m (x ∷ states) (suc n) s all e = ready_at m states n s all.1 e
 
-pub at_the_end : (t : TopologyState) (H : List Full) (all : List Node) (n : ℕ) (first : Option Due) → slice_get all n ≡ None → IsFirstSo t H all n first → first ≡ least_due t H 0 all
-at_the_end t H all n first none so =
-    sym (earlier_alone first) ∙ ap (earlier first) (sym (at_drop_all (least_due t H n) all n (no_more all n none))) ∙ so.whole
+pub at_the_end : (lab : Lab) (H : List Full) (all : List Node) (n : ℕ) (first : Option Due) → slice_get all n ≡ None → IsFirstSo lab H all n first → first ≡ least_due lab H 0 all
+at_the_end lab H all n first none so =
+    sym (earlier_alone first) ∙ ap (earlier first) (sym (at_drop_all (least_due lab H n) all n (no_more all n none))) ∙ so.whole

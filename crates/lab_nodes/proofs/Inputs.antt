@@ -6,11 +6,11 @@ use Rattle.qualify.specs.declared.settings.Settings.{Settings}
 use Rattle.client_rules.specs.Journals.{client_entry, client_in, client_out, client_tick}
 use Rattle.relay_rules.specs.Standing.{RelaySettings}
 use Rattle.relay_rules.specs.Journals.{relay_entry, relay_in, relay_six, relay_tick}
-use Rattle.topology.specs.Rows.{TopologyState}
 use Rattle.topology.specs.declared.node.Node.{Node}
 use Rattle.topology.specs.declared.node.Node.TheVariants.{Server as server, Nat as nat, Client as client, Relay as relay, Native as native}
 use Rattle.history.specs.Full.{Full}
-use Rattle.legal.specs.Past.{Draws, journal, words}
+use Rattle.legal.specs.Lab.{Lab}
+use Rattle.legal.specs.Past.{journal, words}
 use Rattle.legal.specs.Settings.{client_settings, relay_settings}
 use Rattle.legal.specs.Emit.{entry_of}
 
@@ -29,24 +29,24 @@ relay_input s j m (from_six x) = refl
 relay_input s j m ticked = refl
 
 -- an entry is of what came
-pub input_is : (d : Draws) (t : TopologyState) (H : List Full) (m n : ℕ) (dst : Ep) (input : Input) (a : Node) → (entry_of d t H m n dst input a).input ≡ input
-input_is d t H m n dst (arrived from x) (server a) = refl
-input_is d t H m n dst (given x) (server a) = refl
-input_is d t H m n dst (from_six x) (server a) = refl
-input_is d t H m n dst ticked (server a) = refl
-input_is d t H m n dst (arrived from x) (nat a) = refl
-input_is d t H m n dst (given x) (nat a) = refl
-input_is d t H m n dst (from_six x) (nat a) = refl
-input_is d t H m n dst ticked (nat a) = refl
-input_is d t H m n dst (arrived from x) (client c) = client_input (client_settings t c) (journal n H) m (arrived from x) (words d n H)
-input_is d t H m n dst (given x) (client c) = client_input (client_settings t c) (journal n H) m (given x) (words d n H)
-input_is d t H m n dst (from_six x) (client c) = client_input (client_settings t c) (journal n H) m (from_six x) (words d n H)
-input_is d t H m n dst ticked (client c) = client_input (client_settings t c) (journal n H) m ticked (words d n H)
-input_is d t H m n dst (arrived from x) (relay r) = relay_input (relay_settings t n r) (journal n H).entries m (arrived from x)
-input_is d t H m n dst (given x) (relay r) = relay_input (relay_settings t n r) (journal n H).entries m (given x)
-input_is d t H m n dst (from_six x) (relay r) = relay_input (relay_settings t n r) (journal n H).entries m (from_six x)
-input_is d t H m n dst ticked (relay r) = relay_input (relay_settings t n r) (journal n H).entries m ticked
-input_is d t H m n dst (arrived from x) (native h) = refl
-input_is d t H m n dst (given x) (native h) = refl
-input_is d t H m n dst (from_six x) (native h) = refl
-input_is d t H m n dst ticked (native h) = refl
+pub input_is : (lab : Lab) (H : List Full) (m n : ℕ) (dst : Ep) (input : Input) (a : Node) → (entry_of lab H m n dst input a).input ≡ input
+input_is lab H m n dst (arrived from x) (server a) = refl
+input_is lab H m n dst (given x) (server a) = refl
+input_is lab H m n dst (from_six x) (server a) = refl
+input_is lab H m n dst ticked (server a) = refl
+input_is lab H m n dst (arrived from x) (nat a) = refl
+input_is lab H m n dst (given x) (nat a) = refl
+input_is lab H m n dst (from_six x) (nat a) = refl
+input_is lab H m n dst ticked (nat a) = refl
+input_is lab H m n dst (arrived from x) (client c) = client_input (client_settings lab.topology c) (journal n H) m (arrived from x) (words lab n H)
+input_is lab H m n dst (given x) (client c) = client_input (client_settings lab.topology c) (journal n H) m (given x) (words lab n H)
+input_is lab H m n dst (from_six x) (client c) = client_input (client_settings lab.topology c) (journal n H) m (from_six x) (words lab n H)
+input_is lab H m n dst ticked (client c) = client_input (client_settings lab.topology c) (journal n H) m ticked (words lab n H)
+input_is lab H m n dst (arrived from x) (relay r) = relay_input (relay_settings lab.topology n r) (journal n H).entries m (arrived from x)
+input_is lab H m n dst (given x) (relay r) = relay_input (relay_settings lab.topology n r) (journal n H).entries m (given x)
+input_is lab H m n dst (from_six x) (relay r) = relay_input (relay_settings lab.topology n r) (journal n H).entries m (from_six x)
+input_is lab H m n dst ticked (relay r) = relay_input (relay_settings lab.topology n r) (journal n H).entries m ticked
+input_is lab H m n dst (arrived from x) (native h) = refl
+input_is lab H m n dst (given x) (native h) = refl
+input_is lab H m n dst (from_six x) (native h) = refl
+input_is lab H m n dst ticked (native h) = refl

@@ -13,13 +13,13 @@ use Rattle.qualify.specs.declared.settings.Settings.{Settings}
 use Rattle.qualify.specs.Qualification.{qualification}
 use Rattle.client_rules.specs.Bearings as client_bearings
 use Rattle.relay_rules.specs.Bearings as relay_bearings
-use Rattle.topology.specs.Rows.{TopologyState}
 use Rattle.topology.specs.declared.node.Node.{Node}
 use Rattle.topology.specs.declared.node.Node.TheVariants.{Server as server, Nat as nat, Client as client, Relay as relay, Native as native}
 use Rattle.topology.specs.Topology.{nodes, node_at}
 use Rattle.history.specs.Full.{Full}
 use Rattle.legal.specs.Settings.{client_settings}
-use Rattle.legal.specs.Past.{Draws, now, journal}
+use Rattle.legal.specs.Lab.{Lab}
+use Rattle.legal.specs.Past.{now, journal}
 use Rattle.legal.specs.Left.{waits_until}
 use Rattle.legal.specs.Left as legal
 use Rattle.lab_nodes.specs.declared.node_state.NodeState.{NodeState}
@@ -51,44 +51,44 @@ ready_in m [] n all = tt
 ready_in m (s ∷ states) zero all = all.0
 ready_in m (s ∷ states) (suc n) all = ready_in m states n all.1
 
-same_moments : TableIsRead → (d : Draws) (t : TopologyState) (H : List Full) (n : ℕ) (w : ℕ → ℕ) (a : Node) (o : Option NodeState) → IsKeptIn t n a (past_of d t n H) o → IsReadyIn (now H) o
-    → sum_by w (due_moments (now H) a o) ≡ sum_by w (legal.due_moments t H n a)
-same_moments law d t H n w (client c) (Some (state.Client is)) kept ready =
+same_moments : TableIsRead → (lab : Lab) (H : List Full) (n : ℕ) (w : ℕ → ℕ) (a : Node) (o : Option NodeState) → IsKeptIn lab.topology n a (past_of lab n H) o → IsReadyIn (now H) o
+    → sum_by w (due_moments (now H) a o) ≡ sum_by w (legal.due_moments lab H n a)
+same_moments law lab H n w (client c) (Some (state.Client is)) kept ready =
     let j : Journal = journal n H in
-    let due : is.qualifier.now.due ≡ (qualification (client_settings t c) j).due = kept.stands.qualification.due ∙ ap (λ (s : Settings). (qualification s j).due) kept.settings in
+    let due : is.qualifier.now.due ≡ (qualification (client_settings lab.topology c) j).due = kept.stands.qualification.due ∙ ap (λ (s : Settings). (qualification s j).due) kept.settings in
     let peers : sum_by w (peers_due is.peers (now H)) ≡ sum_by w (legal.peers_due (client_bearings.mentions j.entries) (now H)) = same_peers law is.peers (client_bearings.mentions j.entries) (now H) w kept.stands.peers ready in
     sum_by-append w (option_to_list is.qualifier.now.due) (peers_due is.peers (now H))
     ∙ ap (λ (k : ℕ). sum_by w (option_to_list is.qualifier.now.due) + k) peers
     ∙ ap (λ (x : Option ℕ). sum_by w (option_to_list x) + sum_by w (legal.peers_due (client_bearings.mentions j.entries) (now H))) due
-    ∙ sym (sum_by-append w (option_to_list (qualification (client_settings t c) j).due) (legal.peers_due (client_bearings.mentions j.entries) (now H)))
-same_moments law d t H n w (client c) (Some (state.Nat is)) kept ready = absurd kept
-same_moments law d t H n w (client c) (Some (state.Relay is)) kept ready = absurd kept
-same_moments law d t H n w (client c) (Some state.Nothing) kept ready = absurd kept
-same_moments law d t H n w (client c) None kept ready = absurd kept
-same_moments law d t H n w (relay r) (Some (state.Relay is)) kept ready = same_peers law is.peers (relay_bearings.mentions (journal n H).entries) (now H) w kept.stands.peers ready
-same_moments law d t H n w (relay r) (Some (state.Nat is)) kept ready = absurd kept
-same_moments law d t H n w (relay r) (Some (state.Client is)) kept ready = absurd kept
-same_moments law d t H n w (relay r) (Some state.Nothing) kept ready = absurd kept
-same_moments law d t H n w (relay r) None kept ready = absurd kept
-same_moments law d t H n w (server s) o kept ready = refl
-same_moments law d t H n w (nat s) o kept ready = refl
-same_moments law d t H n w (native s) o kept ready = refl
+    ∙ sym (sum_by-append w (option_to_list (qualification (client_settings lab.topology c) j).due) (legal.peers_due (client_bearings.mentions j.entries) (now H)))
+same_moments law lab H n w (client c) (Some (state.Nat is)) kept ready = absurd kept
+same_moments law lab H n w (client c) (Some (state.Relay is)) kept ready = absurd kept
+same_moments law lab H n w (client c) (Some state.Nothing) kept ready = absurd kept
+same_moments law lab H n w (client c) None kept ready = absurd kept
+same_moments law lab H n w (relay r) (Some (state.Relay is)) kept ready = same_peers law is.peers (relay_bearings.mentions (journal n H).entries) (now H) w kept.stands.peers ready
+same_moments law lab H n w (relay r) (Some (state.Nat is)) kept ready = absurd kept
+same_moments law lab H n w (relay r) (Some (state.Client is)) kept ready = absurd kept
+same_moments law lab H n w (relay r) (Some state.Nothing) kept ready = absurd kept
+same_moments law lab H n w (relay r) None kept ready = absurd kept
+same_moments law lab H n w (server s) o kept ready = refl
+same_moments law lab H n w (nat s) o kept ready = refl
+same_moments law lab H n w (native s) o kept ready = refl
 
 -- OF ALL
 
 -- of the nodes from number n on
-same_from : TableIsRead → (d : Draws) (t : TopologyState) (states : List NodeState) (H : List Full) (w : ℕ → ℕ) (n : ℕ) (rest : List Node) → NodesOf d t states H → AreReady (now H) states
-    → ((k : ℕ) → slice_get (nodes t) (n + k) ≡ slice_get rest k) → sum_by w (all_due (now H) states n rest) ≡ sum_by w (legal.all_due t H n rest)
-same_from law d t states H w n [] kept ready same = refl
-same_from law d t states H w n (a ∷ rest) kept ready same =
+same_from : TableIsRead → (lab : Lab) (states : List NodeState) (H : List Full) (w : ℕ → ℕ) (n : ℕ) (rest : List Node) → NodesOf lab states H → AreReady (now H) states
+    → ((k : ℕ) → slice_get (nodes lab.topology) (n + k) ≡ slice_get rest k) → sum_by w (all_due (now H) states n rest) ≡ sum_by w (legal.all_due lab H n rest)
+same_from law lab states H w n [] kept ready same = refl
+same_from law lab states H w n (a ∷ rest) kept ready same =
     let zeroth : n + 0 ≡ n = omega arith in
-    let here : node_at t n ≡ Some a = subst (λ (k : ℕ). slice_get (nodes t) k ≡ Some a) zeroth (same 0) in
-    let tail : (k : ℕ) → slice_get (nodes t) (n + 1 + k) ≡ slice_get rest k = λ (k : ℕ). let moved : n + suc k ≡ n + 1 + k = omega arith in subst (λ (j : ℕ). slice_get (nodes t) j ≡ slice_get rest k) moved (same (suc k)) in
-    let one : sum_by w (due_moments (now H) a (slice_get states n)) ≡ sum_by w (legal.due_moments t H n a) = same_moments law d t H n w a (slice_get states n) (kept n a here) (ready_in (now H) states n ready) in
+    let here : node_at lab.topology n ≡ Some a = subst (λ (k : ℕ). slice_get (nodes lab.topology) k ≡ Some a) zeroth (same 0) in
+    let tail : (k : ℕ) → slice_get (nodes lab.topology) (n + 1 + k) ≡ slice_get rest k = λ (k : ℕ). let moved : n + suc k ≡ n + 1 + k = omega arith in subst (λ (j : ℕ). slice_get (nodes lab.topology) j ≡ slice_get rest k) moved (same (suc k)) in
+    let one : sum_by w (due_moments (now H) a (slice_get states n)) ≡ sum_by w (legal.due_moments lab H n a) = same_moments law lab H n w a (slice_get states n) (kept n a here) (ready_in (now H) states n ready) in
     sum_by-append w (due_moments (now H) a (slice_get states n)) (all_due (now H) states (n + 1) rest)
     ∙ ap (λ (k : ℕ). k + sum_by w (all_due (now H) states (n + 1) rest)) one
-    ∙ ap (λ (k : ℕ). sum_by w (legal.due_moments t H n a) + k) (same_from law d t states H w (n + 1) rest kept ready tail)
-    ∙ sym (sum_by-append w (legal.due_moments t H n a) (legal.all_due t H (n + 1) rest))
+    ∙ ap (λ (k : ℕ). sum_by w (legal.due_moments lab H n a) + k) (same_from law lab states H w (n + 1) rest kept ready tail)
+    ∙ sym (sum_by-append w (legal.due_moments lab H n a) (legal.all_due lab H (n + 1) rest))
 
 pub as_in_the_past : TableIsRead → EachSumIsOfThePast
-as_in_the_past law d t states H w kept ready = same_from law d t states H w 0 (nodes t) kept ready (λ (k : ℕ). let same : 0 + k ≡ k = omega arith in ap (slice_get (nodes t)) same)
+as_in_the_past law lab states H w kept ready = same_from law lab states H w 0 (nodes lab.topology) kept ready (λ (k : ℕ). let same : 0 + k ≡ k = omega arith in ap (slice_get (nodes lab.topology)) same)

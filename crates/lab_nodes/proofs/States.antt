@@ -12,7 +12,7 @@ use Rattle.topology.specs.declared.node.Node.{Node}
 use Rattle.topology.specs.declared.node.Node.TheVariants.{Server as server, Nat as nat, Client as client, Relay as relay, Native as native}
 use Rattle.topology.specs.Topology.{nodes, node_at}
 use Rattle.qualify.specs.Qualifier.{IsSettings}
-use Rattle.legal.specs.Past.{Draws}
+use Rattle.legal.specs.Lab.{Lab}
 use Rattle.legal.specs.Settings.{client_settings}
 use Rattle.lab_nodes.specs.declared.node_state.NodeState.{NodeState}
 use Rattle.lab_nodes.specs.NodeState.{past_of, IsKeptIn, NodesOf, IsReady, AreReady}
@@ -65,10 +65,10 @@ is_settings t n c rules e = let r = client_rules t n c rules e in record { least
 -- NEW NODES
 
 -- what is kept of the first nodes stands for their pasts, and there are no more than nodes
-pub record FirstStand (d : Draws) (t : TopologyState) (states : List NodeState) : Type 0 where
-  pub kept : (n : ℕ) (a : Node) → node_at t n ≡ Some a → n < length states → IsKeptIn t n a (past_of d t n []) (slice_get states n)
+pub record FirstStand (lab : Lab) (states : List NodeState) : Type 0 where
+  pub kept : (n : ℕ) (a : Node) → node_at lab.topology n ≡ Some a → n < length states → IsKeptIn lab.topology n a (past_of lab n []) (slice_get states n)
   pub ready : AreReady 0 states
-  pub few : length states ≤ length (nodes t)
+  pub few : length states ≤ length (nodes lab.topology)
 
 slice_get_end : {A : Type 0} → (xs : List A) (n : ℕ) → slice_get xs n ≡ None → length xs ≤ n
 slice_get_end [] n e = omega arith
@@ -97,34 +97,34 @@ less_or_last (suc n) (suc m) h = by (less_or_last n m (omega (arith, h))) where
   by (inl less) = inl (omega (arith, less))
   by (inr same) = inr (ap (λ (k : ℕ). suc k) same)
 
-pub none_first : (d : Draws) (t : TopologyState) → FirstStand d t []
-none_first d t = record { kept = λ n a e h. absurd (omega (arith, h)); ready = tt; few = omega arith }
+pub none_first : (lab : Lab) → FirstStand lab []
+none_first lab = record { kept = λ n a e h. absurd (omega (arith, h)); ready = tt; few = omega arith }
 
 -- one more
-pub first_more : (d : Draws) (t : TopologyState) (states : List NodeState) (a : Node) (s : NodeState) → node_at t (length states) ≡ Some a → FirstStand d t states
-    → IsKeptIn t (length states) a (past_of d t (length states) []) (Some s) → IsReady 0 s → FirstStand d t (states ++ s ∷ [])
-first_more d t states a s at so kept ready =
+pub first_more : (lab : Lab) (states : List NodeState) (a : Node) (s : NodeState) → node_at lab.topology (length states) ≡ Some a → FirstStand lab states
+    → IsKeptIn lab.topology (length states) a (past_of lab (length states) []) (Some s) → IsReady 0 s → FirstStand lab (states ++ s ∷ [])
+first_more lab states a s at so kept ready =
     let i = length states in
     let longer : length (states ++ s ∷ []) ≡ i + 1 = length-append states (s ∷ []) in
     record {
       kept = λ n b e h. by n b e (less_or_last n i (omega (arith, longer, h)));
       ready = ready_more 0 states s so.ready ready;
-      few = let within = slice_get_within (nodes t) i a at in omega (arith, longer, within);
+      few = let within = slice_get_within (nodes lab.topology) i a at in omega (arith, longer, within);
     }
   where
-    by : (n : ℕ) (b : Node) → node_at t n ≡ Some b → (n < length states) ⊎ (n ≡ length states) → IsKeptIn t n b (past_of d t n []) (slice_get (states ++ s ∷ []) n)
-    by n b e (inl less) = subst (IsKeptIn t n b (past_of d t n [])) (sym (slice_get_front states s n less)) (so.kept n b e less)
+    by : (n : ℕ) (b : Node) → node_at lab.topology n ≡ Some b → (n < length states) ⊎ (n ≡ length states) → IsKeptIn lab.topology n b (past_of lab n []) (slice_get (states ++ s ∷ []) n)
+    by n b e (inl less) = subst (IsKeptIn lab.topology n b (past_of lab n [])) (sym (slice_get_front states s n less)) (so.kept n b e less)
     by n b e (inr same) =
-        let here : node_at t (length states) ≡ Some b = ap (node_at t) (sym same) ∙ e in
+        let here : node_at lab.topology (length states) ≡ Some b = ap (node_at lab.topology) (sym same) ∙ e in
         let is_a : a ≡ b = some_inj a b (sym at ∙ here) in
-        let there = subst (IsKeptIn t (length states) b (past_of d t (length states) [])) (sym (slice_get_last states s)) (subst (λ (z : Node). IsKeptIn t (length states) z (past_of d t (length states) []) (Some s)) is_a kept) in
-        subst (λ (k : ℕ). IsKeptIn t k b (past_of d t k []) (slice_get (states ++ s ∷ []) k)) (sym same) there
+        let there = subst (IsKeptIn lab.topology (length states) b (past_of lab (length states) [])) (sym (slice_get_last states s)) (subst (λ (z : Node). IsKeptIn lab.topology (length states) z (past_of lab (length states) []) (Some s)) is_a kept) in
+        subst (λ (k : ℕ). IsKeptIn lab.topology k b (past_of lab k []) (slice_get (states ++ s ∷ []) k)) (sym same) there
 
 -- all of them
-pub first_stand : (d : Draws) (t : TopologyState) (states : List NodeState) → node_at t (length states) ≡ None → FirstStand d t states → NodesOf d t states []
-first_stand d t states none so = λ n a e.
-    let within = slice_get_within (nodes t) n a e in
-    let end = slice_get_end (nodes t) (length states) none in
+pub first_stand : (lab : Lab) (states : List NodeState) → node_at lab.topology (length states) ≡ None → FirstStand lab states → NodesOf lab states []
+first_stand lab states none so = λ n a e.
+    let within = slice_get_within (nodes lab.topology) n a e in
+    let end = slice_get_end (nodes lab.topology) (length states) none in
     so.kept n a e (omega (arith, within, end))
 
 -- LISTS WITH ONE ELEMENT REPLACED

@@ -2,7 +2,7 @@
 use Rattle.std.proofs.Common.{◌≡◌, ℕ, zero, suc, ◌+◌, ◌%◌, ◌^◌, ◌<◌, List, ap, ◌∙◌, arith}
 use Rattle.rand_chacha.specs.ChaCha.{ChaCha, word_at, key_of, of_seed}
 use Rattle.qualify.specs.Generator.{chacha20, words_of}
-use Rattle.legal.specs.Legal.{stream_key, draws}
+use Rattle.legal.specs.Lab.{stream_key, draws}
 
 abbrev at : List ℕ → ℕ → ChaCha
 at key place = record { key = key; stream = 0; word_pos = place }

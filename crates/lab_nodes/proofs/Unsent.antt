@@ -14,8 +14,6 @@ use Rattle.teredo_node.specs.declared.fate.Fate.TheVariants as fate
 use Rattle.teredo_node.specs.Step.{Send}
 use Rattle.teredo_node.specs.Sends.{has_any}
 use Rattle.teredo_node.specs.Journal.{Input, arrived, given, from_six, ticked, Entry, Journal, Words}
-use Rattle.nat_kinds.specs.History.{Entry as NatEntry}
-use Rattle.nat_kinds.specs.declared.settings.NatSettings.{NatSettings}
 use Rattle.qualify.specs.declared.settings.Settings.{Settings}
 use Rattle.qualify.specs.Advertisements.{heard}
 use Rattle.client_core.specs.Client.{lists}
@@ -30,13 +28,13 @@ use Rattle.relay_rules.specs.Standing.{RelaySettings, standing_of as relay_stand
 use Rattle.relay_rules.specs.Transmission.{given as given_to, transmission_row, transmission_step, transmission}
 use Rattle.relay_rules.specs.Laws.{FateOfTransmission}
 use Rattle.relay_rules.specs.Journals.{relay_six}
-use Rattle.topology.specs.Rows.{TopologyState}
 use Rattle.topology.specs.declared.node.Node.{Node}
 use Rattle.topology.specs.declared.node.Node.TheVariants.{Server as server, Nat as nat, Client as client, Relay as relay, Native as native}
-use Rattle.topology.specs.Topology.{nat_at, settings_of_nat}
+use Rattle.topology.specs.Chains.{way_out}
 use Rattle.history.specs.Full.{Made, Full}
-use Rattle.legal.specs.Past.{Draws, nat_history, armed}
-use Rattle.legal.specs.Emit.{entry_of, through_nat, outright, six_made, made_of}
+use Rattle.legal.specs.Lab.{Lab}
+use Rattle.legal.specs.Past.{armed}
+use Rattle.legal.specs.Emit.{entry_of, by_way, outright, six_made, sendings}
 use Rattle.lab_nodes.specs.Memory.{takes_memory}
 use Rattle.lab_nodes.specs.Answers.{IsNoNative, SendsOrKeeps}
 
@@ -45,25 +43,25 @@ use Rattle.lab_nodes.specs.Answers.{IsNoNative, SendsOrKeeps}
 filled : {A : Type 0} (x : A) (xs : List A) → x ∷ xs ≡ [] → ⊥
 filled x xs e = false≢true (sym (ap has_any e))
 
-none_through : (s : NatSettings) (fails : Option ℕ) (m : ℕ) (inside : Ep) (i : ℕ) (h : List NatEntry) (sends : List Send) → through_nat s fails m inside i h sends ≡ [] → sends ≡ []
-none_through s fails m inside i h [] e = refl
-none_through s fails m inside i h (y ∷ ys) e = absurd (false≢true (sym (ap has_any e)))
+none_by_way : (lab : Lab) (H : List Full) (m : ℕ) (way : List ℕ) (inside : Ep) (sends : List Send) → (by_way lab H m way inside (armed H) 0 [] sends).made ≡ [] → sends ≡ []
+none_by_way lab H m way inside [] e = refl
+none_by_way lab H m way inside (y ∷ ys) e = absurd (false≢true (sym (ap has_any e)))
 
 none_outright : (a : Node) (fails : Option ℕ) (i : ℕ) (sends : List Send) (more : List Made) → outright a fails i sends ++ more ≡ [] → sends ≡ []
 none_outright a fails i [] more e = refl
 none_outright a fails i (y ∷ ys) more e = absurd (false≢true (sym (ap has_any e)))
 
 -- where nothing is made of an entry it sends nothing
-pub none_sent : (d : Draws) (t : TopologyState) (H : List Full) (m n : ℕ) (dst : Ep) (input : Input) (a : Node) → IsNoNative a
-    → made_of t H m (entry_of d t H m n dst input a) a ≡ [] → (entry_of d t H m n dst input a).step.sends ≡ []
-none_sent d t H m n dst input (server a) no_native e = let x = entry_of d t H m n dst input (server a) in none_outright (server a) (armed H) 0 x.step.sends (six_made x.input x.step.six) e
-none_sent d t H m n dst input (client c) no_native e = none_through (settings_of_nat (nat_at t c.nat)) (armed H) m c.inside 0 (nat_history t c.nat H) (entry_of d t H m n dst input (client c)).step.sends e
-none_sent d t H m n dst input (relay r) no_native e = let x = entry_of d t H m n dst input (relay r) in none_outright (relay r) (armed H) 0 x.step.sends (six_made x.input x.step.six) e
-none_sent d t H m n dst input (native h) no_native e = absurd no_native
-none_sent d t H m n dst (arrived from x) (nat a) no_native e = refl
-none_sent d t H m n dst (given x) (nat a) no_native e = refl
-none_sent d t H m n dst (from_six x) (nat a) no_native e = refl
-none_sent d t H m n dst ticked (nat a) no_native e = refl
+pub none_sent : (lab : Lab) (H : List Full) (m n : ℕ) (dst : Ep) (input : Input) (a : Node) → IsNoNative a
+    → (sendings lab H m (entry_of lab H m n dst input a) a).made ≡ [] → (entry_of lab H m n dst input a).step.sends ≡ []
+none_sent lab H m n dst input (server a) no_native e = let x = entry_of lab H m n dst input (server a) in none_outright (server a) (armed H) 0 x.step.sends (six_made x.input x.step.six) e
+none_sent lab H m n dst input (client c) no_native e = none_by_way lab H m (way_out lab.chain c.nat) c.inside (entry_of lab H m n dst input (client c)).step.sends e
+none_sent lab H m n dst input (relay r) no_native e = let x = entry_of lab H m n dst input (relay r) in none_outright (relay r) (armed H) 0 x.step.sends (six_made x.input x.step.six) e
+none_sent lab H m n dst input (native h) no_native e = absurd no_native
+none_sent lab H m n dst (arrived from x) (nat a) no_native e = refl
+none_sent lab H m n dst (given x) (nat a) no_native e = refl
+none_sent lab H m n dst (from_six x) (nat a) no_native e = refl
+none_sent lab H m n dst ticked (nat a) no_native e = refl
 
 -- WHERE NOTHING IS SENT
 

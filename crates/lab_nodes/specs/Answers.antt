@@ -8,12 +8,11 @@ use Rattle.relay_core.specs.Relay.{RelayStandsFor}
 use Rattle.relay_core.specs.Relay as relays
 use Rattle.client_core.specs.declared.client.Client.{Client}
 use Rattle.client_core.specs.Client.{ClientStandsFor, next_entry}
-use Rattle.topology.specs.Rows.{TopologyState}
 use Rattle.topology.specs.declared.node.Node.{Node}
 use Rattle.topology.specs.declared.node.Node.TheVariants.{Nat as nat, Client as client, Relay as relay, Native as native}
 use Rattle.history.specs.Full.{Full}
-use Rattle.legal.specs.Past.{Draws}
-use Rattle.legal.specs.Emit.{native_packet, made_of, address_by, handed_by}
+use Rattle.legal.specs.Lab.{Lab}
+use Rattle.legal.specs.Emit.{native_packet, sendings, address_by, handed_by}
 use Rattle.lab_nodes.specs.Call.{entry_in}
 use Rattle.lab_nodes.specs.declared.call.Call.{Call}
 use Rattle.lab_nodes.specs.declared.node_state.NodeState.{NodeState}
@@ -50,15 +49,15 @@ RelayStarves r m input = (j : List Entry) → RelayStandsFor r j → SendsOrKeep
 
 -- for each past that the state stood for, the step is that of the next entry, and it stands for the past with that entry
 pub record Answers (x : Call) (old new : NodeState) (step : Step) : Type 0 where
-  pub did : (d : Draws) (t : TopologyState) (H : List Full) → IsKept t x.number x.node (past_of d t x.number H) old
-      → step ≡ (entry_in d t H x).step
-  pub keeps : (d : Draws) (t : TopologyState) (H : List Full) → IsKept t x.number x.node (past_of d t x.number H) old
-      → IsKept t x.number x.node (with_call (entry_in d t H x) (past_of d t x.number H)) new
+  pub did : (lab : Lab) (H : List Full) → IsKept lab.topology x.number x.node (past_of lab x.number H) old
+      → step ≡ (entry_in lab H x).step
+  pub keeps : (lab : Lab) (H : List Full) → IsKept lab.topology x.number x.node (past_of lab x.number H) old
+      → IsKept lab.topology x.number x.node (with_call (entry_in lab H x) (past_of lab x.number H)) new
 
 -- memory was wanting
 abbrev pub Wants : Call → NodeState → Type 0
-Wants x old = (d : Draws) (t : TopologyState) (H : List Full) → IsKept t x.number x.node (past_of d t x.number H) old
-    → SendsOrKeeps (entry_in d t H x).step
+Wants x old = (lab : Lab) (H : List Full) → IsKept lab.topology x.number x.node (past_of lab x.number H) old
+    → SendsOrKeeps (entry_in lab H x).step
 
 -- ALL THAT COMES OF A CALL
 
@@ -74,19 +73,19 @@ packet_by (nat a) e = None
 packet_by (native h) e = native_packet h e.input
 packet_by _ e = six_part e.input e.step.six
 
-pub record AsksFor (d : Draws) (t : TopologyState) (H : List Full) (x : Call) (new : List NodeState) (step : Step) (asked : Asked) : Type 0 where
-  pub did : step ≡ (entry_in d t H x).step
-  pub keeps : IsKeptIn t x.number x.node (with_call (entry_in d t H x) (past_of d t x.number H)) (slice_get new x.number)
-  pub packet : asked.packet ≡ packet_by x.node (entry_in d t H x)
-  pub handed : asked.handed ≡ option_map length (handed_by (entry_in d t H x))
-  pub address : asked.address ≡ address_by t H x.number (entry_in d t H x) x.node
+pub record AsksFor (lab : Lab) (H : List Full) (x : Call) (new : List NodeState) (step : Step) (asked : Asked) : Type 0 where
+  pub did : step ≡ (entry_in lab H x).step
+  pub keeps : IsKeptIn lab.topology x.number x.node (with_call (entry_in lab H x) (past_of lab x.number H)) (slice_get new x.number)
+  pub packet : asked.packet ≡ packet_by x.node (entry_in lab H x)
+  pub handed : asked.handed ≡ option_map length (handed_by (entry_in lab H x))
+  pub address : asked.address ≡ address_by lab H x.number (entry_in lab H x) x.node
 
 -- for each past that the node's state stood for
 abbrev pub Asks : Call → List NodeState → List NodeState → Step → Asked → Type 0
-Asks x old new step asked = (d : Draws) (t : TopologyState) (H : List Full) → IsKeptIn t x.number x.node (past_of d t x.number H) (slice_get old x.number)
-    → AsksFor d t H x new step asked
+Asks x old new step asked = (lab : Lab) (H : List Full) → IsKeptIn lab.topology x.number x.node (past_of lab x.number H) (slice_get old x.number)
+    → AsksFor lab H x new step asked
 
 -- memory was wanting: what it does keeps something, or sends
 abbrev pub WantsAny : Call → List NodeState → Type 0
-WantsAny x old = (d : Draws) (t : TopologyState) (H : List Full) → IsKeptIn t x.number x.node (past_of d t x.number H) (slice_get old x.number)
-    → made_of t H x.now.0 (entry_in d t H x) x.node ≡ [] → takes_memory (entry_in d t H x).step.fate ≡ true
+WantsAny x old = (lab : Lab) (H : List Full) → IsKeptIn lab.topology x.number x.node (past_of lab x.number H) (slice_get old x.number)
+    → (sendings lab H x.now.0 (entry_in lab H x) x.node).made ≡ [] → takes_memory (entry_in lab H x).step.fate ≡ true

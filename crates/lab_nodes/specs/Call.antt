@@ -2,10 +2,9 @@
 use Rattle.std.specs.Prelude.{◌≤◌, List, length}
 use Rattle.td_base.specs.declared.endpoint.Ep.{Ep}
 use Rattle.teredo_node.specs.Journal.{Input, arrived, given, from_six, ticked, Entry}
-use Rattle.topology.specs.Rows.{TopologyState}
 use Rattle.td_base.specs.declared.datagram.TheConstants.{DATAGRAM_MAX}
 use Rattle.history.specs.Full.{Full}
-use Rattle.legal.specs.Past.{Draws}
+use Rattle.legal.specs.Lab.{Lab}
 use Rattle.legal.specs.Emit.{entry_of}
 use Rattle.legal.specs.Next.{no_ep}
 use Rattle.lab_nodes.specs.declared.call.Coming.{Coming}
@@ -32,5 +31,5 @@ IsShortInput (from_six x) = length x ≤ DATAGRAM_MAX
 IsShortInput ticked = Unit {0}
 
 -- the entry of a call in the node's journal
-abbrev pub entry_in : Draws → TopologyState → List Full → Call → Entry
-entry_in d t H x = entry_of d t H x.now.0 x.number (dst_lent x.coming) (input_lent x.coming) x.node
+abbrev pub entry_in : Lab → List Full → Call → Entry
+entry_in lab H x = entry_of lab H x.now.0 x.number (dst_lent x.coming) (input_lent x.coming) x.node

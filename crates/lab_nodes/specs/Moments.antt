@@ -2,12 +2,12 @@
 use Rattle.std.specs.Prelude.{◌≡◌, ℕ, ◌+◌, List, [], ◌∷◌, ◌++◌, flat_map, sum_by, slice_get, option_to_list, Option, Some}
 use Rattle.td_base.specs.declared.ipv6.Ip6.{Ip6}
 use Rattle.peer_list.specs.Table.{Table, known_to, listed_in}
-use Rattle.topology.specs.Rows.{TopologyState}
 use Rattle.topology.specs.declared.node.Node.{Node}
 use Rattle.topology.specs.declared.node.Node.TheVariants.{Client as client, Relay as relay}
 use Rattle.topology.specs.Topology.{nodes}
 use Rattle.history.specs.Full.{Full}
-use Rattle.legal.specs.Past.{Draws, now}
+use Rattle.legal.specs.Lab.{Lab}
+use Rattle.legal.specs.Past.{now}
 use Rattle.legal.specs.Left.{waits_until}
 use Rattle.legal.specs.Left as legal
 use Rattle.lab_nodes.specs.declared.node_state.NodeState.{NodeState}
@@ -31,5 +31,5 @@ all_due m states n (a ∷ rest) = due_moments m a (slice_get states n) ++ all_du
 
 -- whatever is summed over them is what their pasts give
 abbrev pub EachSumIsOfThePast : Type 0
-EachSumIsOfThePast = (d : Draws) (t : TopologyState) (states : List NodeState) (H : List Full) (weight : ℕ → ℕ) → NodesOf d t states H → AreReady (now H) states
-    → sum_by weight (all_due (now H) states 0 (nodes t)) ≡ sum_by weight (legal.all_due t H 0 (nodes t))
+EachSumIsOfThePast = (lab : Lab) (states : List NodeState) (H : List Full) (weight : ℕ → ℕ) → NodesOf lab states H → AreReady (now H) states
+    → sum_by weight (all_due (now H) states 0 (nodes lab.topology)) ≡ sum_by weight (legal.all_due lab H 0 (nodes lab.topology))

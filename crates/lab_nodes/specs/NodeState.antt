@@ -19,7 +19,8 @@ use Rattle.topology.specs.declared.node.Node.{Node}
 use Rattle.topology.specs.declared.node.Node.TheVariants.{Server as server, Nat as nat, Client as client, Relay as relay, Native as native}
 use Rattle.topology.specs.Topology.{node_at, nat_settings}
 use Rattle.history.specs.Full.{Full}
-use Rattle.legal.specs.Past.{Draws, journal, words, nat_history}
+use Rattle.legal.specs.Lab.{Lab}
+use Rattle.legal.specs.Past.{journal, words, nat_history}
 use Rattle.legal.specs.Settings.{client_settings, relay_settings}
 use Rattle.lab_nodes.specs.declared.node_state.NodeState.{NodeState}
 use Rattle.lab_nodes.specs.declared.node_state.NodeState.TheVariants as state
@@ -30,8 +31,8 @@ pub record NodePast : Type 0 where
   pub journal : Journal
   pub words : Words
 
-abbrev pub past_of : Draws → TopologyState → ℕ → List Full → NodePast
-past_of d t n H = record { history = nat_history t n H; journal = journal n H; words = words d n H }
+abbrev pub past_of : Lab → ℕ → List Full → NodePast
+past_of lab n H = record { history = nat_history lab n H; journal = journal n H; words = words lab n H }
 
 -- a NAT is set up as its row says, and stands for this history
 pub record IsNatOf (a : NatNode) (is : NatState) (h : List Entry) : Type 0 where
@@ -64,8 +65,8 @@ IsKeptIn t n a x None = ⊥
 IsKeptIn t n a x (Some s) = IsKept t n a x s
 
 -- for each node of the topology one is kept, by its number, and stands for what happened to it
-abbrev pub NodesOf : Draws → TopologyState → List NodeState → List Full → Type 0
-NodesOf d t states H = (n : ℕ) (a : Node) → node_at t n ≡ Some a → IsKeptIn t n a (past_of d t n H) (slice_get states n)
+abbrev pub NodesOf : Lab → List NodeState → List Full → Type 0
+NodesOf lab states H = (n : ℕ) (a : Node) → node_at lab.topology n ≡ Some a → IsKeptIn lab.topology n a (past_of lab n H) (slice_get states n)
 
 -- it was last called at this moment or before
 abbrev pub IsReady : ℕ → NodeState → Type 0

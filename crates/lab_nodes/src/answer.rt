@@ -6,8 +6,8 @@ ghost use Rattle.topology.specs.Rows.{TopologyState};
 ghost use Rattle.topology.specs.declared.node.Node.TheVariants.{Native as native};
 ghost use Rattle.teredo_node.specs.Journal.{Entry};
 ghost use Rattle.history.specs.Full.{Full};
-ghost use Rattle.legal.specs.Past.{Draws};
-ghost use Rattle.legal.specs.Emit.{made_of, address_by};
+ghost use Rattle.legal.specs.Lab.{Lab};
+ghost use Rattle.legal.specs.Emit.{sendings, address_by};
 ghost use Rattle.lab_nodes.specs.Call.{input_lent, IsShortInput};
 ghost use Rattle.lab_nodes.specs.NodeState.{past_of, IsKept, IsReady, AreReady};
 ghost use Rattle.lab_nodes.specs.Changes.{with_call};
@@ -51,8 +51,8 @@ fn answer(state: &mut NodeState, call: Call<'_>, step: &mut Step) -> Result<(), 
 
 /// The address that a node got by its step, whose state this is after it: a client's.
 fn address_of(node: Node, state: &NodeState, step: &Step) -> Option<Ip6>
-    ensures { (d : Draws) (t : TopologyState) (H : List Full) (n : ℕ) (e : Entry) → e.step ≡ step.now
-        → IsKept t n node (with_call e (past_of d t n H)) state.now → result ≡ address_by t H n e node }
+    ensures { (lab : Lab) (H : List Full) (n : ℕ) (e : Entry) → e.step ≡ step.now
+        → IsKept lab.topology n node (with_call e (past_of lab n H)) state.now → result ≡ address_by lab H n e node }
 {
     match node {
         Node::Client(_) => address_by_step(state, step),
@@ -68,8 +68,8 @@ fn packet_of(alloc: Global, call: Call<'_>, step: &Step) -> Result<Option<Octets
     requires kind { IsNoNative call.node }
     ensures made { IfOk result (λ packet. (e : Entry) → e.input ≡ input_lent call.entry.coming → e.step ≡ step.now → packet ≡ packet_by call.entry.node e) }
     ensures short { IsShortInput (input_lent call.entry.coming) → IfOk result (λ packet. IfSome packet (λ copied. length copied ≤ DATAGRAM_MAX)) }
-    ensures needs { OnErr result ((d : Draws) (t : TopologyState) (H : List Full) (m : ℕ) (e : Entry) → e.input ≡ input_lent call.entry.coming → e.step ≡ step.now
-        → made_of t H m e call.entry.node ≢ []) }
+    ensures needs { OnErr result ((lab : Lab) (H : List Full) (m : ℕ) (e : Entry) → e.input ≡ input_lent call.entry.coming → e.step ≡ step.now
+        → (sendings lab H m e call.entry.node).made ≢ []) }
 {
     match call.node {
         Node::Client(_) => Ok(None),

@@ -8,7 +8,7 @@ ghost use Rattle.teredo_node.specs.Journal.{Entry};
 ghost use Rattle.client_core.specs.Client.{IsCallable, Does};
 ghost use Rattle.qualify.specs.Turns.{turn};
 ghost use Rattle.history.specs.Full.{Full};
-ghost use Rattle.legal.specs.Past.{Draws};
+ghost use Rattle.legal.specs.Lab.{Lab};
 ghost use Rattle.legal.specs.Emit.{sets_address, address_by};
 ghost use Rattle.lab_nodes.specs.Call.{input_lent};
 ghost use Rattle.lab_nodes.specs.NodeState.{past_of, IsKept, IsReady};
@@ -79,8 +79,8 @@ fn gives_address(fate: Fate) -> bool
 
 /// The address that a client got by its step.
 pub fn address_by_step(state: &NodeState, step: &Step) -> Option<Ip6>
-    ensures { (d : Draws) (t : TopologyState) (H : List Full) (n : ℕ) (e : Entry) (row : ClientNode) → e.step ≡ step.now
-        → IsKept t n (client row) (with_call e (past_of d t n H)) state.now → result ≡ address_by t H n e (client row) }
+    ensures { (lab : Lab) (H : List Full) (n : ℕ) (e : Entry) (row : ClientNode) → e.step ≡ step.now
+        → IsKept lab.topology n (client row) (with_call e (past_of lab n H)) state.now → result ≡ address_by lab H n e (client row) }
 {
     if !gives_address(step.fate()) {
         return None;

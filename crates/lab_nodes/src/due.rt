@@ -5,7 +5,9 @@ ghost use Rattle.topology.specs.Rows.{TopologyState};
 ghost use Rattle.topology.specs.declared.node.Node.{Node};
 ghost use Rattle.topology.specs.Topology.{node_at, nodes};
 ghost use Rattle.history.specs.Full.{Full};
-ghost use Rattle.legal.specs.Past.{Draws, now};
+ghost use Rattle.topology.specs.Chains.{Behind};
+ghost use Rattle.legal.specs.Lab.{Draws, Lab, lab_on};
+ghost use Rattle.legal.specs.Past.{now};
 ghost use Rattle.legal.specs.Emit.{due_of};
 ghost use Rattle.legal.specs.Next as next;
 ghost use Rattle.lab_nodes.specs.NodeState.{past_of, IsKept, NodesOf, IsReady, AreReady};
@@ -28,8 +30,8 @@ pub struct Due {
 fn due_of(node: &Node, state: &NodeState, at: Millis) -> Option<Millis>
     requires ready { IsReady at.0 state.now }
     requires early { at.0 < CLOCK_END_MS }
-    ensures { (d : Draws) (t : TopologyState) (H : List Full) (n : ℕ) → IsKept t n node.now (past_of d t n H) state.now
-        → option_map (λ m. m.0) result ≡ due_of t H at.0 n node.now }
+    ensures { (lab : Lab) (H : List Full) (n : ℕ) → IsKept lab.topology n node.now (past_of lab n H) state.now
+        → option_map (λ m. m.0) result ≡ due_of lab H at.0 n node.now }
 {
     match node {
         Node::Client(_) => match state {
@@ -53,8 +55,8 @@ fn due_of(node: &Node, state: &NodeState, at: Millis) -> Option<Millis>
 /// Whether a tick of a node whose state this is may be due before the first one so far. It looks at the bounds that
 /// clients and relays keep, and so may say that one is where none is.
 fn may_come_first(first: &Option<Due>, state: &NodeState) -> bool
-    ensures { result ≡ false → (d : Draws) (t : TopologyState) (H : List Full) (m n : ℕ) (a : Node) → IsReady m state.now → IsKept t n a (past_of d t n H) state.now
-        → next.earlier (option_map due_is first.now) (tick_of t H m n a) ≡ option_map due_is first.now }
+    ensures { result ≡ false → (lab : Lab) (H : List Full) (m n : ℕ) (a : Node) → IsReady m state.now → IsKept lab.topology n a (past_of lab n H) state.now
+        → next.earlier (option_map due_is first.now) (tick_of lab H m n a) ≡ option_map due_is first.now }
 {
     match state {
         NodeState::Client(client) => match first {
@@ -90,8 +92,9 @@ fn put_earlier(
 )
     requires ready { IsReady at.0 state.now }
     requires early { at.0 < CLOCK_END_MS }
-    ensures there { (d : Draws) (H : List Full) (a : Node) → node_at topology.now number ≡ Some a → IsKept topology.now number a (past_of d topology.now number H) state.now
-        → option_map due_is first.new ≡ next.earlier (option_map due_is first.old) (tick_of topology.now H at.0 number a) }
+    ensures there { (d : Draws) (chain : List Behind) (H : List Full) (a : Node) → node_at topology.now number ≡ Some a
+        → IsKept topology.now number a (past_of (lab_on d topology.now chain) number H) state.now
+        → option_map due_is first.new ≡ next.earlier (option_map due_is first.old) (tick_of (lab_on d topology.now chain) H at.0 number a) }
     ensures nowhere { node_at topology.now number ≡ None → first.new ≡ first.old }
 {
     let Some(node) = topology.node(number) else {
@@ -114,8 +117,8 @@ fn put_earlier(
 pub fn first_due(topology: &Topology, states: &[NodeState], at: Millis) -> Option<Due>
     requires ready { AreReady at.0 states.now }
     requires early { at.0 < CLOCK_END_MS }
-    ensures { (d : Draws) (H : List Full) → NodesOf d topology.now states.now H → at.0 ≡ now H
-        → option_map due_is result ≡ next.least_due topology.now H 0 (nodes topology.now) }
+    ensures { (d : Draws) (chain : List Behind) (H : List Full) → NodesOf (lab_on d topology.now chain) states.now H → at.0 ≡ now H
+        → option_map due_is result ≡ next.least_due (lab_on d topology.now chain) H 0 (nodes topology.now) }
 {
     let mut first = None;
     for (number, state) in states.iter().enumerate() {

@@ -2,6 +2,7 @@
 ghost use Rattle.std.specs.Prelude.{◌≡◌, ◌≤◌, ℕ, List, [], length, take, slice_get};
 ghost use Rattle.history.specs.declared.event.TheConstants.{BODY_MAX};
 ghost use Rattle.history.specs.Full.{Full};
+ghost use Rattle.native_host.specs.declared.limits.TheConstants.{HOST_ECHO_ID};
 ghost use Rattle.ipv6_packet.specs.Packets.{packet_bytes};
 ghost use Rattle.icmp6.specs.Message.{echo_request};
 ghost use Rattle.icmp6.specs.Layout.{message_bytes};
@@ -10,7 +11,8 @@ ghost use Rattle.topology.specs.declared.node.Node.TheVariants.{Client as client
 ghost use Rattle.topology.specs.Rows.{TopologyState};
 ghost use Rattle.qualify.specs.Qualification.{qualification};
 ghost use Rattle.qualify.specs.Solicitations.{own_address};
-ghost use Rattle.legal.specs.Past.{Draws};
+ghost use Rattle.topology.specs.Chains.{Behind};
+ghost use Rattle.legal.specs.Lab.{Draws, lab_on};
 ghost use Rattle.legal.specs.Settings.{client_settings};
 ghost use Rattle.legal.specs.Next.{data_packet, echo_packet, address_at, target_address};
 ghost use Rattle.lab_nodes.specs.NodeState.{NodePast, IsKept, IsKeptIn, NodesOf};
@@ -19,16 +21,10 @@ use crate::node_state::NodeState;
 use history::{BODY_MAX, Target};
 use icmp6::Msg;
 use ipv6_packet::{HEADER, NEXT_ICMP, Packet};
-use native_host::HOST_HOP;
+use native_host::{HOST_DATA_NEXT, HOST_ECHO_ID, HOST_HOP};
 use td_base::Ip6;
 use teredo_addr::UNSPECIFIED;
 use topology::{Node, Topology};
-
-/// The header after the IPv6 header of a host's data: none that a node knows (own, of those for experiments: RFC 3692).
-const NEXT_DATA: u8 = 253;
-
-/// The identifier of a host's echo requests (own).
-const ECHO_ID: u16 = 1;
 
 /// The most bytes of a packet with a host's data.
 pub const DATA_MAX: usize = HEADER + BODY_MAX;
@@ -47,7 +43,7 @@ pub fn write_data(src: Ip6, dst: Ip6, body: &[u8], out: &mut [u8; DATA_MAX]) -> 
     let packet = Packet {
         class: 0,
         flow: 0,
-        next: NEXT_DATA,
+        next: HOST_DATA_NEXT,
         hop: HOST_HOP,
         src,
         dst,
@@ -58,10 +54,10 @@ pub fn write_data(src: Ip6, dst: Ip6, body: &[u8], out: &mut [u8; DATA_MAX]) -> 
 
 /// The message of a host's echo request.
 fn echo_message(src: Ip6, dst: Ip6, seq: u16) -> [u8; ECHO_MESSAGE]
-    ensures { result ≡ message_bytes src dst (echo_request 1 seq []) }
+    ensures { result ≡ message_bytes src dst (echo_request HOST_ECHO_ID seq []) }
 {
     let message = Msg::EchoRequest {
-        id: ECHO_ID,
+        id: HOST_ECHO_ID,
         seq,
         body: &[],
     };
@@ -115,7 +111,7 @@ fn address_of_client(nodes: &[NodeState], number: u16) -> Ip6
 
 /// The address of the host of a node: a client's, or `::` where it isn't qualified; a native host's.
 pub fn address_at(topology: &Topology, nodes: &[NodeState], number: u16) -> Ip6
-    ensures { (d : Draws) (H : List Full) → NodesOf d topology.now nodes.now H → result ≡ address_at topology.now H number }
+    ensures { (d : Draws) (chain : List Behind) (H : List Full) → NodesOf (lab_on d topology.now chain) nodes.now H → result ≡ address_at (lab_on d topology.now chain) H number }
 {
     match topology.node(usize::from(number)) {
         Some(Node::Client(_)) => address_of_client(nodes, number),
@@ -126,7 +122,7 @@ pub fn address_at(topology: &Topology, nodes: &[NodeState], number: u16) -> Ip6
 
 /// The address that a target stands for.
 pub fn target_address(topology: &Topology, nodes: &[NodeState], to: Target) -> Ip6
-    ensures { (d : Draws) (H : List Full) → NodesOf d topology.now nodes.now H → result ≡ target_address topology.now H to }
+    ensures { (d : Draws) (chain : List Behind) (H : List Full) → NodesOf (lab_on d topology.now chain) nodes.now H → result ≡ target_address (lab_on d topology.now chain) H to }
 {
     match to {
         Target::Node(number) => address_at(topology, nodes, number),

@@ -6,7 +6,7 @@ ghost use Rattle.topology.specs.declared.node.Node.TheVariants.{Native as native
 ghost use Rattle.teredo_node.specs.Step.{just};
 ghost use Rattle.native_host.specs.Natives.{native_in, native_out};
 ghost use Rattle.history.specs.Full.{Full};
-ghost use Rattle.legal.specs.Past.{Draws};
+ghost use Rattle.legal.specs.Lab.{Lab};
 ghost use Rattle.legal.specs.Emit.{native_packet};
 ghost use Rattle.lab_nodes.specs.Call.{input_lent, IsShortInput, entry_in};
 
@@ -67,7 +67,7 @@ pub fn answer_native(
 ) -> Result<Option<Octets>, NoMemory>
     requires native { call.node ≡ native row }
     requires short { IsShortInput (input_lent call.coming) }
-    ensures did { IfOk result (λ packet. (d : Draws) (t : TopologyState) (H : List Full) → step.new ≡ (entry_in d t H call.entry).step) }
+    ensures did { IfOk result (λ packet. (lab : Lab) (H : List Full) → step.new ≡ (entry_in lab H call.entry).step) }
     ensures packet { IfOk result (λ packet. packet ≡ native_packet row (input_lent call.entry.coming)) }
     ensures short { IfOk result (λ packet. IfSome packet (λ copied. length copied ≤ DATAGRAM_MAX)) }
     ensures needs { OnErr result (is_some (native_packet row (input_lent call.entry.coming)) ≡ true) }

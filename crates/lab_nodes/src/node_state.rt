@@ -1,9 +1,10 @@
 //! What is kept of each node.
-ghost use Rattle.std.specs.Prelude.{◌≡◌, ◌≢◌, ◌<◌, ◌+◌, ℕ, [], Some, slice_get, IfOk};
+ghost use Rattle.std.specs.Prelude.{◌≡◌, ◌≢◌, ◌<◌, ◌+◌, ℕ, List, [], Some, slice_get, IfOk};
 ghost use Rattle.td_outside.specs.declared.clock.TheConstants.{CLOCK_END_MS};
 ghost use Rattle.topology.specs.Topology.{node_at, server_at};
 ghost use Rattle.legal.specs.Past.{new_journal};
-ghost use Rattle.legal.specs.Legal.{draws, stream_key};
+ghost use Rattle.topology.specs.Chains.{Behind};
+ghost use Rattle.legal.specs.Lab.{draws, stream_key, lab_on};
 ghost use Rattle.legal.specs.Settings.{primary_of, secondary_of, client_settings, served, relay_settings};
 ghost use Rattle.qualify.specs.Qualifier.{IsSettings};
 ghost use Rattle.lab_nodes.specs.NodeState.{past_of, IsClientOf, IsRelayOf, IsKept, NodesOf, IsReady, AreReady};
@@ -119,7 +120,7 @@ fn first_state(
     node: Node,
 ) -> Result<NodeState, NoMemory>
     requires there { node_at topology.now number ≡ Some node }
-    ensures kept { IfOk result (λ s. IsKept topology.now number node (past_of (draws seed) topology.now number []) s) }
+    ensures kept { IfOk result (λ s. (chain : List Behind) → IsKept topology.now number node (past_of (lab_on (draws seed) topology.now chain) number []) s) }
     ensures ready { IfOk result (λ s. IsReady 0 s) }
 {
     let _rules = topology.clients();
@@ -140,7 +141,7 @@ pub fn first_states(
     topology: &Topology,
     seed: u64,
 ) -> Result<Vec<NodeState>, NoMemory>
-    ensures kept { IfOk result (λ states. NodesOf (draws seed) topology.now states.items []) }
+    ensures kept { IfOk result (λ states. (chain : List Behind) → NodesOf (lab_on (draws seed) topology.now chain) states.items []) }
     ensures ready { IfOk result (λ states. AreReady 0 states.items) }
 {
     let mut states = Vec::new(alloc);

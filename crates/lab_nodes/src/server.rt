@@ -7,7 +7,7 @@ ghost use Rattle.topology.specs.Topology.{side_at};
 ghost use Rattle.td_base.specs.declared.endpoint.Ep.{Ep};
 ghost use Rattle.server_core.specs.Server.{server_row};
 ghost use Rattle.history.specs.Full.{Full};
-ghost use Rattle.legal.specs.Past.{Draws};
+ghost use Rattle.legal.specs.Lab.{Lab};
 ghost use Rattle.legal.specs.Settings.{server_settings};
 ghost use Rattle.legal.specs.Emit.{entry_of};
 ghost use Rattle.lab_nodes.specs.Call.{dst_lent, input_lent, IsShortInput};
@@ -47,8 +47,8 @@ fn serve(row: &ServerNode, now: Millis, src: Ep, dst: Ep, bytes: &[u8], step: &m
 /// What a server does. It has no host, takes no IPv6 packet, and nothing is due of it.
 pub fn serve_call(row: &ServerNode, call: Call<'_>, step: &mut Step)
     requires { IsShortInput (input_lent call.coming) }
-    ensures { (d : Draws) (t : TopologyState) (H : List Full) (n : ℕ)
-        → step.new ≡ (entry_of d t H call.entry.now.0 n (dst_lent call.entry.coming) (input_lent call.entry.coming) (server row.now)).step }
+    ensures { (lab : Lab) (H : List Full) (n : ℕ)
+        → step.new ≡ (entry_of lab H call.entry.now.0 n (dst_lent call.entry.coming) (input_lent call.entry.coming) (server row.now)).step }
 {
     match call.coming {
         Coming::Arrived { src, dst, bytes } => serve(row, call.now, src, dst, bytes, step),

@@ -19,5 +19,5 @@ returns-then-from-len c =
       elsewhere = λ n apart. refl;
       asks = tt;
       short = tt;
-      wants = λ d t H kept none. absurd (subst (IsKeptIn t c.args.call.number c.args.call.node (past_of d t c.args.call.number H)) (slice_get_past c.args.nodes.now.items c.args.call.number past) kept);
+      wants = λ lab H kept none. absurd (subst (IsKeptIn lab.topology c.args.call.number c.args.call.node (past_of lab c.args.call.number H)) (slice_get_past c.args.nodes.now.items c.args.call.number past) kept);
     }

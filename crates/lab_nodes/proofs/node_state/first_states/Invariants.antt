@@ -1,11 +1,12 @@
-use Rattle.std.proofs.Common.{◌-◌, length}
+use Rattle.std.proofs.Common.{◌-◌, List, length}
 use Rattle.topology.specs.declared.topology.TheConstants.{NODES_MAX}
-use Rattle.legal.specs.Legal.{draws}
+use Rattle.topology.specs.Chains.{Behind}
+use Rattle.legal.specs.Lab.{draws, lab_on}
 use Rattle.lab_nodes.proofs.States.{FirstStand}
 use Rattle.lab_nodes.proofs.node_state.first_states.Given as goal
 
 abbrev pub invariant-loop-node : goal.invariant-loop-node
-invariant-loop-node l = FirstStand (draws l.seed) l.topology l.states.items
+invariant-loop-node l = (chain : List Behind) → FirstStand (lab_on (draws l.seed) l.topology chain) l.states.items
 
 abbrev pub decreases-loop-node : goal.decreases-loop-node
 decreases-loop-node l = NODES_MAX - length l.states.items
