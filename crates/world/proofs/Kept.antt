@@ -1,6 +1,6 @@
 -- What a record leaves of what is kept of the nodes.
 use Rattle.std.proofs.Common.{◌≡◌, ◌≢◌, ℕ, ◌+◌, ◌==◌, Bool, true, false, List, [], ◌∷◌, Option, Some, None, refl, sym, ap, subst, ◌∙◌, arith, ◌⊎◌, inl, inr}
-use Rattle.std.specs.Prelude.{slice_get, option_and_then, is_some}
+use Rattle.std.specs.Prelude.{slice_get, is_some}
 use Rattle.std.proofs.lemmas.Bool.{false≢true}
 use Rattle.std.proofs.lemmas.Bool.Decides.{eqb_tells}
 use Rattle.nat_kinds.specs.Nat as nats
@@ -8,16 +8,16 @@ use Rattle.nat_kinds.specs.History.{Entry as NatEntry, Restart}
 use Rattle.teredo_node.specs.Journal.{Journal}
 use Rattle.client_core.specs.Client.{ClientStandsFor}
 use Rattle.relay_core.specs.Relay.{RelayStandsFor}
-use Rattle.topology.specs.declared.nat_node.NatNode.{NatNode}
 use Rattle.topology.specs.Rows.{TopologyState}
 use Rattle.topology.specs.declared.node.Node.{Node}
 use Rattle.topology.specs.declared.node.Node.TheVariants.{Server as server, Nat as nat, Client as client, Relay as relay, Native as native}
-use Rattle.topology.specs.Topology.{node_at, nat_at, as_nat}
 use Rattle.history.specs.declared.acts.Act.{Act}
 use Rattle.history.specs.declared.event.Event.{Event}
 use Rattle.history.specs.Full.{Full}
-use Rattle.legal.specs.Past.{Draws, is_node, is_restart, at_nat, journal, drawn, words}
-use Rattle.legal.specs.Frame.{nat_of, EachFrames}
+use Rattle.legal.specs.Lab.{Lab}
+use Rattle.legal.specs.Past.{is_node, is_restart, at_nat, journal, drawn, words}
+use Rattle.topology.specs.Chains.{outs_at}
+use Rattle.legal.specs.Frame.{EachFrames}
 use Rattle.lab_nodes.specs.declared.node_state.NodeState.{NodeState}
 use Rattle.lab_nodes.specs.declared.node_state.NodeState.TheVariants as state
 use Rattle.lab_nodes.specs.NodeState.{NodePast, past_of, IsKept, IsKeptIn, NodesOf}
@@ -70,23 +70,18 @@ is_itself n = by (eqb_tells n n) where
   by (inl (yeah, same)) = yeah
   by (inr (nope, apart)) = absurd (apart refl)
 
-pub words_same : (d : Draws) (k : ℕ) (r : Full) (H : List Full) → drawn k (r ∷ H) ≡ drawn k H → words d k (r ∷ H) ≡ words d k H
-words_same d k r H same = ap (λ (m : ℕ). λ (j : ℕ). d k (m + j)) same
+pub words_same : (lab : Lab) (k : ℕ) (r : Full) (H : List Full) → drawn k (r ∷ H) ≡ drawn k H → words lab k (r ∷ H) ≡ words lab k H
+words_same lab k r H same = ap (λ (m : ℕ). λ (j : ℕ). lab.draws k (m + j)) same
 
 pub draws_none : (k : ℕ) (r : Full) (H : List Full) → is_node k r.node ≡ false → drawn k (r ∷ H) ≡ drawn k H
 draws_none k r H nope = let none : drawn k H + 0 ≡ drawn k H = omega arith in rw nope none
 
--- a NAT of the topology
-nat_is : (t : TopologyState) (k : ℕ) (b : NatNode) → node_at t k ≡ Some (nat b) → nat_at t k ≡ Some b
-nat_is t k b at = ap (option_and_then as_nat) at
-
-pub away : EachFrames → (d : Draws) (t : TopologyState) (H : List Full) (r : Full) (k : ℕ) (b : Node) → node_at t k ≡ Some b → r.node ≢ Some k
-    → option_and_then (nat_of t) r.node ≢ Some k → AsPast b (past_of d t k H) (past_of d t k (r ∷ H))
-away frame d t H r k (nat b) at other behind = (frame t H r).nats k b (nat_is t k b at) behind
-away frame d t H r k (client c) at other behind = ((frame t H r).journals k other, words_same d k r H (draws_none k r H (not_node k r.node other)))
-away frame d t H r k (server a) at other behind = tt
-away frame d t H r k (relay a) at other behind = (frame t H r).journals k other
-away frame d t H r k (native h) at other behind = tt
+pub away : EachFrames → (lab : Lab) (H : List Full) (r : Full) (k : ℕ) (b : Node) → r.node ≢ Some k → outs_at k r.passed ≡ [] → AsPast b (past_of lab k H) (past_of lab k (r ∷ H))
+away frame lab H r k (nat b) other outs = (frame lab H r).nats k other outs
+away frame lab H r k (client c) other outs = ((frame lab H r).journals k other, words_same lab k r H (draws_none k r H (not_node k r.node other)))
+away frame lab H r k (server a) other outs = tt
+away frame lab H r k (relay a) other outs = (frame lab H r).journals k other
+away frame lab H r k (native h) other outs = tt
 
 -- RECORDS AT WHICH NO NODE DOES ANYTHING
 
@@ -95,10 +90,10 @@ is_none_of [] = true
 is_none_of (x ∷ l) = false
 
 -- it is no restart
-pub starts_none : (t : TopologyState) (e : Event) (a : Act) → at_nat t e a ≡ [] → is_restart a ≡ false
-starts_none t e a nothing = by (is_restart a) refl where
+pub starts_none : (lab : Lab) (e : Event) (a : Act) → at_nat lab e a ≡ [] → is_restart a ≡ false
+starts_none lab e a nothing = by (is_restart a) refl where
   by : (b : Bool) → is_restart a ≡ b → is_restart a ≡ false
-  by true yeah = let one : at_nat t e a ≡ Restart ∷ [] = rw yeah refl in absurd (false≢true (sym (ap (λ (l : List NatEntry). is_none_of l) (sym nothing ∙ one))))
+  by true yeah = let one : at_nat lab e a ≡ Restart ∷ [] = rw yeah refl in absurd (false≢true (sym (ap (λ (l : List NatEntry). is_none_of l) (sym nothing ∙ one))))
   by false nope = nope
 
 journal_rests : (k : ℕ) (r : Full) (H : List Full) → r.entry ≡ None → is_restart r.act ≡ false → journal k (r ∷ H) ≡ journal k H
@@ -113,24 +108,24 @@ drawn_rests k r H none = by (is_node k r.node) refl where
   by true e = let zero_more : drawn k H + 0 ≡ drawn k H = omega arith in rw (e, none) zero_more
   by false e = draws_none k r H e
 
-pub record IsStill (t : TopologyState) (r : Full) : Type 0 where
+pub record IsStill (lab : Lab) (r : Full) : Type 0 where
   pub entry : r.entry ≡ None
   pub made : r.made ≡ []
-  pub nothing : at_nat t r.asked r.act ≡ []
+  pub passed : r.passed ≡ []
+  pub nothing : at_nat lab r.asked r.act ≡ []
 
-rests_as : EachFrames → (d : Draws) (t : TopologyState) (H : List Full) (r : Full) (k : ℕ) (b : Node) → IsStill t r → AsPast b (past_of d t k H) (past_of d t k (r ∷ H))
-rests_as frame d t H r k (nat b) is = (frame t H r).silent k is.made is.nothing
-rests_as frame d t H r k (client c) is = (journal_rests k r H is.entry (starts_none t r.asked r.act is.nothing), words_same d k r H (drawn_rests k r H is.entry))
-rests_as frame d t H r k (server a) is = tt
-rests_as frame d t H r k (relay a) is = journal_rests k r H is.entry (starts_none t r.asked r.act is.nothing)
-rests_as frame d t H r k (native h) is = tt
+rests_as : EachFrames → (lab : Lab) (H : List Full) (r : Full) (k : ℕ) (b : Node) → IsStill lab r → AsPast b (past_of lab k H) (past_of lab k (r ∷ H))
+rests_as frame lab H r k (nat b) is = (frame lab H r).silent k (ap (outs_at k) is.passed) is.nothing
+rests_as frame lab H r k (client c) is = (journal_rests k r H is.entry (starts_none lab r.asked r.act is.nothing), words_same lab k r H (drawn_rests k r H is.entry))
+rests_as frame lab H r k (server a) is = tt
+rests_as frame lab H r k (relay a) is = journal_rests k r H is.entry (starts_none lab r.asked r.act is.nothing)
+rests_as frame lab H r k (native h) is = tt
 
-pub all_rest : EachFrames → (d : Draws) (t : TopologyState) (states : List NodeState) (H : List Full) (r : Full) → NodesOf d t states H → IsStill t r → NodesOf d t states (r ∷ H)
-all_rest frame d t states H r of is = λ k b at. kept_in_as t k b (past_of d t k H) (past_of d t k (r ∷ H)) (slice_get states k) (rests_as frame d t H r k b is) (of k b at)
+pub all_rest : EachFrames → (lab : Lab) (states : List NodeState) (H : List Full) (r : Full) → NodesOf lab states H → IsStill lab r → NodesOf lab states (r ∷ H)
+all_rest frame lab states H r of is = λ k b at. kept_in_as lab.topology k b (past_of lab k H) (past_of lab k (r ∷ H)) (slice_get states k) (rests_as frame lab H r k b is) (of k b at)
 
 -- a record of no node leaves all
-pub all_away : EachFrames → (d : Draws) (t : TopologyState) (states : List NodeState) (H : List Full) (r : Full) → NodesOf d t states H → r.node ≡ None → NodesOf d t states (r ∷ H)
-all_away frame d t states H r of nobody = λ k b at.
-    kept_in_as t k b (past_of d t k H) (past_of d t k (r ∷ H)) (slice_get states k) (away frame d t H r k b at
-    (λ e. false≢true (ap (λ (o : Option ℕ). is_some o) (sym nobody ∙ e)))
-    (λ e. false≢true (ap (λ (o : Option ℕ). is_some o) (sym (ap (option_and_then (nat_of t)) nobody) ∙ e)))) (of k b at)
+pub all_away : EachFrames → (lab : Lab) (states : List NodeState) (H : List Full) (r : Full) → NodesOf lab states H → r.node ≡ None → r.passed ≡ [] → NodesOf lab states (r ∷ H)
+all_away frame lab states H r of nobody none = λ k b at.
+    kept_in_as lab.topology k b (past_of lab k H) (past_of lab k (r ∷ H)) (slice_get states k)
+    (away frame lab H r k b (λ e. false≢true (ap (λ (o : Option ℕ). is_some o) (sym nobody ∙ e))) (ap (outs_at k) none)) (of k b at)

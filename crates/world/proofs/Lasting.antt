@@ -1,5 +1,5 @@
 -- Events that have one record.
-use Rattle.std.proofs.Common.{◌≡◌, ◌≤◌, ◌+◌, ℕ, Bool, true, false, List, [], Option, Some, None, Result, Ok, Err, refl, sym, ap, ◌∙◌, arith}
+use Rattle.std.proofs.Common.{◌≡◌, ◌≤◌, ◌+◌, ℕ, true, false, List, [], Option, Some, None, Result, Ok, Err, refl, sym, ap, ◌∙◌, arith}
 use Rattle.std.specs.Prelude.{IfOk}
 use Rattle.std.proofs.lemmas.Bool.{false≢true}
 use Rattle.history.specs.declared.event.Event.{Event}
@@ -9,16 +9,14 @@ use Rattle.history.specs.declared.records.Record.{Record}
 use Rattle.history.specs.declared.turn.Turn.TheVariants.{Last}
 use Rattle.history.specs.declared.turn.Stop.{Stop}
 use Rattle.history.specs.Full.{Full}
-use Rattle.legal.specs.Past.{Draws, has_more}
+use Rattle.legal.specs.Lab.{Draws, flat_lab}
+use Rattle.legal.specs.Past.{has_more}
 use Rattle.legal.specs.Next.{next_of}
-use Rattle.legal.specs.Laws.{EachIsOfItsEvent}
+use Rattle.legal.specs.Laws.{EachIsOfItsEvent, is_advance}
+use Rattle.world.specs.declared.going.Going.TheVariants as going_on
 use Rattle.world.specs.declared.going.Going.{Going}
 use Rattle.world.specs.World.{WorldState, IsAgain, event_in, began_in}
 use Rattle.world.specs.Playing.{Plays, played, PlaysTurn, Turned, ended, turn_of}
-
-abbrev pub is_advance : Event → Bool
-is_advance (event.Advance ms) = true
-is_advance _ = false
 
 no_more : (e : Event) → is_advance e ≡ false → (r : Full) → has_more e r.act ≡ false
 no_more (event.Advance ms) is r = absurd (false≢true (sym is))
@@ -39,10 +37,10 @@ turns d old new H r (Err why) said last plays = plays
 
 -- what an event but an advance does is its last record
 pub plays_last : EachIsOfItsEvent → (d : Draws) (old new : WorldState) (H : List Full) (i : ℕ) (e : Event) (done : Result (Unit {0}) Stop) (said : Record) → is_advance e ≡ false
-    → Plays d old new H (next_of d old.topology H i e) (played done said) → PlaysTurn d old new H (next_of d old.topology H i e) (turn_of (ended done) said)
+    → Plays d old new H (next_of (flat_lab d old.topology) H i e) (played done said) → PlaysTurn d old new H (next_of (flat_lab d old.topology) H i e) (turn_of (ended done) said)
 plays_last law d old new H i e done said single plays =
-    let r = next_of d old.topology H i e in
-    turns d old new H r done said (ap (λ (x : Event). has_more x r.act) (law d old.topology H i e).asked ∙ no_more e single r) plays
+    let r = next_of (flat_lab d old.topology) H i e in
+    turns d old new H r done said (ap (λ (x : Event). has_more x r.act) (law (flat_lab d old.topology) H i e).asked ∙ no_more e single r) plays
 
 -- no event goes on
 abbrev pub IsAtRest : WorldState → Type 0
@@ -54,7 +52,7 @@ RestsAt e w = IsAgain w.going e → IsAtRest w
 
 pub rests : (m : ℕ) (g : Option Going) (e : Event) → is_advance e ≡ false → IsAgain (event_in g) e → (event_in g ≡ None) × (began_in m g ≡ m)
 rests m None e single again = (refl, refl)
-rests m (Some g) e single again = absurd (false≢true (sym single ∙ ap is_advance again))
+rests m (Some (going_on.Advance began ms)) e single again = absurd (false≢true (sym single ∙ ap is_advance again))
 
 -- what stays of a world while no time passes
 abbrev pub lasting : WorldState → WorldState
@@ -79,3 +77,16 @@ no_time old new rest same =
     let at : new.moment ≡ old.moment = ap (λ (w : WorldState). w.moment) same in
     let from = rest.1 in
     omega (arith, at, from)
+
+-- an event that is no advance
+pub is_once : (e : Event) → ((ms : ℕ) → e ≡ event.Advance ms → ⊥) → is_advance e ≡ false
+is_once (event.Advance ms) none = absurd (none ms refl)
+is_once (event.Deliver number) none = refl
+is_once event.Next none = refl
+is_once (event.Host node to body) none = refl
+is_once (event.Echo node to seq) none = refl
+is_once (event.Raw node bytes) none = refl
+is_once (event.Stranger src dst bytes) none = refl
+is_once (event.Copy number src dst) none = refl
+is_once (event.Restart node) none = refl
+is_once (event.Forget n who) none = refl

@@ -4,11 +4,11 @@ use Rattle.std.specs.Prelude.{nat_le, sum_by, filter}
 use Rattle.std.proofs.lemmas.List.Sums.{sum_by-cons}
 use Rattle.history.specs.declared.event.Event.{Event}
 use Rattle.history.specs.declared.event.Event.TheVariants as event
-use Rattle.topology.specs.Rows.{TopologyState}
 use Rattle.topology.specs.Topology.{nodes}
 use Rattle.history.specs.Full.{Full}
 use Rattle.legal.specs.declared.left.TheConstants.{LEFT_MAX}
-use Rattle.legal.specs.Past.{Draws, now, began, going, has_more}
+use Rattle.legal.specs.Lab.{Draws, Lab, flat_lab}
+use Rattle.legal.specs.Past.{now, began, going, has_more}
 use Rattle.legal.specs.Left.{time_left, left_of_event, left}
 use Rattle.legal.specs.Left as legal
 use Rattle.lab_nodes.specs.NodeState.{NodesOf, AreReady}
@@ -32,14 +32,14 @@ same_time end at xs ys same =
 
 -- BY THE EVENT THAT GOES ON
 
-abbrev left_so : TopologyState → List Full → Option Event → ℕ
-left_so t H None = LEFT_MAX
-left_so t H (Some e) = left_of_event t H e
+abbrev left_so : Lab → List Full → Option Event → ℕ
+left_so lab H None = LEFT_MAX
+left_so lab H (Some e) = left_of_event lab H e
 
-left_by_going : (t : TopologyState) (H : List Full) → left t H ≡ left_so t H (going H)
-left_by_going t [] = refl
-left_by_going t (r ∷ H) = by (has_more r.asked r.act) where
-  by : (b : Bool) → cond b (left_of_event t (r ∷ H) r.asked) LEFT_MAX ≡ left_so t (r ∷ H) (cond b (Some r.asked) None)
+left_by_going : (lab : Lab) (H : List Full) → left lab H ≡ left_so lab H (going H)
+left_by_going lab [] = refl
+left_by_going lab (r ∷ H) = by (has_more r.asked r.act) where
+  by : (b : Bool) → cond b (left_of_event lab (r ∷ H) r.asked) LEFT_MAX ≡ left_so lab (r ∷ H) (cond b (Some r.asked) None)
   by true = refl
   by false = refl
 
@@ -48,18 +48,18 @@ pub record IsAt (d : Draws) (w : WorldState) (H : List Full) : Type 0 where
   pub moment : w.moment ≡ now H
   pub began : w.began ≡ began H
   pub going : w.going ≡ going H
-  pub nodes : NodesOf d w.topology w.nodes H
+  pub nodes : NodesOf (flat_lab d w.topology) w.nodes H
   pub ready : AreReady w.moment w.nodes
 
 -- has as much left
-pub left_is : EachSumIsOfThePast → (d : Draws) (w : WorldState) (H : List Full) → IsAt d w H → left w.topology H ≡ left_in w
-left_is law d w H is = left_by_going w.topology H ∙ ap (left_so w.topology H) (sym is.going) ∙ by w.going where
-  by : (o : Option Event) → left_so w.topology H o ≡ left_of w o
+pub left_is : EachSumIsOfThePast → (d : Draws) (w : WorldState) (H : List Full) → IsAt d w H → left (flat_lab d w.topology) H ≡ left_in w
+left_is law d w H is = left_by_going (flat_lab d w.topology) H ∙ ap (left_so (flat_lab d w.topology) H) (sym is.going) ∙ by w.going where
+  by : (o : Option Event) → left_so (flat_lab d w.topology) H o ≡ left_of w o
   by None = refl
   by (Some (event.Advance ms)) =
       let ready : AreReady (now H) w.nodes = subst (λ (m : ℕ). AreReady m w.nodes) is.moment is.ready in
-      let same : time_left (began H + ms) (now H) (all_due (now H) w.nodes 0 (nodes w.topology)) ≡ time_left (began H + ms) (now H) (legal.all_due w.topology H 0 (nodes w.topology)) =
-      same_time (began H + ms) (now H) (all_due (now H) w.nodes 0 (nodes w.topology)) (legal.all_due w.topology H 0 (nodes w.topology)) (λ weight. law d w.topology w.nodes H weight is.nodes ready) in
+      let same : time_left (began H + ms) (now H) (all_due (now H) w.nodes 0 (nodes w.topology)) ≡ time_left (began H + ms) (now H) (legal.all_due (flat_lab d w.topology) H 0 (nodes w.topology)) =
+      same_time (began H + ms) (now H) (all_due (now H) w.nodes 0 (nodes w.topology)) (legal.all_due (flat_lab d w.topology) H 0 (nodes w.topology)) (λ weight. law (flat_lab d w.topology) w.nodes H weight is.nodes ready) in
       sym same
       ∙ ap (λ (m : ℕ). time_left (began H + ms) m (all_due m w.nodes 0 (nodes w.topology))) (sym is.moment)
       ∙ ap (λ (m : ℕ). time_left (m + ms) w.moment (all_due w.moment w.nodes 0 (nodes w.topology))) (sym is.began)

@@ -1,9 +1,10 @@
 mod Wires
 mod States
 mod Routes
-mod Emitted
-mod Passed
-mod Sending
+mod Entered
+mod Outright
+mod Through
+mod Sent
 mod Kept
 mod Played
 mod Acting

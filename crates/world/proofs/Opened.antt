@@ -6,10 +6,11 @@ use Rattle.history.specs.declared.acts.Verb.TheVariants as verb
 use Rattle.history.specs.declared.records.Record.{Record}
 use Rattle.history.specs.declared.turn.Stop.{Stop}
 use Rattle.history.specs.Full.{Item, Full, wire}
-use Rattle.legal.specs.Past.{Draws, was_delivered, first_open, first_undelivered}
+use Rattle.legal.specs.Lab.{Draws, flat_lab}
+use Rattle.legal.specs.Past.{was_delivered, first_open, first_undelivered}
 use Rattle.legal.specs.Next.{numbered, plain, blank, delivers, delivers_or, next_of}
 use Rattle.legal.specs.Frame.{EachFrames}
-use Rattle.world.specs.Record.{said}
+use Rattle.world.specs.Record.{fresh_record, with_deed}
 use Rattle.world.specs.World.{WorldState, StandsFor}
 use Rattle.world.specs.Playing.{Plays}
 use Rattle.world.proofs.Played.{rests, said_blank}
@@ -57,21 +58,21 @@ first_is_none H items done is marks all =
 -- the entry of this number is delivered
 pub plays_next : (d : Draws) (old new : WorldState) (H : List Full) (i n : ℕ) (result : Result Record Stop) → StandsFor d old H
     → (n < length old.wire) × (get_or old.done n false ≡ false) × ((k : ℕ) → k < n → get_or old.done k false ≡ true)
-    → Plays d old new H (delivers d old.topology H (numbered i event.Next) n) result → Plays d old new H (next_of d old.topology H i event.Next) result
+    → Plays d old new H (delivers (flat_lab d old.topology) H (numbered i event.Next) n) result → Plays d old new H (next_of (flat_lab d old.topology) H i event.Next) result
 plays_next d old new H i n result s facts plays =
     let e = numbered i event.Next in
     let first = first_is H old.wire old.done n s.wire s.done facts.0 facts.1 facts.2 in
-    let next : next_of d old.topology H i event.Next ≡ delivers d old.topology H e n = ap (delivers_or d old.topology H e (blank H e (plain verb.Next) None fate.NoEntry)) first in
+    let next : next_of (flat_lab d old.topology) H i event.Next ≡ delivers (flat_lab d old.topology) H e n = ap (delivers_or (flat_lab d old.topology) H e (blank H e (plain verb.Next) None fate.NoEntry)) first in
     subst (λ (r : Full). Plays d old new H r result) (sym next) plays
 
 -- there is none
 pub plays_none : EachFrames → (d : Draws) (old : WorldState) (H : List Full) (i : ℕ) → StandsFor d old H → ((k : ℕ) → k < length old.wire → get_or old.done k false ≡ true)
-    → Plays d old old H (next_of d old.topology H i event.Next) (Ok (said old.moment i (plain verb.Next) None fate.NoEntry []))
+    → Plays d old old H (next_of (flat_lab d old.topology) H i event.Next) (Ok (with_deed (fresh_record i old.moment) (plain verb.Next) None fate.NoEntry))
 plays_none frame d old H i s all =
     let e = numbered i event.Next in
     let last = blank H e (plain verb.Next) None fate.NoEntry in
-    let next : next_of d old.topology H i event.Next ≡ last = ap (delivers_or d old.topology H e last) (first_is_none H old.wire old.done s.wire s.done all) in
-    subst (λ (r : Full). Plays d old old H r (Ok (said old.moment i (plain verb.Next) None fate.NoEntry []))) (sym next) (
+    let next : next_of (flat_lab d old.topology) H i event.Next ≡ last = ap (delivers_or (flat_lab d old.topology) H e last) (first_is_none H old.wire old.done s.wire s.done all) in
+    subst (λ (r : Full). Plays d old old H r (Ok (with_deed (fresh_record i old.moment) (plain verb.Next) None fate.NoEntry))) (sym next) (
       said_blank old.moment H e (plain verb.Next) None fate.NoEntry None s.moment,
-      rests frame d old old H last s.nodes (record { still = record { entry = refl; made = refl; nothing = refl }; moment = s.moment; nodes = refl; wire = refl; done = λ k. refl }),
+      rests frame d old old H last s.nodes (record { still = record { entry = refl; made = refl; passed = refl; nothing = refl }; moment = s.moment; nodes = refl; wire = refl; done = λ k. refl }),
     )

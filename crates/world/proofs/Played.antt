@@ -9,22 +9,24 @@ use Rattle.teredo_node.specs.declared.fate.Fate.{Fate}
 use Rattle.teredo_node.specs.declared.fate.Fate.TheVariants as fate
 use Rattle.topology.specs.Rows.{TopologyState}
 use Rattle.history.specs.declared.acts.Act.{Act}
-use Rattle.history.specs.declared.mark.Mark.TheVariants as mark
+use Rattle.history.specs.declared.mark.Mark.{Mark}
 use Rattle.history.specs.declared.records.Record.{Record}
 use Rattle.history.specs.declared.turn.Stop.{Stop}
 use Rattle.history.specs.declared.turn.Stop.TheVariants as stop
 use Rattle.world.specs.declared.wire.TheConstants.{ENTRIES_MAX}
-use Rattle.history.specs.Full.{Item, Made, Full, udp, item_in, items_of}
-use Rattle.history.specs.Records.{record_of}
-use Rattle.legal.specs.Past.{Draws, now, is_number}
+use Rattle.history.specs.Full.{Item, Made, Full, udp, sent, item_in, items_of, wire}
+use Rattle.history.specs.Records.{record_of, marks_of}
+use Rattle.legal.specs.Lab.{Draws, flat_lab}
+use Rattle.legal.specs.Past.{now, is_number}
 use Rattle.legal.specs.Next.{Numbered, blank, puts}
 use Rattle.legal.specs.Frame.{EachFrames}
 use Rattle.lab_nodes.specs.declared.node_state.NodeState.{NodeState}
 use Rattle.lab_nodes.specs.NodeState.{NodesOf}
 use Rattle.world.proofs.Kept.{IsStill, all_rest, all_away}
-use Rattle.world.specs.Record.{said}
-use Rattle.world.specs.World.{WorldState, StandsFor}
-use Rattle.world.specs.Playing.{Comes, Plays}
+use Rattle.world.specs.Record.{fresh_record, with_deed}
+use Rattle.world.specs.Wire.{WireState, Enters, Puts}
+use Rattle.world.specs.World.{WorldState, StandsFor, IsCause}
+use Rattle.world.specs.Playing.{Comes, Plays, played}
 
 -- WHAT WAS DELIVERED
 
@@ -48,8 +50,8 @@ flags_same (x ∷ done) k (suc i) = flags_same done k i
 
 -- A RECORD THAT MAKES NOTHING
 
-pub record Rests (old new : WorldState) (r : Full) : Type 0 where
-  pub still : IsStill old.topology r
+pub record Rests (d : Draws) (old new : WorldState) (r : Full) : Type 0 where
+  pub still : IsStill (flat_lab d old.topology) r
   pub moment : new.moment ≡ r.moment
   pub nodes : new.nodes ≡ old.nodes
   pub wire : new.wire ≡ old.wire
@@ -58,34 +60,53 @@ pub record Rests (old new : WorldState) (r : Full) : Type 0 where
 pub nothing_made : (old : WorldState) (r : Full) → r.made ≡ [] → old.wire ≡ old.wire ++ items_of r
 nothing_made old r none = sym (append-nil old.wire) ∙ ap (λ (ms : List Made). old.wire ++ filter_map item_in ms) (sym none)
 
-pub rests : EachFrames → (d : Draws) (old new : WorldState) (H : List Full) (r : Full) → NodesOf d old.topology old.nodes H → Rests old new r → Comes d old new H r
+pub rests : EachFrames → (d : Draws) (old new : WorldState) (H : List Full) (r : Full) → NodesOf (flat_lab d old.topology) old.nodes H → Rests d old new r → Comes d old new H r
 rests frame d old new H r of is = record {
   moment = is.moment;
-  nodes = subst (λ (states : List NodeState). NodesOf d old.topology states (r ∷ H)) (sym is.nodes) (all_rest frame d old.topology old.nodes H r of is.still);
+  nodes = subst (λ (states : List NodeState). NodesOf (flat_lab d old.topology) states (r ∷ H)) (sym is.nodes) (all_rest frame (flat_lab d old.topology) old.nodes H r of is.still);
   wire = is.wire ∙ nothing_made old r is.still.made;
   done = is.done;
 }
 
 -- the record of it
-pub said_blank : (m : ℕ) (H : List Full) (e : Numbered) (a : Act) (n : Option ℕ) (f : Fate) (o : Option ℕ) → m ≡ now H → said m e.number a n f [] ≡ record_of (record (blank H e a n f) { delivered = o })
-said_blank m H e a n f o is = ap (λ (j : ℕ). said j e.number a n f []) is
+pub said_blank : (m : ℕ) (H : List Full) (e : Numbered) (a : Act) (n : Option ℕ) (f : Fate) (o : Option ℕ) → m ≡ now H → with_deed (fresh_record e.number m) a n f ≡ record_of (record (blank H e a n f) { delivered = o })
+said_blank m H e a n f o is = ap (λ (j : ℕ). with_deed (fresh_record e.number j) a n f) is
 
 -- DATAGRAMS FROM NOWHERE
 
-pub puts_one : EachFrames → (d : Draws) (old new : WorldState) (H : List Full) (e : Numbered) (a : Act) (src dst : Ep) (bytes : List ℕ)
-    → StandsFor d old H → new ≡ record old { wire = old.wire ++ udp src dst bytes ∷ []; done = old.done ++ false ∷ [] }
-    → Plays d old new H (puts H e a src dst bytes) (Ok (said old.moment e.number a None fate.Put (mark.Udp (length old.wire) src dst (length bytes) ∷ [])))
-puts_one frame d old new H e a src dst bytes s is =
-    let r = puts H e a src dst bytes in (
-      ap (λ (m : ℕ). said m e.number a None fate.Put (mark.Udp (length old.wire) src dst (length bytes) ∷ [])) s.moment
-          ∙ ap (λ (xs : List Item). said (now H) e.number a None fate.Put (mark.Udp (length xs) src dst (length bytes) ∷ [])) s.wire,
-      record {
-        moment = ap (λ (w : WorldState). w.moment) is ∙ s.moment;
-        nodes = subst (λ (states : List NodeState). NodesOf d old.topology states (r ∷ H)) (sym (ap (λ (w : WorldState). w.nodes) is)) (all_away frame d old.topology old.nodes H r s.nodes refl);
-        wire = ap (λ (w : WorldState). w.wire) is;
-        done = λ i. ap (λ (w : WorldState). get_or w.done i false) is ∙ flags_same old.done 1 i;
-      },
-    )
+-- a record with these marks
+abbrev pub put_said : ℕ → ℕ → Act → List Mark → Record
+put_said index m a marks = record (with_deed (fresh_record index m) a None fate.Put) { marks = marks }
+
+abbrev wire_of : WorldState → WireState
+wire_of w = record { items = w.wire; done = w.done }
+
+module _ (frame : EachFrames) (d : Draws) (old : WorldState) (H : List Full) (e : Numbered) (a : Act) (src dst : Ep) (bytes : List ℕ) where
+  abbrev one : Made
+  one = sent (udp src dst bytes)
+
+  puts_one : (new : WireState) (marks : List Mark) → StandsFor d old H → Enters (wire_of old) new [] marks (one ∷ [])
+      → Plays d old (record old { wire = new.items; done = new.done }) H (puts H e a src dst bytes) (Ok (put_said e.number old.moment a marks))
+  puts_one new marks s is =
+      let these : marks ≡ marks_of (length (wire H)) (one ∷ []) = is.marks ∙ ap (λ (xs : List Item). marks_of (length xs) (one ∷ [])) s.wire in (
+        (λ i. put_said e.number (s.moment i) a (these i)),
+        record {
+          moment = s.moment;
+          nodes = all_away frame (flat_lab d old.topology) old.nodes H (puts H e a src dst bytes) s.nodes refl refl;
+          wire = ap (λ (w : WireState). w.items) is.wire;
+          done = λ i. ap (λ (w : WireState). get_or w.done i false) is.wire ∙ flags_same old.done 1 i;
+        },
+      )
+
+  -- or isn't
+  puts_none : (new : WireState) (marks : List Mark) (why : Stop) → Puts (wire_of old) new [] marks (one ∷ []) (Err why) → IsCause old (puts H e a src dst bytes) why
+  puts_none new marks stop.WireFull more = more
+  puts_none new marks stop.NoMemory some = λ none. absurd (some none)
+
+  pub puts_played : (new : WireState) (marks : List Mark) (r : Result (Unit {0}) Stop) → StandsFor d old H → Puts (wire_of old) new [] marks (one ∷ []) r
+      → Plays d old (record old { wire = new.items; done = new.done }) H (puts H e a src dst bytes) (played r (put_said e.number old.moment a marks))
+  puts_played new marks (Ok done) s is = puts_one new marks s is
+  puts_played new marks (Err why) s is = puts_none new marks why is
 
 -- FROM ANOTHER WORLD
 
@@ -96,7 +117,7 @@ plays_from d mid old new H r (Ok word) same plays = (
   plays.0,
   record {
     moment = plays.1.moment;
-    nodes = subst (λ (t : TopologyState). NodesOf d t new.nodes (r ∷ H)) same.0 plays.1.nodes;
+    nodes = subst (λ (t : TopologyState). NodesOf (flat_lab d t) new.nodes (r ∷ H)) same.0 plays.1.nodes;
     wire = plays.1.wire ∙ ap (λ (items : List Item). items ++ items_of r) same.1;
     done = λ i. plays.1.done i ∙ ap (λ (bs : List Bool). is_number i r.delivered || get_or bs i false) same.2;
   },

@@ -1,7 +1,9 @@
 -- What one step does to the histories that a world stands for.
-use Rattle.std.proofs.Common.{◌≡◌, ◌≤◌, ◌<◌, ℕ, Bool, List, [], ◌∷◌, ◌++◌, Option, Some, None, Result, Ok, Err, refl, sym, ap, subst, ◌∙◌, arith}
+use Rattle.std.proofs.Common.{◌≡◌, ◌≤◌, ◌<◌, ℕ, Bool, List, [], ◌∷◌, ◌++◌, ◌+◌, length, Option, Some, None, Result, Ok, Err, refl, sym, ap, subst, ◌∙◌, arith}
 use Rattle.std.specs.Prelude.{◌||◌, IfOk}
 use Rattle.history.specs.declared.event.Event.{Event}
+use Rattle.history.specs.declared.event.TheConstants.{ADVANCE_MAX_MS}
+use Rattle.world.specs.declared.wire.TheConstants.{ENTRIES_MAX}
 use Rattle.history.specs.Events.{IsEvent}
 use Rattle.history.specs.declared.turn.Turn.{Turn}
 use Rattle.history.specs.declared.turn.Turn.TheVariants.{More, Last}
@@ -11,7 +13,8 @@ use Rattle.topology.specs.Rules.{IsTopology}
 use Rattle.history.specs.Full.{Full, items_of}
 use Rattle.legal.specs.declared.left.TheConstants.{LEFT_MAX}
 use Rattle.legal.specs.Left.{left}
-use Rattle.legal.specs.Past.{Draws, began, going, has_more, is_number}
+use Rattle.legal.specs.Lab.{Draws, flat_lab}
+use Rattle.legal.specs.Past.{began, going, has_more, is_number}
 use Rattle.legal.specs.Next.{next_of}
 use Rattle.legal.specs.Legal.{GoesOn, Follows, Grown}
 use Rattle.legal.specs.Laws.{EachIsOfItsEvent, EachIsTold, EachFalls}
@@ -32,7 +35,7 @@ goes_from d w (r ∷ H) e s again = λ more.
 pub record IsNext (d : Draws) (old : WorldState) (H : List Full) (e : Event) (turn : Turn) (r : Full) : Type 0 where
   pub stands : StandsFor d old H
   pub rules : IsTopology old.topology
-  pub follows : Follows d old.topology H r
+  pub follows : Follows (flat_lab d old.topology) H r
   pub asked : r.asked ≡ e
   pub more : has_more r.asked r.act ≡ is_more turn
 
@@ -46,14 +49,14 @@ going_on d old H e (More said) r next = rw (next.more, next.asked) refl
 going_on d old H e (Last said) r next = rw (next.more) refl
 
 -- what is left of it is never more than may be left
-most_on : EachFalls → (d : Draws) (old : WorldState) (H : List Full) (e : Event) (turn : Turn) (r : Full) → IsNext d old H e turn r → left old.topology (r ∷ H) ≤ LEFT_MAX
+most_on : EachFalls → (d : Draws) (old : WorldState) (H : List Full) (e : Event) (turn : Turn) (r : Full) → IsNext d old H e turn r → left (flat_lab d old.topology) (r ∷ H) ≤ LEFT_MAX
 most_on falls d old H e (More said) r next =
-    let fell = falls d old.topology H r next.rules next.stands.grown next.follows next.more in
+    let fell = falls (flat_lab d old.topology) H r next.rules next.stands.grown next.follows next.more in
     let before = next.stands.left in
     let most = next.stands.most in
     omega (arith, fell, before, most)
 most_on falls d old H e (Last said) r next =
-    let all : left old.topology (r ∷ H) ≡ LEFT_MAX = rw (next.more) refl in
+    let all : left (flat_lab d old.topology) (r ∷ H) ≡ LEFT_MAX = rw (next.more) refl in
     omega (arith, all)
 
 stands : EachFalls → EachSumIsOfThePast → (d : Draws) (old new : WorldState) (H : List Full) (e : Event) (turn : Turn) (r : Full) → IsNext d old H e turn r → Turned old new e turn → AreReady new.moment new.nodes
@@ -61,11 +64,11 @@ stands : EachFalls → EachSumIsOfThePast → (d : Draws) (old new : WorldState)
 stands falls sums d old new H e turn r next turned ready comes =
     let start = began_on d old new H e turn r next comes.moment turned.goes in
     let goes = turned.going ∙ going_on d old H e turn r next in
-    let nodes = subst (λ (x : TopologyState). NodesOf d x new.nodes (r ∷ H)) (sym turned.topology) comes.nodes in
-    let same : left new.topology (r ∷ H) ≡ left_in new = left_is sums d new (r ∷ H) (record { moment = comes.moment; began = start; going = goes; nodes = nodes; ready = ready }) in
-    let most : left new.topology (r ∷ H) ≤ LEFT_MAX = subst (λ (x : TopologyState). left x (r ∷ H) ≤ LEFT_MAX) (sym turned.topology) (most_on falls d old H e turn r next) in
+    let nodes = subst (λ (x : TopologyState). NodesOf (flat_lab d x) new.nodes (r ∷ H)) (sym turned.topology) comes.nodes in
+    let same : left (flat_lab d new.topology) (r ∷ H) ≡ left_in new = left_is sums d new (r ∷ H) (record { moment = comes.moment; began = start; going = goes; nodes = nodes; ready = ready }) in
+    let most : left (flat_lab d new.topology) (r ∷ H) ≤ LEFT_MAX = subst (λ (x : TopologyState). left (flat_lab d x) (r ∷ H) ≤ LEFT_MAX) (sym turned.topology) (most_on falls d old H e turn r next) in
     record {
-      grown = subst (λ (x : TopologyState). Grown d x (r ∷ H)) (sym turned.topology) (next.follows, next.stands.grown);
+      grown = subst (λ (x : TopologyState). Grown (flat_lab d x) (r ∷ H)) (sym turned.topology) (next.follows, next.stands.grown);
       moment = comes.moment;
       began = start;
       going = goes;
@@ -91,59 +94,64 @@ pub record Laws : Type 0 where
   pub sums : EachSumIsOfThePast
 
 -- the record of an event that may be asked for follows
-pub follows : EachIsOfItsEvent → (d : Draws) (old : WorldState) (H : List Full) (i : ℕ) (e : Event) → IsEvent old.topology e → IsAgain old.going e → StandsFor d old H → Follows d old.topology H (next_of d old.topology H i e)
+pub follows : EachIsOfItsEvent → (d : Draws) (old : WorldState) (H : List Full) (i : ℕ) (e : Event) → IsEvent old.topology e → IsAgain old.going e → StandsFor d old H → Follows (flat_lab d old.topology) H (next_of (flat_lab d old.topology) H i e)
 follows of_event d old H i e event again s =
-    let r = next_of d old.topology H i e in
-    let of = of_event d old.topology H i e in
+    let r = next_of (flat_lab d old.topology) H i e in
+    let of = of_event (flat_lab d old.topology) H i e in
     record {
       goes_on = subst (GoesOn H) (sym of.asked) (goes_from d old H e s again);
       event = subst (IsEvent old.topology) (sym of.asked) event;
-      is = ap (λ (j : ℕ). next_of d old.topology H j e) (sym of.event) ∙ ap (next_of d old.topology H r.event) (sym of.asked);
+      is = ap (λ (j : ℕ). next_of (flat_lab d old.topology) H j e) (sym of.event) ∙ ap (next_of (flat_lab d old.topology) H r.event) (sym of.asked);
     }
 
 is_next : Laws → (d : Draws) (old new : WorldState) (H : List Full) (i : ℕ) (e : Event) (turn : Turn) → IsAsked old e → StandsFor d old H
-    → PlaysTurn d old new H (next_of d old.topology H i e) (Ok turn) → IsNext d old H e turn (next_of d old.topology H i e)
+    → PlaysTurn d old new H (next_of (flat_lab d old.topology) H i e) (Ok turn) → IsNext d old H e turn (next_of (flat_lab d old.topology) H i e)
 is_next laws d old new H i e turn asked s plays =
     record {
       stands = s;
       rules = asked.rules;
       follows = follows laws.of_event d old H i e asked.event asked.again s;
-      asked = (laws.of_event d old.topology H i e).asked;
+      asked = (laws.of_event (flat_lab d old.topology) H i e).asked;
       more = plays.1;
     }
 
 -- what is played for each history that the world stood for
 abbrev pub PlaysAll : WorldState → WorldState → ℕ → Event → Result Turn Stop → Type 0
-PlaysAll old new i e played = (d : Draws) (H : List Full) → StandsFor d old H → PlaysTurn d old new H (next_of d old.topology H i e) played
+PlaysAll old new i e played = (d : Draws) (H : List Full) → StandsFor d old H → PlaysTurn d old new H (next_of (flat_lab d old.topology) H i e) played
 
 stands_on : Laws → (d : Draws) (old new : WorldState) (H : List Full) (i : ℕ) (e : Event) (turn : Turn) → IsAsked old e → Turned old new e turn → AreReady new.moment new.nodes
-    → StandsFor d old H → PlaysTurn d old new H (next_of d old.topology H i e) (Ok turn) → StandsFor d new (next_of d old.topology H i e ∷ H)
+    → StandsFor d old H → PlaysTurn d old new H (next_of (flat_lab d old.topology) H i e) (Ok turn) → StandsFor d new (next_of (flat_lab d old.topology) H i e ∷ H)
 stands_on laws d old new H i e turn asked turned ready s plays =
-    stands laws.falls laws.sums d old new H e turn (next_of d old.topology H i e) (is_next laws d old new H i e turn asked s plays) turned ready plays.2
-
-pub steps : Laws → (old new : WorldState) (i : ℕ) (e : Event) (played : Result Turn Stop) → IsAsked old e → IfOk played (λ turn. Turned old new e turn) → AreReady new.moment new.nodes
-    → PlaysAll old new i e played → IfOk played (λ turn. Steps old new i e turn)
-steps laws old new i e (Err stop) asked turned ready plays = tt
-steps laws old new i e (Ok turn) asked turned ready plays = record {
-  topology = turned.topology;
-  goes_on = turned.stopped ∙ asked.stopped;
-  going = turned.going;
-  record_is = λ d H s. (plays d H s).0;
-  stands = λ d H s. stands_on laws d old new H i e turn asked turned ready s (plays d H s);
-  more = λ d H s. ap (λ (x : Event). has_more x (next_of d old.topology H i e).act) (sym (laws.of_event d old.topology H i e).asked) ∙ (plays d H s).1;
-  tells = λ d H s. laws.told d old.topology H i e;
-}
+    stands laws.falls laws.sums d old new H e turn (next_of (flat_lab d old.topology) H i e) (is_next laws d old new H i e turn asked s plays) turned ready plays.2
 
 fell_on : EachFalls → (d : Draws) (old new : WorldState) (H : List Full) (e : Event) (turn : Turn) (r : Full) → IsNext d old H e turn r → new.topology ≡ old.topology → StandsFor d new (r ∷ H) → Falls old new turn
 fell_on falls d old new H e (Last said) r next same s = tt
 fell_on falls d old new H e (More said) r next same s =
-    let fell : left old.topology (r ∷ H) < left old.topology H = falls d old.topology H r next.rules next.stands.grown next.follows next.more in
-    let before : left old.topology H ≡ left_in old = next.stands.left in
-    let after : left old.topology (r ∷ H) ≡ left_in new = ap (λ (x : TopologyState). left x (r ∷ H)) (sym same) ∙ s.left in
+    let fell : left (flat_lab d old.topology) (r ∷ H) < left (flat_lab d old.topology) H = falls (flat_lab d old.topology) H r next.rules next.stands.grown next.follows next.more in
+    let before : left (flat_lab d old.topology) H ≡ left_in old = next.stands.left in
+    let after : left (flat_lab d old.topology) (r ∷ H) ≡ left_in new = ap (λ (x : TopologyState). left (flat_lab d x) (r ∷ H)) (sym same) ∙ s.left in
     omega (arith, fell, before, after)
 
-pub falls : Laws → (old new : WorldState) (i : ℕ) (e : Event) (played : Result Turn Stop) → IsAsked old e → IfOk played (λ turn. Turned old new e turn) → AreReady new.moment new.nodes
-    → PlaysAll old new i e played → IfOk played (λ turn. (d : Draws) (H : List Full) → StandsFor d old H → Falls old new turn)
-falls laws old new i e (Err stop) asked turned ready plays = tt
-falls laws old new i e (Ok turn) asked turned ready plays = λ d H s.
-    fell_on laws.falls d old new H e turn (next_of d old.topology H i e) (is_next laws d old new H i e turn asked s (plays d H s)) turned.topology (stands_on laws d old new H i e turn asked turned ready s (plays d H s))
+-- what a world keeps to at the end of a step
+pub record IsKeptTo (old new : WorldState) : Type 0 where
+  pub ready : AreReady new.moment new.nodes
+  pub time : new.moment ≤ old.began + ADVANCE_MAX_MS
+  pub entries : length new.wire ≤ ENTRIES_MAX
+
+pub steps : Laws → (old new : WorldState) (i : ℕ) (e : Event) (played : Result Turn Stop) → IsAsked old e → IfOk played (λ turn. Turned old new e turn) → IsKeptTo old new
+    → PlaysAll old new i e played → IfOk played (λ turn. Steps old new i e turn)
+steps laws old new i e (Err stop) asked turned kept plays = tt
+steps laws old new i e (Ok turn) asked turned kept plays = record {
+  topology = turned.topology;
+  goes_on = turned.stopped ∙ asked.stopped;
+  going = turned.going;
+  record_is = λ d H s. (plays d H s).0;
+  stands = λ d H s. stands_on laws d old new H i e turn asked turned kept.ready s (plays d H s);
+  more = λ d H s. ap (λ (x : Event). has_more x (next_of (flat_lab d old.topology) H i e).act) (sym (laws.of_event (flat_lab d old.topology) H i e).asked) ∙ (plays d H s).1;
+  tells = λ d H s. laws.told (flat_lab d old.topology) H i e;
+  falls = λ d H s.
+      fell_on laws.falls d old new H e turn (next_of (flat_lab d old.topology) H i e) (is_next laws d old new H i e turn asked s (plays d H s)) turned.topology
+      (stands_on laws d old new H i e turn asked turned kept.ready s (plays d H s));
+  time = kept.time;
+  entries = kept.entries;
+}

@@ -1,12 +1,11 @@
 -- The ticks of an advance, and its end.
 use Rattle.std.proofs.Common.{◌≡◌, ◌≤◌, ◌<◌, ◌+◌, ℕ, suc, Bool, true, false, max, List, [], ◌∷◌, get_or, Option, Some, None, Ok, refl, sym, ap, subst, ◌∙◌, arith, ◌⊎◌, inl, inr}
-use Rattle.std.specs.Prelude.{slice_get, option_map, nat_lt, nat_le, is_some, IfSome}
+use Rattle.std.specs.Prelude.{slice_get, option_map, nat_lt, nat_le, is_some}
 use Rattle.std.proofs.lemmas.Bool.{false≢true}
 use Rattle.std.proofs.lemmas.Bool.Decides.{nat_tests}
 use Rattle.teredo_node.specs.declared.fate.Fate.TheVariants as fate
 use Rattle.teredo_node.specs.Journal.{ticked}
 use Rattle.topology.specs.declared.node.Node.{Node}
-use Rattle.topology.specs.Rows.{TopologyState}
 use Rattle.topology.specs.Topology.{nodes, node_at}
 use Rattle.history.specs.declared.acts.Act.TheVariants as act
 use Rattle.history.specs.declared.acts.Verb.TheVariants as verb
@@ -15,17 +14,19 @@ use Rattle.history.specs.declared.event.Event.TheVariants as event
 use Rattle.history.specs.declared.records.Record.{Record}
 use Rattle.history.specs.declared.turn.Turn.TheVariants.{More, Last}
 use Rattle.history.specs.Full.{Full}
-use Rattle.legal.specs.Past.{Draws, now, began}
+use Rattle.legal.specs.Lab.{Draws, Lab, flat_lab}
+use Rattle.legal.specs.Past.{now, began}
 use Rattle.legal.specs.Emit.{due_of}
 use Rattle.legal.specs.Next.{numbered, plain, acts, no_ep, Due, earlier, least_due, advanced, advance_with, next_of}
 use Rattle.legal.specs.Frame.{EachFrames}
 use Rattle.lab_nodes.specs.declared.due.Due as found
 use Rattle.lab_nodes.specs.Due.{due_is}
 use Rattle.history.specs.declared.turn.Stop.{Stop}
-use Rattle.world.specs.Record.{said}
+use Rattle.world.specs.Record.{fresh_record, with_deed}
+use Rattle.world.specs.declared.going.Going.TheVariants as going_on
 use Rattle.world.specs.declared.going.Going.{Going}
 use Rattle.world.specs.World.{WorldState, StandsFor, IsAgain, IsCause, event_in, began_in}
-use Rattle.world.specs.Playing.{ticks_at, IsPast, IsGoing, Plays, PlaysTurn}
+use Rattle.world.specs.Playing.{ticks_at, NoneIsDue, IsGoing, Plays, PlaysTurn}
 use Rattle.world.proofs.States.{some_inj}
 use Rattle.world.proofs.Played.{rests}
 
@@ -47,22 +48,22 @@ whose : (n : ℕ) (a : Node) (o : Option ℕ) (x : Due) → option_map (tick_at 
 whose n a None x e = absurd (false≢true (ap (λ (o : Option Due). is_some o) e))
 whose n a (Some m) x e = let same = some_inj (tick_at n a m) x e in (ap (λ (y : Due). y.number) same, ap (λ (y : Due). y.node) same)
 
-among : (t : TopologyState) (H : List Full) (n : ℕ) (ns : List Node) (x : Due) → least_due t H n ns ≡ Some x → (k : ℕ) × (x.number ≡ n + k) × (slice_get ns k ≡ Some x.node)
-among t H n [] x e = absurd (false≢true (ap (λ (o : Option Due). is_some o) e))
-among t H n (a ∷ rest) x e = by (one_of (option_map (tick_at n a) (due_of t H (now H) n a)) (least_due t H (n + 1) rest) x e) (λ h. among t H (n + 1) rest x h) where
-  by : (option_map (tick_at n a) (due_of t H (now H) n a) ≡ Some x) ⊎ (least_due t H (n + 1) rest ≡ Some x)
-      → (least_due t H (n + 1) rest ≡ Some x → (k : ℕ) × (x.number ≡ n + 1 + k) × (slice_get rest k ≡ Some x.node))
+among : (lab : Lab) (H : List Full) (n : ℕ) (ns : List Node) (x : Due) → least_due lab H n ns ≡ Some x → (k : ℕ) × (x.number ≡ n + k) × (slice_get ns k ≡ Some x.node)
+among lab H n [] x e = absurd (false≢true (ap (λ (o : Option Due). is_some o) e))
+among lab H n (a ∷ rest) x e = by (one_of (option_map (tick_at n a) (due_of lab H (now H) n a)) (least_due lab H (n + 1) rest) x e) (λ h. among lab H (n + 1) rest x h) where
+  by : (option_map (tick_at n a) (due_of lab H (now H) n a) ≡ Some x) ⊎ (least_due lab H (n + 1) rest ≡ Some x)
+      → (least_due lab H (n + 1) rest ≡ Some x → (k : ℕ) × (x.number ≡ n + 1 + k) × (slice_get rest k ≡ Some x.node))
       → (k : ℕ) × (x.number ≡ n + k) × (slice_get (a ∷ rest) k ≡ Some x.node)
-  by (inl mine) later = let is = whose n a (due_of t H (now H) n a) x mine in let at = is.0 in (0, omega (arith, at), ap (λ (b : Node). Some b) is.1)
+  by (inl mine) later = let is = whose n a (due_of lab H (now H) n a) x mine in let at = is.0 in (0, omega (arith, at), ap (λ (b : Node). Some b) is.1)
   by (inr other) later = let is = later other in let at = is.1 in (suc is.0, omega (arith, at), is.2)
 
 -- the node of the tick that is due first is there
-pub due_is_there : (t : TopologyState) (H : List Full) (x : Due) → least_due t H 0 (nodes t) ≡ Some x → node_at t x.number ≡ Some x.node
-due_is_there t H x e =
-    let is = among t H 0 (nodes t) x e in
+pub due_is_there : (lab : Lab) (H : List Full) (x : Due) → least_due lab H 0 (nodes lab.topology) ≡ Some x → node_at lab.topology x.number ≡ Some x.node
+due_is_there lab H x e =
+    let is = among lab H 0 (nodes lab.topology) x e in
     let at = is.1 in
     let same : x.number ≡ is.0 = omega (arith, at) in
-    ap (node_at t) same ∙ is.2
+    ap (node_at lab.topology) same ∙ is.2
 
 -- AS A WORLD FINDS IT
 
@@ -71,70 +72,65 @@ ms_of (event.Advance ms) = ms
 ms_of _ = 0
 
 -- the tick that was found is the first one, or is past a moment where it is later, or there is none
-pub found_first : (t : TopologyState) (H : List Full) (o : Option found.Due) (x : found.Due) → o ≡ Some x → option_map due_is o ≡ least_due t H 0 (nodes t) → least_due t H 0 (nodes t) ≡ Some (due_is x)
-found_first t H o x is e = sym e ∙ ap (option_map due_is) is
+pub found_first : (lab : Lab) (H : List Full) (o : Option found.Due) (x : found.Due) → o ≡ Some x → option_map due_is o ≡ least_due lab H 0 (nodes lab.topology) → least_due lab H 0 (nodes lab.topology) ≡ Some (due_is x)
+found_first lab H o x is e = sym e ∙ ap (option_map due_is) is
 
-pub past_none : (t : TopologyState) (H : List Full) (end : ℕ) (o : Option found.Due) → o ≡ None → option_map due_is o ≡ least_due t H 0 (nodes t) → IsPast end (least_due t H 0 (nodes t))
-past_none t H end o is e = subst (IsPast end) (ap (option_map due_is) (sym is) ∙ e) tt
+pub past_none : (lab : Lab) (H : List Full) (end : ℕ) (o : Option found.Due) → o ≡ None → option_map due_is o ≡ least_due lab H 0 (nodes lab.topology) → NoneIsDue end (least_due lab H 0 (nodes lab.topology))
+past_none lab H end o is e = subst (NoneIsDue end) (ap (option_map due_is) (sym is) ∙ e) tt
 
-pub past_later : (t : TopologyState) (H : List Full) (end : ℕ) (o : Option found.Due) (x : found.Due) → o ≡ Some x → end < x.moment.0 → option_map due_is o ≡ least_due t H 0 (nodes t) → IsPast end (least_due t H 0 (nodes t))
-past_later t H end o x is later e = subst (IsPast end) (sym (found_first t H o x is e)) later
-
--- an advance that comes again is as long
-pub same_ms : (going : Option Event) (ms found : ℕ) → IsAgain going (event.Advance ms) → (going ≡ None → found ≡ ms) × IfSome going (λ e. event.Advance found ≡ e) → found ≡ ms
-same_ms None ms found again is = is.0 refl
-same_ms (Some e) ms found again is = ap ms_of (is.1 ∙ sym again)
+pub past_later : (lab : Lab) (H : List Full) (end : ℕ) (o : Option found.Due) (x : found.Due) → o ≡ Some x → end < x.moment.0 → option_map due_is o ≡ least_due lab H 0 (nodes lab.topology) → NoneIsDue end (least_due lab H 0 (nodes lab.topology))
+past_later lab H end o x is later e = subst (NoneIsDue end) (sym (found_first lab H o x is e)) later
 
 -- an advance that goes on isn't over
 pub in_going : (m : ℕ) (g : Option Going) (ms : ℕ) → IsAgain (event_in g) (event.Advance ms) → IsGoing m g → m ≤ began_in m g + ms
 in_going m None ms again is = omega arith
-in_going m (Some g) ms again is = let long : ms ≡ g.ms = ap ms_of again in omega (arith, long, is)
+in_going m (Some (going_on.Advance began long)) ms again is = let same : ms ≡ long = ap ms_of again in omega (arith, same, is)
 
 -- WHAT FOLLOWS
 
 -- a tick that is due up to the end
-pub next_is_tick : (d : Draws) (w : WorldState) (H : List Full) (i ms : ℕ) (x : Due) → StandsFor d w H → least_due w.topology H 0 (nodes w.topology) ≡ Some x → x.moment ≤ w.began + ms
-    → next_of d w.topology H i (event.Advance ms) ≡ ticks_at d w H (numbered i (event.Advance ms)) x
+pub next_is_tick : (d : Draws) (w : WorldState) (H : List Full) (i ms : ℕ) (x : Due) → StandsFor d w H → least_due (flat_lab d w.topology) H 0 (nodes w.topology) ≡ Some x → x.moment ≤ w.began + ms
+    → next_of (flat_lab d w.topology) H i (event.Advance ms) ≡ ticks_at d w H (numbered i (event.Advance ms)) x
 next_is_tick d w H i ms x s least within =
-    let t = w.topology in
+    let lab = flat_lab d w.topology in
     let e = numbered i (event.Advance ms) in
     let start = s.began in
     let passed : nat_le x.moment (began H + ms) ≡ true = grind (arith, nat_tests, start, within) in
-    let tick = acts d t H e act.Tick None (max x.moment (now H)) x.number no_ep ticked x.node in
-    let chosen : advance_with d t H e (began H + ms) (Some x) ≡ tick = rw passed refl in
-    ap (advance_with d t H e (began H + ms)) least ∙ chosen ∙ ap (λ (m : ℕ). acts d t H e act.Tick None (max x.moment m) x.number no_ep ticked x.node) (sym s.moment)
+    let tick = acts lab H e act.Tick None (max x.moment (now H)) x.number no_ep ticked x.node in
+    let chosen : advance_with lab H e (began H + ms) (Some x) ≡ tick = rw passed refl in
+    ap (advance_with lab H e (began H + ms)) least ∙ chosen ∙ ap (λ (m : ℕ). acts lab H e act.Tick None (max x.moment m) x.number no_ep ticked x.node) (sym s.moment)
 
 -- the end, where none is
-pub next_is_end : (d : Draws) (w : WorldState) (H : List Full) (i ms : ℕ) → StandsFor d w H → IsPast (w.began + ms) (least_due w.topology H 0 (nodes w.topology))
-    → next_of d w.topology H i (event.Advance ms) ≡ advanced H (numbered i (event.Advance ms)) (w.began + ms)
-next_is_end d w H i ms s past = by (least_due w.topology H 0 (nodes w.topology)) refl past where
-  by : (o : Option Due) → least_due w.topology H 0 (nodes w.topology) ≡ o → IsPast (w.began + ms) o → next_of d w.topology H i (event.Advance ms) ≡ advanced H (numbered i (event.Advance ms)) (w.began + ms)
-  by None is past = ap (advance_with d w.topology H (numbered i (event.Advance ms)) (began H + ms)) is ∙ ap (λ (m : ℕ). advanced H (numbered i (event.Advance ms)) (m + ms)) (sym s.began)
+pub next_is_end : (d : Draws) (w : WorldState) (H : List Full) (i ms : ℕ) → StandsFor d w H → NoneIsDue (w.began + ms) (least_due (flat_lab d w.topology) H 0 (nodes w.topology))
+    → next_of (flat_lab d w.topology) H i (event.Advance ms) ≡ advanced H (numbered i (event.Advance ms)) (w.began + ms)
+next_is_end d w H i ms s past = by (least_due (flat_lab d w.topology) H 0 (nodes w.topology)) refl past where
+  by : (o : Option Due) → least_due (flat_lab d w.topology) H 0 (nodes w.topology) ≡ o → NoneIsDue (w.began + ms) o → next_of (flat_lab d w.topology) H i (event.Advance ms) ≡ advanced H (numbered i (event.Advance ms)) (w.began + ms)
+  by None is past = ap (advance_with (flat_lab d w.topology) H (numbered i (event.Advance ms)) (began H + ms)) is ∙ ap (λ (m : ℕ). advanced H (numbered i (event.Advance ms)) (m + ms)) (sym s.began)
   by (Some x) is past =
       let start = s.began in
       let later : nat_le x.moment (began H + ms) ≡ false = grind (arith, nat_tests, start, past) in
-      let chosen : advance_with d w.topology H (numbered i (event.Advance ms)) (began H + ms) (Some x) ≡ advanced H (numbered i (event.Advance ms)) (began H + ms) = rw later refl in
-      ap (advance_with d w.topology H (numbered i (event.Advance ms)) (began H + ms)) is ∙ chosen ∙ ap (λ (m : ℕ). advanced H (numbered i (event.Advance ms)) (m + ms)) (sym s.began)
+      let chosen : advance_with (flat_lab d w.topology) H (numbered i (event.Advance ms)) (began H + ms) (Some x) ≡ advanced H (numbered i (event.Advance ms)) (began H + ms) = rw later refl in
+      ap (advance_with (flat_lab d w.topology) H (numbered i (event.Advance ms)) (began H + ms)) is ∙ chosen ∙ ap (λ (m : ℕ). advanced H (numbered i (event.Advance ms)) (m + ms)) (sym s.began)
 
 -- time passes up to the end
-pub passes : EachFrames → (d : Draws) (old new : WorldState) (H : List Full) (i ms : ℕ) → StandsFor d old H → IsPast (old.began + ms) (least_due old.topology H 0 (nodes old.topology))
+pub passes : EachFrames → (d : Draws) (old new : WorldState) (H : List Full) (i ms : ℕ) → StandsFor d old H → NoneIsDue (old.began + ms) (least_due (flat_lab d old.topology) H 0 (nodes old.topology))
     → (new.moment ≡ old.began + ms) × (new.nodes ≡ old.nodes) × (new.wire ≡ old.wire) × (new.done ≡ old.done)
-    → PlaysTurn d old new H (next_of d old.topology H i (event.Advance ms)) (Ok (Last (said (old.began + ms) i (plain verb.Advance) None fate.Done [])))
+    → PlaysTurn d old new H (next_of (flat_lab d old.topology) H i (event.Advance ms)) (Ok (Last (with_deed (fresh_record i (old.began + ms)) (plain verb.Advance) None fate.Done)))
 passes frame d old new H i ms s past same =
     let r = advanced H (numbered i (event.Advance ms)) (old.began + ms) in
-    subst (λ (z : Full). PlaysTurn d old new H z (Ok (Last (said (old.began + ms) i (plain verb.Advance) None fate.Done [])))) (sym (next_is_end d old H i ms s past)) (
+    subst (λ (z : Full). PlaysTurn d old new H z (Ok (Last (with_deed (fresh_record i (old.began + ms)) (plain verb.Advance) None fate.Done)))) (sym (next_is_end d old H i ms s past)) (
       refl,
       refl,
-      rests frame d old new H r s.nodes (record { still = record { entry = refl; made = refl; nothing = refl }; moment = same.0; nodes = same.1; wire = same.2; done = λ k. ap (λ bs. get_or bs k false) same.3 }),
+      rests frame d old new H r s.nodes (record { still = record { entry = refl; made = refl; passed = refl; nothing = refl }; moment = same.0; nodes = same.1; wire = same.2; done = λ k. ap (λ bs. get_or bs k false) same.3 }),
     )
 
 -- a tick is played
-pub ticks : (d : Draws) (old new : WorldState) (H : List Full) (i ms : ℕ) (x : Due) (word : Record) → StandsFor d old H → least_due old.topology H 0 (nodes old.topology) ≡ Some x → x.moment ≤ old.began + ms
-    → Plays d old new H (ticks_at d old H (numbered i (event.Advance ms)) x) (Ok word) → PlaysTurn d old new H (next_of d old.topology H i (event.Advance ms)) (Ok (More word))
+pub ticks : (d : Draws) (old new : WorldState) (H : List Full) (i ms : ℕ) (x : Due) (word : Record) → StandsFor d old H → least_due (flat_lab d old.topology) H 0 (nodes old.topology) ≡ Some x → x.moment ≤ old.began + ms
+    → Plays d old new H (ticks_at d old H (numbered i (event.Advance ms)) x) (Ok word) → PlaysTurn d old new H (next_of (flat_lab d old.topology) H i (event.Advance ms)) (Ok (More word))
 ticks d old new H i ms x word s least within plays =
     subst (λ (z : Full). PlaysTurn d old new H z (Ok (More word))) (sym (next_is_tick d old H i ms x s least within)) (plays.0, refl, plays.1)
 
 -- or isn't
-pub tick_stops : (d : Draws) (old : WorldState) (H : List Full) (i ms : ℕ) (x : Due) (why : Stop) → StandsFor d old H → least_due old.topology H 0 (nodes old.topology) ≡ Some x → x.moment ≤ old.began + ms
-    → IsCause old (ticks_at d old H (numbered i (event.Advance ms)) x) why → IsCause old (next_of d old.topology H i (event.Advance ms)) why
+pub tick_stops : (d : Draws) (old : WorldState) (H : List Full) (i ms : ℕ) (x : Due) (why : Stop) → StandsFor d old H → least_due (flat_lab d old.topology) H 0 (nodes old.topology) ≡ Some x → x.moment ≤ old.began + ms
+    → IsCause old (ticks_at d old H (numbered i (event.Advance ms)) x) why → IsCause old (next_of (flat_lab d old.topology) H i (event.Advance ms)) why
 tick_stops d old H i ms x why s least within cause = subst (λ (z : Full). IsCause old z why) (sym (next_is_tick d old H i ms x s least within)) cause

@@ -1,8 +1,8 @@
 pub mod Wire
 pub mod WireEntry
-pub mod Way
-pub mod Sends
+pub mod Route
 pub mod Emission
+pub mod Prompt
 pub mod Record
 pub mod World
 pub mod Playing

@@ -11,14 +11,16 @@ use Rattle.teredo_node.specs.Journal.{ticked}
 use Rattle.topology.specs.declared.node.Node.{Node}
 use Rattle.history.specs.declared.acts.Act.{Act}
 use Rattle.history.specs.declared.acts.Act.TheVariants as act
-use Rattle.history.specs.Full.{Item, Full, wire, items_of}
+use Rattle.history.specs.Full.{Full, wire, items_of}
 use Rattle.history.specs.Records.{record_of}
-use Rattle.legal.specs.Past.{Draws, has_more, is_number}
+use Rattle.legal.specs.Lab.{Draws, flat_lab}
+use Rattle.legal.specs.Past.{has_more, is_number}
 use Rattle.legal.specs.Next as next
-use Rattle.legal.specs.Next.{Numbered, acts, no_ep, dst_of, input_of}
-use Rattle.lab_nodes.specs.declared.call.Call.{Call}
-use Rattle.lab_nodes.specs.Call.{dst_lent, input_lent}
+use Rattle.legal.specs.Next.{Numbered, acts, no_ep}
 use Rattle.world.specs.declared.going.Going.{Going}
+use Rattle.world.specs.declared.going.Going.TheVariants as going_on
+use Rattle.world.specs.declared.prompt.Prompt.{Prompt}
+use Rattle.world.specs.Prompt.{delivered_by, input_by, dst_by}
 use Rattle.lab_nodes.specs.declared.node_state.NodeState.{NodeState}
 use Rattle.td_outside.specs.declared.clock.TheConstants.{CLOCK_END_MS}
 use Rattle.lab_nodes.specs.NodeState.{NodesOf, AreReady}
@@ -29,7 +31,7 @@ use Rattle.world.specs.World.{WorldState, IsCause, going_after, is_more, record_
 -- an advance that goes on isn't over
 abbrev pub IsGoing : ℕ → Option Going → Type 0
 IsGoing m None = Unit {0}
-IsGoing m (Some g) = m ≤ g.began.0 + g.ms
+IsGoing m (Some (going_on.Advance began ms)) = m ≤ began.0 + ms
 
 pub record IsWorld (t : TopologyState) (m : ℕ) (g : Option Going) (nodes : List NodeState) : Type 0 where
   pub rules : IsTopology t
@@ -39,34 +41,30 @@ pub record IsWorld (t : TopologyState) (m : ℕ) (g : Option Going) (nodes : Lis
 
 -- THE RECORDS
 
--- a node acts by a call
-abbrev pub acts_in : Draws → TopologyState → List Full → Numbered → Act → Option ℕ → Call → Full
-acts_in d t H e a number x = acts d t H e a number x.now.0 x.number (dst_lent x.coming) (input_lent x.coming) x.node
-
--- an entry of the wire is delivered to a node
-abbrev pub reached_by : Draws → WorldState → List Full → Numbered → ℕ → ℕ → Item → Node → Full
-reached_by d w H e number at x node = acts d w.topology H e (act.Deliver number) (Some number) w.moment at (dst_of x) (input_of x) node
+-- a node of a world acts by a prompt
+abbrev pub prompted : Draws → WorldState → List Full → Numbered → Act → Prompt → ℕ → Node → Full
+prompted d w H e a prompt number node = acts (flat_lab d w.topology) H e a (delivered_by prompt) w.moment number (dst_by w.wire prompt) (input_by w.wire prompt) node
 
 -- a tick that is due
 abbrev pub ticks_at : Draws → WorldState → List Full → Numbered → next.Due → Full
-ticks_at d w H e x = acts d w.topology H e act.Tick None (max x.moment w.moment) x.number no_ep ticked x.node
+ticks_at d w H e x = acts (flat_lab d w.topology) H e act.Tick None (max x.moment w.moment) x.number no_ep ticked x.node
 
 -- no tick is due up to a moment
-abbrev pub IsPast : ℕ → Option next.Due → Type 0
-IsPast end None = Unit {0}
-IsPast end (Some x) = end < x.moment
+abbrev pub NoneIsDue : ℕ → Option next.Due → Type 0
+NoneIsDue end None = Unit {0}
+NoneIsDue end (Some x) = end < x.moment
 
 -- ONE RECORD
 
 -- what a record finds: nodes and wire as the history leaves them
 pub record Finds (d : Draws) (w : WorldState) (H : List Full) : Type 0 where
-  pub nodes : NodesOf d w.topology w.nodes H
+  pub nodes : NodesOf (flat_lab d w.topology) w.nodes H
   pub wire : w.wire ≡ wire H
 
 -- the world after the record r, which comes after H
 pub record Comes (d : Draws) (old new : WorldState) (H : List Full) (r : Full) : Type 0 where
   pub moment : new.moment ≡ r.moment
-  pub nodes : NodesOf d old.topology new.nodes (r ∷ H)
+  pub nodes : NodesOf (flat_lab d old.topology) new.nodes (r ∷ H)
   pub wire : new.wire ≡ old.wire ++ items_of r
   pub done : (i : ℕ) → get_or new.done i false ≡ (is_number i r.delivered || get_or old.done i false)
 

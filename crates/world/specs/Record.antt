@@ -1,10 +1,15 @@
--- The records that a world says.
-use Rattle.std.specs.Prelude.{ℕ, List, Option, None}
+-- The records that a world fills.
+use Rattle.std.specs.Prelude.{ℕ, [], Option, None}
 use Rattle.teredo_node.specs.declared.fate.Fate.{Fate}
+use Rattle.teredo_node.specs.declared.fate.Fate.TheVariants as fate
 use Rattle.history.specs.declared.acts.Act.{Act}
-use Rattle.history.specs.declared.mark.Mark.{Mark}
+use Rattle.history.specs.declared.acts.Act.TheVariants as act
 use Rattle.history.specs.declared.records.Record.{Record}
 
--- a record that hands nothing to a host, with these marks
-abbrev pub said : ℕ → ℕ → Act → Option ℕ → Fate → List Mark → Record
-said m index act node fate marks = record { event = index; moment = record { 0 = m }; act = act; node = node; fate = fate; address = None; handed = None; gone = 0; marks = marks }
+-- the record of an event at a moment that doesn't say yet what was done
+abbrev pub fresh_record : ℕ → ℕ → Record
+fresh_record index m = record { event = index; moment = record { 0 = m }; act = act.Tick; node = None; fate = fate.Idle; address = None; handed = None; gone = 0; marks = [] }
+
+-- what was done, by which node, and by which rule
+abbrev pub with_deed : Record → Act → Option ℕ → Fate → Record
+with_deed r a node f = record r { act = a; node = node; fate = f }

@@ -1,8 +1,12 @@
--- What a world keeps of the wire.
-use Rattle.std.specs.Prelude.{◌≡◌, ◌≤◌, ◌<◌, ℕ, Bool, true, false, List, [], ◌∷◌, ◌++◌, length, take, get_or}
+-- What a world keeps of the wire, and how something comes onto it.
+use Rattle.std.specs.Prelude.{◌≡◌, ◌≢◌, ◌≤◌, ◌<◌, ◌+◌, ℕ, Bool, true, false, List, [], ◌++◌, length, take, filter_map, replicate, get_or, Result, Ok, Err}
 use Rattle.std.specs.List.{AllByRecursion}
 use Rattle.td_base.specs.declared.datagram.TheConstants.{DATAGRAM_MAX}
-use Rattle.history.specs.Full.{Item, udp, six, bytes_of}
+use Rattle.history.specs.declared.mark.Mark.{Mark}
+use Rattle.history.specs.declared.turn.Stop.{Stop}
+use Rattle.history.specs.declared.turn.Stop.TheVariants.{WireFull, NoMemory}
+use Rattle.history.specs.Full.{Item, udp, six, Made, item_in, bytes_of}
+use Rattle.history.specs.Records.{marks_of}
 use Rattle.world.specs.declared.wire.TheConstants.{ENTRIES_MAX}
 use Rattle.world.specs.declared.wire.Entry.{Entry}
 use Rattle.world.specs.declared.wire.Entry.TheVariants.{Udp, Six}
@@ -20,9 +24,9 @@ pub record WireState : Type 0 where
 abbrev pub no_wire : WireState
 no_wire = record { items = []; done = [] }
 
--- one entry more, which wasn't delivered yet
-abbrev pub with_item : WireState → Item → WireState
-with_item w x = record { items = w.items ++ x ∷ []; done = w.done ++ false ∷ [] }
+-- with these entries behind those that were there, none of them delivered
+abbrev pub with_items : WireState → List Item → WireState
+with_items w xs = record { items = w.items ++ xs; done = w.done ++ replicate (length xs) false }
 
 -- the first entries alone
 abbrev pub front_of : ℕ → WireState → WireState
@@ -36,3 +40,24 @@ IsShort x = length (bytes_of x) ≤ DATAGRAM_MAX
 abbrev pub IsWire : List Item → List Bool → ℕ → Type 0
 IsWire items done low = (length done ≡ length items) × (length items ≤ ENTRIES_MAX) × AllByRecursion IsShort items
     × (low ≤ length items) × ((i : ℕ) → i < low → get_or done i false ≡ true)
+
+-- WHAT COMES ONTO IT
+
+-- those of what was made that weren't lost
+abbrev pub entries_in : List Made → List Item
+entries_in made = filter_map item_in made
+
+-- they came onto the wire in order, and a mark for each of what was made behind those that were there
+pub record Enters (old new : WireState) (before said : List Mark) (made : List Made) : Type 0 where
+  pub wire : new ≡ with_items old (entries_in made)
+  pub marks : said ≡ before ++ marks_of (length old.items) made
+
+-- they did; or the wire has no room for all of them; or memory was wanting, for something
+abbrev pub Puts : (old new : WireState) (before said : List Mark) (made : List Made) → Result (Unit {0}) Stop → Type 0
+Puts old new before said made (Ok done) = Enters old new before said made
+Puts old new before said made (Err WireFull) = ENTRIES_MAX < length old.items + length (entries_in made)
+Puts old new before said made (Err NoMemory) = made ≢ []
+
+-- a wire that begins as it was
+abbrev pub Begins : WireState → WireState → Type 0
+Begins old new = (more : List Item) × (new ≡ with_items old more)

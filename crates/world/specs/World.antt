@@ -2,6 +2,7 @@
 use Rattle.std.specs.Prelude.{◌≡◌, ℕ, ◌+◌, ◌<◌, ◌≤◌, Bool, true, false, List, [], ◌∷◌, length, get_or, Option, Some, None}
 use Rattle.history.specs.declared.event.Event.{Event}
 use Rattle.history.specs.declared.event.Event.TheVariants as event
+use Rattle.history.specs.declared.event.TheConstants.{ADVANCE_MAX_MS}
 use Rattle.history.specs.declared.records.Record.{Record}
 use Rattle.history.specs.declared.turn.Turn.{Turn}
 use Rattle.history.specs.declared.turn.Turn.TheVariants.{More, Last}
@@ -15,7 +16,9 @@ use Rattle.history.specs.Telling.{IsTold}
 use Rattle.world.specs.declared.wire.TheConstants.{ENTRIES_MAX}
 use Rattle.td_outside.specs.declared.clock.TheConstants.{CLOCK_END_MS}
 use Rattle.world.specs.declared.going.Going.{Going}
-use Rattle.legal.specs.Past.{now, began, has_more, going, was_delivered, Draws}
+use Rattle.world.specs.declared.going.Going.TheVariants as going_on
+use Rattle.legal.specs.Lab.{Draws, flat_lab}
+use Rattle.legal.specs.Past.{now, began, has_more, going, was_delivered}
 use Rattle.legal.specs.Next.{next_of}
 use Rattle.legal.specs.Legal.{Grown}
 use Rattle.legal.specs.declared.left.TheConstants.{LEFT_MAX}
@@ -39,11 +42,11 @@ pub record WorldState : Type 0 where
 -- the event that goes on, and when it began
 abbrev pub event_in : Option Going → Option Event
 event_in None = None
-event_in (Some g) = Some (event.Advance g.ms)
+event_in (Some (going_on.Advance began ms)) = Some (event.Advance ms)
 
 abbrev pub began_in : ℕ → Option Going → ℕ
 began_in m None = m
-began_in m (Some g) = g.began.0
+began_in m (Some (going_on.Advance began ms)) = began.0
 
 abbrev pub state_of : TopologyState → ℕ → Option Going → List NodeState → WireState → Option Stop → WorldState
 state_of t m g nodes wire stopped = record { topology = t; moment = m; began = began_in m g; going = event_in g; nodes = nodes; wire = wire.items; done = wire.done; stopped = stopped }
@@ -66,16 +69,16 @@ left_in w = left_of w w.going
 
 -- WHAT A WORLD STANDS FOR
 
--- The world stands for a history: one clause a part.
+-- The world stands for a history of its topology, no NAT being behind another one: one clause a part.
 pub record StandsFor (d : Draws) (w : WorldState) (H : List Full) : Type 0 where
-  pub grown : Grown d w.topology H
+  pub grown : Grown (flat_lab d w.topology) H
   pub moment : w.moment ≡ now H
   pub began : w.began ≡ began H
   pub going : w.going ≡ going H
-  pub nodes : NodesOf d w.topology w.nodes H
+  pub nodes : NodesOf (flat_lab d w.topology) w.nodes H
   pub wire : w.wire ≡ wire H
   pub done : (i : ℕ) → get_or w.done i false ≡ was_delivered i H
-  pub left : left w.topology H ≡ left_in w
+  pub left : left (flat_lab d w.topology) H ≡ left_in w
   pub most : left_in w ≤ LEFT_MAX
 
 -- WHAT A STEP DOES
@@ -103,21 +106,24 @@ abbrev pub going_after : Event → Turn → Option Event
 going_after e (More r) = Some e
 going_after e (Last r) = None
 
+-- after a record that has further ones, less is left
+abbrev pub Falls : WorldState → WorldState → Turn → Type 0
+Falls old new (More r) = left_in new < left_in old
+Falls old new (Last r) = Unit {0}
+
 -- The step gave the record that follows for its event, and the world then stands for the history with it.
 pub record Steps (old new : WorldState) (index : ℕ) (event : Event) (turn : Turn) : Type 0 where
   pub topology : new.topology ≡ old.topology
   pub goes_on : new.stopped ≡ None
   pub going : new.going ≡ going_after event turn
-  pub record_is : (d : Draws) (H : List Full) → StandsFor d old H → record_in turn ≡ record_of (next_of d old.topology H index event)
-  pub stands : (d : Draws) (H : List Full) → StandsFor d old H → StandsFor d new (next_of d old.topology H index event ∷ H)
+  pub record_is : (d : Draws) (H : List Full) → StandsFor d old H → record_in turn ≡ record_of (next_of (flat_lab d old.topology) H index event)
+  pub stands : (d : Draws) (H : List Full) → StandsFor d old H → StandsFor d new (next_of (flat_lab d old.topology) H index event ∷ H)
   -- the event has further records exactly where the turn says so
-  pub more : (d : Draws) (H : List Full) → StandsFor d old H → has_more event (next_of d old.topology H index event).act ≡ is_more turn
-  pub tells : (d : Draws) (H : List Full) → StandsFor d old H → IsTold (next_of d old.topology H index event)
-
--- after a record that has further ones, less is left
-abbrev pub Falls : WorldState → WorldState → Turn → Type 0
-Falls old new (More r) = left_in new < left_in old
-Falls old new (Last r) = Unit {0}
+  pub more : (d : Draws) (H : List Full) → StandsFor d old H → has_more event (next_of (flat_lab d old.topology) H index event).act ≡ is_more turn
+  pub tells : (d : Draws) (H : List Full) → StandsFor d old H → IsTold (next_of (flat_lab d old.topology) H index event)
+  pub falls : (d : Draws) (H : List Full) → StandsFor d old H → Falls old new turn
+  pub time : new.moment ≤ old.began + ADVANCE_MAX_MS
+  pub entries : length new.wire ≤ ENTRIES_MAX
 
 -- WHY IT STOPS
 
@@ -135,7 +141,7 @@ IsCause w r NoMemory = NeedsMemory r
 
 -- why a world stops that hadn't stopped before: for the record that follows
 abbrev pub StopsFor : WorldState → ℕ → Event → Stop → Type 0
-StopsFor w index event stop = (d : Draws) (H : List Full) → StandsFor d w H → IsCause w (next_of d w.topology H index event) stop
+StopsFor w index event stop = (d : Draws) (H : List Full) → StandsFor d w H → IsCause w (next_of (flat_lab d w.topology) H index event) stop
 
 -- What stays where it stops. Of time and nodes nothing is promised: they may have begun to change.
 pub record Stays (old new : WorldState) (stop : Stop) : Type 0 where

@@ -1,8 +1,9 @@
+//! What goes on between two records of an event.
 use td_base::Millis;
 
-/// An advance that goes on: when it began, and how far it goes, in milliseconds.
+/// An event that has further records.
 #[derive(Clone, Copy, Debug)]
-pub struct Going {
-    pub began: Millis,
-    pub ms: u64,
+pub enum Going {
+    /// An advance: when it began, and how far it goes, in milliseconds.
+    Advance { began: Millis, ms: u64 },
 }

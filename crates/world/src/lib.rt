@@ -17,27 +17,27 @@
 //! | module | holds | stated in |
 //! |---|---|---|
 //! | `world` | `World`: nodes, wire and moment, and the step | `specs/World.antt`, `Playing.antt` |
-//! | `asking` | a node is asked, and what it sends comes onto the wire | `specs/Playing.antt` |
+//! | `going` | an event that has further records | `specs/World.antt` |
+//! | `act` | a node is asked, and what it sends comes onto the wire | `specs/Playing.antt` |
+//! | `prompt` | what prompts a node, and what comes to it | `specs/Prompt.antt` |
 //! | `deliveries`, `packets`, `datagrams`, `restarts`, `advance` | what each event does to a world | `specs/Playing.antt` |
-//! | `going` | an advance that goes on | `specs/World.antt` |
-//! | `emission`, `outlet` | how what a node sends comes onto the wire | `specs/Emission.antt`, `Sends.antt` |
-//! | `wire` | everything that was sent, and what of it was delivered | `specs/Wire.antt`, `WireEntry.antt` |
-//! | `way`, `coming` | where an entry goes, and how it comes to a node | `specs/Way.antt` |
+//! | `sender` | how what a node sends comes onto the wire | `specs/Emission.antt` |
+//! | `wire` | everything that was sent, and what of it was delivered; the door onto it | `specs/Wire.antt`, `WireEntry.antt` |
+//! | `route` | where an entry goes | `specs/Route.antt` |
 //! | `record` | what is said of a step | `specs/Record.antt` |
 #![tactic(auto)]
 
+mod act;
 mod advance;
-mod asking;
-mod coming;
 mod datagrams;
 mod deliveries;
-mod emission;
 mod going;
-mod outlet;
 mod packets;
+mod prompt;
 mod record;
 mod restarts;
-mod way;
+mod route;
+mod sender;
 mod wire;
 mod world;
 

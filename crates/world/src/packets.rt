@@ -6,62 +6,57 @@ ghost use Rattle.history.specs.declared.event.Event.TheVariants as event;
 ghost use Rattle.history.specs.declared.event.TheConstants.{BODY_MAX};
 ghost use Rattle.td_base.specs.declared.datagram.TheConstants.{DATAGRAM_MAX};
 ghost use Rattle.history.specs.Full.{Full};
-ghost use Rattle.legal.specs.Past.{Draws, at_nat};
+ghost use Rattle.legal.specs.Lab.{Draws, flat_lab};
+ghost use Rattle.legal.specs.Past.{at_nat};
 ghost use Rattle.legal.specs.Next.{numbered, plain, hands_in, next_of};
 ghost use Rattle.world.specs.World.{StandsFor};
+ghost use Rattle.world.specs.Record.{fresh_record};
 ghost use Rattle.world.specs.Playing.{Plays, played};
 
+use crate::prompt::Prompt;
 use crate::record::say;
 use crate::world::World;
 use history::{Act, Record, Stop, Target, Verb};
-use lab_nodes::{Call, Coming, DATA_MAX, address_at, echo, target_address, write_data};
+use lab_nodes::{DATA_MAX, address_at, echo, target_address, write_data};
 use teredo_node::Fate;
 
 impl<'a> World<'a> {
     /// Lets the host of a node hand in a packet.
     pub(crate) fn hand(
         &mut self,
-        index: u32,
         verb: Verb,
         number: u16,
         bytes: &[u8],
         out: &mut Record,
     ) -> Result<(), Stop>
-        requires empty { out.old.marks ≡ [] }
+        requires fresh { out.old ≡ fresh_record out.old.event self.old.moment }
         requires short { length bytes.now ≤ DATAGRAM_MAX }
-        ensures plays { (d : Draws) (H : List Full) → StandsFor d self.old H → (e : Event) → at_nat self.old.topology e (plain verb) ≡ []
-            → Plays d self.old self.new H (hands_in d self.old.topology H (numbered index e) verb number bytes.now (node_at self.old.topology number)) (played result out.new) }
+        ensures plays { (d : Draws) (H : List Full) → StandsFor d self.old H → (e : Event) → at_nat (flat_lab d self.old.topology) e (plain verb) ≡ []
+            → Plays d self.old self.new H (hands_in (flat_lab d self.old.topology) H (numbered out.old.event e) verb number bytes.now (node_at self.old.topology number)) (played result out.new) }
         ensures rest { self.new ≡ record self.old { nodes = self.new.nodes; wire = self.new.wire; done = self.new.done } }
         ensures err { OnErr result ((self.new.wire ≡ self.old.wire) × (self.new.done ≡ self.old.done)) }
     {
         legal::frame();
         let act = Act::Plain { verb };
         let Some(node) = self.topology.node(usize::from(number)) else {
-            say(out, self.moment, index, act, Some(number), Fate::Idle);
+            say(out, act, Some(number), Fate::Idle);
             return Ok(());
         };
-        let call = Call {
-            number,
-            node,
-            now: self.moment,
-            coming: Coming::Given { bytes },
-        };
-        self.act(index, act, call, out)
+        self.act(act, number, node, Prompt::Packet { bytes }, out)
     }
 
     /// Lets the host of a node send data.
     pub(crate) fn send_data(
         &mut self,
-        index: u32,
         number: u16,
         to: Target,
         body: &[u8],
         out: &mut Record,
     ) -> Result<(), Stop>
-        requires empty { out.old.marks ≡ [] }
+        requires fresh { out.old ≡ fresh_record out.old.event self.old.moment }
         requires short { length body.now ≤ BODY_MAX }
         ensures plays { (d : Draws) (H : List Full) → StandsFor d self.old H
-            → Plays d self.old self.new H (next_of d self.old.topology H index (event.Host number to body.now)) (played result out.new) }
+            → Plays d self.old self.new H (next_of (flat_lab d self.old.topology) H out.old.event (event.Host number to body.now)) (played result out.new) }
         ensures rest { self.new ≡ record self.old { nodes = self.new.nodes; wire = self.new.wire; done = self.new.done } }
         ensures err { OnErr result ((self.new.wire ≡ self.old.wire) × (self.new.done ≡ self.old.done)) }
     {
@@ -70,21 +65,20 @@ impl<'a> World<'a> {
         let dst = target_address(self.topology, nodes, to);
         let mut bytes = [0; DATA_MAX];
         let len = write_data(src, dst, body, &mut bytes);
-        self.hand(index, Verb::Host, number, &bytes[..len], out)
+        self.hand(Verb::Host, number, &bytes[..len], out)
     }
 
     /// Lets the host of a node send an echo request.
     pub(crate) fn send_echo(
         &mut self,
-        index: u32,
         number: u16,
         to: Target,
         seq: u16,
         out: &mut Record,
     ) -> Result<(), Stop>
-        requires empty { out.old.marks ≡ [] }
+        requires fresh { out.old ≡ fresh_record out.old.event self.old.moment }
         ensures plays { (d : Draws) (H : List Full) → StandsFor d self.old H
-            → Plays d self.old self.new H (next_of d self.old.topology H index (event.Echo number to seq)) (played result out.new) }
+            → Plays d self.old self.new H (next_of (flat_lab d self.old.topology) H out.old.event (event.Echo number to seq)) (played result out.new) }
         ensures rest { self.new ≡ record self.old { nodes = self.new.nodes; wire = self.new.wire; done = self.new.done } }
         ensures err { OnErr result ((self.new.wire ≡ self.old.wire) × (self.new.done ≡ self.old.done)) }
     {
@@ -92,6 +86,6 @@ impl<'a> World<'a> {
         let src = address_at(self.topology, nodes, number);
         let dst = target_address(self.topology, nodes, to);
         let bytes = echo(src, dst, seq);
-        self.hand(index, Verb::Echo, number, &bytes, out)
+        self.hand(Verb::Echo, number, &bytes, out)
     }
 }

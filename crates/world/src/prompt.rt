@@ -1,19 +1,68 @@
-//! An entry of the wire, as it comes to a node.
+//! What prompts a node.
 ghost use Rattle.std.specs.Prelude.{◌≡◌};
 ghost use Rattle.legal.specs.Next.{dst_of, input_of};
-ghost use Rattle.lab_nodes.specs.Call.{dst_lent, input_lent};
+ghost use Rattle.lab_nodes.specs.Call.{dst_lent, input_lent, IsShortInput};
 ghost use Rattle.world.specs.WireEntry.{item_lent};
+ghost use Rattle.world.specs.Prompt.{IsPrompt, dst_by, input_by, done_by};
 
-use crate::wire::WireEntry;
+use crate::wire::{Wire, WireEntry};
 use lab_nodes::Coming;
 
+/// What prompts a node to do something.
+#[derive(Clone, Copy, Debug)]
+pub enum Prompt<'a> {
+    /// The entry of that number, which is delivered to it.
+    Entry { number: u32 },
+    /// A packet that its host hands it.
+    Packet { bytes: &'a [u8] },
+    /// The moment at which its tick is due.
+    Tick,
+}
+
 /// What comes to a node by an entry of the wire.
-pub fn coming_by(entry: WireEntry<'_>) -> Coming<'_>
+fn coming_by(entry: WireEntry<'_>) -> Coming<'_>
     ensures input { input_lent result ≡ input_of (item_lent entry.entry) }
     ensures dst { dst_lent result ≡ dst_of (item_lent entry.entry) }
 {
     match entry {
         WireEntry::Udp { src, dst, bytes } => Coming::Arrived { src, dst, bytes },
         WireEntry::Six { bytes, .. } => Coming::FromSix { bytes },
+    }
+}
+
+/// What comes to a node by an entry of that number: where there is none, its tick.
+fn coming_at(wire: &Wire, number: u32) -> Coming<'_>
+    ensures input { input_lent result ≡ input_by wire.now.items (Prompt.Entry number) }
+    ensures dst { dst_lent result ≡ dst_by wire.now.items (Prompt.Entry number) }
+    ensures short { IsShortInput (input_lent result) }
+{
+    match wire.get(number as usize) {
+        Some(entry) => coming_by(entry),
+        None => Coming::Ticked,
+    }
+}
+
+/// What comes to a node by a prompt.
+pub fn coming_of<'a>(wire: &'a Wire, prompt: Prompt<'a>) -> Coming<'a>
+    requires there { IsPrompt wire.now.items wire.now.done prompt }
+    ensures input { input_lent result ≡ input_by wire.now.items prompt.entry }
+    ensures dst { dst_lent result ≡ dst_by wire.now.items prompt.entry }
+    ensures short { IsShortInput (input_lent result) }
+{
+    match prompt {
+        Prompt::Entry { number } => coming_at(wire, number),
+        Prompt::Packet { bytes } => Coming::Given { bytes },
+        Prompt::Tick => Coming::Ticked,
+    }
+}
+
+/// Remembers the entry as delivered that a node took.
+pub fn remember(wire: &mut Wire, prompt: Prompt<'_>)
+    ensures { wire.new ≡ record wire.old { done = done_by prompt.entry wire.old.done } }
+{
+    match prompt {
+        Prompt::Entry { number } => wire.set_delivered(number as usize),
+        Prompt::Packet { .. } => {}
+        Prompt::Tick => {}
     }
 }

@@ -1,18 +1,19 @@
-//! The records of the laboratory.
-ghost use Rattle.std.specs.Prelude.{◌≡◌, [], Some};
-ghost use Rattle.world.specs.Record.{said};
+//! The records that a world fills.
+ghost use Rattle.std.specs.Prelude.{◌≡◌, Some};
+ghost use Rattle.world.specs.Record.{fresh_record, with_deed};
 
 use history::{Act, Marks, Record};
 use td_base::Millis;
 use teredo_node::{Fate, Step};
 
-/// A record that says nothing yet. It is filled where it lies, since it has some 400 bytes.
-pub fn blank(index: u32) -> Record
-    ensures empty { result.marks ≡ [] }
+/// The record of an event at a moment, which doesn't say yet what was done. It is filled where it lies, since it has some
+/// 400 bytes.
+pub fn blank(index: u32, now: Millis) -> Record
+    ensures { result ≡ fresh_record index now.0 }
 {
     Record {
         event: index,
-        moment: Millis(0),
+        moment: now,
         act: Act::Tick,
         node: None,
         fate: Fate::Idle,
@@ -23,26 +24,19 @@ pub fn blank(index: u32) -> Record
     }
 }
 
-/// Says in a record without marks what was done, and that nothing was sent or handed to a host.
-pub fn say(out: &mut Record, now: Millis, index: u32, act: Act, node: Option<u16>, fate: Fate)
-    requires empty { out.old.marks ≡ [] }
-    ensures { out.new ≡ said now.0 index act node fate [] }
+/// Says what was done, by which node, and by which rule.
+pub fn say(out: &mut Record, act: Act, node: Option<u16>, fate: Fate)
+    ensures { out.new ≡ with_deed out.old act node fate }
 {
-    out.event = index;
-    out.moment = now;
     out.act = act;
     out.node = node;
     out.fate = fate;
-    out.address = None;
-    out.handed = None;
-    out.gone = 0;
 }
 
-/// Says in a record without marks what a node did by its step. What it sends, and what a host was handed, isn't in it yet.
-pub fn say_step(out: &mut Record, now: Millis, index: u32, act: Act, node: u16, step: &Step)
-    requires empty { out.old.marks ≡ [] }
-    ensures { out.new ≡ record (said now.0 index act (Some node) step.now.fate []) { gone = step.now.gone } }
+/// Says what a node did by its step. What it sends, and what a host was handed, isn't in it yet.
+pub fn say_step(out: &mut Record, act: Act, node: u16, step: &Step)
+    ensures { out.new ≡ record (with_deed out.old act (Some node) step.now.fate) { gone = step.now.gone } }
 {
-    say(out, now, index, act, Some(node), step.fate());
+    say(out, act, Some(node), step.fate());
     out.gone = step.gone();
 }

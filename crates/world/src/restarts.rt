@@ -1,11 +1,12 @@
 //! Nodes start anew, and NATs forget.
-ghost use Rattle.std.specs.Prelude.{◌≡◌, List, [], Ok};
+ghost use Rattle.std.specs.Prelude.{◌≡◌, List, Ok};
 ghost use Rattle.history.specs.declared.event.Event.TheVariants as event;
 ghost use Rattle.history.specs.Events.{IsForgotten};
 ghost use Rattle.history.specs.Full.{Full};
-ghost use Rattle.legal.specs.Past.{Draws};
+ghost use Rattle.legal.specs.Lab.{Draws, flat_lab};
 ghost use Rattle.legal.specs.Next.{next_of};
 ghost use Rattle.world.specs.World.{StandsFor};
+ghost use Rattle.world.specs.Record.{fresh_record};
 ghost use Rattle.world.specs.Playing.{Plays};
 
 use crate::record::say;
@@ -17,10 +18,10 @@ use topology::Node;
 
 impl<'a> World<'a> {
     /// Lets a node start anew.
-    pub(crate) fn restart(&mut self, index: u32, number: u16, out: &mut Record)
-        requires empty { out.old.marks ≡ [] }
+    pub(crate) fn restart(&mut self, number: u16, out: &mut Record)
+        requires fresh { out.old ≡ fresh_record out.old.event self.old.moment }
         ensures plays { (d : Draws) (H : List Full) → StandsFor d self.old H
-            → Plays d self.old self.new H (next_of d self.old.topology H index (event.Restart number)) (Ok out.new) }
+            → Plays d self.old self.new H (next_of (flat_lab d self.old.topology) H out.old.event (event.Restart number)) (Ok out.new) }
         ensures rest { self.new ≡ record self.old { nodes = self.new.nodes } }
     {
         legal::frame();
@@ -28,15 +29,15 @@ impl<'a> World<'a> {
         let act = Act::Plain {
             verb: Verb::Restart,
         };
-        say(out, self.moment, index, act, Some(number), Fate::Done);
+        say(out, act, Some(number), Fate::Done);
     }
 
     /// Lets a NAT forget a client behind it.
-    pub(crate) fn forget(&mut self, index: u32, number: u16, who: u16, out: &mut Record)
-        requires empty { out.old.marks ≡ [] }
+    pub(crate) fn forget(&mut self, number: u16, who: u16, out: &mut Record)
+        requires fresh { out.old ≡ fresh_record out.old.event self.old.moment }
         requires event { IsForgotten self.old.topology number who }
         ensures plays { (d : Draws) (H : List Full) → StandsFor d self.old H
-            → Plays d self.old self.new H (next_of d self.old.topology H index (event.Forget number who)) (Ok out.new) }
+            → Plays d self.old self.new H (next_of (flat_lab d self.old.topology) H out.old.event (event.Forget number who)) (Ok out.new) }
         ensures rest { self.new ≡ record self.old { nodes = self.new.nodes } }
     {
         legal::frame();
@@ -48,6 +49,6 @@ impl<'a> World<'a> {
         };
         forget_at(&mut self.nodes, usize::from(number), row.inside);
         let act = Act::Plain { verb: Verb::Forget };
-        say(out, self.moment, index, act, Some(number), Fate::Done);
+        say(out, act, Some(number), Fate::Done);
     }
 }

@@ -1,184 +1,163 @@
-//! How what a node sends comes onto the wire.
-ghost use Rattle.std.specs.Prelude.{◌≡◌, ◌≤◌, ◌<◌, ◌+◌, ℕ, [], ◌∷◌, ◌++◌, None, Some, List, length, filter_map, IfOk, IfErr, IfSome, OnErr, OnOk, IsErrOf};
+//! Who sends, and how what it sends comes onto the wire.
+ghost use Rattle.std.specs.Prelude.{◌≡◌, ◌≢◌, ◌≤◌, ◌<◌, ◌++◌, ℕ, [], ◌∷◌, false, None, List, length, slice_get, IfOk, IfSome, OnErr, OnOk, IfErr};
 ghost use Rattle.td_base.specs.declared.datagram.TheConstants.{DATAGRAM_MAX};
-ghost use Rattle.history.specs.Full.{Item, item_in};
-ghost use Rattle.history.specs.Records.{mark_of, marks_of};
-ghost use Rattle.legal.specs.Emit.{through_nat, relay_for, native_made};
-ghost use Rattle.nat_kinds.specs.Answer.{nat_answer};
-ghost use Rattle.nat_kinds.specs.History.{Entry};
-ghost use Rattle.nat_kinds.specs.Nat.{StandsFor};
 ghost use Rattle.td_base.specs.declared.side.Side.{Side};
-ghost use Rattle.topology.specs.Topology.{own_ep};
 ghost use Rattle.teredo_node.specs.declared.step.TheConstants.{SENDS_MAX};
-ghost use Rattle.world.specs.declared.wire.TheConstants.{ENTRIES_MAX};
-ghost use Rattle.world.specs.Sends.{packet_for, packet_made, Extends, Grows, source_through, made_from, history_after, Passes};
+ghost use Rattle.teredo_node.specs.Journal.{Entry as JournalEntry};
+ghost use Rattle.topology.specs.declared.node.Node.TheVariants.{Client as client};
+ghost use Rattle.topology.specs.Rows.{TopologyState};
+ghost use Rattle.topology.specs.Topology.{own_ep};
+ghost use Rattle.topology.specs.Chains.{Passing, crossing};
+ghost use Rattle.history.specs.Full.{Full};
+ghost use Rattle.legal.specs.Lab.{Draws, Lab, flat_lab};
+ghost use Rattle.legal.specs.Past.{nat_pasts};
+ghost use Rattle.legal.specs.Emit.{or_loss, by_way, outright, relay_for, native_made};
+ghost use Rattle.lab_nodes.specs.NodeState.{AreReady};
+ghost use Rattle.world.specs.Wire.{Puts, Begins};
+ghost use Rattle.world.specs.Emission.{IsNatWith, KeepsItsNat, IsEmission, sent_by, six_sent, IsBehind};
 
-use crate::wire::{ENTRIES_MAX, Wire};
-use history::{Loss, Mark, Marks, Stop};
+use crate::wire::{Entry, Wire};
+use history::{Loss, Marks, Stop};
+use lab_nodes::NodeState;
 use nat_kinds::{Nat, NatRefusal};
-use td_base::{Ep, Ip4, Millis, NoMemory, Side};
+use td_base::{Ep, Ip4, Millis, Side};
 use td_outside::Octets;
 use teredo_node::Step;
-use topology::{NativeNode, Node};
+use topology::{ClientNode, NativeNode, Node};
 
-/// How what a node sends leaves it.
+/// Who sends, and when.
 #[derive(Clone, Copy, Debug)]
-pub enum Outlet {
-    /// From an endpoint of its own, one for each side.
-    Own { primary: Ep, secondary: Ep },
+pub struct Sender {
+    pub node: Node,
+    pub now: Millis,
 }
 
 /// The endpoint of a node that has none.
-const NOBODY: Outlet = Outlet::Own {
-    primary: Ep {
-        ip: Ip4([0; 4]),
-        port: 0,
-    },
-    secondary: Ep {
-        ip: Ip4([0; 4]),
-        port: 0,
-    },
+const NOBODY: Ep = Ep {
+    ip: Ip4([0; 4]),
+    port: 0,
 };
 
-impl Outlet {
-    ghost use Rattle.world.specs.Sends.{source_of, made_by, all_made, packet_made, Extends, Grows};
-
-    /// That of a node that sends by no NAT.
-    pub fn of(node: Node) -> Outlet
-        ensures { (side : Side) → source_of result side ≡ own_ep node side }
-    {
-        match node {
-            Node::Server(row) => Outlet::Own {
-                primary: Ep::of_server(row.primary),
-                secondary: Ep::of_server(row.secondary),
-            },
-            Node::Relay(row) => Outlet::Own {
-                primary: row.at,
-                secondary: row.at,
-            },
-            Node::Nat(_) => NOBODY,
-            Node::Client(_) => NOBODY,
-            Node::Native(_) => NOBODY,
-        }
-    }
-
-    /// The endpoint that a datagram leaves from.
-    fn source(self, side: Side) -> Ep
-        ensures { result ≡ source_of self side }
-    {
-        match self {
-            Outlet::Own { primary, secondary } => match side {
-                Side::Primary => primary,
-                Side::Secondary => secondary,
-            },
-        }
-    }
-
-    /// Puts the datagrams of a step on the wire, and a mark for each into `marks`.
-    fn put_sends(self, wire: &mut Wire, step: &Step, marks: &mut Marks) -> Result<(), NoMemory>
-        requires none { marks.old ≡ [] }
-        requires room { length wire.old.items + length step.now.sends ≤ ENTRIES_MAX }
-        ensures ok { OnOk result (Grows wire.old wire.new (made_by self step.now.sends)) }
-        ensures marked { OnOk result (marks.new ≡ marks_of (length wire.old.items) (made_by self step.now.sends)) }
-        ensures entries { OnOk result (length wire.new.items ≡ length wire.old.items + length step.now.sends) }
-        ensures few { OnOk result (length marks.new ≤ SENDS_MAX) }
-        ensures err { OnErr result ((more : List Item) × Extends wire.old wire.new more) }
-        ensures needs { OnErr result (0 < length step.now.sends) }
-    {
-        for i in 0..step.count() {
-            let (side, to, bytes) = step.send(i);
-            let number = wire.len() as u32;
-            let src = self.source(side);
-            let len = bytes.len();
-            wire.push_copy(src, to, bytes)?;
-            marks.push(Mark::Udp {
-                number,
-                src,
-                dst: to,
-                len,
-            });
-        }
-        Ok(())
-    }
-
-    /// Puts all that a step sends on the wire, the packet for the IPv6 side last. Where memory runs out, some of it is
-    /// there.
-    fn put_all(
-        self,
-        wire: &mut Wire,
-        step: &Step,
-        packet: Option<Octets>,
-        marks: &mut Marks,
-    ) -> Result<(), NoMemory>
-        requires none { marks.old ≡ [] }
-        requires room { length wire.old.items + length step.now.sends + length (packet_made packet) ≤ ENTRIES_MAX }
-        requires short { IfSome packet (λ bytes. length bytes ≤ DATAGRAM_MAX) }
-        ensures ok { OnOk result (Grows wire.old wire.new (all_made self step.now.sends packet)) }
-        ensures marked { OnOk result (marks.new ≡ marks_of (length wire.old.items) (all_made self step.now.sends packet)) }
-        ensures err { OnErr result ((more : List Item) × Extends wire.old wire.new more) }
-        ensures needs { OnErr result (0 < length step.now.sends + length (packet_made packet)) }
-    {
-        self.put_sends(wire, step, marks)?;
-        match packet {
-            None => Ok(()),
-            Some(packet) => {
-                put_packet(wire, None, packet, marks)?;
-                Ok(())
-            }
-        }
-    }
-
-    /// Puts all that a step sends on the wire, the packet for the IPv6 side last, and the marks into `marks`. At a stop
-    /// nothing is put on the wire.
-    pub fn send(
-        self,
-        wire: &mut Wire,
-        step: &Step,
-        packet: Option<Octets>,
-        marks: &mut Marks,
-    ) -> Result<(), Stop>
-        requires none { marks.old ≡ [] }
-        requires short { IfSome packet (λ bytes. length bytes ≤ DATAGRAM_MAX) }
-        ensures ok { OnOk result (Grows wire.old wire.new (all_made self step.now.sends packet)) }
-        ensures marked { OnOk result (marks.new ≡ marks_of (length wire.old.items) (all_made self step.now.sends packet)) }
-        ensures err { OnErr result (wire.new ≡ wire.old) }
-        ensures full { IsErrOf result Stop.WireFull → ENTRIES_MAX < length wire.old.items + (length step.now.sends + length (packet_made packet)) }
-        ensures needs { IsErrOf result Stop.NoMemory → 0 < length step.now.sends + length (packet_made packet) }
-    {
-        let len = wire.len();
-        if step.count() + usize::from(packet.is_some()) > ENTRIES_MAX - len {
-            return Err(Stop::WireFull);
-        }
-        match self.put_all(wire, step, packet, marks) {
-            Ok(()) => Ok(()),
-            Err(NoMemory) => {
-                wire.cut(len);
-                Err(Stop::NoMemory)
-            }
-        }
+/// The endpoint of a node's own that a datagram leaves from.
+fn own_ep(node: &Node, side: Side) -> Ep
+    ensures { result ≡ own_ep node.now side }
+{
+    match node {
+        Node::Server(row) => match side {
+            Side::Primary => Ep::of_server(row.primary),
+            Side::Secondary => Ep::of_server(row.secondary),
+        },
+        Node::Relay(row) => row.at,
+        Node::Nat(_) => NOBODY,
+        Node::Client(_) => NOBODY,
+        Node::Native(_) => NOBODY,
     }
 }
 
-/// Puts an IPv6 packet on the wire, for the relay of that number, or for whoever has its destination, and a mark for it
-/// into `marks`.
-fn put_packet(
+/// Puts the datagrams of a step on the wire, from a node's own endpoints, and a mark for each into `marks`. At a stop
+/// some of them are there.
+fn put_outright(wire: &mut Wire, node: &Node, step: &Step, marks: &mut Marks) -> Result<(), Stop>
+    requires none { marks.old ≡ [] }
+    ensures puts { Puts wire.old wire.new [] marks.new (outright node.now None 0 step.now.sends) result }
+    ensures few { OnOk result (length marks.new ≤ SENDS_MAX) }
+    ensures err { OnErr result (Begins wire.old wire.new) }
+{
+    for i in 0..step.count() {
+        let (side, to, bytes) = step.send(i);
+        wire.send(Ok(own_ep(node, side)), to, bytes, marks)?;
+    }
+    Ok(())
+}
+
+/// The source that a NAT gives a datagram from `inside`, or why the datagram is lost.
+fn cross(nat: &mut Nat, now: Millis, inside: Ep, to: Ep) -> Result<Result<Ep, Loss>, Stop>
+    requires clock { nat.old.moment ≤ now.0 }
+    ensures crosses { IfOk result (λ src. (lab : Lab) (H : List Full) (k : ℕ) (passed : List Passing) → IsNatWith lab H k passed nat.old
+        → (src ≡ or_loss false (crossing lab.topology (nat_pasts lab H) now.0 to (k ∷ []) inside passed).leaves)
+        × IsNatWith lab H k (crossing lab.topology (nat_pasts lab H) now.0 to (k ∷ []) inside passed).passed nat.new) }
+    ensures needs { IfErr result (λ stop. stop ≡ Stop.NoMemory) }
+    ensures moment { nat.new.moment ≡ now.0 }
+{
+    match nat.outward(now, inside, to) {
+        Ok(src) => Ok(Ok(src)),
+        Err(refusal) => match refusal {
+            NatRefusal::Hairpin => Ok(Err(Loss::Hairpin)),
+            NatRefusal::Full => Ok(Err(Loss::Full)),
+            NatRefusal::NoMemory => Err(Stop::NoMemory),
+        },
+    }
+}
+
+/// Puts those datagrams of a step on the wire that a NAT lets out, and a mark for each into `marks`. At a stop some of
+/// them are there, and the NAT may know of them.
+fn put_through(
     wire: &mut Wire,
-    relay: Option<u16>,
-    packet: Octets,
+    nat: &mut Nat,
+    now: Millis,
+    inside: Ep,
+    step: &Step,
     marks: &mut Marks,
-) -> Result<(), NoMemory>
-    requires room { length wire.old.items < ENTRIES_MAX }
-    requires short { length packet ≤ DATAGRAM_MAX }
+) -> Result<(), Stop>
+    requires none { marks.old ≡ [] }
+    requires clock { nat.old.moment ≤ now.0 }
+    ensures puts { (lab : Lab) (H : List Full) (k : ℕ) → IsNatWith lab H k [] nat.old
+        → Puts wire.old wire.new [] marks.new (by_way lab H now.0 (k ∷ []) inside None 0 [] step.now.sends).made result }
+    ensures stands { OnOk result ((lab : Lab) (H : List Full) (k : ℕ) → IsNatWith lab H k [] nat.old
+        → IsNatWith lab H k (by_way lab H now.0 (k ∷ []) inside None 0 [] step.now.sends).passed nat.new) }
+    ensures moment { nat.new.moment ≤ now.0 }
+    ensures err { OnErr result (Begins wire.old wire.new) }
+{
+    for i in 0..step.count() {
+        let (_, to, bytes) = step.send(i);
+        let src = cross(nat, now, inside, to)?;
+        wire.send(src, to, bytes, marks)?;
+    }
+    Ok(())
+}
+
+/// Puts what a client sends on the wire, through its NAT, which is kept among the nodes.
+fn put_by_nat(
+    sender: Sender,
+    row: ClientNode,
+    nodes: &mut Vec<NodeState>,
+    wire: &mut Wire,
+    step: &Step,
+    marks: &mut Marks,
+) -> Result<(), Stop>
+    requires none { marks.old ≡ [] }
+    requires client { sender.node ≡ client row }
+    requires ready { AreReady sender.now.0 nodes.old.items }
+    ensures ready { AreReady sender.now.0 nodes.new.items }
+    ensures elsewhere { (k : ℕ) → k ≢ row.nat → slice_get nodes.new.items k ≡ slice_get nodes.old.items k }
+    ensures puts { (d : Draws) (t : TopologyState) (H : List Full) (e : JournalEntry) → IsEmission (flat_lab d t) H sender nodes.old.items step.now None e
+        → Puts wire.old wire.new [] marks.new (sent_by (flat_lab d t) H sender e).made result }
+    ensures nat { OnOk result ((d : Draws) (t : TopologyState) (H : List Full) (e : JournalEntry) → IsEmission (flat_lab d t) H sender nodes.old.items step.now None e
+        → KeepsItsNat (flat_lab d t) H (sent_by (flat_lab d t) H sender e).passed sender.node nodes.new.items) }
+    ensures err { OnErr result (Begins wire.old wire.new) }
+{
+    let number = usize::from(row.nat);
+    if number >= nodes.len() {
+        return Err(Stop::NoMemory);
+    }
+    match &mut nodes[number] {
+        NodeState::Nat(nat) => put_through(wire, nat, sender.now, row.inside, step, marks),
+        NodeState::Client(_) => Err(Stop::NoMemory),
+        NodeState::Relay(_) => Err(Stop::NoMemory),
+        NodeState::Nothing => Err(Stop::NoMemory),
+    }
+}
+
+/// Puts a packet for the IPv6 side on the wire, if there is one, for whoever has its destination.
+fn put_six(wire: &mut Wire, packet: Option<Octets>, marks: &mut Marks) -> Result<(), Stop>
+    requires short { IfSome packet (λ bytes. length bytes ≤ DATAGRAM_MAX) }
     requires few { length marks.old ≤ SENDS_MAX }
-    ensures ok { OnOk result (Grows wire.old wire.new (packet_for relay packet)) }
-    ensures marked { OnOk result (marks.new ≡ marks.old ++ marks_of (length wire.old.items) (packet_for relay packet)) }
+    ensures puts { Puts wire.old wire.new marks.old marks.new (six_sent packet) result }
     ensures err { OnErr result (wire.new ≡ wire.old) }
 {
-    let number = wire.len() as u32;
-    let len = packet.as_slice().len();
-    wire.push_packet(relay, packet)?;
-    marks.push(Mark::Six { number, relay, len });
-    Ok(())
+    match packet {
+        None => Ok(()),
+        Some(bytes) => wire.put(Entry::Six { relay: None, bytes }, marks),
+    }
 }
 
 /// The number of the relay that a native host's packet goes to, where its destination is a Teredo address.
@@ -195,8 +174,8 @@ fn relay_for(row: &NativeNode, bytes: &[u8]) -> Option<u16>
     }
 }
 
-/// Puts the packet that a native host sends on the wire, and its mark into `marks`. At a stop nothing is put on the wire.
-pub fn send_native(
+/// Puts the packet that a native host sends on the wire, if there is one.
+fn put_native(
     wire: &mut Wire,
     row: &NativeNode,
     packet: Option<Octets>,
@@ -204,127 +183,87 @@ pub fn send_native(
 ) -> Result<(), Stop>
     requires none { marks.old ≡ [] }
     requires short { IfSome packet (λ bytes. length bytes ≤ DATAGRAM_MAX) }
-    ensures ok { OnOk result (Grows wire.old wire.new (native_made row.now packet)) }
-    ensures marked { OnOk result (marks.new ≡ marks_of (length wire.old.items) (native_made row.now packet)) }
+    ensures puts { Puts wire.old wire.new [] marks.new (native_made row.now packet) result }
     ensures err { OnErr result (wire.new ≡ wire.old) }
-    ensures full { IsErrOf result Stop.WireFull → ENTRIES_MAX < length wire.old.items + length (native_made row.now packet) }
-    ensures needs { IsErrOf result Stop.NoMemory → 0 < length (native_made row.now packet) }
 {
-    let Some(packet) = packet else {
-        return Ok(());
-    };
-    if wire.len() >= ENTRIES_MAX {
-        return Err(Stop::WireFull);
-    }
-    let relay = relay_for(row, packet.as_slice());
-    match put_packet(wire, relay, packet, marks) {
-        Ok(()) => Ok(()),
-        Err(NoMemory) => Err(Stop::NoMemory),
+    match packet {
+        None => Ok(()),
+        Some(bytes) => {
+            let relay = relay_for(row, bytes.as_slice());
+            wire.put(Entry::Six { relay, bytes }, marks)
+        }
     }
 }
 
-/// The source that a NAT gives a datagram from `inside`, or why the datagram is lost.
-fn translate(nat: &mut Nat, now: Millis, inside: Ep, to: Ep) -> Result<Result<Ep, Loss>, Stop>
-    requires clock { nat.old.moment ≤ now.0 }
-    ensures source { IfOk result (λ src. (h : List Entry) → StandsFor nat.old h
-        → src ≡ source_through nat.old.settings (nat_answer nat.old.settings h now.0 inside to)) }
-    ensures stands { IfOk result (λ src. (h : List Entry) (bytes : List ℕ) → StandsFor nat.old h
-        → StandsFor nat.new (history_after now.0 inside (made_from src to bytes ∷ []) h)) }
-    ensures needs { IfErr result (λ stop. stop ≡ Stop.NoMemory) }
-    ensures moment { nat.new.moment ≡ now.0 }
-    ensures settings { nat.new.settings ≡ nat.old.settings }
-{
-    match nat.outward(now, inside, to) {
-        Ok(src) => Ok(Ok(src)),
-        Err(refusal) => match refusal {
-            NatRefusal::Hairpin => Ok(Err(Loss::Hairpin)),
-            NatRefusal::Full => Ok(Err(Loss::Full)),
-            NatRefusal::NoMemory => Err(Stop::NoMemory),
-        },
-    }
-}
-
-/// Puts a datagram that has a source on the wire, and answers its mark, or that of one that is lost.
-fn put_datagram(wire: &mut Wire, src: Result<Ep, Loss>, to: Ep, bytes: &[u8]) -> Result<Mark, Stop>
-    requires short { length bytes.now ≤ DATAGRAM_MAX }
-    ensures ok { OnOk result (Grows wire.old wire.new (made_from src to bytes.now ∷ [])) }
-    ensures marked { IfOk result (λ mark. mark ≡ mark_of (length wire.old.items) (made_from src to bytes.now)) }
-    ensures err { OnErr result (wire.new ≡ wire.old) }
-    ensures full { IsErrOf result Stop.WireFull → ENTRIES_MAX < length wire.old.items + length (filter_map item_in (made_from src to bytes.now ∷ [])) }
-{
-    let len = bytes.len();
-    let src = match src {
-        Ok(src) => src,
-        Err(why) => return Ok(Mark::Lost { why, dst: to, len }),
-    };
-    if wire.len() >= ENTRIES_MAX {
-        return Err(Stop::WireFull);
-    }
-    let number = wire.len() as u32;
-    let Ok(()) = wire.push_copy(src, to, bytes) else {
-        return Err(Stop::NoMemory);
-    };
-    Ok(Mark::Udp {
-        number,
-        src,
-        dst: to,
-        len,
-    })
-}
-
-/// Puts those datagrams of a step on the wire that a NAT lets out, and a mark for each into `marks`. At a stop some of
-/// them are there.
-fn put_through(
+/// Puts the datagrams of a server's or relay's step on the wire, then its packet for the IPv6 side.
+fn put_own(
     wire: &mut Wire,
-    nat: &mut Nat,
-    now: Millis,
-    inside: Ep,
+    node: &Node,
     step: &Step,
+    packet: Option<Octets>,
     marks: &mut Marks,
 ) -> Result<(), Stop>
     requires none { marks.old ≡ [] }
-    requires clock { nat.old.moment ≤ now.0 }
-    ensures passes { OnOk result ((h : List Entry) → StandsFor nat.old h
-        → Passes now.0 inside wire.old wire.new nat.new h (through_nat nat.old.settings None now.0 inside 0 h step.now.sends) marks.new) }
-    ensures err { OnErr result ((more : List Item) × Extends wire.old wire.new more) }
-    ensures full { IsErrOf result Stop.WireFull → (h : List Entry) → StandsFor nat.old h
-        → ENTRIES_MAX < length wire.old.items + length (filter_map item_in (through_nat nat.old.settings None now.0 inside 0 h step.now.sends)) }
-    ensures needs { IsErrOf result Stop.NoMemory → 0 < length step.now.sends }
-    ensures moment { nat.new.moment ≤ now.0 }
-    ensures settings { nat.new.settings ≡ nat.old.settings }
+    requires short { IfSome packet (λ bytes. length bytes ≤ DATAGRAM_MAX) }
+    ensures puts { Puts wire.old wire.new [] marks.new (outright node.now None 0 step.now.sends ++ six_sent packet) result }
+    ensures err { OnErr result (Begins wire.old wire.new) }
 {
-    for i in 0..step.count() {
-        let (_, to, bytes) = step.send(i);
-        let src = translate(nat, now, inside, to)?;
-        let mark = put_datagram(wire, src, to, bytes)?;
-        marks.push(mark);
-    }
-    Ok(())
+    put_outright(wire, node, step, marks)?;
+    put_six(wire, packet, marks)
 }
 
-/// Sends the datagrams of a step from an endpoint inside a NAT, in order: those that the NAT lets out come onto the wire.
-/// A mark for each comes into `marks`. At a stop nothing is put on the wire, but the NAT may know of some of them.
-pub fn send_through(
+/// Puts what a node sends on the wire: the datagrams of its step, then its packet; and a mark for each into `marks`. At
+/// a stop some of it is there.
+fn put_all(
+    sender: Sender,
+    nodes: &mut Vec<NodeState>,
     wire: &mut Wire,
-    nat: &mut Nat,
-    now: Millis,
-    inside: Ep,
     step: &Step,
+    packet: Option<Octets>,
     marks: &mut Marks,
 ) -> Result<(), Stop>
     requires none { marks.old ≡ [] }
-    requires clock { nat.old.moment ≤ now.0 }
-    ensures passes { OnOk result ((h : List Entry) → StandsFor nat.old h
-        → Passes now.0 inside wire.old wire.new nat.new h (through_nat nat.old.settings None now.0 inside 0 h step.now.sends) marks.new) }
+    requires short { IfSome packet (λ bytes. length bytes ≤ DATAGRAM_MAX) }
+    requires ready { AreReady sender.now.0 nodes.old.items }
+    ensures ready { AreReady sender.now.0 nodes.new.items }
+    ensures elsewhere { (k : ℕ) → (IsBehind sender.node k → ⊥) → slice_get nodes.new.items k ≡ slice_get nodes.old.items k }
+    ensures puts { (d : Draws) (t : TopologyState) (H : List Full) (e : JournalEntry) → IsEmission (flat_lab d t) H sender nodes.old.items step.now packet e
+        → Puts wire.old wire.new [] marks.new (sent_by (flat_lab d t) H sender e).made result }
+    ensures nat { OnOk result ((d : Draws) (t : TopologyState) (H : List Full) (e : JournalEntry) → IsEmission (flat_lab d t) H sender nodes.old.items step.now packet e
+        → KeepsItsNat (flat_lab d t) H (sent_by (flat_lab d t) H sender e).passed sender.node nodes.new.items) }
+    ensures err { OnErr result (Begins wire.old wire.new) }
+{
+    match sender.node {
+        Node::Client(row) => put_by_nat(sender, row, nodes, wire, step, marks),
+        Node::Server(_) => put_own(wire, &sender.node, step, packet, marks),
+        Node::Nat(_) => Ok(()),
+        Node::Relay(_) => put_own(wire, &sender.node, step, packet, marks),
+        Node::Native(row) => put_native(wire, &row, packet, marks),
+    }
+}
+
+/// Puts what a node sends on the wire, and the marks into `marks`. At a stop nothing is put on the wire.
+pub fn emit(
+    sender: Sender,
+    nodes: &mut Vec<NodeState>,
+    wire: &mut Wire,
+    step: &Step,
+    packet: Option<Octets>,
+    marks: &mut Marks,
+) -> Result<(), Stop>
+    requires none { marks.old ≡ [] }
+    requires short { IfSome packet (λ bytes. length bytes ≤ DATAGRAM_MAX) }
+    requires ready { AreReady sender.now.0 nodes.old.items }
+    ensures ready { AreReady sender.now.0 nodes.new.items }
+    ensures elsewhere { (k : ℕ) → (IsBehind sender.node k → ⊥) → slice_get nodes.new.items k ≡ slice_get nodes.old.items k }
+    ensures puts { (d : Draws) (t : TopologyState) (H : List Full) (e : JournalEntry) → IsEmission (flat_lab d t) H sender nodes.old.items step.now packet e
+        → Puts wire.old wire.new [] marks.new (sent_by (flat_lab d t) H sender e).made result }
+    ensures nat { OnOk result ((d : Draws) (t : TopologyState) (H : List Full) (e : JournalEntry) → IsEmission (flat_lab d t) H sender nodes.old.items step.now packet e
+        → KeepsItsNat (flat_lab d t) H (sent_by (flat_lab d t) H sender e).passed sender.node nodes.new.items) }
     ensures err { OnErr result (wire.new ≡ wire.old) }
-    ensures full { IsErrOf result Stop.WireFull → (h : List Entry) → StandsFor nat.old h
-        → ENTRIES_MAX < length wire.old.items + length (filter_map item_in (through_nat nat.old.settings None now.0 inside 0 h step.now.sends)) }
-    ensures needs { IsErrOf result Stop.NoMemory → 0 < length step.now.sends }
-    ensures moment { nat.new.moment ≤ now.0 }
-    ensures settings { nat.new.settings ≡ nat.old.settings }
 {
     let len = wire.len();
-    match put_through(wire, nat, now, inside, step, marks) {
+    match put_all(sender, nodes, wire, step, packet, marks) {
         Ok(()) => Ok(()),
         Err(stop) => {
             wire.cut(len);

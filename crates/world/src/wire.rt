@@ -1,10 +1,15 @@
 //! The wire: everything that was sent.
-ghost use Rattle.std.specs.Prelude.{◌≡◌, ◌<◌, ◌≤◌, ◌∷◌, [], ◌++◌, ℕ, true, false, length, map, take, set, get_or, slice_get, option_map, OnOk, OnErr, IfSome, IfNone};
-ghost use Rattle.history.specs.Full.{udp, six, bytes_of};
+ghost use Rattle.std.specs.Prelude.{◌≡◌, ◌<◌, ◌≤◌, ◌∷◌, [], ℕ, true, false, length, map, set, get_or, slice_get, option_map, OnOk, OnErr, IfSome, IfNone};
+ghost use Rattle.history.specs.Full.{bytes_of, sent};
+ghost use Rattle.history.specs.Records.{mark_of};
+ghost use Rattle.history.specs.declared.mark_list.TheConstants.{MARKS_MAX};
+ghost use Rattle.legal.specs.Emit.{marked};
 ghost use Rattle.td_base.specs.declared.datagram.TheConstants.{DATAGRAM_MAX};
-ghost use Rattle.world.specs.Wire.{item_of, WireState, no_wire, with_item, front_of};
+ghost use Rattle.td_base.specs.declared.side.Side.{Side};
+ghost use Rattle.world.specs.Wire.{item_of, WireState, no_wire, with_items, front_of, Puts};
 ghost use Rattle.world.specs.WireEntry.{item_lent};
 
+use history::{Loss, Mark, Marks, Stop};
 use std::alloc::Global;
 use std::marker::Model;
 use td_base::{Ep, NoMemory};
@@ -20,6 +25,27 @@ pub enum Entry {
     Udp { src: Ep, dst: Ep, bytes: Octets },
     /// An IPv6 packet, for the relay of that number, or for whoever has its destination.
     Six { relay: Option<u16>, bytes: Octets },
+}
+
+impl Entry {
+    /// Its mark, where this is its number.
+    fn mark(&self, number: u32) -> Mark
+        ensures { result ≡ mark_of number (sent (item_of self.now)) }
+    {
+        match self {
+            Entry::Udp { src, dst, bytes } => Mark::Udp {
+                number,
+                src: *src,
+                dst: *dst,
+                len: bytes.as_slice().len(),
+            },
+            Entry::Six { relay, bytes } => Mark::Six {
+                number,
+                relay: *relay,
+                len: bytes.as_slice().len(),
+            },
+        }
+    }
 }
 
 /// An entry of the wire, lent.
@@ -94,10 +120,11 @@ impl Wire {
         lend(self.entries.as_slice(), number)
     }
 
+    /// Appends an entry.
     fn push(&mut self, entry: Entry) -> Result<(), NoMemory>
         requires room { length self.old.items < ENTRIES_MAX }
         requires short { length (bytes_of (item_of entry)) ≤ DATAGRAM_MAX }
-        ensures ok { OnOk result (self.new ≡ with_item self.old (item_of entry)) }
+        ensures ok { OnOk result (self.new ≡ with_items self.old (item_of entry ∷ [])) }
         ensures err { OnErr result (self.new ≡ self.old) }
     {
         self.delivered.push(false)?;
@@ -108,35 +135,47 @@ impl Wire {
         Ok(())
     }
 
-    /// Appends a datagram.
-    pub fn push_datagram(&mut self, src: Ep, dst: Ep, bytes: Octets) -> Result<(), NoMemory>
-        requires room { length self.old.items < ENTRIES_MAX }
-        requires short { length bytes ≤ DATAGRAM_MAX }
-        ensures ok { OnOk result (self.new ≡ with_item self.old (udp src dst bytes)) }
+    /// Puts an entry on the wire, and its mark behind these: the one door, and the one test for room.
+    pub fn put(&mut self, entry: Entry, marks: &mut Marks) -> Result<(), Stop>
+        requires short { length (bytes_of (item_of entry)) ≤ DATAGRAM_MAX }
+        requires few { length marks.old < MARKS_MAX }
+        ensures puts { Puts self.old self.new marks.old marks.new (sent (item_of entry) ∷ []) result }
         ensures err { OnErr result (self.new ≡ self.old) }
     {
-        self.push(Entry::Udp { src, dst, bytes })
+        if self.entries.len() >= ENTRIES_MAX {
+            return Err(Stop::WireFull);
+        }
+        let mark = entry.mark(self.entries.len() as u32);
+        self.push(entry)?;
+        marks.push(mark);
+        Ok(())
     }
 
-    /// Appends a datagram with a copy of these bytes.
-    pub fn push_copy(&mut self, src: Ep, dst: Ep, bytes: &[u8]) -> Result<(), NoMemory>
-        requires room { length self.old.items < ENTRIES_MAX }
+    /// Puts a datagram with a copy of these bytes on the wire, from its source, and its mark behind these. One that has
+    /// no source is lost.
+    pub fn send(
+        &mut self,
+        src: Result<Ep, Loss>,
+        dst: Ep,
+        bytes: &[u8],
+        marks: &mut Marks,
+    ) -> Result<(), Stop>
         requires short { length bytes.now ≤ DATAGRAM_MAX }
-        ensures ok { OnOk result (self.new ≡ with_item self.old (udp src dst bytes.now)) }
+        requires few { length marks.old < MARKS_MAX }
+        ensures puts { (side : Side) → Puts self.old self.new marks.old marks.new (marked (record { side = side; to = dst; bytes = bytes.now }) src ∷ []) result }
         ensures err { OnErr result (self.new ≡ self.old) }
     {
-        let bytes = Octets::new(*self.entries.allocator(), bytes)?;
-        self.push_datagram(src, dst, bytes)
-    }
-
-    /// Appends an IPv6 packet, for the relay of that number, or for whoever has its destination.
-    pub fn push_packet(&mut self, relay: Option<u16>, bytes: Octets) -> Result<(), NoMemory>
-        requires room { length self.old.items < ENTRIES_MAX }
-        requires short { length bytes ≤ DATAGRAM_MAX }
-        ensures ok { OnOk result (self.new ≡ with_item self.old (six relay bytes)) }
-        ensures err { OnErr result (self.new ≡ self.old) }
-    {
-        self.push(Entry::Six { relay, bytes })
+        let len = bytes.len();
+        match src {
+            Ok(src) => {
+                let bytes = Octets::new(*self.entries.allocator(), bytes)?;
+                self.put(Entry::Udp { src, dst, bytes }, marks)
+            }
+            Err(why) => {
+                marks.push(Mark::Lost { why, dst, len });
+                Ok(())
+            }
+        }
     }
 
     /// Takes away all but the first `len` entries.

@@ -1,26 +1,28 @@
-ghost use Rattle.std.specs.Prelude.{◌≡◌, ◌≤◌, ◌+◌, List, [], length, None, Ok, Err, slice_get, option_map, IfSome, IfOk, IfErr, OnErr};
+//! The nodes of a scenario, and everything that they sent.
+ghost use Rattle.std.specs.Prelude.{◌≡◌, ◌≤◌, ◌+◌, List, [], false, length, None, Ok, Err, slice_get, option_map, IfSome, IfOk, IfErr, OnErr};
 ghost use Rattle.history.specs.declared.event.Event.TheVariants as event;
 ghost use Rattle.history.specs.declared.event.TheConstants.{ADVANCE_MAX_MS};
 ghost use Rattle.td_base.specs.declared.datagram.TheConstants.{DATAGRAM_MAX};
 ghost use Rattle.history.specs.Events.{IsEvent};
 ghost use Rattle.history.specs.Full.{Full, bytes_of};
-ghost use Rattle.legal.specs.Past.{Draws};
+ghost use Rattle.legal.specs.Lab.{Draws, flat_lab, draws};
+ghost use Rattle.legal.specs.Laws.{is_advance};
 ghost use Rattle.legal.specs.Next.{next_of};
-ghost use Rattle.legal.specs.Legal.{draws};
 ghost use Rattle.world.specs.declared.wire.TheConstants.{ENTRIES_MAX};
 ghost use Rattle.world.specs.WireEntry.{item_lent};
-ghost use Rattle.world.specs.World.{StandsFor, IsAgain, EndsInTime, Steps, StopsFor, Stays, Falls};
-ghost use Rattle.world.specs.Playing.{PlaysTurn, Turned, ended, turn_of};
+ghost use Rattle.world.specs.World.{StandsFor, IsAgain, EndsInTime, Steps, StopsFor, Stays};
+ghost use Rattle.world.specs.Record.{fresh_record};
+ghost use Rattle.world.specs.Playing.{Plays, PlaysTurn, Turned, played, ended, turn_of};
 
 use crate::going::Going;
-use crate::record::{blank, say};
+use crate::record::blank;
 use crate::wire::{ENTRIES_MAX, Wire, WireEntry};
-use history::{Act, Event, Record, Stop, Turn, Verb};
+use history::{Event, Record, Stop, Turn, Verb};
 use lab_nodes::{NodeState, first_states};
 use std::alloc::Global;
 use std::marker::Model;
 use td_base::{Millis, NoMemory};
-use teredo_node::{Fate, Step};
+use teredo_node::Step;
 use topology::Topology;
 
 /// The nodes of a scenario, and everything that they sent.
@@ -83,59 +85,67 @@ impl<'a> World<'a> {
         self.wire.get(number as usize)
     }
 
+    /// Plays the one record of an event that is no advance into `out`.
+    fn play_once(&mut self, event: &Event, out: &mut Record) -> Result<(), Stop>
+        requires fresh { out.old ≡ fresh_record out.old.event self.old.moment }
+        requires event { IsEvent self.old.topology event.now }
+        requires once { is_advance event.now ≡ false }
+        ensures plays { (d : Draws) (H : List Full) → StandsFor d self.old H
+            → Plays d self.old self.new H (next_of (flat_lab d self.old.topology) H out.old.event event.now) (played result out.new) }
+        ensures rest { self.new ≡ record self.old { nodes = self.new.nodes; wire = self.new.wire; done = self.new.done } }
+        ensures err { OnErr result ((self.new.wire ≡ self.old.wire) × (self.new.done ≡ self.old.done)) }
+    {
+        match event {
+            Event::Advance { .. } => unreachable!(),
+            Event::Deliver { number } => self.deliver(*number, out),
+            Event::Next => self.deliver_next(out),
+            Event::Host { node, to, body } => self.send_data(*node, *to, body.as_slice(), out),
+            Event::Echo { node, to, seq } => self.send_echo(*node, *to, *seq, out),
+            Event::Raw { node, bytes } => self.hand(Verb::Raw, *node, bytes.as_slice(), out),
+            Event::Stranger { src, dst, bytes } => self.put_strange(
+                *src,
+                *dst,
+                bytes.as_slice(),
+                out,
+            ),
+            Event::Copy { number, src, dst } => self.copy(*number, *src, *dst, out),
+            Event::Restart { node } => {
+                self.restart(*node, out);
+                Ok(())
+            }
+            Event::Forget { nat, client } => {
+                self.forget(*nat, *client, out);
+                Ok(())
+            }
+        }
+    }
+
     /// Plays the next record of an event into `out`, and answers whether the event has further ones.
-    fn play(&mut self, index: u32, event: &Event, out: &mut Record) -> Result<bool, Stop>
-        requires empty { out.old.marks ≡ [] }
+    fn play(&mut self, event: &Event, out: &mut Record) -> Result<bool, Stop>
+        requires fresh { out.old ≡ fresh_record out.old.event self.old.moment }
         requires event { IsEvent self.old.topology event.now }
         requires again { IsAgain self.old.going event.now }
         requires time { EndsInTime self.old.began event.now }
         ensures plays { (d : Draws) (H : List Full) → StandsFor d self.old H
-            → PlaysTurn d self.old self.new H (next_of d self.old.topology H index event.now) (turn_of result out.new) }
+            → PlaysTurn d self.old self.new H (next_of (flat_lab d self.old.topology) H out.old.event event.now) (turn_of result out.new) }
         ensures turned { IfOk (turn_of result out.new) (λ turn. Turned self.old self.new event.now turn) }
         ensures time { self.new.moment ≤ self.old.began + ADVANCE_MAX_MS }
         ensures err { OnErr result ((self.new.topology ≡ self.old.topology) × (self.new.wire ≡ self.old.wire) × (self.new.done ≡ self.old.done)) }
     {
         legal::of_its_event();
         let _ = &self.nodes;
-        match event {
-            Event::Advance { ms } => self.advance(index, *ms, out),
-            Event::Deliver { number } => last(self.deliver(index, *number, out)),
-            Event::Next => last(self.deliver_next(index, out)),
-            Event::Host { node, to, body } => {
-                last(self.send_data(index, *node, *to, body.as_slice(), out))
-            }
-            Event::Echo { node, to, seq } => { last(self.send_echo(index, *node, *to, *seq, out)) }
-            Event::Raw { node, bytes } => {
-                last(self.hand(index, Verb::Raw, *node, bytes.as_slice(), out))
-            }
-            Event::Stranger { src, dst, bytes } => {
-                let act = Act::Plain {
-                    verb: Verb::Stranger,
-                };
-                say(out, self.moment, index, act, None, Fate::Put);
-                last(self.put_bytes(*src, *dst, bytes.as_slice(), out))
-            }
-            Event::Copy { number, src, dst } => { last(self.copy(index, *number, *src, *dst, out)) }
-            Event::Restart { node } => {
-                self.restart(index, *node, out);
-                Ok(false)
-            }
-            Event::Forget { nat, client } => {
-                self.forget(index, *nat, *client, out);
-                Ok(false)
-            }
+        if let Event::Advance { ms } = event {
+            return self.advance(*ms, out);
         }
+        last(self.play_once(event, out))
     }
 
     /// Plays the next record of event number `index`. After a `Stop` every later call answers the same.
     pub fn step(&mut self, index: u32, event: &Event) -> Result<Turn, Stop>
         requires event { IsEvent self.old.topology event.now }
-        requires again { IsAgain self.old.going event.now }
-        requires time { EndsInTime self.old.began event.now }
+        requires again { self.old.stopped ≡ None → IsAgain self.old.going event.now }
+        requires time { self.old.stopped ≡ None → EndsInTime self.old.began event.now }
         ensures ok { IfOk result (λ turn. Steps self.old self.new index event.now turn) }
-        ensures falls { IfOk result (λ turn. (d : Draws) (H : List Full) → StandsFor d self.old H → Falls self.old self.new turn) }
-        ensures time { IfOk result (λ turn. self.new.moment ≤ self.old.began + ADVANCE_MAX_MS) }
-        ensures entries { IfOk result (λ _. length self.new.wire ≤ ENTRIES_MAX) }
         ensures for_good { IfSome self.old.stopped (λ stop. (result ≡ Err stop) × (self.new ≡ self.old)) }
         ensures cause { self.old.stopped ≡ None → IfErr result (λ stop. StopsFor self.old index event.now stop) }
         ensures err { IfErr result (λ stop. Stays self.old self.new stop) }
@@ -147,8 +157,8 @@ impl<'a> World<'a> {
         if let Some(stop) = self.stopped {
             return Err(stop);
         }
-        let mut record = blank(index);
-        match self.play(index, event, &mut record) {
+        let mut record = blank(index, self.moment);
+        match self.play(event, &mut record) {
             Ok(more) => {
                 prove!(self.wire.len() <= ENTRIES_MAX);
                 Ok(turn_with(more, record))

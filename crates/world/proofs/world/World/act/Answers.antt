@@ -1,54 +1,90 @@
-use Rattle.std.proofs.Common.{◌≡◌, ℕ, List, [], Some, None, Ok, refl, sym, ap, subst, ◌∙◌}
+use Rattle.std.proofs.Common.{◌≡◌, ℕ, List, [], Some, Ok, refl, sym, ap, subst, ◌∙◌}
 use Rattle.std.proofs.lemmas.Result.{err_from_is_err_and}
 use Rattle.topology.specs.Topology.{node_at}
+use Rattle.topology.specs.declared.node.Node.{Node}
 use Rattle.history.specs.declared.acts.Act.{Act}
 use Rattle.history.specs.declared.event.Event.{Event}
 use Rattle.history.specs.declared.records.Record.{Record}
 use Rattle.history.specs.Full.{Full}
-use Rattle.legal.specs.Past.{Draws, at_nat}
+use Rattle.legal.specs.Lab.{Draws, flat_lab}
+use Rattle.legal.specs.Past.{at_nat}
 use Rattle.legal.specs.Next.{numbered}
 use Rattle.lab_nodes.specs.declared.call.Call.{Call}
-use Rattle.lab_nodes.specs.NodeState.{AreReady}
+use Rattle.world.specs.declared.prompt.Prompt.{Prompt}
+use Rattle.world.specs.Prompt.{IsPrompt, done_by}
+use Rattle.world.specs.Wire.{WireState}
+use Rattle.world.specs.Record.{fresh_record, with_deed}
 use Rattle.world.specs.World.{WorldState, NeedsMemory, IsCause, state_of}
-use Rattle.world.specs.Playing.{Finds, Plays, acts_in}
-use Rattle.world.proofs.Acting.{record_by}
-use Rattle.world.proofs.Answered.{Acted, doing, IsActed, acted_plays, acted_stops, wants_memory}
+use Rattle.world.specs.Playing.{prompted, Finds, Plays}
+use Rattle.world.proofs.Acting.{Doing, entry_by, IsCall, IsDoing, Asking, IsAsked, is_emission, IsSent, IsAway, acted_plays, wants_memory, acted_stops}
 use Rattle.world.proofs.world.World.act.Goals as goal
 
--- what holds of the call's record, for each history that a world finds and each event
-abbrev OfEach : ℕ → Act → Call → (Draws → WorldState → List Full → Full → Type 0) → WorldState → Type 0
-OfEach i a call P w = (d : Draws) (H : List Full) → Finds d w H → (e : Event) → at_nat w.topology e a ≡ [] → node_at w.topology call.number ≡ Some call.node → P d w H (acts_in d w.topology H (numbered i e) a None call)
+-- what is so of the record of an act
+record Deed : Type 0 where
+  index : ℕ
+  act : Act
+  prompt : Prompt
+  number : ℕ
+  node : Node
 
-pub invariant_of-self-2 : goal.invariant_of-self-2
-invariant_of-self-2 c =
-    let at = sym (ap (λ (x : WorldState). x.moment) c.self.view_is) in
-    record { rules = c.self.invariant.rules; ready = subst (λ (m : ℕ). AreReady m c.emit.new.nodes.items) (c.requires.now ∙ at) c.emit.ensures.ready; early = c.self.invariant.early; going = c.self.invariant.going }
+-- for each history that a world finds and each event
+abbrev OfEach : Deed → (Draws → WorldState → List Full → Full → Type 0) → WorldState → Type 0
+OfEach a P w = (d : Draws) (H : List Full) → Finds d w H → (e : Event) → at_nat (flat_lab d w.topology) e a.act ≡ [] → node_at w.topology a.number ≡ Some a.node
+    → P d w H (prompted d w H (numbered a.index e) a.act a.prompt a.number a.node)
 
-pub returns-in_default-clause-plays : goal.returns-in_default-clause-plays
-returns-in_default-clause-plays c =
+pub returns-in_err-packet-clause-plays : goal.returns-in_err-packet-clause-plays
+returns-in_err-packet-clause-plays c =
     let w = c.self.inside in
-    subst (OfEach c.args.index c.args.act c.args.call (λ d x H r. NeedsMemory r)) c.self.view_is (λ d H s e quiet there.
-    wants_memory d w.topology.now H (numbered c.args.index e) c.args.act None c.args.call w.nodes.items s.nodes there c.in_default.ensures.wants)
+    let p = err_from_is_err_and c.from_residual.result c.from_residual.ensures.1 in
+    let a : Deed = record { index = c.args.out.now.event; act = c.args.act; prompt = c.args.prompt; number = c.args.number; node = c.args.node } in
+    let old = state_of w.topology.now w.moment.0 w.going w.nodes.items w.wire w.stopped in
+    let call : Call = record { number = c.args.number; node = c.args.node; now = w.moment; coming = c.coming_of.result } in
+    let is_call : IsCall old c.args.prompt call = record { at = refl; dst = c.coming_of.ensures.dst; input = c.coming_of.ensures.input } in
+    rw (p.1, p.2) (subst (OfEach a (λ d x H r. NeedsMemory r)) c.self.view_is (λ d H s e quiet here.
+    let x : Doing = record { draws = d; world = old; history = H; event = numbered c.args.out.now.event e; act = c.args.act; prompt = c.args.prompt; call = call } in
+    let is : IsDoing x = record { finds = s; rules = c.self.invariant.rules; rows = c.rows_keep_rules.ensures; quiet = quiet; there = here } in
+    wants_memory x is_call is c.in_err-packet.ensures.wants))
 
 pub returns-in_err-emit-clause-plays : goal.returns-in_err-emit-clause-plays
 returns-in_err-emit-clause-plays c =
     let w = c.self.inside in
-    let p = err_from_is_err_and c.from_residual.result c.from_residual.ensures.1 in
-    let at = sym (ap (λ (x : WorldState). x.moment) c.self.view_is) in
-    let a : Acted = record { world = state_of w.topology.now w.moment.0 w.going w.nodes.items w.wire w.stopped; act = c.args.act; delivered = None; call = c.args.call; mid = c.ask.new.nodes.items; step = c.ask.new.step; asked = c.in-Ok.asked } in
-    let is : IsActed a = record { at = c.requires.now ∙ at; rules = c.self.invariant.rules; rows = c.rows_keep_rules.ensures; asks = c.in-Ok.ensures.asks; elsewhere = c.ask.ensures.elsewhere } in
-    rw (p.1, p.2) (subst (OfEach c.args.index c.args.act c.args.call (λ d x H r. IsCause x r c.in_err-emit.field-0.0)) c.self.view_is (λ d H s e quiet there.
-    acted_stops a d H (numbered c.args.index e) c.in_err-emit.field-0.0 is (record { finds = s; quiet = quiet; there = there }) c.in_err-emit.ensures.full c.in_err-emit.ensures.needs))
+    let p = err_from_is_err_and c.from_residual-in_err-emit.result c.from_residual-in_err-emit.ensures.1 in
+    let a : Deed = record { index = c.args.out.now.event; act = c.args.act; prompt = c.args.prompt; number = c.args.number; node = c.args.node } in
+    let old = state_of w.topology.now w.moment.0 w.going w.nodes.items w.wire w.stopped in
+    let call : Call = record { number = c.args.number; node = c.args.node; now = w.moment; coming = c.coming_of.result } in
+    let is_call : IsCall old c.args.prompt call = record { at = refl; dst = c.coming_of.ensures.dst; input = c.coming_of.ensures.input } in
+    let y : Asking = record { mid = c.ask.new.nodes.items; step = c.ask.new.step; asked = c.in_ok-packet.field-0 } in
+    let why = c.in_err-emit.field-0.0 in
+    rw (p.1, p.2) (subst (OfEach a (λ d x H r. IsCause x r why)) c.self.view_is (λ d H s e quiet here.
+    let x : Doing = record { draws = d; world = old; history = H; event = numbered c.args.out.now.event e; act = c.args.act; prompt = c.args.prompt; call = call } in
+    let is : IsDoing x = record { finds = s; rules = c.self.invariant.rules; rows = c.rows_keep_rules.ensures; quiet = quiet; there = here } in
+    let asked : IsAsked x y = record { asks = c.in_ok-packet.ensures.asks; elsewhere = c.ask.ensures.elsewhere } in
+    acted_stops x c.emit.new.wire c.emit.new.marks why is_call (c.in_err-emit.ensures.puts d w.topology.now H (entry_by x) (is_emission x y is asked))))
 
 pub returns-clause-plays : goal.returns-clause-plays
 returns-clause-plays c =
     let w = c.self.inside in
-    let at = sym (ap (λ (x : WorldState). x.moment) c.self.view_is) in
-    let a : Acted = record { world = state_of w.topology.now w.moment.0 w.going w.nodes.items w.wire w.stopped; act = c.args.act; delivered = None; call = c.args.call; mid = c.ask.new.nodes.items; step = c.ask.new.step; asked = c.in-Ok.asked } in
-    let is : IsActed a = record { at = c.requires.now ∙ at; rules = c.self.invariant.rules; rows = c.rows_keep_rules.ensures; asks = c.in-Ok.ensures.asks; elsewhere = c.ask.ensures.elsewhere } in
-    let new = state_of w.topology.now w.moment.0 w.going c.emit.new.nodes.items c.emit.new.wire w.stopped in
-    let said : Record → Record = λ r. record r { marks = c.emit.new.marks; handed = c.in-Ok.asked.handed; address = c.in-Ok.asked.address } in
-    subst (OfEach c.args.index c.args.act c.args.call (λ d x H r. Plays d x new H r (Ok (said c.say_step.new.out)))) c.self.view_is (λ d H s e quiet there.
-    subst (λ (r : Record). Plays d a.world new H (record_by (doing a d H (numbered c.args.index e))) (Ok (said r))) (sym c.say_step.ensures)
-    (acted_plays c.frame.ensures a c.emit.new.nodes.items c.emit.new.wire c.emit.new.marks d H (numbered c.args.index e) is (record { finds = s; quiet = quiet; there = there })
-    (record { emits = c.in_ok-emit.ensures.ok; elsewhere = c.emit.ensures.elsewhere }) refl))
+    let index = c.args.out.now.event in
+    let a : Deed = record { index = index; act = c.args.act; prompt = c.args.prompt; number = c.args.number; node = c.args.node } in
+    let old = state_of w.topology.now w.moment.0 w.going w.nodes.items w.wire w.stopped in
+    let new : WireState → WorldState = λ z. state_of w.topology.now w.moment.0 w.going c.emit.new.nodes.items z w.stopped in
+    let marks = c.emit.new.marks in
+    let call : Call = record { number = c.args.number; node = c.args.node; now = w.moment; coming = c.coming_of.result } in
+    let is_call : IsCall old c.args.prompt call = record { at = refl; dst = c.coming_of.ensures.dst; input = c.coming_of.ensures.input } in
+    let there : IsPrompt old.wire old.done c.args.prompt = subst (λ (x : WorldState). IsPrompt x.wire x.done c.args.prompt) (sym c.self.view_is) c.requires.prompt in
+    let y : Asking = record { mid = c.ask.new.nodes.items; step = c.ask.new.step; asked = c.in_ok-packet.field-0 } in
+    let fresh : c.args.out.now ≡ fresh_record index w.moment.0 = c.requires.fresh ∙ ap (λ (x : WorldState). fresh_record index x.moment) (sym c.self.view_is) in
+    let deed : Record → Record = λ r. record (with_deed r c.args.act (Some c.args.number) c.ask.new.step.fate) { gone = c.ask.new.step.gone } in
+    let said : c.say_step.new.out ≡ deed (fresh_record index w.moment.0) = c.say_step.ensures ∙ ap deed fresh in
+    let filled : Record → Record = λ r. record r { marks = marks; handed = c.in_ok-packet.field-0.handed; address = c.in_ok-packet.field-0.address } in
+    subst (OfEach a (λ d x H r. Plays d x (new c.remember.new.wire) H r (Ok (filled c.say_step.new.out)))) c.self.view_is (λ d H s e quiet here.
+    let x : Doing = record { draws = d; world = old; history = H; event = numbered index e; act = c.args.act; prompt = c.args.prompt; call = call } in
+    let is : IsDoing x = record { finds = s; rules = c.self.invariant.rules; rows = c.rows_keep_rules.ensures; quiet = quiet; there = here } in
+    let asked : IsAsked x y = record { asks = c.in_ok-packet.ensures.asks; elsewhere = c.ask.ensures.elsewhere } in
+    let em = is_emission x y is asked in
+    let sent : IsSent x c.emit.new.nodes.items c.emit.new.wire marks = record { enters = c.in_ok-emit.ensures.puts d w.topology.now H (entry_by x) em; nat = c.in_ok-emit.ensures.nat d w.topology.now H (entry_by x) em } in
+    let away : IsAway x y c.emit.new.nodes.items = record { elsewhere = c.emit.ensures.elsewhere } in
+    let r = prompted d old H (numbered index e) c.args.act c.args.prompt c.args.number c.args.node in
+    subst (λ (z : WireState). Plays d old (new z) H r (Ok (filled c.say_step.new.out))) (sym c.remember.ensures)
+    (subst (λ (o : Record). Plays d old (new (record c.emit.new.wire { done = done_by c.args.prompt c.emit.new.wire.done })) H r (Ok (filled o))) (sym said)
+    (acted_plays c.frame.ensures x y c.emit.new.nodes.items c.emit.new.wire marks is_call there is asked sent away)))

@@ -1,14 +1,15 @@
-use Rattle.std.proofs.Common.{◌≡◌, ◌+◌, ℕ, [], None, refl, sym, ap, subst, ◌∙◌, arith}
+use Rattle.std.proofs.Common.{◌≡◌, ◌+◌, ℕ, None, refl, sym, ap, subst, ◌∙◌, arith}
 use Rattle.teredo_node.specs.declared.fate.Fate.TheVariants as fate
 use Rattle.history.specs.declared.acts.Verb.TheVariants as verb
 use Rattle.history.specs.declared.event.Event.TheVariants as event
 use Rattle.topology.specs.Topology.{nodes}
 use Rattle.legal.specs.Next.{plain, least_due}
 use Rattle.lab_nodes.specs.Due.{due_is}
-use Rattle.world.specs.Record.{said}
+use Rattle.legal.specs.Lab.{flat_lab}
+use Rattle.world.specs.Record.{fresh_record, with_deed}
 use Rattle.world.specs.World.{WorldState, IsAgain}
-use Rattle.world.specs.Playing.{IsPast}
-use Rattle.world.proofs.Ticking.{passes, ticks, tick_stops, due_is_there, same_ms, in_going}
+use Rattle.world.specs.Playing.{NoneIsDue}
+use Rattle.world.proofs.Ticking.{passes, ticks, tick_stops, due_is_there, in_going}
 use Rattle.world.proofs.world.World.advance.Goals as goal
 
 pub pass-requires-clause-later : goal.pass-requires-clause-later
@@ -18,7 +19,7 @@ pass-requires-clause-later c =
     let le = in_going w.moment.0 w.going c.args.ms again c.self.invariant.going in
     let at = ap (λ (x : WorldState). x.moment) c.self.view_is in
     let from = ap (λ (x : WorldState). x.began) c.self.view_is in
-    let start = c.going_on-going.ensures.began in
+    let start = c.began-began.ensures in
     omega (arith, le, at, from, start)
 
 pub tick-requires-clause-going : goal.tick-requires-clause-going
@@ -28,35 +29,34 @@ tick-requires-clause-going c =
     let le = in_going w.moment.0 w.going c.args.ms again c.self.invariant.going in
     let at = ap (λ (x : WorldState). x.moment) c.self.view_is in
     let from = ap (λ (x : WorldState). x.began) c.self.view_is in
-    let start = c.going_on-going.ensures.began in
-    let long = same_ms c.args.self.now.going c.args.ms c.going_on-going.result.ms c.requires.again c.going_on-going.ensures.ms in
+    let start = c.began-began.ensures in
     let time = c.requires.time in
-    (omega (arith, le, at, from, start, long), omega (arith, start, long, time))
+    (omega (arith, le, at, from, start), omega (arith, start, time))
 
 pub returns-in_default-clause-plays : goal.returns-in_default-clause-plays
 returns-in_default-clause-plays c = λ d H s.
     let w = c.args.self.now in
-    let end : c.going_on-going.result.began.0 + c.args.ms ≡ w.began + c.args.ms = ap (λ (m : ℕ). m + c.args.ms) c.going_on-going.ensures.began in
-    let past = subst (λ (m : ℕ). IsPast m (least_due w.topology H 0 (nodes w.topology))) end (c.in_default.ensures.none d H s) in
+    let end : c.began-began.result.0 + c.args.ms ≡ w.began + c.args.ms = ap (λ (m : ℕ). m + c.args.ms) c.began-began.ensures in
+    let past = subst (λ (m : ℕ). NoneIsDue m (least_due (flat_lab d w.topology) H 0 (nodes w.topology))) end (c.in_default.ensures.none d H s) in
     let same = c.pass.ensures.rest in
-    let turn = passes c.frame.ensures d w c.pass.new.self H c.args.index c.args.ms s past
+    let turn = passes c.frame.ensures d w c.pass.new.self H c.args.out.now.event c.args.ms s past
     (ap (λ (x : WorldState). x.moment) same ∙ end, ap (λ (x : WorldState). x.nodes) same, ap (λ (x : WorldState). x.wire) same, ap (λ (x : WorldState). x.done) same) in
-    (c.pass.ensures.record_is ∙ ap (λ (m : ℕ). said m c.args.index (plain verb.Advance) None fate.Done []) end ∙ turn.0, turn.1, turn.2)
+    (c.pass.ensures.record_is ∙ ap (λ (m : ℕ). with_deed (fresh_record c.args.out.now.event m) (plain verb.Advance) None fate.Done) end ∙ turn.0, turn.1, turn.2)
 
 pub returns-in-Ok-clause-plays : goal.returns-in-Ok-clause-plays
 returns-in-Ok-clause-plays c = λ d H s.
     let w = c.args.self.now in
-    let end : c.going_on-going.result.began.0 + c.args.ms ≡ w.began + c.args.ms = ap (λ (m : ℕ). m + c.args.ms) c.going_on-going.ensures.began in
+    let end : c.began-began.result.0 + c.args.ms ≡ w.began + c.args.ms = ap (λ (m : ℕ). m + c.args.ms) c.began-began.ensures in
     let due = c.in-Some.ensures.due d H s in
     let before = due.1 in
-    ticks d w c.tick.new.self H c.args.index c.args.ms (due_is c.in-Some.due) c.tick.new.out s due.0 (omega (arith, end, before))
-    (c.in-Ok.ensures.plays d H s (event.Advance c.args.ms) refl (due_is_there w.topology H (due_is c.in-Some.due) due.0))
+    ticks d w c.tick.new.self H c.args.out.now.event c.args.ms (due_is c.in-Some.due) c.tick.new.out s due.0 (omega (arith, end, before))
+    (c.in-Ok.ensures.plays d H s (event.Advance c.args.ms) refl (due_is_there (flat_lab d w.topology) H (due_is c.in-Some.due) due.0))
 
 pub returns-in-Err-clause-plays : goal.returns-in-Err-clause-plays
 returns-in-Err-clause-plays c = λ d H s.
     let w = c.args.self.now in
-    let end : c.going_on-going.result.began.0 + c.args.ms ≡ w.began + c.args.ms = ap (λ (m : ℕ). m + c.args.ms) c.going_on-going.ensures.began in
+    let end : c.began-began.result.0 + c.args.ms ≡ w.began + c.args.ms = ap (λ (m : ℕ). m + c.args.ms) c.began-began.ensures in
     let due = c.in-Some.ensures.due d H s in
     let before = due.1 in
-    tick_stops d w H c.args.index c.args.ms (due_is c.in-Some.due) c.in-Err.stop s due.0 (omega (arith, end, before))
-    (c.in-Err.ensures.plays d H s (event.Advance c.args.ms) refl (due_is_there w.topology H (due_is c.in-Some.due) due.0))
+    tick_stops d w H c.args.out.now.event c.args.ms (due_is c.in-Some.due) c.in-Err.stop s due.0 (omega (arith, end, before))
+    (c.in-Err.ensures.plays d H s (event.Advance c.args.ms) refl (due_is_there (flat_lab d w.topology) H (due_is c.in-Some.due) due.0))

@@ -6,6 +6,7 @@ use Rattle.topology.specs.declared.node.Node.{Node}
 use Rattle.topology.specs.declared.node.Node.TheVariants.{Client as client}
 use Rattle.topology.specs.Topology.{node_at, as_client}
 use Rattle.lab_nodes.specs.Changes.{ForgetsIn}
+use Rattle.world.specs.Record.{fresh_record}
 use Rattle.world.specs.World.{WorldState, state_of}
 use Rattle.world.proofs.States.{some_inj}
 use Rattle.world.proofs.Starts.{Changes, forgets, client_forgotten}
@@ -35,4 +36,5 @@ returns-clause-plays c =
     let old = state_of w.topology.now w.moment.0 w.going w.nodes.items w.wire w.stopped in
     let there : node_at w.topology.now c.args.who ≡ Some (client c.in-Client.row) = ap (node_at w.topology.now) (sym c.from.ensures) ∙ sym c.node.ensures.found ∙ c.in-Some.is ∙ ap (λ (a : Node). Some a) c.in-Client.is in
     let is : Changes w.nodes.items c.forget_at.new.states.items c.args.number (ForgetsIn c.in-Client.row.inside) = subst (λ (n : ℕ). Changes w.nodes.items c.forget_at.new.states.items n (ForgetsIn c.in-Client.row.inside)) c.from-2.ensures (record { elsewhere = c.forget_at.ensures.elsewhere; there = c.forget_at.ensures.there }) in
-    rw (← c.self.view_is, c.say.ensures) (λ d H s. forgets d old c.forget_at.new.states.items H c.args.index c.args.number c.args.who c.in-Client.row s (ap (option_and_then as_client) there) is)
+    let fresh : c.args.out.now ≡ fresh_record c.args.out.now.event w.moment.0 = c.requires.fresh ∙ ap (λ (x : WorldState). fresh_record c.args.out.now.event x.moment) (sym c.self.view_is) in
+    rw (← c.self.view_is, c.say.ensures, fresh) (λ d H s. forgets c.frame.ensures d old c.forget_at.new.states.items H c.args.out.now.event c.args.number c.args.who c.in-Client.row s (ap (option_and_then as_client) there) is)

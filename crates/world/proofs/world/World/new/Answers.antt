@@ -1,4 +1,4 @@
-use Rattle.std.proofs.Common.{refl, ap, arith}
+use Rattle.std.proofs.Common.{[], refl, ap, arith}
 use Rattle.world.specs.Wire.{WireState}
 use Rattle.world.proofs.world.World.new.Goals as goal
 
@@ -8,7 +8,7 @@ returns-clause-stands c = record {
   moment = refl;
   began = refl;
   going = refl;
-  nodes = c.in_ok-nodes.ensures.kept;
+  nodes = c.in_ok-nodes.ensures.kept [];
   wire = ap (λ (w : WireState). w.items) c.new.ensures;
   done = λ i. rw (c.new.ensures) refl;
   left = refl;

@@ -1,19 +1,25 @@
-use Rattle.std.proofs.Common.{◌++◌, ◌∷◌, [], length, Ok, sym, ap, subst}
-use Rattle.history.specs.declared.mark.Mark.TheVariants as mark
+use Rattle.std.proofs.Common.{◌≡◌, List, [], ◌∷◌, None, sym, ap, subst, ◌∙◌}
+use Rattle.teredo_node.specs.declared.fate.Fate.TheVariants as fate
+use Rattle.history.specs.declared.mark.Mark.{Mark}
 use Rattle.history.specs.declared.records.Record.{Record}
+use Rattle.history.specs.Full.{udp, sent}
 use Rattle.legal.specs.Next.{numbered, puts}
-use Rattle.world.specs.Wire.{WireState}
-use Rattle.world.specs.World.{state_of}
-use Rattle.world.specs.Playing.{Plays}
-use Rattle.world.proofs.Played.{puts_one}
+use Rattle.world.specs.Wire.{Puts}
+use Rattle.world.specs.Record.{fresh_record, with_deed}
+use Rattle.world.specs.World.{WorldState, state_of}
+use Rattle.world.specs.Playing.{Plays, played}
+use Rattle.world.proofs.Played.{puts_played}
 use Rattle.world.proofs.world.World.put.Goals as goal
 
 pub returns-clause-plays : goal.returns-clause-plays
 returns-clause-plays c =
     let w = c.self.inside in
+    let index = c.args.out.now.event in
     let old = state_of w.topology.now w.moment.0 w.going w.nodes.items w.wire w.stopped in
-    let new = state_of w.topology.now w.moment.0 w.going w.nodes.items c.push_datagram.new.self w.stopped in
-    rw (← c.self.view_is, c.push.ensures, c.len-number.ensures.count, c.as_slice-len.ensures) (λ d H s e index a is.
-    subst (λ (r : Record). Plays d old new H (puts H (numbered index e) a c.args.src c.args.dst c.args.bytes) (Ok (record c.args.out.now { marks = r.marks ++ mark.Udp (length w.wire.items) c.args.src c.args.dst (length c.args.bytes) ∷ [] }))) (sym is)
-    (subst (λ (r : Record). Plays d old new H (puts H (numbered index e) a c.args.src c.args.dst c.args.bytes) (Ok (record r { marks = [] ++ mark.Udp (length w.wire.items) c.args.src c.args.dst (length c.args.bytes) ∷ [] }))) (sym is)
-    (puts_one c.frame.ensures d old new H (numbered index e) a c.args.src c.args.dst c.args.bytes s (ap (λ (z : WireState). state_of w.topology.now w.moment.0 w.going w.nodes.items z w.stopped) c.in-Ok.ensures.ok))))
+    let fresh : c.args.out.now ≡ fresh_record index w.moment.0 = c.requires.fresh ∙ ap (λ (x : WorldState). fresh_record index x.moment) (sym c.self.view_is) in
+    let said : c.say.new.out ≡ with_deed (fresh_record index w.moment.0) c.args.act None fate.Put = c.say.ensures ∙ ap (λ (r : Record). with_deed r c.args.act None fate.Put) fresh in
+    let none : c.say.new.out.marks ≡ [] = ap (λ (r : Record). r.marks) said in
+    let done = subst (λ (ms : List Mark). Puts w.wire c.put.new.self ms c.put.new.marks (sent (udp c.args.src c.args.dst c.args.bytes) ∷ []) c.put.result) none c.put.ensures.puts in
+    rw (← c.self.view_is) (λ d H s e.
+    subst (λ (r : Record). Plays d old (record old { wire = c.put.new.self.items; done = c.put.new.self.done }) H (puts H (numbered index e) c.args.act c.args.src c.args.dst c.args.bytes) (played c.put.result (record r { marks = c.put.new.marks }))) (sym said)
+    (puts_played c.frame.ensures d old H (numbered index e) c.args.act c.args.src c.args.dst c.args.bytes c.put.new.self c.put.new.marks c.put.result s done))

@@ -1,4 +1,5 @@
-use Rattle.std.proofs.Common.{◌≡◌, ℕ, List, refl, sym, ap, subst, ◌∙◌}
+use Rattle.legal.specs.Lab.{flat_lab}
+use Rattle.std.proofs.Common.{◌≡◌, ℕ, List, [], refl, sym, ap, subst, ◌∙◌}
 use Rattle.history.specs.declared.event.Event.TheVariants as event
 use Rattle.history.specs.declared.acts.Verb.TheVariants as verb
 use Rattle.ipv6_packet.specs.Packets.{packet_bytes}
@@ -14,11 +15,11 @@ returns-clause-plays c = λ d H s.
     let w = c.self.inside in
     let same = c.self.view_is in
     let stands = subst (λ (x : WorldState). StandsFor d x H) (sym same) s in
-    let nodes : NodesOf d w.topology.now c.as_slice-nodes.result.now H = rw (c.as_slice-nodes.ensures.value) stands.nodes in
+    let nodes : NodesOf (flat_lab d w.topology.now) c.as_slice-nodes.result.now H = rw (c.as_slice-nodes.ensures.value) stands.nodes in
     let t = c.args.self.now.topology in
-    let src : c.address_at-src.result ≡ address_at t H c.args.number = c.address_at-src.ensures d H nodes ∙ ap (λ (x : WorldState). address_at x.topology H c.args.number) same in
-    let dst : c.target_address-dst.result ≡ target_address t H c.args.to = c.target_address-dst.ensures d H nodes ∙ ap (λ (x : WorldState). target_address x.topology H c.args.to) same in
+    let src : c.address_at-src.result ≡ address_at (flat_lab d t) H c.args.number = c.address_at-src.ensures d [] H nodes ∙ ap (λ (x : WorldState). address_at (flat_lab d x.topology) H c.args.number) same in
+    let dst : c.target_address-dst.result ≡ target_address (flat_lab d t) H c.args.to = c.target_address-dst.ensures d [] H nodes ∙ ap (λ (x : WorldState). target_address (flat_lab d x.topology) H c.args.to) same in
     let bytes = c.write_data-len.ensures.written ∙ (λ i. packet_bytes (data_packet (src i) (dst i) c.args.body.now)) in
     let e = event.Host c.args.number c.args.to c.args.body.now in
-    subst (λ (x : List ℕ). Plays d c.args.self.now c.hand.new.self H (hands_in d t H (numbered c.args.index e) verb.Host c.args.number x (node_at t c.args.number)) (played c.hand.result c.hand.new.out)) bytes
+    subst (λ (x : List ℕ). Plays d c.args.self.now c.hand.new.self H (hands_in (flat_lab d t) H (numbered c.args.out.now.event e) verb.Host c.args.number x (node_at t c.args.number)) (played c.hand.result c.hand.new.out)) bytes
     (c.hand.ensures.plays d H s e refl)

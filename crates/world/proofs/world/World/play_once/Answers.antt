@@ -1,0 +1,32 @@
+use Rattle.std.proofs.Common.{ℕ, List, refl, sym, ap, subst, ◌∙◌}
+use Rattle.std.proofs.lemmas.Bool.{false≢true}
+use Rattle.topology.specs.Topology.{node_at}
+use Rattle.history.specs.declared.event.Event.TheVariants as event
+use Rattle.history.specs.declared.acts.Verb.TheVariants as verb
+use Rattle.legal.specs.Lab.{flat_lab}
+use Rattle.legal.specs.Laws.{is_advance}
+use Rattle.legal.specs.Next.{numbered, hands_in, next_of}
+use Rattle.world.specs.Playing.{Plays, played}
+use Rattle.world.proofs.world.World.play_once.Goals as goal
+
+pub unreachable-requires : goal.unreachable-requires
+unreachable-requires c = false≢true (sym c.requires.once ∙ ap is_advance c.in-Advance.is)
+
+pub returns-in-Deliver-clause-plays : goal.returns-in-Deliver-clause-plays
+returns-in-Deliver-clause-plays c = rw (c.in-Deliver.is) (λ d H s. c.deliver.ensures.plays d H s (event.Deliver c.in-Deliver.number) refl)
+
+pub returns-in-Next-clause-plays : goal.returns-in-Next-clause-plays
+returns-in-Next-clause-plays c = rw (c.in-Next.is) c.deliver_next.ensures.plays
+
+pub returns-in-Raw-clause-plays : goal.returns-in-Raw-clause-plays
+returns-in-Raw-clause-plays c = rw (c.in-Raw.is) (λ d H s.
+    let e = event.Raw c.in-Raw.node c.in-Raw.bytes in
+    let t = c.args.self.now.topology in
+    subst (λ (x : List ℕ). Plays d c.args.self.now c.hand.new.self H (hands_in (flat_lab d t) H (numbered c.args.out.now.event e) verb.Raw c.in-Raw.node x (node_at t c.in-Raw.node)) (played c.hand.result c.hand.new.out)) c.as_slice-in-Raw.ensures
+    (c.hand.ensures.plays d H s e refl))
+
+pub returns-in-Stranger-clause-plays : goal.returns-in-Stranger-clause-plays
+returns-in-Stranger-clause-plays c = rw (c.in-Stranger.is) (λ d H s.
+    let lab = flat_lab d c.args.self.now.topology in
+    subst (λ (x : List ℕ). Plays d c.args.self.now c.put_strange.new.self H (next_of lab H c.args.out.now.event (event.Stranger c.in-Stranger.src c.in-Stranger.dst x)) (played c.put_strange.result c.put_strange.new.out)) c.as_slice-in-Stranger.ensures
+    (c.put_strange.ensures.plays d H s))
