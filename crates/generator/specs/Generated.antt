@@ -2,7 +2,7 @@
 use Rattle.std.specs.Prelude.{ℕ, ◌+◌, ◌*◌, List}
 use Rattle.history.specs.declared.event.Event.{Event}
 use Rattle.history.specs.Scenario.{Scenario}
-use Rattle.legal.specs.Legal.{draws}
+use Rattle.legal.specs.Lab.{draws}
 use Rattle.generator.specs.declared.words.TheConstants.{EVENTS_STREAM}
 use Rattle.generator.specs.GeneratedNodes.{firsts, generated_nodes}
 use Rattle.generator.specs.GeneratedEvent.{generated_event}

@@ -1,6 +1,6 @@
 //! The words that the events are made of.
 ghost use Rattle.std.specs.Prelude.{◌≡◌, ◌<◌, ◌^◌};
-ghost use Rattle.legal.specs.Legal.{stream_key};
+ghost use Rattle.legal.specs.Lab.{stream_key};
 ghost use Rattle.rand_chacha.specs.ChaCha.{of_seed};
 ghost use Rattle.generator.specs.declared.words.TheConstants.{EVENTS_STREAM};
 
