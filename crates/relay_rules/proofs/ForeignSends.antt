@@ -31,7 +31,8 @@ use Rattle.relay_rules.specs.Laws.{IsForeignTo}
 use Rattle.relay_rules.specs.Sendings.{IsSending, bubbles, carries, EachSend}
 use Rattle.relay_rules.specs.Reception.{seen, reception_row, reception_step, reception}
 use Rattle.relay_rules.specs.Transmission.{given as given_to, bubble_to, queues, transmission_row, transmission_step, transmission}
-use Rattle.relay_rules.specs.Ticks.{due_at, peer_of_due, tries_peer, tick}
+use Rattle.relay_rules.specs.Ticks.{peer_of_due, tries_peer, tick}
+use Rattle.peer_list.specs.Overdue.{due_by}
 use Rattle.relay_rules.specs.Journals.{first_peer, relay_in, relay_six, relay_tick, relay_entry, IsJournal}
 use Rattle.teredo_node.specs.MadeInputs.{IsMadeInput, AreMadeInputs}
 use Rattle.bubble.proofs.MadeInputs.{source_is, destination_is, packet_is, packet_came, destination_made}
@@ -68,9 +69,9 @@ all_mentions es a = mentioned es a
 
 -- ENTRIES
 
-due_peer : FirstWaits → (j : List Entry) (n : ℕ) → AllByRecursion IsMadeMention (mentions j) → IfSome (peer_of_due (due_at n (first_peer j n))) IsIp6
+due_peer : FirstWaits → (j : List Entry) (n : ℕ) → AllByRecursion IsMadeMention (mentions j) → IfSome (peer_of_due (due_by n (first_peer j n))) IsIp6
 due_peer law j n a = by (first_peer j n) refl where
-  by : (o : Option Listing) → first_peer j n ≡ o → IfSome (peer_of_due (due_at n o)) IsIp6
+  by : (o : Option Listing) → first_peer j n ≡ o → IfSome (peer_of_due (due_by n o)) IsIp6
   by None e = tt
   by (Some l) e = at (nat_le (due_of l.peer) n) where
     at : (b : Bool) → IfSome (peer_of_due (cond b (Some l) None)) IsIp6
@@ -136,7 +137,7 @@ of_entry laws s j n (arrived from x) made a h = received (standing_of j n (sourc
 of_entry laws s j n (from_six x) made a h =
     sent laws.bubble s (standing_of j n (destination_in x)) x (fields_in x).dst (transmission_row (given_to s (standing_of j n (destination_in x)) x)) made.six (destination_made laws.packet x h) h
 of_entry laws s j n (given x) made a h = tt
-of_entry laws s j n ticked made a h = ticks_of laws.bubble s n (due_at n (first_peer j n)) made.six (due_peer laws.waits j n a)
+of_entry laws s j n ticked made a h = ticks_of laws.bubble s n (due_by n (first_peer j n)) made.six (due_peer laws.waits j n a)
 
 -- WHOSE PACKETS
 
