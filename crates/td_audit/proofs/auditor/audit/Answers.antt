@@ -1,0 +1,7 @@
+use Rattle.td_audit.specs.Verdicts.{audited}
+use Rattle.td_audit.proofs.VerdictLaws.{one_verdict}
+use Rattle.td_audit.proofs.auditor.audit.Goals as goal
+
+pub returns-clause-only : goal.returns-clause-only
+returns-clause-only c =
+    one_verdict (audited c.args.primary c.args.secondary) c.args.bytes.now c.verdict_on.result c.capture_is_one.ensures c.capture_has_no_fault.ensures c.verdict_on.ensures.judged c.verdict_on.ensures.fault

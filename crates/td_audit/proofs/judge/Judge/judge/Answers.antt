@@ -1,0 +1,30 @@
+use Rattle.std.proofs.Common.{◌≡◌, Bool, [], ◌∷◌, ◌++◌, Some, subst, sym, ap, ◌∙◌, arith}
+use Rattle.td_audit.specs.declared.counts.Counts.{Counts}
+use Rattle.td_audit.specs.Datagrams.{datagram, is_server}
+use Rattle.td_audit.specs.Left.{HasKey}
+use Rattle.td_audit.specs.Counting.{with_record}
+use Rattle.td_audit.specs.Judging.{IsCovered, Runs}
+use Rattle.td_audit.proofs.JudgeLaws.{judged_out, judged_on, runs_on}
+use Rattle.td_audit.proofs.judge.Judge.judge.Goals as goal
+
+pub returns-then-not-branch : goal.returns-then-not-branch
+returns-then-not-branch c = λ s places small st.
+    let d = datagram c.args.src c.args.dst c.args.body.now in
+    let j = c.args.self.now in
+    let fits : HasKey d = record { src_ip = omega arith; src_port = omega arith; dst_ip = omega arith; dst_port = omega arith } in
+    let covered = subst (λ (b : Bool). IsCovered j.settings j.licences c.use_if_from.new.licences d b) c.if-not-branch.true c.in_ok-use_if_from.ensures in
+    record { settings_are = st.settings_are; state = judged_out s j c.use_if_from.new.licences places d fits c.requires covered st }
+
+pub returns : goal.returns
+returns c = λ s places small st.
+    let d = datagram c.args.src c.args.dst c.args.body.now in
+    let j = c.args.self.now in
+    let fits : HasKey d = record { src_ip = omega arith; src_port = omega arith; dst_ip = omega arith; dst_port = omega arith } in
+    let covered = subst (λ (b : Bool). IsCovered j.settings j.licences c.use_if_from.new.licences d b) c.if-not-branch.false c.in_ok-use_if_from.ensures in
+    let runs = judged_on s j c.use_if_from.new.licences c.license_reply.new.licences places d fits small c.requires covered c.in_ok-license_reply.ensures st in
+    let more = places ++ Some d ∷ [] in
+    let to = is_server j.settings d.dst in
+    let counts_are : c.with-self.result ≡ with_record j.counts to (is_server j.settings d.src) =
+    c.with-self.ensures ∙ ap (λ (b : Bool). with_record j.counts b c.is_server-from.result) c.is_server-to.ensures ∙ ap (with_record j.counts to) c.is_server-from.ensures in
+    let known = subst (λ (k : Counts). Runs s c.license_reply.new.licences k more) (sym counts_are) runs in
+    record { settings_are = st.settings_are; state = runs_on s c.license_reply.new.licences c.with-self.result more j.unlicensed c.requires known }

@@ -1,0 +1,43 @@
+-- How often datagrams are still licensed, for the contracts of private functions.
+use Rattle.std.specs.Prelude.{◌≡◌, ◌+◌, ◌<◌, ◌^◌, ℕ, length, List, ◌++◌, Bool, true, false, if◌then◌else◌, unwrap_or}
+use Rattle.std.specs.Cmp.Lexicographic.{slice_cmp}
+use Rattle.std.specs.Ordering.{nat_cmp}
+use Rattle.std.specs.BTreeMap.{get_by}
+use Rattle.byteorder.specs.Endian.{big_bytes}
+use Rattle.td_audit.specs.declared.licences.Licences.{Licences}
+use Rattle.td_audit.specs.Datagrams.{Datagram, same_datagram}
+
+-- addresses and ports, and the body
+unfoldable pub key_bytes : Datagram → List ℕ
+key_bytes d = d.src.ip.0 ++ big_bytes 2 d.src.port ++ d.dst.ip.0 ++ big_bytes 2 d.dst.port ++ d.body
+
+-- addresses and ports have their lengths: such datagrams differ where their keys do
+pub record HasKey (d : Datagram) : Type 0 where
+  pub src_ip : length d.src.ip.0 ≡ 4
+  pub src_port : d.src.port < 2 ^ 16
+  pub dst_ip : length d.dst.ip.0 ≡ 4
+  pub dst_port : d.dst.port < 2 ^ 16
+
+-- what the map has at a key of these bytes
+abbrev pub left_at : Licences → List ℕ → ℕ
+left_at l key = unwrap_or (get_by (λ k. slice_cmp nat_cmp key k.items) l.left) 0
+
+-- how often d is still licensed
+abbrev pub left : Licences → Datagram → ℕ
+left l d = left_at l (key_bytes d)
+
+abbrev pub IsEmptied : Licences → Type 0
+IsEmptied l = (e : Datagram) → left l e ≡ 0
+
+-- 1 where the two are the same
+abbrev pub one_if : Bool → ℕ
+one_if b = if b then 1 else 0
+
+-- d is licensed once more
+abbrev pub Grants : Licences → Licences → Datagram → Type 0
+Grants old new d = (e : Datagram) → HasKey e → left new e ≡ left old e + one_if (same_datagram e d)
+
+-- a licence of d was used up, or none was left
+abbrev pub Uses : Licences → Licences → Datagram → Bool → Type 0
+Uses old new d true = (e : Datagram) → HasKey e → left new e + one_if (same_datagram e d) ≡ left old e
+Uses old new d false = left old d ≡ 0

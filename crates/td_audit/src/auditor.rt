@@ -1,0 +1,56 @@
+//! The audit of a capture.
+ghost use Rattle.std.specs.Prelude.{◌≡◌, List, IfOk, IfErr, MatchResult};
+ghost use Rattle.td_pcap.specs.declared.head.Head.{Head};
+ghost use Rattle.td_pcap.specs.Records.{Captured};
+ghost use Rattle.td_pcap.specs.Captures.{CaptureBytes};
+ghost use Rattle.td_audit.specs.declared.fault.AuditFault.TheVariants.{NoMemory};
+ghost use Rattle.td_audit.specs.Verdicts.{audited, places, IsVerdict, IsJudged, IsAuditFault};
+
+use crate::fault::AuditFault;
+use crate::judge::Judge;
+use crate::verdict::Verdict;
+use server_core::ServerSettings;
+use std::alloc::Global;
+use td_base::{Ip4, Policy};
+use td_pcap::{HEAD, capture_has_no_fault, capture_is_bytes, capture_is_one, next, read_head};
+
+/// Whether each datagram of the capture from port 3544 of the two addresses is licensed by an earlier one to it. What is
+/// no capture to its last byte has no verdict, whatever stands before the fault.
+pub fn audit(
+    alloc: Global,
+    primary: Ip4,
+    secondary: Ip4,
+    bytes: &[u8],
+) -> Result<Verdict, AuditFault>
+    // What has a verdict is a capture, and the verdict is the one on it.
+    ensures judged { IfOk result (λ verdict. IsJudged (audited primary secondary) verdict bytes.now) }
+    // A capture has its verdict, unless memory runs out.
+    ensures only { (head : Head) (records : List Captured) → CaptureBytes head records bytes.now
+        → MatchResult result (IsVerdict (audited primary secondary) (places records)) (λ fault. fault ≡ NoMemory) }
+    // What is no capture is refused by its first fault.
+    ensures fault { IfErr result (λ fault. IsAuditFault fault bytes.now) }
+{
+    capture_is_one();
+    capture_has_no_fault();
+    let settings = ServerSettings {
+        primary,
+        secondary,
+        policy: Policy::Strict,
+    };
+    verdict_on(alloc, settings, bytes)
+}
+
+fn verdict_on(alloc: Global, settings: ServerSettings, bytes: &[u8]) -> Result<Verdict, AuditFault>
+    ensures judged { IfOk result (λ verdict. IsJudged settings verdict bytes.now) }
+    ensures fault { IfErr result (λ fault. IsAuditFault fault bytes.now) }
+{
+    capture_is_bytes();
+    let head = read_head(bytes)?;
+    let mut judge = Judge::new(alloc, settings);
+    let mut at = HEAD;
+    'records: while let Some((record, end)) = next(&head, bytes, at)? {
+        judge.take(record.bytes)?;
+        at = end;
+    }
+    Ok(judge.verdict())
+}

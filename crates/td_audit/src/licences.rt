@@ -1,0 +1,71 @@
+//! What earlier datagrams license.
+ghost use Rattle.std.specs.Prelude.{◌≡◌, ◌+◌, ◌<◌, ◌^◌, ◌++◌, ℕ, OnOk, IfOk};
+ghost use Rattle.td_audit.specs.Datagrams.{datagram};
+ghost use Rattle.td_audit.specs.Left.{key_bytes, HasKey, left, IsEmptied, Grants, Uses};
+
+use std::alloc::{AllocError, Global};
+use std::collections::BTreeMap;
+use td_base::{Ep, NoMemory};
+
+/// The bytes of a key in front of the body: two addresses and two ports.
+const KEY_HEAD: usize = 12;
+
+/// How many more times each datagram may come from the server. One that may not come is no entry.
+#[derive(Drop)]
+pub(crate) struct Licences {
+    alloc: Global,
+    left: BTreeMap<Vec<u8>, u64>,
+}
+
+/// A datagram as the map has it: addresses and ports, which have a fixed length, and the body.
+fn key_of(alloc: Global, src: Ep, dst: Ep, body: &[u8]) -> Result<Vec<u8>, AllocError>
+    ensures { IfOk result (λ key. key.items ≡ key_bytes (datagram src dst body.now)) }
+{
+    let mut key = Vec::with_capacity(alloc, KEY_HEAD + body.len())?;
+    key.extend_from_slice(&src.ip.0)?;
+    key.extend_from_slice(&src.port.to_be_bytes())?;
+    key.extend_from_slice(&dst.ip.0)?;
+    key.extend_from_slice(&dst.port.to_be_bytes())?;
+    key.extend_from_slice(body)?;
+    Ok(key)
+}
+
+impl Licences {
+    pub(crate) fn none(alloc: Global) -> Licences
+        ensures { IsEmptied result }
+    {
+        Licences {
+            alloc,
+            left: BTreeMap::new(alloc),
+        }
+    }
+
+    /// Licenses a datagram once more.
+    pub(crate) fn grant(&mut self, src: Ep, dst: Ep, body: &[u8]) -> Result<(), NoMemory>
+        ensures more { OnOk result (left self.old (datagram src dst body.now) + 1 < 2 ^ 64 → Grants self.old self.new (datagram src dst body.now)) }
+        ensures fits { HasKey (datagram src dst body.now) }
+    {
+        let key = key_of(self.alloc, src, dst, body)?;
+        let left = self.left.get(key.as_slice()).copied().unwrap_or(0);
+        self.left.insert(key, left.saturating_add(1))?;
+        Ok(())
+    }
+
+    /// Uses one licence of a datagram up, if one is left.
+    pub(crate) fn use_up(&mut self, src: Ep, dst: Ep, body: &[u8]) -> Result<bool, NoMemory>
+        ensures used { IfOk result (Uses self.old self.new (datagram src dst body.now)) }
+        ensures fits { HasKey (datagram src dst body.now) }
+    {
+        let key = key_of(self.alloc, src, dst, body)?;
+        let left = self.left.get(key.as_slice()).copied().unwrap_or(0);
+        if left == 0 {
+            return Ok(false);
+        }
+        if left == 1 {
+            let _ = self.left.remove(key.as_slice());
+            return Ok(true);
+        }
+        self.left.insert(key, left - 1)?;
+        Ok(true)
+    }
+}
