@@ -41,9 +41,9 @@ use Rattle.lab_nodes.specs.Answers.{AsksFor, Asks, WantsAny}
 use Rattle.world.specs.declared.sender.Sender.{Sender}
 use Rattle.world.specs.declared.prompt.Prompt.{Prompt}
 use Rattle.world.specs.declared.prompt.Prompt.TheVariants as prompt
-use Rattle.world.specs.Emission.{KeepsNat, KeepsItsNat, IsEmission, sent_by, IsBehind}
+use Rattle.world.specs.Emission.{KeepsNat, KeepsItsNat, IsEmission, emitted_by, IsBehind}
 use Rattle.world.specs.Prompt.{delivered_by, input_by, dst_by, IsPrompt, done_by}
-use Rattle.world.specs.Wire.{WireState, entries_in, Enters, Puts}
+use Rattle.world.specs.Wire.{WireState, entries_in, ComesOnto, Puts}
 use Rattle.world.specs.Record.{fresh_record, with_deed}
 use Rattle.world.specs.World.{WorldState, NeedsMemory, IsCause}
 use Rattle.world.specs.Playing.{prompted, Finds, Plays}
@@ -153,8 +153,8 @@ wire_in w = record { items = w.wire; done = w.done }
 
 -- it came onto the wire
 pub record IsSent (x : Doing) (after : List NodeState) (new : WireState) (marks : List Mark) : Type 0 where
-  pub enters : Enters (wire_in x.world) new [] marks (sent_by (lab_of_doing x) x.history (sender_of x) (entry_by x)).made
-  pub nat : KeepsItsNat (lab_of_doing x) x.history (sent_by (lab_of_doing x) x.history (sender_of x) (entry_by x)).passed x.call.node after
+  pub enters : ComesOnto (wire_in x.world) new [] marks (emitted_by (lab_of_doing x) x.history (sender_of x) (entry_by x)).made
+  pub nat : KeepsItsNat (lab_of_doing x) x.history (emitted_by (lab_of_doing x) x.history (sender_of x) (entry_by x)).passed x.call.node after
 
 -- no other node but the sender's NAT was touched by it
 pub record IsAway (x : Doing) (y : Asking) (after : List NodeState) : Type 0 where
@@ -256,7 +256,7 @@ module _ (lab : Lab) (H : List Full) (m j k : ℕ) (apart : (j == k) ≡ false) 
 
 nothing_out : (x : Doing) (k : ℕ) → (IsBehind x.call.node k → ⊥) → outs_at k (record_by x).passed ≡ []
 nothing_out x k other = by x.call.node other where
-  by : (a : Node) → (IsBehind a k → ⊥) → outs_at k (sent_by (lab_of_doing x) x.history (record { node = a; now = x.call.now }) (entry_by x)).passed ≡ []
+  by : (a : Node) → (IsBehind a k → ⊥) → outs_at k (emitted_by (lab_of_doing x) x.history (record { node = a; now = x.call.now }) (entry_by x)).passed ≡ []
   by (client c) other = test (eqb_tells c.nat k) where
     test : ((c.nat == k) ≡ true) × (c.nat ≡ k) ⊎ ((c.nat == k) ≡ false) × (c.nat ≢ k)
         → outs_at k (by_way (lab_of_doing x) x.history x.call.now.0 (c.nat ∷ []) c.inside None 0 [] (entry_by x).step.sends).passed ≡ []
@@ -308,17 +308,17 @@ done_is : (x : Doing) (after : List NodeState) (new : WireState) (marks : List M
     → (i : ℕ) → get_or (done_by x.prompt new.done) i false ≡ (is_number i (delivered_by x.prompt) || get_or x.world.done i false)
 done_is x after new marks done there i = by x.prompt there where
   entries : List Item
-  entries = entries_in (sent_by (lab_of_doing x) x.history (sender_of x) (entry_by x)).made
+  entries = entries_in (emitted_by (lab_of_doing x) x.history (sender_of x) (entry_by x)).made
 
-  flags : new.done ≡ x.world.done ++ replicate (length (entries_in (sent_by (lab_of_doing x) x.history (sender_of x) (entry_by x)).made)) false
+  flags : new.done ≡ x.world.done ++ replicate (length (entries_in (emitted_by (lab_of_doing x) x.history (sender_of x) (entry_by x)).made)) false
   flags = ap (λ (w : WireState). w.done) done.enters.wire
 
   same : get_or new.done i false ≡ get_or x.world.done i false
-  same = ap (λ (bs : List Bool). get_or bs i false) flags ∙ flags_same x.world.done (length (entries_in (sent_by (lab_of_doing x) x.history (sender_of x) (entry_by x)).made)) i
+  same = ap (λ (bs : List Bool). get_or bs i false) flags ∙ flags_same x.world.done (length (entries_in (emitted_by (lab_of_doing x) x.history (sender_of x) (entry_by x)).made)) i
 
   by : (p : Prompt) → IsPrompt x.world.wire x.world.done p → get_or (done_by p new.done) i false ≡ (is_number i (delivered_by p) || get_or x.world.done i false)
   by (prompt.Entry number) there =
-      let longer : length new.done ≡ length x.world.done + length (replicate (length (entries_in (sent_by (lab_of_doing x) x.history (sender_of x) (entry_by x)).made)) false) =
+      let longer : length new.done ≡ length x.world.done + length (replicate (length (entries_in (emitted_by (lab_of_doing x) x.history (sender_of x) (entry_by x)).made)) false) =
       ap (λ (xs : List Bool). length xs) flags ∙ length-append x.world.done _ in
       let within = there.1 in
       remembered new.done number (omega (arith, longer, within)) i ∙ ap (λ (b : Bool). is_number i (Some number) || b) same
@@ -350,8 +350,8 @@ wants_memory x call is wants =
 
 -- the wire has no room for what it sends, or memory was wanting for it
 pub acted_stops : (x : Doing) (new : WireState) (marks : List Mark) (why : Stop) → IsCall x.world x.prompt x.call
-    → Puts (wire_in x.world) new [] marks (sent_by (lab_of_doing x) x.history (sender_of x) (entry_by x)).made (Err why) → IsCause x.world (prompted x.draws x.world x.history x.event x.act x.prompt x.call.number x.call.node) why
+    → Puts (wire_in x.world) new [] marks (emitted_by (lab_of_doing x) x.history (sender_of x) (entry_by x)).made (Err why) → IsCause x.world (prompted x.draws x.world x.history x.event x.act x.prompt x.call.number x.call.node) why
 acted_stops x new marks why call puts = subst (λ (r : Full). IsCause x.world r why) (prompted_is x call) (by why puts) where
-  by : (why : Stop) → Puts (wire_in x.world) new [] marks (sent_by (lab_of_doing x) x.history (sender_of x) (entry_by x)).made (Err why) → IsCause x.world (record_by x) why
+  by : (why : Stop) → Puts (wire_in x.world) new [] marks (emitted_by (lab_of_doing x) x.history (sender_of x) (entry_by x)).made (Err why) → IsCause x.world (record_by x) why
   by stop.WireFull more = more
   by stop.NoMemory some = λ none. absurd (some none)

@@ -9,7 +9,7 @@ use Rattle.history.specs.declared.turn.Stop.{Stop}
 use Rattle.history.specs.declared.turn.Stop.TheVariants as stop
 use Rattle.history.specs.Full.{Item, Made, sent, lost}
 use Rattle.history.specs.Records.{mark_of, marks_of}
-use Rattle.world.specs.Wire.{WireState, with_items, front_of, entries_in, Enters, Puts, Begins}
+use Rattle.world.specs.Wire.{WireState, with_items, front_of, entries_in, ComesOnto, Puts, Extends}
 
 -- ENTRIES AND MARKS OF TWO PARTS
 
@@ -37,10 +37,10 @@ items_twice : (w : WireState) (xs ys : List Item) → with_items (with_items w x
 items_twice w xs ys = λ i. record { items = append_assoc w.items xs ys i; done = flags_twice w.done xs ys i }
 
 -- how long the wire is then
-pub grown : (a b : WireState) (s t : List Mark) (ms : List Made) → Enters a b s t ms → length b.items ≡ length a.items + length (entries_in ms)
+pub grown : (a b : WireState) (s t : List Mark) (ms : List Made) → ComesOnto a b s t ms → length b.items ≡ length a.items + length (entries_in ms)
 grown a b s t ms p = ap (λ (w : WireState). length w.items) p.wire ∙ length-append a.items (entries_in ms)
 
-pub nothing_enters : (w : WireState) (s : List Mark) → Enters w w s s []
+pub nothing_enters : (w : WireState) (s : List Mark) → ComesOnto w w s s []
 nothing_enters w s = record { wire = λ i. record { items = sym (append-nil w.items) i; done = sym (append-nil w.done) i }; marks = sym (append-nil s) }
 
 -- NOTHING MADE
@@ -64,14 +64,14 @@ first_none (m ∷ ms) ns e = absurd (some_made m (ms ++ ns) e)
 -- TWO PARTS, ONE AFTER THE OTHER
 
 module _ (ms ns : List Made) where
-  pub enters_twice : (a b c : WireState) (s t u : List Mark) → Enters a b s t ms → Enters b c t u ns → Enters a c s u (ms ++ ns)
+  pub enters_twice : (a b c : WireState) (s t u : List Mark) → ComesOnto a b s t ms → ComesOnto b c t u ns → ComesOnto a c s u (ms ++ ns)
   enters_twice a b c s t u p q = record {
     wire = q.wire ∙ ap (λ (w : WireState). with_items w (entries_in ns)) p.wire ∙ items_twice a (entries_in ms) (entries_in ns) ∙ ap (with_items a) (sym (entries_append ms ns));
     marks = q.marks ∙ ap (λ (l : List Mark). l ++ marks_of (length b.items) ns) p.marks ∙ append_assoc s (marks_of (length a.items) ms) (marks_of (length b.items) ns)
         ∙ ap (λ (n : ℕ). s ++ (marks_of (length a.items) ms ++ marks_of n ns)) (grown a b s t ms p) ∙ ap (λ (l : List Mark). s ++ l) (sym (marks_append (length a.items) ms ns));
   }
 
-  pub puts_then : (a b c : WireState) (s t u : List Mark) (r : Result (Unit {0}) Stop) → Enters a b s t ms → Puts b c t u ns r → Puts a c s u (ms ++ ns) r
+  pub puts_then : (a b c : WireState) (s t u : List Mark) (r : Result (Unit {0}) Stop) → ComesOnto a b s t ms → Puts b c t u ns r → Puts a c s u (ms ++ ns) r
   puts_then a b c s t u (Ok done) p q = enters_twice a b c s t u p q
   puts_then a b c s t u (Err stop.WireFull) p q =
       let longer = grown a b s t ms p in
@@ -86,17 +86,17 @@ module _ (ms ns : List Made) where
 
 -- A WIRE THAT BEGINS AS IT WAS
 
-pub begins_same : (w : WireState) → Begins w w
+pub begins_same : (w : WireState) → Extends w w
 begins_same w = ([], (nothing_enters w []).wire)
 
-pub begins_with : (a b : WireState) (s t : List Mark) (ms : List Made) → Enters a b s t ms → Begins a b
+pub begins_with : (a b : WireState) (s t : List Mark) (ms : List Made) → ComesOnto a b s t ms → Extends a b
 begins_with a b s t ms p = (entries_in ms, p.wire)
 
-pub begins_twice : (a b c : WireState) → Begins a b → Begins b c → Begins a c
+pub begins_twice : (a b c : WireState) → Extends a b → Extends b c → Extends a c
 begins_twice a b c p q = (p.0 ++ q.0, q.1 ∙ ap (λ (w : WireState). with_items w q.0) p.1 ∙ items_twice a p.0 q.0)
 
 -- cut back it is what it was
-pub cut_back : (old new : WireState) → Begins old new → length old.done ≡ length old.items → front_of (length old.items) new ≡ old
+pub cut_back : (old new : WireState) → Extends old new → length old.done ≡ length old.items → front_of (length old.items) new ≡ old
 cut_back old new p each = rw (p.1, take-append_seam old.items p.0, ← each, take-append_seam old.done (replicate (length p.0) false)) refl
 
 -- what isn't put isn't, whatever is left of it

@@ -16,7 +16,7 @@ use Rattle.legal.specs.Laws.{EachIsOfItsEvent, is_advance}
 use Rattle.world.specs.declared.going.Going.TheVariants as going_on
 use Rattle.world.specs.declared.going.Going.{Going}
 use Rattle.world.specs.World.{WorldState, IsAgain, event_in, began_in}
-use Rattle.world.specs.Playing.{Plays, played, PlaysTurn, Turned, ended, turn_of}
+use Rattle.world.specs.Playing.{Plays, played, PlaysTurn, Turned, ended, turn_from}
 
 no_more : (e : Event) → is_advance e ≡ false → (r : Full) → has_more e r.act ≡ false
 no_more (event.Advance ms) is r = absurd (false≢true (sym is))
@@ -31,13 +31,13 @@ no_more (event.Restart node) is r = refl
 no_more (event.Forget n who) is r = refl
 
 turns : (d : Draws) (old new : WorldState) (H : List Full) (r : Full) (done : Result (Unit {0}) Stop) (said : Record) → has_more r.asked r.act ≡ false
-    → Plays d old new H r (played done said) → PlaysTurn d old new H r (turn_of (ended done) said)
+    → Plays d old new H r (played done said) → PlaysTurn d old new H r (turn_from (ended done) said)
 turns d old new H r (Ok done) said last plays = (plays.0, last, plays.1)
 turns d old new H r (Err why) said last plays = plays
 
 -- what an event but an advance does is its last record
 pub plays_last : EachIsOfItsEvent → (d : Draws) (old new : WorldState) (H : List Full) (i : ℕ) (e : Event) (done : Result (Unit {0}) Stop) (said : Record) → is_advance e ≡ false
-    → Plays d old new H (next_of (flat_lab d old.topology) H i e) (played done said) → PlaysTurn d old new H (next_of (flat_lab d old.topology) H i e) (turn_of (ended done) said)
+    → Plays d old new H (next_of (flat_lab d old.topology) H i e) (played done said) → PlaysTurn d old new H (next_of (flat_lab d old.topology) H i e) (turn_from (ended done) said)
 plays_last law d old new H i e done said single plays =
     let r = next_of (flat_lab d old.topology) H i e in
     turns d old new H r done said (ap (λ (x : Event). has_more x r.act) (law (flat_lab d old.topology) H i e).asked ∙ no_more e single r) plays
@@ -67,7 +67,7 @@ turned_last old new e word rest same = record {
   goes = ap (λ (w : WorldState). w.began) same ∙ rest.1 ∙ sym (ap (λ (w : WorldState). w.moment) same);
 }
 
-pub turned_once : (old new : WorldState) (e : Event) (done : Result (Unit {0}) Stop) (said : Record) → IsAtRest old → lasting new ≡ lasting old → IfOk (turn_of (ended done) said) (λ turn. Turned old new e turn)
+pub turned_once : (old new : WorldState) (e : Event) (done : Result (Unit {0}) Stop) (said : Record) → IsAtRest old → lasting new ≡ lasting old → IfOk (turn_from (ended done) said) (λ turn. Turned old new e turn)
 turned_once old new e (Ok done) said rest same = turned_last old new e said rest same
 turned_once old new e (Err why) said rest same = tt
 

@@ -14,7 +14,7 @@ use Rattle.history.specs.Full.{udp, Made, sent}
 use Rattle.history.specs.Records.{mark_of}
 use Rattle.legal.specs.Emit.{is_at_place, made_outright, outright, six_made}
 use Rattle.lab_nodes.specs.Answers.{six_part}
-use Rattle.world.specs.Wire.{WireState, Enters, Puts}
+use Rattle.world.specs.Wire.{WireState, ComesOnto, Puts}
 use Rattle.world.specs.Emission.{six_sent}
 use Rattle.world.proofs.Entered.{nothing_enters, enters_twice, puts_then, puts_stop}
 
@@ -45,24 +45,24 @@ made_whole a sends n = sym (outright_append a None 0 (take n sends) (drop n send
 
 -- the first i sends are on the wire, with their marks
 pub record OutrightSoFar (old now : WireState) (a : Node) (sends : List Send) (i : ℕ) (said : List Mark) : Type 0 where
-  pub enters : Enters old now [] said (outright a None 0 (take i sends))
+  pub enters : ComesOnto old now [] said (outright a None 0 (take i sends))
   pub count : length said ≡ i
 
 pub none_outright : (w : WireState) (a : Node) (sends : List Send) (said : List Mark) → said ≡ [] → OutrightSoFar w w a sends 0 said
 none_outright w a sends said none = record {
-  enters = subst (λ (s : List Mark). Enters w w [] s []) (sym none) (nothing_enters w []);
+  enters = subst (λ (s : List Mark). ComesOnto w w [] s []) (sym none) (nothing_enters w []);
   count = ap (λ (s : List Mark). length s) none;
 }
 
 -- a mark more
-pub one_said : (old new : WireState) (said more : List Mark) (m : Made) → Enters old new said more (m ∷ []) → length more ≡ length said + 1
+pub one_said : (old new : WireState) (said more : List Mark) (m : Made) → ComesOnto old new said more (m ∷ []) → length more ≡ length said + 1
 one_said old new said more m p = ap (λ (l : List Mark). length l) p.marks ∙ length-append said (mark_of (length old.items) m ∷ [])
 
 module _ (old : WireState) (a : Node) (sends : List Send) (i : ℕ) (x : Send) (at : slice_get sends i ≡ Some x) where
   -- the next one is put
-  pub one_outright : (now new : WireState) (said more : List Mark) → OutrightSoFar old now a sends i said → Enters now new said more (one_of a x ∷ []) → OutrightSoFar old new a sends (i + 1) more
+  pub one_outright : (now new : WireState) (said more : List Mark) → OutrightSoFar old now a sends i said → ComesOnto now new said more (one_of a x ∷ []) → OutrightSoFar old new a sends (i + 1) more
   one_outright now new said more so puts = record {
-    enters = subst (λ (ms : List Made). Enters old new [] more ms) (sym (made_more a sends i x at))
+    enters = subst (λ (ms : List Made). ComesOnto old new [] more ms) (sym (made_more a sends i x at))
         (enters_twice (outright a None 0 (take i sends)) (one_of a x ∷ []) old now new [] said more so.enters puts);
     count = let longer = one_said now new said more (one_of a x) puts in let so_far = so.count in omega (arith, longer, so_far);
   }

@@ -24,7 +24,7 @@ use Rattle.lab_nodes.specs.declared.node_state.NodeState.{NodeState}
 use Rattle.lab_nodes.specs.NodeState.{NodesOf}
 use Rattle.world.proofs.Kept.{IsStill, all_rest, all_away}
 use Rattle.world.specs.Record.{fresh_record, with_deed}
-use Rattle.world.specs.Wire.{WireState, Enters, Puts}
+use Rattle.world.specs.Wire.{WireState, ComesOnto, Puts}
 use Rattle.world.specs.World.{WorldState, StandsFor, IsCause}
 use Rattle.world.specs.Playing.{Comes, Plays, played}
 
@@ -85,7 +85,7 @@ module _ (frame : EachFrames) (d : Draws) (old : WorldState) (H : List Full) (e 
   abbrev one : Made
   one = sent (udp src dst bytes)
 
-  puts_one : (new : WireState) (marks : List Mark) → StandsFor d old H → Enters (wire_of old) new [] marks (one ∷ [])
+  puts_one : (new : WireState) (marks : List Mark) → StandsFor d old H → ComesOnto (wire_of old) new [] marks (one ∷ [])
       → Plays d old (record old { wire = new.items; done = new.done }) H (puts H e a src dst bytes) (Ok (put_said e.number old.moment a marks))
   puts_one new marks s is =
       let these : marks ≡ marks_of (length (wire H)) (one ∷ []) = is.marks ∙ ap (λ (xs : List Item). marks_of (length xs) (one ∷ [])) s.wire in (

@@ -17,7 +17,7 @@ use Rattle.history.specs.Full.{Full, Made}
 use Rattle.legal.specs.Lab.{Lab}
 use Rattle.legal.specs.Past.{nat_history, nat_pasts}
 use Rattle.legal.specs.Emit.{is_at_place, crossing_unless, or_loss, marked, Sendings, by_way}
-use Rattle.world.specs.Wire.{WireState, Enters, Puts, Begins}
+use Rattle.world.specs.Wire.{WireState, ComesOnto, Puts, Extends}
 use Rattle.world.specs.Emission.{IsNatWith}
 use Rattle.world.proofs.Entered.{some_made, nothing_enters, enters_twice, puts_then, puts_stop, begins_same, begins_with, begins_twice}
 use Rattle.world.proofs.Outright.{taken, parted, one_said}
@@ -95,15 +95,15 @@ module _ (w : Through) (lab : Lab) (H : List Full) (k : ℕ) where
 
 -- the first i sends were put or lost, with their marks
 pub record ThroughSoFar (w : Through) (old now : WireState) (before nat : NatState) (sends : List Send) (i : ℕ) (said : List Mark) : Type 0 where
-  pub enters : (lab : Lab) (H : List Full) (k : ℕ) → IsNatWith lab H k [] before → Enters old now [] said (sent_in w lab H k (take i sends)).made
+  pub enters : (lab : Lab) (H : List Full) (k : ℕ) → IsNatWith lab H k [] before → ComesOnto old now [] said (sent_in w lab H k (take i sends)).made
   pub stands : (lab : Lab) (H : List Full) (k : ℕ) → IsNatWith lab H k [] before → IsNatWith lab H k (sent_in w lab H k (take i sends)).passed nat
-  pub begins : Begins old now
+  pub begins : Extends old now
   pub count : length said ≡ i
   pub moment : nat.moment ≤ w.moment
 
 pub none_through : (w : Through) (old : WireState) (nat : NatState) (sends : List Send) (said : List Mark) → said ≡ [] → nat.moment ≤ w.moment → ThroughSoFar w old old nat nat sends 0 said
 none_through w old nat sends said none early = record {
-  enters = λ lab H k is. subst (λ (s : List Mark). Enters old old [] s []) (sym none) (nothing_enters old []);
+  enters = λ lab H k is. subst (λ (s : List Mark). ComesOnto old old [] s []) (sym none) (nothing_enters old []);
   stands = λ lab H k is. is;
   begins = begins_same old;
   count = ap (λ (s : List Mark). length s) none;
@@ -125,13 +125,13 @@ next_made w lab H k now new sends x src crosses is = ap (λ (r : Result Ep Loss)
 module _ (w : Through) (old : WireState) (before : NatState) (sends : List Send) (i : ℕ) (x : Send) (at : slice_get sends i ≡ Some x) where
   -- the next one is put, or lost
   pub one_through : (now new : WireState) (nat nat' : NatState) (said more : List Mark) (src : Result Ep Loss)
-      → ThroughSoFar w old now before nat sends i said → Crosses w nat nat' x.to src → Enters now new said more (marked x src ∷ []) → ThroughSoFar w old new before nat' sends (i + 1) more
+      → ThroughSoFar w old now before nat sends i said → Crosses w nat nat' x.to src → ComesOnto now new said more (marked x src ∷ []) → ThroughSoFar w old new before nat' sends (i + 1) more
   one_through now new nat nat' said more src so crosses puts = record {
     enters = λ lab H k is.
         let front = sent_in w lab H k (take i sends) in
         let made = next_made w lab H k nat nat' (take i sends) x src crosses (so.stands lab H k is) in
-        subst (λ (y : Sendings). Enters old new [] more y.made) (sym (more_in w lab H k sends i x at))
-        (enters_twice front.made (next_in w lab H k (take i sends) x).made old now new [] said more (so.enters lab H k is) (subst (λ (ms : List Made). Enters now new said more ms) (sym made) puts));
+        subst (λ (y : Sendings). ComesOnto old new [] more y.made) (sym (more_in w lab H k sends i x at))
+        (enters_twice front.made (next_in w lab H k (take i sends) x).made old now new [] said more (so.enters lab H k is) (subst (λ (ms : List Made). ComesOnto now new said more ms) (sym made) puts));
     stands = λ lab H k is.
         subst (λ (y : Sendings). IsNatWith lab H k y.passed nat') (sym (more_in w lab H k sends i x at)) (crosses.crosses lab H k (sent_in w lab H k (take i sends)).passed (so.stands lab H k is)).1;
     begins = begins_twice old now new so.begins (begins_with now new said more (marked x src ∷ []) puts);

@@ -3,7 +3,7 @@ use Rattle.std.proofs.Common.{◌≡◌, ◌≤◌, ℕ, zero, suc, false, Bool,
 use Rattle.std.specs.List.{AllByRecursion}
 use Rattle.std.proofs.lemmas.List.{get_or-take, length-take-le}
 use Rattle.history.specs.Full.{Item}
-use Rattle.world.specs.Wire.{IsShort, IsWire}
+use Rattle.world.specs.Wire.{IsShortEntry, IsWire}
 
 pub all_take : {X : Type 0} (P : X → Type 0) (n : ℕ) (xs : List X) → AllByRecursion P xs → AllByRecursion P (take n xs)
 all_take P zero xs all = tt
@@ -16,7 +16,7 @@ cut_is_wire items done low len (each, most, short, within, before) fits =
     let b : length (take len done) ≡ len = length-take-le len done (omega (arith, each, fits)) in (
       b ∙ sym a,
       omega (arith, a, most, fits),
-      all_take IsShort len items short,
+      all_take IsShortEntry len items short,
       omega (arith, a),
       λ i h. get_or-take len done i false (omega (arith, h)) ∙ before i (omega (arith, h)),
     )

@@ -39,8 +39,8 @@ pub record IsEmission (lab : Lab) (H : List Full) (x : Sender) (nodes : List Nod
   pub nat : KeepsItsNat lab H [] x.node nodes
 
 -- what becomes of it
-abbrev pub sent_by : Lab → List Full → Sender → Entry → Sendings
-sent_by lab H x e = sendings lab H x.now.0 e x.node
+abbrev pub emitted_by : Lab → List Full → Sender → Entry → Sendings
+emitted_by lab H x e = sendings lab H x.now.0 e x.node
 
 -- the packet for the IPv6 side, if there is one: for whoever has its destination
 abbrev pub six_sent : Option (List ℕ) → List Made

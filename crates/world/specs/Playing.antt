@@ -86,10 +86,10 @@ ended (Ok done) = Ok false
 ended (Err stop) = Err stop
 
 -- the turn of a record, by whether its event has further ones
-abbrev pub turn_of : Result Bool Stop → Record → Result Turn Stop
-turn_of (Ok true) r = Ok (More r)
-turn_of (Ok false) r = Ok (Last r)
-turn_of (Err stop) r = Err stop
+abbrev pub turn_from : Result Bool Stop → Record → Result Turn Stop
+turn_from (Ok true) r = Ok (More r)
+turn_from (Ok false) r = Ok (Last r)
+turn_from (Err stop) r = Err stop
 
 -- the same with a turn, which says whether the event has further records
 abbrev pub PlaysTurn : Draws → WorldState → WorldState → List Full → Full → Result Turn Stop → Type 0

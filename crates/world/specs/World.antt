@@ -54,13 +54,13 @@ state_of t m g nodes wire stopped = record { topology = t; moment = m; began = b
 -- WHAT IS LEFT
 
 -- for an advance that ends at `end`
-abbrev pub left_to : WorldState → ℕ → ℕ
-left_to w end = time_left end w.moment (all_due w.moment w.nodes 0 (nodes w.topology))
+abbrev pub left_until : WorldState → ℕ → ℕ
+left_until w end = time_left end w.moment (all_due w.moment w.nodes 0 (nodes w.topology))
 
 -- of the event that goes on; as much as may be where none does
 abbrev pub left_of : WorldState → Option Event → ℕ
 left_of w None = LEFT_MAX
-left_of w (Some (event.Advance ms)) = left_to w (w.began + ms)
+left_of w (Some (event.Advance ms)) = left_until w (w.began + ms)
 left_of w (Some e) = 0
 
 -- it falls with each further record of an event

@@ -14,7 +14,7 @@ ghost use Rattle.td_outside.specs.declared.clock.TheConstants.{CLOCK_END_MS};
 ghost use Rattle.lab_nodes.specs.Due.{due_is};
 ghost use Rattle.world.specs.Record.{fresh_record, with_deed};
 ghost use Rattle.world.specs.World.{StandsFor, IsAgain};
-ghost use Rattle.world.specs.Playing.{ticks_at, NoneIsDue, Plays, PlaysTurn, Turned, played, turn_of};
+ghost use Rattle.world.specs.Playing.{ticks_at, NoneIsDue, Plays, PlaysTurn, Turned, played, turn_from};
 
 use crate::going::Going;
 use crate::prompt::Prompt;
@@ -95,8 +95,8 @@ impl<'a> World<'a> {
         requires again { IsAgain self.old.going (event.Advance ms) }
         requires time { self.old.began + ms < CLOCK_END_MS }
         ensures plays { (d : Draws) (H : List Full) → StandsFor d self.old H
-            → PlaysTurn d self.old self.new H (next_of (flat_lab d self.old.topology) H out.old.event (event.Advance ms)) (turn_of result out.new) }
-        ensures turned { IfOk (turn_of result out.new) (λ turn. Turned self.old self.new (event.Advance ms) turn) }
+            → PlaysTurn d self.old self.new H (next_of (flat_lab d self.old.topology) H out.old.event (event.Advance ms)) (turn_from result out.new) }
+        ensures turned { IfOk (turn_from result out.new) (λ turn. Turned self.old self.new (event.Advance ms) turn) }
         ensures time { self.new.moment ≤ self.old.began + ms }
         ensures err { OnErr result ((self.new.topology ≡ self.old.topology) × (self.new.wire ≡ self.old.wire) × (self.new.done ≡ self.old.done)) }
     {

@@ -13,8 +13,8 @@ ghost use Rattle.legal.specs.Lab.{Draws, Lab, flat_lab};
 ghost use Rattle.legal.specs.Past.{nat_pasts};
 ghost use Rattle.legal.specs.Emit.{or_loss, by_way, outright, relay_for, native_made};
 ghost use Rattle.lab_nodes.specs.NodeState.{AreReady};
-ghost use Rattle.world.specs.Wire.{Puts, Begins};
-ghost use Rattle.world.specs.Emission.{IsNatWith, KeepsItsNat, IsEmission, sent_by, six_sent, IsBehind};
+ghost use Rattle.world.specs.Wire.{Puts, Extends};
+ghost use Rattle.world.specs.Emission.{IsNatWith, KeepsItsNat, IsEmission, emitted_by, six_sent, IsBehind};
 
 use crate::wire::{Entry, Wire};
 use history::{Loss, Marks, Stop};
@@ -60,7 +60,7 @@ fn put_outright(wire: &mut Wire, node: &Node, step: &Step, marks: &mut Marks) ->
     requires none { marks.old ≡ [] }
     ensures puts { Puts wire.old wire.new [] marks.new (outright node.now None 0 step.now.sends) result }
     ensures few { OnOk result (length marks.new ≤ SENDS_MAX) }
-    ensures err { OnErr result (Begins wire.old wire.new) }
+    ensures err { OnErr result (Extends wire.old wire.new) }
 {
     for i in 0..step.count() {
         let (side, to, bytes) = step.send(i);
@@ -105,7 +105,7 @@ fn put_through(
     ensures stands { OnOk result ((lab : Lab) (H : List Full) (k : ℕ) → IsNatWith lab H k [] nat.old
         → IsNatWith lab H k (by_way lab H now.0 (k ∷ []) inside None 0 [] step.now.sends).passed nat.new) }
     ensures moment { nat.new.moment ≤ now.0 }
-    ensures err { OnErr result (Begins wire.old wire.new) }
+    ensures err { OnErr result (Extends wire.old wire.new) }
 {
     for i in 0..step.count() {
         let (_, to, bytes) = step.send(i);
@@ -130,10 +130,10 @@ fn put_by_nat(
     ensures ready { AreReady sender.now.0 nodes.new.items }
     ensures elsewhere { (k : ℕ) → k ≢ row.nat → slice_get nodes.new.items k ≡ slice_get nodes.old.items k }
     ensures puts { (d : Draws) (t : TopologyState) (H : List Full) (e : JournalEntry) → IsEmission (flat_lab d t) H sender nodes.old.items step.now None e
-        → Puts wire.old wire.new [] marks.new (sent_by (flat_lab d t) H sender e).made result }
+        → Puts wire.old wire.new [] marks.new (emitted_by (flat_lab d t) H sender e).made result }
     ensures nat { OnOk result ((d : Draws) (t : TopologyState) (H : List Full) (e : JournalEntry) → IsEmission (flat_lab d t) H sender nodes.old.items step.now None e
-        → KeepsItsNat (flat_lab d t) H (sent_by (flat_lab d t) H sender e).passed sender.node nodes.new.items) }
-    ensures err { OnErr result (Begins wire.old wire.new) }
+        → KeepsItsNat (flat_lab d t) H (emitted_by (flat_lab d t) H sender e).passed sender.node nodes.new.items) }
+    ensures err { OnErr result (Extends wire.old wire.new) }
 {
     let number = usize::from(row.nat);
     if number >= nodes.len() {
@@ -206,7 +206,7 @@ fn put_own(
     requires none { marks.old ≡ [] }
     requires short { IfSome packet (λ bytes. length bytes ≤ DATAGRAM_MAX) }
     ensures puts { Puts wire.old wire.new [] marks.new (outright node.now None 0 step.now.sends ++ six_sent packet) result }
-    ensures err { OnErr result (Begins wire.old wire.new) }
+    ensures err { OnErr result (Extends wire.old wire.new) }
 {
     put_outright(wire, node, step, marks)?;
     put_six(wire, packet, marks)
@@ -228,10 +228,10 @@ fn put_all(
     ensures ready { AreReady sender.now.0 nodes.new.items }
     ensures elsewhere { (k : ℕ) → (IsBehind sender.node k → ⊥) → slice_get nodes.new.items k ≡ slice_get nodes.old.items k }
     ensures puts { (d : Draws) (t : TopologyState) (H : List Full) (e : JournalEntry) → IsEmission (flat_lab d t) H sender nodes.old.items step.now packet e
-        → Puts wire.old wire.new [] marks.new (sent_by (flat_lab d t) H sender e).made result }
+        → Puts wire.old wire.new [] marks.new (emitted_by (flat_lab d t) H sender e).made result }
     ensures nat { OnOk result ((d : Draws) (t : TopologyState) (H : List Full) (e : JournalEntry) → IsEmission (flat_lab d t) H sender nodes.old.items step.now packet e
-        → KeepsItsNat (flat_lab d t) H (sent_by (flat_lab d t) H sender e).passed sender.node nodes.new.items) }
-    ensures err { OnErr result (Begins wire.old wire.new) }
+        → KeepsItsNat (flat_lab d t) H (emitted_by (flat_lab d t) H sender e).passed sender.node nodes.new.items) }
+    ensures err { OnErr result (Extends wire.old wire.new) }
 {
     match sender.node {
         Node::Client(row) => put_by_nat(sender, row, nodes, wire, step, marks),
@@ -257,9 +257,9 @@ pub fn emit(
     ensures ready { AreReady sender.now.0 nodes.new.items }
     ensures elsewhere { (k : ℕ) → (IsBehind sender.node k → ⊥) → slice_get nodes.new.items k ≡ slice_get nodes.old.items k }
     ensures puts { (d : Draws) (t : TopologyState) (H : List Full) (e : JournalEntry) → IsEmission (flat_lab d t) H sender nodes.old.items step.now packet e
-        → Puts wire.old wire.new [] marks.new (sent_by (flat_lab d t) H sender e).made result }
+        → Puts wire.old wire.new [] marks.new (emitted_by (flat_lab d t) H sender e).made result }
     ensures nat { OnOk result ((d : Draws) (t : TopologyState) (H : List Full) (e : JournalEntry) → IsEmission (flat_lab d t) H sender nodes.old.items step.now packet e
-        → KeepsItsNat (flat_lab d t) H (sent_by (flat_lab d t) H sender e).passed sender.node nodes.new.items) }
+        → KeepsItsNat (flat_lab d t) H (emitted_by (flat_lab d t) H sender e).passed sender.node nodes.new.items) }
     ensures err { OnErr result (wire.new ≡ wire.old) }
 {
     let len = wire.len();

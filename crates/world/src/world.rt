@@ -12,7 +12,7 @@ ghost use Rattle.world.specs.declared.wire.TheConstants.{ENTRIES_MAX};
 ghost use Rattle.world.specs.WireEntry.{item_lent};
 ghost use Rattle.world.specs.World.{StandsFor, IsAgain, EndsInTime, Steps, StopsFor, Stays};
 ghost use Rattle.world.specs.Record.{fresh_record};
-ghost use Rattle.world.specs.Playing.{Plays, PlaysTurn, Turned, played, ended, turn_of};
+ghost use Rattle.world.specs.Playing.{Plays, PlaysTurn, Turned, played, ended, turn_from};
 
 use crate::going::Going;
 use crate::record::blank;
@@ -127,8 +127,8 @@ impl<'a> World<'a> {
         requires again { IsAgain self.old.going event.now }
         requires time { EndsInTime self.old.began event.now }
         ensures plays { (d : Draws) (H : List Full) → StandsFor d self.old H
-            → PlaysTurn d self.old self.new H (next_of (flat_lab d self.old.topology) H out.old.event event.now) (turn_of result out.new) }
-        ensures turned { IfOk (turn_of result out.new) (λ turn. Turned self.old self.new event.now turn) }
+            → PlaysTurn d self.old self.new H (next_of (flat_lab d self.old.topology) H out.old.event event.now) (turn_from result out.new) }
+        ensures turned { IfOk (turn_from result out.new) (λ turn. Turned self.old self.new event.now turn) }
         ensures time { self.new.moment ≤ self.old.began + ADVANCE_MAX_MS }
         ensures err { OnErr result ((self.new.topology ≡ self.old.topology) × (self.new.wire ≡ self.old.wire) × (self.new.done ≡ self.old.done)) }
     {
@@ -183,7 +183,7 @@ fn last(done: Result<(), Stop>) -> Result<bool, Stop>
 
 /// The turn of a record.
 fn turn_with(more: bool, said: Record) -> Turn
-    ensures { turn_of (Ok more) said ≡ Ok result }
+    ensures { turn_from (Ok more) said ≡ Ok result }
 {
     if more {
         Turn::More(said)

@@ -1,13 +1,13 @@
 use Rattle.std.proofs.Common.{ℕ, sym, ap, ◌∙◌}
 use Rattle.legal.specs.Lab.{flat_lab}
 use Rattle.world.specs.Wire.{front_of}
-use Rattle.world.specs.Emission.{sent_by}
+use Rattle.world.specs.Emission.{emitted_by}
 use Rattle.world.proofs.Entered.{puts_not, cut_back}
 use Rattle.world.proofs.sender.emit.Goals as goal
 
 pub returns-in-Err-clause-puts : goal.returns-in-Err-clause-puts
 returns-in-Err-clause-puts c = λ d t H e em.
-    puts_not c.args.wire.now c.put_all.new.wire c.cut.new.self c.put_all.new.marks (sent_by (flat_lab d t) H c.args.sender e).made c.in-Err.stop (c.in-Err.ensures.puts d t H e em)
+    puts_not c.args.wire.now c.put_all.new.wire c.cut.new.self c.put_all.new.marks (emitted_by (flat_lab d t) H c.args.sender e).made c.in-Err.stop (c.in-Err.ensures.puts d t H e em)
 
 pub returns-in-Err-clause-err : goal.returns-in-Err-clause-err
 returns-in-Err-clause-err c =

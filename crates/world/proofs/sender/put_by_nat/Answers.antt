@@ -8,7 +8,7 @@ use Rattle.legal.specs.Lab.{flat_lab}
 use Rattle.legal.specs.Emit.{Sendings}
 use Rattle.lab_nodes.specs.declared.node_state.NodeState.TheVariants as state
 use Rattle.world.specs.Wire.{Puts}
-use Rattle.world.specs.Emission.{IsNatWith, KeepsItsNat, sent_by}
+use Rattle.world.specs.Emission.{IsNatWith, KeepsItsNat, emitted_by}
 use Rattle.world.proofs.States.{read_there, set_there, set_elsewhere}
 use Rattle.world.proofs.Sent.{no_nat, nat_is, sent_through}
 use Rattle.world.proofs.sender.put_by_nat.Goals as goal
@@ -60,4 +60,4 @@ returns-in-Nat-clause-nat c =
     let lab = flat_lab d t in
     let is = nat_is lab H items c.args.sender c.args.row c.requires.client em.nat c.in-Nat.nat here in
     let after = subst (λ (y : Sendings). IsNatWith lab H c.args.row.nat y.passed c.put_through.new.nat) (sent_through d t H c.args.sender c.args.row c.args.step.now e c.requires.client em.step) (h lab H c.args.row.nat is) in
-    subst (λ (a : Node). KeepsItsNat lab H (sent_by lab H c.args.sender e).passed a (set items c.from-number.result (state.Nat c.put_through.new.nat))) (sym c.requires.client) (record { nat = c.put_through.new.nat; there = there; is = after })) c.put_through.ensures.stands
+    subst (λ (a : Node). KeepsItsNat lab H (emitted_by lab H c.args.sender e).passed a (set items c.from-number.result (state.Nat c.put_through.new.nat))) (sym c.requires.client) (record { nat = c.put_through.new.nat; there = there; is = after })) c.put_through.ensures.stands

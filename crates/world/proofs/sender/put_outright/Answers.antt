@@ -3,7 +3,7 @@ use Rattle.std.proofs.lemmas.Result.{err_from_is_err_and}
 use Rattle.td_base.specs.declared.endpoint.Ep.{Ep}
 use Rattle.teredo_node.specs.Step.{Send}
 use Rattle.history.specs.Full.{udp, sent}
-use Rattle.world.specs.Wire.{Enters, Puts}
+use Rattle.world.specs.Wire.{ComesOnto, Puts}
 use Rattle.world.proofs.Outright.{none_outright, one_outright, stops_outright}
 use Rattle.world.proofs.sender.put_outright.Goals as goal
 
@@ -14,7 +14,7 @@ pub loop-i-preserved : goal.loop-i-preserved
 loop-i-preserved c =
     let x : Send = record { side = c.send-side.result.0; to = c.send-side.result.1; bytes = c.send-side.result.2.now } in
     one_outright c.args.wire.now c.args.node.now c.args.step.now.sends c.loop-i.i x c.send-side.ensures.place c.loop-i.wire c.send.new.self c.loop-i.marks c.send.new.marks c.loop-i.invariant
-    (subst (λ (from : Ep). Enters c.loop-i.wire c.send.new.self c.loop-i.marks c.send.new.marks (sent (udp from x.to x.bytes) ∷ [])) c.own_ep.ensures (c.in_ok-send.ensures.puts x.side))
+    (subst (λ (from : Ep). ComesOnto c.loop-i.wire c.send.new.self c.loop-i.marks c.send.new.marks (sent (udp from x.to x.bytes) ∷ [])) c.own_ep.ensures (c.in_ok-send.ensures.puts x.side))
 
 pub returns-in_err-send-clause-puts : goal.returns-in_err-send-clause-puts
 returns-in_err-send-clause-puts c =

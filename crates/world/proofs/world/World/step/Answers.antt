@@ -7,7 +7,7 @@ use Rattle.history.specs.declared.turn.Turn.{Turn}
 use Rattle.lab_nodes.specs.NodeState.{AreReady}
 use Rattle.world.specs.declared.wire.TheConstants.{ENTRIES_MAX}
 use Rattle.world.specs.World.{WorldState, Steps}
-use Rattle.world.specs.Playing.{turn_of}
+use Rattle.world.specs.Playing.{turn_from}
 use Rattle.world.proofs.Stepped.{Laws, IsAsked, IsKeptTo, PlaysAll, steps}
 use Rattle.world.proofs.world.World.step.Goals as goal
 
@@ -30,6 +30,6 @@ returns-in-Ok-clause-ok c =
           subst (λ (x : WorldState). length x.wire ≤ ENTRIES_MAX) c.self-2.view_is (omega (arith, count, most));
     } in
     let index : c.blank-record.result.event ≡ c.args.index = ap (λ (r : Record). r.event) c.blank-record.ensures in
-    let plays = subst (λ (i : ℕ). PlaysAll c.args.self.now c.play.new.self i c.args.event.now (turn_of (Ok c.in-Ok.more) c.play.new.out)) index c.in-Ok.ensures.plays in
+    let plays = subst (λ (i : ℕ). PlaysAll c.args.self.now c.play.new.self i c.args.event.now (turn_from (Ok c.in-Ok.more) c.play.new.out)) index c.in-Ok.ensures.plays in
     subst (λ (played : Result Turn Stop). IfOk played (λ turn. Steps c.args.self.now c.play.new.self c.args.index c.args.event.now turn)) c.turn_with.ensures
-    (steps laws c.args.self.now c.play.new.self c.args.index c.args.event.now (turn_of (Ok c.in-Ok.more) c.play.new.out) asked c.in-Ok.ensures.turned kept plays)
+    (steps laws c.args.self.now c.play.new.self c.args.index c.args.event.now (turn_from (Ok c.in-Ok.more) c.play.new.out) asked c.in-Ok.ensures.turned kept plays)
