@@ -1,0 +1,85 @@
+#!/usr/bin/env python3
+"""A manual page, made from a page of docs/: headings, paragraphs, lists, tables and what is quoted, as `man` shows them.
+
+  man [PAGE] >teredo-serve.1          docs/SERVE.md where no PAGE is named
+  man | man -l -                      to look at it
+"""
+import os
+import re
+import sys
+
+sys.dont_write_bytecode = True
+
+import command
+
+PAGE = os.path.join(command.TOP, 'docs', 'SERVE.md')
+LINK = re.compile(r'\[([^]]*)\]\(([^)]*)\)')
+
+
+def plain(text):
+    """A line of Markdown as one of roff: bold and code in bold, a link as its text."""
+    text = LINK.sub(r'\1', text).replace('\\', '\\e')
+    text = re.sub(r'\*\*(.+?)\*\*', r'\\fB\1\\fR', text)
+    text = re.sub(r'(?<![\w*])\*([^*]+)\*(?![\w*])', r'\\fI\1\\fR', text)
+    text = re.sub(r'`([^`]*)`', r'\\fB\1\\fR', text)
+    return ('\\&' + text if text[:1] in ".'" else text).replace('-', '\\-')
+
+
+def quoted(line):
+    line = line.replace('\\', '\\e').replace('-', '\\-')
+    return '\\&' + line if line[:1] in ".'" else line
+
+
+def row_of(line):
+    cells = [cell.strip().replace('\\|', '|') for cell in re.split(r'(?<!\\)\|', line)[1:-1]]
+    if all(re.fullmatch(r':?-+:?', cell) for cell in cells):
+        return []
+    return ['.TP', plain(cells[0]) or '\\&', plain('; '.join(cell for cell in cells[1:] if cell)) or '\\&']
+
+
+def block_of(block):
+    """The lines of a block of the page."""
+    if block[0].startswith('```'):
+        return ['.PP', '.nf', '.RS 4'] + [quoted(line) for line in block[1:-1]] + ['.RE', '.fi']
+    if block[0].startswith('## '):
+        return [f'.SH "{plain(block[0][3:]).upper()}"']
+    if block[0].startswith('### '):
+        return [f'.SS "{plain(block[0][4:])}"']
+    if block[0].startswith('|'):
+        return [line for row in block[1:] for line in row_of(row)]
+    if block[0].startswith('- '):
+        return [line for item in block for line in ('.IP \\(bu 2', plain(item.removeprefix('- ')))]
+    return ['.PP'] + [plain(line) for line in block]
+
+
+def blocks(text):
+    """The blocks of a page, what is quoted as one."""
+    block, is_quoted = [], False
+    for line in text.splitlines() + ['']:
+        if line.startswith('```'):
+            is_quoted = not is_quoted
+        if line or is_quoted:
+            block.append(line)
+        elif block:
+            yield block
+            block = []
+
+
+def manual(text, name):
+    """The lines of a page; its title says what it is, and its first paragraph what for."""
+    (title,), first, *rest = blocks(text)
+    title = plain(title.lstrip('# '))
+    lines = [f'.TH "TEREDO\\-{name.upper()}" 1', '.SH NAME', f'teredo\\-{name} \\- {title[:1].lower()}{title[1:]}', '.SH DESCRIPTION']
+    return lines + [plain(line) for line in first] + [line for block in rest for line in block_of(block)]
+
+
+def main():
+    parser = command.words(__doc__)
+    parser.add_argument('page', metavar='PAGE', nargs='?', default=PAGE, help='a page in Markdown')
+    options = parser.parse_args()
+    print('\n'.join(manual(command.read(options.page), os.path.basename(options.page).partition('.')[0].lower())))
+    return 0
+
+
+if __name__ == '__main__':
+    command.run(main)
