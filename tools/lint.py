@@ -134,7 +134,9 @@ def finding(text, said):
     if said == 'scenario: not toml':
         return of_toml(text)
     top = toml_places.read(text)
-    event, table, of_top = AT_EVENT.match(said), AT_TABLE.match(said), AT_TOP.match(said)
+    event, table, of_top = AT_EVENT.fullmatch(said), AT_TABLE.fullmatch(said), AT_TOP.fullmatch(said)
+    if of_top and of_top[2] == 'key' and of_top[1] in map(shown, set(top.keys) - set(wanted.properties())):
+        return of_top_key(top, of_top[1], of_top[2])  # whatever such a key looks like
     if event:
         return of_event(top, int(event[1]), int(event[2]))
     if table:
