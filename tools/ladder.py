@@ -49,7 +49,7 @@ class Ladder:
     def row_of(self, record):
         entry = self.report.entries.get(record.delivered)
         is_drop = record.fate in causes.FATES and causes.FATES[record.fate].is_drop
-        fate = record.fate + ''.join(f' {word}' for word in notes(record))
+        fate = ' '.join([record.act if record.fate == 'done' else record.fate] + notes(record))
         if entry is None:
             return Row(record.moment, self.name(record), None, '', line_of(record), fate, is_dropped=is_drop)
         target = record.node if record.node != '-' else None
