@@ -43,16 +43,10 @@ def of_undelivered(travels, entry):
 # NATs
 
 
-def cut_of(report, nat, client, until):
+def cut_of(report, nat, until):
     """The latest restart of a NAT before a record, or `forget` that may be of this client."""
     cuts = [record for record in report.of_node(nat, until) if record.act in ('restart', 'forget')]
     return cuts[-1] if cuts else None
-
-
-def holder(report, endpoint, until):
-    """The entries that left by an endpoint outside before a record, in order."""
-    return [entry for record in report.records[:until.index] for entry in record.entries
-            if entry.source == endpoint and record.fate != 'put']
 
 
 def is_cone(report, client, until):
@@ -63,11 +57,11 @@ def is_cone(report, client, until):
 def of_closed_nat(travels, record):
     report = travels.report
     entry, nat = report.entries[record.delivered], record.node
-    sent = holder(report, entry.target, record)
+    sent = report.sent_from(entry.target, record)
     if not sent:
         return f'nobody behind {nat} ever sent from {entry.target}'
     latest = sent[-1].maker
-    cut = cut_of(report, nat, latest.node, record)
+    cut = cut_of(report, nat, record)
     if cut and cut.index > latest.index:
         verb = 'restarted' if cut.act == 'restart' else 'was told to forget a client'
         return f'{nat} {verb} {when(cut)}, and nothing was sent from {entry.target} since'

@@ -2,6 +2,7 @@
 
 docs/SCENARIOS.md, "The report", has the lines. A word that isn't known is passed over, as that page asks a script to.
 """
+import bisect
 import ipaddress
 import re
 from dataclasses import dataclass, field
@@ -98,6 +99,7 @@ class Report:
     def __init__(self, text):
         self.records, self.entries, self.deliveries, self.totals = [], {}, {}, None
         self.contents = {}  # of entries whose content is known from elsewhere
+        self.by_node, self.by_source, self.addresses, self.asked = {}, {}, {}, {}  # for those who look back
         for number, line in enumerate(text.splitlines(), 1):
             if self.totals is not None:
                 raise Refusal(f'line {number}: there is no line behind the totals of a report')
@@ -110,8 +112,15 @@ class Report:
 
     def add(self, record):
         self.records.append(record)
+        self.by_node.setdefault(record.node, []).append(record)
+        if record.act == 'restart' or record.address:
+            self.addresses.setdefault(record.node, []).append(record)
+        if record.fate in SOLICITATIONS:
+            self.asked[record.node] = record
         for entry in record.entries:
             self.entries[entry.number] = entry
+            if entry.source and record.fate != 'put':
+                self.by_source.setdefault(entry.source, []).append(entry)
         if record.delivered is not None:
             self.deliveries.setdefault(record.delivered, []).append(record)
 
@@ -120,14 +129,16 @@ class Report:
 
     def of_node(self, node, until=None):
         """The records in which a node acted or decided, up to a record and without it."""
-        return [record for record in self.records[:until.index if until else None] if record.node == node]
+        return before(self.by_node.get(node, []), until, lambda record: record.index)
+
+    def sent_from(self, endpoint, until):
+        """The entries that left by an endpoint before a record."""
+        return before(self.by_source.get(endpoint, []), until, lambda entry: entry.maker.index)
 
     def address_at(self, node, until):
         """The Teredo address that a client has before a record, or None."""
-        address = None
-        for record in self.of_node(node, until):
-            address = None if record.act == 'restart' else record.address or address
-        return address
+        told = before(self.addresses.get(node, []), until, lambda record: record.index)
+        return told[-1].address if told else None
 
     def content(self, mark):
         """What a mark is, in a word or two, as far as the report tells."""
@@ -157,9 +168,8 @@ class Report:
         return mark.maker.fate in FORWARDS
 
     def clients(self):
-        """The clients that acted, in the order in which they did."""
-        asked = (record.node for record in self.records if record.fate in SOLICITATIONS)
-        return list(dict.fromkeys(asked))
+        """The clients that acted, in the order in which they did first."""
+        return list(self.asked)
 
     def nodes_at(self):
         """The node at each endpoint that is known: makers of entries, and who was delivered one."""
@@ -173,6 +183,11 @@ class Report:
                 if record.node != '-' and record.fate != 'nat_closed':
                     found.setdefault(entry.target, record.node)
         return found
+
+
+def before(items, until, index_of):
+    """The items of a list in order that lie before a record; all where there is none."""
+    return items if until is None else items[:bisect.bisect_left(items, until.index, key=index_of)]
 
 
 def record_of(line, number=1):
