@@ -10,6 +10,11 @@ HEARD = ('rule1', 'rule1_bubble', 'rule2', 'rule3', 'rule3_bubble')
 FATES = fates.table()
 
 
+def is_drop(fate):
+    """Whether docs/SCENARIOS.md has a fate as a drop; of one that it doesn't have nobody knows."""
+    return fate in FATES and FATES[fate].is_drop
+
+
 def when(record):
     return f'at {record.moment:,} ms'
 
@@ -21,9 +26,7 @@ def of_drop(travels, record):
     way = ways.get(record.fate)
     if way:
         return way(travels, record)
-    fate = FATES.get(record.fate)
-    if fate is None:
-        return f'the fate {record.fate} stands in no table of docs/SCENARIOS.md'
+    fate = FATES[record.fate]
     return fate.means + (f' (likely: {fate.cause})' if fate.cause else '')
 
 
@@ -164,7 +167,7 @@ def last_of(travels, mark, until=None):
     record, content = came_of(travels, mark, until), travels.report.content(mark)
     if record is None:
         return of_undelivered(travels, mark)
-    if record.fate in FATES and FATES[record.fate].is_drop:
+    if is_drop(record.fate):
         return f'#{mark.number}, the {content}, ended at {place(record)}, {record.fate}: {of_drop(travels, record)}'
     return f'#{mark.number}, the {content}, came to {record.node}: {record.fate}'
 

@@ -48,7 +48,7 @@ class Ladder:
 
     def row_of(self, record):
         entry = self.report.entries.get(record.delivered)
-        is_drop = record.fate in causes.FATES and causes.FATES[record.fate].is_drop
+        is_drop = causes.is_drop(record.fate)
         fate = ' '.join([record.act if record.fate == 'done' else record.fate] + notes(record))
         if entry is None:
             return Row(record.moment, self.name(record), None, '', line_of(record), fate, is_dropped=is_drop)

@@ -13,6 +13,7 @@
   save FILE      writes the scenario as it is now
   help           this; an empty line does nothing; `quit` or the end of the input ends
 """
+import contextlib
 import sys
 
 sys.dont_write_bytecode = True
@@ -173,13 +174,17 @@ def answer(session, line):
     return lines
 
 
-def lines_of(file, is_prompted):
-    """The typed lines, each behind a prompt where somebody types."""
+def lines_of(file):
+    """The typed lines; where somebody types them, each behind a prompt, with the keys of a shell where Python has them."""
+    if file.isatty():
+        with contextlib.suppress(ImportError):
+            import readline  # noqa: F401, it changes what input() does
     while True:
-        if is_prompted:
-            print('> ', end='', flush=True)
-        line = file.readline()
-        if not line or line.strip() == 'quit':
+        try:
+            line = input('> ') if file.isatty() else next(file)
+        except (EOFError, StopIteration):
+            return
+        if line.strip() == 'quit':
             return
         if line.strip():
             yield line.strip()
@@ -191,7 +196,7 @@ def main():
     options = parser.parse_args()
     session = Session(options.program, options.file)
     print(session.written, end='', flush=True)
-    for line in lines_of(sys.stdin, sys.stdin.isatty()):
+    for line in lines_of(sys.stdin):
         try:
             print('\n'.join(answer(session, line)), flush=True)
         except command.Refusal as fault:

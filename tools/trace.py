@@ -59,8 +59,8 @@ class Tree:
         self.travels, self.report, self.lines = travels, travels.report, []
 
     def said(self, record):
-        is_drop = record.fate in causes.FATES and causes.FATES[record.fate].is_drop
-        return outcome(record) + (': ' + causes.of_drop(self.travels, record) if is_drop and not record.gone else '')
+        has_cause = causes.is_drop(record.fate) and not record.gone
+        return outcome(record) + (': ' + causes.of_drop(self.travels, record) if has_cause else '')
 
     def add(self, record, depth):
         for mark in record.marks:

@@ -12,8 +12,8 @@ HANDED_IN = ('host', 'echo', 'raw')
 RELEASES = ('rule1', 'rule1_bubble', 'rule2', 'rule3', 'rule3_bubble', 'from_client', 'from_client_bubble', 'unserved')
 SENT = ('sent', 'sent_cone', 'sent_six', 'put')
 TAKEN = ('kept', 'echoed', 'rule1_bubble', 'rule2', 'rule3_bubble', 'indirect', 'from_client_bubble')
-ARRIVED, WAITS, LOST = 'arrived', 'waits', 'lost'
-RANKS = (ARRIVED, WAITS, LOST)
+ARRIVED, CAME, WAITS, LOST = 'arrived', 'came', 'waits', 'lost'
+RANKS = (ARRIVED, CAME, WAITS, LOST)
 
 
 @dataclass
@@ -29,6 +29,8 @@ class End:
         node = self.record.node
         if self.state == ARRIVED:
             return f'arrived at {node}, {self.record.fate}' + (f'; its answer {self.answer}' if self.answer else '')
+        if self.state == CAME:
+            return f'came to {node}: {self.record.fate}'
         if self.state == WAITS:
             return f'waits at {node}: {self.reason}'
         if self.is_undelivered:
@@ -131,6 +133,12 @@ class Travels:
             return self.end_of_wait(self.waits[record.index])
         if record.fate in SENT and record.marks:
             return self.end_of_mark(record.marks[0])
+        return self.end_of_drop(record)
+
+    def end_of_drop(self, record):
+        """A record that lets nothing go on: a drop, or a fate of which no more is known."""
+        if not causes.is_drop(record.fate):
+            return End(CAME, record)
         return End(LOST, record, causes.of_drop(self, record))
 
     def end_of_wait(self, wait):
@@ -157,7 +165,7 @@ class Travels:
         passed_on = [mark for mark in record.marks if self.report.is_passed_on(mark)]
         if passed_on:
             return self.end_of_mark(passed_on[0])
-        return End(LOST, record, causes.of_drop(self, record))
+        return self.end_of_drop(record)
 
 
 def targets_of(events):
