@@ -12,8 +12,8 @@ use Rattle.hex.specs.Hex.{decode_of}
 use Rattle.hex.specs.declared.error.FromHexError.{FromHexError}
 use Rattle.hex.proofs.HexLemmas.{decode_of-ok}
 use Rattle.td_base.specs.Bytes.{IsBytes}
-use Rattle.history.proofs.Addresses.{ep_of-sound}
-use Rattle.history.proofs.Ip6WordLemmas.{ip6_of-sound}
+use Rattle.td_base.proofs.AddressValues.{ep_of-sound}
+use Rattle.td_base.proofs.Ip6ValueLemmas.{ip6_of-sound}
 use Rattle.td_base.specs.Results.{◌>>=◌}
 use Rattle.history.specs.declared.event.Event.{Event}
 use Rattle.history.specs.declared.event.Event.TheVariants as event
@@ -22,7 +22,7 @@ use Rattle.td_base.specs.declared.datagram.TheConstants.{DATAGRAM_MAX}
 use Rattle.history.specs.declared.acts.Verb.{Verb}
 use Rattle.history.specs.declared.acts.Verb.TheVariants as verb
 use Rattle.td_base.specs.declared.ipv6.Ip6.{Ip6}
-use Rattle.history.specs.Ip6Words.{ip6_of}
+use Rattle.td_base.specs.Ip6Values.{ip6_of}
 use Rattle.history.specs.declared.target.Target.{Target}
 use Rattle.history.specs.declared.target.Target.TheVariants as target
 use Rattle.topology.specs.Rows.{TopologyState}
@@ -30,12 +30,13 @@ use Rattle.topology.specs.declared.node.Node.{Node}
 use Rattle.topology.specs.Topology.{nodes, node_at}
 use Rattle.topology.specs.Named.{has_host, is_nat, is_client_of}
 use Rattle.history.specs.Events.{IsTarget, IsEvent}
-use Rattle.history.specs.Words.{same_text, number_of, ep_of, few_bytes, hex_of, bytes_of}
+use Rattle.td_base.specs.Values.{same_text, number_of, ep_of}
+use Rattle.history.specs.Words.{few_bytes, hex_of, bytes_of}
 use Rattle.history.specs.Verbs.{verb_of}
 use Rattle.topology.specs.Named.{any_kind, is_named, named}
 use Rattle.history.specs.NodeWords.{target_of}
 use Rattle.history.specs.EventText.{Words, no_word, a_word, words, said, word, no_more, event_behind, event_of}
-use Rattle.history.proofs.Numbers.{bind_some, some_same, kept_some, number_of-sound}
+use Rattle.td_base.proofs.NumberValues.{bind_some, some_same, kept_some, number_of-sound}
 
 -- ---- steps
 

@@ -7,7 +7,8 @@ use Rattle.hex.specs.Hex.{decode_of, decode_sized}
 use Rattle.hex.specs.declared.error.FromHexError.{FromHexError}
 use Rattle.hex.proofs.HexLemmas.{decode_of-ok}
 use Rattle.hex.proofs.OnLiterals.{hex_on_literals}
-use Rattle.history.specs.Words.{◌>>=◌, few_bytes, hex_of}
+use Rattle.td_base.specs.Options.{◌>>=◌}
+use Rattle.history.specs.Words.{few_bytes, hex_of}
 
 decode_half : (s : List ℕ) → decode_sized s (length s / 2) ≡ decode_of s
 decode_half s = rw (eq-eqb (length s / 2) (length s / 2) refl) refl

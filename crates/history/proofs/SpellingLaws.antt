@@ -29,15 +29,16 @@ use Rattle.topology.specs.Topology.{nodes, node_at, name_of}
 use Rattle.topology.specs.Rules.{AreDistinct, names_of, IsTopology}
 use Rattle.topology.specs.Named.{has_host, is_nat, is_client_of}
 use Rattle.history.specs.Events.{IsTarget, IsEvent}
-use Rattle.history.specs.Words.{same_text, space}
+use Rattle.td_base.specs.Values.{same_text}
+use Rattle.history.specs.Words.{space}
 use Rattle.history.specs.Verbs.{verb_word, verb_of}
 use Rattle.topology.specs.Named.{any_kind, is_named, named}
 use Rattle.history.specs.NodeWords.{target_of}
 use Rattle.history.specs.EventText.{Words, no_word, a_word, placed, word, event_behind, event_of}
 use Rattle.history.specs.EventSpelling.{hex_word, word_of_name, name_word, target_word, event_words, event_text, is_plain, HasPlainNames, IsMadeTarget}
-use Rattle.history.proofs.Numbers.{number_back, same_text-true, same_text-self}
-use Rattle.history.proofs.Addresses.{ep_of-text}
-use Rattle.history.proofs.Ip6WordLemmas.{ip6_of-spelled}
+use Rattle.td_base.proofs.NumberValues.{number_back, same_text-true, same_text-self}
+use Rattle.td_base.proofs.AddressValues.{ep_of-text}
+use Rattle.td_base.proofs.Ip6ValueLemmas.{ip6_of-spelled}
 use Rattle.std.proofs.lemmas.Iterator.Adapters.{position_from-zero}
 use Rattle.history.proofs.SpellingWords.{is_word, split_join, is_word-verb, verb_back, is_word-decimal, is_word-ep, is_word-plain, is_word-bytes, is_word-ip6, bytes_back, colon_ip6}
 

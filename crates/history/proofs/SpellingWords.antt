@@ -22,10 +22,11 @@ use Rattle.td_base.proofs.Decimals.{digits}
 use Rattle.td_base.proofs.Ip6Lemmas.{printed_is_spelled}
 use Rattle.history.specs.declared.acts.Verb.{Verb}
 use Rattle.history.specs.declared.acts.Verb.TheVariants as verb
-use Rattle.history.specs.Words.{same_text, space, bytes_of}
+use Rattle.td_base.specs.Values.{same_text}
+use Rattle.history.specs.Words.{space, bytes_of}
 use Rattle.history.specs.Verbs.{verb_word, verb_of}
 use Rattle.history.specs.EventSpelling.{hex_word, is_plain}
-use Rattle.history.proofs.Numbers.{same_text-true}
+use Rattle.td_base.proofs.NumberValues.{same_text-true}
 
 -- no byte of the text is a space
 abbrev pub is_word : List ℕ → Bool

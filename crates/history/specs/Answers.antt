@@ -2,7 +2,8 @@
 use Rattle.std.specs.Prelude.{◌≡◌, ℕ, nat_le, if◌then◌else◌, List, length, drop, Result, Ok, Err}
 use Rattle.history.specs.declared.event_fault.EventFault.{EventFault}
 use Rattle.history.specs.declared.event_fault.EventFault.TheVariants as fault
-use Rattle.history.specs.Words.{parts_at, space}
+use Rattle.td_base.specs.Values.{parts_at}
+use Rattle.history.specs.Words.{space}
 use Rattle.history.specs.EventText.{Words, no_word, placed}
 
 -- The answer, seen by view, is what the definition gives, or memory ran out.

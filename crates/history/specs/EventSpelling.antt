@@ -15,7 +15,8 @@ use Rattle.history.specs.declared.target.Target.TheVariants as target
 use Rattle.topology.specs.Rows.{TopologyState}
 use Rattle.topology.specs.Topology.{node_at, name_of}
 use Rattle.topology.specs.Rules.{names_of}
-use Rattle.history.specs.Words.{space, colon}
+use Rattle.td_base.specs.Values.{colon}
+use Rattle.history.specs.Words.{space}
 use Rattle.history.specs.Verbs.{verb_word}
 
 -- two digits in lower case for each byte, or `-` for none

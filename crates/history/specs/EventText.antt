@@ -9,7 +9,8 @@ use Rattle.history.specs.declared.acts.Verb.{Verb}
 use Rattle.history.specs.declared.acts.Verb.TheVariants as verb
 use Rattle.topology.specs.Rows.{TopologyState}
 use Rattle.topology.specs.Named.{has_host, is_nat, is_client_of}
-use Rattle.history.specs.Words.{parts_at, space, number_of, ep_of, bytes_of}
+use Rattle.td_base.specs.Values.{parts_at, number_of, ep_of}
+use Rattle.history.specs.Words.{space, bytes_of}
 use Rattle.history.specs.Verbs.{verb_of}
 use Rattle.topology.specs.Named.{any_kind, named}
 use Rattle.history.specs.NodeWords.{target_of}

@@ -1,7 +1,6 @@
 pub mod Scenario
 pub mod Events
 pub mod Words
-pub mod Ip6Words
 pub mod NodeWords
 pub mod Verbs
 pub mod EventText
@@ -10,4 +9,3 @@ pub mod Answers
 pub mod Full
 pub mod Records
 pub mod Telling
-pub mod Laws

@@ -5,7 +5,7 @@ use Rattle.history.specs.declared.target.Target.{Target}
 use Rattle.history.specs.declared.target.Target.TheVariants as target
 use Rattle.topology.specs.Rows.{TopologyState}
 use Rattle.topology.specs.Named.{has_host, named}
-use Rattle.history.specs.Ip6Words.{ip6_of}
+use Rattle.td_base.specs.Ip6Values.{ip6_of}
 
 -- whom a word names: a client or native host, or else an IPv6 address
 abbrev pub target_of : TopologyState → List ℕ → Option Target

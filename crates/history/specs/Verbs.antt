@@ -2,7 +2,7 @@
 use Rattle.std.specs.Prelude.{ℕ, List, [], ◌∷◌, codes, find, Option}
 use Rattle.history.specs.declared.acts.Verb.{Verb}
 use Rattle.history.specs.declared.acts.Verb.TheVariants as verb
-use Rattle.history.specs.Words.{same_text}
+use Rattle.td_base.specs.Values.{same_text}
 
 abbrev pub verb_word : Verb → List ℕ
 verb_word verb.Advance = codes "advance"

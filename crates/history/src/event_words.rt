@@ -1,7 +1,8 @@
 //! The words of an event's text, one after the other.
 ghost use Rattle.std.specs.Prelude.{◌≡◌, ◌==◌, ◌≤◌, length, position, find, IfOk, IfErr};
 ghost use Rattle.std.specs.List.{position_or_len};
-ghost use Rattle.history.specs.Words.{space, same_text, number_of, ep_of, bytes_of};
+ghost use Rattle.td_base.specs.Values.{same_text, number_of, ep_of};
+ghost use Rattle.history.specs.Words.{space, bytes_of};
 ghost use Rattle.history.specs.EventText.{no_word, a_word, word, no_more};
 ghost use Rattle.history.specs.Verbs.{verb_word, verb_of};
 ghost use Rattle.topology.specs.Named.{any_kind, named};
@@ -15,9 +16,9 @@ use crate::event::Event;
 use crate::event_fault::EventFault;
 use crate::node_words::target_word;
 use crate::target::Target;
-use crate::word_texts::{bytes_word, ep_word, number_word};
+use crate::word_texts::bytes_word;
 use std::alloc::Global;
-use td_base::{DATAGRAM_MAX, Ep};
+use td_base::{DATAGRAM_MAX, Ep, read_ep, read_number};
 use td_outside::Octets;
 use topology::{Topology, client_named, host_named, nat_named, node_named};
 
@@ -79,7 +80,8 @@ pub(crate) fn number(words: WordsLeft, most: u64) -> Result<(u64, WordsLeft), Ev
     ensures small { IfOk result (λ x. x.0 ≤ most) }
 {
     let (word, behind) = next_word(words)?;
-    let number = number_word(word, most).ok_or(EventFault::At { place: words.at })?;
+    let read = read_number(word, most).ok();
+    let number = read.ok_or(EventFault::At { place: words.at })?;
     Ok((number, behind))
 }
 
@@ -88,7 +90,8 @@ pub(crate) fn endpoint(words: WordsLeft) -> Result<(Ep, WordsLeft), EventFault>
     ensures { Answers (λ x. (x.0, words_from x.1.text.now x.1.at)) result (word ep_of (words_from words.entry.text.now words.entry.at)) }
 {
     let (word, behind) = next_word(words)?;
-    let ep = ep_word(word).ok_or(EventFault::At { place: words.at })?;
+    let read = read_ep(word).ok();
+    let ep = read.ok_or(EventFault::At { place: words.at })?;
     Ok((ep, behind))
 }
 

@@ -19,9 +19,8 @@
 //! | `acts` | `Verb`, `Act` | `specs/Verbs.antt` |
 //! | `event_reader`, `event_fault` | the event of a text, or its fault | `specs/EventText.antt` |
 //! | `event_words` | the words of a text, one after the other | `specs/EventText.antt`, `Answers.antt` |
-//! | `word_texts`, `node_words` | what one word says: numbers, addresses, bytes; nodes | `specs/Words.antt`, `Ip6Words.antt`, `NodeWords.antt` |
+//! | `word_texts`, `node_words` | what one word says beside numbers and addresses: bytes; nodes | `specs/Words.antt`, `NodeWords.antt` |
 //! | `event_printer` | the text of an event | `specs/EventSpelling.antt` |
-//! | `laws` | what holds of every word | `specs/Laws.antt` |
 //! | `mark`, `mark_list` | `Mark`, `Loss`, `Marks` | |
 //! | `turn` | `Turn`, `Stop` | |
 //! | `records` | `Record`, the full record behind it, and what it tells the totals | `specs/Full.antt`, `Records.antt`, `Telling.antt` |
@@ -34,7 +33,6 @@ mod event_list;
 mod event_printer;
 mod event_reader;
 mod event_words;
-mod laws;
 mod mark;
 mod mark_list;
 mod node_words;
@@ -53,7 +51,6 @@ pub use event_fault::EventFault;
 pub use event_list::Events;
 pub use event_printer::print_event;
 pub use event_reader::read_event;
-pub use laws::words_are_made;
 pub use mark::{Loss, Mark};
 pub use mark_list::{MARKS_MAX, Marks};
 pub use records::Record;
@@ -63,4 +60,3 @@ pub use topology::{
     REFRESH_MAX_MS, REFRESH_MIN_MS, RELAYS_MAX, RelayNode, SERVERS_MAX, ServerNode, Topology,
 };
 pub use turn::{Stop, Turn};
-pub use word_texts::{ep_word, ip4_word, ip6_word};

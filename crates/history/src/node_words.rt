@@ -3,7 +3,7 @@ ghost use Rattle.std.specs.Prelude.{◌≡◌};
 ghost use Rattle.history.specs.NodeWords.{target_of};
 
 use crate::target::Target;
-use crate::word_texts::ip6_word;
+use td_base::read_ip6;
 use topology::{Topology, host_named};
 
 /// Whom a word names.
@@ -13,6 +13,6 @@ pub(crate) fn target_word(t: &Topology, word: &[u8]) -> Option<Target>
     if let Some(number) = host_named(t, word) {
         return Some(Target::Node(number));
     }
-    let ip = ip6_word(word)?;
+    let ip = read_ip6(word).ok()?;
     Some(Target::At(ip))
 }

@@ -32,9 +32,9 @@ use Rattle.topology.specs.declared.node.Node.TheVariants.{Server as server, Nat 
 use Rattle.topology.specs.Topology.{nodes, as_server, as_nat, as_relay}
 use Rattle.topology.specs.Rules.{names_of, addresses_of, sixes_of, IsClient}
 use Rattle.topology.specs.Named.{is_server, is_nat, is_relay, named, is_named}
-use Rattle.history.specs.Words.{ip4_of, ep_of}
-use Rattle.history.specs.Ip6Words.{ip6_of}
-use Rattle.history.specs.Laws.{WordsAreMade}
+use Rattle.td_base.specs.Values.{ip4_of, ep_of}
+use Rattle.td_base.specs.Ip6Values.{ip6_of}
+use Rattle.td_base.specs.Laws.{TextsAreMade}
 use Rattle.scenario.specs.declared.place.Place.{Place}
 use Rattle.scenario.specs.Keys.{typed, ruled, word_at, name_at, whole_number_at}
 use Rattle.scenario.specs.Fresh.{where_holds, spelled_name, is_free_name, new_name, is_free_address, is_new_address, new_address, other_address, new_endpoint, is_free_six, is_new_six, new_six, is_free_inside, new_inside, kind_of, natural, idle_of, is_refresh, refresh_of}
@@ -68,14 +68,14 @@ free_ip t ip e made =
     let both = and_parts (is_global Strict ip) (is_free_address t ip) e in
     record { free = not_true (list_any (same_ip ip) (addresses_of t)) both.1; global = both.0; made = made }
 
-free_address : (law : WordsAreMade) (t : TopologyState) (text : List ℕ) (ip : Ip4) → new_address t text ≡ Some ip → IsFreeIp t ip
+free_address : (law : TextsAreMade) (t : TopologyState) (text : List ℕ) (ip : Ip4) → new_address t text ≡ Some ip → IsFreeIp t ip
 unfolding new_address
 free_address law t text ip e =
     let made = bind_some (ip4_of text) (λ x. where_holds (is_new_address t x) x) ip e in
     let kept = held (is_new_address t made.0) made.0 ip made.2 in
     subst (IsFreeIp t) kept.1 (free_ip t made.0 kept.0 (law.ip4 text made.0 made.1))
 
-free_other : (law : WordsAreMade) (t : TopologyState) (first : Ip4) (text : List ℕ) (ip : Ip4) → other_address t first text ≡ Some ip → IsFreeIp t ip × (same_ip first ip ≡ false)
+free_other : (law : TextsAreMade) (t : TopologyState) (first : Ip4) (text : List ℕ) (ip : Ip4) → other_address t first text ≡ Some ip → IsFreeIp t ip × (same_ip first ip ≡ false)
 unfolding other_address
 free_other law t first text ip e =
     let made = bind_some (new_address t text) (λ x. where_holds (not (same_ip first x)) x) ip e in
@@ -83,7 +83,7 @@ free_other law t first text ip e =
     let P : Ip4 → Type 0 = λ x. IsFreeIp t x × (same_ip first x ≡ false) in
     subst P kept.1 (free_address law t text made.0 made.1, not_true (same_ip first made.0) kept.0)
 
-free_endpoint : (law : WordsAreMade) (t : TopologyState) (text : List ℕ) (at : Ep) → new_endpoint t text ≡ Some at → IsFreeIp t at.ip × (at.port ≢ 0) × IsEp at
+free_endpoint : (law : TextsAreMade) (t : TopologyState) (text : List ℕ) (at : Ep) → new_endpoint t text ≡ Some at → IsFreeIp t at.ip × (at.port ≢ 0) × IsEp at
 unfolding new_endpoint
 free_endpoint law t text at e =
     let made = bind_some (ep_of text) (λ x. where_holds (not (x.port == 0) && is_new_address t x.ip) x) at e in
@@ -93,7 +93,7 @@ free_endpoint law t text at e =
     let P : Ep → Type 0 = λ x. IsFreeIp t x.ip × (x.port ≢ 0) × IsEp x in
     subst P kept.1 (free_ip t made.0.ip both.1 is.0, no_zero made.0.port both.0, is)
 
-free_six : (law : WordsAreMade) (t : TopologyState) (text : List ℕ) (ip : Ip6) → new_six t text ≡ Some ip → IsFreeSix t ip
+free_six : (law : TextsAreMade) (t : TopologyState) (text : List ℕ) (ip : Ip6) → new_six t text ≡ Some ip → IsFreeSix t ip
 unfolding new_six is_free_six
 free_six law t text ip e =
     let made = bind_some (ip6_of text) (λ x. where_holds (is_new_six t x) x) ip e in
@@ -102,7 +102,7 @@ free_six law t text ip e =
     let outside = and_parts (is_global6 made.0) (not (is_teredo made.0)) both.0 in
     subst (IsFreeSix t) kept.1 (record { free = not_true (list_any (same_ip6 made.0) (sixes_of t)) both.1; outside = record { global = outside.0; other = not_true (is_teredo made.0) outside.1 }; made = law.ip6 text made.0 made.1 })
 
-free_inside : (law : WordsAreMade) (t : TopologyState) (n : ℕ) (text : List ℕ) (inside : Ep) → new_inside t n text ≡ Some inside → (inside.port ≢ 0) × (list_any (λ (c : ClientNode). (n == c.nat) && same_ep inside c.inside) t.clients ≡ false) × IsEp inside
+free_inside : (law : TextsAreMade) (t : TopologyState) (n : ℕ) (text : List ℕ) (inside : Ep) → new_inside t n text ≡ Some inside → (inside.port ≢ 0) × (list_any (λ (c : ClientNode). (n == c.nat) && same_ep inside c.inside) t.clients ≡ false) × IsEp inside
 unfolding new_inside is_free_inside
 free_inside law t n text inside e =
     let made = bind_some (ep_of text) (λ x. where_holds (not (x.port == 0) && is_free_inside t n x) x) inside e in
@@ -191,7 +191,7 @@ relay_named-is t text n e = numbered is_relay as_relay as_relay-is text (nodes t
 
 -- ---- a node
 
-pub server_of_table-fresh : (law : WordsAreMade) (t : TopologyState) (place : Place) (table : Members) (row : ServerNode) → server_of_table t place table ≡ Ok row → IsFreshServer t row
+pub server_of_table-fresh : (law : TextsAreMade) (t : TopologyState) (place : Place) (table : Members) (row : ServerNode) → server_of_table t place table ≡ Ok row → IsFreshServer t row
 unfolding server_of_table
 server_of_table-fresh law t place table row e =
     let name = bind_ok (name_at place (codes "name") (new_name t) table) _ row e in
@@ -204,7 +204,7 @@ server_of_table-fresh law t place table row e =
     let fresh : IsFreshServer t (record { name = name.0; primary = primary.0; secondary = secondary.0 }) = record { name = free_name t named.0 name.0 named.1; primary = free_address law t first.0 primary.0 first.1; secondary = other.0; two = other.1 } in
     subst (IsFreshServer t) (ok_same _ _ secondary.2) fresh
 
-pub nat_of_table-fresh : (law : WordsAreMade) (t : TopologyState) (place : Place) (table : Members) (row : NatNode) → nat_of_table t place table ≡ Ok row → IsFreshNat t row
+pub nat_of_table-fresh : (law : TextsAreMade) (t : TopologyState) (place : Place) (table : Members) (row : NatNode) → nat_of_table t place table ≡ Ok row → IsFreshNat t row
 unfolding nat_of_table
 nat_of_table-fresh law t place table row e =
     let name = bind_ok (name_at place (codes "name") (new_name t) table) _ row e in
@@ -218,7 +218,7 @@ nat_of_table-fresh law t place table row e =
     let fresh : IsFreshNat t (record { name = name.0; kind = kind.0; external = external.0; idle = idle.0 }) = record { name = free_name t named.0 name.0 named.1; external = free_address law t outside.0 external.0 outside.1; idle = record { least = within.0; most = within.1 } } in
     subst (IsFreshNat t) (ok_same _ _ idle.2) fresh
 
-pub client_of_table-fresh : (law : WordsAreMade) (t : TopologyState) (place : Place) (table : Members) (row : ClientNode) → client_of_table t place table ≡ Ok row → IsFreshClient t row
+pub client_of_table-fresh : (law : TextsAreMade) (t : TopologyState) (place : Place) (table : Members) (row : ClientNode) → client_of_table t place table ≡ Ok row → IsFreshClient t row
 unfolding client_of_table
 client_of_table-fresh law t place table row e =
     let name = bind_ok (name_at place (codes "name") (new_name t) table) _ row e in
@@ -244,7 +244,7 @@ client_of_table-fresh law t place table row e =
     let fresh : IsFreshClient t made = record { name = free_name t spelled.0 name.0 spelled.1; client = client; inside = free.1; made = free.2 } in
     subst (IsFreshClient t) (ok_same _ _ times.2) fresh
 
-pub relay_of_table-fresh : (law : WordsAreMade) (t : TopologyState) (place : Place) (table : Members) (row : RelayNode) → relay_of_table t place table ≡ Ok row → IsFreshRelay t row
+pub relay_of_table-fresh : (law : TextsAreMade) (t : TopologyState) (place : Place) (table : Members) (row : RelayNode) → relay_of_table t place table ≡ Ok row → IsFreshRelay t row
 unfolding relay_of_table
 relay_of_table-fresh law t place table row e =
     let name = bind_ok (name_at place (codes "name") (new_name t) table) _ row e in
@@ -257,7 +257,7 @@ relay_of_table-fresh law t place table row e =
     let fresh : IsFreshRelay t (record { name = name.0; at = at.0; six = six.0 }) = record { name = free_name t spelled.0 name.0 spelled.1; at = free.0; port = free.1; made = free.2; six = free_six law t address.0 six.0 address.1 } in
     subst (IsFreshRelay t) (ok_same _ _ six.2) fresh
 
-pub native_of_table-fresh : (law : WordsAreMade) (t : TopologyState) (place : Place) (table : Members) (row : NativeNode) → native_of_table t place table ≡ Ok row → IsFreshNative t row
+pub native_of_table-fresh : (law : TextsAreMade) (t : TopologyState) (place : Place) (table : Members) (row : NativeNode) → native_of_table t place table ≡ Ok row → IsFreshNative t row
 unfolding native_of_table
 native_of_table-fresh law t place table row e =
     let name = bind_ok (name_at place (codes "name") (new_name t) table) _ row e in

@@ -5,7 +5,7 @@ use Rattle.toml.specs.Data.{Data, as_array, as_table, Items, no_items, item, Mem
 use Rattle.topology.specs.Rows.{TopologyState, no_nodes, with_server, with_nat, with_client, with_relay, with_native}
 use Rattle.topology.specs.Rules.{IsTopology}
 use Rattle.history.specs.Scenario.{Scenario}
-use Rattle.history.specs.Laws.{WordsAreMade}
+use Rattle.td_base.specs.Laws.{TextsAreMade}
 use Rattle.history.specs.declared.event.Event.{Event}
 use Rattle.scenario.specs.declared.node_kind.NodeKind.{NodeKind}
 use Rattle.scenario.specs.declared.node_kind.NodeKind.TheVariants as kind
@@ -40,7 +40,7 @@ record KeepsWithOne (kind : NodeKind) (t more : TopologyState) : Type 0 where
   order : HasNoneBehind kind more
   one : row_count kind more ≡ row_count kind t + 1
 
-with_row-keeps : (law : WordsAreMade) (kind : NodeKind) (t more : TopologyState) (place : Place) (table : Members) → with_row kind t place table ≡ Ok more → IsTopology t → HasNoneBehind kind t → row_count kind t < most_rows kind → KeepsWithOne kind t more
+with_row-keeps : (law : TextsAreMade) (kind : NodeKind) (t more : TopologyState) (place : Place) (table : Members) → with_row kind t place table ≡ Ok more → IsTopology t → HasNoneBehind kind t → row_count kind t < most_rows kind → KeepsWithOne kind t more
 unfolding with_row
 with_row-keeps law kind.Server t more place table e is h few =
     let row = bind_ok (server_of_table t place table) _ more e in
@@ -63,7 +63,7 @@ with_row-keeps law kind.Native t more place table e is h few =
     let grown : KeepsWithOne kind.Native t (with_native t row.0) = record { rules = grown_native t row.0 is (native_of_table-fresh law t place table row.0 row.1) few; order = h; one = omega (arith, length-append t.natives (row.0 ∷ [])) } in
     subst (KeepsWithOne kind.Native t) (ok_same _ _ row.2) grown
 
-with_value-keeps : (law : WordsAreMade) (kind : NodeKind) (index : ℕ) (t more : TopologyState) (value : Data) → with_value kind index t value ≡ Ok more → IsTopology t → HasNoneBehind kind t → row_count kind t < most_rows kind → KeepsWithOne kind t more
+with_value-keeps : (law : TextsAreMade) (kind : NodeKind) (index : ℕ) (t more : TopologyState) (value : Data) → with_value kind index t value ≡ Ok more → IsTopology t → HasNoneBehind kind t → row_count kind t < most_rows kind → KeepsWithOne kind t more
 unfolding with_value
 with_value-keeps law kind index t more value e is h few =
     let table = bind_ok (ok_or (as_table value) (fault.Kind (row_path kind index))) _ more e in
@@ -77,7 +77,7 @@ record KeepsRules (kind : NodeKind) (t : TopologyState) : Type 0 where
   rules : IsTopology t
   order : HasNoneBehind kind t
 
-with_values-keeps : (law : WordsAreMade) (kind : NodeKind) (index : ℕ) (t more : TopologyState) (values : Items) → with_values kind index t values ≡ Ok more → KeepsRules kind t → row_count kind t + item_count values ≤ most_rows kind → KeepsRules kind more
+with_values-keeps : (law : TextsAreMade) (kind : NodeKind) (index : ℕ) (t more : TopologyState) (values : Items) → with_values kind index t values ≡ Ok more → KeepsRules kind t → row_count kind t + item_count values ≤ most_rows kind → KeepsRules kind more
 with_values-keeps law kind index t more no_items e h few = subst (KeepsRules kind) (ok_same _ _ e) h
 with_values-keeps law kind index t more (item value values) e h few =
     let next = bind_ok (with_value kind index t value) _ more e in
@@ -89,7 +89,7 @@ passed : {A E : Type 0} (b : Bool) (r : Result A E) (fault : E) (x : A) → (if 
 passed true r fault x e = (refl, e)
 passed false r fault x e = absurd cc
 
-with_list-keeps : (law : WordsAreMade) (kind : NodeKind) (t more : TopologyState) (value : Option Data) → with_list kind t value ≡ Ok more → IsTopology t → HasNoneFrom kind t → KeepsRules kind more
+with_list-keeps : (law : TextsAreMade) (kind : NodeKind) (t more : TopologyState) (value : Option Data) → with_list kind t value ≡ Ok more → IsTopology t → HasNoneFrom kind t → KeepsRules kind more
 with_list-keeps law kind t more None e is h = subst (KeepsRules kind) (ok_same _ _ e) (record { rules = is; order = h.1 })
 with_list-keeps law kind t more (Some value) e is h =
     let values = bind_ok (typed place.Text (list_key kind) (as_array value)) (with_few kind t) more e in
@@ -105,7 +105,7 @@ no_rows : {A : Type 0} (xs : List A) → xs ≡ [] → length xs ≡ 0
 no_rows [] e = refl
 no_rows (x ∷ xs) e = absurd cc
 
-nodes_of-keeps : (law : WordsAreMade) (table : Members) (t : TopologyState) → nodes_of table ≡ Ok t → IsTopology t
+nodes_of-keeps : (law : TextsAreMade) (table : Members) (t : TopologyState) → nodes_of table ≡ Ok t → IsTopology t
 unfolding nodes_of
 nodes_of-keeps law table t e =
     let a = bind_ok (with_nodes kind.Server no_nodes table) _ t e in
@@ -144,7 +144,7 @@ there text s e =
     let found : StandsThere (made seed.0 topology.0 events.0) = record { table = table.0; nodes = topology.1; events = events.1 } in
     subst StandsThere (ok_same _ _ events.2) found
 
-pub scenario_of-rules : (law : WordsAreMade) (text : List ℕ) (s : Scenario) → scenario_of text ≡ Ok s → IsTopology s.topology
+pub scenario_of-rules : (law : TextsAreMade) (text : List ℕ) (s : Scenario) → scenario_of text ≡ Ok s → IsTopology s.topology
 unfolding scenario_of
 scenario_of-rules law text s e = let found = there text s (not_refused (nat_lt TEXT_MAX (length text)) (written text) fault.TooLong s e) in nodes_of-keeps law found.table s.topology found.nodes
 

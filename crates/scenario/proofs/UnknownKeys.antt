@@ -8,7 +8,7 @@ use Rattle.std.specs.Cmp.Lexicographic.{slice_cmp}
 use Rattle.std.proofs.lemmas.Cmp.{nat_list_cmp_total}
 use Rattle.toml.specs.declared.value.Value.{Value}
 use Rattle.toml.specs.View.{members_view}
-use Rattle.history.specs.Words.{same_text}
+use Rattle.td_base.specs.Values.{same_text}
 use Rattle.scenario.specs.Keys.{member_keys, lesser, least_of, least, is_unknown, unknown_key}
 
 abbrev Entry : Type 0

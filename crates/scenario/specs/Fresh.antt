@@ -20,8 +20,9 @@ use Rattle.topology.specs.declared.client_node.ClientNode.{ClientNode}
 use Rattle.topology.specs.NodeNames.{is_name}
 use Rattle.topology.specs.Rows.{TopologyState}
 use Rattle.topology.specs.Rules.{names_of, addresses_of, sixes_of}
-use Rattle.history.specs.Words.{◌>>=◌, same_text, ip4_of, ep_of}
-use Rattle.history.specs.Ip6Words.{ip6_of}
+use Rattle.td_base.specs.Options.{◌>>=◌}
+use Rattle.td_base.specs.Values.{same_text, ip4_of, ep_of}
+use Rattle.td_base.specs.Ip6Values.{ip6_of}
 use Rattle.scenario.specs.NodeName.{name}
 
 -- what is given, where a test holds

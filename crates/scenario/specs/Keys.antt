@@ -5,7 +5,7 @@ use Rattle.std.specs.Cmp.Lexicographic.{slice_cmp}
 use Rattle.std.specs.List.{list_any, filter}
 use Rattle.toml.specs.Data.{Data, as_str, as_integer, as_array, Items, Members, no_members, member, get_member}
 use Rattle.td_base.specs.Results.{◌>>=◌}
-use Rattle.history.specs.Words.{same_text}
+use Rattle.td_base.specs.Values.{same_text}
 use Rattle.scenario.specs.declared.scenario_fault.ScenarioFault.{ScenarioFault}
 use Rattle.scenario.specs.declared.scenario_fault.ScenarioFault.TheVariants as fault
 use Rattle.scenario.specs.declared.place.Place.{Place}

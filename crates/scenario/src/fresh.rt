@@ -8,9 +8,8 @@ ghost use Rattle.topology.specs.Names.{same_name};
 ghost use Rattle.topology.specs.NodeNames.{is_name_byte, begins_with_letter, is_name};
 ghost use Rattle.scenario.specs.Fresh.{spelled_name, is_free_name, new_name, is_free_address, is_new_address, new_address, other_address, new_endpoint, is_free_six, is_new_six, new_six, is_free_inside, new_inside, kind_of, natural, idle_of, is_refresh, refresh_of};
 
-use history::{ep_word, ip4_word, ip6_word};
 use nat_kinds::NatKind;
-use td_base::{Ep, Ip4, Ip6, Policy, is_global, is_global6};
+use td_base::{Ep, Ip4, Ip6, Policy, is_global, is_global6, read_ep, read_ip4, read_ip6};
 use teredo_addr::is_teredo;
 use topology::{
     ClientNode, IDLE_MAX_MS, NAME_LEN, Name, NatNode, NativeNode, REFRESH_MAX_MS, REFRESH_MIN_MS,
@@ -151,7 +150,7 @@ fn is_new_address(topology: &Topology, ip: Ip4) -> bool
 pub(crate) fn new_address(topology: &Topology, text: &str) -> Option<Ip4>
     ensures { result ≡ new_address topology.now text.now }
 {
-    let ip = ip4_word(text.as_bytes())?;
+    let ip = read_ip4(text.as_bytes()).ok()?;
     if !is_new_address(topology, ip) {
         return None;
     }
@@ -175,7 +174,7 @@ pub(crate) fn other_address(topology: &Topology, first: Ip4, text: &str) -> Opti
 pub(crate) fn new_endpoint(topology: &Topology, text: &str) -> Option<Ep>
     ensures { result ≡ new_endpoint topology.now text.now }
 {
-    let at = ep_word(text.as_bytes())?;
+    let at = read_ep(text.as_bytes()).ok()?;
     if at.port == 0 {
         return None;
     }
@@ -214,7 +213,7 @@ fn is_new_six(topology: &Topology, ip: Ip6) -> bool
 pub(crate) fn new_six(topology: &Topology, text: &str) -> Option<Ip6>
     ensures { result ≡ new_six topology.now text.now }
 {
-    let ip = ip6_word(text.as_bytes())?;
+    let ip = read_ip6(text.as_bytes()).ok()?;
     if !is_new_six(topology, ip) {
         return None;
     }
@@ -240,7 +239,7 @@ fn is_free_inside(topology: &Topology, nat: u16, inside: Ep) -> bool
 pub(crate) fn new_inside(topology: &Topology, nat: u16, text: &str) -> Option<Ep>
     ensures { result ≡ new_inside topology.now nat text.now }
 {
-    let inside = ep_word(text.as_bytes())?;
+    let inside = read_ep(text.as_bytes()).ok()?;
     if inside.port == 0 {
         return None;
     }

@@ -8,5 +8,5 @@ ghost use Rattle.scenario.specs.Scenario.{scenario_of};
 pub fn rules_kept()
     ensures { (text : List ℕ) (s : Scenario) → scenario_of text ≡ Ok s → IsTopology s.topology }
 {
-    history::words_are_made();
+    td_base::texts_are_made();
 }

@@ -7,7 +7,7 @@ ghost use Rattle.std.specs.BTreeMap.{keys};
 ghost use Rattle.toml.specs.View.{view, table_view, items_view};
 ghost use Rattle.toml.specs.Data.{get_member};
 ghost use Rattle.td_base.specs.Results.{Gives};
-ghost use Rattle.history.specs.Words.{same_text};
+ghost use Rattle.td_base.specs.Values.{same_text};
 ghost use Rattle.scenario.specs.Keys.{is_unknown, unknown_key, only_keys, value_at, text_at, integer_at, list_at, typed, ruled, recognized};
 
 use crate::place::Place;

@@ -1,4 +1,5 @@
 pub mod AddressGroups
+pub mod AddressValues
 pub mod BytesLemmas
 pub mod Decimals
 pub mod Folding
@@ -6,7 +7,9 @@ pub mod GroupLemmas
 pub mod Halting
 pub mod Ip4Lemmas
 pub mod Ip6Lemmas
+pub mod Ip6ValueLemmas
 pub mod NumberLemmas
+pub mod NumberValues
 pub mod OrderLemmas
 pub mod ResultLaws
 pub mod SpellingLemmas

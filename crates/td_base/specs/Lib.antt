@@ -1,5 +1,6 @@
 pub mod Bytes
 pub mod Results
+pub mod Options
 pub mod Sums
 pub mod Ip4
 pub mod Ip6
@@ -11,3 +12,6 @@ pub mod Texts
 pub mod Fronts
 pub mod Ip6Texts
 pub mod Ip6Fronts
+pub mod Values
+pub mod Ip6Values
+pub mod Laws

@@ -1,8 +1,10 @@
 //! The text of an endpoint: its address, a colon, and its port.
 ghost use Rattle.std.specs.Prelude.{◌≡◌, ◌≤◌, length, IfOk, IfErr};
+ghost use Rattle.std.specs.Result.{result_ok};
 ghost use Rattle.td_base.specs.Prints.{Prints};
 ghost use Rattle.td_base.specs.Ep.{IsEp};
 ghost use Rattle.td_base.specs.Texts.{ep_text, IsEpText, IsLongestBegin};
+ghost use Rattle.td_base.specs.Values.{ep_of};
 ghost use Rattle.td_base.specs.Fronts.{Halts};
 ghost use Rattle.td_base.specs.declared.endpoint.Ep.{Ep};
 
@@ -53,6 +55,8 @@ pub fn read_ep(text: &[u8]) -> Result<Ep, BadText>
     ensures only { (ep : Ep) → IsEp ep → text.now ≡ ep_text ep → result ≡ Ok ep }
     // So many bytes begin the text of an endpoint, and no more.
     ensures place { IfErr result (λ bad. IsLongestBegin IsEpText text.now bad.place) }
+    // The endpoint that the text is, as one function of the bytes.
+    ensures exact { result_ok result ≡ ep_of text.now }
 {
     match whole_ep(text) {
         Ok(ep) => Ok(ep),

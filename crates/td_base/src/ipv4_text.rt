@@ -1,8 +1,10 @@
 //! The text of an IPv4 address: four decimal numbers, joined by dots.
 ghost use Rattle.std.specs.Prelude.{◌≡◌, ◌+◌, ◌≤◌, ◌++◌, length, IfOk, IfErr};
+ghost use Rattle.std.specs.Result.{result_ok};
 ghost use Rattle.td_base.specs.Prints.{Prints};
 ghost use Rattle.td_base.specs.Ip4.{IsIp4};
 ghost use Rattle.td_base.specs.Texts.{ip4_text, IsIp4Text, IsLongestBegin};
+ghost use Rattle.td_base.specs.Values.{ip4_of};
 ghost use Rattle.td_base.specs.Fronts.{Halts};
 ghost use Rattle.td_base.specs.declared.ipv4.Ip4.{Ip4};
 
@@ -62,6 +64,8 @@ pub fn read_ip4(text: &[u8]) -> Result<Ip4, BadText>
     ensures only { (ip : Ip4) → IsIp4 ip → text.now ≡ ip4_text ip → result ≡ Ok ip }
     // So many bytes begin the text of an address, and no more.
     ensures place { IfErr result (λ bad. IsLongestBegin IsIp4Text text.now bad.place) }
+    // The address that the text is, as one function of the bytes.
+    ensures exact { result_ok result ≡ ip4_of text.now }
 {
     match whole_ip4(text) {
         Ok(ip) => Ok(ip),

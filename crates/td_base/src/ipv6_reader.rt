@@ -1,5 +1,6 @@
 //! How a text is read as an IPv6 address.
 ghost use Rattle.std.specs.Prelude.{◌≡◌, ℕ, ◌+◌, ◌*◌, ◌-◌, ◌^◌, ◌<◌, ◌≤◌, List, [], ◌∷◌, ◌++◌, ◌⊎◌, length, take, drop, replicate, MatchBool, IfOk, IfErr, OnOk, SomeIff};
+ghost use Rattle.std.specs.Result.{result_ok};
 ghost use Rattle.std.specs.Char.{digit_value};
 ghost use Rattle.std.specs.Str.Parse.{AllDigits, digits_value};
 ghost use Rattle.td_base.specs.Fronts.{Halts};
@@ -7,6 +8,7 @@ ghost use Rattle.td_base.specs.Ip6Fronts.{Accepts, GroupThen, AfterTail, Tail, E
 ghost use Rattle.td_base.specs.Texts.{IsLongestBegin};
 ghost use Rattle.td_base.specs.Ip6.{IsIp6};
 ghost use Rattle.td_base.specs.Ip6Texts.{Spells, IsIp6Text};
+ghost use Rattle.td_base.specs.Ip6Values.{ip6_of};
 ghost use Rattle.td_base.specs.declared.ipv6.Ip6.{Ip6};
 
 use crate::ipv6::Ip6;
@@ -193,6 +195,8 @@ pub fn read_ip6(text: &[u8]) -> Result<Ip6, BadText>
     ensures only { (ip : Ip6) → IsIp6 ip → Spells ip text.now → result ≡ Ok ip }
     // So many bytes begin the text of an address, and no more.
     ensures place { IfErr result (λ bad. IsLongestBegin IsIp6Text text.now bad.place) }
+    // The address that the text is, as one function of the bytes.
+    ensures exact { result_ok result ≡ ip6_of text.now }
 {
     match whole_ip6(text) {
         Ok(ip) => Ok(ip),

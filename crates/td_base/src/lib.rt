@@ -29,6 +29,7 @@
 //! | `line` | `LineBuf`, a line that is being made | `specs/Prints.antt` |
 //! | `numeral`, `ipv4_text`, `endpoint_text` | the texts of numbers, IPv4 addresses and endpoints | `specs/Texts.antt` |
 //! | `ipv6_text`, `ipv6_reader` | the texts of IPv6 addresses, printed and read | `specs/Ip6Texts.antt` |
+//! | `laws` | what holds of every text; what a text is, as a function | `specs/Laws.antt`, `Values.antt`, `Ip6Values.antt` |
 //! | `short_text`, `ipv6_groups` | the private buffers of the two | |
 //!
 //! `specs/Fronts.antt` and `Ip6Fronts.antt` say how a text is read from its front, for the contracts of private functions.
@@ -45,6 +46,7 @@ mod ipv6;
 mod ipv6_groups;
 mod ipv6_reader;
 mod ipv6_text;
+mod laws;
 mod line;
 mod millis;
 mod numeral;
@@ -64,6 +66,7 @@ pub use ipv4_text::{print_ip4, read_ip4};
 pub use ipv6::Ip6;
 pub use ipv6_reader::read_ip6;
 pub use ipv6_text::print_ip6;
+pub use laws::texts_are_made;
 pub use line::{LINE_LEN, LineBuf, print_text};
 pub use millis::Millis;
 pub use numeral::{NUMBER_LEN, print_number, read_number};

@@ -1,7 +1,9 @@
 //! The text of a number: its decimal digits, without sign and without leading zeros.
 ghost use Rattle.std.specs.Prelude.{◌≡◌, ℕ, ◌+◌, ◌*◌, ◌-◌, ◌<◌, ◌≤◌, List, [], ◌∷◌, ◌++◌, ◌⊎◌, length, IfOk, IfErr, IfSome, IfNone, SomeIff, decimal};
+ghost use Rattle.std.specs.Result.{result_ok};
 ghost use Rattle.td_base.specs.Prints.{Prints};
 ghost use Rattle.td_base.specs.Texts.{IsNumberText, IsLongestBegin};
+ghost use Rattle.td_base.specs.Values.{number_of};
 ghost use Rattle.td_base.specs.Fronts.{so_far, NoneGoesOn, Halts, HaltsThen};
 
 use crate::line::{LineBuf, print_text};
@@ -112,6 +114,8 @@ pub fn read_number(text: &[u8], most: u64) -> Result<u64, BadText>
     ensures only { (number : ℕ) → number ≤ most → text.now ≡ decimal number → result ≡ Ok number }
     // So many bytes begin the text of a number up to `most`, and no more.
     ensures place { IfErr result (λ bad. IsLongestBegin (IsNumberText most) text.now bad.place) }
+    // The number that the text is, as one function of the bytes.
+    ensures exact { result_ok result ≡ number_of most text.now }
 {
     match number_last(text, most) {
         Ok(number) => Ok(number),

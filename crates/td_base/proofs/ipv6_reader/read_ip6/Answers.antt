@@ -1,6 +1,7 @@
-use Rattle.std.proofs.Common.{◌≡◌, refl}
+use Rattle.std.proofs.Common.{rules, Ok, Err, ◌≡◌, refl}
 use Rattle.td_base.proofs.Halting.{longest_begin}
 use Rattle.td_base.proofs.Ip6Lemmas.{one_spelled}
+use Rattle.td_base.proofs.Ip6ValueLemmas.{ip6_read}
 use Rattle.td_base.proofs.ipv6_reader.read_ip6.Goals as goal
 
 pub returns-in-Ok-clause-only : goal.returns-in-Ok-clause-only
@@ -11,3 +12,12 @@ returns-in-Ok-clause-only c value is spelled =
 
 pub returns-in-Err-clause-place : goal.returns-in-Err-clause-place
 returns-in-Err-clause-place c = longest_begin _ _ _ _ c.in-Err.ensures.halts c.before-in-Err.ensures
+
+pub returns-in-Err-clause-only : goal.returns-in-Err-clause-only
+returns-in-Err-clause-only c = search rules
+
+pub returns-in-Ok-clause-exact : goal.returns-in-Ok-clause-exact
+returns-in-Ok-clause-exact c = ip6_read c.args.text.now (Ok c.in-Ok.ip) c.in-Ok.ensures.found (returns-in-Ok-clause-only c)
+
+pub returns-in-Err-clause-exact : goal.returns-in-Err-clause-exact
+returns-in-Err-clause-exact c = ip6_read c.args.text.now (Err _) tt (returns-in-Err-clause-only c)

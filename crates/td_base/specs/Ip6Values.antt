@@ -1,10 +1,11 @@
--- The IPv6 address that a word says: RFC 4291, section 2.2, forms 1 and 2.
+-- The IPv6 address that a text is: RFC 4291, section 2.2, forms 1 and 2.
 use Rattle.std.specs.Prelude.{ℕ, ◌+◌, ◌-◌, ◌/◌, ◌%◌, ◌==◌, ◌&&◌, nat_le, nat_lt, Bool, false, if◌then◌else◌, List, [], ◌∷◌, ◌++◌, length, drop, flat_map, replicate, option_map, Option, Some, None}
 use Rattle.std.specs.List.{list_all}
 use Rattle.std.specs.Char.{digit_value}
 use Rattle.std.specs.Str.Parse.{digits_value}
 use Rattle.td_base.specs.declared.ipv6.Ip6.{Ip6}
-use Rattle.history.specs.Words.{◌>>=◌, colon, parts_at}
+use Rattle.td_base.specs.Options.{◌>>=◌}
+use Rattle.td_base.specs.Values.{colon, parts_at}
 
 -- one to four hexadecimal digits of either case
 abbrev pub is_group : List ℕ → Bool
@@ -57,6 +58,6 @@ numbers_of text (Some sides) = do
 abbrev pub address : List ℕ → Ip6
 address ns = record { 0 = flat_map (λ n. n / 256 ∷ n % 256 ∷ []) ns }
 
--- the address that a word says
+-- the address that a text is
 unfoldable pub ip6_of : List ℕ → Option Ip6
 ip6_of text = option_map address (numbers_of text (elided_at text))

@@ -1,6 +1,6 @@
-use Rattle.history.proofs.Addresses.{ip4_of-sound, ep_of-sound}
-use Rattle.history.proofs.Ip6WordLemmas.{ip6_of-sound}
-use Rattle.history.proofs.laws.words_are_made.Goals as goal
+use Rattle.td_base.proofs.AddressValues.{ip4_of-sound, ep_of-sound}
+use Rattle.td_base.proofs.Ip6ValueLemmas.{ip6_of-sound}
+use Rattle.td_base.proofs.laws.texts_are_made.Goals as goal
 
 pub returns : goal.returns
 returns c = record {

@@ -8,7 +8,8 @@ use Rattle.std.proofs.lemmas.Bool.{and_parts}
 use Rattle.std.specs.Cmp.Lexicographic.{pointwise_decides}
 use Rattle.std.proofs.lemmas.Fmt.{digits_value-decimal}
 use Rattle.std.proofs.lemmas.Str.Parse.{IsNumeralModel, numerals_by_value, tells_digits}
-use Rattle.history.specs.Words.{◌>>=◌, same_text, number_of}
+use Rattle.td_base.specs.Options.{◌>>=◌}
+use Rattle.td_base.specs.Values.{same_text, number_of}
 
 -- a reader that accepts the texts that are some value's, and no others
 pub as_read : {X E : Type 0} (Is : X → Type 0) (r : Result X E) (o : Option X) → IfOk r Is → ((x : X) → Is x → r ≡ Ok x) → ((x : X) → o ≡ Some x → Is x) → ((x : X) → Is x → o ≡ Some x) → result_ok r ≡ o

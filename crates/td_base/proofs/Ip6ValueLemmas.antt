@@ -15,8 +15,8 @@ use Rattle.td_base.specs.Ip6.{IsIp6}
 use Rattle.td_base.specs.Ip6Texts.{groups, IsGroup, AreGroups, IsElided, Spells}
 use Rattle.td_base.proofs.SpellingLemmas.{AllSmall, groups_small, elided_is_whole, whole_length, whole_small}
 use Rattle.td_base.proofs.AddressGroups.{pair_bytes, IsIp6-ip6_of, groups-ip6_of, pair_bytes-groups}
-use Rattle.history.specs.Ip6Words.{is_group, group_of, each_group, groups_of, begins_with_colon, behind, elided_at, all_eight, numbers_of, address, ip6_of}
-use Rattle.history.proofs.Numbers.{bind_some, some_same, kept_some, as_read}
+use Rattle.td_base.specs.Ip6Values.{is_group, group_of, each_group, groups_of, begins_with_colon, behind, elided_at, all_eight, numbers_of, address, ip6_of}
+use Rattle.td_base.proofs.NumberValues.{bind_some, some_same, kept_some, as_read}
 
 abbrev is_colon : ℕ → Bool
 is_colon byte = byte == 58

@@ -17,8 +17,8 @@ use Rattle.td_base.specs.Texts.{ip4_text, ep_text}
 use Rattle.td_base.proofs.Decimals.{digits}
 use Rattle.td_base.proofs.Halting.{NotDigit, not_digit}
 use Rattle.td_base.proofs.Ip4Lemmas.{IsIp4-made}
-use Rattle.history.specs.Words.{number_of, ip4_of_parts, ip4_of, ep_of_parts, ep_of}
-use Rattle.history.proofs.Numbers.{as_read, bind_some, some_same, number_of-sound, number_back}
+use Rattle.td_base.specs.Values.{number_of, ip4_of_parts, ip4_of, ep_of_parts, ep_of}
+use Rattle.td_base.proofs.NumberValues.{as_read, bind_some, some_same, number_of-sound, number_back}
 
 apart : (mark c : ℕ) → NotDigit mark → digit_value c < 10 → (c == mark) ≡ false
 apart mark c other fits = ne_eqb c mark (λ e. other (rw (← e) (digit_from_value c fits)))
