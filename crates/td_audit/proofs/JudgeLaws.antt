@@ -5,11 +5,11 @@ use Rattle.server_core.specs.declared.server.ServerSettings.{ServerSettings}
 use Rattle.td_audit.specs.declared.judge.Judge.{Judge}
 use Rattle.td_audit.specs.declared.licences.Licences.{Licences}
 use Rattle.td_audit.specs.declared.counts.Counts.{Counts}
-use Rattle.td_audit.specs.Datagrams.{Datagram, is_server}
+use Rattle.td_audit.specs.Datagrams.{Datagram, is_audited}
 use Rattle.td_audit.specs.Licences.{output, IsFirstUnlicensed}
 use Rattle.td_audit.specs.Left.{HasKey}
 use Rattle.td_audit.specs.Counting.{with_record}
-use Rattle.td_audit.specs.Judging.{IsCovered, HasRoom, Licenses, Runs, Stands}
+use Rattle.td_audit.specs.Judging.{IsCovered, HasGrantRoom, Licenses, Runs, Stands}
 use Rattle.td_audit.proofs.PlaceLaws.{Places, first_stays}
 use Rattle.td_audit.proofs.RunLaws.{room, room_left, runs_skipped, runs_more, runs_out}
 
@@ -24,14 +24,14 @@ judged_out s j used places d fits none covered st =
 
 -- a datagram with one, or from elsewhere
 pub judged_on : (s : ServerSettings) (j : Judge) (used more : Licences) (places : Places) (d : Datagram) → HasKey d → length places + 1 < 2 ^ 64 → j.unlicensed ≡ None → IsCovered j.settings j.licences used d true
-    → (HasRoom j.settings used → Licenses used more (output j.settings (Some d))) → Stands s j places → Runs s more (with_record j.counts (is_server j.settings d.dst) (is_server j.settings d.src)) (places ++ Some d ∷ [])
+    → (HasGrantRoom j.settings used → Licenses used more (output j.settings (Some d))) → Stands s j places → Runs s more (with_record j.counts (is_audited j.settings d.dst) (is_audited j.settings d.src)) (places ++ Some d ∷ [])
 judged_on s j used more places d fits small none covered licenses st =
     let runs = running s j places none st in
     let is = st.settings_are in
     let covered_here : IsCovered s j.licences used d true = subst (λ (t : ServerSettings). IsCovered t j.licences used d true) is covered in
-    let has : HasRoom s used = room_left s j.licences used d (room s j.licences j.counts places runs small) covered_here in
-    let licenses_here : Licenses used more (output s (Some d)) = subst (λ (t : ServerSettings). HasRoom t used → Licenses used more (output t (Some d))) is licenses has in
-    subst (λ (t : ServerSettings). Runs s more (with_record j.counts (is_server t d.dst) (is_server t d.src)) (places ++ Some d ∷ [])) (sym is) (runs_more s j.licences used more j.counts places d fits small runs covered_here licenses_here)
+    let has : HasGrantRoom s used = room_left s j.licences used d (room s j.licences j.counts places runs small) covered_here in
+    let licenses_here : Licenses used more (output s (Some d)) = subst (λ (t : ServerSettings). HasGrantRoom t used → Licenses used more (output t (Some d))) is licenses has in
+    subst (λ (t : ServerSettings). Runs s more (with_record j.counts (is_audited t d.dst) (is_audited t d.src)) (places ++ Some d ∷ [])) (sym is) (runs_more s j.licences used more j.counts places d fits small runs covered_here licenses_here)
 
 -- once there is an unlicensed place
 out_stays : (s : ServerSettings) (l : Licences) (c : Counts) (places : Places) (x : Option Datagram) (o : Option ℕ) → is_some o ≡ true → MatchOption o (Runs s l c places) (IsFirstUnlicensed s places)

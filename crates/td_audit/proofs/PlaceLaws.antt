@@ -5,7 +5,7 @@ use Rattle.std.proofs.lemmas.Bool.{cases_lt}
 use Rattle.std.proofs.lemmas.List.Sums.{sum_by-append}
 use Rattle.std.proofs.lemmas.List.{take-append-le, take_at, length-append, take_all}
 use Rattle.server_core.specs.declared.server.ServerSettings.{ServerSettings}
-use Rattle.td_audit.specs.Datagrams.{Datagram, is_same, times, is_server}
+use Rattle.td_audit.specs.Datagrams.{Datagram, is_same, times, is_audited}
 use Rattle.td_audit.specs.Licences.{output, IsLicensed, AreLicensed, IsFirstUnlicensed}
 use Rattle.td_audit.specs.Left.{one_if}
 use Rattle.td_audit.proofs.KeyLaws.{same_itself}
@@ -70,14 +70,14 @@ times_now places d =
 outputs_before : (s : ServerSettings) (places : Places) (x : Option Datagram) (d : Datagram) → times d (map (output s) (take (length places) (places ++ x ∷ []))) ≡ times d (map (output s) places)
 outputs_before s places x d = ap (λ (t : Places). times d (map (output s) t)) (take_at places (x ∷ []) (length places) refl)
 
-pub last_licensed : (s : ServerSettings) (places : Places) (d : Datagram) → (is_server s d.src ≡ true → HasLicence s places d) → IsLicensed s (places ++ Some d ∷ []) (length places)
+pub last_licensed : (s : ServerSettings) (places : Places) (d : Datagram) → (is_audited s d.src ≡ true → HasLicence s places d) → IsLicensed s (places ++ Some d ∷ []) (length places)
 last_licensed s places d has e there from =
     let is : d ≡ e = held_is d e (sym (last_place places (Some d)) ∙ there) in
     let for_d : times d (take (length places + 1) (places ++ Some d ∷ [])) ≤ times d (map (output s) (take (length places) (places ++ Some d ∷ []))) =
-    omega (arith, times_now places d, outputs_before s places (Some d) d, has (ap (λ (x : Datagram). is_server s x.src) is ∙ from)) in
+    omega (arith, times_now places d, outputs_before s places (Some d) d, has (ap (λ (x : Datagram). is_audited s x.src) is ∙ from)) in
     subst (λ (x : Datagram). times x (take (length places + 1) (places ++ Some d ∷ [])) ≤ times x (map (output s) (take (length places) (places ++ Some d ∷ [])))) is for_d
 
-pub last_unlicensed : (s : ServerSettings) (places : Places) (d : Datagram) → is_server s d.src ≡ true → (HasLicence s places d → ⊥) → IsLicensed s (places ++ Some d ∷ []) (length places) → ⊥
+pub last_unlicensed : (s : ServerSettings) (places : Places) (d : Datagram) → is_audited s d.src ≡ true → (HasLicence s places d → ⊥) → IsLicensed s (places ++ Some d ∷ []) (length places) → ⊥
 last_unlicensed s places d from none licensed =
     none (let now = licensed d (last_place places (Some d)) from in omega (arith, times_now places d, outputs_before s places (Some d) d))
 

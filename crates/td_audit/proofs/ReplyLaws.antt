@@ -11,7 +11,7 @@ use Rattle.teredo_node.specs.Step.{Step}
 use Rattle.server_core.specs.declared.server.ServerSettings.{ServerSettings}
 use Rattle.server_core.specs.Bounds.{endpoint}
 use Rattle.server_core.specs.Server.{server_row, sends_one}
-use Rattle.td_audit.specs.Datagrams.{Datagram, datagram, is_server}
+use Rattle.td_audit.specs.Datagrams.{Datagram, datagram, is_audited}
 use Rattle.td_audit.specs.Licences.{side_with, on_wire, reply_to, output}
 
 row_sends : (s : ServerSettings) (side : Side) (d : Datagram) (step : Step) → side ≡ side_with s d.dst → server_row s side d.src d.body ≡ step → reply_to s d ≡ on_wire s step.sends
@@ -29,16 +29,16 @@ no_either false x none = refl
 -- a step that sends nothing
 pub no_reply : (s : ServerSettings) (side : Side) (d : Datagram) (step : Step) → side ≡ side_with s d.dst → server_row s side d.src d.body ≡ step → step.sends ≡ [] → output s (Some d) ≡ None
 no_reply s side d step is row silent =
-    no_either (is_server s d.dst) (reply_to s d) (row_sends s side d step is row ∙ ap (on_wire s) silent)
+    no_either (is_audited s d.dst) (reply_to s d) (row_sends s side d step is row ∙ ap (on_wire s) silent)
 
 -- a step that sends one datagram
-pub one_reply : (s : ServerSettings) (side sent : Side) (d : Datagram) (fate : Fate) (to : Ep) (bytes : List ℕ) → is_server s d.dst ≡ true → side ≡ side_with s d.dst → server_row s side d.src d.body ≡ sends_one fate sent to bytes
+pub one_reply : (s : ServerSettings) (side sent : Side) (d : Datagram) (fate : Fate) (to : Ep) (bytes : List ℕ) → is_audited s d.dst ≡ true → side ≡ side_with s d.dst → server_row s side d.src d.body ≡ sends_one fate sent to bytes
     → output s (Some d) ≡ Some (datagram (endpoint s sent) to bytes)
 one_reply s side sent d fate to bytes for_server is row =
-    cond-true (is_server s d.dst) (reply_to s d) nothing for_server ∙ row_sends s side d (sends_one fate sent to bytes) is row
+    cond-true (is_audited s d.dst) (reply_to s d) nothing for_server ∙ row_sends s side d (sends_one fate sent to bytes) is row
 
 -- what is not for the server draws nothing
-pub not_for_server : (s : ServerSettings) (d : Datagram) → is_server s d.dst ≡ false → output s (Some d) ≡ None
+pub not_for_server : (s : ServerSettings) (d : Datagram) → is_audited s d.dst ≡ false → output s (Some d) ≡ None
 not_for_server s d other = ap (λ (b : Bool). cond b (reply_to s d) nothing) other
 
 or_right : (b : Bool) → (b || true) ≡ true
@@ -46,7 +46,7 @@ or_right true = refl
 or_right false = refl
 
 -- what the server sends is from it
-pub own_endpoint : (s : ServerSettings) (side : Side) → is_server s (endpoint s side) ≡ true
-unfolding is_server
+pub own_endpoint : (s : ServerSettings) (side : Side) → is_audited s (endpoint s side) ≡ true
+unfolding is_audited
 own_endpoint s Primary = ap (λ (b : Bool). b || same_ep (endpoint s Primary) (endpoint s Secondary)) (same_ep-self (endpoint s Primary))
 own_endpoint s Secondary = ap (λ (b : Bool). same_ep (endpoint s Secondary) (endpoint s Primary) || b) (same_ep-self (endpoint s Secondary)) ∙ or_right (same_ep (endpoint s Secondary) (endpoint s Primary))

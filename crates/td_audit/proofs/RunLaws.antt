@@ -6,11 +6,11 @@ use Rattle.std.proofs.lemmas.List.Sums.{count_by-le-length}
 use Rattle.server_core.specs.declared.server.ServerSettings.{ServerSettings}
 use Rattle.td_audit.specs.declared.licences.Licences.{Licences}
 use Rattle.td_audit.specs.declared.counts.Counts.{Counts}
-use Rattle.td_audit.specs.Datagrams.{Datagram, is_same, times, is_server, is_to_server, is_from_server, is_skipped}
+use Rattle.td_audit.specs.Datagrams.{Datagram, is_same, times, is_audited, is_to_audited, is_from_audited, is_skipped}
 use Rattle.td_audit.specs.Licences.{output, IsFirstUnlicensed}
 use Rattle.td_audit.specs.Left.{HasKey, one_if}
 use Rattle.td_audit.specs.Counting.{more, with_record}
-use Rattle.td_audit.specs.Judging.{IsCovered, HasRoom, Licenses, Runs, counts_of}
+use Rattle.td_audit.specs.Judging.{IsCovered, HasGrantRoom, Licenses, Runs, counts_of}
 use Rattle.td_audit.proofs.KeyLaws.{same_itself}
 use Rattle.td_audit.proofs.PlaceLaws.{Places, count_more, last_licensed, last_unlicensed, nothing_licensed, all_licensed, stays}
 
@@ -28,25 +28,25 @@ same_counts a b packets to from skipped =
     e
 
 -- the counts grow by a place
-pub counts_more : (s : ServerSettings) (places : Places) (x : Option Datagram) → length places + 1 < 2 ^ 64 → with_record (counts_of s places) (is_to_server s x) (is_from_server s x) ≡ counts_of s (places ++ x ∷ [])
+pub counts_more : (s : ServerSettings) (places : Places) (x : Option Datagram) → length places + 1 < 2 ^ 64 → with_record (counts_of s places) (is_to_audited s x) (is_from_audited s x) ≡ counts_of s (places ++ x ∷ [])
 unfolding with_record
 counts_more s places x small =
     let c = counts_of s places in
     let counted = λ (p : Option Datagram → Bool). more_is (count_by p places) (p x) (let most = count_by-le-length p places in omega (arith, most, small)) ∙ sym (count_more p places x) in
-    same_counts (with_record c (is_to_server s x) (is_from_server s x)) (counts_of s (places ++ x ∷ [])) (omega (arith, small, length-append places (x ∷ []))) (counted (is_to_server s)) (counted (is_from_server s)) (counted (is_skipped s))
+    same_counts (with_record c (is_to_audited s x) (is_from_audited s x)) (counts_of s (places ++ x ∷ [])) (omega (arith, small, length-append places (x ∷ []))) (counted (is_to_audited s)) (counted (is_from_audited s)) (counted (is_skipped s))
 
 outputs_more : (s : ServerSettings) (places : Places) (x : Option Datagram) (e : Datagram) → times e (map (output s) (places ++ x ∷ [])) ≡ times e (map (output s) places) + one_if (is_same e (output s x))
 outputs_more s places x e = ap (times e) (map-append (output s) places (x ∷ [])) ∙ count_more (is_same e) (map (output s) places) (output s x)
 
--- what is left can be counted
-pub room : (s : ServerSettings) (l : Licences) (c : Counts) (places : Places) → Runs s l c places → length places + 1 < 2 ^ 64 → HasRoom s l
+-- what is licences_left can be counted
+pub room : (s : ServerSettings) (l : Licences) (c : Counts) (places : Places) → Runs s l c places → length places + 1 < 2 ^ 64 → HasGrantRoom s l
 room s l c places r small e e_fits from =
     let sum = r.left_is e e_fits from in
     let most = count_by-le-length (is_same e) (map (output s) places) in
     omega (arith, sum, most, length-map places (output s), small)
 
 -- and after a licence was used
-pub room_left : (s : ServerSettings) (old new : Licences) (d : Datagram) → HasRoom s old → IsCovered s old new d true → HasRoom s new
+pub room_left : (s : ServerSettings) (old new : Licences) (d : Datagram) → HasGrantRoom s old → IsCovered s old new d true → HasGrantRoom s new
 room_left s old new d has covered e e_fits from =
     let less = covered e e_fits from in
     let most = has e e_fits from in
@@ -64,7 +64,7 @@ runs_skipped s l c places small r = record {
 
 -- a datagram that is licensed, or isn't from the server
 pub runs_more : (s : ServerSettings) (l0 l1 l2 : Licences) (c : Counts) (places : Places) (d : Datagram) → HasKey d → length places + 1 < 2 ^ 64 → Runs s l0 c places → IsCovered s l0 l1 d true → Licenses l1 l2 (output s (Some d))
-    → Runs s l2 (with_record c (is_server s d.dst) (is_server s d.src)) (places ++ Some d ∷ [])
+    → Runs s l2 (with_record c (is_audited s d.dst) (is_audited s d.src)) (places ++ Some d ∷ [])
 runs_more s l0 l1 l2 c places d d_fits small r covered licenses = record {
   each = all_licensed s places (Some d) r.each (last_licensed s places d (λ from.
       let sum = r.left_is d d_fits from in
@@ -75,10 +75,10 @@ runs_more s l0 l1 l2 c places d d_fits small r covered licenses = record {
       let used = covered e e_fits from in
       let granted = licenses e e_fits in
       omega (arith, sum, used, granted, count_more (is_same e) places (Some d), outputs_more s places (Some d) e);
-  counts_are = ap (λ (k : Counts). with_record k (is_server s d.dst) (is_server s d.src)) r.counts_are ∙ counts_more s places (Some d) small;
+  counts_are = ap (λ (k : Counts). with_record k (is_audited s d.dst) (is_audited s d.src)) r.counts_are ∙ counts_more s places (Some d) small;
 }
 
--- a datagram from the server for which no licence is left
+-- a datagram from the server for which no licence is licences_left
 pub runs_out : (s : ServerSettings) (l0 l1 : Licences) (c : Counts) (places : Places) (d : Datagram) → HasKey d → Runs s l0 c places → IsCovered s l0 l1 d false → IsFirstUnlicensed s (places ++ Some d ∷ []) c.packets
 runs_out s l0 l1 c places d d_fits r none =
     let from = none.0 in

@@ -29,17 +29,17 @@ abbrev pub times : Datagram → List (Option Datagram) → ℕ
 times d places = count_by (is_same d) places
 
 -- one of the server's two endpoints
-unfoldable pub is_server : ServerSettings → Ep → Bool
-is_server s ep = same_ep ep (endpoint s Primary) || same_ep ep (endpoint s Secondary)
+unfoldable pub is_audited : ServerSettings → Ep → Bool
+is_audited s ep = same_ep ep (endpoint s Primary) || same_ep ep (endpoint s Secondary)
 
 -- a datagram to the server, one from it, and neither
-abbrev pub is_to_server : ServerSettings → Option Datagram → Bool
-is_to_server s None = false
-is_to_server s (Some d) = is_server s d.dst
+abbrev pub is_to_audited : ServerSettings → Option Datagram → Bool
+is_to_audited s None = false
+is_to_audited s (Some d) = is_audited s d.dst
 
-abbrev pub is_from_server : ServerSettings → Option Datagram → Bool
-is_from_server s None = false
-is_from_server s (Some d) = is_server s d.src
+abbrev pub is_from_audited : ServerSettings → Option Datagram → Bool
+is_from_audited s None = false
+is_from_audited s (Some d) = is_audited s d.src
 
 abbrev pub is_skipped : ServerSettings → Option Datagram → Bool
-is_skipped s held = not (is_to_server s held) && not (is_from_server s held)
+is_skipped s held = not (is_to_audited s held) && not (is_from_audited s held)

@@ -5,41 +5,41 @@ use Rattle.td_audit.specs.declared.licences.Licences.{Licences}
 use Rattle.td_audit.specs.declared.counts.Counts.{Counts}
 use Rattle.td_audit.specs.declared.judge.Judge.{Judge}
 use Rattle.td_audit.specs.declared.judge.Reply.{Reply}
-use Rattle.td_audit.specs.Datagrams.{Datagram, datagram, same_datagram, is_same, times, is_server, is_to_server, is_from_server, is_skipped}
+use Rattle.td_audit.specs.Datagrams.{Datagram, datagram, same_datagram, is_same, times, is_audited, is_to_audited, is_from_audited, is_skipped}
 use Rattle.td_audit.specs.Licences.{output, AreLicensed, IsFirstUnlicensed}
-use Rattle.td_audit.specs.Left.{HasKey, left, one_if}
+use Rattle.td_audit.specs.Left.{HasKey, licences_left, one_if}
 
 -- a datagram from the server had a licence, which was used up, or it had none
 abbrev pub IsCovered : ServerSettings → Licences → Licences → Datagram → Bool → Type 0
-IsCovered s old new d true = (e : Datagram) → HasKey e → is_server s e.src ≡ true → left new e + one_if (same_datagram e d) ≡ left old e
-IsCovered s old new d false = (is_server s d.src ≡ true) × (left old d ≡ 0)
+IsCovered s old new d true = (e : Datagram) → HasKey e → is_audited s e.src ≡ true → licences_left new e + one_if (same_datagram e d) ≡ licences_left old e
+IsCovered s old new d false = (is_audited s d.src ≡ true) × (licences_left old d ≡ 0)
 
 -- the answer, where out holds its bytes, is what the server sends
 abbrev pub Replies : ServerSettings → Option Reply → List ℕ → Option Datagram → Type 0
 Replies s None out sent = sent ≡ None
-Replies s (Some r) out sent = (sent ≡ Some (datagram r.from r.to (take r.len out))) × (r.len ≤ length out) × (is_server s r.from ≡ true)
+Replies s (Some r) out sent = (sent ≡ Some (datagram r.from r.to (take r.len out))) × (r.len ≤ length out) × (is_audited s r.from ≡ true)
 
 -- one more of each datagram from the server can be counted
-abbrev pub HasRoom : ServerSettings → Licences → Type 0
-HasRoom s l = (e : Datagram) → HasKey e → is_server s e.src ≡ true → left l e + 1 < 2 ^ 64
+abbrev pub HasGrantRoom : ServerSettings → Licences → Type 0
+HasGrantRoom s l = (e : Datagram) → HasKey e → is_audited s e.src ≡ true → licences_left l e + 1 < 2 ^ 64
 
 -- what a place holds is licensed once more
 abbrev pub Licenses : Licences → Licences → Option Datagram → Type 0
-Licenses old new held = (e : Datagram) → HasKey e → left new e ≡ left old e + one_if (is_same e held)
+Licenses old new held = (e : Datagram) → HasKey e → licences_left new e ≡ licences_left old e + one_if (is_same e held)
 
 -- the counts of some places
 abbrev pub counts_of : ServerSettings → List (Option Datagram) → Counts
 counts_of s places = record {
   packets = length places;
-  to = count_by (is_to_server s) places;
-  from = count_by (is_from_server s) places;
+  to = count_by (is_to_audited s) places;
+  from = count_by (is_from_audited s) places;
   skipped = count_by (is_skipped s) places;
 }
 
--- all places up to now are licensed; what is left licensed, and how many there were
+-- all places up to now are licensed; what is licences_left licensed, and how many there were
 pub record Runs (s : ServerSettings) (l : Licences) (c : Counts) (places : List (Option Datagram)) : Type 0 where
   pub each : AreLicensed s places
-  pub left_is : (e : Datagram) → HasKey e → is_server s e.src ≡ true → left l e + times e places ≡ times e (map (output s) places)
+  pub left_is : (e : Datagram) → HasKey e → is_audited s e.src ≡ true → licences_left l e + times e places ≡ times e (map (output s) places)
   pub counts_are : c ≡ counts_of s places
 
 -- the judge has seen these places

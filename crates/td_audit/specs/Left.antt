@@ -23,11 +23,11 @@ abbrev pub left_at : Licences → List ℕ → ℕ
 left_at l key = unwrap_or (get_by (λ k. slice_cmp nat_cmp key k.items) l.left) 0
 
 -- how often d is still licensed
-abbrev pub left : Licences → Datagram → ℕ
-left l d = left_at l (key_bytes d)
+abbrev pub licences_left : Licences → Datagram → ℕ
+licences_left l d = left_at l (key_bytes d)
 
 abbrev pub IsEmptied : Licences → Type 0
-IsEmptied l = (e : Datagram) → left l e ≡ 0
+IsEmptied l = (e : Datagram) → licences_left l e ≡ 0
 
 -- 1 where the two are the same
 abbrev pub one_if : Bool → ℕ
@@ -35,9 +35,9 @@ one_if b = if b then 1 else 0
 
 -- d is licensed once more
 abbrev pub Grants : Licences → Licences → Datagram → Type 0
-Grants old new d = (e : Datagram) → HasKey e → left new e ≡ left old e + one_if (same_datagram e d)
+Grants old new d = (e : Datagram) → HasKey e → licences_left new e ≡ licences_left old e + one_if (same_datagram e d)
 
--- a licence of d was used up, or none was left
+-- a licence of d was used up, or none was licences_left
 abbrev pub Uses : Licences → Licences → Datagram → Bool → Type 0
-Uses old new d true = (e : Datagram) → HasKey e → left new e + one_if (same_datagram e d) ≡ left old e
-Uses old new d false = left old d ≡ 0
+Uses old new d true = (e : Datagram) → HasKey e → licences_left new e + one_if (same_datagram e d) ≡ licences_left old e
+Uses old new d false = licences_left old d ≡ 0

@@ -9,7 +9,7 @@ use Rattle.teredo_node.specs.Step.{Send}
 use Rattle.server_core.specs.declared.server.ServerSettings.{ServerSettings}
 use Rattle.server_core.specs.Bounds.{endpoint}
 use Rattle.server_core.specs.Server.{server_row}
-use Rattle.td_audit.specs.Datagrams.{Datagram, datagram, times, is_server}
+use Rattle.td_audit.specs.Datagrams.{Datagram, datagram, times, is_audited}
 
 -- the server's side that has an endpoint
 abbrev pub side_with : ServerSettings → Ep → Side
@@ -27,12 +27,12 @@ reply_to s d = on_wire s (server_row s (side_with s d.dst) d.src d.body).sends
 -- what the server sends on what a place holds, where that is a datagram to it
 abbrev pub output : ServerSettings → Option Datagram → Option Datagram
 output s None = None
-output s (Some d) = if is_server s d.dst then reply_to s d else None
+output s (Some d) = if is_audited s d.dst then reply_to s d else None
 
 -- A datagram from the server is licensed at its place: the places before whose output it is are at least as many as those
 -- up to and with the place that hold it.
 abbrev pub IsLicensed : ServerSettings → List (Option Datagram) → ℕ → Type 0
-IsLicensed s places place = (d : Datagram) → slice_get places place ≡ Some (Some d) → is_server s d.src ≡ true
+IsLicensed s places place = (d : Datagram) → slice_get places place ≡ Some (Some d) → is_audited s d.src ≡ true
     → times d (take (place + 1) places) ≤ times d (map (output s) (take place places))
 
 -- each place is licensed

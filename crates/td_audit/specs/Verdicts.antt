@@ -13,7 +13,7 @@ use Rattle.td_audit.specs.declared.verdict.Verdict.{Verdict}
 use Rattle.td_audit.specs.declared.verdict.Verdict.TheVariants.{Clean, Unlicensed}
 use Rattle.td_audit.specs.declared.fault.AuditFault.{AuditFault}
 use Rattle.td_audit.specs.declared.fault.AuditFault.TheVariants.{Capture, NoMemory}
-use Rattle.td_audit.specs.Datagrams.{Datagram, datagram, is_to_server, is_from_server, is_skipped}
+use Rattle.td_audit.specs.Datagrams.{Datagram, datagram, is_to_audited, is_from_audited, is_skipped}
 use Rattle.td_audit.specs.Licences.{AreLicensed, IsFirstUnlicensed}
 
 -- a server on the Internet
@@ -35,7 +35,7 @@ places rs = map (λ r. datagram_in r.bytes) rs
 -- The verdict on what the places hold: each is licensed, and how many there are, how many with a datagram to the server,
 -- from it, one from the server to the server counting as both, and how many others; or the least place that isn't licensed.
 abbrev pub IsVerdict : ServerSettings → List (Option Datagram) → Verdict → Type 0
-IsVerdict s held (Clean packets to from skipped) = AreLicensed s held × (packets ≡ length held) × (to ≡ count_by (is_to_server s) held) × (from ≡ count_by (is_from_server s) held) × (skipped ≡ count_by (is_skipped s) held)
+IsVerdict s held (Clean packets to from skipped) = AreLicensed s held × (packets ≡ length held) × (to ≡ count_by (is_to_audited s) held) × (from ≡ count_by (is_from_audited s) held) × (skipped ≡ count_by (is_skipped s) held)
 IsVerdict s held (Unlicensed place) = IsFirstUnlicensed s held place
 
 -- x is a capture, and this the verdict on it

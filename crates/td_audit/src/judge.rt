@@ -1,8 +1,8 @@
 //! The judging of a capture, record by record.
 ghost use Rattle.std.specs.Prelude.{◌≡◌, ◌+◌, ◌<◌, ◌^◌, [], ◌∷◌, ◌++◌, List, length, Option, Some, None, OnOk, IfOk};
-ghost use Rattle.td_audit.specs.Datagrams.{Datagram, datagram, is_server};
+ghost use Rattle.td_audit.specs.Datagrams.{Datagram, datagram, is_audited};
 ghost use Rattle.td_audit.specs.Licences.{side_with, output};
-ghost use Rattle.td_audit.specs.Judging.{IsCovered, HasRoom, Licenses, Replies, Runs, Stands};
+ghost use Rattle.td_audit.specs.Judging.{IsCovered, HasGrantRoom, Licenses, Replies, Runs, Stands};
 ghost use Rattle.td_audit.specs.Verdicts.{datagram_in, IsVerdict};
 ghost use Rattle.server_core.specs.Bounds.{endpoint};
 ghost use Rattle.server_core.specs.declared.server.ServerSettings.{ServerSettings};
@@ -39,9 +39,9 @@ fn endpoint(settings: &ServerSettings, side: Side) -> Ep
 }
 
 /// Whether an endpoint is one of the server's two.
-#[tactic(auto, unfolding(crate::specs::Datagrams::is_server))]
-fn is_server(settings: &ServerSettings, ep: Ep) -> bool
-    ensures { result ≡ is_server settings.now ep }
+#[tactic(auto, unfolding(crate::specs::Datagrams::is_audited))]
+fn is_audited(settings: &ServerSettings, ep: Ep) -> bool
+    ensures { result ≡ is_audited settings.now ep }
 {
     if ep == endpoint(settings, Side::Primary) {
         return true;
@@ -69,7 +69,7 @@ fn use_if_from(
 ) -> Result<bool, NoMemory>
     ensures { IfOk result (IsCovered settings.now licences.old licences.new (datagram src dst body.now)) }
 {
-    if !is_server(settings, src) {
+    if !is_audited(settings, src) {
         return Ok(true);
     }
     licences.use_up(src, dst, body)
@@ -93,7 +93,7 @@ fn reply_to(
 ) -> Option<Reply>
     ensures { Replies settings.now result out.new (output settings.now (Some (datagram src dst body.now))) }
 {
-    if !is_server(settings, dst) {
+    if !is_audited(settings, dst) {
         return None;
     }
     let server = Server::new(settings.primary, settings.secondary, settings.policy);
@@ -116,7 +116,7 @@ fn license_reply(
     dst: Ep,
     body: &[u8],
 ) -> Result<(), NoMemory>
-    ensures { OnOk result (HasRoom settings.now licences.old → Licenses licences.old licences.new (output settings.now (Some (datagram src dst body.now)))) }
+    ensures { OnOk result (HasGrantRoom settings.now licences.old → Licenses licences.old licences.new (output settings.now (Some (datagram src dst body.now)))) }
 {
     let mut out = [0; DATAGRAM_MAX];
     let Some(reply) = reply_to(settings, src, dst, body, &mut out) else {
@@ -164,8 +164,8 @@ impl Judge {
             return Ok(());
         }
         license_reply(&self.settings, &mut self.licences, src, dst, body)?;
-        let to = is_server(&self.settings, dst);
-        let from = is_server(&self.settings, src);
+        let to = is_audited(&self.settings, dst);
+        let from = is_audited(&self.settings, src);
         self.counts = self.counts.with(to, from);
         Ok(())
     }

@@ -1,7 +1,7 @@
 //! What earlier datagrams license.
 ghost use Rattle.std.specs.Prelude.{◌≡◌, ◌+◌, ◌<◌, ◌^◌, ◌++◌, ℕ, OnOk, IfOk};
 ghost use Rattle.td_audit.specs.Datagrams.{datagram};
-ghost use Rattle.td_audit.specs.Left.{key_bytes, HasKey, left, IsEmptied, Grants, Uses};
+ghost use Rattle.td_audit.specs.Left.{key_bytes, HasKey, licences_left, IsEmptied, Grants, Uses};
 
 use std::alloc::{AllocError, Global};
 use std::collections::BTreeMap;
@@ -42,7 +42,7 @@ impl Licences {
 
     /// Licenses a datagram once more.
     pub(crate) fn grant(&mut self, src: Ep, dst: Ep, body: &[u8]) -> Result<(), NoMemory>
-        ensures more { OnOk result (left self.old (datagram src dst body.now) + 1 < 2 ^ 64 → Grants self.old self.new (datagram src dst body.now)) }
+        ensures more { OnOk result (licences_left self.old (datagram src dst body.now) + 1 < 2 ^ 64 → Grants self.old self.new (datagram src dst body.now)) }
         ensures fits { HasKey (datagram src dst body.now) }
     {
         let key = key_of(self.alloc, src, dst, body)?;

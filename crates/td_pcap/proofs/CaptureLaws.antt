@@ -7,7 +7,7 @@ use Rattle.td_pcap.specs.declared.fault.CapFault.{CapFault}
 use Rattle.td_pcap.specs.Heads.{BeginsWithHead, head_bytes, file_head}
 use Rattle.td_pcap.specs.Records.{Captured, IsCaptured, IsRecordFault, record_bytes, next_record}
 use Rattle.td_pcap.specs.Captures.{records_bytes, capture_bytes, CaptureBytes, IsFaultBehindRecords, IsCaptureFault, of_head, of_record}
-use Rattle.td_pcap.specs.Laws.{AreSame}
+use Rattle.td_pcap.specs.Laws.{AreOneCapture}
 use Rattle.td_pcap.proofs.HeadLaws.{head_len, head_is, head_read, begins_shown, no_head_fault}
 use Rattle.td_pcap.proofs.RecordLaws.{record_len, record_read, pair_is, no_record_fault, fault_inside}
 
@@ -42,7 +42,7 @@ one_list little (r ∷ rs) (q ∷ qs) rs_fit qs_fit same =
 one_head : (h g : Head) (x : List ℕ) → BeginsWithHead h x → BeginsWithHead g x → h ≡ g
 one_head h g x a b = head_is h g (sym (head_read h x a) ∙ head_read g x b)
 
-pub one_capture : (h g : Head) (rs qs : List Captured) (x : List ℕ) → CaptureBytes h rs x → CaptureBytes g qs x → AreSame h g rs qs
+pub one_capture : (h g : Head) (rs qs : List Captured) (x : List ℕ) → CaptureBytes h rs x → CaptureBytes g qs x → AreOneCapture h g rs qs
 one_capture h g rs qs x a b =
     let head = one_head h g x (begins h rs x a) (begins g qs x b) in
     let little : h.little ≡ g.little = ap (λ (k : Head). k.little) head in

@@ -9,7 +9,7 @@ use Rattle.td_base.proofs.ResultLaws.{guard_ok, guard_err, chosen}
 use Rattle.td_pcap.specs.declared.fault.CapFault.{CapFault}
 use Rattle.td_pcap.specs.declared.fault.CapFault.TheVariants.{Cut, Magic, Version, Link, Big}
 use Rattle.td_pcap.specs.Orders.{ordered_bytes, ordered_number}
-use Rattle.td_pcap.specs.Records.{Captured, IsCaptured, StandsAt, IsRecordFault, record_bytes, record_of, kept_said, next_record}
+use Rattle.td_pcap.specs.Records.{Captured, IsCaptured, StandsAt, IsRecordFault, record_bytes, captured_at, kept_said, next_record}
 use Rattle.td_pcap.proofs.OrderLaws.{length-ordered_bytes, ordered_number-lt, number_in_front, more_behind, stands_4}
 
 abbrev pub Step : Type 0
@@ -38,11 +38,11 @@ same_record a b sec frac orig bytes =
 -- what a record that stands at a place shows
 pub record Shown (little : Bool) (at : ℕ) (x : List ℕ) (r : Captured) : Type 0 where
   pub kept : kept_said little at x ≡ length r.bytes
-  pub record_is : record_of little at (length r.bytes) x ≡ r
+  pub record_is : captured_at little at (length r.bytes) x ≡ r
   pub long : at + 16 + length r.bytes ≤ length x
 
 pub shown : (little : Bool) (at : ℕ) (x rest : List ℕ) (r : Captured) → IsCaptured r → at ≤ length x → drop at x ≡ record_bytes little r ++ rest → Shown little at x r
-unfolding record_bytes record_of
+unfolding record_bytes captured_at
 shown little at x rest r fits inside is =
     let n = length r.bytes in
     let whole : length (drop at x) ≡ 16 + n + length rest = ap length is ∙ length-append (record_bytes little r) rest ∙ ap (λ (k : ℕ). k + length rest) (record_len little r) in
@@ -58,15 +58,15 @@ shown little at x rest r fits inside is =
     let kept = number_in_front little (at + 8) 4 n x d rest (omega (arith, fits.kept)) third in
     let orig = number_in_front little (at + 12) 4 r.orig x r.bytes rest fits.orig fourth in
     let bytes : take n (drop (at + 16) x) ≡ r.bytes = ap (take n) last ∙ take_at r.bytes rest n refl in
-    record { kept = kept; record_is = same_record (record_of little at n x) r sec frac orig bytes; long = omega (arith, whole, length-drop at x) }
+    record { kept = kept; record_is = same_record (captured_at little at n x) r sec frac orig bytes; long = omega (arith, whole, length-drop at x) }
 
 grouped : (a b c d e rest : List ℕ) → a ++ (b ++ (c ++ (d ++ (e ++ rest)))) ≡ (a ++ (b ++ (c ++ (d ++ e)))) ++ rest
 grouped a b c d e rest =
     sym (append_assoc a (b ++ (c ++ (d ++ e))) rest ∙ ap (λ (t : List ℕ). a ++ t) (append_assoc b (c ++ (d ++ e)) rest ∙ ap (λ (t : List ℕ). b ++ t) (append_assoc c (d ++ e) rest ∙ ap (λ (t : List ℕ). c ++ t) (append_assoc d e rest))))
 
 -- what is read at a place stands there
-spelled : (little : Bool) (at : ℕ) (x : List ℕ) → IsBytes x → at + 16 + kept_said little at x ≤ length x → drop at x ≡ record_bytes little (record_of little at (kept_said little at x) x) ++ drop (at + 16 + kept_said little at x) x
-unfolding record_bytes record_of
+spelled : (little : Bool) (at : ℕ) (x : List ℕ) → IsBytes x → at + 16 + kept_said little at x ≤ length x → drop at x ≡ record_bytes little (captured_at little at (kept_said little at x) x) ++ drop (at + 16 + kept_said little at x) x
+unfolding record_bytes captured_at
 spelled little at x fits long =
     let n = kept_said little at x in
     let bytes : List ℕ = take n (drop (at + 16) x) in
@@ -81,11 +81,11 @@ spelled little at x fits long =
     a ∙ ap (λ (t : List ℕ). four at ++ t) (b ∙ ap (λ (t : List ℕ). four (at + 4) ++ t) (c ∙ ap (λ (t : List ℕ). said ++ t) (d ∙ ap (λ (t : List ℕ). four (at + 12) ++ t) e)))
     ∙ grouped (four at) (four (at + 4)) said (four (at + 12)) bytes (drop (at + 16 + n) x)
 
-pub stands : (little : Bool) (at : ℕ) (x : List ℕ) → IsBytes x → at + 16 + kept_said little at x ≤ length x → kept_said little at x ≤ 65535 → StandsAt little (record_of little at (kept_said little at x) x) at (at + 16 + kept_said little at x) x
-unfolding record_of
+pub stands : (little : Bool) (at : ℕ) (x : List ℕ) → IsBytes x → at + 16 + kept_said little at x ≤ length x → kept_said little at x ≤ 65535 → StandsAt little (captured_at little at (kept_said little at x) x) at (at + 16 + kept_said little at x) x
+unfolding captured_at
 stands little at x fits long small =
     let n = kept_said little at x in
-    let r = record_of little at n x in
+    let r = captured_at little at n x in
     let kept : length r.bytes ≡ n = omega (arith, length-take n (drop (at + 16) x), length-drop (at + 16) x) in
     record {
       fits = record { sec = ordered_number-lt little at 4 x fits; frac = ordered_number-lt little (at + 4) 4 x fits; orig = ordered_number-lt little (at + 12) 4 x fits; kept = omega (arith, kept) };
@@ -105,7 +105,7 @@ pair_is a b e = cc
 
 -- the three tests behind the end's
 abbrev fourth : Bool → ℕ → List ℕ → Result Step CapFault
-fourth little at x = cond (ltb (length x) (at + 16 + kept_said little at x)) (Err (Cut at)) (step (Some (record_of little at (kept_said little at x) x, at + 16 + kept_said little at x)))
+fourth little at x = cond (ltb (length x) (at + 16 + kept_said little at x)) (Err (Cut at)) (step (Some (captured_at little at (kept_said little at x) x, at + 16 + kept_said little at x)))
 
 abbrev third : Bool → ℕ → List ℕ → Result Step CapFault
 third little at x = cond (ltb 65535 (kept_said little at x)) (Err (Big at (kept_said little at x))) (fourth little at x)
@@ -121,8 +121,8 @@ record_found little at end x r fits read =
       | inr some ↦
           let a = guard_ok (ltb (length x) (at + 16)) (Cut at) (third little at x) (Some (r, end)) some.1 in
           let b = guard_ok (ltb 65535 (kept_said little at x)) (Big at (kept_said little at x)) (fourth little at x) (Some (r, end)) a.1 in
-          let c = guard_ok (ltb (length x) (at + 16 + kept_said little at x)) (Cut at) (step (Some (record_of little at (kept_said little at x) x, at + 16 + kept_said little at x))) (Some (r, end)) b.1 in
-          let is = pair_is (record_of little at (kept_said little at x) x, at + 16 + kept_said little at x) (r, end) c.1 in
+          let c = guard_ok (ltb (length x) (at + 16 + kept_said little at x)) (Cut at) (step (Some (captured_at little at (kept_said little at x) x, at + 16 + kept_said little at x))) (Some (r, end)) b.1 in
+          let is = pair_is (captured_at little at (kept_said little at x) x, at + 16 + kept_said little at x) (r, end) c.1 in
           subst (λ (p : Captured × ℕ). StandsAt little p.0 at p.1 x) is (stands little at x fits (ltb-false _ _ c.0) (ltb-false _ _ b.0))
     ]
 
@@ -134,7 +134,7 @@ nothing_found little at x read =
       | inr some ↦
           let a = guard_ok (ltb (length x) (at + 16)) (Cut at) (third little at x) None some.1 in
           let b = guard_ok (ltb 65535 (kept_said little at x)) (Big at (kept_said little at x)) (fourth little at x) None a.1 in
-          let c = guard_ok (ltb (length x) (at + 16 + kept_said little at x)) (Cut at) (step (Some (record_of little at (kept_said little at x) x, at + 16 + kept_said little at x))) None b.1 in
+          let c = guard_ok (ltb (length x) (at + 16 + kept_said little at x)) (Cut at) (step (Some (captured_at little at (kept_said little at x) x, at + 16 + kept_said little at x))) None b.1 in
           absurd cc
     ]
 
@@ -155,7 +155,7 @@ record_read little at end x rest r fits inside is ends =
     let fit : ltb 65535 (kept_said little at x) ≡ false = le-ltb _ _ (omega (arith, kept, small)) in
     let body : ltb (length x) (at + 16 + kept_said little at x) ≡ false = le-ltb _ _ (omega (arith, kept, long)) in
     let end_is : at + 16 + length r.bytes ≡ end = omega (arith, ends, record_len little r) in
-    let record_is : record_of little at (kept_said little at x) x ≡ r = ap (λ (k : ℕ). record_of little at k x) kept ∙ s.record_is in
+    let record_is : captured_at little at (kept_said little at x) x ≡ r = ap (λ (k : ℕ). captured_at little at k x) kept ∙ s.record_is in
     cond-false _ _ _ some ∙ cond-false _ _ _ head ∙ cond-false _ _ _ fit ∙ cond-false _ _ _ body
     ∙ ap (λ (q : Captured). step (Some (q, at + 16 + kept_said little at x))) record_is
     ∙ ap (λ (k : ℕ). step (Some (r, k))) (ap (λ (k : ℕ). at + 16 + k) kept ∙ end_is)
@@ -182,7 +182,7 @@ record_fault little at x e read =
                 elim (guard_err (ltb 65535 n) (Big at n) (fourth little at x) e a.1) [
                   | inl big ↦ subst fault big.1 (refl, long, refl, ltb-true _ _ big.0)
                   | inr b ↦
-                      elim (guard_err (ltb (length x) (at + 16 + n)) (Cut at) (step (Some (record_of little at n x, at + 16 + n))) e b.1) [
+                      elim (guard_err (ltb (length x) (at + 16 + n)) (Cut at) (step (Some (captured_at little at n x, at + 16 + n))) e b.1) [
                         | inl cut_body ↦ subst fault cut_body.1 (refl, left, inr (long, ltb-false _ _ b.0, ltb-true _ _ cut_body.0))
                         | inr done ↦ absurd cc
                       ]

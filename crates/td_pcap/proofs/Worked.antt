@@ -4,7 +4,7 @@ use Rattle.td_pcap.specs.declared.head.Head.{Head}
 use Rattle.td_pcap.specs.declared.head.TheConstants.{MAGIC_MICRO, MAGIC_NANO}
 use Rattle.td_pcap.specs.declared.fault.CapFault.TheVariants.{Cut, Link, Big}
 use Rattle.td_pcap.specs.Heads.{magic_of, head_bytes, form_shown, head_of, head_behind, file_head}
-use Rattle.td_pcap.specs.Records.{Captured, record_bytes, record_of, next_record}
+use Rattle.td_pcap.specs.Records.{Captured, record_bytes, captured_at, next_record}
 
 -- a head in network order with microseconds, and one of lowest bytes first with nanoseconds
 abbrev pub network : List ℕ
@@ -47,7 +47,7 @@ unfolding record_bytes
 record_is_spelled = refl
 
 pub record_is_read : next_record true 0 (record_bytes true two_bytes) ≡ Ok (Some (two_bytes, 18))
-unfolding next_record record_bytes record_of
+unfolding next_record record_bytes captured_at
 record_is_read = refl
 
 pub nothing_at_the_end : next_record true 18 (record_bytes true two_bytes) ≡ Ok None

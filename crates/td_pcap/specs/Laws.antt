@@ -20,12 +20,12 @@ RecordReadsBack = (little : Bool) (r : Captured) (front rest : List ℕ) → IsC
     → next_record little (length front) (front ++ (record_bytes little r ++ rest)) ≡ Ok (Some (r, length front + length (record_bytes little r)))
 
 -- bytes are one capture at most
-pub record AreSame (h g : Head) (rs qs : List Captured) : Type 0 where
+pub record AreOneCapture (h g : Head) (rs qs : List Captured) : Type 0 where
   pub head : h ≡ g
   pub records : rs ≡ qs
 
 abbrev pub CaptureIsOne : Type 0
-CaptureIsOne = (h g : Head) (rs qs : List Captured) (x : List ℕ) → CaptureBytes h rs x → CaptureBytes g qs x → AreSame h g rs qs
+CaptureIsOne = (h g : Head) (rs qs : List Captured) (x : List ℕ) → CaptureBytes h rs x → CaptureBytes g qs x → AreOneCapture h g rs qs
 
 -- a capture has no fault
 abbrev pub CaptureHasNoFault : Type 0

@@ -54,8 +54,8 @@ IsRecordFault little place (Version major minor) x = ⊥
 IsRecordFault little place (Link said) x = ⊥
 
 -- what stands at the places of a record of so many bytes
-unfoldable pub record_of : Bool → ℕ → ℕ → List ℕ → Captured
-record_of little at kept x = record {
+unfoldable pub captured_at : Bool → ℕ → ℕ → List ℕ → Captured
+captured_at little at kept x = record {
   sec = ordered_number little at 4 x;
   frac = ordered_number little (at + 4) 4 x;
   orig = ordered_number little (at + 12) 4 x;
@@ -70,8 +70,8 @@ next_record little at x =
     else if nat_lt (length x) (at + REC_HEAD) then Err (Cut at)
     else if nat_lt KEPT_MAX kept then Err (Big at kept)
     else if nat_lt (length x) (at + REC_HEAD + kept) then Err (Cut at)
-    else Ok (Some (record_of little at kept x, at + REC_HEAD + kept))
+    else Ok (Some (captured_at little at kept x, at + REC_HEAD + kept))
 
 -- what a reader of the code answers, without where it lies in memory
-abbrev pub step_of : Option (Rec × ℕ) → Option (Captured × ℕ)
-step_of step = option_map (λ s. (captured s.0, s.1)) step
+abbrev pub step_view : Option (Rec × ℕ) → Option (Captured × ℕ)
+step_view step = option_map (λ s. (captured s.0, s.1)) step

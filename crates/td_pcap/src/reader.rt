@@ -3,7 +3,7 @@ ghost use Rattle.std.specs.Prelude.{◌≡◌, ◌+◌, ◌≤◌, ◌<◌, ◌+
 ghost use Rattle.td_base.specs.Results.{Gives};
 ghost use Rattle.td_pcap.specs.declared.head.Head.{Head};
 ghost use Rattle.td_pcap.specs.Heads.{IsHead, BeginsWithHead, head_bytes, IsHeadFault, form_shown, head_behind, head_of, file_head};
-ghost use Rattle.td_pcap.specs.Records.{Captured, captured, IsCaptured, StandsAt, record_bytes, IsRecordFault, record_of, kept_said, next_record, step_of};
+ghost use Rattle.td_pcap.specs.Records.{Captured, captured, IsCaptured, StandsAt, record_bytes, IsRecordFault, captured_at, kept_said, next_record, step_view};
 
 use crate::fault::CapFault;
 use crate::head::{
@@ -108,7 +108,7 @@ pub fn next<'a>(
     // What is read stands there.
     ensures found { IfOk result (λ step. IfSome step (λ s. StandsAt head.now.little (captured s.0) at s.1 bytes.now)) }
     // What stands there is read.
-    ensures only { (r : Captured) (end : ℕ) → StandsAt head.now.little r at end bytes.now → Gives step_of result (Ok (Some (r, end))) }
+    ensures only { (r : Captured) (end : ℕ) → StandsAt head.now.little r at end bytes.now → Gives step_view result (Ok (Some (r, end))) }
     // Nothing is left at the end, and only there.
     ensures end { (result ≡ Ok None) ↔ (at ≡ length bytes.now) }
     // A fault is the first one.
@@ -116,17 +116,17 @@ pub fn next<'a>(
     // The place goes on, and stays within the bytes.
     ensures further { IfOk result (λ step. IfSome step (λ s. (at < s.1) × (s.1 ≤ length bytes.now))) }
     // The same as one function of the bytes.
-    ensures exact { Gives step_of result (next_record head.now.little at bytes.now) }
+    ensures exact { Gives step_view result (next_record head.now.little at bytes.now) }
 {
     record_at(head.little, bytes, at)
 }
 
 #[inline(always)]
-#[tactic(auto, unfolding(crate::specs::Records::next_record, crate::specs::Records::record_of))]
+#[tactic(auto, unfolding(crate::specs::Records::next_record, crate::specs::Records::captured_at))]
 fn record_at(little: bool, bytes: &[u8], at: usize) -> Result<Option<(Rec<'_>, usize)>, CapFault>
     requires { at ≤ length bytes.now }
     ensures further { IfOk result (λ step. IfSome step (λ s. (at < s.1) × (s.1 ≤ length bytes.now))) }
-    ensures exact { Gives step_of result (next_record little at bytes.now) }
+    ensures exact { Gives step_view result (next_record little at bytes.now) }
 {
     let left = bytes.len() - at;
     if left == 0 {
@@ -149,10 +149,10 @@ fn record_at(little: bool, bytes: &[u8], at: usize) -> Result<Option<(Rec<'_>, u
 
 /// The record at a place, which has so many bytes, and the place behind it.
 #[inline(always)]
-#[tactic(auto, unfolding(crate::specs::Records::record_of))]
+#[tactic(auto, unfolding(crate::specs::Records::captured_at))]
 fn record_of(little: bool, bytes: &[u8], at: usize, kept: usize) -> (Rec<'_>, usize)
     requires { at + REC_HEAD + kept ≤ length bytes.now }
-    ensures record { captured result.0 ≡ record_of little at kept bytes.now }
+    ensures record { captured result.0 ≡ captured_at little at kept bytes.now }
     ensures end { result.1 ≡ at + REC_HEAD + kept }
 {
     let from = at + REC_HEAD;

@@ -4,13 +4,13 @@ use Rattle.server_core.specs.Server.{server_row}
 use Rattle.td_base.specs.declared.endpoint.Ep.{Ep}
 use Rattle.teredo_node.specs.declared.fate.Fate.TheVariants as fate
 use Rattle.teredo_node.specs.Step.{Step, just}
-use Rattle.td_audit.specs.Datagrams.{datagram, is_server}
+use Rattle.td_audit.specs.Datagrams.{datagram, is_audited}
 use Rattle.td_audit.proofs.ReplyLaws.{no_reply, one_reply, not_for_server, own_endpoint}
 use Rattle.td_audit.proofs.judge.reply_to.Goals as goal
 
-pub returns-then-not-is_server : goal.returns-then-not-is_server
-returns-then-not-is_server c =
-    not_for_server c.args.settings.now (datagram c.args.src c.args.dst c.args.body.now) (sym c.is_server.ensures ∙ c.if-not-is_server.true)
+pub returns-then-not-is_audited : goal.returns-then-not-is_audited
+returns-then-not-is_audited c =
+    not_for_server c.args.settings.now (datagram c.args.src c.args.dst c.args.body.now) (sym c.is_audited.ensures ∙ c.if-not-is_audited.true)
 
 pub returns-in-Drop : goal.returns-in-Drop
 returns-in-Drop c =
@@ -31,5 +31,5 @@ returns-in-Send c =
     let s = c.args.settings.now in
     let row = ap (λ (t : ServerSettings). server_row t c.side_with.result d.src d.body) (sym c.new-server.ensures) ∙ c.in-Send.ensures.row.0 in
     let bytes : List ℕ = take c.in-Send.len c.answer.new.out in
-    let sent = one_reply s c.side_with.result c.in-Send.side d c.in-Send.fate c.in-Send.to bytes (sym c.is_server.ensures ∙ c.if-not-is_server.false) c.side_with.ensures row in
-    (sent ∙ ap (λ (x : Ep). Some (datagram x c.in-Send.to bytes)) (sym c.endpoint.ensures), c.in-Send.ensures.row.1, ap (is_server s) c.endpoint.ensures ∙ own_endpoint s c.in-Send.side)
+    let sent = one_reply s c.side_with.result c.in-Send.side d c.in-Send.fate c.in-Send.to bytes (sym c.is_audited.ensures ∙ c.if-not-is_audited.false) c.side_with.ensures row in
+    (sent ∙ ap (λ (x : Ep). Some (datagram x c.in-Send.to bytes)) (sym c.endpoint.ensures), c.in-Send.ensures.row.1, ap (is_audited s) c.endpoint.ensures ∙ own_endpoint s c.in-Send.side)

@@ -1,6 +1,6 @@
 use Rattle.std.proofs.Common.{◌≡◌, Bool, [], ◌∷◌, ◌++◌, Some, subst, sym, ap, ◌∙◌, arith}
 use Rattle.td_audit.specs.declared.counts.Counts.{Counts}
-use Rattle.td_audit.specs.Datagrams.{datagram, is_server}
+use Rattle.td_audit.specs.Datagrams.{datagram, is_audited}
 use Rattle.td_audit.specs.Left.{HasKey}
 use Rattle.td_audit.specs.Counting.{with_record}
 use Rattle.td_audit.specs.Judging.{IsCovered, Runs}
@@ -23,8 +23,8 @@ returns c = λ s places small st.
     let covered = subst (λ (b : Bool). IsCovered j.settings j.licences c.use_if_from.new.licences d b) c.if-not-branch.false c.in_ok-use_if_from.ensures in
     let runs = judged_on s j c.use_if_from.new.licences c.license_reply.new.licences places d fits small c.requires covered c.in_ok-license_reply.ensures st in
     let more = places ++ Some d ∷ [] in
-    let to = is_server j.settings d.dst in
-    let counts_are : c.with-self.result ≡ with_record j.counts to (is_server j.settings d.src) =
-    c.with-self.ensures ∙ ap (λ (b : Bool). with_record j.counts b c.is_server-from.result) c.is_server-to.ensures ∙ ap (with_record j.counts to) c.is_server-from.ensures in
+    let to = is_audited j.settings d.dst in
+    let counts_are : c.with-self.result ≡ with_record j.counts to (is_audited j.settings d.src) =
+    c.with-self.ensures ∙ ap (λ (b : Bool). with_record j.counts b c.is_audited-from.result) c.is_audited-to.ensures ∙ ap (with_record j.counts to) c.is_audited-from.ensures in
     let known = subst (λ (k : Counts). Runs s c.license_reply.new.licences k more) (sym counts_are) runs in
     record { settings_are = st.settings_are; state = runs_on s c.license_reply.new.licences c.with-self.result more j.unlicensed c.requires known }

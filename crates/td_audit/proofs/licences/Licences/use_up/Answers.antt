@@ -2,7 +2,7 @@ use Rattle.std.proofs.Common.{◌≡◌, ℕ, ◌-◌, List, Option, Some, None,
 use Rattle.std.specs.Prelude.{unwrap_or}
 use Rattle.std.specs.Global.{Vec}
 use Rattle.td_audit.specs.Datagrams.{datagram}
-use Rattle.td_audit.specs.Left.{key_bytes, HasKey, left, left_at}
+use Rattle.td_audit.specs.Left.{key_bytes, HasKey, licences_left, left_at}
 use Rattle.td_audit.proofs.LeftLaws.{Changes, count_used}
 use Rattle.td_audit.proofs.licences.Licences.use_up.Goals as goal
 
@@ -12,7 +12,7 @@ returns-then-left-eq1-clause-used c =
     let d_fits : HasKey d = record { src_ip = omega arith; src_port = omega arith; dst_ip = omega arith; dst_port = omega arith } in
     let m = c.args.self.now.left in
     let n = c.remove.new.self in
-    let had : c.unwrap_or-left.result ≡ left c.args.self.now d =
+    let had : c.unwrap_or-left.result ≡ licences_left c.args.self.now d =
     c.unwrap_or-left.ensures ∙ ap (λ (o : Option ℕ). unwrap_or o 0) (c.copied.ensures ∙ c.get.ensures.value) ∙ ap (left_at c.args.self.now) (c.as_slice.ensures.value ∙ c.in_ok-key.ensures) in
     let changes : Changes (λ (k : Vec ℕ). k.items) m n (key_bytes d) None =
     subst (λ (k : List ℕ). Changes (λ (k : Vec ℕ). k.items) m n k None) (c.as_slice-then-left-eq1.ensures.value ∙ c.in_ok-key.ensures) c.remove.ensures.updates in
@@ -24,7 +24,7 @@ returns-clause-used c =
     let d_fits : HasKey d = record { src_ip = omega arith; src_port = omega arith; dst_ip = omega arith; dst_port = omega arith } in
     let m = c.args.self.now.left in
     let n = c.insert.new.self in
-    let had : c.unwrap_or-left.result ≡ left c.args.self.now d =
+    let had : c.unwrap_or-left.result ≡ licences_left c.args.self.now d =
     c.unwrap_or-left.ensures ∙ ap (λ (o : Option ℕ). unwrap_or o 0) (c.copied.ensures ∙ c.get.ensures.value) ∙ ap (left_at c.args.self.now) (c.as_slice.ensures.value ∙ c.in_ok-key.ensures) in
     let less = c.unwrap_or-left.result - 1 in
     let changes : Changes (λ (k : Vec ℕ). k.items) m n (key_bytes d) (Some less) = subst (λ (k : List ℕ). Changes (λ (k : Vec ℕ). k.items) m n k (Some less)) c.in_ok-key.ensures c.in_ok-insert.ensures.updates in
