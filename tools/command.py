@@ -12,7 +12,7 @@ import tempfile
 TOP = os.path.dirname(os.path.dirname(os.path.abspath(__file__)))
 PROGRAM = os.path.join(TOP, 'teredo')  # which builds the program where it has to
 FOUND, WRONG_WORDS, UNREADABLE = 1, 2, 4
-MINUTES_MAX = 60  # that a run may take, with a build before it
+SECONDS_MAX = 60  # that a run of the built program may take
 
 
 class Refusal(Exception):
@@ -59,13 +59,14 @@ def write(path, text):
 def play_file(program, path):
     """The status of `lab PATH`, and what it wrote."""
     try:
+        is_built = program != PROGRAM  # else it may be built first, and what that says is shown
         played = subprocess.run([program, 'lab', path], stdin=subprocess.DEVNULL, stdout=subprocess.PIPE,
-                                stderr=subprocess.DEVNULL if program != PROGRAM else None,
-                                env={**os.environ, 'TEREDO_QUIET': '1'}, timeout=MINUTES_MAX * 60)
+                                stderr=subprocess.DEVNULL if is_built else None, env={**os.environ, 'TEREDO_QUIET': '1'},
+                                timeout=SECONDS_MAX if is_built else None)
     except OSError as fault:
         raise Refusal(f'{program}: {fault.strerror}', UNREADABLE) from None
     except subprocess.TimeoutExpired:
-        raise Refusal(f'{path}: no end within {MINUTES_MAX} minutes') from None
+        raise Refusal(f'{path}: no end within {SECONDS_MAX} s') from None
     if played.returncode == 125:
         raise Refusal('there is no program to play with', 125)
     return played.returncode, played.stdout.decode('utf-8', 'replace')
