@@ -35,15 +35,13 @@ impl<'a> OneArrival<'a> {
 }
 
 impl<'a> Link for OneArrival<'a> {
-    ghost addresses = { λ l. l.on };
-
-    ghost openings = { λ l. None };
-
-    ghost told = { told_of };
-
-    ghost recv_faults = { λ l. 0 };
-
-    ghost send_faults = { λ l. 0 };
+    ghost state = { λ l. record {
+      addresses = l.on;
+      openings = None;
+      told = told_of l;
+      recv_faults = 0;
+      send_faults = 0;
+    } };
 
     fn open(&mut self, primary: Ip4, secondary: Ip4) -> Result<(), Failed> {
         self.on = Some(Addresses { primary, secondary });

@@ -57,15 +57,7 @@ fn taken_with(taken: Option<u64>, count: usize) -> Option<u64>
 }
 
 impl<S: Source + Drop> Source for Recorder<S, Octets> {
-    ghost stands_for = { λ s. S.stands_for s.over };
-
-    ghost left = { λ s. S.left s.over };
-
-    ghost openings = { λ s. option_map (λ v. v.items) s.asked };
-
-    ghost taken = { λ s. s.taken };
-
-    ghost faults = { λ s. S.faults s.over };
+    ghost state = { λ s. record (S.state s.over) { openings = option_map (λ v. v.items) s.asked; taken = s.taken } };
 
     fn open(&mut self, name: &str) -> Result<(), Failed> {
         self.asked = told_with_bytes(self.alloc, self.asked.take(), name.as_bytes());
@@ -80,11 +72,7 @@ impl<S: Source + Drop> Source for Recorder<S, Octets> {
 }
 
 impl<K: Sink + Drop> Sink for Recorder<K, Octets> {
-    ghost holds = { λ s. K.holds s.over };
-
-    ghost pieces = { λ s. option_map (λ v. v.items) s.asked };
-
-    ghost faults = { λ s. K.faults s.over };
+    ghost state = { λ s. record (K.state s.over) { pieces = option_map (λ v. v.items) s.asked } };
 
     fn write(&mut self, piece: &[u8]) -> Result<usize, Failed> {
         self.asked = told_with_bytes(self.alloc, self.asked.take(), piece);
@@ -93,15 +81,7 @@ impl<K: Sink + Drop> Sink for Recorder<K, Octets> {
 }
 
 impl<L: Link + Drop> Link for Recorder<L, Addresses> {
-    ghost addresses = { λ s. L.addresses s.over };
-
-    ghost openings = { λ s. option_map (λ v. v.items) s.asked };
-
-    ghost told = { λ s. L.told s.over };
-
-    ghost recv_faults = { λ s. L.recv_faults s.over };
-
-    ghost send_faults = { λ s. L.send_faults s.over };
+    ghost state = { λ s. record (L.state s.over) { openings = option_map (λ v. v.items) s.asked } };
 
     fn open(&mut self, primary: Ip4, secondary: Ip4) -> Result<(), Failed> {
         self.asked = told_with(self.asked.take(), Addresses { primary, secondary });

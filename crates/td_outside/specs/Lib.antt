@@ -1,10 +1,13 @@
 pub mod Calls
 pub mod Causes
+pub mod Clock
 pub mod FileSource
 pub mod Link
 pub mod MemLink
 pub mod MoveLaws
 pub mod Moves
+pub mod Sink
+pub mod Source
 pub mod Streams
 pub mod TestClock
 pub mod UdpPair

@@ -30,6 +30,14 @@ pub record Told : Type 0 where
   pub taken : Option (List Came)
   pub attempts : Option (List Attempt)
 
+-- the state of a link, as far as its callers see it
+pub record LinkState : Type 0 where
+  pub addresses : Option Addresses  -- those that it is open on
+  pub openings : Option (List Addresses)  -- those that it was asked to open on, the oldest first, where it tells them
+  pub told : Told
+  pub recv_faults : ℕ  -- how often `open` or `recv` has failed; it stops at the end of u64
+  pub send_faults : ℕ  -- how often `send` has failed; it stops at the end of u64
+
 -- a link that tells none of its lists
 abbrev pub told_nothing : Told
 told_nothing = record { coming = None; taken = None; attempts = None }

@@ -1,5 +1,6 @@
 //! The time.
-ghost use Rattle.std.specs.Prelude.{◌≡◌, ◌≤◌, ◌<◌, ℕ};
+ghost use Rattle.std.specs.Prelude.{◌≡◌, ◌≤◌, ◌<◌};
+ghost use Rattle.td_outside.specs.Clock.{ClockState};
 
 use td_base::Millis;
 
@@ -8,12 +9,12 @@ pub const CLOCK_END_MS: u64 = 1 << 48;
 
 /// What gives the time since a start of its own.
 pub trait Clock {
-    /// The moment that it gave last, 0 before the first call.
-    ghost last: { Self → ℕ };
+    /// The moment that it gave last.
+    ghost state: { Self → ClockState };
 
     /// The present moment, never less than before.
     fn now(&mut self) -> Millis
-        ensures later { last self.old ≤ result.0 }
+        ensures later { (state self.old).last ≤ result.0 }
         ensures bound { result.0 < CLOCK_END_MS }
-        ensures given { last self.new ≡ result.0 };
+        ensures given { (state self.new).last ≡ result.0 };
 }

@@ -38,15 +38,7 @@ impl<'a, R: Files> FileSource<'a, R> {
 }
 
 impl<R: Files> Source for FileSource<'_, R> {
-    ghost stands_for = { λ s name. None };
-
-    ghost left = { λ s. None };
-
-    ghost openings = { λ s. None };
-
-    ghost taken = { λ s. None };
-
-    ghost faults = { λ s. s.faults };
+    ghost state = { λ s. record { stands_for = λ name. None; left = None; openings = None; taken = None; faults = s.faults } };
 
     fn open(&mut self, name: &str) -> Result<(), Failed>
         ensures cause { HasCause self.old.faults self.new.faults result }

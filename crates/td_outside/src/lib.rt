@@ -24,9 +24,9 @@
 //! |---|---|---|
 //! | | what a call does to what is told | `specs/Moves.antt`, with laws in `specs/MoveLaws.antt` |
 //! | `fails` | `Failed`, and which calls of a form in memory fail | `specs/Causes.antt`, `specs/Calls.antt` |
-//! | `source`, `sink` | `Source`, `Sink` | |
+//! | `source`, `sink` | `Source`, `Sink` | `specs/Source.antt`, `specs/Sink.antt` |
 //! | `link` | `Link`, its `Addresses` and its `Arrival` | `specs/Link.antt` |
-//! | `clock` | `Clock` | |
+//! | `clock` | `Clock` | `specs/Clock.antt` |
 //! | `mem_source`, `mem_sink` | `MemSource`, `MemSink` | `specs/Streams.antt` |
 //! | `mem_link`, `mem_arrival`, `mem_attempt` | `MemLink`, what it receives and what it keeps | `specs/MemLink.antt` |
 //! | `test_clock` | `TestClock` | `specs/TestClock.antt` |

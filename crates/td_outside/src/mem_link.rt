@@ -112,15 +112,13 @@ impl MemLink {
 }
 
 impl Link for MemLink {
-    ghost addresses = { λ s. s.addresses };
-
-    ghost openings = { λ s. None };
-
-    ghost told = { lists_of };
-
-    ghost recv_faults = { λ s. s.receives.faults };
-
-    ghost send_faults = { λ s. s.sends.faults };
+    ghost state = { λ s. record {
+      addresses = s.addresses;
+      openings = None;
+      told = lists_of s;
+      recv_faults = s.receives.faults;
+      send_faults = s.sends.faults;
+    } };
 
     fn open(&mut self, primary: Ip4, secondary: Ip4) -> Result<(), Failed>
         ensures opened { IsOk result }

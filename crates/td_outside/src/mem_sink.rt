@@ -49,11 +49,7 @@ impl MemSink {
 }
 
 impl Sink for MemSink {
-    ghost holds = { λ s. Some s.held };
-
-    ghost pieces = { λ s. None };
-
-    ghost faults = { λ s. s.calls.faults };
+    ghost state = { λ s. record { holds = Some s.held; pieces = None; faults = s.calls.faults } };
 
     fn write(&mut self, piece: &[u8]) -> Result<usize, Failed>
         ensures cause { HasCause self.old.calls.faults self.new.calls.faults result }

@@ -62,15 +62,13 @@ impl MemSource {
 }
 
 impl Source for MemSource {
-    ghost stands_for = { told_by };
-
-    ghost left = { λ s. Some s.left };
-
-    ghost openings = { λ s. None };
-
-    ghost taken = { λ s. None };
-
-    ghost faults = { λ s. s.calls.faults };
+    ghost state = { λ s. record {
+      stands_for = told_by s;
+      left = Some s.left;
+      openings = None;
+      taken = None;
+      faults = s.calls.faults;
+    } };
 
     fn open(&mut self, name: &str) -> Result<(), Failed>
         ensures cause { HasCause self.old.calls.faults self.new.calls.faults result }

@@ -1,47 +1,36 @@
 //! What is opened by a name and then read.
-ghost use Rattle.std.specs.Prelude.{◌≡◌, ◌≤◌, ◌<◌, ℕ, List, Option, length, IfOk, OnOk, OnErr, MatchResult};
+ghost use Rattle.std.specs.Prelude.{◌≡◌, ◌≤◌, ◌<◌, length, IfOk, OnOk, OnErr, MatchResult};
 ghost use Rattle.std.specs.Io.KnownBytes.{IsAtEnd, ReadConsumes};
 ghost use Rattle.td_outside.specs.Causes.{HasCause};
 ghost use Rattle.td_outside.specs.Moves.{Stays, Gains, RisesBy};
+ghost use Rattle.td_outside.specs.Source.{SourceState};
 
 use crate::Failed;
 
 /// Something that is opened by a name and then read. Before the first `open`, and after one that failed, a read
 /// gives nothing.
 pub trait Source {
-    /// The bytes that a name stands for, where the source tells them.
-    ghost stands_for: { Self → List ℕ → Option (List ℕ) };
-
-    /// The bytes that are left of what is open, where the source tells them.
-    ghost left: { Self → Option (List ℕ) };
-
-    /// The names that it was asked to open, the oldest first, where the source tells them.
-    ghost openings: { Self → Option (List (List ℕ)) };
-
-    /// How many bytes its reads gave in all, where the source tells it.
-    ghost taken: { Self → Option ℕ };
-
-    /// How often a call has failed. It stops at the end of `u64`.
-    ghost faults: { Self → ℕ };
+    /// What it tells, and its count of faults.
+    ghost state: { Self → SourceState };
 
     /// Begins to read the named thing.
     fn open(&mut self, name: &str) -> Result<(), Failed>
-        ensures opened { OnOk result (left self.new ≡ stands_for self.old name.now) }
-        ensures shut { OnErr result (IsAtEnd (left self.new)) }
-        ensures names { stands_for self.new ≡ stands_for self.old }
-        ensures asked { Gains (openings self.old) (openings self.new) name.now }
-        ensures count { Stays (taken self.old) (taken self.new) }
-        ensures cause { HasCause (faults self.old) (faults self.new) result };
+        ensures opened { OnOk result ((state self.new).left ≡ (state self.old).stands_for name.now) }
+        ensures shut { OnErr result (IsAtEnd (state self.new).left) }
+        ensures names { (state self.new).stands_for ≡ (state self.old).stands_for }
+        ensures asked { Gains (state self.old).openings (state self.new).openings name.now }
+        ensures count { Stays (state self.old).taken (state self.new).taken }
+        ensures cause { HasCause (state self.old).faults (state self.new).faults result };
 
     /// Reads the next bytes, none only at the end.
     fn read(&mut self, buf: &mut [u8]) -> Result<usize, Failed>
         requires { 0 < length buf.old }
         ensures bound { IfOk result (λ n. n ≤ length buf.new) }
-        ensures bytes { ReadConsumes (left self.old) (left self.new) result buf.new }
-        ensures names { stands_for self.new ≡ stands_for self.old }
-        ensures asked { Stays (openings self.old) (openings self.new) }
+        ensures bytes { ReadConsumes (state self.old).left (state self.new).left result buf.new }
+        ensures names { (state self.new).stands_for ≡ (state self.old).stands_for }
+        ensures asked { Stays (state self.old).openings (state self.new).openings }
         ensures count { MatchResult result
-            (λ n. RisesBy (taken self.old) (taken self.new) n)
-            (λ _. Stays (taken self.old) (taken self.new)) }
-        ensures cause { HasCause (faults self.old) (faults self.new) result };
+            (λ n. RisesBy (state self.old).taken (state self.new).taken n)
+            (λ _. Stays (state self.old).taken (state self.new).taken) }
+        ensures cause { HasCause (state self.old).faults (state self.new).faults result };
 }

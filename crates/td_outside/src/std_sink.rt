@@ -30,11 +30,7 @@ impl<W: Write + Drop> StdSink<W> {
 }
 
 impl<W: Write + Drop> Sink for StdSink<W> {
-    ghost holds = { λ s. None };
-
-    ghost pieces = { λ s. None };
-
-    ghost faults = { λ s. s };
+    ghost state = { λ faults. record { holds = None; pieces = None; faults = faults } };
 
     fn write(&mut self, piece: &[u8]) -> Result<usize, Failed> {
         match self.to.write(piece) {

@@ -61,7 +61,7 @@ fn millis_of(elapsed: Duration) -> u64
 }
 
 impl<R: time::Clock> Clock for SystemClock<'_, R> {
-    ghost last = { λ s. s };
+    ghost state = { λ last. record { last = last } };
 
     fn now(&mut self) -> Millis {
         if let Ok(elapsed) = self.elapsed() {

@@ -38,7 +38,7 @@ impl TestClock {
 }
 
 impl Clock for TestClock {
-    ghost last = { λ s. s.last };
+    ghost state = { λ s. record { last = s.last } };
 
     fn now(&mut self) -> Millis
         ensures later { self.old.last ≤ result.0 }

@@ -61,15 +61,13 @@ fn is_on(on: Option<Addresses>, primary: Ip4, secondary: Ip4) -> bool
 }
 
 impl<R: Net + AllocGlobal + Clock> Link for UdpPair<'_, R> {
-    ghost addresses = { λ s. s.addresses };
-
-    ghost openings = { λ s. None };
-
-    ghost told = { λ s. told_nothing };
-
-    ghost recv_faults = { λ s. s.recv_faults };
-
-    ghost send_faults = { λ s. s.send_faults };
+    ghost state = { λ s. record {
+      addresses = s.addresses;
+      openings = None;
+      told = told_nothing;
+      recv_faults = s.recv_faults;
+      send_faults = s.send_faults;
+    } };
 
     fn open(&mut self, primary: Ip4, secondary: Ip4) -> Result<(), Failed>
         ensures again { self.old.addresses ≡ open_on primary secondary → IsOk result }

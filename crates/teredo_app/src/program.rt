@@ -36,8 +36,8 @@ fn report_on<K: Sink>(alloc: Global, s: &Scenario, out: &mut K) -> u8
     requires few { length s.now.events ≤ EVENTS_MAX }
     requires legal { AllByRecursion (IsEvent s.now.topology) s.now.events }
     ensures { ReportEnds (record {
-      told = (record { held = K.holds out.old; pieces = K.pieces out.old }, record { held = K.holds out.new; pieces = K.pieces out.new });
-      faults = (K.faults out.old, K.faults out.new);
+      told = (record { held = (K.state out.old).holds; pieces = (K.state out.old).pieces }, record { held = (K.state out.new).holds; pieces = (K.state out.new).pieces });
+      faults = ((K.state out.old).faults, (K.state out.new).faults);
     }) (told s.now) result }
 {
     match write_report(alloc, s, out) {
@@ -52,13 +52,13 @@ fn report_on<K: Sink>(alloc: Global, s: &Scenario, out: &mut K) -> u8
 fn lab<S: Source, K: Sink>(alloc: Global, file: &str, src: &mut S, out: &mut K) -> u8
     ensures { LabEnds (record {
       kept = src.new ≡ src.old;
-      stands_for = S.stands_for src.old;
-      openings = (S.openings src.old, S.openings src.new);
-      taken = (S.taken src.old, S.taken src.new);
-      faults = (S.faults src.old, S.faults src.new);
+      stands_for = (S.state src.old).stands_for;
+      openings = ((S.state src.old).openings, (S.state src.new).openings);
+      taken = ((S.state src.old).taken, (S.state src.new).taken);
+      faults = ((S.state src.old).faults, (S.state src.new).faults);
     }) (record {
-      told = (record { held = K.holds out.old; pieces = K.pieces out.old }, record { held = K.holds out.new; pieces = K.pieces out.new });
-      faults = (K.faults out.old, K.faults out.new);
+      told = (record { held = (K.state out.old).holds; pieces = (K.state out.old).pieces }, record { held = (K.state out.new).holds; pieces = (K.state out.new).pieces });
+      faults = ((K.state out.old).faults, (K.state out.new).faults);
     }) file.now result }
 {
     let text = match read_named(alloc, src, file, TEXT_READ_MAX) {
@@ -80,8 +80,8 @@ fn lab<S: Source, K: Sink>(alloc: Global, file: &str, src: &mut S, out: &mut K) 
 /// The command `show HEX`. It never answers `NO_MEMORY`.
 fn show<K: Sink>(word: &str, out: &mut K) -> u8
     ensures { ShowEnds (record {
-      told = (record { held = K.holds out.old; pieces = K.pieces out.old }, record { held = K.holds out.new; pieces = K.pieces out.new });
-      faults = (K.faults out.old, K.faults out.new);
+      told = (record { held = (K.state out.old).holds; pieces = (K.state out.old).pieces }, record { held = (K.state out.new).holds; pieces = (K.state out.new).pieces });
+      faults = ((K.state out.old).faults, (K.state out.new).faults);
     }) word.now result }
 {
     let mut page = Page::new();
@@ -101,16 +101,16 @@ fn serve<K: Sink, L: Link, C: Clock>(
     requires count { asked.now.count ≤ TURNS_MAX }
     requires idles { asked.now.idles ≤ TURNS_MAX }
     ensures { ServeEnds (record {
-      told = (record { held = K.holds out.old; pieces = K.pieces out.old }, record { held = K.holds out.new; pieces = K.pieces out.new });
-      faults = (K.faults out.old, K.faults out.new);
+      told = (record { held = (K.state out.old).holds; pieces = (K.state out.old).pieces }, record { held = (K.state out.new).holds; pieces = (K.state out.new).pieces });
+      faults = ((K.state out.old).faults, (K.state out.new).faults);
     }) (record {
       kept = (link.new ≡ link.old) × (clock.new ≡ clock.old);
-      told = (L.told link.old, L.told link.new);
-      openings = (L.openings link.old, L.openings link.new);
-      addresses = (L.addresses link.old, L.addresses link.new);
-      receive_faults = (L.recv_faults link.old, L.recv_faults link.new);
-      send_faults = (L.send_faults link.old, L.send_faults link.new);
-      moments = (C.last clock.old, C.last clock.new);
+      told = ((L.state link.old).told, (L.state link.new).told);
+      openings = ((L.state link.old).openings, (L.state link.new).openings);
+      addresses = ((L.state link.old).addresses, (L.state link.new).addresses);
+      receive_faults = ((L.state link.old).recv_faults, (L.state link.new).recv_faults);
+      send_faults = ((L.state link.old).send_faults, (L.state link.new).send_faults);
+      moments = ((C.state clock.old).last, (C.state clock.new).last);
     }) asked.now result }
 {
     let Ok(totals) = serve_on(asked, link, clock) else {
@@ -125,8 +125,8 @@ fn serve<K: Sink, L: Link, C: Clock>(
 fn play_generated<K: Sink>(alloc: Global, asked: &GenWords, out: &mut K) -> u8
     requires { asked.now.count ≤ EVENTS_MAX }
     ensures { GenEnds (record {
-      told = (record { held = K.holds out.old; pieces = K.pieces out.old }, record { held = K.holds out.new; pieces = K.pieces out.new });
-      faults = (K.faults out.old, K.faults out.new);
+      told = (record { held = (K.state out.old).holds; pieces = (K.state out.old).pieces }, record { held = (K.state out.new).holds; pieces = (K.state out.new).pieces });
+      faults = ((K.state out.old).faults, (K.state out.new).faults);
     }) asked.now result }
 {
     let Ok(s) = generated_scenario(alloc, asked.seed, asked.count) else {
@@ -154,21 +154,21 @@ pub fn run<S: Source, K: Sink, L: Link, C: Clock>(
 ) -> u8
     ensures ends { (asked : Option Request) → IsCommand (map string_bytes words.now.items) asked → RunEnds (record {
       kept = src.new ≡ src.old;
-      stands_for = S.stands_for src.old;
-      openings = (S.openings src.old, S.openings src.new);
-      taken = (S.taken src.old, S.taken src.new);
-      faults = (S.faults src.old, S.faults src.new);
+      stands_for = (S.state src.old).stands_for;
+      openings = ((S.state src.old).openings, (S.state src.new).openings);
+      taken = ((S.state src.old).taken, (S.state src.new).taken);
+      faults = ((S.state src.old).faults, (S.state src.new).faults);
     }) (record {
-      told = (record { held = K.holds out.old; pieces = K.pieces out.old }, record { held = K.holds out.new; pieces = K.pieces out.new });
-      faults = (K.faults out.old, K.faults out.new);
+      told = (record { held = (K.state out.old).holds; pieces = (K.state out.old).pieces }, record { held = (K.state out.new).holds; pieces = (K.state out.new).pieces });
+      faults = ((K.state out.old).faults, (K.state out.new).faults);
     }) (record {
       kept = (link.new ≡ link.old) × (clock.new ≡ clock.old);
-      told = (L.told link.old, L.told link.new);
-      openings = (L.openings link.old, L.openings link.new);
-      addresses = (L.addresses link.old, L.addresses link.new);
-      receive_faults = (L.recv_faults link.old, L.recv_faults link.new);
-      send_faults = (L.send_faults link.old, L.send_faults link.new);
-      moments = (C.last clock.old, C.last clock.new);
+      told = ((L.state link.old).told, (L.state link.new).told);
+      openings = ((L.state link.old).openings, (L.state link.new).openings);
+      addresses = ((L.state link.old).addresses, (L.state link.new).addresses);
+      receive_faults = ((L.state link.old).recv_faults, (L.state link.new).recv_faults);
+      send_faults = ((L.state link.old).send_faults, (L.state link.new).send_faults);
+      moments = ((C.state clock.old).last, (C.state clock.new).last);
     }) asked result }
 {
     let Some(command) = command_of(words.as_slice()) else {

@@ -38,9 +38,9 @@ fn write_record<K: Sink>(
     buf: &mut LineBuf,
     out: &mut K,
 ) -> Result<(), Failed>
-    ensures ok { OnOk result (WritesLines (record { held = K.holds out.old; pieces = K.pieces out.old }) (record { held = K.holds out.new; pieces = K.pieces out.new }) (record_line t.now index r.now ∷ [])) }
-    ensures err { OnErr result (BeginsLines (record { held = K.holds out.old; pieces = K.pieces out.old }) (record { held = K.holds out.new; pieces = K.pieces out.new }) (record_line t.now index r.now ∷ [])) }
-    ensures cause { HasCause (K.faults out.old) (K.faults out.new) result }
+    ensures ok { OnOk result (WritesLines (record { held = (K.state out.old).holds; pieces = (K.state out.old).pieces }) (record { held = (K.state out.new).holds; pieces = (K.state out.new).pieces }) (record_line t.now index r.now ∷ [])) }
+    ensures err { OnErr result (BeginsLines (record { held = (K.state out.old).holds; pieces = (K.state out.old).pieces }) (record { held = (K.state out.new).holds; pieces = (K.state out.new).pieces }) (record_line t.now index r.now ∷ [])) }
+    ensures cause { HasCause (K.state out.old).faults (K.state out.new).faults result }
 {
     line(index, r, t, buf);
     write_line(out, buf.as_slice())
@@ -48,9 +48,9 @@ fn write_record<K: Sink>(
 
 /// Writes the totals line.
 fn write_totals<K: Sink>(sums: &Sums, buf: &mut LineBuf, out: &mut K) -> Result<(), Failed>
-    ensures ok { OnOk result (WritesLines (record { held = K.holds out.old; pieces = K.pieces out.old }) (record { held = K.holds out.new; pieces = K.pieces out.new }) (totals_line sums.now ∷ [])) }
-    ensures err { OnErr result (BeginsLines (record { held = K.holds out.old; pieces = K.pieces out.old }) (record { held = K.holds out.new; pieces = K.pieces out.new }) (totals_line sums.now ∷ [])) }
-    ensures cause { HasCause (K.faults out.old) (K.faults out.new) result }
+    ensures ok { OnOk result (WritesLines (record { held = (K.state out.old).holds; pieces = (K.state out.old).pieces }) (record { held = (K.state out.new).holds; pieces = (K.state out.new).pieces }) (totals_line sums.now ∷ [])) }
+    ensures err { OnErr result (BeginsLines (record { held = (K.state out.old).holds; pieces = (K.state out.old).pieces }) (record { held = (K.state out.new).holds; pieces = (K.state out.new).pieces }) (totals_line sums.now ∷ [])) }
+    ensures cause { HasCause (K.state out.old).faults (K.state out.new).faults result }
 {
     summary(sums, buf);
     write_line(out, buf.as_slice())
@@ -80,14 +80,14 @@ pub fn is_more(turn: &Turn) -> bool
 pub fn write_report<K: Sink>(alloc: Global, s: &Scenario, out: &mut K) -> Result<(), ReportFault>
     requires few { length s.now.events ≤ EVENTS_MAX }
     requires legal { AllByRecursion (IsEvent s.now.topology) s.now.events }
-    ensures ok { OnOk result (WritesReport (told s.now) (record { held = K.holds out.old; pieces = K.pieces out.old }) (record { held = K.holds out.new; pieces = K.pieces out.new })) }
-    ensures err { OnErr result (BeginsReport (told s.now) (record { held = K.holds out.old; pieces = K.pieces out.old }) (record { held = K.holds out.new; pieces = K.pieces out.new })) }
-    ensures full { IsErrOf result ReportFault.WireFull → EndsFull (told s.now) (record { held = K.holds out.old; pieces = K.pieces out.old }) (record { held = K.holds out.new; pieces = K.pieces out.new }) }
-    ensures wanting { IsErrOf result ReportFault.NoMemory → EndsStarved (told s.now) (record { held = K.holds out.old; pieces = K.pieces out.old }) (record { held = K.holds out.new; pieces = K.pieces out.new }) }
-    ensures quiet { OnOk result (K.faults out.new ≡ K.faults out.old) }
-    ensures filled { IsErrOf result ReportFault.WireFull → K.faults out.new ≡ K.faults out.old }
-    ensures starved { IsErrOf result ReportFault.NoMemory → K.faults out.new ≡ K.faults out.old }
-    ensures failed { IsErrOf result ReportFault.Failed → Rose (K.faults out.old) (K.faults out.new) }
+    ensures ok { OnOk result (WritesReport (told s.now) (record { held = (K.state out.old).holds; pieces = (K.state out.old).pieces }) (record { held = (K.state out.new).holds; pieces = (K.state out.new).pieces })) }
+    ensures err { OnErr result (BeginsReport (told s.now) (record { held = (K.state out.old).holds; pieces = (K.state out.old).pieces }) (record { held = (K.state out.new).holds; pieces = (K.state out.new).pieces })) }
+    ensures full { IsErrOf result ReportFault.WireFull → EndsFull (told s.now) (record { held = (K.state out.old).holds; pieces = (K.state out.old).pieces }) (record { held = (K.state out.new).holds; pieces = (K.state out.new).pieces }) }
+    ensures wanting { IsErrOf result ReportFault.NoMemory → EndsStarved (told s.now) (record { held = (K.state out.old).holds; pieces = (K.state out.old).pieces }) (record { held = (K.state out.new).holds; pieces = (K.state out.new).pieces }) }
+    ensures quiet { OnOk result ((K.state out.new).faults ≡ (K.state out.old).faults) }
+    ensures filled { IsErrOf result ReportFault.WireFull → (K.state out.new).faults ≡ (K.state out.old).faults }
+    ensures starved { IsErrOf result ReportFault.NoMemory → (K.state out.new).faults ≡ (K.state out.old).faults }
+    ensures failed { IsErrOf result ReportFault.Failed → Rose (K.state out.old).faults (K.state out.new).faults }
 {
     legal::of_its_event();
     let Ok(mut world) = World::new(alloc, &s.topology, s.seed) else {

@@ -21,25 +21,25 @@ pub fn serve_on<L: Link, C: Clock>(
 ) -> Result<Totals, Failed>
     requires count { asked.now.count ≤ TURNS_MAX }
     requires idles { asked.now.idles ≤ TURNS_MAX }
-    ensures opened { Gains (L.openings link.old) (L.openings link.new) (both_at asked.now.primary asked.now.secondary) }
+    ensures opened { Gains (L.state link.old).openings (L.state link.new).openings (both_at asked.now.primary asked.now.secondary) }
     ensures served { IfOk result (λ totals. Served (record {
       kept = (link.new ≡ link.old) × (clock.new ≡ clock.old);
-      told = (L.told link.old, L.told link.new);
-      openings = (L.openings link.old, L.openings link.new);
-      addresses = (L.addresses link.old, L.addresses link.new);
-      receive_faults = (L.recv_faults link.old, L.recv_faults link.new);
-      send_faults = (L.send_faults link.old, L.send_faults link.new);
-      moments = (C.last clock.old, C.last clock.new);
+      told = ((L.state link.old).told, (L.state link.new).told);
+      openings = ((L.state link.old).openings, (L.state link.new).openings);
+      addresses = ((L.state link.old).addresses, (L.state link.new).addresses);
+      receive_faults = ((L.state link.old).recv_faults, (L.state link.new).recv_faults);
+      send_faults = ((L.state link.old).send_faults, (L.state link.new).send_faults);
+      moments = ((C.state clock.old).last, (C.state clock.new).last);
     }) asked.now totals) }
-    ensures rose { OnErr result (Rose (L.recv_faults link.old) (L.recv_faults link.new)) }
+    ensures rose { OnErr result (Rose (L.state link.old).recv_faults (L.state link.new).recv_faults) }
     ensures failed { let n : Network = record {
       kept = (link.new ≡ link.old) × (clock.new ≡ clock.old);
-      told = (L.told link.old, L.told link.new);
-      openings = (L.openings link.old, L.openings link.new);
-      addresses = (L.addresses link.old, L.addresses link.new);
-      receive_faults = (L.recv_faults link.old, L.recv_faults link.new);
-      send_faults = (L.send_faults link.old, L.send_faults link.new);
-      moments = (C.last clock.old, C.last clock.new);
+      told = ((L.state link.old).told, (L.state link.new).told);
+      openings = ((L.state link.old).openings, (L.state link.new).openings);
+      addresses = ((L.state link.old).addresses, (L.state link.new).addresses);
+      receive_faults = ((L.state link.old).recv_faults, (L.state link.new).recv_faults);
+      send_faults = ((L.state link.old).send_faults, (L.state link.new).send_faults);
+      moments = ((C.state clock.old).last, (C.state clock.new).last);
     } in OnErr result (StaysShut n ⊎ BreaksOff n asked.now) }
 {
     server_core::one_outcome();

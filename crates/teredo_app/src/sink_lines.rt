@@ -9,9 +9,9 @@ use td_outside::{Failed, Sink};
 
 /// Writes a line: the whole line is a piece, and each further piece is what is left of it.
 pub fn write_line<K: Sink>(out: &mut K, line: &[u8]) -> Result<(), Failed>
-    ensures ok { OnOk result (WritesLines (record { held = K.holds out.old; pieces = K.pieces out.old }) (record { held = K.holds out.new; pieces = K.pieces out.new }) (line.now ∷ [])) }
-    ensures err { OnErr result (BeginsLines (record { held = K.holds out.old; pieces = K.pieces out.old }) (record { held = K.holds out.new; pieces = K.pieces out.new }) (line.now ∷ [])) }
-    ensures cause { HasCause (K.faults out.old) (K.faults out.new) result }
+    ensures ok { OnOk result (WritesLines (record { held = (K.state out.old).holds; pieces = (K.state out.old).pieces }) (record { held = (K.state out.new).holds; pieces = (K.state out.new).pieces }) (line.now ∷ [])) }
+    ensures err { OnErr result (BeginsLines (record { held = (K.state out.old).holds; pieces = (K.state out.old).pieces }) (record { held = (K.state out.new).holds; pieces = (K.state out.new).pieces }) (line.now ∷ [])) }
+    ensures cause { HasCause (K.state out.old).faults (K.state out.new).faults result }
 {
     let mut at = 0;
     while at < line.len() {
@@ -23,8 +23,8 @@ pub fn write_line<K: Sink>(out: &mut K, line: &[u8]) -> Result<(), Failed>
 /// Writes a line, and answers this status, or that the sink failed.
 pub fn end_with<K: Sink>(out: &mut K, line: &[u8], status: u8) -> u8
     ensures { LineEnds (record {
-      told = (record { held = K.holds out.old; pieces = K.pieces out.old }, record { held = K.holds out.new; pieces = K.pieces out.new });
-      faults = (K.faults out.old, K.faults out.new);
+      told = (record { held = (K.state out.old).holds; pieces = (K.state out.old).pieces }, record { held = (K.state out.new).holds; pieces = (K.state out.new).pieces });
+      faults = ((K.state out.old).faults, (K.state out.new).faults);
     }) line.now status result }
 {
     match write_line(out, line) {

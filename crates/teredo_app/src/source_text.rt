@@ -24,14 +24,14 @@ const BYTES_AT_ONCE: usize = 65_536;
 
 /// Reads what is left, and no more than `most` bytes.
 fn read_rest<S: Source>(alloc: Global, src: &mut S, most: usize) -> Result<Vec<u8>, ReadFault>
-    ensures front { IfOk result (λ text. Consumes (S.left src.old) (S.left src.new) text.items) }
+    ensures front { IfOk result (λ text. Consumes (S.state src.old).left (S.state src.new).left text.items) }
     ensures most { IfOk result (λ text. length text.items ≤ most) }
-    ensures whole { IfOk result (λ text. length text.items < most → IsAtEnd (S.left src.new)) }
-    ensures asked { Stays (S.openings src.old) (S.openings src.new) }
-    ensures taken { TakesAtMost most (S.taken src.old) (S.taken src.new) }
-    ensures quiet { OnOk result (S.faults src.new ≡ S.faults src.old) }
-    ensures starved { IsErrOf result ReadFault.NoMemory → S.faults src.new ≡ S.faults src.old }
-    ensures failed { IsErrOf result ReadFault.Failed → Rose (S.faults src.old) (S.faults src.new) }
+    ensures whole { IfOk result (λ text. length text.items < most → IsAtEnd (S.state src.new).left) }
+    ensures asked { Stays (S.state src.old).openings (S.state src.new).openings }
+    ensures taken { TakesAtMost most (S.state src.old).taken (S.state src.new).taken }
+    ensures quiet { OnOk result ((S.state src.new).faults ≡ (S.state src.old).faults) }
+    ensures starved { IsErrOf result ReadFault.NoMemory → (S.state src.new).faults ≡ (S.state src.old).faults }
+    ensures failed { IsErrOf result ReadFault.Failed → Rose (S.state src.old).faults (S.state src.new).faults }
 {
     let mut text = Vec::new(alloc);
     let mut piece = [0u8; BYTES_AT_ONCE];
@@ -58,12 +58,12 @@ pub fn read_named<S: Source>(
     name: &str,
     most: usize,
 ) -> Result<Vec<u8>, ReadFault>
-    ensures text { IfOk result (λ text. IsTextOf (S.stands_for src.old name.now) most text.items) }
-    ensures asked { Gains (S.openings src.old) (S.openings src.new) name.now }
-    ensures taken { TakesAtMost most (S.taken src.old) (S.taken src.new) }
-    ensures quiet { OnOk result (S.faults src.new ≡ S.faults src.old) }
-    ensures starved { IsErrOf result ReadFault.NoMemory → S.faults src.new ≡ S.faults src.old }
-    ensures failed { IsErrOf result ReadFault.Failed → Rose (S.faults src.old) (S.faults src.new) }
+    ensures text { IfOk result (λ text. IsTextOf ((S.state src.old).stands_for name.now) most text.items) }
+    ensures asked { Gains (S.state src.old).openings (S.state src.new).openings name.now }
+    ensures taken { TakesAtMost most (S.state src.old).taken (S.state src.new).taken }
+    ensures quiet { OnOk result ((S.state src.new).faults ≡ (S.state src.old).faults) }
+    ensures starved { IsErrOf result ReadFault.NoMemory → (S.state src.new).faults ≡ (S.state src.old).faults }
+    ensures failed { IsErrOf result ReadFault.Failed → Rose (S.state src.old).faults (S.state src.new).faults }
 {
     match src.open(name) {
         Ok(()) => read_rest(alloc, src, most),

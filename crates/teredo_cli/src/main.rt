@@ -53,21 +53,21 @@ fn run_on<S: Source, K: Sink, L: Link, C: Clock>(
 ) -> ExitCode
     ensures ends { (asked : Option Request) → IsCommand (map string_bytes words.now.items) asked → RunEnds (record {
       kept = src.new ≡ src.old;
-      stands_for = S.stands_for src.old;
-      openings = (S.openings src.old, S.openings src.new);
-      taken = (S.taken src.old, S.taken src.new);
-      faults = (S.faults src.old, S.faults src.new);
+      stands_for = (S.state src.old).stands_for;
+      openings = ((S.state src.old).openings, (S.state src.new).openings);
+      taken = ((S.state src.old).taken, (S.state src.new).taken);
+      faults = ((S.state src.old).faults, (S.state src.new).faults);
     }) (record {
-      told = (record { held = K.holds out.old; pieces = K.pieces out.old }, record { held = K.holds out.new; pieces = K.pieces out.new });
-      faults = (K.faults out.old, K.faults out.new);
+      told = (record { held = (K.state out.old).holds; pieces = (K.state out.old).pieces }, record { held = (K.state out.new).holds; pieces = (K.state out.new).pieces });
+      faults = ((K.state out.old).faults, (K.state out.new).faults);
     }) (record {
       kept = (link.new ≡ link.old) × (clock.new ≡ clock.old);
-      told = (L.told link.old, L.told link.new);
-      openings = (L.openings link.old, L.openings link.new);
-      addresses = (L.addresses link.old, L.addresses link.new);
-      receive_faults = (L.recv_faults link.old, L.recv_faults link.new);
-      send_faults = (L.send_faults link.old, L.send_faults link.new);
-      moments = (C.last clock.old, C.last clock.new);
+      told = ((L.state link.old).told, (L.state link.new).told);
+      openings = ((L.state link.old).openings, (L.state link.new).openings);
+      addresses = ((L.state link.old).addresses, (L.state link.new).addresses);
+      receive_faults = ((L.state link.old).recv_faults, (L.state link.new).recv_faults);
+      send_faults = ((L.state link.old).send_faults, (L.state link.new).send_faults);
+      moments = ((C.state clock.old).last, (C.state clock.new).last);
     }) asked (exit_status result) }
 {
     let status = run(rt.alloc(), words, src, out, link, clock);

@@ -29,12 +29,12 @@ pub fn tick<E: Endpoint, L: Link>(
     step: &mut Step,
 ) -> Option<u8>
     requires ready { E.ready e.old now.0 }
-    ensures turn { TicksIfDue (λ s. E.ticks s now.0) (λ s. E.owing s now.0) e.old e.new (L.told link.old) (L.told link.new) step.old step.new result }
+    ensures turn { TicksIfDue (λ s. E.ticks s now.0) (λ s. E.owing s now.0) e.old e.new (L.state link.old).told (L.state link.new).told step.old step.new result }
     ensures again { E.ready e.new now.0 }
-    ensures receives { L.recv_faults link.new ≡ L.recv_faults link.old }
-    ensures sends { SendFaults (L.send_faults link.old) (L.send_faults link.new) (unwrap_or result 0) }
-    ensures places { L.addresses link.new ≡ L.addresses link.old }
-    ensures asked { Stays (L.openings link.old) (L.openings link.new) }
+    ensures receives { (L.state link.new).recv_faults ≡ (L.state link.old).recv_faults }
+    ensures sends { SendFaults (L.state link.old).send_faults (L.state link.new).send_faults (unwrap_or result 0) }
+    ensures places { (L.state link.new).addresses ≡ (L.state link.old).addresses }
+    ensures asked { Stays (L.state link.old).openings (L.state link.new).openings }
 {
     if !is_due(e, now) {
         return None;
@@ -52,12 +52,12 @@ pub fn tick_through<E: Endpoint, L: Link>(
     step: &mut Step,
 ) -> u64
     requires ready { E.ready e.old now.0 }
-    ensures ticks { TicksThrough (λ s. E.ticks s now.0) (λ s. E.owing s now.0) e.old e.new (L.told link.old) (L.told link.new) step.old step.new result }
+    ensures ticks { TicksThrough (λ s. E.ticks s now.0) (λ s. E.owing s now.0) e.old e.new (L.state link.old).told (L.state link.new).told step.old step.new result }
     ensures again { E.ready e.new now.0 }
-    ensures receives { L.recv_faults link.new ≡ L.recv_faults link.old }
-    ensures sends { SendFaults (L.send_faults link.old) (L.send_faults link.new) result }
-    ensures places { L.addresses link.new ≡ L.addresses link.old }
-    ensures asked { Stays (L.openings link.old) (L.openings link.new) }
+    ensures receives { (L.state link.new).recv_faults ≡ (L.state link.old).recv_faults }
+    ensures sends { SendFaults (L.state link.old).send_faults (L.state link.new).send_faults result }
+    ensures places { (L.state link.new).addresses ≡ (L.state link.old).addresses }
+    ensures asked { Stays (L.state link.old).openings (L.state link.new).openings }
 {
     let mut failures: u64 = 0;
     while let Some(failed) = tick(e, link, now, step) {

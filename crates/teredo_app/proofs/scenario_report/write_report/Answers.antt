@@ -13,7 +13,7 @@ use Rattle.teredo_app.proofs.scenario_report.write_report.Goals as goal
 pub loop-index-init : goal.loop-index-init
 loop-index-init g c =
     let s = told c.args.s.now in
-    let a : SinkTold = record { held = g.K.Sink.holds c.args.out.now; pieces = g.K.Sink.pieces c.args.out.now } in
+    let a : SinkTold = record { held = (g.K.Sink.state c.args.out.now).holds; pieces = (g.K.Sink.state c.args.out.now).pieces } in
     let made = played.nothing_played s a c.in-Ok.world c.in-Ok.ensures.topology c.in-Ok.ensures.goes_on c.in-Ok.ensures.stands in
     record { played = subst (λ (z : Sums). played.Played s a a c.in-Ok.world z 0 played.IsFree) (sym c.new-sums.ensures) made; same = refl }
 
@@ -36,8 +36,8 @@ loop-turn-init g c = record { played = played.event_begins (told c.args.s.now) _
 pub loop-turn-preserved : goal.loop-turn-preserved
 loop-turn-preserved g c =
     let event : slice_get c.args.s.now.events c.loop-index.index ≡ Some c.event-item.result = played.event_at c.args.s.now.events c.as_slice-event-items.result.now c.loop-index.index c.event-item.result c.as_slice-event-items.ensures (omega arith) c.event-item.is in
-    let before : SinkTold = record { held = g.K.Sink.holds c.args.out.now; pieces = g.K.Sink.pieces c.args.out.now } in
-    let now : SinkTold = record { held = g.K.Sink.holds c.loop-turn.out; pieces = g.K.Sink.pieces c.loop-turn.out } in
+    let before : SinkTold = record { held = (g.K.Sink.state c.args.out.now).holds; pieces = (g.K.Sink.state c.args.out.now).pieces } in
+    let now : SinkTold = record { held = (g.K.Sink.state c.loop-turn.out).holds; pieces = (g.K.Sink.state c.loop-turn.out).pieces } in
     let p = c.loop-turn.invariant.played in
     let turned = played.turned (told c.args.s.now) before now c.loop-turn.world c.step-played.new.self c.loop-turn.sums c.loop-index.index c.event-item.result c.step-played.result c.in-Ok-played.turn c.in-Ok-played.is p event c.step-played.ensures.ok c.step-played.ensures.falls c.step-played.ensures.time c.step-played.ensures.entries in
     let line = rw c.record_in-r.ensures at c.in-Ok-write_record.ensures.ok in
@@ -56,8 +56,8 @@ loop-turn-smaller g c =
 pub loop-index-preserved : goal.loop-index-preserved
 loop-index-preserved g c =
     let event : slice_get c.args.s.now.events c.loop-index.index ≡ Some c.event-item.result = played.event_at c.args.s.now.events c.as_slice-event-items.result.now c.loop-index.index c.event-item.result c.as_slice-event-items.ensures (omega arith) c.event-item.is in
-    let before : SinkTold = record { held = g.K.Sink.holds c.args.out.now; pieces = g.K.Sink.pieces c.args.out.now } in
-    let now : SinkTold = record { held = g.K.Sink.holds c.loop-turn.out; pieces = g.K.Sink.pieces c.loop-turn.out } in
+    let before : SinkTold = record { held = (g.K.Sink.state c.args.out.now).holds; pieces = (g.K.Sink.state c.args.out.now).pieces } in
+    let now : SinkTold = record { held = (g.K.Sink.state c.loop-turn.out).holds; pieces = (g.K.Sink.state c.loop-turn.out).pieces } in
     let p = c.loop-turn.invariant.played in
     let turned = played.turned (told c.args.s.now) before now c.loop-turn.world c.step-played.new.self c.loop-turn.sums c.loop-index.index c.event-item.result c.step-played.result c.in-Ok-played.turn c.in-Ok-played.is p event c.step-played.ensures.ok c.step-played.ensures.falls c.step-played.ensures.time c.step-played.ensures.entries in
     let line = rw c.record_in-r.ensures at c.in-Ok-write_record.ensures.ok in
@@ -71,8 +71,8 @@ loop-index-preserved g c =
 pub returns-in_default-write_record-clause-err : goal.returns-in_default-write_record-clause-err
 returns-in_default-write_record-clause-err g c =
     let event : slice_get c.args.s.now.events c.loop-index.index ≡ Some c.event-item.result = played.event_at c.args.s.now.events c.as_slice-event-items.result.now c.loop-index.index c.event-item.result c.as_slice-event-items.ensures (omega arith) c.event-item.is in
-    let before : SinkTold = record { held = g.K.Sink.holds c.args.out.now; pieces = g.K.Sink.pieces c.args.out.now } in
-    let now : SinkTold = record { held = g.K.Sink.holds c.loop-turn.out; pieces = g.K.Sink.pieces c.loop-turn.out } in
+    let before : SinkTold = record { held = (g.K.Sink.state c.args.out.now).holds; pieces = (g.K.Sink.state c.args.out.now).pieces } in
+    let now : SinkTold = record { held = (g.K.Sink.state c.loop-turn.out).holds; pieces = (g.K.Sink.state c.loop-turn.out).pieces } in
     let p = c.loop-turn.invariant.played in
     let turned = played.turned (told c.args.s.now) before now c.loop-turn.world c.step-played.new.self c.loop-turn.sums c.loop-index.index c.event-item.result c.step-played.result c.in-Ok-played.turn c.in-Ok-played.is p event c.step-played.ensures.ok c.step-played.ensures.falls c.step-played.ensures.time c.step-played.ensures.entries in
     let line = rw c.record_in-r.ensures at c.in_default-write_record.ensures.err in

@@ -6,14 +6,14 @@ use Rattle.teredo_app.proofs.scenario_report.write_report.Given as goal
 
 abbrev pub invariant-loop-index : goal.invariant-loop-index
 invariant-loop-index g l = record {
-  played : Played (told l.s) (record { held = g.K.Sink.holds l.fn.out; pieces = g.K.Sink.pieces l.fn.out }) (record { held = g.K.Sink.holds l.out; pieces = g.K.Sink.pieces l.out }) l.world l.sums l.index IsFree;
-  same : g.K.Sink.faults l.out ≡ g.K.Sink.faults l.fn.out;
+  played : Played (told l.s) (record { held = (g.K.Sink.state l.fn.out).holds; pieces = (g.K.Sink.state l.fn.out).pieces }) (record { held = (g.K.Sink.state l.out).holds; pieces = (g.K.Sink.state l.out).pieces }) l.world l.sums l.index IsFree;
+  same : (g.K.Sink.state l.out).faults ≡ (g.K.Sink.state l.fn.out).faults;
 }
 
 abbrev pub invariant-loop-turn : goal.invariant-loop-turn
 invariant-loop-turn g l = record {
-  played : Played (told l.s) (record { held = g.K.Sink.holds l.fn.out; pieces = g.K.Sink.pieces l.fn.out }) (record { held = g.K.Sink.holds l.out; pieces = g.K.Sink.pieces l.out }) l.world l.sums l.index (λ going. IsAgain going l.event);
-  same : g.K.Sink.faults l.out ≡ g.K.Sink.faults l.fn.out;
+  played : Played (told l.s) (record { held = (g.K.Sink.state l.fn.out).holds; pieces = (g.K.Sink.state l.fn.out).pieces }) (record { held = (g.K.Sink.state l.out).holds; pieces = (g.K.Sink.state l.out).pieces }) l.world l.sums l.index (λ going. IsAgain going l.event);
+  same : (g.K.Sink.state l.out).faults ≡ (g.K.Sink.state l.fn.out).faults;
 }
 
 abbrev pub decreases-loop-turn : goal.decreases-loop-turn

@@ -18,5 +18,5 @@ returns-clause-ok g c =
 
 pub returns-in_err-at-clause-err : goal.returns-in_err-at-clause-err
 returns-in_err-at-clause-err g c =
-    let now : SinkTold = record { held = g.K.Sink.holds c.loop-at.out; pieces = g.K.Sink.pieces c.loop-at.out } in
+    let now : SinkTold = record { held = (g.K.Sink.state c.loop-at.out).holds; pieces = (g.K.Sink.state c.loop-at.out).pieces } in
     on_err c.from_residual.result (line_stopped c.args.line.now c.loop-at.at _ now _ c.loop-at.invariant.written c.in_err-at.ensures.bytes c.loop-at.invariant.handed c.write.ensures.handed c.loop-at-test.true)

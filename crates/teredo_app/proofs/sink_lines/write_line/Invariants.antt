@@ -6,9 +6,9 @@ use Rattle.teredo_app.proofs.sink_lines.write_line.Given as goal
 abbrev pub invariant-loop-at : goal.invariant-loop-at
 invariant-loop-at g l = record {
   within : l.at ≤ length l.line;
-  written : Appends (g.K.Sink.holds l.fn.out) (g.K.Sink.holds l.out) (take l.at l.line);
-  handed : HandedTo l.line l.at (g.K.Sink.pieces l.fn.out) (g.K.Sink.pieces l.out);
-  same : g.K.Sink.faults l.out ≡ g.K.Sink.faults l.fn.out;
+  written : Appends (g.K.Sink.state l.fn.out).holds (g.K.Sink.state l.out).holds (take l.at l.line);
+  handed : HandedTo l.line l.at (g.K.Sink.state l.fn.out).pieces (g.K.Sink.state l.out).pieces;
+  same : (g.K.Sink.state l.out).faults ≡ (g.K.Sink.state l.fn.out).faults;
 }
 
 abbrev pub decreases-loop-at : goal.decreases-loop-at

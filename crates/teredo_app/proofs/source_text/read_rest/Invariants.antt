@@ -6,10 +6,10 @@ use Rattle.teredo_app.proofs.source_text.read_rest.Given as goal
 abbrev pub invariant-loop-piece : goal.invariant-loop-piece
 invariant-loop-piece g l = record {
   few : length l.text.items ≤ l.most;
-  consumed : Consumes (g.S.Source.left l.fn.src) (g.S.Source.left l.src) l.text.items;
-  asked : Stays (g.S.Source.openings l.fn.src) (g.S.Source.openings l.src);
-  taken : RisesBy (g.S.Source.taken l.fn.src) (g.S.Source.taken l.src) (length l.text.items);
-  same : g.S.Source.faults l.src ≡ g.S.Source.faults l.fn.src;
+  consumed : Consumes (g.S.Source.state l.fn.src).left (g.S.Source.state l.src).left l.text.items;
+  asked : Stays (g.S.Source.state l.fn.src).openings (g.S.Source.state l.src).openings;
+  taken : RisesBy (g.S.Source.state l.fn.src).taken (g.S.Source.state l.src).taken (length l.text.items);
+  same : (g.S.Source.state l.src).faults ≡ (g.S.Source.state l.fn.src).faults;
 }
 
 abbrev pub decreases-loop-piece : goal.decreases-loop-piece
