@@ -1,5 +1,6 @@
 //! Laws of payloads as lists of bytes.
 ghost use Rattle.bubble.specs.Laws.{SpelledPayloadIsRead, PayloadIsSpelled, PayloadReadsBack, PayloadIsBytes, PacketIsPayload, PacketGoesOn, BubbleReadsBack, MessageIsCarried};
+ghost use Rattle.bubble.specs.Numbers.{BubbleNumbers};
 
 /// A spelling of a payload is read as it.
 pub fn spelled_payload_is_read()
@@ -39,4 +40,9 @@ pub fn bubble_reads_back()
 /// A packet that was made of a message carries it.
 pub fn message_is_carried()
     ensures { MessageIsCarried }
+{}
+
+/// The numbers of a bubble are the standard's.
+pub fn bubble_numbers()
+    ensures { BubbleNumbers }
 {}

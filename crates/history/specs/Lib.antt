@@ -9,3 +9,4 @@ pub mod Answers
 pub mod Full
 pub mod Records
 pub mod Telling
+pub mod Numbers

@@ -24,6 +24,7 @@
 //! | `mark`, `mark_list` | `Mark`, `Loss`, `Marks` | |
 //! | `turn` | `Turn`, `Stop` | |
 //! | `records` | `Record`, the full record behind it, and what it tells the totals | `specs/Full.antt`, `Records.antt`, `Telling.antt` |
+//! | `laws` | what holds of the numbers | `specs/Numbers.antt` |
 #![tactic(auto)]
 
 mod acts;
@@ -33,6 +34,7 @@ mod event_list;
 mod event_printer;
 mod event_reader;
 mod event_words;
+mod laws;
 mod mark;
 mod mark_list;
 mod node_words;
@@ -51,6 +53,7 @@ pub use event_fault::EventFault;
 pub use event_list::Events;
 pub use event_printer::print_event;
 pub use event_reader::read_event;
+pub use laws::event_numbers;
 pub use mark::{Loss, Mark};
 pub use mark_list::{MARKS_MAX, Marks};
 pub use records::Record;

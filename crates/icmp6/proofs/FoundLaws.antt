@@ -1,5 +1,5 @@
 -- What is read is a message.
-use Rattle.std.proofs.Common.{◌≡◌, ◌≢◌, cond, not, ltb, eqb, ℕ, ◌^◌, ◌<◌, ◌≤◌, List, [], ◌∷◌, ◌++◌, length, drop, inl, inr, Result, Ok, Err, refl, ap, subst, ◌∙◌, arith}
+use Rattle.std.proofs.Common.{◌≡◌, ◌≢◌, cond, not, ltb, eqb, ℕ, ◌≤◌, List, [], ◌∷◌, ◌++◌, length, drop, inl, inr, Result, Ok, Err, refl, ap, subst, ◌∙◌, arith}
 use Rattle.std.specs.Prelude.{slice_index, IfOk}
 use Rattle.std.proofs.lemmas.Bool.{ltb-false, eqb-true, eqb-false, not-false}
 use Rattle.std.proofs.lemmas.List.{drop_more}

@@ -6,3 +6,4 @@ pub mod Layout
 pub mod Grammar
 pub mod Faults
 pub mod Laws
+pub mod Numbers

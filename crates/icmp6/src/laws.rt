@@ -1,5 +1,6 @@
 //! Laws of messages as lists of bytes.
 ghost use Rattle.icmp6.specs.Laws.{SpellingIsRead, MessageReadsBack, MessageIsBytes, OptionsReadBack};
+ghost use Rattle.icmp6.specs.Numbers.{MessageNumbers};
 
 /// A spelling of a message is read as it.
 pub fn spelling_is_read()
@@ -19,4 +20,9 @@ pub fn message_is_bytes()
 /// Options that are joined are given one by one.
 pub fn options_read_back()
     ensures { OptionsReadBack }
+{}
+
+/// Types, lengths and limits are the standards'.
+pub fn message_numbers()
+    ensures { MessageNumbers }
 {}

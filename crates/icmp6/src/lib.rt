@@ -45,7 +45,9 @@ mod writer;
 
 pub use fault::IcmpFault;
 pub use iter::Options;
-pub use laws::{message_is_bytes, message_reads_back, options_read_back, spelling_is_read};
+pub use laws::{
+    message_is_bytes, message_numbers, message_reads_back, options_read_back, spelling_is_read,
+};
 pub use lend::options;
 pub use message::Msg;
 pub use numbers::{

@@ -4,3 +4,4 @@ pub mod Blocks
 pub mod Faults
 pub mod Leads
 pub mod Laws
+pub mod Numbers

@@ -1,5 +1,6 @@
 //! Laws of indications as lists of bytes.
 ghost use Rattle.indications.specs.Laws.{LeadReadsBack, LeadIsBytes};
+ghost use Rattle.indications.specs.Numbers.{LeadNumbers};
 
 /// Indications in front of a packet are read.
 pub fn lead_reads_back()
@@ -9,4 +10,9 @@ pub fn lead_reads_back()
 /// Indications are so many bytes.
 pub fn lead_is_bytes()
     ensures { LeadIsBytes }
+{}
+
+/// The lengths of authentications and origins are the standard's.
+pub fn lead_numbers()
+    ensures { LeadNumbers }
 {}

@@ -40,7 +40,7 @@ mod writer;
 
 pub use blocks::{AUTH, AUTH_HEAD, AUTH_TAIL, Auth, Lead, NONCE, ORIGIN, Origin};
 pub use fault::LeadFault;
-pub use laws::{lead_is_bytes, lead_reads_back};
+pub use laws::{lead_is_bytes, lead_numbers, lead_reads_back};
 pub use leads::{is_confirmed, is_keyed, nonce_of, origin_in};
 pub use places::Places;
 pub use reader::{auth_lead, bare_lead, places_of, read};

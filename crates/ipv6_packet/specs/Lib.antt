@@ -1,3 +1,4 @@
 pub mod Packets
 pub mod Reads
 pub mod Laws
+pub mod Numbers

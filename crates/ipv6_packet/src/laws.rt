@@ -1,5 +1,6 @@
 //! Laws of packets as lists of bytes.
 ghost use Rattle.ipv6_packet.specs.Laws.{PacketReadsBack, PacketIsSpelled, PacketIsBytes};
+ghost use Rattle.ipv6_packet.specs.Numbers.{PacketNumbers};
 
 /// The spelling of a packet is read as it.
 pub fn packet_reads_back()
@@ -14,4 +15,9 @@ pub fn packet_is_spelled()
 /// The spelling of a packet is the header's bytes and the body's.
 pub fn packet_is_bytes()
     ensures { PacketIsBytes }
+{}
+
+/// The numbers of the header are the standards'.
+pub fn packet_numbers()
+    ensures { PacketNumbers }
 {}

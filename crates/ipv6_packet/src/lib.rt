@@ -32,6 +32,6 @@ mod writer;
 
 pub use fault::PacketFault;
 pub use header::{HEADER, NEXT_ICMP, NEXT_NONE, PACKET_MAX, Packet, VERSION, is_big};
-pub use laws::{packet_is_bytes, packet_is_spelled, packet_reads_back};
+pub use laws::{packet_is_bytes, packet_is_spelled, packet_numbers, packet_reads_back};
 pub use reader::{check, packet_in, read};
 pub use writer::{len, write};

@@ -8,3 +8,4 @@ pub mod Places
 pub mod Asked
 pub mod Nat
 pub mod Laws
+pub mod Numbers

@@ -10,6 +10,7 @@ ghost use Rattle.nat_kinds.specs.Entering.{lets_in};
 ghost use Rattle.nat_kinds.specs.Asked.{recalled};
 ghost use Rattle.nat_kinds.specs.Nat.{NatState, StandsFor};
 ghost use Rattle.nat_kinds.specs.Laws.{IsHistory, IsPast, SameKey, WasAsked};
+ghost use Rattle.nat_kinds.specs.Numbers.{NatNumbers};
 
 use crate::kind::NatKind;
 use crate::limits::{FIRST_PORT, MAPPINGS_MAX};
@@ -87,4 +88,9 @@ pub fn cone_lets_all_in()
         (inside dst : Ep) (port : ℕ) →
         live_port s.kind inside dst (live_after s h n) ≡ Some port →
         (src : Ep) → lets_in s h n src port ≡ Some inside }
+{}
+
+/// The limits of a NAT are those of `docs/DEFINITIONS.md`.
+pub fn nat_numbers()
+    ensures { NatNumbers }
 {}

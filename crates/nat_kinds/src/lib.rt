@@ -54,8 +54,8 @@ mod way;
 pub use kind::NatKind;
 pub use laws::{
     answer_is_lowest_free, asked_are_few, cone_lets_all_in, counting_datagram_holds_its_port,
-    latest_datagram_decides, let_in_where_asked, live_mappings_are_few, owner_is_reached,
-    port_has_one_key, reply_is_let_in,
+    latest_datagram_decides, let_in_where_asked, live_mappings_are_few, nat_numbers,
+    owner_is_reached, port_has_one_key, reply_is_let_in,
 };
 pub use limits::{FIRST_PORT, MAPPINGS_MAX};
 pub use outgoing::Outward;

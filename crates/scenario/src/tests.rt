@@ -229,6 +229,11 @@ fn names_each_refusal(rt: HostRuntime) -> Result<(), Fail> {
         ),
         (
             "[1000, 30000]",
+            "[1000, 1000001]",
+            "scenario client[1].refresh: range\n",
+        ),
+        (
+            "[1000, 30000]",
             "[30001, 30000]",
             "scenario client[1].refresh: range\n",
         ),

@@ -3,3 +3,4 @@ pub mod Tests
 pub mod Faults
 pub mod Checksums
 pub mod Laws
+pub mod Numbers

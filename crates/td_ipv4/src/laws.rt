@@ -1,5 +1,6 @@
 //! Laws of datagrams as lists of bytes.
 ghost use Rattle.td_ipv4.specs.Laws.{Udp4ReadsBack, Udp4IsSpelled, Udp4IsBytes, ChecksumsVerify, MadeIsUdp4};
+ghost use Rattle.td_ipv4.specs.Numbers.{DatagramNumbers};
 
 /// The spelling of a datagram is read as it.
 pub fn udp4_reads_back()
@@ -24,4 +25,9 @@ pub fn checksums_verify()
 /// What is made is a datagram with right checksums.
 pub fn made_is_udp4()
     ensures { MadeIsUdp4 }
+{}
+
+/// The numbers of both headers are the standards'.
+pub fn datagram_numbers()
+    ensures { DatagramNumbers }
 {}

@@ -40,7 +40,10 @@ mod udp4;
 mod writer;
 
 pub use fault::Ip4Fault;
-pub use laws::{checksums_verify, made_is_udp4, udp4_is_bytes, udp4_is_spelled, udp4_reads_back};
+pub use laws::{
+    checksums_verify, datagram_numbers, made_is_udp4, udp4_is_bytes, udp4_is_spelled,
+    udp4_reads_back,
+};
 pub use maker::make;
 pub use numbers::{FRAGMENT_BITS, HEAD_MIN, OPTIONS_MAX, TOTAL_MAX, TTL, UDP, UDP_HEAD, WORD};
 pub use reader::read;

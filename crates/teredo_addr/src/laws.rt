@@ -1,5 +1,6 @@
 //! Laws of addresses that are made.
 ghost use Rattle.teredo_addr.specs.Laws.{TeredoTells, TeredoIsMade, LinkLocalTells};
+ghost use Rattle.teredo_addr.specs.Numbers.{AddressNumbers};
 
 /// A Teredo address tells what it was made of.
 pub fn teredo_tells()
@@ -14,4 +15,9 @@ pub fn teredo_is_made()
 /// A link-local address tells the cone bit and the endpoint that it was made of.
 pub fn link_local_tells()
     ensures { LinkLocalTells }
+{}
+
+/// The numbers of Teredo addresses are the standard's.
+pub fn address_numbers()
+    ensures { AddressNumbers }
 {}

@@ -6,3 +6,4 @@ pub mod Rules
 pub mod Named
 pub mod NodeRules
 pub mod Chains
+pub mod Numbers

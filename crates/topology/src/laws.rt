@@ -1,5 +1,6 @@
 //! Laws of every topology.
 ghost use Rattle.topology.specs.NodeRules.{AddressesAreApart, OwnAddressIsTaken, EachNodeKeepsRules};
+ghost use Rattle.topology.specs.Numbers.{TopologyNumbers};
 
 /// No address is that of two nodes.
 pub fn apart()
@@ -14,4 +15,9 @@ pub fn taken()
 /// Each node keeps the rules.
 pub fn each_node()
     ensures { EachNodeKeepsRules }
+{}
+
+/// The limits of nodes and times are those of `docs/SCENARIOS.md`.
+pub fn topology_numbers()
+    ensures { TopologyNumbers }
 {}

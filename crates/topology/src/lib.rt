@@ -37,7 +37,7 @@ mod topology;
 pub use client_node::{
     ClientNode, REFRESH_HIGH_MS, REFRESH_LOW_MS, REFRESH_MAX_MS, REFRESH_MIN_MS,
 };
-pub use laws::{apart, each_node, taken};
+pub use laws::{apart, each_node, taken, topology_numbers};
 pub use names::{client_named, host_named, nat_named, node_named, relay_named, server_named};
 pub use nat_node::{IDLE_MAX_MS, NatNode};
 pub use native_node::NativeNode;
