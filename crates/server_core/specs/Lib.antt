@@ -8,3 +8,4 @@ pub mod Endpoint
 pub mod Laws
 pub mod RuleWarrants
 pub mod Outgoing
+pub mod Numbers

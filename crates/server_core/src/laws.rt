@@ -2,6 +2,7 @@
 ghost use Rattle.server_core.specs.Laws.{FateOfRow, OneOutput, OneOutcome, AdvertReadsBack, ForwardedReadsBack, EachTellsWhereTo};
 ghost use Rattle.server_core.specs.RuleWarrants.{RuleIsWarranted};
 ghost use Rattle.server_core.specs.Outgoing.{EachIsOutgoing, EachIsFromClient, EachOutputIsMade};
+ghost use Rattle.server_core.specs.Numbers.{ServerNumbers};
 
 /// A datagram has a fate of the server's table.
 pub fn fate_of_row()
@@ -77,3 +78,8 @@ pub fn each_output_is_made()
     indications::lead_is_bytes();
     ipv6_packet::packet_is_bytes();
 }
+
+/// The lengths of what a server sends are the standard's.
+pub fn server_numbers()
+    ensures { ServerNumbers }
+{}
