@@ -34,6 +34,8 @@ mod counts;
 mod fault;
 mod judge;
 mod licences;
+#[cfg(test)]
+mod tests;
 mod verdict;
 
 pub use auditor::audit;
