@@ -1,9 +1,12 @@
 mod Streams
-mod States
+mod Rows
+mod NodeLists
 mod Served
 mod Dues
-mod Moments
+mod DueMoments
 mod Arrivals
 mod Inputs
+mod Calls
+mod Leaving
 mod Unsent
 mod Lengths

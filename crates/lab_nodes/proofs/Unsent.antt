@@ -1,9 +1,10 @@
 -- Where nothing is made of an entry it sends nothing, and has a fate at which something is kept.
 use Rattle.std.proofs.Common.{◌≡◌, ℕ, true, List, [], ◌∷◌, ◌++◌, Option, Some, None, refl, sym, ap, ◌∙◌}
-use Rattle.std.specs.Prelude.{map, option_to_list}
+use Rattle.std.specs.Prelude.{map, option_to_list, is_some}
 use Rattle.std.proofs.lemmas.Bool.{false≢true}
 use Rattle.td_base.specs.declared.endpoint.Ep.{Ep}
 use Rattle.td_base.specs.declared.ipv6.Ip6.{Ip6}
+use Rattle.td_base.specs.declared.side.Side.{Side}
 use Rattle.td_base.specs.declared.reach.Policy.{Policy}
 use Rattle.indications.specs.Leads.{origin_in}
 use Rattle.ipv6_packet.specs.Reads.{fields_in}
@@ -13,7 +14,7 @@ use Rattle.teredo_node.specs.declared.fate.Fate.{Fate}
 use Rattle.teredo_node.specs.declared.fate.Fate.TheVariants as fate
 use Rattle.teredo_node.specs.Step.{Send}
 use Rattle.teredo_node.specs.Sends.{has_any}
-use Rattle.teredo_node.specs.Journal.{Input, arrived, given, from_six, ticked, Entry, Journal, Words}
+use Rattle.teredo_node.specs.Journal.{Entry, Journal, Words}
 use Rattle.qualify.specs.declared.settings.Settings.{Settings}
 use Rattle.qualify.specs.Advertisements.{heard}
 use Rattle.client_core.specs.Client.{lists}
@@ -28,40 +29,38 @@ use Rattle.relay_rules.specs.Standing.{RelaySettings, standing_of as relay_stand
 use Rattle.relay_rules.specs.Transmission.{given as given_to, transmission_row, transmission_step, transmission}
 use Rattle.relay_rules.specs.Laws.{FateOfTransmission}
 use Rattle.relay_rules.specs.Journals.{relay_six}
-use Rattle.topology.specs.declared.node.Node.{Node}
-use Rattle.topology.specs.declared.node.Node.TheVariants.{Server as server, Nat as nat, Client as client, Relay as relay, Native as native}
-use Rattle.topology.specs.Chains.{way_out}
+use Rattle.topology.specs.declared.native_node.NativeNode.{NativeNode}
 use Rattle.history.specs.Full.{Made, Full}
 use Rattle.legal.specs.Lab.{Lab}
 use Rattle.legal.specs.Past.{armed}
-use Rattle.legal.specs.Emit.{entry_of, by_way, outright, six_made, sendings}
+use Rattle.legal.specs.Emit.{by_way, outright, native_made}
 use Rattle.lab_nodes.specs.Memory.{takes_memory}
-use Rattle.lab_nodes.specs.Answers.{IsNoNative, SendsOrKeeps}
+use Rattle.lab_nodes.specs.Answers.{SendsOrKeeps}
 
 -- WHERE NOTHING IS MADE
 
 filled : {A : Type 0} (x : A) (xs : List A) → x ∷ xs ≡ [] → ⊥
 filled x xs e = false≢true (sym (ap has_any e))
 
-none_by_way : (lab : Lab) (H : List Full) (m : ℕ) (way : List ℕ) (inside : Ep) (sends : List Send) → (by_way lab H m way inside (armed H) 0 [] sends).made ≡ [] → sends ≡ []
+-- of a client
+pub none_by_way : (lab : Lab) (H : List Full) (m : ℕ) (way : List ℕ) (inside : Ep) (sends : List Send) → (by_way lab H m way inside (armed H) 0 [] sends).made ≡ [] → sends ≡ []
 none_by_way lab H m way inside [] e = refl
 none_by_way lab H m way inside (y ∷ ys) e = absurd (false≢true (sym (ap has_any e)))
 
-none_outright : (a : Node) (fails : Option ℕ) (i : ℕ) (sends : List Send) (more : List Made) → outright a fails i sends ++ more ≡ [] → sends ≡ []
-none_outright a fails i [] more e = refl
-none_outright a fails i (y ∷ ys) more e = absurd (false≢true (sym (ap has_any e)))
+-- of a server or relay: neither a datagram nor a packet
+pub none_outright : (own : Side → Ep) (fails : Option ℕ) (i : ℕ) (sends : List Send) (more : List Made) → outright own fails i sends ++ more ≡ [] → sends ≡ []
+none_outright own fails i [] more e = refl
+none_outright own fails i (y ∷ ys) more e = absurd (false≢true (sym (ap has_any e)))
 
--- where nothing is made of an entry it sends nothing
-pub none_sent : (lab : Lab) (H : List Full) (m n : ℕ) (dst : Ep) (input : Input) (a : Node) → IsNoNative a
-    → (sendings lab H m (entry_of lab H m n dst input a) a).made ≡ [] → (entry_of lab H m n dst input a).step.sends ≡ []
-none_sent lab H m n dst input (server a) no_native e = let x = entry_of lab H m n dst input (server a) in none_outright (server a) (armed H) 0 x.step.sends (six_made x.input x.step.six) e
-none_sent lab H m n dst input (client c) no_native e = none_by_way lab H m (way_out lab.chain c.nat) c.inside (entry_of lab H m n dst input (client c)).step.sends e
-none_sent lab H m n dst input (relay r) no_native e = let x = entry_of lab H m n dst input (relay r) in none_outright (relay r) (armed H) 0 x.step.sends (six_made x.input x.step.six) e
-none_sent lab H m n dst input (native h) no_native e = absurd no_native
-none_sent lab H m n dst (arrived from x) (nat a) no_native e = refl
-none_sent lab H m n dst (given x) (nat a) no_native e = refl
-none_sent lab H m n dst (from_six x) (nat a) no_native e = refl
-none_sent lab H m n dst ticked (nat a) no_native e = refl
+pub none_besides : (own : Side → Ep) (fails : Option ℕ) (i : ℕ) (sends : List Send) (more : List Made) → outright own fails i sends ++ more ≡ [] → more ≡ []
+none_besides own fails i [] [] e = refl
+none_besides own fails i [] (y ∷ ys) e = absurd (false≢true (sym (ap has_any e)))
+none_besides own fails i (y ∷ ys) more e = absurd (false≢true (sym (ap has_any e)))
+
+-- of a native host
+pub none_native : (h : NativeNode) (packet : Option (List ℕ)) → is_some packet ≡ true → native_made h packet ≡ [] → ⊥
+none_native h None some e = false≢true some
+none_native h (Some x) some e = false≢true (sym (ap has_any e))
 
 -- WHERE NOTHING IS SENT
 

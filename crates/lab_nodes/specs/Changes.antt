@@ -1,13 +1,12 @@
 -- How what is kept of a node changes.
-use Rattle.std.specs.Prelude.{ℕ, ◌+◌, ◌∷◌, Option}
+use Rattle.std.specs.Prelude.{◌≡◌, ◌≢◌, ℕ, ◌+◌, List, ◌∷◌, map, slice_get, Some}
 use Rattle.td_base.specs.declared.endpoint.Ep.{Ep}
 use Rattle.nat_kinds.specs.History.{Forget, Restart}
 use Rattle.teredo_node.specs.Journal.{Entry, with_entry}
-use Rattle.topology.specs.declared.node.Node.{Node}
 use Rattle.topology.specs.Rows.{TopologyState}
 use Rattle.legal.specs.Past.{new_journal}
-use Rattle.lab_nodes.specs.declared.node_state.NodeState.{NodeState}
-use Rattle.lab_nodes.specs.NodeState.{NodePast, IsKeptIn}
+use Rattle.lab_nodes.specs.declared.played_node.PlayedNode.{PlayedNode}
+use Rattle.lab_nodes.specs.PlayedNode.{row_of, NodePast, IsKept}
 
 -- the past with a new start at m: the words go on
 abbrev pub restarted : ℕ → NodePast → NodePast
@@ -21,10 +20,20 @@ forgetting inside x = record x { history = Forget inside ∷ x.history }
 abbrev pub with_call : Entry → NodePast → NodePast
 with_call e x = record x { journal = with_entry x.journal e; words = λ k. x.words (e.step.drawn + k) }
 
--- what is kept of a node that starts anew at m stands for its past with that
-abbrev pub RestartsIn : ℕ → Option NodeState → Option NodeState → Type 0
-RestartsIn m old new = (t : TopologyState) (n : ℕ) (a : Node) (x : NodePast) → IsKeptIn t n a x old → IsKeptIn t n a (restarted m x) new
+-- a node that starts anew at m stands for its past with that
+abbrev pub Restarts : ℕ → PlayedNode → PlayedNode → Type 0
+Restarts m old new = (t : TopologyState) (n : ℕ) (x : NodePast) → IsKept t n x old → IsKept t n (restarted m x) new
 
--- the same of a node that forgets an inside endpoint
-abbrev pub ForgetsIn : Ep → Option NodeState → Option NodeState → Type 0
-ForgetsIn inside old new = (t : TopologyState) (n : ℕ) (a : Node) (x : NodePast) → IsKeptIn t n a x old → IsKeptIn t n a (forgetting inside x) new
+-- one that forgets an inside endpoint for its past with that
+abbrev pub Forgets : Ep → PlayedNode → PlayedNode → Type 0
+Forgets inside old new = (t : TopologyState) (n : ℕ) (x : NodePast) → IsKept t n x old → IsKept t n (forgetting inside x) new
+
+-- The node of a number changes so, and keeps its row. The others stay.
+pub record ChangesAt (does : PlayedNode → PlayedNode → Type 0) (n : ℕ) (old new : List PlayedNode) : Type 0 where
+  pub before : PlayedNode
+  pub after : PlayedNode
+  pub was : slice_get old n ≡ Some before
+  pub is : slice_get new n ≡ Some after
+  pub change : does before after
+  pub elsewhere : (k : ℕ) → k ≢ n → slice_get new k ≡ slice_get old k
+  pub rows : map row_of new ≡ map row_of old

@@ -7,8 +7,9 @@ use Rattle.legal.specs.Emit.{due_of}
 use Rattle.legal.specs.Next as next
 use Rattle.lab_nodes.specs.declared.due.Due.{Due}
 
-abbrev pub due_is : Due → next.Due
-due_is x = record { moment = x.moment.0; number = x.number; node = x.node }
+-- when it is due, and of which node
+abbrev pub due_as : next.Due → Due
+due_as x = record { moment = record { 0 = x.moment }; node = x.number }
 
 -- the tick of node n, as it stands at the moment m
 abbrev pub tick_of : Lab → List Full → ℕ → ℕ → Node → Option next.Due

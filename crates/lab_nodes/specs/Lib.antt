@@ -1,9 +1,10 @@
 pub mod OneArrival
-pub mod NodeState
+pub mod PlayedNode
 pub mod Changes
 pub mod Call
 pub mod Memory
+pub mod Outlet
 pub mod Answers
 pub mod Due
-pub mod Moments
+pub mod DueMoments
 pub mod Laws

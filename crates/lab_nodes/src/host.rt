@@ -1,30 +1,22 @@
 //! What the hosts of nodes send.
-ghost use Rattle.std.specs.Prelude.{◌≡◌, ◌≤◌, ℕ, List, [], length, take, slice_get};
+ghost use Rattle.std.specs.Prelude.{◌≡◌, ◌≤◌, List, [], length, take};
 ghost use Rattle.history.specs.declared.event.TheConstants.{BODY_MAX};
 ghost use Rattle.history.specs.Full.{Full};
 ghost use Rattle.native_host.specs.declared.limits.TheConstants.{HOST_ECHO_ID};
 ghost use Rattle.ipv6_packet.specs.Packets.{packet_bytes};
 ghost use Rattle.icmp6.specs.Message.{echo_request};
 ghost use Rattle.icmp6.specs.Layout.{message_bytes};
-ghost use Rattle.topology.specs.declared.client_node.ClientNode.{ClientNode};
-ghost use Rattle.topology.specs.declared.node.Node.TheVariants.{Client as client};
-ghost use Rattle.topology.specs.Rows.{TopologyState};
-ghost use Rattle.qualify.specs.Qualification.{qualification};
-ghost use Rattle.qualify.specs.Solicitations.{own_address};
-ghost use Rattle.topology.specs.Chains.{Behind};
-ghost use Rattle.legal.specs.Lab.{Draws, lab_on};
-ghost use Rattle.legal.specs.Settings.{client_settings};
+ghost use Rattle.legal.specs.Lab.{Lab};
 ghost use Rattle.legal.specs.Next.{data_packet, echo_packet, address_at, target_address};
-ghost use Rattle.lab_nodes.specs.NodeState.{NodePast, IsKept, IsKeptIn, NodesOf};
+ghost use Rattle.lab_nodes.specs.PlayedNode.{NodesOf};
 
-use crate::node_state::NodeState;
+use crate::played_node::PlayedNode;
 use history::{BODY_MAX, Target};
 use icmp6::Msg;
 use ipv6_packet::{HEADER, NEXT_ICMP, Packet};
 use native_host::{HOST_DATA_NEXT, HOST_ECHO_ID, HOST_HOP};
 use td_base::Ip6;
 use teredo_addr::UNSPECIFIED;
-use topology::{Node, Topology};
 
 /// The most bytes of a packet with a host's data.
 pub const DATA_MAX: usize = HEADER + BODY_MAX;
@@ -84,48 +76,22 @@ pub fn echo(src: Ip6, dst: Ip6, seq: u16) -> [u8; ECHO]
     bytes
 }
 
-/// The address of a client whose state this is, or `::` where it has none.
-#[tactic(auto, unfolding(qualify::specs::Solicitations::own_address))]
-fn address_in(state: &NodeState) -> Ip6
-    ensures { (t : TopologyState) (n : ℕ) (row : ClientNode) (x : NodePast) → IsKept t n (client row) x state.now
-        → result ≡ own_address (qualification (client_settings t row) x.journal) }
-{
-    match state {
-        NodeState::Client(client) => client.address().unwrap_or(UNSPECIFIED),
-        NodeState::Nat(_) => UNSPECIFIED,
-        NodeState::Relay(_) => UNSPECIFIED,
-        NodeState::Nothing => UNSPECIFIED,
-    }
-}
-
-/// The address of the client of a number.
-fn address_of_client(nodes: &[NodeState], number: u16) -> Ip6
-    ensures { (t : TopologyState) (row : ClientNode) (x : NodePast) → IsKeptIn t number (client row) x (slice_get nodes.now number)
-        → result ≡ own_address (qualification (client_settings t row) x.journal) }
+/// The address of the host of a node: a client's, or `::` where it isn't qualified; a native host's.
+pub fn address_at(nodes: &[PlayedNode], number: u16) -> Ip6
+    ensures { (lab : Lab) (H : List Full) → NodesOf lab nodes.now H → result ≡ address_at lab H number }
 {
     match nodes.get(usize::from(number)) {
-        Some(state) => address_in(state),
+        Some(node) => node.address(),
         None => UNSPECIFIED,
     }
 }
 
-/// The address of the host of a node: a client's, or `::` where it isn't qualified; a native host's.
-pub fn address_at(topology: &Topology, nodes: &[NodeState], number: u16) -> Ip6
-    ensures { (d : Draws) (chain : List Behind) (H : List Full) → NodesOf (lab_on d topology.now chain) nodes.now H → result ≡ address_at (lab_on d topology.now chain) H number }
-{
-    match topology.node(usize::from(number)) {
-        Some(Node::Client(_)) => address_of_client(nodes, number),
-        Some(Node::Native(row)) => row.six,
-        _ => UNSPECIFIED,
-    }
-}
-
 /// The address that a target stands for.
-pub fn target_address(topology: &Topology, nodes: &[NodeState], to: Target) -> Ip6
-    ensures { (d : Draws) (chain : List Behind) (H : List Full) → NodesOf (lab_on d topology.now chain) nodes.now H → result ≡ target_address (lab_on d topology.now chain) H to }
+pub fn target_address(nodes: &[PlayedNode], to: Target) -> Ip6
+    ensures { (lab : Lab) (H : List Full) → NodesOf lab nodes.now H → result ≡ target_address lab H to }
 {
     match to {
-        Target::Node(number) => address_at(topology, nodes, number),
+        Target::Node(number) => address_at(nodes, number),
         Target::At(ip) => ip,
     }
 }

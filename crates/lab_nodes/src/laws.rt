@@ -1,6 +1,6 @@
 //! Laws of the rows of a topology, and of what is kept of its nodes.
 ghost use Rattle.lab_nodes.specs.Laws.{EachClientKeepsRules};
-ghost use Rattle.lab_nodes.specs.Moments.{EachSumIsOfThePast};
+ghost use Rattle.lab_nodes.specs.DueMoments.{EachSumIsOfThePast};
 
 /// A client of a topology keeps to the rules for clients.
 pub fn rows_keep_rules()

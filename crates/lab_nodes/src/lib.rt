@@ -2,16 +2,16 @@
 //!
 //! # What the layer above may rely on
 //!
-//! - What is kept of a node stands for its past in a history; the first states stand for the history without records
-//!   (`specs/NodeState.antt`).
+//! - A played node has its row and what is kept of it, which stands for its past in a history; the first nodes stand for
+//!   the history without records (`specs/PlayedNode.antt`).
 //! - For each past that it stood for, a node that is asked does what the next entry of its journal says, and then stands
-//!   for the past with that entry; memory is wanting only where the entry sends something, or may keep something
-//!   (`specs/Answers.antt`, `Memory.antt`).
-//! - A node that starts anew, or a NAT that forgets somebody, stands for its past with that (`specs/Changes.antt`). All
-//!   other nodes stay in each call.
+//!   for the past with that entry. It tells how what it sends leaves it (`specs/Outlet.antt`). Memory is wanting only where
+//!   the entry sends something, or may keep something (`specs/Answers.antt`, `Memory.antt`).
+//! - A node that starts anew, or a NAT that forgets somebody, stands for its past with that. In each call one node
+//!   changes, and keeps its row (`specs/Changes.antt`).
 //! - The tick that is found is the one that is due first (`specs/Due.antt`); what a host sends has exactly the bytes of its
 //!   packet.
-//! - All due moments of the nodes can be read off what is kept of them (`specs/Moments.antt`).
+//! - All due moments of the nodes can be read off what is kept of them (`specs/DueMoments.antt`).
 //!
 //! # What it does not know
 //!
@@ -22,34 +22,43 @@
 //!
 //! | module | holds | stated in |
 //! |---|---|---|
-//! | `node_state` | what is kept of each node | `specs/NodeState.antt`, `Changes.antt` |
-//! | `call` | what comes to a node | `specs/Call.antt` |
-//! | `answer` | what a node does with it, and gives besides its step | `specs/Answers.antt`, `Memory.antt` |
-//! | `server`, `client`, `relay`, `native` | the same for each kind of node | |
-//! | `idle`, `handed` | nothing done; what a step hands of a datagram to others | |
+//! | `played_node` | a node with what is kept of it, and what is asked of it | `specs/PlayedNode.antt`, `Changes.antt` |
+//! | `first_node`, `nodes` | all nodes: at first, and by their numbers | |
+//! | `call`, `input` | what is asked of a node | `specs/Call.antt` |
+//! | `asked`, `outlet` | what comes of it besides its step | `specs/Answers.antt`, `Outlet.antt`, `Memory.antt` |
+//! | `server`, `nat`, `client`, `relay`, `native` | the same for each kind of node | |
+//! | `handed` | what a step hands of a datagram to others | |
 //! | `one_arrival` | a server is lent a datagram | `specs/OneArrival.antt` |
 //! | `due` | which tick is due first | `specs/Due.antt` |
 //! | `host` | what the hosts of nodes send | |
-//! | `laws` | what holds of each row of a topology, and of all due moments | `specs/Laws.antt`, `Moments.antt` |
+//! | `laws` | what holds of each row of a topology, and of all due moments | `specs/Laws.antt`, `DueMoments.antt` |
 #![tactic(auto)]
 
-mod answer;
+mod asked;
 mod call;
 mod client;
 mod due;
+mod first_node;
 mod handed;
 mod host;
-mod idle;
+mod input;
 mod laws;
+mod nat;
 mod native;
-mod node_state;
+mod nodes;
 mod one_arrival;
+mod outlet;
+mod played_node;
 mod relay;
 mod server;
 
-pub use answer::{Asked, ask};
-pub use call::{Call, Coming};
+pub use asked::{Asked, SixPacket};
+pub use call::Call;
 pub use due::{Due, first_due};
+pub use first_node::first_nodes;
 pub use host::{DATA_MAX, ECHO, address_at, echo, target_address, write_data};
+pub use input::Input;
 pub use laws::{due_as_in_the_past, rows_keep_rules};
-pub use node_state::{NodeState, first_states, forget_at, restart_at};
+pub use nodes::{ask, forget_at, restart_at};
+pub use outlet::Outlet;
+pub use played_node::PlayedNode;

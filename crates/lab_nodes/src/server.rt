@@ -1,21 +1,25 @@
 //! What a server does with what comes to it.
-ghost use Rattle.std.specs.Prelude.{◌≡◌, ◌≤◌, ℕ, List, length};
+ghost use Rattle.std.specs.Prelude.{◌≡◌, ◌≤◌, ℕ, List, length, OnErr, IfOk, IfSome};
 ghost use Rattle.td_base.specs.declared.datagram.TheConstants.{DATAGRAM_MAX};
-ghost use Rattle.topology.specs.Rows.{TopologyState};
 ghost use Rattle.topology.specs.declared.node.Node.TheVariants.{Server as server};
 ghost use Rattle.topology.specs.Topology.{side_at};
-ghost use Rattle.td_base.specs.declared.endpoint.Ep.{Ep};
 ghost use Rattle.server_core.specs.Server.{server_row};
 ghost use Rattle.history.specs.Full.{Full};
 ghost use Rattle.legal.specs.Lab.{Lab};
 ghost use Rattle.legal.specs.Settings.{server_settings};
-ghost use Rattle.legal.specs.Emit.{entry_of};
-ghost use Rattle.lab_nodes.specs.Call.{dst_lent, input_lent, IsShortInput};
+ghost use Rattle.lab_nodes.specs.declared.played_node.PlayedNode.TheVariants as played;
+ghost use Rattle.lab_nodes.specs.Call.{input_lent, IsShortInput, entry_in};
+ghost use Rattle.lab_nodes.specs.Answers.{Answers, Wants};
 
-use crate::call::{Call, Coming};
+use crate::asked::Asked;
+use crate::call::Call;
+use crate::handed::{handed_of, six_of};
+use crate::input::Input;
 use crate::one_arrival::OneArrival;
+use crate::outlet::Outlet;
 use server_core::Server;
-use td_base::{Ep, Millis, Policy, Side};
+use std::alloc::Global;
+use td_base::{Ep, Millis, NoMemory, Policy, Side};
 use teredo_node::{Fate, Pumped, Step, pump};
 use topology::ServerNode;
 
@@ -44,16 +48,39 @@ fn serve(row: &ServerNode, now: Millis, src: Ep, dst: Ep, bytes: &[u8], step: &m
     }
 }
 
-/// What a server does. It has no host, takes no IPv6 packet, and nothing is due of it.
-pub fn serve_call(row: &ServerNode, call: Call<'_>, step: &mut Step)
-    requires { IsShortInput (input_lent call.coming) }
-    ensures { (lab : Lab) (H : List Full) (n : ℕ)
-        → step.new ≡ (entry_of lab H call.entry.now.0 n (dst_lent call.entry.coming) (input_lent call.entry.coming) (server row.now)).step }
+/// Lets a server do what is asked of it. It has no host, takes no IPv6 packet, and nothing is due of it.
+fn ask_server(row: &ServerNode, call: Call<'_>, step: &mut Step)
+    requires { IsShortInput (input_lent call.input) }
+    ensures { (lab : Lab) (H : List Full) → step.new ≡ (entry_in lab H call.entry (server row.now)).step }
 {
-    match call.coming {
-        Coming::Arrived { src, dst, bytes } => serve(row, call.now, src, dst, bytes, step),
-        Coming::Given { .. } => step.reset(Fate::Idle),
-        Coming::FromSix { .. } => step.reset(Fate::Idle),
-        Coming::Ticked => step.reset(Fate::Idle),
+    match call.input {
+        Input::Arrived { src, dst, bytes } => serve(row, call.now, src, dst, bytes, step),
+        Input::Given { .. } => step.reset(Fate::Idle),
+        Input::FromSix { .. } => step.reset(Fate::Idle),
+        Input::Ticked => step.reset(Fate::Idle),
     }
+}
+
+/// What a server does whose row this is.
+pub fn answer_server(
+    alloc: Global,
+    row: ServerNode,
+    call: Call<'_>,
+    step: &mut Step,
+) -> Result<Asked, NoMemory>
+    requires short { IsShortInput (input_lent call.input) }
+    ensures answers { IfOk result (λ asked. Answers call.entry (played.Server row) (played.Server row) step.new asked) }
+    ensures short { IfOk result (λ asked. IfSome asked.packet (λ packet. length packet.bytes ≤ DATAGRAM_MAX)) }
+    ensures wants { OnErr result (Wants call.entry (played.Server row)) }
+{
+    ask_server(&row, call, step);
+    Ok(Asked {
+        outlet: Outlet::Own {
+            primary: Ep::of_server(row.primary),
+            secondary: Ep::of_server(row.secondary),
+        },
+        packet: six_of(alloc, call.input, step)?,
+        handed: handed_of(call.input, step),
+        address: None,
+    })
 }

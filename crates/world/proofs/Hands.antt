@@ -1,9 +1,16 @@
--- Packets that hosts hand in.
-use Rattle.std.proofs.Common.{◌≡◌, ℕ, List, [], Some, None, Result, Ok, refl, sym, ap, subst, ◌∙◌}
+-- Nodes that events name, and packets that their hosts hand in.
+use Rattle.std.proofs.Common.{◌≡◌, ◌<◌, ℕ, List, length, Some, None, Result, sym, ap, subst, ◌∙◌}
 use Rattle.teredo_node.specs.declared.fate.Fate.TheVariants as fate
 use Rattle.teredo_node.specs.Journal.{given}
 use Rattle.topology.specs.declared.node.Node.{Node}
 use Rattle.topology.specs.Topology.{node_at}
+use Rattle.topology.specs.Rows.{TopologyState}
+use Rattle.history.specs.declared.event.Event.{Event}
+use Rattle.history.specs.declared.event.Event.TheVariants as event
+use Rattle.history.specs.Events.{IsEvent}
+use Rattle.lab_nodes.specs.declared.played_node.PlayedNode.{PlayedNode}
+use Rattle.lab_nodes.specs.PlayedNode.{AreOf}
+use Rattle.world.proofs.Routes.{host_within, within_as}
 use Rattle.history.specs.declared.acts.Verb.{Verb}
 use Rattle.history.specs.declared.records.Record.{Record}
 use Rattle.history.specs.declared.turn.Stop.{Stop}
@@ -17,14 +24,25 @@ use Rattle.world.specs.World.{WorldState, StandsFor}
 use Rattle.world.specs.Playing.{Plays}
 use Rattle.world.proofs.Played.{rests, said_blank}
 
--- the node isn't there
-pub nobody : EachFrames → (d : Draws) (w : WorldState) (H : List Full) (e : Numbered) (v : Verb) (n : ℕ) (x : List ℕ) → StandsFor d w H → at_nat (flat_lab d w.topology) e.event (plain v) ≡ [] → node_at w.topology n ≡ None
-    → Plays d w w H (hands_in (flat_lab d w.topology) H e v n x (node_at w.topology n)) (Ok (with_deed (fresh_record e.number w.moment) (plain v) (Some n) fate.Idle))
-nobody frame d w H e v n x s quiet none =
-    subst (λ (r : Full). Plays d w w H r (Ok (with_deed (fresh_record e.number w.moment) (plain v) (Some n) fate.Idle))) (sym (ap (hands_in (flat_lab d w.topology) H e v n x) none)) (
-      said_blank w.moment H e (plain v) (Some n) fate.Idle None s.moment,
-      rests frame d w w H (blank H e (plain v) (Some n) fate.Idle) s.nodes (record { still = record { entry = refl; made = refl; passed = refl; nothing = quiet }; moment = s.moment; nodes = refl; wire = refl; done = λ i. refl }),
-    )
+-- the node that an event names is one of these
+abbrev pub IsWithin : Event → List PlayedNode → Type 0
+IsWithin (event.Host n to body) list = n < length list
+IsWithin (event.Echo n to seq) list = n < length list
+IsWithin (event.Raw n bytes) list = n < length list
+IsWithin (event.Restart n) list = n < length list
+IsWithin _ list = Unit {0}
+
+pub event_within : (t : TopologyState) (list : List PlayedNode) (e : Event) → AreOf t list → IsEvent t e → IsWithin e list
+event_within t list (event.Host n to body) of is = host_within t list n of is.from
+event_within t list (event.Echo n to seq) of is = host_within t list n of is.from
+event_within t list (event.Raw n bytes) of is = host_within t list n of is.from
+event_within t list (event.Restart n) of is = within_as t list n of is
+event_within t list (event.Advance ms) of is = tt
+event_within t list (event.Deliver number) of is = tt
+event_within t list event.Next of is = tt
+event_within t list (event.Stranger src dst bytes) of is = tt
+event_within t list (event.Copy number src dst) of is = tt
+event_within t list (event.Forget n who) of is = tt
 
 -- it does what it does
 pub hands : (d : Draws) (w new : WorldState) (H : List Full) (e : Numbered) (v : Verb) (n : ℕ) (x : List ℕ) (a : Node) (m : ℕ) (result : Result Record Stop) → m ≡ w.moment → StandsFor d w H → node_at w.topology n ≡ Some a

@@ -1,6 +1,6 @@
 -- What a record leaves of what is kept of the nodes.
 use Rattle.std.proofs.Common.{◌≡◌, ◌≢◌, ℕ, ◌+◌, ◌==◌, Bool, true, false, List, [], ◌∷◌, Option, Some, None, refl, sym, ap, subst, ◌∙◌, arith, ◌⊎◌, inl, inr}
-use Rattle.std.specs.Prelude.{slice_get, is_some}
+use Rattle.std.specs.Prelude.{is_some}
 use Rattle.std.proofs.lemmas.Bool.{false≢true}
 use Rattle.std.proofs.lemmas.Bool.Decides.{eqb_tells}
 use Rattle.nat_kinds.specs.Nat as nats
@@ -9,8 +9,6 @@ use Rattle.teredo_node.specs.Journal.{Journal}
 use Rattle.client_core.specs.Client.{ClientStandsFor}
 use Rattle.relay_core.specs.Relay.{RelayStandsFor}
 use Rattle.topology.specs.Rows.{TopologyState}
-use Rattle.topology.specs.declared.node.Node.{Node}
-use Rattle.topology.specs.declared.node.Node.TheVariants.{Server as server, Nat as nat, Client as client, Relay as relay, Native as native}
 use Rattle.history.specs.declared.acts.Act.{Act}
 use Rattle.history.specs.declared.event.Event.{Event}
 use Rattle.history.specs.Full.{Full}
@@ -18,42 +16,29 @@ use Rattle.legal.specs.Lab.{Lab}
 use Rattle.legal.specs.Past.{is_node, is_restart, at_nat, journal, drawn, words}
 use Rattle.topology.specs.Chains.{outs_at}
 use Rattle.legal.specs.Frame.{EachFrames}
-use Rattle.lab_nodes.specs.declared.node_state.NodeState.{NodeState}
-use Rattle.lab_nodes.specs.declared.node_state.NodeState.TheVariants as state
-use Rattle.lab_nodes.specs.NodeState.{NodePast, past_of, IsKept, IsKeptIn, NodesOf}
+use Rattle.lab_nodes.specs.declared.played_node.PlayedNode.{PlayedNode}
+use Rattle.lab_nodes.specs.declared.played_node.PlayedNode.TheVariants as played
+use Rattle.lab_nodes.specs.PlayedNode.{NodePast, past_of, IsKept, NodesOf}
 
 -- PASTS THAT ARE THE SAME FOR A NODE
 
-abbrev pub AsPast : Node → NodePast → NodePast → Type 0
-AsPast (nat b) x y = y.history ≡ x.history
-AsPast (client c) x y = (y.journal ≡ x.journal) × (y.words ≡ x.words)
-AsPast (server a) x y = Unit {0}
-AsPast (relay r) x y = y.journal ≡ x.journal
-AsPast (native h) x y = Unit {0}
+abbrev pub AsPast : PlayedNode → NodePast → NodePast → Type 0
+AsPast (played.Nat row is) x y = y.history ≡ x.history
+AsPast (played.Client row is) x y = (y.journal ≡ x.journal) × (y.words ≡ x.words)
+AsPast (played.Server row) x y = Unit {0}
+AsPast (played.Relay row is) x y = y.journal ≡ x.journal
+AsPast (played.Native row) x y = Unit {0}
 
-kept_as : (t : TopologyState) (n : ℕ) (a : Node) (x y : NodePast) (s : NodeState) → AsPast a x y → IsKept t n a x s → IsKept t n a y s
-kept_as t n (nat b) x y (state.Nat is) same h = record { settings = h.settings; stands = subst (λ (g : List NatEntry). nats.StandsFor is g) (sym same) h.stands }
-kept_as t n (nat b) x y state.Nothing same h = absurd h
-kept_as t n (nat b) x y (state.Client is) same h = absurd h
-kept_as t n (nat b) x y (state.Relay is) same h = absurd h
-kept_as t n (client c) x y (state.Client is) same h = record {
+pub kept_as : (t : TopologyState) (n : ℕ) (x y : NodePast) (p : PlayedNode) → AsPast p x y → IsKept t n x p → IsKept t n y p
+kept_as t n x y (played.Nat row is) same h = record { settings = h.settings; stands = subst (λ (g : List NatEntry). nats.StandsFor is g) (sym same) h.stands }
+kept_as t n x y (played.Client row is) same h = record {
   settings = h.settings;
   stands = subst (λ (j : Journal). ClientStandsFor is j) (sym same.0) h.stands;
   words = h.words ∙ sym same.1;
 }
-kept_as t n (client c) x y state.Nothing same h = absurd h
-kept_as t n (client c) x y (state.Nat is) same h = absurd h
-kept_as t n (client c) x y (state.Relay is) same h = absurd h
-kept_as t n (relay r) x y (state.Relay is) same h = record { settings = h.settings; stands = subst (λ (j : Journal). RelayStandsFor is j.entries) (sym same) h.stands }
-kept_as t n (relay r) x y state.Nothing same h = absurd h
-kept_as t n (relay r) x y (state.Nat is) same h = absurd h
-kept_as t n (relay r) x y (state.Client is) same h = absurd h
-kept_as t n (server a) x y s same h = tt
-kept_as t n (native h) x y s same k = tt
-
-pub kept_in_as : (t : TopologyState) (n : ℕ) (a : Node) (x y : NodePast) (o : Option NodeState) → AsPast a x y → IsKeptIn t n a x o → IsKeptIn t n a y o
-kept_in_as t n a x y None same h = absurd h
-kept_in_as t n a x y (Some s) same h = kept_as t n a x y s same h
+kept_as t n x y (played.Relay row is) same h = record { settings = h.settings; stands = subst (λ (j : Journal). RelayStandsFor is j.entries) (sym same) h.stands }
+kept_as t n x y (played.Server row) same h = tt
+kept_as t n x y (played.Native row) same h = tt
 
 -- NODES THAT A RECORD ISN'T ABOUT
 
@@ -76,12 +61,12 @@ words_same lab k r H same = ap (λ (m : ℕ). λ (j : ℕ). lab.draws k (m + j))
 pub draws_none : (k : ℕ) (r : Full) (H : List Full) → is_node k r.node ≡ false → drawn k (r ∷ H) ≡ drawn k H
 draws_none k r H nope = let none : drawn k H + 0 ≡ drawn k H = omega arith in rw nope none
 
-pub away : EachFrames → (lab : Lab) (H : List Full) (r : Full) (k : ℕ) (b : Node) → r.node ≢ Some k → outs_at k r.passed ≡ [] → AsPast b (past_of lab k H) (past_of lab k (r ∷ H))
-away frame lab H r k (nat b) other outs = (frame lab H r).nats k other outs
-away frame lab H r k (client c) other outs = ((frame lab H r).journals k other, words_same lab k r H (draws_none k r H (not_node k r.node other)))
-away frame lab H r k (server a) other outs = tt
-away frame lab H r k (relay a) other outs = (frame lab H r).journals k other
-away frame lab H r k (native h) other outs = tt
+pub away : EachFrames → (lab : Lab) (H : List Full) (r : Full) (k : ℕ) (p : PlayedNode) → r.node ≢ Some k → outs_at k r.passed ≡ [] → AsPast p (past_of lab k H) (past_of lab k (r ∷ H))
+away frame lab H r k (played.Nat row is) other outs = (frame lab H r).nats k other outs
+away frame lab H r k (played.Client row is) other outs = ((frame lab H r).journals k other, words_same lab k r H (draws_none k r H (not_node k r.node other)))
+away frame lab H r k (played.Server row) other outs = tt
+away frame lab H r k (played.Relay row is) other outs = (frame lab H r).journals k other
+away frame lab H r k (played.Native row) other outs = tt
 
 -- RECORDS AT WHICH NO NODE DOES ANYTHING
 
@@ -114,18 +99,23 @@ pub record IsStill (lab : Lab) (r : Full) : Type 0 where
   pub passed : r.passed ≡ []
   pub nothing : at_nat lab r.asked r.act ≡ []
 
-rests_as : EachFrames → (lab : Lab) (H : List Full) (r : Full) (k : ℕ) (b : Node) → IsStill lab r → AsPast b (past_of lab k H) (past_of lab k (r ∷ H))
-rests_as frame lab H r k (nat b) is = (frame lab H r).silent k (ap (outs_at k) is.passed) is.nothing
-rests_as frame lab H r k (client c) is = (journal_rests k r H is.entry (starts_none lab r.asked r.act is.nothing), words_same lab k r H (drawn_rests k r H is.entry))
-rests_as frame lab H r k (server a) is = tt
-rests_as frame lab H r k (relay a) is = journal_rests k r H is.entry (starts_none lab r.asked r.act is.nothing)
-rests_as frame lab H r k (native h) is = tt
+rests_as : EachFrames → (lab : Lab) (H : List Full) (r : Full) (k : ℕ) (p : PlayedNode) → IsStill lab r → AsPast p (past_of lab k H) (past_of lab k (r ∷ H))
+rests_as frame lab H r k (played.Nat row kept) is = (frame lab H r).silent k (ap (outs_at k) is.passed) is.nothing
+rests_as frame lab H r k (played.Client row kept) is = (journal_rests k r H is.entry (starts_none lab r.asked r.act is.nothing), words_same lab k r H (drawn_rests k r H is.entry))
+rests_as frame lab H r k (played.Server row) is = tt
+rests_as frame lab H r k (played.Relay row kept) is = journal_rests k r H is.entry (starts_none lab r.asked r.act is.nothing)
+rests_as frame lab H r k (played.Native row) is = tt
 
-pub all_rest : EachFrames → (lab : Lab) (states : List NodeState) (H : List Full) (r : Full) → NodesOf lab states H → IsStill lab r → NodesOf lab states (r ∷ H)
-all_rest frame lab states H r of is = λ k b at. kept_in_as lab.topology k b (past_of lab k H) (past_of lab k (r ∷ H)) (slice_get states k) (rests_as frame lab H r k b is) (of k b at)
+pub all_rest : EachFrames → (lab : Lab) (list : List PlayedNode) (H : List Full) (r : Full) → NodesOf lab list H → IsStill lab r → NodesOf lab list (r ∷ H)
+all_rest frame lab list H r of is = record {
+  rows = of.rows;
+  each = λ k p at. kept_as lab.topology k (past_of lab k H) (past_of lab k (r ∷ H)) p (rests_as frame lab H r k p is) (of.each k p at);
+}
 
 -- a record of no node leaves all
-pub all_away : EachFrames → (lab : Lab) (states : List NodeState) (H : List Full) (r : Full) → NodesOf lab states H → r.node ≡ None → r.passed ≡ [] → NodesOf lab states (r ∷ H)
-all_away frame lab states H r of nobody none = λ k b at.
-    kept_in_as lab.topology k b (past_of lab k H) (past_of lab k (r ∷ H)) (slice_get states k)
-    (away frame lab H r k b (λ e. false≢true (ap (λ (o : Option ℕ). is_some o) (sym nobody ∙ e))) (ap (outs_at k) none)) (of k b at)
+pub all_away : EachFrames → (lab : Lab) (list : List PlayedNode) (H : List Full) (r : Full) → NodesOf lab list H → r.node ≡ None → r.passed ≡ [] → NodesOf lab list (r ∷ H)
+all_away frame lab list H r of nobody none = record {
+  rows = of.rows;
+  each = λ k p at. kept_as lab.topology k (past_of lab k H) (past_of lab k (r ∷ H)) p
+      (away frame lab H r k p (λ e. false≢true (ap (λ (o : Option ℕ). is_some o) (sym nobody ∙ e))) (ap (outs_at k) none)) (of.each k p at);
+}

@@ -11,8 +11,8 @@ use Rattle.legal.specs.Lab.{Draws, Lab, flat_lab}
 use Rattle.legal.specs.Past.{now, began, going, has_more}
 use Rattle.legal.specs.Left.{time_left, left_of_event, left}
 use Rattle.legal.specs.Left as legal
-use Rattle.lab_nodes.specs.NodeState.{NodesOf, AreReady}
-use Rattle.lab_nodes.specs.Moments.{all_due, EachSumIsOfThePast}
+use Rattle.lab_nodes.specs.PlayedNode.{NodesOf, AreReady}
+use Rattle.lab_nodes.specs.DueMoments.{all_due, EachSumIsOfThePast}
 use Rattle.world.specs.World.{WorldState, left_of, left_in}
 
 -- THE SAME DUE MOMENTS IN ANOTHER ORDER
@@ -58,11 +58,11 @@ left_is law d w H is = left_by_going (flat_lab d w.topology) H ∙ ap (left_so (
   by None = refl
   by (Some (event.Advance ms)) =
       let ready : AreReady (now H) w.nodes = subst (λ (m : ℕ). AreReady m w.nodes) is.moment is.ready in
-      let same : time_left (began H + ms) (now H) (all_due (now H) w.nodes 0 (nodes w.topology)) ≡ time_left (began H + ms) (now H) (legal.all_due (flat_lab d w.topology) H 0 (nodes w.topology)) =
-      same_time (began H + ms) (now H) (all_due (now H) w.nodes 0 (nodes w.topology)) (legal.all_due (flat_lab d w.topology) H 0 (nodes w.topology)) (λ weight. law (flat_lab d w.topology) w.nodes H weight is.nodes ready) in
+      let same : time_left (began H + ms) (now H) (all_due (now H) w.nodes) ≡ time_left (began H + ms) (now H) (legal.all_due (flat_lab d w.topology) H 0 (nodes w.topology)) =
+      same_time (began H + ms) (now H) (all_due (now H) w.nodes) (legal.all_due (flat_lab d w.topology) H 0 (nodes w.topology)) (λ weight. law (flat_lab d w.topology) w.nodes H weight is.nodes ready) in
       sym same
-      ∙ ap (λ (m : ℕ). time_left (began H + ms) m (all_due m w.nodes 0 (nodes w.topology))) (sym is.moment)
-      ∙ ap (λ (m : ℕ). time_left (m + ms) w.moment (all_due w.moment w.nodes 0 (nodes w.topology))) (sym is.began)
+      ∙ ap (λ (m : ℕ). time_left (began H + ms) m (all_due m w.nodes)) (sym is.moment)
+      ∙ ap (λ (m : ℕ). time_left (m + ms) w.moment (all_due w.moment w.nodes)) (sym is.began)
   by (Some (event.Deliver number)) = refl
   by (Some event.Next) = refl
   by (Some (event.Host node to body)) = refl

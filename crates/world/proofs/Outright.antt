@@ -3,19 +3,15 @@ use Rattle.std.proofs.Common.{◌≡◌, ◌+◌, ℕ, List, [], ◌∷◌, ◌+
 use Rattle.std.specs.Prelude.{slice_get}
 use Rattle.std.proofs.lemmas.List.{take_more, length-append, take-append-drop}
 use Rattle.std.proofs.lemmas.Option.{slice_get_within, get_or_from_slice_get}
-use Rattle.td_base.specs.declared.span.Span.{Span}
+use Rattle.td_base.specs.declared.endpoint.Ep.{Ep}
+use Rattle.td_base.specs.declared.side.Side.{Side}
 use Rattle.teredo_node.specs.Step.{Send}
-use Rattle.teredo_node.specs.Journal.{Input, arrived, given, from_six, ticked}
-use Rattle.topology.specs.declared.node.Node.{Node}
-use Rattle.topology.specs.Topology.{own_ep}
 use Rattle.history.specs.declared.mark.Mark.{Mark}
 use Rattle.history.specs.declared.turn.Stop.{Stop}
 use Rattle.history.specs.Full.{udp, Made, sent}
 use Rattle.history.specs.Records.{mark_of}
-use Rattle.legal.specs.Emit.{is_at_place, made_outright, outright, six_made}
-use Rattle.lab_nodes.specs.Answers.{six_part}
+use Rattle.legal.specs.Emit.{is_at_place, made_outright, outright}
 use Rattle.world.specs.Wire.{WireState, ComesOnto, Puts}
-use Rattle.world.specs.Emission.{six_sent}
 use Rattle.world.proofs.Entered.{nothing_enters, enters_twice, puts_then, puts_stop}
 
 -- the first sends, and one more
@@ -26,30 +22,30 @@ taken sends i x at = take_more sends i x (slice_get_within sends i x at) ∙ ap 
 pub parted : {A : Type 0} → (n : ℕ) (xs : List A) → take n xs ++ drop n xs ≡ xs
 parted n xs = take-append-drop n xs
 
-pub outright_append : (a : Node) (fails : Option ℕ) (i : ℕ) (xs ys : List Send) → outright a fails i (xs ++ ys) ≡ outright a fails i xs ++ outright a fails (i + length xs) ys
-outright_append a fails i [] ys = ap (λ (k : ℕ). outright a fails k ys) (omega arith)
-outright_append a fails i (x ∷ xs) ys =
-    let one = made_outright (is_at_place i fails) a x in
+pub outright_append : (own : Side → Ep) (fails : Option ℕ) (i : ℕ) (xs ys : List Send) → outright own fails i (xs ++ ys) ≡ outright own fails i xs ++ outright own fails (i + length xs) ys
+outright_append own fails i [] ys = ap (λ (k : ℕ). outright own fails k ys) (omega arith)
+outright_append own fails i (x ∷ xs) ys =
+    let one = made_outright (is_at_place i fails) own x in
     let next : i + 1 + length xs ≡ i + length (x ∷ xs) = omega arith in
-    ap (λ (ms : List Made). one ∷ ms) (outright_append a fails (i + 1) xs ys ∙ ap (λ (k : ℕ). outright a fails (i + 1) xs ++ outright a fails k ys) next)
+    ap (λ (ms : List Made). one ∷ ms) (outright_append own fails (i + 1) xs ys ∙ ap (λ (k : ℕ). outright own fails (i + 1) xs ++ outright own fails k ys) next)
 
 -- what becomes of one send
-abbrev one_of : Node → Send → Made
-one_of a x = sent (udp (own_ep a x.side) x.to x.bytes)
+abbrev one_of : (Side → Ep) → Send → Made
+one_of own x = sent (udp (own x.side) x.to x.bytes)
 
-made_more : (a : Node) (sends : List Send) (i : ℕ) (x : Send) → slice_get sends i ≡ Some x → outright a None 0 (take (i + 1) sends) ≡ outright a None 0 (take i sends) ++ one_of a x ∷ []
-made_more a sends i x at = ap (outright a None 0) (taken sends i x at) ∙ outright_append a None 0 (take i sends) (x ∷ [])
+made_more : (own : Side → Ep) (sends : List Send) (i : ℕ) (x : Send) → slice_get sends i ≡ Some x → outright own None 0 (take (i + 1) sends) ≡ outright own None 0 (take i sends) ++ one_of own x ∷ []
+made_more own sends i x at = ap (outright own None 0) (taken sends i x at) ∙ outright_append own None 0 (take i sends) (x ∷ [])
 
-made_whole : (a : Node) (sends : List Send) (n : ℕ) → outright a None 0 (take n sends) ++ outright a None (0 + length (take n sends)) (drop n sends) ≡ outright a None 0 sends
-made_whole a sends n = sym (outright_append a None 0 (take n sends) (drop n sends)) ∙ ap (outright a None 0) (parted n sends)
+made_whole : (own : Side → Ep) (sends : List Send) (n : ℕ) → outright own None 0 (take n sends) ++ outright own None (0 + length (take n sends)) (drop n sends) ≡ outright own None 0 sends
+made_whole own sends n = sym (outright_append own None 0 (take n sends) (drop n sends)) ∙ ap (outright own None 0) (parted n sends)
 
 -- the first i sends are on the wire, with their marks
-pub record OutrightSoFar (old now : WireState) (a : Node) (sends : List Send) (i : ℕ) (said : List Mark) : Type 0 where
-  pub enters : ComesOnto old now [] said (outright a None 0 (take i sends))
+pub record OutrightSoFar (old now : WireState) (own : Side → Ep) (sends : List Send) (i : ℕ) (said : List Mark) : Type 0 where
+  pub enters : ComesOnto old now [] said (outright own None 0 (take i sends))
   pub count : length said ≡ i
 
-pub none_outright : (w : WireState) (a : Node) (sends : List Send) (said : List Mark) → said ≡ [] → OutrightSoFar w w a sends 0 said
-none_outright w a sends said none = record {
+pub none_outright : (w : WireState) (own : Side → Ep) (sends : List Send) (said : List Mark) → said ≡ [] → OutrightSoFar w w own sends 0 said
+none_outright w own sends said none = record {
   enters = subst (λ (s : List Mark). ComesOnto w w [] s []) (sym none) (nothing_enters w []);
   count = ap (λ (s : List Mark). length s) none;
 }
@@ -58,29 +54,21 @@ none_outright w a sends said none = record {
 pub one_said : (old new : WireState) (said more : List Mark) (m : Made) → ComesOnto old new said more (m ∷ []) → length more ≡ length said + 1
 one_said old new said more m p = ap (λ (l : List Mark). length l) p.marks ∙ length-append said (mark_of (length old.items) m ∷ [])
 
-module _ (old : WireState) (a : Node) (sends : List Send) (i : ℕ) (x : Send) (at : slice_get sends i ≡ Some x) where
+module _ (old : WireState) (own : Side → Ep) (sends : List Send) (i : ℕ) (x : Send) (at : slice_get sends i ≡ Some x) where
   -- the next one is put
-  pub one_outright : (now new : WireState) (said more : List Mark) → OutrightSoFar old now a sends i said → ComesOnto now new said more (one_of a x ∷ []) → OutrightSoFar old new a sends (i + 1) more
+  pub one_outright : (now new : WireState) (said more : List Mark) → OutrightSoFar old now own sends i said → ComesOnto now new said more (one_of own x ∷ []) → OutrightSoFar old new own sends (i + 1) more
   one_outright now new said more so puts = record {
-    enters = subst (λ (ms : List Made). ComesOnto old new [] more ms) (sym (made_more a sends i x at))
-        (enters_twice (outright a None 0 (take i sends)) (one_of a x ∷ []) old now new [] said more so.enters puts);
-    count = let longer = one_said now new said more (one_of a x) puts in let so_far = so.count in omega (arith, longer, so_far);
+    enters = subst (λ (ms : List Made). ComesOnto old new [] more ms) (sym (made_more own sends i x at))
+        (enters_twice (outright own None 0 (take i sends)) (one_of own x ∷ []) old now new [] said more so.enters puts);
+    count = let longer = one_said now new said more (one_of own x) puts in let so_far = so.count in omega (arith, longer, so_far);
   }
 
   -- where it isn't, not all are
-  pub stops_outright : (now new : WireState) (said more : List Mark) (why : Stop) → OutrightSoFar old now a sends i said → Puts now new said more (one_of a x ∷ []) (Err why)
-      → Puts old new [] more (outright a None 0 sends) (Err why)
+  pub stops_outright : (now new : WireState) (said more : List Mark) (why : Stop) → OutrightSoFar old now own sends i said → Puts now new said more (one_of own x ∷ []) (Err why)
+      → Puts old new [] more (outright own None 0 sends) (Err why)
   stops_outright now new said more why so puts =
-      let front = outright a None 0 (take i sends) in
-      let both : Puts old new [] more (front ++ one_of a x ∷ []) (Err why) = puts_then front (one_of a x ∷ []) old now new [] said more (Err why) so.enters puts in
-      let first : Puts old new [] more (outright a None 0 (take (i + 1) sends)) (Err why) = subst (λ (ms : List Made). Puts old new [] more ms (Err why)) (sym (made_more a sends i x at)) both in
-      subst (λ (ms : List Made). Puts old new [] more ms (Err why)) (made_whole a sends (i + 1))
-      (puts_stop (outright a None 0 (take (i + 1) sends)) (outright a None (0 + length (take (i + 1) sends)) (drop (i + 1) sends)) old new new [] more more why first)
-
--- the packet for the IPv6 side
-pub six_is : (input : Input) (o : Option Span) → six_sent (six_part input o) ≡ six_made input o
-six_is (arrived from x) None = refl
-six_is (arrived from x) (Some span) = refl
-six_is (given x) o = refl
-six_is (from_six x) o = refl
-six_is ticked o = refl
+      let front = outright own None 0 (take i sends) in
+      let both : Puts old new [] more (front ++ one_of own x ∷ []) (Err why) = puts_then front (one_of own x ∷ []) old now new [] said more (Err why) so.enters puts in
+      let first : Puts old new [] more (outright own None 0 (take (i + 1) sends)) (Err why) = subst (λ (ms : List Made). Puts old new [] more ms (Err why)) (sym (made_more own sends i x at)) both in
+      subst (λ (ms : List Made). Puts old new [] more ms (Err why)) (made_whole own sends (i + 1))
+      (puts_stop (outright own None 0 (take (i + 1) sends)) (outright own None (0 + length (take (i + 1) sends)) (drop (i + 1) sends)) old new new [] more more why first)

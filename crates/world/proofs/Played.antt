@@ -1,6 +1,6 @@
 -- What a record does to a world.
 use Rattle.std.proofs.Common.{◌≡◌, ◌≢◌, ◌<◌, ℕ, zero, suc, ◌+◌, ◌==◌, Bool, true, false, List, [], ◌∷◌, ◌++◌, length, set, get_or, replicate, append-nil, Option, Some, None, Result, Ok, Err, refl, sym, ap, subst, ◌∙◌, ◌⊎◌, inl, inr}
-use Rattle.std.specs.Prelude.{◌||◌, filter_map}
+use Rattle.std.specs.Prelude.{◌||◌, filter_map, slice_get}
 use Rattle.std.proofs.lemmas.Bool.Decides.{eqb_tells}
 use Rattle.std.proofs.lemmas.List.{get_or-set_other}
 use Rattle.std.proofs.lemmas.Grind.{get_or-set_at}
@@ -18,10 +18,12 @@ use Rattle.history.specs.Full.{Item, Made, Full, udp, sent, item_in, items_of, w
 use Rattle.history.specs.Records.{record_of, marks_of}
 use Rattle.legal.specs.Lab.{Draws, flat_lab}
 use Rattle.legal.specs.Past.{now, is_number}
-use Rattle.legal.specs.Next.{Numbered, blank, puts}
+use Rattle.legal.specs.Next.{Numbered, numbered, blank, puts, copies, next_of}
+use Rattle.history.specs.declared.acts.Act.TheVariants as act
+use Rattle.history.specs.declared.event.Event.TheVariants as event
 use Rattle.legal.specs.Frame.{EachFrames}
-use Rattle.lab_nodes.specs.declared.node_state.NodeState.{NodeState}
-use Rattle.lab_nodes.specs.NodeState.{NodesOf}
+use Rattle.lab_nodes.specs.declared.played_node.PlayedNode.{PlayedNode}
+use Rattle.lab_nodes.specs.PlayedNode.{NodesOf}
 use Rattle.world.proofs.Kept.{IsStill, all_rest, all_away}
 use Rattle.world.specs.Record.{fresh_record, with_deed}
 use Rattle.world.specs.Wire.{WireState, ComesOnto, Puts}
@@ -63,7 +65,7 @@ nothing_made old r none = sym (append-nil old.wire) ∙ ap (λ (ms : List Made).
 pub rests : EachFrames → (d : Draws) (old new : WorldState) (H : List Full) (r : Full) → NodesOf (flat_lab d old.topology) old.nodes H → Rests d old new r → Comes d old new H r
 rests frame d old new H r of is = record {
   moment = is.moment;
-  nodes = subst (λ (states : List NodeState). NodesOf (flat_lab d old.topology) states (r ∷ H)) (sym is.nodes) (all_rest frame (flat_lab d old.topology) old.nodes H r of is.still);
+  nodes = subst (λ (states : List PlayedNode). NodesOf (flat_lab d old.topology) states (r ∷ H)) (sym is.nodes) (all_rest frame (flat_lab d old.topology) old.nodes H r of is.still);
   wire = is.wire ∙ nothing_made old r is.still.made;
   done = is.done;
 }
@@ -107,6 +109,18 @@ module _ (frame : EachFrames) (d : Draws) (old : WorldState) (H : List Full) (e 
       → Plays d old (record old { wire = new.items; done = new.done }) H (puts H e a src dst bytes) (played r (put_said e.number old.moment a marks))
   puts_played new marks (Ok done) s is = puts_one new marks s is
   puts_played new marks (Err why) s is = puts_none new marks why is
+
+-- there is no such entry to copy
+pub copies_none : EachFrames → (d : Draws) (w : WorldState) (H : List Full) (i n : ℕ) (src dst : Ep) → StandsFor d w H → slice_get w.wire n ≡ None
+    → Plays d w w H (next_of (flat_lab d w.topology) H i (event.Copy n src dst)) (Ok (with_deed (fresh_record i w.moment) (act.Copy n) None fate.NoEntry))
+copies_none frame d w H i n src dst s none =
+    let e = numbered i (event.Copy n src dst) in
+    let r = blank H e (act.Copy n) None fate.NoEntry in
+    let is : copies H e n src dst (slice_get (wire H) n) ≡ r = ap (λ (xs : List Item). copies H e n src dst (slice_get xs n)) (sym s.wire) ∙ ap (copies H e n src dst) none in
+    subst (λ (z : Full). Plays d w w H z (Ok (with_deed (fresh_record i w.moment) (act.Copy n) None fate.NoEntry))) (sym is) (
+      said_blank w.moment H e (act.Copy n) None fate.NoEntry None s.moment,
+      rests frame d w w H r s.nodes (record { still = record { entry = refl; made = refl; passed = refl; nothing = refl }; moment = s.moment; nodes = refl; wire = refl; done = λ i. refl }),
+    )
 
 -- FROM ANOTHER WORLD
 

@@ -1,113 +1,182 @@
--- What a node sends, as the laboratory has it.
-use Rattle.std.proofs.Common.{◌≡◌, ℕ, Bool, true, false, List, [], ◌∷◌, ◌++◌, Option, Some, None, Result, Ok, Err, sym, ap, subst, ◌∙◌}
-use Rattle.std.specs.Prelude.{slice_get, OnOk}
+-- How what a node sends leaves it in a laboratory: from its own endpoints, or through a NAT that is kept.
+use Rattle.std.proofs.Common.{◌≡◌, ◌≢◌, ◌<◌, ℕ, ◌+◌, ◌==◌, Bool, true, false, List, [], ◌∷◌, ◌++◌, length, Option, Some, None, Result, Ok, Err, refl, sym, ap, subst, ◌∙◌, ◌⊎◌, inl, inr}
+use Rattle.std.specs.Prelude.{slice_get, option_and_then, option_map, is_some, OnOk}
 use Rattle.std.proofs.lemmas.Bool.{false≢true}
+use Rattle.std.proofs.lemmas.Bool.Decides.{eqb_tells}
+use Rattle.std.proofs.lemmas.Option.{slice_get-map, slice_get_within}
+use Rattle.td_base.specs.declared.endpoint.Ep.{Ep}
+use Rattle.nat_kinds.specs.Answer.{nat_answer}
 use Rattle.nat_kinds.specs.Nat.{NatState}
-use Rattle.teredo_node.specs.Step.{Step}
-use Rattle.teredo_node.specs.Journal.{Entry}
-use Rattle.topology.specs.declared.client_node.ClientNode.{ClientNode}
-use Rattle.topology.specs.Rows.{TopologyState}
-use Rattle.world.proofs.Entered.{nothing_enters}
+use Rattle.nat_kinds.specs.Nat as nats
+use Rattle.nat_kinds.specs.declared.refusal.NatRefusal.{NatRefusal}
+use Rattle.teredo_node.specs.Step.{Send}
 use Rattle.topology.specs.declared.nat_node.NatNode.{NatNode}
-use Rattle.topology.specs.declared.native_node.NativeNode.{NativeNode}
-use Rattle.history.specs.declared.mark.Mark.{Mark}
+use Rattle.topology.specs.Rows.{TopologyState}
+use Rattle.topology.specs.Rules.{IsTopology}
+use Rattle.topology.specs.Chains.{Passing, nat_set_up, outs_at, after_passing, answered, crossing}
 use Rattle.topology.specs.declared.node.Node.{Node}
 use Rattle.topology.specs.declared.node.Node.TheVariants.{Server as server, Nat as nat, Client as client, Relay as relay, Native as native}
-use Rattle.history.specs.Full.{Full, Made}
-use Rattle.legal.specs.Lab.{Draws, Lab, flat_lab}
-use Rattle.legal.specs.Emit.{by_way, outright, native_made}
-use Rattle.lab_nodes.specs.declared.node_state.NodeState.{NodeState}
-use Rattle.lab_nodes.specs.declared.node_state.NodeState.TheVariants as state
-use Rattle.lab_nodes.specs.Answers.{packet_by}
-use Rattle.world.specs.declared.sender.Sender.{Sender}
-use Rattle.world.specs.Wire.{WireState, ComesOnto}
-use Rattle.world.specs.Emission.{IsNatWith, KeepsNat, KeepsItsNat, IsEmission, emitted_by, six_sent}
-use Rattle.world.proofs.Outright.{six_is}
+use Rattle.topology.specs.Topology.{node_at, nat_at, as_nat, settings_of_nat}
+use Rattle.history.specs.Full.{Full}
+use Rattle.legal.specs.Lab.{Lab, Draws, flat_lab}
+use Rattle.legal.specs.Past.{nat_pasts}
+use Rattle.legal.specs.Emit.{by_way}
+use Rattle.lab_nodes.specs.Laws.{EachClientKeepsRules}
+use Rattle.lab_nodes.specs.declared.played_node.PlayedNode.{PlayedNode}
+use Rattle.lab_nodes.specs.declared.played_node.PlayedNode.TheVariants as played
+use Rattle.lab_nodes.specs.declared.outlet.Outlet.{Outlet}
+use Rattle.lab_nodes.specs.declared.outlet.Outlet.TheVariants.{Silent, Own, Through}
+use Rattle.lab_nodes.specs.declared.asked.SixPacket.{SixPacket}
+use Rattle.lab_nodes.specs.PlayedNode.{row_of, past_of, IsKept, AreOf, NodesOf}
+use Rattle.lab_nodes.specs.Outlet.{outlet_of, sendings_by}
+use Rattle.world.specs.Emission.{IsNatWith, KeepsNat, KeepsItsNat, IsNat, HasItsNat, IsBehind}
+use Rattle.world.proofs.States.{some_inj, nat_there}
 
--- A CLIENT'S NAT
+-- THE NAT OF AN OUTLET
 
-abbrev is_nat : Option NodeState → Bool
-is_nat (Some (state.Nat is)) = true
-is_nat _ = false
-
-abbrev nat_or : NatState → Option NodeState → NatState
-nat_or other (Some (state.Nat is)) = is
+abbrev nat_or : ℕ → Outlet → ℕ
+nat_or other (Through k inside) = k
 nat_or other _ = other
 
--- of a node that keeps its NAT something is kept, and it is a NAT
-module _ (lab : Lab) (H : List Full) (nodes : List NodeState) (x : Sender) (row : ClientNode) (client_is : x.node ≡ client row) (keeps_it : KeepsItsNat lab H [] x.node nodes) where
-  keeps : KeepsNat lab H row.nat [] nodes
-  keeps = subst (λ (a : Node). KeepsItsNat lab H [] a nodes) client_is keeps_it
+-- a node that sends through a NAT is a client behind it
+abbrev pub SendsThrough : Outlet → Type 0
+SendsThrough (Through k inside) = Unit {0}
+SendsThrough _ = ⊥
 
-  pub no_nat : (o : Option NodeState) → slice_get nodes row.nat ≡ o → is_nat o ≡ false → ⊥
-  no_nat o here none = false≢true (sym none ∙ ap is_nat (sym here ∙ keeps.there))
+-- what there is
+there_is : {A : Type 0} → (o : Option A) → is_some o ≡ true → (x : A) × (o ≡ Some x)
+there_is None e = absurd (false≢true e)
+there_is (Some x) e = (x, refl)
 
-  -- the NAT that is kept there
-  pub nat_is : (is : NatState) → slice_get nodes row.nat ≡ Some (state.Nat is) → IsNatWith lab H row.nat [] is
-  nat_is is here =
-      let same : keeps.nat ≡ is = ap (nat_or is) (sym keeps.there ∙ here) in
-      subst (IsNatWith lab H row.nat []) same keeps.is
+-- the NAT of a client's outlet is one, and isn't the client
+pub record IsItsNat (t : TopologyState) (n k : ℕ) : Type 0 where
+  pub row : NatNode
+  pub at : nat_at t k ≡ Some row
+  pub apart : k ≢ n
 
--- WHAT IS SENT
+pub its_nat : EachClientKeepsRules → (t : TopologyState) (n : ℕ) (a : Node) → IsTopology t → node_at t n ≡ Some a → (k : ℕ) (inside : Ep) → Through k inside ≡ outlet_of a → IsItsNat t n k
+its_nat law t n (client c) rules there k inside e =
+    let same : k ≡ c.nat = ap (nat_or k) e in
+    let behind : is_some (nat_at t k) ≡ true = ap (λ (j : ℕ). is_some (nat_at t j)) same ∙ (law t n c rules there).behind in
+    let found = there_is (nat_at t k) behind in
+    record {
+      row = found.0;
+      at = found.1;
+      apart = λ is. false≢true (ap (λ (o : Option Node). is_some (option_and_then as_nat o)) (sym there) ∙ ap (λ (j : ℕ). is_some (nat_at t j)) (sym is) ∙ behind);
+    }
+its_nat law t n (server s) rules there k inside e = absurd (subst SendsThrough e tt)
+its_nat law t n (nat s) rules there k inside e = absurd (subst SendsThrough e tt)
+its_nat law t n (relay s) rules there k inside e = absurd (subst SendsThrough e tt)
+its_nat law t n (native s) rules there k inside e = absurd (subst SendsThrough e tt)
 
--- a client's sends go through its NAT
-pub sent_through : (d : Draws) (t : TopologyState) (H : List Full) (x : Sender) (row : ClientNode) (step : Step) (e : Entry)
-    → x.node ≡ client row → e.step ≡ step → by_way (flat_lab d t) H x.now.0 (row.nat ∷ []) row.inside None 0 [] step.sends ≡ emitted_by (flat_lab d t) H x e
-sent_through d t H x row step e client_is did =
-    ap (λ (s : Step). by_way (flat_lab d t) H x.now.0 (row.nat ∷ []) row.inside None 0 [] s.sends) (sym did)
-    ∙ ap (λ (a : Node). emitted_by (flat_lab d t) H (record { node = a; now = x.now }) e) (sym client_is)
+-- a node with the row of a NAT is one
+pub record IsNatAt (list : List PlayedNode) (k : ℕ) (row : NatNode) : Type 0 where
+  pub nat : NatState
+  pub there : slice_get list k ≡ Some (played.Nat row nat)
 
--- a server or a relay sends from its own endpoints
-abbrev pub IsOwn : Node → Type 0
-IsOwn (server a) = Unit {0}
-IsOwn (relay r) = Unit {0}
-IsOwn _ = ⊥
+abbrev IsRow : Node → Node → Type 0
+IsRow (nat a) (nat b) = a ≡ b
+IsRow (nat a) _ = ⊥
+IsRow _ _ = Unit {0}
 
-own_made : (lab : Lab) (H : List Full) (x : Sender) (e : Entry) (a : Node) → IsOwn a → outright a None 0 e.step.sends ++ six_sent (packet_by a e) ≡ (emitted_by lab H (record { node = a; now = x.now }) e).made
-own_made lab H x e (server a) is = ap (λ (ms : List Made). outright (server a) None 0 e.step.sends ++ ms) (six_is e.input e.step.six)
-own_made lab H x e (relay a) is = ap (λ (ms : List Made). outright (relay a) None 0 e.step.sends ++ ms) (six_is e.input e.step.six)
-own_made lab H x e (nat a) is = absurd is
-own_made lab H x e (client a) is = absurd is
-own_made lab H x e (native a) is = absurd is
+is_row : (a : Node) → IsRow a a
+is_row (nat a) = refl
+is_row (server a) = tt
+is_row (client a) = tt
+is_row (relay a) = tt
+is_row (native a) = tt
 
-pub sent_own : (lab : Lab) (H : List Full) (x : Sender) (nodes : List NodeState) (step : Step) (packet : Option (List ℕ)) (e : Entry) → IsOwn x.node → IsEmission lab H x nodes step packet e
-    → outright x.node None 0 step.sends ++ six_sent packet ≡ (emitted_by lab H x e).made
-sent_own lab H x nodes step packet e is em = (λ i. outright x.node None 0 (sym em.step i).sends ++ six_sent (em.packet i)) ∙ own_made lab H x e x.node is
+pub nat_among : (t : TopologyState) (list : List PlayedNode) (k : ℕ) (row : NatNode) → AreOf t list → nat_at t k ≡ Some row → IsNatAt list k row
+nat_among t list k row of at = by (slice_get list k) refl (sym (slice_get-map row_of list k) ∙ ap (λ (bs : List Node). slice_get bs k) of ∙ nat_there t k row at) where
+  one : (p : PlayedNode) → slice_get list k ≡ Some p → IsRow (nat row) (row_of p) → IsNatAt list k row
+  one (played.Nat b is) there same = record { nat = is; there = there ∙ ap (λ (r : NatNode). Some (played.Nat r is)) (sym same) }
+  one (played.Server b) there same = absurd same
+  one (played.Client b is) there same = absurd same
+  one (played.Relay b is) there same = absurd same
+  one (played.Native b) there same = absurd same
 
-pub sent_native : (lab : Lab) (H : List Full) (x : Sender) (nodes : List NodeState) (step : Step) (packet : Option (List ℕ)) (e : Entry) (a : Node) → x.node ≡ a → IsEmission lab H x nodes step packet e
-    → packet ≡ packet_by a e
-sent_native lab H x nodes step packet e a is em = em.packet ∙ ap (λ (b : Node). packet_by b e) is
+  by : (o : Option PlayedNode) → slice_get list k ≡ o → option_map row_of o ≡ Some (nat row) → IsNatAt list k row
+  by None there e = absurd (false≢true (ap (λ (x : Option Node). is_some x) e))
+  by (Some p) there e = one p there (subst (IsRow (nat row)) (sym (some_inj (row_of p) (nat row) e)) (is_row (nat row)))
 
--- but a client's, no node has a NAT of its own
-abbrev pub HasNoNat : Node → Type 0
-HasNoNat (client c) = ⊥
-HasNoNat _ = Unit {0}
+-- so it is among them
+pub has_its_nat : EachClientKeepsRules → (t : TopologyState) (n : ℕ) (a : Node) (list : List PlayedNode) (outlet : Outlet) → IsTopology t → AreOf t list → node_at t n ≡ Some a → outlet ≡ outlet_of a
+    → HasItsNat outlet list
+has_its_nat law t n a list (Through k inside) rules of there e =
+    let its = its_nat law t n a rules there k inside e in
+    subst IsNat (sym (nat_among t list k its.row of its.at).there) tt
+has_its_nat law t n a list Silent rules of there e = tt
+has_its_nat law t n a list (Own primary secondary) rules of there e = tt
 
-pub keeps_none : (lab : Lab) (H : List Full) (x : Sender) (e : Entry) (nodes : List NodeState) → HasNoNat x.node → KeepsItsNat lab H (emitted_by lab H x e).passed x.node nodes
-keeps_none lab H x e nodes none = by x.node none where
-  by : (a : Node) → HasNoNat a → KeepsItsNat lab H (emitted_by lab H x e).passed a nodes
-  by (server a) none = tt
-  by (nat a) none = tt
-  by (client a) none = absurd none
-  by (relay a) none = tt
-  by (native a) none = tt
+-- and stands for its past
+pub keeps_its_nat : EachClientKeepsRules → (lab : Lab) (H : List Full) (n : ℕ) (a : Node) (list : List PlayedNode) (outlet : Outlet) → IsTopology lab.topology → AreOf lab.topology list
+    → ((k : ℕ) (p : PlayedNode) → k ≢ n → slice_get list k ≡ Some p → IsKept lab.topology k (past_of lab k H) p) → node_at lab.topology n ≡ Some a → outlet ≡ outlet_of a → KeepsItsNat lab H [] outlet list
+keeps_its_nat law lab H n a list (Through k inside) rules of kept there e =
+    let its = its_nat law lab.topology n a rules there k inside e in
+    let here = nat_among lab.topology list k its.row of its.at in
+    let is = kept k (played.Nat its.row here.nat) its.apart here.there in
+    record { row = its.row; nat = here.nat; there = here.there; is = record { settings = is.settings ∙ sym (ap settings_of_nat its.at); stands = is.stands } }
+keeps_its_nat law lab H n a list Silent rules of kept there e = tt
+keeps_its_nat law lab H n a list (Own primary secondary) rules of kept there e = tt
 
--- what is extra to a client's emission is no packet
-pub without_packet : (lab : Lab) (H : List Full) (x : Sender) (row : ClientNode) (nodes : List NodeState) (step : Step) (packet : Option (List ℕ)) (e : Entry)
-    → x.node ≡ client row → IsEmission lab H x nodes step packet e → IsEmission lab H x nodes step None e
-without_packet lab H x row nodes step packet e client_is em = record { step = em.step; packet = ap (λ (a : Node). packet_by a e) (sym client_is); nat = em.nat }
+abbrev nat_in : NatState → Option PlayedNode → NatState
+nat_in other (Some (played.Nat row is)) = is
+nat_in other _ = other
 
--- a native host's packet
-pub native_is : (lab : Lab) (H : List Full) (x : Sender) (row : NativeNode) (nodes : List NodeState) (step : Step) (packet : Option (List ℕ)) (e : Entry) → x.node ≡ native row → IsEmission lab H x nodes step packet e
-    → native_made row packet ≡ (emitted_by lab H x e).made
-native_is lab H x row nodes step packet e is em =
-    ap (native_made row) (sent_native lab H x nodes step packet e (native row) is em) ∙ ap (λ (a : Node). (emitted_by lab H (record { node = a; now = x.now }) e).made) (sym is)
+-- the NAT that is kept there
+pub nat_is : (lab : Lab) (H : List Full) (k : ℕ) (passed : List Passing) (list : List PlayedNode) (row : NatNode) (is : NatState) → KeepsNat lab H k passed list → slice_get list k ≡ Some (played.Nat row is)
+    → IsNatWith lab H k passed is
+nat_is lab H k passed list row is keeps there = subst (IsNatWith lab H k passed) (ap (nat_in is) (sym keeps.there ∙ there)) keeps.is
 
--- a NAT sends nothing
-pub nat_sends_none : (lab : Lab) (H : List Full) (x : Sender) (row : NatNode) (e : Entry) (w : WireState) (s : List Mark) → x.node ≡ nat row → s ≡ [] → ComesOnto w w [] s (emitted_by lab H x e).made
-nat_sends_none lab H x row e w s is none =
-    subst (λ (a : Node). ComesOnto w w [] s (emitted_by lab H (record { node = a; now = x.now }) e).made) (sym is) (subst (λ (l : List Mark). ComesOnto w w [] l []) (sym none) (nothing_enters w []))
+-- a NAT among nodes is one of them
+pub is_nat_within : (list : List PlayedNode) (k : ℕ) → IsNat (slice_get list k) → k < length list
+is_nat_within list k is = by (slice_get list k) refl is where
+  by : (o : Option PlayedNode) → slice_get list k ≡ o → IsNat o → k < length list
+  by None at is = absurd is
+  by (Some p) at is = slice_get_within list k p at
+
+-- a NAT that is kept with what it let out stands for the history with it
+pub kept_with : (lab : Lab) (H : List Full) (k : ℕ) (passed : List Passing) (list : List PlayedNode) (p : PlayedNode) (r : Full) (row : NatNode) → nat_at lab.topology k ≡ Some row → row_of p ≡ nat row
+    → (past_of lab k (r ∷ H)).history ≡ outs_at k passed ++ (past_of lab k H).history → KeepsNat lab H k passed list → slice_get list k ≡ Some p → IsKept lab.topology k (past_of lab k (r ∷ H)) p
+kept_with lab H k passed list p r row at its_row more keeps there =
+    let same : played.Nat keeps.row keeps.nat ≡ p = some_inj (played.Nat keeps.row keeps.nat) p (sym keeps.there ∙ there) in
+    let its : keeps.row ≡ row = subst (IsRow (nat keeps.row)) (ap row_of same ∙ its_row) refl in
+    subst (IsKept lab.topology k (past_of lab k (r ∷ H))) same
+    (record { settings = keeps.is.settings ∙ ap settings_of_nat (at ∙ ap (λ (b : NatNode). Some b) (sym its)); stands = subst (λ h. nats.StandsFor keeps.nat h) (sym more) keeps.is.stands })
 
 pub on_ok_always : {T E P : Type 0} (r : Result T E) → P → OnOk r P
 on_ok_always (Ok x) p = p
 on_ok_always (Err e) p = tt
+
+-- WHAT NATS LET OUT
+
+-- no other NAT than that of the way lets anything out
+module _ (lab : Lab) (H : List Full) (m j k : ℕ) (apart : (j == k) ≡ false) where
+  outs_crossed : (dst from : Ep) (passed : List Passing) → outs_at k (crossing lab.topology (nat_pasts lab H) m dst (j ∷ []) from passed).passed ≡ outs_at k passed
+  outs_crossed dst from passed = by (nat_answer (nat_set_up lab.topology j) (after_passing passed (nat_pasts lab H) j) m from dst) where
+    by : (r : Result ℕ NatRefusal) → outs_at k (answered lab.topology m j from dst passed (crossing lab.topology (nat_pasts lab H) m dst []) r).passed ≡ outs_at k passed
+    by (Ok port) = rw apart refl
+    by (Err why) = refl
+
+  outs_elsewhere : (inside : Ep) (i : ℕ) (passed : List Passing) (xs : List Send) → outs_at k (by_way lab H m (j ∷ []) inside None i passed xs).passed ≡ outs_at k passed
+  outs_elsewhere inside i passed [] = refl
+  outs_elsewhere inside i passed (x ∷ xs) =
+      outs_elsewhere inside (i + 1) (crossing lab.topology (nat_pasts lab H) m x.to (j ∷ []) inside passed).passed xs ∙ outs_crossed x.to inside passed
+
+pub nothing_out : (d : Draws) (t : TopologyState) (H : List Full) (m k : ℕ) (outlet : Outlet) (packet : Option SixPacket) (sends : List Send) → (IsBehind outlet k → ⊥)
+    → outs_at k (sendings_by (flat_lab d t) H m outlet packet sends).passed ≡ []
+nothing_out d t H m k (Through j inside) packet sends other = test (eqb_tells j k) where
+  test : ((j == k) ≡ true) × (j ≡ k) ⊎ ((j == k) ≡ false) × (j ≢ k) → outs_at k (by_way (flat_lab d t) H m (j ∷ []) inside None 0 [] sends).passed ≡ []
+  test (inl (yeah, same)) = absurd (other same)
+  test (inr (nope, apart)) = outs_elsewhere (flat_lab d t) H m j k nope inside 0 [] sends
+nothing_out d t H m k Silent packet sends other = refl
+nothing_out d t H m k (Own primary secondary) packet sends other = refl
+
+-- it leaves through a NAT, or doesn't
+pub behind_or_not : (outlet : Outlet) (k : ℕ) → ((inside : Ep) × (outlet ≡ Through k inside)) ⊎ (IsBehind outlet k → ⊥)
+behind_or_not (Through j inside) k = by (eqb_tells j k) where
+  by : ((j == k) ≡ true) × (j ≡ k) ⊎ ((j == k) ≡ false) × (j ≢ k) → ((inside' : Ep) × (Through j inside ≡ Through k inside')) ⊎ (IsBehind (Through j inside) k → ⊥)
+  by (inl (yeah, same)) = inl (inside, ap (λ (i : ℕ). Through i inside) same)
+  by (inr (nope, apart)) = inr apart
+behind_or_not Silent k = inr (λ b. b)
+behind_or_not (Own primary secondary) k = inr (λ b. b)

@@ -17,56 +17,50 @@ use Rattle.history.specs.Full.{Full}
 use Rattle.legal.specs.Lab.{Draws, Lab, flat_lab}
 use Rattle.legal.specs.Past.{now, drawn, journal, new_journal}
 use Rattle.legal.specs.Next.{plain, next_of}
-use Rattle.lab_nodes.specs.declared.node_state.NodeState.{NodeState}
-use Rattle.lab_nodes.specs.NodeState.{past_of, IsKeptIn, NodesOf}
-use Rattle.lab_nodes.specs.Changes.{restarted, forgetting, RestartsIn, ForgetsIn}
+use Rattle.lab_nodes.specs.declared.played_node.PlayedNode.{PlayedNode}
+use Rattle.lab_nodes.specs.declared.played_node.PlayedNode.TheVariants as played
+use Rattle.lab_nodes.specs.PlayedNode.{past_of, IsKept, NodesOf}
+use Rattle.lab_nodes.specs.Changes.{restarted, forgetting, Restarts, Forgets, ChangesAt}
 use Rattle.topology.specs.Chains.{outs_at}
 use Rattle.legal.specs.Frame.{EachFrames}
 use Rattle.world.specs.Record.{fresh_record, with_deed}
 use Rattle.world.specs.World.{WorldState, StandsFor}
 use Rattle.world.specs.Playing.{Plays}
 use Rattle.world.proofs.States.{some_inj}
-use Rattle.world.proofs.Kept.{AsPast, kept_in_as, is_itself, words_same, away}
+use Rattle.world.proofs.Kept.{AsPast, kept_as, is_itself, words_same, away}
 use Rattle.world.proofs.Played.{nothing_made}
 
--- what is kept of the nodes changes at one number
-pub record Changes (old new : List NodeState) (n : ℕ) (There : Option NodeState → Option NodeState → Type 0) : Type 0 where
-  pub elsewhere : (k : ℕ) → k ≢ n → slice_get new k ≡ slice_get old k
-  pub there : There (slice_get old n) (slice_get new n)
-
-changed : EachFrames → (lab : Lab) (old new : List NodeState) (H : List Full) (r : Full) (n : ℕ) → NodesOf lab old H → r.node ≡ Some n → r.passed ≡ []
-    → ((k : ℕ) → k ≢ n → slice_get new k ≡ slice_get old k)
-    → ((b : Node) → node_at lab.topology n ≡ Some b → IsKeptIn lab.topology n b (past_of lab n H) (slice_get old n) → IsKeptIn lab.topology n b (past_of lab n (r ∷ H)) (slice_get new n))
-    → NodesOf lab new (r ∷ H)
-changed frame lab old new H r n of node none elsewhere there = λ k b at. by k b at (eqb_tells k n) where
-  by : (k : ℕ) (b : Node) → node_at lab.topology k ≡ Some b → ((k == n) ≡ true) × (k ≡ n) ⊎ ((k == n) ≡ false) × (k ≢ n) → IsKeptIn lab.topology k b (past_of lab k (r ∷ H)) (slice_get new k)
-  by k b at (inl (yeah, same)) =
-      let here : node_at lab.topology n ≡ Some b = ap (node_at lab.topology) (sym same) ∙ at in
-      subst (λ (j : ℕ). IsKeptIn lab.topology j b (past_of lab j (r ∷ H)) (slice_get new j)) (sym same) (there b here (of n b here))
-  by k b at (inr (nope, apart)) =
-      subst (IsKeptIn lab.topology k b (past_of lab k (r ∷ H))) (sym (elsewhere k apart))
-      (kept_in_as lab.topology k b (past_of lab k H) (past_of lab k (r ∷ H)) (slice_get old k)
-      (away frame lab H r k b (λ e. apart (sym (some_inj n k (sym node ∙ e)))) (ap (outs_at k) none)) (of k b at))
+-- one node changes, of which the record is, and nothing is let out
+changed : EachFrames → (lab : Lab) (does : PlayedNode → PlayedNode → Type 0) (old new : List PlayedNode) (H : List Full) (r : Full) (n : ℕ) → NodesOf lab old H → r.node ≡ Some n → r.passed ≡ []
+    → (is : ChangesAt does n old new) → (IsKept lab.topology n (past_of lab n H) is.before → IsKept lab.topology n (past_of lab n (r ∷ H)) is.after) → NodesOf lab new (r ∷ H)
+changed frame lab does old new H r n of node none is there = record { rows = is.rows ∙ of.rows; each = λ k p at. by k p at (eqb_tells k n) } where
+  by : (k : ℕ) (p : PlayedNode) → slice_get new k ≡ Some p → ((k == n) ≡ true) × (k ≡ n) ⊎ ((k == n) ≡ false) × (k ≢ n) → IsKept lab.topology k (past_of lab k (r ∷ H)) p
+  by k p at (inl (yeah, same)) =
+      let here : is.after ≡ p = some_inj is.after p (sym is.is ∙ ap (slice_get new) (sym same) ∙ at) in
+      subst (λ (j : ℕ). IsKept lab.topology j (past_of lab j (r ∷ H)) p) (sym same) (subst (IsKept lab.topology n (past_of lab n (r ∷ H))) here (there (of.each n is.before is.was)))
+  by k p at (inr (nope, apart)) =
+      kept_as lab.topology k (past_of lab k H) (past_of lab k (r ∷ H)) p (away frame lab H r k p (λ e. apart (sym (some_inj n k (sym node ∙ e)))) (ap (outs_at k) none))
+      (of.each k p (sym (is.elsewhere k apart) ∙ at))
 
 -- A NODE STARTS ANEW
 
-restart_as : (lab : Lab) (H : List Full) (i n m : ℕ) (b : Node) → m ≡ now H
-    → AsPast b (restarted m (past_of lab n H)) (past_of lab n (next_of lab H i (event.Restart n) ∷ H))
-restart_as lab H i n m b same = by b where
+restart_as : (lab : Lab) (H : List Full) (i n m : ℕ) (p : PlayedNode) → m ≡ now H
+    → AsPast p (restarted m (past_of lab n H)) (past_of lab n (next_of lab H i (event.Restart n) ∷ H))
+restart_as lab H i n m p same = by p where
   its_journal : journal n (next_of lab H i (event.Restart n) ∷ H) ≡ new_journal m
   its_journal = rw (is_itself n) (ap new_journal (sym same))
 
   its_words : drawn n (next_of lab H i (event.Restart n) ∷ H) ≡ drawn n H
   its_words = let none : drawn n H + 0 ≡ drawn n H = omega arith in rw (is_itself n) none
 
-  by : (b : Node) → AsPast b (restarted m (past_of lab n H)) (past_of lab n (next_of lab H i (event.Restart n) ∷ H))
-  by (nat a) = rw (is_itself n) refl
-  by (client c) = (its_journal, words_same lab n (next_of lab H i (event.Restart n)) H its_words)
-  by (server a) = tt
-  by (relay a) = its_journal
-  by (native h) = tt
+  by : (p : PlayedNode) → AsPast p (restarted m (past_of lab n H)) (past_of lab n (next_of lab H i (event.Restart n) ∷ H))
+  by (played.Nat row is) = rw (is_itself n) refl
+  by (played.Client row is) = (its_journal, words_same lab n (next_of lab H i (event.Restart n)) H its_words)
+  by (played.Server row) = tt
+  by (played.Relay row is) = its_journal
+  by (played.Native row) = tt
 
-pub starts_anew : EachFrames → (d : Draws) (old : WorldState) (states : List NodeState) (H : List Full) (i n : ℕ) → StandsFor d old H → Changes old.nodes states n (RestartsIn old.moment)
+pub starts_anew : EachFrames → (d : Draws) (old : WorldState) (states : List PlayedNode) (H : List Full) (i n : ℕ) → StandsFor d old H → ChangesAt (Restarts old.moment) n old.nodes states
     → Plays d old (record old { nodes = states }) H (next_of (flat_lab d old.topology) H i (event.Restart n)) (Ok (with_deed (fresh_record i old.moment) (plain verb.Restart) (Some n) fate.Done))
 starts_anew frame d old states H i n s is =
     let t = old.topology in
@@ -75,8 +69,8 @@ starts_anew frame d old states H i n s is =
       ap (λ (m : ℕ). with_deed (fresh_record i m) (plain verb.Restart) (Some n) fate.Done) s.moment,
       record {
         moment = s.moment;
-        nodes = changed frame lab old.nodes states H r n s.nodes refl refl is.elsewhere
-            (λ b at kept. kept_in_as t n b (restarted old.moment (past_of lab n H)) (past_of lab n (r ∷ H)) (slice_get states n) (restart_as lab H i n old.moment b s.moment) (is.there t n b (past_of lab n H) kept));
+        nodes = changed frame lab (Restarts old.moment) old.nodes states H r n s.nodes refl refl is
+            (λ kept. kept_as t n (restarted old.moment (past_of lab n H)) (past_of lab n (r ∷ H)) is.after (restart_as lab H i n old.moment is.after s.moment) (is.change t n (past_of lab n H) kept));
         wire = nothing_made old r refl;
         done = λ k. refl;
       },
@@ -84,23 +78,23 @@ starts_anew frame d old states H i n s is =
 
 -- A NAT FORGETS A CLIENT
 
-forget_as : (lab : Lab) (H : List Full) (i n who : ℕ) (c : ClientNode) (b : Node) → client_at lab.topology who ≡ Some c
-    → AsPast b (forgetting c.inside (past_of lab n H)) (past_of lab n (next_of lab H i (event.Forget n who) ∷ H))
-forget_as lab H i n who c b there = by b where
+forget_as : (lab : Lab) (H : List Full) (i n who : ℕ) (c : ClientNode) (p : PlayedNode) → client_at lab.topology who ≡ Some c
+    → AsPast p (forgetting c.inside (past_of lab n H)) (past_of lab n (next_of lab H i (event.Forget n who) ∷ H))
+forget_as lab H i n who c p there = by p where
   its_journal : journal n (next_of lab H i (event.Forget n who) ∷ H) ≡ journal n H
   its_journal = rw (is_itself n) refl
 
   its_words : drawn n (next_of lab H i (event.Forget n who) ∷ H) ≡ drawn n H
   its_words = let none : drawn n H + 0 ≡ drawn n H = omega arith in rw (is_itself n) none
 
-  by : (b : Node) → AsPast b (forgetting c.inside (past_of lab n H)) (past_of lab n (next_of lab H i (event.Forget n who) ∷ H))
-  by (nat a) = rw (is_itself n, there) refl
-  by (client x) = (its_journal, words_same lab n (next_of lab H i (event.Forget n who)) H its_words)
-  by (server a) = tt
-  by (relay a) = its_journal
-  by (native h) = tt
+  by : (p : PlayedNode) → AsPast p (forgetting c.inside (past_of lab n H)) (past_of lab n (next_of lab H i (event.Forget n who) ∷ H))
+  by (played.Nat row is) = rw (is_itself n, there) refl
+  by (played.Client row is) = (its_journal, words_same lab n (next_of lab H i (event.Forget n who)) H its_words)
+  by (played.Server row) = tt
+  by (played.Relay row is) = its_journal
+  by (played.Native row) = tt
 
-pub forgets : EachFrames → (d : Draws) (old : WorldState) (states : List NodeState) (H : List Full) (i n who : ℕ) (c : ClientNode) → StandsFor d old H → client_at old.topology who ≡ Some c → Changes old.nodes states n (ForgetsIn c.inside)
+pub forgets : EachFrames → (d : Draws) (old : WorldState) (states : List PlayedNode) (H : List Full) (i n who : ℕ) (c : ClientNode) → StandsFor d old H → client_at old.topology who ≡ Some c → ChangesAt (Forgets c.inside) n old.nodes states
     → Plays d old (record old { nodes = states }) H (next_of (flat_lab d old.topology) H i (event.Forget n who)) (Ok (with_deed (fresh_record i old.moment) (plain verb.Forget) (Some n) fate.Done))
 forgets frame d old states H i n who c s there is =
     let t = old.topology in
@@ -109,8 +103,8 @@ forgets frame d old states H i n who c s there is =
       ap (λ (m : ℕ). with_deed (fresh_record i m) (plain verb.Forget) (Some n) fate.Done) s.moment,
       record {
         moment = s.moment;
-        nodes = changed frame lab old.nodes states H r n s.nodes refl refl is.elsewhere
-            (λ b at kept. kept_in_as t n b (forgetting c.inside (past_of lab n H)) (past_of lab n (r ∷ H)) (slice_get states n) (forget_as lab H i n who c b there) (is.there t n b (past_of lab n H) kept));
+        nodes = changed frame lab (Forgets c.inside) old.nodes states H r n s.nodes refl refl is
+            (λ kept. kept_as t n (forgetting c.inside (past_of lab n H)) (past_of lab n (r ∷ H)) is.after (forget_as lab H i n who c is.after there) (is.change t n (past_of lab n H) kept));
         wire = nothing_made old r refl;
         done = λ k. refl;
       },

@@ -1,5 +1,5 @@
 -- NATs of a topology, and lists: with one element replaced, and what was read of one.
-use Rattle.std.proofs.Common.{◌≡◌, ◌≢◌, ◌<◌, ℕ, zero, suc, List, [], ◌∷◌, length, set, get_or, Option, Some, None, refl, sym, ap, ◌∙◌, arith}
+use Rattle.std.proofs.Common.{◌≡◌, ◌≢◌, ◌<◌, ℕ, zero, suc, List, [], ◌∷◌, length, map, set, get_or, Option, Some, None, refl, sym, ap, ◌∙◌, arith}
 use Rattle.std.specs.Global.{Vec}
 use Rattle.std.specs.Vec.{vec_len}
 use Rattle.std.specs.Prelude.{slice_get, option_and_then, is_some, unwrap_or}
@@ -37,6 +37,11 @@ set_elsewhere (x ∷ xs) zero zero y other = absurd (other refl)
 set_elsewhere (x ∷ xs) zero (suc k) y other = refl
 set_elsewhere (x ∷ xs) (suc j) zero y other = refl
 set_elsewhere (x ∷ xs) (suc j) (suc k) y other = set_elsewhere xs j k y (λ e. other (ap (λ (n : ℕ). suc n) e))
+
+pub map_set : {A B : Type 0} → (f : A → B) (xs : List A) (j : ℕ) (x y : A) → slice_get xs j ≡ Some x → f y ≡ f x → map f (set xs j y) ≡ map f xs
+map_set f [] j x y e same = refl
+map_set f (z ∷ xs) zero x y e same = ap (λ b. b ∷ map f xs) (same ∙ ap f (sym (some_inj z x e)))
+map_set f (z ∷ xs) (suc j) x y e same = ap (λ bs. f z ∷ bs) (map_set f xs j x y e same)
 
 -- what was read of a vector at number j stands there
 pub read_there : {A : Type 0} → (v : Vec A) (n j k : ℕ) (x y : A) → n ≡ vec_len v → j < n → j ≡ k → x ≡ get_or v.items j x → x ≡ y → slice_get v.items k ≡ Some y

@@ -18,8 +18,8 @@ use Rattle.legal.specs.Past.{began, going, has_more, is_number}
 use Rattle.legal.specs.Next.{next_of}
 use Rattle.legal.specs.Legal.{GoesOn, Follows, Grown}
 use Rattle.legal.specs.Laws.{EachIsOfItsEvent, EachIsTold, EachFalls}
-use Rattle.lab_nodes.specs.NodeState.{NodesOf, AreReady}
-use Rattle.lab_nodes.specs.Moments.{EachSumIsOfThePast}
+use Rattle.lab_nodes.specs.PlayedNode.{NodesOf, AreReady}
+use Rattle.lab_nodes.specs.DueMoments.{EachSumIsOfThePast}
 use Rattle.world.specs.World.{WorldState, StandsFor, IsAgain, Steps, Falls, going_after, is_more, left_in}
 use Rattle.world.specs.Playing.{Comes, PlaysTurn, GoesFrom, Turned}
 use Rattle.world.proofs.Left.{left_is}

@@ -1,19 +1,20 @@
 -- How what a node sends comes onto the wire.
-use Rattle.std.specs.Prelude.{◌≡◌, ℕ, List, [], ◌∷◌, slice_get, Option, Some, None}
+use Rattle.std.specs.Prelude.{◌≡◌, ℕ, List, slice_get, Option, Some}
 use Rattle.nat_kinds.specs.Nat.{NatState}
 use Rattle.nat_kinds.specs.Nat as nats
-use Rattle.teredo_node.specs.Step.{Step}
-use Rattle.teredo_node.specs.Journal.{Entry}
-use Rattle.topology.specs.declared.node.Node.{Node}
-use Rattle.topology.specs.declared.node.Node.TheVariants.{Client as client}
+use Rattle.teredo_node.specs.Step.{Send}
+use Rattle.topology.specs.declared.nat_node.NatNode.{NatNode}
 use Rattle.topology.specs.Chains.{Passing, nat_set_up, after_passing}
-use Rattle.history.specs.Full.{Full, six, Made, sent}
+use Rattle.history.specs.Full.{Full}
 use Rattle.legal.specs.Lab.{Lab}
 use Rattle.legal.specs.Past.{nat_pasts}
-use Rattle.legal.specs.Emit.{Sendings, sendings}
-use Rattle.lab_nodes.specs.declared.node_state.NodeState.{NodeState}
-use Rattle.lab_nodes.specs.declared.node_state.NodeState.TheVariants as state
-use Rattle.lab_nodes.specs.Answers.{packet_by}
+use Rattle.legal.specs.Emit.{Sendings}
+use Rattle.lab_nodes.specs.declared.played_node.PlayedNode.{PlayedNode}
+use Rattle.lab_nodes.specs.declared.played_node.PlayedNode.TheVariants as played
+use Rattle.lab_nodes.specs.declared.outlet.Outlet.{Outlet}
+use Rattle.lab_nodes.specs.declared.outlet.Outlet.TheVariants.{Through}
+use Rattle.lab_nodes.specs.declared.asked.SixPacket.{SixPacket}
+use Rattle.lab_nodes.specs.Outlet.{sendings_by}
 use Rattle.world.specs.declared.sender.Sender.{Sender}
 
 -- NAT k is set up as in the laboratory, and stands for its history with what was let out since
@@ -22,32 +23,32 @@ pub record IsNatWith (lab : Lab) (H : List Full) (k : ℕ) (passed : List Passin
   pub stands : nats.StandsFor nat (after_passing passed (nat_pasts lab H) k)
 
 -- among these nodes such a NAT is kept by its number
-pub record KeepsNat (lab : Lab) (H : List Full) (k : ℕ) (passed : List Passing) (nodes : List NodeState) : Type 0 where
+pub record KeepsNat (lab : Lab) (H : List Full) (k : ℕ) (passed : List Passing) (nodes : List PlayedNode) : Type 0 where
+  pub row : NatNode
   pub nat : NatState
-  pub there : slice_get nodes k ≡ Some (state.Nat nat)
+  pub there : slice_get nodes k ≡ Some (played.Nat row nat)
   pub is : IsNatWith lab H k passed nat
 
--- a client's is
-abbrev pub KeepsItsNat : Lab → List Full → List Passing → Node → List NodeState → Type 0
-KeepsItsNat lab H passed (client c) nodes = KeepsNat lab H c.nat passed nodes
+-- that of an outlet through one is
+abbrev pub KeepsItsNat : Lab → List Full → List Passing → Outlet → List PlayedNode → Type 0
+KeepsItsNat lab H passed (Through k inside) nodes = KeepsNat lab H k passed nodes
 KeepsItsNat lab H passed _ nodes = Unit {0}
 
--- what is sent: what the entry of a node's journal says, and the NAT of a client is kept
-pub record IsEmission (lab : Lab) (H : List Full) (x : Sender) (nodes : List NodeState) (done : Step) (extra : Option (List ℕ)) (e : Entry) : Type 0 where
-  pub step : e.step ≡ done
-  pub packet : extra ≡ packet_by x.node e
-  pub nat : KeepsItsNat lab H [] x.node nodes
+-- the node is a NAT
+abbrev pub IsNat : Option PlayedNode → Type 0
+IsNat (Some (played.Nat row is)) = Unit {0}
+IsNat _ = ⊥
 
--- what becomes of it
-abbrev pub emitted_by : Lab → List Full → Sender → Entry → Sendings
-emitted_by lab H x e = sendings lab H x.now.0 e x.node
+-- among these nodes the NAT of an outlet is one
+abbrev pub HasItsNat : Outlet → List PlayedNode → Type 0
+HasItsNat (Through k inside) nodes = IsNat (slice_get nodes k)
+HasItsNat _ nodes = Unit {0}
 
--- the packet for the IPv6 side, if there is one: for whoever has its destination
-abbrev pub six_sent : Option (List ℕ) → List Made
-six_sent None = []
-six_sent (Some bytes) = sent (six None bytes) ∷ []
+-- what becomes of what is sent
+abbrev pub emitted_by : Lab → List Full → Sender → Option SixPacket → List Send → Sendings
+emitted_by lab H x packet sends = sendings_by lab H x.now.0 x.outlet packet sends
 
--- the node is a client behind NAT k
-abbrev pub IsBehind : Node → ℕ → Type 0
-IsBehind (client c) k = c.nat ≡ k
+-- it leaves through NAT k
+abbrev pub IsBehind : Outlet → ℕ → Type 0
+IsBehind (Through nat inside) k = nat ≡ k
 IsBehind _ k = ⊥

@@ -1,11 +1,12 @@
 -- What one event does to a world, for the contracts of private functions.
-use Rattle.std.specs.Prelude.{◌≡◌, ◌≤◌, ◌<◌, ◌+◌, ◌||◌, Bool, true, false, ℕ, max, List, ◌++◌, ◌∷◌, get_or, Option, Some, None, Result, Ok, Err}
+use Rattle.std.specs.Prelude.{◌≡◌, ◌≤◌, ◌<◌, ◌+◌, ◌||◌, Bool, true, false, ℕ, max, List, ◌++◌, ◌∷◌, get_or, length, Option, Some, None, Result, Ok, Err}
 use Rattle.history.specs.declared.event.Event.{Event}
 use Rattle.history.specs.declared.records.Record.{Record}
 use Rattle.history.specs.declared.turn.Turn.{Turn}
 use Rattle.history.specs.declared.turn.Turn.TheVariants.{More, Last}
 use Rattle.history.specs.declared.turn.Stop.{Stop}
 use Rattle.topology.specs.Rows.{TopologyState}
+use Rattle.topology.specs.declared.topology.TheConstants.{NODES_MAX}
 use Rattle.topology.specs.Rules.{IsTopology}
 use Rattle.teredo_node.specs.Journal.{ticked}
 use Rattle.topology.specs.declared.node.Node.{Node}
@@ -13,7 +14,7 @@ use Rattle.history.specs.declared.acts.Act.{Act}
 use Rattle.history.specs.declared.acts.Act.TheVariants as act
 use Rattle.history.specs.Full.{Full, wire, items_of}
 use Rattle.history.specs.Records.{record_of}
-use Rattle.legal.specs.Lab.{Draws, flat_lab}
+use Rattle.legal.specs.Lab.{Draws, Lab, flat_lab}
 use Rattle.legal.specs.Past.{has_more, is_number}
 use Rattle.legal.specs.Next as next
 use Rattle.legal.specs.Next.{Numbered, acts, no_ep}
@@ -21,9 +22,12 @@ use Rattle.world.specs.declared.going.Going.{Going}
 use Rattle.world.specs.declared.going.Going.TheVariants as going_on
 use Rattle.world.specs.declared.prompt.Prompt.{Prompt}
 use Rattle.world.specs.Prompt.{delivered_by, input_by, dst_by}
-use Rattle.lab_nodes.specs.declared.node_state.NodeState.{NodeState}
+use Rattle.topology.specs.Topology.{nodes}
+use Rattle.lab_nodes.specs.declared.due.Due.{Due}
+use Rattle.lab_nodes.specs.Due.{due_as}
+use Rattle.lab_nodes.specs.declared.played_node.PlayedNode.{PlayedNode}
 use Rattle.td_outside.specs.declared.clock.TheConstants.{CLOCK_END_MS}
-use Rattle.lab_nodes.specs.NodeState.{NodesOf, AreReady}
+use Rattle.lab_nodes.specs.PlayedNode.{AreOf, NodesOf, AreReady}
 use Rattle.world.specs.World.{WorldState, IsCause, going_after, is_more, record_in}
 
 -- WHAT A WORLD KEEPS TO
@@ -33,8 +37,10 @@ abbrev pub IsGoing : ℕ → Option Going → Type 0
 IsGoing m None = Unit {0}
 IsGoing m (Some (going_on.Advance began ms)) = m ≤ began.0 + ms
 
-pub record IsWorld (t : TopologyState) (m : ℕ) (g : Option Going) (nodes : List NodeState) : Type 0 where
+pub record IsWorld (t : TopologyState) (m : ℕ) (g : Option Going) (nodes : List PlayedNode) : Type 0 where
   pub rules : IsTopology t
+  pub rows : AreOf t nodes
+  pub few : length nodes ≤ NODES_MAX
   pub ready : AreReady m nodes
   pub early : m < CLOCK_END_MS
   pub going : IsGoing m g
@@ -53,6 +59,12 @@ ticks_at d w H e x = acts (flat_lab d w.topology) H e act.Tick None (max x.momen
 abbrev pub NoneIsDue : ℕ → Option next.Due → Type 0
 NoneIsDue end None = Unit {0}
 NoneIsDue end (Some x) = end < x.moment
+
+-- it was found as the tick that is due first
+pub record IsFound (lab : Lab) (H : List Full) (x : Due) : Type 0 where
+  pub tick : next.Due
+  pub least : next.least_due lab H 0 (nodes lab.topology) ≡ Some tick
+  pub is : due_as tick ≡ x
 
 -- ONE RECORD
 

@@ -1,24 +1,24 @@
 -- Where an entry goes, as a world finds it.
-use Rattle.std.specs.Prelude.{◌≡◌, ℕ, Option, Some, None}
+use Rattle.std.specs.Prelude.{◌<◌, ℕ, List, length, Option, Some, None}
 use Rattle.td_base.specs.declared.endpoint.Ep.{Ep}
 use Rattle.topology.specs.Chains.{Inward, comes_to, shut_at}
 use Rattle.topology.specs.Rows.{TopologyState}
-use Rattle.topology.specs.Topology.{node_at}
+use Rattle.legal.specs.Emit as legal
+use Rattle.legal.specs.Emit.{closed, astray, reach}
+use Rattle.lab_nodes.specs.declared.played_node.PlayedNode.{PlayedNode}
 use Rattle.world.specs.declared.route.Route.{Route}
 use Rattle.world.specs.declared.route.Route.TheVariants.{Reaches, Closed, Astray}
-use Rattle.legal.specs.Emit as legal
-use Rattle.legal.specs.Emit.{reaches, closed, astray}
 
-abbrev pub by_route : Route → legal.Route
-by_route (Reaches n a) = reaches n a
-by_route (Closed n) = closed n
-by_route Astray = astray
+abbrev pub by_route : TopologyState → Route → legal.Route
+by_route t (Reaches n) = reach t (Some n)
+by_route t (Closed n) = closed n
+by_route t Astray = astray
 
--- a node that is reached stands in the topology
-abbrev pub IsThere : TopologyState → Route → Type 0
-IsThere t (Reaches n a) = node_at t n ≡ Some a
-IsThere t (Closed n) = Unit {0}
-IsThere t Astray = Unit {0}
+-- a node that is reached is one of these
+abbrev pub IsThere : List PlayedNode → Route → Type 0
+IsThere nodes (Reaches n) = n < length nodes
+IsThere nodes (Closed n) = Unit {0}
+IsThere nodes Astray = Unit {0}
 
 -- how a datagram comes in at a NAT, by whom it lets in, where no NAT is behind another one
 abbrev pub in_alone : ℕ → Option Ep → Inward

@@ -9,7 +9,6 @@ use Rattle.history.specs.declared.turn.Turn.TheVariants.{More, Last}
 use Rattle.history.specs.declared.turn.Stop.{Stop}
 use Rattle.history.specs.declared.turn.Stop.TheVariants.{WireFull, NoMemory}
 use Rattle.topology.specs.Rows.{TopologyState}
-use Rattle.topology.specs.Topology.{nodes}
 use Rattle.history.specs.Full.{Item, Full, wire, items_of}
 use Rattle.history.specs.Records.{record_of}
 use Rattle.history.specs.Telling.{IsTold}
@@ -23,9 +22,9 @@ use Rattle.legal.specs.Next.{next_of}
 use Rattle.legal.specs.Legal.{Grown}
 use Rattle.legal.specs.declared.left.TheConstants.{LEFT_MAX}
 use Rattle.legal.specs.Left.{left, time_left}
-use Rattle.lab_nodes.specs.declared.node_state.NodeState.{NodeState}
-use Rattle.lab_nodes.specs.NodeState.{NodesOf}
-use Rattle.lab_nodes.specs.Moments.{all_due}
+use Rattle.lab_nodes.specs.declared.played_node.PlayedNode.{PlayedNode}
+use Rattle.lab_nodes.specs.PlayedNode.{NodesOf}
+use Rattle.lab_nodes.specs.DueMoments.{all_due}
 use Rattle.lab_nodes.specs.Memory.{takes_memory}
 use Rattle.world.specs.Wire.{WireState}
 
@@ -34,7 +33,7 @@ pub record WorldState : Type 0 where
   pub moment : ℕ
   pub began : ℕ  -- when the event of the next record began
   pub going : Option Event  -- the event that goes on: the next record is of it
-  pub nodes : List NodeState
+  pub nodes : List PlayedNode
   pub wire : List Item
   pub done : List Bool  -- for each entry of the wire, whether it was delivered
   pub stopped : Option Stop
@@ -48,14 +47,14 @@ abbrev pub began_in : ℕ → Option Going → ℕ
 began_in m None = m
 began_in m (Some (going_on.Advance began ms)) = began.0
 
-abbrev pub state_of : TopologyState → ℕ → Option Going → List NodeState → WireState → Option Stop → WorldState
+abbrev pub state_of : TopologyState → ℕ → Option Going → List PlayedNode → WireState → Option Stop → WorldState
 state_of t m g nodes wire stopped = record { topology = t; moment = m; began = began_in m g; going = event_in g; nodes = nodes; wire = wire.items; done = wire.done; stopped = stopped }
 
 -- WHAT IS LEFT
 
 -- for an advance that ends at `end`
 abbrev pub left_until : WorldState → ℕ → ℕ
-left_until w end = time_left end w.moment (all_due w.moment w.nodes 0 (nodes w.topology))
+left_until w end = time_left end w.moment (all_due w.moment w.nodes)
 
 -- of the event that goes on; as much as may be where none does
 abbrev pub left_of : WorldState → Option Event → ℕ

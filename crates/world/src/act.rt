@@ -1,5 +1,6 @@
 //! A node acts: it is asked, and what it sends comes onto the wire.
-ghost use Rattle.std.specs.Prelude.{◌≡◌, List, [], Some, OnErr};
+ghost use Rattle.std.specs.Prelude.{◌≡◌, ◌<◌, List, [], length, Some, OnErr};
+ghost use Rattle.topology.specs.declared.node.Node.{Node};
 ghost use Rattle.topology.specs.Topology.{node_at};
 ghost use Rattle.history.specs.declared.event.Event.{Event};
 ghost use Rattle.history.specs.Full.{Full};
@@ -10,13 +11,12 @@ ghost use Rattle.world.specs.Prompt.{IsPrompt};
 ghost use Rattle.world.specs.Record.{fresh_record};
 ghost use Rattle.world.specs.Playing.{prompted, Finds, Plays, played};
 
-use crate::prompt::{Prompt, coming_of, remember};
+use crate::prompt::{Prompt, input_of, remember};
 use crate::record::say_step;
 use crate::sender::{Sender, emit};
 use crate::world::World;
 use history::{Act, Record, Stop};
 use lab_nodes::{Asked, Call, ask};
-use topology::Node;
 
 impl<'a> World<'a> {
     /// Lets a node, by its number, do what it is prompted to now, and puts what it sends on the wire.
@@ -24,14 +24,14 @@ impl<'a> World<'a> {
         &mut self,
         act: Act,
         number: u16,
-        node: Node,
         prompt: Prompt<'_>,
         out: &mut Record,
     ) -> Result<(), Stop>
         requires fresh { out.old ≡ fresh_record out.old.event self.old.moment }
+        requires within { number < length self.old.nodes }
         requires prompt { IsPrompt self.old.wire self.old.done prompt }
         ensures plays { (d : Draws) (H : List Full) → Finds d self.old H → (e : Event) → at_nat (flat_lab d self.old.topology) e act ≡ []
-            → node_at self.old.topology number ≡ Some node
+            → (node : Node) → node_at self.old.topology number ≡ Some node
             → Plays d self.old self.new H (prompted d self.old H (numbered out.old.event e) act prompt.entry number node) (played result out.new) }
         ensures rest { self.new ≡ record self.old { nodes = self.new.nodes; wire = self.new.wire; done = self.new.done } }
         ensures err { OnErr result ((self.new.wire ≡ self.old.wire) × (self.new.done ≡ self.old.done)) }
@@ -40,18 +40,18 @@ impl<'a> World<'a> {
         lab_nodes::rows_keep_rules();
         let now = self.moment;
         let call = Call {
-            number,
-            node,
+            node: number,
             now,
-            coming: coming_of(&self.wire, prompt),
+            input: input_of(&self.wire, prompt),
         };
         let Asked {
+            outlet,
             packet,
             handed,
             address,
         } = ask(&mut self.nodes, call, &mut self.step)?;
         say_step(out, act, number, &self.step);
-        let sender = Sender { node, now };
+        let sender = Sender { outlet, now };
         let marks = &mut out.marks;
         let nodes = &mut self.nodes;
         emit(sender, nodes, &mut self.wire, &self.step, packet, marks)?;

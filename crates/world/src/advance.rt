@@ -1,5 +1,5 @@
 //! Time passes.
-ghost use Rattle.std.specs.Prelude.{◌≡◌, ◌<◌, ◌≤◌, ◌+◌, max, List, [], None, Some, IfSome, IfNone, IfOk, OnErr};
+ghost use Rattle.std.specs.Prelude.{◌≡◌, ◌<◌, ◌≤◌, ◌+◌, max, List, [], length, None, Some, IfSome, IfNone, IfOk, OnErr};
 ghost use Rattle.teredo_node.specs.declared.fate.Fate.TheVariants as fates;
 ghost use Rattle.topology.specs.Topology.{node_at, nodes};
 ghost use Rattle.history.specs.declared.event.Event.{Event};
@@ -11,10 +11,11 @@ ghost use Rattle.legal.specs.Lab.{Draws, flat_lab};
 ghost use Rattle.legal.specs.Past.{forgotten};
 ghost use Rattle.legal.specs.Next.{numbered, plain, least_due, next_of};
 ghost use Rattle.td_outside.specs.declared.clock.TheConstants.{CLOCK_END_MS};
-ghost use Rattle.lab_nodes.specs.Due.{due_is};
+ghost use Rattle.legal.specs.Next.{Due as Tick};
+ghost use Rattle.lab_nodes.specs.Due.{due_as};
 ghost use Rattle.world.specs.Record.{fresh_record, with_deed};
 ghost use Rattle.world.specs.World.{StandsFor, IsAgain};
-ghost use Rattle.world.specs.Playing.{ticks_at, NoneIsDue, Plays, PlaysTurn, Turned, played, turn_from};
+ghost use Rattle.world.specs.Playing.{ticks_at, NoneIsDue, IsFound, Plays, PlaysTurn, Turned, played, turn_from};
 
 use crate::going::Going;
 use crate::prompt::Prompt;
@@ -38,11 +39,12 @@ impl<'a> World<'a> {
 
     /// The tick that is due first, up to a moment.
     fn due_by(&self, end: Millis) -> Option<Due>
-        ensures due { (d : Draws) (H : List Full) → StandsFor d self.now H → IfSome result (λ x. (least_due (flat_lab d self.now.topology) H 0 (nodes self.now.topology) ≡ Some (due_is x)) × (x.moment.0 ≤ end.0)) }
+        ensures due { (d : Draws) (H : List Full) → StandsFor d self.now H → IfSome result (λ x. IsFound (flat_lab d self.now.topology) H x) }
         ensures none { (d : Draws) (H : List Full) → StandsFor d self.now H → IfNone result (NoneIsDue end.0 (least_due (flat_lab d self.now.topology) H 0 (nodes self.now.topology))) }
         ensures early { IfSome result (λ x. x.moment.0 ≤ end.0) }
+        ensures within { IfSome result (λ x. x.node < length self.now.nodes) }
     {
-        let Some(due) = first_due(self.topology, self.nodes.as_slice(), self.moment) else {
+        let Some(due) = first_due(self.nodes.as_slice(), self.moment) else {
             return None;
         };
         if end.0 < due.moment.0 {
@@ -72,10 +74,11 @@ impl<'a> World<'a> {
     fn tick(&mut self, began: Millis, ms: u64, due: Due, out: &mut Record) -> Result<(), Stop>
         requires fresh { out.old ≡ fresh_record out.old.event self.old.moment }
         requires early { due.moment.0 ≤ began.0 + ms }
+        requires within { due.node < length self.old.nodes }
         requires going { (self.old.moment ≤ began.0 + ms) × (began.0 + ms < CLOCK_END_MS) }
         ensures plays { (d : Draws) (H : List Full) → StandsFor d self.old H → (e : Event) → forgotten (flat_lab d self.old.topology) e ≡ []
-            → node_at self.old.topology due.number ≡ Some due.node
-            → Plays d self.old self.new H (ticks_at d self.old H (numbered out.old.event e) (due_is due)) (played result out.new) }
+            → (x : Tick) → due_as x ≡ due → node_at self.old.topology x.number ≡ Some x.node
+            → Plays d self.old self.new H (ticks_at d self.old H (numbered out.old.event e) x) (played result out.new) }
         ensures rest { self.new ≡ record self.old { moment = self.new.moment; began = began.0; going = Some (event.Advance ms); nodes = self.new.nodes; wire = self.new.wire; done = self.new.done } }
         ensures moment { self.new.moment ≤ began.0 + ms }
         ensures err { OnErr result ((self.new.wire ≡ self.old.wire) × (self.new.done ≡ self.old.done)) }
@@ -84,7 +87,7 @@ impl<'a> World<'a> {
         self.moment = now;
         self.going = Some(Going::Advance { began, ms });
         out.moment = now;
-        self.act(Act::Tick, due.number, due.node, Prompt::Tick, out)
+        self.act(Act::Tick, due.node, Prompt::Tick, out)
     }
 
     /// Lets time pass up to the next tick that is due, else to the end of the advance, and answers whether the advance

@@ -39,14 +39,12 @@ impl<'a> World<'a> {
                 say(out, act, None, Fate::Nowhere);
                 Ok(())
             }
-            Route::Closed { number: nat } => {
+            Route::Closed { nat } => {
                 self.wire.set_delivered(place);
                 say(out, act, Some(nat), Fate::NatClosed);
                 Ok(())
             }
-            Route::Reaches { number: at, node } => {
-                self.act(act, at, node, Prompt::Entry { number }, out)
-            }
+            Route::Reaches { node } => self.act(act, node, Prompt::Entry { number }, out),
         }
     }
 

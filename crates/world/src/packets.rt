@@ -1,5 +1,5 @@
 //! Hosts hand in packets.
-ghost use Rattle.std.specs.Prelude.{◌≡◌, ◌≤◌, List, [], length, OnErr};
+ghost use Rattle.std.specs.Prelude.{◌≡◌, ◌≤◌, ◌<◌, List, [], length, OnErr};
 ghost use Rattle.topology.specs.Topology.{node_at};
 ghost use Rattle.history.specs.declared.event.Event.{Event};
 ghost use Rattle.history.specs.declared.event.Event.TheVariants as event;
@@ -14,11 +14,9 @@ ghost use Rattle.world.specs.Record.{fresh_record};
 ghost use Rattle.world.specs.Playing.{Plays, played};
 
 use crate::prompt::Prompt;
-use crate::record::say;
 use crate::world::World;
 use history::{Act, Record, Stop, Target, Verb};
 use lab_nodes::{DATA_MAX, address_at, echo, target_address, write_data};
-use teredo_node::Fate;
 
 impl<'a> World<'a> {
     /// Lets the host of a node hand in a packet.
@@ -30,6 +28,7 @@ impl<'a> World<'a> {
         out: &mut Record,
     ) -> Result<(), Stop>
         requires fresh { out.old ≡ fresh_record out.old.event self.old.moment }
+        requires within { number < length self.old.nodes }
         requires short { length bytes.now ≤ DATAGRAM_MAX }
         ensures plays { (d : Draws) (H : List Full) → StandsFor d self.old H → (e : Event) → at_nat (flat_lab d self.old.topology) e (plain verb) ≡ []
             → Plays d self.old self.new H (hands_in (flat_lab d self.old.topology) H (numbered out.old.event e) verb number bytes.now (node_at self.old.topology number)) (played result out.new) }
@@ -37,12 +36,7 @@ impl<'a> World<'a> {
         ensures err { OnErr result ((self.new.wire ≡ self.old.wire) × (self.new.done ≡ self.old.done)) }
     {
         legal::frame();
-        let act = Act::Plain { verb };
-        let Some(node) = self.topology.node(usize::from(number)) else {
-            say(out, act, Some(number), Fate::Idle);
-            return Ok(());
-        };
-        self.act(act, number, node, Prompt::Packet { bytes }, out)
+        self.act(Act::Plain { verb }, number, Prompt::Packet { bytes }, out)
     }
 
     /// Lets the host of a node send data.
@@ -54,6 +48,7 @@ impl<'a> World<'a> {
         out: &mut Record,
     ) -> Result<(), Stop>
         requires fresh { out.old ≡ fresh_record out.old.event self.old.moment }
+        requires within { number < length self.old.nodes }
         requires short { length body.now ≤ BODY_MAX }
         ensures plays { (d : Draws) (H : List Full) → StandsFor d self.old H
             → Plays d self.old self.new H (next_of (flat_lab d self.old.topology) H out.old.event (event.Host number to body.now)) (played result out.new) }
@@ -61,8 +56,8 @@ impl<'a> World<'a> {
         ensures err { OnErr result ((self.new.wire ≡ self.old.wire) × (self.new.done ≡ self.old.done)) }
     {
         let nodes = self.nodes.as_slice();
-        let src = address_at(self.topology, nodes, number);
-        let dst = target_address(self.topology, nodes, to);
+        let src = address_at(nodes, number);
+        let dst = target_address(nodes, to);
         let mut bytes = [0; DATA_MAX];
         let len = write_data(src, dst, body, &mut bytes);
         self.hand(Verb::Host, number, &bytes[..len], out)
@@ -76,6 +71,7 @@ impl<'a> World<'a> {
         seq: u16,
         out: &mut Record,
     ) -> Result<(), Stop>
+        requires within { number < length self.old.nodes }
         requires fresh { out.old ≡ fresh_record out.old.event self.old.moment }
         ensures plays { (d : Draws) (H : List Full) → StandsFor d self.old H
             → Plays d self.old self.new H (next_of (flat_lab d self.old.topology) H out.old.event (event.Echo number to seq)) (played result out.new) }
@@ -83,8 +79,8 @@ impl<'a> World<'a> {
         ensures err { OnErr result ((self.new.wire ≡ self.old.wire) × (self.new.done ≡ self.old.done)) }
     {
         let nodes = self.nodes.as_slice();
-        let src = address_at(self.topology, nodes, number);
-        let dst = target_address(self.topology, nodes, to);
+        let src = address_at(nodes, number);
+        let dst = target_address(nodes, to);
         let bytes = echo(src, dst, seq);
         self.hand(Verb::Echo, number, &bytes, out)
     }

@@ -6,7 +6,7 @@ ghost use Rattle.world.specs.WireEntry.{item_lent};
 ghost use Rattle.world.specs.Prompt.{IsPrompt, dst_by, input_by, done_by};
 
 use crate::wire::{Wire, WireEntry};
-use lab_nodes::Coming;
+use lab_nodes::Input;
 
 /// What prompts a node to do something.
 #[derive(Clone, Copy, Debug)]
@@ -20,39 +20,39 @@ pub enum Prompt<'a> {
 }
 
 /// What comes to a node by an entry of the wire.
-fn coming_by(entry: WireEntry<'_>) -> Coming<'_>
+fn input_by(entry: WireEntry<'_>) -> Input<'_>
     ensures input { input_lent result ≡ input_of (item_lent entry.entry) }
     ensures dst { dst_lent result ≡ dst_of (item_lent entry.entry) }
 {
     match entry {
-        WireEntry::Udp { src, dst, bytes } => Coming::Arrived { src, dst, bytes },
-        WireEntry::Six { bytes, .. } => Coming::FromSix { bytes },
+        WireEntry::Udp { src, dst, bytes } => Input::Arrived { src, dst, bytes },
+        WireEntry::Six { bytes, .. } => Input::FromSix { bytes },
     }
 }
 
 /// What comes to a node by an entry of that number: where there is none, its tick.
-fn coming_at(wire: &Wire, number: u32) -> Coming<'_>
+fn input_at(wire: &Wire, number: u32) -> Input<'_>
     ensures input { input_lent result ≡ input_by wire.now.items (Prompt.Entry number) }
     ensures dst { dst_lent result ≡ dst_by wire.now.items (Prompt.Entry number) }
     ensures short { IsShortInput (input_lent result) }
 {
     match wire.get(number as usize) {
-        Some(entry) => coming_by(entry),
-        None => Coming::Ticked,
+        Some(entry) => input_by(entry),
+        None => Input::Ticked,
     }
 }
 
 /// What comes to a node by a prompt.
-pub fn coming_of<'a>(wire: &'a Wire, prompt: Prompt<'a>) -> Coming<'a>
+pub fn input_of<'a>(wire: &'a Wire, prompt: Prompt<'a>) -> Input<'a>
     requires there { IsPrompt wire.now.items wire.now.done prompt }
     ensures input { input_lent result ≡ input_by wire.now.items prompt.entry }
     ensures dst { dst_lent result ≡ dst_by wire.now.items prompt.entry }
     ensures short { IsShortInput (input_lent result) }
 {
     match prompt {
-        Prompt::Entry { number } => coming_at(wire, number),
-        Prompt::Packet { bytes } => Coming::Given { bytes },
-        Prompt::Tick => Coming::Ticked,
+        Prompt::Entry { number } => input_at(wire, number),
+        Prompt::Packet { bytes } => Input::Given { bytes },
+        Prompt::Tick => Input::Ticked,
     }
 }
 

@@ -1,5 +1,5 @@
 //! Nodes start anew, and NATs forget.
-ghost use Rattle.std.specs.Prelude.{◌≡◌, List, Ok};
+ghost use Rattle.std.specs.Prelude.{◌≡◌, ◌<◌, List, length, Ok};
 ghost use Rattle.history.specs.declared.event.Event.TheVariants as event;
 ghost use Rattle.history.specs.Events.{IsForgotten};
 ghost use Rattle.history.specs.Full.{Full};
@@ -19,13 +19,14 @@ use topology::Node;
 impl<'a> World<'a> {
     /// Lets a node start anew.
     pub(crate) fn restart(&mut self, number: u16, out: &mut Record)
+        requires within { number < length self.old.nodes }
         requires fresh { out.old ≡ fresh_record out.old.event self.old.moment }
         ensures plays { (d : Draws) (H : List Full) → StandsFor d self.old H
             → Plays d self.old self.new H (next_of (flat_lab d self.old.topology) H out.old.event (event.Restart number)) (Ok out.new) }
         ensures rest { self.new ≡ record self.old { nodes = self.new.nodes } }
     {
         legal::frame();
-        restart_at(&mut self.nodes, usize::from(number), self.moment);
+        restart_at(&mut self.nodes, number, self.moment);
         let act = Act::Plain {
             verb: Verb::Restart,
         };
@@ -47,7 +48,7 @@ impl<'a> World<'a> {
         let Node::Client(row) = node else {
             unreachable!()
         };
-        forget_at(&mut self.nodes, usize::from(number), row.inside);
+        forget_at(&mut self.nodes, number, row.inside);
         let act = Act::Plain { verb: Verb::Forget };
         say(out, act, Some(number), Fate::Done);
     }

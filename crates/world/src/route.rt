@@ -1,123 +1,120 @@
 //! Where an entry of the wire goes.
 ghost use Rattle.std.specs.Prelude.{◌≡◌, ℕ, List, Some};
-ghost use Rattle.topology.specs.declared.nat_node.NatNode.{NatNode};
-ghost use Rattle.topology.specs.Topology.{nat_at, nat_settings};
-ghost use Rattle.nat_kinds.specs.Entering.{lets_in};
+ghost use Rattle.topology.specs.Rows.{TopologyState};
 ghost use Rattle.history.specs.Full.{Full, udp, six};
-ghost use Rattle.legal.specs.Lab.{Draws, Lab, flat_lab};
-ghost use Rattle.legal.specs.Past.{nat_history};
-ghost use Rattle.legal.specs.Emit.{reach, route_in, route};
+ghost use Rattle.legal.specs.Lab.{Draws, flat_lab};
+ghost use Rattle.legal.specs.Emit.{reach, route_in, from_outside, route};
+ghost use Rattle.lab_nodes.specs.PlayedNode.{AreOf, NodesOf, AreReady};
 ghost use Rattle.world.specs.WireEntry.{item_lent};
-ghost use Rattle.lab_nodes.specs.NodeState.{NodesOf, AreReady};
 ghost use Rattle.world.specs.Route.{by_route, IsThere, in_alone};
 
 use crate::wire::WireEntry;
-use lab_nodes::NodeState;
+use lab_nodes::PlayedNode;
 use td_base::{Ep, Millis};
-use topology::{Node, Topology};
+use topology::Topology;
 
 /// Where an entry goes: to a node, to a NAT that lets it in to nobody, or to nobody at all. Nodes stand by their
 /// numbers.
 #[derive(Clone, Copy, Debug)]
 pub enum Route {
-    Reaches { number: u16, node: Node },
-    Closed { number: u16 },
+    Reaches { node: u16 },
+    Closed { nat: u16 },
     Astray,
 }
 
 /// The route to the node of a number.
-fn route_to(topology: &Topology, number: Option<u16>) -> Route
-    ensures route { by_route result ≡ reach topology.now number }
-    ensures there { IsThere topology.now result }
+fn route_to(nodes: &[PlayedNode], number: Option<u16>) -> Route
+    ensures there { IsThere nodes.now result }
+    ensures route { (t : TopologyState) → AreOf t nodes.now → by_route t result ≡ reach t number }
 {
-    let Some(number) = number else {
+    let Some(node) = number else {
         return Route::Astray;
     };
-    let Some(node) = topology.node(usize::from(number)) else {
+    if usize::from(node) >= nodes.len() {
         return Route::Astray;
-    };
-    Route::Reaches { number, node }
+    }
+    Route::Reaches { node }
 }
 
-/// The inside endpoint that a NAT lets a datagram in to.
-fn inside_of(states: &[NodeState], nat: u16, now: Millis, src: Ep, port: u16) -> Option<Ep>
-    requires ready { AreReady now.0 states.now }
-    ensures { (lab : Lab) (H : List Full) → NodesOf lab states.now H → (a : NatNode) → nat_at lab.topology nat ≡ Some a
-        → result ≡ lets_in (nat_settings a) (nat_history lab nat H) now.0 src port }
+/// The route through the NAT of a number, which lets a datagram in to this endpoint.
+fn route_inside(topology: &Topology, nodes: &[PlayedNode], nat: u16, inside: Option<Ep>) -> Route
+    ensures there { IsThere nodes.now result }
+    ensures route { AreOf topology.now nodes.now → by_route topology.now result ≡ route_in topology.now (in_alone nat inside) }
 {
-    let state = states.get(usize::from(nat))?;
-    match state {
-        NodeState::Nat(nat) => nat.inward(now, src, port),
-        NodeState::Client(_) => None,
-        NodeState::Relay(_) => None,
-        NodeState::Nothing => None,
+    match inside {
+        None => Route::Closed { nat },
+        Some(inside) => route_to(nodes, topology.client_behind(nat, inside)),
     }
 }
 
-/// The route through a NAT.
-fn route_inside(
+/// The route of a datagram to an endpoint of the node of a number.
+fn route_at(
     topology: &Topology,
-    states: &[NodeState],
-    nat: u16,
+    nodes: &[PlayedNode],
+    at: u16,
     now: Millis,
     src: Ep,
-    port: u16,
+    dst: Ep,
 ) -> Route
-    requires ready { AreReady now.0 states.now }
-    ensures there { IsThere topology.now result }
-    ensures route { (d : Draws) (H : List Full) → NodesOf (flat_lab d topology.now) states.now H → (a : NatNode) → nat_at topology.now nat ≡ Some a
-        → by_route result ≡ route_in topology.now (in_alone nat (lets_in (nat_settings a) (nat_history (flat_lab d topology.now) nat H) now.0 src port)) }
+    requires ready { AreReady now.0 nodes.now }
+    ensures there { IsThere nodes.now result }
+    ensures route { (d : Draws) (H : List Full) → NodesOf (flat_lab d topology.now) nodes.now H
+        → by_route topology.now result ≡ from_outside (flat_lab d topology.now) H now.0 src dst (reach topology.now (Some at)) }
 {
-    match inside_of(states, nat, now, src, port) {
-        None => Route::Closed { number: nat },
-        Some(inside) => route_to(topology, topology.client_behind(nat, inside)),
+    let Some(node) = nodes.get(usize::from(at)) else {
+        return Route::Astray;
+    };
+    match node {
+        PlayedNode::Nat { nat, .. } => {
+            route_inside(topology, nodes, at, nat.inward(now, src, dst.port))
+        }
+        PlayedNode::Server { .. } => Route::Reaches { node: at },
+        PlayedNode::Client { .. } => Route::Reaches { node: at },
+        PlayedNode::Relay { .. } => Route::Reaches { node: at },
+        PlayedNode::Native { .. } => Route::Reaches { node: at },
     }
 }
 
 /// The route of a datagram.
-fn datagram_route(topology: &Topology, states: &[NodeState], now: Millis, src: Ep, dst: Ep) -> Route
-    requires ready { AreReady now.0 states.now }
-    ensures there { IsThere topology.now result }
-    ensures route { (d : Draws) (H : List Full) → NodesOf (flat_lab d topology.now) states.now H → (bytes : List ℕ)
-        → by_route result ≡ route (flat_lab d topology.now) H now.0 (udp src dst bytes) }
+fn datagram_route(topology: &Topology, nodes: &[PlayedNode], now: Millis, src: Ep, dst: Ep) -> Route
+    requires ready { AreReady now.0 nodes.now }
+    ensures there { IsThere nodes.now result }
+    ensures route { (d : Draws) (H : List Full) → NodesOf (flat_lab d topology.now) nodes.now H → (bytes : List ℕ)
+        → by_route topology.now result ≡ route (flat_lab d topology.now) H now.0 (udp src dst bytes) }
 {
-    let Some(number) = topology.at(dst) else {
-        return Route::Astray;
-    };
-    let Some(node) = topology.node(usize::from(number)) else {
-        return Route::Astray;
-    };
-    match node {
-        Node::Nat(_) => route_inside(topology, states, number, now, src, dst.port),
-        Node::Server(_) => Route::Reaches { number, node },
-        Node::Client(_) => Route::Reaches { number, node },
-        Node::Relay(_) => Route::Reaches { number, node },
-        Node::Native(_) => Route::Reaches { number, node },
+    match topology.at(dst) {
+        Some(at) => route_at(topology, nodes, at, now, src, dst),
+        None => Route::Astray,
     }
 }
 
 /// The route of an IPv6 packet: to its relay, or to the native host with its destination.
-fn packet_route(topology: &Topology, relay: Option<u16>, bytes: &[u8]) -> Route
-    ensures there { IsThere topology.now result }
-    ensures route { (d : Draws) (H : List Full) (m : ℕ) → by_route result ≡ route (flat_lab d topology.now) H m (six relay bytes.now) }
+fn packet_route(
+    topology: &Topology,
+    nodes: &[PlayedNode],
+    relay: Option<u16>,
+    bytes: &[u8],
+) -> Route
+    ensures there { IsThere nodes.now result }
+    ensures route { (d : Draws) (H : List Full) (m : ℕ) → AreOf topology.now nodes.now → by_route topology.now result ≡ route (flat_lab d topology.now) H m (six relay bytes.now) }
 {
     if let Some(relay) = relay {
-        return route_to(topology, Some(relay));
+        return route_to(nodes, Some(relay));
     }
     match ipv6_packet::read(bytes) {
-        Ok(packet) => route_to(topology, topology.native_with(packet.dst)),
+        Ok(packet) => route_to(nodes, topology.native_with(packet.dst)),
         Err(_) => Route::Astray,
     }
 }
 
 /// The route of an entry that is delivered now.
-pub fn route_of(topology: &Topology, states: &[NodeState], now: Millis, entry: WireEntry) -> Route
-    requires ready { AreReady now.0 states.now }
-    ensures there { IsThere topology.now result }
-    ensures route { (d : Draws) (H : List Full) → NodesOf (flat_lab d topology.now) states.now H → by_route result ≡ route (flat_lab d topology.now) H now.0 (item_lent entry.entry) }
+pub fn route_of(topology: &Topology, nodes: &[PlayedNode], now: Millis, entry: WireEntry) -> Route
+    requires ready { AreReady now.0 nodes.now }
+    ensures there { IsThere nodes.now result }
+    ensures route { (d : Draws) (H : List Full) → NodesOf (flat_lab d topology.now) nodes.now H → by_route topology.now result ≡ route (flat_lab d topology.now) H now.0 (item_lent entry.entry) }
 {
     match entry {
-        WireEntry::Udp { src, dst, .. } => datagram_route(topology, states, now, src, dst),
-        WireEntry::Six { relay, bytes } => packet_route(topology, relay, bytes),
+        WireEntry::Udp { src, dst, .. } => datagram_route(topology, nodes, now, src, dst),
+        WireEntry::Six { relay, bytes } => packet_route(topology, nodes, relay, bytes),
     }
 }

@@ -18,7 +18,7 @@ use crate::going::Going;
 use crate::record::blank;
 use crate::wire::{ENTRIES_MAX, Wire, WireEntry};
 use history::{Event, Record, Stop, Turn, Verb};
-use lab_nodes::{NodeState, first_states};
+use lab_nodes::{PlayedNode, first_nodes};
 use std::alloc::Global;
 use std::marker::Model;
 use td_base::{Millis, NoMemory};
@@ -29,7 +29,7 @@ use topology::Topology;
 #[derive(Drop)]
 pub struct World<'a> {
     pub(crate) topology: &'a Topology,
-    pub(crate) nodes: Vec<NodeState>,
+    pub(crate) nodes: Vec<PlayedNode>,
     pub(crate) wire: Wire,
     pub(crate) moment: Millis,
     pub(crate) going: Option<Going>,
@@ -57,7 +57,7 @@ impl<'a> World<'a> {
         ensures goes_on { IfOk result (λ w. w.stopped ≡ None) }
     {
         let _rules = topology.clients();
-        let nodes = first_states(alloc, topology, seed)?;
+        let nodes = first_nodes(alloc, topology, seed)?;
         Ok(World {
             topology,
             nodes,
@@ -95,6 +95,7 @@ impl<'a> World<'a> {
         ensures rest { self.new ≡ record self.old { nodes = self.new.nodes; wire = self.new.wire; done = self.new.done } }
         ensures err { OnErr result ((self.new.wire ≡ self.old.wire) × (self.new.done ≡ self.old.done)) }
     {
+        let _ = &self.nodes;
         match event {
             Event::Advance { .. } => unreachable!(),
             Event::Deliver { number } => self.deliver(*number, out),

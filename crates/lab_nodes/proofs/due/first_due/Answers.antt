@@ -1,41 +1,44 @@
-use Rattle.std.proofs.Common.{◌≡◌, length, Some, None, refl, sym, ap, subst, ◌∙◌}
-use Rattle.std.specs.Prelude.{option_map, slice_get}
+use Rattle.std.proofs.Common.{◌≡◌, ◌<◌, ◌+◌, length, Some, Option, refl, sym, ap, ◌∙◌, subst, arith}
+use Rattle.std.specs.Prelude.{option_map, slice_get, IfSome}
 use Rattle.std.proofs.lemmas.Option.{slice_get_read}
-use Rattle.topology.specs.declared.node.Node.{Node}
-use Rattle.topology.specs.Topology.{nodes, node_at}
-use Rattle.legal.specs.Lab.{lab_on}
-use Rattle.legal.specs.Next.{earlier}
-use Rattle.lab_nodes.specs.NodeState.{past_of, IsKept, IsKeptIn, IsReady}
-use Rattle.lab_nodes.specs.Due.{due_is, tick_of}
-use Rattle.lab_nodes.proofs.Dues.{further, all_seen, ready_at, at_the_end}
+use Rattle.topology.specs.Topology.{nodes}
+use Rattle.legal.specs.Next.{Due, earlier}
+use Rattle.lab_nodes.specs.declared.due.Due.{Due as Found}
+use Rattle.lab_nodes.specs.PlayedNode.{row_of, past_of, IsKept, IsReady}
+use Rattle.lab_nodes.specs.Due.{due_as, tick_of}
+use Rattle.lab_nodes.proofs.NodeLists.{ready_at}
+use Rattle.lab_nodes.proofs.Dues.{none_before, one_further, row_at, at_the_end, still_within}
 use Rattle.lab_nodes.proofs.due.first_due.Goals as goal
 use Rattle.lab_nodes.proofs.due.first_due.Goals.{then-may_come_first, else-may_come_first}
 
-pub loop-number-preserved : goal.loop-number-preserved
-loop-number-preserved c = λ d chain H of e.
-    let t = c.args.topology.now in
-    let lab = lab_on d t chain in
-    let n = c.loop-number.number in
-    let s = c.index-states-number.result in
-    let states = c.args.states.now in
-    let first = option_map due_is c.loop-number.first in
-    let here : slice_get states n ≡ Some s = slice_get_read states (length states) n s refl c.loop-number-test.true c.index-states-number.is in
-    let ready : IsReady c.args.at.0 s = ready_at c.args.at.0 states n s c.requires.ready here in
-    let kept : (a : Node) → node_at t n ≡ Some a → IsKept t n a (past_of lab n H) s = λ a there. subst (IsKeptIn t n a (past_of lab n H)) here (of n a there) in
-    let none : node_at t n ≡ None → option_map due_is c.if-may_come_first.first ≡ first = λ none. elim c.if-may_come_first.branch [
-      | then-may_come_first w ↦ ap (option_map due_is) (w.first-is ∙ w.put_earlier.ensures.nowhere none)
-      | else-may_come_first w ↦ ap (option_map due_is) w.first-is
-    ] in
-    let some : (a : Node) → node_at t n ≡ Some a → option_map due_is c.if-may_come_first.first ≡ earlier first (tick_of lab H c.args.at.0 n a) = λ a there. elim c.if-may_come_first.branch [
-      | then-may_come_first w ↦ ap (option_map due_is) w.first-is ∙ w.put_earlier.ensures.there d chain H a there (kept a there)
-      | else-may_come_first w ↦ ap (option_map due_is) w.first-is ∙ sym (w.if-may_come_first.ensures refl lab H c.args.at.0 n a ready (kept a there))
-    ] in
-    further lab H n first (option_map due_is c.if-may_come_first.first) (c.loop-number.invariant d chain H of e) none (λ a there. some a there ∙ ap (λ m. earlier first (tick_of lab H m n a)) e)
+pub loop-number-init : goal.loop-number-init
+loop-number-init c = record { within = tt; is = λ lab H of e. none_before lab H (nodes lab.topology) }
 
-pub returns : goal.returns
-returns c = λ d chain H of e.
-    let t = c.args.topology.now in
-    let lab = lab_on d t chain in
+pub loop-number-preserved : goal.loop-number-preserved
+loop-number-preserved c =
     let n = c.loop-number.number in
-    let none : node_at t n ≡ None = all_seen lab c.args.states.now H n of c.loop-number-test.false in
-    at_the_end lab H (nodes t) n (option_map due_is c.loop-number.first) none (c.loop-number.invariant d chain H of e)
+    let p = c.index-nodes-number.result in
+    let list = c.args.nodes.now in
+    let so_far = c.loop-number.invariant in
+    let longer : IfSome c.loop-number.first (λ (x : Found). x.node < n + 1) = still_within n c.loop-number.first so_far.within in
+    let here : slice_get list n ≡ Some p = slice_get_read list (length list) n p refl c.loop-number-test.true c.index-nodes-number.is in
+    record {
+      within = elim c.if-may_come_first.branch [
+        | then-may_come_first w ↦ subst (λ (o : Option Found). IfSome o (λ (x : Found). x.node < n + 1)) (sym w.first-is) (w.put_earlier.ensures.within (n + 1) (omega arith) longer)
+        | else-may_come_first w ↦ subst (λ (o : Option Found). IfSome o (λ (x : Found). x.node < n + 1)) (sym w.first-is) longer
+      ];
+      is = λ lab H of e.
+          let ready : IsReady c.args.at.0 p = ready_at c.args.at.0 list n p c.requires.ready here in
+          let kept : IsKept lab.topology n (past_of lab n H) p = of.each n p here in
+          let so = so_far.is lab H of e in
+          let tick : Option Due = tick_of lab H c.args.at.0 n (row_of p) in
+          let new : c.if-may_come_first.first ≡ option_map due_as (earlier so.tick tick) = elim c.if-may_come_first.branch [
+            | then-may_come_first w ↦ w.first-is ∙ w.put_earlier.ensures.earlier lab H so.tick kept so.found
+            | else-may_come_first w ↦ w.first-is ∙ so.found ∙ ap (λ (o : Option Due). option_map due_as o) (sym (w.if-may_come_first.ensures refl lab H c.args.at.0 n so.tick ready kept so.found))
+          ] in
+          one_further lab H (nodes lab.topology) n (row_of p) c.loop-number.first c.if-may_come_first.first (row_at lab list H n p of here) so
+          (new ∙ ap (λ m. option_map due_as (earlier so.tick (tick_of lab H m n (row_of p)))) e);
+    }
+
+pub returns-clause-first : goal.returns-clause-first
+returns-clause-first c = λ lab H of e. at_the_end lab c.args.nodes.now H c.loop-number.number c.loop-number.first of c.loop-number-test.false (c.loop-number.invariant.is lab H of e)

@@ -1,4 +1,4 @@
-use Rattle.lab_nodes.proofs.Moments.{as_in_the_past}
+use Rattle.lab_nodes.proofs.DueMoments.{as_in_the_past}
 use Rattle.lab_nodes.proofs.laws.due_as_in_the_past.Goals as goal
 
 pub returns : goal.returns

@@ -1,4 +1,4 @@
-use Rattle.lab_nodes.proofs.States.{client_rules}
+use Rattle.lab_nodes.proofs.Rows.{client_rules}
 use Rattle.lab_nodes.proofs.laws.rows_keep_rules.Goals as goal
 
 pub returns : goal.returns

@@ -6,8 +6,8 @@ use Rattle.world.proofs.Entered.{puts_not, cut_back}
 use Rattle.world.proofs.sender.emit.Goals as goal
 
 pub returns-in-Err-clause-puts : goal.returns-in-Err-clause-puts
-returns-in-Err-clause-puts c = λ d t H e em.
-    puts_not c.args.wire.now c.put_all.new.wire c.cut.new.self c.put_all.new.marks (emitted_by (flat_lab d t) H c.args.sender e).made c.in-Err.stop (c.in-Err.ensures.puts d t H e em)
+returns-in-Err-clause-puts c = λ d t H kept.
+    puts_not c.args.wire.now c.put_all.new.wire c.cut.new.self c.put_all.new.marks (emitted_by (flat_lab d t) H c.args.sender c.args.packet c.args.step.now.sends).made c.in-Err.stop (c.in-Err.ensures.puts d t H kept)
 
 pub returns-in-Err-clause-err : goal.returns-in-Err-clause-err
 returns-in-Err-clause-err c =

@@ -1,4 +1,4 @@
-use Rattle.std.proofs.Common.{◌≡◌, ℕ, List, [], Some, Ok, refl, sym, ap, subst, ◌∙◌}
+use Rattle.std.proofs.Common.{◌≡◌, ℕ, List, [], Some, Ok, refl, sym, ap, subst, ◌∙◌, arith}
 use Rattle.std.proofs.lemmas.Result.{err_from_is_err_and}
 use Rattle.topology.specs.Topology.{node_at}
 use Rattle.topology.specs.declared.node.Node.{Node}
@@ -16,7 +16,10 @@ use Rattle.world.specs.Wire.{WireState}
 use Rattle.world.specs.Record.{fresh_record, with_deed}
 use Rattle.world.specs.World.{WorldState, NeedsMemory, IsCause, state_of}
 use Rattle.world.specs.Playing.{prompted, Finds, Plays}
-use Rattle.world.proofs.Acting.{Doing, entry_by, IsCall, IsDoing, Asking, IsAsked, is_emission, IsSent, IsAway, acted_plays, wants_memory, acted_stops}
+use Rattle.lab_nodes.specs.PlayedNode.{row_of}
+use Rattle.world.proofs.Routes.{row_at, same_length}
+use Rattle.world.proofs.Sent.{has_its_nat}
+use Rattle.world.proofs.Acting.{Doing, IsCall, IsDoing, Asking, IsAsked, keeps_nat, IsSent, acted_plays, wants_memory, acted_stops}
 use Rattle.world.proofs.world.World.act.Goals as goal
 
 -- what is so of the record of an act
@@ -25,66 +28,93 @@ record Deed : Type 0 where
   act : Act
   prompt : Prompt
   number : ℕ
-  node : Node
 
 -- for each history that a world finds and each event
 abbrev OfEach : Deed → (Draws → WorldState → List Full → Full → Type 0) → WorldState → Type 0
-OfEach a P w = (d : Draws) (H : List Full) → Finds d w H → (e : Event) → at_nat (flat_lab d w.topology) e a.act ≡ [] → node_at w.topology a.number ≡ Some a.node
-    → P d w H (prompted d w H (numbered a.index e) a.act a.prompt a.number a.node)
+OfEach a P w = (d : Draws) (H : List Full) → Finds d w H → (e : Event) → at_nat (flat_lab d w.topology) e a.act ≡ [] → (node : Node) → node_at w.topology a.number ≡ Some node
+    → P d w H (prompted d w H (numbered a.index e) a.act a.prompt a.number node)
 
-pub returns-in_err-packet-clause-plays : goal.returns-in_err-packet-clause-plays
-returns-in_err-packet-clause-plays c =
+pub returns-in_err-outlet-clause-plays : goal.returns-in_err-outlet-clause-plays
+returns-in_err-outlet-clause-plays c =
     let w = c.self.inside in
     let p = err_from_is_err_and c.from_residual.result c.from_residual.ensures.1 in
-    let a : Deed = record { index = c.args.out.now.event; act = c.args.act; prompt = c.args.prompt; number = c.args.number; node = c.args.node } in
+    let a : Deed = record { index = c.args.out.now.event; act = c.args.act; prompt = c.args.prompt; number = c.args.number } in
     let old = state_of w.topology.now w.moment.0 w.going w.nodes.items w.wire w.stopped in
-    let call : Call = record { number = c.args.number; node = c.args.node; now = w.moment; coming = c.coming_of.result } in
-    let is_call : IsCall old c.args.prompt call = record { at = refl; dst = c.coming_of.ensures.dst; input = c.coming_of.ensures.input } in
-    rw (p.1, p.2) (subst (OfEach a (λ d x H r. NeedsMemory r)) c.self.view_is (λ d H s e quiet here.
-    let x : Doing = record { draws = d; world = old; history = H; event = numbered c.args.out.now.event e; act = c.args.act; prompt = c.args.prompt; call = call } in
-    let is : IsDoing x = record { finds = s; rules = c.self.invariant.rules; rows = c.rows_keep_rules.ensures; quiet = quiet; there = here } in
-    wants_memory x is_call is c.in_err-packet.ensures.wants))
+    let call : Call = record { node = c.args.number; now = w.moment; input = c.input_of.result } in
+    let is_call : IsCall old c.args.prompt call = record { at = refl; dst = c.input_of.ensures.dst; input = c.input_of.ensures.input } in
+    let did = c.in_err-outlet.ensures.answers in
+    rw (p.1, p.2) (subst (OfEach a (λ d x H r. NeedsMemory r)) c.self.view_is (λ d H s e quiet node here.
+    let x : Doing = record { draws = d; world = old; history = H; event = numbered c.args.out.now.event e; act = c.args.act; prompt = c.args.prompt; call = call; before = did.before } in
+    let is : IsDoing x = record { finds = s; rules = c.self.invariant.rules; law = c.rows_keep_rules.ensures; quiet = quiet; was = did.was } in
+    wants_memory x node is_call is here did.change))
 
 pub returns-in_err-emit-clause-plays : goal.returns-in_err-emit-clause-plays
 returns-in_err-emit-clause-plays c =
     let w = c.self.inside in
     let p = err_from_is_err_and c.from_residual-in_err-emit.result c.from_residual-in_err-emit.ensures.1 in
-    let a : Deed = record { index = c.args.out.now.event; act = c.args.act; prompt = c.args.prompt; number = c.args.number; node = c.args.node } in
+    let a : Deed = record { index = c.args.out.now.event; act = c.args.act; prompt = c.args.prompt; number = c.args.number } in
     let old = state_of w.topology.now w.moment.0 w.going w.nodes.items w.wire w.stopped in
-    let call : Call = record { number = c.args.number; node = c.args.node; now = w.moment; coming = c.coming_of.result } in
-    let is_call : IsCall old c.args.prompt call = record { at = refl; dst = c.coming_of.ensures.dst; input = c.coming_of.ensures.input } in
-    let y : Asking = record { mid = c.ask.new.nodes.items; step = c.ask.new.step; asked = c.in_ok-packet.field-0 } in
+    let call : Call = record { node = c.args.number; now = w.moment; input = c.input_of.result } in
+    let is_call : IsCall old c.args.prompt call = record { at = refl; dst = c.input_of.ensures.dst; input = c.input_of.ensures.input } in
+    let did = c.in_ok-outlet.ensures.answers in
+    let y : Asking = record { mid = c.ask.new.nodes.items; after = did.after; step = c.ask.new.step; asked = c.in_ok-outlet.field-0 } in
     let why = c.in_err-emit.field-0.0 in
-    rw (p.1, p.2) (subst (OfEach a (λ d x H r. IsCause x r why)) c.self.view_is (λ d H s e quiet here.
-    let x : Doing = record { draws = d; world = old; history = H; event = numbered c.args.out.now.event e; act = c.args.act; prompt = c.args.prompt; call = call } in
-    let is : IsDoing x = record { finds = s; rules = c.self.invariant.rules; rows = c.rows_keep_rules.ensures; quiet = quiet; there = here } in
-    let asked : IsAsked x y = record { asks = c.in_ok-packet.ensures.asks; elsewhere = c.ask.ensures.elsewhere } in
-    acted_stops x c.emit.new.wire c.emit.new.marks why is_call (c.in_err-emit.ensures.puts d w.topology.now H (entry_by x) (is_emission x y is asked))))
+    rw (p.1, p.2) (subst (OfEach a (λ d x H r. IsCause x r why)) c.self.view_is (λ d H s e quiet node here.
+    let x : Doing = record { draws = d; world = old; history = H; event = numbered c.args.out.now.event e; act = c.args.act; prompt = c.args.prompt; call = call; before = did.before } in
+    let is : IsDoing x = record { finds = s; rules = c.self.invariant.rules; law = c.rows_keep_rules.ensures; quiet = quiet; was = did.was } in
+    let asked : IsAsked x y = record { answers = did.change; is = did.is; elsewhere = did.elsewhere; rows = did.rows } in
+    acted_stops x y c.emit.new.wire c.emit.new.marks why node is_call is asked here (c.in_err-emit.ensures.puts d w.topology.now H (keeps_nat x y is asked))))
 
 pub returns-clause-plays : goal.returns-clause-plays
 returns-clause-plays c =
     let w = c.self.inside in
     let index = c.args.out.now.event in
-    let a : Deed = record { index = index; act = c.args.act; prompt = c.args.prompt; number = c.args.number; node = c.args.node } in
+    let a : Deed = record { index = index; act = c.args.act; prompt = c.args.prompt; number = c.args.number } in
     let old = state_of w.topology.now w.moment.0 w.going w.nodes.items w.wire w.stopped in
     let new : WireState → WorldState = λ z. state_of w.topology.now w.moment.0 w.going c.emit.new.nodes.items z w.stopped in
     let marks = c.emit.new.marks in
-    let call : Call = record { number = c.args.number; node = c.args.node; now = w.moment; coming = c.coming_of.result } in
-    let is_call : IsCall old c.args.prompt call = record { at = refl; dst = c.coming_of.ensures.dst; input = c.coming_of.ensures.input } in
+    let call : Call = record { node = c.args.number; now = w.moment; input = c.input_of.result } in
+    let is_call : IsCall old c.args.prompt call = record { at = refl; dst = c.input_of.ensures.dst; input = c.input_of.ensures.input } in
     let there : IsPrompt old.wire old.done c.args.prompt = subst (λ (x : WorldState). IsPrompt x.wire x.done c.args.prompt) (sym c.self.view_is) c.requires.prompt in
-    let y : Asking = record { mid = c.ask.new.nodes.items; step = c.ask.new.step; asked = c.in_ok-packet.field-0 } in
+    let did = c.in_ok-outlet.ensures.answers in
+    let y : Asking = record { mid = c.ask.new.nodes.items; after = did.after; step = c.ask.new.step; asked = c.in_ok-outlet.field-0 } in
     let fresh : c.args.out.now ≡ fresh_record index w.moment.0 = c.requires.fresh ∙ ap (λ (x : WorldState). fresh_record index x.moment) (sym c.self.view_is) in
     let deed : Record → Record = λ r. record (with_deed r c.args.act (Some c.args.number) c.ask.new.step.fate) { gone = c.ask.new.step.gone } in
     let said : c.say_step.new.out ≡ deed (fresh_record index w.moment.0) = c.say_step.ensures ∙ ap deed fresh in
-    let filled : Record → Record = λ r. record r { marks = marks; handed = c.in_ok-packet.field-0.handed; address = c.in_ok-packet.field-0.address } in
-    subst (OfEach a (λ d x H r. Plays d x (new c.remember.new.wire) H r (Ok (filled c.say_step.new.out)))) c.self.view_is (λ d H s e quiet here.
-    let x : Doing = record { draws = d; world = old; history = H; event = numbered index e; act = c.args.act; prompt = c.args.prompt; call = call } in
-    let is : IsDoing x = record { finds = s; rules = c.self.invariant.rules; rows = c.rows_keep_rules.ensures; quiet = quiet; there = here } in
-    let asked : IsAsked x y = record { asks = c.in_ok-packet.ensures.asks; elsewhere = c.ask.ensures.elsewhere } in
-    let em = is_emission x y is asked in
-    let sent : IsSent x c.emit.new.nodes.items c.emit.new.wire marks = record { enters = c.in_ok-emit.ensures.puts d w.topology.now H (entry_by x) em; nat = c.in_ok-emit.ensures.nat d w.topology.now H (entry_by x) em } in
-    let away : IsAway x y c.emit.new.nodes.items = record { elsewhere = c.emit.ensures.elsewhere } in
-    let r = prompted d old H (numbered index e) c.args.act c.args.prompt c.args.number c.args.node in
+    let filled : Record → Record = λ r. record r { marks = marks; handed = c.in_ok-outlet.field-0.handed; address = c.in_ok-outlet.field-0.address } in
+    subst (OfEach a (λ d x H r. Plays d x (new c.remember.new.wire) H r (Ok (filled c.say_step.new.out)))) c.self.view_is (λ d H s e quiet node here.
+    let x : Doing = record { draws = d; world = old; history = H; event = numbered index e; act = c.args.act; prompt = c.args.prompt; call = call; before = did.before } in
+    let is : IsDoing x = record { finds = s; rules = c.self.invariant.rules; law = c.rows_keep_rules.ensures; quiet = quiet; was = did.was } in
+    let asked : IsAsked x y = record { answers = did.change; is = did.is; elsewhere = did.elsewhere; rows = did.rows } in
+    let kept = keeps_nat x y is asked in
+    let sent : IsSent x y c.emit.new.nodes.items c.emit.new.wire marks = record {
+      enters = c.in_ok-emit.ensures.puts d w.topology.now H kept;
+      nat = c.in_ok-emit.ensures.nat d w.topology.now H kept;
+      elsewhere = c.emit.ensures.elsewhere;
+      rows = c.emit.ensures.rows;
+    } in
+    let r = prompted d old H (numbered index e) c.args.act c.args.prompt c.args.number node in
     subst (λ (z : WireState). Plays d old (new z) H r (Ok (filled c.say_step.new.out))) (sym c.remember.ensures)
     (subst (λ (o : Record). Plays d old (new (record c.emit.new.wire { done = done_by c.args.prompt c.emit.new.wire.done })) H r (Ok (filled o))) (sym said)
-    (acted_plays c.frame.ensures x y c.emit.new.nodes.items c.emit.new.wire marks is_call there is asked sent away)))
+    (acted_plays c.frame.ensures x y c.emit.new.nodes.items c.emit.new.wire marks is_call there node here is asked sent)))
+
+pub emit-requires-clause-nat : goal.emit-requires-clause-nat
+emit-requires-clause-nat c =
+    let w = c.self.inside in
+    let did = c.in_ok-outlet.ensures.answers in
+    let was = row_at w.topology.now w.nodes.items c.args.number did.before c.self.invariant.rows did.was in
+    has_its_nat c.rows_keep_rules.ensures w.topology.now c.args.number (row_of did.before) c.ask.new.nodes.items c.in_ok-outlet.field-0.outlet c.self.invariant.rules (did.rows ∙ c.self.invariant.rows) was did.change.outlet
+
+pub invariant_of-self : goal.invariant_of-self
+invariant_of-self c =
+    let is = c.in_err-outlet.ensures.answers in
+    let few = c.self.invariant.few in
+    let long = same_length c.ask.new.nodes.items c.self.inside.nodes.items is.rows in
+    record {
+      rules = c.self.invariant.rules;
+      rows = is.rows ∙ c.self.invariant.rows;
+      few = omega (arith, few, long);
+      ready = c.in_err-outlet.ensures.ready;
+      early = c.self.invariant.early;
+      going = c.self.invariant.going;
+    }

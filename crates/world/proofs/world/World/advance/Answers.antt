@@ -4,7 +4,7 @@ use Rattle.history.specs.declared.acts.Verb.TheVariants as verb
 use Rattle.history.specs.declared.event.Event.TheVariants as event
 use Rattle.topology.specs.Topology.{nodes}
 use Rattle.legal.specs.Next.{plain, least_due}
-use Rattle.lab_nodes.specs.Due.{due_is}
+use Rattle.lab_nodes.specs.declared.due.Due.{Due}
 use Rattle.legal.specs.Lab.{flat_lab}
 use Rattle.world.specs.Record.{fresh_record, with_deed}
 use Rattle.world.specs.World.{WorldState, IsAgain}
@@ -48,15 +48,17 @@ returns-in-Ok-clause-plays c = λ d H s.
     let w = c.args.self.now in
     let end : c.began-began.result.0 + c.args.ms ≡ w.began + c.args.ms = ap (λ (m : ℕ). m + c.args.ms) c.began-began.ensures in
     let due = c.in-Some.ensures.due d H s in
-    let before = due.1 in
-    ticks d w c.tick.new.self H c.args.out.now.event c.args.ms (due_is c.in-Some.due) c.tick.new.out s due.0 (omega (arith, end, before))
-    (c.in-Ok.ensures.plays d H s (event.Advance c.args.ms) refl (due_is_there (flat_lab d w.topology) H (due_is c.in-Some.due) due.0))
+    let moment : due.tick.moment ≡ c.in-Some.due.moment.0 = ap (λ (y : Due). y.moment.0) due.is in
+    let before = c.in-Some.ensures.early in
+    ticks d w c.tick.new.self H c.args.out.now.event c.args.ms due.tick c.tick.new.out s due.least (omega (arith, end, before, moment))
+    (c.in-Ok.ensures.plays d H s (event.Advance c.args.ms) refl due.tick due.is (due_is_there (flat_lab d w.topology) H due.tick due.least))
 
 pub returns-in-Err-clause-plays : goal.returns-in-Err-clause-plays
 returns-in-Err-clause-plays c = λ d H s.
     let w = c.args.self.now in
     let end : c.began-began.result.0 + c.args.ms ≡ w.began + c.args.ms = ap (λ (m : ℕ). m + c.args.ms) c.began-began.ensures in
     let due = c.in-Some.ensures.due d H s in
-    let before = due.1 in
-    tick_stops d w H c.args.out.now.event c.args.ms (due_is c.in-Some.due) c.in-Err.stop s due.0 (omega (arith, end, before))
-    (c.in-Err.ensures.plays d H s (event.Advance c.args.ms) refl (due_is_there (flat_lab d w.topology) H (due_is c.in-Some.due) due.0))
+    let moment : due.tick.moment ≡ c.in-Some.due.moment.0 = ap (λ (y : Due). y.moment.0) due.is in
+    let before = c.in-Some.ensures.early in
+    tick_stops d w H c.args.out.now.event c.args.ms due.tick c.in-Err.stop s due.least (omega (arith, end, before, moment))
+    (c.in-Err.ensures.plays d H s (event.Advance c.args.ms) refl due.tick due.is (due_is_there (flat_lab d w.topology) H due.tick due.least))

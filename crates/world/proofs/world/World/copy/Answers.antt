@@ -1,11 +1,13 @@
-use Rattle.std.proofs.Common.{◌≡◌, ℕ, List, Some, sym, ap, subst, ◌∙◌}
+use Rattle.std.proofs.Common.{◌≡◌, ℕ, List, Some, None, sym, ap, subst, ◌∙◌}
 use Rattle.std.specs.Prelude.{slice_get, option_map}
 use Rattle.history.specs.declared.acts.Act.TheVariants as act
 use Rattle.history.specs.declared.event.Event.TheVariants as event
 use Rattle.history.specs.Full.{Item, wire}
 use Rattle.legal.specs.Next.{numbered, puts}
 use Rattle.world.specs.WireEntry.{item_lent}
-use Rattle.world.specs.World.{WorldState}
+use Rattle.world.specs.Record.{fresh_record}
+use Rattle.world.specs.World.{WorldState, state_of}
+use Rattle.world.proofs.Played.{copies_none}
 use Rattle.world.specs.Playing.{Plays, played}
 use Rattle.world.proofs.world.World.copy.Goals as goal
 
@@ -15,3 +17,11 @@ returns-clause-plays c = λ d H s.
     let e = event.Copy c.args.number c.args.src c.args.dst in
     rw (at) (subst (λ (x : List ℕ). Plays d c.args.self.now c.put.new.self H (puts H (numbered c.args.out.now.event e) (act.Copy c.args.number) c.args.src c.args.dst x) (played c.put.result c.put.new.out)) (c.in_ok-bytes.ensures.copied ∙ c.bytes.ensures)
     (c.put.ensures.plays d H s e))
+
+pub returns-in_default-clause-plays : goal.returns-in_default-clause-plays
+returns-in_default-clause-plays c =
+    let w = c.self.inside in
+    let old = state_of w.topology.now w.moment.0 w.going w.nodes.items w.wire w.stopped in
+    let none : slice_get w.wire.items c.args.number ≡ None = sym c.get.ensures.lent ∙ ap (λ o. option_map item_lent o) c.in_default.is in
+    let fresh : c.args.out.now ≡ fresh_record c.args.out.now.event w.moment.0 = c.requires.fresh ∙ ap (λ (x : WorldState). fresh_record c.args.out.now.event x.moment) (sym c.self.view_is) in
+    rw (← c.self.view_is, c.say.ensures, fresh) (λ d H s. copies_none c.frame.ensures d old H c.args.out.now.event c.args.number c.args.src c.args.dst s none)

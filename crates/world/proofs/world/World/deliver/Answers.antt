@@ -7,12 +7,14 @@ use Rattle.history.specs.declared.acts.Act.TheVariants as act
 use Rattle.history.specs.Full.{Full}
 use Rattle.legal.specs.Lab.{Draws, flat_lab}
 use Rattle.legal.specs.Past.{forgotten}
-use Rattle.legal.specs.Emit.{reaches, route}
+use Rattle.legal.specs.Emit.{reaches, reach_node, route}
 use Rattle.legal.specs.Next.{numbered}
 use Rattle.world.specs.Wire.{WireState}
 use Rattle.world.specs.WireEntry.{item_lent}
 use Rattle.world.specs.Route.{by_route, IsThere}
-use Rattle.lab_nodes.specs.NodeState.{NodesOf}
+use Rattle.lab_nodes.specs.declared.played_node.PlayedNode.{PlayedNode}
+use Rattle.lab_nodes.specs.PlayedNode.{NodesOf}
+use Rattle.world.proofs.Routes.{there_within}
 use Rattle.world.specs.Record.{fresh_record, with_deed}
 use Rattle.world.specs.World.{WorldState, StandsFor, state_of}
 use Rattle.world.specs.Playing.{Plays, played}
@@ -31,7 +33,7 @@ returns-in-Astray-clause-plays c =
     let nodes : (d : Draws) (H : List Full) → StandsFor d old H → NodesOf (flat_lab d w.topology.now) c.as_slice.result.now H = λ d H s. rw (c.as_slice.ensures.value) s.nodes in
     let fresh : c.args.out.now ≡ fresh_record c.args.out.now.event w.moment.0 = c.requires.fresh ∙ ap (λ (x : WorldState). fresh_record c.args.out.now.event x.moment) (sym c.self.view_is) in
     rw (← c.self.view_is, c.say-in-Astray.ensures, fresh) (λ d H s e keeps.
-    let goes = sym (c.route_of.ensures.route d H (nodes d H s)) ∙ ap by_route c.in-Astray.is in
+    let goes = sym (c.route_of.ensures.route d H (nodes d H s)) ∙ ap (by_route w.topology.now) c.in-Astray.is in
     subst (λ (z : WireState). Plays d old (state_of w.topology.now w.moment.0 w.going w.nodes.items z w.stopped) H (record_in (x d H e)) (Ok (with_deed (fresh_record c.args.out.now.event w.moment.0) (act.Deliver c.args.number) None fate.Nowhere))) (sym c.set_delivered.ensures) (answered.strays c.frame.ensures (x d H e) (is d H e s keeps) goes))
 
 pub returns-in-Closed-clause-plays : goal.returns-in-Closed-clause-plays
@@ -45,7 +47,7 @@ returns-in-Closed-clause-plays c =
     let nodes : (d : Draws) (H : List Full) → StandsFor d old H → NodesOf (flat_lab d w.topology.now) c.as_slice.result.now H = λ d H s. rw (c.as_slice.ensures.value) s.nodes in
     let fresh : c.args.out.now ≡ fresh_record c.args.out.now.event w.moment.0 = c.requires.fresh ∙ ap (λ (x : WorldState). fresh_record c.args.out.now.event x.moment) (sym c.self.view_is) in
     rw (← c.self.view_is, c.say-in-Closed.ensures, fresh) (λ d H s e keeps.
-    let goes = sym (c.route_of.ensures.route d H (nodes d H s)) ∙ ap by_route c.in-Closed.is in
+    let goes = sym (c.route_of.ensures.route d H (nodes d H s)) ∙ ap (by_route w.topology.now) c.in-Closed.is in
     subst (λ (z : WireState). Plays d old (state_of w.topology.now w.moment.0 w.going w.nodes.items z w.stopped) H (record_in (x d H e)) (Ok (with_deed (fresh_record c.args.out.now.event w.moment.0) (act.Deliver c.args.number) (Some c.in-Closed.nat) fate.NatClosed))) (sym c.set_delivered-in-Closed.ensures) (answered.shut_out c.frame.ensures (x d H e) c.in-Closed.nat (is d H e s keeps) goes))
 
 pub returns-in-Reaches-clause-plays : goal.returns-in-Reaches-clause-plays
@@ -63,8 +65,18 @@ returns-in-Reaches-clause-plays c = λ d H s e keeps.
     } in
     let before : StandsFor d (state_of w.topology.now w.moment.0 w.going w.nodes.items w.wire w.stopped) H = subst (λ (z : WorldState). StandsFor d z H) (sym same) s in
     let nodes : NodesOf (flat_lab d w.topology.now) c.as_slice.result.now H = rw (c.as_slice.ensures.value) before.nodes in
-    let goes : route (flat_lab d w.topology.now) H w.moment.0 item ≡ reaches c.in-Reaches.at c.in-Reaches.node = sym (c.route_of.ensures.route d H nodes) ∙ ap by_route c.in-Reaches.is in
-    let here : node_at w.topology.now c.in-Reaches.at ≡ Some c.in-Reaches.node = subst (IsThere w.topology.now) c.in-Reaches.is c.route_of.ensures.there in
-    answered.taken x c.act.new.self (played c.act.result c.act.new.out) c.in-Reaches.at c.in-Reaches.node is
-    (subst (λ (z : WorldState). route (flat_lab d z.topology) H z.moment item ≡ reaches c.in-Reaches.at c.in-Reaches.node) same goes)
-    (c.act.ensures.plays d H (record { nodes = s.nodes; wire = s.wire }) e keeps (subst (λ (z : WorldState). node_at z.topology c.in-Reaches.at ≡ Some c.in-Reaches.node) same here))
+    let within : c.in-Reaches.node < length w.nodes.items = subst (λ (l : List PlayedNode). c.in-Reaches.node < length l) c.as_slice.ensures.value (subst (IsThere c.as_slice.result.now) c.in-Reaches.is c.route_of.ensures.there) in
+    let here = there_within w.topology.now w.nodes.items c.in-Reaches.node c.self.invariant.rows within in
+    let goes : route (flat_lab d w.topology.now) H w.moment.0 item ≡ reaches c.in-Reaches.node here.0 =
+    sym (c.route_of.ensures.route d H nodes) ∙ ap (by_route w.topology.now) c.in-Reaches.is ∙ ap (reach_node c.in-Reaches.node) here.1 in
+    answered.taken x c.act.new.self (played c.act.result c.act.new.out) c.in-Reaches.node here.0 is
+    (subst (λ (z : WorldState). route (flat_lab d z.topology) H z.moment item ≡ reaches c.in-Reaches.node here.0) same goes)
+    (c.act.ensures.plays d H (record { nodes = s.nodes; wire = s.wire }) e keeps here.0 (subst (λ (z : WorldState). node_at z.topology c.in-Reaches.node ≡ Some here.0) same here.1))
+
+pub returns-in_default-clause-plays : goal.returns-in_default-clause-plays
+returns-in_default-clause-plays c =
+    let w = c.self.inside in
+    let old = state_of w.topology.now w.moment.0 w.going w.nodes.items w.wire w.stopped in
+    let none : slice_get w.wire.items c.args.number ≡ None = sym c.get.ensures.lent ∙ ap (λ o. option_map item_lent o) c.in_default.is in
+    let fresh : c.args.out.now ≡ fresh_record c.args.out.now.event w.moment.0 = c.requires.fresh ∙ ap (λ (x : WorldState). fresh_record c.args.out.now.event x.moment) (sym c.self.view_is) in
+    rw (← c.self.view_is, c.say.ensures, fresh) (λ d H s e keeps. answered.missing c.frame.ensures d old H (numbered c.args.out.now.event e) c.args.number s keeps none)

@@ -1,7 +1,7 @@
-use Rattle.std.proofs.Common.{◌≤◌, ◌<◌, [], arith}
+use Rattle.std.proofs.Common.{◌<◌, arith}
 use Rattle.legal.specs.Lab.{flat_lab}
 use Rattle.std.proofs.lemmas.Bool.Decides.{nat_tests}
-use Rattle.lab_nodes.specs.NodeState.{NodesOf}
+use Rattle.lab_nodes.specs.PlayedNode.{NodesOf}
 use Rattle.world.proofs.Ticking.{found_first, past_none, past_later}
 use Rattle.world.proofs.world.World.due_by.Goals as goal
 
@@ -10,7 +10,7 @@ returns-in_default-clause-none c =
     let w = c.self.inside in
     rw (← c.self.view_is) (λ d H s.
     let nodes : NodesOf (flat_lab d w.topology.now) c.as_slice.result.now H = rw (c.as_slice.ensures.value) s.nodes in
-    past_none (flat_lab d w.topology.now) H c.args.end.0 c.first_due.result c.in_default.is (c.first_due.ensures d [] H nodes s.moment))
+    past_none (flat_lab d w.topology.now) H c.args.end.0 c.first_due.result c.in_default.is (c.first_due.ensures.first (flat_lab d w.topology.now) H nodes s.moment))
 
 pub returns-then-end-due-clause-none : goal.returns-then-end-due-clause-none
 returns-then-end-due-clause-none c =
@@ -19,13 +19,11 @@ returns-then-end-due-clause-none c =
     let after : c.args.end.0 < c.in-Some.due.moment.0 = grind (arith, nat_tests) in
     rw (← c.self.view_is) (λ d H s.
     let nodes : NodesOf (flat_lab d w.topology.now) c.as_slice.result.now H = rw (c.as_slice.ensures.value) s.nodes in
-    past_later (flat_lab d w.topology.now) H c.args.end.0 c.first_due.result c.in-Some.due c.in-Some.is after (c.first_due.ensures d [] H nodes s.moment))
+    past_later (flat_lab d w.topology.now) H c.args.end.0 c.first_due.result c.in-Some.due c.in-Some.is after (c.first_due.ensures.first (flat_lab d w.topology.now) H nodes s.moment))
 
 pub returns-clause-due : goal.returns-clause-due
 returns-clause-due c =
     let w = c.self.inside in
-    let test = c.if-end-due.false in
-    let before : c.in-Some.due.moment.0 ≤ c.args.end.0 = grind (arith, nat_tests) in
     rw (← c.self.view_is) (λ d H s.
     let nodes : NodesOf (flat_lab d w.topology.now) c.as_slice.result.now H = rw (c.as_slice.ensures.value) s.nodes in
-    (found_first (flat_lab d w.topology.now) H c.first_due.result c.in-Some.due c.in-Some.is (c.first_due.ensures d [] H nodes s.moment), before))
+    found_first (flat_lab d w.topology.now) H c.first_due.result c.in-Some.due c.in-Some.is (c.first_due.ensures.first (flat_lab d w.topology.now) H nodes s.moment))

@@ -2,6 +2,16 @@ use Rattle.std.proofs.Common.{[], refl, ap, arith}
 use Rattle.world.specs.Wire.{WireState}
 use Rattle.world.proofs.world.World.new.Goals as goal
 
+pub invariant_of-result : goal.invariant_of-result
+invariant_of-result c = record {
+  rules = c.clients-rules.ensures.rules;
+  rows = (c.in_ok-nodes.ensures.kept []).rows;
+  few = c.in_ok-nodes.ensures.few;
+  ready = c.in_ok-nodes.ensures.ready;
+  early = omega arith;
+  going = tt;
+}
+
 pub returns-clause-stands : goal.returns-clause-stands
 returns-clause-stands c = record {
   grown = tt;

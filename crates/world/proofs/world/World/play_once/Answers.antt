@@ -1,12 +1,16 @@
 use Rattle.std.proofs.Common.{ℕ, List, refl, sym, ap, subst, ◌∙◌}
 use Rattle.std.proofs.lemmas.Bool.{false≢true}
 use Rattle.topology.specs.Topology.{node_at}
+use Rattle.history.specs.declared.event.Event.{Event}
 use Rattle.history.specs.declared.event.Event.TheVariants as event
 use Rattle.history.specs.declared.acts.Verb.TheVariants as verb
 use Rattle.legal.specs.Lab.{flat_lab}
 use Rattle.legal.specs.Laws.{is_advance}
 use Rattle.legal.specs.Next.{numbered, hands_in, next_of}
+use Rattle.lab_nodes.specs.PlayedNode.{AreOf}
+use Rattle.world.specs.World.{WorldState}
 use Rattle.world.specs.Playing.{Plays, played}
+use Rattle.world.proofs.Hands.{IsWithin, event_within}
 use Rattle.world.proofs.world.World.play_once.Goals as goal
 
 pub unreachable-requires : goal.unreachable-requires
@@ -30,3 +34,27 @@ returns-in-Stranger-clause-plays c = rw (c.in-Stranger.is) (λ d H s.
     let lab = flat_lab d c.args.self.now.topology in
     subst (λ (x : List ℕ). Plays d c.args.self.now c.put_strange.new.self H (next_of lab H c.args.out.now.event (event.Stranger c.in-Stranger.src c.in-Stranger.dst x)) (played c.put_strange.result c.put_strange.new.out)) c.as_slice-in-Stranger.ensures
     (c.put_strange.ensures.plays d H s))
+
+pub send_data-requires-clause-within : goal.send_data-requires-clause-within
+send_data-requires-clause-within c =
+    let w = c.args.self.now in
+    let rows = subst (λ (x : WorldState). AreOf x.topology x.nodes) c.self.view_is c.self.invariant.rows in
+    subst (λ (e : Event). IsWithin e w.nodes) c.in-Host.is (event_within w.topology w.nodes c.args.event.now rows c.requires.event)
+
+pub send_echo-requires-clause-within : goal.send_echo-requires-clause-within
+send_echo-requires-clause-within c =
+    let w = c.args.self.now in
+    let rows = subst (λ (x : WorldState). AreOf x.topology x.nodes) c.self.view_is c.self.invariant.rows in
+    subst (λ (e : Event). IsWithin e w.nodes) c.in-Echo.is (event_within w.topology w.nodes c.args.event.now rows c.requires.event)
+
+pub hand-requires-clause-within : goal.hand-requires-clause-within
+hand-requires-clause-within c =
+    let w = c.args.self.now in
+    let rows = subst (λ (x : WorldState). AreOf x.topology x.nodes) c.self.view_is c.self.invariant.rows in
+    subst (λ (e : Event). IsWithin e w.nodes) c.in-Raw.is (event_within w.topology w.nodes c.args.event.now rows c.requires.event)
+
+pub restart-requires-clause-within : goal.restart-requires-clause-within
+restart-requires-clause-within c =
+    let w = c.args.self.now in
+    let rows = subst (λ (x : WorldState). AreOf x.topology x.nodes) c.self.view_is c.self.invariant.rows in
+    subst (λ (e : Event). IsWithin e w.nodes) c.in-Restart.is (event_within w.topology w.nodes c.args.event.now rows c.requires.event)

@@ -5,7 +5,7 @@ use Rattle.history.specs.declared.acts.Verb.TheVariants as verb
 use Rattle.ipv6_packet.specs.Packets.{packet_bytes}
 use Rattle.topology.specs.Topology.{node_at}
 use Rattle.legal.specs.Next.{numbered, echo_packet, address_at, target_address, hands_in}
-use Rattle.lab_nodes.specs.NodeState.{NodesOf}
+use Rattle.lab_nodes.specs.PlayedNode.{NodesOf}
 use Rattle.world.specs.World.{WorldState, StandsFor}
 use Rattle.world.specs.Playing.{Plays, played}
 use Rattle.world.proofs.world.World.send_echo.Goals as goal
@@ -17,8 +17,8 @@ returns-clause-plays c = λ d H s.
     let stands = subst (λ (x : WorldState). StandsFor d x H) (sym same) s in
     let nodes : NodesOf (flat_lab d w.topology.now) c.as_slice-nodes.result.now H = rw (c.as_slice-nodes.ensures.value) stands.nodes in
     let t = c.args.self.now.topology in
-    let src : c.address_at-src.result ≡ address_at (flat_lab d t) H c.args.number = c.address_at-src.ensures d [] H nodes ∙ ap (λ (x : WorldState). address_at (flat_lab d x.topology) H c.args.number) same in
-    let dst : c.target_address-dst.result ≡ target_address (flat_lab d t) H c.args.to = c.target_address-dst.ensures d [] H nodes ∙ ap (λ (x : WorldState). target_address (flat_lab d x.topology) H c.args.to) same in
+    let src : c.address_at-src.result ≡ address_at (flat_lab d t) H c.args.number = c.address_at-src.ensures (flat_lab d w.topology.now) H nodes ∙ ap (λ (x : WorldState). address_at (flat_lab d x.topology) H c.args.number) same in
+    let dst : c.target_address-dst.result ≡ target_address (flat_lab d t) H c.args.to = c.target_address-dst.ensures (flat_lab d w.topology.now) H nodes ∙ ap (λ (x : WorldState). target_address (flat_lab d x.topology) H c.args.to) same in
     let bytes = c.echo-bytes.ensures ∙ (λ i. packet_bytes (echo_packet (src i) (dst i) c.args.seq)) in
     let e = event.Echo c.args.number c.args.to c.args.seq in
     subst (λ (x : List ℕ). Plays d c.args.self.now c.hand.new.self H (hands_in (flat_lab d t) H (numbered c.args.out.now.event e) verb.Echo c.args.number x (node_at t c.args.number)) (played c.hand.result c.hand.new.out)) bytes

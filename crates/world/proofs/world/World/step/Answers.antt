@@ -4,7 +4,7 @@ use Rattle.topology.specs.Rules.{IsTopology}
 use Rattle.history.specs.declared.records.Record.{Record}
 use Rattle.history.specs.declared.turn.Stop.{Stop}
 use Rattle.history.specs.declared.turn.Turn.{Turn}
-use Rattle.lab_nodes.specs.NodeState.{AreReady}
+use Rattle.lab_nodes.specs.PlayedNode.{AreReady}
 use Rattle.world.specs.declared.wire.TheConstants.{ENTRIES_MAX}
 use Rattle.world.specs.World.{WorldState, Steps}
 use Rattle.world.specs.Playing.{turn_from}

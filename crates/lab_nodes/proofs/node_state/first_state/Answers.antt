@@ -1,7 +1,0 @@
-use Rattle.std.proofs.Common.{Some, ap, ◌∙◌}
-use Rattle.topology.specs.declared.node.Node.{Node}
-use Rattle.lab_nodes.proofs.States.{is_settings}
-use Rattle.lab_nodes.proofs.node_state.first_state.Goals as goal
-
-pub first_client-requires : goal.first_client-requires
-first_client-requires c = record { settings = is_settings c.args.topology.now c.args.number c.in-Client.row c.clients-rules.ensures.rules (c.requires.there ∙ ap (λ (a : Node). Some a) c.in-Client.is) }

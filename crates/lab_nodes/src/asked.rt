@@ -1,0 +1,21 @@
+//! What comes of a call of a node, besides its step.
+use crate::outlet::Outlet;
+use td_base::Ip6;
+use td_outside::Octets;
+
+/// An IPv6 packet that a node sends: for the relay of that number, or for whoever has its destination.
+#[derive(Drop)]
+pub struct SixPacket {
+    pub relay: Option<u16>,
+    pub bytes: Octets,
+}
+
+/// What comes of a call of a node, besides its step: how its datagrams leave, the packet that it sends besides them, the
+/// length of what its host is handed, and the address that it got.
+#[derive(Drop)]
+pub struct Asked {
+    pub outlet: Outlet,
+    pub packet: Option<SixPacket>,
+    pub handed: Option<usize>,
+    pub address: Option<Ip6>,
+}

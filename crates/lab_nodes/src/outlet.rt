@@ -1,0 +1,13 @@
+//! How what a node sends leaves it.
+use td_base::Ep;
+
+/// How the datagrams of a node leave it.
+#[derive(Clone, Copy, Debug)]
+pub enum Outlet {
+    /// It sends none.
+    Silent,
+    /// From endpoints of its own, one for each side.
+    Own { primary: Ep, secondary: Ep },
+    /// From an endpoint inside the NAT of that number.
+    Through { nat: u16, inside: Ep },
+}

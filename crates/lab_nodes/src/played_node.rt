@@ -1,0 +1,124 @@
+//! A node while a scenario is played.
+ghost use Rattle.std.specs.Prelude.{◌≡◌, ◌≤◌, ◌<◌, ℕ, List, length, option_map, Some, IfOk, IfSome, OnErr};
+ghost use Rattle.td_base.specs.declared.datagram.TheConstants.{DATAGRAM_MAX};
+ghost use Rattle.td_outside.specs.declared.clock.TheConstants.{CLOCK_END_MS};
+ghost use Rattle.history.specs.Full.{Full};
+ghost use Rattle.legal.specs.Lab.{Lab};
+ghost use Rattle.legal.specs.Emit.{due_of};
+ghost use Rattle.legal.specs.Next.{address_of};
+ghost use Rattle.lab_nodes.specs.Call.{input_lent, IsShortInput};
+ghost use Rattle.lab_nodes.specs.PlayedNode.{row_of, past_of, IsKept, IsReady};
+ghost use Rattle.lab_nodes.specs.Changes.{Restarts, Forgets};
+ghost use Rattle.lab_nodes.specs.Answers.{Answers, Wants};
+
+use crate::asked::Asked;
+use crate::call::Call;
+use crate::client::answer_client;
+use crate::nat::answer_nat;
+use crate::native::answer_native;
+use crate::relay::answer_relay;
+use crate::server::answer_server;
+use client_core::Client;
+use nat_kinds::Nat;
+use relay_core::Relay;
+use std::alloc::Global;
+use td_base::{Ep, Ip6, Millis, NoMemory};
+use teredo_addr::UNSPECIFIED;
+use teredo_node::{Endpoint, Step};
+use topology::{ClientNode, NatNode, NativeNode, RelayNode, ServerNode};
+
+/// A node of the topology while a scenario is played: its row, and what is kept of it. Of a server and a native host
+/// nothing is.
+#[derive(Drop)]
+pub enum PlayedNode {
+    Server { row: ServerNode },
+    Nat { row: NatNode, nat: Nat },
+    Client { row: ClientNode, client: Client },
+    Relay { row: RelayNode, relay: Relay },
+    Native { row: NativeNode },
+}
+
+impl PlayedNode {
+    /// Lets it do what is asked of it.
+    pub(crate) fn answer(
+        &mut self,
+        alloc: Global,
+        call: Call<'_>,
+        step: &mut Step,
+    ) -> Result<Asked, NoMemory>
+        requires short { IsShortInput (input_lent call.input) }
+        requires early { call.now.0 < CLOCK_END_MS }
+        requires ready { IsReady call.now.0 self.old }
+        ensures row { row_of self.new ≡ row_of self.old }
+        ensures ready { IsReady call.entry.now.0 self.new }
+        ensures answers { IfOk result (λ asked. Answers call.entry self.old self.new step.new asked) }
+        ensures short { IfOk result (λ asked. IfSome asked.packet (λ packet. length packet.bytes ≤ DATAGRAM_MAX)) }
+        ensures wants { OnErr result (Wants call.entry self.old) }
+    {
+        match self {
+            PlayedNode::Server { row } => answer_server(alloc, *row, call, step),
+            PlayedNode::Nat { .. } => Ok(answer_nat(step)),
+            PlayedNode::Client { row, client } => answer_client(*row, client, call, step),
+            PlayedNode::Relay { row, relay } => answer_relay(alloc, *row, relay, call, step),
+            PlayedNode::Native { row } => answer_native(alloc, *row, call, step),
+        }
+    }
+
+    /// When a tick of it is due: a server, a NAT and a native host have none.
+    pub(crate) fn due(&self, at: Millis) -> Option<Millis>
+        requires ready { IsReady at.0 self.now }
+        requires early { at.0 < CLOCK_END_MS }
+        ensures { (lab : Lab) (H : List Full) (n : ℕ) → IsKept lab.topology n (past_of lab n H) self.now
+            → option_map (λ m. m.0) result ≡ due_of lab H at.0 n (row_of self.now) }
+    {
+        match self {
+            PlayedNode::Client { client, .. } => client.due(at),
+            PlayedNode::Relay { relay, .. } => relay.due(at),
+            PlayedNode::Server { .. } => None,
+            PlayedNode::Nat { .. } => None,
+            PlayedNode::Native { .. } => None,
+        }
+    }
+
+    /// The address of its host: a client's, or `::` where it isn't qualified; a native host's. Other nodes have none.
+    #[tactic(auto, unfolding(qualify::specs::Solicitations::own_address))]
+    pub(crate) fn address(&self) -> Ip6
+        ensures { (lab : Lab) (H : List Full) (n : ℕ) → IsKept lab.topology n (past_of lab n H) self.now
+            → result ≡ address_of lab H n (Some (row_of self.now)) }
+    {
+        match self {
+            PlayedNode::Client { client, .. } => client.address().unwrap_or(UNSPECIFIED),
+            PlayedNode::Native { row } => row.six,
+            PlayedNode::Server { .. } => UNSPECIFIED,
+            PlayedNode::Nat { .. } => UNSPECIFIED,
+            PlayedNode::Relay { .. } => UNSPECIFIED,
+        }
+    }
+
+    /// Lets it start anew: a NAT drops all its mappings, a client or relay all that it knows.
+    pub(crate) fn restart(&mut self, now: Millis)
+        requires early { now.0 < CLOCK_END_MS }
+        ensures row { row_of self.new ≡ row_of self.old }
+        ensures restarts { Restarts now.0 self.old self.new }
+        ensures ready { (m : ℕ) → IsReady m self.old → IsReady m self.new }
+    {
+        match self {
+            PlayedNode::Nat { nat, .. } => nat.restart(),
+            PlayedNode::Client { client, .. } => client.restart(now),
+            PlayedNode::Relay { relay, .. } => relay.restart(),
+            PlayedNode::Server { .. } => {}
+            PlayedNode::Native { .. } => {}
+        }
+    }
+
+    /// Lets a NAT drop the mappings of an inside endpoint.
+    pub(crate) fn forget(&mut self, inside: Ep)
+        ensures row { row_of self.new ≡ row_of self.old }
+        ensures forgets { Forgets inside self.old self.new }
+        ensures ready { (m : ℕ) → IsReady m self.old → IsReady m self.new }
+    {
+        if let PlayedNode::Nat { nat, .. } = self {
+            nat.forget(inside);
+        }
+    }
+}
