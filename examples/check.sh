@@ -19,7 +19,7 @@ compare() {
   local input=$1 wanted=0 status
   shift
   [ ! -f "$input.status" ] || wanted=$(cat "$input.status")
-  timeout "$seconds" "$program" "$@" </dev/null >"$made"
+  timeout "$seconds" "$program" "$@" </dev/null >"$made" 2>/dev/null
   status=$?
   diff -u --label "$input.stdout" --label 'as played' "$input.stdout" "$made" || return 1
   [ "$status" -eq "$wanted" ] || { echo "status $status, wanted $wanted"; return 1; }

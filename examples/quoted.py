@@ -50,7 +50,8 @@ def run(program, command):
     word = command.split()[2]
     ours = [sys.executable, '-B', f'tools/{word}.py', '--program', program] if word in TOOLS else [program, word]
     command = command.replace(f'$ ./teredo {word}', shlex.join(ours), 1)
-    done = subprocess.run(['bash', '-o', 'pipefail', '-c', command], cwd=TOP, stdout=subprocess.PIPE, timeout=60)
+    done = subprocess.run(['bash', '-o', 'pipefail', '-c', command], cwd=TOP, stdout=subprocess.PIPE,
+                          stderr=subprocess.DEVNULL, timeout=60)
     return done.returncode, done.stdout.decode().splitlines()
 
 
@@ -98,7 +99,7 @@ def check_refusals(program):
         with tempfile.NamedTemporaryFile('w', suffix='.toml', encoding='utf-8') as file:
             file.write(example.replace(before, after, 1))
             file.flush()
-            played = subprocess.run([program, 'lab', file.name], stdout=subprocess.PIPE, timeout=60)
+            played = subprocess.run([program, 'lab', file.name], stdout=subprocess.PIPE, stderr=subprocess.DEVNULL, timeout=60)
         if before not in example or played.returncode != 3 or played.stdout.decode() != said + '\n':
             wrong += 1
             print(f'examples/refusals.txt: `{before}` to `{after}` says {played.stdout.decode()[:80]!r}, status {played.returncode}')

@@ -11,10 +11,13 @@ ghost use Rattle.std.specs.Process.{exit_status};
 ghost use Rattle.teredo_app.specs.Command.{Request, IsCommand};
 ghost use Rattle.teredo_app.specs.Ends.{RunEnds};
 
+mod hints;
+
+use hints::tell;
 use std::process::ExitCode;
 use std::{env, io};
 use td_outside::{Clock, FileSource, Link, Sink, Source, StdSink, SystemClock, UdpPair};
-use teredo_app::{BAD_WORDS, NO_LINK, NO_MEMORY, UNREADABLE, UNWRITABLE, WIRE_FULL, run};
+use teredo_app::{NO_MEMORY, run};
 
 /// The words of the command line without the program's name.
 fn words_of(rt: &HostRuntime) -> io::Result<Vec<String>> {
@@ -23,23 +26,6 @@ fn words_of(rt: &HostRuntime) -> io::Result<Vec<String>> {
         words.push(word)?;
     }
     Ok(words)
-}
-
-/// What a status means and what to look at, where nothing on standard output says so.
-fn hint_at(status: u8) -> Option<&'static str> {
-    match status {
-        BAD_WORDS => Some(
-            "the words are `lab FILE`, `show HEX`, `gen SEED COUNT` or `serve IP1 IP2 COUNT IDLES`",
-        ),
-        UNREADABLE => Some("the file could not be read: look at its name and its permissions"),
-        UNWRITABLE => Some("standard output could not be written: is it closed, or full?"),
-        NO_LINK => Some(
-            "the addresses could not be served: both must be this machine's, with UDP port 3544 free",
-        ),
-        NO_MEMORY => Some("there was not enough memory"),
-        WIRE_FULL => Some("the scenario sends more than 65,536 datagrams and packets"),
-        _ => None,
-    }
 }
 
 /// Runs, and ends with the status that `run` answers. Standard error, which `run` doesn't know, gets one plain line.
@@ -71,9 +57,7 @@ fn run_on<S: Source, K: Sink, L: Link, C: Clock>(
     }) asked (exit_status result) }
 {
     let status = run(rt.alloc(), words, src, out, link, clock);
-    if let Some(hint) = hint_at(status) {
-        let _ = eprintln!(rt; "teredo_cli: {hint}");
-    }
+    tell(rt, status, words);
     ExitCode::from(status)
 }
 
@@ -90,11 +74,13 @@ fn main(rt: HostRuntime) -> ExitCode {
     match words_of(&rt) {
         Ok(words) => run_on_system(&rt, &words),
         Err(error) => {
+            let none = Vec::new(rt.alloc());
             if error.kind() == io::ErrorKind::OutOfMemory {
+                tell(&rt, NO_MEMORY, &none);
                 return ExitCode::from(NO_MEMORY);
             }
             // Words that aren't text have no shape, and neither has an empty list.
-            run_on_system(&rt, &Vec::new(rt.alloc()))
+            run_on_system(&rt, &none)
         }
     }
 }
