@@ -6,6 +6,7 @@ use Rattle.td_base.specs.declared.ipv6.Ip6.{Ip6}
 use Rattle.td_base.specs.declared.endpoint.Ep.{Ep}
 use Rattle.td_base.specs.declared.span.Span.{Span}
 use Rattle.indications.specs.Leads.{origin_in}
+use Rattle.bubble.specs.PayloadOf.{IsPayloadOf}
 use Rattle.bubble.specs.Payloads.{Value}
 use Rattle.teredo_node.specs.declared.fate.Fate.{Fate}
 use Rattle.teredo_node.specs.declared.fate.Fate.TheVariants as fate
@@ -26,9 +27,9 @@ use Rattle.client_core.specs.declared.client.Client.{Client}
 use Rattle.client_rules.specs.Bearings.{mention}
 use Rattle.client_rules.specs.Tries.{direct_bubble, test}
 use Rattle.client_rules.specs.Reception.{reception_step}
-use Rattle.client_core.specs.Client.{settings_of, words_ahead, standing_in, TakesPayload, IsPayloadOf, entry_about}
+use Rattle.client_core.specs.Client.{settings_of, words_ahead, standing_in, TakesPayload, entry_about}
 use Rattle.client_core.specs.Lines.{DropsDatagram}
-use Rattle.client_core.specs.Below.{Below}
+use Rattle.client_core.specs.Below.{BelowClient}
 use Rattle.client_core.proofs.Entered.{Bears, bears_enters, peers_on, none_enters}
 
 -- what was done with a payload, and that of its source this is known then
@@ -50,7 +51,7 @@ bears old new n from v step peer a x = record {
   place = a.place;
 }
 
-pub acts_receives : (law : Below) (old new : Client) (n : ℕ) (from : Ep) (v : Value) (f : Fate) (step : Step) (peer : Peer) → Acts old n from v step peer new
+pub acts_receives : (law : BelowClient) (old new : Client) (n : ℕ) (from : Ep) (v : Value) (f : Fate) (step : Step) (peer : Peer) → Acts old n from v step peer new
     → ((x : List ℕ) → IsPayloadOf x v → step ≡ reception_step (settings_of old) (standing_in old n v.packet.src) from x v (words_ahead old) f)
     → TakesPayload old n from v f step new
 acts_receives law old new n from v f step peer a did = record {
@@ -62,7 +63,7 @@ acts_receives law old new n from v f step peer a did = record {
 }
 
 -- nothing is done
-pub drops : (law : Below) (c : Client) (n : ℕ) (from : Ep) (v : Value) (f : Fate) → c.peers.moment ≤ n → DropsDatagram f → TakesPayload c n from v f (just f) c
+pub drops : (law : BelowClient) (c : Client) (n : ℕ) (from : Ep) (v : Value) (f : Fate) → c.peers.moment ≤ n → DropsDatagram f → TakesPayload c n from v f (just f) c
 unfolding after_words
 drops law c n from v f l d = record {
   did = λ j x h is. sym (d.step (settings_of c) (standing_in c n v.packet.src) from x v (words_ahead c));
@@ -103,35 +104,35 @@ pub record OnlyPeers (old : Client) (n : ℕ) (who : Ip6) (peer : Peer) (new : C
   pub qualifier : new.qualifier ≡ old.qualifier
   pub rng : new.rng ≡ old.rng
 
-pub rule1 : (law : Below) (old new : Client) (n : ℕ) (from : Ep) (v : Value) → OnlyPeers old n v.packet.src (heard old n v) new → TakesPayload old n from v fate.Rule1 (handed_over old n from v fate.Rule1) new
+pub rule1 : (law : BelowClient) (old new : Client) (n : ℕ) (from : Ep) (v : Value) → OnlyPeers old n v.packet.src (heard old n v) new → TakesPayload old n from v fate.Rule1 (handed_over old n from v fate.Rule1) new
 unfolding after_words
 rule1 law old new n from v o =
     acts_receives law old new n from v fate.Rule1 (handed_over old n from v fate.Rule1) (heard old n v)
     (record { clock = o.clock; peers = o.peers; means = λ x. (law.peers.calls_of_an_entry n (known_to old.peers n v.packet.src) (Some v.packet.src)).hear; epoch = refl; quiet = refl; qualifier = o.qualifier; place = o.rng })
     (λ x is. ap (λ (s : Span). record (released old n from v fate.Rule1) { handed = Some s }) (sym (rest_is x v is)))
 
-pub rule1_bubble : (law : Below) (old new : Client) (n : ℕ) (from : Ep) (v : Value) → OnlyPeers old n v.packet.src (heard old n v) new → TakesPayload old n from v fate.Rule1Bubble (released old n from v fate.Rule1Bubble) new
+pub rule1_bubble : (law : BelowClient) (old new : Client) (n : ℕ) (from : Ep) (v : Value) → OnlyPeers old n v.packet.src (heard old n v) new → TakesPayload old n from v fate.Rule1Bubble (released old n from v fate.Rule1Bubble) new
 unfolding after_words
 rule1_bubble law old new n from v o =
     acts_receives law old new n from v fate.Rule1Bubble (released old n from v fate.Rule1Bubble) (heard old n v)
     (record { clock = o.clock; peers = o.peers; means = λ x. (law.peers.calls_of_an_entry n (known_to old.peers n v.packet.src) (Some v.packet.src)).hear; epoch = refl; quiet = refl; qualifier = o.qualifier; place = o.rng })
     (λ x is. refl)
 
-pub rule2 : (law : Below) (old new : Client) (n : ℕ) (from : Ep) (v : Value) → OnlyPeers old n v.packet.src (trusted old n from v) new → TakesPayload old n from v fate.Rule2 (released old n from v fate.Rule2) new
+pub rule2 : (law : BelowClient) (old new : Client) (n : ℕ) (from : Ep) (v : Value) → OnlyPeers old n v.packet.src (trusted old n from v) new → TakesPayload old n from v fate.Rule2 (released old n from v fate.Rule2) new
 unfolding after_words
 rule2 law old new n from v o =
     acts_receives law old new n from v fate.Rule2 (released old n from v fate.Rule2) (trusted old n from v)
     (record { clock = o.clock; peers = o.peers; means = λ x. (law.peers.calls_of_an_entry n (known_to old.peers n v.packet.src) (Some v.packet.src)).trust_and_hear from; epoch = refl; quiet = refl; qualifier = o.qualifier; place = o.rng })
     (λ x is. refl)
 
-pub rule3 : (law : Below) (old new : Client) (n : ℕ) (from : Ep) (v : Value) → OnlyPeers old n v.packet.src (trusted old n from v) new → TakesPayload old n from v fate.Rule3 (handed_over old n from v fate.Rule3) new
+pub rule3 : (law : BelowClient) (old new : Client) (n : ℕ) (from : Ep) (v : Value) → OnlyPeers old n v.packet.src (trusted old n from v) new → TakesPayload old n from v fate.Rule3 (handed_over old n from v fate.Rule3) new
 unfolding after_words
 rule3 law old new n from v o =
     acts_receives law old new n from v fate.Rule3 (handed_over old n from v fate.Rule3) (trusted old n from v)
     (record { clock = o.clock; peers = o.peers; means = λ x. (law.peers.calls_of_an_entry n (known_to old.peers n v.packet.src) (Some v.packet.src)).trust_and_hear from; epoch = refl; quiet = refl; qualifier = o.qualifier; place = o.rng })
     (λ x is. ap (λ (s : Span). record (released old n from v fate.Rule3) { handed = Some s }) (sym (rest_is x v is)))
 
-pub rule3_bubble : (law : Below) (old new : Client) (n : ℕ) (from : Ep) (v : Value) → OnlyPeers old n v.packet.src (trusted old n from v) new → TakesPayload old n from v fate.Rule3Bubble (released old n from v fate.Rule3Bubble) new
+pub rule3_bubble : (law : BelowClient) (old new : Client) (n : ℕ) (from : Ep) (v : Value) → OnlyPeers old n v.packet.src (trusted old n from v) new → TakesPayload old n from v fate.Rule3Bubble (released old n from v fate.Rule3Bubble) new
 unfolding after_words
 rule3_bubble law old new n from v o =
     acts_receives law old new n from v fate.Rule3Bubble (released old n from v fate.Rule3Bubble) (trusted old n from v)
@@ -150,7 +151,7 @@ pub record AnswersBubble (old : Client) (n : ℕ) (v : Value) (to : Ep) (new : C
 abbrev pub bubble_back : Client → Value → Ep → Step
 bubble_back c v to = sending fate.Indirect (direct_bubble (own_address c.qualifier.now) v.packet.src to ∷ [])
 
-pub indirect : (law : Below) (old new : Client) (n : ℕ) (from : Ep) (v : Value) (to : Ep) → AnswersBubble old n v to new → TakesPayload old n from v fate.Indirect (bubble_back old v to) new
+pub indirect : (law : BelowClient) (old new : Client) (n : ℕ) (from : Ep) (v : Value) (to : Ep) → AnswersBubble old n v to new → TakesPayload old n from v fate.Indirect (bubble_back old v to) new
 unfolding after_words
 indirect law old new n from v to a = record {
   did = λ j x h is. ap (λ (o : Option Ep). sending fate.Indirect (map (direct_bubble (own_address old.qualifier.now) v.packet.src) (option_to_list o))) (sym a.origin);
@@ -168,7 +169,7 @@ indirect law old new n from v to a = record {
 abbrev pub tested : Client → Ip6 → Step
 tested c p = record (sending fate.SuspiciousTest (test (settings_of c) (own_address c.qualifier.now) p (nonce_from (words_ahead c)) ∷ [])) { drawn = 2 }
 
-pub suspicious_test : (law : Below) (old new : Client) (n : ℕ) (from : Ep) (v : Value) → old.peers.moment ≤ n
+pub suspicious_test : (law : BelowClient) (old new : Client) (n : ℕ) (from : Ep) (v : Value) → old.peers.moment ≤ n
     → Updates old.peers new.peers n v.packet.src (tried_at n (Some (nonce_from (words_ahead old))) (known_to old.peers n v.packet.src))
     → new.qualifier ≡ old.qualifier → new.rng ≡ after_words 2 old.rng → TakesPayload old n from v fate.SuspiciousTest (tested old v.packet.src) new
 suspicious_test law old new n from v l u q g =

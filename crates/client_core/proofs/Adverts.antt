@@ -2,6 +2,7 @@
 use Rattle.std.proofs.Common.{◌≡◌, ◌≤◌, ℕ, Bool, true, false, List, [], refl, ap, sym, subst, ◌∙◌}
 use Rattle.std.specs.Prelude.{if◌then◌else◌, not}
 use Rattle.td_base.specs.declared.endpoint.Ep.{Ep}
+use Rattle.bubble.specs.PayloadOf.{IsPayloadOf}
 use Rattle.bubble.specs.Payloads.{Value}
 use Rattle.indications.specs.Leads.{origin_in}
 use Rattle.teredo_node.specs.declared.fate.Fate.{Fate}
@@ -23,8 +24,8 @@ use Rattle.client_core.specs.declared.client.Client.{Client}
 use Rattle.client_rules.specs.Bearings.{mentions, bearing_of}
 use Rattle.client_rules.specs.Standing.{Standing}
 use Rattle.client_rules.specs.Reception.{reception_step}
-use Rattle.client_core.specs.Client.{settings_of, words_ahead, standing_in, TakesPayload, IsPayloadOf, entry_about}
-use Rattle.client_core.specs.Below.{Below}
+use Rattle.client_core.specs.Client.{settings_of, words_ahead, standing_in, TakesPayload, entry_about}
+use Rattle.client_core.specs.Below.{BelowClient}
 use Rattle.client_core.proofs.Entered.{peers_idle, changed}
 
 -- THE FATES OF ADVERTISEMENTS
@@ -139,7 +140,7 @@ of_advert old n from v step x is drawn = record {
 }
 
 -- the peers stay, unless the address changed
-pub advert_kept : (law : Below) (old new : Client) (n : ℕ) (from : Ep) (v : Value) (f : Fate) → Took old n from v f new → (f ≡ fate.Changed → ⊥) → new.peers ≡ old.peers
+pub advert_kept : (law : BelowClient) (old new : Client) (n : ℕ) (from : Ep) (v : Value) (f : Fate) → Took old n from v f new → (f ≡ fate.Changed → ⊥) → new.peers ≡ old.peers
     → TakesPayload old n from v (advert_row (settings_of old) old.qualifier.now from v) (told f) new
 advert_kept law old new n from v f t other same = record {
   did = λ j x h is.
@@ -161,7 +162,7 @@ abbrev pub moved : Client → ℕ → Step
 moved c n = record (just fate.Changed) { gone = waiting_in c.peers n }
 
 -- then they are forgotten
-pub advert_changed : (law : Below) (old new : Client) (n : ℕ) (from : Ep) (v : Value) → Took old n from v fate.Changed new → StandsForMentions new.peers [] → new.peers.moment ≤ n
+pub advert_changed : (law : BelowClient) (old new : Client) (n : ℕ) (from : Ep) (v : Value) → Took old n from v fate.Changed new → StandsForMentions new.peers [] → new.peers.moment ≤ n
     → TakesPayload old n from v (advert_row (settings_of old) old.qualifier.now from v) (moved old n) new
 advert_changed law old new n from v t none clock = record {
   did = λ j x h is. ap (λ (g : Fate). reception_step (settings_of old) (standing_in old n v.packet.src) from x v (words_ahead old) g) (row_now old new n from v fate.Changed t j h.qualification);

@@ -19,7 +19,7 @@ use Rattle.client_core.specs.declared.client.Client.{Client}
 use Rattle.client_rules.specs.Bearings.{mention, mentions}
 use Rattle.client_rules.specs.Journals.{entry}
 use Rattle.client_core.specs.Client.{words_ahead, ClientStandsFor, Enters, Does, KeepsAll, AsBefore}
-use Rattle.client_core.specs.Below.{Below}
+use Rattle.client_core.specs.Below.{BelowClient}
 
 -- QUALIFICATION
 
@@ -36,21 +36,21 @@ stands_by q j e = record {
 }
 
 -- an entry that says nothing of it leaves it
-pub still_stands : (law : Below) (q : QualifierState) (j : Journal) (e : Entry) → turn_of e ≡ says_nothing → StandsFor q j → StandsFor q (with_entry j e)
+pub still_stands : (law : BelowClient) (q : QualifierState) (j : Journal) (e : Entry) → turn_of e ≡ says_nothing → StandsFor q j → StandsFor q (with_entry j e)
 still_stands law q j e quiet h = stands_by q (with_entry j e) (stands_whole q j h ∙ sym (law.keeps_still q.settings j e quiet))
 
 -- PEERS
 
 -- an entry of the same epoch is one further mention
-mentioned : (law : Below) (e : Entry) (j : List Entry) → is_changed e.step.fate ≡ false → mentions (e ∷ j) ≡ mention e ∷ mentions j
+mentioned : (law : BelowClient) (e : Entry) (j : List Entry) → is_changed e.step.fate ≡ false → mentions (e ∷ j) ≡ mention e ∷ mentions j
 mentioned law e j same = law.next_mentions e j ∙ ap (λ (b : Bool). if b then [] else mention e ∷ mentions j) same
 
 -- a change of address ends all
-pub changed : (law : Below) (e : Entry) (j : List Entry) → is_changed e.step.fate ≡ true → mentions (e ∷ j) ≡ []
+pub changed : (law : BelowClient) (e : Entry) (j : List Entry) → is_changed e.step.fate ≡ true → mentions (e ∷ j) ≡ []
 changed law e j it = law.next_mentions e j ∙ ap (λ (b : Bool). if b then [] else mention e ∷ mentions j) it
 
 -- an entry that means nothing for a peer leaves them
-pub peers_idle : (law : Below) (t : Table) (j : List Entry) (e : Entry) → is_changed e.step.fate ≡ false → MeansNothing (mention e) → StandsForMentions t (mentions j) → StandsForMentions t (mentions (e ∷ j))
+pub peers_idle : (law : BelowClient) (t : Table) (j : List Entry) (e : Entry) → is_changed e.step.fate ≡ false → MeansNothing (mention e) → StandsForMentions t (mentions j) → StandsForMentions t (mentions (e ∷ j))
 peers_idle law t j e same idle h = subst (λ (ms : List Mention). StandsForMentions t ms) (sym (mentioned law e j same)) (law.peers.idle_stands t (mention e) (mentions j) h idle)
 
 -- what an entry means for its peer
@@ -67,12 +67,12 @@ pub record Bears (old : Client) (e : Entry) (who : Ip6) (new : Client) : Type 0 
   pub qualifier : new.qualifier ≡ old.qualifier
   pub place : new.rng ≡ after_words e.step.drawn old.rng
 
-pub peers_on : (law : Below) (old new : Client) (e : Entry) (who : Ip6) → OfPeer old e who new → (j : Journal) → ClientStandsFor old j → StandsForMentions new.peers (mentions (e ∷ j.entries))
+pub peers_on : (law : BelowClient) (old new : Client) (e : Entry) (who : Ip6) → OfPeer old e who new → (j : Journal) → ClientStandsFor old j → StandsForMentions new.peers (mentions (e ∷ j.entries))
 peers_on law old new e who b j h =
     subst (λ (ms : List Mention). StandsForMentions new.peers ms) (sym (mentioned law e j.entries b.epoch))
     (law.peers.next_stands old.peers new.peers (mention e) (mentions j.entries) who h.peers b.clock b.peer b.peers)
 
-pub bears_enters : (law : Below) (old new : Client) (e : Entry) (who : Ip6) → Bears old e who new → Enters old e new
+pub bears_enters : (law : BelowClient) (old new : Client) (e : Entry) (who : Ip6) → Bears old e who new → Enters old e new
 bears_enters law old new e who b = record {
   stands = λ j h. record {
     qualification = still_stands law new.qualifier j e b.quiet (subst (λ (q : QualifierState). StandsFor q j) (sym b.qualifier) h.qualification);
@@ -91,7 +91,7 @@ pub record MeansNone (c : Client) (e : Entry) : Type 0 where
   pub clock : c.peers.moment ≤ e.moment
   pub drawn : e.step.drawn ≡ 0
 
-pub none_enters : (law : Below) (c : Client) (e : Entry) → MeansNone c e → Enters c e c
+pub none_enters : (law : BelowClient) (c : Client) (e : Entry) → MeansNone c e → Enters c e c
 unfolding after_words
 none_enters law c e b = record {
   stands = λ j h. record {
@@ -104,7 +104,7 @@ none_enters law c e b = record {
 }
 
 -- the entry of a packet of the IPv6 side does
-pub takes_no_six : (law : Below) (c : Client) (n : ℕ) (x : List ℕ) → c.peers.moment ≤ n → Does c n (from_six x) (just fate.Idle) c
+pub takes_no_six : (law : BelowClient) (c : Client) (n : ℕ) (x : List ℕ) → c.peers.moment ≤ n → Does c n (from_six x) (just fate.Idle) c
 takes_no_six law c n x l =
     let e : Entry = entry n (from_six x) None None (words_ahead c) (just fate.Idle) in
     let entered = none_enters law c e (record { idle = bears_nothing refl; epoch = refl; quiet = refl; clock = l; drawn = refl }) in
@@ -113,7 +113,7 @@ takes_no_six law c n x l =
 -- REFUSALS
 
 -- whatever keeps all stays as it was
-pub keeps_stays : (law : Below) (old new : Client) (n : ℕ) → old.peers.moment ≤ n → KeepsAll old n new → AsBefore old new
+pub keeps_stays : (law : BelowClient) (old new : Client) (n : ℕ) → old.peers.moment ≤ n → KeepsAll old n new → AsBefore old new
 keeps_stays law old new n clock k = record {
   stands = λ j h. record {
     qualification = subst (λ (q : QualifierState). StandsFor q j) (sym k.qualifier) h.qualification;

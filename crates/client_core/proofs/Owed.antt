@@ -25,12 +25,12 @@ use Rattle.client_rules.specs.Ticks.{Due, tries, nothing, peer_due, sooner, next
 use Rattle.client_rules.specs.Journals.{client_due}
 use Rattle.client_core.specs.Client.{settings_of, ClientStandsFor, AsBefore}
 use Rattle.client_core.specs.Endpoint.{owing, PutsOff}
-use Rattle.client_core.specs.Below.{Below}
+use Rattle.client_core.specs.Below.{BelowClient}
 use Rattle.client_core.proofs.Read.{read_same}
 
 -- WHEN
 
-pub due_told : (law : Below) (c : Client) (n : ℕ) (d : Option ℕ) → c.peers.moment ≤ n → d ≡ sooner c.qualifier.now.due (option_map (λ (l : Listing). due_of l.peer) (first_due_in c.peers n))
+pub due_told : (law : BelowClient) (c : Client) (n : ℕ) (d : Option ℕ) → c.peers.moment ≤ n → d ≡ sooner c.qualifier.now.due (option_map (λ (l : Listing). due_of l.peer) (first_due_in c.peers n))
     → (j : Journal) → ClientStandsFor c j → d ≡ client_due (settings_of c) j n
 unfolding client_due next_due
 due_told law c n d l e j h =
@@ -47,7 +47,7 @@ sooner_no_sooner m (Some a) (Some b) h k = by_test (nat_lt b a) where
   by_test false = h
 
 -- where neither phase nor peers have something before a moment, nothing is due before it
-pub none_sooner : (law : Below) (c : Client) (m : ℕ) → IsNoSooner m c.qualifier.now.due → ((n : ℕ) → IsNoSooner m (option_map due_moment (first_due_in c.peers n)))
+pub none_sooner : (law : BelowClient) (c : Client) (m : ℕ) → IsNoSooner m c.qualifier.now.due → ((n : ℕ) → IsNoSooner m (option_map due_moment (first_due_in c.peers n)))
     → (j : Journal) (n : ℕ) → ClientStandsFor c j → c.peers.moment ≤ n → IsNoSooner m (client_due (settings_of c) j n)
 none_sooner law c m phase peers j n h l =
     let due : Option ℕ = sooner c.qualifier.now.due (option_map due_moment (first_due_in c.peers n)) in

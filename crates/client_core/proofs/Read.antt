@@ -4,6 +4,7 @@ use Rattle.std.specs.Prelude.{unwrap_or, is_some, if◌then◌else◌}
 use Rattle.td_base.specs.declared.ipv6.Ip6.{Ip6}
 use Rattle.td_base.specs.declared.endpoint.Ep.{Ep}
 use Rattle.teredo_addr.specs.Teredo.{unspecified}
+use Rattle.bubble.specs.PayloadOf.{IsPayloadOf}
 use Rattle.bubble.specs.Payloads.{Value}
 use Rattle.bubble.specs.Reads.{is_payload, value_in}
 use Rattle.bubble.specs.PacketsIn.{source_in, packet_in}
@@ -21,14 +22,14 @@ use Rattle.client_rules.specs.Bearings.{mentions}
 use Rattle.client_rules.specs.Standing.{Standing, standing_at, standing_of}
 use Rattle.client_rules.specs.Reception.{seen_of, seen, reception_row, reception_fate, reception_step, reception}
 use Rattle.client_rules.specs.Journals.{entry, client_in}
-use Rattle.client_core.specs.Client.{settings_of, words_ahead, standing_in, ClientStandsFor, Does, TakesPayload, KeepsPlace, WantsPlace, IsPayloadOf, lists, fate_in}
-use Rattle.client_core.specs.Below.{Below}
+use Rattle.client_core.specs.Client.{settings_of, words_ahead, standing_in, ClientStandsFor, Does, TakesPayload, KeepsPlace, WantsPlace, lists, fate_in}
+use Rattle.client_core.specs.Below.{BelowClient}
 use Rattle.client_core.proofs.Entered.{none_enters}
 
-pub read_same : (law : Below) (c : Client) (j : Journal) (n : ℕ) → ClientStandsFor c j → c.peers.moment ≤ n → SaysTheSame c.peers (mentions j.entries) n
+pub read_same : (law : BelowClient) (c : Client) (j : Journal) (n : ℕ) → ClientStandsFor c j → c.peers.moment ≤ n → SaysTheSame c.peers (mentions j.entries) n
 read_same law c j n h l = law.peers.table_is_read c.peers (mentions j.entries) n h.peers l
 
-pub standing_is : (law : Below) (c : Client) (j : Journal) (n : ℕ) (p : Ip6) → ClientStandsFor c j → c.peers.moment ≤ n → standing_in c n p ≡ standing_at (settings_of c) j n p
+pub standing_is : (law : BelowClient) (c : Client) (j : Journal) (n : ℕ) (p : Ip6) → ClientStandsFor c j → c.peers.moment ≤ n → standing_in c n p ≡ standing_at (settings_of c) j n p
 unfolding standing_at
 standing_is law c j n p h l =
     let r = read_same law c j n h l in
@@ -47,14 +48,14 @@ unfolding reception reception_fate seen
 reception_by s a from x v w b payload value =
     λ i. reception_step s a from x (value i) w (reception_row (seen_of s a from (payload i) (value i)) (advert_row s a.qualification from (value i)))
 
-step_there : (law : Below) (c : Client) (j : Journal) (n : ℕ) (from : Ep) (x : List ℕ) (v : Value) → ClientStandsFor c j → c.peers.moment ≤ n → is_payload x ≡ true → value_in x ≡ v
+step_there : (law : BelowClient) (c : Client) (j : Journal) (n : ℕ) (from : Ep) (x : List ℕ) (v : Value) → ClientStandsFor c j → c.peers.moment ≤ n → is_payload x ≡ true → value_in x ≡ v
     → reception (settings_of c) (standing_of (settings_of c) j n (source_in x)) from x (words_ahead c) ≡ reception_step (settings_of c) (standing_in c n v.packet.src) from x v (words_ahead c) (fate_in c n from v)
 step_there law c j n from x v h l payload value =
     let a : standing_of (settings_of c) j n (source_in x) ≡ standing_in c n v.packet.src = ap (standing_of (settings_of c) j n) (source_there x v payload value) ∙ sym (standing_is law c j n v.packet.src h l) in
     ap (λ (b : Standing). reception (settings_of c) b from x (words_ahead c)) a
     ∙ reception_by (settings_of c) (standing_in c n v.packet.src) from x v (words_ahead c) true payload value
 
-pub received : (law : Below) (old new : Client) (n : ℕ) (from : Ep) (x : List ℕ) (v : Value) (step : Step) → is_payload x ≡ true → IsPayloadOf x v → old.peers.moment ≤ n
+pub received : (law : BelowClient) (old new : Client) (n : ℕ) (from : Ep) (x : List ℕ) (v : Value) (step : Step) → is_payload x ≡ true → IsPayloadOf x v → old.peers.moment ≤ n
     → TakesPayload old n from v (fate_in old n from v) step new → Does old n (arrived from x) step new
 unfolding client_in
 received law old new n from x v step payload is l r =
@@ -74,7 +75,7 @@ malformed_by : (s : Settings) (a : Standing) (from : Ep) (x : List ℕ) (w : Wor
 unfolding reception reception_fate seen
 malformed_by s a from x w isnt = λ i. reception_step s a from x (value_in x) w (reception_row (seen_of s a from (isnt i) (value_in x)) (advert_row s a.qualification from (value_in x)))
 
-pub malformed : (law : Below) (c : Client) (n : ℕ) (from : Ep) (x : List ℕ) → c.peers.moment ≤ n → is_payload x ≡ false → Does c n (arrived from x) (just fate.Malformed) c
+pub malformed : (law : BelowClient) (c : Client) (n : ℕ) (from : Ep) (x : List ℕ) → c.peers.moment ≤ n → is_payload x ≡ false → Does c n (arrived from x) (just fate.Malformed) c
 unfolding client_in
 malformed law c n from x l isnt =
     let whole : (j : Journal) → just fate.Malformed ≡ reception (settings_of c) (standing_of (settings_of c) j n (source_in x)) from x (words_ahead c) =
@@ -91,14 +92,14 @@ malformed law c n from x l isnt =
 
 -- WHERE MEMORY WAS WANTING
 
-fate_there : (law : Below) (c : Client) (j : Journal) (n : ℕ) (from : Ep) (x : List ℕ) (v : Value) → ClientStandsFor c j → c.peers.moment ≤ n → is_payload x ≡ true → value_in x ≡ v
+fate_there : (law : BelowClient) (c : Client) (j : Journal) (n : ℕ) (from : Ep) (x : List ℕ) (v : Value) → ClientStandsFor c j → c.peers.moment ≤ n → is_payload x ≡ true → value_in x ≡ v
     → reception_fate (settings_of c) (standing_of (settings_of c) j n (source_in x)) from x ≡ fate_in c n from v
 unfolding reception_fate seen
 fate_there law c j n from x v h l payload value =
     let a : standing_of (settings_of c) j n (source_in x) ≡ standing_in c n v.packet.src = ap (standing_of (settings_of c) j n) (source_there x v payload value) ∙ sym (standing_is law c j n v.packet.src h l) in
     λ i. reception_row (seen_of (settings_of c) (a i) from (payload i) (value i)) (advert_row (settings_of c) (a i).qualification from (value i))
 
-pub wants_place : (law : Below) (old new : Client) (n : ℕ) (from : Ep) (x : List ℕ) (v : Value) → is_payload x ≡ true → value_in x ≡ v → old.peers.moment ≤ n
+pub wants_place : (law : BelowClient) (old new : Client) (n : ℕ) (from : Ep) (x : List ℕ) (v : Value) → is_payload x ≡ true → value_in x ≡ v → old.peers.moment ≤ n
     → KeepsPlace old n v (fate_in old n from v) new → WantsPlace old n from x
 unfolding client_in
 wants_place law old new n from x v payload value l k j h = record {

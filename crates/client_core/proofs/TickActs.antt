@@ -11,7 +11,7 @@ use Rattle.teredo_node.specs.Journal.{Words, is_changed, ticked, given}
 use Rattle.peer_list.specs.Peers.{Peer}
 use Rattle.peer_list.specs.Laws.{after}
 use Rattle.peer_list.specs.Table.{Table, known_to}
-use Rattle.peer_list.specs.Calls.{Updates, tried_at, queued_at, emptied}
+use Rattle.peer_list.specs.Calls.{Updates, TriesUnless, tried_at, queued_at, emptied}
 use Rattle.qualify.specs.declared.settings.Settings.{Settings}
 use Rattle.qualify.specs.Turns.{turn, says_nothing}
 use Rattle.qualify.specs.Solicitations.{own_address}
@@ -23,13 +23,13 @@ use Rattle.client_rules.specs.Tries.{try_sends, tries_by, both_bubbles, try_word
 use Rattle.client_rules.specs.Ticks.{try_fate}
 use Rattle.client_rules.specs.Transmission.{queues}
 use Rattle.client_rules.specs.Journals.{entry}
-use Rattle.client_core.specs.Client.{settings_of, words_ahead, Enters, TriesUnless}
-use Rattle.client_core.specs.Below.{Below}
+use Rattle.client_core.specs.Client.{settings_of, words_ahead, Enters}
+use Rattle.client_core.specs.Below.{BelowClient}
 use Rattle.client_core.proofs.Entered.{bears_enters}
 
 -- TICKS
 
-pub gave_up : (law : Below) (old new : Client) (n : ℕ) (who : Ip6) (gone : ℕ) → old.peers.moment ≤ n → Updates old.peers new.peers n who (emptied (known_to old.peers n who))
+pub gave_up : (law : BelowClient) (old new : Client) (n : ℕ) (who : Ip6) (gone : ℕ) → old.peers.moment ≤ n → Updates old.peers new.peers n who (emptied (known_to old.peers n who))
     → new.qualifier ≡ old.qualifier → new.rng ≡ old.rng → Enters old (entry n ticked None (Some who) (words_ahead old) (record (just fate.GiveUp) { gone = gone })) new
 unfolding after_words
 gave_up law old new n who gone l u q g =
@@ -44,7 +44,7 @@ gave_up law old new n who gone l u q g =
 abbrev try_step : Bool → List Send → Step
 try_step b sends = record (sending (try_fate b) sends) { drawn = if b then 0 else 2 }
 
-try_means : (law : Below) (n : ℕ) (who : Ip6) (w : Words) (sends : List Send) (known : Peer) (b : Bool)
+try_means : (law : BelowClient) (n : ℕ) (who : Ip6) (w : Words) (sends : List Send) (known : Peer) (b : Bool)
     → after (mention (entry n ticked None (Some who) w (try_step b sends))) known ≡ tried_at n (nonce_of_words (drawn_words (if b then 0 else 2) w)) known
 try_means law n who w sends known true = (law.peers.calls_of_an_entry n known (Some who)).tried None
 try_means law n who w sends known false = (law.peers.calls_of_an_entry n known (Some who)).tried (nonce_of_words (drawn_words 2 w))
@@ -57,7 +57,7 @@ try_quiet : (b : Bool) → turn (try_fate b) ≡ says_nothing
 try_quiet true = refl
 try_quiet false = refl
 
-pub tried_again : (law : Below) (old new : Client) (n : ℕ) (who : Ip6) (sends : List Send) → old.peers.moment ≤ n → Updates old.peers new.peers n who (tried_at n (try_nonce who (words_ahead old)) (known_to old.peers n who))
+pub tried_again : (law : BelowClient) (old new : Client) (n : ℕ) (who : Ip6) (sends : List Send) → old.peers.moment ≤ n → Updates old.peers new.peers n who (tried_at n (try_nonce who (words_ahead old)) (known_to old.peers n who))
     → new.qualifier ≡ old.qualifier → new.rng ≡ after_words (try_words who) old.rng
     → Enters old (entry n ticked None (Some who) (words_ahead old) (record (sending (try_fate (is_teredo who)) sends) { drawn = try_words who })) new
 tried_again law old new n who sends l u q g =
@@ -87,7 +87,7 @@ try_sends_any s own p w = any_try (is_teredo p) s own p w
 abbrev queued_step : Ip6 → List Send → Step
 queued_step who sends = record (sending fate.Queued sends) { drawn = try_words who }
 
-queued_means : (law : Below) (n : ℕ) (who : Ip6) (x : List ℕ) (w : Words) (sends : List Send) (known : Peer) (b : Bool) → has_any sends ≡ b → b ≡ true
+queued_means : (law : BelowClient) (n : ℕ) (who : Ip6) (x : List ℕ) (w : Words) (sends : List Send) (known : Peer) (b : Bool) → has_any sends ≡ b → b ≡ true
     → after (mention (entry n (given x) (Some x) (Some who) w (queued_step who sends))) known ≡ tried_at n (try_nonce who w) (queued_at n x known)
 queued_means law n who x w [] known b e h = cc
 queued_means law n who x w (s ∷ sends) known b e h = (law.peers.calls_of_an_entry n known (Some who)).wait_tried x (try_nonce who w)
@@ -100,7 +100,7 @@ pub record Queued (old : Client) (n : ℕ) (who : Ip6) (x : List ℕ) (barred : 
   pub tries : TriesUnless barred mid n who (try_nonce who (words_ahead old)) new.peers
   pub qualifier : new.qualifier ≡ old.qualifier
 
-pub queued : (law : Below) (old new : Client) (n : ℕ) (who : Ip6) (x : List ℕ) (barred : Bool) (a : Standing) → Queued old n who x barred new
+pub queued : (law : BelowClient) (old new : Client) (n : ℕ) (who : Ip6) (x : List ℕ) (barred : Bool) (a : Standing) → Queued old n who x barred new
     → new.rng ≡ after_words (queues barred (settings_of old) a who (words_ahead old)).drawn old.rng
     → Enters old (entry n (given x) (Some x) (Some who) (words_ahead old) (queues barred (settings_of old) a who (words_ahead old))) new
 queued law old new n who x true a k g =

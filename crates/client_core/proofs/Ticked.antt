@@ -20,7 +20,7 @@ use Rattle.client_rules.specs.Bearings.{mentions}
 use Rattle.client_rules.specs.Ticks.{Due, asks, due_at, peer_due, peer_of_due, tick}
 use Rattle.client_rules.specs.Journals.{entry, first_peer, client_tick}
 use Rattle.client_core.specs.Client.{settings_of, words_ahead, ClientStandsFor, Enters, Does}
-use Rattle.client_core.specs.Below.{Below}
+use Rattle.client_core.specs.Below.{BelowClient}
 use Rattle.client_core.proofs.Entered.{peers_idle}
 use Rattle.client_core.proofs.Read.{read_same}
 
@@ -28,13 +28,13 @@ use Rattle.client_core.proofs.Read.{read_same}
 abbrev pub due_now : Client → ℕ → Due
 due_now c n = due_at n c.qualifier.now (first_due_in c.peers n)
 
-due_there : (law : Below) (c : Client) (j : Journal) (n : ℕ) → ClientStandsFor c j → c.peers.moment ≤ n → due_now c n ≡ due_at n (qualification (settings_of c) j) (first_peer j n)
+due_there : (law : BelowClient) (c : Client) (j : Journal) (n : ℕ) → ClientStandsFor c j → c.peers.moment ≤ n → due_now c n ≡ due_at n (qualification (settings_of c) j) (first_peer j n)
 due_there law c j n h l =
     let q = stands_whole c.qualifier j h.qualification in
     let r = read_same law c j n h l in
     λ i. due_at n (q i) (r.first i)
 
-pub ticked_does : (law : Below) (old new : Client) (n : ℕ) (due : Due) (step : Step) → old.peers.moment ≤ n → due_now old n ≡ due
+pub ticked_does : (law : BelowClient) (old new : Client) (n : ℕ) (due : Due) (step : Step) → old.peers.moment ≤ n → due_now old n ≡ due
     → ((j : Journal) → ClientStandsFor old j → step ≡ tick (settings_of old) n old.qualifier.now (words_ahead old) due)
     → Enters old (entry n ticked None (peer_of_due due) (words_ahead old) step) new → Does old n ticked step new
 unfolding client_tick
@@ -130,7 +130,7 @@ asked_step old new n step a j h =
     ∙ ap (λ (q : Qualification). step_at (settings_of old) q n (words_ahead old)) (sym (stands_whole old.qualifier j h))
     ∙ ap (λ (b : Bool). if b then due_step (settings_of old) old.qualifier.now (words_ahead old) else just fate.Idle) a.due
 
-pub asked : (law : Below) (old new : Client) (n : ℕ) (step : Step) → Asks old n step new → Does old n ticked step new
+pub asked : (law : BelowClient) (old new : Client) (n : ℕ) (step : Step) → Asks old n step new → Does old n ticked step new
 asked law old new n step a =
     ticked_does law old new n asks step a.clock (of_phase old n a.due) (λ j h. asked_step old new n step a j h.qualification)
     (record {

@@ -27,7 +27,7 @@ use Rattle.client_rules.specs.Transmission as table
 use Rattle.client_rules.specs.Journals.{entry, client_out}
 use Rattle.client_core.specs.Client.{settings_of, words_ahead, standing_in, ClientStandsFor, Enters, Does, WantsQueue}
 use Rattle.client_core.specs.Lines.{SaysNothing, DropsPacket, given_to}
-use Rattle.client_core.specs.Below.{Below}
+use Rattle.client_core.specs.Below.{BelowClient}
 use Rattle.client_core.proofs.Entered.{bears_enters, none_enters}
 use Rattle.client_core.proofs.Read.{standing_is}
 
@@ -45,7 +45,7 @@ unfolding transmission table.given
 transmission_by s a x p w b packet fields = λ i. transmission_step s a x (fields i).dst w (transmission_row (given_of s a (packet i) (fields i)))
 
 -- what the table gives, as the client reads itself
-pub transmission_there : (law : Below) (c : Client) (j : Journal) (n : ℕ) (x : List ℕ) (p : Fields) → ClientStandsFor c j → c.peers.moment ≤ n → is_packet x ≡ true → fields_in x ≡ p
+pub transmission_there : (law : BelowClient) (c : Client) (j : Journal) (n : ℕ) (x : List ℕ) (p : Fields) → ClientStandsFor c j → c.peers.moment ≤ n → is_packet x ≡ true → fields_in x ≡ p
     → transmission (settings_of c) (standing_of (settings_of c) j n (destination_in x)) x (words_ahead c)
     ≡ transmission_step (settings_of c) (standing_in c n p.dst) x p.dst (words_ahead c) (transmission_row (given_to c n p))
 transmission_there law c j n x p h l packet fields =
@@ -59,7 +59,7 @@ pub record IsFields (x : List ℕ) (p : Fields) : Type 0 where
   pub fields : fields_in x ≡ p
 
 -- what a line did with it
-pub transmitted : (law : Below) (old new : Client) (n : ℕ) (x : List ℕ) (p : Fields) (f : Fate) (step : Step) → IsFields x p → old.peers.moment ≤ n
+pub transmitted : (law : BelowClient) (old new : Client) (n : ℕ) (x : List ℕ) (p : Fields) (f : Fate) (step : Step) → IsFields x p → old.peers.moment ≤ n
     → f ≡ transmission_row (given_to old n p) → step ≡ transmission_step (settings_of old) (standing_in old n p.dst) x p.dst (words_ahead old) f
     → Enters old (entry n (given x) (Some x) (Some p.dst) (words_ahead old) step) new → Does old n (given x) step new
 unfolding client_out
@@ -77,7 +77,7 @@ transmitted law old new n x p f step is l row did entered =
 
 -- THE LINES
 
-pub drops_packet : (law : Below) (c : Client) (n : ℕ) (x : List ℕ) (p : Fields) (f : Fate) → IsFields x p → c.peers.moment ≤ n → f ≡ transmission_row (given_to c n p) → DropsPacket f → Does c n (given x) (just f) c
+pub drops_packet : (law : BelowClient) (c : Client) (n : ℕ) (x : List ℕ) (p : Fields) (f : Fate) → IsFields x p → c.peers.moment ≤ n → f ≡ transmission_row (given_to c n p) → DropsPacket f → Does c n (given x) (just f) c
 drops_packet law c n x p f is l row d =
     transmitted law c c n x p f (just f) is l row (sym (d.step (settings_of c) (standing_in c n p.dst) x p.dst (words_ahead c)))
     (none_enters law c (entry n (given x) (Some x) (Some p.dst) (words_ahead c) (just f)) (record {
@@ -88,7 +88,7 @@ drops_packet law c n x p f is l row d =
       drawn = refl;
     }))
 
-pub sent : (law : Below) (old new : Client) (n : ℕ) (x : List ℕ) (p : Fields) (to : Ep) → IsFields x p → old.peers.moment ≤ n → fate.Sent ≡ transmission_row (given_to old n p)
+pub sent : (law : BelowClient) (old new : Client) (n : ℕ) (x : List ℕ) (p : Fields) (to : Ep) → IsFields x p → old.peers.moment ≤ n → fate.Sent ≡ transmission_row (given_to old n p)
     → (known_to old.peers n p.dst).trusted ≡ Some to → Updates old.peers new.peers n p.dst (touched_at n (known_to old.peers n p.dst)) → new.qualifier ≡ old.qualifier → new.rng ≡ old.rng
     → Does old n (given x) (sending fate.Sent (send to x ∷ [])) new
 unfolding after_words
@@ -102,7 +102,7 @@ sent law old new n x p to is l row trusted u q g =
       place = g;
     }))
 
-pub sent_cone : (law : Below) (c : Client) (n : ℕ) (x : List ℕ) (p : Fields) → IsFields x p → c.peers.moment ≤ n → fate.SentCone ≡ transmission_row (given_to c n p)
+pub sent_cone : (law : BelowClient) (c : Client) (n : ℕ) (x : List ℕ) (p : Fields) → IsFields x p → c.peers.moment ≤ n → fate.SentCone ≡ transmission_row (given_to c n p)
     → Does c n (given x) (sending fate.SentCone (send (embedded p.dst) x ∷ [])) c
 sent_cone law c n x p is l row =
     transmitted law c c n x p fate.SentCone (sending fate.SentCone (send (embedded p.dst) x ∷ [])) is l row refl
@@ -121,7 +121,7 @@ unfolding transmission table.given
 malformed_by s a x w on isnt = λ i. transmission_step s a x (fields_in x).dst w (transmission_row (record (given_of s a (isnt i) (fields_in x)) { qualified = on i }))
 
 -- whatever it is about, nothing is done
-nothing : (law : Below) (c : Client) (n : ℕ) (x : List ℕ) (f : Fate) → c.peers.moment ≤ n → SaysNothing f
+nothing : (law : BelowClient) (c : Client) (n : ℕ) (x : List ℕ) (f : Fate) → c.peers.moment ≤ n → SaysNothing f
     → ((j : Journal) → ClientStandsFor c j → transmission (settings_of c) (standing_of (settings_of c) j n (destination_in x)) x (words_ahead c) ≡ just f) → Does c n (given x) (just f) c
 unfolding client_out
 nothing law c n x f l d whole =
@@ -141,13 +141,13 @@ means_nothing_off = record { turn = refl; epoch = refl; bearing = λ e. refl }
 means_nothing_malformed : SaysNothing fate.Malformed
 means_nothing_malformed = record { turn = refl; epoch = refl; bearing = λ e. refl }
 
-qualified_there : (law : Below) (c : Client) (j : Journal) (n : ℕ) (p : Ip6) (b : Bool) → ClientStandsFor c j → c.peers.moment ≤ n → is_qualified c.qualifier.now.phase ≡ b → is_qualified (standing_at (settings_of c) j n p).qualification.phase ≡ b
+qualified_there : (law : BelowClient) (c : Client) (j : Journal) (n : ℕ) (p : Ip6) (b : Bool) → ClientStandsFor c j → c.peers.moment ≤ n → is_qualified c.qualifier.now.phase ≡ b → is_qualified (standing_at (settings_of c) j n p).qualification.phase ≡ b
 qualified_there law c j n p b h l is = ap (λ (a : Standing). is_qualified a.qualification.phase) (sym (standing_is law c j n p h l)) ∙ is
 
-pub off : (law : Below) (c : Client) (n : ℕ) (x : List ℕ) → c.peers.moment ≤ n → is_qualified c.qualifier.now.phase ≡ false → Does c n (given x) (just fate.Off) c
+pub off : (law : BelowClient) (c : Client) (n : ℕ) (x : List ℕ) → c.peers.moment ≤ n → is_qualified c.qualifier.now.phase ≡ false → Does c n (given x) (just fate.Off) c
 off law c n x l isnt = nothing law c n x fate.Off l means_nothing_off (λ j h. off_by (settings_of c) (standing_of (settings_of c) j n (destination_in x)) x (words_ahead c) false (qualified_there law c j n (unwrap_or (destination_in x) unspecified) false h l isnt) refl)
 
-pub malformed : (law : Below) (c : Client) (n : ℕ) (x : List ℕ) → c.peers.moment ≤ n → is_qualified c.qualifier.now.phase ≡ true → is_packet x ≡ false → Does c n (given x) (just fate.Malformed) c
+pub malformed : (law : BelowClient) (c : Client) (n : ℕ) (x : List ℕ) → c.peers.moment ≤ n → is_qualified c.qualifier.now.phase ≡ true → is_packet x ≡ false → Does c n (given x) (just fate.Malformed) c
 malformed law c n x l on isnt = nothing law c n x fate.Malformed l means_nothing_malformed (λ j h. malformed_by (settings_of c) (standing_of (settings_of c) j n (destination_in x)) x (words_ahead c) (qualified_there law c j n (unwrap_or (destination_in x) unspecified) true h l on) isnt)
 
 -- SIZES
@@ -159,14 +159,14 @@ short x p small inside = let most = ltb-false _ _ small in omega (arith, inside,
 
 -- WHERE MEMORY WAS WANTING
 
-row_there : (law : Below) (c : Client) (j : Journal) (n : ℕ) (x : List ℕ) (p : Fields) → ClientStandsFor c j → c.peers.moment ≤ n → IsFields x p
+row_there : (law : BelowClient) (c : Client) (j : Journal) (n : ℕ) (x : List ℕ) (p : Fields) → ClientStandsFor c j → c.peers.moment ≤ n → IsFields x p
     → transmission_row (table.given (settings_of c) (standing_of (settings_of c) j n (destination_in x)) x) ≡ transmission_row (given_to c n p)
 unfolding table.given
 row_there law c j n x p h l is =
     let a : standing_of (settings_of c) j n (destination_in x) ≡ standing_in c n p.dst = ap (standing_of (settings_of c) j n) (destination_there x p is.packet is.fields) ∙ sym (standing_is law c j n p.dst h l) in
     λ i. transmission_row (given_of (settings_of c) (a i) (is.packet i) (is.fields i))
 
-pub wants_queue : (law : Below) (c : Client) (n : ℕ) (x : List ℕ) (p : Fields) → IsFields x p → c.peers.moment ≤ n → fate.Queued ≡ transmission_row (given_to c n p) → WantsQueue c n x
+pub wants_queue : (law : BelowClient) (c : Client) (n : ℕ) (x : List ℕ) (p : Fields) → IsFields x p → c.peers.moment ≤ n → fate.Queued ≡ transmission_row (given_to c n p) → WantsQueue c n x
 unfolding client_out
 wants_queue law c n x p is l row j h =
     law.fate_of_transmission (settings_of c) (standing_of (settings_of c) j n (destination_in x)) x (words_ahead c) ∙ row_there law c j n x p h l is ∙ sym row

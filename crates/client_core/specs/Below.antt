@@ -3,7 +3,7 @@ use Rattle.peer_list.specs.Stands.{TableLaws}
 use Rattle.qualify.specs.Laws.{KeepsStill}
 use Rattle.client_rules.specs.Laws.{FateOfReception, FateOfTransmission, NextMentions}
 
-pub record Below : Type 0 where
+pub record BelowClient : Type 0 where
   pub peers : TableLaws
   pub keeps_still : KeepsStill
   pub next_mentions : NextMentions

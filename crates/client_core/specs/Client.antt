@@ -4,9 +4,8 @@ use Rattle.td_base.specs.declared.ipv6.Ip6.{Ip6}
 use Rattle.td_base.specs.declared.endpoint.Ep.{Ep}
 use Rattle.td_outside.specs.declared.clock.TheConstants.{CLOCK_END_MS}
 use Rattle.teredo_addr.specs.Teredo.{unspecified}
-use Rattle.ipv6_packet.specs.declared.header.TheConstants.{HEADER}
 use Rattle.bubble.specs.Payloads.{Value}
-use Rattle.bubble.specs.Reads.{value_in}
+use Rattle.bubble.specs.PayloadOf.{IsPayloadOf}
 use Rattle.bubble.specs.PacketsIn.{packet_in, source_in}
 use Rattle.teredo_node.specs.declared.fate.Fate.{Fate}
 use Rattle.teredo_node.specs.declared.fate.Fate.TheVariants as fate
@@ -14,7 +13,7 @@ use Rattle.teredo_node.specs.Step.{Step}
 use Rattle.teredo_node.specs.Journal.{Input, arrived, given, Entry, Journal, with_entry, Words}
 use Rattle.peer_list.specs.Peers.{peer_at}
 use Rattle.peer_list.specs.Table.{Table, peer_in, known_to, has_room_in, waiting_in}
-use Rattle.peer_list.specs.Calls.{tried_at, Updates, Keeps}
+use Rattle.peer_list.specs.Calls.{Keeps}
 use Rattle.peer_list.specs.Stands.{StandsForMentions}
 use Rattle.qualify.specs.declared.settings.Settings.{Settings}
 use Rattle.qualify.specs.Advertisements.{advert_row}
@@ -111,11 +110,6 @@ pub record KeepsAll (old : Client) (n : ℕ) (new : Client) : Type 0 where
   pub qualifier : new.qualifier ≡ old.qualifier
   pub rng : new.rng ≡ old.rng
 
--- a peer was tried with the nonce of a test, unless it is barred
-abbrev pub TriesUnless : (barred : Bool) → Table → ℕ → Ip6 → Option ℕ → Table → Type 0
-TriesUnless true old n who test new = new ≡ old
-TriesUnless false old n who test new = Updates old new n who (tried_at n test (known_to old n who))
-
 -- DATAGRAMS
 
 -- a datagram of this payload from `from` has this fate, by what a client sees
@@ -125,11 +119,6 @@ fate_in c n from v = reception_row (seen_of (settings_of c) (standing_in c n v.p
 -- the entry of a datagram x about `who`, where this was done
 abbrev pub entry_about : Client → ℕ → Ep → List ℕ → Ip6 → Step → Entry
 entry_about c n from x who step = entry n (arrived from x) (packet_in x) (Some who) (words_ahead c) step
-
--- x spells this payload
-pub record IsPayloadOf (x : List ℕ) (v : Value) : Type 0 where
-  pub value : value_in x ≡ v
-  pub inside : v.lead.at + HEADER + length v.packet.body ≡ length x
 
 -- what was done with a payload by the line of a fate
 pub record TakesPayload (old : Client) (n : ℕ) (from : Ep) (v : Value) (f : Fate) (step : Step) (new : Client) : Type 0 where

@@ -110,7 +110,8 @@ impl Client {
     fn take_advert(&mut self, now: Millis, from: Ep, payload: &Payload<'_>, step: &mut Step)
         requires callable { IsCallable self.old now.0 }
         requires short { length payload.now.packet.body.now ≤ DATAGRAM_MAX }
-        ensures done { TakesPayload self.old now.0 from (view payload.now) (advert_row (settings_of self.old) self.old.qualifier.now from (view payload.now)) step.new self.new }
+        ensures done { TakesPayload self.old now.0 from (view payload.now) (advert_row (settings_of self.old) self.old.qualifier.now from
+            (view payload.now)) step.new self.new }
     {
         below();
         let fate = self.qualifier.on_advert(now, from, payload, &mut self.rng);

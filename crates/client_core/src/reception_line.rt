@@ -8,7 +8,8 @@ ghost use Rattle.teredo_node.specs.declared.fate.Fate.{Fate};
 ghost use Rattle.teredo_node.specs.Rows.{first_line};
 ghost use Rattle.qualify.specs.Solicitations.{is_qualified};
 ghost use Rattle.client_core.specs.Client.{settings_of, standing_in};
-ghost use Rattle.client_rules.specs.Reception.{is_from_server, server_lines, packet_lines, indirect_lines, direct_lines, teredo_lines, suspicious_lines, reception_row};
+ghost use Rattle.client_rules.specs.Reception.{is_from_server, server_lines, packet_lines, indirect_lines};
+ghost use Rattle.client_rules.specs.Reception.{direct_lines, teredo_lines, suspicious_lines, reception_row};
 ghost use Rattle.client_core.specs.Lines.{fate_of, seen_by, WarrantsDatagram};
 
 use crate::client::Client;
@@ -68,7 +69,9 @@ fn line_of_server(client: &Client, now: Millis, from: Ep, payload: &Payload<'_>)
     requires clock { client.now.peers.moment ≤ now.0 }
     requires short { length payload.now.packet.body.now ≤ DATAGRAM_MAX }
     requires server { is_from_server (settings_of client.now) from ≡ true }
-    ensures row { let a = seen_by client.now now.0 from (view payload.now) in (advert : Fate) → fate_of result advert ≡ first_line (server_lines a advert ++ (packet_lines a ++ (indirect_lines a ++ direct_lines a))) Fate.Suspicious }
+    ensures row { let a = seen_by client.now now.0 from (view payload.now) in
+        (advert : Fate) → fate_of result advert ≡ first_line (server_lines a advert ++ (packet_lines a ++
+        (indirect_lines a ++ direct_lines a))) Fate.Suspicious }
     ensures warrant { WarrantsDatagram (standing_in client.now now.0 payload.now.packet.src) (view payload.now) result }
 {
     let packet = &payload.packet;
@@ -93,7 +96,8 @@ fn line_of_server(client: &Client, now: Millis, from: Ep, payload: &Payload<'_>)
 fn line_of_packet(client: &Client, now: Millis, from: Ep, payload: &Payload<'_>) -> ReceptionLine
     requires clock { client.now.peers.moment ≤ now.0 }
     requires short { length payload.now.packet.body.now ≤ DATAGRAM_MAX }
-    ensures row { let a = seen_by client.now now.0 from (view payload.now) in (advert : Fate) → fate_of result advert ≡ first_line (packet_lines a ++ (indirect_lines a ++ direct_lines a)) Fate.Suspicious }
+    ensures row { let a = seen_by client.now now.0 from (view payload.now) in
+        (advert : Fate) → fate_of result advert ≡ first_line (packet_lines a ++ (indirect_lines a ++ direct_lines a)) Fate.Suspicious }
     ensures warrant { WarrantsDatagram (standing_in client.now now.0 payload.now.packet.src) (view payload.now) result }
 {
     let packet = &payload.packet;
@@ -119,7 +123,8 @@ fn line_of_packet(client: &Client, now: Millis, from: Ep, payload: &Payload<'_>)
 fn line_of_indirect(client: &Client, now: Millis, from: Ep, payload: &Payload<'_>) -> ReceptionLine
     requires clock { client.now.peers.moment ≤ now.0 }
     requires server { is_from_server (settings_of client.now) from ≡ true }
-    ensures row { let a = seen_by client.now now.0 from (view payload.now) in (advert : Fate) → fate_of result advert ≡ first_line (indirect_lines a ++ direct_lines a) Fate.Suspicious }
+    ensures row { let a = seen_by client.now now.0 from (view payload.now) in
+        (advert : Fate) → fate_of result advert ≡ first_line (indirect_lines a ++ direct_lines a) Fate.Suspicious }
     ensures warrant { WarrantsDatagram (standing_in client.now now.0 payload.now.packet.src) (view payload.now) result }
 {
     let source = payload.packet.src;
@@ -149,7 +154,8 @@ fn line_of_direct(client: &Client, now: Millis, from: Ep, payload: &Payload<'_>)
     requires clock { client.now.peers.moment ≤ now.0 }
     requires short { length payload.now.packet.body.now ≤ DATAGRAM_MAX }
     requires peer { is_from_server (settings_of client.now) from ≡ false }
-    ensures row { let a = seen_by client.now now.0 from (view payload.now) in (advert : Fate) → fate_of result advert ≡ first_line (indirect_lines a ++ direct_lines a) Fate.Suspicious }
+    ensures row { let a = seen_by client.now now.0 from (view payload.now) in
+        (advert : Fate) → fate_of result advert ≡ first_line (indirect_lines a ++ direct_lines a) Fate.Suspicious }
     ensures warrant { WarrantsDatagram (standing_in client.now now.0 payload.now.packet.src) (view payload.now) result }
 {
     let packet = &payload.packet;
@@ -175,7 +181,8 @@ fn line_of_direct(client: &Client, now: Millis, from: Ep, payload: &Payload<'_>)
 fn line_of_embedded(client: &Client, now: Millis, from: Ep, payload: &Payload<'_>) -> ReceptionLine
     requires clock { client.now.peers.moment ≤ now.0 }
     requires here { (is_teredo payload.now.packet.src && same_ep (embedded payload.now.packet.src) from) ≡ true }
-    ensures row { let a = seen_by client.now now.0 from (view payload.now) in (advert : Fate) → fate_of result advert ≡ first_line (teredo_lines a ++ suspicious_lines a) Fate.Suspicious }
+    ensures row { let a = seen_by client.now now.0 from (view payload.now) in
+        (advert : Fate) → fate_of result advert ≡ first_line (teredo_lines a ++ suspicious_lines a) Fate.Suspicious }
     ensures warrant { WarrantsDatagram (standing_in client.now now.0 payload.now.packet.src) (view payload.now) result }
 {
     let packet = &payload.packet;
@@ -196,7 +203,8 @@ fn line_of_other(client: &Client, now: Millis, from: Ep, payload: &Payload<'_>) 
     requires clock { client.now.peers.moment ≤ now.0 }
     requires short { length payload.now.packet.body.now ≤ DATAGRAM_MAX }
     requires elsewhere { (is_teredo payload.now.packet.src && same_ep (embedded payload.now.packet.src) from) ≡ false }
-    ensures row { let a = seen_by client.now now.0 from (view payload.now) in (advert : Fate) → fate_of result advert ≡ first_line (teredo_lines a ++ suspicious_lines a) Fate.Suspicious }
+    ensures row { let a = seen_by client.now now.0 from (view payload.now) in
+        (advert : Fate) → fate_of result advert ≡ first_line (teredo_lines a ++ suspicious_lines a) Fate.Suspicious }
     ensures warrant { WarrantsDatagram (standing_in client.now now.0 payload.now.packet.src) (view payload.now) result }
 {
     // mismatch: RFC 4380, section 5.2.3, rule 3
@@ -239,7 +247,8 @@ fn answers_test(client: &Client, now: Millis, from: Ep, payload: &Payload<'_>) -
 fn may_be_tested(client: &Client, now: Millis, from: Ep, payload: &Payload<'_>) -> bool
     requires clock { client.now.peers.moment ≤ now.0 }
     requires short { length payload.now.packet.body.now ≤ DATAGRAM_MAX }
-    ensures { let a = seen_by client.now now.0 from (view payload.now) in result ≡ (a.global && (not a.fresh && (not a.barred && (a.room && (not a.bubble && not a.echo_reply))))) }
+    ensures { let a = seen_by client.now now.0 from (view payload.now) in
+        result ≡ (a.global && (not a.fresh && (not a.barred && (a.room && (not a.bubble && not a.echo_reply))))) }
 {
     let packet = &payload.packet;
     is_global6(packet.src)

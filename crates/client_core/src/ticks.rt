@@ -89,8 +89,10 @@ impl Client {
     /// Does what is due of the peer that is due first.
     fn tick_peer(&mut self, now: Millis, step: &mut Step)
         requires callable { IsCallable self.old now.0 }
-        ensures step { step.new ≡ tick (settings_of self.old) now.0 self.old.qualifier.now (words_ahead self.old) (peer_due now.0 (first_due_in self.old.peers now.0)) }
-        ensures entered { Enters self.old (entry now.0 ticked None (peer_of_due (peer_due now.0 (first_due_in self.old.peers now.0))) (words_ahead self.old) step.new) self.new }
+        ensures step { step.new ≡ tick (settings_of self.old) now.0 self.old.qualifier.now (words_ahead self.old) (peer_due now.0
+            (first_due_in self.old.peers now.0)) }
+        ensures entered { Enters self.old (entry now.0 ticked None (peer_of_due (peer_due now.0 (first_due_in self.old.peers now.0)))
+            (words_ahead self.old) step.new) self.new }
         ensures less { PutsOff self.old self.new now.0 step.new }
     {
         below();
@@ -111,7 +113,8 @@ impl Client {
     fn give_up(&mut self, now: Millis, who: Ip6, step: &mut Step)
         requires callable { IsCallable self.old now.0 }
         requires overdue { IsOverdue self.old.peers now.0 who }
-        ensures step { step.new ≡ tries_peer true (settings_of self.old) self.old.qualifier.now (record { who = who; peer = known_to self.old.peers now.0 who }) (words_ahead self.old) }
+        ensures step { step.new ≡ tries_peer true (settings_of self.old) self.old.qualifier.now
+            (record { who = who; peer = known_to self.old.peers now.0 who }) (words_ahead self.old) }
         ensures entered { Enters self.old (entry now.0 ticked None (Some who) (words_ahead self.old) step.new) self.new }
         ensures less { PutsOff self.old self.new now.0 step.new }
     {
@@ -125,7 +128,8 @@ impl Client {
     fn try_again(&mut self, now: Millis, who: Ip6, step: &mut Step)
         requires callable { IsCallable self.old now.0 }
         requires overdue { IsOverdue self.old.peers now.0 who }
-        ensures step { step.new ≡ tries_peer false (settings_of self.old) self.old.qualifier.now (record { who = who; peer = known_to self.old.peers now.0 who }) (words_ahead self.old) }
+        ensures step { step.new ≡ tries_peer false (settings_of self.old) self.old.qualifier.now
+            (record { who = who; peer = known_to self.old.peers now.0 who }) (words_ahead self.old) }
         ensures entered { Enters self.old (entry now.0 ticked None (Some who) (words_ahead self.old) step.new) self.new }
         ensures less { PutsOff self.old self.new now.0 step.new }
     {
@@ -150,7 +154,8 @@ impl Client {
     /// Whether something may be due before a moment, whenever it is asked. It looks at the phase or the refresh and at one
     /// peer, listed or not, and so may say that something is where nothing is.
     pub fn may_be_due_before(&self, moment: Millis) -> bool
-        ensures none { result ≡ false → (j : Journal) (n : ℕ) → ClientStandsFor self.now j → self.now.peers.moment ≤ n → IsNoSooner moment.0 (client_due (settings_of self.now) j n) }
+        ensures none { result ≡ false → (j : Journal) (n : ℕ) → ClientStandsFor self.now j → self.now.peers.moment ≤ n
+            → IsNoSooner moment.0 (client_due (settings_of self.now) j n) }
         ensures some { result ≡ true → MayBeDue self.now moment.0 }
     {
         below();

@@ -4,10 +4,11 @@ ghost use Rattle.ipv6_packet.specs.declared.header.TheConstants.{PACKET_MAX};
 ghost use Rattle.teredo_node.specs.Journal.{given};
 ghost use Rattle.peer_list.specs.Judged.{is_barred, is_full};
 ghost use Rattle.peer_list.specs.Table.{peer_in, known_to, has_room_in};
+ghost use Rattle.peer_list.specs.Calls.{TriesUnless};
 ghost use Rattle.client_rules.specs.Standing.{Standing};
 ghost use Rattle.client_rules.specs.Tries.{try_nonce, try_words};
 ghost use Rattle.client_rules.specs.Transmission.{queues};
-ghost use Rattle.client_core.specs.Client.{settings_of, words_ahead, standing_in, IsCallable, Enters, Does, AsBefore, KeepsAll, TriesUnless, WantsQueue};
+ghost use Rattle.client_core.specs.Client.{settings_of, words_ahead, standing_in, IsCallable, Enters, Does, AsBefore, KeepsAll, WantsQueue};
 ghost use Rattle.client_rules.specs.Journals.{entry};
 ghost use Rattle.qualify.specs.Generator.{after_words};
 
@@ -72,7 +73,8 @@ impl Client {
         requires room { has_room_in self.old.peers now.0 who ≡ true }
         requires free { is_full (known_to self.old.peers now.0 who) ≡ false }
         requires short { length bytes.now ≤ PACKET_MAX }
-        ensures step { OnOk result (step.new ≡ queues (is_barred now.0 (known_to self.old.peers now.0 who)) (settings_of self.old) (standing_in self.old now.0 who) who (words_ahead self.old)) }
+        ensures step { OnOk result (step.new ≡ queues (is_barred now.0 (known_to self.old.peers now.0 who)) (settings_of self.old)
+            (standing_in self.old now.0 who) who (words_ahead self.old)) }
         ensures entered { OnOk result (Enters self.old (entry now.0 (given bytes.now) (Some bytes.now) (Some who) (words_ahead self.old) step.new) self.new) }
         ensures kept { OnErr result (KeepsAll self.old now.0 self.new) }
         ensures untouched { OnErr result (step.new ≡ step.old) }
@@ -88,7 +90,8 @@ impl Client {
     fn try_unless(&mut self, barred: bool, now: Millis, who: Ip6, step: &mut Step)
         requires callable { IsCallable self.old now.0 }
         requires listed { is_some (peer_in self.old.peers now.0 who) ≡ true }
-        ensures step { (a : Standing) → a.qualification ≡ self.old.qualifier.now → step.new ≡ queues barred (settings_of self.old) a who (words_ahead self.old) }
+        ensures step { (a : Standing) → a.qualification ≡ self.old.qualifier.now
+            → step.new ≡ queues barred (settings_of self.old) a who (words_ahead self.old) }
         ensures peers { TriesUnless barred self.old.peers now.0 who (try_nonce who (words_ahead self.old)) self.new.peers }
         ensures place { self.new.rng ≡ after_words step.new.drawn self.old.rng }
         ensures qualifier { self.new.qualifier ≡ self.old.qualifier }

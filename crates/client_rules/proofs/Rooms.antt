@@ -16,7 +16,7 @@ use Rattle.peer_list.specs.Peers.{Peer, no_peer}
 use Rattle.peer_list.specs.Judged.{is_trusted_at, is_fresh, due_of}
 use Rattle.peer_list.specs.Waiting.{Listing}
 use Rattle.peer_list.specs.Laws.{FirstWaits}
-use Rattle.peer_list.specs.Few.{HasRoom, HaveRoom, FewListed}
+use Rattle.peer_list.specs.Few.{FindsRoom, HaveRoom, FewListed}
 use Rattle.peer_list.proofs.Rooms.{not_known, listed_has_room, room_by, room_of_none}
 use Rattle.qualify.specs.declared.settings.Settings.{Settings}
 use Rattle.qualify.specs.declared.phase.Phase.{Phase}
@@ -123,7 +123,7 @@ sent_idle s a x room unlisted =
 
 -- AN ENTRY
 
-of_datagram : (s : Settings) (j : Journal) (n : ℕ) (from : Ep) (x : List ℕ) (w : Words) → HasRoom (mention (client_in s j n from x w)) (mentions j.entries)
+of_datagram : (s : Settings) (j : Journal) (n : ℕ) (from : Ep) (x : List ℕ) (w : Words) → FindsRoom (mention (client_in s j n from x w)) (mentions j.entries)
 unfolding client_in standing_at
 of_datagram s j n from x w =
     let e : Entry = client_in s j n from x w in
@@ -133,7 +133,7 @@ of_datagram s j n from x w =
     let unlisted : a.peer ≡ None = ap (λ (o : Option Ip6). (standing_of s j n o).peer) about ∙ not_known (mentions j.entries) n p none in
     ap (λ (f : Fate). (bearing_of f e).touches) (fate_of_reception s a from x w) ∙ received_idle s a from x room unlisted e)
 
-of_packet : (s : Settings) (j : Journal) (n : ℕ) (x : List ℕ) (w : Words) → HasRoom (mention (client_out s j n x w)) (mentions j.entries)
+of_packet : (s : Settings) (j : Journal) (n : ℕ) (x : List ℕ) (w : Words) → FindsRoom (mention (client_out s j n x w)) (mentions j.entries)
 unfolding client_out standing_at
 of_packet s j n x w =
     let e : Entry = client_out s j n x w in
@@ -144,11 +144,11 @@ of_packet s j n x w =
     ap (λ (f : Fate). (bearing_of f e).touches) (fate_of_transmission s a x w) ∙ sent_idle s a x room unlisted e)
 
 -- a listed peer is tried
-of_tick : FirstWaits → (s : Settings) (j : Journal) (n : ℕ) (w : Words) → HasRoom (mention (client_tick s j n w)) (mentions j.entries)
+of_tick : FirstWaits → (s : Settings) (j : Journal) (n : ℕ) (w : Words) → FindsRoom (mention (client_tick s j n w)) (mentions j.entries)
 unfolding client_tick due_at
 of_tick first s j n w = by_phase (is_due n (qualification s j).due) where
   finds : Due → Type 0
-  finds due = HasRoom (mention (ticks s j n w due)) (mentions j.entries)
+  finds due = FindsRoom (mention (ticks s j n w due)) (mentions j.entries)
 
   by_time : (b : Bool) (l : Listing) → first_peer j n ≡ Some l → finds (cond b (tries l) nothing)
   by_time true l is =
@@ -166,7 +166,7 @@ of_tick first s j n w = by_phase (is_due n (qualification s j).due) where
   by_phase true = room_of_none (mention (ticks s j n w asks)) (mentions j.entries) refl
   by_phase false = by_peer (first_peer j n) refl
 
-of_entry : FirstWaits → (s : Settings) (j : Journal) (n : ℕ) (input : Input) (w : Words) → HasRoom (mention (client_entry s j n input w)) (mentions j.entries)
+of_entry : FirstWaits → (s : Settings) (j : Journal) (n : ℕ) (input : Input) (w : Words) → FindsRoom (mention (client_entry s j n input w)) (mentions j.entries)
 of_entry first s j n (arrived from x) w = of_datagram s j n from x w
 of_entry first s j n (handed x) w = of_packet s j n x w
 of_entry first s j n ticked w = of_tick first s j n w
@@ -178,10 +178,10 @@ have_room : FirstWaits → (s : Settings) (start : ℕ) (j : List Entry) → Are
 unfolding mentions
 have_room first s start [] a = tt
 have_room first s start (e ∷ j) a =
-    let one : HasRoom (mention e) (mentions j) = subst (λ (x : Entry). HasRoom (mention x) (mentions j)) (sym a.0.is) (of_entry first s (journal start j) e.moment e.input a.0.words) in
+    let one : FindsRoom (mention e) (mentions j) = subst (λ (x : Entry). FindsRoom (mention x) (mentions j)) (sym a.0.is) (of_entry first s (journal start j) e.moment e.input a.0.words) in
     by (is_changed e.step.fate) one (have_room first s start j a.1)
   where
-    by : (b : Bool) → HasRoom (mention e) (mentions j) → HaveRoom (mentions j) → HaveRoom (map mention (cond b [] (e ∷ epoch j)))
+    by : (b : Bool) → FindsRoom (mention e) (mentions j) → HaveRoom (mentions j) → HaveRoom (map mention (cond b [] (e ∷ epoch j)))
     by true one rest = tt
     by false one rest = (one, rest)
 

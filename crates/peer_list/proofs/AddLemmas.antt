@@ -13,7 +13,7 @@ use Rattle.peer_list.specs.declared.limits.TheConstants.{PEERS_MAX}
 use Rattle.peer_list.specs.Waiting.{Listing}
 use Rattle.peer_list.specs.Table.{is_of}
 use Rattle.peer_list.specs.Sound.{IsSince}
-use Rattle.peer_list.specs.Entries.{listings_in, listings_of, due_at, Leads, NameEachOther, AreInTurn, AreKeysOnce, IsWhole, IsSinceAll, IsKept, Adds, SameEntries}
+use Rattle.peer_list.specs.Entries.{listings_in, listings_of, entry_due, Leads, NameEachOther, AreInTurn, AreKeysOnce, AreWhole, IsSinceAll, AreKept, Adds, SameEntries}
 use Rattle.peer_list.proofs.Lists.{other_way}
 use Rattle.peer_list.proofs.OrderLemmas.{one_if, turn_other, turn_same}
 use Rattle.peer_list.proofs.EntryLemmas.{Fills, finds, leads_filled, named_filled, entry_filled, names_same, listings_same, once_same}
@@ -78,7 +78,7 @@ finds_added old new l n m a p =
     ∙ entry_filled old.slab new.slab a.key l (record { vacant = a.vacant; update = a.slab }) old.index new.index p n a.index
     ∙ ap (λ o. cond (same_ip6 p l.who) (Some l) o) (sym (finds old p n))
 
-kept_added : (old new : Entries) (l : Listing) (m : ℕ) → IsKept old m → IsWhole new → Adds old new l → new.touched ≡ old.touched → l.peer.touched ≡ Some m → IsKept new m
+kept_added : (old new : Entries) (l : Listing) (m : ℕ) → AreKept old m → AreWhole new → Adds old new l → new.touched ≡ old.touched → l.peer.touched ≡ Some m → AreKept new m
 kept_added old new l m k w a same touched = record {
   whole = w;
   touched = rw same (since_filled old.slab new.slab a.key l (record { vacant = a.vacant; update = a.slab }) old.index new.index old.touched.0 (subst (IsSince old.touched.0) (sym touched) k.past) k.touched);
@@ -87,26 +87,26 @@ kept_added old new l m k w a same touched = record {
 
 -- WHERE MEMORY IS WANTING
 
-pub whole_same : (old new : Entries) → new.slab.slots ≡ old.slab.slots → new.index.entries ≡ old.index.entries → new.order.items ≡ old.order.items → IsWhole old → IsWhole new
+pub whole_same : (old new : Entries) → new.slab.slots ≡ old.slab.slots → new.index.entries ≡ old.index.entries → new.order.items ≡ old.order.items → AreWhole old → AreWhole new
 whole_same old new slots entries items w =
     let same : (k : ℕ) → get new.slab k ≡ get old.slab k = λ k. ap (λ ss. get_or ss k None) slots in
     record {
       names = names_same old.slab new.slab same old.index new.index entries w.names;
       once = rw items (once_same old.slab new.slab same old.order.items w.once);
-      turn = rw items (turn_same old.slab new.slab old.order.items (λ k. ap due_at (same k)) w.turn);
+      turn = rw items (turn_same old.slab new.slab old.order.items (λ k. ap entry_due (same k)) w.turn);
     }
 
 pub listings_kept : (old new : Entries) → SameEntries old new → listings_of new ≡ listings_of old
 listings_kept old new e =
     listings_same old.slab new.slab (λ k. ap (λ ss. get_or ss k None) e.slots) new.index.entries ∙ ap (listings_in old.slab) e.pairs
 
-kept_same : (old new : Entries) (m : ℕ) → SameEntries old new → new.touched ≡ old.touched → IsWhole new → IsKept old m → IsKept new m
+kept_same : (old new : Entries) (m : ℕ) → SameEntries old new → new.touched ≡ old.touched → AreWhole new → AreKept old m → AreKept new m
 kept_same old new m e same w k = record {
   whole = w;
   touched = rw same (λ key x h. k.touched key x (sym (ap (λ ss. get_or ss key None) e.slots) ∙ h));
   past = rw same k.past;
 }
 
-pub kept_answered : {A E : Type 0} (old new : Entries) (l : Listing) (m : ℕ) (r : Result A E) → IsKept old m → IsWhole new → new.touched ≡ old.touched → OnOk r (Adds old new l) → OnErr r (SameEntries old new) → l.peer.touched ≡ Some m → IsKept new m
+pub kept_answered : {A E : Type 0} (old new : Entries) (l : Listing) (m : ℕ) (r : Result A E) → AreKept old m → AreWhole new → new.touched ≡ old.touched → OnOk r (Adds old new l) → OnErr r (SameEntries old new) → l.peer.touched ≡ Some m → AreKept new m
 kept_answered old new l m (Ok _) k w same added kept touched = kept_added old new l m k w added same touched
 kept_answered old new l m (Err _) k w same added kept touched = kept_same old new m kept same w k

@@ -14,7 +14,7 @@ use Rattle.peer_list.specs.Waiting.{Listing}
 use Rattle.peer_list.specs.Table.{table, is_of, peer_in, known_to}
 use Rattle.peer_list.specs.Calls.{Updates}
 use Rattle.peer_list.specs.Sound.{IsSince}
-use Rattle.peer_list.specs.Entries.{listings_of, key_of, entry_under, NameEachOther, due_at, AreInTurn, IsWhole, IsWholeBut, IsKept, with_peer_at, IsAfter}
+use Rattle.peer_list.specs.Entries.{listings_of, key_of, entry_under, NameEachOther, entry_due, AreInTurn, AreWhole, AreWholeBut, AreKept, with_peer_at, IsAfter}
 use Rattle.peer_list.proofs.OrderLemmas.{turn_same}
 use Rattle.peer_list.proofs.ListingLemmas.{updates_by, known_there}
 use Rattle.peer_list.proofs.EntryLemmas.{Changes, finds, led, names_changed, once_changed, since_changed, entry_changed, turn_changed}
@@ -47,10 +47,10 @@ module _ (old new : Entries) (key : ℕ) (l : Listing) (peer : Peer) (a : IsAfte
   change : Changes old.slab new.slab key l (with_peer_at l peer)
   change = subst (λ (t : Slab Listing). Changes old.slab t key l (with_peer_at l peer)) (sym a.slab) (change_at old.slab key l peer a.was)
 
-  pub names_after : IsWhole old → NameEachOther new.slab new.index
+  pub names_after : AreWhole old → NameEachOther new.slab new.index
   names_after w = subst (NameEachOther new.slab) (sym a.index) (names_changed old.slab new.slab key l (with_peer_at l peer) change old.index w.names)
 
-  pub whole_but : new.order ≡ old.order → IsWhole old → IsWholeBut new key
+  pub whole_but : new.order ≡ old.order → AreWhole old → AreWholeBut new key
   whole_but order w = record {
     names = names_after w;
     there = ap is_some change.update.changed;
@@ -58,7 +58,7 @@ module _ (old new : Entries) (key : ℕ) (l : Listing) (peer : Peer) (a : IsAfte
     turn = rw order (turn_changed old.slab new.slab key l (with_peer_at l peer) change old.order.items w.turn);
   }
 
-  pub kept_after : (m n : ℕ) → IsKept old m → m ≤ n → IsWhole new → IsSince old.touched.0 peer.touched → IsKept new n
+  pub kept_after : (m n : ℕ) → AreKept old m → m ≤ n → AreWhole new → IsSince old.touched.0 peer.touched → AreKept new n
   kept_after m n k later w since = record {
     whole = w;
     touched = rw a.touched (since_changed old.slab new.slab key l (with_peer_at l peer) change old.touched.0 since k.touched);
@@ -66,40 +66,40 @@ module _ (old new : Entries) (key : ℕ) (l : Listing) (peer : Peer) (a : IsAfte
   }
 
   -- each other address finds what it found
-  pub finds_after : IsWhole old → (p : Ip6) → find (is_of p) (listings_of new) ≡ cond (same_ip6 p l.who) (Some (with_peer_at l peer)) (find (is_of p) (listings_of old))
+  pub finds_after : AreWhole old → (p : Ip6) → find (is_of p) (listings_of new) ≡ cond (same_ip6 p l.who) (Some (with_peer_at l peer)) (find (is_of p) (listings_of old))
   finds_after w p =
       finds new p (names_after w)
       ∙ ap (λ x. entry_under new.slab (map.get cmp_ip6 x p)) a.index
       ∙ entry_changed old.slab new.slab key l (with_peer_at l peer) change old.index p w.names
       ∙ ap (λ o. cond (same_ip6 p l.who) (Some (with_peer_at l peer)) o) (sym (finds old p w.names))
 
-  pub finds_at : (who : Ip6) → IsWhole old → key_of old who ≡ Some key → (p : Ip6) → find (is_of p) (listings_of new) ≡ cond (same_ip6 p who) (Some (with_peer_at l peer)) (find (is_of p) (listings_of old))
+  pub finds_at : (who : Ip6) → AreWhole old → key_of old who ≡ Some key → (p : Ip6) → find (is_of p) (listings_of new) ≡ cond (same_ip6 p who) (Some (with_peer_at l peer)) (find (is_of p) (listings_of old))
   finds_at who w found p =
       let same : l.who ≡ who = who_is old who key l w.names found a.was in
       finds_after w p ∙ ap (λ q. cond (same_ip6 p q) (Some (with_peer_at l peer)) (find (is_of p) (listings_of old))) same
 
   -- so the table is updated at that address
-  pub updates_after : (k m : ℕ) (who : Ip6) → IsWhole old → key_of old who ≡ Some key → Updates (table k (listings_of old)) (table m (listings_of new)) m who peer
+  pub updates_after : (k m : ℕ) (who : Ip6) → AreWhole old → key_of old who ≡ Some key → Updates (table k (listings_of old)) (table m (listings_of new)) m who peer
   updates_after k m who w found = updates_by (table k (listings_of old)) (table m (listings_of new)) m who (with_peer_at l peer) refl (finds_at who w found)
 
   -- where it is due as before no key moves
-  turn_due : due_at (Some (with_peer_at l peer)) ≡ due_at (Some l) → new.order ≡ old.order → IsWhole old → AreInTurn new.slab new.order.items
+  turn_due : entry_due (Some (with_peer_at l peer)) ≡ entry_due (Some l) → new.order ≡ old.order → AreWhole old → AreInTurn new.slab new.order.items
   turn_due still order w = rw order (turn_same old.slab new.slab old.order.items due_same w.turn) where
-    due_same : (k : ℕ) → due_at (get new.slab k) ≡ due_at (get old.slab k)
+    due_same : (k : ℕ) → entry_due (get new.slab k) ≡ entry_due (get old.slab k)
     due_same k = elim (cases_eq k key) [
-      | inl same ↦ ap (λ i. due_at (get new.slab i)) same ∙ ap due_at change.update.changed ∙ still ∙ sym (ap (λ i. due_at (get old.slab i)) same ∙ ap due_at a.was)
-      | inr differs ↦ ap due_at (change.update.others k differs)
+      | inl same ↦ ap (λ i. entry_due (get new.slab i)) same ∙ ap entry_due change.update.changed ∙ still ∙ sym (ap (λ i. entry_due (get old.slab i)) same ∙ ap entry_due a.was)
+      | inr differs ↦ ap entry_due (change.update.others k differs)
     ]
 
-  pub turn_still : (before : Option (Millis × Ip6)) → before ≡ due_at (get old.slab key) → due_at (get new.slab key) ≡ before → new.order ≡ old.order → IsWhole old → AreInTurn new.slab new.order.items
-  turn_still before was now order w = turn_due (sym (ap due_at change.update.changed) ∙ now ∙ was ∙ ap due_at a.was) order w
+  pub turn_still : (before : Option (Millis × Ip6)) → before ≡ entry_due (get old.slab key) → entry_due (get new.slab key) ≡ before → new.order ≡ old.order → AreWhole old → AreInTurn new.slab new.order.items
+  turn_still before was now order w = turn_due (sym (ap entry_due change.update.changed) ∙ now ∙ was ∙ ap entry_due a.was) order w
 
 -- what is known of an address that is listed, and has a key
-pub known_at : (e : Entries) (k n : ℕ) (who : Ip6) (key : ℕ) (l : Listing) → IsWhole e → key_of e who ≡ Some key → get e.slab key ≡ Some l → is_some (peer_in (table k (listings_of e)) n who) ≡ true → known_to (table k (listings_of e)) n who ≡ l.peer
+pub known_at : (e : Entries) (k n : ℕ) (who : Ip6) (key : ℕ) (l : Listing) → AreWhole e → key_of e who ≡ Some key → get e.slab key ≡ Some l → is_some (peer_in (table k (listings_of e)) n who) ≡ true → known_to (table k (listings_of e)) n who ≡ l.peer
 known_at e k n who key l w found at listed = known_there (table k (listings_of e)) n who l (found_at e who key l w.names found at) listed
 
 -- a peer that was touched then
-pub since_touched : (e : Entries) (m n : ℕ) (peer : Peer) → IsKept e m → m ≤ n → peer.touched ≡ Some n → IsSince e.touched.0 peer.touched
+pub since_touched : (e : Entries) (m n : ℕ) (peer : Peer) → AreKept e m → m ≤ n → peer.touched ≡ Some n → IsSince e.touched.0 peer.touched
 since_touched e m n peer k later touched = subst (IsSince e.touched.0) (sym touched) (let past = k.past in omega (arith, past, later))
 
 -- whoever was touched since one moment was touched since one before

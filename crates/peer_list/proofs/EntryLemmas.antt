@@ -21,7 +21,7 @@ use Rattle.peer_list.specs.declared.limits.TheConstants.{PEERS_MAX}
 use Rattle.peer_list.specs.Waiting.{Listing}
 use Rattle.peer_list.specs.Table.{is_of, is_listed_at}
 use Rattle.peer_list.specs.Sound.{AreInOrder, AreSound, IsSince}
-use Rattle.peer_list.specs.Entries.{listings_in, listings_of, entry_under, entry_of, Leads, NameEachOther, AreInTurn, AreKeysOnce, without, IsSinceAll}
+use Rattle.peer_list.specs.Entries.{listings_in, listings_of, entry_under, entry_for, Leads, NameEachOther, AreInTurn, AreKeysOnce, keys_without, IsSinceAll}
 use Rattle.peer_list.proofs.OrderLemmas.{count_kept, turn_passing}
 
 -- WHAT AN ADDRESS FINDS
@@ -43,7 +43,7 @@ find_is s (pair ∷ pairs) p a =
     by_test true rest = sym a.0.at
     by_test false rest = rest
 
-pub finds : (e : Entries) (p : Ip6) → NameEachOther e.slab e.index → find (is_of p) (listings_of e) ≡ entry_of e p
+pub finds : (e : Entries) (p : Ip6) → NameEachOther e.slab e.index → find (is_of p) (listings_of e) ≡ entry_for e p
 finds e p n = find_is e.slab e.index.entries p n.leads
 
 -- a key that an address has leads to its entry
@@ -157,7 +157,7 @@ module _ (s t : Slab Listing) (key : ℕ) (l new : Listing) (c : Changes s t key
     by_test false e = other (map.get cmp_ip6 index p) refl e
 
   -- the keys but this one stay in turn
-  pub turn_changed : (keys : List ℕ) → AreInTurn s keys → AreInTurn t (without key keys)
+  pub turn_changed : (keys : List ℕ) → AreInTurn s keys → AreInTurn t (keys_without key keys)
   turn_changed keys a = turn_passing s t (λ k. not (nat_eq k key)) keys (λ k h. c.update.others k (λ same. absurd (passes_not k (nat_eq k key) refl h same))) a where
     passes_not : (k : ℕ) (b : Bool) → nat_eq k key ≡ b → not b ≡ true → k ≡ key → ⊥
     passes_not k true e h same = false≢true h

@@ -7,8 +7,8 @@ use Rattle.td_base.specs.Ip6.{same_ip6, same_ip6-true}
 use Rattle.td_base.specs.declared.ipv6.Ip6.{Ip6}
 use Rattle.peer_list.specs.declared.limits.TheConstants.{LISTED_MS, PEERS_MAX}
 use Rattle.peer_list.specs.Mentions.{Mention, is_about, is_touch_of}
-use Rattle.peer_list.specs.Listed.{is_young, is_recent, is_listed, with_peer, touched, listed, has_room}
-use Rattle.peer_list.specs.Few.{HasRoom, FewListed}
+use Rattle.peer_list.specs.Listed.{is_young, is_recent_touch, is_listed, with_peer, touched, listed, has_room}
+use Rattle.peer_list.specs.Few.{FindsRoom, FewListed}
 use Rattle.peer_list.proofs.Lists.{listed_was_touched, other_way}
 use Rattle.peer_list.proofs.Orders.{has, without}
 
@@ -56,7 +56,7 @@ unfolding listed
 count_is j n = length-filter (λ p. is_listed p n j) (touched j)
 
 -- who is listed later was before
-recent_before : (m n : ℕ) (o : Option Mention) → m ≤ n → one_if (is_recent LISTED_MS n o) ≤ one_if (is_recent LISTED_MS m o)
+recent_before : (m n : ℕ) (o : Option Mention) → m ≤ n → one_if (is_recent_touch LISTED_MS n o) ≤ one_if (is_recent_touch LISTED_MS m o)
 recent_before m n None l = omega arith
 recent_before m n (Some e) l = by (is_young LISTED_MS n e.moment) refl where
   by : (b : Bool) → is_young LISTED_MS n e.moment ≡ b → one_if b ≤ one_if (is_young LISTED_MS m e.moment)
@@ -70,8 +70,8 @@ recent_before m n (Some e) l = by (is_young LISTED_MS n e.moment) refl where
 count_before : (e : Mention) (j : List Mention) (m n : ℕ) (p : Ip6) → m ≤ n → is_touch_of p e ≡ false → counts (e ∷ j) n p ≤ counts j m p
 unfolding is_listed
 count_before e j m n p l other =
-    let same : one_if (is_recent LISTED_MS n (find (is_touch_of p) (e ∷ j))) ≡ one_if (is_recent LISTED_MS n (find (is_touch_of p) j)) = ap (λ b. one_if (is_recent LISTED_MS n (cond b (Some e) (find (is_touch_of p) j)))) other in
-    let less : one_if (is_recent LISTED_MS n (find (is_touch_of p) j)) ≤ one_if (is_recent LISTED_MS m (find (is_touch_of p) j)) = recent_before m n (find (is_touch_of p) j) l in
+    let same : one_if (is_recent_touch LISTED_MS n (find (is_touch_of p) (e ∷ j))) ≡ one_if (is_recent_touch LISTED_MS n (find (is_touch_of p) j)) = ap (λ b. one_if (is_recent_touch LISTED_MS n (cond b (Some e) (find (is_touch_of p) j)))) other in
+    let less : one_if (is_recent_touch LISTED_MS n (find (is_touch_of p) j)) ≤ one_if (is_recent_touch LISTED_MS m (find (is_touch_of p) j)) = recent_before m n (find (is_touch_of p) j) l in
     omega (arith, same, less)
 
 one_at_most : (b : Bool) → one_if b ≤ 1
@@ -114,7 +114,7 @@ with_room e j n p l other few room = by (is_listed p e.moment j) refl room where
       omega (arith, later, mine, all, fewer, count_is j e.moment, sum_by-cons (counts (e ∷ j) n) p (without p (touched j)))
 
 -- the entry, by whether it touches, and whom it is about
-one_more : (n : ℕ) (t : Bool) (o : Option Ip6) (e : Mention) (j : List Mention) → e.moment ≤ n → e.peer ≡ o → e.bearing.touches ≡ t → HasRoom e j → length (listed j e.moment) ≤ PEERS_MAX
+one_more : (n : ℕ) (t : Bool) (o : Option Ip6) (e : Mention) (j : List Mention) → e.moment ≤ n → e.peer ≡ o → e.bearing.touches ≡ t → FindsRoom e j → length (listed j e.moment) ≤ PEERS_MAX
     → MoreFew e j n (with_peer (cond t o None) (touched j))
 one_more n false o e j l about t room few = untouched e j n l (λ p. ap (λ b. cond (is_about p e) b false) t ∙ no_touch (is_about p e)) few
 one_more n true None e j l about t room few = untouched e j n l (λ p. ap (λ (x : Option Ip6). cond (is_about p (record e { peer = x })) e.bearing.touches false) about) few

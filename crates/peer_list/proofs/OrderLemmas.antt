@@ -10,7 +10,7 @@ use Rattle.slab.specs.Slab.{Slab, get}
 use Rattle.td_base.specs.declared.ipv6.Ip6.{Ip6}
 use Rattle.td_base.specs.declared.millis.Millis.{Millis}
 use Rattle.peer_list.specs.Waiting.{Listing}
-use Rattle.peer_list.specs.Entries.{due_at, is_sooner, AreInTurn, AreKeysOnce, without}
+use Rattle.peer_list.specs.Entries.{entry_due, is_sooner, AreInTurn, AreKeysOnce, keys_without}
 use Rattle.peer_list.proofs.FirstLemmas.{sooner_back, sooner_through}
 
 -- LISTS OF NUMBERS
@@ -140,15 +140,15 @@ count_kept key test (k ∷ ks) = by_both (nat_eq key k) (test k) (test key) refl
       rw c (rest ∙ ap (λ n. cond (test key) n 0) (sym same))
 
 -- one that stands there once makes the rest shorter
-pub shorter_without : (key : ℕ) (ks : List ℕ) → 0 < count_by (nat_eq key) ks → length (without key ks) < length ks
+pub shorter_without : (key : ℕ) (ks : List ℕ) → 0 < count_by (nat_eq key) ks → length (keys_without key ks) < length ks
 shorter_without key [] h = absurd (omega (arith, h))
 shorter_without key (k ∷ ks) h = by_test (nat_eq k key) refl (shorter_without key ks) where
-  by_test : (b : Bool) → nat_eq k key ≡ b → (0 < count_by (nat_eq key) ks → length (without key ks) < length ks) → length (cond (not b) (k ∷ without key ks) (without key ks)) < length (k ∷ ks)
+  by_test : (b : Bool) → nat_eq k key ≡ b → (0 < count_by (nat_eq key) ks → length (keys_without key ks) < length ks) → length (cond (not b) (k ∷ keys_without key ks) (keys_without key ks)) < length (k ∷ ks)
   by_test true e rest = let less = at_most ks in omega (arith, less) where
-    at_most : (xs : List ℕ) → length (without key xs) ≤ length xs
+    at_most : (xs : List ℕ) → length (keys_without key xs) ≤ length xs
     at_most [] = omega arith
     at_most (x ∷ xs) = by (not (nat_eq x key)) (at_most xs) where
-      by : (b : Bool) → length (without key xs) ≤ length xs → length (cond b (x ∷ without key xs) (without key xs)) ≤ length (x ∷ xs)
+      by : (b : Bool) → length (keys_without key xs) ≤ length xs → length (cond b (x ∷ keys_without key xs) (keys_without key xs)) ≤ length (x ∷ xs)
       by true l = omega (arith, l)
       by false l = omega (arith, l)
   by_test false e rest =
@@ -172,7 +172,7 @@ le_split (suc i) (suc j) l = ⊎_elim (λ (b : i < j). inl (omega (arith, b))) (
 
 module _ (s : Slab Listing) where
   abbrev due : ℕ → Option (Millis × Ip6)
-  due k = due_at (get s k)
+  due k = entry_due (get s k)
 
   pub turn_at : (ks : List ℕ) (i j d : ℕ) → i < j → j < length ks → AreInTurn s ks → is_sooner (due (get_or ks j d)) (due (get_or ks i d)) ≡ false
   turn_at [] i j d k l a = absurd (omega arith)
@@ -219,34 +219,34 @@ module _ (s : Slab Listing) where
 
 -- WHERE THE ENTRIES CHANGE
 
-turn_all : (s t : Slab Listing) (ks : List ℕ) → AllByRecursion (λ k. due_at (get t k) ≡ due_at (get s k)) ks → AreInTurn s ks → AreInTurn t ks
+turn_all : (s t : Slab Listing) (ks : List ℕ) → AllByRecursion (λ k. entry_due (get t k) ≡ entry_due (get s k)) ks → AreInTurn s ks → AreInTurn t ks
 turn_all s t [] e a = tt
 turn_all s t (k ∷ ks) e a = (first ks e.1 a.0, turn_all s t ks e.1 a.1) where
-  first : (xs : List ℕ) → AllByRecursion (λ x. due_at (get t x) ≡ due_at (get s x)) xs → AllByRecursion (λ later. is_sooner (due_at (get s later)) (due_at (get s k)) ≡ false) xs → AllByRecursion (λ later. is_sooner (due_at (get t later)) (due_at (get t k)) ≡ false) xs
+  first : (xs : List ℕ) → AllByRecursion (λ x. entry_due (get t x) ≡ entry_due (get s x)) xs → AllByRecursion (λ later. is_sooner (entry_due (get s later)) (entry_due (get s k)) ≡ false) xs → AllByRecursion (λ later. is_sooner (entry_due (get t later)) (entry_due (get t k)) ≡ false) xs
   first [] e' a' = tt
-  first (x ∷ xs) e' a' = (ap (λ o. is_sooner o (due_at (get t k))) e'.0 ∙ ap (is_sooner (due_at (get s x))) e.0 ∙ a'.0, first xs e'.1 a'.1)
+  first (x ∷ xs) e' a' = (ap (λ o. is_sooner o (entry_due (get t k))) e'.0 ∙ ap (is_sooner (entry_due (get s x))) e.0 ∙ a'.0, first xs e'.1 a'.1)
 
 all_of : (P : ℕ → Type 0) (ks : List ℕ) → ((k : ℕ) → P k) → AllByRecursion P ks
 all_of P [] f = tt
 all_of P (k ∷ ks) f = (f k, all_of P ks f)
 
 -- none is due at another moment
-pub turn_same : (s t : Slab Listing) (ks : List ℕ) → ((k : ℕ) → due_at (get t k) ≡ due_at (get s k)) → AreInTurn s ks → AreInTurn t ks
-turn_same s t ks e a = turn_all s t ks (all_of (λ k. due_at (get t k) ≡ due_at (get s k)) ks e) a
+pub turn_same : (s t : Slab Listing) (ks : List ℕ) → ((k : ℕ) → entry_due (get t k) ≡ entry_due (get s k)) → AreInTurn s ks → AreInTurn t ks
+turn_same s t ks e a = turn_all s t ks (all_of (λ k. entry_due (get t k) ≡ entry_due (get s k)) ks e) a
 
 -- of those that pass a test none is
 pub turn_passing : (s t : Slab Listing) (test : ℕ → Bool) (ks : List ℕ) → ((k : ℕ) → test k ≡ true → get t k ≡ get s k) → AreInTurn s ks → AreInTurn t (filter test ks)
 turn_passing s t test ks e a =
-    turn_all s t (filter test ks) (all_to (λ k. test k ≡ true) (λ k. due_at (get t k) ≡ due_at (get s k)) (filter test ks) (λ k h. ap due_at (e k h)) (all_pass test ks)) (turn_kept s test ks a)
+    turn_all s t (filter test ks) (all_to (λ k. test k ≡ true) (λ k. entry_due (get t k) ≡ entry_due (get s k)) (filter test ks) (λ k h. ap entry_due (e k h)) (all_pass test ks)) (turn_kept s test ks a)
 
 -- an entry is added, or changed that stands in no place
 pub turn_other : (s t : Slab Listing) (key : ℕ) (ks : List ℕ) → count_by (nat_eq key) ks ≡ 0 → ((k : ℕ) → (k ≡ key → ⊥) → get t k ≡ get s k) → AreInTurn s ks → AreInTurn t ks
 turn_other s t key ks none e a =
-    turn_all s t ks (all_to (λ k. nat_eq key k ≡ false) (λ k. due_at (get t k) ≡ due_at (get s k)) ks (λ k h. ap due_at (e k (λ same. eqb-false key k h (sym same)))) (none_there key ks none)) a
+    turn_all s t ks (all_to (λ k. nat_eq key k ≡ false) (λ k. entry_due (get t k) ≡ entry_due (get s k)) ks (λ k h. ap entry_due (e k (λ same. eqb-false key k h (sym same)))) (none_there key ks none)) a
 
 -- WHERE ONE IS TAKEN OUT AND PUT AGAIN
 
-pub once_settled : (s : Slab Listing) (key : ℕ) (ks kept new : List ℕ) → AreKeysOnce s ks → is_some (get s key) ≡ true → kept ≡ without key ks
+pub once_settled : (s : Slab Listing) (key : ℕ) (ks kept new : List ℕ) → AreKeysOnce s ks → is_some (get s key) ≡ true → kept ≡ keys_without key ks
     → ((k : ℕ) → count_by (nat_eq k) new ≡ count_by (nat_eq k) kept + one_if (nat_eq k key)) → AreKeysOnce s new
 once_settled s key ks kept new once there is put k =
     let rest : count_by (nat_eq k) kept ≡ cond (not (nat_eq k key)) (count_by (nat_eq k) ks) 0 = ap (count_by (nat_eq k)) is ∙ count_kept k (λ other. not (nat_eq other key)) ks in
@@ -266,22 +266,22 @@ once_settled s key ks kept new once there is put k =
 
 -- there is room for the one that was taken out
 -- none is a key that differs from each
-all_differ : (key : ℕ) (ks : List ℕ) → AllByRecursion (λ k. nat_eq key k ≡ false) ks → without key ks ≡ ks
+all_differ : (key : ℕ) (ks : List ℕ) → AllByRecursion (λ k. nat_eq key k ≡ false) ks → keys_without key ks ≡ ks
 all_differ key [] a = refl
 all_differ key (k ∷ ks) a =
     let differs : nat_eq k key ≡ false = eq_turned key k a.0 in
-    ap (λ b. cond (not b) (k ∷ without key ks) (without key ks)) differs ∙ ap (λ (xs : List ℕ). k ∷ xs) (all_differ key ks a.1)
+    ap (λ b. cond (not b) (k ∷ keys_without key ks) (keys_without key ks)) differs ∙ ap (λ (xs : List ℕ). k ∷ xs) (all_differ key ks a.1)
 
 -- a list without the place of a key that stands there once is the list without that key
-pub taken_out : (key : ℕ) (ks : List ℕ) (i : ℕ) → count_by (nat_eq key) ks ≡ 1 → i < length ks → get_or ks i 0 ≡ key → remove ks i ≡ without key ks
+pub taken_out : (key : ℕ) (ks : List ℕ) (i : ℕ) → count_by (nat_eq key) ks ≡ 1 → i < length ks → get_or ks i 0 ≡ key → remove ks i ≡ keys_without key ks
 taken_out key [] i h k at = absurd (omega arith)
 taken_out key (x ∷ ks) zero h k at =
     let one = count_cons (nat_eq key) x ks in
     let here : one_if (nat_eq key x) ≡ 1 = ap one_if (eq-eqb key x (sym at)) in
-    let gone : without key (x ∷ ks) ≡ without key ks = ap (λ b. cond (not b) (x ∷ without key ks) (without key ks)) (eq-eqb x key at) in
+    let gone : keys_without key (x ∷ ks) ≡ keys_without key ks = ap (λ b. cond (not b) (x ∷ keys_without key ks) (keys_without key ks)) (eq-eqb x key at) in
     sym (gone ∙ all_differ key ks (none_there key ks (omega (arith, one, here, h))))
 taken_out key (x ∷ ks) (suc i) h k at = by_test (nat_eq key x) refl (subst (λ y. 0 < count_by (nat_eq y) ks) at (counted_at ks i 0 (omega arith))) (λ one. taken_out key ks i one (omega arith) at) where
-  by_test : (b : Bool) → nat_eq key x ≡ b → 0 < count_by (nat_eq key) ks → (count_by (nat_eq key) ks ≡ 1 → remove ks i ≡ without key ks) → remove (x ∷ ks) (suc i) ≡ without key (x ∷ ks)
+  by_test : (b : Bool) → nat_eq key x ≡ b → 0 < count_by (nat_eq key) ks → (count_by (nat_eq key) ks ≡ 1 → remove ks i ≡ keys_without key ks) → remove (x ∷ ks) (suc i) ≡ keys_without key (x ∷ ks)
   by_test true e more rest =
       let one = count_cons (nat_eq key) x ks in
       let here : one_if (nat_eq key x) ≡ 1 = ap one_if e in
@@ -289,7 +289,7 @@ taken_out key (x ∷ ks) (suc i) h k at = by_test (nat_eq key x) refl (subst (λ
   by_test false e more rest =
       let one = count_cons (nat_eq key) x ks in
       let here : one_if (nat_eq key x) ≡ 0 = ap one_if e in
-      ap (λ (xs : List ℕ). x ∷ xs) (rest (omega (arith, one, here, h))) ∙ sym (ap (λ b. cond (not b) (x ∷ without key ks) (without key ks)) (eq_turned key x e))
+      ap (λ (xs : List ℕ). x ∷ xs) (rest (omega (arith, one, here, h))) ∙ sym (ap (λ b. cond (not b) (x ∷ keys_without key ks) (keys_without key ks)) (eq_turned key x e))
 
 -- where it stands at no place before this one, nor here, it stands behind; and where at none behind, before
 pub stands_behind : (key place : ℕ) (ks : List ℕ) → count_by (nat_eq key) ks ≡ 1 → ((i : ℕ) → i < length ks → get_or ks i 0 ≡ key → place ≤ i) → (get_or ks place 0 ≡ key → ⊥)
@@ -309,7 +309,7 @@ stands_before key place ks once front differs =
     let p = place_of key ks (omega (arith, once)) in
     ⊎_elim (λ (lt : p.0 < place). omega (arith, lt)) (λ (e : p.0 ≡ place). absurd (differs (ap (λ j. get_or ks j 0) (sym e) ∙ p.2 0))) (le_split p.0 place (front p.0 p.1 (p.2 0)))
 
-pub room_without : (s : Slab Listing) (key : ℕ) (ks : List ℕ) → AreKeysOnce s ks → is_some (get s key) ≡ true → length (without key ks) < length ks
+pub room_without : (s : Slab Listing) (key : ℕ) (ks : List ℕ) → AreKeysOnce s ks → is_some (get s key) ≡ true → length (keys_without key ks) < length ks
 room_without s key ks once there =
     let full : one_if (is_some (get s key)) ≡ 1 = ap one_if there in
     let is = once key in

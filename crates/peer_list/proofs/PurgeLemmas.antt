@@ -9,14 +9,14 @@ use Rattle.peer_list.specs.Peers.{Peer, no_peer}
 use Rattle.peer_list.specs.Waiting.{Listing}
 use Rattle.peer_list.specs.Table.{table, is_of, is_listed_at, peer_in, known_to, has_room_in}
 use Rattle.peer_list.specs.Calls.{Updates, Keeps}
-use Rattle.peer_list.specs.Entries.{listings_of, key_of, entry_under, with_peer_at, IsWhole, IsKept, IsAfter, Adds}
+use Rattle.peer_list.specs.Entries.{listings_of, key_of, entry_under, with_peer_at, AreWhole, AreKept, IsAfter, Adds}
 use Rattle.peer_list.proofs.PlaceLemmas.{apart_of}
 use Rattle.peer_list.proofs.EntryLemmas.{finds, sound_of, length_of}
 use Rattle.peer_list.proofs.AdmitLemmas.{Purged, keeps_purged, keeps_same, was_there, was_nowhere, room_nowhere, updates_purged}
 use Rattle.peer_list.proofs.ChangeLemmas.{found_at, finds_at}
 use Rattle.peer_list.proofs.AddLemmas.{finds_added}
 
-module _ {e p : Entries} {m : ℕ} (was : IsKept e m) (kept : IsKept p m) (is : listings_of p ≡ filter (is_listed_at m) (listings_of e)) where
+module _ {e p : Entries} {m : ℕ} (was : AreKept e m) (kept : AreKept p m) (is : listings_of p ≡ filter (is_listed_at m) (listings_of e)) where
   purge : Purged m (listings_of e) (listings_of p)
   purge = record { apart = apart_of (sound_of e was.whole.names); is = is }
 
@@ -39,7 +39,7 @@ module _ {e p : Entries} {m : ℕ} (was : IsKept e m) (kept : IsKept p m) (is : 
   pub room_is : (who : Ip6) → key_of p who ≡ None → has_room_in (table m (listings_of e)) m who ≡ nat_lt (length p.index.entries) PEERS_MAX
   room_is who none = room_nowhere m (listings_of e) (listings_of p) who purge (nowhere who none) ∙ ap (λ n. nat_lt n PEERS_MAX) (length_of p kept.whole.names)
 
-  pub updates_added : (new : Entries) (l : Listing) (call : Peer → Peer) → key_of p l.who ≡ None → IsWhole new → Adds p new l → l.peer ≡ call no_peer
+  pub updates_added : (new : Entries) (l : Listing) (call : Peer → Peer) → key_of p l.who ≡ None → AreWhole new → Adds p new l → l.peer ≡ call no_peer
       → Updates (table m (listings_of e)) (table m (listings_of new)) m l.who (call (known_to (table m (listings_of e)) m l.who))
   updates_added new l call none w adds done =
       subst (λ (x : Peer). Updates (table m (listings_of e)) (table m (listings_of new)) m l.who x) (done ∙ ap call (sym (unknown l.who none)))

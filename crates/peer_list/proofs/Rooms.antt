@@ -7,7 +7,7 @@ use Rattle.peer_list.specs.declared.limits.TheConstants.{PEERS_MAX}
 use Rattle.peer_list.specs.Mentions.{Mention}
 use Rattle.peer_list.specs.Listed.{is_listed, listed, has_room}
 use Rattle.peer_list.specs.Peers.{peer_at}
-use Rattle.peer_list.specs.Few.{HasRoom}
+use Rattle.peer_list.specs.Few.{FindsRoom}
 
 -- where there is none, it isn't listed
 not_listed : (ms : List Mention) (n : ℕ) (p : Ip6) → has_room ms n p ≡ false → is_listed p n ms ≡ false
@@ -24,7 +24,7 @@ unfolding has_room
 listed_has_room ms n p there = rw there refl
 
 -- a further mention that touches nobody for whom there is none
-pub room_by : (m : Mention) (ms : List Mention) → ((p : Ip6) → m.peer ≡ Some p → has_room ms m.moment p ≡ false → m.bearing.touches ≡ false) → HasRoom m ms
+pub room_by : (m : Mention) (ms : List Mention) → ((p : Ip6) → m.peer ≡ Some p → has_room ms m.moment p ≡ false → m.bearing.touches ≡ false) → FindsRoom m ms
 room_by m ms idle p touched = by m.bearing.touches refl touched where
   by_room : (b : Bool) → has_room ms m.moment p ≡ b → m.bearing.touches ≡ true → m.peer ≡ Some p → has_room ms m.moment p ≡ true
   by_room true room t about = room
@@ -35,5 +35,5 @@ room_by m ms idle p touched = by m.bearing.touches refl touched where
   by false t about = absurd (false≢true (ap is_some about))
 
 -- one that is about nobody
-pub room_of_none : (m : Mention) (ms : List Mention) → m.peer ≡ None → HasRoom m ms
+pub room_of_none : (m : Mention) (ms : List Mention) → m.peer ≡ None → FindsRoom m ms
 room_of_none m ms nobody = room_by m ms (λ p about none. absurd (false≢true (ap is_some (sym nobody ∙ about))))

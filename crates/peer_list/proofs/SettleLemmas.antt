@@ -13,7 +13,7 @@ use Rattle.peer_list.specs.declared.change.Change.{Change}
 use Rattle.peer_list.specs.declared.change.Change.TheVariants.{Touch, Trust, Hear, Try, GiveUp}
 use Rattle.peer_list.specs.Calls.{changed_at, Updates, Keeps}
 use Rattle.peer_list.specs.Sound.{IsSince}
-use Rattle.peer_list.specs.Entries.{listings_of, key_of, due_at, AreInTurn, IsWhole, IsWholeBut, IsKept, with_peer_at, IsAfter}
+use Rattle.peer_list.specs.Entries.{listings_of, key_of, entry_due, AreInTurn, AreWhole, AreWholeBut, AreKept, with_peer_at, IsAfter}
 use Rattle.peer_list.specs.Timely.{IsTimely, AreTimely, IsHeld}
 use Rattle.peer_list.proofs.ListingLemmas.{has_listing, known_there}
 use Rattle.peer_list.proofs.TimelyLemmas.{timely_updated, timely_later, timely_answered}
@@ -27,11 +27,11 @@ with_peer e key l peer = record e { slab = with_value e.slab key (with_peer_at l
 pub is_after : (e : Entries) {key : ℕ} {l : Listing} (peer : Peer) → get e.slab key ≡ Some l → IsAfter e (with_peer e key l peer) key l peer
 is_after e peer was = record { was = was; slab = refl; index = refl; touched = refl }
 
-pub but_one : {e : Entries} (key : ℕ) (l : Listing) (peer : Peer) → IsWhole e → get e.slab key ≡ Some l → IsWholeBut (with_peer e key l peer) key
+pub but_one : {e : Entries} (key : ℕ) (l : Listing) (peer : Peer) → AreWhole e → get e.slab key ≡ Some l → AreWholeBut (with_peer e key l peer) key
 but_one {e} key l peer w was = whole_but e (with_peer e key l peer) key l peer (is_after e peer was) refl w
 
-pub in_turn_still : {e : Entries} (key : ℕ) (l : Listing) (peer : Peer) (before : Option (Millis × Ip6)) → IsWhole e → get e.slab key ≡ Some l → before ≡ due_at (get e.slab key)
-    → due_at (get (with_peer e key l peer).slab key) ≡ before → AreInTurn (with_peer e key l peer).slab e.order.items
+pub in_turn_still : {e : Entries} (key : ℕ) (l : Listing) (peer : Peer) (before : Option (Millis × Ip6)) → AreWhole e → get e.slab key ≡ Some l → before ≡ entry_due (get e.slab key)
+    → entry_due (get (with_peer e key l peer).slab key) ≡ before → AreInTurn (with_peer e key l peer).slab e.order.items
 in_turn_still {e} key l peer before w was is now = turn_still e (with_peer e key l peer) key l peer (is_after e peer was) before is now refl w
 
 -- AND AFTER
@@ -40,23 +40,23 @@ pub is_settled : (e new : Entries) (key : ℕ) (l : Listing) (peer : Peer) → g
 is_settled e new key l peer was slab index touched = record { was = was; slab = slab; index = index; touched = touched }
 
 -- by a call that touches
-pub kept_touched : {e new : Entries} {k n key : ℕ} {l : Listing} {peer : Peer} → IsKept e k → k ≤ n → IsWhole new → IsAfter e new key l peer → peer.touched ≡ Some n → IsKept new n
+pub kept_touched : {e new : Entries} {k n key : ℕ} {l : Listing} {peer : Peer} → AreKept e k → k ≤ n → AreWhole new → IsAfter e new key l peer → peer.touched ≡ Some n → AreKept new n
 kept_touched {e} {new} {k} {n} {key} {l} {peer} kept later w a touched = kept_after e new key l peer a k n kept later w (since_touched e k n peer kept later touched)
 
 -- by each change
-changed_since : {e : Entries} {n : ℕ} (key : ℕ) {l : Listing} (change : Change) → IsKept e n → get e.slab key ≡ Some l → IsSince e.touched.0 (changed_at n change l.peer).touched
+changed_since : {e : Entries} {n : ℕ} (key : ℕ) {l : Listing} (change : Change) → AreKept e n → get e.slab key ≡ Some l → IsSince e.touched.0 (changed_at n change l.peer).touched
 changed_since key Touch kept was = kept.past
 changed_since key (Trust at) kept was = kept.past
 changed_since key Hear kept was = kept.past
 changed_since key (Try test) kept was = kept.past
 changed_since {e} {n} key {l} GiveUp kept was = kept.touched key l was
 
-pub kept_changed : {e new : Entries} {n key : ℕ} {l : Listing} {peer : Peer} (change : Change) → IsKept e n → IsWhole new → IsAfter e new key l peer → peer ≡ changed_at n change l.peer → IsKept new n
+pub kept_changed : {e new : Entries} {n key : ℕ} {l : Listing} {peer : Peer} (change : Change) → AreKept e n → AreWhole new → IsAfter e new key l peer → peer ≡ changed_at n change l.peer → AreKept new n
 kept_changed {e} {new} {n} {key} {l} {peer} change kept w a is =
     kept_after e new key l peer a n n kept (omega arith) w (subst (λ (p : Peer). IsSince e.touched.0 p.touched) (sym is) (changed_since key change kept a.was))
 
 -- time alone
-pub kept_later : {e : Entries} {k n : ℕ} → IsKept e k → k ≤ n → IsKept e n
+pub kept_later : {e : Entries} {k n : ℕ} → AreKept e k → k ≤ n → AreKept e n
 kept_later kept later = record { whole = kept.whole; touched = kept.touched; past = let past = kept.past in omega (arith, past, later) }
 
 -- THE TABLE
@@ -72,7 +72,7 @@ module _ (e : Entries) (k n : ℕ) (who : Ip6) (v : Table) (is : table k (listin
   pub there : is_some (peer_in v n who) ≡ true → is_some (find (is_of who) (listings_of e)) ≡ true
   there listed = has_listing (table k (listings_of e)) n who (seen listed)
 
-  pub known_is : (key : ℕ) (l : Listing) → IsWhole e → is_some (peer_in v n who) ≡ true → key_of e who ≡ Some key → get e.slab key ≡ Some l → known_to v n who ≡ l.peer
+  pub known_is : (key : ℕ) (l : Listing) → AreWhole e → is_some (peer_in v n who) ≡ true → key_of e who ≡ Some key → get e.slab key ≡ Some l → known_to v n who ≡ l.peer
   known_is key l w listed found was = ap (λ (t : Table). known_to t n who) (sym is) ∙ known_at e k n who key l w found was (seen listed)
 
   known_by : (o : Option Listing) (peer : Peer) → find (is_of who) (listings_of e) ≡ o → option_map (λ (l : Listing). l.peer) o ≡ Some peer → is_some (peer_in v n who) ≡ true → known_to v n who ≡ peer
@@ -84,7 +84,7 @@ module _ (e : Entries) (k n : ℕ) (who : Ip6) (v : Table) (is : table k (listin
   known_found peer some listed = known_by (find (is_of who) (listings_of e)) peer refl some listed
 
   -- what is known of the peer is what the call makes of it
-  pub updates_by_call : (new : Entries) (key : ℕ) (l : Listing) (peer : Peer) (call : Peer → Peer) → IsWhole e → is_some (peer_in v n who) ≡ true → key_of e who ≡ Some key → IsAfter e new key l peer → peer ≡ call l.peer
+  pub updates_by_call : (new : Entries) (key : ℕ) (l : Listing) (peer : Peer) (call : Peer → Peer) → AreWhole e → is_some (peer_in v n who) ≡ true → key_of e who ≡ Some key → IsAfter e new key l peer → peer ≡ call l.peer
       → Updates v (table n (listings_of new)) n who (call (known_to v n who))
   updates_by_call new key l peer call w listed found a done =
       subst (λ (p : Peer). Updates v (table n (listings_of new)) n who p) (done ∙ ap call (sym (known_is key l w listed found a.was)))
@@ -92,13 +92,13 @@ module _ (e : Entries) (k n : ℕ) (who : Ip6) (v : Table) (is : table k (listin
 
   -- and it is due while it is listed
   pub held_by_call : (new : Entries) (key : ℕ) (l : Listing) (peer : Peer) (call : Peer → Peer) → IsHeld e k → v.moment ≤ n → is_some (peer_in v n who) ≡ true → key_of e who ≡ Some key → IsAfter e new key l peer → peer ≡ call l.peer
-      → IsKept new n → (AreTimely v → v.moment ≤ n → IsTimely n (call (known_to v n who))) → IsHeld new n
+      → AreKept new n → (AreTimely v → v.moment ≤ n → IsTimely n (call (known_to v n who))) → IsHeld new n
   held_by_call new key l peer call held clock listed found a done kept so =
       let before : AreTimely v = subst AreTimely is held.timely in
       record { kept = kept; timely = timely_updated v (table n (listings_of new)) n who (call (known_to v n who)) before clock (so before clock) (updates_by_call new key l peer call held.kept.whole listed found a done) }
 
 -- a call that may be refused
-pub held_answered : {A E : Type 0} (e new : Entries) (k n : ℕ) (who : Ip6) (call : Peer → Peer) (r : Result A E) → IsHeld e k → k ≤ n → IsKept new n
+pub held_answered : {A E : Type 0} (e new : Entries) (k n : ℕ) (who : Ip6) (call : Peer → Peer) (r : Result A E) → IsHeld e k → k ≤ n → AreKept new n
     → (AreTimely (table n (listings_of e)) → IsTimely n (call (known_to (table n (listings_of e)) n who)))
     → OnOk r (Updates (table n (listings_of e)) (table n (listings_of new)) n who (call (known_to (table n (listings_of e)) n who)))
     → OnErr r (Keeps (table n (listings_of e)) (table n (listings_of new)) n) → IsHeld new n

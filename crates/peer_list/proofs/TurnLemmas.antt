@@ -11,7 +11,7 @@ use Rattle.peer_list.specs.Judged.{is_none}
 use Rattle.peer_list.specs.Waiting.{Listing}
 use Rattle.peer_list.specs.Table.{table, is_listed_at, first_due_in, due_and_who}
 use Rattle.peer_list.specs.Sound.{AreApart, is_before, IsNotBefore, NoneBefore}
-use Rattle.peer_list.specs.Entries.{listings_of, due_at, is_sooner, entry_under, IsWhole}
+use Rattle.peer_list.specs.Entries.{listings_of, entry_due, is_sooner, entry_under, AreWhole}
 use Rattle.peer_list.proofs.PlaceLemmas.{apart_of}
 use Rattle.peer_list.proofs.DueLemmas.{waits_at}
 use Rattle.peer_list.proofs.FirstLemmas.{not_before_itself, not_sooner_itself, waits_of, first_is, first_is_none}
@@ -55,10 +55,10 @@ none_kept : (test : Listing → Bool) (ls : List Listing) → AllByRecursion (λ
 none_kept test [] a = refl
 none_kept test (x ∷ ls) a = ap (λ b. cond b (x ∷ filter test ls) (filter test ls)) a.0 ∙ none_kept test ls a.1
 
-due_is : (n : ℕ) (l : Listing) → waits_at n l ≡ true → due_at (Some l) ≡ Some (due_and_who l)
+due_is : (n : ℕ) (l : Listing) → waits_at n l ≡ true → entry_due (Some l) ≡ Some (due_and_who l)
 due_is n l h = ap (λ b. cond b None (Some (due_and_who l))) (waits_of n l h)
 
-module _ (e : Entries) (n : ℕ) (w : IsWhole e) where
+module _ (e : Entries) (n : ℕ) (w : AreWhole e) where
   apart : AreApart (listings_of e)
   apart = apart_of (sound_of e w.names)
 
@@ -73,22 +73,22 @@ module _ (e : Entries) (n : ℕ) (w : IsWhole e) where
       place_of key keys (omega (arith, one, once))
 
   -- what none in a place is due before, none is
-  pub none_before : (first : Option (Millis × Ip6)) → ((j d : ℕ) → j < length keys → is_sooner (due_at (get e.slab (get_or keys j d))) first ≡ false) → NoneBefore first (listings_of e)
+  pub none_before : (first : Option (Millis × Ip6)) → ((j d : ℕ) → j < length keys → is_sooner (entry_due (get e.slab (get_or keys j d))) first ≡ false) → NoneBefore first (listings_of e)
   none_before first late = all_listings e.slab (IsNotBefore first) e.index.entries not_before w.names.leads where
     not_before : (k : ℕ) (x : Listing) → get e.slab k ≡ Some x → IsNotBefore first x
     not_before k x h waits =
         let p = placed k x h in
-        let due : due_at (get e.slab (get_or keys p.0 k)) ≡ Some (due_and_who x) = ap (λ m. due_at (get e.slab m)) (p.2 k) ∙ ap due_at h ∙ ap (λ b. cond b None (Some (due_and_who x))) waits in
+        let due : entry_due (get e.slab (get_or keys p.0 k)) ≡ Some (due_and_who x) = ap (λ m. entry_due (get e.slab m)) (p.2 k) ∙ ap entry_due h ∙ ap (λ b. cond b None (Some (due_and_who x))) waits in
         sym (ap (λ o. is_sooner o first) due) ∙ late p.0 k p.1
 
   pub none_before_none : length keys ≡ 0 → NoneBefore None (listings_of e)
   none_before_none none = none_before None (λ j d k. absurd (omega (arith, k, none)))
 
-  pub none_before_first : (k : ℕ) → ((d : ℕ) → get_or keys 0 d ≡ k) → NoneBefore (due_at (get e.slab k)) (listings_of e)
-  none_before_first k at = none_before (due_at (get e.slab k)) late where
-    late : (j d : ℕ) → j < length keys → is_sooner (due_at (get e.slab (get_or keys j d))) (due_at (get e.slab k)) ≡ false
-    late zero d within = ap (λ m. is_sooner (due_at (get e.slab m)) (due_at (get e.slab k))) (at d) ∙ not_sooner_itself (due_at (get e.slab k))
-    late (suc j) d within = ap (λ m. is_sooner (due_at (get e.slab (get_or keys (suc j) d))) (due_at (get e.slab m))) (sym (at d)) ∙ turn_at e.slab keys 0 (suc j) d (omega arith) within w.turn
+  pub none_before_first : (k : ℕ) → ((d : ℕ) → get_or keys 0 d ≡ k) → NoneBefore (entry_due (get e.slab k)) (listings_of e)
+  none_before_first k at = none_before (entry_due (get e.slab k)) late where
+    late : (j d : ℕ) → j < length keys → is_sooner (entry_due (get e.slab (get_or keys j d))) (entry_due (get e.slab k)) ≡ false
+    late zero d within = ap (λ m. is_sooner (entry_due (get e.slab m)) (entry_due (get e.slab k))) (at d) ∙ not_sooner_itself (entry_due (get e.slab k))
+    late (suc j) d within = ap (λ m. is_sooner (entry_due (get e.slab (get_or keys (suc j) d))) (entry_due (get e.slab m))) (sym (at d)) ∙ turn_at e.slab keys 0 (suc j) d (omega arith) within w.turn
 
   -- one that waits stands behind a place in front of which none waits, or there
   data Stands (i : ℕ) (key : ℕ) : Type 0 where
@@ -133,9 +133,9 @@ module _ (e : Entries) (n : ℕ) (w : IsWhole e) where
             ap (λ (y : Listing). is_before (due_and_who y) (Some (due_and_who l))) same ∙ not_before_itself (due_and_who l)
         by_place (behind j after within' is) =
             let turn = turn_at e.slab keys i j key after within' w.turn in
-            let first : due_at (get e.slab (get_or keys i key)) ≡ Some (due_and_who l) = ap (λ m. due_at (get e.slab m)) (sym at) ∙ ap due_at h ∙ due_is n l waits in
-            let next : due_at (get e.slab (get_or keys j key)) ≡ Some (due_and_who x) = ap (λ m. due_at (get e.slab m)) (is key) ∙ ap due_at h' ∙ due_is n x waits' in
-            sym (ap (λ o. is_sooner o (due_at (get e.slab (get_or keys i key)))) next ∙ ap (is_sooner (Some (due_and_who x))) first) ∙ turn
+            let first : entry_due (get e.slab (get_or keys i key)) ≡ Some (due_and_who l) = ap (λ m. entry_due (get e.slab m)) (sym at) ∙ ap entry_due h ∙ due_is n l waits in
+            let next : entry_due (get e.slab (get_or keys j key)) ≡ Some (due_and_who x) = ap (λ m. entry_due (get e.slab m)) (is key) ∙ ap entry_due h' ∙ due_is n x waits' in
+            sym (ap (λ o. is_sooner o (entry_due (get e.slab (get_or keys i key)))) next ∙ ap (is_sooner (Some (due_and_who x))) first) ∙ turn
 
   none_waits : ((k : ℕ) (x : Listing) → get e.slab k ≡ Some x → waits_at n x ≡ true → ⊥) → None ≡ option_map due_and_who (first_due_in (table n (listings_of e)) n)
   none_waits f = first_is_none n (listings_of e) apart (none_kept (waits_at n) (listings_of e) (all_listings e.slab (λ (x : Listing). waits_at n x ≡ false) e.index.entries (λ k x h. by_test x (waits_at n x) refl (f k x h)) w.names.leads)) where
@@ -147,19 +147,19 @@ module _ (e : Entries) (n : ℕ) (w : IsWhole e) where
   pub idle_due : (i key : ℕ) (l : Listing) → i < length keys → key ≡ get_or keys i key → get e.slab key ≡ Some l → NoneInFront e.slab keys n i → is_none l.peer.waiting ≡ true
       → None ≡ option_map due_and_who (first_due_in (table n (listings_of e)) n)
   idle_due i key l within at h front idle = none_waits none where
-    nothing : due_at (get e.slab (get_or keys i key)) ≡ None
-    nothing = ap (λ m. due_at (get e.slab m)) (sym at) ∙ ap due_at h ∙ ap (λ b. cond b None (Some (due_and_who l))) idle
+    nothing : entry_due (get e.slab (get_or keys i key)) ≡ None
+    nothing = ap (λ m. entry_due (get e.slab m)) (sym at) ∙ ap entry_due h ∙ ap (λ b. cond b None (Some (due_and_who l))) idle
 
     none : (k : ℕ) (x : Listing) → get e.slab k ≡ Some x → waits_at n x ≡ true → ⊥
     none k x h' waits = by_place (stands i front k x h' waits) where
-      due : due_at (get e.slab k) ≡ Some (due_and_who x)
-      due = ap due_at h' ∙ due_is n x waits
+      due : entry_due (get e.slab k) ≡ Some (due_and_who x)
+      due = ap entry_due h' ∙ due_is n x waits
 
       by_place : Stands i k → ⊥
-      by_place (there is) = false≢true (ap is_some (sym nothing ∙ ap (λ m. due_at (get e.slab m)) (is key) ∙ due))
+      by_place (there is) = false≢true (ap is_some (sym nothing ∙ ap (λ m. entry_due (get e.slab m)) (is key) ∙ due))
       by_place (behind j after within' is) =
           let turn = turn_at e.slab keys i j key after within' w.turn in
-          false≢true (sym turn ∙ ap (λ m. is_sooner (due_at (get e.slab m)) (due_at (get e.slab (get_or keys i key)))) (is key) ∙ ap (λ o. is_sooner o (due_at (get e.slab (get_or keys i key)))) due ∙ ap (is_sooner (Some (due_and_who x))) nothing)
+          false≢true (sym turn ∙ ap (λ m. is_sooner (entry_due (get e.slab m)) (entry_due (get e.slab (get_or keys i key)))) (is key) ∙ ap (λ o. is_sooner o (entry_due (get e.slab (get_or keys i key)))) due ∙ ap (is_sooner (Some (due_and_who x))) nothing)
 
   -- where none waits in any place
   pub no_due : (i : ℕ) → length keys ≤ i → NoneInFront e.slab keys n i → None ≡ option_map due_and_who (first_due_in (table n (listings_of e)) n)

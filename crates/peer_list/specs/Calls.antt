@@ -1,5 +1,5 @@
 -- What each call does to what is known of its peer (RFC 4380, sections 5.2 and 5.2.6).
-use Rattle.std.specs.Prelude.{◌≡◌, ◌≤◌, ◌<◌, ℕ, List, [], ◌∷◌, ◌++◌, take, Option, Some, None, if◌then◌else◌}
+use Rattle.std.specs.Prelude.{◌≡◌, ◌≤◌, ◌<◌, ℕ, Bool, true, false, List, [], ◌∷◌, ◌++◌, take, Option, Some, None, if◌then◌else◌}
 use Rattle.std.specs.Option.{option_or}
 use Rattle.td_base.specs.Ip6.{same_ip6}
 use Rattle.td_base.specs.declared.ipv6.Ip6.{Ip6}
@@ -9,7 +9,7 @@ use Rattle.peer_list.specs.declared.limits.TheConstants.{TRIES_MAX}
 use Rattle.peer_list.specs.declared.change.Change.{Change}
 use Rattle.peer_list.specs.declared.change.Change.TheVariants.{Touch, Trust, Hear, Try, GiveUp}
 use Rattle.peer_list.specs.Peers.{Peer}
-use Rattle.peer_list.specs.Table.{Table, while_listed, peer_in}
+use Rattle.peer_list.specs.Table.{Table, while_listed, peer_in, known_to}
 
 -- A PEER AFTER A CALL AT m
 
@@ -61,3 +61,8 @@ pub record Updates (old new : Table) (m : ℕ) (who : Ip6) (peer : Peer) : Type 
 pub record Keeps (old new : Table) (m : ℕ) : Type 0 where
   pub moment : new.moment ≡ m
   pub view : (n : ℕ) (p : Ip6) → m ≤ n → peer_in new n p ≡ peer_in old n p
+
+-- a peer was tried with the nonce of a test, unless it is barred
+abbrev pub TriesUnless : (barred : Bool) → Table → ℕ → Ip6 → Option ℕ → Table → Type 0
+TriesUnless true old n who test new = new ≡ old
+TriesUnless false old n who test new = Updates old new n who (tried_at n test (known_to old n who))

@@ -33,8 +33,8 @@ abbrev pub entry_under : Slab Listing → Option ℕ → Option Listing
 entry_under s None = None
 entry_under s (Some key) = get s key
 
-abbrev pub entry_of : Entries → Ip6 → Option Listing
-entry_of e p = entry_under e.slab (key_of e p)
+abbrev pub entry_for : Entries → Ip6 → Option Listing
+entry_for e p = entry_under e.slab (key_of e p)
 
 -- an address of the index leads to its entry
 pub record Leads (s : Slab Listing) (pair : Ip6 × ℕ) : Type 0 where
@@ -52,9 +52,9 @@ pub record NameEachOther (s : Slab Listing) (index : BTreeMap Ip6 ℕ) : Type 0 
 -- THE ORDER IN WHICH THEY ARE DUE
 
 -- when an entry is due, and its address; nothing where no packets wait
-abbrev pub due_at : Option Listing → Option (Millis × Ip6)
-due_at None = None
-due_at (Some l) = if is_none l.peer.waiting then None else Some (due_and_who l)
+abbrev pub entry_due : Option Listing → Option (Millis × Ip6)
+entry_due None = None
+entry_due (Some l) = if is_none l.peer.waiting then None else Some (due_and_who l)
 
 -- what isn't due comes last
 abbrev pub is_sooner : Option (Millis × Ip6) → Option (Millis × Ip6) → Bool
@@ -64,36 +64,36 @@ is_sooner (Some next) first = is_before next first
 -- none is due before one in front of it
 abbrev pub AreInTurn : Slab Listing → List ℕ → Type 0
 AreInTurn s [] = Unit {0}
-AreInTurn s (key ∷ keys) = AllByRecursion (λ later. is_sooner (due_at (get s later)) (due_at (get s key)) ≡ false) keys × AreInTurn s keys
+AreInTurn s (key ∷ keys) = AllByRecursion (λ later. is_sooner (entry_due (get s later)) (entry_due (get s key)) ≡ false) keys × AreInTurn s keys
 
 -- the keys of the slab, each once
 abbrev pub AreKeysOnce : Slab Listing → List ℕ → Type 0
 AreKeysOnce s keys = (key : ℕ) → count_by (nat_eq key) keys ≡ (if is_some (get s key) then 1 else 0)
 
-abbrev pub without : ℕ → List ℕ → List ℕ
-without key keys = filter (λ other. not (nat_eq other key)) keys
+abbrev pub keys_without : ℕ → List ℕ → List ℕ
+keys_without key keys = filter (λ other. not (nat_eq other key)) keys
 
 -- ALL IN ONE
 
-pub record IsWhole (e : Entries) : Type 0 where
+pub record AreWhole (e : Entries) : Type 0 where
   pub names : NameEachOther e.slab e.index
   pub once : AreKeysOnce e.slab e.order.items
   pub turn : AreInTurn e.slab e.order.items
 
 -- one key may stand where it doesn't belong
-pub record IsWholeBut (e : Entries) (key : ℕ) : Type 0 where
+pub record AreWholeBut (e : Entries) (key : ℕ) : Type 0 where
   pub names : NameEachOther e.slab e.index
   pub there : is_some (get e.slab key) ≡ true
   pub once : AreKeysOnce e.slab e.order.items
-  pub turn : AreInTurn e.slab (without key e.order.items)
+  pub turn : AreInTurn e.slab (keys_without key e.order.items)
 
 -- no entry was touched before m
 abbrev pub IsSinceAll : ℕ → Slab Listing → Type 0
 IsSinceAll m s = (key : ℕ) (l : Listing) → get s key ≡ Some l → IsSince m l.peer.touched
 
 -- at the moment m
-pub record IsKept (e : Entries) (m : ℕ) : Type 0 where
-  pub whole : IsWhole e
+pub record AreKept (e : Entries) (m : ℕ) : Type 0 where
+  pub whole : AreWhole e
   pub touched : IsSinceAll e.touched.0 e.slab
   pub past : e.touched.0 ≤ m
 

@@ -8,13 +8,13 @@ use Rattle.peer_list.specs.Listed.{touched_by, listed, has_room}
 use Rattle.peer_list.specs.Laws.{InOrder}
 
 -- an entry that touches a peer finds room for it
-abbrev pub HasRoom : Mention → List Mention → Type 0
-HasRoom e j = (p : Ip6) → touched_by e ≡ Some p → has_room j e.moment p ≡ true
+abbrev pub FindsRoom : Mention → List Mention → Type 0
+FindsRoom e j = (p : Ip6) → touched_by e ≡ Some p → has_room j e.moment p ≡ true
 
 -- each one does
 abbrev pub HaveRoom : List Mention → Type 0
 HaveRoom [] = Unit {0}
-HaveRoom (e ∷ j) = HasRoom e j × HaveRoom j
+HaveRoom (e ∷ j) = FindsRoom e j × HaveRoom j
 
 -- then there are never more than 256, the moment n being none before the latest entry
 abbrev pub FewListed : Type 0

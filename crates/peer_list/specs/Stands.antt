@@ -2,7 +2,7 @@
 use Rattle.std.specs.Prelude.{◌≡◌, ◌≤◌, ℕ, true, List, [], ◌∷◌, length, sum_by, Option, Some, None, is_some}
 use Rattle.td_base.specs.declared.ipv6.Ip6.{Ip6}
 use Rattle.td_base.specs.declared.endpoint.Ep.{Ep}
-use Rattle.peer_list.specs.Mentions.{Bearing, no_bearing, Mention}
+use Rattle.peer_list.specs.Mentions.{no_bearing, touching, Mention}
 use Rattle.peer_list.specs.Listed.{listed, has_room}
 use Rattle.peer_list.specs.Peers.{Peer, peer_at, known}
 use Rattle.peer_list.specs.Waiting.{waiting_count, first_due}
@@ -71,19 +71,16 @@ UpdatesTwice = (a b c : Table) (m : ℕ) (who : Ip6) (first : Peer) (next : Peer
     → while_listed m first ≡ Some first → Updates a b m who first → Updates b c m who (next (known_to b m who)) → Updates a c m who (next first)
 
 -- a call leaves a peer listed, and a further one at that moment goes on from there
-pub record GoesOn (old mid : Table) (m : ℕ) (who : Ip6) (peer : Peer) : Type 0 where
+pub record Continues (old mid : Table) (m : ℕ) (who : Ip6) (peer : Peer) : Type 0 where
   pub listed : is_some (peer_in mid m who) ≡ true
   pub known : known_to mid m who ≡ peer
   pub next : (new : Table) (call : Peer → Peer) → Updates mid new m who (call (known_to mid m who)) → Updates old new m who (call peer)
 
 -- so does each that touches its peer
 abbrev pub TouchGoesOn : Type 0
-TouchGoesOn = (old mid : Table) (m : ℕ) (who : Ip6) (peer : Peer) → peer.touched ≡ Some m → Updates old mid m who peer → GoesOn old mid m who peer
+TouchGoesOn = (old mid : Table) (m : ℕ) (who : Ip6) (peer : Peer) → peer.touched ≡ Some m → Updates old mid m who peer → Continues old mid m who peer
 
 -- WHICH CALLS MAKE AN ENTRY
-
-abbrev pub touching : Bearing
-touching = record no_bearing { touches = true }
 
 -- the calls of one entry, one after the other, come to what follows that entry
 pub record CallsAre (m : ℕ) (p : Peer) (who : Option Ip6) : Type 0 where

@@ -8,7 +8,7 @@ use Rattle.peer_list.specs.Peers.{Peer}
 use Rattle.peer_list.specs.Judged.{due_of}
 use Rattle.peer_list.specs.Table.{Table, table, peer_in}
 use Rattle.peer_list.specs.Overdue.{overdue_in}
-use Rattle.peer_list.specs.Entries.{listings_of, IsKept}
+use Rattle.peer_list.specs.Entries.{listings_of, AreKept}
 
 -- touched at m or before, and due a gap after that or before
 pub record IsTimely (m : ℕ) (peer : Peer) : Type 0 where
@@ -23,7 +23,7 @@ AreTimely t = (p : Ip6) (peer : Peer) → peer_in t t.moment p ≡ Some peer →
 
 -- what stands of a table's entries at its moment
 pub record IsHeld (e : Entries) (m : ℕ) : Type 0 where
-  pub kept : IsKept e m
+  pub kept : AreKept e m
   pub timely : AreTimely (table m (listings_of e))
 
 -- whoever is due first at n: packets that wait are due when it is, or at n where that is past

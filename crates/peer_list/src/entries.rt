@@ -7,7 +7,8 @@ ghost use Rattle.peer_list.specs.Table.{table, is_of, is_listed_at, listed_in, w
 ghost use Rattle.peer_list.specs.Overdue.{due_moment, IsNoSooner, IsKeptDue};
 ghost use Rattle.peer_list.specs.declared.limits.TheConstants.{PEERS_MAX};
 ghost use Rattle.peer_list.specs.Sound.{NoneBefore};
-ghost use Rattle.peer_list.specs.Entries.{listings_of, entry_of, key_of, IsWhole, IsWholeBut, due_at, AreInTurn, IsSinceAll, IsKept, IsFirstOf, IsAfter, Adds, SameEntries};
+ghost use Rattle.peer_list.specs.Entries.{listings_of, entry_for, key_of, AreWhole, AreWholeBut, entry_due, AreInTurn};
+ghost use Rattle.peer_list.specs.Entries.{IsSinceAll, AreKept, IsFirstOf, IsAfter, Adds, SameEntries};
 
 use crate::change::Change;
 use crate::limits::{LISTED_MS, PEERS_MAX};
@@ -46,7 +47,7 @@ fn has_entry(slab: &Slab<Listing>, key: usize) -> bool
 
 impl Entries {
     pub fn new(alloc: Global) -> Entries
-        ensures kept { IsKept result 0 }
+        ensures kept { AreKept result 0 }
         ensures empty { listings_of result ≡ [] }
     {
         Entries {
@@ -66,7 +67,7 @@ impl Entries {
 
     /// The key of the entry of an address that has one.
     pub fn key(&self, who: Ip6) -> usize
-        requires whole { IsWhole self.now }
+        requires whole { AreWhole self.now }
         requires there { is_some (find (is_of who) (listings_of self.now)) ≡ true }
         ensures key { key_of self.now who ≡ Some result }
         ensures there { ContainsKey self.now.slab result }
@@ -76,7 +77,7 @@ impl Entries {
 
     /// What is known of an address that has an entry.
     pub fn find(&self, who: Ip6) -> Option<&Peer>
-        requires whole { IsWhole self.now }
+        requires whole { AreWhole self.now }
         ensures { option_map (λ peer. peer.now) result ≡ option_map (λ l. l.peer) (find (is_of who) (listings_of self.now)) }
     {
         Some(&self.slab.get(self.find_key(who)?)?.peer)
@@ -84,7 +85,7 @@ impl Entries {
 
     /// What is known of an address that has an entry.
     pub fn peer(&self, who: Ip6) -> &Peer
-        requires whole { IsWhole self.now }
+        requires whole { AreWhole self.now }
         requires there { is_some (find (is_of who) (listings_of self.now)) ≡ true }
         ensures { option_map (λ l. l.peer) (find (is_of who) (listings_of self.now)) ≡ Some result.now }
     {
@@ -100,7 +101,7 @@ impl Entries {
 
     /// How many are listed.
     pub fn count(&self, now: Millis) -> usize
-        requires whole { IsWhole self.now }
+        requires whole { AreWhole self.now }
         ensures count { result ≡ length (listed_in (table now.0 (listings_of self.now)) now.0) }
         ensures most { result ≤ PEERS_MAX }
     {
@@ -115,7 +116,7 @@ impl Entries {
 
     /// How many packets wait for all that are listed.
     pub fn waiting(&self, now: Millis) -> u16
-        requires whole { IsWhole self.now }
+        requires whole { AreWhole self.now }
         ensures { result ≡ waiting_in (table now.0 (listings_of self.now)) now.0 }
     {
         let mut waiting = 0;
@@ -130,7 +131,7 @@ impl Entries {
 
     /// What is due before none of the entries, be they listed or not.
     fn first(&self) -> Option<(Millis, Ip6)>
-        requires whole { IsWhole self.now }
+        requires whole { AreWhole self.now }
         ensures before { NoneBefore result (listings_of self.now) }
         ensures there { IfSome result (IsFirstOf self.now) }
     {
@@ -139,7 +140,7 @@ impl Entries {
 
     /// Whether one of them may be due before a moment, be it listed then or not.
     pub fn may_be_due_before(&self, moment: Millis) -> bool
-        requires whole { IsWhole self.now }
+        requires whole { AreWhole self.now }
         ensures none { result ≡ false → (n : ℕ) → IsNoSooner moment.0 (option_map due_moment (first_due_in (table n (listings_of self.now)) n)) }
         ensures some { result ≡ true → (n : ℕ) → IsKeptDue (table n (listings_of self.now)) moment.0 }
     {
@@ -151,7 +152,7 @@ impl Entries {
 
     /// When the next try is due, and whose: that of the first that is listed.
     pub fn due(&self, now: Millis) -> Option<(Millis, Ip6)>
-        requires whole { IsWhole self.now }
+        requires whole { AreWhole self.now }
         ensures { result ≡ option_map due_and_who (first_due_in (table now.0 (listings_of self.now)) now.0) }
     {
         for key in &self.order {
@@ -168,16 +169,16 @@ impl Entries {
 
     /// When the entry under a key is due.
     pub fn due_at(&self, key: usize) -> Option<(Millis, Ip6)>
-        ensures { result ≡ due_at (get self.now.slab key) }
+        ensures { result ≡ entry_due (get self.now.slab key) }
     {
         order::due_at(&self.slab, key)
     }
 
     /// Puts a key, whose entry was changed, where it belongs now. Where it is due as before it stays.
     pub fn settle(&mut self, key: usize, before: Option<(Millis, Ip6)>)
-        requires but { IsWholeBut self.old key }
-        requires still { due_at (get self.old.slab key) ≡ before → AreInTurn self.old.slab self.old.order.items }
-        ensures whole { IsWhole self.new }
+        requires but { AreWholeBut self.old key }
+        requires still { entry_due (get self.old.slab key) ≡ before → AreInTurn self.old.slab self.old.order.items }
+        ensures whole { AreWhole self.new }
         ensures slab { self.new.slab ≡ self.old.slab }
         ensures index { self.new.index ≡ self.old.index }
         ensures touched { self.new.touched ≡ self.old.touched }
@@ -187,10 +188,10 @@ impl Entries {
 
     /// Changes the peer of the entry under a key, and puts the key where it belongs then.
     pub fn change(&mut self, key: usize, now: Millis, change: Change)
-        requires kept { IsKept self.old now.0 }
+        requires kept { AreKept self.old now.0 }
         requires there { ContainsKey self.old.slab key }
         requires early { IsInTime now.0 change }
-        ensures kept { IsKept self.new now.0 }
+        ensures kept { AreKept self.new now.0 }
         ensures changed { (l : Kept) → get self.old.slab key ≡ Some l → IsAfter self.old self.new key l (changed_at now.0 change l.peer) }
     {
         let before = self.due_at(key);
@@ -212,8 +213,8 @@ impl Entries {
 
     /// Takes out whoever isn't listed any more.
     fn take_out_unlisted(&mut self, now: Millis)
-        requires whole { IsWhole self.old }
-        ensures whole { IsWhole self.new }
+        requires whole { AreWhole self.old }
+        ensures whole { AreWhole self.new }
         ensures listings { listings_of self.new ≡ filter (is_listed_at now.0) (listings_of self.old) }
     {
         self.slab.retain(|_, listing| listing.peer.is_listed(now));
@@ -224,8 +225,8 @@ impl Entries {
 
     /// Takes out whoever isn't listed any more, where there may be one.
     pub fn purge(&mut self, now: Millis)
-        requires kept { IsKept self.old now.0 }
-        ensures kept { IsKept self.new now.0 }
+        requires kept { AreKept self.old now.0 }
+        ensures kept { AreKept self.new now.0 }
         ensures listings { listings_of self.new ≡ filter (is_listed_at now.0) (listings_of self.old) }
     {
         if tries::is_young(LISTED_MS, now, self.touched) {
@@ -237,10 +238,10 @@ impl Entries {
 
     /// Adds an entry for an address that has none. All memory is taken before it is there.
     pub fn add(&mut self, listing: Listing) -> Result<(), NoMemory>
-        requires whole { IsWhole self.old }
+        requires whole { AreWhole self.old }
         requires absent { key_of self.old listing.who ≡ None }
         requires room { length self.old.index.entries < PEERS_MAX }
-        ensures whole { IsWhole self.new }
+        ensures whole { AreWhole self.new }
         ensures touched { self.new.touched ≡ self.old.touched }
         ensures added { OnOk result (Adds self.old self.new listing) }
         ensures same { OnErr result (SameEntries self.old self.new) }
@@ -254,7 +255,7 @@ impl Entries {
     }
 
     pub fn clear(&mut self)
-        ensures kept { IsKept self.new 0 }
+        ensures kept { AreKept self.new 0 }
         ensures empty { listings_of self.new ≡ [] }
     {
         self.slab.clear();

@@ -6,7 +6,7 @@ ghost use Rattle.peer_list.specs.Table.{table, peer_in, known_to, has_room_in};
 ghost use Rattle.peer_list.specs.Calls.{touched_at, queued_at, Updates, Keeps};
 ghost use Rattle.slab.specs.Slab.{get, ContainsKey};
 ghost use Rattle.peer_list.specs.Waiting.{Listing as Kept};
-ghost use Rattle.peer_list.specs.Entries.{listings_of, IsKept, IsAfter};
+ghost use Rattle.peer_list.specs.Entries.{listings_of, AreKept, IsAfter};
 
 use crate::change::Change;
 use crate::entries::Entries;
@@ -23,9 +23,9 @@ pub struct Listing {
 
 /// Lists and touches a peer, after all that aren't listed any more are taken out.
 pub fn list(entries: &mut Entries, alloc: Global, now: Millis, who: Ip6) -> Result<(), NoMemory>
-    requires kept { IsKept entries.old now.0 }
+    requires kept { AreKept entries.old now.0 }
     requires room { has_room_in (table now.0 (listings_of entries.old)) now.0 who ≡ true }
-    ensures kept { IsKept entries.new now.0 }
+    ensures kept { AreKept entries.new now.0 }
     ensures listed { let old = table now.0 (listings_of entries.old) in
         OnOk result (Updates old (table now.0 (listings_of entries.new)) now.0 who (touched_at now.0 (known_to old now.0 who))) }
     ensures same { OnErr result (Keeps (table now.0 (listings_of entries.old)) (table now.0 (listings_of entries.new)) now.0) }
@@ -52,11 +52,11 @@ fn wait_at(
     key: usize,
     packet: &[u8],
 ) -> Result<(), NoMemory>
-    requires kept { IsKept entries.old now.0 }
+    requires kept { AreKept entries.old now.0 }
     requires there { ContainsKey entries.old.slab key }
     requires free { (l : Kept) → get entries.old.slab key ≡ Some l → is_full l.peer ≡ false }
     requires short { length packet.now ≤ PACKET_MAX }
-    ensures kept { IsKept entries.new now.0 }
+    ensures kept { AreKept entries.new now.0 }
     ensures queued { (l : Kept) → get entries.old.slab key ≡ Some l → OnOk result (IsAfter entries.old entries.new key l (queued_at now.0 packet.now l.peer)) }
     ensures same { OnErr result (listings_of entries.new ≡ listings_of entries.old) }
 {
@@ -74,11 +74,11 @@ pub fn wait(
     who: Ip6,
     packet: &[u8],
 ) -> Result<(), NoMemory>
-    requires kept { IsKept entries.old now.0 }
+    requires kept { AreKept entries.old now.0 }
     requires room { has_room_in (table now.0 (listings_of entries.old)) now.0 who ≡ true }
     requires free { is_full (known_to (table now.0 (listings_of entries.old)) now.0 who) ≡ false }
     requires short { length packet.now ≤ PACKET_MAX }
-    ensures kept { IsKept entries.new now.0 }
+    ensures kept { AreKept entries.new now.0 }
     ensures queued { let old = table now.0 (listings_of entries.old) in
         OnOk result (Updates old (table now.0 (listings_of entries.new)) now.0 who (queued_at now.0 packet.now (known_to old now.0 who))) }
     ensures same { OnErr result (Keeps (table now.0 (listings_of entries.old)) (table now.0 (listings_of entries.new)) now.0) }

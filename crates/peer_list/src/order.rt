@@ -3,7 +3,7 @@ ghost use Rattle.std.specs.Prelude.{◌≡◌, ◌<◌, ◌+◌, ℕ, true, not,
 ghost use Rattle.std.specs.List.{count_by};
 ghost use Rattle.std.specs.Vec.{vec_len, vec_capacity};
 ghost use Rattle.slab.specs.Slab.{get};
-ghost use Rattle.peer_list.specs.Entries.{due_at, is_sooner, AreInTurn, AreKeysOnce, without};
+ghost use Rattle.peer_list.specs.Entries.{entry_due, is_sooner, AreInTurn, AreKeysOnce, keys_without};
 
 use crate::listings::Listing;
 use slab::Slab;
@@ -11,7 +11,7 @@ use td_base::{Ip6, Millis};
 
 /// When the next try at the peer of an entry is due, and whose it is. Where no packets wait nothing is due.
 pub fn due_at(slab: &Slab<Listing>, key: usize) -> Option<(Millis, Ip6)>
-    ensures { result ≡ due_at (get slab.now key) }
+    ensures { result ≡ entry_due (get slab.now key) }
 {
     let listing = slab.get(key)?;
     if listing.peer.is_idle() {
@@ -49,7 +49,7 @@ fn is_same(now: Option<(Millis, Ip6)>, before: Option<(Millis, Ip6)>) -> bool
 
 /// Whether an entry may stand in front of what is due then: that isn't due before it.
 fn is_in_turn(slab: &Slab<Listing>, first: usize, next: Option<(Millis, Ip6)>) -> bool
-    ensures { result ≡ not (is_sooner next (due_at (get slab.now first))) }
+    ensures { result ≡ not (is_sooner next (entry_due (get slab.now first))) }
 {
     !is_sooner(next, due_at(slab, first))
 }
@@ -111,7 +111,7 @@ fn place_of(order: &[usize], key: usize, was_due: bool) -> usize
 /// Takes out a key that stands there once.
 fn take_out(order: &mut Vec<usize>, key: usize, was_due: bool)
     requires once { count_by (nat_eq key) order.old.items ≡ 1 }
-    ensures items { order.new.items ≡ without key order.old.items }
+    ensures items { order.new.items ≡ keys_without key order.old.items }
     ensures capacity { vec_capacity order.new ≡ vec_capacity order.old }
 {
     order.remove(place_of(order, key, was_due));
@@ -126,8 +126,8 @@ pub fn settle(
 )
     requires once { AreKeysOnce slab.now order.old.items }
     requires there { is_some (get slab.now key) ≡ true }
-    requires others { AreInTurn slab.now (without key order.old.items) }
-    requires still { due_at (get slab.now key) ≡ before → AreInTurn slab.now order.old.items }
+    requires others { AreInTurn slab.now (keys_without key order.old.items) }
+    requires still { entry_due (get slab.now key) ≡ before → AreInTurn slab.now order.old.items }
     ensures once { AreKeysOnce slab.now order.new.items }
     ensures turn { AreInTurn slab.now order.new.items }
 {

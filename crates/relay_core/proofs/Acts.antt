@@ -4,6 +4,7 @@ use Rattle.std.proofs.Math.Nat.{le_refl}
 use Rattle.td_base.specs.declared.endpoint.Ep.{Ep}
 use Rattle.td_base.specs.declared.span.Span.{Span}
 use Rattle.teredo_addr.specs.Teredo.{embedded}
+use Rattle.bubble.specs.PayloadOf.{IsPayloadOf}
 use Rattle.bubble.specs.Payloads.{Value}
 use Rattle.teredo_node.specs.declared.fate.Fate.{Fate}
 use Rattle.teredo_node.specs.declared.fate.Fate.TheVariants as fate
@@ -18,16 +19,16 @@ use Rattle.relay_core.specs.declared.relay.Relay.{Relay}
 use Rattle.relay_rules.specs.Bearings.{mention}
 use Rattle.relay_rules.specs.Reception.{reception_step}
 use Rattle.relay_rules.specs.Laws.{IsQuiet}
-use Rattle.relay_core.specs.Relay.{settings_of, standing_in, TakesPayload, IsPayloadOf, entry_about}
-use Rattle.relay_core.specs.Lines.{DropsDatagram}
-use Rattle.relay_core.specs.Below.{Below}
+use Rattle.relay_core.specs.Relay.{settings_of, relay_standing_in, RelayTakesPayload, relay_entry_about}
+use Rattle.relay_core.specs.Lines.{RelayDropsDatagram}
+use Rattle.relay_core.specs.Below.{BelowRelay}
 use Rattle.relay_core.proofs.Entered.{bears_stands, none_stands}
 
 -- nothing is done
-pub drops : (law : Below) (r : Relay) (n : ℕ) (from : Ep) (v : Value) (f : Fate) → r.peers.moment ≤ n → DropsDatagram f → TakesPayload r n from v f (just f) r
+pub drops : (law : BelowRelay) (r : Relay) (n : ℕ) (from : Ep) (v : Value) (f : Fate) → r.peers.moment ≤ n → RelayDropsDatagram f → RelayTakesPayload r n from v f (just f) r
 drops law r n from v f l d = record {
-  did = λ x is. sym (d.step (standing_in r n v.packet.src) x v);
-  stands = λ j x h. none_stands law r (entry_about n from x v.packet.src (just f)) (bears_nothing (d.nothing (entry_about n from x v.packet.src (just f)))) j h;
+  did = λ x is. sym (d.step (relay_standing_in r n v.packet.src) x v);
+  stands = λ j x h. none_stands law r (relay_entry_about n from x v.packet.src (just f)) (bears_nothing (d.nothing (relay_entry_about n from x v.packet.src (just f)))) j h;
   settings = refl;
   clock = l;
 }
@@ -42,12 +43,12 @@ pub record Hears (old : Relay) (n : ℕ) (v : Value) (new : Relay) : Type 0 wher
   pub peers : Updates old.peers new.peers n v.packet.src (heard old n v)
   pub settings : settings_of new ≡ settings_of old
 
-hears : (law : Below) (old new : Relay) (n : ℕ) (from : Ep) (v : Value) (f : Fate) (step : Step) → Hears old n v new
-    → ((x : List ℕ) → after (mention (entry_about n from x v.packet.src step)) (known_to old.peers n v.packet.src) ≡ heard old n v)
-    → ((x : List ℕ) → IsPayloadOf x v → step ≡ reception_step (standing_in old n v.packet.src) x v f) → TakesPayload old n from v f step new
+hears : (law : BelowRelay) (old new : Relay) (n : ℕ) (from : Ep) (v : Value) (f : Fate) (step : Step) → Hears old n v new
+    → ((x : List ℕ) → after (mention (relay_entry_about n from x v.packet.src step)) (known_to old.peers n v.packet.src) ≡ heard old n v)
+    → ((x : List ℕ) → IsPayloadOf x v → step ≡ reception_step (relay_standing_in old n v.packet.src) x v f) → RelayTakesPayload old n from v f step new
 hears law old new n from v f step o means did = record {
   did = did;
-  stands = λ j x h. bears_stands law old new (entry_about n from x v.packet.src step) v.packet.src (record {
+  stands = λ j x h. bears_stands law old new (relay_entry_about n from x v.packet.src step) v.packet.src (record {
     peer = refl;
     clock = o.clock;
     peers = subst (λ (p : Peer). Updates old.peers new.peers n v.packet.src p) (sym (means x)) o.peers;
@@ -61,12 +62,12 @@ hears law old new n from v f step o means did = record {
 abbrev pub released : Relay → ℕ → Value → Fate → Step
 released r n v f = sending f (releases (embedded v.packet.src) (known_to r.peers n v.packet.src).waiting)
 
-pub from_client_bubble : (law : Below) (old new : Relay) (n : ℕ) (from : Ep) (v : Value) → Hears old n v new → TakesPayload old n from v fate.FromClientBubble (released old n v fate.FromClientBubble) new
+pub from_client_bubble : (law : BelowRelay) (old new : Relay) (n : ℕ) (from : Ep) (v : Value) → Hears old n v new → RelayTakesPayload old n from v fate.FromClientBubble (released old n v fate.FromClientBubble) new
 from_client_bubble law old new n from v o =
     hears law old new n from v fate.FromClientBubble (released old n v fate.FromClientBubble) o
     (λ x. (law.peers.calls_of_an_entry n (known_to old.peers n v.packet.src) (Some v.packet.src)).trust_and_hear (embedded v.packet.src)) (λ x is. refl)
 
-pub unserved : (law : Below) (old new : Relay) (n : ℕ) (from : Ep) (v : Value) → Hears old n v new → TakesPayload old n from v fate.Unserved (released old n v fate.Unserved) new
+pub unserved : (law : BelowRelay) (old new : Relay) (n : ℕ) (from : Ep) (v : Value) → Hears old n v new → RelayTakesPayload old n from v fate.Unserved (released old n v fate.Unserved) new
 unserved law old new n from v o =
     hears law old new n from v fate.Unserved (released old n v fate.Unserved) o
     (λ x. (law.peers.calls_of_an_entry n (known_to old.peers n v.packet.src) (Some v.packet.src)).trust_and_hear (embedded v.packet.src)) (λ x is. refl)
@@ -81,7 +82,7 @@ rest_is x v is =
     let len : length x - v.lead.at ≡ 40 + length v.packet.body = omega (arith, is.inside) in
     ap (λ (n : ℕ). record { at = v.lead.at; len = n }) len
 
-pub from_client : (law : Below) (old new : Relay) (n : ℕ) (from : Ep) (v : Value) → Hears old n v new → TakesPayload old n from v fate.FromClient (passed_on old n v) new
+pub from_client : (law : BelowRelay) (old new : Relay) (n : ℕ) (from : Ep) (v : Value) → Hears old n v new → RelayTakesPayload old n from v fate.FromClient (passed_on old n v) new
 from_client law old new n from v o =
     hears law old new n from v fate.FromClient (passed_on old n v) o
     (λ x. (law.peers.calls_of_an_entry n (known_to old.peers n v.packet.src) (Some v.packet.src)).trust_and_hear (embedded v.packet.src))

@@ -19,8 +19,8 @@ use Rattle.relay_core.specs.declared.relay.Relay.{Relay}
 use Rattle.relay_rules.specs.Bearings.{mention, mentions}
 use Rattle.relay_rules.specs.Laws.{IsQuiet}
 use Rattle.relay_rules.specs.Journals.{entry}
-use Rattle.relay_core.specs.Relay.{settings_of, RelayStandsFor, Does, Enters, KeepsAll, AsBefore}
-use Rattle.relay_core.specs.Below.{Below}
+use Rattle.relay_core.specs.Relay.{settings_of, RelayStandsFor, Does, RelayEnters, RelayKeepsAll, AsBefore}
+use Rattle.relay_core.specs.Below.{BelowRelay}
 
 -- WHO IS QUIET
 
@@ -62,7 +62,7 @@ pub record Bears (old : Relay) (e : Entry) (who : Ip6) (new : Relay) : Type 0 wh
   pub peers : Updates old.peers new.peers e.moment who (after (mention e) (known_to old.peers e.moment who))
   pub quiet : has_cone who ≡ true → IsQuiet (known_to old.peers e.moment who) → IsQuiet (after (mention e) (known_to old.peers e.moment who))
 
-pub bears_stands : (law : Below) (old new : Relay) (e : Entry) (who : Ip6) → Bears old e who new → (j : List Entry) → RelayStandsFor old j → RelayStandsFor new (e ∷ j)
+pub bears_stands : (law : BelowRelay) (old new : Relay) (e : Entry) (who : Ip6) → Bears old e who new → (j : List Entry) → RelayStandsFor old j → RelayStandsFor new (e ∷ j)
 unfolding mentions
 bears_stands law old new e who b j h = record {
   peers = law.peers.next_stands old.peers new.peers (mention e) (mentions j) who h.peers b.clock b.peer b.peers;
@@ -70,8 +70,8 @@ bears_stands law old new e who b j h = record {
 }
 
 -- for each journal, where that may rest on what it stands for
-pub bears_enters : (law : Below) (old new : Relay) (e : Entry) (who : Ip6) (peer : Peer) → Updates old.peers new.peers e.moment who peer → settings_of new ≡ settings_of old
-    → ((j : List Entry) → RelayStandsFor old j → Bears old e who new) → Enters old e new
+pub bears_enters : (law : BelowRelay) (old new : Relay) (e : Entry) (who : Ip6) (peer : Peer) → Updates old.peers new.peers e.moment who peer → settings_of new ≡ settings_of old
+    → ((j : List Entry) → RelayStandsFor old j → Bears old e who new) → RelayEnters old e new
 bears_enters law old new e who peer u same b = record {
   stands = λ j h. bears_stands law old new e who (b j h) j h;
   settings = same;
@@ -79,17 +79,17 @@ bears_enters law old new e who peer u same b = record {
 }
 
 -- an entry that means nothing for a peer: the relay is the same
-pub none_stands : (law : Below) (r : Relay) (e : Entry) → MeansNothing (mention e) → (j : List Entry) → RelayStandsFor r j → RelayStandsFor r (e ∷ j)
+pub none_stands : (law : BelowRelay) (r : Relay) (e : Entry) → MeansNothing (mention e) → (j : List Entry) → RelayStandsFor r j → RelayStandsFor r (e ∷ j)
 unfolding mentions
 none_stands law r e idle j h = record { peers = law.peers.idle_stands r.peers (mention e) (mentions j) h.peers idle; quiet = h.quiet }
 
-pub none_enters : (law : Below) (r : Relay) (e : Entry) → MeansNothing (mention e) → r.peers.moment ≤ e.moment → Enters r e r
+pub none_enters : (law : BelowRelay) (r : Relay) (e : Entry) → MeansNothing (mention e) → r.peers.moment ≤ e.moment → RelayEnters r e r
 none_enters law r e idle clock = record { stands = none_stands law r e idle; settings = refl; clock = clock }
 
 -- REFUSALS
 
 -- whatever keeps all stays as it was
-pub keeps_stays : (law : Below) (old new : Relay) (n : ℕ) → old.peers.moment ≤ n → KeepsAll old n new → AsBefore old new
+pub keeps_stays : (law : BelowRelay) (old new : Relay) (n : ℕ) → old.peers.moment ≤ n → RelayKeepsAll old n new → AsBefore old new
 keeps_stays law old new n clock k = record {
   stands = λ j h. record {
     peers = law.peers.kept_stands old.peers new.peers n (mentions j) h.peers clock k.peers;
@@ -101,7 +101,7 @@ keeps_stays law old new n clock k = record {
 }
 
 -- the entry of a packet of a host, which a relay doesn't have
-pub takes_no_host : (law : Below) (r : Relay) (n : ℕ) (x : List ℕ) → r.peers.moment ≤ n → Does r n (given x) (just fate.Idle) r
+pub takes_no_host : (law : BelowRelay) (r : Relay) (n : ℕ) (x : List ℕ) → r.peers.moment ≤ n → Does r n (given x) (just fate.Idle) r
 takes_no_host law r n x l =
     let entered = none_enters law r (entry n (given x) None None (just fate.Idle)) (bears_nothing refl) l in
     record { did = λ j h. refl; stands = entered.stands; settings = refl; clock = l }

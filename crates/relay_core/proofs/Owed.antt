@@ -11,17 +11,17 @@ use Rattle.relay_core.specs.declared.relay.Relay.{Relay}
 use Rattle.relay_rules.specs.Journals.{relay_due}
 use Rattle.relay_core.specs.Relay.{RelayStandsFor, AsBefore}
 use Rattle.relay_core.specs.Endpoint.{owing, DoesDue}
-use Rattle.relay_core.specs.Below.{Below}
+use Rattle.relay_core.specs.Below.{BelowRelay}
 use Rattle.relay_core.proofs.Read.{read_same}
 
 -- WHEN
 
-pub due_told : (law : Below) (r : Relay) (n : ℕ) (d : Option ℕ) → r.peers.moment ≤ n → d ≡ option_map due_moment (first_due_in r.peers n) → (j : List Entry) → RelayStandsFor r j → d ≡ relay_due j n
+pub due_told : (law : BelowRelay) (r : Relay) (n : ℕ) (d : Option ℕ) → r.peers.moment ≤ n → d ≡ option_map due_moment (first_due_in r.peers n) → (j : List Entry) → RelayStandsFor r j → d ≡ relay_due j n
 unfolding relay_due
 due_told law r n d l e j h = let s = read_same law r j n h l in e ∙ (λ i. option_map due_moment (s.first i))
 
 -- where no peer has something before a moment, nothing is due before it
-pub none_sooner : (law : Below) (r : Relay) (m : ℕ) → ((n : ℕ) → IsNoSooner m (option_map due_moment (first_due_in r.peers n)))
+pub none_sooner : (law : BelowRelay) (r : Relay) (m : ℕ) → ((n : ℕ) → IsNoSooner m (option_map due_moment (first_due_in r.peers n)))
     → (j : List Entry) (n : ℕ) → RelayStandsFor r j → r.peers.moment ≤ n → IsNoSooner m (relay_due j n)
 none_sooner law r m peers j n h l = subst (IsNoSooner m) (due_told law r n (option_map due_moment (first_due_in r.peers n)) l refl j h) (peers n)
 

@@ -3,6 +3,7 @@ use Rattle.std.proofs.Common.{◌≡◌, ◌≤◌, ℕ, Bool, true, false, List
 use Rattle.std.specs.Prelude.{if◌then◌else◌}
 use Rattle.td_base.specs.declared.ipv6.Ip6.{Ip6}
 use Rattle.td_base.specs.declared.endpoint.Ep.{Ep}
+use Rattle.bubble.specs.PayloadOf.{IsPayloadOf}
 use Rattle.bubble.specs.Payloads.{Value}
 use Rattle.bubble.specs.Reads.{is_payload, value_in}
 use Rattle.bubble.specs.PacketsIn.{source_in, packet_in}
@@ -15,14 +16,14 @@ use Rattle.relay_rules.specs.Bearings.{mentions}
 use Rattle.relay_rules.specs.Standing.{RelaySettings, Standing, standing_at, standing_of}
 use Rattle.relay_rules.specs.Reception.{seen_of, seen, reception_row, reception_step, reception}
 use Rattle.relay_rules.specs.Journals.{entry, relay_in}
-use Rattle.relay_core.specs.Relay.{settings_of, standing_in, RelayStandsFor, Does, TakesPayload, IsPayloadOf, fate_in}
-use Rattle.relay_core.specs.Below.{Below}
+use Rattle.relay_core.specs.Relay.{settings_of, relay_standing_in, RelayStandsFor, Does, RelayTakesPayload, relay_fate_in}
+use Rattle.relay_core.specs.Below.{BelowRelay}
 use Rattle.relay_core.proofs.Entered.{none_stands}
 
-pub read_same : (law : Below) (r : Relay) (j : List Entry) (n : ℕ) → RelayStandsFor r j → r.peers.moment ≤ n → SaysTheSame r.peers (mentions j) n
+pub read_same : (law : BelowRelay) (r : Relay) (j : List Entry) (n : ℕ) → RelayStandsFor r j → r.peers.moment ≤ n → SaysTheSame r.peers (mentions j) n
 read_same law r j n h l = law.peers.table_is_read r.peers (mentions j) n h.peers l
 
-pub standing_is : (law : Below) (r : Relay) (j : List Entry) (n : ℕ) (p : Ip6) → RelayStandsFor r j → r.peers.moment ≤ n → standing_in r n p ≡ standing_at j n p
+pub standing_is : (law : BelowRelay) (r : Relay) (j : List Entry) (n : ℕ) (p : Ip6) → RelayStandsFor r j → r.peers.moment ≤ n → relay_standing_in r n p ≡ standing_at j n p
 unfolding standing_at
 standing_is law r j n p h l = let s = read_same law r j n h l in λ i. record { moment = n; peer = s.peer p i; room = s.room p i }
 
@@ -37,15 +38,15 @@ reception_by : (s : RelaySettings) (a : Standing) (from : Ep) (x : List ℕ) (v 
 unfolding reception seen
 reception_by s a from x v b payload value = λ i. reception_step a x (value i) (reception_row (seen_of s a from (payload i) (value i)))
 
-step_there : (law : Below) (r : Relay) (j : List Entry) (n : ℕ) (from : Ep) (x : List ℕ) (v : Value) → RelayStandsFor r j → r.peers.moment ≤ n → is_payload x ≡ true → value_in x ≡ v
-    → reception (settings_of r) (standing_of j n (source_in x)) from x ≡ reception_step (standing_in r n v.packet.src) x v (fate_in r n from v)
+step_there : (law : BelowRelay) (r : Relay) (j : List Entry) (n : ℕ) (from : Ep) (x : List ℕ) (v : Value) → RelayStandsFor r j → r.peers.moment ≤ n → is_payload x ≡ true → value_in x ≡ v
+    → reception (settings_of r) (standing_of j n (source_in x)) from x ≡ reception_step (relay_standing_in r n v.packet.src) x v (relay_fate_in r n from v)
 step_there law r j n from x v h l payload value =
-    let a : standing_of j n (source_in x) ≡ standing_in r n v.packet.src = ap (standing_of j n) (source_there x v payload value) ∙ sym (standing_is law r j n v.packet.src h l) in
+    let a : standing_of j n (source_in x) ≡ relay_standing_in r n v.packet.src = ap (standing_of j n) (source_there x v payload value) ∙ sym (standing_is law r j n v.packet.src h l) in
     ap (λ (b : Standing). reception (settings_of r) b from x) a
-    ∙ reception_by (settings_of r) (standing_in r n v.packet.src) from x v true payload value
+    ∙ reception_by (settings_of r) (relay_standing_in r n v.packet.src) from x v true payload value
 
-pub received : (law : Below) (old new : Relay) (n : ℕ) (from : Ep) (x : List ℕ) (v : Value) (step : Step) → is_payload x ≡ true → IsPayloadOf x v → old.peers.moment ≤ n
-    → TakesPayload old n from v (fate_in old n from v) step new → Does old n (arrived from x) step new
+pub received : (law : BelowRelay) (old new : Relay) (n : ℕ) (from : Ep) (x : List ℕ) (v : Value) (step : Step) → is_payload x ≡ true → IsPayloadOf x v → old.peers.moment ≤ n
+    → RelayTakesPayload old n from v (relay_fate_in old n from v) step new → Does old n (arrived from x) step new
 unfolding relay_in
 received law old new n from x v step payload is l r =
     let did : (j : List Entry) → RelayStandsFor old j → step ≡ reception (settings_of old) (standing_of j n (source_in x)) from x =
@@ -63,7 +64,7 @@ malformed_by : (s : RelaySettings) (a : Standing) (from : Ep) (x : List ℕ) →
 unfolding reception seen
 malformed_by s a from x isnt = λ i. reception_step a x (value_in x) (reception_row (seen_of s a from (isnt i) (value_in x)))
 
-pub malformed : (law : Below) (r : Relay) (n : ℕ) (from : Ep) (x : List ℕ) → r.peers.moment ≤ n → is_payload x ≡ false → Does r n (arrived from x) (just fate.Malformed) r
+pub malformed : (law : BelowRelay) (r : Relay) (n : ℕ) (from : Ep) (x : List ℕ) → r.peers.moment ≤ n → is_payload x ≡ false → Does r n (arrived from x) (just fate.Malformed) r
 unfolding relay_in
 malformed law r n from x l isnt =
     let whole : (j : List Entry) → just fate.Malformed ≡ reception (settings_of r) (standing_of j n (source_in x)) from x =

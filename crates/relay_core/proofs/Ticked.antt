@@ -17,8 +17,8 @@ use Rattle.relay_core.specs.declared.relay.Relay.{Relay}
 use Rattle.relay_rules.specs.Transmission.{bubble_to}
 use Rattle.relay_rules.specs.Ticks.{peer_of_due, tries_peer, tick}
 use Rattle.relay_rules.specs.Journals.{entry, first_peer, relay_tick}
-use Rattle.relay_core.specs.Relay.{settings_of, RelayStandsFor, Enters, Does}
-use Rattle.relay_core.specs.Below.{Below}
+use Rattle.relay_core.specs.Relay.{settings_of, RelayStandsFor, RelayEnters, Does}
+use Rattle.relay_core.specs.Below.{BelowRelay}
 use Rattle.relay_core.proofs.Entered.{bears_enters, none_enters}
 use Rattle.relay_core.proofs.Read.{read_same}
 
@@ -26,11 +26,11 @@ use Rattle.relay_core.proofs.Read.{read_same}
 abbrev pub due_now : Relay → ℕ → Option Listing
 due_now r n = due_by n (first_due_in r.peers n)
 
-due_there : (law : Below) (r : Relay) (j : List Entry) (n : ℕ) → RelayStandsFor r j → r.peers.moment ≤ n → due_now r n ≡ due_by n (first_peer j n)
+due_there : (law : BelowRelay) (r : Relay) (j : List Entry) (n : ℕ) → RelayStandsFor r j → r.peers.moment ≤ n → due_now r n ≡ due_by n (first_peer j n)
 due_there law r j n h l = let s = read_same law r j n h l in λ i. due_by n (s.first i)
 
-pub ticked_does : (law : Below) (old new : Relay) (n : ℕ) (due : Option Listing) (step : Step) → old.peers.moment ≤ n → due_now old n ≡ due → step ≡ tick (settings_of old) n due
-    → Enters old (entry n ticked None (peer_of_due due) step) new → Does old n ticked step new
+pub ticked_does : (law : BelowRelay) (old new : Relay) (n : ℕ) (due : Option Listing) (step : Step) → old.peers.moment ≤ n → due_now old n ≡ due → step ≡ tick (settings_of old) n due
+    → RelayEnters old (entry n ticked None (peer_of_due due) step) new → Does old n ticked step new
 unfolding relay_tick
 ticked_does law old new n due step l is did entered =
     let whole : (j : List Entry) → RelayStandsFor old j → step ≡ tick (settings_of old) n (due_by n (first_peer j n)) =
@@ -45,13 +45,13 @@ ticked_does law old new n due step l is did entered =
     }
 
 -- nothing is due
-pub idles : (law : Below) (r : Relay) (n : ℕ) → r.peers.moment ≤ n → due_now r n ≡ None → Does r n ticked (just fate.Idle) r
+pub idles : (law : BelowRelay) (r : Relay) (n : ℕ) → r.peers.moment ≤ n → due_now r n ≡ None → Does r n ticked (just fate.Idle) r
 idles law r n l is = ticked_does law r r n None (just fate.Idle) l is refl (none_enters law r (entry n ticked None None (just fate.Idle)) (about_nobody refl) l)
 
 -- a peer is due, which is spent or not
-pub does_peer : (law : Below) (old new : Relay) (n : ℕ) (who : Ip6) (spent : Bool) (step : Step) → old.peers.moment ≤ n → due_now old n ≡ Some (listing_at old.peers n who)
+pub does_peer : (law : BelowRelay) (old new : Relay) (n : ℕ) (who : Ip6) (spent : Bool) (step : Step) → old.peers.moment ≤ n → due_now old n ≡ Some (listing_at old.peers n who)
     → is_spent n (known_to old.peers n who) ≡ spent → step ≡ tries_peer spent (settings_of old) (listing_at old.peers n who)
-    → Enters old (entry n ticked None (Some who) step) new → Does old n ticked step new
+    → RelayEnters old (entry n ticked None (Some who) step) new → Does old n ticked step new
 does_peer law old new n who spent step l is so did entered =
     ticked_does law old new n (Some (listing_at old.peers n who)) step l is (did ∙ ap (λ (b : Bool). tries_peer b (settings_of old) (listing_at old.peers n who)) (sym so)) entered
 
@@ -59,8 +59,8 @@ does_peer law old new n who spent step l is so did entered =
 waits_not : (xs : List (List ℕ)) → xs ≡ [] → is_none xs ≡ false → ⊥
 waits_not xs e h = false≢true (sym h ∙ ap (λ (ys : List (List ℕ)). is_none ys) e)
 
-pub gave_up : (law : Below) (old new : Relay) (n : ℕ) (who : Ip6) (gone : ℕ) → old.peers.moment ≤ n → Updates old.peers new.peers n who (emptied (known_to old.peers n who))
-    → settings_of new ≡ settings_of old → Enters old (entry n ticked None (Some who) (record (just fate.GiveUp) { gone = gone })) new
+pub gave_up : (law : BelowRelay) (old new : Relay) (n : ℕ) (who : Ip6) (gone : ℕ) → old.peers.moment ≤ n → Updates old.peers new.peers n who (emptied (known_to old.peers n who))
+    → settings_of new ≡ settings_of old → RelayEnters old (entry n ticked None (Some who) (record (just fate.GiveUp) { gone = gone })) new
 gave_up law old new n who gone l u same =
     let known = known_to old.peers n who in
     bears_enters law old new (entry n ticked None (Some who) (record (just fate.GiveUp) { gone = gone })) who (emptied known) u same (λ j h. record {
@@ -70,8 +70,8 @@ gave_up law old new n who gone l u same =
       quiet = λ cone before. record { tries = before.tries; waiting = refl };
     })
 
-pub tried_again : (law : Below) (old new : Relay) (n : ℕ) (who : Ip6) → old.peers.moment ≤ n → IsOverdue old.peers n who → Updates old.peers new.peers n who (tried_at n None (known_to old.peers n who))
-    → settings_of new ≡ settings_of old → Enters old (entry n ticked None (Some who) (sending fate.Bubbles (bubble_to (settings_of old) who ∷ []))) new
+pub tried_again : (law : BelowRelay) (old new : Relay) (n : ℕ) (who : Ip6) → old.peers.moment ≤ n → IsOverdue old.peers n who → Updates old.peers new.peers n who (tried_at n None (known_to old.peers n who))
+    → settings_of new ≡ settings_of old → RelayEnters old (entry n ticked None (Some who) (sending fate.Bubbles (bubble_to (settings_of old) who ∷ []))) new
 tried_again law old new n who l due u same =
     let known = known_to old.peers n who in
     bears_enters law old new (entry n ticked None (Some who) (sending fate.Bubbles (bubble_to (settings_of old) who ∷ []))) who (tried_at n None known) u same (λ j h. record {

@@ -14,7 +14,7 @@ use Rattle.teredo_node.specs.Sends.{send, sending}
 use Rattle.teredo_node.specs.Journal.{Entry, from_six}
 use Rattle.peer_list.specs.Peers.{Peer, peer_at}
 use Rattle.peer_list.specs.Table.{Table, peer_in, known_to}
-use Rattle.peer_list.specs.Calls.{Updates, touched_at, trusted_at, queued_at, tried_at}
+use Rattle.peer_list.specs.Calls.{Updates, TriesUnless, touched_at, trusted_at, queued_at, tried_at}
 use Rattle.peer_list.specs.Stands.{bears_nothing}
 use Rattle.relay_core.specs.declared.relay.Relay.{Relay}
 use Rattle.relay_rules.specs.Bearings.{mentions}
@@ -23,9 +23,9 @@ use Rattle.relay_rules.specs.Transmission.{given_of, queues, transmission_row, t
 use Rattle.relay_rules.specs.Transmission as table
 use Rattle.relay_rules.specs.Journals.{entry, relay_six}
 use Rattle.relay_rules.specs.Laws.{IsQuiet}
-use Rattle.relay_core.specs.Relay.{settings_of, standing_in, RelayStandsFor, Enters, Does, TriesUnless, WantsMemory, to_wait, to_list}
-use Rattle.relay_core.specs.Lines.{DropsPacket, given_to}
-use Rattle.relay_core.specs.Below.{Below}
+use Rattle.relay_core.specs.Relay.{settings_of, relay_standing_in, RelayStandsFor, RelayEnters, Does, WantsMemory, to_wait, to_list}
+use Rattle.relay_core.specs.Lines.{RelayDropsPacket, given_to_relay}
+use Rattle.relay_core.specs.Below.{BelowRelay}
 use Rattle.relay_core.proofs.Entered.{bears_enters, none_enters, none_stands}
 use Rattle.relay_core.proofs.Read.{read_same, standing_is}
 
@@ -42,7 +42,7 @@ packet_there : (x : List ℕ) → is_packet x ≡ true → packet_given x ≡ So
 unfolding packet_given
 packet_there x packet = λ i. if packet i then Some x else None
 
-standing_there : (law : Below) (r : Relay) (j : List Entry) (n : ℕ) (x : List ℕ) (p : Fields) → RelayStandsFor r j → r.peers.moment ≤ n → IsFields x p → standing_of j n (destination_in x) ≡ standing_in r n p.dst
+standing_there : (law : BelowRelay) (r : Relay) (j : List Entry) (n : ℕ) (x : List ℕ) (p : Fields) → RelayStandsFor r j → r.peers.moment ≤ n → IsFields x p → standing_of j n (destination_in x) ≡ relay_standing_in r n p.dst
 standing_there law r j n x p h l is = ap (standing_of j n) (destination_there x p is) ∙ sym (standing_is law r j n p.dst h l)
 
 transmission_by : (s : RelaySettings) (a : Standing) (x : List ℕ) (p : Fields) → IsFields x p → transmission s a x ≡ transmission_step s a x p.dst (transmission_row (given_of s a true p))
@@ -50,19 +50,19 @@ unfolding transmission table.given
 transmission_by s a x p is = λ i. transmission_step s a x (is.fields i).dst (transmission_row (given_of s a (is.packet i) (is.fields i)))
 
 -- what the table gives, as the relay reads itself
-transmission_there : (law : Below) (r : Relay) (j : List Entry) (n : ℕ) (x : List ℕ) (p : Fields) → RelayStandsFor r j → r.peers.moment ≤ n → IsFields x p
-    → transmission (settings_of r) (standing_of j n (destination_in x)) x ≡ transmission_step (settings_of r) (standing_in r n p.dst) x p.dst (transmission_row (given_to r n p))
+transmission_there : (law : BelowRelay) (r : Relay) (j : List Entry) (n : ℕ) (x : List ℕ) (p : Fields) → RelayStandsFor r j → r.peers.moment ≤ n → IsFields x p
+    → transmission (settings_of r) (standing_of j n (destination_in x)) x ≡ transmission_step (settings_of r) (relay_standing_in r n p.dst) x p.dst (transmission_row (given_to_relay r n p))
 transmission_there law r j n x p h l is =
-    ap (λ (a : Standing). transmission (settings_of r) a x) (standing_there law r j n x p h l is) ∙ transmission_by (settings_of r) (standing_in r n p.dst) x p is
+    ap (λ (a : Standing). transmission (settings_of r) a x) (standing_there law r j n x p h l is) ∙ transmission_by (settings_of r) (relay_standing_in r n p.dst) x p is
 
 -- what a line did with it
-pub transmitted : (law : Below) (old new : Relay) (n : ℕ) (x : List ℕ) (p : Fields) (f : Fate) (step : Step) → IsFields x p → old.peers.moment ≤ n
-    → f ≡ transmission_row (given_to old n p) → step ≡ transmission_step (settings_of old) (standing_in old n p.dst) x p.dst f
-    → Enters old (entry n (from_six x) (Some x) (Some p.dst) step) new → Does old n (from_six x) step new
+pub transmitted : (law : BelowRelay) (old new : Relay) (n : ℕ) (x : List ℕ) (p : Fields) (f : Fate) (step : Step) → IsFields x p → old.peers.moment ≤ n
+    → f ≡ transmission_row (given_to_relay old n p) → step ≡ transmission_step (settings_of old) (relay_standing_in old n p.dst) x p.dst f
+    → RelayEnters old (entry n (from_six x) (Some x) (Some p.dst) step) new → Does old n (from_six x) step new
 unfolding relay_six
 transmitted law old new n x p f step is l row did entered =
     let whole : (j : List Entry) → RelayStandsFor old j → step ≡ transmission (settings_of old) (standing_of j n (destination_in x)) x =
-    (λ j h. did ∙ ap (λ (g : Fate). transmission_step (settings_of old) (standing_in old n p.dst) x p.dst g) row ∙ sym (transmission_there law old j n x p h l is)) in
+    (λ j h. did ∙ ap (λ (g : Fate). transmission_step (settings_of old) (relay_standing_in old n p.dst) x p.dst g) row ∙ sym (transmission_there law old j n x p h l is)) in
     record {
       did = whole;
       stands = λ j h. subst (λ (e : Entry). RelayStandsFor new (e ∷ j))
@@ -73,12 +73,12 @@ transmitted law old new n x p f step is l row did entered =
 
 -- THE LINES
 
-pub drops_packet : (law : Below) (r : Relay) (n : ℕ) (x : List ℕ) (p : Fields) (f : Fate) → IsFields x p → r.peers.moment ≤ n → f ≡ transmission_row (given_to r n p) → DropsPacket f → Does r n (from_six x) (just f) r
+pub drops_packet : (law : BelowRelay) (r : Relay) (n : ℕ) (x : List ℕ) (p : Fields) (f : Fate) → IsFields x p → r.peers.moment ≤ n → f ≡ transmission_row (given_to_relay r n p) → RelayDropsPacket f → Does r n (from_six x) (just f) r
 drops_packet law r n x p f is l row d =
     let e : Entry = entry n (from_six x) (Some x) (Some p.dst) (just f) in
-    transmitted law r r n x p f (just f) is l row (sym (d.step (settings_of r) (standing_in r n p.dst) x p.dst)) (none_enters law r e (bears_nothing (d.nothing e)) l)
+    transmitted law r r n x p f (just f) is l row (sym (d.step (settings_of r) (relay_standing_in r n p.dst) x p.dst)) (none_enters law r e (bears_nothing (d.nothing e)) l)
 
-pub sent : (law : Below) (old new : Relay) (n : ℕ) (x : List ℕ) (p : Fields) → IsFields x p → old.peers.moment ≤ n → fate.Sent ≡ transmission_row (given_to old n p)
+pub sent : (law : BelowRelay) (old new : Relay) (n : ℕ) (x : List ℕ) (p : Fields) → IsFields x p → old.peers.moment ≤ n → fate.Sent ≡ transmission_row (given_to_relay old n p)
     → Updates old.peers new.peers n p.dst (touched_at n (known_to old.peers n p.dst)) → settings_of new ≡ settings_of old
     → Does old n (from_six x) (sending fate.Sent (send (embedded p.dst) x ∷ [])) new
 sent law old new n x p is l row u same =
@@ -93,10 +93,10 @@ sent law old new n x p is l row u same =
     }))
 
 -- an address with the cone bit that was listed and trusted where it says
-pub sent_cone : (law : Below) (old mid new : Relay) (n : ℕ) (who : Ip6) (x : List ℕ) → old.peers.moment ≤ n → has_cone who ≡ true
+pub sent_cone : (law : BelowRelay) (old mid new : Relay) (n : ℕ) (who : Ip6) (x : List ℕ) → old.peers.moment ≤ n → has_cone who ≡ true
     → Updates old.peers mid.peers n who (touched_at n (known_to old.peers n who)) → Updates mid.peers new.peers n who (trusted_at n (embedded who) (known_to mid.peers n who))
     → settings_of new ≡ settings_of old
-    → Enters old (entry n (from_six x) (Some x) (Some who) (sending fate.SentCone (send (embedded who) x ∷ []))) new
+    → RelayEnters old (entry n (from_six x) (Some x) (Some who) (sending fate.SentCone (send (embedded who) x ∷ []))) new
 sent_cone law old mid new n who x l cone listed trusted same =
     let known = known_to old.peers n who in
     let u : Updates old.peers new.peers n who (trusted_at n (embedded who) known) = (law.peers.touch_goes_on old.peers mid.peers n who (touched_at n known) refl listed).next new.peers (trusted_at n (embedded who)) trusted in
@@ -113,11 +113,11 @@ pub record Waits (old : Relay) (n : ℕ) (who : Ip6) (x : List ℕ) (barred : Bo
   pub plain : has_cone who ≡ false
   pub mid : Table
   pub waits : Updates old.peers mid n who (queued_at n x (known_to old.peers n who))
-  pub tries : TriesUnless barred mid n who new.peers
+  pub tries : TriesUnless barred mid n who None new.peers
   pub settings : settings_of new ≡ settings_of old
 
-pub queued : (law : Below) (old new : Relay) (n : ℕ) (who : Ip6) (x : List ℕ) (barred : Bool) → Waits old n who x barred new
-    → Enters old (entry n (from_six x) (Some x) (Some who) (queues barred (settings_of old) who)) new
+pub queued : (law : BelowRelay) (old new : Relay) (n : ℕ) (who : Ip6) (x : List ℕ) (barred : Bool) → Waits old n who x barred new
+    → RelayEnters old (entry n (from_six x) (Some x) (Some who) (queues barred (settings_of old) who)) new
 queued law old new n who x true k =
     let known = known_to old.peers n who in
     let u : Updates old.peers new.peers n who (queued_at n x known) = subst (λ (t : Table). Updates old.peers t n who (queued_at n x known)) (sym k.tries) k.waits in
@@ -144,7 +144,7 @@ unfolding transmission table.given
 malformed_by s a x isnt = λ i. transmission_step s a x (fields_in x).dst (transmission_row (given_of s a (isnt i) (fields_in x)))
 
 -- whatever it is about, nothing is done
-pub malformed : (law : Below) (r : Relay) (n : ℕ) (x : List ℕ) → r.peers.moment ≤ n → is_packet x ≡ false → Does r n (from_six x) (just fate.Malformed) r
+pub malformed : (law : BelowRelay) (r : Relay) (n : ℕ) (x : List ℕ) → r.peers.moment ≤ n → is_packet x ≡ false → Does r n (from_six x) (just fate.Malformed) r
 unfolding relay_six
 malformed law r n x l isnt =
     let whole : (j : List Entry) → just fate.Malformed ≡ transmission (settings_of r) (standing_of j n (destination_in x)) x =
@@ -166,17 +166,17 @@ short x p small inside = let most = ltb-false _ _ small in omega (arith, inside,
 
 -- WHERE MEMORY WAS WANTING
 
-fate_there : (law : Below) (r : Relay) (j : List Entry) (n : ℕ) (x : List ℕ) (p : Fields) → RelayStandsFor r j → r.peers.moment ≤ n → IsFields x p
-    → (relay_six (settings_of r) j n x).step.fate ≡ transmission_row (given_to r n p)
+fate_there : (law : BelowRelay) (r : Relay) (j : List Entry) (n : ℕ) (x : List ℕ) (p : Fields) → RelayStandsFor r j → r.peers.moment ≤ n → IsFields x p
+    → (relay_six (settings_of r) j n x).step.fate ≡ transmission_row (given_to_relay r n p)
 unfolding relay_six table.given
 fate_there law r j n x p h l is =
     let a = standing_there law r j n x p h l is in
     law.fate_of_transmission (settings_of r) (standing_of j n (destination_in x)) x ∙ (λ i. transmission_row (given_of (settings_of r) (a i) (is.packet i) (is.fields i)))
 
-pub wants_queue : (law : Below) (r : Relay) (n : ℕ) (x : List ℕ) (p : Fields) → IsFields x p → r.peers.moment ≤ n → fate.Queued ≡ transmission_row (given_to r n p) → WantsMemory r n x
+pub wants_queue : (law : BelowRelay) (r : Relay) (n : ℕ) (x : List ℕ) (p : Fields) → IsFields x p → r.peers.moment ≤ n → fate.Queued ≡ transmission_row (given_to_relay r n p) → WantsMemory r n x
 wants_queue law r n x p is l row j h = to_wait (fate_there law r j n x p h l is ∙ sym row)
 
-pub wants_place : (law : Below) (r : Relay) (n : ℕ) (x : List ℕ) (p : Fields) → IsFields x p → r.peers.moment ≤ n → fate.SentCone ≡ transmission_row (given_to r n p)
+pub wants_place : (law : BelowRelay) (r : Relay) (n : ℕ) (x : List ℕ) (p : Fields) → IsFields x p → r.peers.moment ≤ n → fate.SentCone ≡ transmission_row (given_to_relay r n p)
     → is_some (peer_in r.peers n p.dst) ≡ false → WantsMemory r n x
 wants_place law r n x p is l row unlisted j h =
     to_list (fate_there law r j n x p h l is ∙ sym row)

@@ -2,6 +2,6 @@
 use Rattle.peer_list.specs.Stands.{TableLaws}
 use Rattle.relay_rules.specs.Laws.{FateOfTransmission}
 
-pub record Below : Type 0 where
+pub record BelowRelay : Type 0 where
   pub peers : TableLaws
   pub fate_of_transmission : FateOfTransmission

@@ -22,55 +22,55 @@ use Rattle.relay_rules.specs.Bearings.{bearing_of}
 use Rattle.relay_rules.specs.Standing.{RelaySettings, Standing, known_in}
 use Rattle.relay_rules.specs.Reception.{Seen, seen_of, reception_step}
 use Rattle.relay_rules.specs.Transmission.{Given, given_of, transmission_step}
-use Rattle.relay_core.specs.Relay.{settings_of, standing_in}
+use Rattle.relay_core.specs.Relay.{settings_of, relay_standing_in}
 
 -- a fate that means nothing for any peer
-abbrev pub SaysNothing : Fate → Type 0
-SaysNothing f = (e : Entry) → bearing_of f e ≡ no_bearing
+abbrev pub SaysNothingOfPeers : Fate → Type 0
+SaysNothingOfPeers f = (e : Entry) → bearing_of f e ≡ no_bearing
 
 -- DATAGRAMS
 
-abbrev pub fate_of : ReceptionLine → Fate
-fate_of (line.Drop f) = f
-fate_of line.FromClientBubble = fate.FromClientBubble
-fate_of line.FromClient = fate.FromClient
-fate_of line.Unserved = fate.Unserved
+abbrev pub relay_fate_of : ReceptionLine → Fate
+relay_fate_of (line.Drop f) = f
+relay_fate_of line.FromClientBubble = fate.FromClientBubble
+relay_fate_of line.FromClient = fate.FromClient
+relay_fate_of line.Unserved = fate.Unserved
 
 -- the fate of a packet of a listed client
 abbrev pub client_row : Seen → Fate
 client_row a = first_line ((a.bubble, fate.FromClientBubble) ∷ (a.served, fate.FromClient) ∷ []) fate.Unserved
 
 -- what a relay sees of a payload from `from` at n
-abbrev pub seen_by : Relay → ℕ → Ep → Value → Seen
-seen_by r n from v = seen_of (settings_of r) (standing_in r n v.packet.src) from true v
+abbrev pub seen_by_relay : Relay → ℕ → Ep → Value → Seen
+seen_by_relay r n from v = seen_of (settings_of r) (relay_standing_in r n v.packet.src) from true v
 
 -- it does nothing with a datagram
-pub record DropsDatagram (f : Fate) : Type 0 where
-  pub nothing : SaysNothing f
+pub record RelayDropsDatagram (f : Fate) : Type 0 where
+  pub nothing : SaysNothingOfPeers f
   pub step : (a : Standing) (x : List ℕ) (v : Value) → reception_step a x v f ≡ just f
 
 -- what holds where a line is found, at this standing to the payload's source
-abbrev pub WarrantsDatagram : Standing → ReceptionLine → Type 0
-WarrantsDatagram a (line.Drop f) = DropsDatagram f
-WarrantsDatagram a line.FromClientBubble = is_some a.peer ≡ true
-WarrantsDatagram a line.FromClient = is_some a.peer ≡ true
-WarrantsDatagram a line.Unserved = is_some a.peer ≡ true
+abbrev pub RelayWarrantsDatagram : Standing → ReceptionLine → Type 0
+RelayWarrantsDatagram a (line.Drop f) = RelayDropsDatagram f
+RelayWarrantsDatagram a line.FromClientBubble = is_some a.peer ≡ true
+RelayWarrantsDatagram a line.FromClient = is_some a.peer ≡ true
+RelayWarrantsDatagram a line.Unserved = is_some a.peer ≡ true
 
 -- PACKETS OF THE IPV6 SIDE
 
-abbrev pub fate_for : TransmissionLine → Fate
-fate_for (six.Drop f) = f
-fate_for six.Sent = fate.Sent
-fate_for six.SentCone = fate.SentCone
-fate_for six.Queued = fate.Queued
+abbrev pub relay_fate_for : TransmissionLine → Fate
+relay_fate_for (six.Drop f) = f
+relay_fate_for six.Sent = fate.Sent
+relay_fate_for six.SentCone = fate.SentCone
+relay_fate_for six.Queued = fate.Queued
 
 -- what a relay sees of a packet at n
-abbrev pub given_to : Relay → ℕ → Fields → Given
-given_to r n p = given_of (settings_of r) (standing_in r n p.dst) true p
+abbrev pub given_to_relay : Relay → ℕ → Fields → Given
+given_to_relay r n p = given_of (settings_of r) (relay_standing_in r n p.dst) true p
 
 -- it does nothing with a packet
-pub record DropsPacket (f : Fate) : Type 0 where
-  pub nothing : SaysNothing f
+pub record RelayDropsPacket (f : Fate) : Type 0 where
+  pub nothing : SaysNothingOfPeers f
   pub step : (s : RelaySettings) (a : Standing) (x : List ℕ) (p : Ip6) → transmission_step s a x p f ≡ just f
 
 -- that a packet may go to an address at once: there is room for it, and it has the cone bit
@@ -79,21 +79,21 @@ pub record MayPass (a : Standing) (p : Ip6) : Type 0 where
   pub cone : has_cone p ≡ true
 
 -- that a packet may wait for an address, which has no cone bit
-pub record MayWait (a : Standing) (p : Ip6) : Type 0 where
+pub record MayWaitAtRelay (a : Standing) (p : Ip6) : Type 0 where
   pub room : a.room ≡ true
   pub plain : has_cone p ≡ false
   pub free : is_full (known_in a) ≡ false
 
 -- what holds where a line is found, at this standing to the packet's destination
-abbrev pub WarrantsPacket : Standing → Ip6 → TransmissionLine → Type 0
-WarrantsPacket a p (six.Drop f) = DropsPacket f
-WarrantsPacket a p six.Sent = is_some a.peer ≡ true
-WarrantsPacket a p six.SentCone = MayPass a p
-WarrantsPacket a p six.Queued = MayWait a p
+abbrev pub RelayWarrantsPacket : Standing → Ip6 → TransmissionLine → Type 0
+RelayWarrantsPacket a p (six.Drop f) = RelayDropsPacket f
+RelayWarrantsPacket a p six.Sent = is_some a.peer ≡ true
+RelayWarrantsPacket a p six.SentCone = MayPass a p
+RelayWarrantsPacket a p six.Queued = MayWaitAtRelay a p
 
 -- a packet that is sent or waits isn't big
-abbrev pub IsCarried : Fields → TransmissionLine → Type 0
-IsCarried p (six.Drop f) = Unit {0}
-IsCarried p six.Sent = is_big p ≡ false
-IsCarried p six.SentCone = is_big p ≡ false
-IsCarried p six.Queued = is_big p ≡ false
+abbrev pub IsCarriedByRelay : Fields → TransmissionLine → Type 0
+IsCarriedByRelay p (six.Drop f) = Unit {0}
+IsCarriedByRelay p six.Sent = is_big p ≡ false
+IsCarriedByRelay p six.SentCone = is_big p ≡ false
+IsCarriedByRelay p six.Queued = is_big p ≡ false

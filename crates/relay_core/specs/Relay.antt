@@ -4,9 +4,8 @@ use Rattle.td_base.specs.declared.ipv6.Ip6.{Ip6}
 use Rattle.td_base.specs.declared.endpoint.Ep.{Ep}
 use Rattle.td_outside.specs.declared.clock.TheConstants.{CLOCK_END_MS}
 use Rattle.teredo_addr.specs.Teredo.{unspecified, has_cone}
-use Rattle.ipv6_packet.specs.declared.header.TheConstants.{HEADER}
 use Rattle.bubble.specs.Payloads.{Value}
-use Rattle.bubble.specs.Reads.{value_in}
+use Rattle.bubble.specs.PayloadOf.{IsPayloadOf}
 use Rattle.bubble.specs.PacketsIn.{packet_in, destination_in}
 use Rattle.teredo_node.specs.declared.fate.Fate.{Fate}
 use Rattle.teredo_node.specs.declared.fate.Fate.TheVariants as fate
@@ -14,7 +13,7 @@ use Rattle.teredo_node.specs.Step.{Step}
 use Rattle.teredo_node.specs.Journal.{Input, arrived, from_six, Entry}
 use Rattle.peer_list.specs.Peers.{peer_at}
 use Rattle.peer_list.specs.Table.{Table, peer_in, known_to, has_room_in}
-use Rattle.peer_list.specs.Calls.{tried_at, Updates, Keeps}
+use Rattle.peer_list.specs.Calls.{Keeps}
 use Rattle.peer_list.specs.Stands.{StandsForMentions}
 use Rattle.relay_core.specs.declared.relay.Relay.{Relay}
 use Rattle.relay_rules.specs.Bearings.{mentions}
@@ -38,8 +37,8 @@ pub record IsCallable (r : Relay) (n : ℕ) : Type 0 where
   pub early : n < CLOCK_END_MS
 
 -- how it stands to an address at n: what the tables read
-abbrev pub standing_in : Relay → ℕ → Ip6 → Standing
-standing_in r n p = record {
+abbrev pub relay_standing_in : Relay → ℕ → Ip6 → Standing
+relay_standing_in r n p = record {
   moment = n;
   peer = peer_in r.peers n p;
   room = has_room_in r.peers n p;
@@ -77,39 +76,29 @@ WantsMemory r n x = (j : List Entry) → RelayStandsFor r j → TakesRoom r n x 
 -- THE LAST ENTRY OF ITS JOURNALS
 
 -- for each journal that it stood for it stands for that journal with this entry
-pub record Enters (old : Relay) (e : Entry) (new : Relay) : Type 0 where
+pub record RelayEnters (old : Relay) (e : Entry) (new : Relay) : Type 0 where
   pub stands : (j : List Entry) → RelayStandsFor old j → RelayStandsFor new (e ∷ j)
   pub settings : settings_of new ≡ settings_of old
   pub clock : new.peers.moment ≤ e.moment
 
 -- memory was wanting, and nothing changed but that others may have been taken out
-pub record KeepsAll (old : Relay) (n : ℕ) (new : Relay) : Type 0 where
+pub record RelayKeepsAll (old : Relay) (n : ℕ) (new : Relay) : Type 0 where
   pub peers : Keeps old.peers new.peers n
   pub settings : settings_of new ≡ settings_of old
-
--- a peer was tried, unless it is barred
-abbrev pub TriesUnless : (barred : Bool) → Table → ℕ → Ip6 → Table → Type 0
-TriesUnless true old n who new = new ≡ old
-TriesUnless false old n who new = Updates old new n who (tried_at n None (known_to old n who))
 
 -- DATAGRAMS
 
 -- a datagram of this payload from `from` has this fate, by what a relay sees
-abbrev pub fate_in : Relay → ℕ → Ep → Value → Fate
-fate_in r n from v = reception_row (seen_of (settings_of r) (standing_in r n v.packet.src) from true v)
+abbrev pub relay_fate_in : Relay → ℕ → Ep → Value → Fate
+relay_fate_in r n from v = reception_row (seen_of (settings_of r) (relay_standing_in r n v.packet.src) from true v)
 
 -- the entry of a datagram x about `who`, where this was done
-abbrev pub entry_about : ℕ → Ep → List ℕ → Ip6 → Step → Entry
-entry_about n from x who step = entry n (arrived from x) (packet_in x) (Some who) step
-
--- x spells this payload
-pub record IsPayloadOf (x : List ℕ) (v : Value) : Type 0 where
-  pub value : value_in x ≡ v
-  pub inside : v.lead.at + HEADER + length v.packet.body ≡ length x
+abbrev pub relay_entry_about : ℕ → Ep → List ℕ → Ip6 → Step → Entry
+relay_entry_about n from x who step = entry n (arrived from x) (packet_in x) (Some who) step
 
 -- what was done with a payload by the line of a fate
-pub record TakesPayload (old : Relay) (n : ℕ) (from : Ep) (v : Value) (f : Fate) (step : Step) (new : Relay) : Type 0 where
-  pub did : (x : List ℕ) → IsPayloadOf x v → step ≡ reception_step (standing_in old n v.packet.src) x v f
-  pub stands : (j : List Entry) (x : List ℕ) → RelayStandsFor old j → RelayStandsFor new (entry_about n from x v.packet.src step ∷ j)
+pub record RelayTakesPayload (old : Relay) (n : ℕ) (from : Ep) (v : Value) (f : Fate) (step : Step) (new : Relay) : Type 0 where
+  pub did : (x : List ℕ) → IsPayloadOf x v → step ≡ reception_step (relay_standing_in old n v.packet.src) x v f
+  pub stands : (j : List Entry) (x : List ℕ) → RelayStandsFor old j → RelayStandsFor new (relay_entry_about n from x v.packet.src step ∷ j)
   pub settings : settings_of new ≡ settings_of old
   pub clock : new.peers.moment ≤ n

@@ -1,9 +1,9 @@
 //! The laws of the crates below, in one.
-ghost use Rattle.relay_core.specs.Below.{Below};
+ghost use Rattle.relay_core.specs.Below.{BelowRelay};
 
 /// Does nothing: each law is the contract of a function below.
 pub(crate) fn below()
-    ensures { Below }
+    ensures { BelowRelay }
 {
     peer_list::table_laws();
     relay_rules::fate_of_transmission();

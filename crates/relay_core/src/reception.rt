@@ -6,7 +6,7 @@ ghost use Rattle.bubble.specs.Payloads.{view};
 ghost use Rattle.teredo_node.specs.declared.fate.Fate.{Fate};
 ghost use Rattle.teredo_node.specs.Journal.{arrived};
 ghost use Rattle.teredo_node.specs.Step.{just};
-ghost use Rattle.relay_core.specs.Relay.{fate_in, IsCallable, Does, TakesPayload};
+ghost use Rattle.relay_core.specs.Relay.{relay_fate_in, IsCallable, Does, RelayTakesPayload};
 
 use crate::below::below;
 use crate::reception_line::{ReceptionLine, line_of};
@@ -48,7 +48,7 @@ impl Relay {
     fn receive_payload(&mut self, now: Millis, from: Ep, payload: &Payload<'_>, step: &mut Step)
         requires callable { IsCallable self.old now.0 }
         requires short { length payload.now.packet.body.now ≤ DATAGRAM_MAX }
-        ensures { TakesPayload self.old now.0 from (view payload.now) (fate_in self.old now.0 from (view payload.now)) step.new self.new }
+        ensures { RelayTakesPayload self.old now.0 from (view payload.now) (relay_fate_in self.old now.0 from (view payload.now)) step.new self.new }
     {
         below();
         let who = payload.packet.src;

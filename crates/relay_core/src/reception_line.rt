@@ -8,8 +8,8 @@ ghost use Rattle.teredo_node.specs.declared.fate.Fate.{Fate};
 ghost use Rattle.teredo_node.specs.Rows.{first_line};
 ghost use Rattle.peer_list.specs.Table.{peer_in};
 ghost use Rattle.relay_rules.specs.Reception.{reception_row};
-ghost use Rattle.relay_core.specs.Relay.{settings_of, standing_in};
-ghost use Rattle.relay_core.specs.Lines.{fate_of, seen_by, client_row, WarrantsDatagram};
+ghost use Rattle.relay_core.specs.Relay.{settings_of, relay_standing_in};
+ghost use Rattle.relay_core.specs.Lines.{relay_fate_of, seen_by_relay, client_row, RelayWarrantsDatagram};
 
 use crate::relay::Relay;
 use bubble::{Payload, is_bubble};
@@ -35,8 +35,8 @@ pub enum ReceptionLine {
 /// The first line that holds for a payload that came from `from`.
 pub fn line_of(relay: &Relay, now: Millis, from: Ep, payload: &Payload<'_>) -> ReceptionLine
     requires clock { relay.now.peers.moment ≤ now.0 }
-    ensures row { fate_of result ≡ reception_row (seen_by relay.now now.0 from (view payload.now)) }
-    ensures warrant { WarrantsDatagram (standing_in relay.now now.0 payload.now.packet.src) result }
+    ensures row { relay_fate_of result ≡ reception_row (seen_by_relay relay.now now.0 from (view payload.now)) }
+    ensures warrant { RelayWarrantsDatagram (relay_standing_in relay.now now.0 payload.now.packet.src) result }
 {
     let source = payload.packet.src;
     // keyed: our choice
@@ -65,8 +65,8 @@ pub fn line_of(relay: &Relay, now: Millis, from: Ep, payload: &Payload<'_>) -> R
 /// The lines on packets of a listed client.
 fn line_of_client(relay: &Relay, now: Millis, from: Ep, payload: &Payload<'_>) -> ReceptionLine
     requires listed { is_some (peer_in relay.now.peers now.0 payload.now.packet.src) ≡ true }
-    ensures row { fate_of result ≡ client_row (seen_by relay.now now.0 from (view payload.now)) }
-    ensures warrant { WarrantsDatagram (standing_in relay.now now.0 payload.now.packet.src) result }
+    ensures row { relay_fate_of result ≡ client_row (seen_by_relay relay.now now.0 from (view payload.now)) }
+    ensures warrant { RelayWarrantsDatagram (relay_standing_in relay.now now.0 payload.now.packet.src) result }
 {
     // from_client_bubble: RFC 4380, section 5.4.2
     if is_bubble(&payload.packet) {

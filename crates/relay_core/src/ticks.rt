@@ -6,7 +6,7 @@ ghost use Rattle.peer_list.specs.Table.{known_to};
 ghost use Rattle.peer_list.specs.Overdue.{IsNoSooner, IsKeptDue, IsOverdue};
 ghost use Rattle.relay_rules.specs.Journals.{entry, relay_due};
 ghost use Rattle.relay_rules.specs.Ticks.{tries_peer};
-ghost use Rattle.relay_core.specs.Relay.{settings_of, RelayStandsFor, IsCallable, Enters, Does, AsBefore};
+ghost use Rattle.relay_core.specs.Relay.{settings_of, RelayStandsFor, IsCallable, RelayEnters, Does, AsBefore};
 ghost use Rattle.relay_core.specs.Endpoint.{IsRelayDue, owing, DoesDue};
 
 use crate::below::below;
@@ -41,7 +41,7 @@ impl Relay {
         requires callable { IsCallable self.old now.0 }
         requires overdue { IsOverdue self.old.peers now.0 who }
         ensures step { step.new ≡ tries_peer true (settings_of self.old) (record { who = who; peer = known_to self.old.peers now.0 who }) }
-        ensures entered { Enters self.old (entry now.0 ticked None (Some who) step.new) self.new }
+        ensures entered { RelayEnters self.old (entry now.0 ticked None (Some who) step.new) self.new }
         ensures less { DoesDue self.old self.new now.0 step.new }
     {
         below();
@@ -55,7 +55,7 @@ impl Relay {
         requires callable { IsCallable self.old now.0 }
         requires overdue { IsOverdue self.old.peers now.0 who }
         ensures step { step.new ≡ tries_peer false (settings_of self.old) (record { who = who; peer = known_to self.old.peers now.0 who }) }
-        ensures entered { Enters self.old (entry now.0 ticked None (Some who) step.new) self.new }
+        ensures entered { RelayEnters self.old (entry now.0 ticked None (Some who) step.new) self.new }
         ensures less { DoesDue self.old self.new now.0 step.new }
     {
         below();

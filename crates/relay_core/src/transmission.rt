@@ -1,5 +1,5 @@
 //! What a relay does with a packet of the IPv6 side.
-ghost use Rattle.std.specs.Prelude.{◌≡◌, ◌≤◌, ◌∷◌, [], true, false, Some, length, is_some, OnOk, OnErr};
+ghost use Rattle.std.specs.Prelude.{◌≡◌, ◌≤◌, ◌∷◌, [], true, false, Some, None, length, is_some, OnOk, OnErr};
 ghost use Rattle.ipv6_packet.specs.declared.header.TheConstants.{PACKET_MAX};
 ghost use Rattle.teredo_addr.specs.Teredo.{embedded, has_cone};
 ghost use Rattle.teredo_node.specs.declared.fate.Fate.{Fate};
@@ -7,9 +7,10 @@ ghost use Rattle.teredo_node.specs.Journal.{from_six};
 ghost use Rattle.teredo_node.specs.Sends.{send, sending};
 ghost use Rattle.peer_list.specs.Judged.{is_barred, is_full};
 ghost use Rattle.peer_list.specs.Table.{peer_in, known_to, has_room_in};
+ghost use Rattle.peer_list.specs.Calls.{TriesUnless};
 ghost use Rattle.relay_rules.specs.Transmission.{queues};
 ghost use Rattle.relay_rules.specs.Journals.{entry};
-ghost use Rattle.relay_core.specs.Relay.{settings_of, IsCallable, Enters, Does, AsBefore, KeepsAll, TriesUnless, WantsMemory};
+ghost use Rattle.relay_core.specs.Relay.{settings_of, IsCallable, RelayEnters, Does, AsBefore, RelayKeepsAll, WantsMemory};
 
 use crate::below::below;
 use crate::relay::Relay;
@@ -72,8 +73,8 @@ impl Relay {
         requires cone { has_cone who ≡ true }
         requires short { length bytes.now ≤ PACKET_MAX }
         ensures step { OnOk result (step.new ≡ sending Fate.SentCone (send (embedded who) bytes.now ∷ [])) }
-        ensures entered { OnOk result (Enters self.old (entry now.0 (from_six bytes.now) (Some bytes.now) (Some who) step.new) self.new) }
-        ensures kept { OnErr result (KeepsAll self.old now.0 self.new) }
+        ensures entered { OnOk result (RelayEnters self.old (entry now.0 (from_six bytes.now) (Some bytes.now) (Some who) step.new) self.new) }
+        ensures kept { OnErr result (RelayKeepsAll self.old now.0 self.new) }
         ensures unlisted { OnErr result (is_some (peer_in self.old.peers now.0 who) ≡ false) }
         ensures untouched { OnErr result (step.new ≡ step.old) }
     {
@@ -98,8 +99,8 @@ impl Relay {
         requires free { is_full (known_to self.old.peers now.0 who) ≡ false }
         requires short { length bytes.now ≤ PACKET_MAX }
         ensures step { OnOk result (step.new ≡ queues (is_barred now.0 (known_to self.old.peers now.0 who)) (settings_of self.old) who) }
-        ensures entered { OnOk result (Enters self.old (entry now.0 (from_six bytes.now) (Some bytes.now) (Some who) step.new) self.new) }
-        ensures kept { OnErr result (KeepsAll self.old now.0 self.new) }
+        ensures entered { OnOk result (RelayEnters self.old (entry now.0 (from_six bytes.now) (Some bytes.now) (Some who) step.new) self.new) }
+        ensures kept { OnErr result (RelayKeepsAll self.old now.0 self.new) }
         ensures untouched { OnErr result (step.new ≡ step.old) }
     {
         below();
@@ -114,7 +115,7 @@ impl Relay {
         requires callable { IsCallable self.old now.0 }
         requires listed { is_some (peer_in self.old.peers now.0 who) ≡ true }
         ensures step { step.new ≡ queues barred (settings_of self.old) who }
-        ensures peers { TriesUnless barred self.old.peers now.0 who self.new.peers }
+        ensures peers { TriesUnless barred self.old.peers now.0 who None self.new.peers }
         ensures settings { settings_of self.new ≡ settings_of self.old }
     {
         if barred {

@@ -8,8 +8,8 @@ ghost use Rattle.teredo_node.specs.declared.fate.Fate.{Fate};
 ghost use Rattle.teredo_node.specs.Rows.{first_line};
 ghost use Rattle.peer_list.specs.Table.{peer_in, known_to};
 ghost use Rattle.relay_rules.specs.Transmission.{destination_lines, transmission_row};
-ghost use Rattle.relay_core.specs.Relay.{settings_of, standing_in};
-ghost use Rattle.relay_core.specs.Lines.{fate_for, given_to, WarrantsPacket, IsCarried};
+ghost use Rattle.relay_core.specs.Relay.{settings_of, relay_standing_in};
+ghost use Rattle.relay_core.specs.Lines.{relay_fate_for, given_to_relay, RelayWarrantsPacket, IsCarriedByRelay};
 
 use crate::relay::Relay;
 use ipv6_packet::{Packet, is_big};
@@ -33,9 +33,9 @@ pub enum TransmissionLine {
 /// The first line that holds for a packet.
 pub fn line_for(relay: &Relay, now: Millis, packet: &Packet<'_>) -> TransmissionLine
     requires clock { relay.now.peers.moment ≤ now.0 }
-    ensures row { fate_for result ≡ transmission_row (given_to relay.now now.0 (packet_view packet.now)) }
-    ensures warrant { WarrantsPacket (standing_in relay.now now.0 packet.now.dst) packet.now.dst result }
-    ensures small { IsCarried (packet_view packet.now) result }
+    ensures row { relay_fate_for result ≡ transmission_row (given_to_relay relay.now now.0 (packet_view packet.now)) }
+    ensures warrant { RelayWarrantsPacket (relay_standing_in relay.now now.0 packet.now.dst) packet.now.dst result }
+    ensures small { IsCarriedByRelay (packet_view packet.now) result }
 {
     // big: our choice
     if is_big(packet) {
@@ -64,9 +64,9 @@ pub fn line_for(relay: &Relay, now: Millis, packet: &Packet<'_>) -> Transmission
 fn line_for_destination(relay: &Relay, now: Millis, packet: &Packet<'_>) -> TransmissionLine
     requires clock { relay.now.peers.moment ≤ now.0 }
     requires small { is_big (packet_view packet.now) ≡ false }
-    ensures row { fate_for result ≡ first_line (destination_lines (given_to relay.now now.0 (packet_view packet.now))) Fate.Queued }
-    ensures warrant { WarrantsPacket (standing_in relay.now now.0 packet.now.dst) packet.now.dst result }
-    ensures small { IsCarried (packet_view packet.now) result }
+    ensures row { relay_fate_for result ≡ first_line (destination_lines (given_to_relay relay.now now.0 (packet_view packet.now))) Fate.Queued }
+    ensures warrant { RelayWarrantsPacket (relay_standing_in relay.now now.0 packet.now.dst) packet.now.dst result }
+    ensures small { IsCarriedByRelay (packet_view packet.now) result }
 {
     let who = packet.dst;
     // sent: RFC 4380, section 5.4.1

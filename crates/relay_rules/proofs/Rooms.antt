@@ -15,7 +15,7 @@ use Rattle.peer_list.specs.Peers.{Peer, no_peer}
 use Rattle.peer_list.specs.Judged.{due_of}
 use Rattle.peer_list.specs.Waiting.{Listing}
 use Rattle.peer_list.specs.Laws.{FirstWaits}
-use Rattle.peer_list.specs.Few.{HasRoom, HaveRoom, FewListed}
+use Rattle.peer_list.specs.Few.{FindsRoom, HaveRoom, FewListed}
 use Rattle.peer_list.proofs.Rooms.{not_known, listed_has_room, room_by, room_of_none}
 use Rattle.relay_rules.specs.Bearings.{bearing_of, mention, mentions}
 use Rattle.relay_rules.specs.Standing.{RelaySettings, Standing, standing_at, standing_of}
@@ -71,7 +71,7 @@ sent_idle s a x room none =
 
 -- AN ENTRY
 
-of_datagram : (s : RelaySettings) (j : List Entry) (n : ℕ) (from : Ep) (x : List ℕ) → HasRoom (mention (relay_in s j n from x)) (mentions j)
+of_datagram : (s : RelaySettings) (j : List Entry) (n : ℕ) (from : Ep) (x : List ℕ) → FindsRoom (mention (relay_in s j n from x)) (mentions j)
 unfolding relay_in standing_at
 of_datagram s j n from x =
     let e : Entry = relay_in s j n from x in
@@ -80,7 +80,7 @@ of_datagram s j n from x =
     let out : a.peer ≡ None = ap (λ (o : Option Ip6). (standing_of j n o).peer) about ∙ not_known (mentions j) n p none in
     ap (λ (f : Fate). (bearing_of f e).touches) (fate_of_reception s a from x) ∙ received_idle s a from x out e)
 
-of_packet : (s : RelaySettings) (j : List Entry) (n : ℕ) (x : List ℕ) → HasRoom (mention (relay_six s j n x)) (mentions j)
+of_packet : (s : RelaySettings) (j : List Entry) (n : ℕ) (x : List ℕ) → FindsRoom (mention (relay_six s j n x)) (mentions j)
 unfolding relay_six standing_at
 of_packet s j n x =
     let e : Entry = relay_six s j n x in
@@ -91,11 +91,11 @@ of_packet s j n x =
     ap (λ (f : Fate). (bearing_of f e).touches) (fate_of_transmission s a x) ∙ sent_idle s a x room out e)
 
 -- a listed peer is tried
-of_tick : FirstWaits → (s : RelaySettings) (j : List Entry) (n : ℕ) → HasRoom (mention (relay_tick s j n)) (mentions j)
+of_tick : FirstWaits → (s : RelaySettings) (j : List Entry) (n : ℕ) → FindsRoom (mention (relay_tick s j n)) (mentions j)
 unfolding relay_tick
 of_tick first s j n = by_peer (first_peer j n) refl where
   finds : Option Listing → Type 0
-  finds due = HasRoom (mention (ticks s n due)) (mentions j)
+  finds due = FindsRoom (mention (ticks s n due)) (mentions j)
 
   by_time : (b : Bool) (l : Listing) → first_peer j n ≡ Some l → finds (cond b (Some l) None)
   by_time true l is =
@@ -109,7 +109,7 @@ of_tick first s j n = by_peer (first_peer j n) refl where
   by_peer None is = room_of_none (mention (ticks s n None)) (mentions j) refl
   by_peer (Some l) is = by_time (nat_le (due_of l.peer) n) l is
 
-of_entry : FirstWaits → (s : RelaySettings) (j : List Entry) (n : ℕ) (input : Input) → HasRoom (mention (relay_entry s j n input)) (mentions j)
+of_entry : FirstWaits → (s : RelaySettings) (j : List Entry) (n : ℕ) (input : Input) → FindsRoom (mention (relay_entry s j n input)) (mentions j)
 of_entry first s j n (arrived from x) = of_datagram s j n from x
 of_entry first s j n (from_six x) = of_packet s j n x
 of_entry first s j n ticked = of_tick first s j n
@@ -121,7 +121,7 @@ have_room : FirstWaits → (s : RelaySettings) (j : List Entry) → IsJournal s 
 unfolding mentions
 have_room first s [] a = tt
 have_room first s (e ∷ j) a =
-    let one : HasRoom (mention e) (mentions j) = subst (λ (x : Entry). HasRoom (mention x) (mentions j)) (sym a.0.is) (of_entry first s j e.moment e.input) in
+    let one : FindsRoom (mention e) (mentions j) = subst (λ (x : Entry). FindsRoom (mention x) (mentions j)) (sym a.0.is) (of_entry first s j e.moment e.input) in
     (one, have_room first s j a.1)
 
 pub journal_has_few : FirstWaits → FewListed → JournalHasFew

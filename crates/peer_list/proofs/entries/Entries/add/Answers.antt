@@ -7,7 +7,7 @@ use Rattle.td_base.specs.Ip6.{same_ip6, cmp_ip6}
 use Rattle.td_base.specs.declared.ipv6.Ip6.{Ip6}
 use Rattle.peer_list.specs.declared.limits.TheConstants.{PEERS_MAX}
 use Rattle.peer_list.specs.Waiting.{Listing}
-use Rattle.peer_list.specs.Entries.{due_at}
+use Rattle.peer_list.specs.Entries.{entry_due}
 use Rattle.peer_list.proofs.OrderLemmas.{turn_same}
 use Rattle.peer_list.proofs.EntryLemmas.{Fills, names_same, once_same}
 use Rattle.peer_list.proofs.AddLemmas.{whole_same, leads_to, names_filled, turn_filled, once_filled}
@@ -28,7 +28,7 @@ put-requires-clause-turn c =
     let same : (k : ℕ) → get s k ≡ get c.args.self.now.slab k = λ k. ap (λ (x : Slab Listing). get_or x.slots k None) c.reserve.ensures.rest_kept in
     let fills : Fills s c.insert_reserved-key.new.self c.insert_reserved-key.result c.args.listing = record { vacant = c.insert_reserved-key.ensures.was_vacant; update = c.insert_reserved-key.ensures.updates } in
     rw c.reserve-2.ensures.items (turn_filled s c.insert_reserved-key.new.self c.insert_reserved-key.result c.args.listing fills c.args.self.now.index c.insert.new.self c.args.self.now.order.items
-    (once_same c.args.self.now.slab s same c.args.self.now.order.items c.requires.whole.once) (turn_same c.args.self.now.slab s c.args.self.now.order.items (λ k. ap due_at (same k)) c.requires.whole.turn))
+    (once_same c.args.self.now.slab s same c.args.self.now.order.items c.requires.whole.once) (turn_same c.args.self.now.slab s c.args.self.now.order.items (λ k. ap entry_due (same k)) c.requires.whole.turn))
 
 pub returns-clause-whole : goal.returns-clause-whole
 returns-clause-whole c =

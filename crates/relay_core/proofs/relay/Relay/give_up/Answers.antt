@@ -3,7 +3,7 @@ use Rattle.teredo_node.specs.declared.fate.Fate.TheVariants as fate
 use Rattle.teredo_node.specs.Step.{Step, just}
 use Rattle.teredo_node.specs.Journal.{ticked}
 use Rattle.relay_rules.specs.Journals.{entry}
-use Rattle.relay_core.specs.Relay.{Enters}
+use Rattle.relay_core.specs.Relay.{RelayEnters}
 use Rattle.relay_core.proofs.Ticked.{gave_up}
 use Rattle.relay_core.proofs.Owed.{given_up}
 use Rattle.relay_core.proofs.relay.Relay.give_up.Goals as goal
@@ -13,7 +13,7 @@ returns-clause-entered c =
     let old = c.args.self.now in
     let n = c.args.now.0 in
     let step : c.set_gone.new.self ≡ record (just fate.GiveUp) { gone = c.give_up-gone.result } = c.set_gone.ensures ∙ (λ i. record (c.reset.ensures i) { gone = c.from.ensures i }) in
-    subst (λ (s : Step). Enters old (entry n ticked None (Some c.args.who) s) (record old { peers = c.give_up-gone.new.self })) (sym step)
+    subst (λ (s : Step). RelayEnters old (entry n ticked None (Some c.args.who) s) (record old { peers = c.give_up-gone.new.self })) (sym step)
     (gave_up c.below.ensures old (record old { peers = c.give_up-gone.new.self }) n c.args.who c.give_up-gone.result c.requires.callable.clock c.give_up-gone.ensures.rest refl)
 
 pub returns-clause-less : goal.returns-clause-less

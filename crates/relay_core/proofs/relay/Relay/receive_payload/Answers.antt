@@ -8,7 +8,7 @@ use Rattle.teredo_node.specs.Sends.{releases}
 use Rattle.peer_list.specs.Table.{known_to}
 use Rattle.peer_list.specs.Calls.{Updates, trusted_at, heard_at}
 use Rattle.relay_core.specs.declared.relay.Relay.{Relay}
-use Rattle.relay_core.specs.Relay.{fate_in, TakesPayload}
+use Rattle.relay_core.specs.Relay.{relay_fate_in, RelayTakesPayload}
 use Rattle.relay_core.proofs.Acts.{drops, released, passed_on, from_client_bubble, from_client, unserved}
 use Rattle.relay_core.proofs.relay.Relay.receive_payload.Goals as goal
 
@@ -17,8 +17,8 @@ returns-in-Drop c =
     let old = c.args.self.now in
     let n = c.args.now.0 in
     let v = view c.args.payload.now in
-    subst (λ (s : Step). TakesPayload old n c.args.from v (fate_in old n c.args.from v) s old) (sym c.reset.ensures)
-    (subst (λ (f : Fate). TakesPayload old n c.args.from v f (just c.in-Drop.fate) old) c.in-Drop.ensures.row
+    subst (λ (s : Step). RelayTakesPayload old n c.args.from v (relay_fate_in old n c.args.from v) s old) (sym c.reset.ensures)
+    (subst (λ (f : Fate). RelayTakesPayload old n c.args.from v f (just c.in-Drop.fate) old) c.in-Drop.ensures.row
     (drops c.below.ensures old n c.args.from v c.in-Drop.fate c.requires.callable.clock c.in-Drop.ensures.warrant))
 
 pub returns-in-FromClientBubble : goal.returns-in-FromClientBubble
@@ -28,8 +28,8 @@ returns-in-FromClientBubble c =
     let v = view c.args.payload.now in
     let new : Relay = record old { peers = c.trust_and_hear.new.self } in
     let step : c.trust_and_hear.new.step ≡ released old n v fate.FromClientBubble = c.trust_and_hear.ensures.sends ∙ (λ i. record (c.reset-in-FromClientBubble.ensures i) { sends = releases (c.embedded-at.ensures i) (known_to old.peers n v.packet.src).waiting }) in
-    subst (λ (s : Step). TakesPayload old n c.args.from v (fate_in old n c.args.from v) s new) (sym step)
-    (subst (λ (f : Fate). TakesPayload old n c.args.from v f (released old n v fate.FromClientBubble) new) c.in-FromClientBubble.ensures.row
+    subst (λ (s : Step). RelayTakesPayload old n c.args.from v (relay_fate_in old n c.args.from v) s new) (sym step)
+    (subst (λ (f : Fate). RelayTakesPayload old n c.args.from v f (released old n v fate.FromClientBubble) new) c.in-FromClientBubble.ensures.row
     (from_client_bubble c.below.ensures old new n c.args.from v (record { clock = c.requires.callable.clock; peers = subst (λ (at : Ep). Updates old.peers c.trust_and_hear.new.self n v.packet.src (heard_at n (trusted_at n at (known_to old.peers n v.packet.src)))) c.embedded-at.ensures c.trust_and_hear.ensures.heard; settings = refl })))
 
 pub returns-in-FromClient : goal.returns-in-FromClient
@@ -39,8 +39,8 @@ returns-in-FromClient c =
     let v = view c.args.payload.now in
     let new : Relay = record old { peers = c.trust_and_hear-in-FromClient.new.self } in
     let step : c.trust_and_hear-in-FromClient.new.step ≡ passed_on old n v = c.trust_and_hear-in-FromClient.ensures.sends ∙ (λ i. record (c.pass_on.ensures i) { sends = releases (c.embedded-at.ensures i) (known_to old.peers n v.packet.src).waiting }) in
-    subst (λ (s : Step). TakesPayload old n c.args.from v (fate_in old n c.args.from v) s new) (sym step)
-    (subst (λ (f : Fate). TakesPayload old n c.args.from v f (passed_on old n v) new) c.in-FromClient.ensures.row
+    subst (λ (s : Step). RelayTakesPayload old n c.args.from v (relay_fate_in old n c.args.from v) s new) (sym step)
+    (subst (λ (f : Fate). RelayTakesPayload old n c.args.from v f (passed_on old n v) new) c.in-FromClient.ensures.row
     (from_client c.below.ensures old new n c.args.from v (record { clock = c.requires.callable.clock; peers = subst (λ (at : Ep). Updates old.peers c.trust_and_hear-in-FromClient.new.self n v.packet.src (heard_at n (trusted_at n at (known_to old.peers n v.packet.src)))) c.embedded-at.ensures c.trust_and_hear-in-FromClient.ensures.heard; settings = refl })))
 
 pub returns-in-Unserved : goal.returns-in-Unserved
@@ -50,6 +50,6 @@ returns-in-Unserved c =
     let v = view c.args.payload.now in
     let new : Relay = record old { peers = c.trust_and_hear-in-Unserved.new.self } in
     let step : c.trust_and_hear-in-Unserved.new.step ≡ released old n v fate.Unserved = c.trust_and_hear-in-Unserved.ensures.sends ∙ (λ i. record (c.reset-in-Unserved.ensures i) { sends = releases (c.embedded-at.ensures i) (known_to old.peers n v.packet.src).waiting }) in
-    subst (λ (s : Step). TakesPayload old n c.args.from v (fate_in old n c.args.from v) s new) (sym step)
-    (subst (λ (f : Fate). TakesPayload old n c.args.from v f (released old n v fate.Unserved) new) c.in-Unserved.ensures.row
+    subst (λ (s : Step). RelayTakesPayload old n c.args.from v (relay_fate_in old n c.args.from v) s new) (sym step)
+    (subst (λ (f : Fate). RelayTakesPayload old n c.args.from v f (released old n v fate.Unserved) new) c.in-Unserved.ensures.row
     (unserved c.below.ensures old new n c.args.from v (record { clock = c.requires.callable.clock; peers = subst (λ (at : Ep). Updates old.peers c.trust_and_hear-in-Unserved.new.self n v.packet.src (heard_at n (trusted_at n at (known_to old.peers n v.packet.src)))) c.embedded-at.ensures c.trust_and_hear-in-Unserved.ensures.heard; settings = refl })))

@@ -6,7 +6,7 @@ use Rattle.peer_list.specs.Table.{known_to}
 use Rattle.peer_list.specs.Calls.{Updates, touched_at, trusted_at}
 use Rattle.relay_rules.specs.Journals.{entry}
 use Rattle.relay_core.specs.declared.relay.Relay.{Relay}
-use Rattle.relay_core.specs.Relay.{Enters}
+use Rattle.relay_core.specs.Relay.{RelayEnters}
 use Rattle.relay_core.proofs.Transmitted.{sent_cone}
 use Rattle.relay_core.proofs.relay.Relay.send_cone.Goals as goal
 
@@ -20,6 +20,6 @@ returns-clause-entered c =
     let n = c.args.now.0 in
     let mid : Relay = record old { peers = c.list.new.self } in
     let new : Relay = record old { peers = c.trust.new.self } in
-    subst (λ (s : Step). Enters old (entry n (from_six c.args.bytes.now) (Some c.args.bytes.now) (Some c.args.who) s) new) (sym c.send_packet.ensures)
+    subst (λ (s : Step). RelayEnters old (entry n (from_six c.args.bytes.now) (Some c.args.bytes.now) (Some c.args.who) s) new) (sym c.send_packet.ensures)
     (sent_cone c.below.ensures old mid new n c.args.who c.args.bytes.now c.requires.callable.clock c.requires.cone c.in_ok-list.ensures.listed
     (subst (λ (at : Ep). Updates mid.peers new.peers n c.args.who (trusted_at n at (known_to mid.peers n c.args.who))) c.embedded.ensures c.trust.ensures) refl)

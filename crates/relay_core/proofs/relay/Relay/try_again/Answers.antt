@@ -2,7 +2,7 @@ use Rattle.std.proofs.Common.{None, Some, refl, ap, sym, subst}
 use Rattle.teredo_node.specs.Step.{Step}
 use Rattle.teredo_node.specs.Journal.{ticked}
 use Rattle.relay_rules.specs.Journals.{entry}
-use Rattle.relay_core.specs.Relay.{Enters}
+use Rattle.relay_core.specs.Relay.{RelayEnters}
 use Rattle.relay_core.proofs.Ticked.{tried_again}
 use Rattle.relay_core.proofs.Owed.{tried_off}
 use Rattle.relay_core.proofs.relay.Relay.try_again.Goals as goal
@@ -11,7 +11,7 @@ pub returns-clause-entered : goal.returns-clause-entered
 returns-clause-entered c =
     let old = c.args.self.now in
     let n = c.args.now.0 in
-    subst (λ (s : Step). Enters old (entry n ticked None (Some c.args.who) s) (record old { peers = c.tried.new.self })) (sym c.send_bubble.ensures)
+    subst (λ (s : Step). RelayEnters old (entry n ticked None (Some c.args.who) s) (record old { peers = c.tried.new.self })) (sym c.send_bubble.ensures)
     (tried_again c.below.ensures old (record old { peers = c.tried.new.self }) n c.args.who c.requires.callable.clock c.requires.overdue c.tried.ensures.tried refl)
 
 pub returns-clause-less : goal.returns-clause-less
