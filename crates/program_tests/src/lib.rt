@@ -15,6 +15,7 @@
 //! | `vectors` | nothing: the datagrams of the others |
 //! | `runs`, `nets` | nothing: how a run ends, and the tables of nodes of the others |
 //! | `files_and_words` | `run` on `lab`, `show` and `gen`, and on words that are no command |
+//! | `full_wires` | `run` on `lab`, and `player`, with a scenario that sends more than the wire holds |
 //! | `refusals` | `run` on `lab`, with texts that are no scenario |
 //! | `clients`, `peers`, `relays` | `run` on `lab`, with clients, two of them, and a native host |
 //! | `arrivals` | `run` on `serve`, over a link in memory |
@@ -31,6 +32,8 @@ mod arrivals;
 mod clients;
 #[cfg(test)]
 mod files_and_words;
+#[cfg(test)]
+mod full_wires;
 #[cfg(test)]
 mod lines;
 #[cfg(test)]

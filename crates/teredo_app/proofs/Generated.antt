@@ -1,57 +1,56 @@
--- How `gen` ends, by how its last step ended.
-use Rattle.std.proofs.Common.{◌≡◌, ℕ, [], ◌∷◌, sym, subst, inl, inr, refl, lit<, arith}
+-- How `gen` ends, by how its scenario was played.
+use Rattle.std.proofs.Common.{◌≡◌, ◌⊎◌, Result, Ok, Err, subst, refl, inl, inr, lit<, arith}
 use Rattle.history.specs.Scenario.{Scenario}
-use Rattle.report.specs.declared.totals.Sums.{Sums}
-use Rattle.report.specs.Totals.{totals_line}
+use Rattle.player.specs.declared.player.PlayFault.{PlayFault}
+use Rattle.player.specs.declared.player.PlayFault.TheVariants.{Failed, NoMemory, WireFull}
+use Rattle.td_outside.specs.Sink.{SinkState}
+use Rattle.player.specs.SinkLines.{WritesNothing}
+use Rattle.player.specs.LineLaws.{WritesLines-nil}
+use Rattle.player.specs.Accounts.{totals_account}
+use Rattle.player.specs.Endings.{IsPlayed, WritesStarved}
 use Rattle.teredo_app.specs.declared.gen_words.GenWords.{GenWords}
-use Rattle.teredo_app.specs.Outside.{AtSink}
-use Rattle.teredo_app.specs.SinkLines.{WritesLines, BeginsLines, WritesNothing}
-use Rattle.legal.specs.Legal.{Legal}
-use Rattle.teredo_app.specs.ScenarioReport.{FillsWire, wire_full}
 use Rattle.teredo_app.specs.Ends.{GenEnds, asked_for}
-use Rattle.teredo_app.specs.Endings.{LineEnds, line_written, line_failed, SumsUp, Overfills}
-
-module _ (o : AtSink) (asked : GenWords) (s : Scenario) (is : s ≡ asked_for asked) where
-  -- the sums are there
-  pub summed_ends : (sums : Sums) (result : ℕ) → SumsUp s sums → LineEnds o (totals_line sums) 0 result → GenEnds o asked result
-  summed_ends sums result (history, legal, same) (line_written ends kept lines) = subst (λ (n : ℕ). GenEnds o asked n) (sym ends) (record {
-    statuses = (0, lit< tt, refl);
-    done = λ _. (kept, (history, subst (λ (x : Scenario). Legal history x) is legal, subst (λ (x : Sums). WritesLines o.told.0 o.told.1 (totals_line x ∷ [])) same lines));
-    unwritten = λ e. absurd (omega arith);
-    starved = λ e. absurd (omega arith);
-    full = λ e. absurd (omega arith);
-  })
-  summed_ends sums result (history, legal, same) (line_failed ends rose lines) = subst (λ (n : ℕ). GenEnds o asked n) (sym ends) (record {
-    statuses = (1, lit< tt, refl);
-    done = λ e. absurd (omega arith);
-    unwritten = λ _. (rose, inl (history, subst (λ (x : Scenario). Legal history x) is legal, subst (λ (x : Sums). BeginsLines o.told.0 o.told.1 (totals_line x ∷ [])) same lines));
-    starved = λ e. absurd (omega arith);
-    full = λ e. absurd (omega arith);
-  })
-
-  -- the wire is full
-  pub overfilled_ends : (result : ℕ) → Overfills s → LineEnds o wire_full 8 result → GenEnds o asked result
-  overfilled_ends result (history, fills) (line_written ends kept lines) = subst (λ (n : ℕ). GenEnds o asked n) (sym ends) (record {
-    statuses = (3, lit< tt, refl);
-    done = λ e. absurd (omega arith);
-    unwritten = λ e. absurd (omega arith);
-    starved = λ e. absurd (omega arith);
-    full = λ _. (kept, (history, subst (λ (x : Scenario). FillsWire x history) is fills, lines));
-  })
-  overfilled_ends result (history, fills) (line_failed ends rose lines) = subst (λ (n : ℕ). GenEnds o asked n) (sym ends) (record {
-    statuses = (1, lit< tt, refl);
-    done = λ e. absurd (omega arith);
-    unwritten = λ _. (rose, inr (history, subst (λ (x : Scenario). FillsWire x history) is fills, lines));
-    starved = λ e. absurd (omega arith);
-    full = λ e. absurd (omega arith);
-  })
+use Rattle.teredo_app.specs.Endings.{status_of}
 
 -- memory ran out
-pub starving_ends : (o : AtSink) (asked : GenWords) → o.faults.1 ≡ o.faults.0 → WritesNothing o.told.0 o.told.1 → GenEnds o asked 7
-starving_ends o asked same nothing = record {
+pub starving_ends : (o o' : SinkState) (asked : GenWords) → o'.faults ≡ o.faults → WritesNothing o o' → GenEnds o o' asked 7
+starving_ends o o' asked same nothing = record {
   statuses = (2, lit< tt, refl);
   done = λ e. absurd (omega arith);
   unwritten = λ e. absurd (omega arith);
   starved = λ _. (same, nothing);
   full = λ e. absurd (omega arith);
 }
+
+-- no line was of a record, so none was written
+none_written : (o o' : SinkState) (s : Scenario) → WritesNothing o o' ⊎ WritesStarved totals_account s o o' → WritesNothing o o'
+none_written o o' s (inl nothing) = nothing
+none_written o o' s (inr starved) = WritesLines-nil o o' starved.lines
+
+generated_ends : (o o' : SinkState) (asked : GenWords) (played : Result (Unit {0}) PlayFault) → IsPlayed totals_account (asked_for asked) o o' played → GenEnds o o' asked (status_of played)
+generated_ends o o' asked (Ok _) (same, lines) = record {
+  statuses = (0, lit< tt, refl);
+  done = λ _. (same, lines);
+  unwritten = λ e. absurd (omega arith);
+  starved = λ e. absurd (omega arith);
+  full = λ e. absurd (omega arith);
+}
+generated_ends o o' asked (Err Failed) (rose, begun) = record {
+  statuses = (1, lit< tt, refl);
+  done = λ e. absurd (omega arith);
+  unwritten = λ _. (rose, begun);
+  starved = λ e. absurd (omega arith);
+  full = λ e. absurd (omega arith);
+}
+generated_ends o o' asked (Err NoMemory) (same, starved) = starving_ends o o' asked same (none_written o o' (asked_for asked) starved)
+generated_ends o o' asked (Err WireFull) (same, lines) = record {
+  statuses = (3, lit< tt, refl);
+  done = λ e. absurd (omega arith);
+  unwritten = λ e. absurd (omega arith);
+  starved = λ e. absurd (omega arith);
+  full = λ _. (same, lines);
+}
+
+-- the scenario is the one that is asked for
+pub played_ends : (o o' : SinkState) (asked : GenWords) (s : Scenario) (played : Result (Unit {0}) PlayFault) → s ≡ asked_for asked → IsPlayed totals_account s o o' played → GenEnds o o' asked (status_of played)
+played_ends o o' asked s played is plays = generated_ends o o' asked played (subst (λ (x : Scenario). IsPlayed totals_account x o o' played) is plays)

@@ -1,8 +1,6 @@
-pub mod Written
 pub mod WholeText
 pub mod Commands
 pub mod Shown
 pub mod Ended
-pub mod Played
 pub mod Sessions
 pub mod Generated

@@ -13,7 +13,8 @@ use Rattle.server_core.specs.declared.server.ServerSettings.{ServerSettings}
 use Rattle.server_core.specs.Bounds.{outcomes}
 use Rattle.server_core.specs.Laws.{OneOutcome}
 use Rattle.teredo_app.specs.declared.serve_words.ServeWords.{ServeWords}
-use Rattle.teredo_app.specs.Outside.{Network}
+use Rattle.td_outside.specs.Link.{LinkState}
+use Rattle.td_outside.specs.Clock.{ClockState}
 use Rattle.teredo_app.specs.Session.{server_on, AnswersByTable, WantsMemory, IsSame, Session, BreaksOff}
 
 -- the server stays as it is
@@ -52,12 +53,12 @@ left_so s (Err NoMemory) = refl
 
 -- ---- a session
 
-module _ (one : OneOutcome) (n : Network) (asked : ServeWords) (totals : Totals) (mid : Told) (receives sends : ℕ) (places : Option Addresses) (s new : ServerSettings) (opened : places ≡ open_on asked.primary asked.secondary) (same : KeepsTold n.told.0 mid) (kept : receives ≡ n.receive_faults.0) (other : sends ≡ n.send_faults.0) (made : s ≡ server_on asked) where
+module _ (one : OneOutcome) (l l' : LinkState) (c c' : ClockState) (asked : ServeWords) (totals : Totals) (mid : Told) (receives sends : ℕ) (places : Option Addresses) (s new : ServerSettings) (opened : places ≡ open_on asked.primary asked.secondary) (same : KeepsTold l.told mid) (kept : receives ≡ l.recv_faults) (other : sends ≡ l.send_faults) (made : s ≡ server_on asked) where
   -- the turns after the link was opened
   pub session : (ended : Result (Unit {0}) PumpFault)
-      → Serves AnswersByTable WantsMemory IsSame asked.count asked.idles s new n.moments.0 n.moments.1 mid n.told.1 totals ended
-      → n.addresses.1 ≡ places → ReceiveFaults receives n.receive_faults.1 ended → SendFaults sends n.send_faults.1 totals.failed
-      → Session n asked totals ended
+      → Serves AnswersByTable WantsMemory IsSame asked.count asked.idles s new c.last c'.last mid l'.told totals ended
+      → l'.addresses ≡ places → ReceiveFaults receives l'.recv_faults ended → SendFaults sends l'.send_faults totals.failed
+      → Session l l' c c' asked totals ended
   session ended served stay received sent =
       let state : served.state ≡ s = stays s served.turns served.state served.states in
       record {
@@ -68,17 +69,17 @@ module _ (one : OneOutcome) (n : Network) (asked : ServeWords) (totals : Totals)
           states = subst (λ (t : ServerSettings). Goes AnswersByTable t served.turns t) made (subst (λ (t : ServerSettings). Goes AnswersByTable s served.turns t) state served.states);
           left = left_so (server_on asked) ended;
           moments = served.moments;
-          told = carried_after n.told.0 mid n.told.1 served.state (server_on asked) n.moments.1 served.turns ended same served.told;
+          told = carried_after l.told mid l'.told served.state (server_on asked) c'.last served.turns ended same served.told;
           sums = served.sums;
           begun = served.begun;
           ended = served.ended;
         };
         outcomes = subst (λ (t : Totals). t.served ≡ t.sent + t.failed + t.six + t.dropped) (sym served.sums) (each_once one s served.turns served.state served.states);
-        receives = subst (λ (m : ℕ). ReceiveFaults m n.receive_faults.1 ended) kept received;
-        sends = subst (λ (m : ℕ). SendFaults m n.send_faults.1 totals.failed) other sent;
+        receives = subst (λ (m : ℕ). ReceiveFaults m l'.recv_faults ended) kept received;
+        sends = subst (λ (m : ℕ). SendFaults m l'.send_faults totals.failed) other sent;
       }
 
 -- the link failed after some turns
-pub breaks_off : (n : Network) (asked : ServeWords) (totals : Totals) (fault : PumpFault) → Session n asked totals (Err fault) → BreaksOff n asked
-breaks_off n asked totals Receive session = (totals, session)
-breaks_off n asked totals NoMemory session = absurd session.turns.told.3
+pub breaks_off : (l l' : LinkState) (c c' : ClockState) (asked : ServeWords) (totals : Totals) (fault : PumpFault) → Session l l' c c' asked totals (Err fault) → BreaksOff l l' c c' asked
+breaks_off l l' c c' asked totals Receive session = (totals, session)
+breaks_off l l' c c' asked totals NoMemory session = absurd session.turns.told.3

@@ -32,3 +32,13 @@ request_of (Lab file) = lab file.now
 request_of (Serve words) = serve words
 request_of (Show word) = show word.now
 request_of (Gen words) = gen words
+
+-- a fact of the source, at each command that leaves it alone
+abbrev pub LeavesSource : Option Request → Type 0 → Type 0
+LeavesSource (Some (lab file)) fact = Unit {0}
+LeavesSource _ fact = fact
+
+-- a fact of the link and the clock, at each command that leaves them alone
+abbrev pub LeavesNetwork : Option Request → Type 0 → Type 0
+LeavesNetwork (Some (serve words)) fact = Unit {0}
+LeavesNetwork _ fact = fact

@@ -1,43 +1,31 @@
 -- How one part of a run ends, for the contracts of private functions.
-use Rattle.std.specs.Prelude.{◌≡◌, ◌⊎◌, ℕ, List, [], ◌∷◌}
+use Rattle.std.specs.Prelude.{◌≡◌, ℕ, List, [], ◌∷◌, Result, Ok, Err}
 use Rattle.td_outside.specs.Causes.{Rose}
-use Rattle.history.specs.Scenario.{Scenario}
-use Rattle.history.specs.Full.{Full}
-use Rattle.legal.specs.Legal.{Legal}
-use Rattle.report.specs.declared.totals.Sums.{Sums}
-use Rattle.report.specs.Lines.{record_lines}
-use Rattle.report.specs.Totals.{sums_of}
-use Rattle.teredo_app.specs.declared.statuses.TheConstants.{DONE, UNWRITABLE, NO_MEMORY, WIRE_FULL}
-use Rattle.teredo_app.specs.Outside.{SinkTold, AtSink}
-use Rattle.teredo_app.specs.SinkLines.{WritesLines, BeginsLines, WritesNothing}
-use Rattle.teredo_app.specs.ScenarioReport.{FillsWire, WritesReport, WritesFull, WritesStarved, BeginsReport}
+use Rattle.scenario.specs.declared.scenario_fault.ScenarioFault.{ScenarioFault}
+use Rattle.scenario.specs.Refusals.{refusal_line}
+use Rattle.player.specs.declared.player.PlayFault.{PlayFault}
+use Rattle.player.specs.declared.player.PlayFault.TheVariants.{Failed, NoMemory, WireFull}
+use Rattle.td_outside.specs.Sink.{SinkState}
+use Rattle.player.specs.SinkLines.{WritesLines, BeginsLines, WritesNothing}
+use Rattle.teredo_app.specs.declared.statuses.TheConstants.{DONE, BAD_SCENARIO, UNREADABLE, UNWRITABLE, NO_MEMORY, WIRE_FULL}
+use Rattle.td_outside.specs.Source.{SourceState}
+use Rattle.teredo_app.specs.Outside.{NoFault}
+use Rattle.teredo_app.specs.Ends.{Reads}
 
 -- how the writing of one line ends: with its status, or because the sink failed
-pub data LineEnds (o : AtSink) (line : List ℕ) (status result : ℕ) : Type 0 where
-  line_written : result ≡ status → o.faults.1 ≡ o.faults.0 → WritesLines o.told.0 o.told.1 (line ∷ []) → LineEnds o line status result
-  line_failed : result ≡ UNWRITABLE → Rose o.faults.0 o.faults.1 → BeginsLines o.told.0 o.told.1 (line ∷ []) → LineEnds o line status result
+pub data LineEnds (o o' : SinkState) (line : List ℕ) (status result : ℕ) : Type 0 where
+  line_written : result ≡ status → o'.faults ≡ o.faults → WritesLines o o' (line ∷ []) → LineEnds o o' line status result
+  line_failed : result ≡ UNWRITABLE → Rose o.faults o'.faults → BeginsLines o o' (line ∷ []) → LineEnds o o' line status result
 
--- Memory ran out before the first record, and nothing was written; or for a record that may want some, after the lines of those before it.
-abbrev pub EndsStarved : Scenario → SinkTold → SinkTold → Type 0
-EndsStarved s old new = WritesNothing old new ⊎ WritesStarved s old new
+-- how it ends where a file gives no scenario
+pub data NotPlayed (i i' : SourceState) (o o' : SinkState) (file : List ℕ) (result : ℕ) : Type 0 where
+  not_read : result ≡ UNREADABLE → Rose i.faults i'.faults → o'.faults ≡ o.faults → WritesNothing o o' → NotPlayed i i' o o' file result
+  not_kept : result ≡ NO_MEMORY → NoFault i i' o o' → WritesNothing o o' → NotPlayed i i' o o' file result
+  not_taken : (fault : ScenarioFault) → Reads i file (Err fault) → i'.faults ≡ i.faults → LineEnds o o' (refusal_line fault) BAD_SCENARIO result → NotPlayed i i' o o' file result
 
--- how the writing of a scenario's report ends
-pub data ReportEnds (o : AtSink) (s : Scenario) (result : ℕ) : Type 0 where
-  report_written : result ≡ DONE → o.faults.1 ≡ o.faults.0 → WritesReport s o.told.0 o.told.1 → ReportEnds o s result
-  report_filled : result ≡ WIRE_FULL → o.faults.1 ≡ o.faults.0 → WritesFull s o.told.0 o.told.1 → ReportEnds o s result
-  report_failed : result ≡ UNWRITABLE → Rose o.faults.0 o.faults.1 → BeginsReport s o.told.0 o.told.1 → ReportEnds o s result
-  report_starved : result ≡ NO_MEMORY → o.faults.1 ≡ o.faults.0 → EndsStarved s o.told.0 o.told.1 → ReportEnds o s result
-
--- The lines of all records before the one that would make too long a wire were written.
-pub record EndsFull (s : Scenario) (old new : SinkTold) : Type 0 where
-  pub history : List Full
-  pub fills : FillsWire s history
-  pub lines : WritesLines old new (record_lines s.topology history)
-
--- The sums are those of the scenario's one legal history.
-abbrev pub SumsUp : Scenario → Sums → Type 0
-SumsUp s sums = (history : List Full) × Legal history s × (sums ≡ sums_of history)
-
--- The next record of the scenario would make too long a wire.
-abbrev pub Overfills : Scenario → Type 0
-Overfills s = (history : List Full) × FillsWire s history
+-- the status of a scenario that was played so
+abbrev pub status_of : Result (Unit {0}) PlayFault → ℕ
+status_of (Ok _) = DONE
+status_of (Err Failed) = UNWRITABLE
+status_of (Err NoMemory) = NO_MEMORY
+status_of (Err WireFull) = WIRE_FULL

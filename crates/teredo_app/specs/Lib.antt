@@ -1,10 +1,8 @@
 pub mod Outside
 pub mod SourceText
-pub mod SinkLines
 pub mod ServeWords
 pub mod GenWords
 pub mod Command
-pub mod ScenarioReport
 pub mod ServeLine
 pub mod Session
 pub mod Ends

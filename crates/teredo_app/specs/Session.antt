@@ -16,8 +16,10 @@ use Rattle.server_core.specs.declared.server.ServerSettings.{ServerSettings}
 use Rattle.server_core.specs.Endpoint as server
 use Rattle.teredo_app.specs.declared.serve_words.ServeWords.{ServeWords}
 use Rattle.teredo_app.specs.declared.statuses.TheConstants.{DONE, UNWRITABLE, NO_LINK}
-use Rattle.teredo_app.specs.Outside.{AtSink, Network}
-use Rattle.teredo_app.specs.SinkLines.{WritesLines, BeginsLines, WritesNothing}
+use Rattle.td_outside.specs.Sink.{SinkState}
+use Rattle.player.specs.SinkLines.{WritesLines, BeginsLines, WritesNothing}
+use Rattle.td_outside.specs.Link.{LinkState}
+use Rattle.td_outside.specs.Clock.{ClockState}
 use Rattle.teredo_app.specs.ServeLine.{serve_line}
 
 -- the server that is asked for
@@ -37,41 +39,41 @@ abbrev pub IsSame : ServerSettings → ServerSettings → Type 0
 IsSame old new = new ≡ old
 
 -- The server took turns at the link, up to their end or a fault of the link, with these totals.
-pub record Session (n : Network) (asked : ServeWords) (totals : Totals) (ended : Result (Unit {0}) PumpFault) : Type 0 where
+pub record Session (l l' : LinkState) (c c' : ClockState) (asked : ServeWords) (totals : Totals) (ended : Result (Unit {0}) PumpFault) : Type 0 where
   -- at these two addresses
-  pub places : n.addresses.1 ≡ open_on asked.primary asked.secondary
+  pub places : l'.addresses ≡ open_on asked.primary asked.secondary
   -- each datagram that came was answered by the server's table, and each of its sends attempted, in order; the end is
   -- that so many arrivals were taken, or so many turns in a row were idle
-  pub turns : Serves AnswersByTable WantsMemory IsSame asked.count asked.idles (server_on asked) (server_on asked) n.moments.0 n.moments.1 n.told.0 n.told.1 totals ended
+  pub turns : Serves AnswersByTable WantsMemory IsSame asked.count asked.idles (server_on asked) (server_on asked) c.last c'.last l.told l'.told totals ended
   -- each arrival was answered, or its answer failed, or it went to the IPv6 side, or it was dropped
   pub outcomes : totals.served ≡ totals.sent + totals.failed + totals.six + totals.dropped
-  pub receives : ReceiveFaults n.receive_faults.0 n.receive_faults.1 ended
-  pub sends : SendFaults n.send_faults.0 n.send_faults.1 totals.failed
+  pub receives : ReceiveFaults l.recv_faults l'.recv_faults ended
+  pub sends : SendFaults l.send_faults l'.send_faults totals.failed
 
 -- The turns went on to their end.
-abbrev pub Served : Network → ServeWords → Totals → Type 0
-Served n asked totals = Session n asked totals (Ok tt)
+abbrev pub Served : LinkState → LinkState → ClockState → ClockState → ServeWords → Totals → Type 0
+Served l l' c c' asked totals = Session l l' c c' asked totals (Ok tt)
 
 -- A receiving call failed after some turns, or before the first one.
-abbrev pub BreaksOff : Network → ServeWords → Type 0
-BreaksOff n asked = (totals : Totals) × Session n asked totals (Err Receive)
+abbrev pub BreaksOff : LinkState → LinkState → ClockState → ClockState → ServeWords → Type 0
+BreaksOff l l' c c' asked = (totals : Totals) × Session l l' c c' asked totals (Err Receive)
 
 -- The link couldn't be opened, and nothing else was asked of it.
-pub record StaysShut (n : Network) : Type 0 where
-  pub lists : KeepsTold n.told.0 n.told.1
-  pub sends : n.send_faults.1 ≡ n.send_faults.0
-  pub moments : n.moments.1 ≡ n.moments.0
+pub record StaysShut (l l' : LinkState) (c c' : ClockState) : Type 0 where
+  pub lists : KeepsTold l.told l'.told
+  pub sends : l'.send_faults ≡ l.send_faults
+  pub moments : c'.last ≡ c.last
 
 -- How `serve IP1 IP2 COUNT IDLES` ends: for each status its cause, and what was written. It never wants memory.
-pub record ServeEnds (o : AtSink) (n : Network) (asked : ServeWords) (status : ℕ) : Type 0 where
+pub record ServeEnds (o o' : SinkState) (l l' : LinkState) (c c' : ClockState) (asked : ServeWords) (status : ℕ) : Type 0 where
   pub statuses : Contains (DONE ∷ UNWRITABLE ∷ NO_LINK ∷ []) status
   -- the link was asked once to open, on these two addresses
-  pub opened : Gains n.openings.0 n.openings.1 (both_at asked.primary asked.secondary)
+  pub opened : Gains l.openings l'.openings (both_at asked.primary asked.secondary)
   -- the server came to its end, and the line of its totals was written; the sink didn't fail
-  pub done : status ≡ DONE → (o.faults.1 ≡ o.faults.0) × ((totals : Totals) × Served n asked totals × WritesLines o.told.0 o.told.1 (serve_line totals ∷ []))
+  pub done : status ≡ DONE → (o'.faults ≡ o.faults) × ((totals : Totals) × Served l l' c c' asked totals × WritesLines o o' (serve_line totals ∷ []))
   -- it came to its end, the sink failed, and a front of the line was written
-  pub unwritten : status ≡ UNWRITABLE → Rose o.faults.0 o.faults.1
-      × ((totals : Totals) × Served n asked totals × BeginsLines o.told.0 o.told.1 (serve_line totals ∷ []))
+  pub unwritten : status ≡ UNWRITABLE → Rose o.faults o'.faults
+      × ((totals : Totals) × Served l l' c c' asked totals × BeginsLines o o' (serve_line totals ∷ []))
   -- the link failed, when it was opened or later, and nothing was written
-  pub unlinked : status ≡ NO_LINK → Rose n.receive_faults.0 n.receive_faults.1 × (o.faults.1 ≡ o.faults.0) × WritesNothing o.told.0 o.told.1
-      × (StaysShut n ⊎ BreaksOff n asked)
+  pub unlinked : status ≡ NO_LINK → Rose l.recv_faults l'.recv_faults × (o'.faults ≡ o.faults) × WritesNothing o o'
+      × (StaysShut l l' c c' ⊎ BreaksOff l l' c c' asked)

@@ -24,24 +24,22 @@
 //! | `command` | the command that the words are | `specs/Command.antt` |
 //! | `serve_words` | the words of `serve` | `specs/ServeWords.antt` |
 //! | `source_text` | the text of a file | `specs/SourceText.antt` |
-//! | `sink_lines` | lines that are written to a sink | `specs/SinkLines.antt` |
 //! | `gen_words` | the words of `gen` | `specs/GenWords.antt` |
-//! | `scenario_report` | a scenario is played and reported | `specs/ScenarioReport.antt` |
-//! | `generated_totals` | a scenario is played for its sums alone | `specs/Endings.antt` |
+//! | `generated_scenario` | the scenario that `gen` plays | |
 //! | `session` | a server at a link | `specs/Session.antt` |
+//! | `last_line` | the last line of a run, and its status | `specs/Endings.antt` |
 //! | `serve_line` | the line that `serve` ends with | `specs/ServeLine.antt` |
 //! | `program` | `run` | `specs/Ends.antt`, over `specs/Outside.antt` |
 #![tactic(auto)]
 
 mod command;
 mod gen_words;
-mod generated_totals;
+mod generated_scenario;
+mod last_line;
 mod program;
-mod scenario_report;
 mod serve_line;
 mod serve_words;
 mod session;
-mod sink_lines;
 mod source_text;
 mod statuses;
 

@@ -1,29 +1,30 @@
 //! The program: a command is carried out, and its status is the answer.
-ghost use Rattle.std.specs.Prelude.{◌≡◌, ◌≤◌, Option, map, string_bytes, length};
+ghost use Rattle.std.specs.Prelude.{◌≡◌, ◌≤◌, [], Option, Ok, map, string_bytes, length, OnOk, IfOk, IfErr};
 ghost use Rattle.std.specs.List.{AllByRecursion};
+ghost use Rattle.td_outside.specs.Moves.{Gains};
+ghost use Rattle.history.specs.declared.event.TheConstants.{EVENTS_MAX};
 ghost use Rattle.history.specs.Events.{IsEvent};
 ghost use Rattle.scenario.specs.Told.{told};
-ghost use Rattle.teredo_app.specs.Command.{Request, IsCommand};
-ghost use Rattle.teredo_app.specs.Ends.{LabEnds, ShowEnds, GenEnds, RunEnds};
+ghost use Rattle.teredo_app.specs.SourceText.{TakesAtMost};
+ghost use Rattle.teredo_app.specs.Command.{Request, IsCommand, LeavesSource, LeavesNetwork};
+ghost use Rattle.teredo_app.specs.Ends.{Reads, LabEnds, ShowEnds, GenEnds, RunEnds};
 ghost use Rattle.teredo_app.specs.Session.{ServeEnds};
-ghost use Rattle.teredo_app.specs.Endings.{ReportEnds};
-ghost use Rattle.history.specs.declared.event.TheConstants.{EVENTS_MAX};
+ghost use Rattle.teredo_app.specs.Endings.{NotPlayed, status_of};
 
 use crate::command::{Command, command_of};
 use crate::gen_words::GenWords;
-use crate::generated_totals::{generated_scenario, sums_of};
-use crate::scenario_report::{ReportFault, write_report};
+use crate::generated_scenario::generated_scenario;
+use crate::last_line::end_with;
 use crate::serve_line::put_serve_line;
 use crate::serve_words::ServeWords;
 use crate::session::serve_on;
-use crate::sink_lines::end_with;
 use crate::source_text::{ReadFault, TEXT_READ_MAX, read_named};
 use crate::statuses::{
     BAD_PAYLOAD, BAD_SCENARIO, BAD_WORDS, DONE, NO_LINK, NO_MEMORY, UNREADABLE, UNWRITABLE,
     WIRE_FULL,
 };
-use history::{EVENTS_MAX, Stop};
-use report::summary;
+use history::EVENTS_MAX;
+use player::{PlayFault, ReportWriter, TotalsWriter, play};
 use scenario::{Scenario, ScenarioFault, put_refusal_line, read};
 use show::{Page, explain};
 use std::alloc::Global;
@@ -31,58 +32,66 @@ use td_base::LineBuf;
 use td_outside::{Clock, Link, Sink, Source};
 use teredo_node::TURNS_MAX;
 
-/// Writes the report of a scenario, and answers the status.
-fn report_on<K: Sink>(alloc: Global, s: &Scenario, out: &mut K) -> u8
-    requires few { length s.now.events ≤ EVENTS_MAX }
-    requires legal { AllByRecursion (IsEvent s.now.topology) s.now.events }
-    ensures { ReportEnds (record {
-      told = (record { held = (K.state out.old).holds; pieces = (K.state out.old).pieces }, record { held = (K.state out.new).holds; pieces = (K.state out.new).pieces });
-      faults = ((K.state out.old).faults, (K.state out.new).faults);
-    }) (told s.now) result }
+/// The scenario of a file, or the status of a run that ends without one.
+fn scenario_in<S: Source, K: Sink>(
+    alloc: Global,
+    file: &str,
+    src: &mut S,
+    out: &mut K,
+) -> Result<Scenario, u8>
+    ensures opened { Gains (S.state src.old).openings (S.state src.new).openings file.now }
+    ensures taken { TakesAtMost TEXT_READ_MAX (S.state src.old).taken (S.state src.new).taken }
+    ensures read { IfOk result (λ s. Reads (S.state src.old) file.now (Ok (told s))) }
+    ensures quiet { OnOk result ((S.state src.new).faults ≡ (S.state src.old).faults) }
+    ensures untouched { OnOk result (out.new ≡ out.old) }
+    ensures few { IfOk result (λ s. length s.events ≤ EVENTS_MAX) }
+    ensures legal { IfOk result (λ s. AllByRecursion (IsEvent s.topology) s.events) }
+    ensures ends { IfErr result (λ status. NotPlayed (S.state src.old) (S.state src.new) (K.state out.old) (K.state out.new) file.now status) }
 {
-    match write_report(alloc, s, out) {
+    let text = match read_named(alloc, src, file, TEXT_READ_MAX) {
+        Ok(text) => text,
+        Err(ReadFault::Failed) => return Err(UNREADABLE),
+        Err(ReadFault::NoMemory) => return Err(NO_MEMORY),
+    };
+    match read(alloc, &text) {
+        Ok(s) => Ok(s),
+        Err(ScenarioFault::NoMemory) => Err(NO_MEMORY),
+        Err(fault) => {
+            let mut line = LineBuf::new();
+            put_refusal_line(&fault, &mut line);
+            Err(end_with(out, line.as_slice(), BAD_SCENARIO))
+        }
+    }
+}
+
+/// The status of a scenario that was played so.
+fn status_of(played: Result<(), PlayFault>) -> u8
+    ensures { result ≡ status_of played }
+{
+    match played {
         Ok(()) => DONE,
-        Err(ReportFault::Failed) => UNWRITABLE,
-        Err(ReportFault::NoMemory) => NO_MEMORY,
-        Err(ReportFault::WireFull) => end_with(out, b"wire full\n", WIRE_FULL),
+        Err(PlayFault::Failed) => UNWRITABLE,
+        Err(PlayFault::NoMemory) => NO_MEMORY,
+        Err(PlayFault::WireFull) => WIRE_FULL,
     }
 }
 
 /// The command `lab FILE`.
 fn lab<S: Source, K: Sink>(alloc: Global, file: &str, src: &mut S, out: &mut K) -> u8
-    ensures { LabEnds (record {
-      kept = src.new ≡ src.old;
-      stands_for = (S.state src.old).stands_for;
-      openings = ((S.state src.old).openings, (S.state src.new).openings);
-      taken = ((S.state src.old).taken, (S.state src.new).taken);
-      faults = ((S.state src.old).faults, (S.state src.new).faults);
-    }) (record {
-      told = (record { held = (K.state out.old).holds; pieces = (K.state out.old).pieces }, record { held = (K.state out.new).holds; pieces = (K.state out.new).pieces });
-      faults = ((K.state out.old).faults, (K.state out.new).faults);
-    }) file.now result }
+    ensures { LabEnds (S.state src.old) (S.state src.new) (K.state out.old) (K.state out.new) file.now result }
 {
-    let text = match read_named(alloc, src, file, TEXT_READ_MAX) {
-        Ok(text) => text,
-        Err(ReadFault::Failed) => return UNREADABLE,
-        Err(ReadFault::NoMemory) => return NO_MEMORY,
-    };
-    match read(alloc, &text) {
-        Ok(s) => report_on(alloc, &s, out),
-        Err(ScenarioFault::NoMemory) => NO_MEMORY,
-        Err(fault) => {
-            let mut line = LineBuf::new();
-            put_refusal_line(&fault, &mut line);
-            end_with(out, line.as_slice(), BAD_SCENARIO)
+    match scenario_in(alloc, file, src, out) {
+        Ok(s) => {
+            let mut report = ReportWriter::new(&s.topology);
+            status_of(play(alloc, s.seed, &s.topology, &s.events, &mut report, out))
         }
+        Err(status) => status,
     }
 }
 
 /// The command `show HEX`. It never answers `NO_MEMORY`.
 fn show<K: Sink>(word: &str, out: &mut K) -> u8
-    ensures { ShowEnds (record {
-      told = (record { held = (K.state out.old).holds; pieces = (K.state out.old).pieces }, record { held = (K.state out.new).holds; pieces = (K.state out.new).pieces });
-      faults = ((K.state out.old).faults, (K.state out.new).faults);
-    }) word.now result }
+    ensures { ShowEnds (K.state out.old) (K.state out.new) word.now result }
 {
     let mut page = Page::new();
     if explain(word.as_bytes(), &mut page) {
@@ -100,18 +109,7 @@ fn serve<K: Sink, L: Link, C: Clock>(
 ) -> u8
     requires count { asked.now.count ≤ TURNS_MAX }
     requires idles { asked.now.idles ≤ TURNS_MAX }
-    ensures { ServeEnds (record {
-      told = (record { held = (K.state out.old).holds; pieces = (K.state out.old).pieces }, record { held = (K.state out.new).holds; pieces = (K.state out.new).pieces });
-      faults = ((K.state out.old).faults, (K.state out.new).faults);
-    }) (record {
-      kept = (link.new ≡ link.old) × (clock.new ≡ clock.old);
-      told = ((L.state link.old).told, (L.state link.new).told);
-      openings = ((L.state link.old).openings, (L.state link.new).openings);
-      addresses = ((L.state link.old).addresses, (L.state link.new).addresses);
-      receive_faults = ((L.state link.old).recv_faults, (L.state link.new).recv_faults);
-      send_faults = ((L.state link.old).send_faults, (L.state link.new).send_faults);
-      moments = ((C.state clock.old).last, (C.state clock.new).last);
-    }) asked.now result }
+    ensures { ServeEnds (K.state out.old) (K.state out.new) (L.state link.old) (L.state link.new) (C.state clock.old) (C.state clock.new) asked.now result }
 {
     let Ok(totals) = serve_on(asked, link, clock) else {
         return NO_LINK;
@@ -124,23 +122,13 @@ fn serve<K: Sink, L: Link, C: Clock>(
 /// The command `gen SEED COUNT`.
 fn play_generated<K: Sink>(alloc: Global, asked: &GenWords, out: &mut K) -> u8
     requires { asked.now.count ≤ EVENTS_MAX }
-    ensures { GenEnds (record {
-      told = (record { held = (K.state out.old).holds; pieces = (K.state out.old).pieces }, record { held = (K.state out.new).holds; pieces = (K.state out.new).pieces });
-      faults = ((K.state out.old).faults, (K.state out.new).faults);
-    }) asked.now result }
+    ensures { GenEnds (K.state out.old) (K.state out.new) asked.now result }
 {
     let Ok(s) = generated_scenario(alloc, asked.seed, asked.count) else {
         return NO_MEMORY;
     };
-    match sums_of(alloc, &s) {
-        Ok(sums) => {
-            let mut line = LineBuf::new();
-            summary(&sums, &mut line);
-            end_with(out, line.as_slice(), DONE)
-        }
-        Err(Stop::WireFull) => end_with(out, b"wire full\n", WIRE_FULL),
-        Err(Stop::NoMemory) => NO_MEMORY,
-    }
+    let mut totals = TotalsWriter::new();
+    status_of(play(alloc, s.seed, &s.topology, &s.events, &mut totals, out))
 }
 
 /// Does what the words of the command line ask for, and answers the program's status.
@@ -152,24 +140,12 @@ pub fn run<S: Source, K: Sink, L: Link, C: Clock>(
     link: &mut L,
     clock: &mut C,
 ) -> u8
-    ensures ends { (asked : Option Request) → IsCommand (map string_bytes words.now.items) asked → RunEnds (record {
-      kept = src.new ≡ src.old;
-      stands_for = (S.state src.old).stands_for;
-      openings = ((S.state src.old).openings, (S.state src.new).openings);
-      taken = ((S.state src.old).taken, (S.state src.new).taken);
-      faults = ((S.state src.old).faults, (S.state src.new).faults);
-    }) (record {
-      told = (record { held = (K.state out.old).holds; pieces = (K.state out.old).pieces }, record { held = (K.state out.new).holds; pieces = (K.state out.new).pieces });
-      faults = ((K.state out.old).faults, (K.state out.new).faults);
-    }) (record {
-      kept = (link.new ≡ link.old) × (clock.new ≡ clock.old);
-      told = ((L.state link.old).told, (L.state link.new).told);
-      openings = ((L.state link.old).openings, (L.state link.new).openings);
-      addresses = ((L.state link.old).addresses, (L.state link.new).addresses);
-      receive_faults = ((L.state link.old).recv_faults, (L.state link.new).recv_faults);
-      send_faults = ((L.state link.old).send_faults, (L.state link.new).send_faults);
-      moments = ((C.state clock.old).last, (C.state clock.new).last);
-    }) asked result }
+    ensures ends { (asked : Option Request) → IsCommand (map string_bytes words.now.items) asked → RunEnds
+        (record { source = S.state src.old; sink = K.state out.old; link = L.state link.old; clock = C.state clock.old })
+        (record { source = S.state src.new; sink = K.state out.new; link = L.state link.new; clock = C.state clock.new }) asked result }
+    ensures source { (asked : Option Request) → IsCommand (map string_bytes words.now.items) asked → LeavesSource asked (src.new ≡ src.old) }
+    ensures network { (asked : Option Request) → IsCommand (map string_bytes words.now.items) asked
+        → LeavesNetwork asked ((link.new ≡ link.old) × (clock.new ≡ clock.old)) }
 {
     let Some(command) = command_of(words.as_slice()) else {
         return end_with(out, b"words\n", BAD_WORDS);

@@ -3,7 +3,6 @@ ghost use Rattle.std.specs.Prelude.{◌≡◌, ◌≤◌, ◌⊎◌, IfOk, OnErr
 ghost use Rattle.td_outside.specs.Causes.{Rose};
 ghost use Rattle.td_outside.specs.Link.{both_at};
 ghost use Rattle.td_outside.specs.Moves.{Gains};
-ghost use Rattle.teredo_app.specs.Outside.{Network};
 ghost use Rattle.teredo_app.specs.Session.{Served, BreaksOff, StaysShut};
 
 use crate::serve_words::ServeWords;
@@ -22,25 +21,10 @@ pub fn serve_on<L: Link, C: Clock>(
     requires count { asked.now.count ≤ TURNS_MAX }
     requires idles { asked.now.idles ≤ TURNS_MAX }
     ensures opened { Gains (L.state link.old).openings (L.state link.new).openings (both_at asked.now.primary asked.now.secondary) }
-    ensures served { IfOk result (λ totals. Served (record {
-      kept = (link.new ≡ link.old) × (clock.new ≡ clock.old);
-      told = ((L.state link.old).told, (L.state link.new).told);
-      openings = ((L.state link.old).openings, (L.state link.new).openings);
-      addresses = ((L.state link.old).addresses, (L.state link.new).addresses);
-      receive_faults = ((L.state link.old).recv_faults, (L.state link.new).recv_faults);
-      send_faults = ((L.state link.old).send_faults, (L.state link.new).send_faults);
-      moments = ((C.state clock.old).last, (C.state clock.new).last);
-    }) asked.now totals) }
+    ensures served { IfOk result (λ totals. Served (L.state link.old) (L.state link.new) (C.state clock.old) (C.state clock.new) asked.now totals) }
     ensures rose { OnErr result (Rose (L.state link.old).recv_faults (L.state link.new).recv_faults) }
-    ensures failed { let n : Network = record {
-      kept = (link.new ≡ link.old) × (clock.new ≡ clock.old);
-      told = ((L.state link.old).told, (L.state link.new).told);
-      openings = ((L.state link.old).openings, (L.state link.new).openings);
-      addresses = ((L.state link.old).addresses, (L.state link.new).addresses);
-      receive_faults = ((L.state link.old).recv_faults, (L.state link.new).recv_faults);
-      send_faults = ((L.state link.old).send_faults, (L.state link.new).send_faults);
-      moments = ((C.state clock.old).last, (C.state clock.new).last);
-    } in OnErr result (StaysShut n ⊎ BreaksOff n asked.now) }
+    ensures failed { OnErr result (StaysShut (L.state link.old) (L.state link.new) (C.state clock.old) (C.state clock.new)
+        ⊎ BreaksOff (L.state link.old) (L.state link.new) (C.state clock.old) (C.state clock.new) asked.now) }
 {
     server_core::one_outcome();
     link.open(asked.primary, asked.secondary)?;

@@ -6,10 +6,10 @@
 //! What the words mean: `teredo_app` does.
 #![tactic(auto)]
 
-ghost use Rattle.std.specs.Prelude.{◌≡◌, Option, map, string_bytes};
+ghost use Rattle.std.specs.Prelude.{◌≡◌, Option, map, drop, string_bytes};
 ghost use Rattle.std.specs.Process.{exit_status};
-ghost use Rattle.teredo_app.specs.Command.{Request, IsCommand};
-ghost use Rattle.teredo_app.specs.Ends.{RunEnds};
+ghost use Rattle.teredo_app.specs.Command.{Request, IsCommand, LeavesSource, LeavesNetwork};
+ghost use Rattle.teredo_app.specs.Ends.{RunEnds, MayEnd};
 
 mod hints;
 
@@ -19,13 +19,20 @@ use std::{env, io};
 use td_outside::{Clock, FileSource, Link, Sink, Source, StdSink, SystemClock, UdpPair};
 use teredo_app::{NO_MEMORY, run};
 
+/// The words behind the program's name, which stands first where there is one.
+fn behind_name(mut args: Vec<String>) -> Vec<String>
+    ensures { result.items ≡ drop 1 args.items }
+{
+    if !args.is_empty() {
+        let _name = args.remove(0);
+    }
+    args
+}
+
 /// The words of the command line without the program's name.
 fn words_of(rt: &HostRuntime) -> io::Result<Vec<String>> {
-    let mut words = Vec::new(rt.alloc());
-    for word in env::args(rt)?.skip(1) {
-        words.push(word)?;
-    }
-    Ok(words)
+    let args = env::args(rt)?.collect(rt.alloc())?;
+    Ok(behind_name(args))
 }
 
 /// Runs, and ends with the status that `run` answers. Standard error, which `run` doesn't know, gets one plain line.
@@ -37,24 +44,12 @@ fn run_on<S: Source, K: Sink, L: Link, C: Clock>(
     link: &mut L,
     clock: &mut C,
 ) -> ExitCode
-    ensures ends { (asked : Option Request) → IsCommand (map string_bytes words.now.items) asked → RunEnds (record {
-      kept = src.new ≡ src.old;
-      stands_for = (S.state src.old).stands_for;
-      openings = ((S.state src.old).openings, (S.state src.new).openings);
-      taken = ((S.state src.old).taken, (S.state src.new).taken);
-      faults = ((S.state src.old).faults, (S.state src.new).faults);
-    }) (record {
-      told = (record { held = (K.state out.old).holds; pieces = (K.state out.old).pieces }, record { held = (K.state out.new).holds; pieces = (K.state out.new).pieces });
-      faults = ((K.state out.old).faults, (K.state out.new).faults);
-    }) (record {
-      kept = (link.new ≡ link.old) × (clock.new ≡ clock.old);
-      told = ((L.state link.old).told, (L.state link.new).told);
-      openings = ((L.state link.old).openings, (L.state link.new).openings);
-      addresses = ((L.state link.old).addresses, (L.state link.new).addresses);
-      receive_faults = ((L.state link.old).recv_faults, (L.state link.new).recv_faults);
-      send_faults = ((L.state link.old).send_faults, (L.state link.new).send_faults);
-      moments = ((C.state clock.old).last, (C.state clock.new).last);
-    }) asked (exit_status result) }
+    ensures ends { (asked : Option Request) → IsCommand (map string_bytes words.now.items) asked → RunEnds
+        (record { source = S.state src.old; sink = K.state out.old; link = L.state link.old; clock = C.state clock.old })
+        (record { source = S.state src.new; sink = K.state out.new; link = L.state link.new; clock = C.state clock.new }) asked (exit_status result) }
+    ensures source { (asked : Option Request) → IsCommand (map string_bytes words.now.items) asked → LeavesSource asked (src.new ≡ src.old) }
+    ensures network { (asked : Option Request) → IsCommand (map string_bytes words.now.items) asked
+        → LeavesNetwork asked ((link.new ≡ link.old) × (clock.new ≡ clock.old)) }
 {
     let status = run(rt.alloc(), words, src, out, link, clock);
     tell(rt, status, words);
@@ -62,7 +57,9 @@ fn run_on<S: Source, K: Sink, L: Link, C: Clock>(
 }
 
 /// Runs over real files, standard output and sockets.
-fn run_on_system(rt: &HostRuntime, words: &Vec<String>) -> ExitCode {
+fn run_on_system(rt: &HostRuntime, words: &Vec<String>) -> ExitCode
+    ensures { (asked : Option Request) → IsCommand (map string_bytes words.now.items) asked → MayEnd asked (exit_status result) }
+{
     let mut source = FileSource::new(rt);
     let mut sink = StdSink::new(io::writer(rt));
     let mut link = UdpPair::new(rt);

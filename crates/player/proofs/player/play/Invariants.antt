@@ -1,0 +1,14 @@
+use Rattle.world.specs.World.{left_in}
+use Rattle.player.proofs.Played.{Played, IsFree, IsNextOn}
+use Rattle.player.proofs.player.play.Given as goal
+
+abbrev pub invariant-loop-index : goal.invariant-loop-index
+invariant-loop-index g l =
+    Played g.L.Listener.account (record { seed = l.seed; topology = l.topology; events = l.events }) (g.K.Sink.state l.fn.out) (g.K.Sink.state l.out) (g.L.Listener.keeps l.listener) l.world l.index IsFree
+
+abbrev pub invariant-loop-turn : goal.invariant-loop-turn
+invariant-loop-turn g l =
+    Played g.L.Listener.account (record { seed = l.seed; topology = l.topology; events = l.events }) (g.K.Sink.state l.fn.out) (g.K.Sink.state l.out) (g.L.Listener.keeps l.listener) l.world l.index (IsNextOn l.event)
+
+abbrev pub decreases-loop-turn : goal.decreases-loop-turn
+decreases-loop-turn g l = left_in l.world

@@ -1,0 +1,17 @@
+-- What each player of a scenario writes.
+use Rattle.std.specs.Prelude.{ℕ, List, [], ◌∷◌, codes}
+use Rattle.report.specs.Lines.{record_lines}
+use Rattle.report.specs.Totals.{totals}
+use Rattle.player.specs.Account.{Account}
+
+-- the line that stands in place of further records
+abbrev pub wire_full : List ℕ
+wire_full = codes "wire full\n"
+
+-- the report: a line for each record, and then the totals
+abbrev pub report_account : Account
+report_account = record { lines = record_lines; last = λ H. totals H ∷ []; full = wire_full ∷ [] }
+
+-- the totals alone
+abbrev pub totals_account : Account
+totals_account = record { lines = λ t H. []; last = λ H. totals H ∷ []; full = wire_full ∷ [] }

@@ -1,0 +1,35 @@
+//! Plays a scenario, and lets a listener hear each record as soon as it is made.
+//!
+//! # What the layer above may rely on
+//!
+//! - A listener says what it writes of a history (`specs/Account.antt`), and `play` writes exactly that of the one legal
+//!   history of the scenario. Where it can't go on it answers why, and a front of that was written: where the next record
+//!   would make too long a wire, or may want memory, whole lines (`specs/Endings.antt`).
+//! - Each line begins a piece of its own (`specs/SinkLines.antt`).
+//! - `ReportWriter` writes the report, `TotalsWriter` the totals alone.
+//!
+//! # What it does not know
+//!
+//! What a node does, how a text is read, how a line looks; the words of a command line and its statuses.
+//!
+//! # Parts
+//!
+//! | module | holds | stated in |
+//! |---|---|---|
+//! | `sink_lines` | a line that is written to a sink | `specs/SinkLines.antt` |
+//! | `listener` | `Listener` | `specs/Account.antt`, `specs/Hearing.antt` |
+//! | `player` | `play` | `specs/Endings.antt` |
+//! | `report_writer`, `totals_writer` | two listeners | `specs/Accounts.antt` |
+#![tactic(auto)]
+
+mod listener;
+mod player;
+mod report_writer;
+mod sink_lines;
+mod totals_writer;
+
+pub use listener::Listener;
+pub use player::{PlayFault, play};
+pub use report_writer::ReportWriter;
+pub use sink_lines::write_line;
+pub use totals_writer::TotalsWriter;

@@ -1,0 +1,49 @@
+//! What hears the records of a scenario while it is played.
+ghost use Rattle.std.specs.Prelude.{◌≡◌, ◌++◌, [], ◌∷◌, List, ℕ, OnOk};
+ghost use Rattle.topology.specs.Rows.{TopologyState};
+ghost use Rattle.history.specs.Full.{Full};
+ghost use Rattle.player.specs.SinkLines.{Writing};
+ghost use Rattle.player.specs.Account.{Account};
+ghost use Rattle.player.specs.Hearing.{IsNews, CanHear};
+
+use history::Record;
+use td_outside::{Failed, Sink};
+use world::World;
+
+/// What hears each record of a scenario, as soon as it is made, and writes of it. Its meaning is what it writes of a
+/// history; what it keeps besides is its own.
+pub trait Listener {
+    /// What it writes of a history.
+    ghost account: { Account };
+
+    /// What it writes of a record, by the nodes and the records before it.
+    ghost news: { TopologyState → List Full → Full → List (List ℕ) };
+
+    /// What it keeps is that of these records of a topology's nodes.
+    ghost keeps: { Self → TopologyState → List Full → Type 0 };
+
+    /// Writes what stands before the first record.
+    fn begin<K: Sink>(&self, out: &mut K) -> Result<(), Failed>
+        ensures { (t : TopologyState) → keeps self.now t []
+            → Writing (K.state out.old) (K.state out.new) (account.lines t []) result };
+
+    /// Hears a record, whose entries are on the wire.
+    fn hear<K: Sink>(&mut self, world: &World, said: &Record, out: &mut K) -> Result<(), Failed>
+        requires { CanHear (keeps self.old) world.now said.now }
+        ensures kept { (t : TopologyState) (H : List Full) (r : Full) → keeps self.old t H → IsNews world.now said.now H r
+            → OnOk result (keeps self.new t (r ∷ H)) }
+        ensures written { (t : TopologyState) (H : List Full) (r : Full) → keeps self.old t H → IsNews world.now said.now H r
+            → Writing (K.state out.old) (K.state out.new) (news t H r) result };
+
+    /// Writes what stands behind the last record.
+    fn end<K: Sink>(&self, out: &mut K) -> Result<(), Failed>
+        ensures { (t : TopologyState) (H : List Full) → keeps self.now t H
+            → Writing (K.state out.old) (K.state out.new) (account.last H) result };
+
+    /// Writes what stands in place of a record that would make too long a wire.
+    fn break_off<K: Sink>(&self, out: &mut K) -> Result<(), Failed>
+        ensures { Writing (K.state out.old) (K.state out.new) account.full result };
+
+    /// What it writes of a record comes behind what it wrote of those before it.
+    ghost grows: { (t : TopologyState) (H : List Full) (r : Full) → account.lines t (r ∷ H) ≡ account.lines t H ++ news t H r };
+}

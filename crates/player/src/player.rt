@@ -1,0 +1,95 @@
+//! The player of a scenario.
+ghost use Rattle.std.specs.Prelude.{◌≡◌, ◌≤◌, [], length};
+ghost use Rattle.std.specs.List.{AllByRecursion};
+ghost use Rattle.history.specs.declared.event.TheConstants.{EVENTS_MAX};
+ghost use Rattle.history.specs.Events.{IsEvent};
+ghost use Rattle.world.specs.World.{record_in, is_more};
+ghost use Rattle.player.specs.Endings.{IsPlayed};
+
+use crate::listener::Listener;
+use history::{EVENTS_MAX, Events, Record, Stop, Topology, Turn};
+use std::alloc::Global;
+use td_outside::Sink;
+use world::World;
+
+/// Why a scenario was not played to its end.
+#[derive(Clone, Copy, Debug, PartialEq, Eq)]
+pub enum PlayFault {
+    /// The sink failed.
+    Failed,
+    /// Memory ran out before the first record, or for the next one.
+    NoMemory,
+    /// The next record would make more entries of the wire than it holds.
+    WireFull,
+}
+
+/// The record of a turn.
+fn record_in(turn: &Turn) -> &Record
+    ensures { result.now ≡ record_in turn.now }
+{
+    match turn {
+        Turn::More(said) => said,
+        Turn::Last(said) => said,
+    }
+}
+
+/// Whether the event of a turn has further records.
+fn is_more(turn: &Turn) -> bool
+    ensures { result ≡ is_more turn.now }
+{
+    match turn {
+        Turn::More(_) => true,
+        Turn::Last(_) => false,
+    }
+}
+
+/// Plays the scenario of a seed, nodes and events to its end. Each record is heard as soon as it is made.
+pub fn play<L: Listener, K: Sink>(
+    alloc: Global,
+    seed: u64,
+    topology: &Topology,
+    events: &Events,
+    listener: &mut L,
+    out: &mut K,
+) -> Result<(), PlayFault>
+    requires few { length events.now ≤ EVENTS_MAX }
+    requires legal { AllByRecursion (IsEvent topology.now) events.now }
+    requires fresh { L.keeps listener.old topology.now [] }
+    ensures { IsPlayed L.account (record { seed = seed; topology = topology.now; events = events.now }) (K.state out.old) (K.state out.new) result }
+{
+    legal::of_its_event();
+    let Ok(mut world) = World::new(alloc, topology, seed) else {
+        return Err(PlayFault::NoMemory);
+    };
+    let Ok(()) = listener.begin(out) else {
+        return Err(PlayFault::Failed);
+    };
+    for (index, event) in events.as_slice().iter().enumerate() {
+        // It ends, since less is left after each record that has further ones.
+        loop {
+            let played = world.step(index as u32, event);
+            let turn = match &played {
+                Ok(turn) => turn,
+                Err(stop) => match *stop {
+                    Stop::NoMemory => return Err(PlayFault::NoMemory),
+                    Stop::WireFull => {
+                        let Ok(()) = listener.break_off(out) else {
+                            return Err(PlayFault::Failed);
+                        };
+                        return Err(PlayFault::WireFull);
+                    }
+                },
+            };
+            let Ok(()) = listener.hear(&world, record_in(turn), out) else {
+                return Err(PlayFault::Failed);
+            };
+            if !is_more(turn) {
+                break;
+            }
+        }
+    }
+    match listener.end(out) {
+        Ok(()) => Ok(()),
+        Err(_) => Err(PlayFault::Failed),
+    }
+}
