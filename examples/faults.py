@@ -15,7 +15,6 @@ sys.path.insert(0, os.path.join(HERE, '..', 'tools'))
 
 import command
 
-PROGRAM = os.path.join(HERE, '..', 'crates', 'teredo_cli', 'out', 'teredo_cli')
 STORED = os.path.join(HERE, 'faults.txt')
 GOOD = {
     'first': '',
@@ -76,7 +75,7 @@ def table(program):
 
 def main():
     parser = command.words(__doc__)
-    parser.add_argument('program', metavar='PROGRAM', nargs='?', default=PROGRAM)
+    parser.add_argument('program', metavar='PROGRAM', nargs='?', default=command.PROGRAM)
     parser.add_argument('--check', action='store_true', help='compare with the table that is stored')
     options = parser.parse_args()
     made = table(os.path.abspath(options.program))

@@ -19,7 +19,6 @@ sys.path.insert(0, os.path.join(HERE, '..', 'tools'))
 import command
 from scenario import Scenario
 
-PROGRAM = os.path.join(HERE, '..', 'crates', 'teredo_cli', 'out', 'teredo_cli')
 STORED = os.path.join(HERE, 'pairs.txt')
 GUIDE = os.path.join(HERE, '..', 'docs', 'GUIDE.md')
 KINDS = ['cone', 'restricted', 'port', 'symmetric']
@@ -92,7 +91,7 @@ def differences(made):
 
 def options_of(words):
     parser = command.words(__doc__)
-    parser.add_argument('program', metavar='PROGRAM', nargs='?', default=PROGRAM)
+    parser.add_argument('program', metavar='PROGRAM', nargs='?', default=command.PROGRAM)
     what = parser.add_mutually_exclusive_group()
     what.add_argument('--check', action='store_true', help='compare with the table that is stored')
     what.add_argument('--scenario', nargs=2, metavar=('FROM', 'TO'), choices=KINDS + ['native'], help='print the scenario of a pair')
