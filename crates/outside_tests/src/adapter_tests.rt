@@ -3,10 +3,9 @@ use std::net::{IpAddr, Ipv4Addr, UdpSocket};
 use std::test::Fail;
 use std::time::Duration;
 use std::{env, fs};
-use td_base::{Ep, Ip4, Millis, Side, TEREDO_PORT};
+use td_base::{DATAGRAM_MAX, Ep, Ip4, Millis, Side, TEREDO_PORT};
 use td_outside::{
-    Arrival, Clock, DATAGRAM_MAX, Failed, FileSource, Link, Sink, Source, StdSink, SystemClock,
-    UdpPair,
+    Arrival, Clock, Failed, FileSource, Link, Sink, Source, StdSink, SystemClock, UdpPair,
 };
 
 #[test]
