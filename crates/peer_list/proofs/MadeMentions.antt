@@ -7,7 +7,7 @@ use Rattle.td_base.specs.Bytes.{IsBytes}
 use Rattle.td_base.specs.Ip6.{IsIp6, same_ip6, same_ip6-true}
 use Rattle.td_base.specs.declared.ipv6.Ip6.{Ip6}
 use Rattle.peer_list.specs.Mentions.{Mention, is_peer, is_about, is_touch_of}
-use Rattle.peer_list.specs.Listed.{is_recent, is_listed}
+use Rattle.peer_list.specs.Listed.{is_recent_touch, is_listed}
 use Rattle.peer_list.specs.Peers.{known}
 use Rattle.peer_list.specs.Laws.{OneEntry}
 use Rattle.peer_list.proofs.FromMentions.{kept, waiting_is_kept}
@@ -30,7 +30,7 @@ waiting_is one j n p a =
 
 -- PEERS
 
-found_peer : (p : Ip6) (n : ℕ) (j : List Mention) → AllByRecursion IsMadeMention j → is_recent LISTED_MS n (find (is_touch_of p) j) ≡ true → IsIp6 p
+found_peer : (p : Ip6) (n : ℕ) (j : List Mention) → AllByRecursion IsMadeMention j → is_recent_touch LISTED_MS n (find (is_touch_of p) j) ≡ true → IsIp6 p
 found_peer p n [] a h = absurd (false≢true h)
 found_peer p n (e ∷ j) a h = by (is_touch_of p e) refl (found_peer p n j a.1) h where
   of_peer : (o : Option Ip6) (touches : Bool) → IfSome o IsIp6 → cond (is_peer p o) touches false ≡ true → IsIp6 p
@@ -40,7 +40,7 @@ found_peer p n (e ∷ j) a h = by (is_touch_of p e) refl (found_peer p n j a.1) 
     same true k f = subst IsIp6 (sym (same_ip6-true p q k)) made
     same false k f = absurd (false≢true f)
 
-  by : (b : Bool) → is_touch_of p e ≡ b → (is_recent LISTED_MS n (find (is_touch_of p) j) ≡ true → IsIp6 p) → is_recent LISTED_MS n (cond b (Some e) (find (is_touch_of p) j)) ≡ true → IsIp6 p
+  by : (b : Bool) → is_touch_of p e ≡ b → (is_recent_touch LISTED_MS n (find (is_touch_of p) j) ≡ true → IsIp6 p) → is_recent_touch LISTED_MS n (cond b (Some e) (find (is_touch_of p) j)) ≡ true → IsIp6 p
   by true k rest g = of_peer e.peer e.bearing.touches a.0.peer k
   by false k rest g = rest g
 
