@@ -105,6 +105,13 @@ ASKS_AS_CONE = authentication(NONCE) + solicitation(HOST, cone=True)
 ASKS_WRONGLY = authentication(NONCE) + solicitation(HOST, wrong_by=1)
 TO_PEER = bubble(CLIENT, teredo('192.0.2.1', PEER))
 
+# A cone client of `client_table`, the nonce of its first question, which follows from the seed, and who sends to it.
+OWN, OWN_NONCE = teredo('192.0.2.1', '198.51.100.1:1024', cone=True), '7bbe63ba71bc8c21'
+ASKING = link_local('10.0.0.2:4000', cone=True)
+FRIEND, OTHER = (teredo('192.0.2.1', f'203.0.113.5:{port}') for port in (9, 11))
+ANSWER = advertisement('192.0.2.1', ASKING)
+SEEN_AT = origin('198.51.100.1:1024')
+
 # The example, and the datagrams that it has, in its order.
 PACKETS = {
     'scenarios/solicitation.toml': [ASKS],
@@ -130,6 +137,30 @@ PACKETS = {
         bubble(CLIENT, teredo('192.0.2.3', PEER)),
         bubble(CLIENT, NATIVE),
         bubble(CLIENT, 'fe80::1'),
+    ],
+    'scenarios/client_table.toml': [
+        b'\0',
+        authentication(NONCE, b'\xaa') + bubble(FRIEND, OWN),
+        authentication(NONCE)[:-1] + b'\1' + bubble(FRIEND, OWN),
+        icmp(FRIEND, OWN, 128, bytes(4), wrong_by=1),
+        authentication(NONCE) + SEEN_AT + ANSWER,
+        authentication(OWN_NONCE) + SEEN_AT + ANSWER,
+        authentication(OWN_NONCE) + ANSWER,
+        authentication(OWN_NONCE) + SEEN_AT + advertisement('192.0.2.3', ASKING),
+        bubble(FRIEND, OWN),
+        bubble(FRIEND, OWN),
+        bubble(FRIEND, FRIEND),
+        bubble(OWN, OWN),
+        origin('203.0.113.5:10') + bubble(FRIEND, OWN),
+        origin('203.0.113.5:9') + bubble(FRIEND, OWN),
+        origin('203.0.113.5:9') + bubble(FRIEND, OWN),
+        packet(FRIEND, OWN, DATA, b'hello'),
+        packet(FRIEND, OWN, DATA, b'hello'),
+        bubble(OTHER, OWN),
+        bubble(OTHER, OWN),
+        bubble(FRIEND, OWN),
+        packet(NATIVE, OWN, DATA, b'hello'),
+        bubble('2001:db8::2', OWN),
     ],
     'scenarios/spoofed_advertisement.toml': [
         authentication(NONCE) + origin('203.0.113.66:9') + advertisement('192.0.2.1', link_local('10.0.0.2:4000', cone=True)),

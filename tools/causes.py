@@ -2,7 +2,7 @@
 import fates
 from report import SOLICITATIONS, Entry, teredo_parts
 
-# How long a peer is trusted, and listed, after it was heard, and what lies between two tries: docs/DEFINITIONS.md, "Peers".
+# How long a peer is trusted, and listed, after it was heard, and what lies between two tries: docs/RULES.md, "Peers".
 FRESH_MS, LISTED_MS, TRY_GAP_MS = 30_000, 300_000, 2_000
 TRIES = ('queued', 'bubbles', 'test', 'indirect', 'suspicious_test')
 DRAWS = ('queued', 'indirect', 'advert', 'echoed', 'forward', 'forward_origin', 'six', 'sent', 'sent_cone')
@@ -22,7 +22,8 @@ def when(record):
 def of_drop(travels, record):
     """Why the node of a record dropped what it was given."""
     ways = {'nat_closed': of_closed_nat, 'off': of_off, 'dest': of_destination, 'barred': of_barred, 'mismatch': of_mismatch,
-            'unlisted': of_unlisted, 'not_mine': of_old_address, 'nowhere': of_nowhere, 'suspicious_test': of_suspicious}
+            'unlisted': of_unlisted, 'not_mine': of_old_address, 'nowhere': of_nowhere, 'suspicious_test': of_suspicious,
+            'source': of_source}
     way = ways.get(record.fate)
     if way:
         return way(travels, record)
@@ -317,6 +318,15 @@ def of_nowhere(travels, record):
     if entry.is_six:
         return 'no native host has its destination: there is no relay that would answer'
     return f'nobody is at {entry.target}'
+
+
+def of_source(travels, record):
+    if record.delivered is None:
+        return f'its source is not the address that {record.node} has'
+    entry = travels.report.entries[record.delivered]
+    if entry.is_six:
+        return f'{record.node} takes nothing of the IPv6 side from a Teredo source, or from one that isn\'t global'
+    return f'{record.node} takes nothing from {entry.source}, or of the packet\'s source'
 
 
 def of_suspicious(travels, record):
