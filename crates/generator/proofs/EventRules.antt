@@ -8,9 +8,9 @@ use Rattle.td_base.specs.Bytes.{IsBytes}
 use Rattle.topology.specs.Named.{has_host, is_nat, is_client_of}
 use Rattle.topology.specs.Rows.{TopologyState}
 use Rattle.topology.specs.Topology.{nodes, node_at}
-use Rattle.history.specs.declared.event.Event.{Event}
-use Rattle.history.specs.declared.event.Event.TheVariants as event
-use Rattle.history.specs.Events.{IsEvent}
+use Rattle.events.specs.declared.event.Event.{Event}
+use Rattle.events.specs.declared.event.Event.TheVariants as event
+use Rattle.events.specs.Events.{IsEvent}
 use Rattle.generator.specs.GeneratedNodes.{firsts, lettered_name, generated_server, generated_nat, generated_client, generated_relay, generated_native, nat_number, client_number, native_number, generated_nodes}
 use Rattle.generator.specs.GeneratedEvent.{host_event, copy_event, upset_event, sent_event, generated_event}
 use Rattle.generator.specs.Generated.{event_numbered, generated_events}

@@ -3,7 +3,7 @@ use Rattle.std.proofs.Common.{◌≡◌, ℕ, ◌+◌, ◌*◌, ◌%◌, ◌^◌
 use Rattle.rand_chacha.specs.ChaCha.{ChaCha, key_of, of_seed, word_at}
 use Rattle.qualify.specs.Generator.{chacha20, words_of, after_words}
 use Rattle.legal.specs.Lab.{stream_key, draws}
-use Rattle.history.specs.declared.event.Event.{Event}
+use Rattle.events.specs.declared.event.Event.{Event}
 use Rattle.generator.specs.GeneratedNodes.{firsts}
 use Rattle.generator.specs.declared.words.TheConstants.{EVENTS_STREAM}
 use Rattle.generator.specs.GeneratedEvent.{generated_event}

@@ -1,7 +1,7 @@
 -- The generated scenario.
 use Rattle.std.specs.Prelude.{ℕ, ◌+◌, ◌*◌, List}
-use Rattle.history.specs.declared.event.Event.{Event}
-use Rattle.history.specs.Scenario.{Scenario}
+use Rattle.events.specs.declared.event.Event.{Event}
+use Rattle.events.specs.Scenario.{Scenario}
 use Rattle.legal.specs.Lab.{draws}
 use Rattle.generator.specs.declared.words.TheConstants.{EVENTS_STREAM}
 use Rattle.generator.specs.GeneratedNodes.{firsts, generated_nodes}

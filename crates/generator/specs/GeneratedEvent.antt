@@ -1,9 +1,9 @@
 -- One event of the generated scenario, from its number and its three words.
 use Rattle.std.specs.Prelude.{ℕ, ◌+◌, ◌%◌, ◌==◌, nat_lt, if◌then◌else◌}
 use Rattle.byteorder.specs.Endian.{big_bytes}
-use Rattle.history.specs.declared.event.Event.{Event}
-use Rattle.history.specs.declared.event.Event.TheVariants as event
-use Rattle.history.specs.declared.target.Target.TheVariants as target
+use Rattle.events.specs.declared.event.Event.{Event}
+use Rattle.events.specs.declared.event.Event.TheVariants as event
+use Rattle.events.specs.declared.target.Target.TheVariants as target
 use Rattle.generator.specs.declared.event.TheConstants.{ADVANCE_END_MS}
 use Rattle.generator.specs.GeneratedNodes.{nat_number, client_number, native_number, ip4, external_ip}
 

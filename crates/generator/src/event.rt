@@ -1,12 +1,12 @@
 //! An event of three words.
 ghost use Rattle.std.specs.Prelude.{◌≡◌, ◌<◌, ◌≤◌, ◌%◌, ◌+◌, IfOk};
-ghost use Rattle.history.specs.Events.{IsEvent};
-ghost use Rattle.history.specs.declared.event.TheConstants.{EVENTS_MAX};
+ghost use Rattle.events.specs.Events.{IsEvent};
+ghost use Rattle.events.specs.declared.event.TheConstants.{EVENTS_MAX};
 ghost use Rattle.generator.specs.GeneratedNodes.{nat_number, client_number, native_number, generated_nodes};
 ghost use Rattle.generator.specs.GeneratedEvent.{host_event, copy_event, upset_event, sent_event, event_of_kind, generated_event};
 
 use crate::nodes::{FIRST_CLIENT, FIRST_NAT, FIRST_NATIVE, external_ip};
-use history::{Event, Target};
+use events::{Event, Target};
 use std::alloc::Global;
 use td_base::{Ep, Ip4, NoMemory};
 use td_outside::Octets;

@@ -1,8 +1,8 @@
 //! The generated scenario.
 ghost use Rattle.std.specs.Prelude.{◌≡◌, ◌≤◌, ◌<◌, length, IfOk};
 ghost use Rattle.std.specs.List.{AllByRecursion};
-ghost use Rattle.history.specs.declared.event.TheConstants.{EVENTS_MAX};
-ghost use Rattle.history.specs.Events.{IsEvent};
+ghost use Rattle.events.specs.declared.event.TheConstants.{EVENTS_MAX};
+ghost use Rattle.events.specs.Events.{IsEvent};
 ghost use Rattle.qualify.specs.Generator.{words_of, after_words};
 ghost use Rattle.generator.specs.GeneratedNodes.{generated_nodes};
 ghost use Rattle.generator.specs.GeneratedEvent.{generated_event};
@@ -11,7 +11,7 @@ ghost use Rattle.generator.specs.Generated.{generated_events};
 use crate::event::generated_event;
 use crate::nodes::generated_nodes;
 use crate::words::events_rng;
-use history::{Event, Events};
+use events::{Event, Events};
 use rand_chacha::ChaCha20Rng;
 use rand_core::utils::NextWord;
 use std::alloc::Global;

@@ -1,9 +1,9 @@
 //! The events of a seed, beside those that another program made.
 ghost use Rattle.std.specs.Prelude.{◌≤◌};
-ghost use Rattle.history.specs.declared.event.TheConstants.{EVENTS_MAX};
+ghost use Rattle.events.specs.declared.event.TheConstants.{EVENTS_MAX};
 
 use crate::generate;
-use history::print_event;
+use events::print_event;
 use std::test::*;
 
 /// Numbers of events of seed 7, and their texts.

@@ -5,8 +5,8 @@ use Rattle.td_base.specs.declared.ipv6.Ip6.{Ip6}
 use Rattle.teredo_node.specs.declared.fate.Fate.{Fate}
 use Rattle.teredo_node.specs.Journal.{Entry}
 use Rattle.topology.specs.Chains.{Passing}
-use Rattle.history.specs.declared.event.Event.{Event}
-use Rattle.history.specs.declared.acts.Act.{Act}
+use Rattle.events.specs.declared.event.Event.{Event}
+use Rattle.history.specs.declared.act.Act.{Act}
 use Rattle.history.specs.declared.mark.Loss.{Loss}
 
 -- an entry of the wire

@@ -1,12 +1,3 @@
-pub mod Scenario
-pub mod Events
-pub mod Words
-pub mod NodeWords
-pub mod Verbs
-pub mod EventText
-pub mod EventSpelling
-pub mod Answers
 pub mod Full
 pub mod Records
 pub mod Telling
-pub mod Numbers

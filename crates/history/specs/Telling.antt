@@ -2,8 +2,8 @@
 use Rattle.std.specs.Prelude.{◌≡◌, Bool, true, false, not, is_some}
 use Rattle.teredo_node.specs.declared.fate.Fate.{Fate}
 use Rattle.teredo_node.specs.declared.fate.Fate.TheVariants as fate
-use Rattle.history.specs.declared.acts.Act.{Act}
-use Rattle.history.specs.declared.acts.Act.TheVariants as act
+use Rattle.history.specs.declared.act.Act.{Act}
+use Rattle.history.specs.declared.act.Act.TheVariants as act
 use Rattle.history.specs.declared.mark.Mark.{Mark}
 use Rattle.history.specs.declared.mark.Mark.TheVariants as mark
 use Rattle.history.specs.Full.{Full}

@@ -1,4 +1,4 @@
-use crate::acts::Act;
+use crate::act::Act;
 use crate::mark_list::Marks;
 use td_base::{Ip6, Millis};
 use teredo_node::Fate;

@@ -1,6 +1,6 @@
 //! What the hosts of nodes send.
 ghost use Rattle.std.specs.Prelude.{◌≡◌, ◌≤◌, List, [], length, take};
-ghost use Rattle.history.specs.declared.event.TheConstants.{BODY_MAX};
+ghost use Rattle.events.specs.declared.event.TheConstants.{BODY_MAX};
 ghost use Rattle.history.specs.Full.{Full};
 ghost use Rattle.native_host.specs.declared.limits.TheConstants.{HOST_ECHO_ID};
 ghost use Rattle.ipv6_packet.specs.Packets.{packet_bytes};
@@ -11,7 +11,7 @@ ghost use Rattle.legal.specs.Next.{data_packet, echo_packet, address_at, target_
 ghost use Rattle.lab_nodes.specs.PlayedNode.{NodesOf};
 
 use crate::played_node::PlayedNode;
-use history::{BODY_MAX, Target};
+use events::{BODY_MAX, Target};
 use icmp6::Msg;
 use ipv6_packet::{HEADER, NEXT_ICMP, Packet};
 use native_host::{HOST_DATA_NEXT, HOST_ECHO_ID, HOST_HOP};

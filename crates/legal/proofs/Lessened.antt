@@ -4,11 +4,11 @@ use Rattle.std.specs.Prelude.{nat_le, max, option_to_list, slice_get, unwrap_or,
 use Rattle.std.specs.List.{AllByRecursion}
 use Rattle.std.proofs.lemmas.Bool.{false≢true, leb-true, eq-eqb}
 use Rattle.teredo_node.specs.Journal.{ticked, Journal, with_entry}
-use Rattle.history.specs.declared.event.Event.{Event}
-use Rattle.history.specs.declared.event.Event.TheVariants as event
-use Rattle.history.specs.declared.event.TheConstants.{ADVANCE_MAX_MS}
-use Rattle.history.specs.declared.acts.Act.TheVariants as act
-use Rattle.history.specs.Events.{IsEvent}
+use Rattle.events.specs.declared.event.Event.{Event}
+use Rattle.events.specs.declared.event.Event.TheVariants as event
+use Rattle.events.specs.declared.event.TheConstants.{ADVANCE_MAX_MS}
+use Rattle.history.specs.declared.act.Act.TheVariants as act
+use Rattle.events.specs.Events.{IsEvent}
 use Rattle.history.specs.Full.{Full}
 use Rattle.topology.specs.Rows.{TopologyState}
 use Rattle.topology.specs.Rules.{IsTopology, IsClient}

@@ -16,10 +16,10 @@ use Rattle.topology.specs.declared.nat_node.NatNode.{NatNode}
 use Rattle.topology.specs.declared.node.Node.{Node}
 use Rattle.topology.specs.declared.node.Node.TheVariants.{Server as server, Nat as nat, Client as client, Relay as relay, Native as native}
 use Rattle.topology.specs.Topology.{nat_at, client_at, nat_settings, settings_of_nat}
-use Rattle.history.specs.declared.event.Event.{Event}
-use Rattle.history.specs.declared.event.Event.TheVariants as event
-use Rattle.history.specs.declared.acts.Act.{Act}
-use Rattle.history.specs.declared.acts.Act.TheVariants as act
+use Rattle.events.specs.declared.event.Event.{Event}
+use Rattle.events.specs.declared.event.Event.TheVariants as event
+use Rattle.history.specs.declared.act.Act.{Act}
+use Rattle.history.specs.declared.act.Act.TheVariants as act
 use Rattle.history.specs.Full.{Full}
 use Rattle.legal.specs.Past.{now, is_node, is_restart, forgotten, at_nat, nat_history, nat_pasts, armed}
 use Rattle.legal.specs.Emit.{is_at_place, crossing_unless, by_way, sendings, entry_of}

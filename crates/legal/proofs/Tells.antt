@@ -34,11 +34,11 @@ use Rattle.relay_rules.specs.Reception as relay_reception
 use Rattle.relay_rules.specs.Transmission as relay_transmission
 use Rattle.relay_rules.specs.Journals.{relay_in, relay_six}
 use Rattle.relay_rules.specs.Laws as relay_laws
-use Rattle.history.specs.declared.event.Event.{Event}
-use Rattle.history.specs.declared.event.Event.TheVariants as event
-use Rattle.history.specs.declared.acts.Act.TheVariants as act
-use Rattle.history.specs.declared.acts.Verb.TheVariants as verb
-use Rattle.history.specs.declared.acts.Verb.{Verb}
+use Rattle.events.specs.declared.event.Event.{Event}
+use Rattle.events.specs.declared.event.Event.TheVariants as event
+use Rattle.history.specs.declared.act.Act.TheVariants as act
+use Rattle.events.specs.declared.verb.Verb.TheVariants as verb
+use Rattle.events.specs.declared.verb.Verb.{Verb}
 use Rattle.topology.specs.declared.node.Node.{Node}
 use Rattle.topology.specs.declared.node.Node.TheVariants.{Server as server, Nat as nat, Client as client, Relay as relay, Native as native}
 use Rattle.topology.specs.Topology.{nodes, node_at, side_at}

@@ -7,11 +7,11 @@ use Rattle.td_base.specs.declared.endpoint.Ep.{Ep}
 use Rattle.teredo_node.specs.declared.fate.Fate.TheVariants as fate
 use Rattle.teredo_node.specs.Journal.{ticked}
 use Rattle.ipv6_packet.specs.Packets.{packet_bytes}
-use Rattle.history.specs.declared.event.Event.{Event}
-use Rattle.history.specs.declared.event.Event.TheVariants as event
-use Rattle.history.specs.declared.acts.Act.TheVariants as act
-use Rattle.history.specs.declared.acts.Verb.{Verb}
-use Rattle.history.specs.declared.acts.Verb.TheVariants as verb
+use Rattle.events.specs.declared.event.Event.{Event}
+use Rattle.events.specs.declared.event.Event.TheVariants as event
+use Rattle.history.specs.declared.act.Act.TheVariants as act
+use Rattle.events.specs.declared.verb.Verb.{Verb}
+use Rattle.events.specs.declared.verb.Verb.TheVariants as verb
 use Rattle.topology.specs.declared.node.Node.{Node}
 use Rattle.topology.specs.Topology.{nodes, node_at}
 use Rattle.history.specs.Full.{Item, Full, wire}

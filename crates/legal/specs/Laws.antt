@@ -1,7 +1,7 @@
 -- What holds of every record that follows, whatever nodes there are.
 use Rattle.std.specs.Prelude.{◌≡◌, ◌≤◌, ◌<◌, ◌-◌, ℕ, Bool, true, false, List, ◌∷◌, ◌++◌, length, slice_get, Some}
-use Rattle.history.specs.declared.event.Event.{Event}
-use Rattle.history.specs.declared.event.Event.TheVariants as event
+use Rattle.events.specs.declared.event.Event.{Event}
+use Rattle.events.specs.declared.event.Event.TheVariants as event
 use Rattle.history.specs.Full.{Full, wire, items_of}
 use Rattle.history.specs.Telling.{IsTold}
 use Rattle.nat_kinds.specs.Laws.{IsPast}

@@ -8,8 +8,8 @@ use Rattle.peer_list.specs.Judged.{is_none, due_of}
 use Rattle.qualify.specs.Qualification.{qualification}
 use Rattle.client_rules.specs.Bearings as client_bearings
 use Rattle.relay_rules.specs.Bearings as relay_bearings
-use Rattle.history.specs.declared.event.Event.{Event}
-use Rattle.history.specs.declared.event.Event.TheVariants as event
+use Rattle.events.specs.declared.event.Event.{Event}
+use Rattle.events.specs.declared.event.Event.TheVariants as event
 use Rattle.topology.specs.declared.node.Node.{Node}
 use Rattle.topology.specs.declared.node.Node.TheVariants.{Client as client, Relay as relay}
 use Rattle.topology.specs.Topology.{nodes}

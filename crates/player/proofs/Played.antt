@@ -6,16 +6,16 @@ use Rattle.std.proofs.lemmas.Bool.{false≢true}
 use Rattle.td_outside.specs.Causes.{Rose}
 use Rattle.td_outside.specs.declared.clock.TheConstants.{CLOCK_END_MS}
 use Rattle.topology.specs.Rows.{TopologyState}
-use Rattle.history.specs.declared.event.Event.{Event}
-use Rattle.history.specs.declared.event.Event.TheVariants as event
-use Rattle.history.specs.declared.event.TheConstants.{ADVANCE_MAX_MS}
+use Rattle.events.specs.declared.event.Event.{Event}
+use Rattle.events.specs.declared.event.Event.TheVariants as event
+use Rattle.events.specs.declared.event.TheConstants.{ADVANCE_MAX_MS}
 use Rattle.history.specs.declared.records.Record.{Record}
 use Rattle.history.specs.declared.turn.Turn.{Turn}
 use Rattle.history.specs.declared.turn.Turn.TheVariants.{More, Last}
 use Rattle.history.specs.declared.turn.Stop.{Stop}
 use Rattle.history.specs.declared.turn.Stop.TheVariants as stop
-use Rattle.history.specs.Events.{IsEvent}
-use Rattle.history.specs.Scenario.{Scenario}
+use Rattle.events.specs.Events.{IsEvent}
+use Rattle.events.specs.Scenario.{Scenario}
 use Rattle.history.specs.Full.{Full, wire, items_of}
 use Rattle.history.specs.Records.{record_of}
 use Rattle.history.specs.Telling.{IsTold}

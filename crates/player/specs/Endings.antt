@@ -1,7 +1,7 @@
 -- How the playing of a scenario ends, and what was written by then. Each history here keeps within the wire.
 use Rattle.std.specs.Prelude.{◌≡◌, ◌<◌, ◌≤◌, ◌⊎◌, List, [], ◌∷◌, length, Some, Result, Ok, Err}
 use Rattle.td_outside.specs.Causes.{Rose}
-use Rattle.history.specs.Scenario.{Scenario}
+use Rattle.events.specs.Scenario.{Scenario}
 use Rattle.history.specs.Full.{Full, wire}
 use Rattle.world.specs.declared.wire.TheConstants.{ENTRIES_MAX}
 use Rattle.legal.specs.Next.{next}

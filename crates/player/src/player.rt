@@ -1,13 +1,15 @@
 //! The player of a scenario.
 ghost use Rattle.std.specs.Prelude.{◌≡◌, ◌≤◌, [], length};
 ghost use Rattle.std.specs.List.{AllByRecursion};
-ghost use Rattle.history.specs.declared.event.TheConstants.{EVENTS_MAX};
-ghost use Rattle.history.specs.Events.{IsEvent};
+ghost use Rattle.events.specs.declared.event.TheConstants.{EVENTS_MAX};
+ghost use Rattle.events.specs.Events.{IsEvent};
 ghost use Rattle.world.specs.World.{record_in, is_more};
 ghost use Rattle.player.specs.Endings.{IsPlayed};
 
 use crate::listener::Listener;
-use history::{EVENTS_MAX, Events, Record, Stop, Topology, Turn};
+use events::{EVENTS_MAX, Events};
+use history::{Record, Stop, Turn};
+use topology::Topology;
 use std::alloc::Global;
 use td_outside::Sink;
 use world::World;

@@ -5,7 +5,9 @@ use crate::nodes::{
     CLIENT, MAPPED, NAT, NATIVE, RELAY, RELAY_AT, SERVER, SERVER_AT, one_long_server, one_of_each,
     one_server,
 };
-use history::{Act, Loss, MARKS_MAX, Mark, Marks, Record, Topology, Verb};
+use events::Verb;
+use history::{Act, Loss, MARKS_MAX, Mark, Marks, Record};
+use topology::Topology;
 use report::{Sums, line, summary};
 use std::test::Fail;
 use td_base::{Ep, Ip4, Ip6, LineBuf, Millis, print_text};

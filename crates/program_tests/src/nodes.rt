@@ -1,12 +1,11 @@
 //! The nodes of the tests: one of each kind.
 ghost use Rattle.std.specs.Prelude.{◌≡◌};
 
-use history::{ClientNode, NatNode, NativeNode, RelayNode, ServerNode, Topology};
 use nat_kinds::NatKind;
 use std::alloc::Global;
 use std::test::Fail;
 use td_base::{Ep, Ip4, Ip6};
-use topology::Name;
+use topology::{ClientNode, Name, NatNode, NativeNode, RelayNode, ServerNode, Topology};
 
 pub const SERVER: u16 = 0;
 

@@ -1,5 +1,6 @@
 //! A world that is played by hand.
-use history::{Event, Topology};
+use events::Event;
+use topology::Topology;
 use std::test::Fail;
 use td_base::{Ep, Ip4};
 use td_outside::Octets;

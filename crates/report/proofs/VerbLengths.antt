@@ -1,8 +1,8 @@
 -- An event's word is short.
 use Rattle.std.proofs.Common.{◌≤◌, length, arith}
-use Rattle.history.specs.declared.acts.Verb.{Verb}
-use Rattle.history.specs.declared.acts.Verb.TheVariants as verb
-use Rattle.history.specs.Verbs.{verb_word}
+use Rattle.events.specs.declared.verb.Verb.{Verb}
+use Rattle.events.specs.declared.verb.Verb.TheVariants as verb
+use Rattle.events.specs.Verbs.{verb_word}
 
 pub verb_short : (v : Verb) → length (verb_word v) ≤ 8
 verb_short verb.Advance = omega arith

@@ -5,8 +5,8 @@ use Rattle.td_base.specs.Ip6Texts.{ip6_text}
 use Rattle.td_base.specs.Texts.{ep_text}
 use Rattle.topology.specs.Names.{name_text}
 use Rattle.teredo_node.specs.Fate.{fate_word}
-use Rattle.history.specs.declared.acts.Act.{Act}
-use Rattle.history.specs.declared.acts.Act.TheVariants as act
+use Rattle.history.specs.declared.act.Act.{Act}
+use Rattle.history.specs.declared.act.Act.TheVariants as act
 use Rattle.history.specs.declared.mark.Loss.{Loss}
 use Rattle.history.specs.declared.mark.Loss.TheVariants as loss
 use Rattle.history.specs.declared.mark.Mark.{Mark}
@@ -15,7 +15,7 @@ use Rattle.history.specs.declared.records.Record.{Record}
 use Rattle.topology.specs.Rows.{TopologyState}
 use Rattle.topology.specs.declared.node.Node.{Node}
 use Rattle.topology.specs.Topology.{name_of, node_at}
-use Rattle.history.specs.Verbs.{verb_word}
+use Rattle.events.specs.Verbs.{verb_word}
 use Rattle.history.specs.Full.{Full}
 use Rattle.history.specs.Records.{record_of}
 

@@ -2,14 +2,15 @@
 ghost use Rattle.std.specs.Prelude.{◌≡◌, ◌+◌, ◌≤◌, ◌++◌, length, decimal};
 ghost use Rattle.td_base.specs.Texts.{ep_text};
 ghost use Rattle.td_base.specs.Ip6Texts.{ip6_text};
-ghost use Rattle.history.specs.Verbs.{verb_word};
+ghost use Rattle.events.specs.Verbs.{verb_word};
 ghost use Rattle.report.specs.Lines.{act_text, node_text, address_text, handed_text, gone_text};
 
-use history::{Act, Topology, Verb};
+use events::Verb;
+use history::Act;
 use td_base::{
     Ep, Ip6, LINE_LEN, LineBuf, NUMBER_LEN, SHORT_LEN, print_ep, print_ip6, print_number,
 };
-use topology::NAME_LEN;
+use topology::{NAME_LEN, Topology};
 
 /// The most bytes of an endpoint.
 pub const EP_LEN: usize = 21;

@@ -4,7 +4,8 @@ ghost use Rattle.report.specs.Lines.{head_text, tail_text, record_line};
 
 use crate::fields::{put_act, put_address, put_gone, put_handed, put_node, put_number};
 use crate::marks::put_marks;
-use history::{Record, Topology};
+use history::Record;
+use topology::Topology;
 use td_base::{LINE_LEN, LineBuf};
 
 /// The most bytes of a line up to the fate.

@@ -5,7 +5,8 @@ ghost use Rattle.history.specs.declared.mark.Mark.TheVariants as mark;
 ghost use Rattle.report.specs.Lines.{loss_word, mark_text, marks_text};
 
 use crate::fields::{put_ep, put_node, put_number};
-use history::{Loss, Mark, Topology};
+use history::{Loss, Mark};
+use topology::Topology;
 use td_base::{Ep, LINE_LEN, LineBuf};
 
 /// The most bytes of the word of a loss.

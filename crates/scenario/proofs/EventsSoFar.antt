@@ -8,11 +8,11 @@ use Rattle.toml.specs.Data.{as_str, Data, Items, no_items, item, Members}
 use Rattle.toml.specs.View.{view, items_view}
 use Rattle.td_base.specs.Results.{◌>>=◌}
 use Rattle.topology.specs.Rows.{TopologyState}
-use Rattle.history.specs.declared.event.Event.{Event}
-use Rattle.history.specs.Events.{IsEvent}
-use Rattle.history.specs.EventText.{event_of}
+use Rattle.events.specs.declared.event.Event.{Event}
+use Rattle.events.specs.Events.{IsEvent}
+use Rattle.events.specs.EventText.{event_of}
 use Rattle.scenario.specs.declared.scenario_fault.ScenarioFault.{ScenarioFault}
-use Rattle.history.specs.declared.event.TheConstants.{EVENTS_MAX}
+use Rattle.events.specs.declared.event.TheConstants.{EVENTS_MAX}
 use Rattle.scenario.specs.declared.place.Place.{Place}
 use Rattle.scenario.specs.declared.place.Place.TheVariants as place
 use Rattle.scenario.specs.declared.scenario_fault.ScenarioFault.TheVariants as fault

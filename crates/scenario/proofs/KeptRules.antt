@@ -4,9 +4,9 @@ use Rattle.std.specs.Prelude.{ok_or, IfOk}
 use Rattle.toml.specs.Data.{Data, as_array, as_table, Items, no_items, item, Members, get_member}
 use Rattle.topology.specs.Rows.{TopologyState, no_nodes, with_server, with_nat, with_client, with_relay, with_native}
 use Rattle.topology.specs.Rules.{IsTopology}
-use Rattle.history.specs.Scenario.{Scenario}
+use Rattle.events.specs.Scenario.{Scenario}
 use Rattle.td_base.specs.Laws.{TextsAreMade}
-use Rattle.history.specs.declared.event.Event.{Event}
+use Rattle.events.specs.declared.event.Event.{Event}
 use Rattle.scenario.specs.declared.node_kind.NodeKind.{NodeKind}
 use Rattle.scenario.specs.declared.node_kind.NodeKind.TheVariants as kind
 use Rattle.scenario.specs.declared.place.Place.{Place}
@@ -15,7 +15,7 @@ use Rattle.scenario.specs.declared.reader.Scenario.{Scenario as CodeScenario}
 use Rattle.scenario.specs.Answers.{IsReadAs}
 use Rattle.scenario.specs.Told.{told}
 use Rattle.scenario.specs.declared.reader.TheConstants.{TEXT_MAX}
-use Rattle.history.specs.declared.event.TheConstants.{EVENTS_MAX}
+use Rattle.events.specs.declared.event.TheConstants.{EVENTS_MAX}
 use Rattle.scenario.specs.declared.scenario_fault.ScenarioFault.{ScenarioFault}
 use Rattle.scenario.specs.declared.scenario_fault.ScenarioFault.TheVariants as fault
 use Rattle.scenario.specs.NodeKinds.{list_key, most_rows, row_keys, scenario_keys}

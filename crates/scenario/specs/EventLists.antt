@@ -2,12 +2,12 @@
 use Rattle.std.specs.Prelude.{ℕ, ◌+◌, nat_le, if◌then◌else◌, List, [], ◌∷◌, length, codes, Option, Some, option_and_then, option_map, Result, Ok, Err}
 use Rattle.toml.specs.Data.{as_str, Items, no_items, item, Members}
 use Rattle.td_base.specs.Results.{◌>>=◌}
-use Rattle.history.specs.declared.event.Event.{Event}
+use Rattle.events.specs.declared.event.Event.{Event}
 use Rattle.topology.specs.Rows.{TopologyState}
-use Rattle.history.specs.EventText.{event_of}
+use Rattle.events.specs.EventText.{event_of}
 use Rattle.scenario.specs.declared.scenario_fault.ScenarioFault.{ScenarioFault}
 use Rattle.scenario.specs.declared.scenario_fault.ScenarioFault.TheVariants as fault
-use Rattle.history.specs.declared.event.TheConstants.{EVENTS_MAX}
+use Rattle.events.specs.declared.event.TheConstants.{EVENTS_MAX}
 use Rattle.scenario.specs.declared.place.Place.TheVariants as place
 use Rattle.scenario.specs.Paths.{key_path}
 use Rattle.scenario.specs.Keys.{typed, list_at}

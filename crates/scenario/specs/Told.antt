@@ -1,5 +1,5 @@
 -- What a scenario says.
-use Rattle.history.specs.Scenario.{Scenario}
+use Rattle.events.specs.Scenario.{Scenario}
 use Rattle.scenario.specs.declared.reader.Scenario.{Scenario as CodeScenario}
 
 abbrev pub told : CodeScenario → Scenario

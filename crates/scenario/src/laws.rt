@@ -1,7 +1,7 @@
 //! What holds of every scenario that a text is.
 ghost use Rattle.std.specs.Prelude.{◌≡◌, ℕ, List, Ok};
 ghost use Rattle.topology.specs.Rules.{IsTopology};
-ghost use Rattle.history.specs.Scenario.{Scenario};
+ghost use Rattle.events.specs.Scenario.{Scenario};
 ghost use Rattle.scenario.specs.Scenario.{scenario_of};
 
 /// The nodes of a scenario keep the rules of a topology.

@@ -2,7 +2,7 @@
 ghost use Rattle.std.specs.Prelude.{◌≡◌, ◌≢◌, ◌≤◌, ◌↔◌, Option, Some, None, length, option_map, IfOk, IfErr, ok_or};
 ghost use Rattle.std.specs.List.{AllByRecursion};
 ghost use Rattle.toml.specs.View.{table_view};
-ghost use Rattle.history.specs.Events.{IsEvent};
+ghost use Rattle.events.specs.Events.{IsEvent};
 ghost use Rattle.scenario.specs.declared.scenario_fault.ScenarioFault.TheVariants.{NotToml, NoMemory};
 ghost use Rattle.scenario.specs.Scenario.{scenario_in, document_of, written, scenario_of};
 ghost use Rattle.scenario.specs.Answers.{IsReadAs};
@@ -14,7 +14,7 @@ use crate::node_tables::nodes_of;
 use crate::place::Place;
 use crate::row::Row;
 use crate::scenario_fault::ScenarioFault;
-use history::{EVENTS_MAX, Events};
+use events::{EVENTS_MAX, Events};
 use std::alloc::Global;
 use toml::Table;
 use topology::Topology;

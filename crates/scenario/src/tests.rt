@@ -1,6 +1,6 @@
 //! Texts that are scenarios, and which refusal of a text is named.
 use crate::{put_refusal_line, read};
-use history::Event;
+use events::Event;
 use std::alloc::Global;
 use std::test::Fail;
 use td_base::{Ip4, LineBuf};

@@ -2,7 +2,7 @@
 use Rattle.std.proofs.Common.{◌≡◌, ℕ, List, Result, Ok, Err, sym, subst, inl, inr, refl, lit<, arith}
 use Rattle.td_outside.specs.Causes.{Rose}
 use Rattle.td_outside.specs.Moves.{Gains}
-use Rattle.history.specs.Scenario.{Scenario}
+use Rattle.events.specs.Scenario.{Scenario}
 use Rattle.scenario.specs.declared.scenario_fault.ScenarioFault.{ScenarioFault}
 use Rattle.scenario.specs.Refusals.{refusal_line}
 use Rattle.player.specs.declared.player.PlayFault.{PlayFault}

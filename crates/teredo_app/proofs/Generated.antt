@@ -1,6 +1,6 @@
 -- How `gen` ends, by how its scenario was played.
 use Rattle.std.proofs.Common.{◌≡◌, ◌⊎◌, Result, Ok, Err, subst, refl, inl, inr, lit<, arith}
-use Rattle.history.specs.Scenario.{Scenario}
+use Rattle.events.specs.Scenario.{Scenario}
 use Rattle.player.specs.declared.player.PlayFault.{PlayFault}
 use Rattle.player.specs.declared.player.PlayFault.TheVariants.{Failed, NoMemory, WireFull}
 use Rattle.td_outside.specs.Sink.{SinkState}

@@ -2,7 +2,7 @@
 use Rattle.std.specs.Prelude.{◌≡◌, ℕ, List, [], ◌∷◌, ◌⊎◌, codes, Contains, Option, Some, None, IfSome, Result, Ok, Err}
 use Rattle.td_outside.specs.Causes.{Rose}
 use Rattle.td_outside.specs.Moves.{Gains}
-use Rattle.history.specs.Scenario.{Scenario}
+use Rattle.events.specs.Scenario.{Scenario}
 use Rattle.scenario.specs.declared.scenario_fault.ScenarioFault.{ScenarioFault}
 use Rattle.scenario.specs.Scenario.{scenario_of}
 use Rattle.scenario.specs.Refusals.{refusal_line}

@@ -1,6 +1,6 @@
 -- The words `gen SEED COUNT`.
 use Rattle.std.specs.Prelude.{◌≡◌, ◌≤◌, ℕ, List, [], ◌∷◌, codes, decimal}
-use Rattle.history.specs.declared.event.TheConstants.{EVENTS_MAX}
+use Rattle.events.specs.declared.event.TheConstants.{EVENTS_MAX}
 use Rattle.teredo_app.specs.declared.gen_words.GenWords.{GenWords}
 use Rattle.teredo_app.specs.declared.gen_words.TheConstants.{SEED_MAX}
 

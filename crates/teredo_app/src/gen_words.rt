@@ -1,10 +1,10 @@
 //! The words `gen SEED COUNT`.
 ghost use Rattle.std.specs.Prelude.{◌≡◌, ◌≤◌, ℕ, [], ◌∷◌, Some, codes, decimal, IfSome};
-ghost use Rattle.history.specs.declared.event.TheConstants.{EVENTS_MAX};
+ghost use Rattle.events.specs.declared.event.TheConstants.{EVENTS_MAX};
 ghost use Rattle.teredo_app.specs.declared.gen_words.TheConstants.{SEED_MAX};
 ghost use Rattle.teredo_app.specs.GenWords.{AsksToGenerate};
 
-use history::EVENTS_MAX;
+use events::EVENTS_MAX;
 use td_base::read_number;
 
 /// The largest seed, as that of a scenario's text.

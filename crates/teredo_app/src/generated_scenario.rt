@@ -1,13 +1,13 @@
 //! A generated scenario.
 ghost use Rattle.std.specs.Prelude.{◌≡◌, ◌≤◌, length, IfOk};
 ghost use Rattle.std.specs.List.{AllByRecursion};
-ghost use Rattle.history.specs.Events.{IsEvent};
+ghost use Rattle.events.specs.Events.{IsEvent};
 ghost use Rattle.scenario.specs.Told.{told};
 ghost use Rattle.generator.specs.Generated.{generated};
-ghost use Rattle.history.specs.declared.event.TheConstants.{EVENTS_MAX};
+ghost use Rattle.events.specs.declared.event.TheConstants.{EVENTS_MAX};
 
 use generator::{Generated, generate};
-use history::EVENTS_MAX;
+use events::EVENTS_MAX;
 use scenario::Scenario;
 use std::alloc::Global;
 use td_base::NoMemory;

@@ -2,8 +2,8 @@
 ghost use Rattle.std.specs.Prelude.{◌≡◌, ◌≤◌, [], Option, Ok, map, string_bytes, length, OnOk, IfOk, IfErr};
 ghost use Rattle.std.specs.List.{AllByRecursion};
 ghost use Rattle.td_outside.specs.Moves.{Gains};
-ghost use Rattle.history.specs.declared.event.TheConstants.{EVENTS_MAX};
-ghost use Rattle.history.specs.Events.{IsEvent};
+ghost use Rattle.events.specs.declared.event.TheConstants.{EVENTS_MAX};
+ghost use Rattle.events.specs.Events.{IsEvent};
 ghost use Rattle.scenario.specs.Told.{told};
 ghost use Rattle.teredo_app.specs.SourceText.{TakesAtMost};
 ghost use Rattle.teredo_app.specs.Command.{Request, IsCommand, LeavesSource, LeavesNetwork};
@@ -23,7 +23,7 @@ use crate::statuses::{
     BAD_PAYLOAD, BAD_SCENARIO, BAD_WORDS, DONE, NO_LINK, NO_MEMORY, UNREADABLE, UNWRITABLE,
     WIRE_FULL,
 };
-use history::EVENTS_MAX;
+use events::EVENTS_MAX;
 use player::{PlayFault, ReportWriter, TotalsWriter, play};
 use scenario::{Scenario, ScenarioFault, put_refusal_line, read};
 use show::{Page, explain};

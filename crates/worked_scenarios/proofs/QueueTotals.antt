@@ -49,9 +49,9 @@ use Rattle.relay_rules.specs.Transmission.{given as relay_given, bubble_to, tran
 use Rattle.relay_rules.specs.Reception.{seen as relay_seen, reception as relay_reception}
 use Rattle.relay_rules.specs.Journals.{relay_in, relay_six, relay_tick, relay_due}
 use Rattle.nat_kinds.specs.declared.kind.NatKind.TheVariants as kind
-use Rattle.history.specs.declared.event.Event.TheVariants as event
-use Rattle.history.specs.declared.target.Target.TheVariants as target
-use Rattle.history.specs.Scenario.{Scenario}
+use Rattle.events.specs.declared.event.Event.TheVariants as event
+use Rattle.events.specs.declared.target.Target.TheVariants as target
+use Rattle.events.specs.Scenario.{Scenario}
 use Rattle.report.specs.Totals.{totals}
 use Rattle.native_host.specs.Natives.{native_in, native_out}
 use Rattle.legal.specs.Next.{next}

@@ -12,7 +12,7 @@ use Rattle.topology.specs.Chains.{outs_at}
 use Rattle.topology.specs.declared.node.Node.{Node}
 use Rattle.topology.specs.declared.node.Node.TheVariants.{Nat as nat}
 use Rattle.topology.specs.Topology.{node_at}
-use Rattle.history.specs.declared.acts.Act.{Act}
+use Rattle.history.specs.declared.act.Act.{Act}
 use Rattle.history.specs.declared.mark.Mark.{Mark}
 use Rattle.history.specs.declared.records.Record.{Record}
 use Rattle.history.specs.declared.turn.Stop.{Stop}

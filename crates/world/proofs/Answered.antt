@@ -4,7 +4,7 @@ use Rattle.std.specs.Prelude.{slice_get}
 use Rattle.teredo_node.specs.declared.fate.Fate.{Fate}
 use Rattle.teredo_node.specs.declared.fate.Fate.TheVariants as fate
 use Rattle.topology.specs.declared.node.Node.{Node}
-use Rattle.history.specs.declared.acts.Act.TheVariants as act
+use Rattle.history.specs.declared.act.Act.TheVariants as act
 use Rattle.history.specs.declared.records.Record.{Record}
 use Rattle.history.specs.Full.{Item, Full}
 use Rattle.legal.specs.Lab.{Draws, flat_lab}

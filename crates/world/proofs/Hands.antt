@@ -5,13 +5,13 @@ use Rattle.teredo_node.specs.Journal.{given}
 use Rattle.topology.specs.declared.node.Node.{Node}
 use Rattle.topology.specs.Topology.{node_at}
 use Rattle.topology.specs.Rows.{TopologyState}
-use Rattle.history.specs.declared.event.Event.{Event}
-use Rattle.history.specs.declared.event.Event.TheVariants as event
-use Rattle.history.specs.Events.{IsEvent}
+use Rattle.events.specs.declared.event.Event.{Event}
+use Rattle.events.specs.declared.event.Event.TheVariants as event
+use Rattle.events.specs.Events.{IsEvent}
 use Rattle.lab_nodes.specs.declared.played_node.PlayedNode.{PlayedNode}
 use Rattle.lab_nodes.specs.PlayedNode.{AreOf}
 use Rattle.world.proofs.Routes.{host_within, within_as}
-use Rattle.history.specs.declared.acts.Verb.{Verb}
+use Rattle.events.specs.declared.verb.Verb.{Verb}
 use Rattle.history.specs.declared.records.Record.{Record}
 use Rattle.history.specs.declared.turn.Stop.{Stop}
 use Rattle.history.specs.Full.{Full}

@@ -9,8 +9,8 @@ use Rattle.teredo_node.specs.Journal.{Journal}
 use Rattle.client_core.specs.Client.{ClientStandsFor}
 use Rattle.relay_core.specs.Relay.{RelayStandsFor}
 use Rattle.topology.specs.Rows.{TopologyState}
-use Rattle.history.specs.declared.acts.Act.{Act}
-use Rattle.history.specs.declared.event.Event.{Event}
+use Rattle.history.specs.declared.act.Act.{Act}
+use Rattle.events.specs.declared.event.Event.{Event}
 use Rattle.history.specs.Full.{Full}
 use Rattle.legal.specs.Lab.{Lab}
 use Rattle.legal.specs.Past.{is_node, is_restart, at_nat, journal, drawn, words}

@@ -1,8 +1,8 @@
 -- The least-numbered entry that was never delivered, by what a world remembers.
 use Rattle.std.proofs.Common.{◌≡◌, ◌<◌, ◌+◌, ℕ, zero, suc, Bool, true, false, List, [], ◌∷◌, length, get_or, Some, None, Result, Ok, refl, sym, ap, subst, ◌∙◌, arith}
 use Rattle.teredo_node.specs.declared.fate.Fate.TheVariants as fate
-use Rattle.history.specs.declared.event.Event.TheVariants as event
-use Rattle.history.specs.declared.acts.Verb.TheVariants as verb
+use Rattle.events.specs.declared.event.Event.TheVariants as event
+use Rattle.events.specs.declared.verb.Verb.TheVariants as verb
 use Rattle.history.specs.declared.records.Record.{Record}
 use Rattle.history.specs.declared.turn.Stop.{Stop}
 use Rattle.history.specs.Full.{Item, Full, wire}

@@ -8,7 +8,7 @@ use Rattle.td_base.specs.declared.endpoint.Ep.{Ep}
 use Rattle.teredo_node.specs.declared.fate.Fate.{Fate}
 use Rattle.teredo_node.specs.declared.fate.Fate.TheVariants as fate
 use Rattle.topology.specs.Rows.{TopologyState}
-use Rattle.history.specs.declared.acts.Act.{Act}
+use Rattle.history.specs.declared.act.Act.{Act}
 use Rattle.history.specs.declared.mark.Mark.{Mark}
 use Rattle.history.specs.declared.records.Record.{Record}
 use Rattle.history.specs.declared.turn.Stop.{Stop}
@@ -19,8 +19,8 @@ use Rattle.history.specs.Records.{record_of, marks_of}
 use Rattle.legal.specs.Lab.{Draws, flat_lab}
 use Rattle.legal.specs.Past.{now, is_number}
 use Rattle.legal.specs.Next.{Numbered, numbered, blank, puts, copies, next_of}
-use Rattle.history.specs.declared.acts.Act.TheVariants as act
-use Rattle.history.specs.declared.event.Event.TheVariants as event
+use Rattle.history.specs.declared.act.Act.TheVariants as act
+use Rattle.events.specs.declared.event.Event.TheVariants as event
 use Rattle.legal.specs.Frame.{EachFrames}
 use Rattle.lab_nodes.specs.declared.played_node.PlayedNode.{PlayedNode}
 use Rattle.lab_nodes.specs.PlayedNode.{NodesOf}

@@ -10,9 +10,9 @@ use Rattle.topology.specs.declared.node.Node.TheVariants.{Server as server, Nat 
 use Rattle.topology.specs.Rows.{TopologyState}
 use Rattle.topology.specs.Named.{is_client_of}
 use Rattle.topology.specs.Topology.{node_at, client_at}
-use Rattle.history.specs.declared.event.Event.TheVariants as event
-use Rattle.history.specs.declared.acts.Verb.TheVariants as verb
-use Rattle.history.specs.Events.{IsForgotten}
+use Rattle.events.specs.declared.event.Event.TheVariants as event
+use Rattle.events.specs.declared.verb.Verb.TheVariants as verb
+use Rattle.events.specs.Events.{IsForgotten}
 use Rattle.history.specs.Full.{Full}
 use Rattle.legal.specs.Lab.{Draws, Lab, flat_lab}
 use Rattle.legal.specs.Past.{now, drawn, journal, new_journal}

@@ -1,10 +1,10 @@
 -- What one step does to the histories that a world stands for.
 use Rattle.std.proofs.Common.{◌≡◌, ◌≤◌, ◌<◌, ℕ, Bool, List, [], ◌∷◌, ◌++◌, ◌+◌, length, Option, Some, None, Result, Ok, Err, refl, sym, ap, subst, ◌∙◌, arith}
 use Rattle.std.specs.Prelude.{◌||◌, IfOk}
-use Rattle.history.specs.declared.event.Event.{Event}
-use Rattle.history.specs.declared.event.TheConstants.{ADVANCE_MAX_MS}
+use Rattle.events.specs.declared.event.Event.{Event}
+use Rattle.events.specs.declared.event.TheConstants.{ADVANCE_MAX_MS}
 use Rattle.world.specs.declared.wire.TheConstants.{ENTRIES_MAX}
-use Rattle.history.specs.Events.{IsEvent}
+use Rattle.events.specs.Events.{IsEvent}
 use Rattle.history.specs.declared.turn.Turn.{Turn}
 use Rattle.history.specs.declared.turn.Turn.TheVariants.{More, Last}
 use Rattle.history.specs.declared.turn.Stop.{Stop}

@@ -1,6 +1,6 @@
 -- What one event does to a world, for the contracts of private functions.
 use Rattle.std.specs.Prelude.{◌≡◌, ◌≤◌, ◌<◌, ◌+◌, ◌||◌, Bool, true, false, ℕ, max, List, ◌++◌, ◌∷◌, get_or, length, Option, Some, None, Result, Ok, Err}
-use Rattle.history.specs.declared.event.Event.{Event}
+use Rattle.events.specs.declared.event.Event.{Event}
 use Rattle.history.specs.declared.records.Record.{Record}
 use Rattle.history.specs.declared.turn.Turn.{Turn}
 use Rattle.history.specs.declared.turn.Turn.TheVariants.{More, Last}
@@ -10,8 +10,8 @@ use Rattle.topology.specs.declared.topology.TheConstants.{NODES_MAX}
 use Rattle.topology.specs.Rules.{IsTopology}
 use Rattle.teredo_node.specs.Journal.{ticked}
 use Rattle.topology.specs.declared.node.Node.{Node}
-use Rattle.history.specs.declared.acts.Act.{Act}
-use Rattle.history.specs.declared.acts.Act.TheVariants as act
+use Rattle.history.specs.declared.act.Act.{Act}
+use Rattle.history.specs.declared.act.Act.TheVariants as act
 use Rattle.history.specs.Full.{Full, wire, items_of}
 use Rattle.history.specs.Records.{record_of}
 use Rattle.legal.specs.Lab.{Draws, Lab, flat_lab}

@@ -2,8 +2,8 @@
 use Rattle.std.specs.Prelude.{ℕ, [], Option, None}
 use Rattle.teredo_node.specs.declared.fate.Fate.{Fate}
 use Rattle.teredo_node.specs.declared.fate.Fate.TheVariants as fate
-use Rattle.history.specs.declared.acts.Act.{Act}
-use Rattle.history.specs.declared.acts.Act.TheVariants as act
+use Rattle.history.specs.declared.act.Act.{Act}
+use Rattle.history.specs.declared.act.Act.TheVariants as act
 use Rattle.history.specs.declared.records.Record.{Record}
 
 -- the record of an event at a moment that doesn't say yet what was done

@@ -2,7 +2,7 @@
 ghost use Rattle.std.specs.Prelude.{◌≡◌, ◌<◌, List, [], length, Some, OnErr};
 ghost use Rattle.topology.specs.declared.node.Node.{Node};
 ghost use Rattle.topology.specs.Topology.{node_at};
-ghost use Rattle.history.specs.declared.event.Event.{Event};
+ghost use Rattle.events.specs.declared.event.Event.{Event};
 ghost use Rattle.history.specs.Full.{Full};
 ghost use Rattle.legal.specs.Lab.{Draws, flat_lab};
 ghost use Rattle.legal.specs.Past.{at_nat};

@@ -1,7 +1,7 @@
 //! Datagrams come onto the wire from nowhere.
 ghost use Rattle.std.specs.Prelude.{◌≡◌, ◌≤◌, List, length, OnErr};
-ghost use Rattle.history.specs.declared.event.Event.{Event};
-ghost use Rattle.history.specs.declared.event.Event.TheVariants as event;
+ghost use Rattle.events.specs.declared.event.Event.{Event};
+ghost use Rattle.events.specs.declared.event.Event.TheVariants as event;
 ghost use Rattle.td_base.specs.declared.datagram.TheConstants.{DATAGRAM_MAX};
 ghost use Rattle.history.specs.Full.{Full};
 ghost use Rattle.legal.specs.Lab.{Draws, flat_lab};
@@ -13,7 +13,8 @@ ghost use Rattle.world.specs.Playing.{Plays, played};
 use crate::record::say;
 use crate::wire::Entry;
 use crate::world::World;
-use history::{Act, Record, Stop, Verb};
+use events::Verb;
+use history::{Act, Record, Stop};
 use td_base::Ep;
 use td_outside::Octets;
 use teredo_node::Fate;

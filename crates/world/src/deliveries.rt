@@ -1,7 +1,7 @@
 //! Entries of the wire are delivered.
 ghost use Rattle.std.specs.Prelude.{◌≡◌, List, [], OnErr};
-ghost use Rattle.history.specs.declared.event.Event.{Event};
-ghost use Rattle.history.specs.declared.event.Event.TheVariants as event;
+ghost use Rattle.events.specs.declared.event.Event.{Event};
+ghost use Rattle.events.specs.declared.event.Event.TheVariants as event;
 ghost use Rattle.history.specs.Full.{Full};
 ghost use Rattle.legal.specs.Lab.{Draws, flat_lab};
 ghost use Rattle.legal.specs.Past.{forgotten};
@@ -14,7 +14,8 @@ use crate::prompt::Prompt;
 use crate::record::say;
 use crate::route::{Route, route_of};
 use crate::world::World;
-use history::{Act, Record, Stop, Verb};
+use events::Verb;
+use history::{Act, Record, Stop};
 use teredo_node::Fate;
 
 impl<'a> World<'a> {

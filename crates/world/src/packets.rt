@@ -1,9 +1,9 @@
 //! Hosts hand in packets.
 ghost use Rattle.std.specs.Prelude.{◌≡◌, ◌≤◌, ◌<◌, List, [], length, OnErr};
 ghost use Rattle.topology.specs.Topology.{node_at};
-ghost use Rattle.history.specs.declared.event.Event.{Event};
-ghost use Rattle.history.specs.declared.event.Event.TheVariants as event;
-ghost use Rattle.history.specs.declared.event.TheConstants.{BODY_MAX};
+ghost use Rattle.events.specs.declared.event.Event.{Event};
+ghost use Rattle.events.specs.declared.event.Event.TheVariants as event;
+ghost use Rattle.events.specs.declared.event.TheConstants.{BODY_MAX};
 ghost use Rattle.td_base.specs.declared.datagram.TheConstants.{DATAGRAM_MAX};
 ghost use Rattle.history.specs.Full.{Full};
 ghost use Rattle.legal.specs.Lab.{Draws, flat_lab};
@@ -15,7 +15,8 @@ ghost use Rattle.world.specs.Playing.{Plays, played};
 
 use crate::prompt::Prompt;
 use crate::world::World;
-use history::{Act, Record, Stop, Target, Verb};
+use events::{Target, Verb};
+use history::{Act, Record, Stop};
 use lab_nodes::{DATA_MAX, address_at, echo, target_address, write_data};
 
 impl<'a> World<'a> {

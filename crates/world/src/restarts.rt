@@ -1,7 +1,7 @@
 //! Nodes start anew, and NATs forget.
 ghost use Rattle.std.specs.Prelude.{◌≡◌, ◌<◌, List, length, Ok};
-ghost use Rattle.history.specs.declared.event.Event.TheVariants as event;
-ghost use Rattle.history.specs.Events.{IsForgotten};
+ghost use Rattle.events.specs.declared.event.Event.TheVariants as event;
+ghost use Rattle.events.specs.Events.{IsForgotten};
 ghost use Rattle.history.specs.Full.{Full};
 ghost use Rattle.legal.specs.Lab.{Draws, flat_lab};
 ghost use Rattle.legal.specs.Next.{next_of};
@@ -11,7 +11,8 @@ ghost use Rattle.world.specs.Playing.{Plays};
 
 use crate::record::say;
 use crate::world::World;
-use history::{Act, Record, Verb};
+use events::Verb;
+use history::{Act, Record};
 use lab_nodes::{forget_at, restart_at};
 use teredo_node::Fate;
 use topology::Node;

@@ -1,9 +1,9 @@
 //! The nodes of a scenario, and everything that they sent.
 ghost use Rattle.std.specs.Prelude.{◌≡◌, ◌≤◌, ◌+◌, List, [], false, length, None, Ok, Err, slice_get, option_map, IfSome, IfOk, IfErr, OnErr};
-ghost use Rattle.history.specs.declared.event.Event.TheVariants as event;
-ghost use Rattle.history.specs.declared.event.TheConstants.{ADVANCE_MAX_MS};
+ghost use Rattle.events.specs.declared.event.Event.TheVariants as event;
+ghost use Rattle.events.specs.declared.event.TheConstants.{ADVANCE_MAX_MS};
 ghost use Rattle.td_base.specs.declared.datagram.TheConstants.{DATAGRAM_MAX};
-ghost use Rattle.history.specs.Events.{IsEvent};
+ghost use Rattle.events.specs.Events.{IsEvent};
 ghost use Rattle.history.specs.Full.{Full, bytes_of};
 ghost use Rattle.legal.specs.Lab.{Draws, flat_lab, draws};
 ghost use Rattle.legal.specs.Laws.{is_advance};
@@ -17,7 +17,8 @@ ghost use Rattle.world.specs.Playing.{Plays, PlaysTurn, Turned, played, ended, t
 use crate::going::Going;
 use crate::record::blank;
 use crate::wire::{ENTRIES_MAX, Wire, WireEntry};
-use history::{Event, Record, Stop, Turn, Verb};
+use events::{Event, Verb};
+use history::{Record, Stop, Turn};
 use lab_nodes::{PlayedNode, first_nodes};
 use std::alloc::Global;
 use std::marker::Model;

@@ -2,8 +2,8 @@ use Rattle.std.proofs.Common.{◌≡◌, ℕ, List, [], Some, Ok, refl, sym, ap,
 use Rattle.std.proofs.lemmas.Result.{err_from_is_err_and}
 use Rattle.topology.specs.Topology.{node_at}
 use Rattle.topology.specs.declared.node.Node.{Node}
-use Rattle.history.specs.declared.acts.Act.{Act}
-use Rattle.history.specs.declared.event.Event.{Event}
+use Rattle.history.specs.declared.act.Act.{Act}
+use Rattle.events.specs.declared.event.Event.{Event}
 use Rattle.history.specs.declared.records.Record.{Record}
 use Rattle.history.specs.Full.{Full}
 use Rattle.legal.specs.Lab.{Draws, flat_lab}

@@ -1,7 +1,7 @@
 use Rattle.std.proofs.Common.{◌≡◌, ◌+◌, ℕ, None, refl, sym, ap, subst, ◌∙◌, arith}
 use Rattle.teredo_node.specs.declared.fate.Fate.TheVariants as fate
-use Rattle.history.specs.declared.acts.Verb.TheVariants as verb
-use Rattle.history.specs.declared.event.Event.TheVariants as event
+use Rattle.events.specs.declared.verb.Verb.TheVariants as verb
+use Rattle.events.specs.declared.event.Event.TheVariants as event
 use Rattle.topology.specs.Topology.{nodes}
 use Rattle.legal.specs.Next.{plain, least_due}
 use Rattle.lab_nodes.specs.declared.due.Due.{Due}

@@ -1,7 +1,7 @@
 use Rattle.std.proofs.Common.{◌≡◌, ℕ, List, Some, None, sym, ap, subst, ◌∙◌}
 use Rattle.std.specs.Prelude.{slice_get, option_map}
-use Rattle.history.specs.declared.acts.Act.TheVariants as act
-use Rattle.history.specs.declared.event.Event.TheVariants as event
+use Rattle.history.specs.declared.act.Act.TheVariants as act
+use Rattle.events.specs.declared.event.Event.TheVariants as event
 use Rattle.history.specs.Full.{Item, wire}
 use Rattle.legal.specs.Next.{numbered, puts}
 use Rattle.world.specs.WireEntry.{item_lent}

@@ -2,8 +2,8 @@ use Rattle.std.proofs.Common.{◌≡◌, ◌<◌, length, List, [], Some, None, 
 use Rattle.std.specs.Prelude.{slice_get, option_map}
 use Rattle.teredo_node.specs.declared.fate.Fate.TheVariants as fate
 use Rattle.topology.specs.Topology.{node_at}
-use Rattle.history.specs.declared.event.Event.{Event}
-use Rattle.history.specs.declared.acts.Act.TheVariants as act
+use Rattle.events.specs.declared.event.Event.{Event}
+use Rattle.history.specs.declared.act.Act.TheVariants as act
 use Rattle.history.specs.Full.{Full}
 use Rattle.legal.specs.Lab.{Draws, flat_lab}
 use Rattle.legal.specs.Past.{forgotten}

@@ -1,7 +1,7 @@
 use Rattle.std.proofs.Common.{◌≡◌, ◌<◌, ℕ, length, get_or, true, false, None, Ok, sym, ap, subst, ◌∙◌, refl}
 use Rattle.teredo_node.specs.declared.fate.Fate.TheVariants as fate
-use Rattle.history.specs.declared.event.Event.TheVariants as event
-use Rattle.history.specs.declared.acts.Verb.TheVariants as verb
+use Rattle.events.specs.declared.event.Event.TheVariants as event
+use Rattle.events.specs.declared.verb.Verb.TheVariants as verb
 use Rattle.legal.specs.Next.{numbered, plain, delivers, next_of}
 use Rattle.world.specs.Wire.{WireState}
 use Rattle.legal.specs.Lab.{flat_lab}

@@ -1,6 +1,6 @@
 use Rattle.std.proofs.Common.{None, ap, ◌∙◌}
 use Rattle.teredo_node.specs.declared.fate.Fate.TheVariants as fate
-use Rattle.history.specs.declared.acts.Verb.TheVariants as verb
+use Rattle.events.specs.declared.verb.Verb.TheVariants as verb
 use Rattle.history.specs.declared.records.Record.{Record}
 use Rattle.legal.specs.Next.{plain}
 use Rattle.world.specs.Record.{with_deed}

@@ -1,9 +1,9 @@
 use Rattle.std.proofs.Common.{ℕ, List, refl, sym, ap, subst, ◌∙◌}
 use Rattle.std.proofs.lemmas.Bool.{false≢true}
 use Rattle.topology.specs.Topology.{node_at}
-use Rattle.history.specs.declared.event.Event.{Event}
-use Rattle.history.specs.declared.event.Event.TheVariants as event
-use Rattle.history.specs.declared.acts.Verb.TheVariants as verb
+use Rattle.events.specs.declared.event.Event.{Event}
+use Rattle.events.specs.declared.event.Event.TheVariants as event
+use Rattle.events.specs.declared.verb.Verb.TheVariants as verb
 use Rattle.legal.specs.Lab.{flat_lab}
 use Rattle.legal.specs.Laws.{is_advance}
 use Rattle.legal.specs.Next.{numbered, hands_in, next_of}

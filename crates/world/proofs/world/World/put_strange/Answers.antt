@@ -1,6 +1,6 @@
 use Rattle.std.proofs.Common.{ℕ, List, subst}
-use Rattle.history.specs.declared.event.Event.TheVariants as event
-use Rattle.history.specs.declared.acts.Verb.TheVariants as verb
+use Rattle.events.specs.declared.event.Event.TheVariants as event
+use Rattle.events.specs.declared.verb.Verb.TheVariants as verb
 use Rattle.legal.specs.Next.{numbered, plain, puts}
 use Rattle.world.specs.Playing.{Plays, played}
 use Rattle.world.proofs.world.World.put_strange.Goals as goal

@@ -1,7 +1,7 @@
 use Rattle.legal.specs.Lab.{flat_lab}
 use Rattle.std.proofs.Common.{◌≡◌, ℕ, List, [], refl, sym, ap, subst, ◌∙◌}
-use Rattle.history.specs.declared.event.Event.TheVariants as event
-use Rattle.history.specs.declared.acts.Verb.TheVariants as verb
+use Rattle.events.specs.declared.event.Event.TheVariants as event
+use Rattle.events.specs.declared.verb.Verb.TheVariants as verb
 use Rattle.ipv6_packet.specs.Packets.{packet_bytes}
 use Rattle.topology.specs.Topology.{node_at}
 use Rattle.legal.specs.Next.{numbered, data_packet, address_at, target_address, hands_in}

@@ -1,8 +1,8 @@
 use Rattle.std.proofs.Common.{◌≡◌, ℕ, [], List, Some, None, max, refl, sym, ap, subst, ◌∙◌}
 use Rattle.topology.specs.Topology.{node_at}
 use Rattle.teredo_node.specs.Journal.{ticked}
-use Rattle.history.specs.declared.acts.Act.TheVariants as act
-use Rattle.history.specs.declared.event.Event.{Event}
+use Rattle.history.specs.declared.act.Act.TheVariants as act
+use Rattle.events.specs.declared.event.Event.{Event}
 use Rattle.history.specs.declared.records.Record.{Record}
 use Rattle.history.specs.Full.{Full}
 use Rattle.legal.specs.Lab.{Draws, flat_lab}

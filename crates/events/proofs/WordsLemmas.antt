@@ -1,0 +1,82 @@
+-- The words of a text, one after the other.
+use Rattle.std.proofs.Common.{◌≡◌, ℕ, ◌+◌, ◌-◌, ◌<◌, ◌≤◌, ◌==◌, nat_lt, not, cond, Bool, true, false, List, [], ◌∷◌, length, take, drop, Some, None, refl, sym, ap, ◌∙◌, arith, le-leb, ltb-false, inl, inr, add_assoc}
+use Rattle.std.specs.Prelude.{position}
+use Rattle.std.specs.List.{slice_split, position_or_len}
+use Rattle.std.proofs.lemmas.Bool.{lt-leb, cases_lt}
+use Rattle.std.proofs.lemmas.List.{drop-drop, length-drop, length-take, take_all}
+use Rattle.std.proofs.lemmas.List.Splits.{slice_split_none, slice_split_first, length-slice_split}
+use Rattle.std.proofs.lemmas.List.Sums.{fails_before_first, prefix_len-le-length}
+use Rattle.events.specs.Words.{space}
+use Rattle.events.specs.EventText.{no_word, a_word, placed, words}
+use Rattle.events.specs.Answers.{words_from}
+
+-- behind the end of the text
+pub words_from-end : (text : List ℕ) (at : ℕ) → length text < at → words_from text at ≡ no_word (length text)
+unfolding words_from
+words_from-end text at lt = rw (lt-leb at (length text) lt) refl
+
+placed-more : (place : ℕ) (word : List ℕ) (parts : List (List ℕ)) → 0 < length parts → placed place (word ∷ parts) ≡ a_word place word (placed (place + length word + 1) parts)
+placed-more place word [] some = absurd (omega (arith, some))
+placed-more place word (next ∷ more) some = refl
+
+choice_some : {A : Type 0} (b : Bool) (x y : A) → cond b (Some x) None ≡ Some y → (b ≡ true) × (x ≡ y)
+choice_some true x y e = (refl, cc)
+choice_some false x y e = absurd cc
+
+choice_none : {A : Type 0} (b : Bool) (x : A) → cond b (Some x) None ≡ None → b ≡ false
+choice_none true x e = absurd cc
+choice_none false x e = refl
+
+-- the first place, and how many elements are before it
+pub len_found : {A : Type 0} (p : A → Bool) (xs : List A) (i : ℕ) → position p xs ≡ Some i → (i ≡ position_or_len p xs) × (i ≤ length xs)
+len_found p xs i e =
+    let both = choice_some (nat_lt (position_or_len p xs) (length xs)) (position_or_len p xs) i e in
+    (sym both.1, omega (arith, both.1, prefix_len-le-length (λ x. not (p x)) xs))
+
+pub len_none : {A : Type 0} (p : A → Bool) (xs : List A) → position p xs ≡ None → length xs ≡ position_or_len p xs
+len_none p xs e =
+    let past = ltb-false (position_or_len p xs) (length xs) (choice_none (nat_lt (position_or_len p xs) (length xs)) (position_or_len p xs) e) in
+    omega (arith, past, prefix_len-le-length (λ x. not (p x)) xs)
+
+abbrev is_space : ℕ → Bool
+is_space byte = byte == space
+
+placed_at : (n m : ℕ) (word left : List ℕ) → n ≡ m → placed n (slice_split is_space left) ≡ placed m (slice_split is_space left)
+placed_at n m word left e = ap (λ k. placed k (slice_split is_space left)) e
+
+within : (text : List ℕ) (at : ℕ) → at ≤ length text → words_from text at ≡ placed at (slice_split is_space (drop at text))
+unfolding words_from
+within text at le = rw (le-leb at (length text) le) refl
+
+-- the words of a text from a place within it
+pub words_from-cut : (text : List ℕ) (at len : ℕ) → at ≤ length text → len ≡ position_or_len (λ byte. byte == space) (drop at text) → words_from text at ≡ a_word at (take len (drop at text)) (words_from text (at + len + 1))
+words_from-cut text at len le e =
+    let left = drop at text in
+    let size : length left ≡ length text - at = length-drop at text in
+    let bound = prefix_len-le-length (λ x. not (is_space x)) left in
+    let short : len ≤ length left = omega (arith, e, bound) in
+    let taken : length (take len left) ≡ len = omega (arith, length-take len left, short) in
+    within text at le ∙ elim (cases_lt len (length left)) as (λ _. placed at (slice_split is_space left) ≡ a_word at (take len left) (words_from text (at + len + 1))) [
+      | inl lt ↦
+          let cut : slice_split is_space left ≡ take len left ∷ slice_split is_space (drop (len + 1) left) = slice_split_first is_space left 0 (omega (arith, lt, e)) ∙ rw (sym e) refl in
+          let inside : at + len + 1 ≤ length text = omega (arith, lt, size) in
+          let some : 0 < length (slice_split is_space (drop (len + 1) left)) = omega (arith, length-slice_split is_space (drop (len + 1) left)) in
+          let same : drop (len + 1) left ≡ drop (at + len + 1) text = drop-drop (len + 1) at text ∙ ap (λ n. drop n text) (sym (add_assoc at len 1)) in
+          ap (placed at) cut
+          ∙ placed-more at (take len left) (slice_split is_space (drop (len + 1) left)) some
+          ∙ ap (a_word at (take len left)) (
+          ap (λ n. placed (at + n + 1) (slice_split is_space (drop (len + 1) left))) taken
+          ∙ ap (λ l. placed (at + len + 1) (slice_split is_space l)) same
+          ∙ sym (within text (at + len + 1) inside))
+      | inr le2 ↦
+          let all : len ≡ length left = omega (arith, short, le2) in
+          let none : slice_split is_space left ≡ left ∷ [] = slice_split_none is_space left (λ k d lt. fails_before_first is_space left k d (omega (arith, lt, e, all))) in
+          let whole : left ≡ take len left = sym (take_all len left (omega (arith, all))) in
+          let size2 : at + length left ≡ length text = omega (arith, size, le) in
+          ap (placed at) none
+          ∙ ap (λ l. a_word at l (no_word (at + length left))) whole
+          ∙ ap (a_word at (take len left)) (ap no_word size2 ∙ sym (words_from-end text (at + len + 1) (omega (arith, all, size2))))
+    ]
+
+pub whole : (text : List ℕ) → words_from text 0 ≡ words text
+whole text = within text 0 (omega arith)

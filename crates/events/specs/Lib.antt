@@ -1,0 +1,9 @@
+pub mod Scenario
+pub mod Events
+pub mod Words
+pub mod NodeWords
+pub mod Verbs
+pub mod EventText
+pub mod EventSpelling
+pub mod Answers
+pub mod Numbers

@@ -1,0 +1,10 @@
+-- A scenario.
+use Rattle.std.specs.Prelude.{ℕ, List}
+use Rattle.topology.specs.Rows.{TopologyState}
+use Rattle.events.specs.declared.event.Event.{Event}
+
+-- the seed of the random words, the nodes, the events
+pub record Scenario : Type 0 where
+  pub seed : ℕ
+  pub topology : TopologyState
+  pub events : List Event

@@ -1,5 +1,0 @@
-use Rattle.history.proofs.SpellingLaws.{next_read}
-use Rattle.history.proofs.event_printer.next_text.Goals as goal
-
-pub returns-clause-again : goal.returns-clause-again
-returns-clause-again c = λ t. next_read t c.begin.result c.begin.ensures

@@ -1,7 +1,0 @@
-//! What holds of the numbers.
-ghost use Rattle.history.specs.Numbers.{EventNumbers};
-
-/// The limits of events are those of `docs/SCENARIOS.md`.
-pub fn event_numbers()
-    ensures { EventNumbers }
-{}
