@@ -14,7 +14,7 @@ use Rattle.server_core.specs.declared.server.ServerSettings.{ServerSettings}
 use Rattle.server_core.specs.Server.{server_row}
 use Rattle.server_core.specs.Endpoint.{MeetsRow}
 use Rattle.lab_nodes.specs.declared.one_arrival.OneArrival.{OneArrival}
-use Rattle.lab_nodes.specs.OneArrival.{told_of}
+use Rattle.lab_nodes.specs.OneArrival.{told_of, coming_side}
 
 -- what was copied into a buffer is the front of the datagram
 pub copied_front : (x copied rest : List ℕ) (len most : ℕ) → len ≡ min (length x) most → copied ≡ take len x → take len (copied ++ rest) ≡ take most x
@@ -24,18 +24,18 @@ copied_front x copied rest len most is copy =
     let least : len ≡ min most (length x) = omega (arith, is) in
     ap (λ (n : ℕ). take n (copied ++ rest)) (sym size) ∙ take-append_seam copied rest ∙ copy ∙ ap (λ (n : ℕ). take n x) least ∙ take_min most x
 
-pub received : (l : OneArrival) (x : List ℕ) → l.is_taken ≡ false → x ≡ take DATAGRAM_MAX l.bytes.now → Receives (told_of l) (told_of (record l { is_taken = true })) (Datagram l.side l.from x)
+pub received : (l : OneArrival) (x : List ℕ) → l.is_taken ≡ false → x ≡ take DATAGRAM_MAX l.bytes.now → Receives (told_of l) (told_of (record l { is_taken = true })) (Datagram (coming_side l.on l.side) l.from x)
 received l x free is = rw (free, is) (record { coming = (refl, refl); taken = tt; attempts = tt })
 
 -- a server that is asked through such a link answers that datagram
 pub asked : (s : ServerSettings) (l l' : OneArrival) (step : Step) (new : ServerSettings) (from : Ep) (len failed : ℕ)
     → l.is_taken ≡ false → length l.bytes.now ≤ DATAGRAM_MAX
     → AnswersArrival (λ side from x step new. MeetsRow s side from x step new) new (told_of l) (told_of l') step from len failed
-    → step ≡ server_row s l.side l.from l.bytes.now
+    → step ≡ server_row s (coming_side l.on l.side) l.from l.bytes.now
 asked s l l' step new from len failed free short answers =
-    let came : Datagram answers.side from answers.bytes ≡ next_came (if l.is_taken then [] else Datagram l.side l.from (take DATAGRAM_MAX l.bytes.now) ∷ []) = answers.told.coming.0 in
-    let is : Datagram answers.side from answers.bytes ≡ Datagram l.side l.from (take DATAGRAM_MAX l.bytes.now) = came ∙ rw free refl in
-    let side : answers.side ≡ l.side = cc in
+    let came : Datagram answers.side from answers.bytes ≡ next_came (if l.is_taken then [] else Datagram (coming_side l.on l.side) l.from (take DATAGRAM_MAX l.bytes.now) ∷ []) = answers.told.coming.0 in
+    let is : Datagram answers.side from answers.bytes ≡ Datagram (coming_side l.on l.side) l.from (take DATAGRAM_MAX l.bytes.now) = came ∙ rw free refl in
+    let side : answers.side ≡ coming_side l.on l.side = cc in
     let source : from ≡ l.from = cc in
     let bytes : answers.bytes ≡ take DATAGRAM_MAX l.bytes.now = cc in
     answers.answered.1 ∙ rw (side, source, bytes, take_all DATAGRAM_MAX l.bytes.now short) refl
@@ -43,7 +43,7 @@ asked s l l' step new from len failed free short answers =
 pub asked_by : (s : ServerSettings) (l l' : OneArrival) (step : Step) (new : ServerSettings) (from : Ep) (len failed : ℕ) (taken : Pumped) (result : Result Pumped PumpFault)
     → result ≡ Ok taken → taken ≡ Took from len failed → l.is_taken ≡ false → length l.bytes.now ≤ DATAGRAM_MAX
     → Pumps (λ side from x step new. MeetsRow s side from x step new) (λ side from x. ⊥) new (told_of l) (told_of l') step result
-    → step ≡ server_row s l.side l.from l.bytes.now
+    → step ≡ server_row s (coming_side l.on l.side) l.from l.bytes.now
 asked_by s l l' step new from len failed taken result ok took free short pumps =
     let P : Result Pumped PumpFault → Type 0 = λ r. Pumps (λ side from x step new. MeetsRow s side from x step new) (λ side from x. ⊥) new (told_of l) (told_of l') step r in
     asked s l l' step new from len failed free short (subst P (ok ∙ ap (λ (t : Pumped). Ok t) took) pumps)

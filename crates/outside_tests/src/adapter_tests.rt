@@ -1,5 +1,6 @@
 //! Files, output, sockets and the clock of the system.
-use std::net::{IpAddr, Ipv4Addr, UdpSocket};
+use crate::connected::Connected;
+use std::net::{IpAddr, Ipv4Addr, SocketAddr, SocketAddrV4, UdpSocket};
 use std::test::Fail;
 use std::time::Duration;
 use std::{env, fs};
@@ -108,5 +109,70 @@ fn a_pair_sends_from_the_side_that_was_named(rt: HostRuntime) -> Result<(), Fail
     let (len, from) = peer.recv_from(&mut got)?;
     assert_eq!(rt; (len, from.port()), (4, TEREDO_PORT));
     assert_eq!(rt; from.ip(), IpAddr::V4(Ipv4Addr::new(127, 42, 0, 2)));
+    Ok(())
+}
+
+#[test]
+fn a_client_sends_from_its_one_socket(rt: HostRuntime) -> Result<(), Fail> {
+    let mut link = UdpPair::new(&rt);
+    let inside = Ip4([127, 0, 0, 3]);
+    let unknown = Ep {
+        ip: inside,
+        port: 0,
+    };
+    let at = link.open_client(inside).unwrap_or(unknown);
+    assert_eq!(rt; at.ip, inside);
+    let peer = UdpSocket::bind(&rt, "127.44.0.3:0")?;
+    peer.set_read_timeout(Some(Duration::from_secs(5)))?;
+    let to = Ep {
+        ip: Ip4([127, 44, 0, 3]),
+        port: peer.local_addr()?.port(),
+    };
+    let mut got = [0; 8];
+    for side in [Side::Primary, Side::Secondary] {
+        assert_eq!(rt; link.send(side, to, b"one"), Ok(()));
+        let (len, from) = peer.recv_from(&mut got)?;
+        assert_eq!(rt; (len, from.port()), (3, at.port));
+        assert_eq!(rt; from.ip(), IpAddr::V4(Ipv4Addr::new(127, 0, 0, 3)));
+        peer.send_to(b"back", from)?;
+        assert_eq!(rt; next(&mut link), Some((Side::Primary, 4)));
+    }
+    assert_eq!(rt; next(&mut link), None);
+    Ok(())
+}
+
+#[test]
+fn an_address_of_another_machine_is_refused(rt: HostRuntime) -> Result<(), Fail> {
+    let mut link = UdpPair::new(&rt);
+    assert_eq!(rt; link.open_client(Ip4([192, 0, 2, 1])), Err(Failed));
+    let mut buf = [0; DATAGRAM_MAX];
+    assert_eq!(rt; link.recv(&mut buf), Err(Failed));
+    Ok(())
+}
+
+#[test]
+fn a_socket_that_fails_is_no_idle_one(rt: HostRuntime) -> Result<(), Fail> {
+    let nobody = Ep {
+        ip: Ip4([127, 46, 0, 9]),
+        port: 9,
+    };
+    let net = Connected {
+        rt: &rt,
+        to: SocketAddr::V4(SocketAddrV4::new(Ipv4Addr::new(127, 46, 0, 9), 9)),
+    };
+    let mut link = UdpPair::new(&net);
+    let mut buf = [0; DATAGRAM_MAX];
+    assert_eq!(rt;
+        link.open(Ip4([127, 46, 0, 1]), Ip4([127, 46, 0, 2])),
+        Ok(())
+    );
+    for side in [Side::Primary, Side::Secondary] {
+        assert_eq!(rt; link.send(side, nobody, b"x"), Ok(()));
+        assert_eq!(rt; link.recv(&mut buf), Err(Failed));
+        assert_eq!(rt; link.recv(&mut buf), Ok(Arrival::Idle));
+    }
+    assert!(rt; link.open_client(Ip4([127, 46, 0, 1])).is_ok());
+    assert_eq!(rt; link.send(Side::Primary, nobody, b"x"), Ok(()));
+    assert_eq!(rt; link.recv(&mut buf), Err(Failed));
     Ok(())
 }

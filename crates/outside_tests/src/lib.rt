@@ -9,12 +9,15 @@
 //! | module | holds |
 //! |---|---|
 //! | `recorder` | `Recorder`, which shows that the lists of what was asked can be told |
+//! | `connected` | a network whose sockets hear of errors |
 //! | `memory_tests` | the forms in memory |
 //! | `adapter_tests` | files, output, sockets and the clock of the system |
 #![tactic(auto)]
 
 #[cfg(test)]
 mod adapter_tests;
+#[cfg(test)]
+mod connected;
 #[cfg(test)]
 mod memory_tests;
 mod recorder;

@@ -68,6 +68,23 @@ fn a_link_gives_its_arrivals_and_keeps_its_attempts(rt: HostRuntime) -> Result<(
 }
 
 #[test]
+fn a_link_of_a_client_has_one_side(rt: HostRuntime) -> Result<(), Fail> {
+    let mut link = link_of_two(rt.alloc())?;
+    let ip = Ip4([198, 51, 100, 9]);
+    assert_eq!(rt; link.open_client(ip), Ok(Ep { ip, port: 40000 }));
+    let mut buf = [0; DATAGRAM_MAX];
+    let at_primary = Arrival::Got {
+        side: Side::Primary,
+        from: PEER,
+        len: 1400,
+    };
+    for want in [Ok(Arrival::Idle), Err(Failed), Ok(at_primary)] {
+        assert_eq!(rt; link.recv(&mut buf), want);
+    }
+    Ok(())
+}
+
+#[test]
 fn a_clock_gives_its_last_moment_for_ever(rt: HostRuntime) -> Result<(), Fail> {
     let mut clock = TestClock::new([Millis(0), Millis(4000), Millis(4000), Millis(12000)]);
     for moment in [0, 4000, 4000, 12000, 12000, 12000] {

@@ -4,14 +4,14 @@ ghost use Rattle.td_outside.specs.Moves.{Gains, RisesBy};
 
 use std::alloc::Global;
 use td_base::{DATAGRAM_MAX, Ep, Ip4, Side};
-use td_outside::{Addresses, Arrival, Failed, Link, Octets, Sink, Source};
+use td_outside::{Addresses, Arrival, Failed, Link, Octets, Place, Sink, Source};
 
 /// Passes each call on to what it is made over, and tells what was asked as long as there is memory for it.
 #[derive(Drop)]
 pub struct Recorder<T: Drop, A: Drop> {
     alloc: Global,
     over: T,
-    // the names, the pieces or the addresses
+    // the names, the pieces or the places
     asked: Option<Vec<A>>,
     // how many bytes were read
     taken: Option<u64>,
@@ -80,12 +80,22 @@ impl<K: Sink + Drop> Sink for Recorder<K, Octets> {
     }
 }
 
-impl<L: Link + Drop> Link for Recorder<L, Addresses> {
+impl<L: Link + Drop> Link for Recorder<L, Place> {
     ghost state = { λ s. record (L.state s.over) { openings = option_map (λ v. v.items) s.asked } };
 
     fn open(&mut self, primary: Ip4, secondary: Ip4) -> Result<(), Failed> {
-        self.asked = told_with(self.asked.take(), Addresses { primary, secondary });
+        let place = Place::Both(Addresses { primary, secondary });
+        self.asked = told_with(self.asked.take(), place);
         self.over.open(primary, secondary)
+    }
+
+    fn open_client(&mut self, inside: Ip4) -> Result<Ep, Failed> {
+        let place = Place::Client(Ep {
+            ip: inside,
+            port: 0,
+        });
+        self.asked = told_with(self.asked.take(), place);
+        self.over.open_client(inside)
     }
 
     fn recv(&mut self, buf: &mut [u8; DATAGRAM_MAX]) -> Result<Arrival, Failed> {

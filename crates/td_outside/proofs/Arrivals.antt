@@ -1,11 +1,17 @@
 -- The lists of what is still to come and of what was taken, as one more is taken.
-use Rattle.std.proofs.Common.{◌≡◌, ℕ, ◌+◌, ◌<◌, List, [], ◌∷◌, ◌++◌, map, length, take, drop, replicate, Some, slice_get, slice_index_or, subst, sym, ap, ◌∙◌, arith}
+use Rattle.std.proofs.Common.{◌≡◌, ℕ, ◌+◌, ◌-◌, ◌<◌, ◌≤◌, List, [], ◌∷◌, ◌++◌, map, length, take, drop, replicate, Option, Some, None, slice_get, slice_index_or, slice_set, refl, subst, sym, ap, ◌∙◌, arith}
 use Rattle.std.specs.Option.{option_map}
-use Rattle.std.proofs.lemmas.List.{take_more, get_or-drop, append-nil}
+use Rattle.std.proofs.lemmas.List.{take_more, drop_more, get_or_at, set_at, get_or-drop, drop-drop, append-nil, append_assoc, length-map, length-take-le, map-append, take-append-drop, take_at, drop_at, take_all, drop_all, length-drop}
 use Rattle.std.proofs.lemmas.Option.{slice_get-map, get_or_from_slice_get}
+use borrow.Rule.Slice.PartMut.{put_mid, Post-is}
 use Rattle.td_outside.specs.declared.mem_arrival.MemArrival.{MemArrival}
-use Rattle.td_outside.specs.Link.{Came, Nothing, next_came}
-use Rattle.td_outside.specs.MemLink.{came_from}
+use Rattle.td_outside.specs.declared.link.Place.{Place}
+use Rattle.td_outside.specs.declared.link.Place.TheVariants.{Both, Client}
+use Rattle.td_outside.specs.declared.link.Arrival.{Arrival}
+use Rattle.td_outside.specs.declared.link.Arrival.TheVariants.{Got, Idle}
+use Rattle.td_base.specs.declared.side.Side.TheVariants.{Primary}
+use Rattle.td_outside.specs.Link.{Came, Datagram, Nothing, IsAtItsSide, IsAtPrimary, at_primary, came_by, next_came}
+use Rattle.td_outside.specs.MemLink.{came_from, IsOnItsSide}
 
 -- The first that is still to come stands at the place of the next arrival.
 next_from : (all : List Came) (at : ℕ) → next_came (drop at all) ≡ slice_index_or all at Nothing
@@ -21,3 +27,69 @@ pub taken_more : (all : List Came) (at idle : ℕ) → at < length all → idle 
 taken_more all at idle within none =
     subst (λ (n : ℕ). take (at + 1) all ++ replicate n Nothing ≡ (take at all ++ replicate n Nothing) ++ next_came (drop at all) ∷ []) (sym none)
     (append-nil (take (at + 1) all) ∙ take_more all at Nothing within ∙ ap (λ (came : Came). take at all ++ came ∷ []) (sym (next_from all at)) ∙ ap (λ (xs : List Came). xs ++ next_came (drop at all) ∷ []) (sym (append-nil (take at all))))
+
+map_drop_one : (coming : List Came) → map at_primary coming ≡ coming → map at_primary (drop 1 coming) ≡ drop 1 coming
+map_drop_one [] is = refl
+map_drop_one (c ∷ coming) is = ap (drop 1) is
+
+next_turned : (coming : List Came) → next_came (map at_primary coming) ≡ at_primary (next_came coming)
+next_turned [] = refl
+next_turned (c ∷ coming) = refl
+
+turned_twice : (coming : List Came) → map at_primary (map at_primary coming) ≡ map at_primary coming
+turned_twice [] = refl
+turned_twice (Datagram side from bytes ∷ coming) = ap (λ (l : List Came). Datagram Primary from bytes ∷ l) (turned_twice coming)
+turned_twice (Nothing ∷ coming) = ap (λ (l : List Came). Nothing ∷ l) (turned_twice coming)
+
+pub turned_so : (coming before : List Came) → coming ≡ map at_primary before → map at_primary coming ≡ coming
+turned_so coming before is = ap (map at_primary) is ∙ turned_twice before ∙ sym is
+
+first_at_primary : (coming : List Came) (buf : List ℕ) (arrival : Arrival) → came_by buf arrival ≡ next_came coming → map at_primary coming ≡ coming → IsAtPrimary arrival
+first_at_primary coming buf Idle came is = tt
+first_at_primary coming buf (Got side from len) came is =
+    let same : at_primary (next_came coming) ≡ next_came coming = sym (next_turned coming) ∙ ap next_came is in
+    let turned : at_primary (came_by buf (Got side from len)) ≡ came_by buf (Got side from len) = ap at_primary came ∙ same ∙ sym came in
+    cc
+
+-- What is still to come to one socket is still so behind the first of it,
+pub turned_on : (place : Option Place) (all : List Came) (at : ℕ) → IsOnItsSide place (drop at all) → IsOnItsSide place (drop (at + 1) all)
+turned_on None all at is = tt
+turned_on (Some (Both on)) all at is = tt
+turned_on (Some (Client ep)) all at is =
+    let next : drop (at + 1) all ≡ drop 1 (drop at all) = sym (drop-drop 1 at all) in
+    subst (λ (l : List Came). map at_primary l ≡ l) (sym next) (map_drop_one (drop at all) is)
+
+-- and the first of it comes to the primary side.
+pub turned_first : (place : Option Place) (coming : List Came) (buf : List ℕ) (arrival : Arrival) → came_by buf arrival ≡ next_came coming → IsOnItsSide place coming → IsAtItsSide place arrival
+turned_first None coming buf arrival came is = tt
+turned_first (Some (Both on)) coming buf arrival came is = tt
+turned_first (Some (Client ep)) coming buf arrival came is = first_at_primary coming buf arrival came is
+
+-- One more of them comes to the primary side.
+pub turned_one : (olds nows : List Came) (i : ℕ) → i < length olds → nows ≡ map at_primary (take i olds) ++ drop i olds → slice_set nows i (at_primary (slice_index_or nows i Nothing)) ≡ map at_primary (take (i + 1) olds) ++ drop (i + 1) olds
+turned_one olds nows i within are =
+    let front : List Came = map at_primary (take i olds) in
+    let one : Came = slice_index_or olds i Nothing in
+    let long : length front ≡ i = length-map (take i olds) at_primary ∙ length-take-le i olds (omega arith) in
+    let here : nows ≡ front ++ one ∷ drop (i + 1) olds = are ∙ ap (λ (l : List Came). front ++ l) (drop_more olds i Nothing within) in
+    let found : slice_index_or nows i Nothing ≡ one = ap (λ (l : List Came). slice_index_or l i Nothing) here ∙ get_or_at front one (drop (i + 1) olds) Nothing i long in
+    let put : slice_set nows i (at_primary (slice_index_or nows i Nothing)) ≡ front ++ at_primary one ∷ drop (i + 1) olds =
+    (λ k. slice_set (here k) i (at_primary (found k))) ∙ set_at front one (drop (i + 1) olds) (at_primary one) i long in
+    let more : map at_primary (take (i + 1) olds) ≡ front ++ at_primary one ∷ [] = ap (map at_primary) (take_more olds i Nothing within) ∙ map-append at_primary (take i olds) (one ∷ []) in
+    put ∙ sym (ap (λ (l : List Came). l ++ drop (i + 1) olds) more ∙ append_assoc front (at_primary one ∷ []) (drop (i + 1) olds))
+
+-- Those behind the first ones come to the primary side, and the first ones stay.
+pub turned_behind : (olds ys : List MemArrival) (at : ℕ) → at ≤ length olds → map came_from ys ≡ map at_primary (map came_from (take (length olds - at) (drop at olds))) → (take at (map came_from (take at olds ++ ys)) ≡ take at (map came_from olds)) × (drop at (map came_from (take at olds ++ ys)) ≡ map at_primary (drop at (map came_from olds)))
+turned_behind olds ys at within are =
+    let front : List Came = map came_from (take at olds) in
+    let rest : take (length olds - at) (drop at olds) ≡ drop at olds = take_all (length olds - at) (drop at olds) (omega (arith, length-drop at olds)) in
+    let long : length front ≡ at = length-map (take at olds) came_from ∙ length-take-le at olds within in
+    let both : map came_from (take at olds ++ ys) ≡ front ++ map came_from ys = map-append came_from (take at olds) ys in
+    let whole : map came_from olds ≡ front ++ map came_from (drop at olds) = ap (map came_from) (sym (take-append-drop at olds)) ∙ map-append came_from (take at olds) (drop at olds) in (
+      ap (take at) both ∙ take_at front (map came_from ys) at long ∙ sym (ap (take at) whole ∙ take_at front (map came_from (drop at olds)) at long),
+      ap (drop at) both ∙ drop_at front (map came_from ys) at long ∙ are ∙ ap (λ (l : List MemArrival). map at_primary (map came_from l)) rest ∙ ap (map at_primary) (sym (ap (drop at) whole ∙ drop_at front (map came_from (drop at olds)) at long)),
+    )
+
+-- What is put in the place of all behind the first ones.
+pub all_put : (xs ys : List MemArrival) (at : ℕ) → at ≤ length xs → put_mid at (length xs - at) xs ys ≡ take at xs ++ ys
+all_put xs ys at within = ap (λ (l : List MemArrival). take at xs ++ (ys ++ l)) (Post-is at (length xs) xs within ∙ drop_all (length xs) xs (omega arith)) ∙ ap (λ (l : List MemArrival). take at xs ++ l) (append-nil ys)

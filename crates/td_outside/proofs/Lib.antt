@@ -1,4 +1,5 @@
 pub mod Arrivals
 pub mod Fronts
+pub mod GivenMoments
 pub mod Opened
 pub mod Untold

@@ -1,22 +1,28 @@
 -- When a link is open on two addresses.
-use Rattle.std.proofs.Common.{◌≡◌, ◌↔◌, ◌&&◌, IsTrue, Option, Some, ap, ◌∙◌}
-use Rattle.std.specs.Option.{unwrap_or}
+use Rattle.std.proofs.Common.{◌≡◌, ◌↔◌, ◌&&◌, IsTrue, Option, Some, None, ap, ◌∙◌}
 use Rattle.std.proofs.lemmas.Bool.{and_parts, and_from}
 use Rattle.td_base.specs.declared.ipv4.Ip4.{Ip4}
 use Rattle.td_base.specs.Ip4.{same_ip, same_ip_decides}
 use Rattle.td_outside.specs.declared.link.Addresses.{Addresses}
+use Rattle.td_outside.specs.declared.link.Place.{Place}
+use Rattle.td_outside.specs.declared.link.Place.TheVariants.{Both, Client}
 use Rattle.td_outside.specs.Link.{open_on}
 
-same_parts : (on : Addresses) (primary secondary : Ip4) → on.primary ≡ primary → on.secondary ≡ secondary → Some on ≡ open_on primary secondary
+same_parts : (on : Addresses) (primary secondary : Ip4) → on.primary ≡ primary → on.secondary ≡ secondary → Some (Both on) ≡ open_on primary secondary
 same_parts on primary secondary e f =
     ap (λ (ip : Ip4). open_on ip on.secondary) e ∙ ap (λ (ip : Ip4). open_on primary ip) f
 
-parts_of : (on : Addresses) (primary secondary : Ip4) → Some on ≡ open_on primary secondary → (on.primary ≡ primary) × (on.secondary ≡ secondary)
+abbrev addresses_of : Addresses → Option Place → Addresses
+addresses_of other None = other
+addresses_of other (Some (Both on)) = on
+addresses_of other (Some (Client at)) = other
+
+parts_of : (on : Addresses) (primary secondary : Ip4) → Some (Both on) ≡ open_on primary secondary → (on.primary ≡ primary) × (on.secondary ≡ secondary)
 parts_of on primary secondary e =
-    (ap (λ (o : Option Addresses). (unwrap_or o on).primary) e, ap (λ (o : Option Addresses). (unwrap_or o on).secondary) e)
+    (ap (λ (o : Option Place). (addresses_of on o).primary) e, ap (λ (o : Option Place). (addresses_of on o).secondary) e)
 
 -- It is where both are the same.
-pub on_both : (on : Addresses) (primary secondary : Ip4) → IsTrue (same_ip on.primary primary && same_ip on.secondary secondary) ↔ (Some on ≡ open_on primary secondary)
+pub on_both : (on : Addresses) (primary secondary : Ip4) → IsTrue (same_ip on.primary primary && same_ip on.secondary secondary) ↔ (Some (Both on) ≡ open_on primary secondary)
 on_both on primary secondary =
     let first = same_ip_decides on.primary primary in
     let second = same_ip_decides on.secondary secondary in

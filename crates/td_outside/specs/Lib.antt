@@ -1,12 +1,14 @@
 pub mod Calls
 pub mod Causes
 pub mod Clock
+pub mod Edges
 pub mod FileSource
 pub mod Link
 pub mod MemLink
 pub mod MoveLaws
 pub mod Moves
 pub mod Sink
+pub mod Sockets
 pub mod Source
 pub mod Streams
 pub mod TestClock

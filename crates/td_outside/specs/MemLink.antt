@@ -1,17 +1,18 @@
 -- The link in memory, as its callers see it.
-use Rattle.std.specs.Prelude.{true, false, ℕ, Bool, if◌then◌else◌, nat_lt, ◌==◌, List, [], ◌∷◌, ◌++◌, length, take, drop, Option, Some, None}
+use Rattle.std.specs.Prelude.{◌≡◌, ⊤, map, true, false, ℕ, Bool, if◌then◌else◌, nat_lt, ◌==◌, List, [], ◌∷◌, ◌++◌, length, take, drop, Option, Some, None}
 use Rattle.std.specs.Option.{option_and_then}
-use Rattle.td_outside.specs.declared.link.Addresses.{Addresses}
+use Rattle.td_outside.specs.declared.link.Place.{Place}
+use Rattle.td_outside.specs.declared.link.Place.TheVariants.{Both, Client}
 use Rattle.td_base.specs.declared.datagram.TheConstants.{DATAGRAM_MAX}
 use Rattle.td_outside.specs.declared.mem_arrival.MemArrival.{MemArrival}
 use Rattle.td_outside.specs.declared.mem_arrival.MemArrival.TheVariants.{Got, Idle}
 use Rattle.td_outside.specs.Causes.{raised, count_end}
 use Rattle.td_outside.specs.Calls.{Calls, fails_next, after_call}
-use Rattle.td_outside.specs.Link.{Came, Datagram, Nothing, Attempt, Told, next_came}
+use Rattle.td_outside.specs.Link.{Came, Datagram, Nothing, Attempt, Told, next_came, at_primary}
 
 -- a link that receives what it was made with, and keeps as many attempts as there is room for
 pub record Recorded : Type 0 where
-  pub addresses : Option Addresses
+  pub place : Option Place
   pub coming : List Came
   pub taken : Option (List Came)
   pub attempts : Option (List Attempt)
@@ -26,6 +27,12 @@ lists_of link = record { coming = Some link.coming; taken = link.taken; attempts
 abbrev pub came_from : MemArrival → Came
 came_from (Got side from bytes) = Datagram side from (take DATAGRAM_MAX bytes)
 came_from Idle = Nothing
+
+-- what is still to come to one socket comes to the primary side
+abbrev pub IsOnItsSide : Option Place → List Came → Type 0
+IsOnItsSide None coming = ⊤
+IsOnItsSide (Some (Both on)) coming = ⊤
+IsOnItsSide (Some (Client at)) coming = map at_primary coming ≡ coming
 
 -- what was taken, told as long as the calls of recv can be counted
 abbrev pub told_taken : ℕ → List Came → Option (List Came)

@@ -1,6 +1,7 @@
 //! The time.
 ghost use Rattle.std.specs.Prelude.{◌≡◌, ◌≤◌, ◌<◌};
 ghost use Rattle.td_outside.specs.Clock.{ClockState};
+ghost use Rattle.td_outside.specs.Moves.{Gains};
 
 use td_base::Millis;
 
@@ -9,12 +10,13 @@ pub const CLOCK_END_MS: u64 = 1 << 48;
 
 /// What gives the time since a start of its own.
 pub trait Clock {
-    /// The moment that it gave last.
+    /// The moment that it gave last, and all that it gave, where it tells them.
     ghost state: { Self → ClockState };
 
     /// The present moment, never less than before.
     fn now(&mut self) -> Millis
         ensures later { (state self.old).last ≤ result.0 }
         ensures bound { result.0 < CLOCK_END_MS }
-        ensures given { (state self.new).last ≡ result.0 };
+        ensures given { (state self.new).last ≡ result.0 }
+        ensures told { Gains (state self.old).gave (state self.new).gave result.0 };
 }

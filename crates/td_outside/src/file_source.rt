@@ -3,14 +3,14 @@ ghost use Rattle.std.specs.Prelude.{◌≡◌, ◌≤◌, ◌<◌, false, None, 
 ghost use Rattle.td_outside.specs.Causes.{HasCause};
 ghost use Rattle.td_outside.specs.FileSource.{FileState, file_after};
 
+use crate::again::read_again;
 use crate::{Failed, Source};
 use std::fs;
-use std::io::Read;
 use std::marker::Model;
 use std::rt::Files;
 
 /// A source over the files that a runtime reaches. Each error of the system is `Failed`, with the count raised:
-/// no such file at `open`, a directory at the first `read`. Contracts see whether a file is open, and the count.
+/// no such file at `open`, a directory at the first `read`. A read that a signal broke off is made again. Contracts see whether a file is open, and the count.
 #[derive(Drop)]
 pub struct FileSource<'a, R: Files> {
     rt: &'a R,
@@ -67,7 +67,7 @@ impl<R: Files> Source for FileSource<'_, R> {
         let Some(file) = &mut self.file else {
             return Ok(0);
         };
-        match file.read(buf) {
+        match read_again(file, buf) {
             Ok(count) => Ok(count),
             Err(_) => {
                 self.faults = self.faults.saturating_add(1);

@@ -11,6 +11,8 @@
 //!   asked, each call says that too: names, pieces, addresses, how many bytes were read.
 //! - The forms in memory tell their content, fail at exactly the calls that their lists name, and take memory in `new`
 //!   alone.
+//! - A link that was opened as a client's has one socket: its endpoint is the answer, sends of either side leave from
+//!   it, and what arrives has the side Primary.
 //! - A `UdpPair` that isn't open fails, and a `FileSource` that isn't gives nothing. A call of `UdpPair::recv` without
 //!   a datagram lasts 20 ms by the runtime's clock.
 //!
@@ -25,7 +27,7 @@
 //! | | what a call does to what is told | `specs/Moves.antt`, with laws in `specs/MoveLaws.antt` |
 //! | `fails` | `Failed`, and which calls of a form in memory fail | `specs/Causes.antt`, `specs/Calls.antt` |
 //! | `source`, `sink` | `Source`, `Sink` | `specs/Source.antt`, `specs/Sink.antt` |
-//! | `link` | `Link`, its `Addresses` and its `Arrival` | `specs/Link.antt` |
+//! | `link` | `Link`, the `Place` where it is open, and its `Arrival` | `specs/Link.antt` |
 //! | `clock` | `Clock` | `specs/Clock.antt` |
 //! | `mem_source`, `mem_sink` | `MemSource`, `MemSink` | `specs/Streams.antt` |
 //! | `mem_link`, `mem_arrival`, `mem_attempt` | `MemLink`, what it receives and what it keeps | `specs/MemLink.antt` |
@@ -33,10 +35,15 @@
 //! | `octets` | `Octets` | |
 //! | `file_source`, `udp_pair` | files and sockets | `specs/FileSource.antt`, `specs/UdpPair.antt` |
 //! | `std_sink`, `system_clock` | output and time of the real thing | |
-//! | `sides` | the two sockets of an open `UdpPair` | |
+//! | `sockets` | the sockets of a `UdpPair` | `specs/Sockets.antt` |
+//! | `sides`, `one_socket` | two sockets, as a server has them; one, as a client has it | |
+//! | `edges` | what a socket is asked and answers, in the terms of a link | `specs/Edges.antt` |
+//! | `again` | calls that a signal broke off | |
 #![tactic(auto)]
 
+mod again;
 mod clock;
+mod edges;
 mod fails;
 mod file_source;
 mod link;
@@ -46,8 +53,10 @@ mod mem_link;
 mod mem_sink;
 mod mem_source;
 mod octets;
+mod one_socket;
 mod sides;
 mod sink;
+mod sockets;
 mod source;
 mod std_sink;
 mod system_clock;
@@ -57,7 +66,7 @@ mod udp_pair;
 pub use clock::{CLOCK_END_MS, Clock};
 pub use fails::Failed;
 pub use file_source::FileSource;
-pub use link::{Addresses, Arrival, Link};
+pub use link::{Addresses, Arrival, Link, Place};
 pub use mem_arrival::MemArrival;
 pub use mem_attempt::MemAttempt;
 pub use mem_link::MemLink;

@@ -1,22 +1,26 @@
 //! A link in memory.
-ghost use Rattle.std.specs.Prelude.{◌≡◌, ◌≤◌, ◌<◌, ◌+◌, ◌-◌, ◌^◌, ◌↔◌, ℕ, List, [], ◌∷◌, ◌++◌, Option, Some, None, length, take, drop, map, replicate, is_ok, IsOk, IsErr, IsTrue, IfOk, OnOk, nat_lt, if◌then◌else◌, IfSome, MatchResult, vec_capacity};
+ghost use Rattle.std.specs.Prelude.{◌≡◌, ◌≤◌, ◌<◌, ◌+◌, ◌-◌, ◌^◌, ◌↔◌, ℕ, List, [], ◌∷◌, ◌++◌, Option, Some, None, Ok, length, take, drop, map, replicate, is_ok, IsOk, IsErr, IsTrue, IfOk, OnOk, nat_lt, if◌then◌else◌, IfSome, MatchResult, vec_capacity};
 ghost use Rattle.td_outside.specs.Causes.{HasCause};
 ghost use Rattle.td_outside.specs.Calls.{fails_next, after_call};
-ghost use Rattle.td_outside.specs.Link.{Nothing, Attempt, attempt, came_by, open_on, next_came, FitsBuffer};
-ghost use Rattle.td_outside.specs.MemLink.{lists_of, came_from, received, sent};
+ghost use Rattle.td_outside.specs.Link.{Nothing, Attempt, attempt, came_by, open_on, client_on, at_primary, next_came, FitsBuffer, IsAtItsSide};
+ghost use Rattle.td_outside.specs.MemLink.{lists_of, came_from, received, sent, IsOnItsSide};
+ghost use Rattle.td_outside.specs.declared.mem_link.TheConstants.{CLIENT_PORT};
 
 use crate::fails::Fails;
-use crate::mem_arrival::give;
-use crate::{Addresses, Arrival, Failed, Link, MemArrival, MemAttempt};
+use crate::mem_arrival::{bring_to_primary, give};
+use crate::{Addresses, Arrival, Failed, Link, MemArrival, MemAttempt, Place};
 use std::alloc::Global;
 use std::marker::Model;
 use td_base::{DATAGRAM_MAX, Ep, Ip4, NoMemory, Side};
 
-/// A link that receives what it was made with, and keeps what is sent. Its `open` never fails. After its last
-/// arrival it answers `Idle`.
+/// The port of a link in memory that is a client's.
+pub const CLIENT_PORT: u16 = 40000;
+
+/// A link that receives what it was made with, and keeps what is sent. Its `open` and its `open_client` never fail.
+/// After its last arrival it answers `Idle`.
 #[derive(Drop)]
 pub struct MemLink {
-    on: Option<Addresses>,
+    on: Option<Place>,
     arrivals: Vec<MemArrival>,
     // how many arrivals were taken, and how often the answer was `Idle` past the last one
     at: usize,
@@ -32,12 +36,12 @@ pub struct MemLink {
 impl Model for MemLink {
     ghost use Rattle.std.specs.Prelude.{◌≡◌, ◌≤◌, ◌<◌, ◌++◌, length, take, drop, map, replicate, vec_capacity};
     ghost use Rattle.td_outside.specs.Link.{Nothing};
-    ghost use Rattle.td_outside.specs.MemLink.{Recorded, came_from, told_taken, told_attempts};
+    ghost use Rattle.td_outside.specs.MemLink.{Recorded, IsOnItsSide, came_from, told_taken, told_attempts};
 
     ghost Value = { Recorded };
 
     ghost view = { λ s. record {
-      addresses = s.on;
+      place = s.on;
       coming = drop s.at (map came_from s.arrivals.items);
       taken = told_taken s.receives.made (take s.at (map came_from s.arrivals.items) ++ replicate s.idle Nothing);
       attempts = told_attempts s.is_over s.attempts.items;
@@ -47,7 +51,8 @@ impl Model for MemLink {
     } };
 
     ghost invariant = { λ s. (s.at ≤ length s.arrivals.items) × (s.at < length s.arrivals.items → s.idle ≡ 0)
-        × (s.idle ≤ s.receives.made) × (s.room ≤ vec_capacity s.attempts) × (length s.attempts.items ≤ s.room) };
+        × (s.idle ≤ s.receives.made) × (s.room ≤ vec_capacity s.attempts) × (length s.attempts.items ≤ s.room)
+        × IsOnItsSide s.on (drop s.at (map came_from s.arrivals.items)) };
 }
 
 // Keeps an attempt where there is room for it, and answers whether there was none.
@@ -78,7 +83,7 @@ impl MemLink {
         send_fails: &[u64],
     ) -> Result<MemLink, NoMemory>
         ensures made { IfOk result (λ s. s ≡ record {
-          addresses = None;
+          place = None;
           coming = map came_from arrivals.items;
           taken = Some [];
           attempts = Some [];
@@ -113,7 +118,7 @@ impl MemLink {
 
 impl Link for MemLink {
     ghost state = { λ s. record {
-      addresses = s.addresses;
+      place = s.place;
       openings = None;
       told = lists_of s;
       recv_faults = s.receives.faults;
@@ -122,14 +127,28 @@ impl Link for MemLink {
 
     fn open(&mut self, primary: Ip4, secondary: Ip4) -> Result<(), Failed>
         ensures opened { IsOk result }
-        ensures state { self.new ≡ record self.old { addresses = open_on primary secondary } }
+        ensures state { self.new ≡ record self.old { place = open_on primary secondary } }
     {
-        self.on = Some(Addresses { primary, secondary });
+        self.on = Some(Place::Both(Addresses { primary, secondary }));
         Ok(())
+    }
+
+    fn open_client(&mut self, inside: Ip4) -> Result<Ep, Failed>
+        ensures opened { result ≡ Ok (record { ip = inside; port = CLIENT_PORT }) }
+        ensures state { self.new ≡ record self.old { place = client_on (record { ip = inside; port = CLIENT_PORT }); coming = map at_primary self.old.coming } }
+    {
+        let at = Ep {
+            ip: inside,
+            port: CLIENT_PORT,
+        };
+        bring_to_primary(&mut self.arrivals, self.at);
+        self.on = Some(Place::Client(at));
+        Ok(at)
     }
 
     fn recv(&mut self, buf: &mut [u8; DATAGRAM_MAX]) -> Result<Arrival, Failed>
         ensures room { IfOk result (λ arrival. FitsBuffer arrival) }
+        ensures side { IfOk result (λ arrival. IsAtItsSide self.old.place arrival) }
         ensures cause { HasCause self.old.receives.faults self.new.receives.faults result }
         ensures due { IsErr result ↔ IsTrue (fails_next self.old.receives) }
         ensures came { IfOk result (λ arrival. came_by buf.new arrival ≡ next_came self.old.coming) }

@@ -1,25 +1,16 @@
 //! Two sockets that don't block, and what waits for both at once.
-ghost use Rattle.std.specs.Prelude.{◌≡◌, ◌≤◌, ◌*◌, ◌-◌, IfOk};
-ghost use Rattle.std.specs.Duration.{as_nanos};
-ghost use Rattle.std.specs.Time.{instant_nanos};
+ghost use Rattle.std.specs.Prelude.{◌≡◌, ◌≤◌, IfOk};
 ghost use Rattle.td_outside.specs.Link.{FitsBuffer};
 
+use crate::edges::{WAKES_MAX, arrival_of, other, socket_addr, time_left};
 use crate::{Addresses, Arrival};
 use mio::net::UdpSocket;
 use mio::{Events, Interest, Poll, Token};
 use std::alloc::Global;
 use std::io;
-use std::io::ErrorKind;
-use std::net::{Ipv4Addr, Net, SocketAddr, SocketAddrV4};
+use std::net::Net;
 use std::time::{Clock, Duration, Instant};
 use td_base::{DATAGRAM_MAX, Ep, Ip4, Side, TEREDO_PORT};
-
-// How long a call waits where neither side has a datagram.
-const WAIT_MS: u64 = 20;
-
-// The most wakes of one call: a bound on its loop, far above what 20 ms can hold, since each takes four calls of the
-// system.
-const WAKES_MAX: u32 = 1 << 17;
 
 // The most datagrams that a side gives while the other one, which had none when it was asked, isn't asked again.
 const LEAD_MAX: u8 = 4;
@@ -45,55 +36,9 @@ pub(crate) struct Sides {
     lead: u8,
 }
 
-fn socket_addr(ep: Ep) -> SocketAddr {
-    let [a, b, c, d] = ep.ip.0;
-    SocketAddr::V4(SocketAddrV4::new(Ipv4Addr::new(a, b, c, d), ep.port))
-}
-
 fn socket_on<R: Net>(net: &R, ip: Ip4) -> io::Result<UdpSocket> {
     let port = TEREDO_PORT;
     UdpSocket::bind(net, socket_addr(Ep { ip, port }))
-}
-
-// What is left of a wait that began at `start`.
-fn time_left(start: Instant, now: Instant) -> Duration
-    ensures { as_nanos result ≡ WAIT_MS * 1_000_000 - (instant_nanos now - instant_nanos start) }
-{
-    Duration::from_millis(WAIT_MS).saturating_sub(now.duration_since(start))
-}
-
-fn other(side: Side) -> Side {
-    match side {
-        Side::Primary => Side::Secondary,
-        Side::Secondary => Side::Primary,
-    }
-}
-
-fn ep_of(from: SocketAddrV4) -> Ep {
-    Ep {
-        ip: Ip4(from.ip().octets()),
-        port: from.port(),
-    }
-}
-
-// What a socket gave, `Idle` where it had nothing.
-fn arrival_of(side: Side, got: io::Result<(usize, SocketAddr)>) -> io::Result<Arrival>
-    requires { IfOk got (λ r. r.0 ≤ DATAGRAM_MAX) }
-    ensures { IfOk result (λ arrival. FitsBuffer arrival) }
-{
-    match got {
-        Ok((len, SocketAddr::V4(from))) => Ok(Arrival::Got {
-            side,
-            from: ep_of(from),
-            len,
-        }),
-        // No socket of IPv4 gives another address.
-        Ok(_) => Ok(Arrival::Idle),
-        Err(error) => match error.kind() {
-            ErrorKind::WouldBlock | ErrorKind::Interrupted => Ok(Arrival::Idle),
-            _ => Err(error),
-        },
-    }
 }
 
 impl Sides {

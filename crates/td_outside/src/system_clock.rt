@@ -1,5 +1,5 @@
 //! The clock of the system.
-ghost use Rattle.std.specs.Prelude.{◌≡◌, ◌≤◌, ◌<◌, ℕ};
+ghost use Rattle.std.specs.Prelude.{◌≡◌, ◌≤◌, ◌<◌, ℕ, None};
 ghost use Rattle.td_outside.specs.declared.clock.TheConstants.{CLOCK_END_MS};
 
 use crate::{CLOCK_END_MS, Clock};
@@ -61,7 +61,7 @@ fn millis_of(elapsed: Duration) -> u64
 }
 
 impl<R: time::Clock> Clock for SystemClock<'_, R> {
-    ghost state = { λ last. record { last = last } };
+    ghost state = { λ last. record { last = last; gave = None } };
 
     fn now(&mut self) -> Millis {
         if let Ok(elapsed) = self.elapsed() {

@@ -1,7 +1,7 @@
 -- What the turns of a server at a link come to.
 use Rattle.std.proofs.Common.{◌≡◌, ℕ, ◌+◌, not, List, [], ◌∷◌, Option, Result, Ok, Err, refl, sym, ap, subst, ◌∙◌, arith}
 use Rattle.std.proofs.lemmas.List.Sums.{count_by-le-length}
-use Rattle.td_outside.specs.declared.link.Addresses.{Addresses}
+use Rattle.td_outside.specs.declared.link.Place.{Place}
 use Rattle.td_outside.specs.Link.{Came, Attempt, Told, KeepsTold, open_on}
 use Rattle.td_outside.specs.MoveLaws.{Stays-Moves}
 use Rattle.teredo_node.specs.Turn.{Carries, LeftBy, SendFaults, ReceiveFaults}
@@ -20,13 +20,13 @@ use Rattle.teredo_app.specs.Session.{server_on, AnswersByTable, WantsMemory, IsS
 -- the server stays as it is
 stays : (old : ServerSettings) (turns : List Turn) (new : ServerSettings) → Goes AnswersByTable old turns new → new ≡ old
 stays old [] new g = g
-stays old (Waited ∷ turns) new g = stays old turns new g
+stays old (Waited moment ∷ turns) new g = stays old turns new g
 stays old (Answered moment side from bytes step sent ∷ turns) new g = g.2.0 ∙ stays old turns g.0 g.1
 
 -- each arrival has one outcome
 each_once : (one : OneOutcome) (old : ServerSettings) (turns : List Turn) (new : ServerSettings) → Goes AnswersByTable old turns new → (totals_of turns).served ≡ (totals_of turns).sent + (totals_of turns).failed + (totals_of turns).six + (totals_of turns).dropped
 each_once one old [] new g = refl
-each_once one old (Waited ∷ turns) new g = each_once one old turns new g
+each_once one old (Waited moment ∷ turns) new g = each_once one old turns new g
 each_once one old (Answered moment side from bytes step sent ∷ turns) new g =
     let once : outcomes step ≡ 1 = ap outcomes g.2.1 ∙ one g.0 side from bytes in
     omega (arith, each_once one old turns g.0 g.1, once, count_by-le-length not sent, g.3)
@@ -53,11 +53,11 @@ left_so s (Err NoMemory) = refl
 
 -- ---- a session
 
-module _ (one : OneOutcome) (l l' : LinkState) (c c' : ClockState) (asked : ServeWords) (totals : Totals) (mid : Told) (receives sends : ℕ) (places : Option Addresses) (s new : ServerSettings) (opened : places ≡ open_on asked.primary asked.secondary) (same : KeepsTold l.told mid) (kept : receives ≡ l.recv_faults) (other : sends ≡ l.send_faults) (made : s ≡ server_on asked) where
+module _ (one : OneOutcome) (l l' : LinkState) (c c' : ClockState) (asked : ServeWords) (totals : Totals) (mid : Told) (receives sends : ℕ) (places : Option Place) (s new : ServerSettings) (opened : places ≡ open_on asked.primary asked.secondary) (same : KeepsTold l.told mid) (kept : receives ≡ l.recv_faults) (other : sends ≡ l.send_faults) (made : s ≡ server_on asked) where
   -- the turns after the link was opened
   pub session : (ended : Result (Unit {0}) PumpFault)
-      → Serves AnswersByTable WantsMemory IsSame asked.count asked.idles s new c.last c'.last mid l'.told totals ended
-      → l'.addresses ≡ places → ReceiveFaults receives l'.recv_faults ended → SendFaults sends l'.send_faults totals.failed
+      → Serves AnswersByTable WantsMemory IsSame asked.count asked.idles s new c c' mid l'.told totals ended
+      → l'.place ≡ places → ReceiveFaults receives l'.recv_faults ended → SendFaults sends l'.send_faults totals.failed
       → Session l l' c c' asked totals ended
   session ended served stay received sent =
       let state : served.state ≡ s = stays s served.turns served.state served.states in
@@ -69,6 +69,7 @@ module _ (one : OneOutcome) (l l' : LinkState) (c c' : ClockState) (asked : Serv
           states = subst (λ (t : ServerSettings). Goes AnswersByTable t served.turns t) made (subst (λ (t : ServerSettings). Goes AnswersByTable s served.turns t) state served.states);
           left = left_so (server_on asked) ended;
           moments = served.moments;
+          read = served.read;
           told = carried_after l.told mid l'.told served.state (server_on asked) c'.last served.turns ended same served.told;
           sums = served.sums;
           begun = served.begun;

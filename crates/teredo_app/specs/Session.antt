@@ -41,10 +41,10 @@ IsSame old new = new ≡ old
 -- The server took turns at the link, up to their end or a fault of the link, with these totals.
 pub record Session (l l' : LinkState) (c c' : ClockState) (asked : ServeWords) (totals : Totals) (ended : Result (Unit {0}) PumpFault) : Type 0 where
   -- at these two addresses
-  pub places : l'.addresses ≡ open_on asked.primary asked.secondary
+  pub places : l'.place ≡ open_on asked.primary asked.secondary
   -- each datagram that came was answered by the server's table, and each of its sends attempted, in order; the end is
   -- that so many arrivals were taken, or so many turns in a row were idle
-  pub turns : Serves AnswersByTable WantsMemory IsSame asked.count asked.idles (server_on asked) (server_on asked) c.last c'.last l.told l'.told totals ended
+  pub turns : Serves AnswersByTable WantsMemory IsSame asked.count asked.idles (server_on asked) (server_on asked) c c' l.told l'.told totals ended
   -- each arrival was answered, or its answer failed, or it went to the IPv6 side, or it was dropped
   pub outcomes : totals.served ≡ totals.sent + totals.failed + totals.six + totals.dropped
   pub receives : ReceiveFaults l.recv_faults l'.recv_faults ended

@@ -5,8 +5,8 @@ use Rattle.td_outside.specs.Link.{Told}
 use Rattle.teredo_node.specs.Step.{Step}
 use Rattle.teredo_node.specs.Turn.{Carries, SendFaults, attempts_of}
 use Rattle.teredo_node.specs.Ticks.{Ticked, TicksOnce, GoesBy, TicksThrough, NothingDue, made_by, failed_by, last_step}
-use Rattle.teredo_node.proofs.Carried.{carries_on, carries_stays, carries_nothing}
-use Rattle.teredo_node.proofs.Turns.{ones_failed}
+use Rattle.teredo_node.specs.CarryLaws.{carries_on, carries_stays, carries_nothing}
+use Rattle.teredo_node.specs.AttemptLaws.{ones_failed}
 
 -- The ticks so far.
 pub record Ran {S : Type 0} (ticks : S → Step → S → Type 0) (owing : S → ℕ) (old new : S) (link link' : Told) (step step' : Step) (failed : ℕ) : Type 0 where

@@ -33,7 +33,7 @@ pub fn tick<E: Endpoint, L: Link>(
     ensures again { E.ready e.new now.0 }
     ensures receives { (L.state link.new).recv_faults ≡ (L.state link.old).recv_faults }
     ensures sends { SendFaults (L.state link.old).send_faults (L.state link.new).send_faults (unwrap_or result 0) }
-    ensures places { (L.state link.new).addresses ≡ (L.state link.old).addresses }
+    ensures places { (L.state link.new).place ≡ (L.state link.old).place }
     ensures asked { Stays (L.state link.old).openings (L.state link.new).openings }
 {
     if !is_due(e, now) {
@@ -56,7 +56,7 @@ pub fn tick_through<E: Endpoint, L: Link>(
     ensures again { E.ready e.new now.0 }
     ensures receives { (L.state link.new).recv_faults ≡ (L.state link.old).recv_faults }
     ensures sends { SendFaults (L.state link.old).send_faults (L.state link.new).send_faults result }
-    ensures places { (L.state link.new).addresses ≡ (L.state link.old).addresses }
+    ensures places { (L.state link.new).place ≡ (L.state link.old).place }
     ensures asked { Stays (L.state link.old).openings (L.state link.new).openings }
 {
     let mut failures: u64 = 0;

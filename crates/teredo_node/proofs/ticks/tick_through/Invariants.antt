@@ -10,7 +10,7 @@ invariant-loop-failed g l = record {
   ready : g.E.Endpoint.ready l.e l.fn.now.0;
   receives : (g.L.Link.state l.link).recv_faults ≡ (g.L.Link.state l.fn.link).recv_faults;
   sends : SendFaults (g.L.Link.state l.fn.link).send_faults (g.L.Link.state l.link).send_faults l.failures;
-  places : (g.L.Link.state l.link).addresses ≡ (g.L.Link.state l.fn.link).addresses;
+  places : (g.L.Link.state l.link).place ≡ (g.L.Link.state l.fn.link).place;
   asked : Stays (g.L.Link.state l.fn.link).openings (g.L.Link.state l.link).openings;
 }
 

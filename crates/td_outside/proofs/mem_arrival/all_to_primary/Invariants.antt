@@ -1,0 +1,7 @@
+use Rattle.std.proofs.Common.{◌≡◌, ◌++◌, map, take, drop}
+use Rattle.td_outside.specs.Link.{at_primary}
+use Rattle.td_outside.specs.MemLink.{came_from}
+use Rattle.td_outside.proofs.mem_arrival.all_to_primary.Given as goal
+
+abbrev pub invariant-loop-arrival : goal.invariant-loop-arrival
+invariant-loop-arrival l = map came_from l.arrivals ≡ map at_primary (take l.arrival-index (map came_from l.fn.arrivals)) ++ drop l.arrival-index (map came_from l.fn.arrivals)
