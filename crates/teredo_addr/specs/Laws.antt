@@ -1,5 +1,5 @@
 -- What an address that was made tells: RFC 4380, section 4.
-use Rattle.std.specs.Prelude.{◌≡◌, ◌<◌, ◌^◌, ℕ, Bool, true, false}
+use Rattle.std.specs.Prelude.{◌≡◌, ◌/◌, ◌%◌, ◌<◌, ◌^◌, ℕ, Bool, true, false, Option}
 use Rattle.td_base.specs.Ip4.{IsIp4}
 use Rattle.td_base.specs.Ip6.{IsIp6}
 use Rattle.td_base.specs.Ep.{IsEp}
@@ -7,7 +7,7 @@ use Rattle.td_base.specs.Reach.{is_global6, is_link_local}
 use Rattle.td_base.specs.declared.ipv4.Ip4.{Ip4}
 use Rattle.td_base.specs.declared.ipv6.Ip6.{Ip6}
 use Rattle.td_base.specs.declared.endpoint.Ep.{Ep}
-use Rattle.teredo_addr.specs.Teredo.{is_teredo, server_in, flags_in, cone_in, has_cone, embedded, teredo_ip, parts_in, TeredoBytes, link_local}
+use Rattle.teredo_addr.specs.Teredo.{is_teredo, server_in, flags_in, cone_in, has_cone, embedded, teredo_ip, parts_in, TeredoBytes, flags_of, link_local}
 
 -- an address with the service's prefix, which tells these parts
 pub record IsTeredoOf (server : Ip4) (flags : ℕ) (mapped : Ep) (ip : Ip6) : Type 0 where
@@ -39,3 +39,13 @@ pub record IsLinkLocalOf (cone : Bool) (ep : Ep) (ip : Ip6) : Type 0 where
 
 abbrev pub LinkLocalTells : Type 0
 LinkLocalTells = (cone : Bool) (ep : Ep) → IsEp ep → IsLinkLocalOf cone ep (link_local cone ep)
+
+-- flags that are made have the cone bit as asked; the bits 0x4000, 0x0200 and 0x0100 are 0, whatever the word
+pub record AreFlagsOf (cone : Bool) (flags : ℕ) : Type 0 where
+  pub sixteen : flags < 2 ^ 16
+  pub cone_is : cone_in flags ≡ cone
+  pub reserved : flags / 0x4000 % 2 ≡ 0
+  pub no_group : flags / 0x100 % 4 ≡ 0
+
+abbrev pub FlagsTell : Type 0
+FlagsTell = (cone : Bool) (word : Option ℕ) → AreFlagsOf cone (flags_of cone word)

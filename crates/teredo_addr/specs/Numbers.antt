@@ -2,6 +2,7 @@
 use Rattle.std.specs.Prelude.{◌≡◌}
 use Rattle.teredo_addr.specs.declared.address.TheConstants.{TEREDO_PREFIX}
 use Rattle.teredo_addr.specs.declared.fields.TheConstants.{CONE}
+use Rattle.teredo_addr.specs.declared.flags.TheConstants.{FREE_FLAGS}
 use Rattle.teredo_addr.specs.declared.hidden_endpoint.TheConstants.{HIDDEN}
 
 pub record AddressNumbers : Type 0 where
@@ -9,3 +10,5 @@ pub record AddressNumbers : Type 0 where
   pub prefix : TEREDO_PREFIX ≡ 0x20010000
   pub cone : CONE ≡ 0x8000
   pub hidden : HIDDEN ≡ 6
+  -- RFC 5991, section 3.1
+  pub free : FREE_FLAGS ≡ 0x3cff

@@ -1,5 +1,5 @@
 //! Laws of addresses that are made.
-ghost use Rattle.teredo_addr.specs.Laws.{TeredoTells, TeredoIsMade, LinkLocalTells};
+ghost use Rattle.teredo_addr.specs.Laws.{TeredoTells, TeredoIsMade, LinkLocalTells, FlagsTell};
 ghost use Rattle.teredo_addr.specs.Numbers.{AddressNumbers};
 
 /// A Teredo address tells what it was made of.
@@ -15,6 +15,11 @@ pub fn teredo_is_made()
 /// A link-local address tells the cone bit and the endpoint that it was made of.
 pub fn link_local_tells()
     ensures { LinkLocalTells }
+{}
+
+/// Flags that are made have the cone bit as asked, and none of the three that stay 0.
+pub fn flags_tell()
+    ensures { FlagsTell }
 {}
 
 /// The numbers of Teredo addresses are the standard's.
