@@ -13,7 +13,8 @@ use Rattle.td_base.specs.declared.reach.Policy.TheVariants.{Strict}
 use Rattle.teredo_addr.specs.Teredo.{is_teredo}
 use Rattle.topology.specs.declared.topology.TheConstants.{SERVERS_MAX, NATS_MAX, CLIENTS_MAX, RELAYS_MAX, NATIVES_MAX}
 use Rattle.topology.specs.declared.nat_node.TheConstants.{IDLE_MAX_MS}
-use Rattle.topology.specs.declared.client_node.TheConstants.{REFRESH_MIN_MS, REFRESH_MAX_MS}
+use Rattle.topology.specs.declared.refresh_range.TheConstants.{REFRESH_MIN_MS, REFRESH_MAX_MS}
+use Rattle.topology.specs.declared.refresh_range.RefreshRange.{RefreshRange}
 use Rattle.topology.specs.declared.server_node.ServerNode.{ServerNode}
 use Rattle.topology.specs.declared.nat_node.NatNode.{NatNode}
 use Rattle.topology.specs.declared.client_node.ClientNode.{ClientNode}
@@ -49,14 +50,18 @@ pub record IsIdle (a : NatNode) : Type 0 where
   pub least : 1 ≤ a.idle
   pub most : a.idle ≤ IDLE_MAX_MS
 
--- a client is behind a NAT and asks a server, and its times are in order
+-- times between two refreshes
+pub record IsRefreshRange (a : RefreshRange) : Type 0 where
+  pub least : REFRESH_MIN_MS ≤ a.low_ms
+  pub order : a.low_ms ≤ a.high_ms
+  pub most : a.high_ms ≤ REFRESH_MAX_MS
+
+-- a client is behind a NAT and asks a server
 pub record IsClient (t : TopologyState) (c : ClientNode) : Type 0 where
   pub behind : is_some (nat_at t c.nat) ≡ true
   pub asks : is_some (server_at t c.server) ≡ true
   pub port : c.inside.port ≢ 0
-  pub least : REFRESH_MIN_MS ≤ c.low
-  pub order : c.low ≤ c.high
-  pub most : c.high ≤ REFRESH_MAX_MS
+  pub refresh : IsRefreshRange c.refresh
 
 -- an address of the IPv6 Internet
 pub record IsOutside (ip : Ip6) : Type 0 where
