@@ -102,16 +102,16 @@ kind_epoch _ other = refl
 keeps_epoch : (f : Fate) → AdvertFate f → (f ≡ fate.Changed → ⊥) → is_changed f ≡ false
 keeps_epoch f a other = ap (λ (g : Fate). is_changed g) a.is ∙ kind_epoch a.kind (λ e. other (a.is ∙ e))
 
-abbrev pub told : Fate → Step
-told f = record (just f) { drawn = advert_words f }
+abbrev pub told : Settings → Fate → Step
+told s f = record (just f) { drawn = advert_words s f }
 
-kind_done : (s : Settings) (a : Standing) (from : Ep) (x : List ℕ) (v : Value) (w : Words) (k : Kind) → (kind_fate k ≡ fate.Changed → ⊥) → told (kind_fate k) ≡ reception_step s a from x v w (kind_fate k)
+kind_done : (s : Settings) (a : Standing) (from : Ep) (x : List ℕ) (v : Value) (w : Words) (k : Kind) → (kind_fate k ≡ fate.Changed → ⊥) → told s (kind_fate k) ≡ reception_step s a from x v w (kind_fate k)
 kind_done s a from x v w is_moved other = absurd (other refl)
 kind_done s a from x v w _ other = refl
 
-done : (s : Settings) (a : Standing) (from : Ep) (x : List ℕ) (v : Value) (w : Words) (f : Fate) → AdvertFate f → (f ≡ fate.Changed → ⊥) → told f ≡ reception_step s a from x v w f
+done : (s : Settings) (a : Standing) (from : Ep) (x : List ℕ) (v : Value) (w : Words) (f : Fate) → AdvertFate f → (f ≡ fate.Changed → ⊥) → told s f ≡ reception_step s a from x v w f
 done s a from x v w f k other =
-    ap (λ (g : Fate). told g) k.is ∙ kind_done s a from x v w k.kind (λ e. other (k.is ∙ e)) ∙ ap (λ (g : Fate). reception_step s a from x v w g) (sym k.is)
+    ap (λ (g : Fate). told s g) k.is ∙ kind_done s a from x v w k.kind (λ e. other (k.is ∙ e)) ∙ ap (λ (g : Fate). reception_step s a from x v w g) (sym k.is)
 
 -- WHAT A CLIENT STANDS FOR THEN
 
@@ -119,8 +119,8 @@ done s a from x v w f k other =
 pub record Took (old : Client) (n : ℕ) (from : Ep) (v : Value) (f : Fate) (new : Client) : Type 0 where
   pub clock : old.peers.moment ≤ n
   pub row : (j : Journal) → StandsFor old.qualifier j → f ≡ advert_row (settings_of old) (qualification (settings_of old) j) from v
-  pub stands : (j : Journal) (e : Entry) → StandsFor old.qualifier j → IsOfAdvert n v f (words_ahead old) e → StandsFor new.qualifier (with_entry j e)
-  pub place : new.rng ≡ after_words (advert_words f) old.rng
+  pub stands : (j : Journal) (e : Entry) → StandsFor old.qualifier j → IsOfAdvert (settings_of old) n v f (words_ahead old) e → StandsFor new.qualifier (with_entry j e)
+  pub place : new.rng ≡ after_words (advert_words (settings_of old) f) old.rng
   pub settings : settings_of new ≡ settings_of old
 
 row_now : (old new : Client) (n : ℕ) (from : Ep) (v : Value) (f : Fate) → Took old n from v f new → (j : Journal) → StandsFor old.qualifier j → f ≡ advert_row (settings_of old) old.qualifier.now from v
@@ -130,8 +130,8 @@ fate_now : (old new : Client) (n : ℕ) (from : Ep) (v : Value) (f : Fate) → T
 fate_now old new n from v f t j h = subst (λ (g : Fate). AdvertFate g) (sym (row_now old new n from v f t j h)) (advert_fate (settings_of old) old.qualifier.now from v)
 
 -- the entry of it
-of_advert : (old : Client) (n : ℕ) (from : Ep) (v : Value) (step : Step) (x : List ℕ) → IsPayloadOf x v → step.drawn ≡ advert_words step.fate
-    → IsOfAdvert n v step.fate (words_ahead old) (entry_about old n from x v.packet.src step)
+of_advert : (old : Client) (n : ℕ) (from : Ep) (v : Value) (step : Step) (x : List ℕ) → IsPayloadOf x v → step.drawn ≡ advert_words (settings_of old) step.fate
+    → IsOfAdvert (settings_of old) n v step.fate (words_ahead old) (entry_about old n from x v.packet.src step)
 of_advert old n from v step x is drawn = record {
   moment = refl;
   origin = ap (λ (u : Value). origin_in u.lead) is.value;
@@ -141,16 +141,16 @@ of_advert old n from v step x is drawn = record {
 
 -- the peers stay, unless the address changed
 pub advert_kept : (law : BelowClient) (old new : Client) (n : ℕ) (from : Ep) (v : Value) (f : Fate) → Took old n from v f new → (f ≡ fate.Changed → ⊥) → new.peers ≡ old.peers
-    → TakesPayload old n from v (advert_row (settings_of old) old.qualifier.now from v) (told f) new
+    → TakesPayload old n from v (advert_row (settings_of old) old.qualifier.now from v) (told (settings_of old) f) new
 advert_kept law old new n from v f t other same = record {
   did = λ j x h is.
       done (settings_of old) (standing_in old n v.packet.src) from x v (words_ahead old) f (fate_now old new n from v f t j h.qualification) other
       ∙ ap (λ (g : Fate). reception_step (settings_of old) (standing_in old n v.packet.src) from x v (words_ahead old) g) (row_now old new n from v f t j h.qualification);
   stands = λ j x h is.
-      let e = entry_about old n from x v.packet.src (told f) in
+      let e = entry_about old n from x v.packet.src (told (settings_of old) f) in
       let is_fate = fate_now old new n from v f t j h.qualification in
       record {
-        qualification = t.stands j e h.qualification (of_advert old n from v (told f) x is refl);
+        qualification = t.stands j e h.qualification (of_advert old n from v (told (settings_of old) f) x is refl);
         peers = peers_idle law new.peers j.entries e (keeps_epoch f is_fate other) (bears_nothing (bears_none f e is_fate)) (subst (λ (p : Table). StandsForMentions p (mentions j.entries)) (sym same) h.peers);
       };
   place = t.place;
@@ -159,7 +159,7 @@ advert_kept law old new n from v f t other same = record {
 }
 
 abbrev pub moved : Client → ℕ → Step
-moved c n = record (just fate.Changed) { gone = waiting_in c.peers n }
+moved c n = record (just fate.Changed) { gone = waiting_in c.peers n; drawn = advert_words (settings_of c) fate.Changed }
 
 -- then they are forgotten
 pub advert_changed : (law : BelowClient) (old new : Client) (n : ℕ) (from : Ep) (v : Value) → Took old n from v fate.Changed new → StandsForMentions new.peers [] → new.peers.moment ≤ n

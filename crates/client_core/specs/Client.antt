@@ -1,5 +1,5 @@
 -- What a client keeps, the journals that it stands for, and what a call does for each of them (RFC 4380, section 5.2).
-use Rattle.std.specs.Prelude.{◌≡◌, ◌≤◌, ◌<◌, ◌+◌, ℕ, Bool, true, false, List, length, Option, Some, is_some, unwrap_or}
+use Rattle.std.specs.Prelude.{◌≡◌, ◌≤◌, ◌<◌, ℕ, Bool, true, false, List, Some, is_some, unwrap_or}
 use Rattle.td_base.specs.declared.ipv6.Ip6.{Ip6}
 use Rattle.td_base.specs.declared.endpoint.Ep.{Ep}
 use Rattle.td_outside.specs.declared.clock.TheConstants.{CLOCK_END_MS}
@@ -12,7 +12,7 @@ use Rattle.teredo_node.specs.declared.fate.Fate.TheVariants as fate
 use Rattle.teredo_node.specs.Step.{Step}
 use Rattle.teredo_node.specs.Journal.{Input, arrived, given, Entry, Journal, with_entry, Words}
 use Rattle.peer_list.specs.Peers.{peer_at}
-use Rattle.peer_list.specs.Table.{Table, peer_in, known_to, has_room_in, waiting_in}
+use Rattle.peer_list.specs.Table.{peer_in, has_room_in, waiting_in}
 use Rattle.peer_list.specs.Calls.{Keeps}
 use Rattle.peer_list.specs.Stands.{StandsForMentions}
 use Rattle.qualify.specs.declared.settings.Settings.{Settings}

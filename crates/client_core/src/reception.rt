@@ -116,7 +116,7 @@ impl Client {
         below();
         let fate = self.qualifier.on_advert(now, from, payload, &mut self.rng);
         step.reset(fate);
-        step.set_drawn(words_of_advert(fate));
+        step.set_drawn(words_of_advert(self.qualifier.settings(), fate));
         match fate {
             Fate::Changed => {
                 step.set_gone(self.peers.waiting(now));

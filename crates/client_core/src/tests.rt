@@ -25,6 +25,8 @@ const SETTINGS: Settings = Settings {
     policy: Policy::Strict,
     low: 1_000_000,
     high: 1_000_000,
+    random: false,
+    cone_try: true,
 };
 
 // The first nonce that 32 zero bytes give.

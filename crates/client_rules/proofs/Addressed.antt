@@ -15,7 +15,7 @@ use Rattle.peer_list.specs.Laws.{OneEntry}
 use Rattle.qualify.specs.declared.settings.Settings.{Settings}
 use Rattle.qualify.specs.declared.phase.Phase.{Phase}
 use Rattle.qualify.specs.declared.phase.Phase.TheVariants.{Cone, Restricted, Secondary, Qualified, Symmetric, OffLine}
-use Rattle.qualify.specs.Turns.{Turn, asks_cone, asks_restricted, asks_secondary, ends, refreshes, qualifies, is_answered, differs, is_same, renews, says_nothing, turn_of, begins, leaves, origin_given}
+use Rattle.qualify.specs.Turns.{Turn, asks_cone, asks_restricted, asks_secondary, ends, refreshes, qualifies, is_answered, differs, is_same, renews, says_nothing, turn_of, begins, leaves, origin_given, flags_word}
 use Rattle.qualify.specs.Turns.{is_changed as changes_turn}
 use Rattle.qualify.specs.Qualification.{first_phase, address_after, Qualification, qualification}
 use Rattle.qualify.specs.Solicitations.{is_qualified, own_address}
@@ -52,36 +52,36 @@ to_qualified Symmetric cone = refl
 to_qualified OffLine cone = refl
 
 -- while qualified
-qualified_after : (s : Settings) (phase : Phase) (t : Turn) (o : Option Ep) (a : Ip6) → leaves phase t ≡ false → (sets t ≡ true → is_some o ≡ true) → is_some (address_after s t o (Some a)) ≡ true
-qualified_after s phase (qualifies cone) o a l h = absurd (true≢false (sym (to_qualified phase cone) ∙ l))
-qualified_after s phase changes_turn o a l h = some_map (teredo_ip s.primary (flags_of (has_cone a))) o (h refl)
-qualified_after s phase _ o a l h = refl
+qualified_after : (s : Settings) (phase : Phase) (t : Turn) (w : Option ℕ) (o : Option Ep) (a : Ip6) → leaves phase t ≡ false → (sets t ≡ true → is_some o ≡ true) → is_some (address_after s t w o (Some a)) ≡ true
+qualified_after s phase (qualifies cone) w o a l h = absurd (true≢false (sym (to_qualified phase cone) ∙ l))
+qualified_after s phase changes_turn w o a l h = some_map (teredo_ip s.primary (flags_of (has_cone a) w)) o (h refl)
+qualified_after s phase _ w o a l h = refl
 
 -- it is the same, unless it changes
-same_after : (s : Settings) (phase : Phase) (t : Turn) (o : Option Ep) (a : Option Ip6) → leaves phase t ≡ false → changes t ≡ false → address_after s t o a ≡ a
-same_after s phase (qualifies cone) o a l h = absurd (true≢false (sym (to_qualified phase cone) ∙ l))
-same_after s phase changes_turn o a l h = absurd (true≢false h)
-same_after s phase _ o a l h = refl
+same_after : (s : Settings) (phase : Phase) (t : Turn) (w : Option ℕ) (o : Option Ep) (a : Option Ip6) → leaves phase t ≡ false → changes t ≡ false → address_after s t w o a ≡ a
+same_after s phase (qualifies cone) w o a l h = absurd (true≢false (sym (to_qualified phase cone) ∙ l))
+same_after s phase changes_turn w o a l h = absurd (true≢false h)
+same_after s phase _ w o a l h = refl
 
 -- of one that leaves a phase without an address
-left_after : (s : Settings) (phase : Phase) (t : Turn) (o : Option Ep) → is_qualified phase ≡ false → (sets t ≡ true → is_some o ≡ true) → is_some (address_after s t o None) ≡ is_qualified (unwrap_or (begins t) phase)
-left_after s phase asks_cone o q h = sym q
-left_after s phase asks_restricted o q h = refl
-left_after s phase asks_secondary o q h = sym q
-left_after s phase ends o q h = refl
-left_after s phase refreshes o q h = sym q
-left_after s phase (qualifies cone) o q h = some_map (teredo_ip s.primary (flags_of cone)) o (h refl)
-left_after s phase is_answered o q h = refl
-left_after s phase differs o q h = refl
-left_after s phase is_same o q h = sym q
-left_after s phase changes_turn o q h = sym q
-left_after s phase renews o q h = sym q
-left_after s phase says_nothing o q h = sym q
+left_after : (s : Settings) (phase : Phase) (t : Turn) (w : Option ℕ) (o : Option Ep) → is_qualified phase ≡ false → (sets t ≡ true → is_some o ≡ true) → is_some (address_after s t w o None) ≡ is_qualified (unwrap_or (begins t) phase)
+left_after s phase asks_cone w o q h = sym q
+left_after s phase asks_restricted w o q h = refl
+left_after s phase asks_secondary w o q h = sym q
+left_after s phase ends w o q h = refl
+left_after s phase refreshes w o q h = sym q
+left_after s phase (qualifies cone) w o q h = some_map (teredo_ip s.primary (flags_of cone w)) o (h refl)
+left_after s phase is_answered w o q h = refl
+left_after s phase differs w o q h = refl
+left_after s phase is_same w o q h = sym q
+left_after s phase changes_turn w o q h = sym q
+left_after s phase renews w o q h = sym q
+left_after s phase says_nothing w o q h = sym q
 
 -- of one that stays in it
-unleft_after : (s : Settings) (phase : Phase) (t : Turn) (o : Option Ep) → is_qualified phase ≡ false → leaves phase t ≡ false → is_some (address_after s t o None) ≡ is_qualified phase
-unleft_after s phase (qualifies cone) o q l = absurd (true≢false (sym (to_qualified phase cone) ∙ l))
-unleft_after s phase _ o q l = sym q
+unleft_after : (s : Settings) (phase : Phase) (t : Turn) (w : Option ℕ) (o : Option Ep) → is_qualified phase ≡ false → leaves phase t ≡ false → is_some (address_after s t w o None) ≡ is_qualified phase
+unleft_after s phase (qualifies cone) w o q l = absurd (true≢false (sym (to_qualified phase cone) ∙ l))
+unleft_after s phase _ w o q l = sym q
 
 -- ONE FURTHER ENTRY
 
@@ -118,16 +118,16 @@ next_qualified : (s : Settings) (q : Qualification) (e : Entry) (es : List Entry
     → IsHeld (goes_on s (tidings s e) q) (cond (is_changed e.step.fate) [] (e ∷ es))
 unfolding own_address
 next_qualified s q e es f h qual = record {
-  addressed = subst (λ a. is_some (address_after s (turn_of e) (origin_given e.input) a) ≡ is_qualified q.phase) (sym own) (qualified_after s q.phase (turn_of e) (origin_given e.input) (unwrap_or q.address unspecified) (f.still qual) f.told ∙ sym qual);
+  addressed = subst (λ a. is_some (address_after s (turn_of e) (flags_word s e.words) (origin_given e.input) a) ≡ is_qualified q.phase) (sym own) (qualified_after s q.phase (turn_of e) (flags_word s e.words) (origin_given e.input) (unwrap_or q.address unspecified) (f.still qual) f.told ∙ sym qual);
   queued = by_change (is_changed e.step.fate) refl;
 } where
   own : q.address ≡ Some (unwrap_or q.address unspecified)
   own = own_is q.address (h.addressed ∙ qual)
 
-  by_change : (b : Bool) → is_changed e.step.fate ≡ b → AllByRecursion (IsOwn (address_after s (turn_of e) (origin_given e.input) q.address)) (cond b [] (e ∷ es))
+  by_change : (b : Bool) → is_changed e.step.fate ≡ b → AllByRecursion (IsOwn (address_after s (turn_of e) (flags_word s e.words) (origin_given e.input) q.address)) (cond b [] (e ∷ es))
   by_change true c = tt
   by_change false c =
-      let same = same_after s q.phase (turn_of e) (origin_given e.input) q.address (f.still qual) (changes_alike e.step.fate ∙ c) in
+      let same = same_after s q.phase (turn_of e) (flags_word s e.words) (origin_given e.input) q.address (f.still qual) (changes_alike e.step.fate ∙ c) in
       subst (λ a. AllByRecursion (IsOwn a) (e ∷ es)) (sym same) ((λ k. own_of q e own (f.queued k)), h.queued)
 
 -- and in one without
@@ -145,8 +145,8 @@ next_unqualified s q e es f h unqual = record {
 
   by_left : (b : Bool) → leaves q.phase (turn_of e) ≡ b
       → is_some (goes_on s (tidings s e) (cond b (fresh (unwrap_or (begins (turn_of e)) q.phase) e.moment) q)).address ≡ is_qualified (cond b (fresh (unwrap_or (begins (turn_of e)) q.phase) e.moment) q).phase
-  by_left true l = left_after s q.phase (turn_of e) (origin_given e.input) unqual f.told
-  by_left false l = subst (λ a. is_some (address_after s (turn_of e) (origin_given e.input) a) ≡ is_qualified q.phase) (sym none) (unleft_after s q.phase (turn_of e) (origin_given e.input) unqual l)
+  by_left true l = left_after s q.phase (turn_of e) (flags_word s e.words) (origin_given e.input) unqual f.told
+  by_left false l = subst (λ a. is_some (address_after s (turn_of e) (flags_word s e.words) (origin_given e.input) a) ≡ is_qualified q.phase) (sym none) (unleft_after s q.phase (turn_of e) (flags_word s e.words) (origin_given e.input) unqual l)
 
   by_change : (own : Option Ip6) (b : Bool) → AllByRecursion (IsOwn own) (cond b [] (e ∷ es))
   by_change own true = tt
@@ -166,9 +166,13 @@ next s q e es f h = by_phase (is_qualified q.phase) refl where
 effect : (s : Settings) (j : Journal) (e : Entry) → Follows s j e → IsEffect (qualification s j) e
 effect s j e f = subst (λ x. IsEffect (qualification s j) x) (sym f.is) (of_entry s j e.moment e.input f.words)
 
+first_unqualified : (cone_try : Bool) → false ≡ is_qualified (cond cone_try Cone Restricted)
+first_unqualified true = refl
+first_unqualified false = refl
+
 at_start : (s : Settings) (start : ℕ) → IsHeld (fresh (first_phase s) start) []
 unfolding first_phase
-at_start s start = record { addressed = refl; queued = tt }
+at_start s start = record { addressed = first_unqualified s.cone_try; queued = tt }
 
 held : Turns → TurnsAtStart → (s : Settings) (start : ℕ) (j : List Entry) → AreEntries s start j → IsHeld (qualification s (journal start j)) (epoch j)
 held turns first s start [] a = subst (λ q. IsHeld q []) (sym (first s start)) (at_start s start)

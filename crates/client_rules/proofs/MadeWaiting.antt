@@ -1,6 +1,6 @@
 -- What a journal of made inputs says: of its client's address, of its peers, of the packets that wait.
-use Rattle.std.proofs.Common.{◌≡◌, ℕ, Bool, true, false, cond, List, [], ◌∷◌, map, Option, Some, None, refl, sym, subst, arith}
-use Rattle.std.specs.Prelude.{IfSome, unwrap_or, nat_le, ◌<◌, ◌^◌}
+use Rattle.std.proofs.Common.{◌≡◌, ℕ, Bool, true, false, cond, List, [], ◌∷◌, map, Option, Some, None, refl, sym, subst}
+use Rattle.std.specs.Prelude.{IfSome, unwrap_or, nat_le}
 use Rattle.peer_list.specs.Judged.{due_of}
 use Rattle.qualify.specs.Solicitations.{is_due}
 use Rattle.std.specs.List.{AllByRecursion}
@@ -11,7 +11,7 @@ use Rattle.td_base.specs.declared.endpoint.Ep.{Ep}
 use Rattle.td_base.specs.declared.ipv6.Ip6.{Ip6}
 use Rattle.ipv6_packet.specs.Laws.{PacketIsSpelled}
 use Rattle.teredo_addr.specs.Teredo.{has_cone, flags_of}
-use Rattle.teredo_addr.specs.Laws.{TeredoTells}
+use Rattle.teredo_addr.specs.Laws.{TeredoTells, FlagsTell}
 use Rattle.bubble.specs.Laws.{PayloadIsSpelled}
 use Rattle.teredo_node.specs.declared.fate.Fate.{Fate}
 use Rattle.teredo_node.specs.declared.fate.Fate.TheVariants as fate
@@ -20,7 +20,7 @@ use Rattle.peer_list.specs.Peers.{known}
 use Rattle.peer_list.specs.Waiting.{Listing}
 use Rattle.peer_list.specs.Laws.{FirstWaits, OneEntry}
 use Rattle.qualify.specs.declared.settings.Settings.{Settings}
-use Rattle.qualify.specs.Turns.{Turn, qualifies, is_changed as changes, turn_of, leaves, begins, origin_given}
+use Rattle.qualify.specs.Turns.{Turn, qualifies, is_changed as changes, turn_of, leaves, begins, origin_given, flags_word}
 use Rattle.qualify.specs.Qualification.{Qualification, qualification, address_of, address_after}
 use Rattle.qualify.specs.Laws.{fresh, goes_on, tidings, Turns, TurnsAtStart}
 use Rattle.client_rules.specs.Bearings.{bearing_of, mention, mentions}
@@ -35,6 +35,7 @@ pub record InputLaws : Type 0 where
   pub payload : PayloadIsSpelled
   pub packet : PacketIsSpelled
   pub teredo : TeredoTells
+  pub flags : FlagsTell
   pub turns : Turns
   pub at_start : TurnsAtStart
   pub waits : FirstWaits
@@ -42,18 +43,15 @@ pub record InputLaws : Type 0 where
 
 -- THE ADDRESS
 
-made_address : TeredoTells → (s : Settings) (cone : Bool) (o : Option Ep) → IsMadeClient s → IfSome o IsEp → IfSome (address_of s cone o) IsIp6
-made_address law s cone None made h = tt
-made_address law s cone (Some ep) made h = (law s.primary (flags_of cone) ep made.primary (few cone) h).sixteen where
-  few : (b : Bool) → flags_of b < 2 ^ 16
-  few true = omega arith
-  few false = omega arith
+made_address : InputLaws → (s : Settings) (cone : Bool) (w : Option ℕ) (o : Option Ep) → IsMadeClient s → IfSome o IsEp → IfSome (address_of s cone w o) IsIp6
+made_address laws s cone w None made h = tt
+made_address laws s cone w (Some ep) made h = (laws.teredo s.primary (flags_of cone w) ep made.primary (laws.flags cone w).sixteen h).sixteen
 
-after : TeredoTells → (s : Settings) (t : Turn) (o : Option Ep) (a : Option Ip6) → IsMadeClient s → IfSome o IsEp → IfSome a IsIp6 → IfSome (address_after s t o a) IsIp6
-after law s (qualifies cone) o a made h before = made_address law s cone o made h
-after law s changes o None made h before = tt
-after law s changes o (Some p) made h before = made_address law s (has_cone p) o made h
-after law s _ o a made h before = before
+after : InputLaws → (s : Settings) (t : Turn) (w : Option ℕ) (o : Option Ep) (a : Option Ip6) → IsMadeClient s → IfSome o IsEp → IfSome a IsIp6 → IfSome (address_after s t w o a) IsIp6
+after laws s (qualifies cone) w o a made h before = made_address laws s cone w o made h
+after laws s changes w o None made h before = tt
+after laws s changes w o (Some p) made h before = made_address laws s (has_cone p) w o made h
+after laws s _ w o a made h before = before
 
 origin_of : PayloadIsSpelled → (input : Input) → IsMadeInput input → IfSome (origin_given input) IsEp
 origin_of law (arrived from x) h = origin_is law x h.1
@@ -69,8 +67,8 @@ address_is laws s start (e ∷ es) made a =
   where
     by : (b : Bool) → IfSome (qualification s (record { start = start; entries = es })).address IsIp6
         → IfSome (goes_on s (tidings s e) (cond b (fresh (unwrap_or (begins (turn_of e)) (qualification s (record { start = start; entries = es })).phase) e.moment) (qualification s (record { start = start; entries = es })))).address IsIp6
-    by true before = after laws.teredo s (turn_of e) (origin_given e.input) None made (origin_of laws.payload e.input a.0) tt
-    by false before = after laws.teredo s (turn_of e) (origin_given e.input) (qualification s (record { start = start; entries = es })).address made (origin_of laws.payload e.input a.0) before
+    by true before = after laws s (turn_of e) (flags_word s e.words) (origin_given e.input) None made (origin_of laws.payload e.input a.0) tt
+    by false before = after laws s (turn_of e) (flags_word s e.words) (origin_given e.input) (qualification s (record { start = start; entries = es })).address made (origin_of laws.payload e.input a.0) before
 
 -- MENTIONS
 

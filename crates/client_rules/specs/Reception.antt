@@ -27,7 +27,7 @@ use Rattle.peer_list.specs.Peers.{Peer}
 use Rattle.peer_list.specs.Judged.{is_trusted_at, is_fresh, is_barred}
 use Rattle.qualify.specs.declared.settings.Settings.{Settings}
 use Rattle.qualify.specs.Solicitations.{is_qualified, own_address}
-use Rattle.qualify.specs.Advertisements.{advert_row}
+use Rattle.qualify.specs.Advertisements.{advert_words, advert_row}
 use Rattle.client_rules.specs.Standing.{Standing, known_in}
 use Rattle.client_rules.specs.Tries.{direct_bubble, test}
 
@@ -192,9 +192,9 @@ abbrev pub tests_source : Settings → Standing → Value → Words → Step
 tests_source s a v w = record (sending fate.SuspiciousTest (test s (own_address a.qualification) v.packet.src (nonce_from w) ∷ [])) { drawn = 2 }
 
 abbrev pub reception_step : Settings → Standing → Ep → List ℕ → Value → Words → Fate → Step
-reception_step s a from x v w fate.QualifiedCone = record (just fate.QualifiedCone) { drawn = 1 }
-reception_step s a from x v w fate.QualifiedRestricted = record (just fate.QualifiedRestricted) { drawn = 1 }
-reception_step s a from x v w fate.Changed = record (just fate.Changed) { gone = a.waiting }
+reception_step s a from x v w fate.QualifiedCone = record (just fate.QualifiedCone) { drawn = advert_words s fate.QualifiedCone }
+reception_step s a from x v w fate.QualifiedRestricted = record (just fate.QualifiedRestricted) { drawn = advert_words s fate.QualifiedRestricted }
+reception_step s a from x v w fate.Changed = record (just fate.Changed) { gone = a.waiting; drawn = advert_words s fate.Changed }
 reception_step s a from x v w fate.Indirect = answers_bubble s a v
 reception_step s a from x v w fate.Rule1 = hands_over fate.Rule1 x v from (known_in a)
 reception_step s a from x v w fate.Rule1Bubble = sending fate.Rule1Bubble (releases from (known_in a).waiting)

@@ -127,6 +127,7 @@ pub fn each_send_is_bytes()
     bubble::payload_is_spelled();
     ipv6_packet::packet_is_spelled();
     teredo_addr::teredo_tells();
+    teredo_addr::flags_tell();
     qualify::turns();
     qualify::turns_at_start();
     peer_list::first_waits();

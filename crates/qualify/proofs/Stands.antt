@@ -49,10 +49,10 @@ pub tells : (s : Settings) (n : ℕ) (fate : Fate) (words : List ℕ) (origin : 
     → e.moment ≡ n → e.step.fate ≡ fate → e.words ≡ words → origin_given e.input ≡ origin → tidings s e ≡ tidings_of s n fate words origin
 tells s n fate words origin e a b c d = λ i. tidings_of s (a i) (b i) (c i) (d i)
 
-pub stands_advert : (s : Settings) (before after : Qualification) (n : ℕ) (v : Value) (fate : Fate) (w : Words) → TurnsBy s n fate (drawn_words (advert_words fate) w) (origin_in v.lead) before after
-    → (j : Journal) (e : Entry) → StandsFor (state s before) j → IsOfAdvert n v fate w e → StandsFor (state s after) (with_entry j e)
+pub stands_advert : (s : Settings) (before after : Qualification) (n : ℕ) (v : Value) (fate : Fate) (w : Words) → TurnsBy s n fate (drawn_words (advert_words s fate) w) (origin_in v.lead) before after
+    → (j : Journal) (e : Entry) → StandsFor (state s before) j → IsOfAdvert s n v fate w e → StandsFor (state s after) (with_entry j e)
 stands_advert s before after n v fate w is j e h a =
-    stands_on s before after j e h (is ∙ ap (λ (t : Tidings). turned s t before) (sym (tells s n fate (drawn_words (advert_words fate) w) (origin_in v.lead) e a.moment a.became a.words a.origin)))
+    stands_on s before after j e h (is ∙ ap (λ (t : Tidings). turned s t before) (sym (tells s n fate (drawn_words (advert_words s fate) w) (origin_in v.lead) e a.moment a.became a.words a.origin)))
 
 pub stands_tick : (s : Settings) (before after : Qualification) (n : ℕ) (step : Step) (w : Words) → ((origin : Option Ep) → TurnsBy s n step.fate (drawn_words step.drawn w) origin before after)
     → (j : Journal) (e : Entry) → StandsFor (state s before) j → IsOfTick n step w e → StandsFor (state s after) (with_entry j e)
@@ -68,20 +68,20 @@ stands_server s before after n is j e h a =
 
 -- ENTRIES THAT SAY NOTHING
 
-still_in : (s : Settings) (m : ℕ) (drawn : Option ℕ) (origin : Option Ep) (phase : Phase) (due : Option ℕ) (sends : ℕ) (nonces : List ℕ) (kept : Option Ep) (address : Option Ip6) (interval : ℕ)
-    → turned s (record { moment = m; turn = says_nothing; nonce = drawn; interval = None; origin = origin }) (record { phase = phase; due = due; sends = sends; open_nonces = nonces; kept = kept; address = address; interval = interval })
+still_in : (s : Settings) (m : ℕ) (drawn flags : Option ℕ) (origin : Option Ep) (phase : Phase) (due : Option ℕ) (sends : ℕ) (nonces : List ℕ) (kept : Option Ep) (address : Option Ip6) (interval : ℕ)
+    → turned s (record { moment = m; turn = says_nothing; nonce = drawn; interval = None; flags = flags; origin = origin }) (record { phase = phase; due = due; sends = sends; open_nonces = nonces; kept = kept; address = address; interval = interval })
     ≡ record { phase = phase; due = due; sends = sends; open_nonces = nonces; kept = kept; address = address; interval = interval }
-still_in s m drawn origin Cone due sends nonces kept address interval = refl
-still_in s m drawn origin Restricted due sends nonces kept address interval = refl
-still_in s m drawn origin Secondary due sends nonces kept address interval = refl
-still_in s m drawn origin Qualified due sends nonces kept address interval = refl
-still_in s m drawn origin Symmetric due sends nonces kept address interval = refl
-still_in s m drawn origin OffLine due sends nonces kept address interval = refl
+still_in s m drawn flags origin Cone due sends nonces kept address interval = refl
+still_in s m drawn flags origin Restricted due sends nonces kept address interval = refl
+still_in s m drawn flags origin Secondary due sends nonces kept address interval = refl
+still_in s m drawn flags origin Qualified due sends nonces kept address interval = refl
+still_in s m drawn flags origin Symmetric due sends nonces kept address interval = refl
+still_in s m drawn flags origin OffLine due sends nonces kept address interval = refl
 
 pub still : (s : Settings) (t : Tidings) (q : Qualification) → t.turn ≡ says_nothing → t.interval ≡ None → turned s t q ≡ q
 still s t q a b =
-    ap (λ (x : Tidings). turned s x q) (λ i. record { moment = t.moment; turn = a i; nonce = t.nonce; interval = b i; origin = t.origin })
-    ∙ still_in s t.moment t.nonce t.origin q.phase q.due q.sends q.open_nonces q.kept q.address q.interval
+    ap (λ (x : Tidings). turned s x q) (λ i. record { moment = t.moment; turn = a i; nonce = t.nonce; interval = b i; flags = t.flags; origin = t.origin })
+    ∙ still_in s t.moment t.nonce t.flags t.origin q.phase q.due q.sends q.open_nonces q.kept q.address q.interval
 
 -- such an entry draws no interval
 nothing_drawn : (s : Settings) (t : Turn) (words : List ℕ) → t ≡ says_nothing → option_map (interval_of s) (interval_word t words) ≡ None

@@ -1,5 +1,5 @@
 -- Worked cases, computed from the definitions: the first solicitation, and a refresh whose interval isn't a point.
-use Rattle.std.proofs.Common.{◌≡◌, ℕ, List, [], ◌∷◌, None, Some, refl}
+use Rattle.std.proofs.Common.{◌≡◌, ℕ, true, false, List, [], ◌∷◌, None, Some, refl}
 use Rattle.std.specs.Prelude.{replicate}
 use Rattle.td_base.specs.declared.ipv4.Ip4.{Ip4}
 use Rattle.td_base.specs.declared.reach.Policy.TheVariants.{Strict}
@@ -27,18 +27,18 @@ use Rattle.qualify.specs.Qualification.{first_phase, qualification}
 use Rattle.qualify.specs.Solicitations.{own_address, solicitation, due_step, step_at}
 use Rattle.qualify.specs.Generator.{words_of, after_words}
 
-abbrev primary : Ip4
+abbrev pub primary : Ip4
 primary = record { 0 = 192 ∷ 0 ∷ 2 ∷ 1 ∷ [] }
 
-abbrev secondary : Ip4
+abbrev pub secondary : Ip4
 secondary = record { 0 = 192 ∷ 0 ∷ 2 ∷ 2 ∷ [] }
 
 -- a client at 10.0.0.2:4000 of the server at 192.0.2.1 and 192.0.2.2, which refreshes after 22,500 to 30,000 ms
-abbrev client : Settings
-client = record { inside = record { ip = record { 0 = 10 ∷ 0 ∷ 0 ∷ 2 ∷ [] }; port = 4000 }; primary = primary; secondary = secondary; policy = Strict; low = 22500; high = 30000 }
+abbrev pub client : Settings
+client = record { inside = record { ip = record { 0 = 10 ∷ 0 ∷ 0 ∷ 2 ∷ [] }; port = 4000 }; primary = primary; secondary = secondary; policy = Strict; low = 22500; high = 30000; random = false; cone_try = true }
 
 -- the words of 32 zero bytes, from word n on
-abbrev stream : ℕ → Words
+abbrev pub stream : ℕ → Words
 stream n = words_of (after_words n (of_seed (replicate 32 0)))
 
 pub words_of_zero_bytes : drawn_words 6 (stream 0) ≡ 0xade0b876 ∷ 0x903df1a0 ∷ 0xe56a5d40 ∷ 0x28bd8653 ∷ 0xb819d2bd ∷ 0x1aed8da0 ∷ []
@@ -49,7 +49,7 @@ abbrev asked : Fate → ℕ → List ℕ → Step
 asked f drawn bytes = record (sending f (send (server_ep primary) bytes ∷ [])) { drawn = drawn }
 
 -- a client that started at 0
-abbrev new : Journal
+abbrev pub new : Journal
 new = record { start = 0; entries = [] }
 
 -- with the cone bit, from fe80::8000:f05f:f5ff:fffd, and with the nonce ade0b876903df1a0

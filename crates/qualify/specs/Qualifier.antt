@@ -55,11 +55,11 @@ stands_whole q j h = λ i. record {
 }
 
 -- the entry of an advertisement: when, the origin in the datagram, what became of it, the words that were drawn
-pub record IsOfAdvert (n : ℕ) (v : Value) (fate : Fate) (w : Words) (e : Entry) : Type 0 where
+pub record IsOfAdvert (s : Settings) (n : ℕ) (v : Value) (fate : Fate) (w : Words) (e : Entry) : Type 0 where
   pub moment : e.moment ≡ n
   pub origin : origin_given e.input ≡ origin_in v.lead
   pub became : e.step.fate ≡ fate
-  pub words : e.words ≡ drawn_words (advert_words fate) w
+  pub words : e.words ≡ drawn_words (advert_words s fate) w
 
 -- the entry of a tick: when, what was done, the words that were drawn
 pub record IsOfTick (n : ℕ) (step : Step) (w : Words) (e : Entry) : Type 0 where
@@ -79,7 +79,7 @@ TurnsBy s n fate words origin before after = after ≡ turned s (tidings_of s n 
 -- what an advertisement that is taken makes of a client: the phase's line, and one entry more
 pub record AnswersBy (s : Settings) (n : ℕ) (origin : Ep) (w : Words) (before : Qualification) (fate : Fate) (after : Qualification) : Type 0 where
   pub line : fate ≡ phase_line before.phase (is_same_origin (Some origin) (origin_before before before.phase))
-  pub turns : TurnsBy s n fate (drawn_words (advert_words fate) w) (Some origin) before after
+  pub turns : TurnsBy s n fate (drawn_words (advert_words s fate) w) (Some origin) before after
 
 -- what a tick makes of a client: it does this, and that is one entry more
 pub record TicksBy (s : Settings) (n : ℕ) (w : Words) (does : Step) (before : Qualification) (step : Step) (after : Qualification) : Type 0 where

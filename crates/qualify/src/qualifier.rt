@@ -53,7 +53,7 @@ impl Qualifier {
     {
         Qualifier {
             settings,
-            state: State::begun(now),
+            state: State::begun(&settings, now),
         }
     }
 
@@ -88,7 +88,8 @@ impl Qualifier {
         self.state.due()
     }
 
-    /// Takes an advertisement that came from `from`, or drops it. It draws a word where the client becomes qualified.
+    /// Takes an advertisement that came from `from`, or drops it. It draws an interval where the client becomes
+    /// qualified, and a word of flags after it where it gets an address with random ones.
     pub fn on_advert(
         &mut self,
         now: Millis,
@@ -103,9 +104,9 @@ impl Qualifier {
         ensures fate { (j : Journal) → StandsFor self.old j →
             result ≡ advert_row self.old.settings (qualification self.old.settings j) from (view payload.now) }
         ensures stands { (j : Journal) (e : Entry) → StandsFor self.old j →
-            IsOfAdvert now.0 (view payload.now) result (words_of rng.old) e → StandsFor self.new (with_entry j e) }
+            IsOfAdvert self.old.settings now.0 (view payload.now) result (words_of rng.old) e → StandsFor self.new (with_entry j e) }
 
-        ensures place { rng.new ≡ after_words (advert_words result) rng.old }
+        ensures place { rng.new ≡ after_words (advert_words self.old.settings result) rng.old }
         ensures settings { self.new.settings ≡ self.old.settings }
     {
         let (state, fate) = heard(&self.settings, self.state, from, payload, now, rng);

@@ -6,6 +6,7 @@ ghost use Rattle.qualify.specs.declared.limits.TheConstants.{DUE_END_MS};
 
 use crate::phase::Phase;
 use crate::round::Round;
+use crate::settings::Settings;
 use crate::upkeep::Upkeep;
 use td_base::{Ep, Ip6, Millis};
 
@@ -31,11 +32,16 @@ impl State {
     ghost use Rattle.qualify.specs.Laws.{Tidings, fresh, turned};
 
     /// A client that starts now: its first phase begins, and asks at once.
-    pub fn begun(now: Millis) -> State
+    #[tactic(auto, unfolding(crate::specs::Qualification::first_phase))]
+    pub fn begun(settings: &Settings, now: Millis) -> State
         requires bound { now.0 < CLOCK_END_MS }
-        ensures { (s : Settings) → qualification_of result ≡ fresh (first_phase s) now.0 }
+        ensures { qualification_of result ≡ fresh (first_phase settings.now) now.0 }
     {
-        State::Cone(Round::begun(now))
+        if settings.cone_try {
+            State::Cone(Round::begun(now))
+        } else {
+            State::Restricted(Round::begun(now))
+        }
     }
 
     pub fn phase(&self) -> Phase

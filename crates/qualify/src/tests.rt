@@ -23,6 +23,8 @@ const CLIENT: Settings = Settings {
     policy: Policy::Strict,
     low: 22_500,
     high: 30_000,
+    random: false,
+    cone_try: true,
 };
 
 // The nonces that 32 zero bytes give to the solicitations of the client below, in their order.

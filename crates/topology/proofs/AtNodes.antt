@@ -1,9 +1,8 @@
 -- The rules of a topology at its nodes.
-use Rattle.std.proofs.Common.{◌≡◌, ℕ, ◌||◌, Bool, true, false, List, [], ◌∷◌, ◌++◌, map, Some, refl, sym, ap, subst, ◌∙◌}
+use Rattle.std.proofs.Common.{◌≡◌, ◌||◌, Bool, true, false, List, [], ◌∷◌, ◌++◌, map, refl, sym, ap, subst, ◌∙◌}
 use Rattle.std.specs.Prelude.{flat_map}
 use Rattle.std.specs.List.{list_any, AllByRecursion}
 use Rattle.td_base.specs.declared.ipv4.Ip4.{Ip4}
-use Rattle.td_base.specs.declared.ipv6.Ip6.{Ip6}
 use Rattle.td_base.specs.Ip4.{IsIp4, same_ip}
 use Rattle.td_base.specs.Ip6.{IsIp6}
 use Rattle.td_base.specs.Ep.{IsEp}
@@ -14,11 +13,10 @@ use Rattle.topology.specs.declared.nat_node.NatNode.{NatNode}
 use Rattle.topology.specs.declared.client_node.ClientNode.{ClientNode}
 use Rattle.topology.specs.declared.relay_node.RelayNode.{RelayNode}
 use Rattle.topology.specs.declared.native_node.NativeNode.{NativeNode}
-use Rattle.topology.specs.declared.node.Node.{Node}
 use Rattle.topology.specs.declared.node.Node.TheVariants.{Server as server, Nat as nat, Client as client, Relay as relay, Native as native}
 use Rattle.topology.specs.Rows.{TopologyState}
 use Rattle.topology.specs.Topology.{nodes}
-use Rattle.topology.specs.Rules.{AreDistinct, addresses_of, sixes_of, IsIdle, IsClient, IsOutside, IsTopology}
+use Rattle.topology.specs.Rules.{AreDistinct, addresses_of, IsIdle, IsClient, IsOutside, IsTopology}
 use Rattle.topology.specs.NodeRules.{addresses_at, IsPublic, IsServerNode, IsNatNode, IsClientNode, IsRelayNode, IsNativeNode, KeepsRules, AddressesAreApart, OwnAddressIsTaken, EachNodeKeepsRules}
 use Rattle.topology.proofs.Lists.{all_joined, all_left, all_right, all_mapped, all_unmapped, all_at, flat_joined, any_at, at_one}
 

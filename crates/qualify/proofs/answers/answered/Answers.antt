@@ -1,4 +1,4 @@
-use Rattle.std.proofs.Common.{ℕ, refl, sym, ap, subst}
+use Rattle.std.proofs.Common.{refl, sym, subst}
 use Rattle.qualify.specs.declared.state.State.{State}
 use Rattle.qualify.specs.Generator.{words_of, after_words}
 use Rattle.qualify.specs.State.{qualification_of}
@@ -12,11 +12,7 @@ returns-in-Restricted-clause-place c = refl
 pub returns-in-Qualified-clause-answer : goal.returns-in-Qualified-clause-answer
 returns-in-Qualified-clause-answer c =
     subst (λ (x : State). AnswersBy c.args.settings.now c.args.now.0 c.args.origin (words_of c.args.rng.now) (qualification_of x) c.refreshed.result.1 (qualification_of c.refreshed.result.0))
-    (sym c.in-Qualified.is) (c.refreshed.ensures.answer (words_of c.args.rng.now))
-
-pub returns-in-Qualified-clause-place : goal.returns-in-Qualified-clause-place
-unfolding after_words
-returns-in-Qualified-clause-place c = ap (λ (n : ℕ). after_words n c.args.rng.now) (sym c.refreshed.ensures.nothing)
+    (sym c.in-Qualified.is) c.refreshed.ensures.answer
 
 pub returns-in-Symmetric-clause-place : goal.returns-in-Symmetric-clause-place
 unfolding after_words

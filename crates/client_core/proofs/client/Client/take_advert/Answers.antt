@@ -2,8 +2,9 @@ use Rattle.std.proofs.Common.{◌≡◌, refl, sym, subst, ◌∙◌, ap, arith}
 use Rattle.bubble.specs.Payloads.{view}
 use Rattle.teredo_node.specs.declared.fate.Fate.{Fate}
 use Rattle.teredo_node.specs.declared.fate.Fate.TheVariants as fate
-use Rattle.teredo_node.specs.Step.{Step, just}
+use Rattle.teredo_node.specs.Step.{Step}
 use Rattle.peer_list.specs.Table.{Table}
+use Rattle.qualify.specs.declared.settings.Settings.{Settings}
 use Rattle.qualify.specs.Advertisements.{advert_row, advert_words}
 use Rattle.client_core.specs.declared.client.Client.{Client}
 use Rattle.client_core.specs.Client.{settings_of, TakesPayload}
@@ -16,7 +17,8 @@ returns-in_default c =
     let v = view c.args.payload.now in
     let f = c.on_advert-fate.result in
     let new : Client = record { qualifier = c.on_advert-fate.new.self; peers = old.peers; rng = c.on_advert-fate.new.rng } in
-    let step : c.set_drawn.new.self ≡ told f = c.set_drawn.ensures ∙ (λ i. record (c.reset.ensures i) { drawn = c.words_of_advert.ensures i }) in
+    let drawn : c.words_of_advert.result ≡ advert_words (settings_of old) f = c.words_of_advert.ensures ∙ ap (λ (s : Settings). advert_words s f) (c.settings.ensures.value ∙ c.on_advert-fate.ensures.settings) in
+    let step : c.set_drawn.new.self ≡ told (settings_of old) f = c.set_drawn.ensures ∙ (λ i. record (c.reset.ensures i) { drawn = drawn i }) in
     record {
       done = subst (λ (s : Step). TakesPayload old c.args.now.0 c.args.from v (advert_row (settings_of old) old.qualifier.now c.args.from v) s new) (sym step)
           (advert_kept c.below.ensures old new c.args.now.0 c.args.from v f (record {
@@ -35,8 +37,8 @@ returns-in-Changed c =
     let v = view c.args.payload.now in
     let new : Client = record { qualifier = c.on_advert-fate.new.self; peers = c.clear.new.self; rng = c.on_advert-fate.new.rng } in
     let is = c.in-Changed.is in
-    let drawn : c.words_of_advert.result ≡ 0 = c.words_of_advert.ensures ∙ ap (λ (f : Fate). advert_words f) is in
-    let begun : c.set_drawn.new.self ≡ just fate.Changed = c.set_drawn.ensures ∙ (λ i. record (c.reset.ensures i) { drawn = drawn i }) ∙ ap (λ (f : Fate). just f) is in
+    let drawn : c.words_of_advert.result ≡ advert_words (settings_of old) c.on_advert-fate.result = c.words_of_advert.ensures ∙ ap (λ (s : Settings). advert_words s c.on_advert-fate.result) (c.settings.ensures.value ∙ c.on_advert-fate.ensures.settings) in
+    let begun : c.set_drawn.new.self ≡ told (settings_of old) fate.Changed = c.set_drawn.ensures ∙ (λ i. record (c.reset.ensures i) { drawn = drawn i }) ∙ ap (λ (f : Fate). told (settings_of old) f) is in
     let step : c.set_gone.new.self ≡ moved old n = c.set_gone.ensures ∙ (λ i. record (begun i) { gone = c.waiting.ensures i }) in
     let took : Took old n c.args.from v c.on_advert-fate.result new = record {
       clock = c.requires.callable.clock;
