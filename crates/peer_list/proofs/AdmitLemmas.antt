@@ -9,7 +9,7 @@ use Rattle.peer_list.specs.Peers.{Peer, no_peer}
 use Rattle.peer_list.specs.Waiting.{Listing}
 use Rattle.td_base.specs.Ip6.{same_ip6}
 use Rattle.peer_list.specs.Table.{Table, table, while_listed, peer_listed, is_of, is_listed_at, peer_in, known_to, listed_in, has_room_in}
-use Rattle.peer_list.specs.Judged.{is_full}
+use Rattle.peer_list.specs.Judged.{is_full, holds_most}
 use Rattle.peer_list.specs.Calls.{Updates, Keeps, touched_at}
 use Rattle.peer_list.specs.Sound.{AreApart}
 use Rattle.peer_list.proofs.DueLemmas.{count_is}
@@ -84,3 +84,7 @@ keeps_same m ls kept items p is = subst (λ ks. Keeps (table m ls) (table m ks) 
 pub new_free : (m : ℕ) → is_full (touched_at m no_peer) ≡ false
 unfolding is_full
 new_free m = refl
+
+pub new_holds_none : (m : ℕ) → holds_most (touched_at m no_peer) ≡ false
+unfolding holds_most
+new_holds_none m = refl

@@ -11,7 +11,7 @@ use Rattle.td_base.specs.declared.ipv6.Ip6.{Ip6}
 use Rattle.td_base.specs.declared.millis.Millis.{Millis}
 use Rattle.peer_list.specs.Peers.{Peer, no_peer}
 use Rattle.peer_list.specs.Judged.{is_none, due_of}
-use Rattle.peer_list.specs.Waiting.{Listing, waiting_among, cmp_due, first_of_two, least_by_due, first_among}
+use Rattle.peer_list.specs.Waiting.{Listing, kept_count, kept_among, cmp_due, first_of_two, least_by_due, first_among}
 use Rattle.peer_list.specs.Table.{table, peer_listed, is_of, is_listed_at, peer_in, addresses, listed_in, waiting_in, first_due_in, due_and_who, earlier_due}
 use Rattle.peer_list.specs.Sound.{AreApart}
 use Rattle.peer_list.proofs.Lists.{other_way}
@@ -107,18 +107,18 @@ knows n (x ∷ ls) a =
 
 -- PACKETS
 
-sum_whose : (f : Ip6 → Peer) (ls : List Listing) → Knows f ls → sum_by (λ p. length (f p).waiting) (whose ls) ≡ sum_by (λ (l : Listing). length l.peer.waiting) ls
+sum_whose : (f : Ip6 → Peer) (ls : List Listing) → Knows f ls → sum_by (λ p. kept_count (f p)) (whose ls) ≡ sum_by (λ (l : Listing). kept_count l.peer) ls
 sum_whose f [] k = refl
 sum_whose f (l ∷ ls) k =
-    sum_by-cons (λ p. length (f p).waiting) l.who (whose ls)
-    ∙ ap (λ (x : Peer). length x.waiting + sum_by (λ p. length (f p).waiting) (whose ls)) k.0
-    ∙ ap (λ n. length l.peer.waiting + n) (sum_whose f ls k.1)
-    ∙ sym (sum_by-cons (λ (x : Listing). length x.peer.waiting) l ls)
+    sum_by-cons (λ p. kept_count (f p)) l.who (whose ls)
+    ∙ ap (λ (x : Peer). kept_count x + sum_by (λ p. kept_count (f p)) (whose ls)) k.0
+    ∙ ap (λ n. kept_count l.peer + n) (sum_whose f ls k.1)
+    ∙ sym (sum_by-cons (λ (x : Listing). kept_count x.peer) l ls)
 
-pub waiting_is : (m n : ℕ) (ls : List Listing) → AreApart ls → waiting_in (table m ls) n ≡ sum_by (λ (l : Listing). length l.peer.waiting) (filter (is_listed_at n) ls)
-unfolding waiting_among peer_in
+pub waiting_is : (m n : ℕ) (ls : List Listing) → AreApart ls → waiting_in (table m ls) n ≡ sum_by (λ (l : Listing). kept_count l.peer) (filter (is_listed_at n) ls)
+unfolding kept_among peer_in
 waiting_is m n ls a =
-    ap (λ ps. sum_by (λ p. length (known_of_ls ls n p).waiting) ps) (listed_are_whose m n ls a)
+    ap (λ ps. sum_by (λ p. kept_count (known_of_ls ls n p)) ps) (listed_are_whose m n ls a)
     ∙ sum_whose (known_of_ls ls n) (filter (is_listed_at n) ls) (knows n ls a)
 
 -- THE FIRST THAT IS DUE

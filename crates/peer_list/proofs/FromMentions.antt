@@ -1,5 +1,5 @@
 -- What holds of mentions, and so of what is kept of a peer: it comes from the mentions about it.
-use Rattle.std.proofs.Common.{◌≡◌, ◌≤◌, ℕ, ◌||◌, Bool, true, false, cond, List, [], ◌∷◌, ◌++◌, Option, Some, None, refl, sym, ap, subst}
+use Rattle.std.proofs.Common.{◌≡◌, ◌≤◌, ℕ, ◌||◌, Bool, true, false, cond, List, [], ◌∷◌, ◌++◌, Option, Some, None, refl, sym, ap, ◌∙◌, subst}
 use Rattle.std.specs.Prelude.{IfSome, unwrap_or, option_to_list}
 use Rattle.std.specs.Option.{option_or}
 use Rattle.std.specs.List.{AllByRecursion}
@@ -9,6 +9,7 @@ use Rattle.td_base.specs.declared.ipv6.Ip6.{Ip6}
 use Rattle.td_base.specs.declared.endpoint.Ep.{Ep}
 use Rattle.td_base.specs.Ip6.{same_ip6-true}
 use Rattle.peer_list.specs.declared.limits.TheConstants.{LISTED_MS}
+use Rattle.peer_list.specs.declared.held.Held.{Held}
 use Rattle.peer_list.specs.Mentions.{Mention, is_peer, is_about}
 use Rattle.peer_list.specs.Listed.{is_young, is_listed}
 use Rattle.peer_list.specs.Peers.{Peer, no_peer, peer_at, known}
@@ -86,4 +87,17 @@ pub trust_is_kept : (P : Ep → Type 0) → IsKeptBy (λ x. IfSome x.trusted P) 
 trust_is_kept P = record {
   none = tt;
   more = λ e x r q. or_other P e.bearing.trusts x.trusted r q;
+}
+
+-- WHAT IS HELD
+
+-- where no entry holds a packet, none is held
+none_more : (b : Bool) (held : List Held) (o : Option Held) → held ≡ [] → o ≡ None → cond b [] (held ++ option_to_list o) ≡ []
+none_more true held o h k = refl
+none_more false held o h k = ap (λ (hs : List Held). hs ++ option_to_list o) h ∙ ap option_to_list k
+
+pub held_is_kept : IsKeptBy (λ x. x.held ≡ []) (λ e. e.bearing.holds ≡ None)
+held_is_kept = record {
+  none = refl;
+  more = λ e x r q. none_more e.bearing.hears x.held e.bearing.holds q r;
 }

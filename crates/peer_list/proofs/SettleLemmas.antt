@@ -43,6 +43,10 @@ is_settled e new key l peer was slab index touched = record { was = was; slab = 
 pub kept_touched : {e new : Entries} {k n key : ℕ} {l : Listing} {peer : Peer} → AreKept e k → k ≤ n → AreWhole new → IsAfter e new key l peer → peer.touched ≡ Some n → AreKept new n
 kept_touched {e} {new} {k} {n} {key} {l} {peer} kept later w a touched = kept_after e new key l peer a k n kept later w (since_touched e k n peer kept later touched)
 
+-- by one that doesn't
+pub kept_untouched : {e new : Entries} {k n key : ℕ} {l : Listing} {peer : Peer} → AreKept e k → k ≤ n → AreWhole new → IsAfter e new key l peer → peer.touched ≡ l.peer.touched → AreKept new n
+kept_untouched {e} {new} {k} {n} {key} {l} {peer} kept later w a same = kept_after e new key l peer a k n kept later w (subst (IsSince e.touched.0) (sym same) (kept.touched key l a.was))
+
 -- by each change
 changed_since : {e : Entries} {n : ℕ} (key : ℕ) {l : Listing} (change : Change) → AreKept e n → get e.slab key ≡ Some l → IsSince e.touched.0 (changed_at n change l.peer).touched
 changed_since key Touch kept was = kept.past

@@ -9,14 +9,15 @@ use Rattle.peer_list.specs.Mentions.{Mention, no_bearing, is_peer, is_about}
 use Rattle.peer_list.specs.Listed.{is_young, is_listed, listed, has_room}
 use Rattle.peer_list.specs.Peers.{Peer, no_peer, peer_at, known}
 use Rattle.peer_list.specs.Judged.{is_within}
-use Rattle.peer_list.specs.Waiting.{Listing, first_among}
+use Rattle.peer_list.specs.Waiting.{Listing, kept_count, kept_among, first_among}
 use Rattle.peer_list.specs.Laws.{after, peer_if, view_after, AreSame, CountTheSame}
 use Rattle.peer_list.specs.Table.{Table, while_listed, peer_listed, is_of, peer_in, known_to, listed_in, has_room_in}
-use Rattle.peer_list.specs.Calls.{touched_at, tried_at}
+use Rattle.peer_list.specs.Calls.{touched_at, tried_at, queued_at, holding, held_at, emptied}
 use Rattle.peer_list.specs.Stands.{StandsForMentions, TableIsRead, NextStands, MeansNothing, about_nobody, bears_nothing, IdleStands, KeptStands, CallsOfAnEntry}
 use Rattle.peer_list.proofs.Lists.{listed_are, listed_once}
 use Rattle.peer_list.proofs.Bearings.{one_entry, listed_is_known}
 use Rattle.peer_list.proofs.Orders.{order_is_free}
+use Rattle.peer_list.proofs.HoldLemmas.{held_listed}
 use Rattle.peer_list.proofs.TableLemmas.{within_after, members, members_once}
 
 -- nobody is listed in an empty table
@@ -25,6 +26,10 @@ unfolding peer_in peer_at is_listed
 empty_stands t none = record { view = λ n p l. rw none refl }
 
 -- WHAT IS READ
+
+same_kept : (ps qs : List Ip6) (f g : Ip6 → Peer) → CountTheSame ps qs f g → kept_among f ps ≡ kept_among g qs
+unfolding kept_among
+same_kept ps qs f g count = count.sum kept_count
 
 pub table_is_read : TableIsRead
 unfolding has_room_in has_room
@@ -46,7 +51,7 @@ table_is_read t j n s l =
       room = λ p.
           ap (λ b. b || nat_lt (length (listed_in t n)) PEERS_MAX) (ap is_some (peers p) ∙ listed_is_known j n p)
           ∙ ap (λ k. is_listed p n j || nat_lt k PEERS_MAX) count.count;
-      waiting = count.waiting;
+      waiting = same_kept (listed_in t n) (listed j n) (known_to t n) (known j n) count;
       first = ap (λ (f : Ip6 → Peer). option_map (λ p. record { who = p; peer = f p }) (first_among (known_to t n) (listed_in t n))) all
           ∙ ap (λ o. option_map (λ p. record { who = p; peer = known j n p }) o) count.first;
       sum = count.sum;
@@ -122,7 +127,7 @@ next_stands old new e j who s l about u = record {
 
 -- an entry that means nothing
 idle_peer : (m : ℕ) (who : Option Ip6) (x : Peer) → after (record { moment = m; peer = who; bearing = no_bearing }) x ≡ x
-idle_peer m who x = ap (λ (w : List (List ℕ)). record x { waiting = w }) (append-nil x.waiting)
+idle_peer m who x i = record x { waiting = append-nil x.waiting i; held = append-nil x.held i }
 
 idle_map : (m : ℕ) (who : Option Ip6) (o : Option Peer) → option_map (after (record { moment = m; peer = who; bearing = no_bearing })) o ≡ o
 idle_map m who None = refl
@@ -142,17 +147,25 @@ idle_stands t e j s idle = record { view = λ n p l. s.view n p l ∙ sym (idle_
 
 -- THE CALLS OF AN ENTRY
 
+still_keeps : (p : Peer) → record p { waiting = p.waiting ++ []; held = p.held ++ [] } ≡ p
+still_keeps p i = record p { waiting = append-nil p.waiting i; held = append-nil p.held i }
+
+still_holds : (p : Peer) → record p { held = p.held ++ [] } ≡ p
+still_holds p i = record p { held = append-nil p.held i }
+
 still_waits : (p : Peer) → record p { waiting = p.waiting ++ [] } ≡ p
-still_waits p = ap (λ (w : List (List ℕ)). record p { waiting = w }) (append-nil p.waiting)
+still_waits p i = record p { waiting = append-nil p.waiting i }
 
 pub calls_of_an_entry : CallsOfAnEntry
 calls_of_an_entry m p who = record {
-  touch = still_waits (touched_at m p);
-  wait = λ x. refl;
-  wait_tried = λ x nonce. refl;
-  tried = λ nonce. still_waits (tried_at m nonce p);
-  trust = λ at none i. record p { touched = Some m; trusted = Some at; tries = none i; nonce = None; waiting = append-nil p.waiting i };
+  touch = still_keeps (touched_at m p);
+  wait = λ x. still_holds (queued_at m x p);
+  wait_tried = λ x nonce. still_holds (tried_at m nonce (queued_at m x p));
+  hold = λ from x there. still_waits (holding from x p) ∙ held_listed m from x p there;
+  hold_tried = λ from x nonce. still_waits (tried_at m nonce (held_at m from x p));
+  tried = λ nonce. still_keeps (tried_at m nonce p);
+  trust = λ at none i. record p { touched = Some m; trusted = Some at; tries = none i; nonce = None; waiting = append-nil p.waiting i; held = append-nil p.held i };
   hear = refl;
   trust_and_hear = λ at. refl;
-  give_up = refl;
+  give_up = still_holds (emptied p);
 }

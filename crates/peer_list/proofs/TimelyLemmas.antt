@@ -1,6 +1,7 @@
 -- A listed peer is still listed when it is due: each call keeps that, and so whoever is due first waits then.
 use Rattle.std.proofs.Common.{◌≡◌, ◌≤◌, ◌+◌, ℕ, max, Bool, true, false, cond, List, [], find, Option, Some, None, Result, Ok, Err, refl, sym, ap, ◌∙◌, subst, arith}
 use Rattle.std.specs.Prelude.{option_map, unwrap_or, is_some, OnOk, OnErr}
+use Rattle.std.specs.Option.{option_or}
 use Rattle.std.proofs.lemmas.Bool.{false≢true, lt-ltb, ltb-true}
 use Rattle.td_base.specs.Ip6.{same_ip6}
 use Rattle.td_base.specs.declared.ipv6.Ip6.{Ip6}
@@ -13,7 +14,7 @@ use Rattle.peer_list.specs.Waiting.{Listing}
 use Rattle.peer_list.specs.Table.{Table, table, while_listed, peer_listed, is_of, peer_in, known_to, first_due_in, due_and_who}
 use Rattle.peer_list.specs.declared.change.Change.{Change}
 use Rattle.peer_list.specs.declared.change.Change.TheVariants.{Touch, Trust, Hear, Try, GiveUp}
-use Rattle.peer_list.specs.Calls.{touched_at, trusted_at, heard_at, tried_at, queued_at, emptied, changed_at, Updates, Keeps}
+use Rattle.peer_list.specs.Calls.{touched_at, trusted_at, heard_at, tried_at, queued_at, held_at, emptied, changed_at, Updates, Keeps}
 use Rattle.peer_list.specs.Timely.{IsTimely, AreTimely, FirstLasts}
 use Rattle.peer_list.proofs.TableLemmas.{listed_while, found_is_listed, other_peer}
 use Rattle.peer_list.proofs.OverdueLemmas.{later_same, first_overdue, overdue_of}
@@ -52,6 +53,17 @@ module _ (t : Table) (n : ℕ) (who : Ip6) (all : AreTimely t) (later : t.moment
   pub queued_so : (packet : List ℕ) → IsTimely n (queued_at n packet (known_to t n who))
   unfolding due_of
   queued_so packet = record { touched = n; at = refl; past = omega arith; due = soon }
+
+  -- of one that isn't listed nothing is known, and it is due at once
+  held_by : (from : Ep) (packet : List ℕ) (o : Option Peer) → peer_in t n who ≡ o → IsTimely n (held_at n from packet (unwrap_or o no_peer))
+  unfolding due_of
+  held_by from packet None e = record { touched = n; at = refl; past = omega arith; due = omega arith }
+  held_by from packet (Some peer) e =
+      let f = found_by (Some peer) e refl in
+      record { touched = f.touched; at = ap (λ (m : Option ℕ). option_or m (Some n)) f.at; past = f.past; due = f.due }
+
+  pub held_so : (from : Ep) (packet : List ℕ) → IsTimely n (held_at n from packet (known_to t n who))
+  held_so from packet = held_by from packet (peer_in t n who) refl
 
   trusted_so : (at : Ep) → IsTimely n (trusted_at n at (known_to t n who))
   unfolding due_of

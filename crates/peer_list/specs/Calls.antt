@@ -21,9 +21,9 @@ touched_at m p = record p { touched = Some m }
 abbrev pub trusted_at : ℕ → Ep → Peer → Peer
 trusted_at m at p = record p { touched = Some m; trusted = Some at; tries = []; nonce = None }
 
--- `hear`: tries end, and nothing waits any more
+-- `hear`: tries end, and nothing waits or is held any more
 abbrev pub heard_at : ℕ → Peer → Peer
-heard_at m p = record p { touched = Some m; heard = Some m; tries = []; waiting = [] }
+heard_at m p = record p { touched = Some m; heard = Some m; tries = []; waiting = []; held = [] }
 
 -- `tried`: a nonce that is given replaces the one that is kept
 abbrev pub tried_at : ℕ → Option ℕ → Peer → Peer
@@ -32,6 +32,14 @@ tried_at m nonce p = record p { touched = Some m; tries = take TRIES_MAX (m ∷ 
 -- `wait`
 abbrev pub queued_at : ℕ → List ℕ → Peer → Peer
 queued_at m packet p = record p { touched = Some m; waiting = p.waiting ++ packet ∷ [] }
+
+-- a packet that came from an endpoint is held
+abbrev pub holding : Ep → List ℕ → Peer → Peer
+holding from packet p = record p { held = p.held ++ record { from = from; packet = packet } ∷ [] }
+
+-- `hold`: it is listed from then on, or stays listed as long as before
+abbrev pub held_at : ℕ → Ep → List ℕ → Peer → Peer
+held_at m from packet p = record (holding from packet p) { touched = option_or p.touched (Some m) }
 
 -- `give_up`: nothing waits any more
 abbrev pub emptied : Peer → Peer

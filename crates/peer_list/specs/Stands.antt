@@ -8,7 +8,7 @@ use Rattle.peer_list.specs.Peers.{Peer, peer_at, known}
 use Rattle.peer_list.specs.Waiting.{waiting_count, first_due}
 use Rattle.peer_list.specs.Laws.{after}
 use Rattle.peer_list.specs.Table.{Table, while_listed, peer_in, known_to, listed_in, has_room_in, waiting_in, first_due_in}
-use Rattle.peer_list.specs.Calls.{touched_at, trusted_at, heard_at, tried_at, queued_at, emptied, Updates, Keeps}
+use Rattle.peer_list.specs.Calls.{touched_at, trusted_at, heard_at, tried_at, queued_at, held_at, emptied, Updates, Keeps}
 
 -- from its moment on a table knows of each address what the mentions say
 pub record StandsForMentions (t : Table) (j : List Mention) : Type 0 where
@@ -88,6 +88,10 @@ pub record CallsAre (m : ℕ) (p : Peer) (who : Option Ip6) : Type 0 where
   pub wait : (x : List ℕ) → after (record { moment = m; peer = who; bearing = record touching { queues = Some x } }) p ≡ queued_at m x p
   pub wait_tried : (x : List ℕ) (nonce : Option ℕ)
       → after (record { moment = m; peer = who; bearing = record touching { queues = Some x; tries = true; nonce = nonce } }) p ≡ tried_at m nonce (queued_at m x p)
+  pub hold : (from : Ep) (x : List ℕ) → is_some p.touched ≡ true
+      → after (record { moment = m; peer = who; bearing = record no_bearing { holds = Some (record { from = from; packet = x }) } }) p ≡ held_at m from x p
+  pub hold_tried : (from : Ep) (x : List ℕ) (nonce : Option ℕ)
+      → after (record { moment = m; peer = who; bearing = record touching { holds = Some (record { from = from; packet = x }); tries = true; nonce = nonce } }) p ≡ tried_at m nonce (held_at m from x p)
   pub tried : (nonce : Option ℕ) → after (record { moment = m; peer = who; bearing = record touching { tries = true; nonce = nonce } }) p ≡ tried_at m nonce p
   pub trust : (at : Ep) → p.tries ≡ [] → after (record { moment = m; peer = who; bearing = record touching { trusts = Some at } }) p ≡ trusted_at m at p
   pub hear : after (record { moment = m; peer = who; bearing = record touching { hears = true } }) p ≡ heard_at m p

@@ -8,7 +8,7 @@ use Rattle.peer_list.specs.declared.limits.TheConstants.{LISTED_MS, PEERS_MAX}
 use Rattle.peer_list.specs.Listed.{with_peer}
 use Rattle.peer_list.specs.Peers.{Peer, no_peer}
 use Rattle.peer_list.specs.Judged.{is_within, due_of}
-use Rattle.peer_list.specs.Waiting.{Listing, waiting_among, first_among}
+use Rattle.peer_list.specs.Waiting.{Listing, kept_among, first_among}
 
 -- the latest moment that a call gave, and whoever was touched so lately that they may still be listed
 pub record Table : Type 0 where
@@ -62,9 +62,9 @@ listed_in t n = filter (λ p. is_some (peer_in t n p)) (addresses t.listings)
 unfoldable pub has_room_in : Table → ℕ → Ip6 → Bool
 has_room_in t n p = is_some (peer_in t n p) || nat_lt (length (listed_in t n)) PEERS_MAX
 
--- how many packets wait for all listed peers
+-- how many packets wait for all listed peers, or are held
 abbrev pub waiting_in : Table → ℕ → ℕ
-waiting_in t n = waiting_among (known_to t n) (listed_in t n)
+waiting_in t n = kept_among (known_to t n) (listed_in t n)
 
 -- the listed peer that is due first, of those whose packets wait
 abbrev pub first_due_in : Table → ℕ → Option Listing

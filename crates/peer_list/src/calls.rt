@@ -3,10 +3,10 @@ ghost use Rattle.std.specs.Prelude.{◌≡◌, ◌≤◌, ◌<◌, [], true, fal
 ghost use Rattle.ipv6_packet.specs.declared.header.TheConstants.{PACKET_MAX};
 ghost use Rattle.td_outside.specs.declared.clock.TheConstants.{CLOCK_END_MS};
 ghost use Rattle.teredo_node.specs.Sends.{releases};
-ghost use Rattle.peer_list.specs.Judged.{is_full};
+ghost use Rattle.peer_list.specs.Judged.{is_full, holds_most};
 ghost use Rattle.peer_list.specs.Table.{empty_table, peer_in, known_to, has_room_in};
 ghost use Rattle.peer_list.specs.Overdue.{overdue_in, IsOverdue};
-ghost use Rattle.peer_list.specs.Calls.{touched_at, trusted_at, heard_at, tried_at, queued_at, emptied, changed_at, IsInTime, Updates, Keeps};
+ghost use Rattle.peer_list.specs.Calls.{touched_at, trusted_at, heard_at, tried_at, queued_at, held_at, emptied, changed_at, IsInTime, Updates, Keeps};
 ghost use Rattle.peer_list.specs.Stands.{StandsForMentions};
 
 use crate::change::Change;
@@ -41,6 +41,20 @@ impl Peers {
         listings::wait(&mut self.entries, self.alloc, now, who, packet)
     }
 
+    /// Holds a packet that came from an endpoint, of a peer that has room for it: where it isn't listed it is listed and
+    /// touched, and a listed one isn't touched. A refusal leaves all as it was.
+    pub fn hold(&mut self, now: Millis, who: Ip6, from: Ep, packet: &[u8]) -> Result<(), NoMemory>
+        requires clock { self.old.moment ≤ now.0 }
+        requires room { has_room_in self.old now.0 who ≡ true }
+        requires free { holds_most (known_to self.old now.0 who) ≡ false }
+        requires short { length packet.now ≤ PACKET_MAX }
+        ensures held { OnOk result (Updates self.old self.new now.0 who (held_at now.0 from packet.now (known_to self.old now.0 who))) }
+        ensures kept { OnErr result (Keeps self.old self.new now.0) }
+    {
+        self.moment = now;
+        listings::hold(&mut self.entries, self.alloc, now, who, from, packet)
+    }
+
     /// Changes what is known of a listed peer, and nothing of any other.
     fn change(&mut self, now: Millis, who: Ip6, change: Change)
         requires clock { self.old.moment ≤ now.0 }
@@ -71,8 +85,8 @@ impl Peers {
         self.change(now, who, Change::Trust(at));
     }
 
-    /// Touches a listed peer of which a direct reception came: what was tried is over, and what waits goes to an
-    /// endpoint, in order.
+    /// Touches a listed peer of which a direct reception came: what was tried is over, what waits goes to an endpoint, in
+    /// order, and nothing is held any more: what is to be handed over is taken before.
     pub fn hear(&mut self, now: Millis, who: Ip6, to: Ep, step: &mut Step)
         requires clock { self.old.moment ≤ now.0 }
         requires listed { is_some (peer_in self.old now.0 who) ≡ true }

@@ -8,7 +8,7 @@ pub enum Change {
     Touch,
     /// It is trusted at an endpoint from then on: what was tried is over, a test too.
     Trust(Ep),
-    /// A direct reception came from it: what was tried is over, and nothing waits any more.
+    /// A direct reception came from it: what was tried is over, and nothing waits or is held any more.
     Hear,
     /// It was tried, where there is one with a test and its nonce.
     Try(Option<u64>),

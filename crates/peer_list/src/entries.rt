@@ -114,7 +114,7 @@ impl Entries {
         count
     }
 
-    /// How many packets wait for all that are listed.
+    /// How many packets wait for all that are listed, or are held.
     pub fn waiting(&self, now: Millis) -> u16
         requires whole { AreWhole self.now }
         ensures { result ≡ waiting_in (table now.0 (listings_of self.now)) now.0 }
@@ -123,7 +123,7 @@ impl Entries {
         for (_, key) in &self.index {
             let peer = &self.slab[*key].peer;
             if peer.is_listed(now) {
-                waiting += peer.waiting().len() as u16;
+                waiting += peer.kept_count();
             }
         }
         waiting

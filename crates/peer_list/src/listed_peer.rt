@@ -1,15 +1,17 @@
 //! A peer that is listed.
-ghost use Rattle.std.specs.Prelude.{◌≡◌, ◌≤◌, ◌<◌, ◌&&◌, not, ℕ, false, true, [], ◌++◌, ◌∷◌, map, length, option_map, IfOk, OnOk, OnErr};
+ghost use Rattle.std.specs.Prelude.{◌≡◌, ◌≤◌, ◌<◌, ◌+◌, ◌&&◌, not, ℕ, false, true, [], ◌++◌, ◌∷◌, map, length, option_map, IfOk, OnOk, OnErr};
 ghost use Rattle.std.specs.List.{AllByRecursion};
 ghost use Rattle.ipv6_packet.specs.declared.header.TheConstants.{PACKET_MAX};
 ghost use Rattle.td_outside.specs.declared.clock.TheConstants.{CLOCK_END_MS};
 ghost use Rattle.teredo_node.specs.Sends.{releases};
 ghost use Rattle.peer_list.specs.Peers.{no_peer};
-ghost use Rattle.peer_list.specs.Judged.{is_within, is_none, is_fresh, is_spent, is_barred, is_full, is_trusted_at, due_of};
-ghost use Rattle.peer_list.specs.Calls.{touched_at, trusted_at, heard_at, tried_at, queued_at, emptied, changed_at, IsInTime};
+ghost use Rattle.peer_list.specs.Judged.{is_within, is_none, is_fresh, is_spent, is_barred, is_full, holds_most, held_from, held_elsewhere, is_trusted_at, due_of};
+ghost use Rattle.peer_list.specs.Waiting.{kept_count};
+ghost use Rattle.peer_list.specs.Calls.{touched_at, trusted_at, heard_at, tried_at, queued_at, holding, emptied, changed_at, IsInTime};
 
 use crate::change::Change;
-use crate::limits::{FRESH_MS, LISTED_MS, TRIES_MAX, WAITING_MAX};
+use crate::held::Held;
+use crate::limits::{FRESH_MS, HELD_MAX, LISTED_MS, TRIES_MAX, WAITING_MAX};
 use crate::tries::{self, Tries};
 use std::alloc::Global;
 use std::marker::Model;
@@ -26,6 +28,7 @@ pub struct Peer {
     tries: Tries,
     nonce: Option<u64>,
     waiting: Vec<Octets>,
+    held: Vec<Held>,
 }
 
 // No clause sees a field that nothing reads: so it is its parts, and no byte more.
@@ -38,7 +41,8 @@ const _: () = prove_eq!(
             Option<Millis>,
             Tries,
             Option<u64>,
-            Vec<Octets>
+            Vec<Octets>,
+            Vec<Held>
         )
     >()
 );
@@ -47,7 +51,7 @@ impl Model for Peer {
     ghost use Rattle.std.specs.Prelude.{Some, option_map};
     ghost use Rattle.td_base.specs.declared.millis.Millis.{Millis};
     ghost use Rattle.peer_list.specs.Peers.{Peer};
-    ghost use Rattle.peer_list.specs.Bounds.{CanWait};
+    ghost use Rattle.peer_list.specs.Bounds.{CanWait, CanHold};
 
     ghost Value = { Peer };
 
@@ -58,9 +62,10 @@ impl Model for Peer {
       tries = s.tries;
       nonce = s.nonce;
       waiting = s.waiting.items;
+      held = s.held.items;
     } };
 
-    ghost invariant = { λ s. CanWait s.waiting.items };
+    ghost invariant = { λ s. CanWait s.waiting.items × CanHold s.held.items };
 }
 
 impl Peer {
@@ -75,6 +80,7 @@ impl Peer {
             tries: Tries::new(),
             nonce: None,
             waiting: Vec::new(alloc),
+            held: Vec::new(alloc),
         }
     }
 
@@ -190,6 +196,14 @@ impl Peer {
         WAITING_MAX <= self.waiting.len()
     }
 
+    /// Whether no further packet from it may be held.
+    #[tactic(auto, unfolding(crate::specs::Judged::holds_most))]
+    pub fn holds_most(&self) -> bool
+        ensures { result ≡ holds_most self.now }
+    {
+        HELD_MAX <= self.held.len()
+    }
+
     /// When its next try is due.
     #[tactic(auto, unfolding(crate::specs::Judged::due_of))]
     pub fn due(&self) -> Millis
@@ -205,6 +219,21 @@ impl Peer {
         self.waiting.len() as u8
     }
 
+    /// How many packets from it are held.
+    pub(crate) fn held_count(&self) -> u8
+        ensures { result ≡ length self.now.held }
+    {
+        self.held.len() as u8
+    }
+
+    /// How many packets wait for it or are held.
+    pub(crate) fn kept_count(&self) -> u16
+        ensures count { result ≡ kept_count self.now }
+        ensures most { result ≤ WAITING_MAX + HELD_MAX }
+    {
+        (self.waiting.len() + self.held.len()) as u16
+    }
+
     /// Sends the packets that wait for it, in order, to one endpoint.
     pub(crate) fn send_waiting(&self, to: Ep, step: &mut Step)
         requires { step.old.sends ≡ [] }
@@ -213,6 +242,23 @@ impl Peer {
         for packet in &self.waiting {
             step.push(Side::Primary, to, packet.as_slice());
         }
+    }
+
+    /// Hands over late, in order, the held packets that came from an endpoint, and says how many came from elsewhere.
+    pub(crate) fn hand_late(&self, from: Ep, step: &mut Step) -> u8
+        requires { step.old.late ≡ [] }
+        ensures late { step.new ≡ record step.old { late = held_from from self.now.held } }
+        ensures elsewhere { result ≡ held_elsewhere from self.now.held }
+    {
+        let mut elsewhere: u8 = 0;
+        for held in &self.held {
+            if held.from == from {
+                step.push_late(held.packet.as_slice());
+            } else {
+                elsewhere += 1;
+            }
+        }
+        elsewhere
     }
 
     /// Changes what is known of it.
@@ -251,6 +297,7 @@ impl Peer {
         self.heard = Some(now);
         self.tries.clear();
         self.give_up();
+        self.held.clear();
     }
 
     fn note_try(&mut self, now: Millis, nonce: Option<u64>)
@@ -278,6 +325,19 @@ impl Peer {
     {
         self.waiting.push(Octets::new(alloc, packet)?)?;
         self.touched = now;
+        Ok(())
+    }
+
+    /// Holds a packet that came from an endpoint. It doesn't touch the peer. A refusal leaves it as it was.
+    #[tactic(auto, unfolding(crate::specs::Judged::holds_most))]
+    pub(crate) fn hold(&mut self, alloc: Global, from: Ep, packet: &[u8]) -> Result<(), NoMemory>
+        requires free { holds_most self.old ≡ false }
+        requires short { length packet.now ≤ PACKET_MAX }
+        ensures held { OnOk result (self.new ≡ holding from packet.now self.old) }
+        ensures kept { OnErr result (self.new ≡ self.old) }
+    {
+        let packet = Octets::new(alloc, packet)?;
+        self.held.push(Held { from, packet })?;
         Ok(())
     }
 }

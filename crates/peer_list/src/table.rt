@@ -1,6 +1,6 @@
 //! The peers that a node keeps, and what is asked of them.
 ghost use Rattle.std.specs.Prelude.{◌≡◌, ◌≤◌, ◌<◌, [], ℕ, true, false, length, option_map, is_some, IfSome, IfNone};
-ghost use Rattle.peer_list.specs.Judged.{is_trusted_at, is_fresh, is_spent, is_barred, is_full};
+ghost use Rattle.peer_list.specs.Judged.{is_trusted_at, is_fresh, is_spent, is_barred, is_full, holds_most, held_from, held_elsewhere};
 ghost use Rattle.peer_list.specs.Table.{empty_table, peer_in, known_to, listed_in, has_room_in, waiting_in, first_due_in, due_and_who};
 ghost use Rattle.peer_list.specs.Overdue.{due_moment, due_by, overdue_in, listing_at, IsOverdue, IsNoSooner, IsKeptDue};
 ghost use Rattle.peer_list.specs.Timely.{FirstLasts};
@@ -13,6 +13,7 @@ use crate::listed_peer::Peer;
 use std::alloc::Global;
 use std::marker::Model;
 use td_base::{Ep, Ip6, Millis};
+use teredo_node::Step;
 
 /// The peers that a node keeps.
 #[derive(Drop)]
@@ -139,6 +140,39 @@ impl Peers {
         }
     }
 
+    /// Whether no further packet from an address may be held.
+    #[tactic(auto, unfolding(crate::specs::Judged::holds_most))]
+    pub fn holds_most(&self, now: Millis, who: Ip6) -> bool
+        requires clock { self.now.moment ≤ now.0 }
+        ensures { result ≡ holds_most (known_to self.now now.0 who) }
+    {
+        match self.find(now, who) {
+            None => false,
+            Some(peer) => peer.holds_most(),
+        }
+    }
+
+    /// How many packets from a listed address are held.
+    pub fn held_count(&self, now: Millis, who: Ip6) -> u8
+        requires clock { self.now.moment ≤ now.0 }
+        requires listed { is_some (peer_in self.now now.0 who) ≡ true }
+        ensures { result ≡ length (known_to self.now now.0 who).held }
+    {
+        self.peer(now, who).held_count()
+    }
+
+    /// Hands over late, in order, the held packets of a listed address that came from an endpoint, and says how many came
+    /// from elsewhere. All are held until the address is heard.
+    pub fn hand_late(&self, now: Millis, who: Ip6, from: Ep, step: &mut Step) -> u8
+        requires clock { self.now.moment ≤ now.0 }
+        requires listed { is_some (peer_in self.now now.0 who) ≡ true }
+        requires first { step.old.late ≡ [] }
+        ensures late { step.new ≡ record step.old { late = held_from from (known_to self.now now.0 who).held } }
+        ensures elsewhere { result ≡ held_elsewhere from (known_to self.now now.0 who).held }
+    {
+        self.peer(now, who).hand_late(from, step)
+    }
+
     /// Where an address is trusted.
     pub fn trusted(&self, now: Millis, who: Ip6) -> Option<Ep>
         requires clock { self.now.moment ≤ now.0 }
@@ -219,7 +253,7 @@ impl Peers {
         self.entries.may_be_due_before(moment)
     }
 
-    /// How many packets wait, for all listed peers.
+    /// How many packets wait for all listed peers, or are held.
     pub fn waiting(&self, now: Millis) -> u16
         requires clock { self.now.moment ≤ now.0 }
         ensures { result ≡ waiting_in self.now now.0 }

@@ -1,7 +1,7 @@
-use Rattle.std.proofs.Common.{◌≡◌, ℕ, List, length, filter, sym, ap, ◌∙◌, arith}
+use Rattle.std.proofs.Common.{◌≡◌, ℕ, List, filter, sym, ap, ◌∙◌, arith}
 use Rattle.std.specs.Prelude.{sum_by}
 use Rattle.td_base.specs.declared.ipv6.Ip6.{Ip6}
-use Rattle.peer_list.specs.Waiting.{Listing}
+use Rattle.peer_list.specs.Waiting.{Listing, kept_count}
 use Rattle.peer_list.specs.Table.{is_listed_at}
 use Rattle.peer_list.specs.Entries.{listings_in, listings_of}
 use Rattle.peer_list.proofs.PlaceLemmas.{apart_of}
@@ -11,6 +11,6 @@ use Rattle.peer_list.proofs.entries.Entries.waiting.Goals as goal
 
 pub returns : goal.returns
 returns c =
-    let rest : sum_by (λ (l : Listing). length l.peer.waiting) (filter (is_listed_at c.args.now.0) (listings_in c.args.self.now.slab c.loop-key.key-iterator)) ≡ 0 = ap (λ (ps : List (Ip6 × ℕ)). sum_by (λ (l : Listing). length l.peer.waiting) (filter (is_listed_at c.args.now.0) (listings_in c.args.self.now.slab ps))) c.in-None.ensures.steps.0 in
-    let all : c.loop-key.waiting ≡ sum_by (λ (l : Listing). length l.peer.waiting) (filter (is_listed_at c.args.now.0) (listings_of c.args.self.now)) = let both = c.loop-key.invariant.3 in omega (arith, rest, both) in
+    let rest : sum_by (λ (l : Listing). kept_count l.peer) (filter (is_listed_at c.args.now.0) (listings_in c.args.self.now.slab c.loop-key.key-iterator)) ≡ 0 = ap (λ (ps : List (Ip6 × ℕ)). sum_by (λ (l : Listing). kept_count l.peer) (filter (is_listed_at c.args.now.0) (listings_in c.args.self.now.slab ps))) c.in-None.ensures.steps.0 in
+    let all : c.loop-key.waiting ≡ sum_by (λ (l : Listing). kept_count l.peer) (filter (is_listed_at c.args.now.0) (listings_of c.args.self.now)) = let both = c.loop-key.invariant.3 in omega (arith, rest, both) in
     all ∙ sym (waiting_is c.args.now.0 c.args.now.0 (listings_of c.args.self.now) (apart_of (sound_of c.args.self.now c.requires.whole.names)))

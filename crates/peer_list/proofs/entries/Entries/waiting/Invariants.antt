@@ -1,8 +1,8 @@
 use Rattle.std.proofs.Common.{◌≡◌, ◌≤◌, ◌+◌, ◌*◌, filter, length}
 use Rattle.std.specs.Prelude.{sum_by}
 use Rattle.std.specs.List.{AllByRecursion}
-use Rattle.peer_list.specs.declared.limits.TheConstants.{WAITING_MAX}
-use Rattle.peer_list.specs.Waiting.{Listing}
+use Rattle.peer_list.specs.declared.limits.TheConstants.{WAITING_MAX, HELD_MAX}
+use Rattle.peer_list.specs.Waiting.{Listing, kept_count}
 use Rattle.peer_list.specs.Table.{is_listed_at}
 use Rattle.peer_list.specs.Entries.{listings_in, listings_of, Leads}
 use Rattle.peer_list.proofs.entries.Entries.waiting.Given as goal
@@ -12,6 +12,6 @@ abbrev pub invariant-loop-key : goal.invariant-loop-key
 invariant-loop-key l =
     (goal.iterator-loop-key).can_next l.key-iterator ×
     (goal.iterator-loop-key).is_finite l.key-iterator ×
-    (l.waiting + WAITING_MAX * length l.key-iterator ≤ WAITING_MAX * length l.self.index.entries) ×
-    (l.waiting + sum_by (λ (x : Listing). length x.peer.waiting) (filter (is_listed_at l.now.0) (listings_in l.self.slab l.key-iterator)) ≡ sum_by (λ (x : Listing). length x.peer.waiting) (filter (is_listed_at l.now.0) (listings_of l.self))) ×
+    (l.waiting + (WAITING_MAX + HELD_MAX) * length l.key-iterator ≤ (WAITING_MAX + HELD_MAX) * length l.self.index.entries) ×
+    (l.waiting + sum_by (λ (x : Listing). kept_count x.peer) (filter (is_listed_at l.now.0) (listings_in l.self.slab l.key-iterator)) ≡ sum_by (λ (x : Listing). kept_count x.peer) (filter (is_listed_at l.now.0) (listings_of l.self))) ×
     AllByRecursion (Leads l.self.slab) l.key-iterator
