@@ -62,12 +62,12 @@ kept one Q R k p (e ∷ ms) a n =
 
 -- PACKETS THAT WAIT
 
-all_append : (P : List ℕ → Type 0) (xs : List (List ℕ)) (o : Option (List ℕ)) → AllByRecursion P xs → IfSome o P → AllByRecursion P (xs ++ option_to_list o)
+all_append : {A : Type 0} (P : A → Type 0) (xs : List A) (o : Option A) → AllByRecursion P xs → IfSome o P → AllByRecursion P (xs ++ option_to_list o)
 all_append P [] None a h = tt
 all_append P [] (Some x) a h = (h, tt)
 all_append P (x ∷ xs) o a h = (a.0, all_append P xs o a.1 h)
 
-waits_on : (P : List ℕ → Type 0) (b : Bool) (xs : List (List ℕ)) (o : Option (List ℕ)) → AllByRecursion P xs → IfSome o P → AllByRecursion P (cond b [] (xs ++ option_to_list o))
+waits_on : {A : Type 0} (P : A → Type 0) (b : Bool) (xs : List A) (o : Option A) → AllByRecursion P xs → IfSome o P → AllByRecursion P (cond b [] (xs ++ option_to_list o))
 waits_on P true xs o a h = tt
 waits_on P false xs o a h = all_append P xs o a h
 
@@ -95,6 +95,12 @@ trust_is_kept P = record {
 none_more : (b : Bool) (held : List Held) (o : Option Held) → held ≡ [] → o ≡ None → cond b [] (held ++ option_to_list o) ≡ []
 none_more true held o h k = refl
 none_more false held o h k = ap (λ (hs : List Held). hs ++ option_to_list o) h ∙ ap option_to_list k
+
+pub holding_is_kept : (P : Held → Type 0) → IsKeptBy (λ x. AllByRecursion P x.held) (λ e. IfSome e.bearing.holds P)
+holding_is_kept P = record {
+  none = tt;
+  more = λ e x r q. waits_on P e.bearing.hears x.held e.bearing.holds q r;
+}
 
 pub held_is_kept : IsKeptBy (λ x. x.held ≡ []) (λ e. e.bearing.holds ≡ None)
 held_is_kept = record {

@@ -80,6 +80,11 @@ pub record Continues (old mid : Table) (m : ℕ) (who : Ip6) (peer : Peer) : Typ
 abbrev pub TouchGoesOn : Type 0
 TouchGoesOn = (old mid : Table) (m : ℕ) (who : Ip6) (peer : Peer) → peer.touched ≡ Some m → Updates old mid m who peer → Continues old mid m who peer
 
+-- so does the one that holds a packet
+abbrev pub HoldGoesOn : Type 0
+HoldGoesOn = (old mid : Table) (m : ℕ) (who : Ip6) (from : Ep) (x : List ℕ)
+    → Updates old mid m who (held_at m from x (known_to old m who)) → Continues old mid m who (held_at m from x (known_to old m who))
+
 -- WHICH CALLS MAKE AN ENTRY
 
 -- the calls of one entry, one after the other, come to what follows that entry
@@ -88,7 +93,7 @@ pub record CallsAre (m : ℕ) (p : Peer) (who : Option Ip6) : Type 0 where
   pub wait : (x : List ℕ) → after (record { moment = m; peer = who; bearing = record touching { queues = Some x } }) p ≡ queued_at m x p
   pub wait_tried : (x : List ℕ) (nonce : Option ℕ)
       → after (record { moment = m; peer = who; bearing = record touching { queues = Some x; tries = true; nonce = nonce } }) p ≡ tried_at m nonce (queued_at m x p)
-  pub hold : (from : Ep) (x : List ℕ) → is_some p.touched ≡ true
+  pub hold : (from : Ep) (x : List ℕ) → while_listed m p ≡ Some p
       → after (record { moment = m; peer = who; bearing = record no_bearing { holds = Some (record { from = from; packet = x }) } }) p ≡ held_at m from x p
   pub hold_tried : (from : Ep) (x : List ℕ) (nonce : Option ℕ)
       → after (record { moment = m; peer = who; bearing = record touching { holds = Some (record { from = from; packet = x }); tries = true; nonce = nonce } }) p ≡ tried_at m nonce (held_at m from x p)
@@ -110,5 +115,7 @@ pub record TableLaws : Type 0 where
   pub next_stands : NextStands
   pub idle_stands : IdleStands
   pub kept_stands : KeptStands
+  pub found_is_listed : FoundIsListed
   pub touch_goes_on : TouchGoesOn
+  pub hold_goes_on : HoldGoesOn
   pub calls_of_an_entry : CallsOfAnEntry

@@ -7,7 +7,7 @@ use Rattle.peer_list.specs.Calls.{holding, held_at}
 use Rattle.peer_list.specs.Entries.{Leads}
 use Rattle.peer_list.proofs.EntryLemmas.{led}
 use Rattle.peer_list.proofs.AdmitLemmas.{new_holds_none}
-use Rattle.peer_list.proofs.HoldLemmas.{held_listed, since_some}
+use Rattle.peer_list.proofs.HoldLemmas.{held_touched, since_some}
 use Rattle.peer_list.proofs.AddLemmas.{kept_answered, listings_kept}
 use Rattle.peer_list.proofs.ChangeLemmas.{there_at}
 use Rattle.peer_list.proofs.PurgeLemmas.{keeps, keeps_all, room_is, updates_added, known, updates_there}
@@ -26,7 +26,7 @@ returns-in-Some-clause-held c =
     let lead : Leads p.slab (c.args.who, c.in-Some.key) = led p.slab p.index.entries c.args.who c.in-Some.key c.purge.ensures.kept.whole.names.leads (sym c.in-Some.ensures) in
     on_ok_weaker c.hold_at.result (λ a. updates_there c.requires.kept c.purge.ensures.kept c.purge.ensures.listings c.args.who c.in-Some.key lead.listing (sym c.in-Some.ensures) lead.at
     c.hold_at.new.entries (holding c.args.from c.args.packet.now lead.listing.peer) call a
-    (held_listed c.args.now.0 c.args.from c.args.packet.now lead.listing.peer (since_some _ _ (c.purge.ensures.kept.touched c.in-Some.key lead.listing lead.at)))) (c.hold_at.ensures.held lead.listing lead.at)
+    (held_touched c.args.now.0 c.args.from c.args.packet.now lead.listing.peer (since_some _ _ (c.purge.ensures.kept.touched c.in-Some.key lead.listing lead.at)))) (c.hold_at.ensures.held lead.listing lead.at)
 
 pub returns-in-Some-clause-same : goal.returns-in-Some-clause-same
 returns-in-Some-clause-same c = on_err_weaker c.hold_at.result (keeps_all c.requires.kept c.purge.ensures.kept c.purge.ensures.listings c.hold_at.new.entries) c.hold_at.ensures.same
