@@ -244,7 +244,7 @@ module _ (all : List Entry) (p : Ip6) where
   given_mentions (e ∷ es) at a =
       ((λ about. queued_by e.step.fate e (WasHandedIn all (Some p)) (λ k. one_given e e.packet at.0 (peer_is p e.peer about) (a.0 k))), given_mentions es at.1 a.1)
 
-each_within : (xs : List Entry) → AllByRecursion (Contains xs) xs
+pub each_within : (xs : List Entry) → AllByRecursion (Contains xs) xs
 each_within xs = recursion_from_All (Contains xs) xs (All-contains_itself xs)
 
 pub waiting_was_handed_in : OneEntry → WaitingWasHandedIn

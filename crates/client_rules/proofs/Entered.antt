@@ -108,7 +108,7 @@ advertised h phase o is some = by_lines (λ (f : Fate). IsReceived phase o f) (a
 received_row : (a : Seen) (phase : Phase) (o : Option Ep) (advert : Fate) → IsReceived phase o advert → IsReceived phase o (reception_row a advert)
 received_row a phase o advert h =
     let P : Fate → Type 0 = λ f. IsReceived phase o f in
-    let direct : P (first_line (direct_lines a ++ []) fate.Suspicious) = skip P (direct_lines a) [] fate.Suspicious ((plain phase o fate.Rule1Bubble refl refl, refl), ((plain phase o fate.Rule1 refl refl, refl), ((plain phase o fate.Rule2 refl refl, refl), ((plain phase o fate.PeersFull refl refl, refl), ((plain phase o fate.Rule3Bubble refl refl, refl), ((plain phase o fate.Rule3 refl refl, refl), ((plain phase o fate.Mismatch refl refl, refl), ((plain phase o fate.SuspiciousTest refl refl, refl), tt)))))))) (plain phase o fate.Suspicious refl refl, refl) in
+    let direct : P (first_line (direct_lines a ++ []) fate.Suspicious) = skip P (direct_lines a) [] fate.Suspicious ((plain phase o fate.Rule1Bubble refl refl, refl), ((plain phase o fate.Rule1 refl refl, refl), ((plain phase o fate.Rule2 refl refl, refl), ((plain phase o fate.PeersFull refl refl, refl), ((plain phase o fate.Rule3Bubble refl refl, refl), ((plain phase o fate.Rule3 refl refl, refl), ((plain phase o fate.Mismatch refl refl, refl), ((plain phase o fate.HeldTest refl refl, refl), ((plain phase o fate.SuspiciousTest refl refl, refl), ((plain phase o fate.Held refl refl, refl), tt)))))))))) (plain phase o fate.Suspicious refl refl, refl) in
     let inner : List (Bool × Fate) = packet_lines a ++ (indirect_lines a ++ direct_lines a) in
     let packet : P (first_line inner fate.Suspicious) = skip P (packet_lines a) (indirect_lines a ++ direct_lines a) fate.Suspicious ((plain phase o fate.Off refl refl, refl), ((plain phase o fate.NotMine refl refl, refl), ((plain phase o fate.Itself refl refl, refl), tt)))
     (skip P (indirect_lines a) (direct_lines a) fate.Suspicious ((plain phase o fate.Origin refl refl, refl), ((plain phase o fate.PeersFull refl refl, refl), ((plain phase o fate.Barred refl refl, refl), ((plain phase o fate.Indirect refl refl, refl), tt)))) direct) in

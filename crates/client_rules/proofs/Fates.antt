@@ -43,6 +43,7 @@ touching fate.Rule1Bubble e h = refl
 touching fate.Rule2 e h = refl
 touching fate.Rule3 e h = refl
 touching fate.Rule3Bubble e h = refl
+touching fate.HeldTest e h = refl
 touching fate.SuspiciousTest e h = refl
 touching fate.Sent e h = refl
 touching fate.Queued e h = refl

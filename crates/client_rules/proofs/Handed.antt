@@ -1,5 +1,5 @@
 -- What a client hands to its host, by the fates.
-use Rattle.std.proofs.Common.{◌≡◌, ℕ, Bool, true, false, cond, List, Option, Some, None, refl, sym, ap, subst, ◌∙◌}
+use Rattle.std.proofs.Common.{◌≡◌, ℕ, Bool, true, false, cond, List, [], Option, Some, None, refl, sym, ap, subst, ◌∙◌}
 use Rattle.std.specs.Prelude.{is_some, nat_lt, unwrap_or}
 use Rattle.std.proofs.lemmas.Bool.{false≢true, and_parts}
 use Rattle.td_base.specs.Ip6.{same_ip6-true}
@@ -14,7 +14,7 @@ use Rattle.bubble.specs.Reads.{value_in}
 use Rattle.bubble.specs.PacketsIn.{source_in, destination_in}
 use Rattle.teredo_node.specs.declared.fate.Fate.{Fate}
 use Rattle.teredo_node.specs.declared.fate.Fate.TheVariants as fate
-use Rattle.teredo_node.specs.Step.{rest_of}
+use Rattle.teredo_node.specs.Step.{Step, rest_of}
 use Rattle.teredo_node.specs.Journal.{Input, arrived, given, from_six, ticked, Entry, Journal, Words}
 use Rattle.peer_list.specs.Judged.{is_spent, is_barred, is_ep, is_trusted_at}
 use Rattle.qualify.specs.declared.settings.Settings.{Settings}
@@ -46,13 +46,17 @@ by_reception R s a from x v w fate.Rule1 one three h = one refl
 by_reception R s a from x v w fate.Rule3 one three h = three refl
 by_reception R s a from x v w _ one three h = absurd (false≢true h)
 
-queued : (b : Bool) (s : Settings) (a : Standing) (p : Ip6) (w : Words) → is_some (queues b s a p w).handed ≡ false
-queued true s a p w = refl
-queued false s a p w = refl
+-- neither at once nor late
+abbrev pub HandsNothing : Step → Type 0
+HandsNothing step = (is_some step.handed ≡ false) × (step.late ≡ [])
 
-by_transmission : (s : Settings) (a : Standing) (x : List ℕ) (p : Ip6) (w : Words) (f : Fate) → is_some (transmission_step s a x p w f).handed ≡ false
+queued : (b : Bool) (s : Settings) (a : Standing) (p : Ip6) (w : Words) → HandsNothing (queues b s a p w)
+queued true s a p w = (refl, refl)
+queued false s a p w = (refl, refl)
+
+by_transmission : (s : Settings) (a : Standing) (x : List ℕ) (p : Ip6) (w : Words) (f : Fate) → HandsNothing (transmission_step s a x p w f)
 by_transmission s a x p w fate.Queued = queued (is_barred a.moment (known_in a)) s a p w
-by_transmission s a x p w _ = refl
+by_transmission s a x p w _ = (refl, refl)
 
 -- DATAGRAMS
 
@@ -104,23 +108,23 @@ of_datagram s a from x w r =
 
 -- PACKETS AND TICKS
 
-of_packet : (s : Settings) (a : Standing) (x : List ℕ) (w : Words) → is_some (transmission s a x w).handed ≡ false
+pub of_packet : (s : Settings) (a : Standing) (x : List ℕ) (w : Words) → HandsNothing (transmission s a x w)
 unfolding transmission
 of_packet s a x w = by_transmission s a x (fields_in x).dst w (transmission_row (given_to s a x))
 
-solicited : (s : Settings) (q : Qualification) (w : Words) (phase : Phase) (sends : ℕ) → is_some (solicits_by s q w (due_fate phase sends)).handed ≡ false
-solicited s q w Cone sends = elim (nat_lt sends SOLICITATIONS_MAX) as (λ b. is_some (solicits_by s q w (cond b fate.RsCone fate.RsRestricted)).handed ≡ false) [ true ↦ refl | false ↦ refl ]
-solicited s q w Restricted sends = elim (nat_lt sends SOLICITATIONS_MAX) as (λ b. is_some (solicits_by s q w (cond b fate.RsRestricted fate.OffLine)).handed ≡ false) [ true ↦ refl | false ↦ refl ]
-solicited s q w Secondary sends = elim (nat_lt sends SOLICITATIONS_MAX) as (λ b. is_some (solicits_by s q w (cond b fate.RsSecondary fate.OffLine)).handed ≡ false) [ true ↦ refl | false ↦ refl ]
-solicited s q w Qualified sends = refl
-solicited s q w Symmetric sends = refl
-solicited s q w OffLine sends = refl
+solicited : (s : Settings) (q : Qualification) (w : Words) (phase : Phase) (sends : ℕ) → HandsNothing (solicits_by s q w (due_fate phase sends))
+solicited s q w Cone sends = elim (nat_lt sends SOLICITATIONS_MAX) as (λ b. HandsNothing (solicits_by s q w (cond b fate.RsCone fate.RsRestricted))) [ true ↦ (refl, refl) | false ↦ (refl, refl) ]
+solicited s q w Restricted sends = elim (nat_lt sends SOLICITATIONS_MAX) as (λ b. HandsNothing (solicits_by s q w (cond b fate.RsRestricted fate.OffLine))) [ true ↦ (refl, refl) | false ↦ (refl, refl) ]
+solicited s q w Secondary sends = elim (nat_lt sends SOLICITATIONS_MAX) as (λ b. HandsNothing (solicits_by s q w (cond b fate.RsSecondary fate.OffLine))) [ true ↦ (refl, refl) | false ↦ (refl, refl) ]
+solicited s q w Qualified sends = (refl, refl)
+solicited s q w Symmetric sends = (refl, refl)
+solicited s q w OffLine sends = (refl, refl)
 
-of_due : (s : Settings) (n : ℕ) (q : Qualification) (w : Words) (due : Due) → is_some (tick s n q w due).handed ≡ false
+pub of_due : (s : Settings) (n : ℕ) (q : Qualification) (w : Words) (due : Due) → HandsNothing (tick s n q w due)
 unfolding due_step
 of_due s n q w asks = solicited s q w q.phase q.sends
-of_due s n q w (tries l) = elim (is_spent n l.peer) as (λ b. is_some (tries_peer b s q l w).handed ≡ false) [ true ↦ refl | false ↦ refl ]
-of_due s n q w nothing = refl
+of_due s n q w (tries l) = elim (is_spent n l.peer) as (λ b. HandsNothing (tries_peer b s q l w)) [ true ↦ (refl, refl) | false ↦ (refl, refl) ]
+of_due s n q w nothing = (refl, refl)
 
 -- ANY ENTRY
 
@@ -135,8 +139,8 @@ HandsSo s j e = is_some e.step.handed ≡ true → HandsOver s (qualification s 
 of_entry : QualifiedHasAddress → TrustedIsEmbedded → (s : Settings) (j : Journal) (n : ℕ) (input : Input) (w : Words) → IsJournal s j → HandsSo s j (client_entry s j n input w)
 unfolding client_in client_out client_tick standing_at
 of_entry has trust s j n (arrived from x) w a = of_datagram s (standing_of s j n (source_in x)) from x w (ready has trust s j n (source_in x) a)
-of_entry has trust s j n (given x) w a = λ h. absurd (false≢true (sym (of_packet s (standing_of s j n (destination_in x)) x w) ∙ h))
-of_entry has trust s j n ticked w a = λ h. absurd (false≢true (sym (of_due s n (qualification s j) w (due_at n (qualification s j) (first_peer j n))) ∙ h))
+of_entry has trust s j n (given x) w a = λ h. absurd (false≢true (sym (of_packet s (standing_of s j n (destination_in x)) x w).0 ∙ h))
+of_entry has trust s j n ticked w a = λ h. absurd (false≢true (sym (of_due s n (qualification s j) w (due_at n (qualification s j) (first_peer j n))).0 ∙ h))
 of_entry has trust s j n (from_six x) w a = λ h. absurd (false≢true h)
 
 pub each_handed : QualifiedHasAddress → TrustedIsEmbedded → EachHanded

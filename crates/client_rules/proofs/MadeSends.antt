@@ -127,6 +127,7 @@ received laws s a from x v w fate.Rule1Bubble r src = released from (known_in a)
 received laws s a from x v w fate.Rule2 r src = released from (known_in a).waiting r.waiting
 received laws s a from x v w fate.Rule3 r src = released from (known_in a).waiting r.waiting
 received laws s a from x v w fate.Rule3Bubble r src = released from (known_in a).waiting r.waiting
+received laws s a from x v w fate.HeldTest r src = (test_is laws (own_address a.qualification) v.packet.src (nonce_from w) r.own src, tt)
 received laws s a from x v w fate.SuspiciousTest r src = (test_is laws (own_address a.qualification) v.packet.src (nonce_from w) r.own src, tt)
 received laws s a from x v w _ r src = tt
 

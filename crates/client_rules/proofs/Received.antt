@@ -9,8 +9,8 @@ use Rattle.teredo_node.proofs.FirstLines.{by_lines}
 use Rattle.qualify.specs.declared.phase.Phase.{Phase}
 use Rattle.qualify.specs.declared.phase.Phase.TheVariants.{Cone, Restricted, Secondary, Qualified, Symmetric, OffLine}
 use Rattle.qualify.specs.Advertisements.{Heard, heard, advert_lines, phase_line, advert_row}
-use Rattle.client_rules.specs.Reception.{Seen, seen, datagram_lines, server_lines, packet_lines, indirect_lines, direct_lines, reception_row, reception_fate}
-use Rattle.client_rules.specs.Warrants.{IsSound, IsAdvert, IsForClient, IsIndirect, IsDirect, IsTested, IsSuspect, ReceivedOnlyIf}
+use Rattle.client_rules.specs.Reception.{Seen, seen, datagram_lines, server_lines, packet_lines, indirect_lines, is_plain, is_testable, is_under_test, direct_lines, reception_row, reception_fate}
+use Rattle.client_rules.specs.Warrants.{IsSound, IsAdvert, IsForClient, IsIndirect, IsDirect, IsTested, IsSuspect, IsUnderTest, ReceivedOnlyIf}
 use Rattle.client_rules.specs.Laws.{ReceptionIsWarranted}
 
 -- of two tests the other one fails
@@ -88,49 +88,82 @@ advertised a h b = by_lines (λ (f : Fate). ReceivedOnlyIf f a h) (advert_lines 
 
 -- an indirect bubble: no line refuses it
 indirect : (a : Seen) → IsForClient a → a.from_server && not (a.bubble && a.origin) ≡ false
-    → a.from_server && not a.good_origin ≡ false → a.from_server && not a.room ≡ false → a.from_server && a.barred ≡ false → a.from_server ≡ true → IsIndirect a
+    → a.from_server && not a.good_origin ≡ false → a.from_server && not a.peer.room ≡ false → a.from_server && a.peer.barred ≡ false → a.from_server ≡ true → IsIndirect a
 indirect a mine bubble origin room barred server = record {
   mine = mine;
   server = server;
   bubble = (and_parts a.bubble a.origin (not-false (a.bubble && a.origin) (fails_with a.from_server (not (a.bubble && a.origin)) server bubble))).0;
   origin = not-false a.good_origin (fails_with a.from_server (not a.good_origin) server origin);
-  room = not-false a.room (fails_with a.from_server (not a.room) server room);
-  unbarred = fails_with a.from_server a.barred server barred;
+  room = not-false a.peer.room (fails_with a.from_server (not a.peer.room) server room);
+  unbarred = fails_with a.from_server a.peer.barred server barred;
 }
 
-tested : (a : Seen) → IsDirect a → a.trusted_here ≡ false → not a.teredo && (a.listed && (not a.fresh && a.reply)) ≡ true → IsTested a
+tested : (a : Seen) → IsDirect a → a.peer.trusted_here ≡ false → not a.teredo && (a.peer.listed && (not a.peer.fresh && a.peer.reply)) ≡ true → IsTested a
 tested a direct untrusted h =
-    let native = and_parts (not a.teredo) (a.listed && (not a.fresh && a.reply)) h in
-    let listed = and_parts a.listed (not a.fresh && a.reply) native.1 in
-    let stale = and_parts (not a.fresh) a.reply listed.1 in
-    record { direct = direct; untrusted = untrusted; native = not-true a.teredo native.0; listed = listed.0; stale = not-true a.fresh stale.0; reply = stale.1 }
+    let native = and_parts (not a.teredo) (a.peer.listed && (not a.peer.fresh && a.peer.reply)) h in
+    let listed = and_parts a.peer.listed (not a.peer.fresh && a.peer.reply) native.1 in
+    let stale = and_parts (not a.peer.fresh) a.peer.reply listed.1 in
+    record { direct = direct; untrusted = untrusted; native = not-true a.teredo native.0; listed = listed.0; stale = not-true a.peer.fresh stale.0; reply = stale.1 }
 
-suspect : (a : Seen) → IsDirect a → a.trusted_here ≡ false → a.teredo ≡ false
-    → a.global && (not a.fresh && (not a.barred && (a.room && (not a.bubble && not a.echo_reply)))) ≡ true → IsSuspect a
-suspect a direct untrusted native h =
-    let global = and_parts a.global (not a.fresh && (not a.barred && (a.room && (not a.bubble && not a.echo_reply)))) h in
-    let stale = and_parts (not a.fresh) (not a.barred && (a.room && (not a.bubble && not a.echo_reply))) global.1 in
-    let unbarred = and_parts (not a.barred) (a.room && (not a.bubble && not a.echo_reply)) stale.1 in
-    let room = and_parts a.room (not a.bubble && not a.echo_reply) unbarred.1 in
-    let kind = and_parts (not a.bubble) (not a.echo_reply) room.1 in
+-- what a packet of rule 6 is
+record IsPlain (a : Seen) : Type 0 where
+  no_bubble : a.bubble ≡ false
+  no_reply : a.echo_reply ≡ false
+
+plain : (a : Seen) → is_plain a ≡ true → IsPlain a
+plain a h =
+    let kind = and_parts (not a.bubble) (not a.echo_reply) h in
+    record { no_bubble = not-true a.bubble kind.0; no_reply = not-true a.echo_reply kind.1 }
+
+suspect : (a : Seen) (full : Bool) → IsDirect a → a.peer.trusted_here ≡ false → a.teredo ≡ false → is_testable a ≡ true → a.peer.holds_most ≡ full → IsSuspect full a
+suspect a full direct untrusted native h kept =
+    let global = and_parts a.global (not a.peer.fresh && (not a.peer.barred && (a.peer.room && is_plain a))) h in
+    let stale = and_parts (not a.peer.fresh) (not a.peer.barred && (a.peer.room && is_plain a)) global.1 in
+    let unbarred = and_parts (not a.peer.barred) (a.peer.room && is_plain a) stale.1 in
+    let room = and_parts a.peer.room (is_plain a) unbarred.1 in
+    let kind = plain a room.1 in
     record {
       direct = direct;
       untrusted = untrusted;
       native = native;
       global = global.0;
-      stale = not-true a.fresh stale.0;
-      unbarred = not-true a.barred unbarred.0;
+      stale = not-true a.peer.fresh stale.0;
+      unbarred = not-true a.peer.barred unbarred.0;
       room = room.0;
-      no_bubble = not-true a.bubble kind.0;
-      no_reply = not-true a.echo_reply kind.1;
+      no_bubble = kind.no_bubble;
+      no_reply = kind.no_reply;
+      kept = kept;
+    }
+
+under_test : (a : Seen) → IsDirect a → a.peer.trusted_here ≡ false → a.teredo ≡ false → is_under_test a && not a.peer.holds_most ≡ true → IsUnderTest a
+under_test a direct untrusted native h =
+    let both = and_parts (is_under_test a) (not a.peer.holds_most) h in
+    let global = and_parts a.global (a.peer.listed && (not a.peer.fresh && (a.peer.barred && (a.peer.tested && is_plain a)))) both.0 in
+    let listed = and_parts a.peer.listed (not a.peer.fresh && (a.peer.barred && (a.peer.tested && is_plain a))) global.1 in
+    let stale = and_parts (not a.peer.fresh) (a.peer.barred && (a.peer.tested && is_plain a)) listed.1 in
+    let barred = and_parts a.peer.barred (a.peer.tested && is_plain a) stale.1 in
+    let tested = and_parts a.peer.tested (is_plain a) barred.1 in
+    let kind = plain a tested.1 in
+    record {
+      direct = direct;
+      untrusted = untrusted;
+      native = native;
+      global = global.0;
+      listed = listed.0;
+      stale = not-true a.peer.fresh stale.0;
+      barred = barred.0;
+      tested = tested.0;
+      no_bubble = kind.no_bubble;
+      no_reply = kind.no_reply;
+      kept = not-true a.peer.holds_most both.1;
     }
 
 -- from a peer itself
 directly : (a : Seen) (h : Heard) → IsDirect a → ReceivedOnlyIf (first_line (direct_lines a) fate.Suspicious) a h
 directly a h direct = by_lines (λ (f : Fate). ReceivedOnlyIf f a h) (direct_lines a) fate.Suspicious (
-  (λ both. record { direct = direct; trusted = (and_parts a.trusted_here a.bubble both).0; kind = (and_parts a.trusted_here a.bubble both).1 }),
+  (λ both. record { direct = direct; trusted = (and_parts a.peer.trusted_here a.bubble both).0; kind = (and_parts a.peer.trusted_here a.bubble both).1 }),
   (λ bubble. (
-    (λ trusted. record { direct = direct; trusted = trusted; kind = fails_with a.trusted_here a.bubble trusted bubble }),
+    (λ trusted. record { direct = direct; trusted = trusted; kind = fails_with a.peer.trusted_here a.bubble trusted bubble }),
     (λ untrusted. (
       (λ all. tested a direct untrusted all),
       (λ _. (
@@ -140,7 +173,7 @@ directly a h direct = by_lines (λ (f : Fate). ReceivedOnlyIf f a h) (direct_lin
             direct = direct;
             untrusted = untrusted;
             embedded = (and_parts a.embedded_here a.bubble both).0;
-            room = not-false a.room (fails_with a.embedded_here (not a.room) (and_parts a.embedded_here a.bubble both).0 room);
+            room = not-false a.peer.room (fails_with a.embedded_here (not a.peer.room) (and_parts a.embedded_here a.bubble both).0 room);
             kind = (and_parts a.embedded_here a.bubble both).1;
           }),
           (λ bubble_too. (
@@ -148,13 +181,22 @@ directly a h direct = by_lines (λ (f : Fate). ReceivedOnlyIf f a h) (direct_lin
               direct = direct;
               untrusted = untrusted;
               embedded = here;
-              room = not-false a.room (fails_with a.embedded_here (not a.room) here room);
+              room = not-false a.peer.room (fails_with a.embedded_here (not a.peer.room) here room);
               kind = fails_with a.embedded_here a.bubble here bubble_too;
             }),
             (λ _. (
               (λ _. tt),
-              (λ native.
-                  ((λ all. suspect a direct untrusted native all), (λ _. tt))),
+              (λ native. (
+                (λ all. let both = and_parts (is_testable a) (not a.peer.holds_most) all in
+                    suspect a false direct untrusted native both.0 (not-true a.peer.holds_most both.1)),
+                (λ held. (
+                  (λ all. suspect a true direct untrusted native all (not-false a.peer.holds_most (fails_with (is_testable a) (not a.peer.holds_most) all held))),
+                  (λ _. (
+                    (λ all. under_test a direct untrusted native all),
+                    (λ _. tt),
+                  )),
+                )),
+              )),
             )),
           )),
         )),

@@ -37,7 +37,8 @@ record OfReception (P : Send → Type 0) (s : Settings) (a : Standing) (from : E
   rule2 : f ≡ fate.Rule2 → AllByRecursion P (releases from (known_in a).waiting)
   rule3 : f ≡ fate.Rule3 → AllByRecursion P (releases from (known_in a).waiting)
   rule3_bubble : f ≡ fate.Rule3Bubble → AllByRecursion P (releases from (known_in a).waiting)
-  tested : f ≡ fate.SuspiciousTest → AllByRecursion P (tests_source s a v w).sends
+  tested_held : f ≡ fate.HeldTest → AllByRecursion P (tests_source fate.HeldTest s a v w).sends
+  tested : f ≡ fate.SuspiciousTest → AllByRecursion P (tests_source fate.SuspiciousTest s a v w).sends
 
 by_reception : (P : Send → Type 0) (s : Settings) (a : Standing) (from : Ep) (x : List ℕ) (v : Value) (w : Words) (f : Fate) → OfReception P s a from v w f → AllByRecursion P (reception_step s a from x v w f).sends
 by_reception P s a from x v w fate.Indirect h = h.answered refl
@@ -46,19 +47,20 @@ by_reception P s a from x v w fate.Rule1Bubble h = h.rule1_bubble refl
 by_reception P s a from x v w fate.Rule2 h = h.rule2 refl
 by_reception P s a from x v w fate.Rule3 h = h.rule3 refl
 by_reception P s a from x v w fate.Rule3Bubble h = h.rule3_bubble refl
+by_reception P s a from x v w fate.HeldTest h = h.tested_held refl
 by_reception P s a from x v w fate.SuspiciousTest h = h.tested refl
 by_reception P s a from x v w _ h = tt
 
 -- the source of a packet that every line looked at
-record HasSource (s : Settings) (a : Standing) (from : Ep) (x : List ℕ) : Type 0 where
-  qualified : is_qualified a.qualification.phase ≡ true
-  source : source_in x ≡ Some (value_in x).packet.src
+pub record HasSource (s : Settings) (a : Standing) (from : Ep) (x : List ℕ) : Type 0 where
+  pub qualified : is_qualified a.qualification.phase ≡ true
+  pub source : source_in x ≡ Some (value_in x).packet.src
 
-has_source : (s : Settings) (a : Standing) (from : Ep) (x : List ℕ) → IsForClient (seen s a from x) → HasSource s a from x
+pub has_source : (s : Settings) (a : Standing) (from : Ep) (x : List ℕ) → IsForClient (seen s a from x) → HasSource s a from x
 unfolding seen source_in
 has_source s a from x m = record { qualified = m.qualified; source = ap (λ (b : Bool). cond b (Some (value_in x).packet.src) None) m.sound.payload }
 
-given_back : (o : Option Ip6) (p : Ip6) → o ≡ Some p → Some (unwrap_or o unspecified) ≡ o
+pub given_back : (o : Option Ip6) (p : Ip6) → o ≡ Some p → Some (unwrap_or o unspecified) ≡ o
 given_back o p h = subst (λ k. Some (unwrap_or k unspecified) ≡ k) (sym h) refl
 
 both : {A : Type 0} (P Q R : A → Type 0) (xs : List A) → ((x : A) → P x → Q x → R x) → AllByRecursion (λ x. P x × Q x) xs → AllByRecursion R xs
@@ -91,6 +93,9 @@ module _ (bubbled : Ip6 → Ep → Type 0) (carried : Ep → List ℕ → Type 0
       let h = heard s a.qualification from (value_in x) in
       let told : (g : Fate) → f ≡ g → ReceivedOnlyIf g (seen s a from x) h = λ g k. subst (λ i. ReceivedOnlyIf i (seen s a from x) h) k (reception_is_warranted s a from x) in
       let release = λ (m : IsForClient (seen s a from x)). released a after from x es r (has_source s a from x m) may.releases in
+      let test : IsForClient (seen s a from x) → (g : Fate) → AllByRecursion (MaySend bubbled carried s a.qualification after (source_in x)) (tests_source g s a (value_in x) w).sends = λ m g.
+      let there = has_source s a from x m in
+      (tests (own_address a.qualification) (value_in x).packet.src (nonce_from w) (address_is a (source_in x) es r there.qualified) there.source refl, tt) in
       by_reception (MaySend bubbled carried s a.qualification after (source_in x)) s a from x (value_in x) w f (record {
         answered = λ k.
             let m = has_source s a from x (told fate.Indirect k).mine in
@@ -101,7 +106,6 @@ module _ (bubbled : Ip6 → Ep → Type 0) (carried : Ep → List ℕ → Type 0
         rule2 = λ k. release (told fate.Rule2 k).direct.mine;
         rule3 = λ k. release (told fate.Rule3 k).direct.mine;
         rule3_bubble = λ k. release (told fate.Rule3Bubble k).direct.mine;
-        tested = λ k.
-            let m = has_source s a from x (told fate.SuspiciousTest k).direct.mine in
-            (tests (own_address a.qualification) (value_in x).packet.src (nonce_from w) (address_is a (source_in x) es r m.qualified) m.source refl, tt);
+        tested_held = λ k. test (told fate.HeldTest k).direct.mine fate.HeldTest;
+        tested = λ k. test (told fate.SuspiciousTest k).direct.mine fate.SuspiciousTest;
       })

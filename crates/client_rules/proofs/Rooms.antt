@@ -1,7 +1,7 @@
 -- Each entry that touches a peer finds room for it.
 use Rattle.std.proofs.Common.{◌≡◌, ℕ, ◌&&◌, not, Bool, true, false, cond, List, [], ◌∷◌, ◌++◌, map, Option, Some, None, refl, sym, ap, subst, ◌∙◌}
 use Rattle.std.specs.Prelude.{nat_le, unwrap_or, is_some}
-use Rattle.std.proofs.lemmas.Bool.{false≢true}
+use Rattle.std.proofs.lemmas.Bool.{false≢true, and_parts}
 use Rattle.td_base.specs.declared.ipv6.Ip6.{Ip6}
 use Rattle.td_base.specs.declared.endpoint.Ep.{Ep}
 use Rattle.bubble.specs.Payloads.{Value}
@@ -26,7 +26,7 @@ use Rattle.qualify.specs.Solicitations.{is_due}
 use Rattle.qualify.specs.Advertisements.{heard, advert_lines, phase_line, advert_row}
 use Rattle.client_rules.specs.Bearings.{bearing_of, mention, mentions}
 use Rattle.client_rules.specs.Standing.{Standing, standing_at, standing_of}
-use Rattle.client_rules.specs.Reception.{Seen, seen, datagram_lines, server_lines, packet_lines, indirect_lines, trusted_lines, teredo_lines, suspicious_lines, reception_row, reception_fate}
+use Rattle.client_rules.specs.Reception.{Seen, seen, datagram_lines, server_lines, packet_lines, indirect_lines, trusted_lines, teredo_lines, is_testable, is_under_test, suspicious_lines, reception_row, reception_fate}
 use Rattle.client_rules.specs.Transmission.{Given, given, host_lines, transmission_row}
 use Rattle.client_rules.specs.Ticks.{Due, asks, tries, nothing, due_at, peer_due}
 use Rattle.client_rules.specs.Journals.{client_in, client_out, client_tick, client_entry, first_peer, ticks, journal, AreEntries}
@@ -73,7 +73,7 @@ advert_idle s q from v =
 
 -- where there is no room
 abbrev crowded : Seen → (from_server embedded_here : Bool) → Seen
-crowded z server here = record z { from_server = server; embedded_here = here; room = false; trusted_here = false; listed = false }
+crowded z server here = record z { from_server = server; embedded_here = here; peer = record z.peer { room = false; trusted_here = false; listed = false } }
 
 crowded_idle : (z : Seen) (advert : Fate) (server here : Bool) → IsIdle advert → IsIdle (reception_row (crowded z server here) advert)
 crowded_idle z advert true here a =
@@ -88,12 +88,12 @@ crowded_idle z advert false true a =
 crowded_idle z advert false false a =
     let y : Seen = crowded z false false in
     first_where IsIdle (datagram_lines y ++ (server_lines y advert ++ (packet_lines y ++ (indirect_lines y ++ (trusted_lines y ++ (teredo_lines y ++ suspicious_lines y)))))) fate.Suspicious
-    ((λ h e. refl), ((λ h e. refl), ((λ h e. refl), ((λ h e. refl), ((λ h e. refl), ((λ h. a), ((λ h e. refl), ((λ h e. refl), ((λ h e. refl), ((λ h e. refl), ((λ h e. refl), ((λ h e. refl), ((λ h e. refl), ((λ h. absurd (false≢true h)), ((λ h. absurd (false≢true h)), ((λ h. absurd (false≢true h)), ((λ h. absurd (never2 (not y.teredo) h)), ((λ h e. refl), ((λ h. absurd (false≢true h)), ((λ h. absurd (false≢true h)), ((λ h e. refl), ((λ h. absurd (never4 y.global (not y.fresh) (not y.barred) h)), tt))))))))))))))))))))))
+    ((λ h e. refl), ((λ h e. refl), ((λ h e. refl), ((λ h e. refl), ((λ h e. refl), ((λ h. a), ((λ h e. refl), ((λ h e. refl), ((λ h e. refl), ((λ h e. refl), ((λ h e. refl), ((λ h e. refl), ((λ h e. refl), ((λ h. absurd (false≢true h)), ((λ h. absurd (false≢true h)), ((λ h. absurd (false≢true h)), ((λ h. absurd (never2 (not y.teredo) h)), ((λ h e. refl), ((λ h. absurd (false≢true h)), ((λ h. absurd (false≢true h)), ((λ h e. refl), ((λ h. absurd (never4 y.global (not y.peer.fresh) (not y.peer.barred) (and_parts (is_testable y) (not y.peer.holds_most) h).0)), ((λ h. absurd (never4 y.global (not y.peer.fresh) (not y.peer.barred) h)), ((λ h. absurd (never2 y.global (and_parts (is_under_test y) (not y.peer.holds_most) h).0)), tt))))))))))))))))))))))))
     (λ e. refl)
 
-row_idle : (z : Seen) (advert : Fate) → IsIdle advert → z.room ≡ false → z.trusted_here ≡ false → z.listed ≡ false → IsIdle (reception_row z advert)
+row_idle : (z : Seen) (advert : Fate) → IsIdle advert → z.peer.room ≡ false → z.peer.trusted_here ≡ false → z.peer.listed ≡ false → IsIdle (reception_row z advert)
 row_idle z advert a room trusted listed =
-    let is : z ≡ crowded z z.from_server z.embedded_here = λ i. record z { room = room i; trusted_here = trusted i; listed = listed i } in
+    let is : z ≡ crowded z z.from_server z.embedded_here = λ i. record z { peer = record z.peer { room = room i; trusted_here = trusted i; listed = listed i } } in
     subst (λ (y : Seen). IsIdle (reception_row y advert)) (sym is) (crowded_idle z advert z.from_server z.embedded_here a)
 
 received_idle : (s : Settings) (a : Standing) (from : Ep) (x : List ℕ) → a.room ≡ false → a.peer ≡ None → IsIdle (reception_fate s a from x)

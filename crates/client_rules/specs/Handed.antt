@@ -1,5 +1,6 @@
 -- What a client hands to its host (RFC 4380, section 5.2.3).
-use Rattle.std.specs.Prelude.{◌≡◌, ℕ, true, false, List, Option, Some, is_some}
+use Rattle.std.specs.Prelude.{◌≡◌, ℕ, true, false, List, [], Contains, Option, Some, is_some}
+use Rattle.std.specs.List.{AllByRecursion}
 use Rattle.td_base.specs.declared.ipv6.Ip6.{Ip6}
 use Rattle.td_base.specs.declared.endpoint.Ep.{Ep}
 use Rattle.td_base.specs.declared.span.Span.{Span}
@@ -10,9 +11,10 @@ use Rattle.bubble.specs.Reads.{is_payload, value_in}
 use Rattle.teredo_node.specs.declared.fate.Fate.{Fate}
 use Rattle.teredo_node.specs.declared.fate.Fate.TheVariants as fate
 use Rattle.teredo_node.specs.Step.{rest_of}
-use Rattle.teredo_node.specs.Journal.{Input, arrived, given, from_six, ticked, Entry, Journal, with_entry}
+use Rattle.teredo_node.specs.Journal.{Input, arrived, given, from_six, ticked, Entry, Journal, with_entry, epoch}
 use Rattle.qualify.specs.declared.settings.Settings.{Settings}
 use Rattle.qualify.specs.Qualification.{qualification}
+use Rattle.client_rules.specs.Bearings.{source_of}
 use Rattle.client_rules.specs.Reception.{is_from_server}
 use Rattle.client_rules.specs.Journals.{IsJournal}
 
@@ -43,3 +45,30 @@ pub data HandingRule (f : Fate) : Type 0 where
 abbrev pub EachHanded : Type 0
 EachHanded = (s : Settings) (j : Journal) (e : Entry) → IsJournal s (with_entry j e) → is_some e.step.handed ≡ true
     → HandsOver s (qualification s j).address e.input e.step.handed × HandingRule e.step.fate
+
+-- WHAT IS HANDED OVER LATE
+
+-- the fates by which a packet is held
+pub data HoldingRule (f : Fate) : Type 0 where
+  held_test : f ≡ fate.HeldTest → HoldingRule f
+  held : f ≡ fate.Held → HoldingRule f
+
+-- an entry for x, which came from there as the packet of a datagram of p, and was held
+pub record WasHeld (from : Ep) (p : Option Ip6) (x : List ℕ) (e : Entry) : Type 0 where
+  pub rule : HoldingRule e.step.fate
+  pub came : source_of e.input ≡ Some from
+  pub packet : e.packet ≡ Some x
+  pub peer : e.peer ≡ p
+
+-- one of these is such an entry
+abbrev pub WasHeldIn : List Entry → Ep → Option Ip6 → List ℕ → Type 0
+WasHeldIn es from p x = (e : Entry) × Contains es e × WasHeld from p x e
+
+-- an entry hands over nothing late, or by rule 2, and then what was held since the last change of address, of the same peer,
+-- when it came from where the answer to the test came from
+pub data HandsLate (es : List Entry) (e : Entry) : Type 0 where
+  nothing : e.step.late ≡ [] → HandsLate es e
+  rule2 : (from : Ep) → source_of e.input ≡ Some from → e.step.fate ≡ fate.Rule2 → AllByRecursion (WasHeldIn es from e.peer) e.step.late → HandsLate es e
+
+abbrev pub EachLate : Type 0
+EachLate = (s : Settings) (j : Journal) (e : Entry) → IsJournal s (with_entry j e) → HandsLate (epoch j.entries) e

@@ -1,5 +1,5 @@
 -- What a client does with a datagram: the first line whose condition holds decides (RFC 4380, section 5.2.3).
-use Rattle.std.specs.Prelude.{ℕ, nat_eq, ◌&&◌, ◌||◌, not, Bool, false, List, [], ◌∷◌, ◌++◌, map, Option, Some, None, option_to_list, is_some}
+use Rattle.std.specs.Prelude.{ℕ, nat_eq, ◌&&◌, ◌||◌, not, Bool, false, List, [], ◌∷◌, ◌++◌, map, length, Option, Some, None, option_to_list, is_some}
 use Rattle.std.specs.Cmp.Lexicographic.{pointwise}
 use Rattle.byteorder.specs.Endian.{big_bytes}
 use Rattle.td_base.specs.Ip6.{same_ip6}
@@ -24,7 +24,7 @@ use Rattle.teredo_node.specs.Words.{nonce_from}
 use Rattle.teredo_node.specs.Journal.{Words}
 use Rattle.teredo_node.specs.Rows.{first_line}
 use Rattle.peer_list.specs.Peers.{Peer}
-use Rattle.peer_list.specs.Judged.{is_trusted_at, is_fresh, is_barred}
+use Rattle.peer_list.specs.Judged.{is_trusted_at, is_fresh, is_barred, holds_most, held_from, held_elsewhere}
 use Rattle.qualify.specs.declared.settings.Settings.{Settings}
 use Rattle.qualify.specs.Solicitations.{is_qualified, own_address}
 use Rattle.qualify.specs.Advertisements.{advert_words, advert_row}
@@ -47,7 +47,32 @@ abbrev pub is_reply_to : Option ℕ → Option Message → Bool
 is_reply_to (Some nonce) (Some (echo_reply id seq body)) = pointwise nat_eq body (big_bytes 8 nonce)
 is_reply_to _ _ = false
 
--- what the lines ask, in their order
+-- what is known of the packet's source
+pub record SeenPeer : Type 0 where
+  pub room : Bool
+  pub barred : Bool
+  pub trusted_here : Bool
+  pub listed : Bool
+  pub fresh : Bool
+  pub reply : Bool  -- the message is one with the nonce that is kept for it
+  pub tested : Bool  -- a nonce is kept for it
+  pub holds_most : Bool
+
+abbrev pub seen_peer : Standing → Ep → Option Message → SeenPeer
+seen_peer a from message =
+    let peer = known_in a in
+    record {
+      room = a.room;
+      barred = is_barred a.moment peer;
+      trusted_here = is_trusted_at from peer;
+      listed = is_some a.peer;
+      fresh = is_fresh a.moment peer;
+      reply = is_reply_to peer.nonce message;
+      tested = is_some peer.nonce;
+      holds_most = holds_most peer;
+    }
+
+-- what the lines ask
 pub record Seen : Type 0 where
   pub payload : Bool
   pub keyed : Bool
@@ -62,13 +87,8 @@ pub record Seen : Type 0 where
   pub mine : Bool
   pub itself : Bool
   pub good_origin : Bool
-  pub room : Bool
-  pub barred : Bool
-  pub trusted_here : Bool
+  pub peer : SeenPeer
   pub teredo : Bool
-  pub listed : Bool
-  pub fresh : Bool
-  pub reply : Bool  -- with the nonce that is kept for p
   pub embedded_here : Bool
   pub global : Bool
   pub echo_reply : Bool
@@ -78,7 +98,6 @@ abbrev pub seen_of : Settings → Standing → Ep → Bool → Value → Seen
 seen_of s a from payload v =
     let p = v.packet.src in
     let own = own_address a.qualification in
-    let peer = known_in a in
     record {
       payload = payload;
       keyed = is_keyed v.lead;
@@ -93,13 +112,8 @@ seen_of s a from payload v =
       mine = same_ip6 v.packet.dst own;
       itself = same_ip6 p own;
       good_origin = is_good_origin s.policy p (origin_in v.lead);
-      room = a.room;
-      barred = is_barred a.moment peer;
-      trusted_here = is_trusted_at from peer;
+      peer = seen_peer a from (message_in v.packet);
       teredo = is_teredo p;
-      listed = is_some a.peer;
-      fresh = is_fresh a.moment peer;
-      reply = is_reply_to peer.nonce (message_in v.packet);
       embedded_here = is_teredo p && same_ep (embedded p) from;
       global = is_global6 p;
       echo_reply = is_echo_reply (message_in v.packet);
@@ -139,32 +153,46 @@ packet_lines a =
 abbrev pub indirect_lines : Seen → List (Bool × Fate)
 indirect_lines a =
     (a.from_server && not a.good_origin, fate.Origin)
-    ∷ (a.from_server && not a.room, fate.PeersFull)
-    ∷ (a.from_server && a.barred, fate.Barred)
+    ∷ (a.from_server && not a.peer.room, fate.PeersFull)
+    ∷ (a.from_server && a.peer.barred, fate.Barred)
     ∷ (a.from_server, fate.Indirect)
     ∷ []
 
 -- packets of peers that are trusted, or answer a test: rules 1 and 2
 abbrev pub trusted_lines : Seen → List (Bool × Fate)
 trusted_lines a =
-    (a.trusted_here && a.bubble, fate.Rule1Bubble)
-    ∷ (a.trusted_here, fate.Rule1)
-    ∷ (not a.teredo && (a.listed && (not a.fresh && a.reply)), fate.Rule2)
+    (a.peer.trusted_here && a.bubble, fate.Rule1Bubble)
+    ∷ (a.peer.trusted_here, fate.Rule1)
+    ∷ (not a.teredo && (a.peer.listed && (not a.peer.fresh && a.peer.reply)), fate.Rule2)
     ∷ []
 
 -- packets of other clients: rule 3
 abbrev pub teredo_lines : Seen → List (Bool × Fate)
 teredo_lines a =
-    (a.embedded_here && not a.room, fate.PeersFull)
+    (a.embedded_here && not a.peer.room, fate.PeersFull)
     ∷ (a.embedded_here && a.bubble, fate.Rule3Bubble)
     ∷ (a.embedded_here, fate.Rule3)
     ∷ (a.teredo, fate.Mismatch)
     ∷ []
 
+-- neither a bubble nor an answer to a test
+abbrev pub is_plain : Seen → Bool
+is_plain a = not a.bubble && not a.echo_reply
+
+-- from an address that may be tested
+abbrev pub is_testable : Seen → Bool
+is_testable a = a.global && (not a.peer.fresh && (not a.peer.barred && (a.peer.room && is_plain a)))
+
+-- from one that is being tested
+abbrev pub is_under_test : Seen → Bool
+is_under_test a = a.global && (a.peer.listed && (not a.peer.fresh && (a.peer.barred && (a.peer.tested && is_plain a))))
+
 -- all others: rule 6
 abbrev pub suspicious_lines : Seen → List (Bool × Fate)
 suspicious_lines a =
-    (a.global && (not a.fresh && (not a.barred && (a.room && (not a.bubble && not a.echo_reply)))), fate.SuspiciousTest)
+    (is_testable a && not a.peer.holds_most, fate.HeldTest)
+    ∷ (is_testable a, fate.SuspiciousTest)
+    ∷ (is_under_test a && not a.peer.holds_most, fate.Held)
     ∷ []
 
 -- the lines on packets that come from a peer itself
@@ -184,24 +212,30 @@ reception_fate s a from x = reception_row (seen s a from x) (advert_row s a.qual
 abbrev pub hands_over : Fate → List ℕ → Value → Ep → Peer → Step
 hands_over fate x v from peer = record (sending fate (releases from peer.waiting)) { handed = Some (rest_of v.lead.at x) }
 
+-- the packets that are held and came from there go to the host, in order; the others are dropped
+abbrev pub hands_late : Ep → Peer → Step
+hands_late from peer = record (sending fate.Rule2 (releases from peer.waiting)) { late = held_from from peer.held; gone = held_elsewhere from peer.held }
+
 -- a direct bubble to the origin
 abbrev pub answers_bubble : Settings → Standing → Value → Step
 answers_bubble s a v = sending fate.Indirect (map (direct_bubble (own_address a.qualification) v.packet.src) (option_to_list (origin_in v.lead)))
 
-abbrev pub tests_source : Settings → Standing → Value → Words → Step
-tests_source s a v w = record (sending fate.SuspiciousTest (test s (own_address a.qualification) v.packet.src (nonce_from w) ∷ [])) { drawn = 2 }
+-- a test to the packet's source
+abbrev pub tests_source : Fate → Settings → Standing → Value → Words → Step
+tests_source fate s a v w = record (sending fate (test s (own_address a.qualification) v.packet.src (nonce_from w) ∷ [])) { drawn = 2 }
 
 abbrev pub reception_step : Settings → Standing → Ep → List ℕ → Value → Words → Fate → Step
 reception_step s a from x v w fate.QualifiedCone = record (just fate.QualifiedCone) { drawn = advert_words s fate.QualifiedCone }
 reception_step s a from x v w fate.QualifiedRestricted = record (just fate.QualifiedRestricted) { drawn = advert_words s fate.QualifiedRestricted }
 reception_step s a from x v w fate.Changed = record (just fate.Changed) { gone = a.waiting; drawn = advert_words s fate.Changed }
 reception_step s a from x v w fate.Indirect = answers_bubble s a v
-reception_step s a from x v w fate.Rule1 = hands_over fate.Rule1 x v from (known_in a)
-reception_step s a from x v w fate.Rule1Bubble = sending fate.Rule1Bubble (releases from (known_in a).waiting)
-reception_step s a from x v w fate.Rule2 = sending fate.Rule2 (releases from (known_in a).waiting)
+reception_step s a from x v w fate.Rule1 = record (hands_over fate.Rule1 x v from (known_in a)) { gone = length (known_in a).held }
+reception_step s a from x v w fate.Rule1Bubble = record (sending fate.Rule1Bubble (releases from (known_in a).waiting)) { gone = length (known_in a).held }
+reception_step s a from x v w fate.Rule2 = hands_late from (known_in a)
 reception_step s a from x v w fate.Rule3 = hands_over fate.Rule3 x v from (known_in a)
 reception_step s a from x v w fate.Rule3Bubble = sending fate.Rule3Bubble (releases from (known_in a).waiting)
-reception_step s a from x v w fate.SuspiciousTest = tests_source s a v w
+reception_step s a from x v w fate.HeldTest = tests_source fate.HeldTest s a v w
+reception_step s a from x v w fate.SuspiciousTest = tests_source fate.SuspiciousTest s a v w
 reception_step s a from x v w fate = just fate
 
 -- what a client does with a datagram x from `from`, standing so to the packet's source

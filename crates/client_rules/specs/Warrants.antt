@@ -42,8 +42,8 @@ pub record IsIndirect (a : Seen) : Type 0 where
   pub server : a.from_server ≡ true
   pub bubble : a.bubble ≡ true
   pub origin : a.good_origin ≡ true
-  pub room : a.room ≡ true
-  pub unbarred : a.barred ≡ false
+  pub room : a.peer.room ≡ true
+  pub unbarred : a.peer.barred ≡ false
 
 -- a packet that came from a peer itself
 pub record IsDirect (a : Seen) : Type 0 where
@@ -53,37 +53,52 @@ pub record IsDirect (a : Seen) : Type 0 where
 -- rule 1: of a peer that is trusted there
 pub record IsTrusted (bubble : Bool) (a : Seen) : Type 0 where
   pub direct : IsDirect a
-  pub trusted : a.trusted_here ≡ true
+  pub trusted : a.peer.trusted_here ≡ true
   pub kind : a.bubble ≡ bubble
 
 -- rule 2: an echo reply that answers the test of a listed native
 pub record IsTested (a : Seen) : Type 0 where
   pub direct : IsDirect a
-  pub untrusted : a.trusted_here ≡ false
+  pub untrusted : a.peer.trusted_here ≡ false
   pub native : a.teredo ≡ false
-  pub listed : a.listed ≡ true
-  pub stale : a.fresh ≡ false
-  pub reply : a.reply ≡ true
+  pub listed : a.peer.listed ≡ true
+  pub stale : a.peer.fresh ≡ false
+  pub reply : a.peer.reply ≡ true
 
 -- rule 3: of another client, from where its address says
 pub record IsEmbedded (bubble : Bool) (a : Seen) : Type 0 where
   pub direct : IsDirect a
-  pub untrusted : a.trusted_here ≡ false
+  pub untrusted : a.peer.trusted_here ≡ false
   pub embedded : a.embedded_here ≡ true
-  pub room : a.room ≡ true
+  pub room : a.peer.room ≡ true
   pub kind : a.bubble ≡ bubble
 
--- rule 6: of an unknown native, which is tested
-pub record IsSuspect (a : Seen) : Type 0 where
+-- rule 6: of an unknown native, which is tested; whether so many packets are held for it that this one isn't
+pub record IsSuspect (full : Bool) (a : Seen) : Type 0 where
   pub direct : IsDirect a
-  pub untrusted : a.trusted_here ≡ false
+  pub untrusted : a.peer.trusted_here ≡ false
   pub native : a.teredo ≡ false
   pub global : a.global ≡ true
-  pub stale : a.fresh ≡ false
-  pub unbarred : a.barred ≡ false
-  pub room : a.room ≡ true
+  pub stale : a.peer.fresh ≡ false
+  pub unbarred : a.peer.barred ≡ false
+  pub room : a.peer.room ≡ true
   pub no_bubble : a.bubble ≡ false
   pub no_reply : a.echo_reply ≡ false
+  pub kept : a.peer.holds_most ≡ full
+
+-- rule 6: of a native that is being tested
+pub record IsUnderTest (a : Seen) : Type 0 where
+  pub direct : IsDirect a
+  pub untrusted : a.peer.trusted_here ≡ false
+  pub native : a.teredo ≡ false
+  pub global : a.global ≡ true
+  pub listed : a.peer.listed ≡ true
+  pub stale : a.peer.fresh ≡ false
+  pub barred : a.peer.barred ≡ true
+  pub tested : a.peer.tested ≡ true
+  pub no_bubble : a.bubble ≡ false
+  pub no_reply : a.echo_reply ≡ false
+  pub kept : a.peer.holds_most ≡ false
 
 -- what was seen of a datagram with this fate; drops say nothing
 abbrev pub ReceivedOnlyIf : Fate → Seen → Heard → Type 0
@@ -99,7 +114,9 @@ ReceivedOnlyIf fate.Rule1Bubble a h = IsTrusted true a
 ReceivedOnlyIf fate.Rule2 a h = IsTested a
 ReceivedOnlyIf fate.Rule3 a h = IsEmbedded false a
 ReceivedOnlyIf fate.Rule3Bubble a h = IsEmbedded true a
-ReceivedOnlyIf fate.SuspiciousTest a h = IsSuspect a
+ReceivedOnlyIf fate.HeldTest a h = IsSuspect false a
+ReceivedOnlyIf fate.SuspiciousTest a h = IsSuspect true a
+ReceivedOnlyIf fate.Held a h = IsUnderTest a
 ReceivedOnlyIf _ a h = Unit {0}
 
 -- PACKETS OF THE HOST

@@ -2,7 +2,7 @@
 ghost use Rattle.client_rules.specs.Laws.{FateOfReception, FateOfTransmission, ReceptionIsWarranted, TransmissionIsWarranted, NextMentions, TriesTouch, JournalIsTried, JournalHasFew};
 ghost use Rattle.client_rules.specs.Epochs.{QualifiedHasAddress, QualifiedStays, QueuedIsOwn, NoneQueued, WaitingIsOwn, WaitingWasHandedIn, TrustedIsEmbedded};
 ghost use Rattle.client_rules.specs.Sendings.{EachSend};
-ghost use Rattle.client_rules.specs.Handed.{EachHanded};
+ghost use Rattle.client_rules.specs.Handed.{EachHanded, EachLate};
 ghost use Rattle.client_rules.specs.MadeSends.{EachSendIsBytes};
 
 /// What is done with a datagram has the fate of its line.
@@ -118,6 +118,13 @@ pub fn each_handed()
 {
     qualified_has_address();
     trusted_is_embedded();
+}
+
+/// What is handed over late was held, when it came from where the answer to the test came from.
+pub fn each_late()
+    ensures { EachLate }
+{
+    peer_list::one_entry();
 }
 
 /// What a client sends are bytes, where what it was given are.

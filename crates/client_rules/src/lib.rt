@@ -36,7 +36,7 @@ mod laws;
 mod limits;
 
 pub use laws::{
-    each_handed, each_send, each_send_is_bytes, fate_of_reception, fate_of_transmission,
+    each_handed, each_late, each_send, each_send_is_bytes, fate_of_reception, fate_of_transmission,
     journal_has_few, journal_is_tried, next_mentions, none_queued, qualified_has_address,
     qualified_stays, queued_is_own, reception_is_warranted, transmission_is_warranted, tries_touch,
     trusted_is_embedded, waiting_is_own, waiting_was_handed_in,
