@@ -1,12 +1,12 @@
 -- What is done with a payload by one line.
-use Rattle.std.proofs.Common.{◌≡◌, ◌≤◌, ◌+◌, ◌-◌, ℕ, false, List, [], ◌∷◌, length, Option, Some, None, refl, ap, sym, subst, arith}
-use Rattle.std.specs.Prelude.{map, option_to_list}
+use Rattle.std.proofs.Common.{◌≡◌, ◌≤◌, ◌+◌, ◌-◌, ◌∙◌, ℕ, false, List, [], ◌∷◌, length, Option, Some, None, refl, ap, sym, subst, arith}
+use Rattle.std.specs.Prelude.{true, map, option_to_list, is_some}
 use Rattle.std.proofs.Math.Nat.{le_refl}
-use Rattle.td_base.specs.declared.ipv6.Ip6.{Ip6}
+use Rattle.ipv6_packet.specs.Packets.{packet_bytes}
+use Rattle.bubble.specs.PacketsIn.{packet_in}
 use Rattle.td_base.specs.declared.endpoint.Ep.{Ep}
 use Rattle.td_base.specs.declared.span.Span.{Span}
 use Rattle.indications.specs.Leads.{origin_in}
-use Rattle.bubble.specs.PayloadOf.{IsPayloadOf}
 use Rattle.bubble.specs.Payloads.{Value}
 use Rattle.teredo_node.specs.declared.fate.Fate.{Fate}
 use Rattle.teredo_node.specs.declared.fate.Fate.TheVariants as fate
@@ -14,21 +14,22 @@ use Rattle.teredo_node.specs.Step.{Step, just, rest_of}
 use Rattle.teredo_node.specs.Sends.{sending, releases}
 use Rattle.teredo_node.specs.Words.{nonce_from}
 use Rattle.teredo_node.specs.Journal.{Entry, Journal, is_changed, with_entry}
+use Rattle.peer_list.specs.Mentions.{Bearing, no_bearing}
 use Rattle.peer_list.specs.Peers.{Peer}
 use Rattle.peer_list.specs.Laws.{after}
-use Rattle.peer_list.specs.Table.{known_to}
-use Rattle.peer_list.specs.Calls.{Updates, trusted_at, heard_at, tried_at}
+use Rattle.peer_list.specs.Table.{peer_in, known_to}
+use Rattle.peer_list.specs.Calls.{Updates, trusted_at, heard_at, tried_at, held_at}
 use Rattle.peer_list.specs.Stands.{bears_nothing}
 use Rattle.qualify.specs.Turns.{turn, says_nothing}
 use Rattle.qualify.specs.Generator.{after_words}
 use Rattle.qualify.specs.Qualifier.{QualifierState, StandsFor, IsOfServer}
 use Rattle.qualify.specs.Solicitations.{own_address}
 use Rattle.client_core.specs.declared.client.Client.{Client}
-use Rattle.client_rules.specs.Bearings.{mention}
-use Rattle.client_rules.specs.Tries.{direct_bubble, test}
-use Rattle.client_rules.specs.Reception.{reception_step}
-use Rattle.client_core.specs.Client.{settings_of, words_ahead, standing_in, TakesPayload, entry_about}
-use Rattle.client_core.specs.Lines.{DropsDatagram}
+use Rattle.client_rules.specs.Bearings.{held_of, mention}
+use Rattle.client_rules.specs.Tries.{direct_bubble}
+use Rattle.client_rules.specs.Reception.{hands_late, reception_step}
+use Rattle.client_core.specs.Client.{settings_of, words_ahead, standing_in, IsDatagramOf, TakesPayload, entry_about}
+use Rattle.client_core.specs.Lines.{DropsDatagram, tested, OnlyPeers}
 use Rattle.client_core.specs.Below.{BelowClient}
 use Rattle.client_core.proofs.Entered.{Bears, bears_enters, peers_on, none_enters}
 
@@ -36,27 +37,27 @@ use Rattle.client_core.proofs.Entered.{Bears, bears_enters, peers_on, none_enter
 pub record Acts (old : Client) (n : ℕ) (from : Ep) (v : Value) (step : Step) (peer : Peer) (new : Client) : Type 0 where
   pub clock : old.peers.moment ≤ n
   pub peers : Updates old.peers new.peers n v.packet.src peer
-  pub means : (x : List ℕ) → after (mention (entry_about old n from x v.packet.src step)) (known_to old.peers n v.packet.src) ≡ peer
+  pub means : (x : List ℕ) → IsDatagramOf x v → after (mention (entry_about old n from x v.packet.src step)) (known_to old.peers n v.packet.src) ≡ peer
   pub epoch : is_changed step.fate ≡ false
   pub quiet : turn step.fate ≡ says_nothing
   pub qualifier : new.qualifier ≡ old.qualifier
   pub place : new.rng ≡ after_words step.drawn old.rng
 
 bears : (old new : Client) (n : ℕ) (from : Ep) (v : Value) (step : Step) (peer : Peer) → Acts old n from v step peer new
-    → (x : List ℕ) → Bears old (entry_about old n from x v.packet.src step) v.packet.src new
-bears old new n from v step peer a x = record {
-  of_peer = record { peer = refl; epoch = a.epoch; clock = a.clock; peers = subst (λ (p : Peer). Updates old.peers new.peers n v.packet.src p) (sym (a.means x)) a.peers };
+    → (x : List ℕ) → IsDatagramOf x v → Bears old (entry_about old n from x v.packet.src step) v.packet.src new
+bears old new n from v step peer a x is = record {
+  of_peer = record { peer = refl; epoch = a.epoch; clock = a.clock; peers = subst (λ (p : Peer). Updates old.peers new.peers n v.packet.src p) (sym (a.means x is)) a.peers };
   quiet = a.quiet;
   qualifier = a.qualifier;
   place = a.place;
 }
 
 pub acts_receives : (law : BelowClient) (old new : Client) (n : ℕ) (from : Ep) (v : Value) (f : Fate) (step : Step) (peer : Peer) → Acts old n from v step peer new
-    → ((x : List ℕ) → IsPayloadOf x v → step ≡ reception_step (settings_of old) (standing_in old n v.packet.src) from x v (words_ahead old) f)
+    → ((x : List ℕ) → IsDatagramOf x v → step ≡ reception_step (settings_of old) (standing_in old n v.packet.src) from x v (words_ahead old) f)
     → TakesPayload old n from v f step new
 acts_receives law old new n from v f step peer a did = record {
   did = λ j x h is. did x is;
-  stands = λ j x h is. (bears_enters law old new (entry_about old n from x v.packet.src step) v.packet.src (bears old new n from v step peer a x)).stands j h;
+  stands = λ j x h is. (bears_enters law old new (entry_about old n from x v.packet.src step) v.packet.src (bears old new n from v step peer a x is)).stands j h;
   place = a.place;
   settings = ap (λ (q : QualifierState). q.settings) a.qualifier;
   clock = subst (λ (m : ℕ). m ≤ n) (sym a.peers.moment) (le_refl n);
@@ -80,9 +81,9 @@ drops law c n from v f l d = record {
 }
 
 -- the rest of a datagram is its packet
-rest_is : (x : List ℕ) (v : Value) → IsPayloadOf x v → rest_of v.lead.at x ≡ record { at = v.lead.at; len = 40 + length v.packet.body }
+rest_is : (x : List ℕ) (v : Value) → IsDatagramOf x v → rest_of v.lead.at x ≡ record { at = v.lead.at; len = 40 + length v.packet.body }
 rest_is x v is =
-    let len : length x - v.lead.at ≡ 40 + length v.packet.body = omega (arith, is.inside) in
+    let len : length x - v.lead.at ≡ 40 + length v.packet.body = omega (arith, is.of.inside) in
     ap (λ (n : ℕ). record { at = v.lead.at; len = n }) len
 
 abbrev pub heard : Client → ℕ → Value → Peer
@@ -94,49 +95,48 @@ trusted c n from v = heard_at n (trusted_at n from (known_to c.peers n v.packet.
 abbrev pub released : Client → ℕ → Ep → Value → Fate → Step
 released c n from v f = sending f (releases from (known_to c.peers n v.packet.src).waiting)
 
+abbrev pub heard_there : Client → ℕ → Ep → Value → Fate → Step
+heard_there c n from v f = record (released c n from v f) { gone = length (known_to c.peers n v.packet.src).held }
+
 abbrev pub handed_over : Client → ℕ → Ep → Value → Fate → Step
 handed_over c n from v f = record (released c n from v f) { handed = Some (record { at = v.lead.at; len = 40 + length v.packet.body }) }
 
--- the peers after a reception, and all else as it was
-pub record OnlyPeers (old : Client) (n : ℕ) (who : Ip6) (peer : Peer) (new : Client) : Type 0 where
-  pub clock : old.peers.moment ≤ n
-  pub peers : Updates old.peers new.peers n who peer
-  pub qualifier : new.qualifier ≡ old.qualifier
-  pub rng : new.rng ≡ old.rng
+abbrev pub handed_there : Client → ℕ → Ep → Value → Step
+handed_there c n from v = record (heard_there c n from v fate.Rule1) { handed = Some (record { at = v.lead.at; len = 40 + length v.packet.body }) }
 
-pub rule1 : (law : BelowClient) (old new : Client) (n : ℕ) (from : Ep) (v : Value) → OnlyPeers old n v.packet.src (heard old n v) new → TakesPayload old n from v fate.Rule1 (handed_over old n from v fate.Rule1) new
+pub rule1 : (law : BelowClient) (old new : Client) (n : ℕ) (from : Ep) (v : Value) → OnlyPeers old n v.packet.src (heard old n v) new → TakesPayload old n from v fate.Rule1 (handed_there old n from v) new
 unfolding after_words
 rule1 law old new n from v o =
-    acts_receives law old new n from v fate.Rule1 (handed_over old n from v fate.Rule1) (heard old n v)
-    (record { clock = o.clock; peers = o.peers; means = λ x. (law.peers.calls_of_an_entry n (known_to old.peers n v.packet.src) (Some v.packet.src)).hear; epoch = refl; quiet = refl; qualifier = o.qualifier; place = o.rng })
-    (λ x is. ap (λ (s : Span). record (released old n from v fate.Rule1) { handed = Some s }) (sym (rest_is x v is)))
+    acts_receives law old new n from v fate.Rule1 (handed_there old n from v) (heard old n v)
+    (record { clock = o.clock; peers = o.peers; means = λ x is. (law.peers.calls_of_an_entry n (known_to old.peers n v.packet.src) (Some v.packet.src)).hear; epoch = refl; quiet = refl; qualifier = o.qualifier; place = o.rng })
+    (λ x is. ap (λ (s : Span). record (heard_there old n from v fate.Rule1) { handed = Some s }) (sym (rest_is x v is)))
 
-pub rule1_bubble : (law : BelowClient) (old new : Client) (n : ℕ) (from : Ep) (v : Value) → OnlyPeers old n v.packet.src (heard old n v) new → TakesPayload old n from v fate.Rule1Bubble (released old n from v fate.Rule1Bubble) new
+pub rule1_bubble : (law : BelowClient) (old new : Client) (n : ℕ) (from : Ep) (v : Value) → OnlyPeers old n v.packet.src (heard old n v) new → TakesPayload old n from v fate.Rule1Bubble (heard_there old n from v fate.Rule1Bubble) new
 unfolding after_words
 rule1_bubble law old new n from v o =
-    acts_receives law old new n from v fate.Rule1Bubble (released old n from v fate.Rule1Bubble) (heard old n v)
-    (record { clock = o.clock; peers = o.peers; means = λ x. (law.peers.calls_of_an_entry n (known_to old.peers n v.packet.src) (Some v.packet.src)).hear; epoch = refl; quiet = refl; qualifier = o.qualifier; place = o.rng })
+    acts_receives law old new n from v fate.Rule1Bubble (heard_there old n from v fate.Rule1Bubble) (heard old n v)
+    (record { clock = o.clock; peers = o.peers; means = λ x is. (law.peers.calls_of_an_entry n (known_to old.peers n v.packet.src) (Some v.packet.src)).hear; epoch = refl; quiet = refl; qualifier = o.qualifier; place = o.rng })
     (λ x is. refl)
 
-pub rule2 : (law : BelowClient) (old new : Client) (n : ℕ) (from : Ep) (v : Value) → OnlyPeers old n v.packet.src (trusted old n from v) new → TakesPayload old n from v fate.Rule2 (released old n from v fate.Rule2) new
+pub rule2 : (law : BelowClient) (old new : Client) (n : ℕ) (from : Ep) (v : Value) → OnlyPeers old n v.packet.src (trusted old n from v) new → TakesPayload old n from v fate.Rule2 (hands_late from (known_to old.peers n v.packet.src)) new
 unfolding after_words
 rule2 law old new n from v o =
-    acts_receives law old new n from v fate.Rule2 (released old n from v fate.Rule2) (trusted old n from v)
-    (record { clock = o.clock; peers = o.peers; means = λ x. (law.peers.calls_of_an_entry n (known_to old.peers n v.packet.src) (Some v.packet.src)).trust_and_hear from; epoch = refl; quiet = refl; qualifier = o.qualifier; place = o.rng })
+    acts_receives law old new n from v fate.Rule2 (hands_late from (known_to old.peers n v.packet.src)) (trusted old n from v)
+    (record { clock = o.clock; peers = o.peers; means = λ x is. (law.peers.calls_of_an_entry n (known_to old.peers n v.packet.src) (Some v.packet.src)).trust_and_hear from; epoch = refl; quiet = refl; qualifier = o.qualifier; place = o.rng })
     (λ x is. refl)
 
 pub rule3 : (law : BelowClient) (old new : Client) (n : ℕ) (from : Ep) (v : Value) → OnlyPeers old n v.packet.src (trusted old n from v) new → TakesPayload old n from v fate.Rule3 (handed_over old n from v fate.Rule3) new
 unfolding after_words
 rule3 law old new n from v o =
     acts_receives law old new n from v fate.Rule3 (handed_over old n from v fate.Rule3) (trusted old n from v)
-    (record { clock = o.clock; peers = o.peers; means = λ x. (law.peers.calls_of_an_entry n (known_to old.peers n v.packet.src) (Some v.packet.src)).trust_and_hear from; epoch = refl; quiet = refl; qualifier = o.qualifier; place = o.rng })
+    (record { clock = o.clock; peers = o.peers; means = λ x is. (law.peers.calls_of_an_entry n (known_to old.peers n v.packet.src) (Some v.packet.src)).trust_and_hear from; epoch = refl; quiet = refl; qualifier = o.qualifier; place = o.rng })
     (λ x is. ap (λ (s : Span). record (released old n from v fate.Rule3) { handed = Some s }) (sym (rest_is x v is)))
 
 pub rule3_bubble : (law : BelowClient) (old new : Client) (n : ℕ) (from : Ep) (v : Value) → OnlyPeers old n v.packet.src (trusted old n from v) new → TakesPayload old n from v fate.Rule3Bubble (released old n from v fate.Rule3Bubble) new
 unfolding after_words
 rule3_bubble law old new n from v o =
     acts_receives law old new n from v fate.Rule3Bubble (released old n from v fate.Rule3Bubble) (trusted old n from v)
-    (record { clock = o.clock; peers = o.peers; means = λ x. (law.peers.calls_of_an_entry n (known_to old.peers n v.packet.src) (Some v.packet.src)).trust_and_hear from; epoch = refl; quiet = refl; qualifier = o.qualifier; place = o.rng })
+    (record { clock = o.clock; peers = o.peers; means = λ x is. (law.peers.calls_of_an_entry n (known_to old.peers n v.packet.src) (Some v.packet.src)).trust_and_hear from; epoch = refl; quiet = refl; qualifier = o.qualifier; place = o.rng })
     (λ x is. refl)
 
 -- a bubble through the server, which goes back to this origin
@@ -166,13 +166,69 @@ indirect law old new n from v to a = record {
   clock = subst (λ (m : ℕ). m ≤ n) (sym a.peers.moment) (le_refl n);
 }
 
-abbrev pub tested : Client → Ip6 → Step
-tested c p = record (sending fate.SuspiciousTest (test (settings_of c) (own_address c.qualifier.now) p (nonce_from (words_ahead c)) ∷ [])) { drawn = 2 }
+-- RULE 6
 
+-- a test of the source, of which no packet more may be held
 pub suspicious_test : (law : BelowClient) (old new : Client) (n : ℕ) (from : Ep) (v : Value) → old.peers.moment ≤ n
     → Updates old.peers new.peers n v.packet.src (tried_at n (Some (nonce_from (words_ahead old))) (known_to old.peers n v.packet.src))
-    → new.qualifier ≡ old.qualifier → new.rng ≡ after_words 2 old.rng → TakesPayload old n from v fate.SuspiciousTest (tested old v.packet.src) new
+    → new.qualifier ≡ old.qualifier → new.rng ≡ after_words 2 old.rng → TakesPayload old n from v fate.SuspiciousTest (tested old v.packet.src fate.SuspiciousTest) new
 suspicious_test law old new n from v l u q g =
-    acts_receives law old new n from v fate.SuspiciousTest (tested old v.packet.src) (tried_at n (Some (nonce_from (words_ahead old))) (known_to old.peers n v.packet.src))
-    (record { clock = l; peers = u; means = λ x. (law.peers.calls_of_an_entry n (known_to old.peers n v.packet.src) (Some v.packet.src)).tried (Some (nonce_from (words_ahead old))); epoch = refl; quiet = refl; qualifier = q; place = g })
+    acts_receives law old new n from v fate.SuspiciousTest (tested old v.packet.src fate.SuspiciousTest) (tried_at n (Some (nonce_from (words_ahead old))) (known_to old.peers n v.packet.src))
+    (record { clock = l; peers = u; means = λ x is. (law.peers.calls_of_an_entry n (known_to old.peers n v.packet.src) (Some v.packet.src)).tried (Some (nonce_from (words_ahead old))); epoch = refl; quiet = refl; qualifier = q; place = g })
+    (λ x is. refl)
+
+-- a packet of a payload from there
+abbrev pub held_here : Client → ℕ → Ep → Value → Peer
+held_here c n from v = held_at n from (packet_bytes v.packet) (known_to c.peers n v.packet.src)
+
+-- the mention of a packet is that of the payload's
+holds_here : (x : List ℕ) (v : Value) (from : Ep) (call : Bearing → Bearing) (n : ℕ) (p peer : Peer) → packet_in x ≡ Some (packet_bytes v.packet)
+    → after (record { moment = n; peer = Some v.packet.src; bearing = record (call no_bearing) { holds = Some (record { from = from; packet = packet_bytes v.packet }) } }) p ≡ peer
+    → after (record { moment = n; peer = Some v.packet.src; bearing = record (call no_bearing) { holds = held_of (Some from) (packet_in x) } }) p ≡ peer
+holds_here x v from call n p peer is h =
+    ap (λ (o : Option (List ℕ)). after (record { moment = n; peer = Some v.packet.src; bearing = record (call no_bearing) { holds = held_of (Some from) o } }) p) is ∙ h
+
+abbrev tries_with : ℕ → Bearing → Bearing
+tries_with nonce b = record b { touches = true; tries = true; nonce = Some nonce }
+
+abbrev as_it_is : Bearing → Bearing
+as_it_is b = b
+
+-- a packet is held, and its source is tested
+pub held_test : (law : BelowClient) (old new : Client) (n : ℕ) (from : Ep) (v : Value) → old.peers.moment ≤ n
+    → Updates old.peers new.peers n v.packet.src (tried_at n (Some (nonce_from (words_ahead old))) (held_here old n from v))
+    → new.qualifier ≡ old.qualifier → new.rng ≡ after_words 2 old.rng → TakesPayload old n from v fate.HeldTest (tested old v.packet.src fate.HeldTest) new
+held_test law old new n from v l u q g =
+    let nonce : ℕ = nonce_from (words_ahead old) in
+    let known : Peer = known_to old.peers n v.packet.src in
+    acts_receives law old new n from v fate.HeldTest (tested old v.packet.src fate.HeldTest) (tried_at n (Some nonce) (held_here old n from v))
+    (record {
+      clock = l;
+      peers = u;
+      means = λ x is. holds_here x v from (tries_with nonce) n known (tried_at n (Some nonce) (held_here old n from v)) is.packet
+          ((law.peers.calls_of_an_entry n known (Some v.packet.src)).hold_tried from (packet_bytes v.packet) (Some nonce));
+      epoch = refl;
+      quiet = refl;
+      qualifier = q;
+      place = g;
+    })
+    (λ x is. refl)
+
+-- a further packet of a source that is being tested
+pub held : (law : BelowClient) (old new : Client) (n : ℕ) (from : Ep) (v : Value) → is_some (peer_in old.peers n v.packet.src) ≡ true
+    → OnlyPeers old n v.packet.src (held_here old n from v) new → TakesPayload old n from v fate.Held (just fate.Held) new
+unfolding after_words
+held law old new n from v listed o =
+    let known : Peer = known_to old.peers n v.packet.src in
+    acts_receives law old new n from v fate.Held (just fate.Held) (held_here old n from v)
+    (record {
+      clock = o.clock;
+      peers = o.peers;
+      means = λ x is. holds_here x v from as_it_is n known (held_here old n from v) is.packet
+          ((law.peers.calls_of_an_entry n known (Some v.packet.src)).hold from (packet_bytes v.packet) (law.peers.found_is_listed old.peers n v.packet.src listed));
+      epoch = refl;
+      quiet = refl;
+      qualifier = o.qualifier;
+      place = o.rng;
+    })
     (λ x is. refl)

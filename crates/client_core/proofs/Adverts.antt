@@ -2,7 +2,6 @@
 use Rattle.std.proofs.Common.{◌≡◌, ◌≤◌, ℕ, Bool, true, false, List, [], refl, ap, sym, subst, ◌∙◌}
 use Rattle.std.specs.Prelude.{if◌then◌else◌, not}
 use Rattle.td_base.specs.declared.endpoint.Ep.{Ep}
-use Rattle.bubble.specs.PayloadOf.{IsPayloadOf}
 use Rattle.bubble.specs.Payloads.{Value}
 use Rattle.indications.specs.Leads.{origin_in}
 use Rattle.teredo_node.specs.declared.fate.Fate.{Fate}
@@ -24,7 +23,7 @@ use Rattle.client_core.specs.declared.client.Client.{Client}
 use Rattle.client_rules.specs.Bearings.{mentions, bearing_of}
 use Rattle.client_rules.specs.Standing.{Standing}
 use Rattle.client_rules.specs.Reception.{reception_step}
-use Rattle.client_core.specs.Client.{settings_of, words_ahead, standing_in, TakesPayload, entry_about}
+use Rattle.client_core.specs.Client.{settings_of, words_ahead, standing_in, IsDatagramOf, TakesPayload, entry_about}
 use Rattle.client_core.specs.Below.{BelowClient}
 use Rattle.client_core.proofs.Entered.{peers_idle, changed}
 
@@ -130,11 +129,11 @@ fate_now : (old new : Client) (n : ℕ) (from : Ep) (v : Value) (f : Fate) → T
 fate_now old new n from v f t j h = subst (λ (g : Fate). AdvertFate g) (sym (row_now old new n from v f t j h)) (advert_fate (settings_of old) old.qualifier.now from v)
 
 -- the entry of it
-of_advert : (old : Client) (n : ℕ) (from : Ep) (v : Value) (step : Step) (x : List ℕ) → IsPayloadOf x v → step.drawn ≡ advert_words (settings_of old) step.fate
+of_advert : (old : Client) (n : ℕ) (from : Ep) (v : Value) (step : Step) (x : List ℕ) → IsDatagramOf x v → step.drawn ≡ advert_words (settings_of old) step.fate
     → IsOfAdvert (settings_of old) n v step.fate (words_ahead old) (entry_about old n from x v.packet.src step)
 of_advert old n from v step x is drawn = record {
   moment = refl;
-  origin = ap (λ (u : Value). origin_in u.lead) is.value;
+  origin = ap (λ (u : Value). origin_in u.lead) is.of.value;
   became = refl;
   words = ap (λ (k : ℕ). drawn_words k (words_ahead old)) drawn;
 }

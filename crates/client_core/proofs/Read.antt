@@ -1,10 +1,12 @@
 -- What a client reads of itself is what each journal says that it stands for.
 use Rattle.std.proofs.Common.{◌≡◌, ◌≤◌, ℕ, Bool, true, false, List, Option, Some, None, refl, ap, sym, subst, ◌∙◌}
-use Rattle.std.specs.Prelude.{unwrap_or, is_some, if◌then◌else◌}
+use Rattle.std.specs.Prelude.{drop, unwrap_or, is_some, if◌then◌else◌}
+use Rattle.td_base.specs.Bytes.{IsBytes}
 use Rattle.td_base.specs.declared.ipv6.Ip6.{Ip6}
 use Rattle.td_base.specs.declared.endpoint.Ep.{Ep}
 use Rattle.teredo_addr.specs.Teredo.{unspecified}
-use Rattle.bubble.specs.PayloadOf.{IsPayloadOf}
+use Rattle.ipv6_packet.specs.Packets.{packet_bytes}
+use Rattle.bubble.specs.Laws.{PayloadIsSpelled}
 use Rattle.bubble.specs.Payloads.{Value}
 use Rattle.bubble.specs.Reads.{is_payload, value_in}
 use Rattle.bubble.specs.PacketsIn.{source_in, packet_in}
@@ -22,7 +24,7 @@ use Rattle.client_rules.specs.Bearings.{mentions}
 use Rattle.client_rules.specs.Standing.{Standing, standing_at, standing_of}
 use Rattle.client_rules.specs.Reception.{seen_of, seen, reception_row, reception_fate, reception_step, reception}
 use Rattle.client_rules.specs.Journals.{entry, client_in}
-use Rattle.client_core.specs.Client.{settings_of, words_ahead, standing_in, ClientStandsFor, Does, TakesPayload, KeepsPlace, WantsPlace, lists, fate_in}
+use Rattle.client_core.specs.Client.{settings_of, words_ahead, standing_in, ClientStandsFor, Does, TakesPayload, IsDatagramOf, KeepsPlace, WantsPlace, TakesRoom, fate_in}
 use Rattle.client_core.specs.Below.{BelowClient}
 use Rattle.client_core.proofs.Entered.{none_enters}
 
@@ -37,6 +39,14 @@ standing_is law c j n p h l =
     λ i. record { moment = n; qualification = q i; peer = r.peer p i; room = r.room p i; waiting = r.waiting i }
 
 -- DATAGRAMS
+
+-- what stands behind the indications is the packet
+pub packet_of : PayloadIsSpelled → (x : List ℕ) (v : Value) → IsBytes x → is_payload x ≡ true → value_in x ≡ v → drop v.lead.at x ≡ packet_bytes v.packet
+packet_of law x v bytes payload value = subst (λ (u : Value). drop u.lead.at x ≡ packet_bytes u.packet) value (law x bytes payload).packet
+
+pub packet_there : (x : List ℕ) (v : Value) → is_payload x ≡ true → value_in x ≡ v → drop v.lead.at x ≡ packet_bytes v.packet → packet_in x ≡ Some (packet_bytes v.packet)
+unfolding packet_in
+packet_there x v payload value is = (λ i. if payload i then Some (drop (value i).lead.at x) else None) ∙ ap Some is
 
 source_there : (x : List ℕ) (v : Value) → is_payload x ≡ true → value_in x ≡ v → source_in x ≡ Some v.packet.src
 unfolding source_in
@@ -55,16 +65,16 @@ step_there law c j n from x v h l payload value =
     ap (λ (b : Standing). reception (settings_of c) b from x (words_ahead c)) a
     ∙ reception_by (settings_of c) (standing_in c n v.packet.src) from x v (words_ahead c) true payload value
 
-pub received : (law : BelowClient) (old new : Client) (n : ℕ) (from : Ep) (x : List ℕ) (v : Value) (step : Step) → is_payload x ≡ true → IsPayloadOf x v → old.peers.moment ≤ n
+pub received : (law : BelowClient) (old new : Client) (n : ℕ) (from : Ep) (x : List ℕ) (v : Value) (step : Step) → is_payload x ≡ true → IsDatagramOf x v → old.peers.moment ≤ n
     → TakesPayload old n from v (fate_in old n from v) step new → Does old n (arrived from x) step new
 unfolding client_in
 received law old new n from x v step payload is l r =
     let did : (j : Journal) → ClientStandsFor old j → step ≡ reception (settings_of old) (standing_of (settings_of old) j n (source_in x)) from x (words_ahead old) =
-    (λ j h. r.did j x h is ∙ sym (step_there law old j n from x v h l payload is.value)) in
+    (λ j h. r.did j x h is ∙ sym (step_there law old j n from x v h l payload is.of.value)) in
     record {
       did = did;
       stands = λ j h. subst (λ (e : Entry). ClientStandsFor new (with_entry j e))
-          (λ i. entry n (arrived from x) (packet_in x) (sym (source_there x v payload is.value) i) (words_ahead old) (did j h i)) (r.stands j x h is);
+          (λ i. entry n (arrived from x) (packet_in x) (sym (source_there x v payload is.of.value) i) (words_ahead old) (did j h i)) (r.stands j x h is);
       place = r.place;
       settings = r.settings;
       clock = r.clock;
@@ -102,12 +112,10 @@ fate_there law c j n from x v h l payload value =
 pub wants_place : (law : BelowClient) (old new : Client) (n : ℕ) (from : Ep) (x : List ℕ) (v : Value) → is_payload x ≡ true → value_in x ≡ v → old.peers.moment ≤ n
     → KeepsPlace old n v (fate_in old n from v) new → WantsPlace old n from x
 unfolding client_in
-wants_place law old new n from x v payload value l k j h = record {
-  line =
-      ap (λ (f : Fate). lists f) (law.fate_of_reception (settings_of old) (standing_of (settings_of old) j n (source_in x)) from x (words_ahead old) ∙ fate_there law old j n from x v h l payload value)
-      ∙ k.line;
-  unlisted =
-      ap (λ (p : Option Ip6). is_some (peer_at (mentions j.entries) n (unwrap_or p unspecified))) (source_there x v payload value)
-      ∙ ap (λ (p : Option Peer). is_some p) (sym ((read_same law old j n h l).peer v.packet.src))
-      ∙ k.unlisted;
-}
+wants_place law old new n from x v payload value l k j h =
+    let fate_is = law.fate_of_reception (settings_of old) (standing_of (settings_of old) j n (source_in x)) from x (words_ahead old) ∙ fate_there law old j n from x v h l payload value in
+    let listed_is =
+    ap (λ (p : Option Ip6). is_some (peer_at (mentions j.entries) n (unwrap_or p unspecified))) (source_there x v payload value)
+    ∙ ap (λ (p : Option Peer). is_some p) (sym ((read_same law old j n h l).peer v.packet.src)) in
+    subst (λ (f : Fate). TakesRoom f (is_some (peer_at (mentions j.entries) n (unwrap_or (source_in x) unspecified)))) (sym fate_is)
+    (subst (λ (b : Bool). TakesRoom (fate_in old n from v) b) (sym listed_is) k.room)

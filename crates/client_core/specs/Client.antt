@@ -7,6 +7,7 @@ use Rattle.teredo_addr.specs.Teredo.{unspecified}
 use Rattle.bubble.specs.Payloads.{Value}
 use Rattle.bubble.specs.PayloadOf.{IsPayloadOf}
 use Rattle.bubble.specs.PacketsIn.{packet_in, source_in}
+use Rattle.ipv6_packet.specs.Packets.{packet_bytes}
 use Rattle.teredo_node.specs.declared.fate.Fate.{Fate}
 use Rattle.teredo_node.specs.declared.fate.Fate.TheVariants as fate
 use Rattle.teredo_node.specs.Step.{Step}
@@ -75,21 +76,27 @@ pub record AsBefore (old new : Client) : Type 0 where
 
 -- WHERE MEMORY MAY BE WANTING
 
--- the fates by which a datagram's source is listed
+-- the fates by which a datagram's packet is held
+abbrev pub holds : Fate → Bool
+holds fate.HeldTest = true
+holds fate.Held = true
+holds _ = false
+
+-- the fates by which its source is listed
 abbrev pub lists : Fate → Bool
 lists fate.Indirect = true
 lists fate.Rule3 = true
 lists fate.Rule3Bubble = true
-lists fate.SuspiciousTest = true
 lists _ = false
 
--- the line of a datagram lists its source, and that isn't listed yet
-pub record ListsAnew (c : Client) (n : ℕ) (from : Ep) (x : List ℕ) (j : Journal) : Type 0 where
-  pub line : lists (next_entry c j n (arrived from x)).step.fate ≡ true
-  pub unlisted : is_some (peer_at (mentions j.entries) n (unwrap_or (source_in x) unspecified)) ≡ false
+-- a datagram with this fate is held, or its source is listed and wasn't yet
+pub data TakesRoom (f : Fate) (listed : Bool) : Type 0 where
+  to_hold : holds f ≡ true → TakesRoom f listed
+  to_list : lists f ≡ true → listed ≡ false → TakesRoom f listed
 
 abbrev pub WantsPlace : Client → ℕ → Ep → List ℕ → Type 0
-WantsPlace c n from x = (j : Journal) → ClientStandsFor c j → ListsAnew c n from x j
+WantsPlace c n from x = (j : Journal) → ClientStandsFor c j
+    → TakesRoom (next_entry c j n (arrived from x)).step.fate (is_some (peer_at (mentions j.entries) n (unwrap_or (source_in x) unspecified)))
 
 -- the line of a packet of the host lets it wait
 abbrev pub WantsQueue : Client → ℕ → List ℕ → Type 0
@@ -104,7 +111,7 @@ pub record Enters (old : Client) (e : Entry) (new : Client) : Type 0 where
   pub settings : settings_of new ≡ settings_of old
   pub clock : new.peers.moment ≤ e.moment
 
--- memory was wanting for an address that isn't listed, and nothing changed but that others may have been taken out
+-- memory was wanting, and nothing changed but that those who aren't listed may have been taken out
 pub record KeepsAll (old : Client) (n : ℕ) (new : Client) : Type 0 where
   pub peers : Keeps old.peers new.peers n
   pub qualifier : new.qualifier ≡ old.qualifier
@@ -120,18 +127,22 @@ fate_in c n from v = reception_row (seen_of (settings_of c) (standing_in c n v.p
 abbrev pub entry_about : Client → ℕ → Ep → List ℕ → Ip6 → Step → Entry
 entry_about c n from x who step = entry n (arrived from x) (packet_in x) (Some who) (words_ahead c) step
 
+-- x spells this payload, and ends in its packet
+pub record IsDatagramOf (x : List ℕ) (v : Value) : Type 0 where
+  pub of : IsPayloadOf x v
+  pub packet : packet_in x ≡ Some (packet_bytes v.packet)
+
 -- what was done with a payload by the line of a fate
 pub record TakesPayload (old : Client) (n : ℕ) (from : Ep) (v : Value) (f : Fate) (step : Step) (new : Client) : Type 0 where
-  pub did : (j : Journal) (x : List ℕ) → ClientStandsFor old j → IsPayloadOf x v
+  pub did : (j : Journal) (x : List ℕ) → ClientStandsFor old j → IsDatagramOf x v
       → step ≡ reception_step (settings_of old) (standing_in old n v.packet.src) from x v (words_ahead old) f
-  pub stands : (j : Journal) (x : List ℕ) → ClientStandsFor old j → IsPayloadOf x v
+  pub stands : (j : Journal) (x : List ℕ) → ClientStandsFor old j → IsDatagramOf x v
       → ClientStandsFor new (with_entry j (entry_about old n from x v.packet.src step))
   pub place : new.rng ≡ after_words step.drawn old.rng
   pub settings : settings_of new ≡ settings_of old
   pub clock : new.peers.moment ≤ n
 
--- memory was wanting for the source of a payload by the line of a fate, and all is kept
+-- memory was wanting by the line of a fate of a payload, and all is kept
 pub record KeepsPlace (old : Client) (n : ℕ) (v : Value) (f : Fate) (new : Client) : Type 0 where
-  pub line : lists f ≡ true
-  pub unlisted : is_some (peer_in old.peers n v.packet.src) ≡ false
+  pub room : TakesRoom f (is_some (peer_in old.peers n v.packet.src))
   pub kept : KeepsAll old n new

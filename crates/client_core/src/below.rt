@@ -7,6 +7,7 @@ pub(crate) fn below()
 {
     peer_list::table_laws();
     qualify::keeps_still();
+    bubble::payload_is_spelled();
     client_rules::next_mentions();
     client_rules::fate_of_reception();
     client_rules::fate_of_transmission();

@@ -1,16 +1,24 @@
 //! What a client does with a datagram.
-ghost use Rattle.std.specs.Prelude.{◌≡◌, ◌≤◌, ◌+◌, true, length, Some, OnOk, OnErr};
+ghost use Rattle.std.specs.Prelude.{◌≡◌, ◌≤◌, ◌+◌, true, false, [], length, is_some, Some, OnOk, OnErr};
 ghost use Rattle.td_base.specs.declared.datagram.TheConstants.{DATAGRAM_MAX};
-ghost use Rattle.ipv6_packet.specs.declared.header.TheConstants.{HEADER};
+ghost use Rattle.ipv6_packet.specs.declared.header.TheConstants.{HEADER, PACKET_MAX};
+ghost use Rattle.ipv6_packet.specs.Packets.{packet_bytes};
 ghost use Rattle.td_base.specs.declared.endpoint.Ep.{Ep};
 ghost use Rattle.indications.specs.Leads.{origin_in};
 ghost use Rattle.bubble.specs.Payloads.{view};
 ghost use Rattle.teredo_node.specs.declared.fate.Fate.{Fate};
 ghost use Rattle.teredo_node.specs.Journal.{arrived};
 ghost use Rattle.teredo_node.specs.Step.{just};
-ghost use Rattle.peer_list.specs.Table.{has_room_in};
+ghost use Rattle.teredo_node.specs.Sends.{releases};
+ghost use Rattle.teredo_node.specs.Words.{nonce_from};
+ghost use Rattle.peer_list.specs.Judged.{holds_most};
+ghost use Rattle.peer_list.specs.Table.{peer_in, known_to, has_room_in};
+ghost use Rattle.peer_list.specs.Calls.{trusted_at, heard_at, tried_at, Updates};
+ghost use Rattle.qualify.specs.Generator.{after_words};
+ghost use Rattle.client_rules.specs.Reception.{hands_late};
 ghost use Rattle.qualify.specs.Advertisements.{advert_row};
-ghost use Rattle.client_core.specs.Client.{settings_of, fate_in, IsCallable, Does, TakesPayload, AsBefore, KeepsPlace, WantsPlace};
+ghost use Rattle.client_core.specs.Client.{settings_of, words_ahead, fate_in, IsCallable, Does, TakesPayload, AsBefore, KeepsPlace, WantsPlace};
+ghost use Rattle.client_core.specs.Lines.{tested, OnlyPeers};
 
 use crate::below::below;
 use crate::client::Client;
@@ -19,7 +27,7 @@ use crate::tries::{send_bubble, send_test};
 use bubble::Payload;
 use ipv6_packet::HEADER;
 use qualify::words_of_advert;
-use td_base::{Ep, Millis, NoMemory, Span};
+use td_base::{Ep, Ip6, Millis, NoMemory, Span};
 use teredo_node::{Fate, Step};
 
 /// Begins a step that hands a payload's packet to the host.
@@ -35,7 +43,7 @@ fn hand_over(fate: Fate, payload: &Payload<'_>, step: &mut Step)
 }
 
 impl Client {
-    /// Takes a datagram that came from `from`. Memory may be wanting where its source is to be listed.
+    /// Takes a datagram that came from `from`. Memory may be wanting where it is to be held, or its source to be listed.
     pub(crate) fn receive(
         &mut self,
         now: Millis,
@@ -56,19 +64,23 @@ impl Client {
             step.reset(Fate::Malformed);
             return Ok(());
         };
-        self.receive_payload(now, from, &payload, step)
+        let packet = &bytes[payload.lead.at..];
+        self.receive_payload(now, from, packet, &payload, step)
     }
 
-    /// Takes a payload.
+    /// Takes a payload, whose packet is `packet`.
     fn receive_payload(
         &mut self,
         now: Millis,
         from: Ep,
+        packet: &[u8],
         payload: &Payload<'_>,
         step: &mut Step,
     ) -> Result<(), NoMemory>
         requires callable { IsCallable self.old now.0 }
         requires short { length payload.now.packet.body.now ≤ DATAGRAM_MAX }
+        requires packet { packet.now ≡ packet_bytes (view payload.now).packet }
+        requires long { length packet.now ≡ HEADER + length payload.now.packet.body.now }
         ensures done { OnOk result (TakesPayload self.old now.0 from (view payload.now) (fate_in self.old now.0 from (view payload.now)) step.new self.new) }
         ensures kept { OnErr result (KeepsPlace self.old now.0 (view payload.now) (fate_in self.old now.0 from (view payload.now)) self.new) }
         ensures untouched { OnErr result (step.new ≡ step.old) }
@@ -86,24 +98,53 @@ impl Client {
             ReceptionLine::Indirect(origin) => self.answer_bubble(now, origin, payload, step),
             ReceptionLine::Rule1 => {
                 hand_over(Fate::Rule1, payload, step);
-                self.peers.hear(now, payload.packet.src, from, step);
+                self.hear_trusted(now, payload.packet.src, from, step);
                 Ok(())
             }
             ReceptionLine::Rule1Bubble => {
                 step.reset(Fate::Rule1Bubble);
-                self.peers.hear(now, payload.packet.src, from, step);
+                self.hear_trusted(now, payload.packet.src, from, step);
                 Ok(())
             }
             ReceptionLine::Rule2 => {
-                step.reset(Fate::Rule2);
-                self.peers
-                    .trust_and_hear(now, payload.packet.src, from, step);
+                self.hand_late(now, payload.packet.src, from, step);
                 Ok(())
             }
             ReceptionLine::Rule3 => self.admit(now, from, payload, step),
             ReceptionLine::Rule3Bubble => self.admit_bubble(now, from, payload, step),
-            ReceptionLine::SuspiciousTest => self.test_source(now, payload, step),
+            ReceptionLine::HeldTest => self.hold_and_test(now, from, packet, payload, step),
+            ReceptionLine::SuspiciousTest => {
+                self.test_source(now, payload, step);
+                Ok(())
+            }
+            ReceptionLine::Held => self.hold_packet(now, from, packet, payload, step),
         }
+    }
+
+    /// Hears a listed peer where it is trusted: what is held of it is dropped.
+    fn hear_trusted(&mut self, now: Millis, who: Ip6, from: Ep, step: &mut Step)
+        requires callable { IsCallable self.old now.0 }
+        requires listed { is_some (peer_in self.old.peers now.0 who) ≡ true }
+        requires first { step.old.sends ≡ [] }
+        ensures step { step.new ≡ record step.old { sends = releases from (known_to self.old.peers now.0 who).waiting; gone = length (known_to self.old.peers now.0 who).held } }
+        ensures heard { OnlyPeers self.old now.0 who (heard_at now.0 (known_to self.old.peers now.0 who)) self.new }
+    {
+        step.set_gone(u16::from(self.peers.held_count(now, who)));
+        self.peers.hear(now, who, from, step);
+    }
+
+    /// A listed peer answered its test: it is trusted where the answer came from, and what is held from there is handed
+    /// over.
+    fn hand_late(&mut self, now: Millis, who: Ip6, from: Ep, step: &mut Step)
+        requires callable { IsCallable self.old now.0 }
+        requires listed { is_some (peer_in self.old.peers now.0 who) ≡ true }
+        ensures step { step.new ≡ hands_late from (known_to self.old.peers now.0 who) }
+        ensures heard { OnlyPeers self.old now.0 who (heard_at now.0 (trusted_at now.0 from (known_to self.old.peers now.0 who))) self.new }
+    {
+        step.reset(Fate::Rule2);
+        let elsewhere = self.peers.hand_late(now, who, from, step);
+        step.set_gone(u16::from(elsewhere));
+        self.peers.trust_and_hear(now, who, from, step);
     }
 
     /// An advertisement of the server. A client that gets another address forgets its peers.
@@ -196,33 +237,77 @@ impl Client {
         Ok(())
     }
 
-    /// A packet came from an unknown source: a test goes there.
-    fn test_source(
+    /// A packet came from an unknown source: it is held, and a test goes there.
+    fn hold_and_test(
         &mut self,
         now: Millis,
+        from: Ep,
+        packet: &[u8],
         payload: &Payload<'_>,
         step: &mut Step,
     ) -> Result<(), NoMemory>
         requires callable { IsCallable self.old now.0 }
         requires room { has_room_in self.old.peers now.0 payload.now.packet.src ≡ true }
-        ensures done { (from : Ep) → OnOk result (TakesPayload self.old now.0 from (view payload.now) Fate.SuspiciousTest step.new self.new) }
-        ensures kept { OnErr result (KeepsPlace self.old now.0 (view payload.now) Fate.SuspiciousTest self.new) }
+        requires free { holds_most (known_to self.old.peers now.0 payload.now.packet.src) ≡ false }
+        requires short { length packet.now ≤ PACKET_MAX }
+        requires packet { packet.now ≡ packet_bytes (view payload.now).packet }
+        ensures done { OnOk result (TakesPayload self.old now.0 from (view payload.now) Fate.HeldTest step.new self.new) }
+        ensures kept { OnErr result (KeepsPlace self.old now.0 (view payload.now) Fate.HeldTest self.new) }
         ensures untouched { OnErr result (step.new ≡ step.old) }
     {
         below();
         let who = payload.packet.src;
-        self.peers.list(now, who)?;
+        self.peers.hold(now, who, from, packet)?;
+        self.test_peer(now, who, Fate::HeldTest, step);
+        Ok(())
+    }
+
+    /// A packet came from an unknown source of which no more packets may be held: a test goes there.
+    fn test_source(&mut self, now: Millis, payload: &Payload<'_>, step: &mut Step)
+        requires callable { IsCallable self.old now.0 }
+        requires listed { is_some (peer_in self.old.peers now.0 payload.now.packet.src) ≡ true }
+        ensures { (from : Ep) → TakesPayload self.old now.0 from (view payload.now) Fate.SuspiciousTest step.new self.new }
+    {
+        below();
+        self.test_peer(now, payload.packet.src, Fate::SuspiciousTest, step);
+    }
+
+    /// A packet came from a source that is being tested: it is held.
+    fn hold_packet(
+        &mut self,
+        now: Millis,
+        from: Ep,
+        packet: &[u8],
+        payload: &Payload<'_>,
+        step: &mut Step,
+    ) -> Result<(), NoMemory>
+        requires callable { IsCallable self.old now.0 }
+        requires listed { is_some (peer_in self.old.peers now.0 payload.now.packet.src) ≡ true }
+        requires free { holds_most (known_to self.old.peers now.0 payload.now.packet.src) ≡ false }
+        requires short { length packet.now ≤ PACKET_MAX }
+        requires packet { packet.now ≡ packet_bytes (view payload.now).packet }
+        ensures done { OnOk result (TakesPayload self.old now.0 from (view payload.now) Fate.Held step.new self.new) }
+        ensures kept { OnErr result (KeepsPlace self.old now.0 (view payload.now) Fate.Held self.new) }
+        ensures untouched { OnErr result (step.new ≡ step.old) }
+    {
+        below();
+        self.peers.hold(now, payload.packet.src, from, packet)?;
+        step.reset(Fate::Held);
+        Ok(())
+    }
+
+    /// Begins a step with this fate by a test of a listed peer.
+    fn test_peer(&mut self, now: Millis, who: Ip6, fate: Fate, step: &mut Step)
+        requires callable { IsCallable self.old now.0 }
+        requires listed { is_some (peer_in self.old.peers now.0 who) ≡ true }
+        ensures step { step.new ≡ tested self.old who fate }
+        ensures peers { Updates self.old.peers self.new.peers now.0 who (tried_at now.0 (Some (nonce_from (words_ahead self.old))) (known_to self.old.peers now.0 who)) }
+        ensures place { self.new.rng ≡ after_words 2 self.old.rng }
+        ensures qualifier { self.new.qualifier ≡ self.old.qualifier }
+    {
         let own = self.own_address();
         let settings = self.qualifier.settings();
-        let nonce = send_test(
-            settings,
-            own,
-            who,
-            Fate::SuspiciousTest,
-            &mut self.rng,
-            step,
-        );
+        let nonce = send_test(settings, own, who, fate, &mut self.rng, step);
         self.peers.tried(now, who, Some(nonce));
-        Ok(())
     }
 }

@@ -2,6 +2,7 @@
 ghost use Rattle.std.specs.Prelude.{◌≡◌, ◌≤◌, ◌&&◌, ◌++◌, not, true, false, length};
 ghost use Rattle.td_base.specs.declared.datagram.TheConstants.{DATAGRAM_MAX};
 ghost use Rattle.td_base.specs.Ep.{same_ep};
+ghost use Rattle.ipv6_packet.specs.Reads.{is_big};
 ghost use Rattle.teredo_addr.specs.Teredo.{is_teredo, embedded};
 ghost use Rattle.bubble.specs.Payloads.{view};
 ghost use Rattle.teredo_node.specs.declared.fate.Fate.{Fate};
@@ -9,8 +10,8 @@ ghost use Rattle.teredo_node.specs.Rows.{first_line};
 ghost use Rattle.qualify.specs.Solicitations.{is_qualified};
 ghost use Rattle.client_core.specs.Client.{settings_of, standing_in};
 ghost use Rattle.client_rules.specs.Reception.{is_from_server, server_lines, packet_lines, indirect_lines};
-ghost use Rattle.client_rules.specs.Reception.{direct_lines, teredo_lines, suspicious_lines, reception_row};
-ghost use Rattle.client_core.specs.Lines.{fate_of, seen_by, WarrantsDatagram};
+ghost use Rattle.client_rules.specs.Reception.{direct_lines, teredo_lines, is_testable, is_under_test, suspicious_lines, reception_row};
+ghost use Rattle.client_core.specs.Lines.{fate_of, keeps, seen_by, WarrantsDatagram};
 
 use crate::client::Client;
 use crate::conditions::{good_origin, is_advert, is_echo_reply, is_from_server, is_reply_to};
@@ -35,8 +36,12 @@ pub enum ReceptionLine {
     Rule2,
     Rule3,
     Rule3Bubble,
-    /// Rule 6: nothing is handed over, and a test goes to the source.
+    /// Rule 6: the packet is held, and a test goes to the source.
+    HeldTest,
+    /// Rule 6: as many packets of the source are held as may be, and a test goes there.
     SuspiciousTest,
+    /// Rule 6: the packet is held while its source is being tested.
+    Held,
 }
 
 /// The first line that holds for a payload that came from `from`.
@@ -45,6 +50,7 @@ pub fn line_of(client: &Client, now: Millis, from: Ep, payload: &Payload<'_>) ->
     requires short { length payload.now.packet.body.now ≤ DATAGRAM_MAX }
     ensures row { (advert : Fate) → fate_of result advert ≡ reception_row (seen_by client.now now.0 from (view payload.now)) advert }
     ensures warrant { WarrantsDatagram (standing_in client.now now.0 payload.now.packet.src) (view payload.now) result }
+    ensures small { keeps result ≡ true → is_big (view payload.now).packet ≡ false }
 {
     // keyed: our choice
     if is_keyed(&payload.lead) {
@@ -211,12 +217,35 @@ fn line_of_other(client: &Client, now: Millis, from: Ep, payload: &Payload<'_>) 
     if is_teredo(payload.packet.src) {
         return ReceptionLine::Drop(Fate::Mismatch);
     }
-    // suspicious_test: RFC 4380, section 5.2.3, rule 6
     if may_be_tested(client, now, from, payload) {
-        return ReceptionLine::SuspiciousTest;
+        return line_of_tested(client, now, from, payload);
+    }
+    // suspicious: RFC 4380, section 5.2.3, rule 6
+    if client.peers.holds_most(now, payload.packet.src) {
+        return ReceptionLine::Drop(Fate::Suspicious);
+    }
+    // held: RFC 4380, section 5.2.3, rule 6
+    if is_under_test(client, now, from, payload) {
+        return ReceptionLine::Held;
     }
     // suspicious: RFC 4380, section 5.2.3, rule 6
     ReceptionLine::Drop(Fate::Suspicious)
+}
+
+/// The lines on packets whose source is tested now.
+#[tactic(auto, using(crate::proofs::Listed::holding_is_listed, crate::proofs::Listed::testable_has_room))]
+fn line_of_tested(client: &Client, now: Millis, from: Ep, payload: &Payload<'_>) -> ReceptionLine
+    requires clock { client.now.peers.moment ≤ now.0 }
+    requires testable { is_testable (seen_by client.now now.0 from (view payload.now)) ≡ true }
+    ensures row { (advert : Fate) → fate_of result advert ≡ first_line (suspicious_lines (seen_by client.now now.0 from (view payload.now))) Fate.Suspicious }
+    ensures warrant { WarrantsDatagram (standing_in client.now now.0 payload.now.packet.src) (view payload.now) result }
+{
+    // suspicious_test: RFC 4380, section 5.2.3, rule 6
+    if client.peers.holds_most(now, payload.packet.src) {
+        return ReceptionLine::SuspiciousTest;
+    }
+    // held_test: RFC 4380, section 5.2.3, rule 6
+    ReceptionLine::HeldTest
 }
 
 /// Whether an address is a Teredo client's that embeds this very endpoint.
@@ -230,7 +259,7 @@ fn is_embedded_at(ip: Ip6, from: Ep) -> bool
 fn answers_test(client: &Client, now: Millis, from: Ep, payload: &Payload<'_>) -> bool
     requires clock { client.now.peers.moment ≤ now.0 }
     requires short { length payload.now.packet.body.now ≤ DATAGRAM_MAX }
-    ensures { let a = seen_by client.now now.0 from (view payload.now) in result ≡ (not a.teredo && (a.listed && (not a.fresh && a.reply))) }
+    ensures { let a = seen_by client.now now.0 from (view payload.now) in result ≡ (not a.teredo && (a.peer.listed && (not a.peer.fresh && a.peer.reply))) }
 {
     let packet = &payload.packet;
     !is_teredo(packet.src)
@@ -247,14 +276,29 @@ fn answers_test(client: &Client, now: Millis, from: Ep, payload: &Payload<'_>) -
 fn may_be_tested(client: &Client, now: Millis, from: Ep, payload: &Payload<'_>) -> bool
     requires clock { client.now.peers.moment ≤ now.0 }
     requires short { length payload.now.packet.body.now ≤ DATAGRAM_MAX }
-    ensures { let a = seen_by client.now now.0 from (view payload.now) in
-        result ≡ (a.global && (not a.fresh && (not a.barred && (a.room && (not a.bubble && not a.echo_reply))))) }
+    ensures { result ≡ is_testable (seen_by client.now now.0 from (view payload.now)) }
 {
     let packet = &payload.packet;
     is_global6(packet.src)
         && !client.peers.is_fresh(now, packet.src)
         && !client.peers.is_barred(now, packet.src)
         && client.peers.has_room(now, packet.src)
+        && !is_bubble(packet)
+        && !is_echo_reply(packet, message_of(packet))
+}
+
+/// Whether a packet's source is being tested, and the packet is one that a test answers.
+fn is_under_test(client: &Client, now: Millis, from: Ep, payload: &Payload<'_>) -> bool
+    requires clock { client.now.peers.moment ≤ now.0 }
+    requires short { length payload.now.packet.body.now ≤ DATAGRAM_MAX }
+    ensures { result ≡ is_under_test (seen_by client.now now.0 from (view payload.now)) }
+{
+    let packet = &payload.packet;
+    is_global6(packet.src)
+        && client.peers.is_listed(now, packet.src)
+        && !client.peers.is_fresh(now, packet.src)
+        && client.peers.is_barred(now, packet.src)
+        && client.peers.nonce(now, packet.src).is_some()
         && !is_bubble(packet)
         && !is_echo_reply(packet, message_of(packet))
 }

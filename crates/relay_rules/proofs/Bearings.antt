@@ -1,5 +1,5 @@
 -- What each fate means for an entry's peer.
-use Rattle.std.proofs.Common.{◌≡◌, ℕ, List, refl}
+use Rattle.std.proofs.Common.{◌≡◌, ℕ, List, None, refl}
 use Rattle.std.specs.Prelude.{IfSome}
 use Rattle.td_base.specs.declared.endpoint.Ep.{Ep}
 use Rattle.teredo_node.specs.declared.fate.Fate.{Fate}
@@ -19,3 +19,8 @@ trusted_by fate.FromClientBubble e P h = h
 trusted_by fate.FromClient e P h = h
 trusted_by fate.Unserved e P h = h
 trusted_by _ e P h = tt
+
+-- no fate holds a packet
+pub holds_none : (f : Fate) (e : Entry) → (bearing_of f e).holds ≡ None
+holds_none fate.Sent e = refl
+holds_none _ e = refl

@@ -22,12 +22,12 @@ use Rattle.relay_rules.specs.Reception.{Seen, seen, reception_lines, reception_r
 use Rattle.relay_rules.specs.Transmission.{given as given_to, transmission}
 use Rattle.relay_rules.specs.Journals.{entry, relay_in, relay_six, relay_tick, relay_entry, IsJournal}
 use Rattle.relay_rules.specs.Warrants.{GoesOut, GoesLater, SentOnlyIf}
-use Rattle.relay_rules.specs.Laws.{IsForeignTo, WaitingIsForeign, TrustedIsEmbedded}
+use Rattle.relay_rules.specs.Laws.{IsForeignTo, WaitingIsForeign, TrustedIsEmbedded, HoldsNothing}
 use Rattle.relay_rules.proofs.Fates.{fate_of_reception, fate_of_transmission}
 use Rattle.teredo_node.proofs.FirstLines.{by_lines}
 use Rattle.relay_rules.proofs.Warranted.{transmission_is_warranted}
-use Rattle.relay_rules.proofs.Bearings.{queued_by, trusted_by}
-use Rattle.peer_list.proofs.FromMentions.{peer_is, kept, waiting_is_kept, trust_is_kept}
+use Rattle.relay_rules.proofs.Bearings.{queued_by, trusted_by, holds_none}
+use Rattle.peer_list.proofs.FromMentions.{peer_is, kept, waiting_is_kept, trust_is_kept, held_is_kept}
 
 -- PACKETS THAT WAIT
 
@@ -114,3 +114,13 @@ trusted_is_embedded one j n p at is =
     let there : IfSome (known (map mention j) n p).trusted (IsThere p) =
     kept one (λ x. IfSome x.trusted (IsThere p)) (λ m. IfSome m.bearing.trusts (IsThere p)) (trust_is_kept (IsThere p)) p (map mention j) (there_mentions j p) n in
     subst (λ o. IfSome o (IsThere p)) is there
+
+-- HELD PACKETS
+
+none_held : (j : List Entry) (p : Ip6) → AllByRecursion (λ (m : Mention). is_about p m ≡ true → m.bearing.holds ≡ None) (map mention j)
+none_held [] p = tt
+none_held (e ∷ j) p = ((λ about. holds_none e.step.fate e), none_held j p)
+
+pub holds_nothing : OneEntry → HoldsNothing
+unfolding mentions
+holds_nothing one j n p = kept one (λ x. x.held ≡ []) (λ m. m.bearing.holds ≡ None) held_is_kept p (map mention j) (none_held j p) n

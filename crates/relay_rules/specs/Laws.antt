@@ -72,3 +72,7 @@ WaitingIsForeign = (s : RelaySettings) (j : List Entry) (n : ℕ) (p : Ip6) → 
 -- a client is trusted where its address says
 abbrev pub TrustedIsEmbedded : Type 0
 TrustedIsEmbedded = (j : List Entry) (n : ℕ) (p : Ip6) (at : Ep) → (known (mentions j) n p).trusted ≡ Some at → at ≡ embedded p
+
+-- a relay holds no packets
+abbrev pub HoldsNothing : Type 0
+HoldsNothing = (j : List Entry) (n : ℕ) (p : Ip6) → (known (mentions j) n p).held ≡ []

@@ -1,5 +1,5 @@
 //! Laws of every journal of a relay.
-ghost use Rattle.relay_rules.specs.Laws.{FateOfReception, FateOfTransmission, ReceptionIsWarranted, TransmissionIsWarranted, TriesTouch, JournalIsTried, ConeIsQuiet, WaitingIsForeign, TrustedIsEmbedded, JournalHasFew};
+ghost use Rattle.relay_rules.specs.Laws.{FateOfReception, FateOfTransmission, ReceptionIsWarranted, TransmissionIsWarranted, TriesTouch, JournalIsTried, ConeIsQuiet, WaitingIsForeign, TrustedIsEmbedded, HoldsNothing, JournalHasFew};
 ghost use Rattle.relay_rules.specs.Sendings.{EachSend};
 ghost use Rattle.relay_rules.specs.ForeignSends.{EachSendIsForeign};
 
@@ -61,6 +61,13 @@ pub fn waiting_is_foreign()
 /// A client is trusted at the endpoint that its address embeds, and nowhere else.
 pub fn trusted_is_embedded()
     ensures { TrustedIsEmbedded }
+{
+    peer_list::one_entry();
+}
+
+/// No packet is held: a relay tests nobody.
+pub fn holds_nothing()
+    ensures { HoldsNothing }
 {
     peer_list::one_entry();
 }

@@ -1,10 +1,10 @@
-use Rattle.std.proofs.Common.{sym, subst}
+use Rattle.std.proofs.Common.{arith, sym, subst}
 use Rattle.std.proofs.lemmas.Result.{on_ok_weaker, on_err_weaker}
 use Rattle.bubble.specs.Payloads.{view}
 use Rattle.teredo_node.specs.Step.{Step}
 use Rattle.teredo_node.specs.Journal.{arrived}
 use Rattle.client_core.specs.Client.{Does}
-use Rattle.client_core.proofs.Read.{received, malformed, wants_place}
+use Rattle.client_core.proofs.Read.{packet_of, packet_there, received, malformed, wants_place}
 use Rattle.client_core.proofs.client.Client.receive.Goals as goal
 
 pub returns-in_default-clause-done : goal.returns-in_default-clause-done
@@ -17,7 +17,10 @@ returns-clause-done c =
     let v = view c.in-Ok.payload in
     on_ok_weaker c.receive_payload.result
     (received c.below.ensures c.args.self.now c.receive_payload.new.self c.args.now.0 c.args.from c.args.bytes.now v c.receive_payload.new.step c.in-Ok.ensures.seen.0
-    (record { value = c.in-Ok.ensures.seen.1; inside = c.in-Ok.ensures.inside }) c.requires.callable.clock)
+    (record {
+      of = record { value = c.in-Ok.ensures.seen.1; inside = c.in-Ok.ensures.inside };
+      packet = packet_there c.args.bytes.now v c.in-Ok.ensures.seen.0 c.in-Ok.ensures.seen.1 (packet_of c.below.ensures.payload_is_spelled c.args.bytes.now v (λ i. omega (arith, c.type_inv.bytes i)) c.in-Ok.ensures.seen.0 c.in-Ok.ensures.seen.1);
+    }) c.requires.callable.clock)
     c.receive_payload.ensures.done
 
 pub returns-clause-starved : goal.returns-clause-starved
