@@ -64,7 +64,7 @@ abbrev are_small : List ℕ → Bool
 are_small [] = true
 are_small (a ∷ x) = nat_lt a 256 && are_small x
 
-each_byte : (x : List ℕ) → are_small x ≡ true → IsBytes x
+pub each_byte : (x : List ℕ) → are_small x ≡ true → IsBytes x
 each_byte [] h i = omega arith
 each_byte (a ∷ x) h zero = ltb-true a 256 (and_parts _ _ h).0
 each_byte (a ∷ x) h (suc i) = each_byte x (and_parts _ _ h).1 i

@@ -4,6 +4,7 @@ ghost use Rattle.client_rules.specs.Epochs.{QualifiedHasAddress, QualifiedStays,
 ghost use Rattle.client_rules.specs.Sendings.{EachSend};
 ghost use Rattle.client_rules.specs.Handed.{EachHanded, EachLate};
 ghost use Rattle.client_rules.specs.MadeSends.{EachSendIsBytes};
+ghost use Rattle.client_rules.specs.ShortSends.{EachSendIsShort};
 
 /// What is done with a datagram has the fate of its line.
 pub fn fate_of_reception()
@@ -144,4 +145,24 @@ pub fn each_send_is_bytes()
     bubble::message_is_carried();
     icmp6::message_is_bytes();
     ipv6_packet::packet_is_bytes();
+}
+
+/// And fits into a datagram.
+pub fn each_send_is_short()
+    ensures { EachSendIsShort }
+{
+    bubble::payload_is_spelled();
+    ipv6_packet::packet_is_spelled();
+    teredo_addr::teredo_tells();
+    qualify::turns();
+    qualify::turns_at_start();
+    peer_list::first_waits();
+    peer_list::one_entry();
+    bubble::bubble_reads_back();
+    teredo_addr::link_local_tells();
+    bubble::message_is_carried();
+    icmp6::message_is_bytes();
+    ipv6_packet::packet_is_bytes();
+    each_send();
+    each_send_is_bytes();
 }

@@ -31,18 +31,18 @@ use Rattle.legal.proofs.ByKind.{kind_of}
 use Rattle.legal.proofs.Times.{is_later}
 use Rattle.legal.specs.Lab.{Lab}
 
-later_past : (s : NatSettings) (h : List NatEntry) (m n : ℕ) → IsPast s h m → m ≤ n → IsPast s h n
+pub later_past : (s : NatSettings) (h : List NatEntry) (m n : ℕ) → IsPast s h m → m ≤ n → IsPast s h n
 later_past s h m n p le = record { history = p.history; moments = le_trans p.moments le }
 
 -- WHAT IT LET OUT
 
 -- what holds of NAT k's history with what it let out since then
 module _ (lab : Lab) (H : List Full) (m k : ℕ) where
-  abbrev Past : List Passing → Type 0
+  abbrev pub Past : List Passing → Type 0
   Past passed = IsPast (nat_set_up lab.topology k) (outs_at k passed ++ nat_history lab k H) m
 
   -- one more, of any NAT, from the port that it answers
-  one_more : (j : ℕ) (inside dst : Ep) (port : ℕ) (passed : List Passing) → nat_answer (nat_set_up lab.topology j) (after_passing passed (nat_pasts lab H) j) m inside dst ≡ Ok port → Past passed → Past (passing j m inside dst port ∷ passed)
+  pub one_more : (j : ℕ) (inside dst : Ep) (port : ℕ) (passed : List Passing) → nat_answer (nat_set_up lab.topology j) (after_passing passed (nat_pasts lab H) j) m inside dst ≡ Ok port → Past passed → Past (passing j m inside dst port ∷ passed)
   one_more j inside dst port passed is p = by (j == k) refl where
     out : NatEntry
     out = Out (passing j m inside dst port).datagram
@@ -53,7 +53,7 @@ module _ (lab : Lab) (H : List Full) (m k : ℕ) where
         record { history = (p.moments, subst (λ (x : ℕ). nat_answer (nat_set_up lab.topology x) (after_passing passed (nat_pasts lab H) x) m inside dst ≡ Ok port) same is, p.history); moments = le_refl m }
     by false e = p
 
-  crossed : (way : List ℕ) (dst from : Ep) (passed : List Passing) → Past passed → Past (crossing lab.topology (nat_pasts lab H) m dst way from passed).passed
+  pub crossed : (way : List ℕ) (dst from : Ep) (passed : List Passing) → Past passed → Past (crossing lab.topology (nat_pasts lab H) m dst way from passed).passed
   crossed [] dst from passed p = p
   crossed (j ∷ way) dst from passed p = by (nat_answer (nat_set_up lab.topology j) (after_passing passed (nat_pasts lab H) j) m from dst) refl (λ (f : Ep) (ps : List Passing). crossed way dst f ps) where
     by : (r : Result ℕ NatRefusal) → nat_answer (nat_set_up lab.topology j) (after_passing passed (nat_pasts lab H) j) m from dst ≡ r → ((f : Ep) (ps : List Passing) → Past ps → Past (crossing lab.topology (nat_pasts lab H) m dst way f ps).passed)
@@ -122,7 +122,7 @@ added lab H r k kind p = by (is_node k r.node) where
   by true = at_itself (nat_set_up lab.topology k) lab r.asked r.act (nat_history lab k H) r.moment p
   by false = of_kind lab H r k kind p
 
-set_up_past : (lab : Lab) (H : List Full) (k : ℕ) → Grown lab H → IsPast (nat_set_up lab.topology k) (nat_history lab k H) (now H)
+pub set_up_past : (lab : Lab) (H : List Full) (k : ℕ) → Grown lab H → IsPast (nat_set_up lab.topology k) (nat_history lab k H) (now H)
 set_up_past lab [] k g = record { history = tt; moments = omega arith }
 set_up_past lab (r ∷ H) k g = added lab H r k (kind_of lab H r g.0) (later_past (nat_set_up lab.topology k) (nat_history lab k H) (now H) r.moment (set_up_past lab H k g.1) (is_later lab H r g))
 

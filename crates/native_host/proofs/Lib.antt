@@ -1,3 +1,5 @@
 mod Arrivals
 mod Lengths
 mod Numbers
+mod NativeSends
+mod MadeReplies

@@ -1,1 +1,2 @@
 pub mod Natives
+pub mod NativeSends

@@ -6,6 +6,7 @@ use Rattle.std.proofs.lemmas.Bool.{ltb-false}
 use Rattle.td_base.specs.Bytes.{IsBytes}
 use Rattle.td_base.specs.Ip6.{IsIp6}
 use Rattle.td_base.specs.declared.endpoint.Ep.{Ep}
+use Rattle.td_base.specs.declared.datagram.TheConstants.{DATAGRAM_MAX}
 use Rattle.td_base.specs.declared.ipv6.Ip6.{Ip6}
 use Rattle.ipv6_packet.specs.declared.header.TheConstants.{HEADER, PACKET_MAX}
 use Rattle.ipv6_packet.specs.declared.fault.PacketFault.{PacketFault}
@@ -156,13 +157,17 @@ short_is : (p : Fields) → is_big p ≡ false → HEADER + length p.body ≤ PA
 unfolding is_big
 short_is p h = ltb-false PACKET_MAX (HEADER + length p.body) h
 
-foreign_packet : RelayLaws → (to : Option Ip6) (x : List ℕ) → IsBytes x → IsForeignTo to x → is_teredo (value_in x).packet.src ≡ false
-foreign_packet laws to x fits f =
+short_packet : RelayLaws → (to : Option Ip6) (x : List ℕ) → IsBytes x → IsForeignTo to x → length x ≤ DATAGRAM_MAX
+short_packet laws to x fits f =
     let spelled = laws.packet x fits f.well_formed in
     let len = (laws.long (fields_in x) spelled.0).long in
     let same : length x ≡ HEADER + length (fields_in x).body = ap length spelled.1 ∙ len in
     let most = short_is (fields_in x) f.short in
-    let reads = laws.whole x (fields_in x) fits (omega (arith, same, most)) (read_as x f.well_formed) in
+    omega (arith, same, most)
+
+foreign_packet : RelayLaws → (to : Option Ip6) (x : List ℕ) → IsBytes x → IsForeignTo to x → is_teredo (value_in x).packet.src ≡ false
+foreign_packet laws to x fits f =
+    let reads = laws.whole x (fields_in x) fits (short_packet laws to x fits f) (read_as x f.well_formed) in
     ap (λ (v : Value). is_teredo v.packet.src) reads.value ∙ f.native
 
 of_send : RelayLaws → (s : RelaySettings) (peer : Option Ip6) (x : Send) → IsMadeRelay s → IfSome peer IsIp6 → IsSending s peer x → IsBytes x.bytes → IsForeignSend x
@@ -170,14 +175,17 @@ unfolding bubble_to
 of_send laws s peer x made there (bubbles p of is) fits =
     let to : IsIp6 p = subst (λ (o : Option Ip6). IfSome o IsIp6) of there in
     let reads = laws.bubble s.six p made.six to in
+    let long = reads.long in
     record {
       bytes = fits;
+      short = subst (λ (z : Send). length z.bytes ≤ DATAGRAM_MAX) (sym is) (omega (arith, long));
       foreign = ap (λ (z : Send). is_teredo (value_in z.bytes).packet.src) is ∙ ap (λ (v : Value). is_teredo v.packet.src) reads.payload.value ∙ made.native;
     }
 of_send laws s peer x made there (carries p bytes of foreign is) fits =
     let same : x.bytes ≡ bytes = ap (λ (z : Send). z.bytes) is in
     record {
       bytes = fits;
+      short = subst (λ (z : Send). length z.bytes ≤ DATAGRAM_MAX) (sym is) (short_packet laws peer bytes (subst IsBytes same fits) foreign);
       foreign = ap (λ (y : List ℕ). is_teredo (value_in y).packet.src) same ∙ foreign_packet laws peer bytes (subst IsBytes same fits) foreign;
     }
 

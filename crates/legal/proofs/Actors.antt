@@ -1,0 +1,79 @@
+-- What a record that follows says of its node.
+use Rattle.std.proofs.Common.{◌≡◌, ℕ, ◌==◌, Bool, true, false, cond, List, [], ◌∷◌, Option, Some, None, refl, sym, ap, subst, ◌∙◌, arith}
+use Rattle.std.specs.Prelude.{max}
+use Rattle.std.proofs.lemmas.Bool.Decides.{nat_tests}
+use Rattle.td_base.specs.declared.endpoint.Ep.{Ep}
+use Rattle.teredo_node.specs.Journal.{Input, given, ticked, Entry, with_entry}
+use Rattle.topology.specs.declared.node.Node.{Node}
+use Rattle.topology.specs.Topology.{node_at}
+use Rattle.history.specs.declared.act.Act.{Act}
+use Rattle.history.specs.declared.act.Act.TheVariants as act
+use Rattle.history.specs.Full.{Full}
+use Rattle.legal.specs.Lab.{Lab}
+use Rattle.legal.specs.Past.{now, is_restart, new_journal, journal}
+use Rattle.legal.specs.Emit.{entry_of}
+use Rattle.legal.specs.Next.{Numbered, acts, plain, no_ep, dst_of, input_of}
+use Rattle.legal.specs.Kinds as kinds
+use Rattle.legal.specs.Kinds.{Quiet, shut, strayed, missing, none_left, uncopied, hosted, restarted, forgot, Kind, quiet, put, copied, ticks, handed, reached, event_of}
+use Rattle.legal.specs.Actors as actors
+use Rattle.legal.specs.Actors.{IsGiven, IsActOf, Acted, idles, does, EachActs}
+use Rattle.legal.proofs.ByKind.{kind_of}
+use Rattle.legal.proofs.Growth.{hands_still}
+
+same_number : (n : ℕ) → (n == n) ≡ true
+same_number n = grind (arith, nat_tests)
+
+-- A NODE ACTS
+
+module _ (lab : Lab) (H : List Full) (e : Numbered) (w : Act) (number : Option ℕ) (m n : ℕ) (dst : Ep) (input : Input) (a : Node) where
+  abbrev did : Entry
+  did = entry_of lab H m n dst input a
+
+  abbrev whole : Full
+  whole = acts lab H e w number m n dst input a
+
+  next_journal : is_restart w ≡ false → journal n (whole ∷ H) ≡ with_entry (journal n H) did
+  next_journal still =
+      ap (λ (b : Bool). cond b (cond (is_restart w) (new_journal m) (with_entry (journal n H) did)) (journal n H)) (same_number n)
+      ∙ ap (λ (b : Bool). cond b (new_journal m) (with_entry (journal n H) did)) still
+
+  act_of : node_at lab.topology n ≡ Some a → is_restart w ≡ false → IsGiven lab H whole n a dst input → IsActOf lab H whole n a did
+  act_of at still g = record { there = at; node = refl; still = still; dst = dst; input = input; is_given = g; step = refl; entry = refl; later = next_journal still; address = refl; handed = refl; made = refl; passed = refl }
+
+  acts_as : (r : Full) → r ≡ whole → node_at lab.topology n ≡ Some a → is_restart w ≡ false → IsGiven lab H r n a dst input → Acted lab H r
+  acts_as r is at still g = subst (Acted lab H) (sym is) (does n a did (act_of at still (subst (λ (z : Full). IsGiven lab H z n a dst input) is g)))
+
+-- NONE DOES
+
+hands_nothing : (lab : Lab) (H : List Full) (r : Full) → Quiet lab H r → r.handed ≡ None
+hands_nothing lab H r (kinds.passed ms asked before is) = ap (λ (z : Full). z.handed) is
+hands_nothing lab H r (shut number k x delivers at closed is) = ap (λ (z : Full). z.handed) is
+hands_nothing lab H r (strayed number x delivers at lost is) = ap (λ (z : Full). z.handed) is
+hands_nothing lab H r (missing number delivers at is) = ap (λ (z : Full). z.handed) is
+hands_nothing lab H r (none_left asked none is) = ap (λ (z : Full). z.handed) is
+hands_nothing lab H r (uncopied number src dst asked at is) = ap (λ (z : Full). z.handed) is
+hands_nothing lab H r (hosted v n x hands at is) = ap (λ (z : Full). z.handed) is
+hands_nothing lab H r (restarted n asked is) = ap (λ (z : Full). z.handed) is
+hands_nothing lab H r (forgot n who asked is) = ap (λ (z : Full). z.handed) is
+
+nobody : (lab : Lab) (H : List Full) (r q : Full) → r ≡ q → q.entry ≡ None → q.address ≡ None → q.handed ≡ None → q.passed ≡ [] → Acted lab H r
+nobody lab H r q is entry address hands lets = subst (Acted lab H) (sym is) (idles entry address hands lets)
+
+-- ANY RECORD
+
+pub acted_in : (lab : Lab) (H : List Full) (r : Full) → Kind lab H r → Acted lab H r
+acted_in lab H r (quiet entry address made passed why) = idles entry address (hands_nothing lab H r why) passed
+acted_in lab H r (put src dst bytes asked is) = nobody lab H r _ is refl refl refl refl
+acted_in lab H r (copied number src dst x asked at is) = nobody lab H r _ is refl refl refl refl
+acted_in lab H r (ticks ms x asked due within is) =
+    acts_as lab H (event_of r) act.Tick None (max x.moment (now H)) x.number no_ep ticked x.node r is due.there refl
+    (actors.ticks x due refl (ap (λ (z : Full). z.delivered) is) (ap (λ (z : Full). z.moment) is) refl refl)
+acted_in lab H r (handed v n x a hands at is) =
+    acts_as lab H (event_of r) (plain v) None (now H) n no_ep (given x) a r is at (hands_still lab H r.asked v n x hands)
+    (actors.hosted v x hands (ap (λ (z : Full). z.delivered) is) (ap (λ (z : Full). z.moment) is) refl refl)
+acted_in lab H r (reached number n x a delivers at goes to is) =
+    acts_as lab H (event_of r) (act.Deliver number) (Some number) (now H) n (dst_of x) (input_of x) a r is to refl
+    (actors.delivered number x (ap (λ (z : Full). z.delivered) is) at goes (ap (λ (z : Full). z.moment) is) refl refl)
+
+pub each_acts : EachActs
+each_acts lab H r follows = acted_in lab H r (kind_of lab H r follows)

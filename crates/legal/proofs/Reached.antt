@@ -1,0 +1,281 @@
+-- An entry comes to the node that is there.
+use Rattle.std.proofs.Common.{◌≡◌, ◌⊎◌, inl, inr, ℕ, zero, suc, ◌+◌, ◌==◌, ◌&&◌, ◌||◌, Bool, true, false, cond, nat_lt, List, [], ◌∷◌, ◌++◌, map, length, Option, Some, None, refl, sym, ap, subst, ◌∙◌, arith}
+use Rattle.std.specs.Prelude.{position, not, slice_get, flat_map, unwrap_or, is_some}
+use Rattle.std.specs.List.{list_any, position_or_len}
+use Rattle.std.proofs.lemmas.Bool.{false≢true, and_parts, lt-ltb}
+use Rattle.std.proofs.lemmas.Bool.Decides.{nat_tests}
+use Rattle.std.proofs.lemmas.Option.{slice_get_within}
+use Rattle.td_base.specs.declared.endpoint.Ep.{Ep}
+use Rattle.td_base.specs.declared.ipv4.Ip4.{Ip4}
+use Rattle.td_base.specs.declared.ipv6.Ip6.{Ip6}
+use Rattle.td_base.specs.Ip4.{same_ip, same_ip-self}
+use Rattle.td_base.specs.Ip6.{same_ip6, same_ip6-self, same_ip6-true}
+use Rattle.td_base.specs.Ep.{same_ep, same_ep-self, same_ep-true, server_ep}
+use Rattle.ipv6_packet.specs.Reads.{fields_in}
+use Rattle.topology.specs.declared.server_node.ServerNode.{ServerNode}
+use Rattle.topology.specs.declared.client_node.ClientNode.{ClientNode}
+use Rattle.topology.specs.declared.relay_node.RelayNode.{RelayNode}
+use Rattle.topology.specs.declared.native_node.NativeNode.{NativeNode}
+use Rattle.topology.specs.Rows.{TopologyState}
+use Rattle.topology.specs.declared.node.Node.{Node}
+use Rattle.topology.specs.declared.node.Node.TheVariants.{Server as server, Nat as nat, Client as client, Relay as relay, Native as native}
+use Rattle.topology.specs.Topology.{nodes, node_at, is_at, is_behind, is_native, number_of}
+use Rattle.topology.specs.Rules.{AreDistinct, same_inside, IsTopology}
+use Rattle.topology.specs.NodeRules.{has_address, AddressesAreApart}
+use Rattle.topology.specs.Chains.{chain_in}
+use Rattle.topology.proofs.Lists.{flat_joined}
+use Rattle.history.specs.Full.{udp, six, Full}
+use Rattle.legal.specs.Lab.{Lab}
+use Rattle.legal.specs.Past.{nat_pasts}
+use Rattle.legal.specs.Emit.{reaches, astray, reach, reach_node, route_in, from_outside, route}
+use Rattle.legal.specs.Routes.{IsLetIn, EachIsReached}
+
+-- THE FIRST THAT PASSES
+
+-- an element that alone passes is the first to pass
+first_is : {A : Type 0} (p : A → Bool) (xs : List A) (n : ℕ) (a : A) → slice_get xs n ≡ Some a → p a ≡ true → ((k : ℕ) (b : A) → slice_get xs k ≡ Some b → p b ≡ true → k ≡ n) → position_or_len p xs ≡ n
+first_is p [] n a at h only = absurd (false≢true (ap (λ (o : Option _). is_some o) at))
+first_is p (x ∷ xs) n a at h only = by (p x) refl n at only (first_is p xs) where
+  by : (b : Bool) → p x ≡ b → (j : ℕ) → slice_get (x ∷ xs) j ≡ Some a → ((k : ℕ) (c : _) → slice_get (x ∷ xs) k ≡ Some c → p c ≡ true → k ≡ j)
+      → ((i : ℕ) (c : _) → slice_get xs i ≡ Some c → p c ≡ true → ((k : ℕ) (d : _) → slice_get xs k ≡ Some d → p d ≡ true → k ≡ i) → position_or_len p xs ≡ i) → cond (not b) (1 + position_or_len p xs) 0 ≡ j
+  by true e j there only_j ih = only_j 0 x refl e
+  by false e zero there only_j ih = absurd (false≢true (sym e ∙ ap p (ap (λ (o : Option _). unwrap_or o x) there) ∙ h))
+  by false e (suc j) there only_j ih =
+      let rest = ih j a there h (λ k c to g. let same = only_j (suc k) c to g in omega (arith, same)) in
+      let one : 1 + j ≡ suc j = omega arith in
+      ap (λ (k : ℕ). 1 + k) rest ∙ one
+
+placed : {A : Type 0} (p : A → Bool) (xs : List A) (n : ℕ) (a : A) → slice_get xs n ≡ Some a → p a ≡ true → ((k : ℕ) (b : A) → slice_get xs k ≡ Some b → p b ≡ true → k ≡ n) → position p xs ≡ Some n
+placed p xs n a at h only =
+    ap (λ (k : ℕ). cond (nat_lt k (length xs)) (Some k) None) (first_is p xs n a at h only)
+    ∙ ap (λ (b : Bool). cond b (Some n) None) (lt-ltb n (length xs) (slice_get_within xs n a at))
+
+-- a node that alone passes is reached
+looked_up : (test : Node → Bool) (t : TopologyState) (n : ℕ) (a : Node) → node_at t n ≡ Some a → test a ≡ true → ((k : ℕ) (b : Node) → node_at t k ≡ Some b → test b ≡ true → k ≡ n) → reach t (number_of test t) ≡ reaches n a
+looked_up test t n a at h only = ap (reach t) (placed test (nodes t) n a at h only) ∙ ap (reach_node n) at
+
+-- LISTS OF DIFFERENT THINGS
+
+any_left : {B : Type 0} (p : B → Bool) (xs ys : List B) → list_any p xs ≡ true → list_any p (xs ++ ys) ≡ true
+any_left p [] ys h = absurd (false≢true h)
+any_left p (x ∷ xs) ys h = by (p x) (any_left p xs ys) h where
+  by : (b : Bool) → (list_any p xs ≡ true → list_any p (xs ++ ys) ≡ true) → (b || list_any p xs) ≡ true → (b || list_any p (xs ++ ys)) ≡ true
+  by true ih g = refl
+  by false ih g = ih g
+
+any_right : {B : Type 0} (p : B → Bool) (xs ys : List B) → list_any p ys ≡ true → list_any p (xs ++ ys) ≡ true
+any_right p [] ys h = h
+any_right p (x ∷ xs) ys h = by (p x) (any_right p xs ys h) where
+  by : (b : Bool) → list_any p (xs ++ ys) ≡ true → (b || list_any p (xs ++ ys)) ≡ true
+  by true g = refl
+  by false g = g
+
+any_weaker : {B : Type 0} (p q : B → Bool) (xs : List B) → ((x : B) → p x ≡ true → q x ≡ true) → list_any p xs ≡ true → list_any q xs ≡ true
+any_weaker p q [] f h = absurd (false≢true h)
+any_weaker p q (x ∷ xs) f h = by (p x) (q x) (f x) (any_weaker p q xs f) h where
+  by : (b c : Bool) → (b ≡ true → c ≡ true) → (list_any p xs ≡ true → list_any q xs ≡ true) → (b || list_any p xs) ≡ true → (c || list_any q xs) ≡ true
+  by b true g ih k = refl
+  by true false g ih k = absurd (false≢true (g refl))
+  by false false g ih k = ih k
+
+-- those that pass one test are the same: so one alone does, of elements that each have some of a list without such pairs
+module _ {A B : Type 0} (same : B → B → Bool) (q : B → Bool) (agree : (x y : B) → q x ≡ true → q y ≡ true → same x y ≡ true) (f : A → List B) where
+  clash : (xs ys : List B) → AreDistinct same (xs ++ ys) → list_any q xs ≡ true → list_any q ys ≡ true → ⊥
+  clash [] ys d h g = false≢true h
+  clash (x ∷ xs) ys d h g = by (q x) refl (λ k. clash xs ys d.1 k g) h where
+    by : (b : Bool) → q x ≡ b → (list_any q xs ≡ true → ⊥) → (b || list_any q xs) ≡ true → ⊥
+    by true e rest k = false≢true (sym d.0 ∙ any_right (same x) xs ys (any_weaker q (same x) ys (λ y. agree x y e) g))
+    by false e rest k = rest k
+
+  right_distinct : (xs ys : List B) → AreDistinct same (xs ++ ys) → AreDistinct same ys
+  right_distinct [] ys d = d
+  right_distinct (x ∷ xs) ys d = right_distinct xs ys d.1
+
+  any_at : (xs : List A) (n : ℕ) (a : A) → slice_get xs n ≡ Some a → list_any q (f a) ≡ true → list_any q (flat_map f xs) ≡ true
+  any_at [] n a at h = absurd (false≢true (ap (λ (o : Option A). is_some o) at))
+  any_at (x ∷ xs) zero a at h = any_left q (f x) (flat_map f xs) (subst (λ (z : A). list_any q (f z) ≡ true) (sym (ap (λ (o : Option A). unwrap_or o a) at)) h)
+  any_at (x ∷ xs) (suc n) a at h = any_right q (f x) (flat_map f xs) (any_at xs n a at h)
+
+  one_alone : (xs : List A) (n m : ℕ) (a b : A) → AreDistinct same (flat_map f xs) → slice_get xs n ≡ Some a → slice_get xs m ≡ Some b → list_any q (f a) ≡ true → list_any q (f b) ≡ true → n ≡ m
+  one_alone [] n m a b d at to h g = absurd (false≢true (ap (λ (o : Option A). is_some o) at))
+  one_alone (x ∷ xs) zero zero a b d at to h g = refl
+  one_alone (x ∷ xs) zero (suc m) a b d at to h g =
+      absurd (clash (f x) (flat_map f xs) d (subst (λ (z : A). list_any q (f z) ≡ true) (sym (ap (λ (o : Option A). unwrap_or o a) at)) h) (any_at xs m b to g))
+  one_alone (x ∷ xs) (suc n) zero a b d at to h g =
+      absurd (clash (f x) (flat_map f xs) d (subst (λ (z : A). list_any q (f z) ≡ true) (sym (ap (λ (o : Option A). unwrap_or o b) to)) g) (any_at xs n a at h))
+  one_alone (x ∷ xs) (suc n) (suc m) a b d at to h g = ap (λ (k : ℕ). suc k) (one_alone xs n m a b (right_distinct (f x) (flat_map f xs) d) at to h g)
+
+-- ONE DESTINATION
+
+here_has : (ip : Ip4) (b : Bool) → (same_ip ip ip || b) ≡ true
+here_has ip b = ap (λ (x : Bool). x || b) (same_ip-self ip)
+
+second_has : (b : Bool) (ip : Ip4) → (b || (same_ip ip ip || false)) ≡ true
+second_has true ip = refl
+second_has false ip = here_has ip false
+
+-- whoever is at an endpoint has its address
+has_it : (dst : Ep) (a : Node) → is_at dst a ≡ true → has_address dst.ip a ≡ true
+has_it dst (server a) h = by (same_ep dst (server_ep a.primary)) refl h where
+  by : (b : Bool) → same_ep dst (server_ep a.primary) ≡ b → (b || same_ep dst (server_ep a.secondary)) ≡ true → has_address dst.ip (server a) ≡ true
+  by true e g =
+      let same : dst.ip ≡ a.primary = ap (λ (x : Ep). x.ip) (same_ep-true dst (server_ep a.primary) e) in
+      subst (λ (ip : Ip4). has_address ip (server a) ≡ true) (sym same) (here_has a.primary (same_ip a.primary a.secondary || false))
+  by false e g =
+      let same : dst.ip ≡ a.secondary = ap (λ (x : Ep). x.ip) (same_ep-true dst (server_ep a.secondary) g) in
+      subst (λ (ip : Ip4). has_address ip (server a) ≡ true) (sym same) (second_has (same_ip a.secondary a.primary) a.secondary)
+has_it dst (nat a) h = ap (λ (b : Bool). b || false) h
+has_it dst (client c) h = absurd (false≢true h)
+has_it dst (relay r) h =
+    let same : dst.ip ≡ r.at.ip = ap (λ (x : Ep). x.ip) (same_ep-true dst r.at h) in
+    subst (λ (ip : Ip4). has_address ip (relay r) ≡ true) (sym same) (here_has r.at.ip false)
+has_it dst (native h) g = absurd (false≢true g)
+
+at_dst : AddressesAreApart → (t : TopologyState) (dst : Ep) (n : ℕ) (a : Node) → IsTopology t → node_at t n ≡ Some a → is_at dst a ≡ true → reach t (number_of (is_at dst) t) ≡ reaches n a
+at_dst apart t dst n a is at h = looked_up (is_at dst) t n a at h (λ k b to g. apart t k n b a dst.ip is to at (has_it dst b g) (has_it dst a h))
+
+-- ONE INSIDE ENDPOINT
+
+abbrev clients_in : Node → List ClientNode
+clients_in (client c) = c ∷ []
+clients_in _ = []
+
+none_of : {A B C : Type 0} (f : B → List C) (g : A → B) (xs : List A) → ((x : A) → f (g x) ≡ []) → flat_map f (map g xs) ≡ []
+none_of f g [] h = refl
+none_of f g (x ∷ xs) h = ap (λ (zs : List _). zs ++ flat_map f (map g xs)) (h x) ∙ none_of f g xs h
+
+all_of : {A B C : Type 0} (f : B → List C) (g : A → B) (k : A → C) (xs : List A) → ((x : A) → f (g x) ≡ k x ∷ []) → flat_map f (map g xs) ≡ map k xs
+all_of f g k [] h = refl
+all_of f g k (x ∷ xs) h = ap (λ (zs : List _). zs ++ flat_map f (map g xs)) (h x) ∙ ap (λ (zs : List _). k x ∷ zs) (all_of f g k xs h)
+
+nothing_behind : {C : Type 0} (xs : List C) → xs ++ [] ≡ xs
+nothing_behind [] = refl
+nothing_behind (x ∷ xs) = ap (λ (zs : List _). x ∷ zs) (nothing_behind xs)
+
+same_map : (xs : List ClientNode) → map (λ (c : ClientNode). c) xs ≡ xs
+same_map [] = refl
+same_map (x ∷ xs) = ap (λ (zs : List ClientNode). x ∷ zs) (same_map xs)
+
+-- what a test finds in four parts of which it finds in one alone
+sections : {C : Type 0} (f : Node → List C) (t : TopologyState)
+    → flat_map f (nodes t) ≡ flat_map f (map server t.servers) ++ (flat_map f (map nat t.nats) ++ (flat_map f (map client t.clients) ++ (flat_map f (map relay t.relays) ++ flat_map f (map native t.natives))))
+sections f t =
+    let S = map server t.servers in
+    let N = map nat t.nats in
+    let C = map client t.clients in
+    let R = map relay t.relays in
+    let V = map native t.natives in
+    flat_joined f S (N ++ (C ++ (R ++ V))) ∙ ap (λ (zs : List _). flat_map f S ++ zs) (flat_joined f N (C ++ (R ++ V))
+    ∙ ap (λ (zs : List _). flat_map f N ++ zs) (flat_joined f C (R ++ V) ∙ ap (λ (zs : List _). flat_map f C ++ zs) (flat_joined f R V)))
+
+all_clients : (t : TopologyState) → flat_map clients_in (nodes t) ≡ t.clients
+all_clients t =
+    sections clients_in t
+    ∙ ap (λ (zs : List ClientNode). zs ++ (flat_map clients_in (map nat t.nats) ++ (flat_map clients_in (map client t.clients) ++ (flat_map clients_in (map relay t.relays) ++ flat_map clients_in (map native t.natives))))) (none_of clients_in server t.servers (λ x. refl))
+    ∙ ap (λ (zs : List ClientNode). zs ++ (flat_map clients_in (map client t.clients) ++ (flat_map clients_in (map relay t.relays) ++ flat_map clients_in (map native t.natives)))) (none_of clients_in nat t.nats (λ x. refl))
+    ∙ ap (λ (zs : List ClientNode). flat_map clients_in (map client t.clients) ++ (zs ++ flat_map clients_in (map native t.natives))) (none_of clients_in relay t.relays (λ x. refl))
+    ∙ ap (λ (zs : List ClientNode). flat_map clients_in (map client t.clients) ++ zs) (none_of clients_in native t.natives (λ x. refl))
+    ∙ nothing_behind (flat_map clients_in (map client t.clients))
+    ∙ all_of clients_in client (λ (c : ClientNode). c) t.clients (λ x. refl) ∙ same_map t.clients
+
+abbrev sits : ℕ → Ep → ClientNode → Bool
+sits k inside c = (c.nat == k) && same_ep inside c.inside
+
+same_number : (n : ℕ) → (n == n) ≡ true
+same_number n = grind (arith, nat_tests)
+
+number_is : (x y : ℕ) → (x == y) ≡ true → x ≡ y
+number_is x y e = grind (arith, nat_tests)
+
+both_true : (b c : Bool) → b ≡ true → c ≡ true → (b && c) ≡ true
+both_true true c h g = g
+both_true false c h g = absurd (false≢true h)
+
+two_sit : (k : ℕ) (inside : Ep) (x y : ClientNode) → sits k inside x ≡ true → sits k inside y ≡ true → same_inside x y ≡ true
+two_sit k inside x y h g =
+    let a = and_parts (x.nat == k) (same_ep inside x.inside) h in
+    let b = and_parts (y.nat == k) (same_ep inside y.inside) g in
+    let nats : y.nat ≡ x.nat = number_is y.nat k b.0 ∙ sym (number_is x.nat k a.0) in
+    let ends : y.inside ≡ x.inside = sym (same_ep-true inside y.inside b.1) ∙ same_ep-true inside x.inside a.1 in
+    both_true (x.nat == y.nat) (same_ep x.inside y.inside) (ap (λ (n : ℕ). x.nat == n) nats ∙ same_number x.nat) (ap (same_ep x.inside) ends ∙ same_ep-self x.inside)
+
+-- the client of a node that is behind a NAT
+it_sits : (k : ℕ) (inside : Ep) (a : Node) → is_behind k inside a ≡ true → list_any (sits k inside) (clients_in a) ≡ true
+it_sits k inside (client c) h = ap (λ (b : Bool). b || false) h
+it_sits k inside (server a) h = absurd (false≢true h)
+it_sits k inside (nat a) h = absurd (false≢true h)
+it_sits k inside (relay a) h = absurd (false≢true h)
+it_sits k inside (native a) h = absurd (false≢true h)
+
+at_inside : (t : TopologyState) (n : ℕ) (c : ClientNode) → IsTopology t → node_at t n ≡ Some (client c) → reach t (number_of (is_behind c.nat c.inside) t) ≡ reaches n (client c)
+at_inside t n c is at =
+    let own : is_behind c.nat c.inside (client c) ≡ true = both_true (c.nat == c.nat) (same_ep c.inside c.inside) (same_number c.nat) (same_ep-self c.inside) in
+    let distinct : AreDistinct same_inside (flat_map clients_in (nodes t)) = subst (AreDistinct same_inside) (sym (all_clients t)) is.inside in
+    looked_up (is_behind c.nat c.inside) t n (client c) at own
+    (λ k b to g. one_alone same_inside (sits c.nat c.inside) (two_sit c.nat c.inside) clients_in (nodes t) k n b (client c) distinct to at (it_sits c.nat c.inside b g) (it_sits c.nat c.inside (client c) own))
+
+-- ONE NATIVE HOST
+
+abbrev natives_in : Node → List Ip6
+natives_in (native h) = h.six ∷ []
+natives_in _ = []
+
+all_natives : (t : TopologyState) → flat_map natives_in (nodes t) ≡ map (λ (h : NativeNode). h.six) t.natives
+all_natives t =
+    sections natives_in t
+    ∙ ap (λ (zs : List Ip6). zs ++ (flat_map natives_in (map nat t.nats) ++ (flat_map natives_in (map client t.clients) ++ (flat_map natives_in (map relay t.relays) ++ flat_map natives_in (map native t.natives))))) (none_of natives_in server t.servers (λ x. refl))
+    ∙ ap (λ (zs : List Ip6). zs ++ (flat_map natives_in (map client t.clients) ++ (flat_map natives_in (map relay t.relays) ++ flat_map natives_in (map native t.natives)))) (none_of natives_in nat t.nats (λ x. refl))
+    ∙ ap (λ (zs : List Ip6). zs ++ (flat_map natives_in (map relay t.relays) ++ flat_map natives_in (map native t.natives))) (none_of natives_in client t.clients (λ x. refl))
+    ∙ ap (λ (zs : List Ip6). zs ++ flat_map natives_in (map native t.natives)) (none_of natives_in relay t.relays (λ x. refl))
+    ∙ all_of natives_in native (λ (h : NativeNode). h.six) t.natives (λ x. refl)
+
+two_same : (ip x y : Ip6) → same_ip6 ip x ≡ true → same_ip6 ip y ≡ true → same_ip6 x y ≡ true
+two_same ip x y h g =
+    let same : y ≡ x = sym (same_ip6-true ip y g) ∙ same_ip6-true ip x h in
+    ap (same_ip6 x) same ∙ same_ip6-self x
+
+it_has : (ip : Ip6) (a : Node) → is_native ip a ≡ true → list_any (same_ip6 ip) (natives_in a) ≡ true
+it_has ip (native h) g = ap (λ (b : Bool). b || false) g
+it_has ip (server a) g = absurd (false≢true g)
+it_has ip (nat a) g = absurd (false≢true g)
+it_has ip (client a) g = absurd (false≢true g)
+it_has ip (relay a) g = absurd (false≢true g)
+
+at_six : (t : TopologyState) (ip : Ip6) (n : ℕ) (h : NativeNode) → IsTopology t → node_at t n ≡ Some (native h) → same_ip6 ip h.six ≡ true → reach t (number_of (is_native ip) t) ≡ reaches n (native h)
+at_six t ip n h is at own =
+    let theirs : AreDistinct same_ip6 (map (λ (x : NativeNode). x.six) t.natives) = right_distinct same_ip6 (same_ip6 ip) (two_same ip) natives_in (map (λ (r : RelayNode). r.six) t.relays) (map (λ (x : NativeNode). x.six) t.natives) is.sixes in
+    let distinct : AreDistinct same_ip6 (flat_map natives_in (nodes t)) = subst (AreDistinct same_ip6) (sym (all_natives t)) theirs in
+    looked_up (is_native ip) t n (native h) at own
+    (λ k b to g. one_alone same_ip6 (same_ip6 ip) (two_same ip) natives_in (nodes t) k n b (native h) distinct to at (it_has ip b g) (it_has ip (native h) own))
+
+-- ANY ENTRY
+
+server_there : (dst : Ep) (a : ServerNode) → (dst ≡ server_ep a.primary) ⊎ (dst ≡ server_ep a.secondary) → is_at dst (server a) ≡ true
+server_there dst a (inl e) = ap (λ (b : Bool). b || same_ep dst (server_ep a.secondary)) (ap (same_ep dst) (sym e) ∙ same_ep-self dst)
+server_there dst a (inr e) = ap (λ (b : Bool). same_ep dst (server_ep a.primary) || b) (ap (same_ep dst) (sym e) ∙ same_ep-self dst) ∙ or_true (same_ep dst (server_ep a.primary)) where
+  or_true : (b : Bool) → (b || true) ≡ true
+  or_true true = refl
+  or_true false = refl
+
+let_in : AddressesAreApart → (lab : Lab) (H : List Full) (m : ℕ) (src dst : Ep) (bytes : List ℕ) (n : ℕ) (c : ClientNode) → IsTopology lab.topology → node_at lab.topology n ≡ Some (client c) → IsLetIn lab H m src dst c
+    → route lab H m (udp src dst bytes) ≡ reaches n (client c)
+let_in apart lab H m src dst bytes n c is at in_ =
+    let there : is_at dst (nat in_.row) ≡ true = ap (λ (ip : Ip4). same_ip dst.ip ip) (sym in_.external) ∙ same_ip-self dst.ip in
+    ap (from_outside lab H m src dst) (at_dst apart lab.topology dst in_.outer (nat in_.row) is in_.there there)
+    ∙ ap (λ (b : Bool). cond b astray (route_in lab.topology (chain_in lab.topology lab.chain (nat_pasts lab H) m in_.outer src dst.port))) in_.outermost
+    ∙ ap (route_in lab.topology) in_.enters ∙ at_inside lab.topology n c is at
+
+pub each_is_reached : AddressesAreApart → EachIsReached
+each_is_reached apart lab H m (udp src dst bytes) n (server a) is at h = ap (from_outside lab H m src dst) (at_dst apart lab.topology dst n (server a) is at (server_there dst a h))
+each_is_reached apart lab H m (udp src dst bytes) n (nat a) is at h = absurd h
+each_is_reached apart lab H m (udp src dst bytes) n (client c) is at h = let_in apart lab H m src dst bytes n c is at h
+each_is_reached apart lab H m (udp src dst bytes) n (relay r) is at h =
+    ap (from_outside lab H m src dst) (at_dst apart lab.topology dst n (relay r) is at (ap (same_ep dst) (sym h) ∙ same_ep-self dst))
+each_is_reached apart lab H m (udp src dst bytes) n (native x) is at h = absurd h
+each_is_reached apart lab H m (six (Some k) bytes) n a is at h = ap (λ (j : ℕ). reach lab.topology (Some j)) (sym h) ∙ ap (reach_node n) at
+each_is_reached apart lab H m (six None bytes) n (native x) is at h =
+    ap (λ (b : Bool). cond b (reach lab.topology (number_of (is_native (fields_in bytes).dst) lab.topology)) astray) h.packet ∙ at_six lab.topology (fields_in bytes).dst n x is at h.destination
+each_is_reached apart lab H m (six None bytes) n (server x) is at h = absurd h
+each_is_reached apart lab H m (six None bytes) n (nat x) is at h = absurd h
+each_is_reached apart lab H m (six None bytes) n (client x) is at h = absurd h
+each_is_reached apart lab H m (six None bytes) n (relay x) is at h = absurd h

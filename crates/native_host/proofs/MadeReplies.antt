@@ -1,0 +1,114 @@
+-- A reply is bytes, and as many as the request.
+use Rattle.std.proofs.Common.{◌≡◌, ◌≤◌, ◌<◌, ℕ, ◌+◌, ◌-◌, ◌==◌, Bool, true, false, cond, List, length, drop, Option, Some, None, Ok, Result, Err, refl, sym, ap, subst, ◌∙◌, arith}
+use Rattle.std.specs.Prelude.{unwrap_or, is_some, nat_lt, not, ◌^◌, ◌/◌}
+use Rattle.std.proofs.lemmas.Bool.{false≢true}
+use Rattle.td_base.specs.Bytes.{IsBytes, number_at}
+use Rattle.td_base.specs.Ip6.{IsIp6}
+use Rattle.td_base.specs.declared.ipv6.Ip6.{Ip6}
+use Rattle.td_base.proofs.BytesLemmas.{IsBytes-drop}
+use Rattle.ipv6_packet.specs.Packets.{Fields, packet_bytes, packet_at, fields_of}
+use Rattle.ipv6_packet.specs.Reads.{no_fields, is_ok_packet, fields_or, is_packet, fields_in}
+use Rattle.ipv6_packet.specs.declared.fault.PacketFault.{PacketFault}
+use Rattle.ipv6_packet.specs.declared.fault.PacketFault.TheVariants.{Short, Version, Length}
+use Rattle.ipv6_packet.specs.declared.header.TheConstants.{HEADER, VERSION, NEXT_ICMP}
+use Rattle.ipv6_packet.specs.Laws.{PacketIsSpelled, PacketIsBytes}
+use Rattle.icmp6.specs.Message.{Message, echo_request, echo_reply, message_at}
+use Rattle.icmp6.specs.declared.fault.IcmpFault.{IcmpFault}
+use Rattle.icmp6.specs.declared.numbers.TheConstants.{ECHO_LEN}
+use Rattle.icmp6.specs.Grammar.{MessageBytes, MessageFits}
+use Rattle.icmp6.specs.Laws.{MessageIsBytes}
+use Rattle.icmp6.proofs.FoundLaws.{read_found}
+use Rattle.bubble.specs.Messages.{accepted, message_in, message_packet}
+use Rattle.bubble.specs.Laws.{MessageIsCarried}
+use Rattle.native_host.specs.declared.limits.TheConstants.{HOST_HOP}
+use Rattle.native_host.specs.NativeSends.{IsMadePacket, IsReply, EachReplyIsMade}
+use Rattle.native_host.proofs.NativeSends.{each_is_reply}
+
+pub record ReplyLaws : Type 0 where
+  pub spelled : PacketIsSpelled
+  pub packet : PacketIsBytes
+  pub carried : MessageIsCarried
+  pub message : MessageIsBytes
+
+-- WHAT CAME
+
+-- a packet without one has no message
+accepted_is : (b : Bool) (r : Result Message IcmpFault) (m : Message) → cond b (accepted r) None ≡ Some m → r ≡ Ok m
+accepted_is false r m e = absurd (false≢true (ap (λ (o : Option Message). is_some o) e))
+accepted_is true (Ok n) m e = ap (λ (o : Option Message). Ok (unwrap_or o n)) e
+accepted_is true (Err f) m e = absurd (false≢true (ap (λ (o : Option Message). is_some o) e))
+
+message_is : (p : Fields) (m : Message) → message_in p ≡ Some m → message_at p.src p.dst p.hop p.body ≡ Ok m
+unfolding message_in
+message_is p m e = accepted_is (p.next == NEXT_ICMP) (message_at p.src p.dst p.hop p.body) m e
+
+no_message : message_in no_fields ≡ None
+unfolding message_in
+no_message = refl
+
+no_fields_in : (y : List ℕ) → is_packet y ≡ false → fields_in y ≡ no_fields
+unfolding is_packet fields_in
+no_fields_in y h = by (packet_at y) h where
+  by : (r : Result Fields PacketFault) → is_ok_packet r ≡ false → fields_or r ≡ no_fields
+  by (Ok p) g = absurd (false≢true (sym g))
+  by (Err f) g = refl
+
+is_one : (y : List ℕ) (m : Message) → message_in (fields_in y) ≡ Some m → is_packet y ≡ true
+is_one y m e = by (is_packet y) refl where
+  by : (b : Bool) → is_packet y ≡ b → b ≡ true
+  by true h = refl
+  by false h = absurd (false≢true (ap (λ (o : Option Message). is_some o) (sym no_message ∙ ap message_in (sym (no_fields_in y h)) ∙ e)))
+
+-- the body of a packet of bytes
+body_bytes : (y : List ℕ) → IsBytes y → is_packet y ≡ true → IsBytes (fields_in y).body
+unfolding is_packet fields_in packet_at fields_of
+body_bytes y fits h = by_short (nat_lt (length y) HEADER) h where
+  by_length : (b : Bool) (f : PacketFault) → is_ok_packet (cond b (Err f) (Ok (fields_of y))) ≡ true → IsBytes (fields_or (cond b (Err f) (Ok (fields_of y)))).body
+  by_length true f g = absurd (false≢true g)
+  by_length false f g = IsBytes-drop HEADER y fits
+
+  by_version : (b c : Bool) (e f : PacketFault) → is_ok_packet (cond b (Err e) (cond c (Err f) (Ok (fields_of y)))) ≡ true → IsBytes (fields_or (cond b (Err e) (cond c (Err f) (Ok (fields_of y))))).body
+  by_version true c e f g = absurd (false≢true g)
+  by_version false c e f g = by_length c f g
+
+  by_short : (a : Bool) → is_ok_packet (cond a (Err (Short (length y))) (cond (not (number_at 0 4 y / 2 ^ 28 == VERSION)) (Err (Version (number_at 0 4 y / 2 ^ 28))) (cond (not (number_at 4 2 y == length y - HEADER)) (Err (Length (number_at 4 2 y) (length y - HEADER))) (Ok (fields_of y))))) ≡ true
+      → IsBytes (fields_or (cond a (Err (Short (length y))) (cond (not (number_at 0 4 y / 2 ^ 28 == VERSION)) (Err (Version (number_at 0 4 y / 2 ^ 28))) (cond (not (number_at 4 2 y == length y - HEADER)) (Err (Length (number_at 4 2 y) (length y - HEADER))) (Ok (fields_of y)))))).body
+  by_short true g = absurd (false≢true g)
+  by_short false g = by_version (not (number_at 0 4 y / 2 ^ 28 == VERSION)) (not (number_at 4 2 y == length y - HEADER)) (Version (number_at 0 4 y / 2 ^ 28)) (Length (number_at 4 2 y) (length y - HEADER)) g
+
+-- the data of an echo request that came
+record IsMadeEcho (x : List ℕ) (id seq : ℕ) (body : List ℕ) : Type 0 where
+  fits : (id < 2 ^ 16) × (seq < 2 ^ 16)
+  bytes : IsBytes body
+  long : length x ≡ ECHO_LEN + length body
+
+echo_is : (src dst : Ip6) (hop id seq : ℕ) (body x : List ℕ) → IsBytes x → length x < 2 ^ 16 → message_at src dst hop x ≡ Ok (echo_request id seq body) → IsMadeEcho x id seq body
+echo_is src dst hop id seq body x fits few e =
+    let found : MessageBytes src dst hop (echo_request id seq body) x = read_found src dst hop (echo_request id seq body) x fits e in
+    let tail : drop 8 x ≡ body = ap (λ (z : List ℕ). drop 8 z) found.bytes in
+    let len = ap (λ (z : List ℕ). length z) found.bytes in
+    record { fits = found.fits; bytes = subst IsBytes tail (IsBytes-drop 8 x fits); long = omega (arith, len) }
+
+-- THE REPLY
+
+reply_made : ReplyLaws → (src dst : Ip6) (x : List ℕ) (id seq : ℕ) (body : List ℕ) → IsIp6 src → IsIp6 dst → IsMadeEcho x id seq body → HEADER + length x < 2 ^ 16 → HEADER + length x ≤ 1400
+    → IsMadePacket (packet_bytes (message_packet HOST_HOP src dst (echo_reply id seq body)))
+reply_made laws src dst x id seq body from to h few most =
+    let fits : MessageFits (echo_reply id seq body) = h.fits in
+    let same = h.long in
+    let c = laws.carried HOST_HOP src dst (echo_reply id seq body) (record { hop_fits = omega arith; src_fits = from; dst_fits = to; fits = fits; valid = tt; short = omega (arith, few, same) }) in
+    let inner : length (message_packet HOST_HOP src dst (echo_reply id seq body)).body ≡ ECHO_LEN + length body = c.long in
+    let whole = laws.packet (message_packet HOST_HOP src dst (echo_reply id seq body)) c.packet in
+    let outer = whole.long in
+    record { bytes = whole.bytes ((laws.message src dst (echo_reply id seq body)).bytes fits h.bytes); short = omega (arith, outer, inner, same, most) }
+
+pub each_reply_is_made : ReplyLaws → EachReplyIsMade
+each_reply_is_made laws x y made e =
+    let r : IsReply x y = each_is_reply x y e in
+    let one = is_one x (echo_request r.id r.seq r.body) r.request in
+    let spelled = laws.spelled x made.bytes one in
+    let p : Fields = fields_in x in
+    let len : length x ≡ HEADER + length (fields_in x).body = ap length spelled.1 ∙ (laws.packet (fields_in x) spelled.0).long in
+    let most = made.short in
+    let echo = echo_is p.src p.dst p.hop r.id r.seq r.body p.body (body_bytes x made.bytes one) (omega (arith, len, most)) (message_is p (echo_request r.id r.seq r.body) r.request) in
+    subst IsMadePacket (sym r.reply) (reply_made laws p.dst p.src p.body r.id r.seq r.body spelled.0.dst spelled.0.src echo (omega (arith, len, most)) (omega (arith, len, most)))
