@@ -31,6 +31,7 @@ pub record Full : Type 0 where
   pub entry : Option Entry  -- what the node was given and did
   pub address : Option Ip6  -- that which a client got
   pub handed : Option (List ℕ)  -- the packet that a client's host was handed
+  pub late : List (List ℕ)  -- the packets that had been held, and that it was handed now
   pub first : ℕ  -- the number of the first entry that was made
   pub made : List Made  -- its sends and entries, in order
   pub passed : List Passing  -- what NATs let out of it, the latest first

@@ -1,5 +1,5 @@
 -- What a report needs of a full record.
-use Rattle.std.specs.Prelude.{ℕ, ◌+◌, List, [], ◌∷◌, length, Option, Some, None, option_map}
+use Rattle.std.specs.Prelude.{ℕ, ◌+◌, List, [], ◌∷◌, length, map, Option, Some, None, option_map}
 use Rattle.teredo_node.specs.Journal.{Entry}
 use Rattle.history.specs.declared.mark.Mark.{Mark}
 use Rattle.history.specs.declared.mark.Mark.TheVariants as mark
@@ -25,7 +25,7 @@ marks_of number (m ∷ ms) = mark_of number m ∷ marks_of (after_made number m)
 abbrev pub handed_of : Full → Option ℕ
 handed_of r = option_map length r.handed
 
--- how many waiting packets were dropped
+-- how many packets that waited or were held were dropped
 abbrev pub gone_of : Option Entry → ℕ
 gone_of None = 0
 gone_of (Some e) = e.step.gone
@@ -39,6 +39,7 @@ record_of r = record {
   fate = r.fate;
   address = r.address;
   handed = handed_of r;
+  late = map length r.late;
   gone = gone_of r.entry;
   marks = marks_of r.first r.made;
 }

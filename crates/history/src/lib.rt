@@ -14,18 +14,21 @@
 //! | module | holds | stated in |
 //! |---|---|---|
 //! | `act` | `Act` | `specs/Telling.antt` |
+//! | `late_list` | `Lates` | `specs/Records.antt` |
 //! | `mark`, `mark_list` | `Mark`, `Loss`, `Marks` | `specs/Records.antt` |
 //! | `turn` | `Turn`, `Stop` | |
 //! | `records` | `Record`, the full record behind it, and what it tells the totals | `specs/Full.antt`, `Records.antt`, `Telling.antt` |
 #![tactic(auto)]
 
 mod act;
+mod late_list;
 mod mark;
 mod mark_list;
 mod records;
 mod turn;
 
 pub use act::Act;
+pub use late_list::{LATES_MAX, Lates};
 pub use mark::{Loss, Mark};
 pub use mark_list::{MARKS_MAX, Marks};
 pub use records::Record;

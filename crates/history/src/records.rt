@@ -1,4 +1,5 @@
 use crate::act::Act;
+use crate::late_list::Lates;
 use crate::mark_list::Marks;
 use td_base::{Ip6, Millis};
 use teredo_node::Fate;
@@ -17,7 +18,9 @@ pub struct Record {
     pub address: Option<Ip6>,
     /// The length of the packet that was handed to a client's host.
     pub handed: Option<usize>,
-    /// How many waiting packets were dropped.
+    /// The lengths of the packets that had been held and that it was handed now.
+    pub late: Lates,
+    /// How many packets that waited or were held were dropped.
     pub gone: u16,
     pub marks: Marks,
 }

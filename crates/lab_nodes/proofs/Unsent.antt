@@ -17,14 +17,15 @@ use Rattle.teredo_node.specs.Sends.{has_any}
 use Rattle.teredo_node.specs.Journal.{Entry, Journal, Words}
 use Rattle.qualify.specs.declared.settings.Settings.{Settings}
 use Rattle.qualify.specs.Advertisements.{heard}
-use Rattle.client_core.specs.Client.{lists}
+use Rattle.client_core.specs.Client.{TakesRoom, to_hold, to_list, holds, lists}
 use Rattle.client_rules.specs.Standing.{Standing, standing_of}
 use Rattle.client_rules.specs.Reception.{is_good_origin, seen, reception_fate, reception_step, reception}
 use Rattle.client_rules.specs.Warrants.{ReceivedOnlyIf}
 use Rattle.client_rules.specs.Laws.{FateOfReception, ReceptionIsWarranted}
 use Rattle.client_rules.specs.Journals.{client_in}
 use Rattle.relay_core.specs.declared.relay.Relay.{Relay}
-use Rattle.relay_core.specs.Relay.{settings_of, TakesRoom, to_wait, to_list}
+use Rattle.relay_core.specs.Relay.{settings_of}
+use Rattle.relay_core.specs.Relay as relays
 use Rattle.relay_rules.specs.Standing.{RelaySettings, standing_of as relay_standing_of}
 use Rattle.relay_rules.specs.Transmission.{given as given_to, transmission_row, transmission_step, transmission}
 use Rattle.relay_rules.specs.Laws.{FateOfTransmission}
@@ -69,20 +70,28 @@ answered : {A : Type 0} (policy : Policy) (p : Ip6) (origin : Option Ep) (f : Ep
 answered policy p None f good e = false≢true good
 answered policy p (Some at) f good e = false≢true (sym (ap has_any e))
 
--- a line that lists the source of a datagram and sends nothing has a fate that takes memory
+-- a line that lists the source of a datagram, or holds its packet, and sends nothing has a fate that takes memory
 listing : (s : Settings) (a : Standing) (from : Ep) (x : List ℕ) (w : Words) (f : Fate) → ReceivedOnlyIf f (seen s a from x) (heard s a.qualification from (value_in x)) → lists f ≡ true
     → (reception_step s a from x (value_in x) w f).sends ≡ [] → takes_memory f ≡ true
 unfolding seen
 listing s a from x w fate.Indirect h l unsent = absurd (answered s.policy (value_in x).packet.src (origin_in (value_in x).lead) _ h.origin unsent)
-listing s a from x w fate.SuspiciousTest h l unsent = absurd (filled _ _ unsent)
 listing s a from x w fate.Rule3 h l unsent = refl
 listing s a from x w fate.Rule3Bubble h l unsent = refl
 listing s a from x w _ h l unsent = absurd (false≢true l)
 
-pub lists_unsent : FateOfReception → ReceptionIsWarranted → (s : Settings) (j : Journal) (m : ℕ) (from : Ep) (x : List ℕ) (w : Words) → lists (client_in s j m from x w).step.fate ≡ true
+holding : (s : Settings) (a : Standing) (from : Ep) (x : List ℕ) (w : Words) (f : Fate) → holds f ≡ true → (reception_step s a from x (value_in x) w f).sends ≡ [] → takes_memory f ≡ true
+holding s a from x w fate.HeldTest l unsent = absurd (filled _ _ unsent)
+holding s a from x w fate.Held l unsent = refl
+holding s a from x w _ l unsent = absurd (false≢true l)
+
+pub received_unsent : FateOfReception → ReceptionIsWarranted → (s : Settings) (j : Journal) (m : ℕ) (from : Ep) (x : List ℕ) (w : Words) (listed : Bool) → TakesRoom (client_in s j m from x w).step.fate listed
     → SendsOrKeeps (client_in s j m from x w).step
 unfolding client_in reception
-lists_unsent fates warranted s j m from x w l unsent =
+received_unsent fates warranted s j m from x w listed (to_hold l) unsent =
+    let a = standing_of s j m (source_in x) in
+    let is = fates s a from x w in
+    ap takes_memory is ∙ holding s a from x w (reception_fate s a from x) (sym (ap holds is) ∙ l) unsent
+received_unsent fates warranted s j m from x w listed (to_list l none) unsent =
     let a = standing_of s j m (source_in x) in
     let is = fates s a from x w in
     ap takes_memory is ∙ listing s a from x w (reception_fate s a from x) (warranted s a from x) (sym (ap lists is) ∙ l) unsent
@@ -96,6 +105,6 @@ cone_sent fates s j m x is unsent =
     absurd (filled _ _ (sym (ap (λ (f : Fate). (transmission_step s a x (fields_in x).dst f).sends) row) ∙ unsent))
 
 -- so what takes room and sends nothing is a packet that waits
-pub room_unsent : FateOfTransmission → (r : Relay) (j : List Entry) (m : ℕ) (x : List ℕ) → TakesRoom r m x j → SendsOrKeeps (relay_six (settings_of r) j m x).step
-room_unsent fates r j m x (to_wait is) unsent = ap takes_memory is
-room_unsent fates r j m x (to_list is new) unsent = cone_sent fates (settings_of r) j m x is unsent
+pub room_unsent : FateOfTransmission → (r : Relay) (j : List Entry) (m : ℕ) (x : List ℕ) → relays.TakesRoom r m x j → SendsOrKeeps (relay_six (settings_of r) j m x).step
+room_unsent fates r j m x (relays.to_wait is) unsent = ap takes_memory is
+room_unsent fates r j m x (relays.to_list is new) unsent = cone_sent fates (settings_of r) j m x is unsent

@@ -94,7 +94,7 @@ advert_tells s q from v =
 client_row_tells : (a : reception.Seen) (f : Fate) → IsOther f → IsOther (reception.reception_row a f)
 client_row_tells a f h =
     first_of_each IsOther (reception.datagram_lines a ++ (reception.server_lines a f ++ (reception.packet_lines a ++ (reception.indirect_lines a ++ reception.direct_lines a)))) fate.Suspicious
-    (refl, (refl, (refl, (refl, (refl, (h, (refl, (refl, (refl, (refl, (refl, (refl, (refl, (refl, (refl, (refl, (refl, (refl, (refl, (refl, (refl, (refl, tt))))))))))))))))))))))
+    (refl, (refl, (refl, (refl, (refl, (h, (refl, (refl, (refl, (refl, (refl, (refl, (refl, (refl, (refl, (refl, (refl, (refl, (refl, (refl, (refl, (refl, (refl, (refl, tt))))))))))))))))))))))))
     refl
 
 client_fate_tells : (s : Settings) (a : Standing) (from : Ep) (x : List ℕ) → IsOther (reception.reception_fate s a from x)

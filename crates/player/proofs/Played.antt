@@ -202,7 +202,7 @@ module _ (a : Account) (s : Scenario) (before after : SinkState) (keeps : Kept) 
     news = news law;
     few =
         let most : LEFT_MAX ≡ 35184372088832 = refl in
-        let end : records_end ≡ 9223372036854775808 = refl in
+        let end : records_end ≡ 2305843009213693952 = refl in
         omega (arith, most, end, t.played.left, t.few);
   }
 

@@ -18,7 +18,7 @@ pub record IsNews (w : WorldState) (said : Record) (H : List Full) (r : Full) : 
 
 -- the records of a history are fewer
 abbrev pub records_end : ℕ
-records_end = 2 ^ 63
+records_end = 2 ^ 61
 
 -- What is kept is that of some history, after which the record was made.
 pub record CanHear (keeps : TopologyState → List Full → Type 0) (w : WorldState) (said : Record) : Type 0 where

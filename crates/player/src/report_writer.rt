@@ -2,7 +2,7 @@
 ghost use Rattle.std.specs.Prelude.{◌≡◌, [], ◌∷◌, length, refl};
 ghost use Rattle.history.specs.Records.{record_of};
 ghost use Rattle.report.specs.Lines.{record_line};
-ghost use Rattle.report.specs.Totals.{sums_of};
+ghost use Rattle.report.specs.Totals.{sums_of, IsFew};
 ghost use Rattle.player.specs.Accounts.{report_account};
 
 use crate::listener::Listener;
@@ -29,7 +29,7 @@ pub struct ReportWriter<'a> {
 impl<'a> ReportWriter<'a> {
     /// Before the first record of a scenario with these nodes.
     pub fn new(topology: &'a Topology) -> ReportWriter<'a>
-        ensures { (result.topology.now ≡ topology.now) × (result.sums ≡ sums_of []) }
+        ensures { (result.topology.now ≡ topology.now) × (result.sums ≡ sums_of []) × IsFew result.sums }
     {
         ReportWriter {
             topology,
@@ -44,7 +44,7 @@ impl Listener for ReportWriter<'_> {
 
     ghost news = { λ t H r. record_line t (length H) (record_of r) ∷ [] };
 
-    ghost keeps = { λ w t H. (w.topology.now ≡ t) × (w.sums ≡ sums_of H) };
+    ghost keeps = { λ w t H. (w.topology.now ≡ t) × (w.sums ≡ sums_of H) × IsFew w.sums };
 
     ghost grows = { λ t H r. refl };
 

@@ -1,6 +1,6 @@
 //! The writer of the totals alone.
 ghost use Rattle.std.specs.Prelude.{◌≡◌, [], ◌∷◌, refl};
-ghost use Rattle.report.specs.Totals.{sums_of, totals_line};
+ghost use Rattle.report.specs.Totals.{sums_of, totals_line, IsFew};
 ghost use Rattle.player.specs.SinkLines.{Writing};
 ghost use Rattle.player.specs.Accounts.{totals_account};
 
@@ -31,7 +31,7 @@ pub struct TotalsWriter {
 impl TotalsWriter {
     /// Before the first record.
     pub fn new() -> TotalsWriter
-        ensures { result.sums ≡ sums_of [] }
+        ensures { (result.sums ≡ sums_of []) × IsFew result.sums }
     {
         TotalsWriter { sums: Sums::new() }
     }
@@ -42,7 +42,7 @@ impl Listener for TotalsWriter {
 
     ghost news = { λ t H r. [] };
 
-    ghost keeps = { λ w t H. w.sums ≡ sums_of H };
+    ghost keeps = { λ w t H. (w.sums ≡ sums_of H) × IsFew w.sums };
 
     ghost grows = { λ t H r. refl };
 

@@ -1,8 +1,8 @@
 -- What a record adds to the sums of a history.
 use Rattle.std.proofs.Common.{◌≡◌, ℕ, ◌+◌, Bool, List, [], ◌∷◌, length, add-one, refl, sym, ap, ◌∙◌, arith}
 use Rattle.std.proofs.Math.Nat.{add_comm}
-use Rattle.std.specs.Prelude.{count_by, filter_map, is_some, if◌then◌else◌}
-use Rattle.std.proofs.lemmas.List.{length-append}
+use Rattle.std.specs.Prelude.{count_by, sum_by, map, filter_map, is_some, if◌then◌else◌}
+use Rattle.std.proofs.lemmas.List.{length-append, length-map}
 use Rattle.std.proofs.lemmas.List.Sums.{sum_by-cons}
 use Rattle.teredo_node.specs.Fate.{is_drop}
 use Rattle.history.specs.declared.mark.Mark.{Mark}
@@ -41,8 +41,17 @@ delivered_more : (H : List Full) (r : Full) → IsTold r → count_by (λ (f : F
 delivered_more H r told =
     ap (λ (b : Bool). count_by (λ (f : Full). is_some f.delivered) H + (if b then 1 else 0)) (sym told.delivered) ∙ counted (λ (f : Full). is_some f.delivered) r H
 
+handed_more : (H : List Full) (r : Full)
+    → count_by (λ (f : Full). is_some (handed_of f)) H + sum_by (λ (f : Full). length f.late) H + ((if is_some (handed_of r) then 1 else 0) + length (map length r.late))
+    ≡ count_by (λ (f : Full). is_some (handed_of f)) (r ∷ H) + sum_by (λ (f : Full). length f.late) (r ∷ H)
+handed_more H r =
+    let once = counted (λ (f : Full). is_some (handed_of f)) r H in
+    let late = sum_by-cons (λ (f : Full). length f.late) r H in
+    let same = length-map length r.late in
+    omega (arith, once, late, same)
+
 pub sums_more : (H : List Full) (r : Full) → IsTold r → added (sums_of H) (record_of r) ≡ sums_of (r ∷ H)
-sums_more H r told = same_sums (add-one (length H)) (entries_more H r) (delivered_more H r told) (counted (λ (f : Full). is_some (handed_of f)) r H) (counted (λ (f : Full). is_kept f.fate) r H) (counted (λ (f : Full). is_drop f.fate) r H)
+sums_more H r told = same_sums (add-one (length H)) (entries_more H r) (delivered_more H r told) (handed_more H r) (counted (λ (f : Full). is_kept f.fate) r H) (counted (λ (f : Full). is_drop f.fate) r H)
 
 pub sums_after : (old new : Sums) (H : List Full) (r : Full) → new ≡ added old (record_of r) → old ≡ sums_of H → IsTold r → new ≡ sums_of (r ∷ H)
 sums_after old new H r e f told = e ∙ ap (λ (s : Sums). added s (record_of r)) f ∙ sums_more H r told

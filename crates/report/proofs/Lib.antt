@@ -1,5 +1,6 @@
 pub mod Added
 pub mod Joined
-pub mod MarkByMark
+pub mod LateByLate
+mod MarkByMark
 pub mod Printed
 pub mod VerbLengths

@@ -43,7 +43,12 @@ abbrev pub handed_text : Option ℕ → List ℕ
 handed_text None = []
 handed_text (Some len) = codes " handed/" ++ decimal len
 
--- how many waiting packets were dropped, where any were
+-- the lengths of the packets that it was handed late
+abbrev pub late_text : List ℕ → List ℕ
+late_text [] = []
+late_text (len ∷ lens) = (codes " late/" ++ decimal len) ++ late_text lens
+
+-- how many packets that waited or were held were dropped, where any were
 abbrev pub gone_text : ℕ → List ℕ
 gone_text gone = if gone == 0 then [] else codes " gone/" ++ decimal gone
 
@@ -69,7 +74,7 @@ head_text t index r = decimal index ++ (codes " " ++ (decimal r.moment.0 ++ (cod
 
 -- what the record says of a client, and a mark for each send
 abbrev pub tail_text : TopologyState → Record → List ℕ
-tail_text t r = address_text r.address ++ (handed_text r.handed ++ (gone_text r.gone ++ (marks_text t r.marks ++ codes "\n")))
+tail_text t r = address_text r.address ++ (handed_text r.handed ++ (late_text r.late ++ (gone_text r.gone ++ (marks_text t r.marks ++ codes "\n"))))
 
 abbrev pub record_line : TopologyState → ℕ → Record → List ℕ
 record_line t index r = head_text t index r ++ tail_text t r

@@ -1,5 +1,5 @@
 -- The totals of a history, and its report.
-use Rattle.std.specs.Prelude.{ℕ, ◌+◌, ◌-◌, ◌^◌, ◌≤◌, List, [], ◌∷◌, ◌++◌, length, count_by, codes, decimal, is_some, if◌then◌else◌}
+use Rattle.std.specs.Prelude.{ℕ, ◌+◌, ◌-◌, ◌^◌, ◌≤◌, List, [], ◌∷◌, ◌++◌, length, count_by, sum_by, codes, decimal, is_some, if◌then◌else◌}
 use Rattle.teredo_node.specs.Fate.{is_drop}
 use Rattle.history.specs.declared.records.Record.{Record}
 use Rattle.topology.specs.Rows.{TopologyState}
@@ -9,13 +9,13 @@ use Rattle.history.specs.Telling.{is_kept, is_delivery, is_entry}
 use Rattle.report.specs.declared.totals.Sums.{Sums}
 use Rattle.report.specs.Lines.{lines_text, record_lines}
 
--- how many records, entries, deliveries of entries, packets handed to hosts, packets kept by natives, drops
+-- how many records, entries, deliveries of entries, packets handed to hosts at once and late, packets kept by natives, drops
 abbrev pub sums_of : List Full → Sums
 sums_of H = record {
   records = length H;
   entries = length (wire H);
   delivered = count_by (λ r. is_some r.delivered) H;
-  handed = count_by (λ r. is_some (handed_of r)) H;
+  handed = count_by (λ r. is_some (handed_of r)) H + sum_by (λ (r : Full). length r.late) H;
   kept = count_by (λ r. is_kept r.fate) H;
   dropped = count_by (λ r. is_drop r.fate) H;
 }
@@ -41,10 +41,17 @@ added s r = record {
   records = s.records + 1;
   entries = s.entries + count_by is_entry r.marks;
   delivered = s.delivered + (if is_delivery r.act r.fate then 1 else 0);
-  handed = s.handed + (if is_some r.handed then 1 else 0);
+  handed = s.handed + ((if is_some r.handed then 1 else 0) + length r.late);
   kept = s.kept + (if is_kept r.fate then 1 else 0);
   dropped = s.dropped + (if is_drop r.fate then 1 else 0);
 }
+
+-- a record hands over one packet at once at most, and four late
+abbrev pub HANDED_MAX : ℕ
+HANDED_MAX = 5
+
+pub record IsFew (s : Sums) : Type 0 where
+  pub handed : s.handed ≤ HANDED_MAX * s.records
 
 -- room for one more record of at most nine marks
 pub record IsSmall (s : Sums) : Type 0 where

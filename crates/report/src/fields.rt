@@ -1,9 +1,9 @@
 //! The fields of a line, marks aside.
-ghost use Rattle.std.specs.Prelude.{◌≡◌, ◌+◌, ◌≤◌, ◌++◌, length, decimal};
+ghost use Rattle.std.specs.Prelude.{◌≡◌, ◌+◌, ◌*◌, ◌≤◌, ◌++◌, length, codes, decimal};
 ghost use Rattle.td_base.specs.Texts.{ep_text};
 ghost use Rattle.td_base.specs.Ip6Texts.{ip6_text};
 ghost use Rattle.events.specs.Verbs.{verb_word};
-ghost use Rattle.report.specs.Lines.{act_text, node_text, address_text, handed_text, gone_text};
+ghost use Rattle.report.specs.Lines.{act_text, node_text, address_text, handed_text, late_text, gone_text};
 
 use events::Verb;
 use history::Act;
@@ -11,6 +11,9 @@ use td_base::{
     Ep, Ip6, LINE_LEN, LineBuf, NUMBER_LEN, SHORT_LEN, print_ep, print_ip6, print_number,
 };
 use topology::{NAME_LEN, Topology};
+
+/// The most digits of a number of 32 bits.
+pub const SHORT_NUMBER_LEN: usize = 10;
 
 /// The most bytes of an endpoint.
 pub const EP_LEN: usize = 21;
@@ -27,6 +30,9 @@ pub const ADDRESS_LEN: usize = 44;
 /// The most bytes of ` handed/` and a number.
 pub const HANDED_LEN: usize = 28;
 
+/// The most bytes of ` late/` and a number.
+pub const LATE_LEN: usize = 26;
+
 /// The most bytes of ` gone/` and a number.
 pub const GONE_LEN: usize = 26;
 
@@ -37,6 +43,15 @@ pub fn put_number(number: u64, out: &mut LineBuf)
     ensures short { length out.new ≤ length out.old + NUMBER_LEN }
 {
     let _ = print_number(number, out);
+}
+
+/// Appends a number of 32 bits.
+pub fn put_short(number: u32, out: &mut LineBuf)
+    requires { length out.old + SHORT_NUMBER_LEN ≤ LINE_LEN }
+    ensures text { out.new ≡ out.old ++ decimal number }
+    ensures short { length out.new ≤ length out.old + SHORT_NUMBER_LEN }
+{
+    let _ = print_number(u64::from(number), out);
 }
 
 /// Appends an endpoint.
@@ -127,7 +142,28 @@ pub fn put_handed(handed: Option<usize>, out: &mut LineBuf)
     }
 }
 
-/// Appends how many waiting packets were dropped, if any were.
+/// Appends the length of a packet that was handed over late.
+fn put_late(len: usize, out: &mut LineBuf)
+    requires { length out.old + LATE_LEN ≤ LINE_LEN }
+    ensures text { out.new ≡ out.old ++ (codes " late/" ++ decimal len) }
+    ensures short { length out.new ≤ length out.old + LATE_LEN }
+{
+    out.push_text(b" late/");
+    put_number(len as u64, out);
+}
+
+/// Appends the lengths of the packets that were handed over late.
+pub fn put_lates(lens: &[usize], out: &mut LineBuf)
+    requires { length out.old + LATE_LEN * length lens.now ≤ LINE_LEN }
+    ensures text { out.new ≡ out.old ++ late_text lens.now }
+    ensures short { length out.new ≤ length out.old + LATE_LEN * length lens.now }
+{
+    for len in lens {
+        put_late(*len, out);
+    }
+}
+
+/// Appends how many packets that waited or were held were dropped, if any were.
 pub fn put_gone(gone: u16, out: &mut LineBuf)
     requires { length out.old + GONE_LEN ≤ LINE_LEN }
     ensures text { out.new ≡ out.old ++ gone_text gone }

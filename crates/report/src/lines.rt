@@ -2,17 +2,17 @@
 ghost use Rattle.std.specs.Prelude.{◌≡◌, ◌+◌, ◌≤◌, ◌++◌, length};
 ghost use Rattle.report.specs.Lines.{head_text, tail_text, record_line};
 
-use crate::fields::{put_act, put_address, put_gone, put_handed, put_node, put_number};
+use crate::fields::{put_act, put_address, put_gone, put_handed, put_lates, put_node, put_number, put_short};
 use crate::marks::put_marks;
 use history::Record;
 use topology::Topology;
 use td_base::{LINE_LEN, LineBuf};
 
 /// The most bytes of a line up to the fate.
-const HEAD_LEN: usize = 129;
+const HEAD_LEN: usize = 119;
 
-/// The most bytes of what follows the fate, with nine marks.
-const TAIL_LEN: usize = 882;
+/// The most bytes of what follows the fate, with four late packets and nine marks.
+const TAIL_LEN: usize = 896;
 
 /// Appends what every line has.
 fn put_head(index: u64, r: &Record, t: &Topology, out: &mut LineBuf)
@@ -24,7 +24,7 @@ fn put_head(index: u64, r: &Record, t: &Topology, out: &mut LineBuf)
     out.push_text(b" ");
     put_number(r.moment.0, out);
     out.push_text(b" ");
-    put_number(u64::from(r.event), out);
+    put_short(r.event, out);
     out.push_text(b" ");
     put_act(r.act, out);
     out.push_text(b" ");
@@ -40,6 +40,7 @@ fn put_tail(r: &Record, t: &Topology, out: &mut LineBuf)
 {
     put_address(r.address, out);
     put_handed(r.handed, out);
+    put_lates(r.late.as_slice(), out);
     put_gone(r.gone, out);
     put_marks(t, r.marks.as_slice(), out);
     out.push_text(b"\n");

@@ -4,7 +4,7 @@ ghost use Rattle.topology.specs.Rows.{TopologyState};
 ghost use Rattle.history.specs.declared.mark.Mark.TheVariants as mark;
 ghost use Rattle.report.specs.Lines.{loss_word, mark_text, marks_text};
 
-use crate::fields::{put_ep, put_node, put_number};
+use crate::fields::{put_ep, put_node, put_number, put_short};
 use history::{Loss, Mark};
 use topology::Topology;
 use td_base::{Ep, LINE_LEN, LineBuf};
@@ -12,8 +12,8 @@ use td_base::{Ep, LINE_LEN, LineBuf};
 /// The most bytes of the word of a loss.
 const LOSS_LEN: usize = 7;
 
-/// The most bytes of a mark: two endpoints, two numbers, and what stands between them.
-pub const MARK_LEN: usize = 87;
+/// The most bytes of a mark: two endpoints, two numbers, one of 32 bits, and what stands between them.
+pub const MARK_LEN: usize = 77;
 
 /// The word of a loss.
 fn loss_name(why: Loss) -> &'static str
@@ -34,7 +34,7 @@ fn put_udp(number: u32, src: Ep, dst: Ep, len: usize, out: &mut LineBuf)
     ensures short { length out.new ≤ length out.old + MARK_LEN }
 {
     out.push_text(b" #");
-    put_number(u64::from(number), out);
+    put_short(number, out);
     out.push_text(b"=");
     put_ep(src, out);
     out.push_text(b">");
@@ -50,7 +50,7 @@ fn put_six(t: &Topology, number: u32, relay: Option<u16>, len: usize, out: &mut 
     ensures short { length out.new ≤ length out.old + MARK_LEN }
 {
     out.push_text(b" #");
-    put_number(u64::from(number), out);
+    put_short(number, out);
     match relay {
         None => out.push_text(b"=six/"),
         Some(relay) => {

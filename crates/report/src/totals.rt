@@ -17,7 +17,7 @@ pub struct Sums {
     pub entries: u64,
     /// Deliveries of entries that exist.
     pub delivered: u64,
-    /// Packets handed to clients' hosts.
+    /// Packets handed to clients' hosts, at once and late.
     pub handed: u64,
     /// Packets kept by native hosts.
     pub kept: u64,
@@ -56,11 +56,12 @@ fn entries_in(marks: &[Mark]) -> usize
 }
 
 impl Sums {
-    ghost use Rattle.report.specs.Totals.{sums_of, added, IsSmall};
+    ghost use Rattle.report.specs.Totals.{sums_of, added, IsSmall, IsFew};
 
     /// No records.
     pub fn new() -> Sums
-        ensures { result ≡ sums_of [] }
+        ensures sums { result ≡ sums_of [] }
+        ensures few { IsFew result }
     {
         Sums {
             records: 0,
@@ -76,12 +77,13 @@ impl Sums {
     pub fn add(&mut self, r: &Record)
         requires { IsSmall self.old }
         ensures added { self.new ≡ added self.old r.now }
+        ensures few { IsFew self.old → IsFew self.new }
         ensures sums { (H : List Full) (next : Full) → self.old ≡ sums_of H → r.now ≡ record_of next → IsTold next → self.new ≡ sums_of (next ∷ H) }
     {
         self.records += 1;
         self.entries += entries_in(r.marks.as_slice()) as u64;
         self.delivered += u64::from(is_delivery(r.act, r.fate));
-        self.handed += u64::from(r.handed.is_some());
+        self.handed += u64::from(r.handed.is_some()) + r.late.as_slice().len() as u64;
         self.kept += u64::from(is_kept(r.fate));
         self.dropped += u64::from(r.fate.is_drop());
     }

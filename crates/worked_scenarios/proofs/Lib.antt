@@ -3,6 +3,7 @@ pub mod QualifyReports
 pub mod MeetingReports
 pub mod ConeReports
 pub mod RelayReports
+pub mod HeldReports
 pub mod TryReports
 pub mod QueueTotals
 pub mod Late

@@ -144,14 +144,14 @@ pub record IsSent (x : Doing) (y : Asking) (after : List PlayedNode) (new : Wire
 -- THE RECORD
 
 abbrev pub said_by : Doing → Asking → List Mark → Record
-said_by x y marks = record (with_deed (fresh_record x.event.number x.call.now.0) x.act (Some x.call.node) y.step.fate) { gone = y.step.gone; marks = marks; handed = y.asked.handed; address = y.asked.address }
+said_by x y marks = record (with_deed (fresh_record x.event.number x.call.now.0) x.act (Some x.call.node) y.step.fate) { late = map length y.step.late; gone = y.step.gone; marks = marks; handed = y.asked.handed; address = y.asked.address }
 
 said_is : (x : Doing) (y : Asking) (after : List PlayedNode) (new : WireState) (marks : List Mark) → IsDoing x → IsAsked x y → IsSent x y after new marks → said_by x y marks ≡ record_of (record_by x)
 said_is x y after new marks is asked done =
     let of = asked_for x y is asked in
     let these : marks ≡ marks_of (length (wire x.history)) (record_by x).made =
     done.enters.marks ∙ ap (λ (items : List Item). marks_of (length items) (leaving x y).made) is.finds.wire ∙ ap (λ (s : Sendings). marks_of (length (wire x.history)) s.made) (sym of.leaves) in
-    λ i. record (with_deed (fresh_record x.event.number x.call.now.0) x.act (Some x.call.node) (of.did i).fate) { gone = (of.did i).gone; marks = these i; handed = of.handed i; address = of.address i }
+    λ i. record (with_deed (fresh_record x.event.number x.call.now.0) x.act (Some x.call.node) (of.did i).fate) { late = map length (of.did i).late; gone = (of.did i).gone; marks = these i; handed = of.handed i; address = of.address i }
 
 -- THE NODES
 

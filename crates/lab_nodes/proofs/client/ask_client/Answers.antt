@@ -1,6 +1,6 @@
 use Rattle.std.proofs.lemmas.Result.{on_err_weaker}
 use Rattle.client_core.specs.Client.{settings_of, words_ahead}
-use Rattle.lab_nodes.proofs.Unsent.{lists_unsent}
+use Rattle.lab_nodes.proofs.Unsent.{received_unsent}
 use Rattle.lab_nodes.proofs.client.ask_client.Goals as goal
 
 pub returns-in-FromSix-clause-done : goal.returns-in-FromSix-clause-done
@@ -10,5 +10,5 @@ pub returns-in-Arrived-clause-starved : goal.returns-in-Arrived-clause-starved
 returns-in-Arrived-clause-starved c =
     let old = c.args.client.now in
     rw (c.in-Arrived.is) (on_err_weaker c.on_datagram.result
-    (λ wants j h. lists_unsent c.fate_of_reception.ensures c.reception_is_warranted.ensures (settings_of old) j c.args.call.now.0 c.in-Arrived.src c.in-Arrived.bytes.now (words_ahead old) (wants j h).line)
+    (λ wants j h. received_unsent c.fate_of_reception.ensures c.reception_is_warranted.ensures (settings_of old) j c.args.call.now.0 c.in-Arrived.src c.in-Arrived.bytes.now (words_ahead old) _ (wants j h))
     c.on_datagram.ensures.starved)

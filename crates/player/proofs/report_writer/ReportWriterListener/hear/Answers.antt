@@ -21,7 +21,7 @@ heard_line t H r own sums said at is says =
 pub add-requires : goal.add-requires
 add-requires g c =
     let can = c.requires in
-    sums_small _ can.history can.last can.kept.1 can.few can.news.fits
+    sums_small _ can.history can.last can.kept.1 can.kept.2 can.few can.news.fits
 
 pub returns-in_err-write_line : goal.returns-in_err-write_line
 returns-in_err-write_line g c =
@@ -38,7 +38,7 @@ pub returns : goal.returns
 returns g c =
     let self = c.args.self.now in
     record {
-      kept = λ t H r kept news. (kept.0, c.add.ensures.sums H r kept.1 news.is news.tells);
+      kept = λ t H r kept news. (kept.0, c.add.ensures.sums H r kept.1 news.is news.tells, c.add.ensures.few kept.2);
       written = λ t H r kept news.
           let same = c.as_slice.ensures.value ∙ c.line.ensures ∙ heard_line t H r self.topology.now self.sums c.args.said.now kept.0 kept.1 news.is in
           Writing-line _ _ _ _ _ same (wrote _ _ _ _ c.in_ok-write_line.ensures);

@@ -1,4 +1,4 @@
-use Rattle.std.proofs.Common.{◌≡◌, ℕ, List, [], Some, Ok, refl, sym, ap, subst, ◌∙◌, arith}
+use Rattle.std.proofs.Common.{◌≡◌, ℕ, List, [], length, map, Some, Ok, refl, sym, ap, subst, ◌∙◌, arith}
 use Rattle.std.proofs.lemmas.Result.{err_from_is_err_and}
 use Rattle.topology.specs.Topology.{node_at}
 use Rattle.topology.specs.declared.node.Node.{Node}
@@ -79,7 +79,7 @@ returns-clause-plays c =
     let did = c.in_ok-outlet.ensures.answers in
     let y : Asking = record { mid = c.ask.new.nodes.items; after = did.after; step = c.ask.new.step; asked = c.in_ok-outlet.field-0 } in
     let fresh : c.args.out.now ≡ fresh_record index w.moment.0 = c.requires.fresh ∙ ap (λ (x : WorldState). fresh_record index x.moment) (sym c.self.view_is) in
-    let deed : Record → Record = λ r. record (with_deed r c.args.act (Some c.args.number) c.ask.new.step.fate) { gone = c.ask.new.step.gone } in
+    let deed : Record → Record = λ r. record (with_deed r c.args.act (Some c.args.number) c.ask.new.step.fate) { late = map length c.ask.new.step.late; gone = c.ask.new.step.gone } in
     let said : c.say_step.new.out ≡ deed (fresh_record index w.moment.0) = c.say_step.ensures ∙ ap deed fresh in
     let filled : Record → Record = λ r. record r { marks = marks; handed = c.in_ok-outlet.field-0.handed; address = c.in_ok-outlet.field-0.address } in
     subst (OfEach a (λ d x H r. Plays d x (new c.remember.new.wire) H r (Ok (filled c.say_step.new.out)))) c.self.view_is (λ d H s e quiet node here.

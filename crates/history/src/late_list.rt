@@ -1,0 +1,53 @@
+//! The packets that a record hands over late.
+ghost use Rattle.std.specs.Prelude.{◌≡◌, ◌<◌, ◌≤◌, ◌∷◌, [], ◌++◌, length};
+
+use std::marker::Model;
+
+/// The most packets that a record hands over late: as many as a step does.
+pub const LATES_MAX: usize = 4;
+
+/// The lengths of at most four packets.
+#[derive(Drop)]
+pub struct Lates {
+    lens: [usize; 4],
+    len: usize,
+}
+
+impl Model for Lates {
+    ghost use Rattle.std.specs.Prelude.{◌≤◌, ℕ, List, take};
+
+    ghost Value = { List ℕ };
+
+    ghost view = { λ m. take m.len m.lens };
+
+    ghost invariant = { λ m. m.len ≤ 4 };
+}
+
+impl Lates {
+    /// None.
+    pub fn new() -> Lates
+        ensures { result ≡ [] }
+    {
+        Lates {
+            lens: [0; 4],
+            len: 0,
+        }
+    }
+
+    /// The lengths in order.
+    pub fn as_slice(&self) -> &[usize]
+        ensures value { result.now ≡ self.now }
+        ensures few { length result.now ≤ LATES_MAX }
+    {
+        &self.lens[..self.len]
+    }
+
+    /// Appends a length.
+    pub fn push(&mut self, len: usize)
+        requires { length self.old < LATES_MAX }
+        ensures { self.new ≡ self.old ++ len ∷ [] }
+    {
+        self.lens[self.len] = len;
+        self.len += 1;
+    }
+}

@@ -1,0 +1,6 @@
+use Rattle.std.proofs.Common.{◌≡◌, map, length, take}
+use Rattle.world.proofs.record.lates_of.Given as goal
+
+-- the lengths of those so far
+abbrev pub invariant-loop-i : goal.invariant-loop-i
+invariant-loop-i l = l.lates ≡ map length (take l.i l.step.late)
