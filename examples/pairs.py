@@ -60,7 +60,7 @@ def verdict(records):
             if not record[3].startswith('deliver:'):
                 break
             deliveries += 1
-            if record[4] == 'b' and (record[5] == 'kept' or any(part.startswith('handed/') for part in record)):
+            if record[4] == 'b' and (record[5] == 'kept' or any(part.startswith(('handed/', 'late/')) for part in record)):
                 return f'{sign}{deliveries}'
     return '-'
 

@@ -4,7 +4,8 @@ from report import SOLICITATIONS, Entry, teredo_parts
 
 # How long a peer is trusted, and listed, after it was heard, and what lies between two tries: docs/RULES.md, "Peers".
 FRESH_MS, LISTED_MS, TRY_GAP_MS = 30_000, 300_000, 2_000
-TRIES = ('queued', 'bubbles', 'test', 'indirect', 'suspicious_test')
+TRIES = ('queued', 'bubbles', 'test', 'indirect', 'held_test', 'suspicious_test')
+TESTS = ('held_test', 'suspicious_test')
 DRAWS = ('queued', 'indirect', 'advert', 'echoed', 'forward', 'forward_origin', 'six', 'sent', 'sent_cone')
 HEARD = ('rule1', 'rule1_bubble', 'rule2', 'rule3', 'rule3_bubble')
 FATES = fates.table()
@@ -332,3 +333,20 @@ def of_source(travels, record):
 def of_suspicious(travels, record):
     test = f'; the test: {last_of(travels, record.marks[0])}' if record.marks else ''
     return f'{record.node} doesn\'t trust its sender yet, and asks it first' + test
+
+
+def of_held(travels, hold):
+    """Why a packet is held: the latest test that went out at its node, up to the one of its own."""
+    tests = [record for record in travels.report.of_node(hold.since.node) if record.fate in TESTS and record.marks
+             and record.index <= hold.since.index]
+    test = f'; the test: {last_of(travels, tests[-1].marks[0])}' if tests else ''
+    return f'{hold.since.node} doesn\'t trust its sender yet, and holds it' + test
+
+
+def of_held_dropped(travels, hold):
+    record = hold.dropped
+    if record.act == 'restart':
+        return f'it was held at {record.node}, which was restarted {when(record)}'
+    if record.fate == 'changed':
+        return f'it was held at {record.node}, whose address changed {when(record)}'
+    return f'it came from {hold.source}, and {record.node} trusts its sender elsewhere'

@@ -70,6 +70,7 @@ def notes(record):
     """The words of a record behind its fate, without its marks."""
     words = [f'is {record.address}'] if record.address else []
     words += [f'handed/{record.handed}'] if record.handed is not None else []
+    words += [f'late/{length}' for length in record.late]
     return words + ([f'gone/{record.gone}'] if record.gone else [])
 
 

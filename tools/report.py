@@ -16,7 +16,7 @@ HEAD = re.compile(r'(\d+) (\d+) (\d+) (\S+) (\S+) (\S+)(?: |$)')
 SOLICITATIONS = ('rs_cone', 'rs_restricted', 'rs_secondary', 'refresh')
 FORWARDS = ('forward', 'forward_origin', 'six', 'sent', 'sent_cone')  # of a delivery: what came goes on
 FIXED = {'advert': 'advertisement', 'echoed': 'echo reply', 'put': 'datagram', 'indirect': 'bubble',
-         'suspicious_test': 'echo request', 'test': 'echo request', 'bubbles': 'bubble'}
+         'held_test': 'echo request', 'suspicious_test': 'echo request', 'test': 'echo request', 'bubbles': 'bubble'}
 TRIES = {'queued': {40: 'bubble', 56: 'echo request'}}  # by the length in bytes
 
 
@@ -60,6 +60,7 @@ class Record:
     fate: str
     address: str = None
     handed: int = None
+    late: list = field(default_factory=list)
     gone: int = 0
     marks: list = field(default_factory=list)
     line: str = ''
@@ -207,6 +208,8 @@ def record_of(line, number=1):
             record.address = rest[at + 1]
         elif word.startswith('handed/'):
             record.handed = int(word[7:])
+        elif word.startswith('late/'):
+            record.late.append(int(word[5:]))
         elif word.startswith('gone/'):
             record.gone = int(word[5:])
     return record

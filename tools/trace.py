@@ -48,6 +48,7 @@ def outcome(record):
     words = [record.node + ':' if record.node != '-' else '', record.fate]
     words += [f'is {record.address}'] if record.address else []
     words += [f'handed {record.handed} bytes'] if record.handed is not None else []
+    words += [f'handed {length} bytes that were held' for length in record.late]
     words += [f'{record.gone} dropped'] if record.gone else []
     return ' '.join(word for word in words if word)
 

@@ -11,6 +11,8 @@ from report import Entry
 HANDED_IN = ('host', 'echo', 'raw')
 RELEASES = ('rule1', 'rule1_bubble', 'rule2', 'rule3', 'rule3_bubble', 'from_client', 'from_client_bubble', 'unserved')
 SENT = ('sent', 'sent_cone', 'sent_six', 'put')
+HOLDS = ('held_test', 'held')
+HEARD = ('rule1', 'rule1_bubble', 'rule2')  # of a peer that isn't Teredo: what is held of it ends
 TAKEN = ('kept', 'echoed', 'rule1_bubble', 'rule2', 'rule3_bubble', 'indirect', 'from_client_bubble')
 ARRIVED, CAME, WAITS, LOST = 'arrived', 'came', 'waits', 'lost'
 RANKS = (ARRIVED, CAME, WAITS, LOST)
@@ -51,16 +53,28 @@ class Waiting:
 
 
 @dataclass
+class Hold:
+    """A packet that a client holds: since which record, whose it is, where it came from, and how that ended."""
+    since: object
+    sender: str
+    source: str
+    handed: object = None  # the record that handed it over
+    dropped: object = None  # the record that dropped it
+
+
+@dataclass
 class Travels:
-    """All waits of a report, by the record at which each begins."""
+    """All waits and holds of a report, by the record at which each begins."""
     report: object
     targets: list = field(default_factory=list)  # of each event the peer that it names, where the scenario is at hand
     waits: dict = field(default_factory=dict)
+    holds: dict = field(default_factory=dict)
 
     def __post_init__(self):
-        at = {}
+        at, held_at = {}, {}
         for record in self.report.records:
             here = at.setdefault(record.node, [])
+            self.follow_held(held_at.setdefault(record.node, []), record)
             if record.act == 'restart' or record.fate == 'changed':
                 self.drop(here, here, record)
             elif record.fate in RELEASES:
@@ -71,6 +85,29 @@ class Travels:
                 wait = Waiting(record, self.peer_of(record), self.endpoint_of(record))
                 self.waits[record.index] = wait
                 here.append(wait)
+
+    def follow_held(self, held, record):
+        """What a record does to the packets that are held at its node."""
+        if record.act == 'restart' or record.fate == 'changed':
+            self.drop(held, held, record)
+        elif record.fate in HEARD and held:
+            self.end_held(held, record)
+        elif record.fate in HOLDS:
+            entry = self.report.entries[record.delivered]
+            hold = Hold(record, self.origin(entry)[0], entry.source)
+            self.holds[record.index] = hold
+            held.append(hold)
+
+    def end_held(self, held, record):
+        """A sender is heard: what came from there is handed over by rule 2, and the rest of its packets is dropped."""
+        source = self.report.entries[record.delivered].source
+        late = [hold for hold in held if hold.source == source][:len(record.late)]
+        for hold in late:
+            hold.handed = record
+            held.remove(hold)
+        sender = self.origin(self.report.entries[record.delivered])[0]
+        others = sorted(held, key=lambda hold: hold.sender != sender)
+        self.drop(held, others[:record.gone], record)
 
     def peer_of(self, record):
         if record.act in HANDED_IN:
@@ -148,6 +185,13 @@ class Travels:
             return End(LOST, wait.dropped, causes.of_given_up(self, wait))
         return End(WAITS, wait.since, causes.of_waiting(self, wait))
 
+    def end_of_hold(self, hold):
+        if hold.handed is not None:
+            return End(ARRIVED, hold.handed)
+        if hold.dropped is not None:
+            return End(LOST, hold.dropped, causes.of_held_dropped(self, hold))
+        return End(WAITS, hold.since, causes.of_held(self, hold))
+
     def end_of_mark(self, mark):
         if not isinstance(mark, Entry):
             return End(LOST, mark.maker, causes.of_loss(mark))
@@ -162,6 +206,8 @@ class Travels:
             return End(ARRIVED, record, answer=answer)
         if record.fate == 'queued':
             return self.end_of_wait(self.waits[record.index])
+        if record.fate in HOLDS:
+            return self.end_of_hold(self.holds[record.index])
         passed_on = [mark for mark in record.marks if self.report.is_passed_on(mark)]
         if passed_on:
             return self.end_of_mark(passed_on[0])

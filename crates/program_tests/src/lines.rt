@@ -6,7 +6,7 @@ use crate::nodes::{
     one_server,
 };
 use events::Verb;
-use history::{Act, Loss, MARKS_MAX, Mark, Marks, Record};
+use history::{Act, LATES_MAX, Lates, Loss, MARKS_MAX, Mark, Marks, Record};
 use topology::Topology;
 use report::{Sums, line, summary};
 use std::test::Fail;
@@ -25,7 +25,8 @@ const FARTHEST: Ep = Ep {
 
 /// A record without a mark.
 fn plain(act: Act, node: Option<u16>, fate: Fate) -> Record
-    ensures { length result.marks ≡ 0 }
+    ensures marks { length result.marks ≡ 0 }
+    ensures late { length result.late ≡ 0 }
 {
     Record {
         event: 6,
@@ -35,6 +36,7 @@ fn plain(act: Act, node: Option<u16>, fate: Fate) -> Record
         fate,
         address: None,
         handed: None,
+        late: Lates::new(),
         gone: 0,
         marks: Marks::new(),
     }
@@ -174,6 +176,8 @@ fn what_follows_the_fate(rt: HostRuntime) -> Result<(), Fail> {
         )
     );
     record.handed = Some(45);
+    record.late.push(41);
+    record.late.push(1280);
     record.gone = 1;
     record.marks.push(Mark::Udp {
         number: 9,
@@ -185,7 +189,7 @@ fn what_follows_the_fate(rt: HostRuntime) -> Result<(), Fail> {
         says(
             &t,
             &record,
-            "9 12000 6 deliver:1 a qualified_cone is 2001:0:c000:201:8000:fbff:39cc:9bfe handed/45 gone/1 #9=203.0.113.9:3545>192.0.2.1:3544/40\n"
+            "9 12000 6 deliver:1 a qualified_cone is 2001:0:c000:201:8000:fbff:39cc:9bfe handed/45 late/41 late/1280 gone/1 #9=203.0.113.9:3545>192.0.2.1:3544/40\n"
         )
     );
     Ok(())
@@ -272,6 +276,7 @@ fn only_what_was_sent_is_an_entry(rt: HostRuntime) {
 fn what_a_host_was_handed_is_counted(rt: HostRuntime) {
     let mut record = plain(Act::Deliver { number: 18 }, Some(CLIENT), Fate::Rule3);
     record.handed = Some(45);
+    record.late.push(45);
     let mut out = LineBuf::new();
     let mut sums = Sums::new();
     sums.add(&record);
@@ -279,7 +284,7 @@ fn what_a_host_was_handed_is_counted(rt: HostRuntime) {
     summary(&sums, &mut out);
     assert_eq!(rt;
         out.as_slice(),
-        b"total records 2 entries 0 delivered 2 handed 1 kept 0 dropped 1\n".as_slice()
+        b"total records 2 entries 0 delivered 2 handed 2 kept 0 dropped 1\n".as_slice()
     );
 }
 
@@ -289,11 +294,19 @@ fn the_longest_line(rt: HostRuntime) -> Result<(), Fail> {
     let mut want = LineBuf::new();
     let begin =
         b"18446744073709551615 18446744073709551615 4294967295 deliver:4294967295 abcdefghijklmnop qualified_restricted";
-    let middle =
-        b" is ffff:ffff:ffff:ffff:ffff:ffff:ffff:ffff handed/18446744073709551615 gone/65535";
+    let middle = b" is ffff:ffff:ffff:ffff:ffff:ffff:ffff:ffff handed/18446744073709551615";
     let mark = b" #4294967295=255.255.255.255:65535>255.255.255.255:65535/18446744073709551615";
     print_text(begin, &mut want).ok().ok_or("room")?;
     print_text(middle, &mut want).ok().ok_or("room")?;
+    let mut late = Lates::new();
+    for _ in 0..LATES_MAX {
+        if late.as_slice().len() == LATES_MAX {
+            break;
+        }
+        late.push(usize::MAX);
+        print_text(b" late/18446744073709551615", &mut want).ok().ok_or("room")?;
+    }
+    print_text(b" gone/65535", &mut want).ok().ok_or("room")?;
     let mut marks = Marks::new();
     for _ in 0..MARKS_MAX {
         if marks.as_slice().len() == MARKS_MAX {
@@ -316,12 +329,13 @@ fn the_longest_line(rt: HostRuntime) -> Result<(), Fail> {
         fate: Fate::QualifiedRestricted,
         address: Some(Ip6([0xff; 16])),
         handed: Some(usize::MAX),
+        late,
         gone: u16::MAX,
         marks,
     };
     let mut out = LineBuf::new();
     line(u64::MAX, &record, &t, &mut out);
     assert_eq!(rt; out.as_slice(), want.as_slice());
-    assert_eq!(rt; out.as_slice().len(), 885);
+    assert_eq!(rt; out.as_slice().len(), 989);
     Ok(())
 }

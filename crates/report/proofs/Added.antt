@@ -47,7 +47,7 @@ handed_more : (H : List Full) (r : Full)
 handed_more H r =
     let once = counted (λ (f : Full). is_some (handed_of f)) r H in
     let late = sum_by-cons (λ (f : Full). length f.late) r H in
-    let same = length-map length r.late in
+    let same = length-map r.late length in
     omega (arith, once, late, same)
 
 pub sums_more : (H : List Full) (r : Full) → IsTold r → added (sums_of H) (record_of r) ≡ sums_of (r ∷ H)
