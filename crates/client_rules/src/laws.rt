@@ -3,6 +3,7 @@ ghost use Rattle.client_rules.specs.Laws.{FateOfReception, FateOfTransmission, R
 ghost use Rattle.client_rules.specs.Epochs.{QualifiedHasAddress, QualifiedStays, QueuedIsOwn, NoneQueued, WaitingIsOwn, WaitingWasHandedIn, TrustedIsEmbedded};
 ghost use Rattle.client_rules.specs.Sendings.{EachSend};
 ghost use Rattle.client_rules.specs.Handed.{EachHanded, EachLate};
+ghost use Rattle.client_rules.specs.Numbers.{TestNumbers};
 ghost use Rattle.client_rules.specs.MadeSends.{EachSendIsBytes};
 ghost use Rattle.client_rules.specs.ShortSends.{EachSendIsShort};
 
@@ -166,3 +167,8 @@ pub fn each_send_is_short()
     each_send();
     each_send_is_bytes();
 }
+
+/// The numbers of a test are those of the rules.
+pub fn numbers_of_tests()
+    ensures { TestNumbers }
+{}

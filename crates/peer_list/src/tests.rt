@@ -13,6 +13,11 @@ const FROM: Ep = Ep {
     port: 40000,
 };
 
+const ELSEWHERE: Ep = Ep {
+    ip: Ip4([192, 0, 2, 45]),
+    port: 9,
+};
+
 const PEER: Ip6 = Ip6([
     0x20, 1, 0, 0, 65, 54, 227, 120, 128, 0, 99, 191, 63, 255, 253, 210,
 ]);
@@ -39,6 +44,16 @@ fn wait(rt: &impl Abort, peers: &mut Peers, now: Millis, byte: u8) -> Result<(),
     assert!(rt; peers.has_room(now, PEER));
     assert!(rt; !peers.is_full(now, PEER));
     peers.wait(now, PEER, &[byte])
+}
+
+/// Holds a packet of one byte that came from there.
+fn hold(rt: &impl Abort, peers: &mut Peers, from: Ep, byte: u8) -> Result<(), NoMemory>
+    requires { peers.old.moment ≡ 0 }
+    ensures { peers.new.moment ≡ 0 }
+{
+    assert!(rt; peers.has_room(Millis(0), PEER));
+    assert!(rt; !peers.holds_most(Millis(0), PEER));
+    peers.hold(Millis(0), PEER, from, &[byte])
 }
 
 /// Tries the peer.
@@ -79,6 +94,29 @@ fn eight_packets_and_a_ninth(rt: HostRuntime) -> Result<(), Fail> {
     peers.hear(Millis(0), PEER, FROM, &mut step);
     assert_eq!(rt; step.count(), 8);
     assert_eq!(rt; step.send(0).2, [0].as_slice());
+    assert_eq!(rt; peers.waiting(Millis(0)), 0);
+    Ok(())
+}
+
+#[test]
+fn four_held_packets(rt: HostRuntime) -> Result<(), Fail> {
+    let mut peers = Peers::new(rt.alloc());
+    hold(&rt, &mut peers, FROM, 1)?;
+    hold(&rt, &mut peers, ELSEWHERE, 2)?;
+    hold(&rt, &mut peers, FROM, 3)?;
+    hold(&rt, &mut peers, ELSEWHERE, 4)?;
+    assert!(rt; peers.holds_most(Millis(0), PEER));
+    assert_eq!(rt; peers.waiting(Millis(299_999)), 4);
+    assert_eq!(rt; peers.waiting(Millis(300_000)), 0);
+    assert_eq!(rt; peers.due(Millis(0)), None);
+    let mut step = Step::new();
+    step.reset(Fate::Rule2);
+    assert!(rt; peers.is_listed(Millis(0), PEER));
+    assert_eq!(rt; peers.held_count(Millis(0), PEER), 4);
+    assert_eq!(rt; peers.hand_late(Millis(0), PEER, FROM, &mut step), 2);
+    assert_eq!(rt; step.late_count(), 2);
+    assert_eq!(rt; step.late(1), [3].as_slice());
+    peers.trust_and_hear(Millis(0), PEER, FROM, &mut step);
     assert_eq!(rt; peers.waiting(Millis(0)), 0);
     Ok(())
 }

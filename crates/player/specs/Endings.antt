@@ -35,7 +35,7 @@ pub record FillsWire (s : Scenario) (history : List Full) : Type 0 where
   pub next : next (lab_of s []) s.events history ≡ Some last
   pub full : ENTRIES_MAX < length (wire (last ∷ history))
 
--- The next record of the scenario may want memory: it has a mark, or a packet waits or a peer is trusted in it.
+-- The next record of the scenario may want memory: it has a mark, or a packet waits or is held, or a peer is trusted in it.
 pub record MayStarve (s : Scenario) (history : List Full) : Type 0 where
   pub begun : BeginsHistory s history
   pub last : Full

@@ -4,6 +4,7 @@ pub mod MeetingReports
 pub mod ConeReports
 pub mod RelayReports
 pub mod HeldReports
+pub mod TestBytes
 pub mod TryReports
 pub mod QueueTotals
 pub mod Late

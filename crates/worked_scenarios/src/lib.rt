@@ -7,5 +7,7 @@
 //! | `QualifyReports`, `OwnStreams` | clients behind each kind of NAT find their address, lose it, keep it |
 //! | `ConeReports`, `MeetingReports`, `TryReports`, `QueueTotals` | two clients meet, or don't |
 //! | `RelayReports` | a native host and a client, through a relay |
+//! | `HeldReports` | a client holds packets of a native host, and hands over those from where the test is answered |
+//! | `TestBytes` | the bytes of a test |
 //! | `Late` | single steps of a client at late moments, and the order of its random words |
 #![tactic(auto)]
