@@ -3,7 +3,9 @@ use nat_kinds::NatKind;
 use std::alloc::Global;
 use std::test::Fail;
 use td_base::{Ep, Ip4, Ip6};
-use topology::{ClientNode, Name, NatNode, NativeNode, RelayNode, ServerNode, Topology};
+use topology::{
+    ClientNode, Name, NatNode, NativeNode, RefreshRange, RelayNode, ServerNode, Topology,
+};
 
 const SERVER_NODE: ServerNode = ServerNode {
     name: Name {
@@ -45,8 +47,12 @@ const CLIENT_NODE: ClientNode = ClientNode {
         port: 4000,
     },
     server: 0,
-    low: 30_000,
-    high: 30_000,
+    refresh: RefreshRange {
+        low_ms: 30_000,
+        high_ms: 30_000,
+    },
+    random: false,
+    cone_try: true,
 };
 
 const RELAY_NODE: RelayNode = RelayNode {

@@ -17,7 +17,7 @@ use Rattle.td_base.specs.declared.reach.Policy.TheVariants.{Strict}
 use Rattle.teredo_addr.specs.Teredo.{is_teredo}
 use Rattle.topology.specs.declared.topology.TheConstants.{SERVERS_MAX, NATS_MAX, CLIENTS_MAX, RELAYS_MAX, NATIVES_MAX}
 use Rattle.topology.specs.declared.nat_node.TheConstants.{IDLE_MAX_MS}
-use Rattle.topology.specs.declared.client_node.TheConstants.{REFRESH_MIN_MS, REFRESH_MAX_MS}
+use Rattle.topology.specs.declared.refresh_range.TheConstants.{REFRESH_MIN_MS, REFRESH_MAX_MS}
 use Rattle.topology.specs.declared.nat_node.NatNode.{NatNode}
 use Rattle.topology.specs.declared.client_node.ClientNode.{ClientNode}
 use Rattle.topology.specs.declared.relay_node.RelayNode.{RelayNode}
@@ -74,7 +74,7 @@ idle : (a : NatNode) → nat_le 1 a.idle && nat_le a.idle IDLE_MAX_MS ≡ true �
 idle a e = let both = and_parts (nat_le 1 a.idle) (nat_le a.idle IDLE_MAX_MS) e in record { least = leb-true _ _ both.0; most = leb-true _ _ both.1 }
 
 abbrev times : ClientNode → Bool
-times c = nat_le REFRESH_MIN_MS c.low && nat_le c.low c.high && nat_le c.high REFRESH_MAX_MS
+times c = nat_le REFRESH_MIN_MS c.refresh.low_ms && nat_le c.refresh.low_ms c.refresh.high_ms && nat_le c.refresh.high_ms REFRESH_MAX_MS
 
 abbrev reaches : TopologyState → ClientNode → Bool
 reaches t c = is_some (nat_at t c.nat) && is_some (server_at t c.server) && not (c.inside.port == 0)
@@ -84,15 +84,13 @@ client t c e =
     let all = and_parts (reaches t c) (times c) e in
     let way = and_parts (is_some (nat_at t c.nat) && is_some (server_at t c.server)) (not (c.inside.port == 0)) all.0 in
     let nodes = and_parts (is_some (nat_at t c.nat)) (is_some (server_at t c.server)) way.0 in
-    let most = and_parts (nat_le REFRESH_MIN_MS c.low && nat_le c.low c.high) (nat_le c.high REFRESH_MAX_MS) all.1 in
-    let least = and_parts (nat_le REFRESH_MIN_MS c.low) (nat_le c.low c.high) most.0 in
+    let most = and_parts (nat_le REFRESH_MIN_MS c.refresh.low_ms && nat_le c.refresh.low_ms c.refresh.high_ms) (nat_le c.refresh.high_ms REFRESH_MAX_MS) all.1 in
+    let least = and_parts (nat_le REFRESH_MIN_MS c.refresh.low_ms) (nat_le c.refresh.low_ms c.refresh.high_ms) most.0 in
     record {
       behind = nodes.0;
       asks = nodes.1;
       port = no_zero c.inside.port way.1;
-      least = leb-true _ _ least.0;
-      order = leb-true _ _ least.1;
-      most = leb-true _ _ most.1;
+      refresh = record { least = leb-true _ _ least.0; order = leb-true _ _ least.1; most = leb-true _ _ most.1 };
     }
 
 outside : (ip : Ip6) → is_global6 ip && not (is_teredo ip) ≡ true → IsOutside ip

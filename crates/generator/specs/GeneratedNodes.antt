@@ -1,5 +1,5 @@
 -- The nodes of the generated scenario, each kind in order: two servers, a NAT of each kind, eight clients, a relay, two native hosts.
-use Rattle.std.specs.Prelude.{ℕ, zero, suc, ◌+◌, ◌*◌, ◌%◌, ◌==◌, if◌then◌else◌, List, [], ◌∷◌, ◌++◌, replicate}
+use Rattle.std.specs.Prelude.{ℕ, zero, suc, ◌+◌, ◌*◌, ◌%◌, ◌==◌, true, false, if◌then◌else◌, List, [], ◌∷◌, ◌++◌, replicate}
 use Rattle.std.proofs.Common.{refl, lit≤}
 use Rattle.td_base.specs.declared.ipv4.Ip4.{Ip4}
 use Rattle.td_base.specs.declared.ipv6.Ip6.{Ip6}
@@ -13,7 +13,7 @@ use Rattle.topology.specs.declared.relay_node.RelayNode.{RelayNode}
 use Rattle.topology.specs.declared.native_node.NativeNode.{NativeNode}
 use Rattle.topology.specs.Rows.{TopologyState}
 use Rattle.generator.specs.declared.nodes.TheConstants.{FIRST_NAT, FIRST_CLIENT, THE_RELAY, FIRST_NATIVE, MAPPING_IDLE_MS, INSIDE_PORT}
-use Rattle.topology.specs.declared.client_node.TheConstants.{REFRESH_LOW_MS, REFRESH_HIGH_MS}
+use Rattle.topology.specs.declared.refresh_range.TheConstants.{REFRESH_LOW_MS, REFRESH_HIGH_MS}
 
 -- NUMBERS OF NODES: servers 0 and 1, NATs 2 to 5, clients 6 to 13, the relay 14, native hosts 15 and 16
 
@@ -64,8 +64,9 @@ generated_client k = record {
   nat = nat_number k;
   inside = record { ip = ip4 10 0 0 (k + 2); port = INSIDE_PORT };
   server = server_number k;
-  low = REFRESH_LOW_MS;
-  high = REFRESH_HIGH_MS;
+  refresh = record { low_ms = REFRESH_LOW_MS; high_ms = REFRESH_HIGH_MS };
+  random = false;
+  cone_try = true;
 }
 
 unfoldable pub generated_relay : RelayNode

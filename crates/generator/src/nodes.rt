@@ -6,7 +6,7 @@ use nat_kinds::NatKind;
 use std::alloc::Global;
 use td_base::{Ep, Ip4, Ip6, NoMemory};
 use topology::{
-    ClientNode, Name, NatNode, NativeNode, REFRESH_HIGH_MS, REFRESH_LOW_MS, RelayNode, ServerNode,
+    ClientNode, Name, NatNode, NativeNode, REFRESH_HIGH_MS, REFRESH_LOW_MS, RefreshRange, RelayNode, ServerNode,
     Topology,
 };
 
@@ -101,8 +101,12 @@ fn client(k: u8) -> ClientNode
             port: INSIDE_PORT,
         },
         server: u16::from(k % 2),
-        low: REFRESH_LOW_MS,
-        high: REFRESH_HIGH_MS,
+        refresh: RefreshRange {
+            low_ms: REFRESH_LOW_MS,
+            high_ms: REFRESH_HIGH_MS,
+        },
+        random: false,
+        cone_try: true,
     }
 }
 

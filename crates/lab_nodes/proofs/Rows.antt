@@ -55,4 +55,4 @@ client_rules t n c rules e =
 
 -- so it can be set up
 pub is_settings : (t : TopologyState) (n : ℕ) (c : ClientNode) → IsTopology t → node_at t n ≡ Some (client c) → IsSettings (client_settings t c)
-is_settings t n c rules e = let r = client_rules t n c rules e in record { least = r.least; order = r.order }
+is_settings t n c rules e = let r = client_rules t n c rules e in record { least = r.refresh.least; order = r.refresh.order }

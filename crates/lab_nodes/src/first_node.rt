@@ -54,8 +54,10 @@ fn settings_of(topology: &Topology, row: ClientNode) -> Settings
         primary,
         secondary,
         policy: Policy::Strict,
-        low: row.low,
-        high: row.high,
+        low: row.refresh.low_ms,
+        high: row.refresh.high_ms,
+        random: row.random,
+        cone_try: row.cone_try,
     }
 }
 

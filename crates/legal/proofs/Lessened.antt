@@ -39,7 +39,7 @@ use Rattle.legal.specs.Lab.{Lab}
 -- THE REFRESHES OF A TOPOLOGY'S CLIENTS ARE APART
 
 abbrev IsSlow : Node → Type 0
-IsSlow (client c) = 1 ≤ c.low
+IsSlow (client c) = 1 ≤ c.refresh.low_ms
 IsSlow _ = Unit {0}
 
 all_map : {A : Type 0} (f : A → Node) (xs : List A) → ((x : A) → IsSlow (f x)) → AllByRecursion IsSlow (map f xs)
@@ -48,7 +48,7 @@ all_map f (x ∷ xs) each = (each x, all_map f xs each)
 
 all_clients : (t : TopologyState) (cs : List ClientNode) → AllByRecursion (IsClient t) cs → AllByRecursion IsSlow (map client cs)
 all_clients lab [] a = tt
-all_clients t (c ∷ cs) a = let least = a.0.least in (omega (arith, least), all_clients t cs a.1)
+all_clients t (c ∷ cs) a = let least = a.0.refresh.least in (omega (arith, least), all_clients t cs a.1)
 
 all_both : (xs ys : List Node) → AllByRecursion IsSlow xs → AllByRecursion IsSlow ys → AllByRecursion IsSlow (xs ++ ys)
 all_both [] ys a b = b

@@ -22,7 +22,8 @@ use Rattle.topology.specs.declared.server_node.ServerNode.{ServerNode}
 use Rattle.topology.specs.declared.nat_node.NatNode.{NatNode}
 use Rattle.topology.specs.declared.nat_node.TheConstants.{IDLE_MAX_MS}
 use Rattle.topology.specs.declared.client_node.ClientNode.{ClientNode}
-use Rattle.topology.specs.declared.client_node.TheConstants.{REFRESH_MIN_MS, REFRESH_MAX_MS, REFRESH_LOW_MS, REFRESH_HIGH_MS}
+use Rattle.topology.specs.declared.refresh_range.RefreshRange.{RefreshRange}
+use Rattle.topology.specs.declared.refresh_range.TheConstants.{REFRESH_MIN_MS, REFRESH_MAX_MS, REFRESH_LOW_MS, REFRESH_HIGH_MS}
 use Rattle.topology.specs.declared.relay_node.RelayNode.{RelayNode}
 use Rattle.topology.specs.declared.native_node.NativeNode.{NativeNode}
 use Rattle.topology.specs.NodeNames.{is_name}
@@ -30,7 +31,7 @@ use Rattle.topology.specs.Rows.{TopologyState}
 use Rattle.topology.specs.declared.node.Node.{Node}
 use Rattle.topology.specs.declared.node.Node.TheVariants.{Server as server, Nat as nat, Client as client, Relay as relay, Native as native}
 use Rattle.topology.specs.Topology.{nodes, as_server, as_nat, as_relay}
-use Rattle.topology.specs.Rules.{names_of, addresses_of, sixes_of, IsClient}
+use Rattle.topology.specs.Rules.{names_of, addresses_of, sixes_of, IsRefreshRange, IsClient}
 use Rattle.topology.specs.Named.{is_server, is_nat, is_relay, named, is_named}
 use Rattle.td_base.specs.Values.{ip4_of, ep_of}
 use Rattle.td_base.specs.Ip6Values.{ip6_of}
@@ -38,7 +39,7 @@ use Rattle.td_base.specs.Laws.{TextsAreMade}
 use Rattle.scenario.specs.declared.place.Place.{Place}
 use Rattle.scenario.specs.Keys.{typed, ruled, word_at, name_at, whole_number_at}
 use Rattle.scenario.specs.Fresh.{where_holds, spelled_name, is_free_name, new_name, is_free_address, is_new_address, new_address, other_address, new_endpoint, is_free_six, is_new_six, new_six, is_free_inside, new_inside, kind_of, natural, idle_of, is_refresh, refresh_of}
-use Rattle.scenario.specs.NodeRows.{two_integers, refresh_in, server_of_table, nat_of_table, client_of_table, relay_of_table, native_of_table}
+use Rattle.scenario.specs.NodeRows.{two_integers, refresh_in, random_in, cone_try_in, server_of_table, nat_of_table, client_of_table, relay_of_table, native_of_table}
 use Rattle.scenario.specs.NodeName.{name}
 use Rattle.scenario.proofs.Names.{is_name-short, name-text}
 use Rattle.scenario.proofs.Steps.{bind_some, bind_ok, ok_same, given, held, word_kept, name_kept, number_kept}
@@ -120,25 +121,23 @@ idle_within number idle e =
     let P : ℕ → Type 0 = λ n. (1 ≤ n) × (n ≤ IDLE_MAX_MS) in
     subst P kept.1 (leb-true _ _ both.0, leb-true _ _ both.1)
 
-record IsRefresh (times : ℕ × ℕ) : Type 0 where
-  least : REFRESH_MIN_MS ≤ times.0
-  order : times.0 ≤ times.1
-  most : times.1 ≤ REFRESH_MAX_MS
+abbrev range_of : (low high : ℕ) → RefreshRange
+range_of low high = record { low_ms = low; high_ms = high }
 
-refresh_within : (numbers : ℤ × ℤ) (times : ℕ × ℕ) → refresh_of numbers ≡ Some times → IsRefresh times
+refresh_within : (numbers : ℤ × ℤ) (times : RefreshRange) → refresh_of numbers ≡ Some times → IsRefreshRange times
 unfolding refresh_of
 refresh_within numbers times e =
     let low = bind_some (natural numbers.0) _ times e in
-    let high = bind_some (natural numbers.1) (λ h. where_holds (is_refresh low.0 h) (low.0, h)) times low.2 in
-    let kept = held (is_refresh low.0 high.0) (low.0, high.0) times high.2 in
+    let high = bind_some (natural numbers.1) (λ h. where_holds (is_refresh low.0 h) (range_of low.0 h)) times low.2 in
+    let kept = held (is_refresh low.0 high.0) (range_of low.0 high.0) times high.2 in
     let most = and_parts (nat_le REFRESH_MIN_MS low.0 && nat_le low.0 high.0) (nat_le high.0 REFRESH_MAX_MS) kept.0 in
     let least = and_parts (nat_le REFRESH_MIN_MS low.0) (nat_le low.0 high.0) most.0 in
-    subst IsRefresh kept.1 (record { least = leb-true _ _ least.0; order = leb-true _ _ least.1; most = leb-true _ _ most.1 })
+    subst IsRefreshRange kept.1 (record { least = leb-true _ _ least.0; order = leb-true _ _ least.1; most = leb-true _ _ most.1 })
 
-refresh_is : (place : Place) (value : Option Data) (times : ℕ × ℕ) → refresh_in place value ≡ Ok times → IsRefresh times
+refresh_is : (place : Place) (value : Option Data) (times : RefreshRange) → refresh_in place value ≡ Ok times → IsRefreshRange times
 refresh_is place None times e =
-    let default : IsRefresh (REFRESH_LOW_MS, REFRESH_HIGH_MS) = record { least = omega arith; order = omega arith; most = omega arith } in
-    subst IsRefresh (ok_same _ _ e) default
+    let default : IsRefreshRange (range_of REFRESH_LOW_MS REFRESH_HIGH_MS) = record { least = omega arith; order = omega arith; most = omega arith } in
+    subst IsRefreshRange (ok_same _ _ e) default
 refresh_is place (Some value) times e =
     let numbers = bind_ok (typed place (codes "refresh") (option_and_then two_integers (as_array value))) (λ ns. ruled place (codes "refresh") (refresh_of ns)) times e in
     refresh_within numbers.0 times (given (refresh_of numbers.0) _ times numbers.2)
@@ -226,23 +225,22 @@ client_of_table-fresh law t place table row e =
     let inside = bind_ok (word_at place (codes "inside") (new_inside t behind.0) table) _ row behind.2 in
     let asks = bind_ok (name_at place (codes "server") (named is_server t) table) _ row inside.2 in
     let times = bind_ok (refresh_in place (get_member (codes "refresh") table)) _ row asks.2 in
+    let random = bind_ok (random_in place (get_member (codes "flags") table)) _ row times.2 in
+    let cone_try = bind_ok (cone_try_in place (get_member (codes "cone_try") table)) _ row random.2 in
     let spelled = name_kept place (codes "name") (new_name t) table name.0 name.1 in
     let of_nat = name_kept place (codes "nat") (named is_nat t) table behind.0 behind.1 in
     let of_server = name_kept place (codes "server") (named is_server t) table asks.0 asks.1 in
     let endpoint = word_kept place (codes "inside") (new_inside t behind.0) table inside.0 inside.1 in
     let free = free_inside law t behind.0 endpoint.0 inside.0 endpoint.1 in
-    let within = refresh_is place (get_member (codes "refresh") table) times.0 times.1 in
-    let made : ClientNode = record { name = name.0; nat = behind.0; inside = inside.0; server = asks.0; low = times.0.0; high = times.0.1 } in
+    let made : ClientNode = record { name = name.0; nat = behind.0; inside = inside.0; server = asks.0; refresh = times.0; random = random.0; cone_try = cone_try.0 } in
     let client : IsClient t made = record {
       behind = nat_named-is t of_nat.0 behind.0 of_nat.1;
       asks = server_named-is t of_server.0 asks.0 of_server.1;
       port = free.0;
-      least = within.least;
-      order = within.order;
-      most = within.most;
+      refresh = refresh_is place (get_member (codes "refresh") table) times.0 times.1;
     } in
     let fresh : IsFreshClient t made = record { name = free_name t spelled.0 name.0 spelled.1; client = client; inside = free.1; made = free.2 } in
-    subst (IsFreshClient t) (ok_same _ _ times.2) fresh
+    subst (IsFreshClient t) (ok_same _ _ cone_try.2) fresh
 
 pub relay_of_table-fresh : (law : TextsAreMade) (t : TopologyState) (place : Place) (table : Members) (row : RelayNode) → relay_of_table t place table ≡ Ok row → IsFreshRelay t row
 unfolding relay_of_table

@@ -101,9 +101,7 @@ client_stays t u n e c is =
       behind = subst Nat (sym e) (number_kept as_nat (nodes t) (n ∷ []) c.nat is.behind);
       asks = subst Server (sym e) (number_kept as_server (nodes t) (n ∷ []) c.server is.asks);
       port = is.port;
-      least = is.least;
-      order = is.order;
-      most = is.most;
+      refresh = is.refresh;
     }
 
 abbrev IsThrough : TopologyState → NativeNode → Type 0

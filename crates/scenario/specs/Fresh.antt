@@ -1,5 +1,5 @@
 -- The rules of the values of a table: what names and addresses a further node may have beside those that are there.
-use Rattle.std.specs.Prelude.{ℕ, ℤ, pos, negsuc, ◌==◌, ◌&&◌, not, nat_le, Bool, if◌then◌else◌, List, codes, Option, Some, None}
+use Rattle.std.specs.Prelude.{ℕ, ℤ, pos, negsuc, ◌==◌, ◌&&◌, not, nat_le, Bool, true, false, if◌then◌else◌, List, codes, Option, Some, None}
 use Rattle.std.specs.List.{list_any}
 use Rattle.td_base.specs.declared.ipv4.Ip4.{Ip4}
 use Rattle.td_base.specs.declared.ipv6.Ip6.{Ip6}
@@ -15,7 +15,8 @@ use Rattle.teredo_addr.specs.Teredo.{is_teredo}
 use Rattle.nat_kinds.specs.declared.kind.NatKind.{NatKind}
 use Rattle.nat_kinds.specs.declared.kind.NatKind.TheVariants.{Cone, Restricted, Port, Symmetric}
 use Rattle.topology.specs.declared.nat_node.TheConstants.{IDLE_MAX_MS}
-use Rattle.topology.specs.declared.client_node.TheConstants.{REFRESH_MIN_MS, REFRESH_MAX_MS}
+use Rattle.topology.specs.declared.refresh_range.TheConstants.{REFRESH_MIN_MS, REFRESH_MAX_MS}
+use Rattle.topology.specs.declared.refresh_range.RefreshRange.{RefreshRange}
 use Rattle.topology.specs.declared.client_node.ClientNode.{ClientNode}
 use Rattle.topology.specs.NodeNames.{is_name}
 use Rattle.topology.specs.Rows.{TopologyState}
@@ -96,6 +97,13 @@ kind_of text =
     else if same_text text (codes "symmetric") then Some Symmetric
     else None
 
+-- whether a text says that flags are random
+unfoldable pub random_of : List ℕ → Option Bool
+random_of text =
+    if same_text text (codes "zero") then Some false
+    else if same_text text (codes "random") then Some true
+    else None
+
 -- a whole number from 0
 abbrev pub natural : ℤ → Option ℕ
 natural (pos n) = Some n
@@ -109,8 +117,8 @@ idle_of number = natural number >>= (λ ms. where_holds (nat_le 1 ms && nat_le m
 abbrev pub is_refresh : ℕ → ℕ → Bool
 is_refresh low high = nat_le REFRESH_MIN_MS low && nat_le low high && nat_le high REFRESH_MAX_MS
 
-unfoldable pub refresh_of : ℤ × ℤ → Option (ℕ × ℕ)
+unfoldable pub refresh_of : ℤ × ℤ → Option RefreshRange
 refresh_of times = do
   low ← natural times.0
   high ← natural times.1
-  where_holds (is_refresh low high) (low, high)
+  where_holds (is_refresh low high) (record { low_ms = low; high_ms = high })

@@ -24,7 +24,7 @@ most_rows kind.Native = NATIVES_MAX
 abbrev pub row_keys : NodeKind → List (List ℕ)
 row_keys kind.Server = codes "name" ∷ codes "primary" ∷ codes "secondary" ∷ []
 row_keys kind.Nat = codes "name" ∷ codes "kind" ∷ codes "external" ∷ codes "idle" ∷ []
-row_keys kind.Client = codes "name" ∷ codes "nat" ∷ codes "inside" ∷ codes "server" ∷ codes "refresh" ∷ []
+row_keys kind.Client = codes "name" ∷ codes "nat" ∷ codes "inside" ∷ codes "server" ∷ codes "refresh" ∷ codes "flags" ∷ codes "cone_try" ∷ []
 row_keys kind.Relay = codes "name" ∷ codes "at" ∷ codes "six" ∷ []
 row_keys kind.Native = codes "name" ∷ codes "six" ∷ codes "relay" ∷ []
 

@@ -6,14 +6,14 @@ ghost use Rattle.td_base.specs.Ip6.{same_ip6};
 ghost use Rattle.td_base.specs.Ep.{same_ep};
 ghost use Rattle.topology.specs.Names.{same_name};
 ghost use Rattle.topology.specs.NodeNames.{is_name_byte, begins_with_letter, is_name};
-ghost use Rattle.scenario.specs.Fresh.{spelled_name, is_free_name, new_name, is_free_address, is_new_address, new_address, other_address, new_endpoint, is_free_six, is_new_six, new_six, is_free_inside, new_inside, kind_of, natural, idle_of, is_refresh, refresh_of};
+ghost use Rattle.scenario.specs.Fresh.{spelled_name, is_free_name, new_name, is_free_address, is_new_address, new_address, other_address, new_endpoint, is_free_six, is_new_six, new_six, is_free_inside, new_inside, kind_of, random_of, natural, idle_of, is_refresh, refresh_of};
 
 use nat_kinds::NatKind;
 use td_base::{Ep, Ip4, Ip6, Policy, is_global, is_global6, read_ep, read_ip4, read_ip6};
 use teredo_addr::is_teredo;
 use topology::{
     ClientNode, IDLE_MAX_MS, NAME_LEN, Name, NatNode, NativeNode, REFRESH_MAX_MS, REFRESH_MIN_MS,
-    RelayNode, ServerNode, Topology,
+    RefreshRange, RelayNode, ServerNode, Topology,
 };
 
 fn is_name_byte(byte: u8) -> bool
@@ -279,6 +279,20 @@ pub(crate) fn natural(number: i64) -> Option<u64>
     Some(number as u64)
 }
 
+/// Whether a text says that flags are random.
+#[tactic(auto, unfolding(crate::specs::Fresh::random_of))]
+pub(crate) fn random_of(text: &str) -> Option<bool>
+    ensures { result ≡ random_of text.now }
+{
+    if text == "zero" {
+        return Some(false);
+    }
+    if text == "random" {
+        return Some(true);
+    }
+    None
+}
+
 /// How many milliseconds a mapping lives.
 #[tactic(auto, unfolding(crate::specs::Fresh::idle_of))]
 pub(crate) fn idle_of(number: i64) -> Option<u32>
@@ -302,7 +316,7 @@ fn is_refresh(low: u64, high: u64) -> bool
 
 /// The shortest and the longest time between two refreshes, in milliseconds.
 #[tactic(auto, unfolding(crate::specs::Fresh::refresh_of))]
-pub(crate) fn refresh_of(times: (i64, i64)) -> Option<(u32, u32)>
+pub(crate) fn refresh_of(times: (i64, i64)) -> Option<RefreshRange>
     ensures { result ≡ refresh_of times }
 {
     let low = natural(times.0)?;
@@ -310,5 +324,8 @@ pub(crate) fn refresh_of(times: (i64, i64)) -> Option<(u32, u32)>
     if !is_refresh(low, high) {
         return None;
     }
-    Some((low as u32, high as u32))
+    Some(RefreshRange {
+        low_ms: low as u32,
+        high_ms: high as u32,
+    })
 }

@@ -52,7 +52,9 @@ impl NodeKind {
         match self {
             NodeKind::Server => &["name", "primary", "secondary"],
             NodeKind::Nat => &["name", "kind", "external", "idle"],
-            NodeKind::Client => &["name", "nat", "inside", "server", "refresh"],
+            NodeKind::Client => &[
+                "name", "nat", "inside", "server", "refresh", "flags", "cone_try",
+            ],
             NodeKind::Relay => &["name", "at", "six"],
             NodeKind::Native => &["name", "six", "relay"],
         }

@@ -2,17 +2,17 @@
 ghost use Rattle.std.specs.Prelude.{◌≡◌, option_map, option_and_then};
 ghost use Rattle.toml.specs.Data.{as_array};
 ghost use Rattle.toml.specs.View.{view, table_view, items_view};
-ghost use Rattle.scenario.specs.NodeRows.{server_of_table, nat_of_table, two_integers, given_refresh, refresh_in, client_of_table, relay_of_table, native_of_table};
+ghost use Rattle.scenario.specs.NodeRows.{server_of_table, nat_of_table, two_integers, given_refresh, refresh_in, random_in, cone_try_in, client_of_table, relay_of_table, native_of_table};
 
 use crate::fresh::{
     idle_of, kind_of, new_address, new_endpoint, new_inside, new_name, new_six, other_address,
-    refresh_of,
+    random_of, refresh_of,
 };
 use crate::row::Row;
 use crate::scenario_fault::ScenarioFault;
 use toml::Value;
 use topology::{
-    ClientNode, NatNode, NativeNode, REFRESH_HIGH_MS, REFRESH_LOW_MS, RelayNode, ServerNode,
+    ClientNode, NatNode, NativeNode, REFRESH_HIGH_MS, REFRESH_LOW_MS, RefreshRange, RelayNode, ServerNode,
     Topology, nat_named, relay_named, server_named,
 };
 
@@ -68,7 +68,7 @@ fn integers_in(value: &Value) -> Option<(i64, i64)>
 }
 
 /// The shortest and the longest time between two refreshes that a value gives.
-fn given_refresh(row: &Row, value: &Value) -> Result<(u32, u32), ScenarioFault>
+fn given_refresh(row: &Row, value: &Value) -> Result<RefreshRange, ScenarioFault>
     ensures { result ≡ given_refresh row.now.place (view value.now) }
 {
     let times = row.typed("refresh", integers_in(value))?;
@@ -76,12 +76,35 @@ fn given_refresh(row: &Row, value: &Value) -> Result<(u32, u32), ScenarioFault>
 }
 
 /// The shortest and the longest time between two refreshes.
-fn refresh_in(row: &Row, value: Option<&Value>) -> Result<(u32, u32), ScenarioFault>
+fn refresh_in(row: &Row, value: Option<&Value>) -> Result<RefreshRange, ScenarioFault>
     ensures { result ≡ refresh_in row.now.place (option_map (λ v. view v.now) value.entry) }
 {
     match value {
         Some(value) => given_refresh(row, value),
-        None => Ok((REFRESH_LOW_MS, REFRESH_HIGH_MS)),
+        None => Ok(RefreshRange {
+            low_ms: REFRESH_LOW_MS,
+            high_ms: REFRESH_HIGH_MS,
+        }),
+    }
+}
+
+/// Whether flags are random: not, where nothing is said.
+fn random_in(row: &Row, value: Option<&Value>) -> Result<bool, ScenarioFault>
+    ensures { result ≡ random_in row.now.place (option_map (λ v. view v.now) value.entry) }
+{
+    match value {
+        Some(value) => row.ruled("flags", random_of(row.typed("flags", value.as_str())?)),
+        None => Ok(false),
+    }
+}
+
+/// Whether there is a cone phase: there is, where nothing is said.
+fn cone_try_in(row: &Row, value: Option<&Value>) -> Result<bool, ScenarioFault>
+    ensures { result ≡ cone_try_in row.now.place (option_map (λ v. view v.now) value.entry) }
+{
+    match value {
+        Some(value) => row.typed("cone_try", value.as_bool()),
+        None => Ok(true),
     }
 }
 
@@ -94,14 +117,17 @@ pub(crate) fn client_of_table(t: &Topology, row: &Row) -> Result<ClientNode, Sce
     let nat = row.recognized("nat", nat_named(t, row.text("nat")?.as_bytes()))?;
     let inside = row.ruled("inside", new_inside(t, nat, row.text("inside")?))?;
     let server = row.recognized("server", server_named(t, row.text("server")?.as_bytes()))?;
-    let (low, high) = refresh_in(row, row.given("refresh"))?;
+    let refresh = refresh_in(row, row.given("refresh"))?;
+    let random = random_in(row, row.given("flags"))?;
+    let cone_try = cone_try_in(row, row.given("cone_try"))?;
     Ok(ClientNode {
         name,
         nat,
         inside,
         server,
-        low,
-        high,
+        refresh,
+        random,
+        cone_try,
     })
 }
 

@@ -51,7 +51,7 @@ use Rattle.relay_rules.specs.Journals.{relay_in, relay_six, relay_tick, relay_du
 use Rattle.native_host.specs.Natives.{native_in, native_out}
 use Rattle.legal.specs.Next.{next}
 use Rattle.worked_scenarios.proofs.Scenes.{ip, ip6, ep}
-use Rattle.std.specs.Prelude.{false, length, ◌+◌, replicate}
+use Rattle.std.specs.Prelude.{true, false, length, ◌+◌, replicate}
 use Rattle.td_base.specs.declared.ipv6.Ip6.{Ip6}
 use Rattle.td_base.specs.declared.reach.Policy.TheVariants.{Strict}
 use Rattle.td_base.specs.Bytes.{number_at}
@@ -71,7 +71,7 @@ use Rattle.rand_core.specs.Steps.{u32_at}
 -- THE CLIENT
 
 abbrev set_up : ℕ → ℕ → Settings
-set_up low high = record { inside = ep (ip 10 0 0 2) 4000; primary = ip 192 0 2 1; secondary = ip 192 0 2 2; policy = Strict; low = low; high = high }
+set_up low high = record { inside = ep (ip 10 0 0 2) 4000; primary = ip 192 0 2 1; secondary = ip 192 0 2 2; policy = Strict; low = low; high = high; random = false; cone_try = true }
 
 -- an advertisement that told the origin 198.51.100.7:40000
 abbrev answer : List ℕ
