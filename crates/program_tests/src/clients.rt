@@ -1,5 +1,7 @@
 //! Clients behind a NAT, played by `run`: how they qualify, what a restart does, what waits and what is given up.
-use crate::nets::{CLIENT, CONE_NAT, PORT_NAT, SERVER, SYMMETRIC_NAT};
+use crate::nets::{
+    CLIENT, CONE_NAT, NO_CONE_TRY, PORT_NAT, RANDOM_FLAGS, SERVER, SYMMETRIC_NAT,
+};
 use crate::runs::{LAB, Scene, ended, ending, plays_so, text_with};
 use std::alloc::Global;
 use std::test::Fail;
@@ -37,6 +39,23 @@ const AND_A_RESTART: &str = r#""advance 8000", "restart a", "advance 0", "delive
 /// It believes itself cone.
 const RESTART_REPORT: &str =
     "0 0 0 tick a rs_cone #0=198.51.100.1:1024>192.0.2.1:3544/61\n1 0 0 advance - done\n2 0 1 deliver:0 s1 advert #1=192.0.2.2:3544>198.51.100.1:1024/117\n3 0 2 deliver:1 n1 nat_closed\n4 4000 3 tick a rs_cone #2=198.51.100.1:1024>192.0.2.1:3544/61\n5 8000 3 tick a rs_cone #3=198.51.100.1:1024>192.0.2.1:3544/61\n6 12000 3 tick a rs_restricted #4=198.51.100.1:1024>192.0.2.1:3544/61\n7 12000 3 advance - done\n8 12000 4 deliver:4 s1 advert #5=192.0.2.1:3544>198.51.100.1:1024/117\n9 12000 5 deliver:5 a first_answer\n10 12000 6 tick a rs_secondary #6=198.51.100.1:1024>192.0.2.2:3544/61\n11 12000 6 advance - done\n12 12000 7 deliver:6 s1 advert #7=192.0.2.2:3544>198.51.100.1:1024/117\n13 12000 8 deliver:7 a qualified_restricted is 2001:0:c000:201:0:fbff:39cc:9bfe\n14 20000 9 advance - done\n15 20000 10 restart a done\n16 20000 11 tick a rs_cone #8=198.51.100.1:1024>192.0.2.1:3544/61\n17 20000 11 advance - done\n18 20000 12 deliver:8 s1 advert #9=192.0.2.2:3544>198.51.100.1:1024/117\n19 20000 13 deliver:9 a qualified_cone is 2001:0:c000:201:8000:fbff:39cc:9bfe\ntotal records 20 entries 10 delivered 8 handed 0 kept 0 dropped 1\n";
+
+/// The flags are of the fourth word that the seed gives to node 2, 6cf84512 (RFC 5991, section 3.1).
+const RANDOM_REPORT: &str =
+    "0 0 0 tick a rs_cone #0=198.51.100.1:1024>192.0.2.1:3544/61\n1 0 0 advance - done\n2 0 1 deliver:0 s1 advert #1=192.0.2.2:3544>198.51.100.1:1024/117\n3 0 2 deliver:1 a qualified_cone is 2001:0:c000:201:8412:fbff:39cc:9bfe\ntotal records 4 entries 2 delivered 2 handed 0 kept 0 dropped 0\n";
+
+/// One try of each phase that isn't Cone.
+const TWO_TRIES: &str = r#""advance 0", "next", "next", "advance 0", "next", "next""#;
+
+const A_RESTART: &str = r#""restart a""#;
+
+/// Each start begins in phase Restricted, so nothing is silent behind a port restricted NAT (RFC 5991, section 3.2).
+const NO_CONE_REPORT: &str =
+    "0 0 0 tick a rs_restricted #0=198.51.100.1:1024>192.0.2.1:3544/61\n1 0 0 advance - done\n2 0 1 deliver:0 s1 advert #1=192.0.2.1:3544>198.51.100.1:1024/117\n3 0 2 deliver:1 a first_answer\n4 0 3 tick a rs_secondary #2=198.51.100.1:1024>192.0.2.2:3544/61\n5 0 3 advance - done\n6 0 4 deliver:2 s1 advert #3=192.0.2.2:3544>198.51.100.1:1024/117\n7 0 5 deliver:3 a qualified_restricted is 2001:0:c000:201:0:fbff:39cc:9bfe\n8 0 6 restart a done\n9 0 7 tick a rs_restricted #4=198.51.100.1:1024>192.0.2.1:3544/61\n10 0 7 advance - done\n11 0 8 deliver:4 s1 advert #5=192.0.2.1:3544>198.51.100.1:1024/117\n12 0 9 deliver:5 a first_answer\n13 0 10 tick a rs_secondary #6=198.51.100.1:1024>192.0.2.2:3544/61\n14 0 10 advance - done\n15 0 11 deliver:6 s1 advert #7=192.0.2.2:3544>198.51.100.1:1024/117\n16 0 12 deliver:7 a qualified_restricted is 2001:0:c000:201:0:fbff:39cc:9bfe\ntotal records 17 entries 8 delivered 8 handed 0 kept 0 dropped 0\n";
+
+/// The sixth word of node 2 gives the flags, 3806.
+const RANDOM_RESTRICTED_REPORT: &str =
+    "0 0 0 tick a rs_restricted #0=198.51.100.1:1024>192.0.2.1:3544/61\n1 0 0 advance - done\n2 0 1 deliver:0 s1 advert #1=192.0.2.1:3544>198.51.100.1:1024/117\n3 0 2 deliver:1 a first_answer\n4 0 3 tick a rs_secondary #2=198.51.100.1:1024>192.0.2.2:3544/61\n5 0 3 advance - done\n6 0 4 deliver:2 s1 advert #3=192.0.2.2:3544>198.51.100.1:1024/117\n7 0 5 deliver:3 a qualified_restricted is 2001:0:c000:201:3806:fbff:39cc:9bfe\ntotal records 8 entries 4 delivered 4 handed 0 kept 0 dropped 0\n";
 
 /// Its host sends to a peer that never answers, at once, when it was given up, and 1 ms before and at the end of five minutes.
 const AND_A_PEER_THAT_IS_SILENT: &str =
@@ -81,6 +100,21 @@ fn clients_qualify_wait_and_give_up(rt: HostRuntime) -> Result<(), Fail> {
             nodes: &[SERVER, PORT_NAT, CLIENT],
             events: &[FOUR_TRIES, AND_A_RESTART],
             report: RESTART_REPORT,
+        },
+        Scene {
+            nodes: &[SERVER, CONE_NAT, CLIENT, RANDOM_FLAGS],
+            events: &[ONE_TRY],
+            report: RANDOM_REPORT,
+        },
+        Scene {
+            nodes: &[SERVER, PORT_NAT, CLIENT, NO_CONE_TRY],
+            events: &[TWO_TRIES, A_RESTART, TWO_TRIES],
+            report: NO_CONE_REPORT,
+        },
+        Scene {
+            nodes: &[SERVER, PORT_NAT, CLIENT, RANDOM_FLAGS, NO_CONE_TRY],
+            events: &[TWO_TRIES],
+            report: RANDOM_RESTRICTED_REPORT,
         },
         Scene {
             nodes: &[SERVER, PORT_NAT, CLIENT],

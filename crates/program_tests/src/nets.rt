@@ -48,6 +48,13 @@ server = "s1"
 refresh = [30000, 30000]
 "#;
 
+/// A further key of a client.
+pub const RANDOM_FLAGS: &str = r#"flags = "random"
+"#;
+
+/// Another one.
+pub const NO_CONE_TRY: &str = "cone_try = false\n";
+
 pub const OTHER_CLIENT: &str = r#"
 [[client]]
 name = "b"

@@ -22,12 +22,15 @@ name = \"a\"
 nat = \"n1\"
 inside = \"10.0.0.2:4000\"
 server = \"s1\"
+flags = \"zero\"
 [[client]]
 name = \"b\"
 nat = \"n1\"
 inside = \"10.0.0.3:4000\"
 server = \"s1\"
 refresh = [1000, 30000]
+flags = \"random\"
+cone_try = false
 [[relay]]
 name = \"r1\"
 at = \"203.0.113.9:3545\"
@@ -69,8 +72,10 @@ fn reads_each_kind_of_node(rt: HostRuntime) -> Result<(), Fail> {
     };
     assert_eq!(rt; nat.name.as_slice(), b"n1".as_slice());
     assert!(rt; server.secondary == Ip4([192, 0, 2, 2]) && nat.external == Ip4([198, 51, 100, 1]));
-    assert_eq!(rt; (a.nat, a.server, a.low, a.high), (1, 0, 22_500, 30_000));
-    assert_eq!(rt; (b.inside.port, b.low, b.high), (4_000, 1_000, 30_000));
+    let (of_a, of_b) = (a.refresh, b.refresh);
+    assert_eq!(rt; (a.nat, a.server, of_a.low_ms, of_a.high_ms), (1, 0, 22_500, 30_000));
+    assert_eq!(rt; (b.inside.port, of_b.low_ms, of_b.high_ms), (4_000, 1_000, 30_000));
+    assert_eq!(rt; (a.random, a.cone_try, b.random, b.cone_try), (false, true, true, false));
     let ([relay], [native]) = (scenario.topology.relays(), scenario.topology.natives()) else {
         return Err(Fail::new("other relays or native hosts"));
     };
@@ -280,7 +285,7 @@ fn names_each_refusal(rt: HostRuntime) -> Result<(), Fail> {
 }
 
 /// A fault each: a part of the scenario, and what stands in its place.
-const FAULTS: [(&str, &str, &str); 12] = [
+const FAULTS: [(&str, &str, &str); 15] = [
     ("seed = 7", "seed = 7\nzone = 1", "scenario zone: key\n"),
     ("seed = 7", "seed = \"7\"", "scenario seed: kind\n"),
     ("secondary", "other", "scenario server[0].other: key\n"),
@@ -297,9 +302,24 @@ const FAULTS: [(&str, &str, &str); 12] = [
         "scenario client[0].inside: range\n",
     ),
     (
+        "\"zero\"",
+        "\"none\"",
+        "scenario client[0].flags: range\n",
+    ),
+    (
         "refresh",
         "refreshes",
         "scenario client[1].refreshes: key\n",
+    ),
+    (
+        "\"random\"",
+        "true",
+        "scenario client[1].flags: kind\n",
+    ),
+    (
+        "cone_try = false",
+        "cone_try = \"false\"",
+        "scenario client[1].cone_try: kind\n",
     ),
     ("2001:db8::9", "2001:0::9", "scenario relay[0].six: range\n"),
     (
