@@ -1,8 +1,9 @@
 #!/usr/bin/env python3
 """A manual page, made from a page of docs/: headings, paragraphs, lists, tables and what is quoted, as `man` shows them.
 
-  man [PAGE] >teredo-serve.1          docs/SERVE.md where no PAGE is named
-  man | man -l -                      to look at it
+  man >teredo-serve.1                         of docs/SERVE.md
+  man PAGE SECTION --name WORD >teredo-WORD.1   of a section of a page, under the name of a command
+  man | man -l -                              to look at it
 """
 import os
 import re
@@ -73,11 +74,23 @@ def manual(text, name):
     return lines + [plain(line) for line in first] + [line for block in rest for line in block_of(block)]
 
 
+def section_of(text, heading):
+    """A section as a page of its own, or None."""
+    found = re.search(rf'^## {re.escape(heading)}\n(.*?)(?=^## |\Z)', text, re.M | re.S)
+    return found and f'# {heading}\n' + re.sub('^###', '##', found[1], flags=re.M)
+
+
 def main():
     parser = command.words(__doc__)
     parser.add_argument('page', metavar='PAGE', nargs='?', default=PAGE, help='a page in Markdown')
+    parser.add_argument('section', metavar='SECTION', nargs='?', help='a heading of that page')
+    parser.add_argument('--name', metavar='WORD', help='the command; the name of the page where it is not given')
     options = parser.parse_args()
-    print('\n'.join(manual(command.read(options.page), os.path.basename(options.page).partition('.')[0].lower())))
+    text = command.read(options.page)
+    if options.section and section_of(text, options.section) is None:
+        raise command.Refusal(f'{options.page} has no section "{options.section}"')
+    name = options.name or os.path.basename(options.page).partition('.')[0].lower()
+    print('\n'.join(manual(section_of(text, options.section) if options.section else text, name)))
     return 0
 
 
