@@ -161,6 +161,7 @@ PACKETS = {
         bubble(FRIEND, OWN),
         packet(NATIVE, OWN, DATA, b'hello'),
         bubble('2001:db8::2', OWN),
+        *[packet(NATIVE, OWN, DATA, b'hello')] * 4,
     ],
     'scenarios/spoofed_advertisement.toml': [
         authentication(NONCE) + origin('203.0.113.66:9') + advertisement('192.0.2.1', link_local('10.0.0.2:4000', cone=True)),
