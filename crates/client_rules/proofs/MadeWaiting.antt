@@ -27,7 +27,7 @@ use Rattle.client_rules.specs.Bearings.{bearing_of, mention, mentions}
 use Rattle.client_rules.specs.Ticks.{asks, tries, nothing, due_at, peer_due, peer_of_due}
 use Rattle.client_rules.specs.Journals.{first_peer, client_in, client_out, client_tick, client_entry, IsJournal}
 use Rattle.teredo_node.specs.MadeInputs.{IsMadeInput, AreMadeInputs}
-use Rattle.client_rules.specs.MadeSends.{IsMadeClient}
+use Rattle.client_rules.specs.MadeSends.{EachStandingIsMade, IsMadeClient}
 use Rattle.bubble.proofs.MadeInputs.{origin_is, source_is, destination_is, packet_is, packet_came}
 use Rattle.peer_list.proofs.MadeMentions.{IsMadeMention, waiting_is, listed_peer}
 
@@ -145,3 +145,9 @@ pub next_peer : InputLaws → (s : Settings) (j : Journal) (e : Entry) → IsJou
 next_peer laws s j e is a h w same =
     let m = entry_is laws s j e.moment e.input w (all_mentions j.entries (entries_are laws s j.start j.entries is a)) h in
     subst (λ (x : Entry). IfSome x.peer IsIp6) (sym same) m.peer
+
+pub each_standing_is_made : InputLaws → EachStandingIsMade
+each_standing_is_made laws s j e is made h a = record {
+  address = address_is laws s j.start j.entries made a;
+  peer = next_peer laws s j e is.1 a h is.0.words is.0.is;
+}

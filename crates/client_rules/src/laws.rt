@@ -4,7 +4,7 @@ ghost use Rattle.client_rules.specs.Epochs.{QualifiedHasAddress, QualifiedStays,
 ghost use Rattle.client_rules.specs.Sendings.{EachSend};
 ghost use Rattle.client_rules.specs.Handed.{EachHanded, EachLate};
 ghost use Rattle.client_rules.specs.Numbers.{TestNumbers};
-ghost use Rattle.client_rules.specs.MadeSends.{EachSendIsBytes};
+ghost use Rattle.client_rules.specs.MadeSends.{EachStandingIsMade, EachSendIsBytes};
 ghost use Rattle.client_rules.specs.ShortSends.{EachSendIsShort};
 
 /// What is done with a datagram has the fate of its line.
@@ -126,6 +126,19 @@ pub fn each_handed()
 pub fn each_late()
     ensures { EachLate }
 {
+    peer_list::one_entry();
+}
+
+/// The client's address is made, and each peer's, where what it was given is.
+pub fn each_standing_is_made()
+    ensures { EachStandingIsMade }
+{
+    bubble::payload_is_spelled();
+    ipv6_packet::packet_is_spelled();
+    teredo_addr::teredo_tells();
+    qualify::turns();
+    qualify::turns_at_start();
+    peer_list::first_waits();
     peer_list::one_entry();
 }
 

@@ -21,18 +21,25 @@ no_packet x e = absurd (false≢true (ap (λ (o : Option (List ℕ)). is_some o)
 
 own : (ip : Ip6) (x y : List ℕ) → (sent_by x (native_row ip (is_packet x) (fields_in x))).packet ≡ Some y → IsOwnPacket ip x y
 own ip x y = by_lines (λ (f : Fate). (sent_by x f).packet ≡ Some y → IsOwnPacket ip x y)
-    ((not (is_packet x), fate.Malformed) ∷ (is_big (fields_in x), fate.Big) ∷ (not (same_ip6 (fields_in x).src ip), fate.Source) ∷ (not (is_global6 (fields_in x).dst), fate.Dest) ∷ []) fate.SentSix
-    ((λ _. no_packet y),
-    (λ packet. ((λ _. no_packet y),
-    (λ short. ((λ _. no_packet y),
-    (λ source. ((λ _. no_packet y),
-    (λ dest. (λ e. record {
-      same = sym (ap (λ (o : Option (List ℕ)). unwrap_or o y) e);
-      packet = not-false (is_packet x) packet;
-      short = short;
-      source = not-false (same_ip6 (fields_in x).src ip) source;
-      global = not-false (is_global6 (fields_in x).dst) dest;
-    })))))))))
+    ((not (is_packet x), fate.Malformed) ∷ (is_big (fields_in x), fate.Big) ∷ (not (same_ip6 (fields_in x).src ip), fate.Source) ∷ (not (is_global6 (fields_in x).dst), fate.Dest) ∷ []) fate.SentSix (
+      (λ _. no_packet y),
+      (λ packet. (
+        (λ _. no_packet y),
+        (λ short. (
+          (λ _. no_packet y),
+          (λ source. (
+            (λ _. no_packet y),
+            (λ dest. (λ e. record {
+              same = sym (ap (λ (o : Option (List ℕ)). unwrap_or o y) e);
+              packet = not-false (is_packet x) packet;
+              short = short;
+              source = not-false (same_ip6 (fields_in x).src ip) source;
+              global = not-false (is_global6 (fields_in x).dst) dest;
+            })),
+          )),
+        )),
+      )),
+    )
 
 pub each_is_own_packet : EachIsOwnPacket
 unfolding native_out

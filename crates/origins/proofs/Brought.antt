@@ -1,0 +1,172 @@
+-- The datagram that brought a packet.
+use Rattle.std.proofs.Common.{◌≡◌, ℕ, Bool, true, false, cond, List, [], ◌∷◌, drop, length, Option, Some, None, Result, Ok, Err, refl, sym, ap, subst, ◌∙◌}
+use Rattle.std.specs.Prelude.{is_some, option_and_then, unwrap_or, slice_get, nat_lt}
+use Rattle.std.proofs.lemmas.Bool.{false≢true}
+use Rattle.std.proofs.lemmas.List.{take_rest}
+use Rattle.td_base.specs.declared.endpoint.Ep.{Ep}
+use Rattle.td_base.specs.declared.ipv6.Ip6.{Ip6}
+use Rattle.td_base.specs.declared.span.Span.{Span}
+use Rattle.td_base.specs.declared.datagram.TheConstants.{DATAGRAM_MAX}
+use Rattle.ipv6_packet.specs.Packets.{Fields, packet_at}
+use Rattle.ipv6_packet.specs.Reads.{fields_or, fields_in}
+use Rattle.ipv6_packet.specs.declared.fault.PacketFault.{PacketFault}
+use Rattle.teredo_addr.specs.Teredo.{is_teredo, embedded}
+use Rattle.indications.specs.Indications.{lead_at}
+use Rattle.indications.specs.declared.blocks.Lead.{Lead}
+use Rattle.indications.specs.declared.fault.LeadFault.{LeadFault}
+use Rattle.bubble.specs.Bubbles.{is_bubble}
+use Rattle.bubble.specs.Payloads.{with_packet, with_lead, payload_at}
+use Rattle.bubble.specs.declared.fault.PayloadFault.TheVariants as faults
+use Rattle.bubble.specs.Reads.{is_ok_payload, value_or, is_payload, value_in}
+use Rattle.teredo_node.specs.Journal.{Input, arrived, given, from_six, ticked, Entry, with_entry}
+use Rattle.qualify.specs.declared.settings.Settings.{Settings}
+use Rattle.qualify.specs.Qualification.{qualification}
+use Rattle.client_rules.specs.Journals.{IsJournal}
+use Rattle.client_rules.specs.Handed.{IsHanded, HandsOver as ClientHands, EachHanded}
+use Rattle.topology.specs.declared.client_node.ClientNode.{ClientNode}
+use Rattle.topology.specs.declared.node.Node.{Node}
+use Rattle.topology.specs.declared.node.Node.TheVariants.{Server as server, Nat as nat, Client as client, Relay as relay, Native as native}
+use Rattle.topology.specs.Topology.{node_at, as_client}
+use Rattle.history.specs.Full.{Item, udp, six, Full, wire}
+use Rattle.legal.specs.Lab.{Lab}
+use Rattle.legal.specs.Settings.{client_settings}
+use Rattle.legal.specs.Past.{now, journal}
+use Rattle.legal.specs.Emit.{part_of}
+use Rattle.legal.specs.Next.{input_of}
+use Rattle.legal.specs.Laws.{EachClientIsJournal}
+use Rattle.legal.specs.Legal.{Grown}
+use Rattle.legal.specs.Actors.{IsGiven, delivered, hosted, ticks, IsActOf, Acted, idles, does, EachActs}
+use Rattle.legal.specs.Routes.{Reaches, EachRoute}
+use Rattle.legal.proofs.MadeWire.{entry_input}
+use Rattle.origins.specs.Handed.{HandsOver, IsBrought, EachIsBrought}
+
+-- THE PACKET OF A PAYLOAD
+
+-- the fields of what follows the lead are those of the payload's packet
+same_fields : (x : List ℕ) → is_payload x ≡ true → fields_in (drop (value_in x).lead.at x) ≡ (value_in x).packet
+unfolding is_payload value_in payload_at fields_in
+same_fields x h = by_length (nat_lt DATAGRAM_MAX (length x)) h where
+  by_packet : (l : Lead) (r : Result Fields PacketFault) → packet_at (drop l.at x) ≡ r → is_ok_payload (with_packet l r) ≡ true
+      → fields_or (packet_at (drop (value_or (with_packet l r)).lead.at x)) ≡ (value_or (with_packet l r)).packet
+  by_packet l (Ok p) e g = ap fields_or e
+  by_packet l (Err f) e g = absurd (false≢true g)
+
+  by_lead : (r : Result Lead LeadFault) → is_ok_payload (with_lead x r) ≡ true → fields_or (packet_at (drop (value_or (with_lead x r)).lead.at x)) ≡ (value_or (with_lead x r)).packet
+  by_lead (Ok l) g = by_packet l (packet_at (drop l.at x)) refl g
+  by_lead (Err f) g = absurd (false≢true g)
+
+  by_length : (b : Bool) → is_ok_payload (cond b (Err (faults.Long (length x))) (with_lead x (lead_at x))) ≡ true
+      → fields_or (packet_at (drop (value_or (cond b (Err (faults.Long (length x))) (with_lead x (lead_at x)))).lead.at x)) ≡ (value_or (cond b (Err (faults.Long (length x))) (with_lead x (lead_at x)))).packet
+  by_length true g = absurd (false≢true g)
+  by_length false g = by_lead (lead_at x) g
+
+-- A CLIENT'S ENTRY
+
+-- what a client handed over of a datagram
+record IsOf (from : Ep) (y x : List ℕ) : Type 0 where
+  whole : x ≡ drop (value_in y).lead.at y
+  packet : (value_in y).packet ≡ fields_in x
+  no_bubble : is_bubble (fields_in x) ≡ false
+  embeds : is_teredo (fields_in x).src ≡ true → from ≡ embedded (fields_in x).src
+
+of_datagram : (s : Settings) (own : Option Ip6) (from : Ep) (y x : List ℕ) (o : Option Span) → IsHanded s own from y o → option_and_then (part_of (arrived from y)) o ≡ Some x → IsOf from y x
+of_datagram s own from y x o h e =
+    let at = (value_in y).lead.at in
+    let same : drop at y ≡ x = sym (take_rest y at) ∙ ap (λ (z : Option (List ℕ)). unwrap_or z x) (ap (option_and_then (part_of (arrived from y))) (sym h.packet) ∙ e) in
+    let fields : (value_in y).packet ≡ fields_in x = sym (same_fields y h.payload) ∙ ap fields_in same in
+    record {
+      whole = sym same;
+      packet = fields;
+      no_bubble = ap is_bubble (sym fields) ∙ h.no_bubble;
+      embeds = λ teredo. h.there (ap (λ (p : Fields). is_teredo p.src) fields ∙ teredo) ∙ ap (λ (p : Fields). embedded p.src) fields;
+    }
+
+has_some : (o : Option Span) (x : List ℕ) (f : Span → Option (List ℕ)) → option_and_then f o ≡ Some x → is_some o ≡ true
+has_some None x f e = absurd (false≢true (ap (λ (z : Option (List ℕ)). is_some z) e))
+has_some (Some a) x f e = refl
+
+-- only a datagram is handed over
+data CameAs (s : Settings) (own : Option Ip6) (input : Input) (o : Option Span) (x : List ℕ) : Type 0 where
+  as_datagram : (from : Ep) (y : List ℕ) → input ≡ arrived from y → IsOf from y x → CameAs s own input o x
+
+came_as : (s : Settings) (own : Option Ip6) (input : Input) (o : Option Span) (x : List ℕ) → ClientHands s own input o → option_and_then (part_of input) o ≡ Some x → CameAs s own input o x
+came_as s own (arrived from y) o x h e = as_datagram from y refl (of_datagram s own from y x o h e)
+came_as s own (given y) o x h e = absurd h
+came_as s own (from_six y) o x h e = absurd h
+came_as s own ticked o x h e = absurd h
+
+-- THE RECORD
+
+pub record BroughtLaws : Type 0 where
+  pub acts : EachActs
+  pub routes : EachRoute
+  pub clients : EachClientIsJournal
+  pub handed : EachHanded
+
+is_client : (a : Node) (c : ClientNode) → as_client a ≡ Some c → a ≡ client c
+is_client (server x) c e = absurd (false≢true (ap (λ (o : Option ClientNode). is_some o) e))
+is_client (nat x) c e = absurd (false≢true (ap (λ (o : Option ClientNode). is_some o) e))
+is_client (client x) c e = ap (λ (o : Option ClientNode). client (unwrap_or o x)) e
+is_client (relay x) c e = absurd (false≢true (ap (λ (o : Option ClientNode). is_some o) e))
+is_client (native x) c e = absurd (false≢true (ap (λ (o : Option ClientNode). is_some o) e))
+
+abbrev is_arrived : Input → Bool
+is_arrived (arrived from x) = true
+is_arrived _ = false
+
+abbrev from_of : Ep → Input → Ep
+from_of e (arrived from x) = from
+from_of e _ = e
+
+abbrev bytes_of : Input → List ℕ
+bytes_of (arrived from x) = x
+bytes_of _ = []
+
+-- an item that came as a datagram is one
+of_item : (lab : Lab) (H : List Full) (r : Full) (n : ℕ) (c : ClientNode) (x : List ℕ) (from : Ep) (y : List ℕ) (number : ℕ) (item : Item) → arrived from y ≡ input_of item → IsOf from y x → r.delivered ≡ Some number
+    → slice_get (wire H) number ≡ Some item → Reaches lab H (now H) item n (client c) → IsBrought lab H r c x
+of_item lab H r n c x from y number (udp src dst bytes) same of by at goes =
+    let sources : src ≡ from = sym (ap (from_of from) same) in
+    let all : bytes ≡ y = sym (ap bytes_of same) in
+    record {
+      number = number;
+      src = src;
+      dst = dst;
+      bytes = bytes;
+      delivered = by;
+      datagram = at;
+      let_in = goes;
+      whole = of.whole ∙ ap (λ (z : List ℕ). drop (value_in z).lead.at z) (sym all);
+      packet = ap (λ (z : List ℕ). (value_in z).packet) all ∙ of.packet;
+      no_bubble = of.no_bubble;
+      embeds = λ teredo. sources ∙ of.embeds teredo;
+    }
+of_item lab H r n c x from y number (six to bytes) same of by at goes = absurd (false≢true (sym (ap is_arrived same)))
+
+of_given : BroughtLaws → (lab : Lab) (H : List Full) (r : Full) (n : ℕ) (c : ClientNode) (x : List ℕ) (dst : Ep) (input : Input) (from : Ep) (y : List ℕ) → IsGiven lab H r n (client c) dst input → input ≡ arrived from y → IsOf from y x
+    → IsBrought lab H r c x
+of_given laws lab H r n c x dst input from y (delivered number item by at goes moment to same) is of = of_item lab H r n c x from y number item (sym is ∙ same) of by at (laws.routes lab H (now H) item n (client c) goes)
+of_given laws lab H r n c x dst input from y (hosted v z hands none moment to same) is of = absurd (false≢true (sym (ap is_arrived (sym is ∙ same))))
+of_given laws lab H r n c x dst input from y (ticks d due at none moment to same) is of = absurd (false≢true (sym (ap is_arrived (sym is ∙ same))))
+
+of_act : BroughtLaws → (lab : Lab) (H : List Full) (r : Full) (n : ℕ) (c : ClientNode) (e : Entry) (x : List ℕ) → Grown lab (r ∷ H) → IsActOf lab H r n (client c) e → r.handed ≡ Some x → IsBrought lab H r c x
+of_act laws lab H r n c e x g act hands =
+    let s : Settings = client_settings lab.topology c in
+    let is_j : IsJournal s (with_entry (journal n H) e) = subst (IsJournal s) act.later (laws.clients lab (r ∷ H) n c g act.there).journal in
+    let out : option_and_then (part_of e.input) e.step.handed ≡ Some x = sym act.handed ∙ hands in
+    let one = laws.handed s (journal n H) e is_j (has_some e.step.handed x (part_of e.input) out) in
+    let same : e.input ≡ act.input = ap (λ (z : Entry). z.input) act.step ∙ entry_input lab H r.moment n act.dst act.input (client c) in
+    by s same (came_as s (qualification s (journal n H)).address e.input e.step.handed x one.0 out)
+  where
+    by : (s : Settings) → e.input ≡ act.input → CameAs s (qualification s (journal n H)).address e.input e.step.handed x → IsBrought lab H r c x
+    by s same (as_datagram from y is of) = of_given laws lab H r n c x act.dst act.input from y act.is_given (sym same ∙ is) of
+
+of_acted : BroughtLaws → (lab : Lab) (H : List Full) (r : Full) (n : ℕ) (c : ClientNode) (x : List ℕ) → Grown lab (r ∷ H) → Acted lab H r → HandsOver lab r n c x → IsBrought lab H r c x
+of_acted laws lab H r n c x g (idles entry address none lets) o = absurd (false≢true (ap (λ (z : Option (List ℕ)). is_some z) (sym none ∙ o.packet)))
+of_acted laws lab H r n c x g (does k a e act) o =
+    let same : k ≡ n = ap (λ (p : Option ℕ). unwrap_or p k) (sym act.node ∙ o.node) in
+    let one : a ≡ client c = is_client a c (ap (option_and_then as_client) (sym act.there ∙ ap (node_at lab.topology) same) ∙ o.client) in
+    of_act laws lab H r n c e x g (subst (λ (b : Node). IsActOf lab H r n b e) one (subst (λ (j : ℕ). IsActOf lab H r j a e) same act)) o.packet
+
+pub each_is_brought : BroughtLaws → EachIsBrought
+each_is_brought laws lab H r n c x g o = of_acted laws lab H r n c x g (laws.acts lab H r g.0) o

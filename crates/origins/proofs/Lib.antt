@@ -1,0 +1,4 @@
+mod SentFrom
+mod SentOn
+mod Brought
+mod Whence

@@ -1,0 +1,165 @@
+-- Who sent a datagram with a node's address.
+use Rattle.std.proofs.Common.{◌≡◌, ℕ, ◌||◌, Bool, true, false, List, [], ◌∷◌, Option, Some, None, Result, Ok, Err, refl, sym, ap, subst, ◌∙◌}
+use Rattle.std.specs.Prelude.{not, option_and_then, unwrap_or}
+use Rattle.std.specs.List.{list_any, AllByRecursion}
+use Rattle.std.proofs.lemmas.Bool.{false≢true}
+use Rattle.td_base.specs.declared.ipv4.Ip4.{Ip4}
+use Rattle.td_base.specs.declared.endpoint.Ep.{Ep}
+use Rattle.td_base.specs.declared.reach.Policy.TheVariants.{Strict}
+use Rattle.td_base.specs.declared.side.Side.{Side}
+use Rattle.td_base.specs.declared.side.Side.TheVariants.{Primary, Secondary}
+use Rattle.td_base.specs.Ip4.{same_ip, same_ip-self, same_ip-true}
+use Rattle.td_base.specs.Reach.{is_global}
+use Rattle.nat_kinds.specs.Answer.{nat_answer}
+use Rattle.nat_kinds.specs.declared.refusal.NatRefusal.{NatRefusal}
+use Rattle.topology.specs.declared.server_node.ServerNode.{ServerNode}
+use Rattle.topology.specs.declared.nat_node.NatNode.{NatNode}
+use Rattle.topology.specs.declared.client_node.ClientNode.{ClientNode}
+use Rattle.topology.specs.declared.node.Node.{Node}
+use Rattle.topology.specs.declared.node.Node.TheVariants.{Server as server, Nat as nat, Client as client, Relay as relay, Native as native}
+use Rattle.topology.specs.Rows.{TopologyState}
+use Rattle.topology.specs.Rules.{addresses_of, IsTopology}
+use Rattle.topology.specs.Topology.{node_at, client_at, as_nat, as_client, no_ip, own_ep, settings_of_nat}
+use Rattle.topology.specs.NodeRules.{has_address, is_taken, AddressesAreApart, OwnAddressIsTaken}
+use Rattle.topology.specs.Chains.{NatPasts, Passing, nat_set_up, outer_in, nats_from, after_passing, passing, answered, crossing}
+use Rattle.events.specs.declared.event.Event.{Event}
+use Rattle.history.specs.Full.{Item, Full, items_of}
+use Rattle.legal.specs.Lab.{Lab}
+use Rattle.legal.specs.Past.{nat_pasts}
+use Rattle.legal.specs.Makers.{Forges, strange, copied, Leaves, MadeBy, from_nowhere, by_server, by_relay, by_client, by_native, to_six, EachItemIsMade}
+use Rattle.origins.specs.Honest.{is_honest_event}
+use Rattle.origins.specs.Sources.{last_nat, outermost, IsSender, HasOwnSource, EachHasOwnSource}
+
+pub record SourceLaws : Type 0 where
+  pub apart : AddressesAreApart
+  pub taken : OwnAddressIsTaken
+  pub made : EachItemIsMade
+
+-- NOBODY'S ADDRESSES
+
+kept_false : (b : Bool) → not b ≡ true → b ≡ false
+kept_false true h = absurd (false≢true h)
+kept_false false h = refl
+
+-- a forged source isn't a node's
+pub untaken : (t : TopologyState) (H : List Full) (src dst : Ep) (bytes : List ℕ) (e : Event) → Forges H src dst bytes e → is_honest_event t e ≡ true → is_taken t src.ip ≡ false
+untaken t H src dst bytes _ strange h = kept_false (is_taken t src.ip) h
+untaken t H src dst bytes _ (copied number x at is) h = kept_false (is_taken t src.ip) h
+
+any_all : (P : Ip4 → Type 0) (ip : Ip4) (xs : List Ip4) → list_any (same_ip ip) xs ≡ true → AllByRecursion P xs → P ip
+any_all P ip [] h a = absurd (false≢true h)
+any_all P ip (x ∷ xs) h a = by (same_ip ip x) refl h (λ g. any_all P ip xs g a.1) where
+  by : (b : Bool) → same_ip ip x ≡ b → (b || list_any (same_ip ip) xs) ≡ true → (list_any (same_ip ip) xs ≡ true → P ip) → P ip
+  by true e g rest = subst P (sym (same_ip-true ip x e)) a.0
+  by false e g rest = rest g
+
+no_global : is_global Strict no_ip ≡ false
+unfolding is_global
+no_global = refl
+
+-- the address of a NAT that isn't there is nobody's
+nobody_has : SourceLaws → (t : TopologyState) (n : ℕ) (a : Node) (ip : Ip4) → IsTopology t → node_at t n ≡ Some a → has_address ip a ≡ true → ip ≡ no_ip → ⊥
+nobody_has laws t n a ip is at has same =
+    let global : is_global Strict ip ≡ true = any_all (λ (x : Ip4). is_global Strict x ≡ true) ip (addresses_of t) (laws.taken t n a ip at has) is.global in
+    false≢true (sym no_global ∙ ap (is_global Strict) (sym same) ∙ global)
+
+-- A NODE'S OWN ADDRESSES
+
+pub server_has : (a : ServerNode) (side : Side) → has_address (own_ep (server a) side).ip (server a) ≡ true
+server_has a Primary = ap (λ (b : Bool). b || (same_ip a.primary a.secondary || false)) (same_ip-self a.primary)
+server_has a Secondary = by (same_ip a.secondary a.primary) (same_ip a.secondary a.secondary) (same_ip-self a.secondary) where
+  by : (b c : Bool) → c ≡ true → (b || (c || false)) ≡ true
+  by true c h = refl
+  by false true h = refl
+  by false false h = absurd (false≢true h)
+
+pub one_has : (ip : Ip4) → (same_ip ip ip || false) ≡ true
+one_has ip = ap (λ (b : Bool). b || false) (same_ip-self ip)
+
+-- the node that sends from an address is the one that has it
+pub same_node : AddressesAreApart → (t : TopologyState) (n k : ℕ) (a b : Node) (ip : Ip4) → IsTopology t → node_at t n ≡ Some a → node_at t k ≡ Some b → has_address ip a ≡ true → has_address ip b ≡ true
+    → (n ≡ k) × (a ≡ b)
+same_node apart t n k a b ip is at to h g =
+    let same : n ≡ k = apart t n k a b ip is at to h g in
+    (same, ap (λ (o : Option Node). unwrap_or o a) (sym at ∙ ap (node_at t) same ∙ to))
+
+sender : (lab : Lab) (r : Full) (n k : ℕ) (a b : Node) → n ≡ k → a ≡ b → IsSender lab r n a → IsSender lab r k b
+sender lab r n k a b same one s = subst (λ (m : ℕ). IsSender lab r m b) same (subst (λ (x : Node). IsSender lab r n x) one s)
+
+-- WHERE A WAY OUT ENDS
+
+abbrev ip_or : Ip4 → Result Ep NatRefusal → Ip4
+ip_or ip (Ok e) = e.ip
+ip_or ip (Err why) = ip
+
+abbrev is_ep : Result Ep NatRefusal → Bool
+is_ep (Ok e) = true
+is_ep (Err why) = false
+
+leaves_last : (t : TopologyState) (h : NatPasts) (m : ℕ) (dst : Ep) (k : ℕ) (way : List ℕ) (from : Ep) (passed : List Passing) (e : Ep)
+    → (crossing t h m dst (k ∷ way) from passed).leaves ≡ Ok e → e.ip ≡ (nat_set_up t (last_nat k way)).external
+leaves_last t h m dst k [] from passed e is = by (nat_answer (nat_set_up t k) (after_passing passed h k) m from dst) is where
+  by : (r : Result ℕ NatRefusal) → (answered t m k from dst passed (crossing t h m dst []) r).leaves ≡ Ok e → e.ip ≡ (nat_set_up t k).external
+  by (Ok port) g = sym (ap (ip_or e.ip) g)
+  by (Err why) g = absurd (false≢true (ap is_ep g))
+leaves_last t h m dst k (j ∷ way) from passed e is = by (nat_answer (nat_set_up t k) (after_passing passed h k) m from dst) is (λ (f : Ep) (ps : List Passing). leaves_last t h m dst j way f ps e) where
+  by : (r : Result ℕ NatRefusal) → (answered t m k from dst passed (crossing t h m dst (j ∷ way)) r).leaves ≡ Ok e
+      → ((f : Ep) (ps : List Passing) → (crossing t h m dst (j ∷ way) f ps).leaves ≡ Ok e → e.ip ≡ (nat_set_up t (last_nat j way)).external) → e.ip ≡ (nat_set_up t (last_nat j way)).external
+  by (Ok port) g ih = ih (record { ip = (nat_set_up t k).external; port = port }) (passing k m from dst port ∷ passed) g
+  by (Err why) g ih = absurd (false≢true (ap is_ep g))
+
+-- a client's datagram leaves at the address of its outermost NAT
+pub leaves_at : (lab : Lab) (H : List Full) (m : ℕ) (c : ClientNode) (dst src : Ep) → Leaves lab H m c dst src → src.ip ≡ (nat_set_up lab.topology (outermost lab c)).external
+leaves_at lab H m c dst src l = leaves_last lab.topology (nat_pasts lab H) m dst c.nat (nats_from lab.chain lab.chain (outer_in lab.chain c.nat)) c.inside l.before src l.leaves
+
+-- that NAT, if there is one
+pub data WhoseAddress (t : TopologyState) (k : ℕ) (ip : Ip4) : Type 0 where
+  of_nat : (row : NatNode) → node_at t k ≡ Some (nat row) → ip ≡ row.external → WhoseAddress t k ip
+  of_nobody : ip ≡ no_ip → WhoseAddress t k ip
+
+pub whose : (t : TopologyState) (k : ℕ) (ip : Ip4) → ip ≡ (nat_set_up t k).external → WhoseAddress t k ip
+whose t k ip same = by (node_at t k) refl same where
+  by : (o : Option Node) → node_at t k ≡ o → ip ≡ (settings_of_nat (option_and_then as_nat o)).external → WhoseAddress t k ip
+  by None e s = of_nobody s
+  by (Some (nat a)) e s = of_nat a e s
+  by (Some (server a)) e s = of_nobody s
+  by (Some (client a)) e s = of_nobody s
+  by (Some (relay a)) e s = of_nobody s
+  by (Some (native a)) e s = of_nobody s
+
+-- the node that has the address of a client's datagram is that NAT
+pub nat_has : SourceLaws → (lab : Lab) (H : List Full) (m : ℕ) (c : ClientNode) (dst src : Ep) (n : ℕ) (b : Node) → IsTopology lab.topology → Leaves lab H m c dst src → node_at lab.topology n ≡ Some b → has_address src.ip b ≡ true
+    → (row : NatNode) × (outermost lab c ≡ n) × (nat row ≡ b)
+nat_has laws lab H m c dst src n b is l at has = by (whose lab.topology (outermost lab c) src.ip (leaves_at lab H m c dst src l)) where
+  by : WhoseAddress lab.topology (outermost lab c) src.ip → (row : NatNode) × (outermost lab c ≡ n) × (nat row ≡ b)
+  by (of_nat row there same) =
+      let one = same_node laws.apart lab.topology (outermost lab c) n (nat row) b src.ip is there at (subst (λ (ip : Ip4). has_address ip (nat row) ≡ true) (sym same) (one_has row.external)) has in
+      (row, one.0, one.1)
+  by (of_nobody none) = absurd (nobody_has laws lab.topology n b src.ip is at has none)
+
+-- ENTRIES
+
+as_client_at : (t : TopologyState) (n : ℕ) (c : ClientNode) → node_at t n ≡ Some (client c) → client_at t n ≡ Some c
+as_client_at t n c at = ap (option_and_then as_client) at
+
+own_source : SourceLaws → (lab : Lab) (H : List Full) (r : Full) (x : Item) → IsTopology lab.topology → is_honest_event lab.topology r.asked ≡ true → MadeBy lab H r x → HasOwnSource lab r x
+own_source laws lab H r x is honest (from_nowhere src dst bytes forged e) = subst (HasOwnSource lab r) (sym e) (λ n a at has.
+    absurd (false≢true (sym (untaken lab.topology H src dst bytes r.asked forged honest) ∙ laws.taken lab.topology n a src.ip at has)))
+own_source laws lab H r x is honest (by_server k a e s act c same) = subst (HasOwnSource lab r) (sym same) (λ n b at has.
+    let one = same_node laws.apart lab.topology k n (server a) b (own_ep (server a) s.side).ip is act.there at (server_has a s.side) has in
+    sender lab r k n (server a) b one.0 one.1 act.node)
+own_source laws lab H r x is honest (by_relay k a e s act c same) = subst (HasOwnSource lab r) (sym same) (λ n b at has.
+    let one = same_node laws.apart lab.topology k n (relay a) b a.at.ip is act.there at (one_has a.at.ip) has in
+    sender lab r k n (relay a) b one.0 one.1 act.node)
+own_source laws lab H r x is honest (by_client k c e s src act held leaves same) = subst (HasOwnSource lab r) (sym same) (λ n b at has.
+    let one = nat_has laws lab H r.moment c s.to src n b is leaves at has in
+    sender lab r (outermost lab c) n (nat one.0) b one.1 one.2 (record { number = k; row = c; node = act.node; client = as_client_at lab.topology k c act.there; nat = refl }))
+own_source laws lab H r x is honest (by_native k h e bytes act p same) = subst (HasOwnSource lab r) (sym same) tt
+own_source laws lab H r x is honest (to_six k a e from bytes span act i p same) = subst (HasOwnSource lab r) (sym same) tt
+
+pub all_weaker : {A : Type 0} (P Q : A → Type 0) (xs : List A) → ((x : A) → P x → Q x) → AllByRecursion P xs → AllByRecursion Q xs
+all_weaker P Q [] f a = tt
+all_weaker P Q (x ∷ xs) f a = (f x a.0, all_weaker P Q xs f a.1)
+
+pub each_own_source : SourceLaws → EachHasOwnSource
+each_own_source laws lab H r is grown honest = all_weaker (MadeBy lab H r) (HasOwnSource lab r) (items_of r) (λ x m. own_source laws lab H r x is honest m) (laws.made lab H r grown)

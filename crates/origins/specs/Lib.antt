@@ -1,0 +1,5 @@
+pub mod Honest
+pub mod Sources
+pub mod Senders
+pub mod Handed
+pub mod Origin

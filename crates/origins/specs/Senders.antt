@@ -1,0 +1,48 @@
+-- What servers and relays send: an advertisement tells where it goes, and nobody's packet goes on as its own.
+use Rattle.std.specs.Prelude.{◌≡◌, ◌∷◌, ℕ, true, is_some, List, Contains, Some}
+use Rattle.std.specs.List.{AllByRecursion}
+use Rattle.td_base.specs.declared.endpoint.Ep.{Ep}
+use Rattle.teredo_addr.specs.Teredo.{is_teredo, embedded}
+use Rattle.indications.specs.Leads.{origin_in}
+use Rattle.bubble.specs.Reads.{value_in}
+use Rattle.teredo_node.specs.Step.{Send}
+use Rattle.teredo_node.specs.Journal.{Entry}
+use Rattle.topology.specs.declared.server_node.ServerNode.{ServerNode}
+use Rattle.topology.specs.declared.client_node.ClientNode.{ClientNode}
+use Rattle.topology.specs.declared.node.Node.TheVariants.{Server as server, Client as client}
+use Rattle.topology.specs.Rules.{IsTopology}
+use Rattle.topology.specs.NodeRules.{has_address}
+use Rattle.topology.specs.Topology.{node_at}
+use Rattle.history.specs.Full.{Item, udp, six, Full, wire, items_of}
+use Rattle.legal.specs.Lab.{Lab}
+use Rattle.legal.specs.Legal.{Grown}
+use Rattle.legal.specs.Actors.{IsActOf}
+use Rattle.legal.specs.Makers.{Forges, Leaves}
+use Rattle.origins.specs.Honest.{are_honest}
+
+-- a datagram from a server's address that has an authentication has, as its origin, the endpoint that it goes to
+abbrev pub TellsWhereTo : Lab → Item → Type 0
+TellsWhereTo lab (udp src dst bytes) = (n : ℕ) (a : ServerNode) → node_at lab.topology n ≡ Some (server a) → has_address src.ip (server a) ≡ true
+    → is_some (value_in bytes).lead.auth ≡ true → origin_in (value_in bytes).lead ≡ Some dst
+TellsWhereTo lab (six to bytes) = Unit {0}
+
+-- in an honest history each does
+abbrev pub EachTellsWhereTo : Type 0
+EachTellsWhereTo = (lab : Lab) (H : List Full) → IsTopology lab.topology → Grown lab H → are_honest lab.topology H ≡ true
+    → AllByRecursion (TellsWhereTo lab) (wire H)
+
+-- who made a datagram that comes from the endpoint that its Teredo source embeds: nobody, or a client past its NATs
+pub data IsOfClient (lab : Lab) (H : List Full) (r : Full) (src dst : Ep) (bytes : List ℕ) : Type 0 where
+  forged : Forges H src dst bytes r.asked → IsOfClient lab H r src dst bytes
+  sent_by : (n : ℕ) (c : ClientNode) (e : Entry) (s : Send) → IsActOf lab H r n (client c) e → Contains e.step.sends s
+      → Leaves lab H r.moment c s.to src → dst ≡ s.to → bytes ≡ s.bytes → IsOfClient lab H r src dst bytes
+
+abbrev pub ComesFromClient : Lab → List Full → Full → Item → Type 0
+ComesFromClient lab H r (udp src dst bytes) = is_teredo (value_in bytes).packet.src ≡ true → src ≡ embedded (value_in bytes).packet.src
+    → IsOfClient lab H r src dst bytes
+ComesFromClient lab H r (six to bytes) = Unit {0}
+
+-- no server's and no relay's datagram does
+abbrev pub EachComesFromClient : Type 0
+EachComesFromClient = (lab : Lab) (H : List Full) (r : Full) → IsTopology lab.topology → Grown lab (r ∷ H)
+    → AllByRecursion (ComesFromClient lab H r) (items_of r)

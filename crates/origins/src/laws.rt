@@ -1,0 +1,69 @@
+//! Laws of every history.
+ghost use Rattle.origins.specs.Sources.{EachHasOwnSource};
+ghost use Rattle.origins.specs.Senders.{EachTellsWhereTo, EachComesFromClient};
+ghost use Rattle.origins.specs.Handed.{EachIsBrought};
+ghost use Rattle.origins.specs.Origin.{EachHasOrigin};
+
+/// In an honest history an entry from a node's address is the node's, or that of a client behind it.
+pub fn own_sources()
+    ensures { EachHasOwnSource }
+{
+    topology::apart();
+    topology::taken();
+    topology::each_node();
+    legal::items_are_made();
+}
+
+/// In an honest history a datagram from a server's address that has an authentication tells where it goes.
+pub fn tells_where_to()
+    ensures { EachTellsWhereTo }
+{
+    topology::apart();
+    topology::taken();
+    topology::each_node();
+    legal::items_are_made();
+    legal::wire_is_made();
+    server_core::each_tells_where_to();
+}
+
+/// A datagram from the endpoint that its Teredo source embeds is nobody's, or a client's; no server's and no relay's.
+pub fn comes_from_clients()
+    ensures { EachComesFromClient }
+{
+    topology::each_node();
+    legal::items_are_made();
+    legal::wire_is_made();
+    legal::relay_journals();
+    server_core::each_is_from_client();
+    relay_rules::each_send_is_foreign();
+}
+
+/// Each packet that a client's host is handed came in a datagram that the NATs let in, from where a Teredo source says.
+pub fn is_brought()
+    ensures { EachIsBrought }
+{
+    legal::acted();
+    legal::routes();
+    legal::client_journals();
+    client_rules::each_handed();
+}
+
+/// Such a packet was put there by a named event, or a client's host had handed it in while its address was that source.
+pub fn has_origin()
+    ensures { EachHasOrigin }
+{
+    is_brought();
+    comes_from_clients();
+    topology::apart();
+    topology::each_node();
+    legal::made();
+    legal::wire_is_made();
+    legal::is_recorded();
+    legal::client_journals();
+    client_rules::each_send();
+    client_rules::each_standing_is_made();
+    client_rules::queued_is_own();
+    qualify::keeps_still();
+    bubble::bubble_reads_back();
+    bubble::packet_is_payload();
+}

@@ -1,0 +1,30 @@
+//! Whence packets come that clients' hosts are handed, in every history.
+//!
+//! # What the layer above may rely on
+//!
+//! - A packet that a client's host is handed came in a datagram that the client's NATs let in; with a Teredo source, from
+//!   the endpoint that this embeds, whatever strangers do (`specs/Handed.antt`).
+//! - Such a packet was put onto the wire there by a named event, or a client's host had handed it in,
+//!   byte for byte, while the client's address was that source (`specs/Origin.antt`).
+//! - In an honest scenario a datagram from a node's address is the node's, or of a client behind it (`specs/Sources.antt`),
+//!   and what a server says of its origin is where it goes (`specs/Senders.antt`).
+//!
+//! # What it does not know
+//!
+//! Whether anything arrives; who has an address now. A port may be given again, so others may have had the same address
+//! before or after.
+//!
+//! # Parts
+//!
+//! | what is said | in |
+//! |---|---|
+//! | honest scenarios | `specs/Honest.antt` |
+//! | who sent from a node's address | `specs/Sources.antt` |
+//! | what servers and relays send | `specs/Senders.antt` |
+//! | what brought a packet to a host | `specs/Handed.antt` |
+//! | whence it came | `specs/Origin.antt` |
+#![tactic(auto)]
+
+mod laws;
+
+pub use laws::{comes_from_clients, has_origin, is_brought, own_sources, tells_where_to};
