@@ -17,7 +17,7 @@ use Rattle.td_base.proofs.Ip6ValueLemmas.{ip6_of-sound}
 use Rattle.td_base.specs.Results.{◌>>=◌}
 use Rattle.events.specs.declared.event.Event.{Event}
 use Rattle.events.specs.declared.event.Event.TheVariants as event
-use Rattle.events.specs.declared.event.TheConstants.{ADVANCE_MAX_MS, ENTRY_NUMBER_MAX, SEQUENCE_MAX, BODY_MAX}
+use Rattle.events.specs.declared.event.TheConstants.{ADVANCE_MAX_MS, ENTRY_NUMBER_MAX, SEQUENCE_MAX, BODY_MAX, FAULT_MAX}
 use Rattle.td_base.specs.declared.datagram.TheConstants.{DATAGRAM_MAX}
 use Rattle.events.specs.declared.verb.Verb.{Verb}
 use Rattle.events.specs.declared.verb.Verb.TheVariants as verb
@@ -176,6 +176,14 @@ legal_behind t verb.Forget ws e h =
     let b = word_ok (named (is_client_of nat.0.0) t) nat.0.1 client.0 client.1 in
     let P : Event → Type 0 = λ x. IsEvent t x in
     subst P (no_more_ok _ e _ client.2) (record { by = (named-kind is_nat t a.0 nat.0.0 a.1).0; behind = (named-kind (is_client_of nat.0.0) t b.0 client.0.0 b.1).0 })
+legal_behind t verb.Fault ws e h =
+    let send = bind_ok (word (number_of FAULT_MAX) ws) _ e h in
+    let w = word_ok (number_of FAULT_MAX) ws send.0 send.1 in
+    let P : Event → Type 0 = λ x. IsEvent t x in
+    subst P (no_more_ok _ e _ send.2) (number_of-sound FAULT_MAX send.0.0 w.0 w.1).0
+legal_behind t verb.Settle ws e h =
+    let P : Event → Type 0 = λ x. IsEvent t x in
+    subst P (no_more_ok event.Settle e ws h) tt
 
 -- the event of a text is one that a scenario with these nodes may ask for
 pub event_of-legal : (t : TopologyState) (text : List ℕ) (e : Event) → event_of t text ≡ Ok e → IsEvent t e

@@ -15,7 +15,7 @@ use Rattle.td_base.specs.Ip6Texts.{ip6_text}
 use Rattle.td_base.proofs.Ip6Lemmas.{printed_is_spelled}
 use Rattle.events.specs.declared.event.Event.{Event}
 use Rattle.events.specs.declared.event.Event.TheVariants as event
-use Rattle.events.specs.declared.event.TheConstants.{ADVANCE_MAX_MS, ENTRY_NUMBER_MAX, SEQUENCE_MAX, BODY_MAX}
+use Rattle.events.specs.declared.event.TheConstants.{ADVANCE_MAX_MS, ENTRY_NUMBER_MAX, SEQUENCE_MAX, BODY_MAX, FAULT_MAX}
 use Rattle.td_base.specs.declared.datagram.TheConstants.{DATAGRAM_MAX}
 use Rattle.events.specs.declared.verb.Verb.{Verb}
 use Rattle.events.specs.declared.verb.Verb.TheVariants as verb
@@ -240,6 +240,21 @@ unfolding event_behind
 again_forget t n who is legal =
     read_back t (event.Forget n who) verb.Forget (name_word t n ∷ name_word t who ∷ []) refl (is_word-name t n (plain_names t is), (is_word-name t who (plain_names t is), tt))
     ∙ rw (kind_back is_nat t n is.names refl legal.by, kind_back (is_client_of n) t who is.names refl legal.behind) refl
+
+pub again_fault : (t : TopologyState) (send : ℕ) → send ≤ FAULT_MAX → event_of t (event_text t (event.Fault send)) ≡ Ok (event.Fault send)
+unfolding event_behind
+again_fault t send le =
+    read_back t (event.Fault send) verb.Fault (decimal send ∷ []) refl (is_word-decimal send (omega (arith, le)), tt)
+    ∙ rw (number_back FAULT_MAX send (omega arith) le) refl
+
+pub again_settle : (t : TopologyState) → event_of t (event_text t event.Settle) ≡ Ok event.Settle
+unfolding event_behind
+again_settle t = read_back t event.Settle verb.Settle [] refl tt
+
+pub settle_read : {E : Type 0} (t : TopologyState) (r : Result (Vec ℕ Global) E) → IfOk r (λ text. text.items ≡ verb_word verb.Settle) → IfOk r (λ text. event_of t text.items ≡ Ok event.Settle)
+unfolding event_text
+settle_read t (Ok text) h = ap (event_of t) h ∙ again_settle t
+settle_read t (Err e) h = tt
 
 -- ---- how the words are joined
 

@@ -70,6 +70,8 @@ is_word-verb verb.Stranger = refl
 is_word-verb verb.Copy = refl
 is_word-verb verb.Restart = refl
 is_word-verb verb.Forget = refl
+is_word-verb verb.Fault = refl
+is_word-verb verb.Settle = refl
 
 pub verb_back : (v : Verb) → verb_of (verb_word v) ≡ Some v
 unfolding verb_of
@@ -83,6 +85,8 @@ verb_back verb.Stranger = refl
 verb_back verb.Copy = refl
 verb_back verb.Restart = refl
 verb_back verb.Forget = refl
+verb_back verb.Fault = refl
+verb_back verb.Settle = refl
 
 -- a digit, in any base up to 16
 no_digit : (x : ℕ) → digit_value x < 16 → not (x == 32) ≡ true

@@ -47,6 +47,8 @@ event_words t (event.Stranger src dst bytes) = verb_word verb.Stranger ∷ ep_te
 event_words t (event.Copy number src dst) = verb_word verb.Copy ∷ decimal number ∷ ep_text src ∷ ep_text dst ∷ []
 event_words t (event.Restart node) = verb_word verb.Restart ∷ name_word t node ∷ []
 event_words t (event.Forget nat client) = verb_word verb.Forget ∷ name_word t nat ∷ name_word t client ∷ []
+event_words t (event.Fault send) = verb_word verb.Fault ∷ decimal send ∷ []
+event_words t event.Settle = verb_word verb.Settle ∷ []
 
 -- its words, with single spaces between them
 unfoldable pub event_text : TopologyState → Event → List ℕ

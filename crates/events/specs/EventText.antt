@@ -3,7 +3,7 @@ use Rattle.std.specs.Prelude.{ℕ, ◌+◌, List, [], ◌∷◌, length, Option,
 use Rattle.td_base.specs.Results.{◌>>=◌}
 use Rattle.events.specs.declared.event.Event.{Event}
 use Rattle.events.specs.declared.event.Event.TheVariants as event
-use Rattle.events.specs.declared.event.TheConstants.{ADVANCE_MAX_MS, ENTRY_NUMBER_MAX, SEQUENCE_MAX, BODY_MAX}
+use Rattle.events.specs.declared.event.TheConstants.{ADVANCE_MAX_MS, ENTRY_NUMBER_MAX, SEQUENCE_MAX, BODY_MAX, FAULT_MAX}
 use Rattle.td_base.specs.declared.datagram.TheConstants.{DATAGRAM_MAX}
 use Rattle.events.specs.declared.verb.Verb.{Verb}
 use Rattle.events.specs.declared.verb.Verb.TheVariants as verb
@@ -84,6 +84,10 @@ event_behind t verb.Forget more = do
   nat ← word (named is_nat t) more
   client ← word (named (is_client_of nat.0) t) nat.1
   no_more (event.Forget nat.0 client.0) client.1
+event_behind t verb.Fault more = do
+  send ← word (number_of FAULT_MAX) more
+  no_more (event.Fault send.0) send.1
+event_behind t verb.Settle more = no_more event.Settle more
 
 -- the event of a text, or the place of the first word that breaks its rule, of the first word too many, or of the text's end where a word is missing
 unfoldable pub event_of : TopologyState → List ℕ → Result Event ℕ

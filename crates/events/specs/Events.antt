@@ -6,7 +6,7 @@ use Rattle.td_base.specs.Ep.{IsEp}
 use Rattle.td_base.specs.Ip6.{IsIp6}
 use Rattle.events.specs.declared.event.Event.{Event}
 use Rattle.events.specs.declared.event.Event.TheVariants as event
-use Rattle.events.specs.declared.event.TheConstants.{ADVANCE_MAX_MS, ENTRY_NUMBER_MAX, SEQUENCE_MAX, BODY_MAX}
+use Rattle.events.specs.declared.event.TheConstants.{ADVANCE_MAX_MS, ENTRY_NUMBER_MAX, SEQUENCE_MAX, BODY_MAX, FAULT_MAX}
 use Rattle.td_base.specs.declared.datagram.TheConstants.{DATAGRAM_MAX}
 use Rattle.events.specs.declared.target.Target.{Target}
 use Rattle.events.specs.declared.target.Target.TheVariants as target
@@ -67,3 +67,5 @@ IsEvent t (event.Stranger src dst bytes) = IsStranger src dst bytes
 IsEvent t (event.Copy number src dst) = IsCopy number src dst
 IsEvent t (event.Restart node) = node < length (nodes t)
 IsEvent t (event.Forget n who) = IsForgotten t n who
+IsEvent t (event.Fault send) = send ≤ FAULT_MAX
+IsEvent t event.Settle = Unit {0}

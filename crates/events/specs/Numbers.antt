@@ -1,6 +1,6 @@
 -- What an event of a scenario may ask for at most.
 use Rattle.std.specs.Prelude.{◌≡◌}
-use Rattle.events.specs.declared.event.TheConstants.{EVENTS_MAX, ADVANCE_MAX_MS, ENTRY_NUMBER_MAX, SEQUENCE_MAX, BODY_MAX}
+use Rattle.events.specs.declared.event.TheConstants.{EVENTS_MAX, ADVANCE_MAX_MS, ENTRY_NUMBER_MAX, SEQUENCE_MAX, BODY_MAX, FAULT_MAX}
 
 pub record EventNumbers : Type 0 where
   -- the most events of a scenario
@@ -12,3 +12,5 @@ pub record EventNumbers : Type 0 where
   pub sequence_most : SEQUENCE_MAX ≡ 65535
   -- the most bytes of a body: a packet without its header
   pub body_most : BODY_MAX ≡ 1240
+  -- the greatest number of a send that fails: of eight, from 0
+  pub fault_most : FAULT_MAX ≡ 7

@@ -15,9 +15,11 @@ verb_word verb.Stranger = codes "stranger"
 verb_word verb.Copy = codes "copy"
 verb_word verb.Restart = codes "restart"
 verb_word verb.Forget = codes "forget"
+verb_word verb.Fault = codes "fault"
+verb_word verb.Settle = codes "settle"
 
 abbrev pub verbs : List Verb
-verbs = verb.Advance ∷ verb.Deliver ∷ verb.Next ∷ verb.Host ∷ verb.Echo ∷ verb.Raw ∷ verb.Stranger ∷ verb.Copy ∷ verb.Restart ∷ verb.Forget ∷ []
+verbs = verb.Advance ∷ verb.Deliver ∷ verb.Next ∷ verb.Host ∷ verb.Echo ∷ verb.Raw ∷ verb.Stranger ∷ verb.Copy ∷ verb.Restart ∷ verb.Forget ∷ verb.Fault ∷ verb.Settle ∷ []
 
 -- the event's word that a text is
 unfoldable pub verb_of : List ℕ → Option Verb

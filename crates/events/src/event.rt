@@ -17,6 +17,9 @@ pub const SEQUENCE_MAX: u16 = 65_535;
 /// The most bytes of a body that a host sends.
 pub const BODY_MAX: usize = 1_240;
 
+/// The greatest number of a send that an event makes fail: a step has eight at most.
+pub const FAULT_MAX: u8 = 7;
+
 /// What a scenario asks for. Nodes stand by their numbers.
 #[derive(Drop)]
 pub enum Event {
@@ -40,4 +43,8 @@ pub enum Event {
     Restart { node: u16 },
     /// A NAT drops the mappings and permissions of a client behind it.
     Forget { nat: u16, client: u16 },
+    /// In the next record that has sends, the one of this number fails, counted from 0.
+    Fault { send: u8 },
+    /// Deliver the least-numbered entry that was never delivered, until there is none.
+    Settle,
 }

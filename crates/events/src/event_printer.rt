@@ -14,7 +14,7 @@ ghost use Rattle.events.specs.Events.{IsEvent};
 ghost use Rattle.events.specs.EventText.{event_of};
 ghost use Rattle.events.specs.EventSpelling.{hex_word, name_word, target_word, event_text, IsMadeTarget};
 
-use crate::event::{ADVANCE_MAX_MS, ENTRY_NUMBER_MAX, Event};
+use crate::event::{ADVANCE_MAX_MS, ENTRY_NUMBER_MAX, Event, FAULT_MAX};
 use crate::target::Target;
 use crate::verb::Verb;
 use itoa::Buffer;
@@ -244,6 +244,25 @@ fn forget_text(alloc: Global, t: &Topology, nat: u16, client: u16) -> Result<Vec
     Ok(text)
 }
 
+#[tactic(auto, unfolding(crate::specs::EventSpelling::event_text))]
+fn fault_text(alloc: Global, send: u8) -> Result<Vec<u8>, NoMemory>
+    requires { send ≤ FAULT_MAX }
+    ensures text { (t : TopologyState) → IfOk result (λ text. text.items ≡ event_text t (event.Fault send)) }
+    ensures again { (t : TopologyState) → IfOk result (λ text. event_of t text.items ≡ Ok (event.Fault send)) }
+{
+    let mut text = begin(alloc, Verb::Fault)?;
+    push_number(&mut text, u64::from(send))?;
+    Ok(text)
+}
+
+#[tactic(auto, unfolding(crate::specs::EventSpelling::event_text))]
+fn settle_text(alloc: Global) -> Result<Vec<u8>, NoMemory>
+    ensures text { (t : TopologyState) → IfOk result (λ text. text.items ≡ event_text t event.Settle) }
+    ensures again { (t : TopologyState) → IfOk result (λ text. event_of t text.items ≡ Ok event.Settle) }
+{
+    begin(alloc, Verb::Settle)
+}
+
 /// Prints the text of an event.
 pub fn print_event(alloc: Global, t: &Topology, e: &Event) -> Result<Vec<u8>, NoMemory>
     requires { IsEvent t.now e.now }
@@ -262,5 +281,7 @@ pub fn print_event(alloc: Global, t: &Topology, e: &Event) -> Result<Vec<u8>, No
         Event::Copy { number, src, dst } => copy_text(alloc, *number, *src, *dst),
         Event::Restart { node } => restart_text(alloc, t, *node),
         Event::Forget { nat, client } => forget_text(alloc, t, *nat, *client),
+        Event::Fault { send } => fault_text(alloc, *send),
+        Event::Settle => settle_text(alloc),
     }
 }

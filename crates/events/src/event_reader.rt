@@ -7,7 +7,7 @@ ghost use Rattle.events.specs.Answers.{Answers, words_from};
 ghost use Rattle.events.specs.declared.verb.Verb.TheVariants as verb;
 ghost use Rattle.events.specs.declared.event_fault.EventFault.TheVariants.{At};
 
-use crate::event::{ADVANCE_MAX_MS, BODY_MAX, ENTRY_NUMBER_MAX, Event, SEQUENCE_MAX};
+use crate::event::{ADVANCE_MAX_MS, BODY_MAX, ENTRY_NUMBER_MAX, Event, FAULT_MAX, SEQUENCE_MAX};
 use crate::event_fault::EventFault;
 use crate::event_words::{
     WordsLeft, bytes, client, endpoint, host, nat, no_more, node, number, target, verb,
@@ -119,6 +119,14 @@ fn forget(t: &Topology, words: WordsLeft) -> Result<Event, EventFault>
 }
 
 #[tactic(auto, unfolding(crate::specs::EventText::event_behind))]
+fn fault(words: WordsLeft) -> Result<Event, EventFault>
+    ensures { (t : TopologyState) → Answers (λ e. e) result (event_behind t verb.Fault (words_from words.entry.text.now words.entry.at)) }
+{
+    let (send, words) = number(words, u64::from(FAULT_MAX))?;
+    no_more(Event::Fault { send: send as u8 }, words)
+}
+
+#[tactic(auto, unfolding(crate::specs::EventText::event_behind))]
 fn event_behind(
     alloc: Global,
     t: &Topology,
@@ -138,6 +146,8 @@ fn event_behind(
         Verb::Copy => copy(words),
         Verb::Restart => restart(t, words),
         Verb::Forget => forget(t, words),
+        Verb::Fault => fault(words),
+        Verb::Settle => no_more(Event::Settle, words),
     }
 }
 

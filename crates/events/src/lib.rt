@@ -38,7 +38,9 @@ mod tests;
 mod verb;
 mod word_texts;
 
-pub use event::{ADVANCE_MAX_MS, BODY_MAX, ENTRY_NUMBER_MAX, EVENTS_MAX, Event, SEQUENCE_MAX};
+pub use event::{
+    ADVANCE_MAX_MS, BODY_MAX, ENTRY_NUMBER_MAX, EVENTS_MAX, Event, FAULT_MAX, SEQUENCE_MAX,
+};
 pub use event_fault::EventFault;
 pub use event_list::Events;
 pub use event_printer::print_event;

@@ -43,6 +43,9 @@ fn each_event_prints_as_its_text(rt: HostRuntime) -> Result<(), Fail> {
         "restart r1",
         "restart h1",
         "forget n1 a",
+        "fault 0",
+        "fault 7",
+        "settle",
     ] {
         let same = prints_as(rt.alloc(), &t, text, text)?;
         assert!(rt; same, "at {text}");
@@ -70,7 +73,15 @@ fn each_fault_has_its_place(rt: HostRuntime) -> Result<(), Fail> {
         ("", 0),
         (" next", 0),
         ("Next", 0),
-        ("settle", 0),
+        ("Settle", 0),
+        ("settled", 0),
+        ("settle ", 7),
+        ("settle 1", 7),
+        ("fault", 5),
+        ("fault 8", 6),
+        ("fault -1", 6),
+        ("fault 07", 6),
+        ("fault 1 a", 8),
         ("next ", 5),
         ("next 1", 5),
         ("advance", 7),

@@ -14,10 +14,12 @@ pub enum Verb {
     Copy,
     Restart,
     Forget,
+    Fault,
+    Settle,
 }
 
 /// All of them.
-pub(crate) const VERBS: [Verb; 10] = [
+pub(crate) const VERBS: [Verb; 12] = [
     Verb::Advance,
     Verb::Deliver,
     Verb::Next,
@@ -28,6 +30,8 @@ pub(crate) const VERBS: [Verb; 10] = [
     Verb::Copy,
     Verb::Restart,
     Verb::Forget,
+    Verb::Fault,
+    Verb::Settle,
 ];
 
 impl Verb {
@@ -46,6 +50,8 @@ impl Verb {
             Verb::Copy => "copy",
             Verb::Restart => "restart",
             Verb::Forget => "forget",
+            Verb::Fault => "fault",
+            Verb::Settle => "settle",
         }
     }
 }

@@ -7,7 +7,7 @@ pub enum Loss {
     Hairpin,
     /// The NAT had no mapping free.
     Full,
-    /// It was made to fail. No event does that yet.
+    /// An event made it fail.
     Fault,
 }
 

@@ -33,8 +33,12 @@ abbrev pub six_sent : Option SixPacket → List Made
 six_sent None = []
 six_sent (Some packet) = sent (six packet.relay packet.bytes) ∷ []
 
--- what becomes of datagrams that leave so, and of a packet besides them
+-- what becomes of datagrams that leave so, of which the one of a number fails, and of a packet besides them
+abbrev pub sendings_but : Lab → List Full → ℕ → (fails : Option ℕ) → Outlet → Option SixPacket → List Send → Sendings
+sendings_but lab H m fails Silent packet xs = direct (six_sent packet)
+sendings_but lab H m fails (Own primary secondary) packet xs = direct (outright (source_at primary secondary) fails 0 xs ++ six_sent packet)
+sendings_but lab H m fails (Through k inside) packet xs = by_way lab H m (way_out lab.chain k) inside fails 0 [] xs
+
+-- the one that was armed does
 abbrev pub sendings_by : Lab → List Full → ℕ → Outlet → Option SixPacket → List Send → Sendings
-sendings_by lab H m Silent packet xs = direct (six_sent packet)
-sendings_by lab H m (Own primary secondary) packet xs = direct (outright (source_at primary secondary) (armed H) 0 xs ++ six_sent packet)
-sendings_by lab H m (Through k inside) packet xs = by_way lab H m (way_out lab.chain k) inside (armed H) 0 [] xs
+sendings_by lab H m outlet packet xs = sendings_but lab H m (armed H) outlet packet xs

@@ -9,7 +9,7 @@ use Rattle.events.specs.declared.event.Event.TheVariants as event
 use Rattle.events.specs.declared.event.TheConstants.{ADVANCE_MAX_MS}
 use Rattle.history.specs.declared.act.Act.TheVariants as act
 use Rattle.events.specs.Events.{IsEvent}
-use Rattle.history.specs.Full.{Full}
+use Rattle.history.specs.Full.{Full, wire}
 use Rattle.topology.specs.Rows.{TopologyState}
 use Rattle.topology.specs.Rules.{IsTopology, IsClient}
 use Rattle.topology.specs.declared.client_node.ClientNode.{ClientNode}
@@ -26,7 +26,7 @@ use Rattle.legal.specs.Emit.{entry_of, due_of}
 use Rattle.legal.specs.Next.{Numbered, numbered, Due, least_due, advanced, advance_with, acts, no_ep, next_of}
 use Rattle.legal.specs.Legal.{GoesOn, Follows, Grown}
 use Rattle.legal.specs.Kinds.{IsDue}
-use Rattle.legal.specs.Left.{peers_due, due_moments, all_due, left_to, left_of_event, left}
+use Rattle.legal.specs.Left.{peers_due, due_moments, all_due, left_to, left_of_event, left, PLACES}
 use Rattle.legal.proofs.ByKind.{least_is}
 use Rattle.legal.proofs.Framed.{frames}
 use Rattle.legal.proofs.Times.{ends}
@@ -35,6 +35,8 @@ use Rattle.legal.proofs.FewDue.{most_due}
 use Rattle.legal.proofs.ClientFalls.{ClientLaws, client_fades, client_falls}
 use Rattle.legal.proofs.RelayFalls.{relay_fades, relay_falls}
 use Rattle.legal.specs.Lab.{Lab}
+use Rattle.legal.specs.Laws.{is_advance}
+use Rattle.legal.proofs.Undelivered.{settle_falls, settles}
 
 -- THE REFRESHES OF A TOPOLOGY'S CLIENTS ARE APART
 
@@ -135,7 +137,7 @@ module _ (laws : ClientLaws) (lab : Lab) (H : List Full) (e : Numbered) (n k end
       let old : weights end (now H) (all_due lab H i (b ∷ rest)) ≡ weights end (now H) (due_moments lab H i b) + weights end (now H) (all_due lab H (i + 1) rest) = weights_append end (now H) (due_moments lab H i b) (all_due lab H (i + 1) rest) in
       omega (arith, others, one, new, old)
 
--- WHICH RECORD HAS FURTHER ONES
+-- WHICH RECORD OF AN ADVANCE HAS FURTHER ONES
 
 -- a tick within an advance
 record IsTick (lab : Lab) (H : List Full) (i : ℕ) (e : Event) : Type 0 where
@@ -156,17 +158,19 @@ advance_ticks lab H i ms (Some a) e more is = by (nat_le a.moment (began H + ms)
   by true le more is = record { ms = ms; x = a; asked = refl; due = least_is lab H a e; within = leb-true a.moment (began H + ms) le; is = is }
   by false le more is = absurd (false≢true more)
 
-more_ticks : (lab : Lab) (H : List Full) (i : ℕ) (e : Event) → has_more e (next_of lab H i e).act ≡ true → IsTick lab H i e
-more_ticks lab H i (event.Advance ms) more = advance_ticks lab H i ms (least_due lab H 0 (nodes lab.topology)) refl more refl
-more_ticks lab H i (event.Deliver k) more = absurd (false≢true more)
-more_ticks lab H i event.Next more = absurd (false≢true more)
-more_ticks lab H i (event.Host n to body) more = absurd (false≢true more)
-more_ticks lab H i (event.Echo n to seq) more = absurd (false≢true more)
-more_ticks lab H i (event.Raw n bytes) more = absurd (false≢true more)
-more_ticks lab H i (event.Stranger src dst bytes) more = absurd (false≢true more)
-more_ticks lab H i (event.Copy k src dst) more = absurd (false≢true more)
-more_ticks lab H i (event.Restart n) more = absurd (false≢true more)
-more_ticks lab H i (event.Forget n who) more = absurd (false≢true more)
+more_ticks : (lab : Lab) (H : List Full) (i : ℕ) (e : Event) → is_advance e ≡ true → has_more e (next_of lab H i e).act ≡ true → IsTick lab H i e
+more_ticks lab H i (event.Advance ms) is more = advance_ticks lab H i ms (least_due lab H 0 (nodes lab.topology)) refl more refl
+more_ticks lab H i (event.Deliver k) is more = absurd (false≢true is)
+more_ticks lab H i event.Next is more = absurd (false≢true is)
+more_ticks lab H i (event.Host n to body) is more = absurd (false≢true is)
+more_ticks lab H i (event.Echo n to seq) is more = absurd (false≢true is)
+more_ticks lab H i (event.Raw n bytes) is more = absurd (false≢true is)
+more_ticks lab H i (event.Stranger src dst bytes) is more = absurd (false≢true is)
+more_ticks lab H i (event.Copy k src dst) is more = absurd (false≢true is)
+more_ticks lab H i (event.Restart n) is more = absurd (false≢true is)
+more_ticks lab H i (event.Forget n who) is more = absurd (false≢true is)
+more_ticks lab H i (event.Fault send) is more = absurd (false≢true is)
+more_ticks lab H i event.Settle is more = absurd (false≢true is)
 
 -- WHAT IS LEFT
 
@@ -198,9 +202,10 @@ before lab (q ∷ H) ms few goes short = by (has_more q.asked q.act) refl where
       let start : began (q ∷ H) ≡ q.moment = ap (λ b. cond b (began H) q.moment) last in
       subst (λ (x : ℕ). left_to lab (q ∷ H) (x + ms) ≤ LEFT_MAX) (sym start) (at_rest lab (q ∷ H) ms few short)
 
-pub falls : ClientLaws → (lab : Lab) (H : List Full) (r : Full) → IsTopology lab.topology → Grown lab H → HasFewDue lab H → Follows lab H r → has_more r.asked r.act ≡ true → left lab (r ∷ H) < left lab H
-falls laws lab H r is grown few follows more =
-    let tick : IsTick lab H r.event r.asked = more_ticks lab H r.event r.asked (subst (λ (x : Full). has_more r.asked x.act ≡ true) follows.is more) in
+tick_falls : ClientLaws → (lab : Lab) (H : List Full) (r : Full) → IsTopology lab.topology → Grown lab H → HasFewDue lab H → Follows lab H r → is_advance r.asked ≡ true → has_more r.asked r.act ≡ true
+    → left lab (r ∷ H) < left lab H
+tick_falls laws lab H r is grown few follows advance more =
+    let tick : IsTick lab H r.event r.asked = more_ticks lab H r.event r.asked advance (subst (λ (x : Full). has_more r.asked x.act ≡ true) follows.is more) in
     let end : ℕ = began H + tick.ms in
     let goes : GoesOn H (event.Advance tick.ms) = subst (GoesOn H) tick.asked follows.goes_on in
     let short : tick.ms ≤ ADVANCE_MAX_MS = subst (IsEvent lab.topology) tick.asked follows.event in
@@ -212,3 +217,10 @@ falls laws lab H r is grown few follows more =
     ap (λ b. cond b (left_of_event lab (r ∷ H) r.asked) LEFT_MAX) more ∙ ap (left_of_event lab (r ∷ H)) tick.asked ∙ ap (λ (x : ℕ). left_to lab (r ∷ H) (x + tick.ms)) start in
     let most : left_to lab H end ≤ left lab H = before lab H tick.ms few goes short in
     omega (arith, mine, now_left, most)
+
+pub falls : ClientLaws → (lab : Lab) (H : List Full) (r : Full) → IsTopology lab.topology → Grown lab H → HasFewDue lab H → length (wire H) ≤ PLACES → Follows lab H r → has_more r.asked r.act ≡ true
+    → left lab (r ∷ H) < left lab H
+falls laws lab H r is grown few room follows more = by (is_advance r.asked) refl where
+  by : (b : Bool) → is_advance r.asked ≡ b → left lab (r ∷ H) < left lab H
+  by true advance = tick_falls laws lab H r is grown few follows advance more
+  by false other = settle_falls lab H r room follows (settles r.asked r.act other more) more

@@ -105,6 +105,8 @@ nat_itself s lab (event.Raw n x) h m p = p
 nat_itself s lab (event.Stranger src dst x) h m p = p
 nat_itself s lab (event.Copy n src dst) h m p = p
 nat_itself s lab (event.Restart n) h m p = p
+nat_itself s lab (event.Fault send) h m p = p
+nat_itself s lab event.Settle h m p = p
 nat_itself s lab (event.Forget n who) h m p = by (client_at lab.topology who) where
   by : (o : Option ClientNode) → IsPast s (option_to_list (option_map (λ (c : ClientNode). Forget c.inside) o) ++ h) m
   by None = p

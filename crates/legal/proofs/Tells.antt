@@ -201,3 +201,5 @@ next_tells by lab H i (event.Stranger src dst x) = record { delivered = refl }
 next_tells by lab H i (event.Copy n src dst) = copies_tell H (numbered i (event.Copy n src dst)) n src dst (slice_get (wire H) n)
 next_tells by lab H i (event.Restart n) = record { delivered = refl }
 next_tells by lab H i (event.Forget n who) = record { delivered = refl }
+next_tells by lab H i (event.Fault send) = record { delivered = refl }
+next_tells by lab H i event.Settle = or_tells by lab H (numbered i event.Settle) (blank H (numbered i event.Settle) (plain verb.Settle) None fate.Done) (first_undelivered H) (record { delivered = refl })

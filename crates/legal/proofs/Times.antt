@@ -81,6 +81,8 @@ next_later lab H i (event.Stranger src dst x) g goes = le_refl (now H)
 next_later lab H i (event.Copy n src dst) g goes = copies_later H (numbered i (event.Copy n src dst)) n src dst (slice_get (wire H) n)
 next_later lab H i (event.Restart n) g goes = le_refl (now H)
 next_later lab H i (event.Forget n who) g goes = le_refl (now H)
+next_later lab H i (event.Fault send) g goes = le_refl (now H)
+next_later lab H i event.Settle g goes = or_later lab H (numbered i event.Settle) (blank H (numbered i event.Settle) (plain verb.Settle) None fate.Done) (first_undelivered H) (le_refl (now H))
 
 pub is_later : (lab : Lab) (H : List Full) (r : Full) → Grown lab (r ∷ H) → now H ≤ r.moment
 is_later lab H r g = subst (λ (z : Full). now H ≤ z.moment) (sym g.0.is) (next_later lab H r.event r.asked g.1 g.0.goes_on)
@@ -119,6 +121,8 @@ next_now lab H i (event.Stranger src dst x) other = refl
 next_now lab H i (event.Copy n src dst) other = copies_now H (numbered i (event.Copy n src dst)) n src dst (slice_get (wire H) n)
 next_now lab H i (event.Restart n) other = refl
 next_now lab H i (event.Forget n who) other = refl
+next_now lab H i (event.Fault send) other = refl
+next_now lab H i event.Settle other = or_now lab H (numbered i event.Settle) (blank H (numbered i event.Settle) (plain verb.Settle) None fate.Done) (first_undelivered H) refl
 
 pub is_at_once : EachIsAtOnce
 is_at_once lab H r follows other = ap (λ (z : Full). z.moment) follows.is ∙ next_now lab H r.event r.asked other

@@ -20,7 +20,7 @@ use Rattle.legal.specs.Settings.{client_settings, relay_settings}
 use Rattle.legal.specs.Past.{now, has_more, journal, nat_history}
 use Rattle.legal.specs.Next.{next_of}
 use Rattle.legal.specs.Legal.{Follows, Grown}
-use Rattle.legal.specs.Left.{left}
+use Rattle.legal.specs.Left.{left, PLACES}
 use Rattle.legal.specs.Lab.{Lab}
 
 -- the record after H is of event number i, and its entries come behind those of the wire
@@ -40,6 +40,12 @@ EachIsLater = (lab : Lab) (H : List Full) (r : Full) → Grown lab (r ∷ H) →
 abbrev pub is_advance : Event → Bool
 is_advance (event.Advance ms) = true
 is_advance _ = false
+
+-- no other event but these has further records
+abbrev pub may_go_on : Event → Bool
+may_go_on (event.Advance ms) = true
+may_go_on event.Settle = true
+may_go_on _ = false
 
 -- so a delivery, a packet of a host and a stranger's datagram happen at the moment of the record before them
 abbrev pub EachIsAtOnce : Type 0
@@ -92,7 +98,7 @@ pub record IsOfRelay (s : RelaySettings) (j : Journal) (m : ℕ) : Type 0 where
 abbrev pub EachRelayIsJournal : Type 0
 EachRelayIsJournal = (lab : Lab) (H : List Full) (n : ℕ) (r : RelayNode) → Grown lab H → node_at lab.topology n ≡ Some (relay r) → IsOfRelay (relay_settings lab.topology n r) (journal n H) (now H)
 
--- after a record that has further ones, less is left
+-- after a record that has further ones, less is left, as long as the wire isn't too long
 abbrev pub EachFalls : Type 0
-EachFalls = (lab : Lab) (H : List Full) (r : Full) → IsTopology lab.topology → Grown lab H → Follows lab H r
+EachFalls = (lab : Lab) (H : List Full) (r : Full) → IsTopology lab.topology → Grown lab H → length (wire H) ≤ PLACES → Follows lab H r
     → has_more r.asked r.act ≡ true → left lab (r ∷ H) < left lab H

@@ -1,5 +1,5 @@
 -- What is left of an event: it falls with each further record, so each event has an end.
-use Rattle.std.specs.Prelude.{ℕ, ◌+◌, ◌-◌, nat_le, max, if◌then◌else◌, List, [], ◌∷◌, ◌++◌, filter, flat_map, sum_by, option_to_list}
+use Rattle.std.specs.Prelude.{ℕ, ◌+◌, ◌-◌, nat_le, max, if◌then◌else◌, List, [], ◌∷◌, ◌++◌, filter, flat_map, sum_by, option_to_list, zero, suc, Bool}
 use Rattle.td_base.specs.declared.ipv6.Ip6.{Ip6}
 use Rattle.peer_list.specs.Mentions.{Mention}
 use Rattle.peer_list.specs.Listed.{listed}
@@ -16,8 +16,9 @@ use Rattle.topology.specs.Topology.{nodes}
 use Rattle.history.specs.Full.{Full}
 use Rattle.legal.specs.declared.left.TheConstants.{LEFT_MAX}
 use Rattle.legal.specs.Settings.{client_settings}
-use Rattle.legal.specs.Past.{now, began, has_more, journal}
+use Rattle.legal.specs.Past.{now, began, has_more, journal, was_delivered}
 use Rattle.legal.specs.Lab.{Lab}
+use Rattle.events.specs.declared.event.TheConstants.{ENTRY_NUMBER_MAX}
 
 -- when the packets that wait for a listed peer are due
 abbrev pub waits_until : Peer → List ℕ
@@ -45,8 +46,22 @@ time_left end at moments = sum_by (λ m. end + 1 - max m at) (filter (λ m. nat_
 abbrev pub left_to : Lab → List Full → ℕ → ℕ
 left_to lab H end = time_left end (now H) (all_due lab H 0 (nodes lab.topology))
 
+-- how many of the first places aren't marked
+unfoldable pub open_places : ℕ → (ℕ → Bool) → ℕ
+open_places zero marked = 0
+open_places (suc i) marked = open_places i marked + (if marked i then 0 else 1)
+
+-- as many entries as a wire has at most, by their greatest number
+abbrev pub PLACES : ℕ
+PLACES = ENTRY_NUMBER_MAX + 1
+
+-- for `settle`: the wire's places whose entry was never delivered, whether there is one yet or not. Each delivery takes one
+abbrev pub undelivered : List Full → ℕ
+undelivered H = open_places PLACES (λ i. was_delivered i H)
+
 abbrev pub left_of_event : Lab → List Full → Event → ℕ
 left_of_event lab H (event.Advance ms) = left_to lab H (began H + ms)
+left_of_event lab H event.Settle = undelivered H
 left_of_event lab H _ = 0
 
 -- as much as may be where the next record begins an event

@@ -110,6 +110,8 @@ in_time t (event.Stranger src dst bytes) began i is before few = tt
 in_time t (event.Copy number src dst) began i is before few = tt
 in_time t (event.Restart node) began i is before few = tt
 in_time t (event.Forget n who) began i is before few = tt
+in_time t (event.Fault send) began i is before few = tt
+in_time t event.Settle began i is before few = tt
 
 -- the event that is read off a list is the scenario's
 pub event_at : (events items : List Event) (i : ℕ) (e : Event) → items ≡ events → i < length items → e ≡ get_or items i e → slice_get events i ≡ Some e

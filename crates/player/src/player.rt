@@ -9,9 +9,9 @@ ghost use Rattle.player.specs.Endings.{IsPlayed};
 use crate::listener::Listener;
 use events::{EVENTS_MAX, Events};
 use history::{Record, Stop, Turn};
-use topology::Topology;
 use std::alloc::Global;
 use td_outside::Sink;
+use topology::Topology;
 use world::World;
 
 /// Why a scenario was not played to its end.

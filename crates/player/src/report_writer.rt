@@ -9,10 +9,10 @@ use crate::listener::Listener;
 use crate::sink_lines::write_line;
 use crate::totals_writer::write_totals;
 use history::Record;
-use topology::Topology;
 use report::{Sums, line};
 use td_base::LineBuf;
 use td_outside::{Failed, Sink};
+use topology::Topology;
 use world::World;
 
 /// The line that stands in place of further records.

@@ -15,3 +15,5 @@ verb_short verb.Stranger = omega arith
 verb_short verb.Copy = omega arith
 verb_short verb.Restart = omega arith
 verb_short verb.Forget = omega arith
+verb_short verb.Fault = omega arith
+verb_short verb.Settle = omega arith

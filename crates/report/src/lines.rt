@@ -5,8 +5,8 @@ ghost use Rattle.report.specs.Lines.{head_text, tail_text, record_line};
 use crate::fields::{put_act, put_address, put_gone, put_handed, put_lates, put_node, put_number, put_short};
 use crate::marks::put_marks;
 use history::Record;
-use topology::Topology;
 use td_base::{LINE_LEN, LineBuf};
+use topology::Topology;
 
 /// The most bytes of a line up to the fate.
 const HEAD_LEN: usize = 119;

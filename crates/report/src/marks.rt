@@ -6,8 +6,8 @@ ghost use Rattle.report.specs.Lines.{loss_word, mark_text, marks_text};
 
 use crate::fields::{put_ep, put_node, put_number, put_short};
 use history::{Loss, Mark};
-use topology::Topology;
 use td_base::{Ep, LINE_LEN, LineBuf};
+use topology::Topology;
 
 /// The most bytes of the word of a loss.
 const LOSS_LEN: usize = 7;

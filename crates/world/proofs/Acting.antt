@@ -1,11 +1,13 @@
 -- A node that acts: what it is asked, what comes onto the wire, and the record.
 use Rattle.std.proofs.Common.{◌≡◌, ◌≢◌, ◌<◌, ℕ, ◌+◌, ◌==◌, Bool, true, false, List, [], ◌∷◌, ◌++◌, length, get_or, map, replicate, Option, Some, None, Result, Ok, Err, refl, sym, ap, subst, ◌∙◌, arith, ◌⊎◌, inl, inr}
 use Rattle.std.specs.Prelude.{◌||◌, slice_get, option_map}
+use Rattle.std.specs.Option.{option_or}
 use Rattle.std.proofs.lemmas.Bool.Decides.{eqb_tells}
 use Rattle.std.proofs.lemmas.List.{length-append}
 use Rattle.std.proofs.lemmas.Option.{slice_get-map}
 use Rattle.td_base.specs.declared.endpoint.Ep.{Ep}
 use Rattle.teredo_node.specs.Step.{Step}
+use Rattle.teredo_node.specs.Sends.{has_any}
 use Rattle.teredo_node.specs.Journal.{Entry, with_entry}
 use Rattle.topology.specs.Rules.{IsTopology}
 use Rattle.topology.specs.Chains.{outs_at}
@@ -20,7 +22,7 @@ use Rattle.history.specs.declared.turn.Stop.TheVariants as stop
 use Rattle.history.specs.Full.{Item, Full, wire}
 use Rattle.history.specs.Records.{record_of, marks_of}
 use Rattle.legal.specs.Lab.{Draws, Lab, flat_lab}
-use Rattle.legal.specs.Past.{is_node, is_number, at_nat, journal, drawn, words, nat_history}
+use Rattle.legal.specs.Past.{is_node, is_number, at_nat, journal, drawn, words, nat_history, arms, armed_after, armed}
 use Rattle.legal.specs.Emit.{Sendings, sendings}
 use Rattle.legal.specs.Next.{Numbered, acts}
 use Rattle.legal.specs.Frame.{EachFrames}
@@ -35,6 +37,7 @@ use Rattle.lab_nodes.specs.PlayedNode.{row_of, past_of, IsKept, NodesOf}
 use Rattle.lab_nodes.specs.Changes.{with_call, ChangesAt}
 use Rattle.lab_nodes.specs.Call.{dst_lent, input_lent, entry_in}
 use Rattle.lab_nodes.specs.Answers.{AnswersFor, Answers, Wants}
+use Rattle.lab_nodes.specs.Outlet.{sendings_but}
 use Rattle.world.specs.declared.sender.Sender.{Sender}
 use Rattle.world.specs.declared.prompt.Prompt.{Prompt}
 use Rattle.world.specs.declared.prompt.Prompt.TheVariants as prompt
@@ -81,12 +84,13 @@ pub record IsCall (w : WorldState) (p : Prompt) (call : Call) : Type 0 where
   pub dst : dst_lent call.input ≡ dst_by w.wire p
   pub input : input_lent call.input ≡ input_by w.wire p
 
--- the node is there, and no NAT is told of the event
+-- the node is there, no NAT is told of the event, and it arms nothing
 pub record IsDoing (x : Doing) : Type 0 where
   pub finds : Finds x.draws x.world x.history
   pub rules : IsTopology x.world.topology
   pub law : EachClientKeepsRules
   pub quiet : at_nat (lab_of_doing x) x.event.event x.act ≡ []
+  pub mild : arms x.event.event ≡ None
   pub was : slice_get x.world.nodes x.call.node ≡ Some x.before
 
 -- it is the record of the prompt
@@ -118,11 +122,16 @@ there x is = row_at x.world.topology x.world.nodes x.call.node x.before is.finds
 -- WHAT IT SENDS
 
 abbrev pub sender_of : Doing → Asking → Sender
-sender_of x y = record { outlet = y.asked.outlet; now = x.call.now }
+sender_of x y = record { outlet = y.asked.outlet; now = x.call.now; fails = x.world.armed }
 
 -- what becomes of it
 abbrev pub leaving : Doing → Asking → Sendings
 leaving x y = emitted_by (lab_of_doing x) x.history (sender_of x y) y.asked.packet y.step.sends
+
+-- the one that fails is the one that was armed
+leaves_so : (x : Doing) (y : Asking) → IsDoing x → IsAsked x y → sendings (lab_of_doing x) x.history x.call.now.0 (entry_by x) (row_by x) ≡ leaving x y
+leaves_so x y is asked =
+    (asked_for x y is asked).leaves ∙ ap (λ (a : Option ℕ). sendings_but (lab_of_doing x) x.history x.call.now.0 a y.asked.outlet y.asked.packet y.step.sends) (sym is.finds.armed)
 
 -- the NAT that it leaves through is kept
 pub keeps_nat : (x : Doing) (y : Asking) → IsDoing x → IsAsked x y → KeepsItsNat (lab_of_doing x) x.history [] y.asked.outlet y.mid
@@ -150,7 +159,7 @@ said_is : (x : Doing) (y : Asking) (after : List PlayedNode) (new : WireState) (
 said_is x y after new marks is asked done =
     let of = asked_for x y is asked in
     let these : marks ≡ marks_of (length (wire x.history)) (record_by x).made =
-    done.enters.marks ∙ ap (λ (items : List Item). marks_of (length items) (leaving x y).made) is.finds.wire ∙ ap (λ (s : Sendings). marks_of (length (wire x.history)) s.made) (sym of.leaves) in
+    done.enters.marks ∙ ap (λ (items : List Item). marks_of (length items) (leaving x y).made) is.finds.wire ∙ ap (λ (s : Sendings). marks_of (length (wire x.history)) s.made) (sym (leaves_so x y is asked)) in
     λ i. record (with_deed (fresh_record x.event.number x.call.now.0) x.act (Some x.call.node) (of.did i).fate) { late = map length (of.did i).late; gone = (of.did i).gone; marks = these i; handed = of.handed i; address = of.address i }
 
 -- THE NODES
@@ -195,10 +204,9 @@ after_its_nat : (x : Doing) (y : Asking) (after : List PlayedNode) (new : WireSt
     → y.asked.outlet ≡ Through k inside → slice_get after k ≡ Some p → After x k p
 after_its_nat x y after new marks k inside p is asked done through at =
     let lab = lab_of_doing x in
-    let of = asked_for x y is asked in
     let its = its_nat is.law x.world.topology x.call.node (row_by x) is.rules (there x is) k inside (sym through ∙ asked.answers.outlet) in
     let other : is_node k (Some x.call.node) ≡ false = not_node k (Some x.call.node) (λ same. its.apart (sym (some_inj x.call.node k same))) in
-    let passed : (record_by x).passed ≡ (leaving x y).passed = ap (λ (s : Sendings). s.passed) of.leaves in
+    let passed : (record_by x).passed ≡ (leaving x y).passed = ap (λ (s : Sendings). s.passed) (leaves_so x y is asked) in
     let more : nat_history lab k (record_by x ∷ x.history) ≡ outs_at k (leaving x y).passed ++ nat_history lab k x.history = rw other (ap (λ ps. outs_at k ps ++ nat_history lab k x.history) passed) in
     let keeps : KeepsNat lab x.history k (leaving x y).passed after = subst (λ (o : Outlet). KeepsItsNat lab x.history (leaving x y).passed o after) through done.nat in
     let row : row_of p ≡ nat its.row = some_inj (row_of p) (nat its.row) (sym (row_at x.world.topology after k p (done.rows ∙ asked.rows ∙ is.finds.nodes.rows) at) ∙ nat_there x.world.topology k its.row its.at) in
@@ -208,8 +216,7 @@ after_other : EachFrames → (x : Doing) (y : Asking) (after : List PlayedNode) 
     → k ≢ x.call.node → (IsBehind y.asked.outlet k → ⊥) → slice_get after k ≡ Some p → After x k p
 after_other frame x y after new marks k p is asked done apart other at =
     let lab = lab_of_doing x in
-    let of = asked_for x y is asked in
-    let none : outs_at k (record_by x).passed ≡ [] = ap (λ (s : Sendings). outs_at k s.passed) of.leaves ∙ nothing_out x.draws x.world.topology x.history x.call.now.0 k y.asked.outlet y.asked.packet y.step.sends other in
+    let none : outs_at k (record_by x).passed ≡ [] = ap (λ (s : Sendings). outs_at k s.passed) (leaves_so x y is asked) ∙ nothing_out x.draws x.world.topology x.history k (sender_of x y) y.asked.packet y.step.sends other in
     kept_as x.world.topology k (past_of lab k x.history) (past_of lab k (record_by x ∷ x.history)) p
     (away frame lab x.history (record_by x) k p (λ same. apart (sym (some_inj x.call.node k same))) none)
     (is.finds.nodes.each k p (sym (asked.elsewhere k apart) ∙ sym (done.elsewhere k other) ∙ at))
@@ -257,19 +264,29 @@ done_is x y after new marks done there i = by x.prompt there where
   by (prompt.Packet bytes) there = same
   by prompt.Tick there = same
 
+-- what stays armed
+abbrev pub armed_by : Doing → Asking → Option ℕ
+armed_by x y = armed_after (has_any y.step.sends) x.world.armed
+
+armed_is : (x : Doing) (y : Asking) → IsDoing x → IsAsked x y → armed_by x y ≡ armed (record_by x ∷ x.history)
+armed_is x y is asked =
+    ap (λ (s : Step). armed_after (has_any s.sends) x.world.armed) (asked_for x y is asked).did
+    ∙ ap (armed_after (has_any (entry_by x).step.sends)) (is.finds.armed ∙ ap (λ (o : Option ℕ). option_or o (armed x.history)) (sym is.mild))
+
 pub acted_plays : EachFrames → (x : Doing) (y : Asking) (after : List PlayedNode) (new : WireState) (marks : List Mark) → IsCall x.world x.prompt x.call → IsPrompt x.world.wire x.world.done x.prompt
     → (a : Node) → node_at x.world.topology x.call.node ≡ Some a → IsDoing x → IsAsked x y → IsSent x y after new marks
-    → Plays x.draws x.world (record x.world { nodes = after; wire = new.items; done = done_by x.prompt new.done }) x.history
+    → Plays x.draws x.world (record x.world { armed = armed_by x y; nodes = after; wire = new.items; done = done_by x.prompt new.done }) x.history
     (prompted x.draws x.world x.history x.event x.act x.prompt x.call.node a) (Ok (said_by x y marks))
 acted_plays frame x y after new marks call there a at is asked done =
-    let now = record x.world { nodes = after; wire = new.items; done = done_by x.prompt new.done } in
+    let now = record x.world { armed = armed_by x y; nodes = after; wire = new.items; done = done_by x.prompt new.done } in
     subst (λ (r : Full). Plays x.draws x.world now x.history r (Ok (said_by x y marks))) (prompted_is x a is call at) (
       said_is x y after new marks is asked done,
       record {
         moment = sym call.at;
         nodes = nodes_after frame x y after new marks is asked done;
-        wire = ap (λ (w : WireState). w.items) done.enters.wire ∙ ap (λ (s : Sendings). x.world.wire ++ entries_in s.made) (sym (asked_for x y is asked).leaves);
+        wire = ap (λ (w : WireState). w.items) done.enters.wire ∙ ap (λ (s : Sendings). x.world.wire ++ entries_in s.made) (sym (leaves_so x y is asked));
         done = done_is x y after new marks done there;
+        armed = armed_is x y is asked;
       },
     )
 
@@ -284,7 +301,7 @@ wants_memory x a call is at wants =
 -- the wire has no room for what it sends, or memory was wanting for it
 pub acted_stops : (x : Doing) (y : Asking) (new : WireState) (marks : List Mark) (why : Stop) (a : Node) → IsCall x.world x.prompt x.call → IsDoing x → IsAsked x y → node_at x.world.topology x.call.node ≡ Some a
     → Puts (wire_in x.world) new [] marks (leaving x y).made (Err why) → IsCause x.world (prompted x.draws x.world x.history x.event x.act x.prompt x.call.node a) why
-acted_stops x y new marks why a call is asked at puts = subst (λ (r : Full). IsCause x.world r why) (prompted_is x a is call at) (by why (subst (λ (s : Sendings). Puts (wire_in x.world) new [] marks s.made (Err why)) (sym (asked_for x y is asked).leaves) puts)) where
+acted_stops x y new marks why a call is asked at puts = subst (λ (r : Full). IsCause x.world r why) (prompted_is x a is call at) (by why (subst (λ (s : Sendings). Puts (wire_in x.world) new [] marks s.made (Err why)) (sym (leaves_so x y is asked)) puts)) where
   by : (why : Stop) → Puts (wire_in x.world) new [] marks (record_by x).made (Err why) → IsCause x.world (record_by x) why
   by stop.WireFull more = more
   by stop.NoMemory some = λ none. absurd (some none)

@@ -1,14 +1,16 @@
 -- The record of a delivery.
 use Rattle.std.proofs.Common.{◌≡◌, ◌<◌, ℕ, true, List, [], length, set, Option, Some, None, Result, Ok, refl, sym, ap, subst, ◌∙◌}
 use Rattle.std.specs.Prelude.{slice_get}
+use Rattle.std.specs.Option.{option_or}
 use Rattle.teredo_node.specs.declared.fate.Fate.{Fate}
 use Rattle.teredo_node.specs.declared.fate.Fate.TheVariants as fate
 use Rattle.topology.specs.declared.node.Node.{Node}
+use Rattle.events.specs.declared.event.Event.{Event}
 use Rattle.history.specs.declared.act.Act.TheVariants as act
 use Rattle.history.specs.declared.records.Record.{Record}
 use Rattle.history.specs.Full.{Item, Full}
 use Rattle.legal.specs.Lab.{Draws, flat_lab}
-use Rattle.legal.specs.Past.{forgotten}
+use Rattle.legal.specs.Past.{forgotten, arms, armed}
 use Rattle.legal.specs.Emit.{Route, reaches, closed, astray, route}
 use Rattle.legal.specs.Next.{Numbered, acts, blank, delivers, delivers_item, delivers_to}
 use Rattle.legal.specs.Frame.{EachFrames}
@@ -36,6 +38,7 @@ pub record IsDelivery (x : Delivery) : Type 0 where
   pub there : slice_get x.world.wire x.number ≡ Some x.item
   pub within : x.number < length x.world.done
   pub keeps : forgotten (flat_lab x.draws x.world.topology) x.event.event ≡ []
+  pub mild : arms x.event.event ≡ None
 
 abbrev pub record_in : Delivery → Full
 record_in x = delivers (flat_lab x.draws x.world.topology) x.history x.event x.number
@@ -43,6 +46,10 @@ record_in x = delivers (flat_lab x.draws x.world.topology) x.history x.event x.n
 -- the entry is remembered as delivered
 abbrev pub marked : WorldState → ℕ → WorldState
 marked w n = record w { done = set w.done n true }
+
+-- nothing is armed by such an event, and nothing is sent
+still_armed : {a : Option ℕ} → (H : List Full) (e : Event) → a ≡ armed H → arms e ≡ None → a ≡ option_or (arms e) (armed H)
+still_armed H e is mild = is ∙ ap (λ (o : Option ℕ). option_or o (armed H)) (sym mild)
 
 found : (x : Delivery) (r : Route) → IsDelivery x → route (flat_lab x.draws x.world.topology) x.history x.world.moment x.item ≡ r → record_in x ≡ delivers_to (flat_lab x.draws x.world.topology) x.history x.event x.number x.item r
 found x r is goes =
@@ -54,15 +61,15 @@ found x r is goes =
     ∙ ap (delivers_to lab H x.event x.number x.item) goes
 
 -- there is no such entry
-pub missing : EachFrames → (d : Draws) (w : WorldState) (H : List Full) (e : Numbered) (n : ℕ) → StandsFor d w H → forgotten (flat_lab d w.topology) e.event ≡ [] → slice_get w.wire n ≡ None
+pub missing : EachFrames → (d : Draws) (w : WorldState) (H : List Full) (e : Numbered) (n : ℕ) → StandsFor d w H → forgotten (flat_lab d w.topology) e.event ≡ [] → arms e.event ≡ None → slice_get w.wire n ≡ None
     → Plays d w w H (delivers (flat_lab d w.topology) H e n) (Ok (with_deed (fresh_record e.number w.moment) (act.Deliver n) None fate.NoEntry))
-missing frame d w H e n s keeps none =
+missing frame d w H e n s keeps mild none =
     let r = blank H e (act.Deliver n) None fate.NoEntry in
     let is : delivers (flat_lab d w.topology) H e n ≡ r =
     ap (λ (xs : List Item). delivers_item (flat_lab d w.topology) H e n (slice_get xs n)) (sym s.wire) ∙ ap (delivers_item (flat_lab d w.topology) H e n) none in
     subst (λ (z : Full). Plays d w w H z (Ok (with_deed (fresh_record e.number w.moment) (act.Deliver n) None fate.NoEntry))) (sym is) (
       said_blank w.moment H e (act.Deliver n) None fate.NoEntry None s.moment,
-      rests frame d w w H r s.nodes (record { still = record { entry = refl; made = refl; passed = refl; nothing = keeps }; moment = s.moment; nodes = refl; wire = refl; done = λ i. refl }),
+      rests frame d w w H r s.nodes (record { still = record { entry = refl; made = refl; passed = refl; nothing = keeps }; moment = s.moment; nodes = refl; wire = refl; done = λ i. refl }) (still_armed H e.event s.armed mild),
     )
 
 -- a node that does nothing is named, or none, and the entry is remembered
@@ -79,7 +86,7 @@ quiet frame x node f is becomes =
         nodes = refl;
         wire = refl;
         done = remembered w.done x.number is.within;
-      }),
+      }) (still_armed x.history x.event.event is.stands.armed is.mild),
     )
 
 -- it goes to nobody

@@ -43,6 +43,8 @@ event_within t list event.Next of is = tt
 event_within t list (event.Stranger src dst bytes) of is = tt
 event_within t list (event.Copy number src dst) of is = tt
 event_within t list (event.Forget n who) of is = tt
+event_within t list (event.Fault send) of is = tt
+event_within t list event.Settle of is = tt
 
 -- it does what it does
 pub hands : (d : Draws) (w new : WorldState) (H : List Full) (e : Numbered) (v : Verb) (n : ℕ) (x : List ℕ) (a : Node) (m : ℕ) (result : Result Record Stop) → m ≡ w.moment → StandsFor d w H → node_at w.topology n ≡ Some a

@@ -1,5 +1,5 @@
 -- Events that have one record.
-use Rattle.std.proofs.Common.{◌≡◌, ◌≤◌, ◌+◌, ℕ, true, false, List, [], Option, Some, None, Result, Ok, Err, refl, sym, ap, ◌∙◌, arith}
+use Rattle.std.proofs.Common.{◌≡◌, ◌≤◌, ◌+◌, ℕ, true, false, List, [], Option, Some, None, Result, Ok, Err, refl, sym, ap, ◌∙◌, arith, Bool}
 use Rattle.std.specs.Prelude.{IfOk}
 use Rattle.std.proofs.lemmas.Bool.{false≢true}
 use Rattle.events.specs.declared.event.Event.{Event}
@@ -12,13 +12,13 @@ use Rattle.history.specs.Full.{Full}
 use Rattle.legal.specs.Lab.{Draws, flat_lab}
 use Rattle.legal.specs.Past.{has_more}
 use Rattle.legal.specs.Next.{next_of}
-use Rattle.legal.specs.Laws.{EachIsOfItsEvent, is_advance}
+use Rattle.legal.specs.Laws.{EachIsOfItsEvent, may_go_on}
 use Rattle.world.specs.declared.going.Going.TheVariants as going_on
 use Rattle.world.specs.declared.going.Going.{Going}
 use Rattle.world.specs.World.{WorldState, IsAgain, event_in, began_in}
 use Rattle.world.specs.Playing.{Plays, played, PlaysTurn, Turned, ended, turn_from}
 
-no_more : (e : Event) → is_advance e ≡ false → (r : Full) → has_more e r.act ≡ false
+no_more : (e : Event) → may_go_on e ≡ false → (r : Full) → has_more e r.act ≡ false
 no_more (event.Advance ms) is r = absurd (false≢true (sym is))
 no_more (event.Deliver number) is r = refl
 no_more event.Next is r = refl
@@ -29,14 +29,16 @@ no_more (event.Stranger src dst bytes) is r = refl
 no_more (event.Copy number src dst) is r = refl
 no_more (event.Restart node) is r = refl
 no_more (event.Forget n who) is r = refl
+no_more (event.Fault send) is r = refl
+no_more event.Settle is r = absurd (false≢true (sym is))
 
 turns : (d : Draws) (old new : WorldState) (H : List Full) (r : Full) (done : Result (Unit {0}) Stop) (said : Record) → has_more r.asked r.act ≡ false
     → Plays d old new H r (played done said) → PlaysTurn d old new H r (turn_from (ended done) said)
 turns d old new H r (Ok done) said last plays = (plays.0, last, plays.1)
 turns d old new H r (Err why) said last plays = plays
 
--- what an event but an advance does is its last record
-pub plays_last : EachIsOfItsEvent → (d : Draws) (old new : WorldState) (H : List Full) (i : ℕ) (e : Event) (done : Result (Unit {0}) Stop) (said : Record) → is_advance e ≡ false
+-- what an event without further records does is its last record
+pub plays_last : EachIsOfItsEvent → (d : Draws) (old new : WorldState) (H : List Full) (i : ℕ) (e : Event) (done : Result (Unit {0}) Stop) (said : Record) → may_go_on e ≡ false
     → Plays d old new H (next_of (flat_lab d old.topology) H i e) (played done said) → PlaysTurn d old new H (next_of (flat_lab d old.topology) H i e) (turn_from (ended done) said)
 plays_last law d old new H i e done said single plays =
     let r = next_of (flat_lab d old.topology) H i e in
@@ -46,17 +48,18 @@ plays_last law d old new H i e done said single plays =
 abbrev pub IsAtRest : WorldState → Type 0
 IsAtRest w = (w.going ≡ None) × (w.began ≡ w.moment)
 
--- so it is where an event comes that is no advance
+-- so it is where an event comes that has no further records
 abbrev pub RestsAt : Event → WorldState → Type 0
 RestsAt e w = IsAgain w.going e → IsAtRest w
 
-pub rests : (m : ℕ) (g : Option Going) (e : Event) → is_advance e ≡ false → IsAgain (event_in g) e → (event_in g ≡ None) × (began_in m g ≡ m)
+pub rests : (m : ℕ) (g : Option Going) (e : Event) → may_go_on e ≡ false → IsAgain (event_in g) e → (event_in g ≡ None) × (began_in m g ≡ m)
 rests m None e single again = (refl, refl)
-rests m (Some (going_on.Advance began ms)) e single again = absurd (false≢true (sym single ∙ ap is_advance again))
+rests m (Some (going_on.Advance began ms)) e single again = absurd (false≢true (sym single ∙ ap may_go_on again))
+rests m (Some going_on.Settle) e single again = absurd (false≢true (sym single ∙ ap may_go_on again))
 
 -- what stays of a world while no time passes
 abbrev pub lasting : WorldState → WorldState
-lasting w = record w { nodes = []; wire = []; done = [] }
+lasting w = record w { armed = None; nodes = []; wire = []; done = [] }
 
 -- then nothing goes on
 pub turned_last : (old new : WorldState) (e : Event) (word : Record) → IsAtRest old → lasting new ≡ lasting old → Turned old new e (Last word)
@@ -78,15 +81,29 @@ no_time old new rest same =
     let from = rest.1 in
     omega (arith, at, from)
 
--- an event that is no advance
-pub is_once : (e : Event) → ((ms : ℕ) → e ≡ event.Advance ms → ⊥) → is_advance e ≡ false
-is_once (event.Advance ms) none = absurd (none ms refl)
-is_once (event.Deliver number) none = refl
-is_once event.Next none = refl
-is_once (event.Host node to body) none = refl
-is_once (event.Echo node to seq) none = refl
-is_once (event.Raw node bytes) none = refl
-is_once (event.Stranger src dst bytes) none = refl
-is_once (event.Copy number src dst) none = refl
-is_once (event.Restart node) none = refl
-is_once (event.Forget n who) none = refl
+-- an event that has one record
+pub is_once : (e : Event) → ((ms : ℕ) → e ≡ event.Advance ms → ⊥) → (e ≡ event.Settle → ⊥) → may_go_on e ≡ false
+is_once (event.Advance ms) none other = absurd (none ms refl)
+is_once event.Settle none other = absurd (other refl)
+is_once (event.Deliver number) none other = refl
+is_once event.Next none other = refl
+is_once (event.Host node to body) none other = refl
+is_once (event.Echo node to seq) none other = refl
+is_once (event.Raw node bytes) none other = refl
+is_once (event.Stranger src dst bytes) none other = refl
+is_once (event.Copy number src dst) none other = refl
+is_once (event.Restart node) none other = refl
+is_once (event.Forget n who) none other = refl
+is_once (event.Fault send) none other = refl
+
+-- WHERE ENTRIES ARE DELIVERED ONE AFTER THE OTHER
+
+abbrev is_settle : Event → Bool
+is_settle event.Settle = true
+is_settle _ = false
+
+-- no time passed since the event of the next record began
+pub began_now : (m : ℕ) (g : Option Going) → IsAgain (event_in g) event.Settle → began_in m g ≡ m
+began_now m None again = refl
+began_now m (Some going_on.Settle) again = refl
+began_now m (Some (going_on.Advance began ms)) again = absurd (false≢true (ap is_settle (sym again)))

@@ -1,5 +1,5 @@
 -- What is left of an event, by the history and by what a world keeps.
-use Rattle.std.proofs.Common.{◌≡◌, ℕ, ◌+◌, ◌-◌, Bool, true, false, cond, max, List, [], ◌∷◌, Option, Some, None, refl, sym, ap, subst, ◌∙◌, arith}
+use Rattle.std.proofs.Common.{◌≡◌, ℕ, ◌+◌, ◌-◌, Bool, true, false, cond, max, List, [], ◌∷◌, Option, Some, None, refl, sym, ap, subst, ◌∙◌, arith, get_or}
 use Rattle.std.specs.Prelude.{nat_le, sum_by, filter}
 use Rattle.std.proofs.lemmas.List.Sums.{sum_by-cons}
 use Rattle.events.specs.declared.event.Event.{Event}
@@ -8,8 +8,8 @@ use Rattle.topology.specs.Topology.{nodes}
 use Rattle.history.specs.Full.{Full}
 use Rattle.legal.specs.declared.left.TheConstants.{LEFT_MAX}
 use Rattle.legal.specs.Lab.{Draws, Lab, flat_lab}
-use Rattle.legal.specs.Past.{now, began, going, has_more}
-use Rattle.legal.specs.Left.{time_left, left_of_event, left}
+use Rattle.legal.specs.Past.{now, began, going, has_more, was_delivered}
+use Rattle.legal.specs.Left.{time_left, left_of_event, left, open_places, PLACES}
 use Rattle.legal.specs.Left as legal
 use Rattle.lab_nodes.specs.PlayedNode.{NodesOf, AreReady}
 use Rattle.lab_nodes.specs.DueMoments.{all_due, EachSumIsOfThePast}
@@ -50,6 +50,7 @@ pub record IsAt (d : Draws) (w : WorldState) (H : List Full) : Type 0 where
   pub going : w.going ≡ going H
   pub nodes : NodesOf (flat_lab d w.topology) w.nodes H
   pub ready : AreReady w.moment w.nodes
+  pub done : (i : ℕ) → get_or w.done i false ≡ was_delivered i H
 
 -- has as much left
 pub left_is : EachSumIsOfThePast → (d : Draws) (w : WorldState) (H : List Full) → IsAt d w H → left (flat_lab d w.topology) H ≡ left_in w
@@ -72,3 +73,7 @@ left_is law d w H is = left_by_going (flat_lab d w.topology) H ∙ ap (left_so (
   by (Some (event.Copy number src dst)) = refl
   by (Some (event.Restart node)) = refl
   by (Some (event.Forget n who)) = refl
+  by (Some (event.Fault send)) = refl
+  by (Some event.Settle) =
+      let flags : (λ (k : ℕ). was_delivered k H) ≡ (λ (k : ℕ). get_or w.done k false) = λ i k. sym (is.done k) i in
+      ap (open_places PLACES) flags

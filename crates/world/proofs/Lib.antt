@@ -10,6 +10,7 @@ mod Played
 mod Acting
 mod Answered
 mod Starts
+mod Faults
 mod Hands
 mod Opened
 mod Lasting

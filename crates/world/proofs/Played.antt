@@ -1,6 +1,7 @@
 -- What a record does to a world.
 use Rattle.std.proofs.Common.{◌≡◌, ◌≢◌, ◌<◌, ℕ, zero, suc, ◌+◌, ◌==◌, Bool, true, false, List, [], ◌∷◌, ◌++◌, length, set, get_or, replicate, append-nil, Option, Some, None, Result, Ok, Err, refl, sym, ap, subst, ◌∙◌, ◌⊎◌, inl, inr}
 use Rattle.std.specs.Prelude.{◌||◌, filter_map, slice_get}
+use Rattle.std.specs.Option.{option_or}
 use Rattle.std.proofs.lemmas.Bool.Decides.{eqb_tells}
 use Rattle.std.proofs.lemmas.List.{get_or-set_other}
 use Rattle.std.proofs.lemmas.Grind.{get_or-set_at}
@@ -17,7 +18,7 @@ use Rattle.world.specs.declared.wire.TheConstants.{ENTRIES_MAX}
 use Rattle.history.specs.Full.{Item, Made, Full, udp, sent, item_in, items_of, wire}
 use Rattle.history.specs.Records.{record_of, marks_of}
 use Rattle.legal.specs.Lab.{Draws, flat_lab}
-use Rattle.legal.specs.Past.{now, is_number}
+use Rattle.legal.specs.Past.{now, is_number, arms, armed}
 use Rattle.legal.specs.Next.{Numbered, numbered, blank, puts, copies, next_of}
 use Rattle.history.specs.declared.act.Act.TheVariants as act
 use Rattle.events.specs.declared.event.Event.TheVariants as event
@@ -59,15 +60,20 @@ pub record Rests (d : Draws) (old new : WorldState) (r : Full) : Type 0 where
   pub wire : new.wire ≡ old.wire
   pub done : (i : ℕ) → get_or new.done i false ≡ (is_number i r.delivered || get_or old.done i false)
 
+-- what it leaves armed
+abbrev pub ArmedAfter : WorldState → List Full → Full → Type 0
+ArmedAfter new H r = new.armed ≡ armed (r ∷ H)
+
 pub nothing_made : (old : WorldState) (r : Full) → r.made ≡ [] → old.wire ≡ old.wire ++ items_of r
 nothing_made old r none = sym (append-nil old.wire) ∙ ap (λ (ms : List Made). old.wire ++ filter_map item_in ms) (sym none)
 
-pub rests : EachFrames → (d : Draws) (old new : WorldState) (H : List Full) (r : Full) → NodesOf (flat_lab d old.topology) old.nodes H → Rests d old new r → Comes d old new H r
-rests frame d old new H r of is = record {
+pub rests : EachFrames → (d : Draws) (old new : WorldState) (H : List Full) (r : Full) → NodesOf (flat_lab d old.topology) old.nodes H → Rests d old new r → ArmedAfter new H r → Comes d old new H r
+rests frame d old new H r of is left = record {
   moment = is.moment;
   nodes = subst (λ (states : List PlayedNode). NodesOf (flat_lab d old.topology) states (r ∷ H)) (sym is.nodes) (all_rest frame (flat_lab d old.topology) old.nodes H r of is.still);
   wire = is.wire ∙ nothing_made old r is.still.made;
   done = is.done;
+  armed = left;
 }
 
 -- the record of it
@@ -83,7 +89,7 @@ put_said index m a marks = record (with_deed (fresh_record index m) a None fate.
 abbrev wire_of : WorldState → WireState
 wire_of w = record { items = w.wire; done = w.done }
 
-module _ (frame : EachFrames) (d : Draws) (old : WorldState) (H : List Full) (e : Numbered) (a : Act) (src dst : Ep) (bytes : List ℕ) where
+module _ (frame : EachFrames) (d : Draws) (old : WorldState) (H : List Full) (e : Numbered) (a : Act) (src dst : Ep) (bytes : List ℕ) (mild : arms e.event ≡ None) where
   abbrev one : Made
   one = sent (udp src dst bytes)
 
@@ -97,6 +103,7 @@ module _ (frame : EachFrames) (d : Draws) (old : WorldState) (H : List Full) (e 
           nodes = all_away frame (flat_lab d old.topology) old.nodes H (puts H e a src dst bytes) s.nodes refl refl;
           wire = ap (λ (w : WireState). w.items) is.wire;
           done = λ i. ap (λ (w : WireState). get_or w.done i false) is.wire ∙ flags_same old.done 1 i;
+          armed = s.armed ∙ ap (λ (o : Option ℕ). option_or o (armed H)) (sym mild);
         },
       )
 
@@ -119,7 +126,7 @@ copies_none frame d w H i n src dst s none =
     let is : copies H e n src dst (slice_get (wire H) n) ≡ r = ap (λ (xs : List Item). copies H e n src dst (slice_get xs n)) (sym s.wire) ∙ ap (copies H e n src dst) none in
     subst (λ (z : Full). Plays d w w H z (Ok (with_deed (fresh_record i w.moment) (act.Copy n) None fate.NoEntry))) (sym is) (
       said_blank w.moment H e (act.Copy n) None fate.NoEntry None s.moment,
-      rests frame d w w H r s.nodes (record { still = record { entry = refl; made = refl; passed = refl; nothing = refl }; moment = s.moment; nodes = refl; wire = refl; done = λ i. refl }),
+      rests frame d w w H r s.nodes (record { still = record { entry = refl; made = refl; passed = refl; nothing = refl }; moment = s.moment; nodes = refl; wire = refl; done = λ i. refl }) s.armed,
     )
 
 -- FROM ANOTHER WORLD
@@ -134,6 +141,7 @@ plays_from d mid old new H r (Ok word) same plays = (
     nodes = subst (λ (t : TopologyState). NodesOf (flat_lab d t) new.nodes (r ∷ H)) same.0 plays.1.nodes;
     wire = plays.1.wire ∙ ap (λ (items : List Item). items ++ items_of r) same.1;
     done = λ i. plays.1.done i ∙ ap (λ (bs : List Bool). is_number i r.delivered || get_or bs i false) same.2;
+    armed = plays.1.armed;
   },
 )
 plays_from d mid old new H r (Err stop.WireFull) same plays = subst (λ (items : List Item). ENTRIES_MAX < length items + length (items_of r)) same.1 plays

@@ -20,7 +20,7 @@ use Rattle.topology.specs.Topology.{node_at, nat_at, as_nat, settings_of_nat}
 use Rattle.history.specs.Full.{Full}
 use Rattle.legal.specs.Lab.{Lab, Draws, flat_lab}
 use Rattle.legal.specs.Past.{nat_pasts}
-use Rattle.legal.specs.Emit.{by_way}
+use Rattle.legal.specs.Emit.{is_at_place, crossing_unless, by_way}
 use Rattle.lab_nodes.specs.Laws.{EachClientKeepsRules}
 use Rattle.lab_nodes.specs.declared.played_node.PlayedNode.{PlayedNode}
 use Rattle.lab_nodes.specs.declared.played_node.PlayedNode.TheVariants as played
@@ -28,8 +28,9 @@ use Rattle.lab_nodes.specs.declared.outlet.Outlet.{Outlet}
 use Rattle.lab_nodes.specs.declared.outlet.Outlet.TheVariants.{Silent, Own, Through}
 use Rattle.lab_nodes.specs.declared.asked.SixPacket.{SixPacket}
 use Rattle.lab_nodes.specs.PlayedNode.{row_of, past_of, IsKept, AreOf, NodesOf}
-use Rattle.lab_nodes.specs.Outlet.{outlet_of, sendings_by}
-use Rattle.world.specs.Emission.{IsNatWith, KeepsNat, KeepsItsNat, IsNat, HasItsNat, IsBehind}
+use Rattle.lab_nodes.specs.Outlet.{outlet_of, sendings_but}
+use Rattle.world.specs.declared.sender.Sender.{Sender}
+use Rattle.world.specs.Emission.{IsNatWith, KeepsNat, KeepsItsNat, IsNat, HasItsNat, emitted_by, IsBehind}
 use Rattle.world.proofs.States.{some_inj, nat_there}
 
 -- THE NAT OF AN OUTLET
@@ -158,19 +159,25 @@ module _ (lab : Lab) (H : List Full) (m j k : ℕ) (apart : (j == k) ≡ false) 
     by (Ok port) = rw apart refl
     by (Err why) = refl
 
-  outs_elsewhere : (inside : Ep) (i : ℕ) (passed : List Passing) (xs : List Send) → outs_at k (by_way lab H m (j ∷ []) inside None i passed xs).passed ≡ outs_at k passed
-  outs_elsewhere inside i passed [] = refl
-  outs_elsewhere inside i passed (x ∷ xs) =
-      outs_elsewhere inside (i + 1) (crossing lab.topology (nat_pasts lab H) m x.to (j ∷ []) inside passed).passed xs ∙ outs_crossed x.to inside passed
+  outs_unless : (failing : Bool) (dst from : Ep) (passed : List Passing) → outs_at k (crossing_unless failing lab H m dst (j ∷ []) from passed).passed ≡ outs_at k passed
+  outs_unless true dst from passed = refl
+  outs_unless false dst from passed = outs_crossed dst from passed
 
-pub nothing_out : (d : Draws) (t : TopologyState) (H : List Full) (m k : ℕ) (outlet : Outlet) (packet : Option SixPacket) (sends : List Send) → (IsBehind outlet k → ⊥)
-    → outs_at k (sendings_by (flat_lab d t) H m outlet packet sends).passed ≡ []
-nothing_out d t H m k (Through j inside) packet sends other = test (eqb_tells j k) where
-  test : ((j == k) ≡ true) × (j ≡ k) ⊎ ((j == k) ≡ false) × (j ≢ k) → outs_at k (by_way (flat_lab d t) H m (j ∷ []) inside None 0 [] sends).passed ≡ []
-  test (inl (yeah, same)) = absurd (other same)
-  test (inr (nope, apart)) = outs_elsewhere (flat_lab d t) H m j k nope inside 0 [] sends
-nothing_out d t H m k Silent packet sends other = refl
-nothing_out d t H m k (Own primary secondary) packet sends other = refl
+  outs_elsewhere : (inside : Ep) (fails : Option ℕ) (i : ℕ) (passed : List Passing) (xs : List Send) → outs_at k (by_way lab H m (j ∷ []) inside fails i passed xs).passed ≡ outs_at k passed
+  outs_elsewhere inside fails i passed [] = refl
+  outs_elsewhere inside fails i passed (x ∷ xs) =
+      outs_elsewhere inside fails (i + 1) (crossing_unless (is_at_place i fails) lab H m x.to (j ∷ []) inside passed).passed xs ∙ outs_unless (is_at_place i fails) x.to inside passed
+
+pub nothing_out : (d : Draws) (t : TopologyState) (H : List Full) (k : ℕ) (x : Sender) (packet : Option SixPacket) (sends : List Send) → (IsBehind x.outlet k → ⊥)
+    → outs_at k (emitted_by (flat_lab d t) H x packet sends).passed ≡ []
+nothing_out d t H k x packet sends other = by x.outlet other where
+  by : (o : Outlet) → (IsBehind o k → ⊥) → outs_at k (sendings_but (flat_lab d t) H x.now.0 x.fails o packet sends).passed ≡ []
+  by (Through j inside) other = test (eqb_tells j k) where
+    test : ((j == k) ≡ true) × (j ≡ k) ⊎ ((j == k) ≡ false) × (j ≢ k) → outs_at k (by_way (flat_lab d t) H x.now.0 (j ∷ []) inside x.fails 0 [] sends).passed ≡ []
+    test (inl (yeah, same)) = absurd (other same)
+    test (inr (nope, apart)) = outs_elsewhere (flat_lab d t) H x.now.0 j k nope inside x.fails 0 [] sends
+  by Silent other = refl
+  by (Own primary secondary) other = refl
 
 -- it leaves through a NAT, or doesn't
 pub behind_or_not : (outlet : Outlet) (k : ℕ) → ((inside : Ep) × (outlet ≡ Through k inside)) ⊎ (IsBehind outlet k → ⊥)

@@ -73,6 +73,7 @@ starts_anew frame d old states H i n s is =
             (λ kept. kept_as t n (restarted old.moment (past_of lab n H)) (past_of lab n (r ∷ H)) is.after (restart_as lab H i n old.moment is.after s.moment) (is.change t n (past_of lab n H) kept));
         wire = nothing_made old r refl;
         done = λ k. refl;
+        armed = s.armed;
       },
     )
 
@@ -107,6 +108,7 @@ forgets frame d old states H i n who c s there is =
             (λ kept. kept_as t n (forgetting c.inside (past_of lab n H)) (past_of lab n (r ∷ H)) is.after (forget_as lab H i n who c is.after there) (is.change t n (past_of lab n H) kept));
         wire = nothing_made old r refl;
         done = λ k. refl;
+        armed = s.armed;
       },
     )
 

@@ -1,5 +1,5 @@
 -- What one step does to the histories that a world stands for.
-use Rattle.std.proofs.Common.{◌≡◌, ◌≤◌, ◌<◌, ℕ, Bool, List, [], ◌∷◌, ◌++◌, ◌+◌, length, Option, Some, None, Result, Ok, Err, refl, sym, ap, subst, ◌∙◌, arith}
+use Rattle.std.proofs.Common.{◌≡◌, ◌≤◌, ◌<◌, ℕ, Bool, List, [], ◌∷◌, ◌++◌, ◌+◌, length, false, get_or, Option, Some, None, Result, Ok, Err, refl, sym, ap, subst, ◌∙◌, arith}
 use Rattle.std.specs.Prelude.{◌||◌, IfOk}
 use Rattle.events.specs.declared.event.Event.{Event}
 use Rattle.events.specs.declared.event.TheConstants.{ADVANCE_MAX_MS}
@@ -10,11 +10,11 @@ use Rattle.history.specs.declared.turn.Turn.TheVariants.{More, Last}
 use Rattle.history.specs.declared.turn.Stop.{Stop}
 use Rattle.topology.specs.Rows.{TopologyState}
 use Rattle.topology.specs.Rules.{IsTopology}
-use Rattle.history.specs.Full.{Full, items_of}
+use Rattle.history.specs.Full.{Item, Full, wire, items_of}
 use Rattle.legal.specs.declared.left.TheConstants.{LEFT_MAX}
-use Rattle.legal.specs.Left.{left}
+use Rattle.legal.specs.Left.{left, PLACES}
 use Rattle.legal.specs.Lab.{Draws, flat_lab}
-use Rattle.legal.specs.Past.{began, going, has_more, is_number}
+use Rattle.legal.specs.Past.{began, going, has_more, is_number, was_delivered}
 use Rattle.legal.specs.Next.{next_of}
 use Rattle.legal.specs.Legal.{GoesOn, Follows, Grown}
 use Rattle.legal.specs.Laws.{EachIsOfItsEvent, EachIsTold, EachFalls}
@@ -36,6 +36,7 @@ pub record IsNext (d : Draws) (old : WorldState) (H : List Full) (e : Event) (tu
   pub stands : StandsFor d old H
   pub rules : IsTopology old.topology
   pub follows : Follows (flat_lab d old.topology) H r
+  pub room : length (wire H) ≤ PLACES
   pub asked : r.asked ≡ e
   pub more : has_more r.asked r.act ≡ is_more turn
 
@@ -51,7 +52,7 @@ going_on d old H e (Last said) r next = rw (next.more) refl
 -- what is left of it is never more than may be left
 most_on : EachFalls → (d : Draws) (old : WorldState) (H : List Full) (e : Event) (turn : Turn) (r : Full) → IsNext d old H e turn r → left (flat_lab d old.topology) (r ∷ H) ≤ LEFT_MAX
 most_on falls d old H e (More said) r next =
-    let fell = falls (flat_lab d old.topology) H r next.rules next.stands.grown next.follows next.more in
+    let fell = falls (flat_lab d old.topology) H r next.rules next.stands.grown next.room next.follows next.more in
     let before = next.stands.left in
     let most = next.stands.most in
     omega (arith, fell, before, most)
@@ -65,7 +66,8 @@ stands falls sums d old new H e turn r next turned ready comes =
     let start = began_on d old new H e turn r next comes.moment turned.goes in
     let goes = turned.going ∙ going_on d old H e turn r next in
     let nodes = subst (λ (x : TopologyState). NodesOf (flat_lab d x) new.nodes (r ∷ H)) (sym turned.topology) comes.nodes in
-    let same : left (flat_lab d new.topology) (r ∷ H) ≡ left_in new = left_is sums d new (r ∷ H) (record { moment = comes.moment; began = start; going = goes; nodes = nodes; ready = ready }) in
+    let done : (k : ℕ) → get_or new.done k false ≡ was_delivered k (r ∷ H) = λ k. comes.done k ∙ ap (λ (b : Bool). is_number k r.delivered || b) (next.stands.done k) in
+    let same : left (flat_lab d new.topology) (r ∷ H) ≡ left_in new = left_is sums d new (r ∷ H) (record { moment = comes.moment; began = start; going = goes; nodes = nodes; ready = ready; done = done }) in
     let most : left (flat_lab d new.topology) (r ∷ H) ≤ LEFT_MAX = subst (λ (x : TopologyState). left (flat_lab d x) (r ∷ H) ≤ LEFT_MAX) (sym turned.topology) (most_on falls d old H e turn r next) in
     record {
       grown = subst (λ (x : TopologyState). Grown (flat_lab d x) (r ∷ H)) (sym turned.topology) (next.follows, next.stands.grown);
@@ -74,7 +76,8 @@ stands falls sums d old new H e turn r next turned ready comes =
       going = goes;
       nodes = nodes;
       wire = comes.wire ∙ ap (λ xs. xs ++ items_of r) next.stands.wire;
-      done = λ k. comes.done k ∙ ap (λ (b : Bool). is_number k r.delivered || b) (next.stands.done k);
+      done = done;
+      armed = comes.armed;
       left = same;
       most = omega (arith, same, most);
     }
@@ -85,6 +88,7 @@ pub record IsAsked (old : WorldState) (e : Event) : Type 0 where
   pub event : IsEvent old.topology e
   pub again : IsAgain old.going e
   pub stopped : old.stopped ≡ None
+  pub entries : length old.wire ≤ ENTRIES_MAX
 
 -- the laws of histories
 pub record Laws : Type 0 where
@@ -111,6 +115,10 @@ is_next laws d old new H i e turn asked s plays =
       stands = s;
       rules = asked.rules;
       follows = follows laws.of_event d old H i e asked.event asked.again s;
+      room =
+          let most = asked.entries in
+          let same : length old.wire ≡ length (wire H) = ap (λ (xs : List Item). length xs) s.wire in
+          omega (arith, most, same);
       asked = (laws.of_event (flat_lab d old.topology) H i e).asked;
       more = plays.1;
     }
@@ -127,7 +135,7 @@ stands_on laws d old new H i e turn asked turned ready s plays =
 fell_on : EachFalls → (d : Draws) (old new : WorldState) (H : List Full) (e : Event) (turn : Turn) (r : Full) → IsNext d old H e turn r → new.topology ≡ old.topology → StandsFor d new (r ∷ H) → Falls old new turn
 fell_on falls d old new H e (Last said) r next same s = tt
 fell_on falls d old new H e (More said) r next same s =
-    let fell : left (flat_lab d old.topology) (r ∷ H) < left (flat_lab d old.topology) H = falls (flat_lab d old.topology) H r next.rules next.stands.grown next.follows next.more in
+    let fell : left (flat_lab d old.topology) (r ∷ H) < left (flat_lab d old.topology) H = falls (flat_lab d old.topology) H r next.rules next.stands.grown next.room next.follows next.more in
     let before : left (flat_lab d old.topology) H ≡ left_in old = next.stands.left in
     let after : left (flat_lab d old.topology) (r ∷ H) ≡ left_in new = ap (λ (x : TopologyState). left (flat_lab d x) (r ∷ H)) (sym same) ∙ s.left in
     omega (arith, fell, before, after)

@@ -20,7 +20,7 @@ use Rattle.legal.specs.Emit.{is_at_place, crossing_unless, or_loss, marked, Send
 use Rattle.world.specs.Wire.{WireState, ComesOnto, Puts, Extends}
 use Rattle.world.specs.Emission.{IsNatWith}
 use Rattle.world.proofs.Entered.{some_made, nothing_enters, enters_twice, puts_then, puts_stop, begins_same, begins_with, begins_twice}
-use Rattle.world.proofs.Outright.{taken, parted, one_said}
+use Rattle.world.proofs.Outright.{taken, place_of, parted, one_said}
 
 -- ONE DATAGRAM PASSES A NAT
 
@@ -73,25 +73,26 @@ module _ (lab : Lab) (H : List Full) (m : ℕ) (way : List ℕ) (inside : Ep) (f
 
 -- THE FIRST SENDS
 
--- a client's sends: when, and from where
+-- a client's sends: when, from where, and which one fails
 pub record Through : Type 0 where
   pub moment : ℕ
   pub inside : Ep
+  pub fails : Option ℕ
 
 module _ (w : Through) (lab : Lab) (H : List Full) (k : ℕ) where
   -- what becomes of sends
   abbrev pub sent_in : List Send → Sendings
-  sent_in xs = by_way lab H w.moment (k ∷ []) w.inside None 0 [] xs
+  sent_in xs = by_way lab H w.moment (k ∷ []) w.inside w.fails 0 [] xs
 
   -- of one more, after these
   abbrev pub next_in : List Send → Send → Sendings
-  next_in xs x = by_way lab H w.moment (k ∷ []) w.inside None (0 + length xs) (sent_in xs).passed (x ∷ [])
+  next_in xs x = by_way lab H w.moment (k ∷ []) w.inside w.fails (0 + length xs) (sent_in xs).passed (x ∷ [])
 
   more_in : (sends : List Send) (i : ℕ) (x : Send) → slice_get sends i ≡ Some x → sent_in (take (i + 1) sends) ≡ joined (sent_in (take i sends)) (next_in (take i sends) x)
-  more_in sends i x at = ap sent_in (taken sends i x at) ∙ by_way_append lab H w.moment (k ∷ []) w.inside None 0 [] (take i sends) (x ∷ [])
+  more_in sends i x at = ap sent_in (taken sends i x at) ∙ by_way_append lab H w.moment (k ∷ []) w.inside w.fails 0 [] (take i sends) (x ∷ [])
 
-  whole_in : (sends : List Send) (n : ℕ) → joined (sent_in (take n sends)) (by_way lab H w.moment (k ∷ []) w.inside None (0 + length (take n sends)) (sent_in (take n sends)).passed (drop n sends)) ≡ sent_in sends
-  whole_in sends n = sym (by_way_append lab H w.moment (k ∷ []) w.inside None 0 [] (take n sends) (drop n sends)) ∙ ap sent_in (parted n sends)
+  whole_in : (sends : List Send) (n : ℕ) → joined (sent_in (take n sends)) (by_way lab H w.moment (k ∷ []) w.inside w.fails (0 + length (take n sends)) (sent_in (take n sends)).passed (drop n sends)) ≡ sent_in sends
+  whole_in sends n = sym (by_way_append lab H w.moment (k ∷ []) w.inside w.fails 0 [] (take n sends) (drop n sends)) ∙ ap sent_in (parted n sends)
 
 -- the first i sends were put or lost, with their marks
 pub record ThroughSoFar (w : Through) (old now : WireState) (before nat : NatState) (sends : List Send) (i : ℕ) (said : List Mark) : Type 0 where
@@ -110,30 +111,35 @@ none_through w old nat sends said none early = record {
   moment = early;
 }
 
--- the source that the NAT gave the next send
-pub record Crosses (w : Through) (now new : NatState) (to : Ep) (src : Result Ep Loss) : Type 0 where
+-- the source that the NAT gave a send, unless it fails
+pub record Crosses (w : Through) (failing : Bool) (now new : NatState) (to : Ep) (src : Result Ep Loss) : Type 0 where
   pub crosses : (lab : Lab) (H : List Full) (k : ℕ) (passed : List Passing) → IsNatWith lab H k passed now
-      → (src ≡ or_loss false (crossing lab.topology (nat_pasts lab H) w.moment to (k ∷ []) w.inside passed).leaves)
-      × IsNatWith lab H k (crossing lab.topology (nat_pasts lab H) w.moment to (k ∷ []) w.inside passed).passed new
+      → (src ≡ or_loss failing (crossing_unless failing lab H w.moment to (k ∷ []) w.inside passed).leaves)
+      × IsNatWith lab H k (crossing_unless failing lab H w.moment to (k ∷ []) w.inside passed).passed new
   pub moment : new.moment ≤ w.moment
 
 -- it is the next send that is made
-next_made : (w : Through) (lab : Lab) (H : List Full) (k : ℕ) (now new : NatState) (sends : List Send) (x : Send) (src : Result Ep Loss) → Crosses w now new x.to src
+next_made : (w : Through) (lab : Lab) (H : List Full) (k : ℕ) (now new : NatState) (sends : List Send) (x : Send) (src : Result Ep Loss) → Crosses w (is_at_place (0 + length sends) w.fails) now new x.to src
     → IsNatWith lab H k (sent_in w lab H k sends).passed now → (next_in w lab H k sends x).made ≡ marked x src ∷ []
 next_made w lab H k now new sends x src crosses is = ap (λ (r : Result Ep Loss). marked x r ∷ []) (sym (crosses.crosses lab H k (sent_in w lab H k sends).passed is).0)
 
 module _ (w : Through) (old : WireState) (before : NatState) (sends : List Send) (i : ℕ) (x : Send) (at : slice_get sends i ≡ Some x) where
+  -- the next one, by its number
+  it_crosses : (now new : NatState) (src : Result Ep Loss) → Crosses w (is_at_place i w.fails) now new x.to src → Crosses w (is_at_place (0 + length (take i sends)) w.fails) now new x.to src
+  it_crosses now new src crosses = subst (λ (k : ℕ). Crosses w (is_at_place k w.fails) now new x.to src) (sym (place_of sends i x at)) crosses
+
   -- the next one is put, or lost
   pub one_through : (now new : WireState) (nat nat' : NatState) (said more : List Mark) (src : Result Ep Loss)
-      → ThroughSoFar w old now before nat sends i said → Crosses w nat nat' x.to src → ComesOnto now new said more (marked x src ∷ []) → ThroughSoFar w old new before nat' sends (i + 1) more
+      → ThroughSoFar w old now before nat sends i said → Crosses w (is_at_place i w.fails) nat nat' x.to src → ComesOnto now new said more (marked x src ∷ []) → ThroughSoFar w old new before nat' sends (i + 1) more
   one_through now new nat nat' said more src so crosses puts = record {
     enters = λ lab H k is.
         let front = sent_in w lab H k (take i sends) in
-        let made = next_made w lab H k nat nat' (take i sends) x src crosses (so.stands lab H k is) in
+        let made = next_made w lab H k nat nat' (take i sends) x src (it_crosses nat nat' src crosses) (so.stands lab H k is) in
         subst (λ (y : Sendings). ComesOnto old new [] more y.made) (sym (more_in w lab H k sends i x at))
         (enters_twice front.made (next_in w lab H k (take i sends) x).made old now new [] said more (so.enters lab H k is) (subst (λ (ms : List Made). ComesOnto now new said more ms) (sym made) puts));
     stands = λ lab H k is.
-        subst (λ (y : Sendings). IsNatWith lab H k y.passed nat') (sym (more_in w lab H k sends i x at)) (crosses.crosses lab H k (sent_in w lab H k (take i sends)).passed (so.stands lab H k is)).1;
+        subst (λ (y : Sendings). IsNatWith lab H k y.passed nat') (sym (more_in w lab H k sends i x at))
+        ((it_crosses nat nat' src crosses).crosses lab H k (sent_in w lab H k (take i sends)).passed (so.stands lab H k is)).1;
     begins = begins_twice old now new so.begins (begins_with now new said more (marked x src ∷ []) puts);
     count = let longer = one_said now new said more (marked x src) puts in let so_far = so.count in omega (arith, longer, so_far);
     moment = crosses.moment;
@@ -141,12 +147,12 @@ module _ (w : Through) (old : WireState) (before : NatState) (sends : List Send)
 
   -- where it isn't put, not all are
   pub stops_through : (now new : WireState) (nat nat' : NatState) (said more : List Mark) (src : Result Ep Loss) (why : Stop)
-      → ThroughSoFar w old now before nat sends i said → Crosses w nat nat' x.to src → Puts now new said more (marked x src ∷ []) (Err why)
+      → ThroughSoFar w old now before nat sends i said → Crosses w (is_at_place i w.fails) nat nat' x.to src → Puts now new said more (marked x src ∷ []) (Err why)
       → (lab : Lab) (H : List Full) (k : ℕ) → IsNatWith lab H k [] before → Puts old new [] more (sent_in w lab H k sends).made (Err why)
   stops_through now new nat nat' said more src why so crosses puts lab H k is =
       let front = sent_in w lab H k (take i sends) in
       let last = next_in w lab H k (take i sends) x in
-      let made = next_made w lab H k nat nat' (take i sends) x src crosses (so.stands lab H k is) in
+      let made = next_made w lab H k nat nat' (take i sends) x src (it_crosses nat nat' src crosses) (so.stands lab H k is) in
       let both : Puts old new [] more (front.made ++ last.made) (Err why) =
       puts_then front.made last.made old now new [] said more (Err why) (so.enters lab H k is) (subst (λ (ms : List Made). Puts now new said more ms (Err why)) (sym made) puts) in
       let first : Puts old new [] more (sent_in w lab H k (take (i + 1) sends)).made (Err why) = subst (λ (y : Sendings). Puts old new [] more y.made (Err why)) (sym (more_in w lab H k sends i x at)) both in

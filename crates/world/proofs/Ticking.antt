@@ -71,6 +71,10 @@ abbrev ms_of : Event → ℕ
 ms_of (event.Advance ms) = ms
 ms_of _ = 0
 
+abbrev takes_time : Event → Bool
+takes_time (event.Advance ms) = true
+takes_time _ = false
+
 -- the tick that was found is the first one, or is past a moment where it is later, or there is none
 pub found_first : (lab : Lab) (H : List Full) (o : Option found.Due) (x : found.Due) → o ≡ Some x → o ≡ option_map due_as (least_due lab H 0 (nodes lab.topology)) → IsFound lab H x
 found_first lab H o x is e = by (least_due lab H 0 (nodes lab.topology)) refl (sym is ∙ e) where
@@ -92,6 +96,7 @@ past_later lab H end o x is later e =
 -- an advance that goes on isn't over
 pub in_going : (m : ℕ) (g : Option Going) (ms : ℕ) → IsAgain (event_in g) (event.Advance ms) → IsGoing m g → m ≤ began_in m g + ms
 in_going m None ms again is = omega arith
+in_going m (Some going_on.Settle) ms again is = absurd (false≢true (ap takes_time (sym again)))
 in_going m (Some (going_on.Advance began long)) ms again is = let same : ms ≡ long = ap ms_of again in omega (arith, same, is)
 
 -- WHAT FOLLOWS
@@ -122,14 +127,14 @@ next_is_end d w H i ms s past = by (least_due (flat_lab d w.topology) H 0 (nodes
 
 -- time passes up to the end
 pub passes : EachFrames → (d : Draws) (old new : WorldState) (H : List Full) (i ms : ℕ) → StandsFor d old H → NoneIsDue (old.began + ms) (least_due (flat_lab d old.topology) H 0 (nodes old.topology))
-    → (new.moment ≡ old.began + ms) × (new.nodes ≡ old.nodes) × (new.wire ≡ old.wire) × (new.done ≡ old.done)
+    → (new.moment ≡ old.began + ms) × (new.nodes ≡ old.nodes) × (new.wire ≡ old.wire) × (new.done ≡ old.done) × (new.armed ≡ old.armed)
     → PlaysTurn d old new H (next_of (flat_lab d old.topology) H i (event.Advance ms)) (Ok (Last (with_deed (fresh_record i (old.began + ms)) (plain verb.Advance) None fate.Done)))
 passes frame d old new H i ms s past same =
     let r = advanced H (numbered i (event.Advance ms)) (old.began + ms) in
     subst (λ (z : Full). PlaysTurn d old new H z (Ok (Last (with_deed (fresh_record i (old.began + ms)) (plain verb.Advance) None fate.Done)))) (sym (next_is_end d old H i ms s past)) (
       refl,
       refl,
-      rests frame d old new H r s.nodes (record { still = record { entry = refl; made = refl; passed = refl; nothing = refl }; moment = same.0; nodes = same.1; wire = same.2; done = λ k. ap (λ bs. get_or bs k false) same.3 }),
+      rests frame d old new H r s.nodes (record { still = record { entry = refl; made = refl; passed = refl; nothing = refl }; moment = same.0; nodes = same.1; wire = same.2; done = λ k. ap (λ bs. get_or bs k false) same.3 }) (same.4 ∙ s.armed),
     )
 
 -- a tick is played

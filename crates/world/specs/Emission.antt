@@ -14,7 +14,7 @@ use Rattle.lab_nodes.specs.declared.played_node.PlayedNode.TheVariants as played
 use Rattle.lab_nodes.specs.declared.outlet.Outlet.{Outlet}
 use Rattle.lab_nodes.specs.declared.outlet.Outlet.TheVariants.{Through}
 use Rattle.lab_nodes.specs.declared.asked.SixPacket.{SixPacket}
-use Rattle.lab_nodes.specs.Outlet.{sendings_by}
+use Rattle.lab_nodes.specs.Outlet.{sendings_but}
 use Rattle.world.specs.declared.sender.Sender.{Sender}
 
 -- NAT k is set up as in the laboratory, and stands for its history with what was let out since
@@ -46,7 +46,7 @@ HasItsNat _ nodes = Unit {0}
 
 -- what becomes of what is sent
 abbrev pub emitted_by : Lab → List Full → Sender → Option SixPacket → List Send → Sendings
-emitted_by lab H x packet sends = sendings_by lab H x.now.0 x.outlet packet sends
+emitted_by lab H x packet sends = sendings_but lab H x.now.0 x.fails x.outlet packet sends
 
 -- it leaves through NAT k
 abbrev pub IsBehind : Outlet → ℕ → Type 0

@@ -15,7 +15,7 @@ use Rattle.history.specs.declared.act.Act.TheVariants as act
 use Rattle.history.specs.Full.{Full, wire, items_of}
 use Rattle.history.specs.Records.{record_of}
 use Rattle.legal.specs.Lab.{Draws, Lab, flat_lab}
-use Rattle.legal.specs.Past.{has_more, is_number}
+use Rattle.legal.specs.Past.{has_more, is_number, armed}
 use Rattle.legal.specs.Next as next
 use Rattle.legal.specs.Next.{Numbered, acts, no_ep}
 use Rattle.world.specs.declared.going.Going.{Going}
@@ -36,6 +36,7 @@ use Rattle.world.specs.World.{WorldState, IsCause, going_after, is_more, record_
 abbrev pub IsGoing : ℕ → Option Going → Type 0
 IsGoing m None = Unit {0}
 IsGoing m (Some (going_on.Advance began ms)) = m ≤ began.0 + ms
+IsGoing m (Some going_on.Settle) = Unit {0}
 
 pub record IsWorld (t : TopologyState) (m : ℕ) (g : Option Going) (nodes : List PlayedNode) : Type 0 where
   pub rules : IsTopology t
@@ -68,10 +69,11 @@ pub record IsFound (lab : Lab) (H : List Full) (x : Due) : Type 0 where
 
 -- ONE RECORD
 
--- what a record finds: nodes and wire as the history leaves them
+-- what a record finds: nodes and wire as the history leaves them, and what is armed
 pub record Finds (d : Draws) (w : WorldState) (H : List Full) : Type 0 where
   pub nodes : NodesOf (flat_lab d w.topology) w.nodes H
   pub wire : w.wire ≡ wire H
+  pub armed : w.armed ≡ armed H
 
 -- the world after the record r, which comes after H
 pub record Comes (d : Draws) (old new : WorldState) (H : List Full) (r : Full) : Type 0 where
@@ -79,6 +81,7 @@ pub record Comes (d : Draws) (old new : WorldState) (H : List Full) (r : Full) :
   pub nodes : NodesOf (flat_lab d old.topology) new.nodes (r ∷ H)
   pub wire : new.wire ≡ old.wire ++ items_of r
   pub done : (i : ℕ) → get_or new.done i false ≡ (is_number i r.delivered || get_or old.done i false)
+  pub armed : new.armed ≡ armed (r ∷ H)
 
 -- the record was played, or wasn't for a cause
 abbrev pub Plays : Draws → WorldState → WorldState → List Full → Full → Result Record Stop → Type 0

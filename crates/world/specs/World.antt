@@ -17,11 +17,11 @@ use Rattle.td_outside.specs.declared.clock.TheConstants.{CLOCK_END_MS}
 use Rattle.world.specs.declared.going.Going.{Going}
 use Rattle.world.specs.declared.going.Going.TheVariants as going_on
 use Rattle.legal.specs.Lab.{Draws, flat_lab}
-use Rattle.legal.specs.Past.{now, began, has_more, going, was_delivered}
+use Rattle.legal.specs.Past.{now, began, has_more, going, was_delivered, armed}
 use Rattle.legal.specs.Next.{next_of}
 use Rattle.legal.specs.Legal.{Grown}
 use Rattle.legal.specs.declared.left.TheConstants.{LEFT_MAX}
-use Rattle.legal.specs.Left.{left, time_left}
+use Rattle.legal.specs.Left.{left, time_left, open_places, PLACES}
 use Rattle.lab_nodes.specs.declared.played_node.PlayedNode.{PlayedNode}
 use Rattle.lab_nodes.specs.PlayedNode.{NodesOf}
 use Rattle.lab_nodes.specs.DueMoments.{all_due}
@@ -33,6 +33,7 @@ pub record WorldState : Type 0 where
   pub moment : ℕ
   pub began : ℕ  -- when the event of the next record began
   pub going : Option Event  -- the event that goes on: the next record is of it
+  pub armed : Option ℕ  -- the number of the send that fails in the next record with sends
   pub nodes : List PlayedNode
   pub wire : List Item
   pub done : List Bool  -- for each entry of the wire, whether it was delivered
@@ -42,13 +43,15 @@ pub record WorldState : Type 0 where
 abbrev pub event_in : Option Going → Option Event
 event_in None = None
 event_in (Some (going_on.Advance began ms)) = Some (event.Advance ms)
+event_in (Some going_on.Settle) = Some event.Settle
 
 abbrev pub began_in : ℕ → Option Going → ℕ
 began_in m None = m
 began_in m (Some (going_on.Advance began ms)) = began.0
+began_in m (Some going_on.Settle) = m
 
-abbrev pub state_of : TopologyState → ℕ → Option Going → List PlayedNode → WireState → Option Stop → WorldState
-state_of t m g nodes wire stopped = record { topology = t; moment = m; began = began_in m g; going = event_in g; nodes = nodes; wire = wire.items; done = wire.done; stopped = stopped }
+abbrev pub state_of : TopologyState → ℕ → Option Going → Option ℕ → List PlayedNode → WireState → Option Stop → WorldState
+state_of t m g armed nodes wire stopped = record { topology = t; moment = m; began = began_in m g; going = event_in g; armed = armed; nodes = nodes; wire = wire.items; done = wire.done; stopped = stopped }
 
 -- WHAT IS LEFT
 
@@ -56,10 +59,15 @@ state_of t m g nodes wire stopped = record { topology = t; moment = m; began = b
 abbrev pub left_until : WorldState → ℕ → ℕ
 left_until w end = time_left end w.moment (all_due w.moment w.nodes)
 
+-- for `settle`: the places of the wire whose entry was never delivered
+abbrev pub undelivered_in : WorldState → ℕ
+undelivered_in w = open_places PLACES (λ i. get_or w.done i false)
+
 -- of the event that goes on; as much as may be where none does
 abbrev pub left_of : WorldState → Option Event → ℕ
 left_of w None = LEFT_MAX
 left_of w (Some (event.Advance ms)) = left_until w (w.began + ms)
+left_of w (Some event.Settle) = undelivered_in w
 left_of w (Some e) = 0
 
 -- it falls with each further record of an event
@@ -77,6 +85,7 @@ pub record StandsFor (d : Draws) (w : WorldState) (H : List Full) : Type 0 where
   pub nodes : NodesOf (flat_lab d w.topology) w.nodes H
   pub wire : w.wire ≡ wire H
   pub done : (i : ℕ) → get_or w.done i false ≡ was_delivered i H
+  pub armed : w.armed ≡ armed H
   pub left : left (flat_lab d w.topology) H ≡ left_in w
   pub most : left_in w ≤ LEFT_MAX
 

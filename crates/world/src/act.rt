@@ -5,7 +5,7 @@ ghost use Rattle.topology.specs.Topology.{node_at};
 ghost use Rattle.events.specs.declared.event.Event.{Event};
 ghost use Rattle.history.specs.Full.{Full};
 ghost use Rattle.legal.specs.Lab.{Draws, flat_lab};
-ghost use Rattle.legal.specs.Past.{at_nat};
+ghost use Rattle.legal.specs.Past.{at_nat, arms};
 ghost use Rattle.legal.specs.Next.{numbered};
 ghost use Rattle.world.specs.Prompt.{IsPrompt};
 ghost use Rattle.world.specs.Record.{fresh_record};
@@ -13,7 +13,7 @@ ghost use Rattle.world.specs.Playing.{prompted, Finds, Plays, played};
 
 use crate::prompt::{Prompt, input_of, remember};
 use crate::record::say_step;
-use crate::sender::{Sender, emit};
+use crate::sender::{Sender, emit, still_armed};
 use crate::world::World;
 use history::{Act, Record, Stop};
 use lab_nodes::{Asked, Call, ask};
@@ -30,10 +30,10 @@ impl<'a> World<'a> {
         requires fresh { out.old ≡ fresh_record out.old.event self.old.moment }
         requires within { number < length self.old.nodes }
         requires prompt { IsPrompt self.old.wire self.old.done prompt }
-        ensures plays { (d : Draws) (H : List Full) → Finds d self.old H → (e : Event) → at_nat (flat_lab d self.old.topology) e act ≡ []
+        ensures plays { (d : Draws) (H : List Full) → Finds d self.old H → (e : Event) → at_nat (flat_lab d self.old.topology) e act ≡ [] → arms e ≡ None
             → (node : Node) → node_at self.old.topology number ≡ Some node
             → Plays d self.old self.new H (prompted d self.old H (numbered out.old.event e) act prompt.entry number node) (played result out.new) }
-        ensures rest { self.new ≡ record self.old { nodes = self.new.nodes; wire = self.new.wire; done = self.new.done } }
+        ensures rest { self.new ≡ record self.old { armed = self.new.armed; nodes = self.new.nodes; wire = self.new.wire; done = self.new.done } }
         ensures err { OnErr result ((self.new.wire ≡ self.old.wire) × (self.new.done ≡ self.old.done)) }
     {
         legal::frame();
@@ -51,10 +51,12 @@ impl<'a> World<'a> {
             address,
         } = ask(&mut self.nodes, call, &mut self.step)?;
         say_step(out, act, number, &self.step);
-        let sender = Sender { outlet, now };
+        let fails = self.armed;
+        let sender = Sender { outlet, now, fails };
         let marks = &mut out.marks;
         let nodes = &mut self.nodes;
         emit(sender, nodes, &mut self.wire, &self.step, packet, marks)?;
+        self.armed = still_armed(fails, &self.step);
         remember(&mut self.wire, prompt);
         out.handed = handed;
         out.address = address;

@@ -8,7 +8,7 @@ ghost use Rattle.events.specs.declared.event.TheConstants.{ADVANCE_MAX_MS};
 ghost use Rattle.events.specs.declared.verb.Verb.TheVariants as verb;
 ghost use Rattle.history.specs.Full.{Full};
 ghost use Rattle.legal.specs.Lab.{Draws, flat_lab};
-ghost use Rattle.legal.specs.Past.{forgotten};
+ghost use Rattle.legal.specs.Past.{forgotten, arms};
 ghost use Rattle.legal.specs.Next.{numbered, plain, least_due, next_of};
 ghost use Rattle.td_outside.specs.declared.clock.TheConstants.{CLOCK_END_MS};
 ghost use Rattle.legal.specs.Next.{Due as Tick};
@@ -34,6 +34,7 @@ impl<'a> World<'a> {
     {
         match self.going {
             Some(Going::Advance { began, .. }) => began,
+            Some(Going::Settle) => self.moment,
             None => self.moment,
         }
     }
@@ -77,10 +78,10 @@ impl<'a> World<'a> {
         requires early { due.moment.0 ≤ began.0 + ms }
         requires within { due.node < length self.old.nodes }
         requires going { (self.old.moment ≤ began.0 + ms) × (began.0 + ms < CLOCK_END_MS) }
-        ensures plays { (d : Draws) (H : List Full) → StandsFor d self.old H → (e : Event) → forgotten (flat_lab d self.old.topology) e ≡ []
+        ensures plays { (d : Draws) (H : List Full) → StandsFor d self.old H → (e : Event) → forgotten (flat_lab d self.old.topology) e ≡ [] → arms e ≡ None
             → (x : Tick) → due_as x ≡ due → node_at self.old.topology x.number ≡ Some x.node
             → Plays d self.old self.new H (ticks_at d self.old H (numbered out.old.event e) x) (played result out.new) }
-        ensures rest { self.new ≡ record self.old { moment = self.new.moment; began = began.0; going = Some (event.Advance ms); nodes = self.new.nodes; wire = self.new.wire; done = self.new.done } }
+        ensures rest { self.new ≡ record self.old { moment = self.new.moment; began = began.0; going = Some (event.Advance ms); armed = self.new.armed; nodes = self.new.nodes; wire = self.new.wire; done = self.new.done } }
         ensures moment { self.new.moment ≤ began.0 + ms }
         ensures err { OnErr result ((self.new.wire ≡ self.old.wire) × (self.new.done ≡ self.old.done)) }
     {

@@ -1,10 +1,11 @@
 //! Datagrams come onto the wire from nowhere.
-ghost use Rattle.std.specs.Prelude.{◌≡◌, ◌≤◌, List, length, OnErr};
+ghost use Rattle.std.specs.Prelude.{◌≡◌, ◌≤◌, List, length, None, OnErr};
 ghost use Rattle.events.specs.declared.event.Event.{Event};
 ghost use Rattle.events.specs.declared.event.Event.TheVariants as event;
 ghost use Rattle.td_base.specs.declared.datagram.TheConstants.{DATAGRAM_MAX};
 ghost use Rattle.history.specs.Full.{Full};
 ghost use Rattle.legal.specs.Lab.{Draws, flat_lab};
+ghost use Rattle.legal.specs.Past.{arms};
 ghost use Rattle.legal.specs.Next.{numbered, puts, next_of};
 ghost use Rattle.world.specs.World.{StandsFor};
 ghost use Rattle.world.specs.Record.{fresh_record};
@@ -31,7 +32,7 @@ impl<'a> World<'a> {
     ) -> Result<(), Stop>
         requires fresh { out.old ≡ fresh_record out.old.event self.old.moment }
         requires short { length bytes ≤ DATAGRAM_MAX }
-        ensures plays { (d : Draws) (H : List Full) → StandsFor d self.old H → (e : Event)
+        ensures plays { (d : Draws) (H : List Full) → StandsFor d self.old H → (e : Event) → arms e ≡ None
             → Plays d self.old self.new H (puts H (numbered out.old.event e) act src dst bytes) (played result out.new) }
         ensures rest { self.new ≡ record self.old { wire = self.new.wire; done = self.new.done } }
         ensures err { OnErr result ((self.new.wire ≡ self.old.wire) × (self.new.done ≡ self.old.done)) }

@@ -1,15 +1,17 @@
 //! Entries of the wire are delivered.
-ghost use Rattle.std.specs.Prelude.{◌≡◌, List, [], OnErr};
+ghost use Rattle.std.specs.Prelude.{◌≡◌, ◌≤◌, ◌+◌, List, [], None, IfOk, OnErr};
 ghost use Rattle.events.specs.declared.event.Event.{Event};
 ghost use Rattle.events.specs.declared.event.Event.TheVariants as event;
 ghost use Rattle.history.specs.Full.{Full};
+ghost use Rattle.events.specs.declared.event.TheConstants.{ADVANCE_MAX_MS};
 ghost use Rattle.legal.specs.Lab.{Draws, flat_lab};
-ghost use Rattle.legal.specs.Past.{forgotten};
+ghost use Rattle.legal.specs.Past.{forgotten, arms};
 ghost use Rattle.legal.specs.Next.{numbered, delivers, next_of};
-ghost use Rattle.world.specs.World.{StandsFor};
+ghost use Rattle.world.specs.World.{StandsFor, IsAgain};
 ghost use Rattle.world.specs.Record.{fresh_record};
-ghost use Rattle.world.specs.Playing.{Plays, played};
+ghost use Rattle.world.specs.Playing.{Plays, PlaysTurn, Turned, played, turn_from};
 
+use crate::going::Going;
 use crate::prompt::Prompt;
 use crate::record::say;
 use crate::route::{Route, route_of};
@@ -22,9 +24,9 @@ impl<'a> World<'a> {
     /// Delivers entry `number` to whoever is at its destination.
     pub(crate) fn deliver(&mut self, number: u32, out: &mut Record) -> Result<(), Stop>
         requires fresh { out.old ≡ fresh_record out.old.event self.old.moment }
-        ensures plays { (d : Draws) (H : List Full) → StandsFor d self.old H → (e : Event) → forgotten (flat_lab d self.old.topology) e ≡ []
+        ensures plays { (d : Draws) (H : List Full) → StandsFor d self.old H → (e : Event) → forgotten (flat_lab d self.old.topology) e ≡ [] → arms e ≡ None
             → Plays d self.old self.new H (delivers (flat_lab d self.old.topology) H (numbered out.old.event e) number) (played result out.new) }
-        ensures rest { self.new ≡ record self.old { nodes = self.new.nodes; wire = self.new.wire; done = self.new.done } }
+        ensures rest { self.new ≡ record self.old { armed = self.new.armed; nodes = self.new.nodes; wire = self.new.wire; done = self.new.done } }
         ensures err { OnErr result ((self.new.wire ≡ self.old.wire) × (self.new.done ≡ self.old.done)) }
     {
         legal::frame();
@@ -54,7 +56,7 @@ impl<'a> World<'a> {
         requires fresh { out.old ≡ fresh_record out.old.event self.old.moment }
         ensures plays { (d : Draws) (H : List Full) → StandsFor d self.old H
             → Plays d self.old self.new H (next_of (flat_lab d self.old.topology) H out.old.event event.Next) (played result out.new) }
-        ensures rest { self.new ≡ record self.old { nodes = self.new.nodes; wire = self.new.wire; done = self.new.done } }
+        ensures rest { self.new ≡ record self.old { armed = self.new.armed; nodes = self.new.nodes; wire = self.new.wire; done = self.new.done } }
         ensures err { OnErr result ((self.new.wire ≡ self.old.wire) × (self.new.done ≡ self.old.done)) }
     {
         legal::frame();
@@ -65,6 +67,33 @@ impl<'a> World<'a> {
                 say(out, act, None, Fate::NoEntry);
                 Ok(())
             }
+        }
+    }
+
+    /// Delivers the least-numbered entry that was never delivered, and answers whether there was one.
+    pub(crate) fn settle(&mut self, out: &mut Record) -> Result<bool, Stop>
+        requires fresh { out.old ≡ fresh_record out.old.event self.old.moment }
+        requires again { IsAgain self.old.going event.Settle }
+        ensures plays { (d : Draws) (H : List Full) → StandsFor d self.old H
+            → PlaysTurn d self.old self.new H (next_of (flat_lab d self.old.topology) H out.old.event event.Settle) (turn_from result out.new) }
+        ensures turned { IfOk (turn_from result out.new) (λ turn. Turned self.old self.new event.Settle turn) }
+        ensures time { self.new.moment ≤ self.old.began + ADVANCE_MAX_MS }
+        ensures err { OnErr result ((self.new.topology ≡ self.old.topology) × (self.new.wire ≡ self.old.wire) × (self.new.done ≡ self.old.done)) }
+    {
+        legal::frame();
+        legal::of_its_event();
+        let Some(number) = self.wire.first_undelivered() else {
+            self.going = None;
+            let act = Act::Plain { verb: Verb::Settle };
+            say(out, act, None, Fate::Done);
+            return Ok(false);
+        };
+        match self.deliver(number as u32, out) {
+            Ok(()) => {
+                self.going = Some(Going::Settle);
+                Ok(true)
+            }
+            Err(stop) => Err(stop),
         }
     }
 }

@@ -6,4 +6,6 @@ use td_base::Millis;
 pub enum Going {
     /// An advance: when it began, and how far it goes, in milliseconds.
     Advance { began: Millis, ms: u64 },
+    /// Deliveries of what was never delivered, one after the other. They take no time.
+    Settle,
 }

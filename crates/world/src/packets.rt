@@ -1,5 +1,5 @@
 //! Hosts hand in packets.
-ghost use Rattle.std.specs.Prelude.{◌≡◌, ◌≤◌, ◌<◌, List, [], length, OnErr};
+ghost use Rattle.std.specs.Prelude.{◌≡◌, ◌≤◌, ◌<◌, List, [], length, None, OnErr};
 ghost use Rattle.topology.specs.Topology.{node_at};
 ghost use Rattle.events.specs.declared.event.Event.{Event};
 ghost use Rattle.events.specs.declared.event.Event.TheVariants as event;
@@ -7,7 +7,7 @@ ghost use Rattle.events.specs.declared.event.TheConstants.{BODY_MAX};
 ghost use Rattle.td_base.specs.declared.datagram.TheConstants.{DATAGRAM_MAX};
 ghost use Rattle.history.specs.Full.{Full};
 ghost use Rattle.legal.specs.Lab.{Draws, flat_lab};
-ghost use Rattle.legal.specs.Past.{at_nat};
+ghost use Rattle.legal.specs.Past.{at_nat, arms};
 ghost use Rattle.legal.specs.Next.{numbered, plain, hands_in, next_of};
 ghost use Rattle.world.specs.World.{StandsFor};
 ghost use Rattle.world.specs.Record.{fresh_record};
@@ -31,9 +31,9 @@ impl<'a> World<'a> {
         requires fresh { out.old ≡ fresh_record out.old.event self.old.moment }
         requires within { number < length self.old.nodes }
         requires short { length bytes.now ≤ DATAGRAM_MAX }
-        ensures plays { (d : Draws) (H : List Full) → StandsFor d self.old H → (e : Event) → at_nat (flat_lab d self.old.topology) e (plain verb) ≡ []
+        ensures plays { (d : Draws) (H : List Full) → StandsFor d self.old H → (e : Event) → at_nat (flat_lab d self.old.topology) e (plain verb) ≡ [] → arms e ≡ None
             → Plays d self.old self.new H (hands_in (flat_lab d self.old.topology) H (numbered out.old.event e) verb number bytes.now (node_at self.old.topology number)) (played result out.new) }
-        ensures rest { self.new ≡ record self.old { nodes = self.new.nodes; wire = self.new.wire; done = self.new.done } }
+        ensures rest { self.new ≡ record self.old { armed = self.new.armed; nodes = self.new.nodes; wire = self.new.wire; done = self.new.done } }
         ensures err { OnErr result ((self.new.wire ≡ self.old.wire) × (self.new.done ≡ self.old.done)) }
     {
         legal::frame();
@@ -53,7 +53,7 @@ impl<'a> World<'a> {
         requires short { length body.now ≤ BODY_MAX }
         ensures plays { (d : Draws) (H : List Full) → StandsFor d self.old H
             → Plays d self.old self.new H (next_of (flat_lab d self.old.topology) H out.old.event (event.Host number to body.now)) (played result out.new) }
-        ensures rest { self.new ≡ record self.old { nodes = self.new.nodes; wire = self.new.wire; done = self.new.done } }
+        ensures rest { self.new ≡ record self.old { armed = self.new.armed; nodes = self.new.nodes; wire = self.new.wire; done = self.new.done } }
         ensures err { OnErr result ((self.new.wire ≡ self.old.wire) × (self.new.done ≡ self.old.done)) }
     {
         let nodes = self.nodes.as_slice();
@@ -76,7 +76,7 @@ impl<'a> World<'a> {
         requires fresh { out.old ≡ fresh_record out.old.event self.old.moment }
         ensures plays { (d : Draws) (H : List Full) → StandsFor d self.old H
             → Plays d self.old self.new H (next_of (flat_lab d self.old.topology) H out.old.event (event.Echo number to seq)) (played result out.new) }
-        ensures rest { self.new ≡ record self.old { nodes = self.new.nodes; wire = self.new.wire; done = self.new.done } }
+        ensures rest { self.new ≡ record self.old { armed = self.new.armed; nodes = self.new.nodes; wire = self.new.wire; done = self.new.done } }
         ensures err { OnErr result ((self.new.wire ≡ self.old.wire) × (self.new.done ≡ self.old.done)) }
     {
         let nodes = self.nodes.as_slice();

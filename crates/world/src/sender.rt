@@ -1,13 +1,14 @@
 //! Who sends, and how what it sends comes onto the wire.
-ghost use Rattle.std.specs.Prelude.{◌≡◌, ◌≢◌, ◌≤◌, ◌<◌, ◌++◌, ℕ, false, [], ◌∷◌, None, List, length, map, slice_get, IfOk, IfSome, OnErr, OnOk, IfErr};
+ghost use Rattle.std.specs.Prelude.{◌≡◌, ◌≢◌, ◌≤◌, ◌<◌, ◌++◌, ℕ, false, [], ◌∷◌, Ok, List, length, map, slice_get, IfOk, IfSome, OnErr, OnOk, IfErr};
 ghost use Rattle.td_base.specs.declared.datagram.TheConstants.{DATAGRAM_MAX};
+ghost use Rattle.teredo_node.specs.Sends.{has_any};
 ghost use Rattle.teredo_node.specs.declared.step.TheConstants.{SENDS_MAX};
 ghost use Rattle.topology.specs.Rows.{TopologyState};
 ghost use Rattle.topology.specs.Chains.{Passing, crossing};
 ghost use Rattle.history.specs.Full.{Full};
 ghost use Rattle.legal.specs.Lab.{Draws, Lab, flat_lab};
-ghost use Rattle.legal.specs.Past.{nat_pasts};
-ghost use Rattle.legal.specs.Emit.{or_loss, by_way, outright};
+ghost use Rattle.legal.specs.Past.{nat_pasts, armed_after};
+ghost use Rattle.legal.specs.Emit.{is_at_place, or_loss, crossing_unless, by_way, outright};
 ghost use Rattle.lab_nodes.specs.PlayedNode.{row_of, AreReady};
 ghost use Rattle.lab_nodes.specs.Outlet.{source_at, six_sent};
 ghost use Rattle.world.specs.Wire.{Puts, Extends};
@@ -25,6 +26,35 @@ use teredo_node::Step;
 pub struct Sender {
     pub outlet: Outlet,
     pub now: Millis,
+    /// The number of the send that fails.
+    pub fails: Option<u8>,
+}
+
+/// Endpoints of a node's own, one a side.
+#[derive(Clone, Copy, Debug)]
+struct Sources {
+    primary: Ep,
+    secondary: Ep,
+}
+
+/// Whether the send of this number fails.
+fn is_failing(fails: Option<u8>, number: usize) -> bool
+    ensures { result ≡ is_at_place number fails }
+{
+    match fails {
+        None => false,
+        Some(failing) => number == usize::from(failing),
+    }
+}
+
+/// The number of the send that is to fail after a step: none where the step sends something.
+pub fn still_armed(armed: Option<u8>, step: &Step) -> Option<u8>
+    ensures { result ≡ armed_after (has_any step.now.sends) armed }
+{
+    if step.count() > 0 {
+        return None;
+    }
+    armed
 }
 
 /// The endpoint of a side.
@@ -37,24 +67,35 @@ fn source_at(primary: Ep, secondary: Ep, side: Side) -> Ep
     }
 }
 
-/// Puts the datagrams of a step on the wire, from endpoints of the node's own, and a mark for each into `marks`. At a
-/// stop some of them are there.
+/// Where a datagram leaves from, unless it fails.
+fn source_unless(failing: bool, from: Sources, side: Side) -> Result<Ep, Loss>
+    ensures { result ≡ or_loss failing (Ok (source_at from.primary from.secondary side)) }
+{
+    if failing {
+        return Err(Loss::Fault);
+    }
+    Ok(source_at(from.primary, from.secondary, side))
+}
+
+/// Puts the datagrams of a step on the wire, from endpoints of the node's own, and a mark for each into `marks`. The send
+/// of one number fails. At a stop some of them are there.
 fn put_outright(
     wire: &mut Wire,
-    primary: Ep,
-    secondary: Ep,
+    from: Sources,
+    fails: Option<u8>,
     step: &Step,
     marks: &mut Marks,
 ) -> Result<(), Stop>
     requires none { marks.old ≡ [] }
-    ensures puts { Puts wire.old wire.new [] marks.new (outright (source_at primary secondary) None 0 step.now.sends) result }
+    ensures puts { Puts wire.old wire.new [] marks.new (outright (source_at from.primary from.secondary) fails 0 step.now.sends) result }
     ensures few { OnOk result (length marks.new ≤ SENDS_MAX) }
     ensures err { OnErr result (Extends wire.old wire.new) }
 {
     for i in 0..step.count() {
         let (side, to, bytes) = step.send(i);
-        let src = source_at(primary, secondary, side);
-        wire.send(Ok(src), to, bytes, marks)?;
+        let failing = is_failing(fails, i);
+        let src = source_unless(failing, from, side);
+        wire.send(src, to, bytes, marks)?;
     }
     Ok(())
 }
@@ -78,28 +119,50 @@ fn cross(nat: &mut Nat, now: Millis, inside: Ep, to: Ep) -> Result<Result<Ep, Lo
     }
 }
 
-/// Puts those datagrams of a step on the wire that a NAT lets out, and a mark for each into `marks`. At a stop some of
-/// them are there, and the NAT may know of them.
+/// The same, unless the datagram fails: then it doesn't come to the NAT.
+fn cross_unless(
+    failing: bool,
+    nat: &mut Nat,
+    now: Millis,
+    inside: Ep,
+    to: Ep,
+) -> Result<Result<Ep, Loss>, Stop>
+    requires clock { nat.old.moment ≤ now.0 }
+    ensures crosses { IfOk result (λ src. (lab : Lab) (H : List Full) (k : ℕ) (passed : List Passing) → IsNatWith lab H k passed nat.old
+        → (src ≡ or_loss failing (crossing_unless failing lab H now.0 to (k ∷ []) inside passed).leaves)
+        × IsNatWith lab H k (crossing_unless failing lab H now.0 to (k ∷ []) inside passed).passed nat.new) }
+    ensures needs { IfErr result (λ stop. stop ≡ Stop.NoMemory) }
+    ensures moment { nat.new.moment ≤ now.0 }
+{
+    if failing {
+        return Ok(Err(Loss::Fault));
+    }
+    cross(nat, now, inside, to)
+}
+
+/// Puts those datagrams of a step on the wire that a NAT lets out, and a mark for each into `marks`. The send of one
+/// number fails. At a stop some of them are there, and the NAT may know of them.
 fn put_through(
     wire: &mut Wire,
     nat: &mut Nat,
-    now: Millis,
+    sender: Sender,
     inside: Ep,
     step: &Step,
     marks: &mut Marks,
 ) -> Result<(), Stop>
     requires none { marks.old ≡ [] }
-    requires clock { nat.old.moment ≤ now.0 }
+    requires clock { nat.old.moment ≤ sender.now.0 }
     ensures puts { (lab : Lab) (H : List Full) (k : ℕ) → IsNatWith lab H k [] nat.old
-        → Puts wire.old wire.new [] marks.new (by_way lab H now.0 (k ∷ []) inside None 0 [] step.now.sends).made result }
+        → Puts wire.old wire.new [] marks.new (by_way lab H sender.now.0 (k ∷ []) inside sender.fails 0 [] step.now.sends).made result }
     ensures stands { OnOk result ((lab : Lab) (H : List Full) (k : ℕ) → IsNatWith lab H k [] nat.old
-        → IsNatWith lab H k (by_way lab H now.0 (k ∷ []) inside None 0 [] step.now.sends).passed nat.new) }
-    ensures moment { nat.new.moment ≤ now.0 }
+        → IsNatWith lab H k (by_way lab H sender.now.0 (k ∷ []) inside sender.fails 0 [] step.now.sends).passed nat.new) }
+    ensures moment { nat.new.moment ≤ sender.now.0 }
     ensures err { OnErr result (Extends wire.old wire.new) }
 {
     for i in 0..step.count() {
         let (_, to, bytes) = step.send(i);
-        let src = cross(nat, now, inside, to)?;
+        let failing = is_failing(sender.fails, i);
+        let src = cross_unless(failing, nat, sender.now, inside, to)?;
         wire.send(src, to, bytes, marks)?;
     }
     Ok(())
@@ -121,18 +184,18 @@ fn put_six(wire: &mut Wire, packet: Option<SixPacket>, marks: &mut Marks) -> Res
 /// Puts the datagrams of a step on the wire, from endpoints of the node's own, then its packet.
 fn put_own(
     wire: &mut Wire,
-    primary: Ep,
-    secondary: Ep,
+    from: Sources,
+    fails: Option<u8>,
     step: &Step,
     packet: Option<SixPacket>,
     marks: &mut Marks,
 ) -> Result<(), Stop>
     requires none { marks.old ≡ [] }
     requires short { IfSome packet (λ six. length six.bytes ≤ DATAGRAM_MAX) }
-    ensures puts { Puts wire.old wire.new [] marks.new (outright (source_at primary secondary) None 0 step.now.sends ++ six_sent packet) result }
+    ensures puts { Puts wire.old wire.new [] marks.new (outright (source_at from.primary from.secondary) fails 0 step.now.sends ++ six_sent packet) result }
     ensures err { OnErr result (Extends wire.old wire.new) }
 {
-    put_outright(wire, primary, secondary, step, marks)?;
+    put_outright(wire, from, fails, step, marks)?;
     put_six(wire, packet, marks)
 }
 
@@ -162,14 +225,15 @@ fn put_all(
     match sender.outlet {
         Outlet::Silent => put_six(wire, packet, marks),
         Outlet::Own { primary, secondary } => {
-            put_own(wire, primary, secondary, step, packet, marks)
+            let from = Sources { primary, secondary };
+            put_own(wire, from, sender.fails, step, packet, marks)
         }
         Outlet::Through { nat, inside } => {
             let node = &mut nodes[usize::from(nat)];
             let PlayedNode::Nat { nat, .. } = node else {
                 unreachable!()
             };
-            put_through(wire, nat, sender.now, inside, step, marks)
+            put_through(wire, nat, sender, inside, step, marks)
         }
     }
 }

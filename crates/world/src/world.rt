@@ -1,12 +1,12 @@
 //! The nodes of a scenario, and everything that they sent.
-ghost use Rattle.std.specs.Prelude.{◌≡◌, ◌≤◌, ◌+◌, List, [], false, length, None, Ok, Err, slice_get, option_map, IfSome, IfOk, IfErr, OnErr};
+ghost use Rattle.std.specs.Prelude.{◌≡◌, ◌≤◌, ◌+◌, List, [], false, length, None, Some, Ok, Err, slice_get, option_map, IfSome, IfOk, IfErr, OnErr};
 ghost use Rattle.events.specs.declared.event.Event.TheVariants as event;
 ghost use Rattle.events.specs.declared.event.TheConstants.{ADVANCE_MAX_MS};
 ghost use Rattle.td_base.specs.declared.datagram.TheConstants.{DATAGRAM_MAX};
 ghost use Rattle.events.specs.Events.{IsEvent};
 ghost use Rattle.history.specs.Full.{Full, bytes_of};
 ghost use Rattle.legal.specs.Lab.{Draws, flat_lab, draws};
-ghost use Rattle.legal.specs.Laws.{is_advance};
+ghost use Rattle.legal.specs.Laws.{may_go_on};
 ghost use Rattle.legal.specs.Next.{next_of};
 ghost use Rattle.world.specs.declared.wire.TheConstants.{ENTRIES_MAX};
 ghost use Rattle.world.specs.WireEntry.{item_lent};
@@ -15,15 +15,15 @@ ghost use Rattle.world.specs.Record.{fresh_record};
 ghost use Rattle.world.specs.Playing.{Plays, PlaysTurn, Turned, played, ended, turn_from};
 
 use crate::going::Going;
-use crate::record::blank;
+use crate::record::{blank, say};
 use crate::wire::{ENTRIES_MAX, Wire, WireEntry};
 use events::{Event, Verb};
-use history::{Record, Stop, Turn};
+use history::{Act, Record, Stop, Turn};
 use lab_nodes::{PlayedNode, first_nodes};
 use std::alloc::Global;
 use std::marker::Model;
 use td_base::{Millis, NoMemory};
-use teredo_node::Step;
+use teredo_node::{Fate, Step};
 use topology::Topology;
 
 /// The nodes of a scenario, and everything that they sent.
@@ -34,6 +34,8 @@ pub struct World<'a> {
     pub(crate) wire: Wire,
     pub(crate) moment: Millis,
     pub(crate) going: Option<Going>,
+    // the number of the send that fails in the next record with sends
+    pub(crate) armed: Option<u8>,
     pub(crate) stopped: Option<Stop>,
     // what the node does that is being asked
     pub(crate) step: Step,
@@ -45,7 +47,7 @@ impl<'a> Model for World<'a> {
 
     ghost Value = { WorldState };
 
-    ghost view = { λ w. state_of w.topology.now w.moment.0 w.going w.nodes.items w.wire w.stopped };
+    ghost view = { λ w. state_of w.topology.now w.moment.0 w.going w.armed w.nodes.items w.wire w.stopped };
 
     ghost invariant = { λ w. IsWorld w.topology.now w.moment.0 w.going w.nodes.items };
 }
@@ -65,6 +67,7 @@ impl<'a> World<'a> {
             wire: Wire::new(alloc),
             moment: Millis(0),
             going: None,
+            armed: None,
             stopped: None,
             step: Step::new(),
         })
@@ -86,19 +89,33 @@ impl<'a> World<'a> {
         self.wire.get(number as usize)
     }
 
-    /// Plays the one record of an event that is no advance into `out`.
+    /// Makes the send of a number fail, in the next record that has sends.
+    fn arm(&mut self, send: u8, out: &mut Record)
+        requires fresh { out.old ≡ fresh_record out.old.event self.old.moment }
+        ensures plays { (d : Draws) (H : List Full) → StandsFor d self.old H
+            → Plays d self.old self.new H (next_of (flat_lab d self.old.topology) H out.old.event (event.Fault send)) (Ok out.new) }
+        ensures rest { self.new ≡ record self.old { armed = Some send } }
+    {
+        legal::frame();
+        self.armed = Some(send);
+        let act = Act::Plain { verb: Verb::Fault };
+        say(out, act, None, Fate::Done);
+    }
+
+    /// Plays the one record of an event that has no further ones into `out`.
     fn play_once(&mut self, event: &Event, out: &mut Record) -> Result<(), Stop>
         requires fresh { out.old ≡ fresh_record out.old.event self.old.moment }
         requires event { IsEvent self.old.topology event.now }
-        requires once { is_advance event.now ≡ false }
+        requires once { may_go_on event.now ≡ false }
         ensures plays { (d : Draws) (H : List Full) → StandsFor d self.old H
             → Plays d self.old self.new H (next_of (flat_lab d self.old.topology) H out.old.event event.now) (played result out.new) }
-        ensures rest { self.new ≡ record self.old { nodes = self.new.nodes; wire = self.new.wire; done = self.new.done } }
+        ensures rest { self.new ≡ record self.old { armed = self.new.armed; nodes = self.new.nodes; wire = self.new.wire; done = self.new.done } }
         ensures err { OnErr result ((self.new.wire ≡ self.old.wire) × (self.new.done ≡ self.old.done)) }
     {
         let _ = &self.nodes;
         match event {
             Event::Advance { .. } => unreachable!(),
+            Event::Settle => unreachable!(),
             Event::Deliver { number } => self.deliver(*number, out),
             Event::Next => self.deliver_next(out),
             Event::Host { node, to, body } => self.send_data(*node, *to, body.as_slice(), out),
@@ -119,6 +136,10 @@ impl<'a> World<'a> {
                 self.forget(*nat, *client, out);
                 Ok(())
             }
+            Event::Fault { send } => {
+                self.arm(*send, out);
+                Ok(())
+            }
         }
     }
 
@@ -136,10 +157,11 @@ impl<'a> World<'a> {
     {
         legal::of_its_event();
         let _ = &self.nodes;
-        if let Event::Advance { ms } = event {
-            return self.advance(*ms, out);
+        match event {
+            Event::Advance { ms } => self.advance(*ms, out),
+            Event::Settle => self.settle(out),
+            _ => last(self.play_once(event, out)),
         }
-        last(self.play_once(event, out))
     }
 
     /// Plays the next record of event number `index`. After a `Stop` every later call answers the same.
@@ -159,6 +181,7 @@ impl<'a> World<'a> {
         if let Some(stop) = self.stopped {
             return Err(stop);
         }
+        prove!(self.wire.len() <= ENTRIES_MAX);
         let mut record = blank(index, self.moment);
         match self.play(event, &mut record) {
             Ok(more) => {

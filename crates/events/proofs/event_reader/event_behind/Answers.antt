@@ -11,3 +11,6 @@ returns-in-Stranger c = rw c.in-Stranger.is (c.stranger.ensures c.args.t.now)
 
 pub returns-in-Copy : goal.returns-in-Copy
 returns-in-Copy c = rw c.in-Copy.is (c.copy.ensures c.args.t.now)
+
+pub returns-in-Fault : goal.returns-in-Fault
+returns-in-Fault c = rw c.in-Fault.is (c.fault.ensures c.args.t.now)

@@ -1,8 +1,8 @@
-use Rattle.std.proofs.Common.{◌≡◌, ◌<◌, ◌≤◌, length, Some, refl, sym, ap, subst, ◌∙◌, arith}
+use Rattle.std.proofs.Common.{◌≡◌, ◌<◌, ◌≤◌, length, Some, refl, sym, ap, ◌∙◌, arith}
 use Rattle.std.specs.Prelude.{slice_get, option_and_then}
 use Rattle.std.proofs.lemmas.Bool.Decides.{nat_tests}
 use Rattle.std.proofs.lemmas.Option.{slice_get_read}
-use Rattle.topology.specs.Topology.{node_at, as_nat}
+use Rattle.topology.specs.Topology.{as_nat}
 use Rattle.legal.specs.Lab.{flat_lab}
 use Rattle.legal.specs.Past.{nat_history}
 use Rattle.legal.specs.Emit.{reach_node, from_outside, route_in}

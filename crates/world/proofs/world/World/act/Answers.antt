@@ -1,4 +1,4 @@
-use Rattle.std.proofs.Common.{◌≡◌, ℕ, List, [], length, map, Some, Ok, refl, sym, ap, subst, ◌∙◌, arith}
+use Rattle.std.proofs.Common.{◌≡◌, ℕ, List, [], length, map, Option, Some, None, Ok, refl, sym, ap, subst, ◌∙◌, arith}
 use Rattle.std.proofs.lemmas.Result.{err_from_is_err_and}
 use Rattle.topology.specs.Topology.{node_at}
 use Rattle.topology.specs.declared.node.Node.{Node}
@@ -7,7 +7,8 @@ use Rattle.events.specs.declared.event.Event.{Event}
 use Rattle.history.specs.declared.records.Record.{Record}
 use Rattle.history.specs.Full.{Full}
 use Rattle.legal.specs.Lab.{Draws, flat_lab}
-use Rattle.legal.specs.Past.{at_nat}
+use Rattle.legal.specs.Past.{at_nat, arms, armed_after}
+use Rattle.teredo_node.specs.Sends.{has_any}
 use Rattle.legal.specs.Next.{numbered}
 use Rattle.lab_nodes.specs.declared.call.Call.{Call}
 use Rattle.world.specs.declared.prompt.Prompt.{Prompt}
@@ -31,7 +32,7 @@ record Deed : Type 0 where
 
 -- for each history that a world finds and each event
 abbrev OfEach : Deed → (Draws → WorldState → List Full → Full → Type 0) → WorldState → Type 0
-OfEach a P w = (d : Draws) (H : List Full) → Finds d w H → (e : Event) → at_nat (flat_lab d w.topology) e a.act ≡ [] → (node : Node) → node_at w.topology a.number ≡ Some node
+OfEach a P w = (d : Draws) (H : List Full) → Finds d w H → (e : Event) → at_nat (flat_lab d w.topology) e a.act ≡ [] → arms e ≡ None → (node : Node) → node_at w.topology a.number ≡ Some node
     → P d w H (prompted d w H (numbered a.index e) a.act a.prompt a.number node)
 
 pub returns-in_err-outlet-clause-plays : goal.returns-in_err-outlet-clause-plays
@@ -39,13 +40,13 @@ returns-in_err-outlet-clause-plays c =
     let w = c.self.inside in
     let p = err_from_is_err_and c.from_residual.result c.from_residual.ensures.1 in
     let a : Deed = record { index = c.args.out.now.event; act = c.args.act; prompt = c.args.prompt; number = c.args.number } in
-    let old = state_of w.topology.now w.moment.0 w.going w.nodes.items w.wire w.stopped in
+    let old = state_of w.topology.now w.moment.0 w.going w.armed w.nodes.items w.wire w.stopped in
     let call : Call = record { node = c.args.number; now = w.moment; input = c.input_of.result } in
     let is_call : IsCall old c.args.prompt call = record { at = refl; dst = c.input_of.ensures.dst; input = c.input_of.ensures.input } in
     let did = c.in_err-outlet.ensures.answers in
-    rw (p.1, p.2) (subst (OfEach a (λ d x H r. NeedsMemory r)) c.self.view_is (λ d H s e quiet node here.
+    rw (p.1, p.2) (subst (OfEach a (λ d x H r. NeedsMemory r)) c.self.view_is (λ d H s e quiet mild node here.
     let x : Doing = record { draws = d; world = old; history = H; event = numbered c.args.out.now.event e; act = c.args.act; prompt = c.args.prompt; call = call; before = did.before } in
-    let is : IsDoing x = record { finds = s; rules = c.self.invariant.rules; law = c.rows_keep_rules.ensures; quiet = quiet; was = did.was } in
+    let is : IsDoing x = record { finds = s; rules = c.self.invariant.rules; law = c.rows_keep_rules.ensures; quiet = quiet; mild = mild; was = did.was } in
     wants_memory x node is_call is here did.change))
 
 pub returns-in_err-emit-clause-plays : goal.returns-in_err-emit-clause-plays
@@ -53,15 +54,15 @@ returns-in_err-emit-clause-plays c =
     let w = c.self.inside in
     let p = err_from_is_err_and c.from_residual-in_err-emit.result c.from_residual-in_err-emit.ensures.1 in
     let a : Deed = record { index = c.args.out.now.event; act = c.args.act; prompt = c.args.prompt; number = c.args.number } in
-    let old = state_of w.topology.now w.moment.0 w.going w.nodes.items w.wire w.stopped in
+    let old = state_of w.topology.now w.moment.0 w.going w.armed w.nodes.items w.wire w.stopped in
     let call : Call = record { node = c.args.number; now = w.moment; input = c.input_of.result } in
     let is_call : IsCall old c.args.prompt call = record { at = refl; dst = c.input_of.ensures.dst; input = c.input_of.ensures.input } in
     let did = c.in_ok-outlet.ensures.answers in
     let y : Asking = record { mid = c.ask.new.nodes.items; after = did.after; step = c.ask.new.step; asked = c.in_ok-outlet.field-0 } in
     let why = c.in_err-emit.field-0.0 in
-    rw (p.1, p.2) (subst (OfEach a (λ d x H r. IsCause x r why)) c.self.view_is (λ d H s e quiet node here.
+    rw (p.1, p.2) (subst (OfEach a (λ d x H r. IsCause x r why)) c.self.view_is (λ d H s e quiet mild node here.
     let x : Doing = record { draws = d; world = old; history = H; event = numbered c.args.out.now.event e; act = c.args.act; prompt = c.args.prompt; call = call; before = did.before } in
-    let is : IsDoing x = record { finds = s; rules = c.self.invariant.rules; law = c.rows_keep_rules.ensures; quiet = quiet; was = did.was } in
+    let is : IsDoing x = record { finds = s; rules = c.self.invariant.rules; law = c.rows_keep_rules.ensures; quiet = quiet; mild = mild; was = did.was } in
     let asked : IsAsked x y = record { answers = did.change; is = did.is; elsewhere = did.elsewhere; rows = did.rows } in
     acted_stops x y c.emit.new.wire c.emit.new.marks why node is_call is asked here (c.in_err-emit.ensures.puts d w.topology.now H (keeps_nat x y is asked))))
 
@@ -70,8 +71,8 @@ returns-clause-plays c =
     let w = c.self.inside in
     let index = c.args.out.now.event in
     let a : Deed = record { index = index; act = c.args.act; prompt = c.args.prompt; number = c.args.number } in
-    let old = state_of w.topology.now w.moment.0 w.going w.nodes.items w.wire w.stopped in
-    let new : WireState → WorldState = λ z. state_of w.topology.now w.moment.0 w.going c.emit.new.nodes.items z w.stopped in
+    let old = state_of w.topology.now w.moment.0 w.going w.armed w.nodes.items w.wire w.stopped in
+    let new : Option ℕ → WireState → WorldState = λ a z. state_of w.topology.now w.moment.0 w.going a c.emit.new.nodes.items z w.stopped in
     let marks = c.emit.new.marks in
     let call : Call = record { node = c.args.number; now = w.moment; input = c.input_of.result } in
     let is_call : IsCall old c.args.prompt call = record { at = refl; dst = c.input_of.ensures.dst; input = c.input_of.ensures.input } in
@@ -82,9 +83,9 @@ returns-clause-plays c =
     let deed : Record → Record = λ r. record (with_deed r c.args.act (Some c.args.number) c.ask.new.step.fate) { late = map length c.ask.new.step.late; gone = c.ask.new.step.gone } in
     let said : c.say_step.new.out ≡ deed (fresh_record index w.moment.0) = c.say_step.ensures ∙ ap deed fresh in
     let filled : Record → Record = λ r. record r { marks = marks; handed = c.in_ok-outlet.field-0.handed; address = c.in_ok-outlet.field-0.address } in
-    subst (OfEach a (λ d x H r. Plays d x (new c.remember.new.wire) H r (Ok (filled c.say_step.new.out)))) c.self.view_is (λ d H s e quiet node here.
+    subst (OfEach a (λ d x H r. Plays d x (new c.still_armed-self-inside.result c.remember.new.wire) H r (Ok (filled c.say_step.new.out)))) c.self.view_is (λ d H s e quiet mild node here.
     let x : Doing = record { draws = d; world = old; history = H; event = numbered index e; act = c.args.act; prompt = c.args.prompt; call = call; before = did.before } in
-    let is : IsDoing x = record { finds = s; rules = c.self.invariant.rules; law = c.rows_keep_rules.ensures; quiet = quiet; was = did.was } in
+    let is : IsDoing x = record { finds = s; rules = c.self.invariant.rules; law = c.rows_keep_rules.ensures; quiet = quiet; mild = mild; was = did.was } in
     let asked : IsAsked x y = record { answers = did.change; is = did.is; elsewhere = did.elsewhere; rows = did.rows } in
     let kept = keeps_nat x y is asked in
     let sent : IsSent x y c.emit.new.nodes.items c.emit.new.wire marks = record {
@@ -94,9 +95,11 @@ returns-clause-plays c =
       rows = c.emit.ensures.rows;
     } in
     let r = prompted d old H (numbered index e) c.args.act c.args.prompt c.args.number node in
-    subst (λ (z : WireState). Plays d old (new z) H r (Ok (filled c.say_step.new.out))) (sym c.remember.ensures)
-    (subst (λ (o : Record). Plays d old (new (record c.emit.new.wire { done = done_by c.args.prompt c.emit.new.wire.done })) H r (Ok (filled o))) (sym said)
-    (acted_plays c.frame.ensures x y c.emit.new.nodes.items c.emit.new.wire marks is_call there node here is asked sent)))
+    let armed : Option ℕ = armed_after (has_any c.ask.new.step.sends) w.armed in
+    subst (λ (o : Option ℕ). Plays d old (new o c.remember.new.wire) H r (Ok (filled c.say_step.new.out))) (sym c.still_armed-self-inside.ensures)
+    (subst (λ (z : WireState). Plays d old (new armed z) H r (Ok (filled c.say_step.new.out))) (sym c.remember.ensures)
+    (subst (λ (o : Record). Plays d old (new armed (record c.emit.new.wire { done = done_by c.args.prompt c.emit.new.wire.done })) H r (Ok (filled o))) (sym said)
+    (acted_plays c.frame.ensures x y c.emit.new.nodes.items c.emit.new.wire marks is_call there node here is asked sent))))
 
 pub emit-requires-clause-nat : goal.emit-requires-clause-nat
 emit-requires-clause-nat c =

@@ -40,7 +40,7 @@ returns-in_default-clause-plays c = λ d H s.
     let past = subst (λ (m : ℕ). NoneIsDue m (least_due (flat_lab d w.topology) H 0 (nodes w.topology))) end (c.in_default.ensures.none d H s) in
     let same = c.pass.ensures.rest in
     let turn = passes c.frame.ensures d w c.pass.new.self H c.args.out.now.event c.args.ms s past
-    (ap (λ (x : WorldState). x.moment) same ∙ end, ap (λ (x : WorldState). x.nodes) same, ap (λ (x : WorldState). x.wire) same, ap (λ (x : WorldState). x.done) same) in
+    (ap (λ (x : WorldState). x.moment) same ∙ end, ap (λ (x : WorldState). x.nodes) same, ap (λ (x : WorldState). x.wire) same, ap (λ (x : WorldState). x.done) same, ap (λ (x : WorldState). x.armed) same) in
     (c.pass.ensures.record_is ∙ ap (λ (m : ℕ). with_deed (fresh_record c.args.out.now.event m) (plain verb.Advance) None fate.Done) end ∙ turn.0, turn.1, turn.2)
 
 pub returns-in-Ok-clause-plays : goal.returns-in-Ok-clause-plays
@@ -51,7 +51,7 @@ returns-in-Ok-clause-plays c = λ d H s.
     let moment : due.tick.moment ≡ c.in-Some.due.moment.0 = ap (λ (y : Due). y.moment.0) due.is in
     let before = c.in-Some.ensures.early in
     ticks d w c.tick.new.self H c.args.out.now.event c.args.ms due.tick c.tick.new.out s due.least (omega (arith, end, before, moment))
-    (c.in-Ok.ensures.plays d H s (event.Advance c.args.ms) refl due.tick due.is (due_is_there (flat_lab d w.topology) H due.tick due.least))
+    (c.in-Ok.ensures.plays d H s (event.Advance c.args.ms) refl refl due.tick due.is (due_is_there (flat_lab d w.topology) H due.tick due.least))
 
 pub returns-in-Err-clause-plays : goal.returns-in-Err-clause-plays
 returns-in-Err-clause-plays c = λ d H s.
@@ -61,4 +61,4 @@ returns-in-Err-clause-plays c = λ d H s.
     let moment : due.tick.moment ≡ c.in-Some.due.moment.0 = ap (λ (y : Due). y.moment.0) due.is in
     let before = c.in-Some.ensures.early in
     tick_stops d w H c.args.out.now.event c.args.ms due.tick c.in-Err.stop s due.least (omega (arith, end, before, moment))
-    (c.in-Err.ensures.plays d H s (event.Advance c.args.ms) refl due.tick due.is (due_is_there (flat_lab d w.topology) H due.tick due.least))
+    (c.in-Err.ensures.plays d H s (event.Advance c.args.ms) refl refl due.tick due.is (due_is_there (flat_lab d w.topology) H due.tick due.least))

@@ -6,7 +6,7 @@ use Rattle.events.specs.declared.event.Event.{Event}
 use Rattle.history.specs.declared.act.Act.TheVariants as act
 use Rattle.history.specs.Full.{Full}
 use Rattle.legal.specs.Lab.{Draws, flat_lab}
-use Rattle.legal.specs.Past.{forgotten}
+use Rattle.legal.specs.Past.{forgotten, arms}
 use Rattle.legal.specs.Emit.{reaches, reach_node, route}
 use Rattle.legal.specs.Next.{numbered}
 use Rattle.world.specs.Wire.{WireState}
@@ -25,33 +25,33 @@ use Rattle.world.proofs.world.World.deliver.Goals as goal
 pub returns-in-Astray-clause-plays : goal.returns-in-Astray-clause-plays
 returns-in-Astray-clause-plays c =
     let w = c.self.inside in
-    let old = state_of w.topology.now w.moment.0 w.going w.nodes.items w.wire w.stopped in
+    let old = state_of w.topology.now w.moment.0 w.going w.armed w.nodes.items w.wire w.stopped in
     let item = item_lent c.in-Some.entry in
     let there : slice_get w.wire.items c.args.number ≡ Some item = sym c.get.ensures.lent ∙ ap (λ o. option_map item_lent o) c.in-Some.is in
     let x : Draws → List Full → Event → Delivery = λ d H e. record { draws = d; world = old; history = H; event = numbered c.args.out.now.event e; number = c.args.number; item = item } in
-    let is : (d : Draws) (H : List Full) (e : Event) → StandsFor d old H → forgotten (flat_lab d w.topology.now) e ≡ [] → IsDelivery (x d H e) = λ d H e s keeps. record { stands = s; there = there; within = c.in-Some.ensures.marked; keeps = keeps } in
+    let is : (d : Draws) (H : List Full) (e : Event) → StandsFor d old H → forgotten (flat_lab d w.topology.now) e ≡ [] → arms e ≡ None → IsDelivery (x d H e) = λ d H e s keeps mild. record { stands = s; there = there; within = c.in-Some.ensures.marked; keeps = keeps; mild = mild } in
     let nodes : (d : Draws) (H : List Full) → StandsFor d old H → NodesOf (flat_lab d w.topology.now) c.as_slice.result.now H = λ d H s. rw (c.as_slice.ensures.value) s.nodes in
     let fresh : c.args.out.now ≡ fresh_record c.args.out.now.event w.moment.0 = c.requires.fresh ∙ ap (λ (x : WorldState). fresh_record c.args.out.now.event x.moment) (sym c.self.view_is) in
-    rw (← c.self.view_is, c.say-in-Astray.ensures, fresh) (λ d H s e keeps.
+    rw (← c.self.view_is, c.say-in-Astray.ensures, fresh) (λ d H s e keeps mild.
     let goes = sym (c.route_of.ensures.route d H (nodes d H s)) ∙ ap (by_route w.topology.now) c.in-Astray.is in
-    subst (λ (z : WireState). Plays d old (state_of w.topology.now w.moment.0 w.going w.nodes.items z w.stopped) H (record_in (x d H e)) (Ok (with_deed (fresh_record c.args.out.now.event w.moment.0) (act.Deliver c.args.number) None fate.Nowhere))) (sym c.set_delivered.ensures) (answered.strays c.frame.ensures (x d H e) (is d H e s keeps) goes))
+    subst (λ (z : WireState). Plays d old (state_of w.topology.now w.moment.0 w.going w.armed w.nodes.items z w.stopped) H (record_in (x d H e)) (Ok (with_deed (fresh_record c.args.out.now.event w.moment.0) (act.Deliver c.args.number) None fate.Nowhere))) (sym c.set_delivered.ensures) (answered.strays c.frame.ensures (x d H e) (is d H e s keeps mild) goes))
 
 pub returns-in-Closed-clause-plays : goal.returns-in-Closed-clause-plays
 returns-in-Closed-clause-plays c =
     let w = c.self.inside in
-    let old = state_of w.topology.now w.moment.0 w.going w.nodes.items w.wire w.stopped in
+    let old = state_of w.topology.now w.moment.0 w.going w.armed w.nodes.items w.wire w.stopped in
     let item = item_lent c.in-Some.entry in
     let there : slice_get w.wire.items c.args.number ≡ Some item = sym c.get.ensures.lent ∙ ap (λ o. option_map item_lent o) c.in-Some.is in
     let x : Draws → List Full → Event → Delivery = λ d H e. record { draws = d; world = old; history = H; event = numbered c.args.out.now.event e; number = c.args.number; item = item } in
-    let is : (d : Draws) (H : List Full) (e : Event) → StandsFor d old H → forgotten (flat_lab d w.topology.now) e ≡ [] → IsDelivery (x d H e) = λ d H e s keeps. record { stands = s; there = there; within = c.in-Some.ensures.marked; keeps = keeps } in
+    let is : (d : Draws) (H : List Full) (e : Event) → StandsFor d old H → forgotten (flat_lab d w.topology.now) e ≡ [] → arms e ≡ None → IsDelivery (x d H e) = λ d H e s keeps mild. record { stands = s; there = there; within = c.in-Some.ensures.marked; keeps = keeps; mild = mild } in
     let nodes : (d : Draws) (H : List Full) → StandsFor d old H → NodesOf (flat_lab d w.topology.now) c.as_slice.result.now H = λ d H s. rw (c.as_slice.ensures.value) s.nodes in
     let fresh : c.args.out.now ≡ fresh_record c.args.out.now.event w.moment.0 = c.requires.fresh ∙ ap (λ (x : WorldState). fresh_record c.args.out.now.event x.moment) (sym c.self.view_is) in
-    rw (← c.self.view_is, c.say-in-Closed.ensures, fresh) (λ d H s e keeps.
+    rw (← c.self.view_is, c.say-in-Closed.ensures, fresh) (λ d H s e keeps mild.
     let goes = sym (c.route_of.ensures.route d H (nodes d H s)) ∙ ap (by_route w.topology.now) c.in-Closed.is in
-    subst (λ (z : WireState). Plays d old (state_of w.topology.now w.moment.0 w.going w.nodes.items z w.stopped) H (record_in (x d H e)) (Ok (with_deed (fresh_record c.args.out.now.event w.moment.0) (act.Deliver c.args.number) (Some c.in-Closed.nat) fate.NatClosed))) (sym c.set_delivered-in-Closed.ensures) (answered.shut_out c.frame.ensures (x d H e) c.in-Closed.nat (is d H e s keeps) goes))
+    subst (λ (z : WireState). Plays d old (state_of w.topology.now w.moment.0 w.going w.armed w.nodes.items z w.stopped) H (record_in (x d H e)) (Ok (with_deed (fresh_record c.args.out.now.event w.moment.0) (act.Deliver c.args.number) (Some c.in-Closed.nat) fate.NatClosed))) (sym c.set_delivered-in-Closed.ensures) (answered.shut_out c.frame.ensures (x d H e) c.in-Closed.nat (is d H e s keeps mild) goes))
 
 pub returns-in-Reaches-clause-plays : goal.returns-in-Reaches-clause-plays
-returns-in-Reaches-clause-plays c = λ d H s e keeps.
+returns-in-Reaches-clause-plays c = λ d H s e keeps mild.
     let w = c.self.inside in
     let same = c.self.view_is in
     let item = item_lent c.in-Some.entry in
@@ -62,8 +62,9 @@ returns-in-Reaches-clause-plays c = λ d H s e keeps.
       there = subst (λ (z : WorldState). slice_get z.wire c.args.number ≡ Some item) same there;
       within = subst (λ (z : WorldState). c.args.number < length z.done) same c.in-Some.ensures.marked;
       keeps = keeps;
+      mild = mild;
     } in
-    let before : StandsFor d (state_of w.topology.now w.moment.0 w.going w.nodes.items w.wire w.stopped) H = subst (λ (z : WorldState). StandsFor d z H) (sym same) s in
+    let before : StandsFor d (state_of w.topology.now w.moment.0 w.going w.armed w.nodes.items w.wire w.stopped) H = subst (λ (z : WorldState). StandsFor d z H) (sym same) s in
     let nodes : NodesOf (flat_lab d w.topology.now) c.as_slice.result.now H = rw (c.as_slice.ensures.value) before.nodes in
     let within : c.in-Reaches.node < length w.nodes.items = subst (λ (l : List PlayedNode). c.in-Reaches.node < length l) c.as_slice.ensures.value (subst (IsThere c.as_slice.result.now) c.in-Reaches.is c.route_of.ensures.there) in
     let here = there_within w.topology.now w.nodes.items c.in-Reaches.node c.self.invariant.rows within in
@@ -71,12 +72,12 @@ returns-in-Reaches-clause-plays c = λ d H s e keeps.
     sym (c.route_of.ensures.route d H nodes) ∙ ap (by_route w.topology.now) c.in-Reaches.is ∙ ap (reach_node c.in-Reaches.node) here.1 in
     answered.taken x c.act.new.self (played c.act.result c.act.new.out) c.in-Reaches.node here.0 is
     (subst (λ (z : WorldState). route (flat_lab d z.topology) H z.moment item ≡ reaches c.in-Reaches.node here.0) same goes)
-    (c.act.ensures.plays d H (record { nodes = s.nodes; wire = s.wire }) e keeps here.0 (subst (λ (z : WorldState). node_at z.topology c.in-Reaches.node ≡ Some here.0) same here.1))
+    (c.act.ensures.plays d H (record { nodes = s.nodes; wire = s.wire; armed = s.armed }) e keeps mild here.0 (subst (λ (z : WorldState). node_at z.topology c.in-Reaches.node ≡ Some here.0) same here.1))
 
 pub returns-in_default-clause-plays : goal.returns-in_default-clause-plays
 returns-in_default-clause-plays c =
     let w = c.self.inside in
-    let old = state_of w.topology.now w.moment.0 w.going w.nodes.items w.wire w.stopped in
+    let old = state_of w.topology.now w.moment.0 w.going w.armed w.nodes.items w.wire w.stopped in
     let none : slice_get w.wire.items c.args.number ≡ None = sym c.get.ensures.lent ∙ ap (λ o. option_map item_lent o) c.in_default.is in
     let fresh : c.args.out.now ≡ fresh_record c.args.out.now.event w.moment.0 = c.requires.fresh ∙ ap (λ (x : WorldState). fresh_record c.args.out.now.event x.moment) (sym c.self.view_is) in
-    rw (← c.self.view_is, c.say.ensures, fresh) (λ d H s e keeps. answered.missing c.frame.ensures d old H (numbered c.args.out.now.event e) c.args.number s keeps none)
+    rw (← c.self.view_is, c.say.ensures, fresh) (λ d H s e keeps mild. answered.missing c.frame.ensures d old H (numbered c.args.out.now.event e) c.args.number s keeps mild none)

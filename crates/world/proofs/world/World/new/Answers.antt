@@ -21,6 +21,7 @@ returns-clause-stands c = record {
   nodes = c.in_ok-nodes.ensures.kept [];
   wire = ap (λ (w : WireState). w.items) c.new.ensures;
   done = λ i. rw (c.new.ensures) refl;
+  armed = refl;
   left = refl;
   most = omega arith;
 }

@@ -5,7 +5,7 @@ use Rattle.events.specs.declared.event.Event.{Event}
 use Rattle.events.specs.declared.event.Event.TheVariants as event
 use Rattle.events.specs.declared.verb.Verb.TheVariants as verb
 use Rattle.legal.specs.Lab.{flat_lab}
-use Rattle.legal.specs.Laws.{is_advance}
+use Rattle.legal.specs.Laws.{may_go_on}
 use Rattle.legal.specs.Next.{numbered, hands_in, next_of}
 use Rattle.lab_nodes.specs.PlayedNode.{AreOf}
 use Rattle.world.specs.World.{WorldState}
@@ -14,10 +14,13 @@ use Rattle.world.proofs.Hands.{IsWithin, event_within}
 use Rattle.world.proofs.world.World.play_once.Goals as goal
 
 pub unreachable-requires : goal.unreachable-requires
-unreachable-requires c = false≢true (sym c.requires.once ∙ ap is_advance c.in-Advance.is)
+unreachable-requires c = false≢true (sym c.requires.once ∙ ap may_go_on c.in-Advance.is)
+
+pub unreachable-requires-in-Settle : goal.unreachable-requires-in-Settle
+unreachable-requires-in-Settle c = false≢true (sym c.requires.once ∙ ap may_go_on c.in-Settle.is)
 
 pub returns-in-Deliver-clause-plays : goal.returns-in-Deliver-clause-plays
-returns-in-Deliver-clause-plays c = rw (c.in-Deliver.is) (λ d H s. c.deliver.ensures.plays d H s (event.Deliver c.in-Deliver.number) refl)
+returns-in-Deliver-clause-plays c = rw (c.in-Deliver.is) (λ d H s. c.deliver.ensures.plays d H s (event.Deliver c.in-Deliver.number) refl refl)
 
 pub returns-in-Next-clause-plays : goal.returns-in-Next-clause-plays
 returns-in-Next-clause-plays c = rw (c.in-Next.is) c.deliver_next.ensures.plays
@@ -27,7 +30,7 @@ returns-in-Raw-clause-plays c = rw (c.in-Raw.is) (λ d H s.
     let e = event.Raw c.in-Raw.node c.in-Raw.bytes in
     let t = c.args.self.now.topology in
     subst (λ (x : List ℕ). Plays d c.args.self.now c.hand.new.self H (hands_in (flat_lab d t) H (numbered c.args.out.now.event e) verb.Raw c.in-Raw.node x (node_at t c.in-Raw.node)) (played c.hand.result c.hand.new.out)) c.as_slice-in-Raw.ensures
-    (c.hand.ensures.plays d H s e refl))
+    (c.hand.ensures.plays d H s e refl refl))
 
 pub returns-in-Stranger-clause-plays : goal.returns-in-Stranger-clause-plays
 returns-in-Stranger-clause-plays c = rw (c.in-Stranger.is) (λ d H s.

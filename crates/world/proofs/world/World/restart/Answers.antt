@@ -22,6 +22,6 @@ invariant_of-self c =
 pub returns-clause-plays : goal.returns-clause-plays
 returns-clause-plays c =
     let w = c.self.inside in
-    let old = state_of w.topology.now w.moment.0 w.going w.nodes.items w.wire w.stopped in
+    let old = state_of w.topology.now w.moment.0 w.going w.armed w.nodes.items w.wire w.stopped in
     let fresh : c.args.out.now ≡ fresh_record c.args.out.now.event w.moment.0 = c.requires.fresh ∙ ap (λ (x : WorldState). fresh_record c.args.out.now.event x.moment) (sym c.self.view_is) in
     rw (← c.self.view_is, c.say.ensures, fresh) (λ d H s. starts_anew c.frame.ensures d old c.restart_at.new.nodes.items H c.args.out.now.event c.args.number s c.restart_at.ensures.restarts)

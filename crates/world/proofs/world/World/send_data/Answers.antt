@@ -22,4 +22,4 @@ returns-clause-plays c = λ d H s.
     let bytes = c.write_data-len.ensures.written ∙ (λ i. packet_bytes (data_packet (src i) (dst i) c.args.body.now)) in
     let e = event.Host c.args.number c.args.to c.args.body.now in
     subst (λ (x : List ℕ). Plays d c.args.self.now c.hand.new.self H (hands_in (flat_lab d t) H (numbered c.args.out.now.event e) verb.Host c.args.number x (node_at t c.args.number)) (played c.hand.result c.hand.new.out)) bytes
-    (c.hand.ensures.plays d H s e refl)
+    (c.hand.ensures.plays d H s e refl refl)

@@ -22,4 +22,4 @@ returns-clause-plays c = λ d H s.
     let bytes = c.echo-bytes.ensures ∙ (λ i. packet_bytes (echo_packet (src i) (dst i) c.args.seq)) in
     let e = event.Echo c.args.number c.args.to c.args.seq in
     subst (λ (x : List ℕ). Plays d c.args.self.now c.hand.new.self H (hands_in (flat_lab d t) H (numbered c.args.out.now.event e) verb.Echo c.args.number x (node_at t c.args.number)) (played c.hand.result c.hand.new.out)) bytes
-    (c.hand.ensures.plays d H s e refl)
+    (c.hand.ensures.plays d H s e refl refl)

@@ -20,13 +20,17 @@ returns-in-Ok-clause-ok c =
       event = c.requires.event;
       again = c.requires.again open_still;
       stopped = open_still;
+      entries =
+          let count = c.len.ensures.count in
+          let most = c.len.ensures.most in
+          subst (λ (x : WorldState). length x.wire ≤ ENTRIES_MAX) c.self.view_is (omega (arith, count, most));
     } in
     let kept : IsKeptTo c.args.self.now c.play.new.self = record {
       ready = subst (λ (x : WorldState). AreReady x.moment x.nodes) c.self-2.view_is c.self-2.invariant.ready;
       time = c.play.ensures.time;
       entries =
-          let count = c.len.ensures.count in
-          let most = c.len.ensures.most in
+          let count = c.len-in-Ok.ensures.count in
+          let most = c.len-in-Ok.ensures.most in
           subst (λ (x : WorldState). length x.wire ≤ ENTRIES_MAX) c.self-2.view_is (omega (arith, count, most));
     } in
     let index : c.blank-record.result.event ≡ c.args.index = ap (λ (r : Record). r.event) c.blank-record.ensures in
