@@ -5,6 +5,7 @@ ghost use Rattle.client_rules.specs.Sendings.{EachSend};
 ghost use Rattle.client_rules.specs.Handed.{EachHanded, EachLate};
 ghost use Rattle.client_rules.specs.Numbers.{TestNumbers};
 ghost use Rattle.client_rules.specs.MadeSends.{EachStandingIsMade, EachSendIsBytes};
+ghost use Rattle.client_rules.specs.Told.{EachAddressIsTold};
 ghost use Rattle.client_rules.specs.ShortSends.{EachSendIsShort};
 
 /// What is done with a datagram has the fate of its line.
@@ -140,6 +141,15 @@ pub fn each_standing_is_made()
     qualify::turns_at_start();
     peer_list::first_waits();
     peer_list::one_entry();
+}
+
+/// Each address that a client gets embeds the origin in an advertisement from where its phase expects one.
+pub fn each_address_is_told()
+    ensures { EachAddressIsTold }
+{
+    bubble::payload_is_spelled();
+    teredo_addr::teredo_tells();
+    qualify::turns();
 }
 
 /// What a client sends are bytes, where what it was given are.

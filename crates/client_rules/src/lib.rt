@@ -28,6 +28,7 @@
 //! | what was seen where a fate is given | `specs/Warrants.antt` |
 //! | what holds of the tables, and of mentions | `specs/Laws.antt` |
 //! | what holds of address, waiting packets and trust | `specs/Epochs.antt` |
+//! | what sets a client's address | `specs/Told.antt` |
 //! | what is sent, and what is handed to the host | `specs/Sendings.antt`, `Handed.antt` |
 //! | that what is sent are bytes, and not too many | `specs/MadeSends.antt`, `ShortSends.antt` |
 #![tactic(auto)]
@@ -36,8 +37,8 @@ mod laws;
 mod limits;
 
 pub use laws::{
-    each_handed, each_late, each_send, each_send_is_bytes, each_send_is_short,
-    each_standing_is_made, fate_of_reception, fate_of_transmission, journal_has_few,
+    each_address_is_told, each_handed, each_late, each_send, each_send_is_bytes,
+    each_send_is_short, each_standing_is_made, fate_of_reception, fate_of_transmission, journal_has_few,
     journal_is_tried, next_mentions, none_queued, numbers_of_tests, qualified_has_address,
     qualified_stays, queued_is_own, reception_is_warranted, transmission_is_warranted, tries_touch,
     trusted_is_embedded, waiting_is_own, waiting_was_handed_in,

@@ -10,7 +10,7 @@ use Rattle.history.specs.declared.act.Act.{Act}
 use Rattle.history.specs.declared.act.Act.TheVariants as act
 use Rattle.history.specs.Full.{Full}
 use Rattle.legal.specs.Lab.{Lab}
-use Rattle.legal.specs.Past.{now, is_restart, new_journal, journal}
+use Rattle.legal.specs.Past.{now, is_restart, forgotten, new_journal, journal}
 use Rattle.legal.specs.Emit.{entry_of}
 use Rattle.legal.specs.Next.{Numbered, acts, plain, no_ep, dst_of, input_of}
 use Rattle.legal.specs.Kinds as kinds
@@ -18,7 +18,7 @@ use Rattle.legal.specs.Kinds.{Quiet, shut, strayed, missing, none_left, uncopied
 use Rattle.legal.specs.Actors as actors
 use Rattle.legal.specs.Actors.{IsGiven, IsActOf, Acted, idles, does, EachActs}
 use Rattle.legal.proofs.ByKind.{kind_of}
-use Rattle.legal.proofs.Growth.{hands_still}
+use Rattle.legal.proofs.Growth.{delivers_forget_none, hands_forget_none, hands_still}
 
 same_number : (n : ℕ) → (n == n) ≡ true
 same_number n = grind (arith, nat_tests)
@@ -37,11 +37,11 @@ module _ (lab : Lab) (H : List Full) (e : Numbered) (w : Act) (number : Option �
       ap (λ (b : Bool). cond b (cond (is_restart w) (new_journal m) (with_entry (journal n H) did)) (journal n H)) (same_number n)
       ∙ ap (λ (b : Bool). cond b (new_journal m) (with_entry (journal n H) did)) still
 
-  act_of : node_at lab.topology n ≡ Some a → is_restart w ≡ false → IsGiven lab H whole n a dst input → IsActOf lab H whole n a did
-  act_of at still g = record { there = at; node = refl; still = still; dst = dst; input = input; is_given = g; step = refl; entry = refl; later = next_journal still; address = refl; handed = refl; made = refl; passed = refl }
+  act_of : node_at lab.topology n ≡ Some a → is_restart w ≡ false → forgotten lab e.event ≡ [] → IsGiven lab H whole n a dst input → IsActOf lab H whole n a did
+  act_of at still lasting g = record { there = at; node = refl; still = still; lasting = lasting; dst = dst; input = input; is_given = g; step = refl; entry = refl; later = next_journal still; address = refl; handed = refl; made = refl; passed = refl }
 
-  acts_as : (r : Full) → r ≡ whole → node_at lab.topology n ≡ Some a → is_restart w ≡ false → IsGiven lab H r n a dst input → Acted lab H r
-  acts_as r is at still g = subst (Acted lab H) (sym is) (does n a did (act_of at still (subst (λ (z : Full). IsGiven lab H z n a dst input) is g)))
+  acts_as : (r : Full) → r ≡ whole → node_at lab.topology n ≡ Some a → is_restart w ≡ false → forgotten lab e.event ≡ [] → IsGiven lab H r n a dst input → Acted lab H r
+  acts_as r is at still lasting g = subst (Acted lab H) (sym is) (does n a did (act_of at still lasting (subst (λ (z : Full). IsGiven lab H z n a dst input) is g)))
 
 -- NONE DOES
 
@@ -66,13 +66,13 @@ acted_in lab H r (quiet entry address made passed why) = idles entry address (ha
 acted_in lab H r (put src dst bytes asked is) = nobody lab H r _ is refl refl refl refl
 acted_in lab H r (copied number src dst x asked at is) = nobody lab H r _ is refl refl refl refl
 acted_in lab H r (ticks ms x asked due within is) =
-    acts_as lab H (event_of r) act.Tick None (max x.moment (now H)) x.number no_ep ticked x.node r is due.there refl
+    acts_as lab H (event_of r) act.Tick None (max x.moment (now H)) x.number no_ep ticked x.node r is due.there refl (ap (forgotten lab) asked)
     (actors.ticks x due refl (ap (λ (z : Full). z.delivered) is) (ap (λ (z : Full). z.moment) is) refl refl)
 acted_in lab H r (handed v n x a hands at is) =
-    acts_as lab H (event_of r) (plain v) None (now H) n no_ep (given x) a r is at (hands_still lab H r.asked v n x hands)
+    acts_as lab H (event_of r) (plain v) None (now H) n no_ep (given x) a r is at (hands_still lab H r.asked v n x hands) (hands_forget_none lab H r.asked v n x hands)
     (actors.hosted v x hands (ap (λ (z : Full). z.delivered) is) (ap (λ (z : Full). z.moment) is) refl refl)
 acted_in lab H r (reached number n x a delivers at goes to is) =
-    acts_as lab H (event_of r) (act.Deliver number) (Some number) (now H) n (dst_of x) (input_of x) a r is to refl
+    acts_as lab H (event_of r) (act.Deliver number) (Some number) (now H) n (dst_of x) (input_of x) a r is to refl (delivers_forget_none lab H r.asked number delivers)
     (actors.delivered number x (ap (λ (z : Full). z.delivered) is) at goes (ap (λ (z : Full). z.moment) is) refl refl)
 
 pub each_acts : EachActs

@@ -7,7 +7,7 @@ use Rattle.topology.specs.Topology.{node_at}
 use Rattle.events.specs.declared.verb.Verb.{Verb}
 use Rattle.history.specs.Full.{Item, Full, wire}
 use Rattle.legal.specs.Lab.{Lab}
-use Rattle.legal.specs.Past.{now, is_restart, journal}
+use Rattle.legal.specs.Past.{now, is_restart, forgotten, journal}
 use Rattle.legal.specs.Emit.{reaches, route, entry_of, sendings, address_by, handed_by}
 use Rattle.legal.specs.Next.{Due, no_ep, dst_of, input_of}
 use Rattle.legal.specs.Kinds.{IsDue, Hands}
@@ -22,11 +22,12 @@ pub data IsGiven (lab : Lab) (H : List Full) (r : Full) (n : ℕ) (a : Node) (ds
   ticks : (x : Due) → IsDue lab H x → x.number ≡ n → r.delivered ≡ None
       → r.moment ≡ max x.moment (now H) → dst ≡ no_ep → input ≡ ticked → IsGiven lab H r n a dst input
 
--- the record is of node n, which is a, and e is what the node did
+-- the record is of node n, which is a, and e is what the node did. No node starts anew, and no NAT forgets anybody
 pub record IsActOf (lab : Lab) (H : List Full) (r : Full) (n : ℕ) (a : Node) (e : Entry) : Type 0 where
   pub there : node_at lab.topology n ≡ Some a
   pub node : r.node ≡ Some n
   pub still : is_restart r.act ≡ false
+  pub lasting : forgotten lab r.asked ≡ []
   pub dst : Ep
   pub input : Input
   pub is_given : IsGiven lab H r n a dst input

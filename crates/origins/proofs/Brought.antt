@@ -103,7 +103,7 @@ pub record BroughtLaws : Type 0 where
   pub clients : EachClientIsJournal
   pub handed : EachHanded
 
-is_client : (a : Node) (c : ClientNode) → as_client a ≡ Some c → a ≡ client c
+pub is_client : (a : Node) (c : ClientNode) → as_client a ≡ Some c → a ≡ client c
 is_client (server x) c e = absurd (false≢true (ap (λ (o : Option ClientNode). is_some o) e))
 is_client (nat x) c e = absurd (false≢true (ap (λ (o : Option ClientNode). is_some o) e))
 is_client (client x) c e = ap (λ (o : Option ClientNode). client (unwrap_or o x)) e

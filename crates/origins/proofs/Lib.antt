@@ -2,3 +2,4 @@ mod SentFrom
 mod SentOn
 mod Brought
 mod Whence
+mod Live

@@ -101,13 +101,13 @@ in_epoch (e ∷ es) q c = by (is_changed e.step.fate) c (in_epoch es q) where
 -- WHAT ISN'T HANDED OVER
 
 -- a client's server
-record HasServer (t : TopologyState) (c : ClientNode) : Type 0 where
-  row : ServerNode
-  there : node_at t c.server ≡ Some (server row)
-  primary : (client_settings t c).primary ≡ row.primary
-  secondary : (client_settings t c).secondary ≡ row.secondary
+pub record HasServer (t : TopologyState) (c : ClientNode) : Type 0 where
+  pub row : ServerNode
+  pub there : node_at t c.server ≡ Some (server row)
+  pub primary : (client_settings t c).primary ≡ row.primary
+  pub secondary : (client_settings t c).secondary ≡ row.secondary
 
-its_server : (t : TopologyState) (c : ClientNode) → is_some (server_at t c.server) ≡ true → HasServer t c
+pub its_server : (t : TopologyState) (c : ClientNode) → is_some (server_at t c.server) ≡ true → HasServer t c
 its_server t c some = by (node_at t c.server) refl some where
   by : (o : Option Node) → node_at t c.server ≡ o → is_some (option_and_then as_server o) ≡ true → HasServer t c
   by None e h = absurd (false≢true h)
@@ -121,10 +121,10 @@ abbrev is_nat : Node → Bool
 is_nat (nat a) = true
 is_nat _ = false
 
-primary_has : (a : ServerNode) → has_address a.primary (server a) ≡ true
+pub primary_has : (a : ServerNode) → has_address a.primary (server a) ≡ true
 primary_has a = ap (λ (b : Bool). b || (same_ip a.primary a.secondary || false)) (same_ip-self a.primary)
 
-secondary_has : (a : ServerNode) → has_address a.secondary (server a) ≡ true
+pub secondary_has : (a : ServerNode) → has_address a.secondary (server a) ≡ true
 secondary_has a = by (same_ip a.secondary a.primary) (same_ip a.secondary a.secondary) (same_ip-self a.secondary) where
   by : (b c : Bool) → c ≡ true → (b || (c || false)) ≡ true
   by true c h = refl

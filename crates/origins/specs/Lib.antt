@@ -3,3 +3,4 @@ pub mod Sources
 pub mod Senders
 pub mod Handed
 pub mod Origin
+pub mod Live

@@ -3,6 +3,7 @@ ghost use Rattle.origins.specs.Sources.{EachHasOwnSource};
 ghost use Rattle.origins.specs.Senders.{EachTellsWhereTo, EachComesFromClient};
 ghost use Rattle.origins.specs.Handed.{EachIsBrought};
 ghost use Rattle.origins.specs.Origin.{EachHasOrigin};
+ghost use Rattle.origins.specs.Live.{EachIsLive, EachIsHeld};
 
 /// In an honest history an entry from a node's address is the node's, or that of a client behind it.
 pub fn own_sources()
@@ -67,3 +68,23 @@ pub fn has_origin()
     bubble::bubble_reads_back();
     bubble::packet_is_payload();
 }
+
+/// In an honest history each address that a client gets embeds an endpoint that leads to the client.
+pub fn is_live()
+    ensures { EachIsLive }
+{
+    tells_where_to();
+    topology::each_node();
+    legal::acted();
+    legal::routes();
+    legal::frame();
+    legal::client_journals();
+    legal::wire_is_made();
+    client_rules::each_address_is_told();
+    nat_kinds::owner_is_reached();
+}
+
+/// Where no NAT is behind another one this is the address of the client's NAT, and a port that it holds for the client.
+pub fn is_held()
+    ensures { EachIsHeld }
+{}

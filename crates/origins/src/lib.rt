@@ -1,4 +1,4 @@
-//! Whence packets come that clients' hosts are handed, in every history.
+//! Whence packets come that clients' hosts are handed, and what clients' addresses embed, in every history.
 //!
 //! # What the layer above may rely on
 //!
@@ -6,6 +6,7 @@
 //!   the endpoint that this embeds, whatever strangers do (`specs/Handed.antt`).
 //! - Such a packet was put onto the wire there by a named event, or a client's host had handed it in,
 //!   byte for byte, while the client's address was that source (`specs/Origin.antt`).
+//! - In an honest scenario each address that a client gets embeds an endpoint that leads to the client (`specs/Live.antt`).
 //! - In an honest scenario a datagram from a node's address is the node's, or of a client behind it (`specs/Sources.antt`),
 //!   and what a server says of its origin is where it goes (`specs/Senders.antt`).
 //!
@@ -23,8 +24,11 @@
 //! | what servers and relays send | `specs/Senders.antt` |
 //! | what brought a packet to a host | `specs/Handed.antt` |
 //! | whence it came | `specs/Origin.antt` |
+//! | what an address embeds | `specs/Live.antt` |
 #![tactic(auto)]
 
 mod laws;
 
-pub use laws::{comes_from_clients, has_origin, is_brought, own_sources, tells_where_to};
+pub use laws::{
+    comes_from_clients, has_origin, is_brought, is_held, is_live, own_sources, tells_where_to,
+};

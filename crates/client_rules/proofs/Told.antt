@@ -1,0 +1,138 @@
+-- What sets a client's address.
+use Rattle.std.proofs.Common.{◌≡◌, ℕ, ◌<◌, Bool, true, false, cond, List, [], Option, Some, None, refl, sym, ap, subst, ◌∙◌, arith}
+use Rattle.std.specs.Prelude.{IfSome, unwrap_or, is_some, option_map, ◌^◌}
+use Rattle.std.proofs.lemmas.Bool.{false≢true}
+use Rattle.td_base.specs.Ep.{IsEp, same_ep-true}
+use Rattle.td_base.specs.declared.endpoint.Ep.{Ep}
+use Rattle.td_base.specs.declared.ipv6.Ip6.{Ip6}
+use Rattle.teredo_addr.specs.Teredo.{has_cone, flags_of, embedded}
+use Rattle.teredo_addr.specs.Laws.{TeredoTells}
+use Rattle.indications.specs.declared.blocks.Auth.{Auth}
+use Rattle.bubble.specs.Payloads.{Value}
+use Rattle.bubble.specs.Reads.{value_in}
+use Rattle.bubble.specs.Laws.{PayloadIsSpelled}
+use Rattle.bubble.specs.PacketsIn.{source_in}
+use Rattle.bubble.proofs.MadeInputs.{origin_is}
+use Rattle.teredo_node.specs.declared.fate.Fate.{Fate}
+use Rattle.teredo_node.specs.declared.fate.Fate.TheVariants as fate
+use Rattle.teredo_node.specs.Journal.{Input, arrived, given, from_six, ticked, Entry, Journal, Words, with_entry}
+use Rattle.teredo_node.specs.MadeInputs.{IsMadeInput}
+use Rattle.qualify.specs.declared.settings.Settings.{Settings}
+use Rattle.qualify.specs.Advertisements.{Heard, is_one_of, heard}
+use Rattle.qualify.specs.Turns.{Turn, qualifies, is_changed as changes, turn, turn_of, leaves, begins, origin_given}
+use Rattle.qualify.specs.Qualification.{Qualification, qualification, address_of, address_after}
+use Rattle.qualify.specs.Solicitations.{expected}
+use Rattle.qualify.specs.Laws.{fresh, goes_on, tidings, Turns}
+use Rattle.client_rules.specs.Standing.{Standing, standing_of, standing_at}
+use Rattle.client_rules.specs.Reception.{Seen, seen, reception_fate, reception_step, reception}
+use Rattle.client_rules.specs.Warrants.{IsAdvert, ReceivedOnlyIf}
+use Rattle.client_rules.specs.Journals.{client_in, client_entry, Follows}
+use Rattle.client_rules.specs.MadeSends.{IsMadeClient}
+use Rattle.client_rules.specs.Told.{sets_address, IsToldAddress, EachAddressIsTold}
+use Rattle.client_rules.proofs.Entered.{sets, IsEffect, of_entry}
+use Rattle.client_rules.proofs.Fates.{fate_of_reception}
+use Rattle.client_rules.proofs.Received.{reception_is_warranted}
+
+pub record ToldLaws : Type 0 where
+  pub payload : PayloadIsSpelled
+  pub teredo : TeredoTells
+  pub turns : Turns
+
+-- WHAT THE ADDRESS EMBEDS
+
+-- an address embeds this origin
+abbrev Embeds : Option Ep → Option Ip6 → Type 0
+Embeds o a = IfSome a (λ p. o ≡ Some (embedded p))
+
+made_of : TeredoTells → (s : Settings) (cone : Bool) (o : Option Ep) → IsMadeClient s → IfSome o IsEp → Embeds o (address_of s cone o)
+made_of law s cone None made h = tt
+made_of law s cone (Some ep) made h = ap (λ (e : Ep). Some e) (sym (law s.primary (flags_of cone) ep made.primary (few cone) h).mapped_is) where
+  few : (b : Bool) → flags_of b < 2 ^ 16
+  few true = omega arith
+  few false = omega arith
+
+embeds_after : TeredoTells → (s : Settings) (t : Turn) (o : Option Ep) (a : Option Ip6) → IsMadeClient s → IfSome o IsEp → sets_address t ≡ true → Embeds o (address_after s t o a)
+embeds_after law s (qualifies cone) o a made h set = made_of law s cone o made h
+embeds_after law s changes o None made h set = tt
+embeds_after law s changes o (Some p) made h set = made_of law s (has_cone p) o made h
+embeds_after law s _ o a made h set = absurd (false≢true set)
+
+origin_made : PayloadIsSpelled → (input : Input) → IsMadeInput input → IfSome (origin_given input) IsEp
+origin_made law (arrived from x) h = origin_is law x h.1
+origin_made law (given x) h = tt
+origin_made law (from_six x) h = tt
+origin_made law ticked h = tt
+
+embeds : ToldLaws → (s : Settings) (j : Journal) (e : Entry) → IsMadeClient s → IsMadeInput e.input → sets_address (turn_of e) ≡ true → Embeds (origin_given e.input) (qualification s (with_entry j e)).address
+embeds laws s j e made h set =
+    subst (λ (q : Qualification). Embeds (origin_given e.input) q.address) (sym (laws.turns s j e)) (by (leaves (qualification s j).phase (turn_of e)))
+  where
+    by : (b : Bool) → Embeds (origin_given e.input) (goes_on s (tidings s e) (cond b (fresh (unwrap_or (begins (turn_of e)) (qualification s j).phase) e.moment) (qualification s j))).address
+    by true = embeds_after laws.teredo s (turn_of e) (origin_given e.input) None made (origin_made laws.payload e.input h) set
+    by false = embeds_after laws.teredo s (turn_of e) (origin_given e.input) (qualification s j).address made (origin_made laws.payload e.input h) set
+
+-- WHAT CAME
+
+-- only an advertisement sets the address
+advert_of : (f : Fate) (a : Seen) (h : Heard) → ReceivedOnlyIf f a h → sets_address (turn f) ≡ true → IsAdvert f a h
+advert_of fate.QualifiedCone a h only set = only
+advert_of fate.QualifiedRestricted a h only set = only
+advert_of fate.Changed a h only set = only
+advert_of _ a h only set = absurd (false≢true set)
+
+-- and nothing is sent for it
+sends_none : (s : Settings) (a : Standing) (from : Ep) (x : List ℕ) (v : Value) (w : Words) (f : Fate) → sets_address (turn f) ≡ true → (reception_step s a from x v w f).sends ≡ []
+sends_none s a from x v w fate.QualifiedCone set = refl
+sends_none s a from x v w fate.QualifiedRestricted set = refl
+sends_none s a from x v w fate.Changed set = refl
+sends_none s a from x v w _ set = absurd (false≢true set)
+
+has_auth : (ns : List ℕ) (o : Option Auth) → is_one_of ns (option_map (λ (a : Auth). a.nonce) o) ≡ true → is_some o ≡ true
+has_auth ns None h = absurd (false≢true h)
+has_auth ns (Some a) h = refl
+
+-- what is known of the datagram
+record IsHeard (s : Settings) (q : Qualification) (from : Ep) (x : List ℕ) (e : Entry) : Type 0 where
+  source : from ≡ expected s q
+  auth : is_some (value_in x).lead.auth ≡ true
+  quiet : e.step.sends ≡ []
+
+heard_as : (s : Settings) (j : Journal) (n : ℕ) (from : Ep) (x : List ℕ) (w : Words) → sets_address (turn_of (client_in s j n from x w)) ≡ true → IsHeard s (qualification s j) from x (client_in s j n from x w)
+unfolding client_in reception standing_at
+heard_as s j n from x w set =
+    let a : Standing = standing_of s j n (source_in x) in
+    let f : Fate = reception_fate s a from x in
+    let sets_f : sets_address (turn f) ≡ true = ap (λ (g : Fate). sets_address (turn g)) (sym (fate_of_reception s a from x w)) ∙ set in
+    let advert : IsAdvert f (seen s a from x) (heard s a.qualification from (value_in x)) = advert_of f (seen s a from x) (heard s a.qualification from (value_in x)) (reception_is_warranted s a from x) sets_f in
+    record {
+      source = same_ep-true from (expected s (qualification s j)) advert.from_expected;
+      auth = has_auth (qualification s j).open_nonces (value_in x).lead.auth advert.open_nonce;
+      quiet = sends_none s a from x (value_in x) w f sets_f;
+    }
+
+-- THE ENTRY
+
+alike : (t : Turn) → sets_address t ≡ true → sets t ≡ true
+alike (qualifies cone) h = refl
+alike changes h = refl
+alike _ h = absurd (false≢true h)
+
+told_of : (s : Settings) (j : Journal) (n : ℕ) (input : Input) (w : Words) (own : Ip6) → sets_address (turn_of (client_entry s j n input w)) ≡ true → is_some (origin_given input) ≡ true → origin_given input ≡ Some (embedded own)
+    → (client_entry s j n input w).input ≡ input → IsToldAddress s j (client_entry s j n input w) own
+told_of s j n (arrived from x) w own set some embeds_it same =
+    let one = heard_as s j n from x w set in
+    record { from = from; bytes = x; came = same; source = one.source; auth = one.auth; told = embeds_it; quiet = one.quiet }
+told_of s j n (given x) w own set some embeds_it same = absurd (false≢true some)
+told_of s j n (from_six x) w own set some embeds_it same = absurd (false≢true some)
+told_of s j n ticked w own set some embeds_it same = absurd (false≢true some)
+
+pub each_address_is_told : ToldLaws → EachAddressIsTold
+each_address_is_told laws s j e own is made h set address =
+    let f : Follows s j e = is.0 in
+    let whole : e ≡ client_entry s j e.moment e.input f.words = f.is in
+    let set_it : sets_address (turn_of (client_entry s j e.moment e.input f.words)) ≡ true = subst (λ (z : Entry). sets_address (turn_of z) ≡ true) whole set in
+    let effect : IsEffect (qualification s j) (client_entry s j e.moment e.input f.words) = of_entry s j e.moment e.input f.words in
+    let same : (client_entry s j e.moment e.input f.words).input ≡ e.input = ap (λ (z : Entry). z.input) (sym whole) in
+    let some : is_some (origin_given e.input) ≡ true = ap (λ (i : Input). is_some (origin_given i)) (sym same) ∙ effect.told (alike (turn_of (client_entry s j e.moment e.input f.words)) set_it) in
+    let told = subst (λ (o : Option Ip6). IfSome o (λ p. origin_given e.input ≡ Some (embedded p))) address (embeds laws s j e made h set) in
+    subst (λ (z : Entry). IsToldAddress s j z own) (sym whole) (told_of s j e.moment e.input f.words own set_it some told same)
