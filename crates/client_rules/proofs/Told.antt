@@ -1,12 +1,12 @@
 -- What sets a client's address.
-use Rattle.std.proofs.Common.{◌≡◌, ℕ, ◌<◌, Bool, true, false, cond, List, [], Option, Some, None, refl, sym, ap, subst, ◌∙◌, arith}
-use Rattle.std.specs.Prelude.{IfSome, unwrap_or, is_some, option_map, ◌^◌}
+use Rattle.std.proofs.Common.{◌≡◌, ℕ, Bool, true, false, cond, List, [], Option, Some, None, refl, sym, ap, subst, ◌∙◌, arith}
+use Rattle.std.specs.Prelude.{IfSome, unwrap_or, is_some, option_map}
 use Rattle.std.proofs.lemmas.Bool.{false≢true}
 use Rattle.td_base.specs.Ep.{IsEp, same_ep-true}
 use Rattle.td_base.specs.declared.endpoint.Ep.{Ep}
 use Rattle.td_base.specs.declared.ipv6.Ip6.{Ip6}
 use Rattle.teredo_addr.specs.Teredo.{has_cone, flags_of, embedded}
-use Rattle.teredo_addr.specs.Laws.{TeredoTells}
+use Rattle.teredo_addr.specs.Laws.{TeredoTells, FlagsTell}
 use Rattle.indications.specs.declared.blocks.Auth.{Auth}
 use Rattle.bubble.specs.Payloads.{Value}
 use Rattle.bubble.specs.Reads.{value_in}
@@ -19,7 +19,7 @@ use Rattle.teredo_node.specs.Journal.{Input, arrived, given, from_six, ticked, E
 use Rattle.teredo_node.specs.MadeInputs.{IsMadeInput}
 use Rattle.qualify.specs.declared.settings.Settings.{Settings}
 use Rattle.qualify.specs.Advertisements.{Heard, is_one_of, heard}
-use Rattle.qualify.specs.Turns.{Turn, qualifies, is_changed as changes, turn, turn_of, leaves, begins, origin_given}
+use Rattle.qualify.specs.Turns.{Turn, qualifies, is_changed as changes, turn, turn_of, leaves, begins, origin_given, flags_word}
 use Rattle.qualify.specs.Qualification.{Qualification, qualification, address_of, address_after}
 use Rattle.qualify.specs.Solicitations.{expected}
 use Rattle.qualify.specs.Laws.{fresh, goes_on, tidings, Turns}
@@ -36,6 +36,7 @@ use Rattle.client_rules.proofs.Received.{reception_is_warranted}
 pub record ToldLaws : Type 0 where
   pub payload : PayloadIsSpelled
   pub teredo : TeredoTells
+  pub flags : FlagsTell
   pub turns : Turns
 
 -- WHAT THE ADDRESS EMBEDS
@@ -44,18 +45,15 @@ pub record ToldLaws : Type 0 where
 abbrev Embeds : Option Ep → Option Ip6 → Type 0
 Embeds o a = IfSome a (λ p. o ≡ Some (embedded p))
 
-made_of : TeredoTells → (s : Settings) (cone : Bool) (o : Option Ep) → IsMadeClient s → IfSome o IsEp → Embeds o (address_of s cone o)
-made_of law s cone None made h = tt
-made_of law s cone (Some ep) made h = ap (λ (e : Ep). Some e) (sym (law s.primary (flags_of cone) ep made.primary (few cone) h).mapped_is) where
-  few : (b : Bool) → flags_of b < 2 ^ 16
-  few true = omega arith
-  few false = omega arith
+made_of : ToldLaws → (s : Settings) (cone : Bool) (w : Option ℕ) (o : Option Ep) → IsMadeClient s → IfSome o IsEp → Embeds o (address_of s cone w o)
+made_of laws s cone w None made h = tt
+made_of laws s cone w (Some ep) made h = ap (λ (e : Ep). Some e) (sym (laws.teredo s.primary (flags_of cone w) ep made.primary (laws.flags cone w).sixteen h).mapped_is)
 
-embeds_after : TeredoTells → (s : Settings) (t : Turn) (o : Option Ep) (a : Option Ip6) → IsMadeClient s → IfSome o IsEp → sets_address t ≡ true → Embeds o (address_after s t o a)
-embeds_after law s (qualifies cone) o a made h set = made_of law s cone o made h
-embeds_after law s changes o None made h set = tt
-embeds_after law s changes o (Some p) made h set = made_of law s (has_cone p) o made h
-embeds_after law s _ o a made h set = absurd (false≢true set)
+embeds_after : ToldLaws → (s : Settings) (t : Turn) (w : Option ℕ) (o : Option Ep) (a : Option Ip6) → IsMadeClient s → IfSome o IsEp → sets_address t ≡ true → Embeds o (address_after s t w o a)
+embeds_after laws s (qualifies cone) w o a made h set = made_of laws s cone w o made h
+embeds_after laws s changes w o None made h set = tt
+embeds_after laws s changes w o (Some p) made h set = made_of laws s (has_cone p) w o made h
+embeds_after laws s _ w o a made h set = absurd (false≢true set)
 
 origin_made : PayloadIsSpelled → (input : Input) → IsMadeInput input → IfSome (origin_given input) IsEp
 origin_made law (arrived from x) h = origin_is law x h.1
@@ -68,8 +66,8 @@ embeds laws s j e made h set =
     subst (λ (q : Qualification). Embeds (origin_given e.input) q.address) (sym (laws.turns s j e)) (by (leaves (qualification s j).phase (turn_of e)))
   where
     by : (b : Bool) → Embeds (origin_given e.input) (goes_on s (tidings s e) (cond b (fresh (unwrap_or (begins (turn_of e)) (qualification s j).phase) e.moment) (qualification s j))).address
-    by true = embeds_after laws.teredo s (turn_of e) (origin_given e.input) None made (origin_made laws.payload e.input h) set
-    by false = embeds_after laws.teredo s (turn_of e) (origin_given e.input) (qualification s j).address made (origin_made laws.payload e.input h) set
+    by true = embeds_after laws s (turn_of e) (flags_word s e.words) (origin_given e.input) None made (origin_made laws.payload e.input h) set
+    by false = embeds_after laws s (turn_of e) (flags_word s e.words) (origin_given e.input) (qualification s j).address made (origin_made laws.payload e.input h) set
 
 -- WHAT CAME
 

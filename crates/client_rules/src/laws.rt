@@ -137,6 +137,7 @@ pub fn each_standing_is_made()
     bubble::payload_is_spelled();
     ipv6_packet::packet_is_spelled();
     teredo_addr::teredo_tells();
+    teredo_addr::flags_tell();
     qualify::turns();
     qualify::turns_at_start();
     peer_list::first_waits();
@@ -149,6 +150,7 @@ pub fn each_address_is_told()
 {
     bubble::payload_is_spelled();
     teredo_addr::teredo_tells();
+    teredo_addr::flags_tell();
     qualify::turns();
 }
 
@@ -178,6 +180,7 @@ pub fn each_send_is_short()
     bubble::payload_is_spelled();
     ipv6_packet::packet_is_spelled();
     teredo_addr::teredo_tells();
+    teredo_addr::flags_tell();
     qualify::turns();
     qualify::turns_at_start();
     peer_list::first_waits();

@@ -14,7 +14,7 @@ use Rattle.legal.specs.Past.{now, is_restart, forgotten, new_journal, journal}
 use Rattle.legal.specs.Emit.{entry_of}
 use Rattle.legal.specs.Next.{Numbered, acts, plain, no_ep, dst_of, input_of}
 use Rattle.legal.specs.Kinds as kinds
-use Rattle.legal.specs.Kinds.{Quiet, shut, strayed, missing, none_left, uncopied, hosted, restarted, forgot, Kind, quiet, put, copied, ticks, handed, reached, event_of}
+use Rattle.legal.specs.Kinds.{Quiet, shut, strayed, missing, none_left, settled, uncopied, hosted, restarted, forgot, faulted, Kind, quiet, put, copied, ticks, handed, reached, event_of}
 use Rattle.legal.specs.Actors as actors
 use Rattle.legal.specs.Actors.{IsGiven, IsActOf, Acted, idles, does, EachActs}
 use Rattle.legal.proofs.ByKind.{kind_of}
@@ -38,33 +38,35 @@ module _ (lab : Lab) (H : List Full) (e : Numbered) (w : Act) (number : Option �
       ∙ ap (λ (b : Bool). cond b (new_journal m) (with_entry (journal n H) did)) still
 
   act_of : node_at lab.topology n ≡ Some a → is_restart w ≡ false → forgotten lab e.event ≡ [] → IsGiven lab H whole n a dst input → IsActOf lab H whole n a did
-  act_of at still lasting g = record { there = at; node = refl; still = still; lasting = lasting; dst = dst; input = input; is_given = g; step = refl; entry = refl; later = next_journal still; address = refl; handed = refl; made = refl; passed = refl }
+  act_of at still lasting g = record { there = at; node = refl; still = still; lasting = lasting; dst = dst; input = input; is_given = g; step = refl; entry = refl; later = next_journal still; address = refl; handed = refl; late = refl; made = refl; passed = refl }
 
   acts_as : (r : Full) → r ≡ whole → node_at lab.topology n ≡ Some a → is_restart w ≡ false → forgotten lab e.event ≡ [] → IsGiven lab H r n a dst input → Acted lab H r
   acts_as r is at still lasting g = subst (Acted lab H) (sym is) (does n a did (act_of at still lasting (subst (λ (z : Full). IsGiven lab H z n a dst input) is g)))
 
 -- NONE DOES
 
-hands_nothing : (lab : Lab) (H : List Full) (r : Full) → Quiet lab H r → r.handed ≡ None
-hands_nothing lab H r (kinds.passed ms asked before is) = ap (λ (z : Full). z.handed) is
-hands_nothing lab H r (shut number k x delivers at closed is) = ap (λ (z : Full). z.handed) is
-hands_nothing lab H r (strayed number x delivers at lost is) = ap (λ (z : Full). z.handed) is
-hands_nothing lab H r (missing number delivers at is) = ap (λ (z : Full). z.handed) is
-hands_nothing lab H r (none_left asked none is) = ap (λ (z : Full). z.handed) is
-hands_nothing lab H r (uncopied number src dst asked at is) = ap (λ (z : Full). z.handed) is
-hands_nothing lab H r (hosted v n x hands at is) = ap (λ (z : Full). z.handed) is
-hands_nothing lab H r (restarted n asked is) = ap (λ (z : Full). z.handed) is
-hands_nothing lab H r (forgot n who asked is) = ap (λ (z : Full). z.handed) is
+hands_nothing : (lab : Lab) (H : List Full) (r : Full) → Quiet lab H r → (r.handed ≡ None) × (r.late ≡ [])
+hands_nothing lab H r (kinds.passed ms asked before is) = (ap (λ (z : Full). z.handed) is, ap (λ (z : Full). z.late) is)
+hands_nothing lab H r (shut number k x delivers at closed is) = (ap (λ (z : Full). z.handed) is, ap (λ (z : Full). z.late) is)
+hands_nothing lab H r (strayed number x delivers at lost is) = (ap (λ (z : Full). z.handed) is, ap (λ (z : Full). z.late) is)
+hands_nothing lab H r (missing number delivers at is) = (ap (λ (z : Full). z.handed) is, ap (λ (z : Full). z.late) is)
+hands_nothing lab H r (none_left asked none is) = (ap (λ (z : Full). z.handed) is, ap (λ (z : Full). z.late) is)
+hands_nothing lab H r (settled asked none is) = (ap (λ (z : Full). z.handed) is, ap (λ (z : Full). z.late) is)
+hands_nothing lab H r (uncopied number src dst asked at is) = (ap (λ (z : Full). z.handed) is, ap (λ (z : Full). z.late) is)
+hands_nothing lab H r (hosted v n x hands at is) = (ap (λ (z : Full). z.handed) is, ap (λ (z : Full). z.late) is)
+hands_nothing lab H r (restarted n asked is) = (ap (λ (z : Full). z.handed) is, ap (λ (z : Full). z.late) is)
+hands_nothing lab H r (forgot n who asked is) = (ap (λ (z : Full). z.handed) is, ap (λ (z : Full). z.late) is)
+hands_nothing lab H r (faulted send asked is) = (ap (λ (z : Full). z.handed) is, ap (λ (z : Full). z.late) is)
 
-nobody : (lab : Lab) (H : List Full) (r q : Full) → r ≡ q → q.entry ≡ None → q.address ≡ None → q.handed ≡ None → q.passed ≡ [] → Acted lab H r
-nobody lab H r q is entry address hands lets = subst (Acted lab H) (sym is) (idles entry address hands lets)
+nobody : (lab : Lab) (H : List Full) (r q : Full) → r ≡ q → q.entry ≡ None → q.address ≡ None → q.handed ≡ None → q.late ≡ [] → q.passed ≡ [] → Acted lab H r
+nobody lab H r q is entry address hands late lets = subst (Acted lab H) (sym is) (idles entry address hands late lets)
 
 -- ANY RECORD
 
 pub acted_in : (lab : Lab) (H : List Full) (r : Full) → Kind lab H r → Acted lab H r
-acted_in lab H r (quiet entry address made passed why) = idles entry address (hands_nothing lab H r why) passed
-acted_in lab H r (put src dst bytes asked is) = nobody lab H r _ is refl refl refl refl
-acted_in lab H r (copied number src dst x asked at is) = nobody lab H r _ is refl refl refl refl
+acted_in lab H r (quiet entry address made passed why) = idles entry address (hands_nothing lab H r why).0 (hands_nothing lab H r why).1 passed
+acted_in lab H r (put src dst bytes asked is) = nobody lab H r _ is refl refl refl refl refl
+acted_in lab H r (copied number src dst x asked at is) = nobody lab H r _ is refl refl refl refl refl
 acted_in lab H r (ticks ms x asked due within is) =
     acts_as lab H (event_of r) act.Tick None (max x.moment (now H)) x.number no_ep ticked x.node r is due.there refl (ap (forgotten lab) asked)
     (actors.ticks x due refl (ap (λ (z : Full). z.delivered) is) (ap (λ (z : Full). z.moment) is) refl refl)

@@ -26,7 +26,7 @@ use Rattle.legal.specs.Past.{now, is_node, is_restart, forgotten, at_nat, nat_pa
 use Rattle.legal.specs.Emit.{is_at_place, crossing_unless, by_way, entry_of}
 use Rattle.legal.specs.Next.{Numbered, acts, plain, no_ep, dst_of, input_of}
 use Rattle.legal.specs.Kinds as kinds
-use Rattle.legal.specs.Kinds.{Delivers, Hands, Quiet, shut, strayed, missing, none_left, uncopied, hosted, restarted, forgot, Kind, quiet, put, copied, ticks, handed, reached, event_of}
+use Rattle.legal.specs.Kinds.{Delivers, Hands, Quiet, shut, strayed, missing, none_left, settled, uncopied, hosted, restarted, forgot, faulted, Kind, quiet, put, copied, ticks, handed, reached, event_of}
 use Rattle.legal.specs.NatGrowth.{ComesBy, IsOutOf, NatGrows, stays, restarts, forgets, lets_out, EachNatGrows}
 use Rattle.legal.proofs.ByKind.{kind_of}
 use Rattle.legal.proofs.Framed.{is_node-true}
@@ -142,10 +142,12 @@ module _ (lab : Lab) (H : List Full) (r : Full) (k : ℕ) where
   of_quiet at (strayed number x delivers there lost is) = still (act.Deliver number) (ap (λ (z : Full). z.act) is) refl (delivers_forget_none lab H r.asked number delivers)
   of_quiet at (missing number delivers there is) = still (act.Deliver number) (ap (λ (z : Full). z.act) is) refl (delivers_forget_none lab H r.asked number delivers)
   of_quiet at (none_left asked none is) = still (plain verb.Next) (ap (λ (z : Full). z.act) is) refl (none_by event.Next asked refl)
+  of_quiet at (settled asked none is) = still (plain verb.Settle) (ap (λ (z : Full). z.act) is) refl (none_by event.Settle asked refl)
   of_quiet at (uncopied number src dst asked there is) = still (act.Copy number) (ap (λ (z : Full). z.act) is) refl (none_by (event.Copy number src dst) asked refl)
   of_quiet at (hosted v n x hands there is) = still (plain v) (ap (λ (z : Full). z.act) is) (hands_still lab H r.asked v n x hands) (hands_forget_none lab H r.asked v n x hands)
   of_quiet at (restarted n asked is) = by_restart n (same_node n at (ap (λ (z : Full). z.node) is)) asked (ap (λ (z : Full). z.act) is)
   of_quiet at (forgot n who asked is) = by_forget n who (same_node n at (ap (λ (z : Full). z.node) is)) asked (ap (λ (z : Full). z.act) is)
+  of_quiet at (faulted send asked is) = still (plain verb.Fault) (ap (λ (z : Full). z.act) is) refl (none_by (event.Fault send) asked refl)
 
   of_kind : r.node ≡ Some k → Kind lab H r → Itself
   of_kind at (quiet entry address made passed why) = of_quiet at why

@@ -113,7 +113,7 @@ module _ (lab : Lab) (H : List Full) (r : Full) (pasts : (k : ℕ) → IsPast (n
   of_sendings n (native h) e g = of_native IsSo h (native_packet h e.input) (λ bytes is. by_native n h e bytes g is refl)
 
   of_acted : Acted lab H r → (r.entry ≡ None → AllByRecursion IsSo (items_of r)) → AllByRecursion IsSo (items_of r)
-  of_acted (idles entry address hands lets) none = none entry
+  of_acted (idles entry address hands late lets) none = none entry
   of_acted (does n a e g) none = subst (λ (ms : List Made). AllByRecursion IsSo (filter_map item_in ms)) (sym g.made) (of_sendings n a e g)
 
 -- ANY RECORD

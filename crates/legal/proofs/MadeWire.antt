@@ -377,7 +377,7 @@ with_made j None a h = a
 with_made j (Some e) a h = (h e refl, a)
 
 entry_made : WireLaws → (lab : Lab) (H : List Full) (r : Full) → IsTopology lab.topology → IsMadeHistory H → IsEvent lab.topology r.asked → Acted lab H r → (e : Entry) → r.entry ≡ Some e → IsMadeInput e.input
-entry_made laws lab H r is made asked (idles none address handed passed) e has = absurd (false≢true (ap (λ (o : Option Entry). is_some o) (sym none ∙ has)))
+entry_made laws lab H r is made asked (idles none address handed late passed) e has = absurd (false≢true (ap (λ (o : Option Entry). is_some o) (sym none ∙ has)))
 entry_made laws lab H r is made asked (does n a x act) e has =
     let same : x ≡ e = ap (λ (o : Option Entry). unwrap_or o x) (sym act.entry ∙ has) in
     subst (λ (z : Entry). IsMadeInput z.input) same (act_made laws lab H r n a x is made asked act).made

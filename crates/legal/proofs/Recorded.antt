@@ -21,7 +21,7 @@ further lab r H n q one = record { later = r ∷ one.later; record_of = one.reco
 
 -- the latest record's
 latest : (lab : Lab) (r : Full) (H : List Full) (n : ℕ) (q : Entry) → Acted lab H r → r.node ≡ Some n → r.entry ≡ Some q → IsRecorded lab (r ∷ H) n q
-latest lab r H n q (idles entry address hands lets) node has = absurd (false≢true (ap (λ (o : Option Entry). is_some o) (sym entry ∙ has)))
+latest lab r H n q (idles entry address hands late lets) node has = absurd (false≢true (ap (λ (o : Option Entry). is_some o) (sym entry ∙ has)))
 latest lab r H n q (does k a e act) node has =
     let number : k ≡ n = ap (λ (o : Option ℕ). unwrap_or o k) (sym act.node ∙ node) in
     let one : e ≡ q = ap (λ (o : Option Entry). unwrap_or o e) (sym act.entry ∙ has) in

@@ -36,12 +36,13 @@ pub record IsActOf (lab : Lab) (H : List Full) (r : Full) (n : ℕ) (a : Node) (
   pub later : journal n (r ∷ H) ≡ with_entry (journal n H) e
   pub address : r.address ≡ address_by lab H n e a
   pub handed : r.handed ≡ handed_by e
+  pub late : r.late ≡ e.step.late
   pub made : r.made ≡ (sendings lab H r.moment e a).made
   pub passed : r.passed ≡ (sendings lab H r.moment e a).passed
 
 -- no node does anything, or one does
 pub data Acted (lab : Lab) (H : List Full) (r : Full) : Type 0 where
-  idles : r.entry ≡ None → r.address ≡ None → r.handed ≡ None → r.passed ≡ [] → Acted lab H r
+  idles : r.entry ≡ None → r.address ≡ None → r.handed ≡ None → r.late ≡ [] → r.passed ≡ [] → Acted lab H r
   does : (n : ℕ) (a : Node) (e : Entry) → IsActOf lab H r n a e → Acted lab H r
 
 abbrev pub EachActs : Type 0

@@ -162,7 +162,7 @@ of_act laws lab H r n c e x g act hands =
     by s same (as_datagram from y is of) = of_given laws lab H r n c x act.dst act.input from y act.is_given (sym same ∙ is) of
 
 of_acted : BroughtLaws → (lab : Lab) (H : List Full) (r : Full) (n : ℕ) (c : ClientNode) (x : List ℕ) → Grown lab (r ∷ H) → Acted lab H r → HandsOver lab r n c x → IsBrought lab H r c x
-of_acted laws lab H r n c x g (idles entry address none lets) o = absurd (false≢true (ap (λ (z : Option (List ℕ)). is_some z) (sym none ∙ o.packet)))
+of_acted laws lab H r n c x g (idles entry address none late lets) o = absurd (false≢true (ap (λ (z : Option (List ℕ)). is_some z) (sym none ∙ o.packet)))
 of_acted laws lab H r n c x g (does k a e act) o =
     let same : k ≡ n = ap (λ (p : Option ℕ). unwrap_or p k) (sym act.node ∙ o.node) in
     let one : a ≡ client c = is_client a c (ap (option_and_then as_client) (sym act.there ∙ ap (node_at lab.topology) same) ∙ o.client) in

@@ -210,7 +210,7 @@ module _ (laws : LiveLaws) (lab : Lab) (H : List Full) (r : Full) (n : ℕ) (c :
 
 of_acted : LiveLaws → (lab : Lab) (H : List Full) (r : Full) (n : ℕ) (c : ClientNode) (own : Ip6) → IsTopology lab.topology → Grown lab (r ∷ H) → are_honest lab.topology H ≡ true → Acted lab H r → r.node ≡ Some n → client_at lab.topology n ≡ Some c
     → r.address ≡ Some own → IsLive lab (r ∷ H) c (embedded own)
-of_acted laws lab H r n c own is g honest (idles entry none hands lets) node there address = absurd (false≢true (ap (λ (z : Option Ip6). is_some z) (sym none ∙ address)))
+of_acted laws lab H r n c own is g honest (idles entry none hands late lets) node there address = absurd (false≢true (ap (λ (z : Option Ip6). is_some z) (sym none ∙ address)))
 of_acted laws lab H r n c own is g honest (does k a e act) node there address =
     let same : k ≡ n = ap (λ (p : Option ℕ). unwrap_or p k) (sym act.node ∙ node) in
     let one : a ≡ client c = is_client a c (ap (option_and_then as_client) (sym act.there ∙ ap (node_at lab.topology) same) ∙ there) in

@@ -7,6 +7,7 @@ returns c = sends.each_send_is_short (record {
     payload = c.payload_is_spelled.ensures;
     packet = c.packet_is_spelled.ensures;
     teredo = c.teredo_tells.ensures;
+    flags = c.flags_tell.ensures;
     turns = c.turns.ensures;
     at_start = c.turns_at_start.ensures;
     waits = c.first_waits.ensures;
