@@ -11,3 +11,4 @@ pub mod EventLists
 pub mod Scenario
 pub mod Answers
 pub mod Told
+pub mod Numbers

@@ -2,6 +2,7 @@
 ghost use Rattle.std.specs.Prelude.{◌≡◌, ℕ, List, Ok};
 ghost use Rattle.topology.specs.Rules.{IsTopology};
 ghost use Rattle.events.specs.Scenario.{Scenario};
+ghost use Rattle.scenario.specs.Numbers.{ScenarioNumbers};
 ghost use Rattle.scenario.specs.Scenario.{scenario_of};
 
 /// The nodes of a scenario keep the rules of a topology.
@@ -10,3 +11,8 @@ pub fn rules_kept()
 {
     td_base::texts_are_made();
 }
+
+/// How long a text, a path and a key that is shown may be: those of `docs/SCENARIOS.md`.
+pub fn scenario_numbers()
+    ensures { ScenarioNumbers }
+{}

@@ -47,7 +47,7 @@ mod scenario_fault;
 #[cfg(test)]
 mod tests;
 
-pub use laws::rules_kept;
+pub use laws::{rules_kept, scenario_numbers};
 pub use path::{KEY_SHOWN, PATH_LEN, Path};
 pub use reader::{Scenario, TEXT_MAX, read};
 pub use refusal_line::put_refusal_line;
