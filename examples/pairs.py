@@ -39,8 +39,7 @@ def scenario(source, target, one_nat=False):
         lab.client(name, nat)
     lab.qualify()
     for _ in range(2):
-        lab.event('host a b 00')
-        lab.deliver()
+        lab.event('host a b 00', 'settle')
     return lab.text()
 
 

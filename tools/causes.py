@@ -35,6 +35,8 @@ def of_drop(travels, record):
 def of_loss(loss):
     if loss.word == 'hairpin':
         return f'a NAT doesn\'t send back to itself what is for its own address, {loss.target}: sender and peer are behind one NAT'
+    if loss.word == 'fault':
+        return f'the send failed, as `fault` let it, and {loss.maker.node} doesn\'t know: nothing went out to {loss.target}'
     if loss.word == 'full':
         return f'the NAT has no room for another mapping: nothing went out to {loss.target}'
     return f'!{loss.word}: nothing went out to {loss.target}'

@@ -4,7 +4,7 @@ from dataclasses import dataclass
 import causes
 
 STRANGER = 'stranger'
-LEFT_OUT = ('advance', 'next')  # records without a node of their own
+LEFT_OUT = ('advance', 'next', 'settle', 'fault')  # records without a node of their own
 
 
 @dataclass

@@ -7,16 +7,14 @@
     lab.client('a', lab.nat('n1', 'cone'))
     lab.client('b', lab.nat('n2', 'port'))
     lab.qualify()
-    lab.event('host a b 00')
-    lab.deliver(12)
+    lab.event('host a b 00', 'settle')
     print(lab.text(), end='')
 
 Every text that comes of it is one that docs/SCENARIOS.md allows, where the names and the events are.
 """
 
-# What each client needs until it has an address: its questions, one after another, and as many deliveries as there may be.
-QUALIFY_MS = (0, 4000, 4000, 4000, 0)
-DELIVERIES = 12
+# How long each client needs until it has an answer to wait for: behind a cone NAT none, behind another one three questions.
+QUALIFY_MS = (0, 12000, 0)
 IDLE_MS = 60_000
 
 
@@ -65,15 +63,10 @@ class Scenario:
     def event(self, *texts):
         self.events += texts
 
-    def deliver(self, count=DELIVERIES):
-        """Delivers what is on the wire, at most so many; where nothing is left, `next` does nothing."""
-        self.event(*['next'] * count)
-
-    def qualify(self, deliveries=DELIVERIES):
-        """Lets every client that can have an address get it: time in four steps, with deliveries after each."""
+    def qualify(self):
+        """Lets every client that can have an address get it."""
         for ms in QUALIFY_MS:
-            self.event(f'advance {ms}')
-            self.deliver(deliveries)
+            self.event(f'advance {ms}', 'settle')
 
     def text(self):
         lines = [f'seed = {self.seed}', 'events = ['] + [f'  "{event}",' for event in self.events] + [']']
