@@ -77,12 +77,22 @@ def of_closed_nat(travels, record):
         return f'{latest.node} sent nothing from {entry.target} for {silence:,} ms: its mapping is gone (idle below refresh)'
     to_source = [mark for mark in sent if mark.target == entry.source]
     if not to_source:
+        failed = failed_send(report, latest.node, entry.source, record)
+        if failed:
+            return f'{nat} lets in whom {latest.node} sent to, and its send to {entry.source} {when(failed)} failed'
         told = as_meant(report, entry) or other_port(report, entry, record)
         return f'{nat} lets in whom {latest.node} sent to, and it never sent to {entry.source}' + told
     silence = record.moment - to_source[-1].maker.moment
     if cut and cut.index > to_source[-1].maker.index:
         return f'{nat} restarted {when(cut)}, and {latest.node} sent nothing to {entry.source} since'
     return f'{latest.node} sent nothing to {entry.source} for {silence:,} ms: {nat} has forgotten it (idle)'
+
+
+def failed_send(report, client, target, until):
+    """The latest record in which `fault` kept a client from sending to an endpoint, or None."""
+    found = [record for record in report.of_node(client, until)
+             if any(loss.word == 'fault' and loss.target == target for loss in record.losses)]
+    return found[-1] if found else None
 
 
 def as_meant(report, entry):
