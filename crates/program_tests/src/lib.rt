@@ -15,6 +15,8 @@
 //! | `vectors` | nothing: the datagrams of the others |
 //! | `runs`, `nets` | nothing: how a run ends, and the tables of nodes of the others |
 //! | `files_and_words` | `run` on `lab`, `show` and `gen`, and on words that are no command |
+//! | `cuts` | `run` on `show` and `lab`, with a datagram that is cut short |
+//! | `failing_sends` | `run` on `lab`, with sends that fail, and with all that is on the wire delivered |
 //! | `full_wires` | `run` on `lab`, and `player`, with a scenario that sends more than the wire holds |
 //! | `refusals` | `run` on `lab`, with texts that are no scenario |
 //! | `clients`, `peers`, `relays` | `run` on `lab`, with clients, two of them, and a native host |
@@ -30,6 +32,10 @@
 mod arrivals;
 #[cfg(test)]
 mod clients;
+#[cfg(test)]
+mod cuts;
+#[cfg(test)]
+mod failing_sends;
 #[cfg(test)]
 mod files_and_words;
 #[cfg(test)]

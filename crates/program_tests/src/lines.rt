@@ -115,6 +115,8 @@ fn each_act(rt: HostRuntime) -> Result<(), Fail> {
         (word(Verb::Copy), "9 12000 6 copy - put\n"),
         (word(Verb::Restart), "9 12000 6 restart - put\n"),
         (word(Verb::Forget), "9 12000 6 forget - put\n"),
+        (word(Verb::Fault), "9 12000 6 fault - put\n"),
+        (word(Verb::Settle), "9 12000 6 settle - put\n"),
     ] {
         let record = plain(act, None, Fate::Put);
         assert!(rt; says(&t, &record, want), "{want}");
