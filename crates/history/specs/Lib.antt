@@ -1,3 +1,4 @@
 pub mod Full
 pub mod Records
 pub mod Telling
+pub mod Numbers

@@ -17,11 +17,13 @@
 //! | `late_list` | `Lates` | `specs/Records.antt` |
 //! | `mark`, `mark_list` | `Mark`, `Loss`, `Marks` | `specs/Records.antt` |
 //! | `turn` | `Turn`, `Stop` | |
+//! | `laws` | what holds of the numbers | `specs/Numbers.antt` |
 //! | `records` | `Record`, the full record behind it, and what it tells the totals | `specs/Full.antt`, `Records.antt`, `Telling.antt` |
 #![tactic(auto)]
 
 mod act;
 mod late_list;
+mod laws;
 mod mark;
 mod mark_list;
 mod records;
@@ -29,6 +31,7 @@ mod turn;
 
 pub use act::Act;
 pub use late_list::{LATES_MAX, Lates};
+pub use laws::record_numbers;
 pub use mark::{Loss, Mark};
 pub use mark_list::{MARKS_MAX, Marks};
 pub use records::Record;

@@ -6,3 +6,4 @@ pub mod Prompt
 pub mod Record
 pub mod World
 pub mod Playing
+pub mod Numbers

@@ -25,6 +25,7 @@
 //! | `wire` | everything that was sent, and what of it was delivered; the door onto it | `specs/Wire.antt`, `WireEntry.antt` |
 //! | `route` | where an entry goes | `specs/Route.antt` |
 //! | `record` | what is said of a step | `specs/Record.antt` |
+//! | `laws` | what holds of the numbers | `specs/Numbers.antt` |
 #![tactic(auto)]
 
 mod act;
@@ -32,6 +33,7 @@ mod advance;
 mod datagrams;
 mod deliveries;
 mod going;
+mod laws;
 mod packets;
 mod prompt;
 mod record;
@@ -41,5 +43,6 @@ mod sender;
 mod wire;
 mod world;
 
+pub use laws::wire_numbers;
 pub use wire::{ENTRIES_MAX, WireEntry};
 pub use world::World;
