@@ -56,11 +56,12 @@ def write(path, text):
         raise Refusal(f'{path}: {fault.strerror}', UNREADABLE) from None
 
 
-def play_file(program, path):
-    """The status of `lab PATH`, and what it wrote."""
+def call(program, *shape):
+    """The status of the program with these words, the last of which is a file, and the bytes that it wrote."""
+    path = shape[-1]
     try:
         is_built = program != PROGRAM  # else it may be built first, and what that says is shown
-        played = subprocess.run([program, 'lab', path], stdin=subprocess.DEVNULL, stdout=subprocess.PIPE,
+        played = subprocess.run([program, *shape], stdin=subprocess.DEVNULL, stdout=subprocess.PIPE,
                                 stderr=subprocess.DEVNULL if is_built else None, env={**os.environ, 'TEREDO_QUIET': '1'},
                                 timeout=SECONDS_MAX if is_built else None)
     except OSError as fault:
@@ -69,7 +70,13 @@ def play_file(program, path):
         raise Refusal(f'{path}: no end within {SECONDS_MAX} s') from None
     if played.returncode == 125:
         raise Refusal('there is no program to play with', 125)
-    return played.returncode, played.stdout.decode('utf-8', 'replace')
+    return played.returncode, played.stdout
+
+
+def play_file(program, path):
+    """The status of `lab PATH`, and what it wrote."""
+    status, written = call(program, 'lab', path)
+    return status, written.decode('utf-8', 'replace')
 
 
 def play(program, text):

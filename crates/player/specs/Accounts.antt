@@ -3,6 +3,7 @@ use Rattle.std.specs.Prelude.{ℕ, List, [], ◌∷◌, codes}
 use Rattle.report.specs.Lines.{record_lines}
 use Rattle.report.specs.Totals.{totals}
 use Rattle.player.specs.Account.{Account}
+use Rattle.player.specs.Capture.{capture_pieces}
 
 -- the line that stands in place of further records
 abbrev pub wire_full : List ℕ
@@ -15,3 +16,7 @@ report_account = record { lines = record_lines; last = λ H. totals H ∷ []; fu
 -- the totals alone
 abbrev pub totals_account : Account
 totals_account = record { lines = λ t H. []; last = λ H. totals H ∷ []; full = wire_full ∷ [] }
+
+-- the capture of every entry, and nothing in place of further records
+abbrev pub capture_account : Account
+capture_account = record { lines = capture_pieces; last = λ H. []; full = [] }

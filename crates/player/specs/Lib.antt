@@ -1,6 +1,8 @@
 pub mod SinkLines
 pub mod LineLaws
 pub mod Account
+pub mod Capture
 pub mod Accounts
+pub mod CaptureLaws
 pub mod Endings
 pub mod Hearing

@@ -6,7 +6,8 @@
 //!   history of the scenario. Where it can't go on it answers why, and a front of that was written: where the next record
 //!   would make too long a wire, or may want memory, whole lines (`specs/Endings.antt`).
 //! - Each line begins a piece of its own (`specs/SinkLines.antt`).
-//! - `ReportWriter` writes the report, `TotalsWriter` the totals alone.
+//! - `ReportWriter` writes the report, `TotalsWriter` the totals alone, `CaptureWriter` the capture of the wire: a head,
+//!   and a record for each entry as soon as it was made. It keeps nothing of it but how many entries there were.
 //!
 //! # What it does not know
 //!
@@ -19,15 +20,23 @@
 //! | `sink_lines` | a line that is written to a sink | `specs/SinkLines.antt` |
 //! | `listener` | `Listener` | `specs/Account.antt`, `specs/Hearing.antt` |
 //! | `player` | `play` | `specs/Endings.antt` |
-//! | `report_writer`, `totals_writer` | two listeners | `specs/Accounts.antt` |
+//! | `report_writer`, `totals_writer`, `capture_writer` | three listeners | `specs/Accounts.antt` |
+//! | `entry_record` | the record of an entry in a capture | `specs/Capture.antt` |
+//! | `laws` | a history's capture is one | `specs/CaptureLaws.antt` |
 #![tactic(auto)]
 
+mod capture_writer;
+mod entry_record;
+mod laws;
 mod listener;
 mod player;
 mod report_writer;
 mod sink_lines;
 mod totals_writer;
 
+pub use capture_writer::CaptureWriter;
+pub use entry_record::{MILLI_MICROS, SECOND_MS};
+pub use laws::pieces_are_a_capture;
 pub use listener::Listener;
 pub use player::{PlayFault, play};
 pub use report_writer::ReportWriter;

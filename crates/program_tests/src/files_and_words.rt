@@ -3,7 +3,7 @@ use crate::runs::{LAB, Row, ending, ends_so};
 use std::test::Fail;
 
 /// A server is asked by a client that isn't cone.
-const ASKED: &str = r#"
+pub const ASKED: &str = r#"
 seed = 1
 events = [
   "stranger 198.51.100.7:40000 192.0.2.1:3544 000100000102030405060708006000000000083afffe80000000000000000063bf39cc9bf8ff020000000000000000000000000002850043b300000000",
@@ -43,7 +43,7 @@ server = [{ name = "s1", primary = "192.0.2.1", secondary = "192.0.2.2" }]
 const LOOP_REPORT: &str =
     "0 0 0 stranger - put #0=198.51.100.7:40000>192.0.2.1:3544/40\n1 0 1 deliver:0 s1 loop\ntotal records 2 entries 1 delivered 1 handed 0 kept 0 dropped 1\n";
 
-const NO_EVENTS: &str = "seed = 1\nevents = []\n";
+pub const NO_EVENTS: &str = "seed = 1\nevents = []\n";
 
 const NO_EVENTS_REPORT: &str = "total records 0 entries 0 delivered 0 handed 0 kept 0 dropped 0\n";
 

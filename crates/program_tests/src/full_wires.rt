@@ -7,7 +7,7 @@ use std::test::Fail;
 use td_outside::MemSink;
 
 /// A client that qualifies and then refreshes for 23 days.
-const LONG: &str = r#"
+pub const LONG: &str = r#"
 seed = 1
 events = ["advance 0", "next", "next", "advance 1000000000", "advance 1000000000"]
 

@@ -4,7 +4,7 @@ use crate::runs::{Scene, plays_so};
 use std::test::Fail;
 
 /// Both qualify as restricted.
-const BOTH_RESTRICTED: &str =
+pub const BOTH_RESTRICTED: &str =
     r#""advance 12000", "deliver 6", "deliver 7", "deliver 8", "deliver 9", "advance 0", "deliver 10", "deliver 11", "deliver 12", "deliver 13""#;
 
 /// The host of the first sends to the second.
@@ -16,7 +16,7 @@ const MEETING_REPORT: &str =
     "0 0 0 tick a rs_cone #0=198.51.100.1:1024>192.0.2.1:3544/61\n1 0 0 tick b rs_cone #1=198.51.100.2:1024>192.0.2.1:3544/61\n2 4000 0 tick a rs_cone #2=198.51.100.1:1024>192.0.2.1:3544/61\n3 4000 0 tick b rs_cone #3=198.51.100.2:1024>192.0.2.1:3544/61\n4 8000 0 tick a rs_cone #4=198.51.100.1:1024>192.0.2.1:3544/61\n5 8000 0 tick b rs_cone #5=198.51.100.2:1024>192.0.2.1:3544/61\n6 12000 0 tick a rs_restricted #6=198.51.100.1:1024>192.0.2.1:3544/61\n7 12000 0 tick b rs_restricted #7=198.51.100.2:1024>192.0.2.1:3544/61\n8 12000 0 advance - done\n9 12000 1 deliver:6 s1 advert #8=192.0.2.1:3544>198.51.100.1:1024/117\n10 12000 2 deliver:7 s1 advert #9=192.0.2.1:3544>198.51.100.2:1024/117\n11 12000 3 deliver:8 a first_answer\n12 12000 4 deliver:9 b first_answer\n13 12000 5 tick a rs_secondary #10=198.51.100.1:1024>192.0.2.2:3544/61\n14 12000 5 tick b rs_secondary #11=198.51.100.2:1024>192.0.2.2:3544/61\n15 12000 5 advance - done\n16 12000 6 deliver:10 s1 advert #12=192.0.2.2:3544>198.51.100.1:1024/117\n17 12000 7 deliver:11 s1 advert #13=192.0.2.2:3544>198.51.100.2:1024/117\n18 12000 8 deliver:12 a qualified_restricted is 2001:0:c000:201:0:fbff:39cc:9bfe\n19 12000 9 deliver:13 b qualified_restricted is 2001:0:c000:201:0:fbff:39cc:9bfd\n20 12000 10 host a queued #14=198.51.100.1:1024>198.51.100.2:1024/40 #15=198.51.100.1:1024>192.0.2.1:3544/40\n21 12000 11 deliver:14 n2 nat_closed\n22 12000 12 deliver:15 s1 forward_origin #16=192.0.2.1:3544>198.51.100.2:1024/48\n23 12000 13 deliver:16 b indirect #17=198.51.100.2:1024>198.51.100.1:1024/40\n24 12000 14 deliver:17 a rule3_bubble #18=198.51.100.1:1024>198.51.100.2:1024/45\n25 12000 15 deliver:18 b rule3 handed/45\ntotal records 26 entries 19 delivered 13 handed 1 kept 0 dropped 1\n";
 
 /// The same, and each entry comes twice.
-const EACH_TWICE: &str =
+pub const EACH_TWICE: &str =
     r#""host a b 68656c6c6f", "deliver 15", "deliver 15", "deliver 14", "deliver 14", "deliver 16", "deliver 16", "deliver 18", "deliver 18", "deliver 19", "deliver 19""#;
 
 /// The second indirect bubble is barred, and the packet is handed over twice.

@@ -4,3 +4,4 @@ pub mod Shown
 pub mod Ended
 pub mod Sessions
 pub mod Generated
+pub mod Audited

@@ -1,9 +1,11 @@
 -- The words of the command line, and the command that they are.
 use Rattle.std.specs.Prelude.{◌≡◌, ℕ, List, [], ◌∷◌, codes, Option, Some, None}
 use Rattle.teredo_app.specs.declared.command.Command.{Command}
-use Rattle.teredo_app.specs.declared.command.Command.TheVariants.{Lab, Serve, Show, Gen}
+use Rattle.teredo_app.specs.declared.command.Command.TheVariants.{Lab, Serve, Show, Gen, Wire, Audit}
 use Rattle.teredo_app.specs.declared.serve_words.ServeWords.{ServeWords}
 use Rattle.teredo_app.specs.ServeWords.{Asks}
+use Rattle.teredo_app.specs.declared.audit_words.AuditWords.{AuditWords}
+use Rattle.teredo_app.specs.AuditWords.{AsksToAudit}
 use Rattle.teredo_app.specs.declared.gen_words.GenWords.{GenWords}
 use Rattle.teredo_app.specs.GenWords.{AsksToGenerate}
 
@@ -13,6 +15,8 @@ pub data Request : Type 0 where
   serve : (words : ServeWords) → Request
   show : (word : List ℕ) → Request
   gen : (words : GenWords) → Request
+  wire : (file : List ℕ) → Request
+  audit : (words : AuditWords) (file : List ℕ) → Request
 
 -- the words ask for this: each has one spelling
 abbrev pub AsksFor : List (List ℕ) → Request → Type 0
@@ -20,6 +24,8 @@ AsksFor words (lab file) = words ≡ codes "lab" ∷ file ∷ []
 AsksFor words (serve asked) = Asks words asked
 AsksFor words (show word) = words ≡ codes "show" ∷ word ∷ []
 AsksFor words (gen asked) = AsksToGenerate words asked
+AsksFor words (wire file) = words ≡ codes "wire" ∷ file ∷ []
+AsksFor words (audit asked file) = AsksToAudit words asked file
 
 -- the command that the words are, or that they are none
 abbrev pub IsCommand : List (List ℕ) → Option Request → Type 0
@@ -32,10 +38,14 @@ request_of (Lab file) = lab file.now
 request_of (Serve words) = serve words
 request_of (Show word) = show word.now
 request_of (Gen words) = gen words
+request_of (Wire file) = wire file.now
+request_of (Audit words file) = audit words file.now
 
 -- a fact of the source, at each command that leaves it alone
 abbrev pub LeavesSource : Option Request → Type 0 → Type 0
 LeavesSource (Some (lab file)) fact = Unit {0}
+LeavesSource (Some (wire file)) fact = Unit {0}
+LeavesSource (Some (audit words file)) fact = Unit {0}
 LeavesSource _ fact = fact
 
 -- a fact of the link and the clock, at each command that leaves them alone

@@ -11,7 +11,7 @@ use Rattle.show.specs.Shown.{ShowsPayload, ShowsNoText, ShowsFault}
 use Rattle.td_outside.specs.Sink.{SinkState}
 use Rattle.player.specs.SinkLines.{WritesLines, BeginsLines, WritesNothing}
 use Rattle.player.specs.Account.{Account}
-use Rattle.player.specs.Accounts.{report_account, totals_account}
+use Rattle.player.specs.Accounts.{report_account, totals_account, capture_account}
 use Rattle.player.specs.Endings.{WritesAll, WritesFull, WritesStarved, BeginsAccount}
 use Rattle.teredo_app.specs.declared.statuses.TheConstants.{DONE, BAD_PAYLOAD, BAD_WORDS, BAD_SCENARIO, UNREADABLE, UNWRITABLE, NO_MEMORY, WIRE_FULL}
 use Rattle.teredo_app.specs.declared.source_text.TheConstants.{TEXT_READ_MAX}
@@ -19,7 +19,8 @@ use Rattle.td_outside.specs.Source.{SourceState}
 use Rattle.teredo_app.specs.Outside.{Outside, NoFault}
 use Rattle.teredo_app.specs.SourceText.{TakesAtMost}
 use Rattle.teredo_app.specs.Session.{ServeEnds}
-use Rattle.teredo_app.specs.Command.{Request, lab, serve, show, gen}
+use Rattle.teredo_app.specs.Audit.{AuditEnds}
+use Rattle.teredo_app.specs.Command.{Request, lab, serve, show, gen, wire, audit}
 use Rattle.teredo_app.specs.declared.gen_words.GenWords.{GenWords}
 
 -- the line of words that are no command
@@ -67,6 +68,10 @@ pub record PlayEnds (a : Account) (i i' : SourceState) (o o' : SinkState) (file 
 abbrev pub LabEnds : SourceState → SourceState → SinkState → SinkState → List ℕ → ℕ → Type 0
 LabEnds = PlayEnds report_account
 
+-- How `wire FILE` ends: it writes the capture of the wire.
+abbrev pub WireEnds : SourceState → SourceState → SinkState → SinkState → List ℕ → ℕ → Type 0
+WireEnds = PlayEnds capture_account
+
 -- How `show HEX` ends: the page of the payload was written, or the line of its first fault. It never wants memory.
 pub record ShowEnds (o o' : SinkState) (word : List ℕ) (status : ℕ) : Type 0 where
   pub statuses : Contains (DONE ∷ BAD_PAYLOAD ∷ UNWRITABLE ∷ []) status
@@ -103,6 +108,8 @@ RunEnds a b (Some (lab file)) status = LabEnds a.source b.source a.sink b.sink f
 RunEnds a b (Some (serve asked)) status = ServeEnds a.sink b.sink a.link b.link a.clock b.clock asked status
 RunEnds a b (Some (show word)) status = ShowEnds a.sink b.sink word status
 RunEnds a b (Some (gen asked)) status = GenEnds a.sink b.sink asked status
+RunEnds a b (Some (wire file)) status = WireEnds a.source b.source a.sink b.sink file status
+RunEnds a b (Some (audit asked file)) status = AuditEnds a.source b.source a.sink b.sink asked file status
 RunEnds a b None status = WordsEnd a.sink b.sink status
 
 -- The program may end with this status where it is asked for this: its states before and after fit.

@@ -2,8 +2,11 @@ pub mod Outside
 pub mod SourceText
 pub mod ServeWords
 pub mod GenWords
+pub mod AuditWords
 pub mod Command
 pub mod ServeLine
 pub mod Session
+pub mod AuditLine
+pub mod Audit
 pub mod Ends
 pub mod Endings

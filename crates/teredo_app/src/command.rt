@@ -2,6 +2,7 @@
 ghost use Rattle.std.specs.Prelude.{◌≡◌, ◌≤◌, List, [], ◌∷◌, Option, Some, map, option_map, IfSome, string_bytes};
 ghost use Rattle.teredo_app.specs.Command.{Request, AsksFor, request_of};
 
+use crate::audit_words::{AuditWords, audit_words};
 use crate::gen_words::{GenWords, gen_words};
 use crate::serve_words::{ServeWords, serve_words};
 
@@ -16,6 +17,10 @@ pub enum Command<'a> {
     Show { word: &'a str },
     /// Plays a generated scenario and writes its totals.
     Gen(GenWords),
+    /// Plays the scenario of a file and writes the capture of its wire.
+    Wire { file: &'a str },
+    /// Audits the capture of a file.
+    Audit { asked: AuditWords, file: &'a str },
 }
 
 /// The command of two words.
@@ -29,6 +34,9 @@ fn with_word<'a>(command: &str, word: &'a str) -> Option<Command<'a>>
     if command == "show" {
         return Some(Command::Show { word });
     }
+    if command == "wire" {
+        return Some(Command::Wire { file: word });
+    }
     None
 }
 
@@ -40,6 +48,23 @@ fn with_numbers<'a>(command: &str, seed: &str, count: &str) -> Option<Command<'a
     if command == "gen" {
         let asked = gen_words(seed, count)?;
         return Some(Command::Gen(asked));
+    }
+    None
+}
+
+/// The command of four words.
+fn with_file<'a>(
+    command: &str,
+    primary: &str,
+    secondary: &str,
+    file: &'a str,
+) -> Option<Command<'a>>
+    ensures found { IfSome result (λ c. AsksFor (command.now ∷ primary.now ∷ secondary.now ∷ file.now ∷ []) (request_of c)) }
+    ensures only { (asked : Request) → AsksFor (command.now ∷ primary.now ∷ secondary.now ∷ file.now ∷ []) asked → option_map request_of result ≡ Some asked }
+{
+    if command == "audit" {
+        let asked = audit_words(primary, secondary)?;
+        return Some(Command::Audit { asked, file });
     }
     None
 }
@@ -70,6 +95,12 @@ pub fn command_of(words: &[String]) -> Option<Command<'_>>
     match words {
         [command, word] => with_word(command.as_str(), word.as_str()),
         [command, seed, count] => with_numbers(command.as_str(), seed.as_str(), count.as_str()),
+        [command, primary, secondary, file] => with_file(
+            command.as_str(),
+            primary.as_str(),
+            secondary.as_str(),
+            file.as_str(),
+        ),
         [command, primary, secondary, count, idles] => with_addresses(
             command.as_str(),
             primary.as_str(),

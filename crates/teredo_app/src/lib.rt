@@ -7,10 +7,11 @@
 //!   status says it has written. On `lab FILE` that is the report of the one legal history of the scenario, or one line
 //!   of its text's first refusal; on `show HEX` the page of the payload, or one line that names its first fault; on
 //!   `gen SEED COUNT` the totals line of the generated scenario; on `serve IP1 IP2 COUNT IDLES` the line of the totals,
-//!   after a server at these addresses answered each arrival by its table.
-//! - `lab` opens its file alone, once, and reads no more of it than the longest text and one byte; `serve` opens the
-//!   link on its two addresses alone. Each line begins a piece of its own. Only `lab` touches the source, and only
-//!   `serve` the link and the clock.
+//!   after a server at these addresses answered each arrival by its table; on `wire FILE` the capture of the one legal
+//!   history's wire; on `audit IP1 IP2 FILE` the line of the verdict on a capture, or of why the file is none.
+//! - `lab`, `wire` and `audit` open their file alone, once, and read no more of it than the longest text or capture and
+//!   one byte; `serve` opens the link on its two addresses alone. Each line, and each record of a capture, begins a
+//!   piece of its own. Only `lab`, `wire` and `audit` touch the source, and only `serve` the link and the clock.
 //!
 //! # What it does not know
 //!
@@ -26,29 +27,40 @@
 //! | `source_text` | the text of a file | `specs/SourceText.antt` |
 //! | `gen_words` | the words of `gen` | `specs/GenWords.antt` |
 //! | `generated_scenario` | the scenario that `gen` plays | |
+//! | `scenario_file` | the scenario of a file, played: `lab` and `wire` | `specs/Ends.antt` |
 //! | `session` | a server at a link | `specs/Session.antt` |
 //! | `last_line` | the last line of a run, and its status | `specs/Endings.antt` |
 //! | `serve_line` | the line that `serve` ends with | `specs/ServeLine.antt` |
+//! | `audit_words` | the words of `audit` | `specs/AuditWords.antt` |
+//! | `audit_file` | the audit of a file | `specs/Audit.antt` |
+//! | `audit_line` | the lines that `audit` ends with | `specs/AuditLine.antt` |
 //! | `program` | `run` | `specs/Ends.antt`, over `specs/Outside.antt` |
 #![tactic(auto)]
 
+mod audit_file;
+mod audit_line;
+mod audit_words;
 mod command;
 mod gen_words;
 mod generated_scenario;
 mod last_line;
 mod program;
+mod scenario_file;
 mod serve_line;
 mod serve_words;
 mod session;
 mod source_text;
 mod statuses;
 
+pub use audit_file::{CAPTURE_MAX, CAPTURE_READ_MAX};
+pub use audit_line::NoCapture;
+pub use audit_words::AuditWords;
 pub use command::Command;
 pub use gen_words::{GenWords, SEED_MAX};
 pub use program::run;
 pub use serve_words::ServeWords;
 pub use source_text::TEXT_READ_MAX;
 pub use statuses::{
-    BAD_PAYLOAD, BAD_SCENARIO, BAD_WORDS, DONE, NO_LINK, NO_MEMORY, UNREADABLE, UNWRITABLE,
-    WIRE_FULL,
+    BAD_PAYLOAD, BAD_SCENARIO, BAD_WORDS, DONE, NO_CAPTURE, NO_LINK, NO_MEMORY, UNLICENSED,
+    UNREADABLE, UNWRITABLE, WIRE_FULL,
 };

@@ -6,7 +6,7 @@ use td_base::{LINE_LEN, LineBuf, NUMBER_LEN, print_number};
 use teredo_node::Totals;
 
 /// Appends a word and a number.
-fn put_part(word: &[u8], number: u64, out: &mut LineBuf)
+pub(crate) fn put_part(word: &[u8], number: u64, out: &mut LineBuf)
     requires { length out.old + length word.now + NUMBER_LEN ≤ LINE_LEN }
     ensures text { out.new ≡ out.old ++ word_and_number word.now number }
     ensures short { length out.new ≤ length out.old + length word.now + NUMBER_LEN }

@@ -19,7 +19,7 @@ pub struct ServeWords {
 }
 
 /// The address that a word is.
-fn address(word: &str) -> Option<Ip4>
+pub(crate) fn address(word: &str) -> Option<Ip4>
     ensures found { IfSome result (λ ip. IsIp4 ip × (word.now ≡ ip4_text ip)) }
     ensures only { (ip : Ip4) → IsIp4 ip → word.now ≡ ip4_text ip → result ≡ Some ip }
 {

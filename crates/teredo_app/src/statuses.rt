@@ -25,3 +25,9 @@ pub const NO_MEMORY: u8 = 7;
 
 /// The next record would make more entries of the wire than it holds.
 pub const WIRE_FULL: u8 = 8;
+
+/// A datagram from the server is licensed by no earlier one to it.
+pub const UNLICENSED: u8 = 10;
+
+/// The file is too long for an audit, or no capture.
+pub const NO_CAPTURE: u8 = 11;

@@ -5,7 +5,8 @@
 //! How a run ended: it has the status and the words of the command line alone.
 
 use teredo_app::{
-    BAD_PAYLOAD, BAD_SCENARIO, BAD_WORDS, NO_LINK, NO_MEMORY, UNREADABLE, UNWRITABLE, WIRE_FULL,
+    BAD_PAYLOAD, BAD_SCENARIO, BAD_WORDS, NO_CAPTURE, NO_LINK, NO_MEMORY, UNLICENSED, UNREADABLE,
+    UNWRITABLE, WIRE_FULL,
 };
 
 /// What a status means and what to look at.
@@ -15,7 +16,7 @@ fn hint_at(status: u8) -> Option<&'static str> {
             "this is no payload of Teredo: docs/GUIDE.md, \"Reading a datagram\", has the faults",
         ),
         BAD_WORDS => Some(
-            "the words are `lab FILE`, `show HEX`, `gen SEED COUNT` or `serve IP1 IP2 COUNT IDLES`",
+            "the words are `lab FILE`, `wire FILE`, `show HEX`, `gen SEED COUNT`, `serve IP1 IP2 COUNT IDLES` or `audit IP1 IP2 FILE`",
         ),
         BAD_SCENARIO => Some(
             "the scenario is refused (`key`: missing or unknown; `name`: unknown, ill-formed or taken; `range`: not allowed, or taken): `./teredo lint FILE` shows the line",
@@ -29,15 +30,22 @@ fn hint_at(status: u8) -> Option<&'static str> {
         ),
         NO_MEMORY => Some("there was not enough memory"),
         WIRE_FULL => Some("the scenario sends more than 65,536 datagrams and packets"),
+        UNLICENSED => Some(
+            "nothing that came to the server before licenses this record's datagram: docs/SERVE.md, \"An audit\", has what it may mean",
+        ),
+        NO_CAPTURE => Some(
+            "this is no capture of raw IP packets in at most 96 MiB: docs/GUIDE.md, \"A capture of your own\", makes one",
+        ),
         _ => None,
     }
 }
 
-/// How many words of the command line a status is about, from the first or, where `lab` and `serve` have theirs, the second.
-fn span_of(status: u8) -> (usize, usize) {
+/// Which words of the command line a status is about, by the first one and the one behind. A file is the last word of its
+/// command.
+fn span_of(status: u8, count: usize) -> (usize, usize) {
     match status {
         BAD_WORDS => (0, 1),
-        BAD_SCENARIO | UNREADABLE => (1, 2),
+        BAD_SCENARIO | UNREADABLE | UNLICENSED | NO_CAPTURE => (count.saturating_sub(1), count),
         NO_LINK => (1, 3),
         _ => (0, 0),
     }
@@ -45,7 +53,7 @@ fn span_of(status: u8) -> (usize, usize) {
 
 /// Writes one line on standard error: the words that a status is about, and its hint. Of a status without one nothing.
 pub fn tell(rt: &HostRuntime, status: u8, words: &Vec<String>) {
-    let (first, end) = span_of(status);
+    let (first, end) = span_of(status, words.len());
     if let Some(hint) = hint_at(status) {
         let _ = eprint!(rt; "teredo_cli: ");
         for word in words.iter().take(end).skip(first) {

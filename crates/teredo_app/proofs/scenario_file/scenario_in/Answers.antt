@@ -3,7 +3,7 @@ use Rattle.scenario.specs.declared.scenario_fault.ScenarioFault.TheVariants.{NoM
 use Rattle.player.specs.LineLaws.{WritesNothing-refl}
 use Rattle.teredo_app.specs.Endings.{not_read, not_kept, not_taken}
 use Rattle.teredo_app.proofs.WholeText.{whole_text}
-use Rattle.teredo_app.proofs.program.scenario_in.Goals as goal
+use Rattle.teredo_app.proofs.scenario_file.scenario_in.Goals as goal
 
 pub returns-in-Ok-read-clause-read : goal.returns-in-Ok-read-clause-read
 returns-in-Ok-read-clause-read g c =

@@ -1,0 +1,20 @@
+-- A capture grows by the records of each step's entries, and is one.
+use Rattle.std.proofs.Common.{◌≡◌, ℕ, List, [], ◌∷◌, ◌++◌, false, refl, sym, ap}
+use Rattle.std.specs.Prelude.{map}
+use Rattle.std.proofs.lemmas.List.{map-append}
+use Rattle.topology.specs.Rows.{TopologyState}
+use Rattle.history.specs.Full.{Full}
+use Rattle.report.specs.Lines.{lines_text}
+use Rattle.td_pcap.specs.Heads.{head_bytes}
+use Rattle.td_pcap.specs.Records.{record_bytes}
+use Rattle.td_pcap.specs.Captures.{capture_bytes}
+use Rattle.player.specs.Account.{all_lines}
+use Rattle.player.specs.Accounts.{capture_account}
+use Rattle.player.specs.Capture.{capture_head, step_records, capture_records, record_pieces}
+
+pub capture_grows : (H : List Full) (r : Full) → head_bytes capture_head ∷ record_pieces (capture_records H ++ step_records r) ≡ (head_bytes capture_head ∷ record_pieces (capture_records H)) ++ record_pieces (step_records r)
+capture_grows H r = ap (λ (l : List (List ℕ)). head_bytes capture_head ∷ l) (map-append (record_bytes false) (capture_records H) (step_records r))
+
+-- the pieces of a history's capture are a capture's bytes
+abbrev pub PiecesAreACapture : Type 0
+PiecesAreACapture = (t : TopologyState) (H : List Full) → lines_text (all_lines capture_account t H) ≡ capture_bytes capture_head (capture_records H)

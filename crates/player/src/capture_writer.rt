@@ -1,0 +1,106 @@
+//! The writer of a capture.
+ghost use Rattle.std.specs.Prelude.{◌≡◌, ◌≤◌, [], ◌∷◌, length, map, drop};
+ghost use Rattle.history.specs.Full.{bytes_of, wire};
+ghost use Rattle.td_pcap.specs.Heads.{head_bytes};
+ghost use Rattle.world.specs.WireEntry.{item_lent};
+ghost use Rattle.player.specs.SinkLines.{Writing};
+ghost use Rattle.player.specs.Capture.{capture_head, entry_record, record_pieces, step_records};
+ghost use Rattle.player.specs.Accounts.{capture_account};
+ghost use Rattle.player.specs.CaptureLaws.{capture_grows};
+
+use crate::entry_record::{RECORD_MAX, capture_head, put_record};
+use crate::listener::Listener;
+use crate::sink_lines::write_line;
+use history::Record;
+use td_base::{DATAGRAM_MAX, Millis};
+use td_outside::{Failed, Sink};
+use td_pcap::{HEAD, capture_is_bytes, write_head};
+use world::{WireEntry, World};
+
+/// Writes the head.
+fn write_capture_head<K: Sink>(out: &mut K) -> Result<(), Failed>
+    ensures { Writing (K.state out.old) (K.state out.new) (head_bytes capture_head ∷ []) result }
+{
+    capture_is_bytes();
+    let mut head = [0; HEAD];
+    match write_head(&capture_head(), &mut head) {
+        Ok(len) => write_line(out, &head[..len]),
+        Err(_) => unreachable!(),
+    }
+}
+
+/// Writes the record of an entry that was made at this moment.
+fn write_entry<K: Sink>(moment: Millis, entry: WireEntry<'_>, out: &mut K) -> Result<(), Failed>
+    requires { length (bytes_of (item_lent entry)) ≤ DATAGRAM_MAX }
+    ensures { Writing (K.state out.old) (K.state out.new) (record_pieces (entry_record moment.0 (item_lent entry.entry) ∷ [])) result }
+{
+    let mut record = [0; RECORD_MAX];
+    let len = put_record(moment, entry, &mut record);
+    write_line(out, &record[..len])
+}
+
+/// Writes the records of all entries from this number on, which were made at this moment.
+fn write_entries<K: Sink>(
+    moment: Millis,
+    world: &World,
+    first: u32,
+    out: &mut K,
+) -> Result<(), Failed>
+    requires { first ≤ length world.now.wire }
+    ensures { Writing (K.state out.old) (K.state out.new) (record_pieces (map (entry_record moment.0) (drop first world.now.wire))) result }
+{
+    let mut number = first;
+    let end = world.entries();
+    'entries: while number < end {
+        let Some(entry) = world.entry(number) else {
+            unreachable!();
+        };
+        write_entry(moment, entry, out)?;
+        number += 1;
+    }
+    Ok(())
+}
+
+/// Writes the capture of a scenario's wire: the head, and of each entry a record as soon as it was made.
+#[derive(Drop)]
+pub struct CaptureWriter {
+    // how many entries were written
+    entries: u32,
+}
+
+impl CaptureWriter {
+    /// Before the first record.
+    pub fn new() -> CaptureWriter
+        ensures { result.entries ≡ 0 }
+    {
+        CaptureWriter { entries: 0 }
+    }
+}
+
+impl Listener for CaptureWriter {
+    ghost account = { capture_account };
+
+    ghost news = { λ t H r. record_pieces (step_records r) };
+
+    ghost keeps = { λ w t H. w.entries ≡ length (wire H) };
+
+    ghost grows = { λ t H r. capture_grows H r };
+
+    fn begin<K: Sink>(&self, out: &mut K) -> Result<(), Failed> {
+        write_capture_head(out)
+    }
+
+    fn hear<K: Sink>(&mut self, world: &World, said: &Record, out: &mut K) -> Result<(), Failed> {
+        write_entries(said.moment, world, self.entries, out)?;
+        self.entries = world.entries();
+        Ok(())
+    }
+
+    fn end<K: Sink>(&self, _out: &mut K) -> Result<(), Failed> {
+        Ok(())
+    }
+
+    fn break_off<K: Sink>(&self, _out: &mut K) -> Result<(), Failed> {
+        Ok(())
+    }
+}

@@ -1,0 +1,10 @@
+use Rattle.std.proofs.Common.{◌≡◌, ℕ, List, [], ◌∷◌, sym, subst, rules}
+use Rattle.std.specs.Prelude.{codes}
+use Rattle.teredo_app.specs.AuditWords.{AsksToAudit}
+use Rattle.teredo_app.proofs.command.with_file.Goals as goal
+
+pub returns-then-eq-clause-found : goal.returns-then-eq-clause-found
+returns-then-eq-clause-found c =
+    let is : c.args.command.now ≡ codes "audit" = search rules in
+    let found = c.in_ok-asked.ensures.found c.args.file.now in
+    subst (λ (word : List ℕ). AsksToAudit (word ∷ c.args.primary.now ∷ c.args.secondary.now ∷ c.args.file.now ∷ []) c.in_ok-asked.asked c.args.file.now) (sym is) found

@@ -1,0 +1,26 @@
+//! The words `audit IP1 IP2 FILE`.
+ghost use Rattle.std.specs.Prelude.{◌≡◌, ℕ, List, [], ◌∷◌, Some, codes, IfSome};
+ghost use Rattle.teredo_app.specs.AuditWords.{AsksToAudit};
+
+use crate::serve_words::address;
+use td_base::Ip4;
+
+/// The two addresses of the server that is to be audited.
+#[derive(Clone, Copy, Debug)]
+pub struct AuditWords {
+    pub primary: Ip4,
+    pub secondary: Ip4,
+}
+
+/// The server that the words behind `audit` name.
+pub fn audit_words(primary: &str, secondary: &str) -> Option<AuditWords>
+    ensures found { IfSome result (λ asked. (file : List ℕ) → AsksToAudit (codes "audit" ∷ primary.now ∷ secondary.now ∷ file ∷ []) asked file) }
+    ensures only { (asked : AuditWords) (file : List ℕ) → AsksToAudit (codes "audit" ∷ primary.now ∷ secondary.now ∷ file ∷ []) asked file → result ≡ Some asked }
+{
+    let primary = address(primary)?;
+    let secondary = address(secondary)?;
+    if primary == secondary {
+        return None;
+    }
+    Some(AuditWords { primary, secondary })
+}

@@ -1,0 +1,90 @@
+//! The scenario of a file, and the commands that play it.
+ghost use Rattle.std.specs.Prelude.{◌≡◌, ◌≤◌, Ok, length, OnOk, IfOk, IfErr};
+ghost use Rattle.std.specs.List.{AllByRecursion};
+ghost use Rattle.td_outside.specs.Moves.{Gains};
+ghost use Rattle.events.specs.declared.event.TheConstants.{EVENTS_MAX};
+ghost use Rattle.events.specs.Events.{IsEvent};
+ghost use Rattle.scenario.specs.Told.{told};
+ghost use Rattle.teredo_app.specs.SourceText.{TakesAtMost};
+ghost use Rattle.teredo_app.specs.Ends.{Reads, LabEnds, WireEnds};
+ghost use Rattle.teredo_app.specs.Endings.{NotPlayed, status_of};
+
+use crate::last_line::end_with;
+use crate::source_text::{ReadFault, TEXT_READ_MAX, read_named};
+use crate::statuses::{BAD_SCENARIO, DONE, NO_MEMORY, UNREADABLE, UNWRITABLE, WIRE_FULL};
+use events::EVENTS_MAX;
+use player::{CaptureWriter, PlayFault, ReportWriter, play};
+use scenario::{Scenario, ScenarioFault, put_refusal_line, read};
+use std::alloc::Global;
+use td_base::LineBuf;
+use td_outside::{Sink, Source};
+
+/// The scenario of a file, or the status of a run that ends without one.
+fn scenario_in<S: Source, K: Sink>(
+    alloc: Global,
+    file: &str,
+    src: &mut S,
+    out: &mut K,
+) -> Result<Scenario, u8>
+    ensures opened { Gains (S.state src.old).openings (S.state src.new).openings file.now }
+    ensures taken { TakesAtMost TEXT_READ_MAX (S.state src.old).taken (S.state src.new).taken }
+    ensures read { IfOk result (λ s. Reads (S.state src.old) file.now (Ok (told s))) }
+    ensures quiet { OnOk result ((S.state src.new).faults ≡ (S.state src.old).faults) }
+    ensures untouched { OnOk result (out.new ≡ out.old) }
+    ensures few { IfOk result (λ s. length s.events ≤ EVENTS_MAX) }
+    ensures legal { IfOk result (λ s. AllByRecursion (IsEvent s.topology) s.events) }
+    ensures ends { IfErr result (λ status. NotPlayed (S.state src.old) (S.state src.new) (K.state out.old) (K.state out.new) file.now status) }
+{
+    let text = match read_named(alloc, src, file, TEXT_READ_MAX) {
+        Ok(text) => text,
+        Err(ReadFault::Failed) => return Err(UNREADABLE),
+        Err(ReadFault::NoMemory) => return Err(NO_MEMORY),
+    };
+    match read(alloc, &text) {
+        Ok(s) => Ok(s),
+        Err(ScenarioFault::NoMemory) => Err(NO_MEMORY),
+        Err(fault) => {
+            let mut line = LineBuf::new();
+            put_refusal_line(&fault, &mut line);
+            Err(end_with(out, line.as_slice(), BAD_SCENARIO))
+        }
+    }
+}
+
+/// The status of a scenario that was played so.
+pub(crate) fn status_of(played: Result<(), PlayFault>) -> u8
+    ensures { result ≡ status_of played }
+{
+    match played {
+        Ok(()) => DONE,
+        Err(PlayFault::Failed) => UNWRITABLE,
+        Err(PlayFault::NoMemory) => NO_MEMORY,
+        Err(PlayFault::WireFull) => WIRE_FULL,
+    }
+}
+
+/// The command `lab FILE`.
+pub fn lab<S: Source, K: Sink>(alloc: Global, file: &str, src: &mut S, out: &mut K) -> u8
+    ensures { LabEnds (S.state src.old) (S.state src.new) (K.state out.old) (K.state out.new) file.now result }
+{
+    match scenario_in(alloc, file, src, out) {
+        Ok(s) => {
+            let mut report = ReportWriter::new(&s.topology);
+            status_of(play(alloc, s.seed, &s.topology, &s.events, &mut report, out))
+        }
+        Err(status) => status,
+    }
+}
+
+/// The command `wire FILE`.
+pub fn wire<S: Source, K: Sink>(alloc: Global, file: &str, src: &mut S, out: &mut K) -> u8
+    ensures { WireEnds (S.state src.old) (S.state src.new) (K.state out.old) (K.state out.new) file.now result }
+{
+    match scenario_in(alloc, file, src, out) {
+        Ok(s) => {
+            let mut capture = CaptureWriter::new();
+            status_of(play(alloc, s.seed, &s.topology, &s.events, &mut capture, out))
+        }
+        Err(status) => status,
+    }
+}

@@ -1,0 +1,65 @@
+#!/usr/bin/env python3
+"""captures.py [--check] [PROGRAM]: the captures of the examples, and what an audit says of their servers.
+
+For each scenario of `scenarios` that is played to its end: the SHA-256 of what `wire` writes, and for each of its servers
+the line that `audit` writes of that capture, with its status. `--check` prints nothing where the table is that of
+`captures.txt`, which another program made that was written apart from this one, and else what differs, with status 1.
+"""
+import glob
+import hashlib
+import os
+import re
+import sys
+import tempfile
+
+sys.dont_write_bytecode = True
+
+HERE = os.path.dirname(os.path.abspath(__file__))
+sys.path.insert(0, os.path.join(HERE, '..', 'tools'))
+
+import command
+
+STORED = os.path.join(HERE, 'captures.txt')
+SCENARIOS = os.path.join(HERE, 'scenarios')
+SERVER = re.compile(r'^[^#\n]*primary = "([^"]+)"[,\s]*secondary = "([^"]+)"', re.M)  # as the examples write it
+
+
+def lines_of(program, path):
+    """The lines of one scenario: its capture, and an audit for each server."""
+    name = os.path.basename(path).removesuffix('.toml')
+    status, capture = command.call(program, 'wire', path)
+    if status:
+        return [f'{name}: status {status}']
+    lines = [f'{name}: {hashlib.sha256(capture).hexdigest()}']
+    with tempfile.NamedTemporaryFile(suffix='.pcap') as file:
+        file.write(capture)
+        file.flush()
+        for primary, secondary in SERVER.findall(command.read(path)):
+            status, line = command.call(program, 'audit', primary, secondary, file.name)
+            lines.append(f'{name}, {primary}: status {status}, {line.decode().strip()}')
+    return lines
+
+
+def table(program):
+    paths = sorted(glob.glob(os.path.join(SCENARIOS, '*.toml')))
+    return '\n'.join(line for path in paths for line in lines_of(program, path)) + '\n'
+
+
+def main():
+    parser = command.words(__doc__)
+    parser.add_argument('program', metavar='PROGRAM', nargs='?', default=command.PROGRAM)
+    parser.add_argument('--check', action='store_true', help='compare with the table that is stored')
+    options = parser.parse_args()
+    made = table(os.path.abspath(options.program))
+    if not options.check:
+        print(made, end='')
+        return 0
+    stored = command.read(STORED)
+    for old, new in zip(stored.splitlines(), made.splitlines()):
+        if old != new:
+            print(f'stored {old!r}\nmade   {new!r}')
+    return 0 if made == stored else command.FOUND
+
+
+if __name__ == '__main__':
+    command.run(main)
