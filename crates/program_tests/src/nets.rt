@@ -23,6 +23,14 @@ external = "198.51.100.1"
 idle = 60000
 "#;
 
+pub const RESTRICTED_NAT: &str = r#"
+[[nat]]
+name = "n1"
+kind = "restricted"
+external = "198.51.100.1"
+idle = 60000
+"#;
+
 pub const SYMMETRIC_NAT: &str = r#"
 [[nat]]
 name = "n1"
@@ -64,6 +72,16 @@ server = "s1"
 refresh = [30000, 30000]
 "#;
 
+/// Behind the same NAT as the other client.
+pub const THIRD_CLIENT: &str = r#"
+[[client]]
+name = "c"
+nat = "n2"
+inside = "10.0.0.4:4000"
+server = "s1"
+refresh = [30000, 30000]
+"#;
+
 pub const RELAY: &str = r#"
 [[relay]]
 name = "r1"
@@ -75,5 +93,12 @@ pub const NATIVE: &str = r#"
 [[native]]
 name = "h1"
 six = "2001:db8::1"
+relay = "r1"
+"#;
+
+pub const OTHER_NATIVE: &str = r#"
+[[native]]
+name = "h2"
+six = "2001:db8::2"
 relay = "r1"
 "#;

@@ -1,6 +1,9 @@
 //! A native host and a client, with a relay between them, played by `run`.
-use crate::nets::{CLIENT, CONE_NAT, NATIVE, PORT_NAT, RELAY, SERVER};
-use crate::runs::{Scene, plays_so};
+use crate::nets::{
+    CLIENT, CONE_NAT, NATIVE, OTHER_CLIENT, OTHER_NAT, OTHER_NATIVE, PORT_NAT, RELAY,
+    RESTRICTED_NAT, SERVER, THIRD_CLIENT,
+};
+use crate::runs::{Scene, plays_so, plays_to};
 use std::test::Fail;
 
 /// The client qualifies as restricted.
@@ -62,5 +65,30 @@ fn a_fifth_packet_is_not_held(rt: HostRuntime) -> Result<(), Fail> {
         report: FULL_REPORT,
     };
     assert!(rt; plays_so(rt.alloc(), &scene)?);
+    Ok(())
+}
+
+/// Three clients and two native hosts for ten minutes: all that is sent is delivered, and a NAT restarts in between.
+const TEN_MINUTES: &str =
+    r#""advance 0", "settle", "advance 12000", "settle", "advance 0", "settle", "host a b 01", "settle", "host a h1 02", "settle", "host h2 c 03", "settle", "host h2 c 03", "settle", "advance 30000", "settle", "restart n2", "advance 10000", "host c h2 04", "settle", "advance 20000", "settle", "host a b 05", "settle", "advance 528000", "settle""#;
+
+#[test]
+fn ten_minutes(rt: HostRuntime) -> Result<(), Fail> {
+    let scene = Scene {
+        nodes: &[
+            SERVER,
+            RESTRICTED_NAT,
+            OTHER_NAT,
+            CLIENT,
+            OTHER_CLIENT,
+            THIRD_CLIENT,
+            RELAY,
+            NATIVE,
+            OTHER_NATIVE,
+        ],
+        events: &[TEN_MINUTES],
+        report: "total records 280 entries 178 delivered 178 handed 4 kept 1 dropped 64\n",
+    };
+    assert!(rt; plays_to(rt.alloc(), &scene)?);
     Ok(())
 }
