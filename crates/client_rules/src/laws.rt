@@ -5,6 +5,7 @@ ghost use Rattle.client_rules.specs.Sendings.{EachSend};
 ghost use Rattle.client_rules.specs.Handed.{EachHanded, EachLate};
 ghost use Rattle.client_rules.specs.Numbers.{TestNumbers};
 ghost use Rattle.client_rules.specs.MadeSends.{EachStandingIsMade, EachSendIsBytes};
+ghost use Rattle.client_rules.specs.LateSources.{EachLateIsForeign};
 ghost use Rattle.client_rules.specs.Told.{EachAddressIsTold};
 ghost use Rattle.client_rules.specs.ShortSends.{EachSendIsShort};
 
@@ -142,6 +143,13 @@ pub fn each_standing_is_made()
     qualify::turns_at_start();
     peer_list::first_waits();
     peer_list::one_entry();
+}
+
+/// And is from outside Teredo.
+pub fn each_late_is_foreign()
+    ensures { EachLateIsForeign }
+{
+    each_late();
 }
 
 /// Each address that a client gets embeds the origin in an advertisement from where its phase expects one.

@@ -37,11 +37,11 @@ mod laws;
 mod limits;
 
 pub use laws::{
-    each_address_is_told, each_handed, each_late, each_send, each_send_is_bytes,
-    each_send_is_short, each_standing_is_made, fate_of_reception, fate_of_transmission,
-    journal_has_few, journal_is_tried, next_mentions, none_queued, numbers_of_tests,
-    qualified_has_address, qualified_stays, queued_is_own, reception_is_warranted,
-    transmission_is_warranted, tries_touch, trusted_is_embedded, waiting_is_own,
-    waiting_was_handed_in,
+    each_address_is_told, each_handed, each_late, each_late_is_foreign, each_send,
+    each_send_is_bytes, each_send_is_short, each_standing_is_made, fate_of_reception,
+    fate_of_transmission, journal_has_few, journal_is_tried, next_mentions, none_queued,
+    numbers_of_tests, qualified_has_address, qualified_stays, queued_is_own,
+    reception_is_warranted, transmission_is_warranted, tries_touch, trusted_is_embedded,
+    waiting_is_own, waiting_was_handed_in,
 };
 pub use limits::{TEST_ID, TEST_SEQ};

@@ -1,32 +1,28 @@
 -- The datagram that brought a packet.
-use Rattle.std.proofs.Common.{◌≡◌, ℕ, Bool, true, false, cond, List, [], ◌∷◌, drop, length, Option, Some, None, Result, Ok, Err, refl, sym, ap, subst, ◌∙◌}
-use Rattle.std.specs.Prelude.{is_some, option_and_then, unwrap_or, slice_get, nat_lt}
+use Rattle.std.proofs.Common.{◌≡◌, ℕ, Bool, true, false, List, [], ◌∷◌, drop, Option, Some, None, refl, sym, ap, subst, ◌∙◌}
+use Rattle.std.specs.Prelude.{is_some, option_and_then, unwrap_or, slice_get}
+use Rattle.std.specs.List.{AllByRecursion}
 use Rattle.std.proofs.lemmas.Bool.{false≢true}
 use Rattle.std.proofs.lemmas.List.{take_rest}
 use Rattle.td_base.specs.declared.endpoint.Ep.{Ep}
 use Rattle.td_base.specs.declared.ipv6.Ip6.{Ip6}
 use Rattle.td_base.specs.declared.span.Span.{Span}
-use Rattle.td_base.specs.declared.datagram.TheConstants.{DATAGRAM_MAX}
-use Rattle.ipv6_packet.specs.Packets.{Fields, packet_at}
-use Rattle.ipv6_packet.specs.Reads.{fields_or, fields_in}
-use Rattle.ipv6_packet.specs.declared.fault.PacketFault.{PacketFault}
+use Rattle.ipv6_packet.specs.Packets.{Fields}
+use Rattle.ipv6_packet.specs.Reads.{fields_in}
 use Rattle.teredo_addr.specs.Teredo.{is_teredo, embedded}
-use Rattle.indications.specs.Indications.{lead_at}
-use Rattle.indications.specs.declared.blocks.Lead.{Lead}
-use Rattle.indications.specs.declared.fault.LeadFault.{LeadFault}
 use Rattle.bubble.specs.Bubbles.{is_bubble}
-use Rattle.bubble.specs.Payloads.{with_packet, with_lead, payload_at}
-use Rattle.bubble.specs.declared.fault.PayloadFault.TheVariants as faults
-use Rattle.bubble.specs.Reads.{is_ok_payload, value_or, is_payload, value_in}
+use Rattle.bubble.specs.Reads.{value_in}
 use Rattle.teredo_node.specs.Journal.{Input, arrived, given, from_six, ticked, Entry, with_entry}
 use Rattle.qualify.specs.declared.settings.Settings.{Settings}
 use Rattle.qualify.specs.Qualification.{qualification}
 use Rattle.client_rules.specs.Journals.{IsJournal}
+use Rattle.client_rules.specs.LateSources as client_late
+use Rattle.client_rules.proofs.PayloadPackets.{same_fields}
 use Rattle.client_rules.specs.Handed.{IsHanded, HandsOver as ClientHands, EachHanded}
 use Rattle.topology.specs.declared.client_node.ClientNode.{ClientNode}
 use Rattle.topology.specs.declared.node.Node.{Node}
 use Rattle.topology.specs.declared.node.Node.TheVariants.{Server as server, Nat as nat, Client as client, Relay as relay, Native as native}
-use Rattle.topology.specs.Topology.{node_at, as_client}
+use Rattle.topology.specs.Topology.{node_at, client_at, as_client}
 use Rattle.history.specs.Full.{Item, udp, six, Full, wire}
 use Rattle.legal.specs.Lab.{Lab}
 use Rattle.legal.specs.Settings.{client_settings}
@@ -38,27 +34,7 @@ use Rattle.legal.specs.Legal.{Grown}
 use Rattle.legal.specs.Actors.{IsGiven, delivered, hosted, ticks, IsActOf, Acted, idles, does, EachActs}
 use Rattle.legal.specs.Routes.{Reaches, EachRoute}
 use Rattle.legal.proofs.MadeWire.{entry_input}
-use Rattle.origins.specs.Handed.{HandsOver, IsBrought, EachIsBrought}
-
--- THE PACKET OF A PAYLOAD
-
--- the fields of what follows the lead are those of the payload's packet
-same_fields : (x : List ℕ) → is_payload x ≡ true → fields_in (drop (value_in x).lead.at x) ≡ (value_in x).packet
-unfolding is_payload value_in payload_at fields_in
-same_fields x h = by_length (nat_lt DATAGRAM_MAX (length x)) h where
-  by_packet : (l : Lead) (r : Result Fields PacketFault) → packet_at (drop l.at x) ≡ r → is_ok_payload (with_packet l r) ≡ true
-      → fields_or (packet_at (drop (value_or (with_packet l r)).lead.at x)) ≡ (value_or (with_packet l r)).packet
-  by_packet l (Ok p) e g = ap fields_or e
-  by_packet l (Err f) e g = absurd (false≢true g)
-
-  by_lead : (r : Result Lead LeadFault) → is_ok_payload (with_lead x r) ≡ true → fields_or (packet_at (drop (value_or (with_lead x r)).lead.at x)) ≡ (value_or (with_lead x r)).packet
-  by_lead (Ok l) g = by_packet l (packet_at (drop l.at x)) refl g
-  by_lead (Err f) g = absurd (false≢true g)
-
-  by_length : (b : Bool) → is_ok_payload (cond b (Err (faults.Long (length x))) (with_lead x (lead_at x))) ≡ true
-      → fields_or (packet_at (drop (value_or (cond b (Err (faults.Long (length x))) (with_lead x (lead_at x)))).lead.at x)) ≡ (value_or (cond b (Err (faults.Long (length x))) (with_lead x (lead_at x)))).packet
-  by_length true g = absurd (false≢true g)
-  by_length false g = by_lead (lead_at x) g
+use Rattle.origins.specs.Handed.{HandsOver, IsBrought, EachIsBrought, EachLateIsForeign}
 
 -- A CLIENT'S ENTRY
 
@@ -170,3 +146,22 @@ of_acted laws lab H r n c x g (does k a e act) o =
 
 pub each_is_brought : BroughtLaws → EachIsBrought
 each_is_brought laws lab H r n c x g o = of_acted laws lab H r n c x g (laws.acts lab H r g.0) o
+
+-- WHAT IS HANDED OVER LATE
+
+late_of : client_late.EachLateIsForeign → EachClientIsJournal → (lab : Lab) (H : List Full) (r : Full) (n : ℕ) (c : ClientNode) (e : Entry) → Grown lab (r ∷ H) → IsActOf lab H r n (client c) e → AllByRecursion (λ x. is_teredo (fields_in x).src ≡ false) r.late
+late_of law clients lab H r n c e g act =
+    let s : Settings = client_settings lab.topology c in
+    let is_j : IsJournal s (with_entry (journal n H) e) = subst (IsJournal s) act.later (clients lab (r ∷ H) n c g act.there).journal in
+    subst (AllByRecursion (λ x. is_teredo (fields_in x).src ≡ false)) (sym act.late) (law s (journal n H) e is_j)
+
+late_acted : client_late.EachLateIsForeign → EachClientIsJournal → (lab : Lab) (H : List Full) (r : Full) (n : ℕ) (c : ClientNode) → Grown lab (r ∷ H) → Acted lab H r → r.node ≡ Some n → client_at lab.topology n ≡ Some c
+    → AllByRecursion (λ x. is_teredo (fields_in x).src ≡ false) r.late
+late_acted law clients lab H r n c g (idles entry address hands none lets) node there = subst (AllByRecursion (λ x. is_teredo (fields_in x).src ≡ false)) (sym none) tt
+late_acted law clients lab H r n c g (does k a e act) node there =
+    let same : k ≡ n = ap (λ (p : Option ℕ). unwrap_or p k) (sym act.node ∙ node) in
+    let one : a ≡ client c = is_client a c (ap (option_and_then as_client) (sym act.there ∙ ap (node_at lab.topology) same) ∙ there) in
+    late_of law clients lab H r n c e g (subst (λ (b : Node). IsActOf lab H r n b e) one (subst (λ (j : ℕ). IsActOf lab H r j a e) same act))
+
+pub each_late_is_foreign : client_late.EachLateIsForeign → EachClientIsJournal → EachActs → EachLateIsForeign
+each_late_is_foreign law clients acts lab H r n c g node there = late_acted law clients lab H r n c g (acts lab H r g.0) node there

@@ -3,3 +3,4 @@ mod SentOn
 mod Brought
 mod Whence
 mod Live
+mod Throughout

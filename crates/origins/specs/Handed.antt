@@ -1,5 +1,6 @@
 -- The datagram that brought a packet to a client's host.
 use Rattle.std.specs.Prelude.{◌≡◌, ◌∷◌, ℕ, true, false, List, drop, slice_get, Some}
+use Rattle.std.specs.List.{AllByRecursion}
 use Rattle.td_base.specs.declared.endpoint.Ep.{Ep}
 use Rattle.ipv6_packet.specs.Reads.{fields_in}
 use Rattle.teredo_addr.specs.Teredo.{is_teredo, embedded}
@@ -34,7 +35,12 @@ pub record IsBrought (lab : Lab) (H : List Full) (r : Full) (c : ClientNode) (x 
   pub no_bubble : is_bubble (fields_in x) ≡ false
   pub embeds : is_teredo (fields_in x).src ≡ true → src ≡ embedded (fields_in x).src
 
--- each packet that is handed over was brought so, whatever strangers do
+-- each packet that is handed over at once was brought so, whatever strangers do
 abbrev pub EachIsBrought : Type 0
 EachIsBrought = (lab : Lab) (H : List Full) (r : Full) (n : ℕ) (c : ClientNode) (x : List ℕ) → Grown lab (r ∷ H) → HandsOver lab r n c x
     → IsBrought lab H r c x
+
+-- what a client's host is handed late is from outside Teredo
+abbrev pub EachLateIsForeign : Type 0
+EachLateIsForeign = (lab : Lab) (H : List Full) (r : Full) (n : ℕ) (c : ClientNode) → Grown lab (r ∷ H) → r.node ≡ Some n
+    → client_at lab.topology n ≡ Some c → AllByRecursion (λ x. is_teredo (fields_in x).src ≡ false) r.late

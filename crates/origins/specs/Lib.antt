@@ -4,3 +4,4 @@ pub mod Senders
 pub mod Handed
 pub mod Origin
 pub mod Live
+pub mod Throughout

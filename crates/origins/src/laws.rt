@@ -1,9 +1,10 @@
 //! Laws of every history.
 ghost use Rattle.origins.specs.Sources.{EachHasOwnSource};
 ghost use Rattle.origins.specs.Senders.{EachTellsWhereTo, EachComesFromClient};
-ghost use Rattle.origins.specs.Handed.{EachIsBrought};
+ghost use Rattle.origins.specs.Handed.{EachIsBrought, EachLateIsForeign};
 ghost use Rattle.origins.specs.Origin.{EachHasOrigin};
 ghost use Rattle.origins.specs.Live.{EachIsLive, EachIsHeld};
+ghost use Rattle.origins.specs.Throughout.{HistoriesHaveOrigins, ScenariosHaveOrigins, HonestScenarios};
 
 /// In an honest history an entry from a node's address is the node's, or that of a client behind it.
 pub fn own_sources()
@@ -49,6 +50,15 @@ pub fn is_brought()
     client_rules::each_handed();
 }
 
+/// Each packet that a client's host is handed late is from outside Teredo.
+pub fn late_is_foreign()
+    ensures { EachLateIsForeign }
+{
+    legal::acted();
+    legal::client_journals();
+    client_rules::each_late_is_foreign();
+}
+
 /// Such a packet was put there by a named event, or a client's host had handed it in while its address was that source.
 pub fn has_origin()
     ensures { EachHasOrigin }
@@ -87,4 +97,27 @@ pub fn is_live()
 /// Where no NAT is behind another one this is the address of the client's NAT, and a port that it holds for the client.
 pub fn is_held()
     ensures { EachIsHeld }
+{}
+
+/// Every history has all of this, at each of its records.
+pub fn histories_have_origins()
+    ensures { HistoriesHaveOrigins }
+{
+    is_brought();
+    late_is_foreign();
+    has_origin();
+    is_live();
+}
+
+/// So has the history of every scenario, as far as it was played.
+pub fn scenarios_have_origins()
+    ensures { ScenariosHaveOrigins }
+{
+    legal::grown();
+    histories_have_origins();
+}
+
+/// The history of an honest scenario is honest.
+pub fn honest_scenarios()
+    ensures { HonestScenarios }
 {}

@@ -25,10 +25,12 @@
 //! | what brought a packet to a host | `specs/Handed.antt` |
 //! | whence it came | `specs/Origin.antt` |
 //! | what an address embeds | `specs/Live.antt` |
+//! | all of it, at each record | `specs/Throughout.antt` |
 #![tactic(auto)]
 
 mod laws;
 
 pub use laws::{
-    comes_from_clients, has_origin, is_brought, is_held, is_live, own_sources, tells_where_to,
+    comes_from_clients, has_origin, histories_have_origins, honest_scenarios, is_brought, is_held,
+    is_live, late_is_foreign, own_sources, scenarios_have_origins, tells_where_to,
 };

@@ -1,0 +1,94 @@
+-- What is handed over late is from outside Teredo.
+use Rattle.std.proofs.Common.{◌≡◌, ℕ, zero, suc, Bool, true, false, cond, List, [], ◌∷◌, drop, Option, Some, None, refl, sym, ap, subst, ◌∙◌, arith}
+use Rattle.std.specs.Prelude.{Contains, unwrap_or, is_some}
+use Rattle.std.specs.List.{AllByRecursion}
+use Rattle.std.proofs.lemmas.Bool.{false≢true}
+use Rattle.td_base.specs.declared.endpoint.Ep.{Ep}
+use Rattle.td_base.specs.declared.ipv6.Ip6.{Ip6}
+use Rattle.ipv6_packet.specs.Packets.{Fields}
+use Rattle.ipv6_packet.specs.Reads.{fields_in}
+use Rattle.teredo_addr.specs.Teredo.{is_teredo}
+use Rattle.bubble.specs.Reads.{is_payload, value_in}
+use Rattle.bubble.specs.PacketsIn.{packet_in, source_in}
+use Rattle.teredo_node.specs.declared.fate.Fate.{Fate}
+use Rattle.teredo_node.specs.declared.fate.Fate.TheVariants as fate
+use Rattle.teredo_node.specs.Journal.{Input, arrived, given, from_six, ticked, Entry, Journal, Words, is_changed, epoch}
+use Rattle.qualify.specs.declared.settings.Settings.{Settings}
+use Rattle.qualify.specs.Advertisements.{heard}
+use Rattle.client_rules.specs.Bearings.{source_of}
+use Rattle.client_rules.specs.Standing.{Standing, standing_of}
+use Rattle.client_rules.specs.Reception.{Seen, seen, reception_fate}
+use Rattle.client_rules.specs.Warrants.{ReceivedOnlyIf}
+use Rattle.client_rules.specs.Journals.{journal, client_in, client_entry, Follows, AreEntries, IsJournal}
+use Rattle.client_rules.specs.Handed.{HoldingRule, held_test, held, WasHeld, WasHeldIn, HandsLate, nothing, rule2, EachLate}
+use Rattle.client_rules.specs.LateSources.{EachLateIsForeign}
+use Rattle.client_rules.proofs.Fates.{fate_of_reception}
+use Rattle.client_rules.proofs.Received.{reception_is_warranted}
+use Rattle.client_rules.proofs.PayloadPackets.{same_fields}
+
+abbrev IsForeign : List ℕ → Type 0
+IsForeign x = is_teredo (fields_in x).src ≡ false
+
+-- WHERE AN ENTRY STANDS
+
+-- it follows from the journal before it
+record Stands (s : Settings) (q : Entry) : Type 0 where
+  before : Journal
+  follows : Follows s before q
+
+stands : (s : Settings) (start : ℕ) (es : List Entry) (q : Entry) → AreEntries s start es → Contains (epoch es) q → Stands s q
+stands s start [] q is c = absurd (let within = c.1 in omega (arith, within))
+stands s start (e ∷ es) q is c = by (is_changed e.step.fate) c (stands s start es q is.1) where
+  by : (b : Bool) → Contains (cond b [] (e ∷ epoch es)) q → (Contains (epoch es) q → Stands s q) → Stands s q
+  by true k ih = absurd (let within = k.1 in omega (arith, within))
+  by false (zero, within, at) ih = record { before = journal start es; follows = subst (Follows s (journal start es)) at is.0 }
+  by false (suc i, within, at) ih = ih (i, omega (arith, within), at)
+
+-- WHAT IS HELD
+
+-- what was seen of a datagram whose packet is held
+record IsNative (a : Seen) : Type 0 where
+  payload : a.payload ≡ true
+  native : a.teredo ≡ false
+
+native_of : (s : Settings) (a : Standing) (from : Ep) (y : List ℕ) → HoldingRule (reception_fate s a from y) → IsNative (seen s a from y)
+native_of s a from y (held_test is) =
+    let only = subst (λ (f : Fate). ReceivedOnlyIf f (seen s a from y) (heard s a.qualification from (value_in y))) is (reception_is_warranted s a from y) in
+    record { payload = only.direct.mine.sound.payload; native = only.native }
+native_of s a from y (held is) =
+    let only = subst (λ (f : Fate). ReceivedOnlyIf f (seen s a from y) (heard s a.qualification from (value_in y))) is (reception_is_warranted s a from y) in
+    record { payload = only.direct.mine.sound.payload; native = only.native }
+
+packet_of : (y x : List ℕ) → is_payload y ≡ true → packet_in y ≡ Some x → x ≡ drop (value_in y).lead.at y
+unfolding packet_in
+packet_of y x one is = sym (ap (λ (o : Option (List ℕ)). unwrap_or o x) (sym (ap (λ (b : Bool). cond b (Some (drop (value_in y).lead.at y)) None) one) ∙ is))
+
+of_datagram : (s : Settings) (j : Journal) (n : ℕ) (from : Ep) (y : List ℕ) (w : Words) (x : List ℕ) → HoldingRule (client_in s j n from y w).step.fate → (client_in s j n from y w).packet ≡ Some x → IsForeign x
+unfolding client_in seen
+of_datagram s j n from y w x rule packet =
+    let a : Standing = standing_of s j n (source_in y) in
+    let seen_it : IsNative (seen s a from y) = native_of s a from y (subst HoldingRule (fate_of_reception s a from y w) rule) in
+    let whole : x ≡ drop (value_in y).lead.at y = packet_of y x seen_it.payload packet in
+    ap (λ (z : List ℕ). is_teredo (fields_in z).src) whole ∙ ap (λ (p : Fields). is_teredo p.src) (same_fields y seen_it.payload) ∙ seen_it.native
+
+of_input : (s : Settings) (j : Journal) (n : ℕ) (input : Input) (w : Words) (from : Ep) (x : List ℕ) → source_of input ≡ Some from → HoldingRule (client_entry s j n input w).step.fate → (client_entry s j n input w).packet ≡ Some x → IsForeign x
+of_input s j n (arrived at y) w from x came rule packet = of_datagram s j n at y w x rule packet
+of_input s j n (given y) w from x came rule packet = absurd (false≢true (ap (λ (o : Option Ep). is_some o) came))
+of_input s j n (from_six y) w from x came rule packet = absurd (false≢true (ap (λ (o : Option Ep). is_some o) came))
+of_input s j n ticked w from x came rule packet = absurd (false≢true (ap (λ (o : Option Ep). is_some o) came))
+
+of_held : (s : Settings) (q : Entry) (from : Ep) (p : Option Ip6) (x : List ℕ) → Stands s q → WasHeld from p x q → IsForeign x
+of_held s q from p x at was =
+    let f = at.follows in
+    of_input s at.before q.moment q.input f.words from x was.came (subst (λ (z : Entry). HoldingRule z.step.fate) f.is was.rule) (ap (λ (z : Entry). z.packet) (sym f.is) ∙ was.packet)
+
+all_weaker : (P Q : List ℕ → Type 0) (xs : List (List ℕ)) → ((x : List ℕ) → P x → Q x) → AllByRecursion P xs → AllByRecursion Q xs
+all_weaker P Q [] f a = tt
+all_weaker P Q (x ∷ xs) f a = (f x a.0, all_weaker P Q xs f a.1)
+
+of_late : (s : Settings) (j : Journal) (e : Entry) → IsJournal s j → HandsLate (epoch j.entries) e → AllByRecursion IsForeign e.step.late
+of_late s j e is (nothing none) = subst (AllByRecursion IsForeign) (sym none) tt
+of_late s j e is (rule2 from came by all) = all_weaker (WasHeldIn (epoch j.entries) from e.peer) IsForeign e.step.late (λ x h. of_held s h.0 from e.peer x (stands s j.start j.entries h.0 is h.1) h.2) all
+
+pub each_late_is_foreign : EachLate → EachLateIsForeign
+each_late_is_foreign law s j e is = of_late s j e is.1 (law s j e is)

@@ -1,0 +1,32 @@
+-- The packet of a payload, read by itself.
+use Rattle.std.proofs.Common.{◌≡◌, ℕ, Bool, true, false, cond, List, drop, length, Result, Ok, Err, refl, ap}
+use Rattle.std.specs.Prelude.{nat_lt}
+use Rattle.std.proofs.lemmas.Bool.{false≢true}
+use Rattle.td_base.specs.declared.datagram.TheConstants.{DATAGRAM_MAX}
+use Rattle.ipv6_packet.specs.Packets.{Fields, packet_at}
+use Rattle.ipv6_packet.specs.Reads.{fields_or, fields_in}
+use Rattle.ipv6_packet.specs.declared.fault.PacketFault.{PacketFault}
+use Rattle.indications.specs.Indications.{lead_at}
+use Rattle.indications.specs.declared.blocks.Lead.{Lead}
+use Rattle.indications.specs.declared.fault.LeadFault.{LeadFault}
+use Rattle.bubble.specs.Payloads.{with_packet, with_lead, payload_at}
+use Rattle.bubble.specs.declared.fault.PayloadFault.TheVariants as faults
+use Rattle.bubble.specs.Reads.{is_ok_payload, value_or, is_payload, value_in}
+
+-- the fields of what follows the lead are those of the payload's packet
+pub same_fields : (x : List ℕ) → is_payload x ≡ true → fields_in (drop (value_in x).lead.at x) ≡ (value_in x).packet
+unfolding is_payload value_in payload_at fields_in
+same_fields x h = by_length (nat_lt DATAGRAM_MAX (length x)) h where
+  by_packet : (l : Lead) (r : Result Fields PacketFault) → packet_at (drop l.at x) ≡ r → is_ok_payload (with_packet l r) ≡ true
+      → fields_or (packet_at (drop (value_or (with_packet l r)).lead.at x)) ≡ (value_or (with_packet l r)).packet
+  by_packet l (Ok p) e g = ap fields_or e
+  by_packet l (Err f) e g = absurd (false≢true g)
+
+  by_lead : (r : Result Lead LeadFault) → is_ok_payload (with_lead x r) ≡ true → fields_or (packet_at (drop (value_or (with_lead x r)).lead.at x)) ≡ (value_or (with_lead x r)).packet
+  by_lead (Ok l) g = by_packet l (packet_at (drop l.at x)) refl g
+  by_lead (Err f) g = absurd (false≢true g)
+
+  by_length : (b : Bool) → is_ok_payload (cond b (Err (faults.Long (length x))) (with_lead x (lead_at x))) ≡ true
+      → fields_or (packet_at (drop (value_or (cond b (Err (faults.Long (length x))) (with_lead x (lead_at x)))).lead.at x)) ≡ (value_or (cond b (Err (faults.Long (length x))) (with_lead x (lead_at x)))).packet
+  by_length true g = absurd (false≢true g)
+  by_length false g = by_lead (lead_at x) g

@@ -1,0 +1,48 @@
+-- All of it, at each record.
+use Rattle.std.proofs.Common.{◌≡◌, ℕ, zero, suc, ◌&&◌, Bool, true, false, List, [], ◌∷◌, Option, Some, refl, ap, subst}
+use Rattle.std.specs.Prelude.{slice_get, unwrap_or, is_some}
+use Rattle.std.specs.List.{list_all, AllByRecursion}
+use Rattle.std.proofs.lemmas.Bool.{false≢true, and_parts}
+use Rattle.events.specs.declared.event.Event.{Event}
+use Rattle.events.specs.Events.{IsEvent}
+use Rattle.history.specs.Full.{Full}
+use Rattle.legal.specs.Lab.{Lab, lab_of}
+use Rattle.legal.specs.Past.{place}
+use Rattle.legal.specs.Legal.{Begun, Grown}
+use Rattle.legal.proofs.Asked.{brought}
+use Rattle.origins.specs.Honest.{is_honest_event, are_honest}
+use Rattle.origins.specs.Handed.{EachIsBrought, EachLateIsForeign}
+use Rattle.origins.specs.Origin.{EachHasOrigin}
+use Rattle.origins.specs.Live.{EachIsLive}
+use Rattle.origins.specs.Throughout.{HistoriesHaveOrigins, ScenariosHaveOrigins, HonestScenarios}
+use Rattle.origins.proofs.Whence.{earlier}
+
+pub histories : EachIsBrought → EachLateIsForeign → EachHasOrigin → EachIsLive → HistoriesHaveOrigins
+histories came late origin live lab H is g later r before split =
+    let there : Grown lab (r ∷ before) = earlier lab later (r ∷ before) (subst (Grown lab) split g) in
+    record {
+      brought = λ n c x o. came lab before r n c x there o;
+      late = λ n c node client. late lab before r n c there node client;
+      origin = λ n c x k o teredo by. origin lab before r n c x is there o teredo k by;
+      live = λ n c own honest node client address. live lab before r n c own is there honest node client address;
+    }
+
+pub scenarios : ((lab : Lab) (events : List Event) (h : List Full) → AllByRecursion (IsEvent lab.topology) events → Begun lab events h → Grown lab h) → HistoriesHaveOrigins → ScenariosHaveOrigins
+scenarios grown law s chain H is events begun = law (lab_of s chain) H is (grown (lab_of s chain) s.events H events begun)
+
+one_of : (p : Event → Bool) (es : List Event) (k : ℕ) (e : Event) → list_all p es ≡ true → slice_get es k ≡ Some e → p e ≡ true
+one_of p [] k e all at = absurd (false≢true (ap (λ (o : Option Event). is_some o) at))
+one_of p (x ∷ es) zero e all at = subst (λ (z : Event). p z ≡ true) (ap (λ (o : Option Event). unwrap_or o x) at) (and_parts (p x) (list_all p es) all).0
+one_of p (x ∷ es) (suc k) e all at = one_of p es k e (and_parts (p x) (list_all p es) all).1 at
+
+both_true : (b c : Bool) → b ≡ true → c ≡ true → (b && c) ≡ true
+both_true true c h g = g
+both_true false c h g = absurd (false≢true h)
+
+honest : (lab : Lab) (es : List Event) (H : List Full) → list_all (is_honest_event lab.topology) es ≡ true → Begun lab es H → are_honest lab.topology H ≡ true
+honest lab es [] all begun = refl
+honest lab es (r ∷ H) all begun =
+    both_true (is_honest_event lab.topology r.asked) (are_honest lab.topology H) (one_of (is_honest_event lab.topology) es (place H) r.asked all (brought lab es H r begun.0).asked) (honest lab es H all begun.1)
+
+pub honest_scenarios : HonestScenarios
+honest_scenarios s chain H all begun = honest (lab_of s chain) s.events H all begun

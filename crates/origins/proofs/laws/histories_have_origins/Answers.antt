@@ -1,0 +1,5 @@
+use Rattle.origins.proofs.Throughout as throughout
+use Rattle.origins.proofs.laws.histories_have_origins.Goals as goal
+
+pub returns : goal.returns
+returns c = throughout.histories c.is_brought.ensures c.late_is_foreign.ensures c.has_origin.ensures c.is_live.ensures

@@ -1,0 +1,50 @@
+-- All of it, at each record of a history: what can be said of a history that was played.
+use Rattle.std.specs.Prelude.{◌≡◌, ℕ, true, false, List, ◌∷◌, ◌++◌, Some}
+use Rattle.std.specs.List.{AllByRecursion}
+use Rattle.td_base.specs.declared.ipv6.Ip6.{Ip6}
+use Rattle.ipv6_packet.specs.Reads.{fields_in}
+use Rattle.teredo_addr.specs.Teredo.{is_teredo, embedded}
+use Rattle.topology.specs.declared.client_node.ClientNode.{ClientNode}
+use Rattle.topology.specs.Rules.{IsTopology}
+use Rattle.topology.specs.Topology.{client_at}
+use Rattle.topology.specs.Chains.{Behind}
+use Rattle.events.specs.Events.{IsEvent}
+use Rattle.events.specs.Scenario.{Scenario}
+use Rattle.history.specs.Full.{Full}
+use Rattle.legal.specs.Lab.{Lab, lab_of}
+use Rattle.legal.specs.Legal.{Begun, Grown}
+use Rattle.origins.specs.Honest.{is_honest, are_honest}
+use Rattle.origins.specs.Handed.{HandsOver, IsBrought}
+use Rattle.origins.specs.Origin.{HasOrigin}
+use Rattle.origins.specs.Live.{IsLive}
+
+-- of the record after H
+pub record HasOrigins (lab : Lab) (H : List Full) (r : Full) : Type 0 where
+  -- what a client's host is handed at once came in a datagram, with a Teredo source from where that says
+  pub brought : (n : ℕ) (c : ClientNode) (x : List ℕ) → HandsOver lab r n c x → IsBrought lab H r c x
+  -- what it is handed late has none
+  pub late : (n : ℕ) (c : ClientNode) → r.node ≡ Some n → client_at lab.topology n ≡ Some c
+      → AllByRecursion (λ x. is_teredo (fields_in x).src ≡ false) r.late
+  -- such a datagram was put there by a named event, or by a client whose host had handed in the packet
+  pub origin : (n : ℕ) (c : ClientNode) (x : List ℕ) (k : ℕ) → HandsOver lab r n c x → is_teredo (fields_in x).src ≡ true
+      → r.delivered ≡ Some k → HasOrigin lab H k (fields_in x).src x
+  -- in an honest history an address that a client gets leads to it
+  pub live : (n : ℕ) (c : ClientNode) (own : Ip6) → are_honest lab.topology (r ∷ H) ≡ true → r.node ≡ Some n → client_at lab.topology n ≡ Some c
+      → r.address ≡ Some own → IsLive lab (r ∷ H) c (embedded own)
+
+-- of each record
+abbrev pub HasOriginsThroughout : Lab → List Full → Type 0
+HasOriginsThroughout lab H = (later : List Full) (r : Full) (before : List Full) → H ≡ later ++ r ∷ before → HasOrigins lab before r
+
+-- a history of a topology that keeps its rules has them throughout
+abbrev pub HistoriesHaveOrigins : Type 0
+HistoriesHaveOrigins = (lab : Lab) (H : List Full) → IsTopology lab.topology → Grown lab H → HasOriginsThroughout lab H
+
+-- so has each history of a scenario, as far as it was played, whichever NATs are behind others
+abbrev pub ScenariosHaveOrigins : Type 0
+ScenariosHaveOrigins = (s : Scenario) (chain : List Behind) (H : List Full) → IsTopology s.topology → AllByRecursion (IsEvent s.topology) s.events
+    → Begun (lab_of s chain) s.events H → HasOriginsThroughout (lab_of s chain) H
+
+-- the history of an honest scenario is honest
+abbrev pub HonestScenarios : Type 0
+HonestScenarios = (s : Scenario) (chain : List Behind) (H : List Full) → is_honest s ≡ true → Begun (lab_of s chain) s.events H → are_honest s.topology H ≡ true
