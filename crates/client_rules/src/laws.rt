@@ -5,6 +5,7 @@ ghost use Rattle.client_rules.specs.Sendings.{EachSend};
 ghost use Rattle.client_rules.specs.Handed.{EachHanded, EachLate};
 ghost use Rattle.client_rules.specs.Numbers.{TestNumbers};
 ghost use Rattle.client_rules.specs.MadeSends.{EachStandingIsMade, EachSendIsBytes};
+ghost use Rattle.client_rules.specs.TickWarrants.{TickIsWarranted};
 ghost use Rattle.client_rules.specs.LateSources.{EachLateIsForeign};
 ghost use Rattle.client_rules.specs.Told.{EachAddressIsTold};
 ghost use Rattle.client_rules.specs.ShortSends.{EachSendIsShort};
@@ -27,6 +28,11 @@ pub fn reception_is_warranted()
 /// So has a packet of the host.
 pub fn transmission_is_warranted()
     ensures { TransmissionIsWarranted }
+{}
+
+/// A tick has a fate only where this is due.
+pub fn tick_is_warranted()
+    ensures { TickIsWarranted }
 {}
 
 /// One further entry is one further mention, and a change of address ends all.

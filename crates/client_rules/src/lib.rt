@@ -41,7 +41,7 @@ pub use laws::{
     each_send_is_bytes, each_send_is_short, each_standing_is_made, fate_of_reception,
     fate_of_transmission, journal_has_few, journal_is_tried, next_mentions, none_queued,
     numbers_of_tests, qualified_has_address, qualified_stays, queued_is_own,
-    reception_is_warranted, transmission_is_warranted, tries_touch, trusted_is_embedded,
-    waiting_is_own, waiting_was_handed_in,
+    reception_is_warranted, tick_is_warranted, transmission_is_warranted, tries_touch,
+    trusted_is_embedded, waiting_is_own, waiting_was_handed_in,
 };
 pub use limits::{TEST_ID, TEST_SEQ};

@@ -1,5 +1,6 @@
 //! Laws of every journal of a relay.
 ghost use Rattle.relay_rules.specs.Laws.{FateOfReception, FateOfTransmission, ReceptionIsWarranted, TransmissionIsWarranted, TriesTouch, JournalIsTried, ConeIsQuiet, WaitingIsForeign, TrustedIsEmbedded, HoldsNothing, JournalHasFew};
+ghost use Rattle.relay_rules.specs.TickWarrants.{TickIsWarranted};
 ghost use Rattle.relay_rules.specs.Sendings.{EachSend};
 ghost use Rattle.relay_rules.specs.ForeignSends.{EachSendIsForeign};
 
@@ -21,6 +22,11 @@ pub fn reception_is_warranted()
 /// A packet of the IPv6 side has a fate other than a drop's only by the line of that fate.
 pub fn transmission_is_warranted()
     ensures { TransmissionIsWarranted }
+{}
+
+/// A tick has a fate only where this is due.
+pub fn tick_is_warranted()
+    ensures { TickIsWarranted }
 {}
 
 /// Each try touches its peer.

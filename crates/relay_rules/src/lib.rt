@@ -34,6 +34,6 @@ mod laws;
 
 pub use laws::{
     cone_is_quiet, each_send, each_send_is_foreign, fate_of_reception, fate_of_transmission,
-    holds_nothing, journal_has_few, journal_is_tried, reception_is_warranted,
+    holds_nothing, journal_has_few, journal_is_tried, reception_is_warranted, tick_is_warranted,
     transmission_is_warranted, tries_touch, trusted_is_embedded, waiting_is_foreign,
 };
