@@ -16,7 +16,7 @@ import sys
 
 HERE = os.path.dirname(os.path.abspath(__file__))
 ALL_ROUTERS = 'ff02::2'
-BUBBLE, ICMP, DATA = 59, 58, 253
+BUBBLE, ICMP, UDP, DATA = 59, 58, 17, 253
 
 
 def ip4(text):
@@ -162,6 +162,9 @@ PACKETS = {
         packet(NATIVE, OWN, DATA, b'hello'),
         bubble('2001:db8::2', OWN),
         *[packet(NATIVE, OWN, DATA, b'hello')] * 4,
+    ],
+    'scenarios/random_flags.toml': [
+        packet(NATIVE, teredo('192.0.2.1', f'198.51.100.{nat}:1024', cone=True), UDP, b'hello', hop=64) for nat in (1, 2)
     ],
     'scenarios/spoofed_advertisement.toml': [
         authentication(NONCE) + origin('203.0.113.66:9') + advertisement('192.0.2.1', link_local('10.0.0.2:4000', cone=True)),
