@@ -1,5 +1,6 @@
 //! Laws of payloads as lists of bytes.
-ghost use Rattle.bubble.specs.Laws.{SpelledPayloadIsRead, PayloadIsSpelled, PayloadReadsBack, PayloadIsBytes, PacketIsPayload, PacketGoesOn, BubbleReadsBack, MessageIsCarried};
+ghost use Rattle.bubble.specs.Laws.{SpelledPayloadIsRead, PayloadIsSpelled, PayloadReadsBack, PayloadIsBytes};
+ghost use Rattle.bubble.specs.Laws.{PacketIsPayload, PacketGoesOn, BubbleReadsBack, MessageIsCarried};
 ghost use Rattle.bubble.specs.Numbers.{BubbleNumbers};
 
 /// A spelling of a payload is read as it.

@@ -52,7 +52,11 @@ impl Endpoint for Client {
 
     ghost stays_so = { λ c. record { stands = λ j h. h; words = refl; settings = refl } };
 
-    ghost stays_on = { λ old mid new first second. record { stands = λ j h. second.stands j (first.stands j h); words = second.words ∙ first.words; settings = second.settings ∙ first.settings } };
+    ghost stays_on = { λ old mid new first second. record {
+      stands = λ j h. second.stands j (first.stands j h);
+      words = second.words ∙ first.words;
+      settings = second.settings ∙ first.settings;
+    } };
 
     ghost ready_later = { λ c now later le early ready. record { clock = le_trans ready.clock le; early = early } };
 

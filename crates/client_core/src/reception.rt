@@ -126,7 +126,11 @@ impl Client {
         requires callable { IsCallable self.old now.0 }
         requires listed { is_some (peer_in self.old.peers now.0 who) ≡ true }
         requires first { step.old.sends ≡ [] }
-        ensures step { step.new ≡ record step.old { sends = releases from (known_to self.old.peers now.0 who).waiting; gone = length (known_to self.old.peers now.0 who).held } }
+        ensures step { step.new ≡ record step.old {
+          sends = releases from
+              (known_to self.old.peers now.0 who).waiting;
+          gone = length (known_to self.old.peers now.0 who).held;
+        } }
         ensures heard { OnlyPeers self.old now.0 who (heard_at now.0 (known_to self.old.peers now.0 who)) self.new }
     {
         step.set_gone(u16::from(self.peers.held_count(now, who)));
@@ -301,7 +305,8 @@ impl Client {
         requires callable { IsCallable self.old now.0 }
         requires listed { is_some (peer_in self.old.peers now.0 who) ≡ true }
         ensures step { step.new ≡ tested self.old who fate }
-        ensures peers { Updates self.old.peers self.new.peers now.0 who (tried_at now.0 (Some (nonce_from (words_ahead self.old))) (known_to self.old.peers now.0 who)) }
+        ensures peers { Updates self.old.peers self.new.peers now.0 who
+            (tried_at now.0 (Some (nonce_from (words_ahead self.old))) (known_to self.old.peers now.0 who)) }
         ensures place { self.new.rng ≡ after_words 2 self.old.rng }
         ensures qualifier { self.new.qualifier ≡ self.old.qualifier }
     {

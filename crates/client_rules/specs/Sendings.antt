@@ -40,16 +40,19 @@ pub data IsBubbleTo (e : Entry) (p : Ip6) (to : Ep) : Type 0 where
 -- whose a packet with nothing in front is, and where it goes: the packet that the host hands in, to where its destination
 -- is trusted or to the endpoint that this embeds; or one that waited, to where the datagram came from that releases it
 pub data IsCarriedTo (j : Journal) (e : Entry) (to : Ep) (bytes : List ℕ) : Type 0 where
-  to_trusted : e.input ≡ given bytes → e.step.fate ≡ fate.Sent → (known (mentions j.entries) e.moment (fields_in bytes).dst).trusted ≡ Some to → IsCarriedTo j e to bytes
+  to_trusted : e.input ≡ given bytes → e.step.fate ≡ fate.Sent
+      → (known (mentions j.entries) e.moment (fields_in bytes).dst).trusted ≡ Some to → IsCarriedTo j e to bytes
   to_cone : e.input ≡ given bytes → e.step.fate ≡ fate.SentCone → to ≡ embedded (fields_in bytes).dst → IsCarriedTo j e to bytes
   released : (x : List ℕ) → e.input ≡ arrived to x → WasHandedIn (epoch j.entries) e.peer bytes → IsCarriedTo j e to bytes
 
 -- a datagram of an entry about this peer, after a journal that says this, where the client is in this phase then:
 -- a solicitation of the phase, a bubble or a test from the client's address to the peer, or a packet of the host with
 -- nothing in front. Bubbles and packets go where these say
-pub data IsSending (s : Settings) (q : Qualification) (phase : Phase) (peer : Option Ip6) (bubbled : Ip6 → Ep → Type 0) (carried : Ep → List ℕ → Type 0) (x : Send) : Type 0 where
+pub data IsSending (s : Settings) (q : Qualification) (phase : Phase) (peer : Option Ip6)
+    (bubbled : Ip6 → Ep → Type 0) (carried : Ep → List ℕ → Type 0) (x : Send) : Type 0 where
   solicits : (nonce : ℕ) → x ≡ send (asked_at s phase) (solicitation s (asks_as_cone q phase) nonce) → IsSending s q phase peer bubbled carried x
-  bubbles : (own p : Ip6) (to : Ep) → q.address ≡ Some own → peer ≡ Some p → bubbled p to → x ≡ send to (bubble_bytes own p) → IsSending s q phase peer bubbled carried x
+  bubbles : (own p : Ip6) (to : Ep) → q.address ≡ Some own → peer ≡ Some p → bubbled p to
+      → x ≡ send to (bubble_bytes own p) → IsSending s q phase peer bubbled carried x
   tests : (own p : Ip6) (nonce : ℕ) → q.address ≡ Some own → peer ≡ Some p → x ≡ test s own p nonce → IsSending s q phase peer bubbled carried x
   carries : (to : Ep) (bytes : List ℕ) → IsOwnTo q.address peer bytes → carried to bytes → x ≡ send to bytes → IsSending s q phase peer bubbled carried x
 

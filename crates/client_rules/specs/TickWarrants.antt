@@ -55,4 +55,5 @@ TickedOnlyIf fate.Idle n q first = Unit {0}
 TickedOnlyIf _ n q first = ⊥
 
 abbrev pub TickIsWarranted : Type 0
-TickIsWarranted = (s : Settings) (n : ℕ) (q : Qualification) (w : Words) (first : Option Listing) → TickedOnlyIf (tick s n q w (due_at n q first)).fate n q first
+TickIsWarranted = (s : Settings) (n : ℕ) (q : Qualification) (w : Words) (first : Option Listing)
+    → TickedOnlyIf (tick s n q w (due_at n q first)).fate n q first

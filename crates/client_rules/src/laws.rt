@@ -1,5 +1,7 @@
 //! Laws of every journal of a client.
-ghost use Rattle.client_rules.specs.Laws.{FateOfReception, FateOfTransmission, ReceptionIsWarranted, TransmissionIsWarranted, NextMentions, TriesTouch, JournalIsTried, JournalHasFew};
+ghost use Rattle.client_rules.specs.Laws.{FateOfReception, FateOfTransmission, ReceptionIsWarranted};
+ghost use Rattle.client_rules.specs.Laws.{TransmissionIsWarranted, NextMentions, TriesTouch, JournalIsTried};
+ghost use Rattle.client_rules.specs.Laws.{JournalHasFew};
 ghost use Rattle.client_rules.specs.Epochs.{QualifiedHasAddress, QualifiedStays, QueuedIsOwn, NoneQueued, WaitingIsOwn, WaitingWasHandedIn, TrustedIsEmbedded};
 ghost use Rattle.client_rules.specs.Sendings.{EachSend};
 ghost use Rattle.client_rules.specs.Handed.{EachHanded, EachLate};

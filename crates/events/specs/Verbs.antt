@@ -19,7 +19,8 @@ verb_word verb.Fault = codes "fault"
 verb_word verb.Settle = codes "settle"
 
 abbrev pub verbs : List Verb
-verbs = verb.Advance ∷ verb.Deliver ∷ verb.Next ∷ verb.Host ∷ verb.Echo ∷ verb.Raw ∷ verb.Stranger ∷ verb.Copy ∷ verb.Restart ∷ verb.Forget ∷ verb.Fault ∷ verb.Settle ∷ []
+verbs = verb.Advance ∷ verb.Deliver ∷ verb.Next ∷ verb.Host ∷ verb.Echo ∷ verb.Raw ∷ verb.Stranger ∷ verb.Copy
+    ∷ verb.Restart ∷ verb.Forget ∷ verb.Fault ∷ verb.Settle ∷ []
 
 -- the event's word that a text is
 unfoldable pub verb_of : List ℕ → Option Verb

@@ -49,7 +49,8 @@ fn word_len(text: &[u8]) -> usize
 /// The next word, and those behind it.
 fn next_word(words: WordsLeft) -> Result<(&[u8], WordsLeft), EventFault>
     ensures found { IfOk result (λ x. words_from words.entry.text.now words.entry.at ≡ a_word words.entry.at x.0.now (words_from x.1.text.now x.1.at)) }
-    ensures none { IfErr result (λ e. (e ≡ At (length words.entry.text.now)) × (words_from words.entry.text.now words.entry.at ≡ no_word (length words.entry.text.now))) }
+    ensures none { IfErr result (λ e. (e ≡ At (length words.entry.text.now))
+        × (words_from words.entry.text.now words.entry.at ≡ no_word (length words.entry.text.now))) }
 {
     let WordsLeft { text, at } = words;
     if at > text.len() {
@@ -163,7 +164,8 @@ pub(crate) fn client<'a>(
     nat: u16,
     words: WordsLeft<'a>,
 ) -> Result<(u16, WordsLeft<'a>), EventFault>
-    ensures { Answers (λ x. (x.0, words_from x.1.text.now x.1.at)) result (word (named (is_client_of nat) t.now) (words_from words.entry.text.now words.entry.at)) }
+    ensures { Answers (λ x. (x.0, words_from x.1.text.now x.1.at)) result
+        (word (named (is_client_of nat) t.now) (words_from words.entry.text.now words.entry.at)) }
 {
     let (word, behind) = next_word(words)?;
     let number = client_named(t, nat, word).ok_or(EventFault::At { place: words.at })?;

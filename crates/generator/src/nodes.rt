@@ -1,13 +1,15 @@
 //! The nodes of the generated scenario.
 ghost use Rattle.std.specs.Prelude.{◌≡◌, ◌+◌, ◌*◌, ◌≤◌, ◌<◌, IfOk};
-ghost use Rattle.generator.specs.GeneratedNodes.{lettered_name, documentation_ip6, external_ip, kind_numbered, generated_server, generated_nat, generated_client, generated_relay, generated_native, generated_nodes};
+ghost use Rattle.generator.specs.GeneratedNodes.{lettered_name, documentation_ip6, external_ip, kind_numbered};
+ghost use Rattle.generator.specs.GeneratedNodes.{generated_server, generated_nat, generated_client, generated_relay};
+ghost use Rattle.generator.specs.GeneratedNodes.{generated_native, generated_nodes};
 
 use nat_kinds::NatKind;
 use std::alloc::Global;
 use td_base::{Ep, Ip4, Ip6, NoMemory};
 use topology::{
-    ClientNode, Name, NatNode, NativeNode, REFRESH_HIGH_MS, REFRESH_LOW_MS, RefreshRange, RelayNode, ServerNode,
-    Topology,
+    ClientNode, Name, NatNode, NativeNode, REFRESH_HIGH_MS, REFRESH_LOW_MS, RefreshRange,
+    RelayNode, ServerNode, Topology,
 };
 
 /// The numbers of the first NAT, the first client, the relay and the first native host, among all nodes.

@@ -5,7 +5,9 @@ use Rattle.td_base.specs.Reach.{is_link_local}
 use Rattle.td_base.specs.declared.ipv6.Ip6.{Ip6}
 use Rattle.icmp6.specs.declared.fault.IcmpFault.{IcmpFault}
 use Rattle.icmp6.specs.declared.fault.IcmpFault.TheVariants.{Short, Sum, HopLimit, Code, Source, OptionCut, OptionZero}
-use Rattle.icmp6.specs.declared.numbers.TheConstants.{HEAD_LEN, ECHO_LEN, SOLICIT_LEN, ADVERT_LEN, OPTION_HEAD_LEN, OPTION_UNIT, ROUTER_HOP, ECHO_REQUEST, ECHO_REPLY, ROUTER_SOLICIT, ROUTER_ADVERT}
+use Rattle.icmp6.specs.declared.numbers.TheConstants.{HEAD_LEN, ECHO_LEN, SOLICIT_LEN, ADVERT_LEN, OPTION_HEAD_LEN}
+use Rattle.icmp6.specs.declared.numbers.TheConstants.{OPTION_UNIT, ROUTER_HOP, ECHO_REQUEST, ECHO_REPLY, ROUTER_SOLICIT}
+use Rattle.icmp6.specs.declared.numbers.TheConstants.{ROUTER_ADVERT}
 use Rattle.icmp6.specs.Checksum.{checksum_of}
 use Rattle.icmp6.specs.Options.{AreOptions}
 
@@ -44,7 +46,8 @@ pub record IsNear (src dst : Ip6) (hop : ℕ) (x : List ℕ) : Type 0 where
 pub record HasOptionsAt (start : ℕ) (src dst : Ip6) (hop : ℕ) (x : List ℕ) : Type 0 where
   pub near : IsNear src dst hop x
   pub code : slice_index x 1 ≡ 0
-  pub kind : ((slice_index x 0 ≡ ROUTER_SOLICIT) × (start ≡ SOLICIT_LEN)) ⊎ ((slice_index x 0 ≡ ROUTER_ADVERT) × (start ≡ ADVERT_LEN) × IsTrue (is_link_local src))
+  pub kind : ((slice_index x 0 ≡ ROUTER_SOLICIT) × (start ≡ SOLICIT_LEN))
+      ⊎ ((slice_index x 0 ≡ ROUTER_ADVERT) × (start ≡ ADVERT_LEN) × IsTrue (is_link_local src))
 
 -- the options of x from a start on are whole up to a place before its end
 pub record AreWholeUpTo (start place : ℕ) (x : List ℕ) : Type 0 where
@@ -55,7 +58,8 @@ pub record AreWholeUpTo (start place : ℕ) (x : List ℕ) : Type 0 where
 -- the first fault of the options of x from a start on
 abbrev pub IsOptionFault : ℕ → List ℕ → IcmpFault → Type 0
 IsOptionFault start x (OptionCut place) =
-    AreWholeUpTo start place x × ((length x < place + OPTION_HEAD_LEN) ⊎ ((0 < slice_index x (place + 1)) × (length x < place + OPTION_UNIT * slice_index x (place + 1))))
+    AreWholeUpTo start place x × ((length x < place + OPTION_HEAD_LEN)
+    ⊎ ((0 < slice_index x (place + 1)) × (length x < place + OPTION_UNIT * slice_index x (place + 1))))
 IsOptionFault start x (OptionZero place) = AreWholeUpTo start place x × (place + OPTION_HEAD_LEN ≤ length x) × (slice_index x (place + 1) ≡ 0)
 IsOptionFault start x _ = ⊥
 

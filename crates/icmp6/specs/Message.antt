@@ -8,7 +8,8 @@ use Rattle.icmp6.specs.declared.message.Msg.{Msg}
 use Rattle.icmp6.specs.declared.message.Msg.TheVariants.{EchoRequest, EchoReply, RouterSolicit, RouterAdvert, Other}
 use Rattle.icmp6.specs.declared.fault.IcmpFault.{IcmpFault}
 use Rattle.icmp6.specs.declared.fault.IcmpFault.TheVariants.{Short, Sum, HopLimit, Code, Source}
-use Rattle.icmp6.specs.declared.numbers.TheConstants.{HEAD_LEN, ECHO_LEN, SOLICIT_LEN, ADVERT_LEN, ROUTER_HOP, ECHO_REQUEST, ECHO_REPLY, ROUTER_SOLICIT, ROUTER_ADVERT}
+use Rattle.icmp6.specs.declared.numbers.TheConstants.{HEAD_LEN, ECHO_LEN, SOLICIT_LEN, ADVERT_LEN, ROUTER_HOP}
+use Rattle.icmp6.specs.declared.numbers.TheConstants.{ECHO_REQUEST, ECHO_REPLY, ROUTER_SOLICIT, ROUTER_ADVERT}
 use Rattle.icmp6.specs.Checksum.{checksum_of}
 use Rattle.icmp6.specs.Options.{whole_options}
 

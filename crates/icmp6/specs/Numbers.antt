@@ -1,6 +1,9 @@
 -- Types, lengths and limits.
 use Rattle.std.specs.Prelude.{◌≡◌}
-use Rattle.icmp6.specs.declared.numbers.TheConstants.{ICMPV6, HEAD_LEN, ECHO_LEN, ECHO_REQUEST, ECHO_REPLY, ROUTER_SOLICIT, SOLICIT_LEN, ROUTER_ADVERT, ADVERT_LEN, ROUTER_HOP, OPTION_HEAD_LEN, OPTION_UNIT, PREFIX_INFORMATION, PREFIX_UNITS, MTU_OPTION, MTU_UNITS}
+use Rattle.icmp6.specs.declared.numbers.TheConstants.{ICMPV6, HEAD_LEN, ECHO_LEN, ECHO_REQUEST, ECHO_REPLY}
+use Rattle.icmp6.specs.declared.numbers.TheConstants.{ROUTER_SOLICIT, SOLICIT_LEN, ROUTER_ADVERT, ADVERT_LEN}
+use Rattle.icmp6.specs.declared.numbers.TheConstants.{ROUTER_HOP, OPTION_HEAD_LEN, OPTION_UNIT, PREFIX_INFORMATION}
+use Rattle.icmp6.specs.declared.numbers.TheConstants.{PREFIX_UNITS, MTU_OPTION, MTU_UNITS}
 
 pub record MessageNumbers : Type 0 where
   -- RFC 4443, sections 1, 2.1, 4.1 and 4.2

@@ -1,7 +1,8 @@
 //! Reading a message: the tests that types share, a reader for each type, and the whole.
 ghost use Rattle.std.specs.Prelude.{◌≡◌, ◌≤◌, length, IfOk, IfErr};
 ghost use Rattle.td_base.specs.Results.{Gives};
-ghost use Rattle.icmp6.specs.Message.{Message, view, options_in, has_len, has_hop, has_code, has_source, echo_request_at, echo_reply_at, solicit_at, advert_at, message_at};
+ghost use Rattle.icmp6.specs.Message.{Message, view, options_in, has_len, has_hop, has_code, has_source};
+ghost use Rattle.icmp6.specs.Message.{echo_request_at, echo_reply_at, solicit_at, advert_at, message_at};
 ghost use Rattle.icmp6.specs.Options.{AreOptions};
 ghost use Rattle.icmp6.specs.Grammar.{MessageBytes};
 ghost use Rattle.icmp6.specs.Faults.{IsFirstFault};

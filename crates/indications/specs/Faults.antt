@@ -17,7 +17,8 @@ IsHeadCut rest = (length rest ≡ 0) ⊎ ((length rest ≡ 1) × (slice_index re
 -- an authentication is first, an origin is the only one, and bytes of it are missing
 abbrev pub IsBlockCut : Blocks → List ℕ → Type 0
 IsBlockCut before rest =
-    (StartsBlock 1 rest × (length (blocks_bytes before) ≡ 0) × (length rest < nonce_place rest + AUTH_TAIL)) ⊎ (StartsBlock 0 rest × IsNone before.origin × (length rest < ORIGIN))
+    (StartsBlock 1 rest × (length (blocks_bytes before) ≡ 0) × (length rest < nonce_place rest + AUTH_TAIL))
+    ⊎ (StartsBlock 0 rest × IsNone before.origin × (length rest < ORIGIN))
 
 -- an authentication isn't first, or an origin is a second one
 abbrev pub IsOutOfOrder : Blocks → List ℕ → Type 0
@@ -26,7 +27,8 @@ IsOutOfOrder before rest = (StartsBlock 1 rest × (0 < length (blocks_bytes befo
 -- the first byte begins nothing, or the second one behind a 0
 abbrev pub IsNoKind : ℕ → List ℕ → ℕ → ℕ → Type 0
 IsNoKind place rest at byte =
-    ((at ≡ place) × (0 < length rest) × (byte ≡ slice_index rest 0) × (byte ≢ 0) × (byte / 16 ≢ 6)) ⊎ ((at ≡ place + 1) × (1 < length rest) × (slice_index rest 0 ≡ 0) × (byte ≡ slice_index rest 1) × (1 < byte))
+    ((at ≡ place) × (0 < length rest) × (byte ≡ slice_index rest 0) × (byte ≢ 0) × (byte / 16 ≢ 6))
+    ⊎ ((at ≡ place + 1) × (1 < length rest) × (slice_index rest 0 ≡ 0) × (byte ≡ slice_index rest 1) × (1 < byte))
 
 -- the fault is in what begins behind the blocks that were read
 abbrev pub IsFaultBehind : Blocks → List ℕ → LeadFault → Type 0

@@ -1,5 +1,6 @@
 -- What is read in front of a packet, rule by rule: RFC 4380, section 5.1.1.
-use Rattle.std.specs.Prelude.{ℕ, ◌+◌, ◌/◌, List, length, slice_index, Bool, true, false, Option, Some, None, Result, Ok, Err, nat_lt, nat_le, ◌==◌, not, if◌then◌else◌}
+use Rattle.std.specs.Prelude.{ℕ, ◌+◌, ◌/◌, List, length, slice_index, Bool, true, false, Option, Some, None, Result, Ok}
+use Rattle.std.specs.Prelude.{Err, nat_lt, nat_le, ◌==◌, not, if◌then◌else◌}
 use Rattle.td_base.specs.Bytes.{number_at}
 use Rattle.td_base.specs.Results.{◌>>=◌}
 use Rattle.teredo_addr.specs.Hidden.{shown_at}

@@ -3,7 +3,9 @@ ghost use Rattle.std.specs.Prelude.{◌≡◌, ◌+◌, ◌<◌, ◌≤◌, ◌^
 ghost use Rattle.td_base.specs.Bytes.{IsPut, Writes};
 ghost use Rattle.td_base.specs.Ep.{IsEp};
 ghost use Rattle.indications.specs.Indications.{lead_at};
-ghost use Rattle.indications.specs.Blocks.{auth_bytes, origin_bytes, optional, with_nonce, AreBlocks, blocks_given, indications_bytes, nonce_len, origin_len, indications_len, lead, StartsPacket};
+ghost use Rattle.indications.specs.Blocks.{auth_bytes, origin_bytes, optional, with_nonce, AreBlocks, blocks_given};
+ghost use Rattle.indications.specs.Blocks.{indications_bytes, nonce_len, origin_len, indications_len, lead};
+ghost use Rattle.indications.specs.Blocks.{StartsPacket};
 
 use crate::blocks::{AUTH, ORIGIN};
 use td_base::{Ep, Room, put, put64};

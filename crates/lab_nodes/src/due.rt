@@ -23,7 +23,8 @@ pub struct Due {
 /// Whether a tick of a node may be due before the first one so far. It looks at the bounds that clients and relays keep,
 /// and so may say that one is where none is.
 fn may_come_first(first: &Option<Due>, node: &PlayedNode) -> bool
-    ensures { result ≡ false → (lab : Lab) (H : List Full) (m n : ℕ) (f : Option next.Due) → IsReady m node.now → IsKept lab.topology n (past_of lab n H) node.now
+    ensures { result ≡ false → (lab : Lab) (H : List Full) (m n : ℕ) (f : Option next.Due) → IsReady m node.now
+        → IsKept lab.topology n (past_of lab n H) node.now
         → first.now ≡ option_map due_as f → next.earlier f (tick_of lab H m n (row_of node.now)) ≡ f }
 {
     match node {
@@ -57,7 +58,8 @@ fn put_earlier(first: &mut Option<Due>, number: u16, node: &PlayedNode, at: Mill
     requires ready { IsReady at.0 node.now }
     requires early { at.0 < CLOCK_END_MS }
     ensures within { (k : ℕ) → number < k → IfSome first.old (λ x. x.node < k) → IfSome first.new (λ x. x.node < k) }
-    ensures earlier { (lab : Lab) (H : List Full) (f : Option next.Due) → IsKept lab.topology number (past_of lab number H) node.now → first.old ≡ option_map due_as f
+    ensures earlier { (lab : Lab) (H : List Full) (f : Option next.Due)
+        → IsKept lab.topology number (past_of lab number H) node.now → first.old ≡ option_map due_as f
         → first.new ≡ option_map due_as (next.earlier f (tick_of lab H at.0 number (row_of node.now))) }
 {
     let Some(moment) = node.due(at) else {

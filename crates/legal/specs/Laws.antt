@@ -78,7 +78,8 @@ EachIsTold = (lab : Lab) (H : List Full) (i : ℕ) (e : Event) → IsTold (next_
 -- a NAT's history in a history of its topology is one that the laws of NATs speak of: each datagram left from the port
 -- that the history before it answers, and moments don't fall
 abbrev pub EachNatIsPast : Type 0
-EachNatIsPast = (lab : Lab) (H : List Full) (k : ℕ) (a : NatNode) → Grown lab H → nat_at lab.topology k ≡ Some a → IsPast (nat_settings a) (nat_history lab k H) (now H)
+EachNatIsPast = (lab : Lab) (H : List Full) (k : ℕ) (a : NatNode) → Grown lab H → nat_at lab.topology k ≡ Some a
+    → IsPast (nat_settings a) (nat_history lab k H) (now H)
 
 -- a journal of a client, the moment m being none before its latest entry
 pub record IsOfClient (s : Settings) (j : Journal) (m : ℕ) : Type 0 where
@@ -87,7 +88,8 @@ pub record IsOfClient (s : Settings) (j : Journal) (m : ℕ) : Type 0 where
 
 -- a client's journal in a history of its topology is one that the laws of clients speak of
 abbrev pub EachClientIsJournal : Type 0
-EachClientIsJournal = (lab : Lab) (H : List Full) (n : ℕ) (c : ClientNode) → Grown lab H → node_at lab.topology n ≡ Some (client c) → IsOfClient (client_settings lab.topology c) (journal n H) (now H)
+EachClientIsJournal = (lab : Lab) (H : List Full) (n : ℕ) (c : ClientNode) → Grown lab H
+    → node_at lab.topology n ≡ Some (client c) → IsOfClient (client_settings lab.topology c) (journal n H) (now H)
 
 -- a journal of a relay
 pub record IsOfRelay (s : RelaySettings) (j : Journal) (m : ℕ) : Type 0 where
@@ -96,7 +98,8 @@ pub record IsOfRelay (s : RelaySettings) (j : Journal) (m : ℕ) : Type 0 where
 
 -- and a relay's one that the laws of relays speak of
 abbrev pub EachRelayIsJournal : Type 0
-EachRelayIsJournal = (lab : Lab) (H : List Full) (n : ℕ) (r : RelayNode) → Grown lab H → node_at lab.topology n ≡ Some (relay r) → IsOfRelay (relay_settings lab.topology n r) (journal n H) (now H)
+EachRelayIsJournal = (lab : Lab) (H : List Full) (n : ℕ) (r : RelayNode) → Grown lab H
+    → node_at lab.topology n ≡ Some (relay r) → IsOfRelay (relay_settings lab.topology n r) (journal n H) (now H)
 
 -- after a record that has further ones, less is left, as long as the wire isn't too long
 abbrev pub EachFalls : Type 0

@@ -30,7 +30,8 @@ peers_due j m = flat_map (λ (p : Ip6). waits_until (known j m p)) (listed j m)
 
 -- all due moments of a node: a client's phase or refresh, and its peers; a relay's peers
 abbrev pub due_moments : Lab → List Full → ℕ → Node → List ℕ
-due_moments lab H n (client c) = option_to_list (qualification (client_settings lab.topology c) (journal n H)).due ++ peers_due (client_bearings.mentions (journal n H).entries) (now H)
+due_moments lab H n (client c) = option_to_list (qualification (client_settings lab.topology c) (journal n H)).due
+    ++ peers_due (client_bearings.mentions (journal n H).entries) (now H)
 due_moments lab H n (relay r) = peers_due (relay_bearings.mentions (journal n H).entries) (now H)
 due_moments lab H n _ = []
 

@@ -1,6 +1,7 @@
 -- Mappings: which datagrams share one, and the ports that mappings hold. RFC 3489, section 5.
 -- A mapping is the latest outward datagram of its key that counts.
-use Rattle.std.specs.Prelude.{◌≡◌, ℕ, zero, suc, ◌+◌, ◌<◌, ◌≤◌, Bool, true, false, ◌&&◌, not, ◌==◌, if◌then◌else◌, List, [], ◌∷◌, length, filter, find, Option, Some, None}
+use Rattle.std.specs.Prelude.{◌≡◌, ℕ, zero, suc, ◌+◌, ◌<◌, ◌≤◌, Bool, true, false, ◌&&◌, not, ◌==◌, if◌then◌else◌, List}
+use Rattle.std.specs.Prelude.{[], ◌∷◌, length, filter, find, Option, Some, None}
 use Rattle.std.specs.List.{list_any}
 use Rattle.td_base.specs.Ep.{same_ep}
 use Rattle.td_base.specs.declared.endpoint.Ep.{Ep}

@@ -18,11 +18,15 @@ pub record NatState : Type 0 where
   pub places : List (Option Outward)
   pub asked : List (Way × Millis)
 
--- the history is one of such a NAT; from the NAT's moment on its table shows the latest datagram of each port that counts, and each mapping lets in whom the history lets in; and of whom was asked nothing is kept but the latest moments of the last two idle times
+-- the history is one of such a NAT; from the NAT's moment on its table shows the latest datagram of each port that counts,
+-- and each mapping lets in whom the history lets in; and of whom was asked nothing is kept but the latest moments of the
+-- last two idle times
 pub record StandsFor (nat : NatState) (h : List Entry) : Type 0 where
   pub past : IsPast nat.settings h nat.moment
   pub ports : (n : ℕ) → nat.moment ≤ n → Shows nat.settings.idle n nat.places (counting nat.settings.idle n h)
-  pub lets : (n : ℕ) → nat.moment ≤ n → (src : Ep) (m : Outward) → passes nat.settings.kind nat.settings.idle n nat.asked src m ≡ admits nat.settings.kind (counting nat.settings.idle n h) src m
+  pub lets : (n : ℕ) → nat.moment ≤ n → (src : Ep) (m : Outward)
+      → passes nat.settings.kind nat.settings.idle n nat.asked src m
+      ≡ admits nat.settings.kind (counting nat.settings.idle n h) src m
   pub recalls : Recalls nat.settings.kind (recalled nat.settings.kind nat.settings.idle nat.moment (kept h)) nat.asked
 
 -- it stands for each history that it stood for

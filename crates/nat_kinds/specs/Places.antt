@@ -98,7 +98,8 @@ IsLiveAt kind idle n places inside dst port = (e : Outward) × (place_at places 
 
 -- no place holds a young datagram of this key
 abbrev pub HasNoLive : NatKind → ℕ → ℕ → List (Option Outward) → Ep → Ep → Type 0
-HasNoLive kind idle n places inside dst = (port : ℕ) (e : Outward) → place_at places port ≡ Some e → has_key kind inside dst e ≡ true → is_young idle n e ≡ false
+HasNoLive kind idle n places inside dst = (port : ℕ) (e : Outward) → place_at places port ≡ Some e
+    → has_key kind inside dst e ≡ true → is_young idle n e ≡ false
 
 -- the port holds no young datagram
 abbrev pub IsFree : ℕ → ℕ → List (Option Outward) → ℕ → Type 0

@@ -34,8 +34,10 @@ pub same_way_decides : (a b : Way) → Decides (same_way a b) (a ≡ b)
 unfolding same_way
 same_way_decides a b =
     let inside = same_ep_decides a.inside b.inside in
-    let other = same_ep_decides a.other b.other in
-    (λ t. let both = and_parts _ _ t in same_parts a b (inside.0 both.0) (other.0 both.1), λ e. and_from _ _ (inside.1 (ap (λ (x : Way). x.inside) e)) (other.1 (ap (λ (x : Way). x.other) e)))
+    let other = same_ep_decides a.other b.other in (
+      λ t. let both = and_parts _ _ t in same_parts a b (inside.0 both.0) (other.0 both.1),
+      λ e. and_from _ _ (inside.1 (ap (λ (x : Way). x.inside) e)) (other.1 (ap (λ (x : Way). x.other) e)),
+    )
 
 pub same_way-true : (a b : Way) → same_way a b ≡ true → a ≡ b
 same_way-true a b = (same_way_decides a b).0

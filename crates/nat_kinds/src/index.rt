@@ -3,7 +3,8 @@ ghost use Rattle.std.specs.Prelude.{◌≡◌, ℕ, ◌+◌, ◌<◌, ◌≤◌,
 ghost use Rattle.std.specs.HashMap.{spare};
 ghost use Rattle.nat_kinds.specs.Mappings.{has_key};
 ghost use Rattle.nat_kinds.specs.Way.{same_way};
-ghost use Rattle.nat_kinds.specs.Places.{place_at, indexed, unless_at, unless_way, unless_in, has_key_in, IsPlace, IsNext, HasRoom, IsIndexed, IsPutIn, IsLiveAt, HasNoLive};
+ghost use Rattle.nat_kinds.specs.Places.{place_at, indexed, unless_at, unless_way, unless_in, has_key_in, IsPlace};
+ghost use Rattle.nat_kinds.specs.Places.{IsNext, HasRoom, IsIndexed, IsPutIn, IsLiveAt, HasNoLive};
 ghost use Rattle.nat_kinds.specs.declared.outgoing.Outward.{Outward};
 ghost use Rattle.nat_kinds.specs.declared.way.Way.{Way};
 ghost use Rattle.nat_kinds.specs.declared.limits.TheConstants.{FIRST_PORT, MAPPINGS_MAX};

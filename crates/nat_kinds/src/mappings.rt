@@ -78,8 +78,10 @@ pub fn send(
     ensures indexed { IsIndexed settings.now.kind places.new.items index.new.entries }
     ensures answer { (outs : List Outward) → Sound settings.now.kind outs → Shows settings.now.idle departure.moment.0 places.old.items outs →
         GivesAnswer settings.now (answer_of settings.now (latest settings.now.kind outs) departure.inside departure.dst) result }
-    ensures put { IfOk result (λ ep. IsPutIn settings.now.kind places.old.items places.new.items (record { moment = departure.moment; inside = departure.inside; dst = departure.dst; port = ep.port })) }
-    ensures noted { IfOk result (λ ep. IsNoted settings.now.kind asked.old.entries asked.new.entries (record { moment = departure.moment; inside = departure.inside; dst = departure.dst; port = ep.port })) }
+    ensures put { IfOk result (λ ep. IsPutIn settings.now.kind places.old.items places.new.items
+        (record { moment = departure.moment; inside = departure.inside; dst = departure.dst; port = ep.port })) }
+    ensures noted { IfOk result (λ ep. IsNoted settings.now.kind asked.old.entries asked.new.entries
+        (record { moment = departure.moment; inside = departure.inside; dst = departure.dst; port = ep.port })) }
     ensures same { OnErr result ((p : ℕ) → place_at places.new.items p ≡ place_at places.old.items p) }
     ensures same_asked { OnErr result ((way : Way) → asked_at asked.new.entries way ≡ asked_at asked.old.entries way) }
     ensures once { IsOnce asked.old.entries → IsOnce asked.new.entries }
@@ -136,7 +138,8 @@ pub fn inside_at(
     src: Ep,
     port: u16,
 ) -> Option<Ep>
-    ensures value { result ≡ inside_by settings.now.kind settings.now.idle now.0 asked.now.entries src (if_young settings.now.idle now.0 (place_at places.now port)) }
+    ensures value { result
+        ≡ inside_by settings.now.kind settings.now.idle now.0 asked.now.entries src (if_young settings.now.idle now.0 (place_at places.now port)) }
 {
     let Some(sent) = places::at(places, port) else {
         return None;

@@ -92,11 +92,29 @@ pub record CallsAre (m : ℕ) (p : Peer) (who : Option Ip6) : Type 0 where
   pub touch : after (record { moment = m; peer = who; bearing = touching }) p ≡ touched_at m p
   pub wait : (x : List ℕ) → after (record { moment = m; peer = who; bearing = record touching { queues = Some x } }) p ≡ queued_at m x p
   pub wait_tried : (x : List ℕ) (nonce : Option ℕ)
-      → after (record { moment = m; peer = who; bearing = record touching { queues = Some x; tries = true; nonce = nonce } }) p ≡ tried_at m nonce (queued_at m x p)
+      → after (record {
+        moment = m;
+        peer = who;
+        bearing = record touching {
+          queues = Some x;
+          tries = true;
+          nonce = nonce;
+        };
+      }) p ≡ tried_at m nonce (queued_at m x p)
   pub hold : (from : Ep) (x : List ℕ) → while_listed m p ≡ Some p
       → after (record { moment = m; peer = who; bearing = record no_bearing { holds = Some (record { from = from; packet = x }) } }) p ≡ held_at m from x p
   pub hold_tried : (from : Ep) (x : List ℕ) (nonce : Option ℕ)
-      → after (record { moment = m; peer = who; bearing = record touching { holds = Some (record { from = from; packet = x }); tries = true; nonce = nonce } }) p ≡ tried_at m nonce (held_at m from x p)
+      → after (record {
+        moment = m;
+        peer = who;
+        bearing = record touching {
+          holds = Some
+              (record { from = from; packet = x });
+          tries = true;
+          nonce = nonce;
+        };
+      }) p
+      ≡ tried_at m nonce (held_at m from x p)
   pub tried : (nonce : Option ℕ) → after (record { moment = m; peer = who; bearing = record touching { tries = true; nonce = nonce } }) p ≡ tried_at m nonce p
   pub trust : (at : Ep) → p.tries ≡ [] → after (record { moment = m; peer = who; bearing = record touching { trusts = Some at } }) p ≡ trusted_at m at p
   pub hear : after (record { moment = m; peer = who; bearing = record touching { hears = true } }) p ≡ heard_at m p

@@ -5,7 +5,8 @@ ghost use Rattle.ipv6_packet.specs.declared.header.TheConstants.{PACKET_MAX};
 ghost use Rattle.td_outside.specs.declared.clock.TheConstants.{CLOCK_END_MS};
 ghost use Rattle.teredo_node.specs.Sends.{releases};
 ghost use Rattle.peer_list.specs.Peers.{no_peer};
-ghost use Rattle.peer_list.specs.Judged.{is_within, is_none, is_fresh, is_spent, is_barred, is_full, holds_most, held_from, held_elsewhere, is_trusted_at, due_of};
+ghost use Rattle.peer_list.specs.Judged.{is_within, is_none, is_fresh, is_spent, is_barred, is_full, holds_most};
+ghost use Rattle.peer_list.specs.Judged.{held_from, held_elsewhere, is_trusted_at, due_of};
 ghost use Rattle.peer_list.specs.Waiting.{kept_count};
 ghost use Rattle.peer_list.specs.Calls.{touched_at, trusted_at, heard_at, tried_at, queued_at, holding, emptied, changed_at, IsInTime};
 

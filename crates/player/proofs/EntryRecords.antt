@@ -60,7 +60,7 @@ module _ (moment : ℕ) (items : List Item) (first number : ℕ) (before after e
     ok = tt;
     err = subst (λ (l : List (List ℕ)). BeginsLines before end l) (sym all_on)
         (BeginsLines-more before end (r.done ++ record_pieces (entry_record moment item ∷ [])) (pieces_from moment items (number + 1))
-            (BeginsLines-then before after end r.done (record_pieces (entry_record moment item ∷ [])) r.written w.err));
+        (BeginsLines-then before after end r.done (record_pieces (entry_record moment item ∷ [])) r.written w.err));
     cause = record {
       later = let l = w.cause.later in omega (arith, l, r.quiet);
       failed = subst (λ (n : ℕ). Rose n end.faults) r.quiet w.cause.failed;

@@ -12,7 +12,9 @@ use Rattle.player.specs.Account.{all_lines}
 use Rattle.player.specs.Accounts.{capture_account}
 use Rattle.player.specs.Capture.{capture_head, step_records, capture_records, record_pieces}
 
-pub capture_grows : (H : List Full) (r : Full) → head_bytes capture_head ∷ record_pieces (capture_records H ++ step_records r) ≡ (head_bytes capture_head ∷ record_pieces (capture_records H)) ++ record_pieces (step_records r)
+pub capture_grows : (H : List Full) (r : Full) → head_bytes capture_head
+    ∷ record_pieces (capture_records H ++ step_records r)
+    ≡ (head_bytes capture_head ∷ record_pieces (capture_records H)) ++ record_pieces (step_records r)
 capture_grows H r = ap (λ (l : List (List ℕ)). head_bytes capture_head ∷ l) (map-append (record_bytes false) (capture_records H) (step_records r))
 
 -- the pieces of a history's capture are a capture's bytes

@@ -1,7 +1,5 @@
 //! Clients behind a NAT, played by `run`: how they qualify, what a restart does, what waits and what is given up.
-use crate::nets::{
-    CLIENT, CONE_NAT, NO_CONE_TRY, PORT_NAT, RANDOM_FLAGS, SERVER, SYMMETRIC_NAT,
-};
+use crate::nets::{CLIENT, CONE_NAT, NO_CONE_TRY, PORT_NAT, RANDOM_FLAGS, SERVER, SYMMETRIC_NAT};
 use crate::runs::{LAB, Scene, ended, ending, plays_so, text_with};
 use std::alloc::Global;
 use std::test::Fail;

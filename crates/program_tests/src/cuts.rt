@@ -51,7 +51,8 @@ fn each_cut_has_its_fault(rt: HostRuntime) -> Result<(), Fail> {
     Ok(())
 }
 
-const ITS_SERVER: &str = "]\nserver = [{ name = \"s1\", primary = \"192.0.2.1\", secondary = \"192.0.2.2\" }]\n";
+const ITS_SERVER: &str =
+    "]\nserver = [{ name = \"s1\", primary = \"192.0.2.1\", secondary = \"192.0.2.2\" }]\n";
 
 /// A scenario in which a server gets the first `len` bytes, and its report.
 fn cut_at_a_server(alloc: Global, len: usize) -> Result<(String, String), NoMemory> {
@@ -59,8 +60,12 @@ fn cut_at_a_server(alloc: Global, len: usize) -> Result<(String, String), NoMemo
     if len == 0 {
         bytes.push('-')?;
     }
-    let text = format!(in alloc; "seed = 1\nevents = [\"stranger 198.51.100.7:40000 192.0.2.1:3544 {bytes}\", \"settle\"{ITS_SERVER}")?;
-    let report = format!(in alloc; "0 0 0 stranger - put #0=198.51.100.7:40000>192.0.2.1:3544/{len}\n1 0 1 deliver:0 s1 malformed\n2 0 1 settle - done\ntotal records 3 entries 1 delivered 1 handed 0 kept 0 dropped 1\n")?;
+    let text = format!(in alloc;
+        "seed = 1\nevents = [\"stranger 198.51.100.7:40000 192.0.2.1:3544 {bytes}\", \"settle\"{ITS_SERVER}"
+    )?;
+    let report = format!(in alloc;
+        "0 0 0 stranger - put #0=198.51.100.7:40000>192.0.2.1:3544/{len}\n1 0 1 deliver:0 s1 malformed\n2 0 1 settle - done\ntotal records 3 entries 1 delivered 1 handed 0 kept 0 dropped 1\n"
+    )?;
     Ok((text, report))
 }
 

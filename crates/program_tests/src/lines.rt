@@ -7,11 +7,11 @@ use crate::nodes::{
 };
 use events::Verb;
 use history::{Act, LATES_MAX, Lates, Loss, MARKS_MAX, Mark, Marks, Record};
-use topology::Topology;
 use report::{Sums, line, summary};
 use std::test::Fail;
 use td_base::{Ep, Ip4, Ip6, LineBuf, Millis, print_text};
 use teredo_node::Fate;
+use topology::Topology;
 
 const STRANGER: Ep = Ep {
     ip: Ip4([198, 51, 100, 7]),
@@ -306,7 +306,9 @@ fn the_longest_line(rt: HostRuntime) -> Result<(), Fail> {
             break;
         }
         late.push(usize::MAX);
-        print_text(b" late/18446744073709551615", &mut want).ok().ok_or("room")?;
+        print_text(b" late/18446744073709551615", &mut want)
+            .ok()
+            .ok_or("room")?;
     }
     print_text(b" gone/65535", &mut want).ok().ok_or("room")?;
     let mut marks = Marks::new();

@@ -1,9 +1,9 @@
 //! A world that is played by hand.
 use events::Event;
-use topology::Topology;
 use std::test::Fail;
 use td_base::{Ep, Ip4};
 use td_outside::Octets;
+use topology::Topology;
 use world::{WireEntry, World};
 
 #[test]

@@ -16,11 +16,27 @@ nonces_of a = take a.count a.slots
 
 -- a phase that asks; each of its solicitations has a nonce
 abbrev pub asks_so : Phase → Round → Option Ep → Qualification
-asks_so phase r kept = record { phase = phase; due = Some r.due.0; sends = length (nonces_of r.nonces); open_nonces = nonces_of r.nonces; kept = kept; address = None; interval = 0 }
+asks_so phase r kept = record {
+  phase = phase;
+  due = Some r.due.0;
+  sends = length (nonces_of r.nonces);
+  open_nonces = nonces_of r.nonces;
+  kept = kept;
+  address = None;
+  interval = 0;
+}
 
 -- a client with an address
 abbrev pub keeps_up : Upkeep → Qualification
-keeps_up a = record { phase = phases.Qualified; due = Some a.due.0; sends = 0; open_nonces = option_to_list a.nonce; kept = None; address = Some a.address; interval = a.interval }
+keeps_up a = record {
+  phase = phases.Qualified;
+  due = Some a.due.0;
+  sends = 0;
+  open_nonces = option_to_list a.nonce;
+  kept = None;
+  address = Some a.address;
+  interval = a.interval;
+}
 
 -- a phase that lasts
 abbrev pub lasts : Phase → Qualification

@@ -39,7 +39,8 @@ pub fn heard(
     requires bound { now.0 < CLOCK_END_MS }
     requires short { length payload.now.packet.body.now ≤ DATAGRAM_MAX }
     ensures fate { result.1 ≡ advert_row settings.now (qualification_of state) from (view payload.now) }
-    ensures turns { TurnsBy settings.now now.0 result.1 (drawn_words (advert_words settings.now result.1) (words_of rng.old)) (origin_in payload.now.lead) (qualification_of state) (qualification_of result.0) }
+    ensures turns { TurnsBy settings.now now.0 result.1 (drawn_words (advert_words settings.now result.1)
+        (words_of rng.old)) (origin_in payload.now.lead) (qualification_of state) (qualification_of result.0) }
     ensures place { rng.new ≡ after_words (advert_words settings.now result.1) rng.old }
 {
     match taken_origin(settings, &state, from, payload) {
@@ -89,7 +90,8 @@ fn qualified(
 ) -> Upkeep
     requires settings { IsSettings settings.now }
     requires bound { now.0 < CLOCK_END_MS }
-    ensures address { Some result.address ≡ address_of settings.now cone (flags_word settings.now (drawn_words (1 + flags_words settings.now) (words_of rng.old))) (Some origin) }
+    ensures address { Some result.address ≡ address_of settings.now cone
+        (flags_word settings.now (drawn_words (1 + flags_words settings.now) (words_of rng.old))) (Some origin) }
     ensures interval { result.interval ≡ interval_of settings.now (words_of rng.old 0) }
     ensures due { result.due.0 ≡ now.0 + result.interval }
     ensures nonce { result.nonce ≡ None }
@@ -121,7 +123,8 @@ fn compared(
 ) -> (State, Fate)
     requires settings { IsSettings settings.now }
     requires bound { now.0 < CLOCK_END_MS }
-    ensures answer { (r : Round) → AnswersBy settings.now now.0 origin (words_of rng.old) (asks_so Phase.Secondary r (Some kept)) result.1 (qualification_of result.0) }
+    ensures answer { (r : Round) → AnswersBy settings.now now.0 origin (words_of rng.old)
+        (asks_so Phase.Secondary r (Some kept)) result.1 (qualification_of result.0) }
     ensures place { rng.new ≡ after_words (advert_words settings.now result.1) rng.old }
 {
     if origin == kept {

@@ -32,7 +32,8 @@ pub fn ticked(
 ) -> State
     requires settings { IsSettings settings.now }
     requires bound { now.0 < CLOCK_END_MS }
-    ensures tick { let q = qualification_of state in let w = words_of rng.old in TicksBy settings.now now.0 w (step_at settings.now q now.0 w) q step.new (qualification_of result) }
+    ensures tick { let q = qualification_of state in let w = words_of rng.old in
+        TicksBy settings.now now.0 w (step_at settings.now q now.0 w) q step.new (qualification_of result) }
     ensures done { is_due now.0 (qualification_of result).due ≡ false }
     ensures place { rng.new ≡ after_words step.new.drawn rng.old }
 {
@@ -61,7 +62,8 @@ fn cone(
     step: &mut Step,
 ) -> State
     requires bound { now.0 < CLOCK_END_MS }
-    ensures tick { let q = asks_so Phase.Cone round None in let w = words_of rng.old in TicksBy settings.now now.0 w (due_step settings.now q w) q step.new (qualification_of result) }
+    ensures tick { let q = asks_so Phase.Cone round None in let w = words_of rng.old in
+        TicksBy settings.now now.0 w (due_step settings.now q w) q step.new (qualification_of result) }
     ensures done { is_due now.0 (qualification_of result).due ≡ false }
     ensures place { rng.new ≡ after_words step.new.drawn rng.old }
 {
@@ -92,7 +94,8 @@ fn restricted(
     step: &mut Step,
 ) -> State
     requires bound { now.0 < CLOCK_END_MS }
-    ensures tick { let q = asks_so Phase.Restricted round None in let w = words_of rng.old in TicksBy settings.now now.0 w (due_step settings.now q w) q step.new (qualification_of result) }
+    ensures tick { let q = asks_so Phase.Restricted round None in let w = words_of rng.old in
+        TicksBy settings.now now.0 w (due_step settings.now q w) q step.new (qualification_of result) }
     ensures done { is_due now.0 (qualification_of result).due ≡ false }
     ensures place { rng.new ≡ after_words step.new.drawn rng.old }
 {
@@ -122,7 +125,8 @@ fn secondary(
     step: &mut Step,
 ) -> State
     requires bound { now.0 < CLOCK_END_MS }
-    ensures tick { let q = asks_so Phase.Secondary round (Some kept) in let w = words_of rng.old in TicksBy settings.now now.0 w (due_step settings.now q w) q step.new (qualification_of result) }
+    ensures tick { let q = asks_so Phase.Secondary round (Some kept) in let w = words_of rng.old in
+        TicksBy settings.now now.0 w (due_step settings.now q w) q step.new (qualification_of result) }
     ensures done { is_due now.0 (qualification_of result).due ≡ false }
     ensures place { rng.new ≡ after_words step.new.drawn rng.old }
 {
@@ -162,7 +166,8 @@ fn refresh(
 ) -> State
     requires settings { IsSettings settings.now }
     requires bound { now.0 < CLOCK_END_MS }
-    ensures tick { let q = keeps_up upkeep in let w = words_of rng.old in TicksBy settings.now now.0 w (due_step settings.now q w) q step.new (qualification_of result) }
+    ensures tick { let q = keeps_up upkeep in let w = words_of rng.old in
+        TicksBy settings.now now.0 w (due_step settings.now q w) q step.new (qualification_of result) }
     ensures done { is_due now.0 (qualification_of result).due ≡ false }
     ensures place { rng.new ≡ after_words step.new.drawn rng.old }
 {

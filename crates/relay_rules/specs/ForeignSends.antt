@@ -22,4 +22,5 @@ pub record IsForeignSend (send : Send) : Type 0 where
   pub foreign : is_teredo (value_in send.bytes).packet.src ≡ false
 
 abbrev pub EachSendIsForeign : Type 0
-EachSendIsForeign = (s : RelaySettings) (j : List Entry) (e : Entry) → IsJournal s (e ∷ j) → IsMadeRelay s → IsMadeInput e.input → AreMadeInputs j → AllByRecursion IsForeignSend e.step.sends
+EachSendIsForeign = (s : RelaySettings) (j : List Entry) (e : Entry) → IsJournal s (e ∷ j) → IsMadeRelay s
+    → IsMadeInput e.input → AreMadeInputs j → AllByRecursion IsForeignSend e.step.sends

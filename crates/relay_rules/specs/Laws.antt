@@ -67,7 +67,8 @@ pub record IsForeignTo (to : Option Ip6) (x : List ℕ) : Type 0 where
 
 -- what waits for p is such a packet to p
 abbrev pub WaitingIsForeign : Type 0
-WaitingIsForeign = (s : RelaySettings) (j : List Entry) (n : ℕ) (p : Ip6) → IsJournal s j → AllByRecursion (IsForeignTo (Some p)) (known (mentions j) n p).waiting
+WaitingIsForeign = (s : RelaySettings) (j : List Entry) (n : ℕ) (p : Ip6) → IsJournal s j
+    → AllByRecursion (IsForeignTo (Some p)) (known (mentions j) n p).waiting
 
 -- a client is trusted where its address says
 abbrev pub TrustedIsEmbedded : Type 0

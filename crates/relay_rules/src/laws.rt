@@ -1,5 +1,7 @@
 //! Laws of every journal of a relay.
-ghost use Rattle.relay_rules.specs.Laws.{FateOfReception, FateOfTransmission, ReceptionIsWarranted, TransmissionIsWarranted, TriesTouch, JournalIsTried, ConeIsQuiet, WaitingIsForeign, TrustedIsEmbedded, HoldsNothing, JournalHasFew};
+ghost use Rattle.relay_rules.specs.Laws.{FateOfReception, FateOfTransmission, ReceptionIsWarranted};
+ghost use Rattle.relay_rules.specs.Laws.{TransmissionIsWarranted, TriesTouch, JournalIsTried, ConeIsQuiet};
+ghost use Rattle.relay_rules.specs.Laws.{WaitingIsForeign, TrustedIsEmbedded, HoldsNothing, JournalHasFew};
 ghost use Rattle.relay_rules.specs.TickWarrants.{TickIsWarranted};
 ghost use Rattle.relay_rules.specs.Sendings.{EachSend};
 ghost use Rattle.relay_rules.specs.ForeignSends.{EachSendIsForeign};

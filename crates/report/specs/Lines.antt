@@ -59,7 +59,8 @@ loss_word loss.Fault = codes "fault"
 
 -- a send, by the entry that it became or by why it became none
 abbrev pub mark_text : TopologyState → Mark → List ℕ
-mark_text t (mark.Udp number src dst len) = codes " #" ++ (decimal number ++ (codes "=" ++ (ep_text src ++ (codes ">" ++ (ep_text dst ++ (codes "/" ++ decimal len))))))
+mark_text t (mark.Udp number src dst len) = codes " #" ++ (decimal number
+    ++ (codes "=" ++ (ep_text src ++ (codes ">" ++ (ep_text dst ++ (codes "/" ++ decimal len))))))
 mark_text t (mark.Six number None len) = codes " #" ++ (decimal number ++ (codes "=six/" ++ decimal len))
 mark_text t (mark.Six number (Some relay) len) = codes " #" ++ (decimal number ++ (codes "=six:" ++ (node_text t (Some relay) ++ (codes "/" ++ decimal len))))
 mark_text t (mark.Lost why dst len) = codes " !" ++ (loss_word why ++ (codes "=" ++ (ep_text dst ++ (codes "/" ++ decimal len))))
@@ -70,7 +71,9 @@ marks_text t (m ∷ ms) = mark_text t m ++ marks_text t ms
 
 -- INDEX MOMENT EVENT ACT NODE FATE
 abbrev pub head_text : TopologyState → ℕ → Record → List ℕ
-head_text t index r = decimal index ++ (codes " " ++ (decimal r.moment.0 ++ (codes " " ++ (decimal r.event ++ (codes " " ++ (act_text r.act ++ (codes " " ++ (node_text t r.node ++ (codes " " ++ fate_word r.fate)))))))))
+head_text t index r = decimal index ++ (codes " " ++ (decimal r.moment.0
+    ++ (codes " " ++ (decimal r.event ++ (codes " " ++ (act_text r.act
+    ++ (codes " " ++ (node_text t r.node ++ (codes " " ++ fate_word r.fate)))))))))
 
 -- what the record says of a client, and a mark for each send
 abbrev pub tail_text : TopologyState → Record → List ℕ

@@ -23,7 +23,10 @@ sums_of H = record {
 -- the last line of a report
 abbrev pub totals_line : Sums → List ℕ
 totals_line s =
-    codes "total records " ++ (decimal s.records ++ (codes " entries " ++ (decimal s.entries ++ (codes " delivered " ++ (decimal s.delivered ++ (codes " handed " ++ (decimal s.handed ++ (codes " kept " ++ (decimal s.kept ++ (codes " dropped " ++ (decimal s.dropped ++ codes "\n")))))))))))
+    codes "total records " ++ (decimal s.records ++ (codes " entries "
+    ++ (decimal s.entries ++ (codes " delivered " ++ (decimal s.delivered
+    ++ (codes " handed " ++ (decimal s.handed ++ (codes " kept "
+    ++ (decimal s.kept ++ (codes " dropped " ++ (decimal s.dropped ++ codes "\n")))))))))))
 
 abbrev pub totals : List Full → List ℕ
 totals H = totals_line (sums_of H)

@@ -2,7 +2,9 @@
 ghost use Rattle.std.specs.Prelude.{◌≡◌, ◌+◌, ◌≤◌, ◌++◌, length};
 ghost use Rattle.report.specs.Lines.{head_text, tail_text, record_line};
 
-use crate::fields::{put_act, put_address, put_gone, put_handed, put_lates, put_node, put_number, put_short};
+use crate::fields::{
+    put_act, put_address, put_gone, put_handed, put_lates, put_node, put_number, put_short,
+};
 use crate::marks::put_marks;
 use history::Record;
 use td_base::{LINE_LEN, LineBuf};

@@ -13,7 +13,8 @@ pub length-padded : (front : List ℕ) → length front ≤ NAME_LEN → length 
 length-padded front short = omega (arith, length-append front (replicate (NAME_LEN - length front) 0), length-replicate {A = ℕ} (NAME_LEN - length front) 0)
 
 pub padded-front : (front : List ℕ) → padded front ≡ take (length front) (padded front) ++ replicate (NAME_LEN - length front) 0
-padded-front front = ap (λ (xs : List ℕ). xs ++ replicate (NAME_LEN - length front) 0) (sym (take_at front (replicate (NAME_LEN - length front) 0) (length front) refl))
+padded-front front = ap (λ (xs : List ℕ). xs
+    ++ replicate (NAME_LEN - length front) 0) (sym (take_at front (replicate (NAME_LEN - length front) 0) (length front) refl))
 
 abbrev pub name_of_front : (front : List ℕ) → length front ≤ NAME_LEN → Name
 name_of_front front short = record { len = length front; bytes = padded front; whole = length-padded front short; short = short; padded = padded-front front }

@@ -43,7 +43,8 @@ item_count (item value more) = 1 + item_count more
 
 -- the nodes, and those of a list that isn't too long
 abbrev pub with_few : NodeKind → TopologyState → Items → Result TopologyState ScenarioFault
-with_few kind t values = if nat_le (item_count values) (most_rows kind) then with_values kind 0 t values else Err (fault.Range (key_path place.Text (list_key kind)))
+with_few kind t values = if nat_le (item_count values) (most_rows kind) then with_values kind 0 t values
+    else Err (fault.Range (key_path place.Text (list_key kind)))
 
 -- the nodes, and those of a list, which may be missing
 abbrev pub with_list : NodeKind → TopologyState → Option Data → Result TopologyState ScenarioFault

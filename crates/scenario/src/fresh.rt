@@ -6,7 +6,10 @@ ghost use Rattle.td_base.specs.Ip6.{same_ip6};
 ghost use Rattle.td_base.specs.Ep.{same_ep};
 ghost use Rattle.topology.specs.Names.{same_name};
 ghost use Rattle.topology.specs.NodeNames.{is_name_byte, begins_with_letter, is_name};
-ghost use Rattle.scenario.specs.Fresh.{spelled_name, is_free_name, new_name, is_free_address, is_new_address, new_address, other_address, new_endpoint, is_free_six, is_new_six, new_six, is_free_inside, new_inside, kind_of, random_of, natural, idle_of, is_refresh, refresh_of};
+ghost use Rattle.scenario.specs.Fresh.{spelled_name, is_free_name, new_name, is_free_address, is_new_address};
+ghost use Rattle.scenario.specs.Fresh.{new_address, other_address, new_endpoint, is_free_six, is_new_six, new_six};
+ghost use Rattle.scenario.specs.Fresh.{is_free_inside, new_inside, kind_of, random_of, natural, idle_of, is_refresh};
+ghost use Rattle.scenario.specs.Fresh.{refresh_of};
 
 use nat_kinds::NatKind;
 use td_base::{Ep, Ip4, Ip6, Policy, is_global, is_global6, read_ep, read_ip4, read_ip6};
@@ -85,7 +88,9 @@ fn is_name_of_natives(rows: &[NativeNode], name: Name) -> bool
 
 /// Whether a client, a relay or a native host has the name.
 fn is_name_of_others(topology: &Topology, name: Name) -> bool
-    ensures { result ≡ (list_any (λ row. same_name name row.name) topology.now.clients || (list_any (λ row. same_name name row.name) topology.now.relays || list_any (λ row. same_name name row.name) topology.now.natives)) }
+    ensures { result ≡ (list_any (λ row. same_name name row.name) topology.now.clients
+        || (list_any (λ row. same_name name row.name) topology.now.relays
+        || list_any (λ row. same_name name row.name) topology.now.natives)) }
 {
     is_name_of_clients(topology.clients(), name)
         || is_name_of_relays(topology.relays(), name)

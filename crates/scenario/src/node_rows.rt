@@ -2,7 +2,8 @@
 ghost use Rattle.std.specs.Prelude.{◌≡◌, option_map, option_and_then};
 ghost use Rattle.toml.specs.Data.{as_array};
 ghost use Rattle.toml.specs.View.{view, table_view, items_view};
-ghost use Rattle.scenario.specs.NodeRows.{server_of_table, nat_of_table, two_integers, given_refresh, refresh_in, random_in, cone_try_in, client_of_table, relay_of_table, native_of_table};
+ghost use Rattle.scenario.specs.NodeRows.{server_of_table, nat_of_table, two_integers, given_refresh, refresh_in};
+ghost use Rattle.scenario.specs.NodeRows.{random_in, cone_try_in, client_of_table, relay_of_table, native_of_table};
 
 use crate::fresh::{
     idle_of, kind_of, new_address, new_endpoint, new_inside, new_name, new_six, other_address,
@@ -12,8 +13,8 @@ use crate::row::Row;
 use crate::scenario_fault::ScenarioFault;
 use toml::Value;
 use topology::{
-    ClientNode, NatNode, NativeNode, REFRESH_HIGH_MS, REFRESH_LOW_MS, RefreshRange, RelayNode, ServerNode,
-    Topology, nat_named, relay_named, server_named,
+    ClientNode, NatNode, NativeNode, REFRESH_HIGH_MS, REFRESH_LOW_MS, RefreshRange, RelayNode,
+    ServerNode, Topology, nat_named, relay_named, server_named,
 };
 
 /// The server of a table.

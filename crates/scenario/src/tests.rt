@@ -73,9 +73,18 @@ fn reads_each_kind_of_node(rt: HostRuntime) -> Result<(), Fail> {
     assert_eq!(rt; nat.name.as_slice(), b"n1".as_slice());
     assert!(rt; server.secondary == Ip4([192, 0, 2, 2]) && nat.external == Ip4([198, 51, 100, 1]));
     let (of_a, of_b) = (a.refresh, b.refresh);
-    assert_eq!(rt; (a.nat, a.server, of_a.low_ms, of_a.high_ms), (1, 0, 22_500, 30_000));
-    assert_eq!(rt; (b.inside.port, of_b.low_ms, of_b.high_ms), (4_000, 1_000, 30_000));
-    assert_eq!(rt; (a.random, a.cone_try, b.random, b.cone_try), (false, true, true, false));
+    assert_eq!(rt;
+        (a.nat, a.server, of_a.low_ms, of_a.high_ms),
+        (1, 0, 22_500, 30_000)
+    );
+    assert_eq!(rt;
+        (b.inside.port, of_b.low_ms, of_b.high_ms),
+        (4_000, 1_000, 30_000)
+    );
+    assert_eq!(rt;
+        (a.random, a.cone_try, b.random, b.cone_try),
+        (false, true, true, false)
+    );
     let ([relay], [native]) = (scenario.topology.relays(), scenario.topology.natives()) else {
         return Err(Fail::new("other relays or native hosts"));
     };
@@ -301,21 +310,13 @@ const FAULTS: [(&str, &str, &str); 15] = [
         "10.0.0.2",
         "scenario client[0].inside: range\n",
     ),
-    (
-        "\"zero\"",
-        "\"none\"",
-        "scenario client[0].flags: range\n",
-    ),
+    ("\"zero\"", "\"none\"", "scenario client[0].flags: range\n"),
     (
         "refresh",
         "refreshes",
         "scenario client[1].refreshes: key\n",
     ),
-    (
-        "\"random\"",
-        "true",
-        "scenario client[1].flags: kind\n",
-    ),
+    ("\"random\"", "true", "scenario client[1].flags: kind\n"),
     (
         "cone_try = false",
         "cone_try = \"false\"",

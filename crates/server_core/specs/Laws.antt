@@ -1,5 +1,6 @@
 -- What holds of every datagram that a server is given (RFC 4380, section 5.3).
-use Rattle.std.specs.Prelude.{◌≡◌, ◌≤◌, ◌<◌, ◌+◌, ◌-◌, ◌^◌, ℕ, true, false, List, [], ◌∷◌, ◌++◌, length, drop, replicate, Contains, Option, Some, None, IfSome, is_some, Ok}
+use Rattle.std.specs.Prelude.{◌≡◌, ◌≤◌, ◌<◌, ◌+◌, ◌-◌, ◌^◌, ℕ, true, false, List, [], ◌∷◌, ◌++◌, length, drop}
+use Rattle.std.specs.Prelude.{replicate, Contains, Option, Some, None, IfSome, is_some, Ok}
 use Rattle.std.specs.List.{AllByRecursion}
 use Rattle.td_base.specs.Bytes.{IsBytes}
 use Rattle.td_base.specs.Ip4.{IsIp4}
@@ -76,7 +77,8 @@ pub record ReadsAdvert (s : ServerSettings) (from : Ep) (nonce : Option ℕ) (cl
   pub bytes : IsBytes x
 
 abbrev pub AdvertReadsBack : Type 0
-AdvertReadsBack = (s : ServerSettings) (from : Ep) (nonce : Option ℕ) (client : Ip6) → MayBeAnswered s from nonce client → ReadsAdvert s from nonce client (advert_bytes s from nonce client)
+AdvertReadsBack = (s : ServerSettings) (from : Ep) (nonce : Option ℕ) (client : Ip6)
+    → MayBeAnswered s from nonce client → ReadsAdvert s from nonce client (advert_bytes s from nonce client)
 
 -- a packet that goes on is read as it was, behind the origin that is given
 abbrev pub ForwardedReadsBack : Type 0
@@ -90,4 +92,5 @@ pub record TellsWhereTo (send : Send) : Type 0 where
 
 -- each datagram that a server sends is
 abbrev pub EachTellsWhereTo : Type 0
-EachTellsWhereTo = (s : ServerSettings) (side : Side) (from : Ep) (x : List ℕ) → IsIp4 s.primary → IsEp from → IsBytes x → AllByRecursion TellsWhereTo (server_row s side from x).sends
+EachTellsWhereTo = (s : ServerSettings) (side : Side) (from : Ep) (x : List ℕ) → IsIp4 s.primary → IsEp from
+    → IsBytes x → AllByRecursion TellsWhereTo (server_row s side from x).sends

@@ -27,14 +27,21 @@ send_from side to bytes = record { side = side; to = to; bytes = bytes }
 -- a datagram of the server in answer to a payload x from `from`
 pub data IsOutgoing (s : ServerSettings) (side : Side) (from : Ep) (x : List ℕ) (v : Value) (send : Send) : Type 0 where
   -- an advertisement to whoever asked
-  adverts : IsAnswered (seen s from v) → send ≡ send_from (answering_side side v.packet.src) from (advert_bytes s from (nonce_of v.lead) v.packet.src) → IsOutgoing s side from x v send
+  adverts : IsAnswered (seen s from v)
+      → send ≡ send_from (answering_side side v.packet.src) from (advert_bytes s from (nonce_of v.lead) v.packet.src)
+      → IsOutgoing s side from x v send
   -- the packet, to the endpoint that its destination embeds: for a client of this server with its origin in front
-  goes_to_own : GoesToOwn (seen s from v) → send ≡ send_from Primary (embedded v.packet.dst) (forwarded (Some from) (drop v.lead.at x)) → IsOutgoing s side from x v send
-  goes_to_other : GoesToOther (seen s from v) → send ≡ send_from Primary (embedded v.packet.dst) (forwarded None (drop v.lead.at x)) → IsOutgoing s side from x v send
+  goes_to_own : GoesToOwn (seen s from v)
+      → send ≡ send_from Primary (embedded v.packet.dst) (forwarded (Some from) (drop v.lead.at x))
+      → IsOutgoing s side from x v send
+  goes_to_other : GoesToOther (seen s from v)
+      → send ≡ send_from Primary (embedded v.packet.dst) (forwarded None (drop v.lead.at x))
+      → IsOutgoing s side from x v send
 
 -- so is each that it sends
 abbrev pub EachIsOutgoing : Type 0
-EachIsOutgoing = (s : ServerSettings) (side : Side) (from : Ep) (x : List ℕ) (v : Value) → payload_at x ≡ Ok v → AllByRecursion (IsOutgoing s side from x v) (server_row s side from x).sends
+EachIsOutgoing = (s : ServerSettings) (side : Side) (from : Ep) (x : List ℕ) (v : Value) → payload_at x ≡ Ok v
+    → AllByRecursion (IsOutgoing s side from x v) (server_row s side from x).sends
 
 -- a packet with a Teredo source came from the endpoint that the source embeds, which isn't the server's
 pub record IsFromClient (s : ServerSettings) (from : Ep) (send : Send) : Type 0 where
@@ -42,8 +49,10 @@ pub record IsFromClient (s : ServerSettings) (from : Ep) (send : Send) : Type 0 
   pub elsewhere : is_own s from.ip ≡ false
 
 abbrev pub EachIsFromClient : Type 0
-EachIsFromClient = (s : ServerSettings) (side : Side) (from : Ep) (x : List ℕ) → IsIp4 s.primary → IsEp from → IsBytes x → AllByRecursion (IsFromClient s from) (server_row s side from x).sends
+EachIsFromClient = (s : ServerSettings) (side : Side) (from : Ep) (x : List ℕ) → IsIp4 s.primary → IsEp from
+    → IsBytes x → AllByRecursion (IsFromClient s from) (server_row s side from x).sends
 
 -- what is sent are bytes, and not too many
 abbrev pub EachOutputIsMade : Type 0
-EachOutputIsMade = (s : ServerSettings) (side : Side) (from : Ep) (x : List ℕ) → IsIp4 s.primary → IsEp from → IsBytes x → AllByRecursion IsMadeSend (server_row s side from x).sends
+EachOutputIsMade = (s : ServerSettings) (side : Side) (from : Ep) (x : List ℕ) → IsIp4 s.primary → IsEp from
+    → IsBytes x → AllByRecursion IsMadeSend (server_row s side from x).sends

@@ -16,7 +16,8 @@ use Rattle.server_core.specs.Conditions.{own_address}
 
 -- a Prefix Information: 64 bits, autonomous, both lifetimes without end, the prefix 2001:0:P::; an MTU
 abbrev pub advert_options : Ip4 → List ℕ
-advert_options primary = 3 ∷ 4 ∷ 64 ∷ 0x40 ∷ replicate 8 255 ++ replicate 4 0 ++ 0x20 ∷ 1 ∷ 0 ∷ 0 ∷ primary.0 ++ replicate 8 0 ++ 5 ∷ 1 ∷ 0 ∷ 0 ∷ big_bytes 4 PACKET_MAX
+advert_options primary = 3 ∷ 4 ∷ 64 ∷ 0x40 ∷ replicate 8 255 ++ replicate 4 0 ++ 0x20 ∷ 1 ∷ 0 ∷ 0 ∷ primary.0
+    ++ replicate 8 0 ++ 5 ∷ 1 ∷ 0 ∷ 0 ∷ big_bytes 4 PACKET_MAX
 
 -- a Router Advertisement with these options, its other fields 0
 abbrev pub advertisement : Ip4 → Message
@@ -24,7 +25,15 @@ advertisement primary = router_advert 0 0 0 0 0 (advert_options primary)
 
 -- a packet with it, from the server to a client
 abbrev pub advert_packet : ServerSettings → Ip6 → Fields
-advert_packet s client = record { class = 0; flow = 0; next = NEXT_ICMP; hop = ROUTER_HOP; src = own_address s; dst = client; body = message_bytes (own_address s) client (advertisement s.primary) }
+advert_packet s client = record {
+  class = 0;
+  flow = 0;
+  next = NEXT_ICMP;
+  hop = ROUTER_HOP;
+  src = own_address s;
+  dst = client;
+  body = message_bytes (own_address s) client (advertisement s.primary);
+}
 
 -- the answer to a client's solicitation from `from`: the nonce that came, the origin, the advertisement
 unfoldable pub advert_bytes : ServerSettings → Ep → Option ℕ → Ip6 → List ℕ

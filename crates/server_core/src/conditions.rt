@@ -4,7 +4,8 @@ ghost use Rattle.td_base.specs.declared.datagram.TheConstants.{DATAGRAM_MAX};
 ghost use Rattle.ipv6_packet.specs.Packets.{view as packet_view};
 ghost use Rattle.icmp6.specs.declared.numbers.TheConstants.{SOLICIT_LEN};
 ghost use Rattle.bubble.specs.Messages.{IsMessageOf};
-ghost use Rattle.server_core.specs.Conditions.{own_address, is_other_kind, is_own, is_for_server, is_solicitation, is_forged, is_for_client, is_not_ours, is_unusable, is_looped};
+ghost use Rattle.server_core.specs.Conditions.{own_address, is_other_kind, is_own, is_for_server, is_solicitation};
+ghost use Rattle.server_core.specs.Conditions.{is_forged, is_for_client, is_not_ours, is_unusable, is_looped};
 
 use crate::server::ServerSettings;
 use bubble::{Kind, kind};

@@ -44,7 +44,9 @@ pub record AreShortSpans (x : List ℕ) (a : Auth) : Type 0 where
 -- an authentication: identifier, value, nonce and confirmation
 abbrev pub keys_line : List ℕ → Auth → List ℕ
 keys_line x a =
-    codes "auth id " ++ (hex_text (span_bytes x a.id) ++ (codes " value " ++ (hex_text (span_bytes x a.value) ++ (codes " nonce " ++ (number_digits NONCE a.nonce ++ (field (codes " confirmation ") a.confirmation ++ codes "\n"))))))
+    codes "auth id " ++ (hex_text (span_bytes x a.id) ++ (codes " value "
+    ++ (hex_text (span_bytes x a.value) ++ (codes " nonce "
+    ++ (number_digits NONCE a.nonce ++ (field (codes " confirmation ") a.confirmation ++ codes "\n"))))))
 
 abbrev pub auth_line : List ℕ → Option Auth → List ℕ
 auth_line x None = codes "auth none\n"
@@ -58,11 +60,14 @@ origin_line (Some origin) = codes "origin " ++ (ep_text origin.ep ++ codes "\n")
 -- the numbers of the IPv6 header
 abbrev pub packet_line : Fields → List ℕ
 packet_line p =
-    field (codes "packet class ") p.class ++ (field (codes " flow ") p.flow ++ (field (codes " next ") p.next ++ (field (codes " hop ") p.hop ++ (field (codes " length ") (length p.body) ++ codes "\n"))))
+    field (codes "packet class ") p.class ++ (field (codes " flow ") p.flow
+    ++ (field (codes " next ") p.next ++ (field (codes " hop ") p.hop
+    ++ (field (codes " length ") (length p.body) ++ codes "\n"))))
 
 -- what a Teredo address embeds
 abbrev pub embedded_line : TeredoAddr → List ℕ
-embedded_line a = codes "teredo server " ++ (ip4_text a.server ++ (codes " flags " ++ (number_digits FLAGS a.flags ++ (codes " mapped " ++ (ep_text a.mapped ++ codes "\n")))))
+embedded_line a = codes "teredo server " ++ (ip4_text a.server
+    ++ (codes " flags " ++ (number_digits FLAGS a.flags ++ (codes " mapped " ++ (ep_text a.mapped ++ codes "\n")))))
 
 abbrev pub teredo_line : Option TeredoAddr → List ℕ
 teredo_line None = []
@@ -84,4 +89,6 @@ body_line p = codes "body " ++ (kind_word (packet_kind p) ++ (codes " " ++ (hex_
 -- the lines of a payload that the datagram x spells
 unfoldable pub payload_lines : List ℕ → Value → List ℕ
 payload_lines x v =
-    auth_line x v.lead.auth ++ (origin_line v.lead.origin ++ (packet_line v.packet ++ (address_lines (codes "source ") v.packet.src ++ (address_lines (codes "destination ") v.packet.dst ++ body_line v.packet))))
+    auth_line x v.lead.auth ++ (origin_line v.lead.origin
+    ++ (packet_line v.packet ++ (address_lines (codes "source ") v.packet.src
+    ++ (address_lines (codes "destination ") v.packet.dst ++ body_line v.packet))))

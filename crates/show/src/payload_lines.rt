@@ -2,7 +2,9 @@
 ghost use Rattle.std.specs.Prelude.{◌≡◌, ◌+◌, ◌*◌, ◌≤◌, ◌++◌, length, IfSome};
 ghost use Rattle.ipv6_packet.specs.Packets.{view as packet_view};
 ghost use Rattle.bubble.specs.Payloads.{view};
-ghost use Rattle.show.specs.Lines.{number_digits, span_bytes, AreShortSpans, keys_line, auth_line, origin_line, packet_line, embedded_line, teredo_line, address_lines, kind_word, body_line, payload_lines};
+ghost use Rattle.show.specs.Lines.{number_digits, span_bytes, AreShortSpans, keys_line, auth_line, origin_line};
+ghost use Rattle.show.specs.Lines.{packet_line, embedded_line, teredo_line, address_lines, kind_word, body_line};
+ghost use Rattle.show.specs.Lines.{payload_lines};
 
 use crate::line_texts::{LINE_ROOM, put_ep, put_field, put_hex, put_ip4, put_ip6};
 use crate::page::{PAGE_LEN, Page};

@@ -10,4 +10,9 @@ abbrev pub no_counts : Counts
 no_counts = record { packets = 0; to = 0; from = 0; skipped = 0 }
 
 unfoldable pub with_record : Counts → Bool → Bool → Counts
-with_record c to from = record { packets = min (c.packets + 1) (2 ^ 64 - 1); to = more c.to to; from = more c.from from; skipped = more c.skipped (not to && not from) }
+with_record c to from = record {
+  packets = min (c.packets + 1) (2 ^ 64 - 1);
+  to = more c.to to;
+  from = more c.from from;
+  skipped = more c.skipped (not to && not from);
+}

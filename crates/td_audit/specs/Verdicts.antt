@@ -35,7 +35,9 @@ places rs = map (λ r. datagram_in r.bytes) rs
 -- The verdict on what the places hold: each is licensed, and how many there are, how many with a datagram to the server,
 -- from it, one from the server to the server counting as both, and how many others; or the least place that isn't licensed.
 abbrev pub IsVerdict : ServerSettings → List (Option Datagram) → Verdict → Type 0
-IsVerdict s held (Clean packets to from skipped) = AreLicensed s held × (packets ≡ length held) × (to ≡ count_by (is_to_audited s) held) × (from ≡ count_by (is_from_audited s) held) × (skipped ≡ count_by (is_skipped s) held)
+IsVerdict s held (Clean packets to from skipped) = AreLicensed s held × (packets ≡ length held)
+    × (to ≡ count_by (is_to_audited s) held) × (from ≡ count_by (is_from_audited s) held)
+    × (skipped ≡ count_by (is_skipped s) held)
 IsVerdict s held (Unlicensed place) = IsFirstUnlicensed s held place
 
 -- x is a capture, and this the verdict on it

@@ -116,7 +116,8 @@ fn license_reply(
     dst: Ep,
     body: &[u8],
 ) -> Result<(), NoMemory>
-    ensures { OnOk result (HasGrantRoom settings.now licences.old → Licenses licences.old licences.new (output settings.now (Some (datagram src dst body.now)))) }
+    ensures { OnOk result (HasGrantRoom settings.now licences.old
+        → Licenses licences.old licences.new (output settings.now (Some (datagram src dst body.now)))) }
 {
     let mut out = [0; DATAGRAM_MAX];
     let Some(reply) = reply_to(settings, src, dst, body, &mut out) else {
@@ -140,7 +141,8 @@ impl Judge {
 
     /// Judges what one more record holds.
     pub(crate) fn take(&mut self, packet: &[u8]) -> Result<(), NoMemory>
-        ensures { OnOk result ((s : ServerSettings) (places : List (Option Datagram)) → length places + 1 < 2 ^ 64 → Stands s self.old places → Stands s self.new (places ++ datagram_in packet.now ∷ [])) }
+        ensures { OnOk result ((s : ServerSettings) (places : List (Option Datagram)) → length places + 1 < 2 ^ 64
+            → Stands s self.old places → Stands s self.new (places ++ datagram_in packet.now ∷ [])) }
     {
         if self.unlicensed.is_some() {
             return Ok(());
@@ -157,7 +159,8 @@ impl Judge {
     /// Judges a datagram, where all were licensed so far.
     fn judge(&mut self, src: Ep, dst: Ep, body: &[u8]) -> Result<(), NoMemory>
         requires { self.old.unlicensed ≡ None }
-        ensures { OnOk result ((s : ServerSettings) (places : List (Option Datagram)) → length places + 1 < 2 ^ 64 → Stands s self.old places → Stands s self.new (places ++ Some (datagram src dst body.now) ∷ [])) }
+        ensures { OnOk result ((s : ServerSettings) (places : List (Option Datagram)) → length places + 1 < 2 ^ 64
+            → Stands s self.old places → Stands s self.new (places ++ Some (datagram src dst body.now) ∷ [])) }
     {
         if !use_if_from(&self.settings, &mut self.licences, src, dst, body)? {
             self.unlicensed = Some(self.counts.packets);

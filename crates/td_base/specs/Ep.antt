@@ -1,7 +1,8 @@
 -- Endpoints: which are the same, and their order.
 use Rattle.std.specs.Ordering.{nat_cmp, ordering_then, as_partial_cmp, eq_by_cmp}
 use Rattle.std.specs.declared.cmp.Ordering.{Ordering}
-use Rattle.std.specs.Cmp.{IsTotalOrder, IsPartialOrder, IsEquivalence, po, both_tied, unsigned_ties, on_total, on_equiv, nat_cmp_total, nat_eq_equiv, then_total, and_equiv}
+use Rattle.std.specs.Cmp.{IsTotalOrder, IsPartialOrder, IsEquivalence, po, both_tied, unsigned_ties, on_total, on_equiv}
+use Rattle.std.specs.Cmp.{nat_cmp_total, nat_eq_equiv, then_total, and_equiv}
 use Rattle.std.proofs.Common.{ap}
 use Rattle.std.specs.Prelude.{◌≡◌, ◌<◌, ◌^◌, ℕ, Bool, true, ◌==◌, ◌&&◌, refl}
 use Rattle.std.specs.Bool.{Decides}
@@ -45,8 +46,10 @@ pub same_ep_decides : (a b : Ep) → Decides (same_ep a b) (a ≡ b)
 unfolding same_ep
 same_ep_decides a b =
     let ip = same_ip_decides a.ip b.ip in
-    let port = Decides-eqb a.port b.port in
-    (λ t. let both = and_parts _ _ t in same_parts a b (ip.0 both.0) (port.0 both.1), λ e. and_from _ _ (ip.1 (ap (λ (x : Ep). x.ip) e)) (port.1 (ap (λ (x : Ep). x.port) e)))
+    let port = Decides-eqb a.port b.port in (
+      λ t. let both = and_parts _ _ t in same_parts a b (ip.0 both.0) (port.0 both.1),
+      λ e. and_from _ _ (ip.1 (ap (λ (x : Ep). x.ip) e)) (port.1 (ap (λ (x : Ep). x.port) e)),
+    )
 
 pub same_ep-self : (a : Ep) → same_ep a a ≡ true
 same_ep-self a = (same_ep_decides a a).1 refl
@@ -64,7 +67,8 @@ cmp_ep_total = then_total (on_total (λ (a : Ep). a.ip) cmp_ip_total) (on_total 
 
 pub cmp_ep_ties : (a b : Ep) → same_ep a b ≡ eq_by_cmp cmp_ep a b
 unfolding cmp_ep same_ep
-cmp_ep_ties a b = both_tied (same_ip a.ip b.ip) (a.port == b.port) (cmp_ip a.ip b.ip) (nat_cmp a.port b.port) (cmp_ip_ties a.ip b.ip) (unsigned_ties a.port b.port)
+cmp_ep_ties a b = both_tied (same_ip a.ip b.ip) (a.port == b.port) (cmp_ip a.ip b.ip) (nat_cmp a.port b.port)
+    (cmp_ip_ties a.ip b.ip) (unsigned_ties a.port b.port)
 
 pub cmp_ep_po : IsPartialOrder same_ep (as_partial_cmp cmp_ep)
 cmp_ep_po = po cmp_ep_total cmp_ep_ties

@@ -25,7 +25,8 @@ same_ip_equiv = on_equiv (λ (a : Ip4). a.0) (lists_equiv nat_eq_equiv)
 
 pub same_ip_decides : (a b : Ip4) → Decides (same_ip a b) (a ≡ b)
 unfolding same_ip
-same_ip_decides a b = let d = pointwise_decides Decides-eqb a.0 b.0 in (λ t. ap (λ (xs : List ℕ). record { 0 = xs }) (d.0 t), λ e. d.1 (ap (λ (x : Ip4). x.0) e))
+same_ip_decides a b = let d = pointwise_decides Decides-eqb a.0 b.0 in
+    (λ t. ap (λ (xs : List ℕ). record { 0 = xs }) (d.0 t), λ e. d.1 (ap (λ (x : Ip4). x.0) e))
 
 pub same_ip-self : (a : Ip4) → same_ip a a ≡ true
 same_ip-self a = (same_ip_decides a a).1 refl

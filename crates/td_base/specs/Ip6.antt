@@ -25,7 +25,8 @@ same_ip6_equiv = on_equiv (λ (a : Ip6). a.0) (lists_equiv nat_eq_equiv)
 
 pub same_ip6_decides : (a b : Ip6) → Decides (same_ip6 a b) (a ≡ b)
 unfolding same_ip6
-same_ip6_decides a b = let d = pointwise_decides Decides-eqb a.0 b.0 in (λ t. ap (λ (xs : List ℕ). record { 0 = xs }) (d.0 t), λ e. d.1 (ap (λ (x : Ip6). x.0) e))
+same_ip6_decides a b = let d = pointwise_decides Decides-eqb a.0 b.0 in
+    (λ t. ap (λ (xs : List ℕ). record { 0 = xs }) (d.0 t), λ e. d.1 (ap (λ (x : Ip6). x.0) e))
 
 pub same_ip6-self : (a : Ip6) → same_ip6 a a ≡ true
 same_ip6-self a = (same_ip6_decides a a).1 refl

@@ -15,7 +15,8 @@ unfoldable pub is_global : Policy → Ip4 → Bool
 is_global policy ip =
     let a = slice_index ip.0 0 in
     let b = slice_index ip.0 1 in
-    not ((a == 0) || (a == 10) || ((a == 127) && not (is_loopback_allowed policy)) || ((a == 169) && (b == 254)) || ((a == 172) && (b / 16 == 1)) || ((a == 192) && (b == 168)) || nat_le 224 a)
+    not ((a == 0) || (a == 10) || ((a == 127) && not (is_loopback_allowed policy)) || ((a == 169) && (b == 254))
+    || ((a == 172) && (b / 16 == 1)) || ((a == 192) && (b == 168)) || nat_le 224 a)
 
 -- a global address and a port other than 0
 unfoldable pub is_usable : Policy → Ep → Bool

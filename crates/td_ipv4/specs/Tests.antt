@@ -1,5 +1,6 @@
 -- Bytes as a UDP datagram over IPv4, with the first fault that is met: RFC 791, section 3.1, and RFC 768.
-use Rattle.std.specs.Prelude.{ℕ, ◌+◌, ◌-◌, ◌*◌, ◌/◌, ◌%◌, List, [], ◌∷◌, length, take, drop, slice_index, Bool, not, ◌==◌, nat_lt, bit_and, Result, Ok, Err, if◌then◌else◌}
+use Rattle.std.specs.Prelude.{ℕ, ◌+◌, ◌-◌, ◌*◌, ◌/◌, ◌%◌, List, [], ◌∷◌, length, take, drop, slice_index, Bool, not}
+use Rattle.std.specs.Prelude.{◌==◌, nat_lt, bit_and, Result, Ok, Err, if◌then◌else◌}
 use Rattle.td_base.specs.Bytes.{number_at}
 use Rattle.td_base.specs.Results.{◌>>=◌}
 use Rattle.td_ipv4.specs.declared.numbers.TheConstants.{IPV4, WORD, HEAD_MIN, FRAGMENT_BITS, UDP, UDP_HEAD}

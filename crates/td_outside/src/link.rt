@@ -1,7 +1,8 @@
 //! Two sides that datagrams come to and go from.
 ghost use Rattle.std.specs.Prelude.{◌≡◌, ◌≤◌, length, is_ok, IsOk, IfOk, OnOk, MatchResult};
 ghost use Rattle.td_outside.specs.Causes.{HasCause};
-ghost use Rattle.td_outside.specs.Link.{LinkState, Receives, Sends, KeepsTold, TurnsToOne, attempt, came_by, both_at, open_on, free_port_of, client_on, FitsBuffer, IsAtItsSide};
+ghost use Rattle.td_outside.specs.Link.{LinkState, Receives, Sends, KeepsTold, TurnsToOne, attempt, came_by, both_at};
+ghost use Rattle.td_outside.specs.Link.{open_on, free_port_of, client_on, FitsBuffer, IsAtItsSide};
 ghost use Rattle.td_outside.specs.Moves.{Stays, Gains};
 
 use crate::Failed;

@@ -1,5 +1,7 @@
 //! A link in memory.
-ghost use Rattle.std.specs.Prelude.{◌≡◌, ◌≤◌, ◌<◌, ◌+◌, ◌-◌, ◌^◌, ◌↔◌, ℕ, List, [], ◌∷◌, ◌++◌, Option, Some, None, Ok, length, take, drop, map, replicate, is_ok, IsOk, IsErr, IsTrue, IfOk, OnOk, nat_lt, if◌then◌else◌, IfSome, MatchResult, vec_capacity};
+ghost use Rattle.std.specs.Prelude.{◌≡◌, ◌≤◌, ◌<◌, ◌+◌, ◌-◌, ◌^◌, ◌↔◌, ℕ, List, [], ◌∷◌, ◌++◌, Option, Some, None, Ok};
+ghost use Rattle.std.specs.Prelude.{length, take, drop, map, replicate, is_ok, IsOk, IsErr, IsTrue, IfOk, OnOk, nat_lt};
+ghost use Rattle.std.specs.Prelude.{if◌then◌else◌, IfSome, MatchResult, vec_capacity};
 ghost use Rattle.td_outside.specs.Causes.{HasCause};
 ghost use Rattle.td_outside.specs.Calls.{fails_next, after_call};
 ghost use Rattle.td_outside.specs.Link.{Nothing, Attempt, attempt, came_by, open_on, client_on, at_primary, next_came, FitsBuffer, IsAtItsSide};

@@ -1,5 +1,6 @@
 //! A sink in memory.
-ghost use Rattle.std.specs.Prelude.{◌≡◌, ◌≤◌, ◌<◌, ◌+◌, ◌⊎◌, ◌↔◌, ℕ, List, [], ◌++◌, Option, Some, None, length, IsErr, IsTrue, IfOk, if◌then◌else◌, vec_capacity};
+ghost use Rattle.std.specs.Prelude.{◌≡◌, ◌≤◌, ◌<◌, ◌+◌, ◌⊎◌, ◌↔◌, ℕ, List, [], ◌++◌, Option, Some, None, length, IsErr};
+ghost use Rattle.std.specs.Prelude.{IsTrue, IfOk, if◌then◌else◌, vec_capacity};
 ghost use Rattle.td_outside.specs.Causes.{HasCause};
 ghost use Rattle.td_outside.specs.Calls.{fails_next, after_call};
 ghost use Rattle.td_outside.specs.Streams.{Filled, refuses};

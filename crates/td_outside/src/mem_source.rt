@@ -1,5 +1,6 @@
 //! A source in memory.
-ghost use Rattle.std.specs.Prelude.{◌≡◌, ◌≤◌, ◌<◌, ◌+◌, ◌-◌, ◌↔◌, ℕ, List, [], ◌++◌, Option, Some, None, Ok, Err, length, drop, take, IsErr, IsTrue, IfOk, if◌then◌else◌, string_bytes};
+ghost use Rattle.std.specs.Prelude.{◌≡◌, ◌≤◌, ◌<◌, ◌+◌, ◌-◌, ◌↔◌, ℕ, List, [], ◌++◌, Option, Some, None, Ok, Err};
+ghost use Rattle.std.specs.Prelude.{length, drop, take, IsErr, IsTrue, IfOk, if◌then◌else◌, string_bytes};
 ghost use Rattle.td_outside.specs.Causes.{HasCause};
 ghost use Rattle.td_outside.specs.Calls.{fails_next, after_call};
 ghost use Rattle.td_outside.specs.Streams.{OneName, named_bytes, told_by, given_by};

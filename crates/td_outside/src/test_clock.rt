@@ -1,5 +1,6 @@
 //! A clock of four moments.
-ghost use Rattle.std.specs.Prelude.{◌≡◌, ◌≤◌, ◌<◌, ◌-◌, ◌+◌, ◌^◌, ◌++◌, ℕ, List, [], ◌∷◌, length, drop, take, map, replicate, min, nat_lt, Some, slice_index, IsTrue, if◌then◌else◌};
+ghost use Rattle.std.specs.Prelude.{◌≡◌, ◌≤◌, ◌<◌, ◌-◌, ◌+◌, ◌^◌, ◌++◌, ℕ, List, [], ◌∷◌, length, drop, take, map};
+ghost use Rattle.std.specs.Prelude.{replicate, min, nat_lt, Some, slice_index, IsTrue, if◌then◌else◌};
 ghost use Rattle.td_outside.specs.Moves.{Gains};
 ghost use Rattle.td_outside.specs.TestClock.{Timetable, IsTimetable, moment_of, clock_after};
 
@@ -30,7 +31,8 @@ impl Model for TestClock {
       last = s.last.0;
       coming = drop s.at s.moments;
       made = min (s.at + s.again) count_end;
-      gave = told_given (min (s.at + s.again) count_end) (map (λ (m : Millis). m.0) (take s.at s.moments ++ replicate s.again (moment_of (drop s.at s.moments))));
+      gave = told_given (min (s.at + s.again) count_end)
+          (map (λ (m : Millis). m.0) (take s.at s.moments ++ replicate s.again (moment_of (drop s.at s.moments))));
     } };
 
     ghost invariant = { λ s. (s.at < length s.moments) × IsTimetable s.last.0 (drop s.at s.moments)

@@ -1,5 +1,6 @@
 -- The head of a capture as a list of bytes.
-use Rattle.std.specs.Prelude.{◌≡◌, ◌≢◌, ◌≤◌, ◌<◌, ◌^◌, ℕ, List, ◌++◌, length, take, Bool, true, false, ◌==◌, ◌&&◌, not, nat_lt, if◌then◌else◌, Option, Some, None, Result, Ok, Err}
+use Rattle.std.specs.Prelude.{◌≡◌, ◌≢◌, ◌≤◌, ◌<◌, ◌^◌, ℕ, List, ◌++◌, length, take, Bool, true, false, ◌==◌, ◌&&◌, not}
+use Rattle.std.specs.Prelude.{nat_lt, if◌then◌else◌, Option, Some, None, Result, Ok, Err}
 use Rattle.td_base.specs.Bytes.{number_at}
 use Rattle.td_pcap.specs.declared.head.Head.{Head}
 use Rattle.td_pcap.specs.declared.head.TheConstants.{HEAD, MAGIC_MICRO, MAGIC_NANO, MAGIC_MICRO_LITTLE, MAGIC_NANO_LITTLE, MAJOR, MINOR, LINK_RAW}

@@ -1,5 +1,6 @@
 -- A record of a capture as a list of bytes.
-use Rattle.std.specs.Prelude.{◌≡◌, ◌≤◌, ◌<◌, ◌+◌, ◌^◌, ℕ, List, ◌++◌, length, take, drop, Bool, ◌⊎◌, nat_lt, nat_le, if◌then◌else◌, Option, Some, None, option_map, Result, Ok, Err}
+use Rattle.std.specs.Prelude.{◌≡◌, ◌≤◌, ◌<◌, ◌+◌, ◌^◌, ℕ, List, ◌++◌, length, take, drop, Bool, ◌⊎◌, nat_lt, nat_le}
+use Rattle.std.specs.Prelude.{if◌then◌else◌, Option, Some, None, option_map, Result, Ok, Err}
 use Rattle.td_pcap.specs.declared.record.Rec.{Rec}
 use Rattle.td_pcap.specs.declared.record.TheConstants.{REC_HEAD, KEPT_MAX}
 use Rattle.td_pcap.specs.declared.fault.CapFault.{CapFault}

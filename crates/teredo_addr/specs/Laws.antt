@@ -22,7 +22,8 @@ pub record IsTeredoOf (server : Ip4) (flags : ℕ) (mapped : Ep) (ip : Ip6) : Ty
 
 -- a Teredo address tells what it was made of
 abbrev pub TeredoTells : Type 0
-TeredoTells = (server : Ip4) (flags : ℕ) (mapped : Ep) → IsIp4 server → flags < 2 ^ 16 → IsEp mapped → IsTeredoOf server flags mapped (teredo_ip server flags mapped)
+TeredoTells = (server : Ip4) (flags : ℕ) (mapped : Ep) → IsIp4 server → flags < 2 ^ 16 → IsEp mapped
+    → IsTeredoOf server flags mapped (teredo_ip server flags mapped)
 
 -- and each address with the prefix is made of what it tells
 abbrev pub TeredoIsMade : Type 0

@@ -57,7 +57,8 @@ pub record AuditEnds (i i' : SourceState) (o o' : SinkState) (asked : AuditWords
   pub clean : status ≡ DONE → NoFault i i' o o' × ((packets to from skipped : ℕ) × Audits i asked file (Clean packets to from skipped)
       × WritesLines o o' (verdict_line (Clean packets to from skipped) ∷ []))
   -- nothing failed, one isn't, and the line of the first such record was written
-  pub unlicensed : status ≡ UNLICENSED → NoFault i i' o o' × ((place : ℕ) × Audits i asked file (Unlicensed place) × WritesLines o o' (verdict_line (Unlicensed place) ∷ []))
+  pub unlicensed : status ≡ UNLICENSED → NoFault i i' o o'
+      × ((place : ℕ) × Audits i asked file (Unlicensed place) × WritesLines o o' (verdict_line (Unlicensed place) ∷ []))
   -- nothing failed, the file is too long or no capture, and the line that says so was written
   pub refused : status ≡ NO_CAPTURE → NoFault i i' o o' × ((why : NoCapture) × FindsNoCapture i file why × WritesLines o o' (no_capture_line why ∷ []))
   -- the source failed, and nothing was written

@@ -12,7 +12,8 @@ use Rattle.teredo_app.specs.ServeLine.{word_and_number}
 -- what is said of a verdict
 abbrev pub verdict_text : Verdict → List ℕ
 verdict_text (Clean packets to from skipped) =
-    word_and_number (codes "clean packets ") packets ++ (word_and_number (codes " to ") to ++ (word_and_number (codes " from ") from ++ word_and_number (codes " skipped ") skipped))
+    word_and_number (codes "clean packets ") packets ++ (word_and_number (codes " to ") to
+    ++ (word_and_number (codes " from ") from ++ word_and_number (codes " skipped ") skipped))
 verdict_text (Unlicensed place) = word_and_number (codes "unlicensed ") place
 
 abbrev pub verdict_line : Verdict → List ℕ

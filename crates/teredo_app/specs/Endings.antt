@@ -21,7 +21,8 @@ pub data LineEnds (o o' : SinkState) (line : List ℕ) (status result : ℕ) : T
 pub data NotPlayed (i i' : SourceState) (o o' : SinkState) (file : List ℕ) (result : ℕ) : Type 0 where
   not_read : result ≡ UNREADABLE → Rose i.faults i'.faults → o'.faults ≡ o.faults → WritesNothing o o' → NotPlayed i i' o o' file result
   not_kept : result ≡ NO_MEMORY → NoFault i i' o o' → WritesNothing o o' → NotPlayed i i' o o' file result
-  not_taken : (fault : ScenarioFault) → Reads i file (Err fault) → i'.faults ≡ i.faults → LineEnds o o' (refusal_line fault) BAD_SCENARIO result → NotPlayed i i' o o' file result
+  not_taken : (fault : ScenarioFault) → Reads i file (Err fault) → i'.faults ≡ i.faults
+      → LineEnds o o' (refusal_line fault) BAD_SCENARIO result → NotPlayed i i' o o' file result
 
 -- the status of a scenario that was played so
 abbrev pub status_of : Result (Unit {0}) PlayFault → ℕ

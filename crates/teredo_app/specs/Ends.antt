@@ -76,7 +76,8 @@ WireEnds = PlayEnds capture_account
 pub record ShowEnds (o o' : SinkState) (word : List ℕ) (status : ℕ) : Type 0 where
   pub statuses : Contains (DONE ∷ BAD_PAYLOAD ∷ UNWRITABLE ∷ []) status
   pub done : status ≡ DONE → (o'.faults ≡ o.faults) × ((page : List ℕ) × ShowsPayload word page × WritesLines o o' (page ∷ []))
-  pub refused : status ≡ BAD_PAYLOAD → (o'.faults ≡ o.faults) × ((line : List ℕ) × (ShowsNoText word line ⊎ ShowsFault word line) × WritesLines o o' (line ∷ []))
+  pub refused : status ≡ BAD_PAYLOAD → (o'.faults ≡ o.faults)
+      × ((line : List ℕ) × (ShowsNoText word line ⊎ ShowsFault word line) × WritesLines o o' (line ∷ []))
   pub unwritten : status ≡ UNWRITABLE → Rose o.faults o'.faults
       × ((page : List ℕ) × (ShowsPayload word page ⊎ (ShowsNoText word page ⊎ ShowsFault word page)) × BeginsLines o o' (page ∷ []))
 

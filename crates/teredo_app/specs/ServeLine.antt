@@ -8,4 +8,7 @@ word_and_number word number = word ++ decimal number
 
 abbrev pub serve_line : Totals → List ℕ
 serve_line totals =
-    word_and_number (codes "served ") totals.served ++ (word_and_number (codes " sent ") totals.sent ++ (word_and_number (codes " failed ") totals.failed ++ (word_and_number (codes " six ") totals.six ++ (word_and_number (codes " dropped ") totals.dropped ++ codes "\n"))))
+    word_and_number (codes "served ") totals.served ++ (word_and_number (codes " sent ") totals.sent
+    ++ (word_and_number (codes " failed ") totals.failed
+    ++ (word_and_number (codes " six ") totals.six ++
+    (word_and_number (codes " dropped ") totals.dropped ++ codes "\n"))))

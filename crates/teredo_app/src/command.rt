@@ -78,7 +78,8 @@ fn with_addresses<'a>(
     idles: &str,
 ) -> Option<Command<'a>>
     ensures found { IfSome result (λ c. AsksFor (command.now ∷ primary.now ∷ secondary.now ∷ count.now ∷ idles.now ∷ []) (request_of c)) }
-    ensures only { (asked : Request) → AsksFor (command.now ∷ primary.now ∷ secondary.now ∷ count.now ∷ idles.now ∷ []) asked → option_map request_of result ≡ Some asked }
+    ensures only { (asked : Request) → AsksFor (command.now ∷ primary.now ∷ secondary.now ∷ count.now ∷ idles.now
+        ∷ []) asked → option_map request_of result ≡ Some asked }
 {
     if command == "serve" {
         let asked = serve_words(primary, secondary, count, idles)?;

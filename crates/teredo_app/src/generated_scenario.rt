@@ -6,8 +6,8 @@ ghost use Rattle.scenario.specs.Told.{told};
 ghost use Rattle.generator.specs.Generated.{generated};
 ghost use Rattle.events.specs.declared.event.TheConstants.{EVENTS_MAX};
 
-use generator::{Generated, generate};
 use events::EVENTS_MAX;
+use generator::{Generated, generate};
 use scenario::Scenario;
 use std::alloc::Global;
 use td_base::NoMemory;

@@ -15,7 +15,8 @@ ones_bit n bit below =
 ones_none : count_ones 0 ≡ 0
 ones_none = omega (arith, ones_le_self 0)
 
-ones_more : (sent : Bool) (answers : List Bool) → count_ones (failed_bits (sent ∷ answers)) ≡ cond (not sent) (1 + count_ones (failed_bits answers)) (count_ones (failed_bits answers))
+ones_more : (sent : Bool) (answers : List Bool) → count_ones (failed_bits (sent ∷ answers))
+    ≡ cond (not sent) (1 + count_ones (failed_bits answers)) (count_ones (failed_bits answers))
 ones_more true answers = ones_bit (failed_bits answers) 0 (omega arith) ∙ omega (arith, ones_none)
 ones_more false answers = ones_bit (failed_bits answers) 1 (omega arith) ∙ omega (arith, ones-ones 1)
 
@@ -24,7 +25,8 @@ pub ones_failed : (answers : List Bool) → count_ones (failed_bits answers) ≡
 ones_failed answers = is_count_by (λ (xs : List Bool). count_ones (failed_bits xs)) not ones_none ones_more answers
 
 -- The attempts of two lists of datagrams are those of one and then of the other.
-pub attempts_append : (xs ys : List Send) (first second : List Bool) → length first ≡ length xs → attempts_of (xs ++ ys) (first ++ second) ≡ attempts_of xs first ++ attempts_of ys second
+pub attempts_append : (xs ys : List Send) (first second : List Bool) → length first ≡ length xs
+    → attempts_of (xs ++ ys) (first ++ second) ≡ attempts_of xs first ++ attempts_of ys second
 attempts_append [] ys [] second same = refl
 attempts_append [] ys (a ∷ first) second same = absurd (omega (arith, same))
 attempts_append (x ∷ xs) ys [] second same = absurd (omega (arith, same))

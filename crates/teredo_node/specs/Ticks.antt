@@ -32,7 +32,8 @@ TicksIfDue ticks owing old new link link' step step' (Some failed) = TicksOnce t
 -- an endpoint's states over ticks of what was due, the latest first
 abbrev pub GoesBy : {S : Type 0} → (S → Step → S → Type 0) → (S → ℕ) → S → List Ticked → S → Type 0
 GoesBy ticks owing old [] new = new ≡ old
-GoesBy {S} ticks owing old (t ∷ ts) new = (mid : S) × GoesBy ticks owing old ts mid × ticks mid t.step new × (0 < owing mid) × (length t.answers ≡ length t.step.sends)
+GoesBy {S} ticks owing old (t ∷ ts) new = (mid : S) × GoesBy ticks owing old ts mid × ticks mid t.step new
+    × (0 < owing mid) × (length t.answers ≡ length t.step.sends)
 
 -- what was to be sent in the ticks, the oldest first
 abbrev pub made_by : List Ticked → List Attempt
@@ -50,7 +51,8 @@ last_step step [] = step
 last_step step (t ∷ ts) = t.step
 
 -- what was due was ticked, until nothing was
-pub record TicksThrough {S : Type 0} (ticks : S → Step → S → Type 0) (owing : S → ℕ) (old new : S) (link link' : Told) (step step' : Step) (failed : ℕ) : Type 0 where
+pub record TicksThrough {S : Type 0} (ticks : S → Step → S → Type 0) (owing : S → ℕ) (old new : S) (link link' : Told)
+    (step step' : Step) (failed : ℕ) : Type 0 where
   pub ticked : List Ticked
   pub states : GoesBy ticks owing old ticked new
   pub none : owing new ≡ 0

@@ -29,7 +29,8 @@ pub fn tick<E: Endpoint, L: Link>(
     step: &mut Step,
 ) -> Option<u8>
     requires ready { E.ready e.old now.0 }
-    ensures turn { TicksIfDue (λ s. E.ticks s now.0) (λ s. E.owing s now.0) e.old e.new (L.state link.old).told (L.state link.new).told step.old step.new result }
+    ensures turn { TicksIfDue (λ s. E.ticks s now.0) (λ s. E.owing s now.0) e.old e.new (L.state link.old).told
+        (L.state link.new).told step.old step.new result }
     ensures again { E.ready e.new now.0 }
     ensures receives { (L.state link.new).recv_faults ≡ (L.state link.old).recv_faults }
     ensures sends { SendFaults (L.state link.old).send_faults (L.state link.new).send_faults (unwrap_or result 0) }
@@ -52,7 +53,8 @@ pub fn tick_through<E: Endpoint, L: Link>(
     step: &mut Step,
 ) -> u64
     requires ready { E.ready e.old now.0 }
-    ensures ticks { TicksThrough (λ s. E.ticks s now.0) (λ s. E.owing s now.0) e.old e.new (L.state link.old).told (L.state link.new).told step.old step.new result }
+    ensures ticks { TicksThrough (λ s. E.ticks s now.0) (λ s. E.owing s now.0) e.old e.new (L.state link.old).told
+        (L.state link.new).told step.old step.new result }
     ensures again { E.ready e.new now.0 }
     ensures receives { (L.state link.new).recv_faults ≡ (L.state link.old).recv_faults }
     ensures sends { SendFaults (L.state link.old).send_faults (L.state link.new).send_faults result }

@@ -1,5 +1,6 @@
 -- NATs behind NATs: the way of a datagram out and in, over the histories of all NATs.
-use Rattle.std.specs.Prelude.{ℕ, ◌==◌, ◌&&◌, Bool, false, List, [], ◌∷◌, ◌++◌, Option, Some, None, option_map, is_some, unwrap_or, Result, Ok, Err, if◌then◌else◌}
+use Rattle.std.specs.Prelude.{ℕ, ◌==◌, ◌&&◌, Bool, false, List, [], ◌∷◌, ◌++◌, Option, Some, None, option_map, is_some}
+use Rattle.std.specs.Prelude.{unwrap_or, Result, Ok, Err, if◌then◌else◌}
 use Rattle.td_base.specs.Ip4.{same_ip}
 use Rattle.td_base.specs.declared.ipv4.Ip4.{Ip4}
 use Rattle.td_base.specs.declared.endpoint.Ep.{Ep}
@@ -86,7 +87,8 @@ answered t m k inside dst passed goes_on (Err why) = record { leaves = Err why; 
 -- past these NATs, each asked about the endpoint that the one before gave
 abbrev pub crossing : TopologyState → NatPasts → ℕ → Ep → List ℕ → Ep → List Passing → Crossing
 crossing t h m dst [] from passed = record { leaves = Ok from; passed = passed }
-crossing t h m dst (k ∷ way) from passed = answered t m k from dst passed (crossing t h m dst way) (nat_answer (nat_set_up t k) (after_passing passed h k) m from dst)
+crossing t h m dst (k
+    ∷ way) from passed = answered t m k from dst passed (crossing t h m dst way) (nat_answer (nat_set_up t k) (after_passing passed h k) m from dst)
 
 -- where a datagram from an endpoint behind NAT k leaves, or the first refusal
 abbrev pub chain_out : TopologyState → List Behind → NatPasts → ℕ → ℕ → Ep → Ep → Result Ep NatRefusal

@@ -35,7 +35,8 @@ names_of t = map name_of (nodes t)
 
 -- the IPv4 addresses of the nodes: a server's two, a NAT's, a relay's
 abbrev pub addresses_of : TopologyState → List Ip4
-addresses_of t = flat_map (λ (a : ServerNode). a.primary ∷ a.secondary ∷ []) t.servers ++ (map (λ (a : NatNode). a.external) t.nats ++ map (λ (r : RelayNode). r.at.ip) t.relays)
+addresses_of t = flat_map (λ (a : ServerNode). a.primary ∷ a.secondary ∷ []) t.servers
+    ++ (map (λ (a : NatNode). a.external) t.nats ++ map (λ (r : RelayNode). r.at.ip) t.relays)
 
 -- the IPv6 addresses of the nodes: a relay's, a native host's
 abbrev pub sixes_of : TopologyState → List Ip6

@@ -67,7 +67,8 @@ fn nat_number(t: &Topology, word: &[u8]) -> Option<u16>
 }
 
 fn client_number(t: &Topology, word: &[u8]) -> Option<u16>
-    ensures { result ≡ option_map (λ k. length t.now.servers + length t.now.nats + k) (position (λ row. pointwise nat_eq (name_text row.name) word.now) t.now.clients) }
+    ensures { result ≡ option_map (λ k. length t.now.servers + length t.now.nats + k)
+        (position (λ row. pointwise nat_eq (name_text row.name) word.now) t.now.clients) }
 {
     let Some(place) = client_place(t.clients(), word) else {
         return None;
@@ -76,7 +77,8 @@ fn client_number(t: &Topology, word: &[u8]) -> Option<u16>
 }
 
 fn relay_number(t: &Topology, word: &[u8]) -> Option<u16>
-    ensures { result ≡ option_map (λ k. length t.now.servers + length t.now.nats + length t.now.clients + k) (position (λ row. pointwise nat_eq (name_text row.name) word.now) t.now.relays) }
+    ensures { result ≡ option_map (λ k. length t.now.servers + length t.now.nats + length t.now.clients + k)
+        (position (λ row. pointwise nat_eq (name_text row.name) word.now) t.now.relays) }
 {
     let Some(place) = relay_place(t.relays(), word) else {
         return None;
@@ -85,7 +87,8 @@ fn relay_number(t: &Topology, word: &[u8]) -> Option<u16>
 }
 
 fn native_number(t: &Topology, word: &[u8]) -> Option<u16>
-    ensures { result ≡ option_map (λ k. length t.now.servers + length t.now.nats + length t.now.clients + length t.now.relays + k) (position (λ row. pointwise nat_eq (name_text row.name) word.now) t.now.natives) }
+    ensures { result ≡ option_map (λ k. length t.now.servers + length t.now.nats + length t.now.clients + length t.now.relays + k)
+        (position (λ row. pointwise nat_eq (name_text row.name) word.now) t.now.natives) }
 {
     let Some(place) = native_place(t.natives(), word) else {
         return None;
@@ -129,7 +132,8 @@ pub fn nat_named(t: &Topology, word: &[u8]) -> Option<u16>
 }
 
 fn number_behind(t: &Topology, nat: u16, word: &[u8]) -> Option<u16>
-    ensures { result ≡ option_map (λ k. length t.now.servers + length t.now.nats + k) (position (λ row. (row.nat == nat) && pointwise nat_eq (name_text row.name) word.now) t.now.clients) }
+    ensures { result ≡ option_map (λ k. length t.now.servers + length t.now.nats + k)
+        (position (λ row. (row.nat == nat) && pointwise nat_eq (name_text row.name) word.now) t.now.clients) }
 {
     let Some(place) = place_behind(t.clients(), nat, word) else {
         return None;

@@ -172,7 +172,8 @@ impl Topology {
     }
 
     fn relay_number(&self, dst: Ep) -> Option<u16>
-        ensures { result ≡ option_map (λ k. length self.now.servers + length self.now.nats + length self.now.clients + k) (position (λ row. is_at dst (relay row)) self.now.relays) }
+        ensures { result ≡ option_map (λ k. length self.now.servers + length self.now.nats + length self.now.clients + k)
+            (position (λ row. is_at dst (relay row)) self.now.relays) }
     {
         let number = self.servers.len() + self.nats.len() + self.clients.len();
         match relay_at(self.relays.as_slice(), dst) {
@@ -184,7 +185,8 @@ impl Topology {
     fn number_at(&self, dst: Ep) -> Option<u16>
         ensures { result ≡ option_or (position (λ row. is_at dst (server row)) self.now.servers)
             (option_or (option_map (λ k. length self.now.servers + k) (position (λ row. is_at dst (nat row)) self.now.nats))
-            (option_map (λ k. length self.now.servers + length self.now.nats + length self.now.clients + k) (position (λ row. is_at dst (relay row)) self.now.relays))) }
+            (option_map (λ k. length self.now.servers + length self.now.nats + length self.now.clients + k)
+            (position (λ row. is_at dst (relay row)) self.now.relays))) }
     {
         if let Some(place) = server_at(self.servers.as_slice(), dst) {
             return Some(place as u16);
@@ -196,7 +198,8 @@ impl Topology {
     }
 
     fn number_behind(&self, nat: u16, inside: Ep) -> Option<u16>
-        ensures { result ≡ option_map (λ k. length self.now.servers + length self.now.nats + k) (position (λ row. is_behind nat inside (client row)) self.now.clients) }
+        ensures { result ≡ option_map (λ k. length self.now.servers + length self.now.nats + k)
+            (position (λ row. is_behind nat inside (client row)) self.now.clients) }
     {
         let number = self.servers.len() + self.nats.len();
         match client_behind(self.clients.as_slice(), nat, inside) {
@@ -206,7 +209,8 @@ impl Topology {
     }
 
     fn number_with(&self, ip: Ip6) -> Option<u16>
-        ensures { result ≡ option_map (λ k. length self.now.servers + length self.now.nats + length self.now.clients + length self.now.relays + k) (position (λ row. is_native ip (native row)) self.now.natives) }
+        ensures { result ≡ option_map (λ k. length self.now.servers + length self.now.nats + length self.now.clients + length self.now.relays + k)
+            (position (λ row. is_native ip (native row)) self.now.natives) }
     {
         let number = self.servers.len() + self.nats.len() + self.clients.len() + self.relays.len();
         match native_with(self.natives.as_slice(), ip) {

@@ -50,7 +50,8 @@ pub record IsWorld (t : TopologyState) (m : ℕ) (g : Option Going) (nodes : Lis
 
 -- a node of a world acts by a prompt
 abbrev pub prompted : Draws → WorldState → List Full → Numbered → Act → Prompt → ℕ → Node → Full
-prompted d w H e a prompt number node = acts (flat_lab d w.topology) H e a (delivered_by prompt) w.moment number (dst_by w.wire prompt) (input_by w.wire prompt) node
+prompted d w H e a prompt number node = acts (flat_lab d w.topology) H e a (delivered_by prompt) w.moment number
+    (dst_by w.wire prompt) (input_by w.wire prompt) node
 
 -- a tick that is due
 abbrev pub ticks_at : Draws → WorldState → List Full → Numbered → next.Due → Full

@@ -8,7 +8,18 @@ use Rattle.history.specs.declared.records.Record.{Record}
 
 -- the record of an event at a moment that doesn't say yet what was done
 abbrev pub fresh_record : ℕ → ℕ → Record
-fresh_record index m = record { event = index; moment = record { 0 = m }; act = act.Tick; node = None; fate = fate.Idle; address = None; handed = None; late = []; gone = 0; marks = [] }
+fresh_record index m = record {
+  event = index;
+  moment = record { 0 = m };
+  act = act.Tick;
+  node = None;
+  fate = fate.Idle;
+  address = None;
+  handed = None;
+  late = [];
+  gone = 0;
+  marks = [];
+}
 
 -- what was done, by which node, and by which rule
 abbrev pub with_deed : Record → Act → Option ℕ → Fate → Record

@@ -51,7 +51,17 @@ began_in m (Some (going_on.Advance began ms)) = began.0
 began_in m (Some going_on.Settle) = m
 
 abbrev pub state_of : TopologyState → ℕ → Option Going → Option ℕ → List PlayedNode → WireState → Option Stop → WorldState
-state_of t m g armed nodes wire stopped = record { topology = t; moment = m; began = began_in m g; going = event_in g; armed = armed; nodes = nodes; wire = wire.items; done = wire.done; stopped = stopped }
+state_of t m g armed nodes wire stopped = record {
+  topology = t;
+  moment = m;
+  began = began_in m g;
+  going = event_in g;
+  armed = armed;
+  nodes = nodes;
+  wire = wire.items;
+  done = wire.done;
+  stopped = stopped;
+}
 
 -- WHAT IS LEFT
 

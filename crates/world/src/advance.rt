@@ -42,7 +42,8 @@ impl<'a> World<'a> {
     /// The tick that is due first, up to a moment.
     fn due_by(&self, end: Millis) -> Option<Due>
         ensures due { (d : Draws) (H : List Full) → StandsFor d self.now H → IfSome result (λ x. IsFound (flat_lab d self.now.topology) H x) }
-        ensures none { (d : Draws) (H : List Full) → StandsFor d self.now H → IfNone result (NoneIsDue end.0 (least_due (flat_lab d self.now.topology) H 0 (nodes self.now.topology))) }
+        ensures none { (d : Draws) (H : List Full) → StandsFor d self.now H
+            → IfNone result (NoneIsDue end.0 (least_due (flat_lab d self.now.topology) H 0 (nodes self.now.topology))) }
         ensures early { IfSome result (λ x. x.moment.0 ≤ end.0) }
         ensures within { IfSome result (λ x. x.node < length self.now.nodes) }
     {
@@ -81,7 +82,15 @@ impl<'a> World<'a> {
         ensures plays { (d : Draws) (H : List Full) → StandsFor d self.old H → (e : Event) → forgotten (flat_lab d self.old.topology) e ≡ [] → arms e ≡ None
             → (x : Tick) → due_as x ≡ due → node_at self.old.topology x.number ≡ Some x.node
             → Plays d self.old self.new H (ticks_at d self.old H (numbered out.old.event e) x) (played result out.new) }
-        ensures rest { self.new ≡ record self.old { moment = self.new.moment; began = began.0; going = Some (event.Advance ms); armed = self.new.armed; nodes = self.new.nodes; wire = self.new.wire; done = self.new.done } }
+        ensures rest { self.new ≡ record self.old {
+          moment = self.new.moment;
+          began = began.0;
+          going = Some (event.Advance ms);
+          armed = self.new.armed;
+          nodes = self.new.nodes;
+          wire = self.new.wire;
+          done = self.new.done;
+        } }
         ensures moment { self.new.moment ≤ began.0 + ms }
         ensures err { OnErr result ((self.new.wire ≡ self.old.wire) × (self.new.done ≡ self.old.done)) }
     {

@@ -31,8 +31,11 @@ impl<'a> World<'a> {
         requires fresh { out.old ≡ fresh_record out.old.event self.old.moment }
         requires within { number < length self.old.nodes }
         requires short { length bytes.now ≤ DATAGRAM_MAX }
-        ensures plays { (d : Draws) (H : List Full) → StandsFor d self.old H → (e : Event) → at_nat (flat_lab d self.old.topology) e (plain verb) ≡ [] → arms e ≡ None
-            → Plays d self.old self.new H (hands_in (flat_lab d self.old.topology) H (numbered out.old.event e) verb number bytes.now (node_at self.old.topology number)) (played result out.new) }
+        ensures plays { (d : Draws) (H : List Full) → StandsFor d self.old H → (e : Event)
+            → at_nat (flat_lab d self.old.topology) e (plain verb) ≡ [] → arms e ≡ None
+            → Plays d self.old self.new H (hands_in (flat_lab d self.old.topology) H
+            (numbered out.old.event e) verb number bytes.now (node_at self.old.topology number))
+            (played result out.new) }
         ensures rest { self.new ≡ record self.old { armed = self.new.armed; nodes = self.new.nodes; wire = self.new.wire; done = self.new.done } }
         ensures err { OnErr result ((self.new.wire ≡ self.old.wire) × (self.new.done ≡ self.old.done)) }
     {

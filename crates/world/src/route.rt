@@ -96,7 +96,8 @@ fn packet_route(
     bytes: &[u8],
 ) -> Route
     ensures there { IsThere nodes.now result }
-    ensures route { (d : Draws) (H : List Full) (m : ℕ) → AreOf topology.now nodes.now → by_route topology.now result ≡ route (flat_lab d topology.now) H m (six relay bytes.now) }
+    ensures route { (d : Draws) (H : List Full) (m : ℕ) → AreOf topology.now nodes.now
+        → by_route topology.now result ≡ route (flat_lab d topology.now) H m (six relay bytes.now) }
 {
     if let Some(relay) = relay {
         return route_to(nodes, Some(relay));
@@ -111,7 +112,8 @@ fn packet_route(
 pub fn route_of(topology: &Topology, nodes: &[PlayedNode], now: Millis, entry: WireEntry) -> Route
     requires ready { AreReady now.0 nodes.now }
     ensures there { IsThere nodes.now result }
-    ensures route { (d : Draws) (H : List Full) → NodesOf (flat_lab d topology.now) nodes.now H → by_route topology.now result ≡ route (flat_lab d topology.now) H now.0 (item_lent entry.entry) }
+    ensures route { (d : Draws) (H : List Full) → NodesOf (flat_lab d topology.now) nodes.now H
+        → by_route topology.now result ≡ route (flat_lab d topology.now) H now.0 (item_lent entry.entry) }
 {
     match entry {
         WireEntry::Udp { src, dst, .. } => datagram_route(topology, nodes, now, src, dst),

@@ -162,7 +162,8 @@ impl Wire {
     ) -> Result<(), Stop>
         requires short { length bytes.now ≤ DATAGRAM_MAX }
         requires few { length marks.old < MARKS_MAX }
-        ensures puts { (side : Side) → Puts self.old self.new marks.old marks.new (marked (record { side = side; to = dst; bytes = bytes.now }) src ∷ []) result }
+        ensures puts { (side : Side) → Puts self.old self.new marks.old marks.new
+            (marked (record { side = side; to = dst; bytes = bytes.now }) src ∷ []) result }
         ensures err { OnErr result (self.new ≡ self.old) }
     {
         let len = bytes.len();
