@@ -1,8 +1,8 @@
 -- What a server sends, by the rules.
 use Rattle.std.proofs.Common.{◌≡◌, ◌≤◌, ◌<◌, ℕ, ◌+◌, Bool, true, false, List, [], ◌∷◌, length, drop, Option, Some, None, Result, Ok, Err, refl, sym, ap, subst, ◌∙◌, arith}
-use Rattle.std.specs.Prelude.{◌&&◌, not, IfSome, is_some, option_map}
+use Rattle.std.specs.Prelude.{◌&&◌, not, IfSome, option_map}
 use Rattle.std.specs.List.{AllByRecursion}
-use Rattle.std.proofs.lemmas.Bool.{false≢true, and_parts, not-false}
+use Rattle.std.proofs.lemmas.Bool.{false≢true}
 use Rattle.td_base.specs.Bytes.{IsBytes}
 use Rattle.td_base.specs.Ip4.{IsIp4}
 use Rattle.td_base.specs.Ip6.{IsIp6}
@@ -34,13 +34,13 @@ use Rattle.teredo_node.specs.Step.{Send}
 use Rattle.server_core.specs.declared.server.ServerSettings.{ServerSettings}
 use Rattle.server_core.specs.declared.rules.Rule.{Rule}
 use Rattle.server_core.specs.declared.rules.Rule.TheVariants.{Dropped, Advert, ForwardOrigin, Forward, Six}
-use Rattle.server_core.specs.Conditions.{own_address, is_own, is_forged}
-use Rattle.server_core.specs.Rules.{Seen, seen, rule_of}
-use Rattle.server_core.specs.Outputs.{advert_packet, advert_bytes, forwarded}
+use Rattle.server_core.specs.Conditions.{own_address, is_forged}
+use Rattle.server_core.specs.Rules.{seen, rule_of}
+use Rattle.server_core.specs.Outputs.{advert_bytes, forwarded}
 use Rattle.server_core.specs.Server.{step_of, by_payload, server_row}
 use Rattle.server_core.specs.Laws.{AdvertReadsBack, ForwardedReadsBack}
-use Rattle.server_core.specs.RuleWarrants.{IsSound, IsAnswered, GoesOn, GoesToOwn, GoesToOther, RuledOnlyIf, RuleIsWarranted}
-use Rattle.server_core.specs.Outgoing.{send_from, IsOutgoing, adverts, goes_to_own, goes_to_other, EachIsOutgoing, IsFromClient, EachIsFromClient, EachOutputIsMade}
+use Rattle.server_core.specs.RuleWarrants.{GoesOn, RuledOnlyIf}
+use Rattle.server_core.specs.Outgoing.{IsOutgoing, adverts, goes_to_own, goes_to_other, EachIsOutgoing, IsFromClient, EachIsFromClient, EachOutputIsMade}
 use Rattle.teredo_node.specs.MadeInputs.{IsMadeSend}
 use Rattle.server_core.proofs.Warranted.{rule_is_warranted}
 
@@ -65,7 +65,7 @@ pub record SendLaws : Type 0 where
   pub link_local : LinkLocalTells
   pub spelled : PayloadIsSpelled
 
-unforged_from : (from : Ep) (v : Value) → is_forged from v.packet ≡ false → is_teredo v.packet.src ≡ true → from ≡ embedded v.packet.src
+pub unforged_from : (from : Ep) (v : Value) → is_forged from v.packet ≡ false → is_teredo v.packet.src ≡ true → from ≡ embedded v.packet.src
 unfolding is_forged
 unforged_from from v h teredo = sym (same_ep-true (embedded v.packet.src) from (by (is_teredo v.packet.src) (same_ep (embedded v.packet.src) from) teredo h)) where
   by : (b c : Bool) → b ≡ true → b && not c ≡ false → c ≡ true
@@ -105,18 +105,18 @@ nonce_fits None h = tt
 nonce_fits (Some a) h = h.nonce
 
 -- what a payload that came tells
-record Told (v : Value) : Type 0 where
-  nonce : IfSome (nonce_of v.lead) (λ n. n < 2 ^ 64)
-  source : IsIp6 v.packet.src
+pub record Told (v : Value) : Type 0 where
+  pub nonce : IfSome (nonce_of v.lead) (λ n. n < 2 ^ 64)
+  pub source : IsIp6 v.packet.src
 
-told : PayloadIsSpelled → (x : List ℕ) (v : Value) → IsBytes x → payload_at x ≡ Ok v → Told v
+pub told : PayloadIsSpelled → (x : List ℕ) (v : Value) → IsBytes x → payload_at x ≡ Ok v → Told v
 told law x v fits e =
     let is = spelled_is law x v fits e in
     record { nonce = subst (λ (l : Lead). IfSome (nonce_of l) (λ n. n < 2 ^ 64)) (sym is.told) (nonce_fits is.blocks.auth is.fits.auth); source = is.is_packet.0.src }
 
 -- each datagram that is sent for a payload
 module _ (P : Send → Type 0) (s : ServerSettings) (side : Side) (from : Ep) (x : List ℕ) where
-  of_read : ((v : Value) → payload_at x ≡ Ok v → (send : Send) → IsOutgoing s side from x v send → P send) → (r : Result Value PayloadFault) → payload_at x ≡ r → AllByRecursion P (by_payload s side from x r).sends
+  pub of_read : ((v : Value) → payload_at x ≡ Ok v → (send : Send) → IsOutgoing s side from x v send → P send) → (r : Result Value PayloadFault) → payload_at x ≡ r → AllByRecursion P (by_payload s side from x r).sends
   of_read each (Err f) e = tt
   of_read each (Ok v) e = all_weaker (IsOutgoing s side from x v) P (step_of s side from x v (rule_of s from v)).sends (each v e) (by_rule s side from x v (rule_of s from v) (rule_is_warranted s from v))
 

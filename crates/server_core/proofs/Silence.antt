@@ -22,7 +22,7 @@ use Rattle.server_core.specs.Server.{step_of, by_payload, server_row}
 use Rattle.server_core.specs.Bounds.{IsSilent, EndsThere, endpoint, outputs}
 
 -- the rule drops
-abbrev IsDropped : Rule → Type 0
+abbrev pub IsDropped : Rule → Type 0
 IsDropped r = (fate : Fate) × (r ≡ Dropped fate)
 
 -- the first lines, where the sixth holds
@@ -42,7 +42,7 @@ own_is_dropped s from v own =
     let a = seen s from v in
     own_drops a.keyed a.big a.other_kind a.ill_formed a.unusable_source a.from_server (packet_lines a ++ destination_lines a) own
 
-dropped_is_silent : (s : ServerSettings) (side : Side) (from : Ep) (x : List ℕ) (v : Value) (r : Rule) → IsDropped r → IsSilent (step_of s side from x v r)
+pub dropped_is_silent : (s : ServerSettings) (side : Side) (from : Ep) (x : List ℕ) (v : Value) (r : Rule) → IsDropped r → IsSilent (step_of s side from x v r)
 dropped_is_silent s side from x v r dropped =
     subst (λ (k : Rule). IsSilent (step_of s side from x v k)) (sym dropped.1) (refl, refl)
 

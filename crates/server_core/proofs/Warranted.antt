@@ -1,13 +1,8 @@
 -- What was seen of a datagram where it has a rule.
-use Rattle.std.proofs.Common.{◌≡◌, Bool, true, false, refl}
-use Rattle.std.proofs.lemmas.Bool.{not-false, not-true}
-use Rattle.td_base.specs.declared.endpoint.Ep.{Ep}
-use Rattle.bubble.specs.Payloads.{Value}
 use Rattle.teredo_node.proofs.FirstLines.{by_lines}
-use Rattle.server_core.specs.declared.server.ServerSettings.{ServerSettings}
 use Rattle.server_core.specs.declared.rules.Rule.{Rule}
 use Rattle.server_core.specs.Rules.{Seen, seen, rule_of, datagram_lines, packet_lines, destination_lines, last_line}
-use Rattle.server_core.specs.RuleWarrants.{IsSound, IsAnswered, GoesOn, RuledOnlyIf, RuleIsWarranted}
+use Rattle.server_core.specs.RuleWarrants.{IsSound, GoesOn, RuledOnlyIf, RuleIsWarranted}
 use Rattle.std.specs.Prelude.{◌++◌}
 use Rattle.teredo_node.specs.Rows.{first_line}
 

@@ -9,3 +9,4 @@ pub mod Laws
 pub mod RuleWarrants
 pub mod Outgoing
 pub mod Numbers
+pub mod AmongServers

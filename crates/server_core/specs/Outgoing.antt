@@ -1,5 +1,5 @@
 -- What a server sends: two kinds of datagrams (RFC 4380, sections 5.3.1 and 5.3.2).
-use Rattle.std.specs.Prelude.{◌≡◌, ◌⊎◌, ◌≤◌, ℕ, true, false, is_some, List, length, drop, Option, Some, None, Result, Ok, IfSome}
+use Rattle.std.specs.Prelude.{◌≡◌, ℕ, true, false, List, drop, Some, None, Ok}
 use Rattle.std.specs.List.{AllByRecursion}
 use Rattle.td_base.specs.Bytes.{IsBytes}
 use Rattle.td_base.specs.Ip4.{IsIp4}
@@ -7,7 +7,6 @@ use Rattle.td_base.specs.Ep.{IsEp}
 use Rattle.td_base.specs.declared.endpoint.Ep.{Ep}
 use Rattle.td_base.specs.declared.side.Side.{Side}
 use Rattle.td_base.specs.declared.side.Side.TheVariants.{Primary}
-use Rattle.td_base.specs.declared.datagram.TheConstants.{DATAGRAM_MAX}
 use Rattle.teredo_addr.specs.Teredo.{is_teredo, embedded}
 use Rattle.indications.specs.Leads.{nonce_of}
 use Rattle.bubble.specs.Payloads.{Value, payload_at}
@@ -16,10 +15,10 @@ use Rattle.teredo_node.specs.Step.{Send}
 use Rattle.teredo_node.specs.MadeInputs.{IsMadeSend}
 use Rattle.server_core.specs.declared.server.ServerSettings.{ServerSettings}
 use Rattle.server_core.specs.Conditions.{is_own}
-use Rattle.server_core.specs.Rules.{Seen, seen}
+use Rattle.server_core.specs.Rules.{seen}
 use Rattle.server_core.specs.Outputs.{advert_bytes, forwarded}
 use Rattle.server_core.specs.Server.{answering_side, server_row}
-use Rattle.server_core.specs.RuleWarrants.{IsAnswered, GoesOn, GoesToOwn, GoesToOther}
+use Rattle.server_core.specs.RuleWarrants.{IsAnswered, GoesToOwn, GoesToOther}
 
 abbrev pub send_from : Side → Ep → List ℕ → Send
 send_from side to bytes = record { side = side; to = to; bytes = bytes }

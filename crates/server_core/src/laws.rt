@@ -2,6 +2,7 @@
 ghost use Rattle.server_core.specs.Laws.{FateOfRow, OneOutput, OneOutcome, AdvertReadsBack, ForwardedReadsBack, EachTellsWhereTo};
 ghost use Rattle.server_core.specs.RuleWarrants.{RuleIsWarranted};
 ghost use Rattle.server_core.specs.Outgoing.{EachIsOutgoing, EachIsFromClient, EachOutputIsMade};
+ghost use Rattle.server_core.specs.AmongServers.{EachEndsAmongServers};
 ghost use Rattle.server_core.specs.Numbers.{ServerNumbers};
 
 /// A datagram has a fate of the server's table.
@@ -60,6 +61,16 @@ pub fn each_is_outgoing()
 /// A packet with a Teredo source goes on only from the endpoint that the source embeds.
 pub fn each_is_from_client()
     ensures { EachIsFromClient }
+{
+    advert_reads_back();
+    forwarded_reads_back();
+    teredo_addr::link_local_tells();
+    bubble::payload_is_spelled();
+}
+
+/// What a server sends draws nothing from another server.
+pub fn each_ends_among_servers()
+    ensures { EachEndsAmongServers }
 {
     advert_reads_back();
     forwarded_reads_back();

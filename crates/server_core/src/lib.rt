@@ -44,9 +44,9 @@ mod server;
 mod tests;
 
 pub use laws::{
-    advert_reads_back, each_is_from_client, each_is_outgoing, each_output_is_made,
-    each_tells_where_to, fate_of_row, forwarded_reads_back, one_outcome, one_output,
-    rule_is_warranted, server_numbers,
+    advert_reads_back, each_ends_among_servers, each_is_from_client, each_is_outgoing,
+    each_output_is_made, each_tells_where_to, fate_of_row, forwarded_reads_back, one_outcome,
+    one_output, rule_is_warranted, server_numbers,
 };
 pub use reply::Answer;
 pub use server::{GROWTH_MAX, Server, ServerSettings};
