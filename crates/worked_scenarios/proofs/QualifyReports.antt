@@ -75,7 +75,7 @@ abbrev pub no-cone-phase : Scenario
 no-cone-phase = record { seed = 1; topology = record { servers = record { name = name2 115 49; primary = ip 192 0 2 1; secondary = ip 192 0 2 2 } ∷ []; nats = record { name = name2 110 49; kind = kind.Port; external = ip 198 51 100 1; idle = 60000 } ∷ []; clients = record { name = name1 97; nat = 1; inside = ep (ip 10 0 0 2) 4000; server = 0; refresh = record { low_ms = 30000; high_ms = 30000 }; random = false; cone_try = false } ∷ []; relays = []; natives = [] }; events = event.Advance 0 ∷ event.Next ∷ event.Next ∷ event.Advance 0 ∷ event.Next ∷ event.Next ∷ event.Restart 2 ∷ event.Advance 0 ∷ event.Next ∷ event.Next ∷ event.Advance 0 ∷ event.Next ∷ event.Next ∷ [] }
 
 pub no-cone-phase-report : report no-cone-phase.topology (play some_words no-cone-phase 18 []) ≡ codes "0 0 0 tick a rs_restricted #0=198.51.100.1:1024>192.0.2.1:3544/61\n1 0 0 advance - done\n2 0 1 deliver:0 s1 advert #1=192.0.2.1:3544>198.51.100.1:1024/117\n3 0 2 deliver:1 a first_answer\n4 0 3 tick a rs_secondary #2=198.51.100.1:1024>192.0.2.2:3544/61\n5 0 3 advance - done\n6 0 4 deliver:2 s1 advert #3=192.0.2.2:3544>198.51.100.1:1024/117\n7 0 5 deliver:3 a qualified_restricted is 2001:0:c000:201:0:fbff:39cc:9bfe\n8 0 6 restart a done\n9 0 7 tick a rs_restricted #4=198.51.100.1:1024>192.0.2.1:3544/61\n10 0 7 advance - done\n11 0 8 deliver:4 s1 advert #5=192.0.2.1:3544>198.51.100.1:1024/117\n12 0 9 deliver:5 a first_answer\n13 0 10 tick a rs_secondary #6=198.51.100.1:1024>192.0.2.2:3544/61\n14 0 10 advance - done\n15 0 11 deliver:6 s1 advert #7=192.0.2.2:3544>198.51.100.1:1024/117\n16 0 12 deliver:7 a qualified_restricted is 2001:0:c000:201:0:fbff:39cc:9bfe\ntotal records 17 entries 8 delivered 8 handed 0 kept 0 dropped 0\n"
-unfolding hex_groups_text hex digits same_ip same_ip6 cmp_ip6 same_ep is_global is_usable is_global6 is_link_local packet_bytes packet_at fields_of is_packet fields_in is_big checksum_of option_len whole_options echo_request_at echo_reply_at solicit_at advert_at message_at options_at message_bytes hidden_ep shown_at is_teredo server_in flags_in has_cone embedded teredo_ip link_local is_reachable head_at auth_at origin_at lead_at is_keyed is_confirmed is_bubble payload_at is_payload value_in message_in is_ill_formed packet_in source_in packet_given destination_in is_other_kind is_own is_for_server is_solicitation is_forged is_for_client is_not_ours is_unusable is_looped rule_of advert_bytes forwarded server_row is_listed touched listed has_room stay peer_at is_spent is_barred is_trusted_at is_fresh is_full due_of waiting_among cmp_due first_among interval_of first_phase qualification own_address expected solicitation due_step prefixes_in advert_row client_mentions client_standing_at test try_sends is_from_server client_seen reception_fate client_reception client_given client_transmission client_due_at next_due client_in client_out client_tick client_due relay_mentions relay_standing_at relay_given bubble_to relay_transmission relay_seen relay_reception relay_in relay_six relay_tick relay_due native_in native_out next
+unfolding hex_groups_text hex digits same_ip same_ip6 cmp_ip6 same_ep is_global is_usable is_global6 is_link_local packet_bytes packet_at fields_of is_packet fields_in is_big checksum_of option_len whole_options echo_request_at echo_reply_at solicit_at advert_at message_at options_at message_bytes hidden_ep shown_at is_teredo server_in flags_in has_cone embedded teredo_ip link_local is_reachable head_at auth_at origin_at lead_at is_keyed is_confirmed is_bubble payload_at is_payload value_in message_in is_ill_formed packet_in source_in packet_given destination_in is_other_kind is_own is_for_server is_solicitation is_forged is_for_client is_not_ours is_unusable is_looped rule_of advert_bytes forwarded server_row is_listed touched listed has_room stay peer_at is_spent is_barred is_trusted_at is_fresh is_full holds_most due_of kept_among cmp_due first_among interval_of first_phase qualification own_address expected solicitation due_step prefixes_in advert_row client_mentions client_standing_at test try_sends is_from_server client_seen reception_fate client_reception client_given client_transmission client_due_at next_due client_in client_out client_tick client_due relay_mentions relay_standing_at relay_given bubble_to relay_transmission relay_seen relay_reception relay_in relay_six relay_tick relay_due native_in native_out next
 no-cone-phase-report = refl
 
 abbrev pub symmetric-nat : Scenario
