@@ -9,3 +9,5 @@ pub mod TryReports
 pub mod QueueTotals
 pub mod Late
 pub mod OwnStreams
+pub mod FaultReports
+pub mod SettleReports
