@@ -17,17 +17,22 @@ PAGE = os.path.join(command.TOP, 'docs', 'SERVE.md')
 LINK = re.compile(r'\[([^]]*)\]\(([^)]*)\)')
 
 
+def escaped(text):
+    """Characters as roff takes them, whatever it holds its input for."""
+    return ''.join(char if ord(char) < 128 else f'\\[u{ord(char):04X}]' for char in text.replace('-', '\\-'))
+
+
 def plain(text):
     """A line of Markdown as one of roff: bold and code in bold, a link as its text."""
     text = LINK.sub(r'\1', text).replace('\\', '\\e')
     text = re.sub(r'\*\*(.+?)\*\*', r'\\fB\1\\fR', text)
     text = re.sub(r'(?<![\w*])\*([^*]+)\*(?![\w*])', r'\\fI\1\\fR', text)
     text = re.sub(r'`([^`]*)`', r'\\fB\1\\fR', text)
-    return ('\\&' + text if text[:1] in ".'" else text).replace('-', '\\-')
+    return escaped('\\&' + text if text[:1] in ".'" else text)
 
 
 def quoted(line):
-    line = line.replace('\\', '\\e').replace('-', '\\-')
+    line = escaped(line.replace('\\', '\\e'))
     return '\\&' + line if line[:1] in ".'" else line
 
 
