@@ -1,0 +1,5 @@
+pub mod Entries
+pub mod Unlisted
+pub mod Turned
+pub mod Ran
+pub mod Sessions

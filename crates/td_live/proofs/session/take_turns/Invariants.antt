@@ -1,0 +1,19 @@
+use Rattle.std.proofs.Common.{◌≡◌, ◌≤◌, ◌<◌, ◌+◌, ◌*◌, ℕ, false}
+use Rattle.td_outside.specs.Moves.{Stays}
+use Rattle.client_core.specs.Client.{IsCallable}
+use Rattle.td_live.specs.Asked.{live_client}
+use Rattle.td_live.specs.Half.{FailsBy}
+use Rattle.td_live.proofs.Ran.{Ran}
+use Rattle.td_live.proofs.session.take_turns.Given as goal
+
+abbrev pub invariant-loop-turn : goal.invariant-loop-turn
+invariant-loop-turn g l = record {
+  start : ℕ;
+  ran : Ran (live_client l.fn.asked l.fn.at) start l._turn l.client (g.C.Clock.state l.fn.clock) (g.C.Clock.state l.clock) (g.L.Link.state l.fn.link).told (g.L.Link.state l.link).told l.totals false;
+  callable : IsCallable l.client (g.C.Clock.state l.clock).last;
+  few : l.totals.sent + l.totals.failed ≤ 16 * l._turn;
+  receives : (g.L.Link.state l.link).recv_faults ≡ (g.L.Link.state l.fn.link).recv_faults;
+  sends : FailsBy (g.L.Link.state l.fn.link).send_faults (g.L.Link.state l.link).send_faults 0 l.totals.failed;
+  places : (g.L.Link.state l.link).place ≡ (g.L.Link.state l.fn.link).place;
+  asked : Stays (g.L.Link.state l.fn.link).openings (g.L.Link.state l.link).openings;
+}

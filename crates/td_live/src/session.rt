@@ -1,0 +1,91 @@
+//! A session: turns of a client at a link, until it knows.
+ghost use Rattle.std.specs.Prelude.{◌≡◌, ◌≤◌, ◌<◌, ◌+◌, ◌*◌, ◌⊎◌, true, Ok, Err, MatchResult};
+ghost use Rattle.td_outside.specs.Causes.{HasCause};
+ghost use Rattle.td_outside.specs.Link.{KeepsTold, client_on, free_port_of};
+ghost use Rattle.td_outside.specs.Moves.{Stays, Gains};
+ghost use Rattle.teredo_node.specs.Turn.{SendFaults};
+ghost use Rattle.td_live.specs.Asked.{live_client};
+ghost use Rattle.td_live.specs.LiveTotals.{no_attempts};
+ghost use Rattle.td_live.specs.Session.{Runs, SessionOf, NoSession};
+
+use crate::asked::client_at;
+use crate::live::found;
+use crate::turn::{receives, take_turn};
+use crate::{Asked, Live, LiveTotals};
+use std::alloc::Global;
+use td_base::{Ep, Ip4};
+use td_outside::{Clock, Failed, Link};
+use teredo_node::Step;
+
+/// The most turns that a session is asked for.
+pub const TURNS_MAX: u64 = 1_000_000_000;
+
+// Takes turns at a link that is open.
+fn take_turns<L: Link, C: Clock>(
+    alloc: Global,
+    asked: Asked,
+    at: Ep,
+    link: &mut L,
+    clock: &mut C,
+    totals: &mut LiveTotals,
+) -> Result<Live, Failed>
+    requires some { 0 < asked.turns }
+    requires most { asked.turns ≤ TURNS_MAX }
+    requires zero { totals.old ≡ no_attempts }
+    ensures turns { Runs (live_client asked at) asked.turns (C.state clock.old) (C.state clock.new) (L.state link.old).told (L.state link.new).told totals.new result }
+    ensures receives { HasCause (L.state link.old).recv_faults (L.state link.new).recv_faults result }
+    ensures sends { SendFaults (L.state link.old).send_faults (L.state link.new).send_faults totals.new.failed }
+    ensures places { (L.state link.new).place ≡ (L.state link.old).place }
+    ensures asked { Stays (L.state link.old).openings (L.state link.new).openings }
+{
+    qualify::turns_at_start();
+    let first = clock.now();
+    let mut client = client_at(alloc, asked, at, first);
+    let mut step = Step::new();
+    take_turn(&mut client, link, first, &mut step, totals)?;
+    for _turn in 1..asked.turns {
+        if !receives(client.phase()) {
+            return Ok(found(&client));
+        }
+        let now = clock.now();
+        take_turn(&mut client, link, now, &mut step, totals)?;
+    }
+    Ok(found(&client))
+}
+
+/// Opens the link's one socket at `inside`, and lets a client qualify there with the server of two addresses, in at most
+/// so many turns (RFC 4380, section 5.2.1).
+pub fn qualify<L: Link, C: Clock>(
+    alloc: Global,
+    inside: Ip4,
+    primary: Ip4,
+    secondary: Ip4,
+    seed: u64,
+    turns: u64,
+    link: &mut L,
+    clock: &mut C,
+    totals: &mut LiveTotals,
+) -> Result<Live, Failed>
+    requires some { 0 < turns }
+    requires most { turns ≤ TURNS_MAX }
+    requires zero { totals.old ≡ no_attempts }
+    ensures session { MatchResult result
+        (λ answer. SessionOf (record { inside = inside; primary = primary; secondary = secondary; seed = seed; turns = turns })
+        (L.state link.old) (L.state link.new) (C.state clock.old) (C.state clock.new) totals.new (Ok answer))
+        (λ fault. NoSession (L.state link.old) (L.state link.new) (C.state clock.old) (C.state clock.new) totals.new
+        ⊎ SessionOf (record { inside = inside; primary = primary; secondary = secondary; seed = seed; turns = turns })
+        (L.state link.old) (L.state link.new) (C.state clock.old) (C.state clock.new) totals.new (Err fault)) }
+    ensures asked { Gains (L.state link.old).openings (L.state link.new).openings (free_port_of inside) }
+    ensures receives { HasCause (L.state link.old).recv_faults (L.state link.new).recv_faults result }
+    ensures sends { SendFaults (L.state link.old).send_faults (L.state link.new).send_faults totals.new.failed }
+{
+    let at = link.open_client(inside)?;
+    let asked = Asked {
+        inside,
+        primary,
+        secondary,
+        seed,
+        turns,
+    };
+    take_turns(alloc, asked, at, link, clock, totals)
+}
