@@ -1,5 +1,5 @@
 -- The turns of a session so far.
-use Rattle.std.proofs.Common.{◌≡◌, ◌≤◌, ◌<◌, ◌+◌, ℕ, Bool, true, false, List, [], ◌∷◌, ◌++◌, length, Result, Ok, Err, refl, sym, ap, subst, ◌∙◌, arith}
+use Rattle.std.proofs.Common.{◌≡◌, ◌≤◌, ◌<◌, ◌+◌, ℕ, Bool, true, false, if◌then◌else◌, List, [], ◌∷◌, ◌++◌, length, Result, Ok, Err, refl, sym, ap, subst, ◌∙◌, arith}
 use Rattle.std.proofs.lemmas.List.{append-nil}
 use Rattle.td_outside.specs.declared.fails.Failed.{Failed}
 use Rattle.td_outside.specs.Clock.{ClockState}
@@ -11,6 +11,7 @@ use Rattle.teredo_node.specs.Journal.{Journal}
 use Rattle.teredo_node.specs.Turn.{Carries, attempts_of}
 use Rattle.teredo_node.specs.CarryLaws.{carries_nothing}
 use Rattle.qualify.specs.declared.settings.Settings.{Settings}
+use Rattle.qualify.specs.declared.phase.Phase.TheVariants.{Cone, Restricted}
 use Rattle.qualify.specs.Qualification.{Qualification, first_phase, qualification}
 use Rattle.qualify.specs.Laws.{TurnsAtStart}
 use Rattle.client_rules.specs.Journals.{journal}
@@ -82,10 +83,17 @@ ran_turn c start done own new clock last now link mid link' totals totals' broke
       goes = goes_both c (journal start []) j (after_turn c j t.turn) own new link mid link' (came_in ran.turns) (taken_in t.turn) no_attempts totals totals' ran.goes t.goes;
     }
 
+waits_by : (b : Bool) → receives (if b then Cone else Restricted) ≡ true
+waits_by true = refl
+waits_by false = refl
+
+waits_first : (s : Settings) → receives (first_phase s) ≡ true
+unfolding first_phase
+waits_first s = waits_by s.cone_try
+
 -- A client that starts waits for its server's answer.
 pub waits_at_start : TurnsAtStart → (c : LiveClient) (start : ℕ) → receives (phase_after c (journal start [])) ≡ true
-unfolding first_phase
-waits_at_start law c start = ap (λ (q : Qualification). receives q.phase) (law c.settings start)
+waits_at_start law c start = ap (λ (q : Qualification). receives q.phase) (law c.settings start) ∙ waits_first c.settings
 
 -- The first turn, at the start.
 pub ran_first : TurnsAtStart → (c : LiveClient) (start : ℕ) (own new : Client) (clock now : ClockState) (link link' : Told) (totals totals' : LiveTotals) (broken : Bool)

@@ -18,18 +18,26 @@ use Rattle.client_rules.specs.Warrants.{ReceivedOnlyIf}
 use Rattle.client_rules.specs.Laws.{FateOfReception, ReceptionIsWarranted}
 use Rattle.client_rules.specs.Journals.{client_in}
 use Rattle.client_core.specs.declared.client.Client.{Client}
-use Rattle.client_core.specs.Client.{settings_of, words_ahead, next_entry, lists, WantsPlace}
+use Rattle.client_core.specs.Client.{settings_of, words_ahead, next_entry, holds, lists, TakesRoom, to_hold, to_list, WantsPlace}
 use Rattle.td_live.specs.Asked.{LiveClient}
 use Rattle.td_live.specs.LiveTurns.{receives, phase_after}
 use Rattle.td_live.specs.Half.{IsAt}
 
--- Each fate by which a source is listed is one of a qualified client.
+-- Each fate by which a source is listed, or its packet held, is one of a qualified client.
 listed_is_qualified : (f : Fate) (a : Seen) (h : Heard) → lists f ≡ true → ReceivedOnlyIf f a h → a.qualified ≡ true
 listed_is_qualified fate.Indirect a h e w = w.mine.qualified
 listed_is_qualified fate.Rule3 a h e w = w.direct.mine.qualified
 listed_is_qualified fate.Rule3Bubble a h e w = w.direct.mine.qualified
-listed_is_qualified fate.SuspiciousTest a h e w = w.direct.mine.qualified
 listed_is_qualified _ a h e w = cc
+
+held_is_qualified : (f : Fate) (a : Seen) (h : Heard) → holds f ≡ true → ReceivedOnlyIf f a h → a.qualified ≡ true
+held_is_qualified fate.HeldTest a h e w = w.direct.mine.qualified
+held_is_qualified fate.Held a h e w = w.direct.mine.qualified
+held_is_qualified _ a h e w = cc
+
+room_is_qualified : (f : Fate) (listed : Bool) (a : Seen) (h : Heard) → TakesRoom f listed → ReceivedOnlyIf f a h → a.qualified ≡ true
+room_is_qualified f listed a h (to_hold e) w = held_is_qualified f a h e w
+room_is_qualified f listed a h (to_list e unlisted) w = listed_is_qualified f a h e w
 
 not_both : (p : Phase) → receives p ≡ true → is_qualified p ≡ true → ⊥
 not_both Cone r q = cc
@@ -51,7 +59,10 @@ pub wants_none : FateOfReception → ReceptionIsWarranted → (c : LiveClient) (
 wants_none law warranted c own j n from x at asking wants =
     let s = settings_of own in
     let a = standing_of s j n (source_in x) in
-    let listed : lists (reception_fate s a from x) ≡ true = sym (ap lists (fate_of_entry law own j n from x)) ∙ (wants j at.stands).line in
-    let qualified : is_qualified (qualification s j).phase ≡ true = sym (seen_qualified s j n from x) ∙ listed_is_qualified (reception_fate s a from x) (seen s a from x) (heard s a.qualification from (value_in x)) listed (warranted s a from x) in
+    let seen_there = seen s a from x in
+    let heard_there = heard s a.qualification from (value_in x) in
+    let fate = fate_of_entry law own j n from x in
+    let only : ReceivedOnlyIf (next_entry own j n (arrived from x)).step.fate seen_there heard_there = subst (λ (f : Fate). ReceivedOnlyIf f seen_there heard_there) (sym fate) (warranted s a from x) in
+    let qualified : is_qualified (qualification s j).phase ≡ true = sym (seen_qualified s j n from x) ∙ room_is_qualified (next_entry own j n (arrived from x)).step.fate _ seen_there heard_there (wants j at.stands) only in
     let waits : receives (qualification s j).phase ≡ true = ap (λ (t : Settings). receives (qualification t j).phase) at.settings ∙ asking in
     not_both (qualification s j).phase waits qualified

@@ -1,5 +1,5 @@
 -- The client of a session: how it is set up, and its words (RFC 4380, section 5.2.1).
-use Rattle.std.specs.Prelude.{ℕ, List, ◌++◌, replicate}
+use Rattle.std.specs.Prelude.{ℕ, true, false, List, ◌++◌, replicate}
 use Rattle.byteorder.specs.Endian.{big_bytes}
 use Rattle.td_base.specs.declared.endpoint.Ep.{Ep}
 use Rattle.td_base.specs.declared.reach.Policy.TheVariants.{Loopback}
@@ -8,9 +8,9 @@ use Rattle.qualify.specs.declared.settings.Settings.{Settings}
 use Rattle.td_live.specs.declared.asked.Asked.{Asked}
 use Rattle.td_live.specs.declared.asked.TheConstants.{REFRESH_LOW_MS, REFRESH_HIGH_MS, STREAM_NUMBER}
 
--- the client's endpoint is that of the link's one socket
+-- the client's endpoint is that of the link's one socket; the flags of its address aren't random, and its first phase is Cone
 abbrev pub live_settings : Asked → Ep → Settings
-live_settings a at = record { inside = at; primary = a.primary; secondary = a.secondary; policy = Loopback; low = REFRESH_LOW_MS; high = REFRESH_HIGH_MS }
+live_settings a at = record { inside = at; primary = a.primary; secondary = a.secondary; policy = Loopback; low = REFRESH_LOW_MS; high = REFRESH_HIGH_MS; random = false; cone_try = true }
 
 -- the seed of its stream of words: that of the first node of a laboratory with this seed
 abbrev pub live_seed : ℕ → List ℕ

@@ -59,6 +59,8 @@ pub(crate) fn client_at(alloc: Global, asked: Asked, at: Ep, now: Millis) -> Cli
         policy: Policy::Loopback,
         low: REFRESH_LOW_MS,
         high: REFRESH_HIGH_MS,
+        random: false,
+        cone_try: true,
     };
     let rng = ChaCha20Rng::from_seed(stream_seed(asked.seed));
     Client::new(alloc, settings, rng, now)

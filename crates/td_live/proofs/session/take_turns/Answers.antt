@@ -65,7 +65,7 @@ returns-in_err-take_turn-2-clause-turns g c =
     let link' = (g.L.Link.state t.new.link).told in
     let j = journal_from client inv.start inv.ran.turns in
     let waits : c.receives.result ≡ true = c.if-not-receives.false in
-    let begun : receives (phase_after client j) ≡ true = rw (← waits) (phase_told client c.loop-turn.client j c.phase.result c.receives.result inv.ran.goes.at (c.phase.ensures j inv.ran.goes.at.stands) c.receives.ensures) in
+    let begun : receives (phase_after client j) ≡ true = phase_told client c.loop-turn.client j c.phase.result c.receives.result inv.ran.goes.at (c.phase.ensures j inv.ran.goes.at.stands) c.receives.ensures ∙ waits in
     let broken : is_err t.result ≡ true = ap is_err c.in_err-take_turn-2.was in
     let more = ran_turn client inv.start c.loop-turn._turn c.loop-turn.client t.new.client clock last now link mid link' c.loop-turn.totals t.new.totals (is_err t.result) c.now-now.result.0 inv.ran begun
     (record { later = c.now-now.ensures.later; given = c.now-now.ensures.given; told = c.now-now.ensures.told }) (λ e. absurd (omega (arith, e, c.loop-turn.auto._turn))) (t.ensures.turn client j inv.ran.goes.at) in
@@ -86,7 +86,7 @@ loop-turn-preserved g c =
     let link' = (g.L.Link.state t.new.link).told in
     let j = journal_from client inv.start inv.ran.turns in
     let waits : c.receives.result ≡ true = c.if-not-receives.false in
-    let begun : receives (phase_after client j) ≡ true = rw (← waits) (phase_told client c.loop-turn.client j c.phase.result c.receives.result inv.ran.goes.at (c.phase.ensures j inv.ran.goes.at.stands) c.receives.ensures) in
+    let begun : receives (phase_after client j) ≡ true = phase_told client c.loop-turn.client j c.phase.result c.receives.result inv.ran.goes.at (c.phase.ensures j inv.ran.goes.at.stands) c.receives.ensures ∙ waits in
     let whole : is_err t.result ≡ false = ap is_err c.in_ok-take_turn-2.was in
     let more = ran_turn client inv.start c.loop-turn._turn c.loop-turn.client t.new.client clock last now link mid link' c.loop-turn.totals t.new.totals (is_err t.result) c.now-now.result.0 inv.ran begun
     (record { later = c.now-now.ensures.later; given = c.now-now.ensures.given; told = c.now-now.ensures.told }) (λ e. absurd (omega (arith, e, c.loop-turn.auto._turn))) (t.ensures.turn client j inv.ran.goes.at) in
