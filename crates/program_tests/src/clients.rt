@@ -9,38 +9,103 @@ use td_base::NoMemory;
 const ONE_TRY: &str = r#""advance 0", "next", "next""#;
 
 /// The server answers from its other address, and a cone NAT lets that in (RFC 4380, section 5.2.1).
-const CONE_REPORT: &str =
-    "0 0 0 tick a rs_cone #0=198.51.100.1:1024>192.0.2.1:3544/61\n1 0 0 advance - done\n2 0 1 deliver:0 s1 advert #1=192.0.2.2:3544>198.51.100.1:1024/117\n3 0 2 deliver:1 a qualified_cone is 2001:0:c000:201:8000:fbff:39cc:9bfe\ntotal records 4 entries 2 delivered 2 handed 0 kept 0 dropped 0\n";
+const CONE_REPORT: &str = "0 0 0 tick a rs_cone #0=198.51.100.1:1024>192.0.2.1:3544/61\n\
+     1 0 0 advance - done\n\
+     2 0 1 deliver:0 s1 advert #1=192.0.2.2:3544>198.51.100.1:1024/117\n\
+     3 0 2 deliver:1 a qualified_cone is 2001:0:c000:201:8000:fbff:39cc:9bfe\n\
+     total records 4 entries 2 delivered 2 handed 0 kept 0 dropped 0\n";
 
 /// Three tries as a cone client, one as a restricted one, and one with the other address.
 const FOUR_TRIES: &str =
     r#""advance 0", "next", "next", "advance 12000", "deliver 4", "deliver 5", "advance 0", "deliver 6", "deliver 7""#;
 
 /// The second answer comes from the same mapping.
-const RESTRICTED_REPORT: &str =
-    "0 0 0 tick a rs_cone #0=198.51.100.1:1024>192.0.2.1:3544/61\n1 0 0 advance - done\n2 0 1 deliver:0 s1 advert #1=192.0.2.2:3544>198.51.100.1:1024/117\n3 0 2 deliver:1 n1 nat_closed\n4 4000 3 tick a rs_cone #2=198.51.100.1:1024>192.0.2.1:3544/61\n5 8000 3 tick a rs_cone #3=198.51.100.1:1024>192.0.2.1:3544/61\n6 12000 3 tick a rs_restricted #4=198.51.100.1:1024>192.0.2.1:3544/61\n7 12000 3 advance - done\n8 12000 4 deliver:4 s1 advert #5=192.0.2.1:3544>198.51.100.1:1024/117\n9 12000 5 deliver:5 a first_answer\n10 12000 6 tick a rs_secondary #6=198.51.100.1:1024>192.0.2.2:3544/61\n11 12000 6 advance - done\n12 12000 7 deliver:6 s1 advert #7=192.0.2.2:3544>198.51.100.1:1024/117\n13 12000 8 deliver:7 a qualified_restricted is 2001:0:c000:201:0:fbff:39cc:9bfe\ntotal records 14 entries 8 delivered 6 handed 0 kept 0 dropped 1\n";
+const RESTRICTED_REPORT: &str = "0 0 0 tick a rs_cone #0=198.51.100.1:1024>192.0.2.1:3544/61\n\
+     1 0 0 advance - done\n\
+     2 0 1 deliver:0 s1 advert #1=192.0.2.2:3544>198.51.100.1:1024/117\n\
+     3 0 2 deliver:1 n1 nat_closed\n\
+     4 4000 3 tick a rs_cone #2=198.51.100.1:1024>192.0.2.1:3544/61\n\
+     5 8000 3 tick a rs_cone #3=198.51.100.1:1024>192.0.2.1:3544/61\n\
+     6 12000 3 tick a rs_restricted #4=198.51.100.1:1024>192.0.2.1:3544/61\n\
+     7 12000 3 advance - done\n\
+     8 12000 4 deliver:4 s1 advert #5=192.0.2.1:3544>198.51.100.1:1024/117\n\
+     9 12000 5 deliver:5 a first_answer\n\
+     10 12000 6 tick a rs_secondary #6=198.51.100.1:1024>192.0.2.2:3544/61\n\
+     11 12000 6 advance - done\n\
+     12 12000 7 deliver:6 s1 advert #7=192.0.2.2:3544>198.51.100.1:1024/117\n\
+     13 12000 8 deliver:7 a qualified_restricted is 2001:0:c000:201:0:fbff:39cc:9bfe\n\
+     total records 14 entries 8 delivered 6 handed 0 kept 0 dropped 1\n";
 
 /// The second answer comes from another mapping, so the client stays without an address.
-const SYMMETRIC_REPORT: &str =
-    "0 0 0 tick a rs_cone #0=198.51.100.1:1024>192.0.2.1:3544/61\n1 0 0 advance - done\n2 0 1 deliver:0 s1 advert #1=192.0.2.2:3544>198.51.100.1:1024/117\n3 0 2 deliver:1 n1 nat_closed\n4 4000 3 tick a rs_cone #2=198.51.100.1:1024>192.0.2.1:3544/61\n5 8000 3 tick a rs_cone #3=198.51.100.1:1024>192.0.2.1:3544/61\n6 12000 3 tick a rs_restricted #4=198.51.100.1:1024>192.0.2.1:3544/61\n7 12000 3 advance - done\n8 12000 4 deliver:4 s1 advert #5=192.0.2.1:3544>198.51.100.1:1024/117\n9 12000 5 deliver:5 a first_answer\n10 12000 6 tick a rs_secondary #6=198.51.100.1:1025>192.0.2.2:3544/61\n11 12000 6 advance - done\n12 12000 7 deliver:6 s1 advert #7=192.0.2.2:3544>198.51.100.1:1025/117\n13 12000 8 deliver:7 a symmetric\ntotal records 14 entries 8 delivered 6 handed 0 kept 0 dropped 1\n";
+const SYMMETRIC_REPORT: &str = "0 0 0 tick a rs_cone #0=198.51.100.1:1024>192.0.2.1:3544/61\n\
+     1 0 0 advance - done\n\
+     2 0 1 deliver:0 s1 advert #1=192.0.2.2:3544>198.51.100.1:1024/117\n\
+     3 0 2 deliver:1 n1 nat_closed\n\
+     4 4000 3 tick a rs_cone #2=198.51.100.1:1024>192.0.2.1:3544/61\n\
+     5 8000 3 tick a rs_cone #3=198.51.100.1:1024>192.0.2.1:3544/61\n\
+     6 12000 3 tick a rs_restricted #4=198.51.100.1:1024>192.0.2.1:3544/61\n\
+     7 12000 3 advance - done\n\
+     8 12000 4 deliver:4 s1 advert #5=192.0.2.1:3544>198.51.100.1:1024/117\n\
+     9 12000 5 deliver:5 a first_answer\n\
+     10 12000 6 tick a rs_secondary #6=198.51.100.1:1025>192.0.2.2:3544/61\n\
+     11 12000 6 advance - done\n\
+     12 12000 7 deliver:6 s1 advert #7=192.0.2.2:3544>198.51.100.1:1025/117\n\
+     13 12000 8 deliver:7 a symmetric\n\
+     total records 14 entries 8 delivered 6 handed 0 kept 0 dropped 1\n";
 
 /// Its host sends.
 const AND_A_HOST: &str = r#""host a 2001:db8::1 -""#;
 
 /// What is added then.
-const OFF_REPORT: &str =
-    "0 0 0 tick a rs_cone #0=198.51.100.1:1024>192.0.2.1:3544/61\n1 0 0 advance - done\n2 0 1 deliver:0 s1 advert #1=192.0.2.2:3544>198.51.100.1:1024/117\n3 0 2 deliver:1 n1 nat_closed\n4 4000 3 tick a rs_cone #2=198.51.100.1:1024>192.0.2.1:3544/61\n5 8000 3 tick a rs_cone #3=198.51.100.1:1024>192.0.2.1:3544/61\n6 12000 3 tick a rs_restricted #4=198.51.100.1:1024>192.0.2.1:3544/61\n7 12000 3 advance - done\n8 12000 4 deliver:4 s1 advert #5=192.0.2.1:3544>198.51.100.1:1024/117\n9 12000 5 deliver:5 a first_answer\n10 12000 6 tick a rs_secondary #6=198.51.100.1:1025>192.0.2.2:3544/61\n11 12000 6 advance - done\n12 12000 7 deliver:6 s1 advert #7=192.0.2.2:3544>198.51.100.1:1025/117\n13 12000 8 deliver:7 a symmetric\n14 12000 9 host a off\ntotal records 15 entries 8 delivered 6 handed 0 kept 0 dropped 2\n";
+const OFF_REPORT: &str = "0 0 0 tick a rs_cone #0=198.51.100.1:1024>192.0.2.1:3544/61\n\
+     1 0 0 advance - done\n\
+     2 0 1 deliver:0 s1 advert #1=192.0.2.2:3544>198.51.100.1:1024/117\n\
+     3 0 2 deliver:1 n1 nat_closed\n\
+     4 4000 3 tick a rs_cone #2=198.51.100.1:1024>192.0.2.1:3544/61\n\
+     5 8000 3 tick a rs_cone #3=198.51.100.1:1024>192.0.2.1:3544/61\n\
+     6 12000 3 tick a rs_restricted #4=198.51.100.1:1024>192.0.2.1:3544/61\n\
+     7 12000 3 advance - done\n\
+     8 12000 4 deliver:4 s1 advert #5=192.0.2.1:3544>198.51.100.1:1024/117\n\
+     9 12000 5 deliver:5 a first_answer\n\
+     10 12000 6 tick a rs_secondary #6=198.51.100.1:1025>192.0.2.2:3544/61\n\
+     11 12000 6 advance - done\n\
+     12 12000 7 deliver:6 s1 advert #7=192.0.2.2:3544>198.51.100.1:1025/117\n\
+     13 12000 8 deliver:7 a symmetric\n\
+     14 12000 9 host a off\n\
+     total records 15 entries 8 delivered 6 handed 0 kept 0 dropped 2\n";
 
 /// The client starts anew, while the NAT still lets the other address in.
 const AND_A_RESTART: &str = r#""advance 8000", "restart a", "advance 0", "deliver 8", "deliver 9""#;
 
 /// It believes itself cone.
-const RESTART_REPORT: &str =
-    "0 0 0 tick a rs_cone #0=198.51.100.1:1024>192.0.2.1:3544/61\n1 0 0 advance - done\n2 0 1 deliver:0 s1 advert #1=192.0.2.2:3544>198.51.100.1:1024/117\n3 0 2 deliver:1 n1 nat_closed\n4 4000 3 tick a rs_cone #2=198.51.100.1:1024>192.0.2.1:3544/61\n5 8000 3 tick a rs_cone #3=198.51.100.1:1024>192.0.2.1:3544/61\n6 12000 3 tick a rs_restricted #4=198.51.100.1:1024>192.0.2.1:3544/61\n7 12000 3 advance - done\n8 12000 4 deliver:4 s1 advert #5=192.0.2.1:3544>198.51.100.1:1024/117\n9 12000 5 deliver:5 a first_answer\n10 12000 6 tick a rs_secondary #6=198.51.100.1:1024>192.0.2.2:3544/61\n11 12000 6 advance - done\n12 12000 7 deliver:6 s1 advert #7=192.0.2.2:3544>198.51.100.1:1024/117\n13 12000 8 deliver:7 a qualified_restricted is 2001:0:c000:201:0:fbff:39cc:9bfe\n14 20000 9 advance - done\n15 20000 10 restart a done\n16 20000 11 tick a rs_cone #8=198.51.100.1:1024>192.0.2.1:3544/61\n17 20000 11 advance - done\n18 20000 12 deliver:8 s1 advert #9=192.0.2.2:3544>198.51.100.1:1024/117\n19 20000 13 deliver:9 a qualified_cone is 2001:0:c000:201:8000:fbff:39cc:9bfe\ntotal records 20 entries 10 delivered 8 handed 0 kept 0 dropped 1\n";
+const RESTART_REPORT: &str = "0 0 0 tick a rs_cone #0=198.51.100.1:1024>192.0.2.1:3544/61\n\
+     1 0 0 advance - done\n\
+     2 0 1 deliver:0 s1 advert #1=192.0.2.2:3544>198.51.100.1:1024/117\n\
+     3 0 2 deliver:1 n1 nat_closed\n\
+     4 4000 3 tick a rs_cone #2=198.51.100.1:1024>192.0.2.1:3544/61\n\
+     5 8000 3 tick a rs_cone #3=198.51.100.1:1024>192.0.2.1:3544/61\n\
+     6 12000 3 tick a rs_restricted #4=198.51.100.1:1024>192.0.2.1:3544/61\n\
+     7 12000 3 advance - done\n\
+     8 12000 4 deliver:4 s1 advert #5=192.0.2.1:3544>198.51.100.1:1024/117\n\
+     9 12000 5 deliver:5 a first_answer\n\
+     10 12000 6 tick a rs_secondary #6=198.51.100.1:1024>192.0.2.2:3544/61\n\
+     11 12000 6 advance - done\n\
+     12 12000 7 deliver:6 s1 advert #7=192.0.2.2:3544>198.51.100.1:1024/117\n\
+     13 12000 8 deliver:7 a qualified_restricted is 2001:0:c000:201:0:fbff:39cc:9bfe\n\
+     14 20000 9 advance - done\n\
+     15 20000 10 restart a done\n\
+     16 20000 11 tick a rs_cone #8=198.51.100.1:1024>192.0.2.1:3544/61\n\
+     17 20000 11 advance - done\n\
+     18 20000 12 deliver:8 s1 advert #9=192.0.2.2:3544>198.51.100.1:1024/117\n\
+     19 20000 13 deliver:9 a qualified_cone is 2001:0:c000:201:8000:fbff:39cc:9bfe\n\
+     total records 20 entries 10 delivered 8 handed 0 kept 0 dropped 1\n";
 
 /// The flags are of the fourth word that the seed gives to node 2, 6cf84512 (RFC 5991, section 3.1).
-const RANDOM_REPORT: &str =
-    "0 0 0 tick a rs_cone #0=198.51.100.1:1024>192.0.2.1:3544/61\n1 0 0 advance - done\n2 0 1 deliver:0 s1 advert #1=192.0.2.2:3544>198.51.100.1:1024/117\n3 0 2 deliver:1 a qualified_cone is 2001:0:c000:201:8412:fbff:39cc:9bfe\ntotal records 4 entries 2 delivered 2 handed 0 kept 0 dropped 0\n";
+const RANDOM_REPORT: &str = "0 0 0 tick a rs_cone #0=198.51.100.1:1024>192.0.2.1:3544/61\n\
+     1 0 0 advance - done\n\
+     2 0 1 deliver:0 s1 advert #1=192.0.2.2:3544>198.51.100.1:1024/117\n\
+     3 0 2 deliver:1 a qualified_cone is 2001:0:c000:201:8412:fbff:39cc:9bfe\n\
+     total records 4 entries 2 delivered 2 handed 0 kept 0 dropped 0\n";
 
 /// One try of each phase that isn't Cone.
 const TWO_TRIES: &str = r#""advance 0", "next", "next", "advance 0", "next", "next""#;
@@ -48,28 +113,114 @@ const TWO_TRIES: &str = r#""advance 0", "next", "next", "advance 0", "next", "ne
 const A_RESTART: &str = r#""restart a""#;
 
 /// Each start begins in phase Restricted, so nothing is silent behind a port restricted NAT (RFC 5991, section 3.2).
-const NO_CONE_REPORT: &str =
-    "0 0 0 tick a rs_restricted #0=198.51.100.1:1024>192.0.2.1:3544/61\n1 0 0 advance - done\n2 0 1 deliver:0 s1 advert #1=192.0.2.1:3544>198.51.100.1:1024/117\n3 0 2 deliver:1 a first_answer\n4 0 3 tick a rs_secondary #2=198.51.100.1:1024>192.0.2.2:3544/61\n5 0 3 advance - done\n6 0 4 deliver:2 s1 advert #3=192.0.2.2:3544>198.51.100.1:1024/117\n7 0 5 deliver:3 a qualified_restricted is 2001:0:c000:201:0:fbff:39cc:9bfe\n8 0 6 restart a done\n9 0 7 tick a rs_restricted #4=198.51.100.1:1024>192.0.2.1:3544/61\n10 0 7 advance - done\n11 0 8 deliver:4 s1 advert #5=192.0.2.1:3544>198.51.100.1:1024/117\n12 0 9 deliver:5 a first_answer\n13 0 10 tick a rs_secondary #6=198.51.100.1:1024>192.0.2.2:3544/61\n14 0 10 advance - done\n15 0 11 deliver:6 s1 advert #7=192.0.2.2:3544>198.51.100.1:1024/117\n16 0 12 deliver:7 a qualified_restricted is 2001:0:c000:201:0:fbff:39cc:9bfe\ntotal records 17 entries 8 delivered 8 handed 0 kept 0 dropped 0\n";
+const NO_CONE_REPORT: &str = "0 0 0 tick a rs_restricted #0=198.51.100.1:1024>192.0.2.1:3544/61\n\
+     1 0 0 advance - done\n\
+     2 0 1 deliver:0 s1 advert #1=192.0.2.1:3544>198.51.100.1:1024/117\n\
+     3 0 2 deliver:1 a first_answer\n\
+     4 0 3 tick a rs_secondary #2=198.51.100.1:1024>192.0.2.2:3544/61\n\
+     5 0 3 advance - done\n\
+     6 0 4 deliver:2 s1 advert #3=192.0.2.2:3544>198.51.100.1:1024/117\n\
+     7 0 5 deliver:3 a qualified_restricted is 2001:0:c000:201:0:fbff:39cc:9bfe\n\
+     8 0 6 restart a done\n\
+     9 0 7 tick a rs_restricted #4=198.51.100.1:1024>192.0.2.1:3544/61\n\
+     10 0 7 advance - done\n\
+     11 0 8 deliver:4 s1 advert #5=192.0.2.1:3544>198.51.100.1:1024/117\n\
+     12 0 9 deliver:5 a first_answer\n\
+     13 0 10 tick a rs_secondary #6=198.51.100.1:1024>192.0.2.2:3544/61\n\
+     14 0 10 advance - done\n\
+     15 0 11 deliver:6 s1 advert #7=192.0.2.2:3544>198.51.100.1:1024/117\n\
+     16 0 12 deliver:7 a qualified_restricted is 2001:0:c000:201:0:fbff:39cc:9bfe\n\
+     total records 17 entries 8 delivered 8 handed 0 kept 0 dropped 0\n";
 
 /// The sixth word of node 2 gives the flags, 3806.
 const RANDOM_RESTRICTED_REPORT: &str =
-    "0 0 0 tick a rs_restricted #0=198.51.100.1:1024>192.0.2.1:3544/61\n1 0 0 advance - done\n2 0 1 deliver:0 s1 advert #1=192.0.2.1:3544>198.51.100.1:1024/117\n3 0 2 deliver:1 a first_answer\n4 0 3 tick a rs_secondary #2=198.51.100.1:1024>192.0.2.2:3544/61\n5 0 3 advance - done\n6 0 4 deliver:2 s1 advert #3=192.0.2.2:3544>198.51.100.1:1024/117\n7 0 5 deliver:3 a qualified_restricted is 2001:0:c000:201:3806:fbff:39cc:9bfe\ntotal records 8 entries 4 delivered 4 handed 0 kept 0 dropped 0\n";
+    "0 0 0 tick a rs_restricted #0=198.51.100.1:1024>192.0.2.1:3544/61\n\
+     1 0 0 advance - done\n\
+     2 0 1 deliver:0 s1 advert #1=192.0.2.1:3544>198.51.100.1:1024/117\n\
+     3 0 2 deliver:1 a first_answer\n\
+     4 0 3 tick a rs_secondary #2=198.51.100.1:1024>192.0.2.2:3544/61\n\
+     5 0 3 advance - done\n\
+     6 0 4 deliver:2 s1 advert #3=192.0.2.2:3544>198.51.100.1:1024/117\n\
+     7 0 5 deliver:3 a qualified_restricted is 2001:0:c000:201:3806:fbff:39cc:9bfe\n\
+     total records 8 entries 4 delivered 4 handed 0 kept 0 dropped 0\n";
 
 /// Its host sends to a peer that never answers, at once, when it was given up, and 1 ms before and at the end of five minutes.
 const AND_A_PEER_THAT_IS_SILENT: &str =
-    r#""host a 2001:0:c000:201:0:fbff:39cc:9bfd 04", "advance 8000", "host a 2001:0:c000:201:0:fbff:39cc:9bfd 04", "advance 291999", "host a 2001:0:c000:201:0:fbff:39cc:9bfd 04", "advance 1", "host a 2001:0:c000:201:0:fbff:39cc:9bfd 04""#;
+    r#""host a 2001:0:c000:201:0:fbff:39cc:9bfd 04", "advance 8000",
+       "host a 2001:0:c000:201:0:fbff:39cc:9bfd 04", "advance 291999",
+       "host a 2001:0:c000:201:0:fbff:39cc:9bfd 04", "advance 1", "host a 2001:0:c000:201:0:fbff:39cc:9bfd 04""#;
 
 /// A peer that was given up is barred for five minutes (RFC 4380, section 5.2.6).
-const GIVEN_UP_REPORT: &str =
-    "0 0 0 tick a rs_cone #0=198.51.100.1:1024>192.0.2.1:3544/61\n1 0 0 advance - done\n2 0 1 deliver:0 s1 advert #1=192.0.2.2:3544>198.51.100.1:1024/117\n3 0 2 deliver:1 n1 nat_closed\n4 4000 3 tick a rs_cone #2=198.51.100.1:1024>192.0.2.1:3544/61\n5 8000 3 tick a rs_cone #3=198.51.100.1:1024>192.0.2.1:3544/61\n6 12000 3 tick a rs_restricted #4=198.51.100.1:1024>192.0.2.1:3544/61\n7 12000 3 advance - done\n8 12000 4 deliver:4 s1 advert #5=192.0.2.1:3544>198.51.100.1:1024/117\n9 12000 5 deliver:5 a first_answer\n10 12000 6 tick a rs_secondary #6=198.51.100.1:1024>192.0.2.2:3544/61\n11 12000 6 advance - done\n12 12000 7 deliver:6 s1 advert #7=192.0.2.2:3544>198.51.100.1:1024/117\n13 12000 8 deliver:7 a qualified_restricted is 2001:0:c000:201:0:fbff:39cc:9bfe\n14 12000 9 host a queued #8=198.51.100.1:1024>198.51.100.2:1024/40 #9=198.51.100.1:1024>192.0.2.1:3544/40\n15 14000 10 tick a bubbles #10=198.51.100.1:1024>198.51.100.2:1024/40 #11=198.51.100.1:1024>192.0.2.1:3544/40\n16 16000 10 tick a bubbles #12=198.51.100.1:1024>198.51.100.2:1024/40 #13=198.51.100.1:1024>192.0.2.1:3544/40\n17 18000 10 tick a bubbles #14=198.51.100.1:1024>198.51.100.2:1024/40 #15=198.51.100.1:1024>192.0.2.1:3544/40\n18 20000 10 tick a give_up gone/1\n19 20000 10 advance - done\n20 20000 11 host a barred\n21 42000 12 tick a refresh #16=198.51.100.1:1024>192.0.2.1:3544/61\n22 72000 12 tick a refresh #17=198.51.100.1:1024>192.0.2.1:3544/61\n23 102000 12 tick a refresh #18=198.51.100.1:1024>192.0.2.1:3544/61\n24 132000 12 tick a refresh #19=198.51.100.1:1024>192.0.2.1:3544/61\n25 162000 12 tick a refresh #20=198.51.100.1:1024>192.0.2.1:3544/61\n26 192000 12 tick a refresh #21=198.51.100.1:1024>192.0.2.1:3544/61\n27 222000 12 tick a refresh #22=198.51.100.1:1024>192.0.2.1:3544/61\n28 252000 12 tick a refresh #23=198.51.100.1:1024>192.0.2.1:3544/61\n29 282000 12 tick a refresh #24=198.51.100.1:1024>192.0.2.1:3544/61\n30 311999 12 advance - done\n31 311999 13 host a barred\n32 312000 14 tick a refresh #25=198.51.100.1:1024>192.0.2.1:3544/61\n33 312000 14 advance - done\n34 312000 15 host a queued #26=198.51.100.1:1024>198.51.100.2:1024/40 #27=198.51.100.1:1024>192.0.2.1:3544/40\ntotal records 35 entries 28 delivered 6 handed 0 kept 0 dropped 4\n";
+const GIVEN_UP_REPORT: &str = "0 0 0 tick a rs_cone #0=198.51.100.1:1024>192.0.2.1:3544/61\n\
+     1 0 0 advance - done\n\
+     2 0 1 deliver:0 s1 advert #1=192.0.2.2:3544>198.51.100.1:1024/117\n\
+     3 0 2 deliver:1 n1 nat_closed\n\
+     4 4000 3 tick a rs_cone #2=198.51.100.1:1024>192.0.2.1:3544/61\n\
+     5 8000 3 tick a rs_cone #3=198.51.100.1:1024>192.0.2.1:3544/61\n\
+     6 12000 3 tick a rs_restricted #4=198.51.100.1:1024>192.0.2.1:3544/61\n\
+     7 12000 3 advance - done\n\
+     8 12000 4 deliver:4 s1 advert #5=192.0.2.1:3544>198.51.100.1:1024/117\n\
+     9 12000 5 deliver:5 a first_answer\n\
+     10 12000 6 tick a rs_secondary #6=198.51.100.1:1024>192.0.2.2:3544/61\n\
+     11 12000 6 advance - done\n\
+     12 12000 7 deliver:6 s1 advert #7=192.0.2.2:3544>198.51.100.1:1024/117\n\
+     13 12000 8 deliver:7 a qualified_restricted is 2001:0:c000:201:0:fbff:39cc:9bfe\n\
+     14 12000 9 host a queued #8=198.51.100.1:1024>198.51.100.2:1024/40 #9=198.51.100.1:1024>192.0.2.1:3544/40\n\
+     15 14000 10 tick a bubbles #10=198.51.100.1:1024>198.51.100.2:1024/40 #11=198.51.100.1:1024>192.0.2.1:3544/40\n\
+     16 16000 10 tick a bubbles #12=198.51.100.1:1024>198.51.100.2:1024/40 #13=198.51.100.1:1024>192.0.2.1:3544/40\n\
+     17 18000 10 tick a bubbles #14=198.51.100.1:1024>198.51.100.2:1024/40 #15=198.51.100.1:1024>192.0.2.1:3544/40\n\
+     18 20000 10 tick a give_up gone/1\n\
+     19 20000 10 advance - done\n\
+     20 20000 11 host a barred\n\
+     21 42000 12 tick a refresh #16=198.51.100.1:1024>192.0.2.1:3544/61\n\
+     22 72000 12 tick a refresh #17=198.51.100.1:1024>192.0.2.1:3544/61\n\
+     23 102000 12 tick a refresh #18=198.51.100.1:1024>192.0.2.1:3544/61\n\
+     24 132000 12 tick a refresh #19=198.51.100.1:1024>192.0.2.1:3544/61\n\
+     25 162000 12 tick a refresh #20=198.51.100.1:1024>192.0.2.1:3544/61\n\
+     26 192000 12 tick a refresh #21=198.51.100.1:1024>192.0.2.1:3544/61\n\
+     27 222000 12 tick a refresh #22=198.51.100.1:1024>192.0.2.1:3544/61\n\
+     28 252000 12 tick a refresh #23=198.51.100.1:1024>192.0.2.1:3544/61\n\
+     29 282000 12 tick a refresh #24=198.51.100.1:1024>192.0.2.1:3544/61\n\
+     30 311999 12 advance - done\n\
+     31 311999 13 host a barred\n\
+     32 312000 14 tick a refresh #25=198.51.100.1:1024>192.0.2.1:3544/61\n\
+     33 312000 14 advance - done\n\
+     34 312000 15 host a queued #26=198.51.100.1:1024>198.51.100.2:1024/40 #27=198.51.100.1:1024>192.0.2.1:3544/40\n\
+     total records 35 entries 28 delivered 6 handed 0 kept 0 dropped 4\n";
 
 /// Its host sends nine times to one peer.
 const NINE_TIMES: &str =
-    r#""host a 2001:0:c000:201:0:fbff:39cc:9bfd 04", "host a 2001:0:c000:201:0:fbff:39cc:9bfd 04", "host a 2001:0:c000:201:0:fbff:39cc:9bfd 04", "host a 2001:0:c000:201:0:fbff:39cc:9bfd 04", "host a 2001:0:c000:201:0:fbff:39cc:9bfd 04", "host a 2001:0:c000:201:0:fbff:39cc:9bfd 04", "host a 2001:0:c000:201:0:fbff:39cc:9bfd 04", "host a 2001:0:c000:201:0:fbff:39cc:9bfd 04", "host a 2001:0:c000:201:0:fbff:39cc:9bfd 04""#;
+    r#""host a 2001:0:c000:201:0:fbff:39cc:9bfd 04", "host a 2001:0:c000:201:0:fbff:39cc:9bfd 04",
+       "host a 2001:0:c000:201:0:fbff:39cc:9bfd 04", "host a 2001:0:c000:201:0:fbff:39cc:9bfd 04",
+       "host a 2001:0:c000:201:0:fbff:39cc:9bfd 04", "host a 2001:0:c000:201:0:fbff:39cc:9bfd 04",
+       "host a 2001:0:c000:201:0:fbff:39cc:9bfd 04", "host a 2001:0:c000:201:0:fbff:39cc:9bfd 04",
+       "host a 2001:0:c000:201:0:fbff:39cc:9bfd 04""#;
 
 /// Eight packets wait, and the ninth is dropped.
-const QUEUE_FULL_REPORT: &str =
-    "0 0 0 tick a rs_cone #0=198.51.100.1:1024>192.0.2.1:3544/61\n1 0 0 advance - done\n2 0 1 deliver:0 s1 advert #1=192.0.2.2:3544>198.51.100.1:1024/117\n3 0 2 deliver:1 n1 nat_closed\n4 4000 3 tick a rs_cone #2=198.51.100.1:1024>192.0.2.1:3544/61\n5 8000 3 tick a rs_cone #3=198.51.100.1:1024>192.0.2.1:3544/61\n6 12000 3 tick a rs_restricted #4=198.51.100.1:1024>192.0.2.1:3544/61\n7 12000 3 advance - done\n8 12000 4 deliver:4 s1 advert #5=192.0.2.1:3544>198.51.100.1:1024/117\n9 12000 5 deliver:5 a first_answer\n10 12000 6 tick a rs_secondary #6=198.51.100.1:1024>192.0.2.2:3544/61\n11 12000 6 advance - done\n12 12000 7 deliver:6 s1 advert #7=192.0.2.2:3544>198.51.100.1:1024/117\n13 12000 8 deliver:7 a qualified_restricted is 2001:0:c000:201:0:fbff:39cc:9bfe\n14 12000 9 host a queued #8=198.51.100.1:1024>198.51.100.2:1024/40 #9=198.51.100.1:1024>192.0.2.1:3544/40\n15 12000 10 host a queued\n16 12000 11 host a queued\n17 12000 12 host a queued\n18 12000 13 host a queued\n19 12000 14 host a queued\n20 12000 15 host a queued\n21 12000 16 host a queued\n22 12000 17 host a queue_full\ntotal records 23 entries 10 delivered 6 handed 0 kept 0 dropped 2\n";
+const QUEUE_FULL_REPORT: &str = "0 0 0 tick a rs_cone #0=198.51.100.1:1024>192.0.2.1:3544/61\n\
+     1 0 0 advance - done\n\
+     2 0 1 deliver:0 s1 advert #1=192.0.2.2:3544>198.51.100.1:1024/117\n\
+     3 0 2 deliver:1 n1 nat_closed\n\
+     4 4000 3 tick a rs_cone #2=198.51.100.1:1024>192.0.2.1:3544/61\n\
+     5 8000 3 tick a rs_cone #3=198.51.100.1:1024>192.0.2.1:3544/61\n\
+     6 12000 3 tick a rs_restricted #4=198.51.100.1:1024>192.0.2.1:3544/61\n\
+     7 12000 3 advance - done\n\
+     8 12000 4 deliver:4 s1 advert #5=192.0.2.1:3544>198.51.100.1:1024/117\n\
+     9 12000 5 deliver:5 a first_answer\n\
+     10 12000 6 tick a rs_secondary #6=198.51.100.1:1024>192.0.2.2:3544/61\n\
+     11 12000 6 advance - done\n\
+     12 12000 7 deliver:6 s1 advert #7=192.0.2.2:3544>198.51.100.1:1024/117\n\
+     13 12000 8 deliver:7 a qualified_restricted is 2001:0:c000:201:0:fbff:39cc:9bfe\n\
+     14 12000 9 host a queued #8=198.51.100.1:1024>198.51.100.2:1024/40 #9=198.51.100.1:1024>192.0.2.1:3544/40\n\
+     15 12000 10 host a queued\n\
+     16 12000 11 host a queued\n\
+     17 12000 12 host a queued\n\
+     18 12000 13 host a queued\n\
+     19 12000 14 host a queued\n\
+     20 12000 15 host a queued\n\
+     21 12000 16 host a queued\n\
+     22 12000 17 host a queue_full\n\
+     total records 23 entries 10 delivered 6 handed 0 kept 0 dropped 2\n";
 
 #[test]
 fn clients_qualify_wait_and_give_up(rt: HostRuntime) -> Result<(), Fail> {

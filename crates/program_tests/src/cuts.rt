@@ -1,4 +1,4 @@
-//! A datagram that is cut short, at each length, and calls outside that fail, one after the other.
+//! A datagram that is cut short, at each length.
 use crate::runs::{LAB, ending, ends_so};
 use crate::vectors::SOLICITATION;
 use std::alloc::Global;
@@ -64,7 +64,10 @@ fn cut_at_a_server(alloc: Global, len: usize) -> Result<(String, String), NoMemo
         "seed = 1\nevents = [\"stranger 198.51.100.7:40000 192.0.2.1:3544 {bytes}\", \"settle\"{ITS_SERVER}"
     )?;
     let report = format!(in alloc;
-        "0 0 0 stranger - put #0=198.51.100.7:40000>192.0.2.1:3544/{len}\n1 0 1 deliver:0 s1 malformed\n2 0 1 settle - done\ntotal records 3 entries 1 delivered 1 handed 0 kept 0 dropped 1\n"
+        "0 0 0 stranger - put #0=198.51.100.7:40000>192.0.2.1:3544/{len}\n\
+         1 0 1 deliver:0 s1 malformed\n\
+         2 0 1 settle - done\n\
+         total records 3 entries 1 delivered 1 handed 0 kept 0 dropped 1\n"
     )?;
     Ok((text, report))
 }

@@ -14,8 +14,12 @@ server = [{ name = "s1", primary = "192.0.2.1", secondary = "192.0.2.2" }]
 
 const ASKED_FIRST: &str = "0 0 0 stranger - put #0=198.51.100.7:40000>192.0.2.1:3544/61\n";
 
-const ASKED_REPORT: &str =
-    "0 0 0 stranger - put #0=198.51.100.7:40000>192.0.2.1:3544/61\n1 0 1 deliver:0 s1 advert #1=192.0.2.1:3544>198.51.100.7:40000/117\ntotal records 2 entries 2 delivered 1 handed 0 kept 0 dropped 0\n";
+const ASKED_RECORDS: &str = "0 0 0 stranger - put #0=198.51.100.7:40000>192.0.2.1:3544/61\n\
+     1 0 1 deliver:0 s1 advert #1=192.0.2.1:3544>198.51.100.7:40000/117\n";
+
+const ASKED_REPORT: &str = "0 0 0 stranger - put #0=198.51.100.7:40000>192.0.2.1:3544/61\n\
+     1 0 1 deliver:0 s1 advert #1=192.0.2.1:3544>198.51.100.7:40000/117\n\
+     total records 2 entries 2 delivered 1 handed 0 kept 0 dropped 0\n";
 
 /// The same with the cone bit: the answer comes from the secondary address (RFC 4380, section 5.3.1).
 const CONE: &str = r#"
@@ -27,8 +31,9 @@ events = [
 server = [{ name = "s1", primary = "192.0.2.1", secondary = "192.0.2.2" }]
 "#;
 
-const CONE_REPORT: &str =
-    "0 0 0 stranger - put #0=198.51.100.7:40000>192.0.2.1:3544/61\n1 0 1 deliver:0 s1 advert #1=192.0.2.2:3544>198.51.100.7:40000/117\ntotal records 2 entries 2 delivered 1 handed 0 kept 0 dropped 0\n";
+const CONE_REPORT: &str = "0 0 0 stranger - put #0=198.51.100.7:40000>192.0.2.1:3544/61\n\
+     1 0 1 deliver:0 s1 advert #1=192.0.2.2:3544>198.51.100.7:40000/117\n\
+     total records 2 entries 2 delivered 1 handed 0 kept 0 dropped 0\n";
 
 /// A bubble to an address that embeds the server itself.
 const LOOP: &str = r#"
@@ -40,8 +45,9 @@ events = [
 server = [{ name = "s1", primary = "192.0.2.1", secondary = "192.0.2.2" }]
 "#;
 
-const LOOP_REPORT: &str =
-    "0 0 0 stranger - put #0=198.51.100.7:40000>192.0.2.1:3544/40\n1 0 1 deliver:0 s1 loop\ntotal records 2 entries 1 delivered 1 handed 0 kept 0 dropped 1\n";
+const LOOP_REPORT: &str = "0 0 0 stranger - put #0=198.51.100.7:40000>192.0.2.1:3544/40\n\
+     1 0 1 deliver:0 s1 loop\n\
+     total records 2 entries 1 delivered 1 handed 0 kept 0 dropped 1\n";
 
 pub const NO_EVENTS: &str = "seed = 1\nevents = []\n";
 
@@ -71,15 +77,27 @@ external = "198.51.100.1"
 idle = 60000
 "#;
 
-const CLOSED_NAT_REPORT: &str =
-    "0 0 0 stranger - put #0=198.51.100.7:40000>198.51.100.1:1024/1\n1 0 1 deliver:0 n1 nat_closed\n2 60000 2 advance - done\n3 60000 3 copy:0 - put #1=203.0.113.5:3544>198.51.100.1:1025/1\n4 60000 4 deliver:1 n1 nat_closed\n5 60000 5 next - no_entry\n6 60000 6 restart n1 done\ntotal records 7 entries 2 delivered 2 handed 0 kept 0 dropped 3\n";
+const CLOSED_NAT_REPORT: &str = "0 0 0 stranger - put #0=198.51.100.7:40000>198.51.100.1:1024/1\n\
+     1 0 1 deliver:0 n1 nat_closed\n\
+     2 60000 2 advance - done\n\
+     3 60000 3 copy:0 - put #1=203.0.113.5:3544>198.51.100.1:1025/1\n\
+     4 60000 4 deliver:1 n1 nat_closed\n\
+     5 60000 5 next - no_entry\n\
+     6 60000 6 restart n1 done\n\
+     total records 7 entries 2 delivered 2 handed 0 kept 0 dropped 3\n";
 
 /// A bubble from one client to another.
 const BUBBLE: &str =
     "6000000000003bff200100004136e378800063bf3ffffdd2200100004136e378000063bf39cc9bf8";
 
-const BUBBLE_LINES: &str =
-    "auth none\norigin none\npacket class 0 flow 0 next 59 hop 255 length 0\nsource 2001:0:4136:e378:8000:63bf:3fff:fdd2\nteredo server 65.54.227.120 flags 8000 mapped 192.0.2.45:40000\ndestination 2001:0:4136:e378:0:63bf:39cc:9bf8\nteredo server 65.54.227.120 flags 0000 mapped 198.51.100.7:40000\nbody bubble -\n";
+const BUBBLE_LINES: &str = "auth none\n\
+     origin none\n\
+     packet class 0 flow 0 next 59 hop 255 length 0\n\
+     source 2001:0:4136:e378:8000:63bf:3fff:fdd2\n\
+     teredo server 65.54.227.120 flags 8000 mapped 192.0.2.45:40000\n\
+     destination 2001:0:4136:e378:0:63bf:39cc:9bf8\n\
+     teredo server 65.54.227.120 flags 0000 mapped 198.51.100.7:40000\n\
+     body bubble -\n";
 
 /// An origin before an authentication.
 const WRONG_ORDER: &str =
@@ -156,14 +174,37 @@ fn files_are_played_and_words_are_shown(rt: HostRuntime) -> Result<(), Fail> {
 
 #[test]
 fn what_fails_outside_ends_the_run(rt: HostRuntime) -> Result<(), Fail> {
+    // The file is opened, read, and read to its end; each line is written by one call.
     let rows = [
+        Row {
+            read_fails: &[0],
+            ..ending(&LAB, ASKED, 4, "")
+        },
         Row {
             read_fails: &[1],
             ..ending(&LAB, ASKED, 4, "")
         },
         Row {
+            read_fails: &[2],
+            ..ending(&LAB, ASKED, 4, "")
+        },
+        Row {
+            write_fails: &[0],
+            ..ending(&LAB, ASKED, 5, "")
+        },
+        Row {
             write_fails: &[1],
             ..ending(&LAB, ASKED, 5, ASKED_FIRST)
+        },
+        Row {
+            write_fails: &[2],
+            ..ending(&LAB, ASKED, 5, ASKED_RECORDS)
+        },
+        // There is no further call of either.
+        Row {
+            read_fails: &[3],
+            write_fails: &[3],
+            ..ending(&LAB, ASKED, 0, ASKED_REPORT)
         },
         Row {
             write_fails: &[0],
