@@ -23,6 +23,7 @@
 //! | `clients`, `peers`, `relays` | `run` on `lab`, with clients, two of them, and a native host |
 //! | `arrivals` | `run` on `serve`, over a link in memory |
 //! | `sockets` | `run` on `serve`, over two sockets |
+//! | `qualifications` | `run` on `qualify`, over a link in memory |
 //! | `worlds` | `scenario` and `world` |
 //! | `lines` | `report` |
 //! | `names` | `topology` |
@@ -55,6 +56,8 @@ mod nets;
 mod nodes;
 #[cfg(test)]
 mod peers;
+#[cfg(test)]
+mod qualifications;
 #[cfg(test)]
 mod refusals;
 #[cfg(test)]

@@ -5,3 +5,4 @@ pub mod Ended
 pub mod Sessions
 pub mod Generated
 pub mod Audited
+pub mod Found

@@ -1,13 +1,15 @@
 -- The words of the command line, and the command that they are.
 use Rattle.std.specs.Prelude.{◌≡◌, ℕ, List, [], ◌∷◌, codes, Option, Some, None}
 use Rattle.teredo_app.specs.declared.command.Command.{Command}
-use Rattle.teredo_app.specs.declared.command.Command.TheVariants.{Lab, Serve, Show, Gen, Wire, Audit}
+use Rattle.teredo_app.specs.declared.command.Command.TheVariants.{Lab, Serve, Show, Gen, Wire, Audit, Qualify}
 use Rattle.teredo_app.specs.declared.serve_words.ServeWords.{ServeWords}
 use Rattle.teredo_app.specs.ServeWords.{Asks}
 use Rattle.teredo_app.specs.declared.audit_words.AuditWords.{AuditWords}
 use Rattle.teredo_app.specs.AuditWords.{AsksToAudit}
 use Rattle.teredo_app.specs.declared.gen_words.GenWords.{GenWords}
 use Rattle.teredo_app.specs.GenWords.{AsksToGenerate}
+use Rattle.td_live.specs.declared.asked.Asked.{Asked}
+use Rattle.teredo_app.specs.QualifyWords.{AsksToQualify}
 
 -- what the words of the command line ask for
 pub data Request : Type 0 where
@@ -17,6 +19,7 @@ pub data Request : Type 0 where
   gen : (words : GenWords) → Request
   wire : (file : List ℕ) → Request
   audit : (words : AuditWords) (file : List ℕ) → Request
+  qualify : (words : Asked) → Request
 
 -- the words ask for this: each has one spelling
 abbrev pub AsksFor : List (List ℕ) → Request → Type 0
@@ -26,6 +29,7 @@ AsksFor words (show word) = words ≡ codes "show" ∷ word ∷ []
 AsksFor words (gen asked) = AsksToGenerate words asked
 AsksFor words (wire file) = words ≡ codes "wire" ∷ file ∷ []
 AsksFor words (audit asked file) = AsksToAudit words asked file
+AsksFor words (qualify asked) = AsksToQualify words asked
 
 -- the command that the words are, or that they are none
 abbrev pub IsCommand : List (List ℕ) → Option Request → Type 0
@@ -40,6 +44,7 @@ request_of (Show word) = show word.now
 request_of (Gen words) = gen words
 request_of (Wire file) = wire file.now
 request_of (Audit words file) = audit words file.now
+request_of (Qualify words) = qualify words
 
 -- a fact of the source, at each command that leaves it alone
 abbrev pub LeavesSource : Option Request → Type 0 → Type 0
@@ -51,4 +56,5 @@ LeavesSource _ fact = fact
 -- a fact of the link and the clock, at each command that leaves them alone
 abbrev pub LeavesNetwork : Option Request → Type 0 → Type 0
 LeavesNetwork (Some (serve words)) fact = Unit {0}
+LeavesNetwork (Some (qualify words)) fact = Unit {0}
 LeavesNetwork _ fact = fact

@@ -10,3 +10,6 @@ pub mod AuditLine
 pub mod Audit
 pub mod Ends
 pub mod Endings
+pub mod Qualify
+pub mod QualifyLine
+pub mod QualifyWords

@@ -4,7 +4,9 @@ ghost use Rattle.teredo_app.specs.Command.{Request, AsksFor, request_of};
 
 use crate::audit_words::{AuditWords, audit_words};
 use crate::gen_words::{GenWords, gen_words};
+use crate::qualify_words::qualify_words;
 use crate::serve_words::{ServeWords, serve_words};
+use td_live::Asked;
 
 /// What the program is asked to do.
 #[derive(Clone, Copy, Debug)]
@@ -21,6 +23,8 @@ pub enum Command<'a> {
     Wire { file: &'a str },
     /// Audits the capture of a file.
     Audit { asked: AuditWords, file: &'a str },
+    /// Lets a client qualify at a link.
+    Qualify(Asked),
 }
 
 /// The command of two words.
@@ -88,6 +92,26 @@ fn with_addresses<'a>(
     None
 }
 
+/// The command of six words.
+fn with_client<'a>(
+    command: &str,
+    inside: &str,
+    primary: &str,
+    secondary: &str,
+    seed: &str,
+    turns: &str,
+) -> Option<Command<'a>>
+    ensures found { IfSome result (λ c. AsksFor (command.now ∷ inside.now ∷ primary.now ∷ secondary.now ∷ seed.now ∷ turns.now ∷ []) (request_of c)) }
+    ensures only { (asked : Request) → AsksFor (command.now ∷ inside.now ∷ primary.now ∷ secondary.now ∷ seed.now ∷ turns.now
+        ∷ []) asked → option_map request_of result ≡ Some asked }
+{
+    if command == "qualify" {
+        let asked = qualify_words(inside, primary, secondary, seed, turns)?;
+        return Some(Command::Qualify(asked));
+    }
+    None
+}
+
 /// The command of the words, where they are one.
 pub fn command_of(words: &[String]) -> Option<Command<'_>>
     ensures found { IfSome result (λ c. AsksFor (map string_bytes words.now) (request_of c)) }
@@ -108,6 +132,14 @@ pub fn command_of(words: &[String]) -> Option<Command<'_>>
             secondary.as_str(),
             count.as_str(),
             idles.as_str(),
+        ),
+        [command, inside, primary, secondary, seed, turns] => with_client(
+            command.as_str(),
+            inside.as_str(),
+            primary.as_str(),
+            secondary.as_str(),
+            seed.as_str(),
+            turns.as_str(),
         ),
         _ => None,
     }

@@ -18,7 +18,7 @@ pub struct GenWords {
 }
 
 /// The seed that a word is.
-fn seed_word(word: &str) -> Option<u64>
+pub(crate) fn seed_word(word: &str) -> Option<u64>
     ensures found { IfSome result (λ seed. (seed ≤ SEED_MAX) × (word.now ≡ decimal seed)) }
     ensures only { (seed : ℕ) → seed ≤ SEED_MAX → word.now ≡ decimal seed → result ≡ Some seed }
 {

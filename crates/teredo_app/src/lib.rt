@@ -8,10 +8,11 @@
 //!   of its text's first refusal; on `show HEX` the page of the payload, or one line that names its first fault; on
 //!   `gen SEED COUNT` the totals line of the generated scenario; on `serve IP1 IP2 COUNT IDLES` the line of the totals,
 //!   after a server at these addresses answered each arrival by its table; on `wire FILE` the capture of the one legal
-//!   history's wire; on `audit IP1 IP2 FILE` the line of the verdict on a capture, or of why the file is none.
+//!   history's wire; on `audit IP1 IP2 FILE` the line of the verdict on a capture, or of why the file is none; on
+//!   `qualify INSIDE IP1 IP2 SEED TURNS` the line of what a client there found, and of its attempts.
 //! - `lab`, `wire` and `audit` open their file alone, once, and read no more of it than the longest text or capture and
-//!   one byte; `serve` opens the link on its two addresses alone. Each line, and each record of a capture, begins a
-//!   piece of its own. Only `lab`, `wire` and `audit` touch the source, and only `serve` the link and the clock.
+//!   one byte; `serve` opens the link on its two addresses alone, `qualify` at one socket. Each line, and each record of a capture, begins a
+//!   piece of its own. Only `lab`, `wire` and `audit` touch the source, and only `serve` and `qualify` the link and the clock.
 //!
 //! # What it does not know
 //!
@@ -34,6 +35,9 @@
 //! | `audit_words` | the words of `audit` | `specs/AuditWords.antt` |
 //! | `audit_file` | the audit of a file | `specs/Audit.antt` |
 //! | `audit_line` | the lines that `audit` ends with | `specs/AuditLine.antt` |
+//! | `qualify_words` | the words of `qualify` | `specs/QualifyWords.antt` |
+//! | `qualify_at` | a client's qualification at a link | `specs/Qualify.antt` |
+//! | `qualify_line` | the line that `qualify` ends with | `specs/QualifyLine.antt` |
 //! | `program` | `run` | `specs/Ends.antt`, over `specs/Outside.antt` |
 #![tactic(auto)]
 
@@ -45,6 +49,9 @@ mod gen_words;
 mod generated_scenario;
 mod last_line;
 mod program;
+mod qualify_at;
+mod qualify_line;
+mod qualify_words;
 mod scenario_file;
 mod serve_line;
 mod serve_words;
@@ -61,6 +68,6 @@ pub use program::run;
 pub use serve_words::ServeWords;
 pub use source_text::TEXT_READ_MAX;
 pub use statuses::{
-    BAD_PAYLOAD, BAD_SCENARIO, BAD_WORDS, DONE, NO_CAPTURE, NO_LINK, NO_MEMORY, UNLICENSED,
-    UNREADABLE, UNWRITABLE, WIRE_FULL,
+    BAD_PAYLOAD, BAD_SCENARIO, BAD_WORDS, DONE, NO_CAPTURE, NO_LINK, NO_MEMORY, UNDECIDED,
+    UNLICENSED, UNREADABLE, UNWRITABLE, WIRE_FULL,
 };

@@ -10,6 +10,7 @@ use crate::command::{Command, command_of};
 use crate::gen_words::GenWords;
 use crate::generated_scenario::generated_scenario;
 use crate::last_line::end_with;
+use crate::qualify_at::qualify_at;
 use crate::scenario_file::{lab, status_of, wire};
 use crate::serve_line::put_serve_line;
 use crate::serve_words::ServeWords;
@@ -91,5 +92,6 @@ pub fn run<S: Source, K: Sink, L: Link, C: Clock>(
         Command::Gen(asked) => play_generated(alloc, &asked, out),
         Command::Wire { file } => wire(alloc, file, src, out),
         Command::Audit { asked, file } => audit_file(alloc, &asked, file, src, out),
+        Command::Qualify(asked) => qualify_at(alloc, &asked, out, link, clock),
     }
 }

@@ -27,7 +27,7 @@ pub(crate) fn address(word: &str) -> Option<Ip4>
 }
 
 /// The number of turns that a word is.
-fn turns(word: &str) -> Option<u64>
+pub(crate) fn turns(word: &str) -> Option<u64>
     ensures found { IfSome result (λ number. (number ≤ TURNS_MAX) × (word.now ≡ decimal number)) }
     ensures only { (number : ℕ) → number ≤ TURNS_MAX → word.now ≡ decimal number → result ≡ Some number }
 {

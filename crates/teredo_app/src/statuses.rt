@@ -26,6 +26,9 @@ pub const NO_MEMORY: u8 = 7;
 /// The next record would make more entries of the wire than it holds.
 pub const WIRE_FULL: u8 = 8;
 
+/// The turns were over before the client knew.
+pub const UNDECIDED: u8 = 9;
+
 /// A datagram from the server is licensed by no earlier one to it.
 pub const UNLICENSED: u8 = 10;
 

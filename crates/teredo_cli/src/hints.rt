@@ -5,8 +5,8 @@
 //! How a run ended: it has the status and the words of the command line alone.
 
 use teredo_app::{
-    BAD_PAYLOAD, BAD_SCENARIO, BAD_WORDS, NO_CAPTURE, NO_LINK, NO_MEMORY, UNLICENSED, UNREADABLE,
-    UNWRITABLE, WIRE_FULL,
+    BAD_PAYLOAD, BAD_SCENARIO, BAD_WORDS, NO_CAPTURE, NO_LINK, NO_MEMORY, UNDECIDED, UNLICENSED,
+    UNREADABLE, UNWRITABLE, WIRE_FULL,
 };
 
 /// What a status means and what to look at.
@@ -15,8 +15,11 @@ fn hint_at(status: u8) -> Option<&'static str> {
         BAD_PAYLOAD => Some(
             "this is no payload of Teredo: docs/GUIDE.md, \"Reading a datagram\", has the faults",
         ),
+        UNDECIDED => Some(
+            "the turns were over first: a turn lasts 20 ms at most, and a datagram ends one sooner; a whole qualification takes 36 seconds at most, 1,800 turns where nothing else comes",
+        ),
         BAD_WORDS => Some(
-            "the words are `lab FILE`, `wire FILE`, `show HEX`, `gen SEED COUNT`, `serve IP1 IP2 COUNT IDLES` or `audit IP1 IP2 FILE`",
+            "the words are `lab FILE`, `wire FILE`, `show HEX`, `gen SEED COUNT`, `serve IP1 IP2 COUNT IDLES`, `audit IP1 IP2 FILE` or `qualify INSIDE IP1 IP2 SEED TURNS`",
         ),
         BAD_SCENARIO => Some(
             "the scenario is refused (`key`: missing or unknown; `name`: unknown, ill-formed or taken; `range`: not allowed, or taken): `./teredo lint FILE` shows the line",
@@ -26,7 +29,7 @@ fn hint_at(status: u8) -> Option<&'static str> {
             "standard output could not be written: is it closed, full, or has its reader ended?",
         ),
         NO_LINK => Some(
-            "the addresses could not be served: both must be this machine's, with UDP port 3544 free and memory for the sockets; or a socket failed later",
+            "the sockets could not be opened: each address must be this machine's, for `serve` with UDP port 3544 free, and there must be memory for them; or one failed later",
         ),
         NO_MEMORY => Some("there was not enough memory"),
         WIRE_FULL => Some("the scenario sends more than 65,536 datagrams and packets"),
@@ -40,12 +43,16 @@ fn hint_at(status: u8) -> Option<&'static str> {
     }
 }
 
+// How many words `qualify` has: its link is at the first of them.
+const QUALIFY_WORDS: usize = 6;
+
 /// Which words of the command line a status is about, by the first one and the one behind. A file is the last word of its
 /// command.
 fn span_of(status: u8, count: usize) -> (usize, usize) {
     match status {
         BAD_WORDS => (0, 1),
         BAD_SCENARIO | UNREADABLE | UNLICENSED | NO_CAPTURE => (count.saturating_sub(1), count),
+        NO_LINK if count == QUALIFY_WORDS => (1, 2),
         NO_LINK => (1, 3),
         _ => (0, 0),
     }
