@@ -10,7 +10,16 @@ use Rattle.td_live.specs.declared.asked.TheConstants.{REFRESH_LOW_MS, REFRESH_HI
 
 -- the client's endpoint is that of the link's one socket; the flags of its address aren't random, and its first phase is Cone
 abbrev pub live_settings : Asked → Ep → Settings
-live_settings a at = record { inside = at; primary = a.primary; secondary = a.secondary; policy = Loopback; low = REFRESH_LOW_MS; high = REFRESH_HIGH_MS; random = false; cone_try = true }
+live_settings a at = record {
+  inside = at;
+  primary = a.primary;
+  secondary = a.secondary;
+  policy = Loopback;
+  low = REFRESH_LOW_MS;
+  high = REFRESH_HIGH_MS;
+  random = false;
+  cone_try = true;
+}
 
 -- the seed of its stream of words: that of the first node of a laboratory with this seed
 abbrev pub live_seed : ℕ → List ℕ

@@ -30,7 +30,8 @@ Ends c most turns (Err failed) = ends_broken turns ≡ true
 
 -- The turns of a session, where a link carried what they took and their journal's sends, each attempted once, in order: the
 -- clock gave their moments, one a turn.
-pub record TurnsOf (c : LiveClient) (most : ℕ) (clock clock' : ClockState) (carries : List Came → List Attempt → Type 0) (totals : LiveTotals) (result : Result Live Failed) : Type 0 where
+pub record TurnsOf (c : LiveClient) (most : ℕ) (clock clock' : ClockState)
+    (carries : List Came → List Attempt → Type 0) (totals : LiveTotals) (result : Result Live Failed) : Type 0 where
   pub turns : List LiveTurn
   pub are : AreTurns c (start_of turns) turns
   pub some : 0 < length turns

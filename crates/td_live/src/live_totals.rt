@@ -22,7 +22,10 @@ impl LiveTotals {
     pub(crate) fn count(&mut self, step: &Step, failed: u8)
         requires few { self.old.sent + self.old.failed ≤ ATTEMPTS_END }
         requires sends { count_ones failed ≤ length step.now.sends }
-        ensures counted { self.new ≡ record { sent = self.old.sent + (length step.now.sends - count_ones failed); failed = self.old.failed + count_ones failed } }
+        ensures counted { self.new ≡ record {
+          sent = self.old.sent + (length step.now.sends - count_ones failed);
+          failed = self.old.failed + count_ones failed;
+        } }
         ensures some { self.new.sent + self.new.failed ≤ self.old.sent + self.old.failed + SENDS_MAX }
     {
         let lost = u64::from(failed.count_ones());

@@ -32,7 +32,8 @@ fn take_turns<L: Link, C: Clock>(
     requires some { 0 < asked.turns }
     requires most { asked.turns ≤ TURNS_MAX }
     requires zero { totals.old ≡ no_attempts }
-    ensures turns { Runs (live_client asked at) asked.turns (C.state clock.old) (C.state clock.new) (L.state link.old).told (L.state link.new).told totals.new result }
+    ensures turns { Runs (live_client asked at) asked.turns (C.state clock.old) (C.state clock.new)
+        (L.state link.old).told (L.state link.new).told totals.new result }
     ensures receives { HasCause (L.state link.old).recv_faults (L.state link.new).recv_faults result }
     ensures sends { SendFaults (L.state link.old).send_faults (L.state link.new).send_faults totals.new.failed }
     ensures places { (L.state link.new).place ≡ (L.state link.old).place }
