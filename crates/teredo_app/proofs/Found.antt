@@ -1,7 +1,7 @@
 -- How `qualify` ends, by how its last line was written.
 use Rattle.std.proofs.Common.{◌≡◌, ℕ, List, [], ◌∷◌, ◌⊎◌, inl, inr, Result, Ok, Err, MatchResult, refl, sym, subst, lit<, arith}
 use Rattle.td_outside.specs.declared.fails.Failed.{Failed}
-use Rattle.td_outside.specs.Causes.{Rose}
+use Rattle.td_outside.specs.Causes.{Rose, HasCause}
 use Rattle.td_outside.specs.Clock.{ClockState}
 use Rattle.td_outside.specs.Link.{LinkState, free_port_of}
 use Rattle.td_outside.specs.Moves.{Gains}
@@ -66,3 +66,18 @@ module _ (o o' : SinkState) (l l' : LinkState) (c c' : ClockState) (asked : Aske
   pub line_ends : (live : Live) (found : Finds l l' c c' asked live) (result : ℕ) → LineEnds o o' (qualify_line live found.totals) (live_status live) result → QualifyEnds o o' l l' c c' asked result
   line_ends live found result (line_written ends same lines) = subst (λ (n : ℕ). QualifyEnds o o' l l' c c' asked n) (sym ends) (written_ends live found same lines)
   line_ends live found result (line_failed ends rose lines) = subst (λ (n : ℕ). QualifyEnds o o' l l' c c' asked n) (sym ends) (unwritten_ends live found rose lines)
+
+  -- the session's answer
+  pub found_line : (totals : LiveTotals) (result : Result Live Failed) (live : Live) → result ≡ Ok live
+      → MatchResult result (λ answer. SessionOf asked l l' c c' totals (Ok answer)) (λ fault. NoSession l l' c c' totals ⊎ SessionOf asked l l' c c' totals (Err fault))
+      → (status : ℕ) → LineEnds o o' (qualify_line live totals) (live_status live) status → QualifyEnds o o' l l' c c' asked status
+  found_line totals result live is session status ends =
+      let so : SessionOf asked l l' c c' totals (Ok live) = subst (λ (r : Result Live Failed). MatchResult r (λ answer. SessionOf asked l l' c c' totals (Ok answer)) (λ fault. NoSession l l' c c' totals ⊎ SessionOf asked l l' c c' totals (Err fault))) is session in
+      line_ends live (record { totals = totals; session = so }) status ends
+
+  -- the session's fault
+  pub fault_ends : (totals : LiveTotals) (result : Result Live Failed) → ((live : Live) → result ≡ Ok live → ⊥) → o'.faults ≡ o.faults → WritesNothing o o' → HasCause l.recv_faults l'.recv_faults result
+      → MatchResult result (λ answer. SessionOf asked l l' c c' totals (Ok answer)) (λ fault. NoSession l l' c c' totals ⊎ SessionOf asked l l' c c' totals (Err fault))
+      → QualifyEnds o o' l l' c c' asked 6
+  fault_ends totals (Ok live) none same nothing cause session = absurd (none live refl)
+  fault_ends totals (Err fault) none same nothing cause session = unlinked_ends cause.failed same nothing (totals, elim session [ inl shut ↦ inl shut | inr broke ↦ inr (fault, broke) ])

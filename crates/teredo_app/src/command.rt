@@ -1,5 +1,5 @@
 //! The command that the words of the command line are.
-ghost use Rattle.std.specs.Prelude.{◌≡◌, ◌≤◌, List, [], ◌∷◌, Option, Some, map, option_map, IfSome, string_bytes};
+ghost use Rattle.std.specs.Prelude.{◌≡◌, ◌≤◌, ◌<◌, List, [], ◌∷◌, Option, Some, length, map, option_map, IfSome, string_bytes};
 ghost use Rattle.teredo_app.specs.Command.{Request, AsksFor, request_of};
 
 use crate::audit_words::{AuditWords, audit_words};
@@ -112,20 +112,13 @@ fn with_client<'a>(
     None
 }
 
-/// The command of the words, where they are one.
-pub fn command_of(words: &[String]) -> Option<Command<'_>>
+/// The command of more than four words, where they are one.
+fn with_many(words: &[String]) -> Option<Command<'_>>
+    requires many { 4 < length words.now }
     ensures found { IfSome result (λ c. AsksFor (map string_bytes words.now) (request_of c)) }
     ensures only { (asked : Request) → AsksFor (map string_bytes words.now) asked → option_map request_of result ≡ Some asked }
 {
     match words {
-        [command, word] => with_word(command.as_str(), word.as_str()),
-        [command, seed, count] => with_numbers(command.as_str(), seed.as_str(), count.as_str()),
-        [command, primary, secondary, file] => with_file(
-            command.as_str(),
-            primary.as_str(),
-            secondary.as_str(),
-            file.as_str(),
-        ),
         [command, primary, secondary, count, idles] => with_addresses(
             command.as_str(),
             primary.as_str(),
@@ -140,6 +133,27 @@ pub fn command_of(words: &[String]) -> Option<Command<'_>>
             secondary.as_str(),
             seed.as_str(),
             turns.as_str(),
+        ),
+        _ => None,
+    }
+}
+
+/// The command of the words, where they are one.
+pub fn command_of(words: &[String]) -> Option<Command<'_>>
+    ensures found { IfSome result (λ c. AsksFor (map string_bytes words.now) (request_of c)) }
+    ensures only { (asked : Request) → AsksFor (map string_bytes words.now) asked → option_map request_of result ≡ Some asked }
+{
+    if words.len() > 4 {
+        return with_many(words);
+    }
+    match words {
+        [command, word] => with_word(command.as_str(), word.as_str()),
+        [command, seed, count] => with_numbers(command.as_str(), seed.as_str(), count.as_str()),
+        [command, primary, secondary, file] => with_file(
+            command.as_str(),
+            primary.as_str(),
+            secondary.as_str(),
+            file.as_str(),
         ),
         _ => None,
     }
