@@ -41,7 +41,7 @@ fn qualified(
     alloc: Global,
     turns: &str,
     arrivals: Vec<MemArrival>,
-    moments: [Millis; 4],
+    mut clock: TestClock,
 ) -> Result<(u8, MemSink, MemLink), NoMemory> {
     let words = words_of(
         alloc,
@@ -57,7 +57,6 @@ fn qualified(
     let mut link = MemLink::new(alloc, arrivals, 8, &[], &[])?;
     let mut source = MemSource::new(alloc, "", b"", &[])?;
     let mut sink = MemSink::new(alloc, ROOM, &[])?;
-    let mut clock = TestClock::new(moments);
     let status = run(alloc, &words, &mut source, &mut sink, &mut link, &mut clock);
     Ok((status, sink, link))
 }
@@ -70,7 +69,8 @@ fn a_cone_answer_gives_an_address(rt: HostRuntime) -> Result<(), Fail> {
         from: OTHER,
         bytes: Octets::new(rt.alloc(), &CONE_ANSWER)?,
     })?;
-    let (status, sink, link) = qualified(rt.alloc(), "5", arrivals, [Millis(0); 4])?;
+    let clock = TestClock::new([Millis(0); 4]);
+    let (status, sink, link) = qualified(rt.alloc(), "5", arrivals, clock)?;
     assert_eq!(rt; status, 0);
     assert_eq!(rt;
         sink.as_slice(),
@@ -86,8 +86,8 @@ fn a_cone_answer_gives_an_address(rt: HostRuntime) -> Result<(), Fail> {
 
 #[test]
 fn no_answer_leaves_it_undecided(rt: HostRuntime) -> Result<(), Fail> {
-    let moments = [Millis(0), Millis(4000), Millis(8000), Millis(12000)];
-    let (status, sink, link) = qualified(rt.alloc(), "4", Vec::new(rt.alloc()), moments)?;
+    let clock = TestClock::new([Millis(0), Millis(4000), Millis(8000), Millis(12000)]);
+    let (status, sink, link) = qualified(rt.alloc(), "4", Vec::new(rt.alloc()), clock)?;
     assert_eq!(rt; status, 9);
     assert_eq!(rt; sink.as_slice(), b"undecided sent 4 failed 0\n".as_slice());
     assert_eq!(rt; link.attempts().len(), 4);
