@@ -1,0 +1,12 @@
+//! Settled clients: what a client and its NAT are after a history, where no NAT is behind another one.
+//!
+//! # What the layer above may rely on
+//!
+//! - What a client makes of its NAT, and what the NAT is, read off a history (`specs/Clients.antt`).
+//! - A client is settled where it has an address, and packets that its server sends there reach it (`specs/Settled.antt`).
+//!   What makes a client settled, and what that is good for, is said in crates of their own.
+//!
+//! # What it does not know
+//!
+//! Which histories make a client settled; what two settled clients do; NATs behind NATs.
+#![tactic(auto)]
