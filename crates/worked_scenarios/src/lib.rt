@@ -7,7 +7,6 @@
 //! | `QualifyReports`, `OwnStreams` | clients behind each kind of NAT find their address, lose it, keep it |
 //! | `ConeReports`, `MeetingReports`, `TryReports`, `QueueTotals` | two clients meet, or don't |
 //! | `FaultReports`, `SettleReports` | a send that fails; all that is on the wire is delivered |
-//! | `FaultReports`, `SettleReports` | a send that fails; all that is on the wire is delivered |
 //! | `RelayReports` | a native host and a client, through a relay |
 //! | `HeldReports` | a client holds packets of a native host, and hands over those from where the test is answered |
 //! | `TestBytes` | the bytes of a test |
