@@ -1,6 +1,6 @@
 mod SentFrom
-mod SentOn
-mod Brought
-mod Whence
-mod Live
+pub mod SentOn
+pub mod Brought
+pub mod Whence
+pub mod Live
 mod Throughout

@@ -137,19 +137,19 @@ expected_has t c Qualified false b = subst (λ (ip : Ip4). has_address ip (serve
 expected_has t c Symmetric cone b = subst (λ (ip : Ip4). has_address ip (server b.row) ≡ true) (sym b.primary) (primary_has b.row)
 expected_has t c OffLine cone b = subst (λ (ip : Ip4). has_address ip (server b.row) ≡ true) (sym b.primary) (primary_has b.row)
 
-from_server : (t : TopologyState) (c : ClientNode) (q : Qualification) (from : Ep) (b : HasServer t c) → from ≡ expected (client_settings t c) q → has_address from.ip (server b.row) ≡ true
+pub from_server : (t : TopologyState) (c : ClientNode) (q : Qualification) (from : Ep) (b : HasServer t c) → from ≡ expected (client_settings t c) q → has_address from.ip (server b.row) ≡ true
 unfolding expected
 from_server t c q from b same = subst (λ (e : Ep). has_address e.ip (server b.row) ≡ true) (sym same) (expected_has t c q.phase (is_cone q) b)
 
-abbrev is_arrived : Input → Bool
+abbrev pub is_arrived : Input → Bool
 is_arrived (arrived from x) = true
 is_arrived _ = false
 
-abbrev from_of : Ep → Input → Ep
+abbrev pub from_of : Ep → Input → Ep
 from_of e (arrived from x) = from
 from_of e _ = e
 
-abbrev bytes_of : Input → List ℕ
+abbrev pub bytes_of : Input → List ℕ
 bytes_of (arrived from x) = x
 bytes_of _ = []
 

@@ -1,0 +1,132 @@
+-- What a client makes of an advertisement: its phase decides, and what it was told.
+use Rattle.std.proofs.Common.{◌≡◌, ℕ, Bool, true, false, List, [], ◌++◌, Option, Some, None, refl, sym, ap, ◌∙◌}
+use Rattle.std.specs.Prelude.{is_some, option_map}
+use Rattle.std.proofs.lemmas.Bool.{false≢true}
+use Rattle.td_base.specs.Ep.{same_ep-true}
+use Rattle.td_base.specs.declared.endpoint.Ep.{Ep}
+use Rattle.indications.specs.declared.blocks.Auth.{Auth}
+use Rattle.indications.specs.Leads.{origin_in}
+use Rattle.bubble.specs.Payloads.{Value}
+use Rattle.bubble.specs.Reads.{value_in}
+use Rattle.bubble.specs.PacketsIn.{source_in, destination_in}
+use Rattle.teredo_node.specs.declared.fate.Fate.{Fate}
+use Rattle.teredo_node.specs.declared.fate.Fate.TheVariants as fate
+use Rattle.teredo_node.specs.Journal.{Input, arrived, given, from_six, ticked, Entry, Journal, Words}
+use Rattle.teredo_node.proofs.FirstLines.{skip}
+use Rattle.peer_list.specs.Waiting.{Listing}
+use Rattle.qualify.specs.declared.settings.Settings.{Settings}
+use Rattle.qualify.specs.Advertisements.{Heard, is_one_of, heard, is_same_origin, origin_before, phase_line}
+use Rattle.qualify.specs.Turns.{Turn, qualifies, is_answered, differs, is_changed, turn, turn_of}
+use Rattle.qualify.specs.Qualification.{Qualification, qualification}
+use Rattle.qualify.specs.Solicitations.{expected}
+use Rattle.client_rules.specs.Standing.{Standing, standing_of, standing_at}
+use Rattle.client_rules.specs.Reception.{Seen, seen, reception_fate, reception_step, reception}
+use Rattle.client_rules.specs.Transmission.{Given, given as given_to, host_lines, destination_lines, transmission_row}
+use Rattle.client_rules.specs.Ticks.{tick, due_at}
+use Rattle.client_rules.specs.TickWarrants.{TickedOnlyIf, TickIsWarranted}
+use Rattle.client_rules.specs.Warrants.{IsAdvert, ReceivedOnlyIf}
+use Rattle.client_rules.specs.Laws.{ReceptionIsWarranted}
+use Rattle.client_rules.specs.Journals.{client_in, client_out, client_tick, client_entry, first_peer}
+use Rattle.client_rules.proofs.Fates.{fate_of_reception, fate_of_transmission}
+
+-- what is known of a client's tables
+pub record AdvertLaws : Type 0 where
+  pub received : ReceptionIsWarranted
+  pub ticked : TickIsWarranted
+
+-- a turn that an advertisement alone brings
+abbrev pub is_told : Turn → Bool
+is_told (qualifies cone) = true
+is_told is_answered = true
+is_told differs = true
+is_told is_changed = true
+is_told _ = false
+
+-- THE OTHER INPUTS
+
+-- a packet of the host brings none of these
+none_sent : (a : Given) → is_told (turn (transmission_row a)) ≡ false
+none_sent a = skip (λ (f : Fate). is_told (turn f) ≡ false) (host_lines a ++ destination_lines a) [] fate.Queued (refl, (refl, (refl, (refl, (refl, (refl, (refl, (refl, (refl, (refl, (refl, (refl, (refl, tt))))))))))))) refl
+
+-- nor does its entry
+of_packet : (s : Settings) (j : Journal) (n : ℕ) (x : List ℕ) (w : Words) → is_told (turn_of (client_entry s j n (given x) w)) ≡ false
+unfolding client_out
+of_packet s j n x w =
+    let a : Standing = standing_of s j n (destination_in x) in
+    ap (λ (f : Fate). is_told (turn f)) (fate_of_transmission s a x w) ∙ none_sent (given_to s a x)
+
+-- nor does a tick
+no_tick : (f : Fate) (n : ℕ) (q : Qualification) (first : Option Listing) → TickedOnlyIf f n q first → is_told (turn f) ≡ false
+no_tick fate.QualifiedCone n q first h = absurd h
+no_tick fate.QualifiedRestricted n q first h = absurd h
+no_tick fate.FirstAnswer n q first h = absurd h
+no_tick fate.Symmetric n q first h = absurd h
+no_tick fate.Changed n q first h = absurd h
+no_tick _ n q first h = refl
+
+-- nor its entry
+of_tick : TickIsWarranted → (s : Settings) (j : Journal) (n : ℕ) (w : Words) → is_told (turn_of (client_entry s j n ticked w)) ≡ false
+unfolding client_tick
+of_tick law s j n w = no_tick (tick s n (qualification s j) w (due_at n (qualification s j) (first_peer j n))).fate n (qualification s j) (first_peer j n) (law s n (qualification s j) w (first_peer j n))
+
+-- THE ADVERTISEMENT
+
+-- of a datagram only an advertisement brings one
+advert_of : (f : Fate) (a : Seen) (h : Heard) → ReceivedOnlyIf f a h → is_told (turn f) ≡ true → IsAdvert f a h
+advert_of fate.QualifiedCone a h only told = only
+advert_of fate.QualifiedRestricted a h only told = only
+advert_of fate.FirstAnswer a h only told = only
+advert_of fate.Symmetric a h only told = only
+advert_of fate.Changed a h only told = only
+advert_of _ a h only told = absurd (false≢true told)
+
+-- and nothing is sent for it
+sends_none : (s : Settings) (a : Standing) (from : Ep) (x : List ℕ) (v : Value) (w : Words) (f : Fate) → is_told (turn f) ≡ true → (reception_step s a from x v w f).sends ≡ []
+sends_none s a from x v w fate.QualifiedCone told = refl
+sends_none s a from x v w fate.QualifiedRestricted told = refl
+sends_none s a from x v w fate.FirstAnswer told = refl
+sends_none s a from x v w fate.Symmetric told = refl
+sends_none s a from x v w fate.Changed told = refl
+sends_none s a from x v w _ told = absurd (false≢true told)
+
+-- a nonce stands in an authentication
+has_auth : (ns : List ℕ) (o : Option Auth) → is_one_of ns (option_map (λ (a : Auth). a.nonce) o) ≡ true → is_some o ≡ true
+has_auth ns None h = absurd (false≢true h)
+has_auth ns (Some a) h = refl
+
+-- an advertisement from where the phase expects one; the phase, and whether it tells the origin that was told before,
+-- give its fate. Nothing is sent
+pub record IsAdvertised (s : Settings) (q : Qualification) (e : Entry) : Type 0 where
+  pub from : Ep
+  pub bytes : List ℕ
+  pub came : e.input ≡ arrived from bytes
+  pub source : from ≡ expected s q
+  pub auth : is_some (value_in bytes).lead.auth ≡ true
+  pub quiet : e.step.sends ≡ []
+  pub phase : phase_line q.phase (is_same_origin (origin_in (value_in bytes).lead) (origin_before q q.phase)) ≡ e.step.fate
+
+-- the entry of an advertisement
+of_datagram : ReceptionIsWarranted → (s : Settings) (j : Journal) (n : ℕ) (from : Ep) (x : List ℕ) (w : Words) → is_told (turn_of (client_in s j n from x w)) ≡ true → IsAdvertised s (qualification s j) (client_in s j n from x w)
+unfolding client_in reception standing_at
+of_datagram law s j n from x w told =
+    let a : Standing = standing_of s j n (source_in x) in
+    let f : Fate = reception_fate s a from x in
+    let is : (reception s a from x w).fate ≡ f = fate_of_reception s a from x w in
+    let told_f : is_told (turn f) ≡ true = ap (λ (g : Fate). is_told (turn g)) (sym is) ∙ told in
+    let advert : IsAdvert f (seen s a from x) (heard s a.qualification from (value_in x)) = advert_of f (seen s a from x) (heard s a.qualification from (value_in x)) (law s a from x) told_f in
+    record {
+      from = from;
+      bytes = x;
+      came = refl;
+      source = same_ep-true from (expected s (qualification s j)) advert.from_expected;
+      auth = has_auth (qualification s j).open_nonces (value_in x).lead.auth advert.open_nonce;
+      quiet = sends_none s a from x (value_in x) w f told_f;
+      phase = advert.phase ∙ sym is;
+    }
+
+-- only an advertisement brings such a turn
+pub advertised : AdvertLaws → (s : Settings) (j : Journal) (n : ℕ) (input : Input) (w : Words) → is_told (turn_of (client_entry s j n input w)) ≡ true → IsAdvertised s (qualification s j) (client_entry s j n input w)
+advertised laws s j n (arrived from x) w told = of_datagram laws.received s j n from x w told
+advertised laws s j n (given x) w told = absurd (false≢true (sym (of_packet s j n x w) ∙ told))
+advertised laws s j n ticked w told = absurd (false≢true (sym (of_tick laws.ticked s j n w) ∙ told))
+advertised laws s j n (from_six x) w told = absurd (false≢true told)

@@ -1,0 +1,49 @@
+-- A client's phase, kept origin and address after one further entry.
+use Rattle.std.proofs.Common.{◌≡◌, ℕ, Bool, true, false, cond, [], ◌∷◌, None, refl}
+use Rattle.std.specs.Prelude.{unwrap_or}
+use Rattle.teredo_node.specs.Journal.{Entry, Journal, with_entry}
+use Rattle.qualify.specs.declared.settings.Settings.{Settings}
+use Rattle.qualify.specs.declared.phase.Phase.{Phase}
+use Rattle.qualify.specs.declared.phase.Phase.TheVariants.{Cone, Restricted}
+use Rattle.qualify.specs.Turns.{turn_of, begins, leaves, origin_given, flags_word}
+use Rattle.qualify.specs.Qualification.{first_phase, phase_of, in_phase, kept_origin, kept_after, address_in, address_after, qualification}
+use Rattle.verdicts.proofs.Sound.{kept_then, address_then}
+
+-- an entry's turn begins a phase, or none
+pub phase_next : (s : Settings) (j : Journal) (e : Entry) → (qualification s (with_entry j e)).phase ≡ unwrap_or (begins (turn_of e)) (qualification s j).phase
+unfolding qualification
+phase_next s j e = refl
+
+-- the first answer's origin is kept, as long as its phase lasts
+pub kept_next : (s : Settings) (j : Journal) (e : Entry) → (qualification s (with_entry j e)).kept ≡ kept_then (qualification s j).phase (turn_of e) (origin_given e.input) (qualification s j).kept
+unfolding qualification
+kept_next s j e = by (leaves (phase_of s j.entries) (turn_of e)) where
+  by : (b : Bool) → kept_origin (e ∷ cond b [] (in_phase s j.entries)) ≡ kept_after (turn_of e) (origin_given e.input) (cond b None (kept_origin (in_phase s j.entries)))
+  by true = refl
+  by false = refl
+
+-- an address is set, or stays, as long as its phase lasts
+pub address_next : (s : Settings) (j : Journal) (e : Entry) → (qualification s (with_entry j e)).address ≡ address_then s (qualification s j).phase (turn_of e) (flags_word s e.words) (origin_given e.input) (qualification s j).address
+unfolding qualification
+address_next s j e = by (leaves (phase_of s j.entries) (turn_of e)) where
+  by : (b : Bool) → address_in s (e ∷ cond b [] (in_phase s j.entries)) ≡ address_after s (turn_of e) (flags_word s e.words) (origin_given e.input) (cond b None (address_in s (in_phase s j.entries)))
+  by true = refl
+  by false = refl
+
+-- at a start
+pub phase_first : (s : Settings) (start : ℕ) → (qualification s (record { start = start; entries = [] })).phase ≡ first_phase s
+unfolding qualification
+phase_first s start = refl
+
+-- which is Cone only where the client tries that
+pub data IsFirst (tries : Bool) (phase : Phase) : Type 0 where
+  first_cone : tries ≡ true → phase ≡ Cone → IsFirst tries phase
+  first_restricted : phase ≡ Restricted → IsFirst tries phase
+
+-- so is each first phase
+pub is_first : (s : Settings) → IsFirst s.cone_try (first_phase s)
+unfolding first_phase
+is_first s = by s.cone_try refl where
+  by : (b : Bool) → s.cone_try ≡ b → IsFirst s.cone_try (cond b Cone Restricted)
+  by true e = first_cone e refl
+  by false e = first_restricted refl

@@ -1,0 +1,142 @@
+-- Clients without the cone phase: the NAT is open from the first answer on.
+use Rattle.std.proofs.Common.{◌≡◌, ◌⊎◌, inl, inr, ℕ, ◌&&◌, ◌||◌, not, Bool, true, false, cond, List, [], ◌∷◌, Option, Some, None, refl, sym, ap, subst, ◌∙◌, arith}
+use Rattle.std.specs.Prelude.{unwrap_or}
+use Rattle.std.specs.List.{list_any}
+use Rattle.std.proofs.lemmas.Bool.{false≢true, and_parts, and_from, or_parts, or_left, or_right}
+use Rattle.std.proofs.lemmas.Bool.Decides.{nat_tests}
+use Rattle.teredo_node.specs.declared.fate.Fate.{Fate}
+use Rattle.teredo_node.specs.Journal.{Entry, Journal, with_entry}
+use Rattle.qualify.specs.declared.phase.Phase.{Phase}
+use Rattle.qualify.specs.declared.phase.Phase.TheVariants.{Cone, Restricted, Secondary, Qualified, Symmetric, OffLine}
+use Rattle.qualify.specs.Turns.{Turn, turn, turn_of, begins}
+use Rattle.qualify.specs.Qualification.{first_phase, qualification}
+use Rattle.qualify.specs.Advertisements.{is_same_origin, origin_before, phase_line}
+use Rattle.topology.specs.declared.client_node.ClientNode.{ClientNode}
+use Rattle.topology.specs.declared.node.Node.TheVariants.{Client as client}
+use Rattle.topology.specs.Rules.{IsTopology}
+use Rattle.topology.specs.Topology.{node_at}
+use Rattle.history.specs.Full.{Full}
+use Rattle.legal.specs.Lab.{Lab}
+use Rattle.legal.specs.Settings.{client_settings}
+use Rattle.legal.specs.Past.{is_node, journal, nat_entries, new_journal}
+use Rattle.legal.specs.Legal.{Grown}
+use Rattle.legal.specs.Actors.{IsActOf}
+use Rattle.origins.specs.Honest.{is_honest_event, are_honest}
+use Rattle.settled.specs.Clients.{standing}
+use Rattle.verdicts.specs.Undisturbed.{is_loss_of, is_open_at, starts, was_lost, has_sent, is_first_answer, answers, was_answered, was_shut}
+use Rattle.verdicts.proofs.Adverts.{is_told}
+use Rattle.verdicts.proofs.Sound.{IsSoundIn, still_begins, is_resting}
+use Rattle.verdicts.proofs.Entries.{IsFirst, first_cone, first_restricted, phase_next, is_first}
+use Rattle.verdicts.proofs.LetIn.{view_of}
+use Rattle.verdicts.proofs.Steps.{VerdictLaws, IsSound, Scene, is_told_at}
+use Rattle.verdicts.proofs.Begins.{starts_in, sound_at_start, fresh_journal, Concerns, own, others, concerns, goes_on}
+use Rattle.verdicts.proofs.Undisturbed.{open_of}
+
+-- what holds of a client without the cone phase whose NAT was kept open
+pub record IsFirm (lab : Lab) (H : List Full) (n : ℕ) (c : ClientNode) : Type 0 where
+  pub sound : IsSound lab H n c
+  pub answered : is_resting (standing lab H n c).phase ≡ true → was_answered H n ≡ true
+
+-- a first phase doesn't rest on the NAT
+first_rests : (tries : Bool) (ph : Phase) → IsFirst tries ph → is_resting ph ≡ false
+first_rests tries ph (first_cone t same) = ap is_resting same
+first_rests tries ph (first_restricted same) = ap is_resting same
+
+-- a phase that rests on the NAT goes on, or was begun by the first answer
+data Rests (ph : Phase) (f : Fate) : Type 0 where
+  rested : is_resting ph ≡ true → Rests ph f
+  answered_now : is_first_answer (turn f) ≡ true → Rests ph f
+  not_resting : is_resting (unwrap_or (begins (turn f)) ph) ≡ false → Rests ph f
+
+-- so it is after an advertisement, but in phase Cone
+told_rests : (ph : Phase) (same : Bool) → (ph ≡ Cone → ⊥) → Rests ph (phase_line ph same)
+told_rests Cone same other = absurd (other refl)
+told_rests Restricted same other = answered_now refl
+told_rests Secondary same other = rested refl
+told_rests Qualified same other = rested refl
+told_rests Symmetric same other = not_resting refl
+told_rests OffLine same other = not_resting refl
+
+-- after any other entry it went on
+untold_rests : (u : Turn) (ph : Phase) → is_told u ≡ false → is_resting (unwrap_or (begins u) ph) ≡ true → is_resting ph ≡ true
+untold_rests u ph h rests = by (still_begins u h) where
+  by : (begins u ≡ None) ⊎ ((begins u ≡ Some Restricted) ⊎ (begins u ≡ Some OffLine)) → is_resting ph ≡ true
+  by (inl e) = ap (λ (o : Option Phase). is_resting (unwrap_or o ph)) (sym e) ∙ rests
+  by (inr (inl e)) = absurd (false≢true (ap (λ (o : Option Phase). is_resting (unwrap_or o ph)) (sym e) ∙ rests))
+  by (inr (inr e)) = absurd (false≢true (ap (λ (o : Option Phase). is_resting (unwrap_or o ph)) (sym e) ∙ rests))
+
+module _ (laws : VerdictLaws) (lab : Lab) (H : List Full) (r : Full) (n : ℕ) (c : ClientNode) (scene : Scene lab H r n c) (off : starts n r ≡ false) (never : c.cone_try ≡ false) (firm : IsFirm lab H n c) where
+  -- a client without the cone phase isn't in it
+  no_cone : (standing lab H n c).phase ≡ Cone → ⊥
+  no_cone e =
+      let is = subst (λ (ph : Phase). IsSoundIn (view_of lab H c) c.cone_try ph (standing lab H n c).kept (standing lab H n c).address) e firm.sound in
+      false≢true (sym never ∙ is.0)
+
+  -- the record is the client's
+  same_number : (r.node ≡ Some n) → is_node n r.node ≡ true
+  same_number at = ap (is_node n) at ∙ grind (arith, nat_tests)
+
+  -- who was answered was
+  before : was_answered H n ≡ true → was_answered (r ∷ H) n ≡ true
+  before was = ap (λ (b : Bool). cond b false ((is_node n r.node && answers r.entry) || was_answered H n)) off ∙ or_right (is_node n r.node && answers r.entry) (was_answered H n) was
+
+  -- after an entry of the client
+  of_turn : (e : Entry) → IsActOf lab H r n (client c) e → is_resting (qualification (client_settings lab.topology c) (with_entry (journal n H) e)).phase ≡ true → was_answered (r ∷ H) n ≡ true
+  of_turn e act rests = by (is_told (turn_of e)) refl where
+    after : is_resting (unwrap_or (begins (turn_of e)) (standing lab H n c).phase) ≡ true
+    after = ap is_resting (sym (phase_next (client_settings lab.topology c) (journal n H) e)) ∙ rests
+
+    of_rests : Rests (standing lab H n c).phase e.step.fate → was_answered (r ∷ H) n ≡ true
+    of_rests (rested was) = before (firm.answered was)
+    of_rests (answered_now is) =
+        let here : (is_node n r.node && answers r.entry) ≡ true = and_from (is_node n r.node) (answers r.entry) (same_number act.node) (ap answers act.entry ∙ is) in
+        ap (λ (b : Bool). cond b false ((is_node n r.node && answers r.entry) || was_answered H n)) off ∙ or_left (is_node n r.node && answers r.entry) (was_answered H n) here
+    of_rests (not_resting none) = absurd (false≢true (sym none ∙ after))
+
+    by : (b : Bool) → is_told (turn_of e) ≡ b → was_answered (r ∷ H) n ≡ true
+    by true h =
+        let t = is_told_at laws lab H r n c scene e act h in
+        of_rests (subst (Rests (standing lab H n c).phase) t.phase (told_rests (standing lab H n c).phase (is_same_origin (Some t.dst) (origin_before (standing lab H n c) (standing lab H n c).phase)) no_cone))
+    by false h = before (firm.answered (untold_rests (turn_of e) (standing lab H n c).phase h after))
+
+  -- after a record
+  pub still_answered : is_resting (standing lab (r ∷ H) n c).phase ≡ true → was_answered (r ∷ H) n ≡ true
+  still_answered rests = by (concerns laws lab H r n c scene off) where
+    by : Concerns lab H r n c → was_answered (r ∷ H) n ≡ true
+    by (own e act) = of_turn e act (subst (λ (j : Journal). is_resting (qualification (client_settings lab.topology c) j).phase ≡ true) act.later rests)
+    by (others same nothing) = before (firm.answered (subst (λ (j : Journal). is_resting (qualification (client_settings lab.topology c) j).phase ≡ true) same rests))
+
+module _ (laws : VerdictLaws) (lab : Lab) (n : ℕ) (c : ClientNode) (flat : lab.chain ≡ []) (is : IsTopology lab.topology) (there : node_at lab.topology n ≡ Some (client c)) (never : c.cone_try ≡ false) where
+  abbrev HasBegun : List Full → Bool
+  HasBegun before = has_sent lab before n c || was_answered before n
+
+  -- one record more
+  step : (H : List Full) (r : Full) → Scene lab H r n c → starts n r ≡ false → IsFirm lab H n c → list_any (is_loss_of c.inside) (nat_entries lab c.nat r) ≡ false → (HasBegun H && not (is_open_at lab H r.moment c)) ≡ false → IsFirm lab (r ∷ H) n c
+  step H r scene off firm spared shut = record {
+    sound = goes_on laws lab H r n c scene off (record { spared = spared; server_open = λ rests. open_of (HasBegun H) (is_open_at lab H r.moment c) (or_right (has_sent lab H n c) (was_answered H n) (firm.answered rests)) shut }) firm.sound;
+    answered = still_answered laws lab H r n c scene off never firm;
+  }
+
+  -- a start
+  start : (H : List Full) (m : ℕ) → journal n H ≡ new_journal m → IsFirm lab H n c
+  start H m fresh = record {
+    sound = sound_at_start lab H n m c fresh (λ tries. absurd (false≢true (sym never ∙ tries)));
+    answered = λ rests. absurd (false≢true (sym (ap is_resting (starts_in lab H n m c fresh) ∙ first_rests c.cone_try (first_phase (client_settings lab.topology c)) (is_first (client_settings lab.topology c))) ∙ rests));
+  }
+
+  -- a whole history
+  pub firm : (H : List Full) → Grown lab H → are_honest lab.topology H ≡ true → was_lost lab H n c ≡ false → was_shut HasBegun lab H n c ≡ false → IsFirm lab H n c
+  firm [] g honest lost shut = start [] 0 refl
+  firm (r ∷ H) g honest lost shut = by (starts n r) refl lost shut (λ l s. firm H g.1 earlier l s) where
+    earlier : are_honest lab.topology H ≡ true
+    earlier = (and_parts (is_honest_event lab.topology r.asked) (are_honest lab.topology H) honest).1
+
+    by : (b : Bool) → starts n r ≡ b
+        → cond b false (list_any (is_loss_of c.inside) (nat_entries lab c.nat r) || was_lost lab H n c) ≡ false
+        → cond b false ((HasBegun H && not (is_open_at lab H r.moment c)) || was_shut HasBegun lab H n c) ≡ false
+        → (was_lost lab H n c ≡ false → was_shut HasBegun lab H n c ≡ false → IsFirm lab H n c) → IsFirm lab (r ∷ H) n c
+    by true on l s ih = start (r ∷ H) r.moment (fresh_journal H r n on)
+    by false off l s ih =
+        let lost_parts = or_parts (list_any (is_loss_of c.inside) (nat_entries lab c.nat r)) (was_lost lab H n c) l in
+        let shut_parts = or_parts (HasBegun H && not (is_open_at lab H r.moment c)) (was_shut HasBegun lab H n c) s in
+        step H r (record { flat = flat; is = is; there = there; grown = g; honest = earlier }) off (ih lost_parts.1 shut_parts.1) lost_parts.0 shut_parts.0

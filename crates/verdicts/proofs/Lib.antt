@@ -1,0 +1,14 @@
+mod Members
+mod Kept
+mod Views
+mod Adverts
+mod Sound
+mod Entries
+mod Outs
+mod LetIn
+mod Steps
+mod Begins
+mod Judged
+mod Undisturbed
+mod KeptOpen
+mod Throughout

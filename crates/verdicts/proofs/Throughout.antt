@@ -1,0 +1,61 @@
+-- Right verdicts, at each record.
+use Rattle.std.proofs.Common.{◌≡◌, ℕ, List, [], ◌∷◌, Option, Some, None, refl, ap, subst}
+use Rattle.std.specs.Prelude.{option_and_then, is_some}
+use Rattle.std.specs.List.{AllByRecursion}
+use Rattle.std.proofs.lemmas.Bool.{false≢true}
+use Rattle.topology.specs.declared.client_node.ClientNode.{ClientNode}
+use Rattle.topology.specs.declared.node.Node.{Node}
+use Rattle.topology.specs.declared.node.Node.TheVariants.{Client as client}
+use Rattle.topology.specs.Topology.{node_at, client_at, as_client}
+use Rattle.events.specs.declared.event.Event.{Event}
+use Rattle.events.specs.Events.{IsEvent}
+use Rattle.history.specs.Full.{Full}
+use Rattle.legal.specs.Lab.{Lab, lab_of}
+use Rattle.legal.specs.Settings.{client_settings}
+use Rattle.legal.specs.Past.{journal}
+use Rattle.legal.specs.Legal.{Begun, Grown}
+use Rattle.legal.proofs.NatPasts.{set_up_past}
+use Rattle.origins.proofs.Brought.{is_client}
+use Rattle.origins.proofs.Whence.{earlier}
+use Rattle.verdicts.specs.Right.{EachIsRight, EachIsRightWithoutCone, VerdictsAreRight}
+use Rattle.verdicts.specs.Throughout.{HistoriesHaveRightVerdicts, ScenariosHaveRightVerdicts}
+use Rattle.verdicts.proofs.Steps.{VerdictLaws}
+use Rattle.verdicts.proofs.Judged.{right, right_without_cone}
+use Rattle.verdicts.proofs.Undisturbed.{fine}
+use Rattle.verdicts.proofs.KeptOpen.{firm}
+
+-- a client's node
+node_of : (lab : Lab) (n : ℕ) (c : ClientNode) → client_at lab.topology n ≡ Some c → node_at lab.topology n ≡ Some (client c)
+node_of lab n c there = by (node_at lab.topology n) there where
+  by : (o : Option Node) → option_and_then as_client o ≡ Some c → o ≡ Some (client c)
+  by None h = absurd (false≢true (ap (λ (o : Option ClientNode). is_some o) h))
+  by (Some a) h = ap (λ (z : Node). Some z) (is_client a c h)
+
+-- undisturbed clients
+each_is_right : VerdictLaws → EachIsRight
+each_is_right laws lab H n c flat is g honest there calm =
+    right laws.turns.nat lab H n c (set_up_past lab H c.nat g) (fine laws lab n c flat is (node_of lab n c there) H g honest calm.began calm.lasts calm.server_open).sound
+
+-- clients without the cone phase
+each_is_right_without_cone : VerdictLaws → EachIsRightWithoutCone
+each_is_right_without_cone laws lab H n c flat is g honest there never calm =
+    let at = node_of lab n c there in
+    right_without_cone laws.turns.nat lab H n c (set_up_past lab H c.nat g) (firm laws lab n c flat is at never H g honest calm.lasts calm.server_open).sound
+    never (laws.addresses (client_settings lab.topology c) (journal n H) (laws.clients lab H n c g at).journal)
+
+-- both
+pub verdicts_are_right : VerdictLaws → VerdictsAreRight
+verdicts_are_right laws = record { undisturbed = each_is_right laws; kept_open = each_is_right_without_cone laws }
+
+-- at each record of a history
+pub histories : VerdictsAreRight → HistoriesHaveRightVerdicts
+histories laws lab H flat is g later r before split =
+    let there : Grown lab (r ∷ before) = earlier lab later (r ∷ before) (subst (Grown lab) split g) in
+    record {
+      undisturbed = λ honest n c client. laws.undisturbed lab (r ∷ before) n c flat is there honest client;
+      kept_open = λ honest n c client. laws.kept_open lab (r ∷ before) n c flat is there honest client;
+    }
+
+-- and of a scenario
+pub scenarios : ((lab : Lab) (events : List Event) (h : List Full) → AllByRecursion (IsEvent lab.topology) events → Begun lab events h → Grown lab h) → HistoriesHaveRightVerdicts → ScenariosHaveRightVerdicts
+scenarios grown law s H is events begun = law (lab_of s []) H refl is (grown (lab_of s []) s.events H events begun)

@@ -1,0 +1,143 @@
+-- Undisturbed clients: until something is sent nothing is known, and afterwards the NAT is open.
+use Rattle.std.proofs.Common.{◌≡◌, ◌⊎◌, inl, inr, ℕ, ◌&&◌, ◌||◌, not, Bool, true, false, cond, List, [], ◌∷◌, Option, Some, None, refl, sym, ap, subst, ◌∙◌}
+use Rattle.std.specs.Prelude.{unwrap_or}
+use Rattle.std.specs.List.{list_any}
+use Rattle.std.proofs.lemmas.Bool.{false≢true, and_parts, or_parts}
+use Rattle.td_base.specs.declared.endpoint.Ep.{Ep}
+use Rattle.td_base.specs.Ep.{same_ep, same_ep-self}
+use Rattle.nat_kinds.specs.History.{Out}
+use Rattle.teredo_node.specs.Journal.{Entry, Journal, with_entry}
+use Rattle.qualify.specs.declared.phase.Phase.{Phase}
+use Rattle.qualify.specs.declared.phase.Phase.TheVariants.{Cone, Restricted, Secondary, Qualified, Symmetric, OffLine}
+use Rattle.qualify.specs.Turns.{Turn, turn_of, begins}
+use Rattle.qualify.specs.Qualification.{first_phase, qualification}
+use Rattle.qualify.specs.Solicitations.{expected}
+use Rattle.topology.specs.declared.client_node.ClientNode.{ClientNode}
+use Rattle.topology.specs.declared.node.Node.TheVariants.{Client as client}
+use Rattle.topology.specs.Rules.{IsTopology}
+use Rattle.topology.specs.Topology.{node_at}
+use Rattle.history.specs.Full.{Full}
+use Rattle.legal.specs.Lab.{Lab}
+use Rattle.legal.specs.Settings.{client_settings}
+use Rattle.legal.specs.Past.{journal, nat_entries, new_journal}
+use Rattle.legal.specs.Legal.{Grown}
+use Rattle.legal.specs.Actors.{IsActOf}
+use Rattle.origins.specs.Honest.{is_honest_event, are_honest}
+use Rattle.settled.specs.Clients.{standing}
+use Rattle.verdicts.specs.Undisturbed.{is_out_of, is_loss_of, is_seen, is_open_at, starts, began_seen, was_lost, has_sent, was_shut}
+use Rattle.verdicts.proofs.Members.{none_has}
+use Rattle.verdicts.proofs.Views.{IsUnseen, still_unseen}
+use Rattle.verdicts.proofs.Adverts.{is_told}
+use Rattle.verdicts.proofs.Sound.{still_begins, was_asked, is_resting}
+use Rattle.verdicts.proofs.Entries.{IsFirst, first_cone, first_restricted, phase_next, is_first}
+use Rattle.verdicts.proofs.LetIn.{view_of}
+use Rattle.verdicts.proofs.Steps.{VerdictLaws, IsSound, Scene, past_before, is_told_at}
+use Rattle.verdicts.proofs.Begins.{starts_in, sound_at_start, unseen_of, fresh_journal, Concerns, own, others, concerns, goes_on}
+
+-- a phase in which nothing came yet
+abbrev pub is_early : Phase → Bool
+is_early Cone = true
+is_early Restricted = true
+is_early OffLine = true
+is_early _ = false
+
+-- until the client sent something, nothing of it counts and nothing came
+pub record IsUntried (lab : Lab) (H : List Full) (n : ℕ) (c : ClientNode) : Type 0 where
+  pub unseen : IsUnseen (view_of lab H c)
+  pub early : is_early (standing lab H n c).phase ≡ true
+
+-- a first phase is such a one
+first_is_early : (tries : Bool) (ph : Phase) → IsFirst tries ph → is_early ph ≡ true
+first_is_early tries ph (first_cone t same) = ap is_early same
+first_is_early tries ph (first_restricted same) = ap is_early same
+
+-- so it is at a start
+untried_at_start : (lab : Lab) (H : List Full) (n m : ℕ) (c : ClientNode) → journal n H ≡ new_journal m → IsUnseen (view_of lab H c) → IsUntried lab H n c
+untried_at_start lab H n m c fresh unseen = record {
+  unseen = unseen;
+  early = ap is_early (starts_in lab H n m c fresh) ∙ first_is_early c.cone_try (first_phase (client_settings lab.topology c)) (is_first (client_settings lab.topology c));
+}
+
+-- only an advertisement ends that
+still_early : (u : Turn) (ph : Phase) → is_told u ≡ false → is_early ph ≡ true → is_early (unwrap_or (begins u) ph) ≡ true
+still_early u ph h early = by (still_begins u h) where
+  by : (begins u ≡ None) ⊎ ((begins u ≡ Some Restricted) ⊎ (begins u ≡ Some OffLine)) → is_early (unwrap_or (begins u) ph) ≡ true
+  by (inl e) = ap (λ (o : Option Phase). is_early (unwrap_or o ph)) e ∙ early
+  by (inr (inl e)) = ap (λ (o : Option Phase). is_early (unwrap_or o ph)) e
+  by (inr (inr e)) = ap (λ (o : Option Phase). is_early (unwrap_or o ph)) e
+
+module _ (laws : VerdictLaws) (lab : Lab) (H : List Full) (r : Full) (n : ℕ) (c : ClientNode) (scene : Scene lab H r n c) (off : starts n r ≡ false) where
+  -- a record with no datagram of the client leaves it so
+  untried : list_any (is_out_of c.inside) (nat_entries lab c.nat r) ≡ false → IsUntried lab H n c → IsUntried lab (r ∷ H) n c
+  untried none u = record { unseen = unseen; early = by (concerns laws lab H r n c scene off) } where
+    unseen : IsUnseen (view_of lab (r ∷ H) c)
+    unseen = still_unseen (view_of lab H c) (nat_entries lab c.nat r) r.moment (laws.later lab H r scene.grown)
+        (λ d new left. none_has (is_out_of c.inside) (nat_entries lab c.nat r) (Out d) none new (ap (λ (e : Ep). same_ep e c.inside) left ∙ same_ep-self c.inside)) u.unseen
+
+    of_turn : (e : Entry) → IsActOf lab H r n (client c) e → (b : Bool) → is_told (turn_of e) ≡ b → is_early (qualification (client_settings lab.topology c) (with_entry (journal n H) e)).phase ≡ true
+    of_turn e act true h =
+        let t = is_told_at laws lab H r n c scene e act h in
+        let a = was_asked laws.turns.nat (view_of lab H c) (expected (client_settings lab.topology c) (standing lab H n c)) t.dst (past_before laws lab H r n c scene) t.let_in in
+        absurd (u.unseen a.datagram a.counts a.left)
+    of_turn e act false h = ap is_early (phase_next (client_settings lab.topology c) (journal n H) e) ∙ still_early (turn_of e) (standing lab H n c).phase h u.early
+
+    by : Concerns lab H r n c → is_early (standing lab (r ∷ H) n c).phase ≡ true
+    by (own e act) = subst (λ (j : Journal). is_early (qualification (client_settings lab.topology c) j).phase ≡ true) (sym act.later) (of_turn e act (is_told (turn_of e)) refl)
+    by (others same nothing) = subst (λ (j : Journal). is_early (qualification (client_settings lab.topology c) j).phase ≡ true) (sym same) u.early
+
+-- what holds of an undisturbed client
+pub record IsFine (lab : Lab) (H : List Full) (n : ℕ) (c : ClientNode) : Type 0 where
+  pub sound : IsSound lab H n c
+  pub untried : has_sent lab H n c ≡ false → IsUntried lab H n c
+
+-- no such phase rests on the NAT
+rests_late : (ph : Phase) → is_resting ph ≡ true → is_early ph ≡ true → ⊥
+rests_late Cone r e = false≢true r
+rests_late Restricted r e = false≢true r
+rests_late OffLine r e = false≢true r
+rests_late Secondary r e = false≢true e
+rests_late Qualified r e = false≢true e
+rests_late Symmetric r e = false≢true e
+
+-- open where it had begun
+pub open_of : (begun is_open : Bool) → begun ≡ true → (begun && not is_open) ≡ false → is_open ≡ true
+open_of true true b h = refl
+open_of true false b h = absurd (false≢true (sym h))
+open_of false is_open b h = absurd (false≢true b)
+
+module _ (laws : VerdictLaws) (lab : Lab) (n : ℕ) (c : ClientNode) (flat : lab.chain ≡ []) (is : IsTopology lab.topology) (there : node_at lab.topology n ≡ Some (client c)) where
+  -- the NAT let a datagram of the client out
+  abbrev HasSent : List Full → Bool
+  HasSent before = has_sent lab before n c
+
+  -- one record more
+  step : (H : List Full) (r : Full) → Scene lab H r n c → starts n r ≡ false → IsFine lab H n c → (list_any (is_loss_of c.inside) (nat_entries lab c.nat r)) ≡ false → (has_sent lab H n c && not (is_open_at lab H r.moment c)) ≡ false → IsFine lab (r ∷ H) n c
+  step H r scene off fine spared shut = record {
+    sound = goes_on laws lab H r n c scene off (record { spared = spared; server_open = λ rests. open_of (has_sent lab H n c) (is_open_at lab H r.moment c) (sent rests (has_sent lab H n c) refl) shut }) fine.sound;
+    untried = λ none. let both = or_parts (list_any (is_out_of c.inside) (nat_entries lab c.nat r)) (has_sent lab H n c) (ap (λ (b : Bool). cond b false (list_any (is_out_of c.inside) (nat_entries lab c.nat r) || has_sent lab H n c)) (sym off) ∙ none) in
+        untried laws lab H r n c scene off both.0 (fine.untried both.1);
+  } where
+    sent : is_resting (standing lab H n c).phase ≡ true → (b : Bool) → has_sent lab H n c ≡ b → has_sent lab H n c ≡ true
+    sent rests true e = e
+    sent rests false e = absurd (rests_late (standing lab H n c).phase rests (fine.untried e).early)
+
+  -- a start
+  start : (H : List Full) (m : ℕ) → journal n H ≡ new_journal m → IsUnseen (view_of lab H c) → IsFine lab H n c
+  start H m fresh unseen = record { sound = sound_at_start lab H n m c fresh (λ _. unseen); untried = λ _. untried_at_start lab H n m c fresh unseen }
+
+  -- a whole history
+  pub fine : (H : List Full) → Grown lab H → are_honest lab.topology H ≡ true → began_seen lab H n c ≡ false → was_lost lab H n c ≡ false → was_shut HasSent lab H n c ≡ false → IsFine lab H n c
+  fine [] g honest began lost shut = start [] 0 refl (λ d counts left. counts)
+  fine (r ∷ H) g honest began lost shut = by (starts n r) refl began lost shut (λ b l s. fine H g.1 before b l s) where
+    before : are_honest lab.topology H ≡ true
+    before = (and_parts (is_honest_event lab.topology r.asked) (are_honest lab.topology H) honest).1
+
+    by : (b : Bool) → starts n r ≡ b → cond b (is_seen lab (r ∷ H) c) (began_seen lab H n c) ≡ false
+        → cond b false (list_any (is_loss_of c.inside) (nat_entries lab c.nat r) || was_lost lab H n c) ≡ false
+        → cond b false ((has_sent lab H n c && not (is_open_at lab H r.moment c)) || was_shut HasSent lab H n c) ≡ false
+        → (began_seen lab H n c ≡ false → was_lost lab H n c ≡ false → was_shut HasSent lab H n c ≡ false → IsFine lab H n c) → IsFine lab (r ∷ H) n c
+    by true on b l s ih = start (r ∷ H) r.moment (fresh_journal H r n on) (unseen_of lab (r ∷ H) c b)
+    by false off b l s ih =
+        let lost_parts = or_parts (list_any (is_loss_of c.inside) (nat_entries lab c.nat r)) (was_lost lab H n c) l in
+        let shut_parts = or_parts (has_sent lab H n c && not (is_open_at lab H r.moment c)) (was_shut HasSent lab H n c) s in
+        step H r (record { flat = flat; is = is; there = there; grown = g; honest = before }) off (ih b lost_parts.1 shut_parts.1) lost_parts.0 shut_parts.0

@@ -1,0 +1,3 @@
+pub mod Undisturbed
+pub mod Right
+pub mod Throughout

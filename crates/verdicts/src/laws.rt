@@ -1,0 +1,46 @@
+//! Laws of every history.
+ghost use Rattle.verdicts.specs.Right.{VerdictsAreRight};
+ghost use Rattle.verdicts.specs.Throughout.{HistoriesHaveRightVerdicts, ScenariosHaveRightVerdicts};
+
+/// In an honest history the verdict of each undisturbed client is right. So is that of each client that doesn't try the cone
+/// phase and whose NAT was kept open; its address has no cone bit.
+pub fn verdicts_are_right()
+    ensures { VerdictsAreRight }
+{
+    origins::tells_where_to();
+    topology::each_node();
+    legal::acted();
+    legal::routes();
+    legal::is_reached();
+    legal::frame();
+    legal::later();
+    legal::nat_grows();
+    legal::client_journals();
+    legal::wire_is_made();
+    client_rules::reception_is_warranted();
+    client_rules::tick_is_warranted();
+    client_rules::qualified_has_address();
+    client_rules::each_send();
+    bubble::payload_is_spelled();
+    teredo_addr::teredo_tells();
+    teredo_addr::flags_tell();
+    nat_kinds::counting_datagram_holds_its_port();
+    nat_kinds::port_has_one_key();
+    nat_kinds::let_in_where_asked();
+    nat_kinds::reply_is_let_in();
+}
+
+/// Every history has right verdicts, at each of its records.
+pub fn histories_have_right_verdicts()
+    ensures { HistoriesHaveRightVerdicts }
+{
+    verdicts_are_right();
+}
+
+/// So has the history of every scenario, as far as it was played.
+pub fn scenarios_have_right_verdicts()
+    ensures { ScenariosHaveRightVerdicts }
+{
+    legal::grown();
+    histories_have_right_verdicts();
+}
