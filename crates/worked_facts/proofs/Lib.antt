@@ -1,0 +1,3 @@
+mod VerdictViews
+mod VerdictFacts
+mod DisturbedFacts

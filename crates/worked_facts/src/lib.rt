@@ -3,4 +3,6 @@
 //!
 //! | file of proofs/ | what is computed |
 //! |---|---|
+//! | `VerdictFacts` | clients behind each kind of NAT that nothing disturbs, and what they make of it |
+//! | `DisturbedFacts` | for each premise of a right verdict a history without it, in which a client's verdict is wrong |
 #![tactic(auto)]
