@@ -1,0 +1,20 @@
+//! Laws of every history.
+ghost use Rattle.promises.specs.Kept.{HistoriesAreKept, ScenariosAreKept};
+
+/// Every history has all of this, at each of its records.
+pub fn kept()
+    ensures { HistoriesAreKept }
+{
+    origins::histories_have_origins();
+    origins::is_held();
+    verdicts::histories_have_right_verdicts();
+}
+
+/// So has the history of every scenario, as far as it was played; that of an honest one is honest.
+pub fn kept_in_scenarios()
+    ensures { ScenariosAreKept }
+{
+    legal::grown();
+    origins::honest_scenarios();
+    kept();
+}

@@ -1,0 +1,21 @@
+//! What is proved of every history of a laboratory in which no NAT is behind another one: each theorem a field of one
+//! record, so that a world and a run say all of them in one clause.
+//!
+//! # What the layer above may rely on
+//!
+//! - Every history that grows, and the history of every scenario as far as it was played, keeps all of it at each of its
+//!   records (`specs/Kept.antt`).
+//! - A packet with a Teredo source that a client's host is handed came from the endpoint that the source embeds: a named
+//!   event put it there, or a client's host had handed it in while that source was its address. In an honest history each
+//!   address that a client gets embeds its NAT's address, and a port that the NAT then holds for it (`specs/Kept.antt`;
+//!   the words are those of `origins`).
+//! - In an honest history the verdict of each undisturbed client on its NAT is right (the words are those of `verdicts`).
+//!
+//! # What it does not know
+//!
+//! How a history is played; NATs behind NATs; whether anything arrives.
+#![tactic(auto)]
+
+mod laws;
+
+pub use laws::{kept, kept_in_scenarios};
