@@ -1,3 +1,6 @@
 mod VerdictViews
 mod VerdictFacts
 mod DisturbedFacts
+pub mod OriginViews
+pub mod OriginFacts
+pub mod DishonestFacts

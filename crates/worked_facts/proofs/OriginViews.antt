@@ -1,0 +1,108 @@
+-- What the computed facts say of a history: which address its latest record sets, and what this hands over. And what is to
+-- be computed for the origin of a packet.
+use Rattle.std.proofs.Common.{◌≡◌, ◌≤◌, ◌<◌, ℕ, true, false, List, [], ◌∷◌, ◌++◌, length, take, drop, Option, Some, None, refl, sym, ap, ◌∙◌, take-append-drop}
+use Rattle.std.specs.Prelude.{slice_get}
+use Rattle.td_base.specs.declared.ipv6.Ip6.{Ip6}
+use Rattle.td_base.specs.declared.endpoint.Ep.{Ep}
+use Rattle.ipv6_packet.specs.Reads.{fields_in}
+use Rattle.teredo_addr.specs.Teredo.{embedded}
+use Rattle.teredo_node.specs.Journal.{given, Entry}
+use Rattle.qualify.specs.Qualification.{qualification}
+use Rattle.topology.specs.declared.client_node.ClientNode.{ClientNode}
+use Rattle.topology.specs.Topology.{client_at}
+use Rattle.topology.specs.Chains.{nat_set_up}
+use Rattle.history.specs.Full.{udp, Full, wire}
+use Rattle.legal.specs.Lab.{Lab}
+use Rattle.legal.specs.Settings.{client_settings}
+use Rattle.legal.specs.Past.{journal}
+use Rattle.origins.specs.Honest.{are_honest}
+use Rattle.origins.specs.Sources.{outermost}
+use Rattle.origins.specs.Handed.{HandsOver}
+use Rattle.origins.specs.Origin.{PutsFrom, HandedIn, HasOrigin, put, sent_by}
+use Rattle.origins.specs.Live.{IsHeld}
+
+-- ---- addresses
+
+-- the record gives client n the address
+pub record Gives (n : ℕ) (own : Ip6) (r : Full) : Type 0 where
+  pub node : r.node ≡ Some n
+  pub address : r.address ≡ Some own
+
+-- the history is honest. Its latest record gives client n, which is c, the address, and the client's NAT holds what it embeds
+abbrev pub GivesHeld : Lab → ℕ → ClientNode → Ip6 → List Full → Type 0
+GivesHeld lab n c own [] = ⊥
+GivesHeld lab n c own (r ∷ H) = (are_honest lab.topology (r ∷ H) ≡ true) × Gives n own r × IsHeld lab (r ∷ H) c (embedded own)
+
+-- it isn't honest, and the NAT doesn't hold that
+abbrev pub GivesUnheld : Lab → ℕ → ClientNode → Ip6 → List Full → Type 0
+GivesUnheld lab n c own [] = ⊥
+GivesUnheld lab n c own (r ∷ H) = (are_honest lab.topology (r ∷ H) ≡ false) × Gives n own r × (IsHeld lab (r ∷ H) c (embedded own) → ⊥)
+
+-- ---- packets
+
+-- the latest record hands x to the host of client n, which is c, from entry k
+abbrev pub LatestHands : Lab → ℕ → ClientNode → ℕ → List ℕ → List Full → Type 0
+LatestHands lab n c k x [] = ⊥
+LatestHands lab n c k x (r ∷ H) = HandsOver lab r n c x × (r.delivered ≡ Some k)
+
+-- the history is honest; its latest record does, and the entry has its origin where the source of x says
+pub record HandsTold (lab : Lab) (n : ℕ) (c : ClientNode) (k : ℕ) (x : List ℕ) (H : List Full) : Type 0 where
+  pub honest : are_honest lab.topology H ≡ true
+  pub hands : LatestHands lab n c k x H
+  pub origin : HasOrigin lab (drop 1 H) k (fields_in x).src x
+
+-- ---- origins, as they are computed
+
+-- the latest record made entry k, and it is a named event's, from where p says
+abbrev pub PutLatest : Lab → ℕ → Ip6 → List Full → Type 0
+PutLatest lab k p [] = ⊥
+PutLatest lab k p (maker ∷ earlier) = (length (wire earlier) ≤ k) × (k < length (wire (maker ∷ earlier))) × PutsFrom maker.asked (embedded p)
+
+pub put_latest : (lab : Lab) (k : ℕ) (p : Ip6) (x : List ℕ) (H : List Full) → PutLatest lab k p H → HasOrigin lab H k p x
+put_latest lab k p x [] none = absurd none
+put_latest lab k p x (maker ∷ earlier) (begins, ends, from) = put [] earlier maker (record { split = refl; begins = begins; ends = ends }) from
+
+-- a host handed in x
+abbrev pub GivenIn : List ℕ → Option Entry → Type 0
+GivenIn x None = ⊥
+GivenIn x (Some e) = e.input ≡ given x
+
+-- the latest record is of client n, which is c: its host handed in x, while its address was p
+abbrev pub HandedInLatest : Lab → ℕ → ClientNode → Ip6 → List ℕ → List Full → Type 0
+HandedInLatest lab n c p x [] = ⊥
+HandedInLatest lab n c p x (r ∷ earlier) =
+    (r.node ≡ Some n) × GivenIn x r.entry × ((qualification (client_settings lab.topology c) (journal n earlier)).address ≡ Some p)
+
+-- so was it at the record before k later ones
+pub handed_in : (lab : Lab) (n : ℕ) (c : ClientNode) (p : Ip6) (x : List ℕ) (k : ℕ) (H : List Full) → HandedInLatest lab n c p x (drop k H) → HandedIn lab H n c p x
+handed_in lab n c p x k H latest = by (drop k H) (sym (take-append-drop k H)) latest where
+  of_entry : (r : Full) (earlier : List Full) (o : Option Entry) → H ≡ take k H ++ r ∷ earlier → r.entry ≡ o → r.node ≡ Some n → GivenIn x o
+      → (qualification (client_settings lab.topology c) (journal n earlier)).address ≡ Some p → HandedIn lab H n c p x
+  of_entry r earlier None split did node is address = absurd is
+  of_entry r earlier (Some e) split did node is address = record {
+    later = take k H;
+    record_of = r;
+    earlier = earlier;
+    split = split;
+    node = node;
+    entry = e;
+    did = did;
+    packet = is;
+    address = address;
+  }
+
+  by : (rest : List Full) → H ≡ take k H ++ rest → HandedInLatest lab n c p x rest → HandedIn lab H n c p x
+  by [] split none = absurd none
+  by (r ∷ earlier) split (node, is, address) = of_entry r earlier r.entry split refl node is address
+
+-- the latest record made entry k: client n sent it, and it left at the address of its outermost NAT
+abbrev pub SentLatest : Lab → ℕ → ClientNode → ℕ → Ip6 → Ep → List ℕ → List Full → Type 0
+SentLatest lab n c k p dst bytes [] = ⊥
+SentLatest lab n c k p dst bytes (maker ∷ earlier) =
+    (length (wire earlier) ≤ k) × (k < length (wire (maker ∷ earlier))) × (client_at lab.topology n ≡ Some c) × (maker.node ≡ Some n)
+    × (slice_get (wire (maker ∷ earlier)) k ≡ Some (udp (embedded p) dst bytes)) × ((embedded p).ip ≡ (nat_set_up lab.topology (outermost lab c)).external)
+
+pub sent_latest : (lab : Lab) (n : ℕ) (c : ClientNode) (k : ℕ) (p : Ip6) (dst : Ep) (bytes x : List ℕ) (H : List Full) → SentLatest lab n c k p dst bytes H → HandedIn lab H n c p x → HasOrigin lab H k p x
+sent_latest lab n c k p dst bytes x [] none handed = absurd none
+sent_latest lab n c k p dst bytes x (maker ∷ earlier) (begins, ends, client, node, item, external) handed =
+    sent_by [] earlier maker (record { split = refl; begins = begins; ends = ends }) n c client node dst bytes item external handed
