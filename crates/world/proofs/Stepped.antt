@@ -18,6 +18,7 @@ use Rattle.legal.specs.Past.{began, going, has_more, is_number, was_delivered}
 use Rattle.legal.specs.Next.{next_of}
 use Rattle.legal.specs.Legal.{GoesOn, Follows, Grown}
 use Rattle.legal.specs.Laws.{EachIsOfItsEvent, EachIsTold, EachFalls}
+use Rattle.promises.specs.Kept.{HistoriesAreKept}
 use Rattle.lab_nodes.specs.PlayedNode.{NodesOf, AreReady}
 use Rattle.lab_nodes.specs.DueMoments.{EachSumIsOfThePast}
 use Rattle.world.specs.World.{WorldState, StandsFor, IsAgain, Steps, Falls, going_after, is_more, left_in}
@@ -96,6 +97,7 @@ pub record Laws : Type 0 where
   pub told : EachIsTold
   pub falls : EachFalls
   pub sums : EachSumIsOfThePast
+  pub promised : HistoriesAreKept
 
 -- the record of an event that may be asked for follows
 pub follows : EachIsOfItsEvent → (d : Draws) (old : WorldState) (H : List Full) (i : ℕ) (e : Event) → IsEvent old.topology e → IsAgain old.going e → StandsFor d old H → Follows (flat_lab d old.topology) H (next_of (flat_lab d old.topology) H i e)
@@ -162,4 +164,5 @@ steps laws old new i e (Ok turn) asked turned kept plays = record {
       (stands_on laws d old new H i e turn asked turned kept.ready s (plays d H s));
   time = kept.time;
   entries = kept.entries;
+  promised = λ d H s. laws.promised d old.topology (next_of (flat_lab d old.topology) H i e ∷ H) asked.rules (follows laws.of_event d old H i e asked.event asked.again s, s.grown);
 }

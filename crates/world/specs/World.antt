@@ -22,6 +22,7 @@ use Rattle.legal.specs.Next.{next_of}
 use Rattle.legal.specs.Legal.{Grown}
 use Rattle.legal.specs.declared.left.TheConstants.{LEFT_MAX}
 use Rattle.legal.specs.Left.{left, time_left, open_places, PLACES}
+use Rattle.promises.specs.Kept.{KeptThroughout}
 use Rattle.lab_nodes.specs.declared.played_node.PlayedNode.{PlayedNode}
 use Rattle.lab_nodes.specs.PlayedNode.{NodesOf}
 use Rattle.lab_nodes.specs.DueMoments.{all_due}
@@ -142,6 +143,8 @@ pub record Steps (old new : WorldState) (index : ℕ) (event : Event) (turn : Tu
   pub falls : (d : Draws) (H : List Full) → StandsFor d old H → Falls old new turn
   pub time : new.moment ≤ old.began + ADVANCE_MAX_MS
   pub entries : length new.wire ≤ ENTRIES_MAX
+  -- all that is proved of every history is so of the one with the record, at each of its records
+  pub promised : (d : Draws) (H : List Full) → StandsFor d old H → KeptThroughout (flat_lab d old.topology) (next_of (flat_lab d old.topology) H index event ∷ H)
 
 -- WHY IT STOPS
 

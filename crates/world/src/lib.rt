@@ -4,7 +4,8 @@
 //!
 //! - A new world stands for the history without records.
 //! - Whatever history a world stands for, `World::step` gives the record that follows in it, and the world then
-//!   stands for the history with that record (`specs/World.antt`).
+//!   stands for the history with that record (`specs/World.antt`). All that is proved of every history, which `promises`
+//!   says, is so of that one.
 //! - After a stop each step answers it, and the world stays as it is.
 //!
 //! # What it does not know

@@ -177,6 +177,7 @@ impl<'a> World<'a> {
         legal::of_its_event();
         legal::told();
         legal::falls();
+        promises::kept();
         lab_nodes::due_as_in_the_past();
         if let Some(stop) = self.stopped {
             return Err(stop);
