@@ -25,6 +25,7 @@ use Rattle.legal.specs.Next.{next_of, next}
 use Rattle.legal.specs.Lab.{draws, lab_of, flat_lab}
 use Rattle.legal.specs.Legal.{Begun, IsWhole}
 use Rattle.legal.specs.Laws.{EachIsOfItsEvent}
+use Rattle.promises.specs.Kept.{KeptOf}
 use Rattle.world.specs.declared.wire.TheConstants.{ENTRIES_MAX}
 use Rattle.world.specs.World.{WorldState, StandsFor, Steps, Falls, IsAgain, EndsInTime, StopsFor, NeedsMemory, going_after, record_in, is_more, left_in}
 use Rattle.player.specs.declared.player.PlayFault.TheVariants.{Failed, WireFull}
@@ -47,6 +48,10 @@ IsFree going = going ≡ None
 abbrev pub IsNextOn : Event → Option Event → Type 0
 IsNextOn e going = IsAgain going e
 
+-- all that is proved of every history is so of the scenario's, as far as it was played
+abbrev pub Promises : Scenario → Type 0
+Promises s = (H : List Full) → Begun (lab_of s []) s.events H → KeptOf s H
+
 -- `count` events were played whole, and of the next one perhaps the first records: the world stands for all of them, the listener heard them, and what it writes of them was written.
 pub record Played (a : Account) (s : Scenario) (before after : SinkState) (keeps : Kept) (w : WorldState) (count : ℕ) (CanGoOn : Option Event → Type 0) : Type 0 where
   pub history : List Full
@@ -58,15 +63,16 @@ pub record Played (a : Account) (s : Scenario) (before after : SinkState) (keeps
   -- each record that has further ones leaves less
   pub left : length history + left_in w ≤ count * (LEFT_MAX + 1) + LEFT_MAX
   pub stands : StandsFor (draws s.seed) w history
+  pub promises : Promises s
   pub begun : BeginsHistory s history
   pub kept : keeps s.topology history
   pub written : WritesLines before after (a.lines s.topology history)
   pub quiet : after.faults ≡ before.faults
 
 -- before the first event
-pub nothing_played : (a : Account) (s : Scenario) (before after : SinkState) (keeps : Kept) (w : WorldState) → w.topology ≡ s.topology → w.stopped ≡ None → StandsFor (draws s.seed) w []
+pub nothing_played : (a : Account) (s : Scenario) (before after : SinkState) (keeps : Kept) (w : WorldState) → Promises s → w.topology ≡ s.topology → w.stopped ≡ None → StandsFor (draws s.seed) w []
     → keeps s.topology [] → WritesLines before after (a.lines s.topology []) → after.faults ≡ before.faults → Played a s before after keeps w 0 IsFree
-nothing_played a s before after keeps w t going stands kept written quiet = record {
+nothing_played a s before after keeps w promises t going stands kept written quiet = record {
   history = [];
   next = stands.going;
   place = refl;
@@ -75,7 +81,8 @@ nothing_played a s before after keeps w t going stands kept written quiet = reco
   began = let at : w.began ≡ 0 = stands.began in omega (arith, at);
   left = let most : left_in w ≤ LEFT_MAX = stands.most in omega (arith, most);
   stands = stands;
-  begun = record { begun = tt; fits = omega arith };
+  promises = promises;
+  begun = record { begun = tt; fits = omega arith; promised = promises [] tt };
   kept = kept;
   written = written;
   quiet = quiet;
@@ -92,6 +99,7 @@ event_begins a s before after keeps w i e p = record {
   began = p.began;
   left = p.left;
   stands = p.stands;
+  promises = p.promises;
   begun = p.begun;
   kept = p.kept;
   written = p.written;
@@ -183,7 +191,9 @@ module _ (a : Account) (s : Scenario) (before after : SinkState) (keeps : Kept) 
   fits = let same : length t.new.wire ≡ length (wire (given ∷ past)) = ap length stands_on.wire in omega (arith, same, t.steps.entries)
 
   pub begun_on : BeginsHistory s (given ∷ past)
-  begun_on = record { begun = (next_is s past t.index t.event t.played.place t.is, t.played.begun.begun); fits = fits }
+  begun_on =
+      let begun : Begun (lab_of s []) s.events (given ∷ past) = (next_is s past t.index t.event t.played.place t.is, t.played.begun.begun) in
+      record { begun = begun; fits = fits; promised = t.played.promises (given ∷ past) begun }
 
   -- what the listener is told
   pub news : EachIsOfItsEvent → IsNews t.new t.said past given
@@ -248,6 +258,7 @@ module _ (law : EachIsOfItsEvent) (a : Account) (s : Scenario) (before after end
             omega (arith, old, new, p.began);
         left = let fell : left_in w' < left_in t.w = falls_by t.w w' t.turn is-more (t.steps.falls (draws s.seed) p.history p.stands) in omega (arith, fell, p.left);
         stands = stands;
+        promises = p.promises;
         begun = begun_on a s before after keeps t;
         kept = h.kept;
         written = h.written;
@@ -277,6 +288,7 @@ module _ (law : EachIsOfItsEvent) (a : Account) (s : Scenario) (before after end
             omega (arith, at, now, most, time, p.began);
         left = let whole : left_in w' ≤ LEFT_MAX = stands.most in omega (arith, whole, p.left);
         stands = stands;
+        promises = p.promises;
         begun = begun_on a s before after keeps t;
         kept = h.kept;
         written = h.written;
@@ -329,7 +341,7 @@ whole s H n b at end = record {
 }
 
 pub all_played : (a : Account) (s : Scenario) (before after : SinkState) (keeps : Kept) (w : WorldState) (n : ℕ) (p : Played a s before after keeps w n IsFree) → length s.events ≤ n → WholeHistory s p.history
-all_played a s before after keeps w n p end = record { legal = whole s p.history n p.begun.begun p.place end; fits = p.begun.fits }
+all_played a s before after keeps w n p end = record { legal = whole s p.history n p.begun.begun p.place end; fits = p.begun.fits; promised = p.begun.promised }
 
 -- ---- what was written
 
@@ -351,8 +363,8 @@ module _ (a : Account) (s : Scenario) (before after end : SinkState) (keeps : Ke
   )
 
 -- a front of what stands before the first record
-pub none_begun : {E : Type 0} (a : Account) (s : Scenario) (before after : SinkState) (fault : E) → Writing {E = E} before after (a.lines s.topology []) (Err fault) → IsPlayed a s before after (Err Failed)
-none_begun a s before after fault w = (w.cause.failed, some_lines [] (record { begun = tt; fits = omega arith }) w.err)
+pub none_begun : {E : Type 0} (a : Account) (s : Scenario) (before after : SinkState) (fault : E) → Promises s → Writing {E = E} before after (a.lines s.topology []) (Err fault) → IsPlayed a s before after (Err Failed)
+none_begun a s before after fault promises w = (w.cause.failed, some_lines [] (record { begun = tt; fits = omega arith; promised = promises [] tt }) w.err)
 
 module _ (a : Account) (s : Scenario) (before after end : SinkState) (history : List Full) (written : WritesLines before after (a.lines s.topology history)) (quiet : after.faults ≡ before.faults) where
   rose : Rose after.faults end.faults → Rose before.faults end.faults

@@ -5,6 +5,7 @@
 //! - A listener says what it writes of a history (`specs/Account.antt`), and `play` writes exactly that of the one legal
 //!   history of the scenario. Where it can't go on it answers why, and a front of that was written: where the next record
 //!   would make too long a wire, or may want memory, whole lines (`specs/Endings.antt`).
+//! - All that is proved of every history, which `promises` says, is so of each history that these endings speak of.
 //! - Each line begins a piece of its own (`specs/SinkLines.antt`).
 //! - `ReportWriter` writes the report, `TotalsWriter` the totals alone, `CaptureWriter` the capture of the wire: a head,
 //!   and a record for each entry as soon as it was made. It keeps nothing of it but how many entries there were.

@@ -60,6 +60,8 @@ pub fn play<L: Listener, K: Sink>(
     ensures { IsPlayed L.account (record { seed = seed; topology = topology.now; events = events.now }) (K.state out.old) (K.state out.new) result }
 {
     legal::of_its_event();
+    promises::kept_in_scenarios();
+    let _rules = topology.clients();
     let Ok(mut world) = World::new(alloc, topology, seed) else {
         return Err(PlayFault::NoMemory);
     };

@@ -11,12 +11,12 @@ pub returns-in_default : goal.returns-in_default
 returns-in_default g c = (refl, inl (WritesNothing-refl _))
 
 pub returns-in_default-begin : goal.returns-in_default-begin
-returns-in_default-begin g c = played.none_begun g.L.Listener.account (record { seed = c.args.seed; topology = c.args.topology.now; events = c.args.events.now }) _ _ _ (c.in_default-begin.ensures c.args.topology.now c.requires.fresh)
+returns-in_default-begin g c = played.none_begun g.L.Listener.account (record { seed = c.args.seed; topology = c.args.topology.now; events = c.args.events.now }) _ _ _ (λ H begun. c.kept_in_scenarios.ensures (record { seed = c.args.seed; topology = c.args.topology.now; events = c.args.events.now }) H c.clients-rules.ensures.rules c.requires.legal begun) (c.in_default-begin.ensures c.args.topology.now c.requires.fresh)
 
 pub loop-index-init : goal.loop-index-init
 loop-index-init g c =
     let begun = c.in-Ok-begin.ensures c.args.topology.now c.requires.fresh in
-    played.nothing_played g.L.Listener.account (record { seed = c.args.seed; topology = c.args.topology.now; events = c.args.events.now }) (g.K.Sink.state c.args.out.now) _ (g.L.Listener.keeps c.args.listener.now) c.in-Ok.world c.in-Ok.ensures.topology c.in-Ok.ensures.goes_on c.in-Ok.ensures.stands c.requires.fresh begun.ok begun.cause.kept
+    played.nothing_played g.L.Listener.account (record { seed = c.args.seed; topology = c.args.topology.now; events = c.args.events.now }) (g.K.Sink.state c.args.out.now) _ (g.L.Listener.keeps c.args.listener.now) c.in-Ok.world (λ H begun. c.kept_in_scenarios.ensures (record { seed = c.args.seed; topology = c.args.topology.now; events = c.args.events.now }) H c.clients-rules.ensures.rules c.requires.legal begun) c.in-Ok.ensures.topology c.in-Ok.ensures.goes_on c.in-Ok.ensures.stands c.requires.fresh begun.ok begun.cause.kept
 
 pub loop-turn-init : goal.loop-turn-init
 loop-turn-init g c = played.event_begins g.L.Listener.account (record { seed = c.args.seed; topology = c.args.topology.now; events = c.args.events.now }) _ _ _ _ _ c.event-item.result c.loop-index.invariant
