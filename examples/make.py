@@ -163,6 +163,9 @@ PACKETS = {
         bubble('2001:db8::2', OWN),
         *[packet(NATIVE, OWN, DATA, b'hello')] * 4,
     ],
+    'scenarios/borrowed_source.toml': [
+        packet(source, OWN, DATA, b'hello') for source in (FRIEND, teredo('192.0.2.1', '198.51.100.2:1024', cone=True))
+    ],
     'scenarios/random_flags.toml': [
         packet(NATIVE, teredo('192.0.2.1', f'198.51.100.{nat}:1024', cone=True), UDP, b'hello', hop=64) for nat in (1, 2)
     ],

@@ -1,4 +1,4 @@
-//! Two clients behind NATs of their own, played by `run`: how they meet, and what a spoofed datagram does.
+//! Two clients behind NATs of their own, played by `run`: how they meet, and what datagrams of strangers do.
 use crate::nets::{CLIENT, CONE_NAT, OTHER_CLIENT, OTHER_NAT, PORT_NAT, SERVER};
 use crate::runs::{Scene, plays_so};
 use std::test::Fail;
@@ -138,6 +138,20 @@ const SPOOFED_REPORT: &str = "0 0 0 tick a rs_cone #0=198.51.100.1:1024>192.0.2.
      18 12000 12 deliver:10 a mismatch\n\
      total records 19 entries 11 delivered 8 handed 1 kept 0 dropped 1\n";
 
+/// The first qualifies, and a stranger sends to it from the endpoint that his source embeds.
+const A_STRANGER_SENDS: &str = r#""advance 0", "next", "next",
+       "stranger 203.0.113.5:9 198.51.100.1:1024 600000000001fd4020010000c00002010000fff634ff8efa20010000c00002018000fbff39cc9bfe07",
+       "deliver 2""#;
+
+/// Who has the endpoint that a Teredo address embeds may send from there, with that address.
+const STRANGER_REPORT: &str = "0 0 0 tick a rs_cone #0=198.51.100.1:1024>192.0.2.1:3544/61\n\
+     1 0 0 advance - done\n\
+     2 0 1 deliver:0 s1 advert #1=192.0.2.2:3544>198.51.100.1:1024/117\n\
+     3 0 2 deliver:1 a qualified_cone is 2001:0:c000:201:8000:fbff:39cc:9bfe\n\
+     4 0 3 stranger - put #2=203.0.113.5:9>198.51.100.1:1024/41\n\
+     5 0 4 deliver:2 a rule3 handed/41\n\
+     total records 6 entries 3 delivered 3 handed 1 kept 0 dropped 0\n";
+
 #[test]
 fn peers_meet_through_their_nats(rt: HostRuntime) -> Result<(), Fail> {
     let scenes = [
@@ -160,6 +174,11 @@ fn peers_meet_through_their_nats(rt: HostRuntime) -> Result<(), Fail> {
             nodes: &[SERVER, CONE_NAT, OTHER_NAT, CLIENT, OTHER_CLIENT],
             events: &[CONE_AND_RESTRICTED, THE_OTHER_SENDS],
             report: SPOOFED_REPORT,
+        },
+        Scene {
+            nodes: &[SERVER, CONE_NAT, CLIENT],
+            events: &[A_STRANGER_SENDS],
+            report: STRANGER_REPORT,
         },
     ];
     for scene in scenes.iter() {
