@@ -47,8 +47,10 @@ begun_before : (lab : Lab) (events : List Event) (later before : List Full) → 
 begun_before lab events [] before begun = begun
 begun_before lab events (r ∷ later) before begun = begun_before lab events later before begun.1
 
-pub scenarios : ((lab : Lab) (events : List Event) (h : List Full) → AllByRecursion (IsEvent lab.topology) events → Begun lab events h → Grown lab h) → HonestScenarios → HistoriesAreKept → ScenariosAreKept
+pub scenarios : ((lab : Lab) (events : List Event) (h : List Full) → AllByRecursion (IsEvent lab.topology) events → Begun lab events h → Grown lab h)
+    → HonestScenarios → HistoriesAreKept → ScenariosAreKept
 scenarios grown honest law s H is events begun = record {
   kept = law (draws s.seed) s.topology H is (grown (lab_of s []) s.events H events begun);
-  honest = λ all later before split. honest s [] before all (begun_before (lab_of s []) s.events later before (subst (Begun (lab_of s []) s.events) split begun));
+  honest = λ all later before split.
+      honest s [] before all (begun_before (lab_of s []) s.events later before (subst (Begun (lab_of s []) s.events) split begun));
 }

@@ -164,5 +164,7 @@ steps laws old new i e (Ok turn) asked turned kept plays = record {
       (stands_on laws d old new H i e turn asked turned kept.ready s (plays d H s));
   time = kept.time;
   entries = kept.entries;
-  promised = λ d H s. laws.promised d old.topology (next_of (flat_lab d old.topology) H i e ∷ H) asked.rules (follows laws.of_event d old H i e asked.event asked.again s, s.grown);
+  promised = λ d H s.
+      let r : Full = next_of (flat_lab d old.topology) H i e in
+      laws.promised d old.topology (r ∷ H) asked.rules (follows laws.of_event d old H i e asked.event asked.again s, s.grown);
 }

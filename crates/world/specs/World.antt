@@ -144,7 +144,8 @@ pub record Steps (old new : WorldState) (index : ℕ) (event : Event) (turn : Tu
   pub time : new.moment ≤ old.began + ADVANCE_MAX_MS
   pub entries : length new.wire ≤ ENTRIES_MAX
   -- all that is proved of every history is so of the one with the record, at each of its records
-  pub promised : (d : Draws) (H : List Full) → StandsFor d old H → KeptThroughout (flat_lab d old.topology) (next_of (flat_lab d old.topology) H index event ∷ H)
+  pub promised : (d : Draws) (H : List Full) → StandsFor d old H
+      → KeptThroughout (flat_lab d old.topology) (next_of (flat_lab d old.topology) H index event ∷ H)
 
 -- WHY IT STOPS
 

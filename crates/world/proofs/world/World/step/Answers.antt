@@ -13,7 +13,13 @@ use Rattle.world.proofs.world.World.step.Goals as goal
 
 pub returns-in-Ok-clause-ok : goal.returns-in-Ok-clause-ok
 returns-in-Ok-clause-ok c =
-    let laws : Laws = record { of_event = c.of_its_event.ensures; told = c.told.ensures; falls = c.falls.ensures; sums = c.due_as_in_the_past.ensures; promised = c.kept.ensures } in
+    let laws : Laws = record {
+      of_event = c.of_its_event.ensures;
+      told = c.told.ensures;
+      falls = c.falls.ensures;
+      sums = c.due_as_in_the_past.ensures;
+      promised = c.kept.ensures;
+    } in
     let open_still = sym (ap (λ (x : WorldState). x.stopped) c.self.view_is) ∙ c.in_default.is in
     let asked : IsAsked c.args.self.now c.args.event.now = record {
       rules = subst (λ (x : WorldState). IsTopology x.topology) c.self.view_is c.self.invariant.rules;
