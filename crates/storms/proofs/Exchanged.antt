@@ -1,0 +1,146 @@
+-- What is undelivered after a delivery.
+use Rattle.std.proofs.Common.{◌≡◌, ◌≤◌, ◌<◌, ℕ, zero, suc, ◌+◌, ◌==◌, ◌||◌, Bool, true, false, cond, List, [], ◌∷◌, ◌++◌, length, Option, Some, None, refl, sym, ap, subst, ◌∙◌, arith}
+use Rattle.std.specs.Prelude.{sum_by, slice_get, unwrap_or, is_some}
+use Rattle.std.proofs.lemmas.Bool.{false≢true}
+use Rattle.std.proofs.lemmas.Bool.Decides.{nat_tests}
+use Rattle.std.proofs.lemmas.List.{length-append}
+use Rattle.std.proofs.lemmas.List.Sums.{sum_by-cons, sum_by-append}
+use Rattle.std.proofs.lemmas.Option.{slice_get_within}
+use Rattle.history.specs.Full.{Item, Full, wire, items_of}
+use Rattle.legal.specs.Lab.{Lab}
+use Rattle.legal.specs.Past.{is_number, was_delivered}
+use Rattle.legal.specs.Kinds.{Kind, quiet, put, copied, ticks, handed, reached, Quiet, passed, shut, strayed, missing, none_left, settled, uncopied, hosted, restarted, forgot, faulted}
+use Rattle.legal.specs.Legal.{Follows, Grown}
+use Rattle.storms.specs.Burden.{undelivered_from, undelivered_items}
+use Rattle.storms.specs.Loads.{DeliveryExchanges}
+
+-- WHAT IS DELIVERED IS THERE
+
+absent : {A : Type 0} (o : Option ℕ) (k : ℕ) → o ≡ None → o ≡ Some k → A
+absent o k none e = absurd (false≢true (ap (λ (z : Option ℕ). is_some z) (sym none ∙ e)))
+
+there : (H : List Full) (o : Option ℕ) (number k : ℕ) (x : Item) → o ≡ Some number → slice_get (wire H) number ≡ Some x → o ≡ Some k → k < length (wire H)
+there H o number k x is at e =
+    let same : number ≡ k = ap (λ (z : Option ℕ). unwrap_or z number) (sym is ∙ e) in
+    subst (λ (n : ℕ). n < length (wire H)) same (slice_get_within (wire H) number x at)
+
+of_quiet : (lab : Lab) (H : List Full) (r : Full) (k : ℕ) → Quiet lab H r → r.delivered ≡ Some k → k < length (wire H)
+of_quiet lab H r k (passed ms asked before is) e = absent r.delivered k (ap (λ (z : Full). z.delivered) is) e
+of_quiet lab H r k (shut number n x delivers at closed is) e = there H r.delivered number k x (ap (λ (z : Full). z.delivered) is) at e
+of_quiet lab H r k (strayed number x delivers at lost is) e = there H r.delivered number k x (ap (λ (z : Full). z.delivered) is) at e
+of_quiet lab H r k (missing number delivers at is) e = absent r.delivered k (ap (λ (z : Full). z.delivered) is) e
+of_quiet lab H r k (none_left asked none is) e = absent r.delivered k (ap (λ (z : Full). z.delivered) is) e
+of_quiet lab H r k (settled asked none is) e = absent r.delivered k (ap (λ (z : Full). z.delivered) is) e
+of_quiet lab H r k (uncopied number src dst asked at is) e = absent r.delivered k (ap (λ (z : Full). z.delivered) is) e
+of_quiet lab H r k (hosted v n x hands at is) e = absent r.delivered k (ap (λ (z : Full). z.delivered) is) e
+of_quiet lab H r k (restarted n asked is) e = absent r.delivered k (ap (λ (z : Full). z.delivered) is) e
+of_quiet lab H r k (forgot n who asked is) e = absent r.delivered k (ap (λ (z : Full). z.delivered) is) e
+of_quiet lab H r k (faulted send asked is) e = absent r.delivered k (ap (λ (z : Full). z.delivered) is) e
+
+is_there : (lab : Lab) (H : List Full) (r : Full) (k : ℕ) → Kind lab H r → r.delivered ≡ Some k → k < length (wire H)
+is_there lab H r k (quiet entry address made let_out why) e = of_quiet lab H r k why e
+is_there lab H r k (put src dst bytes asked is) e = absent r.delivered k (ap (λ (z : Full). z.delivered) is) e
+is_there lab H r k (copied number src dst x asked at is) e = absent r.delivered k (ap (λ (z : Full). z.delivered) is) e
+is_there lab H r k (ticks ms x asked due within is) e = absent r.delivered k (ap (λ (z : Full). z.delivered) is) e
+is_there lab H r k (handed v n x a hands at is) e = absent r.delivered k (ap (λ (z : Full). z.delivered) is) e
+is_there lab H r k (reached number n x a delivers at goes to is) e = there H r.delivered number k x (ap (λ (z : Full). z.delivered) is) at e
+
+-- another number
+other : (j k : ℕ) → k < j → (k == j) ≡ false
+other j k h = grind (arith, nat_tests)
+
+not_number : (j : ℕ) (o : Option ℕ) → ((k : ℕ) → o ≡ Some k → k < j) → is_number j o ≡ false
+not_number j None h = refl
+not_number j (Some k) h = other j k (h k refl)
+
+abbrev pub KindLaw : Type 0
+KindLaw = (lab : Lab) (H : List Full) (r : Full) → Follows lab H r → Kind lab H r
+
+-- what isn't on the wire was never delivered
+never : KindLaw → (lab : Lab) (H : List Full) (j : ℕ) → Grown lab H → length (wire H) ≤ j → was_delivered j H ≡ false
+never law lab [] j g h = refl
+never law lab (r ∷ H) j g h =
+    let whole = length-append (wire H) (items_of r) in
+    let before : length (wire H) ≤ j = omega (arith, h, whole) in
+    let first : is_number j r.delivered ≡ false = not_number j r.delivered (λ k e. let within = is_there lab H r k (law lab H r g.0) e in omega (arith, within, before)) in
+    ap (λ (b : Bool). b || was_delivered j H) first ∙ never law lab H j g.1 before
+
+-- LISTS OF ENTRIES
+
+joined : (G : List Full) (i : ℕ) (xs ys : List Item) → undelivered_from G i (xs ++ ys) ≡ undelivered_from G i xs ++ undelivered_from G (i + length xs) ys
+joined G i [] ys = let same : i ≡ i + 0 = omega arith in ap (λ (n : ℕ). undelivered_from G n ys) same
+joined G i (x ∷ xs) ys =
+    let moved : i + 1 + length xs ≡ i + suc (length xs) = omega arith in
+    let rest = joined G (i + 1) xs ys ∙ ap (λ (n : ℕ). undelivered_from G (i + 1) xs ++ undelivered_from G n ys) moved in
+    by (was_delivered i G) rest
+  where
+    by : (b : Bool) → undelivered_from G (i + 1) (xs ++ ys) ≡ undelivered_from G (i + 1) xs ++ undelivered_from G (i + suc (length xs)) ys
+        → cond b (undelivered_from G (i + 1) (xs ++ ys)) (x ∷ undelivered_from G (i + 1) (xs ++ ys)) ≡ cond b (undelivered_from G (i + 1) xs) (x ∷ undelivered_from G (i + 1) xs) ++ undelivered_from G (i + suc (length xs)) ys
+    by true e = e
+    by false e = ap (λ (zs : List Item). x ∷ zs) e
+
+all_open : (G : List Full) (i : ℕ) (ys : List Item) → ((j : ℕ) → i ≤ j → was_delivered j G ≡ false) → undelivered_from G i ys ≡ ys
+all_open G i [] h = refl
+all_open G i (y ∷ ys) h =
+    let rest = all_open G (i + 1) ys (λ j le. h j (omega (arith, le))) in
+    ap (λ (b : Bool). cond b (undelivered_from G (i + 1) ys) (y ∷ undelivered_from G (i + 1) ys)) (h i (omega arith)) ∙ ap (λ (zs : List Item). y ∷ zs) rest
+
+-- behind the delivered one nothing changes
+behind : (H : List Full) (r : Full) (k i : ℕ) (xs : List Item) → r.delivered ≡ Some k → k < i → undelivered_from (r ∷ H) i xs ≡ undelivered_from H i xs
+behind H r k i [] is h = refl
+behind H r k i (x ∷ xs) is h =
+    let first : is_number i r.delivered ≡ false = ap (is_number i) is ∙ other i k h in
+    let rest = behind H r k (i + 1) xs is (omega (arith, h)) in
+    ap (λ (b : Bool). cond (b || was_delivered i H) (undelivered_from (r ∷ H) (i + 1) xs) (x ∷ undelivered_from (r ∷ H) (i + 1) xs)) first
+    ∙ ap (λ (zs : List Item). cond (was_delivered i H) zs (x ∷ zs)) rest
+
+-- it goes
+taken : (H : List Full) (r : Full) (k : ℕ) (x : Item) (w : Item → ℕ) (i n : ℕ) (xs : List Item) → r.delivered ≡ Some k → was_delivered k H ≡ false → slice_get xs n ≡ Some x → k ≡ i + n
+    → sum_by w (undelivered_from (r ∷ H) i xs) + w x ≡ sum_by w (undelivered_from H i xs)
+taken H r k x w i n [] is fresh at e = absurd (false≢true (ap (λ (o : Option Item). is_some o) at))
+taken H r k x w i zero (y ∷ xs) is fresh at e =
+    let here : k ≡ i = omega (arith, e) in
+    let one : y ≡ x = ap (λ (o : Option Item). unwrap_or o y) at in
+    let now : is_number i r.delivered ≡ true = ap (is_number i) is ∙ same k i here in
+    let before : was_delivered i H ≡ false = ap (λ (m : ℕ). was_delivered m H) (sym here) ∙ fresh in
+    let rest = behind H r k (i + 1) xs is (omega (arith, here)) in
+    let left : undelivered_from (r ∷ H) i (y ∷ xs) ≡ undelivered_from H (i + 1) xs =
+    ap (λ (b : Bool). cond (b || was_delivered i H) (undelivered_from (r ∷ H) (i + 1) xs) (y ∷ undelivered_from (r ∷ H) (i + 1) xs)) now ∙ rest in
+    let right : undelivered_from H i (y ∷ xs) ≡ y ∷ undelivered_from H (i + 1) xs = ap (λ (b : Bool). cond b (undelivered_from H (i + 1) xs) (y ∷ undelivered_from H (i + 1) xs)) before in
+    let a = ap (sum_by w) left in
+    let b = ap (sum_by w) right in
+    let c = sum_by-cons w y (undelivered_from H (i + 1) xs) in
+    let f = ap w one in
+    omega (arith, a, b, c, f)
+  where
+    same : (m j : ℕ) → m ≡ j → (m == j) ≡ true
+    same m j g = grind (arith, nat_tests)
+taken H r k x w i (suc n) (y ∷ xs) is fresh at e =
+    let first : is_number i r.delivered ≡ false = ap (is_number i) is ∙ later i k (omega (arith, e)) in
+    let rest = taken H r k x w (i + 1) n xs is fresh at (omega (arith, e)) in
+    let same : undelivered_from (r ∷ H) i (y ∷ xs) ≡ cond (was_delivered i H) (undelivered_from (r ∷ H) (i + 1) xs) (y ∷ undelivered_from (r ∷ H) (i + 1) xs) =
+    ap (λ (b : Bool). cond (b || was_delivered i H) (undelivered_from (r ∷ H) (i + 1) xs) (y ∷ undelivered_from (r ∷ H) (i + 1) xs)) first in
+    ap (λ (zs : List Item). sum_by w zs + w x) same ∙ by (was_delivered i H) rest
+  where
+    later : (j m : ℕ) → j < m → (m == j) ≡ false
+    later j m g = grind (arith, nat_tests)
+
+    by : (b : Bool) → sum_by w (undelivered_from (r ∷ H) (i + 1) xs) + w x ≡ sum_by w (undelivered_from H (i + 1) xs)
+        → sum_by w (cond b (undelivered_from (r ∷ H) (i + 1) xs) (y ∷ undelivered_from (r ∷ H) (i + 1) xs)) + w x ≡ sum_by w (cond b (undelivered_from H (i + 1) xs) (y ∷ undelivered_from H (i + 1) xs))
+    by true h = h
+    by false h =
+        let a = sum_by-cons w y (undelivered_from (r ∷ H) (i + 1) xs) in
+        let b = sum_by-cons w y (undelivered_from H (i + 1) xs) in
+        omega (arith, a, b, h)
+
+pub exchanges : KindLaw → DeliveryExchanges
+exchanges law lab H r k x g is fresh at w =
+    let G : List Full = r ∷ H in
+    let whole = length-append (wire H) (items_of r) in
+    let split : undelivered_items G ≡ undelivered_from G 0 (wire H) ++ undelivered_from G (0 + length (wire H)) (items_of r) = joined G 0 (wire H) (items_of r) in
+    let fresh_ones : (j : ℕ) → 0 + length (wire H) ≤ j → was_delivered j G ≡ false = λ j le.
+    ap (λ (b : Bool). b || was_delivered j H) (not_number j r.delivered (λ m e. let within = is_there lab H r m (law lab H r g.0) e in omega (arith, within, le))) ∙ never law lab H j g.1 (omega (arith, le)) in
+    let new : undelivered_from G (0 + length (wire H)) (items_of r) ≡ items_of r = all_open G (0 + length (wire H)) (items_of r) fresh_ones in
+    let old = taken H r k x w 0 k (wire H) is fresh at (omega arith) in
+    let sums = ap (sum_by w) (split ∙ ap (λ (zs : List Item). undelivered_from G 0 (wire H) ++ zs) new) ∙ sum_by-append w (undelivered_from G 0 (wire H)) (items_of r) in
+    omega (arith, old, sums)

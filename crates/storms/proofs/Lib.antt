@@ -1,0 +1,4 @@
+mod Weighed
+mod Exchanged
+mod Ending
+mod Settles

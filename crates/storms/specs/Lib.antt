@@ -1,0 +1,4 @@
+pub mod Weights
+pub mod Burden
+pub mod Deliveries
+pub mod Loads
