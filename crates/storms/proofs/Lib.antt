@@ -2,3 +2,8 @@ mod Weighed
 mod Exchanged
 mod Ending
 mod Settles
+mod PeersWait
+mod NodesWait
+mod Places
+mod Freights
+mod AtServers

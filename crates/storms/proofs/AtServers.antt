@@ -1,0 +1,171 @@
+-- What a datagram weighs at a server: what its table makes of the packet.
+use Rattle.std.proofs.Common.{◌≡◌, ◌≤◌, ℕ, ◌+◌, ◌&&◌, ◌||◌, Bool, true, false, cond, List, [], ◌∷◌, drop, Option, Some, None, Result, Ok, refl, sym, ap, subst, ◌∙◌, arith}
+use Rattle.std.specs.Prelude.{sum_by, slice_index}
+use Rattle.std.proofs.lemmas.Bool.{false≢true, and_parts, and_right, eqb-true, false_from_ne_true}
+use Rattle.std.proofs.lemmas.Bool.Decides.{nat_tests}
+use Rattle.std.proofs.lemmas.List.{take_rest}
+use Rattle.td_base.specs.Bytes.{IsBytes}
+use Rattle.td_base.specs.Ip4.{same_ip}
+use Rattle.td_base.specs.Ip6.{same_ip6, same_ip6-true}
+use Rattle.td_base.specs.Ep.{IsEp}
+use Rattle.td_base.specs.Reach.{is_link_local}
+use Rattle.td_base.specs.declared.ipv6.Ip6.{Ip6}
+use Rattle.td_base.specs.declared.endpoint.Ep.{Ep}
+use Rattle.td_base.specs.declared.side.Side.{Side}
+use Rattle.td_base.specs.declared.side.Side.TheVariants.{Primary}
+use Rattle.ipv6_packet.specs.Packets.{Fields}
+use Rattle.ipv6_packet.specs.Reads.{fields_in}
+use Rattle.icmp6.specs.Message.{Message}
+use Rattle.teredo_addr.specs.Teredo.{is_teredo, server_in, embedded}
+use Rattle.teredo_addr.specs.declared.local.TheConstants.{ALL_ROUTERS}
+use Rattle.bubble.specs.Payloads.{Value, payload_at, value_written}
+use Rattle.bubble.specs.Bubbles.{is_bubble}
+use Rattle.bubble.specs.Messages.{message_in}
+use Rattle.bubble.specs.Reads.{value_in}
+use Rattle.bubble.specs.Laws.{ReadsPayload}
+use Rattle.bubble.specs.declared.fault.PayloadFault.{PayloadFault}
+use Rattle.teredo_node.specs.Step.{Send, Step, part, rest_of}
+use Rattle.client_rules.proofs.PayloadPackets.{same_fields}
+use Rattle.server_core.specs.declared.rules.Rule.{Rule}
+use Rattle.server_core.specs.declared.rules.Rule.TheVariants.{Dropped, Advert, ForwardOrigin, Forward, Six}
+use Rattle.server_core.specs.Conditions.{is_own, is_solicit, is_solicitation, is_for_client, is_looped}
+use Rattle.server_core.specs.Laws.{ForwardedReadsBack}
+use Rattle.server_core.specs.Outgoing.{send_from}
+use Rattle.server_core.specs.Outputs.{forwarded}
+use Rattle.server_core.specs.Rules.{seen, rule_of}
+use Rattle.server_core.specs.RuleWarrants.{GoesOn, GoesToOwn, GoesToOther, GoesToSix, RuledOnlyIf, RuleIsWarranted}
+use Rattle.server_core.specs.Server.{step_of, by_payload, server_row}
+use Rattle.topology.specs.declared.server_node.ServerNode.{ServerNode}
+use Rattle.topology.specs.Rows.{TopologyState}
+use Rattle.topology.specs.declared.node.Node.TheVariants.{Server as server}
+use Rattle.topology.specs.Topology.{own_ep}
+use Rattle.legal.specs.Settings.{server_settings}
+use Rattle.storms.specs.Weights.{is_some_server, is_echo_request, packet_weight, datagram_weight, send_weight, six_weight, output_weight}
+use Rattle.storms.proofs.Freights.{load, load_is, bubble_load, told_bubble_load, teredo_load, packet_under, bubble_weight}
+
+pub record RowLaws : Type 0 where
+  pub warranted : RuleIsWarranted
+  pub goes : ForwardedReadsBack
+
+-- THE RULES
+
+-- what each rule would bring is no more than k
+record IsUnder (t : TopologyState) (a : ServerNode) (from : Ep) (v : Value) (k : ℕ) : Type 0 where
+  plain : is_solicitation v.packet ≡ false
+  own : GoesToOwn (seen (server_settings a) from v) → (1 ≤ k) × (load t (own_ep (server a) Primary) (embedded v.packet.dst) (Some from) v.packet ≤ k)
+  other : GoesToOther (seen (server_settings a) from v) → (1 ≤ k) × (load t (own_ep (server a) Primary) (embedded v.packet.dst) None v.packet ≤ k)
+  six : GoesToSix (seen (server_settings a) from v) → packet_weight false v.packet ≤ k
+
+sent_on : (t : TopologyState) (a : ServerNode) (s : Send) (k : ℕ) (origin : Option Ep) (p : Fields) → ReadsPayload (value_written None origin p) s.bytes → 1 ≤ k → load t (own_ep (server a) s.side) s.to origin p ≤ k → send_weight t (server a) s ≤ k
+sent_on t a s k origin p reads one less = by (is_some_server t s.to) (load_is t (own_ep (server a) s.side) s.to origin p s.bytes reads) where
+  by : (b : Bool) → datagram_weight t (own_ep (server a) s.side) s.to s.bytes ≡ load t (own_ep (server a) s.side) s.to origin p → cond b 1 (datagram_weight t (own_ep (server a) s.side) s.to s.bytes) ≤ k
+  by true is = one
+  by false is = omega (arith, is, less)
+
+-- the packet in a datagram
+packet_is : (x : List ℕ) (v : Value) → ReadsPayload v x → fields_in (part x (rest_of v.lead.at x)) ≡ v.packet
+packet_is x v reads =
+    ap fields_in (take_rest x v.lead.at) ∙ ap (λ (w : Value). fields_in (drop w.lead.at x)) (sym reads.value) ∙ same_fields x reads.is_one ∙ ap (λ (w : Value). w.packet) reads.value
+
+module _ (laws : RowLaws) (t : TopologyState) (a : ServerNode) (side : Side) (from : Ep) (x : List ℕ) (v : Value) (reads : ReadsPayload v x) (bytes : IsBytes x) (made : IsEp from) where
+  by_rule : (k : ℕ) (r : Rule) → RuledOnlyIf r (seen (server_settings a) from v) → IsUnder t a from v k → output_weight t (server a) x (step_of (server_settings a) side from x v r) ≤ k
+  by_rule k (Dropped f) w u = omega arith
+  by_rule k Advert w u = absurd (false≢true (sym u.plain ∙ w.solicitation))
+  by_rule k ForwardOrigin w u =
+      let both = u.own w in
+      let one = sent_on t a (send_from Primary (embedded v.packet.dst) (forwarded (Some from) (drop v.lead.at x))) k (Some from) v.packet (laws.goes x v (Some from) bytes reads.read w.on.sound.short made) both.0 both.1 in
+      omega (arith, one)
+  by_rule k Forward w u =
+      let both = u.other w in
+      let one = sent_on t a (send_from Primary (embedded v.packet.dst) (forwarded None (drop v.lead.at x))) k None v.packet (laws.goes x v None bytes reads.read w.on.sound.short tt) both.0 both.1 in
+      omega (arith, one)
+  by_rule k Six w u =
+      let less = u.six w in
+      let is = ap (packet_weight false) (packet_is x v reads) in
+      omega (arith, less, is)
+
+  output_under : (k : ℕ) → IsUnder t a from v k → output_weight t (server a) x (server_row (server_settings a) side from x) ≤ k
+  unfolding server_row
+  output_under k u = subst (λ (r : Result Value PayloadFault). output_weight t (server a) x (by_payload (server_settings a) side from x r) ≤ k) (sym reads.read)
+      (by_rule k (rule_of (server_settings a) from v) (laws.warranted (server_settings a) from v) u)
+
+-- NO SOLICITATION
+
+by_message : (p : Fields) → is_solicit (message_in p) ≡ false → is_solicitation p ≡ false
+unfolding is_solicitation
+by_message p h = and_right (is_link_local p.src && same_ip6 p.dst ALL_ROUTERS) (is_solicit (message_in p)) h
+
+not_teredo : (ip : Ip6) → is_link_local ip ≡ true → is_teredo ip ≡ true → ⊥
+unfolding is_link_local is_teredo
+not_teredo ip h g =
+    let first : slice_index ip.0 0 ≡ 0xfe = eqb-true (slice_index ip.0 0) 0xfe (and_parts _ _ h).0 in
+    false≢true (sym (grind (arith, nat_tests)) ∙ g)
+
+by_source : (p : Fields) → is_teredo p.src ≡ true → is_solicitation p ≡ false
+unfolding is_solicitation
+by_source p h = false_from_ne_true _ (λ (e : is_link_local p.src && same_ip6 p.dst ALL_ROUTERS && is_solicit (message_in p) ≡ true). not_teredo p.src ((and_parts _ _ (and_parts _ _ e).0).0) h)
+
+routers : is_teredo ALL_ROUTERS ≡ false
+unfolding is_teredo
+routers = refl
+
+by_destination : (p : Fields) → is_teredo p.dst ≡ true → is_solicitation p ≡ false
+unfolding is_solicitation
+by_destination p h = false_from_ne_true _ (λ (e : is_link_local p.src && same_ip6 p.dst ALL_ROUTERS && is_solicit (message_in p) ≡ true).
+    false≢true (sym routers ∙ ap is_teredo (sym (same_ip6-true p.dst ALL_ROUTERS ((and_parts _ _ (and_parts _ _ e).0).1))) ∙ h))
+
+-- KINDS OF PACKETS
+
+for_teredo : (a : ServerNode) (p : Fields) → is_for_client (server_settings a) p ≡ true → is_teredo p.dst ≡ true
+unfolding is_for_client
+for_teredo a p h = (and_parts (is_teredo p.dst) (same_ip (server_in p.dst) a.primary) h).0
+
+loops : (a : ServerNode) (p : Fields) → is_teredo p.dst ≡ true → is_own (server_settings a) (embedded p.dst).ip ≡ true → is_looped (server_settings a) p ≡ true
+unfolding is_looped
+loops a p teredo own = ap (λ (b : Bool). b && is_own (server_settings a) (embedded p.dst).ip) teredo ∙ own
+
+abbrev bare : Fields → Value
+bare p = value_written None None p
+
+module _ (laws : RowLaws) (t : TopologyState) (a : ServerNode) (side : Side) (from : Ep) (x : List ℕ) (p : Fields) (reads : ReadsPayload (value_written None None p) x) (bytes : IsBytes x) (made : IsEp from) where
+  abbrev output : ℕ
+  output = output_weight t (server a) x (server_row (server_settings a) side from x)
+
+  under : (k : ℕ) → IsUnder t a from (bare p) k → output ≤ k
+  under k u = output_under laws t a side from x (bare p) reads bytes made k u
+
+  -- a packet of a Teredo address
+  pub teredo_there : is_teredo p.src ≡ true → is_bubble p ≡ false → output ≤ 7
+  teredo_there teredo plain = under 7 (record {
+    plain = by_source p teredo;
+    own = λ w. (omega arith, teredo_load t (own_ep (server a) Primary) (embedded p.dst) (Some from) p teredo plain);
+    other = λ w. (omega arith, teredo_load t (own_ep (server a) Primary) (embedded p.dst) None p teredo plain);
+    six = λ w. let six = packet_under p 6 (omega arith) (λ _. omega arith) in omega (arith, six);
+  })
+
+  -- one for an address that embeds the server's own draws nothing
+  pub looped_there : is_teredo p.dst ≡ true → is_own (server_settings a) (embedded p.dst).ip ≡ true → output ≤ 0
+  looped_there teredo own = under 0 (record {
+    plain = by_destination p teredo;
+    own = λ w. absurd (false≢true (sym w.on.unlooped ∙ loops a p teredo own));
+    other = λ w. absurd (false≢true (sym w.on.unlooped ∙ loops a p teredo own));
+    six = λ w. absurd (false≢true (sym w.on.unlooped ∙ loops a p teredo own));
+  })
+
+  -- to a native host goes the packet alone
+  pub native_there : (k : ℕ) → is_teredo p.dst ≡ false → is_solicit (message_in p) ≡ false → packet_weight false p ≤ k → output ≤ k
+  native_there k native plain less = under k (record {
+    plain = by_message p plain;
+    own = λ w. absurd (false≢true (sym native ∙ for_teredo a p w.for_client));
+    other = λ w. absurd (false≢true (sym native ∙ w.for_teredo));
+    six = λ _. less;
+  })
+
+  -- a bubble from elsewhere than a server
+  pub bubble_there : is_bubble p ≡ true → is_solicit (message_in p) ≡ false → is_some_server t from ≡ false → output ≤ 2
+  bubble_there bubble plain elsewhere = under 2 (record {
+    plain = by_message p plain;
+    own = λ w. (omega arith, told_bubble_load t (own_ep (server a) Primary) (embedded p.dst) from p bubble elsewhere);
+    other = λ w. let one = bubble_load t (own_ep (server a) Primary) (embedded p.dst) p bubble in (omega arith, omega (arith, one));
+    six = λ w. let one = bubble_weight p bubble in omega (arith, one);
+  })

@@ -1,0 +1,128 @@
+-- What a datagram weighs by its origin and its packet, where it isn't for a server.
+use Rattle.std.proofs.Common.{◌≡◌, ◌≤◌, ℕ, ◌&&◌, ◌==◌, not, Bool, true, false, cond, List, [], ◌∷◌, length, Option, Some, None, Result, Ok, Err, refl, sym, ap, subst, ◌∙◌, arith}
+use Rattle.std.specs.Prelude.{is_some}
+use Rattle.std.specs.List.{list_any}
+use Rattle.std.proofs.lemmas.Bool.{false≢true, and_parts, eqb-true}
+use Rattle.std.proofs.lemmas.Bool.Decides.{nat_tests}
+use Rattle.td_base.specs.Reach.{is_global6}
+use Rattle.td_base.specs.declared.endpoint.Ep.{Ep}
+use Rattle.ipv6_packet.specs.Packets.{Fields}
+use Rattle.ipv6_packet.specs.declared.header.TheConstants.{NEXT_ICMP, NEXT_NONE}
+use Rattle.icmp6.specs.Message.{Message, message_at}
+use Rattle.icmp6.specs.declared.fault.IcmpFault.{IcmpFault}
+use Rattle.teredo_addr.specs.Teredo.{is_teredo}
+use Rattle.indications.specs.Leads.{origin_in}
+use Rattle.bubble.specs.Payloads.{Value, value_written}
+use Rattle.bubble.specs.Bubbles.{is_bubble}
+use Rattle.bubble.specs.Messages.{accepted, message_in, is_echo_reply}
+use Rattle.bubble.specs.Reads.{is_payload, value_in}
+use Rattle.bubble.specs.Laws.{ReadsPayload}
+use Rattle.teredo_node.proofs.FirstLines.{by_lines}
+use Rattle.topology.specs.Rows.{TopologyState}
+use Rattle.topology.specs.Topology.{nodes}
+use Rattle.storms.specs.Weights.{is_nat_at, is_relay_at, is_some_server, is_origin_at_server, is_echo_request, packet_weight, Freight, freight, freight_weight, datagram_weight}
+
+-- ITS LINES
+
+-- no more than k, where no line that holds has more
+pub freight_under : (a : Freight) (k : ℕ) → 1 ≤ k → (a.indirect ≡ true → a.origin_at_server ≡ true → 3 ≤ k) → (a.indirect ≡ true → 2 ≤ k) → (a.foreign ≡ true → 8 ≤ k) → (a.for_relay ≡ true → 7 ≤ k) → freight_weight a ≤ k
+freight_under a k one at_server indirect foreign for_relay = by_lines (λ (w : ℕ). w ≤ k) ((a.indirect && a.origin_at_server, 3) ∷ (a.indirect, 2) ∷ (a.foreign, 8) ∷ (a.for_relay, 7) ∷ []) 1
+    ((λ h. let both = and_parts a.indirect a.origin_at_server h in at_server both.0 both.1), (λ _. (indirect, (λ _. (foreign, (λ _. (for_relay, (λ _. one))))))))
+
+-- what two conditions ask of the packet
+second : (a b : Bool) → (a && b) ≡ true → b ≡ true
+second a b h = (and_parts a b h).1
+
+no : {A : Type 0} (b : Bool) → b ≡ true → b ≡ false → A
+no b is none = absurd (false≢true (sym none ∙ is))
+
+not_no : {A : Type 0} (b : Bool) → not b ≡ true → b ≡ true → A
+not_no b h is = absurd (by b h is) where
+  by : (c : Bool) → not c ≡ true → c ≡ true → ⊥
+  by true g e = false≢true g
+  by false g e = false≢true e
+
+module _ (t : TopologyState) (src dst : Ep) where
+  -- of a payload with this origin and this packet
+  abbrev pub load : Option Ep → Fields → ℕ
+  load origin p = freight_weight (freight t src dst true (value_written None origin p))
+
+  pub load_is : (origin : Option Ep) (p : Fields) (x : List ℕ) → ReadsPayload (value_written None origin p) x → datagram_weight t src dst x ≡ load origin p
+  unfolding datagram_weight
+  load_is origin p x reads =
+      ap (λ (b : Bool). freight_weight (freight t src dst b (value_in x))) reads.is_one ∙ ap (λ (v : Value). freight_weight (freight t src dst true v)) reads.value
+
+  abbrev to_nat : Bool
+  to_nat = true && list_any (is_nat_at dst) (nodes t)
+
+  -- an indirect one is a bubble, with an origin
+  indirect_bubble : (p : Fields) (o : Bool) → (to_nat && (is_some_server t src && (is_bubble p && o))) ≡ true → is_bubble p ≡ true
+  indirect_bubble p o h = (and_parts (is_bubble p) o (second (is_some_server t src) (is_bubble p && o) (second to_nat (is_some_server t src && (is_bubble p && o)) h))).0
+
+  indirect_origin : (p : Fields) (o : Bool) → (to_nat && (is_some_server t src && (is_bubble p && o))) ≡ true → o ≡ true
+  indirect_origin p o h = second (is_bubble p) o (second (is_some_server t src) (is_bubble p && o) (second to_nat (is_some_server t src && (is_bubble p && o)) h))
+
+  -- what a foreign one isn't
+  record IsForeign (p : Fields) : Type 0 where
+    native : not (is_teredo p.src) ≡ true
+    no_bubble : not (is_bubble p) ≡ true
+    no_reply : not (is_echo_reply (message_in p)) ≡ true
+
+  foreign_is : (p : Fields) → (to_nat && (is_global6 p.src && (not (is_teredo p.src) && (not (is_bubble p) && not (is_echo_reply (message_in p)))))) ≡ true → IsForeign p
+  foreign_is p h =
+      let rest = second (is_global6 p.src) (not (is_teredo p.src) && (not (is_bubble p) && not (is_echo_reply (message_in p))))
+      (second to_nat (is_global6 p.src && (not (is_teredo p.src) && (not (is_bubble p) && not (is_echo_reply (message_in p))))) h) in
+      let both = and_parts (not (is_teredo p.src)) (not (is_bubble p) && not (is_echo_reply (message_in p))) rest in
+      let two = and_parts (not (is_bubble p)) (not (is_echo_reply (message_in p))) both.1 in
+      record { native = both.0; no_bubble = two.0; no_reply = two.1 }
+
+  -- one for a relay
+  record IsForRelay (p : Fields) : Type 0 where
+    teredo : is_teredo p.src ≡ true
+    no_bubble : not (is_bubble p) ≡ true
+
+  for_relay_is : (p : Fields) → (true && (list_any (is_relay_at dst) (nodes t) && (is_teredo p.src && not (is_bubble p)))) ≡ true → IsForRelay p
+  for_relay_is p h =
+      let both = and_parts (is_teredo p.src) (not (is_bubble p)) (second (list_any (is_relay_at dst) (nodes t)) (is_teredo p.src && not (is_bubble p)) h) in
+      record { teredo = both.0; no_bubble = both.1 }
+
+  -- a bubble with nothing in front
+  pub bubble_load : (p : Fields) → is_bubble p ≡ true → load None p ≤ 1
+  bubble_load p bubble = freight_under (freight t src dst true (value_written None None p)) 1 (omega arith)
+      (λ h _. absurd (false≢true (indirect_origin p false h))) (λ h. absurd (false≢true (indirect_origin p false h)))
+      (λ h. not_no (is_bubble p) (foreign_is p h).no_bubble bubble) (λ h. not_no (is_bubble p) (for_relay_is p h).no_bubble bubble)
+
+  -- behind an origin that isn't a server's
+  pub told_bubble_load : (o : Ep) (p : Fields) → is_bubble p ≡ true → is_some_server t o ≡ false → load (Some o) p ≤ 2
+  told_bubble_load o p bubble elsewhere = freight_under (freight t src dst true (value_written None (Some o) p)) 2 (omega arith)
+      (λ _ h. no (is_some_server t o) h elsewhere) (λ _. omega arith)
+      (λ h. not_no (is_bubble p) (foreign_is p h).no_bubble bubble) (λ h. not_no (is_bubble p) (for_relay_is p h).no_bubble bubble)
+
+  -- a packet of a Teredo address, behind any origin
+  pub teredo_load : (origin : Option Ep) (p : Fields) → is_teredo p.src ≡ true → is_bubble p ≡ false → load origin p ≤ 7
+  teredo_load origin p teredo plain = freight_under (freight t src dst true (value_written None origin p)) 7 (omega arith)
+      (λ h _. no (is_bubble p) (indirect_bubble p (is_some (origin_in (value_written None origin p).lead)) h) plain)
+      (λ h. no (is_bubble p) (indirect_bubble p (is_some (origin_in (value_written None origin p).lead)) h) plain)
+      (λ h. not_no (is_teredo p.src) (foreign_is p h).native teredo) (λ _. omega arith)
+
+  -- an echo reply from outside Teredo
+  pub reply_load : (p : Fields) → is_teredo p.src ≡ false → is_echo_reply (message_in p) ≡ true → load None p ≤ 1
+  reply_load p native reply = freight_under (freight t src dst true (value_written None None p)) 1 (omega arith)
+      (λ h _. absurd (false≢true (indirect_origin p false h))) (λ h. absurd (false≢true (indirect_origin p false h)))
+      (λ h. not_no (is_echo_reply (message_in p)) (foreign_is p h).no_reply reply) (λ h. no (is_teredo p.src) (for_relay_is p h).teredo native)
+
+-- PACKETS OF THE IPV6 SIDE
+
+pub packet_under : (p : Fields) (k : ℕ) → 1 ≤ k → (is_echo_request (message_in p) ≡ true → 6 ≤ k) → packet_weight false p ≤ k
+packet_under p k one request = by_lines (λ (w : ℕ). w ≤ k) ((is_echo_request (message_in p) && is_teredo p.src, 6) ∷ (is_echo_request (message_in p) && is_global6 p.src, 2) ∷ []) 1
+    ((λ h. request (and_parts (is_echo_request (message_in p)) (is_teredo p.src) h).0), (λ _. ((λ h. let six = request (and_parts (is_echo_request (message_in p)) (is_global6 p.src) h).0 in omega (arith, six)), (λ _. one))))
+
+-- a bubble has no message
+pub bubble_message : (p : Fields) → is_bubble p ≡ true → message_in p ≡ None
+unfolding is_bubble message_in
+bubble_message p h =
+    let next : p.next ≡ NEXT_NONE = eqb-true p.next NEXT_NONE (and_parts (length p.body == 0) (p.next == NEXT_NONE) h).1 in
+    ap (λ (n : ℕ). cond (n == NEXT_ICMP) (accepted (message_at p.src p.dst p.hop p.body)) None) next
+
+pub bubble_weight : (p : Fields) → is_bubble p ≡ true → packet_weight false p ≤ 1
+bubble_weight p h = packet_under p 1 (omega arith) (λ request. absurd (false≢true (sym (ap is_echo_request (bubble_message p h)) ∙ request)))
