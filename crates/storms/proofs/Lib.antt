@@ -7,3 +7,7 @@ mod NodesWait
 mod Places
 mod Freights
 mod AtServers
+mod Addresses
+mod Sent
+mod NewItems
+mod FromServers

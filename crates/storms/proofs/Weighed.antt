@@ -43,7 +43,7 @@ freight_most : (a : Freight) → freight_weight a ≤ 8
 freight_most a = by_lines (λ (w : ℕ). w ≤ 8) ((a.indirect && a.origin_at_server, 3) ∷ (a.indirect, 2) ∷ (a.foreign, 8) ∷ (a.for_relay, 7) ∷ []) 1
     ((λ _. omega arith), (λ _. ((λ _. omega arith), (λ _. ((λ _. omega arith), (λ _. ((λ _. omega arith), (λ _. omega arith))))))))
 
-datagram_most : (t : TopologyState) (src dst : Ep) (x : List ℕ) → datagram_weight t src dst x ≤ 8
+pub datagram_most : (t : TopologyState) (src dst : Ep) (x : List ℕ) → datagram_weight t src dst x ≤ 8
 unfolding datagram_weight
 datagram_most t src dst x = freight_most (freight t src dst (is_payload x) (value_in x))
 

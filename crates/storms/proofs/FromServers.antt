@@ -1,0 +1,122 @@
+-- What a server makes of a datagram weighs less than the datagram.
+use Rattle.std.proofs.Common.{◌≡◌, ◌≤◌, ℕ, ◌+◌, ◌||◌, Bool, true, false, cond, List, [], ◌∷◌, Option, Some, None, Result, Ok, Err, refl, sym, ap, subst, ◌∙◌, arith}
+use Rattle.std.specs.Prelude.{sum_by, unwrap_or}
+use Rattle.std.specs.List.{AllByRecursion}
+use Rattle.std.proofs.lemmas.Bool.{false≢true, or_left}
+use Rattle.td_base.specs.Bytes.{IsBytes}
+use Rattle.td_base.specs.Ip4.{IsIp4, same_ip, same_ip-self}
+use Rattle.td_base.specs.Ep.{IsEp}
+use Rattle.td_base.specs.declared.endpoint.Ep.{Ep}
+use Rattle.td_base.specs.declared.side.Side.{Side}
+use Rattle.td_base.specs.declared.side.Side.TheVariants.{Primary, Secondary}
+use Rattle.td_base.specs.declared.span.Span.{Span}
+use Rattle.bubble.specs.Payloads.{Value, payload_at}
+use Rattle.bubble.specs.declared.fault.PayloadFault.{PayloadFault}
+use Rattle.teredo_node.specs.Step.{Send, Step}
+use Rattle.server_core.specs.declared.rules.Rule.{Rule}
+use Rattle.server_core.specs.declared.rules.Rule.TheVariants.{Dropped, Advert, ForwardOrigin, Forward, Six}
+use Rattle.server_core.specs.AmongServers.{EachEndsAmongServers}
+use Rattle.server_core.specs.Bounds.{IsSilent}
+use Rattle.server_core.specs.Conditions.{is_own}
+use Rattle.server_core.specs.Rules.{seen, rule_of}
+use Rattle.server_core.specs.RuleWarrants.{RuledOnlyIf, RuleIsWarranted}
+use Rattle.server_core.specs.Server.{step_of, by_payload, server_row}
+use Rattle.topology.specs.declared.server_node.ServerNode.{ServerNode}
+use Rattle.topology.specs.Rows.{TopologyState}
+use Rattle.topology.specs.declared.node.Node.{Node}
+use Rattle.topology.specs.declared.node.Node.TheVariants.{Server as server, Nat as nat, Client as client, Relay as relay, Native as native}
+use Rattle.topology.specs.Topology.{nodes, node_at, as_server, side_at, own_ep}
+use Rattle.topology.specs.Rules.{IsTopology}
+use Rattle.topology.specs.NodeRules.{has_address, AddressesAreApart}
+use Rattle.history.specs.Full.{Item, udp}
+use Rattle.legal.specs.Settings.{server_settings}
+use Rattle.storms.specs.Weights.{is_server_at, is_some_server, datagram_weight, send_weight, six_weight, output_weight, weight_at, entry_weight}
+use Rattle.storms.proofs.Places.{first_at, IsThere, is_there, first_is, any_there, ServerThere, server_there}
+use Rattle.storms.proofs.NewItems.{WeighsFrom}
+
+pub record FromLaws : Type 0 where
+  pub apart : AddressesAreApart
+  pub warranted : RuleIsWarranted
+  pub ends : EachEndsAmongServers
+
+-- FROM ONE SERVER TO ANOTHER
+
+-- what comes from the server itself draws nothing
+own_rule : (t : TopologyState) (a : ServerNode) (side : Side) (from : Ep) (x : List ℕ) (v : Value) (r : Rule) → is_own (server_settings a) from.ip ≡ true → RuledOnlyIf r (seen (server_settings a) from v) → output_weight t (server a) x (step_of (server_settings a) side from x v r) ≤ 0
+own_rule t a side from x v (Dropped f) own w = omega arith
+own_rule t a side from x v Advert own w = absurd (false≢true (sym w.sound.foreign ∙ own))
+own_rule t a side from x v ForwardOrigin own w = absurd (false≢true (sym w.on.sound.foreign ∙ own))
+own_rule t a side from x v Forward own w = absurd (false≢true (sym w.on.sound.foreign ∙ own))
+own_rule t a side from x v Six own w = absurd (false≢true (sym w.on.sound.foreign ∙ own))
+
+own_draws : RuleIsWarranted → (t : TopologyState) (a : ServerNode) (side : Side) (from : Ep) (x : List ℕ) → is_own (server_settings a) from.ip ≡ true → output_weight t (server a) x (server_row (server_settings a) side from x) ≤ 0
+unfolding server_row
+own_draws law t a side from x own = by (payload_at x) where
+  by : (r : Result Value PayloadFault) → output_weight t (server a) x (by_payload (server_settings a) side from x r) ≤ 0
+  by (Ok v) = own_rule t a side from x v (rule_of (server_settings a) from v) own (law (server_settings a) from v)
+  by (Err f) = omega arith
+
+silent_draws : (t : TopologyState) (a : ServerNode) (x : List ℕ) (step : Step) → IsSilent step → output_weight t (server a) x step ≤ 0
+silent_draws t a x step silent =
+    let sends = ap (λ (ss : List Send). sum_by (send_weight t (server a)) ss) silent.0 in
+    let six = ap (λ (o : Option Span). six_weight x o) silent.1 in
+    omega (arith, sends, six)
+
+own_is : (a : ServerNode) (side : Side) → is_own (server_settings a) (own_ep (server a) side).ip ≡ true
+unfolding is_own
+own_is a Primary = or_left (same_ip a.primary a.primary) (same_ip a.primary a.secondary) (same_ip-self a.primary)
+own_is a Secondary = by (same_ip a.secondary a.primary) (same_ip a.secondary a.secondary) (same_ip-self a.secondary) where
+  by : (b c : Bool) → c ≡ true → (b || c) ≡ true
+  by true c h = refl
+  by false c h = h
+
+-- a server's datagram that comes to whichever server
+module _ (laws : FromLaws) (t : TopologyState) (is : IsTopology t) (n : ℕ) (a : ServerNode) (there : node_at t n ≡ Some (server a)) where
+  draws_nothing : (s : Send) (m : ℕ) (b : ServerNode) → node_at t m ≡ Some (server b)
+      → ((other : ServerNode) (at : Side) → same_ip a.primary other.primary ≡ false → IsSilent (server_row (server_settings other) at (own_ep (server a) s.side) s.bytes))
+      → output_weight t (server b) s.bytes (server_row (server_settings b) (side_at (server b) s.to) (own_ep (server a) s.side) s.bytes) ≤ 0
+  draws_nothing s m b at silent = by (same_ip a.primary b.primary) refl where
+    by : (same : Bool) → same_ip a.primary b.primary ≡ same → output_weight t (server b) s.bytes (server_row (server_settings b) (side_at (server b) s.to) (own_ep (server a) s.side) s.bytes) ≤ 0
+    by false e = silent_draws t b s.bytes (server_row (server_settings b) (side_at (server b) s.to) (own_ep (server a) s.side) s.bytes) (silent b (side_at (server b) s.to) e)
+    by true e =
+        let number : n ≡ m = laws.apart t n m (server a) (server b) a.primary is there at (or_left (same_ip a.primary a.primary) (same_ip a.primary a.secondary || false) (same_ip-self a.primary)) (or_left (same_ip a.primary b.primary) (same_ip a.primary b.secondary || false) e) in
+        let one : server a ≡ server b = ap (λ (o : Option Node). unwrap_or o (server a)) (sym there ∙ ap (node_at t) number ∙ at) in
+        let same : a ≡ b = ap (λ (z : Node). unwrap_or (as_server z) a) one in
+        own_draws laws.warranted t b (side_at (server b) s.to) (own_ep (server a) s.side) s.bytes (ap (λ (z : ServerNode). is_own (server_settings z) (own_ep (server a) s.side).ip) (sym same) ∙ own_is a s.side)
+
+  -- it weighs what the definition says of a send
+  pub send_weighs : (s : Send) → ((other : ServerNode) (at : Side) → same_ip a.primary other.primary ≡ false → IsSilent (server_row (server_settings other) at (own_ep (server a) s.side) s.bytes))
+      → entry_weight t (udp (own_ep (server a) s.side) s.to s.bytes) ≤ send_weight t (server a) s
+  send_weighs s silent = by (is_some_server t s.to) refl where
+    src : Ep
+    src = own_ep (server a) s.side
+
+    elsewhere : (o : Option Node) → first_at t s.to ≡ o → is_some_server t s.to ≡ false → weight_at t src s.to s.bytes o ≤ datagram_weight t src s.to s.bytes
+    elsewhere None e none = omega arith
+    elsewhere (Some (server b)) e none = let h = is_there t s.to (server b) e in absurd (false≢true (sym none ∙ any_there (is_server_at s.to) (nodes t) h.number (server b) h.node h.passes))
+    elsewhere (Some (nat b)) e none = omega arith
+    elsewhere (Some (client b)) e none = omega arith
+    elsewhere (Some (relay b)) e none = omega arith
+    elsewhere (Some (native b)) e none = omega arith
+
+    by : (b : Bool) → is_some_server t s.to ≡ b → entry_weight t (udp src s.to s.bytes) ≤ cond b 1 (datagram_weight t src s.to s.bytes)
+    by true e =
+        let h = server_there t s.to e in
+        let first = ap (weight_at t src s.to s.bytes) (first_is laws.apart t s.to h.number (server h.row) is h.node h.passes) in
+        let less = draws_nothing s h.number h.row h.node silent in
+        omega (arith, first, less)
+    by false e = elsewhere (first_at t s.to) refl e
+
+  -- so does each of the sends of a datagram
+  pub sends_weigh_so : (side : Side) (from : Ep) (x : List ℕ) → IsIp4 a.primary → IsEp from → IsBytes x
+      → AllByRecursion (WeighsFrom (entry_weight t) (send_weight t (server a)) (own_ep (server a))) (server_row (server_settings a) side from x).sends
+  sends_weigh_so side from x primary made bytes =
+      each (server_row (server_settings a) side from x).sends
+      (λ other at own apart mine. laws.ends (server_settings a) (server_settings other) side at from own x primary made bytes mine apart)
+    where
+      each : (sends : List Send)
+          → ((other : ServerNode) (at : Side) (own : Ep) → same_ip a.primary other.primary ≡ false → is_own (server_settings a) own.ip ≡ true → AllByRecursion (λ (s : Send). IsSilent (server_row (server_settings other) at own s.bytes)) sends)
+          → AllByRecursion (WeighsFrom (entry_weight t) (send_weight t (server a)) (own_ep (server a))) sends
+      each [] silent = tt
+      each (s ∷ ss) silent =
+          (λ _. send_weighs s (λ other at apart. (silent other at (own_ep (server a) s.side) apart (own_is a s.side)).0), each ss (λ other at own apart mine. (silent other at own apart mine).1))

@@ -1,0 +1,59 @@
+-- What comes onto the wire weighs no more than what the node sent.
+use Rattle.std.proofs.Common.{◌≡◌, ◌≤◌, ℕ, ◌+◌, Bool, true, false, List, [], ◌∷◌, ◌++◌, Option, Some, None, refl, sym, ap, subst, ◌∙◌, arith}
+use Rattle.std.specs.Prelude.{sum_by, filter_map}
+use Rattle.std.specs.List.{AllByRecursion}
+use Rattle.std.proofs.lemmas.Bool.{false≢true}
+use Rattle.std.proofs.lemmas.List.Sums.{sum_by-cons}
+use Rattle.td_base.specs.declared.endpoint.Ep.{Ep}
+use Rattle.td_base.specs.declared.side.Side.{Side}
+use Rattle.teredo_node.specs.Step.{Send}
+use Rattle.history.specs.Full.{Item, udp, six, Made, sent, lost, item_in}
+use Rattle.legal.specs.Emit.{is_at_place, made_outright, outright}
+use Rattle.legal.specs.OwnSends.{AreOfSends}
+use Rattle.legal.specs.MadeWire.{IsMadeItem}
+
+-- those that came onto the wire
+abbrev pub items_in : List Made → List Item
+items_in made = filter_map item_in made
+
+-- the datagram of a send weighs no more than this, wherever it leaves from
+abbrev pub MayWeigh : (Item → ℕ) → (Send → ℕ) → Send → Type 0
+MayWeigh w k s = (src : Ep) → IsMadeItem (udp src s.to s.bytes) → w (udp src s.to s.bytes) ≤ k s
+
+-- one by one
+pub sends_weigh : (w : Item → ℕ) (k : Send → ℕ) (made : List Made) (sends : List Send) → AreOfSends made sends → AllByRecursion IsMadeItem (items_in made) → AllByRecursion (MayWeigh w k) sends → sum_by w (items_in made) ≤ sum_by k sends
+sends_weigh w k [] [] are made each = omega arith
+sends_weigh w k [] (s ∷ ss) are made each = absurd are
+sends_weigh w k (m ∷ ms) [] are made each = absurd are
+sends_weigh w k (sent (udp src dst bytes) ∷ ms) (s ∷ ss) are made each =
+    let same : udp src dst bytes ≡ udp src s.to s.bytes = ap (λ (e : Ep). udp src e bytes) are.0.0 ∙ ap (λ (x : List ℕ). udp src s.to x) are.0.1 in
+    let one = each.0 src (subst IsMadeItem same made.0) in
+    let is = ap w same in
+    let rest = sends_weigh w k ms ss are.1 made.1 each.1 in
+    let new = sum_by-cons w (udp src dst bytes) (items_in ms) in
+    let old = sum_by-cons k s ss in
+    omega (arith, one, is, rest, new, old)
+sends_weigh w k (sent (six to bytes) ∷ ms) (s ∷ ss) are made each = absurd are.0
+sends_weigh w k (lost why dst bytes ∷ ms) (s ∷ ss) are made each =
+    let rest = sends_weigh w k ms ss are.1 made each.1 in
+    let old = sum_by-cons k s ss in
+    omega (arith, rest, old)
+
+-- the same from an endpoint of its own
+abbrev pub WeighsFrom : (Item → ℕ) → (Send → ℕ) → (Side → Ep) → Send → Type 0
+WeighsFrom w k own s = IsMadeItem (udp (own s.side) s.to s.bytes) → w (udp (own s.side) s.to s.bytes) ≤ k s
+
+pub own_weigh : (w : Item → ℕ) (k : Send → ℕ) (own : Side → Ep) (fails : Option ℕ) (i : ℕ) (sends : List Send) (more : List Made) → AllByRecursion IsMadeItem (items_in (outright own fails i sends ++ more)) → AllByRecursion (WeighsFrom w k own) sends
+    → sum_by w (items_in (outright own fails i sends ++ more)) ≤ sum_by k sends + sum_by w (items_in more)
+own_weigh w k own fails i [] more made each = omega arith
+own_weigh w k own fails i (s ∷ ss) more made each = by (is_at_place i fails) made (own_weigh w k own fails (i + 1) ss more) (sum_by-cons k s ss) where
+  by : (b : Bool) → AllByRecursion IsMadeItem (items_in (made_outright b own s ∷ (outright own fails (i + 1) ss ++ more)))
+      → (AllByRecursion IsMadeItem (items_in (outright own fails (i + 1) ss ++ more)) → AllByRecursion (WeighsFrom w k own) ss → sum_by w (items_in (outright own fails (i + 1) ss ++ more)) ≤ sum_by k ss + sum_by w (items_in more))
+      → sum_by k (s ∷ ss) ≡ k s + sum_by k ss
+      → sum_by w (items_in (made_outright b own s ∷ (outright own fails (i + 1) ss ++ more))) ≤ sum_by k (s ∷ ss) + sum_by w (items_in more)
+  by true all ih old = let rest = ih all each.1 in omega (arith, rest, old)
+  by false all ih old =
+      let rest = ih all.1 each.1 in
+      let one = each.0 all.0 in
+      let new = sum_by-cons w (udp (own s.side) s.to s.bytes) (items_in (outright own fails (i + 1) ss ++ more)) in
+      omega (arith, rest, one, old, new)
