@@ -11,3 +11,8 @@ mod Addresses
 mod Sent
 mod NewItems
 mod FromServers
+mod Natives
+mod Reached
+mod ServersLighten
+mod Relays
+mod RelaysLighten

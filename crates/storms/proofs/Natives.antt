@@ -1,0 +1,132 @@
+-- A native host's reply weighs less than the request.
+use Rattle.std.proofs.Common.{◌≡◌, ◌≤◌, ◌<◌, ℕ, ◌+◌, ◌&&◌, ◌==◌, Bool, true, false, cond, List, [], ◌∷◌, length, Option, Some, None, Result, Ok, Err, refl, sym, ap, subst, ◌∙◌, arith}
+use Rattle.std.specs.Prelude.{is_some, unwrap_or, nat_lt, not, ◌^◌, ◌/◌, ◌-◌}
+use Rattle.std.proofs.lemmas.Bool.{false≢true}
+use Rattle.td_base.specs.Bytes.{IsBytes, number_at}
+use Rattle.td_base.specs.Reach.{is_global6}
+use Rattle.td_base.specs.declared.ipv6.Ip6.{Ip6}
+use Rattle.td_base.specs.declared.datagram.TheConstants.{DATAGRAM_MAX}
+use Rattle.td_base.proofs.BytesLemmas.{IsBytes-drop}
+use Rattle.ipv6_packet.specs.Packets.{Fields, packet_at, packet_bytes, fields_of}
+use Rattle.ipv6_packet.specs.Reads.{no_fields, is_ok_packet, fields_or, is_packet, fields_in}
+use Rattle.ipv6_packet.specs.Laws.{PacketReadsBack, PacketIsSpelled, PacketIsBytes}
+use Rattle.ipv6_packet.specs.declared.fault.PacketFault.{PacketFault}
+use Rattle.ipv6_packet.specs.declared.fault.PacketFault.TheVariants.{Short, Version, Length}
+use Rattle.ipv6_packet.specs.declared.header.TheConstants.{HEADER, VERSION, NEXT_ICMP}
+use Rattle.icmp6.specs.Message.{Message, echo_request, echo_reply, message_at}
+use Rattle.icmp6.specs.declared.fault.IcmpFault.{IcmpFault}
+use Rattle.icmp6.specs.Grammar.{MessageBytes}
+use Rattle.icmp6.proofs.FoundLaws.{read_found}
+use Rattle.teredo_addr.specs.Teredo.{is_teredo}
+use Rattle.bubble.specs.Messages.{accepted, message_in, is_echo_reply, message_packet}
+use Rattle.bubble.specs.Laws.{MessageIsCarried}
+use Rattle.teredo_node.specs.Rows.{first_line}
+use Rattle.native_host.specs.declared.limits.TheConstants.{HOST_HOP}
+use Rattle.native_host.specs.NativeSends.{IsReply}
+use Rattle.topology.specs.declared.native_node.NativeNode.{NativeNode}
+use Rattle.topology.specs.Rows.{TopologyState}
+use Rattle.history.specs.Full.{six}
+use Rattle.legal.specs.Emit.{relay_for}
+use Rattle.storms.specs.Weights.{is_echo_request, packet_weight, entry_weight}
+use Rattle.storms.proofs.Freights.{packet_under}
+
+pub record ReplyLaws : Type 0 where
+  pub spelled : PacketIsSpelled
+  pub packet : PacketIsBytes
+  pub back : PacketReadsBack
+  pub carried : MessageIsCarried
+
+-- WHAT CAME
+
+message_of : (b : Bool) (r : Result Message IcmpFault) (m : Message) → cond b (accepted r) None ≡ Some m → r ≡ Ok m
+message_of false r m e = absurd (false≢true (ap (λ (o : Option Message). is_some o) e))
+message_of true (Ok n) m e = ap (λ (o : Option Message). Ok (unwrap_or o n)) e
+message_of true (Err f) m e = absurd (false≢true (ap (λ (o : Option Message). is_some o) e))
+
+accepted_as : (p : Fields) (m : Message) → message_in p ≡ Some m → message_at p.src p.dst p.hop p.body ≡ Ok m
+unfolding message_in
+accepted_as p m e = message_of (p.next == NEXT_ICMP) (message_at p.src p.dst p.hop p.body) m e
+
+no_message : message_in no_fields ≡ None
+unfolding message_in
+no_message = refl
+
+-- one with a message is a packet
+has_message : (x : List ℕ) (m : Message) → message_in (fields_in x) ≡ Some m → is_packet x ≡ true
+unfolding is_packet fields_in
+has_message x m e = by (packet_at x) e where
+  by : (r : Result Fields PacketFault) → message_in (fields_or r) ≡ Some m → is_ok_packet r ≡ true
+  by (Ok p) g = refl
+  by (Err f) g = absurd (false≢true (ap (λ (o : Option Message). is_some o) (sym no_message ∙ g)))
+
+guarded : (P : Fields → Type 0) (a b c : Bool) (e f g : PacketFault) (v : Fields) → P v → is_ok_packet (cond a (Err e) (cond b (Err f) (cond c (Err g) (Ok v)))) ≡ true
+    → P (fields_or (cond a (Err e) (cond b (Err f) (cond c (Err g) (Ok v)))))
+guarded P true b c e f g v p h = absurd (false≢true h)
+guarded P false true c e f g v p h = absurd (false≢true h)
+guarded P false false true e f g v p h = absurd (false≢true h)
+guarded P false false false e f g v p h = p
+
+body_is_bytes : (x : List ℕ) → IsBytes x → is_packet x ≡ true → IsBytes (fields_in x).body
+unfolding is_packet fields_in packet_at fields_of
+body_is_bytes x bytes h = guarded (λ (p : Fields). IsBytes p.body) (nat_lt (length x) HEADER) (not (number_at 0 4 x / 2 ^ 28 == VERSION)) (not (number_at 4 2 x == length x - HEADER))
+    (Short (length x)) (Version (number_at 0 4 x / 2 ^ 28)) (Length (number_at 4 2 x) (length x - HEADER)) (fields_of x) (IsBytes-drop HEADER x bytes) h
+
+-- THE REPLY
+
+record IsReplyBack (x y : List ℕ) : Type 0 where
+  to : (fields_in y).dst ≡ (fields_in x).src
+  no_request : is_echo_request (message_in (fields_in y)) ≡ false
+  reply : is_echo_reply (message_in (fields_in y)) ≡ true
+
+reads_back : ReplyLaws → (x y : List ℕ) → IsBytes x → length x ≤ DATAGRAM_MAX → IsReply x y → IsReplyBack x y
+reads_back laws x y bytes short r =
+    let p : Fields = fields_in x in
+    let one = has_message x (echo_request r.id r.seq r.body) r.request in
+    let spelled = laws.spelled x bytes one in
+    let len : length x ≡ HEADER + length (fields_in x).body = ap length spelled.1 ∙ (laws.packet (fields_in x) spelled.0).long in
+    let found : MessageBytes p.src p.dst p.hop (echo_request r.id r.seq r.body) p.body = read_found p.src p.dst p.hop (echo_request r.id r.seq r.body) p.body (body_is_bytes x bytes one) (accepted_as p (echo_request r.id r.seq r.body) r.request) in
+    let inner = ap (λ (z : List ℕ). length z) found.bytes in
+    let c = laws.carried HOST_HOP p.dst p.src (echo_reply r.id r.seq r.body) (record { hop_fits = omega arith; src_fits = spelled.0.dst; dst_fits = spelled.0.src; fits = found.fits; valid = tt; short = omega (arith, len, short, inner) }) in
+    let fields : fields_in y ≡ message_packet HOST_HOP p.dst p.src (echo_reply r.id r.seq r.body) = ap fields_in r.reply ∙ (laws.back (message_packet HOST_HOP p.dst p.src (echo_reply r.id r.seq r.body)) c.packet).fields in
+    let message = ap message_in fields ∙ c.message in
+    record {
+      to = ap (λ (z : Fields). z.dst) fields;
+      no_request = ap is_echo_request message;
+      reply = ap is_echo_reply message;
+    }
+
+-- WEIGHTS
+
+abbrev lines : Bool → Option Message → Bool → Bool → ℕ
+lines to_relay m teredo global = first_line ((to_relay && is_echo_reply m, 5) ∷ (to_relay, 12) ∷ (is_echo_request m && teredo, 6) ∷ (is_echo_request m && global, 2) ∷ []) 1
+
+for_relay : (m : Option Message) (teredo global : Bool) → is_echo_reply m ≡ true → lines true m teredo global ≤ 5
+for_relay m teredo global h = by (is_echo_reply m) h where
+  by : (b : Bool) → b ≡ true → cond (true && b) 5 12 ≤ 5
+  by true g = omega arith
+  by false g = absurd (false≢true g)
+
+-- what the request weighs at least, from a Teredo address or another
+abbrev due : Bool → ℕ
+due teredo = cond teredo 6 2
+
+request_more : (id seq : ℕ) (body : List ℕ) (to_relay teredo : Bool) → due teredo ≤ lines to_relay (Some (echo_request id seq body)) teredo true
+request_more id seq body true true = omega arith
+request_more id seq body true false = omega arith
+request_more id seq body false true = omega arith
+request_more id seq body false false = omega arith
+
+pub reply_weighs_less : ReplyLaws → (t : TopologyState) (h : NativeNode) (to_relay : Bool) (x y : List ℕ) → IsBytes x → length x ≤ DATAGRAM_MAX → IsReply x y → entry_weight t (six (relay_for h y) y) < packet_weight to_relay (fields_in x)
+reply_weighs_less laws t h to_relay x y bytes short r =
+    let back = reads_back laws x y bytes short r in
+    let p : Fields = fields_in x in
+    let old : packet_weight to_relay p ≡ lines to_relay (Some (echo_request r.id r.seq r.body)) (is_teredo p.src) true =
+    ap (λ (m : Option Message). lines to_relay m (is_teredo p.src) (is_global6 p.src)) r.request ∙ ap (λ (b : Bool). lines to_relay (Some (echo_request r.id r.seq r.body)) (is_teredo p.src) b) r.global in
+    let more = request_more r.id r.seq r.body to_relay (is_teredo p.src) in
+    let less = by back (is_teredo (fields_in y).dst) in
+    let same = ap (λ (ip : Ip6). due (is_teredo ip)) back.to in
+    omega (arith, old, more, less, same)
+  where
+    by : IsReplyBack x y → (b : Bool) → entry_weight t (six (cond b (Some h.relay) None) y) < due b
+    by back true = let less = for_relay (message_in (fields_in y)) (is_teredo (fields_in y).src) (is_global6 (fields_in y).src) back.reply in omega (arith, less)
+    by back false = let less = packet_under (fields_in y) 1 (omega arith) (λ request. absurd (false≢true (sym back.no_request ∙ request))) in omega (arith, less)

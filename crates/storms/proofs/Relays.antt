@@ -1,0 +1,62 @@
+-- What a relay sends weighs, and what waits in it.
+use Rattle.std.proofs.Common.{◌≡◌, ◌≤◌, ℕ, ◌+◌, Bool, true, false, cond, List, [], ◌∷◌, ◌++◌, map, Option, Some, None, Result, Ok, Err, refl, sym, ap, subst, ◌∙◌, arith}
+use Rattle.std.specs.Prelude.{sum, sum_by, unwrap_or}
+use Rattle.std.specs.List.{AllByRecursion}
+use Rattle.std.proofs.lemmas.Bool.{false≢true}
+use Rattle.std.proofs.lemmas.List.Sums.{sum_by-cons, sum-map}
+use Rattle.td_base.specs.Ep.{same_ep-self}
+use Rattle.td_base.specs.declared.ipv6.Ip6.{Ip6}
+use Rattle.td_base.specs.declared.endpoint.Ep.{Ep}
+use Rattle.ipv6_packet.specs.Packets.{Fields, packet_at}
+use Rattle.ipv6_packet.specs.Reads.{is_ok_packet, fields_or, is_packet, fields_in}
+use Rattle.ipv6_packet.specs.declared.fault.PacketFault.{PacketFault}
+use Rattle.teredo_addr.specs.Teredo.{is_teredo, embedded}
+use Rattle.bubble.specs.Messages.{message_in, is_echo_reply}
+use Rattle.bubble.specs.Laws.{PacketIsPayload}
+use Rattle.teredo_node.specs.Step.{Send}
+use Rattle.teredo_node.specs.Sends.{send, releases}
+use Rattle.topology.specs.Rows.{TopologyState}
+use Rattle.history.specs.Full.{udp}
+use Rattle.legal.specs.MadeWire.{IsMadeItem}
+use Rattle.storms.specs.Weights.{entry_weight}
+use Rattle.storms.specs.Burden.{relay_packet}
+use Rattle.storms.proofs.AtServers.{RowLaws}
+use Rattle.storms.proofs.Sent.{reply_sent, packet_sent}
+use Rattle.storms.proofs.NewItems.{MayWeigh}
+
+-- PACKETS AS THEY ARE READ
+
+pub packet_read : (x : List ℕ) → is_packet x ≡ true → packet_at x ≡ Ok (fields_in x)
+unfolding is_packet fields_in
+packet_read x h = by (packet_at x) h where
+  by : (r : Result Fields PacketFault) → is_ok_packet r ≡ true → r ≡ Ok (fields_or r)
+  by (Ok p) g = refl
+  by (Err f) g = absurd (false≢true g)
+
+-- a packet from outside Teredo to the endpoint that its Teredo destination embeds
+pub record IsForClient (to : Ep) (x : List ℕ) : Type 0 where
+  pub well_formed : is_packet x ≡ true
+  pub native : is_teredo (fields_in x).src ≡ false
+  pub teredo : is_teredo (fields_in x).dst ≡ true
+  pub where_to : to ≡ embedded (fields_in x).dst
+
+-- weighs as much as while it waited, at most
+pub packet_weighs : RowLaws → PacketIsPayload → (t : TopologyState) (to : Ep) (x : List ℕ) → IsForClient to x → MayWeigh (entry_weight t) (λ (s : Send). relay_packet s.bytes) (send to x)
+packet_weighs laws payload t to x h src made = by (is_echo_reply (message_in (fields_in x))) refl where
+  by : (b : Bool) → is_echo_reply (message_in (fields_in x)) ≡ b → entry_weight t (udp src to x) ≤ cond b 1 8
+  by true e = reply_sent laws t src to x (fields_in x) (payload x (fields_in x) made.bytes made.short (packet_read x h.well_formed)) made.bytes made.source h.native h.teredo h.where_to e
+  by false e = packet_sent laws t src to x (fields_in x) (payload x (fields_in x) made.bytes made.short (packet_read x h.well_formed)) made.bytes made.source h.teredo h.where_to
+
+-- SOME, TO ONE ENDPOINT
+
+pub released_weigh : (w : List ℕ → ℕ) (to : Ep) (xs : List (List ℕ)) → sum_by (λ (s : Send). w s.bytes) (releases to xs) ≡ sum_by w xs
+released_weigh w to [] = refl
+released_weigh w to (x ∷ xs) =
+    let rest = released_weigh w to xs in
+    let new = sum_by-cons (λ (s : Send). w s.bytes) (send to x) (releases to xs) in
+    let old = sum_by-cons w x xs in
+    omega (arith, rest, new, old)
+
+pub released_each : (P : Send → Type 0) (Q : List ℕ → Type 0) (to : Ep) (xs : List (List ℕ)) → ((x : List ℕ) → Q x → P (send to x)) → AllByRecursion Q xs → AllByRecursion P (releases to xs)
+released_each P Q to [] f all = tt
+released_each P Q to (x ∷ xs) f all = (f x all.0, released_each P Q to xs f all.1)
