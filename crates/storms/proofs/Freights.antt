@@ -2,7 +2,7 @@
 use Rattle.std.proofs.Common.{◌≡◌, ◌≤◌, ℕ, ◌&&◌, ◌==◌, not, Bool, true, false, cond, List, [], ◌∷◌, length, Option, Some, None, Result, Ok, Err, refl, sym, ap, subst, ◌∙◌, arith}
 use Rattle.std.specs.Prelude.{is_some}
 use Rattle.std.specs.List.{list_any}
-use Rattle.std.proofs.lemmas.Bool.{false≢true, and_parts, eqb-true}
+use Rattle.std.proofs.lemmas.Bool.{false≢true, and_parts, eqb-true, not_from_false, false_from_ne_true}
 use Rattle.std.proofs.lemmas.Bool.Decides.{nat_tests}
 use Rattle.td_base.specs.Reach.{is_global6}
 use Rattle.td_base.specs.declared.endpoint.Ep.{Ep}
@@ -110,6 +110,64 @@ module _ (t : TopologyState) (src dst : Ep) where
   reply_load p native reply = freight_under (freight t src dst true (value_written None None p)) 1 (omega arith)
       (λ h _. absurd (false≢true (indirect_origin p false h))) (λ h. absurd (false≢true (indirect_origin p false h)))
       (λ h. not_no (is_echo_reply (message_in p)) (foreign_is p h).no_reply reply) (λ h. no (is_teredo p.src) (for_relay_is p h).teredo native)
+
+-- WHAT WEIGHS AS MUCH
+
+both_true : (b c : Bool) → b ≡ true → c ≡ true → (b && c) ≡ true
+both_true true c h g = g
+both_true false c h g = absurd (false≢true h)
+
+-- k at least, where the line that holds has so much, and none before it less
+foreign_least : (a : Freight) → a.indirect ≡ false → a.foreign ≡ true → 8 ≤ freight_weight a
+foreign_least a plain foreign = by_lines (λ (w : ℕ). 8 ≤ w) ((a.indirect && a.origin_at_server, 3) ∷ (a.indirect, 2) ∷ (a.foreign, 8) ∷ (a.for_relay, 7) ∷ []) 1
+    ((λ h. no a.indirect (and_parts a.indirect a.origin_at_server h).0 plain), (λ _. ((λ h. no a.indirect h plain), (λ _. ((λ _. omega arith), (λ h. absurd (false≢true (sym h ∙ foreign))))))))
+
+relay_least : (a : Freight) → a.indirect ≡ false → a.for_relay ≡ true → 7 ≤ freight_weight a
+relay_least a plain for_relay = by_lines (λ (w : ℕ). 7 ≤ w) ((a.indirect && a.origin_at_server, 3) ∷ (a.indirect, 2) ∷ (a.foreign, 8) ∷ (a.for_relay, 7) ∷ []) 1
+    ((λ h. no a.indirect (and_parts a.indirect a.origin_at_server h).0 plain), (λ _. ((λ h. no a.indirect h plain), (λ _. ((λ _. omega arith), (λ _. ((λ _. omega arith), (λ h. absurd (false≢true (sym h ∙ for_relay))))))))))
+
+indirect_least : (a : Freight) → a.indirect ≡ true → cond a.origin_at_server 3 2 ≤ freight_weight a
+indirect_least a indirect = by a.origin_at_server a.indirect indirect where
+  by : (b c : Bool) → c ≡ true → cond b 3 2 ≤ cond (c && b) 3 (cond c 2 (cond a.foreign 8 (cond a.for_relay 7 1)))
+  by true true h = omega arith
+  by false true h = omega arith
+  by b false h = absurd (false≢true h)
+
+module _ (t : TopologyState) (src dst : Ep) (x : List ℕ) where
+  not_indirect : is_bubble (value_in x).packet ≡ false → (freight t src dst (is_payload x) (value_in x)).indirect ≡ false
+  not_indirect plain = false_from_ne_true (freight t src dst (is_payload x) (value_in x)).indirect (λ h. no (is_bubble (value_in x).packet) (bubble_in (is_payload x && list_any (is_nat_at dst) (nodes t)) (is_some_server t src) (is_bubble (value_in x).packet) (is_some (origin_in (value_in x).lead)) h) plain) where
+    bubble_in : (a b c d : Bool) → (a && (b && (c && d))) ≡ true → c ≡ true
+    bubble_in a b c d h = (and_parts c d (second b (c && d) (second a (b && (c && d)) h))).0
+
+  -- a packet from a Teredo address to a relay
+  pub relay_weight : list_any (is_relay_at dst) (nodes t) ≡ true → is_payload x ≡ true → is_teredo (value_in x).packet.src ≡ true → is_bubble (value_in x).packet ≡ false → 7 ≤ datagram_weight t src dst x
+  unfolding datagram_weight
+  relay_weight there payload teredo plain = relay_least (freight t src dst (is_payload x) (value_in x)) (not_indirect plain)
+      (both_true (is_payload x) (list_any (is_relay_at dst) (nodes t) && (is_teredo (value_in x).packet.src && not (is_bubble (value_in x).packet))) payload
+      (both_true (list_any (is_relay_at dst) (nodes t)) (is_teredo (value_in x).packet.src && not (is_bubble (value_in x).packet)) there
+      (both_true (is_teredo (value_in x).packet.src) (not (is_bubble (value_in x).packet)) teredo (not_from_false (is_bubble (value_in x).packet) plain))))
+
+  -- one to a NAT from outside Teredo, which is neither a bubble nor an echo reply
+  pub foreign_weight : list_any (is_nat_at dst) (nodes t) ≡ true → is_payload x ≡ true → is_global6 (value_in x).packet.src ≡ true → is_teredo (value_in x).packet.src ≡ false → is_bubble (value_in x).packet ≡ false
+      → is_echo_reply (message_in (value_in x).packet) ≡ false → 8 ≤ datagram_weight t src dst x
+  unfolding datagram_weight
+  foreign_weight there payload global native plain reply = foreign_least (freight t src dst (is_payload x) (value_in x)) (not_indirect plain)
+      (both_true (is_payload x && list_any (is_nat_at dst) (nodes t)) (is_global6 (value_in x).packet.src && (not (is_teredo (value_in x).packet.src) && (not (is_bubble (value_in x).packet) && not (is_echo_reply (message_in (value_in x).packet)))))
+      (both_true (is_payload x) (list_any (is_nat_at dst) (nodes t)) payload there)
+      (both_true (is_global6 (value_in x).packet.src) (not (is_teredo (value_in x).packet.src) && (not (is_bubble (value_in x).packet) && not (is_echo_reply (message_in (value_in x).packet)))) global
+      (both_true (not (is_teredo (value_in x).packet.src)) (not (is_bubble (value_in x).packet) && not (is_echo_reply (message_in (value_in x).packet))) (not_from_false (is_teredo (value_in x).packet.src) native)
+      (both_true (not (is_bubble (value_in x).packet)) (not (is_echo_reply (message_in (value_in x).packet))) (not_from_false (is_bubble (value_in x).packet) plain) (not_from_false (is_echo_reply (message_in (value_in x).packet)) reply)))))
+
+  -- an indirect bubble
+  pub indirect_weight : (o : Ep) → list_any (is_nat_at dst) (nodes t) ≡ true → is_payload x ≡ true → is_some_server t src ≡ true → is_bubble (value_in x).packet ≡ true → origin_in (value_in x).lead ≡ Some o
+      → cond (is_some_server t o) 3 2 ≤ datagram_weight t src dst x
+  unfolding datagram_weight
+  indirect_weight o there payload served bubble told =
+      let least = indirect_least (freight t src dst (is_payload x) (value_in x))
+      (both_true (is_payload x && list_any (is_nat_at dst) (nodes t)) (is_some_server t src && (is_bubble (value_in x).packet && is_some (origin_in (value_in x).lead))) (both_true (is_payload x) (list_any (is_nat_at dst) (nodes t)) payload there)
+      (both_true (is_some_server t src) (is_bubble (value_in x).packet && is_some (origin_in (value_in x).lead)) served
+      (both_true (is_bubble (value_in x).packet) (is_some (origin_in (value_in x).lead)) bubble (ap (λ (z : Option Ep). is_some z) told)))) in
+      subst (λ (z : Option Ep). cond (is_origin_at_server t z) 3 2 ≤ freight_weight (freight t src dst (is_payload x) (value_in x))) told least
 
 -- PACKETS OF THE IPV6 SIDE
 

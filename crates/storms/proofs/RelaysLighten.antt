@@ -5,6 +5,7 @@ use Rattle.std.specs.List.{AllByRecursion, list_any}
 use Rattle.std.proofs.lemmas.Bool.{false≢true, and_parts, not_from_false}
 use Rattle.std.proofs.lemmas.List.Sums.{sum_by-cons, sum-map}
 use Rattle.td_base.specs.Ep.{same_ep, same_ep-self, server_ep}
+use Rattle.td_base.specs.Bytes.{IsBytes}
 use Rattle.td_base.specs.Ip6.{IsIp6}
 use Rattle.td_base.specs.Reach.{is_global6}
 use Rattle.td_base.specs.declared.ipv6.Ip6.{Ip6}
@@ -41,7 +42,7 @@ use Rattle.topology.specs.declared.relay_node.RelayNode.{RelayNode}
 use Rattle.topology.specs.Rows.{TopologyState}
 use Rattle.topology.specs.declared.node.Node.{Node}
 use Rattle.topology.specs.declared.node.Node.TheVariants.{Relay as relay}
-use Rattle.topology.specs.Topology.{nodes, is_at, own_ep}
+use Rattle.topology.specs.Topology.{nodes, node_at, is_at, own_ep}
 use Rattle.topology.specs.NodeRules.{IsRelayNode, EachNodeKeepsRules, AddressesAreApart}
 use Rattle.history.specs.Full.{Item, udp, six, Made, Full, items_of}
 use Rattle.legal.specs.Lab.{Lab}
@@ -55,13 +56,13 @@ use Rattle.storms.specs.Burden.{waiting_packets, relay_packet, waits_at}
 use Rattle.storms.proofs.Weighed.{weight_least, datagram_least}
 use Rattle.storms.proofs.PeersWait.{PeerLaws, waits_for, waits_in, freed, added, waiting_is, shifts, stays}
 use Rattle.storms.proofs.Places.{first_is, any_there, relay_is_apart}
-use Rattle.storms.proofs.Freights.{packet_under}
+use Rattle.storms.proofs.Freights.{packet_under, relay_weight}
 use Rattle.storms.proofs.AtServers.{RowLaws}
 use Rattle.storms.proofs.Sent.{bubble_sent}
 use Rattle.storms.proofs.NewItems.{items_in, WeighsFrom, own_weigh}
 use Rattle.storms.proofs.ServersLighten.{six_weighs}
 use Rattle.storms.proofs.Relays.{IsForClient, packet_weighs, released_weigh, released_each}
-use Rattle.storms.proofs.Reached.{IsReached, NodeLightens}
+use Rattle.storms.proofs.Reached.{answer_of, IsReached, NodeLightens}
 
 pub record RelayLaws : Type 0 where
   pub apart : AddressesAreApart
@@ -211,3 +212,158 @@ module _ (laws : RelayLaws) (lab : Lab) (q : RelayNode) (n m : ℕ) (j : List En
     pub datagram_lightens : IsLight (relay_in (relay_settings lab.topology n q) j m src x) w
     unfolding relay_in reception.reception
     datagram_lightens = each_fate (laws.received (relay_settings lab.topology n q) a src x)
+
+  -- A PACKET OF THE IPV6 SIDE
+
+  module _ (x : List ℕ) (w : ℕ) (least : 1 ≤ w) (more : relay_packet x + 4 ≤ w) (here : is_some_server lab.topology q.at ≡ false) (six_made_of : IsIp6 q.six) (bytes : IsBytes x) where
+    abbrev stands : Standing
+    stands = standing_of j m (destination_in x)
+
+    abbrev asked : transmission.Given
+    asked = transmission.given (relay_settings lab.topology n q) stands x
+
+    abbrev went : Fate → Entry
+    went f = entry m (from_six x) (packet_given x) (destination_in x) (transmission.transmission_step (relay_settings lab.topology n q) stands x (fields_in x).dst f)
+
+    both_false : (b c : Bool) → not (b || c) ≡ true → b ≡ false
+    both_false false c h = refl
+    both_false true c h = absurd (false≢true h)
+
+    goes_on : GoesOut asked → IsForClient (embedded (fields_in x).dst) x
+    unfolding transmission.given
+    goes_on out = record { well_formed = out.packet; native = both_false (is_teredo (fields_in x).src) (not (is_global6 (fields_in x).src)) out.foreign_source; teredo = out.teredo; where_to = refl }
+
+    destination_is : is_packet x ≡ true → destination_in x ≡ Some (fields_in x).dst
+    unfolding destination_in
+    destination_is h = ap (λ (b : Bool). cond b (Some (fields_in x).dst) None) h
+
+    given_is : is_packet x ≡ true → packet_given x ≡ Some x
+    unfolding packet_given
+    given_is h = ap (λ (b : Bool). cond b (Some x) None) h
+
+    -- the packet itself goes out
+    abbrev Goes : Fate → Type 0
+    Goes f = SentOnlyIf f asked → IsLight (went f) w
+
+    -- what waits grows by what is queued
+    touches : (e : Entry) → is_packet x ≡ true → e.moment ≡ m → e.peer ≡ destination_in x → (mention e).bearing.touches ≡ true
+        → waits_in relay_packet (mention e ∷ mentions j) m ≤ before + added relay_packet (mention e).bearing.queues
+    touches e packet moment peer touched =
+        let p : Ip6 = (fields_in x).dst in
+        let less = subst (λ (k : ℕ). waits_in relay_packet (mention e ∷ mentions j) k + freed relay_packet (mention e).bearing.hears (waits_for relay_packet (mentions j) k p) ≤ waits_in relay_packet (mentions j) k + added relay_packet (mention e).bearing.queues) moment (shifts relay_packet laws.peers (mention e) (mentions j) p (peer ∙ destination_is packet) touched) in
+        omega (arith, less)
+
+    packet_out : GoesOut asked → AllByRecursion (WeighsFrom weigh (λ (s : Send). relay_packet s.bytes) own) (send (embedded (fields_in x).dst) x ∷ [])
+    packet_out out = (λ made. packet_weighs laws.rows laws.payload lab.topology (embedded (fields_in x).dst) x (goes_on out) (own Primary) made, tt)
+
+    sent : Goes fate.Sent
+    sent only made =
+        let new = own_weigh weigh (λ (s : Send). relay_packet s.bytes) own fails 0 (send (embedded (fields_in x).dst) x ∷ []) [] made (packet_out only.out) in
+        let one = sum_by-cons (λ (s : Send). relay_packet s.bytes) (send (embedded (fields_in x).dst) x) [] in
+        let less = touches (went fate.Sent) (goes_on only.out).well_formed refl refl refl in
+        omega (arith, more, new, one, less)
+
+    sent_cone : Goes fate.SentCone
+    sent_cone only made =
+        let new = own_weigh weigh (λ (s : Send). relay_packet s.bytes) own fails 0 (send (embedded (fields_in x).dst) x ∷ []) [] made (packet_out only.out) in
+        let one = sum_by-cons (λ (s : Send). relay_packet s.bytes) (send (embedded (fields_in x).dst) x) [] in
+        let less = touches (went fate.SentCone) (goes_on only.out).well_formed refl refl refl in
+        omega (arith, more, new, one, less)
+
+    -- the try
+    bubble_is : is_packet x ≡ true → AllByRecursion (WeighsFrom weigh (λ (s : Send). 3) own) (transmission.bubble_to (relay_settings lab.topology n q) (fields_in x).dst ∷ [])
+    unfolding transmission.bubble_to
+    bubble_is packet =
+        let p : Ip6 = (fields_in x).dst in
+        let reads = laws.bubble q.six p six_made_of (laws.spelled x bytes packet).0.dst in
+        (λ made. bubble_sent laws.rows lab.topology q.at (server_ep (server_in p)) (bubble_bytes q.six p) (bubble_of q.six p) reads.payload reads.bytes made.source reads.bubble here, tt)
+
+    abbrev step_by : Bool → Step
+    step_by barred = transmission.queues barred (relay_settings lab.topology n q) (fields_in x).dst
+
+    queued : Goes fate.Queued
+    queued only = by (is_barred stands.moment (known_in stands)) where
+      packet : is_packet x ≡ true
+      packet = (goes_on only.out).well_formed
+
+      by : (barred : Bool) → IsLight (entry m (from_six x) (packet_given x) (destination_in x) (step_by barred)) w
+      by true made =
+          let e : Entry = entry m (from_six x) (packet_given x) (destination_in x) (step_by true) in
+          let less = touches e packet refl refl refl in
+          let kept = ap (added relay_packet) (given_is packet) in
+          omega (arith, more, less, kept)
+      by false made =
+          let e : Entry = entry m (from_six x) (packet_given x) (destination_in x) (step_by false) in
+          let new = own_weigh weigh (λ (s : Send). 3) own fails 0 (transmission.bubble_to (relay_settings lab.topology n q) (fields_in x).dst ∷ []) [] made (bubble_is packet) in
+          let one = sum_by-cons (λ (s : Send). 3) (transmission.bubble_to (relay_settings lab.topology n q) (fields_in x).dst) [] in
+          let less = touches e packet refl refl refl in
+          let kept = ap (added relay_packet) (given_is packet) in
+          omega (arith, more, new, one, less, kept)
+
+    idly : (f : Fate) → (went f).step.sends ≡ [] → (went f).step.six ≡ None → (mention (went f)).bearing.touches ≡ false → (mention (went f)).bearing.hears ≡ false → (mention (went f)).bearing.queues ≡ None → Goes f
+    idly f none nothing touched hears_none queues only = calm (went f) w least none nothing touched hears_none queues
+
+    each_way : Goes (transmission.transmission_row asked)
+    each_way = first_of_each Goes (transmission.packet_lines asked ++ transmission.destination_lines asked) fate.Queued
+        (idly fate.Malformed refl refl refl refl refl, (idly fate.Big refl refl refl refl refl, (idly fate.Dest refl refl refl refl refl, (idly fate.Source refl refl refl refl refl, (idly fate.Embedded refl refl refl refl refl,
+        (idly fate.Loop refl refl refl refl refl, (sent, (idly fate.PeersFull refl refl refl refl refl, (sent_cone, (idly fate.Barred refl refl refl refl refl, (idly fate.QueueFull refl refl refl refl refl, tt)))))))))))
+        queued
+
+    pub packet_lightens : IsLight (relay_six (relay_settings lab.topology n q) j m x) w
+    unfolding relay_six transmission.transmission
+    packet_lightens = each_way (laws.transmitted (relay_settings lab.topology n q) stands x)
+
+-- THE RECORD
+
+-- what waits in the relay after it and before it
+waits_after : PeerLaws → (lab : Lab) (H : List Full) (r : Full) (n : ℕ) (q : RelayNode) (x : Item) → IsReached lab H r n (relay q) x
+    → sum (waits_at (r ∷ H) n (relay q)) ≡ waits_in relay_packet (mention (answer_of lab H r n (relay q) x) ∷ mentions (journal n H).entries) r.moment
+waits_after laws lab H r n q x h =
+    let e : Entry = answer_of lab H r n (relay q) x in
+    ap (λ (z : Journal). sum (map relay_packet (waiting_packets (mentions z.entries) r.moment))) h.later ∙ waits_as laws (e ∷ (journal n H).entries) r.moment
+    ∙ ap (λ (z : List Mention). waits_in relay_packet z r.moment) (one_more e (journal n H).entries)
+
+waits_before : PeerLaws → (lab : Lab) (H : List Full) (r : Full) (n : ℕ) (q : RelayNode) (x : Item) → IsReached lab H r n (relay q) x → sum (waits_at H n (relay q)) ≡ waits_in relay_packet (mentions (journal n H).entries) r.moment
+waits_before laws lab H r n q x h = ap (λ (k : ℕ). sum (map relay_packet (waiting_packets (mentions (journal n H).entries) k))) (sym h.moment) ∙ waits_as laws (journal n H).entries r.moment
+
+-- a packet for a relay that is an echo reply weighs 5, and any other 12
+for_relay : (x : List ℕ) → relay_packet x + 4 ≤ packet_weight true (fields_in x)
+for_relay x = by (is_echo_reply (message_in (fields_in x))) where
+  by : (b : Bool) → cond b 1 8 + 4 ≤ cond (true && b) 5 12
+  by true = omega arith
+  by false = omega arith
+
+-- a packet that isn't a bubble, from a Teredo address to the relay, weighs 7
+to_relay : (t : TopologyState) (n : ℕ) (q : RelayNode) (src dst : Ep) (x : List ℕ) → node_at t n ≡ Some (relay q) → dst ≡ q.at → is_teredo (value_in x).packet.src ≡ true → is_payload x ≡ true → is_bubble (value_in x).packet ≡ false → 7 ≤ datagram_weight t src dst x
+to_relay t n q src dst x there where_to teredo payload plain =
+    relay_weight t src dst x (any_there (is_relay_at dst) (nodes t) n (relay q) there (ap (same_ep dst) (sym where_to) ∙ same_ep-self dst)) payload teredo plain
+
+module _ (laws : RelayLaws) (lab : Lab) (H : List Full) (r : Full) (n : ℕ) (q : RelayNode) where
+  light : (x : Item) → IsReached lab H r n (relay q) x → (w : ℕ) → w ≤ entry_weight lab.topology x
+      → (AllByRecursion IsMadeItem (items_in (outright (own_ep (relay q)) (armed H) 0 (answer_of lab H r n (relay q) x).step.sends ++ six_made (answer_of lab H r n (relay q) x).input (answer_of lab H r n (relay q) x).step.six))
+      → sum_by (entry_weight lab.topology) (items_in (outright (own_ep (relay q)) (armed H) 0 (answer_of lab H r n (relay q) x).step.sends ++ six_made (answer_of lab H r n (relay q) x).input (answer_of lab H r n (relay q) x).step.six))
+          + waits_in relay_packet (mention (answer_of lab H r n (relay q) x) ∷ mentions (journal n H).entries) r.moment < w + waits_in relay_packet (mentions (journal n H).entries) r.moment)
+      → NodeLightens lab H r n (relay q) x
+  light x h w weighs less =
+      let is = ap (λ (ms : List Made). sum_by (entry_weight lab.topology) (items_in ms)) h.made in
+      let one = less (subst (λ (ms : List Made). AllByRecursion IsMadeItem (items_in ms)) h.made h.fresh) in
+      let new = waits_after laws.peers lab H r n q x h in
+      let old = waits_before laws.peers lab H r n q x h in
+      omega (arith, is, one, new, old, weighs)
+
+  pub relay_lightens : (x : Item) → IsReached lab H r n (relay q) x → NodeLightens lab H r n (relay q) x
+  relay_lightens (six None bytes) h = absurd h.goes
+  relay_lightens (six (Some k) bytes) h =
+      let keeps : IsRelayNode q = laws.rules lab.topology n (relay q) h.is h.there in
+      let j = (laws.journals lab H n q h.grown.1 h.there).journal in
+      let heavy = for_relay bytes in
+      light (six (Some k) bytes) h (packet_weight true (fields_in bytes)) (omega arith)
+      (packet_lightens laws lab q n r.moment (journal n H).entries (armed H) j bytes (packet_weight true (fields_in bytes)) (weight_least lab.topology (six (Some k) bytes)) heavy
+      (relay_is_apart laws.apart lab.topology n q h.is h.there (same_ep-self q.at)) keeps.six h.came.bytes)
+  relay_lightens (udp src dst bytes) h =
+      let t : TopologyState = lab.topology in
+      let j = (laws.journals lab H n q h.grown.1 h.there).journal in
+      let first = ap (weight_at t src dst bytes) (first_is laws.apart t dst n (relay q) h.is h.there (ap (same_ep dst) (sym h.goes) ∙ same_ep-self dst)) in
+      light (udp src dst bytes) h (datagram_weight t src dst bytes) (omega (arith, first))
+      (datagram_lightens laws lab q n r.moment (journal n H).entries (armed H) j src bytes (datagram_weight t src dst bytes) (datagram_least t src dst bytes)
+      (λ teredo payload plain. to_relay t n q src dst bytes h.there h.goes teredo payload plain))
