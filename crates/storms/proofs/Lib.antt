@@ -16,3 +16,5 @@ mod Reached
 mod ServersLighten
 mod Relays
 mod RelaysLighten
+mod ClientsLighten
+mod Lightens
