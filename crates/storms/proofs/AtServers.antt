@@ -1,6 +1,6 @@
 -- What a datagram weighs at a server: what its table makes of the packet.
-use Rattle.std.proofs.Common.{◌≡◌, ◌≤◌, ℕ, ◌+◌, ◌&&◌, ◌||◌, Bool, true, false, cond, List, [], ◌∷◌, drop, Option, Some, None, Result, Ok, refl, sym, ap, subst, ◌∙◌, arith}
-use Rattle.std.specs.Prelude.{sum_by, slice_index}
+use Rattle.std.proofs.Common.{◌≡◌, ◌≤◌, ℕ, ◌&&◌, Bool, true, false, cond, List, drop, Option, Some, None, Result, refl, sym, ap, subst, ◌∙◌, arith}
+use Rattle.std.specs.Prelude.{slice_index}
 use Rattle.std.proofs.lemmas.Bool.{false≢true, and_parts, and_right, eqb-true, false_from_ne_true}
 use Rattle.std.proofs.lemmas.Bool.Decides.{nat_tests}
 use Rattle.std.proofs.lemmas.List.{take_rest}
@@ -15,16 +15,14 @@ use Rattle.td_base.specs.declared.side.Side.{Side}
 use Rattle.td_base.specs.declared.side.Side.TheVariants.{Primary}
 use Rattle.ipv6_packet.specs.Packets.{Fields}
 use Rattle.ipv6_packet.specs.Reads.{fields_in}
-use Rattle.icmp6.specs.Message.{Message}
 use Rattle.teredo_addr.specs.Teredo.{is_teredo, server_in, embedded}
 use Rattle.teredo_addr.specs.declared.local.TheConstants.{ALL_ROUTERS}
-use Rattle.bubble.specs.Payloads.{Value, payload_at, value_written}
+use Rattle.bubble.specs.Payloads.{Value, value_written}
 use Rattle.bubble.specs.Bubbles.{is_bubble}
 use Rattle.bubble.specs.Messages.{message_in}
-use Rattle.bubble.specs.Reads.{value_in}
 use Rattle.bubble.specs.Laws.{ReadsPayload}
 use Rattle.bubble.specs.declared.fault.PayloadFault.{PayloadFault}
-use Rattle.teredo_node.specs.Step.{Send, Step, part, rest_of}
+use Rattle.teredo_node.specs.Step.{Send, part, rest_of}
 use Rattle.client_rules.proofs.PayloadPackets.{same_fields}
 use Rattle.server_core.specs.declared.rules.Rule.{Rule}
 use Rattle.server_core.specs.declared.rules.Rule.TheVariants.{Dropped, Advert, ForwardOrigin, Forward, Six}
@@ -33,14 +31,14 @@ use Rattle.server_core.specs.Laws.{ForwardedReadsBack}
 use Rattle.server_core.specs.Outgoing.{send_from}
 use Rattle.server_core.specs.Outputs.{forwarded}
 use Rattle.server_core.specs.Rules.{seen, rule_of}
-use Rattle.server_core.specs.RuleWarrants.{GoesOn, GoesToOwn, GoesToOther, GoesToSix, RuledOnlyIf, RuleIsWarranted}
+use Rattle.server_core.specs.RuleWarrants.{GoesToOwn, GoesToOther, GoesToSix, RuledOnlyIf, RuleIsWarranted}
 use Rattle.server_core.specs.Server.{step_of, by_payload, server_row}
 use Rattle.topology.specs.declared.server_node.ServerNode.{ServerNode}
 use Rattle.topology.specs.Rows.{TopologyState}
 use Rattle.topology.specs.declared.node.Node.TheVariants.{Server as server}
 use Rattle.topology.specs.Topology.{own_ep}
 use Rattle.legal.specs.Settings.{server_settings}
-use Rattle.storms.specs.Weights.{is_some_server, is_echo_request, packet_weight, datagram_weight, send_weight, six_weight, output_weight}
+use Rattle.storms.specs.Weights.{is_some_server, packet_weight, datagram_weight, send_weight, output_weight}
 use Rattle.storms.proofs.Freights.{load, load_is, bubble_load, told_bubble_load, teredo_load, packet_under, bubble_weight}
 
 pub record RowLaws : Type 0 where

@@ -1,5 +1,5 @@
 -- A delivery to a client lightens.
-use Rattle.std.proofs.Common.{◌≡◌, ◌⊎◌, inl, inr, ◌≤◌, ◌<◌, ℕ, ◌+◌, ◌&&◌, ◌||◌, not, Bool, true, false, cond, List, [], ◌∷◌, ◌++◌, map, length, Option, Some, None, refl, sym, ap, subst, ◌∙◌, arith}
+use Rattle.std.proofs.Common.{◌≡◌, ◌≤◌, ◌<◌, ℕ, ◌+◌, ◌||◌, not, Bool, true, false, cond, List, [], ◌∷◌, ◌++◌, map, Option, Some, None, refl, sym, ap, subst, ◌∙◌, arith}
 use Rattle.std.specs.Prelude.{sum, sum_by, unwrap_or, is_some, IfSome, option_to_list, option_and_then}
 use Rattle.std.specs.List.{AllByRecursion, list_any}
 use Rattle.std.proofs.lemmas.Bool.{false≢true, and_parts}
@@ -8,31 +8,30 @@ use Rattle.byteorder.specs.Endian.{big_bytes}
 use Rattle.td_base.specs.Ip4.{same_ip, same_ip-self}
 use Rattle.td_base.specs.Ip6.{IsIp6}
 use Rattle.td_base.specs.Ep.{same_ep, same_ep-self, same_ep-true, server_ep}
-use Rattle.td_base.specs.Reach.{is_usable, is_global6}
+use Rattle.td_base.specs.Reach.{is_usable}
 use Rattle.td_base.specs.declared.reach.Policy.{Policy}
 use Rattle.td_base.specs.declared.ipv4.Ip4.{Ip4}
 use Rattle.td_base.specs.declared.ipv6.Ip6.{Ip6}
 use Rattle.td_base.specs.declared.endpoint.Ep.{Ep}
 use Rattle.ipv6_packet.specs.Packets.{Fields, packet_bytes}
-use Rattle.ipv6_packet.specs.Reads.{is_packet, fields_in}
+use Rattle.ipv6_packet.specs.Reads.{fields_in}
 use Rattle.ipv6_packet.specs.Laws.{PacketReadsBack}
 use Rattle.icmp6.specs.Message.{Message, echo_request}
 use Rattle.teredo_addr.specs.Teredo.{is_teredo, embedded, unspecified}
 use Rattle.indications.specs.Leads.{origin_in}
-use Rattle.bubble.specs.Bubbles.{is_bubble, bubble_of, bubble_bytes}
+use Rattle.bubble.specs.Bubbles.{bubble_of, bubble_bytes}
 use Rattle.bubble.specs.declared.bubbles.TheConstants.{BUBBLE_HOP}
-use Rattle.bubble.specs.Messages.{message_in, is_echo_reply, message_packet}
+use Rattle.bubble.specs.Messages.{message_packet}
 use Rattle.bubble.specs.PacketsIn.{packet_in, source_in}
-use Rattle.bubble.specs.Payloads.{Value}
 use Rattle.bubble.specs.Reads.{is_payload, value_in}
 use Rattle.bubble.specs.Laws.{PacketIsPayload, BubbleReadsBack, MessageIsCarried}
 use Rattle.teredo_node.specs.declared.fate.Fate.{Fate}
 use Rattle.teredo_node.specs.declared.fate.Fate.TheVariants as fate
-use Rattle.teredo_node.specs.Step.{Send, Step}
+use Rattle.teredo_node.specs.Step.{Send}
 use Rattle.teredo_node.specs.Sends.{send, releases, has_any}
 use Rattle.teredo_node.specs.Words.{nonce_from}
-use Rattle.teredo_node.specs.Journal.{arrived, given, from_six, ticked, is_changed, Input, Entry, Journal, Words, with_entry}
-use Rattle.teredo_node.specs.MadeInputs.{IsMadeInput, AreMadeInputs}
+use Rattle.teredo_node.specs.Journal.{arrived, is_changed, Entry, Journal, Words}
+use Rattle.teredo_node.specs.MadeInputs.{IsMadeInput}
 use Rattle.teredo_node.proofs.FirstLines.{first_of_each}
 use Rattle.peer_list.specs.Mentions.{Mention}
 use Rattle.peer_list.specs.Listed.{touched}
@@ -48,11 +47,11 @@ use Rattle.client_rules.specs.Bearings.{mention, mentions}
 use Rattle.client_rules.specs.Epochs.{QualifiedHasAddress, IsOwnTo, WaitingIsOwn}
 use Rattle.client_rules.specs.Journals.{IsJournal, entry, client_in}
 use Rattle.client_rules.specs.Laws.{NextMentions, ReceptionIsWarranted}
-use Rattle.client_rules.specs.MadeSends.{EachStandingIsMade, IsMadeClient, IsMadeStanding}
+use Rattle.client_rules.specs.MadeSends.{EachStandingIsMade}
 use Rattle.client_rules.specs.Reception as reception
 use Rattle.client_rules.specs.Standing.{Standing, known_in, standing_at, standing_of}
 use Rattle.client_rules.specs.Tries.{direct_bubble, test}
-use Rattle.client_rules.specs.Warrants.{ReceivedOnlyIf, IsForClient, IsIndirect, IsTrusted, IsTested, IsEmbedded, IsSuspect}
+use Rattle.client_rules.specs.Warrants.{ReceivedOnlyIf, IsForClient, IsIndirect, IsSuspect}
 use Rattle.server_core.specs.Conditions.{is_solicit}
 use Rattle.topology.specs.declared.client_node.ClientNode.{ClientNode}
 use Rattle.topology.specs.declared.server_node.ServerNode.{ServerNode}
@@ -62,10 +61,10 @@ use Rattle.topology.specs.declared.node.Node.TheVariants.{Server as server, Nat 
 use Rattle.topology.specs.Topology.{nodes, node_at, as_server, server_at, is_at}
 use Rattle.topology.specs.Rules.{IsTopology}
 use Rattle.topology.specs.NodeRules.{IsClientNode, EachNodeKeepsRules, AddressesAreApart}
-use Rattle.history.specs.Full.{Item, udp, six, Made, Full, items_of}
+use Rattle.history.specs.Full.{Item, udp, six, Made, Full}
 use Rattle.legal.specs.Lab.{Lab}
 use Rattle.legal.specs.Settings.{client_settings, primary_of, secondary_of}
-use Rattle.legal.specs.Past.{now, journal, words}
+use Rattle.legal.specs.Past.{journal, words}
 use Rattle.legal.specs.Laws.{EachClientIsJournal}
 use Rattle.legal.specs.OwnSends.{AreOfSends}
 use Rattle.legal.specs.MadeWire.{IsMadeItem, EachHistoryIsMade}
@@ -371,14 +370,70 @@ module _ (laws : ClientLaws) (lab : Lab) (c : ClientNode) (m : ℕ) (j : Journal
 
       each_fate : Light (reception.reception_row seen_is told_fate)
       each_fate = first_of_each Light
-          (reception.datagram_lines seen_is ++ (reception.server_lines seen_is told_fate ++ (reception.packet_lines seen_is ++ (reception.indirect_lines seen_is ++ reception.direct_lines seen_is)))) fate.Suspicious
-          (quietly fate.Malformed refl refl refl refl, (quietly fate.Keyed refl refl refl refl, (quietly fate.Confirmation refl refl refl refl, (quietly fate.Big refl refl refl refl,
-          (quietly fate.Icmp refl refl refl refl, (advert, (quietly fate.ServerOther refl refl refl refl,
-          (quietly fate.Off refl refl refl refl, (quietly fate.NotMine refl refl refl refl, (quietly fate.Itself refl refl refl refl,
-          (quietly fate.Origin refl refl refl refl, (quietly fate.PeersFull refl refl refl refl, (quietly fate.Barred refl refl refl refl, (answers,
-          (rule1_bubble, (rule1, (rule2,
-          (quietly fate.PeersFull refl refl refl refl, (rule3_bubble, (rule3, (quietly fate.Mismatch refl refl refl refl,
-          (held_test, (suspicious_test, (quietly fate.Held refl refl refl refl, tt))))))))))))))))))))))))
+          (reception.datagram_lines seen_is ++ (reception.server_lines seen_is told_fate ++ (reception.packet_lines seen_is ++ (reception.indirect_lines seen_is ++ reception.direct_lines seen_is)))) fate.Suspicious (
+            quietly fate.Malformed refl refl refl refl,
+            (
+              quietly fate.Keyed refl refl refl refl,
+              (
+                quietly fate.Confirmation refl refl refl refl,
+                (
+                  quietly fate.Big refl refl refl refl,
+                  (
+                    quietly fate.Icmp refl refl refl refl,
+                    (
+                      advert,
+                      (
+                        quietly fate.ServerOther refl refl refl refl,
+                        (
+                          quietly fate.Off refl refl refl refl,
+                          (
+                            quietly fate.NotMine refl refl refl refl,
+                            (
+                              quietly fate.Itself refl refl refl refl,
+                              (
+                                quietly fate.Origin refl refl refl refl,
+                                (
+                                  quietly fate.PeersFull refl refl refl refl,
+                                  (
+                                    quietly fate.Barred refl refl refl refl,
+                                    (
+                                      answers,
+                                      (
+                                        rule1_bubble,
+                                        (
+                                          rule1,
+                                          (
+                                            rule2,
+                                            (
+                                              quietly fate.PeersFull refl refl refl refl,
+                                              (
+                                                rule3_bubble,
+                                                (
+                                                  rule3,
+                                                  (
+                                                    quietly fate.Mismatch refl refl refl refl,
+                                                    (held_test, (suspicious_test, (quietly fate.Held refl refl refl refl, tt))),
+                                                  ),
+                                                ),
+                                              ),
+                                            ),
+                                          ),
+                                        ),
+                                      ),
+                                    ),
+                                  ),
+                                ),
+                              ),
+                            ),
+                          ),
+                        ),
+                      ),
+                    ),
+                  ),
+                ),
+              ),
+            ),
+          )
           (quietly fate.Suspicious refl refl refl refl)
 
       pub datagram_lightens : IsLight (client_in s j m src x w) heavy
@@ -420,7 +475,7 @@ module _ (laws : ClientLaws) (lab : Lab) (H : List Full) (r : Full) (n : ℕ) (c
 
   light : (x : Item) → IsReached lab H r n (client c) x → (heavy : ℕ) → heavy ≤ entry_weight lab.topology x
       → ((made : List Made) → AreOfSends made (did x).step.sends → AllByRecursion IsMadeItem (items_in made)
-          → sum_by (entry_weight lab.topology) (items_in made) + waits_in client_packet (mentions_after (did x) (mentions (journal n H).entries)) r.moment < heavy + waits_in client_packet (mentions (journal n H).entries) r.moment)
+      → sum_by (entry_weight lab.topology) (items_in made) + waits_in client_packet (mentions_after (did x) (mentions (journal n H).entries)) r.moment < heavy + waits_in client_packet (mentions (journal n H).entries) r.moment)
       → NodeLightens lab H r n (client c) x
   light x h heavy weighs less =
       let one = less r.made h.own h.fresh in

@@ -1,13 +1,16 @@
--- Deliveries end where each takes away more than it brings.
-use Rattle.std.proofs.Common.{◌≤◌, ◌<◌, ◌+◌, ℕ, List, [], ◌∷◌, ◌++◌, length, arith}
-use Rattle.topology.specs.Rows.{TopologyState}
+-- Deliveries end, since each takes away more than it brings.
+use Rattle.std.proofs.Common.{◌≤◌, ◌+◌, List, [], ◌∷◌, ◌++◌, length, subst, arith}
+use Rattle.std.specs.List.{AllByRecursion}
+use Rattle.events.specs.declared.event.Event.{Event}
+use Rattle.events.specs.Events.{IsEvent}
 use Rattle.topology.specs.Rules.{IsTopology}
 use Rattle.history.specs.Full.{Full}
-use Rattle.legal.specs.Lab.{Lab}
-use Rattle.legal.specs.Legal.{Grown}
+use Rattle.legal.specs.Lab.{Lab, lab_of}
+use Rattle.legal.specs.Legal.{Begun, Grown}
 use Rattle.storms.specs.Burden.{burden}
 use Rattle.storms.specs.Loads.{BurdenIsBounded}
-use Rattle.storms.specs.Deliveries.{AreNew, EachLightens, EndIfLighter}
+use Rattle.storms.specs.Deliveries.{AreNew, GoesOnSettling, EachLightens, EachStormEnds, SettleDeliversNew, EachSettlingEnds}
+use Rattle.storms.specs.Throughout.{HistoriesHaveNoStorm, ScenariosHaveNoStorm}
 
 lighter : EachLightens → (lab : Lab) (H later : List Full) → IsTopology lab.topology → Grown lab (later ++ H) → AreNew H later → length later + burden lab.topology (later ++ H) ≤ burden lab.topology H
 lighter law lab H [] is g new = omega arith
@@ -16,8 +19,31 @@ lighter law lab H (r ∷ later) is g new =
     let step = law lab (later ++ H) r is g new.0 in
     omega (arith, rest, step)
 
-pub end_if_lighter : BurdenIsBounded → EndIfLighter
-end_if_lighter most law lab H later is g new =
+pub storms_end : BurdenIsBounded → EachLightens → EachStormEnds
+storms_end most law lab H later is g new =
     let fell = lighter law lab H later is g new in
     let bound = most lab.topology H in
     omega (arith, fell, bound)
+
+-- THE EVENT THAT DELIVERS ALL
+
+are_new : SettleDeliversNew → (lab : Lab) (H later : List Full) → Grown lab (later ++ H) → AllByRecursion GoesOnSettling later → AreNew H later
+are_new law lab H [] g on = tt
+are_new law lab H (r ∷ later) g on = (law lab (later ++ H) r g on.0, are_new law lab H later g.1 on.1)
+
+pub settling_ends : EachStormEnds → SettleDeliversNew → EachSettlingEnds
+settling_ends ends law lab H later is g on = ends lab H later is g (are_new law lab H later g on)
+
+-- AT EACH RECORD
+
+earlier : (lab : Lab) (rest H : List Full) → Grown lab (rest ++ H) → Grown lab H
+earlier lab [] H g = g
+earlier lab (r ∷ rest) H g = earlier lab rest H g.1
+
+pub histories : EachStormEnds → EachSettlingEnds → HistoriesHaveNoStorm
+histories ends settle lab H is g rest later before split =
+    let there : Grown lab (later ++ before) = earlier lab rest (later ++ before) (subst (Grown lab) split g) in
+    record { deliveries = ends lab before later is there; settling = settle lab before later is there }
+
+pub scenarios : ((lab : Lab) (events : List Event) (h : List Full) → AllByRecursion (IsEvent lab.topology) events → Begun lab events h → Grown lab h) → HistoriesHaveNoStorm → ScenariosHaveNoStorm
+scenarios grown law s chain H is events begun = law (lab_of s chain) H is (grown (lab_of s chain) s.events H events begun)

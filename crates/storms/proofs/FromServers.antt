@@ -1,5 +1,5 @@
 -- What a server makes of a datagram weighs less than the datagram.
-use Rattle.std.proofs.Common.{◌≡◌, ◌≤◌, ℕ, ◌+◌, ◌||◌, Bool, true, false, cond, List, [], ◌∷◌, Option, Some, None, Result, Ok, Err, refl, sym, ap, subst, ◌∙◌, arith}
+use Rattle.std.proofs.Common.{◌≡◌, ◌≤◌, ℕ, ◌||◌, Bool, true, false, cond, List, [], ◌∷◌, Option, Some, None, Result, Ok, Err, refl, sym, ap, ◌∙◌, arith}
 use Rattle.std.specs.Prelude.{sum_by, unwrap_or}
 use Rattle.std.specs.List.{AllByRecursion}
 use Rattle.std.proofs.lemmas.Bool.{false≢true, or_left}
@@ -27,11 +27,11 @@ use Rattle.topology.specs.declared.node.Node.{Node}
 use Rattle.topology.specs.declared.node.Node.TheVariants.{Server as server, Nat as nat, Client as client, Relay as relay, Native as native}
 use Rattle.topology.specs.Topology.{nodes, node_at, as_server, side_at, own_ep}
 use Rattle.topology.specs.Rules.{IsTopology}
-use Rattle.topology.specs.NodeRules.{has_address, AddressesAreApart}
-use Rattle.history.specs.Full.{Item, udp}
+use Rattle.topology.specs.NodeRules.{AddressesAreApart}
+use Rattle.history.specs.Full.{udp}
 use Rattle.legal.specs.Settings.{server_settings}
 use Rattle.storms.specs.Weights.{is_server_at, is_some_server, datagram_weight, send_weight, six_weight, output_weight, weight_at, entry_weight}
-use Rattle.storms.proofs.Places.{first_at, IsThere, is_there, first_is, any_there, ServerThere, server_there}
+use Rattle.storms.proofs.Places.{first_at, is_there, first_is, any_there, server_there}
 use Rattle.storms.proofs.NewItems.{WeighsFrom}
 
 pub record FromLaws : Type 0 where

@@ -1,21 +1,18 @@
 -- Each delivery of an entry that wasn't delivered before lightens.
-use Rattle.std.proofs.Common.{◌≡◌, ◌≤◌, ◌<◌, ℕ, ◌+◌, Bool, true, false, List, [], ◌∷◌, Option, Some, None, refl, sym, ap, subst, ◌∙◌, arith}
+use Rattle.std.proofs.Common.{◌≡◌, ◌<◌, ℕ, ◌+◌, false, List, [], ◌∷◌, Option, Some, None, refl, sym, ap, subst, ◌∙◌, arith}
 use Rattle.std.specs.Prelude.{sum, sum_by, slice_get, unwrap_or, is_some}
-use Rattle.std.specs.List.{AllByRecursion}
 use Rattle.std.proofs.lemmas.Bool.{false≢true}
 use Rattle.td_base.specs.declared.endpoint.Ep.{Ep}
 use Rattle.native_host.specs.NativeSends.{EachIsReply}
-use Rattle.teredo_node.specs.Journal.{Input, Entry, Journal, with_entry}
-use Rattle.events.specs.declared.event.Event.{Event}
+use Rattle.teredo_node.specs.Journal.{Input, Entry, with_entry}
 use Rattle.history.specs.declared.act.Act.{Act}
 use Rattle.history.specs.declared.act.Act.TheVariants as act
-use Rattle.topology.specs.Rows.{TopologyState}
 use Rattle.topology.specs.declared.node.Node.{Node}
 use Rattle.topology.specs.declared.node.Node.TheVariants.{Server as server, Nat as nat, Client as client, Relay as relay, Native as native}
 use Rattle.topology.specs.Rules.{IsTopology}
 use Rattle.history.specs.Full.{Item, Made, Full, wire, items_of}
 use Rattle.legal.specs.Lab.{Lab}
-use Rattle.legal.specs.Past.{now, is_restart, journal, was_delivered}
+use Rattle.legal.specs.Past.{now, is_restart, journal}
 use Rattle.legal.specs.Emit.{entry_of, sendings}
 use Rattle.legal.specs.Next.{dst_of, input_of}
 use Rattle.legal.specs.Kinds.{Kind, quiet, put, copied, ticks, handed, reached, Quiet, passed, shut, strayed, missing, none_left, settled, uncopied, hosted, restarted, forgot, faulted}
@@ -26,7 +23,7 @@ use Rattle.legal.specs.OwnSends.{AreOwn, EachMakesItsOwn}
 use Rattle.legal.specs.MadeWire.{IsMadeItem, EachHistoryIsMade}
 use Rattle.legal.specs.Routes.{EachRoute}
 use Rattle.storms.specs.Weights.{entry_weight}
-use Rattle.storms.specs.Burden.{undelivered_items, waits, burden}
+use Rattle.storms.specs.Burden.{waits, burden}
 use Rattle.storms.specs.Loads.{DeliveryExchanges}
 use Rattle.storms.specs.Deliveries.{DeliversNew, EachLightens}
 use Rattle.storms.proofs.Weighed.{weight_least}

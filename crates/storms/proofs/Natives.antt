@@ -1,5 +1,5 @@
 -- A native host's reply weighs less than the request.
-use Rattle.std.proofs.Common.{◌≡◌, ◌≤◌, ◌<◌, ℕ, ◌+◌, ◌&&◌, ◌==◌, Bool, true, false, cond, List, [], ◌∷◌, length, Option, Some, None, Result, Ok, Err, refl, sym, ap, subst, ◌∙◌, arith}
+use Rattle.std.proofs.Common.{◌≡◌, ◌≤◌, ◌<◌, ℕ, ◌+◌, ◌&&◌, ◌==◌, Bool, true, false, cond, List, [], ◌∷◌, length, Option, Some, None, Result, Ok, Err, refl, sym, ap, ◌∙◌, arith}
 use Rattle.std.specs.Prelude.{is_some, unwrap_or, nat_lt, not, ◌^◌, ◌/◌, ◌-◌}
 use Rattle.std.proofs.lemmas.Bool.{false≢true}
 use Rattle.td_base.specs.Bytes.{IsBytes, number_at}
@@ -7,7 +7,7 @@ use Rattle.td_base.specs.Reach.{is_global6}
 use Rattle.td_base.specs.declared.ipv6.Ip6.{Ip6}
 use Rattle.td_base.specs.declared.datagram.TheConstants.{DATAGRAM_MAX}
 use Rattle.td_base.proofs.BytesLemmas.{IsBytes-drop}
-use Rattle.ipv6_packet.specs.Packets.{Fields, packet_at, packet_bytes, fields_of}
+use Rattle.ipv6_packet.specs.Packets.{Fields, packet_at, fields_of}
 use Rattle.ipv6_packet.specs.Reads.{no_fields, is_ok_packet, fields_or, is_packet, fields_in}
 use Rattle.ipv6_packet.specs.Laws.{PacketReadsBack, PacketIsSpelled, PacketIsBytes}
 use Rattle.ipv6_packet.specs.declared.fault.PacketFault.{PacketFault}

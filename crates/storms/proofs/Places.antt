@@ -1,8 +1,8 @@
 -- Which node an endpoint is at.
-use Rattle.std.proofs.Common.{◌≡◌, ◌⊎◌, inl, inr, ◌<◌, ◌+◌, not, ℕ, zero, suc, ◌&&◌, ◌||◌, Bool, true, false, List, [], ◌∷◌, length, get_or, Option, Some, None, refl, sym, ap, subst, ◌∙◌, arith, nat_lt, cond}
+use Rattle.std.proofs.Common.{◌≡◌, ◌<◌, ◌+◌, not, ℕ, zero, suc, ◌||◌, Bool, true, false, List, [], ◌∷◌, length, get_or, Option, Some, None, refl, sym, ap, ◌∙◌, arith, cond}
 use Rattle.std.specs.Prelude.{position, slice_get, unwrap_or, is_some, option_and_then}
 use Rattle.std.specs.List.{list_any, position_or_len}
-use Rattle.std.proofs.lemmas.Bool.{false≢true, and_parts, or_left, or_right, true_from_ne_false, lt-ltb}
+use Rattle.std.proofs.lemmas.Bool.{false≢true, and_parts, or_left, or_right, lt-ltb}
 use Rattle.std.proofs.lemmas.List.Quantifiers.{position-Some}
 use Rattle.std.proofs.lemmas.Option.{slice_get-get_or}
 use Rattle.td_base.specs.Ip4.{same_ip}
@@ -16,7 +16,7 @@ use Rattle.topology.specs.declared.node.Node.TheVariants.{Server as server, Nat 
 use Rattle.topology.specs.Topology.{nodes, node_at, is_at, number_of}
 use Rattle.topology.specs.Rules.{IsTopology}
 use Rattle.topology.specs.NodeRules.{has_address, AddressesAreApart}
-use Rattle.storms.specs.Weights.{is_server_at, is_nat_at, is_relay_at, is_some_server}
+use Rattle.storms.specs.Weights.{is_server_at, is_some_server}
 
 -- THE FIRST THAT IS THERE
 

@@ -1,5 +1,5 @@
 -- A delivery that comes to a node.
-use Rattle.std.proofs.Common.{◌≡◌, ◌<◌, ℕ, ◌+◌, zero, suc, Bool, true, false, List, [], ◌∷◌, ◌++◌, Option, Some, None, refl, sym, ap, subst, ◌∙◌, arith}
+use Rattle.std.proofs.Common.{◌≡◌, ◌<◌, ℕ, ◌+◌, zero, suc, List, [], ◌∷◌, ◌++◌, Option, Some, ap, subst}
 use Rattle.std.specs.Prelude.{sum, sum_by, slice_get, is_some, unwrap_or}
 use Rattle.std.specs.List.{AllByRecursion}
 use Rattle.std.proofs.lemmas.Bool.{false≢true}
@@ -7,7 +7,7 @@ use Rattle.teredo_node.specs.Journal.{Entry, with_entry}
 use Rattle.topology.specs.declared.node.Node.{Node}
 use Rattle.topology.specs.Rules.{IsTopology}
 use Rattle.topology.specs.Topology.{node_at}
-use Rattle.history.specs.Full.{Item, Full, wire, items_of}
+use Rattle.history.specs.Full.{Item, Full, items_of}
 use Rattle.legal.specs.Lab.{Lab}
 use Rattle.legal.specs.Past.{now, journal}
 use Rattle.legal.specs.Emit.{entry_of, sendings}

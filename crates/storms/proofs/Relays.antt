@@ -1,11 +1,9 @@
 -- What a relay sends weighs, and what waits in it.
-use Rattle.std.proofs.Common.{◌≡◌, ◌≤◌, ℕ, ◌+◌, Bool, true, false, cond, List, [], ◌∷◌, ◌++◌, map, Option, Some, None, Result, Ok, Err, refl, sym, ap, subst, ◌∙◌, arith}
-use Rattle.std.specs.Prelude.{sum, sum_by, unwrap_or}
+use Rattle.std.proofs.Common.{◌≡◌, ◌≤◌, ℕ, Bool, true, false, cond, List, [], ◌∷◌, Result, Ok, Err, refl, arith}
+use Rattle.std.specs.Prelude.{sum_by}
 use Rattle.std.specs.List.{AllByRecursion}
 use Rattle.std.proofs.lemmas.Bool.{false≢true}
-use Rattle.std.proofs.lemmas.List.Sums.{sum_by-cons, sum-map}
-use Rattle.td_base.specs.Ep.{same_ep-self}
-use Rattle.td_base.specs.declared.ipv6.Ip6.{Ip6}
+use Rattle.std.proofs.lemmas.List.Sums.{sum_by-cons}
 use Rattle.td_base.specs.declared.endpoint.Ep.{Ep}
 use Rattle.ipv6_packet.specs.Packets.{Fields, packet_at}
 use Rattle.ipv6_packet.specs.Reads.{is_ok_packet, fields_or, is_packet, fields_in}
@@ -17,7 +15,6 @@ use Rattle.teredo_node.specs.Step.{Send}
 use Rattle.teredo_node.specs.Sends.{send, releases}
 use Rattle.topology.specs.Rows.{TopologyState}
 use Rattle.history.specs.Full.{udp}
-use Rattle.legal.specs.MadeWire.{IsMadeItem}
 use Rattle.storms.specs.Weights.{entry_weight}
 use Rattle.storms.specs.Burden.{relay_packet}
 use Rattle.storms.proofs.AtServers.{RowLaws}

@@ -1,8 +1,8 @@
 -- A delivery to a relay lightens.
-use Rattle.std.proofs.Common.{◌≡◌, ◌≤◌, ◌<◌, ℕ, ◌+◌, ◌&&◌, ◌||◌, not, Bool, true, false, cond, List, [], ◌∷◌, ◌++◌, map, length, Option, Some, None, refl, sym, ap, subst, ◌∙◌, arith}
+use Rattle.std.proofs.Common.{◌≡◌, ◌≤◌, ◌<◌, ℕ, ◌+◌, ◌&&◌, ◌||◌, not, Bool, true, false, cond, List, [], ◌∷◌, ◌++◌, map, Option, Some, None, refl, sym, ap, subst, ◌∙◌, arith}
 use Rattle.std.specs.Prelude.{sum, sum_by, unwrap_or, is_some}
-use Rattle.std.specs.List.{AllByRecursion, list_any}
-use Rattle.std.proofs.lemmas.Bool.{false≢true, and_parts, not_from_false}
+use Rattle.std.specs.List.{AllByRecursion}
+use Rattle.std.proofs.lemmas.Bool.{false≢true}
 use Rattle.std.proofs.lemmas.List.Sums.{sum_by-cons, sum-map}
 use Rattle.td_base.specs.Ep.{same_ep, same_ep-self, server_ep}
 use Rattle.td_base.specs.Bytes.{IsBytes}
@@ -19,20 +19,19 @@ use Rattle.teredo_addr.specs.Teredo.{is_teredo, server_in, embedded, unspecified
 use Rattle.bubble.specs.Bubbles.{is_bubble, bubble_of, bubble_bytes}
 use Rattle.bubble.specs.Messages.{message_in, is_echo_reply}
 use Rattle.bubble.specs.PacketsIn.{packet_in, source_in, packet_given, destination_in}
-use Rattle.bubble.specs.Payloads.{Value}
 use Rattle.bubble.specs.Reads.{is_payload, value_in}
 use Rattle.bubble.specs.Laws.{PacketIsPayload, BubbleReadsBack}
 use Rattle.teredo_node.specs.declared.fate.Fate.{Fate}
 use Rattle.teredo_node.specs.declared.fate.Fate.TheVariants as fate
 use Rattle.teredo_node.specs.Step.{Send, Step, part, rest_of}
 use Rattle.teredo_node.specs.Sends.{send, releases}
-use Rattle.teredo_node.specs.Journal.{arrived, given, from_six, ticked, Input, Entry, Journal, with_entry}
+use Rattle.teredo_node.specs.Journal.{arrived, given, from_six, ticked, Input, Entry, Journal}
 use Rattle.teredo_node.proofs.FirstLines.{first_of_each}
 use Rattle.peer_list.specs.Mentions.{Mention}
 use Rattle.peer_list.specs.Judged.{is_barred}
 use Rattle.peer_list.specs.Peers.{known}
 use Rattle.relay_rules.specs.Bearings.{mention, mentions}
-use Rattle.relay_rules.specs.Standing.{RelaySettings, Standing, known_in, standing_at, standing_of}
+use Rattle.relay_rules.specs.Standing.{Standing, known_in, standing_at, standing_of}
 use Rattle.relay_rules.specs.Reception as reception
 use Rattle.relay_rules.specs.Transmission as transmission
 use Rattle.relay_rules.specs.Journals.{IsJournal, entry, relay_in, relay_six}
@@ -40,14 +39,13 @@ use Rattle.relay_rules.specs.Warrants.{ReceivedOnlyIf, SentOnlyIf, IsOfPeer, IsS
 use Rattle.relay_rules.specs.Laws.{IsForeignTo, WaitingIsForeign, ReceptionIsWarranted, TransmissionIsWarranted}
 use Rattle.topology.specs.declared.relay_node.RelayNode.{RelayNode}
 use Rattle.topology.specs.Rows.{TopologyState}
-use Rattle.topology.specs.declared.node.Node.{Node}
 use Rattle.topology.specs.declared.node.Node.TheVariants.{Relay as relay}
-use Rattle.topology.specs.Topology.{nodes, node_at, is_at, own_ep}
+use Rattle.topology.specs.Topology.{nodes, node_at, own_ep}
 use Rattle.topology.specs.NodeRules.{IsRelayNode, EachNodeKeepsRules, AddressesAreApart}
-use Rattle.history.specs.Full.{Item, udp, six, Made, Full, items_of}
+use Rattle.history.specs.Full.{Item, udp, six, Made, Full}
 use Rattle.legal.specs.Lab.{Lab}
 use Rattle.legal.specs.Settings.{relay_settings}
-use Rattle.legal.specs.Past.{now, armed, journal}
+use Rattle.legal.specs.Past.{armed, journal}
 use Rattle.legal.specs.Emit.{outright, six_made}
 use Rattle.legal.specs.Laws.{EachRelayIsJournal}
 use Rattle.legal.specs.MadeWire.{IsMadeItem}
@@ -204,9 +202,19 @@ module _ (laws : RelayLaws) (lab : Lab) (q : RelayNode) (n m : ℕ) (j : List En
         omega (arith, heavy, new, same, packet, six, less)
 
     each_fate : Light (reception.reception_row heard)
-    each_fate = first_of_each Light (reception.reception_lines heard) fate.Unserved
-        (quietly fate.Malformed refl refl refl refl refl, (quietly fate.Keyed refl refl refl refl refl, (quietly fate.Big refl refl refl refl refl, (quietly fate.Source refl refl refl refl refl,
-        (quietly fate.Mismatch refl refl refl refl refl, (quietly fate.Unlisted refl refl refl refl refl, (bubbles, (served, tt))))))))
+    each_fate = first_of_each Light (reception.reception_lines heard) fate.Unserved (
+      quietly fate.Malformed refl refl refl refl refl,
+      (
+        quietly fate.Keyed refl refl refl refl refl,
+        (
+          quietly fate.Big refl refl refl refl refl,
+          (
+            quietly fate.Source refl refl refl refl refl,
+            (quietly fate.Mismatch refl refl refl refl refl, (quietly fate.Unlisted refl refl refl refl refl, (bubbles, (served, tt)))),
+          ),
+        ),
+      ),
+    )
         unserved
 
     pub datagram_lightens : IsLight (relay_in (relay_settings lab.topology n q) j m src x) w
@@ -304,9 +312,22 @@ module _ (laws : RelayLaws) (lab : Lab) (q : RelayNode) (n m : ℕ) (j : List En
     idly f none nothing touched hears_none queues only = calm (went f) w least none nothing touched hears_none queues
 
     each_way : Goes (transmission.transmission_row asked)
-    each_way = first_of_each Goes (transmission.packet_lines asked ++ transmission.destination_lines asked) fate.Queued
-        (idly fate.Malformed refl refl refl refl refl, (idly fate.Big refl refl refl refl refl, (idly fate.Dest refl refl refl refl refl, (idly fate.Source refl refl refl refl refl, (idly fate.Embedded refl refl refl refl refl,
-        (idly fate.Loop refl refl refl refl refl, (sent, (idly fate.PeersFull refl refl refl refl refl, (sent_cone, (idly fate.Barred refl refl refl refl refl, (idly fate.QueueFull refl refl refl refl refl, tt)))))))))))
+    each_way = first_of_each Goes (transmission.packet_lines asked ++ transmission.destination_lines asked) fate.Queued (
+      idly fate.Malformed refl refl refl refl refl,
+      (
+        idly fate.Big refl refl refl refl refl,
+        (
+          idly fate.Dest refl refl refl refl refl,
+          (
+            idly fate.Source refl refl refl refl refl,
+            (
+              idly fate.Embedded refl refl refl refl refl,
+              (idly fate.Loop refl refl refl refl refl, (sent, (idly fate.PeersFull refl refl refl refl refl, (sent_cone, (idly fate.Barred refl refl refl refl refl, (idly fate.QueueFull refl refl refl refl refl, tt)))))),
+            ),
+          ),
+        ),
+      ),
+    )
         queued
 
     pub packet_lightens : IsLight (relay_six (relay_settings lab.topology n q) j m x) w
@@ -342,7 +363,7 @@ module _ (laws : RelayLaws) (lab : Lab) (H : List Full) (r : Full) (n : ℕ) (q 
   light : (x : Item) → IsReached lab H r n (relay q) x → (w : ℕ) → w ≤ entry_weight lab.topology x
       → (AllByRecursion IsMadeItem (items_in (outright (own_ep (relay q)) (armed H) 0 (answer_of lab H r n (relay q) x).step.sends ++ six_made (answer_of lab H r n (relay q) x).input (answer_of lab H r n (relay q) x).step.six))
       → sum_by (entry_weight lab.topology) (items_in (outright (own_ep (relay q)) (armed H) 0 (answer_of lab H r n (relay q) x).step.sends ++ six_made (answer_of lab H r n (relay q) x).input (answer_of lab H r n (relay q) x).step.six))
-          + waits_in relay_packet (mention (answer_of lab H r n (relay q) x) ∷ mentions (journal n H).entries) r.moment < w + waits_in relay_packet (mentions (journal n H).entries) r.moment)
+      + waits_in relay_packet (mention (answer_of lab H r n (relay q) x) ∷ mentions (journal n H).entries) r.moment < w + waits_in relay_packet (mentions (journal n H).entries) r.moment)
       → NodeLightens lab H r n (relay q) x
   light x h w weighs less =
       let is = ap (λ (ms : List Made). sum_by (entry_weight lab.topology) (items_in ms)) h.made in

@@ -1,12 +1,11 @@
 -- What the datagrams weigh that nodes send in answer to others.
-use Rattle.std.proofs.Common.{◌≡◌, ◌⊎◌, inl, inr, ◌≤◌, ℕ, ◌+◌, ◌||◌, Bool, true, false, cond, List, Option, Some, None, refl, sym, ap, subst, ◌∙◌, arith}
+use Rattle.std.proofs.Common.{◌≡◌, ◌≤◌, ℕ, ◌+◌, ◌||◌, Bool, true, false, cond, List, Option, Some, None, refl, sym, ap, ◌∙◌, arith}
 use Rattle.std.proofs.lemmas.Bool.{false≢true, or_left, or_right}
 use Rattle.td_base.specs.Bytes.{IsBytes}
 use Rattle.td_base.specs.Ip4.{same_ip}
 use Rattle.td_base.specs.Ep.{IsEp, same_ep, server_ep}
 use Rattle.td_base.specs.declared.endpoint.Ep.{Ep}
 use Rattle.ipv6_packet.specs.Packets.{Fields}
-use Rattle.icmp6.specs.Message.{Message, echo_request}
 use Rattle.teredo_addr.specs.Teredo.{is_teredo, embedded}
 use Rattle.bubble.specs.Payloads.{value_written}
 use Rattle.bubble.specs.Bubbles.{is_bubble}
@@ -23,7 +22,7 @@ use Rattle.history.specs.Full.{udp}
 use Rattle.legal.specs.Settings.{server_settings}
 use Rattle.storms.specs.Weights.{is_server_at, is_some_server, datagram_weight, output_weight, weight_at, entry_weight}
 use Rattle.storms.proofs.Weighed.{datagram_most}
-use Rattle.storms.proofs.Places.{first_at, IsThere, is_there, ep_ip, server_there, any_there}
+use Rattle.storms.proofs.Places.{first_at, IsThere, is_there, ep_ip, any_there}
 use Rattle.storms.proofs.Freights.{load, load_is, bubble_load, teredo_load, reply_load, packet_under, bubble_message, bubble_weight}
 use Rattle.storms.proofs.AtServers.{RowLaws, teredo_there, looped_there, native_there, bubble_there}
 

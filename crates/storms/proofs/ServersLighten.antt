@@ -1,10 +1,10 @@
 -- A delivery to a server, to a native host or to a NAT lightens.
-use Rattle.std.proofs.Common.{◌≡◌, ◌⊎◌, inl, inr, ◌≤◌, ◌<◌, ℕ, ◌+◌, Bool, true, false, List, [], ◌∷◌, ◌++◌, Option, Some, None, refl, sym, ap, subst, ◌∙◌, arith}
+use Rattle.std.proofs.Common.{◌≡◌, ◌⊎◌, inl, inr, ◌≤◌, ◌<◌, ℕ, ◌+◌, true, false, List, [], Option, Some, None, refl, sym, ap, subst, ◌∙◌, arith}
 use Rattle.std.specs.Prelude.{sum_by}
 use Rattle.std.specs.List.{AllByRecursion}
 use Rattle.std.proofs.lemmas.Bool.{or_left, or_right}
 use Rattle.std.proofs.lemmas.List.Sums.{sum_by-cons}
-use Rattle.td_base.specs.Ep.{IsEp, same_ep, same_ep-self, server_ep}
+use Rattle.td_base.specs.Ep.{same_ep, same_ep-self, server_ep}
 use Rattle.td_base.specs.declared.endpoint.Ep.{Ep}
 use Rattle.td_base.specs.declared.side.Side.{Side}
 use Rattle.td_base.specs.declared.span.Span.{Span}
@@ -24,7 +24,7 @@ use Rattle.history.specs.Full.{Item, udp, six, Made, Full, items_of}
 use Rattle.legal.specs.Lab.{Lab}
 use Rattle.legal.specs.Settings.{server_settings}
 use Rattle.legal.specs.Past.{armed}
-use Rattle.legal.specs.Emit.{outright, six_made, native_made, relay_for}
+use Rattle.legal.specs.Emit.{six_made, native_made, relay_for}
 use Rattle.legal.specs.MadeWire.{IsMadeItem}
 use Rattle.storms.specs.Weights.{send_weight, six_weight, weight_at, entry_weight}
 use Rattle.storms.proofs.Weighed.{weight_least}

@@ -9,8 +9,7 @@ use Rattle.history.specs.Full.{Item, Full, wire}
 use Rattle.legal.specs.Lab.{Lab}
 use Rattle.legal.specs.Past.{has_more, was_delivered, first_open, first_undelivered}
 use Rattle.legal.specs.Kinds.{Delivers, Kind, quiet, put, copied, ticks, handed, reached, Quiet, passed, shut, strayed, missing, none_left, settled, uncopied, hosted, restarted, forgot, faulted}
-use Rattle.legal.specs.Legal.{Grown}
-use Rattle.storms.specs.Deliveries.{DeliversNew, GoesOnSettling, SettleDeliversNew}
+use Rattle.storms.specs.Deliveries.{DeliversNew, SettleDeliversNew}
 use Rattle.storms.proofs.Exchanged.{KindLaw}
 
 -- the first that wasn't delivered is one of those that are there

@@ -1,5 +1,5 @@
 -- No weight is above 12, so what can follow is bounded by how much there is.
-use Rattle.std.proofs.Common.{◌≡◌, ◌≤◌, ◌<◌, ℕ, ◌+◌, ◌*◌, ◌&&◌, not, Bool, true, false, cond, List, [], ◌∷◌, ◌++◌, map, length, Option, Some, None, refl, sym, ap, subst, ◌∙◌, arith}
+use Rattle.std.proofs.Common.{◌≤◌, ℕ, ◌+◌, ◌*◌, ◌&&◌, Bool, true, false, cond, List, [], ◌∷◌, ◌++◌, map, length, Option, Some, None, arith}
 use Rattle.std.specs.Prelude.{sum, sum_by, option_and_then}
 use Rattle.std.specs.List.{AllByRecursion}
 use Rattle.std.proofs.lemmas.List.Sums.{sum_by-cons}
@@ -22,10 +22,10 @@ use Rattle.topology.specs.Rows.{TopologyState}
 use Rattle.topology.specs.declared.node.Node.{Node}
 use Rattle.topology.specs.declared.node.Node.TheVariants.{Server as server, Nat as nat, Client as client, Relay as relay, Native as native}
 use Rattle.topology.specs.Topology.{nodes, node_at, number_of, is_at, side_at, own_ep}
-use Rattle.history.specs.Full.{Item, udp, six, Full, wire}
+use Rattle.history.specs.Full.{Item, udp, six, Full}
 use Rattle.legal.specs.Settings.{server_settings}
 use Rattle.legal.specs.Past.{now, journal}
-use Rattle.storms.specs.Weights.{is_some_server, is_echo_request, packet_weight, Freight, freight, freight_weight, datagram_weight, send_weight, six_weight, output_weight, weight_at, entry_weight}
+use Rattle.storms.specs.Weights.{is_some_server, is_echo_request, packet_weight, Freight, freight, freight_weight, datagram_weight, send_weight, six_weight, weight_at, entry_weight}
 use Rattle.storms.specs.Burden.{undelivered_items, waiting_packets, client_packet, relay_packet, waits_at, waits_from, waits}
 use Rattle.storms.specs.Loads.{EachIsWeighed, BurdenIsBounded}
 

@@ -44,15 +44,18 @@ SettlingEnds t H later = AllByRecursion GoesOnSettling later → length later �
 
 -- WHAT IS PROVED
 
--- each delivery lightens, in every history
+-- each delivery lightens, in every history of a topology that keeps its rules
 abbrev pub EachLightens : Type 0
 EachLightens = (lab : Lab) (H : List Full) (r : Full) → IsTopology lab.topology → Grown lab (r ∷ H) → DeliveryLightens lab.topology H r
 
--- and where it does, deliveries end
-abbrev pub EndIfLighter : Type 0
-EndIfLighter = EachLightens → (lab : Lab) (H later : List Full) → IsTopology lab.topology → Grown lab (later ++ H)
-    → DeliveriesEnd lab.topology H later
+-- so deliveries end
+abbrev pub EachStormEnds : Type 0
+EachStormEnds = (lab : Lab) (H later : List Full) → IsTopology lab.topology → Grown lab (later ++ H) → DeliveriesEnd lab.topology H later
 
 -- each record of a `settle` that goes on delivers an entry for the first time
 abbrev pub SettleDeliversNew : Type 0
 SettleDeliversNew = (lab : Lab) (H : List Full) (r : Full) → Grown lab (r ∷ H) → GoesOnSettling r → DeliversNew H r
+
+-- so it ends
+abbrev pub EachSettlingEnds : Type 0
+EachSettlingEnds = (lab : Lab) (H later : List Full) → IsTopology lab.topology → Grown lab (later ++ H) → SettlingEnds lab.topology H later

@@ -2,3 +2,4 @@ pub mod Weights
 pub mod Burden
 pub mod Deliveries
 pub mod Loads
+pub mod Throughout

@@ -21,7 +21,6 @@ use Rattle.teredo_node.specs.Step.{Send, Step, part}
 use Rattle.teredo_node.specs.Rows.{first_line}
 use Rattle.server_core.specs.Server.{server_row}
 use Rattle.topology.specs.Rows.{TopologyState}
-use Rattle.topology.specs.declared.server_node.ServerNode.{ServerNode}
 use Rattle.topology.specs.declared.node.Node.{Node}
 use Rattle.topology.specs.declared.node.Node.TheVariants.{Server as server, Nat as nat, Relay as relay}
 use Rattle.topology.specs.Topology.{nodes, node_at, number_of, is_at, side_at, own_ep}

@@ -1,6 +1,7 @@
 //! Laws of every history.
 ghost use Rattle.storms.specs.Loads.{EachIsWeighed, BurdenIsBounded, DeliveryExchanges};
-ghost use Rattle.storms.specs.Deliveries.{EndIfLighter, SettleDeliversNew};
+ghost use Rattle.storms.specs.Deliveries.{EachLightens, EachStormEnds, SettleDeliversNew, EachSettlingEnds};
+ghost use Rattle.storms.specs.Throughout.{HistoriesHaveNoStorm, ScenariosHaveNoStorm};
 
 /// Each entry weighs 1 at least, and 12 at most.
 pub fn each_is_weighed()
@@ -23,11 +24,54 @@ pub fn delivery_exchanges()
     legal::kinds();
 }
 
-/// Where each delivery takes away more than it brings, deliveries end.
-pub fn end_if_lighter()
-    ensures { EndIfLighter }
+/// Each delivery of an entry that wasn't delivered before takes away more than it brings, whatever strangers sent.
+pub fn each_lightens()
+    ensures { EachLightens }
+{
+    delivery_exchanges();
+    topology::apart();
+    topology::each_node();
+    legal::kinds();
+    legal::acted();
+    legal::makes_its_own();
+    legal::routes();
+    legal::frame();
+    legal::wire_is_made();
+    legal::client_journals();
+    legal::relay_journals();
+    ipv6_packet::packet_is_spelled();
+    ipv6_packet::packet_is_bytes();
+    ipv6_packet::packet_reads_back();
+    bubble::message_is_carried();
+    bubble::packet_is_payload();
+    bubble::bubble_reads_back();
+    server_core::rule_is_warranted();
+    server_core::forwarded_reads_back();
+    server_core::each_ends_among_servers();
+    native_host::each_is_reply();
+    peer_list::of_another();
+    peer_list::of_a_touch();
+    peer_list::of_no_touch();
+    peer_list::unlisted();
+    peer_list::listed_are();
+    relay_rules::waiting_is_foreign();
+    relay_rules::reception_is_warranted();
+    relay_rules::transmission_is_warranted();
+    qualify::turns();
+    qualify::turns_at_start();
+    client_rules::next_mentions();
+    client_rules::qualified_has_address();
+    client_rules::waiting_is_own();
+    client_rules::each_standing_is_made();
+    client_rules::reception_is_warranted();
+}
+
+/// So deliveries alone come to an end: there are at most twelve for each undelivered entry and each packet that waits.
+pub fn deliveries_end()
+    ensures { EachStormEnds }
 {
     burden_is_bounded();
+    each_lightens();
 }
 
 /// Each record of a `settle` that goes on delivers an entry for the first time.
@@ -35,4 +79,28 @@ pub fn settle_delivers_new()
     ensures { SettleDeliversNew }
 {
     legal::kinds();
+}
+
+/// So a `settle` ends after at most as many.
+pub fn settling_ends()
+    ensures { EachSettlingEnds }
+{
+    deliveries_end();
+    settle_delivers_new();
+}
+
+/// Every history has no storm, from each of its records on.
+pub fn histories_have_no_storm()
+    ensures { HistoriesHaveNoStorm }
+{
+    deliveries_end();
+    settling_ends();
+}
+
+/// Nor has the history of any scenario, as far as it was played.
+pub fn scenarios_have_no_storm()
+    ensures { ScenariosHaveNoStorm }
+{
+    legal::grown();
+    histories_have_no_storm();
 }

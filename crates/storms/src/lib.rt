@@ -6,6 +6,8 @@
 //!   at the entry and the topology alone, never at a node's tables.
 //! - What can follow in all is the weights of what is undelivered and of the packets that wait: at most twelve times as much
 //!   as there are (`specs/Burden.antt`, `Loads.antt`).
+//! - Each delivery of an entry that wasn't delivered before makes it less, in every history of a topology that keeps its
+//!   rules, whichever NATs are behind others. So deliveries alone end, and so does a `settle` (`specs/Deliveries.antt`).
 //!
 //! # What it does not know
 //!
@@ -18,11 +20,13 @@
 //! | what can follow from an entry | `specs/Weights.antt` |
 //! | from all that is undelivered or waits | `specs/Burden.antt` |
 //! | how heavy it is, and what a delivery exchanges | `specs/Loads.antt` |
-//! | that deliveries end | `specs/Deliveries.antt` |
+//! | that each delivery lightens, and that they end | `specs/Deliveries.antt` |
+//! | all of it, at each record | `specs/Throughout.antt` |
 #![tactic(auto)]
 
 mod laws;
 
 pub use laws::{
-    burden_is_bounded, delivery_exchanges, each_is_weighed, end_if_lighter, settle_delivers_new,
+    burden_is_bounded, deliveries_end, delivery_exchanges, each_is_weighed, each_lightens,
+    histories_have_no_storm, scenarios_have_no_storm, settle_delivers_new, settling_ends,
 };
