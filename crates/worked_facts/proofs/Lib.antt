@@ -4,3 +4,5 @@ mod DisturbedFacts
 pub mod OriginViews
 pub mod OriginFacts
 pub mod DishonestFacts
+mod StormViews
+mod StormFacts

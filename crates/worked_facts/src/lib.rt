@@ -8,4 +8,5 @@
 //! | `OriginFacts` | honest histories: whence a packet came that a host is handed, and that a client's NAT holds what its address embeds |
 //! | `DishonestFacts` | somebody says that he is a server, and a client's NAT doesn't hold what its address embeds |
 //! | `OriginViews` | the words of these |
+//! | `StormFacts` | what can follow and what does; more deliveries than that with a tick between, or an entry delivered again |
 #![tactic(auto)]

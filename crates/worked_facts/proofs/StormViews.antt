@@ -1,0 +1,24 @@
+-- What can follow after a history, and how many deliveries do.
+use Rattle.std.proofs.Common.{◌≡◌, ◌≤◌, ◌<◌, ℕ, List, arith}
+use Rattle.std.specs.Prelude.{length, is_some, if◌then◌else◌, sum_by}
+use Rattle.topology.specs.Rows.{TopologyState}
+use Rattle.history.specs.Full.{Full}
+use Rattle.storms.specs.Burden.{undelivered_items, waits, burden, burden_most}
+
+-- how many entries are undelivered and how many packets wait, what they weigh, and how much that can be at most
+pub record Storm : Type 0 where
+  pub undelivered : ℕ
+  pub waiting : ℕ
+  pub weights : ℕ
+  pub most : ℕ
+
+abbrev pub storm : TopologyState → List Full → Storm
+storm t H = record { undelivered = length (undelivered_items H); waiting = length (waits t H); weights = burden t H; most = burden_most t H }
+
+-- how many of these records delivered an entry
+abbrev pub deliveries : List Full → ℕ
+deliveries later = sum_by (λ (r : Full). if is_some r.delivered then 1 else 0) later
+
+-- they are more than may follow
+pub too_many : (t : TopologyState) (H later : List Full) (most many : ℕ) → burden_most t H ≡ most → deliveries later ≡ many → most < many → deliveries later ≤ burden_most t H → ⊥
+too_many t H later most many bound count more less = omega (arith, bound, count, more, less)
