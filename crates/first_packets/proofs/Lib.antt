@@ -1,0 +1,3 @@
+mod Bools
+mod Ways
+mod Sent

@@ -1,0 +1,142 @@
+-- Ways in past NATs: at one moment, what counts goes on to count, and a port that is held answers.
+use Rattle.std.proofs.Common.{◌≡◌, ◌<◌, ◌≤◌, ℕ, zero, suc, ◌-◌, Bool, true, false, cond, List, [], ◌∷◌, ◌++◌, Option, Some, None, Result, Ok, Err, refl, sym, ap, subst, ◌∙◌, arith}
+use Rattle.std.specs.Prelude.{Contains, nat_lt}
+use Rattle.std.specs.List.{AllByRecursion}
+use Rattle.std.proofs.lemmas.Bool.{false≢true}
+use Rattle.std.proofs.lemmas.Bool.Decides.{nat_tests}
+use Rattle.td_base.specs.declared.endpoint.Ep.{Ep}
+use Rattle.td_base.specs.Ip4.{same_ip}
+use Rattle.nat_kinds.specs.declared.kind.NatKind.{NatKind}
+use Rattle.nat_kinds.specs.declared.kind.NatKind.TheVariants.{Cone, Restricted, Port, Symmetric}
+use Rattle.nat_kinds.specs.declared.outgoing.Outward.{Outward}
+use Rattle.nat_kinds.specs.declared.settings.NatSettings.{NatSettings}
+use Rattle.nat_kinds.specs.declared.refusal.NatRefusal.{NatRefusal}
+use Rattle.nat_kinds.specs.declared.refusal.NatRefusal.TheVariants as refusal
+use Rattle.nat_kinds.specs.History.{Entry, Out, is_young, counting}
+use Rattle.nat_kinds.specs.Mappings.{live_port}
+use Rattle.nat_kinds.specs.Answer.{live_after, port_for, nat_answer}
+use Rattle.nat_kinds.specs.Laws.{latest_moment, IsPast, WasAsked}
+use Rattle.topology.specs.declared.client_node.ClientNode.{ClientNode}
+use Rattle.topology.specs.Chains.{nat_set_up}
+use Rattle.events.specs.declared.event.Event.{Event}
+use Rattle.events.specs.declared.event.Event.TheVariants as event
+use Rattle.history.specs.Full.{Full}
+use Rattle.legal.specs.Lab.{Lab}
+use Rattle.legal.specs.Past.{now, nat_entries, nat_history}
+use Rattle.legal.specs.Legal.{Follows}
+use Rattle.legal.specs.NatGrowth.{IsOutOf, NatGrows, stays, restarts, forgets, lets_out, EachNatGrows}
+use Rattle.settled.specs.Clients.{is_symmetric}
+
+-- the law that a datagram that counts holds its port
+abbrev pub CountingHolds : Type 0
+CountingHolds = (s : NatSettings) (h : List Entry) (n : ℕ) → IsPast s h n → (e : Outward) → Contains (counting s.idle n h) e → live_port s.kind e.inside e.dst (live_after s h n) ≡ Some e.port
+
+pub behind : {A : Type 0} → (x : A) (xs : List A) (y : A) → Contains xs y → Contains (x ∷ xs) y
+behind x xs y c = (suc c.0, (let within = c.1 in omega (arith, within)), c.2)
+
+pub in_front : {A : Type 0} → (x : A) (xs : List A) → Contains (x ∷ xs) x
+in_front x xs = (0, omega arith, refl)
+
+-- MORE DATAGRAMS
+
+pub counts_on : (idle n : ℕ) (e : Outward) (h : List Entry) (d : Outward) → Contains (counting idle n h) d → Contains (counting idle n (Out e ∷ h)) d
+counts_on idle n e h d c = by (is_young idle n e) where
+  by : (b : Bool) → Contains (cond b (e ∷ counting idle n h) (counting idle n h)) d
+  by true = behind e (counting idle n h) d c
+  by false = c
+
+-- the one that goes out at a moment counts then
+pub counts_itself : (idle n : ℕ) (e : Outward) (h : List Entry) → e.moment.0 ≡ n → 0 < idle → Contains (counting idle n (Out e ∷ h)) e
+counts_itself idle n e h at positive = by (is_young idle n e) young where
+  young : is_young idle n e ≡ true
+  young = subst (λ (m : ℕ). nat_lt (n - m) idle ≡ true) (sym at) (lasts idle n positive) where
+    lasts : (i m : ℕ) → 0 < i → nat_lt (m - m) i ≡ true
+    lasts i m p = grind (arith, nat_tests)
+
+  by : (b : Bool) → b ≡ true → Contains (cond b (e ∷ counting idle n h) (counting idle n h)) e
+  by true g = in_front e (counting idle n h)
+  by false g = absurd (false≢true g)
+
+all_out : (lab : Lab) (c : ClientNode) (m k idle n : ℕ) (added h : List Entry) (d : Outward) → AllByRecursion (IsOutOf lab c m k) added → Contains (counting idle n h) d → Contains (counting idle n (added ++ h)) d
+all_out lab c m k idle n [] h d a held = held
+all_out lab c m k idle n (x ∷ xs) h d a held =
+    subst (λ (y : Entry). Contains (counting idle n (y ∷ xs ++ h)) d) (sym a.0.is) (counts_on idle n a.0.datagram (xs ++ h) d (all_out lab c m k idle n xs h d a.1 held))
+
+-- RECORDS THAT LEAVE NATS
+
+-- an event that neither starts a NAT anew nor has it forget anybody
+abbrev pub is_calm : Event → Bool
+is_calm (event.Restart node) = false
+is_calm (event.Forget n who) = false
+is_calm _ = true
+
+-- what counted counts after such a record
+pub grows_on : (lab : Lab) (r : Full) (k idle n : ℕ) (added h : List Entry) (d : Outward) → is_calm r.asked ≡ true → NatGrows lab r k added → Contains (counting idle n h) d → Contains (counting idle n (added ++ h)) d
+grows_on lab r k idle n added h d calm (stays none) held = subst (λ (z : List Entry). Contains (counting idle n (z ++ h)) d) (sym none) held
+grows_on lab r k idle n added h d calm (restarts asked is) held = absurd (false≢true (sym (ap is_calm asked) ∙ calm))
+grows_on lab r k idle n added h d calm (forgets who c asked there is) held = absurd (false≢true (sym (ap is_calm asked) ∙ calm))
+grows_on lab r k idle n added h d calm (lets_out j c node there outs) held = all_out lab c r.moment k idle n added h d outs held
+
+-- a datagram counts at NAT k now
+abbrev pub Counts : Lab → List Full → ℕ → Outward → Type 0
+Counts lab H k d = Contains (counting (nat_set_up lab.topology k).idle (now H) (nat_history lab k H)) d
+
+pub still_counts : EachNatGrows → (lab : Lab) (H : List Full) (r : Full) (k : ℕ) (d : Outward) → Follows lab H r → is_calm r.asked ≡ true → r.moment ≡ now H → Counts lab H k d → Counts lab (r ∷ H) k d
+still_counts law lab H r k d follows calm moment held =
+    let idle = (nat_set_up lab.topology k).idle in
+    subst (λ (m : ℕ). Contains (counting idle m (nat_entries lab k r ++ nat_history lab k H)) d) (sym moment) (grows_on lab r k idle (now H) (nat_entries lab k r) (nat_history lab k H) d calm (law lab H r k follows) held)
+
+-- NAT k lets what comes from src in at a port to an inside endpoint, since some datagram asked for it
+abbrev pub Way : Lab → List Full → ℕ → Ep → ℕ → Ep → Type 0
+Way lab H k src port inside = WasAsked (nat_set_up lab.topology k) (nat_history lab k H) (now H) src port inside
+
+pub still_way : EachNatGrows → (lab : Lab) (H : List Full) (r : Full) (k : ℕ) (src : Ep) (port : ℕ) (inside : Ep) → Follows lab H r → is_calm r.asked ≡ true → r.moment ≡ now H → Way lab H k src port inside → Way lab (r ∷ H) k src port inside
+still_way law lab H r k src port inside follows calm moment way = record {
+  datagram = way.datagram;
+  counts = still_counts law lab H r k way.datagram follows calm moment way.counts;
+  left = way.left;
+  by_port = way.by_port;
+  asked = way.asked;
+}
+
+-- A HELD PORT ANSWERS
+
+-- where the NAT isn't symmetric, whatever the destination
+pub any_dst : (kind : NatKind) (inside dst other : Ep) (live : List Outward) → is_symmetric kind ≡ false → live_port kind inside dst live ≡ live_port kind inside other live
+any_dst Cone inside dst other live h = refl
+any_dst Restricted inside dst other live h = refl
+any_dst Port inside dst other live h = refl
+any_dst Symmetric inside dst other live h = absurd (false≢true (sym h))
+
+-- an inside endpoint holds a port
+pub record Holds (s : NatSettings) (h : List Entry) (n : ℕ) (inside : Ep) (port : ℕ) : Type 0 where
+  pub past : IsPast s h n
+  pub datagram : Outward
+  pub counts : Contains (counting s.idle n h) datagram
+  pub left : datagram.inside ≡ inside
+  pub by_port : datagram.port ≡ port
+
+pub held_port : CountingHolds → (s : NatSettings) (h : List Entry) (n : ℕ) (inside dst : Ep) (port : ℕ) → is_symmetric s.kind ≡ false → Holds s h n inside port → live_port s.kind inside dst (live_after s h n) ≡ Some port
+held_port law s h n inside dst port kind holds =
+    any_dst s.kind inside dst holds.datagram.dst (live_after s h n) kind
+    ∙ ap (λ (e : Ep). live_port s.kind e holds.datagram.dst (live_after s h n)) (sym holds.left)
+    ∙ law s h n holds.past holds.datagram holds.counts
+    ∙ ap (λ (p : ℕ). Some p) holds.by_port
+
+pub answers : CountingHolds → (s : NatSettings) (h : List Entry) (n : ℕ) (inside dst : Ep) (port : ℕ) → is_symmetric s.kind ≡ false → same_ip dst.ip s.external ≡ false → Holds s h n inside port → nat_answer s h n inside dst ≡ Ok port
+answers law s h n inside dst port kind elsewhere holds =
+    ap (λ (b : Bool). cond b (Err refusal.Hairpin) (port_for (live_port s.kind inside dst (live_after s h n)) (live_after s h n))) elsewhere
+    ∙ ap (λ (o : Option ℕ). port_for o (live_after s h n)) (held_port law s h n inside dst port kind holds)
+
+-- one datagram more: the port is held
+pub holds_on : (s : NatSettings) (h : List Entry) (n : ℕ) (inside : Ep) (port : ℕ) (e : Outward) → e.moment.0 ≡ n → nat_answer s h n e.inside e.dst ≡ Ok e.port → Holds s h n inside port → Holds s (Out e ∷ h) n inside port
+holds_on s h n inside port e at answer holds = record {
+  past = record {
+    history = (subst (λ (m : ℕ). latest_moment h ≤ m) (sym at) holds.past.moments, subst (λ (m : ℕ). nat_answer s h m e.inside e.dst ≡ Ok e.port) (sym at) answer, holds.past.history);
+    moments = subst (λ (m : ℕ). m ≤ n) (sym at) (omega arith);
+  };
+  datagram = holds.datagram;
+  counts = counts_on s.idle n e h holds.datagram holds.counts;
+  left = holds.left;
+  by_port = holds.by_port;
+}
