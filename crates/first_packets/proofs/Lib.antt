@@ -1,3 +1,7 @@
 mod Bools
 mod Ways
 mod Sent
+mod Forwarded
+mod Received
+mod Given
+mod Known
