@@ -5,3 +5,5 @@ mod Forwarded
 mod Received
 mod Given
 mod Known
+mod Ends
+mod Counted
