@@ -7,3 +7,5 @@ mod Given
 mod Known
 mod Ends
 mod Counted
+mod Deliveries
+mod Reaching
