@@ -9,3 +9,5 @@ mod Ends
 mod Counted
 mod Deliveries
 mod Reaching
+mod Meeting
+mod Pair

@@ -1,0 +1,272 @@
+-- Two settled clients: what one does with what the other's first packet draws.
+use Rattle.std.proofs.Common.{◌≡◌, ◌≢◌, ◌≤◌, ◌+◌, ◌-◌, ◌&&◌, ◌||◌, not, ℕ, Bool, true, false, cond, List, [], ◌∷◌, ◌++◌, length, take, drop, Option, Some, None, refl, sym, ap, subst, ◌∙◌}
+use Rattle.std.specs.Prelude.{unwrap_or, is_some, option_and_then}
+use Rattle.std.proofs.lemmas.Bool.{false≢true}
+use Rattle.std.proofs.lemmas.List.{take_rest}
+use Rattle.td_base.specs.declared.endpoint.Ep.{Ep}
+use Rattle.td_base.specs.declared.ipv6.Ip6.{Ip6}
+use Rattle.td_base.specs.declared.reach.Policy.{Policy}
+use Rattle.td_base.specs.declared.reach.Policy.TheVariants.{Strict}
+use Rattle.td_base.specs.Reach.{is_usable, is_global, is_global6}
+use Rattle.td_base.specs.Ip6.{IsIp6, same_ip6, same_ip6-self, same_ip6-true}
+use Rattle.td_base.specs.Ep.{same_ep, same_ep-self, server_ep}
+use Rattle.ipv6_packet.specs.Packets.{Fields}
+use Rattle.ipv6_packet.specs.Reads.{is_big, is_packet, fields_in}
+use Rattle.teredo_addr.specs.Teredo.{is_teredo, server_in, has_cone, embedded, unspecified}
+use Rattle.teredo_addr.specs.Reaching.{is_reachable}
+use Rattle.indications.specs.Leads.{is_keyed, is_confirmed}
+use Rattle.bubble.specs.Bubbles.{is_bubble, bubble_of, bubble_bytes}
+use Rattle.bubble.specs.Payloads.{Value, value_written}
+use Rattle.bubble.specs.Messages.{message_in, is_ill_formed, is_advert}
+use Rattle.bubble.specs.Laws.{ReadsPayload}
+use Rattle.bubble.specs.PacketsIn.{packet_in}
+use Rattle.teredo_node.specs.declared.fate.Fate.{Fate}
+use Rattle.teredo_node.specs.declared.fate.Fate.TheVariants as fate
+use Rattle.teredo_node.specs.Step.{Send, rest_of, part}
+use Rattle.teredo_node.specs.Sends.{send, releases}
+use Rattle.teredo_node.specs.Journal.{arrived, given, Entry, Journal, Words}
+use Rattle.peer_list.specs.Listed.{is_listed, has_room}
+use Rattle.peer_list.specs.Peers.{Peer, no_peer, known}
+use Rattle.peer_list.specs.Judged.{is_fresh, is_spent, is_barred, is_full}
+use Rattle.peer_list.specs.Laws.{Unlisted}
+use Rattle.qualify.specs.declared.settings.Settings.{Settings}
+use Rattle.qualify.specs.Qualification.{qualification}
+use Rattle.qualify.specs.Solicitations.{is_qualified, own_address}
+use Rattle.qualify.specs.Advertisements.{advert_row}
+use Rattle.client_rules.specs.Bearings.{mentions}
+use Rattle.client_rules.specs.Standing.{Standing, standing_at, known_in}
+use Rattle.client_rules.specs.Tries.{direct_bubble, both_bubbles, tries_by, try_sends}
+use Rattle.client_rules.specs.Reception.{is_from_server, seen_of, reception_row, reception_step}
+use Rattle.client_rules.specs.Transmission.{queues, transmission_row, transmission_step}
+use Rattle.client_rules.specs.Journals.{entry, client_in, client_out}
+use Rattle.legal.specs.Emit.{part_of, handed_by}
+use Rattle.first_packets.proofs.Bools.{left_fails, right_fails, both_hold, not_so, refused, left_holds}
+use Rattle.first_packets.proofs.Known.{untried, unspent}
+use Rattle.first_packets.proofs.Received.{IsForHere, IsThroughServer, IsFromPeer, answered, HearsBubble, by_rule1, by_rule3, HandsOver, over_by_rule1, over_by_rule3, bubble_heard, packet_handed, seen_here, entry_here}
+use Rattle.first_packets.proofs.Given.{IsForPeer, sent_at_once, waits_for_it, given_here, entry_given}
+
+-- a client that is set up so and has the address own may hear from a peer, and send to it
+pub record Meets (s : Settings) (own peer : Ip6) : Type 0 where
+  pub strict : s.policy ≡ Strict
+  pub teredo : is_teredo peer ≡ true
+  pub global : is_global6 peer ≡ true
+  pub usable : is_usable Strict (embedded peer) ≡ true
+  pub server_global : is_global Strict (server_in peer) ≡ true
+  pub other : same_ip6 peer own ≡ false
+  pub no_server : is_from_server s (embedded peer) ≡ false
+
+-- it has the address, and room for the peer
+pub record Knows (s : Settings) (j : Journal) (n : ℕ) (own peer : Ip6) : Type 0 where
+  pub address : (qualification s j).address ≡ Some own
+  pub qualified : is_qualified (qualification s j).phase ≡ true
+  pub room : has_room (mentions j.entries) n peer ≡ true
+
+address_is : (s : Settings) (j : Journal) (own : Ip6) → (qualification s j).address ≡ Some own → own_address (qualification s j) ≡ own
+unfolding own_address
+address_is s j own e = ap (λ (o : Option Ip6). unwrap_or o unspecified) e
+
+right_holds : (b c : Bool) → c ≡ true → (b || c) ≡ true
+right_holds true c e = refl
+right_holds false c e = e
+
+-- A DATAGRAM FROM THE PEER
+
+-- with the packet p, from the peer to this client
+module _ (s : Settings) (j : Journal) (n : ℕ) (p : Fields) (meets : Meets s p.dst p.src) (knows : Knows s j n p.dst p.src) (small : is_big p ≡ false) where
+  own_is : own_address (qualification s j) ≡ p.dst
+  own_is = address_is s j p.dst knows.address
+
+  for_here : (from : Ep) (origin : Option Ep) → IsForHere (seen_of s (standing_at s j n p.src) from true (value_written None origin p))
+  unfolding standing_at is_keyed is_confirmed
+  for_here from origin = record {
+    payload = refl;
+    unkeyed = refl;
+    unconfirmed = refl;
+    short = small;
+    qualified = knows.qualified;
+    mine = ap (same_ip6 p.dst) own_is ∙ same_ip6-self p.dst;
+    from_another = ap (same_ip6 p.src) own_is ∙ meets.other;
+    room = knows.room;
+  }
+
+  from_peer : IsFromPeer (seen_of s (standing_at s j n p.src) (embedded p.src) true (value_written None None p))
+  from_peer = record {
+    here = for_here (embedded p.src) None;
+    no_server = meets.no_server;
+    teredo = meets.teredo;
+    embedded = both_hold (is_teredo p.src) (same_ep (embedded p.src) (embedded p.src)) meets.teredo (same_ep-self (embedded p.src));
+  }
+
+  -- what is kept for the peer
+  abbrev kept : List (List ℕ)
+  kept = (known (mentions j.entries) n p.src).waiting
+
+  -- a bubble from where the peer's address says releases what waits for it
+  pub record Releases (x : List ℕ) (e : Entry) : Type 0 where
+    pub hears : HearsBubble e.step.fate
+    pub sends : e.step.sends ≡ releases (embedded p.src) kept
+    pub about : e.peer ≡ Some p.src
+    pub moment : e.moment ≡ n
+
+  pub hears_bubble : (x : List ℕ) → ReadsPayload (value_written None None p) x → is_bubble p ≡ true → (w : Words) → Releases x (client_in s j n (embedded p.src) x w)
+  unfolding standing_at
+  hears_bubble x reads bubble w = by (bubble_heard (seen_here s j n (embedded p.src) x v reads) advert from_peer bubble) where
+    v : Value
+    v = value_written None None p
+
+    advert : Fate
+    advert = advert_row s (standing_at s j n p.src).qualification (embedded p.src) v
+
+    by : HearsBubble (reception_row (seen_here s j n (embedded p.src) x v reads) advert) → Releases x (client_in s j n (embedded p.src) x w)
+    by (by_rule1 e) = subst (Releases x) (sym (entry_here s j n (embedded p.src) x v reads w fate.Rule1Bubble e)) (record { hears = by_rule1 refl; sends = refl; about = refl; moment = refl })
+    by (by_rule3 e) = subst (Releases x) (sym (entry_here s j n (embedded p.src) x v reads w fate.Rule3Bubble e)) (record { hears = by_rule3 refl; sends = refl; about = refl; moment = refl })
+
+  -- any other packet goes to the host
+  pub record Hands (x : List ℕ) (e : Entry) : Type 0 where
+    pub over : HandsOver e.step.fate
+    pub sends : e.step.sends ≡ releases (embedded p.src) kept
+    pub handed : handed_by e ≡ Some x
+    pub about : e.peer ≡ Some p.src
+    pub moment : e.moment ≡ n
+
+  pub hands_packet : (x : List ℕ) → ReadsPayload (value_written None None p) x → is_bubble p ≡ false → (w : Words) → Hands x (client_in s j n (embedded p.src) x w)
+  unfolding standing_at
+  hands_packet x reads plain w = by (packet_handed (seen_here s j n (embedded p.src) x v reads) advert from_peer plain) where
+    v : Value
+    v = value_written None None p
+
+    advert : Fate
+    advert = advert_row s (standing_at s j n p.src).qualification (embedded p.src) v
+
+    all : Some (part x (rest_of 0 x)) ≡ Some x
+    all = ap (λ (z : List ℕ). Some z) (take_rest x 0)
+
+    by : HandsOver (reception_row (seen_here s j n (embedded p.src) x v reads) advert) → Hands x (client_in s j n (embedded p.src) x w)
+    by (over_by_rule1 e) = subst (Hands x) (sym (entry_here s j n (embedded p.src) x v reads w fate.Rule1 e)) (record { over = over_by_rule1 refl; sends = refl; handed = all; about = refl; moment = refl })
+    by (over_by_rule3 e) = subst (Hands x) (sym (entry_here s j n (embedded p.src) x v reads w fate.Rule3 e)) (record { over = over_by_rule3 refl; sends = refl; handed = all; about = refl; moment = refl })
+
+-- A BUBBLE THROUGH THE SERVER
+
+module _ (s : Settings) (j : Journal) (n : ℕ) (own peer : Ip6) (meets : Meets s own peer) (knows : Knows s j n own peer) where
+  abbrev told : Value
+  told = value_written None (Some (embedded peer)) (bubble_of peer own)
+
+  small_bubble : is_big (bubble_of peer own) ≡ false
+  unfolding is_big
+  small_bubble = refl
+
+  no_message : message_in (bubble_of peer own) ≡ None
+  unfolding message_in
+  no_message = refl
+
+  formed : is_ill_formed (bubble_of peer own) ≡ false
+  unfolding is_ill_formed
+  formed = refl
+
+  from_primary : is_from_server s (server_ep s.primary) ≡ true
+  unfolding is_from_server
+  from_primary = left_holds (same_ep (server_ep s.primary) (server_ep s.primary)) (same_ep (server_ep s.primary) (server_ep s.secondary)) (same_ep-self (server_ep s.primary))
+
+  through_server : is_bubble (bubble_of peer own) ≡ true → is_barred n (known (mentions j.entries) n peer) ≡ false → IsThroughServer (seen_of s (standing_at s j n peer) (server_ep s.primary) true told)
+  unfolding standing_at
+  through_server bubble unbarred = record {
+    here = for_here s j n (bubble_of peer own) meets knows small_bubble (server_ep s.primary) (Some (embedded peer));
+    server = from_primary;
+    well_formed = formed;
+    no_advert = ap is_advert no_message;
+    bubble = bubble;
+    origin = refl;
+    good = both_hold (is_usable s.policy (embedded peer)) (not (is_teredo peer) || same_ep (embedded peer) (embedded peer))
+      (ap (λ (z : Policy). is_usable z (embedded peer)) meets.strict ∙ meets.usable)
+      (right_holds (not (is_teredo peer)) (same_ep (embedded peer) (embedded peer)) (same_ep-self (embedded peer)));
+    unbarred = unbarred;
+  }
+
+  -- it is answered by a bubble to the peer's endpoint
+  pub record Answers (x : List ℕ) (e : Entry) : Type 0 where
+    pub indirect : e.step.fate ≡ fate.Indirect
+    pub sends : e.step.sends ≡ send (embedded peer) (bubble_bytes own peer) ∷ []
+    pub about : e.peer ≡ Some peer
+    pub moment : e.moment ≡ n
+
+  pub answers_it : (x : List ℕ) → ReadsPayload told x → is_bubble (bubble_of peer own) ≡ true → is_barred n (known (mentions j.entries) n peer) ≡ false → (w : Words)
+      → Answers x (client_in s j n (server_ep s.primary) x w)
+  unfolding standing_at
+  answers_it x reads bubble unbarred w =
+      subst (Answers x) (sym (entry_here s j n (server_ep s.primary) x told reads w fate.Indirect
+          (answered (seen_here s j n (server_ep s.primary) x told reads) (advert_row s (standing_at s j n peer).qualification (server_ep s.primary) told) (through_server bubble unbarred))))
+      (record { indirect = refl; sends = ap (λ (z : Ip6). send (embedded peer) (bubble_bytes z peer) ∷ []) (address_is s j own knows.address); about = refl; moment = refl })
+
+-- THE HOST'S PACKET
+
+-- x, from this client to the peer, which it doesn't list
+module _ (s : Settings) (j : Journal) (n : ℕ) (x : List ℕ) (is_one : is_packet x ≡ true) (meets : Meets s (fields_in x).src (fields_in x).dst) (knows : Knows s j n (fields_in x).src (fields_in x).dst)
+    (small : is_big (fields_in x) ≡ false) (plain : is_bubble (fields_in x) ≡ false) (new : known (mentions j.entries) n (fields_in x).dst ≡ no_peer) where
+  abbrev to : Ip6
+  to = (fields_in x).dst
+
+  from_here : own_address (qualification s j) ≡ (fields_in x).src
+  from_here = address_is s j (fields_in x).src knows.address
+
+  reachable : is_reachable s.policy to ≡ true
+  unfolding is_reachable
+  reachable = both_hold (is_usable s.policy (embedded to)) (is_global s.policy (server_in to)) (ap (λ (z : Policy). is_usable z (embedded to)) meets.strict ∙ meets.usable) (ap (λ (z : Policy). is_global z (server_in to)) meets.strict ∙ meets.server_global)
+
+  stale : is_fresh n no_peer ≡ false
+  unfolding is_fresh
+  stale = refl
+
+  not_full : is_full no_peer ≡ false
+  unfolding is_full
+  not_full = refl
+
+  for_peer : IsForPeer (given_here s j n x is_one)
+  unfolding standing_at
+  for_peer = record {
+    qualified = knows.qualified;
+    packet = refl;
+    short = small;
+    own = ap (same_ip6 (fields_in x).src) from_here ∙ same_ip6-self (fields_in x).src;
+    global = meets.global;
+    no_bubble = plain;
+    for_another = ap (same_ip6 to) from_here ∙ meets.other;
+    reachable = right_fails (is_teredo to) (not (is_reachable s.policy to)) (not_so (is_reachable s.policy to) reachable);
+    stale = ap (is_fresh n) new ∙ stale;
+  }
+
+  -- it goes at once to a cone peer
+  pub record GoesAtOnce (e : Entry) : Type 0 where
+    pub sent_cone : e.step.fate ≡ fate.SentCone
+    pub sends : e.step.sends ≡ send (embedded to) x ∷ []
+    pub about : e.peer ≡ Some to
+    pub moment : e.moment ≡ n
+
+  pub goes_at_once : has_cone to ≡ true → (w : Words) → GoesAtOnce (client_out s j n x w)
+  unfolding standing_at
+  goes_at_once cone w = subst GoesAtOnce (sym (entry_given s j n x is_one w fate.SentCone (sent_at_once (given_here s j n x is_one) for_peer (both_hold (is_teredo to) (has_cone to) meets.teredo cone))))
+      (record { sent_cone = refl; sends = refl; about = refl; moment = refl })
+
+  -- else it waits, and bubbles go out
+  pub record Waits (e : Entry) : Type 0 where
+    pub queued : e.step.fate ≡ fate.Queued
+    pub sends : e.step.sends ≡ both_bubbles (has_cone (fields_in x).src) (fields_in x).src to
+    pub packet : e.packet ≡ Some x
+    pub about : e.peer ≡ Some to
+    pub moment : e.moment ≡ n
+
+  tries_are : (w : Words) → try_sends s (own_address (qualification s j)) to w ≡ both_bubbles (has_cone (fields_in x).src) (fields_in x).src to
+  unfolding try_sends
+  tries_are w =
+      ap (λ (b : Bool). tries_by b s (own_address (qualification s j)) to w) meets.teredo
+      ∙ ap (λ (z : Ip6). both_bubbles (has_cone z) z to) from_here
+
+  unbarred : is_barred n (known (mentions j.entries) n to) ≡ false
+  unbarred = ap (is_barred n) new ∙ untried n no_peer refl
+
+  pub waits_here : has_cone to ≡ false → (w : Words) → Waits (client_out s j n x w)
+  unfolding standing_at
+  waits_here cone w =
+      subst Waits (sym (entry_given s j n x is_one w fate.Queued
+          (waits_for_it (given_here s j n x is_one) for_peer (right_fails (is_teredo to) (has_cone to) cone) knows.room (ap (is_spent n) new ∙ unspent n no_peer refl) (ap is_full new ∙ not_full))))
+      (subst (λ (b : Bool). Waits (entry n (given x) (Some x) (Some to) w (queues b s (standing_at s j n to) to w))) (sym unbarred)
+      (record { queued = refl; sends = tries_are w; packet = refl; about = refl; moment = refl }))
