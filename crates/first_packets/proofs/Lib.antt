@@ -11,3 +11,5 @@ mod Deliveries
 mod Reaching
 mod Meeting
 mod Pair
+mod Ground
+mod AtServer
