@@ -124,31 +124,6 @@ address_renewed law s j e indirect =
     ∙ ap (λ (u : Turn). address_after s u (flags_word s e.words) (origin_given e.input) (cond (leaves q.phase u) (fresh (unwrap_or (begins u) q.phase) e.moment) q).address) (ap turn indirect)
     ∙ ap (λ (b : Bool). (cond b (fresh (unwrap_or (begins renews) q.phase) e.moment) q).address) (no_leave q.phase)
 
--- THE GROUND
-
-pub record Ground (p : Pair) (H : List Full) : Type 0 where
-  pub grown : Grown (lab_in p) H
-  pub sender : address_in (lab_in p) H p.a.n p.a.c ≡ Some p.a.own
-  pub receiver : address_in (lab_in p) H p.b.n p.b.c ≡ Some p.b.own
-  pub sender_way : Way (lab_in p) H p.a.c.nat (asks_at (lab_in p) p.a.c) (embedded p.a.own).port p.a.c.inside
-  pub receiver_way : Way (lab_in p) H p.b.c.nat (asks_at (lab_in p) p.b.c) (embedded p.b.own).port p.b.c.inside
-
--- a record that follows, at once, and leaves NATs
-pub record IsNext (p : Pair) (H : List Full) (q : Full) : Type 0 where
-  pub follows : Follows (lab_in p) H q
-  pub calm : is_calm q.asked ≡ true
-  pub moment : q.moment ≡ now H
-
-pub ground_on : PacketLaws → (p : Pair) (H : List Full) (q : Full) → IsNext p H q → Ground p H
-    → address_in (lab_in p) (q ∷ H) p.a.n p.a.c ≡ address_in (lab_in p) H p.a.n p.a.c → address_in (lab_in p) (q ∷ H) p.b.n p.b.c ≡ address_in (lab_in p) H p.b.n p.b.c → Ground p (q ∷ H)
-ground_on laws p H q next ground a b = record {
-  grown = (next.follows, ground.grown);
-  sender = a ∙ ground.sender;
-  receiver = b ∙ ground.receiver;
-  sender_way = still_way laws.grows (lab_in p) H q p.a.c.nat (asks_at (lab_in p) p.a.c) (embedded p.a.own).port p.a.c.inside next.follows next.calm next.moment ground.sender_way;
-  receiver_way = still_way laws.grows (lab_in p) H q p.b.c.nat (asks_at (lab_in p) p.b.c) (embedded p.b.own).port p.b.c.inside next.follows next.calm next.moment ground.receiver_way;
-}
-
 -- WHAT A CLIENT KEEPS FOR THE OTHER
 
 pub record Keeps (j : Journal) (n : ℕ) (peer : Ip6) (waiting : List (List ℕ)) : Type 0 where
@@ -157,6 +132,34 @@ pub record Keeps (j : Journal) (n : ℕ) (peer : Ip6) (waiting : List (List ℕ)
 
 abbrev pub Unbarred : Journal → ℕ → Ip6 → Type 0
 Unbarred j n peer = is_barred n (known (mentions j.entries) n peer) ≡ false
+
+-- THE GROUND
+
+pub record Ground (p : Pair) (H : List Full) : Type 0 where
+  pub grown : Grown (lab_in p) H
+  pub sender : address_in (lab_in p) H p.a.n p.a.c ≡ Some p.a.own
+  pub receiver : address_in (lab_in p) H p.b.n p.b.c ≡ Some p.b.own
+  pub sender_way : Way (lab_in p) H p.a.c.nat (asks_at (lab_in p) p.a.c) (embedded p.a.own).port p.a.c.inside
+  pub receiver_way : Way (lab_in p) H p.b.c.nat (asks_at (lab_in p) p.b.c) (embedded p.b.own).port p.b.c.inside
+  pub keeps_nothing : Keeps (journal p.b.n H) (now H) p.a.own []
+
+-- a record that follows, at once, and leaves NATs
+pub record IsNext (p : Pair) (H : List Full) (q : Full) : Type 0 where
+  pub follows : Follows (lab_in p) H q
+  pub calm : is_calm q.asked ≡ true
+  pub moment : q.moment ≡ now H
+
+pub ground_on : PacketLaws → (p : Pair) (H : List Full) (q : Full) → IsNext p H q → Ground p H
+    → address_in (lab_in p) (q ∷ H) p.a.n p.a.c ≡ address_in (lab_in p) H p.a.n p.a.c → address_in (lab_in p) (q ∷ H) p.b.n p.b.c ≡ address_in (lab_in p) H p.b.n p.b.c
+    → Keeps (journal p.b.n (q ∷ H)) (now (q ∷ H)) p.a.own [] → Ground p (q ∷ H)
+ground_on laws p H q next ground a b keeps = record {
+  grown = (next.follows, ground.grown);
+  sender = a ∙ ground.sender;
+  receiver = b ∙ ground.receiver;
+  sender_way = still_way laws.grows (lab_in p) H q p.a.c.nat (asks_at (lab_in p) p.a.c) (embedded p.a.own).port p.a.c.inside next.follows next.calm next.moment ground.sender_way;
+  receiver_way = still_way laws.grows (lab_in p) H q p.b.c.nat (asks_at (lab_in p) p.b.c) (embedded p.b.own).port p.b.c.inside next.follows next.calm next.moment ground.receiver_way;
+  keeps_nothing = keeps;
+}
 
 pub knows : PacketLaws → (lab : Lab) (H : List Full) (n : ℕ) (c : ClientNode) (own peer : Ip6) → Grown lab H → node_at lab.topology n ≡ Some (client c) → address_in lab H n c ≡ Some own
     → has_room (mentions (journal n H).entries) (now H) peer ≡ true → Knows (client_settings lab.topology c) (journal n H) (now H) own peer

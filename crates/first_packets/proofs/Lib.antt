@@ -13,3 +13,4 @@ mod Meeting
 mod Pair
 mod Ground
 mod AtServer
+mod AtClients
