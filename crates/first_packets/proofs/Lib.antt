@@ -14,3 +14,6 @@ mod Pair
 mod Ground
 mod AtServer
 mod AtClients
+mod Stages
+mod Boards
+mod Start

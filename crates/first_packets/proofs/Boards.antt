@@ -1,0 +1,138 @@
+-- A fresh schedule, delivery by delivery: each brings the packet one step nearer, or spends the direct bubble.
+use Rattle.std.proofs.Common.{◌≡◌, ◌⊎◌, inl, inr, ◌≤◌, ◌<◌, ◌+◌, ℕ, zero, suc, Bool, true, false, cond, List, [], ◌∷◌, ◌++◌, length, Option, Some, None, refl, sym, ap, subst, ◌∙◌, arith}
+use Rattle.std.specs.Prelude.{slice_get}
+use Rattle.std.proofs.lemmas.Bool.{false≢true}
+use Rattle.std.proofs.lemmas.Option.{slice_get_within}
+use Rattle.td_base.specs.declared.ipv6.Ip6.{Ip6}
+use Rattle.teredo_addr.specs.Teredo.{embedded}
+use Rattle.bubble.specs.Bubbles.{bubble_bytes}
+use Rattle.history.specs.Full.{Item, Full, wire, items_of}
+use Rattle.legal.specs.Lab.{Lab}
+use Rattle.legal.specs.Past.{was_delivered}
+use Rattle.legal.specs.Legal.{Follows, Grown}
+use Rattle.first_packets.specs.Schedules.{HasNoFault, DeliversFresh, AreFresh, IsComplete}
+use Rattle.first_packets.specs.FirstPacket.{HasArrived}
+use Rattle.first_packets.proofs.Counted.{AreOpen, without_first, with_next, without_last}
+use Rattle.first_packets.proofs.Deliveries.{Delivery, to_node, to_nobody, delivery}
+use Rattle.first_packets.proofs.Pair.{Pair, IsPair, lab_in}
+use Rattle.first_packets.proofs.Ground.{PacketLaws, Ground, still_there}
+use Rattle.first_packets.proofs.Stages.{At, Stage, asks, tells, answers, releases_it, has_come, Next, goes_on, ends, no_more, at_server, at_receiver, at_sender, at_end, Passes, at_once, stage_stays}
+
+-- as long as the packet hasn't come, the latest entry is open
+abbrev pub is_open : ℕ → Bool
+is_open zero = false
+is_open (suc k) = true
+
+abbrev pub bit : Bool → ℕ
+bit true = 1
+bit false = 0
+
+module _ (p : Pair) (before : List Full) (r : Full) (total : ℕ) where
+  abbrev pub after : List Full → List Full
+  after later = later ++ r ∷ before
+
+  -- what the deliveries so far left: k steps, and the direct bubble where it is open
+  pub record Board (later : List Full) : Type 0 where
+    pub last : ℕ
+    pub direct : Bool
+    pub k : ℕ
+    pub ground : Ground p (after later)
+    pub long : length (wire (after later)) ≡ suc last
+    pub are : AreOpen r.first last direct (is_open k) later
+    pub stage : Stage p (after later) last later k
+    pub bubble : direct ≡ true → At (after later) r.first (embedded p.a.own) (embedded p.b.own) (bubble_bytes p.a.own p.b.own)
+    pub sum : length later + (bit direct + k) ≡ total
+
+  is_in : (H : List Full) (q : Full) (k : ℕ) → Delivery (lab_in p) H q k → k < length (wire H)
+  is_in H q k (to_node n x a at goes there calm did) = slice_get_within (wire H) k x at
+  is_in H q k (to_nobody x at none calm made moment stay) = slice_get_within (wire H) k x at
+
+  within : (k n last : ℕ) → k < n → n ≡ suc last → k ≤ last
+  within k n last less same = omega (arith, less, same)
+
+  module _ (laws : PacketLaws) (is : IsPair p) (later : List Full) (board : Board later) (q : Full) (fresh : DeliversFresh r later q) (follows : Follows (lab_in p) (after later) q) where
+    abbrev H : List Full
+    H = after later
+
+    came : Delivery (lab_in p) H q fresh.number
+    came = delivery (lab_in p) H q fresh.number (laws.kinds (lab_in p) H q follows) fresh.delivered
+
+    -- the direct bubble
+    spends : board.direct ≡ true → fresh.number ≡ r.first → Board (q ∷ later)
+    spends direct same =
+        let passes = at_once laws p is H q board.ground follows fresh.sound r.first (subst (Delivery (lab_in p) H q) same came) (board.bubble direct) in
+        let open_so : AreOpen r.first board.last true (is_open board.k) later = subst (λ (b : Bool). AreOpen r.first board.last b (is_open board.k) later) direct board.are in
+        let sum : length later + (1 + board.k) ≡ total = subst (λ (b : Bool). length later + (bit b + board.k) ≡ total) direct board.sum in
+        record {
+          last = board.last;
+          direct = false;
+          k = board.k;
+          ground = passes.ground_then;
+          long = ap (λ (xs : List Item). length xs) (no_more H q passes.made) ∙ board.long;
+          are = without_first r.first board.last q later (is_open board.k) open_so (fresh.delivered ∙ ap (λ (n : ℕ). Some n) same);
+          stage = stage_stays laws p is H q board.ground follows fresh.sound board.last board.k later passes board.stage;
+          bubble = λ spent. absurd (false≢true spent);
+          sum = omega (arith, sum);
+        }
+
+    -- the latest entry
+    advance : (k : ℕ) → is_open k ≡ true → Stage p H board.last later k → Delivery (lab_in p) H q board.last → Next p H q board.last later k
+    advance _ opened (asks at sends may back) d = at_server laws p is H q board.ground follows fresh.sound board.last later d board.long at sends may back
+    advance _ opened (tells at sends may back) d = at_receiver laws p is H q board.ground follows fresh.sound board.last later d board.long at sends may back
+    advance _ opened (answers at sends back forth) d = at_sender laws p is H q board.ground follows fresh.sound board.last later d board.long at sends back forth
+    advance _ opened (releases_it at forth) d = at_end laws p is H q board.ground follows fresh.sound board.last later d board.long at forth
+    advance _ opened (has_come come) d = absurd (false≢true opened)
+
+    moves : (k : ℕ) → AreOpen r.first board.last board.direct (is_open k) later → length later + (bit board.direct + k) ≡ total → q.delivered ≡ Some board.last → Next p H q board.last later k → Board (q ∷ later)
+    moves _ are sum by (goes_on k ground long stage) = record {
+      last = suc board.last;
+      direct = board.direct;
+      k = suc k;
+      ground = ground;
+      long = long;
+      are = with_next r.first board.last q later board.direct are by;
+      stage = stage;
+      bubble = λ direct. still_there (wire H) (items_of q) r.first _ (board.bubble direct);
+      sum = omega (arith, sum);
+    }
+    moves _ are sum by (ends ground long stage) = record {
+      last = board.last;
+      direct = board.direct;
+      k = 0;
+      ground = ground;
+      long = long;
+      are = without_last r.first board.last q later board.direct are by;
+      stage = stage;
+      bubble = λ direct. still_there (wire H) (items_of q) r.first _ (board.bubble direct);
+      sum = omega (arith, sum);
+    }
+
+    pub next_board : Board (q ∷ later)
+    next_board = by (board.are.only fresh.number fresh.new (within fresh.number (length (wire H)) board.last (is_in H q fresh.number came) board.long) fresh.once) where
+      by : ((board.direct ≡ true) × (fresh.number ≡ r.first)) ⊎ ((is_open board.k ≡ true) × (fresh.number ≡ board.last)) → Board (q ∷ later)
+      by (inl e) = spends e.0 e.1
+      by (inr e) = moves board.k board.are board.sum (fresh.delivered ∙ ap (λ (n : ℕ). Some n) e.1) (advance board.k e.0 board.stage (subst (Delivery (lab_in p) H q) e.1 came))
+
+  -- so is the whole schedule
+  pub boards : PacketLaws → IsPair p → (later : List Full) → Grown (lab_in p) (after later) → AreFresh r later → Board [] → Board later
+  boards laws is [] g fresh board = board
+  boards laws is (q ∷ later) g fresh board = next_board laws is later (boards laws is later g.1 fresh.1 board) q fresh.0 g.0
+
+  pub few : (later : List Full) → Board later → length later ≤ total
+  few later board = let sum = board.sum in omega (arith, sum)
+
+  -- where no entry is left, the packet has come
+  pub arrives : (later : List Full) → Board later → IsComplete before r later → HasArrived p.b.n p.x later
+  arrives later board all = by board.k board.stage closed where
+    closed : is_open board.k ≡ true → ⊥
+    closed opened =
+        let it = board.are.last_is opened in
+        let long = board.long in
+        false≢true (sym it.1 ∙ all board.last it.0 (omega (arith, long)))
+
+    by : (k : ℕ) → Stage p (after later) board.last later k → (is_open k ≡ true → ⊥) → HasArrived p.b.n p.x later
+    by _ (asks at sends may back) shut = absurd (shut refl)
+    by _ (tells at sends may back) shut = absurd (shut refl)
+    by _ (answers at sends back forth) shut = absurd (shut refl)
+    by _ (releases_it at forth) shut = absurd (shut refl)
+    by _ (has_come come) shut = come
