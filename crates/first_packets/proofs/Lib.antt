@@ -17,3 +17,4 @@ mod AtClients
 mod Stages
 mod Boards
 mod Start
+mod Throughout

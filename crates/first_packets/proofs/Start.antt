@@ -107,7 +107,7 @@ two_open f = record {
 
 -- THE PREMISE
 
-before_it : (lab : Lab) (later xs : List Full) → Grown lab (later ++ xs) → Grown lab xs
+pub before_it : (lab : Lab) (later xs : List Full) → Grown lab (later ++ xs) → Grown lab xs
 before_it lab [] xs g = g
 before_it lab (q ∷ later) xs g = before_it lab later xs g.1
 

@@ -1,3 +1,30 @@
-//! The first packet from one settled client to another: in whatever order the datagrams that it draws are delivered, it
-//! arrives, and after few deliveries nothing is left to be delivered.
+//! The first packet from one settled client to another: in whatever order the datagrams that it draws are delivered, there
+//! are five at most, and the packet arrives (RFC 4380, sections 5.2.3, 5.2.4 and 5.2.6).
+//!
+//! # What the layer above may rely on
+//!
+//! - What a fresh schedule after a record is, and a complete one (`specs/Schedules.antt`).
+//! - A first packet, and its arrival (`specs/FirstPacket.antt`): the two clients are settled, behind different NATs and new to
+//!   each other. A fresh schedule has five deliveries at most; four where the sender's address has the cone bit, one where the
+//!   receiver's has it. A complete one brings the packet to the receiver's host, by rule 1 or rule 3.
+//! - That holds at each record of every history in which no NAT is behind another one (`specs/Throughout.antt`).
+//!
+//! # What it does not know
+//!
+//! What makes a client settled; what becomes of the packet where something is lost, fails or takes time, or where another
+//! event stands between. Whether anything is delivered at all.
+//!
+//! # Parts
+//!
+//! | what is said | in |
+//! |---|---|
+//! | fresh and complete schedules | `specs/Schedules.antt` |
+//! | the premise, and what becomes of the packet | `specs/FirstPacket.antt` |
+//! | the same at each record | `specs/Throughout.antt` |
 #![tactic(auto)]
+
+mod laws;
+
+pub use laws::{
+    first_packet_arrives, histories_carry_first_packets, scenarios_carry_first_packets,
+};

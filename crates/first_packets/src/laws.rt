@@ -1,0 +1,54 @@
+//! What becomes of first packets.
+ghost use Rattle.first_packets.specs.Throughout.{EachFirstPacketArrives, HistoriesCarryFirstPackets, ScenariosCarryFirstPackets};
+
+/// A first packet is carried in every fresh schedule after it.
+pub fn first_packet_arrives()
+    ensures { EachFirstPacketArrives }
+{
+    bubble::payload_is_spelled();
+    bubble::bubble_reads_back();
+    bubble::packet_is_payload();
+    teredo_addr::teredo_tells();
+    teredo_addr::flags_tell();
+    teredo_addr::link_local_tells();
+    qualify::turns();
+    qualify::turns_at_start();
+    qualify::keeps_still();
+    ipv6_packet::packet_is_spelled();
+    ipv6_packet::packet_is_bytes();
+    topology::apart();
+    topology::each_node();
+    nat_kinds::counting_datagram_holds_its_port();
+    nat_kinds::live_mappings_are_few();
+    nat_kinds::let_in_where_asked();
+    nat_kinds::port_has_one_key();
+    server_core::forwarded_reads_back();
+    peer_list::one_entry();
+    peer_list::unlisted();
+    peer_list::listed_is_known();
+    client_rules::next_mentions();
+    client_rules::qualified_has_address();
+    legal::routes();
+    legal::is_reached();
+    legal::kinds();
+    legal::nat_grows();
+    legal::frame();
+    legal::client_journals();
+    legal::wire_is_made();
+    legal::of_its_event();
+}
+
+/// So it is at each record of every history.
+pub fn histories_carry_first_packets()
+    ensures { HistoriesCarryFirstPackets }
+{
+    first_packet_arrives();
+}
+
+/// And of the history of every scenario, as far as it was played.
+pub fn scenarios_carry_first_packets()
+    ensures { ScenariosCarryFirstPackets }
+{
+    legal::grown();
+    histories_carry_first_packets();
+}
