@@ -1,6 +1,5 @@
 -- The indirect bubble at the receiver's server.
-use Rattle.std.proofs.Common.{◌≡◌, ◌<◌, ◌^◌, ◌==◌, ◌&&◌, not, ℕ, Bool, true, false, cond, List, [], ◌∷◌, ◌++◌, length, drop, Option, Some, None, Ok, refl, sym, ap, subst, ◌∙◌, arith}
-use Rattle.std.specs.Prelude.{slice_get, unwrap_or}
+use Rattle.std.proofs.Common.{◌≡◌, ◌&&◌, not, ℕ, Bool, true, false, List, [], ◌∷◌, ◌++◌, Some, None, refl, sym, ap, subst, ◌∙◌, arith}
 use Rattle.std.specs.List.{list_any}
 use Rattle.std.proofs.lemmas.Bool.{false≢true}
 use Rattle.td_base.specs.declared.ipv4.Ip4.{Ip4}
@@ -11,10 +10,9 @@ use Rattle.td_base.specs.declared.side.Side.TheVariants.{Primary}
 use Rattle.td_base.specs.Ip4.{same_ip, same_ip-self}
 use Rattle.td_base.specs.Ip6.{same_ip6, same_ip6-true}
 use Rattle.td_base.specs.Ep.{IsEp, same_ep, same_ep-self, server_ep}
-use Rattle.td_base.specs.Reach.{is_usable, is_link_local}
-use Rattle.ipv6_packet.specs.Packets.{Fields}
+use Rattle.td_base.specs.Reach.{is_usable}
 use Rattle.ipv6_packet.specs.Reads.{is_big}
-use Rattle.teredo_addr.specs.Teredo.{is_teredo, server_in, embedded, link_local}
+use Rattle.teredo_addr.specs.Teredo.{is_teredo, server_in, embedded}
 use Rattle.teredo_addr.specs.declared.local.TheConstants.{ALL_ROUTERS}
 use Rattle.indications.specs.Leads.{is_keyed}
 use Rattle.bubble.specs.Bubbles.{is_bubble, bubble_of, bubble_bytes}
@@ -23,7 +21,7 @@ use Rattle.bubble.specs.Messages.{message_in, is_ill_formed}
 use Rattle.bubble.specs.Laws.{ReadsBubble}
 use Rattle.teredo_node.specs.declared.fate.Fate.TheVariants as fate
 use Rattle.teredo_node.specs.Step.{Step}
-use Rattle.teredo_node.specs.Journal.{arrived, Entry}
+use Rattle.teredo_node.specs.Journal.{arrived}
 use Rattle.server_core.specs.declared.server.ServerSettings.{ServerSettings}
 use Rattle.server_core.specs.Conditions.{is_other_kind, is_own, own_address, is_for_server, is_solicit, is_solicitation, is_forged, is_for_client, is_not_ours, is_unusable, is_looped}
 use Rattle.server_core.specs.Rules.{seen}
@@ -36,7 +34,7 @@ use Rattle.topology.specs.NodeRules.{IsServerNode}
 use Rattle.history.specs.Full.{udp, Made, sent, Full}
 use Rattle.legal.specs.Settings.{server_settings}
 use Rattle.legal.specs.Past.{now, armed}
-use Rattle.legal.specs.Emit.{is_at_place, made_outright, outright, six_made, noted}
+use Rattle.legal.specs.Emit.{is_at_place, made_outright, outright, six_made}
 use Rattle.legal.specs.Emit.{entry_of}
 use Rattle.first_packets.specs.Schedules.{is_fault, HasNoFault}
 use Rattle.first_packets.proofs.Bools.{left_fails, right_fails, both_hold, neither, not_so, refused}

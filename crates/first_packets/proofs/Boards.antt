@@ -1,22 +1,19 @@
 -- A fresh schedule, delivery by delivery: each brings the packet one step nearer, or spends the direct bubble.
-use Rattle.std.proofs.Common.{◌≡◌, ◌⊎◌, inl, inr, ◌≤◌, ◌<◌, ◌+◌, ℕ, zero, suc, Bool, true, false, cond, List, [], ◌∷◌, ◌++◌, length, Option, Some, None, refl, sym, ap, subst, ◌∙◌, arith}
-use Rattle.std.specs.Prelude.{slice_get}
+use Rattle.std.proofs.Common.{◌≡◌, ◌⊎◌, inl, inr, ◌≤◌, ◌<◌, ◌+◌, ℕ, zero, suc, Bool, true, false, List, [], ◌∷◌, ◌++◌, length, Some, refl, sym, ap, subst, ◌∙◌, arith}
 use Rattle.std.proofs.lemmas.Bool.{false≢true}
 use Rattle.std.proofs.lemmas.Option.{slice_get_within}
-use Rattle.td_base.specs.declared.ipv6.Ip6.{Ip6}
 use Rattle.teredo_addr.specs.Teredo.{embedded}
 use Rattle.bubble.specs.Bubbles.{bubble_bytes}
 use Rattle.history.specs.Full.{Item, Full, wire, items_of}
-use Rattle.legal.specs.Lab.{Lab}
-use Rattle.legal.specs.Past.{was_delivered}
 use Rattle.legal.specs.Legal.{Follows, Grown}
-use Rattle.first_packets.specs.Schedules.{HasNoFault, DeliversFresh, AreFresh, IsComplete}
+use Rattle.first_packets.specs.Schedules.{DeliversFresh, AreFresh, IsComplete}
 use Rattle.first_packets.specs.FirstPacket.{HasArrived}
 use Rattle.first_packets.proofs.Counted.{AreOpen, without_first, with_next, without_last}
 use Rattle.first_packets.proofs.Deliveries.{Delivery, to_node, to_nobody, delivery}
 use Rattle.first_packets.proofs.Pair.{Pair, IsPair, lab_in}
 use Rattle.first_packets.proofs.Ground.{PacketLaws, Ground, still_there}
-use Rattle.first_packets.proofs.Stages.{At, Stage, asks, tells, answers, releases_it, has_come, Next, goes_on, ends, no_more, at_server, at_receiver, at_sender, at_end, Passes, at_once, stage_stays}
+use Rattle.first_packets.proofs.Stages.{At, Stage, asks, tells, answers, releases_it, has_come, Next, goes_on, ends, no_more}
+use Rattle.first_packets.proofs.Steps.{at_server, at_receiver, at_sender, at_end, at_once, stage_stays}
 
 -- as long as the packet hasn't come, the latest entry is open
 abbrev pub is_open : ℕ → Bool

@@ -1,5 +1,5 @@
 -- Which entries of a fresh schedule are undelivered: the direct bubble, if there is one, and the latest.
-use Rattle.std.proofs.Common.{◌≡◌, ◌⊎◌, inl, inr, ◌≤◌, ◌<◌, ◌+◌, ◌==◌, ◌||◌, ℕ, zero, suc, Bool, true, false, List, [], ◌∷◌, Option, Some, None, refl, sym, ap, subst, ◌∙◌, arith}
+use Rattle.std.proofs.Common.{◌≡◌, ◌⊎◌, inl, inr, ◌≤◌, ◌<◌, ◌==◌, ◌||◌, ℕ, suc, Bool, true, false, List, ◌∷◌, Option, Some, refl, sym, ap, ◌∙◌, arith}
 use Rattle.std.proofs.lemmas.Bool.{false≢true}
 use Rattle.std.proofs.lemmas.Bool.Decides.{nat_tests}
 use Rattle.history.specs.Full.{Full}
@@ -64,8 +64,8 @@ module _ (first last : ℕ) (q : Full) (later : List Full) where
     by_place i low high w false e =
         let ne : (i ≡ suc last → ⊥) = λ same. (let one : (i == suc last) ≡ true = grind (arith, nat_tests) in false≢true (sym e ∙ one)) in
         of_old i w (are.only i low (within i (suc last) high ne) w.still) where
-      within : (a b : ℕ) → a ≤ suc last → (a ≡ suc last → ⊥) → a ≤ last
-      within a b le ne = grind (arith, nat_tests)
+          within : (a b : ℕ) → a ≤ suc last → (a ≡ suc last → ⊥) → a ≤ last
+          within a b le ne = grind (arith, nat_tests)
 
   -- the last is delivered, and no more made
   pub without_last : (first_open : Bool) → AreOpen first last first_open true later → q.delivered ≡ Some last → AreOpen first last first_open false (q ∷ later)

@@ -3,19 +3,18 @@ use Rattle.std.proofs.Common.{◌≡◌, ℕ, Bool, true, false, cond, List, [],
 use Rattle.std.specs.Prelude.{unwrap_or, is_some, slice_get, max}
 use Rattle.std.proofs.lemmas.Bool.{false≢true}
 use Rattle.td_base.specs.declared.endpoint.Ep.{Ep}
-use Rattle.teredo_node.specs.Journal.{Input, arrived, given, from_six, ticked, Entry, Journal, with_entry}
+use Rattle.teredo_node.specs.Journal.{Input, given, ticked, Entry, Journal, with_entry}
 use Rattle.topology.specs.declared.node.Node.{Node}
 use Rattle.topology.specs.Topology.{node_at}
-use Rattle.topology.specs.Chains.{Passing}
 use Rattle.events.specs.declared.event.Event.{Event}
 use Rattle.events.specs.declared.event.Event.TheVariants as event
 use Rattle.events.specs.declared.verb.Verb.{Verb}
 use Rattle.history.specs.declared.act.Act.{Act}
 use Rattle.history.specs.declared.act.Act.TheVariants as act
-use Rattle.history.specs.Full.{Item, udp, six, Made, Full, wire}
+use Rattle.history.specs.Full.{Item, udp, six, Full, wire}
 use Rattle.legal.specs.Lab.{Lab}
 use Rattle.legal.specs.Past.{now, is_node, is_restart, with_entries, new_journal, journal}
-use Rattle.legal.specs.Emit.{Route, reaches, closed, astray, route, entry_of, sendings, handed_by}
+use Rattle.legal.specs.Emit.{Route, reaches, route, entry_of, sendings, handed_by}
 use Rattle.legal.specs.Next.{Numbered, plain, acts, no_ep, dst_of, input_of}
 use Rattle.legal.specs.Kinds as kinds
 use Rattle.legal.specs.Kinds.{Delivers, Hands, Quiet, shut, strayed, missing, none_left, settled, uncopied, hosted, restarted, forgot, faulted, Kind, quiet, put, copied, ticks, handed, reached, event_of}
@@ -47,8 +46,8 @@ module _ (lab : Lab) (H : List Full) (ev : Numbered) (w : Act) (number : Option 
     made = refl;
     passed = refl;
     later =
-      ap (λ (b : Bool). cond b (cond (is_restart w) (new_journal (now H)) (with_entry (journal n H) e)) (journal n H)) (same_number n)
-      ∙ ap (λ (b : Bool). cond b (new_journal (now H)) (with_entry (journal n H) e)) still;
+        ap (λ (b : Bool). cond b (cond (is_restart w) (new_journal (now H)) (with_entry (journal n H) e)) (journal n H)) (same_number n)
+        ∙ ap (λ (b : Bool). cond b (new_journal (now H)) (with_entry (journal n H) e)) still;
   })
 
 -- DELIVERIES

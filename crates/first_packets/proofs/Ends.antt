@@ -1,5 +1,5 @@
 -- What the premise says of a settled client: its nodes, and what its address embeds.
-use Rattle.std.proofs.Common.{◌≡◌, ◌≢◌, ◌<◌, ◌≤◌, ◌^◌, ◌==◌, ◌+◌, ◌&&◌, ◌||◌, not, ℕ, Bool, true, false, cond, List, [], ◌∷◌, Option, Some, None, refl, sym, ap, subst, ◌∙◌, arith}
+use Rattle.std.proofs.Common.{◌≡◌, ◌<◌, ◌≤◌, ◌==◌, ◌+◌, ◌||◌, not, ℕ, Bool, true, false, cond, List, [], ◌∷◌, Option, Some, None, refl, sym, ap, subst, ◌∙◌, arith}
 use Rattle.std.specs.Prelude.{IfSome, unwrap_or, is_some, option_and_then, ◌↔◌}
 use Rattle.std.proofs.lemmas.Bool.{false≢true}
 use Rattle.std.proofs.lemmas.Bool.Decides.{nat_tests}
@@ -7,11 +7,10 @@ use Rattle.td_base.specs.declared.ipv4.Ip4.{Ip4}
 use Rattle.td_base.specs.declared.ipv6.Ip6.{Ip6}
 use Rattle.td_base.specs.declared.endpoint.Ep.{Ep}
 use Rattle.td_base.specs.declared.reach.Policy.TheVariants.{Strict}
-use Rattle.td_base.specs.Ip4.{same_ip, same_ip-self, same_ip-true}
-use Rattle.td_base.specs.Ip6.{IsIp6}
+use Rattle.td_base.specs.Ip4.{same_ip, same_ip-self}
 use Rattle.td_base.specs.Ep.{IsEp}
-use Rattle.td_base.specs.Reach.{is_usable, is_global, is_global6, is_link_local}
-use Rattle.teredo_addr.specs.Teredo.{is_teredo, server_in, has_cone, embedded, flags_of}
+use Rattle.td_base.specs.Reach.{is_usable, is_global}
+use Rattle.teredo_addr.specs.Teredo.{server_in, has_cone, embedded, flags_of}
 use Rattle.teredo_addr.specs.Laws.{IsTeredoOf, TeredoTells, FlagsTell}
 use Rattle.bubble.specs.Laws.{PayloadIsSpelled}
 use Rattle.bubble.proofs.MadeInputs.{origin_is}
@@ -22,7 +21,7 @@ use Rattle.nat_kinds.specs.Mappings.{live_port}
 use Rattle.nat_kinds.specs.Answer.{live_after}
 use Rattle.nat_kinds.specs.Entering.{lets_in}
 use Rattle.nat_kinds.specs.Laws.{IsPast, WasAsked}
-use Rattle.teredo_node.specs.Journal.{Input, arrived, given, from_six, ticked, Entry, Journal}
+use Rattle.teredo_node.specs.Journal.{Input, arrived, given, from_six, ticked, Entry}
 use Rattle.teredo_node.specs.MadeInputs.{IsMadeInput, AreMadeInputs}
 use Rattle.qualify.specs.declared.settings.Settings.{Settings}
 use Rattle.qualify.specs.Turns.{Turn, qualifies, is_changed, turn_of, leaves, begins, origin_given, flags_word}
@@ -49,7 +48,7 @@ use Rattle.legal.proofs.MadeWire.{client_made}
 use Rattle.legal.proofs.NatPasts.{set_up_past}
 use Rattle.settled.specs.Clients.{asks_at, nat_behind}
 use Rattle.settled.specs.Settled.{IsSettled}
-use Rattle.first_packets.proofs.Bools.{both_hold, refused}
+use Rattle.first_packets.proofs.Bools.{both_hold}
 use Rattle.first_packets.proofs.Ways.{CountingHolds, Way, Holds, held_port}
 
 -- NODES BY THEIR NUMBERS
@@ -222,7 +221,7 @@ module _ (laws : EndLaws) (lab : Lab) (H : List Full) (n : ℕ) (c : ClientNode)
       let external : (embedded own).ip ≡ k.row.external = settled.external ∙ ap (λ (s : NatSettings). s.external) set_up in
       let primary : (client_settings lab.topology c).primary ≡ p.row.primary = ap (λ (o : Option Node). primary_of (option_and_then as_server o)) p.there in
       let port = (laws.ports (nat_behind lab c) (nat_history lab c.nat H) (now H) (set_up_past lab H c.nat g) c.inside c.inside (embedded own).port
-          (held_port laws.holds (nat_behind lab c) (nat_history lab c.nat H) (now H) c.inside c.inside (embedded own).port settled.kind holds_port)).0 in
+      (held_port laws.holds (nat_behind lab c) (nat_history lab c.nat H) (now H) c.inside c.inside (embedded own).port settled.kind holds_port)).0 in
       record {
         there = there;
         nat_row = k.row;

@@ -1,5 +1,5 @@
 -- A bubble that a server passes on with its origin, by the server's table.
-use Rattle.std.proofs.Common.{◌≡◌, ℕ, Bool, true, false, cond, List, [], ◌∷◌, ◌++◌, drop, Some, Ok, refl, ap, ◌∙◌}
+use Rattle.std.proofs.Common.{◌≡◌, ℕ, Bool, true, false, cond, List, [], ◌∷◌, ◌++◌, drop, Some, Ok, ap, ◌∙◌}
 use Rattle.td_base.specs.declared.endpoint.Ep.{Ep}
 use Rattle.td_base.specs.declared.side.Side.{Side}
 use Rattle.td_base.specs.declared.side.Side.TheVariants.{Primary}
@@ -8,7 +8,6 @@ use Rattle.bubble.specs.Payloads.{Value, payload_at}
 use Rattle.teredo_node.specs.declared.fate.Fate.TheVariants as fate
 use Rattle.teredo_node.specs.Rows.{first_line}
 use Rattle.server_core.specs.declared.server.ServerSettings.{ServerSettings}
-use Rattle.server_core.specs.declared.rules.Rule.{Rule}
 use Rattle.server_core.specs.declared.rules.Rule.TheVariants.{Dropped, ForwardOrigin, Forward, Six}
 use Rattle.server_core.specs.Rules.{Seen, seen, datagram_lines, packet_lines, destination_lines, last_line, rule_of}
 use Rattle.server_core.specs.Outputs.{forwarded}

@@ -1,6 +1,6 @@
 -- What holds before each delivery of a schedule, and still does after it.
-use Rattle.std.proofs.Common.{◌≡◌, ◌≢◌, ◌<◌, ◌==◌, ℕ, zero, suc, Bool, true, false, cond, List, [], ◌∷◌, ◌++◌, map, length, Option, Some, None, refl, sym, ap, subst, ◌∙◌, arith}
-use Rattle.std.specs.Prelude.{unwrap_or, is_some, slice_get, Contains, ◌↔◌}
+use Rattle.std.proofs.Common.{◌≡◌, ◌==◌, ℕ, zero, suc, Bool, true, false, cond, List, [], ◌∷◌, ◌++◌, map, length, Option, Some, refl, sym, ap, subst, ◌∙◌, arith}
+use Rattle.std.specs.Prelude.{unwrap_or, is_some, slice_get, Contains}
 use Rattle.std.specs.List.{list_any, AllByRecursion}
 use Rattle.std.proofs.lemmas.Bool.{false≢true}
 use Rattle.std.proofs.lemmas.Bool.Decides.{nat_tests}
@@ -12,14 +12,11 @@ use Rattle.teredo_addr.specs.Teredo.{embedded}
 use Rattle.teredo_addr.specs.Laws.{LinkLocalTells}
 use Rattle.bubble.specs.Laws.{BubbleReadsBack, PacketIsPayload}
 use Rattle.nat_kinds.specs.declared.settings.NatSettings.{NatSettings}
-use Rattle.nat_kinds.specs.declared.outgoing.Outward.{Outward}
 use Rattle.nat_kinds.specs.History.{Entry as NatEntry, counting}
 use Rattle.nat_kinds.specs.Mappings.{live_port}
 use Rattle.nat_kinds.specs.Answer.{live_after}
-use Rattle.nat_kinds.specs.Entering.{lets_in}
 use Rattle.nat_kinds.specs.Laws.{IsPast, SameKey}
 use Rattle.server_core.specs.Laws.{ForwardedReadsBack}
-use Rattle.teredo_node.specs.declared.fate.Fate.{Fate}
 use Rattle.teredo_node.specs.declared.fate.Fate.TheVariants as fate
 use Rattle.teredo_node.specs.Step.{Send}
 use Rattle.teredo_node.specs.Journal.{Entry, Journal, with_entry}
@@ -32,19 +29,18 @@ use Rattle.qualify.specs.declared.phase.Phase.{Phase}
 use Rattle.qualify.specs.declared.phase.Phase.TheVariants.{Restricted}
 use Rattle.qualify.specs.Turns.{Turn, says_nothing, renews, turn, turn_of, begins, leaves, flags_word, origin_given}
 use Rattle.qualify.specs.Qualification.{Qualification, qualification, address_after}
-use Rattle.qualify.specs.Laws.{fresh, tidings, Turns, KeepsStill}
+use Rattle.qualify.specs.Laws.{fresh, Turns, KeepsStill}
 use Rattle.client_rules.specs.Bearings.{mentions}
 use Rattle.client_rules.specs.Epochs.{QualifiedHasAddress}
 use Rattle.topology.specs.declared.client_node.ClientNode.{ClientNode}
 use Rattle.topology.specs.declared.node.Node.{Node}
-use Rattle.topology.specs.declared.node.Node.TheVariants.{Server as server, Nat as nat, Client as client}
+use Rattle.topology.specs.declared.node.Node.TheVariants.{Nat as nat, Client as client}
 use Rattle.topology.specs.Topology.{node_at}
-use Rattle.topology.specs.Rows.{TopologyState}
-use Rattle.topology.specs.Chains.{Passing, nat_set_up, outs_at, passing}
-use Rattle.history.specs.Full.{Item, udp, Made, sent, Full, wire, items_of}
+use Rattle.topology.specs.Chains.{Passing, outs_at, passing}
+use Rattle.history.specs.Full.{udp, Made, sent, Full}
 use Rattle.legal.specs.Lab.{Lab}
 use Rattle.legal.specs.Settings.{client_settings}
-use Rattle.legal.specs.Past.{now, is_node, at_nat, journal, nat_entries, nat_history, armed}
+use Rattle.legal.specs.Past.{now, is_node, at_nat, journal, nat_history, armed}
 use Rattle.legal.specs.Emit.{by_way}
 use Rattle.legal.specs.Kinds.{Kind}
 use Rattle.legal.specs.Legal.{Follows, Grown}
@@ -56,13 +52,13 @@ use Rattle.settled.specs.Clients.{address_in, asks_at, is_symmetric}
 use Rattle.first_packets.specs.Schedules.{is_fault, HasNoFault}
 use Rattle.first_packets.proofs.Bools.{refused}
 use Rattle.first_packets.proofs.Ways.{Way, Counts, Holds, is_calm, still_way}
-use Rattle.first_packets.proofs.Sent.{leaving, with_outs, out_to, AllLeave, all_leave}
+use Rattle.first_packets.proofs.Sent.{leaving, with_outs, all_leave}
 use Rattle.first_packets.proofs.Known.{PeerLaws}
 use Rattle.first_packets.proofs.Ends.{EndLaws, IsEnd, is_nat_node}
 use Rattle.first_packets.proofs.Reaching.{RouteLaws}
 use Rattle.first_packets.proofs.Deliveries.{Did}
 use Rattle.first_packets.proofs.Meeting.{Knows}
-use Rattle.first_packets.proofs.Pair.{Side, Pair, IsPair, lab_in, setup, nat_by}
+use Rattle.first_packets.proofs.Pair.{Side, Pair, lab_in, nat_by}
 
 -- THE LAWS
 
@@ -196,10 +192,10 @@ module _ (laws : PacketLaws) (p : Pair) (H : List Full) (q : Full) (a : Side) (e
       let passed = did.passed ∙ ap (λ (z : List Send). (by_way (lab_in p) H (now H) (a.c.nat ∷ []) a.c.inside (armed H) 0 [] z).passed) are in
       let all = all_leave laws.ends.holds (lab_in p) H (now H) a.c.nat a.c.inside (embedded a.own).port (armed H) 0 [] xs end.lives kind holds elsewhere (subst (λ (ms : List Made). list_any is_fault ms ≡ false) made sound) in
       let history : nat_history (lab_in p) a.c.nat (q ∷ H) ≡ with_outs laws.ends.holds (lab_in p) H (now H) a.c.nat a.c.inside (embedded a.own).port (by_way (lab_in p) H (now H) (a.c.nat ∷ []) a.c.inside (armed H) 0 [] xs).passed =
-          ap (λ (b : Bool). cond b (at_nat (lab_in p) q.asked q.act) (outs_at a.c.nat q.passed) ++ nat_history (lab_in p) a.c.nat H) no_nat
-          ∙ ap (λ (ps : List Passing). outs_at a.c.nat ps ++ nat_history (lab_in p) a.c.nat H) passed in
+      ap (λ (b : Bool). cond b (at_nat (lab_in p) q.asked q.act) (outs_at a.c.nat q.passed) ++ nat_history (lab_in p) a.c.nat H) no_nat
+      ∙ ap (λ (ps : List Passing). outs_at a.c.nat ps ++ nat_history (lab_in p) a.c.nat H) passed in
       record {
         made = made ∙ all.made ∙ ap (λ (z : Ep). map (λ (x : Send). sent (udp z x.to x.bytes)) xs) from_there;
         counts = subst (λ (m : ℕ). AllByRecursion (λ (x : Send). Contains (counting (nat_by p.t a).idle m (nat_history (lab_in p) a.c.nat (q ∷ H))) (passing a.c.nat (now H) a.c.inside x.to (embedded a.own).port).datagram) xs) (sym did.moment)
-          (subst (λ (h : List NatEntry). AllByRecursion (λ (x : Send). Contains (counting (nat_by p.t a).idle (now H) h) (passing a.c.nat (now H) a.c.inside x.to (embedded a.own).port).datagram) xs) (sym history) all.each);
+            (subst (λ (h : List NatEntry). AllByRecursion (λ (x : Send). Contains (counting (nat_by p.t a).idle (now H) h) (passing a.c.nat (now H) a.c.inside x.to (embedded a.own).port).datagram) xs) (sym history) all.each);
       }

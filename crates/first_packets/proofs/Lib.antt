@@ -15,6 +15,8 @@ mod Ground
 mod AtServer
 mod AtClients
 mod Stages
+mod Steps
 mod Boards
+mod First
 mod Start
 mod Throughout

@@ -1,14 +1,13 @@
 -- Two settled clients: what one does with what the other's first packet draws.
-use Rattle.std.proofs.Common.{◌≡◌, ◌≢◌, ◌≤◌, ◌+◌, ◌-◌, ◌&&◌, ◌||◌, not, ℕ, Bool, true, false, cond, List, [], ◌∷◌, ◌++◌, length, take, drop, Option, Some, None, refl, sym, ap, subst, ◌∙◌}
-use Rattle.std.specs.Prelude.{unwrap_or, is_some, option_and_then}
-use Rattle.std.proofs.lemmas.Bool.{false≢true}
+use Rattle.std.proofs.Common.{◌≡◌, ◌||◌, not, ℕ, Bool, true, false, List, [], ◌∷◌, Option, Some, None, refl, sym, ap, subst, ◌∙◌}
+use Rattle.std.specs.Prelude.{unwrap_or}
 use Rattle.std.proofs.lemmas.List.{take_rest}
 use Rattle.td_base.specs.declared.endpoint.Ep.{Ep}
 use Rattle.td_base.specs.declared.ipv6.Ip6.{Ip6}
 use Rattle.td_base.specs.declared.reach.Policy.{Policy}
 use Rattle.td_base.specs.declared.reach.Policy.TheVariants.{Strict}
 use Rattle.td_base.specs.Reach.{is_usable, is_global, is_global6}
-use Rattle.td_base.specs.Ip6.{IsIp6, same_ip6, same_ip6-self, same_ip6-true}
+use Rattle.td_base.specs.Ip6.{same_ip6, same_ip6-self}
 use Rattle.td_base.specs.Ep.{same_ep, same_ep-self, server_ep}
 use Rattle.ipv6_packet.specs.Packets.{Fields}
 use Rattle.ipv6_packet.specs.Reads.{is_big, is_packet, fields_in}
@@ -19,28 +18,26 @@ use Rattle.bubble.specs.Bubbles.{is_bubble, bubble_of, bubble_bytes}
 use Rattle.bubble.specs.Payloads.{Value, value_written}
 use Rattle.bubble.specs.Messages.{message_in, is_ill_formed, is_advert}
 use Rattle.bubble.specs.Laws.{ReadsPayload}
-use Rattle.bubble.specs.PacketsIn.{packet_in}
 use Rattle.teredo_node.specs.declared.fate.Fate.{Fate}
 use Rattle.teredo_node.specs.declared.fate.Fate.TheVariants as fate
-use Rattle.teredo_node.specs.Step.{Send, rest_of, part}
+use Rattle.teredo_node.specs.Step.{rest_of, part}
 use Rattle.teredo_node.specs.Sends.{send, releases}
-use Rattle.teredo_node.specs.Journal.{arrived, given, Entry, Journal, Words}
-use Rattle.peer_list.specs.Listed.{is_listed, has_room}
-use Rattle.peer_list.specs.Peers.{Peer, no_peer, known}
+use Rattle.teredo_node.specs.Journal.{given, Entry, Journal, Words}
+use Rattle.peer_list.specs.Listed.{has_room}
+use Rattle.peer_list.specs.Peers.{no_peer, known}
 use Rattle.peer_list.specs.Judged.{is_fresh, is_spent, is_barred, is_full}
-use Rattle.peer_list.specs.Laws.{Unlisted}
 use Rattle.qualify.specs.declared.settings.Settings.{Settings}
 use Rattle.qualify.specs.Qualification.{qualification}
 use Rattle.qualify.specs.Solicitations.{is_qualified, own_address}
 use Rattle.qualify.specs.Advertisements.{advert_row}
 use Rattle.client_rules.specs.Bearings.{mentions}
-use Rattle.client_rules.specs.Standing.{Standing, standing_at, known_in}
-use Rattle.client_rules.specs.Tries.{direct_bubble, both_bubbles, tries_by, try_sends}
-use Rattle.client_rules.specs.Reception.{is_from_server, seen_of, reception_row, reception_step}
-use Rattle.client_rules.specs.Transmission.{queues, transmission_row, transmission_step}
+use Rattle.client_rules.specs.Standing.{standing_at}
+use Rattle.client_rules.specs.Tries.{both_bubbles, tries_by, try_sends}
+use Rattle.client_rules.specs.Reception.{is_from_server, seen_of, reception_row}
+use Rattle.client_rules.specs.Transmission.{queues}
 use Rattle.client_rules.specs.Journals.{entry, client_in, client_out}
-use Rattle.legal.specs.Emit.{part_of, handed_by}
-use Rattle.first_packets.proofs.Bools.{left_fails, right_fails, both_hold, not_so, refused, left_holds}
+use Rattle.legal.specs.Emit.{handed_by}
+use Rattle.first_packets.proofs.Bools.{right_fails, both_hold, not_so, left_holds}
 use Rattle.first_packets.proofs.Known.{untried, unspent}
 use Rattle.first_packets.proofs.Received.{IsForHere, IsThroughServer, IsFromPeer, answered, HearsBubble, by_rule1, by_rule3, HandsOver, over_by_rule1, over_by_rule3, bubble_heard, packet_handed, seen_here, entry_here}
 use Rattle.first_packets.proofs.Given.{IsForPeer, sent_at_once, waits_for_it, given_here, entry_given}
@@ -177,8 +174,8 @@ module _ (s : Settings) (j : Journal) (n : ℕ) (own peer : Ip6) (meets : Meets 
     bubble = bubble;
     origin = refl;
     good = both_hold (is_usable s.policy (embedded peer)) (not (is_teredo peer) || same_ep (embedded peer) (embedded peer))
-      (ap (λ (z : Policy). is_usable z (embedded peer)) meets.strict ∙ meets.usable)
-      (right_holds (not (is_teredo peer)) (same_ep (embedded peer) (embedded peer)) (same_ep-self (embedded peer)));
+        (ap (λ (z : Policy). is_usable z (embedded peer)) meets.strict ∙ meets.usable)
+        (right_holds (not (is_teredo peer)) (same_ep (embedded peer) (embedded peer)) (same_ep-self (embedded peer)));
     unbarred = unbarred;
   }
 
@@ -194,7 +191,7 @@ module _ (s : Settings) (j : Journal) (n : ℕ) (own peer : Ip6) (meets : Meets 
   unfolding standing_at
   answers_it x reads bubble unbarred w =
       subst (Answers x) (sym (entry_here s j n (server_ep s.primary) x told reads w fate.Indirect
-          (answered (seen_here s j n (server_ep s.primary) x told reads) (advert_row s (standing_at s j n peer).qualification (server_ep s.primary) told) (through_server bubble unbarred))))
+      (answered (seen_here s j n (server_ep s.primary) x told reads) (advert_row s (standing_at s j n peer).qualification (server_ep s.primary) told) (through_server bubble unbarred))))
       (record { indirect = refl; sends = ap (λ (z : Ip6). send (embedded peer) (bubble_bytes z peer) ∷ []) (address_is s j own knows.address); about = refl; moment = refl })
 
 -- THE HOST'S PACKET
@@ -267,6 +264,6 @@ module _ (s : Settings) (j : Journal) (n : ℕ) (x : List ℕ) (is_one : is_pack
   unfolding standing_at
   waits_here cone w =
       subst Waits (sym (entry_given s j n x is_one w fate.Queued
-          (waits_for_it (given_here s j n x is_one) for_peer (right_fails (is_teredo to) (has_cone to) cone) knows.room (ap (is_spent n) new ∙ unspent n no_peer refl) (ap is_full new ∙ not_full))))
+      (waits_for_it (given_here s j n x is_one) for_peer (right_fails (is_teredo to) (has_cone to) cone) knows.room (ap (is_spent n) new ∙ unspent n no_peer refl) (ap is_full new ∙ not_full))))
       (subst (λ (b : Bool). Waits (entry n (given x) (Some x) (Some to) w (queues b s (standing_at s j n to) to w))) (sym unbarred)
       (record { queued = refl; sends = tries_are w; packet = refl; about = refl; moment = refl }))

@@ -1,8 +1,6 @@
 -- The two clients of a first packet: what stays as it is throughout the schedule.
-use Rattle.std.proofs.Common.{◌≡◌, ◌≢◌, ◌<◌, ◌≤◌, ◌+◌, ◌||◌, ℕ, Bool, true, false, List, [], ◌∷◌, length, Option, Some, None, refl, sym, ap, subst, ◌∙◌, arith}
-use Rattle.std.specs.Prelude.{nat_lt, ◌^◌, ◌↔◌, is_some}
+use Rattle.std.proofs.Common.{◌≡◌, ◌≢◌, ℕ, true, false, List, refl, sym, ap, subst, ◌∙◌}
 use Rattle.std.proofs.lemmas.Bool.{false≢true}
-use Rattle.std.proofs.lemmas.Bool.Decides.{nat_tests}
 use Rattle.td_base.specs.Bytes.{IsBytes}
 use Rattle.td_base.specs.declared.ipv4.Ip4.{Ip4}
 use Rattle.td_base.specs.declared.ipv6.Ip6.{Ip6}
@@ -10,8 +8,7 @@ use Rattle.td_base.specs.declared.endpoint.Ep.{Ep}
 use Rattle.td_base.specs.Ip4.{same_ip, same_ip-true}
 use Rattle.td_base.specs.Ip6.{same_ip6, same_ip6-true}
 use Rattle.td_base.specs.Ep.{same_ep, same_ep-true, server_ep}
-use Rattle.ipv6_packet.specs.Packets.{Fields, packet_at}
-use Rattle.ipv6_packet.specs.Reads.{is_big, is_packet, fields_in}
+use Rattle.ipv6_packet.specs.Reads.{is_big, fields_in}
 use Rattle.teredo_addr.specs.Teredo.{server_in, has_cone, embedded}
 use Rattle.nat_kinds.specs.declared.kind.NatKind.{NatKind}
 use Rattle.nat_kinds.specs.declared.kind.NatKind.TheVariants.{Cone, Restricted, Port, Symmetric}
@@ -21,11 +18,9 @@ use Rattle.nat_kinds.specs.Laws.{Asked}
 use Rattle.qualify.specs.declared.settings.Settings.{Settings}
 use Rattle.client_rules.specs.Reception.{is_from_server}
 use Rattle.topology.specs.declared.client_node.ClientNode.{ClientNode}
-use Rattle.topology.specs.declared.node.Node.{Node}
-use Rattle.topology.specs.declared.node.Node.TheVariants.{Server as server, Nat as nat, Client as client}
+use Rattle.topology.specs.declared.node.Node.TheVariants.{Server as server, Nat as nat}
 use Rattle.topology.specs.Rows.{TopologyState}
 use Rattle.topology.specs.Rules.{IsTopology}
-use Rattle.topology.specs.Topology.{node_at}
 use Rattle.topology.specs.Chains.{nat_set_up}
 use Rattle.topology.specs.NodeRules.{has_address, AddressesAreApart}
 use Rattle.legal.specs.Lab.{Draws, Lab, flat_lab}

@@ -1,6 +1,5 @@
 -- Whom a datagram reaches: a server, or a client behind the NAT that lets it in.
-use Rattle.std.proofs.Common.{◌≡◌, ◌⊎◌, inl, inr, ◌||◌, ℕ, Bool, true, false, List, [], Option, Some, None, refl, sym, ap, subst, ◌∙◌}
-use Rattle.std.specs.Prelude.{◌↔◌}
+use Rattle.std.proofs.Common.{◌≡◌, inl, inr, ◌||◌, ℕ, Bool, true, false, List, [], Option, Some, None, refl, sym, ap, subst, ◌∙◌}
 use Rattle.std.proofs.lemmas.Bool.{false≢true}
 use Rattle.td_base.specs.declared.ipv4.Ip4.{Ip4}
 use Rattle.td_base.specs.declared.ipv6.Ip6.{Ip6}
@@ -84,7 +83,7 @@ module _ (laws : RouteLaws) (d : Draws) (t : TopologyState) (is : IsTopology t) 
     past_nat b in_ none =
         let ip : in_.row.external ≡ end.nat_row.external = sym in_.external ∙ end.external in
         let one : in_.outer ≡ c.nat = laws.apart t in_.outer c.nat (nat in_.row) (nat end.nat_row) in_.row.external is in_.there end.nat_is (nat_has in_.row)
-            (subst (λ (z : Ip4). has_address z (nat end.nat_row) ≡ true) (sym ip) (nat_has end.nat_row)) in
+        (subst (λ (z : Ip4). has_address z (nat end.nat_row) ≡ true) (sym ip) (nat_has end.nat_row)) in
         let enters = subst (λ (k : ℕ). goes_in t [] (nat_pasts (flat_lab d t) H) (now H) src [] k (lets_in (nat_set_up t k) (nat_history (flat_lab d t) k H) (now H) src (embedded own).port) ≡ comes_to b.nat b.inside) one in_.enters in
         false≢true (ap comes (sym (ap (goes_in t [] (nat_pasts (flat_lab d t) H) (now H) src [] c.nat) none) ∙ enters))
 

@@ -1,5 +1,5 @@
 -- What a client does with a bubble through its server, and with what comes from another client itself, by its table.
-use Rattle.std.proofs.Common.{◌≡◌, ◌⊎◌, inl, inr, ◌&&◌, not, ℕ, Bool, true, false, cond, List, [], ◌∷◌, ◌++◌, Option, Some, None, refl, sym, ap, subst, ◌∙◌}
+use Rattle.std.proofs.Common.{◌≡◌, ◌&&◌, not, ℕ, Bool, true, false, cond, List, [], ◌∷◌, ◌++◌, Option, Some, None, refl, ap, ◌∙◌}
 use Rattle.std.specs.Prelude.{unwrap_or}
 use Rattle.td_base.specs.declared.endpoint.Ep.{Ep}
 use Rattle.td_base.specs.declared.ipv6.Ip6.{Ip6}
@@ -10,7 +10,7 @@ use Rattle.bubble.specs.PacketsIn.{packet_in, source_in}
 use Rattle.teredo_addr.specs.Teredo.{unspecified}
 use Rattle.teredo_node.specs.declared.fate.Fate.{Fate}
 use Rattle.teredo_node.specs.declared.fate.Fate.TheVariants as fate
-use Rattle.teredo_node.specs.Journal.{arrived, Entry, Journal, Words}
+use Rattle.teredo_node.specs.Journal.{arrived, Journal, Words}
 use Rattle.teredo_node.specs.Rows.{first_line}
 use Rattle.qualify.specs.declared.settings.Settings.{Settings}
 use Rattle.qualify.specs.Advertisements.{advert_row}

@@ -1,17 +1,16 @@
 -- What becomes of a client's sends where its NAT holds a port for it, and none fails: each leaves from there.
-use Rattle.std.proofs.Common.{◌≡◌, ◌<◌, ◌+◌, ◌==◌, ℕ, Bool, true, false, cond, List, [], ◌∷◌, ◌++◌, map, Option, Ok, Result, refl, sym, ap, subst, ◌∙◌}
+use Rattle.std.proofs.Common.{◌≡◌, ◌<◌, ◌+◌, ℕ, Bool, true, false, cond, List, [], ◌∷◌, ◌++◌, map, Option, Ok, refl, sym, ap, subst}
 use Rattle.std.specs.Prelude.{Contains}
 use Rattle.std.specs.List.{list_any, AllByRecursion}
 use Rattle.std.proofs.lemmas.Bool.{false≢true}
 use Rattle.td_base.specs.declared.endpoint.Ep.{Ep}
 use Rattle.td_base.specs.Ip4.{same_ip}
 use Rattle.nat_kinds.specs.declared.outgoing.Outward.{Outward}
-use Rattle.nat_kinds.specs.declared.refusal.NatRefusal.{NatRefusal}
 use Rattle.nat_kinds.specs.declared.settings.NatSettings.{NatSettings}
 use Rattle.nat_kinds.specs.History.{Entry, Out, counting}
 use Rattle.nat_kinds.specs.Answer.{nat_answer}
 use Rattle.teredo_node.specs.Step.{Send}
-use Rattle.topology.specs.Chains.{Passing, nat_set_up, outs_at, after_passing, Crossing, passing, answered, crossing}
+use Rattle.topology.specs.Chains.{Passing, nat_set_up, outs_at, Crossing, passing, answered, crossing}
 use Rattle.history.specs.Full.{udp, Made, sent}
 use Rattle.history.specs.Full.{Full}
 use Rattle.legal.specs.Lab.{Lab}
@@ -63,7 +62,7 @@ module _ (law : CountingHolds) (lab : Lab) (H : List Full) (m k : ℕ) (inside :
         let answer : nat_answer s (with_outs passed) m inside x.to ≡ Ok port = answers law s (with_outs passed) m inside x.to port kind elsewhere.0 holds in
         let ps : List Passing = passing k m inside x.to port ∷ passed in
         let crossed : crossing_unless false lab H m x.to (k ∷ []) inside passed ≡ record { leaves = Ok leaving; passed = ps } =
-            ap (answered lab.topology m k inside x.to passed (crossing lab.topology (nat_pasts lab H) m x.to [])) answer in
+        ap (answered lab.topology m k inside x.to passed (crossing lab.topology (nat_pasts lab H) m x.to [])) answer in
         let held : Holds s (with_outs ps) m inside port = subst (λ (h : List Entry). Holds s h m inside port) (sym (one_more x.to passed)) (holds_on s (with_outs passed) m inside port (out_to x.to) refl answer holds) in
         let rest = ih ps held (subst (λ (c : Crossing). list_any is_fault (after_one false c).made ≡ false) crossed good) in
         let counted : Contains (counting s.idle m (with_outs ps)) (out_to x.to) = subst (λ (h : List Entry). Contains (counting s.idle m h) (out_to x.to)) (sym (one_more x.to passed)) (counts_itself s.idle m (out_to x.to) (with_outs passed) refl lives) in

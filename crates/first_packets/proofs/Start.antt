@@ -1,23 +1,19 @@
 -- The record of the first packet: what the sender makes of it, and where the schedule begins.
-use Rattle.std.proofs.Common.{◌≡◌, ◌≢◌, ◌⊎◌, inl, inr, ◌≤◌, ◌<◌, ◌+◌, ◌==◌, ℕ, zero, suc, Bool, true, false, cond, List, [], ◌∷◌, ◌++◌, length, Option, Some, None, refl, sym, ap, subst, ◌∙◌, arith}
-use Rattle.std.specs.Prelude.{unwrap_or, is_some, slice_get, filter_map, nat_lt}
+use Rattle.std.proofs.Common.{◌≡◌, ◌≤◌, ◌+◌, ℕ, suc, Bool, true, false, List, [], ◌∷◌, ◌++◌, length, Option, Some, refl, sym, ap, subst, ◌∙◌, arith}
+use Rattle.std.specs.Prelude.{unwrap_or, slice_get, filter_map, nat_lt}
 use Rattle.std.proofs.lemmas.Bool.{false≢true}
 use Rattle.std.proofs.lemmas.Bool.Decides.{nat_tests}
 use Rattle.td_base.specs.Bytes.{IsBytes}
 use Rattle.td_base.specs.declared.ipv6.Ip6.{Ip6}
-use Rattle.td_base.specs.declared.endpoint.Ep.{Ep}
 use Rattle.td_base.specs.Ip4.{same_ip}
 use Rattle.td_base.specs.Ep.{server_ep}
 use Rattle.ipv6_packet.specs.declared.header.TheConstants.{HEADER, PACKET_MAX}
-use Rattle.ipv6_packet.specs.Packets.{Fields, packet_bytes}
 use Rattle.ipv6_packet.specs.Reads.{is_big, is_packet, fields_in}
 use Rattle.ipv6_packet.specs.Laws.{PacketIsSpelled, PacketIsBytes}
 use Rattle.teredo_addr.specs.Teredo.{server_in, has_cone, embedded}
 use Rattle.bubble.specs.Bubbles.{bubble_bytes}
-use Rattle.teredo_node.specs.declared.fate.Fate.TheVariants as fate
-use Rattle.teredo_node.specs.Step.{Send}
 use Rattle.teredo_node.specs.Sends.{send}
-use Rattle.teredo_node.specs.Journal.{Input, given, Entry, Journal, with_entry}
+use Rattle.teredo_node.specs.Journal.{given, Entry, Journal, with_entry}
 use Rattle.teredo_node.specs.MadeInputs.{IsMadeInput, AreMadeInputs}
 use Rattle.peer_list.specs.Peers.{Peer, no_peer, known}
 use Rattle.qualify.specs.Turns.{turn}
@@ -30,12 +26,12 @@ use Rattle.topology.specs.declared.node.Node.TheVariants.{Client as client}
 use Rattle.topology.specs.Rows.{TopologyState}
 use Rattle.topology.specs.Rules.{IsTopology}
 use Rattle.topology.specs.Chains.{passing}
-use Rattle.history.specs.Full.{Item, udp, Made, sent, item_in, Full, wire, items_of}
+use Rattle.history.specs.Full.{Item, udp, item_in, Full, wire, items_of}
 use Rattle.legal.specs.Lab.{Lab, Draws, flat_lab}
 use Rattle.legal.specs.Past.{now, journal, words}
 use Rattle.legal.specs.Emit.{entry_of}
 use Rattle.legal.specs.Next.{no_ep}
-use Rattle.legal.specs.Legal.{Follows, Grown}
+use Rattle.legal.specs.Legal.{Grown}
 use Rattle.legal.specs.Laws.{EachIsOfItsEvent}
 use Rattle.legal.proofs.MadeWire.{entry_input}
 use Rattle.first_packets.specs.Schedules.{HasNoFault, AreFresh}
@@ -44,12 +40,14 @@ use Rattle.first_packets.specs.Throughout.{EachFirstPacketArrives}
 use Rattle.first_packets.proofs.Known.{untried}
 use Rattle.first_packets.proofs.Ends.{IsEnd, is_end, way_of_server}
 use Rattle.first_packets.proofs.Counted.{AreOpen}
+use Rattle.first_packets.proofs.First.{one_first, first_of_two, second_of_two, two_longer, one_open, two_open}
 use Rattle.first_packets.proofs.Deliveries.{Did, Handing, handing}
-use Rattle.first_packets.proofs.Meeting.{Meets, Knows, GoesAtOnce, goes_at_once, Waits, waits_here}
-use Rattle.first_packets.proofs.Pair.{Side, Pair, IsPair, lab_in, setup, nat_by, meets, elsewhere, server_elsewhere, asked_itself, asked_all}
-use Rattle.first_packets.proofs.Ground.{PacketLaws, last_there, one_longer, other_journal, address_stays, Keeps, Unbarred, Ground, IsNext, ground_on, knows, all_leaves}
+use Rattle.first_packets.proofs.Meeting.{Meets, Knows, goes_at_once, Waits, waits_here}
+use Rattle.first_packets.proofs.Pair.{Pair, IsPair, setup, nat_by, meets, elsewhere, server_elsewhere, asked_itself, asked_all}
+use Rattle.first_packets.proofs.Ground.{PacketLaws, other_journal, address_stays, Keeps, Unbarred, Ground, IsNext, ground_on, knows, all_leaves}
 use Rattle.first_packets.proofs.AtClients.{Leaves, after_queued, keeps_on, unbarred_on}
-use Rattle.first_packets.proofs.Stages.{Back, Forth, Stage, asks, releases_it, two_nodes, next_is, same_address, same_after, keeps_waiting}
+use Rattle.first_packets.proofs.Stages.{asks, releases_it}
+use Rattle.first_packets.proofs.Steps.{two_nodes, same_address, same_after}
 use Rattle.first_packets.proofs.Boards.{Board, boards, few, arrives}
 
 pub record StartLaws : Type 0 where
@@ -57,53 +55,6 @@ pub record StartLaws : Type 0 where
   pub event : EachIsOfItsEvent
   pub spelled : PacketIsSpelled
   pub long : PacketIsBytes
-
--- THE ENTRIES OF THE FIRST RECORD
-
-record OneFirst (H : List Full) (r : Full) (x : Item) : Type 0 where
-  at : slice_get (wire (r ∷ H)) (length (wire H)) ≡ Some x
-  longer : length (wire (r ∷ H)) ≡ suc (length (wire H))
-
-one_first : (H : List Full) (r : Full) (x : Item) → r.made ≡ sent x ∷ [] → OneFirst H r x
-one_first H r x made =
-    let items : items_of r ≡ x ∷ [] = ap (filter_map item_in) made in
-    record {
-      at = ap (λ (xs : List Item). slice_get (wire H ++ xs) (length (wire H))) items ∙ last_there (wire H) x;
-      longer = ap (λ (xs : List Item). length (wire H ++ xs)) items ∙ one_longer (wire H) x;
-    }
-
-first_of_two : {A : Type 0} → (xs : List A) (y z : A) → slice_get (xs ++ y ∷ z ∷ []) (length xs) ≡ Some y
-first_of_two [] y z = refl
-first_of_two (x ∷ xs) y z = first_of_two xs y z
-
-second_of_two : {A : Type 0} → (xs : List A) (y z : A) → slice_get (xs ++ y ∷ z ∷ []) (suc (length xs)) ≡ Some z
-second_of_two [] y z = refl
-second_of_two (x ∷ xs) y z = second_of_two xs y z
-
-two_longer : {A : Type 0} → (xs : List A) (y z : A) → length (xs ++ y ∷ z ∷ []) ≡ suc (suc (length xs))
-two_longer [] y z = refl
-two_longer (x ∷ xs) y z = ap suc (two_longer xs y z)
-
-one_open : (f : ℕ) → AreOpen f f false true []
-one_open f = record {
-  only = λ i low high h. inr (refl, omega (arith, low, high));
-  first_is = λ closed. absurd (false≢true closed);
-  last_is = λ _. (omega arith, refl);
-  none_beyond = λ i far. refl;
-}
-
-two_open : (f : ℕ) → AreOpen f (suc f) true true []
-two_open f = record {
-  only = λ i low high h. by i low high (i == f) refl;
-  first_is = λ _. (omega arith, refl);
-  last_is = λ _. (omega arith, refl);
-  none_beyond = λ i far. refl;
-} where
-  by : (i : ℕ) → f ≤ i → i ≤ suc f → (b : Bool) → (i == f) ≡ b → ((true ≡ true) × (i ≡ f)) ⊎ ((true ≡ true) × (i ≡ suc f))
-  by i low high true e = inl (refl, grind (arith, nat_tests))
-  by i low high false e =
-      let ne : (i ≡ f → ⊥) = λ same. (let one : (i == f) ≡ true = grind (arith, nat_tests) in false≢true (sym e ∙ one)) in
-      inr (refl, grind (arith, nat_tests))
 
 -- THE PREMISE
 
@@ -122,8 +73,8 @@ not_big spelled long x bytes one short =
     let is = spelled x bytes one in
     let len : length x ≡ HEADER + length (fields_in x).body = ap (λ (z : List ℕ). length z) is.1 ∙ (long (fields_in x) is.0).long in
     at_most (length x) (HEADER + length (fields_in x).body) PACKET_MAX len short where
-  at_most : (n m most : ℕ) → n ≡ m → n ≤ most → nat_lt most m ≡ false
-  at_most n m most same le = grind (arith, nat_tests)
+      at_most : (n m most : ℕ) → n ≡ m → n ≤ most → nat_lt most m ≡ false
+      at_most n m most same le = grind (arith, nat_tests)
 
 module _ (laws : StartLaws) (d : Draws) (t : TopologyState) (H : List Full) (r : Full) (n m : ℕ) (a b : ClientNode) (own other : Ip6) (x : List ℕ) (is : IsTopology t) (g : Grown (flat_lab d t) (r ∷ H))
     (first : IsFirstPacket (flat_lab d t) H r n m a b own other x) (sound : HasNoFault r) where
@@ -227,7 +178,7 @@ module _ (laws : StartLaws) (d : Draws) (t : TopologyState) (H : List Full) (r :
   to_cone cone =
       let goes = goes_at_once (setup t pair.a) (journal n H) (now H) x first.packet.packet its_meets its_knows small first.packet.no_bubble unknown (ap has_cone first.packet.destination ∙ cone) (words lab n H) in
       let gone = all_leaves l pair H r pair.a e sender_end is_pair.sender_kind g.1 ground.sender_way did sound (send (embedded other) x ∷ []) (goes.sends ∙ ap (λ (z : Ip6). send (embedded z) x ∷ []) first.packet.destination)
-          (elsewhere l.ends.apart t is pair.a pair.b sender_end receiver_end first.clients.apart, tt) in
+      (elsewhere l.ends.apart t is pair.a pair.b sender_end receiver_end first.clients.apart, tt) in
       let one = one_first H r (udp (embedded own) (embedded other) x) gone.made in
       let then = ground_then (address_stays l.still (setup t pair.a) (journal n H) e (ap turn goes.sent_cone)) in
       record {
@@ -294,7 +245,7 @@ module _ (laws : StartLaws) (d : Draws) (t : TopologyState) (H : List Full) (r :
     pub with_both : has_cone own ≡ false → Board pair H r 5 []
     with_both plain =
         let gone = all_leaves l pair H r pair.a e sender_end is_pair.sender_kind g.1 ground.sender_way did sound (both_bubbles false own other) (sends_are false plain)
-            (elsewhere l.ends.apart t is pair.a pair.b sender_end receiver_end first.clients.apart, (to_server_far, tt)) in
+        (elsewhere l.ends.apart t is pair.a pair.b sender_end receiver_end first.clients.apart, (to_server_far, tt)) in
         let direct : Item = udp (embedded own) (embedded other) (bubble_bytes own other) in
         let indirect : Item = udp (embedded own) (server_ep (server_in other)) (bubble_bytes own other) in
         let items : items_of r ≡ direct ∷ indirect ∷ [] = ap (filter_map item_in) gone.made in
@@ -306,7 +257,7 @@ module _ (laws : StartLaws) (d : Draws) (t : TopologyState) (H : List Full) (r :
           long = ap (λ (xs : List Item). length (wire H ++ xs)) items ∙ two_longer (wire H) direct indirect;
           are = open_from (length (wire H)) (suc (length (wire H))) true number (two_open (length (wire H)));
           stage = asks (ap (λ (xs : List Item). slice_get (wire H ++ xs) (suc (length (wire H)))) items ∙ second_of_two (wire H) direct indirect) sends may
-            (record { datagram = (passing a.nat (now H) a.inside (embedded other) (embedded own).port).datagram; counts = gone.counts.0; left = refl; by_port = refl; asked = asked_itself (nat_by t pair.a).kind (embedded other) _ refl });
+              (record { datagram = (passing a.nat (now H) a.inside (embedded other) (embedded own).port).datagram; counts = gone.counts.0; left = refl; by_port = refl; asked = asked_itself (nat_by t pair.a).kind (embedded other) _ refl });
           bubble = λ _. ap (λ (xs : List Item). slice_get (wire H ++ xs) r.first) items ∙ ap (slice_get (wire H ++ direct ∷ indirect ∷ [])) number ∙ first_of_two (wire H) direct indirect;
           sum = refl;
         }

@@ -1,9 +1,8 @@
 -- Schedules after a record: deliveries of what it made and of what they made, each once, and no send of them fails.
 use Rattle.std.specs.Prelude.{◌≡◌, ◌≤◌, ◌<◌, ℕ, Bool, true, false, List, [], ◌∷◌, ◌++◌, length, Some}
 use Rattle.std.specs.List.{list_any}
-use Rattle.history.specs.declared.mark.Loss.{Loss}
 use Rattle.history.specs.declared.mark.Loss.TheVariants as loss
-use Rattle.history.specs.Full.{Made, sent, lost, Full, wire}
+use Rattle.history.specs.Full.{Made, lost, Full, wire}
 use Rattle.legal.specs.Past.{was_delivered}
 
 -- a send that failed by itself
