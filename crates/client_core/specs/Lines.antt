@@ -126,7 +126,7 @@ pub record DropsPacket (f : Fate) : Type 0 where
   pub step : (s : Settings) (a : Standing) (x : List ℕ) (p : Ip6) (w : Words) → transmission_step s a x p w f ≡ just f
 
 -- where a packet goes, and that its destination is listed
-pub record Reaches (a : Standing) (to : Ep) : Type 0 where
+pub record IsSentTo (a : Standing) (to : Ep) : Type 0 where
   pub trusted : (known_in a).trusted ≡ Some to
   pub listed : is_some a.peer ≡ true
 
@@ -138,7 +138,7 @@ pub record MayWait (a : Standing) : Type 0 where
 -- what holds where a line is found, at this standing to the packet's destination
 abbrev pub WarrantsPacket : Standing → TransmissionLine → Type 0
 WarrantsPacket a (host.Drop f) = DropsPacket f
-WarrantsPacket a (host.Sent to) = Reaches a to
+WarrantsPacket a (host.Sent to) = IsSentTo a to
 WarrantsPacket a host.SentCone = Unit {0}
 WarrantsPacket a host.Queued = MayWait a
 

@@ -20,7 +20,7 @@ use Rattle.client_core.specs.declared.client.Client.{Client}
 use Rattle.client_core.specs.Client.{ClientStandsFor, Does, next_entry}
 use Rattle.td_live.specs.Asked.{LiveClient}
 use Rattle.td_live.specs.LiveTurns.{live_entry, drawn_in, sends_in, after_due}
-use Rattle.td_live.specs.Half.{IsAt, Goes, FailsBy}
+use Rattle.td_live.specs.Half.{IsAt, Advances, FailsBy}
 use Rattle.td_live.specs.LiveTotals.{with_attempts}
 use Rattle.td_live.specs.declared.live_totals.LiveTotals.{LiveTotals}
 
@@ -90,7 +90,7 @@ uncounted totals =
 -- ---- from one journal to the next
 
 -- nothing was done
-pub goes_nowhere : (c : LiveClient) (j : Journal) (own : Client) (link link' : Told) (came : List Came) (totals : LiveTotals) → IsAt c own j → Carries link link' came [] → Goes c j j own link link' came totals totals
+pub goes_nowhere : (c : LiveClient) (j : Journal) (own : Client) (link link' : Told) (came : List Came) (totals : LiveTotals) → IsAt c own j → Carries link link' came [] → Advances c j j own link link' came totals totals
 goes_nowhere c j own link link' came totals at told = record {
   at = at;
   sends = [];
@@ -104,7 +104,7 @@ goes_nowhere c j own link link' came totals at told = record {
 -- one entry was made, and its sends were attempted
 pub goes_on : GoOn → (c : LiveClient) (own new : Client) (j : Journal) (n : ℕ) (input : Input) (step : Step) (link link' : Told) (came : List Came) (totals totals' : LiveTotals) (failed : ℕ) (answers : List Bool)
     → IsAt c own j → Does own n input step new → length answers ≡ length step.sends → Carries link link' came (attempts_of step.sends answers) → failed ≡ failed_bits answers → Counts totals totals' step.sends failed
-    → Goes c j (with_entry j (live_entry c j n input)) new link link' came totals totals'
+    → Advances c j (with_entry j (live_entry c j n input)) new link link' came totals totals'
 goes_on go_on c own new j n input step link link' came totals totals' failed answers at does each told bits counts =
     let did = did_so c own new j n input step at does in
     let same : step.sends ≡ (live_entry c j n input).step.sends = ap (λ (s : Step). s.sends) did in
@@ -134,7 +134,7 @@ counted_twice totals xs ys =
     λ k. record { sent = sent k; failed = failed k }
 
 -- one after the other
-pub goes_both : (c : LiveClient) (j k p : Journal) (mid new : Client) (l m r : Told) (came came' : List Came) (totals totals' totals'' : LiveTotals) → Goes c j k mid l m came totals totals' → Goes c k p new m r came' totals' totals'' → Goes c j p new l r (came ++ came') totals totals''
+pub goes_both : (c : LiveClient) (j k p : Journal) (mid new : Client) (l m r : Told) (came came' : List Came) (totals totals' totals'' : LiveTotals) → Advances c j k mid l m came totals totals' → Advances c k p new m r came' totals' totals'' → Advances c j p new l r (came ++ came') totals totals''
 goes_both c j k p mid new l m r came came' totals totals' totals'' a b = record {
   at = b.at;
   sends = a.sends ++ b.sends;

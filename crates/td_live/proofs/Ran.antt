@@ -20,11 +20,11 @@ use Rattle.client_core.specs.Client.{ClientStandsFor, settings_of}
 use Rattle.td_live.specs.declared.live.Live.{Live}
 use Rattle.td_live.specs.declared.live_totals.LiveTotals.{LiveTotals}
 use Rattle.td_live.specs.Asked.{LiveClient}
-use Rattle.td_live.specs.LiveTurns.{LiveTurn, moment_of, taken_in, AreTurns, IsTurn, Rising, receives, phase_after, after_due, after_turn, journal_from, live_journal, start_of, ends_broken, is_asking, sends_in, moments_in, came_in}
+use Rattle.td_live.specs.LiveTurns.{LiveTurn, live_moment, taken_in, AreTurns, IsTurn, Rising, receives, phase_after, after_due, after_turn, journal_from, live_journal, start_of, ends_broken, is_asking, sends_in, moments_in, came_in}
 use Rattle.td_live.specs.LiveTotals.{no_attempts, with_attempts}
-use Rattle.td_live.specs.Half.{IsAt, Goes, TakesTurn}
+use Rattle.td_live.specs.Half.{IsAt, Advances, TakesTurn}
 use Rattle.td_live.specs.Verdict.{live_of}
-use Rattle.td_live.specs.Session.{Ends, TurnsOf, Runs}
+use Rattle.td_live.specs.Session.{EndsTurns, TurnsOf, RunsTurns}
 use Rattle.td_live.proofs.Entries.{goes_nowhere, goes_both}
 
 pub record Ran (c : LiveClient) (start done : ℕ) (own : Client) (clock clock' : ClockState) (link link' : Told) (totals : LiveTotals) (broken : Bool) : Type 0 where
@@ -35,7 +35,7 @@ pub record Ran (c : LiveClient) (start done : ℕ) (own : Client) (clock clock' 
   pub whole : ends_broken turns ≡ broken
   pub moments : Rising clock.last turns clock'.last
   pub read : GainsAll clock.gave clock'.gave (moments_in turns)
-  pub goes : Goes c (journal start []) (journal_from c start turns) own link link' (came_in turns) no_attempts totals
+  pub goes : Advances c (journal start []) (journal_from c start turns) own link link' (came_in turns) no_attempts totals
 
 -- The clock's next moment.
 pub record IsRead (last now : ClockState) (n : ℕ) : Type 0 where
@@ -55,7 +55,7 @@ ran_none c start own clock link at = record {
   goes = goes_nowhere c (journal start []) own link link [] no_attempts at (carries_nothing link);
 }
 
-starts_on : (turns : List LiveTurn) (t : LiveTurn) (start : ℕ) → (0 < length turns → start_of turns ≡ start) → (length turns ≡ 0 → moment_of t ≡ start) → start_of (t ∷ turns) ≡ start
+starts_on : (turns : List LiveTurn) (t : LiveTurn) (start : ℕ) → (0 < length turns → start_of turns ≡ start) → (length turns ≡ 0 → live_moment t ≡ start) → start_of (t ∷ turns) ≡ start
 starts_on [] t start so first = first refl
 starts_on (u ∷ turns) t start so first = so (omega arith)
 
@@ -71,14 +71,14 @@ pub ran_turn : (c : LiveClient) (start done : ℕ) (own new : Client) (clock las
     → Ran c start (done + 1) new clock now link link' totals' broken
 ran_turn c start done own new clock last now link mid link' totals totals' broken n ran begun read first t =
     let j = journal_from c start ran.turns in
-    let at : moment_of t.turn ≡ n = t.moment in
+    let at : live_moment t.turn ≡ n = t.moment in
     record {
       turns = t.turn ∷ ran.turns;
       count = omega (arith, ran.count);
       starts = λ some. starts_on ran.turns t.turn start ran.starts (λ none. at ∙ first (sym ran.count ∙ none));
       are = (record { begun = begun; whole = ran.whole; kind = subst (λ (m : ℕ). receives (phase_after c (after_due c j m)) ≡ is_asking t.turn) (sym at) t.kind }, ran.are);
       whole = t.fault;
-      moments = (omega (arith, at, read.given), rising_later clock.last ran.turns last.last (moment_of t.turn) (omega (arith, at, read.later)) ran.moments);
+      moments = (omega (arith, at, read.given), rising_later clock.last ran.turns last.last (live_moment t.turn) (omega (arith, at, read.later)) ran.moments);
       read = subst (λ (m : ℕ). GainsAll clock.gave now.gave (moments_in ran.turns ++ m ∷ [])) (sym at) (GainsAll-append clock.gave last.gave now.gave (moments_in ran.turns) (n ∷ []) ran.read read.told);
       goes = goes_both c (journal start []) j (after_turn c j t.turn) own new link mid link' (came_in ran.turns) (taken_in t.turn) no_attempts totals totals' ran.goes t.goes;
     }
@@ -109,7 +109,7 @@ pub ran_whole : (c : LiveClient) (start done most : ℕ) (own : Client) (clock c
     → (ran : Ran c start done own clock clock' link link' totals false) → 0 < done → done ≤ most
     → ((j : Journal) → ClientStandsFor own j → answer ≡ live_of (qualification (settings_of own) j))
     → (receives (phase_after c (journal_from c start ran.turns)) ≡ true → done ≡ most)
-    → Runs c most clock clock' link link' totals (Ok answer)
+    → RunsTurns c most clock clock' link link' totals (Ok answer)
 ran_whole c start done most own clock clock' link link' totals answer ran some few found end =
     let same : start_of ran.turns ≡ start = ran.starts (omega (arith, some, ran.count)) in
     let j : Journal = journal_from c start ran.turns in
@@ -132,7 +132,7 @@ ran_whole c start done most own clock clock' link link' totals answer ran some f
 
 pub ran_broken : (c : LiveClient) (start done most : ℕ) (own : Client) (clock clock' : ClockState) (link link' : Told) (totals : LiveTotals) (result : Result Live Failed) (fault : Failed)
     → (ran : Ran c start done own clock clock' link link' totals true) → 0 < done → done ≤ most → result ≡ Err fault
-    → Runs c most clock clock' link link' totals result
+    → RunsTurns c most clock clock' link link' totals result
 ran_broken c start done most own clock clock' link link' totals result fault ran some few is =
     let same : start_of ran.turns ≡ start = ran.starts (omega (arith, some, ran.count)) in
     let whole : journal_from c start ran.turns ≡ live_journal c ran.turns = ap (λ (s : ℕ). journal_from c s ran.turns) (sym same) in
@@ -148,5 +148,5 @@ ran_broken c start done most own clock clock' link link' totals result fault ran
       each = ran.goes.each ∙ ap (λ (l : List Send). length l) sends;
       told = subst (λ (l : List Send). Carries link link' (came_in ran.turns) (attempts_of l ran.goes.answers)) sends ran.goes.told;
       sums = ran.goes.sums;
-      ended = subst (λ (r : Result Live Failed). Ends c most ran.turns r) (sym is) ran.whole;
+      ended = subst (λ (r : Result Live Failed). EndsTurns c most ran.turns r) (sym is) ran.whole;
     }

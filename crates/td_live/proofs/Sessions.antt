@@ -12,7 +12,7 @@ use Rattle.td_live.specs.declared.live.Live.{Live}
 use Rattle.td_live.specs.declared.live_totals.LiveTotals.{LiveTotals}
 use Rattle.td_live.specs.Asked.{LiveClient, live_client}
 use Rattle.td_live.specs.Half.{FailsBy}
-use Rattle.td_live.specs.Session.{TakesAll, Runs, Qualifies, SessionOf, NoSession}
+use Rattle.td_live.specs.Session.{TakesAll, RunsTurns, Qualifies, SessionOf, NoSession}
 
 turned_then : (came : List Came) (a b c : Option (List Came)) → Moves a b (λ before after. after ≡ map at_primary before) → Moves b c (λ before after. Come before came after) → Moves a c (λ before after. Come (map at_primary before) came after)
 turned_then came a b None p q = tt
@@ -27,7 +27,7 @@ takes_all a b c came made opened carried = record {
   attempts = Stays-Moves _ a.attempts b.attempts c.attempts opened.attempts carried.attempts;
 }
 
-from_opening : (c : LiveClient) (most : ℕ) (clock clock' : ClockState) (a b d : Told) (totals : LiveTotals) (result : Result Live Failed) → TurnsToOne a b → Runs c most clock clock' b d totals result → Qualifies c most clock clock' a d totals result
+from_opening : (c : LiveClient) (most : ℕ) (clock clock' : ClockState) (a b d : Told) (totals : LiveTotals) (result : Result Live Failed) → TurnsToOne a b → RunsTurns c most clock clock' b d totals result → Qualifies c most clock clock' a d totals result
 from_opening c most clock clock' a b d totals result opened runs = record {
   turns = runs.turns;
   are = runs.are;
@@ -43,7 +43,7 @@ from_opening c most clock clock' a b d totals result opened runs = record {
 }
 
 session : (asked : Asked) (at : Ep) (l m l' : LinkState) (c c' : ClockState) (totals : LiveTotals) (result : Result Live Failed)
-    → at.ip ≡ asked.inside → m.place ≡ client_on at → l'.place ≡ m.place → TurnsToOne l.told m.told → Runs (live_client asked at) asked.turns c c' m.told l'.told totals result
+    → at.ip ≡ asked.inside → m.place ≡ client_on at → l'.place ≡ m.place → TurnsToOne l.told m.told → RunsTurns (live_client asked at) asked.turns c c' m.told l'.told totals result
     → SessionOf asked l l' c c' totals result
 session asked at l m l' c c' totals result inside place stay opened runs = record {
   at = at;
@@ -53,7 +53,7 @@ session asked at l m l' c c' totals result inside place stay opened runs = recor
 }
 
 pub session_found : (asked : Asked) (at : Ep) (l m l' : LinkState) (c c' : ClockState) (totals : LiveTotals) (result : Result Live Failed)
-    → at.ip ≡ asked.inside → m.place ≡ client_on at → l'.place ≡ m.place → TurnsToOne l.told m.told → Runs (live_client asked at) asked.turns c c' m.told l'.told totals result
+    → at.ip ≡ asked.inside → m.place ≡ client_on at → l'.place ≡ m.place → TurnsToOne l.told m.told → RunsTurns (live_client asked at) asked.turns c c' m.told l'.told totals result
     → MatchResult result (λ answer. SessionOf asked l l' c c' totals (Ok answer)) (λ fault. NoSession l l' c c' totals ⊎ SessionOf asked l l' c c' totals (Err fault))
 session_found asked at l m l' c c' totals (Ok answer) inside place stay opened runs = session asked at l m l' c c' totals (Ok answer) inside place stay opened runs
 session_found asked at l m l' c c' totals (Err fault) inside place stay opened runs = inr (session asked at l m l' c c' totals (Err fault) inside place stay opened runs)

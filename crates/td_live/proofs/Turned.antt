@@ -19,7 +19,7 @@ use Rattle.client_core.specs.Client.{ClientStandsFor, AsBefore, Does, WantsPlace
 use Rattle.client_rules.specs.Laws.{FateOfReception, ReceptionIsWarranted}
 use Rattle.td_live.specs.Asked.{LiveClient}
 use Rattle.td_live.specs.LiveTurns.{LiveTurn, Over, Took as Received, Broke, receives, phase_after, after_due, after_came, after_turn, live_entry}
-use Rattle.td_live.specs.Half.{IsAt, Goes, TakesTurn}
+use Rattle.td_live.specs.Half.{IsAt, Advances, TakesTurn}
 use Rattle.td_live.specs.declared.live_totals.LiveTotals.{LiveTotals}
 use Rattle.td_live.proofs.Entries.{GoOn, Counts, goes_on, goes_nowhere, goes_both}
 use Rattle.td_live.proofs.Unlisted.{wants_none}
@@ -33,26 +33,26 @@ module _ (c : LiveClient) (j : Journal) (n : ℕ) (own new : Client) (link link'
   took answer from len failed ok is = subst (λ (r : Result Pumped PumpFault). PumpsClient own n new link link' step r) (ok ∙ ap (λ (a : Pumped). Ok a) is) pumped
 
   pub took_goes : GoOn → (answer : Pumped) (from : Ep) (len failed : ℕ) (totals totals' : LiveTotals) → result ≡ Ok answer → answer ≡ Took from len failed → IsAt c own j → Counts totals totals' step.sends failed
-      → (came : Came) × Goes c j (after_came c j n came) new link link' (came ∷ []) totals totals'
+      → (came : Came) × Advances c j (after_came c j n came) new link link' (came ∷ []) totals totals'
   took_goes go_on answer from len failed totals totals' ok is at counts =
       let a = took answer from len failed ok is in
       (Datagram a.side from a.bytes, goes_on go_on c own new j n (arrived from a.bytes) step link link' (Datagram a.side from a.bytes ∷ []) totals totals' failed a.answers at a.answered a.each a.told a.bits counts)
 
   pub idle_goes : (before : Step) (answer : Pumped) (totals : LiveTotals) → result ≡ Ok answer → answer ≡ Idle → LeavesAll AsBefore own new before step result → IsAt c own j
-      → (came : Came) × Goes c j (after_came c j n came) new link link' (came ∷ []) totals totals
+      → (came : Came) × Advances c j (after_came c j n came) new link link' (came ∷ []) totals totals
   idle_goes before answer totals ok is left at =
       let whole : result ≡ Ok Idle = ok ∙ ap (λ (a : Pumped). Ok a) is in
       let carried : Carries link link' (Nothing ∷ []) [] = subst (λ (r : Result Pumped PumpFault). PumpsClient own n new link link' step r) whole pumped in
       let same : new ≡ own = (subst (λ (r : Result Pumped PumpFault). LeavesAll AsBefore own new before step r) whole left).0 in
-      (Nothing, subst (λ (s : Client). Goes c j j s link link' (Nothing ∷ []) totals totals) (sym same) (goes_nowhere c j own link link' (Nothing ∷ []) totals at carried))
+      (Nothing, subst (λ (s : Client). Advances c j j s link link' (Nothing ∷ []) totals totals) (sym same) (goes_nowhere c j own link link' (Nothing ∷ []) totals at carried))
 
   pub broke_goes : (before : Step) (fault : PumpFault) (totals : LiveTotals) → result ≡ Err fault → fault ≡ Receive → LeavesAll AsBefore own new before step result → IsAt c own j
-      → Goes c j j new link link' [] totals totals
+      → Advances c j j new link link' [] totals totals
   broke_goes before fault totals err is left at =
       let whole : result ≡ Err Receive = err ∙ ap (λ (f : PumpFault). Err f) is in
       let carried : Carries link link' [] [] = subst (λ (r : Result Pumped PumpFault). PumpsClient own n new link link' step r) whole pumped in
       let same : new ≡ own = (subst (λ (r : Result Pumped PumpFault). LeavesAll AsBefore own new before step r) whole left).0 in
-      subst (λ (s : Client). Goes c j j s link link' [] totals totals) (sym same) (goes_nowhere c j own link link' [] totals at carried)
+      subst (λ (s : Client). Advances c j j s link link' [] totals totals) (sym same) (goes_nowhere c j own link link' [] totals at carried)
 
   pub starves_never : FateOfReception → ReceptionIsWarranted → (fault : PumpFault) → result ≡ Err fault → fault ≡ NoMemory → IsAt c own j → receives (phase_after c j) ≡ true → ⊥
   starves_never law warranted fault err is at asking =
@@ -74,13 +74,13 @@ err_at P Q (Err e) all c j p = all c j p
 pub phase_told : (c : LiveClient) (own : Client) (j : Journal) (phase : Phase) (b : Bool) → IsAt c own j → phase ≡ (qualification (settings_of own) j).phase → b ≡ receives phase → receives (phase_after c j) ≡ b
 phase_told c own j phase b at told is = sym (is ∙ ap receives told ∙ ap (λ (s : Settings). receives (qualification s j).phase) at.settings)
 
-pub turn_over : (c : LiveClient) (j : Journal) (n : ℕ) (new : Client) (link link' : Told) (totals totals' : LiveTotals) → Goes c j (after_due c j n) new link link' [] totals totals' → receives (phase_after c (after_due c j n)) ≡ false → TakesTurn c j n new link link' totals totals' false
+pub turn_over : (c : LiveClient) (j : Journal) (n : ℕ) (new : Client) (link link' : Told) (totals totals' : LiveTotals) → Advances c j (after_due c j n) new link link' [] totals totals' → receives (phase_after c (after_due c j n)) ≡ false → TakesTurn c j n new link link' totals totals' false
 turn_over c j n new link link' totals totals' goes over = record { turn = Over n; moment = refl; kind = over; fault = refl; goes = goes }
 
 pub turn_whole : (c : LiveClient) (j : Journal) (n : ℕ) (mid new : Client) (l m r : Told) (totals totals' totals'' : LiveTotals) (result : Result (Unit {0}) Failed)
-    → Goes c j (after_due c j n) mid l m [] totals totals' → receives (phase_after c (after_due c j n)) ≡ true
-    → OnOk result ((came : Came) × Goes c (after_due c j n) (after_came c (after_due c j n) n came) new m r (came ∷ []) totals' totals'')
-    → OnErr result (Goes c (after_due c j n) (after_due c j n) new m r [] totals' totals'')
+    → Advances c j (after_due c j n) mid l m [] totals totals' → receives (phase_after c (after_due c j n)) ≡ true
+    → OnOk result ((came : Came) × Advances c (after_due c j n) (after_came c (after_due c j n) n came) new m r (came ∷ []) totals' totals'')
+    → OnErr result (Advances c (after_due c j n) (after_due c j n) new m r [] totals' totals'')
     → TakesTurn c j n new l r totals totals'' (is_err result)
 turn_whole c j n mid new l m r totals totals' totals'' (Ok x) due asking goes broke = record {
   turn = Received n goes.0;

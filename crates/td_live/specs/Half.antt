@@ -9,7 +9,7 @@ use Rattle.qualify.specs.Generator.{after_words}
 use Rattle.client_core.specs.declared.client.Client.{Client}
 use Rattle.client_core.specs.Client.{ClientStandsFor, settings_of}
 use Rattle.td_live.specs.Asked.{LiveClient}
-use Rattle.td_live.specs.LiveTurns.{LiveTurn, moment_of, is_asking, is_broken, taken_in, drawn_in, sends_in, receives, phase_after, after_due, after_turn}
+use Rattle.td_live.specs.LiveTurns.{LiveTurn, live_moment, is_asking, is_broken, taken_in, drawn_in, sends_in, receives, phase_after, after_due, after_turn}
 use Rattle.td_live.specs.LiveTotals.{with_attempts}
 use Rattle.td_live.specs.declared.live_totals.LiveTotals.{LiveTotals}
 
@@ -26,12 +26,12 @@ pub record IsSomewhere (own : Client) : Type 0 where
   pub at : IsAt client own journal
 
 -- a client that waits for its server's answer
-pub record IsAsking (own : Client) : Type 0 where
+pub record IsAwaiting (own : Client) : Type 0 where
   pub somewhere : IsSomewhere own
   pub phase : receives (phase_after somewhere.client somewhere.journal) ≡ true
 
 -- from one journal to the next: what the entries between them send was attempted, each once, in order, and counted
-pub record Goes (c : LiveClient) (j j' : Journal) (new : Client) (link link' : Told) (came : List Came) (totals totals' : LiveTotals) : Type 0 where
+pub record Advances (c : LiveClient) (j j' : Journal) (new : Client) (link link' : Told) (came : List Came) (totals totals' : LiveTotals) : Type 0 where
   pub at : IsAt c new j'
   pub sends : List Send
   pub answers : List Bool
@@ -50,7 +50,7 @@ pub record FailsBy (before now failed failed' : ℕ) : Type 0 where
 -- a turn at a moment
 pub record TakesTurn (c : LiveClient) (j : Journal) (n : ℕ) (new : Client) (link link' : Told) (totals totals' : LiveTotals) (broken : Bool) : Type 0 where
   pub turn : LiveTurn
-  pub moment : moment_of turn ≡ n
+  pub moment : live_moment turn ≡ n
   pub kind : receives (phase_after c (after_due c j n)) ≡ is_asking turn
   pub fault : is_broken turn ≡ broken
-  pub goes : Goes c j (after_turn c j turn) new link link' (taken_in turn) totals totals'
+  pub goes : Advances c j (after_turn c j turn) new link link' (taken_in turn) totals totals'

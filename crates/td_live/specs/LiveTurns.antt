@@ -36,10 +36,10 @@ pub data LiveTurn : Type 0 where
   Took : (moment : ℕ) (came : Came) → LiveTurn
   Broke : (moment : ℕ) → LiveTurn  -- the receive failed
 
-abbrev pub moment_of : LiveTurn → ℕ
-moment_of (Over n) = n
-moment_of (Took n came) = n
-moment_of (Broke n) = n
+abbrev pub live_moment : LiveTurn → ℕ
+live_moment (Over n) = n
+live_moment (Took n came) = n
+live_moment (Broke n) = n
 
 -- it received, or tried to
 abbrev pub is_asking : LiveTurn → Bool
@@ -90,7 +90,7 @@ journal_from c start (t ∷ ts) = after_turn c (journal_from c start ts) t
 -- the first of the moments
 abbrev pub start_of : List LiveTurn → ℕ
 start_of [] = 0
-start_of (t ∷ []) = moment_of t
+start_of (t ∷ []) = live_moment t
 start_of (t ∷ u ∷ ts) = start_of (u ∷ ts)
 
 -- the journal of a session's turns: it starts at the first moment
@@ -109,7 +109,7 @@ ends_broken (t ∷ ts) = is_broken t
 pub record IsTurn (c : LiveClient) (start : ℕ) (ts : List LiveTurn) (t : LiveTurn) : Type 0 where
   pub begun : receives (phase_after c (journal_from c start ts)) ≡ true
   pub whole : ends_broken ts ≡ false
-  pub kind : receives (phase_after c (after_due c (journal_from c start ts) (moment_of t))) ≡ is_asking t
+  pub kind : receives (phase_after c (after_due c (journal_from c start ts) (live_moment t))) ≡ is_asking t
 
 abbrev pub AreTurns : LiveClient → ℕ → List LiveTurn → Type 0
 AreTurns c start [] = ⊤
@@ -118,14 +118,14 @@ AreTurns c start (t ∷ ts) = IsTurn c start ts t × AreTurns c start ts
 -- their moments lie between two, and none is before the one of an earlier turn
 abbrev pub Rising : ℕ → List LiveTurn → ℕ → Type 0
 Rising first [] last = first ≤ last
-Rising first (t ∷ ts) last = (moment_of t ≤ last) × Rising first ts (moment_of t)
+Rising first (t ∷ ts) last = (live_moment t ≤ last) × Rising first ts (live_moment t)
 
 -- WHAT A CLOCK AND A LINK TELL OF THEM
 
 -- the moments, one for each turn
 abbrev pub moments_in : List LiveTurn → List ℕ
 moments_in [] = []
-moments_in (t ∷ ts) = moments_in ts ++ moment_of t ∷ []
+moments_in (t ∷ ts) = moments_in ts ++ live_moment t ∷ []
 
 -- what was taken, one element for each turn that received
 abbrev pub came_in : List LiveTurn → List Came

@@ -23,10 +23,10 @@ pub record TakesAll (old new : Told) (came : List Came) (made : List Attempt) : 
 
 -- How the turns end. With an answer: it is that of the journal's phase, and where the phase still waits as many turns were
 -- taken as were asked for. With a failure: the latest receive failed.
-abbrev pub Ends : LiveClient → ℕ → List LiveTurn → Result Live Failed → Type 0
-Ends c most turns (Ok live) = (ends_broken turns ≡ false) × (live ≡ live_of (qualification c.settings (live_journal c turns)))
+abbrev pub EndsTurns : LiveClient → ℕ → List LiveTurn → Result Live Failed → Type 0
+EndsTurns c most turns (Ok live) = (ends_broken turns ≡ false) × (live ≡ live_of (qualification c.settings (live_journal c turns)))
     × (receives (phase_after c (live_journal c turns)) ≡ true → length turns ≡ most)
-Ends c most turns (Err failed) = ends_broken turns ≡ true
+EndsTurns c most turns (Err failed) = ends_broken turns ≡ true
 
 -- The turns of a session, where a link carried what they took and their journal's sends, each attempted once, in order: the
 -- clock gave their moments, one a turn.
@@ -42,11 +42,11 @@ pub record TurnsOf (c : LiveClient) (most : ℕ) (clock clock' : ClockState)
   pub each : length answers ≡ length (sends_in (live_journal c turns).entries)
   pub told : carries (came_in turns) (attempts_of (sends_in (live_journal c turns).entries) answers)
   pub sums : totals ≡ with_attempts no_attempts answers
-  pub ended : Ends c most turns result
+  pub ended : EndsTurns c most turns result
 
 -- at a link that is open
-abbrev pub Runs : LiveClient → ℕ → ClockState → ClockState → Told → Told → LiveTotals → Result Live Failed → Type 0
-Runs c most clock clock' link link' totals result = TurnsOf c most clock clock' (λ came made. Carries link link' came made) totals result
+abbrev pub RunsTurns : LiveClient → ℕ → ClockState → ClockState → Told → Told → LiveTotals → Result Live Failed → Type 0
+RunsTurns c most clock clock' link link' totals result = TurnsOf c most clock clock' (λ came made. Carries link link' came made) totals result
 
 -- from the opening on
 abbrev pub Qualifies : LiveClient → ℕ → ClockState → ClockState → Told → Told → LiveTotals → Result Live Failed → Type 0

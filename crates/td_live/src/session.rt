@@ -6,7 +6,7 @@ ghost use Rattle.td_outside.specs.Moves.{Stays, Gains};
 ghost use Rattle.teredo_node.specs.Turn.{SendFaults};
 ghost use Rattle.td_live.specs.Asked.{live_client};
 ghost use Rattle.td_live.specs.LiveTotals.{no_attempts};
-ghost use Rattle.td_live.specs.Session.{Runs, SessionOf, NoSession};
+ghost use Rattle.td_live.specs.Session.{RunsTurns, SessionOf, NoSession};
 
 use crate::asked::client_at;
 use crate::live::found;
@@ -32,7 +32,7 @@ fn take_turns<L: Link, C: Clock>(
     requires some { 0 < asked.turns }
     requires most { asked.turns ≤ TURNS_MAX }
     requires zero { totals.old ≡ no_attempts }
-    ensures turns { Runs (live_client asked at) asked.turns (C.state clock.old) (C.state clock.new)
+    ensures turns { RunsTurns (live_client asked at) asked.turns (C.state clock.old) (C.state clock.new)
         (L.state link.old).told (L.state link.new).told totals.new result }
     ensures receives { HasCause (L.state link.old).recv_faults (L.state link.new).recv_faults result }
     ensures sends { SendFaults (L.state link.old).send_faults (L.state link.new).send_faults totals.new.failed }

@@ -13,7 +13,7 @@ ghost use Rattle.client_core.specs.Endpoint.{owing};
 ghost use Rattle.client_rules.specs.Journals.{client_due};
 ghost use Rattle.td_live.specs.Asked.{LiveClient};
 ghost use Rattle.td_live.specs.LiveTurns.{receives, after_due, after_came};
-ghost use Rattle.td_live.specs.Half.{IsAt, IsAsking, IsSomewhere, Goes, FailsBy, TakesTurn};
+ghost use Rattle.td_live.specs.Half.{IsAt, IsAwaiting, IsSomewhere, Advances, FailsBy, TakesTurn};
 ghost use Rattle.td_live.specs.declared.live_totals.TheConstants.{ATTEMPTS_END};
 
 use crate::LiveTotals;
@@ -58,7 +58,7 @@ fn do_due<L: Link>(
     requires callable { IsCallable client.old now.0 }
     requires few { totals.old.sent + totals.old.failed ≤ ATTEMPTS_END }
     ensures goes { (c : LiveClient) (j : Journal) → IsAt c client.old j
-        → Goes c j (after_due c j now.0) client.new (L.state link.old).told (L.state link.new).told [] totals.old totals.new }
+        → Advances c j (after_due c j now.0) client.new (L.state link.old).told (L.state link.new).told [] totals.old totals.new }
     ensures again { IsCallable client.new now.0 }
     ensures some { totals.new.sent + totals.new.failed ≤ totals.old.sent + totals.old.failed + SENDS_MAX }
     ensures receives { (L.state link.new).recv_faults ≡ (L.state link.old).recv_faults }
@@ -84,12 +84,12 @@ fn take_next<L: Link>(
     totals: &mut LiveTotals,
 ) -> Result<(), Failed>
     requires callable { IsCallable client.old now.0 }
-    requires asking { IsAsking client.old }
+    requires asking { IsAwaiting client.old }
     requires few { totals.old.sent + totals.old.failed ≤ ATTEMPTS_END }
     ensures goes { OnOk result ((c : LiveClient) (j : Journal) → IsAt c client.old j → (came : Came)
-        × Goes c j (after_came c j now.0 came) client.new (L.state link.old).told (L.state link.new).told (came ∷ []) totals.old totals.new) }
+        × Advances c j (after_came c j now.0 came) client.new (L.state link.old).told (L.state link.new).told (came ∷ []) totals.old totals.new) }
     ensures broke { OnErr result ((c : LiveClient) (j : Journal) → IsAt c client.old j
-        → Goes c j j client.new (L.state link.old).told (L.state link.new).told [] totals.old totals.new) }
+        → Advances c j j client.new (L.state link.old).told (L.state link.new).told [] totals.old totals.new) }
     ensures again { IsCallable client.new now.0 }
     ensures some { totals.new.sent + totals.new.failed ≤ totals.old.sent + totals.old.failed + SENDS_MAX }
     ensures receives { HasCause (L.state link.old).recv_faults (L.state link.new).recv_faults result }

@@ -4,7 +4,7 @@ use Rattle.teredo_node.specs.CarryLaws.{carries_nothing}
 use Rattle.qualify.specs.declared.settings.Settings.{Settings}
 use Rattle.qualify.specs.Solicitations.{is_due}
 use Rattle.client_rules.specs.Journals.{client_due}
-use Rattle.td_live.specs.Half.{Goes}
+use Rattle.td_live.specs.Half.{Advances}
 use Rattle.td_live.proofs.Entries.{few_lost, goes_nowhere, goes_on, not_due, due_now, fails_by}
 use Rattle.td_live.proofs.turn.do_due.Goals as goal
 
@@ -13,7 +13,7 @@ returns-then-not-is_due-clause-goes g c =
     λ client j at.
     let told = (g.L.Link.state c.args.link.now).told in
     let quiet : c.is_due.result ≡ false = c.if-not-is_due.true in
-    subst (λ (k : Journal). Goes client j k c.args.client.now told told [] c.args.totals.now c.args.totals.now)
+    subst (λ (k : Journal). Advances client j k c.args.client.now told told [] c.args.totals.now c.args.totals.now)
     (not_due client j c.args.now.0 c.is_due.result quiet (c.is_due.ensures.due j at.stands ∙ ap (λ (s : Settings). is_due c.args.now.0 (client_due s j c.args.now.0)) at.settings))
     (goes_nowhere client j c.args.client.now told told [] c.args.totals.now at (carries_nothing told))
 
@@ -27,7 +27,7 @@ returns-in-Some-clause-goes g c =
     λ client j at.
     let once = rw c.in-Some.is at c.tick.ensures.turn in
     let owed : c.is_due.result ≡ true = c.if-not-is_due.false in
-    subst (λ (k : Journal). Goes client j k c.tick.new.e (g.L.Link.state c.args.link.now).told (g.L.Link.state c.tick.new.link).told [] c.args.totals.now c.count.new.self)
+    subst (λ (k : Journal). Advances client j k c.tick.new.e (g.L.Link.state c.args.link.now).told (g.L.Link.state c.tick.new.link).told [] c.args.totals.now c.count.new.self)
     (due_now client j c.args.now.0 c.is_due.result owed (c.is_due.ensures.due j at.stands ∙ ap (λ (s : Settings). is_due c.args.now.0 (client_due s j c.args.now.0)) at.settings))
     (goes_on c.words_go_on.ensures.place client c.args.client.now c.tick.new.e j c.args.now.0 ticked c.tick.new.step (g.L.Link.state c.args.link.now).told (g.L.Link.state c.tick.new.link).told [] c.args.totals.now c.count.new.self c.in-Some.failed once.sends.answers at once.ticked once.sends.each once.sends.told once.sends.bits c.count.ensures.counted)
 

@@ -1,6 +1,6 @@
 use Rattle.std.proofs.Common.{◌≡◌, false, true, [], ◌∷◌}
 use Rattle.td_outside.specs.Link.{Came}
-use Rattle.td_live.specs.Half.{IsAt, Goes}
+use Rattle.td_live.specs.Half.{IsAt, Advances}
 use Rattle.td_live.specs.LiveTurns.{receives, phase_after, after_due, after_came}
 use Rattle.td_live.proofs.Turned.{phase_told, turn_over, turn_whole, ok_at, err_at}
 use Rattle.td_live.proofs.turn.take_turn.Goals as goal
@@ -32,4 +32,4 @@ returns-clause-turn g c =
     let waits : c.receives.result ≡ true = c.if-not-receives.false in
     let asking : receives (phase_after client k) ≡ true = rw (← waits) (phase_told client c.do_due.new.client k c.phase.result c.receives.result goes.at (c.phase.ensures k goes.at.stands) c.receives.ensures) in
     turn_whole client j c.args.now.0 c.do_due.new.client c.take_next.new.client _ _ _ c.args.totals.now c.do_due.new.totals c.take_next.new.totals c.take_next.result goes asking
-    (ok_at (λ a h. IsAt a c.do_due.new.client h) (λ a h. (came : Came) × Goes a h (after_came a h c.args.now.0 came) c.take_next.new.client (g.L.Link.state c.do_due.new.link).told (g.L.Link.state c.take_next.new.link).told (came ∷ []) c.do_due.new.totals c.take_next.new.totals) c.take_next.result c.take_next.ensures.goes client k goes.at) (err_at (λ a h. IsAt a c.do_due.new.client h) (λ a h. Goes a h h c.take_next.new.client (g.L.Link.state c.do_due.new.link).told (g.L.Link.state c.take_next.new.link).told [] c.do_due.new.totals c.take_next.new.totals) c.take_next.result c.take_next.ensures.broke client k goes.at)
+    (ok_at (λ a h. IsAt a c.do_due.new.client h) (λ a h. (came : Came) × Advances a h (after_came a h c.args.now.0 came) c.take_next.new.client (g.L.Link.state c.do_due.new.link).told (g.L.Link.state c.take_next.new.link).told (came ∷ []) c.do_due.new.totals c.take_next.new.totals) c.take_next.result c.take_next.ensures.goes client k goes.at) (err_at (λ a h. IsAt a c.do_due.new.client h) (λ a h. Advances a h h c.take_next.new.client (g.L.Link.state c.do_due.new.link).told (g.L.Link.state c.take_next.new.link).told [] c.do_due.new.totals c.take_next.new.totals) c.take_next.result c.take_next.ensures.broke client k goes.at)
