@@ -27,7 +27,7 @@ use Rattle.legal.specs.Emit.{six_made, part_of, handed_by, sendings, entry_of}
 use Rattle.lab_nodes.specs.declared.call.Call.{Call}
 use Rattle.lab_nodes.specs.PlayedNode.{IsClientOf, IsRelayOf}
 use Rattle.lab_nodes.specs.Call.{dst_lent, input_lent, entry_in}
-use Rattle.lab_nodes.specs.Answers.{SendsOrKeeps, Starves, RelayStarves}
+use Rattle.lab_nodes.specs.Answers.{SendsOrKeeps, ClientStarves, RelayStarves}
 use Rattle.lab_nodes.specs.Memory.{takes_memory}
 use Rattle.lab_nodes.proofs.Inputs.{input_is}
 use Rattle.lab_nodes.proofs.Unsent.{none_by_way, none_outright, none_besides}
@@ -73,7 +73,7 @@ module _ (lab : Lab) (H : List Full) (x : Call) (row : ClientNode) (is : Client)
     words = ap (λ (g : ChaCha). words_of g) done.place ∙ (λ i k. law is.rng step.drawn k i) ∙ (λ i k. kept.words i ((client_did step new done i).drawn + k));
   }
 
-  pub client_starves : Starves is x.now.0 (input_lent x.input) → (sendings lab H x.now.0 (entry_in lab H x (client row)) (client row)).made ≡ [] → takes_memory (entry_in lab H x (client row)).step.fate ≡ true
+  pub client_starves : ClientStarves is x.now.0 (input_lent x.input) → (sendings lab H x.now.0 (entry_in lab H x (client row)) (client row)).made ≡ [] → takes_memory (entry_in lab H x (client row)).step.fate ≡ true
   client_starves starved none =
       let sends = none_by_way lab H x.now.0 (way_out lab.chain row.nat) row.inside (entry_in lab H x (client row)).step.sends none in
       subst (λ (e : Entry). SendsOrKeeps e.step) client_next (starved (journal x.node H) kept.stands) sends

@@ -14,7 +14,7 @@ use Rattle.td_base.specs.declared.refusals.NoMemory.{NoMemory}
 use Rattle.teredo_node.specs.Step.{Step}
 use Rattle.lab_nodes.specs.declared.call.Call.{Call}
 use Rattle.lab_nodes.specs.declared.asked.Asked.{Asked}
-use Rattle.lab_nodes.specs.Answers.{Answers, Wants, AnswersOrWants}
+use Rattle.lab_nodes.specs.Answers.{AnswersCall, Wants, AnswersOrWants}
 
 -- LISTS
 
@@ -131,6 +131,6 @@ first_stand lab list none so = record {
 
 -- ONE NODE IS ASKED
 
-pub answers_or_wants : (x : Call) (step : Step) (result : Result Asked NoMemory) (old new : PlayedNode) → IfOk result (λ asked. Answers x old new step asked) → OnErr result (Wants x old) → AnswersOrWants x step result old new
+pub answers_or_wants : (x : Call) (step : Step) (result : Result Asked NoMemory) (old new : PlayedNode) → IfOk result (λ asked. AnswersCall x old new step asked) → OnErr result (Wants x old) → AnswersOrWants x step result old new
 answers_or_wants x step (Ok asked) old new answers wants = answers
 answers_or_wants x step (Err e) old new answers wants = wants

@@ -26,8 +26,8 @@ use Rattle.lab_nodes.specs.Memory.{takes_memory}
 abbrev pub SendsOrKeeps : Step → Type 0
 SendsOrKeeps step = step.sends ≡ [] → takes_memory step.fate ≡ true
 
-abbrev pub Starves : Client → ℕ → Input → Type 0
-Starves c m input = (j : Journal) → ClientStandsFor c j → SendsOrKeeps (next_entry c j m input).step
+abbrev pub ClientStarves : Client → ℕ → Input → Type 0
+ClientStarves c m input = (j : Journal) → ClientStandsFor c j → SendsOrKeeps (next_entry c j m input).step
 
 abbrev pub RelayStarves : Relay → ℕ → Input → Type 0
 RelayStarves r m input = (j : List Entry) → RelayStandsFor r j → SendsOrKeeps (relays.next_entry r j m input).step
@@ -48,11 +48,11 @@ pub record AnswersFor (lab : Lab) (H : List Full) (x : Call) (old new : PlayedNo
   pub address : asked.address ≡ address_by lab H x.node (entry_in lab H x (row_of old)) (row_of old)
 
 -- for each past that it stood for
-pub record Answers (x : Call) (old new : PlayedNode) (step : Step) (asked : Asked) : Type 0 where
+pub record AnswersCall (x : Call) (old new : PlayedNode) (step : Step) (asked : Asked) : Type 0 where
   pub outlet : asked.outlet ≡ outlet_of (row_of old)
   pub each : (lab : Lab) (H : List Full) → IsKept lab.topology x.node (past_of lab x.node H) old → AnswersFor lab H x old new step asked
 
 -- it answers, or memory was wanting
 abbrev pub AnswersOrWants : Call → Step → Result Asked NoMemory → PlayedNode → PlayedNode → Type 0
-AnswersOrWants x step (Ok asked) old new = Answers x old new step asked
+AnswersOrWants x step (Ok asked) old new = AnswersCall x old new step asked
 AnswersOrWants x step (Err e) old new = Wants x old

@@ -11,7 +11,7 @@ ghost use Rattle.lab_nodes.specs.declared.played_node.PlayedNode.TheVariants as 
 ghost use Rattle.lab_nodes.specs.Call.{input_lent};
 ghost use Rattle.lab_nodes.specs.PlayedNode.{past_of, IsKept};
 ghost use Rattle.lab_nodes.specs.Changes.{with_call};
-ghost use Rattle.lab_nodes.specs.Answers.{Starves, Answers, Wants};
+ghost use Rattle.lab_nodes.specs.Answers.{ClientStarves, AnswersCall, Wants};
 
 use crate::asked::Asked;
 use crate::call::Call;
@@ -27,7 +27,7 @@ use topology::ClientNode;
 fn ask_client(client: &mut Client, call: Call<'_>, step: &mut Step) -> Result<(), NoMemory>
     requires callable { IsCallable client.old call.now.0 }
     ensures done { OnOk result (Does client.old call.entry.now.0 (input_lent call.entry.input) step.new client.new) }
-    ensures starved { OnErr result (Starves client.old call.entry.now.0 (input_lent call.entry.input)) }
+    ensures starved { OnErr result (ClientStarves client.old call.entry.now.0 (input_lent call.entry.input)) }
     ensures again { client.new.peers.moment ≤ call.entry.now.0 }
 {
     client_rules::fate_of_reception();
@@ -81,7 +81,7 @@ pub fn answer_client(
 ) -> Result<Asked, NoMemory>
     requires callable { IsCallable client.old call.now.0 }
     ensures ready { client.new.peers.moment ≤ call.entry.now.0 }
-    ensures answers { IfOk result (λ asked. Answers call.entry (played.Client row client.old) (played.Client row client.new) step.new asked) }
+    ensures answers { IfOk result (λ asked. AnswersCall call.entry (played.Client row client.old) (played.Client row client.new) step.new asked) }
     ensures none { IfOk result (λ asked. asked.packet ≡ None) }
     ensures wants { OnErr result (Wants call.entry (played.Client row client.old)) }
 {

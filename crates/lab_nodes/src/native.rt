@@ -10,7 +10,7 @@ ghost use Rattle.legal.specs.Emit.{native_packet, relay_for, native_made};
 ghost use Rattle.lab_nodes.specs.declared.played_node.PlayedNode.TheVariants as played;
 ghost use Rattle.lab_nodes.specs.Call.{input_lent, IsShortInput, entry_in};
 ghost use Rattle.lab_nodes.specs.Outlet.{six_sent};
-ghost use Rattle.lab_nodes.specs.Answers.{Answers, Wants};
+ghost use Rattle.lab_nodes.specs.Answers.{AnswersCall, Wants};
 
 use crate::asked::{Asked, SixPacket};
 use crate::call::Call;
@@ -123,7 +123,7 @@ pub fn answer_native(
     step: &mut Step,
 ) -> Result<Asked, NoMemory>
     requires short { IsShortInput (input_lent call.input) }
-    ensures answers { IfOk result (λ asked. Answers call.entry (played.Native row) (played.Native row) step.new asked) }
+    ensures answers { IfOk result (λ asked. AnswersCall call.entry (played.Native row) (played.Native row) step.new asked) }
     ensures short { IfOk result (λ asked. IfSome asked.packet (λ packet. length packet.bytes ≤ DATAGRAM_MAX)) }
     ensures wants { OnErr result (Wants call.entry (played.Native row)) }
 {

@@ -9,7 +9,7 @@ ghost use Rattle.legal.specs.Next.{address_of};
 ghost use Rattle.lab_nodes.specs.Call.{input_lent, IsShortInput};
 ghost use Rattle.lab_nodes.specs.PlayedNode.{row_of, past_of, IsKept, IsReady};
 ghost use Rattle.lab_nodes.specs.Changes.{Restarts, Forgets};
-ghost use Rattle.lab_nodes.specs.Answers.{Answers, Wants};
+ghost use Rattle.lab_nodes.specs.Answers.{AnswersCall, Wants};
 
 use crate::asked::Asked;
 use crate::call::Call;
@@ -51,7 +51,7 @@ impl PlayedNode {
         requires ready { IsReady call.now.0 self.old }
         ensures row { row_of self.new ≡ row_of self.old }
         ensures ready { IsReady call.entry.now.0 self.new }
-        ensures answers { IfOk result (λ asked. Answers call.entry self.old self.new step.new asked) }
+        ensures answers { IfOk result (λ asked. AnswersCall call.entry self.old self.new step.new asked) }
         ensures short { IfOk result (λ asked. IfSome asked.packet (λ packet. length packet.bytes ≤ DATAGRAM_MAX)) }
         ensures wants { OnErr result (Wants call.entry self.old) }
     {

@@ -4,7 +4,7 @@ ghost use Rattle.td_base.specs.declared.datagram.TheConstants.{DATAGRAM_MAX};
 ghost use Rattle.relay_core.specs.Relay as relays;
 ghost use Rattle.lab_nodes.specs.declared.played_node.PlayedNode.TheVariants as played;
 ghost use Rattle.lab_nodes.specs.Call.{input_lent, IsShortInput};
-ghost use Rattle.lab_nodes.specs.Answers.{RelayStarves, Answers, Wants};
+ghost use Rattle.lab_nodes.specs.Answers.{RelayStarves, AnswersCall, Wants};
 
 use crate::asked::Asked;
 use crate::call::Call;
@@ -52,7 +52,7 @@ pub fn answer_relay(
     requires callable { relays.IsCallable relay.old call.now.0 }
     requires short { IsShortInput (input_lent call.input) }
     ensures ready { relay.new.peers.moment ≤ call.entry.now.0 }
-    ensures answers { IfOk result (λ asked. Answers call.entry (played.Relay row relay.old) (played.Relay row relay.new) step.new asked) }
+    ensures answers { IfOk result (λ asked. AnswersCall call.entry (played.Relay row relay.old) (played.Relay row relay.new) step.new asked) }
     ensures short { IfOk result (λ asked. IfSome asked.packet (λ packet. length packet.bytes ≤ DATAGRAM_MAX)) }
     ensures wants { OnErr result (Wants call.entry (played.Relay row relay.old)) }
 {

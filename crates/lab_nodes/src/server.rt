@@ -9,7 +9,7 @@ ghost use Rattle.legal.specs.Lab.{Lab};
 ghost use Rattle.legal.specs.Settings.{server_settings};
 ghost use Rattle.lab_nodes.specs.declared.played_node.PlayedNode.TheVariants as played;
 ghost use Rattle.lab_nodes.specs.Call.{input_lent, IsShortInput, entry_in};
-ghost use Rattle.lab_nodes.specs.Answers.{Answers, Wants};
+ghost use Rattle.lab_nodes.specs.Answers.{AnswersCall, Wants};
 
 use crate::asked::Asked;
 use crate::call::Call;
@@ -69,7 +69,7 @@ pub fn answer_server(
     step: &mut Step,
 ) -> Result<Asked, NoMemory>
     requires short { IsShortInput (input_lent call.input) }
-    ensures answers { IfOk result (λ asked. Answers call.entry (played.Server row) (played.Server row) step.new asked) }
+    ensures answers { IfOk result (λ asked. AnswersCall call.entry (played.Server row) (played.Server row) step.new asked) }
     ensures short { IfOk result (λ asked. IfSome asked.packet (λ packet. length packet.bytes ≤ DATAGRAM_MAX)) }
     ensures wants { OnErr result (Wants call.entry (played.Server row)) }
 {

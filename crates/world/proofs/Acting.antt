@@ -36,12 +36,12 @@ use Rattle.lab_nodes.specs.declared.played_node.PlayedNode.TheVariants as played
 use Rattle.lab_nodes.specs.PlayedNode.{row_of, past_of, IsKept, NodesOf}
 use Rattle.lab_nodes.specs.Changes.{with_call, ChangesAt}
 use Rattle.lab_nodes.specs.Call.{dst_lent, input_lent, entry_in}
-use Rattle.lab_nodes.specs.Answers.{AnswersFor, Answers, Wants}
+use Rattle.lab_nodes.specs.Answers.{AnswersFor, AnswersCall, Wants}
 use Rattle.lab_nodes.specs.Outlet.{sendings_but}
 use Rattle.world.specs.declared.sender.Sender.{Sender}
 use Rattle.world.specs.declared.prompt.Prompt.{Prompt}
 use Rattle.world.specs.declared.prompt.Prompt.TheVariants as prompt
-use Rattle.world.specs.Emission.{KeepsNat, KeepsItsNat, HasItsNat, emitted_by, IsBehind}
+use Rattle.world.specs.Emission.{KeepsNat, KeepsItsNat, HasItsNat, emitted_by, GoesThrough}
 use Rattle.world.specs.Prompt.{delivered_by, input_by, dst_by, IsPrompt, done_by}
 use Rattle.world.specs.Wire.{WireState, entries_in, ComesOnto, Puts}
 use Rattle.world.specs.Record.{fresh_record, with_deed}
@@ -108,7 +108,7 @@ pub record Asking : Type 0 where
   pub asked : Asked
 
 pub record IsAsked (x : Doing) (y : Asking) : Type 0 where
-  pub answers : Answers x.call x.before y.after y.step y.asked
+  pub answers : AnswersCall x.call x.before y.after y.step y.asked
   pub is : slice_get y.mid x.call.node ≡ Some y.after
   pub elsewhere : (k : ℕ) → k ≢ x.call.node → slice_get y.mid k ≡ slice_get x.world.nodes k
   pub rows : map row_of y.mid ≡ map row_of x.world.nodes
@@ -147,7 +147,7 @@ pub record IsSent (x : Doing) (y : Asking) (after : List PlayedNode) (new : Wire
   pub enters : ComesOnto (wire_in x.world) new [] marks (leaving x y).made
   pub nat : KeepsItsNat (lab_of_doing x) x.history (leaving x y).passed y.asked.outlet after
   -- no other node but the NAT that it leaves through was touched by it
-  pub elsewhere : (k : ℕ) → (IsBehind y.asked.outlet k → ⊥) → slice_get after k ≡ slice_get y.mid k
+  pub elsewhere : (k : ℕ) → (GoesThrough y.asked.outlet k → ⊥) → slice_get after k ≡ slice_get y.mid k
   pub rows : map row_of after ≡ map row_of y.mid
 
 -- THE RECORD
@@ -213,7 +213,7 @@ after_its_nat x y after new marks k inside p is asked done through at =
     kept_with lab x.history k (leaving x y).passed after p (record_by x) its.row its.at row more keeps at
 
 after_other : EachFrames → (x : Doing) (y : Asking) (after : List PlayedNode) (new : WireState) (marks : List Mark) (k : ℕ) (p : PlayedNode) → IsDoing x → IsAsked x y → IsSent x y after new marks
-    → k ≢ x.call.node → (IsBehind y.asked.outlet k → ⊥) → slice_get after k ≡ Some p → After x k p
+    → k ≢ x.call.node → (GoesThrough y.asked.outlet k → ⊥) → slice_get after k ≡ Some p → After x k p
 after_other frame x y after new marks k p is asked done apart other at =
     let lab = lab_of_doing x in
     let none : outs_at k (record_by x).passed ≡ [] = ap (λ (s : Sendings). outs_at k s.passed) (leaves_so x y is asked) ∙ nothing_out x.draws x.world.topology x.history k (sender_of x y) y.asked.packet y.step.sends other in
@@ -222,7 +222,7 @@ after_other frame x y after new marks k p is asked done apart other at =
     (is.finds.nodes.each k p (sym (asked.elsewhere k apart) ∙ sym (done.elsewhere k other) ∙ at))
 
 -- it isn't its own NAT
-not_itself : (x : Doing) (y : Asking) → IsDoing x → IsAsked x y → (outlet : Outlet) → y.asked.outlet ≡ outlet → IsBehind outlet x.call.node → ⊥
+not_itself : (x : Doing) (y : Asking) → IsDoing x → IsAsked x y → (outlet : Outlet) → y.asked.outlet ≡ outlet → GoesThrough outlet x.call.node → ⊥
 not_itself x y is asked (Through k inside) through behind = (its_nat is.law x.world.topology x.call.node (row_by x) is.rules (there x is) k inside (sym through ∙ asked.answers.outlet)).apart behind
 not_itself x y is asked _ through behind = behind
 
@@ -230,7 +230,7 @@ not_itself x y is asked _ through behind = behind
 nodes_after : EachFrames → (x : Doing) (y : Asking) (after : List PlayedNode) (new : WireState) (marks : List Mark) → IsDoing x → IsAsked x y → IsSent x y after new marks
     → NodesOf (lab_of_doing x) after (record_by x ∷ x.history)
 nodes_after frame x y after new marks is asked done = record { rows = done.rows ∙ asked.rows ∙ is.finds.nodes.rows; each = λ k p at. by k p at (eqb_tells k x.call.node) } where
-  other : (k : ℕ) (p : PlayedNode) → slice_get after k ≡ Some p → k ≢ x.call.node → ((inside : Ep) × (y.asked.outlet ≡ Through k inside)) ⊎ (IsBehind y.asked.outlet k → ⊥) → After x k p
+  other : (k : ℕ) (p : PlayedNode) → slice_get after k ≡ Some p → k ≢ x.call.node → ((inside : Ep) × (y.asked.outlet ≡ Through k inside)) ⊎ (GoesThrough y.asked.outlet k → ⊥) → After x k p
   other k p at apart (inl (inside, through)) = after_its_nat x y after new marks k inside p is asked done through at
   other k p at apart (inr elsewhere) = after_other frame x y after new marks k p is asked done apart elsewhere at
 

@@ -30,7 +30,7 @@ use Rattle.lab_nodes.specs.declared.asked.SixPacket.{SixPacket}
 use Rattle.lab_nodes.specs.PlayedNode.{row_of, past_of, IsKept, AreOf, NodesOf}
 use Rattle.lab_nodes.specs.Outlet.{outlet_of, sendings_but}
 use Rattle.world.specs.declared.sender.Sender.{Sender}
-use Rattle.world.specs.Emission.{IsNatWith, KeepsNat, KeepsItsNat, IsNat, HasItsNat, emitted_by, IsBehind}
+use Rattle.world.specs.Emission.{IsNatWith, KeepsNat, KeepsItsNat, IsNat, HasItsNat, emitted_by, GoesThrough}
 use Rattle.world.proofs.States.{some_inj, nat_there}
 
 -- THE NAT OF AN OUTLET
@@ -168,10 +168,10 @@ module _ (lab : Lab) (H : List Full) (m j k : ℕ) (apart : (j == k) ≡ false) 
   outs_elsewhere inside fails i passed (x ∷ xs) =
       outs_elsewhere inside fails (i + 1) (crossing_unless (is_at_place i fails) lab H m x.to (j ∷ []) inside passed).passed xs ∙ outs_unless (is_at_place i fails) x.to inside passed
 
-pub nothing_out : (d : Draws) (t : TopologyState) (H : List Full) (k : ℕ) (x : Sender) (packet : Option SixPacket) (sends : List Send) → (IsBehind x.outlet k → ⊥)
+pub nothing_out : (d : Draws) (t : TopologyState) (H : List Full) (k : ℕ) (x : Sender) (packet : Option SixPacket) (sends : List Send) → (GoesThrough x.outlet k → ⊥)
     → outs_at k (emitted_by (flat_lab d t) H x packet sends).passed ≡ []
 nothing_out d t H k x packet sends other = by x.outlet other where
-  by : (o : Outlet) → (IsBehind o k → ⊥) → outs_at k (sendings_but (flat_lab d t) H x.now.0 x.fails o packet sends).passed ≡ []
+  by : (o : Outlet) → (GoesThrough o k → ⊥) → outs_at k (sendings_but (flat_lab d t) H x.now.0 x.fails o packet sends).passed ≡ []
   by (Through j inside) other = test (eqb_tells j k) where
     test : ((j == k) ≡ true) × (j ≡ k) ⊎ ((j == k) ≡ false) × (j ≢ k) → outs_at k (by_way (flat_lab d t) H x.now.0 (j ∷ []) inside x.fails 0 [] sends).passed ≡ []
     test (inl (yeah, same)) = absurd (other same)
@@ -180,9 +180,9 @@ nothing_out d t H k x packet sends other = by x.outlet other where
   by (Own primary secondary) other = refl
 
 -- it leaves through a NAT, or doesn't
-pub behind_or_not : (outlet : Outlet) (k : ℕ) → ((inside : Ep) × (outlet ≡ Through k inside)) ⊎ (IsBehind outlet k → ⊥)
+pub behind_or_not : (outlet : Outlet) (k : ℕ) → ((inside : Ep) × (outlet ≡ Through k inside)) ⊎ (GoesThrough outlet k → ⊥)
 behind_or_not (Through j inside) k = by (eqb_tells j k) where
-  by : ((j == k) ≡ true) × (j ≡ k) ⊎ ((j == k) ≡ false) × (j ≢ k) → ((inside' : Ep) × (Through j inside ≡ Through k inside')) ⊎ (IsBehind (Through j inside) k → ⊥)
+  by : ((j == k) ≡ true) × (j ≡ k) ⊎ ((j == k) ≡ false) × (j ≢ k) → ((inside' : Ep) × (Through j inside ≡ Through k inside')) ⊎ (GoesThrough (Through j inside) k → ⊥)
   by (inl (yeah, same)) = inl (inside, ap (λ (i : ℕ). Through i inside) same)
   by (inr (nope, apart)) = inr apart
 behind_or_not Silent k = inr (λ b. b)

@@ -49,6 +49,6 @@ abbrev pub emitted_by : Lab → List Full → Sender → Option SixPacket → Li
 emitted_by lab H x packet sends = sendings_but lab H x.now.0 x.fails x.outlet packet sends
 
 -- it leaves through NAT k
-abbrev pub IsBehind : Outlet → ℕ → Type 0
-IsBehind (Through nat inside) k = nat ≡ k
-IsBehind _ k = ⊥
+abbrev pub GoesThrough : Outlet → ℕ → Type 0
+GoesThrough (Through nat inside) k = nat ≡ k
+GoesThrough _ k = ⊥

@@ -166,7 +166,7 @@ abbrev pub StopsFor : WorldState → ℕ → Event → Stop → Type 0
 StopsFor w index event stop = (d : Draws) (H : List Full) → StandsFor d w H → IsCause w (next_of (flat_lab d w.topology) H index event) stop
 
 -- What stays where it stops. Of time and nodes nothing is promised: they may have begun to change.
-pub record Stays (old new : WorldState) (stop : Stop) : Type 0 where
+pub record StopsAs (old new : WorldState) (stop : Stop) : Type 0 where
   pub topology : new.topology ≡ old.topology
   pub wire : new.wire ≡ old.wire
   pub done : new.done ≡ old.done

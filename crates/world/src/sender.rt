@@ -12,7 +12,7 @@ ghost use Rattle.legal.specs.Emit.{is_at_place, or_loss, crossing_unless, by_way
 ghost use Rattle.lab_nodes.specs.PlayedNode.{row_of, AreReady};
 ghost use Rattle.lab_nodes.specs.Outlet.{source_at, six_sent};
 ghost use Rattle.world.specs.Wire.{Puts, Extends};
-ghost use Rattle.world.specs.Emission.{IsNatWith, KeepsItsNat, HasItsNat, emitted_by, IsBehind};
+ghost use Rattle.world.specs.Emission.{IsNatWith, KeepsItsNat, HasItsNat, emitted_by, GoesThrough};
 
 use crate::wire::{Entry, Wire};
 use history::{Loss, Marks, Stop};
@@ -215,7 +215,7 @@ fn put_all(
     requires nat { HasItsNat sender.outlet nodes.old.items }
     ensures ready { AreReady sender.now.0 nodes.new.items }
     ensures rows { map row_of nodes.new.items ≡ map row_of nodes.old.items }
-    ensures elsewhere { (k : ℕ) → (IsBehind sender.outlet k → ⊥) → slice_get nodes.new.items k ≡ slice_get nodes.old.items k }
+    ensures elsewhere { (k : ℕ) → (GoesThrough sender.outlet k → ⊥) → slice_get nodes.new.items k ≡ slice_get nodes.old.items k }
     ensures puts { (d : Draws) (t : TopologyState) (H : List Full) → KeepsItsNat (flat_lab d t) H [] sender.outlet nodes.old.items
         → Puts wire.old wire.new [] marks.new (emitted_by (flat_lab d t) H sender packet step.now.sends).made result }
     ensures nat { OnOk result ((d : Draws) (t : TopologyState) (H : List Full) → KeepsItsNat (flat_lab d t) H [] sender.outlet nodes.old.items
@@ -253,7 +253,7 @@ pub fn emit(
     requires nat { HasItsNat sender.outlet nodes.old.items }
     ensures ready { AreReady sender.now.0 nodes.new.items }
     ensures rows { map row_of nodes.new.items ≡ map row_of nodes.old.items }
-    ensures elsewhere { (k : ℕ) → (IsBehind sender.outlet k → ⊥) → slice_get nodes.new.items k ≡ slice_get nodes.old.items k }
+    ensures elsewhere { (k : ℕ) → (GoesThrough sender.outlet k → ⊥) → slice_get nodes.new.items k ≡ slice_get nodes.old.items k }
     ensures puts { (d : Draws) (t : TopologyState) (H : List Full) → KeepsItsNat (flat_lab d t) H [] sender.outlet nodes.old.items
         → Puts wire.old wire.new [] marks.new (emitted_by (flat_lab d t) H sender packet step.now.sends).made result }
     ensures nat { OnOk result ((d : Draws) (t : TopologyState) (H : List Full) → KeepsItsNat (flat_lab d t) H [] sender.outlet nodes.old.items

@@ -10,7 +10,7 @@ ghost use Rattle.legal.specs.Laws.{may_go_on};
 ghost use Rattle.legal.specs.Next.{next_of};
 ghost use Rattle.world.specs.declared.wire.TheConstants.{ENTRIES_MAX};
 ghost use Rattle.world.specs.WireEntry.{item_lent};
-ghost use Rattle.world.specs.World.{StandsFor, IsAgain, EndsInTime, Steps, StopsFor, Stays};
+ghost use Rattle.world.specs.World.{StandsFor, IsAgain, EndsInTime, Steps, StopsFor, StopsAs};
 ghost use Rattle.world.specs.Record.{fresh_record};
 ghost use Rattle.world.specs.Playing.{Plays, PlaysTurn, Turned, played, ended, turn_from};
 
@@ -172,7 +172,7 @@ impl<'a> World<'a> {
         ensures ok { IfOk result (λ turn. Steps self.old self.new index event.now turn) }
         ensures for_good { IfSome self.old.stopped (λ stop. (result ≡ Err stop) × (self.new ≡ self.old)) }
         ensures cause { self.old.stopped ≡ None → IfErr result (λ stop. StopsFor self.old index event.now stop) }
-        ensures err { IfErr result (λ stop. Stays self.old self.new stop) }
+        ensures err { IfErr result (λ stop. StopsAs self.old self.new stop) }
     {
         legal::of_its_event();
         legal::told();
