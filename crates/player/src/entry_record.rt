@@ -22,10 +22,10 @@ pub const MILLI_MICROS: u32 = 1_000;
 const SECONDS_END: u64 = 4_294_967_296;
 
 /// The most bytes of an entry's packet.
-const PACKET_MAX: usize = HEAD_MIN + UDP_HEAD + DATAGRAM_MAX;
+const IPV4_PACKET_MAX: usize = HEAD_MIN + UDP_HEAD + DATAGRAM_MAX;
 
 /// The most bytes of an entry's record.
-pub(crate) const RECORD_MAX: usize = REC_HEAD + PACKET_MAX;
+pub(crate) const RECORD_MAX: usize = REC_HEAD + IPV4_PACKET_MAX;
 
 /// The head of each capture that is written here.
 pub(crate) fn capture_head() -> Head
@@ -60,10 +60,10 @@ fn is_made(ep: Ep)
 {}
 
 /// Puts a datagram with both its headers to the front of `out`, and answers how many bytes it has.
-fn put_datagram(src: Ep, dst: Ep, body: &[u8], out: &mut [u8; PACKET_MAX]) -> usize
+fn put_datagram(src: Ep, dst: Ep, body: &[u8], out: &mut [u8; IPV4_PACKET_MAX]) -> usize
     requires { length body.now ≤ DATAGRAM_MAX }
     ensures count { result ≡ length (made_bytes src dst body.now) }
-    ensures most { result ≤ PACKET_MAX }
+    ensures most { result ≤ IPV4_PACKET_MAX }
     ensures bytes { take result out.new ≡ made_bytes src dst body.now }
 {
     made_is_udp4();
@@ -76,10 +76,10 @@ fn put_datagram(src: Ep, dst: Ep, body: &[u8], out: &mut [u8; PACKET_MAX]) -> us
 }
 
 /// Puts an entry as it is on the wire to the front of `out`, and answers how many bytes it has.
-fn put_packet(entry: WireEntry<'_>, out: &mut [u8; PACKET_MAX]) -> usize
+fn put_packet(entry: WireEntry<'_>, out: &mut [u8; IPV4_PACKET_MAX]) -> usize
     requires { length (bytes_of (item_lent entry)) ≤ DATAGRAM_MAX }
     ensures count { result ≡ length (packet_of (item_lent entry.entry)) }
-    ensures most { result ≤ PACKET_MAX }
+    ensures most { result ≤ IPV4_PACKET_MAX }
     ensures bytes { take result out.new ≡ packet_of (item_lent entry.entry) }
 {
     match entry {
@@ -95,7 +95,7 @@ pub(crate) fn put_record(moment: Millis, entry: WireEntry<'_>, out: &mut [u8; RE
     ensures bytes { take result out.new ≡ record_bytes false (entry_record moment.0 (item_lent entry.entry)) }
 {
     capture_is_bytes();
-    let mut packet = [0; PACKET_MAX];
+    let mut packet = [0; IPV4_PACKET_MAX];
     let len = put_packet(entry, &mut packet);
     let record = Rec {
         sec: seconds(moment),

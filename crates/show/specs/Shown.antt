@@ -38,7 +38,3 @@ pub record ShowsFault (word page : List ℕ) : Type 0 where
 -- the word says no payload, and its first fault is what stands there
 abbrev pub ShowsNoPayload : (word page : List ℕ) → Type 0
 ShowsNoPayload word page = ShowsNoText word page ⊎ ShowsFault word page
-
--- what `show` prints of a word: the lines of the payload that it says, or the line of its first fault
-abbrev pub Shows : (word page : List ℕ) → Type 0
-Shows word page = ShowsPayload word page ⊎ ShowsNoPayload word page

@@ -49,8 +49,8 @@ unfoldable pub udp_fault : ℕ → List ℕ → Result (Unit {0}) Ip4Fault
 udp_fault place x = unless_any (udp_tests place x) tt
 
 -- the endpoint whose address and port stand at two places
-abbrev pub endpoint_at : (address port : ℕ) → List ℕ → Ep
-endpoint_at address port x = record { ip = record { 0 = take 4 (drop address x) }; port = number_at port 2 x }
+abbrev pub ep_at : (address port : ℕ) → List ℕ → Ep
+ep_at address port x = record { ip = record { 0 = take 4 (drop address x) }; port = number_at port 2 x }
 
 -- what stands at the places of both headers, and behind them
 unfoldable pub udp4_fields : ℕ → List ℕ → Udp4Fields
@@ -61,8 +61,8 @@ udp4_fields place x = record {
   ttl = slice_index x 8;
   head_sum = number_at 10 2 x;
   options = take (place - HEAD_MIN) (drop HEAD_MIN x);
-  src = endpoint_at 12 place x;
-  dst = endpoint_at 16 (place + 2) x;
+  src = ep_at 12 place x;
+  dst = ep_at 16 (place + 2) x;
   udp_sum = number_at (place + 6) 2 x;
   body = drop (place + UDP_HEAD) x;
 }

@@ -2,7 +2,7 @@
 ghost use Rattle.std.specs.Prelude.{◌≡◌, ◌+◌, ◌*◌, ◌/◌, ◌%◌, ◌≤◌, length, IfOk, IfErr, OnOk, Ok, slice_index};
 ghost use Rattle.td_base.specs.Results.{Gives};
 ghost use Rattle.td_ipv4.specs.Datagrams.{Udp4Fields, udp4_view, Udp4Bytes};
-ghost use Rattle.td_ipv4.specs.Tests.{udp_place, udp_fault, endpoint_at, udp4_fields, udp4_at};
+ghost use Rattle.td_ipv4.specs.Tests.{udp_place, udp_fault, ep_at, udp4_fields, udp4_at};
 ghost use Rattle.td_ipv4.specs.Faults.{IsFirstIp4Fault};
 
 use crate::fault::Ip4Fault;
@@ -130,7 +130,7 @@ fn datagram_in(bytes: &[u8], place: usize) -> Udp4<'_>
 fn ep_at(bytes: &[u8], address: usize, port: usize) -> Ep
     requires address { address + 4 ≤ length bytes.now }
     requires port { port + 2 ≤ length bytes.now }
-    ensures { result ≡ endpoint_at address port bytes.now }
+    ensures { result ≡ ep_at address port bytes.now }
 {
     Ep {
         ip: ip4_at(bytes, address),

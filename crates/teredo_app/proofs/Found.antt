@@ -14,7 +14,7 @@ use Rattle.td_live.specs.Session.{SessionOf, NoSession}
 use Rattle.player.specs.SinkLines.{WritesLines, BeginsLines, WritesNothing}
 use Rattle.teredo_app.specs.Endings.{LineEnds, line_written, line_failed}
 use Rattle.teredo_app.specs.QualifyLine.{qualify_line, live_status}
-use Rattle.teredo_app.specs.Qualify.{Finds, FindsNothing, QualifyEnds}
+use Rattle.teredo_app.specs.Qualify.{FindsLive, FindsNothing, QualifyEnds}
 
 module _ (o o' : SinkState) (l l' : LinkState) (c c' : ClockState) (asked : Asked) (opened : Gains l.openings l'.openings (free_port_of asked.inside)) where
   pub unlinked_ends : Rose l.recv_faults l'.recv_faults → o'.faults ≡ o.faults → WritesNothing o o' → FindsNothing l l' c c' asked → QualifyEnds o o' l l' c c' asked 6
@@ -27,7 +27,7 @@ module _ (o o' : SinkState) (l l' : LinkState) (c c' : ClockState) (asked : Aske
     unlinked = λ _. (rose, same, nothing, finds);
   }
 
-  found_ends : (live : Live) (found : Finds l l' c c' asked live) → (live ≡ Undecided → ⊥) → o'.faults ≡ o.faults → WritesLines o o' (qualify_line live found.totals ∷ []) → QualifyEnds o o' l l' c c' asked 0
+  found_ends : (live : Live) (found : FindsLive l l' c c' asked live) → (live ≡ Undecided → ⊥) → o'.faults ≡ o.faults → WritesLines o o' (qualify_line live found.totals ∷ []) → QualifyEnds o o' l l' c c' asked 0
   found_ends live found decided same lines = record {
     statuses = (0, lit< tt, refl);
     opened = opened;
@@ -37,7 +37,7 @@ module _ (o o' : SinkState) (l l' : LinkState) (c c' : ClockState) (asked : Aske
     unlinked = λ e. absurd (omega arith);
   }
 
-  undecided_ends : (found : Finds l l' c c' asked Undecided) → o'.faults ≡ o.faults → WritesLines o o' (qualify_line Undecided found.totals ∷ []) → QualifyEnds o o' l l' c c' asked 9
+  undecided_ends : (found : FindsLive l l' c c' asked Undecided) → o'.faults ≡ o.faults → WritesLines o o' (qualify_line Undecided found.totals ∷ []) → QualifyEnds o o' l l' c c' asked 9
   undecided_ends found same lines = record {
     statuses = (3, lit< tt, refl);
     opened = opened;
@@ -47,7 +47,7 @@ module _ (o o' : SinkState) (l l' : LinkState) (c c' : ClockState) (asked : Aske
     unlinked = λ e. absurd (omega arith);
   }
 
-  unwritten_ends : (live : Live) (found : Finds l l' c c' asked live) → Rose o.faults o'.faults → BeginsLines o o' (qualify_line live found.totals ∷ []) → QualifyEnds o o' l l' c c' asked 5
+  unwritten_ends : (live : Live) (found : FindsLive l l' c c' asked live) → Rose o.faults o'.faults → BeginsLines o o' (qualify_line live found.totals ∷ []) → QualifyEnds o o' l l' c c' asked 5
   unwritten_ends live found rose lines = record {
     statuses = (1, lit< tt, refl);
     opened = opened;
@@ -57,13 +57,13 @@ module _ (o o' : SinkState) (l l' : LinkState) (c c' : ClockState) (asked : Aske
     unlinked = λ e. absurd (omega arith);
   }
 
-  written_ends : (live : Live) (found : Finds l l' c c' asked live) → o'.faults ≡ o.faults → WritesLines o o' (qualify_line live found.totals ∷ []) → QualifyEnds o o' l l' c c' asked (live_status live)
+  written_ends : (live : Live) (found : FindsLive l l' c c' asked live) → o'.faults ≡ o.faults → WritesLines o o' (qualify_line live found.totals ∷ []) → QualifyEnds o o' l l' c c' asked (live_status live)
   written_ends (Qualified address) found same lines = found_ends (Qualified address) found (λ e. cc) same lines
   written_ends Symmetric found same lines = found_ends Symmetric found (λ e. cc) same lines
   written_ends OffLine found same lines = found_ends OffLine found (λ e. cc) same lines
   written_ends Undecided found same lines = undecided_ends found same lines
 
-  pub line_ends : (live : Live) (found : Finds l l' c c' asked live) (result : ℕ) → LineEnds o o' (qualify_line live found.totals) (live_status live) result → QualifyEnds o o' l l' c c' asked result
+  pub line_ends : (live : Live) (found : FindsLive l l' c c' asked live) (result : ℕ) → LineEnds o o' (qualify_line live found.totals) (live_status live) result → QualifyEnds o o' l l' c c' asked result
   line_ends live found result (line_written ends same lines) = subst (λ (n : ℕ). QualifyEnds o o' l l' c c' asked n) (sym ends) (written_ends live found same lines)
   line_ends live found result (line_failed ends rose lines) = subst (λ (n : ℕ). QualifyEnds o o' l l' c c' asked n) (sym ends) (unwritten_ends live found rose lines)
 

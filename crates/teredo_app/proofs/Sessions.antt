@@ -15,7 +15,7 @@ use Rattle.server_core.specs.Laws.{OneOutcome}
 use Rattle.teredo_app.specs.declared.serve_words.ServeWords.{ServeWords}
 use Rattle.td_outside.specs.Link.{LinkState}
 use Rattle.td_outside.specs.Clock.{ClockState}
-use Rattle.teredo_app.specs.Session.{server_on, AnswersByTable, WantsMemory, IsSame, Session, BreaksOff}
+use Rattle.teredo_app.specs.Session.{server_on, AnswersByTable, NoneStarves, IsSame, Session, BreaksOff}
 
 -- the server stays as it is
 stays : (old : ServerSettings) (turns : List Turn) (new : ServerSettings) → Goes AnswersByTable old turns new → new ≡ old
@@ -40,7 +40,7 @@ carries_after a b c came made same carried = record {
   attempts = Stays-Moves _ a.attempts b.attempts c.attempts same.attempts carried.attempts;
 }
 
-carried_after : (a b c : Told) (s s' : ServerSettings) (last : ℕ) (turns : List Turn) (ended : Result (Unit {0}) PumpFault) → KeepsTold a b → Carried (WantsMemory s last) b c turns ended → Carried (WantsMemory s' last) a c turns ended
+carried_after : (a b c : Told) (s s' : ServerSettings) (last : ℕ) (turns : List Turn) (ended : Result (Unit {0}) PumpFault) → KeepsTold a b → Carried (NoneStarves s last) b c turns ended → Carried (NoneStarves s' last) a c turns ended
 carried_after a b c s s' last turns (Ok x) same carried = carries_after a b c (came_in turns) (made_in turns) same carried
 carried_after a b c s s' last turns (Err Receive) same carried = carries_after a b c (came_in turns) (made_in turns) same carried
 carried_after a b c s s' last turns (Err NoMemory) same carried = absurd carried.3
@@ -56,7 +56,7 @@ left_so s (Err NoMemory) = refl
 module _ (one : OneOutcome) (l l' : LinkState) (c c' : ClockState) (asked : ServeWords) (totals : Totals) (mid : Told) (receives sends : ℕ) (places : Option Place) (s new : ServerSettings) (opened : places ≡ open_on asked.primary asked.secondary) (same : KeepsTold l.told mid) (kept : receives ≡ l.recv_faults) (other : sends ≡ l.send_faults) (made : s ≡ server_on asked) where
   -- the turns after the link was opened
   pub session : (ended : Result (Unit {0}) PumpFault)
-      → Serves AnswersByTable WantsMemory IsSame asked.count asked.idles s new c c' mid l'.told totals ended
+      → Serves AnswersByTable NoneStarves IsSame asked.count asked.idles s new c c' mid l'.told totals ended
       → l'.place ≡ places → ReceiveFaults receives l'.recv_faults ended → SendFaults sends l'.send_faults totals.failed
       → Session l l' c c' asked totals ended
   session ended served stay received sent =

@@ -16,7 +16,7 @@ use Rattle.teredo_app.specs.declared.statuses.TheConstants.{DONE, UNWRITABLE, NO
 use Rattle.teredo_app.specs.QualifyLine.{qualify_line}
 
 -- A client found this at the link and the clock, with these attempts.
-pub record Finds (l l' : LinkState) (c c' : ClockState) (asked : Asked) (live : Live) : Type 0 where
+pub record FindsLive (l l' : LinkState) (c c' : ClockState) (asked : Asked) (live : Live) : Type 0 where
   pub totals : LiveTotals
   pub session : SessionOf asked l l' c c' totals (Ok live)
 
@@ -31,12 +31,12 @@ pub record QualifyEnds (o o' : SinkState) (l l' : LinkState) (c c' : ClockState)
   pub opened : Gains l.openings l'.openings (free_port_of asked.inside)
   -- the client is qualified, or it knows that it can't be, and the line that says so was written; the sink didn't fail
   pub done : status ≡ DONE → (o'.faults ≡ o.faults)
-      × ((live : Live) × (live ≡ Undecided → ⊥) × (found : Finds l l' c c' asked live) × WritesLines o o' (qualify_line live found.totals ∷ []))
+      × ((live : Live) × (live ≡ Undecided → ⊥) × (found : FindsLive l l' c c' asked live) × WritesLines o o' (qualify_line live found.totals ∷ []))
   -- the turns were over before the client knew, and the line that says so was written; the sink didn't fail
   pub undecided : status ≡ UNDECIDED → (o'.faults ≡ o.faults)
-      × ((found : Finds l l' c c' asked Undecided) × WritesLines o o' (qualify_line Undecided found.totals ∷ []))
+      × ((found : FindsLive l l' c c' asked Undecided) × WritesLines o o' (qualify_line Undecided found.totals ∷ []))
   -- the sink failed, and a front of the line was written
   pub unwritten : status ≡ UNWRITABLE → Rose o.faults o'.faults
-      × ((live : Live) × (found : Finds l l' c c' asked live) × BeginsLines o o' (qualify_line live found.totals ∷ []))
+      × ((live : Live) × (found : FindsLive l l' c c' asked live) × BeginsLines o o' (qualify_line live found.totals ∷ []))
   -- the link failed, and nothing was written
   pub unlinked : status ≡ NO_LINK → Rose l.recv_faults l'.recv_faults × (o'.faults ≡ o.faults) × WritesNothing o o' × FindsNothing l l' c c' asked

@@ -31,8 +31,8 @@ abbrev pub AnswersByTable : ServerSettings → ℕ → Side → Ep → List ℕ 
 AnswersByTable s moment side from bytes step new = server.MeetsRow s side from bytes step new
 
 -- it never wants memory
-abbrev pub WantsMemory : ServerSettings → ℕ → Side → Ep → List ℕ → Type 0
-WantsMemory s moment side from bytes = ⊥
+abbrev pub NoneStarves : ServerSettings → ℕ → Side → Ep → List ℕ → Type 0
+NoneStarves s moment side from bytes = ⊥
 
 -- it is as before where it is the same
 abbrev pub IsSame : ServerSettings → ServerSettings → Type 0
@@ -44,7 +44,7 @@ pub record Session (l l' : LinkState) (c c' : ClockState) (asked : ServeWords) (
   pub places : l'.place ≡ open_on asked.primary asked.secondary
   -- each datagram that came was answered by the server's table, and each of its sends attempted, in order; the end is
   -- that so many arrivals were taken, or so many turns in a row were idle
-  pub turns : Serves AnswersByTable WantsMemory IsSame asked.count asked.idles (server_on asked) (server_on asked) c c' l.told l'.told totals ended
+  pub turns : Serves AnswersByTable NoneStarves IsSame asked.count asked.idles (server_on asked) (server_on asked) c c' l.told l'.told totals ended
   -- each arrival was answered, or its answer failed, or it went to the IPv6 side, or it was dropped
   pub outcomes : totals.served ≡ totals.sent + totals.failed + totals.six + totals.dropped
   pub receives : ReceiveFaults l.recv_faults l'.recv_faults ended
