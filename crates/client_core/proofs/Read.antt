@@ -24,7 +24,8 @@ use Rattle.client_rules.specs.Bearings.{mentions}
 use Rattle.client_rules.specs.Standing.{Standing, standing_at, standing_of}
 use Rattle.client_rules.specs.Reception.{seen_of, seen, reception_row, reception_fate, reception_step, reception}
 use Rattle.client_rules.specs.Journals.{entry, client_in}
-use Rattle.client_core.specs.Client.{settings_of, words_ahead, standing_in, ClientStandsFor, Does, TakesPayload, IsDatagramOf, KeepsPlace, WantsPlace, TakesRoom, fate_in}
+use Rattle.client_rules.specs.TakenPlaces.{TakesPlace}
+use Rattle.client_core.specs.Client.{settings_of, words_ahead, standing_in, ClientStandsFor, Does, TakesPayload, IsDatagramOf, KeepsPlace, WantsPlace, fate_in}
 use Rattle.client_core.specs.Below.{BelowClient}
 use Rattle.client_core.proofs.Entered.{none_enters}
 
@@ -117,5 +118,5 @@ wants_place law old new n from x v payload value l k j h =
     let listed_is =
     ap (λ (p : Option Ip6). is_some (peer_at (mentions j.entries) n (unwrap_or p unspecified))) (source_there x v payload value)
     ∙ ap (λ (p : Option Peer). is_some p) (sym ((read_same law old j n h l).peer v.packet.src)) in
-    subst (λ (f : Fate). TakesRoom f (is_some (peer_at (mentions j.entries) n (unwrap_or (source_in x) unspecified)))) (sym fate_is)
-    (subst (λ (b : Bool). TakesRoom (fate_in old n from v) b) (sym listed_is) k.room)
+    subst (λ (f : Fate). TakesPlace f (is_some (peer_at (mentions j.entries) n (unwrap_or (source_in x) unspecified)))) (sym fate_is)
+    (subst (λ (b : Bool). TakesPlace (fate_in old n from v) b) (sym listed_is) k.room)

@@ -1,5 +1,5 @@
 -- What a client keeps, the journals that it stands for, and what a call does for each of them (RFC 4380, section 5.2).
-use Rattle.std.specs.Prelude.{◌≡◌, ◌≤◌, ◌<◌, ℕ, Bool, true, false, List, Some, is_some, unwrap_or}
+use Rattle.std.specs.Prelude.{◌≡◌, ◌≤◌, ◌<◌, ℕ, true, List, Some, is_some, unwrap_or}
 use Rattle.td_base.specs.declared.ipv6.Ip6.{Ip6}
 use Rattle.td_base.specs.declared.endpoint.Ep.{Ep}
 use Rattle.td_outside.specs.declared.clock.TheConstants.{CLOCK_END_MS}
@@ -25,6 +25,7 @@ use Rattle.client_rules.specs.Bearings.{mentions}
 use Rattle.client_rules.specs.Standing.{Standing}
 use Rattle.client_rules.specs.Reception.{seen_of, reception_row, reception_step}
 use Rattle.client_rules.specs.Journals.{entry, client_entry}
+use Rattle.client_rules.specs.TakenPlaces.{TakesPlace}
 
 -- how it is set up
 abbrev pub settings_of : Client → Settings
@@ -76,27 +77,10 @@ pub record AsBefore (old new : Client) : Type 0 where
 
 -- WHERE MEMORY MAY BE WANTING
 
--- the fates by which a datagram's packet is held
-abbrev pub holds : Fate → Bool
-holds fate.HeldTest = true
-holds fate.Held = true
-holds _ = false
-
--- the fates by which its source is listed
-abbrev pub lists : Fate → Bool
-lists fate.Indirect = true
-lists fate.Rule3 = true
-lists fate.Rule3Bubble = true
-lists _ = false
-
--- a datagram with this fate is held, or its source is listed and wasn't yet
-pub data TakesRoom (f : Fate) (listed : Bool) : Type 0 where
-  to_hold : holds f ≡ true → TakesRoom f listed
-  to_list : lists f ≡ true → listed ≡ false → TakesRoom f listed
-
+-- the datagram is held, or its source is listed and wasn't yet
 abbrev pub WantsPlace : Client → ℕ → Ep → List ℕ → Type 0
 WantsPlace c n from x = (j : Journal) → ClientStandsFor c j
-    → TakesRoom (next_entry c j n (arrived from x)).step.fate (is_some (peer_at (mentions j.entries) n (unwrap_or (source_in x) unspecified)))
+    → TakesPlace (next_entry c j n (arrived from x)).step.fate (is_some (peer_at (mentions j.entries) n (unwrap_or (source_in x) unspecified)))
 
 -- the line of a packet of the host lets it wait
 abbrev pub WantsQueue : Client → ℕ → List ℕ → Type 0
@@ -144,5 +128,5 @@ pub record TakesPayload (old : Client) (n : ℕ) (from : Ep) (v : Value) (f : Fa
 
 -- memory was wanting by the line of a fate of a payload, and all is kept
 pub record KeepsPlace (old : Client) (n : ℕ) (v : Value) (f : Fate) (new : Client) : Type 0 where
-  pub room : TakesRoom f (is_some (peer_in old.peers n v.packet.src))
+  pub room : TakesPlace f (is_some (peer_in old.peers n v.packet.src))
   pub kept : KeepsAll old n new

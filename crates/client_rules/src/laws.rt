@@ -11,6 +11,7 @@ ghost use Rattle.client_rules.specs.TickWarrants.{TickIsWarranted};
 ghost use Rattle.client_rules.specs.LateSources.{EachLateIsForeign};
 ghost use Rattle.client_rules.specs.Told.{EachAddressIsTold};
 ghost use Rattle.client_rules.specs.ShortSends.{EachSendIsShort};
+ghost use Rattle.client_rules.specs.TakenPlaces.{WantsOnlyQualified};
 
 /// What is done with a datagram has the fate of its line.
 pub fn fate_of_reception()
@@ -213,4 +214,9 @@ pub fn each_send_is_short()
 /// The numbers of a test are those of the rules.
 pub fn numbers_of_tests()
     ensures { TestNumbers }
+{}
+
+/// Outside phase Qualified no datagram wants memory: none is held, and no source is listed.
+pub fn wants_only_qualified()
+    ensures { WantsOnlyQualified }
 {}

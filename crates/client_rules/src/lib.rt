@@ -30,6 +30,7 @@
 //! | what holds of address, waiting packets and trust | `specs/Epochs.antt` |
 //! | what sets a client's address | `specs/Told.antt` |
 //! | what is sent, and what is handed to the host | `specs/Sendings.antt`, `Handed.antt` |
+//! | which datagrams take memory, and when | `specs/TakenPlaces.antt` |
 //! | that what is sent are bytes, and not too many | `specs/MadeSends.antt`, `ShortSends.antt` |
 #![tactic(auto)]
 
@@ -42,6 +43,6 @@ pub use laws::{
     fate_of_transmission, journal_has_few, journal_is_tried, next_mentions, none_queued,
     numbers_of_tests, qualified_has_address, qualified_stays, queued_is_own,
     reception_is_warranted, tick_is_warranted, transmission_is_warranted, tries_touch,
-    trusted_is_embedded, waiting_is_own, waiting_was_handed_in,
+    trusted_is_embedded, waiting_is_own, waiting_was_handed_in, wants_only_qualified,
 };
 pub use limits::{TEST_ID, TEST_SEQ};

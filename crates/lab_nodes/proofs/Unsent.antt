@@ -17,12 +17,12 @@ use Rattle.teredo_node.specs.Sends.{has_any}
 use Rattle.teredo_node.specs.Journal.{Entry, Journal, Words}
 use Rattle.qualify.specs.declared.settings.Settings.{Settings}
 use Rattle.qualify.specs.Advertisements.{heard}
-use Rattle.client_core.specs.Client.{TakesRoom, to_hold, to_list, holds, lists}
 use Rattle.client_rules.specs.Standing.{Standing, standing_of}
 use Rattle.client_rules.specs.Reception.{is_good_origin, seen, reception_fate, reception_step, reception}
 use Rattle.client_rules.specs.Warrants.{ReceivedOnlyIf}
 use Rattle.client_rules.specs.Laws.{FateOfReception, ReceptionIsWarranted}
 use Rattle.client_rules.specs.Journals.{client_in}
+use Rattle.client_rules.specs.TakenPlaces.{holds, lists, TakesPlace, to_hold, to_list}
 use Rattle.relay_core.specs.declared.relay.Relay.{Relay}
 use Rattle.relay_core.specs.Relay.{settings_of}
 use Rattle.relay_core.specs.Relay as relays
@@ -84,7 +84,7 @@ holding s a from x w fate.HeldTest l unsent = absurd (filled _ _ unsent)
 holding s a from x w fate.Held l unsent = refl
 holding s a from x w _ l unsent = absurd (false≢true l)
 
-pub received_unsent : FateOfReception → ReceptionIsWarranted → (s : Settings) (j : Journal) (m : ℕ) (from : Ep) (x : List ℕ) (w : Words) (listed : Bool) → TakesRoom (client_in s j m from x w).step.fate listed
+pub received_unsent : FateOfReception → ReceptionIsWarranted → (s : Settings) (j : Journal) (m : ℕ) (from : Ep) (x : List ℕ) (w : Words) (listed : Bool) → TakesPlace (client_in s j m from x w).step.fate listed
     → SendsOrKeeps (client_in s j m from x w).step
 unfolding client_in reception
 received_unsent fates warranted s j m from x w listed (to_hold l) unsent =

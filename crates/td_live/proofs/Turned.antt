@@ -16,7 +16,7 @@ use Rattle.qualify.specs.declared.phase.Phase.{Phase}
 use Rattle.qualify.specs.Qualification.{qualification}
 use Rattle.client_core.specs.declared.client.Client.{Client}
 use Rattle.client_core.specs.Client.{ClientStandsFor, AsBefore, Does, WantsPlace, settings_of}
-use Rattle.client_rules.specs.Laws.{FateOfReception, ReceptionIsWarranted}
+use Rattle.client_rules.specs.TakenPlaces.{WantsOnlyQualified}
 use Rattle.td_live.specs.Asked.{LiveClient}
 use Rattle.td_live.specs.LiveTurns.{LiveTurn, Over, Took as Received, Broke, receives, phase_after, after_due, after_came, after_turn, live_entry}
 use Rattle.td_live.specs.Half.{IsAt, Advances, TakesTurn}
@@ -54,10 +54,10 @@ module _ (c : LiveClient) (j : Journal) (n : ℕ) (own new : Client) (link link'
       let same : new ≡ own = (subst (λ (r : Result Pumped PumpFault). LeavesAll AsBefore own new before step r) whole left).0 in
       subst (λ (s : Client). Advances c j j s link link' [] totals totals) (sym same) (goes_nowhere c j own link link' [] totals at carried)
 
-  pub starves_never : FateOfReception → ReceptionIsWarranted → (fault : PumpFault) → result ≡ Err fault → fault ≡ NoMemory → IsAt c own j → receives (phase_after c j) ≡ true → ⊥
-  starves_never law warranted fault err is at asking =
+  pub starves_never : WantsOnlyQualified → (fault : PumpFault) → result ≡ Err fault → fault ≡ NoMemory → IsAt c own j → receives (phase_after c j) ≡ true → ⊥
+  starves_never law fault err is at asking =
       let starved = subst (λ (r : Result Pumped PumpFault). PumpsClient own n new link link' step r) (err ∙ ap (λ (f : PumpFault). Err f) is) pumped in
-      wants_none law warranted c own j n starved.from starved.bytes at asking starved.starved
+      wants_none law c own j n starved.from starved.bytes at asking starved.starved
 
 -- ---- what holds of an answer, for one client and journal
 pub ok_at : {T E : Type 0} (P Q : LiveClient → Journal → Type 0) (r : Result T E) → OnOk r ((c : LiveClient) (j : Journal) → P c j → Q c j) → (c : LiveClient) (j : Journal) → P c j → OnOk r (Q c j)

@@ -98,8 +98,7 @@ fn take_next<L: Link>(
     ensures asked { Stays (L.state link.old).openings (L.state link.new).openings }
 {
     qualify::words_go_on();
-    client_rules::fate_of_reception();
-    client_rules::reception_is_warranted();
+    client_rules::wants_only_qualified();
     match pump(client, link, now, step) {
         Ok(Pumped::Took { failed, .. }) => {
             totals.count(step, failed);

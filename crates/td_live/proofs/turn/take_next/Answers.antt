@@ -17,7 +17,7 @@ pub unreachable-requires : goal.unreachable-requires
 unreachable-requires g c =
     let some = c.requires.asking.somewhere in
     starves_never some.client some.journal c.args.now.0 c.args.client.now c.pump.new.e (g.L.Link.state c.args.link.now).told (g.L.Link.state c.pump.new.link).told c.pump.new.step c.pump.result c.pump.ensures.turn
-    c.fate_of_reception.ensures c.reception_is_warranted.ensures c.in-Err-NoMemory.field-0 c.in-Err-NoMemory.is c.in-Err-NoMemory.field-0-is some.at c.requires.asking.phase
+    c.wants_only_qualified.ensures c.in-Err-NoMemory.field-0 c.in-Err-NoMemory.is c.in-Err-NoMemory.field-0-is some.at c.requires.asking.phase
 
 pub returns-in-Ok-Took-clause-goes : goal.returns-in-Ok-Took-clause-goes
 returns-in-Ok-Took-clause-goes g c =

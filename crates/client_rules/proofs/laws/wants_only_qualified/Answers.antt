@@ -1,0 +1,5 @@
+use Rattle.client_rules.proofs.TakenPlaces.{wants_only_qualified}
+use Rattle.client_rules.proofs.laws.wants_only_qualified.Goals as goal
+
+pub returns : goal.returns
+returns c = wants_only_qualified
