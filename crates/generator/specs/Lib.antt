@@ -1,3 +1,4 @@
 pub mod GeneratedNodes
 pub mod GeneratedEvent
 pub mod Generated
+pub mod Numbers

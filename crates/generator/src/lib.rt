@@ -19,10 +19,12 @@
 //! | `event` | an event of three words | `specs/GeneratedEvent.antt` |
 //! | `words` | the stream of the words | `specs/Generated.antt` |
 //! | `generated` | `Generated`, `generate` | `specs/Generated.antt` |
+//! | `laws` | what holds of the numbers | `specs/Numbers.antt` |
 #![tactic(auto)]
 
 mod event;
 mod generated;
+mod laws;
 mod nodes;
 #[cfg(test)]
 mod tests;
@@ -30,5 +32,6 @@ mod words;
 
 pub use event::ADVANCE_END_MS;
 pub use generated::{Generated, generate};
+pub use laws::generated_numbers;
 pub use nodes::{FIRST_CLIENT, FIRST_NAT, FIRST_NATIVE, INSIDE_PORT, MAPPING_IDLE_MS, THE_RELAY};
 pub use words::EVENTS_STREAM;

@@ -3,3 +3,4 @@ pub mod Lines
 pub mod Faults
 pub mod Explained
 pub mod Shown
+pub mod Numbers

@@ -26,14 +26,17 @@
 //! | `payload_lines` | the lines of a payload | `specs/Lines.antt` |
 //! | `fault_lines` | the line of a fault | `specs/Faults.antt` |
 //! | `explainer` | `explain` | `specs/Explained.antt`, `Shown.antt` |
+//! | `laws` | what holds of the numbers | `specs/Numbers.antt` |
 #![tactic(auto)]
 
 mod explainer;
 mod fault_lines;
+mod laws;
 mod line_texts;
 mod page;
 mod payload_lines;
 mod words;
 
 pub use explainer::explain;
+pub use laws::show_numbers;
 pub use page::{PAGE_LEN, Page};

@@ -4,3 +4,4 @@ pub mod LiveTotals
 pub mod Verdict
 pub mod Half
 pub mod Session
+pub mod Numbers

@@ -26,15 +26,18 @@
 //! | `session` | `qualify`: turns, until the client knows | `specs/Session.antt` |
 //! | `live` | `Live`: what was found | `specs/Verdict.antt` |
 //! | `live_totals` | `LiveTotals`: how many attempts succeeded and failed | `specs/LiveTotals.antt` |
+//! | `laws` | what holds of the numbers | `specs/Numbers.antt` |
 #![tactic(auto)]
 
 mod asked;
+mod laws;
 mod live;
 mod live_totals;
 mod session;
 mod turn;
 
 pub use asked::{Asked, REFRESH_HIGH_MS, REFRESH_LOW_MS, STREAM_NUMBER};
+pub use laws::live_numbers;
 pub use live::Live;
 pub use live_totals::LiveTotals;
 pub use session::{TURNS_MAX, qualify};

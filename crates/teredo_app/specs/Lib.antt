@@ -13,3 +13,4 @@ pub mod Endings
 pub mod Qualify
 pub mod QualifyLine
 pub mod QualifyWords
+pub mod Numbers

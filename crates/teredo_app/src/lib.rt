@@ -39,6 +39,7 @@
 //! | `qualify_at` | a client's qualification at a link | `specs/Qualify.antt` |
 //! | `qualify_line` | the line that `qualify` ends with | `specs/QualifyLine.antt` |
 //! | `program` | `run` | `specs/Ends.antt`, over `specs/Outside.antt` |
+//! | `laws` | what holds of the numbers | `specs/Numbers.antt` |
 #![tactic(auto)]
 
 mod audit_file;
@@ -48,6 +49,7 @@ mod command;
 mod gen_words;
 mod generated_scenario;
 mod last_line;
+mod laws;
 mod program;
 mod qualify_at;
 mod qualify_line;
@@ -64,6 +66,7 @@ pub use audit_line::NoCapture;
 pub use audit_words::AuditWords;
 pub use command::Command;
 pub use gen_words::{GenWords, SEED_MAX};
+pub use laws::program_numbers;
 pub use program::run;
 pub use serve_words::ServeWords;
 pub use source_text::TEXT_READ_MAX;
