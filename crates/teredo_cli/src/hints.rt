@@ -37,7 +37,7 @@ fn hint_at(status: u8) -> Option<&'static str> {
             "nothing that came to the server before licenses this record's datagram: docs/SERVE.md, \"An audit\", has what it may mean",
         ),
         NO_CAPTURE => Some(
-            "this is no capture of raw IP packets in at most 96 MiB: docs/GUIDE.md, \"A capture of your own\", makes one",
+            "this is no capture of raw IP packets in at most 96 MiB: docs/CAPTURES.md, \"A capture of your own\", makes one",
         ),
         _ => None,
     }
