@@ -2,15 +2,29 @@
 //!
 //! # What it does not know
 //!
-//! How a run ended: it has the status and the words of the command line alone.
+//! How a run ended: it has the status, the words of the command line, and whether the output has a reader.
 
+use std::io::Write;
+use td_outside::StdSink;
 use teredo_app::{
     BAD_PAYLOAD, BAD_SCENARIO, BAD_WORDS, NO_CAPTURE, NO_LINK, NO_MEMORY, UNDECIDED, UNLICENSED,
     UNREADABLE, UNWRITABLE, WIRE_FULL,
 };
 
+/// A sink that knows whether somebody reads it.
+pub trait Heard {
+    /// Whether its last write failed since nobody reads any more.
+    fn is_unread(&self) -> bool;
+}
+
+impl<W: Write + Drop> Heard for StdSink<W> {
+    fn is_unread(&self) -> bool {
+        self.is_unread()
+    }
+}
+
 /// What a status means and what to look at.
-fn hint_at(status: u8) -> Option<&'static str> {
+fn hint_at(status: u8, is_unread: bool) -> Option<&'static str> {
     match status {
         BAD_PAYLOAD => Some(
             "this is no payload of Teredo: docs/GUIDE.md, \"Reading a datagram\", has the faults",
@@ -25,9 +39,8 @@ fn hint_at(status: u8) -> Option<&'static str> {
             "the scenario is refused (`key`: missing or unknown; `name`: unknown, ill-formed or taken; `range`: not allowed, or taken): `./teredo lint FILE` shows the line",
         ),
         UNREADABLE => Some("the file could not be read: look at its name and its permissions"),
-        UNWRITABLE => Some(
-            "standard output could not be written: is it closed, full, or has its reader ended?",
-        ),
+        UNWRITABLE if is_unread => Some("nobody reads standard output any more: its reader ended"),
+        UNWRITABLE => Some("standard output could not be written: is it closed, or full?"),
         NO_LINK => Some(
             "the sockets could not be opened: each address must be this machine's, for `serve` with UDP port 3544 free, and there must be memory for them; or one failed later",
         ),
@@ -59,9 +72,9 @@ fn span_of(status: u8, count: usize) -> (usize, usize) {
 }
 
 /// Writes one line on standard error: the words that a status is about, and its hint. Of a status without one nothing.
-pub fn tell(rt: &HostRuntime, status: u8, words: &Vec<String>) {
+pub fn tell(rt: &HostRuntime, status: u8, is_unread: bool, words: &Vec<String>) {
     let (first, end) = span_of(status, words.len());
-    if let Some(hint) = hint_at(status) {
+    if let Some(hint) = hint_at(status, is_unread) {
         let _ = eprint!(rt; "teredo_cli: ");
         for word in words.iter().take(end).skip(first) {
             let _ = eprint!(rt; "{word}: ");

@@ -11,9 +11,11 @@ ghost use Rattle.std.specs.Process.{exit_status};
 ghost use Rattle.teredo_app.specs.Command.{Request, IsCommand, LeavesSource, LeavesNetwork};
 ghost use Rattle.teredo_app.specs.Ends.{RunEnds, MayEnd};
 
+mod asking;
 mod hints;
 
-use hints::tell;
+use asking::Asking;
+use hints::{Heard, tell};
 use std::process::ExitCode;
 use std::{env, io};
 use td_outside::{Clock, FileSource, Link, Sink, Source, StdSink, SystemClock, UdpPair};
@@ -36,7 +38,7 @@ fn words_of(rt: &HostRuntime) -> io::Result<Vec<String>> {
 }
 
 /// Runs, and ends with the status that `run` answers. Standard error, which `run` doesn't know, gets one plain line.
-fn run_on<S: Source, K: Sink, L: Link, C: Clock>(
+fn run_on<S: Source, K: Sink + Heard, L: Link, C: Clock>(
     rt: &HostRuntime,
     words: &Vec<String>,
     src: &mut S,
@@ -52,7 +54,7 @@ fn run_on<S: Source, K: Sink, L: Link, C: Clock>(
         → LeavesNetwork asked ((link.new ≡ link.old) × (clock.new ≡ clock.old)) }
 {
     let status = run(rt.alloc(), words, src, out, link, clock);
-    tell(rt, status, words);
+    tell(rt, status, out.is_unread(), words);
     ExitCode::from(status)
 }
 
@@ -62,7 +64,7 @@ fn run_on_system(rt: &HostRuntime, words: &Vec<String>) -> ExitCode
 {
     let mut source = FileSource::new(rt);
     let mut sink = StdSink::new(io::writer(rt));
-    let mut link = UdpPair::new(rt);
+    let mut link = Asking::new(rt, UdpPair::new(rt));
     let mut clock = SystemClock::new(rt);
     run_on(rt, words, &mut source, &mut sink, &mut link, &mut clock)
 }
@@ -73,7 +75,7 @@ fn main(rt: HostRuntime) -> ExitCode {
         Err(error) => {
             let none = Vec::new(rt.alloc());
             if error.kind() == io::ErrorKind::OutOfMemory {
-                tell(&rt, NO_MEMORY, &none);
+                tell(&rt, NO_MEMORY, false, &none);
                 return ExitCode::from(NO_MEMORY);
             }
             // Words that aren't text have no shape, and neither has an empty list.
