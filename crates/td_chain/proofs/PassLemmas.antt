@@ -1,0 +1,173 @@
+-- A datagram passes NATs, one after the other.
+use Rattle.std.proofs.Common.{◌≡◌, ◌≢◌, ◌⊎◌, inl, inr, ◌≤◌, ℕ, zero, suc, Bool, cond, List, [], ◌∷◌, ◌++◌, length, drop, map, set, Option, Some, None, Result, Ok, Err, refl, sym, ap, subst, ◌∙◌, arith}
+use Rattle.std.specs.Prelude.{slice_get, option_map, IfOk, OnErr, IsOk}
+use Rattle.std.proofs.lemmas.Bool.{eq-eqb, ne_eqb}
+use Rattle.td_base.specs.declared.endpoint.Ep.{Ep}
+use Rattle.td_base.specs.declared.ipv4.Ip4.{Ip4}
+use Rattle.nat_kinds.specs.declared.settings.NatSettings.{NatSettings}
+use Rattle.nat_kinds.specs.declared.refusal.NatRefusal.{NatRefusal}
+use Rattle.nat_kinds.specs.declared.refusal.NatRefusal.TheVariants.{Hairpin, Full, NoMemory}
+use Rattle.nat_kinds.specs.History.{Entry, Out}
+use Rattle.nat_kinds.specs.Answer.{nat_answer, GivesAnswer}
+use Rattle.nat_kinds.specs.Nat.{NatState, StandsAsBefore}
+use Rattle.nat_kinds.specs.Nat as nats
+use Rattle.topology.specs.Rows.{TopologyState}
+use Rattle.topology.specs.Chains.{Behind, outer_in, nats_from, NatPasts, Passing, outs_at, after_passing, passing, nat_set_up, answered, Crossing, crossing}
+use Rattle.td_chain.specs.Chains.{NatsStand, set_ups, NatIsThere, NatsReady, with_nat_entry, LacksMemory, Crosses}
+use Rattle.td_chain.specs.declared.nesting.Nesting.{Nesting}
+use Rattle.td_chain.specs.Nestings.{behind_of}
+use Rattle.td_chain.proofs.ThereLemmas.{some_inj, none_there}
+use Rattle.td_chain.specs.Pass.{Passes}
+
+-- LISTS
+
+-- what stands in a list where one element was put
+abbrev IsPutOr : {A : Type 0} → List A → (i j : ℕ) → (x y : A) → Type 0
+IsPutOr xs i j x y = ((j ≡ i) × (x ≡ y)) ⊎ ((j ≢ i) × (slice_get xs j ≡ Some x))
+
+deeper : {A : Type 0} → (z : A) (xs : List A) (i j : ℕ) (x y : A) → IsPutOr xs i j x y → IsPutOr (z ∷ xs) (suc i) (suc j) x y
+deeper z xs i j x y (inl same) = inl (ap (λ (n : ℕ). suc n) same.0, same.1)
+deeper z xs i j x y (inr other) = inr (λ e. other.0 (omega (arith, e)), other.1)
+
+put_or : {A : Type 0} → (xs : List A) (i j : ℕ) (x y : A) → slice_get (set xs i y) j ≡ Some x → IsPutOr xs i j x y
+put_or [] i j x y e = none_there x e
+put_or (z ∷ xs) zero zero x y e = inl (refl, sym (some_inj y x e))
+put_or (z ∷ xs) zero (suc j) x y e = inr (λ h. omega (arith, h), e)
+put_or (z ∷ xs) (suc i) zero x y e = inr (λ h. omega (arith, h), e)
+put_or (z ∷ xs) (suc i) (suc j) x y e = deeper z xs i j x y (put_or xs i j x y e)
+
+map_put : {A B : Type 0} → (f : A → B) (xs : List A) (i : ℕ) (x y : A) → slice_get xs i ≡ Some x → f y ≡ f x → map f (set xs i y) ≡ map f xs
+map_put f [] i x y e same = refl
+map_put f (z ∷ xs) zero x y e same = ap (λ b. b ∷ map f xs) (same ∙ ap f (sym (some_inj z x e)))
+map_put f (z ∷ xs) (suc i) x y e same = ap (λ bs. f z ∷ bs) (map_put f xs i x y e same)
+
+-- ONE NAT
+
+-- where each is set up so, one of the number is there
+pub is_there : (list : List (Option NatState)) (k : ℕ) → NatIsThere list k → (nat : NatState) × (slice_get list k ≡ Some (Some nat))
+is_there [] k there = none_there (Some there.0) there.1
+is_there (Some nat ∷ list) zero there = (nat, refl)
+is_there (None ∷ list) zero there = none_there there.0 (some_inj None (Some there.0) there.1)
+is_there (x ∷ list) (suc k) there = is_there list k there
+
+-- the history of a NAT with one datagram more
+own_out : (t : TopologyState) (k m : ℕ) (from dst : Ep) (port : ℕ) (passed : List Passing) (h : NatPasts)
+    → after_passing (passing k m from dst port ∷ passed) h k ≡ Out (passing k m from dst port).datagram ∷ after_passing passed h k
+own_out t k m from dst port passed h =
+    ap (λ (b : Bool). cond b (Out (passing k m from dst port).datagram ∷ outs_at k passed) (outs_at k passed) ++ h k) (eq-eqb k k refl)
+
+-- that of another
+other_out : (j k m : ℕ) (from dst : Ep) (port : ℕ) (passed : List Passing) (h : NatPasts) → j ≢ k → after_passing (passing k m from dst port ∷ passed) h j ≡ after_passing passed h j
+other_out j k m from dst port passed h other =
+    ap (λ (b : Bool). cond b (Out (passing k m from dst port).datagram ∷ outs_at j passed) (outs_at j passed) ++ h j) (ne_eqb k j (λ e. other (sym e)))
+
+module _ (list : List (Option NatState)) (k : ℕ) (now new : NatState) (at : slice_get list k ≡ Some (Some now)) (same : new.settings ≡ now.settings) where
+  abbrev later : List (Option NatState)
+  later = set list k (Some new)
+
+  pub rows_later : set_ups later ≡ set_ups list
+  rows_later = map_put (option_map (λ (nat : NatState). nat.settings)) list k (Some now) (Some new) at (ap (λ (s : NatSettings). Some s) same)
+
+  pub ready_later : (m : ℕ) → NatsReady m list → new.moment ≤ m → NatsReady m later
+  ready_later m ready early j nat e = ready_at (put_or list k j (Some nat) (Some new) e)
+    where
+      ready_at : IsPutOr list k j (Some nat) (Some new) → nat.moment ≤ m
+      ready_at (inl here) = subst (λ (x : NatState). x.moment ≤ m) (sym (some_inj nat new here.1)) early
+      ready_at (inr there) = ready j nat there.1
+
+  -- they stand for histories that differ at this NAT alone
+  pub stand_later : (t : TopologyState) (before after : NatPasts) → NatsStand t list before → nats.StandsFor new (after k) → ((j : ℕ) → j ≢ k → after j ≡ before j) → NatsStand t later after
+  stand_later t before after stand here apart = record {
+    set_up = λ j nat e. set_up_at j nat (put_or list k j (Some nat) (Some new) e);
+    stands = λ j nat e. stands_at j nat (put_or list k j (Some nat) (Some new) e);
+  }
+    where
+      set_up_at : (j : ℕ) (nat : NatState) → IsPutOr list k j (Some nat) (Some new) → nat.settings ≡ nat_set_up t j
+      set_up_at j nat (inl put) = ap (λ (x : NatState). x.settings) (some_inj nat new put.1) ∙ same ∙ stand.set_up k now at ∙ ap (nat_set_up t) (sym put.0)
+      set_up_at j nat (inr there) = stand.set_up j nat there.1
+
+      stands_at : (j : ℕ) (nat : NatState) → IsPutOr list k j (Some nat) (Some new) → nats.StandsFor nat (after j)
+      stands_at j nat (inl put) = subst (λ (i : ℕ). nats.StandsFor nat (after i)) (sym put.0) (subst (λ (x : NatState). nats.StandsFor x (after k)) (sym (some_inj nat new put.1)) here)
+      stands_at j nat (inr there) = subst (nats.StandsFor nat) (sym (apart j there.0)) (stand.stands j nat there.1)
+
+  module _ (t : TopologyState) (h : NatPasts) (m : ℕ) (from dst : Ep) (passed : List Passing) (stand : NatsStand t list (after_passing passed h)) where
+    pub passes : (result : Result Ep NatRefusal) → ((past : List Entry) → nats.StandsFor now past → GivesAnswer now.settings (nat_answer now.settings past m from dst) result)
+        → IfOk result (λ ep. (past : List Entry) → nats.StandsFor now past → nats.StandsFor new (Out (passing k m from dst ep.port).datagram ∷ past)) → OnErr result (StandsAsBefore now new)
+        → Passes t h m from dst passed k result later
+    passes (Ok ep) answer stands refused = record {
+      answer = subst (λ (s : NatSettings). GivesAnswer s (nat_answer s (after_passing passed h k) m from dst) (Ok ep)) (stand.set_up k now at) (answer _ (stand.stands k now at));
+      stands = stand_later t (after_passing passed h) (after_passing (passing k m from dst ep.port ∷ passed) h) stand
+          (subst (nats.StandsFor new) (sym (own_out t k m from dst ep.port passed h)) (stands _ (stand.stands k now at))) (λ j other. other_out j k m from dst ep.port passed h other);
+    }
+    passes (Err why) answer stands refused = record {
+      answer = subst (λ (s : NatSettings). GivesAnswer s (nat_answer s (after_passing passed h k) m from dst) (Err why)) (stand.set_up k now at) (answer _ (stand.stands k now at));
+      stands = stand_later t (after_passing passed h) (after_passing passed h) stand (refused _ (stand.stands k now at)) (λ j other. refl);
+    }
+
+-- A WAY OF NATS
+
+module _ (t : TopologyState) (h : NatPasts) (m : ℕ) (from dst : Ep) (passed : List Passing) (k : ℕ) (new : List (Option NatState)) where
+  abbrev answer_at : Result ℕ NatRefusal
+  answer_at = nat_answer (nat_set_up t k) (after_passing passed h k) m from dst
+
+  gives_on : (r : Result ℕ NatRefusal) → IsOk r → IsOk (answered t m k from dst passed (crossing t h m dst []) r).leaves
+  gives_on (Ok port) is = is
+  gives_on (Err why) is = is
+
+  -- the first NAT refuses
+  pub ends_here : (way : List ℕ) (why : NatRefusal) → Passes t h m from dst passed k (Err why) new → Crosses t h m from dst passed (k ∷ way) (Err why) new
+  ends_here way Hairpin p =
+      let is : crossing t h m dst (k ∷ way) from passed ≡ record { leaves = Err Hairpin; passed = passed } = ap (answered t m k from dst passed (crossing t h m dst way)) p.answer in
+      (ap (λ (c : Crossing). c.leaves) is, subst (λ (c : Crossing). NatsStand t new (after_passing c.passed h)) (sym is) p.stands)
+  ends_here way Full p =
+      let is : crossing t h m dst (k ∷ way) from passed ≡ record { leaves = Err Full; passed = passed } = ap (answered t m k from dst passed (crossing t h m dst way)) p.answer in
+      (ap (λ (c : Crossing). c.leaves) is, subst (λ (c : Crossing). NatsStand t new (after_passing c.passed h)) (sym is) p.stands)
+  ends_here way NoMemory p = record { before = []; at = k; after = way; split = refl; gives = gives_on answer_at p.answer; stands = p.stands }
+
+-- the first NAT lets it out, and the others are passed from the endpoint that it gave
+module _ (t : TopologyState) (h : NatPasts) (m : ℕ) (from dst : Ep) (passed : List Passing) (k : ℕ) (mid : List (Option NatState)) (ep : Ep) (p : Passes t h m from dst passed k (Ok ep) mid) where
+  abbrev more : List Passing
+  more = passing k m from dst ep.port ∷ passed
+
+  onward : (way : List ℕ) → crossing t h m dst (k ∷ way) from passed ≡ crossing t h m dst way ep more
+  onward way = ap (answered t m k from dst passed (crossing t h m dst way)) p.answer.0 ∙ ap (λ (ip : Ip4). crossing t h m dst way (record { ip = ip; port = ep.port }) more) (sym p.answer.1)
+
+  starves_on : (way : List ℕ) (new : List (Option NatState)) → LacksMemory t h m ep dst more way new → LacksMemory t h m from dst passed (k ∷ way) new
+  starves_on way new s = record {
+    before = k ∷ s.before;
+    at = s.at;
+    after = s.after;
+    split = ap (λ (ks : List ℕ). k ∷ ks) s.split;
+    gives = subst (λ (c : Crossing). IsOk c.leaves) (sym (onward (s.before ++ s.at ∷ []))) s.gives;
+    stands = subst (λ (c : Crossing). NatsStand t new (after_passing c.passed h)) (sym (onward s.before)) s.stands;
+  }
+
+  goes_on : (way : List ℕ) (new : List (Option NatState)) (result : Result Ep NatRefusal)
+      → ((crossing t h m dst way ep more).leaves ≡ result) × NatsStand t new (after_passing (crossing t h m dst way ep more).passed h)
+      → ((crossing t h m dst (k ∷ way) from passed).leaves ≡ result) × NatsStand t new (after_passing (crossing t h m dst (k ∷ way) from passed).passed h)
+  goes_on way new result both =
+      (ap (λ (c : Crossing). c.leaves) (onward way) ∙ both.0, subst (λ (c : Crossing). NatsStand t new (after_passing c.passed h)) (sym (onward way)) both.1)
+
+  pub then_crosses : (way : List ℕ) (new : List (Option NatState)) (result : Result Ep NatRefusal) → Crosses t h m ep dst more way result new → Crosses t h m from dst passed (k ∷ way) result new
+  then_crosses way new (Ok external) c = goes_on way new (Ok external) c
+  then_crosses way new (Err Hairpin) c = goes_on way new (Err Hairpin) c
+  then_crosses way new (Err Full) c = goes_on way new (Err Full) c
+  then_crosses way new (Err NoMemory) c = starves_on way new c
+
+-- the way outwards from a NAT, where one more is passed
+pub way_is : (chain : List Behind) (list rest : List Nesting) (next after : Option ℕ) (k : ℕ) → next ≡ Some k → 1 ≤ length list → rest ≡ drop 1 list → after ≡ outer_in chain k
+    → nats_from chain (map behind_of list) next ≡ k ∷ nats_from chain (map behind_of rest) after
+way_is chain [] rest next after k is l e f = absurd (omega (arith, l))
+way_is chain (n ∷ list) rest next after k is l e f =
+    ap (nats_from chain (map behind_of (n ∷ list))) is ∙ ap (λ (o : Option ℕ). k ∷ nats_from chain (map behind_of list) o) (sym f)
+    ∙ ap (λ (ns : List Nesting). k ∷ nats_from chain (map behind_of ns) after) (sym e)
+
+-- ONE NAT FORGETS
+
+module _ (list : List (Option NatState)) (k : ℕ) (now new : NatState) (at : slice_get list k ≡ Some (Some now)) (same : new.settings ≡ now.settings) where
+  -- each stands for its history, this one with an entry more
+  pub stand_with : (t : TopologyState) (h : NatPasts) (e : Entry) → NatsStand t list h → ((past : List Entry) → nats.StandsFor now past → nats.StandsFor new (e ∷ past))
+      → NatsStand t (set list k (Some new)) (with_nat_entry k e h)
+  stand_with t h e stand stands = stand_later list k now new at same t h (with_nat_entry k e h) stand
+      (subst (nats.StandsFor new) (sym (ap (λ (b : Bool). cond b (e ∷ h k) (h k)) (eq-eqb k k refl))) (stands (h k) (stand.stands k now at)))
+      (λ j other. ap (λ (b : Bool). cond b (e ∷ h j) (h j)) (ne_eqb j k other))

@@ -1,0 +1,177 @@
+-- Which numbers are those of NATs that are kept.
+use Rattle.std.proofs.Common.{◌≡◌, ◌⊎◌, inl, inr, ⊎_elim, ◌≤◌, ℕ, zero, suc, Bool, true, false, cond, List, [], ◌∷◌, ◌++◌, length, map, take, take_all, drop, Option, Some, None, refl, sym, ap, subst, ◌∙◌, arith}
+use Rattle.std.proofs.lemmas.List.{length-append, length-map, length-take, map-append, take-append-le}
+use Rattle.std.specs.Prelude.{◌==◌, ◌&&◌, slice_get, is_some, unwrap_or, option_map, option_and_then, IfSome}
+use Rattle.std.specs.List.{list_all, AllByRecursion}
+use Rattle.std.proofs.lemmas.Bool.{and_parts, false≢true}
+use Rattle.std.proofs.lemmas.Option.{slice_get-map}
+use Rattle.nat_kinds.specs.declared.settings.NatSettings.{NatSettings}
+use Rattle.nat_kinds.specs.Nat.{NatState}
+use Rattle.nat_kinds.specs.Nat as nats
+use Rattle.topology.specs.declared.node.Node.{Node}
+use Rattle.topology.specs.declared.node.Node.TheVariants.{Server as server, Nat as nat, Client as client, Relay as relay, Native as native}
+use Rattle.topology.specs.Rows.{TopologyState}
+use Rattle.topology.specs.Named.{is_nat}
+use Rattle.topology.specs.Topology.{nodes, node_at, as_nat, nat_at, nat_settings, settings_of_nat}
+use Rattle.topology.specs.Chains.{Behind, outer_in, has_external, inner_at, nat_set_up}
+use Rattle.td_base.specs.declared.ipv4.Ip4.{Ip4}
+use Rattle.td_chain.specs.ChainRules.{is_link, is_chain}
+use Rattle.td_chain.specs.Chains.{NatsStand, set_ups, AreNatsOf, NatIsThere, NatsReady, NatsKept}
+
+pub some_inj : {A : Type 0} → (x y : A) → Some x ≡ Some y → x ≡ y
+some_inj x y e = ap (λ (o : Option _). unwrap_or o x) e
+
+pub none_there : {A : Type 0} {P : Type 0} → (x : A) → None ≡ Some x → P
+none_there x e = absurd (false≢true (ap (λ (o : Option _). is_some o) e))
+
+abbrev row_of : Node → Option NatSettings
+row_of a = option_map nat_settings (as_nat a)
+
+set_up_of : (o : Option Node) → is_nat o ≡ true → (s : NatSettings) × (option_map row_of o ≡ Some (Some s))
+set_up_of None e = absurd (false≢true e)
+set_up_of (Some (server a)) e = absurd (false≢true e)
+set_up_of (Some (nat a)) e = (nat_settings a, refl)
+set_up_of (Some (client a)) e = absurd (false≢true e)
+set_up_of (Some (relay a)) e = absurd (false≢true e)
+set_up_of (Some (native a)) e = absurd (false≢true e)
+
+-- a NAT of the topology is kept
+pub nat_there : (t : TopologyState) (list : List (Option NatState)) (k : ℕ) → AreNatsOf t list → is_nat (node_at t k) ≡ true → NatIsThere list k
+nat_there t list k rows is =
+    let s = set_up_of (node_at t k) is in
+    (s.0, ap (λ (xs : List (Option NatSettings)). slice_get xs k) rows ∙ slice_get-map row_of (nodes t) k ∙ s.1)
+
+-- how a NAT that is kept is set up
+set_up_at : (o : Option Node) (s : NatSettings) → option_map row_of o ≡ Some (Some s) → s ≡ settings_of_nat (option_and_then as_nat o)
+set_up_at None s e = absurd (false≢true (ap (λ (x : Option (Option NatSettings)). is_some x) e))
+set_up_at (Some (server a)) s e = none_there s (some_inj None (Some s) e)
+set_up_at (Some (nat a)) s e = some_inj s (nat_settings a) (some_inj (Some s) (Some (nat_settings a)) (sym e))
+set_up_at (Some (client a)) s e = none_there s (some_inj None (Some s) e)
+set_up_at (Some (relay a)) s e = none_there s (some_inj None (Some s) e)
+set_up_at (Some (native a)) s e = none_there s (some_inj None (Some s) e)
+
+kept_so : (t : TopologyState) (list : List (Option NatState)) (k : ℕ) (x : NatState) → AreNatsOf t list → slice_get list k ≡ Some (Some x) → x.settings ≡ nat_set_up t k
+kept_so t list k x rows at =
+    let up : Option NatState → Option NatSettings = option_map (λ (n : NatState). n.settings) in
+    let mine : slice_get (set_ups list) k ≡ Some (Some x.settings) = slice_get-map up list k ∙ ap (option_map up) at in
+    let its : slice_get (set_ups list) k ≡ option_map row_of (node_at t k) = ap (λ (xs : List (Option NatSettings)). slice_get xs k) rows ∙ slice_get-map row_of (nodes t) k in
+    set_up_at (node_at t k) x.settings (sym its ∙ mine)
+
+-- THOSE BEHIND, AND THOSE OUTSIDE
+
+with_external : (ip : Ip4) (o : Option Node) → has_external ip (option_and_then as_nat o) ≡ true → is_nat o ≡ true
+with_external ip None e = e
+with_external ip (Some (server a)) e = e
+with_external ip (Some (nat a)) e = refl
+with_external ip (Some (client a)) e = e
+with_external ip (Some (relay a)) e = e
+with_external ip (Some (native a)) e = e
+
+one_of_two : (test : Bool) (a j : ℕ) (rest : Option ℕ) → cond test (Some a) rest ≡ Some j → ((test ≡ true) × (a ≡ j)) ⊎ (rest ≡ Some j)
+one_of_two true a j rest e = inl (refl, some_inj a j e)
+one_of_two false a j rest e = inr e
+
+pub inner_is_nat : (t : TopologyState) (chain : List Behind) (k : ℕ) (ip : Ip4) (j : ℕ) → inner_at t chain k ip ≡ Some j → is_nat (node_at t j) ≡ true
+inner_is_nat t [] k ip j e = none_there j e
+inner_is_nat t (b ∷ rest) k ip j e = ⊎_elim
+    (λ h. subst (λ (n : ℕ). is_nat (node_at t n) ≡ true) h.1 (with_external ip (node_at t b.inner) (and_parts (b.outer == k) (has_external ip (nat_at t b.inner)) h.0).1))
+    (λ h. inner_is_nat t rest k ip j h)
+    (one_of_two ((b.outer == k) && has_external ip (nat_at t b.inner)) b.inner j (inner_at t rest k ip) e)
+
+outer_of_links : (t : TopologyState) (whole chain : List Behind) (k o : ℕ) → list_all (is_link t whole) chain ≡ true → outer_in chain k ≡ Some o → is_nat (node_at t o) ≡ true
+outer_of_links t whole [] k o all e = none_there o e
+outer_of_links t whole (b ∷ rest) k o all e =
+    let parts = and_parts (is_link t whole b) (list_all (is_link t whole) rest) all in
+    let outer : is_nat (node_at t b.outer) ≡ true = (and_parts _ _ (and_parts _ _ parts.0).1).0 in
+    ⊎_elim (λ h. subst (λ (n : ℕ). is_nat (node_at t n) ≡ true) h.1 outer) (λ h. outer_of_links t whole rest k o parts.1 h)
+    (one_of_two (b.inner == k) b.outer o (outer_in rest k) e)
+
+pub outer_is_nat : (t : TopologyState) (chain : List Behind) (k o : ℕ) → is_chain t chain ≡ true → outer_in chain k ≡ Some o → is_nat (node_at t o) ≡ true
+unfolding is_chain
+outer_is_nat t chain k o rules e = outer_of_links t chain chain k o (and_parts (list_all (is_link t chain) chain) _ rules).0 e
+
+-- THE FIRST NATS
+
+-- nothing happened to it
+abbrev pub IsFirst : Option NatState → Type 0
+IsFirst None = Unit {0}
+IsFirst (Some x) = nats.StandsFor x [] × (x.moment ≡ 0)
+
+pub record FirstNats (t : TopologyState) (list : List (Option NatState)) : Type 0 where
+  pub rows : set_ups list ≡ take (length list) (map row_of (nodes t))
+  pub each : AllByRecursion IsFirst list
+
+pub none_first : (t : TopologyState) → FirstNats t []
+none_first t = record { rows = refl; each = tt }
+
+pub first_of : (o : Option NatState) → IfSome o (λ x. nats.StandsFor x []) → IfSome o (λ x. x.moment ≡ 0) → IsFirst o
+first_of None stands moment = tt
+first_of (Some x) stands moment = (stands, moment)
+
+each_more : (list : List (Option NatState)) (o : Option NatState) → AllByRecursion IsFirst list → IsFirst o → AllByRecursion IsFirst (list ++ o ∷ [])
+each_more [] o all first = (first, tt)
+each_more (x ∷ list) o all first = (all.0, each_more list o all.1 first)
+
+take_one_more : {A : Type 0} → (xs : List A) (n : ℕ) (x : A) → slice_get xs n ≡ Some x → take n xs ++ x ∷ [] ≡ take (suc n) xs
+take_one_more [] n x e = none_there x e
+take_one_more (y ∷ ys) zero x e = ap (λ z. z ∷ []) (sym (some_inj y x e))
+take_one_more (y ∷ ys) (suc n) x e = ap (λ zs. y ∷ zs) (take_one_more ys n x e)
+
+pub first_more : (t : TopologyState) (list : List (Option NatState)) (a : Node) (o : Option NatState) → node_at t (length list) ≡ Some a → FirstNats t list
+    → option_map (λ (x : NatState). x.settings) o ≡ row_of a → IsFirst o → FirstNats t (list ++ o ∷ [])
+first_more t list a o at so row first =
+    let up : Option NatState → Option NatSettings = option_map (λ (x : NatState). x.settings) in
+    let all = map row_of (nodes t) in
+    let there : slice_get all (length list) ≡ Some (row_of a) = slice_get-map row_of (nodes t) (length list) ∙ ap (option_map row_of) at in
+    let longer : suc (length list) ≡ length (list ++ o ∷ []) = omega (arith, length-append list (o ∷ [])) in
+    record {
+      rows = map-append up list (o ∷ []) ∙ ap (λ (xs : List (Option NatSettings)). xs ++ up o ∷ []) so.rows ∙ ap (λ (x : Option NatSettings). take (length list) all ++ x ∷ []) row
+          ∙ take_one_more all (length list) (row_of a) there ∙ ap (λ (k : ℕ). take k all) longer;
+      each = each_more list o so.each first;
+    }
+
+-- there are no more than nodes
+pub first_few : (t : TopologyState) (list : List (Option NatState)) → FirstNats t list → length list ≤ length (nodes t)
+first_few t list so =
+    let same : length list ≡ length (take (length list) (map row_of (nodes t))) = sym (length-map list _) ∙ ap (λ (xs : List (Option NatSettings)). length xs) so.rows in
+    let least = length-take (length list) (map row_of (nodes t)) in
+    let count = length-map (nodes t) row_of in
+    omega (arith, same, least, count)
+
+slice_get_end : {A : Type 0} → (xs : List A) (n : ℕ) → slice_get xs n ≡ None → length xs ≤ n
+slice_get_end [] n e = omega arith
+slice_get_end (x ∷ xs) zero e = none_there x (sym e)
+slice_get_end (x ∷ xs) (suc n) e = let h = slice_get_end xs n e in omega (arith, h)
+
+is_first : (list : List (Option NatState)) (k : ℕ) (x : NatState) → AllByRecursion IsFirst list → slice_get list k ≡ Some (Some x) → IsFirst (Some x)
+is_first [] k x all e = none_there (Some x) e
+is_first (y ∷ list) zero x all e = subst IsFirst (some_inj y (Some x) e) all.0
+is_first (y ∷ list) (suc k) x all e = is_first list k x all.1 e
+
+-- all of them
+module _ (t : TopologyState) (list : List (Option NatState)) (none : node_at t (length list) ≡ None) (so : FirstNats t list) where
+  pub first_rows : AreNatsOf t list
+  first_rows =
+      let count = length-map (nodes t) row_of in
+      let end = slice_get_end (nodes t) (length list) none in
+      so.rows ∙ take_all (length list) (map row_of (nodes t)) (omega (arith, count, end))
+
+  pub first_stand : NatsStand t list (λ k. [])
+  first_stand = record { set_up = λ k x at. kept_so t list k x first_rows at; stands = λ k x at. (is_first list k x so.each at).0 }
+
+  pub first_ready : NatsReady 0 list
+  first_ready k x at = let z = (is_first list k x so.each at).1 in omega (arith, z)
+
+-- WHAT IS WRITTEN BACK
+
+-- a list of as many NATs in place of another one
+pub written : (list new : List (Option NatState)) (len : ℕ) → len ≡ length list → set_ups new ≡ set_ups list → take len (new ++ drop (length new) list) ≡ new
+written list new len size same =
+    let f : Option NatState → Option NatSettings = option_map (λ (x : NatState). x.settings) in
+    let as_many : length new ≡ length list = sym (length-map new f) ∙ ap (λ (xs : List (Option NatSettings)). length xs) same ∙ length-map list f in
+    ap (λ (k : ℕ). take k (new ++ drop (length new) list)) (size ∙ sym as_many) ∙ take-append-le (length new) new (drop (length new) list) (omega arith) ∙ take_all (length new) new (omega arith)
+
+pub kept_later : (t : TopologyState) (chain : List Behind) (m : ℕ) (list new : List (Option NatState)) (len : ℕ) → len ≡ length list → set_ups new ≡ set_ups list → is_chain t chain ≡ true → AreNatsOf t list → NatsReady m new
+    → NatsKept t chain m (take len (new ++ drop (length new) list))
+kept_later t chain m list new len size same rules rows ready =
+    subst (λ (x : List (Option NatState)). NatsKept t chain m x) (sym (written list new len size same)) (record { rules = rules; rows = same ∙ rows; ready = ready })

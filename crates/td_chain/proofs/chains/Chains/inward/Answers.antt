@@ -1,0 +1,12 @@
+use Rattle.std.proofs.Common.{◌≡◌, true, sym, subst}
+use Rattle.topology.specs.Named.{is_nat}
+use Rattle.topology.specs.Topology.{node_at}
+use Rattle.td_chain.specs.Chains.{ChainsState}
+use Rattle.td_chain.proofs.ThereLemmas.{nat_there}
+use Rattle.td_chain.proofs.chains.Chains.inward.Goals as goal
+
+pub come_in-requires-clause-there : goal.come_in-requires-clause-there
+come_in-requires-clause-there c =
+    let t = c.self.inside.topology.now in
+    let is : is_nat (node_at t c.args.nat) ≡ true = subst (λ (x : ChainsState). is_nat (node_at x.topology c.args.nat) ≡ true) (sym c.self.view_is) c.requires.nat in
+    rw (c.as_slice-2.ensures.value) (nat_there t c.self.inside.nats.items c.args.nat c.self.invariant.rows is)

@@ -1,0 +1,9 @@
+use Rattle.std.proofs.Common.{map, sym, ◌∙◌}
+use Rattle.td_chain.specs.Nestings.{behind_of}
+use Rattle.td_chain.proofs.ThereLemmas.{nat_there, inner_is_nat}
+use Rattle.td_chain.proofs.entering.+go_in.Goals as goal
+
+pub let_in-further-requires-clause-there : goal.let_in-further-requires-clause-there
+let_in-further-requires-clause-there g c =
+    let t = c.args.all.topology.now in
+    nat_there t c.args.all.nats.now c.in-Some-inner_at.inner c.requires.rows (inner_is_nat t (map behind_of c.args.all.chain.now) c.args.number c.in-Some.inside.ip c.in-Some-inner_at.inner (sym c.inner_at.ensures ∙ c.in-Some-inner_at.is))

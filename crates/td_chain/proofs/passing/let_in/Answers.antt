@@ -1,0 +1,18 @@
+use Rattle.std.proofs.Common.{◌≡◌, ◌<◌, length, Option, Some, refl, sym, ap, ◌∙◌}
+use Rattle.std.specs.Prelude.{slice_get}
+use Rattle.std.proofs.lemmas.Option.{slice_get_within, slice_get_read}
+use Rattle.nat_kinds.specs.declared.settings.NatSettings.{NatSettings}
+use Rattle.nat_kinds.specs.Entering.{lets_in}
+use Rattle.nat_kinds.specs.Nat.{NatState}
+use Rattle.td_chain.proofs.PassLemmas.{is_there}
+use Rattle.td_chain.proofs.passing.let_in.Goals as goal
+
+pub returns : goal.returns
+returns c = λ t h stand.
+    let items = c.args.nats.now in
+    let k = c.args.number in
+    let there = is_there items k c.requires.there in
+    let within : c.from.result < length items = rw (c.from.ensures) (slice_get_within items k (Some there.0) there.1) in
+    let here : slice_get items k ≡ Some (Some c.in-Some.nat) = ap (slice_get items) (sym c.from.ensures) ∙ slice_get_read items (length items) c.from.result c.index-nats-from.result refl within c.index-nats-from.is
+    ∙ ap (λ (o : Option NatState). Some o) c.in-Some.is in
+    c.inward.ensures.answer (h k) (stand.stands k c.in-Some.nat here) ∙ ap (λ (s : NatSettings). lets_in s (h k) c.args.now.0 c.args.src c.args.port) (stand.set_up k c.in-Some.nat here)

@@ -1,0 +1,126 @@
+//! NATs, of which some are behind others.
+ghost use Rattle.std.specs.Prelude.{◌≡◌, ◌≤◌, [], true, None, Some, IfOk, IfErr};
+ghost use Rattle.nat_kinds.specs.History.{Forget, Restart};
+ghost use Rattle.topology.specs.Named.{is_nat};
+ghost use Rattle.topology.specs.Topology.{node_at};
+ghost use Rattle.topology.specs.Chains.{NatPasts, is_inner, chain_in};
+ghost use Rattle.td_chain.specs.declared.chain_fault.ChainFault.TheVariants.{Chain};
+ghost use Rattle.td_chain.specs.ChainText.{chain_asked};
+ghost use Rattle.td_chain.specs.Chains.{StandsFor, CrossesChain, with_nat_entry, inward_of};
+
+use crate::chain_fault::ChainFault;
+use crate::chain_text::read_chain;
+use crate::entering::{Nats, come_in};
+use crate::first_nats::first_nats;
+use crate::forgetting::{forget_at, restart_at};
+use crate::nesting::{Nesting, is_inner};
+use crate::passing::{Leaving, pass_out};
+use crate::way::Way;
+use nat_kinds::{Nat, NatRefusal};
+use std::alloc::Global;
+use std::marker::Model;
+use td_base::{Ep, Millis};
+use topology::Topology;
+
+/// The NATs of a topology, of which some are behind others.
+#[derive(Drop)]
+pub struct Chains<'a> {
+    topology: &'a Topology,
+    chain: Vec<Nesting>,
+    moment: Millis,
+    // by the numbers of nodes
+    nats: Vec<Option<Nat>>,
+}
+
+impl<'a> Model for Chains<'a> {
+    ghost use Rattle.std.specs.Prelude.{map};
+    ghost use Rattle.td_chain.specs.Nestings.{behind_of};
+    ghost use Rattle.td_chain.specs.Chains.{ChainsState, NatsKept};
+
+    ghost Value = { ChainsState };
+
+    ghost view = { λ c. record {
+      topology = c.topology.now;
+      chain = map behind_of c.chain.items;
+      moment = c.moment.0;
+      nats = c.nats.items;
+    } };
+
+    ghost invariant = { λ c. NatsKept c.topology.now (map behind_of c.chain.items) c.moment.0 c.nats.items };
+}
+
+impl<'a> Chains<'a> {
+    /// The NATs at moment 0, of which those are behind others that a text says: `-` for none, or pairs INNER:OUTER of names
+    /// with commas between them.
+    pub fn new(
+        alloc: Global,
+        topology: &'a Topology,
+        chain: &[u8],
+    ) -> Result<Chains<'a>, ChainFault>
+        ensures topology { IfOk result (λ c. c.topology ≡ topology.now) }
+        ensures chain { IfOk result (λ c. chain_asked topology.now chain.now ≡ Some c.chain) }
+        ensures refused { IfErr result (λ why. why ≡ Chain → chain_asked topology.now chain.now ≡ None) }
+        ensures moment { IfOk result (λ c. c.moment ≡ 0) }
+        ensures stands { IfOk result (λ c. StandsFor c (λ k. [])) }
+    {
+        let chain = read_chain(alloc, topology, chain)?;
+        let nats = first_nats(alloc, topology)?;
+        Ok(Chains {
+            topology,
+            chain,
+            moment: Millis(0),
+            nats,
+        })
+    }
+
+    /// The external endpoint that a datagram from `inside` a NAT to `dst` leaves from, past all NATs on its way.
+    pub fn outward(&mut self, now: Millis, nat: u16, inside: Ep, dst: Ep) -> Result<Ep, NatRefusal>
+        requires nat { is_nat (node_at self.old.topology nat) ≡ true }
+        requires clock { self.old.moment ≤ now.0 }
+        ensures goes_out { (h : NatPasts) → StandsFor self.old h → CrossesChain self.old self.new h now.0 nat inside dst result }
+        ensures same { self.new ≡ record self.old { moment = now.0; nats = self.new.nats } }
+    {
+        self.moment = now;
+        let leaving = Leaving { now, dst };
+        pass_out(&mut self.nats, self.chain.as_slice(), nat, leaving, inside)
+    }
+
+    /// Where a datagram from `src` ends that comes to a port of a NAT.
+    pub fn inward(&self, now: Millis, nat: u16, src: Ep, port: u16) -> Way
+        requires nat { is_nat (node_at self.now.topology nat) ≡ true }
+        requires clock { self.now.moment ≤ now.0 }
+        ensures { (h : NatPasts) → StandsFor self.now h → inward_of result ≡ chain_in self.now.topology self.now.chain h now.0 nat src port }
+    {
+        let all = Nats {
+            topology: self.topology,
+            chain: self.chain.as_slice(),
+            nats: self.nats.as_slice(),
+        };
+        come_in(all, now, nat, src, port)
+    }
+
+    /// Whether a NAT is behind another one.
+    pub fn is_inner(&self, nat: u16) -> bool
+        ensures { result ≡ is_inner self.now.chain nat }
+    {
+        is_inner(self.chain.as_slice(), nat)
+    }
+
+    /// Lets a NAT drop the mappings of an inside endpoint. The others stay.
+    pub fn forget(&mut self, nat: u16, inside: Ep)
+        requires nat { is_nat (node_at self.old.topology nat) ≡ true }
+        ensures stands { (h : NatPasts) → StandsFor self.old h → StandsFor self.new (with_nat_entry nat (Forget inside) h) }
+        ensures same { self.new ≡ record self.old { nats = self.new.nats } }
+    {
+        forget_at(&mut self.nats, nat, inside);
+    }
+
+    /// Lets a NAT start anew. The others stay.
+    pub fn restart(&mut self, nat: u16)
+        requires nat { is_nat (node_at self.old.topology nat) ≡ true }
+        ensures stands { (h : NatPasts) → StandsFor self.old h → StandsFor self.new (with_nat_entry nat Restart h) }
+        ensures same { self.new ≡ record self.old { nats = self.new.nats } }
+    {
+        restart_at(&mut self.nats, nat);
+    }
+}

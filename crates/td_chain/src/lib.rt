@@ -1,0 +1,50 @@
+//! NATs behind NATs: which chains may be asked for, and how datagrams pass them.
+//!
+//! # What the layer above may rely on
+//!
+//! - `Chains::new` reads the text of a chain: it holds the chain that the text asks for, or refuses exactly where there is
+//!   none (`specs/ChainText.antt`, `ChainRules.antt`). At first its NATs stand for empty histories.
+//! - `Chains` stand for a history of each NAT (`specs/Chains.antt`). The histories are quantified in each clause, so a caller
+//!   composes calls without looking into `StandsFor`.
+//! - `outward` answers where the datagram leaves its outermost NAT, or the refusal of the first NAT that refuses. Each NAT
+//!   that let it out has that in its history, also where another one refuses.
+//! - Want of memory comes only from `outward`, at a NAT that had a port to give. That NAT and those outside it stay, and
+//!   those inside it have let the datagram out.
+//! - `inward` answers at which NAT the way in ends, and changes nothing. `forget` and `restart` change one NAT.
+//!
+//! # What it does not know
+//!
+//! Who is behind a NAT, and what a datagram holds. How a NAT answers stands in `nat_kinds`; no body here looks into one.
+//!
+//! # Parts
+//!
+//! | module | holds | stated in |
+//! |---|---|---|
+//! | `nesting` | a NAT behind another one; who is behind whom | `specs/Nestings.antt`, `Chains.antt` of `topology` |
+//! | `rules` | which chains may be asked for | `specs/ChainRules.antt` |
+//! | `chain_text`, `chain_fault` | the text of a chain, and its refusal | `specs/ChainText.antt`, `Pairs.antt` |
+//! | `passing` | the way out, NAT by NAT | `specs/Chains.antt`, `Pass.antt` |
+//! | `entering`, `way` | the way in | `specs/Chains.antt` |
+//! | `forgetting` | one NAT forgets | `specs/Chains.antt` |
+//! | `first_nats` | the NATs of a topology before anything happens | |
+//! | `chains` | `Chains` | `specs/Chains.antt` |
+//! | `laws` | what holds of the number | `specs/Numbers.antt` |
+#![tactic(auto)]
+
+mod chain_fault;
+mod chain_text;
+mod chains;
+mod entering;
+mod first_nats;
+mod forgetting;
+mod laws;
+mod nesting;
+mod passing;
+mod rules;
+mod way;
+
+pub use chain_fault::ChainFault;
+pub use chains::Chains;
+pub use laws::chain_numbers;
+pub use rules::WAY_MAX;
+pub use way::Way;
