@@ -17,6 +17,8 @@ use Rattle.origins.specs.Honest.{is_honest, are_honest}
 use Rattle.origins.specs.Live.{IsHeld}
 use Rattle.origins.specs.Throughout.{HasOrigins}
 use Rattle.verdicts.specs.Throughout.{HasRightVerdicts}
+use Rattle.storms.specs.Throughout.{HasNoStorm}
+use Rattle.first_packets.specs.FirstPacket.{FirstPacketArrives}
 
 -- the packets that the latest record hands to a client's host have their origin where their sources say
 abbrev pub OriginsAreTold : Lab → List Full → Type 0
@@ -34,11 +36,21 @@ abbrev pub VerdictsAreRight : Lab → List Full → Type 0
 VerdictsAreRight lab [] = Unit {0}
 VerdictsAreRight lab (r ∷ H) = HasRightVerdicts lab (r ∷ H)
 
+-- where the latest records deliver each an entry for the first time they are few, however many are taken
+abbrev pub DeliveriesAreFew : Lab → List Full → Type 0
+DeliveriesAreFew lab H = (later before : List Full) → H ≡ later ++ before → HasNoStorm lab.topology before later
+
+-- where they are a fresh schedule after a first packet they carry it
+abbrev pub FirstPacketIsCarried : Lab → List Full → Type 0
+FirstPacketIsCarried lab H = (later : List Full) (r : Full) (before : List Full) → H ≡ later ++ r ∷ before → FirstPacketArrives lab before r later
+
 -- of a history, at its latest record
 pub record Kept (lab : Lab) (H : List Full) : Type 0 where
   pub origins : OriginsAreTold lab H
   pub held : are_honest lab.topology H ≡ true → AddressIsHeld lab H
   pub verdicts : VerdictsAreRight lab H
+  pub no_storm : DeliveriesAreFew lab H
+  pub first_packet : FirstPacketIsCarried lab H
 
 -- at each of its records
 abbrev pub KeptThroughout : Lab → List Full → Type 0

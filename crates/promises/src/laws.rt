@@ -8,6 +8,8 @@ pub fn kept()
     origins::histories_have_origins();
     origins::is_held();
     verdicts::histories_have_right_verdicts();
+    storms::histories_have_no_storm();
+    first_packets::histories_carry_first_packets();
 }
 
 /// So has the history of every scenario, as far as it was played; that of an honest one is honest.

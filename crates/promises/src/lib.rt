@@ -10,10 +10,12 @@
 //!   address that a client gets embeds its NAT's address, and a port that the NAT then holds for it (`specs/Kept.antt`;
 //!   the words are those of `origins`).
 //! - In an honest history the verdict of each undisturbed client on its NAT is right (the words are those of `verdicts`).
+//! - Deliveries alone end: at most twelve follow for each undelivered entry and each packet that waits (`storms`).
+//! - The first packet between two settled clients arrives in each schedule that delivers all that it draws (`first_packets`).
 //!
 //! # What it does not know
 //!
-//! How a history is played; NATs behind NATs; whether anything arrives.
+//! How a history is played; NATs behind NATs; whether anything is delivered.
 #![tactic(auto)]
 
 mod laws;

@@ -6,4 +6,6 @@ returns c = keeping.histories (record {
   origins = c.histories_have_origins.ensures;
   held = c.is_held.ensures;
   verdicts = c.histories_have_right_verdicts.ensures;
+  no_storm = c.histories_have_no_storm.ensures;
+  first_packets = c.histories_carry_first_packets.ensures;
 })
