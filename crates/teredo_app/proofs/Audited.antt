@@ -2,7 +2,6 @@
 use Rattle.std.proofs.Common.{◌≡◌, ℕ, ◌<◌, ◌≤◌, List, [], ◌∷◌, ◌++◌, length, Option, Some, None, sym, subst, ap, inl, inr, refl, lit<, arith, length-append}
 use Rattle.std.specs.Prelude.{IfSome}
 use Rattle.td_outside.specs.Causes.{Rose}
-use Rattle.td_outside.specs.Moves.{Gains}
 use Rattle.td_outside.specs.Sink.{SinkState}
 use Rattle.td_outside.specs.Source.{SourceState}
 use Rattle.td_audit.specs.declared.verdict.Verdict.{Verdict}
@@ -11,10 +10,11 @@ use Rattle.player.specs.SinkLines.{WritesLines, BeginsLines, WritesNothing}
 use Rattle.teredo_app.specs.declared.audit_words.AuditWords.{AuditWords}
 use Rattle.teredo_app.specs.declared.audit_line.NoCapture.{NoCapture}
 use Rattle.teredo_app.specs.Outside.{NoFault}
-use Rattle.teredo_app.specs.SourceText.{TakesAtMost, IsTextOf, IsFrontOf}
+use Rattle.teredo_app.specs.SourceText.{IsTextOf, IsFrontOf}
 use Rattle.teredo_app.specs.AuditLine.{verdict_line, no_capture_line, verdict_status}
 use Rattle.teredo_app.specs.Endings.{LineEnds, line_written, line_failed}
 use Rattle.teredo_app.specs.Audit.{Audits, FindsNoCapture, AuditEnds}
+use Rattle.teredo_app.proofs.Opened.{Opened}
 
 -- ---- what was read of a file, and all of it
 
@@ -33,12 +33,7 @@ too_long (Some all) bytes r long = (all, refl, longer all bytes r.content long)
 
 -- ---- the ends
 
--- what an audit does outside, but for what it writes
-pub record Opened (i i' : SourceState) (file : List ℕ) : Type 0 where
-  pub opened : Gains i.openings i'.openings file
-  pub taken : TakesAtMost 100663297 i.taken i'.taken
-
-module _ (i i' : SourceState) (o o' : SinkState) (asked : AuditWords) (file : List ℕ) (from : Opened i i' file) where
+module _ (i i' : SourceState) (o o' : SinkState) (asked : AuditWords) (file : List ℕ) (from : Opened 100663297 i i' file) where
   -- the source failed
   pub unread_ends : Rose i.faults i'.faults → o'.faults ≡ o.faults → WritesNothing o o' → AuditEnds i i' o o' asked file 4
   unread_ends rose same nothing = record {

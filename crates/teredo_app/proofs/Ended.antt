@@ -1,7 +1,6 @@
 -- How a command ends that plays the scenario of a file, by how its last step ended.
 use Rattle.std.proofs.Common.{◌≡◌, ℕ, List, Result, Ok, Err, sym, subst, inl, inr, refl, lit<, arith}
 use Rattle.td_outside.specs.Causes.{Rose}
-use Rattle.td_outside.specs.Moves.{Gains}
 use Rattle.events.specs.Scenario.{Scenario}
 use Rattle.scenario.specs.declared.scenario_fault.ScenarioFault.{ScenarioFault}
 use Rattle.scenario.specs.Refusals.{refusal_line}
@@ -13,16 +12,11 @@ use Rattle.player.specs.Account.{Account}
 use Rattle.player.specs.Endings.{IsPlayed}
 use Rattle.td_outside.specs.Source.{SourceState}
 use Rattle.teredo_app.specs.Outside.{NoFault}
-use Rattle.teredo_app.specs.SourceText.{TakesAtMost}
 use Rattle.teredo_app.specs.Ends.{PlayEnds, Reads}
 use Rattle.teredo_app.specs.Endings.{LineEnds, line_written, line_failed, NotPlayed, not_read, not_kept, not_taken, status_of}
+use Rattle.teredo_app.proofs.Opened.{Opened}
 
--- what a command does outside that plays a file, but for what it writes
-pub record Opened (i i' : SourceState) (file : List ℕ) : Type 0 where
-  pub opened : Gains i.openings i'.openings file
-  pub taken : TakesAtMost 4194305 i.taken i'.taken
-
-module _ (a : Account) (i i' : SourceState) (o o' : SinkState) (file : List ℕ) (from : Opened i i' file) where
+module _ (a : Account) (i i' : SourceState) (o o' : SinkState) (file : List ℕ) (from : Opened 4194305 i i' file) where
   -- the source failed
   unread_ends : Rose i.faults i'.faults → o'.faults ≡ o.faults → WritesNothing o o' → PlayEnds a i i' o o' file 4
   unread_ends rose same nothing = record {

@@ -1,6 +1,7 @@
 pub mod WholeText
 pub mod Commands
 pub mod Shown
+pub mod Opened
 pub mod Ended
 pub mod Sessions
 pub mod Generated

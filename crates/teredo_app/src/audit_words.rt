@@ -15,7 +15,8 @@ pub struct AuditWords {
 /// The server that the words behind `audit` name.
 pub fn audit_words(primary: &str, secondary: &str) -> Option<AuditWords>
     ensures found { IfSome result (λ asked. (file : List ℕ) → AsksToAudit (codes "audit" ∷ primary.now ∷ secondary.now ∷ file ∷ []) asked file) }
-    ensures only { (asked : AuditWords) (file : List ℕ) → AsksToAudit (codes "audit" ∷ primary.now ∷ secondary.now ∷ file ∷ []) asked file → result ≡ Some asked }
+    ensures only { (asked : AuditWords) (file : List ℕ) → AsksToAudit (codes "audit" ∷ primary.now ∷ secondary.now ∷ file ∷ []) asked file
+        → result ≡ Some asked }
 {
     let primary = address(primary)?;
     let secondary = address(secondary)?;

@@ -16,7 +16,8 @@ pub fn qualify_words(
     most: &str,
 ) -> Option<Asked>
     ensures found { IfSome result (λ asked. AsksToQualify (codes "qualify" ∷ inside.now ∷ primary.now ∷ secondary.now ∷ seed.now ∷ most.now ∷ []) asked) }
-    ensures only { (asked : Asked) → AsksToQualify (codes "qualify" ∷ inside.now ∷ primary.now ∷ secondary.now ∷ seed.now ∷ most.now ∷ []) asked → result ≡ Some asked }
+    ensures only { (asked : Asked) → AsksToQualify (codes "qualify" ∷ inside.now ∷ primary.now ∷ secondary.now ∷ seed.now ∷ most.now ∷ []) asked
+        → result ≡ Some asked }
 {
     let inside = address(inside)?;
     let primary = address(primary)?;

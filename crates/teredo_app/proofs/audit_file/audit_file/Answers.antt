@@ -3,17 +3,18 @@ use Rattle.td_audit.specs.declared.verdict.Verdict.{Verdict}
 use Rattle.player.specs.LineLaws.{WritesNothing-refl}
 use Rattle.teredo_app.specs.declared.audit_line.NoCapture.TheVariants.{TooLong, Fault}
 use Rattle.teredo_app.specs.Audit.{Audits, FindsNoCapture}
-use Rattle.teredo_app.proofs.Audited.{Opened, whole_capture, too_long, starved_ends, verdict_ends, no_capture_ends}
+use Rattle.teredo_app.proofs.Opened.{Opened}
+use Rattle.teredo_app.proofs.Audited.{whole_capture, too_long, starved_ends, verdict_ends, no_capture_ends}
 use Rattle.teredo_app.proofs.audit_file.audit_file.Goals as goal
 
 pub returns-in-Err-NoMemory : goal.returns-in-Err-NoMemory
 returns-in-Err-NoMemory g c =
-    let from : Opened _ _ c.args.file.now = record { opened = c.read_named.ensures.asked; taken = c.read_named.ensures.taken } in
+    let from : Opened 100663297 _ _ c.args.file.now = record { opened = c.read_named.ensures.asked; taken = c.read_named.ensures.taken } in
     starved_ends _ _ _ _ c.args.asked.now c.args.file.now from (record { source = c.read_named.ensures.starved (c.in-Err-NoMemory.is ∙ ap Err c.in-Err-NoMemory.field-0-is); sink = refl }) (WritesNothing-refl _)
 
 pub returns-then-len-gt-CAPTURE_MAX : goal.returns-then-len-gt-CAPTURE_MAX
 returns-then-len-gt-CAPTURE_MAX g c =
-    let from : Opened _ _ c.args.file.now = record { opened = c.read_named.ensures.asked; taken = c.read_named.ensures.taken } in
+    let from : Opened 100663297 _ _ c.args.file.now = record { opened = c.read_named.ensures.asked; taken = c.read_named.ensures.taken } in
     let long : 100663296 < length c.in-Ok.bytes.items = omega (arith, c.len.ensures, c.if-len-gt-CAPTURE_MAX.true) in
     let (whole, named, longer) = too_long _ c.in-Ok.bytes.items c.in-Ok.ensures.text long in
     let found : FindsNoCapture _ c.args.file.now TooLong = record { bytes = whole; named = named; is = longer } in
@@ -22,7 +23,7 @@ returns-then-len-gt-CAPTURE_MAX g c =
 
 pub returns-in-Ok-audit : goal.returns-in-Ok-audit
 returns-in-Ok-audit g c =
-    let from : Opened _ _ c.args.file.now = record { opened = c.read_named.ensures.asked; taken = c.read_named.ensures.taken } in
+    let from : Opened 100663297 _ _ c.args.file.now = record { opened = c.read_named.ensures.asked; taken = c.read_named.ensures.taken } in
     let short : length c.in-Ok.bytes.items ≤ 100663296 = omega (arith, c.len.ensures, c.if-len-gt-CAPTURE_MAX.false) in
     let judged = rw c.deref.ensures.value at c.in-Ok-audit.ensures.judged in
     let found : Audits _ c.args.asked.now c.args.file.now c.in-Ok-audit.verdict = record {
@@ -36,7 +37,7 @@ returns-in-Ok-audit g c =
 
 pub returns-in-Err-Capture : goal.returns-in-Err-Capture
 returns-in-Err-Capture g c =
-    let from : Opened _ _ c.args.file.now = record { opened = c.read_named.ensures.asked; taken = c.read_named.ensures.taken } in
+    let from : Opened 100663297 _ _ c.args.file.now = record { opened = c.read_named.ensures.asked; taken = c.read_named.ensures.taken } in
     let short : length c.in-Ok.bytes.items ≤ 100663296 = omega (arith, c.len.ensures, c.if-len-gt-CAPTURE_MAX.false) in
     let fault = rw c.deref.ensures.value at c.in-Err-Capture.ensures.fault in
     let found : FindsNoCapture _ c.args.file.now (Fault c.in-Err-Capture.fault) = record {
@@ -49,5 +50,5 @@ returns-in-Err-Capture g c =
 
 pub returns : goal.returns
 returns g c =
-    let from : Opened _ _ c.args.file.now = record { opened = c.read_named.ensures.asked; taken = c.read_named.ensures.taken } in
+    let from : Opened 100663297 _ _ c.args.file.now = record { opened = c.read_named.ensures.asked; taken = c.read_named.ensures.taken } in
     starved_ends _ _ _ _ c.args.asked.now c.args.file.now from (record { source = c.in-Ok.ensures.quiet; sink = refl }) (WritesNothing-refl _)
