@@ -1,5 +1,5 @@
 -- Histories in which somebody says that he is a server, and a client gets an address that doesn't lead to it.
-use Rattle.std.proofs.Common.{ℕ, ◌==◌, true, false, List, [], ◌∷◌, Option, Some, refl, sym, ap}
+use Rattle.std.proofs.Common.{ℕ, ◌==◌, true, false, List, [], ◌∷◌, Option, refl, sym, ap}
 use Rattle.std.specs.Prelude.{unwrap_or}
 use Rattle.std.proofs.lemmas.Bool.{false≢true}
 use Rattle.td_base.specs.Ip4.{same_ip}

@@ -50,7 +50,6 @@ use Rattle.events.specs.declared.event.Event.TheVariants as event
 use Rattle.events.specs.Scenario.{Scenario}
 use Rattle.native_host.specs.Natives.{native_in, native_out}
 use Rattle.legal.specs.Next.{next}
-use Rattle.td_base.specs.declared.ipv6.Ip6.{Ip6}
 use Rattle.topology.specs.declared.client_node.ClientNode.{ClientNode}
 use Rattle.history.specs.Full.{Full}
 use Rattle.legal.specs.Lab.{flat_lab}
