@@ -75,9 +75,9 @@ Crosses t h m from dst passed way (Err NoMemory) new = LacksMemory t h m from ds
 Crosses t h m from dst passed way result new = ((crossing t h m dst way from passed).leaves ≡ result)
     × NatsStand t new (after_passing (crossing t h m dst way from passed).passed h)
 
--- from behind NAT k
-abbrev pub CrossesChain : ChainsState → ChainsState → NatPasts → ℕ → ℕ → Ep → Ep → Result Ep NatRefusal → Type 0
-CrossesChain old new h m k inside dst result = Crosses old.topology h m inside dst [] (way_out old.chain k) result new.nats
+-- from behind NAT k, where this was let out before
+abbrev pub CrossesChain : ChainsState → ChainsState → NatPasts → List Passing → ℕ → ℕ → Ep → Ep → Result Ep NatRefusal → Type 0
+CrossesChain old new h passed m k inside dst result = Crosses old.topology h m inside dst passed (way_out old.chain k) result new.nats
 
 -- IN
 

@@ -1,9 +1,9 @@
 //! NATs, of which some are behind others.
-ghost use Rattle.std.specs.Prelude.{◌≡◌, ◌≤◌, [], true, None, Some, IfOk, IfErr};
+ghost use Rattle.std.specs.Prelude.{◌≡◌, ◌≤◌, List, [], true, None, Some, IfOk, IfErr};
 ghost use Rattle.nat_kinds.specs.History.{Forget, Restart};
 ghost use Rattle.topology.specs.Named.{is_nat};
 ghost use Rattle.topology.specs.Topology.{node_at};
-ghost use Rattle.topology.specs.Chains.{NatPasts, is_inner, chain_in};
+ghost use Rattle.topology.specs.Chains.{NatPasts, Passing, after_passing, is_inner, chain_in};
 ghost use Rattle.td_chain.specs.declared.chain_fault.ChainFault.TheVariants.{Chain};
 ghost use Rattle.td_chain.specs.ChainText.{chain_asked};
 ghost use Rattle.td_chain.specs.Chains.{StandsFor, CrossesChain, with_nat_entry, inward_of};
@@ -77,7 +77,10 @@ impl<'a> Chains<'a> {
     pub fn outward(&mut self, now: Millis, nat: u16, inside: Ep, dst: Ep) -> Result<Ep, NatRefusal>
         requires nat { is_nat (node_at self.old.topology nat) ≡ true }
         requires clock { self.old.moment ≤ now.0 }
-        ensures goes_out { (h : NatPasts) → StandsFor self.old h → CrossesChain self.old self.new h now.0 nat inside dst result }
+
+        // For histories, and what was let out since: the answer is what becomes of this datagram, past all NATs on its way.
+        ensures goes_out { (h : NatPasts) (passed : List Passing) → StandsFor self.old (after_passing passed h)
+            → CrossesChain self.old self.new h passed now.0 nat inside dst result }
         ensures same { self.new ≡ record self.old { moment = now.0; nats = self.new.nats } }
     {
         self.moment = now;

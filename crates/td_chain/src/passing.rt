@@ -77,8 +77,8 @@ pub fn pass_out(
     requires there { NatIsThere nats.old number }
     requires outer { (k o : ℕ) → outer_in (map behind_of chain.now) k ≡ Some o → NatIsThere nats.old o }
     requires ready { NatsReady leaving.now.0 nats.old }
-    ensures crosses { (t : TopologyState) (h : NatPasts) → NatsStand t nats.old h
-        → Crosses t h leaving.now.0 from leaving.dst [] (way_out (map behind_of chain.now) number) result nats.new }
+    ensures crosses { (t : TopologyState) (h : NatPasts) (passed : List Passing) → NatsStand t nats.old (after_passing passed h)
+        → Crosses t h leaving.now.0 from leaving.dst passed (way_out (map behind_of chain.now) number) result nats.new }
     ensures ready { NatsReady leaving.now.0 nats.new }
     ensures rows { set_ups nats.new ≡ set_ups nats.old }
 {

@@ -1,8 +1,8 @@
-use Rattle.std.proofs.Common.{◌≡◌, true, List, [], map, Option, sym, ap, subst, ◌∙◌}
+use Rattle.std.proofs.Common.{◌≡◌, true, List, map, Option, sym, ap, subst, ◌∙◌}
 use Rattle.topology.specs.Named.{is_nat}
 use Rattle.topology.specs.Topology.{node_at}
 use Rattle.nat_kinds.specs.Nat.{NatState}
-use Rattle.topology.specs.Chains.{way_out}
+use Rattle.topology.specs.Chains.{after_passing, way_out}
 use Rattle.td_chain.specs.declared.nesting.Nesting.{Nesting}
 use Rattle.td_chain.specs.Nestings.{behind_of}
 use Rattle.td_chain.specs.Chains.{ChainsState, NatsStand, set_ups, NatIsThere, Crosses}
@@ -21,15 +21,15 @@ pass_out-requires-clause-outer c =
     rw (c.deref_mut.ensures.value, c.as_slice.ensures.value) (λ k o e. nat_there t c.self.inside.nats.items o c.self.invariant.rows (outer_is_nat t _ k o c.self.invariant.rules e))
 
 pub returns-clause-goes_out : goal.returns-clause-goes_out
-returns-clause-goes_out c = rw (← c.self.view_is) (λ h stand.
+returns-clause-goes_out c = rw (← c.self.view_is) (λ h passed stand.
     let same : set_ups c.pass_out.new.nats ≡ set_ups c.self.inside.nats.items = c.pass_out.ensures.rows ∙ ap (λ (x : List (Option NatState)). set_ups x) c.deref_mut.ensures.value in
     let t = c.self.inside.topology.now in
     let items = c.self.inside.nats.items in
     let way = way_out (map behind_of c.self.inside.chain.items) c.args.nat in
-    let crosses : Crosses t h c.args.now.0 c.args.inside c.args.dst [] way c.pass_out.result c.pass_out.new.nats =
-    subst (λ (chain : List Nesting). Crosses t h c.args.now.0 c.args.inside c.args.dst [] (way_out (map behind_of chain) c.args.nat) c.pass_out.result c.pass_out.new.nats) c.as_slice.ensures.value
-    (c.pass_out.ensures.crosses t h (subst (λ (x : List (Option NatState)). NatsStand t x h) (sym c.deref_mut.ensures.value) stand)) in
-    subst (λ (x : List (Option NatState)). Crosses t h c.args.now.0 c.args.inside c.args.dst [] way c.pass_out.result x) (sym (written items c.pass_out.new.nats c.self.inside.nats.len c.self.inside.nats.ok.0 same)) crosses)
+    let crosses : Crosses t h c.args.now.0 c.args.inside c.args.dst passed way c.pass_out.result c.pass_out.new.nats =
+    subst (λ (chain : List Nesting). Crosses t h c.args.now.0 c.args.inside c.args.dst passed (way_out (map behind_of chain) c.args.nat) c.pass_out.result c.pass_out.new.nats) c.as_slice.ensures.value
+    (c.pass_out.ensures.crosses t h passed (subst (λ (x : List (Option NatState)). NatsStand t x (after_passing passed h)) (sym c.deref_mut.ensures.value) stand)) in
+    subst (λ (x : List (Option NatState)). Crosses t h c.args.now.0 c.args.inside c.args.dst passed way c.pass_out.result x) (sym (written items c.pass_out.new.nats c.self.inside.nats.len c.self.inside.nats.ok.0 same)) crosses)
 
 pub invariant_of-self : goal.invariant_of-self
 invariant_of-self c =
