@@ -1,9 +1,9 @@
 #!/usr/bin/env bash
 # check.sh [PROGRAM]: plays each scenario and shows each datagram with the built program, compares what it writes with
 # the file NAME.stdout beside it, and its exit status with NAME.status (0 where there is no such file). Then plays every
-# pair of NAT kinds and compares with pairs.txt, reads every pair of faults and compares with faults.txt, writes and
-# audits every scenario's capture and compares with captures.txt, makes the examples' datagrams and compares them with
-# the files, and plays what the documents quote.
+# pair of NAT kinds and compares with pairs.txt, and an entry of each weight and compares with storms.txt, reads every
+# pair of faults and compares with faults.txt, writes and audits every scenario's capture and compares with
+# captures.txt, makes the examples' datagrams and compares them with the files, and plays what the documents quote.
 # Ends with the line 'N passed, M failed', and with status 1 where one failed or none was played.
 set -u
 here=$(cd -- "$(dirname -- "${BASH_SOURCE[0]}")" >/dev/null && pwd) || exit 1
@@ -58,6 +58,7 @@ for datagram in datagrams/*.hex; do
   try "$datagram" show "$(cat "$datagram")"
 done
 run pairs.py --check "$program"
+run storms.py --check "$program"
 run faults.py --check "$program"
 run captures.py --check "$program"
 run make.py --check

@@ -1,16 +1,12 @@
--- A delivery to a client lightens.
-use Rattle.std.proofs.Common.{◌≡◌, ◌≤◌, ◌<◌, ℕ, ◌+◌, ◌||◌, not, Bool, true, false, cond, List, [], ◌∷◌, ◌++◌, map, Option, Some, None, refl, sym, ap, subst, ◌∙◌, arith}
-use Rattle.std.specs.Prelude.{sum, sum_by, unwrap_or, is_some, IfSome, option_to_list, option_and_then}
-use Rattle.std.specs.List.{AllByRecursion, list_any}
-use Rattle.std.proofs.lemmas.Bool.{false≢true, and_parts}
-use Rattle.std.proofs.lemmas.List.Sums.{sum_by-cons, sum-map}
+-- What a client makes of a datagram weighs less than the datagram.
+use Rattle.std.proofs.Common.{◌≡◌, ◌≤◌, ◌<◌, ℕ, ◌+◌, Bool, true, false, cond, List, [], ◌∷◌, ◌++◌, map, Option, Some, None, refl, sym, ap, subst, ◌∙◌, arith}
+use Rattle.std.specs.Prelude.{sum_by, unwrap_or, is_some, IfSome, option_to_list}
+use Rattle.std.specs.List.{AllByRecursion}
+use Rattle.std.proofs.lemmas.Bool.{false≢true}
+use Rattle.std.proofs.lemmas.List.Sums.{sum_by-cons}
 use Rattle.byteorder.specs.Endian.{big_bytes}
-use Rattle.td_base.specs.Ip4.{same_ip, same_ip-self}
 use Rattle.td_base.specs.Ip6.{IsIp6}
-use Rattle.td_base.specs.Ep.{same_ep, same_ep-self, same_ep-true, server_ep}
-use Rattle.td_base.specs.Reach.{is_usable}
-use Rattle.td_base.specs.declared.reach.Policy.{Policy}
-use Rattle.td_base.specs.declared.ipv4.Ip4.{Ip4}
+use Rattle.td_base.specs.Ep.{server_ep}
 use Rattle.td_base.specs.declared.ipv6.Ip6.{Ip6}
 use Rattle.td_base.specs.declared.endpoint.Ep.{Ep}
 use Rattle.ipv6_packet.specs.Packets.{Fields, packet_bytes}
@@ -31,7 +27,6 @@ use Rattle.teredo_node.specs.Step.{Send}
 use Rattle.teredo_node.specs.Sends.{send, releases, has_any}
 use Rattle.teredo_node.specs.Words.{nonce_from}
 use Rattle.teredo_node.specs.Journal.{arrived, is_changed, Entry, Journal, Words}
-use Rattle.teredo_node.specs.MadeInputs.{IsMadeInput}
 use Rattle.teredo_node.proofs.FirstLines.{first_of_each}
 use Rattle.peer_list.specs.Mentions.{Mention}
 use Rattle.peer_list.specs.Listed.{touched}
@@ -54,33 +49,23 @@ use Rattle.client_rules.specs.Tries.{direct_bubble, test}
 use Rattle.client_rules.specs.Warrants.{ReceivedOnlyIf, IsForClient, IsIndirect, IsSuspect}
 use Rattle.server_core.specs.Conditions.{is_solicit}
 use Rattle.topology.specs.declared.client_node.ClientNode.{ClientNode}
-use Rattle.topology.specs.declared.server_node.ServerNode.{ServerNode}
-use Rattle.topology.specs.Rows.{TopologyState}
-use Rattle.topology.specs.declared.node.Node.{Node}
-use Rattle.topology.specs.declared.node.Node.TheVariants.{Server as server, Nat as nat, Client as client, Relay as relay, Native as native}
-use Rattle.topology.specs.Topology.{nodes, node_at, as_server, server_at, is_at}
 use Rattle.topology.specs.Rules.{IsTopology}
-use Rattle.topology.specs.NodeRules.{IsClientNode, EachNodeKeepsRules, AddressesAreApart}
-use Rattle.history.specs.Full.{Item, udp, six, Made, Full}
+use Rattle.topology.specs.NodeRules.{EachNodeKeepsRules, AddressesAreApart}
+use Rattle.history.specs.Full.{Item, Made}
 use Rattle.legal.specs.Lab.{Lab}
-use Rattle.legal.specs.Settings.{client_settings, primary_of, secondary_of}
-use Rattle.legal.specs.Past.{journal, words}
+use Rattle.legal.specs.Settings.{client_settings}
 use Rattle.legal.specs.Laws.{EachClientIsJournal}
 use Rattle.legal.specs.OwnSends.{AreOfSends}
 use Rattle.legal.specs.MadeWire.{IsMadeItem, EachHistoryIsMade}
-use Rattle.legal.proofs.MadeWire.{entry_input, client_made}
-use Rattle.storms.specs.Weights.{is_server_at, is_nat_at, is_some_server, datagram_weight, weight_at, entry_weight}
-use Rattle.storms.specs.Burden.{waiting_packets, client_packet, waits_at}
-use Rattle.storms.proofs.Weighed.{weight_least, datagram_least}
-use Rattle.storms.proofs.PeersWait.{PeerLaws, waits_for, waits_in, waiting_is, freed, added, shifts, stays}
-use Rattle.storms.proofs.Places.{first_at, first_is, any_there}
-use Rattle.storms.proofs.Freights.{foreign_weight, indirect_weight}
+use Rattle.storms.specs.Weights.{is_some_server, entry_weight}
+use Rattle.storms.specs.Burden.{client_packet}
+use Rattle.storms.proofs.PeersWait.{PeerLaws, waits_for, waits_in, freed, added, shifts, stays}
 use Rattle.storms.proofs.AtServers.{RowLaws}
 use Rattle.storms.proofs.Addresses.{TurnLaws, own_is_teredo}
 use Rattle.storms.proofs.Sent.{teredo_sent, test_sent, answer_sent}
 use Rattle.storms.proofs.NewItems.{items_in, MayWeigh, sends_weigh}
 use Rattle.storms.proofs.Relays.{packet_read, released_weigh, released_each}
-use Rattle.storms.proofs.Reached.{answer_of, IsReached, NodeLightens}
+use Rattle.storms.proofs.ClientServers.{IsServedBy, own_server, good_origin}
 
 pub record ClientLaws : Type 0 where
   pub apart : AddressesAreApart
@@ -100,49 +85,9 @@ pub record ClientLaws : Type 0 where
   pub carried : MessageIsCarried
   pub back : PacketReadsBack
 
--- THE CLIENT'S SERVER
-
--- it is one of the topology
-pub record IsServedBy (t : TopologyState) (c : ClientNode) : Type 0 where
-  pub row : ServerNode
-  pub node : node_at t c.server ≡ Some (server row)
-  pub primary : (client_settings t c).primary ≡ row.primary
-  pub secondary : (client_settings t c).secondary ≡ row.secondary
-
-served_by : (t : TopologyState) (c : ClientNode) → is_some (server_at t c.server) ≡ true → IsServedBy t c
-served_by t c h = by (node_at t c.server) refl h where
-  by : (o : Option Node) → node_at t c.server ≡ o → is_some (option_and_then as_server o) ≡ true → IsServedBy t c
-  by None e g = absurd (false≢true g)
-  by (Some (server a)) e g = record { row = a; node = e; primary = ap (λ (o : Option Node). primary_of (option_and_then as_server o)) e; secondary = ap (λ (o : Option Node). secondary_of (option_and_then as_server o)) e }
-  by (Some (nat a)) e g = absurd (false≢true g)
-  by (Some (client a)) e g = absurd (false≢true g)
-  by (Some (relay a)) e g = absurd (false≢true g)
-  by (Some (native a)) e g = absurd (false≢true g)
-
-from_server_is : (t : TopologyState) (c : ClientNode) (from : Ep) → IsServedBy t c → reception.is_from_server (client_settings t c) from ≡ true → is_some_server t from ≡ true
-unfolding reception.is_from_server
-from_server_is t c from s h =
-    any_there (is_server_at from) (nodes t) c.server (server s.row) s.node
-    (ap (λ (ip : Ip4). same_ep from (server_ep ip) || same_ep from (server_ep s.row.secondary)) (sym s.primary)
-    ∙ ap (λ (ip : Ip4). same_ep from (server_ep (client_settings t c).primary) || same_ep from (server_ep ip)) (sym s.secondary) ∙ h)
-
--- its primary endpoint is the server's
-own_server : AddressesAreApart → (t : TopologyState) (c : ClientNode) → IsTopology t → (s : IsServedBy t c) → first_at t (server_ep (client_settings t c).primary) ≡ Some (server s.row)
-own_server apart t c is s =
-    ap (λ (ip : Ip4). first_at t (server_ep ip)) s.primary
-    ∙ first_is apart t (server_ep s.row.primary) c.server (server s.row) is s.node (ap (λ (b : Bool). b || same_ep (server_ep s.row.primary) (server_ep s.row.secondary)) (same_ep-self (server_ep s.row.primary)))
-
--- a good origin is there, and a Teredo source embeds it
-good_origin : (policy : Policy) (p : Ip6) (o : Option Ep) → reception.is_good_origin policy p o ≡ true → (to : Ep) × (o ≡ Some to) × (is_teredo p ≡ true → to ≡ embedded p)
-good_origin policy p None h = absurd (false≢true h)
-good_origin policy p (Some to) h = (to, refl, λ teredo. same_ep-true to (embedded p) (embeds (is_teredo p) (same_ep to (embedded p)) teredo (and_parts (is_usable policy to) (not (is_teredo p) || same_ep to (embedded p)) h).1)) where
-  embeds : (b c : Bool) → b ≡ true → (not b || c) ≡ true → c ≡ true
-  embeds true c e g = g
-  embeds false c e g = absurd (false≢true e)
-
 -- WHAT WAITS
 
-abbrev mentions_after : Entry → List Mention → List Mention
+abbrev pub mentions_after : Entry → List Mention → List Mention
 mentions_after e j = cond (is_changed e.step.fate) [] (mention e ∷ j)
 
 nothing_waits : (m : ℕ) → waits_in client_packet [] m ≡ 0
@@ -170,7 +115,7 @@ module _ (laws : ClientLaws) (lab : Lab) (c : ClientNode) (m : ℕ) (j : Journal
   none_made (x ∷ xs) (y ∷ ys) are e = absurd (false≢true (sym (ap (λ (zs : List Send). has_any zs) e)))
 
   -- nothing is sent, and no more waits
-  calm : (e : Entry) (heavy : ℕ) → 1 ≤ heavy → e.step.sends ≡ [] → (mention e).bearing.touches ≡ false → (mention e).bearing.hears ≡ false → (mention e).bearing.queues ≡ None → IsLight e heavy
+  pub calm : (e : Entry) (heavy : ℕ) → 1 ≤ heavy → e.step.sends ≡ [] → (mention e).bearing.touches ≡ false → (mention e).bearing.hears ≡ false → (mention e).bearing.queues ≡ None → IsLight e heavy
   calm e heavy least none touches hears queues made are fresh =
       let new = none_made made e.step.sends are none in
       let less = by (is_changed e.step.fate) in
@@ -439,67 +384,3 @@ module _ (laws : ClientLaws) (lab : Lab) (c : ClientNode) (m : ℕ) (j : Journal
       pub datagram_lightens : IsLight (client_in s j m src x w) heavy
       unfolding client_in reception.reception reception.reception_fate
       datagram_lightens = each_fate (laws.received s a src x)
-
--- WHAT THE ENTRY WEIGHS
-
-heavy_by : (laws : ClientLaws) (lab : Lab) (c : ClientNode) (m : ℕ) (j : Journal) (w : Words) (is_j : IsJournal (client_settings lab.topology c) j) (src dst : Ep) (x : List ℕ) → list_any (is_nat_at dst) (nodes lab.topology) ≡ true → IsServedBy lab.topology c
-    → IsHeavy laws lab c m j w is_j src x (datagram_weight lab.topology src dst x) (datagram_least lab.topology src dst x)
-unfolding reception.seen
-heavy_by laws lab c m j w is_j src dst x to_nat served = record {
-  indirect = λ h o told. indirect_weight lab.topology src dst x o to_nat h.mine.sound.payload (from_server_is lab.topology c src served h.server) h.bubble told;
-  suspect = λ full h. foreign_weight lab.topology src dst x to_nat h.direct.mine.sound.payload h.global h.native h.no_bubble h.no_reply;
-}
-
--- THE RECORD
-
--- what waits in the client, as the journal's mentions have it
-waits_as : PeerLaws → (j : List Entry) (m : ℕ) → sum (map client_packet (waiting_packets (mentions j) m)) ≡ waits_in client_packet (mentions j) m
-waits_as laws j m = sum-map client_packet (waiting_packets (mentions j) m) ∙ waiting_is client_packet laws (mentions j) m
-
--- whom a datagram is about
-peer_came : (s : Settings) (j : Journal) (m : ℕ) (from : Ep) (x : List ℕ) (w : Words) → (client_in s j m from x w).peer ≡ source_in x
-unfolding client_in
-peer_came s j m from x w = refl
-
-module _ (laws : ClientLaws) (lab : Lab) (H : List Full) (r : Full) (n : ℕ) (c : ClientNode) where
-  abbrev did : Item → Entry
-  did x = answer_of lab H r n (client c) x
-
-  waits_after : (x : Item) → IsReached lab H r n (client c) x → sum (waits_at (r ∷ H) n (client c)) ≡ waits_in client_packet (mentions_after (did x) (mentions (journal n H).entries)) r.moment
-  waits_after x h =
-      ap (λ (z : Journal). sum (map client_packet (waiting_packets (mentions z.entries) r.moment))) h.later ∙ waits_as laws.peers (did x ∷ (journal n H).entries) r.moment
-      ∙ ap (λ (z : List Mention). waits_in client_packet z r.moment) (laws.next (did x) (journal n H).entries)
-
-  waits_before : (x : Item) → IsReached lab H r n (client c) x → sum (waits_at H n (client c)) ≡ waits_in client_packet (mentions (journal n H).entries) r.moment
-  waits_before x h = ap (λ (k : ℕ). sum (map client_packet (waiting_packets (mentions (journal n H).entries) k))) (sym h.moment) ∙ waits_as laws.peers (journal n H).entries r.moment
-
-  light : (x : Item) → IsReached lab H r n (client c) x → (heavy : ℕ) → heavy ≤ entry_weight lab.topology x
-      → ((made : List Made) → AreOfSends made (did x).step.sends → AllByRecursion IsMadeItem (items_in made)
-      → sum_by (entry_weight lab.topology) (items_in made) + waits_in client_packet (mentions_after (did x) (mentions (journal n H).entries)) r.moment < heavy + waits_in client_packet (mentions (journal n H).entries) r.moment)
-      → NodeLightens lab H r n (client c) x
-  light x h heavy weighs less =
-      let one = less r.made h.own h.fresh in
-      let new = waits_after x h in
-      let old = waits_before x h in
-      omega (arith, one, new, old, weighs)
-
-  pub client_lightens : (x : Item) → IsReached lab H r n (client c) x → NodeLightens lab H r n (client c) x
-  client_lightens (six None bytes) h = absurd h.goes
-  client_lightens (six (Some k) bytes) h =
-      let j = (laws.journals lab H n c h.grown.1 h.there).journal in
-      light (six (Some k) bytes) h (entry_weight lab.topology (six (Some k) bytes)) (omega arith)
-      (calm laws lab c r.moment (journal n H) (words lab n H) j (did (six (Some k) bytes)) (entry_weight lab.topology (six (Some k) bytes)) (weight_least lab.topology (six (Some k) bytes)) refl refl refl refl)
-  client_lightens (udp src dst bytes) h =
-      let t : TopologyState = lab.topology in
-      let keeps : IsClientNode t c = laws.rules t n (client c) h.is h.there in
-      let served = served_by t c keeps.rules.asks in
-      let j = (laws.journals lab H n c h.grown.1 h.there).journal in
-      let after = subst (IsJournal (client_settings t c)) h.later (laws.journals lab (r ∷ H) n c h.grown h.there).journal in
-      let before = (laws.histories lab H h.is h.grown.1).journals n in
-      let standing = laws.standing (client_settings t c) (journal n H) (did (udp src dst bytes)) after (client_made laws.rules t n c h.is h.there) (subst IsMadeInput (sym (entry_input lab H r.moment n dst (arrived src bytes) (client c))) (h.came.source, h.came.bytes)) before in
-      let there : is_at dst (nat h.goes.row) ≡ true = ap (λ (ip : Ip4). same_ip ip h.goes.row.external) h.goes.external ∙ same_ip-self h.goes.row.external in
-      let first = ap (weight_at t src dst bytes) (first_is laws.apart t dst h.goes.outer (nat h.goes.row) h.is h.goes.there there) in
-      let to_nat = any_there (is_nat_at dst) (nodes t) h.goes.outer (nat h.goes.row) h.goes.there there in
-      light (udp src dst bytes) h (datagram_weight t src dst bytes) (omega (arith, first))
-      (datagram_lightens laws lab c r.moment (journal n H) (words lab n H) j src bytes (datagram_weight t src dst bytes) (datagram_least t src dst bytes)
-      (heavy_by laws lab c r.moment (journal n H) (words lab n H) j src dst bytes to_nat served) standing.address (subst (λ (o : Option Ip6). IfSome o IsIp6) (peer_came (client_settings t c) (journal n H) r.moment src bytes (words lab n H)) standing.peer) h.is served)

@@ -16,5 +16,8 @@ mod Reached
 mod ServersLighten
 mod Relays
 mod RelaysLighten
+mod RelaysReached
+mod ClientServers
 mod ClientsLighten
+mod ClientsReached
 mod Lightens

@@ -34,8 +34,10 @@ use Rattle.storms.proofs.FromServers.{FromLaws}
 use Rattle.storms.proofs.Natives.{ReplyLaws}
 use Rattle.storms.proofs.Reached.{IsReached, NodeLightens, at_place, behind_all}
 use Rattle.storms.proofs.ServersLighten.{server_lightens, nat_lightens, native_lightens}
-use Rattle.storms.proofs.RelaysLighten.{RelayLaws, relay_lightens}
-use Rattle.storms.proofs.ClientsLighten.{ClientLaws, client_lightens}
+use Rattle.storms.proofs.RelaysLighten.{RelayLaws}
+use Rattle.storms.proofs.RelaysReached.{relay_lightens}
+use Rattle.storms.proofs.ClientsLighten.{ClientLaws}
+use Rattle.storms.proofs.ClientsReached.{client_lightens}
 
 pub record StormLaws : Type 0 where
   pub kinds : KindLaw
