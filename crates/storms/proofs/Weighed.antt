@@ -18,6 +18,7 @@ use Rattle.teredo_addr.specs.Teredo.{is_teredo}
 use Rattle.td_base.specs.Reach.{is_global6}
 use Rattle.client_rules.specs.Bearings as client_bearings
 use Rattle.relay_rules.specs.Bearings as relay_bearings
+use Rattle.topology.specs.declared.server_node.ServerNode.{ServerNode}
 use Rattle.topology.specs.Rows.{TopologyState}
 use Rattle.topology.specs.declared.node.Node.{Node}
 use Rattle.topology.specs.declared.node.Node.TheVariants.{Server as server, Nat as nat, Client as client, Relay as relay, Native as native}
@@ -61,12 +62,15 @@ output_most t a x (s ∷ []) None h = let most = send_most t a s in omega (arith
 output_most t a x (s ∷ []) (Some span) h = absurd (omega (arith, h))
 output_most t a x (s ∷ z ∷ more) o h = absurd (omega (arith, h))
 
-at_most : OneOutput → (t : TopologyState) (src dst : Ep) (x : List ℕ) (o : Option Node) → weight_at t src dst x o ≤ 12
-at_most law t src dst x None = let most = datagram_most t src dst x in omega (arith, most)
-at_most law t src dst x (Some (server a)) =
+pub served_most : OneOutput → (t : TopologyState) (src dst : Ep) (x : List ℕ) (a : ServerNode) → weight_at t src dst x (Some (server a)) ≤ 9
+served_most law t src dst x a =
     let step : Step = server_row (server_settings a) (side_at (server a) dst) src x in
     let most = output_most t (server a) x step.sends step.six (law (server_settings a) (side_at (server a) dst) src x) in
     omega (arith, most)
+
+at_most : OneOutput → (t : TopologyState) (src dst : Ep) (x : List ℕ) (o : Option Node) → weight_at t src dst x o ≤ 12
+at_most law t src dst x None = let most = datagram_most t src dst x in omega (arith, most)
+at_most law t src dst x (Some (server a)) = let most = served_most law t src dst x a in omega (arith, most)
 at_most law t src dst x (Some (nat a)) = let most = datagram_most t src dst x in omega (arith, most)
 at_most law t src dst x (Some (client a)) = let most = datagram_most t src dst x in omega (arith, most)
 at_most law t src dst x (Some (relay a)) = let most = datagram_most t src dst x in omega (arith, most)

@@ -1,11 +1,14 @@
 -- How heavy an entry can be, and what a delivery does to what is undelivered, whatever an entry weighs.
 use Rattle.std.specs.Prelude.{◌≡◌, ◌≤◌, ◌+◌, ℕ, false, List, ◌∷◌, sum_by, slice_get, Some}
+use Rattle.td_base.specs.declared.endpoint.Ep.{Ep}
+use Rattle.topology.specs.declared.server_node.ServerNode.{ServerNode}
+use Rattle.topology.specs.declared.node.Node.TheVariants.{Server as server}
 use Rattle.topology.specs.Rows.{TopologyState}
 use Rattle.history.specs.Full.{Item, Full, wire, items_of}
 use Rattle.legal.specs.Lab.{Lab}
 use Rattle.legal.specs.Past.{was_delivered}
 use Rattle.legal.specs.Legal.{Grown}
-use Rattle.storms.specs.Weights.{entry_weight, WEIGHT_MAX}
+use Rattle.storms.specs.Weights.{weight_at, entry_weight, WEIGHT_MAX, SERVED_WEIGHT_MAX}
 use Rattle.storms.specs.Burden.{undelivered_items, burden, burden_most}
 
 -- an entry weighs 1 at least, itself, and 12 at most
@@ -16,7 +19,11 @@ pub record IsWeighed (t : TopologyState) (x : Item) : Type 0 where
 abbrev pub EachIsWeighed : Type 0
 EachIsWeighed = (t : TopologyState) (x : Item) → IsWeighed t x
 
--- and so does a packet that waits
+-- a datagram that comes to a server 9 at most: itself, and what the server makes of it
+abbrev pub EachServedIsWeighed : Type 0
+EachServedIsWeighed = (t : TopologyState) (src dst : Ep) (x : List ℕ) (a : ServerNode) → weight_at t src dst x (Some (server a)) ≤ SERVED_WEIGHT_MAX
+
+-- all together no more than 12 each, and a packet that waits no more either
 abbrev pub BurdenIsBounded : Type 0
 BurdenIsBounded = (t : TopologyState) (H : List Full) → burden t H ≤ burden_most t H
 

@@ -31,6 +31,10 @@ use Rattle.legal.specs.Settings.{server_settings}
 abbrev pub WEIGHT_MAX : ℕ
 WEIGHT_MAX = 12
 
+-- and none of a datagram to a server
+abbrev pub SERVED_WEIGHT_MAX : ℕ
+SERVED_WEIGHT_MAX = 9
+
 -- WHOSE AN ENDPOINT IS
 
 abbrev pub is_server_at : Ep → Node → Bool

@@ -1,11 +1,18 @@
 //! Laws of every history.
-ghost use Rattle.storms.specs.Loads.{EachIsWeighed, BurdenIsBounded, DeliveryExchanges};
+ghost use Rattle.storms.specs.Loads.{EachIsWeighed, EachServedIsWeighed, BurdenIsBounded, DeliveryExchanges};
 ghost use Rattle.storms.specs.Deliveries.{EachLightens, EachStormEnds, SettleDeliversNew, EachSettlingEnds};
 ghost use Rattle.storms.specs.Throughout.{HistoriesHaveNoStorm, ScenariosHaveNoStorm};
 
 /// Each entry weighs 1 at least, and 12 at most.
 pub fn each_is_weighed()
     ensures { EachIsWeighed }
+{
+    server_core::one_output();
+}
+
+/// A datagram that comes to a server weighs 9 at most.
+pub fn served_is_weighed()
+    ensures { EachServedIsWeighed }
 {
     server_core::one_output();
 }

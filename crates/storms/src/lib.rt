@@ -28,5 +28,6 @@ mod laws;
 
 pub use laws::{
     burden_is_bounded, deliveries_end, delivery_exchanges, each_is_weighed, each_lightens,
-    histories_have_no_storm, scenarios_have_no_storm, settle_delivers_new, settling_ends,
+    histories_have_no_storm, scenarios_have_no_storm, served_is_weighed, settle_delivers_new,
+    settling_ends,
 };
