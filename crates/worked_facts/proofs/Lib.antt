@@ -6,3 +6,5 @@ pub mod OriginFacts
 pub mod DishonestFacts
 mod StormViews
 mod StormFacts
+mod FirstPacketViews
+mod FirstPacketFacts

@@ -9,4 +9,5 @@
 //! | `DishonestFacts` | somebody says that he is a server, and a client's NAT doesn't hold what its address embeds |
 //! | `OriginViews` | the words of these |
 //! | `StormFacts` | what can follow and what does; more deliveries than that with a tick between, or an entry delivered again |
+//! | `FirstPacketFacts` | a first packet that arrives, and for premises of its arrival a history without one, in which it doesn't |
 #![tactic(auto)]
