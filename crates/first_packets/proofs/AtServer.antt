@@ -59,6 +59,7 @@ module _ (laws : PacketLaws) (p : Pair) (is : IsPair p) where
   abbrev v : Value
   v = value_written None None (bubble_of own other)
 
+  -- the bubble reads back
   pub reads : ReadsBubble own other (bubble_bytes own other)
   reads = laws.bubble own other is.sender.address.of.sixteen is.receiver.address.of.sixteen
 
@@ -78,16 +79,20 @@ module _ (laws : PacketLaws) (p : Pair) (is : IsPair p) where
   unfolding is_ill_formed
   formed = refl
 
+  -- an address that is neither of the server's
   not_own : (ip : Ip4) → same_ip ip row.primary ≡ false → same_ip ip row.secondary ≡ false → is_own s ip ≡ false
   unfolding is_own
   not_own ip first second = neither (same_ip ip row.primary) (same_ip ip row.secondary) first second
 
+  -- the server keeps the rules
   keeps : IsServerNode row
   keeps = laws.ends.rules p.t p.b.c.server (server row) is.rules is.receiver.server_is
 
+  -- its endpoint is made
   server_made : IsEp (server_ep row.primary)
   server_made = (keeps.primary.made, omega arith)
 
+  -- the bubble isn't for the server itself
   not_for_server : is_for_server s v.packet ≡ false
   unfolding is_for_server
   not_for_server = refused (same_ip6 other (own_address s)) (λ h.
@@ -97,6 +102,7 @@ module _ (laws : PacketLaws) (p : Pair) (is : IsPair p) where
   unfolding is_solicitation
   no_solicitation = ap (λ (b : Bool). b && same_ip6 other ALL_ROUTERS && is_solicit (message_in v.packet)) is.sender.address.of.not_link
 
+  -- its source says where it came from
   unforged : is_forged (embedded own) v.packet ≡ false
   unfolding is_forged
   unforged = right_fails (is_teredo own) (not (same_ep (embedded own) (embedded own))) (not_so (same_ep (embedded own) (embedded own)) (same_ep-self (embedded own)))
@@ -105,20 +111,24 @@ module _ (laws : PacketLaws) (p : Pair) (is : IsPair p) where
   unfolding is_not_ours
   ours = left_fails (not (is_teredo own)) (not (is_for_client s v.packet)) (not_so (is_teredo own) is.sender.address.of.teredo)
 
+  -- its destination can be used
   usable_dest : is_unusable s v.packet ≡ false
   unfolding is_unusable
   usable_dest = right_fails (is_teredo other) (not (is_usable Strict (embedded other))) (not_so (is_usable Strict (embedded other)) is.receiver.usable)
 
+  -- and isn't the server's own endpoint
   unlooped : is_looped s v.packet ≡ false
   unfolding is_looped
   unlooped = right_fails (is_teredo other) (is_own s (embedded other).ip) (not_own (embedded other).ip
       (no_server_address laws.ends.apart p.t is.rules p.b p.b is.receiver is.receiver) (no_server_second laws.ends.apart p.t is.rules p.b p.b is.receiver is.receiver))
 
+  -- it is for a client of the server
   for_client : is_for_client s v.packet ≡ true
   unfolding is_for_client
   for_client = both_hold (is_teredo other) (same_ip (server_in other) row.primary) is.receiver.address.of.teredo
       (ap (λ (ip : Ip4). same_ip ip row.primary) (is.receiver.address.of.server_is ∙ is.receiver.primary) ∙ same_ip-self row.primary)
 
+  -- so all lines but one are passed
   for_own_client : IsForOwnClient (seen s (embedded own) v)
   for_own_client = record {
     unkeyed = unkeyed;
@@ -140,9 +150,11 @@ module _ (laws : PacketLaws) (p : Pair) (is : IsPair p) where
   abbrev pub passed_on : List ℕ
   passed_on = forwarded (Some (embedded own)) (bubble_bytes own other)
 
+  -- what the server does
   abbrev step : Step
   step = sends_one fate.ForwardOrigin Primary (embedded other) passed_on
 
+  -- by its table
   row_is : (dst : Ep) → server_row s (side_at (server row) dst) (embedded own) (bubble_bytes own other) ≡ step
   row_is dst = goes_to_client s (side_at (server row) dst) (embedded own) (bubble_bytes own other) v reads.payload.read for_own_client
 

@@ -20,6 +20,7 @@ abbrev pub is_open : ℕ → Bool
 is_open zero = false
 is_open (suc k) = true
 
+-- one for an open direct bubble
 abbrev pub bit : Bool → ℕ
 bit true = 1
 bit false = 0
@@ -40,6 +41,7 @@ module _ (p : Pair) (before : List Full) (r : Full) (total : ℕ) where
     pub bubble : direct ≡ true → At (after later) r.first (embedded p.a.own) (embedded p.b.own) (bubble_bytes p.a.own p.b.own)
     pub sum : length later + (bit direct + k) ≡ total
 
+  -- what is delivered is on the wire
   is_in : (H : List Full) (q : Full) (k : ℕ) → Delivery (lab_in p) H q k → k < length (wire H)
   is_in H q k (to_node n x a at goes there calm did) = slice_get_within (wire H) k x at
   is_in H q k (to_nobody x at none calm made moment stay) = slice_get_within (wire H) k x at
@@ -115,6 +117,7 @@ module _ (p : Pair) (before : List Full) (r : Full) (total : ℕ) where
   boards laws is [] g fresh board = board
   boards laws is (q ∷ later) g fresh board = next_board laws is later (boards laws is later g.1 fresh.1 board) q fresh.0 g.0
 
+  -- so there are no more deliveries than that
   pub few : (later : List Full) → Board later → length later ≤ total
   few later board = let sum = board.sum in omega (arith, sum)
 

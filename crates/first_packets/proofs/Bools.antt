@@ -7,6 +7,7 @@ use Rattle.teredo_node.specs.Rows.{first_line}
 pub same_number : (n : ℕ) → (n == n) ≡ true
 same_number n = grind (arith, nat_tests)
 
+-- both hold not where one fails
 pub left_fails : (b c : Bool) → b ≡ false → (b && c) ≡ false
 left_fails b c e = ap (λ (z : Bool). z && c) e
 
@@ -14,10 +15,12 @@ pub right_fails : (b c : Bool) → c ≡ false → (b && c) ≡ false
 right_fails true c e = e
 right_fails false c e = refl
 
+-- both hold
 pub both_hold : (b c : Bool) → b ≡ true → c ≡ true → (b && c) ≡ true
 both_hold true c e f = f
 both_hold false c e f = absurd (false≢true e)
 
+-- neither holds
 pub neither : (b c : Bool) → b ≡ false → c ≡ false → (b || c) ≡ false
 neither false c e f = f
 neither true c e f = absurd (false≢true (sym e))
@@ -25,6 +28,7 @@ neither true c e f = absurd (false≢true (sym e))
 pub left_holds : (b c : Bool) → b ≡ true → (b || c) ≡ true
 left_holds b c e = ap (λ (z : Bool). z || c) e
 
+-- what can't hold fails
 pub refused : (b : Bool) → (b ≡ true → ⊥) → b ≡ false
 refused true f = absurd (f refl)
 refused false f = refl

@@ -17,6 +17,7 @@ pub record AreOpen (first last : ℕ) (first_open last_open : Bool) (later : Lis
 delivers_it : (i k : ℕ) (q : Full) (later : List Full) → q.delivered ≡ Some k → was_delivered i (q ∷ later) ≡ ((k == i) || was_delivered i later)
 delivers_it i k q later by = ap (λ (o : Option ℕ). is_number i o || was_delivered i later) by
 
+-- an entry that is undelivered stays so where another one is delivered
 another : (i k : ℕ) (q : Full) (later : List Full) → q.delivered ≡ Some k → (k ≡ i → ⊥) → was_delivered i later ≡ false → was_delivered i (q ∷ later) ≡ false
 another i k q later by other still = delivers_it i k q later by ∙ with_test (k == i) refl where
   with_test : (b : Bool) → (k == i) ≡ b → (b || was_delivered i later) ≡ false

@@ -37,6 +37,7 @@ module _ (lab : Lab) (H : List Full) (ev : Numbered) (w : Act) (number : Option 
   abbrev e : Entry
   e = entry_of lab H (now H) n dst input a
 
+  -- it is what the node did
   did : (q : Full) → is_restart w ≡ false → q ≡ acts lab H ev w number (now H) n dst input a → Did lab H q n a e
   did q still is = subst (λ (z : Full). Did lab H z n a e) (sym is) (record {
     node = refl;
@@ -52,6 +53,7 @@ module _ (lab : Lab) (H : List Full) (ev : Numbered) (w : Act) (number : Option 
 
 -- DELIVERIES
 
+-- a delivery starts no NAT anew
 delivers_calm : (H : List Full) (ev : Event) (number : ℕ) → Delivers H ev number → is_calm ev ≡ true
 delivers_calm H (event.Restart node) number d = absurd d
 delivers_calm H (event.Forget n who) number d = absurd d
@@ -79,12 +81,15 @@ same_journals H q none still n =
     ∙ ap (λ (o : Option Entry). cond (is_node n q.node) (with_entries (journal n H) o) (journal n H)) none
     ∙ both (is_node n q.node) (journal n H)
 
+-- a record that delivers nothing is none of these
 undelivered : {A : Type 0} → (q : Full) (number : ℕ) → q.delivered ≡ None → q.delivered ≡ Some number → A
 undelivered q number none by = absurd (false≢true (ap (λ (o : Option ℕ). is_some o) (sym none ∙ by)))
 
+-- a record delivers one entry
 same_entry : (H : List Full) (q : Full) (k number : ℕ) (x : Item) → q.delivered ≡ Some k → q.delivered ≡ Some number → slice_get (wire H) k ≡ Some x → slice_get (wire H) number ≡ Some x
 same_entry H q k number x is by at = ap (slice_get (wire H)) (ap (λ (o : Option ℕ). unwrap_or o k) (sym by ∙ is)) ∙ at
 
+-- where no node is given anything
 of_quiet : (lab : Lab) (H : List Full) (q : Full) (number : ℕ) → Quiet lab H q → q.entry ≡ None → q.made ≡ [] → q.delivered ≡ Some number → Delivery lab H q number
 of_quiet lab H q number (kinds.passed ms asked before is) none made by = undelivered q number (ap (λ (z : Full). z.delivered) is) by
 of_quiet lab H q number (shut k j x delivers at goes is) none made by = to_nobody x (same_entry H q k number x (ap (λ (z : Full). z.delivered) is) by at)
@@ -100,6 +105,7 @@ of_quiet lab H q number (restarted n asked is) none made by = undelivered q numb
 of_quiet lab H q number (forgot n who asked is) none made by = undelivered q number (ap (λ (z : Full). z.delivered) is) by
 of_quiet lab H q number (faulted send asked is) none made by = undelivered q number (ap (λ (z : Full). z.delivered) is) by
 
+-- any record that delivers
 pub delivery : (lab : Lab) (H : List Full) (q : Full) (number : ℕ) → Kind lab H q → q.delivered ≡ Some number → Delivery lab H q number
 delivery lab H q number (quiet entry address made passed why) by = of_quiet lab H q number why entry made by
 delivery lab H q number (put src dst bytes asked is) by = undelivered q number (ap (λ (z : Full). z.delivered) is) by
@@ -119,6 +125,7 @@ pub record Handing (lab : Lab) (H : List Full) (r : Full) (n : ℕ) (x : List �
   pub calm : is_calm r.asked ≡ true
   pub did : Did lab H r n node (entry_of lab H (now H) n no_ep (given x) node)
 
+-- nor does a packet of a host
 hands_calm : (lab : Lab) (H : List Full) (ev : Event) (v : Verb) (n : ℕ) (x : List ℕ) → Hands lab H ev v n x → is_calm ev ≡ true
 hands_calm lab H (event.Restart node) v n x h = absurd h
 hands_calm lab H (event.Forget k who) v n x h = absurd h
@@ -144,6 +151,7 @@ module _ (r : Full) (e : Entry) (x : List ℕ) (did_it : r.entry ≡ Some e) (wa
   input_is : (f : Entry) (input : Input) → r.entry ≡ Some f → f.input ≡ input → given x ≡ input
   input_is f input is same = sym was ∙ ap (λ (o : Option Entry). (unwrap_or o e).input) (sym did_it ∙ is) ∙ same
 
+  -- the record in which a host hands in a packet
   pub handing : (lab : Lab) (H : List Full) (n : ℕ) → Kind lab H r → r.node ≡ Some n → Handing lab H r n x
   handing lab H n (quiet entry address made passed why) node = nothing entry
   handing lab H n (put src dst bytes asked is) node = nothing (ap (λ (z : Full). z.entry) is)

@@ -53,6 +53,7 @@ use Rattle.first_packets.proofs.Ways.{CountingHolds, Way, Holds, held_port}
 
 -- NODES BY THEIR NUMBERS
 
+-- a client by its number
 pub client_there : (t : TopologyState) (n : ℕ) (c : ClientNode) → client_at t n ≡ Some c → node_at t n ≡ Some (client c)
 client_there t n c h = by (node_at t n) h where
   by : (o : Option Node) → option_and_then as_client o ≡ Some c → o ≡ Some (client c)
@@ -63,6 +64,7 @@ client_there t n c h = by (node_at t n) h where
   by (Some (relay a)) e = absurd (false≢true (ap (λ (z : Option ClientNode). is_some z) e))
   by (Some (native a)) e = absurd (false≢true (ap (λ (z : Option ClientNode). is_some z) e))
 
+-- a NAT by its number
 record NatThere (t : TopologyState) (k : ℕ) : Type 0 where
   row : NatNode
   there : node_at t k ≡ Some (nat row)
@@ -77,6 +79,7 @@ nat_there t k h = by (node_at t k) refl h where
   by (Some (relay a)) e g = absurd (false≢true g)
   by (Some (native a)) e g = absurd (false≢true g)
 
+-- a server by its number
 record ServerThere (t : TopologyState) (k : ℕ) : Type 0 where
   row : ServerNode
   there : node_at t k ≡ Some (server row)
@@ -107,22 +110,26 @@ pub record AddressLaws : Type 0 where
   pub turns : Turns
   pub at_start : TurnsAtStart
 
+-- an origin makes one
 made_of : AddressLaws → (s : Settings) (cone : Bool) (w : Option ℕ) (o : Option Ep) → IsMadeClient s → IfSome o IsEp → IfSome (address_of s cone w o) (IsOwnAddress s)
 made_of laws s cone w None made h = tt
 made_of laws s cone w (Some ep) made h = record { flags = flags_of cone w; mapped = ep; of = laws.teredo s.primary (flags_of cone w) ep made.primary (laws.flags cone w).sixteen h; made = h }
 
+-- so does any turn of the journal
 turned_to : AddressLaws → (s : Settings) (t : Turn) (w : Option ℕ) (o : Option Ep) (a : Option Ip6) → IsMadeClient s → IfSome o IsEp → IfSome a (IsOwnAddress s) → IfSome (address_after s t w o a) (IsOwnAddress s)
 turned_to laws s (qualifies cone) w o a made h before = made_of laws s cone w o made h
 turned_to laws s is_changed w o None made h before = tt
 turned_to laws s is_changed w o (Some p) made h before = made_of laws s (has_cone p) w o made h
 turned_to laws s _ w o a made h before = before
 
+-- an origin that came is made
 origin_made : PayloadIsSpelled → (input : Input) → IsMadeInput input → IfSome (origin_given input) IsEp
 origin_made law (arrived from x) h = origin_is law x h.1
 origin_made law (given x) h = tt
 origin_made law (from_six x) h = tt
 origin_made law ticked h = tt
 
+-- the address of a journal is one
 own_address_is : AddressLaws → (s : Settings) (start : ℕ) (es : List Entry) → IsMadeClient s → AreMadeInputs es → IfSome (qualification s (record { start = start; entries = es })).address (IsOwnAddress s)
 own_address_is laws s start [] made a = subst (λ (q : Qualification). IfSome q.address (IsOwnAddress s)) (sym (laws.at_start s start)) tt
 own_address_is laws s start (e ∷ es) made a =
@@ -144,9 +151,11 @@ other_kind apart t i j a b ip test is at to h g fails holds =
     let one : a ≡ b = ap (λ (o : Option Node). unwrap_or o a) (sym at ∙ ap (node_at t) same ∙ to) in
     false≢true (sym fails ∙ ap test one ∙ holds)
 
+-- a NAT has its address
 pub nat_has : (a : NatNode) → has_address a.external (nat a) ≡ true
 nat_has a = ap (λ (b : Bool). b || false) (same_ip-self a.external)
 
+-- a server has its two
 pub server_has : (a : ServerNode) → has_address a.primary (server a) ≡ true
 server_has a = ap (λ (b : Bool). b || (same_ip a.primary a.secondary || false)) (same_ip-self a.primary)
 
@@ -193,6 +202,7 @@ pub record IsEnd (t : TopologyState) (n : ℕ) (c : ClientNode) (own : Ip6) : Ty
 high_port : (p : ℕ) → FIRST_PORT ≤ p → (p == 0) ≡ false
 high_port p h = let f : 1024 ≤ p = h in grind (arith, nat_tests)
 
+-- an endpoint with a global address and a port
 usable_at : (e : Ep) → is_global Strict e.ip ≡ true → (e.port == 0) ≡ false → is_usable Strict e ≡ true
 unfolding is_usable
 usable_at e global port = both_hold (is_global Strict e.ip) (not (e.port == 0)) global (ap not port)
@@ -202,13 +212,16 @@ module _ (laws : EndLaws) (lab : Lab) (H : List Full) (n : ℕ) (c : ClientNode)
   pub way_of_server : Way lab H c.nat (asks_at lab c) (embedded own).port c.inside
   way_of_server = (laws.asked (nat_behind lab c) (nat_history lab c.nat H) (now H) (set_up_past lab H c.nat g) (asks_at lab c) (embedded own).port c.inside).0 settled.reached
 
+  -- it holds the port in its address
   holds_port : Holds (nat_behind lab c) (nat_history lab c.nat H) (now H) c.inside (embedded own).port
   holds_port = record { past = set_up_past lab H c.nat g; datagram = way_of_server.datagram; counts = way_of_server.counts; left = way_of_server.left; by_port = way_of_server.by_port }
 
+  -- its address is made of its server's and an endpoint
   own_is : IsOwnAddress (client_settings lab.topology c) own
   own_is = subst (λ (o : Option Ip6). IfSome o (IsOwnAddress (client_settings lab.topology c))) settled.address
       (own_address_is laws.address (client_settings lab.topology c) (journal n H).start (journal n H).entries (client_made laws.rules lab.topology n c is (client_there lab.topology n c at)) ((laws.made lab H is g).journals n))
 
+  -- all of it
   pub is_end : IsEnd lab.topology n c own
   is_end =
       let there = client_there lab.topology n c at in

@@ -7,6 +7,7 @@ use Rattle.history.specs.Full.{Item, sent, item_in, Full, wire, items_of}
 use Rattle.first_packets.proofs.Counted.{AreOpen}
 use Rattle.first_packets.proofs.Ground.{last_there, one_longer}
 
+-- one entry behind the wire
 pub record OneFirst (H : List Full) (r : Full) (x : Item) : Type 0 where
   pub at : slice_get (wire (r ∷ H)) (length (wire H)) ≡ Some x
   pub longer : length (wire (r ∷ H)) ≡ suc (length (wire H))
@@ -19,6 +20,7 @@ one_first H r x made =
       longer = ap (λ (xs : List Item). length (wire H ++ xs)) items ∙ one_longer (wire H) x;
     }
 
+-- two entries behind a list
 pub first_of_two : {A : Type 0} → (xs : List A) (y z : A) → slice_get (xs ++ y ∷ z ∷ []) (length xs) ≡ Some y
 first_of_two [] y z = refl
 first_of_two (x ∷ xs) y z = first_of_two xs y z
@@ -31,6 +33,7 @@ pub two_longer : {A : Type 0} → (xs : List A) (y z : A) → length (xs ++ y �
 two_longer [] y z = refl
 two_longer (x ∷ xs) y z = ap suc (two_longer xs y z)
 
+-- then one is open
 pub one_open : (f : ℕ) → AreOpen f f false true []
 one_open f = record {
   only = λ i low high h. inr (refl, omega (arith, low, high));
@@ -39,6 +42,7 @@ one_open f = record {
   none_beyond = λ i far. refl;
 }
 
+-- or two are
 pub two_open : (f : ℕ) → AreOpen f (suc f) true true []
 two_open f = record {
   only = λ i low high h. by i low high (i == f) refl;

@@ -30,6 +30,7 @@ pub record IsForOwnClient (a : Seen) : Type 0 where
   pub unlooped : a.looped ≡ false
   pub for_client : a.for_client ≡ true
 
+-- no line but that holds
 goes_on : (a : Seen) → IsForOwnClient a → first_line (datagram_lines a ++ (packet_lines a ++ destination_lines a)) last_line ≡ ForwardOrigin
 goes_on a is =
     passed_by (datagram_lines a) (packet_lines a ++ destination_lines a) last_line (is.unkeyed, (is.short, (is.kind, (is.well_formed, (is.usable, (is.foreign, tt))))))
@@ -41,6 +42,7 @@ rule_is : (s : ServerSettings) (from : Ep) (v : Value) → IsForOwnClient (seen 
 unfolding rule_of
 rule_is s from v is = goes_on (seen s from v) is
 
+-- so the server passes it on
 pub goes_to_client : (s : ServerSettings) (side : Side) (from : Ep) (x : List ℕ) (v : Value) → payload_at x ≡ Ok v → IsForOwnClient (seen s from v)
     → server_row s side from x ≡ sends_one fate.ForwardOrigin Primary (embedded v.packet.dst) (forwarded (Some from) (drop v.lead.at x))
 unfolding server_row

@@ -28,6 +28,7 @@ pub record IsForPeer (a : Given) : Type 0 where
   pub reachable : a.unreachable ≡ false
   pub stale : a.fresh ≡ false
 
+-- the lines on the packet are passed
 to_destination : (a : Given) → IsForPeer a → transmission_row a ≡ first_line ((a.cone, fate.SentCone) ∷ (not a.room, fate.PeersFull) ∷ (a.spent, fate.Barred) ∷ (a.full, fate.QueueFull) ∷ []) fate.Queued
 to_destination a is =
     passed_by (host_lines a) (destination_lines a) fate.Queued (not_so a.qualified is.qualified, (not_so a.packet is.packet, (is.short, (not_so a.own_source is.own, (not_so a.global is.global, (is.no_bubble, (is.for_another, tt)))))))
@@ -69,6 +70,7 @@ module _ (s : Settings) (j : Journal) (n : ℕ) (x : List ℕ) (is_one : is_pack
       ap (λ (a : Standing). transmission_row (given_of s a (is_packet x) (fields_in x))) stands
       ∙ ap (λ (b : Bool). transmission_row (given_of s standing_for b (fields_in x))) is_one
 
+  -- the entry with the fate of the row
   pub entry_given : (w : Words) (f : Fate) → transmission_row given_here ≡ f
       → client_out s j n x w ≡ entry n (given x) (Some x) (Some (fields_in x).dst) w (transmission_step s standing_for x (fields_in x).dst w f)
   unfolding client_out transmission.transmission

@@ -82,11 +82,13 @@ pub record PacketLaws : Type 0 where
 
 -- THE WIRE
 
+-- what is on the wire stays there
 pub still_there : {A : Type 0} → (xs ys : List A) (i : ℕ) (x : A) → slice_get xs i ≡ Some x → slice_get (xs ++ ys) i ≡ Some x
 still_there {A = A} [] ys i x e = absurd (false≢true (ap (λ (o : Option A). is_some o) e))
 still_there (y ∷ xs) ys zero x e = e
 still_there (y ∷ xs) ys (suc i) x e = still_there xs ys i x e
 
+-- the last of a list
 pub last_there : {A : Type 0} → (xs : List A) (y : A) → slice_get (xs ++ y ∷ []) (length xs) ≡ Some y
 last_there [] y = refl
 last_there (x ∷ xs) y = last_there xs y
@@ -105,6 +107,7 @@ none_longer {A = A} (x ∷ xs) = ap (λ (z : List A). x ∷ z) (none_longer xs)
 pub other_journal : EachFrames → (lab : Lab) (H : List Full) (q : Full) (k n : ℕ) (v : Node) (e : Entry) → Did lab H q k v e → (k ≡ n → ⊥) → journal n (q ∷ H) ≡ journal n H
 other_journal frame lab H q k n v e did apart = (frame lab H q).journals n (λ same. apart (ap (λ (o : Option ℕ). unwrap_or o k) (sym did.node ∙ same)))
 
+-- an entry that says nothing of it leaves the address
 pub address_stays : KeepsStill → (s : Settings) (j : Journal) (e : Entry) → turn_of e ≡ says_nothing → (qualification s (with_entry j e)).address ≡ (qualification s j).address
 address_stays law s j e none = ap (λ (q : Qualification). q.address) (law s j e none)
 
@@ -122,15 +125,18 @@ address_renewed law s j e indirect =
 
 -- WHAT A CLIENT KEEPS FOR THE OTHER
 
+-- there is room for the peer, and these packets wait for it
 pub record Keeps (j : Journal) (n : ℕ) (peer : Ip6) (waiting : List (List ℕ)) : Type 0 where
   pub room : has_room (mentions j.entries) n peer ≡ true
   pub waits : (known (mentions j.entries) n peer).waiting ≡ waiting
 
+-- the peer may be tried
 abbrev pub Unbarred : Journal → ℕ → Ip6 → Type 0
 Unbarred j n peer = is_barred n (known (mentions j.entries) n peer) ≡ false
 
 -- THE GROUND
 
+-- both have their addresses, and their servers' datagrams come in; the receiver keeps nothing for the sender
 pub record Ground (p : Pair) (H : List Full) : Type 0 where
   pub grown : Grown (lab_in p) H
   pub sender : address_in (lab_in p) H p.a.n p.a.c ≡ Some p.a.own
@@ -145,6 +151,7 @@ pub record IsNext (p : Pair) (H : List Full) (q : Full) : Type 0 where
   pub calm : is_calm q.asked ≡ true
   pub moment : q.moment ≡ now H
 
+-- after such a record it holds again
 pub ground_on : PacketLaws → (p : Pair) (H : List Full) (q : Full) → IsNext p H q → Ground p H
     → address_in (lab_in p) (q ∷ H) p.a.n p.a.c ≡ address_in (lab_in p) H p.a.n p.a.c → address_in (lab_in p) (q ∷ H) p.b.n p.b.c ≡ address_in (lab_in p) H p.b.n p.b.c
     → Keeps (journal p.b.n (q ∷ H)) (now (q ∷ H)) p.a.own [] → Ground p (q ∷ H)
@@ -157,6 +164,7 @@ ground_on laws p H q next ground a b keeps = record {
   keeps_nothing = keeps;
 }
 
+-- a client with an address and room
 pub knows : PacketLaws → (lab : Lab) (H : List Full) (n : ℕ) (c : ClientNode) (own peer : Ip6) → Grown lab H → node_at lab.topology n ≡ Some (client c) → address_in lab H n c ≡ Some own
     → has_room (mentions (journal n H).entries) (now H) peer ≡ true → Knows (client_settings lab.topology c) (journal n H) (now H) own peer
 knows laws lab H n c own peer g there address room = record {
@@ -168,7 +176,7 @@ knows laws lab H n c own peer g there address room = record {
 -- WHAT BECOMES OF A CLIENT'S SENDS
 
 -- each leaves from where the client's address says, and counts at its NAT
-pub record Leaves (lab : Lab) (H : List Full) (q : Full) (c : ClientNode) (own : Ip6) (xs : List Send) : Type 0 where
+pub record AllSent (lab : Lab) (H : List Full) (q : Full) (c : ClientNode) (own : Ip6) (xs : List Send) : Type 0 where
   pub made : q.made ≡ map (λ (x : Send). sent (udp (embedded own) x.to x.bytes)) xs
   pub counts : AllByRecursion (λ (x : Send). Counts lab (q ∷ H) c.nat (passing c.nat (now H) c.inside x.to (embedded own).port).datagram) xs
 
@@ -177,16 +185,19 @@ module _ (laws : PacketLaws) (p : Pair) (H : List Full) (q : Full) (a : Side) (e
   holds : Holds (nat_by p.t a) (nat_history (lab_in p) a.c.nat H) (now H) a.c.inside (embedded a.own).port
   holds = record { past = set_up_past (lab_in p) H a.c.nat g; datagram = way.datagram; counts = way.counts; left = way.left; by_port = way.by_port }
 
+  -- the client is no NAT
   no_nat : is_node a.c.nat q.node ≡ false
   no_nat = ap (is_node a.c.nat) did.node ∙ refused (a.c.nat == a.n) (λ h. (
       let same : a.c.nat ≡ a.n = grind (arith, nat_tests) in
       let one : nat end.nat_row ≡ client a.c = ap (λ (o : Option Node). unwrap_or o (nat end.nat_row)) (sym end.nat_is ∙ ap (node_at p.t) same ∙ end.there) in
       false≢true (sym (ap is_nat_node one))))
 
+  -- it sends from where its address says
   from_there : leaving laws.ends.holds (lab_in p) H (now H) a.c.nat a.c.inside (embedded a.own).port ≡ embedded a.own
   from_there = ap (λ (ip : Ip4). record { ip = ip; port = (embedded a.own).port }) (ap (λ (s : NatSettings). s.external) end.set_up ∙ sym end.external)
 
-  pub all_leaves : (xs : List Send) → e.step.sends ≡ xs → AllByRecursion (λ (x : Send). same_ip x.to.ip (nat_by p.t a).external ≡ false) xs → Leaves (lab_in p) H q a.c a.own xs
+  -- so all its sends leave
+  pub all_leaves : (xs : List Send) → e.step.sends ≡ xs → AllByRecursion (λ (x : Send). same_ip x.to.ip (nat_by p.t a).external ≡ false) xs → AllSent (lab_in p) H q a.c a.own xs
   all_leaves xs are elsewhere =
       let made : q.made ≡ (by_way (lab_in p) H (now H) (a.c.nat ∷ []) a.c.inside (armed H) 0 [] xs).made = did.made ∙ ap (λ (z : List Send). (by_way (lab_in p) H (now H) (a.c.nat ∷ []) a.c.inside (armed H) 0 [] z).made) are in
       let passed = did.passed ∙ ap (λ (z : List Send). (by_way (lab_in p) H (now H) (a.c.nat ∷ []) a.c.inside (armed H) 0 [] z).passed) are in

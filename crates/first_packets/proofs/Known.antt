@@ -36,6 +36,7 @@ module _ (laws : PeerLaws) (e : Entry) (es : List Entry) (n : ℕ) (p : Ip6) (is
   abbrev before : Peer
   before = known (mentions es) n p
 
+  -- the entry is the latest of what is known
   seen_after : peer_at (mentions (e ∷ es)) n p ≡ Some (after (mention e) before)
   seen_after =
       ap (λ (ms : List Mention). peer_at ms n p) (laws.next e es ∙ ap (λ (b : Bool). cond b [] (mention e ∷ mentions es)) is.keeps)
@@ -45,9 +46,11 @@ module _ (laws : PeerLaws) (e : Entry) (es : List Entry) (n : ℕ) (p : Ip6) (is
       ∙ ap (λ (b : Bool). peer_if true true b (mention e) (peer_at (mentions es) e.moment p) (peer_at (mentions es) n p)) (ap (is_young LISTED_MS n) is.moment ∙ is_now n)
       ∙ ap (λ (m : ℕ). Some (after (mention e) (unwrap_or (peer_at (mentions es) m p) no_peer))) is.moment
 
+  -- what is known then
   pub known_after : known (mentions (e ∷ es)) n p ≡ after (mention e) before
   known_after = ap (λ (o : Option Peer). unwrap_or o no_peer) seen_after
 
+  -- it is listed then, so it has room
   pub room_after : has_room (mentions (e ∷ es)) n p ≡ true
   unfolding has_room
   room_after = left_holds (is_listed p n (mentions (e ∷ es))) (nat_lt (length (listed (mentions (e ∷ es)) n)) PEERS_MAX) (sym (laws.known_if_listed (mentions (e ∷ es)) n p) ∙ ap (λ (o : Option Peer). is_some o) seen_after)
@@ -74,6 +77,7 @@ pub untried : (n : ℕ) (peer : Peer) → peer.tries ≡ [] → is_barred n peer
 unfolding is_barred is_spent
 untried n peer none = ap (barred_by n) none
 
+-- nor is it spent
 pub unspent : (n : ℕ) (peer : Peer) → peer.tries ≡ [] → is_spent n peer ≡ false
 unfolding is_spent
 unspent n peer none = ap (λ (ms : List ℕ). nat_le TRIES_MAX (length (filter (is_young LISTED_MS n) ms))) none

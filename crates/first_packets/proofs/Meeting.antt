@@ -58,6 +58,7 @@ pub record Knows (s : Settings) (j : Journal) (n : ℕ) (own peer : Ip6) : Type 
   pub qualified : is_qualified (qualification s j).phase ≡ true
   pub room : has_room (mentions j.entries) n peer ≡ true
 
+-- its own address
 address_is : (s : Settings) (j : Journal) (own : Ip6) → (qualification s j).address ≡ Some own → own_address (qualification s j) ≡ own
 unfolding own_address
 address_is s j own e = ap (λ (o : Option Ip6). unwrap_or o unspecified) e
@@ -73,6 +74,7 @@ module _ (s : Settings) (j : Journal) (n : ℕ) (p : Fields) (meets : Meets s p.
   own_is : own_address (qualification s j) ≡ p.dst
   own_is = address_is s j p.dst knows.address
 
+  -- the packet is for this client
   for_here : (from : Ep) (origin : Option Ep) → IsForHere (seen_of s (standing_at s j n p.src) from true (value_written None origin p))
   unfolding standing_at is_keyed is_confirmed
   for_here from origin = record {
@@ -86,6 +88,7 @@ module _ (s : Settings) (j : Journal) (n : ℕ) (p : Fields) (meets : Meets s p.
     room = knows.room;
   }
 
+  -- and from where its source says
   from_peer : IsFromPeer (seen_of s (standing_at s j n p.src) (embedded p.src) true (value_written None None p))
   from_peer = record {
     here = for_here (embedded p.src) None;
@@ -105,6 +108,7 @@ module _ (s : Settings) (j : Journal) (n : ℕ) (p : Fields) (meets : Meets s p.
     pub about : e.peer ≡ Some p.src
     pub moment : e.moment ≡ n
 
+  -- by the table
   pub hears_bubble : (x : List ℕ) → ReadsPayload (value_written None None p) x → is_bubble p ≡ true → (w : Words) → Releases x (client_in s j n (embedded p.src) x w)
   unfolding standing_at
   hears_bubble x reads bubble w = by (bubble_heard (seen_here s j n (embedded p.src) x v reads) advert from_peer bubble) where
@@ -126,6 +130,7 @@ module _ (s : Settings) (j : Journal) (n : ℕ) (p : Fields) (meets : Meets s p.
     pub about : e.peer ≡ Some p.src
     pub moment : e.moment ≡ n
 
+  -- by the table
   pub hands_packet : (x : List ℕ) → ReadsPayload (value_written None None p) x → is_bubble p ≡ false → (w : Words) → Hands x (client_in s j n (embedded p.src) x w)
   unfolding standing_at
   hands_packet x reads plain w = by (packet_handed (seen_here s j n (embedded p.src) x v reads) advert from_peer plain) where
@@ -164,6 +169,7 @@ module _ (s : Settings) (j : Journal) (n : ℕ) (own peer : Ip6) (meets : Meets 
   unfolding is_from_server
   from_primary = left_holds (same_ep (server_ep s.primary) (server_ep s.primary)) (same_ep (server_ep s.primary) (server_ep s.secondary)) (same_ep-self (server_ep s.primary))
 
+  -- what the lines see of it
   through_server : is_bubble (bubble_of peer own) ≡ true → is_barred n (known (mentions j.entries) n peer) ≡ false → IsThroughServer (seen_of s (standing_at s j n peer) (server_ep s.primary) true told)
   unfolding standing_at
   through_server bubble unbarred = record {
@@ -186,6 +192,7 @@ module _ (s : Settings) (j : Journal) (n : ℕ) (own peer : Ip6) (meets : Meets 
     pub about : e.peer ≡ Some peer
     pub moment : e.moment ≡ n
 
+  -- by the table
   pub answers_it : (x : List ℕ) → ReadsPayload told x → is_bubble (bubble_of peer own) ≡ true → is_barred n (known (mentions j.entries) n peer) ≡ false → (w : Words)
       → Answers x (client_in s j n (server_ep s.primary) x w)
   unfolding standing_at
@@ -205,6 +212,7 @@ module _ (s : Settings) (j : Journal) (n : ℕ) (x : List ℕ) (is_one : is_pack
   from_here : own_address (qualification s j) ≡ (fields_in x).src
   from_here = address_is s j (fields_in x).src knows.address
 
+  -- the peer can be reached
   reachable : is_reachable s.policy to ≡ true
   unfolding is_reachable
   reachable = both_hold (is_usable s.policy (embedded to)) (is_global s.policy (server_in to)) (ap (λ (z : Policy). is_usable z (embedded to)) meets.strict ∙ meets.usable) (ap (λ (z : Policy). is_global z (server_in to)) meets.strict ∙ meets.server_global)
@@ -217,6 +225,7 @@ module _ (s : Settings) (j : Journal) (n : ℕ) (x : List ℕ) (is_one : is_pack
   unfolding is_full
   not_full = refl
 
+  -- what the lines see of the packet
   for_peer : IsForPeer (given_here s j n x is_one)
   unfolding standing_at
   for_peer = record {
@@ -238,6 +247,7 @@ module _ (s : Settings) (j : Journal) (n : ℕ) (x : List ℕ) (is_one : is_pack
     pub about : e.peer ≡ Some to
     pub moment : e.moment ≡ n
 
+  -- by the table
   pub goes_at_once : has_cone to ≡ true → (w : Words) → GoesAtOnce (client_out s j n x w)
   unfolding standing_at
   goes_at_once cone w = subst GoesAtOnce (sym (entry_given s j n x is_one w fate.SentCone (sent_at_once (given_here s j n x is_one) for_peer (both_hold (is_teredo to) (has_cone to) meets.teredo cone))))
@@ -251,15 +261,18 @@ module _ (s : Settings) (j : Journal) (n : ℕ) (x : List ℕ) (is_one : is_pack
     pub about : e.peer ≡ Some to
     pub moment : e.moment ≡ n
 
+  -- the bubbles of a try
   tries_are : (w : Words) → try_sends s (own_address (qualification s j)) to w ≡ both_bubbles (has_cone (fields_in x).src) (fields_in x).src to
   unfolding try_sends
   tries_are w =
       ap (λ (b : Bool). tries_by b s (own_address (qualification s j)) to w) meets.teredo
       ∙ ap (λ (z : Ip6). both_bubbles (has_cone z) z to) from_here
 
+  -- nothing bars it
   unbarred : is_barred n (known (mentions j.entries) n to) ≡ false
   unbarred = ap (is_barred n) new ∙ untried n no_peer refl
 
+  -- by the table
   pub waits_here : has_cone to ≡ false → (w : Words) → Waits (client_out s j n x w)
   unfolding standing_at
   waits_here cone w =

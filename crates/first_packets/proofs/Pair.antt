@@ -45,12 +45,15 @@ pub record Pair : Type 0 where
   pub b : Side
   pub x : List ℕ
 
+-- their laboratory
 abbrev pub lab_in : Pair → Lab
 lab_in p = flat_lab p.d p.t
 
+-- how a client is set up
 abbrev pub setup : TopologyState → Side → Settings
 setup t a = client_settings t a.c
 
+-- its NAT
 abbrev pub nat_by : TopologyState → Side → NatSettings
 nat_by t a = nat_set_up t a.c.nat
 
@@ -62,6 +65,7 @@ module _ (apart : AddressesAreApart) (t : TopologyState) (is : IsTopology t) (a 
   not_server ip has same = other_kind apart t a.c.server b.c.nat (server an.server_row) (nat bn.nat_row) ip is_nat_node is an.server_is bn.nat_is has
       (subst (λ (z : Ip4). has_address z (nat bn.nat_row) ≡ true) (sym bn.external ∙ same) (nat_has bn.nat_row)) refl refl
 
+  -- b's endpoint is none of a's server
   pub no_server : is_from_server (setup t a) (embedded b.own) ≡ false
   unfolding is_from_server
   no_server = neither (same_ep (embedded b.own) (server_ep (setup t a).primary)) (same_ep (embedded b.own) (server_ep (setup t a).secondary))
@@ -122,6 +126,7 @@ asked_all Symmetric src d h = absurd (false≢true h)
 
 -- THE PAIR
 
+-- what holds of them throughout
 pub record IsPair (p : Pair) : Type 0 where
   pub rules : IsTopology p.t
   pub sender : IsEnd p.t p.a.n p.a.c p.a.own

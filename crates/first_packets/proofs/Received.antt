@@ -50,6 +50,7 @@ pub record IsFromPeer (a : Seen) : Type 0 where
   pub teredo : a.teredo ≡ true
   pub embedded : a.embedded_here ≡ true
 
+-- such a bubble is answered
 pub answered : (a : Seen) (advert : Fate) → IsThroughServer a → reception_row a advert ≡ fate.Indirect
 answered a advert is =
     let here = is.here in
@@ -82,6 +83,7 @@ pub data HandsOver (f : Fate) : Type 0 where
   over_by_rule1 : f ≡ fate.Rule1 → HandsOver f
   over_by_rule3 : f ≡ fate.Rule3 → HandsOver f
 
+-- a bubble of the peer is heard
 pub bubble_heard : (a : Seen) (advert : Fate) → IsFromPeer a → a.bubble ≡ true → HearsBubble (reception_row a advert)
 bubble_heard a advert is bubble = by a.peer.trusted_here refl where
   rest : List (Bool × Fate)
@@ -95,6 +97,7 @@ bubble_heard a advert is bubble = by a.peer.trusted_here refl where
       ∙ passed_by ((a.embedded_here && not a.peer.room, fate.PeersFull) ∷ []) ((a.embedded_here && a.bubble, fate.Rule3Bubble) ∷ rest) fate.Suspicious (right_fails a.embedded_here (not a.peer.room) (not_so a.peer.room is.here.room), tt)
       ∙ ap (λ (b : Bool). cond b fate.Rule3Bubble (first_line rest fate.Suspicious)) (both_hold a.embedded_here a.bubble is.embedded bubble))
 
+-- another packet of its goes to the host
 pub packet_handed : (a : Seen) (advert : Fate) → IsFromPeer a → a.bubble ≡ false → HandsOver (reception_row a advert)
 packet_handed a advert is plain = by a.peer.trusted_here refl where
   second : List (Bool × Fate)

@@ -34,6 +34,7 @@ module _ (law : CountingHolds) (lab : Lab) (H : List Full) (m k : ℕ) (inside :
   abbrev pub with_outs : List Passing → List Entry
   with_outs passed = outs_at k passed ++ nat_history lab k H
 
+  -- such a datagram
   abbrev pub out_to : Ep → Outward
   out_to dst = (passing k m inside dst port).datagram
 
@@ -43,9 +44,11 @@ module _ (law : CountingHolds) (lab : Lab) (H : List Full) (m k : ℕ) (inside :
     pub lasting : (d : Outward) → Contains (counting s.idle m (with_outs passed)) d → Contains (counting s.idle m (with_outs after.passed)) d
     pub each : AllByRecursion (λ (x : Send). Contains (counting s.idle m (with_outs after.passed)) (out_to x.to)) xs
 
+  -- one more is let out
   one_more : (dst : Ep) (passed : List Passing) → with_outs (passing k m inside dst port ∷ passed) ≡ Out (out_to dst) ∷ with_outs passed
   one_more dst passed = ap (λ (b : Bool). cond b (Out (out_to dst) ∷ outs_at k passed) (outs_at k passed) ++ nat_history lab k H) (same_number k)
 
+  -- where none fails all leave
   pub all_leave : (fails : Option ℕ) (i : ℕ) (passed : List Passing) (xs : List Send) → 0 < s.idle → is_symmetric s.kind ≡ false → Holds s (with_outs passed) m inside port
       → AllByRecursion (λ (x : Send). same_ip x.to.ip s.external ≡ false) xs → list_any is_fault (by_way lab H m (k ∷ []) inside fails i passed xs).made ≡ false
       → AllLeave passed xs (by_way lab H m (k ∷ []) inside fails i passed xs)

@@ -64,6 +64,7 @@ pub data Next (p : Pair) (H : List Full) (q : Full) (last : ℕ) (later : List F
 
 -- WHERE A DELIVERY GOES
 
+-- the node did what it does with the entry
 pub record Arrival (lab : Lab) (H : List Full) (q : Full) (n : ℕ) (a : Node) (x : Item) : Type 0 where
   pub calm : is_calm q.asked ≡ true
   pub did : Did lab H q n a (entry_of lab H (now H) n (dst_of x) (input_of x) a)
@@ -71,6 +72,7 @@ pub record Arrival (lab : Lab) (H : List Full) (q : Full) (n : ℕ) (a : Node) (
 pub same_item : (H : List Full) (k : ℕ) (x y : Item) → slice_get (wire H) k ≡ Some x → slice_get (wire H) k ≡ Some y → x ≡ y
 same_item H k x y at to = ap (λ (o : Option Item). unwrap_or o x) (sym at ∙ to)
 
+-- an entry comes where its route leads
 pub arrival : (lab : Lab) (H : List Full) (q : Full) (k n : ℕ) (a : Node) (x : Item) → Delivery lab H q k → slice_get (wire H) k ≡ Some x → route lab H (now H) x ≡ reaches n a → Arrival lab H q n a x
 arrival lab H q k n a x (to_nobody y at none calm made moment stay) to goes =
     absurd (none n a (subst (λ (z : Item). route lab H (now H) z ≡ reaches n a) (sym (same_item H k y x at to)) goes))
@@ -86,6 +88,7 @@ arrival lab H q k n a x (to_node i y b at way there calm did) to goes =
 
 -- ONE MORE ENTRY, OR NONE
 
+-- one entry more, the last
 pub record OneMore (H : List Full) (q : Full) (last : ℕ) (x : Item) : Type 0 where
   pub at : slice_get (wire (q ∷ H)) (suc last) ≡ Some x
   pub longer : length (wire (q ∷ H)) ≡ suc (suc last)
@@ -98,6 +101,7 @@ one_more H q last x long made =
       longer = ap (λ (xs : List Item). length (wire H ++ xs)) items ∙ one_longer (wire H) x ∙ ap suc long;
     }
 
+-- none more
 pub no_more : (H : List Full) (q : Full) → q.made ≡ [] → wire (q ∷ H) ≡ wire H
 no_more H q made = ap (λ (ms : List Made). wire H ++ filter_map item_in ms) made ∙ none_longer (wire H)
 
@@ -114,10 +118,12 @@ read_as x h = by (packet_at x) h where
   by (Ok f) g = refl
   by (Err f) g = absurd (false≢true g)
 
+-- a bubble isn't big
 pub bubble_small : (src dst : Ip6) → is_big (bubble_of src dst) ≡ false
 unfolding is_big
 bubble_small src dst = refl
 
+-- one key is of one inside endpoint
 pub same_inside : (kind : NatKind) (a b c d : Ep) → SameKey kind a b c d → a ≡ c
 same_inside Cone a b c d h = h
 same_inside Restricted a b c d h = h

@@ -35,7 +35,7 @@ use Rattle.legal.specs.Legal.{Grown}
 use Rattle.legal.specs.Laws.{EachIsOfItsEvent}
 use Rattle.legal.proofs.MadeWire.{entry_input}
 use Rattle.first_packets.specs.Schedules.{HasNoFault, AreFresh}
-use Rattle.first_packets.specs.FirstPacket.{IsFirstPacket, IsCarried}
+use Rattle.first_packets.specs.FirstPacket.{IsFirstPacket, GetsThrough}
 use Rattle.first_packets.specs.Throughout.{EachFirstPacketArrives}
 use Rattle.first_packets.proofs.Known.{untried}
 use Rattle.first_packets.proofs.Ends.{IsEnd, is_end, way_of_server}
@@ -45,7 +45,7 @@ use Rattle.first_packets.proofs.Deliveries.{Did, Handing, handing}
 use Rattle.first_packets.proofs.Meeting.{Meets, Knows, goes_at_once, Waits, waits_here}
 use Rattle.first_packets.proofs.Pair.{Pair, IsPair, setup, nat_by, meets, elsewhere, server_elsewhere, asked_itself, asked_all}
 use Rattle.first_packets.proofs.Ground.{PacketLaws, other_journal, address_stays, Keeps, Unbarred, Ground, IsNext, ground_on, knows, all_leaves}
-use Rattle.first_packets.proofs.AtClients.{Leaves, after_queued, keeps_on, unbarred_on}
+use Rattle.first_packets.proofs.AtClients.{Afterwards, after_queued, keeps_on, unbarred_on}
 use Rattle.first_packets.proofs.Stages.{asks, releases_it}
 use Rattle.first_packets.proofs.Steps.{two_nodes, same_address, same_after}
 use Rattle.first_packets.proofs.Boards.{Board, boards, few, arrives}
@@ -58,10 +58,12 @@ pub record StartLaws : Type 0 where
 
 -- THE PREMISE
 
+-- the records before
 pub before_it : (lab : Lab) (later xs : List Full) → Grown lab (later ++ xs) → Grown lab xs
 before_it lab [] xs g = g
 before_it lab (q ∷ later) xs g = before_it lab later xs g.1
 
+-- no send of the first record failed
 sound_first : (r : Full) (later : List Full) → AreFresh r later → HasNoFault r
 sound_first r [] fresh = fresh
 sound_first r (q ∷ later) fresh = sound_first r later fresh.1
@@ -81,18 +83,21 @@ module _ (laws : StartLaws) (d : Draws) (t : TopologyState) (H : List Full) (r :
   abbrev l : PacketLaws
   l = laws.packets
 
+  -- the two clients
   abbrev pub pair : Pair
   pair = record { d = d; t = t; a = record { n = n; c = a; own = own }; b = record { n = m; c = b; own = other }; x = x }
 
   abbrev lab : Lab
   lab = flat_lab d t
 
+  -- both are ends
   sender_end : IsEnd t n a own
   sender_end = is_end l.ends lab H n a own is g.1 first.clients.sender first.clients.sender_settled
 
   receiver_end : IsEnd t m b other
   receiver_end = is_end l.ends lab H m b other is g.1 first.clients.receiver first.clients.receiver_settled
 
+  -- the host handed the packet in
   hand : Handing lab H r n x
   hand = handing r first.entry x first.did first.packet_in lab H n (l.kinds lab H r g.0) first.node
 
@@ -100,11 +105,13 @@ module _ (laws : StartLaws) (d : Draws) (t : TopologyState) (H : List Full) (r :
   abbrev e : Entry
   e = entry_of lab H (now H) n no_ep (given x) (client a)
 
+  -- the sender did this
   did : Did lab H r n (client a) e
   did =
       let one : hand.node ≡ client a = ap (λ (o : Option Node). unwrap_or o hand.node) (sym hand.there ∙ sender_end.there) in
       subst (λ (v : Node). Did lab H r n v (entry_of lab H (now H) n no_ep (given x) v)) one hand.did
 
+  -- the packet is bytes
   bytes : IsBytes x
   bytes =
       let all : AreMadeInputs (with_entry (journal n H) e).entries = subst (λ (j : Journal). AreMadeInputs j.entries) did.later ((l.ends.made lab (r ∷ H) is g).journals n) in
@@ -113,6 +120,7 @@ module _ (laws : StartLaws) (d : Draws) (t : TopologyState) (H : List Full) (r :
   small : is_big (fields_in x) ≡ false
   small = not_big laws.spelled laws.long x bytes first.packet.packet first.packet.short
 
+  -- what holds of the two
   pub is_pair : IsPair pair
   is_pair = record {
     rules = is;
@@ -133,6 +141,7 @@ module _ (laws : StartLaws) (d : Draws) (t : TopologyState) (H : List Full) (r :
   nobody_waits : (known (mentions (journal m H).entries) (now H) own).waiting ≡ []
   nobody_waits = ap (λ (k : Peer). k.waiting) (l.unlisted (mentions (journal m H).entries) (now H) own first.clients.receiver_new.unlisted)
 
+  -- the ground before
   ground : Ground pair H
   ground = record {
     grown = g.1;
@@ -143,16 +152,20 @@ module _ (laws : StartLaws) (d : Draws) (t : TopologyState) (H : List Full) (r :
     keeps_nothing = record { room = first.clients.receiver_new.room; waits = nobody_waits };
   }
 
+  -- the record leaves NATs
   next : IsNext pair H r
   next = record { follows = g.0; calm = hand.calm; moment = did.moment }
 
+  -- the receiver does nothing
   receiver_stays : journal m (r ∷ H) ≡ journal m H
   receiver_stays = other_journal l.frame lab H r n m (client a) e did (two_nodes l pair is_pair H r ground g.0 sound)
 
+  -- the ground after
   ground_then : (qualification (setup t pair.a) (with_entry (journal n H) e)).address ≡ (qualification (setup t pair.a) (journal n H)).address → Ground pair (r ∷ H)
   ground_then stays = ground_on l pair H r next ground (same_after l pair is_pair H r ground g.0 sound pair.a e did.later stays) (same_address l pair is_pair H r ground g.0 sound pair.b receiver_stays)
       (keeps_on H r m own [] (journal m H) next.moment receiver_stays ground.keeps_nothing)
 
+  -- its entries come behind the wire
   number : r.first ≡ length (wire H)
   number = ap (λ (z : Full). z.first) g.0.is ∙ (laws.event lab H r.event r.asked).first
 
@@ -166,6 +179,7 @@ module _ (laws : StartLaws) (d : Draws) (t : TopologyState) (H : List Full) (r :
   its_knows : Knows (setup t pair.a) (journal n H) (now H) (fields_in x).src (fields_in x).dst
   its_knows = to_sources (Knows (setup t pair.a) (journal n H) (now H)) (knows l lab H n a own other g.1 sender_end.there ground.sender first.clients.sender_new.room)
 
+  -- the receiver is new to the sender
   unknown : known (mentions (journal n H).entries) (now H) (fields_in x).dst ≡ no_peer
   unknown = ap (known (mentions (journal n H).entries) (now H)) first.packet.destination ∙ l.unlisted (mentions (journal n H).entries) (now H) other first.clients.sender_new.unlisted
 
@@ -174,6 +188,7 @@ module _ (laws : StartLaws) (d : Draws) (t : TopologyState) (H : List Full) (r :
 
   -- THE RECEIVER IS CONE
 
+  -- the packet goes out at once
   pub to_cone : has_cone other ≡ true → Board pair H r 1 []
   to_cone cone =
       let goes = goes_at_once (setup t pair.a) (journal n H) (now H) x first.packet.packet its_meets its_knows small first.packet.no_bubble unknown (ap has_cone first.packet.destination ∙ cone) (words lab n H) in
@@ -199,6 +214,7 @@ module _ (laws : StartLaws) (d : Draws) (t : TopologyState) (H : List Full) (r :
     waits : Waits (setup t pair.a) (journal n H) (now H) x first.packet.packet its_meets its_knows small first.packet.no_bubble unknown e
     waits = waits_here (setup t pair.a) (journal n H) (now H) x first.packet.packet its_meets its_knows small first.packet.no_bubble unknown (ap has_cone first.packet.destination ∙ far) (words lab n H)
 
+    -- the bubbles that go out
     sends_are : (cone : Bool) → has_cone own ≡ cone → e.step.sends ≡ both_bubbles cone own other
     sends_are cone same =
         waits.sends
@@ -209,10 +225,11 @@ module _ (laws : StartLaws) (d : Draws) (t : TopologyState) (H : List Full) (r :
     about_it : e.peer ≡ Some other
     about_it = waits.about ∙ ap (λ (z : Ip6). Some z) first.packet.destination
 
-    left : Leaves l (setup t pair.a) (journal n H) (now H) other e about_it waits.moment (x ∷ [])
+    left : Afterwards l (setup t pair.a) (journal n H) (now H) other e about_it waits.moment (x ∷ [])
     left = after_queued l (setup t pair.a) (journal n H) (now H) other e about_it waits.moment x waits.queued waits.packet
         (ap (λ (k : Peer). k.waiting) (l.unlisted (mentions (journal n H).entries) (now H) other first.clients.sender_new.unlisted))
 
+    -- the receiver may try the sender
     may : Unbarred (journal m (r ∷ H)) (now (r ∷ H)) own
     may = unbarred_on H r m own (journal m H) next.moment receiver_stays
         (untried (now H) (known (mentions (journal m H).entries) (now H) own) (ap (λ (k : Peer). k.tries) (l.unlisted (mentions (journal m H).entries) (now H) own first.clients.receiver_new.unlisted)))
@@ -275,10 +292,12 @@ module _ (laws : StartLaws) (d : Draws) (t : TopologyState) (H : List Full) (r :
   abbrev p : Pair
   p = pair laws d t H r n m a b own other x is there first sound
 
+  -- the whole schedule
   all : (total : ℕ) → Board p H r total [] → Board p H r total later
   all total board = boards p H r total laws.packets (is_pair laws d t H r n m a b own other x is there first sound) later g fresh board
 
-  carried : (far : Bool) → has_cone other ≡ far → (near : Bool) → has_cone own ≡ near → IsCarried H r m own other x later
+  -- by the cone bits of both
+  carried : (far : Bool) → has_cone other ≡ far → (near : Bool) → has_cone own ≡ near → GetsThrough H r m own other x later
   carried true cone near plain =
       let board = all 1 (to_cone laws d t H r n m a b own other x is there first sound cone) in
       let most = few p H r 1 later board in
@@ -292,5 +311,6 @@ module _ (laws : StartLaws) (d : Draws) (t : TopologyState) (H : List Full) (r :
       let most = few p H r 5 later board in
       record { few = most; few_from_cone = λ c. absurd (false≢true (sym plain ∙ c)); few_to_cone = λ c. absurd (false≢true (sym far ∙ c)); arrives = arrives p H r 5 later board }
 
+-- so it is for each first packet
 pub each_arrives : StartLaws → EachFirstPacketArrives
 each_arrives laws d t H r later is g n m a b own other x first fresh = carried laws d t H r later is g n m a b own other x first fresh (has_cone other) refl (has_cone own) refl

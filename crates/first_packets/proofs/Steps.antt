@@ -63,6 +63,7 @@ module _ (laws : PacketLaws) (p : Pair) (is : IsPair p) (H : List Full) (q : Ful
         nat_of (client c) = c.nat
         nat_of _ = 0
 
+  -- nor is the server a client
   no_server_node : (s : Side) → node_at p.t s.n ≡ Some (client s.c) → b.c.server ≡ s.n → ⊥
   no_server_node s there same =
       let one : server is.receiver.server_row ≡ client s.c = ap (λ (o : Option Node). unwrap_or o (server is.receiver.server_row)) (sym is.receiver.server_is ∙ ap (node_at p.t) same ∙ there) in
@@ -82,15 +83,18 @@ module _ (laws : PacketLaws) (p : Pair) (is : IsPair p) (H : List Full) (q : Ful
   pub keeps_waiting : (j : Journal) → q.moment ≡ now H → journal b.n (q ∷ H) ≡ j → Keeps j (now H) a.own [] → Keeps (journal b.n (q ∷ H)) (now (q ∷ H)) a.own []
   keeps_waiting j moment later keeps = keeps_on H q b.n a.own [] j moment later keeps
 
+  -- ways in stay
   pub on_way : (k : ℕ) (src : Ep) (port : ℕ) (inside : Ep) → IsNext p H q → Way lab H k src port inside → Way lab (q ∷ H) k src port inside
   on_way k src port inside next way = still_way laws.grows lab H q k src port inside next.follows next.calm next.moment way
 
   let_in : (s : Side) (src : Ep) (port : ℕ) → Way lab H s.c.nat src port s.c.inside → lets_in (nat_set_up p.t s.c.nat) (nat_history lab s.c.nat H) (now H) src port ≡ Some s.c.inside
   let_in s src port way = (laws.ends.asked (nat_set_up p.t s.c.nat) (nat_history lab s.c.nat H) (now H) (set_up_past lab H s.c.nat ground.grown) src port s.c.inside).1 way
 
+  -- the receiver has its address and room
   receiver_knows : Knows (setup p.t b) (journal b.n H) (now H) b.own a.own
   receiver_knows = knows laws lab H b.n b.c b.own a.own ground.grown is.receiver.there ground.receiver ground.keeps_nothing.room
 
+  -- so has the sender
   sender_knows : Sends p H → Knows (setup p.t a) (journal a.n H) (now H) a.own b.own
   sender_knows sends = knows laws lab H a.n a.c a.own b.own ground.grown is.sender.there ground.sender sends.room
 
@@ -151,6 +155,7 @@ module _ (laws : PacketLaws) (p : Pair) (is : IsPair p) (H : List Full) (q : Ful
       goes_on 0 (ground_on laws p H q next ground (same_after a e came.did.later left.address) (same_address b jb) (keeps_waiting (journal b.n H) next.moment jb ground.keeps_nothing)) more.longer
       (releases_it more.at (on_way b.c.nat (embedded a.own) (embedded b.own).port b.c.inside next forth))
 
+  -- who sends nothing makes no entry
   made_none : (s : Side) (e : Entry) → Did lab H q s.n (client s.c) e → e.step.sends ≡ [] → q.made ≡ []
   made_none s e did none = did.made ∙ ap (λ (xs : List Send). (by_way lab H (now H) (s.c.nat ∷ []) s.c.inside (armed H) 0 [] xs).made) none
 
@@ -186,6 +191,7 @@ module _ (laws : PacketLaws) (p : Pair) (is : IsPair p) (H : List Full) (q : Ful
 
   -- THE DIRECT BUBBLE
 
+  -- what it leaves
   pub record Passes : Type 0 where
     pub ground_then : Ground p (q ∷ H)
     pub made : q.made ≡ []
@@ -193,6 +199,7 @@ module _ (laws : PacketLaws) (p : Pair) (is : IsPair p) (H : List Full) (q : Ful
     pub sender_stays : journal a.n (q ∷ H) ≡ journal a.n H
     pub may_try : MayTry p H → MayTry p (q ∷ H)
 
+  -- where it is let in
   heard_directly : Arrival lab H q b.n (client b.c) (udp (embedded a.own) (embedded b.own) (bubble_bytes a.own b.own)) → Passes
   heard_directly came =
       let x = bubble_bytes a.own b.own in
@@ -220,6 +227,7 @@ module _ (laws : PacketLaws) (p : Pair) (is : IsPair p) (H : List Full) (q : Ful
       let ours = held_port laws.ends.holds (nat_by p.t b) (nat_history lab b.c.nat H) (now H) b.c.inside inside (embedded b.own).port is.receiver_kind (record { past = past; datagram = way.datagram; counts = way.counts; left = way.left; by_port = way.by_port }) in
       same_inside (nat_by p.t b).kind inside inside b.c.inside inside (laws.one_key (nat_by p.t b) (nat_history lab b.c.nat H) (now H) past inside inside b.c.inside inside (embedded b.own).port theirs ours)
 
+  -- in either case
   pub at_once : (k : ℕ) → Delivery lab H q k → At H k (embedded a.own) (embedded b.own) (bubble_bytes a.own b.own) → Passes
   at_once k d at = by (lets_in (nat_by p.t b) (nat_history lab b.c.nat H) (now H) (embedded a.own) (embedded b.own).port) refl where
     x : List ℕ

@@ -30,6 +30,7 @@ use Rattle.settled.specs.Clients.{is_symmetric}
 abbrev pub CountingHolds : Type 0
 CountingHolds = (s : NatSettings) (h : List Entry) (n : ℕ) → IsPast s h n → (e : Outward) → Contains (counting s.idle n h) e → live_port s.kind e.inside e.dst (live_after s h n) ≡ Some e.port
 
+-- more in front
 pub behind : {A : Type 0} → (x : A) (xs : List A) (y : A) → Contains xs y → Contains (x ∷ xs) y
 behind x xs y c = (suc c.0, (let within = c.1 in omega (arith, within)), c.2)
 
@@ -38,6 +39,7 @@ in_front x xs = (0, omega arith, refl)
 
 -- MORE DATAGRAMS
 
+-- one more leaves what counts
 pub counts_on : (idle n : ℕ) (e : Outward) (h : List Entry) (d : Outward) → Contains (counting idle n h) d → Contains (counting idle n (Out e ∷ h)) d
 counts_on idle n e h d c = by (is_young idle n e) where
   by : (b : Bool) → Contains (cond b (e ∷ counting idle n h) (counting idle n h)) d
@@ -56,6 +58,7 @@ counts_itself idle n e h at positive = by (is_young idle n e) young where
   by true g = in_front e (counting idle n h)
   by false g = absurd (false≢true g)
 
+-- so do many
 all_out : (lab : Lab) (c : ClientNode) (m k idle n : ℕ) (added h : List Entry) (d : Outward) → AllByRecursion (IsOutOf lab c m k) added → Contains (counting idle n h) d → Contains (counting idle n (added ++ h)) d
 all_out lab c m k idle n [] h d a held = held
 all_out lab c m k idle n (x ∷ xs) h d a held =
@@ -89,6 +92,7 @@ still_counts law lab H r k d follows calm moment held =
 abbrev pub Way : Lab → List Full → ℕ → Ep → ℕ → Ep → Type 0
 Way lab H k src port inside = WasAsked (nat_set_up lab.topology k) (nat_history lab k H) (now H) src port inside
 
+-- so a way in stays
 pub still_way : EachNatGrows → (lab : Lab) (H : List Full) (r : Full) (k : ℕ) (src : Ep) (port : ℕ) (inside : Ep) → Follows lab H r → is_calm r.asked ≡ true → r.moment ≡ now H → Way lab H k src port inside → Way lab (r ∷ H) k src port inside
 still_way law lab H r k src port inside follows calm moment way = record {
   datagram = way.datagram;
@@ -115,6 +119,7 @@ pub record Holds (s : NatSettings) (h : List Entry) (n : ℕ) (inside : Ep) (por
   pub left : datagram.inside ≡ inside
   pub by_port : datagram.port ≡ port
 
+-- it goes on from that port
 pub held_port : CountingHolds → (s : NatSettings) (h : List Entry) (n : ℕ) (inside dst : Ep) (port : ℕ) → is_symmetric s.kind ≡ false → Holds s h n inside port → live_port s.kind inside dst (live_after s h n) ≡ Some port
 held_port law s h n inside dst port kind holds =
     any_dst s.kind inside dst holds.datagram.dst (live_after s h n) kind
@@ -122,6 +127,7 @@ held_port law s h n inside dst port kind holds =
     ∙ law s h n holds.past holds.datagram holds.counts
     ∙ ap (λ (p : ℕ). Some p) holds.by_port
 
+-- so the NAT answers it
 pub answers : CountingHolds → (s : NatSettings) (h : List Entry) (n : ℕ) (inside dst : Ep) (port : ℕ) → is_symmetric s.kind ≡ false → same_ip dst.ip s.external ≡ false → Holds s h n inside port → nat_answer s h n inside dst ≡ Ok port
 answers law s h n inside dst port kind elsewhere holds =
     ap (λ (b : Bool). cond b (Err refusal.Hairpin) (port_for (live_port s.kind inside dst (live_after s h n)) (live_after s h n))) elsewhere

@@ -68,7 +68,7 @@ HasArrived m x (q ∷ later) = Arrives m x q ⊎ HasArrived m x later
 
 -- a fresh schedule after it has at most five deliveries; four where the sender's address has the cone bit, and one where the
 -- receiver's has it. A complete one brings the packet to the receiver's host
-pub record IsCarried (H : List Full) (r : Full) (m : ℕ) (own other : Ip6) (x : List ℕ) (later : List Full) : Type 0 where
+pub record GetsThrough (H : List Full) (r : Full) (m : ℕ) (own other : Ip6) (x : List ℕ) (later : List Full) : Type 0 where
   pub few : length later ≤ 5
   pub few_from_cone : has_cone own ≡ true → length later ≤ 4
   pub few_to_cone : has_cone other ≡ true → length later ≤ 1
@@ -77,4 +77,4 @@ pub record IsCarried (H : List Full) (r : Full) (m : ℕ) (own other : Ip6) (x :
 -- the first packet in the record after H is carried in the schedule after it, where this is fresh
 abbrev pub FirstPacketArrives : Lab → List Full → Full → List Full → Type 0
 FirstPacketArrives lab H r later = (n m : ℕ) (a b : ClientNode) (own other : Ip6) (x : List ℕ)
-    → IsFirstPacket lab H r n m a b own other x → AreFresh r later → IsCarried H r m own other x later
+    → IsFirstPacket lab H r n m a b own other x → AreFresh r later → GetsThrough H r m own other x later

@@ -58,7 +58,7 @@ use Rattle.events.specs.Scenario.{Scenario}
 use Rattle.td_base.specs.declared.ipv6.Ip6.{Ip6}
 use Rattle.topology.specs.declared.client_node.ClientNode.{ClientNode}
 use Rattle.history.specs.Full.{Full}
-use Rattle.first_packets.specs.FirstPacket.{IsCarried}
+use Rattle.first_packets.specs.FirstPacket.{GetsThrough}
 use Rattle.worked_scenarios.proofs.Scenes.{name1, name2, ip, ip6, ep, some_words, play}
 use Rattle.worked_scenarios.proofs.MeetingReports.{meeting}
 use Rattle.worked_facts.proofs.FirstPacketViews.{carriage, not_carried}
@@ -103,7 +103,7 @@ pub listed-by-sender-view : carriage 3 4 a_own b_own 0 (play some_words listed-b
 unfolding same_ip same_ip6 cmp_ip6 same_ep is_global is_usable is_global6 is_link_local packet_bytes packet_at fields_of is_packet fields_in is_big checksum_of option_len whole_options echo_request_at echo_reply_at solicit_at advert_at message_at options_at message_bytes hidden_ep shown_at is_teredo server_in flags_in has_cone embedded teredo_ip link_local is_reachable head_at auth_at origin_at lead_at is_keyed is_confirmed is_bubble payload_at is_payload value_in message_in is_ill_formed packet_in source_in packet_given destination_in is_other_kind is_own is_for_server is_solicitation is_forged is_for_client is_not_ours is_unusable is_looped rule_of advert_bytes forwarded server_row is_listed touched listed has_room stay peer_at is_spent is_barred is_trusted_at is_fresh is_full holds_most due_of kept_among cmp_due first_among interval_of first_phase qualification own_address expected solicitation due_step prefixes_in advert_row client_mentions client_standing_at test try_sends is_from_server client_seen reception_fate client_reception client_given client_transmission client_due_at next_due client_in client_out client_tick client_due relay_mentions relay_standing_at relay_given bubble_to relay_transmission relay_seen relay_reception relay_in relay_six relay_tick relay_due native_in native_out next
 listed-by-sender-view = refl
 
-pub listed-by-sender-fails : (r : Full) → slice_get (play some_words listed-by-sender 22 []) 0 ≡ Some r → (x : List ℕ) → IsCarried (drop 1 (play some_words listed-by-sender 22 [])) r 4 a_own b_own x (take 0 (play some_words listed-by-sender 22 [])) → ⊥
+pub listed-by-sender-fails : (r : Full) → slice_get (play some_words listed-by-sender 22 []) 0 ≡ Some r → (x : List ℕ) → GetsThrough (drop 1 (play some_words listed-by-sender 22 [])) r 4 a_own b_own x (take 0 (play some_words listed-by-sender 22 [])) → ⊥
 listed-by-sender-fails = not_carried 3 4 a_own b_own 0 (play some_words listed-by-sender 22 []) _ listed-by-sender-view refl refl
 
 -- b lists a already: its own try, of which one bubble was lost, bars it from answering
@@ -114,7 +114,7 @@ pub listed-by-receiver-view : carriage 3 4 a_own b_own 3 (play some_words listed
 unfolding same_ip same_ip6 cmp_ip6 same_ep is_global is_usable is_global6 is_link_local packet_bytes packet_at fields_of is_packet fields_in is_big checksum_of option_len whole_options echo_request_at echo_reply_at solicit_at advert_at message_at options_at message_bytes hidden_ep shown_at is_teredo server_in flags_in has_cone embedded teredo_ip link_local is_reachable head_at auth_at origin_at lead_at is_keyed is_confirmed is_bubble payload_at is_payload value_in message_in is_ill_formed packet_in source_in packet_given destination_in is_other_kind is_own is_for_server is_solicitation is_forged is_for_client is_not_ours is_unusable is_looped rule_of advert_bytes forwarded server_row is_listed touched listed has_room stay peer_at is_spent is_barred is_trusted_at is_fresh is_full holds_most due_of kept_among cmp_due first_among interval_of first_phase qualification own_address expected solicitation due_step prefixes_in advert_row client_mentions client_standing_at test try_sends is_from_server client_seen reception_fate client_reception client_given client_transmission client_due_at next_due client_in client_out client_tick client_due relay_mentions relay_standing_at relay_given bubble_to relay_transmission relay_seen relay_reception relay_in relay_six relay_tick relay_due native_in native_out next
 listed-by-receiver-view = refl
 
-pub listed-by-receiver-fails : (r : Full) → slice_get (play some_words listed-by-receiver 26 []) 3 ≡ Some r → (x : List ℕ) → IsCarried (drop 4 (play some_words listed-by-receiver 26 [])) r 4 a_own b_own x (take 3 (play some_words listed-by-receiver 26 [])) → ⊥
+pub listed-by-receiver-fails : (r : Full) → slice_get (play some_words listed-by-receiver 26 []) 3 ≡ Some r → (x : List ℕ) → GetsThrough (drop 4 (play some_words listed-by-receiver 26 [])) r 4 a_own b_own x (take 3 (play some_words listed-by-receiver 26 [])) → ⊥
 listed-by-receiver-fails = not_carried 3 4 a_own b_own 3 (play some_words listed-by-receiver 26 []) _ listed-by-receiver-view refl refl
 
 -- the bubble through the server fails
@@ -125,7 +125,7 @@ pub failed-bubble-view : carriage 3 4 a_own b_own 1 (play some_words failed-bubb
 unfolding same_ip same_ip6 cmp_ip6 same_ep is_global is_usable is_global6 is_link_local packet_bytes packet_at fields_of is_packet fields_in is_big checksum_of option_len whole_options echo_request_at echo_reply_at solicit_at advert_at message_at options_at message_bytes hidden_ep shown_at is_teredo server_in flags_in has_cone embedded teredo_ip link_local is_reachable head_at auth_at origin_at lead_at is_keyed is_confirmed is_bubble payload_at is_payload value_in message_in is_ill_formed packet_in source_in packet_given destination_in is_other_kind is_own is_for_server is_solicitation is_forged is_for_client is_not_ours is_unusable is_looped rule_of advert_bytes forwarded server_row is_listed touched listed has_room stay peer_at is_spent is_barred is_trusted_at is_fresh is_full holds_most due_of kept_among cmp_due first_among interval_of first_phase qualification own_address expected solicitation due_step prefixes_in advert_row client_mentions client_standing_at test try_sends is_from_server client_seen reception_fate client_reception client_given client_transmission client_due_at next_due client_in client_out client_tick client_due relay_mentions relay_standing_at relay_given bubble_to relay_transmission relay_seen relay_reception relay_in relay_six relay_tick relay_due native_in native_out next
 failed-bubble-view = refl
 
-pub failed-bubble-fails : (r : Full) → slice_get (play some_words failed-bubble 23 []) 1 ≡ Some r → (x : List ℕ) → IsCarried (drop 2 (play some_words failed-bubble 23 [])) r 4 a_own b_own x (take 1 (play some_words failed-bubble 23 [])) → ⊥
+pub failed-bubble-fails : (r : Full) → slice_get (play some_words failed-bubble 23 []) 1 ≡ Some r → (x : List ℕ) → GetsThrough (drop 2 (play some_words failed-bubble 23 [])) r 4 a_own b_own x (take 1 (play some_words failed-bubble 23 [])) → ⊥
 failed-bubble-fails = not_carried 3 4 a_own b_own 1 (play some_words failed-bubble 23 []) _ failed-bubble-view refl refl
 
 -- both are behind one NAT, which sends nothing back to itself
@@ -136,5 +136,5 @@ pub one-nat-view : carriage 3 4 a_own b_own_too 2 (play some_words one-nat 23 []
 unfolding same_ip same_ip6 cmp_ip6 same_ep is_global is_usable is_global6 is_link_local packet_bytes packet_at fields_of is_packet fields_in is_big checksum_of option_len whole_options echo_request_at echo_reply_at solicit_at advert_at message_at options_at message_bytes hidden_ep shown_at is_teredo server_in flags_in has_cone embedded teredo_ip link_local is_reachable head_at auth_at origin_at lead_at is_keyed is_confirmed is_bubble payload_at is_payload value_in message_in is_ill_formed packet_in source_in packet_given destination_in is_other_kind is_own is_for_server is_solicitation is_forged is_for_client is_not_ours is_unusable is_looped rule_of advert_bytes forwarded server_row is_listed touched listed has_room stay peer_at is_spent is_barred is_trusted_at is_fresh is_full holds_most due_of kept_among cmp_due first_among interval_of first_phase qualification own_address expected solicitation due_step prefixes_in advert_row client_mentions client_standing_at test try_sends is_from_server client_seen reception_fate client_reception client_given client_transmission client_due_at next_due client_in client_out client_tick client_due relay_mentions relay_standing_at relay_given bubble_to relay_transmission relay_seen relay_reception relay_in relay_six relay_tick relay_due native_in native_out next
 one-nat-view = refl
 
-pub one-nat-fails : (r : Full) → slice_get (play some_words one-nat 23 []) 2 ≡ Some r → (x : List ℕ) → IsCarried (drop 3 (play some_words one-nat 23 [])) r 4 a_own b_own_too x (take 2 (play some_words one-nat 23 [])) → ⊥
+pub one-nat-fails : (r : Full) → slice_get (play some_words one-nat 23 []) 2 ≡ Some r → (x : List ℕ) → GetsThrough (drop 3 (play some_words one-nat 23 [])) r 4 a_own b_own_too x (take 2 (play some_words one-nat 23 [])) → ⊥
 one-nat-fails = not_carried 3 4 a_own b_own_too 2 (play some_words one-nat 23 []) _ one-nat-view refl refl

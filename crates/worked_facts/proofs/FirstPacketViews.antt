@@ -11,7 +11,7 @@ use Rattle.client_rules.specs.Bearings.{mentions}
 use Rattle.history.specs.Full.{Full, wire}
 use Rattle.legal.specs.Past.{now, journal, was_delivered}
 use Rattle.first_packets.specs.Schedules.{is_fault, IsComplete}
-use Rattle.first_packets.specs.FirstPacket.{HasArrived, IsCarried}
+use Rattle.first_packets.specs.FirstPacket.{HasArrived, GetsThrough}
 
 -- the numbers from i on, so many, that no record of these delivered
 abbrev pub left_from : List Full → ℕ → ℕ → List ℕ
@@ -84,7 +84,7 @@ rejoined (suc k) (q ∷ H) r at = ap (λ (z : List Full). q ∷ z) (rejoined k H
 
 -- a complete schedule that hands nothing over carries nothing
 pub not_carried : (n m : ℕ) (own other : Ip6) (k : ℕ) (H : List Full) (c : Carriage) → carriage n m own other k H ≡ Some c → c.left ≡ [] → is_none_over c.handed ≡ true
-    → (r : Full) → slice_get H k ≡ Some r → (x : List ℕ) → IsCarried (drop (suc k) H) r m own other x (take k H) → ⊥
+    → (r : Full) → slice_get H k ≡ Some r → (x : List ℕ) → GetsThrough (drop (suc k) H) r m own other x (take k H) → ⊥
 not_carried n m own other k H c seen left none r at x carried =
     let is : carriage_of n m own other (drop (suc k) H) H (take k H) r ≡ c = ap (λ (o : Option Carriage). unwrap_or o c) (sym (ap (option_map (carriage_of n m own other (drop (suc k) H) H (take k H))) at) ∙ seen) in
     let nothing : left_from (take k H) r.first (length (wire H) - r.first) ≡ [] = ap (λ (v : Carriage). v.left) is ∙ left in
