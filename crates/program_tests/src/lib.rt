@@ -24,6 +24,7 @@
 //! | `arrivals` | `run` on `serve`, over a link in memory |
 //! | `sockets` | `run` on `serve`, over two sockets |
 //! | `qualifications` | `run` on `qualify`, over a link in memory |
+//! | `chain_texts` | `scenario` and `td_chain` |
 //! | `worlds` | `scenario` and `world` |
 //! | `lines` | `report` |
 //! | `names` | `topology` |
@@ -34,6 +35,8 @@
 mod arrivals;
 #[cfg(test)]
 mod captures;
+#[cfg(test)]
+mod chain_texts;
 #[cfg(test)]
 mod clients;
 #[cfg(test)]
