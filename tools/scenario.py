@@ -13,8 +13,9 @@
 Every text that comes of it is one that docs/SCENARIOS.md allows, where the names and the events are.
 """
 
-# How long each client needs until it has an answer to wait for: behind a cone NAT none, behind another one three questions.
-QUALIFY_MS = (0, 12000, 0)
+# How long each client needs until it has an answer to wait for: no time, twice where it doesn't try the cone phase; else,
+# behind a NAT that isn't cone, as long as three questions take, and then none.
+QUALIFY_MS = (0, 0, 12000, 0)
 IDLE_MS = 60_000
 
 
@@ -45,11 +46,11 @@ class Scenario:
         """198.51.100.1, and so on."""
         return self.add('nat', name, kind=kind, external=f'198.51.100.{self.next_number("nat")}', idle=idle)
 
-    def client(self, name, nat, server=None, refresh=None):
-        """Inside 10.0.0.2:4000, and so on; of the latest server where none is named."""
+    def client(self, name, nat, server=None, refresh=None, **more):
+        """Inside 10.0.0.2:4000, and so on; of the latest server where none is named. Any other keys go as they are."""
         inside = f'10.0.0.{self.next_number("client") + 1}:4000'
         keys = {'nat': nat, 'inside': inside, 'server': server or self.latest('server')}
-        return self.add('client', name, **keys, **({'refresh': list(refresh)} if refresh else {}))
+        return self.add('client', name, **keys, **({'refresh': list(refresh)} if refresh else {}), **more)
 
     def relay(self, name):
         """203.0.113.9:3545 and 2001:db8:9::1, and so on."""
@@ -77,4 +78,4 @@ class Scenario:
 
 
 def quoted(value):
-    return f'"{value}"' if isinstance(value, str) else str(value)
+    return f'"{value}"' if isinstance(value, str) else str(value).lower()
