@@ -1,0 +1,244 @@
+#!/usr/bin/env python3
+"""orders.py [--check] [PROGRAM]: what becomes of a first packet, in each order of the deliveries that it draws.
+
+The host of `a` sends its first packet to `b`, for each pair of kinds of clients; `no-bit` is behind a cone NAT, and doesn't try
+the cone phase. Then all that follows is delivered, each entry once, in every order in which it can be. The first table has
+how many orders there are, the least and the most deliveries, and in how many orders the packet is handed over by which
+rule, or never. The second one has the fates of the orders, and when the straight bubble of `a` is delivered in them. The third
+one has what breaks a premise: whether the packet arrives, how many entries are left, and each fate once. `--check`
+prints nothing where the tables are those of `orders.txt`, the fates those of the table in docs/GUIDE.md, and a packet is
+handed over just where it should be; else what differs, with status 1. `--scenario FROM TO` prints the scenario of a pair,
+and `--without NUMBER` that of a line of the third table, counted from 1.
+"""
+import collections
+import os
+import re
+import sys
+
+sys.dont_write_bytecode = True
+
+HERE = os.path.dirname(os.path.abspath(__file__))
+sys.path[:0] = [HERE, os.path.join(HERE, '..', 'tools')]
+
+import command
+import make
+from scenario import Scenario
+
+STORED = os.path.join(HERE, 'orders.txt')
+GUIDE = os.path.join(HERE, '..', 'docs', 'GUIDE.md')
+# The kind of the NAT of each kind of client, and keys of its own.
+KINDS = {'cone': ('cone', {}), 'no-bit': ('cone', {'cone_try': False}), 'restricted': ('restricted', {}), 'port': ('port', {})}
+PLACES = ['first', 'second', 'third', 'fourth', 'last', 'not sent']
+NOT_SENT = PLACES.index('not sent')
+SERVER = '192.0.2.1'
+PACKET = 'host a b 00'
+
+# A record of a report, as far as it matters here; `made` has the number of each new entry, and where it goes.
+Record = collections.namedtuple('Record', 'act node fate made handed')
+
+
+def lab(source='port', target='port', one_nat=False):
+    """Both clients, which have qualified."""
+    made = Scenario()
+    made.server('s1')
+    nat = None
+    for number, (name, kind) in enumerate((('a', source), ('b', target)), 1):
+        nat_kind, keys = KINDS[kind]
+        nat = nat if nat and one_nat else made.nat(f'n{number}', nat_kind)
+        made.client(name, nat, **keys)
+    made.qualify()
+    return made
+
+
+def play(program, text):
+    """The record of the last packet that the host of `a` hands in, and those after it."""
+    status, written = command.play(program, text)
+    if status:
+        raise command.Refusal(f'status {status}: {written}')
+    records = []
+    for _, _, _, act, node, fate, *marks in map(str.split, written.splitlines()[:-1]):
+        made = [(int(number), target) for number, target in re.findall(r'#(\d+)=[^> ]*>(\S+)/', ' '.join(marks))]
+        records.append(Record(act, node, fate, made, any(mark.startswith('handed/') for mark in marks)))
+    return records[max(at for at, record in enumerate(records) if (record.act, record.node) == ('host', 'a')):]
+
+
+def number_of(record):
+    return int(record.act.removeprefix('deliver:'))
+
+
+def undelivered(records):
+    """What these records made, and didn't deliver, in the order of the numbers."""
+    delivered = {number_of(record) for record in records if record.act.startswith('deliver:')}
+    return [number for record in records for number, _ in record.made if number not in delivered]
+
+
+def pair_scenario(source, target, front=()):
+    made = lab(source, target)
+    made.event(PACKET, *(f'deliver {number}' for number in front), 'settle')
+    return made.text()
+
+
+def orders(program, source, target):
+    """Every order: the record of the packet, and the deliveries. Each play is one order, since `settle` ends what begins it."""
+    fronts = [[]]
+    while fronts:
+        front = fronts.pop()
+        order = play(program, pair_scenario(source, target, front))[:-1]
+        yield order
+        numbers = [number_of(record) for record in order[1:]]
+        for place in range(len(front), len(numbers)):
+            others = set(undelivered(order[:place + 1])) - {numbers[place]}
+            fronts += [numbers[:place] + [other] for other in others]
+
+
+def arrival(order):
+    """The fate of the delivery that hands the packet to the host of `b`, or None."""
+    return next((record.fate for record in order[1:] if record.node == 'b' and record.handed), None)
+
+
+def sequence(order):
+    """When the straight bubble is delivered, and the fates of all deliveries."""
+    straight = [number for number, target in order[0].made if order[0].fate == 'queued' and not target.endswith(':3544')]
+    numbers = [number_of(record) for record in order[1:]]
+    return numbers.index(straight[0]) if straight else NOT_SENT, ' '.join(record.fate for record in order[1:])
+
+
+# Each plays the end of a scenario in which a premise doesn't hold.
+
+def listed_by_sender(made):
+    made.event(PACKET, PACKET)
+
+
+def listed_by_receiver(made):
+    made.event('fault 0', 'host b a 00', PACKET, 'deliver 21', 'deliver 22', 'deliver 23')
+
+
+def listed_for_stranger(made):
+    asking, asked = '198.51.100.1:1024', '198.51.100.2:1024'
+    bubble = make.bubble(make.teredo(SERVER, asking), make.teredo(SERVER, asked))
+    made.event(f'stranger {asking} {SERVER}:3544 {bubble.hex()}', 'settle', PACKET, 'deliver 24', 'deliver 25', 'deliver 23')
+
+
+def fill(made, name):
+    made.event(*(f'host {name} 2001:db8::{number:x} 00' for number in range(256)))
+
+
+def no_room_at_sender(made):
+    fill(made, 'a')
+    made.event(PACKET)
+
+
+def no_room_at_receiver(made):
+    fill(made, 'b')
+    made.event(PACKET, 'deliver 276', 'deliver 277', 'deliver 278')
+
+
+def failed_send(made):
+    made.event('fault 1', PACKET, 'settle')
+
+
+def lost(made):
+    made.event(PACKET, 'deliver 20')
+
+
+def waited(made):
+    made.event(PACKET, 'advance 8000', 'settle')
+
+
+def one_nat(made):
+    made.event(PACKET, 'settle')
+
+
+# what breaks a premise, in the order of docs/GUIDE.md, and its scenario
+WITHOUT = [
+    ('a lists b: it has just tried', listed_by_sender),
+    ('b lists a: it has just tried, in vain', listed_by_receiver),
+    ('b lists a: a stranger had asked it', listed_for_stranger),
+    ('a lists 256 others', no_room_at_sender),
+    ('b lists 256 others', no_room_at_receiver),
+    ('the bubble to the server fails', failed_send),
+    ('the bubble to the server is lost', lost),
+    ('8 seconds pass', waited),
+    ('both are behind one NAT', one_nat),
+]
+
+
+def without(line):
+    made = lab(one_nat=line[1] is one_nat)
+    line[1](made)
+    return made.text()
+
+
+def first_table(played):
+    text = 'from'.ljust(12) + 'to'.ljust(12) + ''.join(head.rjust(8) for head in ('orders', 'least', 'most', 'rule1', 'rule3', 'never')) + '\n'
+    for (source, target), found in played.items():
+        lengths, rules = [len(order) - 1 for order in found], [arrival(order) for order in found]
+        cells = [len(found), min(lengths), max(lengths), *(rules.count(rule) for rule in ('rule1', 'rule3', None))]
+        text += source.ljust(12) + target.ljust(12) + ''.join(str(cell).rjust(8) for cell in cells) + '\n'
+    return text
+
+
+def second_table(played):
+    counted = collections.Counter(sequence(order) for found in played.values() for order in found)
+    text = 'bubble'.ljust(12) + 'orders'.rjust(8) + '  fates\n'
+    for (place, fates), count in sorted(counted.items()):
+        text += PLACES[place].ljust(12) + str(count).rjust(8) + f'  {fates}\n'
+    return text
+
+
+def third_table(played):
+    text = 'without'.ljust(40) + 'arrives   left  fates\n'
+    for (premise, _), order in zip(WITHOUT, played):
+        fates = ' '.join(dict.fromkeys(record.fate for record in order if record.act.startswith('deliver:'))) or '-'
+        text += premise.ljust(40) + ('yes' if arrival(order) else 'no').ljust(7) + str(len(undelivered(order))).rjust(7) + f'  {fates}\n'
+    return text
+
+
+def in_guide():
+    """What docs/GUIDE.md has: the sequences of its table, how many orders there are, and how many things break a premise."""
+    section = command.read(GUIDE).split('### In whatever order\n')[1].split('\n#')[0]
+    rows = re.findall(r"^\| (?:comes (\w+)[^|]*|isn't sent[^|]*) \|[^|]*\| ([^|]*) \|$", section, flags=re.M)
+    sequences = sorted((PLACES.index(place or 'not sent'), ' '.join(re.findall('`(.*?)`', fates))) for place, fates in rows)
+    return sequences, int(re.search(r'(\d+) in all', section)[1]), len(re.findall(r'^\d\. ', section, flags=re.M))
+
+
+def differences(made, played, broken):
+    found = []
+    if command.read(STORED) != made:
+        found.append(f'orders.txt has other tables than those played:\n{made}')
+    sequences = sorted({sequence(order) for (_, target), orders_of in played.items() if target != 'cone' for order in orders_of})
+    of_play = sequences, sum(map(len, played.values())), len(WITHOUT)
+    if in_guide() != of_play:
+        found.append(f'docs/GUIDE.md has {in_guide()}, and played are {of_play}')
+    for (source, target), orders_of in played.items():
+        most = 1 if target == 'cone' else 4 if source == 'cone' else 5
+        found += [f'{source} to {target}: {sequence(order)}' for order in orders_of if not arrival(order) or len(order) - 1 > most]
+    found += [f'without: {premise}: it arrives' for (premise, _), order in zip(WITHOUT, broken) if arrival(order)]
+    return found
+
+
+def options_of(words):
+    parser = command.words(__doc__)
+    parser.add_argument('program', metavar='PROGRAM', nargs='?', default=command.PROGRAM)
+    what = parser.add_mutually_exclusive_group()
+    what.add_argument('--check', action='store_true', help='compare with the tables that are stored')
+    what.add_argument('--scenario', nargs=2, metavar=('FROM', 'TO'), choices=KINDS, help='print the scenario of a pair')
+    what.add_argument('--without', metavar='NUMBER', type=int, choices=range(1, len(WITHOUT) + 1), help='print that of a line of the third table')
+    return parser.parse_args(words)
+
+
+def main():
+    options = options_of(sys.argv[1:])
+    if options.scenario or options.without:
+        print(pair_scenario(*options.scenario) if options.scenario else without(WITHOUT[options.without - 1]), end='')
+        return 0
+    program = os.path.abspath(options.program)
+    played = {(source, target): list(orders(program, source, target)) for source in KINDS for target in KINDS}
+    broken = [play(program, without(line)) for line in WITHOUT]
+    made = '\n'.join([first_table(played), second_table(played), third_table(broken)])
+    found = differences(made, played, broken) if options.check else [made.rstrip('\n')]
+    print('\n'.join(found), end='\n' if found else '')
+    return command.FOUND if options.check and found else 0
+
+
+command.run(main)
