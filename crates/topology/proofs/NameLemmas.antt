@@ -1,10 +1,10 @@
 -- A name has one text, and a text one name.
-use Rattle.std.specs.Cmp.Lexicographic.{pointwise_decides}
-use Rattle.std.specs.Prelude.{◌-◌, replicate}
+use Rattle.std.specs.Cmp.Lexicographic.{pointwise, pointwise_decides}
+use Rattle.std.specs.Prelude.{◌-◌, ◌==◌, ◌&&◌, nat_eq, replicate}
 use Rattle.std.specs.Bool.{Decides}
 use Rattle.std.proofs.Common.{◌≡◌, ℕ, ◌≤◌, true, List, ◌++◌, length, take, refl, sym, ap, subst, ◌∙◌, arith}
 use Rattle.std.proofs.Props.{props}
-use Rattle.std.proofs.lemmas.Bool.Decides.{Decides-eqb}
+use Rattle.std.proofs.lemmas.Bool.Decides.{Decides-eqb, Decides-and, same_from_decides}
 use Rattle.std.proofs.lemmas.List.{length-take-le}
 use Rattle.topology.specs.declared.node_name.Name.{Name}
 use Rattle.topology.specs.declared.node_name.TheConstants.{NAME_LEN}
@@ -46,3 +46,11 @@ same_name-self a = (same_name_decides a a).1 refl
 
 pub same_name-true : (a b : Name) → same_name a b ≡ true → a ≡ b
 same_name-true a b = (same_name_decides a b).0
+
+-- the texts are the same exactly where all bytes are
+pub by_all_bytes : (a b : Name) → ((a.len == b.len) && pointwise nat_eq a.bytes b.bytes) ≡ same_name a b
+by_all_bytes a b =
+    let both = Decides-and (a.len == b.len) (pointwise nat_eq a.bytes b.bytes) (Decides-eqb a.len b.len) (pointwise_decides Decides-eqb a.bytes b.bytes) in
+    let all : Decides ((a.len == b.len) && pointwise nat_eq a.bytes b.bytes) (a ≡ b) =
+    (λ t. let h = both.0 t in same_parts a b h.0 h.1, λ e. both.1 (ap (λ (x : Name). x.len) e, ap (λ (x : Name). x.bytes) e)) in
+    same_from_decides _ _ all (same_name_decides a b)

@@ -7,6 +7,7 @@ ghost use Rattle.topology.specs.Named.{has_host, is_server, is_nat, is_relay, is
 use crate::client_node::ClientNode;
 use crate::nat_node::NatNode;
 use crate::native_node::NativeNode;
+use crate::node_name::Name;
 use crate::relay_node::RelayNode;
 use crate::server_node::ServerNode;
 use crate::topology::Topology;
@@ -23,10 +24,14 @@ fn nat_place(rows: &[NatNode], word: &[u8]) -> Option<usize>
     rows.iter().position(|row| row.name.as_slice() == word)
 }
 
+#[tactic(auto, unfolding(crate::specs::Names::same_name))]
 fn client_place(rows: &[ClientNode], word: &[u8]) -> Option<usize>
     ensures { result ≡ position (λ row. pointwise nat_eq (name_text row.name) word.now) rows.now }
 {
-    rows.iter().position(|row| row.name.as_slice() == word)
+    let Some(name) = Name::new(word) else {
+        return rows.iter().position(|row| row.name.as_slice() == word);
+    };
+    rows.iter().position(|row| row.name == name)
 }
 
 fn relay_place(rows: &[RelayNode], word: &[u8]) -> Option<usize>
@@ -35,10 +40,14 @@ fn relay_place(rows: &[RelayNode], word: &[u8]) -> Option<usize>
     rows.iter().position(|row| row.name.as_slice() == word)
 }
 
+#[tactic(auto, unfolding(crate::specs::Names::same_name))]
 fn native_place(rows: &[NativeNode], word: &[u8]) -> Option<usize>
     ensures { result ≡ position (λ row. pointwise nat_eq (name_text row.name) word.now) rows.now }
 {
-    rows.iter().position(|row| row.name.as_slice() == word)
+    let Some(name) = Name::new(word) else {
+        return rows.iter().position(|row| row.name.as_slice() == word);
+    };
+    rows.iter().position(|row| row.name == name)
 }
 
 fn place_behind(rows: &[ClientNode], nat: u16, word: &[u8]) -> Option<usize>

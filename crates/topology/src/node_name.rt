@@ -1,6 +1,9 @@
 //! The name of a node.
-ghost use Rattle.std.specs.Prelude.{◌≡◌, ◌-◌, ◌≤◌, ◌++◌, length, take, replicate};
+ghost use Rattle.std.specs.Prelude.{◌≡◌, ◌==◌, ◌&&◌, ◌-◌, ◌≤◌, ◌++◌, nat_eq, length, take, replicate};
+ghost use Rattle.std.specs.Cmp.Lexicographic.{pointwise};
 ghost use Rattle.topology.specs.declared.node_name.TheConstants.{NAME_LEN};
+
+use td_base::Ip6;
 
 /// How many bytes a name has at most.
 pub const NAME_LEN: usize = 16;
@@ -46,6 +49,14 @@ impl Name {
     }
 }
 
+/// Whether length and all sixteen bytes are the same. The bytes are compared as two numbers, as those of an address are.
+#[tactic(auto, unfolding(td_base::specs::Ip6::same_ip6))]
+fn have_same_bytes(a: &Name, b: &Name) -> bool
+    ensures { result ≡ ((a.now.len == b.now.len) && pointwise nat_eq a.now.bytes b.now.bytes) }
+{
+    a.len == b.len && Ip6(a.bytes) == Ip6(b.bytes)
+}
+
 impl PartialEq for Name {
     ghost use Rattle.std.specs.Cmp.{partial_equiv_from_equiv};
     ghost use Rattle.topology.specs.Names.{same_name, same_name_equiv};
@@ -54,9 +65,9 @@ impl PartialEq for Name {
 
     ghost laws = { partial_equiv_from_equiv same_name_equiv };
 
-    #[tactic(auto, unfolding(crate::specs::Names::same_name))]
+    #[tactic(auto, using(crate::proofs::NameLemmas::by_all_bytes))]
     fn eq(&self, other: &Name) -> bool {
-        self.as_slice() == other.as_slice()
+        have_same_bytes(self, other)
     }
 }
 
