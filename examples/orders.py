@@ -6,8 +6,8 @@ the cone phase. Then all that follows is delivered, each entry once, in every or
 how many orders there are, the least and the most deliveries, and in how many orders the packet is handed over by which
 rule, or never. The second one has the fates of the orders, and when the straight bubble of `a` is delivered in them. The third
 one has what breaks a premise: whether the packet arrives, how many entries are left, and each fate once. `--check`
-prints nothing where the tables are those of `orders.txt`, the fates those of the table in docs/GUIDE.md, and a packet is
-handed over just where it should be; else what differs, with status 1. `--scenario FROM TO` prints the scenario of a pair,
+prints nothing where the tables are those of `orders.txt`, the fates those of the table in docs/SURE.md and of the examples that
+it names, and a packet is handed over just where it should be; else what differs, with status 1. `--scenario FROM TO` prints the scenario of a pair,
 and `--without NUMBER` that of a line of the third table, counted from 1.
 """
 import collections
@@ -25,7 +25,8 @@ import make
 from scenario import Scenario
 
 STORED = os.path.join(HERE, 'orders.txt')
-GUIDE = os.path.join(HERE, '..', 'docs', 'GUIDE.md')
+SURE = os.path.join(HERE, '..', 'docs', 'SURE.md')
+SCENARIOS = os.path.join(HERE, 'scenarios')
 # The kind of the NAT of each kind of client, and keys of its own.
 KINDS = {'cone': ('cone', {}), 'no-bit': ('cone', {'cone_try': False}), 'restricted': ('restricted', {}), 'port': ('port', {})}
 PLACES = ['first', 'second', 'third', 'fourth', 'last', 'not sent']
@@ -51,15 +52,21 @@ def lab(source='port', target='port', one_nat=False):
 
 
 def play(program, text):
-    """The record of the last packet that the host of `a` hands in, and those after it."""
+    """The records from the last packet on that the host of `a` hands in."""
     status, written = command.play(program, text)
     if status:
         raise command.Refusal(f'status {status}: {written}')
+    return from_packet(written)
+
+
+def from_packet(written, first=False):
+    """The same of a report, or from the first such packet on."""
     records = []
     for _, _, _, act, node, fate, *marks in map(str.split, written.splitlines()[:-1]):
         made = [(int(number), target) for number, target in re.findall(r'#(\d+)=[^> ]*>(\S+)/', ' '.join(marks))]
         records.append(Record(act, node, fate, made, any(mark.startswith('handed/') for mark in marks)))
-    return records[max(at for at, record in enumerate(records) if (record.act, record.node) == ('host', 'a')):]
+    at = [at for at, record in enumerate(records) if (record.act, record.node) == ('host', 'a')]
+    return records[at[0 if first else -1]:]
 
 
 def number_of(record):
@@ -145,11 +152,15 @@ def waited(made):
     made.event(PACKET, 'advance 8000', 'settle')
 
 
+def waited_midway(made):
+    made.event(PACKET, 'next', 'next', 'next', 'advance 30000', 'settle')
+
+
 def one_nat(made):
     made.event(PACKET, 'settle')
 
 
-# what breaks a premise, in the order of docs/GUIDE.md, and its scenario
+# what breaks a premise, in the order of docs/SURE.md, and its scenario
 WITHOUT = [
     ('a lists b: it has just tried', listed_by_sender),
     ('b lists a: it has just tried, in vain', listed_by_receiver),
@@ -159,6 +170,7 @@ WITHOUT = [
     ('the bubble to the server fails', failed_send),
     ('the bubble to the server is lost', lost),
     ('8 seconds pass', waited),
+    ('30 seconds pass after three deliveries', waited_midway),
     ('both are behind one NAT', one_nat),
 ]
 
@@ -194,12 +206,19 @@ def third_table(played):
     return text
 
 
-def in_guide():
-    """What docs/GUIDE.md has: the sequences of its table, how many orders there are, and how many things break a premise."""
-    section = command.read(GUIDE).split('### In whatever order\n')[1].split('\n#')[0]
-    rows = re.findall(r"^\| (?:comes (\w+)[^|]*|isn't sent[^|]*) \|[^|]*\| ([^|]*) \|$", section, flags=re.M)
-    sequences = sorted((PLACES.index(place or 'not sent'), ' '.join(re.findall('`(.*?)`', fates))) for place, fates in rows)
-    return sequences, int(re.search(r'(\d+) in all', section)[1]), len(re.findall(r'^\d\. ', section, flags=re.M))
+def in_page():
+    """What docs/SURE.md has: each row of its table with its example, how many orders there are, and how many things break a premise."""
+    section = command.read(SURE).split('\n## The first packet\n')[1].split('\n## ')[0]
+    rows = re.findall(r"^\| \d \| (?:comes (\w+)[^|]*|isn't sent[^|]*) \|[^|]*\| ([^|]*) \| `(\w+)` \|$", section, flags=re.M)
+    sequences = [(PLACES.index(place or 'not sent'), ' '.join(re.findall('`(.*?)`', fates)), name) for place, fates, name in rows]
+    return sequences, int(re.search(r'(\d+) in all', section)[1]), len(re.findall(r'^\d+\. ', section, flags=re.M))
+
+
+def of_example(name, length):
+    """The sequence of an example's first packet, which has so many deliveries."""
+    records = from_packet(command.read(os.path.join(SCENARIOS, f'{name}.toml.stdout')), first=True)
+    deliveries = [record for record in records if record.act.startswith('deliver:')]
+    return sequence(records[:1] + deliveries[:length])
 
 
 def differences(made, played, broken):
@@ -207,9 +226,13 @@ def differences(made, played, broken):
     if command.read(STORED) != made:
         found.append(f'orders.txt has other tables than those played:\n{made}')
     sequences = sorted({sequence(order) for (_, target), orders_of in played.items() if target != 'cone' for order in orders_of})
+    rows, orders_said, broken_said = in_page()
     of_play = sequences, sum(map(len, played.values())), len(WITHOUT)
-    if in_guide() != of_play:
-        found.append(f'docs/GUIDE.md has {in_guide()}, and played are {of_play}')
+    of_page = sorted((place, fates) for place, fates, _ in rows), orders_said, broken_said
+    if of_page != of_play:
+        found.append(f'docs/SURE.md has {of_page}, and played are {of_play}')
+    found += [f'{name} shows {of_example(name, fates.count(" ") + 1)}, not {place, fates}' for place, fates, name in rows
+              if of_example(name, fates.count(' ') + 1) != (place, fates)]
     for (source, target), orders_of in played.items():
         most = 1 if target == 'cone' else 4 if source == 'cone' else 5
         found += [f'{source} to {target}: {sequence(order)}' for order in orders_of if not arrival(order) or len(order) - 1 > most]
