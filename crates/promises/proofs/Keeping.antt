@@ -1,11 +1,13 @@
 -- Every history keeps all that is proved of it, at each of its records.
-use Rattle.std.proofs.Common.{◌≡◌, true, List, [], ◌∷◌, ◌++◌, refl, ap, subst, ◌∙◌}
+use Rattle.std.proofs.Common.{◌≡◌, true, List, [], ◌∷◌, ◌++◌, ap, sym, subst, ◌∙◌}
 use Rattle.std.specs.List.{AllByRecursion}
 use Rattle.teredo_addr.specs.Teredo.{embedded}
+use Rattle.topology.specs.Rules.{IsTopology}
+use Rattle.topology.specs.Chains.{Behind}
 use Rattle.events.specs.declared.event.Event.{Event}
 use Rattle.events.specs.Events.{IsEvent}
 use Rattle.history.specs.Full.{Full}
-use Rattle.legal.specs.Lab.{Lab, flat_lab, lab_of, draws}
+use Rattle.legal.specs.Lab.{Lab, lab_on, lab_of}
 use Rattle.legal.specs.Legal.{Begun, Grown}
 use Rattle.origins.specs.Honest.{are_honest}
 use Rattle.origins.specs.Live.{EachIsHeld}
@@ -14,6 +16,7 @@ use Rattle.verdicts.specs.Throughout.{HasRightVerdictsThroughout, HistoriesHaveR
 use Rattle.storms.specs.Throughout.{HasNoStormThroughout, HistoriesHaveNoStorm}
 use Rattle.first_packets.specs.Throughout.{FirstPacketsArrive, HistoriesCarryFirstPackets}
 use Rattle.promises.specs.Kept.{
+  IsFlat,
   OriginsAreTold,
   AddressIsHeld,
   VerdictsAreRight,
@@ -28,14 +31,15 @@ module _ (lab : Lab) (H : List Full) (have : HasOriginsThroughout lab H) where
   told later [] split = tt
   told later (r ∷ before) split = have later r before split
 
-  held : EachIsHeld → lab.chain ≡ [] → (later before : List Full) → H ≡ later ++ before → are_honest lab.topology before ≡ true → AddressIsHeld lab before
-  held law flat later [] split honest = tt
-  held law flat later (r ∷ before) split honest = λ n c own node client address.
+  held : EachIsHeld → (later before : List Full) → H ≡ later ++ before → are_honest lab.topology before ≡ true → AddressIsHeld lab before
+  held law later [] split honest = tt
+  held law later (r ∷ before) split honest = λ flat n c own node client address.
       law lab (r ∷ before) c (embedded own) flat ((have later r before split).live n c own honest node client address)
 
-right : (lab : Lab) (H : List Full) → HasRightVerdictsThroughout lab H → (later before : List Full) → H ≡ later ++ before → VerdictsAreRight lab before
+right : (lab : Lab) (H : List Full) → (IsFlat lab → HasRightVerdictsThroughout lab H) → (later before : List Full) → H ≡ later ++ before
+    → VerdictsAreRight lab before
 right lab H have later [] split = tt
-right lab H have later (r ∷ before) split = have later r before split
+right lab H have later (r ∷ before) split = λ flat. have flat later r before split
 
 -- records that end an earlier history stand within the whole one
 within : {H ended : List Full} (rest before : List Full) → H ≡ rest ++ before → before ≡ ended → H ≡ rest ++ ended
@@ -44,8 +48,17 @@ within rest before split ends = split ∙ ap (λ (z : List Full). rest ++ z) end
 few : (lab : Lab) (H : List Full) → HasNoStormThroughout lab.topology H → (rest before : List Full) → H ≡ rest ++ before → DeliveriesAreFew lab before
 few lab H have rest before split later earlier ends = have rest later earlier (within rest before split ends)
 
-carried : (lab : Lab) (H : List Full) → FirstPacketsArrive lab H → (rest before : List Full) → H ≡ rest ++ before → FirstPacketIsCarried lab before
-carried lab H have rest before split later r earlier ends = have rest later r earlier (within rest before split ends)
+carried : (lab : Lab) (H : List Full) → (IsFlat lab → FirstPacketsArrive lab H) → (rest before : List Full) → H ≡ rest ++ before
+    → FirstPacketIsCarried lab before
+carried lab H have rest before split flat later r earlier ends = have flat rest later r earlier (within rest before split ends)
+
+-- the law of first packets, over a laboratory
+module _ (law : HistoriesCarryFirstPackets) (lab : Lab) where
+  abbrev HasThem : Lab → Type 0
+  HasThem lab = (H : List Full) → IsTopology lab.topology → Grown lab H → FirstPacketsArrive lab H
+
+  first : IsFlat lab → HasThem lab
+  first flat = subst (λ (chain : List Behind). HasThem (lab_on lab.draws lab.topology chain)) (sym flat) (law lab.draws lab.topology)
 
 -- the laws of all theorems
 pub record Laws : Type 0 where
@@ -56,14 +69,14 @@ pub record Laws : Type 0 where
   pub first_packets : HistoriesCarryFirstPackets
 
 pub histories : Laws → HistoriesAreKept
-histories laws d t H is g later before split =
-    let have = laws.origins (flat_lab d t) H is g in
+histories laws lab H is g later before split =
+    let have = laws.origins lab H is g in
     record {
-      origins = told (flat_lab d t) H have later before split;
-      held = held (flat_lab d t) H have laws.held refl later before split;
-      verdicts = right (flat_lab d t) H (laws.verdicts (flat_lab d t) H refl is g) later before split;
-      no_storm = few (flat_lab d t) H (laws.no_storm (flat_lab d t) H is g) later before split;
-      first_packet = carried (flat_lab d t) H (laws.first_packets d t H is g) later before split;
+      origins = told lab H have later before split;
+      held = held lab H have laws.held later before split;
+      verdicts = right lab H (λ flat. laws.verdicts lab H flat is g) later before split;
+      no_storm = few lab H (laws.no_storm lab H is g) later before split;
+      first_packet = carried lab H (λ flat. first laws.first_packets lab flat H is g) later before split;
     }
 
 -- the records before some
@@ -73,8 +86,8 @@ begun_before lab events (r ∷ later) before begun = begun_before lab events lat
 
 pub scenarios : ((lab : Lab) (events : List Event) (h : List Full) → AllByRecursion (IsEvent lab.topology) events → Begun lab events h → Grown lab h)
     → HonestScenarios → HistoriesAreKept → ScenariosAreKept
-scenarios grown honest law s H is events begun = record {
-  kept = law (draws s.seed) s.topology H is (grown (lab_of s []) s.events H events begun);
+scenarios grown honest law s chain H is events begun = record {
+  kept = law (lab_of s chain) H is (grown (lab_of s chain) s.events H events begun);
   honest = λ all later before split.
-      honest s [] before all (begun_before (lab_of s []) s.events later before (subst (Begun (lab_of s []) s.events) split begun));
+      honest s chain before all (begun_before (lab_of s chain) s.events later before (subst (Begun (lab_of s chain) s.events) split begun));
 }

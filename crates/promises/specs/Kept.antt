@@ -1,17 +1,18 @@
--- What is proved of every history of a laboratory in which no NAT is behind another one, as one record: it is what a world
--- says of the history that it stands for, and a run of the one that it played.
+-- What is proved of every history of a laboratory, whichever NATs are behind others, as one record: it is what a world says
+-- of the history that it stands for, and a run of the one that it played. Some of it is known only where no NAT is behind
+-- another one, and says so.
 use Rattle.std.specs.Prelude.{◌≡◌, ℕ, true, List, [], ◌∷◌, ◌++◌, Some}
 use Rattle.std.specs.List.{AllByRecursion}
 use Rattle.td_base.specs.declared.ipv6.Ip6.{Ip6}
 use Rattle.teredo_addr.specs.Teredo.{embedded}
 use Rattle.topology.specs.declared.client_node.ClientNode.{ClientNode}
-use Rattle.topology.specs.Rows.{TopologyState}
 use Rattle.topology.specs.Rules.{IsTopology}
 use Rattle.topology.specs.Topology.{client_at}
+use Rattle.topology.specs.Chains.{Behind}
 use Rattle.events.specs.Events.{IsEvent}
 use Rattle.events.specs.Scenario.{Scenario}
 use Rattle.history.specs.Full.{Full}
-use Rattle.legal.specs.Lab.{Lab, Draws, flat_lab, lab_of}
+use Rattle.legal.specs.Lab.{Lab, lab_of}
 use Rattle.legal.specs.Legal.{Begun, Grown}
 use Rattle.origins.specs.Honest.{is_honest, are_honest}
 use Rattle.origins.specs.Live.{IsHeld}
@@ -20,29 +21,34 @@ use Rattle.verdicts.specs.Throughout.{HasRightVerdicts}
 use Rattle.storms.specs.Throughout.{HasNoStorm}
 use Rattle.first_packets.specs.FirstPacket.{FirstPacketArrives}
 
+-- no NAT is behind another one
+abbrev pub IsFlat : Lab → Type 0
+IsFlat lab = lab.chain ≡ []
+
 -- the packets that the latest record hands to a client's host have their origin where their sources say
 abbrev pub OriginsAreTold : Lab → List Full → Type 0
 OriginsAreTold lab [] = Unit {0}
 OriginsAreTold lab (r ∷ H) = HasOrigins lab H r
 
--- an address that the latest record sets embeds the address of the client's NAT, and a port that this holds for the client
+-- where no NAT is behind another one, an address that the latest record sets embeds the address of the client's NAT, and a
+-- port that this holds for the client. Elsewhere it leads to the client through several NATs, which is said of the origins
 abbrev pub AddressIsHeld : Lab → List Full → Type 0
 AddressIsHeld lab [] = Unit {0}
-AddressIsHeld lab (r ∷ H) = (n : ℕ) (c : ClientNode) (own : Ip6) → r.node ≡ Some n → client_at lab.topology n ≡ Some c → r.address ≡ Some own
+AddressIsHeld lab (r ∷ H) = IsFlat lab → (n : ℕ) (c : ClientNode) (own : Ip6) → r.node ≡ Some n → client_at lab.topology n ≡ Some c → r.address ≡ Some own
     → IsHeld lab (r ∷ H) c (embedded own)
 
--- what clients make of their NATs after the latest record is right
+-- what clients make of their NATs after the latest record is right, where no NAT is behind another one
 abbrev pub VerdictsAreRight : Lab → List Full → Type 0
 VerdictsAreRight lab [] = Unit {0}
-VerdictsAreRight lab (r ∷ H) = HasRightVerdicts lab (r ∷ H)
+VerdictsAreRight lab (r ∷ H) = IsFlat lab → HasRightVerdicts lab (r ∷ H)
 
 -- where the latest records deliver each an entry for the first time they are few, however many are taken
 abbrev pub DeliveriesAreFew : Lab → List Full → Type 0
 DeliveriesAreFew lab H = (later before : List Full) → H ≡ later ++ before → HasNoStorm lab.topology before later
 
--- where they are a fresh schedule after a first packet they carry it
+-- where they are a fresh schedule after a first packet they carry it, where no NAT is behind another one
 abbrev pub FirstPacketIsCarried : Lab → List Full → Type 0
-FirstPacketIsCarried lab H = (later : List Full) (r : Full) (before : List Full) → H ≡ later ++ r ∷ before → FirstPacketArrives lab before r later
+FirstPacketIsCarried lab H = IsFlat lab → (later : List Full) (r : Full) (before : List Full) → H ≡ later ++ r ∷ before → FirstPacketArrives lab before r later
 
 -- of a history, at its latest record
 pub record Kept (lab : Lab) (H : List Full) : Type 0 where
@@ -56,16 +62,16 @@ pub record Kept (lab : Lab) (H : List Full) : Type 0 where
 abbrev pub KeptThroughout : Lab → List Full → Type 0
 KeptThroughout lab H = (later before : List Full) → H ≡ later ++ before → Kept lab before
 
--- each history of a topology that keeps its rules
+-- each history of a topology that keeps its rules, whichever NATs are behind others
 abbrev pub HistoriesAreKept : Type 0
-HistoriesAreKept = (d : Draws) (t : TopologyState) (H : List Full) → IsTopology t → Grown (flat_lab d t) H → KeptThroughout (flat_lab d t) H
+HistoriesAreKept = (lab : Lab) (H : List Full) → IsTopology lab.topology → Grown lab H → KeptThroughout lab H
 
 -- so is a history of a scenario; where this is honest, it is honest at each of its records
-pub record KeptOf (s : Scenario) (H : List Full) : Type 0 where
-  pub kept : KeptThroughout (lab_of s []) H
+pub record KeptOf (s : Scenario) (chain : List Behind) (H : List Full) : Type 0 where
+  pub kept : KeptThroughout (lab_of s chain) H
   pub honest : is_honest s ≡ true → (later before : List Full) → H ≡ later ++ before → are_honest s.topology before ≡ true
 
--- each, as far as it was played
+-- each, as far as it was played, whichever NATs are behind others
 abbrev pub ScenariosAreKept : Type 0
-ScenariosAreKept = (s : Scenario) (H : List Full) → IsTopology s.topology → AllByRecursion (IsEvent s.topology) s.events
-    → Begun (lab_of s []) s.events H → KeptOf s H
+ScenariosAreKept = (s : Scenario) (chain : List Behind) (H : List Full) → IsTopology s.topology → AllByRecursion (IsEvent s.topology) s.events
+    → Begun (lab_of s chain) s.events H → KeptOf s chain H

@@ -1,5 +1,5 @@
-//! What is proved of every history of a laboratory in which no NAT is behind another one: each theorem a field of one
-//! record, so that a world and a run say all of them in one clause.
+//! What is proved of every history of a laboratory, whichever NATs are behind others: each theorem a field of one record, so
+//! that a world and a run say all of them in one clause.
 //!
 //! # What the layer above may rely on
 //!
@@ -7,15 +7,18 @@
 //!   records (`specs/Kept.antt`).
 //! - A packet with a Teredo source that a client's host is handed came from the endpoint that the source embeds: a named
 //!   event put it there, or a client's host had handed it in while that source was its address. In an honest history each
-//!   address that a client gets embeds its NAT's address, and a port that the NAT then holds for it (`specs/Kept.antt`;
-//!   the words are those of `origins`).
-//! - In an honest history the verdict of each undisturbed client on its NAT is right (the words are those of `verdicts`).
+//!   address that a client gets embeds an endpoint that leads to it (`specs/Kept.antt`; the words are those of `origins`).
 //! - Deliveries alone end: at most twelve follow for each undelivered entry and each packet that waits (`storms`).
+//!
+//! And where no NAT is behind another one:
+//!
+//! - In an honest history each address that a client gets embeds its NAT's address, and a port that the NAT then holds for it.
+//! - In an honest history the verdict of each undisturbed client on its NAT is right (the words are those of `verdicts`).
 //! - The first packet between two settled clients arrives in each schedule that delivers all that it draws (`first_packets`).
 //!
 //! # What it does not know
 //!
-//! How a history is played; NATs behind NATs; whether anything is delivered.
+//! How a history is played; what clients behind several NATs make of them; whether anything is delivered.
 #![tactic(auto)]
 
 mod laws;
