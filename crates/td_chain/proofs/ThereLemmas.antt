@@ -10,12 +10,13 @@ use Rattle.nat_kinds.specs.Nat.{NatState}
 use Rattle.nat_kinds.specs.Nat as nats
 use Rattle.topology.specs.declared.node.Node.{Node}
 use Rattle.topology.specs.declared.node.Node.TheVariants.{Server as server, Nat as nat, Client as client, Relay as relay, Native as native}
+use Rattle.topology.specs.declared.client_node.ClientNode.{ClientNode}
 use Rattle.topology.specs.Rows.{TopologyState}
 use Rattle.topology.specs.Named.{is_nat}
 use Rattle.topology.specs.Topology.{nodes, node_at, as_nat, nat_at, nat_settings, settings_of_nat}
 use Rattle.topology.specs.Chains.{Behind, outer_in, has_external, inner_at, nat_set_up}
 use Rattle.td_base.specs.declared.ipv4.Ip4.{Ip4}
-use Rattle.td_chain.specs.ChainRules.{is_link, is_chain}
+use Rattle.td_chain.specs.ChainRules.{is_link, is_apart, is_chain}
 use Rattle.td_chain.specs.Chains.{NatsStand, set_ups, AreNatsOf, NatIsThere, NatsReady, NatsKept}
 
 pub some_inj : {A : Type 0} → (x y : A) → Some x ≡ Some y → x ≡ y
@@ -89,6 +90,15 @@ outer_of_links t whole (b ∷ rest) k o all e =
 pub outer_is_nat : (t : TopologyState) (chain : List Behind) (k o : ℕ) → is_chain t chain ≡ true → outer_in chain k ≡ Some o → is_nat (node_at t o) ≡ true
 unfolding is_chain
 outer_is_nat t chain k o rules e = outer_of_links t chain chain k o (and_parts (list_all (is_link t chain) chain) _ rules).0 e
+
+-- no NAT is behind another one
+all_apart : (t : TopologyState) (cs : List ClientNode) → list_all (is_apart t []) cs ≡ true
+all_apart t [] = refl
+all_apart t (c ∷ cs) = all_apart t cs
+
+pub alone_is_chain : (t : TopologyState) → is_chain t [] ≡ true
+unfolding is_chain
+alone_is_chain t = all_apart t t.clients
 
 -- THE FIRST NATS
 

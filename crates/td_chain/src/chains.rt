@@ -19,7 +19,7 @@ use crate::way::Way;
 use nat_kinds::{Nat, NatRefusal};
 use std::alloc::Global;
 use std::marker::Model;
-use td_base::{Ep, Millis};
+use td_base::{Ep, Millis, NoMemory};
 use topology::Topology;
 
 /// The NATs of a topology, of which some are behind others.
@@ -68,6 +68,22 @@ impl<'a> Chains<'a> {
         Ok(Chains {
             topology,
             chain,
+            moment: Millis(0),
+            nats,
+        })
+    }
+
+    /// The NATs at moment 0, of which none is behind another one.
+    pub fn alone(alloc: Global, topology: &'a Topology) -> Result<Chains<'a>, NoMemory>
+        ensures topology { IfOk result (λ c. c.topology ≡ topology.now) }
+        ensures chain { IfOk result (λ c. c.chain ≡ []) }
+        ensures moment { IfOk result (λ c. c.moment ≡ 0) }
+        ensures stands { IfOk result (λ c. StandsFor c (λ k. [])) }
+    {
+        let nats = first_nats(alloc, topology)?;
+        Ok(Chains {
+            topology,
+            chain: Vec::new(alloc),
             moment: Millis(0),
             nats,
         })

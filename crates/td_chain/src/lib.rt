@@ -3,7 +3,8 @@
 //! # What the layer above may rely on
 //!
 //! - `Chains::new` reads the text of a chain: it holds the chain that the text asks for, or refuses exactly where there is
-//!   none (`specs/ChainText.antt`, `ChainRules.antt`). At first its NATs stand for empty histories.
+//!   none (`specs/ChainText.antt`, `ChainRules.antt`); by `Chains::alone` no NAT is behind another one. At first the NATs
+//!   stand for empty histories.
 //! - `Chains` stand for a history of each NAT (`specs/Chains.antt`). The histories are quantified in each clause, so a caller
 //!   composes calls without looking into `StandsFor`.
 //! - `outward` answers where the datagram leaves its outermost NAT, or the refusal of the first NAT that refuses. Each NAT
