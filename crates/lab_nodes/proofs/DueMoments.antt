@@ -52,7 +52,7 @@ same_moments law lab H n w (played.Client c is) kept ready =
     ∙ sym (sum_by-append w (option_to_list (qualification (client_settings lab.topology c) j).due) (legal.peers_due (client_bearings.mentions j.entries) (now H)))
 same_moments law lab H n w (played.Relay r is) kept ready = same_peers law is.peers (relay_bearings.mentions (journal n H).entries) (now H) w kept.stands.peers ready
 same_moments law lab H n w (played.Server row) kept ready = refl
-same_moments law lab H n w (played.Nat row is) kept ready = refl
+same_moments law lab H n w (played.Nat row) kept ready = refl
 same_moments law lab H n w (played.Native row) kept ready = refl
 
 -- OF ALL

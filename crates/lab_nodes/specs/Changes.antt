@@ -1,7 +1,5 @@
 -- How what is kept of a node changes.
-use Rattle.std.specs.Prelude.{◌≡◌, ◌≢◌, ℕ, ◌+◌, List, ◌∷◌, map, slice_get, Some}
-use Rattle.td_base.specs.declared.endpoint.Ep.{Ep}
-use Rattle.nat_kinds.specs.History.{Forget, Restart}
+use Rattle.std.specs.Prelude.{◌≡◌, ◌≢◌, ℕ, ◌+◌, List, map, slice_get, Some}
 use Rattle.teredo_node.specs.Journal.{Entry, with_entry}
 use Rattle.topology.specs.Rows.{TopologyState}
 use Rattle.legal.specs.Past.{new_journal}
@@ -10,23 +8,15 @@ use Rattle.lab_nodes.specs.PlayedNode.{row_of, NodePast, IsKept}
 
 -- the past with a new start at m: the words go on
 abbrev pub restarted : ℕ → NodePast → NodePast
-restarted m x = record { history = Restart ∷ x.history; journal = new_journal m; words = x.words }
-
--- the past of a NAT with an inside endpoint that was forgotten
-abbrev pub forgetting : Ep → NodePast → NodePast
-forgetting inside x = record x { history = Forget inside ∷ x.history }
+restarted m x = record { journal = new_journal m; words = x.words }
 
 -- the past with one call more
 abbrev pub with_call : Entry → NodePast → NodePast
-with_call e x = record x { journal = with_entry x.journal e; words = λ k. x.words (e.step.drawn + k) }
+with_call e x = record { journal = with_entry x.journal e; words = λ k. x.words (e.step.drawn + k) }
 
 -- a node that starts anew at m stands for its past with that
 abbrev pub Restarts : ℕ → PlayedNode → PlayedNode → Type 0
 Restarts m old new = (t : TopologyState) (n : ℕ) (x : NodePast) → IsKept t n x old → IsKept t n (restarted m x) new
-
--- one that forgets an inside endpoint for its past with that
-abbrev pub Forgets : Ep → PlayedNode → PlayedNode → Type 0
-Forgets inside old new = (t : TopologyState) (n : ℕ) (x : NodePast) → IsKept t n x old → IsKept t n (forgetting inside x) new
 
 -- The node of a number changes so, and keeps its row. The others stay.
 pub record ChangesAt (does : PlayedNode → PlayedNode → Type 0) (n : ℕ) (old new : List PlayedNode) : Type 0 where

@@ -1,11 +1,7 @@
 -- What is kept of nodes while a scenario is played, and the histories that it stands for.
 use Rattle.std.specs.Prelude.{◌≡◌, ◌≤◌, ℕ, List, map, slice_get, Some}
 use Rattle.std.specs.List.{AllByRecursion}
-use Rattle.nat_kinds.specs.History.{Entry}
-use Rattle.nat_kinds.specs.Nat.{NatState}
-use Rattle.nat_kinds.specs.Nat as nats
-use Rattle.teredo_node.specs.Journal.{Journal, Words}
-use Rattle.teredo_node.specs.Journal as journals
+use Rattle.teredo_node.specs.Journal.{Entry, Journal, Words}
 use Rattle.qualify.specs.declared.settings.Settings.{Settings}
 use Rattle.relay_rules.specs.Standing.{RelaySettings}
 use Rattle.relay_core.specs.declared.relay.Relay.{Relay}
@@ -13,14 +9,13 @@ use Rattle.relay_core.specs.Relay.{RelayStandsFor}
 use Rattle.relay_core.specs.Relay as relays
 use Rattle.client_core.specs.declared.client.Client.{Client}
 use Rattle.client_core.specs.Client.{settings_of, words_ahead, ClientStandsFor}
-use Rattle.topology.specs.declared.nat_node.NatNode.{NatNode}
 use Rattle.topology.specs.Rows.{TopologyState}
 use Rattle.topology.specs.declared.node.Node.{Node}
 use Rattle.topology.specs.declared.node.Node.TheVariants.{Server as server, Nat as nat, Client as client, Relay as relay, Native as native}
-use Rattle.topology.specs.Topology.{nodes, nat_settings}
+use Rattle.topology.specs.Topology.{nodes}
 use Rattle.history.specs.Full.{Full}
 use Rattle.legal.specs.Lab.{Lab}
-use Rattle.legal.specs.Past.{journal, words, nat_history}
+use Rattle.legal.specs.Past.{journal, words}
 use Rattle.legal.specs.Settings.{client_settings, relay_settings}
 use Rattle.lab_nodes.specs.declared.played_node.PlayedNode.{PlayedNode}
 use Rattle.lab_nodes.specs.declared.played_node.PlayedNode.TheVariants as played
@@ -28,26 +23,20 @@ use Rattle.lab_nodes.specs.declared.played_node.PlayedNode.TheVariants as played
 -- its row in the topology
 abbrev pub row_of : PlayedNode → Node
 row_of (played.Server row) = server row
-row_of (played.Nat row is) = nat row
+row_of (played.Nat row) = nat row
 row_of (played.Client row is) = client row
 row_of (played.Relay row is) = relay row
 row_of (played.Native row) = native row
 
 -- PASTS
 
--- what happened to a node: to a NAT; to any other since its last start, and the words that it draws next
+-- what happened to a node since its last start, and the words that it draws next
 pub record NodePast : Type 0 where
-  pub history : List Entry
   pub journal : Journal
   pub words : Words
 
 abbrev pub past_of : Lab → ℕ → List Full → NodePast
-past_of lab n H = record { history = nat_history lab n H; journal = journal n H; words = words lab n H }
-
--- a NAT is set up as its row says, and stands for this history
-pub record IsNatOf (row : NatNode) (is : NatState) (h : List Entry) : Type 0 where
-  pub settings : is.settings ≡ nat_settings row
-  pub stands : nats.StandsFor is h
+past_of lab n H = record { journal = journal n H; words = words lab n H }
 
 -- a client is set up so, stands for this journal, and draws these words next
 pub record IsClientOf (s : Settings) (is : Client) (j : Journal) (w : Words) : Type 0 where
@@ -56,14 +45,14 @@ pub record IsClientOf (s : Settings) (is : Client) (j : Journal) (w : Words) : T
   pub words : words_ahead is ≡ w
 
 -- a relay is set up so, and stands for these entries
-pub record IsRelayOf (s : RelaySettings) (is : Relay) (j : List journals.Entry) : Type 0 where
+pub record IsRelayOf (s : RelaySettings) (is : Relay) (j : List Entry) : Type 0 where
   pub settings : relays.settings_of is ≡ s
   pub stands : RelayStandsFor is j
 
--- what is kept of node n stands for its past. Of a server and a native host nothing is
+-- what is kept of node n stands for its past. Of a server, a NAT and a native host nothing is
 abbrev pub IsKept : TopologyState → ℕ → NodePast → PlayedNode → Type 0
 IsKept t n x (played.Server row) = Unit {0}
-IsKept t n x (played.Nat row is) = IsNatOf row is x.history
+IsKept t n x (played.Nat row) = Unit {0}
 IsKept t n x (played.Client row is) = IsClientOf (client_settings t row) is x.journal x.words
 IsKept t n x (played.Relay row is) = IsRelayOf (relay_settings t n row) is x.journal.entries
 IsKept t n x (played.Native row) = Unit {0}
@@ -82,7 +71,7 @@ pub record NodesOf (lab : Lab) (list : List PlayedNode) (H : List Full) : Type 0
 -- it was last called at this moment or before
 abbrev pub IsReady : ℕ → PlayedNode → Type 0
 IsReady m (played.Server row) = Unit {0}
-IsReady m (played.Nat row is) = is.moment ≤ m
+IsReady m (played.Nat row) = Unit {0}
 IsReady m (played.Client row is) = is.peers.moment ≤ m
 IsReady m (played.Relay row is) = is.peers.moment ≤ m
 IsReady m (played.Native row) = Unit {0}

@@ -11,7 +11,6 @@ ghost use Rattle.lab_nodes.specs.PlayedNode.{row_of, past_of, IsClientOf, IsRela
 
 use crate::played_node::PlayedNode;
 use client_core::Client;
-use nat_kinds::Nat;
 use qualify::Settings;
 use rand_chacha::ChaCha20Rng;
 use rand_core::SeedableRng;
@@ -120,10 +119,7 @@ fn first_node(
     let _rules = topology.clients();
     Ok(match node {
         Node::Server(row) => PlayedNode::Server { row },
-        Node::Nat(row) => PlayedNode::Nat {
-            row,
-            nat: Nat::new(alloc, row.kind, row.external, row.idle),
-        },
+        Node::Nat(row) => PlayedNode::Nat { row },
         Node::Client(row) => PlayedNode::Client {
             row,
             client: first_client(alloc, topology, seed, number, row),

@@ -7,16 +7,16 @@
 //! - For each past that it stood for, a node that is asked does what the next entry of its journal says, and then stands
 //!   for the past with that entry. It tells how what it sends leaves it (`specs/Outlet.antt`). Memory is wanting only where
 //!   the entry sends something, or may keep something (`specs/Answers.antt`, `Memory.antt`).
-//! - A node that starts anew, or a NAT that forgets somebody, stands for its past with that. In each call one node
-//!   changes, and keeps its row (`specs/Changes.antt`).
+//! - A node that starts anew stands for its past with that. In each call one node changes, and keeps its row
+//!   (`specs/Changes.antt`).
 //! - The tick that is found is the one that is due first (`specs/Due.antt`); what a host sends has exactly the bytes of its
 //!   packet.
 //! - All due moments of the nodes can be read off what is kept of them (`specs/DueMoments.antt`).
 //!
 //! # What it does not know
 //!
-//! The wire, and how what a node sends comes there: neither what is lost in a NAT, nor which record is written. What each
-//! kind of node does stands in its own crate, which record follows in `legal`.
+//! The wire, and how what a node sends comes there: neither what is kept of NATs, which is `td_chain`'s, nor which record is
+//! written. What each kind of node does stands in its own crate, which record follows in `legal`.
 //!
 //! # Parts
 //!
@@ -59,6 +59,6 @@ pub use first_node::first_nodes;
 pub use host::{DATA_MAX, ECHO, address_at, echo, target_address, write_data};
 pub use input::Input;
 pub use laws::{due_as_in_the_past, rows_keep_rules};
-pub use nodes::{ask, forget_at, restart_at};
+pub use nodes::{ask, restart_at};
 pub use outlet::Outlet;
 pub use played_node::PlayedNode;

@@ -1,6 +1,5 @@
 //! What a NAT does with what comes to it as to a node.
 ghost use Rattle.std.specs.Prelude.{◌≡◌, None};
-ghost use Rattle.nat_kinds.specs.Nat.{NatState};
 ghost use Rattle.topology.specs.declared.nat_node.NatNode.{NatNode};
 ghost use Rattle.lab_nodes.specs.declared.call.Call.{Call};
 ghost use Rattle.lab_nodes.specs.declared.played_node.PlayedNode.TheVariants as played;
@@ -13,7 +12,7 @@ use teredo_node::{Fate, Step};
 /// What a NAT does that is asked: nothing.
 pub fn answer_nat(step: &mut Step) -> Asked
     ensures none { result.packet ≡ None }
-    ensures answers { (x : Call) (row : NatNode) (is : NatState) → AnswersCall x (played.Nat row is) (played.Nat row is) step.new result }
+    ensures answers { (x : Call) (row : NatNode) → AnswersCall x (played.Nat row) (played.Nat row) step.new result }
 {
     step.reset(Fate::Idle);
     Asked {

@@ -4,13 +4,13 @@ ghost use Rattle.td_base.specs.declared.datagram.TheConstants.{DATAGRAM_MAX};
 ghost use Rattle.td_outside.specs.declared.clock.TheConstants.{CLOCK_END_MS};
 ghost use Rattle.lab_nodes.specs.Call.{input_lent, IsShortInput};
 ghost use Rattle.lab_nodes.specs.PlayedNode.{AreReady};
-ghost use Rattle.lab_nodes.specs.Changes.{Restarts, Forgets, ChangesAt};
+ghost use Rattle.lab_nodes.specs.Changes.{Restarts, ChangesAt};
 ghost use Rattle.lab_nodes.specs.Answers.{AnswersOrWants};
 
 use crate::asked::Asked;
 use crate::call::Call;
 use crate::played_node::PlayedNode;
-use td_base::{Ep, Millis, NoMemory};
+use td_base::{Millis, NoMemory};
 use teredo_node::Step;
 
 /// Lets the node of a call do what is asked of it.
@@ -28,7 +28,7 @@ pub fn ask(nodes: &mut Vec<PlayedNode>, call: Call<'_>, step: &mut Step) -> Resu
     node.answer(alloc, call, step)
 }
 
-/// Lets the node of a number start anew.
+/// Lets the node of a number start anew. Of a NAT nothing is kept here that would change.
 pub fn restart_at(nodes: &mut Vec<PlayedNode>, number: u16, now: Millis)
     requires within { number < length nodes.old.items }
     requires early { now.0 < CLOCK_END_MS }
@@ -37,14 +37,4 @@ pub fn restart_at(nodes: &mut Vec<PlayedNode>, number: u16, now: Millis)
 {
     let node = &mut nodes[usize::from(number)];
     node.restart(now);
-}
-
-/// Lets the NAT of a number drop the mappings of an inside endpoint.
-pub fn forget_at(nodes: &mut Vec<PlayedNode>, number: u16, inside: Ep)
-    requires within { number < length nodes.old.items }
-    ensures ready { (m : ℕ) → AreReady m nodes.old.items → AreReady m nodes.new.items }
-    ensures forgets { ChangesAt (Forgets inside) number nodes.old.items nodes.new.items }
-{
-    let node = &mut nodes[usize::from(number)];
-    node.forget(inside);
 }

@@ -8,7 +8,7 @@ ghost use Rattle.legal.specs.Emit.{due_of};
 ghost use Rattle.legal.specs.Next.{address_of};
 ghost use Rattle.lab_nodes.specs.Call.{input_lent, IsShortInput};
 ghost use Rattle.lab_nodes.specs.PlayedNode.{row_of, past_of, IsKept, IsReady};
-ghost use Rattle.lab_nodes.specs.Changes.{Restarts, Forgets};
+ghost use Rattle.lab_nodes.specs.Changes.{Restarts};
 ghost use Rattle.lab_nodes.specs.Answers.{AnswersCall, Wants};
 
 use crate::asked::Asked;
@@ -19,20 +19,19 @@ use crate::native::answer_native;
 use crate::relay::answer_relay;
 use crate::server::answer_server;
 use client_core::Client;
-use nat_kinds::Nat;
 use relay_core::Relay;
 use std::alloc::Global;
-use td_base::{Ep, Ip6, Millis, NoMemory};
+use td_base::{Ip6, Millis, NoMemory};
 use teredo_addr::UNSPECIFIED;
 use teredo_node::{Endpoint, Step};
 use topology::{ClientNode, NatNode, NativeNode, RelayNode, ServerNode};
 
 /// A node of the topology while a scenario is played: its row, and what is kept of it. Of a server and a native host
-/// nothing is.
+/// nothing is, and of a NAT nothing here: datagrams pass from one to the next, so that NATs are kept together.
 #[derive(Drop)]
 pub enum PlayedNode {
     Server { row: ServerNode },
-    Nat { row: NatNode, nat: Nat },
+    Nat { row: NatNode },
     Client { row: ClientNode, client: Client },
     Relay { row: RelayNode, relay: Relay },
     Native { row: NativeNode },
@@ -95,7 +94,7 @@ impl PlayedNode {
         }
     }
 
-    /// Lets it start anew: a NAT drops all its mappings, a client or relay all that it knows.
+    /// Lets it start anew: a client or relay drops all that it knows.
     pub(crate) fn restart(&mut self, now: Millis)
         requires early { now.0 < CLOCK_END_MS }
         ensures row { row_of self.new ≡ row_of self.old }
@@ -103,22 +102,11 @@ impl PlayedNode {
         ensures ready { (m : ℕ) → IsReady m self.old → IsReady m self.new }
     {
         match self {
-            PlayedNode::Nat { nat, .. } => nat.restart(),
             PlayedNode::Client { client, .. } => client.restart(now),
             PlayedNode::Relay { relay, .. } => relay.restart(),
             PlayedNode::Server { .. } => {}
+            PlayedNode::Nat { .. } => {}
             PlayedNode::Native { .. } => {}
-        }
-    }
-
-    /// Lets a NAT drop the mappings of an inside endpoint.
-    pub(crate) fn forget(&mut self, inside: Ep)
-        ensures row { row_of self.new ≡ row_of self.old }
-        ensures forgets { Forgets inside self.old self.new }
-        ensures ready { (m : ℕ) → IsReady m self.old → IsReady m self.new }
-    {
-        if let PlayedNode::Nat { nat, .. } = self {
-            nat.forget(inside);
         }
     }
 }
