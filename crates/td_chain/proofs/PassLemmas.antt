@@ -104,6 +104,15 @@ module _ (list : List (Option NatState)) (k : ℕ) (now new : NatState) (at : sl
       stands = stand_later t (after_passing passed h) (after_passing passed h) stand (refused _ (stand.stands k now at)) (λ j other. refl);
     }
 
+-- where no NAT stands, none is changed
+pub none_with : (t : TopologyState) (list : List (Option NatState)) (k : ℕ) (h : NatPasts) (e : Entry) → ((nat : NatState) → slice_get list k ≡ Some (Some nat) → ⊥)
+    → NatsStand t list h → NatsStand t list (with_nat_entry k e h)
+none_with t list k h e none stand = record {
+  set_up = stand.set_up;
+  stands = λ j nat at. subst (nats.StandsFor nat)
+      (sym (ap (λ (b : Bool). cond b (e ∷ h j) (h j)) (ne_eqb j k (λ same. none nat (ap (slice_get list) (sym same) ∙ at))))) (stand.stands j nat at);
+}
+
 -- A WAY OF NATS
 
 module _ (t : TopologyState) (h : NatPasts) (m : ℕ) (from dst : Ep) (passed : List Passing) (k : ℕ) (new : List (Option NatState)) where

@@ -6,7 +6,7 @@ ghost use Rattle.topology.specs.Topology.{node_at};
 ghost use Rattle.topology.specs.Chains.{NatPasts, Passing, after_passing, is_inner, chain_in};
 ghost use Rattle.td_chain.specs.declared.chain_fault.ChainFault.TheVariants.{Chain};
 ghost use Rattle.td_chain.specs.ChainText.{chain_asked};
-ghost use Rattle.td_chain.specs.Chains.{StandsFor, CrossesChain, with_nat_entry, inward_of};
+ghost use Rattle.td_chain.specs.Chains.{StandsFor, AreNatsOf, CrossesChain, with_nat_entry, inward_of};
 
 use crate::chain_fault::ChainFault;
 use crate::chain_text::read_chain;
@@ -118,6 +118,14 @@ impl<'a> Chains<'a> {
         come_in(all, now, nat, src, port)
     }
 
+    /// The topology whose NATs they are.
+    pub fn topology(&self) -> &'a Topology
+        ensures value { result.now ≡ self.now.topology }
+        ensures rows { AreNatsOf self.now.topology self.now.nats }
+    {
+        self.topology
+    }
+
     /// Whether a NAT is behind another one.
     pub fn is_inner(&self, nat: u16) -> bool
         ensures { result ≡ is_inner self.now.chain nat }
@@ -134,12 +142,11 @@ impl<'a> Chains<'a> {
         forget_at(&mut self.nats, nat, inside);
     }
 
-    /// Lets a NAT start anew. The others stay.
-    pub fn restart(&mut self, nat: u16)
-        requires nat { is_nat (node_at self.old.topology nat) ≡ true }
-        ensures stands { (h : NatPasts) → StandsFor self.old h → StandsFor self.new (with_nat_entry nat Restart h) }
+    /// Lets a node start anew: a NAT drops all its mappings, and the others stay. Where it is no NAT nothing changes.
+    pub fn restart(&mut self, node: u16)
+        ensures stands { (h : NatPasts) → StandsFor self.old h → StandsFor self.new (with_nat_entry node Restart h) }
         ensures same { self.new ≡ record self.old { nats = self.new.nats } }
     {
-        restart_at(&mut self.nats, nat);
+        restart_at(&mut self.nats, node);
     }
 }

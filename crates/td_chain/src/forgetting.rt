@@ -21,15 +21,18 @@ pub fn forget_at(nats: &mut [Option<Nat>], number: u16, inside: Ep)
     nat.forget(inside);
 }
 
-/// Lets the NAT of a number start anew.
+/// Lets the node of a number start anew. Where it is no NAT nothing changes.
 pub fn restart_at(nats: &mut [Option<Nat>], number: u16)
-    requires there { NatIsThere nats.old number }
     ensures stands { (t : TopologyState) (h : NatPasts) → NatsStand t nats.old h → NatsStand t nats.new (with_nat_entry number Restart h) }
     ensures ready { (m : ℕ) → NatsReady m nats.old → NatsReady m nats.new }
     ensures rows { set_ups nats.new ≡ set_ups nats.old }
 {
-    let Some(nat) = &mut nats[usize::from(number)] else {
-        unreachable!()
+    let place = usize::from(number);
+    if place >= nats.len() {
+        return;
+    }
+    let Some(nat) = &mut nats[place] else {
+        return;
     };
     nat.restart();
 }

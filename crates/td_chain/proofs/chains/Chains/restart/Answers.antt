@@ -1,25 +1,17 @@
-use Rattle.std.proofs.Common.{◌≡◌, true, List, map, Option, sym, ap, subst, ◌∙◌}
+use Rattle.std.proofs.Common.{◌≡◌, List, map, Option, sym, ap, subst, ◌∙◌}
 use Rattle.nat_kinds.specs.History.{Restart}
 use Rattle.nat_kinds.specs.Nat.{NatState}
-use Rattle.topology.specs.Named.{is_nat}
-use Rattle.topology.specs.Topology.{node_at}
 use Rattle.td_chain.specs.Nestings.{behind_of}
-use Rattle.td_chain.specs.Chains.{ChainsState, NatsStand, set_ups, NatIsThere, NatsReady, with_nat_entry}
-use Rattle.td_chain.proofs.ThereLemmas.{nat_there, written, kept_later}
+use Rattle.td_chain.specs.Chains.{NatsStand, set_ups, NatsReady, with_nat_entry}
+use Rattle.td_chain.proofs.ThereLemmas.{written, kept_later}
 use Rattle.td_chain.proofs.chains.Chains.restart.Goals as goal
-
-pub restart_at-requires : goal.restart_at-requires
-restart_at-requires c =
-    let t = c.self.inside.topology.now in
-    let is : is_nat (node_at t c.args.nat) ≡ true = subst (λ (x : ChainsState). is_nat (node_at x.topology c.args.nat) ≡ true) (sym c.self.view_is) c.requires.nat in
-    record { there = subst (λ (list : List (Option NatState)). NatIsThere list c.args.nat) (sym c.deref_mut.ensures.value) (nat_there t c.self.inside.nats.items c.args.nat c.self.invariant.rows is) }
 
 pub returns-clause-stands : goal.returns-clause-stands
 returns-clause-stands c = rw (← c.self.view_is) (λ h stand.
     let same : set_ups c.restart_at.new.nats ≡ set_ups c.self.inside.nats.items = c.restart_at.ensures.rows ∙ ap (λ (x : List (Option NatState)). set_ups x) c.deref_mut.ensures.value in
     let t = c.self.inside.topology.now in
     let items = c.self.inside.nats.items in
-    subst (λ (x : List (Option NatState)). NatsStand t x (with_nat_entry c.args.nat Restart h)) (sym (written items c.restart_at.new.nats c.self.inside.nats.len c.self.inside.nats.ok.0 same))
+    subst (λ (x : List (Option NatState)). NatsStand t x (with_nat_entry c.args.node Restart h)) (sym (written items c.restart_at.new.nats c.self.inside.nats.len c.self.inside.nats.ok.0 same))
     (c.restart_at.ensures.stands t h (subst (λ (x : List (Option NatState)). NatsStand t x h) (sym c.deref_mut.ensures.value) stand)))
 
 pub invariant_of-self : goal.invariant_of-self
