@@ -1,19 +1,25 @@
 -- A node that acts: what it is asked, what comes onto the wire, and the record.
-use Rattle.std.proofs.Common.{◌≡◌, ◌≢◌, ◌<◌, ℕ, ◌+◌, ◌==◌, Bool, true, false, List, [], ◌∷◌, ◌++◌, length, get_or, map, replicate, Option, Some, None, Result, Ok, Err, refl, sym, ap, subst, ◌∙◌, arith, ◌⊎◌, inl, inr}
-use Rattle.std.specs.Prelude.{◌||◌, slice_get, option_map}
+use Rattle.std.proofs.Common.{◌≡◌, ◌≢◌, ℕ, ◌+◌, ◌==◌, Bool, true, false, List, [], ◌∷◌, ◌++◌, length, get_or, map, replicate, Option, Some, None, Ok, Err, refl, sym, ap, subst, ◌∙◌, arith, ◌⊎◌, inl, inr}
+use Rattle.std.specs.Prelude.{◌||◌, slice_get, option_map, is_some}
+use Rattle.std.proofs.lemmas.Bool.{false≢true}
 use Rattle.std.specs.Option.{option_or}
 use Rattle.std.proofs.lemmas.Bool.Decides.{eqb_tells}
 use Rattle.std.proofs.lemmas.List.{length-append}
 use Rattle.std.proofs.lemmas.Option.{slice_get-map}
-use Rattle.td_base.specs.declared.endpoint.Ep.{Ep}
 use Rattle.teredo_node.specs.Step.{Step}
 use Rattle.teredo_node.specs.Sends.{has_any}
 use Rattle.teredo_node.specs.Journal.{Entry, with_entry}
 use Rattle.topology.specs.Rules.{IsTopology}
-use Rattle.topology.specs.Chains.{outs_at}
+use Rattle.topology.specs.Chains.{Passing, outs_at}
+use Rattle.topology.specs.Rows.{TopologyState}
+use Rattle.topology.specs.declared.nat_node.NatNode.{NatNode}
+use Rattle.nat_kinds.specs.declared.settings.NatSettings.{NatSettings}
+use Rattle.nat_kinds.specs.Nat.{NatState}
+use Rattle.nat_kinds.specs.Nat as kept
+use Rattle.td_chain.specs.Chains.{ChainsState, set_ups, AreNatsOf}
 use Rattle.topology.specs.declared.node.Node.{Node}
-use Rattle.topology.specs.declared.node.Node.TheVariants.{Nat as nat}
-use Rattle.topology.specs.Topology.{node_at}
+use Rattle.topology.specs.declared.node.Node.TheVariants.{Server as server, Nat as nat, Client as client, Relay as relay, Native as native}
+use Rattle.topology.specs.Topology.{nodes, node_at, as_nat, nat_settings}
 use Rattle.history.specs.declared.act.Act.{Act}
 use Rattle.history.specs.declared.mark.Mark.{Mark}
 use Rattle.history.specs.declared.records.Record.{Record}
@@ -21,37 +27,34 @@ use Rattle.history.specs.declared.turn.Stop.{Stop}
 use Rattle.history.specs.declared.turn.Stop.TheVariants as stop
 use Rattle.history.specs.Full.{Item, Full, wire}
 use Rattle.history.specs.Records.{record_of, marks_of}
-use Rattle.legal.specs.Lab.{Draws, Lab, flat_lab}
-use Rattle.legal.specs.Past.{is_node, is_number, at_nat, journal, drawn, words, nat_history, arms, armed_after, armed}
+use Rattle.legal.specs.Lab.{Draws, Lab}
+use Rattle.legal.specs.Past.{is_number, at_nat, journal, drawn, words, nat_history, arms, armed_after, armed}
 use Rattle.legal.specs.Emit.{Sendings, sendings}
 use Rattle.legal.specs.Next.{Numbered, acts}
 use Rattle.legal.specs.Frame.{EachFrames}
 use Rattle.lab_nodes.specs.Laws.{EachClientKeepsRules}
 use Rattle.lab_nodes.specs.declared.asked.Asked.{Asked}
 use Rattle.lab_nodes.specs.declared.call.Call.{Call}
-use Rattle.lab_nodes.specs.declared.outlet.Outlet.{Outlet}
-use Rattle.lab_nodes.specs.declared.outlet.Outlet.TheVariants.{Through}
 use Rattle.lab_nodes.specs.declared.played_node.PlayedNode.{PlayedNode}
 use Rattle.lab_nodes.specs.declared.played_node.PlayedNode.TheVariants as played
 use Rattle.lab_nodes.specs.PlayedNode.{row_of, past_of, IsKept, NodesOf}
-use Rattle.lab_nodes.specs.Changes.{with_call, ChangesAt}
+use Rattle.lab_nodes.specs.Changes.{with_call}
 use Rattle.lab_nodes.specs.Call.{dst_lent, input_lent, entry_in}
 use Rattle.lab_nodes.specs.Answers.{AnswersFor, AnswersCall, Wants}
 use Rattle.lab_nodes.specs.Outlet.{sendings_but}
 use Rattle.world.specs.declared.sender.Sender.{Sender}
 use Rattle.world.specs.declared.prompt.Prompt.{Prompt}
 use Rattle.world.specs.declared.prompt.Prompt.TheVariants as prompt
-use Rattle.world.specs.Emission.{KeepsNat, KeepsItsNat, HasItsNat, emitted_by, GoesThrough}
+use Rattle.world.specs.Emission.{AreNatsWith, emitted_by}
 use Rattle.world.specs.Prompt.{delivered_by, input_by, dst_by, IsPrompt, done_by}
 use Rattle.world.specs.Wire.{WireState, entries_in, ComesOnto, Puts}
 use Rattle.world.specs.Record.{fresh_record, with_deed}
-use Rattle.world.specs.World.{WorldState, NeedsMemory, IsCause}
+use Rattle.world.specs.World.{WorldState, NeedsMemory, IsCause, lab_in}
 use Rattle.world.specs.Playing.{prompted, Finds, Plays}
-use Rattle.world.proofs.States.{some_inj, nat_there}
-use Rattle.world.proofs.Kept.{AsPast, kept_as, is_itself, not_node, starts_none, away}
+use Rattle.world.proofs.States.{some_inj}
+use Rattle.world.proofs.Kept.{AsPast, kept_as, is_itself, starts_none, away}
 use Rattle.world.proofs.Played.{remembered, flags_same}
 use Rattle.world.proofs.Routes.{row_at}
-use Rattle.world.proofs.Sent.{its_nat, has_its_nat, keeps_its_nat, kept_with, nothing_out, behind_or_not}
 
 -- A CALL
 
@@ -67,7 +70,7 @@ pub record Doing : Type 0 where
   pub before : PlayedNode
 
 abbrev pub lab_of_doing : Doing → Lab
-lab_of_doing x = flat_lab x.draws x.world.topology
+lab_of_doing x = lab_in x.draws x.world
 
 abbrev pub row_by : Doing → Node
 row_by x = row_of x.before
@@ -133,30 +136,22 @@ leaves_so : (x : Doing) (y : Asking) → IsDoing x → IsAsked x y → sendings 
 leaves_so x y is asked =
     (asked_for x y is asked).leaves ∙ ap (λ (a : Option ℕ). sendings_but (lab_of_doing x) x.history x.call.now.0 a y.asked.outlet y.asked.packet y.step.sends) (sym is.finds.armed)
 
--- the NAT that it leaves through is kept
-pub keeps_nat : (x : Doing) (y : Asking) → IsDoing x → IsAsked x y → KeepsItsNat (lab_of_doing x) x.history [] y.asked.outlet y.mid
-keeps_nat x y is asked =
-    keeps_its_nat is.law (lab_of_doing x) x.history x.call.node (row_by x) y.mid y.asked.outlet is.rules (asked.rows ∙ is.finds.nodes.rows)
-    (λ k p apart at. is.finds.nodes.each k p (sym (asked.elsewhere k apart) ∙ at)) (there x is) asked.answers.outlet
-
 abbrev pub wire_in : WorldState → WireState
 wire_in w = record { items = w.wire; done = w.done }
 
--- it came onto the wire
-pub record IsSent (x : Doing) (y : Asking) (after : List PlayedNode) (new : WireState) (marks : List Mark) : Type 0 where
+-- it came onto the wire, and the NATs know what they let out of it
+pub record IsSent (x : Doing) (y : Asking) (nats : ChainsState) (new : WireState) (marks : List Mark) : Type 0 where
   pub enters : ComesOnto (wire_in x.world) new [] marks (leaving x y).made
-  pub nat : KeepsItsNat (lab_of_doing x) x.history (leaving x y).passed y.asked.outlet after
-  -- no other node but the NAT that it leaves through was touched by it
-  pub elsewhere : (k : ℕ) → (GoesThrough y.asked.outlet k → ⊥) → slice_get after k ≡ slice_get y.mid k
-  pub rows : map row_of after ≡ map row_of y.mid
+  pub knows : AreNatsWith (lab_of_doing x) x.history (leaving x y).passed nats
+  pub rows : AreNatsOf nats.topology nats.nats
 
 -- THE RECORD
 
 abbrev pub said_by : Doing → Asking → List Mark → Record
 said_by x y marks = record (with_deed (fresh_record x.event.number x.call.now.0) x.act (Some x.call.node) y.step.fate) { late = map length y.step.late; gone = y.step.gone; marks = marks; handed = y.asked.handed; address = y.asked.address }
 
-said_is : (x : Doing) (y : Asking) (after : List PlayedNode) (new : WireState) (marks : List Mark) → IsDoing x → IsAsked x y → IsSent x y after new marks → said_by x y marks ≡ record_of (record_by x)
-said_is x y after new marks is asked done =
+said_is : (x : Doing) (y : Asking) (nats : ChainsState) (new : WireState) (marks : List Mark) → IsDoing x → IsAsked x y → IsSent x y nats new marks → said_by x y marks ≡ record_of (record_by x)
+said_is x y nats new marks is asked done =
     let of = asked_for x y is asked in
     let these : marks ≡ marks_of (length (wire x.history)) (record_by x).made =
     done.enters.marks ∙ ap (λ (items : List Item). marks_of (length items) (leaving x y).made) is.finds.wire ∙ ap (λ (s : Sendings). marks_of (length (wire x.history)) s.made) (sym (leaves_so x y is asked)) in
@@ -178,12 +173,9 @@ itself_as x p is = by p where
       let regrouped : (k : ℕ) → so_far + more + k ≡ so_far + (more + k) = λ k. omega arith in
       ap (λ (m : ℕ). λ (k : ℕ). x.draws x.call.node (m + k)) total ∙ (λ i k. x.draws x.call.node (regrouped k i))
 
-  its_history : nat_history (lab_of_doing x) x.call.node (record_by x ∷ x.history) ≡ nat_history (lab_of_doing x) x.call.node x.history
-  its_history = rw (is_itself x.call.node, is.quiet) refl
-
   by : (p : PlayedNode) → AsPast p (with_call (entry_by x) (past_of (lab_of_doing x) x.call.node x.history)) (past_of (lab_of_doing x) x.call.node (record_by x ∷ x.history))
   by (played.Server row) = tt
-  by (played.Nat row kept) = its_history
+  by (played.Nat row) = tt
   by (played.Client row kept) = (its_journal, its_words)
   by (played.Relay row kept) = its_journal
   by (played.Native row) = tt
@@ -192,60 +184,81 @@ itself_as x p is = by p where
 abbrev After : Doing → ℕ → PlayedNode → Type 0
 After x k p = IsKept x.world.topology k (past_of (lab_of_doing x) k (record_by x ∷ x.history)) p
 
-after_itself : (x : Doing) (y : Asking) (after : List PlayedNode) (p : PlayedNode) → IsDoing x → IsAsked x y → slice_get after x.call.node ≡ slice_get y.mid x.call.node → slice_get after x.call.node ≡ Some p → After x x.call.node p
-after_itself x y after p is asked still at =
+after_itself : (x : Doing) (y : Asking) (p : PlayedNode) → IsDoing x → IsAsked x y → slice_get y.mid x.call.node ≡ Some p → After x x.call.node p
+after_itself x y p is asked at =
     let n = x.call.node in
-    let same : y.after ≡ p = some_inj y.after p (sym asked.is ∙ sym still ∙ at) in
+    let same : y.after ≡ p = some_inj y.after p (sym asked.is ∙ at) in
     subst (After x n) same
     (kept_as x.world.topology n (with_call (entry_by x) (past_of (lab_of_doing x) n x.history)) (past_of (lab_of_doing x) n (record_by x ∷ x.history)) y.after
     (itself_as x y.after is) (asked_for x y is asked).keeps)
 
-after_its_nat : (x : Doing) (y : Asking) (after : List PlayedNode) (new : WireState) (marks : List Mark) (k : ℕ) (inside : Ep) (p : PlayedNode) → IsDoing x → IsAsked x y → IsSent x y after new marks
-    → y.asked.outlet ≡ Through k inside → slice_get after k ≡ Some p → After x k p
-after_its_nat x y after new marks k inside p is asked done through at =
+after_other : EachFrames → (x : Doing) (y : Asking) (k : ℕ) (p : PlayedNode) → IsDoing x → IsAsked x y → k ≢ x.call.node → slice_get y.mid k ≡ Some p → After x k p
+after_other frame x y k p is asked apart at =
     let lab = lab_of_doing x in
-    let its = its_nat is.law x.world.topology x.call.node (row_by x) is.rules (there x is) k inside (sym through ∙ asked.answers.outlet) in
-    let other : is_node k (Some x.call.node) ≡ false = not_node k (Some x.call.node) (λ same. its.apart (sym (some_inj x.call.node k same))) in
-    let passed : (record_by x).passed ≡ (leaving x y).passed = ap (λ (s : Sendings). s.passed) (leaves_so x y is asked) in
-    let more : nat_history lab k (record_by x ∷ x.history) ≡ outs_at k (leaving x y).passed ++ nat_history lab k x.history = rw other (ap (λ ps. outs_at k ps ++ nat_history lab k x.history) passed) in
-    let keeps : KeepsNat lab x.history k (leaving x y).passed after = subst (λ (o : Outlet). KeepsItsNat lab x.history (leaving x y).passed o after) through done.nat in
-    let row : row_of p ≡ nat its.row = some_inj (row_of p) (nat its.row) (sym (row_at x.world.topology after k p (done.rows ∙ asked.rows ∙ is.finds.nodes.rows) at) ∙ nat_there x.world.topology k its.row its.at) in
-    kept_with lab x.history k (leaving x y).passed after p (record_by x) its.row its.at row more keeps at
-
-after_other : EachFrames → (x : Doing) (y : Asking) (after : List PlayedNode) (new : WireState) (marks : List Mark) (k : ℕ) (p : PlayedNode) → IsDoing x → IsAsked x y → IsSent x y after new marks
-    → k ≢ x.call.node → (GoesThrough y.asked.outlet k → ⊥) → slice_get after k ≡ Some p → After x k p
-after_other frame x y after new marks k p is asked done apart other at =
-    let lab = lab_of_doing x in
-    let none : outs_at k (record_by x).passed ≡ [] = ap (λ (s : Sendings). outs_at k s.passed) (leaves_so x y is asked) ∙ nothing_out x.draws x.world.topology x.history k (sender_of x y) y.asked.packet y.step.sends other in
     kept_as x.world.topology k (past_of lab k x.history) (past_of lab k (record_by x ∷ x.history)) p
-    (away frame lab x.history (record_by x) k p (λ same. apart (sym (some_inj x.call.node k same))) none)
-    (is.finds.nodes.each k p (sym (asked.elsewhere k apart) ∙ sym (done.elsewhere k other) ∙ at))
-
--- it isn't its own NAT
-not_itself : (x : Doing) (y : Asking) → IsDoing x → IsAsked x y → (outlet : Outlet) → y.asked.outlet ≡ outlet → GoesThrough outlet x.call.node → ⊥
-not_itself x y is asked (Through k inside) through behind = (its_nat is.law x.world.topology x.call.node (row_by x) is.rules (there x is) k inside (sym through ∙ asked.answers.outlet)).apart behind
-not_itself x y is asked _ through behind = behind
+    (away frame lab x.history (record_by x) k p (λ same. apart (sym (some_inj x.call.node k same))))
+    (is.finds.nodes.each k p (sym (asked.elsewhere k apart) ∙ at))
 
 -- all nodes are kept as the history with the record has them
-nodes_after : EachFrames → (x : Doing) (y : Asking) (after : List PlayedNode) (new : WireState) (marks : List Mark) → IsDoing x → IsAsked x y → IsSent x y after new marks
-    → NodesOf (lab_of_doing x) after (record_by x ∷ x.history)
-nodes_after frame x y after new marks is asked done = record { rows = done.rows ∙ asked.rows ∙ is.finds.nodes.rows; each = λ k p at. by k p at (eqb_tells k x.call.node) } where
-  other : (k : ℕ) (p : PlayedNode) → slice_get after k ≡ Some p → k ≢ x.call.node → ((inside : Ep) × (y.asked.outlet ≡ Through k inside)) ⊎ (GoesThrough y.asked.outlet k → ⊥) → After x k p
-  other k p at apart (inl (inside, through)) = after_its_nat x y after new marks k inside p is asked done through at
-  other k p at apart (inr elsewhere) = after_other frame x y after new marks k p is asked done apart elsewhere at
+nodes_after : EachFrames → (x : Doing) (y : Asking) → IsDoing x → IsAsked x y → NodesOf (lab_of_doing x) y.mid (record_by x ∷ x.history)
+nodes_after frame x y is asked = record { rows = asked.rows ∙ is.finds.nodes.rows; each = λ k p at. by k p at (eqb_tells k x.call.node) } where
+  by : (k : ℕ) (p : PlayedNode) → slice_get y.mid k ≡ Some p → ((k == x.call.node) ≡ true) × (k ≡ x.call.node) ⊎ ((k == x.call.node) ≡ false) × (k ≢ x.call.node) → After x k p
+  by k p at (inl (yeah, same)) = subst (λ (j : ℕ). After x j p) (sym same) (after_itself x y p is asked (ap (slice_get y.mid) (sym same) ∙ at))
+  by k p at (inr (nope, apart)) = after_other frame x y k p is asked apart at
 
-  by : (k : ℕ) (p : PlayedNode) → slice_get after k ≡ Some p → ((k == x.call.node) ≡ true) × (k ≡ x.call.node) ⊎ ((k == x.call.node) ≡ false) × (k ≢ x.call.node) → After x k p
-  by k p at (inl (yeah, same)) =
-      subst (λ (j : ℕ). After x j p) (sym same)
-      (after_itself x y after p is asked (done.elsewhere x.call.node (not_itself x y is asked y.asked.outlet refl)) (ap (slice_get after) (sym same) ∙ at))
-  by k p at (inr (nope, apart)) = other k p at apart (behind_or_not y.asked.outlet k)
+-- THE NATS
+
+-- where a NAT is kept the node is one
+nat_kept : (t : TopologyState) (list : List (Option NatState)) (k : ℕ) (its : NatState) (a : Node) → AreNatsOf t list → slice_get list k ≡ Some (Some its) → node_at t k ≡ Some a
+    → (row : NatNode) × (a ≡ nat row)
+nat_kept t list k its a rows at there = by a (sym kept ∙ ap (λ (xs : List (Option NatSettings)). slice_get xs k) rows ∙ slice_get-map set_up (nodes t) k ∙ ap (option_map set_up) there) where
+  set_up : Node → Option NatSettings
+  set_up b = option_map nat_settings (as_nat b)
+
+  kept : slice_get (set_ups list) k ≡ Some (Some its.settings)
+  kept = slice_get-map (option_map (λ (n : NatState). n.settings)) list k ∙ ap (option_map (option_map (λ (n : NatState). n.settings))) at
+
+  none : (b : Node) → Some (Some its.settings) ≡ Some None → (row : NatNode) × (b ≡ nat row)
+  none b e = absurd (false≢true (ap (λ (o : Option NatSettings). is_some o) (some_inj None (Some its.settings) (sym e))))
+
+  by : (b : Node) → Some (Some its.settings) ≡ Some (option_map nat_settings (as_nat b)) → (row : NatNode) × (b ≡ nat row)
+  by (nat row) e = (row, refl)
+  by (server x) e = none (server x) e
+  by (client x) e = none (client x) e
+  by (relay x) e = none (relay x) e
+  by (native x) e = none (native x) e
+
+-- they stand for the history with the record
+nats_after : (x : Doing) (y : Asking) (nats : ChainsState) (new : WireState) (marks : List Mark) → IsDoing x → IsAsked x y → IsSent x y nats new marks
+    → AreNatsWith (lab_of_doing x) (record_by x ∷ x.history) [] nats
+nats_after x y nats new marks is asked done = record {
+  topology = done.knows.topology;
+  chain = done.knows.chain;
+  stands = record { set_up = done.knows.stands.set_up; stands = λ k its at. subst (kept.StandsFor its) (by k its at (eqb_tells k x.call.node)) (done.knows.stands.stands k its at) };
+} where
+  passed : (leaving x y).passed ≡ (record_by x).passed
+  passed = ap (λ (s : Sendings). s.passed) (sym (leaves_so x y is asked))
+
+  -- a NAT sends nothing
+  silent : (row : NatNode) → row_by x ≡ nat row → (record_by x).passed ≡ []
+  silent row e = ap (λ (a : Node). (sendings (lab_of_doing x) x.history x.call.now.0 (entry_by x) a).passed) e
+
+  by : (k : ℕ) (its : NatState) → slice_get nats.nats k ≡ Some (Some its) → ((k == x.call.node) ≡ true) × (k ≡ x.call.node) ⊎ ((k == x.call.node) ≡ false) × (k ≢ x.call.node)
+      → outs_at k (leaving x y).passed ++ nat_history (lab_of_doing x) k x.history ≡ nat_history (lab_of_doing x) k (record_by x ∷ x.history)
+  by k its at (inl (yeah, same)) =
+      let at_node : node_at nats.topology k ≡ Some (row_by x) = ap (λ (t : TopologyState). node_at t k) done.knows.topology ∙ ap (node_at x.world.topology) same ∙ there x is in
+      let a = nat_kept nats.topology nats.nats k its (row_by x) done.rows at at_node in
+      ap (λ (ps : List Passing). outs_at k ps ++ nat_history (lab_of_doing x) k x.history) (passed ∙ silent a.0 a.1)
+      ∙ sym (rw (yeah, is.quiet) refl)
+  by k its at (inr (nope, apart)) =
+      ap (λ (ps : List Passing). outs_at k ps ++ nat_history (lab_of_doing x) k x.history) passed ∙ sym (rw nope refl)
 
 -- IT ACTED
 
 -- what was delivered is remembered
-done_is : (x : Doing) (y : Asking) (after : List PlayedNode) (new : WireState) (marks : List Mark) → IsSent x y after new marks → IsPrompt x.world.wire x.world.done x.prompt
+done_is : (x : Doing) (y : Asking) (nats : ChainsState) (new : WireState) (marks : List Mark) → IsSent x y nats new marks → IsPrompt x.world.wire x.world.done x.prompt
     → (i : ℕ) → get_or (done_by x.prompt new.done) i false ≡ (is_number i (delivered_by x.prompt) || get_or x.world.done i false)
-done_is x y after new marks done there i = by x.prompt there where
+done_is x y nats new marks done there i = by x.prompt there where
   entries : List Item
   entries = entries_in (leaving x y).made
 
@@ -273,19 +286,20 @@ armed_is x y is asked =
     ap (λ (s : Step). armed_after (has_any s.sends) x.world.armed) (asked_for x y is asked).did
     ∙ ap (armed_after (has_any (entry_by x).step.sends)) (is.finds.armed ∙ ap (λ (o : Option ℕ). option_or o (armed x.history)) (sym is.mild))
 
-pub acted_plays : EachFrames → (x : Doing) (y : Asking) (after : List PlayedNode) (new : WireState) (marks : List Mark) → IsCall x.world x.prompt x.call → IsPrompt x.world.wire x.world.done x.prompt
-    → (a : Node) → node_at x.world.topology x.call.node ≡ Some a → IsDoing x → IsAsked x y → IsSent x y after new marks
-    → Plays x.draws x.world (record x.world { armed = armed_by x y; nodes = after; wire = new.items; done = done_by x.prompt new.done }) x.history
+pub acted_plays : EachFrames → (x : Doing) (y : Asking) (nats : ChainsState) (new : WireState) (marks : List Mark) → IsCall x.world x.prompt x.call → IsPrompt x.world.wire x.world.done x.prompt
+    → (a : Node) → node_at x.world.topology x.call.node ≡ Some a → IsDoing x → IsAsked x y → IsSent x y nats new marks
+    → Plays x.draws x.world (record x.world { armed = armed_by x y; chain = nats.chain; nodes = y.mid; nats = nats; wire = new.items; done = done_by x.prompt new.done }) x.history
     (prompted x.draws x.world x.history x.event x.act x.prompt x.call.node a) (Ok (said_by x y marks))
-acted_plays frame x y after new marks call there a at is asked done =
-    let now = record x.world { armed = armed_by x y; nodes = after; wire = new.items; done = done_by x.prompt new.done } in
+acted_plays frame x y nats new marks call there a at is asked done =
+    let now = record x.world { armed = armed_by x y; chain = nats.chain; nodes = y.mid; nats = nats; wire = new.items; done = done_by x.prompt new.done } in
     subst (λ (r : Full). Plays x.draws x.world now x.history r (Ok (said_by x y marks))) (prompted_is x a is call at) (
-      said_is x y after new marks is asked done,
+      said_is x y nats new marks is asked done,
       record {
         moment = sym call.at;
-        nodes = nodes_after frame x y after new marks is asked done;
+        nodes = nodes_after frame x y is asked;
+        nats = nats_after x y nats new marks is asked done;
         wire = ap (λ (w : WireState). w.items) done.enters.wire ∙ ap (λ (s : Sendings). x.world.wire ++ entries_in s.made) (sym (leaves_so x y is asked));
-        done = done_is x y after new marks done there;
+        done = done_is x y nats new marks done there;
         armed = armed_is x y is asked;
       },
     )

@@ -9,14 +9,14 @@ use Rattle.events.specs.declared.event.Event.{Event}
 use Rattle.history.specs.declared.act.Act.TheVariants as act
 use Rattle.history.specs.declared.records.Record.{Record}
 use Rattle.history.specs.Full.{Item, Full}
-use Rattle.legal.specs.Lab.{Draws, flat_lab}
+use Rattle.legal.specs.Lab.{Draws}
 use Rattle.legal.specs.Past.{forgotten, arms, armed}
 use Rattle.legal.specs.Emit.{Route, reaches, closed, astray, route}
 use Rattle.legal.specs.Next.{Numbered, acts, blank, delivers, delivers_item, delivers_to}
 use Rattle.legal.specs.Frame.{EachFrames}
 use Rattle.history.specs.declared.turn.Stop.{Stop}
 use Rattle.world.specs.Record.{fresh_record, with_deed}
-use Rattle.world.specs.World.{WorldState, StandsFor}
+use Rattle.world.specs.World.{WorldState, StandsFor, lab_in}
 use Rattle.world.specs.declared.prompt.Prompt.TheVariants as prompt
 use Rattle.world.specs.Prompt.{dst_at, input_at}
 use Rattle.world.specs.Playing.{prompted, Plays}
@@ -37,11 +37,11 @@ pub record IsDelivery (x : Delivery) : Type 0 where
   pub stands : StandsFor x.draws x.world x.history
   pub there : slice_get x.world.wire x.number ≡ Some x.item
   pub within : x.number < length x.world.done
-  pub keeps : forgotten (flat_lab x.draws x.world.topology) x.event.event ≡ []
+  pub keeps : forgotten (lab_in x.draws x.world) x.event.event ≡ []
   pub mild : arms x.event.event ≡ None
 
 abbrev pub record_in : Delivery → Full
-record_in x = delivers (flat_lab x.draws x.world.topology) x.history x.event x.number
+record_in x = delivers (lab_in x.draws x.world) x.history x.event x.number
 
 -- the entry is remembered as delivered
 abbrev pub marked : WorldState → ℕ → WorldState
@@ -51,9 +51,9 @@ marked w n = record w { done = set w.done n true }
 still_armed : {a : Option ℕ} → (H : List Full) (e : Event) → a ≡ armed H → arms e ≡ None → a ≡ option_or (arms e) (armed H)
 still_armed H e is mild = is ∙ ap (λ (o : Option ℕ). option_or o (armed H)) (sym mild)
 
-found : (x : Delivery) (r : Route) → IsDelivery x → route (flat_lab x.draws x.world.topology) x.history x.world.moment x.item ≡ r → record_in x ≡ delivers_to (flat_lab x.draws x.world.topology) x.history x.event x.number x.item r
+found : (x : Delivery) (r : Route) → IsDelivery x → route (lab_in x.draws x.world) x.history x.world.moment x.item ≡ r → record_in x ≡ delivers_to (lab_in x.draws x.world) x.history x.event x.number x.item r
 found x r is goes =
-    let lab = flat_lab x.draws x.world.topology in
+    let lab = lab_in x.draws x.world in
     let H = x.history in
     ap (λ (xs : List Item). delivers_item lab H x.event x.number (slice_get xs x.number)) (sym is.stands.wire)
     ∙ ap (delivers_item lab H x.event x.number) is.there
@@ -61,15 +61,15 @@ found x r is goes =
     ∙ ap (delivers_to lab H x.event x.number x.item) goes
 
 -- there is no such entry
-pub missing : EachFrames → (d : Draws) (w : WorldState) (H : List Full) (e : Numbered) (n : ℕ) → StandsFor d w H → forgotten (flat_lab d w.topology) e.event ≡ [] → arms e.event ≡ None → slice_get w.wire n ≡ None
-    → Plays d w w H (delivers (flat_lab d w.topology) H e n) (Ok (with_deed (fresh_record e.number w.moment) (act.Deliver n) None fate.NoEntry))
+pub missing : EachFrames → (d : Draws) (w : WorldState) (H : List Full) (e : Numbered) (n : ℕ) → StandsFor d w H → forgotten (lab_in d w) e.event ≡ [] → arms e.event ≡ None → slice_get w.wire n ≡ None
+    → Plays d w w H (delivers (lab_in d w) H e n) (Ok (with_deed (fresh_record e.number w.moment) (act.Deliver n) None fate.NoEntry))
 missing frame d w H e n s keeps mild none =
     let r = blank H e (act.Deliver n) None fate.NoEntry in
-    let is : delivers (flat_lab d w.topology) H e n ≡ r =
-    ap (λ (xs : List Item). delivers_item (flat_lab d w.topology) H e n (slice_get xs n)) (sym s.wire) ∙ ap (delivers_item (flat_lab d w.topology) H e n) none in
+    let is : delivers (lab_in d w) H e n ≡ r =
+    ap (λ (xs : List Item). delivers_item (lab_in d w) H e n (slice_get xs n)) (sym s.wire) ∙ ap (delivers_item (lab_in d w) H e n) none in
     subst (λ (z : Full). Plays d w w H z (Ok (with_deed (fresh_record e.number w.moment) (act.Deliver n) None fate.NoEntry))) (sym is) (
       said_blank w.moment H e (act.Deliver n) None fate.NoEntry None s.moment,
-      rests frame d w w H r s.nodes (record { still = record { entry = refl; made = refl; passed = refl; nothing = keeps }; moment = s.moment; nodes = refl; wire = refl; done = λ i. refl }) (still_armed H e.event s.armed mild),
+      rests frame d w w H r s.nodes s.nats (record { still = record { entry = refl; made = refl; passed = refl; nothing = keeps }; moment = s.moment; nodes = refl; nats = refl; wire = refl; done = λ i. refl }) (still_armed H e.event s.armed mild),
     )
 
 -- a node that does nothing is named, or none, and the entry is remembered
@@ -80,30 +80,31 @@ quiet frame x node f is becomes =
     let r = record (blank x.history x.event (act.Deliver x.number) node f) { delivered = Some x.number } in
     subst (λ (z : Full). Plays x.draws w (marked w x.number) x.history z (Ok (with_deed (fresh_record x.event.number w.moment) (act.Deliver x.number) node f))) (sym becomes) (
       said_blank w.moment x.history x.event (act.Deliver x.number) node f (Some x.number) is.stands.moment,
-      rests frame x.draws w (marked w x.number) x.history r is.stands.nodes (record {
+      rests frame x.draws w (marked w x.number) x.history r is.stands.nodes is.stands.nats (record {
         still = record { entry = refl; made = refl; passed = refl; nothing = is.keeps };
         moment = is.stands.moment;
         nodes = refl;
+        nats = refl;
         wire = refl;
         done = remembered w.done x.number is.within;
       }) (still_armed x.history x.event.event is.stands.armed is.mild),
     )
 
 -- it goes to nobody
-pub strays : EachFrames → (x : Delivery) → IsDelivery x → route (flat_lab x.draws x.world.topology) x.history x.world.moment x.item ≡ astray
+pub strays : EachFrames → (x : Delivery) → IsDelivery x → route (lab_in x.draws x.world) x.history x.world.moment x.item ≡ astray
     → Plays x.draws x.world (marked x.world x.number) x.history (record_in x) (Ok (with_deed (fresh_record x.event.number x.world.moment) (act.Deliver x.number) None fate.Nowhere))
 strays frame x is goes = quiet frame x None fate.Nowhere is (found x astray is goes)
 
 -- a NAT lets it in to nobody
-pub shut_out : EachFrames → (x : Delivery) (k : ℕ) → IsDelivery x → route (flat_lab x.draws x.world.topology) x.history x.world.moment x.item ≡ closed k
+pub shut_out : EachFrames → (x : Delivery) (k : ℕ) → IsDelivery x → route (lab_in x.draws x.world) x.history x.world.moment x.item ≡ closed k
     → Plays x.draws x.world (marked x.world x.number) x.history (record_in x) (Ok (with_deed (fresh_record x.event.number x.world.moment) (act.Deliver x.number) (Some k) fate.NatClosed))
 shut_out frame x k is goes = quiet frame x (Some k) fate.NatClosed is (found x (closed k) is goes)
 
 -- a node takes it
-pub taken : (x : Delivery) (new : WorldState) (result : Result Record Stop) (at : ℕ) (a : Node) → IsDelivery x → route (flat_lab x.draws x.world.topology) x.history x.world.moment x.item ≡ reaches at a
+pub taken : (x : Delivery) (new : WorldState) (result : Result Record Stop) (at : ℕ) (a : Node) → IsDelivery x → route (lab_in x.draws x.world) x.history x.world.moment x.item ≡ reaches at a
     → Plays x.draws x.world new x.history (prompted x.draws x.world x.history x.event (act.Deliver x.number) (prompt.Entry x.number) at a) result → Plays x.draws x.world new x.history (record_in x) result
 taken x new result at a is goes plays =
-    let lab = flat_lab x.draws x.world.topology in
+    let lab = lab_in x.draws x.world in
     let by : Option Item → ℕ → Full = λ o m. acts lab x.history x.event (act.Deliver x.number) (Some x.number) m at (dst_at o) (input_at o) a in
     let same : record_in x ≡ prompted x.draws x.world x.history x.event (act.Deliver x.number) (prompt.Entry x.number) at a =
     found x (reaches at a) is goes ∙ ap (by (Some x.item)) (sym is.stands.moment) ∙ ap (λ (o : Option Item). by o x.world.moment) (sym is.there) in

@@ -1,6 +1,5 @@
 -- Nodes that events name, and packets that their hosts hand in.
 use Rattle.std.proofs.Common.{◌≡◌, ◌<◌, ℕ, List, length, Some, None, Result, sym, ap, subst, ◌∙◌}
-use Rattle.teredo_node.specs.declared.fate.Fate.TheVariants as fate
 use Rattle.teredo_node.specs.Journal.{given}
 use Rattle.topology.specs.declared.node.Node.{Node}
 use Rattle.topology.specs.Topology.{node_at}
@@ -15,14 +14,10 @@ use Rattle.events.specs.declared.verb.Verb.{Verb}
 use Rattle.history.specs.declared.records.Record.{Record}
 use Rattle.history.specs.declared.turn.Stop.{Stop}
 use Rattle.history.specs.Full.{Full}
-use Rattle.legal.specs.Lab.{Draws, flat_lab}
-use Rattle.legal.specs.Past.{at_nat}
-use Rattle.legal.specs.Next.{Numbered, plain, blank, acts, no_ep, hands_in}
-use Rattle.legal.specs.Frame.{EachFrames}
-use Rattle.world.specs.Record.{fresh_record, with_deed}
-use Rattle.world.specs.World.{WorldState, StandsFor}
+use Rattle.legal.specs.Lab.{Draws}
+use Rattle.legal.specs.Next.{Numbered, plain, acts, no_ep, hands_in}
+use Rattle.world.specs.World.{WorldState, StandsFor, lab_in}
 use Rattle.world.specs.Playing.{Plays}
-use Rattle.world.proofs.Played.{rests, said_blank}
 
 -- the node that an event names is one of these
 abbrev pub IsWithin : Event → List PlayedNode → Type 0
@@ -48,9 +43,9 @@ event_within t list event.Settle of is = tt
 
 -- it does what it does
 pub hands : (d : Draws) (w new : WorldState) (H : List Full) (e : Numbered) (v : Verb) (n : ℕ) (x : List ℕ) (a : Node) (m : ℕ) (result : Result Record Stop) → m ≡ w.moment → StandsFor d w H → node_at w.topology n ≡ Some a
-    → Plays d w new H (acts (flat_lab d w.topology) H e (plain v) None m n no_ep (given x) a) result
-    → Plays d w new H (hands_in (flat_lab d w.topology) H e v n x (node_at w.topology n)) result
+    → Plays d w new H (acts (lab_in d w) H e (plain v) None m n no_ep (given x) a) result
+    → Plays d w new H (hands_in (lab_in d w) H e v n x (node_at w.topology n)) result
 hands d w new H e v n x a m result at s there plays =
-    let same : acts (flat_lab d w.topology) H e (plain v) None m n no_ep (given x) a ≡ hands_in (flat_lab d w.topology) H e v n x (node_at w.topology n) =
-    ap (λ (j : ℕ). acts (flat_lab d w.topology) H e (plain v) None j n no_ep (given x) a) (at ∙ s.moment) ∙ ap (hands_in (flat_lab d w.topology) H e v n x) (sym there) in
+    let same : acts (lab_in d w) H e (plain v) None m n no_ep (given x) a ≡ hands_in (lab_in d w) H e v n x (node_at w.topology n) =
+    ap (λ (j : ℕ). acts (lab_in d w) H e (plain v) None j n no_ep (given x) a) (at ∙ s.moment) ∙ ap (hands_in (lab_in d w) H e v n x) (sym there) in
     subst (λ (r : Full). Plays d w new H r result) same plays

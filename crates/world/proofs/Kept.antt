@@ -1,36 +1,40 @@
--- What a record leaves of what is kept of the nodes.
-use Rattle.std.proofs.Common.{◌≡◌, ◌≢◌, ℕ, ◌+◌, ◌==◌, Bool, true, false, List, [], ◌∷◌, Option, Some, None, refl, sym, ap, subst, ◌∙◌, arith, ◌⊎◌, inl, inr}
+-- What a record leaves of what is kept of the nodes, and of the NATs.
+use Rattle.std.proofs.Common.{◌≡◌, ◌≢◌, ℕ, ◌+◌, ◌==◌, Bool, true, false, cond, List, [], ◌∷◌, ◌++◌, Option, Some, None, refl, sym, ap, subst, ◌∙◌, arith, ◌⊎◌, inl, inr}
 use Rattle.std.specs.Prelude.{is_some}
 use Rattle.std.proofs.lemmas.Bool.{false≢true}
 use Rattle.std.proofs.lemmas.Bool.Decides.{eqb_tells}
+use Rattle.nat_kinds.specs.Nat.{NatState}
 use Rattle.nat_kinds.specs.Nat as nats
 use Rattle.nat_kinds.specs.History.{Entry as NatEntry, Restart}
 use Rattle.teredo_node.specs.Journal.{Journal}
 use Rattle.client_core.specs.Client.{ClientStandsFor}
 use Rattle.relay_core.specs.Relay.{RelayStandsFor}
 use Rattle.topology.specs.Rows.{TopologyState}
+use Rattle.topology.specs.Chains.{NatPasts, Passing, outs_at, after_passing}
+use Rattle.td_chain.specs.Chains.{ChainsState, NatsStand, with_nat_entry}
+use Rattle.td_chain.specs.Chains as chains
 use Rattle.history.specs.declared.act.Act.{Act}
 use Rattle.events.specs.declared.event.Event.{Event}
 use Rattle.history.specs.Full.{Full}
 use Rattle.legal.specs.Lab.{Lab}
-use Rattle.legal.specs.Past.{is_node, is_restart, at_nat, journal, drawn, words}
-use Rattle.topology.specs.Chains.{outs_at}
+use Rattle.legal.specs.Past.{is_node, is_restart, at_nat, journal, drawn, words, nat_history, nat_pasts}
 use Rattle.legal.specs.Frame.{EachFrames}
 use Rattle.lab_nodes.specs.declared.played_node.PlayedNode.{PlayedNode}
 use Rattle.lab_nodes.specs.declared.played_node.PlayedNode.TheVariants as played
 use Rattle.lab_nodes.specs.PlayedNode.{NodePast, past_of, IsKept, NodesOf}
+use Rattle.world.specs.Emission.{AreNatsWith}
 
 -- PASTS THAT ARE THE SAME FOR A NODE
 
 abbrev pub AsPast : PlayedNode → NodePast → NodePast → Type 0
-AsPast (played.Nat row is) x y = y.history ≡ x.history
+AsPast (played.Nat row) x y = Unit {0}
 AsPast (played.Client row is) x y = (y.journal ≡ x.journal) × (y.words ≡ x.words)
 AsPast (played.Server row) x y = Unit {0}
 AsPast (played.Relay row is) x y = y.journal ≡ x.journal
 AsPast (played.Native row) x y = Unit {0}
 
 pub kept_as : (t : TopologyState) (n : ℕ) (x y : NodePast) (p : PlayedNode) → AsPast p x y → IsKept t n x p → IsKept t n y p
-kept_as t n x y (played.Nat row is) same h = record { settings = h.settings; stands = subst (λ (g : List NatEntry). nats.StandsFor is g) (sym same) h.stands }
+kept_as t n x y (played.Nat row) same h = tt
 kept_as t n x y (played.Client row is) same h = record {
   settings = h.settings;
   stands = subst (λ (j : Journal). ClientStandsFor is j) (sym same.0) h.stands;
@@ -61,12 +65,12 @@ words_same lab k r H same = ap (λ (m : ℕ). λ (j : ℕ). lab.draws k (m + j))
 pub draws_none : (k : ℕ) (r : Full) (H : List Full) → is_node k r.node ≡ false → drawn k (r ∷ H) ≡ drawn k H
 draws_none k r H nope = let none : drawn k H + 0 ≡ drawn k H = omega arith in rw nope none
 
-pub away : EachFrames → (lab : Lab) (H : List Full) (r : Full) (k : ℕ) (p : PlayedNode) → r.node ≢ Some k → outs_at k r.passed ≡ [] → AsPast p (past_of lab k H) (past_of lab k (r ∷ H))
-away frame lab H r k (played.Nat row is) other outs = (frame lab H r).nats k other outs
-away frame lab H r k (played.Client row is) other outs = ((frame lab H r).journals k other, words_same lab k r H (draws_none k r H (not_node k r.node other)))
-away frame lab H r k (played.Server row) other outs = tt
-away frame lab H r k (played.Relay row is) other outs = (frame lab H r).journals k other
-away frame lab H r k (played.Native row) other outs = tt
+pub away : EachFrames → (lab : Lab) (H : List Full) (r : Full) (k : ℕ) (p : PlayedNode) → r.node ≢ Some k → AsPast p (past_of lab k H) (past_of lab k (r ∷ H))
+away frame lab H r k (played.Nat row) other = tt
+away frame lab H r k (played.Client row is) other = ((frame lab H r).journals k other, words_same lab k r H (draws_none k r H (not_node k r.node other)))
+away frame lab H r k (played.Server row) other = tt
+away frame lab H r k (played.Relay row is) other = (frame lab H r).journals k other
+away frame lab H r k (played.Native row) other = tt
 
 -- RECORDS AT WHICH NO NODE DOES ANYTHING
 
@@ -99,23 +103,65 @@ pub record IsStill (lab : Lab) (r : Full) : Type 0 where
   pub passed : r.passed ≡ []
   pub nothing : at_nat lab r.asked r.act ≡ []
 
-rests_as : EachFrames → (lab : Lab) (H : List Full) (r : Full) (k : ℕ) (p : PlayedNode) → IsStill lab r → AsPast p (past_of lab k H) (past_of lab k (r ∷ H))
-rests_as frame lab H r k (played.Nat row kept) is = (frame lab H r).silent k (ap (outs_at k) is.passed) is.nothing
-rests_as frame lab H r k (played.Client row kept) is = (journal_rests k r H is.entry (starts_none lab r.asked r.act is.nothing), words_same lab k r H (drawn_rests k r H is.entry))
-rests_as frame lab H r k (played.Server row) is = tt
-rests_as frame lab H r k (played.Relay row kept) is = journal_rests k r H is.entry (starts_none lab r.asked r.act is.nothing)
-rests_as frame lab H r k (played.Native row) is = tt
+rests_as : (lab : Lab) (H : List Full) (r : Full) (k : ℕ) (p : PlayedNode) → r.entry ≡ None → is_restart r.act ≡ false → AsPast p (past_of lab k H) (past_of lab k (r ∷ H))
+rests_as lab H r k (played.Nat row) none nope = tt
+rests_as lab H r k (played.Client row kept) none nope = (journal_rests k r H none nope, words_same lab k r H (drawn_rests k r H none))
+rests_as lab H r k (played.Server row) none nope = tt
+rests_as lab H r k (played.Relay row kept) none nope = journal_rests k r H none nope
+rests_as lab H r k (played.Native row) none nope = tt
 
-pub all_rest : EachFrames → (lab : Lab) (list : List PlayedNode) (H : List Full) (r : Full) → NodesOf lab list H → IsStill lab r → NodesOf lab list (r ∷ H)
-all_rest frame lab list H r of is = record {
+-- one that starts none anew leaves all
+pub all_rest : (lab : Lab) (list : List PlayedNode) (H : List Full) (r : Full) → NodesOf lab list H → r.entry ≡ None → is_restart r.act ≡ false → NodesOf lab list (r ∷ H)
+all_rest lab list H r of none nope = record {
   rows = of.rows;
-  each = λ k p at. kept_as lab.topology k (past_of lab k H) (past_of lab k (r ∷ H)) p (rests_as frame lab H r k p is) (of.each k p at);
+  each = λ k p at. kept_as lab.topology k (past_of lab k H) (past_of lab k (r ∷ H)) p (rests_as lab H r k p none nope) (of.each k p at);
 }
 
--- a record of no node leaves all
-pub all_away : EachFrames → (lab : Lab) (list : List PlayedNode) (H : List Full) (r : Full) → NodesOf lab list H → r.node ≡ None → r.passed ≡ [] → NodesOf lab list (r ∷ H)
-all_away frame lab list H r of nobody none = record {
+-- so does a record of no node
+pub all_away : EachFrames → (lab : Lab) (list : List PlayedNode) (H : List Full) (r : Full) → NodesOf lab list H → r.node ≡ None → NodesOf lab list (r ∷ H)
+all_away frame lab list H r of nobody = record {
   rows = of.rows;
   each = λ k p at. kept_as lab.topology k (past_of lab k H) (past_of lab k (r ∷ H)) p
-      (away frame lab H r k p (λ e. false≢true (ap (λ (o : Option ℕ). is_some o) (sym nobody ∙ e))) (ap (outs_at k) none)) (of.each k p at);
+      (away frame lab H r k p (λ e. false≢true (ap (λ (o : Option ℕ). is_some o) (sym nobody ∙ e)))) (of.each k p at);
+}
+
+-- WHAT IS KEPT OF NATS
+
+-- they stand for histories that are the same
+stand_as : (t : TopologyState) (list : List (Option NatState)) (g h : NatPasts) → ((k : ℕ) → g k ≡ h k) → NatsStand t list g → NatsStand t list h
+stand_as t list g h same stand = record { set_up = stand.set_up; stands = λ k nat at. subst (nats.StandsFor nat) (same k) (stand.stands k nat at) }
+
+-- a record adds to them what was let out
+pub nats_as : (lab : Lab) (H : List Full) (r : Full) (passed : List Passing) (now : ChainsState) → ((k : ℕ) → outs_at k passed ++ nat_history lab k H ≡ nat_history lab k (r ∷ H))
+    → AreNatsWith lab H passed now → AreNatsWith lab (r ∷ H) [] now
+nats_as lab H r passed now same is = record {
+  topology = is.topology;
+  chain = is.chain;
+  stands = stand_as now.topology now.nats (after_passing passed (nat_pasts lab H)) (nat_pasts lab (r ∷ H)) same is.stands;
+}
+
+-- or nothing
+pub nats_rest : EachFrames → (lab : Lab) (H : List Full) (r : Full) (now : ChainsState) → IsStill lab r → AreNatsWith lab H [] now → AreNatsWith lab (r ∷ H) [] now
+nats_rest frame lab H r now is = nats_as lab H r [] now (λ k. sym ((frame lab H r).silent k (ap (outs_at k) is.passed) is.nothing))
+
+-- the entry of a NAT that a record is of joins its history alone
+joins : (lab : Lab) (H : List Full) (r : Full) (n : ℕ) (e : NatEntry) → r.node ≡ Some n → r.passed ≡ [] → at_nat lab r.asked r.act ≡ e ∷ []
+    → (k : ℕ) → with_nat_entry n e (nat_pasts lab H) k ≡ nat_history lab k (r ∷ H)
+joins lab H r n e node none its k =
+    by (k == n) ∙ sym (λ i. cond (is_node k (node i)) (its i) (outs_at k (none i)) ++ nat_history lab k H)
+  where
+    by : (b : Bool) → cond b (e ∷ nat_history lab k H) (nat_history lab k H) ≡ cond b (e ∷ []) [] ++ nat_history lab k H
+    by true = refl
+    by false = refl
+
+pub record Joins (n : ℕ) (e : NatEntry) (old new : ChainsState) : Type 0 where
+  pub stands : (h : NatPasts) → chains.StandsFor old h → chains.StandsFor new (with_nat_entry n e h)
+  pub same : new ≡ record old { nats = new.nats }
+
+pub nats_join : (lab : Lab) (H : List Full) (r : Full) (n : ℕ) (e : NatEntry) (old new : ChainsState) → r.node ≡ Some n → r.passed ≡ [] → at_nat lab r.asked r.act ≡ e ∷ [] → Joins n e old new
+    → AreNatsWith lab H [] old → AreNatsWith lab (r ∷ H) [] new
+nats_join lab H r n e old new node none its does is = record {
+  topology = ap (λ (x : ChainsState). x.topology) does.same ∙ is.topology;
+  chain = ap (λ (x : ChainsState). x.chain) does.same ∙ is.chain;
+  stands = stand_as new.topology new.nats (with_nat_entry n e (nat_pasts lab H)) (nat_pasts lab (r ∷ H)) (joins lab H r n e node none its) (does.stands (nat_pasts lab H) is.stands);
 }

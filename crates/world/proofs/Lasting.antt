@@ -2,6 +2,8 @@
 use Rattle.std.proofs.Common.{◌≡◌, ◌≤◌, ◌+◌, ℕ, true, false, List, [], Option, Some, None, Result, Ok, Err, refl, sym, ap, ◌∙◌, arith, Bool}
 use Rattle.std.specs.Prelude.{IfOk}
 use Rattle.std.proofs.lemmas.Bool.{false≢true}
+use Rattle.topology.specs.Rows.{no_nodes}
+use Rattle.td_chain.specs.Chains.{ChainsState}
 use Rattle.events.specs.declared.event.Event.{Event}
 use Rattle.events.specs.declared.event.Event.TheVariants as event
 use Rattle.events.specs.declared.event.TheConstants.{ADVANCE_MAX_MS}
@@ -9,13 +11,13 @@ use Rattle.history.specs.declared.records.Record.{Record}
 use Rattle.history.specs.declared.turn.Turn.TheVariants.{Last}
 use Rattle.history.specs.declared.turn.Stop.{Stop}
 use Rattle.history.specs.Full.{Full}
-use Rattle.legal.specs.Lab.{Draws, flat_lab}
+use Rattle.legal.specs.Lab.{Draws}
 use Rattle.legal.specs.Past.{has_more}
 use Rattle.legal.specs.Next.{next_of}
 use Rattle.legal.specs.Laws.{EachIsOfItsEvent, may_go_on}
 use Rattle.world.specs.declared.going.Going.TheVariants as going_on
 use Rattle.world.specs.declared.going.Going.{Going}
-use Rattle.world.specs.World.{WorldState, IsAgain, event_in, began_in}
+use Rattle.world.specs.World.{WorldState, IsAgain, event_in, began_in, lab_in}
 use Rattle.world.specs.Playing.{Plays, played, PlaysTurn, Turned, ended, turn_from}
 
 no_more : (e : Event) → may_go_on e ≡ false → (r : Full) → has_more e r.act ≡ false
@@ -39,10 +41,10 @@ turns d old new H r (Err why) said last plays = plays
 
 -- what an event without further records does is its last record
 pub plays_last : EachIsOfItsEvent → (d : Draws) (old new : WorldState) (H : List Full) (i : ℕ) (e : Event) (done : Result (Unit {0}) Stop) (said : Record) → may_go_on e ≡ false
-    → Plays d old new H (next_of (flat_lab d old.topology) H i e) (played done said) → PlaysTurn d old new H (next_of (flat_lab d old.topology) H i e) (turn_from (ended done) said)
+    → Plays d old new H (next_of (lab_in d old) H i e) (played done said) → PlaysTurn d old new H (next_of (lab_in d old) H i e) (turn_from (ended done) said)
 plays_last law d old new H i e done said single plays =
-    let r = next_of (flat_lab d old.topology) H i e in
-    turns d old new H r done said (ap (λ (x : Event). has_more x r.act) (law (flat_lab d old.topology) H i e).asked ∙ no_more e single r) plays
+    let r = next_of (lab_in d old) H i e in
+    turns d old new H r done said (ap (λ (x : Event). has_more x r.act) (law (lab_in d old) H i e).asked ∙ no_more e single r) plays
 
 -- no event goes on
 abbrev pub IsAtRest : WorldState → Type 0
@@ -57,14 +59,18 @@ rests m None e single again = (refl, refl)
 rests m (Some (going_on.Advance began ms)) e single again = absurd (false≢true (sym single ∙ ap may_go_on again))
 rests m (Some going_on.Settle) e single again = absurd (false≢true (sym single ∙ ap may_go_on again))
 
+abbrev no_nats : ChainsState
+no_nats = record { topology = no_nodes; chain = []; moment = 0; nats = [] }
+
 -- what stays of a world while no time passes
 abbrev pub lasting : WorldState → WorldState
-lasting w = record w { armed = None; nodes = []; wire = []; done = [] }
+lasting w = record w { armed = None; nodes = []; nats = no_nats; wire = []; done = [] }
 
 -- then nothing goes on
 pub turned_last : (old new : WorldState) (e : Event) (word : Record) → IsAtRest old → lasting new ≡ lasting old → Turned old new e (Last word)
 turned_last old new e word rest same = record {
   topology = ap (λ (w : WorldState). w.topology) same;
+  chain = ap (λ (w : WorldState). w.chain) same;
   stopped = ap (λ (w : WorldState). w.stopped) same;
   going = ap (λ (w : WorldState). w.going) same ∙ rest.0;
   goes = ap (λ (w : WorldState). w.began) same ∙ rest.1 ∙ sym (ap (λ (w : WorldState). w.moment) same);

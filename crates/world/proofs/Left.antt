@@ -7,13 +7,13 @@ use Rattle.events.specs.declared.event.Event.TheVariants as event
 use Rattle.topology.specs.Topology.{nodes}
 use Rattle.history.specs.Full.{Full}
 use Rattle.legal.specs.declared.left.TheConstants.{LEFT_MAX}
-use Rattle.legal.specs.Lab.{Draws, Lab, flat_lab}
+use Rattle.legal.specs.Lab.{Draws, Lab}
 use Rattle.legal.specs.Past.{now, began, going, has_more, was_delivered}
 use Rattle.legal.specs.Left.{time_left, left_of_event, left, open_places, PLACES}
 use Rattle.legal.specs.Left as legal
 use Rattle.lab_nodes.specs.PlayedNode.{NodesOf, AreReady}
 use Rattle.lab_nodes.specs.DueMoments.{all_due, EachSumIsOfThePast}
-use Rattle.world.specs.World.{WorldState, left_of, left_in}
+use Rattle.world.specs.World.{WorldState, left_of, left_in, lab_in}
 
 -- THE SAME DUE MOMENTS IN ANOTHER ORDER
 
@@ -48,19 +48,19 @@ pub record IsAt (d : Draws) (w : WorldState) (H : List Full) : Type 0 where
   pub moment : w.moment ≡ now H
   pub began : w.began ≡ began H
   pub going : w.going ≡ going H
-  pub nodes : NodesOf (flat_lab d w.topology) w.nodes H
+  pub nodes : NodesOf (lab_in d w) w.nodes H
   pub ready : AreReady w.moment w.nodes
   pub done : (i : ℕ) → get_or w.done i false ≡ was_delivered i H
 
 -- has as much left
-pub left_is : EachSumIsOfThePast → (d : Draws) (w : WorldState) (H : List Full) → IsAt d w H → left (flat_lab d w.topology) H ≡ left_in w
-left_is law d w H is = left_by_going (flat_lab d w.topology) H ∙ ap (left_so (flat_lab d w.topology) H) (sym is.going) ∙ by w.going where
-  by : (o : Option Event) → left_so (flat_lab d w.topology) H o ≡ left_of w o
+pub left_is : EachSumIsOfThePast → (d : Draws) (w : WorldState) (H : List Full) → IsAt d w H → left (lab_in d w) H ≡ left_in w
+left_is law d w H is = left_by_going (lab_in d w) H ∙ ap (left_so (lab_in d w) H) (sym is.going) ∙ by w.going where
+  by : (o : Option Event) → left_so (lab_in d w) H o ≡ left_of w o
   by None = refl
   by (Some (event.Advance ms)) =
       let ready : AreReady (now H) w.nodes = subst (λ (m : ℕ). AreReady m w.nodes) is.moment is.ready in
-      let same : time_left (began H + ms) (now H) (all_due (now H) w.nodes) ≡ time_left (began H + ms) (now H) (legal.all_due (flat_lab d w.topology) H 0 (nodes w.topology)) =
-      same_time (began H + ms) (now H) (all_due (now H) w.nodes) (legal.all_due (flat_lab d w.topology) H 0 (nodes w.topology)) (λ weight. law (flat_lab d w.topology) w.nodes H weight is.nodes ready) in
+      let same : time_left (began H + ms) (now H) (all_due (now H) w.nodes) ≡ time_left (began H + ms) (now H) (legal.all_due (lab_in d w) H 0 (nodes w.topology)) =
+      same_time (began H + ms) (now H) (all_due (now H) w.nodes) (legal.all_due (lab_in d w) H 0 (nodes w.topology)) (λ weight. law (lab_in d w) w.nodes H weight is.nodes ready) in
       sym same
       ∙ ap (λ (m : ℕ). time_left (began H + ms) m (all_due m w.nodes)) (sym is.moment)
       ∙ ap (λ (m : ℕ). time_left (m + ms) w.moment (all_due w.moment w.nodes)) (sym is.began)

@@ -10,14 +10,14 @@ use Rattle.history.specs.declared.act.Act.TheVariants as act
 use Rattle.history.specs.declared.turn.Turn.TheVariants.{More, Last}
 use Rattle.history.specs.declared.turn.Stop.{Stop}
 use Rattle.history.specs.Full.{Item, Full, wire}
-use Rattle.legal.specs.Lab.{Draws, Lab, flat_lab}
+use Rattle.legal.specs.Lab.{Draws, Lab}
 use Rattle.legal.specs.Past.{now, has_more, was_delivered, first_open, first_undelivered}
 use Rattle.legal.specs.Emit.{Route, reaches, closed, astray, route}
 use Rattle.legal.specs.Next.{Numbered, numbered, plain, blank, delivers_to, delivers_item, delivers, delivers_or, next_of}
 use Rattle.legal.specs.Frame.{EachFrames}
 use Rattle.legal.specs.Laws.{EachIsOfItsEvent}
 use Rattle.world.specs.Record.{fresh_record, with_deed}
-use Rattle.world.specs.World.{WorldState, StandsFor}
+use Rattle.world.specs.World.{WorldState, StandsFor, lab_in}
 use Rattle.world.specs.Playing.{Plays, PlaysTurn}
 use Rattle.world.proofs.Played.{rests, said_blank}
 use Rattle.std.specs.Prelude.{slice_get}
@@ -65,23 +65,23 @@ first_is_none H items done is marks all =
 -- the entry of this number is delivered
 pub plays_next : (d : Draws) (old new : WorldState) (H : List Full) (i n : ℕ) (result : Result Record Stop) → StandsFor d old H
     → (n < length old.wire) × (get_or old.done n false ≡ false) × ((k : ℕ) → k < n → get_or old.done k false ≡ true)
-    → Plays d old new H (delivers (flat_lab d old.topology) H (numbered i event.Next) n) result → Plays d old new H (next_of (flat_lab d old.topology) H i event.Next) result
+    → Plays d old new H (delivers (lab_in d old) H (numbered i event.Next) n) result → Plays d old new H (next_of (lab_in d old) H i event.Next) result
 plays_next d old new H i n result s facts plays =
     let e = numbered i event.Next in
     let first = first_is H old.wire old.done n s.wire s.done facts.0 facts.1 facts.2 in
-    let next : next_of (flat_lab d old.topology) H i event.Next ≡ delivers (flat_lab d old.topology) H e n = ap (delivers_or (flat_lab d old.topology) H e (blank H e (plain verb.Next) None fate.NoEntry)) first in
+    let next : next_of (lab_in d old) H i event.Next ≡ delivers (lab_in d old) H e n = ap (delivers_or (lab_in d old) H e (blank H e (plain verb.Next) None fate.NoEntry)) first in
     subst (λ (r : Full). Plays d old new H r result) (sym next) plays
 
 -- there is none
 pub plays_none : EachFrames → (d : Draws) (old : WorldState) (H : List Full) (i : ℕ) → StandsFor d old H → ((k : ℕ) → k < length old.wire → get_or old.done k false ≡ true)
-    → Plays d old old H (next_of (flat_lab d old.topology) H i event.Next) (Ok (with_deed (fresh_record i old.moment) (plain verb.Next) None fate.NoEntry))
+    → Plays d old old H (next_of (lab_in d old) H i event.Next) (Ok (with_deed (fresh_record i old.moment) (plain verb.Next) None fate.NoEntry))
 plays_none frame d old H i s all =
     let e = numbered i event.Next in
     let last = blank H e (plain verb.Next) None fate.NoEntry in
-    let next : next_of (flat_lab d old.topology) H i event.Next ≡ last = ap (delivers_or (flat_lab d old.topology) H e last) (first_is_none H old.wire old.done s.wire s.done all) in
+    let next : next_of (lab_in d old) H i event.Next ≡ last = ap (delivers_or (lab_in d old) H e last) (first_is_none H old.wire old.done s.wire s.done all) in
     subst (λ (r : Full). Plays d old old H r (Ok (with_deed (fresh_record i old.moment) (plain verb.Next) None fate.NoEntry))) (sym next) (
       said_blank old.moment H e (plain verb.Next) None fate.NoEntry None s.moment,
-      rests frame d old old H last s.nodes (record { still = record { entry = refl; made = refl; passed = refl; nothing = refl }; moment = s.moment; nodes = refl; wire = refl; done = λ k. refl }) s.armed,
+      rests frame d old old H last s.nodes s.nats (record { still = record { entry = refl; made = refl; passed = refl; nothing = refl }; moment = s.moment; nodes = refl; nats = refl; wire = refl; done = λ k. refl }) s.armed,
     )
 
 -- THE EVENT `settle`
@@ -101,20 +101,20 @@ item_acts lab H e n (Some x) = to_acts lab H e n x (route lab H (now H) x)
 
 -- the record of it
 settle_is : (d : Draws) (w : WorldState) (H : List Full) (i n : ℕ) → StandsFor d w H → IsLeast w n
-    → next_of (flat_lab d w.topology) H i event.Settle ≡ delivers (flat_lab d w.topology) H (numbered i event.Settle) n
+    → next_of (lab_in d w) H i event.Settle ≡ delivers (lab_in d w) H (numbered i event.Settle) n
 settle_is d w H i n s least =
-    ap (delivers_or (flat_lab d w.topology) H (numbered i event.Settle) (blank H (numbered i event.Settle) (plain verb.Settle) None fate.Done))
+    ap (delivers_or (lab_in d w) H (numbered i event.Settle) (blank H (numbered i event.Settle) (plain verb.Settle) None fate.Done))
     (first_is H w.wire w.done n s.wire s.done least.0 least.1 least.2)
 
 -- the event goes on after it
 pub goes_on : (d : Draws) (old mid : WorldState) (H : List Full) (r : Full) (said : Record) → Plays d old mid H r (Ok said) → Plays d old (record mid { began = mid.moment; going = Some event.Settle }) H r (Ok said)
-goes_on d old mid H r said plays = (plays.0, record { moment = plays.1.moment; nodes = plays.1.nodes; wire = plays.1.wire; done = plays.1.done; armed = plays.1.armed })
+goes_on d old mid H r said plays = (plays.0, record { moment = plays.1.moment; nodes = plays.1.nodes; nats = plays.1.nats; wire = plays.1.wire; done = plays.1.done; armed = plays.1.armed })
 
 -- it is delivered, and further ones may follow
 pub settles : EachIsOfItsEvent → (d : Draws) (old new : WorldState) (H : List Full) (i n : ℕ) (said : Record) → StandsFor d old H → IsLeast old n
-    → Plays d old new H (delivers (flat_lab d old.topology) H (numbered i event.Settle) n) (Ok said) → PlaysTurn d old new H (next_of (flat_lab d old.topology) H i event.Settle) (Ok (More said))
+    → Plays d old new H (delivers (lab_in d old) H (numbered i event.Settle) n) (Ok said) → PlaysTurn d old new H (next_of (lab_in d old) H i event.Settle) (Ok (More said))
 settles law d old new H i n said s least plays =
-    let lab = flat_lab d old.topology in
+    let lab = lab_in d old in
     let e = numbered i event.Settle in
     let is = settle_is d old H i n s least in
     let asked : (delivers lab H e n).asked ≡ event.Settle = ap (λ (r : Full). r.asked) (sym is) ∙ (law lab H i event.Settle).asked in
@@ -124,25 +124,26 @@ settles law d old new H i n said s least plays =
 
 -- or isn't
 pub settle_stops : (d : Draws) (old new : WorldState) (H : List Full) (i n : ℕ) (why : Stop) → StandsFor d old H → IsLeast old n
-    → Plays d old new H (delivers (flat_lab d old.topology) H (numbered i event.Settle) n) (Err why) → PlaysTurn d old new H (next_of (flat_lab d old.topology) H i event.Settle) (Err why)
+    → Plays d old new H (delivers (lab_in d old) H (numbered i event.Settle) n) (Err why) → PlaysTurn d old new H (next_of (lab_in d old) H i event.Settle) (Err why)
 settle_stops d old new H i n why s least plays = subst (λ (r : Full). Plays d old new H r (Err why)) (sym (settle_is d old H i n s least)) plays
 
 -- all were
 pub settled : EachFrames → (d : Draws) (old new : WorldState) (H : List Full) (i : ℕ) → StandsFor d old H → ((k : ℕ) → k < length old.wire → get_or old.done k false ≡ true)
-    → (new.moment ≡ old.moment) × (new.nodes ≡ old.nodes) × (new.wire ≡ old.wire) × (new.done ≡ old.done) × (new.armed ≡ old.armed)
-    → PlaysTurn d old new H (next_of (flat_lab d old.topology) H i event.Settle) (Ok (Last (with_deed (fresh_record i old.moment) (plain verb.Settle) None fate.Done)))
+    → (new.moment ≡ old.moment) × (new.nodes ≡ old.nodes) × (new.nats ≡ old.nats) × (new.wire ≡ old.wire) × (new.done ≡ old.done) × (new.armed ≡ old.armed)
+    → PlaysTurn d old new H (next_of (lab_in d old) H i event.Settle) (Ok (Last (with_deed (fresh_record i old.moment) (plain verb.Settle) None fate.Done)))
 settled frame d old new H i s all same =
     let e = numbered i event.Settle in
     let last = blank H e (plain verb.Settle) None fate.Done in
-    let next : next_of (flat_lab d old.topology) H i event.Settle ≡ last = ap (delivers_or (flat_lab d old.topology) H e last) (first_is_none H old.wire old.done s.wire s.done all) in
+    let next : next_of (lab_in d old) H i event.Settle ≡ last = ap (delivers_or (lab_in d old) H e last) (first_is_none H old.wire old.done s.wire s.done all) in
     subst (λ (r : Full). PlaysTurn d old new H r (Ok (Last (with_deed (fresh_record i old.moment) (plain verb.Settle) None fate.Done)))) (sym next) (
       said_blank old.moment H e (plain verb.Settle) None fate.Done None s.moment,
       refl,
-      rests frame d old new H last s.nodes (record {
+      rests frame d old new H last s.nodes s.nats (record {
         still = record { entry = refl; made = refl; passed = refl; nothing = refl };
         moment = same.0 ∙ s.moment;
         nodes = same.1;
-        wire = same.2;
-        done = λ k. ap (λ bs. get_or bs k false) same.3;
-      }) (same.4 ∙ s.armed),
+        nats = same.2;
+        wire = same.3;
+        done = λ k. ap (λ bs. get_or bs k false) same.4;
+      }) (same.5 ∙ s.armed),
     )

@@ -8,7 +8,7 @@ use Rattle.std.proofs.lemmas.Grind.{get_or-set_at}
 use Rattle.td_base.specs.declared.endpoint.Ep.{Ep}
 use Rattle.teredo_node.specs.declared.fate.Fate.{Fate}
 use Rattle.teredo_node.specs.declared.fate.Fate.TheVariants as fate
-use Rattle.topology.specs.Rows.{TopologyState}
+use Rattle.td_chain.specs.Chains.{ChainsState}
 use Rattle.history.specs.declared.act.Act.{Act}
 use Rattle.history.specs.declared.mark.Mark.{Mark}
 use Rattle.history.specs.declared.records.Record.{Record}
@@ -17,7 +17,7 @@ use Rattle.history.specs.declared.turn.Stop.TheVariants as stop
 use Rattle.world.specs.declared.wire.TheConstants.{ENTRIES_MAX}
 use Rattle.history.specs.Full.{Item, Made, Full, udp, sent, item_in, items_of, wire}
 use Rattle.history.specs.Records.{record_of, marks_of}
-use Rattle.legal.specs.Lab.{Draws, flat_lab}
+use Rattle.legal.specs.Lab.{Draws, Lab}
 use Rattle.legal.specs.Past.{now, is_number, arms, armed}
 use Rattle.legal.specs.Next.{Numbered, numbered, blank, puts, copies, next_of}
 use Rattle.history.specs.declared.act.Act.TheVariants as act
@@ -25,10 +25,11 @@ use Rattle.events.specs.declared.event.Event.TheVariants as event
 use Rattle.legal.specs.Frame.{EachFrames}
 use Rattle.lab_nodes.specs.declared.played_node.PlayedNode.{PlayedNode}
 use Rattle.lab_nodes.specs.PlayedNode.{NodesOf}
-use Rattle.world.proofs.Kept.{IsStill, all_rest, all_away}
+use Rattle.world.proofs.Kept.{IsStill, starts_none, all_rest, all_away, nats_as, nats_rest}
+use Rattle.world.specs.Emission.{AreNatsWith}
 use Rattle.world.specs.Record.{fresh_record, with_deed}
 use Rattle.world.specs.Wire.{WireState, ComesOnto, Puts}
-use Rattle.world.specs.World.{WorldState, StandsFor, IsCause}
+use Rattle.world.specs.World.{WorldState, StandsFor, IsCause, lab_in}
 use Rattle.world.specs.Playing.{Comes, Plays, played}
 
 -- WHAT WAS DELIVERED
@@ -54,9 +55,10 @@ flags_same (x ∷ done) k (suc i) = flags_same done k i
 -- A RECORD THAT MAKES NOTHING
 
 pub record Rests (d : Draws) (old new : WorldState) (r : Full) : Type 0 where
-  pub still : IsStill (flat_lab d old.topology) r
+  pub still : IsStill (lab_in d old) r
   pub moment : new.moment ≡ r.moment
   pub nodes : new.nodes ≡ old.nodes
+  pub nats : new.nats ≡ old.nats
   pub wire : new.wire ≡ old.wire
   pub done : (i : ℕ) → get_or new.done i false ≡ (is_number i r.delivered || get_or old.done i false)
 
@@ -67,14 +69,19 @@ ArmedAfter new H r = new.armed ≡ armed (r ∷ H)
 pub nothing_made : (old : WorldState) (r : Full) → r.made ≡ [] → old.wire ≡ old.wire ++ items_of r
 nothing_made old r none = sym (append-nil old.wire) ∙ ap (λ (ms : List Made). old.wire ++ filter_map item_in ms) (sym none)
 
-pub rests : EachFrames → (d : Draws) (old new : WorldState) (H : List Full) (r : Full) → NodesOf (flat_lab d old.topology) old.nodes H → Rests d old new r → ArmedAfter new H r → Comes d old new H r
-rests frame d old new H r of is left = record {
-  moment = is.moment;
-  nodes = subst (λ (states : List PlayedNode). NodesOf (flat_lab d old.topology) states (r ∷ H)) (sym is.nodes) (all_rest frame (flat_lab d old.topology) old.nodes H r of is.still);
-  wire = is.wire ∙ nothing_made old r is.still.made;
-  done = is.done;
-  armed = left;
-}
+pub rests : EachFrames → (d : Draws) (old new : WorldState) (H : List Full) (r : Full) → NodesOf (lab_in d old) old.nodes H → AreNatsWith (lab_in d old) H [] old.nats
+    → Rests d old new r → ArmedAfter new H r → Comes d old new H r
+rests frame d old new H r of know is left =
+    let lab = lab_in d old in
+    record {
+      moment = is.moment;
+      nodes = subst (λ (states : List PlayedNode). NodesOf lab states (r ∷ H)) (sym is.nodes)
+          (all_rest lab old.nodes H r of is.still.entry (starts_none lab r.asked r.act is.still.nothing));
+      nats = subst (λ (x : ChainsState). AreNatsWith lab (r ∷ H) [] x) (sym is.nats) (nats_rest frame lab H r old.nats is.still know);
+      wire = is.wire ∙ nothing_made old r is.still.made;
+      done = is.done;
+      armed = left;
+    }
 
 -- the record of it
 pub said_blank : (m : ℕ) (H : List Full) (e : Numbered) (a : Act) (n : Option ℕ) (f : Fate) (o : Option ℕ) → m ≡ now H → with_deed (fresh_record e.number m) a n f ≡ record_of (record (blank H e a n f) { delivered = o })
@@ -100,7 +107,8 @@ module _ (frame : EachFrames) (d : Draws) (old : WorldState) (H : List Full) (e 
         (λ i. put_said e.number (s.moment i) a (these i)),
         record {
           moment = s.moment;
-          nodes = all_away frame (flat_lab d old.topology) old.nodes H (puts H e a src dst bytes) s.nodes refl refl;
+          nodes = all_away frame (lab_in d old) old.nodes H (puts H e a src dst bytes) s.nodes refl;
+          nats = nats_as (lab_in d old) H (puts H e a src dst bytes) [] old.nats (λ k. refl) s.nats;
           wire = ap (λ (w : WireState). w.items) is.wire;
           done = λ i. ap (λ (w : WireState). get_or w.done i false) is.wire ∙ flags_same old.done 1 i;
           armed = s.armed ∙ ap (λ (o : Option ℕ). option_or o (armed H)) (sym mild);
@@ -119,26 +127,27 @@ module _ (frame : EachFrames) (d : Draws) (old : WorldState) (H : List Full) (e 
 
 -- there is no such entry to copy
 pub copies_none : EachFrames → (d : Draws) (w : WorldState) (H : List Full) (i n : ℕ) (src dst : Ep) → StandsFor d w H → slice_get w.wire n ≡ None
-    → Plays d w w H (next_of (flat_lab d w.topology) H i (event.Copy n src dst)) (Ok (with_deed (fresh_record i w.moment) (act.Copy n) None fate.NoEntry))
+    → Plays d w w H (next_of (lab_in d w) H i (event.Copy n src dst)) (Ok (with_deed (fresh_record i w.moment) (act.Copy n) None fate.NoEntry))
 copies_none frame d w H i n src dst s none =
     let e = numbered i (event.Copy n src dst) in
     let r = blank H e (act.Copy n) None fate.NoEntry in
     let is : copies H e n src dst (slice_get (wire H) n) ≡ r = ap (λ (xs : List Item). copies H e n src dst (slice_get xs n)) (sym s.wire) ∙ ap (copies H e n src dst) none in
     subst (λ (z : Full). Plays d w w H z (Ok (with_deed (fresh_record i w.moment) (act.Copy n) None fate.NoEntry))) (sym is) (
       said_blank w.moment H e (act.Copy n) None fate.NoEntry None s.moment,
-      rests frame d w w H r s.nodes (record { still = record { entry = refl; made = refl; passed = refl; nothing = refl }; moment = s.moment; nodes = refl; wire = refl; done = λ i. refl }) s.armed,
+      rests frame d w w H r s.nodes s.nats (record { still = record { entry = refl; made = refl; passed = refl; nothing = refl }; moment = s.moment; nodes = refl; nats = refl; wire = refl; done = λ i. refl }) s.armed,
     )
 
 -- FROM ANOTHER WORLD
 
--- what is said of a world is said of one with the same nodes of the topology, and the same wire
-pub plays_from : (d : Draws) (mid old new : WorldState) (H : List Full) (r : Full) (result : Result Record Stop) → (mid.topology ≡ old.topology) × (mid.wire ≡ old.wire) × (mid.done ≡ old.done)
+-- what is said of a world is said of one with the same laboratory, and the same wire
+pub plays_from : (d : Draws) (mid old new : WorldState) (H : List Full) (r : Full) (result : Result Record Stop) → (lab_in d mid ≡ lab_in d old) × (mid.wire ≡ old.wire) × (mid.done ≡ old.done)
     → Plays d mid new H r result → Plays d old new H r result
 plays_from d mid old new H r (Ok word) same plays = (
   plays.0,
   record {
     moment = plays.1.moment;
-    nodes = subst (λ (t : TopologyState). NodesOf (flat_lab d t) new.nodes (r ∷ H)) same.0 plays.1.nodes;
+    nodes = subst (λ (lab : Lab). NodesOf lab new.nodes (r ∷ H)) same.0 plays.1.nodes;
+    nats = subst (λ (lab : Lab). AreNatsWith lab (r ∷ H) [] new.nats) same.0 plays.1.nats;
     wire = plays.1.wire ∙ ap (λ (items : List Item). items ++ items_of r) same.1;
     done = λ i. plays.1.done i ∙ ap (λ (bs : List Bool). is_number i r.delivered || get_or bs i false) same.2;
     armed = plays.1.armed;

@@ -1,27 +1,23 @@
 -- Where an entry goes, as a world finds it.
-use Rattle.std.proofs.Common.{◌≡◌, ◌<◌, ◌≤◌, ℕ, zero, suc, true, List, [], ◌∷◌, length, map, get_or, Option, Some, None, refl, sym, ap, ◌∙◌, arith}
+use Rattle.std.proofs.Common.{◌≡◌, ◌<◌, ◌≤◌, ℕ, zero, suc, Bool, true, false, cond, List, [], ◌∷◌, length, map, Option, Some, None, refl, sym, ap, ◌∙◌, arith}
 use Rattle.std.specs.Prelude.{slice_get, option_map, is_some}
 use Rattle.std.proofs.lemmas.Bool.{false≢true}
 use Rattle.std.proofs.lemmas.List.{length-map}
-use Rattle.std.proofs.lemmas.Option.{slice_get-map, slice_get_within, slice_get_past, slice_get_read}
+use Rattle.std.proofs.lemmas.Option.{slice_get-map, slice_get_within}
 use Rattle.td_base.specs.declared.endpoint.Ep.{Ep}
-use Rattle.nat_kinds.specs.Entering.{lets_in}
-use Rattle.nat_kinds.specs.History.{Entry}
-use Rattle.nat_kinds.specs.Nat.{NatState}
-use Rattle.nat_kinds.specs.Nat as nats
-use Rattle.nat_kinds.specs.declared.settings.NatSettings.{NatSettings}
 use Rattle.topology.specs.declared.nat_node.NatNode.{NatNode}
 use Rattle.topology.specs.declared.node.Node.{Node}
+use Rattle.topology.specs.declared.node.Node.TheVariants.{Server as server, Nat as nat, Client as client, Relay as relay, Native as native}
 use Rattle.topology.specs.Named.{has_host, is_nat}
-use Rattle.topology.specs.Topology.{nodes, node_at, nat_at, nat_settings, settings_of_nat}
-use Rattle.topology.specs.Chains.{let_in, goes_in, chain_in}
-use Rattle.history.specs.Full.{Full}
-use Rattle.legal.specs.Lab.{Draws, flat_lab}
-use Rattle.legal.specs.Past.{nat_history, nat_pasts}
-use Rattle.world.specs.Route.{in_alone}
-use Rattle.lab_nodes.specs.declared.played_node.PlayedNode.{PlayedNode}
 use Rattle.topology.specs.Rows.{TopologyState}
-use Rattle.lab_nodes.specs.PlayedNode.{row_of, IsNatOf, AreOf}
+use Rattle.topology.specs.Topology.{nodes, node_at}
+use Rattle.topology.specs.Chains.{is_inner, chain_in}
+use Rattle.history.specs.Full.{Full}
+use Rattle.legal.specs.Lab.{Lab}
+use Rattle.legal.specs.Past.{nat_pasts}
+use Rattle.legal.specs.Emit.{Route, reaches, astray, reach, reach_node, route_in, from_outside}
+use Rattle.lab_nodes.specs.declared.played_node.PlayedNode.{PlayedNode}
+use Rattle.lab_nodes.specs.PlayedNode.{row_of, AreOf}
 
 slice_get_end : {A : Type 0} → (xs : List A) (n : ℕ) → slice_get xs n ≡ None → length xs ≤ n
 slice_get_end [] n e = omega arith
@@ -49,12 +45,6 @@ host_within t list n of host = by (node_at t n) refl host where
   by None at host = absurd (false≢true host)
   by (Some a) at host = within_by t list n a of at
 
-pub nat_within : (t : TopologyState) (list : List PlayedNode) (n : ℕ) → AreOf t list → is_nat (node_at t n) ≡ true → n < length list
-nat_within t list n of nat = by (node_at t n) refl nat where
-  by : (o : Option Node) → node_at t n ≡ o → is_nat o ≡ true → n < length list
-  by None at nat = absurd (false≢true nat)
-  by (Some a) at nat = within_by t list n a of at
-
 -- and one of the list is one of the topology
 pub there_within : (t : TopologyState) (list : List PlayedNode) (n : ℕ) → AreOf t list → n < length list → (a : Node) × (node_at t n ≡ Some a)
 there_within t list n of within = by (slice_get list n) refl where
@@ -62,26 +52,45 @@ there_within t list n of within = by (slice_get list n) refl where
   by None at = let past = slice_get_end list n at in absurd (omega (arith, past, within))
   by (Some p) at = (row_of p, row_at t list n p of at)
 
--- behind the last one there is none
-pub none_past : (t : TopologyState) (list : List PlayedNode) (n : ℕ) → AreOf t list → length list ≤ n → node_at t n ≡ None
-none_past t list n of le = ap (λ (bs : List Node). slice_get bs n) (sym of) ∙ slice_get-map row_of list n ∙ ap (option_map row_of) (slice_get_past list n le)
+-- a node of a number that isn't too great is there
+pub there_at : (t : TopologyState) (n : ℕ) → n < length (nodes t) → (a : Node) × (node_at t n ≡ Some a)
+there_at t n within = by (node_at t n) refl where
+  by : (o : Option Node) → node_at t n ≡ o → (a : Node) × (node_at t n ≡ Some a)
+  by None at = let past = slice_get_end (nodes t) n at in absurd (omega (arith, past, within))
+  by (Some a) at = (a, at)
 
--- what the NAT of a row answers
-pub lets : (a : NatNode) (is : NatState) (h : List Entry) (m port : ℕ) (src : Ep) (inside : Option Ep) → IsNatOf a is h
-    → ((g : List Entry) → nats.StandsFor is g → inside ≡ lets_in is.settings g m src port) → inside ≡ lets_in (nat_settings a) h m src port
-lets a is h m port src inside of answer = answer h of.stands ∙ ap (λ (s : NatSettings). lets_in s h m src port) of.settings
+-- DATAGRAMS FROM THE OUTSIDE
 
--- a datagram comes in at NAT k by whom the NAT lets in, where no NAT is behind another one
-pub comes_in : (d : Draws) (t : TopologyState) (H : List Full) (m k : ℕ) (a : NatNode) (src : Ep) (port : ℕ) → nat_at t k ≡ Some a
-    → in_alone k (lets_in (nat_settings a) (nat_history (flat_lab d t) k H) m src port) ≡ chain_in t [] (nat_pasts (flat_lab d t) H) m k src port
-comes_in d t H m k a src port at =
-    ap (λ (o : Option NatNode). in_alone k (lets_in (settings_of_nat o) (nat_history (flat_lab d t) k H) m src port)) (sym at) ∙ by (let_in t (nat_pasts (flat_lab d t) H) m k src port)
-  where
-    by : (o : Option Ep) → in_alone k o ≡ goes_in t [] (nat_pasts (flat_lab d t) H) m src [] k o
-    by None = refl
-    by (Some inside) = refl
+nat_row : (o : Option Node) → is_nat o ≡ true → (row : NatNode) × (o ≡ Some (nat row))
+nat_row None e = absurd (false≢true e)
+nat_row (Some (server x)) e = absurd (false≢true e)
+nat_row (Some (nat x)) e = (x, refl)
+nat_row (Some (client x)) e = absurd (false≢true e)
+nat_row (Some (relay x)) e = absurd (false≢true e)
+nat_row (Some (native x)) e = absurd (false≢true e)
 
--- the row of a node that was read
-pub row_read : (t : TopologyState) (list : List PlayedNode) (k n : ℕ) (p q : PlayedNode) → AreOf t list → n ≡ k → n < length list → p ≡ get_or list n p → p ≡ q → node_at t k ≡ Some (row_of q)
-row_read t list k n p q of same within read is =
-    row_at t list k q of (ap (slice_get list) (sym same) ∙ slice_get_read list (length list) n p refl within read ∙ ap (λ (z : PlayedNode). Some z) is)
+module _ (lab : Lab) (H : List Full) (m k : ℕ) (src dst : Ep) (is : is_nat (node_at lab.topology k) ≡ true) where
+  abbrev inwards : Route
+  inwards = route_in lab.topology (chain_in lab.topology lab.chain (nat_pasts lab H) m k src dst.port)
+
+  at_nat : from_outside lab H m src dst (reach lab.topology (Some k)) ≡ cond (is_inner lab.chain k) astray inwards
+  at_nat = ap (λ (o : Option Node). from_outside lab H m src dst (reach_node k o)) (nat_row (node_at lab.topology k) is).1
+
+  -- to a NAT that is behind no other
+  pub comes_in : is_inner lab.chain k ≡ false → inwards ≡ from_outside lab H m src dst (reach lab.topology (Some k))
+  comes_in outer = sym (at_nat ∙ ap (λ (b : Bool). cond b astray inwards) outer)
+
+  -- to one that is
+  pub goes_astray : is_inner lab.chain k ≡ true → astray ≡ from_outside lab H m src dst (reach lab.topology (Some k))
+  goes_astray inner = sym (at_nat ∙ ap (λ (b : Bool). cond b astray inwards) inner)
+
+-- to a node that is no NAT
+pub comes_straight : (lab : Lab) (H : List Full) (m k : ℕ) (src dst : Ep) (a : Node) → node_at lab.topology k ≡ Some a → ((row : NatNode) → a ≡ nat row → ⊥)
+    → reach lab.topology (Some k) ≡ from_outside lab H m src dst (reach lab.topology (Some k))
+comes_straight lab H m k src dst a at other = ap (reach_node k) at ∙ by a other ∙ sym (ap (λ (o : Option Node). from_outside lab H m src dst (reach_node k o)) at) where
+  by : (a : Node) → ((row : NatNode) → a ≡ nat row → ⊥) → reaches k a ≡ from_outside lab H m src dst (reaches k a)
+  by (server x) other = refl
+  by (nat x) other = absurd (other x refl)
+  by (client x) other = refl
+  by (relay x) other = refl
+  by (native x) other = refl

@@ -1,8 +1,10 @@
 -- Restarts, and NATs that forget.
 use Rattle.std.proofs.Common.{◌≡◌, ◌≢◌, ℕ, ◌+◌, ◌==◌, true, false, List, [], ◌∷◌, Option, Some, None, Ok, refl, sym, ap, subst, ◌∙◌, arith, ◌⊎◌, inl, inr}
-use Rattle.std.specs.Prelude.{slice_get}
+use Rattle.std.specs.Prelude.{slice_get, option_map, option_to_list}
 use Rattle.std.proofs.lemmas.Bool.{false≢true}
 use Rattle.std.proofs.lemmas.Bool.Decides.{eqb_tells}
+use Rattle.nat_kinds.specs.History.{Forget, Restart}
+use Rattle.td_chain.specs.Chains.{ChainsState}
 use Rattle.teredo_node.specs.declared.fate.Fate.TheVariants as fate
 use Rattle.topology.specs.declared.client_node.ClientNode.{ClientNode}
 use Rattle.topology.specs.declared.node.Node.{Node}
@@ -14,32 +16,31 @@ use Rattle.events.specs.declared.event.Event.TheVariants as event
 use Rattle.events.specs.declared.verb.Verb.TheVariants as verb
 use Rattle.events.specs.Events.{IsForgotten}
 use Rattle.history.specs.Full.{Full}
-use Rattle.legal.specs.Lab.{Draws, Lab, flat_lab}
-use Rattle.legal.specs.Past.{now, drawn, journal, new_journal}
+use Rattle.legal.specs.Lab.{Draws, Lab}
+use Rattle.legal.specs.Past.{now, at_nat, drawn, journal, new_journal}
 use Rattle.legal.specs.Next.{plain, next_of}
 use Rattle.lab_nodes.specs.declared.played_node.PlayedNode.{PlayedNode}
 use Rattle.lab_nodes.specs.declared.played_node.PlayedNode.TheVariants as played
 use Rattle.lab_nodes.specs.PlayedNode.{past_of, IsKept, NodesOf}
-use Rattle.lab_nodes.specs.Changes.{restarted, forgetting, Restarts, Forgets, ChangesAt}
-use Rattle.topology.specs.Chains.{outs_at}
+use Rattle.lab_nodes.specs.Changes.{restarted, Restarts, ChangesAt}
 use Rattle.legal.specs.Frame.{EachFrames}
 use Rattle.world.specs.Record.{fresh_record, with_deed}
-use Rattle.world.specs.World.{WorldState, StandsFor}
+use Rattle.world.specs.World.{WorldState, StandsFor, lab_in}
 use Rattle.world.specs.Playing.{Plays}
 use Rattle.world.proofs.States.{some_inj}
-use Rattle.world.proofs.Kept.{AsPast, kept_as, is_itself, words_same, away}
+use Rattle.world.proofs.Kept.{AsPast, kept_as, is_itself, words_same, away, all_rest, Joins, nats_join}
 use Rattle.world.proofs.Played.{nothing_made}
 
--- one node changes, of which the record is, and nothing is let out
-changed : EachFrames → (lab : Lab) (does : PlayedNode → PlayedNode → Type 0) (old new : List PlayedNode) (H : List Full) (r : Full) (n : ℕ) → NodesOf lab old H → r.node ≡ Some n → r.passed ≡ []
+-- one node changes, of which the record is
+changed : EachFrames → (lab : Lab) (does : PlayedNode → PlayedNode → Type 0) (old new : List PlayedNode) (H : List Full) (r : Full) (n : ℕ) → NodesOf lab old H → r.node ≡ Some n
     → (is : ChangesAt does n old new) → (IsKept lab.topology n (past_of lab n H) is.before → IsKept lab.topology n (past_of lab n (r ∷ H)) is.after) → NodesOf lab new (r ∷ H)
-changed frame lab does old new H r n of node none is there = record { rows = is.rows ∙ of.rows; each = λ k p at. by k p at (eqb_tells k n) } where
+changed frame lab does old new H r n of node is there = record { rows = is.rows ∙ of.rows; each = λ k p at. by k p at (eqb_tells k n) } where
   by : (k : ℕ) (p : PlayedNode) → slice_get new k ≡ Some p → ((k == n) ≡ true) × (k ≡ n) ⊎ ((k == n) ≡ false) × (k ≢ n) → IsKept lab.topology k (past_of lab k (r ∷ H)) p
   by k p at (inl (yeah, same)) =
       let here : is.after ≡ p = some_inj is.after p (sym is.is ∙ ap (slice_get new) (sym same) ∙ at) in
       subst (λ (j : ℕ). IsKept lab.topology j (past_of lab j (r ∷ H)) p) (sym same) (subst (IsKept lab.topology n (past_of lab n (r ∷ H))) here (there (of.each n is.before is.was)))
   by k p at (inr (nope, apart)) =
-      kept_as lab.topology k (past_of lab k H) (past_of lab k (r ∷ H)) p (away frame lab H r k p (λ e. apart (sym (some_inj n k (sym node ∙ e)))) (ap (outs_at k) none))
+      kept_as lab.topology k (past_of lab k H) (past_of lab k (r ∷ H)) p (away frame lab H r k p (λ e. apart (sym (some_inj n k (sym node ∙ e)))))
       (of.each k p (sym (is.elsewhere k apart) ∙ at))
 
 -- A NODE STARTS ANEW
@@ -54,23 +55,26 @@ restart_as lab H i n m p same = by p where
   its_words = let none : drawn n H + 0 ≡ drawn n H = omega arith in rw (is_itself n) none
 
   by : (p : PlayedNode) → AsPast p (restarted m (past_of lab n H)) (past_of lab n (next_of lab H i (event.Restart n) ∷ H))
-  by (played.Nat row is) = rw (is_itself n) refl
+  by (played.Nat row) = tt
   by (played.Client row is) = (its_journal, words_same lab n (next_of lab H i (event.Restart n)) H its_words)
   by (played.Server row) = tt
   by (played.Relay row is) = its_journal
   by (played.Native row) = tt
 
-pub starts_anew : EachFrames → (d : Draws) (old : WorldState) (states : List PlayedNode) (H : List Full) (i n : ℕ) → StandsFor d old H → ChangesAt (Restarts old.moment) n old.nodes states
-    → Plays d old (record old { nodes = states }) H (next_of (flat_lab d old.topology) H i (event.Restart n)) (Ok (with_deed (fresh_record i old.moment) (plain verb.Restart) (Some n) fate.Done))
-starts_anew frame d old states H i n s is =
+pub starts_anew : EachFrames → (d : Draws) (old : WorldState) (states : List PlayedNode) (nats : ChainsState) (H : List Full) (i n : ℕ) → StandsFor d old H
+    → ChangesAt (Restarts old.moment) n old.nodes states → Joins n Restart old.nats nats
+    → Plays d old (record old { chain = nats.chain; nodes = states; nats = nats }) H (next_of (lab_in d old) H i (event.Restart n))
+    (Ok (with_deed (fresh_record i old.moment) (plain verb.Restart) (Some n) fate.Done))
+starts_anew frame d old states nats H i n s is joins =
     let t = old.topology in
-    let lab = flat_lab d t in
+    let lab = lab_in d old in
     let r = next_of lab H i (event.Restart n) in (
       ap (λ (m : ℕ). with_deed (fresh_record i m) (plain verb.Restart) (Some n) fate.Done) s.moment,
       record {
         moment = s.moment;
-        nodes = changed frame lab (Restarts old.moment) old.nodes states H r n s.nodes refl refl is
+        nodes = changed frame lab (Restarts old.moment) old.nodes states H r n s.nodes refl is
             (λ kept. kept_as t n (restarted old.moment (past_of lab n H)) (past_of lab n (r ∷ H)) is.after (restart_as lab H i n old.moment is.after s.moment) (is.change t n (past_of lab n H) kept));
+        nats = nats_join lab H r n Restart old.nats nats refl refl refl joins s.nats;
         wire = nothing_made old r refl;
         done = λ k. refl;
         armed = s.armed;
@@ -79,33 +83,19 @@ starts_anew frame d old states H i n s is =
 
 -- A NAT FORGETS A CLIENT
 
-forget_as : (lab : Lab) (H : List Full) (i n who : ℕ) (c : ClientNode) (p : PlayedNode) → client_at lab.topology who ≡ Some c
-    → AsPast p (forgetting c.inside (past_of lab n H)) (past_of lab n (next_of lab H i (event.Forget n who) ∷ H))
-forget_as lab H i n who c p there = by p where
-  its_journal : journal n (next_of lab H i (event.Forget n who) ∷ H) ≡ journal n H
-  its_journal = rw (is_itself n) refl
-
-  its_words : drawn n (next_of lab H i (event.Forget n who) ∷ H) ≡ drawn n H
-  its_words = let none : drawn n H + 0 ≡ drawn n H = omega arith in rw (is_itself n) none
-
-  by : (p : PlayedNode) → AsPast p (forgetting c.inside (past_of lab n H)) (past_of lab n (next_of lab H i (event.Forget n who) ∷ H))
-  by (played.Nat row is) = rw (is_itself n, there) refl
-  by (played.Client row is) = (its_journal, words_same lab n (next_of lab H i (event.Forget n who)) H its_words)
-  by (played.Server row) = tt
-  by (played.Relay row is) = its_journal
-  by (played.Native row) = tt
-
-pub forgets : EachFrames → (d : Draws) (old : WorldState) (states : List PlayedNode) (H : List Full) (i n who : ℕ) (c : ClientNode) → StandsFor d old H → client_at old.topology who ≡ Some c → ChangesAt (Forgets c.inside) n old.nodes states
-    → Plays d old (record old { nodes = states }) H (next_of (flat_lab d old.topology) H i (event.Forget n who)) (Ok (with_deed (fresh_record i old.moment) (plain verb.Forget) (Some n) fate.Done))
-forgets frame d old states H i n who c s there is =
-    let t = old.topology in
-    let lab = flat_lab d t in
-    let r = next_of lab H i (event.Forget n who) in (
+pub forgets : (d : Draws) (old : WorldState) (nats : ChainsState) (H : List Full) (i n who : ℕ) (c : ClientNode) → StandsFor d old H → client_at old.topology who ≡ Some c
+    → Joins n (Forget c.inside) old.nats nats
+    → Plays d old (record old { chain = nats.chain; nats = nats }) H (next_of (lab_in d old) H i (event.Forget n who))
+    (Ok (with_deed (fresh_record i old.moment) (plain verb.Forget) (Some n) fate.Done))
+forgets d old nats H i n who c s there joins =
+    let lab = lab_in d old in
+    let r = next_of lab H i (event.Forget n who) in
+    let its : at_nat lab r.asked r.act ≡ Forget c.inside ∷ [] = ap (λ (o : Option ClientNode). option_to_list (option_map (λ (a : ClientNode). Forget a.inside) o)) there in (
       ap (λ (m : ℕ). with_deed (fresh_record i m) (plain verb.Forget) (Some n) fate.Done) s.moment,
       record {
         moment = s.moment;
-        nodes = changed frame lab (Forgets c.inside) old.nodes states H r n s.nodes refl refl is
-            (λ kept. kept_as t n (forgetting c.inside (past_of lab n H)) (past_of lab n (r ∷ H)) is.after (forget_as lab H i n who c is.after there) (is.change t n (past_of lab n H) kept));
+        nodes = all_rest lab old.nodes H r s.nodes refl refl;
+        nats = nats_join lab H r n (Forget c.inside) old.nats nats refl refl its joins s.nats;
         wire = nothing_made old r refl;
         done = λ k. refl;
         armed = s.armed;

@@ -8,12 +8,11 @@ use Rattle.events.specs.Events.{IsEvent}
 use Rattle.history.specs.declared.turn.Turn.{Turn}
 use Rattle.history.specs.declared.turn.Turn.TheVariants.{More, Last}
 use Rattle.history.specs.declared.turn.Stop.{Stop}
-use Rattle.topology.specs.Rows.{TopologyState}
 use Rattle.topology.specs.Rules.{IsTopology}
 use Rattle.history.specs.Full.{Item, Full, wire, items_of}
 use Rattle.legal.specs.declared.left.TheConstants.{LEFT_MAX}
 use Rattle.legal.specs.Left.{left, PLACES}
-use Rattle.legal.specs.Lab.{Draws, flat_lab}
+use Rattle.legal.specs.Lab.{Draws, Lab, lab_on}
 use Rattle.legal.specs.Past.{began, going, has_more, is_number, was_delivered}
 use Rattle.legal.specs.Next.{next_of}
 use Rattle.legal.specs.Legal.{GoesOn, Follows, Grown}
@@ -21,7 +20,8 @@ use Rattle.legal.specs.Laws.{EachIsOfItsEvent, EachIsTold, EachFalls}
 use Rattle.promises.specs.Kept.{HistoriesAreKept}
 use Rattle.lab_nodes.specs.PlayedNode.{NodesOf, AreReady}
 use Rattle.lab_nodes.specs.DueMoments.{EachSumIsOfThePast}
-use Rattle.world.specs.World.{WorldState, StandsFor, IsAgain, Steps, Falls, going_after, is_more, left_in}
+use Rattle.world.specs.Emission.{AreNatsWith}
+use Rattle.world.specs.World.{WorldState, StandsFor, IsAgain, Steps, Falls, going_after, is_more, left_in, lab_in}
 use Rattle.world.specs.Playing.{Comes, PlaysTurn, GoesFrom, Turned}
 use Rattle.world.proofs.Left.{left_is}
 
@@ -36,7 +36,7 @@ goes_from d w (r ∷ H) e s again = λ more.
 pub record IsNext (d : Draws) (old : WorldState) (H : List Full) (e : Event) (turn : Turn) (r : Full) : Type 0 where
   pub stands : StandsFor d old H
   pub rules : IsTopology old.topology
-  pub follows : Follows (flat_lab d old.topology) H r
+  pub follows : Follows (lab_in d old) H r
   pub room : length (wire H) ≤ PLACES
   pub asked : r.asked ≡ e
   pub more : has_more r.asked r.act ≡ is_more turn
@@ -51,31 +51,37 @@ going_on d old H e (More said) r next = rw (next.more, next.asked) refl
 going_on d old H e (Last said) r next = rw (next.more) refl
 
 -- what is left of it is never more than may be left
-most_on : EachFalls → (d : Draws) (old : WorldState) (H : List Full) (e : Event) (turn : Turn) (r : Full) → IsNext d old H e turn r → left (flat_lab d old.topology) (r ∷ H) ≤ LEFT_MAX
+most_on : EachFalls → (d : Draws) (old : WorldState) (H : List Full) (e : Event) (turn : Turn) (r : Full) → IsNext d old H e turn r → left (lab_in d old) (r ∷ H) ≤ LEFT_MAX
 most_on falls d old H e (More said) r next =
-    let fell = falls (flat_lab d old.topology) H r next.rules next.stands.grown next.room next.follows next.more in
+    let fell = falls (lab_in d old) H r next.rules next.stands.grown next.room next.follows next.more in
     let before = next.stands.left in
     let most = next.stands.most in
     omega (arith, fell, before, most)
 most_on falls d old H e (Last said) r next =
-    let all : left (flat_lab d old.topology) (r ∷ H) ≡ LEFT_MAX = rw (next.more) refl in
+    let all : left (lab_in d old) (r ∷ H) ≡ LEFT_MAX = rw (next.more) refl in
     omega (arith, all)
+
+-- it is the same laboratory
+same_lab : (d : Draws) (old new : WorldState) → new.topology ≡ old.topology → new.chain ≡ old.chain → lab_in d new ≡ lab_in d old
+same_lab d old new t chain = λ i. lab_on d (t i) (chain i)
 
 stands : EachFalls → EachSumIsOfThePast → (d : Draws) (old new : WorldState) (H : List Full) (e : Event) (turn : Turn) (r : Full) → IsNext d old H e turn r → Turned old new e turn → AreReady new.moment new.nodes
     → Comes d old new H r → StandsFor d new (r ∷ H)
 stands falls sums d old new H e turn r next turned ready comes =
     let start = began_on d old new H e turn r next comes.moment turned.goes in
     let goes = turned.going ∙ going_on d old H e turn r next in
-    let nodes = subst (λ (x : TopologyState). NodesOf (flat_lab d x) new.nodes (r ∷ H)) (sym turned.topology) comes.nodes in
+    let lab = same_lab d old new turned.topology turned.chain in
+    let nodes = subst (λ (x : Lab). NodesOf x new.nodes (r ∷ H)) (sym lab) comes.nodes in
     let done : (k : ℕ) → get_or new.done k false ≡ was_delivered k (r ∷ H) = λ k. comes.done k ∙ ap (λ (b : Bool). is_number k r.delivered || b) (next.stands.done k) in
-    let same : left (flat_lab d new.topology) (r ∷ H) ≡ left_in new = left_is sums d new (r ∷ H) (record { moment = comes.moment; began = start; going = goes; nodes = nodes; ready = ready; done = done }) in
-    let most : left (flat_lab d new.topology) (r ∷ H) ≤ LEFT_MAX = subst (λ (x : TopologyState). left (flat_lab d x) (r ∷ H) ≤ LEFT_MAX) (sym turned.topology) (most_on falls d old H e turn r next) in
+    let same : left (lab_in d new) (r ∷ H) ≡ left_in new = left_is sums d new (r ∷ H) (record { moment = comes.moment; began = start; going = goes; nodes = nodes; ready = ready; done = done }) in
+    let most : left (lab_in d new) (r ∷ H) ≤ LEFT_MAX = subst (λ (x : Lab). left x (r ∷ H) ≤ LEFT_MAX) (sym lab) (most_on falls d old H e turn r next) in
     record {
-      grown = subst (λ (x : TopologyState). Grown (flat_lab d x) (r ∷ H)) (sym turned.topology) (next.follows, next.stands.grown);
+      grown = subst (λ (x : Lab). Grown x (r ∷ H)) (sym lab) (next.follows, next.stands.grown);
       moment = comes.moment;
       began = start;
       going = goes;
       nodes = nodes;
+      nats = subst (λ (x : Lab). AreNatsWith x (r ∷ H) [] new.nats) (sym lab) comes.nats;
       wire = comes.wire ∙ ap (λ xs. xs ++ items_of r) next.stands.wire;
       done = done;
       armed = comes.armed;
@@ -100,18 +106,18 @@ pub record Laws : Type 0 where
   pub promised : HistoriesAreKept
 
 -- the record of an event that may be asked for follows
-pub follows : EachIsOfItsEvent → (d : Draws) (old : WorldState) (H : List Full) (i : ℕ) (e : Event) → IsEvent old.topology e → IsAgain old.going e → StandsFor d old H → Follows (flat_lab d old.topology) H (next_of (flat_lab d old.topology) H i e)
+pub follows : EachIsOfItsEvent → (d : Draws) (old : WorldState) (H : List Full) (i : ℕ) (e : Event) → IsEvent old.topology e → IsAgain old.going e → StandsFor d old H → Follows (lab_in d old) H (next_of (lab_in d old) H i e)
 follows of_event d old H i e event again s =
-    let r = next_of (flat_lab d old.topology) H i e in
-    let of = of_event (flat_lab d old.topology) H i e in
+    let r = next_of (lab_in d old) H i e in
+    let of = of_event (lab_in d old) H i e in
     record {
       goes_on = subst (GoesOn H) (sym of.asked) (goes_from d old H e s again);
       event = subst (IsEvent old.topology) (sym of.asked) event;
-      is = ap (λ (j : ℕ). next_of (flat_lab d old.topology) H j e) (sym of.event) ∙ ap (next_of (flat_lab d old.topology) H r.event) (sym of.asked);
+      is = ap (λ (j : ℕ). next_of (lab_in d old) H j e) (sym of.event) ∙ ap (next_of (lab_in d old) H r.event) (sym of.asked);
     }
 
 is_next : Laws → (d : Draws) (old new : WorldState) (H : List Full) (i : ℕ) (e : Event) (turn : Turn) → IsAsked old e → StandsFor d old H
-    → PlaysTurn d old new H (next_of (flat_lab d old.topology) H i e) (Ok turn) → IsNext d old H e turn (next_of (flat_lab d old.topology) H i e)
+    → PlaysTurn d old new H (next_of (lab_in d old) H i e) (Ok turn) → IsNext d old H e turn (next_of (lab_in d old) H i e)
 is_next laws d old new H i e turn asked s plays =
     record {
       stands = s;
@@ -121,25 +127,25 @@ is_next laws d old new H i e turn asked s plays =
           let most = asked.entries in
           let same : length old.wire ≡ length (wire H) = ap (λ (xs : List Item). length xs) s.wire in
           omega (arith, most, same);
-      asked = (laws.of_event (flat_lab d old.topology) H i e).asked;
+      asked = (laws.of_event (lab_in d old) H i e).asked;
       more = plays.1;
     }
 
 -- what is played for each history that the world stood for
 abbrev pub PlaysAll : WorldState → WorldState → ℕ → Event → Result Turn Stop → Type 0
-PlaysAll old new i e played = (d : Draws) (H : List Full) → StandsFor d old H → PlaysTurn d old new H (next_of (flat_lab d old.topology) H i e) played
+PlaysAll old new i e played = (d : Draws) (H : List Full) → StandsFor d old H → PlaysTurn d old new H (next_of (lab_in d old) H i e) played
 
 stands_on : Laws → (d : Draws) (old new : WorldState) (H : List Full) (i : ℕ) (e : Event) (turn : Turn) → IsAsked old e → Turned old new e turn → AreReady new.moment new.nodes
-    → StandsFor d old H → PlaysTurn d old new H (next_of (flat_lab d old.topology) H i e) (Ok turn) → StandsFor d new (next_of (flat_lab d old.topology) H i e ∷ H)
+    → StandsFor d old H → PlaysTurn d old new H (next_of (lab_in d old) H i e) (Ok turn) → StandsFor d new (next_of (lab_in d old) H i e ∷ H)
 stands_on laws d old new H i e turn asked turned ready s plays =
-    stands laws.falls laws.sums d old new H e turn (next_of (flat_lab d old.topology) H i e) (is_next laws d old new H i e turn asked s plays) turned ready plays.2
+    stands laws.falls laws.sums d old new H e turn (next_of (lab_in d old) H i e) (is_next laws d old new H i e turn asked s plays) turned ready plays.2
 
-fell_on : EachFalls → (d : Draws) (old new : WorldState) (H : List Full) (e : Event) (turn : Turn) (r : Full) → IsNext d old H e turn r → new.topology ≡ old.topology → StandsFor d new (r ∷ H) → Falls old new turn
+fell_on : EachFalls → (d : Draws) (old new : WorldState) (H : List Full) (e : Event) (turn : Turn) (r : Full) → IsNext d old H e turn r → lab_in d new ≡ lab_in d old → StandsFor d new (r ∷ H) → Falls old new turn
 fell_on falls d old new H e (Last said) r next same s = tt
 fell_on falls d old new H e (More said) r next same s =
-    let fell : left (flat_lab d old.topology) (r ∷ H) < left (flat_lab d old.topology) H = falls (flat_lab d old.topology) H r next.rules next.stands.grown next.room next.follows next.more in
-    let before : left (flat_lab d old.topology) H ≡ left_in old = next.stands.left in
-    let after : left (flat_lab d old.topology) (r ∷ H) ≡ left_in new = ap (λ (x : TopologyState). left (flat_lab d x) (r ∷ H)) (sym same) ∙ s.left in
+    let fell : left (lab_in d old) (r ∷ H) < left (lab_in d old) H = falls (lab_in d old) H r next.rules next.stands.grown next.room next.follows next.more in
+    let before : left (lab_in d old) H ≡ left_in old = next.stands.left in
+    let after : left (lab_in d old) (r ∷ H) ≡ left_in new = ap (λ (x : Lab). left x (r ∷ H)) (sym same) ∙ s.left in
     omega (arith, fell, before, after)
 
 -- what a world keeps to at the end of a step
@@ -153,18 +159,19 @@ pub steps : Laws → (old new : WorldState) (i : ℕ) (e : Event) (played : Resu
 steps laws old new i e (Err stop) asked turned kept plays = tt
 steps laws old new i e (Ok turn) asked turned kept plays = record {
   topology = turned.topology;
+  chain = turned.chain;
   goes_on = turned.stopped ∙ asked.stopped;
   going = turned.going;
   record_is = λ d H s. (plays d H s).0;
   stands = λ d H s. stands_on laws d old new H i e turn asked turned kept.ready s (plays d H s);
-  more = λ d H s. ap (λ (x : Event). has_more x (next_of (flat_lab d old.topology) H i e).act) (sym (laws.of_event (flat_lab d old.topology) H i e).asked) ∙ (plays d H s).1;
-  tells = λ d H s. laws.told (flat_lab d old.topology) H i e;
+  more = λ d H s. ap (λ (x : Event). has_more x (next_of (lab_in d old) H i e).act) (sym (laws.of_event (lab_in d old) H i e).asked) ∙ (plays d H s).1;
+  tells = λ d H s. laws.told (lab_in d old) H i e;
   falls = λ d H s.
-      fell_on laws.falls d old new H e turn (next_of (flat_lab d old.topology) H i e) (is_next laws d old new H i e turn asked s (plays d H s)) turned.topology
+      fell_on laws.falls d old new H e turn (next_of (lab_in d old) H i e) (is_next laws d old new H i e turn asked s (plays d H s)) (same_lab d old new turned.topology turned.chain)
       (stands_on laws d old new H i e turn asked turned kept.ready s (plays d H s));
   time = kept.time;
   entries = kept.entries;
   promised = λ d H s.
-      let r : Full = next_of (flat_lab d old.topology) H i e in
-      laws.promised d old.topology (r ∷ H) asked.rules (follows laws.of_event d old H i e asked.event asked.again s, s.grown);
+      let r : Full = next_of (lab_in d old) H i e in
+      laws.promised (lab_in d old) (r ∷ H) asked.rules (follows laws.of_event d old H i e asked.event asked.again s, s.grown);
 }

@@ -14,7 +14,7 @@ use Rattle.events.specs.declared.event.Event.TheVariants as event
 use Rattle.history.specs.declared.records.Record.{Record}
 use Rattle.history.specs.declared.turn.Turn.TheVariants.{More, Last}
 use Rattle.history.specs.Full.{Full}
-use Rattle.legal.specs.Lab.{Draws, Lab, flat_lab}
+use Rattle.legal.specs.Lab.{Draws, Lab}
 use Rattle.legal.specs.Past.{now, began}
 use Rattle.legal.specs.Emit.{due_of}
 use Rattle.legal.specs.Next.{numbered, plain, acts, no_ep, Due, earlier, least_due, advanced, advance_with, next_of}
@@ -25,7 +25,7 @@ use Rattle.history.specs.declared.turn.Stop.{Stop}
 use Rattle.world.specs.Record.{fresh_record, with_deed}
 use Rattle.world.specs.declared.going.Going.TheVariants as going_on
 use Rattle.world.specs.declared.going.Going.{Going}
-use Rattle.world.specs.World.{WorldState, StandsFor, IsAgain, IsCause, event_in, began_in}
+use Rattle.world.specs.World.{WorldState, StandsFor, IsAgain, IsCause, event_in, began_in, lab_in}
 use Rattle.world.specs.Playing.{ticks_at, NoneIsDue, IsFound, IsGoing, Plays, PlaysTurn}
 use Rattle.world.proofs.States.{some_inj}
 use Rattle.world.proofs.Played.{rests}
@@ -102,10 +102,10 @@ in_going m (Some (going_on.Advance began long)) ms again is = let same : ms ≡ 
 -- WHAT FOLLOWS
 
 -- a tick that is due up to the end
-pub next_is_tick : (d : Draws) (w : WorldState) (H : List Full) (i ms : ℕ) (x : Due) → StandsFor d w H → least_due (flat_lab d w.topology) H 0 (nodes w.topology) ≡ Some x → x.moment ≤ w.began + ms
-    → next_of (flat_lab d w.topology) H i (event.Advance ms) ≡ ticks_at d w H (numbered i (event.Advance ms)) x
+pub next_is_tick : (d : Draws) (w : WorldState) (H : List Full) (i ms : ℕ) (x : Due) → StandsFor d w H → least_due (lab_in d w) H 0 (nodes w.topology) ≡ Some x → x.moment ≤ w.began + ms
+    → next_of (lab_in d w) H i (event.Advance ms) ≡ ticks_at d w H (numbered i (event.Advance ms)) x
 next_is_tick d w H i ms x s least within =
-    let lab = flat_lab d w.topology in
+    let lab = lab_in d w in
     let e = numbered i (event.Advance ms) in
     let start = s.began in
     let passed : nat_le x.moment (began H + ms) ≡ true = grind (arith, nat_tests, start, within) in
@@ -114,36 +114,36 @@ next_is_tick d w H i ms x s least within =
     ap (advance_with lab H e (began H + ms)) least ∙ chosen ∙ ap (λ (m : ℕ). acts lab H e act.Tick None (max x.moment m) x.number no_ep ticked x.node) (sym s.moment)
 
 -- the end, where none is
-pub next_is_end : (d : Draws) (w : WorldState) (H : List Full) (i ms : ℕ) → StandsFor d w H → NoneIsDue (w.began + ms) (least_due (flat_lab d w.topology) H 0 (nodes w.topology))
-    → next_of (flat_lab d w.topology) H i (event.Advance ms) ≡ advanced H (numbered i (event.Advance ms)) (w.began + ms)
-next_is_end d w H i ms s past = by (least_due (flat_lab d w.topology) H 0 (nodes w.topology)) refl past where
-  by : (o : Option Due) → least_due (flat_lab d w.topology) H 0 (nodes w.topology) ≡ o → NoneIsDue (w.began + ms) o → next_of (flat_lab d w.topology) H i (event.Advance ms) ≡ advanced H (numbered i (event.Advance ms)) (w.began + ms)
-  by None is past = ap (advance_with (flat_lab d w.topology) H (numbered i (event.Advance ms)) (began H + ms)) is ∙ ap (λ (m : ℕ). advanced H (numbered i (event.Advance ms)) (m + ms)) (sym s.began)
+pub next_is_end : (d : Draws) (w : WorldState) (H : List Full) (i ms : ℕ) → StandsFor d w H → NoneIsDue (w.began + ms) (least_due (lab_in d w) H 0 (nodes w.topology))
+    → next_of (lab_in d w) H i (event.Advance ms) ≡ advanced H (numbered i (event.Advance ms)) (w.began + ms)
+next_is_end d w H i ms s past = by (least_due (lab_in d w) H 0 (nodes w.topology)) refl past where
+  by : (o : Option Due) → least_due (lab_in d w) H 0 (nodes w.topology) ≡ o → NoneIsDue (w.began + ms) o → next_of (lab_in d w) H i (event.Advance ms) ≡ advanced H (numbered i (event.Advance ms)) (w.began + ms)
+  by None is past = ap (advance_with (lab_in d w) H (numbered i (event.Advance ms)) (began H + ms)) is ∙ ap (λ (m : ℕ). advanced H (numbered i (event.Advance ms)) (m + ms)) (sym s.began)
   by (Some x) is past =
       let start = s.began in
       let later : nat_le x.moment (began H + ms) ≡ false = grind (arith, nat_tests, start, past) in
-      let chosen : advance_with (flat_lab d w.topology) H (numbered i (event.Advance ms)) (began H + ms) (Some x) ≡ advanced H (numbered i (event.Advance ms)) (began H + ms) = rw later refl in
-      ap (advance_with (flat_lab d w.topology) H (numbered i (event.Advance ms)) (began H + ms)) is ∙ chosen ∙ ap (λ (m : ℕ). advanced H (numbered i (event.Advance ms)) (m + ms)) (sym s.began)
+      let chosen : advance_with (lab_in d w) H (numbered i (event.Advance ms)) (began H + ms) (Some x) ≡ advanced H (numbered i (event.Advance ms)) (began H + ms) = rw later refl in
+      ap (advance_with (lab_in d w) H (numbered i (event.Advance ms)) (began H + ms)) is ∙ chosen ∙ ap (λ (m : ℕ). advanced H (numbered i (event.Advance ms)) (m + ms)) (sym s.began)
 
 -- time passes up to the end
-pub passes : EachFrames → (d : Draws) (old new : WorldState) (H : List Full) (i ms : ℕ) → StandsFor d old H → NoneIsDue (old.began + ms) (least_due (flat_lab d old.topology) H 0 (nodes old.topology))
-    → (new.moment ≡ old.began + ms) × (new.nodes ≡ old.nodes) × (new.wire ≡ old.wire) × (new.done ≡ old.done) × (new.armed ≡ old.armed)
-    → PlaysTurn d old new H (next_of (flat_lab d old.topology) H i (event.Advance ms)) (Ok (Last (with_deed (fresh_record i (old.began + ms)) (plain verb.Advance) None fate.Done)))
+pub passes : EachFrames → (d : Draws) (old new : WorldState) (H : List Full) (i ms : ℕ) → StandsFor d old H → NoneIsDue (old.began + ms) (least_due (lab_in d old) H 0 (nodes old.topology))
+    → (new.moment ≡ old.began + ms) × (new.nodes ≡ old.nodes) × (new.nats ≡ old.nats) × (new.wire ≡ old.wire) × (new.done ≡ old.done) × (new.armed ≡ old.armed)
+    → PlaysTurn d old new H (next_of (lab_in d old) H i (event.Advance ms)) (Ok (Last (with_deed (fresh_record i (old.began + ms)) (plain verb.Advance) None fate.Done)))
 passes frame d old new H i ms s past same =
     let r = advanced H (numbered i (event.Advance ms)) (old.began + ms) in
     subst (λ (z : Full). PlaysTurn d old new H z (Ok (Last (with_deed (fresh_record i (old.began + ms)) (plain verb.Advance) None fate.Done)))) (sym (next_is_end d old H i ms s past)) (
       refl,
       refl,
-      rests frame d old new H r s.nodes (record { still = record { entry = refl; made = refl; passed = refl; nothing = refl }; moment = same.0; nodes = same.1; wire = same.2; done = λ k. ap (λ bs. get_or bs k false) same.3 }) (same.4 ∙ s.armed),
+      rests frame d old new H r s.nodes s.nats (record { still = record { entry = refl; made = refl; passed = refl; nothing = refl }; moment = same.0; nodes = same.1; nats = same.2; wire = same.3; done = λ k. ap (λ bs. get_or bs k false) same.4 }) (same.5 ∙ s.armed),
     )
 
 -- a tick is played
-pub ticks : (d : Draws) (old new : WorldState) (H : List Full) (i ms : ℕ) (x : Due) (word : Record) → StandsFor d old H → least_due (flat_lab d old.topology) H 0 (nodes old.topology) ≡ Some x → x.moment ≤ old.began + ms
-    → Plays d old new H (ticks_at d old H (numbered i (event.Advance ms)) x) (Ok word) → PlaysTurn d old new H (next_of (flat_lab d old.topology) H i (event.Advance ms)) (Ok (More word))
+pub ticks : (d : Draws) (old new : WorldState) (H : List Full) (i ms : ℕ) (x : Due) (word : Record) → StandsFor d old H → least_due (lab_in d old) H 0 (nodes old.topology) ≡ Some x → x.moment ≤ old.began + ms
+    → Plays d old new H (ticks_at d old H (numbered i (event.Advance ms)) x) (Ok word) → PlaysTurn d old new H (next_of (lab_in d old) H i (event.Advance ms)) (Ok (More word))
 ticks d old new H i ms x word s least within plays =
     subst (λ (z : Full). PlaysTurn d old new H z (Ok (More word))) (sym (next_is_tick d old H i ms x s least within)) (plays.0, refl, plays.1)
 
 -- or isn't
-pub tick_stops : (d : Draws) (old : WorldState) (H : List Full) (i ms : ℕ) (x : Due) (why : Stop) → StandsFor d old H → least_due (flat_lab d old.topology) H 0 (nodes old.topology) ≡ Some x → x.moment ≤ old.began + ms
-    → IsCause old (ticks_at d old H (numbered i (event.Advance ms)) x) why → IsCause old (next_of (flat_lab d old.topology) H i (event.Advance ms)) why
+pub tick_stops : (d : Draws) (old : WorldState) (H : List Full) (i ms : ℕ) (x : Due) (why : Stop) → StandsFor d old H → least_due (lab_in d old) H 0 (nodes old.topology) ≡ Some x → x.moment ≤ old.began + ms
+    → IsCause old (ticks_at d old H (numbered i (event.Advance ms)) x) why → IsCause old (next_of (lab_in d old) H i (event.Advance ms)) why
 tick_stops d old H i ms x why s least within cause = subst (λ (z : Full). IsCause old z why) (sym (next_is_tick d old H i ms x s least within)) cause

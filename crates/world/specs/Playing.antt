@@ -1,5 +1,5 @@
 -- What one event does to a world, for the contracts of private functions.
-use Rattle.std.specs.Prelude.{◌≡◌, ◌≤◌, ◌<◌, ◌+◌, ◌||◌, Bool, true, false, ℕ, max, List, ◌++◌, ◌∷◌, get_or, length, Option, Some, None, Result, Ok, Err}
+use Rattle.std.specs.Prelude.{◌≡◌, ◌≤◌, ◌<◌, ◌+◌, ◌||◌, Bool, true, false, ℕ, max, List, [], ◌++◌, ◌∷◌, get_or, length, Option, Some, None, Result, Ok, Err}
 use Rattle.events.specs.declared.event.Event.{Event}
 use Rattle.history.specs.declared.records.Record.{Record}
 use Rattle.history.specs.declared.turn.Turn.{Turn}
@@ -14,7 +14,8 @@ use Rattle.history.specs.declared.act.Act.{Act}
 use Rattle.history.specs.declared.act.Act.TheVariants as act
 use Rattle.history.specs.Full.{Full, wire, items_of}
 use Rattle.history.specs.Records.{record_of}
-use Rattle.legal.specs.Lab.{Draws, Lab, flat_lab}
+use Rattle.td_chain.specs.Chains.{ChainsState}
+use Rattle.legal.specs.Lab.{Draws, Lab}
 use Rattle.legal.specs.Past.{has_more, is_number, armed}
 use Rattle.legal.specs.Next as next
 use Rattle.legal.specs.Next.{Numbered, acts, no_ep}
@@ -28,7 +29,8 @@ use Rattle.lab_nodes.specs.Due.{due_as}
 use Rattle.lab_nodes.specs.declared.played_node.PlayedNode.{PlayedNode}
 use Rattle.td_outside.specs.declared.clock.TheConstants.{CLOCK_END_MS}
 use Rattle.lab_nodes.specs.PlayedNode.{AreOf, NodesOf, AreReady}
-use Rattle.world.specs.World.{WorldState, IsCause, going_after, is_more, record_in}
+use Rattle.world.specs.Emission.{AreNatsWith}
+use Rattle.world.specs.World.{WorldState, lab_in, IsCause, going_after, is_more, record_in}
 
 -- WHAT A WORLD KEEPS TO
 
@@ -38,8 +40,10 @@ IsGoing m None = Unit {0}
 IsGoing m (Some (going_on.Advance began ms)) = m ≤ began.0 + ms
 IsGoing m (Some going_on.Settle) = Unit {0}
 
-pub record IsWorld (t : TopologyState) (m : ℕ) (g : Option Going) (nodes : List PlayedNode) : Type 0 where
+pub record IsWorld (t : TopologyState) (nats : ChainsState) (m : ℕ) (g : Option Going) (nodes : List PlayedNode) : Type 0 where
   pub rules : IsTopology t
+  pub same : nats.topology ≡ t
+  pub clock : nats.moment ≤ m  -- no NAT was called later
   pub rows : AreOf t nodes
   pub few : length nodes ≤ NODES_MAX
   pub ready : AreReady m nodes
@@ -50,12 +54,12 @@ pub record IsWorld (t : TopologyState) (m : ℕ) (g : Option Going) (nodes : Lis
 
 -- a node of a world acts by a prompt
 abbrev pub prompted : Draws → WorldState → List Full → Numbered → Act → Prompt → ℕ → Node → Full
-prompted d w H e a prompt number node = acts (flat_lab d w.topology) H e a (delivered_by prompt) w.moment number
+prompted d w H e a prompt number node = acts (lab_in d w) H e a (delivered_by prompt) w.moment number
     (dst_by w.wire prompt) (input_by w.wire prompt) node
 
 -- a tick that is due
 abbrev pub ticks_at : Draws → WorldState → List Full → Numbered → next.Due → Full
-ticks_at d w H e x = acts (flat_lab d w.topology) H e act.Tick None (max x.moment w.moment) x.number no_ep ticked x.node
+ticks_at d w H e x = acts (lab_in d w) H e act.Tick None (max x.moment w.moment) x.number no_ep ticked x.node
 
 -- no tick is due up to a moment
 abbrev pub NoneIsDue : ℕ → Option next.Due → Type 0
@@ -70,16 +74,18 @@ pub record IsFound (lab : Lab) (H : List Full) (x : Due) : Type 0 where
 
 -- ONE RECORD
 
--- what a record finds: nodes and wire as the history leaves them, and what is armed
+-- what a record finds: nodes, NATs and wire as the history leaves them, and what is armed
 pub record Finds (d : Draws) (w : WorldState) (H : List Full) : Type 0 where
-  pub nodes : NodesOf (flat_lab d w.topology) w.nodes H
+  pub nodes : NodesOf (lab_in d w) w.nodes H
+  pub nats : AreNatsWith (lab_in d w) H [] w.nats
   pub wire : w.wire ≡ wire H
   pub armed : w.armed ≡ armed H
 
 -- the world after the record r, which comes after H
 pub record Comes (d : Draws) (old new : WorldState) (H : List Full) (r : Full) : Type 0 where
   pub moment : new.moment ≡ r.moment
-  pub nodes : NodesOf (flat_lab d old.topology) new.nodes (r ∷ H)
+  pub nodes : NodesOf (lab_in d old) new.nodes (r ∷ H)
+  pub nats : AreNatsWith (lab_in d old) (r ∷ H) [] new.nats
   pub wire : new.wire ≡ old.wire ++ items_of r
   pub done : (i : ℕ) → get_or new.done i false ≡ (is_number i r.delivered || get_or old.done i false)
   pub armed : new.armed ≡ armed (r ∷ H)
@@ -120,6 +126,7 @@ GoesFrom old new (Last r) = new.began ≡ new.moment
 -- what a turn of an event does to a world, whatever it stands for
 pub record Turned (old new : WorldState) (event : Event) (turn : Turn) : Type 0 where
   pub topology : new.topology ≡ old.topology
+  pub chain : new.chain ≡ old.chain
   pub stopped : new.stopped ≡ old.stopped
   pub going : new.going ≡ going_after event turn
   pub goes : GoesFrom old new turn

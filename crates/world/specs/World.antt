@@ -9,6 +9,8 @@ use Rattle.history.specs.declared.turn.Turn.TheVariants.{More, Last}
 use Rattle.history.specs.declared.turn.Stop.{Stop}
 use Rattle.history.specs.declared.turn.Stop.TheVariants.{WireFull, NoMemory}
 use Rattle.topology.specs.Rows.{TopologyState}
+use Rattle.topology.specs.Chains.{Behind}
+use Rattle.td_chain.specs.Chains.{ChainsState}
 use Rattle.history.specs.Full.{Item, Full, wire, items_of}
 use Rattle.history.specs.Records.{record_of}
 use Rattle.history.specs.Telling.{IsTold}
@@ -16,7 +18,7 @@ use Rattle.world.specs.declared.wire.TheConstants.{ENTRIES_MAX}
 use Rattle.td_outside.specs.declared.clock.TheConstants.{CLOCK_END_MS}
 use Rattle.world.specs.declared.going.Going.{Going}
 use Rattle.world.specs.declared.going.Going.TheVariants as going_on
-use Rattle.legal.specs.Lab.{Draws, flat_lab}
+use Rattle.legal.specs.Lab.{Draws, Lab, lab_on}
 use Rattle.legal.specs.Past.{now, began, has_more, going, was_delivered, armed}
 use Rattle.legal.specs.Next.{next_of}
 use Rattle.legal.specs.Legal.{Grown}
@@ -27,10 +29,13 @@ use Rattle.lab_nodes.specs.declared.played_node.PlayedNode.{PlayedNode}
 use Rattle.lab_nodes.specs.PlayedNode.{NodesOf}
 use Rattle.lab_nodes.specs.DueMoments.{all_due}
 use Rattle.lab_nodes.specs.Memory.{takes_memory}
+use Rattle.world.specs.Emission.{AreNatsWith}
 use Rattle.world.specs.Wire.{WireState}
 
 pub record WorldState : Type 0 where
   pub topology : TopologyState
+  pub chain : List Behind  -- which NATs are behind others
+  pub nats : ChainsState
   pub moment : ℕ
   pub began : ℕ  -- when the event of the next record began
   pub going : Option Event  -- the event that goes on: the next record is of it
@@ -51,9 +56,11 @@ began_in m None = m
 began_in m (Some (going_on.Advance began ms)) = began.0
 began_in m (Some going_on.Settle) = m
 
-abbrev pub state_of : TopologyState → ℕ → Option Going → Option ℕ → List PlayedNode → WireState → Option Stop → WorldState
-state_of t m g armed nodes wire stopped = record {
+abbrev pub state_of : TopologyState → ChainsState → ℕ → Option Going → Option ℕ → List PlayedNode → WireState → Option Stop → WorldState
+state_of t nats m g armed nodes wire stopped = record {
   topology = t;
+  chain = nats.chain;
+  nats = nats;
   moment = m;
   began = began_in m g;
   going = event_in g;
@@ -63,6 +70,10 @@ state_of t m g armed nodes wire stopped = record {
   done = wire.done;
   stopped = stopped;
 }
+
+-- the laboratory that it plays, whose nodes draw these words
+abbrev pub lab_in : Draws → WorldState → Lab
+lab_in d w = lab_on d w.topology w.chain
 
 -- WHAT IS LEFT
 
@@ -87,17 +98,18 @@ left_in w = left_of w w.going
 
 -- WHAT A WORLD STANDS FOR
 
--- The world stands for a history of its topology, no NAT being behind another one: one clause a part.
+-- The world stands for a history of its laboratory: one clause a part.
 pub record StandsFor (d : Draws) (w : WorldState) (H : List Full) : Type 0 where
-  pub grown : Grown (flat_lab d w.topology) H
+  pub grown : Grown (lab_in d w) H
   pub moment : w.moment ≡ now H
   pub began : w.began ≡ began H
   pub going : w.going ≡ going H
-  pub nodes : NodesOf (flat_lab d w.topology) w.nodes H
+  pub nodes : NodesOf (lab_in d w) w.nodes H
+  pub nats : AreNatsWith (lab_in d w) H [] w.nats
   pub wire : w.wire ≡ wire H
   pub done : (i : ℕ) → get_or w.done i false ≡ was_delivered i H
   pub armed : w.armed ≡ armed H
-  pub left : left (flat_lab d w.topology) H ≡ left_in w
+  pub left : left (lab_in d w) H ≡ left_in w
   pub most : left_in w ≤ LEFT_MAX
 
 -- WHAT A STEP DOES
@@ -133,19 +145,20 @@ Falls old new (Last r) = Unit {0}
 -- The step gave the record that follows for its event, and the world then stands for the history with it.
 pub record Steps (old new : WorldState) (index : ℕ) (event : Event) (turn : Turn) : Type 0 where
   pub topology : new.topology ≡ old.topology
+  pub chain : new.chain ≡ old.chain
   pub goes_on : new.stopped ≡ None
   pub going : new.going ≡ going_after event turn
-  pub record_is : (d : Draws) (H : List Full) → StandsFor d old H → record_in turn ≡ record_of (next_of (flat_lab d old.topology) H index event)
-  pub stands : (d : Draws) (H : List Full) → StandsFor d old H → StandsFor d new (next_of (flat_lab d old.topology) H index event ∷ H)
+  pub record_is : (d : Draws) (H : List Full) → StandsFor d old H → record_in turn ≡ record_of (next_of (lab_in d old) H index event)
+  pub stands : (d : Draws) (H : List Full) → StandsFor d old H → StandsFor d new (next_of (lab_in d old) H index event ∷ H)
   -- the event has further records exactly where the turn says so
-  pub more : (d : Draws) (H : List Full) → StandsFor d old H → has_more event (next_of (flat_lab d old.topology) H index event).act ≡ is_more turn
-  pub tells : (d : Draws) (H : List Full) → StandsFor d old H → IsTold (next_of (flat_lab d old.topology) H index event)
+  pub more : (d : Draws) (H : List Full) → StandsFor d old H → has_more event (next_of (lab_in d old) H index event).act ≡ is_more turn
+  pub tells : (d : Draws) (H : List Full) → StandsFor d old H → IsTold (next_of (lab_in d old) H index event)
   pub falls : (d : Draws) (H : List Full) → StandsFor d old H → Falls old new turn
   pub time : new.moment ≤ old.began + ADVANCE_MAX_MS
   pub entries : length new.wire ≤ ENTRIES_MAX
   -- all that is proved of every history is so of the one with the record, at each of its records
   pub promised : (d : Draws) (H : List Full) → StandsFor d old H
-      → KeptThroughout (flat_lab d old.topology) (next_of (flat_lab d old.topology) H index event ∷ H)
+      → KeptThroughout (lab_in d old) (next_of (lab_in d old) H index event ∷ H)
 
 -- WHY IT STOPS
 
@@ -163,11 +176,12 @@ IsCause w r NoMemory = NeedsMemory r
 
 -- why a world stops that hadn't stopped before: for the record that follows
 abbrev pub StopsFor : WorldState → ℕ → Event → Stop → Type 0
-StopsFor w index event stop = (d : Draws) (H : List Full) → StandsFor d w H → IsCause w (next_of (flat_lab d w.topology) H index event) stop
+StopsFor w index event stop = (d : Draws) (H : List Full) → StandsFor d w H → IsCause w (next_of (lab_in d w) H index event) stop
 
 -- What stays where it stops. Of time and nodes nothing is promised: they may have begun to change.
 pub record StopsAs (old new : WorldState) (stop : Stop) : Type 0 where
   pub topology : new.topology ≡ old.topology
+  pub chain : new.chain ≡ old.chain
   pub wire : new.wire ≡ old.wire
   pub done : new.done ≡ old.done
   pub stopped : new.stopped ≡ Some stop

@@ -4,11 +4,12 @@ ghost use Rattle.topology.specs.declared.node.Node.{Node};
 ghost use Rattle.topology.specs.Topology.{node_at};
 ghost use Rattle.events.specs.declared.event.Event.{Event};
 ghost use Rattle.history.specs.Full.{Full};
-ghost use Rattle.legal.specs.Lab.{Draws, flat_lab};
+ghost use Rattle.legal.specs.Lab.{Draws};
 ghost use Rattle.legal.specs.Past.{at_nat, arms};
 ghost use Rattle.legal.specs.Next.{numbered};
 ghost use Rattle.world.specs.Prompt.{IsPrompt};
 ghost use Rattle.world.specs.Record.{fresh_record};
+ghost use Rattle.world.specs.World.{lab_in};
 ghost use Rattle.world.specs.Playing.{prompted, Finds, Plays, played};
 
 use crate::prompt::{Prompt, input_of, remember};
@@ -30,10 +31,11 @@ impl<'a> World<'a> {
         requires fresh { out.old ≡ fresh_record out.old.event self.old.moment }
         requires within { number < length self.old.nodes }
         requires prompt { IsPrompt self.old.wire self.old.done prompt }
-        ensures plays { (d : Draws) (H : List Full) → Finds d self.old H → (e : Event) → at_nat (flat_lab d self.old.topology) e act ≡ [] → arms e ≡ None
+        ensures plays { (d : Draws) (H : List Full) → Finds d self.old H → (e : Event) → at_nat (lab_in d self.old) e act ≡ [] → arms e ≡ None
             → (node : Node) → node_at self.old.topology number ≡ Some node
             → Plays d self.old self.new H (prompted d self.old H (numbered out.old.event e) act prompt.entry number node) (played result out.new) }
-        ensures rest { self.new ≡ record self.old { armed = self.new.armed; nodes = self.new.nodes; wire = self.new.wire; done = self.new.done } }
+        ensures rest { self.new
+            ≡ record self.old { armed = self.new.armed; nodes = self.new.nodes; nats = self.new.nats; wire = self.new.wire; done = self.new.done } }
         ensures err { OnErr result ((self.new.wire ≡ self.old.wire) × (self.new.done ≡ self.old.done)) }
     {
         legal::frame();
@@ -54,8 +56,9 @@ impl<'a> World<'a> {
         let fails = self.armed;
         let sender = Sender { outlet, now, fails };
         let marks = &mut out.marks;
-        let nodes = &mut self.nodes;
-        emit(sender, nodes, &mut self.wire, &self.step, packet, marks)?;
+        let nats = &mut self.nats;
+        emit(sender, nats, &mut self.wire, &self.step, packet, marks)?;
+        let _rows = self.nats.topology();
         self.armed = still_armed(fails, &self.step);
         remember(&mut self.wire, prompt);
         out.handed = handed;

@@ -7,14 +7,14 @@ ghost use Rattle.events.specs.declared.event.Event.TheVariants as event;
 ghost use Rattle.events.specs.declared.event.TheConstants.{ADVANCE_MAX_MS};
 ghost use Rattle.events.specs.declared.verb.Verb.TheVariants as verb;
 ghost use Rattle.history.specs.Full.{Full};
-ghost use Rattle.legal.specs.Lab.{Draws, flat_lab};
+ghost use Rattle.legal.specs.Lab.{Draws};
 ghost use Rattle.legal.specs.Past.{forgotten, arms};
 ghost use Rattle.legal.specs.Next.{numbered, plain, least_due, next_of};
 ghost use Rattle.td_outside.specs.declared.clock.TheConstants.{CLOCK_END_MS};
 ghost use Rattle.legal.specs.Next.{Due as Tick};
 ghost use Rattle.lab_nodes.specs.Due.{due_as};
 ghost use Rattle.world.specs.Record.{fresh_record, with_deed};
-ghost use Rattle.world.specs.World.{StandsFor, IsAgain};
+ghost use Rattle.world.specs.World.{StandsFor, IsAgain, lab_in};
 ghost use Rattle.world.specs.Playing.{ticks_at, NoneIsDue, IsFound, Plays, PlaysTurn, Turned, played, turn_from};
 
 use crate::going::Going;
@@ -41,9 +41,9 @@ impl<'a> World<'a> {
 
     /// The tick that is due first, up to a moment.
     fn due_by(&self, end: Millis) -> Option<Due>
-        ensures due { (d : Draws) (H : List Full) → StandsFor d self.now H → IfSome result (λ x. IsFound (flat_lab d self.now.topology) H x) }
+        ensures due { (d : Draws) (H : List Full) → StandsFor d self.now H → IfSome result (λ x. IsFound (lab_in d self.now) H x) }
         ensures none { (d : Draws) (H : List Full) → StandsFor d self.now H
-            → IfNone result (NoneIsDue end.0 (least_due (flat_lab d self.now.topology) H 0 (nodes self.now.topology))) }
+            → IfNone result (NoneIsDue end.0 (least_due (lab_in d self.now) H 0 (nodes self.now.topology))) }
         ensures early { IfSome result (λ x. x.moment.0 ≤ end.0) }
         ensures within { IfSome result (λ x. x.node < length self.now.nodes) }
     {
@@ -79,7 +79,7 @@ impl<'a> World<'a> {
         requires early { due.moment.0 ≤ began.0 + ms }
         requires within { due.node < length self.old.nodes }
         requires going { (self.old.moment ≤ began.0 + ms) × (began.0 + ms < CLOCK_END_MS) }
-        ensures plays { (d : Draws) (H : List Full) → StandsFor d self.old H → (e : Event) → forgotten (flat_lab d self.old.topology) e ≡ [] → arms e ≡ None
+        ensures plays { (d : Draws) (H : List Full) → StandsFor d self.old H → (e : Event) → forgotten (lab_in d self.old) e ≡ [] → arms e ≡ None
             → (x : Tick) → due_as x ≡ due → node_at self.old.topology x.number ≡ Some x.node
             → Plays d self.old self.new H (ticks_at d self.old H (numbered out.old.event e) x) (played result out.new) }
         ensures rest { self.new ≡ record self.old {
@@ -88,6 +88,7 @@ impl<'a> World<'a> {
           going = Some (event.Advance ms);
           armed = self.new.armed;
           nodes = self.new.nodes;
+          nats = self.new.nats;
           wire = self.new.wire;
           done = self.new.done;
         } }
@@ -109,10 +110,11 @@ impl<'a> World<'a> {
         requires again { IsAgain self.old.going (event.Advance ms) }
         requires time { self.old.began + ms < CLOCK_END_MS }
         ensures plays { (d : Draws) (H : List Full) → StandsFor d self.old H
-            → PlaysTurn d self.old self.new H (next_of (flat_lab d self.old.topology) H out.old.event (event.Advance ms)) (turn_from result out.new) }
+            → PlaysTurn d self.old self.new H (next_of (lab_in d self.old) H out.old.event (event.Advance ms)) (turn_from result out.new) }
         ensures turned { IfOk (turn_from result out.new) (λ turn. Turned self.old self.new (event.Advance ms) turn) }
         ensures time { self.new.moment ≤ self.old.began + ms }
-        ensures err { OnErr result ((self.new.topology ≡ self.old.topology) × (self.new.wire ≡ self.old.wire) × (self.new.done ≡ self.old.done)) }
+        ensures err { OnErr result ((self.new.topology ≡ self.old.topology) × (self.new.chain ≡ self.old.chain)
+            × (self.new.wire ≡ self.old.wire) × (self.new.done ≡ self.old.done)) }
     {
         legal::frame();
         let _ = &self.nodes;

@@ -4,10 +4,10 @@ ghost use Rattle.events.specs.declared.event.Event.{Event};
 ghost use Rattle.events.specs.declared.event.Event.TheVariants as event;
 ghost use Rattle.td_base.specs.declared.datagram.TheConstants.{DATAGRAM_MAX};
 ghost use Rattle.history.specs.Full.{Full};
-ghost use Rattle.legal.specs.Lab.{Draws, flat_lab};
+ghost use Rattle.legal.specs.Lab.{Draws};
 ghost use Rattle.legal.specs.Past.{arms};
 ghost use Rattle.legal.specs.Next.{numbered, puts, next_of};
-ghost use Rattle.world.specs.World.{StandsFor};
+ghost use Rattle.world.specs.World.{StandsFor, lab_in};
 ghost use Rattle.world.specs.Record.{fresh_record};
 ghost use Rattle.world.specs.Playing.{Plays, played};
 
@@ -54,7 +54,7 @@ impl<'a> World<'a> {
         requires fresh { out.old ≡ fresh_record out.old.event self.old.moment }
         requires short { length bytes.now ≤ DATAGRAM_MAX }
         ensures plays { (d : Draws) (H : List Full) → StandsFor d self.old H
-            → Plays d self.old self.new H (next_of (flat_lab d self.old.topology) H out.old.event (event.Stranger src dst bytes.now)) (played result out.new) }
+            → Plays d self.old self.new H (next_of (lab_in d self.old) H out.old.event (event.Stranger src dst bytes.now)) (played result out.new) }
         ensures rest { self.new ≡ record self.old { wire = self.new.wire; done = self.new.done } }
         ensures err { OnErr result ((self.new.wire ≡ self.old.wire) × (self.new.done ≡ self.old.done)) }
     {
@@ -75,7 +75,7 @@ impl<'a> World<'a> {
     ) -> Result<(), Stop>
         requires fresh { out.old ≡ fresh_record out.old.event self.old.moment }
         ensures plays { (d : Draws) (H : List Full) → StandsFor d self.old H
-            → Plays d self.old self.new H (next_of (flat_lab d self.old.topology) H out.old.event (event.Copy number src dst)) (played result out.new) }
+            → Plays d self.old self.new H (next_of (lab_in d self.old) H out.old.event (event.Copy number src dst)) (played result out.new) }
         ensures rest { self.new ≡ record self.old { wire = self.new.wire; done = self.new.done } }
         ensures err { OnErr result ((self.new.wire ≡ self.old.wire) × (self.new.done ≡ self.old.done)) }
     {

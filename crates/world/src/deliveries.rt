@@ -4,10 +4,10 @@ ghost use Rattle.events.specs.declared.event.Event.{Event};
 ghost use Rattle.events.specs.declared.event.Event.TheVariants as event;
 ghost use Rattle.history.specs.Full.{Full};
 ghost use Rattle.events.specs.declared.event.TheConstants.{ADVANCE_MAX_MS};
-ghost use Rattle.legal.specs.Lab.{Draws, flat_lab};
+ghost use Rattle.legal.specs.Lab.{Draws};
 ghost use Rattle.legal.specs.Past.{forgotten, arms};
 ghost use Rattle.legal.specs.Next.{numbered, delivers, next_of};
-ghost use Rattle.world.specs.World.{StandsFor, IsAgain};
+ghost use Rattle.world.specs.World.{StandsFor, IsAgain, lab_in};
 ghost use Rattle.world.specs.Record.{fresh_record};
 ghost use Rattle.world.specs.Playing.{Plays, PlaysTurn, Turned, played, turn_from};
 
@@ -24,9 +24,10 @@ impl<'a> World<'a> {
     /// Delivers entry `number` to whoever is at its destination.
     pub(crate) fn deliver(&mut self, number: u32, out: &mut Record) -> Result<(), Stop>
         requires fresh { out.old ≡ fresh_record out.old.event self.old.moment }
-        ensures plays { (d : Draws) (H : List Full) → StandsFor d self.old H → (e : Event) → forgotten (flat_lab d self.old.topology) e ≡ [] → arms e ≡ None
-            → Plays d self.old self.new H (delivers (flat_lab d self.old.topology) H (numbered out.old.event e) number) (played result out.new) }
-        ensures rest { self.new ≡ record self.old { armed = self.new.armed; nodes = self.new.nodes; wire = self.new.wire; done = self.new.done } }
+        ensures plays { (d : Draws) (H : List Full) → StandsFor d self.old H → (e : Event) → forgotten (lab_in d self.old) e ≡ [] → arms e ≡ None
+            → Plays d self.old self.new H (delivers (lab_in d self.old) H (numbered out.old.event e) number) (played result out.new) }
+        ensures rest { self.new
+            ≡ record self.old { armed = self.new.armed; nodes = self.new.nodes; nats = self.new.nats; wire = self.new.wire; done = self.new.done } }
         ensures err { OnErr result ((self.new.wire ≡ self.old.wire) × (self.new.done ≡ self.old.done)) }
     {
         legal::frame();
@@ -36,7 +37,7 @@ impl<'a> World<'a> {
             say(out, act, None, Fate::NoEntry);
             return Ok(());
         };
-        match route_of(self.topology, self.nodes.as_slice(), self.moment, entry) {
+        match route_of(self.topology, &self.nats, self.moment, entry) {
             Route::Astray => {
                 self.wire.set_delivered(place);
                 say(out, act, None, Fate::Nowhere);
@@ -55,8 +56,9 @@ impl<'a> World<'a> {
     pub(crate) fn deliver_next(&mut self, out: &mut Record) -> Result<(), Stop>
         requires fresh { out.old ≡ fresh_record out.old.event self.old.moment }
         ensures plays { (d : Draws) (H : List Full) → StandsFor d self.old H
-            → Plays d self.old self.new H (next_of (flat_lab d self.old.topology) H out.old.event event.Next) (played result out.new) }
-        ensures rest { self.new ≡ record self.old { armed = self.new.armed; nodes = self.new.nodes; wire = self.new.wire; done = self.new.done } }
+            → Plays d self.old self.new H (next_of (lab_in d self.old) H out.old.event event.Next) (played result out.new) }
+        ensures rest { self.new
+            ≡ record self.old { armed = self.new.armed; nodes = self.new.nodes; nats = self.new.nats; wire = self.new.wire; done = self.new.done } }
         ensures err { OnErr result ((self.new.wire ≡ self.old.wire) × (self.new.done ≡ self.old.done)) }
     {
         legal::frame();
@@ -75,10 +77,11 @@ impl<'a> World<'a> {
         requires fresh { out.old ≡ fresh_record out.old.event self.old.moment }
         requires again { IsAgain self.old.going event.Settle }
         ensures plays { (d : Draws) (H : List Full) → StandsFor d self.old H
-            → PlaysTurn d self.old self.new H (next_of (flat_lab d self.old.topology) H out.old.event event.Settle) (turn_from result out.new) }
+            → PlaysTurn d self.old self.new H (next_of (lab_in d self.old) H out.old.event event.Settle) (turn_from result out.new) }
         ensures turned { IfOk (turn_from result out.new) (λ turn. Turned self.old self.new event.Settle turn) }
         ensures time { self.new.moment ≤ self.old.began + ADVANCE_MAX_MS }
-        ensures err { OnErr result ((self.new.topology ≡ self.old.topology) × (self.new.wire ≡ self.old.wire) × (self.new.done ≡ self.old.done)) }
+        ensures err { OnErr result ((self.new.topology ≡ self.old.topology) × (self.new.chain ≡ self.old.chain)
+            × (self.new.wire ≡ self.old.wire) × (self.new.done ≡ self.old.done)) }
     {
         legal::frame();
         legal::of_its_event();

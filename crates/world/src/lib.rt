@@ -1,4 +1,5 @@
-//! The laboratory's world: it plays one event at a time on the nodes and the wire.
+//! The laboratory's world: it plays one event at a time on the nodes, the NATs and the wire, whichever NATs are behind
+//! others.
 //!
 //! # What the layer above may rely on
 //!
@@ -11,13 +12,14 @@
 //! # What it does not know
 //!
 //! Texts: neither scenarios nor lines. Which record follows is said in `legal`, who is where in `topology`, what is kept of
-//! each node and what it does with what comes to it in `lab_nodes`.
+//! each node and what it does with what comes to it in `lab_nodes`, what is kept of NATs and the ways through them in
+//! `td_chain`.
 //!
 //! # Parts
 //!
 //! | module | holds | stated in |
 //! |---|---|---|
-//! | `world` | `World`: nodes, wire and moment, and the step | `specs/World.antt`, `Playing.antt` |
+//! | `world` | `World`: nodes, NATs, wire and moment, and the step | `specs/World.antt`, `Playing.antt` |
 //! | `going` | an event that has further records | `specs/World.antt` |
 //! | `act` | a node is asked, and what it sends comes onto the wire | `specs/Playing.antt` |
 //! | `prompt` | what prompts a node, and what comes to it | `specs/Prompt.antt` |

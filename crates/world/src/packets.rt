@@ -6,10 +6,10 @@ ghost use Rattle.events.specs.declared.event.Event.TheVariants as event;
 ghost use Rattle.events.specs.declared.event.TheConstants.{BODY_MAX};
 ghost use Rattle.td_base.specs.declared.datagram.TheConstants.{DATAGRAM_MAX};
 ghost use Rattle.history.specs.Full.{Full};
-ghost use Rattle.legal.specs.Lab.{Draws, flat_lab};
+ghost use Rattle.legal.specs.Lab.{Draws};
 ghost use Rattle.legal.specs.Past.{at_nat, arms};
 ghost use Rattle.legal.specs.Next.{numbered, plain, hands_in, next_of};
-ghost use Rattle.world.specs.World.{StandsFor};
+ghost use Rattle.world.specs.World.{StandsFor, lab_in};
 ghost use Rattle.world.specs.Record.{fresh_record};
 ghost use Rattle.world.specs.Playing.{Plays, played};
 
@@ -32,11 +32,12 @@ impl<'a> World<'a> {
         requires within { number < length self.old.nodes }
         requires short { length bytes.now ≤ DATAGRAM_MAX }
         ensures plays { (d : Draws) (H : List Full) → StandsFor d self.old H → (e : Event)
-            → at_nat (flat_lab d self.old.topology) e (plain verb) ≡ [] → arms e ≡ None
-            → Plays d self.old self.new H (hands_in (flat_lab d self.old.topology) H
+            → at_nat (lab_in d self.old) e (plain verb) ≡ [] → arms e ≡ None
+            → Plays d self.old self.new H (hands_in (lab_in d self.old) H
             (numbered out.old.event e) verb number bytes.now (node_at self.old.topology number))
             (played result out.new) }
-        ensures rest { self.new ≡ record self.old { armed = self.new.armed; nodes = self.new.nodes; wire = self.new.wire; done = self.new.done } }
+        ensures rest { self.new
+            ≡ record self.old { armed = self.new.armed; nodes = self.new.nodes; nats = self.new.nats; wire = self.new.wire; done = self.new.done } }
         ensures err { OnErr result ((self.new.wire ≡ self.old.wire) × (self.new.done ≡ self.old.done)) }
     {
         legal::frame();
@@ -55,8 +56,9 @@ impl<'a> World<'a> {
         requires within { number < length self.old.nodes }
         requires short { length body.now ≤ BODY_MAX }
         ensures plays { (d : Draws) (H : List Full) → StandsFor d self.old H
-            → Plays d self.old self.new H (next_of (flat_lab d self.old.topology) H out.old.event (event.Host number to body.now)) (played result out.new) }
-        ensures rest { self.new ≡ record self.old { armed = self.new.armed; nodes = self.new.nodes; wire = self.new.wire; done = self.new.done } }
+            → Plays d self.old self.new H (next_of (lab_in d self.old) H out.old.event (event.Host number to body.now)) (played result out.new) }
+        ensures rest { self.new
+            ≡ record self.old { armed = self.new.armed; nodes = self.new.nodes; nats = self.new.nats; wire = self.new.wire; done = self.new.done } }
         ensures err { OnErr result ((self.new.wire ≡ self.old.wire) × (self.new.done ≡ self.old.done)) }
     {
         let nodes = self.nodes.as_slice();
@@ -78,8 +80,9 @@ impl<'a> World<'a> {
         requires within { number < length self.old.nodes }
         requires fresh { out.old ≡ fresh_record out.old.event self.old.moment }
         ensures plays { (d : Draws) (H : List Full) → StandsFor d self.old H
-            → Plays d self.old self.new H (next_of (flat_lab d self.old.topology) H out.old.event (event.Echo number to seq)) (played result out.new) }
-        ensures rest { self.new ≡ record self.old { armed = self.new.armed; nodes = self.new.nodes; wire = self.new.wire; done = self.new.done } }
+            → Plays d self.old self.new H (next_of (lab_in d self.old) H out.old.event (event.Echo number to seq)) (played result out.new) }
+        ensures rest { self.new
+            ≡ record self.old { armed = self.new.armed; nodes = self.new.nodes; nats = self.new.nats; wire = self.new.wire; done = self.new.done } }
         ensures err { OnErr result ((self.new.wire ≡ self.old.wire) × (self.new.done ≡ self.old.done)) }
     {
         let nodes = self.nodes.as_slice();

@@ -3,9 +3,9 @@ ghost use Rattle.std.specs.Prelude.{◌≡◌, ◌<◌, List, length, Ok};
 ghost use Rattle.events.specs.declared.event.Event.TheVariants as event;
 ghost use Rattle.events.specs.Events.{IsForgotten};
 ghost use Rattle.history.specs.Full.{Full};
-ghost use Rattle.legal.specs.Lab.{Draws, flat_lab};
+ghost use Rattle.legal.specs.Lab.{Draws};
 ghost use Rattle.legal.specs.Next.{next_of};
-ghost use Rattle.world.specs.World.{StandsFor};
+ghost use Rattle.world.specs.World.{StandsFor, lab_in};
 ghost use Rattle.world.specs.Record.{fresh_record};
 ghost use Rattle.world.specs.Playing.{Plays};
 
@@ -13,7 +13,7 @@ use crate::record::say;
 use crate::world::World;
 use events::Verb;
 use history::{Act, Record};
-use lab_nodes::{forget_at, restart_at};
+use lab_nodes::restart_at;
 use teredo_node::Fate;
 use topology::Node;
 
@@ -23,11 +23,12 @@ impl<'a> World<'a> {
         requires within { number < length self.old.nodes }
         requires fresh { out.old ≡ fresh_record out.old.event self.old.moment }
         ensures plays { (d : Draws) (H : List Full) → StandsFor d self.old H
-            → Plays d self.old self.new H (next_of (flat_lab d self.old.topology) H out.old.event (event.Restart number)) (Ok out.new) }
-        ensures rest { self.new ≡ record self.old { nodes = self.new.nodes } }
+            → Plays d self.old self.new H (next_of (lab_in d self.old) H out.old.event (event.Restart number)) (Ok out.new) }
+        ensures rest { self.new ≡ record self.old { nodes = self.new.nodes; nats = self.new.nats } }
     {
         legal::frame();
         restart_at(&mut self.nodes, number, self.moment);
+        self.nats.restart(number);
         let act = Act::Plain {
             verb: Verb::Restart,
         };
@@ -39,17 +40,16 @@ impl<'a> World<'a> {
         requires fresh { out.old ≡ fresh_record out.old.event self.old.moment }
         requires event { IsForgotten self.old.topology number who }
         ensures plays { (d : Draws) (H : List Full) → StandsFor d self.old H
-            → Plays d self.old self.new H (next_of (flat_lab d self.old.topology) H out.old.event (event.Forget number who)) (Ok out.new) }
-        ensures rest { self.new ≡ record self.old { nodes = self.new.nodes } }
+            → Plays d self.old self.new H (next_of (lab_in d self.old) H out.old.event (event.Forget number who)) (Ok out.new) }
+        ensures rest { self.new ≡ record self.old { nats = self.new.nats } }
     {
-        legal::frame();
         let Some(node) = self.topology.node(usize::from(who)) else {
             unreachable!()
         };
         let Node::Client(row) = node else {
             unreachable!()
         };
-        forget_at(&mut self.nodes, number, row.inside);
+        self.nats.forget(number, row.inside);
         let act = Act::Plain { verb: Verb::Forget };
         say(out, act, Some(number), Fate::Done);
     }

@@ -1,24 +1,25 @@
 //! Who sends, and how what it sends comes onto the wire.
-ghost use Rattle.std.specs.Prelude.{◌≡◌, ◌≢◌, ◌≤◌, ◌<◌, ◌++◌, ℕ, false, [], ◌∷◌, Ok, List, length, map, slice_get, IfOk, IfSome, OnErr, OnOk, IfErr};
+ghost use Rattle.std.specs.Prelude.{◌≡◌, ◌≤◌, ◌++◌, true, false, [], Ok, List, length, IfOk, IfSome, OnErr, OnOk, IfErr};
 ghost use Rattle.td_base.specs.declared.datagram.TheConstants.{DATAGRAM_MAX};
 ghost use Rattle.teredo_node.specs.Sends.{has_any};
 ghost use Rattle.teredo_node.specs.declared.step.TheConstants.{SENDS_MAX};
-ghost use Rattle.topology.specs.Rows.{TopologyState};
-ghost use Rattle.topology.specs.Chains.{Passing, crossing};
+ghost use Rattle.topology.specs.Named.{is_nat};
+ghost use Rattle.topology.specs.Topology.{node_at};
+ghost use Rattle.topology.specs.Chains.{Passing, way_out};
 ghost use Rattle.history.specs.Full.{Full};
-ghost use Rattle.legal.specs.Lab.{Draws, Lab, flat_lab};
-ghost use Rattle.legal.specs.Past.{nat_pasts, armed_after};
+ghost use Rattle.legal.specs.Lab.{Lab};
+ghost use Rattle.legal.specs.Past.{armed_after};
 ghost use Rattle.legal.specs.Emit.{is_at_place, or_loss, crossing_unless, by_way, outright};
-ghost use Rattle.lab_nodes.specs.PlayedNode.{row_of, AreReady};
 ghost use Rattle.lab_nodes.specs.Outlet.{source_at, six_sent};
 ghost use Rattle.world.specs.Wire.{Puts, Extends};
-ghost use Rattle.world.specs.Emission.{IsNatWith, KeepsItsNat, HasItsNat, emitted_by, GoesThrough};
+ghost use Rattle.world.specs.Emission.{AreNatsWith, Crossed, HasItsNat, emitted_by};
 
 use crate::wire::{Entry, Wire};
 use history::{Loss, Marks, Stop};
-use lab_nodes::{Outlet, PlayedNode, SixPacket};
-use nat_kinds::{Nat, NatRefusal};
+use lab_nodes::{Outlet, SixPacket};
+use nat_kinds::NatRefusal;
 use td_base::{Ep, Millis, Side};
+use td_chain::Chains;
 use teredo_node::Step;
 
 /// How what is sent leaves, and when.
@@ -35,6 +36,13 @@ pub struct Sender {
 struct Sources {
     primary: Ep,
     secondary: Ep,
+}
+
+/// An endpoint of a client's own, behind its NAT.
+#[derive(Clone, Copy, Debug)]
+struct ClientEnd {
+    nat: u16,
+    inside: Ep,
 }
 
 /// Whether the send of this number fails.
@@ -100,16 +108,21 @@ fn put_outright(
     Ok(())
 }
 
-/// The source that a NAT gives a datagram from `inside`, or why the datagram is lost.
-fn cross(nat: &mut Nat, now: Millis, inside: Ep, to: Ep) -> Result<Result<Ep, Loss>, Stop>
-    requires clock { nat.old.moment ≤ now.0 }
-    ensures crosses { IfOk result (λ src. (lab : Lab) (H : List Full) (k : ℕ) (passed : List Passing) → IsNatWith lab H k passed nat.old
-        → (src ≡ or_loss false (crossing lab.topology (nat_pasts lab H) now.0 to (k ∷ []) inside passed).leaves)
-        × IsNatWith lab H k (crossing lab.topology (nat_pasts lab H) now.0 to (k ∷ []) inside passed).passed nat.new) }
+/// The source that the NATs on its way give a datagram, or why it is lost.
+fn cross(
+    nats: &mut Chains<'_>,
+    now: Millis,
+    from: ClientEnd,
+    to: Ep,
+) -> Result<Result<Ep, Loss>, Stop>
+    requires nat { is_nat (node_at nats.old.topology from.nat) ≡ true }
+    requires clock { nats.old.moment ≤ now.0 }
+    ensures crosses { IfOk result (λ src. (lab : Lab) (H : List Full) (passed : List Passing) → AreNatsWith lab H passed nats.old
+        → Crossed lab H (crossing_unless false lab H now.0 to (way_out lab.chain from.nat) from.inside passed) false src nats.new) }
     ensures needs { IfErr result (λ stop. stop ≡ Stop.NoMemory) }
-    ensures moment { nat.new.moment ≡ now.0 }
+    ensures same { nats.new ≡ record nats.old { moment = now.0; nats = nats.new.nats } }
 {
-    match nat.outward(now, inside, to) {
+    match nats.outward(now, from.nat, from.inside, to) {
         Ok(src) => Ok(Ok(src)),
         Err(refusal) => match refusal {
             NatRefusal::Hairpin => Ok(Err(Loss::Hairpin)),
@@ -119,50 +132,54 @@ fn cross(nat: &mut Nat, now: Millis, inside: Ep, to: Ep) -> Result<Result<Ep, Lo
     }
 }
 
-/// The same, unless the datagram fails: then it doesn't come to the NAT.
+/// The same, unless the datagram fails: then it comes to no NAT.
 fn cross_unless(
     failing: bool,
-    nat: &mut Nat,
+    nats: &mut Chains<'_>,
     now: Millis,
-    inside: Ep,
+    from: ClientEnd,
     to: Ep,
 ) -> Result<Result<Ep, Loss>, Stop>
-    requires clock { nat.old.moment ≤ now.0 }
-    ensures crosses { IfOk result (λ src. (lab : Lab) (H : List Full) (k : ℕ) (passed : List Passing) → IsNatWith lab H k passed nat.old
-        → (src ≡ or_loss failing (crossing_unless failing lab H now.0 to (k ∷ []) inside passed).leaves)
-        × IsNatWith lab H k (crossing_unless failing lab H now.0 to (k ∷ []) inside passed).passed nat.new) }
+    requires nat { is_nat (node_at nats.old.topology from.nat) ≡ true }
+    requires clock { nats.old.moment ≤ now.0 }
+    ensures crosses { IfOk result (λ src. (lab : Lab) (H : List Full) (passed : List Passing) → AreNatsWith lab H passed nats.old
+        → Crossed lab H (crossing_unless failing lab H now.0 to (way_out lab.chain from.nat) from.inside passed) failing src nats.new) }
     ensures needs { IfErr result (λ stop. stop ≡ Stop.NoMemory) }
-    ensures moment { nat.new.moment ≤ now.0 }
+    ensures same { nats.new ≡ record nats.old { moment = nats.new.moment; nats = nats.new.nats } }
+    ensures clock { nats.new.moment ≤ now.0 }
 {
     if failing {
         return Ok(Err(Loss::Fault));
     }
-    cross(nat, now, inside, to)
+    cross(nats, now, from, to)
 }
 
-/// Puts those datagrams of a step on the wire that a NAT lets out, and a mark for each into `marks`. The send of one
-/// number fails. At a stop some of them are there, and the NAT may know of them.
+/// Puts those datagrams of a step on the wire that the NATs on their way let out, and a mark for each into `marks`. The
+/// send of one number fails. At a stop some of them are there.
 fn put_through(
     wire: &mut Wire,
-    nat: &mut Nat,
+    nats: &mut Chains<'_>,
     sender: Sender,
-    inside: Ep,
+    from: ClientEnd,
     step: &Step,
     marks: &mut Marks,
 ) -> Result<(), Stop>
     requires none { marks.old ≡ [] }
-    requires clock { nat.old.moment ≤ sender.now.0 }
-    ensures puts { (lab : Lab) (H : List Full) (k : ℕ) → IsNatWith lab H k [] nat.old
-        → Puts wire.old wire.new [] marks.new (by_way lab H sender.now.0 (k ∷ []) inside sender.fails 0 [] step.now.sends).made result }
-    ensures stands { OnOk result ((lab : Lab) (H : List Full) (k : ℕ) → IsNatWith lab H k [] nat.old
-        → IsNatWith lab H k (by_way lab H sender.now.0 (k ∷ []) inside sender.fails 0 [] step.now.sends).passed nat.new) }
-    ensures moment { nat.new.moment ≤ sender.now.0 }
+    requires nat { is_nat (node_at nats.old.topology from.nat) ≡ true }
+    requires clock { nats.old.moment ≤ sender.now.0 }
+    ensures puts { (lab : Lab) (H : List Full) → AreNatsWith lab H [] nats.old
+        → Puts wire.old wire.new [] marks.new
+        (by_way lab H sender.now.0 (way_out lab.chain from.nat) from.inside sender.fails 0 [] step.now.sends).made result }
+    ensures knows { OnOk result ((lab : Lab) (H : List Full) → AreNatsWith lab H [] nats.old
+        → AreNatsWith lab H (by_way lab H sender.now.0 (way_out lab.chain from.nat) from.inside sender.fails 0 [] step.now.sends).passed nats.new) }
+    ensures same { nats.new ≡ record nats.old { moment = nats.new.moment; nats = nats.new.nats } }
+    ensures clock { nats.new.moment ≤ sender.now.0 }
     ensures err { OnErr result (Extends wire.old wire.new) }
 {
     for i in 0..step.count() {
         let (_, to, bytes) = step.send(i);
         let failing = is_failing(sender.fails, i);
-        let src = cross_unless(failing, nat, sender.now, inside, to)?;
+        let src = cross_unless(failing, nats, sender.now, from, to)?;
         wire.send(src, to, bytes, marks)?;
     }
     Ok(())
@@ -203,7 +220,7 @@ fn put_own(
 /// a stop some of it is there.
 fn put_all(
     sender: Sender,
-    nodes: &mut Vec<PlayedNode>,
+    nats: &mut Chains<'_>,
     wire: &mut Wire,
     step: &Step,
     packet: Option<SixPacket>,
@@ -211,15 +228,14 @@ fn put_all(
 ) -> Result<(), Stop>
     requires none { marks.old ≡ [] }
     requires short { IfSome packet (λ six. length six.bytes ≤ DATAGRAM_MAX) }
-    requires ready { AreReady sender.now.0 nodes.old.items }
-    requires nat { HasItsNat sender.outlet nodes.old.items }
-    ensures ready { AreReady sender.now.0 nodes.new.items }
-    ensures rows { map row_of nodes.new.items ≡ map row_of nodes.old.items }
-    ensures elsewhere { (k : ℕ) → (GoesThrough sender.outlet k → ⊥) → slice_get nodes.new.items k ≡ slice_get nodes.old.items k }
-    ensures puts { (d : Draws) (t : TopologyState) (H : List Full) → KeepsItsNat (flat_lab d t) H [] sender.outlet nodes.old.items
-        → Puts wire.old wire.new [] marks.new (emitted_by (flat_lab d t) H sender packet step.now.sends).made result }
-    ensures nat { OnOk result ((d : Draws) (t : TopologyState) (H : List Full) → KeepsItsNat (flat_lab d t) H [] sender.outlet nodes.old.items
-        → KeepsItsNat (flat_lab d t) H (emitted_by (flat_lab d t) H sender packet step.now.sends).passed sender.outlet nodes.new.items) }
+    requires nat { HasItsNat sender.outlet nats.old.topology }
+    requires clock { nats.old.moment ≤ sender.now.0 }
+    ensures puts { (lab : Lab) (H : List Full) → AreNatsWith lab H [] nats.old
+        → Puts wire.old wire.new [] marks.new (emitted_by lab H sender packet step.now.sends).made result }
+    ensures knows { OnOk result ((lab : Lab) (H : List Full) → AreNatsWith lab H [] nats.old
+        → AreNatsWith lab H (emitted_by lab H sender packet step.now.sends).passed nats.new) }
+    ensures same { nats.new ≡ record nats.old { moment = nats.new.moment; nats = nats.new.nats } }
+    ensures clock { nats.new.moment ≤ sender.now.0 }
     ensures err { OnErr result (Extends wire.old wire.new) }
 {
     match sender.outlet {
@@ -229,11 +245,8 @@ fn put_all(
             put_own(wire, from, sender.fails, step, packet, marks)
         }
         Outlet::Through { nat, inside } => {
-            let node = &mut nodes[usize::from(nat)];
-            let PlayedNode::Nat { nat, .. } = node else {
-                unreachable!()
-            };
-            put_through(wire, nat, sender, inside, step, marks)
+            let from = ClientEnd { nat, inside };
+            put_through(wire, nats, sender, from, step, marks)
         }
     }
 }
@@ -241,7 +254,7 @@ fn put_all(
 /// Puts what a node sends on the wire, and the marks into `marks`. At a stop nothing is put on the wire.
 pub fn emit(
     sender: Sender,
-    nodes: &mut Vec<PlayedNode>,
+    nats: &mut Chains<'_>,
     wire: &mut Wire,
     step: &Step,
     packet: Option<SixPacket>,
@@ -249,19 +262,18 @@ pub fn emit(
 ) -> Result<(), Stop>
     requires none { marks.old ≡ [] }
     requires short { IfSome packet (λ six. length six.bytes ≤ DATAGRAM_MAX) }
-    requires ready { AreReady sender.now.0 nodes.old.items }
-    requires nat { HasItsNat sender.outlet nodes.old.items }
-    ensures ready { AreReady sender.now.0 nodes.new.items }
-    ensures rows { map row_of nodes.new.items ≡ map row_of nodes.old.items }
-    ensures elsewhere { (k : ℕ) → (GoesThrough sender.outlet k → ⊥) → slice_get nodes.new.items k ≡ slice_get nodes.old.items k }
-    ensures puts { (d : Draws) (t : TopologyState) (H : List Full) → KeepsItsNat (flat_lab d t) H [] sender.outlet nodes.old.items
-        → Puts wire.old wire.new [] marks.new (emitted_by (flat_lab d t) H sender packet step.now.sends).made result }
-    ensures nat { OnOk result ((d : Draws) (t : TopologyState) (H : List Full) → KeepsItsNat (flat_lab d t) H [] sender.outlet nodes.old.items
-        → KeepsItsNat (flat_lab d t) H (emitted_by (flat_lab d t) H sender packet step.now.sends).passed sender.outlet nodes.new.items) }
+    requires nat { HasItsNat sender.outlet nats.old.topology }
+    requires clock { nats.old.moment ≤ sender.now.0 }
+    ensures puts { (lab : Lab) (H : List Full) → AreNatsWith lab H [] nats.old
+        → Puts wire.old wire.new [] marks.new (emitted_by lab H sender packet step.now.sends).made result }
+    ensures knows { OnOk result ((lab : Lab) (H : List Full) → AreNatsWith lab H [] nats.old
+        → AreNatsWith lab H (emitted_by lab H sender packet step.now.sends).passed nats.new) }
+    ensures same { nats.new ≡ record nats.old { moment = nats.new.moment; nats = nats.new.nats } }
+    ensures clock { nats.new.moment ≤ sender.now.0 }
     ensures err { OnErr result (wire.new ≡ wire.old) }
 {
     let len = wire.len();
-    match put_all(sender, nodes, wire, step, packet, marks) {
+    match put_all(sender, nats, wire, step, packet, marks) {
         Ok(()) => Ok(()),
         Err(stop) => {
             wire.cut(len);

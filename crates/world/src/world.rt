@@ -4,13 +4,14 @@ ghost use Rattle.events.specs.declared.event.Event.TheVariants as event;
 ghost use Rattle.events.specs.declared.event.TheConstants.{ADVANCE_MAX_MS};
 ghost use Rattle.td_base.specs.declared.datagram.TheConstants.{DATAGRAM_MAX};
 ghost use Rattle.events.specs.Events.{IsEvent};
+ghost use Rattle.td_chain.specs.Chains as chains;
 ghost use Rattle.history.specs.Full.{Full, bytes_of};
-ghost use Rattle.legal.specs.Lab.{Draws, flat_lab, draws};
+ghost use Rattle.legal.specs.Lab.{Draws, draws};
 ghost use Rattle.legal.specs.Laws.{may_go_on};
 ghost use Rattle.legal.specs.Next.{next_of};
 ghost use Rattle.world.specs.declared.wire.TheConstants.{ENTRIES_MAX};
 ghost use Rattle.world.specs.WireEntry.{item_lent};
-ghost use Rattle.world.specs.World.{StandsFor, IsAgain, EndsInTime, Steps, StopsFor, StopsAs};
+ghost use Rattle.world.specs.World.{StandsFor, IsAgain, EndsInTime, Steps, StopsFor, StopsAs, lab_in};
 ghost use Rattle.world.specs.Record.{fresh_record};
 ghost use Rattle.world.specs.Playing.{Plays, PlaysTurn, Turned, played, ended, turn_from};
 
@@ -23,6 +24,7 @@ use lab_nodes::{PlayedNode, first_nodes};
 use std::alloc::Global;
 use std::marker::Model;
 use td_base::{Millis, NoMemory};
+use td_chain::Chains;
 use teredo_node::{Fate, Step};
 use topology::Topology;
 
@@ -30,6 +32,8 @@ use topology::Topology;
 #[derive(Drop)]
 pub struct World<'a> {
     pub(crate) topology: &'a Topology,
+    // what is kept of the NATs, of which some may be behind others
+    pub(crate) nats: Chains<'a>,
     pub(crate) nodes: Vec<PlayedNode>,
     pub(crate) wire: Wire,
     pub(crate) moment: Millis,
@@ -47,15 +51,24 @@ impl<'a> Model for World<'a> {
 
     ghost Value = { WorldState };
 
-    ghost view = { λ w. state_of w.topology.now w.moment.0 w.going w.armed w.nodes.items w.wire w.stopped };
+    ghost view = { λ w. state_of w.topology.now w.nats w.moment.0 w.going w.armed w.nodes.items w.wire w.stopped };
 
-    ghost invariant = { λ w. IsWorld w.topology.now w.moment.0 w.going w.nodes.items };
+    ghost invariant = { λ w. IsWorld w.topology.now w.nats w.moment.0 w.going w.nodes.items };
 }
 
 impl<'a> World<'a> {
-    /// The nodes at moment 0, with nothing on the wire. The seed is that of the nodes' random words.
-    pub fn new(alloc: Global, topology: &'a Topology, seed: u64) -> Result<World<'a>, NoMemory>
+    /// The nodes at moment 0, with nothing on the wire. The NATs are those of the topology, and say which of them are behind
+    /// others; nothing happened to them yet. The seed is that of the nodes' random words.
+    pub fn new(
+        alloc: Global,
+        topology: &'a Topology,
+        nats: Chains<'a>,
+        seed: u64,
+    ) -> Result<World<'a>, NoMemory>
+        requires same { nats.topology ≡ topology.now }
+        requires first { (chains.StandsFor nats (λ k. [])) × (nats.moment ≡ 0) }
         ensures topology { IfOk result (λ w. w.topology ≡ topology.now) }
+        ensures chain { IfOk result (λ w. w.chain ≡ nats.entry.chain) }
         ensures stands { IfOk result (λ w. StandsFor (draws seed) w []) }
         ensures goes_on { IfOk result (λ w. w.stopped ≡ None) }
     {
@@ -63,6 +76,7 @@ impl<'a> World<'a> {
         let nodes = first_nodes(alloc, topology, seed)?;
         Ok(World {
             topology,
+            nats,
             nodes,
             wire: Wire::new(alloc),
             moment: Millis(0),
@@ -93,7 +107,7 @@ impl<'a> World<'a> {
     fn arm(&mut self, send: u8, out: &mut Record)
         requires fresh { out.old ≡ fresh_record out.old.event self.old.moment }
         ensures plays { (d : Draws) (H : List Full) → StandsFor d self.old H
-            → Plays d self.old self.new H (next_of (flat_lab d self.old.topology) H out.old.event (event.Fault send)) (Ok out.new) }
+            → Plays d self.old self.new H (next_of (lab_in d self.old) H out.old.event (event.Fault send)) (Ok out.new) }
         ensures rest { self.new ≡ record self.old { armed = Some send } }
     {
         legal::frame();
@@ -108,8 +122,9 @@ impl<'a> World<'a> {
         requires event { IsEvent self.old.topology event.now }
         requires once { may_go_on event.now ≡ false }
         ensures plays { (d : Draws) (H : List Full) → StandsFor d self.old H
-            → Plays d self.old self.new H (next_of (flat_lab d self.old.topology) H out.old.event event.now) (played result out.new) }
-        ensures rest { self.new ≡ record self.old { armed = self.new.armed; nodes = self.new.nodes; wire = self.new.wire; done = self.new.done } }
+            → Plays d self.old self.new H (next_of (lab_in d self.old) H out.old.event event.now) (played result out.new) }
+        ensures rest { self.new
+            ≡ record self.old { armed = self.new.armed; nodes = self.new.nodes; nats = self.new.nats; wire = self.new.wire; done = self.new.done } }
         ensures err { OnErr result ((self.new.wire ≡ self.old.wire) × (self.new.done ≡ self.old.done)) }
     {
         let _ = &self.nodes;
@@ -150,10 +165,11 @@ impl<'a> World<'a> {
         requires again { IsAgain self.old.going event.now }
         requires time { EndsInTime self.old.began event.now }
         ensures plays { (d : Draws) (H : List Full) → StandsFor d self.old H
-            → PlaysTurn d self.old self.new H (next_of (flat_lab d self.old.topology) H out.old.event event.now) (turn_from result out.new) }
+            → PlaysTurn d self.old self.new H (next_of (lab_in d self.old) H out.old.event event.now) (turn_from result out.new) }
         ensures turned { IfOk (turn_from result out.new) (λ turn. Turned self.old self.new event.now turn) }
         ensures time { self.new.moment ≤ self.old.began + ADVANCE_MAX_MS }
-        ensures err { OnErr result ((self.new.topology ≡ self.old.topology) × (self.new.wire ≡ self.old.wire) × (self.new.done ≡ self.old.done)) }
+        ensures err { OnErr result ((self.new.topology ≡ self.old.topology) × (self.new.chain ≡ self.old.chain)
+            × (self.new.wire ≡ self.old.wire) × (self.new.done ≡ self.old.done)) }
     {
         legal::of_its_event();
         let _ = &self.nodes;

@@ -1,10 +1,23 @@
-use Rattle.topology.specs.Chains.{after_passing}
+use Rattle.std.proofs.Common.{Ok, Err, subst}
+use Rattle.nat_kinds.specs.declared.refusal.NatRefusal.{NatRefusal}
+use Rattle.nat_kinds.specs.declared.refusal.NatRefusal.TheVariants.{Hairpin, Full}
+use Rattle.td_chain.specs.Chains.{CrossesChain}
 use Rattle.legal.specs.Past.{nat_pasts}
-use Rattle.world.proofs.Through.{lets_out}
+use Rattle.world.proofs.Through.{crossed_so}
 use Rattle.world.proofs.sender.cross.Goals as goal
 
 pub returns-in-Ok-clause-crosses : goal.returns-in-Ok-clause-crosses
-returns-in-Ok-clause-crosses c = λ lab H k passed is.
-    let gives = c.in-Ok.ensures.answer (after_passing passed (nat_pasts lab H) k) is.stands in
-    lets_out lab H k c.args.now.0 c.args.inside c.args.to passed c.args.nat.now c.outward.new.self c.in-Ok.src is c.outward.ensures.settings gives.0 gives.1
-    (c.in-Ok.ensures.stands (after_passing passed (nat_pasts lab H) k) is.stands)
+returns-in-Ok-clause-crosses c = λ lab H passed is.
+    crossed_so lab H c.args.from.nat c.args.now.0 c.args.from.inside c.args.to passed c.args.nats.now c.outward.new.self (Ok c.in-Ok.src) is c.outward.ensures.same (c.in-Ok.ensures.goes_out (nat_pasts lab H) passed is.stands)
+
+pub returns-in-Hairpin-clause-crosses : goal.returns-in-Hairpin-clause-crosses
+returns-in-Hairpin-clause-crosses c = λ lab H passed is.
+    crossed_so lab H c.args.from.nat c.args.now.0 c.args.from.inside c.args.to passed c.args.nats.now c.outward.new.self (Err Hairpin) is c.outward.ensures.same
+    (subst (λ (why : NatRefusal). CrossesChain c.args.nats.now c.outward.new.self (nat_pasts lab H) passed c.args.now.0 c.args.from.nat c.args.from.inside c.args.to (Err why)) c.in-Hairpin.is
+    (c.in-Err.ensures.goes_out (nat_pasts lab H) passed is.stands))
+
+pub returns-in-Full-clause-crosses : goal.returns-in-Full-clause-crosses
+returns-in-Full-clause-crosses c = λ lab H passed is.
+    crossed_so lab H c.args.from.nat c.args.now.0 c.args.from.inside c.args.to passed c.args.nats.now c.outward.new.self (Err Full) is c.outward.ensures.same
+    (subst (λ (why : NatRefusal). CrossesChain c.args.nats.now c.outward.new.self (nat_pasts lab H) passed c.args.now.0 c.args.from.nat c.args.from.inside c.args.to (Err why)) c.in-Full.is
+    (c.in-Err.ensures.goes_out (nat_pasts lab H) passed is.stands))

@@ -1,13 +1,12 @@
 use Rattle.std.proofs.Common.{ℕ, sym, ap, ◌∙◌}
-use Rattle.legal.specs.Lab.{flat_lab}
 use Rattle.world.specs.Wire.{front_of}
 use Rattle.world.specs.Emission.{emitted_by}
 use Rattle.world.proofs.Entered.{puts_not, cut_back}
 use Rattle.world.proofs.sender.emit.Goals as goal
 
 pub returns-in-Err-clause-puts : goal.returns-in-Err-clause-puts
-returns-in-Err-clause-puts c = λ d t H kept.
-    puts_not c.args.wire.now c.put_all.new.wire c.cut.new.self c.put_all.new.marks (emitted_by (flat_lab d t) H c.args.sender c.args.packet c.args.step.now.sends).made c.in-Err.stop (c.in-Err.ensures.puts d t H kept)
+returns-in-Err-clause-puts c = λ lab H is.
+    puts_not c.args.wire.now c.put_all.new.wire c.cut.new.self c.put_all.new.marks (emitted_by lab H c.args.sender c.args.packet c.args.step.now.sends).made c.in-Err.stop (c.in-Err.ensures.puts lab H is)
 
 pub returns-in-Err-clause-err : goal.returns-in-Err-clause-err
 returns-in-Err-clause-err c =

@@ -1,35 +1,55 @@
-use Rattle.std.proofs.Common.{Bool, subst}
+use Rattle.std.proofs.Common.{◌≡◌, Bool, true, sym, ap, subst}
 use Rattle.std.proofs.lemmas.Result.{err_from_is_err_and}
 use Rattle.teredo_node.specs.Step.{Send}
+use Rattle.topology.specs.Rows.{TopologyState}
+use Rattle.topology.specs.Named.{is_nat}
+use Rattle.topology.specs.Topology.{node_at}
+use Rattle.td_chain.specs.Chains.{ChainsState}
 use Rattle.legal.specs.Emit.{is_at_place}
-use Rattle.world.proofs.Through.{Through, Crosses, none_through, one_through, stops_through, starves_through}
+use Rattle.world.proofs.Through.{Through, Crosses, none_through, one_through, stops_through, starves_through, same_twice}
 use Rattle.world.proofs.sender.put_through.Goals as goal
 
 pub loop-i-init : goal.loop-i-init
-loop-i-init c = none_through (record { moment = c.args.sender.now.0; inside = c.args.inside; fails = c.args.sender.fails }) c.args.wire.now c.args.nat.now c.args.step.now.sends c.args.marks.now c.requires.none c.requires.clock
+loop-i-init c =
+    let w : Through = record { moment = c.args.sender.now.0; nat = c.args.from.nat; inside = c.args.from.inside; fails = c.args.sender.fails } in
+    none_through w c.args.wire.now c.args.nats.now c.args.step.now.sends c.args.marks.now c.requires.none c.requires.clock
+
+-- it leaves through the NAT that was there
+pub cross_unless-requires-clause-nat : goal.cross_unless-requires-clause-nat
+cross_unless-requires-clause-nat c =
+    let same = ap (λ (x : ChainsState). x.topology) c.loop-i.invariant.same in
+    subst (λ (t : TopologyState). is_nat (node_at t c.args.from.nat) ≡ true) (sym same) c.requires.nat
 
 pub loop-i-preserved : goal.loop-i-preserved
 loop-i-preserved c =
-    let w : Through = record { moment = c.args.sender.now.0; inside = c.args.inside; fails = c.args.sender.fails } in
+    let w : Through = record { moment = c.args.sender.now.0; nat = c.args.from.nat; inside = c.args.from.inside; fails = c.args.sender.fails } in
     let x : Send = record { side = c.send.result.0; to = c.send.result.1; bytes = c.send.result.2.now } in
-    let crosses : Crosses w (is_at_place c.loop-i.i w.fails) c.loop-i.nat c.cross_unless.new.nat x.to c.in_ok-src.src =
-    subst (λ (b : Bool). Crosses w b c.loop-i.nat c.cross_unless.new.nat x.to c.in_ok-src.src) c.is_failing-failing.ensures (record { crosses = c.in_ok-src.ensures.crosses; moment = c.cross_unless.ensures.moment }) in
-    one_through w c.args.wire.now c.args.nat.now c.args.step.now.sends c.loop-i.i x c.send.ensures.place c.loop-i.wire c.send-in-loop-i.new.self c.loop-i.nat c.cross_unless.new.nat c.loop-i.marks c.send-in-loop-i.new.marks c.in_ok-src.src c.loop-i.invariant crosses
+    let crosses : Crosses w (is_at_place c.loop-i.i w.fails) c.loop-i.nats c.cross_unless.new.nats x.to c.in_ok-src.src =
+    subst (λ (b : Bool). Crosses w b c.loop-i.nats c.cross_unless.new.nats x.to c.in_ok-src.src) c.is_failing-failing.ensures
+    (record { crosses = c.in_ok-src.ensures.crosses; same = c.cross_unless.ensures.same; clock = c.cross_unless.ensures.clock }) in
+    one_through w c.args.wire.now c.args.nats.now c.args.step.now.sends c.loop-i.i x c.send.ensures.place c.loop-i.wire c.send-in-loop-i.new.self c.loop-i.nats c.cross_unless.new.nats c.loop-i.marks c.send-in-loop-i.new.marks c.in_ok-src.src c.loop-i.invariant crosses
     (c.in_ok-send.ensures.puts x.side)
 
 pub returns-in_err-send-clause-puts : goal.returns-in_err-send-clause-puts
 returns-in_err-send-clause-puts c =
     let p = err_from_is_err_and c.from_residual-in_err-send.result c.from_residual-in_err-send.ensures.1 in
-    let w : Through = record { moment = c.args.sender.now.0; inside = c.args.inside; fails = c.args.sender.fails } in
+    let w : Through = record { moment = c.args.sender.now.0; nat = c.args.from.nat; inside = c.args.from.inside; fails = c.args.sender.fails } in
     let x : Send = record { side = c.send.result.0; to = c.send.result.1; bytes = c.send.result.2.now } in
-    let crosses : Crosses w (is_at_place c.loop-i.i w.fails) c.loop-i.nat c.cross_unless.new.nat x.to c.in_ok-src.src =
-    subst (λ (b : Bool). Crosses w b c.loop-i.nat c.cross_unless.new.nat x.to c.in_ok-src.src) c.is_failing-failing.ensures (record { crosses = c.in_ok-src.ensures.crosses; moment = c.cross_unless.ensures.moment }) in
-    rw (p.1, p.2) (stops_through w c.args.wire.now c.args.nat.now c.args.step.now.sends c.loop-i.i x c.send.ensures.place c.loop-i.wire c.send-in-loop-i.new.self c.loop-i.nat c.cross_unless.new.nat c.loop-i.marks c.send-in-loop-i.new.marks c.in_ok-src.src c.in_err-send.field-0.0 c.loop-i.invariant crosses
+    let crosses : Crosses w (is_at_place c.loop-i.i w.fails) c.loop-i.nats c.cross_unless.new.nats x.to c.in_ok-src.src =
+    subst (λ (b : Bool). Crosses w b c.loop-i.nats c.cross_unless.new.nats x.to c.in_ok-src.src) c.is_failing-failing.ensures
+    (record { crosses = c.in_ok-src.ensures.crosses; same = c.cross_unless.ensures.same; clock = c.cross_unless.ensures.clock }) in
+    rw (p.1, p.2) (stops_through w c.args.wire.now c.args.nats.now c.args.step.now.sends c.loop-i.i x c.send.ensures.place c.loop-i.wire c.send-in-loop-i.new.self c.loop-i.nats c.cross_unless.new.nats c.loop-i.marks c.send-in-loop-i.new.marks c.in_ok-src.src c.in_err-send.field-0.0 c.loop-i.invariant crosses
     (c.in_err-send.ensures.puts x.side))
+
+pub returns-in_err-send-clause-same : goal.returns-in_err-send-clause-same
+returns-in_err-send-clause-same c = same_twice c.args.nats.now c.loop-i.nats c.cross_unless.new.nats c.loop-i.invariant.same c.cross_unless.ensures.same
 
 pub returns-in_err-src-clause-puts : goal.returns-in_err-src-clause-puts
 returns-in_err-src-clause-puts c =
     let p = err_from_is_err_and c.from_residual.result c.from_residual.ensures.1 in
-    let w : Through = record { moment = c.args.sender.now.0; inside = c.args.inside; fails = c.args.sender.fails } in
+    let w : Through = record { moment = c.args.sender.now.0; nat = c.args.from.nat; inside = c.args.from.inside; fails = c.args.sender.fails } in
     let x : Send = record { side = c.send.result.0; to = c.send.result.1; bytes = c.send.result.2.now } in
-    rw (p.1, p.2, c.in_err-src.ensures.needs) (λ lab H k is. starves_through w c.args.step.now.sends c.loop-i.i x c.send.ensures.place lab H k)
+    rw (p.1, p.2, c.in_err-src.ensures.needs) (λ lab H is. starves_through w c.args.step.now.sends c.loop-i.i x c.send.ensures.place lab H)
+
+pub returns-in_err-src-clause-same : goal.returns-in_err-src-clause-same
+returns-in_err-src-clause-same c = same_twice c.args.nats.now c.loop-i.nats c.cross_unless.new.nats c.loop-i.invariant.same c.cross_unless.ensures.same

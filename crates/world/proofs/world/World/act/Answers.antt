@@ -6,7 +6,7 @@ use Rattle.history.specs.declared.act.Act.{Act}
 use Rattle.events.specs.declared.event.Event.{Event}
 use Rattle.history.specs.declared.records.Record.{Record}
 use Rattle.history.specs.Full.{Full}
-use Rattle.legal.specs.Lab.{Draws, flat_lab}
+use Rattle.legal.specs.Lab.{Draws}
 use Rattle.legal.specs.Past.{at_nat, arms, armed_after}
 use Rattle.teredo_node.specs.Sends.{has_any}
 use Rattle.legal.specs.Next.{numbered}
@@ -15,12 +15,13 @@ use Rattle.world.specs.declared.prompt.Prompt.{Prompt}
 use Rattle.world.specs.Prompt.{IsPrompt, done_by}
 use Rattle.world.specs.Wire.{WireState}
 use Rattle.world.specs.Record.{fresh_record, with_deed}
-use Rattle.world.specs.World.{WorldState, NeedsMemory, IsCause, state_of}
+use Rattle.world.specs.Emission.{HasItsNat}
+use Rattle.world.specs.World.{WorldState, NeedsMemory, IsCause, state_of, lab_in}
 use Rattle.world.specs.Playing.{prompted, Finds, Plays}
 use Rattle.lab_nodes.specs.PlayedNode.{row_of}
 use Rattle.world.proofs.Routes.{row_at, same_length}
 use Rattle.world.proofs.Sent.{has_its_nat}
-use Rattle.world.proofs.Acting.{Doing, IsCall, IsDoing, Asking, IsAsked, keeps_nat, IsSent, acted_plays, wants_memory, acted_stops}
+use Rattle.world.proofs.Acting.{Doing, IsCall, IsDoing, Asking, IsAsked, IsSent, acted_plays, wants_memory, acted_stops}
 use Rattle.world.proofs.world.World.act.Goals as goal
 
 -- what is so of the record of an act
@@ -32,7 +33,7 @@ record Deed : Type 0 where
 
 -- for each history that a world finds and each event
 abbrev OfEach : Deed → (Draws → WorldState → List Full → Full → Type 0) → WorldState → Type 0
-OfEach a P w = (d : Draws) (H : List Full) → Finds d w H → (e : Event) → at_nat (flat_lab d w.topology) e a.act ≡ [] → arms e ≡ None → (node : Node) → node_at w.topology a.number ≡ Some node
+OfEach a P w = (d : Draws) (H : List Full) → Finds d w H → (e : Event) → at_nat (lab_in d w) e a.act ≡ [] → arms e ≡ None → (node : Node) → node_at w.topology a.number ≡ Some node
     → P d w H (prompted d w H (numbered a.index e) a.act a.prompt a.number node)
 
 pub returns-in_err-outlet-clause-plays : goal.returns-in_err-outlet-clause-plays
@@ -40,7 +41,7 @@ returns-in_err-outlet-clause-plays c =
     let w = c.self.inside in
     let p = err_from_is_err_and c.from_residual.result c.from_residual.ensures.1 in
     let a : Deed = record { index = c.args.out.now.event; act = c.args.act; prompt = c.args.prompt; number = c.args.number } in
-    let old = state_of w.topology.now w.moment.0 w.going w.armed w.nodes.items w.wire w.stopped in
+    let old = state_of w.topology.now w.nats w.moment.0 w.going w.armed w.nodes.items w.wire w.stopped in
     let call : Call = record { node = c.args.number; now = w.moment; input = c.input_of.result } in
     let is_call : IsCall old c.args.prompt call = record { at = refl; dst = c.input_of.ensures.dst; input = c.input_of.ensures.input } in
     let did = c.in_err-outlet.ensures.answers in
@@ -54,7 +55,7 @@ returns-in_err-emit-clause-plays c =
     let w = c.self.inside in
     let p = err_from_is_err_and c.from_residual-in_err-emit.result c.from_residual-in_err-emit.ensures.1 in
     let a : Deed = record { index = c.args.out.now.event; act = c.args.act; prompt = c.args.prompt; number = c.args.number } in
-    let old = state_of w.topology.now w.moment.0 w.going w.armed w.nodes.items w.wire w.stopped in
+    let old = state_of w.topology.now w.nats w.moment.0 w.going w.armed w.nodes.items w.wire w.stopped in
     let call : Call = record { node = c.args.number; now = w.moment; input = c.input_of.result } in
     let is_call : IsCall old c.args.prompt call = record { at = refl; dst = c.input_of.ensures.dst; input = c.input_of.ensures.input } in
     let did = c.in_ok-outlet.ensures.answers in
@@ -64,15 +65,15 @@ returns-in_err-emit-clause-plays c =
     let x : Doing = record { draws = d; world = old; history = H; event = numbered c.args.out.now.event e; act = c.args.act; prompt = c.args.prompt; call = call; before = did.before } in
     let is : IsDoing x = record { finds = s; rules = c.self.invariant.rules; law = c.rows_keep_rules.ensures; quiet = quiet; mild = mild; was = did.was } in
     let asked : IsAsked x y = record { answers = did.change; is = did.is; elsewhere = did.elsewhere; rows = did.rows } in
-    acted_stops x y c.emit.new.wire c.emit.new.marks why node is_call is asked here (c.in_err-emit.ensures.puts d w.topology.now H (keeps_nat x y is asked))))
+    acted_stops x y c.emit.new.wire c.emit.new.marks why node is_call is asked here (c.in_err-emit.ensures.puts (lab_in d old) H s.nats)))
 
 pub returns-clause-plays : goal.returns-clause-plays
 returns-clause-plays c =
     let w = c.self.inside in
     let index = c.args.out.now.event in
     let a : Deed = record { index = index; act = c.args.act; prompt = c.args.prompt; number = c.args.number } in
-    let old = state_of w.topology.now w.moment.0 w.going w.armed w.nodes.items w.wire w.stopped in
-    let new : Option ℕ → WireState → WorldState = λ a z. state_of w.topology.now w.moment.0 w.going a c.emit.new.nodes.items z w.stopped in
+    let old = state_of w.topology.now w.nats w.moment.0 w.going w.armed w.nodes.items w.wire w.stopped in
+    let new : Option ℕ → WireState → WorldState = λ a z. state_of w.topology.now c.emit.new.nats w.moment.0 w.going a c.ask.new.nodes.items z w.stopped in
     let marks = c.emit.new.marks in
     let call : Call = record { node = c.args.number; now = w.moment; input = c.input_of.result } in
     let is_call : IsCall old c.args.prompt call = record { at = refl; dst = c.input_of.ensures.dst; input = c.input_of.ensures.input } in
@@ -87,26 +88,25 @@ returns-clause-plays c =
     let x : Doing = record { draws = d; world = old; history = H; event = numbered index e; act = c.args.act; prompt = c.args.prompt; call = call; before = did.before } in
     let is : IsDoing x = record { finds = s; rules = c.self.invariant.rules; law = c.rows_keep_rules.ensures; quiet = quiet; mild = mild; was = did.was } in
     let asked : IsAsked x y = record { answers = did.change; is = did.is; elsewhere = did.elsewhere; rows = did.rows } in
-    let kept = keeps_nat x y is asked in
-    let sent : IsSent x y c.emit.new.nodes.items c.emit.new.wire marks = record {
-      enters = c.in_ok-emit.ensures.puts d w.topology.now H kept;
-      nat = c.in_ok-emit.ensures.nat d w.topology.now H kept;
-      elsewhere = c.emit.ensures.elsewhere;
-      rows = c.emit.ensures.rows;
+    let sent : IsSent x y c.emit.new.nats c.emit.new.wire marks = record {
+      enters = c.in_ok-emit.ensures.puts (lab_in d old) H s.nats;
+      knows = c.in_ok-emit.ensures.knows (lab_in d old) H s.nats;
+      rows = c.topology-rows.ensures.rows;
     } in
     let r = prompted d old H (numbered index e) c.args.act c.args.prompt c.args.number node in
     let armed : Option ℕ = armed_after (has_any c.ask.new.step.sends) w.armed in
     subst (λ (o : Option ℕ). Plays d old (new o c.remember.new.wire) H r (Ok (filled c.say_step.new.out))) (sym c.still_armed-self-inside.ensures)
     (subst (λ (z : WireState). Plays d old (new armed z) H r (Ok (filled c.say_step.new.out))) (sym c.remember.ensures)
     (subst (λ (o : Record). Plays d old (new armed (record c.emit.new.wire { done = done_by c.args.prompt c.emit.new.wire.done })) H r (Ok (filled o))) (sym said)
-    (acted_plays c.frame.ensures x y c.emit.new.nodes.items c.emit.new.wire marks is_call there node here is asked sent))))
+    (acted_plays c.frame.ensures x y c.emit.new.nats c.emit.new.wire marks is_call there node here is asked sent))))
 
 pub emit-requires-clause-nat : goal.emit-requires-clause-nat
 emit-requires-clause-nat c =
     let w = c.self.inside in
     let did = c.in_ok-outlet.ensures.answers in
     let was = row_at w.topology.now w.nodes.items c.args.number did.before c.self.invariant.rows did.was in
-    has_its_nat c.rows_keep_rules.ensures w.topology.now c.args.number (row_of did.before) c.ask.new.nodes.items c.in_ok-outlet.field-0.outlet c.self.invariant.rules (did.rows ∙ c.self.invariant.rows) was did.change.outlet
+    subst (HasItsNat c.in_ok-outlet.field-0.outlet) (sym c.self.invariant.same)
+    (has_its_nat c.rows_keep_rules.ensures w.topology.now c.args.number (row_of did.before) c.in_ok-outlet.field-0.outlet c.self.invariant.rules was did.change.outlet)
 
 pub invariant_of-self : goal.invariant_of-self
 invariant_of-self c =
@@ -115,6 +115,8 @@ invariant_of-self c =
     let long = same_length c.ask.new.nodes.items c.self.inside.nodes.items is.rows in
     record {
       rules = c.self.invariant.rules;
+      same = c.self.invariant.same;
+      clock = c.self.invariant.clock;
       rows = is.rows ∙ c.self.invariant.rows;
       few = omega (arith, few, long);
       ready = c.in_err-outlet.ensures.ready;

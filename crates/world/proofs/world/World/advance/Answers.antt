@@ -5,9 +5,8 @@ use Rattle.events.specs.declared.event.Event.TheVariants as event
 use Rattle.topology.specs.Topology.{nodes}
 use Rattle.legal.specs.Next.{plain, least_due}
 use Rattle.lab_nodes.specs.declared.due.Due.{Due}
-use Rattle.legal.specs.Lab.{flat_lab}
 use Rattle.world.specs.Record.{fresh_record, with_deed}
-use Rattle.world.specs.World.{WorldState, IsAgain}
+use Rattle.world.specs.World.{WorldState, IsAgain, lab_in}
 use Rattle.world.specs.Playing.{NoneIsDue}
 use Rattle.world.proofs.Ticking.{passes, ticks, tick_stops, due_is_there, in_going}
 use Rattle.world.proofs.world.World.advance.Goals as goal
@@ -37,10 +36,10 @@ pub returns-in_default-clause-plays : goal.returns-in_default-clause-plays
 returns-in_default-clause-plays c = λ d H s.
     let w = c.args.self.now in
     let end : c.began-began.result.0 + c.args.ms ≡ w.began + c.args.ms = ap (λ (m : ℕ). m + c.args.ms) c.began-began.ensures in
-    let past = subst (λ (m : ℕ). NoneIsDue m (least_due (flat_lab d w.topology) H 0 (nodes w.topology))) end (c.in_default.ensures.none d H s) in
+    let past = subst (λ (m : ℕ). NoneIsDue m (least_due (lab_in d w) H 0 (nodes w.topology))) end (c.in_default.ensures.none d H s) in
     let same = c.pass.ensures.rest in
     let turn = passes c.frame.ensures d w c.pass.new.self H c.args.out.now.event c.args.ms s past
-    (ap (λ (x : WorldState). x.moment) same ∙ end, ap (λ (x : WorldState). x.nodes) same, ap (λ (x : WorldState). x.wire) same, ap (λ (x : WorldState). x.done) same, ap (λ (x : WorldState). x.armed) same) in
+    (ap (λ (x : WorldState). x.moment) same ∙ end, ap (λ (x : WorldState). x.nodes) same, ap (λ (x : WorldState). x.nats) same, ap (λ (x : WorldState). x.wire) same, ap (λ (x : WorldState). x.done) same, ap (λ (x : WorldState). x.armed) same) in
     (c.pass.ensures.record_is ∙ ap (λ (m : ℕ). with_deed (fresh_record c.args.out.now.event m) (plain verb.Advance) None fate.Done) end ∙ turn.0, turn.1, turn.2)
 
 pub returns-in-Ok-clause-plays : goal.returns-in-Ok-clause-plays
@@ -51,7 +50,7 @@ returns-in-Ok-clause-plays c = λ d H s.
     let moment : due.tick.moment ≡ c.in-Some.due.moment.0 = ap (λ (y : Due). y.moment.0) due.is in
     let before = c.in-Some.ensures.early in
     ticks d w c.tick.new.self H c.args.out.now.event c.args.ms due.tick c.tick.new.out s due.least (omega (arith, end, before, moment))
-    (c.in-Ok.ensures.plays d H s (event.Advance c.args.ms) refl refl due.tick due.is (due_is_there (flat_lab d w.topology) H due.tick due.least))
+    (c.in-Ok.ensures.plays d H s (event.Advance c.args.ms) refl refl due.tick due.is (due_is_there (lab_in d w) H due.tick due.least))
 
 pub returns-in-Err-clause-plays : goal.returns-in-Err-clause-plays
 returns-in-Err-clause-plays c = λ d H s.
@@ -61,4 +60,4 @@ returns-in-Err-clause-plays c = λ d H s.
     let moment : due.tick.moment ≡ c.in-Some.due.moment.0 = ap (λ (y : Due). y.moment.0) due.is in
     let before = c.in-Some.ensures.early in
     tick_stops d w H c.args.out.now.event c.args.ms due.tick c.in-Err.stop s due.least (omega (arith, end, before, moment))
-    (c.in-Err.ensures.plays d H s (event.Advance c.args.ms) refl refl due.tick due.is (due_is_there (flat_lab d w.topology) H due.tick due.least))
+    (c.in-Err.ensures.plays d H s (event.Advance c.args.ms) refl refl due.tick due.is (due_is_there (lab_in d w) H due.tick due.least))

@@ -1,22 +1,20 @@
 use Rattle.std.proofs.Common.{◌≡◌, ◌<◌, length, List, [], Some, None, Ok, sym, ap, subst, ◌∙◌}
 use Rattle.std.specs.Prelude.{slice_get, option_map}
 use Rattle.teredo_node.specs.declared.fate.Fate.TheVariants as fate
-use Rattle.topology.specs.Topology.{node_at}
+use Rattle.topology.specs.Topology.{nodes, node_at}
 use Rattle.events.specs.declared.event.Event.{Event}
 use Rattle.history.specs.declared.act.Act.TheVariants as act
 use Rattle.history.specs.Full.{Full}
-use Rattle.legal.specs.Lab.{Draws, flat_lab}
+use Rattle.legal.specs.Lab.{Draws, lab_on}
 use Rattle.legal.specs.Past.{forgotten, arms}
 use Rattle.legal.specs.Emit.{reaches, reach_node, route}
 use Rattle.legal.specs.Next.{numbered}
 use Rattle.world.specs.Wire.{WireState}
 use Rattle.world.specs.WireEntry.{item_lent}
 use Rattle.world.specs.Route.{by_route, IsThere}
-use Rattle.lab_nodes.specs.declared.played_node.PlayedNode.{PlayedNode}
-use Rattle.lab_nodes.specs.PlayedNode.{NodesOf}
-use Rattle.world.proofs.Routes.{there_within}
+use Rattle.world.proofs.Routes.{there_at, within_as}
 use Rattle.world.specs.Record.{fresh_record, with_deed}
-use Rattle.world.specs.World.{WorldState, StandsFor, state_of}
+use Rattle.world.specs.World.{WorldState, StandsFor, state_of, lab_in}
 use Rattle.world.specs.Playing.{Plays, played}
 use Rattle.world.proofs.Answered as answered
 use Rattle.world.proofs.Answered.{Delivery, IsDelivery, record_in}
@@ -25,30 +23,28 @@ use Rattle.world.proofs.world.World.deliver.Goals as goal
 pub returns-in-Astray-clause-plays : goal.returns-in-Astray-clause-plays
 returns-in-Astray-clause-plays c =
     let w = c.self.inside in
-    let old = state_of w.topology.now w.moment.0 w.going w.armed w.nodes.items w.wire w.stopped in
+    let old = state_of w.topology.now w.nats w.moment.0 w.going w.armed w.nodes.items w.wire w.stopped in
     let item = item_lent c.in-Some.entry in
     let there : slice_get w.wire.items c.args.number ≡ Some item = sym c.get.ensures.lent ∙ ap (λ o. option_map item_lent o) c.in-Some.is in
     let x : Draws → List Full → Event → Delivery = λ d H e. record { draws = d; world = old; history = H; event = numbered c.args.out.now.event e; number = c.args.number; item = item } in
-    let is : (d : Draws) (H : List Full) (e : Event) → StandsFor d old H → forgotten (flat_lab d w.topology.now) e ≡ [] → arms e ≡ None → IsDelivery (x d H e) = λ d H e s keeps mild. record { stands = s; there = there; within = c.in-Some.ensures.marked; keeps = keeps; mild = mild } in
-    let nodes : (d : Draws) (H : List Full) → StandsFor d old H → NodesOf (flat_lab d w.topology.now) c.as_slice.result.now H = λ d H s. rw (c.as_slice.ensures.value) s.nodes in
+    let is : (d : Draws) (H : List Full) (e : Event) → StandsFor d old H → forgotten (lab_on d w.topology.now w.nats.chain) e ≡ [] → arms e ≡ None → IsDelivery (x d H e) = λ d H e s keeps mild. record { stands = s; there = there; within = c.in-Some.ensures.marked; keeps = keeps; mild = mild } in
     let fresh : c.args.out.now ≡ fresh_record c.args.out.now.event w.moment.0 = c.requires.fresh ∙ ap (λ (x : WorldState). fresh_record c.args.out.now.event x.moment) (sym c.self.view_is) in
     rw (← c.self.view_is, c.say-in-Astray.ensures, fresh) (λ d H s e keeps mild.
-    let goes = sym (c.route_of.ensures.route d H (nodes d H s)) ∙ ap (by_route w.topology.now) c.in-Astray.is in
-    subst (λ (z : WireState). Plays d old (state_of w.topology.now w.moment.0 w.going w.armed w.nodes.items z w.stopped) H (record_in (x d H e)) (Ok (with_deed (fresh_record c.args.out.now.event w.moment.0) (act.Deliver c.args.number) None fate.Nowhere))) (sym c.set_delivered.ensures) (answered.strays c.frame.ensures (x d H e) (is d H e s keeps mild) goes))
+    let goes = sym (c.route_of.ensures.route d H s.nats) ∙ ap (by_route w.topology.now) c.in-Astray.is in
+    subst (λ (z : WireState). Plays d old (state_of w.topology.now w.nats w.moment.0 w.going w.armed w.nodes.items z w.stopped) H (record_in (x d H e)) (Ok (with_deed (fresh_record c.args.out.now.event w.moment.0) (act.Deliver c.args.number) None fate.Nowhere))) (sym c.set_delivered.ensures) (answered.strays c.frame.ensures (x d H e) (is d H e s keeps mild) goes))
 
 pub returns-in-Closed-clause-plays : goal.returns-in-Closed-clause-plays
 returns-in-Closed-clause-plays c =
     let w = c.self.inside in
-    let old = state_of w.topology.now w.moment.0 w.going w.armed w.nodes.items w.wire w.stopped in
+    let old = state_of w.topology.now w.nats w.moment.0 w.going w.armed w.nodes.items w.wire w.stopped in
     let item = item_lent c.in-Some.entry in
     let there : slice_get w.wire.items c.args.number ≡ Some item = sym c.get.ensures.lent ∙ ap (λ o. option_map item_lent o) c.in-Some.is in
     let x : Draws → List Full → Event → Delivery = λ d H e. record { draws = d; world = old; history = H; event = numbered c.args.out.now.event e; number = c.args.number; item = item } in
-    let is : (d : Draws) (H : List Full) (e : Event) → StandsFor d old H → forgotten (flat_lab d w.topology.now) e ≡ [] → arms e ≡ None → IsDelivery (x d H e) = λ d H e s keeps mild. record { stands = s; there = there; within = c.in-Some.ensures.marked; keeps = keeps; mild = mild } in
-    let nodes : (d : Draws) (H : List Full) → StandsFor d old H → NodesOf (flat_lab d w.topology.now) c.as_slice.result.now H = λ d H s. rw (c.as_slice.ensures.value) s.nodes in
+    let is : (d : Draws) (H : List Full) (e : Event) → StandsFor d old H → forgotten (lab_on d w.topology.now w.nats.chain) e ≡ [] → arms e ≡ None → IsDelivery (x d H e) = λ d H e s keeps mild. record { stands = s; there = there; within = c.in-Some.ensures.marked; keeps = keeps; mild = mild } in
     let fresh : c.args.out.now ≡ fresh_record c.args.out.now.event w.moment.0 = c.requires.fresh ∙ ap (λ (x : WorldState). fresh_record c.args.out.now.event x.moment) (sym c.self.view_is) in
     rw (← c.self.view_is, c.say-in-Closed.ensures, fresh) (λ d H s e keeps mild.
-    let goes = sym (c.route_of.ensures.route d H (nodes d H s)) ∙ ap (by_route w.topology.now) c.in-Closed.is in
-    subst (λ (z : WireState). Plays d old (state_of w.topology.now w.moment.0 w.going w.armed w.nodes.items z w.stopped) H (record_in (x d H e)) (Ok (with_deed (fresh_record c.args.out.now.event w.moment.0) (act.Deliver c.args.number) (Some c.in-Closed.nat) fate.NatClosed))) (sym c.set_delivered-in-Closed.ensures) (answered.shut_out c.frame.ensures (x d H e) c.in-Closed.nat (is d H e s keeps mild) goes))
+    let goes = sym (c.route_of.ensures.route d H s.nats) ∙ ap (by_route w.topology.now) c.in-Closed.is in
+    subst (λ (z : WireState). Plays d old (state_of w.topology.now w.nats w.moment.0 w.going w.armed w.nodes.items z w.stopped) H (record_in (x d H e)) (Ok (with_deed (fresh_record c.args.out.now.event w.moment.0) (act.Deliver c.args.number) (Some c.in-Closed.nat) fate.NatClosed))) (sym c.set_delivered-in-Closed.ensures) (answered.shut_out c.frame.ensures (x d H e) c.in-Closed.nat (is d H e s keeps mild) goes))
 
 pub returns-in-Reaches-clause-plays : goal.returns-in-Reaches-clause-plays
 returns-in-Reaches-clause-plays c = λ d H s e keeps mild.
@@ -64,20 +60,24 @@ returns-in-Reaches-clause-plays c = λ d H s e keeps mild.
       keeps = keeps;
       mild = mild;
     } in
-    let before : StandsFor d (state_of w.topology.now w.moment.0 w.going w.armed w.nodes.items w.wire w.stopped) H = subst (λ (z : WorldState). StandsFor d z H) (sym same) s in
-    let nodes : NodesOf (flat_lab d w.topology.now) c.as_slice.result.now H = rw (c.as_slice.ensures.value) before.nodes in
-    let within : c.in-Reaches.node < length w.nodes.items = subst (λ (l : List PlayedNode). c.in-Reaches.node < length l) c.as_slice.ensures.value (subst (IsThere c.as_slice.result.now) c.in-Reaches.is c.route_of.ensures.there) in
-    let here = there_within w.topology.now w.nodes.items c.in-Reaches.node c.self.invariant.rows within in
-    let goes : route (flat_lab d w.topology.now) H w.moment.0 item ≡ reaches c.in-Reaches.node here.0 =
-    sym (c.route_of.ensures.route d H nodes) ∙ ap (by_route w.topology.now) c.in-Reaches.is ∙ ap (reach_node c.in-Reaches.node) here.1 in
+    let before : StandsFor d (state_of w.topology.now w.nats w.moment.0 w.going w.armed w.nodes.items w.wire w.stopped) H = subst (λ (z : WorldState). StandsFor d z H) (sym same) s in
+    let here = there_at w.topology.now c.in-Reaches.node (subst (IsThere w.topology.now) c.in-Reaches.is c.route_of.ensures.there) in
+    let goes : route (lab_on d w.topology.now w.nats.chain) H w.moment.0 item ≡ reaches c.in-Reaches.node here.0 =
+    sym (c.route_of.ensures.route d H before.nats) ∙ ap (by_route w.topology.now) c.in-Reaches.is ∙ ap (reach_node c.in-Reaches.node) here.1 in
     answered.taken x c.act.new.self (played c.act.result c.act.new.out) c.in-Reaches.node here.0 is
-    (subst (λ (z : WorldState). route (flat_lab d z.topology) H z.moment item ≡ reaches c.in-Reaches.node here.0) same goes)
-    (c.act.ensures.plays d H (record { nodes = s.nodes; wire = s.wire; armed = s.armed }) e keeps mild here.0 (subst (λ (z : WorldState). node_at z.topology c.in-Reaches.node ≡ Some here.0) same here.1))
+    (subst (λ (z : WorldState). route (lab_in d z) H z.moment item ≡ reaches c.in-Reaches.node here.0) same goes)
+    (c.act.ensures.plays d H (record { nodes = s.nodes; nats = s.nats; wire = s.wire; armed = s.armed }) e keeps mild here.0 (subst (λ (z : WorldState). node_at z.topology c.in-Reaches.node ≡ Some here.0) same here.1))
 
 pub returns-in_default-clause-plays : goal.returns-in_default-clause-plays
 returns-in_default-clause-plays c =
     let w = c.self.inside in
-    let old = state_of w.topology.now w.moment.0 w.going w.armed w.nodes.items w.wire w.stopped in
+    let old = state_of w.topology.now w.nats w.moment.0 w.going w.armed w.nodes.items w.wire w.stopped in
     let none : slice_get w.wire.items c.args.number ≡ None = sym c.get.ensures.lent ∙ ap (λ o. option_map item_lent o) c.in_default.is in
     let fresh : c.args.out.now ≡ fresh_record c.args.out.now.event w.moment.0 = c.requires.fresh ∙ ap (λ (x : WorldState). fresh_record c.args.out.now.event x.moment) (sym c.self.view_is) in
     rw (← c.self.view_is, c.say.ensures, fresh) (λ d H s e keeps mild. answered.missing c.frame.ensures d old H (numbered c.args.out.now.event e) c.args.number s keeps mild none)
+
+pub act-requires-clause-within : goal.act-requires-clause-within
+act-requires-clause-within c =
+    let w = c.self.inside in
+    let there : c.in-Reaches.node < length (nodes w.topology.now) = subst (IsThere w.topology.now) c.in-Reaches.is c.route_of.ensures.there in
+    subst (λ (x : WorldState). c.in-Reaches.node < length x.nodes) c.self.view_is (within_as w.topology.now w.nodes.items c.in-Reaches.node c.self.invariant.rows there)

@@ -4,9 +4,9 @@ use Rattle.events.specs.declared.event.Event.TheVariants as event
 use Rattle.events.specs.declared.verb.Verb.TheVariants as verb
 use Rattle.legal.specs.Next.{numbered, plain, delivers, next_of}
 use Rattle.world.specs.Wire.{WireState}
-use Rattle.legal.specs.Lab.{flat_lab}
+use Rattle.legal.specs.Lab.{lab_on}
 use Rattle.world.specs.Record.{fresh_record, with_deed}
-use Rattle.world.specs.World.{WorldState, StandsFor, state_of}
+use Rattle.world.specs.World.{WorldState, StandsFor, state_of, lab_in}
 use Rattle.world.specs.Playing.{Plays, played}
 use Rattle.world.proofs.Opened.{plays_next, plays_none}
 use Rattle.world.proofs.world.World.deliver_next.Goals as goal
@@ -14,17 +14,17 @@ use Rattle.world.proofs.world.World.deliver_next.Goals as goal
 pub returns-in-Some-clause-plays : goal.returns-in-Some-clause-plays
 returns-in-Some-clause-plays c = λ d H s.
     let w = c.self.inside in
-    let mid = state_of w.topology.now w.moment.0 w.going w.armed w.nodes.items c.first_undelivered.new.self w.stopped in
-    let same : mid ≡ c.args.self.now = ap (λ (z : WireState). state_of w.topology.now w.moment.0 w.going w.armed w.nodes.items z w.stopped) c.first_undelivered.ensures.same ∙ c.self.view_is in
+    let mid = state_of w.topology.now w.nats w.moment.0 w.going w.armed w.nodes.items c.first_undelivered.new.self w.stopped in
+    let same : mid ≡ c.args.self.now = ap (λ (z : WireState). state_of w.topology.now w.nats w.moment.0 w.going w.armed w.nodes.items z w.stopped) c.first_undelivered.ensures.same ∙ c.self.view_is in
     let n = c.in-Some.number in
     plays_next d c.args.self.now c.deliver.new.self H c.args.out.now.event n (played c.deliver.result c.deliver.new.out) s
     (subst (λ (x : WorldState). (n < length x.wire) × (get_or x.done n false ≡ false) × ((k : ℕ) → k < n → get_or x.done k false ≡ true)) c.self.view_is c.in-Some.ensures.found)
-    (subst (λ (x : WorldState). Plays d x c.deliver.new.self H (delivers (flat_lab d x.topology) H (numbered c.args.out.now.event event.Next) n) (played c.deliver.result c.deliver.new.out)) same (c.deliver.ensures.plays d H (subst (λ (x : WorldState). StandsFor d x H) (sym same) s) event.Next refl refl))
+    (subst (λ (x : WorldState). Plays d x c.deliver.new.self H (delivers (lab_in d x) H (numbered c.args.out.now.event event.Next) n) (played c.deliver.result c.deliver.new.out)) same (c.deliver.ensures.plays d H (subst (λ (x : WorldState). StandsFor d x H) (sym same) s) event.Next refl refl))
 
 pub returns-in-None-clause-plays : goal.returns-in-None-clause-plays
 returns-in-None-clause-plays c =
     let w = c.self.inside in
-    let old = state_of w.topology.now w.moment.0 w.going w.armed w.nodes.items w.wire w.stopped in
+    let old = state_of w.topology.now w.nats w.moment.0 w.going w.armed w.nodes.items w.wire w.stopped in
     let fresh : c.args.out.now ≡ fresh_record c.args.out.now.event w.moment.0 = c.requires.fresh ∙ ap (λ (x : WorldState). fresh_record c.args.out.now.event x.moment) (sym c.self.view_is) in
     rw (← c.self.view_is, c.say.ensures, fresh) (λ d H s.
-    subst (λ (z : WireState). Plays d old (state_of w.topology.now w.moment.0 w.going w.armed w.nodes.items z w.stopped) H (next_of (flat_lab d w.topology.now) H c.args.out.now.event event.Next) (Ok (with_deed (fresh_record c.args.out.now.event w.moment.0) (plain verb.Next) None fate.NoEntry))) (sym c.first_undelivered.ensures.same) (plays_none c.frame.ensures d old H c.args.out.now.event s c.in-None.ensures.none))
+    subst (λ (z : WireState). Plays d old (state_of w.topology.now w.nats w.moment.0 w.going w.armed w.nodes.items z w.stopped) H (next_of (lab_on d w.topology.now w.nats.chain) H c.args.out.now.event event.Next) (Ok (with_deed (fresh_record c.args.out.now.event w.moment.0) (plain verb.Next) None fate.NoEntry))) (sym c.first_undelivered.ensures.same) (plays_none c.frame.ensures d old H c.args.out.now.event s c.in-None.ensures.none))

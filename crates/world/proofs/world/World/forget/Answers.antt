@@ -1,4 +1,7 @@
-use Rattle.std.proofs.Common.{◌≡◌, Some, None, sym, ap, subst, ◌∙◌, arith}
+use Rattle.std.proofs.Common.{◌≡◌, ◌≤◌, true, Some, None, sym, ap, subst, ◌∙◌}
+use Rattle.topology.specs.Rows.{TopologyState}
+use Rattle.topology.specs.Named.{is_nat}
+use Rattle.td_chain.specs.Chains.{ChainsState}
 use Rattle.std.specs.Prelude.{option_and_then, is_some}
 use Rattle.std.proofs.lemmas.Bool.{false≢true}
 use Rattle.events.specs.Events.{IsForgotten}
@@ -7,7 +10,6 @@ use Rattle.topology.specs.declared.node.Node.TheVariants.{Client as client}
 use Rattle.topology.specs.Topology.{node_at, as_client}
 use Rattle.world.specs.Record.{fresh_record}
 use Rattle.world.specs.World.{WorldState, state_of}
-use Rattle.world.proofs.Routes.{nat_within, same_length}
 use Rattle.world.proofs.States.{some_inj}
 use Rattle.world.proofs.Starts.{forgets, client_forgotten}
 use Rattle.world.proofs.world.World.forget.Goals as goal
@@ -27,30 +29,36 @@ unreachable-requires-in_default-node c =
     let same : c.in-Some.node ≡ client is.0 = some_inj c.in-Some.node (client is.0) (sym there ∙ is.1) in
     c.in_default-node.not-Client is.0 same
 
-pub forget_at-requires : goal.forget_at-requires
-forget_at-requires c =
+pub forget-requires : goal.forget-requires
+forget-requires c =
     let w = c.self.inside in
     let event = subst (λ (x : WorldState). IsForgotten x.topology c.args.number c.args.who) (sym c.self.view_is) c.requires.event in
-    record { within = nat_within w.topology.now w.nodes.items c.args.number c.self.invariant.rows event.by }
+    record { nat = subst (λ (t : TopologyState). is_nat (node_at t c.args.number) ≡ true) (sym c.self.invariant.same) event.by }
 
 pub invariant_of-self : goal.invariant_of-self
-invariant_of-self c =
-    let is = c.forget_at.ensures.forgets in
-    let few = c.self.invariant.few in
-    let long = same_length c.forget_at.new.nodes.items c.self.inside.nodes.items is.rows in
-    record {
-      rules = c.self.invariant.rules;
-      rows = is.rows ∙ c.self.invariant.rows;
-      few = omega (arith, few, long);
-      ready = c.forget_at.ensures.ready c.self.inside.moment.0 c.self.invariant.ready;
-      early = c.self.invariant.early;
-      going = c.self.invariant.going;
-    }
+invariant_of-self c = record {
+  rules = c.self.invariant.rules;
+  same = ap (λ (x : ChainsState). x.topology) c.forget.ensures.same ∙ c.self.invariant.same;
+  clock = subst (λ (x : ChainsState). x.moment ≤ c.self.inside.moment.0) (sym c.forget.ensures.same) c.self.invariant.clock;
+  rows = c.self.invariant.rows;
+  few = c.self.invariant.few;
+  ready = c.self.invariant.ready;
+  early = c.self.invariant.early;
+  going = c.self.invariant.going;
+}
 
 pub returns-clause-plays : goal.returns-clause-plays
 returns-clause-plays c =
     let w = c.self.inside in
-    let old = state_of w.topology.now w.moment.0 w.going w.armed w.nodes.items w.wire w.stopped in
+    let old = state_of w.topology.now w.nats w.moment.0 w.going w.armed w.nodes.items w.wire w.stopped in
     let there : node_at w.topology.now c.args.who ≡ Some (client c.in-Client.row) = ap (node_at w.topology.now) (sym c.from.ensures) ∙ sym c.node.ensures.found ∙ c.in-Some.is ∙ ap (λ (a : Node). Some a) c.in-Client.is in
     let fresh : c.args.out.now ≡ fresh_record c.args.out.now.event w.moment.0 = c.requires.fresh ∙ ap (λ (x : WorldState). fresh_record c.args.out.now.event x.moment) (sym c.self.view_is) in
-    rw (← c.self.view_is, c.say.ensures, fresh) (λ d H s. forgets c.frame.ensures d old c.forget_at.new.nodes.items H c.args.out.now.event c.args.number c.args.who c.in-Client.row s (ap (option_and_then as_client) there) c.forget_at.ensures.forgets)
+    rw (← c.self.view_is, c.say.ensures, fresh) (λ d H s. forgets d old c.forget.new.self H c.args.out.now.event c.args.number c.args.who c.in-Client.row s (ap (option_and_then as_client) there)
+    (record { stands = c.forget.ensures.stands; same = c.forget.ensures.same }))
+
+pub returns-clause-rest : goal.returns-clause-rest
+returns-clause-rest c =
+    let w = c.self.inside in
+    let chain : c.forget.new.self.chain ≡ w.nats.chain = ap (λ (x : ChainsState). x.chain) c.forget.ensures.same in
+    let new = state_of w.topology.now c.forget.new.self w.moment.0 w.going w.armed w.nodes.items w.wire w.stopped in
+    rw (← c.self.view_is) (λ i. record new { chain = chain i })

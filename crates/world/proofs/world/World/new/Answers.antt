@@ -5,6 +5,8 @@ use Rattle.world.proofs.world.World.new.Goals as goal
 pub invariant_of-result : goal.invariant_of-result
 invariant_of-result c = record {
   rules = c.clients-rules.ensures.rules;
+  same = c.requires.same;
+  clock = let start = c.requires.first.1 in omega (arith, start);
   rows = (c.in_ok-nodes.ensures.kept []).rows;
   few = c.in_ok-nodes.ensures.few;
   ready = c.in_ok-nodes.ensures.ready;
@@ -18,7 +20,8 @@ returns-clause-stands c = record {
   moment = refl;
   began = refl;
   going = refl;
-  nodes = c.in_ok-nodes.ensures.kept [];
+  nodes = c.in_ok-nodes.ensures.kept c.args.nats.chain;
+  nats = record { topology = c.requires.same; chain = refl; stands = c.requires.first.0 };
   wire = ap (λ (w : WireState). w.items) c.new.ensures;
   done = λ i. rw (c.new.ensures) refl;
   armed = refl;

@@ -5,14 +5,14 @@ use Rattle.history.specs.declared.act.Act.TheVariants as act
 use Rattle.events.specs.declared.event.Event.{Event}
 use Rattle.history.specs.declared.records.Record.{Record}
 use Rattle.history.specs.Full.{Full}
-use Rattle.legal.specs.Lab.{Draws, flat_lab}
+use Rattle.legal.specs.Lab.{Draws, lab_on}
 use Rattle.legal.specs.Past.{forgotten, arms}
 use Rattle.legal.specs.Next.{numbered, acts, no_ep}
 use Rattle.legal.specs.Next.{Due as Tick}
 use Rattle.lab_nodes.specs.declared.due.Due.{Due}
 use Rattle.lab_nodes.specs.Due.{due_as}
 use Rattle.world.specs.declared.going.Going.TheVariants as going_on
-use Rattle.world.specs.World.{WorldState, StandsFor, state_of}
+use Rattle.world.specs.World.{WorldState, StandsFor, state_of, lab_in}
 use Rattle.world.specs.Playing.{Plays, ticks_at, played}
 use Rattle.world.proofs.Played.{plays_from}
 use Rattle.world.proofs.world.World.tick.Goals as goal
@@ -25,14 +25,14 @@ returns-clause-plays c =
     let w = c.self.inside in
     let index = c.args.out.now.event in
     let due = c.args.due in
-    let old = state_of w.topology.now w.moment.0 w.going w.armed w.nodes.items w.wire w.stopped in
-    let mid = state_of w.topology.now c.later-now.result.0 (Some (going_on.Advance c.args.began c.args.ms)) w.armed w.nodes.items w.wire w.stopped in
-    subst (λ (y : WorldState). (d : Draws) (H : List Full) → StandsFor d y H → (e : Event) → forgotten (flat_lab d y.topology) e ≡ [] → arms e ≡ None → (x : Tick) → due_as x ≡ due → node_at y.topology x.number ≡ Some x.node
+    let old = state_of w.topology.now w.nats w.moment.0 w.going w.armed w.nodes.items w.wire w.stopped in
+    let mid = state_of w.topology.now w.nats c.later-now.result.0 (Some (going_on.Advance c.args.began c.args.ms)) w.armed w.nodes.items w.wire w.stopped in
+    subst (λ (y : WorldState). (d : Draws) (H : List Full) → StandsFor d y H → (e : Event) → forgotten (lab_in d y) e ≡ [] → arms e ≡ None → (x : Tick) → due_as x ≡ due → node_at y.topology x.number ≡ Some x.node
     → Plays d y c.act.new.self H (ticks_at d y H (numbered index e) x) (played c.act.result c.act.new.out)) c.self.view_is (λ d H s e quiet mild x same there.
-    let lab = flat_lab d w.topology.now in
+    let lab = lab_on d w.topology.now w.nats.chain in
     let node : x.number ≡ due.node = ap (λ (y : Due). y.node) same in
     let moment : x.moment ≡ due.moment.0 = ap (λ (y : Due). y.moment.0) same in
     let now : c.later-now.result.0 ≡ max x.moment w.moment.0 = c.later-now.ensures ∙ ap (λ (m : ℕ). max m w.moment.0) (sym moment) in
-    let acted = c.act.ensures.plays d H (record { nodes = s.nodes; wire = s.wire; armed = s.armed }) e quiet mild x.node (ap (node_at w.topology.now) (sym node) ∙ there) in
+    let acted = c.act.ensures.plays d H (record { nodes = s.nodes; nats = s.nats; wire = s.wire; armed = s.armed }) e quiet mild x.node (ap (node_at w.topology.now) (sym node) ∙ there) in
     plays_from d mid old c.act.new.self H (ticks_at d old H (numbered index e) x) (played c.act.result c.act.new.out) (refl, refl, refl)
     (subst (λ (r : Full). Plays d mid c.act.new.self H r (played c.act.result c.act.new.out)) (λ i. acts lab H (numbered index e) act.Tick None (now i) (sym node i) no_ep ticked x.node) acted))
