@@ -3,8 +3,9 @@
 //! # What the layer above may rely on
 //!
 //! - A listener says what it writes of a history (`specs/Account.antt`), and `play` writes exactly that of the one legal
-//!   history of the scenario. Where it can't go on it answers why, and a front of that was written: where the next record
-//!   would make too long a wire, or may want memory, whole lines (`specs/Endings.antt`).
+//!   history of the scenario in which these NATs are behind others, `play_flat` of the one in which none is. Where it can't
+//!   go on it answers why, and a front of that was written: where the next record would make too long a wire, or may want
+//!   memory, whole lines (`specs/Endings.antt`).
 //! - All that is proved of every history, which `promises` says, is so of each history that these endings speak of.
 //! - Each line begins a piece of its own (`specs/SinkLines.antt`).
 //! - `ReportWriter` writes the report, `TotalsWriter` the totals alone, `CaptureWriter` the capture of the wire: a head,
@@ -20,7 +21,7 @@
 //! |---|---|---|
 //! | `sink_lines` | a line that is written to a sink | `specs/SinkLines.antt` |
 //! | `listener` | `Listener` | `specs/Account.antt`, `specs/Hearing.antt` |
-//! | `player` | `play` | `specs/Endings.antt` |
+//! | `player` | `play`, `play_flat` | `specs/Endings.antt` |
 //! | `report_writer`, `totals_writer`, `capture_writer` | three listeners | `specs/Accounts.antt` |
 //! | `entry_record` | the record of an entry in a capture | `specs/Capture.antt` |
 //! | `laws` | a history's capture is one | `specs/CaptureLaws.antt` |
@@ -39,7 +40,7 @@ pub use capture_writer::CaptureWriter;
 pub use entry_record::{MILLI_MICROS, SECOND_MS};
 pub use laws::pieces_are_a_capture;
 pub use listener::Listener;
-pub use player::{PlayFault, play};
+pub use player::{PlayFault, play, play_flat};
 pub use report_writer::ReportWriter;
 pub use sink_lines::write_line;
 pub use totals_writer::TotalsWriter;

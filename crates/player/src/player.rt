@@ -3,6 +3,7 @@ ghost use Rattle.std.specs.Prelude.{◌≡◌, ◌≤◌, [], length};
 ghost use Rattle.std.specs.List.{AllByRecursion};
 ghost use Rattle.events.specs.declared.event.TheConstants.{EVENTS_MAX};
 ghost use Rattle.events.specs.Events.{IsEvent};
+ghost use Rattle.td_chain.specs.Chains.{StandsFor};
 ghost use Rattle.world.specs.World.{record_in, is_more};
 ghost use Rattle.player.specs.Endings.{IsPlayed};
 
@@ -10,6 +11,7 @@ use crate::listener::Listener;
 use events::{EVENTS_MAX, Events};
 use history::{Record, Stop, Turn};
 use std::alloc::Global;
+use td_chain::Chains;
 use td_outside::Sink;
 use topology::Topology;
 use world::World;
@@ -45,24 +47,28 @@ fn is_more(turn: &Turn) -> bool
     }
 }
 
-/// Plays the scenario of a seed, nodes and events to its end. Each record is heard as soon as it is made.
+/// Plays the scenario of a seed, nodes and events to its end, with those NATs behind others. Each record is heard as soon as
+/// it is made.
 pub fn play<L: Listener, K: Sink>(
     alloc: Global,
     seed: u64,
-    topology: &Topology,
+    chains: Chains<'_>,
     events: &Events,
     listener: &mut L,
     out: &mut K,
 ) -> Result<(), PlayFault>
     requires few { length events.now ≤ EVENTS_MAX }
-    requires legal { AllByRecursion (IsEvent topology.now) events.now }
-    requires fresh { L.keeps listener.old topology.now [] }
-    ensures { IsPlayed L.account (record { seed = seed; topology = topology.now; events = events.now }) (K.state out.old) (K.state out.new) result }
+    requires legal { AllByRecursion (IsEvent chains.topology) events.now }
+    requires first { StandsFor chains (λ k. []) }
+    requires moment { chains.moment ≡ 0 }
+    requires fresh { L.keeps listener.old chains.topology [] }
+    ensures { IsPlayed L.account (record { seed = seed; topology = chains.entry.topology; events = events.now }) chains.entry.chain (K.state out.old) (K.state out.new) result }
 {
     legal::of_its_event();
     promises::kept_in_scenarios();
+    let topology = chains.topology();
     let _rules = topology.clients();
-    let Ok(mut world) = World::new(alloc, topology, seed) else {
+    let Ok(mut world) = World::new(alloc, topology, chains, seed) else {
         return Err(PlayFault::NoMemory);
     };
     let Ok(()) = listener.begin(out) else {
@@ -96,4 +102,24 @@ pub fn play<L: Listener, K: Sink>(
         Ok(()) => Ok(()),
         Err(_) => Err(PlayFault::Failed),
     }
+}
+
+/// Plays the scenario of a seed, nodes and events to its end, with no NAT behind another one.
+pub fn play_flat<L: Listener, K: Sink>(
+    alloc: Global,
+    seed: u64,
+    topology: &Topology,
+    events: &Events,
+    listener: &mut L,
+    out: &mut K,
+) -> Result<(), PlayFault>
+    requires few { length events.now ≤ EVENTS_MAX }
+    requires legal { AllByRecursion (IsEvent topology.now) events.now }
+    requires fresh { L.keeps listener.old topology.now [] }
+    ensures { IsPlayed L.account (record { seed = seed; topology = topology.now; events = events.now }) [] (K.state out.old) (K.state out.new) result }
+{
+    let Ok(chains) = Chains::alone(alloc, topology) else {
+        return Err(PlayFault::NoMemory);
+    };
+    play(alloc, seed, chains, events, listener, out)
 }

@@ -1,7 +1,7 @@
 //! A scenario that sends more than the wire holds.
 use crate::runs::{LAB, ended, ending};
 use crate::vectors::ROOM;
-use player::{PlayFault, TotalsWriter, play};
+use player::{PlayFault, TotalsWriter, play_flat};
 use scenario::read;
 use std::test::Fail;
 use td_outside::MemSink;
@@ -47,7 +47,7 @@ fn totals_give_way_to_a_full_wire(rt: HostRuntime) -> Result<(), Fail> {
     };
     let mut sink = MemSink::new(rt.alloc(), ROOM, &[])?;
     let mut totals = TotalsWriter::new();
-    let played = play(
+    let played = play_flat(
         rt.alloc(),
         s.seed,
         &s.topology,

@@ -25,7 +25,7 @@
 //! | `sockets` | `run` on `serve`, over two sockets |
 //! | `qualifications` | `run` on `qualify`, over a link in memory |
 //! | `chain_texts` | `scenario` and `td_chain` |
-//! | `worlds` | `scenario` and `world` |
+//! | `worlds` | `world` and `td_nested` |
 //! | `lines` | `report` |
 //! | `names` | `topology` |
 //! | `natives` | `native_host` |

@@ -1,5 +1,5 @@
 -- How a command ends that plays the scenario of a file, by how its last step ended.
-use Rattle.std.proofs.Common.{◌≡◌, ℕ, List, Result, Ok, Err, sym, subst, inl, inr, refl, lit<, arith}
+use Rattle.std.proofs.Common.{◌≡◌, ℕ, List, [], Result, Ok, Err, sym, subst, inl, inr, refl, lit<, arith}
 use Rattle.td_outside.specs.Causes.{Rose}
 use Rattle.events.specs.Scenario.{Scenario}
 use Rattle.scenario.specs.declared.scenario_fault.ScenarioFault.{ScenarioFault}
@@ -12,7 +12,8 @@ use Rattle.player.specs.Account.{Account}
 use Rattle.player.specs.Endings.{IsPlayed}
 use Rattle.td_outside.specs.Source.{SourceState}
 use Rattle.teredo_app.specs.Outside.{NoFault}
-use Rattle.teredo_app.specs.Ends.{PlayEnds, Reads}
+use Rattle.teredo_app.specs.Reads.{Reads}
+use Rattle.teredo_app.specs.Ends.{PlayEnds}
 use Rattle.teredo_app.specs.Endings.{LineEnds, line_written, line_failed, NotPlayed, not_read, not_kept, not_taken, status_of}
 use Rattle.teredo_app.proofs.Opened.{Opened}
 
@@ -77,7 +78,7 @@ module _ (a : Account) (i i' : SourceState) (o o' : SinkState) (file : List ℕ)
   not_played_ends result (not_taken fault reads quiet line) = refused_ends result fault reads quiet line
 
   -- the scenario was played
-  pub played_ends : (s : Scenario) (played : Result (Unit {0}) PlayFault) → Reads i file (Ok s) → i'.faults ≡ i.faults → IsPlayed a s o o' played → PlayEnds a i i' o o' file (status_of played)
+  pub played_ends : (s : Scenario) (played : Result (Unit {0}) PlayFault) → Reads i file (Ok s) → i'.faults ≡ i.faults → IsPlayed a s [] o o' played → PlayEnds a i i' o o' file (status_of played)
   played_ends s (Ok _) reads quiet (same, lines) = record {
     statuses = (0, lit< tt, refl);
     opened = from.opened;

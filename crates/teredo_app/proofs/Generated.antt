@@ -1,5 +1,5 @@
 -- How `gen` ends, by how its scenario was played.
-use Rattle.std.proofs.Common.{◌≡◌, ◌⊎◌, Result, Ok, Err, subst, refl, inl, inr, lit<, arith}
+use Rattle.std.proofs.Common.{◌≡◌, ◌⊎◌, [], Result, Ok, Err, subst, refl, inl, inr, lit<, arith}
 use Rattle.events.specs.Scenario.{Scenario}
 use Rattle.player.specs.declared.player.PlayFault.{PlayFault}
 use Rattle.player.specs.declared.player.PlayFault.TheVariants.{Failed, NoMemory, WireFull}
@@ -23,11 +23,11 @@ starving_ends o o' asked same nothing = record {
 }
 
 -- no line was of a record, so none was written
-none_written : (o o' : SinkState) (s : Scenario) → WritesNothing o o' ⊎ WritesStarved totals_account s o o' → WritesNothing o o'
+none_written : (o o' : SinkState) (s : Scenario) → WritesNothing o o' ⊎ WritesStarved totals_account s [] o o' → WritesNothing o o'
 none_written o o' s (inl nothing) = nothing
 none_written o o' s (inr starved) = WritesLines-nil o o' starved.lines
 
-generated_ends : (o o' : SinkState) (asked : GenWords) (played : Result (Unit {0}) PlayFault) → IsPlayed totals_account (asked_for asked) o o' played → GenEnds o o' asked (status_of played)
+generated_ends : (o o' : SinkState) (asked : GenWords) (played : Result (Unit {0}) PlayFault) → IsPlayed totals_account (asked_for asked) [] o o' played → GenEnds o o' asked (status_of played)
 generated_ends o o' asked (Ok _) (same, lines) = record {
   statuses = (0, lit< tt, refl);
   done = λ _. (same, lines);
@@ -52,5 +52,5 @@ generated_ends o o' asked (Err WireFull) (same, lines) = record {
 }
 
 -- the scenario is the one that is asked for
-pub played_ends : (o o' : SinkState) (asked : GenWords) (s : Scenario) (played : Result (Unit {0}) PlayFault) → s ≡ asked_for asked → IsPlayed totals_account s o o' played → GenEnds o o' asked (status_of played)
-played_ends o o' asked s played is plays = generated_ends o o' asked played (subst (λ (x : Scenario). IsPlayed totals_account x o o' played) is plays)
+pub played_ends : (o o' : SinkState) (asked : GenWords) (s : Scenario) (played : Result (Unit {0}) PlayFault) → s ≡ asked_for asked → IsPlayed totals_account s [] o o' played → GenEnds o o' asked (status_of played)
+played_ends o o' asked s played is plays = generated_ends o o' asked played (subst (λ (x : Scenario). IsPlayed totals_account x [] o o' played) is plays)

@@ -5,5 +5,6 @@ pub mod Opened
 pub mod Ended
 pub mod Sessions
 pub mod Generated
+pub mod Nested
 pub mod Audited
 pub mod Found

@@ -10,7 +10,7 @@ use Rattle.player.specs.SinkLines.{WritesLines, BeginsLines, WritesNothing}
 use Rattle.teredo_app.specs.declared.statuses.TheConstants.{DONE, BAD_SCENARIO, UNREADABLE, UNWRITABLE, NO_MEMORY, WIRE_FULL}
 use Rattle.td_outside.specs.Source.{SourceState}
 use Rattle.teredo_app.specs.Outside.{NoFault}
-use Rattle.teredo_app.specs.Ends.{Reads}
+use Rattle.teredo_app.specs.Reads.{Reads}
 
 -- how the writing of one line ends: with its status, or because the sink failed
 pub data LineEnds (o o' : SinkState) (line : List ℕ) (status result : ℕ) : Type 0 where

@@ -1,10 +1,9 @@
 -- How the program may end, and what it has then done.
-use Rattle.std.specs.Prelude.{◌≡◌, ℕ, List, [], ◌∷◌, ◌⊎◌, codes, Contains, Option, Some, None, IfSome, Result, Ok, Err}
+use Rattle.std.specs.Prelude.{◌≡◌, ℕ, List, [], ◌∷◌, ◌⊎◌, codes, Contains, Option, Some, None, Ok, Err}
 use Rattle.td_outside.specs.Causes.{Rose}
 use Rattle.td_outside.specs.Moves.{Gains}
 use Rattle.events.specs.Scenario.{Scenario}
 use Rattle.scenario.specs.declared.scenario_fault.ScenarioFault.{ScenarioFault}
-use Rattle.scenario.specs.Scenario.{scenario_of}
 use Rattle.scenario.specs.Refusals.{refusal_line}
 use Rattle.generator.specs.Generated.{generated}
 use Rattle.show.specs.Shown.{ShowsPayload, ShowsNoText, ShowsFault}
@@ -18,39 +17,33 @@ use Rattle.teredo_app.specs.declared.source_text.TheConstants.{TEXT_READ_MAX}
 use Rattle.td_outside.specs.Source.{SourceState}
 use Rattle.teredo_app.specs.Outside.{Outside, NoFault}
 use Rattle.teredo_app.specs.SourceText.{TakesAtMost}
+use Rattle.teredo_app.specs.Reads.{Reads}
 use Rattle.teredo_app.specs.Session.{ServeEnds}
 use Rattle.teredo_app.specs.Audit.{AuditEnds}
 use Rattle.teredo_app.specs.Qualify.{QualifyEnds}
-use Rattle.teredo_app.specs.Command.{Request, lab, serve, show, gen, wire, audit, qualify}
+use Rattle.teredo_app.specs.Nested.{NestedEnds}
+use Rattle.teredo_app.specs.Command.{Request, lab, serve, show, gen, wire, audit, qualify, nested}
 use Rattle.teredo_app.specs.declared.gen_words.GenWords.{GenWords}
 
 -- the line of words that are no command
 abbrev pub bad_words : List ℕ
 bad_words = codes "words\n"
 
--- The text is all the bytes that the name stands for, where the source tells them.
-abbrev pub IsNamedText : Option (List ℕ) → List ℕ → Type 0
-IsNamedText told text = IfSome told (λ bytes. text ≡ bytes)
-
--- The text of the file is this scenario, or this is its first refusal.
-abbrev pub Reads : SourceState → List ℕ → Result Scenario ScenarioFault → Type 0
-Reads i file answer = (text : List ℕ) × IsNamedText (i.stands_for file) text × (scenario_of text ≡ answer)
-
 -- what a sink that failed was to hold
 abbrev pub PlayBegins : Account → SourceState → SinkState → SinkState → List ℕ → Type 0
 PlayBegins a i o o' file =
-    ((s : Scenario) × Reads i file (Ok s) × BeginsAccount a s o o')
+    ((s : Scenario) × Reads i file (Ok s) × BeginsAccount a s [] o o')
     ⊎ ((fault : ScenarioFault) × Reads i file (Err fault) × BeginsLines o o' (refusal_line fault ∷ []))
 
--- How a command ends that plays the scenario of a file: for each status its cause, and what was written. Source and sink
--- stand there as they were before, and as they are after.
+-- How a command ends that plays the scenario of a file, with no NAT behind another one: for each status its cause, and
+-- what was written. Source and sink stand there as they were before, and as they are after.
 pub record PlayEnds (a : Account) (i i' : SourceState) (o o' : SinkState) (file : List ℕ) (status : ℕ) : Type 0 where
   pub statuses : Contains (DONE ∷ BAD_SCENARIO ∷ UNREADABLE ∷ UNWRITABLE ∷ NO_MEMORY ∷ WIRE_FULL ∷ []) status
   -- the file alone was opened, once, and no more of it was read than a text may have, and one byte
   pub opened : Gains i.openings i'.openings file
   pub taken : TakesAtMost TEXT_READ_MAX i.taken i'.taken
   -- nothing failed, the text is a scenario whose entries the wire holds, and all of its lines were written
-  pub done : status ≡ DONE → NoFault i i' o o' × ((s : Scenario) × Reads i file (Ok s) × WritesAll a s o o')
+  pub done : status ≡ DONE → NoFault i i' o o' × ((s : Scenario) × Reads i file (Ok s) × WritesAll a s [] o o')
   -- nothing failed, the text is refused, and the line of its first refusal was written
   pub refused : status ≡ BAD_SCENARIO → NoFault i i' o o' × ((fault : ScenarioFault) × Reads i file (Err fault) × WritesLines o o' (refusal_line fault ∷ []))
   -- the source failed, and nothing was written
@@ -60,10 +53,10 @@ pub record PlayEnds (a : Account) (i i' : SourceState) (o o' : SinkState) (file 
   -- memory ran out, nothing failed, and nothing was written; or it ran out for a record that may want some, and the
   -- lines of those before it were written, whole, and nothing else
   pub starved : status ≡ NO_MEMORY → NoFault i i' o o'
-      × (WritesNothing o o' ⊎ ((s : Scenario) × Reads i file (Ok s) × WritesStarved a s o o'))
+      × (WritesNothing o o' ⊎ ((s : Scenario) × Reads i file (Ok s) × WritesStarved a s [] o o'))
   -- nothing failed; the next record would make too long a wire; the lines of those before it were written, and those
   -- that say so
-  pub full : status ≡ WIRE_FULL → NoFault i i' o o' × ((s : Scenario) × Reads i file (Ok s) × WritesFull a s o o')
+  pub full : status ≡ WIRE_FULL → NoFault i i' o o' × ((s : Scenario) × Reads i file (Ok s) × WritesFull a s [] o o')
 
 -- How `lab FILE` ends: it writes the report.
 abbrev pub LabEnds : SourceState → SourceState → SinkState → SinkState → List ℕ → ℕ → Type 0
@@ -90,13 +83,13 @@ asked_for asked = generated asked.seed asked.count
 pub record GenEnds (o o' : SinkState) (asked : GenWords) (status : ℕ) : Type 0 where
   pub statuses : Contains (DONE ∷ UNWRITABLE ∷ NO_MEMORY ∷ WIRE_FULL ∷ []) status
   -- nothing failed, the wire holds the scenario's entries, and the totals of its one legal history were written
-  pub done : status ≡ DONE → (o'.faults ≡ o.faults) × WritesAll totals_account (asked_for asked) o o'
+  pub done : status ≡ DONE → (o'.faults ≡ o.faults) × WritesAll totals_account (asked_for asked) [] o o'
   -- the sink failed, and a front was written of what was to be written
-  pub unwritten : status ≡ UNWRITABLE → Rose o.faults o'.faults × BeginsAccount totals_account (asked_for asked) o o'
+  pub unwritten : status ≡ UNWRITABLE → Rose o.faults o'.faults × BeginsAccount totals_account (asked_for asked) [] o o'
   -- memory ran out, nothing failed, and nothing was written
   pub starved : status ≡ NO_MEMORY → (o'.faults ≡ o.faults) × WritesNothing o o'
   -- nothing failed; the next record would make too long a wire, and the line that says so was written
-  pub full : status ≡ WIRE_FULL → (o'.faults ≡ o.faults) × WritesFull totals_account (asked_for asked) o o'
+  pub full : status ≡ WIRE_FULL → (o'.faults ≡ o.faults) × WritesFull totals_account (asked_for asked) [] o o'
 
 -- How it ends where the words are no command.
 pub record WordsEnd (o o' : SinkState) (status : ℕ) : Type 0 where
@@ -113,6 +106,7 @@ RunEnds a b (Some (gen asked)) status = GenEnds a.sink b.sink asked status
 RunEnds a b (Some (wire file)) status = WireEnds a.source b.source a.sink b.sink file status
 RunEnds a b (Some (audit asked file)) status = AuditEnds a.source b.source a.sink b.sink asked file status
 RunEnds a b (Some (qualify asked)) status = QualifyEnds a.sink b.sink a.link b.link a.clock b.clock asked status
+RunEnds a b (Some (nested file chain)) status = NestedEnds a.source b.source a.sink b.sink file chain status
 RunEnds a b None status = WordsEnd a.sink b.sink status
 
 -- The program may end with this status where it is asked for this: its states before and after fit.

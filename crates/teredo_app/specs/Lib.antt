@@ -8,8 +8,12 @@ pub mod ServeLine
 pub mod Session
 pub mod AuditLine
 pub mod Audit
+pub mod Reads
+pub mod NestedLine
+pub mod Nested
 pub mod Ends
 pub mod Endings
+pub mod NestedEndings
 pub mod Qualify
 pub mod QualifyLine
 pub mod QualifyWords

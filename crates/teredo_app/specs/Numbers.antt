@@ -1,7 +1,7 @@
 -- The numbers that the program ends with, and the most that its words and files may say, all of them our choice.
 use Rattle.std.specs.Prelude.{◌≡◌}
 use Rattle.teredo_app.specs.declared.statuses.TheConstants.{DONE, BAD_PAYLOAD, BAD_WORDS, BAD_SCENARIO, UNREADABLE, UNWRITABLE}
-use Rattle.teredo_app.specs.declared.statuses.TheConstants.{NO_LINK, NO_MEMORY, WIRE_FULL, UNDECIDED, UNLICENSED, NO_CAPTURE}
+use Rattle.teredo_app.specs.declared.statuses.TheConstants.{NO_LINK, NO_MEMORY, WIRE_FULL, UNDECIDED, UNLICENSED, NO_CAPTURE, NOT_NESTED}
 use Rattle.teredo_app.specs.declared.gen_words.TheConstants.{SEED_MAX}
 use Rattle.teredo_app.specs.declared.source_text.TheConstants.{TEXT_READ_MAX}
 use Rattle.teredo_app.specs.declared.audit_file.TheConstants.{CAPTURE_MAX, CAPTURE_READ_MAX}
@@ -19,6 +19,7 @@ pub record ProgramNumbers : Type 0 where
   pub undecided : UNDECIDED ≡ 9
   pub unlicensed : UNLICENSED ≡ 10
   pub no_capture : NO_CAPTURE ≡ 11
+  pub not_nested : NOT_NESTED ≡ 12
   -- the greatest seed: 63 bits
   pub seed_most : SEED_MAX ≡ 9223372036854775807
   -- 4 MiB of a text and 96 MiB of a capture, and a byte more that shows that it is longer

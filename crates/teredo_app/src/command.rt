@@ -25,6 +25,8 @@ pub enum Command<'a> {
     Audit { asked: AuditWords, file: &'a str },
     /// Lets a client qualify at a link.
     Qualify(Asked),
+    /// Plays the scenario of a file with NATs behind others, and reports it.
+    Nested { file: &'a str, chain: &'a str },
 }
 
 /// The command of two words.
@@ -45,13 +47,19 @@ fn with_word<'a>(command: &str, word: &'a str) -> Option<Command<'a>>
 }
 
 /// The command of three words.
-fn with_numbers<'a>(command: &str, seed: &str, count: &str) -> Option<Command<'a>>
-    ensures found { IfSome result (λ c. AsksFor (command.now ∷ seed.now ∷ count.now ∷ []) (request_of c)) }
-    ensures only { (asked : Request) → AsksFor (command.now ∷ seed.now ∷ count.now ∷ []) asked → option_map request_of result ≡ Some asked }
+fn with_two<'a>(command: &str, first: &'a str, second: &'a str) -> Option<Command<'a>>
+    ensures found { IfSome result (λ c. AsksFor (command.now ∷ first.now ∷ second.now ∷ []) (request_of c)) }
+    ensures only { (asked : Request) → AsksFor (command.now ∷ first.now ∷ second.now ∷ []) asked → option_map request_of result ≡ Some asked }
 {
     if command == "gen" {
-        let asked = gen_words(seed, count)?;
+        let asked = gen_words(first, second)?;
         return Some(Command::Gen(asked));
+    }
+    if command == "nested" {
+        return Some(Command::Nested {
+            file: first,
+            chain: second,
+        });
     }
     None
 }
@@ -148,7 +156,7 @@ pub fn command_of(words: &[String]) -> Option<Command<'_>>
     }
     match words {
         [command, word] => with_word(command.as_str(), word.as_str()),
-        [command, seed, count] => with_numbers(command.as_str(), seed.as_str(), count.as_str()),
+        [command, first, second] => with_two(command.as_str(), first.as_str(), second.as_str()),
         [command, primary, secondary, file] => with_file(
             command.as_str(),
             primary.as_str(),

@@ -9,10 +9,12 @@
 //!   `gen SEED COUNT` the totals line of the generated scenario; on `serve IP1 IP2 COUNT IDLES` the line of the totals,
 //!   after a server at these addresses answered each arrival by its table; on `wire FILE` the capture of the one legal
 //!   history's wire; on `audit IP1 IP2 FILE` the line of the verdict on a capture, or of why the file is none; on
-//!   `qualify INSIDE IP1 IP2 SEED TURNS` the line of what a client there found, and of its attempts.
-//! - `lab`, `wire` and `audit` open their file alone, once, and read no more of it than the longest text or capture and
-//!   one byte; `serve` opens the link on its two addresses alone, `qualify` at one socket. Each line, and each record of a capture, begins a
-//!   piece of its own. Only `lab`, `wire` and `audit` touch the source, and only `serve` and `qualify` the link and the clock.
+//!   `qualify INSIDE IP1 IP2 SEED TURNS` the line of what a client there found, and of its attempts; on `nested FILE CHAIN`
+//!   the report of the one legal history in which the NATs of a chain are behind others, or one line of why there is none.
+//! - `lab`, `wire`, `nested` and `audit` open their file alone, once, and read no more of it than the longest text or
+//!   capture and one byte, and no other command touches the source; `serve` opens the link on its two addresses alone,
+//!   `qualify` at one socket, and only these touch the link and the clock. Each line, and each record of a capture, begins a
+//!   piece of its own.
 //!
 //! # What it does not know
 //!
@@ -38,6 +40,8 @@
 //! | `qualify_words` | the words of `qualify` | `specs/QualifyWords.antt` |
 //! | `qualify_at` | a client's qualification at a link | `specs/Qualify.antt` |
 //! | `qualify_line` | the line that `qualify` ends with | `specs/QualifyLine.antt` |
+//! | `nested_file` | the scenario of a file, played with NATs behind others: `nested` | `specs/Nested.antt` |
+//! | `nested_line` | the line of a scenario that isn't one for these | `specs/NestedLine.antt` |
 //! | `program` | `run` | `specs/Ends.antt`, over `specs/Outside.antt` |
 //! | `laws` | what holds of the numbers | `specs/Numbers.antt` |
 #![tactic(auto)]
@@ -50,6 +54,8 @@ mod gen_words;
 mod generated_scenario;
 mod last_line;
 mod laws;
+mod nested_file;
+mod nested_line;
 mod program;
 mod qualify_at;
 mod qualify_line;
@@ -67,10 +73,11 @@ pub use audit_words::AuditWords;
 pub use command::Command;
 pub use gen_words::{GenWords, SEED_MAX};
 pub use laws::program_numbers;
+pub use nested_line::NotNested;
 pub use program::run;
 pub use serve_words::ServeWords;
 pub use source_text::TEXT_READ_MAX;
 pub use statuses::{
-    BAD_PAYLOAD, BAD_SCENARIO, BAD_WORDS, DONE, NO_CAPTURE, NO_LINK, NO_MEMORY, UNDECIDED,
+    BAD_PAYLOAD, BAD_SCENARIO, BAD_WORDS, DONE, NO_CAPTURE, NO_LINK, NO_MEMORY, NOT_NESTED, UNDECIDED,
     UNLICENSED, UNREADABLE, UNWRITABLE, WIRE_FULL,
 };

@@ -10,6 +10,7 @@ use crate::command::{Command, command_of};
 use crate::gen_words::GenWords;
 use crate::generated_scenario::generated_scenario;
 use crate::last_line::end_with;
+use crate::nested_file::nested;
 use crate::qualify_at::qualify_at;
 use crate::scenario_file::{lab, status_of, wire};
 use crate::serve_line::put_serve_line;
@@ -17,7 +18,7 @@ use crate::serve_words::ServeWords;
 use crate::session::serve_on;
 use crate::statuses::{BAD_PAYLOAD, BAD_WORDS, DONE, NO_LINK, NO_MEMORY};
 use events::EVENTS_MAX;
-use player::{TotalsWriter, play};
+use player::{TotalsWriter, play_flat};
 use show::{Page, explain};
 use std::alloc::Global;
 use td_base::LineBuf;
@@ -63,7 +64,7 @@ fn play_generated<K: Sink>(alloc: Global, asked: &GenWords, out: &mut K) -> u8
         return NO_MEMORY;
     };
     let mut totals = TotalsWriter::new();
-    status_of(play(alloc, s.seed, &s.topology, &s.events, &mut totals, out))
+    status_of(play_flat(alloc, s.seed, &s.topology, &s.events, &mut totals, out))
 }
 
 /// Does what the words of the command line ask for, and answers the program's status.
@@ -93,5 +94,6 @@ pub fn run<S: Source, K: Sink, L: Link, C: Clock>(
         Command::Wire { file } => wire(alloc, file, src, out),
         Command::Audit { asked, file } => audit_file(alloc, &asked, file, src, out),
         Command::Qualify(asked) => qualify_at(alloc, &asked, out, link, clock),
+        Command::Nested { file, chain } => nested(alloc, file, chain, src, out),
     }
 }

@@ -6,21 +6,22 @@ ghost use Rattle.events.specs.declared.event.TheConstants.{EVENTS_MAX};
 ghost use Rattle.events.specs.Events.{IsEvent};
 ghost use Rattle.scenario.specs.Told.{told};
 ghost use Rattle.teredo_app.specs.SourceText.{TakesAtMost};
-ghost use Rattle.teredo_app.specs.Ends.{Reads, LabEnds, WireEnds};
+ghost use Rattle.teredo_app.specs.Reads.{Reads};
+ghost use Rattle.teredo_app.specs.Ends.{LabEnds, WireEnds};
 ghost use Rattle.teredo_app.specs.Endings.{NotPlayed, status_of};
 
 use crate::last_line::end_with;
 use crate::source_text::{ReadFault, TEXT_READ_MAX, read_named};
 use crate::statuses::{BAD_SCENARIO, DONE, NO_MEMORY, UNREADABLE, UNWRITABLE, WIRE_FULL};
 use events::EVENTS_MAX;
-use player::{CaptureWriter, PlayFault, ReportWriter, play};
+use player::{CaptureWriter, PlayFault, ReportWriter, play_flat};
 use scenario::{Scenario, ScenarioFault, put_refusal_line, read};
 use std::alloc::Global;
 use td_base::LineBuf;
 use td_outside::{Sink, Source};
 
 /// The scenario of a file, or the status of a run that ends without one.
-fn scenario_in<S: Source, K: Sink>(
+pub(crate) fn scenario_in<S: Source, K: Sink>(
     alloc: Global,
     file: &str,
     src: &mut S,
@@ -70,7 +71,7 @@ pub fn lab<S: Source, K: Sink>(alloc: Global, file: &str, src: &mut S, out: &mut
     match scenario_in(alloc, file, src, out) {
         Ok(s) => {
             let mut report = ReportWriter::new(&s.topology);
-            status_of(play(alloc, s.seed, &s.topology, &s.events, &mut report, out))
+            status_of(play_flat(alloc, s.seed, &s.topology, &s.events, &mut report, out))
         }
         Err(status) => status,
     }
@@ -83,7 +84,7 @@ pub fn wire<S: Source, K: Sink>(alloc: Global, file: &str, src: &mut S, out: &mu
     match scenario_in(alloc, file, src, out) {
         Ok(s) => {
             let mut capture = CaptureWriter::new();
-            status_of(play(alloc, s.seed, &s.topology, &s.events, &mut capture, out))
+            status_of(play_flat(alloc, s.seed, &s.topology, &s.events, &mut capture, out))
         }
         Err(status) => status,
     }

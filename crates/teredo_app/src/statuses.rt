@@ -34,3 +34,6 @@ pub const UNLICENSED: u8 = 10;
 
 /// The file is too long for an audit, or no capture.
 pub const NO_CAPTURE: u8 = 11;
+
+/// The scenario isn't one for NATs behind others: its chain, a node or an event.
+pub const NOT_NESTED: u8 = 12;

@@ -3,6 +3,7 @@ use Rattle.std.specs.Prelude.{slice_get}
 use Rattle.history.specs.declared.turn.Stop.{Stop}
 use Rattle.world.specs.World.{StopsFor}
 use Rattle.player.specs.LineLaws.{WritesNothing-refl}
+use Rattle.topology.specs.Rules.{IsTopology}
 use Rattle.legal.specs.Lab.{draws}
 use Rattle.player.proofs.Played as played
 use Rattle.player.proofs.player.play.Goals as goal
@@ -11,15 +12,15 @@ pub returns-in_default : goal.returns-in_default
 returns-in_default g c = (refl, inl (WritesNothing-refl _))
 
 pub returns-in_default-begin : goal.returns-in_default-begin
-returns-in_default-begin g c = played.none_begun g.L.Listener.account (record { seed = c.args.seed; topology = c.args.topology.now; events = c.args.events.now }) _ _ _ (λ H begun. c.kept_in_scenarios.ensures (record { seed = c.args.seed; topology = c.args.topology.now; events = c.args.events.now }) H c.clients-rules.ensures.rules c.requires.legal begun) (c.in_default-begin.ensures c.args.topology.now c.requires.fresh)
+returns-in_default-begin g c = played.none_begun g.L.Listener.account (record { seed = c.args.seed; topology = c.args.chains.topology; events = c.args.events.now }) c.args.chains.chain _ _ _ (λ H begun. c.kept_in_scenarios.ensures (record { seed = c.args.seed; topology = c.args.chains.topology; events = c.args.events.now }) c.args.chains.chain H (subst IsTopology c.topology-topology.ensures.value c.clients-rules.ensures.rules) c.requires.legal begun) (c.in_default-begin.ensures c.args.chains.topology c.requires.fresh)
 
 pub loop-index-init : goal.loop-index-init
 loop-index-init g c =
-    let begun = c.in-Ok-begin.ensures c.args.topology.now c.requires.fresh in
-    played.nothing_played g.L.Listener.account (record { seed = c.args.seed; topology = c.args.topology.now; events = c.args.events.now }) (g.K.Sink.state c.args.out.now) _ (g.L.Listener.keeps c.args.listener.now) c.in-Ok.world (λ H begun. c.kept_in_scenarios.ensures (record { seed = c.args.seed; topology = c.args.topology.now; events = c.args.events.now }) H c.clients-rules.ensures.rules c.requires.legal begun) c.in-Ok.ensures.topology c.in-Ok.ensures.goes_on c.in-Ok.ensures.stands c.requires.fresh begun.ok begun.cause.kept
+    let begun = c.in-Ok-begin.ensures c.args.chains.topology c.requires.fresh in
+    played.nothing_played g.L.Listener.account (record { seed = c.args.seed; topology = c.args.chains.topology; events = c.args.events.now }) c.args.chains.chain (g.K.Sink.state c.args.out.now) _ (g.L.Listener.keeps c.args.listener.now) c.in-Ok.world (λ H begun. c.kept_in_scenarios.ensures (record { seed = c.args.seed; topology = c.args.chains.topology; events = c.args.events.now }) c.args.chains.chain H (subst IsTopology c.topology-topology.ensures.value c.clients-rules.ensures.rules) c.requires.legal begun) (c.in-Ok.ensures.topology ∙ c.topology-topology.ensures.value) c.in-Ok.ensures.chain c.in-Ok.ensures.goes_on c.in-Ok.ensures.stands c.requires.fresh begun.ok begun.cause.kept
 
 pub loop-turn-init : goal.loop-turn-init
-loop-turn-init g c = played.event_begins g.L.Listener.account (record { seed = c.args.seed; topology = c.args.topology.now; events = c.args.events.now }) _ _ _ _ _ c.event-item.result c.loop-index.invariant
+loop-turn-init g c = played.event_begins g.L.Listener.account (record { seed = c.args.seed; topology = c.args.chains.topology; events = c.args.events.now }) c.args.chains.chain _ _ _ _ _ c.event-item.result c.loop-index.invariant
 
 pub hear-requires : goal.hear-requires
 hear-requires g c =
@@ -27,12 +28,12 @@ hear-requires g c =
     let few : c.loop-index.index < 50000 = omega (arith, ap length c.as_slice-event-items.ensures, c.requires.few) in
     let p = c.loop-turn.invariant in
     let steps = played.stepped c.loop-turn.world c.step-played.new.self c.loop-index.index c.event-item.result c.step-played.result c.in-Ok-played.turn c.in-Ok-played.is c.step-played.ensures.ok in
-    let turned = played.turned g.L.Listener.account (record { seed = c.args.seed; topology = c.args.topology.now; events = c.args.events.now }) (g.K.Sink.state c.args.out.now) (g.K.Sink.state c.loop-turn.out) (g.L.Listener.keeps c.loop-turn.listener) c.loop-turn.world c.step-played.new.self c.loop-index.index c.event-item.result c.in-Ok-played.turn c.record_in.result.now p few event c.record_in.ensures steps in
+    let turned = played.turned g.L.Listener.account (record { seed = c.args.seed; topology = c.args.chains.topology; events = c.args.events.now }) c.args.chains.chain (g.K.Sink.state c.args.out.now) (g.K.Sink.state c.loop-turn.out) (g.L.Listener.keeps c.loop-turn.listener) c.loop-turn.world c.step-played.new.self c.loop-index.index c.event-item.result c.in-Ok-played.turn c.record_in.result.now p few event c.record_in.ensures steps in
     let law = c.of_its_event.ensures in
-    let H = played.past g.L.Listener.account (record { seed = c.args.seed; topology = c.args.topology.now; events = c.args.events.now }) (g.K.Sink.state c.args.out.now) (g.K.Sink.state c.loop-turn.out) (g.L.Listener.keeps c.loop-turn.listener) turned in
-    let r = played.given g.L.Listener.account (record { seed = c.args.seed; topology = c.args.topology.now; events = c.args.events.now }) (g.K.Sink.state c.args.out.now) (g.K.Sink.state c.loop-turn.out) (g.L.Listener.keeps c.loop-turn.listener) turned in
-    let news = played.news g.L.Listener.account (record { seed = c.args.seed; topology = c.args.topology.now; events = c.args.events.now }) (g.K.Sink.state c.args.out.now) (g.K.Sink.state c.loop-turn.out) (g.L.Listener.keeps c.loop-turn.listener) turned law in
-    played.can_hear g.L.Listener.account (record { seed = c.args.seed; topology = c.args.topology.now; events = c.args.events.now }) (g.K.Sink.state c.args.out.now) (g.K.Sink.state c.loop-turn.out) (g.L.Listener.keeps c.loop-turn.listener) turned law
+    let H = played.past g.L.Listener.account (record { seed = c.args.seed; topology = c.args.chains.topology; events = c.args.events.now }) c.args.chains.chain (g.K.Sink.state c.args.out.now) (g.K.Sink.state c.loop-turn.out) (g.L.Listener.keeps c.loop-turn.listener) turned in
+    let r = played.given g.L.Listener.account (record { seed = c.args.seed; topology = c.args.chains.topology; events = c.args.events.now }) c.args.chains.chain (g.K.Sink.state c.args.out.now) (g.K.Sink.state c.loop-turn.out) (g.L.Listener.keeps c.loop-turn.listener) turned in
+    let news = played.news g.L.Listener.account (record { seed = c.args.seed; topology = c.args.chains.topology; events = c.args.events.now }) c.args.chains.chain (g.K.Sink.state c.args.out.now) (g.K.Sink.state c.loop-turn.out) (g.L.Listener.keeps c.loop-turn.listener) turned law in
+    played.can_hear g.L.Listener.account (record { seed = c.args.seed; topology = c.args.chains.topology; events = c.args.events.now }) c.args.chains.chain (g.K.Sink.state c.args.out.now) (g.K.Sink.state c.loop-turn.out) (g.L.Listener.keeps c.loop-turn.listener) turned law
 
 pub loop-turn-preserved : goal.loop-turn-preserved
 loop-turn-preserved g c =
@@ -40,14 +41,14 @@ loop-turn-preserved g c =
     let few : c.loop-index.index < 50000 = omega (arith, ap length c.as_slice-event-items.ensures, c.requires.few) in
     let p = c.loop-turn.invariant in
     let steps = played.stepped c.loop-turn.world c.step-played.new.self c.loop-index.index c.event-item.result c.step-played.result c.in-Ok-played.turn c.in-Ok-played.is c.step-played.ensures.ok in
-    let turned = played.turned g.L.Listener.account (record { seed = c.args.seed; topology = c.args.topology.now; events = c.args.events.now }) (g.K.Sink.state c.args.out.now) (g.K.Sink.state c.loop-turn.out) (g.L.Listener.keeps c.loop-turn.listener) c.loop-turn.world c.step-played.new.self c.loop-index.index c.event-item.result c.in-Ok-played.turn c.record_in.result.now p few event c.record_in.ensures steps in
+    let turned = played.turned g.L.Listener.account (record { seed = c.args.seed; topology = c.args.chains.topology; events = c.args.events.now }) c.args.chains.chain (g.K.Sink.state c.args.out.now) (g.K.Sink.state c.loop-turn.out) (g.L.Listener.keeps c.loop-turn.listener) c.loop-turn.world c.step-played.new.self c.loop-index.index c.event-item.result c.in-Ok-played.turn c.record_in.result.now p few event c.record_in.ensures steps in
     let law = c.of_its_event.ensures in
-    let H = played.past g.L.Listener.account (record { seed = c.args.seed; topology = c.args.topology.now; events = c.args.events.now }) (g.K.Sink.state c.args.out.now) (g.K.Sink.state c.loop-turn.out) (g.L.Listener.keeps c.loop-turn.listener) turned in
-    let r = played.given g.L.Listener.account (record { seed = c.args.seed; topology = c.args.topology.now; events = c.args.events.now }) (g.K.Sink.state c.args.out.now) (g.K.Sink.state c.loop-turn.out) (g.L.Listener.keeps c.loop-turn.listener) turned in
-    let news = played.news g.L.Listener.account (record { seed = c.args.seed; topology = c.args.topology.now; events = c.args.events.now }) (g.K.Sink.state c.args.out.now) (g.K.Sink.state c.loop-turn.out) (g.L.Listener.keeps c.loop-turn.listener) turned law in
-    let grows = g.met.L.Listener.grows c.args.topology.now H r in
-    let heard = played.heard g.L.Listener.account (record { seed = c.args.seed; topology = c.args.topology.now; events = c.args.events.now }) (g.K.Sink.state c.args.out.now) (g.K.Sink.state c.loop-turn.out) _ (g.L.Listener.keeps c.loop-turn.listener) turned (g.L.Listener.news c.args.topology.now H r) grows (g.L.Listener.keeps c.hear.new.self) (c.in-Ok-hear.ensures.kept c.args.topology.now H r p.kept news) (c.in-Ok-hear.ensures.written c.args.topology.now H r p.kept news) in
-    played.goes_on law g.L.Listener.account (record { seed = c.args.seed; topology = c.args.topology.now; events = c.args.events.now }) (g.K.Sink.state c.args.out.now) (g.K.Sink.state c.loop-turn.out) _ (g.L.Listener.keeps c.loop-turn.listener) _ turned heard (sym c.is_more.ensures ∙ c.if-not-is_more.false)
+    let H = played.past g.L.Listener.account (record { seed = c.args.seed; topology = c.args.chains.topology; events = c.args.events.now }) c.args.chains.chain (g.K.Sink.state c.args.out.now) (g.K.Sink.state c.loop-turn.out) (g.L.Listener.keeps c.loop-turn.listener) turned in
+    let r = played.given g.L.Listener.account (record { seed = c.args.seed; topology = c.args.chains.topology; events = c.args.events.now }) c.args.chains.chain (g.K.Sink.state c.args.out.now) (g.K.Sink.state c.loop-turn.out) (g.L.Listener.keeps c.loop-turn.listener) turned in
+    let news = played.news g.L.Listener.account (record { seed = c.args.seed; topology = c.args.chains.topology; events = c.args.events.now }) c.args.chains.chain (g.K.Sink.state c.args.out.now) (g.K.Sink.state c.loop-turn.out) (g.L.Listener.keeps c.loop-turn.listener) turned law in
+    let grows = g.met.L.Listener.grows c.args.chains.topology H r in
+    let heard = played.heard g.L.Listener.account (record { seed = c.args.seed; topology = c.args.chains.topology; events = c.args.events.now }) c.args.chains.chain (g.K.Sink.state c.args.out.now) (g.K.Sink.state c.loop-turn.out) _ (g.L.Listener.keeps c.loop-turn.listener) turned (g.L.Listener.news c.args.chains.topology H r) grows (g.L.Listener.keeps c.hear.new.self) (c.in-Ok-hear.ensures.kept c.args.chains.topology H r p.kept news) (c.in-Ok-hear.ensures.written c.args.chains.topology H r p.kept news) in
+    played.goes_on law g.L.Listener.account (record { seed = c.args.seed; topology = c.args.chains.topology; events = c.args.events.now }) c.args.chains.chain (g.K.Sink.state c.args.out.now) (g.K.Sink.state c.loop-turn.out) _ (g.L.Listener.keeps c.loop-turn.listener) _ turned heard (sym c.is_more.ensures ∙ c.if-not-is_more.false)
 
 pub loop-turn-smaller : goal.loop-turn-smaller
 loop-turn-smaller g c =
@@ -61,14 +62,14 @@ loop-index-preserved g c =
     let few : c.loop-index.index < 50000 = omega (arith, ap length c.as_slice-event-items.ensures, c.requires.few) in
     let p = c.loop-turn.invariant in
     let steps = played.stepped c.loop-turn.world c.step-played.new.self c.loop-index.index c.event-item.result c.step-played.result c.in-Ok-played.turn c.in-Ok-played.is c.step-played.ensures.ok in
-    let turned = played.turned g.L.Listener.account (record { seed = c.args.seed; topology = c.args.topology.now; events = c.args.events.now }) (g.K.Sink.state c.args.out.now) (g.K.Sink.state c.loop-turn.out) (g.L.Listener.keeps c.loop-turn.listener) c.loop-turn.world c.step-played.new.self c.loop-index.index c.event-item.result c.in-Ok-played.turn c.record_in.result.now p few event c.record_in.ensures steps in
+    let turned = played.turned g.L.Listener.account (record { seed = c.args.seed; topology = c.args.chains.topology; events = c.args.events.now }) c.args.chains.chain (g.K.Sink.state c.args.out.now) (g.K.Sink.state c.loop-turn.out) (g.L.Listener.keeps c.loop-turn.listener) c.loop-turn.world c.step-played.new.self c.loop-index.index c.event-item.result c.in-Ok-played.turn c.record_in.result.now p few event c.record_in.ensures steps in
     let law = c.of_its_event.ensures in
-    let H = played.past g.L.Listener.account (record { seed = c.args.seed; topology = c.args.topology.now; events = c.args.events.now }) (g.K.Sink.state c.args.out.now) (g.K.Sink.state c.loop-turn.out) (g.L.Listener.keeps c.loop-turn.listener) turned in
-    let r = played.given g.L.Listener.account (record { seed = c.args.seed; topology = c.args.topology.now; events = c.args.events.now }) (g.K.Sink.state c.args.out.now) (g.K.Sink.state c.loop-turn.out) (g.L.Listener.keeps c.loop-turn.listener) turned in
-    let news = played.news g.L.Listener.account (record { seed = c.args.seed; topology = c.args.topology.now; events = c.args.events.now }) (g.K.Sink.state c.args.out.now) (g.K.Sink.state c.loop-turn.out) (g.L.Listener.keeps c.loop-turn.listener) turned law in
-    let grows = g.met.L.Listener.grows c.args.topology.now H r in
-    let heard = played.heard g.L.Listener.account (record { seed = c.args.seed; topology = c.args.topology.now; events = c.args.events.now }) (g.K.Sink.state c.args.out.now) (g.K.Sink.state c.loop-turn.out) _ (g.L.Listener.keeps c.loop-turn.listener) turned (g.L.Listener.news c.args.topology.now H r) grows (g.L.Listener.keeps c.hear.new.self) (c.in-Ok-hear.ensures.kept c.args.topology.now H r p.kept news) (c.in-Ok-hear.ensures.written c.args.topology.now H r p.kept news) in
-    played.event_ends law g.L.Listener.account (record { seed = c.args.seed; topology = c.args.topology.now; events = c.args.events.now }) (g.K.Sink.state c.args.out.now) (g.K.Sink.state c.loop-turn.out) _ (g.L.Listener.keeps c.loop-turn.listener) _ turned heard (sym c.is_more.ensures ∙ c.if-not-is_more.true)
+    let H = played.past g.L.Listener.account (record { seed = c.args.seed; topology = c.args.chains.topology; events = c.args.events.now }) c.args.chains.chain (g.K.Sink.state c.args.out.now) (g.K.Sink.state c.loop-turn.out) (g.L.Listener.keeps c.loop-turn.listener) turned in
+    let r = played.given g.L.Listener.account (record { seed = c.args.seed; topology = c.args.chains.topology; events = c.args.events.now }) c.args.chains.chain (g.K.Sink.state c.args.out.now) (g.K.Sink.state c.loop-turn.out) (g.L.Listener.keeps c.loop-turn.listener) turned in
+    let news = played.news g.L.Listener.account (record { seed = c.args.seed; topology = c.args.chains.topology; events = c.args.events.now }) c.args.chains.chain (g.K.Sink.state c.args.out.now) (g.K.Sink.state c.loop-turn.out) (g.L.Listener.keeps c.loop-turn.listener) turned law in
+    let grows = g.met.L.Listener.grows c.args.chains.topology H r in
+    let heard = played.heard g.L.Listener.account (record { seed = c.args.seed; topology = c.args.chains.topology; events = c.args.events.now }) c.args.chains.chain (g.K.Sink.state c.args.out.now) (g.K.Sink.state c.loop-turn.out) _ (g.L.Listener.keeps c.loop-turn.listener) turned (g.L.Listener.news c.args.chains.topology H r) grows (g.L.Listener.keeps c.hear.new.self) (c.in-Ok-hear.ensures.kept c.args.chains.topology H r p.kept news) (c.in-Ok-hear.ensures.written c.args.chains.topology H r p.kept news) in
+    played.event_ends law g.L.Listener.account (record { seed = c.args.seed; topology = c.args.chains.topology; events = c.args.events.now }) c.args.chains.chain (g.K.Sink.state c.args.out.now) (g.K.Sink.state c.loop-turn.out) _ (g.L.Listener.keeps c.loop-turn.listener) _ turned heard (sym c.is_more.ensures ∙ c.if-not-is_more.true)
 
 pub returns-in_default-hear : goal.returns-in_default-hear
 returns-in_default-hear g c =
@@ -76,46 +77,46 @@ returns-in_default-hear g c =
     let few : c.loop-index.index < 50000 = omega (arith, ap length c.as_slice-event-items.ensures, c.requires.few) in
     let p = c.loop-turn.invariant in
     let steps = played.stepped c.loop-turn.world c.step-played.new.self c.loop-index.index c.event-item.result c.step-played.result c.in-Ok-played.turn c.in-Ok-played.is c.step-played.ensures.ok in
-    let turned = played.turned g.L.Listener.account (record { seed = c.args.seed; topology = c.args.topology.now; events = c.args.events.now }) (g.K.Sink.state c.args.out.now) (g.K.Sink.state c.loop-turn.out) (g.L.Listener.keeps c.loop-turn.listener) c.loop-turn.world c.step-played.new.self c.loop-index.index c.event-item.result c.in-Ok-played.turn c.record_in.result.now p few event c.record_in.ensures steps in
+    let turned = played.turned g.L.Listener.account (record { seed = c.args.seed; topology = c.args.chains.topology; events = c.args.events.now }) c.args.chains.chain (g.K.Sink.state c.args.out.now) (g.K.Sink.state c.loop-turn.out) (g.L.Listener.keeps c.loop-turn.listener) c.loop-turn.world c.step-played.new.self c.loop-index.index c.event-item.result c.in-Ok-played.turn c.record_in.result.now p few event c.record_in.ensures steps in
     let law = c.of_its_event.ensures in
-    let H = played.past g.L.Listener.account (record { seed = c.args.seed; topology = c.args.topology.now; events = c.args.events.now }) (g.K.Sink.state c.args.out.now) (g.K.Sink.state c.loop-turn.out) (g.L.Listener.keeps c.loop-turn.listener) turned in
-    let r = played.given g.L.Listener.account (record { seed = c.args.seed; topology = c.args.topology.now; events = c.args.events.now }) (g.K.Sink.state c.args.out.now) (g.K.Sink.state c.loop-turn.out) (g.L.Listener.keeps c.loop-turn.listener) turned in
-    let news = played.news g.L.Listener.account (record { seed = c.args.seed; topology = c.args.topology.now; events = c.args.events.now }) (g.K.Sink.state c.args.out.now) (g.K.Sink.state c.loop-turn.out) (g.L.Listener.keeps c.loop-turn.listener) turned law in
-    let grows = g.met.L.Listener.grows c.args.topology.now H r in
-    played.broken g.L.Listener.account (record { seed = c.args.seed; topology = c.args.topology.now; events = c.args.events.now }) (g.K.Sink.state c.args.out.now) (g.K.Sink.state c.loop-turn.out) _ (g.L.Listener.keeps c.loop-turn.listener) turned (g.L.Listener.news c.args.topology.now H r) grows _ (c.in_default-hear.ensures.written c.args.topology.now H r p.kept news)
+    let H = played.past g.L.Listener.account (record { seed = c.args.seed; topology = c.args.chains.topology; events = c.args.events.now }) c.args.chains.chain (g.K.Sink.state c.args.out.now) (g.K.Sink.state c.loop-turn.out) (g.L.Listener.keeps c.loop-turn.listener) turned in
+    let r = played.given g.L.Listener.account (record { seed = c.args.seed; topology = c.args.chains.topology; events = c.args.events.now }) c.args.chains.chain (g.K.Sink.state c.args.out.now) (g.K.Sink.state c.loop-turn.out) (g.L.Listener.keeps c.loop-turn.listener) turned in
+    let news = played.news g.L.Listener.account (record { seed = c.args.seed; topology = c.args.chains.topology; events = c.args.events.now }) c.args.chains.chain (g.K.Sink.state c.args.out.now) (g.K.Sink.state c.loop-turn.out) (g.L.Listener.keeps c.loop-turn.listener) turned law in
+    let grows = g.met.L.Listener.grows c.args.chains.topology H r in
+    played.broken g.L.Listener.account (record { seed = c.args.seed; topology = c.args.chains.topology; events = c.args.events.now }) c.args.chains.chain (g.K.Sink.state c.args.out.now) (g.K.Sink.state c.loop-turn.out) _ (g.L.Listener.keeps c.loop-turn.listener) turned (g.L.Listener.news c.args.chains.topology H r) grows _ (c.in_default-hear.ensures.written c.args.chains.topology H r p.kept news)
 
 pub returns-in-NoMemory : goal.returns-in-NoMemory
 returns-in-NoMemory g c =
     let event : slice_get c.args.events.now c.loop-index.index ≡ Some c.event-item.result = played.event_at c.args.events.now c.as_slice-event-items.result.now c.loop-index.index c.event-item.result c.as_slice-event-items.ensures (omega arith) c.event-item.is in
     let few : c.loop-index.index < 50000 = omega (arith, ap length c.as_slice-event-items.ensures, c.requires.few) in
-    (c.loop-turn.invariant.quiet, inr (played.starves g.L.Listener.account (record { seed = c.args.seed; topology = c.args.topology.now; events = c.args.events.now }) (g.K.Sink.state c.args.out.now) (g.K.Sink.state c.loop-turn.out) (g.L.Listener.keeps c.loop-turn.listener) c.loop-turn.world c.loop-index.index c.event-item.result c.loop-turn.invariant event (subst (λ (z : Stop). StopsFor c.loop-turn.world c.loop-index.index c.event-item.result z) c.in-NoMemory.is (played.stopped_for c.loop-turn.world c.loop-index.index c.event-item.result c.step-played.result c.in-Err.stop c.in-Err.is c.loop-turn.invariant.open_still c.step-played.ensures.cause))))
+    (c.loop-turn.invariant.quiet, inr (played.starves g.L.Listener.account (record { seed = c.args.seed; topology = c.args.chains.topology; events = c.args.events.now }) c.args.chains.chain (g.K.Sink.state c.args.out.now) (g.K.Sink.state c.loop-turn.out) (g.L.Listener.keeps c.loop-turn.listener) c.loop-turn.world c.loop-index.index c.event-item.result c.loop-turn.invariant event (subst (λ (z : Stop). StopsFor c.loop-turn.world c.loop-index.index c.event-item.result z) c.in-NoMemory.is (played.stopped_for c.loop-turn.world c.loop-index.index c.event-item.result c.step-played.result c.in-Err.stop c.in-Err.is c.loop-turn.invariant.open_still c.step-played.ensures.cause))))
 
 pub returns-in-WireFull : goal.returns-in-WireFull
 returns-in-WireFull g c =
     let event : slice_get c.args.events.now c.loop-index.index ≡ Some c.event-item.result = played.event_at c.args.events.now c.as_slice-event-items.result.now c.loop-index.index c.event-item.result c.as_slice-event-items.ensures (omega arith) c.event-item.is in
     let few : c.loop-index.index < 50000 = omega (arith, ap length c.as_slice-event-items.ensures, c.requires.few) in
     let p = c.loop-turn.invariant in
-    let fills = played.fills g.L.Listener.account (record { seed = c.args.seed; topology = c.args.topology.now; events = c.args.events.now }) (g.K.Sink.state c.args.out.now) (g.K.Sink.state c.loop-turn.out) (g.L.Listener.keeps c.loop-turn.listener) c.loop-turn.world c.loop-index.index c.event-item.result p event (subst (λ (z : Stop). StopsFor c.loop-turn.world c.loop-index.index c.event-item.result z) c.in-WireFull.is (played.stopped_for c.loop-turn.world c.loop-index.index c.event-item.result c.step-played.result c.in-Err.stop c.in-Err.is c.loop-turn.invariant.open_still c.step-played.ensures.cause)) in
-    played.filled g.L.Listener.account (record { seed = c.args.seed; topology = c.args.topology.now; events = c.args.events.now }) (g.K.Sink.state c.args.out.now) (g.K.Sink.state c.loop-turn.out) _ p.history p.written p.quiet fills c.in-Ok-break_off.ensures
+    let fills = played.fills g.L.Listener.account (record { seed = c.args.seed; topology = c.args.chains.topology; events = c.args.events.now }) c.args.chains.chain (g.K.Sink.state c.args.out.now) (g.K.Sink.state c.loop-turn.out) (g.L.Listener.keeps c.loop-turn.listener) c.loop-turn.world c.loop-index.index c.event-item.result p event (subst (λ (z : Stop). StopsFor c.loop-turn.world c.loop-index.index c.event-item.result z) c.in-WireFull.is (played.stopped_for c.loop-turn.world c.loop-index.index c.event-item.result c.step-played.result c.in-Err.stop c.in-Err.is c.loop-turn.invariant.open_still c.step-played.ensures.cause)) in
+    played.filled g.L.Listener.account (record { seed = c.args.seed; topology = c.args.chains.topology; events = c.args.events.now }) c.args.chains.chain (g.K.Sink.state c.args.out.now) (g.K.Sink.state c.loop-turn.out) _ p.history p.written p.quiet fills c.in-Ok-break_off.ensures
 
 pub returns-in_default-break_off : goal.returns-in_default-break_off
 returns-in_default-break_off g c =
     let event : slice_get c.args.events.now c.loop-index.index ≡ Some c.event-item.result = played.event_at c.args.events.now c.as_slice-event-items.result.now c.loop-index.index c.event-item.result c.as_slice-event-items.ensures (omega arith) c.event-item.is in
     let few : c.loop-index.index < 50000 = omega (arith, ap length c.as_slice-event-items.ensures, c.requires.few) in
     let p = c.loop-turn.invariant in
-    let fills = played.fills g.L.Listener.account (record { seed = c.args.seed; topology = c.args.topology.now; events = c.args.events.now }) (g.K.Sink.state c.args.out.now) (g.K.Sink.state c.loop-turn.out) (g.L.Listener.keeps c.loop-turn.listener) c.loop-turn.world c.loop-index.index c.event-item.result p event (subst (λ (z : Stop). StopsFor c.loop-turn.world c.loop-index.index c.event-item.result z) c.in-WireFull.is (played.stopped_for c.loop-turn.world c.loop-index.index c.event-item.result c.step-played.result c.in-Err.stop c.in-Err.is c.loop-turn.invariant.open_still c.step-played.ensures.cause)) in
-    played.not_filled g.L.Listener.account (record { seed = c.args.seed; topology = c.args.topology.now; events = c.args.events.now }) (g.K.Sink.state c.args.out.now) (g.K.Sink.state c.loop-turn.out) _ p.history p.written p.quiet _ fills c.in_default-break_off.ensures
+    let fills = played.fills g.L.Listener.account (record { seed = c.args.seed; topology = c.args.chains.topology; events = c.args.events.now }) c.args.chains.chain (g.K.Sink.state c.args.out.now) (g.K.Sink.state c.loop-turn.out) (g.L.Listener.keeps c.loop-turn.listener) c.loop-turn.world c.loop-index.index c.event-item.result p event (subst (λ (z : Stop). StopsFor c.loop-turn.world c.loop-index.index c.event-item.result z) c.in-WireFull.is (played.stopped_for c.loop-turn.world c.loop-index.index c.event-item.result c.step-played.result c.in-Err.stop c.in-Err.is c.loop-turn.invariant.open_still c.step-played.ensures.cause)) in
+    played.not_filled g.L.Listener.account (record { seed = c.args.seed; topology = c.args.chains.topology; events = c.args.events.now }) c.args.chains.chain (g.K.Sink.state c.args.out.now) (g.K.Sink.state c.loop-turn.out) _ p.history p.written p.quiet _ fills c.in_default-break_off.ensures
 
 pub returns-in-Ok-end : goal.returns-in-Ok-end
 returns-in-Ok-end g c =
     let end : length c.args.events.now ≤ c.loop-index.index = omega (arith, ap length c.as_slice-event-items.ensures, c.loop-index-test.false) in
     let p = c.loop-index.invariant in
-    let whole = played.all_played g.L.Listener.account (record { seed = c.args.seed; topology = c.args.topology.now; events = c.args.events.now }) _ _ _ c.loop-index.world c.loop-index.index p end in
-    played.ended g.L.Listener.account (record { seed = c.args.seed; topology = c.args.topology.now; events = c.args.events.now }) _ _ _ p.history p.written p.quiet whole (c.in-Ok-end.ensures c.args.topology.now p.history p.kept)
+    let whole = played.all_played g.L.Listener.account (record { seed = c.args.seed; topology = c.args.chains.topology; events = c.args.events.now }) c.args.chains.chain _ _ _ c.loop-index.world c.loop-index.index p end in
+    played.ended g.L.Listener.account (record { seed = c.args.seed; topology = c.args.chains.topology; events = c.args.events.now }) c.args.chains.chain _ _ _ p.history p.written p.quiet whole (c.in-Ok-end.ensures c.args.chains.topology p.history p.kept)
 
 pub returns : goal.returns
 returns g c =
     let end : length c.args.events.now ≤ c.loop-index.index = omega (arith, ap length c.as_slice-event-items.ensures, c.loop-index-test.false) in
     let p = c.loop-index.invariant in
-    let whole = played.all_played g.L.Listener.account (record { seed = c.args.seed; topology = c.args.topology.now; events = c.args.events.now }) _ _ _ c.loop-index.world c.loop-index.index p end in
-    played.not_ended g.L.Listener.account (record { seed = c.args.seed; topology = c.args.topology.now; events = c.args.events.now }) _ _ _ p.history p.written p.quiet _ whole (c.in-Err-end.ensures c.args.topology.now p.history p.kept)
+    let whole = played.all_played g.L.Listener.account (record { seed = c.args.seed; topology = c.args.chains.topology; events = c.args.events.now }) c.args.chains.chain _ _ _ c.loop-index.world c.loop-index.index p end in
+    played.not_ended g.L.Listener.account (record { seed = c.args.seed; topology = c.args.chains.topology; events = c.args.events.now }) c.args.chains.chain _ _ _ p.history p.written p.quiet _ whole (c.in-Err-end.ensures c.args.chains.topology p.history p.kept)

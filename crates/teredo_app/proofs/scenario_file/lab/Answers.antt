@@ -7,8 +7,8 @@ use Rattle.teredo_app.proofs.scenario_file.lab.Goals as goal
 pub returns-in-Ok : goal.returns-in-Ok
 returns-in-Ok g c =
     let from : Opened 4194305 _ _ c.args.file.now = record { opened = c.scenario_in.ensures.opened; taken = c.scenario_in.ensures.taken } in
-    let played = rw c.in-Ok.ensures.untouched at c.play.ensures in
-    rw c.status_of.ensures (played_ends report_account _ _ _ _ c.args.file.now from (told c.in-Ok.s) c.play.result c.in-Ok.ensures.read c.in-Ok.ensures.quiet played)
+    let played = rw c.in-Ok.ensures.untouched at c.play_flat.ensures in
+    rw c.status_of.ensures (played_ends report_account _ _ _ _ c.args.file.now from (told c.in-Ok.s) c.play_flat.result c.in-Ok.ensures.read c.in-Ok.ensures.quiet played)
 
 pub returns-in-Err : goal.returns-in-Err
 returns-in-Err g c =
