@@ -19,6 +19,7 @@
 //! | `failing_sends` | `run` on `lab`, with sends that fail, and with all that is on the wire delivered |
 //! | `full_wires` | `run` on `lab`, and `player`, with a scenario that sends more than the wire holds |
 //! | `captures` | `run` on `wire` and `audit` |
+//! | `nested` | `run` on `nested` |
 //! | `refusals` | `run` on `lab`, with texts that are no scenario |
 //! | `clients`, `peers`, `relays` | `run` on `lab`, with clients, two of them, and a native host |
 //! | `arrivals` | `run` on `serve`, over a link in memory |
@@ -53,6 +54,8 @@ mod lines;
 mod names;
 #[cfg(test)]
 mod natives;
+#[cfg(test)]
+mod nested;
 #[cfg(test)]
 mod nets;
 #[cfg(test)]

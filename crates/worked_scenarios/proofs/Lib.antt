@@ -11,3 +11,4 @@ pub mod Late
 pub mod OwnStreams
 pub mod FaultReports
 pub mod SettleReports
+pub mod ChainReports

@@ -7,6 +7,7 @@
 //! | `QualifyReports`, `OwnStreams` | clients behind each kind of NAT find their address, lose it, keep it |
 //! | `ConeReports`, `MeetingReports`, `TryReports`, `QueueTotals` | two clients meet, or don't |
 //! | `FaultReports`, `SettleReports` | a send that fails; all that is on the wire is delivered |
+//! | `ChainReports` | a client behind a NAT that is behind another one |
 //! | `RelayReports` | a native host and a client, through a relay |
 //! | `HeldReports` | a client holds packets of a native host, and hands over those from where the test is answered |
 //! | `TestBytes` | the bytes of a test |
