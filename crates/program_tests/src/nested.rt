@@ -1,6 +1,6 @@
 //! `nested`: a NAT behind another one, and scenarios that aren't played so.
 use crate::nets::{CLIENT, CONE_NAT, NATIVE, PORT_NAT, RELAY, SERVER};
-use crate::runs::{NAME, ends_so, ending, text_with};
+use crate::runs::{NAME, ending, ends_so, text_with};
 use std::alloc::Global;
 use std::test::Fail;
 use td_base::NoMemory;

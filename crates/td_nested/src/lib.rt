@@ -4,7 +4,7 @@
 //!
 //! - There is one exactly where the text asks for a chain of its NATs and no node is a relay or a native host: `Nested::new`
 //!   and `chains_of` answer the first of the two reasons against it (`specs/Nested.antt`).
-//! - It stands for histories as a world does (`specs/World.antt` of `world`), with this chain: a new one for the history without
+//! - It stands for histories as a world does, which `world` says, with this chain: a new one for the history without
 //!   records, and `Nested::step` gives the record that follows.
 //!
 //! # What it does not know
@@ -18,15 +18,15 @@
 //! | `nested_fault` | why there is no such laboratory | `specs/Nested.antt` |
 //! | `nested_chains` | the NATs of a text and a topology | `specs/Nested.antt` |
 //! | `left_out` | the events that it isn't asked for | `specs/Nested.antt` |
-//! | `nested` | `Nested` | `specs/World.antt` of `world` |
+//! | `nested` | `Nested` | `specs/Nested.antt`, and as a world |
 #![tactic(auto)]
 
-mod nested_chains;
 mod left_out;
 mod nested;
+mod nested_chains;
 mod nested_fault;
 
-pub use nested_chains::chains_of;
 pub use left_out::is_left_out;
 pub use nested::Nested;
+pub use nested_chains::chains_of;
 pub use nested_fault::NestedFault;
