@@ -8,8 +8,10 @@ status with NAME.toml.status. And with each line of the scenario that says so it
   # expect: b rule3 handed/45        a record of the event before has these words behind its act, in this order
   # expect: total handed 2           the last line of the report has them
   # expect: scenario seed: kind      the text is refused with this line
+  # expect: nested: nodes            so is what a chain can't be played with
 
-Of several lines below one event each is met by a later record than the one before. `--write` writes NAME.toml.stdout
+Of several lines below one event each is met by a later record than the one before. A scenario with a line
+`# chain: CHAIN` is played by `nested FILE CHAIN`, every other one by `lab FILE`. `--write` writes NAME.toml.stdout
 where there is none. Ends with the line 'N passed, M failed', and with status 1 where one failed or none was played.
 """
 import bisect
@@ -21,10 +23,12 @@ import sys
 
 sys.dont_write_bytecode = True
 
+import chains
 import command
 import toml_places
 
 EXPECT = re.compile(r'#[ \t]*expect:[ \t]*(.*?)[ \t]*$', re.M)
+REFUSED = {'scenario': 3, 'nested': 12}  # the status of what ends with a line of this word
 DIFFERENCES_MAX = 20  # lines that are shown of one report
 
 
@@ -59,7 +63,7 @@ def unmet(text, written):
         said = ' '.join(expected.words)
         if not expected.words:
             found.append(f'{expected.line}: expects nothing')
-        elif expected.words[0].rstrip(':') in ('total', 'scenario', 'wire'):
+        elif expected.words[0].rstrip(':') in ('total', 'scenario', 'nested', 'wire'):
             last = lines[-1] if lines else ''
             if not has_in_order(last.split(), expected.words):
                 found.append(f'{expected.line}: expected {said}, and the last line is: {last}')
@@ -84,13 +88,14 @@ def differences(path, written):
 def wanted_status(path, text, has_report):
     if os.path.exists(path + '.status'):
         return int(command.read(path + '.status'))
-    return 3 if not has_report and any(expected.words[:1] in (['scenario'], ['scenario:']) for expected in expectations(text)) else 0
+    refused = [] if has_report else [expected.words[0].rstrip(':') for expected in expectations(text) if expected.words]
+    return next((status for word, status in REFUSED.items() if word in refused), 0)
 
 
 def check(program, path, is_written=False):
     """What is wrong with one scenario, or None where it expects nothing."""
     text, has_report = command.read(path), os.path.exists(path + '.stdout')
-    status, written = command.play_file(program, path)
+    status, written = command.play_file(program, path, chains.chain_of(text))
     if is_written and not has_report:
         command.write(path + '.stdout', written)
         print(f'{path}.stdout: written')

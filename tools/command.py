@@ -9,6 +9,8 @@ import subprocess
 import sys
 import tempfile
 
+import chains
+
 TOP = os.path.dirname(os.path.dirname(os.path.abspath(__file__)))
 PROGRAM = os.path.join(TOP, 'teredo')  # which builds the program where it has to
 FOUND, WRONG_WORDS, UNREADABLE = 1, 2, 4
@@ -35,6 +37,14 @@ def with_program(parser):
     return parser
 
 
+def with_chain(parser):
+    """The same parser, with a chain of NATs as an option."""
+    parser.add_argument('--chain', metavar='CHAIN',
+                        help='play a scenario by `nested FILE CHAIN`; where none is named, with the chain that its line '
+                             '`# chain: CHAIN` has, and by `lab` where it has no such line')
+    return parser
+
+
 def read(path):
     """The text of a file; `-` is standard input."""
     try:
@@ -57,8 +67,7 @@ def write(path, text):
 
 
 def call(program, *shape):
-    """The status of the program with these words, the last of which is a file, and the bytes that it wrote."""
-    path = shape[-1]
+    """The status of the program with these words, and the bytes that it wrote."""
     try:
         is_built = program != PROGRAM  # else it may be built first, and what that says is shown
         played = subprocess.run([program, *shape], stdin=subprocess.DEVNULL, stdout=subprocess.PIPE,
@@ -67,24 +76,24 @@ def call(program, *shape):
     except OSError as fault:
         raise Refusal(f'{program}: {fault.strerror}', UNREADABLE) from None
     except subprocess.TimeoutExpired:
-        raise Refusal(f'{path}: no end within {SECONDS_MAX} s') from None
+        raise Refusal(f'{" ".join(shape)}: no end within {SECONDS_MAX} s') from None
     if played.returncode == 125:
         raise Refusal('there is no program to play with', 125)
     return played.returncode, played.stdout
 
 
-def play_file(program, path):
-    """The status of `lab PATH`, and what it wrote."""
-    status, written = call(program, 'lab', path)
+def play_file(program, path, chain=None):
+    """The status of `lab PATH`, or of `nested PATH CHAIN`, and what it wrote."""
+    status, written = call(program, *(['lab', path] if chain is None else ['nested', path, chain]))
     return status, written.decode('utf-8', 'replace')
 
 
-def play(program, text):
-    """The same of a scenario's text."""
+def play(program, text, chain=None):
+    """The same of a scenario's text; where no chain is named, with the one that it says."""
     with tempfile.NamedTemporaryFile('w', suffix='.toml', encoding='utf-8') as file:
         file.write(text)
         file.flush()
-        return play_file(program, file.name)
+        return play_file(program, file.name, chains.chain_of(text) if chain is None else chain)
 
 
 def run(main):

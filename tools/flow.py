@@ -1,7 +1,7 @@
 #!/usr/bin/env python3
 """Who sent what to whom: a report as a ladder, in text or as a picture.
 
-FILE is a report of `lab`, or a scenario, which is played first; `-` is standard input. A column is a node; an arrow is an
+FILE is a report of `lab` or `nested`, or a scenario, which is played first; `-` is standard input. A column is a node; an arrow is an
 entry of the wire, from who made it to where it ended, at the moment of its delivery. Lost ones are cut off.
 
   flow FILE                         the ladder as text, the records beside it
@@ -23,7 +23,7 @@ from travel import Travels, targets_of
 
 
 def options_of(words):
-    parser = command.with_program(command.words(__doc__))
+    parser = command.with_chain(command.with_program(command.words(__doc__)))
     parser.add_argument('file', metavar='FILE', help='a report or a scenario')
     parser.add_argument('--svg', action='store_true', help='a picture in SVG')
     parser.add_argument('--from', dest='first', metavar='N', type=int, default=0, help='the first record')

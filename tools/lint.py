@@ -2,15 +2,18 @@
 """Where a refused scenario is wrong: the line of the file, what is wanted there, and the nearest known word.
 
 Each FILE is played; where `lab` refuses it, this says the line and the column of the first fault with the line itself and
-a caret below it. Ends with status 0 where all are scenarios, and with 1 where one is refused.
+a caret below it. So it does where `nested` has no chain of NATs to play, or a node or an event that it leaves out. Ends
+with status 0 where all are played, and with 1 where one is refused.
 
   lint FILE..
+  lint FILE --chain CHAIN
 """
 import re
 import sys
 
 sys.dont_write_bytecode = True
 
+import chains
 import command
 import toml_places
 import wanted
@@ -24,10 +27,11 @@ ADDRESSES = ('primary', 'secondary', 'external', 'at', 'inside', 'six')
 AT_EVENT = re.compile(r'scenario events\[(\d+)\] at (\d+): event')
 AT_TABLE = re.compile(r'scenario (\w+)\[(\d+)\](?:\.(.*))?: (\w+)')
 AT_TOP = re.compile(r'scenario (.*): (\w+)')
+AT_LEFT_OUT = re.compile(r'nested events\[(\d+)\]')
 
 
 class Finding:
-    """A place in the text, how many characters are meant, and what is said of them."""
+    """A place in the text, how many characters are meant, and what is said of them; no place where it is about a word."""
 
     def __init__(self, place, length, text):
         self.place, self.length, self.text = place, max(1, length), text
@@ -149,6 +153,23 @@ def finding(text, said):
     raise command.Refusal(f'this is no refusal: {said}')
 
 
+def of_chain(text, said, chain):
+    """The finding for a scenario that `nested` doesn't play with this chain, from the line that it said."""
+    top, left_out = toml_places.read(text), AT_LEFT_OUT.fullmatch(said)
+    if left_out:
+        item = top.value['events'].value[int(left_out[1])]
+        return Finding(item.start + 1, len(item.value.partition(' ')[0]),
+                       f'with a chain no {", no ".join(chains.LEFT_OUT)}; `next`, again and again, delivers as settle does')
+    if said == 'nested: nodes':
+        place = min(tables_of(top, table)[0].start for table in ('relay', 'native') if tables_of(top, table))
+        return Finding(place, 1, 'with a chain servers, NATs and clients alone')
+    if said != 'nested: chain':
+        raise command.Refusal(f'this is no refusal: {said}')
+    line = chains.found_in(text)
+    is_said = line is not None and line[1] == chain
+    return Finding(line.start(1) if is_said else None, len(chain), chains.fault_of(top.plain(), chain))
+
+
 def of_top_key(top, key, word):
     if word != 'key' and key in LISTS and isinstance(top.value[key].value, dict):
         return Finding(top.value[key].start, len(key) + 2, f'two brackets, [[{key}]]: a list of tables')
@@ -190,24 +211,27 @@ def by_python(text):
     return ''
 
 
-def lint(program, path):
-    """The lines on a file, none where it is a scenario."""
+def lint(program, path, chain=None):
+    """The lines on a file, none where it is played."""
     text = command.read(path)
-    status, written = command.play_file(program, path)
-    if status != 3:
+    chain = chains.chain_of(text) if chain is None else chain
+    status, written = command.play_file(program, path, chain)
+    if status not in (3, 12):
         return []
     said = written.strip()
-    found = finding(text, said)
+    found = finding(text, said) if status == 3 else of_chain(text, said, chain)
+    if found.place is None:
+        return [f'{path}: {said}', f'  wanted: {found.text}']
     line, column, there = toml_places.place_of(text, found.place)
     caret = ' ' * (column - 1) + '^' * min(found.length, max(1, len(there) - column + 1))
     return [f'{path}:{line}:{column}: {said}', f'  {there}', f'  {caret}', f'  wanted: {found.text}']
 
 
 def main():
-    parser = command.with_program(command.words(__doc__))
+    parser = command.with_chain(command.with_program(command.words(__doc__)))
     parser.add_argument('files', metavar='FILE', nargs='+')
     options = parser.parse_args()
-    lines = [line for path in options.files for line in lint(options.program, path)]
+    lines = [line for path in options.files for line in lint(options.program, path, options.chain)]
     if lines:
         print('\n'.join(lines))
     return command.FOUND if lines else 0

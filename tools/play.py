@@ -29,14 +29,14 @@ NEXT_MAX = 1000  # deliveries of one `all` or `until`
 class Session:
     """A scenario whose last events are typed."""
 
-    def __init__(self, program, path):
-        self.program, self.text = program, command.read(path)
+    def __init__(self, program, path, chain=None):
+        self.program, self.chain, self.text = program, chain, command.read(path)
         self.list = scenario_node(path, self.text).value['events']
         self.kept = len(self.list.value)  # events of the file that are still there
         self.added = []
         self.steps = []  # how many events each command added; 0 took one of the file
         self.status, self.written = self.played()
-        if self.status == 3:
+        if self.status in (3, 12):
             raise command.Refusal(f'{path}: {self.written.strip()}; lint says where')
 
     def events(self):
@@ -51,7 +51,7 @@ class Session:
         return self.text[:end] + lines + ',\n]' + self.text[self.list.end:]
 
     def played(self):
-        return command.play(self.program, self.whole())
+        return command.play(self.program, self.whole(), self.chain)
 
     def records(self):
         return [record_of(line) for line in self.written.splitlines() if line[:1].isdigit()]
@@ -191,10 +191,10 @@ def lines_of(file):
 
 
 def main():
-    parser = command.with_program(command.words(__doc__))
+    parser = command.with_chain(command.with_program(command.words(__doc__)))
     parser.add_argument('file', metavar='FILE', help='a scenario')
     options = parser.parse_args()
-    session = Session(options.program, options.file)
+    session = Session(options.program, options.file, options.chain)
     print(session.written, end='', flush=True)
     for line in lines_of(sys.stdin):
         try:

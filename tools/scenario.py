@@ -20,10 +20,13 @@ IDLE_MS = 60_000
 
 
 class Scenario:
-    """The nodes and the events of a scenario; each kind of node is numbered from 1, and has the addresses of its number."""
+    """The nodes and the events of a scenario; each kind of node is numbered from 1, and has the addresses of its number.
 
-    def __init__(self, seed=1):
-        self.seed, self.events = seed, []
+    With a chain of NATs the text says so, and the tools play it by `nested`.
+    """
+
+    def __init__(self, seed=1, chain=None):
+        self.seed, self.chain, self.events = seed, chain, []
         self.lists = {'server': [], 'nat': [], 'client': [], 'relay': [], 'native': []}
 
     def add(self, table, name, **keys):
@@ -70,7 +73,8 @@ class Scenario:
             self.event(f'advance {ms}', 'settle')
 
     def text(self):
-        lines = [f'seed = {self.seed}', 'events = ['] + [f'  "{event}",' for event in self.events] + [']']
+        lines = [] if self.chain is None else [f'# chain: {self.chain}']
+        lines += [f'seed = {self.seed}', 'events = ['] + [f'  "{event}",' for event in self.events] + [']']
         for kind, nodes in self.lists.items():
             for node in nodes:
                 lines += ['', f'[[{kind}]]'] + [f'{key} = {quoted(value)}' for key, value in node.items()]

@@ -1,7 +1,7 @@
 #!/usr/bin/env python3
 """Why didn't this packet arrive? What came of each event of a report, as a tree of causes.
 
-FILE is a report of `lab`, or a scenario, which is played first; `-` is standard input. Each entry of the wire stands
+FILE is a report of `lab` or `nested`, or a scenario, which is played first; `-` is standard input. Each entry of the wire stands
 below the record that made it, with where it ended and by which rule; `never delivered` is one that was lost.
 
   trace FILE             the whole tree
@@ -27,7 +27,7 @@ def load(options):
     if is_report(text):
         return Report(text), []
     events = scenario_events(options.file, text)
-    status, written = command.play(options.program, text)
+    status, written = command.play(options.program, text, options.chain)
     if status not in (0, 8):
         raise command.Refusal(f'{options.file}: {written.strip() or f"status {status}"}; lint says where')
     return Report(written), events
@@ -119,7 +119,7 @@ def event_lines(travels, number, events):
 
 
 def options_of(words):
-    parser = command.with_program(command.words(__doc__))
+    parser = command.with_chain(command.with_program(command.words(__doc__)))
     parser.add_argument('file', metavar='FILE', help='a report or a scenario')
     what = parser.add_mutually_exclusive_group()
     what.add_argument('--event', metavar='N', type=int, help='this event alone')
