@@ -1,10 +1,11 @@
 #!/usr/bin/env bash
-# check.sh [PROGRAM]: plays each scenario and shows each datagram with the built program, compares what it writes with
-# the file NAME.stdout beside it, and its exit status with NAME.status (0 where there is no such file). Then plays every
-# pair of NAT kinds and compares with pairs.txt, an entry of each weight and compares with storms.txt, and a first packet in
-# every order and compares with orders.txt, reads every pair of faults and compares with faults.txt, writes and audits every
-# scenario's capture and compares with captures.txt, makes the examples' datagrams and compares them with the files, and
-# plays what the documents quote.
+# check.sh [PROGRAM]: plays each scenario, with its chain of NATs each of chains/, and shows each datagram with the built
+# program, compares what it writes with the file NAME.stdout beside it, and its exit status with NAME.status (0 where there
+# is no such file). Then plays every pair of NAT kinds and compares with pairs.txt, every NAT behind a NAT and compares with
+# nested.txt, an entry of each weight and compares with storms.txt, and a first packet in every order and compares with
+# orders.txt, reads every pair of faults and compares with faults.txt, writes and audits every scenario's capture and
+# compares with captures.txt, makes the examples' datagrams and compares them with the files, and plays what the documents
+# quote.
 # Ends with the line 'N passed, M failed', and with status 1 where one failed or none was played.
 set -u
 here=$(cd -- "$(dirname -- "${BASH_SOURCE[0]}")" >/dev/null && pwd) || exit 1
@@ -55,10 +56,14 @@ failed=0
 for scenario in scenarios/*.toml; do
   try "$scenario" lab "$scenario"
 done
+for scenario in chains/*.toml; do
+  try "$scenario" nested "$scenario" "$(sed -n 's/^# chain: //p' "$scenario")"
+done
 for datagram in datagrams/*.hex; do
   try "$datagram" show "$(cat "$datagram")"
 done
 run pairs.py --check "$program"
+run nested.py --check "$program"
 run storms.py --check "$program"
 run orders.py --check "$program"
 run faults.py --check "$program"

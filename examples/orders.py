@@ -7,8 +7,8 @@ how many orders there are, the least and the most deliveries, and in how many or
 rule, or never. The second one has the fates of the orders, and when the straight bubble of `a` is delivered in them. The third
 one has what breaks a premise: whether the packet arrives, how many entries are left, and each fate once. `--check`
 prints nothing where the tables are those of `orders.txt`, the fates those of the table in docs/SURE.md and of the examples that
-it names, and a packet is handed over just where it should be; else what differs, with status 1. `--scenario FROM TO` prints the scenario of a pair,
-and `--without NUMBER` that of a line of the third table, counted from 1.
+it names, and a packet is handed over just where it should be; else what differs, with status 1. `--scenario FROM TO` prints
+the scenario of a pair, and `--without NUMBER` that of a line of the third table, counted from 1.
 """
 import collections
 import os

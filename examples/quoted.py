@@ -1,7 +1,7 @@
 #!/usr/bin/env python3
 """quoted.py [PROGRAM]: plays what the documents quote, and compares.
 
-- Each console block of a page whose command is `./teredo lab`, `wire`, `show`, `gen` or a tool is run, and the lines below the
+- Each console block of a page whose command is `./teredo lab`, `nested`, `wire`, `show`, `gen` or a tool is run, and the lines below the
   command are what it must write; its status follows from them. Commands are run from the top of the repository.
 - The scenario that README.md shows is the example that it names.
 - Each row of examples/refusals.txt: the example at the top of docs/SCENARIOS.md is changed as it says, and played.
@@ -19,12 +19,12 @@ import tempfile
 TOP = os.path.dirname(os.path.dirname(os.path.abspath(__file__)))
 PROGRAM = os.path.join(TOP, 'crates', 'teredo_cli', 'out', 'teredo_cli')
 TOOLS = ('trace', 'flow', 'lint', 'check', 'generated')
-COMMAND = re.compile(rf'^\$ \./teredo (lab examples/|wire examples/|show |gen |(?:{"|".join(TOOLS)}) )')
+COMMAND = re.compile(rf'^\$ \./teredo (lab examples/|nested examples/|wire examples/|show |gen |(?:{"|".join(TOOLS)}) )')
 # How many commands each page quotes at least, and how many refusals there are: a check of nothing passes.
 BLOCKS_MIN = {'README.md': 1, 'docs/GUIDE.md': 15, 'docs/SURE.md': 9, 'docs/CAPTURES.md': 2}
 ROWS_MIN = 49
 # The status of what ends so; 0 of all else.
-STATUSES = {'fault ': 1, 'words': 2, 'scenario ': 3, 'wire full': 8, 'unlicensed ': 10, 'capture ': 11}
+STATUSES = {'fault ': 1, 'words': 2, 'scenario ': 3, 'wire full': 8, 'unlicensed ': 10, 'capture ': 11, 'nested': 12}
 
 
 def read(path):

@@ -58,6 +58,12 @@ def page_events():
     return {words[0]: words for words in texts}
 
 
+def page_chains():
+    """Each CHAIN of the table in docs/SCENARIOS.md, and whether it is refused. The empty text stands there in words."""
+    for chain, said, _ in fates.rows(fates.page(), 'CHAIN'):
+        yield chain.strip('`') if chain.startswith('`') else '', said == '`nested: chain`'
+
+
 def nearest(word, known):
     """What was meant, maybe."""
     found = difflib.get_close_matches(str(word).lower(), list(known), 1, 0.6)
