@@ -8,8 +8,7 @@ use Rattle.events.specs.declared.event.Event.{Event}
 use Rattle.events.specs.declared.event.Event.TheVariants as event
 use Rattle.events.specs.declared.event.TheConstants.{ADVANCE_MAX_MS}
 use Rattle.history.specs.declared.act.Act.TheVariants as act
-use Rattle.events.specs.Events.{IsEvent}
-use Rattle.history.specs.Full.{Full, wire}
+use Rattle.history.specs.Full.{Full}
 use Rattle.topology.specs.Rows.{TopologyState}
 use Rattle.topology.specs.Rules.{IsTopology, IsClient}
 use Rattle.topology.specs.declared.client_node.ClientNode.{ClientNode}
@@ -24,19 +23,18 @@ use Rattle.legal.specs.Settings.{client_settings, relay_settings}
 use Rattle.legal.specs.Past.{now, began, has_more, journal, words}
 use Rattle.legal.specs.Emit.{entry_of, due_of}
 use Rattle.legal.specs.Next.{Numbered, numbered, Due, least_due, advanced, advance_with, acts, no_ep, next_of}
-use Rattle.legal.specs.Legal.{GoesOn, Follows, Grown}
+use Rattle.legal.specs.Legal.{GoesOn}
 use Rattle.legal.specs.Kinds.{IsDue}
-use Rattle.legal.specs.Left.{peers_due, due_moments, all_due, left_to, left_of_event, left, PLACES}
+use Rattle.legal.specs.Left.{peers_due, due_moments, all_due, left_to}
 use Rattle.legal.proofs.ByKind.{least_is}
 use Rattle.legal.proofs.Framed.{frames}
 use Rattle.legal.proofs.Times.{ends}
 use Rattle.legal.proofs.Weights.{weights, weights_append, weights_most}
-use Rattle.legal.proofs.FewDue.{most_due}
+use Rattle.legal.proofs.FewDue.{FewLaws, most_due, few_due}
 use Rattle.legal.proofs.ClientFalls.{ClientLaws, client_fades, client_falls}
 use Rattle.legal.proofs.RelayFalls.{relay_fades, relay_falls}
 use Rattle.legal.specs.Lab.{Lab}
-use Rattle.legal.specs.Laws.{is_advance}
-use Rattle.legal.proofs.Undelivered.{settle_falls, settles}
+use Rattle.legal.specs.Laws.{is_advance, EachAdvanceFalls, EachAdvanceIsBounded}
 
 -- THE REFRESHES OF A TOPOLOGY'S CLIENTS ARE APART
 
@@ -180,6 +178,11 @@ less_to : ClientLaws → (lab : Lab) (H : List Full) (e : Numbered) (x : Due) (e
 less_to laws lab H e x end is due within past =
     among laws lab H e (max x.moment (now H)) x.number end x.node (omega arith) (omega (arith, within, past)) x.moment 0 x.number (nodes lab.topology) (omega arith) due.there due.due (omega arith) (one_slow (nodes lab.topology) x.number x.node (all_slow lab.topology is) due.there)
 
+-- how long an advance is
+abbrev length_of : ℕ → Event → ℕ
+length_of other (event.Advance ms) = ms
+length_of other _ = other
+
 abbrev pub HasFewDue : Lab → List Full → Type 0
 HasFewDue lab H = length (all_due lab H 0 (nodes lab.topology)) ≤ most_due
 
@@ -190,37 +193,16 @@ at_rest lab H ms few short =
     let product : length (all_due lab H 0 (nodes lab.topology)) * (now H + ms + 1 - now H) ≤ most_due * 1000000001 = mul-le-mul few span in
     omega (arith, most, product)
 
--- before the record no less is left than of its advance
-before : (lab : Lab) (H : List Full) (ms : ℕ) → HasFewDue lab H → GoesOn H (event.Advance ms) → ms ≤ ADVANCE_MAX_MS → left_to lab H (began H + ms) ≤ left lab H
-before lab [] ms few goes short = at_rest lab [] ms few short
-before lab (q ∷ H) ms few goes short = by (has_more q.asked q.act) refl where
-  by : (b : Bool) → has_more q.asked q.act ≡ b → left_to lab (q ∷ H) (began (q ∷ H) + ms) ≤ cond b (left_of_event lab (q ∷ H) q.asked) LEFT_MAX
-  by true more =
-      let same : left_to lab (q ∷ H) (began (q ∷ H) + ms) ≡ left_of_event lab (q ∷ H) q.asked = ap (left_of_event lab (q ∷ H)) (goes more) in
-      omega (arith, same)
-  by false last =
-      let start : began (q ∷ H) ≡ q.moment = ap (λ b. cond b (began H) q.moment) last in
-      subst (λ (x : ℕ). left_to lab (q ∷ H) (x + ms) ≤ LEFT_MAX) (sym start) (at_rest lab (q ∷ H) ms few short)
-
-tick_falls : ClientLaws → (lab : Lab) (H : List Full) (r : Full) → IsTopology lab.topology → Grown lab H → HasFewDue lab H → Follows lab H r → is_advance r.asked ≡ true → has_more r.asked r.act ≡ true
-    → left lab (r ∷ H) < left lab H
-tick_falls laws lab H r is grown few follows advance more =
-    let tick : IsTick lab H r.event r.asked = more_ticks lab H r.event r.asked advance (subst (λ (x : Full). has_more r.asked x.act ≡ true) follows.is more) in
+pub falls : ClientLaws → EachAdvanceFalls
+falls laws lab H r ms is grown follows asked more =
+    let tick : IsTick lab H r.event r.asked = more_ticks lab H r.event r.asked (ap is_advance asked) (subst (λ (x : Full). has_more r.asked x.act ≡ true) follows.is more) in
+    let same : tick.ms ≡ ms = ap (length_of ms) (sym tick.asked ∙ asked) in
     let end : ℕ = began H + tick.ms in
     let goes : GoesOn H (event.Advance tick.ms) = subst (GoesOn H) tick.asked follows.goes_on in
-    let short : tick.ms ≤ ADVANCE_MAX_MS = subst (IsEvent lab.topology) tick.asked follows.event in
     let past : now H ≤ end = ends lab H tick.ms grown goes in
     let less : left_to lab (acts lab H (numbered r.event (event.Advance tick.ms)) act.Tick None (max tick.x.moment (now H)) tick.x.number no_ep ticked tick.x.node ∷ H) end < left_to lab H end = less_to laws lab H (numbered r.event (event.Advance tick.ms)) tick.x end is tick.due tick.within past in
     let mine : left_to lab (r ∷ H) end < left_to lab H end = subst (λ (x : Full). left_to lab (x ∷ H) end < left_to lab H end) (sym (follows.is ∙ tick.is)) less in
-    let start : began (r ∷ H) ≡ began H = ap (λ b. cond b (began H) r.moment) more in
-    let now_left : left lab (r ∷ H) ≡ left_to lab (r ∷ H) end =
-    ap (λ b. cond b (left_of_event lab (r ∷ H) r.asked) LEFT_MAX) more ∙ ap (left_of_event lab (r ∷ H)) tick.asked ∙ ap (λ (x : ℕ). left_to lab (r ∷ H) (x + tick.ms)) start in
-    let most : left_to lab H end ≤ left lab H = before lab H tick.ms few goes short in
-    omega (arith, mine, now_left, most)
+    subst (λ (x : ℕ). left_to lab (r ∷ H) (began H + x) < left_to lab H (began H + x)) same mine
 
-pub falls : ClientLaws → (lab : Lab) (H : List Full) (r : Full) → IsTopology lab.topology → Grown lab H → HasFewDue lab H → length (wire H) ≤ PLACES → Follows lab H r → has_more r.asked r.act ≡ true
-    → left lab (r ∷ H) < left lab H
-falls laws lab H r is grown few room follows more = by (is_advance r.asked) refl where
-  by : (b : Bool) → is_advance r.asked ≡ b → left lab (r ∷ H) < left lab H
-  by true advance = tick_falls laws lab H r is grown few follows advance more
-  by false other = settle_falls lab H r room follows (settles r.asked r.act other more) more
+pub bounded : FewLaws → EachAdvanceIsBounded
+bounded laws lab H ms is grown short = at_rest lab H ms (few_due laws lab H is grown) short

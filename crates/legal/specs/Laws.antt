@@ -1,7 +1,8 @@
 -- What holds of every record that follows, whatever nodes there are.
-use Rattle.std.specs.Prelude.{◌≡◌, ◌≤◌, ◌<◌, ◌-◌, ℕ, Bool, true, false, List, ◌∷◌, ◌++◌, length, slice_get, Some}
+use Rattle.std.specs.Prelude.{◌≡◌, ◌≤◌, ◌<◌, ◌+◌, ◌-◌, ℕ, Bool, true, false, List, ◌∷◌, ◌++◌, length, slice_get, Some}
 use Rattle.events.specs.declared.event.Event.{Event}
 use Rattle.events.specs.declared.event.Event.TheVariants as event
+use Rattle.events.specs.declared.event.TheConstants.{ADVANCE_MAX_MS}
 use Rattle.history.specs.Full.{Full, wire, items_of}
 use Rattle.history.specs.Telling.{IsTold}
 use Rattle.nat_kinds.specs.Laws.{IsPast}
@@ -17,10 +18,11 @@ use Rattle.topology.specs.declared.node.Node.TheVariants.{Client as client, Rela
 use Rattle.topology.specs.Topology.{node_at, nat_at, nat_settings}
 use Rattle.topology.specs.Rules.{IsTopology}
 use Rattle.legal.specs.Settings.{client_settings, relay_settings}
-use Rattle.legal.specs.Past.{now, has_more, journal, nat_history}
+use Rattle.legal.specs.Past.{now, began, has_more, journal, nat_history}
 use Rattle.legal.specs.Next.{next_of}
 use Rattle.legal.specs.Legal.{Follows, Grown}
-use Rattle.legal.specs.Left.{left, PLACES}
+use Rattle.legal.specs.declared.left.TheConstants.{LEFT_MAX}
+use Rattle.legal.specs.Left.{left_to}
 use Rattle.legal.specs.Lab.{Lab}
 
 -- the record after H is of event number i, and its entries come behind those of the wire
@@ -101,7 +103,12 @@ abbrev pub EachRelayIsJournal : Type 0
 EachRelayIsJournal = (lab : Lab) (H : List Full) (n : ℕ) (r : RelayNode) → Grown lab H
     → node_at lab.topology n ≡ Some (relay r) → IsOfRelay (relay_settings lab.topology n r) (journal n H) (now H)
 
--- after a record that has further ones, less is left, as long as the wire isn't too long
-abbrev pub EachFalls : Type 0
-EachFalls = (lab : Lab) (H : List Full) (r : Full) → IsTopology lab.topology → Grown lab H → length (wire H) ≤ PLACES → Follows lab H r
-    → has_more r.asked r.act ≡ true → left lab (r ∷ H) < left lab H
+-- after a tick of an advance that goes on, less is left of it
+abbrev pub EachAdvanceFalls : Type 0
+EachAdvanceFalls = (lab : Lab) (H : List Full) (r : Full) (ms : ℕ) → IsTopology lab.topology → Grown lab H → Follows lab H r
+    → r.asked ≡ event.Advance ms → has_more r.asked r.act ≡ true → left_to lab (r ∷ H) (began H + ms) < left_to lab H (began H + ms)
+
+-- and no more than this where one begins
+abbrev pub EachAdvanceIsBounded : Type 0
+EachAdvanceIsBounded = (lab : Lab) (H : List Full) (ms : ℕ) → IsTopology lab.topology → Grown lab H → ms ≤ ADVANCE_MAX_MS
+    → left_to lab H (now H + ms) ≤ LEFT_MAX

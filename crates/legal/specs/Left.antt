@@ -1,5 +1,5 @@
--- What is left of an event: it falls with each further record, so each event has an end.
-use Rattle.std.specs.Prelude.{ℕ, ◌+◌, ◌-◌, nat_le, max, if◌then◌else◌, List, [], ◌∷◌, ◌++◌, filter, flat_map, sum_by, option_to_list, zero, suc, Bool}
+-- What is left of an advance: it falls with each further record, so each advance has an end.
+use Rattle.std.specs.Prelude.{ℕ, ◌+◌, ◌-◌, nat_le, max, if◌then◌else◌, List, [], ◌∷◌, ◌++◌, filter, flat_map, sum_by, option_to_list}
 use Rattle.td_base.specs.declared.ipv6.Ip6.{Ip6}
 use Rattle.peer_list.specs.Mentions.{Mention}
 use Rattle.peer_list.specs.Listed.{listed}
@@ -8,17 +8,13 @@ use Rattle.peer_list.specs.Judged.{is_none, due_of}
 use Rattle.qualify.specs.Qualification.{qualification}
 use Rattle.client_rules.specs.Bearings as client_bearings
 use Rattle.relay_rules.specs.Bearings as relay_bearings
-use Rattle.events.specs.declared.event.Event.{Event}
-use Rattle.events.specs.declared.event.Event.TheVariants as event
 use Rattle.topology.specs.declared.node.Node.{Node}
 use Rattle.topology.specs.declared.node.Node.TheVariants.{Client as client, Relay as relay}
 use Rattle.topology.specs.Topology.{nodes}
 use Rattle.history.specs.Full.{Full}
-use Rattle.legal.specs.declared.left.TheConstants.{LEFT_MAX}
 use Rattle.legal.specs.Settings.{client_settings}
-use Rattle.legal.specs.Past.{now, began, has_more, journal, was_delivered}
+use Rattle.legal.specs.Past.{now, journal}
 use Rattle.legal.specs.Lab.{Lab}
-use Rattle.events.specs.declared.event.TheConstants.{ENTRY_NUMBER_MAX}
 
 -- when the packets that wait for a listed peer are due
 abbrev pub waits_until : Peer → List ℕ
@@ -46,26 +42,3 @@ time_left end at moments = sum_by (λ m. end + 1 - max m at) (filter (λ m. nat_
 -- for an advance that ends at `end`
 abbrev pub left_to : Lab → List Full → ℕ → ℕ
 left_to lab H end = time_left end (now H) (all_due lab H 0 (nodes lab.topology))
-
--- how many of the first places aren't marked
-unfoldable pub open_places : ℕ → (ℕ → Bool) → ℕ
-open_places zero marked = 0
-open_places (suc i) marked = open_places i marked + (if marked i then 0 else 1)
-
--- as many entries as a wire has at most, by their greatest number
-abbrev pub PLACES : ℕ
-PLACES = ENTRY_NUMBER_MAX + 1
-
--- for `settle`: the wire's places whose entry was never delivered, whether there is one yet or not. Each delivery takes one
-abbrev pub undelivered : List Full → ℕ
-undelivered H = open_places PLACES (λ i. was_delivered i H)
-
-abbrev pub left_of_event : Lab → List Full → Event → ℕ
-left_of_event lab H (event.Advance ms) = left_to lab H (began H + ms)
-left_of_event lab H event.Settle = undelivered H
-left_of_event lab H _ = 0
-
--- as much as may be where the next record begins an event
-abbrev pub left : Lab → List Full → ℕ
-left lab [] = LEFT_MAX
-left lab (r ∷ H) = if has_more r.asked r.act then left_of_event lab (r ∷ H) r.asked else LEFT_MAX

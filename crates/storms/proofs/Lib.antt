@@ -21,3 +21,5 @@ mod ClientServers
 mod ClientsLighten
 mod ClientsReached
 mod Lightens
+mod FewWait
+mod LessLeft

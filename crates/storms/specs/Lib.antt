@@ -3,3 +3,4 @@ pub mod Burden
 pub mod Deliveries
 pub mod Loads
 pub mod Throughout
+pub mod Left

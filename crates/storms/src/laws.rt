@@ -1,6 +1,7 @@
 //! Laws of every history.
-ghost use Rattle.storms.specs.Loads.{EachIsWeighed, EachServedIsWeighed, BurdenIsBounded, DeliveryExchanges};
+ghost use Rattle.storms.specs.Loads.{EachIsWeighed, EachServedIsWeighed, BurdenIsBounded, FewWait, DeliveryExchanges};
 ghost use Rattle.storms.specs.Deliveries.{EachLightens, EachStormEnds, SettleDeliversNew, EachSettlingEnds};
+ghost use Rattle.storms.specs.Left.{EachFalls};
 ghost use Rattle.storms.specs.Throughout.{HistoriesHaveNoStorm, ScenariosHaveNoStorm};
 
 /// Each entry weighs 1 at least, and 12 at most.
@@ -22,6 +23,23 @@ pub fn burden_is_bounded()
     ensures { BurdenIsBounded }
 {
     server_core::one_output();
+}
+
+/// No more packets wait at once than eight for each of the 256 peers of each client and relay.
+pub fn few_wait()
+    ensures { FewWait }
+{
+    peer_list::one_entry();
+    legal::client_journals();
+    legal::relay_journals();
+    client_rules::fate_of_reception();
+    client_rules::fate_of_transmission();
+    client_rules::transmission_is_warranted();
+    client_rules::journal_has_few();
+    relay_rules::fate_of_reception();
+    relay_rules::fate_of_transmission();
+    relay_rules::transmission_is_warranted();
+    relay_rules::journal_has_few();
 }
 
 /// A delivery takes its entry out of what is undelivered, and brings what the record made, whatever these weigh.
@@ -94,6 +112,18 @@ pub fn settling_ends()
 {
     deliveries_end();
     settle_delivers_new();
+}
+
+/// After a record that has further ones, less is left: so each event has an end.
+pub fn falls()
+    ensures { EachFalls }
+{
+    legal::advances_fall();
+    legal::advances_are_bounded();
+    each_lightens();
+    settle_delivers_new();
+    burden_is_bounded();
+    few_wait();
 }
 
 /// Every history has no storm, from each of its records on.

@@ -1,0 +1,333 @@
+-- How many packets wait at most: eight for each of 256 peers of each client and relay.
+use Rattle.std.proofs.Common.{◌≡◌, ◌≤◌, ◌<◌, ◌||◌, ℕ, suc, ◌+◌, ◌*◌, Bool, true, false, cond, List, [], ◌∷◌, ◌++◌, length, map, Option, Some, None, refl, sym, ap, subst, ◌∙◌, arith, length-append, leb-false}
+use Rattle.std.specs.Prelude.{IfSome, slice_get, flat_map, option_to_list, unwrap_or}
+use Rattle.std.proofs.lemmas.Bool.{false≢true}
+use Rattle.td_base.specs.declared.ipv6.Ip6.{Ip6}
+use Rattle.td_base.specs.declared.endpoint.Ep.{Ep}
+use Rattle.bubble.specs.Reads.{value_in}
+use Rattle.bubble.specs.PacketsIn.{source_in, destination_in}
+use Rattle.teredo_node.specs.declared.fate.Fate.{Fate}
+use Rattle.teredo_node.specs.declared.fate.Fate.TheVariants as fate
+use Rattle.teredo_node.specs.Journal.{Input, arrived, given, from_six, ticked, Entry, Journal, Words, is_changed, epoch}
+use Rattle.teredo_node.proofs.FirstLines.{first_of_each}
+use Rattle.peer_list.specs.declared.limits.TheConstants.{LISTED_MS}
+use Rattle.peer_list.specs.Mentions.{Mention, is_about}
+use Rattle.peer_list.specs.Listed.{is_young, is_listed, listed}
+use Rattle.peer_list.specs.Peers.{Peer, no_peer, peer_at, known}
+use Rattle.peer_list.specs.Judged.{is_full}
+use Rattle.peer_list.specs.Laws.{peer_if, OneEntry}
+use Rattle.peer_list.proofs.FromMentions.{peer_is}
+use Rattle.qualify.specs.declared.settings.Settings.{Settings}
+use Rattle.qualify.specs.declared.phase.Phase.{Phase}
+use Rattle.qualify.specs.declared.phase.Phase.TheVariants as phase
+use Rattle.qualify.specs.Advertisements.{heard, advert_lines, phase_line, advert_row}
+use Rattle.client_rules.specs.Bearings as client_bearings
+use Rattle.client_rules.specs.Standing as client_standing
+use Rattle.client_rules.specs.Reception as client_reception
+use Rattle.client_rules.specs.Transmission as client_transmission
+use Rattle.client_rules.specs.Warrants as client_warrants
+use Rattle.client_rules.specs.Journals as client_journals
+use Rattle.client_rules.specs.Laws as client_laws
+use Rattle.relay_rules.specs.Bearings as relay_bearings
+use Rattle.relay_rules.specs.Standing as relay_standing
+use Rattle.relay_rules.specs.Standing.{RelaySettings}
+use Rattle.relay_rules.specs.Reception as relay_reception
+use Rattle.relay_rules.specs.Transmission as relay_transmission
+use Rattle.relay_rules.specs.Warrants as relay_warrants
+use Rattle.relay_rules.specs.Journals as relay_journals
+use Rattle.relay_rules.specs.Laws as relay_laws
+use Rattle.topology.specs.Rows.{TopologyState}
+use Rattle.topology.specs.Rules.{IsTopology}
+use Rattle.topology.specs.declared.node.Node.{Node}
+use Rattle.topology.specs.declared.node.Node.TheVariants.{Server as server, Nat as nat, Client as client, Relay as relay, Native as native}
+use Rattle.topology.specs.Topology.{nodes, node_at}
+use Rattle.history.specs.Full.{Full}
+use Rattle.legal.specs.Settings.{client_settings, relay_settings}
+use Rattle.legal.specs.Past.{now, journal}
+use Rattle.legal.specs.Lab.{Lab}
+use Rattle.legal.specs.Legal.{Grown}
+use Rattle.legal.specs.Laws.{EachClientIsJournal, EachRelayIsJournal}
+use Rattle.storms.specs.Burden.{waiting_packets, client_packet, relay_packet, waits_at, waits_from}
+use Rattle.storms.specs.Loads.{FewWait}
+
+-- FOR ONE PEER
+
+-- an entry that queues a packet touches its peer, and finds fewer than eight waiting for it
+record QueuesFew (e : Mention) (j : List Mention) : Type 0 where
+  touches : e.bearing.touches ≡ true
+  free : (p : Ip6) → e.peer ≡ Some p → is_full (known j e.moment p) ≡ false
+
+abbrev QueueFew : List Mention → Type 0
+QueueFew [] = Unit {0}
+QueueFew (e ∷ j) = IfSome e.bearing.queues (λ x. QueuesFew e j) × QueueFew j
+
+not_full : (x : Peer) → is_full x ≡ false → length x.waiting < 8
+unfolding is_full
+not_full x h = leb-false 8 (length x.waiting) h
+
+any_some : {A : Type 0} (P : Type 0) (o : Option A) → P → IfSome o (λ x. P)
+any_some P None h = tt
+any_some P (Some x) h = h
+
+to_some : {A : Type 0} (P Q : Type 0) (o : Option A) → (P → Q) → IfSome o (λ x. P) → IfSome o (λ x. Q)
+to_some P Q None f h = tt
+to_some P Q (Some x) f h = f h
+
+adds : (c : Bool) (xs : List (List ℕ)) (o : Option (List ℕ)) → length xs ≤ 8 → IfSome o (λ x. length xs < 8) → length (cond c [] (xs ++ option_to_list o)) ≤ 8
+adds true xs o h f = omega arith
+adds false xs None h f = let both = length-append xs [] in omega (arith, both, h)
+adds false xs (Some x) h f = let both = length-append xs (x ∷ []) in omega (arith, both, f)
+
+few_if : (e : Mention) (j : List Mention) (p : Ip6) (about touches young : Bool) (later : Option Peer) → is_about p e ≡ about → e.bearing.touches ≡ touches → IfSome e.bearing.queues (λ x. QueuesFew e j)
+    → length (known j e.moment p).waiting ≤ 8 → length (unwrap_or later no_peer).waiting ≤ 8 → length (unwrap_or (peer_if about touches young e (peer_at j e.moment p) later) no_peer).waiting ≤ 8
+few_if e j p false touches young later a t q b h = h
+few_if e j p true false young None a t q b h = omega arith
+few_if e j p true false young (Some x) a t q b h =
+    adds (e.bearing.hears || e.bearing.gives_up) x.waiting e.bearing.queues h (to_some (QueuesFew e j) (length x.waiting < 8) e.bearing.queues (λ f. absurd (false≢true (sym t ∙ f.touches))) q)
+few_if e j p true true false later a t q b h = omega arith
+few_if e j p true true true later a t q b h =
+    let x : Peer = known j e.moment p in
+    adds (e.bearing.hears || e.bearing.gives_up) x.waiting e.bearing.queues b (to_some (QueuesFew e j) (length x.waiting < 8) e.bearing.queues (λ f. not_full x (f.free p (peer_is p e.peer a))) q)
+
+known_none : (n : ℕ) (p : Ip6) → known [] n p ≡ no_peer
+unfolding peer_at is_listed
+known_none n p = refl
+
+few_waiting : OneEntry → (j : List Mention) → QueueFew j → (n : ℕ) (p : Ip6) → length (known j n p).waiting ≤ 8
+few_waiting one [] q n p = let none = ap (λ (x : Peer). length x.waiting) (known_none n p) in omega (arith, none)
+few_waiting one (e ∷ j) q n p =
+    subst (λ (o : Option Peer). length (unwrap_or o no_peer).waiting ≤ 8) (sym (one e j n p))
+    (few_if e j p (is_about p e) e.bearing.touches (is_young LISTED_MS n e.moment) (peer_at j n p) refl refl q.0 (few_waiting one j q.1 e.moment p) (few_waiting one j q.1 n p))
+
+-- FOR ALL PEERS
+
+flat_few : (g : Ip6 → List (List ℕ)) (ps : List Ip6) → ((p : Ip6) → length (g p) ≤ 8) → length (flat_map g ps) ≤ 8 * length ps
+flat_few g [] each = omega arith
+flat_few g (p ∷ ps) each =
+    let one = each p in
+    let rest = flat_few g ps each in
+    let both = length-append (g p) (flat_map g ps) in
+    omega (arith, one, rest, both)
+
+few_packets : OneEntry → (j : List Mention) (m : ℕ) → QueueFew j → length (listed j m) ≤ 256 → length (waiting_packets j m) ≤ 2048
+few_packets one j m q few =
+    let all = flat_few (λ (p : Ip6). (known j m p).waiting) (listed j m) (few_waiting one j q m) in
+    omega (arith, all, few)
+
+-- WHAT A CLIENT QUEUES
+
+abbrev is_queued : Fate → Bool
+is_queued fate.Queued = true
+is_queued _ = false
+
+abbrev IsOther : Fate → Type 0
+IsOther f = is_queued f ≡ false
+
+queued_other : {A : Type 0} (f : Fate) → IsOther f → f ≡ fate.Queued → A
+queued_other f other is = absurd (false≢true (sym other ∙ ap is_queued is))
+
+phase_other : (p : Phase) (same : Bool) → IsOther (phase_line p same)
+phase_other phase.Cone same = refl
+phase_other phase.Restricted same = refl
+phase_other phase.Secondary true = refl
+phase_other phase.Secondary false = refl
+phase_other phase.Qualified true = refl
+phase_other phase.Qualified false = refl
+phase_other phase.Symmetric same = refl
+phase_other phase.OffLine same = refl
+
+-- no datagram of a client is
+received_other : (s : Settings) (a : client_standing.Standing) (from : Ep) (x : List ℕ) → IsOther (client_reception.reception_fate s a from x)
+unfolding client_reception.reception_fate advert_row
+received_other s a from x =
+    let z = client_reception.seen s a from x in
+    let h = heard s a.qualification from (value_in x) in
+    let advert : IsOther (advert_row s a.qualification from (value_in x)) = first_of_each IsOther (advert_lines h) (phase_line h.phase h.same_origin) (refl, (refl, (refl, (refl, (refl, tt))))) (phase_other h.phase h.same_origin) in
+    first_of_each IsOther (client_reception.datagram_lines z ++ (client_reception.server_lines z (advert_row s a.qualification from (value_in x)) ++ (client_reception.packet_lines z ++ (client_reception.indirect_lines z ++ client_reception.direct_lines z)))) fate.Suspicious
+    (refl, (refl, (refl, (refl, (refl, (advert, (refl, (refl, (refl, (refl, (refl, (refl, (refl, (refl, (refl, (refl, (refl, (refl, (refl, (refl, (refl, (refl, (refl, (refl, tt)))))))))))))))))))))))) refl
+
+pub record ClientFewLaws : Type 0 where
+  pub received : client_laws.FateOfReception
+  pub sent : client_laws.FateOfTransmission
+  pub warranted : client_laws.TransmissionIsWarranted
+  pub few : client_laws.JournalHasFew
+  pub journals : EachClientIsJournal
+
+client_queues : (e : Entry) (f : Fate) (P : Type 0) → (f ≡ fate.Queued → IfSome e.packet (λ x. P)) → IfSome (client_bearings.bearing_of f e).queues (λ x. P)
+client_queues e fate.Queued P h = h refl
+client_queues e _ P h = tt
+
+client_few : (e : Entry) (j : List Mention) → (e.step.fate ≡ fate.Queued → (p : Ip6) → e.peer ≡ Some p → is_full (known j e.moment p) ≡ false) → IfSome (client_bearings.mention e).bearing.queues (λ x. QueuesFew (client_bearings.mention e) j)
+client_few e j free =
+    client_queues e e.step.fate (QueuesFew (client_bearings.mention e) j)
+    (λ k. any_some (QueuesFew (client_bearings.mention e) j) e.packet (record { touches = ap (λ (f : Fate). (client_bearings.bearing_of f e).touches) k; free = free k }))
+
+client_out : ClientFewLaws → (s : Settings) (j : Journal) (n : ℕ) (x : List ℕ) (w : Words) → let e : Entry = client_journals.client_out s j n x w in e.step.fate ≡ fate.Queued → (p : Ip6) → e.peer ≡ Some p
+    → is_full (known (client_bearings.mentions j.entries) n p) ≡ false
+unfolding client_journals.client_out client_transmission.given client_standing.standing_at
+client_out laws s j n x w k p about =
+    let a : client_standing.Standing = client_standing.standing_of s j n (destination_in x) in
+    let later : client_warrants.GoesLater (client_transmission.given s a x) = subst (λ (f : Fate). client_warrants.SentOnlyIf f (client_transmission.given s a x)) (sym (laws.sent s a x w) ∙ k) (laws.warranted s a x) in
+    ap (λ (o : Option Ip6). is_full (client_standing.known_in (client_standing.standing_of s j n o))) (sym about) ∙ later.free
+
+client_entry_few : ClientFewLaws → (s : Settings) (j : Journal) (n : ℕ) (input : Input) (w : Words) → let e : Entry = client_journals.client_entry s j n input w in
+    IfSome (client_bearings.mention e).bearing.queues (λ x. QueuesFew (client_bearings.mention e) (client_bearings.mentions j.entries))
+unfolding client_journals.client_in client_journals.client_out client_journals.client_tick
+client_entry_few laws s j n (arrived from x) w =
+    let a : client_standing.Standing = client_standing.standing_of s j n (source_in x) in
+    client_few (client_journals.client_entry s j n (arrived from x) w) (client_bearings.mentions j.entries)
+    (λ k. queued_other (client_reception.reception_fate s a from x) (received_other s a from x) (sym (laws.received s a from x w) ∙ k))
+client_entry_few laws s j n (given x) w = client_few (client_journals.client_entry s j n (given x) w) (client_bearings.mentions j.entries) (client_out laws s j n x w)
+client_entry_few laws s j n ticked w =
+    let e : Entry = client_journals.client_entry s j n ticked w in
+    client_queues e e.step.fate (QueuesFew (client_bearings.mention e) (client_bearings.mentions j.entries)) (λ k. tt)
+client_entry_few laws s j n (from_six x) w = tt
+
+client_queue : ClientFewLaws → (s : Settings) (start : ℕ) (j : List Entry) → client_journals.AreEntries s start j → QueueFew (client_bearings.mentions j)
+unfolding client_bearings.mentions
+client_queue laws s start [] a = tt
+client_queue laws s start (e ∷ j) a =
+    let one = subst (λ (x : Entry). IfSome (client_bearings.mention x).bearing.queues (λ y. QueuesFew (client_bearings.mention x) (client_bearings.mentions j))) (sym a.0.is) (client_entry_few laws s (client_journals.journal start j) e.moment e.input a.0.words) in
+    by (is_changed e.step.fate) one (client_queue laws s start j a.1)
+  where
+    by : (b : Bool) → IfSome (client_bearings.mention e).bearing.queues (λ y. QueuesFew (client_bearings.mention e) (client_bearings.mentions j)) → QueueFew (client_bearings.mentions j) → QueueFew (map client_bearings.mention (cond b [] (e ∷ epoch j)))
+    by true one rest = tt
+    by false one rest = (one, rest)
+
+-- WHAT A RELAY QUEUES
+
+-- no datagram of a relay is
+relayed_other : (s : RelaySettings) (a : relay_standing.Standing) (from : Ep) (x : List ℕ) → IsOther (relay_reception.reception_row (relay_reception.seen s a from x))
+relayed_other s a from x =
+    first_of_each IsOther (relay_reception.reception_lines (relay_reception.seen s a from x)) fate.Unserved (refl, (refl, (refl, (refl, (refl, (refl, (refl, (refl, tt)))))))) refl
+
+pub record RelayFewLaws : Type 0 where
+  pub received : relay_laws.FateOfReception
+  pub sent : relay_laws.FateOfTransmission
+  pub warranted : relay_laws.TransmissionIsWarranted
+  pub few : relay_laws.JournalHasFew
+  pub journals : EachRelayIsJournal
+
+relay_queues : (e : Entry) (f : Fate) (P : Type 0) → (f ≡ fate.Queued → IfSome e.packet (λ x. P)) → IfSome (relay_bearings.bearing_of f e).queues (λ x. P)
+relay_queues e fate.Queued P h = h refl
+relay_queues e _ P h = tt
+
+relay_few : (e : Entry) (j : List Mention) → (e.step.fate ≡ fate.Queued → (p : Ip6) → e.peer ≡ Some p → is_full (known j e.moment p) ≡ false) → IfSome (relay_bearings.mention e).bearing.queues (λ x. QueuesFew (relay_bearings.mention e) j)
+relay_few e j free =
+    relay_queues e e.step.fate (QueuesFew (relay_bearings.mention e) j)
+    (λ k. any_some (QueuesFew (relay_bearings.mention e) j) e.packet (record { touches = ap (λ (f : Fate). (relay_bearings.bearing_of f e).touches) k; free = free k }))
+
+relay_six : RelayFewLaws → (s : RelaySettings) (j : List Entry) (n : ℕ) (x : List ℕ) → let e : Entry = relay_journals.relay_six s j n x in e.step.fate ≡ fate.Queued → (p : Ip6) → e.peer ≡ Some p
+    → is_full (known (relay_bearings.mentions j) n p) ≡ false
+unfolding relay_journals.relay_six relay_transmission.given relay_standing.standing_at
+relay_six laws s j n x k p about =
+    let a : relay_standing.Standing = relay_standing.standing_of j n (destination_in x) in
+    let later : relay_warrants.GoesLater (relay_transmission.given s a x) = subst (λ (f : Fate). relay_warrants.SentOnlyIf f (relay_transmission.given s a x)) (sym (laws.sent s a x) ∙ k) (laws.warranted s a x) in
+    ap (λ (o : Option Ip6). is_full (relay_standing.known_in (relay_standing.standing_of j n o))) (sym about) ∙ later.free
+
+relay_entry_few : RelayFewLaws → (s : RelaySettings) (j : List Entry) (n : ℕ) (input : Input) → let e : Entry = relay_journals.relay_entry s j n input in
+    IfSome (relay_bearings.mention e).bearing.queues (λ x. QueuesFew (relay_bearings.mention e) (relay_bearings.mentions j))
+unfolding relay_journals.relay_in relay_journals.relay_six relay_journals.relay_tick
+relay_entry_few laws s j n (arrived from x) =
+    let a : relay_standing.Standing = relay_standing.standing_of j n (source_in x) in
+    relay_few (relay_journals.relay_entry s j n (arrived from x)) (relay_bearings.mentions j)
+    (λ k. queued_other (relay_reception.reception_row (relay_reception.seen s a from x)) (relayed_other s a from x) (sym (laws.received s a from x) ∙ k))
+relay_entry_few laws s j n (from_six x) = relay_few (relay_journals.relay_entry s j n (from_six x)) (relay_bearings.mentions j) (relay_six laws s j n x)
+relay_entry_few laws s j n ticked =
+    let e : Entry = relay_journals.relay_entry s j n ticked in
+    relay_queues e e.step.fate (QueuesFew (relay_bearings.mention e) (relay_bearings.mentions j)) (λ k. tt)
+relay_entry_few laws s j n (given x) = tt
+
+relay_queue : RelayFewLaws → (s : RelaySettings) (j : List Entry) → relay_journals.IsJournal s j → QueueFew (relay_bearings.mentions j)
+unfolding relay_bearings.mentions
+relay_queue laws s [] a = tt
+relay_queue laws s (e ∷ j) a =
+    let one = subst (λ (x : Entry). IfSome (relay_bearings.mention x).bearing.queues (λ y. QueuesFew (relay_bearings.mention x) (relay_bearings.mentions j))) (sym a.0.is) (relay_entry_few laws s j e.moment e.input) in
+    (one, relay_queue laws s j a.1)
+
+-- IN A NODE
+
+length-mapped : {A B : Type 0} (f : A → B) (xs : List A) → length (map f xs) ≡ length xs
+length-mapped f [] = refl
+length-mapped f (x ∷ xs) = let rest = length-mapped f xs in omega (arith, rest)
+
+-- as many as wait in a node at most
+abbrev most : Node → ℕ
+most (client c) = 2048
+most (relay r) = 2048
+most _ = 0
+
+module _ (one : OneEntry) (clients : ClientFewLaws) (relays : RelayFewLaws) (lab : Lab) (H : List Full) (g : Grown lab H) where
+  node_few : (n : ℕ) (a : Node) → node_at lab.topology n ≡ Some a → length (waits_at H n a) ≤ most a
+  node_few n (server a) there = omega arith
+  node_few n (nat a) there = omega arith
+  node_few n (client c) there =
+      let s : Settings = client_settings lab.topology c in
+      let j : Journal = journal n H in
+      let is = clients.journals lab H n c g there in
+      let all = few_packets one (client_bearings.mentions j.entries) (now H) (client_queue clients s j.start j.entries is.journal) (clients.few s j (now H) is.journal is.moments) in
+      let same = length-mapped client_packet (waiting_packets (client_bearings.mentions j.entries) (now H)) in
+      omega (arith, all, same)
+  node_few n (relay r) there =
+      let s : RelaySettings = relay_settings lab.topology n r in
+      let j : Journal = journal n H in
+      let is = relays.journals lab H n r g there in
+      let all = few_packets one (relay_bearings.mentions j.entries) (now H) (relay_queue relays s j.entries is.journal) (relays.few s j.entries (now H) is.journal is.moments) in
+      let same = length-mapped relay_packet (waiting_packets (relay_bearings.mentions j.entries) (now H)) in
+      omega (arith, all, same)
+  node_few n (native a) there = omega arith
+
+-- IN ALL
+
+abbrev most_of : List Node → ℕ
+most_of [] = 0
+most_of (a ∷ rest) = most a + most_of rest
+
+among : (t : TopologyState) (H : List Full) → ((n : ℕ) (a : Node) → node_at t n ≡ Some a → length (waits_at H n a) ≤ most a) → (n : ℕ) (rest : List Node) → ((k : ℕ) → slice_get (nodes t) (n + k) ≡ slice_get rest k) → length (waits_from H n rest) ≤ most_of rest
+among t H each n [] same = omega arith
+among t H each n (a ∷ rest) same =
+    let zeroth : n + 0 ≡ n = omega arith in
+    let here : node_at t n ≡ Some a = subst (λ (k : ℕ). slice_get (nodes t) k ≡ Some a) zeroth (same 0) in
+    let tail : (k : ℕ) → slice_get (nodes t) (n + 1 + k) ≡ slice_get rest k = λ (k : ℕ). let moved : n + suc k ≡ n + 1 + k = omega arith in subst (λ (j : ℕ). slice_get (nodes t) j ≡ slice_get rest k) moved (same (suc k)) in
+    let others = among t H each (n + 1) rest tail in
+    let one = each n a here in
+    let both = length-append (waits_at H n a) (waits_from H (n + 1) rest) in
+    omega (arith, others, one, both)
+
+most_append : (xs ys : List Node) → most_of (xs ++ ys) ≡ most_of xs + most_of ys
+most_append [] ys = omega arith
+most_append (x ∷ xs) ys = let rest = most_append xs ys in omega (arith, rest)
+
+most_map : {A : Type 0} (f : A → Node) (m : ℕ) (xs : List A) → ((x : A) → most (f x) ≡ m) → most_of (map f xs) ≡ length xs * m
+most_map f m [] each = omega arith
+most_map f m (x ∷ xs) each =
+    let rest : most_of (map f xs) ≡ length xs * m = most_map f m xs each in
+    let one : most (f x) ≡ m = each x in
+    omega (arith, rest, one)
+
+most_nodes : (t : TopologyState) → IsTopology t → most_of (nodes t) ≤ 139264
+most_nodes t is =
+    let servers : most_of (map server t.servers) ≡ length t.servers * 0 = most_map server 0 t.servers (λ x. refl) in
+    let nats : most_of (map nat t.nats) ≡ length t.nats * 0 = most_map nat 0 t.nats (λ x. refl) in
+    let clients : most_of (map client t.clients) ≡ length t.clients * 2048 = most_map client 2048 t.clients (λ x. refl) in
+    let relays : most_of (map relay t.relays) ≡ length t.relays * 2048 = most_map relay 2048 t.relays (λ x. refl) in
+    let natives : most_of (map native t.natives) ≡ length t.natives * 0 = most_map native 0 t.natives (λ x. refl) in
+    omega (
+      arith,
+      servers,
+      nats,
+      clients,
+      relays,
+      natives,
+      is.clients,
+      is.relays,
+      most_append (map server t.servers) (map nat t.nats ++ (map client t.clients ++ (map relay t.relays ++ map native t.natives))),
+      most_append (map nat t.nats) (map client t.clients ++ (map relay t.relays ++ map native t.natives)),
+      most_append (map client t.clients) (map relay t.relays ++ map native t.natives),
+      most_append (map relay t.relays) (map native t.natives),
+    )
+
+pub few_wait : OneEntry → ClientFewLaws → RelayFewLaws → FewWait
+few_wait one clients relays lab H is g =
+    let all = among lab.topology H (node_few one clients relays lab H g) 0 (nodes lab.topology) (λ (k : ℕ). let same : 0 + k ≡ k = omega arith in ap (slice_get (nodes lab.topology)) same) in
+    omega (arith, all, most_nodes lab.topology is)

@@ -1,0 +1,97 @@
+-- After a record that has further ones less is left of its event.
+use Rattle.std.proofs.Common.{◌≡◌, ◌≤◌, ◌<◌, ℕ, ◌+◌, suc, Bool, true, false, cond, List, [], ◌∷◌, length, refl, sym, ap, subst, ◌∙◌, arith}
+use Rattle.std.proofs.lemmas.Bool.{false≢true}
+use Rattle.events.specs.declared.event.Event.{Event}
+use Rattle.events.specs.declared.event.Event.TheVariants as event
+use Rattle.events.specs.declared.event.TheConstants.{ENTRY_NUMBER_MAX}
+use Rattle.events.specs.Events.{IsEvent}
+use Rattle.topology.specs.Rules.{IsTopology}
+use Rattle.history.specs.Full.{Item, Full, wire}
+use Rattle.legal.specs.declared.left.TheConstants.{LEFT_MAX}
+use Rattle.legal.specs.Lab.{Lab}
+use Rattle.legal.specs.Past.{now, began, has_more, was_delivered}
+use Rattle.legal.specs.Legal.{GoesOn, Follows, Grown}
+use Rattle.legal.specs.Left.{left_to}
+use Rattle.legal.specs.Laws.{EachAdvanceFalls, EachAdvanceIsBounded}
+use Rattle.storms.specs.Burden.{undelivered_from, burden}
+use Rattle.storms.specs.Loads.{BurdenIsBounded, FewWait}
+use Rattle.storms.specs.Deliveries.{EachLightens, SettleDeliversNew}
+use Rattle.storms.specs.Left.{left_of_event, left, EachFalls}
+
+pub record FallLaws : Type 0 where
+  pub advances : EachAdvanceFalls
+  pub short : EachAdvanceIsBounded
+  pub lightens : EachLightens
+  pub settles : SettleDeliversNew
+  pub bounded : BurdenIsBounded
+  pub few : FewWait
+
+-- HOW MUCH CAN BE LEFT
+
+no_longer : (H : List Full) (i : ℕ) (xs : List Item) → length (undelivered_from H i xs) ≤ length xs
+no_longer H i [] = omega arith
+no_longer H i (x ∷ xs) = by (was_delivered i H) (no_longer H (i + 1) xs) where
+  by : (b : Bool) → length (undelivered_from H (i + 1) xs) ≤ length xs → length (cond b (undelivered_from H (i + 1) xs) (x ∷ undelivered_from H (i + 1) xs)) ≤ suc (length xs)
+  by true rest = omega (arith, rest)
+  by false rest = omega (arith, rest)
+
+burden_few : FallLaws → (lab : Lab) (H : List Full) → IsTopology lab.topology → Grown lab H → length (wire H) ≤ ENTRY_NUMBER_MAX + 1 → burden lab.topology H ≤ LEFT_MAX
+burden_few laws lab H is g room =
+    let all = laws.bounded lab.topology H in
+    let entries = no_longer H 0 (wire H) in
+    let packets = laws.few lab H is g in
+    omega (arith, all, entries, packets, room)
+
+-- where an event begins
+at_rest : FallLaws → (lab : Lab) (H : List Full) (e : Event) → IsTopology lab.topology → Grown lab H → length (wire H) ≤ ENTRY_NUMBER_MAX + 1 → IsEvent lab.topology e → began H ≡ now H → left_of_event lab H e ≤ LEFT_MAX
+at_rest laws lab H (event.Advance ms) is g room short at = subst (λ (m : ℕ). left_to lab H (m + ms) ≤ LEFT_MAX) (sym at) (laws.short lab H ms is g short)
+at_rest laws lab H event.Settle is g room short at = burden_few laws lab H is g room
+at_rest laws lab H (event.Deliver number) is g room short at = omega arith
+at_rest laws lab H event.Next is g room short at = omega arith
+at_rest laws lab H (event.Host n to body) is g room short at = omega arith
+at_rest laws lab H (event.Echo n to seq) is g room short at = omega arith
+at_rest laws lab H (event.Raw n x) is g room short at = omega arith
+at_rest laws lab H (event.Stranger src dst x) is g room short at = omega arith
+at_rest laws lab H (event.Copy number src dst) is g room short at = omega arith
+at_rest laws lab H (event.Restart n) is g room short at = omega arith
+at_rest laws lab H (event.Forget n who) is g room short at = omega arith
+at_rest laws lab H (event.Fault send) is g room short at = omega arith
+
+-- before a record no less is left than of its event
+before : FallLaws → (lab : Lab) (H : List Full) (e : Event) → IsTopology lab.topology → Grown lab H → length (wire H) ≤ ENTRY_NUMBER_MAX + 1 → IsEvent lab.topology e → GoesOn H e → left_of_event lab H e ≤ left lab H
+before laws lab [] e is g room event goes = at_rest laws lab [] e is g room event refl
+before laws lab (q ∷ H) e is g room event goes = by (has_more q.asked q.act) refl where
+  by : (b : Bool) → has_more q.asked q.act ≡ b → left_of_event lab (q ∷ H) e ≤ cond b (left_of_event lab (q ∷ H) q.asked) LEFT_MAX
+  by true more = let same : left_of_event lab (q ∷ H) e ≡ left_of_event lab (q ∷ H) q.asked = ap (left_of_event lab (q ∷ H)) (goes more) in omega (arith, same)
+  by false last = at_rest laws lab (q ∷ H) e is g room event (ap (λ (b : Bool). cond b (began H) q.moment) last)
+
+-- A RECORD
+
+module _ (laws : FallLaws) (lab : Lab) (H : List Full) (r : Full) (is : IsTopology lab.topology) (g : Grown lab H) (follows : Follows lab H r) (more : has_more r.asked r.act ≡ true) where
+  start : began (r ∷ H) ≡ began H
+  start = ap (λ (b : Bool). cond b (began H) r.moment) more
+
+  ends : {A : Type 0} (e : Event) → r.asked ≡ e → has_more e r.act ≡ false → A
+  ends e asked none = absurd (false≢true (sym none ∙ ap (λ (x : Event). has_more x r.act) (sym asked) ∙ more))
+
+  -- of its event less is left after it
+  less : (e : Event) → r.asked ≡ e → left_of_event lab (r ∷ H) e < left_of_event lab H e
+  less (event.Advance ms) asked = subst (λ (m : ℕ). left_to lab (r ∷ H) (m + ms) < left_to lab H (began H + ms)) (sym start) (laws.advances lab H r ms is g follows asked more)
+  less event.Settle asked = laws.lightens lab H r is (follows, g) (laws.settles lab H r (follows, g) (record { asked = asked; more = more }))
+  less (event.Deliver number) asked = ends (event.Deliver number) asked refl
+  less event.Next asked = ends event.Next asked refl
+  less (event.Host n to body) asked = ends (event.Host n to body) asked refl
+  less (event.Echo n to seq) asked = ends (event.Echo n to seq) asked refl
+  less (event.Raw n x) asked = ends (event.Raw n x) asked refl
+  less (event.Stranger src dst x) asked = ends (event.Stranger src dst x) asked refl
+  less (event.Copy number src dst) asked = ends (event.Copy number src dst) asked refl
+  less (event.Restart n) asked = ends (event.Restart n) asked refl
+  less (event.Forget n who) asked = ends (event.Forget n who) asked refl
+  less (event.Fault send) asked = ends (event.Fault send) asked refl
+
+pub falls : FallLaws → EachFalls
+falls laws lab H r is g room follows more =
+    let fell = less laws lab H r is g follows more r.asked refl in
+    let most = before laws lab H r.asked is g room follows.event follows.goes_on in
+    let left_now : left lab (r ∷ H) ≡ left_of_event lab (r ∷ H) r.asked = ap (λ (b : Bool). cond b (left_of_event lab (r ∷ H) r.asked) LEFT_MAX) more in
+    omega (arith, fell, most, left_now)

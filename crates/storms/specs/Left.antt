@@ -1,0 +1,29 @@
+-- What is left of an event that goes on: it falls with each further record, so each event has an end.
+use Rattle.std.specs.Prelude.{◌≡◌, ◌≤◌, ◌<◌, ◌+◌, ℕ, true, if◌then◌else◌, List, [], ◌∷◌, length}
+use Rattle.events.specs.declared.event.Event.{Event}
+use Rattle.events.specs.declared.event.Event.TheVariants as event
+use Rattle.events.specs.declared.event.TheConstants.{ENTRY_NUMBER_MAX}
+use Rattle.topology.specs.Rules.{IsTopology}
+use Rattle.history.specs.Full.{Full, wire}
+use Rattle.legal.specs.declared.left.TheConstants.{LEFT_MAX}
+use Rattle.legal.specs.Lab.{Lab}
+use Rattle.legal.specs.Past.{began, has_more}
+use Rattle.legal.specs.Legal.{Follows, Grown}
+use Rattle.legal.specs.Left.{left_to}
+use Rattle.storms.specs.Burden.{burden}
+
+-- of an advance the time to what is due; of a `settle` what can follow from all that is undelivered or waits
+abbrev pub left_of_event : Lab → List Full → Event → ℕ
+left_of_event lab H (event.Advance ms) = left_to lab H (began H + ms)
+left_of_event lab H event.Settle = burden lab.topology H
+left_of_event lab H _ = 0
+
+-- as much as may be where the next record begins an event
+abbrev pub left : Lab → List Full → ℕ
+left lab [] = LEFT_MAX
+left lab (r ∷ H) = if has_more r.asked r.act then left_of_event lab (r ∷ H) r.asked else LEFT_MAX
+
+-- after a record that has further ones, less is left, as long as an event can name each entry of the wire
+abbrev pub EachFalls : Type 0
+EachFalls = (lab : Lab) (H : List Full) (r : Full) → IsTopology lab.topology → Grown lab H → length (wire H) ≤ ENTRY_NUMBER_MAX + 1
+    → Follows lab H r → has_more r.asked r.act ≡ true → left lab (r ∷ H) < left lab H
