@@ -4,6 +4,7 @@ mod NodeLists
 mod Served
 mod Dues
 mod DueMoments
+mod Waiting
 mod Arrivals
 mod Inputs
 mod Calls

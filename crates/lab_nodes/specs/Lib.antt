@@ -7,4 +7,5 @@ pub mod Outlet
 pub mod Answers
 pub mod Due
 pub mod DueMoments
+pub mod Waits
 pub mod Laws

@@ -11,7 +11,8 @@
 //!   (`specs/Changes.antt`).
 //! - The tick that is found is the one that is due first (`specs/Due.antt`); what a host sends has exactly the bytes of its
 //!   packet.
-//! - All due moments of the nodes can be read off what is kept of them (`specs/DueMoments.antt`).
+//! - All due moments of the nodes, and all packets that wait in them, can be read off what is kept of them
+//!   (`specs/DueMoments.antt`, `Waits.antt`).
 //!
 //! # What it does not know
 //!
@@ -31,7 +32,7 @@
 //! | `one_arrival` | a server is lent a datagram | `specs/OneArrival.antt` |
 //! | `due` | which tick is due first | `specs/Due.antt` |
 //! | `host` | what the hosts of nodes send | |
-//! | `laws` | what holds of each row of a topology, and of all due moments | `specs/Laws.antt`, `DueMoments.antt` |
+//! | `laws` | what holds of each row of a topology, of all due moments, and of all that waits | `specs/Laws.antt`, `DueMoments.antt`, `Waits.antt` |
 #![tactic(auto)]
 
 mod asked;
@@ -58,7 +59,7 @@ pub use due::{Due, first_due};
 pub use first_node::first_nodes;
 pub use host::{DATA_MAX, ECHO, address_at, echo, target_address, write_data};
 pub use input::Input;
-pub use laws::{due_as_in_the_past, rows_keep_rules};
+pub use laws::{due_as_in_the_past, rows_keep_rules, waits_as_in_the_past};
 pub use nodes::{ask, restart_at};
 pub use outlet::Outlet;
 pub use played_node::PlayedNode;

@@ -1,0 +1,5 @@
+use Rattle.lab_nodes.proofs.Waiting as waiting
+use Rattle.lab_nodes.proofs.laws.waits_as_in_the_past.Goals as goal
+
+pub returns : goal.returns
+returns c = waiting.waits_as_in_the_past c.table_is_read.ensures

@@ -1,0 +1,31 @@
+-- The packets that wait in the nodes, by what is kept of them.
+use Rattle.std.specs.Prelude.{◌≡◌, ℕ, List, [], flat_map, map, sum}
+use Rattle.td_base.specs.declared.ipv6.Ip6.{Ip6}
+use Rattle.peer_list.specs.Table.{Table, known_to, listed_in}
+use Rattle.history.specs.Full.{Full}
+use Rattle.legal.specs.Lab.{Lab}
+use Rattle.legal.specs.Past.{now}
+use Rattle.storms.specs.Burden.{client_packet, relay_packet}
+use Rattle.storms.specs.Burden as past
+use Rattle.lab_nodes.specs.declared.played_node.PlayedNode.{PlayedNode}
+use Rattle.lab_nodes.specs.declared.played_node.PlayedNode.TheVariants as played
+use Rattle.lab_nodes.specs.PlayedNode.{NodesOf, AreReady}
+
+-- those that wait for all peers that a table lists at a moment
+abbrev pub waiting_packets : Table → ℕ → List (List ℕ)
+waiting_packets t m = flat_map (λ (p : Ip6). (known_to t m p).waiting) (listed_in t m)
+
+-- their weights in a node
+abbrev pub waits_at : ℕ → PlayedNode → List ℕ
+waits_at m (played.Client row is) = map client_packet (waiting_packets is.peers m)
+waits_at m (played.Relay row is) = map relay_packet (waiting_packets is.peers m)
+waits_at m _ = []
+
+-- in all nodes
+abbrev pub waits : ℕ → List PlayedNode → List ℕ
+waits m list = flat_map (waits_at m) list
+
+-- together they are those of the packets that wait by the nodes' pasts
+abbrev pub EachWaitsAsInThePast : Type 0
+EachWaitsAsInThePast = (lab : Lab) (list : List PlayedNode) (H : List Full) → NodesOf lab list H → AreReady (now H) list
+    → sum (waits (now H) list) ≡ sum (past.waits lab.topology H)
