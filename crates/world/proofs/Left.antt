@@ -1,19 +1,23 @@
 -- What is left of an event, by the history and by what a world keeps.
 use Rattle.std.proofs.Common.{◌≡◌, ℕ, ◌+◌, ◌-◌, Bool, true, false, cond, max, List, [], ◌∷◌, Option, Some, None, refl, sym, ap, subst, ◌∙◌, arith, get_or}
-use Rattle.std.specs.Prelude.{nat_le, sum_by, filter}
+use Rattle.std.specs.Prelude.{nat_le, sum, sum_by, filter}
 use Rattle.std.proofs.lemmas.List.Sums.{sum_by-cons}
 use Rattle.events.specs.declared.event.Event.{Event}
 use Rattle.events.specs.declared.event.Event.TheVariants as event
 use Rattle.topology.specs.Topology.{nodes}
-use Rattle.history.specs.Full.{Full}
+use Rattle.history.specs.Full.{Item, Full, wire}
 use Rattle.legal.specs.declared.left.TheConstants.{LEFT_MAX}
 use Rattle.legal.specs.Lab.{Draws, Lab}
 use Rattle.legal.specs.Past.{now, began, going, has_more, was_delivered}
-use Rattle.legal.specs.Left.{time_left, left_of_event, left, open_places, PLACES}
+use Rattle.legal.specs.Left.{time_left}
 use Rattle.legal.specs.Left as legal
+use Rattle.storms.specs.Weights.{entry_weight}
+use Rattle.storms.specs.Burden as past
+use Rattle.storms.specs.Left.{left_of_event, left}
 use Rattle.lab_nodes.specs.PlayedNode.{NodesOf, AreReady}
 use Rattle.lab_nodes.specs.DueMoments.{all_due, EachSumIsOfThePast}
-use Rattle.world.specs.World.{WorldState, left_of, left_in, lab_in}
+use Rattle.lab_nodes.specs.Waits.{waits, EachWaitsAsInThePast}
+use Rattle.world.specs.World.{WorldState, undelivered_from, left_of, left_in, lab_in}
 
 -- THE SAME DUE MOMENTS IN ANOTHER ORDER
 
@@ -30,6 +34,15 @@ same_time end at xs ys same =
     let test : ℕ → Bool = λ m. nat_le m end in
     sum_of_passed f test xs ∙ same (λ m. cond (test m) (f m) 0) ∙ sym (sum_of_passed f test ys)
 
+-- THE SAME ENTRIES
+
+same_items : (H : List Full) (done : List Bool) (i : ℕ) (xs : List Item) → ((k : ℕ) → get_or done k false ≡ was_delivered k H) → undelivered_from done i xs ≡ past.undelivered_from H i xs
+same_items H done i [] same = refl
+same_items H done i (x ∷ xs) same =
+    let rest = same_items H done (i + 1) xs same in
+    ap (λ (b : Bool). cond b (undelivered_from done (i + 1) xs) (x ∷ undelivered_from done (i + 1) xs)) (same i)
+    ∙ ap (λ (ys : List Item). cond (was_delivered i H) ys (x ∷ ys)) rest
+
 -- BY THE EVENT THAT GOES ON
 
 abbrev left_so : Lab → List Full → Option Event → ℕ
@@ -43,18 +56,19 @@ left_by_going lab (r ∷ H) = by (has_more r.asked r.act) where
   by true = refl
   by false = refl
 
--- a world whose moment, event and nodes are those of the history
+-- a world whose moment, event, nodes and wire are those of the history
 pub record IsAt (d : Draws) (w : WorldState) (H : List Full) : Type 0 where
   pub moment : w.moment ≡ now H
   pub began : w.began ≡ began H
   pub going : w.going ≡ going H
   pub nodes : NodesOf (lab_in d w) w.nodes H
   pub ready : AreReady w.moment w.nodes
+  pub wire : w.wire ≡ wire H
   pub done : (i : ℕ) → get_or w.done i false ≡ was_delivered i H
 
 -- has as much left
-pub left_is : EachSumIsOfThePast → (d : Draws) (w : WorldState) (H : List Full) → IsAt d w H → left (lab_in d w) H ≡ left_in w
-left_is law d w H is = left_by_going (lab_in d w) H ∙ ap (left_so (lab_in d w) H) (sym is.going) ∙ by w.going where
+pub left_is : EachSumIsOfThePast → EachWaitsAsInThePast → (d : Draws) (w : WorldState) (H : List Full) → IsAt d w H → left (lab_in d w) H ≡ left_in w
+left_is law waited d w H is = left_by_going (lab_in d w) H ∙ ap (left_so (lab_in d w) H) (sym is.going) ∙ by w.going where
   by : (o : Option Event) → left_so (lab_in d w) H o ≡ left_of w o
   by None = refl
   by (Some (event.Advance ms)) =
@@ -75,5 +89,8 @@ left_is law d w H is = left_by_going (lab_in d w) H ∙ ap (left_so (lab_in d w)
   by (Some (event.Forget n who)) = refl
   by (Some (event.Fault send)) = refl
   by (Some event.Settle) =
-      let flags : (λ (k : ℕ). was_delivered k H) ≡ (λ (k : ℕ). get_or w.done k false) = λ i k. sym (is.done k) i in
-      ap (open_places PLACES) flags
+      let weight : Item → ℕ = entry_weight w.topology in
+      let ready : AreReady (now H) w.nodes = subst (λ (m : ℕ). AreReady m w.nodes) is.moment is.ready in
+      let items : undelivered_from w.done 0 w.wire ≡ past.undelivered_items H = same_items H w.done 0 w.wire is.done ∙ ap (past.undelivered_from H 0) is.wire in
+      let packets : sum (waits w.moment w.nodes) ≡ sum (past.waits w.topology H) = ap (λ (m : ℕ). sum (waits m w.nodes)) is.moment ∙ waited (lab_in d w) w.nodes H is.nodes ready in
+      ap (λ (n : ℕ). sum_by weight (past.undelivered_items H) + n) (sym packets) ∙ ap (λ (xs : List Item). sum_by weight xs + sum (waits w.moment w.nodes)) (sym items)

@@ -11,15 +11,17 @@ use Rattle.history.specs.declared.turn.Stop.{Stop}
 use Rattle.topology.specs.Rules.{IsTopology}
 use Rattle.history.specs.Full.{Item, Full, wire, items_of}
 use Rattle.legal.specs.declared.left.TheConstants.{LEFT_MAX}
-use Rattle.legal.specs.Left.{left, PLACES}
+use Rattle.events.specs.declared.event.TheConstants.{ENTRY_NUMBER_MAX}
+use Rattle.storms.specs.Left.{left, EachFalls}
 use Rattle.legal.specs.Lab.{Draws, Lab, lab_on}
 use Rattle.legal.specs.Past.{began, going, has_more, is_number, was_delivered}
 use Rattle.legal.specs.Next.{next_of}
 use Rattle.legal.specs.Legal.{GoesOn, Follows, Grown}
-use Rattle.legal.specs.Laws.{EachIsOfItsEvent, EachIsTold, EachFalls}
+use Rattle.legal.specs.Laws.{EachIsOfItsEvent, EachIsTold}
 use Rattle.promises.specs.Kept.{HistoriesAreKept}
 use Rattle.lab_nodes.specs.PlayedNode.{NodesOf, AreReady}
 use Rattle.lab_nodes.specs.DueMoments.{EachSumIsOfThePast}
+use Rattle.lab_nodes.specs.Waits.{EachWaitsAsInThePast}
 use Rattle.world.specs.Emission.{AreNatsWith}
 use Rattle.world.specs.World.{WorldState, StandsFor, IsAgain, Steps, Falls, going_after, is_more, left_in, lab_in}
 use Rattle.world.specs.Playing.{Comes, PlaysTurn, GoesFrom, Turned}
@@ -37,7 +39,7 @@ pub record IsNext (d : Draws) (old : WorldState) (H : List Full) (e : Event) (tu
   pub stands : StandsFor d old H
   pub rules : IsTopology old.topology
   pub follows : Follows (lab_in d old) H r
-  pub room : length (wire H) ≤ PLACES
+  pub room : length (wire H) ≤ ENTRY_NUMBER_MAX + 1
   pub asked : r.asked ≡ e
   pub more : has_more r.asked r.act ≡ is_more turn
 
@@ -65,15 +67,16 @@ most_on falls d old H e (Last said) r next =
 same_lab : (d : Draws) (old new : WorldState) → new.topology ≡ old.topology → new.chain ≡ old.chain → lab_in d new ≡ lab_in d old
 same_lab d old new t chain = λ i. lab_on d (t i) (chain i)
 
-stands : EachFalls → EachSumIsOfThePast → (d : Draws) (old new : WorldState) (H : List Full) (e : Event) (turn : Turn) (r : Full) → IsNext d old H e turn r → Turned old new e turn → AreReady new.moment new.nodes
+stands : EachFalls → EachSumIsOfThePast → EachWaitsAsInThePast → (d : Draws) (old new : WorldState) (H : List Full) (e : Event) (turn : Turn) (r : Full) → IsNext d old H e turn r → Turned old new e turn → AreReady new.moment new.nodes
     → Comes d old new H r → StandsFor d new (r ∷ H)
-stands falls sums d old new H e turn r next turned ready comes =
+stands falls sums waits d old new H e turn r next turned ready comes =
     let start = began_on d old new H e turn r next comes.moment turned.goes in
     let goes = turned.going ∙ going_on d old H e turn r next in
     let lab = same_lab d old new turned.topology turned.chain in
     let nodes = subst (λ (x : Lab). NodesOf x new.nodes (r ∷ H)) (sym lab) comes.nodes in
     let done : (k : ℕ) → get_or new.done k false ≡ was_delivered k (r ∷ H) = λ k. comes.done k ∙ ap (λ (b : Bool). is_number k r.delivered || b) (next.stands.done k) in
-    let same : left (lab_in d new) (r ∷ H) ≡ left_in new = left_is sums d new (r ∷ H) (record { moment = comes.moment; began = start; going = goes; nodes = nodes; ready = ready; done = done }) in
+    let items : new.wire ≡ wire (r ∷ H) = comes.wire ∙ ap (λ xs. xs ++ items_of r) next.stands.wire in
+    let same : left (lab_in d new) (r ∷ H) ≡ left_in new = left_is sums waits d new (r ∷ H) (record { moment = comes.moment; began = start; going = goes; nodes = nodes; ready = ready; wire = items; done = done }) in
     let most : left (lab_in d new) (r ∷ H) ≤ LEFT_MAX = subst (λ (x : Lab). left x (r ∷ H) ≤ LEFT_MAX) (sym lab) (most_on falls d old H e turn r next) in
     record {
       grown = subst (λ (x : Lab). Grown x (r ∷ H)) (sym lab) (next.follows, next.stands.grown);
@@ -82,7 +85,7 @@ stands falls sums d old new H e turn r next turned ready comes =
       going = goes;
       nodes = nodes;
       nats = subst (λ (x : Lab). AreNatsWith x (r ∷ H) [] new.nats) (sym lab) comes.nats;
-      wire = comes.wire ∙ ap (λ xs. xs ++ items_of r) next.stands.wire;
+      wire = items;
       done = done;
       armed = comes.armed;
       left = same;
@@ -103,6 +106,7 @@ pub record Laws : Type 0 where
   pub told : EachIsTold
   pub falls : EachFalls
   pub sums : EachSumIsOfThePast
+  pub waits : EachWaitsAsInThePast
   pub promised : HistoriesAreKept
 
 -- the record of an event that may be asked for follows
@@ -138,7 +142,7 @@ PlaysAll old new i e played = (d : Draws) (H : List Full) → StandsFor d old H 
 stands_on : Laws → (d : Draws) (old new : WorldState) (H : List Full) (i : ℕ) (e : Event) (turn : Turn) → IsAsked old e → Turned old new e turn → AreReady new.moment new.nodes
     → StandsFor d old H → PlaysTurn d old new H (next_of (lab_in d old) H i e) (Ok turn) → StandsFor d new (next_of (lab_in d old) H i e ∷ H)
 stands_on laws d old new H i e turn asked turned ready s plays =
-    stands laws.falls laws.sums d old new H e turn (next_of (lab_in d old) H i e) (is_next laws d old new H i e turn asked s plays) turned ready plays.2
+    stands laws.falls laws.sums laws.waits d old new H e turn (next_of (lab_in d old) H i e) (is_next laws d old new H i e turn asked s plays) turned ready plays.2
 
 fell_on : EachFalls → (d : Draws) (old new : WorldState) (H : List Full) (e : Event) (turn : Turn) (r : Full) → IsNext d old H e turn r → lab_in d new ≡ lab_in d old → StandsFor d new (r ∷ H) → Falls old new turn
 fell_on falls d old new H e (Last said) r next same s = tt

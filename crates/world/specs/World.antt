@@ -1,5 +1,5 @@
 -- What contracts see of a world, and how `step` follows the history.
-use Rattle.std.specs.Prelude.{◌≡◌, ℕ, ◌+◌, ◌<◌, ◌≤◌, Bool, true, false, List, [], ◌∷◌, length, get_or, Option, Some, None}
+use Rattle.std.specs.Prelude.{◌≡◌, ℕ, ◌+◌, ◌<◌, ◌≤◌, if◌then◌else◌, Bool, true, false, List, [], ◌∷◌, length, get_or, sum, sum_by, Option, Some, None}
 use Rattle.events.specs.declared.event.Event.{Event}
 use Rattle.events.specs.declared.event.Event.TheVariants as event
 use Rattle.events.specs.declared.event.TheConstants.{ADVANCE_MAX_MS}
@@ -23,11 +23,14 @@ use Rattle.legal.specs.Past.{now, began, has_more, going, was_delivered, armed}
 use Rattle.legal.specs.Next.{next_of}
 use Rattle.legal.specs.Legal.{Grown}
 use Rattle.legal.specs.declared.left.TheConstants.{LEFT_MAX}
-use Rattle.legal.specs.Left.{left, time_left, open_places, PLACES}
+use Rattle.legal.specs.Left.{time_left}
+use Rattle.storms.specs.Weights.{entry_weight}
+use Rattle.storms.specs.Left.{left}
 use Rattle.promises.specs.Kept.{KeptThroughout}
 use Rattle.lab_nodes.specs.declared.played_node.PlayedNode.{PlayedNode}
 use Rattle.lab_nodes.specs.PlayedNode.{NodesOf}
 use Rattle.lab_nodes.specs.DueMoments.{all_due}
+use Rattle.lab_nodes.specs.Waits.{waits}
 use Rattle.lab_nodes.specs.Memory.{takes_memory}
 use Rattle.world.specs.Emission.{AreNatsWith}
 use Rattle.world.specs.Wire.{WireState}
@@ -81,15 +84,20 @@ lab_in d w = lab_on d w.topology w.chain
 abbrev pub left_until : WorldState → ℕ → ℕ
 left_until w end = time_left end w.moment (all_due w.moment w.nodes)
 
--- for `settle`: the places of the wire whose entry was never delivered
-abbrev pub undelivered_in : WorldState → ℕ
-undelivered_in w = open_places PLACES (λ i. get_or w.done i false)
+-- of these entries, which are numbered from i on, those that were never delivered
+abbrev pub undelivered_from : List Bool → ℕ → List Item → List Item
+undelivered_from done i [] = []
+undelivered_from done i (x ∷ xs) = if get_or done i false then undelivered_from done (i + 1) xs else x ∷ undelivered_from done (i + 1) xs
+
+-- for `settle`: what can follow from all that is undelivered, and from all packets that wait
+abbrev pub burden_in : WorldState → ℕ
+burden_in w = sum_by (entry_weight w.topology) (undelivered_from w.done 0 w.wire) + sum (waits w.moment w.nodes)
 
 -- of the event that goes on; as much as may be where none does
 abbrev pub left_of : WorldState → Option Event → ℕ
 left_of w None = LEFT_MAX
 left_of w (Some (event.Advance ms)) = left_until w (w.began + ms)
-left_of w (Some event.Settle) = undelivered_in w
+left_of w (Some event.Settle) = burden_in w
 left_of w (Some e) = 0
 
 -- it falls with each further record of an event

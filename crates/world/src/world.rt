@@ -192,9 +192,10 @@ impl<'a> World<'a> {
     {
         legal::of_its_event();
         legal::told();
-        legal::falls();
+        storms::falls();
         promises::kept();
         lab_nodes::due_as_in_the_past();
+        lab_nodes::waits_as_in_the_past();
         if let Some(stop) = self.stopped {
             return Err(stop);
         }

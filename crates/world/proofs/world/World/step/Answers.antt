@@ -18,6 +18,7 @@ returns-in-Ok-clause-ok c =
       told = c.told.ensures;
       falls = c.falls.ensures;
       sums = c.due_as_in_the_past.ensures;
+      waits = c.waits_as_in_the_past.ensures;
       promised = c.kept.ensures;
     } in
     let open_still = sym (ap (λ (x : WorldState). x.stopped) c.self.view_is) ∙ c.in_default.is in
