@@ -44,6 +44,13 @@ pub waits_for_it : (a : Given) → IsForPeer a → a.cone ≡ false → a.room �
 waits_for_it a is cone room spent full =
     to_destination a is ∙ passed_by ((a.cone, fate.SentCone) ∷ (not a.room, fate.PeersFull) ∷ (a.spent, fate.Barred) ∷ (a.full, fate.QueueFull) ∷ []) [] fate.Queued (cone, (not_so a.room room, (spent, (full, tt))))
 
+-- and where there is no room for it, it is dropped
+pub no_room_for_it : (a : Given) → IsForPeer a → a.cone ≡ false → a.room ≡ false → transmission_row a ≡ fate.PeersFull
+no_room_for_it a is cone room =
+    to_destination a is
+    ∙ passed_by ((a.cone, fate.SentCone) ∷ []) ((not a.room, fate.PeersFull) ∷ (a.spent, fate.Barred) ∷ (a.full, fate.QueueFull) ∷ []) fate.Queued (cone, tt)
+    ∙ ap (λ (b : Bool). cond b fate.PeersFull (first_line ((a.spent, fate.Barred) ∷ (a.full, fate.QueueFull) ∷ []) fate.Queued)) (ap not room)
+
 -- THE ENTRY
 
 module _ (s : Settings) (j : Journal) (n : ℕ) (x : List ℕ) (is_one : is_packet x ≡ true) where

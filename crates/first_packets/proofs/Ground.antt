@@ -57,7 +57,7 @@ use Rattle.first_packets.proofs.Known.{PeerLaws}
 use Rattle.first_packets.proofs.Ends.{EndLaws, IsEnd, is_nat_node}
 use Rattle.first_packets.proofs.Reaching.{RouteLaws}
 use Rattle.first_packets.proofs.Deliveries.{Did}
-use Rattle.first_packets.proofs.Meeting.{Knows}
+use Rattle.first_packets.proofs.Meeting.{IsHere, Knows}
 use Rattle.first_packets.proofs.Pair.{Side, Pair, lab_in, nat_by}
 
 -- THE LAWS
@@ -164,14 +164,18 @@ ground_on laws p H q next ground a b keeps = record {
   keeps_nothing = keeps;
 }
 
--- a client with an address and room
-pub knows : PacketLaws → (lab : Lab) (H : List Full) (n : ℕ) (c : ClientNode) (own peer : Ip6) → Grown lab H → node_at lab.topology n ≡ Some (client c) → address_in lab H n c ≡ Some own
-    → has_room (mentions (journal n H).entries) (now H) peer ≡ true → Knows (client_settings lab.topology c) (journal n H) (now H) own peer
-knows laws lab H n c own peer g there address room = record {
+-- a client with an address is qualified
+pub is_here : PacketLaws → (lab : Lab) (H : List Full) (n : ℕ) (c : ClientNode) (own : Ip6) → Grown lab H → node_at lab.topology n ≡ Some (client c) → address_in lab H n c ≡ Some own
+    → IsHere (client_settings lab.topology c) (journal n H) own
+is_here laws lab H n c own g there address = record {
   address = address;
   qualified = sym (laws.qualified (client_settings lab.topology c) (journal n H) (laws.clients lab H n c g there).journal) ∙ ap (λ (o : Option Ip6). is_some o) address;
-  room = room;
 }
+
+-- with room it knows the peer
+pub knows : PacketLaws → (lab : Lab) (H : List Full) (n : ℕ) (c : ClientNode) (own peer : Ip6) → Grown lab H → node_at lab.topology n ≡ Some (client c) → address_in lab H n c ≡ Some own
+    → has_room (mentions (journal n H).entries) (now H) peer ≡ true → Knows (client_settings lab.topology c) (journal n H) (now H) own peer
+knows laws lab H n c own peer g there address room = record { here = is_here laws lab H n c own g there address; room = room }
 
 -- WHAT BECOMES OF A CLIENT'S SENDS
 

@@ -18,5 +18,8 @@ mod Stages
 mod Steps
 mod Boards
 mod First
+mod HandedIn
 mod Start
 mod Throughout
+mod Dropped
+mod Unheard

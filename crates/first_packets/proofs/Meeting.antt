@@ -40,7 +40,7 @@ use Rattle.legal.specs.Emit.{handed_by}
 use Rattle.first_packets.proofs.Bools.{right_fails, both_hold, not_so, left_holds}
 use Rattle.first_packets.proofs.Known.{untried, unspent}
 use Rattle.first_packets.proofs.Received.{IsForHere, IsThroughServer, IsFromPeer, answered, HearsBubble, by_rule1, by_rule3, HandsOver, over_by_rule1, over_by_rule3, bubble_heard, packet_handed, seen_here, entry_here}
-use Rattle.first_packets.proofs.Given.{IsForPeer, sent_at_once, waits_for_it, given_here, entry_given}
+use Rattle.first_packets.proofs.Given.{IsForPeer, sent_at_once, waits_for_it, no_room_for_it, given_here, entry_given}
 
 -- a client that is set up so and has the address own may hear from a peer, and send to it
 pub record Meets (s : Settings) (own peer : Ip6) : Type 0 where
@@ -52,10 +52,14 @@ pub record Meets (s : Settings) (own peer : Ip6) : Type 0 where
   pub other : same_ip6 peer own ≡ false
   pub no_server : is_from_server s (embedded peer) ≡ false
 
--- it has the address, and room for the peer
-pub record Knows (s : Settings) (j : Journal) (n : ℕ) (own peer : Ip6) : Type 0 where
+-- it has the address
+pub record IsHere (s : Settings) (j : Journal) (own : Ip6) : Type 0 where
   pub address : (qualification s j).address ≡ Some own
   pub qualified : is_qualified (qualification s j).phase ≡ true
+
+-- and room for the peer
+pub record Knows (s : Settings) (j : Journal) (n : ℕ) (own peer : Ip6) : Type 0 where
+  pub here : IsHere s j own
   pub room : has_room (mentions j.entries) n peer ≡ true
 
 -- its own address
@@ -72,7 +76,7 @@ right_holds false c e = e
 -- with the packet p, from the peer to this client
 module _ (s : Settings) (j : Journal) (n : ℕ) (p : Fields) (meets : Meets s p.dst p.src) (knows : Knows s j n p.dst p.src) (small : is_big p ≡ false) where
   own_is : own_address (qualification s j) ≡ p.dst
-  own_is = address_is s j p.dst knows.address
+  own_is = address_is s j p.dst knows.here.address
 
   -- the packet is for this client
   for_here : (from : Ep) (origin : Option Ep) → IsForHere (seen_of s (standing_at s j n p.src) from true (value_written None origin p))
@@ -82,7 +86,7 @@ module _ (s : Settings) (j : Journal) (n : ℕ) (p : Fields) (meets : Meets s p.
     unkeyed = refl;
     unconfirmed = refl;
     short = small;
-    qualified = knows.qualified;
+    qualified = knows.here.qualified;
     mine = ap (same_ip6 p.dst) own_is ∙ same_ip6-self p.dst;
     from_another = ap (same_ip6 p.src) own_is ∙ meets.other;
     room = knows.room;
@@ -199,18 +203,18 @@ module _ (s : Settings) (j : Journal) (n : ℕ) (own peer : Ip6) (meets : Meets 
   answers_it x reads bubble unbarred w =
       subst (Answers x) (sym (entry_here s j n (server_ep s.primary) x told reads w fate.Indirect
       (answered (seen_here s j n (server_ep s.primary) x told reads) (advert_row s (standing_at s j n peer).qualification (server_ep s.primary) told) (through_server bubble unbarred))))
-      (record { indirect = refl; sends = ap (λ (z : Ip6). send (embedded peer) (bubble_bytes z peer) ∷ []) (address_is s j own knows.address); about = refl; moment = refl })
+      (record { indirect = refl; sends = ap (λ (z : Ip6). send (embedded peer) (bubble_bytes z peer) ∷ []) (address_is s j own knows.here.address); about = refl; moment = refl })
 
 -- THE HOST'S PACKET
 
 -- x, from this client to the peer, which it doesn't list
-module _ (s : Settings) (j : Journal) (n : ℕ) (x : List ℕ) (is_one : is_packet x ≡ true) (meets : Meets s (fields_in x).src (fields_in x).dst) (knows : Knows s j n (fields_in x).src (fields_in x).dst)
+module _ (s : Settings) (j : Journal) (n : ℕ) (x : List ℕ) (is_one : is_packet x ≡ true) (meets : Meets s (fields_in x).src (fields_in x).dst) (here : IsHere s j (fields_in x).src)
     (small : is_big (fields_in x) ≡ false) (plain : is_bubble (fields_in x) ≡ false) (new : known (mentions j.entries) n (fields_in x).dst ≡ no_peer) where
   abbrev to : Ip6
   to = (fields_in x).dst
 
   from_here : own_address (qualification s j) ≡ (fields_in x).src
-  from_here = address_is s j (fields_in x).src knows.address
+  from_here = address_is s j (fields_in x).src here.address
 
   -- the peer can be reached
   reachable : is_reachable s.policy to ≡ true
@@ -229,7 +233,7 @@ module _ (s : Settings) (j : Journal) (n : ℕ) (x : List ℕ) (is_one : is_pack
   for_peer : IsForPeer (given_here s j n x is_one)
   unfolding standing_at
   for_peer = record {
-    qualified = knows.qualified;
+    qualified = here.qualified;
     packet = refl;
     short = small;
     own = ap (same_ip6 (fields_in x).src) from_here ∙ same_ip6-self (fields_in x).src;
@@ -273,10 +277,22 @@ module _ (s : Settings) (j : Journal) (n : ℕ) (x : List ℕ) (is_one : is_pack
   unbarred = ap (is_barred n) new ∙ untried n no_peer refl
 
   -- by the table
-  pub waits_here : has_cone to ≡ false → (w : Words) → Waits (client_out s j n x w)
+  pub waits_here : has_cone to ≡ false → has_room (mentions j.entries) n to ≡ true → (w : Words) → Waits (client_out s j n x w)
   unfolding standing_at
-  waits_here cone w =
+  waits_here cone room w =
       subst Waits (sym (entry_given s j n x is_one w fate.Queued
-      (waits_for_it (given_here s j n x is_one) for_peer (right_fails (is_teredo to) (has_cone to) cone) knows.room (ap (is_spent n) new ∙ unspent n no_peer refl) (ap is_full new ∙ not_full))))
+      (waits_for_it (given_here s j n x is_one) for_peer (right_fails (is_teredo to) (has_cone to) cone) room (ap (is_spent n) new ∙ unspent n no_peer refl) (ap is_full new ∙ not_full))))
       (subst (λ (b : Bool). Waits (entry n (given x) (Some x) (Some to) w (queues b s (standing_at s j n to) to w))) (sym unbarred)
       (record { queued = refl; sends = tries_are w; packet = refl; about = refl; moment = refl }))
+
+  -- it is dropped where there is no room for the peer
+  pub record IsTurned (e : Entry) : Type 0 where
+    pub full : e.step.fate ≡ fate.PeersFull
+    pub sends : e.step.sends ≡ []
+
+  -- by the table
+  pub turned_away : has_cone to ≡ false → has_room (mentions j.entries) n to ≡ false → (w : Words) → IsTurned (client_out s j n x w)
+  unfolding standing_at
+  turned_away cone room w =
+      subst IsTurned (sym (entry_given s j n x is_one w fate.PeersFull (no_room_for_it (given_here s j n x is_one) for_peer (right_fails (is_teredo to) (has_cone to) cone) room)))
+      (record { full = refl; sends = refl })

@@ -1,27 +1,23 @@
 -- The record of the first packet: what the sender makes of it, and where the schedule begins.
-use Rattle.std.proofs.Common.{◌≡◌, ◌≤◌, ◌+◌, ℕ, suc, Bool, true, false, List, [], ◌∷◌, ◌++◌, length, Option, Some, refl, sym, ap, subst, ◌∙◌, arith}
-use Rattle.std.specs.Prelude.{unwrap_or, slice_get, filter_map, nat_lt}
+use Rattle.std.proofs.Common.{◌≡◌, ℕ, suc, Bool, true, false, List, [], ◌∷◌, ◌++◌, length, Some, refl, sym, ap, subst, ◌∙◌, arith}
+use Rattle.std.specs.Prelude.{slice_get, filter_map}
 use Rattle.std.proofs.lemmas.Bool.{false≢true}
-use Rattle.std.proofs.lemmas.Bool.Decides.{nat_tests}
 use Rattle.td_base.specs.Bytes.{IsBytes}
 use Rattle.td_base.specs.declared.ipv6.Ip6.{Ip6}
 use Rattle.td_base.specs.Ip4.{same_ip}
 use Rattle.td_base.specs.Ep.{server_ep}
-use Rattle.ipv6_packet.specs.declared.header.TheConstants.{HEADER, PACKET_MAX}
-use Rattle.ipv6_packet.specs.Reads.{is_big, is_packet, fields_in}
-use Rattle.ipv6_packet.specs.Laws.{PacketIsSpelled, PacketIsBytes}
+use Rattle.ipv6_packet.specs.Reads.{is_big, fields_in}
 use Rattle.teredo_addr.specs.Teredo.{server_in, has_cone, embedded}
 use Rattle.bubble.specs.Bubbles.{bubble_bytes}
 use Rattle.teredo_node.specs.Sends.{send}
-use Rattle.teredo_node.specs.Journal.{given, Entry, Journal, with_entry}
-use Rattle.teredo_node.specs.MadeInputs.{IsMadeInput, AreMadeInputs}
+use Rattle.teredo_node.specs.Journal.{given, Entry, with_entry}
+use Rattle.peer_list.specs.Listed.{has_room}
 use Rattle.peer_list.specs.Peers.{Peer, no_peer, known}
 use Rattle.qualify.specs.Turns.{turn}
 use Rattle.qualify.specs.Qualification.{qualification}
 use Rattle.client_rules.specs.Bearings.{mentions}
 use Rattle.client_rules.specs.Tries.{both_bubbles}
 use Rattle.topology.specs.declared.client_node.ClientNode.{ClientNode}
-use Rattle.topology.specs.declared.node.Node.{Node}
 use Rattle.topology.specs.declared.node.Node.TheVariants.{Client as client}
 use Rattle.topology.specs.Rows.{TopologyState}
 use Rattle.topology.specs.Rules.{IsTopology}
@@ -32,8 +28,6 @@ use Rattle.legal.specs.Past.{now, journal, words}
 use Rattle.legal.specs.Emit.{entry_of}
 use Rattle.legal.specs.Next.{no_ep}
 use Rattle.legal.specs.Legal.{Grown}
-use Rattle.legal.specs.Laws.{EachIsOfItsEvent}
-use Rattle.legal.proofs.MadeWire.{entry_input}
 use Rattle.first_packets.specs.Schedules.{HasNoFault, AreFresh}
 use Rattle.first_packets.specs.FirstPacket.{IsFirstPacket, GetsThrough}
 use Rattle.first_packets.specs.Throughout.{EachFirstPacketArrives}
@@ -41,42 +35,21 @@ use Rattle.first_packets.proofs.Known.{untried}
 use Rattle.first_packets.proofs.Ends.{IsEnd, is_end, way_of_server}
 use Rattle.first_packets.proofs.Counted.{AreOpen}
 use Rattle.first_packets.proofs.First.{one_first, first_of_two, second_of_two, two_longer, one_open, two_open}
-use Rattle.first_packets.proofs.Deliveries.{Did, Handing, handing}
-use Rattle.first_packets.proofs.Meeting.{Meets, Knows, goes_at_once, Waits, waits_here}
+use Rattle.first_packets.proofs.Deliveries.{Did, Handing}
+use Rattle.first_packets.proofs.HandedIn as handed_in
+use Rattle.first_packets.proofs.HandedIn.{StartLaws, before_it}
+use Rattle.first_packets.proofs.Meeting.{Meets, IsHere, goes_at_once, Waits, waits_here}
 use Rattle.first_packets.proofs.Pair.{Pair, IsPair, setup, nat_by, meets, elsewhere, server_elsewhere, asked_itself, asked_all}
-use Rattle.first_packets.proofs.Ground.{PacketLaws, other_journal, address_stays, Keeps, Unbarred, Ground, IsNext, ground_on, knows, all_leaves}
+use Rattle.first_packets.proofs.Ground.{PacketLaws, other_journal, address_stays, Keeps, Unbarred, Ground, IsNext, ground_on, is_here, all_leaves}
 use Rattle.first_packets.proofs.AtClients.{Afterwards, after_queued, keeps_on, unbarred_on}
 use Rattle.first_packets.proofs.Stages.{asks, releases_it}
 use Rattle.first_packets.proofs.Steps.{two_nodes, same_address, same_after}
 use Rattle.first_packets.proofs.Boards.{Board, boards, few, arrives}
 
-pub record StartLaws : Type 0 where
-  pub packets : PacketLaws
-  pub event : EachIsOfItsEvent
-  pub spelled : PacketIsSpelled
-  pub long : PacketIsBytes
-
--- THE PREMISE
-
--- the records before
-pub before_it : (lab : Lab) (later xs : List Full) → Grown lab (later ++ xs) → Grown lab xs
-before_it lab [] xs g = g
-before_it lab (q ∷ later) xs g = before_it lab later xs g.1
-
 -- no send of the first record failed
 sound_first : (r : Full) (later : List Full) → AreFresh r later → HasNoFault r
 sound_first r [] fresh = fresh
 sound_first r (q ∷ later) fresh = sound_first r later fresh.1
-
--- a short packet isn't big
-not_big : PacketIsSpelled → PacketIsBytes → (x : List ℕ) → IsBytes x → is_packet x ≡ true → length x ≤ PACKET_MAX → is_big (fields_in x) ≡ false
-unfolding is_big
-not_big spelled long x bytes one short =
-    let is = spelled x bytes one in
-    let len : length x ≡ HEADER + length (fields_in x).body = ap (λ (z : List ℕ). length z) is.1 ∙ (long (fields_in x) is.0).long in
-    at_most (length x) (HEADER + length (fields_in x).body) PACKET_MAX len short where
-      at_most : (n m most : ℕ) → n ≡ m → n ≤ most → nat_lt most m ≡ false
-      at_most n m most same le = grind (arith, nat_tests)
 
 module _ (laws : StartLaws) (d : Draws) (t : TopologyState) (H : List Full) (r : Full) (n m : ℕ) (a b : ClientNode) (own other : Ip6) (x : List ℕ) (is : IsTopology t) (g : Grown (flat_lab d t) (r ∷ H))
     (first : IsFirstPacket (flat_lab d t) H r n m a b own other x) (sound : HasNoFault r) where
@@ -99,7 +72,7 @@ module _ (laws : StartLaws) (d : Draws) (t : TopologyState) (H : List Full) (r :
 
   -- the host handed the packet in
   hand : Handing lab H r n x
-  hand = handing r first.entry x first.did first.packet_in lab H n (l.kinds lab H r g.0) first.node
+  hand = handed_in.hand laws d t H r n a x first.entry is g sender_end.there first.node first.did first.packet_in
 
   -- what the sender did
   abbrev e : Entry
@@ -107,18 +80,13 @@ module _ (laws : StartLaws) (d : Draws) (t : TopologyState) (H : List Full) (r :
 
   -- the sender did this
   did : Did lab H r n (client a) e
-  did =
-      let one : hand.node ≡ client a = ap (λ (o : Option Node). unwrap_or o hand.node) (sym hand.there ∙ sender_end.there) in
-      subst (λ (v : Node). Did lab H r n v (entry_of lab H (now H) n no_ep (given x) v)) one hand.did
+  did = handed_in.did laws d t H r n a x first.entry is g sender_end.there first.node first.did first.packet_in
 
-  -- the packet is bytes
   bytes : IsBytes x
-  bytes =
-      let all : AreMadeInputs (with_entry (journal n H) e).entries = subst (λ (j : Journal). AreMadeInputs j.entries) did.later ((l.ends.made lab (r ∷ H) is g).journals n) in
-      subst IsMadeInput (entry_input lab H (now H) n no_ep (given x) (client a)) all.0
+  bytes = handed_in.bytes laws d t H r n a x first.entry is g sender_end.there first.node first.did first.packet_in
 
   small : is_big (fields_in x) ≡ false
-  small = not_big laws.spelled laws.long x bytes first.packet.packet first.packet.short
+  small = handed_in.small laws d t H r n a x first.entry is g sender_end.there first.node first.did first.packet_in first.packet.packet first.packet.short
 
   -- what holds of the two
   pub is_pair : IsPair pair
@@ -176,8 +144,12 @@ module _ (laws : StartLaws) (d : Draws) (t : TopologyState) (H : List Full) (r :
   its_meets : Meets (setup t pair.a) (fields_in x).src (fields_in x).dst
   its_meets = to_sources (Meets (setup t pair.a)) is_pair.sender_meets
 
-  its_knows : Knows (setup t pair.a) (journal n H) (now H) (fields_in x).src (fields_in x).dst
-  its_knows = to_sources (Knows (setup t pair.a) (journal n H) (now H)) (knows l lab H n a own other g.1 sender_end.there ground.sender first.clients.sender_new.room)
+  its_here : IsHere (setup t pair.a) (journal n H) (fields_in x).src
+  its_here = subst (IsHere (setup t pair.a) (journal n H)) (sym first.packet.source) (is_here l lab H n a own g.1 sender_end.there ground.sender)
+
+  -- there is room for it
+  room : has_room (mentions (journal n H).entries) (now H) (fields_in x).dst ≡ true
+  room = ap (has_room (mentions (journal n H).entries) (now H)) first.packet.destination ∙ first.clients.sender_new.room
 
   -- the receiver is new to the sender
   unknown : known (mentions (journal n H).entries) (now H) (fields_in x).dst ≡ no_peer
@@ -191,7 +163,7 @@ module _ (laws : StartLaws) (d : Draws) (t : TopologyState) (H : List Full) (r :
   -- the packet goes out at once
   pub to_cone : has_cone other ≡ true → Board pair H r 1 []
   to_cone cone =
-      let goes = goes_at_once (setup t pair.a) (journal n H) (now H) x first.packet.packet its_meets its_knows small first.packet.no_bubble unknown (ap has_cone first.packet.destination ∙ cone) (words lab n H) in
+      let goes = goes_at_once (setup t pair.a) (journal n H) (now H) x first.packet.packet its_meets its_here small first.packet.no_bubble unknown (ap has_cone first.packet.destination ∙ cone) (words lab n H) in
       let gone = all_leaves l pair H r pair.a e sender_end is_pair.sender_kind g.1 ground.sender_way did sound (send (embedded other) x ∷ []) (goes.sends ∙ ap (λ (z : Ip6). send (embedded z) x ∷ []) first.packet.destination)
       (elsewhere l.ends.apart t is pair.a pair.b sender_end receiver_end first.clients.apart, tt) in
       let one = one_first H r (udp (embedded own) (embedded other) x) gone.made in
@@ -211,8 +183,8 @@ module _ (laws : StartLaws) (d : Draws) (t : TopologyState) (H : List Full) (r :
   -- IT ISN'T
 
   module _ (far : has_cone other ≡ false) where
-    waits : Waits (setup t pair.a) (journal n H) (now H) x first.packet.packet its_meets its_knows small first.packet.no_bubble unknown e
-    waits = waits_here (setup t pair.a) (journal n H) (now H) x first.packet.packet its_meets its_knows small first.packet.no_bubble unknown (ap has_cone first.packet.destination ∙ far) (words lab n H)
+    waits : Waits (setup t pair.a) (journal n H) (now H) x first.packet.packet its_meets its_here small first.packet.no_bubble unknown e
+    waits = waits_here (setup t pair.a) (journal n H) (now H) x first.packet.packet its_meets its_here small first.packet.no_bubble unknown (ap has_cone first.packet.destination ∙ far) room (words lab n H)
 
     -- the bubbles that go out
     sends_are : (cone : Bool) → has_cone own ≡ cone → e.step.sends ≡ both_bubbles cone own other

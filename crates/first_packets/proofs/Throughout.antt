@@ -7,7 +7,7 @@ use Rattle.history.specs.Full.{Full}
 use Rattle.legal.specs.Lab.{Lab, draws, flat_lab, lab_of}
 use Rattle.legal.specs.Legal.{Begun, Grown}
 use Rattle.first_packets.specs.Throughout.{EachFirstPacketArrives, HistoriesCarryFirstPackets, ScenariosCarryFirstPackets}
-use Rattle.first_packets.proofs.Start.{before_it}
+use Rattle.first_packets.proofs.HandedIn.{before_it}
 
 -- at each record of a history
 pub histories : EachFirstPacketArrives → HistoriesCarryFirstPackets

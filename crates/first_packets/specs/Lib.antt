@@ -1,3 +1,4 @@
 pub mod Schedules
 pub mod FirstPacket
 pub mod Throughout
+pub mod NoRoom

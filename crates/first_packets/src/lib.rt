@@ -8,6 +8,8 @@
 //!   each other. A fresh schedule has five deliveries at most; four where the sender's address has the cone bit, one where the
 //!   receiver's has it. A complete one brings the packet to the receiver's host, by rule 1 or rule 3.
 //! - That holds at each record of every history in which no NAT is behind another one (`specs/Throughout.antt`).
+//! - Both need room: a sender without room for the receiver drops the packet, and a receiver without room for the sender answers
+//!   no bubble of it (`specs/NoRoom.antt`).
 //!
 //! # What it does not know
 //!
@@ -21,10 +23,12 @@
 //! | fresh and complete schedules | `specs/Schedules.antt` |
 //! | the premise, and what becomes of the packet | `specs/FirstPacket.antt` |
 //! | the same at each record | `specs/Throughout.antt` |
+//! | what becomes of it where one of the two has no room for the other | `specs/NoRoom.antt` |
 #![tactic(auto)]
 
 mod laws;
 
 pub use laws::{
-    first_packet_arrives, histories_carry_first_packets, scenarios_carry_first_packets,
+    first_packet_arrives, full_receiver_hears_nothing, full_sender_drops,
+    histories_carry_first_packets, scenarios_carry_first_packets,
 };

@@ -1,0 +1,144 @@
+-- A first packet is dropped where its sender has no room for the receiver.
+use Rattle.std.proofs.Common.{◌≡◌, ◌||◌, ◌≤◌, ◌<◌, ℕ, Bool, true, false, List, [], ◌∷◌, ◌++◌, length, refl, sym, ap, subst, ◌∙◌, arith}
+use Rattle.std.specs.Prelude.{filter_map, nat_lt}
+use Rattle.std.proofs.lemmas.Option.{slice_get_within}
+use Rattle.td_base.specs.declared.ipv6.Ip6.{Ip6}
+use Rattle.ipv6_packet.specs.Reads.{fields_in}
+use Rattle.teredo_addr.specs.Teredo.{has_cone}
+use Rattle.teredo_node.specs.declared.fate.Fate.TheVariants as fate
+use Rattle.teredo_node.specs.Step.{Send}
+use Rattle.teredo_node.specs.Journal.{given, Entry}
+use Rattle.peer_list.specs.declared.limits.TheConstants.{PEERS_MAX}
+use Rattle.peer_list.specs.Mentions.{Mention}
+use Rattle.peer_list.specs.Listed.{is_listed, listed, has_room}
+use Rattle.peer_list.specs.Peers.{no_peer, known}
+use Rattle.client_rules.specs.Bearings.{mentions}
+use Rattle.topology.specs.declared.client_node.ClientNode.{ClientNode}
+use Rattle.topology.specs.declared.node.Node.TheVariants.{Client as client}
+use Rattle.topology.specs.Rows.{TopologyState}
+use Rattle.topology.specs.Rules.{IsTopology}
+use Rattle.topology.specs.Chains.{way_out}
+use Rattle.history.specs.Full.{Item, item_in, Full, wire, items_of}
+use Rattle.legal.specs.Lab.{Lab, Draws, flat_lab}
+use Rattle.legal.specs.Past.{now, journal, armed, words}
+use Rattle.legal.specs.Emit.{by_way, entry_of}
+use Rattle.legal.specs.Next.{no_ep}
+use Rattle.legal.specs.Legal.{Grown}
+use Rattle.first_packets.specs.Schedules.{AreFresh}
+use Rattle.first_packets.specs.FirstPacket.{GetsThrough}
+use Rattle.first_packets.specs.NoRoom.{IsTurnedAway, FullSenderDrops}
+use Rattle.first_packets.proofs.Ends.{IsEnd, is_end}
+use Rattle.first_packets.proofs.Deliveries.{Did, Delivery, to_node, to_nobody, delivery}
+use Rattle.first_packets.proofs.Meeting.{Meets, IsHere, IsTurned, turned_away}
+use Rattle.first_packets.proofs.Pair.{Side, setup, meets}
+use Rattle.first_packets.proofs.Ground.{PacketLaws, none_longer, is_here}
+use Rattle.first_packets.proofs.HandedIn as handed_in
+use Rattle.first_packets.proofs.HandedIn.{StartLaws, before_it}
+
+-- one for which there is no room isn't listed
+pub not_listed : (j : List Mention) (n : ℕ) (p : Ip6) → has_room j n p ≡ false → is_listed p n j ≡ false
+unfolding has_room
+not_listed j n p full = by (is_listed p n j) (nat_lt (length (listed j n)) PEERS_MAX) full where
+  by : (b c : Bool) → (b || c) ≡ false → b ≡ false
+  by false c e = refl
+  by true c e = e
+
+-- what is delivered is on the wire
+on_wire : (lab : Lab) (H : List Full) (q : Full) (k : ℕ) → Delivery lab H q k → k < length (wire H)
+on_wire lab H q k (to_node n x a at goes there calm did) = slice_get_within (wire H) k x at
+on_wire lab H q k (to_nobody x at none calm made moment stay) = slice_get_within (wire H) k x at
+
+-- AFTER A RECORD THAT MAKES NOTHING
+
+module _ (laws : StartLaws) (lab : Lab) (H : List Full) (r : Full) (number : r.first ≡ length (wire H)) (nothing : r.made ≡ []) where
+  -- the wire is as long as before
+  as_long : length (wire (r ∷ H)) ≡ length (wire H)
+  as_long =
+      let items : items_of r ≡ [] = ap (filter_map item_in) nothing in
+      ap (λ (xs : List Item). length (wire H ++ xs)) items ∙ ap (λ (xs : List Item). length xs) (none_longer (wire H))
+
+  -- so nothing is left for a fresh schedule
+  pub alone : (later : List Full) → Grown lab (later ++ r ∷ H) → AreFresh r later → later ≡ []
+  alone [] g fresh = refl
+  alone (q ∷ later) g fresh =
+      let same = alone later g.1 fresh.1 in
+      let came = on_wire lab (later ++ r ∷ H) q fresh.0.number (delivery lab (later ++ r ∷ H) q fresh.0.number (laws.packets.kinds lab (later ++ r ∷ H) q g.0) fresh.0.delivered) in
+      let within = subst (λ (z : List Full). fresh.0.number < length (wire (z ++ r ∷ H))) same came in
+      let new = fresh.0.new in
+      absurd (beyond fresh.0.number r.first (length (wire H)) (length (wire (r ∷ H))) new number as_long within)
+    where
+      beyond : (k first before after : ℕ) → first ≤ k → first ≡ before → after ≡ before → k < after → ⊥
+      beyond k first before after low same still high = omega (arith, low, same, still, high)
+
+  -- and the packet doesn't get through
+  pub kept_back : (m : ℕ) (own other : Ip6) (x : List ℕ) → GetsThrough H r m own other x [] → ⊥
+  kept_back m own other x carried = carried.arrives (λ k low high. absurd (beyond k r.first (length (wire H)) (length (wire (r ∷ H))) low number as_long high)) where
+    beyond : (k first before after : ℕ) → first ≤ k → first ≡ before → after ≡ before → k < after → ⊥
+    beyond k first before after low same still high = omega (arith, low, same, still, high)
+
+-- THE RECORD
+
+module _ (laws : StartLaws) (d : Draws) (t : TopologyState) (H : List Full) (r : Full) (n m : ℕ) (a b : ClientNode) (own other : Ip6) (x : List ℕ) (is : IsTopology t) (g : Grown (flat_lab d t) (r ∷ H))
+    (turned : IsTurnedAway (flat_lab d t) H r n m a b own other x) where
+  abbrev l : PacketLaws
+  l = laws.packets
+
+  abbrev lab : Lab
+  lab = flat_lab d t
+
+  abbrev a_side : Side
+  a_side = record { n = n; c = a; own = own }
+
+  abbrev b_side : Side
+  b_side = record { n = m; c = b; own = other }
+
+  sender_end : IsEnd t n a own
+  sender_end = is_end l.ends lab H n a own is g.1 turned.sender turned.sender_settled
+
+  receiver_end : IsEnd t m b other
+  receiver_end = is_end l.ends lab H m b other is g.1 turned.receiver turned.receiver_settled
+
+  abbrev e : Entry
+  e = entry_of lab H (now H) n no_ep (given x) (client a)
+
+  pub did : Did lab H r n (client a) e
+  did = handed_in.did laws d t H r n a x turned.entry is g sender_end.there turned.node turned.did turned.packet_in
+
+  its_meets : Meets (setup t a_side) (fields_in x).src (fields_in x).dst
+  its_meets = subst (λ (z : Ip6). Meets (setup t a_side) (fields_in x).src z) (sym turned.packet.destination)
+      (subst (λ (z : Ip6). Meets (setup t a_side) z other) (sym turned.packet.source) (meets l.ends.apart t is a_side b_side sender_end receiver_end turned.apart))
+
+  its_here : IsHere (setup t a_side) (journal n H) (fields_in x).src
+  its_here = subst (IsHere (setup t a_side) (journal n H)) (sym turned.packet.source) (is_here l lab H n a own g.1 sender_end.there turned.sender_settled.address)
+
+  full : has_room (mentions (journal n H).entries) (now H) (fields_in x).dst ≡ false
+  full = ap (has_room (mentions (journal n H).entries) (now H)) turned.packet.destination ∙ turned.full
+
+  unknown : known (mentions (journal n H).entries) (now H) (fields_in x).dst ≡ no_peer
+  unknown = l.unlisted (mentions (journal n H).entries) (now H) (fields_in x).dst (not_listed (mentions (journal n H).entries) (now H) (fields_in x).dst full)
+
+  is_turned : IsTurned (setup t a_side) (journal n H) (now H) x turned.packet.packet its_meets its_here
+      (handed_in.small laws d t H r n a x turned.entry is g sender_end.there turned.node turned.did turned.packet_in turned.packet.packet turned.packet.short) turned.packet.no_bubble unknown e
+  is_turned = turned_away (setup t a_side) (journal n H) (now H) x turned.packet.packet its_meets its_here
+      (handed_in.small laws d t H r n a x turned.entry is g sender_end.there turned.node turned.did turned.packet_in turned.packet.packet turned.packet.short) turned.packet.no_bubble unknown
+      (ap has_cone turned.packet.destination ∙ turned.plain) full (words lab n H)
+
+  pub nothing : r.made ≡ []
+  nothing = did.made ∙ ap (λ (z : List Send). (by_way lab H (now H) (way_out lab.chain a.nat) a.inside (armed H) 0 [] z).made) is_turned.sends
+
+  pub dropped : r.fate ≡ fate.PeersFull
+  dropped = did.fate ∙ is_turned.full
+
+pub full_sender_drops : StartLaws → FullSenderDrops
+full_sender_drops laws d t H r later is g n m a b own other x turned fresh =
+    let lab = flat_lab d t in
+    let there = before_it lab later (r ∷ H) g in
+    let nothing = nothing laws d t H r n m a b own other x is there turned in
+    let number : r.first ≡ length (wire H) = ap (λ (z : Full). z.first) there.0.is ∙ (laws.event lab H r.event r.asked).first in
+    let same = alone laws lab H r number nothing later g fresh in
+    record {
+      dropped = dropped laws d t H r n m a b own other x is there turned;
+      nothing = nothing;
+      alone = same;
+      kept_back = subst (λ (z : List Full). GetsThrough H r m own other x z → ⊥) (sym same) (kept_back laws lab H r number nothing m own other x);
+    }
