@@ -1,5 +1,5 @@
--- The first packet of a worked scenario arrives, whatever the order; and for premises of that a history without one, in which
--- the packet doesn't arrive though every entry is delivered.
+-- The first packet of a worked scenario arrives, whatever the order; and for each premise of that but those on room a history
+-- without it, in which the packet doesn't arrive. Where it isn't a loss, every entry is delivered.
 use Rattle.std.proofs.Common.{◌≡◌, [], ◌∷◌, refl}
 use Rattle.std.specs.Prelude.{ℕ, true, false, List, Some, None, slice_get, take, drop}
 use Rattle.td_base.specs.Ip4.{same_ip}
@@ -58,10 +58,10 @@ use Rattle.events.specs.Scenario.{Scenario}
 use Rattle.td_base.specs.declared.ipv6.Ip6.{Ip6}
 use Rattle.topology.specs.declared.client_node.ClientNode.{ClientNode}
 use Rattle.history.specs.Full.{Full}
-use Rattle.first_packets.specs.FirstPacket.{GetsThrough}
+use Rattle.first_packets.specs.FirstPacket.{HasArrived, GetsThrough}
 use Rattle.worked_scenarios.proofs.Scenes.{name1, name2, ip, ip6, ep, some_words, play}
 use Rattle.worked_scenarios.proofs.MeetingReports.{meeting}
-use Rattle.worked_facts.proofs.FirstPacketViews.{carriage, not_carried}
+use Rattle.worked_facts.proofs.FirstPacketViews.{carriage, not_carried, not_arrived}
 
 -- THE CLIENTS
 
@@ -127,6 +127,39 @@ failed-bubble-view = refl
 
 pub failed-bubble-fails : (r : Full) → slice_get (play some_words failed-bubble 23 []) 1 ≡ Some r → (x : List ℕ) → GetsThrough (drop 2 (play some_words failed-bubble 23 [])) r 4 a_own b_own x (take 1 (play some_words failed-bubble 23 [])) → ⊥
 failed-bubble-fails = not_carried 3 4 a_own b_own 1 (play some_words failed-bubble 23 []) _ failed-bubble-view refl refl
+
+-- the bubble through the server is lost: the schedule isn't complete
+abbrev pub lost-bubble : Scenario
+lost-bubble = after_meeting (to_b ∷ event.Deliver 14 ∷ [])
+
+pub lost-bubble-view : carriage 3 4 a_own b_own 1 (play some_words lost-bubble 22 []) ≡ Some (record { delivered = Some 14 ∷ []; left = 15 ∷ []; faults = false; fates = fate.NatClosed ∷ []; handed = None ∷ []; listed = false; listed_too = false })
+unfolding same_ip same_ip6 cmp_ip6 same_ep is_global is_usable is_global6 is_link_local packet_bytes packet_at fields_of is_packet fields_in is_big checksum_of option_len whole_options echo_request_at echo_reply_at solicit_at advert_at message_at options_at message_bytes hidden_ep shown_at is_teredo server_in flags_in has_cone embedded teredo_ip link_local is_reachable head_at auth_at origin_at lead_at is_keyed is_confirmed is_bubble payload_at is_payload value_in message_in is_ill_formed packet_in source_in packet_given destination_in is_other_kind is_own is_for_server is_solicitation is_forged is_for_client is_not_ours is_unusable is_looped rule_of advert_bytes forwarded server_row is_listed touched listed has_room stay peer_at is_spent is_barred is_trusted_at is_fresh is_full holds_most due_of kept_among cmp_due first_among interval_of first_phase qualification own_address expected solicitation due_step prefixes_in advert_row client_mentions client_standing_at test try_sends is_from_server client_seen reception_fate client_reception client_given client_transmission client_due_at next_due client_in client_out client_tick client_due relay_mentions relay_standing_at relay_given bubble_to relay_transmission relay_seen relay_reception relay_in relay_six relay_tick relay_due native_in native_out next
+lost-bubble-view = refl
+
+pub lost-bubble-fails : (r : Full) → slice_get (play some_words lost-bubble 22 []) 1 ≡ Some r → (x : List ℕ) → HasArrived 4 x (take 1 (play some_words lost-bubble 22 [])) → ⊥
+lost-bubble-fails = not_arrived 3 4 a_own b_own 1 (play some_words lost-bubble 22 []) _ lost-bubble-view refl
+
+-- the answer to it is lost, the last but one of five
+abbrev pub lost-answer : Scenario
+lost-answer = after_meeting (to_b ∷ event.Deliver 14 ∷ event.Deliver 15 ∷ event.Deliver 16 ∷ [])
+
+pub lost-answer-view : carriage 3 4 a_own b_own 3 (play some_words lost-answer 24 []) ≡ Some (record { delivered = Some 16 ∷ Some 15 ∷ Some 14 ∷ []; left = 17 ∷ []; faults = false; fates = fate.Indirect ∷ fate.ForwardOrigin ∷ fate.NatClosed ∷ []; handed = None ∷ None ∷ None ∷ []; listed = false; listed_too = false })
+unfolding same_ip same_ip6 cmp_ip6 same_ep is_global is_usable is_global6 is_link_local packet_bytes packet_at fields_of is_packet fields_in is_big checksum_of option_len whole_options echo_request_at echo_reply_at solicit_at advert_at message_at options_at message_bytes hidden_ep shown_at is_teredo server_in flags_in has_cone embedded teredo_ip link_local is_reachable head_at auth_at origin_at lead_at is_keyed is_confirmed is_bubble payload_at is_payload value_in message_in is_ill_formed packet_in source_in packet_given destination_in is_other_kind is_own is_for_server is_solicitation is_forged is_for_client is_not_ours is_unusable is_looped rule_of advert_bytes forwarded server_row is_listed touched listed has_room stay peer_at is_spent is_barred is_trusted_at is_fresh is_full holds_most due_of kept_among cmp_due first_among interval_of first_phase qualification own_address expected solicitation due_step prefixes_in advert_row client_mentions client_standing_at test try_sends is_from_server client_seen reception_fate client_reception client_given client_transmission client_due_at next_due client_in client_out client_tick client_due relay_mentions relay_standing_at relay_given bubble_to relay_transmission relay_seen relay_reception relay_in relay_six relay_tick relay_due native_in native_out next
+lost-answer-view = refl
+
+pub lost-answer-fails : (r : Full) → slice_get (play some_words lost-answer 24 []) 3 ≡ Some r → (x : List ℕ) → HasArrived 4 x (take 3 (play some_words lost-answer 24 [])) → ⊥
+lost-answer-fails = not_arrived 3 4 a_own b_own 3 (play some_words lost-answer 24 []) _ lost-answer-view refl
+
+-- 8 seconds pass before the deliveries: a tries three times more, and gives up. What comes back finds no packet
+abbrev pub waited : Scenario
+waited = after_meeting (to_b ∷ event.Advance 8000 ∷ event.Deliver 14 ∷ event.Deliver 15 ∷ event.Deliver 16 ∷ event.Deliver 17 ∷ event.Deliver 18 ∷ event.Deliver 19 ∷ event.Deliver 20 ∷ event.Deliver 21 ∷ event.Deliver 22 ∷ event.Deliver 23 ∷ event.Deliver 24 ∷ event.Deliver 25 ∷ event.Deliver 26 ∷ [])
+
+pub waited-view : carriage 3 4 a_own b_own 18 (play some_words waited 39 []) ≡ Some (record { delivered = Some 26 ∷ Some 25 ∷ Some 24 ∷ Some 23 ∷ Some 22 ∷ Some 21 ∷ Some 20 ∷ Some 19 ∷ Some 18 ∷ Some 17 ∷ Some 16 ∷ Some 15 ∷ Some 14 ∷ None ∷ None ∷ None ∷ None ∷ None ∷ []; left = []; faults = false; fates = fate.Rule3Bubble ∷ fate.Barred ∷ fate.Barred ∷ fate.Barred ∷ fate.Indirect ∷ fate.ForwardOrigin ∷ fate.NatClosed ∷ fate.ForwardOrigin ∷ fate.NatClosed ∷ fate.ForwardOrigin ∷ fate.NatClosed ∷ fate.ForwardOrigin ∷ fate.NatClosed ∷ fate.Done ∷ fate.GiveUp ∷ fate.Bubbles ∷ fate.Bubbles ∷ fate.Bubbles ∷ []; handed = None ∷ None ∷ None ∷ None ∷ None ∷ None ∷ None ∷ None ∷ None ∷ None ∷ None ∷ None ∷ None ∷ None ∷ None ∷ None ∷ None ∷ None ∷ []; listed = false; listed_too = false })
+unfolding same_ip same_ip6 cmp_ip6 same_ep is_global is_usable is_global6 is_link_local packet_bytes packet_at fields_of is_packet fields_in is_big checksum_of option_len whole_options echo_request_at echo_reply_at solicit_at advert_at message_at options_at message_bytes hidden_ep shown_at is_teredo server_in flags_in has_cone embedded teredo_ip link_local is_reachable head_at auth_at origin_at lead_at is_keyed is_confirmed is_bubble payload_at is_payload value_in message_in is_ill_formed packet_in source_in packet_given destination_in is_other_kind is_own is_for_server is_solicitation is_forged is_for_client is_not_ours is_unusable is_looped rule_of advert_bytes forwarded server_row is_listed touched listed has_room stay peer_at is_spent is_barred is_trusted_at is_fresh is_full holds_most due_of kept_among cmp_due first_among interval_of first_phase qualification own_address expected solicitation due_step prefixes_in advert_row client_mentions client_standing_at test try_sends is_from_server client_seen reception_fate client_reception client_given client_transmission client_due_at next_due client_in client_out client_tick client_due relay_mentions relay_standing_at relay_given bubble_to relay_transmission relay_seen relay_reception relay_in relay_six relay_tick relay_due native_in native_out next
+waited-view = refl
+
+pub waited-fails : (r : Full) → slice_get (play some_words waited 39 []) 18 ≡ Some r → (x : List ℕ) → GetsThrough (drop 19 (play some_words waited 39 [])) r 4 a_own b_own x (take 18 (play some_words waited 39 [])) → ⊥
+waited-fails = not_carried 3 4 a_own b_own 18 (play some_words waited 39 []) _ waited-view refl refl
 
 -- both are behind one NAT, which sends nothing back to itself
 abbrev pub one-nat : Scenario

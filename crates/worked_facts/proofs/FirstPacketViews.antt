@@ -92,3 +92,10 @@ not_carried n m own other k H c seen left none r at x carried =
     let within : number < length (wire H) = subst (λ (xs : List Full). number < length (wire xs)) (rejoined k H r at) high in
     all_there (take k H) r.first (length (wire H) - r.first) nothing number low (omega (arith, low, within))) in
     not_come m x (take k H) (ap (λ (v : Carriage). is_none_over v.handed) is ∙ none) (carried.arrives complete)
+
+-- one that hands nothing over brings the packet nowhere, complete or not
+pub not_arrived : (n m : ℕ) (own other : Ip6) (k : ℕ) (H : List Full) (c : Carriage) → carriage n m own other k H ≡ Some c → is_none_over c.handed ≡ true
+    → (r : Full) → slice_get H k ≡ Some r → (x : List ℕ) → HasArrived m x (take k H) → ⊥
+not_arrived n m own other k H c seen none r at x come =
+    let is : carriage_of n m own other (drop (suc k) H) H (take k H) r ≡ c = ap (λ (o : Option Carriage). unwrap_or o c) (sym (ap (option_map (carriage_of n m own other (drop (suc k) H) H (take k H))) at) ∙ seen) in
+    not_come m x (take k H) (ap (λ (v : Carriage). is_none_over v.handed) is ∙ none) come
