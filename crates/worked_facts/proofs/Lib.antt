@@ -8,3 +8,4 @@ mod StormViews
 mod StormFacts
 mod FirstPacketViews
 mod FirstPacketFacts
+mod NumberFacts

@@ -1,5 +1,6 @@
 //! Facts of whole histories, computed: of worked scenarios their premises and what follows, and for each premise a history
-//! without it in which the conclusion is false. No code stands here: each is a theorem in proofs/.
+//! without it in which the conclusion is false. No code stands here: each is a theorem in proofs/. And numbers of lower crates,
+//! which their specs take from the code's constants.
 //!
 //! | file of proofs/ | what is computed |
 //! |---|---|
@@ -10,4 +11,5 @@
 //! | `OriginViews` | the words of these |
 //! | `StormFacts` | what can follow and what does; more deliveries than that with a tick between, or an entry delivered again |
 //! | `FirstPacketFacts` | a first packet that arrives, and for premises of its arrival a history without one, in which it doesn't |
+//! | `NumberFacts` | the numbers of lower crates that `specs/Numbers.antt` has, from the standards, or our choice |
 #![tactic(auto)]
