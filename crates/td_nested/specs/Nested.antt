@@ -1,5 +1,5 @@
 -- Laboratories in which NATs stand behind others: which there are, and what they aren't asked for.
-use Rattle.std.specs.Prelude.{◌≡◌, ◌||◌, nat_lt, Bool, true, false, ℕ, List, length, Some, None}
+use Rattle.std.specs.Prelude.{◌≡◌, ◌||◌, nat_lt, Bool, true, false, ℕ, List, [], length, codes, Some, None}
 use Rattle.topology.specs.Rows.{TopologyState}
 use Rattle.topology.specs.Chains.{Behind}
 use Rattle.events.specs.declared.event.Event.{Event}
@@ -16,6 +16,10 @@ has_six_side t = nat_lt 0 (length t.relays) || nat_lt 0 (length t.natives)
 pub record IsNested (t : TopologyState) (text : List ℕ) (chain : List Behind) : Type 0 where
   pub asked : chain_asked t text ≡ Some chain
   pub plain : has_six_side t ≡ false
+
+-- by the text `-` no NAT is behind another one
+abbrev pub DashIsFlat : Type 0
+DashIsFlat = (t : TopologyState) (chain : List Behind) → IsNested t (codes "-") chain → chain ≡ []
 
 -- A reason against it is due: the first of the two that applies. Want of memory says nothing of the text and the nodes.
 abbrev pub IsDue : TopologyState → List ℕ → NestedFault → Type 0

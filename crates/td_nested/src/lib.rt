@@ -18,14 +18,17 @@
 //! | `nested_fault` | why there is no such laboratory | `specs/Nested.antt` |
 //! | `nested_chains` | the NATs of a text and a topology | `specs/Nested.antt` |
 //! | `left_out` | the events that it isn't asked for | `specs/Nested.antt` |
+//! | `laws` | what `-` asks for | `specs/Nested.antt` |
 //! | `nested` | `Nested` | `specs/Nested.antt`, and as a world |
 #![tactic(auto)]
 
+mod laws;
 mod left_out;
 mod nested;
 mod nested_chains;
 mod nested_fault;
 
+pub use laws::dash_is_flat;
 pub use left_out::is_left_out;
 pub use nested::Nested;
 pub use nested_chains::chains_of;

@@ -1,0 +1,5 @@
+use Rattle.td_nested.proofs.Flat.{dash_is_flat}
+use Rattle.td_nested.proofs.laws.dash_is_flat.Goals as goal
+
+pub returns : goal.returns
+returns c = dash_is_flat
