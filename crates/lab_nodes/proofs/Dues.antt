@@ -1,17 +1,21 @@
 -- Which of several ticks comes first.
-use Rattle.std.proofs.Common.{◌≡◌, ◌<◌, ◌≤◌, ◌+◌, ℕ, zero, suc, List, [], ◌∷◌, length, drop, drop-cons, Option, Some, None, refl, sym, ap, ◌∙◌, arith, inl, inr}
-use Rattle.std.specs.Prelude.{slice_get, option_map, is_some, IfSome}
-use Rattle.std.proofs.lemmas.Bool.{cases_lt, lt-ltb, le-ltb, false≢true}
-use Rattle.std.proofs.lemmas.List.{at_drop_all}
-use Rattle.std.proofs.lemmas.Option.{slice_get_within, get_or_from_slice_get, slice_get_past, slice_get-map}
+use Rattle.std.proofs.Common.{◌≡◌, ◌<◌, ◌≤◌, ◌+◌, ℕ, suc, List, [], ◌∷◌, ◌++◌, map, length, drop, drop-cons, Option, Some, None, refl, sym, ap, subst, ◌∙◌, arith, inl, inr, append_assoc, length-append}
+use Rattle.std.specs.Prelude.{slice_get, option_map, IfSome}
+use Rattle.std.proofs.lemmas.Bool.{cases_lt, lt-ltb, le-ltb}
+use Rattle.std.proofs.lemmas.List.{length-map, drop_at}
+use Rattle.std.proofs.lemmas.Option.{slice_get_within, get_or_from_slice_get, slice_get-map}
+use Rattle.topology.specs.declared.native_node.NativeNode.{NativeNode}
+use Rattle.topology.specs.Rows.{TopologyState}
 use Rattle.topology.specs.declared.node.Node.{Node}
+use Rattle.topology.specs.declared.node.Node.TheVariants.{Server as server, Nat as nat, Client as client, Relay as relay, Native as native}
 use Rattle.history.specs.Full.{Full}
 use Rattle.legal.specs.Lab.{Lab}
 use Rattle.legal.specs.Past.{now}
 use Rattle.topology.specs.Topology.{nodes, node_at}
 use Rattle.lab_nodes.specs.declared.played_node.PlayedNode.{PlayedNode}
 use Rattle.lab_nodes.specs.declared.due.Due.{Due as Found}
-use Rattle.lab_nodes.specs.PlayedNode.{row_of, NodesOf}
+use Rattle.lab_nodes.specs.PlayedNode.{row_of, AreOf, NodesOf}
+use Rattle.legal.specs.Emit.{due_of}
 use Rattle.legal.specs.Next.{Due, earlier, least_due}
 use Rattle.lab_nodes.specs.Due.{due_as, tick_of}
 
@@ -53,9 +57,6 @@ pub record IsFirstSo (lab : Lab) (H : List Full) (all : List Node) (n : ℕ) (fi
   pub found : first ≡ option_map due_as tick
   pub whole : earlier tick (least_due lab H n (drop n all)) ≡ least_due lab H 0 all
 
-pub none_before : (lab : Lab) (H : List Full) (all : List Node) → IsFirstSo lab H all 0 None
-none_before lab H all = record { tick = None; found = refl; whole = refl }
-
 dropped : (all : List Node) (n : ℕ) (a : Node) → slice_get all n ≡ Some a → drop n all ≡ a ∷ drop (n + 1) all
 dropped all n a at =
     let next : suc n ≡ n + 1 = omega arith in
@@ -76,21 +77,97 @@ one_further lab H all n a first new at so is = record {
 pub row_at : (lab : Lab) (list : List PlayedNode) (H : List Full) (n : ℕ) (p : PlayedNode) → NodesOf lab list H → slice_get list n ≡ Some p → node_at lab.topology n ≡ Some (row_of p)
 row_at lab list H n p of at = ap (λ (bs : List Node). slice_get bs n) (sym of.rows) ∙ slice_get-map row_of list n ∙ ap (option_map row_of) at
 
--- behind the last one there is none
-none_past : (lab : Lab) (list : List PlayedNode) (H : List Full) (n : ℕ) → NodesOf lab list H → length list ≤ n → slice_get (nodes lab.topology) n ≡ None
-none_past lab list H n of le = ap (λ (bs : List Node). slice_get bs n) (sym of.rows) ∙ slice_get-map row_of list n ∙ ap (option_map row_of) (slice_get_past list n le)
+-- THE NODES THAT MAY HAVE A TICK
 
-no_more : (all : List Node) (n : ℕ) → slice_get all n ≡ None → length all ≤ n
-no_more [] n e = omega arith
-no_more (a ∷ all) zero e = absurd (false≢true (sym (ap (λ (o : Option Node). is_some o) e)))
-no_more (a ∷ all) (suc n) e = let h = no_more all n e in omega (arith, h)
+-- rows without a tick are passed over
+passed_over : {A : Type 0} (lab : Lab) (H : List Full) (f : A → Node) → ((n : ℕ) (x : A) → due_of lab H (now H) n (f x) ≡ None) → (n : ℕ) (xs : List A) (rest : List Node)
+    → least_due lab H n (map f xs ++ rest) ≡ least_due lab H (n + length xs) rest
+passed_over lab H f none n [] rest = ap (λ (k : ℕ). least_due lab H k rest) (omega arith)
+passed_over lab H f none n (x ∷ xs) rest =
+    let further : n + 1 + length xs ≡ n + suc (length xs) = omega arith in
+    ap (λ (o : Option ℕ). earlier (option_map (λ (m : ℕ). record { moment = m; number = n; node = f x }) o) (least_due lab H (n + 1) (map f xs ++ rest))) (none n x)
+    ∙ passed_over lab H f none (n + 1) xs rest ∙ ap (λ (k : ℕ). least_due lab H k rest) further
 
-pub at_the_end : (lab : Lab) (list : List PlayedNode) (H : List Full) (n : ℕ) (first : Option Found) → NodesOf lab list H → length list ≤ n → IsFirstSo lab H (nodes lab.topology) n first
-    → first ≡ option_map due_as (least_due lab H 0 (nodes lab.topology))
-at_the_end lab list H n first of le so =
-    let all : List Node = nodes lab.topology in
-    let past : length all ≤ n = no_more all n (none_past lab list H n of le) in
-    so.found ∙ ap (λ (o : Option Due). option_map due_as o) (sym (earlier_alone so.tick) ∙ ap (earlier so.tick) (sym (at_drop_all (least_due lab H n) all n past)) ∙ so.whole)
+none_of_natives : (lab : Lab) (H : List Full) (n : ℕ) (hs : List NativeNode) → least_due lab H n (map native hs) ≡ None
+none_of_natives lab H n [] = refl
+none_of_natives lab H n (h ∷ hs) = none_of_natives lab H (n + 1) hs
+
+-- they begin behind the servers and NATs, and end behind the relays
+abbrev pub ticking_from : TopologyState → ℕ
+ticking_from t = length t.servers + length t.nats
+
+abbrev pub ticking_until : TopologyState → ℕ
+ticking_until t = length t.servers + length t.nats + length t.clients + length t.relays
+
+abbrev with_ticks : TopologyState → List Node
+with_ticks t = map client t.clients ++ map relay t.relays
+
+-- all nodes are those before, they, and those behind
+in_three : (t : TopologyState) → nodes t ≡ (map server t.servers ++ map nat t.nats) ++ (with_ticks t ++ map native t.natives)
+in_three t =
+    ap (λ (bs : List Node). map server t.servers ++ (map nat t.nats ++ bs)) (sym (append_assoc (map client t.clients) (map relay t.relays) (map native t.natives)))
+    ∙ sym (append_assoc (map server t.servers) (map nat t.nats) (with_ticks t ++ map native t.natives))
+
+count_before : (t : TopologyState) → length (map server t.servers ++ map nat t.nats) ≡ ticking_from t
+count_before t = length-append (map server t.servers) (map nat t.nats) ∙ rw (length-map t.servers server, length-map t.nats nat) refl
+
+count_until : (t : TopologyState) → length ((map server t.servers ++ map nat t.nats) ++ with_ticks t) ≡ ticking_until t
+count_until t =
+    let before = count_before t in
+    let whole = length-append (map server t.servers ++ map nat t.nats) (with_ticks t) in
+    let ticks = length-append (map client t.clients) (map relay t.relays) in
+    let clients = length-map t.clients client in
+    let relays = length-map t.relays relay in
+    omega (arith, before, whole, ticks, clients, relays)
+
+behind_relays : (t : TopologyState) → nodes t ≡ ((map server t.servers ++ map nat t.nats) ++ with_ticks t) ++ map native t.natives
+behind_relays t = in_three t ∙ sym (append_assoc (map server t.servers ++ map nat t.nats) (with_ticks t) (map native t.natives))
+
+pub until_within : (t : TopologyState) (list : List PlayedNode) → AreOf t list → ticking_until t ≤ length list
+until_within t list of =
+    let until = count_until t in
+    let same : length (map row_of list) ≡ length (nodes t) = ap (λ (bs : List Node). length bs) of in
+    let kept = length-map list row_of in
+    let all : length (nodes t) ≡ length (((map server t.servers ++ map nat t.nats) ++ with_ticks t) ++ map native t.natives) = ap (λ (bs : List Node). length bs) (behind_relays t) in
+    let whole = length-append ((map server t.servers ++ map nat t.nats) ++ with_ticks t) (map native t.natives) in
+    omega (arith, until, same, kept, all, whole)
+
+-- so before the first of them there is no tick
+none_before_clients : (lab : Lab) (H : List Full) (t : TopologyState) → IsFirstSo lab H (nodes t) (ticking_from t) None
+none_before_clients lab H t =
+    let rest : List Node = map client t.clients ++ (map relay t.relays ++ map native t.natives) in
+    let dropped : drop (ticking_from t) (nodes t) ≡ rest =
+    ap (drop (ticking_from t)) (sym (append_assoc (map server t.servers) (map nat t.nats) rest)) ∙ drop_at (map server t.servers ++ map nat t.nats) rest (ticking_from t) (count_before t) in
+    let number : 0 + length t.servers + length t.nats ≡ ticking_from t = omega arith in
+    record {
+      tick = None;
+      found = refl;
+      whole = ap (least_due lab H (ticking_from t)) dropped ∙ sym (passed_over lab H server (λ n x. refl) 0 t.servers (map nat t.nats ++ rest)
+          ∙ passed_over lab H nat (λ n x. refl) (0 + length t.servers) t.nats rest ∙ ap (λ (k : ℕ). least_due lab H k rest) number);
+    }
+
+-- and behind the last of them there is none
+first_of_all : (lab : Lab) (H : List Full) (t : TopologyState) (first : Option Found) → IsFirstSo lab H (nodes t) (ticking_until t) first → first ≡ option_map due_as (least_due lab H 0 (nodes t))
+first_of_all lab H t first so =
+    let n = ticking_until t in
+    let dropped : drop n (nodes t) ≡ map native t.natives =
+    ap (drop n) (behind_relays t) ∙ drop_at ((map server t.servers ++ map nat t.nats) ++ with_ticks t) (map native t.natives) n (count_until t) in
+    let none : least_due lab H n (drop n (nodes t)) ≡ None = ap (least_due lab H n) dropped ∙ none_of_natives lab H n t.natives in
+    so.found ∙ ap (λ (o : Option Due). option_map due_as o) (sym (earlier_alone so.tick) ∙ ap (earlier so.tick) (sym none) ∙ so.whole)
+
+-- as of what is kept of the nodes
+same_nodes : (lab : Lab) (t : TopologyState) (list : List PlayedNode) (H : List Full) → AreOf t list → NodesOf lab list H → nodes t ≡ nodes lab.topology
+same_nodes lab t list H rows of = sym rows ∙ of.rows
+
+pub none_before : (lab : Lab) (t : TopologyState) (list : List PlayedNode) (H : List Full) → AreOf t list → NodesOf lab list H → IsFirstSo lab H (nodes lab.topology) (ticking_from t) None
+none_before lab t list H rows of = subst (λ (ns : List Node). IsFirstSo lab H ns (ticking_from t) None) (same_nodes lab t list H rows of) (none_before_clients lab H t)
+
+pub at_the_end : (lab : Lab) (t : TopologyState) (list : List PlayedNode) (H : List Full) (n : ℕ) (first : Option Found) → AreOf t list → NodesOf lab list H → n ≡ ticking_until t
+    → IsFirstSo lab H (nodes lab.topology) n first → first ≡ option_map due_as (least_due lab H 0 (nodes lab.topology))
+at_the_end lab t list H n first rows of end so =
+    let same = same_nodes lab t list H rows of in
+    subst (λ (ns : List Node). first ≡ option_map due_as (least_due lab H 0 ns)) same
+    (first_of_all lab H t first (subst (λ (ns : List Node). IsFirstSo lab H ns (ticking_until t) first) (sym same) (subst (λ (k : ℕ). IsFirstSo lab H (nodes lab.topology) k first) end so)))
 
 -- so far the first tick is of one of the nodes before n
 pub record FirstSoFar (list : List PlayedNode) (at n : ℕ) (first : Option Found) : Type 0 where

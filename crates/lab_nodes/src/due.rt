@@ -1,5 +1,5 @@
 //! Which tick is due first.
-ghost use Rattle.std.specs.Prelude.{◌≡◌, ◌≤◌, ◌<◌, ℕ, false, if◌then◌else◌, List, length, Option, Some, None, option_map, IfSome};
+ghost use Rattle.std.specs.Prelude.{◌≡◌, ◌≤◌, ◌<◌, ◌+◌, ℕ, false, if◌then◌else◌, List, length, Option, Some, None, option_map, IfSome};
 ghost use Rattle.td_outside.specs.declared.clock.TheConstants.{CLOCK_END_MS};
 ghost use Rattle.topology.specs.declared.topology.TheConstants.{NODES_MAX};
 ghost use Rattle.topology.specs.Topology as all;
@@ -7,11 +7,12 @@ ghost use Rattle.history.specs.Full.{Full};
 ghost use Rattle.legal.specs.Lab.{Lab};
 ghost use Rattle.legal.specs.Past.{now};
 ghost use Rattle.legal.specs.Next as next;
-ghost use Rattle.lab_nodes.specs.PlayedNode.{row_of, past_of, IsKept, NodesOf, IsReady, AreReady};
+ghost use Rattle.lab_nodes.specs.PlayedNode.{row_of, past_of, IsKept, AreOf, NodesOf, IsReady, AreReady};
 ghost use Rattle.lab_nodes.specs.Due.{due_as, tick_of};
 
 use crate::played_node::PlayedNode;
 use td_base::Millis;
+use topology::Topology;
 
 /// A node, by its number, and the moment at which a tick of it is due.
 #[derive(Clone, Copy, Debug)]
@@ -73,21 +74,40 @@ fn put_earlier(first: &mut Option<Due>, number: u16, node: &PlayedNode, at: Mill
     }
 }
 
-/// The tick that is due first, of the node with the least number among those of one moment. Only the few nodes are asked
-/// that may come before all those in front of them.
-pub fn first_due(nodes: &[PlayedNode], at: Millis) -> Option<Due>
+/// The number of the first node that may have a tick. Servers and NATs have none.
+fn ticking_from(topology: &Topology) -> usize
+    ensures { result ≡ length topology.now.servers + length topology.now.nats }
+{
+    topology.servers().len() + topology.nats().len()
+}
+
+/// The number behind the last node that may have a tick: clients and relays may. Native hosts have none.
+fn ticking_until(topology: &Topology) -> usize
+    ensures { result ≡ length topology.now.servers + length topology.now.nats + length topology.now.clients + length topology.now.relays }
+{
+    ticking_from(topology) + topology.clients().len() + topology.relays().len()
+}
+
+/// The tick that is due first, of the node with the least number among those of one moment. Only clients and relays are
+/// looked at, and of them only the few are asked that may come before all those in front of them.
+pub fn first_due(topology: &Topology, nodes: &[PlayedNode], at: Millis) -> Option<Due>
     requires few { length nodes.now ≤ NODES_MAX }
+    requires rows { AreOf topology.now nodes.now }
     requires ready { AreReady at.0 nodes.now }
     requires early { at.0 < CLOCK_END_MS }
     ensures within { IfSome result (λ x. x.node < length nodes.now) }
     ensures first { (lab : Lab) (H : List Full) → NodesOf lab nodes.now H → at.0 ≡ now H
         → result ≡ option_map due_as (next.least_due lab H 0 (all.nodes lab.topology)) }
 {
+    let end = ticking_until(topology);
+    let mut number = ticking_from(topology);
     let mut first = None;
-    for (number, node) in nodes.iter().enumerate() {
+    'ticking: while number < end {
+        let node = &nodes[number];
         if may_come_first(&first, node) {
             put_earlier(&mut first, number as u16, node, at);
         }
+        number += 1;
     }
     first
 }

@@ -47,7 +47,7 @@ impl<'a> World<'a> {
         ensures early { IfSome result (λ x. x.moment.0 ≤ end.0) }
         ensures within { IfSome result (λ x. x.node < length self.now.nodes) }
     {
-        let Some(due) = first_due(self.nodes.as_slice(), self.moment) else {
+        let Some(due) = first_due(self.topology, self.nodes.as_slice(), self.moment) else {
             return None;
         };
         if end.0 < due.moment.0 {
