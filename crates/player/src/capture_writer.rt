@@ -8,7 +8,7 @@ ghost use Rattle.player.specs.Capture.{capture_head, entry_record, record_pieces
 ghost use Rattle.player.specs.Accounts.{capture_account};
 ghost use Rattle.player.specs.CaptureLaws.{capture_grows};
 
-use crate::entry_record::{RECORD_MAX, capture_head, put_record};
+use crate::entry_record::{RecordRoom, capture_head};
 use crate::listener::Listener;
 use crate::sink_lines::write_line;
 use history::Record;
@@ -30,13 +30,17 @@ fn write_capture_head<K: Sink>(out: &mut K) -> Result<(), Failed>
 }
 
 /// Writes the record of an entry that was made at this moment.
-fn write_entry<K: Sink>(moment: Millis, entry: WireEntry<'_>, out: &mut K) -> Result<(), Failed>
+fn write_entry<K: Sink>(
+    moment: Millis,
+    entry: WireEntry<'_>,
+    room: &mut RecordRoom,
+    out: &mut K,
+) -> Result<(), Failed>
     requires { length (bytes_of (item_lent entry)) ≤ DATAGRAM_MAX }
     ensures { Writing (K.state out.old) (K.state out.new) (record_pieces (entry_record moment.0 (item_lent entry.entry) ∷ [])) result }
 {
-    let mut record = [0; RECORD_MAX];
-    let len = put_record(moment, entry, &mut record);
-    write_line(out, &record[..len])
+    let record = room.put_record(moment, entry);
+    write_line(out, record)
 }
 
 /// Writes the records of all entries from this number on, which were made at this moment.
@@ -44,6 +48,7 @@ fn write_entries<K: Sink>(
     moment: Millis,
     world: &World,
     first: u32,
+    room: &mut RecordRoom,
     out: &mut K,
 ) -> Result<(), Failed>
     requires { first ≤ length world.now.wire }
@@ -55,7 +60,7 @@ fn write_entries<K: Sink>(
         let Some(entry) = world.entry(number) else {
             unreachable!();
         };
-        write_entry(moment, entry, out)?;
+        write_entry(moment, entry, room, out)?;
         number += 1;
     }
     Ok(())
@@ -66,6 +71,7 @@ fn write_entries<K: Sink>(
 pub struct CaptureWriter {
     // how many entries were written
     entries: u32,
+    room: RecordRoom,
 }
 
 impl CaptureWriter {
@@ -73,7 +79,10 @@ impl CaptureWriter {
     pub fn new() -> CaptureWriter
         ensures { result.entries ≡ 0 }
     {
-        CaptureWriter { entries: 0 }
+        CaptureWriter {
+            entries: 0,
+            room: RecordRoom::new(),
+        }
     }
 }
 
@@ -91,7 +100,7 @@ impl Listener for CaptureWriter {
     }
 
     fn hear<K: Sink>(&mut self, world: &World, said: &Record, out: &mut K) -> Result<(), Failed> {
-        write_entries(said.moment, world, self.entries, out)?;
+        write_entries(said.moment, world, self.entries, &mut self.room, out)?;
         self.entries = world.entries();
         Ok(())
     }

@@ -25,7 +25,7 @@ const SECONDS_END: u64 = 4_294_967_296;
 const IPV4_PACKET_MAX: usize = HEAD_MIN + UDP_HEAD + DATAGRAM_MAX;
 
 /// The most bytes of an entry's record.
-pub(crate) const RECORD_MAX: usize = REC_HEAD + IPV4_PACKET_MAX;
+const RECORD_MAX: usize = REC_HEAD + IPV4_PACKET_MAX;
 
 /// The head of each capture that is written here.
 pub(crate) fn capture_head() -> Head
@@ -88,23 +88,38 @@ fn put_packet(entry: WireEntry<'_>, out: &mut [u8; IPV4_PACKET_MAX]) -> usize
     }
 }
 
-/// Puts the record of an entry that was made at this moment to the front of `out`, and answers how many bytes it has.
-pub(crate) fn put_record(moment: Millis, entry: WireEntry<'_>, out: &mut [u8; RECORD_MAX]) -> usize
-    requires { length (bytes_of (item_lent entry)) ≤ DATAGRAM_MAX }
-    ensures most { result ≤ RECORD_MAX }
-    ensures bytes { take result out.new ≡ record_bytes false (entry_record moment.0 (item_lent entry.entry)) }
-{
-    capture_is_bytes();
-    let mut packet = [0; IPV4_PACKET_MAX];
-    let len = put_packet(entry, &mut packet);
-    let record = Rec {
-        sec: seconds(moment),
-        frac: micros(moment),
-        orig: len as u32,
-        bytes: &packet[..len],
-    };
-    match write_rec(&capture_head(), &record, out) {
-        Ok(end) => end,
-        Err(_) => unreachable!(),
+/// Where the record of an entry is made: its packet, and then the whole. It is used again for each, since it would take
+/// longer to clear it anew than to write a small record.
+#[derive(Drop)]
+pub(crate) struct RecordRoom {
+    packet: [u8; IPV4_PACKET_MAX],
+    record: [u8; RECORD_MAX],
+}
+
+impl RecordRoom {
+    pub(crate) fn new() -> RecordRoom {
+        RecordRoom {
+            packet: [0; IPV4_PACKET_MAX],
+            record: [0; RECORD_MAX],
+        }
+    }
+
+    /// Puts the record of an entry that was made at this moment in place of what it held, and lends it.
+    pub(crate) fn put_record(&mut self, moment: Millis, entry: WireEntry<'_>) -> &[u8]
+        requires { length (bytes_of (item_lent entry)) ≤ DATAGRAM_MAX }
+        ensures { result.now ≡ record_bytes false (entry_record moment.0 (item_lent entry.entry)) }
+    {
+        capture_is_bytes();
+        let len = put_packet(entry, &mut self.packet);
+        let record = Rec {
+            sec: seconds(moment),
+            frac: micros(moment),
+            orig: len as u32,
+            bytes: &self.packet[..len],
+        };
+        match write_rec(&capture_head(), &record, &mut self.record) {
+            Ok(end) => &self.record[..end],
+            Err(_) => unreachable!(),
+        }
     }
 }

@@ -9,7 +9,8 @@
 //! - All that is proved of every history, which `promises` says, is so of each history that these endings speak of.
 //! - Each line begins a piece of its own (`specs/SinkLines.antt`).
 //! - `ReportWriter` writes the report, `TotalsWriter` the totals alone, `CaptureWriter` the capture of the wire: a head,
-//!   and a record for each entry as soon as it was made. It keeps nothing of it but how many entries there were.
+//!   and a record for each entry as soon as it was made. It keeps nothing of it but how many entries there were, and room
+//!   for one record.
 //!
 //! # What it does not know
 //!
