@@ -34,7 +34,7 @@ use Rattle.legal.specs.Legal.{Grown}
 use Rattle.legal.specs.Actors.{IsGiven, delivered, hosted, ticks, IsActOf, Acted, idles, does, EachActs}
 use Rattle.legal.specs.Routes.{Reaches, EachRoute}
 use Rattle.legal.proofs.MadeWire.{entry_input}
-use Rattle.origins.specs.Handed.{HandsOver, IsBrought, EachIsBrought, EachLateIsForeign}
+use Rattle.origins.specs.Handed.{HandsOver, IsBrought, EachIsBrought, EachLateHandedIsForeign}
 
 -- A CLIENT'S ENTRY
 
@@ -45,10 +45,12 @@ record IsOf (from : Ep) (y x : List ℕ) : Type 0 where
   no_bubble : is_bubble (fields_in x) ≡ false
   embeds : is_teredo (fields_in x).src ≡ true → from ≡ embedded (fields_in x).src
 
-of_datagram : (s : Settings) (own : Option Ip6) (from : Ep) (y x : List ℕ) (o : Option Span) → IsHanded s own from y o → option_and_then (part_of (arrived from y)) o ≡ Some x → IsOf from y x
+of_datagram : (s : Settings) (own : Option Ip6) (from : Ep) (y x : List ℕ) (o : Option Span) → IsHanded s own from y o
+    → option_and_then (part_of (arrived from y)) o ≡ Some x → IsOf from y x
 of_datagram s own from y x o h e =
     let at = (value_in y).lead.at in
-    let same : drop at y ≡ x = sym (take_rest y at) ∙ ap (λ (z : Option (List ℕ)). unwrap_or z x) (ap (option_and_then (part_of (arrived from y))) (sym h.packet) ∙ e) in
+    let same : drop at y ≡ x = sym (take_rest y at) ∙ ap (λ (z : Option (List ℕ)). unwrap_or z x)
+    (ap (option_and_then (part_of (arrived from y))) (sym h.packet) ∙ e) in
     let fields : (value_in y).packet ≡ fields_in x = sym (same_fields y h.payload) ∙ ap fields_in same in
     record {
       whole = sym same;
@@ -65,7 +67,8 @@ has_some (Some a) x f e = refl
 data CameAs (s : Settings) (own : Option Ip6) (input : Input) (o : Option Span) (x : List ℕ) : Type 0 where
   as_datagram : (from : Ep) (y : List ℕ) → input ≡ arrived from y → IsOf from y x → CameAs s own input o x
 
-came_as : (s : Settings) (own : Option Ip6) (input : Input) (o : Option Span) (x : List ℕ) → ClientHands s own input o → option_and_then (part_of input) o ≡ Some x → CameAs s own input o x
+came_as : (s : Settings) (own : Option Ip6) (input : Input) (o : Option Span) (x : List ℕ) → ClientHands s own input o
+    → option_and_then (part_of input) o ≡ Some x → CameAs s own input o x
 came_as s own (arrived from y) o x h e = as_datagram from y refl (of_datagram s own from y x o h e)
 came_as s own (given y) o x h e = absurd h
 came_as s own (from_six y) o x h e = absurd h
@@ -98,70 +101,75 @@ abbrev bytes_of : Input → List ℕ
 bytes_of (arrived from x) = x
 bytes_of _ = []
 
--- an item that came as a datagram is one
-of_item : (lab : Lab) (H : List Full) (r : Full) (n : ℕ) (c : ClientNode) (x : List ℕ) (from : Ep) (y : List ℕ) (number : ℕ) (item : Item) → arrived from y ≡ input_of item → IsOf from y x → r.delivered ≡ Some number
-    → slice_get (wire H) number ≡ Some item → Reaches lab H (now H) item n (client c) → IsBrought lab H r c x
-of_item lab H r n c x from y number (udp src dst bytes) same of by at goes =
-    let sources : src ≡ from = sym (ap (from_of from) same) in
-    let all : bytes ≡ y = sym (ap bytes_of same) in
-    record {
-      number = number;
-      src = src;
-      dst = dst;
-      bytes = bytes;
-      delivered = by;
-      datagram = at;
-      let_in = goes;
-      whole = of.whole ∙ ap (λ (z : List ℕ). drop (value_in z).lead.at z) (sym all);
-      packet = ap (λ (z : List ℕ). (value_in z).packet) all ∙ of.packet;
-      no_bubble = of.no_bubble;
-      embeds = λ teredo. sources ∙ of.embeds teredo;
-    }
-of_item lab H r n c x from y number (six to bytes) same of by at goes = absurd (false≢true (sym (ap is_arrived same)))
+module _ (laws : BroughtLaws) (lab : Lab) (H : List Full) (r : Full) (n : ℕ) (c : ClientNode) (x : List ℕ) where
+  -- an item that came as a datagram is one
+  of_item : (from : Ep) (y : List ℕ) → IsOf from y x → (number : ℕ) (item : Item) → arrived from y ≡ input_of item
+      → (r.delivered ≡ Some number) × (slice_get (wire H) number ≡ Some item) → Reaches lab H (now H) item n (client c) → IsBrought lab H r c x
+  of_item from y of number (udp src dst bytes) same at goes =
+      let sources : src ≡ from = sym (ap (from_of from) same) in
+      let all : bytes ≡ y = sym (ap bytes_of same) in
+      record {
+        number = number;
+        src = src;
+        dst = dst;
+        bytes = bytes;
+        delivered = at.0;
+        datagram = at.1;
+        let_in = goes;
+        whole = of.whole ∙ ap (λ (z : List ℕ). drop (value_in z).lead.at z) (sym all);
+        packet = ap (λ (z : List ℕ). (value_in z).packet) all ∙ of.packet;
+        no_bubble = of.no_bubble;
+        embeds = λ teredo. sources ∙ of.embeds teredo;
+      }
+  of_item from y of number (six to bytes) same at goes = absurd (false≢true (sym (ap is_arrived same)))
 
-of_given : BroughtLaws → (lab : Lab) (H : List Full) (r : Full) (n : ℕ) (c : ClientNode) (x : List ℕ) (dst : Ep) (input : Input) (from : Ep) (y : List ℕ) → IsGiven lab H r n (client c) dst input → input ≡ arrived from y → IsOf from y x
-    → IsBrought lab H r c x
-of_given laws lab H r n c x dst input from y (delivered number item by at goes moment to same) is of = of_item lab H r n c x from y number item (sym is ∙ same) of by at (laws.routes lab H (now H) item n (client c) goes)
-of_given laws lab H r n c x dst input from y (hosted v z hands none moment to same) is of = absurd (false≢true (sym (ap is_arrived (sym is ∙ same))))
-of_given laws lab H r n c x dst input from y (ticks d due at none moment to same) is of = absurd (false≢true (sym (ap is_arrived (sym is ∙ same))))
+  of_given : (from : Ep) (y : List ℕ) → IsOf from y x → (dst : Ep) (input : Input) → IsGiven lab H r n (client c) dst input → input ≡ arrived from y
+      → IsBrought lab H r c x
+  of_given from y of dst input (delivered number item by at goes moment to same) is =
+      of_item from y of number item (sym is ∙ same) (by, at) (laws.routes lab H (now H) item n (client c) goes)
+  of_given from y of dst input (hosted v z hands none moment to same) is = absurd (false≢true (sym (ap is_arrived (sym is ∙ same))))
+  of_given from y of dst input (ticks d due at none moment to same) is = absurd (false≢true (sym (ap is_arrived (sym is ∙ same))))
 
-of_act : BroughtLaws → (lab : Lab) (H : List Full) (r : Full) (n : ℕ) (c : ClientNode) (e : Entry) (x : List ℕ) → Grown lab (r ∷ H) → IsActOf lab H r n (client c) e → r.handed ≡ Some x → IsBrought lab H r c x
-of_act laws lab H r n c e x g act hands =
-    let s : Settings = client_settings lab.topology c in
-    let is_j : IsJournal s (with_entry (journal n H) e) = subst (IsJournal s) act.later (laws.clients lab (r ∷ H) n c g act.there).journal in
-    let out : option_and_then (part_of e.input) e.step.handed ≡ Some x = sym act.handed ∙ hands in
-    let one = laws.handed s (journal n H) e is_j (has_some e.step.handed x (part_of e.input) out) in
-    let same : e.input ≡ act.input = ap (λ (z : Entry). z.input) act.step ∙ entry_input lab H r.moment n act.dst act.input (client c) in
-    by s same (came_as s (qualification s (journal n H)).address e.input e.step.handed x one.0 out)
-  where
-    by : (s : Settings) → e.input ≡ act.input → CameAs s (qualification s (journal n H)).address e.input e.step.handed x → IsBrought lab H r c x
-    by s same (as_datagram from y is of) = of_given laws lab H r n c x act.dst act.input from y act.is_given (sym same ∙ is) of
+  of_act : (e : Entry) → Grown lab (r ∷ H) → IsActOf lab H r n (client c) e → r.handed ≡ Some x → IsBrought lab H r c x
+  of_act e g act hands =
+      let s : Settings = client_settings lab.topology c in
+      let is_j : IsJournal s (with_entry (journal n H) e) = subst (IsJournal s) act.later (laws.clients lab (r ∷ H) n c g act.there).journal in
+      let out : option_and_then (part_of e.input) e.step.handed ≡ Some x = sym act.handed ∙ hands in
+      let one = laws.handed s (journal n H) e is_j (has_some e.step.handed x (part_of e.input) out) in
+      let same : e.input ≡ act.input = ap (λ (z : Entry). z.input) act.step ∙ entry_input lab H r.moment n act.dst act.input (client c) in
+      by s same (came_as s (qualification s (journal n H)).address e.input e.step.handed x one.0 out)
+    where
+      by : (s : Settings) → e.input ≡ act.input → CameAs s (qualification s (journal n H)).address e.input e.step.handed x → IsBrought lab H r c x
+      by s same (as_datagram from y is of) = of_given from y of act.dst act.input act.is_given (sym same ∙ is)
 
-of_acted : BroughtLaws → (lab : Lab) (H : List Full) (r : Full) (n : ℕ) (c : ClientNode) (x : List ℕ) → Grown lab (r ∷ H) → Acted lab H r → HandsOver lab r n c x → IsBrought lab H r c x
-of_acted laws lab H r n c x g (idles entry address none late lets) o = absurd (false≢true (ap (λ (z : Option (List ℕ)). is_some z) (sym none ∙ o.packet)))
-of_acted laws lab H r n c x g (does k a e act) o =
-    let same : k ≡ n = ap (λ (p : Option ℕ). unwrap_or p k) (sym act.node ∙ o.node) in
-    let one : a ≡ client c = is_client a c (ap (option_and_then as_client) (sym act.there ∙ ap (node_at lab.topology) same) ∙ o.client) in
-    of_act laws lab H r n c e x g (subst (λ (b : Node). IsActOf lab H r n b e) one (subst (λ (j : ℕ). IsActOf lab H r j a e) same act)) o.packet
+  of_acted : Grown lab (r ∷ H) → Acted lab H r → HandsOver lab r n c x → IsBrought lab H r c x
+  of_acted g (idles entry address none late lets) o = absurd (false≢true (ap (λ (z : Option (List ℕ)). is_some z) (sym none ∙ o.packet)))
+  of_acted g (does k a e act) o =
+      let same : k ≡ n = ap (λ (p : Option ℕ). unwrap_or p k) (sym act.node ∙ o.node) in
+      let one : a ≡ client c = is_client a c (ap (option_and_then as_client) (sym act.there ∙ ap (node_at lab.topology) same) ∙ o.client) in
+      of_act e g (subst (λ (b : Node). IsActOf lab H r n b e) one (subst (λ (j : ℕ). IsActOf lab H r j a e) same act)) o.packet
 
 pub each_is_brought : BroughtLaws → EachIsBrought
 each_is_brought laws lab H r n c x g o = of_acted laws lab H r n c x g (laws.acts lab H r g.0) o
 
 -- WHAT IS HANDED OVER LATE
 
-late_of : client_late.EachLateIsForeign → EachClientIsJournal → (lab : Lab) (H : List Full) (r : Full) (n : ℕ) (c : ClientNode) (e : Entry) → Grown lab (r ∷ H) → IsActOf lab H r n (client c) e → AllByRecursion (λ x. is_teredo (fields_in x).src ≡ false) r.late
+late_of : client_late.EachLateIsForeign → EachClientIsJournal → (lab : Lab) (H : List Full) (r : Full) (n : ℕ) (c : ClientNode) (e : Entry)
+    → Grown lab (r ∷ H) → IsActOf lab H r n (client c) e → AllByRecursion (λ x. is_teredo (fields_in x).src ≡ false) r.late
 late_of law clients lab H r n c e g act =
     let s : Settings = client_settings lab.topology c in
     let is_j : IsJournal s (with_entry (journal n H) e) = subst (IsJournal s) act.later (clients lab (r ∷ H) n c g act.there).journal in
     subst (AllByRecursion (λ x. is_teredo (fields_in x).src ≡ false)) (sym act.late) (law s (journal n H) e is_j)
 
-late_acted : client_late.EachLateIsForeign → EachClientIsJournal → (lab : Lab) (H : List Full) (r : Full) (n : ℕ) (c : ClientNode) → Grown lab (r ∷ H) → Acted lab H r → r.node ≡ Some n → client_at lab.topology n ≡ Some c
+late_acted : client_late.EachLateIsForeign → EachClientIsJournal → (lab : Lab) (H : List Full) (r : Full) (n : ℕ) (c : ClientNode) → Grown lab (r ∷ H)
+    → Acted lab H r → r.node ≡ Some n → client_at lab.topology n ≡ Some c
     → AllByRecursion (λ x. is_teredo (fields_in x).src ≡ false) r.late
-late_acted law clients lab H r n c g (idles entry address hands none lets) node there = subst (AllByRecursion (λ x. is_teredo (fields_in x).src ≡ false)) (sym none) tt
+late_acted law clients lab H r n c g (idles entry address hands none lets) node there = subst (AllByRecursion (λ x. is_teredo (fields_in x).src ≡ false))
+    (sym none) tt
 late_acted law clients lab H r n c g (does k a e act) node there =
     let same : k ≡ n = ap (λ (p : Option ℕ). unwrap_or p k) (sym act.node ∙ node) in
     let one : a ≡ client c = is_client a c (ap (option_and_then as_client) (sym act.there ∙ ap (node_at lab.topology) same) ∙ there) in
     late_of law clients lab H r n c e g (subst (λ (b : Node). IsActOf lab H r n b e) one (subst (λ (j : ℕ). IsActOf lab H r j a e) same act))
 
-pub each_late_is_foreign : client_late.EachLateIsForeign → EachClientIsJournal → EachActs → EachLateIsForeign
+pub each_late_is_foreign : client_late.EachLateIsForeign → EachClientIsJournal → EachActs → EachLateHandedIsForeign
 each_late_is_foreign law clients acts lab H r n c g node there = late_acted law clients lab H r n c g (acts lab H r g.0) node there

@@ -42,7 +42,8 @@ kept_false true h = absurd (false≢true h)
 kept_false false h = refl
 
 -- a forged source isn't a node's
-pub untaken : (t : TopologyState) (H : List Full) (src dst : Ep) (bytes : List ℕ) (e : Event) → Forges H src dst bytes e → is_honest_event t e ≡ true → is_taken t src.ip ≡ false
+pub untaken : (t : TopologyState) (H : List Full) (src dst : Ep) (bytes : List ℕ) (e : Event) → Forges H src dst bytes e → is_honest_event t e ≡ true
+    → is_taken t src.ip ≡ false
 untaken t H src dst bytes _ strange h = kept_false (is_taken t src.ip) h
 untaken t H src dst bytes _ (copied number x at is) h = kept_false (is_taken t src.ip) h
 
@@ -77,7 +78,8 @@ pub one_has : (ip : Ip4) → (same_ip ip ip || false) ≡ true
 one_has ip = ap (λ (b : Bool). b || false) (same_ip-self ip)
 
 -- the node that sends from an address is the one that has it
-pub same_node : AddressesAreApart → (t : TopologyState) (n k : ℕ) (a b : Node) (ip : Ip4) → IsTopology t → node_at t n ≡ Some a → node_at t k ≡ Some b → has_address ip a ≡ true → has_address ip b ≡ true
+pub same_node : AddressesAreApart → (t : TopologyState) (n k : ℕ) (a b : Node) (ip : Ip4) → IsTopology t → node_at t n ≡ Some a → node_at t k ≡ Some b
+    → has_address ip a ≡ true → has_address ip b ≡ true
     → (n ≡ k) × (a ≡ b)
 same_node apart t n k a b ip is at to h g =
     let same : n ≡ k = apart t n k a b ip is at to h g in
@@ -102,15 +104,19 @@ leaves_last t h m dst k [] from passed e is = by (nat_answer (nat_set_up t k) (a
   by : (r : Result ℕ NatRefusal) → (answered t m k from dst passed (crossing t h m dst []) r).leaves ≡ Ok e → e.ip ≡ (nat_set_up t k).external
   by (Ok port) g = sym (ap (ip_or e.ip) g)
   by (Err why) g = absurd (false≢true (ap is_ep g))
-leaves_last t h m dst k (j ∷ way) from passed e is = by (nat_answer (nat_set_up t k) (after_passing passed h k) m from dst) is (λ (f : Ep) (ps : List Passing). leaves_last t h m dst j way f ps e) where
-  by : (r : Result ℕ NatRefusal) → (answered t m k from dst passed (crossing t h m dst (j ∷ way)) r).leaves ≡ Ok e
-      → ((f : Ep) (ps : List Passing) → (crossing t h m dst (j ∷ way) f ps).leaves ≡ Ok e → e.ip ≡ (nat_set_up t (last_nat j way)).external) → e.ip ≡ (nat_set_up t (last_nat j way)).external
-  by (Ok port) g ih = ih (record { ip = (nat_set_up t k).external; port = port }) (passing k m from dst port ∷ passed) g
-  by (Err why) g ih = absurd (false≢true (ap is_ep g))
+leaves_last t h m dst k (j ∷ way) from passed e is = by (nat_answer (nat_set_up t k) (after_passing passed h k) m from dst) is
+    (λ (f : Ep) (ps : List Passing). leaves_last t h m dst j way f ps e) where
+      by : (r : Result ℕ NatRefusal) → (answered t m k from dst passed (crossing t h m dst (j ∷ way)) r).leaves ≡ Ok e
+          → ((f : Ep) (ps : List Passing) → (crossing t h m dst (j ∷ way) f ps).leaves ≡ Ok e → e.ip ≡ (nat_set_up t (last_nat j way)).external)
+          → e.ip ≡ (nat_set_up t (last_nat j way)).external
+      by (Ok port) g ih = ih (record { ip = (nat_set_up t k).external; port = port }) (passing k m from dst port ∷ passed) g
+      by (Err why) g ih = absurd (false≢true (ap is_ep g))
 
 -- a client's datagram leaves at the address of its outermost NAT
-pub leaves_at : (lab : Lab) (H : List Full) (m : ℕ) (c : ClientNode) (dst src : Ep) → Leaves lab H m c dst src → src.ip ≡ (nat_set_up lab.topology (outermost lab c)).external
-leaves_at lab H m c dst src l = leaves_last lab.topology (nat_pasts lab H) m dst c.nat (nats_from lab.chain lab.chain (outer_in lab.chain c.nat)) c.inside l.before src l.leaves
+pub leaves_at : (lab : Lab) (H : List Full) (m : ℕ) (c : ClientNode) (dst src : Ep) → Leaves lab H m c dst src
+    → src.ip ≡ (nat_set_up lab.topology (outermost lab c)).external
+leaves_at lab H m c dst src l = leaves_last lab.topology (nat_pasts lab H) m dst c.nat
+    (nats_from lab.chain lab.chain (outer_in lab.chain c.nat)) c.inside l.before src l.leaves
 
 -- that NAT, if there is one
 pub data WhoseAddress (t : TopologyState) (k : ℕ) (ip : Ip4) : Type 0 where
@@ -128,12 +134,14 @@ whose t k ip same = by (node_at t k) refl same where
   by (Some (native a)) e s = of_nobody s
 
 -- the node that has the address of a client's datagram is that NAT
-pub nat_has : SourceLaws → (lab : Lab) (H : List Full) (m : ℕ) (c : ClientNode) (dst src : Ep) (n : ℕ) (b : Node) → IsTopology lab.topology → Leaves lab H m c dst src → node_at lab.topology n ≡ Some b → has_address src.ip b ≡ true
+pub nat_has : SourceLaws → (lab : Lab) (H : List Full) (m : ℕ) (c : ClientNode) (dst src : Ep) (n : ℕ) (b : Node) → IsTopology lab.topology
+    → Leaves lab H m c dst src → node_at lab.topology n ≡ Some b → has_address src.ip b ≡ true
     → (row : NatNode) × (outermost lab c ≡ n) × (nat row ≡ b)
 nat_has laws lab H m c dst src n b is l at has = by (whose lab.topology (outermost lab c) src.ip (leaves_at lab H m c dst src l)) where
   by : WhoseAddress lab.topology (outermost lab c) src.ip → (row : NatNode) × (outermost lab c ≡ n) × (nat row ≡ b)
   by (of_nat row there same) =
-      let one = same_node laws.apart lab.topology (outermost lab c) n (nat row) b src.ip is there at (subst (λ (ip : Ip4). has_address ip (nat row) ≡ true) (sym same) (one_has row.external)) has in
+      let one = same_node laws.apart lab.topology (outermost lab c) n (nat row) b src.ip is there at
+      (subst (λ (ip : Ip4). has_address ip (nat row) ≡ true) (sym same) (one_has row.external)) has in
       (row, one.0, one.1)
   by (of_nobody none) = absurd (nobody_has laws lab.topology n b src.ip is at has none)
 
@@ -142,7 +150,8 @@ nat_has laws lab H m c dst src n b is l at has = by (whose lab.topology (outermo
 as_client_at : (t : TopologyState) (n : ℕ) (c : ClientNode) → node_at t n ≡ Some (client c) → client_at t n ≡ Some c
 as_client_at t n c at = ap (option_and_then as_client) at
 
-own_source : SourceLaws → (lab : Lab) (H : List Full) (r : Full) (x : Item) → IsTopology lab.topology → is_honest_event lab.topology r.asked ≡ true → MadeBy lab H r x → HasOwnSource lab r x
+own_source : SourceLaws → (lab : Lab) (H : List Full) (r : Full) (x : Item) → IsTopology lab.topology → is_honest_event lab.topology r.asked ≡ true
+    → MadeBy lab H r x → HasOwnSource lab r x
 own_source laws lab H r x is honest (from_nowhere src dst bytes forged e) = subst (HasOwnSource lab r) (sym e) (λ n a at has.
     absurd (false≢true (sym (untaken lab.topology H src dst bytes r.asked forged honest) ∙ laws.taken lab.topology n a src.ip at has)))
 own_source laws lab H r x is honest (by_server k a e s act c same) = subst (HasOwnSource lab r) (sym same) (λ n b at has.
@@ -153,7 +162,8 @@ own_source laws lab H r x is honest (by_relay k a e s act c same) = subst (HasOw
     sender lab r k n (relay a) b one.0 one.1 act.node)
 own_source laws lab H r x is honest (by_client k c e s src act held leaves same) = subst (HasOwnSource lab r) (sym same) (λ n b at has.
     let one = nat_has laws lab H r.moment c s.to src n b is leaves at has in
-    sender lab r (outermost lab c) n (nat one.0) b one.1 one.2 (record { number = k; row = c; node = act.node; client = as_client_at lab.topology k c act.there; nat = refl }))
+    sender lab r (outermost lab c) n (nat one.0) b one.1 one.2
+    (record { number = k; row = c; node = act.node; client = as_client_at lab.topology k c act.there; nat = refl }))
 own_source laws lab H r x is honest (by_native k h e bytes act p same) = subst (HasOwnSource lab r) (sym same) tt
 own_source laws lab H r x is honest (to_six k a e from bytes span act i p same) = subst (HasOwnSource lab r) (sym same) tt
 
@@ -162,4 +172,5 @@ all_weaker P Q [] f a = tt
 all_weaker P Q (x ∷ xs) f a = (f x a.0, all_weaker P Q xs f a.1)
 
 pub each_own_source : SourceLaws → EachHasOwnSource
-each_own_source laws lab H r is grown honest = all_weaker (MadeBy lab H r) (HasOwnSource lab r) (items_of r) (λ x m. own_source laws lab H r x is honest m) (laws.made lab H r grown)
+each_own_source laws lab H r is grown honest = all_weaker (MadeBy lab H r) (HasOwnSource lab r) (items_of r) (λ x m. own_source laws lab H r x is honest m)
+    (laws.made lab H r grown)

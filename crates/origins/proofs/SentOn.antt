@@ -36,7 +36,7 @@ use Rattle.legal.specs.MadeWire.{EachHistoryIsMade}
 use Rattle.legal.proofs.MadeWire.{entry_input}
 use Rattle.legal.proofs.ItemsMade.{all_joined}
 use Rattle.origins.specs.Honest.{is_honest_event, are_honest}
-use Rattle.origins.specs.Senders.{TellsWhereTo, EachTellsWhereTo, forged, sent_by, ComesFromClient, EachComesFromClient}
+use Rattle.origins.specs.Senders.{EntryTellsWhereTo, EachEntryTellsWhereTo, forged, sent_by, ComesFromClient, EachComesFromClient}
 use Rattle.origins.proofs.SentFrom.{SourceLaws, untaken, same_node, one_has, nat_has, all_weaker}
 
 -- what a node was given, and all before, is made
@@ -44,7 +44,8 @@ pub record IsMadeAct (H : List Full) (n : ℕ) (e : Entry) : Type 0 where
   pub input : IsMadeInput e.input
   pub before : AreMadeInputs (journal n H).entries
 
-pub act_made : EachHistoryIsMade → (lab : Lab) (H : List Full) (r : Full) (n : ℕ) (a : Node) (e : Entry) → IsTopology lab.topology → Grown lab (r ∷ H) → IsActOf lab H r n a e → IsMadeAct H n e
+pub act_made : EachHistoryIsMade → (lab : Lab) (H : List Full) (r : Full) (n : ℕ) (a : Node) (e : Entry) → IsTopology lab.topology → Grown lab (r ∷ H)
+    → IsActOf lab H r n a e → IsMadeAct H n e
 act_made law lab H r n a e is g act =
     let all : AreMadeInputs (journal n (r ∷ H)).entries = (law lab (r ∷ H) is g).journals n in
     let both = subst (λ (j : Journal). AreMadeInputs j.entries) act.later all in
@@ -62,12 +63,14 @@ one_of P xs s a c = All-contains P xs s (All-from_recursion P xs a) c
 of_server : (P : Ep → Send → Type 0) (lab : Lab) (H : List Full) (m n : ℕ) (dst : Ep) (input : Input) (a : ServerNode) (s : Send) → IsMadeInput input
     → ((side : Side) (from : Ep) (x : List ℕ) → IsMadeInput (arrived from x) → AllByRecursion (P from) (row.server_row (server_settings a) side from x).sends)
     → Contains (entry_of lab H m n dst input (server a)).step.sends s → (from : Ep) × P from s
-of_server P lab H m n dst (arrived from x) a s made each c = (from, one_of (P from) (row.server_row (server_settings a) (side_at (server a) dst) from x).sends s (each (side_at (server a) dst) from x made) c)
+of_server P lab H m n dst (arrived from x) a s made each c =
+    (from, one_of (P from) (row.server_row (server_settings a) (side_at (server a) dst) from x).sends s (each (side_at (server a) dst) from x made) c)
 of_server P lab H m n dst (given x) a s made each c = absurd (nothing_in s c)
 of_server P lab H m n dst (from_six x) a s made each c = absurd (nothing_in s c)
 of_server P lab H m n dst ticked a s made each c = absurd (nothing_in s c)
 
-by_act : (P : Ep → Send → Type 0) → EachHistoryIsMade → (lab : Lab) (H : List Full) (r : Full) (n : ℕ) (a : ServerNode) (e : Entry) (s : Send) → IsTopology lab.topology → Grown lab (r ∷ H) → IsActOf lab H r n (server a) e
+by_act : (P : Ep → Send → Type 0) → EachHistoryIsMade → (lab : Lab) (H : List Full) (r : Full) (n : ℕ) (a : ServerNode) (e : Entry) (s : Send)
+    → IsTopology lab.topology → Grown lab (r ∷ H) → IsActOf lab H r n (server a) e
     → ((side : Side) (from : Ep) (x : List ℕ) → IsMadeInput (arrived from x) → AllByRecursion (P from) (row.server_row (server_settings a) side from x).sends)
     → Contains e.step.sends s → (from : Ep) × P from s
 by_act P law lab H r n a e s is g act each c =
@@ -87,26 +90,28 @@ abbrev is_server : Node → Bool
 is_server (server a) = true
 is_server _ = false
 
-tells : TellLaws → (lab : Lab) (H : List Full) (r : Full) (x : Item) → IsTopology lab.topology → Grown lab (r ∷ H) → is_honest_event lab.topology r.asked ≡ true → MadeBy lab H r x → TellsWhereTo lab x
-tells laws lab H r x is g honest (from_nowhere src dst bytes forges same) = subst (TellsWhereTo lab) (sym same) (λ n a at has auth.
+tells : TellLaws → (lab : Lab) (H : List Full) (r : Full) (x : Item) → IsTopology lab.topology → Grown lab (r ∷ H)
+    → is_honest_event lab.topology r.asked ≡ true → MadeBy lab H r x → EntryTellsWhereTo lab x
+tells laws lab H r x is g honest (from_nowhere src dst bytes forges same) = subst (EntryTellsWhereTo lab) (sym same) (λ n a at has auth.
     absurd (false≢true (sym (untaken lab.topology H src dst bytes r.asked forges honest) ∙ laws.sources.taken lab.topology n (server a) src.ip at has)))
-tells laws lab H r x is g honest (by_server k b e s act c same) = subst (TellsWhereTo lab) (sym same) (λ n a at has auth.
+tells laws lab H r x is g honest (by_server k b e s act c same) = subst (EntryTellsWhereTo lab) (sym same) (λ n a at has auth.
     let keeps : IsServerNode b = laws.rules lab.topology k (server b) is act.there in
-    let one = by_act (λ from z. server_laws.TellsWhereTo z) laws.made lab H r k b e s is g act (λ side from y h. laws.tells (server_settings b) side from y keeps.primary.made h.0 h.1) c in
+    let one = by_act (λ from z. server_laws.TellsWhereTo z) laws.made lab H r k b e s is g act
+    (λ side from y h. laws.tells (server_settings b) side from y keeps.primary.made h.0 h.1) c in
     one.1.origin auth)
-tells laws lab H r x is g honest (by_relay k b e s act c same) = subst (TellsWhereTo lab) (sym same) (λ n a at has auth.
+tells laws lab H r x is g honest (by_relay k b e s act c same) = subst (EntryTellsWhereTo lab) (sym same) (λ n a at has auth.
     absurd (false≢true (ap is_server ((same_node laws.sources.apart lab.topology k n (relay b) (server a) b.at.ip is act.there at (one_has b.at.ip) has).1))))
-tells laws lab H r x is g honest (by_client k b e s src act held leaves same) = subst (TellsWhereTo lab) (sym same) (λ n a at has auth.
+tells laws lab H r x is g honest (by_client k b e s src act held leaves same) = subst (EntryTellsWhereTo lab) (sym same) (λ n a at has auth.
     absurd (false≢true (ap is_server ((nat_has laws.sources lab H r.moment b s.to src n (server a) is leaves at has).2))))
-tells laws lab H r x is g honest (by_native k h e bytes act p same) = subst (TellsWhereTo lab) (sym same) tt
-tells laws lab H r x is g honest (to_six k a e from bytes span act i p same) = subst (TellsWhereTo lab) (sym same) tt
+tells laws lab H r x is g honest (by_native k h e bytes act p same) = subst (EntryTellsWhereTo lab) (sym same) tt
+tells laws lab H r x is g honest (to_six k a e from bytes span act i p same) = subst (EntryTellsWhereTo lab) (sym same) tt
 
-pub each_tells : TellLaws → EachTellsWhereTo
+pub each_tells : TellLaws → EachEntryTellsWhereTo
 each_tells laws lab [] is g honest = tt
 each_tells laws lab (r ∷ H) is g honest =
     let both = and_parts (is_honest_event lab.topology r.asked) (are_honest lab.topology H) honest in
-    all_joined (TellsWhereTo lab) (wire H) (items_of r) (each_tells laws lab H is g.1 both.1)
-    (all_weaker (MadeBy lab H r) (TellsWhereTo lab) (items_of r) (λ x m. tells laws lab H r x is g both.0 m) (laws.sources.made lab H r g))
+    all_joined (EntryTellsWhereTo lab) (wire H) (items_of r) (each_tells laws lab H is g.1 both.1)
+    (all_weaker (MadeBy lab H r) (EntryTellsWhereTo lab) (items_of r) (λ x m. tells laws lab H r x is g both.0 m) (laws.sources.made lab H r g))
 
 -- WHOSE PACKETS COME FROM WHERE THEY SAY
 
@@ -126,11 +131,13 @@ own_is_own a Secondary = by (same_ip a.secondary a.primary) (same_ip a.secondary
   by true c h = refl
   by false c h = h
 
-comes : ComeLaws → (lab : Lab) (H : List Full) (r : Full) (x : Item) → IsTopology lab.topology → Grown lab (r ∷ H) → MadeBy lab H r x → ComesFromClient lab H r x
+comes : ComeLaws → (lab : Lab) (H : List Full) (r : Full) (x : Item) → IsTopology lab.topology → Grown lab (r ∷ H) → MadeBy lab H r x
+    → ComesFromClient lab H r x
 comes laws lab H r x is g (from_nowhere src dst bytes forges same) = subst (ComesFromClient lab H r) (sym same) (λ teredo embeds. forged forges)
 comes laws lab H r x is g (by_server k b e s act c same) = subst (ComesFromClient lab H r) (sym same) (λ teredo embeds.
     let keeps : IsServerNode b = laws.rules lab.topology k (server b) is act.there in
-    let one = by_act (IsFromClient (server_settings b)) laws.made lab H r k b e s is g act (λ side from y h. laws.from_clients (server_settings b) side from y keeps.primary.made h.0 h.1) c in
+    let one = by_act (IsFromClient (server_settings b)) laws.made lab H r k b e s is g act
+    (λ side from y h. laws.from_clients (server_settings b) side from y keeps.primary.made h.0 h.1) c in
     let from_own : one.0 ≡ own_ep (server b) s.side = one.1.embeds teredo ∙ sym embeds in
     absurd (false≢true (sym one.1.elsewhere ∙ ap (λ (z : Ep). is_own (server_settings b) z.ip) from_own ∙ own_is_own b s.side)))
 comes laws lab H r x is g (by_relay k b e s act c same) = subst (ComesFromClient lab H r) (sym same) (λ teredo embeds.
@@ -138,10 +145,12 @@ comes laws lab H r x is g (by_relay k b e s act c same) = subst (ComesFromClient
     let made = act_made laws.made lab H r k (relay b) e is g act in
     let j = (laws.relays lab (r ∷ H) k b g act.there).journal in
     let is_j = subst (λ (z : Journal). IsRelayJournal (relay_settings lab.topology k b) z.entries) act.later j in
-    let all = laws.foreign (relay_settings lab.topology k b) (journal k H).entries e is_j (record { six = keeps.six; native = keeps.outside.other }) made.input made.before in
+    let all = laws.foreign (relay_settings lab.topology k b) (journal k H).entries e is_j
+    (record { six = keeps.six; native = keeps.outside.other }) made.input made.before in
     let one = one_of IsForeignSend e.step.sends s all c in
     absurd (false≢true (sym one.foreign ∙ teredo)))
-comes laws lab H r x is g (by_client k b e s src act held leaves same) = subst (ComesFromClient lab H r) (sym same) (λ teredo embeds. sent_by k b e s act held leaves refl refl)
+comes laws lab H r x is g (by_client k b e s src act held leaves same) = subst (ComesFromClient lab H r) (sym same)
+    (λ teredo embeds. sent_by k b e s act held leaves refl refl)
 comes laws lab H r x is g (by_native k h e bytes act p same) = subst (ComesFromClient lab H r) (sym same) tt
 comes laws lab H r x is g (to_six k a e from bytes span act i p same) = subst (ComesFromClient lab H r) (sym same) tt
 

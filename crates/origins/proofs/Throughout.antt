@@ -11,13 +11,13 @@ use Rattle.legal.specs.Past.{place}
 use Rattle.legal.specs.Legal.{Begun, Grown}
 use Rattle.legal.proofs.Asked.{brought}
 use Rattle.origins.specs.Honest.{is_honest_event, are_honest}
-use Rattle.origins.specs.Handed.{EachIsBrought, EachLateIsForeign}
+use Rattle.origins.specs.Handed.{EachIsBrought, EachLateHandedIsForeign}
 use Rattle.origins.specs.Origin.{EachHasOrigin}
 use Rattle.origins.specs.Live.{EachIsLive}
 use Rattle.origins.specs.Throughout.{HistoriesHaveOrigins, ScenariosHaveOrigins, HonestScenarios}
-use Rattle.origins.proofs.Whence.{earlier}
+use Rattle.origins.proofs.Carried.{earlier}
 
-pub histories : EachIsBrought → EachLateIsForeign → EachHasOrigin → EachIsLive → HistoriesHaveOrigins
+pub histories : EachIsBrought → EachLateHandedIsForeign → EachHasOrigin → EachIsLive → HistoriesHaveOrigins
 histories came late origin live lab H is g later r before split =
     let there : Grown lab (r ∷ before) = earlier lab later (r ∷ before) (subst (Grown lab) split g) in
     record {
@@ -27,7 +27,8 @@ histories came late origin live lab H is g later r before split =
       live = λ n c own honest node client address. live lab before r n c own is there honest node client address;
     }
 
-pub scenarios : ((lab : Lab) (events : List Event) (h : List Full) → AllByRecursion (IsEvent lab.topology) events → Begun lab events h → Grown lab h) → HistoriesHaveOrigins → ScenariosHaveOrigins
+pub scenarios : ((lab : Lab) (events : List Event) (h : List Full) → AllByRecursion (IsEvent lab.topology) events → Begun lab events h → Grown lab h)
+    → HistoriesHaveOrigins → ScenariosHaveOrigins
 scenarios grown law s chain H is events begun = law (lab_of s chain) H is (grown (lab_of s chain) s.events H events begun)
 
 one_of : (p : Event → Bool) (es : List Event) (k : ℕ) (e : Event) → list_all p es ≡ true → slice_get es k ≡ Some e → p e ≡ true
@@ -42,7 +43,8 @@ both_true false c h g = absurd (false≢true h)
 honest : (lab : Lab) (es : List Event) (H : List Full) → list_all (is_honest_event lab.topology) es ≡ true → Begun lab es H → are_honest lab.topology H ≡ true
 honest lab es [] all begun = refl
 honest lab es (r ∷ H) all begun =
-    both_true (is_honest_event lab.topology r.asked) (are_honest lab.topology H) (one_of (is_honest_event lab.topology) es (place H) r.asked all (brought lab es H r begun.0).asked) (honest lab es H all begun.1)
+    both_true (is_honest_event lab.topology r.asked) (are_honest lab.topology H)
+    (one_of (is_honest_event lab.topology) es (place H) r.asked all (brought lab es H r begun.0).asked) (honest lab es H all begun.1)
 
 pub honest_scenarios : HonestScenarios
 honest_scenarios s chain H all begun = honest (lab_of s chain) s.events H all begun

@@ -41,6 +41,6 @@ EachIsBrought = (lab : Lab) (H : List Full) (r : Full) (n : ℕ) (c : ClientNode
     → IsBrought lab H r c x
 
 -- what a client's host is handed late is from outside Teredo
-abbrev pub EachLateIsForeign : Type 0
-EachLateIsForeign = (lab : Lab) (H : List Full) (r : Full) (n : ℕ) (c : ClientNode) → Grown lab (r ∷ H) → r.node ≡ Some n
+abbrev pub EachLateHandedIsForeign : Type 0
+EachLateHandedIsForeign = (lab : Lab) (H : List Full) (r : Full) (n : ℕ) (c : ClientNode) → Grown lab (r ∷ H) → r.node ≡ Some n
     → client_at lab.topology n ≡ Some c → AllByRecursion (λ x. is_teredo (fields_in x).src ≡ false) r.late

@@ -21,25 +21,25 @@ use Rattle.legal.specs.Makers.{Forges, Leaves}
 use Rattle.origins.specs.Honest.{are_honest}
 
 -- a datagram from a server's address that has an authentication has, as its origin, the endpoint that it goes to
-abbrev pub TellsWhereTo : Lab → Item → Type 0
-TellsWhereTo lab (udp src dst bytes) = (n : ℕ) (a : ServerNode) → node_at lab.topology n ≡ Some (server a) → has_address src.ip (server a) ≡ true
+abbrev pub EntryTellsWhereTo : Lab → Item → Type 0
+EntryTellsWhereTo lab (udp src dst bytes) = (n : ℕ) (a : ServerNode) → node_at lab.topology n ≡ Some (server a) → has_address src.ip (server a) ≡ true
     → is_some (value_in bytes).lead.auth ≡ true → origin_in (value_in bytes).lead ≡ Some dst
-TellsWhereTo lab (six to bytes) = Unit {0}
+EntryTellsWhereTo lab (six to bytes) = Unit {0}
 
 -- in an honest history each does
-abbrev pub EachTellsWhereTo : Type 0
-EachTellsWhereTo = (lab : Lab) (H : List Full) → IsTopology lab.topology → Grown lab H → are_honest lab.topology H ≡ true
-    → AllByRecursion (TellsWhereTo lab) (wire H)
+abbrev pub EachEntryTellsWhereTo : Type 0
+EachEntryTellsWhereTo = (lab : Lab) (H : List Full) → IsTopology lab.topology → Grown lab H → are_honest lab.topology H ≡ true
+    → AllByRecursion (EntryTellsWhereTo lab) (wire H)
 
 -- who made a datagram that comes from the endpoint that its Teredo source embeds: nobody, or a client past its NATs
-pub data IsOfClient (lab : Lab) (H : List Full) (r : Full) (src dst : Ep) (bytes : List ℕ) : Type 0 where
-  forged : Forges H src dst bytes r.asked → IsOfClient lab H r src dst bytes
+pub data IsForgedOrClients (lab : Lab) (H : List Full) (r : Full) (src dst : Ep) (bytes : List ℕ) : Type 0 where
+  forged : Forges H src dst bytes r.asked → IsForgedOrClients lab H r src dst bytes
   sent_by : (n : ℕ) (c : ClientNode) (e : Entry) (s : Send) → IsActOf lab H r n (client c) e → Contains e.step.sends s
-      → Leaves lab H r.moment c s.to src → dst ≡ s.to → bytes ≡ s.bytes → IsOfClient lab H r src dst bytes
+      → Leaves lab H r.moment c s.to src → dst ≡ s.to → bytes ≡ s.bytes → IsForgedOrClients lab H r src dst bytes
 
 abbrev pub ComesFromClient : Lab → List Full → Full → Item → Type 0
 ComesFromClient lab H r (udp src dst bytes) = is_teredo (value_in bytes).packet.src ≡ true → src ≡ embedded (value_in bytes).packet.src
-    → IsOfClient lab H r src dst bytes
+    → IsForgedOrClients lab H r src dst bytes
 ComesFromClient lab H r (six to bytes) = Unit {0}
 
 -- no server's and no relay's datagram does

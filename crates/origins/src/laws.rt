@@ -1,7 +1,7 @@
 //! Laws of every history.
 ghost use Rattle.origins.specs.Sources.{EachHasOwnSource};
-ghost use Rattle.origins.specs.Senders.{EachTellsWhereTo, EachComesFromClient};
-ghost use Rattle.origins.specs.Handed.{EachIsBrought, EachLateIsForeign};
+ghost use Rattle.origins.specs.Senders.{EachEntryTellsWhereTo, EachComesFromClient};
+ghost use Rattle.origins.specs.Handed.{EachIsBrought, EachLateHandedIsForeign};
 ghost use Rattle.origins.specs.Origin.{EachHasOrigin};
 ghost use Rattle.origins.specs.Live.{EachIsLive, EachIsHeld};
 ghost use Rattle.origins.specs.Throughout.{HistoriesHaveOrigins, ScenariosHaveOrigins, HonestScenarios};
@@ -18,7 +18,7 @@ pub fn own_sources()
 
 /// In an honest history a datagram from a server's address that has an authentication tells where it goes.
 pub fn tells_where_to()
-    ensures { EachTellsWhereTo }
+    ensures { EachEntryTellsWhereTo }
 {
     topology::apart();
     topology::taken();
@@ -52,7 +52,7 @@ pub fn is_brought()
 
 /// Each packet that a client's host is handed late is from outside Teredo.
 pub fn late_is_foreign()
-    ensures { EachLateIsForeign }
+    ensures { EachLateHandedIsForeign }
 {
     legal::acted();
     legal::client_journals();
@@ -67,6 +67,7 @@ pub fn has_origin()
     comes_from_clients();
     topology::apart();
     topology::each_node();
+    settled::client_is_there();
     legal::made();
     legal::wire_is_made();
     legal::is_recorded();
@@ -85,6 +86,7 @@ pub fn is_live()
 {
     tells_where_to();
     topology::each_node();
+    settled::client_is_there();
     legal::acted();
     legal::routes();
     legal::frame();

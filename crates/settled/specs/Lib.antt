@@ -1,2 +1,4 @@
 pub mod Clients
+pub mod ItsNodes
+pub mod OwnAddress
 pub mod Settled

@@ -54,28 +54,35 @@ record IsUnder (t : TopologyState) (a : ServerNode) (from : Ep) (v : Value) (k :
   other : GoesToOther (seen (server_settings a) from v) → (1 ≤ k) × (load t (own_ep (server a) Primary) (embedded v.packet.dst) None v.packet ≤ k)
   six : GoesToSix (seen (server_settings a) from v) → packet_weight false v.packet ≤ k
 
-sent_on : (t : TopologyState) (a : ServerNode) (s : Send) (k : ℕ) (origin : Option Ep) (p : Fields) → ReadsPayload (value_written None origin p) s.bytes → 1 ≤ k → load t (own_ep (server a) s.side) s.to origin p ≤ k → send_weight t (server a) s ≤ k
+sent_on : (t : TopologyState) (a : ServerNode) (s : Send) (k : ℕ) (origin : Option Ep) (p : Fields) → ReadsPayload (value_written None origin p) s.bytes
+    → 1 ≤ k → load t (own_ep (server a) s.side) s.to origin p ≤ k → send_weight t (server a) s ≤ k
 sent_on t a s k origin p reads one less = by (is_some_server t s.to) (load_is t (own_ep (server a) s.side) s.to origin p s.bytes reads) where
-  by : (b : Bool) → datagram_weight t (own_ep (server a) s.side) s.to s.bytes ≡ load t (own_ep (server a) s.side) s.to origin p → cond b 1 (datagram_weight t (own_ep (server a) s.side) s.to s.bytes) ≤ k
+  by : (b : Bool) → datagram_weight t (own_ep (server a) s.side) s.to s.bytes ≡ load t (own_ep (server a) s.side) s.to origin p
+      → cond b 1 (datagram_weight t (own_ep (server a) s.side) s.to s.bytes) ≤ k
   by true is = one
   by false is = omega (arith, is, less)
 
 -- the packet in a datagram
 packet_is : (x : List ℕ) (v : Value) → ReadsPayload v x → fields_in (part x (rest_of v.lead.at x)) ≡ v.packet
 packet_is x v reads =
-    ap fields_in (take_rest x v.lead.at) ∙ ap (λ (w : Value). fields_in (drop w.lead.at x)) (sym reads.value) ∙ same_fields x reads.is_one ∙ ap (λ (w : Value). w.packet) reads.value
+    ap fields_in (take_rest x v.lead.at) ∙ ap (λ (w : Value). fields_in (drop w.lead.at x)) (sym reads.value) ∙ same_fields x reads.is_one
+    ∙ ap (λ (w : Value). w.packet) reads.value
 
-module _ (laws : RowLaws) (t : TopologyState) (a : ServerNode) (side : Side) (from : Ep) (x : List ℕ) (v : Value) (reads : ReadsPayload v x) (bytes : IsBytes x) (made : IsEp from) where
-  by_rule : (k : ℕ) (r : Rule) → RuledOnlyIf r (seen (server_settings a) from v) → IsUnder t a from v k → output_weight t (server a) x (step_of (server_settings a) side from x v r) ≤ k
+module _ (laws : RowLaws) (t : TopologyState) (a : ServerNode) (side : Side) (from : Ep) (x : List ℕ) (v : Value) (reads : ReadsPayload v x)
+    (bytes : IsBytes x) (made : IsEp from) where
+  by_rule : (k : ℕ) (r : Rule) → RuledOnlyIf r (seen (server_settings a) from v) → IsUnder t a from v k
+      → output_weight t (server a) x (step_of (server_settings a) side from x v r) ≤ k
   by_rule k (Dropped f) w u = omega arith
   by_rule k Advert w u = absurd (false≢true (sym u.plain ∙ w.solicitation))
   by_rule k ForwardOrigin w u =
       let both = u.own w in
-      let one = sent_on t a (send_from Primary (embedded v.packet.dst) (forwarded (Some from) (drop v.lead.at x))) k (Some from) v.packet (laws.goes x v (Some from) bytes reads.read w.on.sound.short made) both.0 both.1 in
+      let one = sent_on t a (send_from Primary (embedded v.packet.dst) (forwarded (Some from) (drop v.lead.at x))) k (Some from) v.packet
+      (laws.goes x v (Some from) bytes reads.read w.on.sound.short made) both.0 both.1 in
       omega (arith, one)
   by_rule k Forward w u =
       let both = u.other w in
-      let one = sent_on t a (send_from Primary (embedded v.packet.dst) (forwarded None (drop v.lead.at x))) k None v.packet (laws.goes x v None bytes reads.read w.on.sound.short tt) both.0 both.1 in
+      let one = sent_on t a (send_from Primary (embedded v.packet.dst) (forwarded None (drop v.lead.at x))) k None v.packet
+      (laws.goes x v None bytes reads.read w.on.sound.short tt) both.0 both.1 in
       omega (arith, one)
   by_rule k Six w u =
       let less = u.six w in
@@ -101,7 +108,8 @@ not_teredo ip h g =
 
 by_source : (p : Fields) → is_teredo p.src ≡ true → is_solicitation p ≡ false
 unfolding is_solicitation
-by_source p h = false_from_ne_true _ (λ (e : is_link_local p.src && same_ip6 p.dst ALL_ROUTERS && is_solicit (message_in p) ≡ true). not_teredo p.src ((and_parts _ _ (and_parts _ _ e).0).0) h)
+by_source p h = false_from_ne_true _ (λ (e : is_link_local p.src && same_ip6 p.dst ALL_ROUTERS && is_solicit (message_in p) ≡ true). not_teredo p.src
+    ((and_parts _ _ (and_parts _ _ e).0).0) h)
 
 routers : is_teredo ALL_ROUTERS ≡ false
 unfolding is_teredo
@@ -125,7 +133,8 @@ loops a p teredo own = ap (λ (b : Bool). b && is_own (server_settings a) (embed
 abbrev bare : Fields → Value
 bare p = value_written None None p
 
-module _ (laws : RowLaws) (t : TopologyState) (a : ServerNode) (side : Side) (from : Ep) (x : List ℕ) (p : Fields) (reads : ReadsPayload (value_written None None p) x) (bytes : IsBytes x) (made : IsEp from) where
+module _ (laws : RowLaws) (t : TopologyState) (a : ServerNode) (side : Side) (from : Ep) (x : List ℕ) (p : Fields)
+    (reads : ReadsPayload (value_written None None p) x) (bytes : IsBytes x) (made : IsEp from) where
   abbrev output : ℕ
   output = output_weight t (server a) x (server_row (server_settings a) side from x)
 

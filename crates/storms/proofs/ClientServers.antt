@@ -1,6 +1,5 @@
 -- A client's server, and what it tells.
 use Rattle.std.proofs.Common.{◌≡◌, ◌||◌, not, Bool, true, false, Option, Some, None, refl, sym, ap, ◌∙◌}
-use Rattle.std.specs.Prelude.{is_some, option_and_then}
 use Rattle.std.proofs.lemmas.Bool.{false≢true, and_parts}
 use Rattle.td_base.specs.Ep.{same_ep, same_ep-self, same_ep-true, server_ep}
 use Rattle.td_base.specs.Reach.{is_usable}
@@ -11,51 +10,43 @@ use Rattle.td_base.specs.declared.endpoint.Ep.{Ep}
 use Rattle.teredo_addr.specs.Teredo.{is_teredo, embedded}
 use Rattle.client_rules.specs.Reception as reception
 use Rattle.topology.specs.declared.client_node.ClientNode.{ClientNode}
-use Rattle.topology.specs.declared.server_node.ServerNode.{ServerNode}
 use Rattle.topology.specs.Rows.{TopologyState}
-use Rattle.topology.specs.declared.node.Node.{Node}
-use Rattle.topology.specs.declared.node.Node.TheVariants.{Server as server, Nat as nat, Client as client, Relay as relay, Native as native}
-use Rattle.topology.specs.Topology.{nodes, node_at, as_server, server_at}
+use Rattle.topology.specs.declared.node.Node.TheVariants.{Server as server}
+use Rattle.topology.specs.Topology.{nodes}
 use Rattle.topology.specs.Rules.{IsTopology}
 use Rattle.topology.specs.NodeRules.{AddressesAreApart}
-use Rattle.legal.specs.Settings.{client_settings, primary_of, secondary_of}
+use Rattle.legal.specs.Settings.{client_settings}
+use Rattle.settled.specs.ItsNodes.{HasServer}
 use Rattle.storms.specs.Weights.{is_server_at, is_some_server}
 use Rattle.storms.proofs.Places.{first_at, first_is, any_there}
 
--- it is one of the topology
-pub record IsServedBy (t : TopologyState) (c : ClientNode) : Type 0 where
-  pub row : ServerNode
-  pub node : node_at t c.server ≡ Some (server row)
-  pub primary : (client_settings t c).primary ≡ row.primary
-  pub secondary : (client_settings t c).secondary ≡ row.secondary
-
-pub served_by : (t : TopologyState) (c : ClientNode) → is_some (server_at t c.server) ≡ true → IsServedBy t c
-served_by t c h = by (node_at t c.server) refl h where
-  by : (o : Option Node) → node_at t c.server ≡ o → is_some (option_and_then as_server o) ≡ true → IsServedBy t c
-  by None e g = absurd (false≢true g)
-  by (Some (server a)) e g = record { row = a; node = e; primary = ap (λ (o : Option Node). primary_of (option_and_then as_server o)) e; secondary = ap (λ (o : Option Node). secondary_of (option_and_then as_server o)) e }
-  by (Some (nat a)) e g = absurd (false≢true g)
-  by (Some (client a)) e g = absurd (false≢true g)
-  by (Some (relay a)) e g = absurd (false≢true g)
-  by (Some (native a)) e g = absurd (false≢true g)
-
-pub from_server_is : (t : TopologyState) (c : ClientNode) (from : Ep) → IsServedBy t c → reception.is_from_server (client_settings t c) from ≡ true → is_some_server t from ≡ true
+-- what comes from it is from a server
+pub from_server_is : (t : TopologyState) (c : ClientNode) (from : Ep) → HasServer t c → reception.is_from_server (client_settings t c) from ≡ true
+    → is_some_server t from ≡ true
 unfolding reception.is_from_server
 from_server_is t c from s h =
-    any_there (is_server_at from) (nodes t) c.server (server s.row) s.node
+    any_there (is_server_at from) (nodes t) c.server (server s.row) s.there
     (ap (λ (ip : Ip4). same_ep from (server_ep ip) || same_ep from (server_ep s.row.secondary)) (sym s.primary)
     ∙ ap (λ (ip : Ip4). same_ep from (server_ep (client_settings t c).primary) || same_ep from (server_ep ip)) (sym s.secondary) ∙ h)
 
 -- its primary endpoint is the server's
-pub own_server : AddressesAreApart → (t : TopologyState) (c : ClientNode) → IsTopology t → (s : IsServedBy t c) → first_at t (server_ep (client_settings t c).primary) ≡ Some (server s.row)
+pub own_server : AddressesAreApart → (t : TopologyState) (c : ClientNode) → IsTopology t → (s : HasServer t c)
+    → first_at t (server_ep (client_settings t c).primary) ≡ Some (server s.row)
 own_server apart t c is s =
     ap (λ (ip : Ip4). first_at t (server_ep ip)) s.primary
-    ∙ first_is apart t (server_ep s.row.primary) c.server (server s.row) is s.node (ap (λ (b : Bool). b || same_ep (server_ep s.row.primary) (server_ep s.row.secondary)) (same_ep-self (server_ep s.row.primary)))
+    ∙ first_is apart t (server_ep s.row.primary) c.server (server s.row) is s.there
+    (ap (λ (b : Bool). b || same_ep (server_ep s.row.primary) (server_ep s.row.secondary)) (same_ep-self (server_ep s.row.primary)))
 
 -- a good origin is there, and a Teredo source embeds it
-pub good_origin : (policy : Policy) (p : Ip6) (o : Option Ep) → reception.is_good_origin policy p o ≡ true → (to : Ep) × (o ≡ Some to) × (is_teredo p ≡ true → to ≡ embedded p)
+pub good_origin : (policy : Policy) (p : Ip6) (o : Option Ep) → reception.is_good_origin policy p o ≡ true
+    → (to : Ep) × (o ≡ Some to) × (is_teredo p ≡ true → to ≡ embedded p)
 good_origin policy p None h = absurd (false≢true h)
-good_origin policy p (Some to) h = (to, refl, λ teredo. same_ep-true to (embedded p) (embeds (is_teredo p) (same_ep to (embedded p)) teredo (and_parts (is_usable policy to) (not (is_teredo p) || same_ep to (embedded p)) h).1)) where
+good_origin policy p (Some to) h = (
+  to,
+  refl,
+  λ teredo. same_ep-true to (embedded p)
+      (embeds (is_teredo p) (same_ep to (embedded p)) teredo (and_parts (is_usable policy to) (not (is_teredo p) || same_ep to (embedded p)) h).1),
+) where
   embeds : (b c : Bool) → b ≡ true → (not b || c) ≡ true → c ≡ true
   embeds true c e g = g
   embeds false c e g = absurd (false≢true e)

@@ -12,7 +12,8 @@ use Rattle.storms.specs.Loads.{BurdenIsBounded}
 use Rattle.storms.specs.Deliveries.{AreNew, GoesOnSettling, EachLightens, EachStormEnds, SettleDeliversNew, EachSettlingEnds}
 use Rattle.storms.specs.Throughout.{HistoriesHaveNoStorm, ScenariosHaveNoStorm}
 
-lighter : EachLightens → (lab : Lab) (H later : List Full) → IsTopology lab.topology → Grown lab (later ++ H) → AreNew H later → length later + burden lab.topology (later ++ H) ≤ burden lab.topology H
+lighter : EachLightens → (lab : Lab) (H later : List Full) → IsTopology lab.topology → Grown lab (later ++ H) → AreNew H later
+    → length later + burden lab.topology (later ++ H) ≤ burden lab.topology H
 lighter law lab H [] is g new = omega arith
 lighter law lab H (r ∷ later) is g new =
     let rest = lighter law lab H later is g.1 new.1 in
@@ -45,5 +46,6 @@ histories ends settle lab H is g rest later before split =
     let there : Grown lab (later ++ before) = earlier lab rest (later ++ before) (subst (Grown lab) split g) in
     record { deliveries = ends lab before later is there; settling = settle lab before later is there }
 
-pub scenarios : ((lab : Lab) (events : List Event) (h : List Full) → AllByRecursion (IsEvent lab.topology) events → Begun lab events h → Grown lab h) → HistoriesHaveNoStorm → ScenariosHaveNoStorm
+pub scenarios : ((lab : Lab) (events : List Event) (h : List Full) → AllByRecursion (IsEvent lab.topology) events → Begun lab events h → Grown lab h)
+    → HistoriesHaveNoStorm → ScenariosHaveNoStorm
 scenarios grown law s chain H is events begun = law (lab_of s chain) H is (grown (lab_of s chain) s.events H events begun)

@@ -1,5 +1,6 @@
 -- What is undelivered after a delivery.
-use Rattle.std.proofs.Common.{◌≡◌, ◌≤◌, ◌<◌, ℕ, zero, suc, ◌+◌, ◌==◌, ◌||◌, Bool, true, false, cond, List, [], ◌∷◌, ◌++◌, length, Option, Some, None, refl, sym, ap, subst, ◌∙◌, arith}
+use Rattle.std.proofs.Common.{◌≡◌, ◌≤◌, ◌<◌, ℕ, zero, suc, ◌+◌, ◌==◌, ◌||◌, Bool, true, false, cond, List, [], ◌∷◌, ◌++◌, length, Option, Some, None, refl, sym}
+use Rattle.std.proofs.Common.{ap, subst, ◌∙◌, arith}
 use Rattle.std.specs.Prelude.{sum_by, slice_get, unwrap_or, is_some}
 use Rattle.std.proofs.lemmas.Bool.{false≢true}
 use Rattle.std.proofs.lemmas.Bool.Decides.{nat_tests}
@@ -9,7 +10,8 @@ use Rattle.std.proofs.lemmas.Option.{slice_get_within}
 use Rattle.history.specs.Full.{Item, Full, wire, items_of}
 use Rattle.legal.specs.Lab.{Lab}
 use Rattle.legal.specs.Past.{is_number, was_delivered}
-use Rattle.legal.specs.Kinds.{Kind, quiet, put, copied, ticks, handed, reached, Quiet, passed, shut, strayed, missing, none_left, settled, uncopied, hosted, restarted, forgot, faulted}
+use Rattle.legal.specs.Kinds.{Kind, quiet, put, copied, ticks, handed, reached, Quiet, passed, shut, strayed, missing, none_left, settled, uncopied, hosted}
+use Rattle.legal.specs.Kinds.{restarted, forgot, faulted}
 use Rattle.legal.specs.Legal.{Follows, Grown}
 use Rattle.storms.specs.Burden.{undelivered_from, undelivered_items}
 use Rattle.storms.specs.Loads.{DeliveryExchanges}
@@ -62,7 +64,8 @@ never law lab [] j g h = refl
 never law lab (r ∷ H) j g h =
     let whole = length-append (wire H) (items_of r) in
     let before : length (wire H) ≤ j = omega (arith, h, whole) in
-    let first : is_number j r.delivered ≡ false = not_number j r.delivered (λ k e. let within = is_there lab H r k (law lab H r g.0) e in omega (arith, within, before)) in
+    let first : is_number j r.delivered ≡ false = not_number j r.delivered
+    (λ k e. let within = is_there lab H r k (law lab H r g.0) e in omega (arith, within, before)) in
     ap (λ (b : Bool). b || was_delivered j H) first ∙ never law lab H j g.1 before
 
 -- LISTS OF ENTRIES
@@ -75,7 +78,8 @@ joined G i (x ∷ xs) ys =
     by (was_delivered i G) rest
   where
     by : (b : Bool) → undelivered_from G (i + 1) (xs ++ ys) ≡ undelivered_from G (i + 1) xs ++ undelivered_from G (i + suc (length xs)) ys
-        → cond b (undelivered_from G (i + 1) (xs ++ ys)) (x ∷ undelivered_from G (i + 1) (xs ++ ys)) ≡ cond b (undelivered_from G (i + 1) xs) (x ∷ undelivered_from G (i + 1) xs) ++ undelivered_from G (i + suc (length xs)) ys
+        → cond b (undelivered_from G (i + 1) (xs ++ ys)) (x ∷ undelivered_from G (i + 1) (xs ++ ys)) ≡ cond b (undelivered_from G (i + 1) xs)
+        (x ∷ undelivered_from G (i + 1) xs) ++ undelivered_from G (i + suc (length xs)) ys
     by true e = e
     by false e = ap (λ (zs : List Item). x ∷ zs) e
 
@@ -95,7 +99,8 @@ behind H r k i (x ∷ xs) is h =
     ∙ ap (λ (zs : List Item). cond (was_delivered i H) zs (x ∷ zs)) rest
 
 -- it goes
-taken : (H : List Full) (r : Full) (k : ℕ) (x : Item) (w : Item → ℕ) (i n : ℕ) (xs : List Item) → r.delivered ≡ Some k → was_delivered k H ≡ false → slice_get xs n ≡ Some x → k ≡ i + n
+taken : (H : List Full) (r : Full) (k : ℕ) (x : Item) (w : Item → ℕ) (i n : ℕ) (xs : List Item) → r.delivered ≡ Some k → was_delivered k H ≡ false
+    → slice_get xs n ≡ Some x → k ≡ i + n
     → sum_by w (undelivered_from (r ∷ H) i xs) + w x ≡ sum_by w (undelivered_from H i xs)
 taken H r k x w i n [] is fresh at e = absurd (false≢true (ap (λ (o : Option Item). is_some o) at))
 taken H r k x w i zero (y ∷ xs) is fresh at e =
@@ -106,7 +111,8 @@ taken H r k x w i zero (y ∷ xs) is fresh at e =
     let rest = behind H r k (i + 1) xs is (omega (arith, here)) in
     let left : undelivered_from (r ∷ H) i (y ∷ xs) ≡ undelivered_from H (i + 1) xs =
     ap (λ (b : Bool). cond (b || was_delivered i H) (undelivered_from (r ∷ H) (i + 1) xs) (y ∷ undelivered_from (r ∷ H) (i + 1) xs)) now ∙ rest in
-    let right : undelivered_from H i (y ∷ xs) ≡ y ∷ undelivered_from H (i + 1) xs = ap (λ (b : Bool). cond b (undelivered_from H (i + 1) xs) (y ∷ undelivered_from H (i + 1) xs)) before in
+    let right : undelivered_from H i (y ∷ xs) ≡ y ∷ undelivered_from H (i + 1) xs = ap
+    (λ (b : Bool). cond b (undelivered_from H (i + 1) xs) (y ∷ undelivered_from H (i + 1) xs)) before in
     let a = ap (sum_by w) left in
     let b = ap (sum_by w) right in
     let c = sum_by-cons w y (undelivered_from H (i + 1) xs) in
@@ -126,7 +132,8 @@ taken H r k x w i (suc n) (y ∷ xs) is fresh at e =
     later j m g = grind (arith, nat_tests)
 
     by : (b : Bool) → sum_by w (undelivered_from (r ∷ H) (i + 1) xs) + w x ≡ sum_by w (undelivered_from H (i + 1) xs)
-        → sum_by w (cond b (undelivered_from (r ∷ H) (i + 1) xs) (y ∷ undelivered_from (r ∷ H) (i + 1) xs)) + w x ≡ sum_by w (cond b (undelivered_from H (i + 1) xs) (y ∷ undelivered_from H (i + 1) xs))
+        → sum_by w (cond b (undelivered_from (r ∷ H) (i + 1) xs) (y ∷ undelivered_from (r ∷ H) (i + 1) xs)) + w x ≡ sum_by w
+        (cond b (undelivered_from H (i + 1) xs) (y ∷ undelivered_from H (i + 1) xs))
     by true h = h
     by false h =
         let a = sum_by-cons w y (undelivered_from (r ∷ H) (i + 1) xs) in
@@ -137,10 +144,13 @@ pub exchanges : KindLaw → DeliveryExchanges
 exchanges law lab H r k x g is fresh at w =
     let G : List Full = r ∷ H in
     let whole = length-append (wire H) (items_of r) in
-    let split : undelivered_items G ≡ undelivered_from G 0 (wire H) ++ undelivered_from G (0 + length (wire H)) (items_of r) = joined G 0 (wire H) (items_of r) in
+    let split : undelivered_items G ≡ undelivered_from G 0 (wire H) ++ undelivered_from G (0 + length (wire H)) (items_of r) = joined G 0 (wire H)
+    (items_of r) in
     let fresh_ones : (j : ℕ) → 0 + length (wire H) ≤ j → was_delivered j G ≡ false = λ j le.
-    ap (λ (b : Bool). b || was_delivered j H) (not_number j r.delivered (λ m e. let within = is_there lab H r m (law lab H r g.0) e in omega (arith, within, le))) ∙ never law lab H j g.1 (omega (arith, le)) in
+    ap (λ (b : Bool). b || was_delivered j H) (not_number j r.delivered
+    (λ m e. let within = is_there lab H r m (law lab H r g.0) e in omega (arith, within, le))) ∙ never law lab H j g.1 (omega (arith, le)) in
     let new : undelivered_from G (0 + length (wire H)) (items_of r) ≡ items_of r = all_open G (0 + length (wire H)) (items_of r) fresh_ones in
     let old = taken H r k x w 0 k (wire H) is fresh at (omega arith) in
-    let sums = ap (sum_by w) (split ∙ ap (λ (zs : List Item). undelivered_from G 0 (wire H) ++ zs) new) ∙ sum_by-append w (undelivered_from G 0 (wire H)) (items_of r) in
+    let sums = ap (sum_by w) (split ∙ ap (λ (zs : List Item). undelivered_from G 0 (wire H) ++ zs) new)
+    ∙ sum_by-append w (undelivered_from G 0 (wire H)) (items_of r) in
     omega (arith, old, sums)

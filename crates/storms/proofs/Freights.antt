@@ -18,14 +18,19 @@ use Rattle.bubble.specs.Laws.{ReadsPayload}
 use Rattle.teredo_node.proofs.FirstLines.{by_lines}
 use Rattle.topology.specs.Rows.{TopologyState}
 use Rattle.topology.specs.Topology.{nodes}
-use Rattle.storms.specs.Weights.{is_nat_at, is_relay_at, is_some_server, is_origin_at_server, is_echo_request, packet_weight, Freight, freight, freight_weight, datagram_weight}
+use Rattle.storms.specs.Weights.{is_nat_at, is_relay_at, is_some_server, is_origin_at_server, is_echo_request, packet_weight, Freight, freight, freight_weight}
+use Rattle.storms.specs.Weights.{datagram_weight}
 
 -- ITS LINES
 
 -- no more than k, where no line that holds has more
-pub freight_under : (a : Freight) (k : ℕ) → 1 ≤ k → (a.indirect ≡ true → a.origin_at_server ≡ true → 3 ≤ k) → (a.indirect ≡ true → 2 ≤ k) → (a.foreign ≡ true → 8 ≤ k) → (a.for_relay ≡ true → 7 ≤ k) → freight_weight a ≤ k
-freight_under a k one at_server indirect foreign for_relay = by_lines (λ (w : ℕ). w ≤ k) ((a.indirect && a.origin_at_server, 3) ∷ (a.indirect, 2) ∷ (a.foreign, 8) ∷ (a.for_relay, 7) ∷ []) 1
-    ((λ h. let both = and_parts a.indirect a.origin_at_server h in at_server both.0 both.1), (λ _. (indirect, (λ _. (foreign, (λ _. (for_relay, (λ _. one))))))))
+pub freight_under : (a : Freight) (k : ℕ) → 1 ≤ k → (a.indirect ≡ true → a.origin_at_server ≡ true → 3 ≤ k) → (a.indirect ≡ true → 2 ≤ k)
+    → (a.foreign ≡ true → 8 ≤ k) → (a.for_relay ≡ true → 7 ≤ k) → freight_weight a ≤ k
+freight_under a k one at_server indirect foreign for_relay = by_lines (λ (w : ℕ). w ≤ k)
+    ((a.indirect && a.origin_at_server, 3) ∷ (a.indirect, 2) ∷ (a.foreign, 8) ∷ (a.for_relay, 7) ∷ []) 1 (
+      (λ h. let both = and_parts a.indirect a.origin_at_server h in at_server both.0 both.1),
+      (λ _. (indirect, (λ _. (foreign, (λ _. (for_relay, (λ _. one))))))),
+    )
 
 -- what two conditions ask of the packet
 second : (a b : Bool) → (a && b) ≡ true → b ≡ true
@@ -48,17 +53,20 @@ module _ (t : TopologyState) (src dst : Ep) where
   pub load_is : (origin : Option Ep) (p : Fields) (x : List ℕ) → ReadsPayload (value_written None origin p) x → datagram_weight t src dst x ≡ load origin p
   unfolding datagram_weight
   load_is origin p x reads =
-      ap (λ (b : Bool). freight_weight (freight t src dst b (value_in x))) reads.is_one ∙ ap (λ (v : Value). freight_weight (freight t src dst true v)) reads.value
+      ap (λ (b : Bool). freight_weight (freight t src dst b (value_in x))) reads.is_one
+      ∙ ap (λ (v : Value). freight_weight (freight t src dst true v)) reads.value
 
   abbrev to_nat : Bool
   to_nat = true && list_any (is_nat_at dst) (nodes t)
 
   -- an indirect one is a bubble, with an origin
   indirect_bubble : (p : Fields) (o : Bool) → (to_nat && (is_some_server t src && (is_bubble p && o))) ≡ true → is_bubble p ≡ true
-  indirect_bubble p o h = (and_parts (is_bubble p) o (second (is_some_server t src) (is_bubble p && o) (second to_nat (is_some_server t src && (is_bubble p && o)) h))).0
+  indirect_bubble p o h = (and_parts (is_bubble p) o (second (is_some_server t src) (is_bubble p && o)
+      (second to_nat (is_some_server t src && (is_bubble p && o)) h))).0
 
   indirect_origin : (p : Fields) (o : Bool) → (to_nat && (is_some_server t src && (is_bubble p && o))) ≡ true → o ≡ true
-  indirect_origin p o h = second (is_bubble p) o (second (is_some_server t src) (is_bubble p && o) (second to_nat (is_some_server t src && (is_bubble p && o)) h))
+  indirect_origin p o h = second (is_bubble p) o (second (is_some_server t src) (is_bubble p && o)
+      (second to_nat (is_some_server t src && (is_bubble p && o)) h))
 
   -- what a foreign one isn't
   record IsForeign (p : Fields) : Type 0 where
@@ -66,7 +74,8 @@ module _ (t : TopologyState) (src dst : Ep) where
     no_bubble : not (is_bubble p) ≡ true
     no_reply : not (is_echo_reply (message_in p)) ≡ true
 
-  foreign_is : (p : Fields) → (to_nat && (is_global6 p.src && (not (is_teredo p.src) && (not (is_bubble p) && not (is_echo_reply (message_in p)))))) ≡ true → IsForeign p
+  foreign_is : (p : Fields) → (to_nat && (is_global6 p.src && (not (is_teredo p.src) && (not (is_bubble p) && not (is_echo_reply (message_in p)))))) ≡ true
+      → IsForeign p
   foreign_is p h =
       let rest = second (is_global6 p.src) (not (is_teredo p.src) && (not (is_bubble p) && not (is_echo_reply (message_in p))))
       (second to_nat (is_global6 p.src && (not (is_teredo p.src) && (not (is_bubble p) && not (is_echo_reply (message_in p))))) h) in
@@ -117,12 +126,18 @@ both_true false c h g = absurd (false≢true h)
 
 -- k at least, where the line that holds has so much, and none before it less
 foreign_least : (a : Freight) → a.indirect ≡ false → a.foreign ≡ true → 8 ≤ freight_weight a
-foreign_least a plain foreign = by_lines (λ (w : ℕ). 8 ≤ w) ((a.indirect && a.origin_at_server, 3) ∷ (a.indirect, 2) ∷ (a.foreign, 8) ∷ (a.for_relay, 7) ∷ []) 1
-    ((λ h. no a.indirect (and_parts a.indirect a.origin_at_server h).0 plain), (λ _. ((λ h. no a.indirect h plain), (λ _. ((λ _. omega arith), (λ h. absurd (false≢true (sym h ∙ foreign))))))))
+foreign_least a plain foreign =
+    by_lines (λ (w : ℕ). 8 ≤ w) ((a.indirect && a.origin_at_server, 3) ∷ (a.indirect, 2) ∷ (a.foreign, 8) ∷ (a.for_relay, 7) ∷ []) 1 (
+      (λ h. no a.indirect (and_parts a.indirect a.origin_at_server h).0 plain),
+      (λ _. ((λ h. no a.indirect h plain), (λ _. ((λ _. omega arith), (λ h. absurd (false≢true (sym h ∙ foreign))))))),
+    )
 
 relay_least : (a : Freight) → a.indirect ≡ false → a.for_relay ≡ true → 7 ≤ freight_weight a
-relay_least a plain for_relay = by_lines (λ (w : ℕ). 7 ≤ w) ((a.indirect && a.origin_at_server, 3) ∷ (a.indirect, 2) ∷ (a.foreign, 8) ∷ (a.for_relay, 7) ∷ []) 1
-    ((λ h. no a.indirect (and_parts a.indirect a.origin_at_server h).0 plain), (λ _. ((λ h. no a.indirect h plain), (λ _. ((λ _. omega arith), (λ _. ((λ _. omega arith), (λ h. absurd (false≢true (sym h ∙ for_relay))))))))))
+relay_least a plain for_relay =
+    by_lines (λ (w : ℕ). 7 ≤ w) ((a.indirect && a.origin_at_server, 3) ∷ (a.indirect, 2) ∷ (a.foreign, 8) ∷ (a.for_relay, 7) ∷ []) 1 (
+      (λ h. no a.indirect (and_parts a.indirect a.origin_at_server h).0 plain),
+      (λ _. ((λ h. no a.indirect h plain), (λ _. ((λ _. omega arith), (λ _. ((λ _. omega arith), (λ h. absurd (false≢true (sym h ∙ for_relay))))))))),
+    )
 
 indirect_least : (a : Freight) → a.indirect ≡ true → cond a.origin_at_server 3 2 ≤ freight_weight a
 indirect_least a indirect = by a.origin_at_server a.indirect indirect where
@@ -133,12 +148,15 @@ indirect_least a indirect = by a.origin_at_server a.indirect indirect where
 
 module _ (t : TopologyState) (src dst : Ep) (x : List ℕ) where
   not_indirect : is_bubble (value_in x).packet ≡ false → (freight t src dst (is_payload x) (value_in x)).indirect ≡ false
-  not_indirect plain = false_from_ne_true (freight t src dst (is_payload x) (value_in x)).indirect (λ h. no (is_bubble (value_in x).packet) (bubble_in (is_payload x && list_any (is_nat_at dst) (nodes t)) (is_some_server t src) (is_bubble (value_in x).packet) (is_some (origin_in (value_in x).lead)) h) plain) where
-    bubble_in : (a b c d : Bool) → (a && (b && (c && d))) ≡ true → c ≡ true
-    bubble_in a b c d h = (and_parts c d (second b (c && d) (second a (b && (c && d)) h))).0
+  not_indirect plain = false_from_ne_true (freight t src dst (is_payload x) (value_in x)).indirect
+      (λ h. no (is_bubble (value_in x).packet) (bubble_in (is_payload x && list_any (is_nat_at dst) (nodes t)) (is_some_server t src)
+      (is_bubble (value_in x).packet) (is_some (origin_in (value_in x).lead)) h) plain) where
+        bubble_in : (a b c d : Bool) → (a && (b && (c && d))) ≡ true → c ≡ true
+        bubble_in a b c d h = (and_parts c d (second b (c && d) (second a (b && (c && d)) h))).0
 
   -- a packet from a Teredo address to a relay
-  pub relay_weight : list_any (is_relay_at dst) (nodes t) ≡ true → is_payload x ≡ true → is_teredo (value_in x).packet.src ≡ true → is_bubble (value_in x).packet ≡ false → 7 ≤ datagram_weight t src dst x
+  pub relay_weight : list_any (is_relay_at dst) (nodes t) ≡ true → is_payload x ≡ true → is_teredo (value_in x).packet.src ≡ true
+      → is_bubble (value_in x).packet ≡ false → 7 ≤ datagram_weight t src dst x
   unfolding datagram_weight
   relay_weight there payload teredo plain = relay_least (freight t src dst (is_payload x) (value_in x)) (not_indirect plain)
       (both_true (is_payload x) (list_any (is_relay_at dst) (nodes t) && (is_teredo (value_in x).packet.src && not (is_bubble (value_in x).packet))) payload
@@ -146,23 +164,32 @@ module _ (t : TopologyState) (src dst : Ep) (x : List ℕ) where
       (both_true (is_teredo (value_in x).packet.src) (not (is_bubble (value_in x).packet)) teredo (not_from_false (is_bubble (value_in x).packet) plain))))
 
   -- one to a NAT from outside Teredo, which is neither a bubble nor an echo reply
-  pub foreign_weight : list_any (is_nat_at dst) (nodes t) ≡ true → is_payload x ≡ true → is_global6 (value_in x).packet.src ≡ true → is_teredo (value_in x).packet.src ≡ false → is_bubble (value_in x).packet ≡ false
+  pub foreign_weight : list_any (is_nat_at dst) (nodes t) ≡ true → is_payload x ≡ true → is_global6 (value_in x).packet.src ≡ true
+      → is_teredo (value_in x).packet.src ≡ false → is_bubble (value_in x).packet ≡ false
       → is_echo_reply (message_in (value_in x).packet) ≡ false → 8 ≤ datagram_weight t src dst x
   unfolding datagram_weight
   foreign_weight there payload global native plain reply = foreign_least (freight t src dst (is_payload x) (value_in x)) (not_indirect plain)
-      (both_true (is_payload x && list_any (is_nat_at dst) (nodes t)) (is_global6 (value_in x).packet.src && (not (is_teredo (value_in x).packet.src) && (not (is_bubble (value_in x).packet) && not (is_echo_reply (message_in (value_in x).packet)))))
+      (both_true (is_payload x && list_any (is_nat_at dst) (nodes t))
+      (is_global6 (value_in x).packet.src && (not (is_teredo (value_in x).packet.src) &&
+      (not (is_bubble (value_in x).packet) && not (is_echo_reply (message_in (value_in x).packet)))))
       (both_true (is_payload x) (list_any (is_nat_at dst) (nodes t)) payload there)
-      (both_true (is_global6 (value_in x).packet.src) (not (is_teredo (value_in x).packet.src) && (not (is_bubble (value_in x).packet) && not (is_echo_reply (message_in (value_in x).packet)))) global
-      (both_true (not (is_teredo (value_in x).packet.src)) (not (is_bubble (value_in x).packet) && not (is_echo_reply (message_in (value_in x).packet))) (not_from_false (is_teredo (value_in x).packet.src) native)
-      (both_true (not (is_bubble (value_in x).packet)) (not (is_echo_reply (message_in (value_in x).packet))) (not_from_false (is_bubble (value_in x).packet) plain) (not_from_false (is_echo_reply (message_in (value_in x).packet)) reply)))))
+      (both_true (is_global6 (value_in x).packet.src) (not (is_teredo (value_in x).packet.src) &&
+      (not (is_bubble (value_in x).packet) && not (is_echo_reply (message_in (value_in x).packet)))) global
+      (both_true (not (is_teredo (value_in x).packet.src)) (not (is_bubble (value_in x).packet) && not (is_echo_reply (message_in (value_in x).packet)))
+      (not_from_false (is_teredo (value_in x).packet.src) native)
+      (both_true (not (is_bubble (value_in x).packet)) (not (is_echo_reply (message_in (value_in x).packet)))
+      (not_from_false (is_bubble (value_in x).packet) plain) (not_from_false (is_echo_reply (message_in (value_in x).packet)) reply)))))
 
   -- an indirect bubble
-  pub indirect_weight : (o : Ep) → list_any (is_nat_at dst) (nodes t) ≡ true → is_payload x ≡ true → is_some_server t src ≡ true → is_bubble (value_in x).packet ≡ true → origin_in (value_in x).lead ≡ Some o
+  pub indirect_weight : (o : Ep) → list_any (is_nat_at dst) (nodes t) ≡ true → is_payload x ≡ true → is_some_server t src ≡ true
+      → is_bubble (value_in x).packet ≡ true → origin_in (value_in x).lead ≡ Some o
       → cond (is_some_server t o) 3 2 ≤ datagram_weight t src dst x
   unfolding datagram_weight
   indirect_weight o there payload served bubble told =
       let least = indirect_least (freight t src dst (is_payload x) (value_in x))
-      (both_true (is_payload x && list_any (is_nat_at dst) (nodes t)) (is_some_server t src && (is_bubble (value_in x).packet && is_some (origin_in (value_in x).lead))) (both_true (is_payload x) (list_any (is_nat_at dst) (nodes t)) payload there)
+      (both_true (is_payload x && list_any (is_nat_at dst) (nodes t))
+      (is_some_server t src && (is_bubble (value_in x).packet && is_some (origin_in (value_in x).lead)))
+      (both_true (is_payload x) (list_any (is_nat_at dst) (nodes t)) payload there)
       (both_true (is_some_server t src) (is_bubble (value_in x).packet && is_some (origin_in (value_in x).lead)) served
       (both_true (is_bubble (value_in x).packet) (is_some (origin_in (value_in x).lead)) bubble (ap (λ (z : Option Ep). is_some z) told)))) in
       subst (λ (z : Option Ep). cond (is_origin_at_server t z) 3 2 ≤ freight_weight (freight t src dst (is_payload x) (value_in x))) told least
@@ -170,8 +197,11 @@ module _ (t : TopologyState) (src dst : Ep) (x : List ℕ) where
 -- PACKETS OF THE IPV6 SIDE
 
 pub packet_under : (p : Fields) (k : ℕ) → 1 ≤ k → (is_echo_request (message_in p) ≡ true → 6 ≤ k) → packet_weight false p ≤ k
-packet_under p k one request = by_lines (λ (w : ℕ). w ≤ k) ((is_echo_request (message_in p) && is_teredo p.src, 6) ∷ (is_echo_request (message_in p) && is_global6 p.src, 2) ∷ []) 1
-    ((λ h. request (and_parts (is_echo_request (message_in p)) (is_teredo p.src) h).0), (λ _. ((λ h. let six = request (and_parts (is_echo_request (message_in p)) (is_global6 p.src) h).0 in omega (arith, six)), (λ _. one))))
+packet_under p k one request = by_lines (λ (w : ℕ). w ≤ k)
+    ((is_echo_request (message_in p) && is_teredo p.src, 6) ∷ (is_echo_request (message_in p) && is_global6 p.src, 2) ∷ []) 1 (
+      (λ h. request (and_parts (is_echo_request (message_in p)) (is_teredo p.src) h).0),
+      (λ _. ((λ h. let six = request (and_parts (is_echo_request (message_in p)) (is_global6 p.src) h).0 in omega (arith, six)), (λ _. one))),
+    )
 
 -- a bubble has no message
 pub bubble_message : (p : Fields) → is_bubble p ≡ true → message_in p ≡ None

@@ -42,14 +42,16 @@ pub record FromLaws : Type 0 where
 -- FROM ONE SERVER TO ANOTHER
 
 -- what comes from the server itself draws nothing
-own_rule : (t : TopologyState) (a : ServerNode) (side : Side) (from : Ep) (x : List ℕ) (v : Value) (r : Rule) → is_own (server_settings a) from.ip ≡ true → RuledOnlyIf r (seen (server_settings a) from v) → output_weight t (server a) x (step_of (server_settings a) side from x v r) ≤ 0
+own_rule : (t : TopologyState) (a : ServerNode) (side : Side) (from : Ep) (x : List ℕ) (v : Value) (r : Rule) → is_own (server_settings a) from.ip ≡ true
+    → RuledOnlyIf r (seen (server_settings a) from v) → output_weight t (server a) x (step_of (server_settings a) side from x v r) ≤ 0
 own_rule t a side from x v (Dropped f) own w = omega arith
 own_rule t a side from x v Advert own w = absurd (false≢true (sym w.sound.foreign ∙ own))
 own_rule t a side from x v ForwardOrigin own w = absurd (false≢true (sym w.on.sound.foreign ∙ own))
 own_rule t a side from x v Forward own w = absurd (false≢true (sym w.on.sound.foreign ∙ own))
 own_rule t a side from x v Six own w = absurd (false≢true (sym w.on.sound.foreign ∙ own))
 
-own_draws : RuleIsWarranted → (t : TopologyState) (a : ServerNode) (side : Side) (from : Ep) (x : List ℕ) → is_own (server_settings a) from.ip ≡ true → output_weight t (server a) x (server_row (server_settings a) side from x) ≤ 0
+own_draws : RuleIsWarranted → (t : TopologyState) (a : ServerNode) (side : Side) (from : Ep) (x : List ℕ) → is_own (server_settings a) from.ip ≡ true
+    → output_weight t (server a) x (server_row (server_settings a) side from x) ≤ 0
 unfolding server_row
 own_draws law t a side from x own = by (payload_at x) where
   by : (r : Result Value PayloadFault) → output_weight t (server a) x (by_payload (server_settings a) side from x r) ≤ 0
@@ -73,19 +75,26 @@ own_is a Secondary = by (same_ip a.secondary a.primary) (same_ip a.secondary a.s
 -- a server's datagram that comes to whichever server
 module _ (laws : FromLaws) (t : TopologyState) (is : IsTopology t) (n : ℕ) (a : ServerNode) (there : node_at t n ≡ Some (server a)) where
   draws_nothing : (s : Send) (m : ℕ) (b : ServerNode) → node_at t m ≡ Some (server b)
-      → ((other : ServerNode) (at : Side) → same_ip a.primary other.primary ≡ false → IsSilent (server_row (server_settings other) at (own_ep (server a) s.side) s.bytes))
+      → ((other : ServerNode) (at : Side) → same_ip a.primary other.primary ≡ false
+      → IsSilent (server_row (server_settings other) at (own_ep (server a) s.side) s.bytes))
       → output_weight t (server b) s.bytes (server_row (server_settings b) (side_at (server b) s.to) (own_ep (server a) s.side) s.bytes) ≤ 0
   draws_nothing s m b at silent = by (same_ip a.primary b.primary) refl where
-    by : (same : Bool) → same_ip a.primary b.primary ≡ same → output_weight t (server b) s.bytes (server_row (server_settings b) (side_at (server b) s.to) (own_ep (server a) s.side) s.bytes) ≤ 0
-    by false e = silent_draws t b s.bytes (server_row (server_settings b) (side_at (server b) s.to) (own_ep (server a) s.side) s.bytes) (silent b (side_at (server b) s.to) e)
+    by : (same : Bool) → same_ip a.primary b.primary ≡ same
+        → output_weight t (server b) s.bytes (server_row (server_settings b) (side_at (server b) s.to) (own_ep (server a) s.side) s.bytes) ≤ 0
+    by false e = silent_draws t b s.bytes (server_row (server_settings b) (side_at (server b) s.to) (own_ep (server a) s.side) s.bytes)
+        (silent b (side_at (server b) s.to) e)
     by true e =
-        let number : n ≡ m = laws.apart t n m (server a) (server b) a.primary is there at (or_left (same_ip a.primary a.primary) (same_ip a.primary a.secondary || false) (same_ip-self a.primary)) (or_left (same_ip a.primary b.primary) (same_ip a.primary b.secondary || false) e) in
+        let number : n ≡ m = laws.apart t n m (server a) (server b) a.primary is there at
+        (or_left (same_ip a.primary a.primary) (same_ip a.primary a.secondary || false) (same_ip-self a.primary))
+        (or_left (same_ip a.primary b.primary) (same_ip a.primary b.secondary || false) e) in
         let one : server a ≡ server b = ap (λ (o : Option Node). unwrap_or o (server a)) (sym there ∙ ap (node_at t) number ∙ at) in
         let same : a ≡ b = ap (λ (z : Node). unwrap_or (as_server z) a) one in
-        own_draws laws.warranted t b (side_at (server b) s.to) (own_ep (server a) s.side) s.bytes (ap (λ (z : ServerNode). is_own (server_settings z) (own_ep (server a) s.side).ip) (sym same) ∙ own_is a s.side)
+        own_draws laws.warranted t b (side_at (server b) s.to) (own_ep (server a) s.side) s.bytes
+        (ap (λ (z : ServerNode). is_own (server_settings z) (own_ep (server a) s.side).ip) (sym same) ∙ own_is a s.side)
 
   -- it weighs what the definition says of a send
-  pub send_weighs : (s : Send) → ((other : ServerNode) (at : Side) → same_ip a.primary other.primary ≡ false → IsSilent (server_row (server_settings other) at (own_ep (server a) s.side) s.bytes))
+  pub send_weighs : (s : Send) → ((other : ServerNode) (at : Side) → same_ip a.primary other.primary ≡ false
+      → IsSilent (server_row (server_settings other) at (own_ep (server a) s.side) s.bytes))
       → entry_weight t (udp (own_ep (server a) s.side) s.to s.bytes) ≤ send_weight t (server a) s
   send_weighs s silent = by (is_some_server t s.to) refl where
     src : Ep
@@ -93,7 +102,8 @@ module _ (laws : FromLaws) (t : TopologyState) (is : IsTopology t) (n : ℕ) (a 
 
     elsewhere : (o : Option Node) → first_at t s.to ≡ o → is_some_server t s.to ≡ false → weight_at t src s.to s.bytes o ≤ datagram_weight t src s.to s.bytes
     elsewhere None e none = omega arith
-    elsewhere (Some (server b)) e none = let h = is_there t s.to (server b) e in absurd (false≢true (sym none ∙ any_there (is_server_at s.to) (nodes t) h.number (server b) h.node h.passes))
+    elsewhere (Some (server b)) e none = let h = is_there t s.to (server b) e in absurd
+        (false≢true (sym none ∙ any_there (is_server_at s.to) (nodes t) h.number (server b) h.node h.passes))
     elsewhere (Some (nat b)) e none = omega arith
     elsewhere (Some (client b)) e none = omega arith
     elsewhere (Some (relay b)) e none = omega arith
@@ -115,8 +125,12 @@ module _ (laws : FromLaws) (t : TopologyState) (is : IsTopology t) (n : ℕ) (a 
       (λ other at own apart mine. laws.ends (server_settings a) (server_settings other) side at from own x primary made bytes mine apart)
     where
       each : (sends : List Send)
-          → ((other : ServerNode) (at : Side) (own : Ep) → same_ip a.primary other.primary ≡ false → is_own (server_settings a) own.ip ≡ true → AllByRecursion (λ (s : Send). IsSilent (server_row (server_settings other) at own s.bytes)) sends)
+          → ((other : ServerNode) (at : Side) (own : Ep) → same_ip a.primary other.primary ≡ false → is_own (server_settings a) own.ip ≡ true
+          → AllByRecursion (λ (s : Send). IsSilent (server_row (server_settings other) at own s.bytes)) sends)
           → AllByRecursion (WeighsFrom (entry_weight t) (send_weight t (server a)) (own_ep (server a))) sends
       each [] silent = tt
-      each (s ∷ ss) silent =
-          (λ _. send_weighs s (λ other at apart. (silent other at (own_ep (server a) s.side) apart (own_is a s.side)).0), each ss (λ other at own apart mine. (silent other at own apart mine).1))
+      each (s ∷ ss) silent = (
+        λ _. send_weighs s (λ other at apart. (silent other at (own_ep (server a) s.side) apart (own_is a s.side)).0),
+        each ss
+            (λ other at own apart mine. (silent other at own apart mine).1),
+      )

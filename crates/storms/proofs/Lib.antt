@@ -15,9 +15,14 @@ mod Natives
 mod Reached
 mod ServersLighten
 mod Relays
-mod RelaysLighten
+mod AtRelay
+mod RelayReceives
+mod RelaySends
 mod RelaysReached
 mod ClientServers
+mod AtClient
+mod ClientReleases
+mod ClientAnswers
 mod ClientsLighten
 mod ClientsReached
 mod Lightens

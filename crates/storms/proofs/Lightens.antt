@@ -15,7 +15,8 @@ use Rattle.legal.specs.Lab.{Lab}
 use Rattle.legal.specs.Past.{now, is_restart, journal}
 use Rattle.legal.specs.Emit.{entry_of, sendings}
 use Rattle.legal.specs.Next.{dst_of, input_of}
-use Rattle.legal.specs.Kinds.{Kind, quiet, put, copied, ticks, handed, reached, Quiet, passed, shut, strayed, missing, none_left, settled, uncopied, hosted, restarted, forgot, faulted}
+use Rattle.legal.specs.Kinds.{Kind, quiet, put, copied, ticks, handed, reached, Quiet, passed, shut, strayed, missing, none_left, settled, uncopied, hosted}
+use Rattle.legal.specs.Kinds.{restarted, forgot, faulted}
 use Rattle.legal.specs.Legal.{Grown}
 use Rattle.legal.specs.Frame.{EachFrames}
 use Rattle.legal.specs.Actors.{IsGiven, delivered, hosted as was_hosted, ticks as ticked_at, IsActOf, Acted, idles, does, EachActs}
@@ -34,9 +35,9 @@ use Rattle.storms.proofs.FromServers.{FromLaws}
 use Rattle.storms.proofs.Natives.{ReplyLaws}
 use Rattle.storms.proofs.Reached.{IsReached, NodeLightens, at_place, behind_all}
 use Rattle.storms.proofs.ServersLighten.{server_lightens, nat_lightens, native_lightens}
-use Rattle.storms.proofs.RelaysLighten.{RelayLaws}
+use Rattle.storms.proofs.AtRelay.{RelayLaws}
 use Rattle.storms.proofs.RelaysReached.{relay_lightens}
-use Rattle.storms.proofs.ClientsLighten.{ClientLaws}
+use Rattle.storms.proofs.AtClient.{ClientLaws}
 use Rattle.storms.proofs.ClientsReached.{client_lightens}
 
 pub record StormLaws : Type 0 where
@@ -66,13 +67,16 @@ node_lightens laws lab H r n (client a) x h = client_lightens laws.clients lab H
 
 module _ (laws : StormLaws) (lab : Lab) (H : List Full) (r : Full) (is : IsTopology lab.topology) (g : Grown lab (r ∷ H)) (new : DeliversNew H r) where
   -- what is made and waits weighs less than what was delivered and waited
-  fell : (x : Item) → slice_get (wire H) new.number ≡ Some x → sum_by (entry_weight lab.topology) (items_of r) + sum (waits lab.topology (r ∷ H)) < entry_weight lab.topology x + sum (waits lab.topology H) → burden lab.topology (r ∷ H) < burden lab.topology H
+  fell : (x : Item) → slice_get (wire H) new.number ≡ Some x
+      → sum_by (entry_weight lab.topology) (items_of r) + sum (waits lab.topology (r ∷ H)) < entry_weight lab.topology x + sum (waits lab.topology H)
+      → burden lab.topology (r ∷ H) < burden lab.topology H
   fell x at less =
       let swap = laws.exchanges lab H r new.number x g new.delivered new.new at (entry_weight lab.topology) in
       omega (arith, swap, less)
 
   -- a node was reached
-  by_node : (n : ℕ) (a : Node) (x : Item) → slice_get (wire H) new.number ≡ Some x → IsReached lab H r n a x → burden lab.topology (r ∷ H) < burden lab.topology H
+  by_node : (n : ℕ) (a : Node) (x : Item) → slice_get (wire H) new.number ≡ Some x → IsReached lab H r n a x
+      → burden lab.topology (r ∷ H) < burden lab.topology H
   by_node n a x at h =
       let less = node_lightens laws lab H r n a x h in
       let items : ℕ = sum_by (entry_weight lab.topology) (items_of r) in
@@ -81,11 +85,13 @@ module _ (laws : StormLaws) (lab : Lab) (H : List Full) (r : Full) (is : IsTopol
 
   of_act : (n : ℕ) (a : Node) (e : Entry) → IsActOf lab H r n a e → burden lab.topology (r ∷ H) < burden lab.topology H
   of_act n a e act = by act.dst act.input act.is_given act.step where
-    by : (dst : Ep) (input : Input) → IsGiven lab H r n a dst input → e ≡ entry_of lab H r.moment n dst input a → burden lab.topology (r ∷ H) < burden lab.topology H
+    by : (dst : Ep) (input : Input) → IsGiven lab H r n a dst input → e ≡ entry_of lab H r.moment n dst input a
+        → burden lab.topology (r ∷ H) < burden lab.topology H
     by dst input (delivered number x told at goes moment where_to came) step =
         let same : number ≡ new.number = ap (λ (o : Option ℕ). unwrap_or o number) (sym told ∙ new.delivered) in
         let here : slice_get (wire H) new.number ≡ Some x = ap (slice_get (wire H)) (sym same) ∙ at in
-        let did : e ≡ entry_of lab H r.moment n (dst_of x) (input_of x) a = step ∙ ap (λ (d : Ep). entry_of lab H r.moment n d input a) where_to ∙ ap (λ (i : Input). entry_of lab H r.moment n (dst_of x) i a) came in
+        let did : e ≡ entry_of lab H r.moment n (dst_of x) (input_of x) a = step ∙ ap (λ (d : Ep). entry_of lab H r.moment n d input a) where_to
+        ∙ ap (λ (i : Input). entry_of lab H r.moment n (dst_of x) i a) came in
         let made = laws.histories lab (r ∷ H) is g in
         by_node n a x here (record {
           is = is;
@@ -104,7 +110,8 @@ module _ (laws : StormLaws) (lab : Lab) (H : List Full) (r : Full) (is : IsTopol
     by dst input (ticked_at x due same none moment where_to came) step = absurd (false≢true (ap (λ (o : Option ℕ). is_some o) (sym none ∙ new.delivered)))
 
   -- nobody was
-  missed : (number : ℕ) (x : Item) (a : Act) → slice_get (wire H) number ≡ Some x → r.delivered ≡ Some number → r.entry ≡ None → r.made ≡ [] → r.moment ≡ now H → r.act ≡ a → is_restart a ≡ false → burden lab.topology (r ∷ H) < burden lab.topology H
+  missed : (number : ℕ) (x : Item) (a : Act) → slice_get (wire H) number ≡ Some x → r.delivered ≡ Some number → r.entry ≡ None → r.made ≡ []
+      → r.moment ≡ now H → r.act ≡ a → is_restart a ≡ false → burden lab.topology (r ∷ H) < burden lab.topology H
   missed number x a at told entry made moment acts lasts =
       let same : number ≡ new.number = ap (λ (o : Option ℕ). unwrap_or o number) (sym told ∙ new.delivered) in
       let waited = none_changes lab.topology H r entry (ap is_restart acts ∙ lasts) moment in
@@ -116,8 +123,10 @@ module _ (laws : StormLaws) (lab : Lab) (H : List Full) (r : Full) (is : IsTopol
   nothing none = absurd (false≢true (ap (λ (o : Option ℕ). is_some o) (sym none ∙ new.delivered)))
 
   of_quiet : r.entry ≡ None → r.made ≡ [] → Quiet lab H r → burden lab.topology (r ∷ H) < burden lab.topology H
-  of_quiet entry made (shut number n x delivers at closed e) = missed number x (act.Deliver number) at (ap (λ (z : Full). z.delivered) e) entry made (ap (λ (z : Full). z.moment) e) (ap (λ (z : Full). z.act) e) refl
-  of_quiet entry made (strayed number x delivers at lost e) = missed number x (act.Deliver number) at (ap (λ (z : Full). z.delivered) e) entry made (ap (λ (z : Full). z.moment) e) (ap (λ (z : Full). z.act) e) refl
+  of_quiet entry made (shut number n x delivers at closed e) = missed number x (act.Deliver number) at (ap (λ (z : Full). z.delivered) e) entry made
+      (ap (λ (z : Full). z.moment) e) (ap (λ (z : Full). z.act) e) refl
+  of_quiet entry made (strayed number x delivers at lost e) = missed number x (act.Deliver number) at (ap (λ (z : Full). z.delivered) e) entry made
+      (ap (λ (z : Full). z.moment) e) (ap (λ (z : Full). z.act) e) refl
   of_quiet entry made (passed ms asked before e) = nothing (ap (λ (z : Full). z.delivered) e)
   of_quiet entry made (missing number delivers at e) = nothing (ap (λ (z : Full). z.delivered) e)
   of_quiet entry made (none_left asked none e) = nothing (ap (λ (z : Full). z.delivered) e)
@@ -135,7 +144,8 @@ module _ (laws : StormLaws) (lab : Lab) (H : List Full) (r : Full) (is : IsTopol
   of_idle idle (copied number src dst x asked at e) = nothing (ap (λ (z : Full). z.delivered) e)
   of_idle idle (ticks ms x asked due within e) = nothing (ap (λ (z : Full). z.delivered) e)
   of_idle idle (handed v n x a hands at e) = nothing (ap (λ (z : Full). z.delivered) e)
-  of_idle idle (reached number n x a delivers at goes to e) = absurd (false≢true (ap (λ (o : Option Entry). is_some o) (sym idle ∙ ap (λ (z : Full). z.entry) e)))
+  of_idle idle (reached number n x a delivers at goes to e) = absurd
+      (false≢true (ap (λ (o : Option Entry). is_some o) (sym idle ∙ ap (λ (z : Full). z.entry) e)))
 
   of_acted : Acted lab H r → burden lab.topology (r ∷ H) < burden lab.topology H
   of_acted (idles entry address hands late lets) = of_idle entry (laws.kinds lab H r g.0)

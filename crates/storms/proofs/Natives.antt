@@ -1,5 +1,6 @@
 -- A native host's reply weighs less than the request.
-use Rattle.std.proofs.Common.{◌≡◌, ◌≤◌, ◌<◌, ℕ, ◌+◌, ◌&&◌, ◌==◌, Bool, true, false, cond, List, [], ◌∷◌, length, Option, Some, None, Result, Ok, Err, refl, sym, ap, ◌∙◌, arith}
+use Rattle.std.proofs.Common.{◌≡◌, ◌≤◌, ◌<◌, ℕ, ◌+◌, ◌&&◌, ◌==◌, Bool, true, false, cond, List, [], ◌∷◌, length, Option, Some, None, Result, Ok, Err, refl, sym}
+use Rattle.std.proofs.Common.{ap, ◌∙◌, arith}
 use Rattle.std.specs.Prelude.{is_some, unwrap_or, nat_lt, not, ◌^◌, ◌/◌, ◌-◌}
 use Rattle.std.proofs.lemmas.Bool.{false≢true}
 use Rattle.td_base.specs.Bytes.{IsBytes, number_at}
@@ -59,7 +60,8 @@ has_message x m e = by (packet_at x) e where
   by (Ok p) g = refl
   by (Err f) g = absurd (false≢true (ap (λ (o : Option Message). is_some o) (sym no_message ∙ g)))
 
-guarded : (P : Fields → Type 0) (a b c : Bool) (e f g : PacketFault) (v : Fields) → P v → is_ok_packet (cond a (Err e) (cond b (Err f) (cond c (Err g) (Ok v)))) ≡ true
+guarded : (P : Fields → Type 0) (a b c : Bool) (e f g : PacketFault) (v : Fields) → P v
+    → is_ok_packet (cond a (Err e) (cond b (Err f) (cond c (Err g) (Ok v)))) ≡ true
     → P (fields_or (cond a (Err e) (cond b (Err f) (cond c (Err g) (Ok v)))))
 guarded P true b c e f g v p h = absurd (false≢true h)
 guarded P false true c e f g v p h = absurd (false≢true h)
@@ -68,7 +70,8 @@ guarded P false false false e f g v p h = p
 
 body_is_bytes : (x : List ℕ) → IsBytes x → is_packet x ≡ true → IsBytes (fields_in x).body
 unfolding is_packet fields_in packet_at fields_of
-body_is_bytes x bytes h = guarded (λ (p : Fields). IsBytes p.body) (nat_lt (length x) HEADER) (not (number_at 0 4 x / 2 ^ 28 == VERSION)) (not (number_at 4 2 x == length x - HEADER))
+body_is_bytes x bytes h = guarded (λ (p : Fields). IsBytes p.body) (nat_lt (length x) HEADER) (not (number_at 0 4 x / 2 ^ 28 == VERSION))
+    (not (number_at 4 2 x == length x - HEADER))
     (Short (length x)) (Version (number_at 0 4 x / 2 ^ 28)) (Length (number_at 4 2 x) (length x - HEADER)) (fields_of x) (IsBytes-drop HEADER x bytes) h
 
 -- THE REPLY
@@ -84,10 +87,20 @@ reads_back laws x y bytes short r =
     let one = has_message x (echo_request r.id r.seq r.body) r.request in
     let spelled = laws.spelled x bytes one in
     let len : length x ≡ HEADER + length (fields_in x).body = ap length spelled.1 ∙ (laws.packet (fields_in x) spelled.0).long in
-    let found : MessageBytes p.src p.dst p.hop (echo_request r.id r.seq r.body) p.body = read_found p.src p.dst p.hop (echo_request r.id r.seq r.body) p.body (body_is_bytes x bytes one) (accepted_as p (echo_request r.id r.seq r.body) r.request) in
+    let found : MessageBytes p.src p.dst p.hop (echo_request r.id r.seq r.body) p.body = read_found p.src p.dst p.hop
+    (echo_request r.id r.seq r.body) p.body (body_is_bytes x bytes one) (accepted_as p (echo_request r.id r.seq r.body) r.request) in
     let inner = ap (λ (z : List ℕ). length z) found.bytes in
-    let c = laws.carried HOST_HOP p.dst p.src (echo_reply r.id r.seq r.body) (record { hop_fits = omega arith; src_fits = spelled.0.dst; dst_fits = spelled.0.src; fits = found.fits; valid = tt; short = omega (arith, len, short, inner) }) in
-    let fields : fields_in y ≡ message_packet HOST_HOP p.dst p.src (echo_reply r.id r.seq r.body) = ap fields_in r.reply ∙ (laws.back (message_packet HOST_HOP p.dst p.src (echo_reply r.id r.seq r.body)) c.packet).fields in
+    let c = laws.carried HOST_HOP p.dst p.src (echo_reply r.id r.seq r.body)
+    (record {
+      hop_fits = omega arith;
+      src_fits = spelled.0.dst;
+      dst_fits = spelled.0.src;
+      fits = found.fits;
+      valid = tt;
+      short = omega (arith, len, short, inner);
+    }) in
+    let fields : fields_in y ≡ message_packet HOST_HOP p.dst p.src (echo_reply r.id r.seq r.body) = ap fields_in r.reply
+    ∙ (laws.back (message_packet HOST_HOP p.dst p.src (echo_reply r.id r.seq r.body)) c.packet).fields in
     let message = ap message_in fields ∙ c.message in
     record {
       to = ap (λ (z : Fields). z.dst) fields;
@@ -98,7 +111,8 @@ reads_back laws x y bytes short r =
 -- WEIGHTS
 
 abbrev lines : Bool → Option Message → Bool → Bool → ℕ
-lines to_relay m teredo global = first_line ((to_relay && is_echo_reply m, 5) ∷ (to_relay, 12) ∷ (is_echo_request m && teredo, 6) ∷ (is_echo_request m && global, 2) ∷ []) 1
+lines to_relay m teredo global = first_line ((to_relay && is_echo_reply m, 5) ∷ (to_relay, 12) ∷ (is_echo_request m && teredo, 6) ∷
+    (is_echo_request m && global, 2) ∷ []) 1
 
 for_relay : (m : Option Message) (teredo global : Bool) → is_echo_reply m ≡ true → lines true m teredo global ≤ 5
 for_relay m teredo global h = by (is_echo_reply m) h where
@@ -116,17 +130,21 @@ request_more id seq body true false = omega arith
 request_more id seq body false true = omega arith
 request_more id seq body false false = omega arith
 
-pub reply_weighs_less : ReplyLaws → (t : TopologyState) (h : NativeNode) (to_relay : Bool) (x y : List ℕ) → IsBytes x → length x ≤ DATAGRAM_MAX → IsReply x y → entry_weight t (six (relay_for h y) y) < packet_weight to_relay (fields_in x)
+pub reply_weighs_less : ReplyLaws → (t : TopologyState) (h : NativeNode) (to_relay : Bool) (x y : List ℕ) → IsBytes x → length x ≤ DATAGRAM_MAX
+    → IsReply x y → entry_weight t (six (relay_for h y) y) < packet_weight to_relay (fields_in x)
 reply_weighs_less laws t h to_relay x y bytes short r =
     let back = reads_back laws x y bytes short r in
     let p : Fields = fields_in x in
     let old : packet_weight to_relay p ≡ lines to_relay (Some (echo_request r.id r.seq r.body)) (is_teredo p.src) true =
-    ap (λ (m : Option Message). lines to_relay m (is_teredo p.src) (is_global6 p.src)) r.request ∙ ap (λ (b : Bool). lines to_relay (Some (echo_request r.id r.seq r.body)) (is_teredo p.src) b) r.global in
+    ap (λ (m : Option Message). lines to_relay m (is_teredo p.src) (is_global6 p.src)) r.request
+    ∙ ap (λ (b : Bool). lines to_relay (Some (echo_request r.id r.seq r.body)) (is_teredo p.src) b) r.global in
     let more = request_more r.id r.seq r.body to_relay (is_teredo p.src) in
     let less = by back (is_teredo (fields_in y).dst) in
     let same = ap (λ (ip : Ip6). due (is_teredo ip)) back.to in
     omega (arith, old, more, less, same)
   where
     by : IsReplyBack x y → (b : Bool) → entry_weight t (six (cond b (Some h.relay) None) y) < due b
-    by back true = let less = for_relay (message_in (fields_in y)) (is_teredo (fields_in y).src) (is_global6 (fields_in y).src) back.reply in omega (arith, less)
-    by back false = let less = packet_under (fields_in y) 1 (omega arith) (λ request. absurd (false≢true (sym back.no_request ∙ request))) in omega (arith, less)
+    by back true = let less = for_relay (message_in (fields_in y)) (is_teredo (fields_in y).src) (is_global6 (fields_in y).src) back.reply in omega
+        (arith, less)
+    by back false = let less = packet_under (fields_in y) 1 (omega arith) (λ request. absurd (false≢true (sym back.no_request ∙ request))) in omega
+        (arith, less)

@@ -20,7 +20,8 @@ abbrev pub MayWeigh : (Item → ℕ) → (Send → ℕ) → Send → Type 0
 MayWeigh w k s = (src : Ep) → IsMadeItem (udp src s.to s.bytes) → w (udp src s.to s.bytes) ≤ k s
 
 -- one by one
-pub sends_weigh : (w : Item → ℕ) (k : Send → ℕ) (made : List Made) (sends : List Send) → AreOfSends made sends → AllByRecursion IsMadeItem (items_in made) → AllByRecursion (MayWeigh w k) sends → sum_by w (items_in made) ≤ sum_by k sends
+pub sends_weigh : (w : Item → ℕ) (k : Send → ℕ) (made : List Made) (sends : List Send) → AreOfSends made sends → AllByRecursion IsMadeItem (items_in made)
+    → AllByRecursion (MayWeigh w k) sends → sum_by w (items_in made) ≤ sum_by k sends
 sends_weigh w k [] [] are made each = omega arith
 sends_weigh w k [] (s ∷ ss) are made each = absurd are
 sends_weigh w k (m ∷ ms) [] are made each = absurd are
@@ -42,12 +43,14 @@ sends_weigh w k (lost why dst bytes ∷ ms) (s ∷ ss) are made each =
 abbrev pub WeighsFrom : (Item → ℕ) → (Send → ℕ) → (Side → Ep) → Send → Type 0
 WeighsFrom w k own s = IsMadeItem (udp (own s.side) s.to s.bytes) → w (udp (own s.side) s.to s.bytes) ≤ k s
 
-pub own_weigh : (w : Item → ℕ) (k : Send → ℕ) (own : Side → Ep) (fails : Option ℕ) (i : ℕ) (sends : List Send) (more : List Made) → AllByRecursion IsMadeItem (items_in (outright own fails i sends ++ more)) → AllByRecursion (WeighsFrom w k own) sends
+pub own_weigh : (w : Item → ℕ) (k : Send → ℕ) (own : Side → Ep) (fails : Option ℕ) (i : ℕ) (sends : List Send) (more : List Made)
+    → AllByRecursion IsMadeItem (items_in (outright own fails i sends ++ more)) → AllByRecursion (WeighsFrom w k own) sends
     → sum_by w (items_in (outright own fails i sends ++ more)) ≤ sum_by k sends + sum_by w (items_in more)
 own_weigh w k own fails i [] more made each = omega arith
 own_weigh w k own fails i (s ∷ ss) more made each = by (is_at_place i fails) made (own_weigh w k own fails (i + 1) ss more) (sum_by-cons k s ss) where
   by : (b : Bool) → AllByRecursion IsMadeItem (items_in (made_outright b own s ∷ (outright own fails (i + 1) ss ++ more)))
-      → (AllByRecursion IsMadeItem (items_in (outright own fails (i + 1) ss ++ more)) → AllByRecursion (WeighsFrom w k own) ss → sum_by w (items_in (outright own fails (i + 1) ss ++ more)) ≤ sum_by k ss + sum_by w (items_in more))
+      → (AllByRecursion IsMadeItem (items_in (outright own fails (i + 1) ss ++ more)) → AllByRecursion (WeighsFrom w k own) ss
+      → sum_by w (items_in (outright own fails (i + 1) ss ++ more)) ≤ sum_by k ss + sum_by w (items_in more))
       → sum_by k (s ∷ ss) ≡ k s + sum_by k ss
       → sum_by w (items_in (made_outright b own s ∷ (outright own fails (i + 1) ss ++ more))) ≤ sum_by k (s ∷ ss) + sum_by w (items_in more)
   by true all ih old = let rest = ih all each.1 in omega (arith, rest, old)

@@ -1,5 +1,6 @@
 -- What waits in all nodes, where one of them did something.
-use Rattle.std.proofs.Common.{◌≡◌, ◌≢◌, ◌≤◌, ℕ, zero, suc, ◌+◌, Bool, true, false, cond, List, [], ◌∷◌, ◌++◌, Option, Some, None, refl, sym, ap, subst, ◌∙◌, arith}
+use Rattle.std.proofs.Common.{◌≡◌, ◌≢◌, ◌≤◌, ℕ, zero, suc, ◌+◌, Bool, true, false, cond, List, [], ◌∷◌, ◌++◌, Option, Some, None, refl, sym, ap, subst, ◌∙◌}
+use Rattle.std.proofs.Common.{arith}
 use Rattle.std.specs.Prelude.{sum, slice_get, unwrap_or, is_some, map}
 use Rattle.std.proofs.lemmas.Bool.{false≢true}
 use Rattle.std.proofs.lemmas.List.Sums.{sum_by-append}
@@ -35,7 +36,8 @@ same_at G H k (native h) j m = refl
 joined : (xs ys : List ℕ) → sum (xs ++ ys) ≡ sum xs + sum ys
 joined xs ys = sum_by-append (λ (n : ℕ). n) xs ys
 
-all_same : (G H : List Full) (i : ℕ) (xs : List Node) → ((k : ℕ) (b : Node) → i ≤ k → waits_at G k b ≡ waits_at H k b) → sum (waits_from G i xs) ≡ sum (waits_from H i xs)
+all_same : (G H : List Full) (i : ℕ) (xs : List Node) → ((k : ℕ) (b : Node) → i ≤ k → waits_at G k b ≡ waits_at H k b)
+    → sum (waits_from G i xs) ≡ sum (waits_from H i xs)
 all_same G H i [] same = refl
 all_same G H i (b ∷ xs) same =
     let first = ap sum (same i b (omega arith)) in
@@ -45,13 +47,15 @@ all_same G H i (b ∷ xs) same =
     omega (arith, first, rest, new, old)
 
 -- node k alone changes
-one_changes : (G H : List Full) (i n k : ℕ) (a : Node) (xs : List Node) (x y : ℕ) → slice_get xs n ≡ Some a → k ≡ i + n → ((l : ℕ) (b : Node) → l ≢ k → waits_at G l b ≡ waits_at H l b)
+one_changes : (G H : List Full) (i n k : ℕ) (a : Node) (xs : List Node) (x y : ℕ) → slice_get xs n ≡ Some a → k ≡ i + n
+    → ((l : ℕ) (b : Node) → l ≢ k → waits_at G l b ≡ waits_at H l b)
     → sum (waits_at G k a) + x ≤ sum (waits_at H k a) + y → sum (waits_from G i xs) + x ≤ sum (waits_from H i xs) + y
 one_changes G H i n k a [] x y at e same less = absurd (false≢true (ap (λ (o : Option Node). is_some o) at))
 one_changes G H i zero k a (b ∷ xs) x y at e same less =
     let is : b ≡ a = ap (λ (o : Option Node). unwrap_or o b) at in
     let here : i ≡ k = omega (arith, e) in
-    let there = subst (λ (j : ℕ). sum (waits_at G j b) + x ≤ sum (waits_at H j b) + y) (sym here) (subst (λ (z : Node). sum (waits_at G k z) + x ≤ sum (waits_at H k z) + y) (sym is) less) in
+    let there = subst (λ (j : ℕ). sum (waits_at G j b) + x ≤ sum (waits_at H j b) + y) (sym here)
+    (subst (λ (z : Node). sum (waits_at G k z) + x ≤ sum (waits_at H k z) + y) (sym is) less) in
     let rest = all_same G H (i + 1) xs (λ l c le. same l c (λ (eq : l ≡ k). omega (arith, le, eq, here))) in
     let new = joined (waits_at G i b) (waits_from G (i + 1) xs) in
     let old = joined (waits_at H i b) (waits_from H (i + 1) xs) in
@@ -69,7 +73,8 @@ other_node : (o : Option ℕ) (n k : ℕ) → o ≡ Some n → k ≢ n → o ≢
 other_node o n k is apart e = apart (sym (ap (λ (z : Option ℕ). unwrap_or z n) (sym is ∙ e)))
 
 -- the record is of node n: what waits in the others doesn't change
-pub node_changes : EachFrames → (lab : Lab) (H : List Full) (r : Full) (n : ℕ) (a : Node) (x y : ℕ) → node_at lab.topology n ≡ Some a → r.node ≡ Some n → r.moment ≡ now H
+pub node_changes : EachFrames → (lab : Lab) (H : List Full) (r : Full) (n : ℕ) (a : Node) (x y : ℕ) → node_at lab.topology n ≡ Some a → r.node ≡ Some n
+    → r.moment ≡ now H
     → sum (waits_at (r ∷ H) n a) + x ≤ sum (waits_at H n a) + y → sum (waits lab.topology (r ∷ H)) + x ≤ sum (waits lab.topology H) + y
 node_changes frame lab H r n a x y there node moment less =
     one_changes (r ∷ H) H 0 n n a (nodes lab.topology) x y there (omega arith)
@@ -80,7 +85,9 @@ still : (r : Full) (n : ℕ) (H : List Full) → r.entry ≡ None → is_restart
 still r n H entry lasting = by (is_node n r.node) where
   by : (b : Bool) → cond b (cond (is_restart r.act) (new_journal r.moment) (with_entries (journal n H) r.entry)) (journal n H) ≡ journal n H
   by false = refl
-  by true = ap (λ (c : Bool). cond c (new_journal r.moment) (with_entries (journal n H) r.entry)) lasting ∙ ap (λ (o : Option Entry). with_entries (journal n H) o) entry
+  by true = ap (λ (c : Bool). cond c (new_journal r.moment) (with_entries (journal n H) r.entry)) lasting
+      ∙ ap (λ (o : Option Entry). with_entries (journal n H) o) entry
 
-pub none_changes : (t : TopologyState) (H : List Full) (r : Full) → r.entry ≡ None → is_restart r.act ≡ false → r.moment ≡ now H → sum (waits t (r ∷ H)) ≡ sum (waits t H)
+pub none_changes : (t : TopologyState) (H : List Full) (r : Full) → r.entry ≡ None → is_restart r.act ≡ false → r.moment ≡ now H
+    → sum (waits t (r ∷ H)) ≡ sum (waits t H)
 none_changes t H r entry lasting moment = all_same (r ∷ H) H 0 (nodes t) (λ k b l. same_at (r ∷ H) H k b (still r k H entry lasting) moment)

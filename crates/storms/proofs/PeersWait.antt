@@ -1,5 +1,6 @@
 -- What waits after one further entry, at its moment: less by what it releases, more by what it queues.
-use Rattle.std.proofs.Common.{◌≡◌, ◌⊎◌, inl, inr, ◌≤◌, ℕ, ◌+◌, ◌||◌, not, Bool, true, false, cond, List, [], ◌∷◌, ◌++◌, filter, Option, Some, None, refl, sym, ap, ◌∙◌, arith}
+use Rattle.std.proofs.Common.{◌≡◌, ◌⊎◌, inl, inr, ◌≤◌, ℕ, ◌+◌, ◌||◌, not, Bool, true, false, cond, List, [], ◌∷◌, ◌++◌, filter, Option, Some, None, refl, sym}
+use Rattle.std.proofs.Common.{ap, ◌∙◌, arith}
 use Rattle.std.specs.Prelude.{sum_by, flat_map, option_map, option_to_list, unwrap_or}
 use Rattle.std.specs.List.{list_any}
 use Rattle.std.proofs.lemmas.Bool.{false≢true}
@@ -37,7 +38,8 @@ all_under f g (p ∷ ps) h =
 under : (f g : Ip6 → ℕ) (test : Ip6 → Bool) (ps : List Ip6) → ((p : Ip6) → test p ≡ true → f p ≤ g p) → sum_by f (filter test ps) ≤ sum_by g (filter test ps)
 under f g test [] h = omega arith
 under f g test (p ∷ ps) h = by (test p) refl (under f g test ps h) where
-  by : (b : Bool) → test p ≡ b → sum_by f (filter test ps) ≤ sum_by g (filter test ps) → sum_by f (cond b (p ∷ filter test ps) (filter test ps)) ≤ sum_by g (cond b (p ∷ filter test ps) (filter test ps))
+  by : (b : Bool) → test p ≡ b → sum_by f (filter test ps) ≤ sum_by g (filter test ps)
+      → sum_by f (cond b (p ∷ filter test ps) (filter test ps)) ≤ sum_by g (cond b (p ∷ filter test ps) (filter test ps))
   by true e rest =
       let one = h p e in
       let a = sum_by-cons f p (filter test ps) in
@@ -48,7 +50,8 @@ under f g test (p ∷ ps) h = by (test p) refl (under f g test ps h) where
 fewer : (f : Ip6 → ℕ) (test : Ip6 → Bool) (ps : List Ip6) → sum_by f (filter test ps) ≤ sum_by f ps
 fewer f test [] = omega arith
 fewer f test (p ∷ ps) = by (test p) (fewer f test ps) (sum_by-cons f p ps) where
-  by : (b : Bool) → sum_by f (filter test ps) ≤ sum_by f ps → sum_by f (p ∷ ps) ≡ f p + sum_by f ps → sum_by f (cond b (p ∷ filter test ps) (filter test ps)) ≤ sum_by f (p ∷ ps)
+  by : (b : Bool) → sum_by f (filter test ps) ≤ sum_by f ps → sum_by f (p ∷ ps) ≡ f p + sum_by f ps
+      → sum_by f (cond b (p ∷ filter test ps) (filter test ps)) ≤ sum_by f (p ∷ ps)
   by true rest whole = let a = sum_by-cons f p (filter test ps) in omega (arith, rest, whole, a)
   by false rest whole = omega (arith, rest, whole)
 
@@ -56,7 +59,8 @@ fewer f test (p ∷ ps) = by (test p) (fewer f test ps) (sum_by-cons f p ps) whe
 kept : (f : Ip6 → ℕ) (test : Ip6 → Bool) (ps : List Ip6) → ((p : Ip6) → test p ≡ false → f p ≡ 0) → sum_by f (filter test ps) ≡ sum_by f ps
 kept f test [] h = refl
 kept f test (p ∷ ps) h = by (test p) refl (kept f test ps h) (sum_by-cons f p ps) where
-  by : (b : Bool) → test p ≡ b → sum_by f (filter test ps) ≡ sum_by f ps → sum_by f (p ∷ ps) ≡ f p + sum_by f ps → sum_by f (cond b (p ∷ filter test ps) (filter test ps)) ≡ sum_by f (p ∷ ps)
+  by : (b : Bool) → test p ≡ b → sum_by f (filter test ps) ≡ sum_by f ps → sum_by f (p ∷ ps) ≡ f p + sum_by f ps
+      → sum_by f (cond b (p ∷ filter test ps) (filter test ps)) ≡ sum_by f (p ∷ ps)
   by true e rest whole = let a = sum_by-cons f p (filter test ps) in omega (arith, rest, whole, a)
   by false e rest whole = let none = h p e in omega (arith, rest, whole, none)
 
@@ -64,7 +68,8 @@ kept f test (p ∷ ps) h = by (test p) refl (kept f test ps h) (sum_by-cons f p 
 one_out : (f : Ip6 → ℕ) (q : Ip6) (ps : List Ip6) → list_any (same_ip6 q) ps ≡ true → f q + sum_by f (filter (apart_from q) ps) ≤ sum_by f ps
 one_out f q [] h = absurd (false≢true h)
 one_out f q (p ∷ ps) h = by (same_ip6 q p) refl h (one_out f q ps) (sum_by-cons f p ps) where
-  by : (b : Bool) → same_ip6 q p ≡ b → (b || list_any (same_ip6 q) ps) ≡ true → (list_any (same_ip6 q) ps ≡ true → f q + sum_by f (filter (apart_from q) ps) ≤ sum_by f ps)
+  by : (b : Bool) → same_ip6 q p ≡ b → (b || list_any (same_ip6 q) ps) ≡ true
+      → (list_any (same_ip6 q) ps ≡ true → f q + sum_by f (filter (apart_from q) ps) ≤ sum_by f ps)
       → sum_by f (p ∷ ps) ≡ f p + sum_by f ps → f q + sum_by f (cond (not b) (p ∷ filter (apart_from q) ps) (filter (apart_from q) ps)) ≤ sum_by f (p ∷ ps)
   by true e there ih whole =
       let same : f q ≡ f p = ap f (same_ip6-true q p e) in
@@ -78,7 +83,8 @@ one_out f q (p ∷ ps) h = by (same_ip6 q p) refl h (one_out f q ps) (sum_by-con
 any_kept : (t test : Ip6 → Bool) (ps : List Ip6) → list_any t (filter test ps) ≡ true → list_any t ps ≡ true
 any_kept t test [] h = h
 any_kept t test (p ∷ ps) h = by (test p) (t p) refl (any_kept t test ps) h where
-  by : (b c : Bool) → t p ≡ c → (list_any t (filter test ps) ≡ true → list_any t ps ≡ true) → list_any t (cond b (p ∷ filter test ps) (filter test ps)) ≡ true → (c || list_any t ps) ≡ true
+  by : (b c : Bool) → t p ≡ c → (list_any t (filter test ps) ≡ true → list_any t ps ≡ true)
+      → list_any t (cond b (p ∷ filter test ps) (filter test ps)) ≡ true → (c || list_any t ps) ≡ true
   by b true e ih g = refl
   by true false e ih g = ih (ap (λ (x : Bool). x || list_any t (filter test ps)) (sym e) ∙ g)
   by false false e ih g = ih g
@@ -104,7 +110,8 @@ module _ (w : List ℕ → ℕ) where
 
   flat_each : (g : Ip6 → List (List ℕ)) (ps : List Ip6) → sum_by w (flat_map g ps) ≡ sum_by (λ (p : Ip6). sum_by w (g p)) ps
   flat_each g [] = refl
-  flat_each g (p ∷ ps) = sum_by-append w (g p) (flat_map g ps) ∙ ap (λ (n : ℕ). sum_by w (g p) + n) (flat_each g ps) ∙ sym (sum_by-cons (λ (q : Ip6). sum_by w (g q)) p ps)
+  flat_each g (p ∷ ps) = sum_by-append w (g p) (flat_map g ps) ∙ ap (λ (n : ℕ). sum_by w (g p) + n) (flat_each g ps)
+      ∙ sym (sum_by-cons (λ (q : Ip6). sum_by w (g q)) p ps)
 
   for_none : PeerLaws → (j : List Mention) (m : ℕ) (p : Ip6) → is_listed p m j ≡ false → waits_for j m p ≡ 0
   for_none laws j m p h = ap (λ (x : Peer). sum_by w x.waiting) (laws.unlisted j m p h)
@@ -112,7 +119,8 @@ module _ (w : List ℕ → ℕ) where
   -- those that aren't listed don't count
   pub waiting_is : PeerLaws → (j : List Mention) (m : ℕ) → sum_by w (waiting_packets j m) ≡ waits_in j m
   unfolding listed
-  waiting_is laws j m = flat_each (λ (p : Ip6). (known j m p).waiting) (filter (λ (p : Ip6). is_listed p m j) (touched j)) ∙ kept (waits_for j m) (λ (p : Ip6). is_listed p m j) (touched j) (for_none laws j m)
+  waiting_is laws j m = flat_each (λ (p : Ip6). (known j m p).waiting) (filter (λ (p : Ip6). is_listed p m j) (touched j))
+      ∙ kept (waits_for j m) (λ (p : Ip6). is_listed p m j) (touched j) (for_none laws j m)
 
   there_or_nothing : PeerLaws → (j : List Mention) (m : ℕ) (q : Ip6) → (list_any (same_ip6 q) (touched j) ≡ true) ⊎ (waits_for j m q ≡ 0)
   unfolding listed
@@ -146,7 +154,11 @@ module _ (w : List ℕ → ℕ) where
       by (is_young LISTED_MS e.moment e.moment) e.bearing.hears e.bearing.gives_up is
     where
       by : (young hears gives_up : Bool)
-          → waits_for (e ∷ j) e.moment q ≡ sum_by w (unwrap_or (cond young (Some (record (after e (known j e.moment q)) { waiting = cond (hears || gives_up) [] ((known j e.moment q).waiting ++ option_to_list e.bearing.queues) })) None) no_peer).waiting
+          → waits_for (e ∷ j) e.moment q ≡ sum_by w (unwrap_or
+          (cond young (Some (record (after e (known j e.moment q)) {
+            waiting = cond (hears || gives_up) []
+                ((known j e.moment q).waiting ++ option_to_list e.bearing.queues);
+          })) None) no_peer).waiting
           → waits_for (e ∷ j) e.moment q + freed hears (waits_for j e.moment q) ≤ waits_for j e.moment q + added e.bearing.queues
       by false true gives_up is = omega (arith, is)
       by false false gives_up is = omega (arith, is)
@@ -170,17 +182,23 @@ module _ (w : List ℕ → ℕ) where
       let rest = under (waits_for (e ∷ j) m) (waits_for j m) (apart_from q) (touched j)
       (λ p h. let same = same_for laws e j m p (ap (is_peer p) peer ∙ other_way p q (not_true (same_ip6 q p) h)) in omega (arith, same)) in
       let own = after_touch laws e j q about touches in
-      ends (waits_for (e ∷ j) m q) (sum_by (waits_for (e ∷ j) m) others) (sum_by (waits_for j m) others) (freed e.bearing.hears (waits_for j m q)) (added e.bearing.queues) whole rest own (split m others refl (there_or_nothing laws j m q))
+      ends (waits_for (e ∷ j) m q) (sum_by (waits_for (e ∷ j) m) others) (sum_by (waits_for j m) others) (freed e.bearing.hears (waits_for j m q))
+      (added e.bearing.queues) whole rest own (split m others refl (there_or_nothing laws j m q))
     where
-      split : (m : ℕ) (others : List Ip6) → others ≡ filter (apart_from q) (touched j) → (list_any (same_ip6 q) (touched j) ≡ true) ⊎ (waits_for j m q ≡ 0) → waits_for j m q + sum_by (waits_for j m) others ≤ sum_by (waits_for j m) (touched j)
-      split m others is (inl there) = let one = one_out (waits_for j m) q (touched j) there in let same = ap (sum_by (waits_for j m)) is in omega (arith, one, same)
-      split m others is (inr none) = let less = fewer (waits_for j m) (apart_from q) (touched j) in let same = ap (sum_by (waits_for j m)) is in omega (arith, less, same, none)
+      split : (m : ℕ) (others : List Ip6) → others ≡ filter (apart_from q) (touched j) → (list_any (same_ip6 q) (touched j) ≡ true) ⊎ (waits_for j m q ≡ 0)
+          → waits_for j m q + sum_by (waits_for j m) others ≤ sum_by (waits_for j m) (touched j)
+      split m others is (inl there) = let one = one_out (waits_for j m) q (touched j) there in let same = ap (sum_by (waits_for j m)) is in omega
+          (arith, one, same)
+      split m others is (inr none) = let less = fewer (waits_for j m) (apart_from q) (touched j) in let same = ap (sum_by (waits_for j m)) is in omega
+          (arith, less, same, none)
 
-      ends : (own rest before gone more : ℕ) → waits_in (e ∷ j) e.moment ≡ own + rest → rest ≤ before → own + gone ≤ waits_for j e.moment q + more → waits_for j e.moment q + before ≤ waits_in j e.moment → waits_in (e ∷ j) e.moment + gone ≤ waits_in j e.moment + more
+      ends : (own rest before gone more : ℕ) → waits_in (e ∷ j) e.moment ≡ own + rest → rest ≤ before → own + gone ≤ waits_for j e.moment q + more
+          → waits_for j e.moment q + before ≤ waits_in j e.moment → waits_in (e ∷ j) e.moment + gone ≤ waits_in j e.moment + more
       ends own rest before gone more whole less one split = omega (arith, whole, less, one, split)
 
   -- where the peer isn't touched nothing is released and nothing queued
-  pub stays : PeerLaws → (e : Mention) (j : List Mention) (m : ℕ) → e.bearing.touches ≡ false → e.bearing.hears ≡ false → e.bearing.queues ≡ None → waits_in (e ∷ j) m ≤ waits_in j m
+  pub stays : PeerLaws → (e : Mention) (j : List Mention) (m : ℕ) → e.bearing.touches ≡ false → e.bearing.hears ≡ false → e.bearing.queues ≡ None
+      → waits_in (e ∷ j) m ≤ waits_in j m
   unfolding touched
   stays laws e j m touches hears queues =
       let list_is : touched (e ∷ j) ≡ touched j = ap (λ (b : Bool). with_peer (cond b e.peer None) (touched j)) touches in
@@ -188,9 +206,14 @@ module _ (w : List ℕ → ℕ) where
       let less = all_under (waits_for (e ∷ j) m) (waits_for j m) (touched j) (λ p. one p (is_about p e) refl) in
       omega (arith, whole, less)
     where
-      of_peer : (o : Option Peer) (gives_up : Bool) → sum_by w (unwrap_or (option_map (λ (x : Peer). record (after e x) { waiting = cond (e.bearing.hears || gives_up) [] (x.waiting ++ option_to_list e.bearing.queues) }) o) no_peer).waiting ≤ sum_by w (unwrap_or o no_peer).waiting
+      of_peer : (o : Option Peer) (gives_up : Bool) → sum_by w
+          (unwrap_or (option_map (λ (x : Peer). record (after e x) {
+            waiting = cond (e.bearing.hears || gives_up) []
+                (x.waiting ++ option_to_list e.bearing.queues);
+          }) o) no_peer).waiting ≤ sum_by w (unwrap_or o no_peer).waiting
       of_peer None gives_up = omega arith
-      of_peer (Some x) true = let is = ap (λ (b : Bool). sum_by w (cond (b || true) [] (x.waiting ++ option_to_list e.bearing.queues))) hears in omega (arith, is)
+      of_peer (Some x) true = let is = ap (λ (b : Bool). sum_by w (cond (b || true) [] (x.waiting ++ option_to_list e.bearing.queues))) hears in omega
+          (arith, is)
       of_peer (Some x) false =
           let is = ap (λ (b : Bool). sum_by w (cond (b || false) [] (x.waiting ++ option_to_list e.bearing.queues))) hears in
           let none = ap (λ (o : Option (List ℕ)). sum_by w (x.waiting ++ option_to_list o)) queues in

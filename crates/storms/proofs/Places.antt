@@ -1,5 +1,6 @@
 -- Which node an endpoint is at.
-use Rattle.std.proofs.Common.{◌≡◌, ◌<◌, ◌+◌, not, ℕ, zero, suc, ◌||◌, Bool, true, false, List, [], ◌∷◌, length, get_or, Option, Some, None, refl, sym, ap, ◌∙◌, arith, cond}
+use Rattle.std.proofs.Common.{◌≡◌, ◌<◌, ◌+◌, not, ℕ, zero, suc, ◌||◌, Bool, true, false, List, [], ◌∷◌, length, get_or, Option, Some, None, refl, sym, ap, ◌∙◌}
+use Rattle.std.proofs.Common.{arith, cond}
 use Rattle.std.specs.Prelude.{position, slice_get, unwrap_or, is_some, option_and_then}
 use Rattle.std.specs.List.{list_any, position_or_len}
 use Rattle.std.proofs.lemmas.Bool.{false≢true, and_parts, or_left, or_right, lt-ltb}
@@ -43,7 +44,9 @@ is_there t dst a e = by (number_of (is_at dst) t) refl e where
 within : (p : Node → Bool) (xs : List Node) (n : ℕ) (a : Node) → slice_get xs n ≡ Some a → p a ≡ true → position_or_len p xs < length xs
 within p [] n a at h = absurd (false≢true (ap (λ (o : Option Node). is_some o) at))
 within p (x ∷ xs) n a at h = by (p x) refl n at (within p xs) where
-  by : (b : Bool) → p x ≡ b → (j : ℕ) → slice_get (x ∷ xs) j ≡ Some a → ((i : ℕ) (c : Node) → slice_get xs i ≡ Some c → p c ≡ true → position_or_len p xs < length xs) → cond (not b) (1 + position_or_len p xs) 0 < suc (length xs)
+  by : (b : Bool) → p x ≡ b → (j : ℕ) → slice_get (x ∷ xs) j ≡ Some a
+      → ((i : ℕ) (c : Node) → slice_get xs i ≡ Some c → p c ≡ true → position_or_len p xs < length xs)
+      → cond (not b) (1 + position_or_len p xs) 0 < suc (length xs)
   by true e j there ih = omega arith
   by false e zero there ih = absurd (false≢true (sym e ∙ ap p (ap (λ (o : Option Node). unwrap_or o x) there) ∙ h))
   by false e (suc j) there ih = let rest = ih j a there h in omega (arith, rest)
@@ -52,7 +55,8 @@ some : (p : Node → Bool) (xs : List Node) (n : ℕ) (a : Node) → slice_get x
 some p xs n a at h = ap (λ (b : Bool). is_some (cond b (Some (position_or_len p xs)) None)) (lt-ltb (position_or_len p xs) (length xs) (within p xs n a at h))
 
 -- one that passes is found, or one before it
-finds : (p : Node → Bool) (xs : List Node) (n : ℕ) (a : Node) → slice_get xs n ≡ Some a → p a ≡ true → is_some (option_and_then (slice_get xs) (position p xs)) ≡ true
+finds : (p : Node → Bool) (xs : List Node) (n : ℕ) (a : Node) → slice_get xs n ≡ Some a → p a ≡ true
+    → is_some (option_and_then (slice_get xs) (position p xs)) ≡ true
 finds p xs n a at h = by (position p xs) refl (some p xs n a at h) where
   by : (o : Option ℕ) → position p xs ≡ o → is_some o ≡ true → is_some (option_and_then (slice_get xs) o) ≡ true
   by None e g = g
@@ -69,7 +73,8 @@ either_of true b c d f g h = or_left c (d || false) (f refl)
 either_of false b c d f g h = or_right c (d || false) (or_left d false (g h))
 
 pub address_of : (dst : Ep) (a : Node) → is_at dst a ≡ true → has_address dst.ip a ≡ true
-address_of dst (server a) h = either_of (same_ep dst (server_ep a.primary)) (same_ep dst (server_ep a.secondary)) (same_ip dst.ip a.primary) (same_ip dst.ip a.secondary)
+address_of dst (server a) h = either_of (same_ep dst (server_ep a.primary)) (same_ep dst (server_ep a.secondary)) (same_ip dst.ip a.primary)
+    (same_ip dst.ip a.secondary)
     (ep_ip dst (server_ep a.primary)) (ep_ip dst (server_ep a.secondary)) h
 address_of dst (nat a) h = or_left (same_ip dst.ip a.external) false h
 address_of dst (client c) h = absurd (false≢true h)
@@ -77,13 +82,15 @@ address_of dst (relay r) h = or_left (same_ip dst.ip r.at.ip) false (ep_ip dst r
 address_of dst (native x) h = absurd (false≢true h)
 
 -- no two nodes are at one endpoint
-pub one_there : AddressesAreApart → (t : TopologyState) (dst : Ep) (n : ℕ) (a b : Node) → IsTopology t → node_at t n ≡ Some a → is_at dst a ≡ true → IsThere t dst b → b ≡ a
+pub one_there : AddressesAreApart → (t : TopologyState) (dst : Ep) (n : ℕ) (a b : Node) → IsTopology t → node_at t n ≡ Some a → is_at dst a ≡ true
+    → IsThere t dst b → b ≡ a
 one_there apart t dst n a b is at h there =
     let same : there.number ≡ n = apart t there.number n b a dst.ip is there.node at (address_of dst b there.passes) (address_of dst a h) in
     ap (λ (o : Option Node). unwrap_or o b) (sym there.node ∙ ap (node_at t) same ∙ at)
 
 -- a node that is there is the first
-pub first_is : AddressesAreApart → (t : TopologyState) (dst : Ep) (n : ℕ) (a : Node) → IsTopology t → node_at t n ≡ Some a → is_at dst a ≡ true → first_at t dst ≡ Some a
+pub first_is : AddressesAreApart → (t : TopologyState) (dst : Ep) (n : ℕ) (a : Node) → IsTopology t → node_at t n ≡ Some a → is_at dst a ≡ true
+    → first_at t dst ≡ Some a
 first_is apart t dst n a is at h = by (first_at t dst) refl (finds (is_at dst) (nodes t) n a at h) where
   by : (o : Option Node) → first_at t dst ≡ o → is_some o ≡ true → first_at t dst ≡ Some a
   by None e g = absurd (false≢true g)
@@ -132,11 +139,13 @@ abbrev is_relay : Node → Bool
 is_relay (relay r) = true
 is_relay _ = false
 
-pub relay_is_apart : AddressesAreApart → (t : TopologyState) (n : ℕ) (r : RelayNode) → IsTopology t → node_at t n ≡ Some (relay r) → is_at r.at (relay r) ≡ true → is_some_server t r.at ≡ false
+pub relay_is_apart : AddressesAreApart → (t : TopologyState) (n : ℕ) (r : RelayNode) → IsTopology t → node_at t n ≡ Some (relay r)
+    → is_at r.at (relay r) ≡ true → is_some_server t r.at ≡ false
 relay_is_apart apart t n r is at own = by (is_some_server t r.at) refl where
   by : (b : Bool) → is_some_server t r.at ≡ b → b ≡ false
   by false e = refl
   by true e =
       let s = server_there t r.at e in
-      let same : server s.row ≡ relay r = one_there apart t r.at n (relay r) (server s.row) is at own (record { number = s.number; node = s.node; passes = s.passes }) in
+      let same : server s.row ≡ relay r = one_there apart t r.at n (relay r) (server s.row) is at own
+      (record { number = s.number; node = s.node; passes = s.passes }) in
       absurd (false≢true (ap is_relay same))

@@ -38,11 +38,14 @@ pub record IsForClient (to : Ep) (x : List ℕ) : Type 0 where
   pub where_to : to ≡ embedded (fields_in x).dst
 
 -- weighs as much as while it waited, at most
-pub packet_weighs : RowLaws → PacketIsPayload → (t : TopologyState) (to : Ep) (x : List ℕ) → IsForClient to x → MayWeigh (entry_weight t) (λ (s : Send). relay_packet s.bytes) (send to x)
+pub packet_weighs : RowLaws → PacketIsPayload → (t : TopologyState) (to : Ep) (x : List ℕ) → IsForClient to x
+    → MayWeigh (entry_weight t) (λ (s : Send). relay_packet s.bytes) (send to x)
 packet_weighs laws payload t to x h src made = by (is_echo_reply (message_in (fields_in x))) refl where
   by : (b : Bool) → is_echo_reply (message_in (fields_in x)) ≡ b → entry_weight t (udp src to x) ≤ cond b 1 8
-  by true e = reply_sent laws t src to x (fields_in x) (payload x (fields_in x) made.bytes made.short (packet_read x h.well_formed)) made.bytes made.source h.native h.teredo h.where_to e
-  by false e = packet_sent laws t src to x (fields_in x) (payload x (fields_in x) made.bytes made.short (packet_read x h.well_formed)) made.bytes made.source h.teredo h.where_to
+  by true e = reply_sent laws t src to x (fields_in x)
+      (payload x (fields_in x) made.bytes made.short (packet_read x h.well_formed)) made.bytes made.source h.native h.teredo h.where_to e
+  by false e = packet_sent laws t src to x (fields_in x)
+      (payload x (fields_in x) made.bytes made.short (packet_read x h.well_formed)) made.bytes made.source h.teredo h.where_to
 
 -- SOME, TO ONE ENDPOINT
 
@@ -54,6 +57,7 @@ released_weigh w to (x ∷ xs) =
     let old = sum_by-cons w x xs in
     omega (arith, rest, new, old)
 
-pub released_each : (P : Send → Type 0) (Q : List ℕ → Type 0) (to : Ep) (xs : List (List ℕ)) → ((x : List ℕ) → Q x → P (send to x)) → AllByRecursion Q xs → AllByRecursion P (releases to xs)
+pub released_each : (P : Send → Type 0) (Q : List ℕ → Type 0) (to : Ep) (xs : List (List ℕ)) → ((x : List ℕ) → Q x → P (send to x)) → AllByRecursion Q xs
+    → AllByRecursion P (releases to xs)
 released_each P Q to [] f all = tt
 released_each P Q to (x ∷ xs) f all = (f x all.0, released_each P Q to xs f all.1)

@@ -1,26 +1,21 @@
 -- A delivery to a relay lightens.
-use Rattle.std.proofs.Common.{◌≡◌, ◌≤◌, ◌<◌, ℕ, ◌+◌, ◌&&◌, Bool, true, false, cond, List, ◌∷◌, ◌++◌, map, Some, None, sym, ap, subst, ◌∙◌, arith}
+use Rattle.std.proofs.Common.{◌≡◌, ◌≤◌, ℕ, ◌+◌, ◌&&◌, Bool, true, false, cond, List, ◌∷◌, map, Some, None, sym, ap, subst, ◌∙◌, arith}
 use Rattle.std.specs.Prelude.{sum, sum_by}
 use Rattle.std.specs.List.{AllByRecursion}
 use Rattle.td_base.specs.Ep.{same_ep, same_ep-self}
-use Rattle.td_base.specs.declared.endpoint.Ep.{Ep}
 use Rattle.ipv6_packet.specs.Reads.{fields_in}
-use Rattle.teredo_addr.specs.Teredo.{is_teredo}
-use Rattle.bubble.specs.Bubbles.{is_bubble}
 use Rattle.bubble.specs.Messages.{message_in, is_echo_reply}
-use Rattle.bubble.specs.Reads.{is_payload, value_in}
 use Rattle.teredo_node.specs.Journal.{Entry, Journal}
 use Rattle.peer_list.specs.Mentions.{Mention}
 use Rattle.relay_rules.specs.Bearings.{mention, mentions}
 use Rattle.topology.specs.declared.relay_node.RelayNode.{RelayNode}
 use Rattle.topology.specs.Rows.{TopologyState}
 use Rattle.topology.specs.declared.node.Node.TheVariants.{Relay as relay}
-use Rattle.topology.specs.Topology.{nodes, node_at, own_ep}
+use Rattle.topology.specs.Topology.{nodes}
 use Rattle.topology.specs.NodeRules.{IsRelayNode}
 use Rattle.history.specs.Full.{Item, udp, six, Made, Full}
 use Rattle.legal.specs.Lab.{Lab}
 use Rattle.legal.specs.Past.{armed, journal}
-use Rattle.legal.specs.Emit.{outright, six_made}
 use Rattle.legal.specs.MadeWire.{IsMadeItem}
 use Rattle.storms.specs.Weights.{is_relay_at, packet_weight, datagram_weight, weight_at, entry_weight}
 use Rattle.storms.specs.Burden.{waiting_packets, relay_packet, waits_at}
@@ -30,7 +25,9 @@ use Rattle.storms.proofs.Places.{first_is, any_there, relay_is_apart}
 use Rattle.storms.proofs.Freights.{relay_weight}
 use Rattle.storms.proofs.NewItems.{items_in}
 use Rattle.storms.proofs.Reached.{answer_of, IsReached, NodeLightens}
-use Rattle.storms.proofs.RelaysLighten.{RelayLaws, waits_as, one_more, datagram_lightens, packet_lightens}
+use Rattle.storms.proofs.AtRelay.{RelayLaws, waits_as, one_more, AtRelay, IsLight}
+use Rattle.storms.proofs.RelayReceives.{datagram_lightens}
+use Rattle.storms.proofs.RelaySends.{packet_lightens}
 
 -- what waits in the relay after it and before it
 waits_after : PeerLaws → (lab : Lab) (H : List Full) (r : Full) (n : ℕ) (q : RelayNode) (x : Item) → IsReached lab H r n (relay q) x
@@ -40,8 +37,10 @@ waits_after laws lab H r n q x h =
     ap (λ (z : Journal). sum (map relay_packet (waiting_packets (mentions z.entries) r.moment))) h.later ∙ waits_as laws (e ∷ (journal n H).entries) r.moment
     ∙ ap (λ (z : List Mention). waits_in relay_packet z r.moment) (one_more e (journal n H).entries)
 
-waits_before : PeerLaws → (lab : Lab) (H : List Full) (r : Full) (n : ℕ) (q : RelayNode) (x : Item) → IsReached lab H r n (relay q) x → sum (waits_at H n (relay q)) ≡ waits_in relay_packet (mentions (journal n H).entries) r.moment
-waits_before laws lab H r n q x h = ap (λ (k : ℕ). sum (map relay_packet (waiting_packets (mentions (journal n H).entries) k))) (sym h.moment) ∙ waits_as laws (journal n H).entries r.moment
+waits_before : PeerLaws → (lab : Lab) (H : List Full) (r : Full) (n : ℕ) (q : RelayNode) (x : Item) → IsReached lab H r n (relay q) x
+    → sum (waits_at H n (relay q)) ≡ waits_in relay_packet (mentions (journal n H).entries) r.moment
+waits_before laws lab H r n q x h = ap (λ (k : ℕ). sum (map relay_packet (waiting_packets (mentions (journal n H).entries) k))) (sym h.moment)
+    ∙ waits_as laws (journal n H).entries r.moment
 
 -- a packet for a relay that is an echo reply weighs 5, and any other 12
 for_relay : (x : List ℕ) → relay_packet x + 4 ≤ packet_weight true (fields_in x)
@@ -50,18 +49,15 @@ for_relay x = by (is_echo_reply (message_in (fields_in x))) where
   by true = omega arith
   by false = omega arith
 
--- a packet that isn't a bubble, from a Teredo address to the relay, weighs 7
-to_relay : (t : TopologyState) (n : ℕ) (q : RelayNode) (src dst : Ep) (x : List ℕ) → node_at t n ≡ Some (relay q) → dst ≡ q.at → is_teredo (value_in x).packet.src ≡ true → is_payload x ≡ true → is_bubble (value_in x).packet ≡ false → 7 ≤ datagram_weight t src dst x
-to_relay t n q src dst x there where_to teredo payload plain =
-    relay_weight t src dst x (any_there (is_relay_at dst) (nodes t) n (relay q) there (ap (same_ep dst) (sym where_to) ∙ same_ep-self dst)) payload teredo plain
-
 module _ (laws : RelayLaws) (lab : Lab) (H : List Full) (r : Full) (n : ℕ) (q : RelayNode) where
-  light : (x : Item) → IsReached lab H r n (relay q) x → (w : ℕ) → w ≤ entry_weight lab.topology x
-      → (AllByRecursion IsMadeItem (items_in (outright (own_ep (relay q)) (armed H) 0 (answer_of lab H r n (relay q) x).step.sends ++ six_made (answer_of lab H r n (relay q) x).input (answer_of lab H r n (relay q) x).step.six))
-      → sum_by (entry_weight lab.topology) (items_in (outright (own_ep (relay q)) (armed H) 0 (answer_of lab H r n (relay q) x).step.sends ++ six_made (answer_of lab H r n (relay q) x).input (answer_of lab H r n (relay q) x).step.six))
-      + waits_in relay_packet (mention (answer_of lab H r n (relay q) x) ∷ mentions (journal n H).entries) r.moment < w + waits_in relay_packet (mentions (journal n H).entries) r.moment)
+  -- the relay after a history, given what weighs this much
+  abbrev given : ℕ → AtRelay
+  given heavy = record { lab = lab; q = q; n = n; m = r.moment; j = (journal n H).entries; fails = armed H; heavy = heavy }
+
+  light : (x : Item) → IsReached lab H r n (relay q) x → (heavy : ℕ) → heavy ≤ entry_weight lab.topology x
+      → IsLight (given heavy) (answer_of lab H r n (relay q) x)
       → NodeLightens lab H r n (relay q) x
-  light x h w weighs less =
+  light x h heavy weighs less =
       let is = ap (λ (ms : List Made). sum_by (entry_weight lab.topology) (items_in ms)) h.made in
       let one = less (subst (λ (ms : List Made). AllByRecursion IsMadeItem (items_in ms)) h.made h.fresh) in
       let new = waits_after laws.peers lab H r n q x h in
@@ -72,15 +68,15 @@ module _ (laws : RelayLaws) (lab : Lab) (H : List Full) (r : Full) (n : ℕ) (q 
   relay_lightens (six None bytes) h = absurd h.goes
   relay_lightens (six (Some k) bytes) h =
       let keeps : IsRelayNode q = laws.rules lab.topology n (relay q) h.is h.there in
-      let j = (laws.journals lab H n q h.grown.1 h.there).journal in
-      let heavy = for_relay bytes in
-      light (six (Some k) bytes) h (packet_weight true (fields_in bytes)) (omega arith)
-      (packet_lightens laws lab q n r.moment (journal n H).entries (armed H) j bytes (packet_weight true (fields_in bytes)) (weight_least lab.topology (six (Some k) bytes)) heavy
+      let heavy : ℕ = packet_weight true (fields_in bytes) in
+      light (six (Some k) bytes) h heavy (omega arith)
+      (packet_lightens laws (given heavy) (weight_least lab.topology (six (Some k) bytes)) bytes (for_relay bytes)
       (relay_is_apart laws.apart lab.topology n q h.is h.there (same_ep-self q.at)) keeps.six h.came.bytes)
   relay_lightens (udp src dst bytes) h =
       let t : TopologyState = lab.topology in
       let j = (laws.journals lab H n q h.grown.1 h.there).journal in
-      let first = ap (weight_at t src dst bytes) (first_is laws.apart t dst n (relay q) h.is h.there (ap (same_ep dst) (sym h.goes) ∙ same_ep-self dst)) in
+      let here : same_ep dst q.at ≡ true = ap (same_ep dst) (sym h.goes) ∙ same_ep-self dst in
+      let first = ap (weight_at t src dst bytes) (first_is laws.apart t dst n (relay q) h.is h.there here) in
       light (udp src dst bytes) h (datagram_weight t src dst bytes) (omega (arith, first))
-      (datagram_lightens laws lab q n r.moment (journal n H).entries (armed H) j src bytes (datagram_weight t src dst bytes) (datagram_least t src dst bytes)
-      (λ teredo payload plain. to_relay t n q src dst bytes h.there h.goes teredo payload plain))
+      (datagram_lightens laws (given (datagram_weight t src dst bytes)) j (datagram_least t src dst bytes) src bytes
+      (λ teredo payload plain. relay_weight t src dst bytes (any_there (is_relay_at dst) (nodes t) n (relay q) h.there here) payload teredo plain))

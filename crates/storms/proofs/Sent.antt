@@ -31,7 +31,8 @@ abbrev drawn_from : TopologyState → Ep → Ep → List ℕ → ServerNode → 
 drawn_from t src to x a = output_weight t (server a) x (server_row (server_settings a) (side_at (server a) to) src x)
 
 -- no more than k, wherever it goes
-sent_under : (t : TopologyState) (src to : Ep) (x : List ℕ) (k : ℕ) → datagram_weight t src to x ≤ k → ((a : ServerNode) → IsThere t to (server a) → 1 + drawn_from t src to x a ≤ k) → entry_weight t (udp src to x) ≤ k
+sent_under : (t : TopologyState) (src to : Ep) (x : List ℕ) (k : ℕ) → datagram_weight t src to x ≤ k
+    → ((a : ServerNode) → IsThere t to (server a) → 1 + drawn_from t src to x a ≤ k) → entry_weight t (udp src to x) ≤ k
 sent_under t src to x k plain served = by (first_at t to) refl where
   by : (o : Option Node) → first_at t to ≡ o → weight_at t src to x o ≤ k
   by None e = plain
@@ -44,16 +45,19 @@ sent_under t src to x k plain served = by (first_at t to) refl where
 -- a server's endpoint has one of its addresses
 own_there : (a : ServerNode) (to : Ep) → is_at to (server a) ≡ true → is_own (server_settings a) to.ip ≡ true
 unfolding is_own
-own_there a to h = by (same_ep to (server_ep a.primary)) (same_ep to (server_ep a.secondary)) (ep_ip to (server_ep a.primary)) (ep_ip to (server_ep a.secondary)) h where
-  by : (b c : Bool) → (b ≡ true → same_ip to.ip a.primary ≡ true) → (c ≡ true → same_ip to.ip a.secondary ≡ true) → (b || c) ≡ true → (same_ip to.ip a.primary || same_ip to.ip a.secondary) ≡ true
-  by true c f g k = or_left (same_ip to.ip a.primary) (same_ip to.ip a.secondary) (f refl)
-  by false c f g k = or_right (same_ip to.ip a.primary) (same_ip to.ip a.secondary) (g k)
+own_there a to h = by (same_ep to (server_ep a.primary)) (same_ep to (server_ep a.secondary)) (ep_ip to (server_ep a.primary))
+    (ep_ip to (server_ep a.secondary)) h where
+      by : (b c : Bool) → (b ≡ true → same_ip to.ip a.primary ≡ true) → (c ≡ true → same_ip to.ip a.secondary ≡ true) → (b || c) ≡ true
+          → (same_ip to.ip a.primary || same_ip to.ip a.secondary) ≡ true
+      by true c f g k = or_left (same_ip to.ip a.primary) (same_ip to.ip a.secondary) (f refl)
+      by false c f g k = or_right (same_ip to.ip a.primary) (same_ip to.ip a.secondary) (g k)
 
 no_request : (p : Fields) → is_bubble p ≡ true → is_solicit (message_in p) ≡ false
 no_request p bubble = ap is_solicit (bubble_message p bubble)
 
 -- a datagram with a packet and nothing in front
-module _ (laws : RowLaws) (t : TopologyState) (src to : Ep) (x : List ℕ) (p : Fields) (reads : ReadsPayload (value_written None None p) x) (bytes : IsBytes x) (made : IsEp src) where
+module _ (laws : RowLaws) (t : TopologyState) (src to : Ep) (x : List ℕ) (p : Fields) (reads : ReadsPayload (value_written None None p) x)
+    (bytes : IsBytes x) (made : IsEp src) where
   plain_is : datagram_weight t src to x ≡ load t src to None p
   plain_is = load_is t src to None p x reads
 
@@ -65,10 +69,12 @@ module _ (laws : RowLaws) (t : TopologyState) (src to : Ep) (x : List ℕ) (p : 
 
   looped : (a : ServerNode) → is_teredo p.dst ≡ true → to ≡ embedded p.dst → IsThere t to (server a) → drawn_from t src to x a ≤ 0
   looped a teredo where_to there =
-      looped_there laws t a (side_at (server a) to) src x p reads bytes made teredo (ap (λ (e : Ep). is_own (server_settings a) e.ip) (sym where_to) ∙ own_there a to there.passes)
+      looped_there laws t a (side_at (server a) to) src x p reads bytes made teredo
+      (ap (λ (e : Ep). is_own (server_settings a) e.ip) (sym where_to) ∙ own_there a to there.passes)
 
   -- what a relay releases: an echo reply, or anything
-  pub reply_sent : is_teredo p.src ≡ false → is_teredo p.dst ≡ true → to ≡ embedded p.dst → is_echo_reply (message_in p) ≡ true → entry_weight t (udp src to x) ≤ 1
+  pub reply_sent : is_teredo p.src ≡ false → is_teredo p.dst ≡ true → to ≡ embedded p.dst → is_echo_reply (message_in p) ≡ true
+      → entry_weight t (udp src to x) ≤ 1
   reply_sent foreign teredo where_to reply = sent_under t src to x 1
       (let is = plain_is in let less = reply_load t src to p foreign reply in omega (arith, is, less))
       (λ a there. let less = looped a teredo where_to there in omega (arith, less))
@@ -77,7 +83,8 @@ module _ (laws : RowLaws) (t : TopologyState) (src to : Ep) (x : List ℕ) (p : 
   packet_sent teredo where_to = sent_under t src to x 8 (datagram_most t src to x) (λ a there. let less = looped a teredo where_to there in omega (arith, less))
 
   -- a test, which goes to a server
-  pub test_sent : (a : ServerNode) → first_at t to ≡ Some (server a) → is_teredo p.dst ≡ false → is_solicit (message_in p) ≡ false → entry_weight t (udp src to x) ≤ 7
+  pub test_sent : (a : ServerNode) → first_at t to ≡ Some (server a) → is_teredo p.dst ≡ false → is_solicit (message_in p) ≡ false
+      → entry_weight t (udp src to x) ≤ 7
   test_sent a first foreign plain =
       let is = ap (weight_at t src to x) first in
       let six = packet_under p 6 (omega arith) (λ _. omega arith) in
@@ -92,14 +99,17 @@ module _ (laws : RowLaws) (t : TopologyState) (src to : Ep) (x : List ℕ) (p : 
 
     there_is : (a : ServerNode) (teredo : Bool) → is_teredo p.dst ≡ teredo → IsThere t to (server a) → 1 + drawn_from t src to x a ≤ 2
     there_is a true e there = let less = looped a e (where_to e) there in omega (arith, less)
-    there_is a false e there = let less = native_there laws t a (side_at (server a) to) src x p reads bytes made 1 e (no_request p bubble) (bubble_weight p bubble) in omega (arith, less)
+    there_is a false e there = let less = native_there laws t a (side_at (server a) to) src x p reads bytes made 1 e (no_request p bubble)
+        (bubble_weight p bubble) in omega (arith, less)
 
     by : (b : Bool) → is_some_server t to ≡ b → entry_weight t (udp src to x) ≤ cond b 2 1
     by true e = sent_under t src to x 2 (let less = plain in omega (arith, less)) (λ a there. there_is a (is_teredo p.dst) refl there)
-    by false e = sent_under t src to x 1 plain (λ a there. absurd (false≢true (sym e ∙ any_there (is_server_at to) (nodes t) there.number (server a) there.node there.passes)))
+    by false e = sent_under t src to x 1 plain (λ a there. absurd
+        (false≢true (sym e ∙ any_there (is_server_at to) (nodes t) there.number (server a) there.node there.passes)))
 
   -- a relay's bubble through a server
   pub bubble_sent : is_bubble p ≡ true → is_some_server t src ≡ false → entry_weight t (udp src to x) ≤ 3
   bubble_sent bubble elsewhere = sent_under t src to x 3
       (let is = plain_is in let less = bubble_load t src to p bubble in omega (arith, is, less))
-      (λ a there. let less = bubble_there laws t a (side_at (server a) to) src x p reads bytes made bubble (no_request p bubble) elsewhere in omega (arith, less))
+      (λ a there. let less = bubble_there laws t a (side_at (server a) to) src x p reads bytes made bubble (no_request p bubble) elsewhere in omega
+      (arith, less))

@@ -35,7 +35,8 @@ use Rattle.storms.proofs.Natives.{ReplyLaws, reply_weighs_less}
 use Rattle.storms.proofs.Reached.{IsReached, NodeLightens}
 
 -- nothing comes onto the wire, and nothing waits there
-pub nothing_made : (lab : Lab) (H : List Full) (r : Full) (x : Item) → r.made ≡ [] → sum_by (entry_weight lab.topology) (items_of r) + 0 < entry_weight lab.topology x + 0
+pub nothing_made : (lab : Lab) (H : List Full) (r : Full) (x : Item) → r.made ≡ []
+    → sum_by (entry_weight lab.topology) (items_of r) + 0 < entry_weight lab.topology x + 0
 nothing_made lab H r x none =
     let least = weight_least lab.topology x in
     let is = ap (λ (ms : List Made). sum_by (entry_weight lab.topology) (items_in ms)) none in
@@ -47,11 +48,13 @@ server_there : (a : ServerNode) (dst : Ep) → (dst ≡ server_ep a.primary) ⊎
 server_there a dst (inl e) = or_left (same_ep dst (server_ep a.primary)) (same_ep dst (server_ep a.secondary)) (ap (same_ep dst) (sym e) ∙ same_ep-self dst)
 server_there a dst (inr e) = or_right (same_ep dst (server_ep a.primary)) (same_ep dst (server_ep a.secondary)) (ap (same_ep dst) (sym e) ∙ same_ep-self dst)
 
-pub six_weighs : (t : TopologyState) (src : Ep) (x : List ℕ) (o : Option Span) → sum_by (entry_weight t) (items_in (six_made (arrived src x) o)) ≤ six_weight x o
+pub six_weighs : (t : TopologyState) (src : Ep) (x : List ℕ) (o : Option Span)
+    → sum_by (entry_weight t) (items_in (six_made (arrived src x) o)) ≤ six_weight x o
 six_weighs t src x None = omega arith
 six_weighs t src x (Some span) = let one = sum_by-cons (entry_weight t) (six None (part x span)) [] in omega (arith, one)
 
-pub server_lightens : FromLaws → EachNodeKeepsRules → (lab : Lab) (H : List Full) (r : Full) (n : ℕ) (a : ServerNode) (x : Item) → IsReached lab H r n (server a) x → NodeLightens lab H r n (server a) x
+pub server_lightens : FromLaws → EachNodeKeepsRules → (lab : Lab) (H : List Full) (r : Full) (n : ℕ) (a : ServerNode) (x : Item)
+    → IsReached lab H r n (server a) x → NodeLightens lab H r n (server a) x
 server_lightens laws rules lab H r n a (six to bytes) h = nothing_made lab H r (six to bytes) h.made
 server_lightens laws rules lab H r n a (udp src dst bytes) h =
     let t : TopologyState = lab.topology in
@@ -73,10 +76,12 @@ nat_lightens lab H r n a x h = nothing_made lab H r x h.made
 
 -- A NATIVE HOST
 
-pub native_lightens : ReplyLaws → EachIsReply → (lab : Lab) (H : List Full) (r : Full) (n : ℕ) (b : NativeNode) (x : Item) → IsReached lab H r n (native b) x → NodeLightens lab H r n (native b) x
+pub native_lightens : ReplyLaws → EachIsReply → (lab : Lab) (H : List Full) (r : Full) (n : ℕ) (b : NativeNode) (x : Item)
+    → IsReached lab H r n (native b) x → NodeLightens lab H r n (native b) x
 native_lightens laws replies lab H r n b (udp src dst bytes) h = nothing_made lab H r (udp src dst bytes) h.made
 native_lightens laws replies lab H r n b (six to bytes) h = by (native_in bytes).packet refl to h where
-  by : (o : Option (List ℕ)) → (native_in bytes).packet ≡ o → (to : Option ℕ) → IsReached lab H r n (native b) (six to bytes) → NodeLightens lab H r n (native b) (six to bytes)
+  by : (o : Option (List ℕ)) → (native_in bytes).packet ≡ o → (to : Option ℕ) → IsReached lab H r n (native b) (six to bytes)
+      → NodeLightens lab H r n (native b) (six to bytes)
   by None e to h = nothing_made lab H r (six to bytes) (h.made ∙ ap (native_made b) e)
   by (Some y) e None h =
       let less = reply_weighs_less laws lab.topology b false bytes y h.came.bytes h.came.short (replies bytes y e) in

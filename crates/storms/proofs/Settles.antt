@@ -8,7 +8,8 @@ use Rattle.history.specs.declared.act.Act.{Act}
 use Rattle.history.specs.Full.{Item, Full, wire}
 use Rattle.legal.specs.Lab.{Lab}
 use Rattle.legal.specs.Past.{has_more, was_delivered, first_open, first_undelivered}
-use Rattle.legal.specs.Kinds.{Delivers, Kind, quiet, put, copied, ticks, handed, reached, Quiet, passed, shut, strayed, missing, none_left, settled, uncopied, hosted, restarted, forgot, faulted}
+use Rattle.legal.specs.Kinds.{Delivers, Kind, quiet, put, copied, ticks, handed, reached, Quiet, passed, shut, strayed, missing, none_left, settled, uncopied}
+use Rattle.legal.specs.Kinds.{hosted, restarted, forgot, faulted}
 use Rattle.storms.specs.Deliveries.{DeliversNew, SettleDeliversNew}
 use Rattle.storms.proofs.Exchanged.{KindLaw}
 
@@ -20,7 +21,8 @@ record IsOpen (H : List Full) (n k : ℕ) : Type 0 where
 open_is : (H : List Full) (i n : ℕ) (xs : List Item) → first_open H i xs ≡ Some n → IsOpen H n (i + length xs)
 open_is H i n [] e = absurd (false≢true (ap (λ (o : Option ℕ). is_some o) e))
 open_is H i n (x ∷ xs) e = by (was_delivered i H) refl e (open_is H (i + 1) n xs) where
-  by : (b : Bool) → was_delivered i H ≡ b → cond b (first_open H (i + 1) xs) (Some i) ≡ Some n → (first_open H (i + 1) xs ≡ Some n → IsOpen H n (i + 1 + length xs)) → IsOpen H n (i + suc (length xs))
+  by : (b : Bool) → was_delivered i H ≡ b → cond b (first_open H (i + 1) xs) (Some i) ≡ Some n
+      → (first_open H (i + 1) xs ≡ Some n → IsOpen H n (i + 1 + length xs)) → IsOpen H n (i + suc (length xs))
   by true was f ih =
       let rest = ih f in
       let within = rest.within in

@@ -26,18 +26,21 @@ use Rattle.topology.specs.Topology.{nodes, node_at, number_of, is_at, side_at, o
 use Rattle.history.specs.Full.{Item, udp, six, Full}
 use Rattle.legal.specs.Settings.{server_settings}
 use Rattle.legal.specs.Past.{now, journal}
-use Rattle.storms.specs.Weights.{is_some_server, is_echo_request, packet_weight, Freight, freight, freight_weight, datagram_weight, send_weight, six_weight, weight_at, entry_weight}
+use Rattle.storms.specs.Weights.{is_some_server, is_echo_request, packet_weight, Freight, freight, freight_weight, datagram_weight, send_weight, six_weight}
+use Rattle.storms.specs.Weights.{weight_at, entry_weight}
 use Rattle.storms.specs.Burden.{undelivered_items, waiting_packets, client_packet, relay_packet, waits_at, waits_from, waits}
 use Rattle.storms.specs.Loads.{EachIsWeighed, BurdenIsBounded}
 
 -- WEIGHTS
 
 packet_most : (p : Fields) → packet_weight true p ≤ 12
-packet_most p = by_lines (λ (w : ℕ). w ≤ 12) ((true && is_echo_reply (message_in p), 5) ∷ (true, 12) ∷ (is_echo_request (message_in p) && is_teredo p.src, 6) ∷ (is_echo_request (message_in p) && is_global6 p.src, 2) ∷ []) 1
+packet_most p = by_lines (λ (w : ℕ). w ≤ 12) ((true && is_echo_reply (message_in p), 5) ∷ (true, 12) ∷
+    (is_echo_request (message_in p) && is_teredo p.src, 6) ∷ (is_echo_request (message_in p) && is_global6 p.src, 2) ∷ []) 1
     ((λ _. omega arith), (λ _. ((λ _. omega arith), (λ _. ((λ _. omega arith), (λ _. ((λ _. omega arith), (λ _. omega arith))))))))
 
 six_most : (p : Fields) → packet_weight false p ≤ 6
-six_most p = by_lines (λ (w : ℕ). w ≤ 6) ((is_echo_request (message_in p) && is_teredo p.src, 6) ∷ (is_echo_request (message_in p) && is_global6 p.src, 2) ∷ []) 1
+six_most p = by_lines (λ (w : ℕ). w ≤ 6) ((is_echo_request (message_in p) && is_teredo p.src, 6) ∷ (is_echo_request (message_in p) && is_global6 p.src, 2)
+    ∷ []) 1
     ((λ _. omega arith), (λ _. ((λ _. omega arith), (λ _. omega arith))))
 
 freight_most : (a : Freight) → freight_weight a ≤ 8
@@ -55,7 +58,8 @@ send_most t a s = by (is_some_server t s.to) where
   by false = datagram_most t (own_ep a s.side) s.to s.bytes
 
 -- a server has one output at most
-output_most : (t : TopologyState) (a : Node) (x : List ℕ) (sends : List Send) (o : Option Span) → length sends + count o ≤ 1 → sum_by (send_weight t a) sends + six_weight x o ≤ 8
+output_most : (t : TopologyState) (a : Node) (x : List ℕ) (sends : List Send) (o : Option Span) → length sends + count o ≤ 1
+    → sum_by (send_weight t a) sends + six_weight x o ≤ 8
 output_most t a x [] None h = omega arith
 output_most t a x [] (Some span) h = let most = six_most (fields_in (part x span)) in omega (arith, most)
 output_most t a x (s ∷ []) None h = let most = send_most t a s in omega (arith, most)
@@ -84,14 +88,17 @@ weight_most law t (six (Some k) x) = packet_most (fields_in x)
 -- EACH ENTRY COUNTS ITSELF
 
 packet_least : (to_relay : Bool) (p : Fields) → 1 ≤ packet_weight to_relay p
-packet_least to_relay p = first_of_each (λ (w : ℕ). 1 ≤ w) ((to_relay && is_echo_reply (message_in p), 5) ∷ (to_relay, 12) ∷ (is_echo_request (message_in p) && is_teredo p.src, 6) ∷ (is_echo_request (message_in p) && is_global6 p.src, 2) ∷ []) 1
+packet_least to_relay p = first_of_each (λ (w : ℕ). 1 ≤ w)
+    ((to_relay && is_echo_reply (message_in p), 5) ∷ (to_relay, 12) ∷ (is_echo_request (message_in p) && is_teredo p.src, 6) ∷
+    (is_echo_request (message_in p) && is_global6 p.src, 2) ∷ []) 1
     (omega arith, (omega arith, (omega arith, (omega arith, tt)))) (omega arith)
 
 pub datagram_least : (t : TopologyState) (src dst : Ep) (x : List ℕ) → 1 ≤ datagram_weight t src dst x
 unfolding datagram_weight
 datagram_least t src dst x =
     let a : Freight = freight t src dst (is_payload x) (value_in x) in
-    first_of_each (λ (w : ℕ). 1 ≤ w) ((a.indirect && a.origin_at_server, 3) ∷ (a.indirect, 2) ∷ (a.foreign, 8) ∷ (a.for_relay, 7) ∷ []) 1 (omega arith, (omega arith, (omega arith, (omega arith, tt)))) (omega arith)
+    first_of_each (λ (w : ℕ). 1 ≤ w) ((a.indirect && a.origin_at_server, 3) ∷ (a.indirect, 2) ∷ (a.foreign, 8) ∷ (a.for_relay, 7) ∷ []) 1
+    (omega arith, (omega arith, (omega arith, (omega arith, tt)))) (omega arith)
 
 at_least : (t : TopologyState) (src dst : Ep) (x : List ℕ) (o : Option Node) → 1 ≤ weight_at t src dst x o
 at_least t src dst x None = datagram_least t src dst x

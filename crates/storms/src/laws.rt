@@ -56,6 +56,8 @@ pub fn each_lightens()
     delivery_exchanges();
     topology::apart();
     topology::each_node();
+    settled::client_is_there();
+    settled::address_is_own();
     legal::kinds();
     legal::acted();
     legal::makes_its_own();
@@ -82,8 +84,6 @@ pub fn each_lightens()
     relay_rules::waiting_is_foreign();
     relay_rules::reception_is_warranted();
     relay_rules::transmission_is_warranted();
-    qualify::turns();
-    qualify::turns_at_start();
     client_rules::next_mentions();
     client_rules::qualified_has_address();
     client_rules::waiting_is_own();

@@ -46,7 +46,8 @@ is_told _ = false
 
 -- a packet of the host brings none of these
 none_sent : (a : Given) → is_told (turn (transmission_row a)) ≡ false
-none_sent a = skip (λ (f : Fate). is_told (turn f) ≡ false) (host_lines a ++ destination_lines a) [] fate.Queued (refl, (refl, (refl, (refl, (refl, (refl, (refl, (refl, (refl, (refl, (refl, (refl, (refl, tt))))))))))))) refl
+none_sent a = skip (λ (f : Fate). is_told (turn f) ≡ false) (host_lines a ++ destination_lines a) [] fate.Queued
+    (refl, (refl, (refl, (refl, (refl, (refl, (refl, (refl, (refl, (refl, (refl, (refl, (refl, tt))))))))))))) refl
 
 -- nor does its entry
 of_packet : (s : Settings) (j : Journal) (n : ℕ) (x : List ℕ) (w : Words) → is_told (turn_of (client_entry s j n (given x) w)) ≡ false
@@ -67,7 +68,8 @@ no_tick _ n q first h = refl
 -- nor its entry
 of_tick : TickIsWarranted → (s : Settings) (j : Journal) (n : ℕ) (w : Words) → is_told (turn_of (client_entry s j n ticked w)) ≡ false
 unfolding client_tick
-of_tick law s j n w = no_tick (tick s n (qualification s j) w (due_at n (qualification s j) (first_peer j n))).fate n (qualification s j) (first_peer j n) (law s n (qualification s j) w (first_peer j n))
+of_tick law s j n w = no_tick (tick s n (qualification s j) w (due_at n (qualification s j) (first_peer j n))).fate n (qualification s j) (first_peer j n)
+    (law s n (qualification s j) w (first_peer j n))
 
 -- THE ADVERTISEMENT
 
@@ -81,7 +83,8 @@ advert_of fate.Changed a h only told = only
 advert_of _ a h only told = absurd (false≢true told)
 
 -- and nothing is sent for it
-sends_none : (s : Settings) (a : Standing) (from : Ep) (x : List ℕ) (v : Value) (w : Words) (f : Fate) → is_told (turn f) ≡ true → (reception_step s a from x v w f).sends ≡ []
+sends_none : (s : Settings) (a : Standing) (from : Ep) (x : List ℕ) (v : Value) (w : Words) (f : Fate) → is_told (turn f) ≡ true
+    → (reception_step s a from x v w f).sends ≡ []
 sends_none s a from x v w fate.QualifiedCone told = refl
 sends_none s a from x v w fate.QualifiedRestricted told = refl
 sends_none s a from x v w fate.FirstAnswer told = refl
@@ -106,14 +109,16 @@ pub record IsAdvertised (s : Settings) (q : Qualification) (e : Entry) : Type 0 
   pub phase : phase_line q.phase (is_same_origin (origin_in (value_in bytes).lead) (origin_before q q.phase)) ≡ e.step.fate
 
 -- the entry of an advertisement
-of_datagram : ReceptionIsWarranted → (s : Settings) (j : Journal) (n : ℕ) (from : Ep) (x : List ℕ) (w : Words) → is_told (turn_of (client_in s j n from x w)) ≡ true → IsAdvertised s (qualification s j) (client_in s j n from x w)
+of_datagram : ReceptionIsWarranted → (s : Settings) (j : Journal) (n : ℕ) (from : Ep) (x : List ℕ) (w : Words)
+    → is_told (turn_of (client_in s j n from x w)) ≡ true → IsAdvertised s (qualification s j) (client_in s j n from x w)
 unfolding client_in reception standing_at
 of_datagram law s j n from x w told =
     let a : Standing = standing_of s j n (source_in x) in
     let f : Fate = reception_fate s a from x in
     let is : (reception s a from x w).fate ≡ f = fate_of_reception s a from x w in
     let told_f : is_told (turn f) ≡ true = ap (λ (g : Fate). is_told (turn g)) (sym is) ∙ told in
-    let advert : IsAdvert f (seen s a from x) (heard s a.qualification from (value_in x)) = advert_of f (seen s a from x) (heard s a.qualification from (value_in x)) (law s a from x) told_f in
+    let advert : IsAdvert f (seen s a from x) (heard s a.qualification from (value_in x)) = advert_of f (seen s a from x)
+    (heard s a.qualification from (value_in x)) (law s a from x) told_f in
     record {
       from = from;
       bytes = x;
@@ -125,7 +130,8 @@ of_datagram law s j n from x w told =
     }
 
 -- only an advertisement brings such a turn
-pub advertised : AdvertLaws → (s : Settings) (j : Journal) (n : ℕ) (input : Input) (w : Words) → is_told (turn_of (client_entry s j n input w)) ≡ true → IsAdvertised s (qualification s j) (client_entry s j n input w)
+pub advertised : AdvertLaws → (s : Settings) (j : Journal) (n : ℕ) (input : Input) (w : Words) → is_told (turn_of (client_entry s j n input w)) ≡ true
+    → IsAdvertised s (qualification s j) (client_entry s j n input w)
 advertised laws s j n (arrived from x) w told = of_datagram laws.received s j n from x w told
 advertised laws s j n (given x) w told = absurd (false≢true (sym (of_packet s j n x w) ∙ told))
 advertised laws s j n ticked w told = absurd (false≢true (sym (of_tick laws.ticked s j n w) ∙ told))

@@ -38,14 +38,18 @@ module _ (lab : Lab) (H : List Full) (n m : ℕ) (c : ClientNode) (fresh : journ
 
   -- and what that says is so
   pub sound_at_start : (c.cone_try ≡ true → IsUnseen (view_of lab H c)) → IsSound lab H n c
-  sound_at_start unseen = subst (λ (ph : Phase). IsSoundIn (view_of lab H c) c.cone_try ph (standing lab H n c).kept (standing lab H n c).address) (sym starts_in) (by (first_phase (client_settings lab.topology c)) (is_first (client_settings lab.topology c))) where
-    by : (ph : Phase) → IsFirst c.cone_try ph → IsSoundIn (view_of lab H c) c.cone_try ph (standing lab H n c).kept (standing lab H n c).address
-    by ph (first_cone tries same) = subst (λ (x : Phase). IsSoundIn (view_of lab H c) c.cone_try x (standing lab H n c).kept (standing lab H n c).address) (sym same) (tries, λ d counts left. absurd (unseen tries d counts left))
-    by ph (first_restricted same) = subst (λ (x : Phase). IsSoundIn (view_of lab H c) c.cone_try x (standing lab H n c).kept (standing lab H n c).address) (sym same) tt
+  sound_at_start unseen = subst (λ (ph : Phase). IsSoundIn (view_of lab H c) c.cone_try ph (standing lab H n c).kept (standing lab H n c).address)
+      (sym starts_in) (by (first_phase (client_settings lab.topology c)) (is_first (client_settings lab.topology c))) where
+        by : (ph : Phase) → IsFirst c.cone_try ph → IsSoundIn (view_of lab H c) c.cone_try ph (standing lab H n c).kept (standing lab H n c).address
+        by ph (first_cone tries same) = subst (λ (x : Phase). IsSoundIn (view_of lab H c) c.cone_try x (standing lab H n c).kept (standing lab H n c).address)
+            (sym same) (tries, λ d counts left. absurd (unseen tries d counts left))
+        by ph (first_restricted same) = subst (λ (x : Phase). IsSoundIn (view_of lab H c) c.cone_try x (standing lab H n c).kept (standing lab H n c).address)
+            (sym same) tt
 
 -- nothing counts where nothing is seen
 pub unseen_of : (lab : Lab) (H : List Full) (c : ClientNode) → is_seen lab H c ≡ false → IsUnseen (view_of lab H c)
-unseen_of lab H c none d counts left = none_has (λ (e : Outward). same_ep e.inside c.inside) (counts_in (view_of lab H c)) d none counts (ap (λ (e : Ep). same_ep e c.inside) left ∙ same_ep-self c.inside)
+unseen_of lab H c none d counts left = none_has (λ (e : Outward). same_ep e.inside c.inside) (counts_in (view_of lab H c)) d none counts
+    (ap (λ (e : Ep). same_ep e c.inside) left ∙ same_ep-self c.inside)
 
 -- the record of a start
 pub fresh_journal : (H : List Full) (r : Full) (n : ℕ) → starts n r ≡ true → journal n (r ∷ H) ≡ new_journal r.moment
@@ -60,14 +64,16 @@ idle_journal H r n off none = by (is_node n r.node) refl where
   goes_on true e = absurd (false≢true (sym e))
   goes_on false e = ap (with_entries (journal n H)) none
 
-  by : (b : Bool) → is_node n r.node ≡ b → cond b (cond (is_restart r.act) (new_journal r.moment) (with_entries (journal n H) r.entry)) (journal n H) ≡ journal n H
+  by : (b : Bool) → is_node n r.node ≡ b → cond b (cond (is_restart r.act) (new_journal r.moment) (with_entries (journal n H) r.entry))
+      (journal n H) ≡ journal n H
   by true e = goes_on (is_restart r.act) (ap (λ (b : Bool). b && is_restart r.act) (sym e) ∙ off)
   by false e = refl
 
 -- of the client, or of another node or none, which leaves the client as it was
 pub data Concerns (lab : Lab) (H : List Full) (r : Full) (n : ℕ) (c : ClientNode) : Type 0 where
   own : (e : Entry) → IsActOf lab H r n (client c) e → Concerns lab H r n c
-  others : journal n (r ∷ H) ≡ journal n H → ((d : Outward) → Has (nat_entries lab c.nat r) (Out d) → Has (counts_in (view_of lab (r ∷ H) c)) d → d.inside ≡ c.inside → ⊥) → Concerns lab H r n c
+  others : journal n (r ∷ H) ≡ journal n H → ((d : Outward) → Has (nat_entries lab c.nat r) (Out d) → Has (counts_in (view_of lab (r ∷ H) c)) d
+      → d.inside ≡ c.inside → ⊥) → Concerns lab H r n c
 
 module _ (laws : VerdictLaws) (lab : Lab) (H : List Full) (r : Full) (n : ℕ) (c : ClientNode) (scene : Scene lab H r n c) (off : starts n r ≡ false) where
   -- a record of a node

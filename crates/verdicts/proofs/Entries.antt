@@ -15,18 +15,23 @@ unfolding qualification
 phase_next s j e = refl
 
 -- the first answer's origin is kept, as long as its phase lasts
-pub kept_next : (s : Settings) (j : Journal) (e : Entry) → (qualification s (with_entry j e)).kept ≡ kept_then (qualification s j).phase (turn_of e) (origin_given e.input) (qualification s j).kept
+pub kept_next : (s : Settings) (j : Journal) (e : Entry)
+    → (qualification s (with_entry j e)).kept ≡ kept_then (qualification s j).phase (turn_of e) (origin_given e.input) (qualification s j).kept
 unfolding qualification
 kept_next s j e = by (leaves (phase_of s j.entries) (turn_of e)) where
-  by : (b : Bool) → kept_origin (e ∷ cond b [] (in_phase s j.entries)) ≡ kept_after (turn_of e) (origin_given e.input) (cond b None (kept_origin (in_phase s j.entries)))
+  by : (b : Bool) → kept_origin (e ∷ cond b [] (in_phase s j.entries)) ≡ kept_after (turn_of e) (origin_given e.input)
+      (cond b None (kept_origin (in_phase s j.entries)))
   by true = refl
   by false = refl
 
 -- an address is set, or stays, as long as its phase lasts
-pub address_next : (s : Settings) (j : Journal) (e : Entry) → (qualification s (with_entry j e)).address ≡ address_then s (qualification s j).phase (turn_of e) (flags_word s e.words) (origin_given e.input) (qualification s j).address
+pub address_next : (s : Settings) (j : Journal) (e : Entry)
+    → (qualification s (with_entry j e)).address ≡ address_then s (qualification s j).phase (turn_of e) (flags_word s e.words) (origin_given e.input)
+    (qualification s j).address
 unfolding qualification
 address_next s j e = by (leaves (phase_of s j.entries) (turn_of e)) where
-  by : (b : Bool) → address_in s (e ∷ cond b [] (in_phase s j.entries)) ≡ address_after s (turn_of e) (flags_word s e.words) (origin_given e.input) (cond b None (address_in s (in_phase s j.entries)))
+  by : (b : Bool) → address_in s (e ∷ cond b [] (in_phase s j.entries)) ≡ address_after s (turn_of e) (flags_word s e.words) (origin_given e.input)
+      (cond b None (address_in s (in_phase s j.entries)))
   by true = refl
   by false = refl
 

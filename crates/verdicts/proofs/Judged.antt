@@ -30,7 +30,8 @@ is_phase OffLine h = absurd (false≢true h)
 module _ (laws : NatLaws) (lab : Lab) (H : List Full) (n : ℕ) (c : ClientNode) (p : IsPastOf (view_of lab H c)) (i : IsSound lab H n c) where
   -- what the phase of those who have an address says
   good : is_qualified (standing lab H n c).phase ≡ true → GoodAddress (view_of lab H c) c.cone_try (standing lab H n c).address
-  good h = subst (λ (ph : Phase). IsSoundIn (view_of lab H c) c.cone_try ph (standing lab H n c).kept (standing lab H n c).address) (is_phase (standing lab H n c).phase h) i
+  good h = subst (λ (ph : Phase). IsSoundIn (view_of lab H c) c.cone_try ph (standing lab H n c).kept (standing lab H n c).address)
+      (is_phase (standing lab H n c).phase h) i
 
   -- who has an address is settled
   settled : (o : Option Ip6) → address_in lab H n c ≡ o → GoodAddress (view_of lab H c) c.cone_try o → (own : Ip6) × IsSettled lab H n c own
@@ -57,14 +58,17 @@ module _ (laws : NatLaws) (lab : Lab) (H : List Full) (n : ℕ) (c : ClientNode)
   right = record {
     symmetric = λ h. by h (is_qualified (standing lab H n c).phase) refl;
     settled = λ h. settled (standing lab H n c).address refl (good h);
-    other = λ h ph. false≢true (sym h ∙ subst (λ (x : Phase). IsSoundIn (view_of lab H c) c.cone_try x (standing lab H n c).kept (standing lab H n c).address) ph i);
+    other = λ h ph. false≢true (sym h ∙ subst (λ (x : Phase). IsSoundIn (view_of lab H c) c.cone_try x (standing lab H n c).kept
+        (standing lab H n c).address) ph i);
   } where
-    by : is_symmetric (nat_behind lab c).kind ≡ true → (b : Bool) → is_qualified (standing lab H n c).phase ≡ b → is_qualified (standing lab H n c).phase ≡ false
+    by : is_symmetric (nat_behind lab c).kind ≡ true → (b : Bool) → is_qualified (standing lab H n c).phase ≡ b
+        → is_qualified (standing lab H n c).phase ≡ false
     by h true e = absurd (false≢true (sym (plain (standing lab H n c).address (good e)) ∙ h))
     by h false e = e
 
   -- a client that doesn't try the cone phase has no cone bit
-  no_cone : c.cone_try ≡ false → (is_some (standing lab H n c).address ≡ is_qualified (standing lab H n c).phase) → (own : Ip6) → address_in lab H n c ≡ Some own → has_cone own ≡ false
+  no_cone : c.cone_try ≡ false → (is_some (standing lab H n c).address ≡ is_qualified (standing lab H n c).phase) → (own : Ip6)
+      → address_in lab H n c ≡ Some own → has_cone own ≡ false
   no_cone never there own has = by (has_cone own) refl where
     is : IsGoodAddress (view_of lab H c) c.cone_try own
     is = subst (GoodAddress (view_of lab H c) c.cone_try) has (good (sym there ∙ ap (λ (o : Option Ip6). is_some o) has))

@@ -1,5 +1,6 @@
 -- What a NAT keeps of an inside endpoint's datagrams as its history grows.
-use Rattle.std.proofs.Common.{◌≡◌, ◌⊎◌, ℕ, ◌-◌, ◌<◌, ◌≤◌, not, Bool, true, false, cond, List, [], ◌∷◌, ◌++◌, find, Option, Some, refl, sym, ap, ◌∙◌, inl, inr, arith}
+use Rattle.std.proofs.Common.{◌≡◌, ◌⊎◌, ℕ, ◌-◌, ◌<◌, ◌≤◌, not, Bool, true, false, cond, List, [], ◌∷◌, ◌++◌, find, Option, Some, refl, sym, ap, ◌∙◌, inl, inr}
+use Rattle.std.proofs.Common.{arith}
 use Rattle.std.specs.Prelude.{unwrap_or}
 use Rattle.std.specs.List.{list_any}
 use Rattle.std.proofs.lemmas.Bool.{false≢true, and_parts, or_parts}
@@ -31,12 +32,14 @@ other_kept inside who d left other = by (same_ep d.inside who) refl where
   by false e = refl
 
 -- what is kept stays kept, where its inside endpoint loses nothing
-pub stays_kept : (inside : Ep) (added h : List Entry) (d : Outward) → list_any (is_loss_of inside) added ≡ false → d.inside ≡ inside → Has (kept h) d → Has (kept (added ++ h)) d
+pub stays_kept : (inside : Ep) (added h : List Entry) (d : Outward) → list_any (is_loss_of inside) added ≡ false → d.inside ≡ inside → Has (kept h) d
+    → Has (kept (added ++ h)) d
 stays_kept inside [] h d spared left k = k
 stays_kept inside (Out e ∷ added) h d spared left k = inr (stays_kept inside added h d spared left k)
 stays_kept inside (Forget who ∷ added) h d spared left k =
     let both = or_parts (same_ep who inside) (list_any (is_loss_of inside) added) spared in
-    has_filtered (λ (e : Outward). not (same_ep e.inside who)) (kept (added ++ h)) d (stays_kept inside added h d both.1 left k) (other_kept inside who d left both.0)
+    has_filtered (λ (e : Outward). not (same_ep e.inside who)) (kept (added ++ h)) d (stays_kept inside added h d both.1 left k)
+    (other_kept inside who d left both.0)
 stays_kept inside (Restart ∷ added) h d spared left k = absurd (false≢true (sym spared))
 
 -- what is kept was added, or was kept before
@@ -100,28 +103,34 @@ some_out : (e : Outward) (x : Entry) → Some x ≡ Some (Out e) → x ≡ Out e
 some_out e x h = ap (λ (o : Option Entry). unwrap_or o x) h
 
 -- no datagram that is found is later than the latest
-latest_at : (s : NatSettings) (h : List Entry) (inside dst : Ep) (e : Outward) → IsHistory s h → find (is_out_to inside dst) h ≡ Some (Out e) → e.moment.0 ≤ latest_moment h
+latest_at : (s : NatSettings) (h : List Entry) (inside dst : Ep) (e : Outward) → IsHistory s h → find (is_out_to inside dst) h ≡ Some (Out e)
+    → e.moment.0 ≤ latest_moment h
 latest_at s [] inside dst e i f = absurd cc
 latest_at s (Forget who ∷ h) inside dst e i f = latest_at s h inside dst e i f
 latest_at s (Restart ∷ h) inside dst e i f = latest_at s h inside dst e i f
 latest_at s (Out x ∷ h) inside dst e i f = by (is_out_to inside dst (Out x)) f (λ g. latest_at s h inside dst e i.2 g) where
-  by : (b : Bool) → cond b (Some (Out x)) (find (is_out_to inside dst) h) ≡ Some (Out e) → (find (is_out_to inside dst) h ≡ Some (Out e) → e.moment.0 ≤ latest_moment h) → e.moment.0 ≤ x.moment.0
+  by : (b : Bool) → cond b (Some (Out x)) (find (is_out_to inside dst) h) ≡ Some (Out e)
+      → (find (is_out_to inside dst) h ≡ Some (Out e) → e.moment.0 ≤ latest_moment h) → e.moment.0 ≤ x.moment.0
   by true g ih = let one : x.moment.0 ≡ e.moment.0 = ap (λ (z : Entry). (out_or x z).moment.0) (some_out e (Out x) g) in omega (arith, one)
   by false g ih = let before = ih g in let later = i.0 in omega (arith, before, later)
 
 -- where a datagram of an inside endpoint is kept, its latest one to an endpoint is, if it is later
-pub later_kept : (s : NatSettings) (h : List Entry) (inside dst : Ep) (d e : Outward) → IsHistory s h → Has (kept h) d → d.inside ≡ inside → find (is_out_to inside dst) h ≡ Some (Out e) → e.inside ≡ inside → d.moment.0 < e.moment.0 → Has (kept h) e
+pub later_kept : (s : NatSettings) (h : List Entry) (inside dst : Ep) (d e : Outward) → IsHistory s h → Has (kept h) d → d.inside ≡ inside
+    → find (is_out_to inside dst) h ≡ Some (Out e) → e.inside ≡ inside → d.moment.0 < e.moment.0 → Has (kept h) e
 later_kept s [] inside dst d e i k left f to lt = absurd k
 later_kept s (Restart ∷ h) inside dst d e i k left f to lt = absurd k
 later_kept s (Forget who ∷ h) inside dst d e i k left f to lt =
     let both = filtered_has (λ (x : Outward). not (same_ep x.inside who)) (kept h) d k in
-    has_filtered (λ (x : Outward). not (same_ep x.inside who)) (kept h) e (later_kept s h inside dst d e i both.0 left f to lt) (ap (λ (x : Ep). not (same_ep x who)) (to ∙ sym left) ∙ both.1)
-later_kept s (Out x ∷ h) inside dst d e i k left f to lt = by (is_out_to inside dst (Out x)) f k (λ g old. later_kept s h inside dst d e i.2 old left g to lt) where
-  by : (b : Bool) → cond b (Some (Out x)) (find (is_out_to inside dst) h) ≡ Some (Out e) → Has (x ∷ kept h) d → (find (is_out_to inside dst) h ≡ Some (Out e) → Has (kept h) d → Has (kept h) e) → Has (x ∷ kept h) e
-  by true g old ih = inl (ap (out_or x) (some_out e (Out x) g))
-  by false g (inl same) ih =
-      let before = latest_at s h inside dst e i.2 g in
-      let later = i.0 in
-      let one : x.moment.0 ≡ d.moment.0 = ap (λ (z : Outward). z.moment.0) same in
-      absurd (omega (arith, before, later, one, lt))
-  by false g (inr old) ih = inr (ih g old)
+    has_filtered (λ (x : Outward). not (same_ep x.inside who)) (kept h) e (later_kept s h inside dst d e i both.0 left f to lt)
+    (ap (λ (x : Ep). not (same_ep x who)) (to ∙ sym left) ∙ both.1)
+later_kept s (Out x ∷ h) inside dst d e i k left f to lt = by (is_out_to inside dst (Out x)) f k
+    (λ g old. later_kept s h inside dst d e i.2 old left g to lt) where
+      by : (b : Bool) → cond b (Some (Out x)) (find (is_out_to inside dst) h) ≡ Some (Out e) → Has (x ∷ kept h) d
+          → (find (is_out_to inside dst) h ≡ Some (Out e) → Has (kept h) d → Has (kept h) e) → Has (x ∷ kept h) e
+      by true g old ih = inl (ap (out_or x) (some_out e (Out x) g))
+      by false g (inl same) ih =
+          let before = latest_at s h inside dst e i.2 g in
+          let later = i.0 in
+          let one : x.moment.0 ≡ d.moment.0 = ap (λ (z : Outward). z.moment.0) same in
+          absurd (omega (arith, before, later, one, lt))
+      by false g (inr old) ih = inr (ih g old)

@@ -1,5 +1,6 @@
 -- Clients without the cone phase: the NAT is open from the first answer on.
-use Rattle.std.proofs.Common.{◌≡◌, ◌⊎◌, inl, inr, ℕ, ◌&&◌, ◌||◌, not, Bool, true, false, cond, List, [], ◌∷◌, Option, Some, None, refl, sym, ap, subst, ◌∙◌, arith}
+use Rattle.std.proofs.Common.{◌≡◌, ◌⊎◌, inl, inr, ℕ, ◌&&◌, ◌||◌, not, Bool, true, false, cond, List, [], ◌∷◌, Option, Some, None, refl, sym, ap, subst, ◌∙◌}
+use Rattle.std.proofs.Common.{arith}
 use Rattle.std.specs.Prelude.{unwrap_or}
 use Rattle.std.specs.List.{list_any}
 use Rattle.std.proofs.lemmas.Bool.{false≢true, and_parts, and_from, or_parts, or_left, or_right}
@@ -65,7 +66,8 @@ untold_rests u ph h rests = by (still_begins u h) where
   by (inr (inl e)) = absurd (false≢true (ap (λ (o : Option Phase). is_resting (unwrap_or o ph)) (sym e) ∙ rests))
   by (inr (inr e)) = absurd (false≢true (ap (λ (o : Option Phase). is_resting (unwrap_or o ph)) (sym e) ∙ rests))
 
-module _ (laws : VerdictLaws) (lab : Lab) (H : List Full) (r : Full) (n : ℕ) (c : ClientNode) (scene : Scene lab H r n c) (off : starts n r ≡ false) (never : c.cone_try ≡ false) (firm : IsFirm lab H n c) where
+module _ (laws : VerdictLaws) (lab : Lab) (H : List Full) (r : Full) (n : ℕ) (c : ClientNode) (scene : Scene lab H r n c) (off : starts n r ≡ false)
+    (never : c.cone_try ≡ false) (firm : IsFirm lab H n c) where
   -- a client without the cone phase isn't in it
   no_cone : (standing lab H n c).phase ≡ Cone → ⊥
   no_cone e =
@@ -78,10 +80,12 @@ module _ (laws : VerdictLaws) (lab : Lab) (H : List Full) (r : Full) (n : ℕ) (
 
   -- who was answered was
   before : was_answered H n ≡ true → was_answered (r ∷ H) n ≡ true
-  before was = ap (λ (b : Bool). cond b false ((is_node n r.node && answers r.entry) || was_answered H n)) off ∙ or_right (is_node n r.node && answers r.entry) (was_answered H n) was
+  before was = ap (λ (b : Bool). cond b false ((is_node n r.node && answers r.entry) || was_answered H n)) off
+      ∙ or_right (is_node n r.node && answers r.entry) (was_answered H n) was
 
   -- after an entry of the client
-  of_turn : (e : Entry) → IsActOf lab H r n (client c) e → is_resting (qualification (client_settings lab.topology c) (with_entry (journal n H) e)).phase ≡ true → was_answered (r ∷ H) n ≡ true
+  of_turn : (e : Entry) → IsActOf lab H r n (client c) e
+      → is_resting (qualification (client_settings lab.topology c) (with_entry (journal n H) e)).phase ≡ true → was_answered (r ∷ H) n ≡ true
   of_turn e act rests = by (is_told (turn_of e)) refl where
     after : is_resting (unwrap_or (begins (turn_of e)) (standing lab H n c).phase) ≡ true
     after = ap is_resting (sym (phase_next (client_settings lab.topology c) (journal n H) e)) ∙ rests
@@ -89,14 +93,17 @@ module _ (laws : VerdictLaws) (lab : Lab) (H : List Full) (r : Full) (n : ℕ) (
     of_rests : Rests (standing lab H n c).phase e.step.fate → was_answered (r ∷ H) n ≡ true
     of_rests (rested was) = before (firm.answered was)
     of_rests (answered_now is) =
-        let here : (is_node n r.node && answers r.entry) ≡ true = and_from (is_node n r.node) (answers r.entry) (same_number act.node) (ap answers act.entry ∙ is) in
-        ap (λ (b : Bool). cond b false ((is_node n r.node && answers r.entry) || was_answered H n)) off ∙ or_left (is_node n r.node && answers r.entry) (was_answered H n) here
+        let here : (is_node n r.node && answers r.entry) ≡ true = and_from (is_node n r.node) (answers r.entry) (same_number act.node)
+        (ap answers act.entry ∙ is) in
+        ap (λ (b : Bool). cond b false ((is_node n r.node && answers r.entry) || was_answered H n)) off
+        ∙ or_left (is_node n r.node && answers r.entry) (was_answered H n) here
     of_rests (not_resting none) = absurd (false≢true (sym none ∙ after))
 
     by : (b : Bool) → is_told (turn_of e) ≡ b → was_answered (r ∷ H) n ≡ true
     by true h =
         let t = is_told_at laws lab H r n c scene e act h in
-        of_rests (subst (Rests (standing lab H n c).phase) t.phase (told_rests (standing lab H n c).phase (is_same_origin (Some t.dst) (origin_before (standing lab H n c) (standing lab H n c).phase)) no_cone))
+        of_rests (subst (Rests (standing lab H n c).phase) t.phase
+        (told_rests (standing lab H n c).phase (is_same_origin (Some t.dst) (origin_before (standing lab H n c) (standing lab H n c).phase)) no_cone))
     by false h = before (firm.answered (untold_rests (turn_of e) (standing lab H n c).phase h after))
 
   -- after a record
@@ -104,16 +111,23 @@ module _ (laws : VerdictLaws) (lab : Lab) (H : List Full) (r : Full) (n : ℕ) (
   still_answered rests = by (concerns laws lab H r n c scene off) where
     by : Concerns lab H r n c → was_answered (r ∷ H) n ≡ true
     by (own e act) = of_turn e act (subst (λ (j : Journal). is_resting (qualification (client_settings lab.topology c) j).phase ≡ true) act.later rests)
-    by (others same nothing) = before (firm.answered (subst (λ (j : Journal). is_resting (qualification (client_settings lab.topology c) j).phase ≡ true) same rests))
+    by (others same nothing) = before (firm.answered (subst
+        (λ (j : Journal). is_resting (qualification (client_settings lab.topology c) j).phase ≡ true) same rests))
 
-module _ (laws : VerdictLaws) (lab : Lab) (n : ℕ) (c : ClientNode) (flat : lab.chain ≡ []) (is : IsTopology lab.topology) (there : node_at lab.topology n ≡ Some (client c)) (never : c.cone_try ≡ false) where
+module _ (laws : VerdictLaws) (lab : Lab) (n : ℕ) (c : ClientNode) (flat : lab.chain ≡ []) (is : IsTopology lab.topology)
+    (there : node_at lab.topology n ≡ Some (client c)) (never : c.cone_try ≡ false) where
   abbrev HasBegun : List Full → Bool
   HasBegun before = has_sent lab before n c || was_answered before n
 
   -- one record more
-  step : (H : List Full) (r : Full) → Scene lab H r n c → starts n r ≡ false → IsFirm lab H n c → list_any (is_loss_of c.inside) (nat_entries lab c.nat r) ≡ false → (HasBegun H && not (is_open_at lab H r.moment c)) ≡ false → IsFirm lab (r ∷ H) n c
+  step : (H : List Full) (r : Full) → Scene lab H r n c → starts n r ≡ false → IsFirm lab H n c
+      → list_any (is_loss_of c.inside) (nat_entries lab c.nat r) ≡ false → (HasBegun H && not (is_open_at lab H r.moment c)) ≡ false → IsFirm lab (r ∷ H) n c
   step H r scene off firm spared shut = record {
-    sound = goes_on laws lab H r n c scene off (record { spared = spared; server_open = λ rests. open_of (HasBegun H) (is_open_at lab H r.moment c) (or_right (has_sent lab H n c) (was_answered H n) (firm.answered rests)) shut }) firm.sound;
+    sound = goes_on laws lab H r n c scene off (record {
+      spared = spared;
+      server_open = λ rests. open_of (HasBegun H) (is_open_at lab H r.moment c)
+          (or_right (has_sent lab H n c) (was_answered H n) (firm.answered rests)) shut;
+    }) firm.sound;
     answered = still_answered laws lab H r n c scene off never firm;
   }
 
@@ -121,11 +135,13 @@ module _ (laws : VerdictLaws) (lab : Lab) (n : ℕ) (c : ClientNode) (flat : lab
   start : (H : List Full) (m : ℕ) → journal n H ≡ new_journal m → IsFirm lab H n c
   start H m fresh = record {
     sound = sound_at_start lab H n m c fresh (λ tries. absurd (false≢true (sym never ∙ tries)));
-    answered = λ rests. absurd (false≢true (sym (ap is_resting (starts_in lab H n m c fresh) ∙ first_rests c.cone_try (first_phase (client_settings lab.topology c)) (is_first (client_settings lab.topology c))) ∙ rests));
+    answered = λ rests. absurd (false≢true (sym (ap is_resting (starts_in lab H n m c fresh)
+        ∙ first_rests c.cone_try (first_phase (client_settings lab.topology c)) (is_first (client_settings lab.topology c))) ∙ rests));
   }
 
   -- a whole history
-  pub firm : (H : List Full) → Grown lab H → are_honest lab.topology H ≡ true → was_lost lab H n c ≡ false → was_shut HasBegun lab H n c ≡ false → IsFirm lab H n c
+  pub firm : (H : List Full) → Grown lab H → are_honest lab.topology H ≡ true → was_lost lab H n c ≡ false → was_shut HasBegun lab H n c ≡ false
+      → IsFirm lab H n c
   firm [] g honest lost shut = start [] 0 refl
   firm (r ∷ H) g honest lost shut = by (starts n r) refl lost shut (λ l s. firm H g.1 earlier l s) where
     earlier : are_honest lab.topology H ≡ true

@@ -1,6 +1,6 @@
 -- What a client's NAT lets in, where no NAT is behind another one.
 use Rattle.std.proofs.Common.{◌≡◌, ℕ, Bool, true, false, List, [], Option, Some, None, refl, sym, ap, subst, ◌∙◌}
-use Rattle.std.specs.Prelude.{is_some, option_and_then, Contains}
+use Rattle.std.specs.Prelude.{option_and_then, Contains}
 use Rattle.std.proofs.lemmas.Bool.{false≢true}
 use Rattle.td_base.specs.declared.endpoint.Ep.{Ep}
 use Rattle.nat_kinds.specs.declared.outgoing.Outward.{Outward}
@@ -11,17 +11,18 @@ use Rattle.nat_kinds.specs.Laws.{IsPast}
 use Rattle.topology.specs.declared.nat_node.NatNode.{NatNode}
 use Rattle.topology.specs.declared.client_node.ClientNode.{ClientNode}
 use Rattle.topology.specs.declared.node.Node.{Node}
-use Rattle.topology.specs.declared.node.Node.TheVariants.{Server as server, Nat as nat, Client as client, Relay as relay, Native as native}
+use Rattle.topology.specs.declared.node.Node.TheVariants.{Nat as nat, Client as client}
 use Rattle.topology.specs.Rows.{TopologyState}
 use Rattle.topology.specs.Rules.{IsTopology}
-use Rattle.topology.specs.Topology.{node_at, nat_at, as_nat, settings_of_nat}
-use Rattle.topology.specs.NodeRules.{IsClientNode, EachNodeKeepsRules}
+use Rattle.topology.specs.Topology.{node_at, as_nat, settings_of_nat}
+use Rattle.topology.specs.NodeRules.{EachNodeKeepsRules}
 use Rattle.topology.specs.Chains.{Behind, nat_set_up, is_inner, Inward, comes_to, shut_at, let_in, goes_in, chain_in}
 use Rattle.history.specs.Full.{udp, Full}
 use Rattle.legal.specs.Lab.{Lab}
 use Rattle.legal.specs.Past.{now, nat_pasts}
 use Rattle.legal.specs.Emit.{Route, reaches, closed, astray}
 use Rattle.legal.specs.Routes.{IsLetIn, EachIsReached}
+use Rattle.settled.specs.ItsNodes.{ClientsAreThere}
 use Rattle.settled.specs.Clients.{nat_behind, past_of_nat, asks_at}
 use Rattle.verdicts.proofs.Members.{Has, contains_of}
 use Rattle.verdicts.proofs.Views.{View, IsPastOf, counts_in}
@@ -51,7 +52,9 @@ address_there t k row there = sym (ap (λ (o : Option Node). (settings_of_nat (o
 -- past one NAT
 module _ (lab : Lab) (H : List Full) (src dst : Ep) (c : ClientNode) (flat : lab.chain ≡ []) where
   -- it ends there
-  ends : (k : ℕ) (o : Option Ep) → let_in lab.topology (nat_pasts lab H) (now H) k src dst.port ≡ o → goes_in lab.topology [] (nat_pasts lab H) (now H) src [] k o ≡ comes_to c.nat c.inside → dst.ip ≡ (nat_set_up lab.topology k).external → IsLetInAt (view_of lab H c) src dst
+  ends : (k : ℕ) (o : Option Ep) → let_in lab.topology (nat_pasts lab H) (now H) k src dst.port ≡ o
+      → goes_in lab.topology [] (nat_pasts lab H) (now H) src [] k o ≡ comes_to c.nat c.inside → dst.ip ≡ (nat_set_up lab.topology k).external
+      → IsLetInAt (view_of lab H c) src dst
   ends k None enters e external = absurd (false≢true (ap comes e))
   ends k (Some inside) enters e external =
       let number : k ≡ c.nat = ap (nat_or k) e in
@@ -64,26 +67,13 @@ module _ (lab : Lab) (H : List Full) (src dst : Ep) (c : ClientNode) (flat : lab
   -- a datagram that is let in to a client is let in at its NAT
   pub at_its_nat : IsLetIn lab H (now H) src dst c → IsLetInAt (view_of lab H c) src dst
   at_its_nat in_ =
-      let straight : goes_in lab.topology [] (nat_pasts lab H) (now H) src [] in_.outer (let_in lab.topology (nat_pasts lab H) (now H) in_.outer src dst.port) ≡ comes_to c.nat c.inside = subst (λ (chain : List Behind). chain_in lab.topology chain (nat_pasts lab H) (now H) in_.outer src dst.port ≡ comes_to c.nat c.inside) flat in_.enters in
-      ends in_.outer (let_in lab.topology (nat_pasts lab H) (now H) in_.outer src dst.port) refl straight (in_.external ∙ address_there lab.topology in_.outer in_.row in_.there)
+      let straight : goes_in lab.topology [] (nat_pasts lab H) (now H) src [] in_.outer
+      (let_in lab.topology (nat_pasts lab H) (now H) in_.outer src dst.port) ≡ comes_to c.nat c.inside = subst
+      (λ (chain : List Behind). chain_in lab.topology chain (nat_pasts lab H) (now H) in_.outer src dst.port ≡ comes_to c.nat c.inside) flat in_.enters in
+      ends in_.outer (let_in lab.topology (nat_pasts lab H) (now H) in_.outer src dst.port) refl straight
+      (in_.external ∙ address_there lab.topology in_.outer in_.row in_.there)
 
 -- ONE CLIENT
-
--- a client's NAT
-record HasNat (t : TopologyState) (c : ClientNode) : Type 0 where
-  row : NatNode
-  there : node_at t c.nat ≡ Some (nat row)
-
--- it is there
-its_nat : (t : TopologyState) (c : ClientNode) → is_some (nat_at t c.nat) ≡ true → HasNat t c
-its_nat t c some = by (node_at t c.nat) refl some where
-  by : (o : Option Node) → node_at t c.nat ≡ o → is_some (option_and_then as_nat o) ≡ true → HasNat t c
-  by None e h = absurd (false≢true h)
-  by (Some (nat a)) e h = record { row = a; there = e }
-  by (Some (server a)) e h = absurd (false≢true h)
-  by (Some (client a)) e h = absurd (false≢true h)
-  by (Some (relay a)) e h = absurd (false≢true h)
-  by (Some (native a)) e h = absurd (false≢true h)
 
 -- the node at which a way ends
 abbrev number_or : ℕ → Route → ℕ
@@ -93,12 +83,15 @@ number_or k astray = k
 
 -- what is known of replies, and of those whom they reach
 pub record ReplyLaws : Type 0 where
+  pub there : ClientsAreThere
   pub rules : EachNodeKeepsRules
   pub reached : EachIsReached
-  pub replies : (s : NatSettings) (h : List NatEntry) (n : ℕ) → IsPast s h n → (e : Outward) → Contains (counting s.idle n h) e → lets_in s h n e.dst e.port ≡ Some e.inside
+  pub replies : (s : NatSettings) (h : List NatEntry) (n : ℕ) → IsPast s h n → (e : Outward) → Contains (counting s.idle n h) e
+      → lets_in s h n e.dst e.port ≡ Some e.inside
 
 -- an answer to a datagram that counts is let in to its client
-module _ (laws : ReplyLaws) (lab : Lab) (H : List Full) (flat : lab.chain ≡ []) (is : IsTopology lab.topology) (n : ℕ) (c : ClientNode) (there : node_at lab.topology n ≡ Some (client c)) (p : IsPastOf (view_of lab H c))
+module _ (laws : ReplyLaws) (lab : Lab) (H : List Full) (flat : lab.chain ≡ []) (is : IsTopology lab.topology) (n : ℕ) (c : ClientNode)
+    (there : node_at lab.topology n ≡ Some (client c)) (p : IsPastOf (view_of lab H c))
     (d : Outward) (counts : Has (counts_in (view_of lab H c)) d) (left : d.inside ≡ c.inside) where
   -- where it goes
   abbrev answered_at : Ep
@@ -107,16 +100,17 @@ module _ (laws : ReplyLaws) (lab : Lab) (H : List Full) (flat : lab.chain ≡ []
   -- it is, at the port from which that left
   answer_is_let_in : IsLetIn lab H (now H) d.dst answered_at c
   answer_is_let_in =
-      let keeps : IsClientNode lab.topology c = laws.rules lab.topology n (client c) is there in
-      let its = its_nat lab.topology c keeps.rules.behind in
-      let enters : let_in lab.topology (nat_pasts lab H) (now H) c.nat d.dst d.port ≡ Some c.inside = laws.replies (nat_behind lab c) (past_of_nat lab H c) (now H) p d (contains_of (counts_in (view_of lab H c)) d counts) ∙ ap (λ (x : Ep). Some x) left in
+      let its = laws.there.nat_of lab.topology n c is there in
+      let enters : let_in lab.topology (nat_pasts lab H) (now H) c.nat d.dst d.port ≡ Some c.inside = laws.replies (nat_behind lab c) (past_of_nat lab H c)
+      (now H) p d (contains_of (counts_in (view_of lab H c)) d counts) ∙ ap (λ (x : Ep). Some x) left in
       record {
         outer = c.nat;
         row = its.row;
         there = its.there;
         outermost = ap (λ (chain : List Behind). is_inner chain c.nat) flat;
         external = sym (address_there lab.topology c.nat its.row its.there);
-        enters = subst (λ (chain : List Behind). chain_in lab.topology chain (nat_pasts lab H) (now H) c.nat d.dst d.port ≡ comes_to c.nat c.inside) (sym flat) (ap (goes_in lab.topology [] (nat_pasts lab H) (now H) d.dst [] c.nat) enters);
+        enters = subst (λ (chain : List Behind). chain_in lab.topology chain (nat_pasts lab H) (now H) c.nat d.dst d.port ≡ comes_to c.nat c.inside)
+            (sym flat) (ap (goes_in lab.topology [] (nat_pasts lab H) (now H) d.dst [] c.nat) enters);
       }
 
   -- so there is no other client behind that NAT with that inside endpoint
@@ -131,4 +125,5 @@ module _ (laws : ReplyLaws) (lab : Lab) (H : List Full) (flat : lab.chain ≡ []
         external = in_.external;
         enters = in_.enters ∙ ap (λ (j : ℕ). comes_to j c.inside) nats ∙ ap (comes_to b.nat) ends_are;
       } in
-      ap (number_or n) (sym (laws.reached lab H (now H) (udp d.dst answered_at []) k (client b) is at also) ∙ laws.reached lab H (now H) (udp d.dst answered_at []) n (client c) is there in_)
+      ap (number_or n) (sym (laws.reached lab H (now H) (udp d.dst answered_at []) k (client b) is at also)
+      ∙ laws.reached lab H (now H) (udp d.dst answered_at []) n (client c) is there in_)

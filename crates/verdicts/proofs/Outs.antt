@@ -1,5 +1,6 @@
 -- What a record adds to the history of a client's NAT, where no NAT is behind another one.
-use Rattle.std.proofs.Common.{◌≡◌, inl, inr, ℕ, ◌+◌, ◌==◌, Bool, true, false, cond, List, [], ◌∷◌, Option, Some, None, Result, Ok, Err, refl, sym, ap, subst, ◌∙◌}
+use Rattle.std.proofs.Common.{◌≡◌, inl, inr, ℕ, ◌+◌, ◌==◌, Bool, true, false, cond, List, [], ◌∷◌, Option, Some, None, Result, Ok, Err, refl, sym, ap, subst}
+use Rattle.std.proofs.Common.{◌∙◌}
 use Rattle.std.specs.Prelude.{option_map, option_to_list}
 use Rattle.std.specs.List.{AllByRecursion}
 use Rattle.std.proofs.lemmas.Bool.{false≢true}
@@ -32,21 +33,27 @@ module _ (lab : Lab) (H : List Full) (m : ℕ) (P : Ep → Type 0) where
   abbrev GoTo : List Passing → Type 0
   GoTo passed = AllByRecursion (λ (p : Passing). P p.datagram.dst) passed
 
-  crossed : (way : List ℕ) (dst from : Ep) (passed : List Passing) → P dst → GoTo passed → GoTo (crossing lab.topology (nat_pasts lab H) m dst way from passed).passed
+  crossed : (way : List ℕ) (dst from : Ep) (passed : List Passing) → P dst → GoTo passed
+      → GoTo (crossing lab.topology (nat_pasts lab H) m dst way from passed).passed
   crossed [] dst from passed to on = on
-  crossed (j ∷ way) dst from passed to on = by (nat_answer (nat_set_up lab.topology j) (after_passing passed (nat_pasts lab H) j) m from dst) (λ (f : Ep) (ps : List Passing). crossed way dst f ps to) where
-    by : (r : Result ℕ NatRefusal) → ((f : Ep) (ps : List Passing) → GoTo ps → GoTo (crossing lab.topology (nat_pasts lab H) m dst way f ps).passed) → GoTo (answered lab.topology m j from dst passed (crossing lab.topology (nat_pasts lab H) m dst way) r).passed
-    by (Ok port) ih = ih (record { ip = (nat_set_up lab.topology j).external; port = port }) (passing j m from dst port ∷ passed) (to, on)
-    by (Err why) ih = on
+  crossed (j ∷ way) dst from passed to on = by (nat_answer (nat_set_up lab.topology j) (after_passing passed (nat_pasts lab H) j) m from dst)
+      (λ (f : Ep) (ps : List Passing). crossed way dst f ps to) where
+        by : (r : Result ℕ NatRefusal) → ((f : Ep) (ps : List Passing) → GoTo ps → GoTo (crossing lab.topology (nat_pasts lab H) m dst way f ps).passed)
+            → GoTo (answered lab.topology m j from dst passed (crossing lab.topology (nat_pasts lab H) m dst way) r).passed
+        by (Ok port) ih = ih (record { ip = (nat_set_up lab.topology j).external; port = port }) (passing j m from dst port ∷ passed) (to, on)
+        by (Err why) ih = on
 
-  crossed_unless : (fails : Bool) (way : List ℕ) (dst from : Ep) (passed : List Passing) → P dst → GoTo passed → GoTo (crossing_unless fails lab H m dst way from passed).passed
+  crossed_unless : (fails : Bool) (way : List ℕ) (dst from : Ep) (passed : List Passing) → P dst → GoTo passed
+      → GoTo (crossing_unless fails lab H m dst way from passed).passed
   crossed_unless true way dst from passed to on = crossed [] dst from passed to on
   crossed_unless false way dst from passed to on = crossed way dst from passed to on
 
-  all_sent : (way : List ℕ) (inside : Ep) (fails : Option ℕ) (i : ℕ) (passed : List Passing) (xs : List Send) → AllByRecursion (λ (x : Send). P x.to) xs → GoTo passed → GoTo (by_way lab H m way inside fails i passed xs).passed
+  all_sent : (way : List ℕ) (inside : Ep) (fails : Option ℕ) (i : ℕ) (passed : List Passing) (xs : List Send) → AllByRecursion (λ (x : Send). P x.to) xs
+      → GoTo passed → GoTo (by_way lab H m way inside fails i passed xs).passed
   all_sent way inside fails i passed [] to on = on
   all_sent way inside fails i passed (x ∷ xs) to on =
-      all_sent way inside fails (i + 1) (crossing_unless (is_at_place i fails) lab H m x.to way inside passed).passed xs to.1 (crossed_unless (is_at_place i fails) way x.to inside passed to.0 on)
+      all_sent way inside fails (i + 1) (crossing_unless (is_at_place i fails) lab H m x.to way inside passed).passed xs to.1
+      (crossed_unless (is_at_place i fails) way x.to inside passed to.0 on)
 
 -- the datagram, or another where there is none
 abbrev out_in : Outward → NatEntry → Outward
@@ -55,7 +62,8 @@ out_in d (Forget who) = d
 out_in d Restart = d
 
 -- so what one NAT let out does
-out_to : (P : Ep → Type 0) (k : ℕ) (passed : List Passing) (d : Outward) → AllByRecursion (λ (p : Passing). P p.datagram.dst) passed → Has (outs_at k passed) (Out d) → P d.dst
+out_to : (P : Ep → Type 0) (k : ℕ) (passed : List Passing) (d : Outward) → AllByRecursion (λ (p : Passing). P p.datagram.dst) passed
+    → Has (outs_at k passed) (Out d) → P d.dst
 out_to P k [] d on h = absurd h
 out_to P k (p ∷ ps) d on h = by (p.nat == k) h (out_to P k ps d on.1) where
   by : (b : Bool) → Has (cond b (Out p.datagram ∷ outs_at k ps) (outs_at k ps)) (Out d) → (Has (outs_at k ps) (Out d) → P d.dst) → P d.dst
@@ -64,14 +72,16 @@ out_to P k (p ∷ ps) d on h = by (p.nat == k) h (out_to P k ps d on.1) where
   by false later ih = ih later
 
 -- what a NAT lets out of a client's record goes where the client sends it
-pub act_out : (P : Ep → Type 0) (lab : Lab) (H : List Full) (r : Full) (n k : ℕ) (c : ClientNode) (e : Entry) (d : Outward) → IsActOf lab H r n (client c) e → AllByRecursion (λ (x : Send). P x.to) e.step.sends → Has (nat_entries lab k r) (Out d) → P d.dst
+pub act_out : (P : Ep → Type 0) (lab : Lab) (H : List Full) (r : Full) (n k : ℕ) (c : ClientNode) (e : Entry) (d : Outward) → IsActOf lab H r n (client c) e
+    → AllByRecursion (λ (x : Send). P x.to) e.step.sends → Has (nat_entries lab k r) (Out d) → P d.dst
 act_out P lab H r n k c e d act to h = by (is_node k r.node) h where
   itself : at_nat lab r.asked r.act ≡ []
   itself = ap (λ (b : Bool). cond b (Restart ∷ []) (forgotten lab r.asked)) act.still ∙ act.lasting
 
   by : (b : Bool) → Has (cond b (at_nat lab r.asked r.act) (outs_at k r.passed)) (Out d) → P d.dst
   by true there = absurd (subst (λ (xs : List NatEntry). Has xs (Out d)) itself there)
-  by false there = out_to P k r.passed d (subst (λ (ps : List Passing). AllByRecursion (λ (p : Passing). P p.datagram.dst) ps) (sym act.passed) (all_sent lab H r.moment P (way_out lab.chain c.nat) c.inside (armed H) 0 [] e.step.sends to tt)) there
+  by false there = out_to P k r.passed d (subst (λ (ps : List Passing). AllByRecursion (λ (p : Passing). P p.datagram.dst) ps) (sym act.passed)
+      (all_sent lab H r.moment P (way_out lab.chain c.nat) c.inside (armed H) 0 [] e.step.sends to tt)) there
 
 -- RECORDS IN WHICH NOTHING IS LET OUT
 
@@ -117,14 +127,16 @@ pub record IsLetOutOf (lab : Lab) (r : Full) (k : ℕ) (inside : Ep) : Type 0 wh
   pub sender : inside ≡ row.inside
 
 -- where no NAT is behind another one a client's datagram comes to its NAT alone, from its inside endpoint
-direct : (t : TopologyState) (from : Ep) (chain : List Behind) (j k : ℕ) (inside : Ep) → chain ≡ [] → ComesBy t from (way_out chain j) k inside → (k ≡ j) × (inside ≡ from)
+direct : (t : TopologyState) (from : Ep) (chain : List Behind) (j k : ℕ) (inside : Ep) → chain ≡ [] → ComesBy t from (way_out chain j) k inside
+    → (k ≡ j) × (inside ≡ from)
 direct t from chain j k inside flat way = by (subst (λ (ch : List Behind). ComesBy t from (way_out ch j) k inside) flat way) where
   by : ComesBy t from (way_out [] j) k inside → (k ≡ j) × (inside ≡ from)
   by (inl here) = here
   by (inr on) = absurd on.1
 
 -- each datagram that a record adds is such a client's
-pub whose : (lab : Lab) (r : Full) (k : ℕ) (added : List NatEntry) (d : Outward) → lab.chain ≡ [] → NatGrows lab r k added → Has added (Out d) → IsLetOutOf lab r k d.inside
+pub whose : (lab : Lab) (r : Full) (k : ℕ) (added : List NatEntry) (d : Outward) → lab.chain ≡ [] → NatGrows lab r k added → Has added (Out d)
+    → IsLetOutOf lab r k d.inside
 whose lab r k added d flat (stays none) h = absurd (subst (λ (xs : List NatEntry). Has xs (Out d)) none h)
 whose lab r k added d flat (restarts asked is) h = absurd (one_entry Restart d refl (subst (λ (xs : List NatEntry). Has xs (Out d)) is h))
 whose lab r k added d flat (forgets who c asked there is) h = absurd (one_entry (Forget c.inside) d refl (subst (λ (xs : List NatEntry). Has xs (Out d)) is h))

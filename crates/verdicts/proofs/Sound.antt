@@ -21,14 +21,16 @@ use Rattle.teredo_node.specs.declared.fate.Fate.{Fate}
 use Rattle.qualify.specs.declared.settings.Settings.{Settings}
 use Rattle.qualify.specs.declared.phase.Phase.{Phase}
 use Rattle.qualify.specs.declared.phase.Phase.TheVariants.{Cone, Restricted, Secondary, Qualified, Symmetric, OffLine}
-use Rattle.qualify.specs.Turns.{Turn, asks_cone, asks_restricted, asks_secondary, ends, refreshes, qualifies, is_answered, differs, is_same, is_changed, renews, says_nothing, turn, begins, leaves}
+use Rattle.qualify.specs.Turns.{Turn, asks_cone, asks_restricted, asks_secondary, ends, refreshes, qualifies, is_answered, differs, is_same, is_changed, renews}
+use Rattle.qualify.specs.Turns.{says_nothing, turn, begins, leaves}
 use Rattle.qualify.specs.Qualification.{Qualification, kept_after, address_of, address_after}
 use Rattle.qualify.specs.Solicitations.{expected_in}
 use Rattle.qualify.specs.Advertisements.{is_same_origin, origin_before, phase_line}
 use Rattle.settled.specs.Clients.{is_symmetric, is_cone}
 use Rattle.verdicts.specs.Undisturbed.{is_young_out}
 use Rattle.verdicts.proofs.Members.{Has, has_of}
-use Rattle.verdicts.proofs.Views.{NatLaws, View, grown, IsPastOf, counts_in, latest_ask, asked_port, plain_one_port, IsOpen, opens, IsNext, stays_open, AsksAlone, still_alone}
+use Rattle.verdicts.proofs.Views.{NatLaws, View, grown, IsPastOf, counts_in, latest_ask, asked_port, plain_one_port, IsOpen, opens, IsNext, stays_open}
+use Rattle.verdicts.proofs.Views.{AsksAlone, still_alone}
 use Rattle.verdicts.proofs.Adverts.{is_told}
 
 -- THE INVARIANT
@@ -79,7 +81,8 @@ module _ (laws : NatLaws) (v : View) (added : List NatEntry) (m : ℕ) (next : I
   origin_stays (Some e) young is = stays_open laws v added m next e is young
 
   -- what a phase says stays so, where the server is let in if the phase rests on that
-  pub stays_sound : (ph : Phase) → (is_resting ph ≡ true → is_young_out v.nat.idle m (latest_ask v) ≡ true) → (ph ≡ Cone → (d : Outward) → Has added (Out d) → Has (counts_in (grown v added m)) d → d.inside ≡ v.inside → d.dst ≡ v.server)
+  pub stays_sound : (ph : Phase) → (is_resting ph ≡ true → is_young_out v.nat.idle m (latest_ask v) ≡ true)
+      → (ph ≡ Cone → (d : Outward) → Has added (Out d) → Has (counts_in (grown v added m)) d → d.inside ≡ v.inside → d.dst ≡ v.server)
       → IsSoundIn v b ph k a → IsSoundIn (grown v added m) b ph k a
   stays_sound Cone young new i = (i.0, still_alone v added m next.later (new refl) i.1)
   stays_sound Restricted young new i = tt
@@ -127,15 +130,18 @@ module _ (s : Settings) (v : View) (b : Bool) (u : Turn) (w : Option ℕ) (o k :
   goes_on : (p : Phase) → begins u ≡ None → IsSoundIn v b p k a → IsSoundIn v b p (kept_then p u o k) (address_then s p u w o a)
   goes_on Cone e i = i
   goes_on Restricted e i = tt
-  goes_on Secondary e i = subst (λ (z : Option Ep). OpenOrigin v z) (sym (still_kept u o (cond (is_some (begins u)) None k) h ∙ ap (λ (z : Option Phase). cond (is_some z) None k) e)) i
-  goes_on Qualified e i = subst (λ (z : Option Ip6). GoodAddress v b z) (sym (still_address s u w o (cond (is_some (begins u)) None a) h ∙ ap (λ (z : Option Phase). cond (is_some z) None a) e)) i
+  goes_on Secondary e i = subst (λ (z : Option Ep). OpenOrigin v z)
+      (sym (still_kept u o (cond (is_some (begins u)) None k) h ∙ ap (λ (z : Option Phase). cond (is_some z) None k) e)) i
+  goes_on Qualified e i = subst (λ (z : Option Ip6). GoodAddress v b z)
+      (sym (still_address s u w o (cond (is_some (begins u)) None a) h ∙ ap (λ (z : Option Phase). cond (is_some z) None a) e)) i
   goes_on Symmetric e i = i
   goes_on OffLine e i = tt
 
   -- so what a phase says is so after them
   pub untold : (p : Phase) → IsSoundIn v b p k a → IsSoundIn v b (unwrap_or (begins u) p) (kept_then p u o k) (address_then s p u w o a)
   untold p i = by (still_begins u h) where
-    by : (begins u ≡ None) ⊎ ((begins u ≡ Some Restricted) ⊎ (begins u ≡ Some OffLine)) → IsSoundIn v b (unwrap_or (begins u) p) (kept_then p u o k) (address_then s p u w o a)
+    by : (begins u ≡ None) ⊎ ((begins u ≡ Some Restricted) ⊎ (begins u ≡ Some OffLine))
+        → IsSoundIn v b (unwrap_or (begins u) p) (kept_then p u o k) (address_then s p u w o a)
     by (inl e) = subst (λ (z : Option Phase). IsSoundIn v b (unwrap_or z p) (kept_then p u o k) (address_then s p u w o a)) (sym e) (goes_on p e i)
     by (inr (inl e)) = subst (λ (z : Option Phase). IsSoundIn v b (unwrap_or z p) (kept_then p u o k) (address_then s p u w o a)) (sym e) tt
     by (inr (inr e)) = subst (λ (z : Option Phase). IsSoundIn v b (unwrap_or z p) (kept_then p u o k) (address_then s p u w o a)) (sym e) tt
@@ -201,7 +207,8 @@ one_destination kind.Port a b c d h same = absurd (false≢true h)
 one_destination kind.Symmetric a b c d h same = same.1
 
 -- a client of a server with these addresses, that an advertisement told where it was let in
-module _ (laws : TurnLaws) (s : Settings) (v : View) (b : Bool) (primary : IsIp4 s.primary) (apart : s.primary ≡ s.secondary → ⊥) (asks : v.server ≡ server_ep s.primary) (p : IsPastOf v) (dst : Ep) (is_ep : IsEp dst) where
+module _ (laws : TurnLaws) (s : Settings) (v : View) (b : Bool) (primary : IsIp4 s.primary) (apart : s.primary ≡ s.secondary → ⊥)
+    (asks : v.server ≡ server_ep s.primary) (p : IsPastOf v) (dst : Ep) (is_ep : IsEp dst) where
   -- the address embeds that, and has the cone bit as asked
   embeds : (cone : Bool) (w : Option ℕ) → embedded (teredo_ip s.primary (flags_of cone w) dst) ≡ dst
   embeds cone w = (laws.teredo s.primary (flags_of cone w) dst primary (laws.flags cone w).sixteen is_ep).mapped_is
@@ -210,7 +217,8 @@ module _ (laws : TurnLaws) (s : Settings) (v : View) (b : Bool) (primary : IsIp4
   bit cone w = (laws.teredo s.primary (flags_of cone w) dst primary (laws.flags cone w).sixteen is_ep).cone_is ∙ (laws.flags cone w).cone_is
 
   -- and is good where that is open
-  good : (cone : Bool) (w : Option ℕ) → IsOpen v dst → is_symmetric v.nat.kind ≡ false → (cone ≡ true → (is_cone v.nat.kind ≡ true) × (b ≡ true)) → GoodAddress v b (address_of s cone w (Some dst))
+  good : (cone : Bool) (w : Option ℕ) → IsOpen v dst → is_symmetric v.nat.kind ≡ false → (cone ≡ true → (is_cone v.nat.kind ≡ true) × (b ≡ true))
+      → GoodAddress v b (address_of s cone w (Some dst))
   good cone w o plain says = record { opened = subst (IsOpen v) (sym (embeds cone w)) o; plain = plain; cone = λ h. says (sym (bit cone w) ∙ h) }
 
   -- in phase Cone, from the secondary address
@@ -218,7 +226,8 @@ module _ (laws : TurnLaws) (s : Settings) (v : View) (b : Bool) (primary : IsIp4
   in_cone w tries alone in_ =
       let a = was_asked laws.nat v (server_ep s.secondary) dst p in_ in
       let cone = only_cone v.nat.kind s.primary s.secondary a.datagram apart (alone a.datagram a.counts a.left ∙ asks) a.asked in
-      good true w (opens laws.nat v p dst a.datagram a.counts a.left (cone_asked v.nat.kind v.server a.datagram cone) in_.external a.port) (cone_is_plain v.nat.kind cone) (λ h. (cone, tries))
+      good true w (opens laws.nat v p dst a.datagram a.counts a.left (cone_asked v.nat.kind v.server a.datagram cone) in_.external a.port)
+      (cone_is_plain v.nat.kind cone) (λ h. (cone, tries))
 
   -- in phase Restricted, from the primary address
   in_restricted : IsLetInAt v (server_ep s.primary) dst → IsOpen v dst
@@ -230,7 +239,8 @@ module _ (laws : TurnLaws) (s : Settings) (v : View) (b : Bool) (primary : IsIp4
   plain_same : (o : Ep) → is_symmetric v.nat.kind ≡ false → IsOpen v o → IsLetInAt v (server_ep s.secondary) dst → same_ep dst o ≡ true
   plain_same o plain is in_ =
       let a = was_asked laws.nat v (server_ep s.secondary) dst p in_ in
-      same_of dst o (in_.external ∙ sym is.external) (a.port ∙ plain_one_port laws.nat v a.datagram is.datagram plain p a.counts a.left is.counts is.left ∙ sym is.port)
+      same_of dst o (in_.external ∙ sym is.external) (a.port ∙ plain_one_port laws.nat v a.datagram is.datagram plain p a.counts a.left is.counts is.left
+      ∙ sym is.port)
 
   -- so where it came to another endpoint the NAT is symmetric
   in_other : (o : Ep) → same_ep dst o ≡ false → IsOpen v o → IsLetInAt v (server_ep s.secondary) dst → is_symmetric v.nat.kind ≡ true
@@ -249,14 +259,17 @@ module _ (laws : TurnLaws) (s : Settings) (v : View) (b : Bool) (primary : IsIp4
     by false e = e
     by true e =
         let a = was_asked laws.nat v (server_ep s.secondary) dst p in_ in
-        let first : live_port v.nat.kind v.inside v.server live ≡ Some is.datagram.port = asked_port laws.nat v v.server is.datagram p is.counts is.left is.asked in
+        let first : live_port v.nat.kind v.inside v.server live ≡ Some is.datagram.port =
+        asked_port laws.nat v v.server is.datagram p is.counts is.left is.asked in
         let one : a.datagram.port ≡ is.datagram.port = sym a.port ∙ ap (λ (x : Ep). x.port) same ∙ is.port in
-        let second : live_port v.nat.kind v.inside (server_ep s.secondary) live ≡ Some is.datagram.port = asked_port laws.nat v (server_ep s.secondary) a.datagram p a.counts a.left a.asked ∙ ap (λ (q : ℕ). Some q) one in
+        let second : live_port v.nat.kind v.inside (server_ep s.secondary) live ≡ Some is.datagram.port = asked_port laws.nat v
+        (server_ep s.secondary) a.datagram p a.counts a.left a.asked ∙ ap (λ (q : ℕ). Some q) one in
         let key = laws.nat.keys v.nat v.past v.moment p v.inside v.server v.inside (server_ep s.secondary) is.datagram.port first second in
         absurd (apart (ap (λ (x : Ep). x.ip) (sym asks ∙ one_destination v.nat.kind v.inside v.server v.inside (server_ep s.secondary) e key)))
 
   -- while Qualified, from where the NAT lets it in
-  in_qualified : (src : Ep) (w : Option ℕ) (own : Ip6) → IsGoodAddress v b own → IsLetInAt v src dst → GoodAddress v b (address_of s (has_cone own) w (Some dst))
+  in_qualified : (src : Ep) (w : Option ℕ) (own : Ip6) → IsGoodAddress v b own → IsLetInAt v src dst
+      → GoodAddress v b (address_of s (has_cone own) w (Some dst))
   in_qualified src w own is in_ =
       let a = was_asked laws.nat v src dst p in_ in
       let o = is.opened in
@@ -275,19 +288,22 @@ module _ (laws : TurnLaws) (s : Settings) (v : View) (b : Bool) (primary : IsIp4
     abbrev pub After : Phase → Option Ep → Option Ip6 → Fate → Type 0
     After ph k a f = IsSoundIn v b (unwrap_or (begins (turn f)) ph) (kept_then ph (turn f) (Some dst) k) (address_then s ph (turn f) w (Some dst) a)
 
-    by_second : (k : Option Ep) (a : Option Ip6) → OpenOrigin v k → IsLetInAt v (server_ep s.secondary) dst → (same : Bool) → is_same_origin (Some dst) k ≡ same → After Secondary k a (phase_line Secondary same)
+    by_second : (k : Option Ep) (a : Option Ip6) → OpenOrigin v k → IsLetInAt v (server_ep s.secondary) dst → (same : Bool)
+        → is_same_origin (Some dst) k ≡ same → After Secondary k a (phase_line Secondary same)
     by_second None a is in_ same e = absurd is
     by_second (Some o) a is in_ true e =
         let one : dst ≡ o = same_ep-true dst o e in
         good false w (subst (IsOpen v) (sym one) is) (same_plain o one is in_) (λ h. absurd (false≢true h))
     by_second (Some o) a is in_ false e = in_other o e is in_
 
-    by_refresh : (src : Ep) (k : Option Ep) (a : Option Ip6) → GoodAddress v b a → IsLetInAt v src dst → (same : Bool) → After Qualified k a (phase_line Qualified same)
+    by_refresh : (src : Ep) (k : Option Ep) (a : Option Ip6) → GoodAddress v b a → IsLetInAt v src dst → (same : Bool)
+        → After Qualified k a (phase_line Qualified same)
     by_refresh src k None is in_ same = absurd is
     by_refresh src k (Some own) is in_ true = is
     by_refresh src k (Some own) is in_ false = in_qualified src w own is in_
 
-    pub told : (q : Qualification) (cone : Bool) (ph : Phase) → IsSoundIn v b ph q.kept q.address → IsLetInAt v (expected_in s ph cone) dst → (same : Bool) → is_same_origin (Some dst) (origin_before q ph) ≡ same → After ph q.kept q.address (phase_line ph same)
+    pub told : (q : Qualification) (cone : Bool) (ph : Phase) → IsSoundIn v b ph q.kept q.address → IsLetInAt v (expected_in s ph cone) dst → (same : Bool)
+        → is_same_origin (Some dst) (origin_before q ph) ≡ same → After ph q.kept q.address (phase_line ph same)
     told q cone Cone i in_ same e = in_cone w i.0 i.1 in_
     told q cone Restricted i in_ same e = in_restricted in_
     told q cone Secondary i in_ same e = by_second q.kept q.address i in_ same e

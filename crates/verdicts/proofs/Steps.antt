@@ -19,7 +19,8 @@ use Rattle.teredo_node.specs.MadeInputs.{IsMadeInput}
 use Rattle.qualify.specs.declared.settings.Settings.{Settings}
 use Rattle.qualify.specs.declared.phase.Phase.{Phase}
 use Rattle.qualify.specs.declared.phase.Phase.TheVariants.{Cone}
-use Rattle.qualify.specs.Turns.{Turn, asks_cone, asks_restricted, asks_secondary, ends, refreshes, qualifies, is_answered, differs, is_same, is_changed, renews, says_nothing, turn_of, begins, origin_given, flags_word}
+use Rattle.qualify.specs.Turns.{Turn, asks_cone, asks_restricted, asks_secondary, ends, refreshes, qualifies, is_answered, differs, is_same, is_changed, renews}
+use Rattle.qualify.specs.Turns.{says_nothing, turn_of, begins, origin_given, flags_word}
 use Rattle.qualify.specs.Qualification.{Qualification, qualification}
 use Rattle.qualify.specs.Solicitations.{is_qualified, is_cone, asked_at, expected_in, expected}
 use Rattle.qualify.specs.Advertisements.{is_same_origin, origin_before, phase_line}
@@ -31,7 +32,7 @@ use Rattle.topology.specs.declared.node.Node.{Node}
 use Rattle.topology.specs.declared.node.Node.TheVariants.{Server as server, Client as client}
 use Rattle.topology.specs.Rules.{IsTopology}
 use Rattle.topology.specs.Topology.{node_at, as_client}
-use Rattle.topology.specs.NodeRules.{IsClientNode, IsServerNode, EachNodeKeepsRules}
+use Rattle.topology.specs.NodeRules.{IsServerNode, EachNodeKeepsRules}
 use Rattle.topology.specs.Chains.{outs_at, way_out}
 use Rattle.topology.proofs.Lists.{all_at}
 use Rattle.history.specs.Full.{Item, udp, six, Full, wire}
@@ -50,11 +51,11 @@ use Rattle.legal.specs.Routes.{Reaches, EachRoute}
 use Rattle.legal.proofs.MadeWire.{entry_input, client_made}
 use Rattle.legal.proofs.NatPasts.{set_up_past}
 use Rattle.origins.specs.Honest.{are_honest}
-use Rattle.origins.specs.Senders.{TellsWhereTo, EachTellsWhereTo}
+use Rattle.origins.specs.Senders.{EntryTellsWhereTo, EachEntryTellsWhereTo}
 use Rattle.origins.proofs.Brought.{is_client}
 use Rattle.origins.proofs.SentOn.{act_made}
-use Rattle.origins.proofs.Whence.{HasServer, its_server}
 use Rattle.origins.proofs.Live.{from_server, is_arrived, from_of, bytes_of}
+use Rattle.settled.specs.ItsNodes.{HasServer}
 use Rattle.settled.specs.Clients.{standing, nat_behind, past_of_nat, asks_at}
 use Rattle.verdicts.specs.Undisturbed.{is_loss_of, is_open_at}
 use Rattle.verdicts.proofs.Members.{Has}
@@ -74,7 +75,7 @@ pub record VerdictLaws : Type 0 where
   pub grows : EachNatGrows
   pub clients : EachClientIsJournal
   pub made : EachHistoryIsMade
-  pub tells : EachTellsWhereTo
+  pub tells : EachEntryTellsWhereTo
   pub addresses : QualifiedHasAddress
   pub sends : EachSend
   pub payload : PayloadIsSpelled
@@ -94,14 +95,16 @@ unfolding expected
 as_expected s q v dst is = is
 
 -- what a client does
-client_does : (lab : Lab) (H : List Full) (m n : ℕ) (dst : Ep) (c : ClientNode) (input : Input) → entry_of lab H m n dst input (client c) ≡ client_entry (client_settings lab.topology c) (journal n H) m input (words lab n H)
+client_does : (lab : Lab) (H : List Full) (m n : ℕ) (dst : Ep) (c : ClientNode) (input : Input)
+    → entry_of lab H m n dst input (client c) ≡ client_entry (client_settings lab.topology c) (journal n H) m input (words lab n H)
 client_does lab H m n dst c (arrived from x) = refl
 client_does lab H m n dst c (given x) = refl
 client_does lab H m n dst c (from_six x) = refl
 client_does lab H m n dst c ticked = refl
 
 -- the server's addresses are apart
-two_addresses : (laws : EachNodeKeepsRules) (lab : Lab) (c : ClientNode) → IsTopology lab.topology → HasServer lab.topology c → (client_settings lab.topology c).primary ≡ (client_settings lab.topology c).secondary → ⊥
+two_addresses : (laws : EachNodeKeepsRules) (lab : Lab) (c : ClientNode) → IsTopology lab.topology → HasServer lab.topology c
+    → (client_settings lab.topology c).primary ≡ (client_settings lab.topology c).secondary → ⊥
 two_addresses laws lab c is b same =
     let keeps : IsServerNode b.row = laws lab.topology c.server (server b.row) is b.there in
     false≢true (sym keeps.apart ∙ ap (same_ip b.row.primary) (sym b.secondary ∙ sym same ∙ b.primary) ∙ same_ip-self b.row.primary)
@@ -142,11 +145,8 @@ module _ (laws : VerdictLaws) (lab : Lab) (H : List Full) (r : Full) (n : ℕ) (
   pub past_after : IsPastOf (view_of lab (r ∷ H) c)
   past_after = set_up_past lab (r ∷ H) c.nat scene.grown
 
-  keeps : IsClientNode lab.topology c
-  keeps = laws.replies.rules lab.topology n (client c) scene.is scene.there
-
   has_server : HasServer lab.topology c
-  has_server = its_server lab.topology c keeps.rules.asks
+  has_server = laws.replies.there.server_of lab.topology n c scene.is scene.there
 
   -- what the record adds to the NAT's history
   next : IsCalm lab H r n c → IsNext (view_of lab H c) (nat_entries lab c.nat r) r.moment
@@ -157,9 +157,11 @@ module _ (laws : VerdictLaws) (lab : Lab) (H : List Full) (r : Full) (n : ℕ) (
   own_record d new counts left =
       let w = whose lab r c.nat (nat_entries lab c.nat r) d scene.flat (laws.grows lab H r c.nat scene.grown.0) new in
       let at : node_at lab.topology w.number ≡ Some (client w.row) = at_node w.number w.row (node_at lab.topology w.number) refl w.there in
-      ap_node w.number w.node (one_client laws.replies lab (r ∷ H) scene.flat scene.is n c scene.there past_after d counts left w.number w.row at w.behind (sym left ∙ w.sender))
+      ap_node w.number w.node (one_client laws.replies lab (r ∷ H) scene.flat scene.is n c scene.there past_after d counts left w.number w.row at w.behind
+      (sym left ∙ w.sender))
     where
-      at_node : (k : ℕ) (b : ClientNode) (o : Option Node) → node_at lab.topology k ≡ o → option_and_then as_client o ≡ Some b → node_at lab.topology k ≡ Some (client b)
+      at_node : (k : ℕ) (b : ClientNode) (o : Option Node) → node_at lab.topology k ≡ o → option_and_then as_client o ≡ Some b
+          → node_at lab.topology k ≡ Some (client b)
       at_node k b None e h = absurd (false≢true (ap (λ (z : Option ClientNode). is_some z) h))
       at_node k b (Some a) e h = e ∙ ap (λ (z : Node). Some z) (is_client a b h)
 
@@ -169,10 +171,14 @@ module _ (laws : VerdictLaws) (lab : Lab) (H : List Full) (r : Full) (n : ℕ) (
   -- A RECORD THAT LEAVES THE CLIENT AS IT WAS
 
   -- what the phase says stays so
-  pub left_alone : IsCalm lab H r n c → journal n (r ∷ H) ≡ journal n H → ((d : Outward) → Has (nat_entries lab c.nat r) (Out d) → Has (counts_in (view_of lab (r ∷ H) c)) d → d.inside ≡ c.inside → ⊥) → IsSound lab H n c → IsSound lab (r ∷ H) n c
+  pub left_alone : IsCalm lab H r n c → journal n (r ∷ H) ≡ journal n H
+      → ((d : Outward) → Has (nat_entries lab c.nat r) (Out d) → Has (counts_in (view_of lab (r ∷ H) c)) d → d.inside ≡ c.inside → ⊥) → IsSound lab H n c
+      → IsSound lab (r ∷ H) n c
   left_alone calm same none i =
-      subst (λ (j : Journal). IsSoundIn (view_of lab (r ∷ H) c) c.cone_try (qualification s j).phase (qualification s j).kept (qualification s j).address) (sym same)
-      (stays_sound laws.turns.nat (view_of lab H c) (nat_entries lab c.nat r) r.moment (next calm) c.cone_try q.kept q.address q.phase calm.server_open (λ _ d new counts left. absurd (none d new counts left)) i)
+      subst (λ (j : Journal). IsSoundIn (view_of lab (r ∷ H) c) c.cone_try (qualification s j).phase (qualification s j).kept (qualification s j).address)
+      (sym same)
+      (stays_sound laws.turns.nat (view_of lab H c) (nat_entries lab c.nat r) r.moment (next calm) c.cone_try q.kept q.address q.phase calm.server_open
+      (λ _ d new counts left. absurd (none d new counts left)) i)
 
   -- A RECORD OF THE CLIENT
 
@@ -184,17 +190,21 @@ module _ (laws : VerdictLaws) (lab : Lab) (H : List Full) (r : Full) (n : ℕ) (
     before_is_journal = (laws.clients lab H n c scene.grown.1 scene.there).journal
 
     -- a datagram that was let in
-    of_item : (adv : IsAdvertised s q e) (number : ℕ) (x : Item) → slice_get (wire H) number ≡ Some x → Reaches lab H (now H) x n (client c) → e.input ≡ input_of x → r.moment ≡ now H → IsToldAt lab H r n c e
+    of_item : (adv : IsAdvertised s q e) (number : ℕ) (x : Item) → slice_get (wire H) number ≡ Some x → Reaches lab H (now H) x n (client c)
+        → e.input ≡ input_of x → r.moment ≡ now H → IsToldAt lab H r n c e
     of_item adv number (udp src dst bytes) at goes same moment =
         let came = sym same ∙ adv.came in
         let source : src ≡ adv.from = ap (from_of src) came in
         let all : bytes ≡ adv.bytes = ap bytes_of came in
         let b = has_server in
         let has = from_server lab.topology c q src b (source ∙ adv.source) in
-        let tells : TellsWhereTo lab (udp src dst bytes) = all_at (TellsWhereTo lab) (wire H) number (udp src dst bytes) (laws.tells lab H scene.is scene.grown.1 scene.honest) at in
-        let to : origin_in (value_in bytes).lead ≡ Some dst = tells c.server b.row b.there has (ap (λ (z : List ℕ). is_some (value_in z).lead.auth) all ∙ adv.auth) in
+        let tells : EntryTellsWhereTo lab (udp src dst bytes) = all_at (EntryTellsWhereTo lab) (wire H) number (udp src dst bytes)
+        (laws.tells lab H scene.is scene.grown.1 scene.honest) at in
+        let to : origin_in (value_in bytes).lead ≡ Some dst = tells c.server b.row b.there has
+        (ap (λ (z : List ℕ). is_some (value_in z).lead.auth) all ∙ adv.auth) in
         let given : origin_in (value_in adv.bytes).lead ≡ Some dst = ap (λ (z : List ℕ). origin_in (value_in z).lead) (sym all) ∙ to in
-        let input : IsMadeInput (input_of (udp src dst bytes)) = subst IsMadeInput same (act_made laws.made lab H r n (client c) e scene.is scene.grown act).input in
+        let input : IsMadeInput (input_of (udp src dst bytes)) = subst IsMadeInput same
+        (act_made laws.made lab H r n (client c) e scene.is scene.grown act).input in
         record {
           dst = dst;
           made = subst (λ (o : Option Ep). IfSome o IsEp) to (origin_is laws.payload bytes input.1);
@@ -210,42 +220,58 @@ module _ (laws : VerdictLaws) (lab : Lab) (H : List Full) (r : Full) (n : ℕ) (
     entry_given = ap (λ (z : Entry). z.input) act.step ∙ entry_input lab H r.moment n act.dst act.input (client c)
 
     of_given : IsAdvertised s q e → IsGiven lab H r n (client c) act.dst act.input → IsToldAt lab H r n c e
-    of_given adv (delivered number x by at goes moment to is_x) = of_item adv number x at (laws.routes lab H (now H) x n (client c) goes) (entry_given ∙ is_x) moment
+    of_given adv (delivered number x by at goes moment to is_x) = of_item adv number x at (laws.routes lab H (now H) x n (client c) goes)
+        (entry_given ∙ is_x) moment
     of_given adv (hosted v z hands none moment to is_z) = absurd (false≢true (ap is_arrived (sym (entry_given ∙ is_z) ∙ adv.came)))
     of_given adv (ticks d due at none moment to is_d) = absurd (false≢true (ap is_arrived (sym (entry_given ∙ is_d) ∙ adv.came)))
 
     pub is_told_at : is_told (turn_of e) ≡ true → IsToldAt lab H r n c e
     is_told_at t =
         let did : e ≡ client_entry s (journal n H) r.moment act.input (words lab n H) = act.step ∙ client_does lab H r.moment n act.dst c act.input in
-        let adv : IsAdvertised s q (client_entry s (journal n H) r.moment act.input (words lab n H)) = advertised laws.adverts s (journal n H) r.moment act.input (words lab n H) (subst (λ (z : Entry). is_told (turn_of z) ≡ true) did t) in
+        let adv : IsAdvertised s q (client_entry s (journal n H) r.moment act.input (words lab n H)) = advertised laws.adverts s
+        (journal n H) r.moment act.input (words lab n H) (subst (λ (z : Entry). is_told (turn_of z) ≡ true) did t) in
         of_given (subst (λ (z : Entry). IsAdvertised s q z) (sym did) adv) act.is_given
 
     -- an advertisement
     unchanged : e.step.sends ≡ [] → past_of_nat lab (r ∷ H) c ≡ past_of_nat lab H c
     unchanged none =
-        let passed : r.passed ≡ [] = act.passed ∙ ap (λ (xs : List Send). (by_way lab H r.moment (way_out lab.chain c.nat) c.inside (armed H) 0 [] xs).passed) none in
+        let passed : r.passed ≡ [] = act.passed ∙ ap (λ (xs : List Send).
+        (by_way lab H r.moment (way_out lab.chain c.nat) c.inside (armed H) 0 [] xs).passed) none in
         (laws.frame lab H r).silent c.nat (ap (outs_at c.nat) passed) (ap (λ (b : Bool). cond b (Restart ∷ []) (forgotten lab r.asked)) act.still ∙ act.lasting)
 
-    same_view : (p : List NatEntry) (m : ℕ) → p ≡ past_of_nat lab H c → m ≡ now H → record { nat = nat_behind lab c; past = p; moment = m; inside = c.inside; server = asks_at lab c } ≡ view_of lab H c
+    same_view : (p : List NatEntry) (m : ℕ) → p ≡ past_of_nat lab H c → m ≡ now H
+        → record { nat = nat_behind lab c; past = p; moment = m; inside = c.inside; server = asks_at lab c } ≡ view_of lab H c
     same_view p m past moment = cc
 
     -- what holds of the entry's turn holds after the record
-    entry_then : (v : View) → IsSoundIn v c.cone_try (unwrap_or (begins (turn_of e)) q.phase) (kept_then q.phase (turn_of e) (origin_given e.input) q.kept) (address_then s q.phase (turn_of e) (flags_word s e.words) (origin_given e.input) q.address) → IsSoundIn v c.cone_try (qualification s (journal n (r ∷ H))).phase (qualification s (journal n (r ∷ H))).kept (qualification s (journal n (r ∷ H))).address
+    entry_then : (v : View) → IsSoundIn v c.cone_try (unwrap_or (begins (turn_of e)) q.phase) (kept_then q.phase (turn_of e) (origin_given e.input) q.kept)
+        (address_then s q.phase (turn_of e) (flags_word s e.words) (origin_given e.input) q.address)
+        → IsSoundIn v c.cone_try (qualification s (journal n (r ∷ H))).phase (qualification s (journal n (r ∷ H))).kept
+        (qualification s (journal n (r ∷ H))).address
     entry_then v i =
         subst (λ (j : Journal). IsSoundIn v c.cone_try (qualification s j).phase (qualification s j).kept (qualification s j).address) (sym act.later)
-        (subst (λ (z : Phase). IsSoundIn v c.cone_try z (qualification s (with_entry (journal n H) e)).kept (qualification s (with_entry (journal n H) e)).address) (sym (phase_next s (journal n H) e))
-        (subst (λ (z : Option Ep). IsSoundIn v c.cone_try (unwrap_or (begins (turn_of e)) q.phase) z (qualification s (with_entry (journal n H) e)).address) (sym (kept_next s (journal n H) e))
-        (subst (λ (z : Option Ip6). IsSoundIn v c.cone_try (unwrap_or (begins (turn_of e)) q.phase) (kept_then q.phase (turn_of e) (origin_given e.input) q.kept) z) (sym (address_next s (journal n H) e)) i)))
+        (subst (λ (z : Phase). IsSoundIn v c.cone_try z (qualification s (with_entry (journal n H) e)).kept
+        (qualification s (with_entry (journal n H) e)).address) (sym (phase_next s (journal n H) e))
+        (subst (λ (z : Option Ep). IsSoundIn v c.cone_try (unwrap_or (begins (turn_of e)) q.phase) z (qualification s (with_entry (journal n H) e)).address)
+        (sym (kept_next s (journal n H) e))
+        (subst (λ (z : Option Ip6). IsSoundIn v c.cone_try (unwrap_or (begins (turn_of e)) q.phase)
+        (kept_then q.phase (turn_of e) (origin_given e.input) q.kept) z) (sym (address_next s (journal n H) e)) i)))
 
     -- what it told
     of_advert : IsToldAt lab H r n c e → IsSound lab H n c → IsSound lab (r ∷ H) n c
     of_advert t i =
         let w = flags_word s e.words in
         let primary = (client_made laws.replies.rules lab.topology n c scene.is scene.there).primary in
-        let after = told laws.turns s (view_of lab H c) c.cone_try primary (two_addresses laws.replies.rules lab c scene.is has_server) refl past_before t.dst t.made w q (is_cone q) q.phase i (as_expected s q (view_of lab H c) t.dst t.let_in) (is_same_origin (Some t.dst) (origin_before q q.phase)) refl in
-        let by_fate = subst (After laws.turns s (view_of lab H c) c.cone_try primary (two_addresses laws.replies.rules lab c scene.is has_server) refl past_before t.dst t.made w q.phase q.kept q.address) t.phase after in
-        let by_input = subst (λ (o : Option Ep). IsSoundIn (view_of lab H c) c.cone_try (unwrap_or (begins (turn_of e)) q.phase) (kept_then q.phase (turn_of e) o q.kept) (address_then s q.phase (turn_of e) w o q.address)) (sym t.origin) by_fate in
-        entry_then (view_of lab (r ∷ H) c) (subst (λ (v : View). IsSoundIn v c.cone_try (unwrap_or (begins (turn_of e)) q.phase) (kept_then q.phase (turn_of e) (origin_given e.input) q.kept) (address_then s q.phase (turn_of e) w (origin_given e.input) q.address)) (sym (same_view (past_of_nat lab (r ∷ H) c) r.moment (unchanged t.quiet) t.moment)) by_input)
+        let after = told laws.turns s (view_of lab H c) c.cone_try primary
+        (two_addresses laws.replies.rules lab c scene.is has_server) refl past_before t.dst t.made w q (is_cone q) q.phase i
+        (as_expected s q (view_of lab H c) t.dst t.let_in) (is_same_origin (Some t.dst) (origin_before q q.phase)) refl in
+        let by_fate = subst (After laws.turns s (view_of lab H c) c.cone_try primary
+        (two_addresses laws.replies.rules lab c scene.is has_server) refl past_before t.dst t.made w q.phase q.kept q.address) t.phase after in
+        let by_input = subst (λ (o : Option Ep). IsSoundIn (view_of lab H c) c.cone_try (unwrap_or (begins (turn_of e)) q.phase)
+        (kept_then q.phase (turn_of e) o q.kept) (address_then s q.phase (turn_of e) w o q.address)) (sym t.origin) by_fate in
+        entry_then (view_of lab (r ∷ H) c) (subst (λ (v : View). IsSoundIn v c.cone_try (unwrap_or (begins (turn_of e)) q.phase)
+        (kept_then q.phase (turn_of e) (origin_given e.input) q.kept) (address_then s q.phase (turn_of e) w (origin_given e.input) q.address))
+        (sym (same_view (past_of_nat lab (r ∷ H) c) r.moment (unchanged t.quiet) t.moment)) by_input)
 
     -- in phase Cone a client asks its server's primary address alone
     to_primary : (u : Turn) → is_told u ≡ false → asked_at s (unwrap_or (begins u) Cone) ≡ asks_at lab c
@@ -266,25 +292,33 @@ module _ (laws : VerdictLaws) (lab : Lab) (H : List Full) (r : Full) (n : ℕ) (
 
     -- it has no address then
     no_address : q.phase ≡ Cone → (own : Ip6) → q.address ≡ Some own → ⊥
-    no_address cone own has = false≢true (sym (ap is_qualified cone) ∙ sym (laws.addresses s (journal n H) before_is_journal) ∙ ap (λ (o : Option Ip6). is_some o) has)
+    no_address cone own has = false≢true (sym (ap is_qualified cone) ∙ sym (laws.addresses s (journal n H) before_is_journal)
+        ∙ ap (λ (o : Option Ip6). is_some o) has)
 
     -- so its datagrams are solicitations, and go there
-    one_send : q.phase ≡ Cone → is_told (turn_of e) ≡ false → (x : Send) → IsSending s q (qualification s (with_entry (journal n H) e)).phase e.peer (IsBubbleTo e) (IsCarriedTo (journal n H) e) x → x.to ≡ asks_at lab c
-    one_send cone h x (solicits nonce same) = ap (λ (z : Send). z.to) same ∙ ap (asked_at s) (phase_next s (journal n H) e ∙ ap (unwrap_or (begins (turn_of e))) cone) ∙ to_primary (turn_of e) h
+    one_send : q.phase ≡ Cone → is_told (turn_of e) ≡ false → (x : Send)
+        → IsSending s q (qualification s (with_entry (journal n H) e)).phase e.peer (IsBubbleTo e) (IsCarriedTo (journal n H) e) x → x.to ≡ asks_at lab c
+    one_send cone h x (solicits nonce same) = ap (λ (z : Send). z.to) same
+        ∙ ap (asked_at s) (phase_next s (journal n H) e ∙ ap (unwrap_or (begins (turn_of e))) cone) ∙ to_primary (turn_of e) h
     one_send cone h x (bubbles own p to has peer goes same) = absurd (no_address cone own has)
     one_send cone h x (tests own p nonce has peer same) = absurd (no_address cone own has)
     one_send cone h x (carries to bytes own goes same) = absurd (no_address cone _ own.source)
 
-    all_sends : q.phase ≡ Cone → is_told (turn_of e) ≡ false → (xs : List Send) → AllByRecursion (IsSending s q (qualification s (with_entry (journal n H) e)).phase e.peer (IsBubbleTo e) (IsCarriedTo (journal n H) e)) xs → AllByRecursion (λ (x : Send). x.to ≡ asks_at lab c) xs
+    all_sends : q.phase ≡ Cone → is_told (turn_of e) ≡ false → (xs : List Send)
+        → AllByRecursion (IsSending s q (qualification s (with_entry (journal n H) e)).phase e.peer (IsBubbleTo e) (IsCarriedTo (journal n H) e)) xs
+        → AllByRecursion (λ (x : Send). x.to ≡ asks_at lab c) xs
     all_sends cone h [] a = tt
     all_sends cone h (x ∷ xs) a = (one_send cone h x a.0, all_sends cone h xs a.1)
 
     -- any other entry
     of_rest : IsCalm lab H r n c → is_told (turn_of e) ≡ false → IsSound lab H n c → IsSound lab (r ∷ H) n c
     of_rest calm h i =
-        let stays : IsSoundIn (view_of lab (r ∷ H) c) c.cone_try q.phase q.kept q.address = stays_sound laws.turns.nat (view_of lab H c) (nat_entries lab c.nat r) r.moment (next calm) c.cone_try q.kept q.address q.phase calm.server_open
-        (λ cone d new counts left. act_out (λ (x : Ep). x ≡ asks_at lab c) lab H r n c.nat c e d act (all_sends cone h e.step.sends (laws.sends s (journal n H) e is_journal)) new) i in
-        entry_then (view_of lab (r ∷ H) c) (untold s (view_of lab (r ∷ H) c) c.cone_try (turn_of e) (flags_word s e.words) (origin_given e.input) q.kept q.address h q.phase stays)
+        let stays : IsSoundIn (view_of lab (r ∷ H) c) c.cone_try q.phase q.kept q.address = stays_sound laws.turns.nat (view_of lab H c)
+        (nat_entries lab c.nat r) r.moment (next calm) c.cone_try q.kept q.address q.phase calm.server_open
+        (λ cone d new counts left. act_out (λ (x : Ep). x ≡ asks_at lab c) lab H r n c.nat c e d act
+        (all_sends cone h e.step.sends (laws.sends s (journal n H) e is_journal)) new) i in
+        entry_then (view_of lab (r ∷ H) c) (untold s (view_of lab (r ∷ H) c) c.cone_try (turn_of e) (flags_word s e.words)
+        (origin_given e.input) q.kept q.address h q.phase stays)
 
     pub of_client : IsCalm lab H r n c → IsSound lab H n c → IsSound lab (r ∷ H) n c
     of_client calm i = by (is_told (turn_of e)) refl where

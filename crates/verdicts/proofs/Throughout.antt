@@ -16,8 +16,8 @@ use Rattle.legal.specs.Past.{journal}
 use Rattle.legal.specs.Legal.{Begun, Grown}
 use Rattle.legal.proofs.NatPasts.{set_up_past}
 use Rattle.origins.proofs.Brought.{is_client}
-use Rattle.origins.proofs.Whence.{earlier}
-use Rattle.verdicts.specs.Right.{EachIsRight, EachIsRightWithoutCone, VerdictsAreRight}
+use Rattle.origins.proofs.Carried.{earlier}
+use Rattle.verdicts.specs.Right.{EachIsRight, EachIsRightWithoutCone, EachVerdictIsRight}
 use Rattle.verdicts.specs.Throughout.{HistoriesHaveRightVerdicts, ScenariosHaveRightVerdicts}
 use Rattle.verdicts.proofs.Steps.{VerdictLaws}
 use Rattle.verdicts.proofs.Judged.{right, right_without_cone}
@@ -34,7 +34,8 @@ node_of lab n c there = by (node_at lab.topology n) there where
 -- undisturbed clients
 each_is_right : VerdictLaws → EachIsRight
 each_is_right laws lab H n c flat is g honest there calm =
-    right laws.turns.nat lab H n c (set_up_past lab H c.nat g) (fine laws lab n c flat is (node_of lab n c there) H g honest calm.began calm.lasts calm.server_open).sound
+    right laws.turns.nat lab H n c (set_up_past lab H c.nat g)
+    (fine laws lab n c flat is (node_of lab n c there) H g honest calm.began calm.lasts calm.server_open).sound
 
 -- clients without the cone phase
 each_is_right_without_cone : VerdictLaws → EachIsRightWithoutCone
@@ -44,11 +45,11 @@ each_is_right_without_cone laws lab H n c flat is g honest there never calm =
     never (laws.addresses (client_settings lab.topology c) (journal n H) (laws.clients lab H n c g at).journal)
 
 -- both
-pub verdicts_are_right : VerdictLaws → VerdictsAreRight
+pub verdicts_are_right : VerdictLaws → EachVerdictIsRight
 verdicts_are_right laws = record { undisturbed = each_is_right laws; kept_open = each_is_right_without_cone laws }
 
 -- at each record of a history
-pub histories : VerdictsAreRight → HistoriesHaveRightVerdicts
+pub histories : EachVerdictIsRight → HistoriesHaveRightVerdicts
 histories laws lab H flat is g later r before split =
     let there : Grown lab (r ∷ before) = earlier lab later (r ∷ before) (subst (Grown lab) split g) in
     record {
@@ -57,5 +58,6 @@ histories laws lab H flat is g later r before split =
     }
 
 -- and of a scenario
-pub scenarios : ((lab : Lab) (events : List Event) (h : List Full) → AllByRecursion (IsEvent lab.topology) events → Begun lab events h → Grown lab h) → HistoriesHaveRightVerdicts → ScenariosHaveRightVerdicts
+pub scenarios : ((lab : Lab) (events : List Event) (h : List Full) → AllByRecursion (IsEvent lab.topology) events → Begun lab events h → Grown lab h)
+    → HistoriesHaveRightVerdicts → ScenariosHaveRightVerdicts
 scenarios grown law s H is events begun = law (lab_of s []) H refl is (grown (lab_of s []) s.events H events begun)

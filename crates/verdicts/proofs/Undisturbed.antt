@@ -55,7 +55,8 @@ first_is_early tries ph (first_restricted same) = ap is_early same
 untried_at_start : (lab : Lab) (H : List Full) (n m : ℕ) (c : ClientNode) → journal n H ≡ new_journal m → IsUnseen (view_of lab H c) → IsUntried lab H n c
 untried_at_start lab H n m c fresh unseen = record {
   unseen = unseen;
-  early = ap is_early (starts_in lab H n m c fresh) ∙ first_is_early c.cone_try (first_phase (client_settings lab.topology c)) (is_first (client_settings lab.topology c));
+  early = ap is_early (starts_in lab H n m c fresh) ∙ first_is_early c.cone_try (first_phase (client_settings lab.topology c))
+      (is_first (client_settings lab.topology c));
 }
 
 -- only an advertisement ends that
@@ -72,17 +73,22 @@ module _ (laws : VerdictLaws) (lab : Lab) (H : List Full) (r : Full) (n : ℕ) (
   untried none u = record { unseen = unseen; early = by (concerns laws lab H r n c scene off) } where
     unseen : IsUnseen (view_of lab (r ∷ H) c)
     unseen = still_unseen (view_of lab H c) (nat_entries lab c.nat r) r.moment (laws.later lab H r scene.grown)
-        (λ d new left. none_has (is_out_of c.inside) (nat_entries lab c.nat r) (Out d) none new (ap (λ (e : Ep). same_ep e c.inside) left ∙ same_ep-self c.inside)) u.unseen
+        (λ d new left. none_has (is_out_of c.inside) (nat_entries lab c.nat r) (Out d) none new
+        (ap (λ (e : Ep). same_ep e c.inside) left ∙ same_ep-self c.inside)) u.unseen
 
-    of_turn : (e : Entry) → IsActOf lab H r n (client c) e → (b : Bool) → is_told (turn_of e) ≡ b → is_early (qualification (client_settings lab.topology c) (with_entry (journal n H) e)).phase ≡ true
+    of_turn : (e : Entry) → IsActOf lab H r n (client c) e → (b : Bool) → is_told (turn_of e) ≡ b
+        → is_early (qualification (client_settings lab.topology c) (with_entry (journal n H) e)).phase ≡ true
     of_turn e act true h =
         let t = is_told_at laws lab H r n c scene e act h in
-        let a = was_asked laws.turns.nat (view_of lab H c) (expected (client_settings lab.topology c) (standing lab H n c)) t.dst (past_before laws lab H r n c scene) t.let_in in
+        let a = was_asked laws.turns.nat (view_of lab H c) (expected (client_settings lab.topology c) (standing lab H n c)) t.dst
+        (past_before laws lab H r n c scene) t.let_in in
         absurd (u.unseen a.datagram a.counts a.left)
-    of_turn e act false h = ap is_early (phase_next (client_settings lab.topology c) (journal n H) e) ∙ still_early (turn_of e) (standing lab H n c).phase h u.early
+    of_turn e act false h = ap is_early (phase_next (client_settings lab.topology c) (journal n H) e)
+        ∙ still_early (turn_of e) (standing lab H n c).phase h u.early
 
     by : Concerns lab H r n c → is_early (standing lab (r ∷ H) n c).phase ≡ true
-    by (own e act) = subst (λ (j : Journal). is_early (qualification (client_settings lab.topology c) j).phase ≡ true) (sym act.later) (of_turn e act (is_told (turn_of e)) refl)
+    by (own e act) = subst (λ (j : Journal). is_early (qualification (client_settings lab.topology c) j).phase ≡ true) (sym act.later)
+        (of_turn e act (is_told (turn_of e)) refl)
     by (others same nothing) = subst (λ (j : Journal). is_early (qualification (client_settings lab.topology c) j).phase ≡ true) (sym same) u.early
 
 -- what holds of an undisturbed client
@@ -105,16 +111,23 @@ open_of true true b h = refl
 open_of true false b h = absurd (false≢true (sym h))
 open_of false is_open b h = absurd (false≢true b)
 
-module _ (laws : VerdictLaws) (lab : Lab) (n : ℕ) (c : ClientNode) (flat : lab.chain ≡ []) (is : IsTopology lab.topology) (there : node_at lab.topology n ≡ Some (client c)) where
+module _ (laws : VerdictLaws) (lab : Lab) (n : ℕ) (c : ClientNode) (flat : lab.chain ≡ []) (is : IsTopology lab.topology)
+    (there : node_at lab.topology n ≡ Some (client c)) where
   -- the NAT let a datagram of the client out
   abbrev HasSent : List Full → Bool
   HasSent before = has_sent lab before n c
 
   -- one record more
-  step : (H : List Full) (r : Full) → Scene lab H r n c → starts n r ≡ false → IsFine lab H n c → (list_any (is_loss_of c.inside) (nat_entries lab c.nat r)) ≡ false → (has_sent lab H n c && not (is_open_at lab H r.moment c)) ≡ false → IsFine lab (r ∷ H) n c
+  step : (H : List Full) (r : Full) → Scene lab H r n c → starts n r ≡ false → IsFine lab H n c
+      → (list_any (is_loss_of c.inside) (nat_entries lab c.nat r)) ≡ false → (has_sent lab H n c && not (is_open_at lab H r.moment c)) ≡ false
+      → IsFine lab (r ∷ H) n c
   step H r scene off fine spared shut = record {
-    sound = goes_on laws lab H r n c scene off (record { spared = spared; server_open = λ rests. open_of (has_sent lab H n c) (is_open_at lab H r.moment c) (sent rests (has_sent lab H n c) refl) shut }) fine.sound;
-    untried = λ none. let both = or_parts (list_any (is_out_of c.inside) (nat_entries lab c.nat r)) (has_sent lab H n c) (ap (λ (b : Bool). cond b false (list_any (is_out_of c.inside) (nat_entries lab c.nat r) || has_sent lab H n c)) (sym off) ∙ none) in
+    sound = goes_on laws lab H r n c scene off (record {
+      spared = spared;
+      server_open = λ rests. open_of (has_sent lab H n c) (is_open_at lab H r.moment c) (sent rests (has_sent lab H n c) refl) shut;
+    }) fine.sound;
+    untried = λ none. let both = or_parts (list_any (is_out_of c.inside) (nat_entries lab c.nat r)) (has_sent lab H n c)
+        (ap (λ (b : Bool). cond b false (list_any (is_out_of c.inside) (nat_entries lab c.nat r) || has_sent lab H n c)) (sym off) ∙ none) in
         untried laws lab H r n c scene off both.0 (fine.untried both.1);
   } where
     sent : is_resting (standing lab H n c).phase ≡ true → (b : Bool) → has_sent lab H n c ≡ b → has_sent lab H n c ≡ true
@@ -126,7 +139,8 @@ module _ (laws : VerdictLaws) (lab : Lab) (n : ℕ) (c : ClientNode) (flat : lab
   start H m fresh unseen = record { sound = sound_at_start lab H n m c fresh (λ _. unseen); untried = λ _. untried_at_start lab H n m c fresh unseen }
 
   -- a whole history
-  pub fine : (H : List Full) → Grown lab H → are_honest lab.topology H ≡ true → began_seen lab H n c ≡ false → was_lost lab H n c ≡ false → was_shut HasSent lab H n c ≡ false → IsFine lab H n c
+  pub fine : (H : List Full) → Grown lab H → are_honest lab.topology H ≡ true → began_seen lab H n c ≡ false → was_lost lab H n c ≡ false
+      → was_shut HasSent lab H n c ≡ false → IsFine lab H n c
   fine [] g honest began lost shut = start [] 0 refl (λ d counts left. counts)
   fine (r ∷ H) g honest began lost shut = by (starts n r) refl began lost shut (λ b l s. fine H g.1 before b l s) where
     before : are_honest lab.topology H ≡ true

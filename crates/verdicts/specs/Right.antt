@@ -40,6 +40,6 @@ EachIsRightWithoutCone = (lab : Lab) (H : List Full) (n : ℕ) (c : ClientNode) 
     → are_honest lab.topology H ≡ true → client_at lab.topology n ≡ Some c → c.cone_try ≡ false → IsKeptOpen lab H n c
     → IsRightWithoutCone lab H n c
 
-pub record VerdictsAreRight : Type 0 where
+pub record EachVerdictIsRight : Type 0 where
   pub undisturbed : EachIsRight
   pub kept_open : EachIsRightWithoutCone

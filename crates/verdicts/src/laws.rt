@@ -1,14 +1,15 @@
 //! Laws of every history.
-ghost use Rattle.verdicts.specs.Right.{VerdictsAreRight};
+ghost use Rattle.verdicts.specs.Right.{EachVerdictIsRight};
 ghost use Rattle.verdicts.specs.Throughout.{HistoriesHaveRightVerdicts, ScenariosHaveRightVerdicts};
 
 /// In an honest history the verdict of each undisturbed client is right. So is that of each client that doesn't try the cone
 /// phase and whose NAT was kept open; its address has no cone bit.
 pub fn verdicts_are_right()
-    ensures { VerdictsAreRight }
+    ensures { EachVerdictIsRight }
 {
     origins::tells_where_to();
     topology::each_node();
+    settled::client_is_there();
     legal::acted();
     legal::routes();
     legal::is_reached();

@@ -7,6 +7,7 @@ returns c = each_has_origin (record {
   comes = c.comes_from_clients.ensures;
   apart = c.apart.ensures;
   rules = c.each_node.ensures;
+  there = c.client_is_there.ensures;
   makers = c.made.ensures;
   made = c.wire_is_made.ensures;
   recorded = c.is_recorded.ensures;

@@ -7,6 +7,7 @@ returns c = each_is_live (record {
   routes = c.routes.ensures;
   clients = c.client_journals.ensures;
   rules = c.each_node.ensures;
+  there = c.client_is_there.ensures;
   made = c.wire_is_made.ensures;
   told = c.each_address_is_told.ensures;
   tells = c.tells_where_to.ensures;

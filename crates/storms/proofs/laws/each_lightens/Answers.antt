@@ -47,7 +47,8 @@ returns c =
         rules = c.each_node.ensures;
         rows = rows;
         peers = peers;
-        turns = record { turns = c.turns.ensures; at_start = c.turns_at_start.ensures };
+        there = c.client_is_there.ensures;
+        own = c.address_is_own.ensures;
         journals = c.client_journals.ensures;
         histories = c.wire_is_made.ensures;
         next = c.next_mentions.ensures;

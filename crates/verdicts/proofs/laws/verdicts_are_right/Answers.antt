@@ -14,7 +14,7 @@ returns c = verdicts_are_right (record {
   addresses = c.qualified_has_address.ensures;
   sends = c.each_send.ensures;
   payload = c.payload_is_spelled.ensures;
-  replies = record { rules = c.each_node.ensures; reached = c.is_reached.ensures; replies = c.reply_is_let_in.ensures };
+  replies = record { there = c.client_is_there.ensures; rules = c.each_node.ensures; reached = c.is_reached.ensures; replies = c.reply_is_let_in.ensures };
   adverts = record { received = c.reception_is_warranted.ensures; ticked = c.tick_is_warranted.ensures };
   turns = record {
     nat = record { ports = c.counting_datagram_holds_its_port.ensures; keys = c.port_has_one_key.ensures; asked = c.let_in_where_asked.ensures };

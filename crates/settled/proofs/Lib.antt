@@ -1,0 +1,2 @@
+mod ItsNodes
+mod OwnAddress

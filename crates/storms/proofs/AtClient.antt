@@ -1,0 +1,220 @@
+-- What a client is given, and what is light: what it makes of that weighs less than that, and what waited before.
+use Rattle.std.proofs.Common.{◌≡◌, ◌≤◌, ◌<◌, ℕ, ◌+◌, Bool, true, false, cond, List, [], ◌∷◌, Option, Some, None, refl, sym, ap, subst, ◌∙◌, arith}
+use Rattle.std.specs.Prelude.{sum_by, unwrap_or, is_some, IfSome}
+use Rattle.std.specs.List.{AllByRecursion}
+use Rattle.std.proofs.lemmas.Bool.{false≢true}
+use Rattle.td_base.specs.Ip6.{IsIp6}
+use Rattle.td_base.specs.declared.ipv6.Ip6.{Ip6}
+use Rattle.td_base.specs.declared.endpoint.Ep.{Ep}
+use Rattle.ipv6_packet.specs.Laws.{PacketReadsBack}
+use Rattle.teredo_addr.specs.Teredo.{is_teredo, unspecified}
+use Rattle.indications.specs.Leads.{origin_in}
+use Rattle.bubble.specs.PacketsIn.{packet_in, source_in}
+use Rattle.bubble.specs.Reads.{is_payload, value_in}
+use Rattle.bubble.specs.Laws.{PacketIsPayload, BubbleReadsBack, MessageIsCarried}
+use Rattle.teredo_node.specs.declared.fate.Fate.{Fate}
+use Rattle.teredo_node.specs.Step.{Send}
+use Rattle.teredo_node.specs.Sends.{has_any}
+use Rattle.teredo_node.specs.Journal.{arrived, is_changed, Entry, Journal, Words}
+use Rattle.peer_list.specs.Mentions.{Mention}
+use Rattle.peer_list.specs.Listed.{touched}
+use Rattle.peer_list.specs.Peers.{known}
+use Rattle.qualify.specs.declared.settings.Settings.{Settings}
+use Rattle.qualify.specs.Qualification.{qualification}
+use Rattle.qualify.specs.Solicitations.{own_address, is_qualified}
+use Rattle.qualify.specs.Advertisements.{Heard, heard}
+use Rattle.client_rules.specs.Bearings.{mention, mentions}
+use Rattle.client_rules.specs.Epochs.{QualifiedHasAddress, WaitingIsOwn}
+use Rattle.client_rules.specs.Journals.{IsJournal, entry}
+use Rattle.client_rules.specs.Laws.{NextMentions, ReceptionIsWarranted}
+use Rattle.client_rules.specs.MadeSends.{EachStandingIsMade}
+use Rattle.client_rules.specs.Reception as reception
+use Rattle.client_rules.specs.Standing.{Standing, known_in, standing_at, standing_of}
+use Rattle.client_rules.specs.Warrants.{ReceivedOnlyIf, IsForClient, IsIndirect, IsSuspect}
+use Rattle.topology.specs.declared.client_node.ClientNode.{ClientNode}
+use Rattle.topology.specs.Rows.{TopologyState}
+use Rattle.topology.specs.Rules.{IsTopology}
+use Rattle.topology.specs.NodeRules.{EachNodeKeepsRules, AddressesAreApart}
+use Rattle.history.specs.Full.{Item, Made}
+use Rattle.legal.specs.Lab.{Lab}
+use Rattle.legal.specs.Settings.{client_settings}
+use Rattle.legal.specs.Laws.{EachClientIsJournal}
+use Rattle.legal.specs.OwnSends.{AreOfSends}
+use Rattle.legal.specs.MadeWire.{IsMadeItem, EachHistoryIsMade}
+use Rattle.settled.specs.ItsNodes.{HasServer, ClientsAreThere}
+use Rattle.settled.specs.OwnAddress.{EachAddressIsOwn}
+use Rattle.storms.specs.Weights.{is_some_server, entry_weight}
+use Rattle.storms.specs.Burden.{client_packet}
+use Rattle.storms.proofs.PeersWait.{PeerLaws, waits_for, waits_in, freed, added, shifts, stays}
+use Rattle.storms.proofs.AtServers.{RowLaws}
+use Rattle.storms.proofs.NewItems.{items_in}
+
+pub record ClientLaws : Type 0 where
+  pub apart : AddressesAreApart
+  pub rules : EachNodeKeepsRules
+  pub rows : RowLaws
+  pub peers : PeerLaws
+  pub there : ClientsAreThere
+  pub own : EachAddressIsOwn
+  pub journals : EachClientIsJournal
+  pub histories : EachHistoryIsMade
+  pub next : NextMentions
+  pub addressed : QualifiedHasAddress
+  pub waiting : WaitingIsOwn
+  pub standing : EachStandingIsMade
+  pub received : ReceptionIsWarranted
+  pub payload : PacketIsPayload
+  pub bubble : BubbleReadsBack
+  pub carried : MessageIsCarried
+  pub back : PacketReadsBack
+
+-- WHAT WAITS
+
+abbrev pub mentions_after : Entry → List Mention → List Mention
+mentions_after e j = cond (is_changed e.step.fate) [] (mention e ∷ j)
+
+nothing_waits : (m : ℕ) → waits_in client_packet [] m ≡ 0
+unfolding touched
+nothing_waits m = refl
+
+-- LIGHT ENTRIES
+
+-- what the entry makes and leaves weighs less than this, and what waited before
+abbrev pub IsLight : TopologyState → ℕ → Journal → Entry → ℕ → Type 0
+IsLight t m j e heavy = (made : List Made) → AreOfSends made e.step.sends → AllByRecursion IsMadeItem (items_in made)
+    → sum_by (entry_weight t) (items_in made) + waits_in client_packet (mentions_after e (mentions j.entries)) m
+    < heavy + waits_in client_packet (mentions j.entries) m
+
+-- nothing is sent, and no more waits
+abbrev pub IsCalm : Entry → Type 0
+IsCalm e = (e.step.sends ≡ []) × ((mention e).bearing.touches ≡ false) × ((mention e).bearing.hears ≡ false) × ((mention e).bearing.queues ≡ None)
+
+none_made : (w : Item → ℕ) (made : List Made) (sends : List Send) → AreOfSends made sends → sends ≡ [] → sum_by w (items_in made) ≡ 0
+none_made w [] sends are e = refl
+none_made w (x ∷ xs) [] are e = absurd are
+none_made w (x ∷ xs) (y ∷ ys) are e = absurd (false≢true (sym (ap (λ (zs : List Send). has_any zs) e)))
+
+pub calm : PeerLaws → (t : TopologyState) (m : ℕ) (j : Journal) (e : Entry) (heavy : ℕ) → 1 ≤ heavy → IsCalm e → IsLight t m j e heavy
+calm laws t m j e heavy least is made are fresh =
+    let new = none_made (entry_weight t) made e.step.sends are is.0 in
+    let less = by (is_changed e.step.fate) in
+    omega (arith, least, new, less)
+  where
+    by : (changed : Bool) → waits_in client_packet (cond changed [] (mention e ∷ mentions j.entries)) m ≤ waits_in client_packet (mentions j.entries) m
+    by true = let none = nothing_waits m in omega (arith, none)
+    by false = stays client_packet laws (mention e) (mentions j.entries) m is.1 is.2 is.3
+
+-- A DATAGRAM
+
+-- a client's journal at a moment, with the words that it draws next, and a datagram that weighs this much
+pub record AtClient : Type 0 where
+  pub lab : Lab
+  pub c : ClientNode
+  pub m : ℕ
+  pub j : Journal
+  pub w : Words
+  pub src : Ep
+  pub x : List ℕ
+  pub heavy : ℕ
+
+abbrev pub setup : AtClient → Settings
+setup d = client_settings d.lab.topology d.c
+
+abbrev pub stands : AtClient → Standing
+stands d = standing_of (setup d) d.j d.m (source_in d.x)
+
+-- what is seen of it
+abbrev pub seen_of : AtClient → reception.Seen
+seen_of d = reception.seen (setup d) (stands d) d.src d.x
+
+abbrev pub heard_of : AtClient → Heard
+heard_of d = heard (setup d) (stands d).qualification d.src (value_in d.x)
+
+-- its source, and the client's address
+abbrev pub peer_of : AtClient → Ip6
+peer_of d = (value_in d.x).packet.src
+
+abbrev pub own_of : AtClient → Ip6
+own_of d = own_address (stands d).qualification
+
+-- the entry of each fate, and whether it is light where that is given
+abbrev pub came : AtClient → Fate → Entry
+came d f = entry d.m (arrived d.src d.x) (packet_in d.x) (source_in d.x) d.w (reception.reception_step (setup d) (stands d) d.src d.x (value_in d.x) d.w f)
+
+abbrev pub LightAs : AtClient → Entry → Type 0
+LightAs d e = IsLight d.lab.topology d.m d.j e d.heavy
+
+abbrev pub Light : AtClient → Fate → Type 0
+Light d f = ReceivedOnlyIf f (seen_of d) (heard_of d) → LightAs d (came d f)
+
+-- what it weighs by what is seen of it, and what is known of the client
+pub record IsAtClient (d : AtClient) : Type 0 where
+  pub least : 1 ≤ d.heavy
+  pub indirect : IsIndirect (seen_of d) → (o : Ep) → origin_in (value_in d.x).lead ≡ Some o → cond (is_some_server d.lab.topology o) 3 2 ≤ d.heavy
+  pub suspect : (full : Bool) → IsSuspect full (seen_of d) → 8 ≤ d.heavy
+  pub is_j : IsJournal (setup d) d.j
+  pub made_own : IfSome (qualification (setup d) d.j).address IsIp6
+  pub made_peer : IfSome (source_in d.x) IsIp6
+  pub rules : IsTopology d.lab.topology
+  pub served : HasServer d.lab.topology d.c
+
+-- WHAT IS SEEN OF IT
+
+pub payload_is : (d : AtClient) → IsForClient (seen_of d) → is_payload d.x ≡ true
+unfolding reception.seen
+payload_is d h = h.sound.payload
+
+qualified_is : (d : AtClient) → IsForClient (seen_of d) → is_qualified (qualification (setup d) d.j).phase ≡ true
+unfolding reception.seen standing_at
+qualified_is d h = h.qualified
+
+pub native_is : (d : AtClient) (full : Bool) → IsSuspect full (seen_of d) → is_teredo (peer_of d) ≡ false
+unfolding reception.seen
+native_is d full h = h.native
+
+pub source_is : (d : AtClient) → is_payload d.x ≡ true → source_in d.x ≡ Some (peer_of d)
+unfolding source_in
+source_is d h = ap (λ (b : Bool). cond b (Some (peer_of d)) None) h
+
+some_is : (o : Option Ip6) → is_some o ≡ true → o ≡ Some (unwrap_or o unspecified)
+some_is None e = absurd (false≢true e)
+some_is (Some ip) e = refl
+
+pub own_is : QualifiedHasAddress → (d : AtClient) → IsAtClient d → IsForClient (seen_of d) → (qualification (setup d) d.j).address ≡ Some (own_of d)
+unfolding standing_at own_address
+own_is law d g h = some_is (qualification (setup d) d.j).address (law (setup d) d.j g.is_j ∙ qualified_is d h)
+
+pub known_is : (d : AtClient) → source_in d.x ≡ Some (peer_of d) → (known_in (stands d)).waiting ≡ (known (mentions d.j.entries) d.m (peer_of d)).waiting
+unfolding standing_at
+known_is d e = ap (λ (o : Option Ip6). (known (mentions d.j.entries) d.m (unwrap_or o unspecified)).waiting) e
+
+-- both are made of bytes
+pub own_made : QualifiedHasAddress → (d : AtClient) → IsAtClient d → IsForClient (seen_of d) → IsIp6 (own_of d)
+own_made law d g h = subst (λ (o : Option Ip6). IfSome o IsIp6) (own_is law d g h) g.made_own
+
+pub peer_made : (d : AtClient) → IsAtClient d → IsForClient (seen_of d) → IsIp6 (peer_of d)
+peer_made d g h = subst (λ (o : Option Ip6). IfSome o IsIp6) (source_is d (payload_is d h)) g.made_peer
+
+-- AN ENTRY THAT TOUCHES THE PEER
+
+-- one at the moment, about the source, which touches it; it lasts where no address changes
+abbrev pub IsTouch : AtClient → Entry → Type 0
+IsTouch d e = (is_changed e.step.fate ≡ false) × (e.moment ≡ d.m) × (e.peer ≡ source_in d.x) × ((mention e).bearing.touches ≡ true)
+
+abbrev before_at : AtClient → ℕ → ℕ
+before_at d m = waits_in client_packet (mentions d.j.entries) m
+
+pub shifted : PeerLaws → (d : AtClient) (e : Entry) → is_payload d.x ≡ true → IsTouch d e
+    → waits_in client_packet (mention e ∷ mentions d.j.entries) d.m + freed client_packet (mention e).bearing.hears
+    (waits_for client_packet (mentions d.j.entries) d.m (peer_of d))
+    ≤ before_at d d.m + added client_packet (mention e).bearing.queues
+shifted laws d e payload t =
+    subst (λ (k : ℕ). waits_in client_packet (mention e ∷ mentions d.j.entries) k
+    + freed client_packet (mention e).bearing.hears (waits_for client_packet (mentions d.j.entries) k (peer_of d))
+    ≤ before_at d k + added client_packet (mention e).bearing.queues) t.1
+    (shifts client_packet laws (mention e) (mentions d.j.entries) (peer_of d) (t.2 ∙ source_is d payload) t.3)
+
+-- what waits after it
+pub lasting : (d : AtClient) (e : Entry) → is_changed e.step.fate ≡ false
+    → waits_in client_packet (mentions_after e (mentions d.j.entries)) d.m ≡ waits_in client_packet (mention e ∷ mentions d.j.entries) d.m
+lasting d e lasts = ap (λ (b : Bool). waits_in client_packet (cond b [] (mention e ∷ mentions d.j.entries)) d.m) lasts

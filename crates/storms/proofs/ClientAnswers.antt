@@ -1,0 +1,138 @@
+-- What a client answers to a bubble through its server, and the test that it sends, weigh less than what they answer.
+use Rattle.std.proofs.Common.{◌≡◌, ◌≤◌, ◌<◌, ℕ, Bool, true, false, cond, [], ◌∷◌, map, Option, Some, None, refl, ap, subst, ◌∙◌, arith}
+use Rattle.std.specs.Prelude.{option_to_list}
+use Rattle.std.proofs.lemmas.List.Sums.{sum_by-cons}
+use Rattle.byteorder.specs.Endian.{big_bytes}
+use Rattle.td_base.specs.Ep.{server_ep}
+use Rattle.td_base.specs.declared.ipv6.Ip6.{Ip6}
+use Rattle.td_base.specs.declared.endpoint.Ep.{Ep}
+use Rattle.ipv6_packet.specs.Packets.{Fields, packet_bytes}
+use Rattle.icmp6.specs.Message.{Message, echo_request}
+use Rattle.teredo_addr.specs.Teredo.{is_teredo, embedded}
+use Rattle.indications.specs.Leads.{origin_in}
+use Rattle.bubble.specs.Bubbles.{bubble_of, bubble_bytes}
+use Rattle.bubble.specs.declared.bubbles.TheConstants.{BUBBLE_HOP}
+use Rattle.bubble.specs.Messages.{message_packet}
+use Rattle.bubble.specs.Reads.{is_payload, value_in}
+use Rattle.teredo_node.specs.declared.fate.Fate.TheVariants as fate
+use Rattle.teredo_node.specs.Step.{Send}
+use Rattle.teredo_node.specs.Sends.{send}
+use Rattle.teredo_node.specs.Words.{nonce_from}
+use Rattle.teredo_node.specs.Journal.{Entry}
+use Rattle.client_rules.specs.declared.limits.TheConstants.{TEST_ID, TEST_SEQ}
+use Rattle.client_rules.specs.Bearings.{mention, mentions}
+use Rattle.client_rules.specs.Reception as reception
+use Rattle.client_rules.specs.Tries.{direct_bubble, test}
+use Rattle.client_rules.specs.Warrants.{IsIndirect, IsSuspect}
+use Rattle.server_core.specs.Conditions.{is_solicit}
+use Rattle.history.specs.Full.{Item}
+use Rattle.legal.specs.OwnSends.{AreOfSends}
+use Rattle.storms.specs.Weights.{is_some_server, entry_weight}
+use Rattle.storms.specs.Burden.{client_packet}
+use Rattle.storms.proofs.PeersWait.{waits_for, freed, added}
+use Rattle.storms.proofs.Sent.{test_sent, answer_sent}
+use Rattle.storms.proofs.NewItems.{MayWeigh, sends_weigh}
+use Rattle.storms.proofs.ClientServers.{own_server, good_origin}
+use Rattle.storms.proofs.AtClient.{ClientLaws, AtClient, setup, seen_of, peer_of, own_of, came, LightAs, Light, IsAtClient, payload_is, native_is, own_made}
+use Rattle.storms.proofs.AtClient.{peer_made, IsTouch, shifted, lasting}
+
+module _ (laws : ClientLaws) (d : AtClient) (g : IsAtClient d) where
+  abbrev weigh : Item → ℕ
+  weigh = entry_weight d.lab.topology
+
+  abbrev p : Ip6
+  p = peer_of d
+
+  abbrev own : Ip6
+  own = own_of d
+
+  -- ONE SEND
+
+  -- an entry with one send, which weighs less than the datagram and frees nothing
+  pub record SendsOne (e : Entry) (s : Send) (k : ℕ) : Type 0 where
+    pub sends : e.step.sends ≡ s ∷ []
+    pub may : MayWeigh weigh (λ (z : Send). k) s
+    pub less : k < d.heavy
+    pub touch : IsTouch d e
+    pub hears : (mention e).bearing.hears ≡ false
+    pub queues : (mention e).bearing.queues ≡ None
+
+  one_send : (e : Entry) (s : Send) (k : ℕ) → is_payload d.x ≡ true → SendsOne e s k → LightAs d e
+  one_send e s k payload one made are fresh =
+      let new = sends_weigh weigh (λ (z : Send). k) made (s ∷ []) (subst (AreOfSends made) one.sends are) fresh (one.may, tt) in
+      let single = sum_by-cons (λ (z : Send). k) s [] in
+      let less = shifted laws.peers d e payload one.touch in
+      let all = ap (λ (b : Bool). freed client_packet b (waits_for client_packet (mentions d.j.entries) d.m p)) one.hears in
+      let none = ap (added client_packet) one.queues in
+      let after = lasting d e one.touch.0 in
+      let weighs = one.less in
+      omega (arith, new, single, less, all, none, after, weighs)
+
+  -- THE ANSWER TO AN INDIRECT BUBBLE
+
+  origin_of : IsIndirect (seen_of d) → (to : Ep) × (origin_in (value_in d.x).lead ≡ Some to) × (is_teredo p ≡ true → to ≡ embedded p)
+  unfolding reception.seen
+  origin_of h = good_origin (setup d).policy p (origin_in (value_in d.x).lead) h.origin
+
+  -- a bubble weighs one less than what draws it
+  one_less : (b : Bool) → cond b 3 2 ≤ d.heavy → cond b 2 1 < d.heavy
+  one_less true h = omega (arith, h)
+  one_less false h = omega (arith, h)
+
+  pub indirect : Light d fate.Indirect
+  indirect only =
+      let o = origin_of only in
+      let to : Ep = o.0 in
+      let reads = laws.bubble own p (own_made laws.addressed d g only.mine) (peer_made d g only.mine) in
+      let e : Entry = came d fate.Indirect in
+      one_send e (direct_bubble own p to) (cond (is_some_server d.lab.topology to) 2 1) (payload_is d only.mine) (record {
+        sends = ap (λ (z : Option Ep). map (direct_bubble own p) (option_to_list z)) o.1;
+        may = λ from item. answer_sent laws.rows d.lab.topology from to (bubble_bytes own p)
+            (bubble_of own p) reads.payload reads.bytes item.source reads.bubble o.2;
+        less = one_less (is_some_server d.lab.topology to) (g.indirect only to o.1);
+        touch = (refl, refl, refl, refl);
+        hears = refl;
+        queues = refl;
+      })
+
+  -- A TEST
+
+  abbrev message : Message
+  message = echo_request TEST_ID TEST_SEQ (big_bytes 8 (nonce_from d.w))
+
+  abbrev request : Fields
+  request = message_packet BUBBLE_HOP own p message
+
+  abbrev to_server : Ep
+  to_server = server_ep (setup d).primary
+
+  test_is : test (setup d) own p (nonce_from d.w) ≡ send to_server (packet_bytes request)
+  unfolding test
+  test_is = refl
+
+  test_may : (full : Bool) → IsSuspect full (seen_of d) → MayWeigh weigh (λ (z : Send). 7) (send to_server (packet_bytes request))
+  test_may full only from item =
+      let mine = only.direct.mine in
+      let c_is = laws.carried BUBBLE_HOP own p message (record {
+        hop_fits = omega arith;
+        src_fits = own_made laws.addressed d g mine;
+        dst_fits = peer_made d g mine;
+        fits = (omega arith, omega arith);
+        valid = tt;
+        short = omega arith;
+      }) in
+      let reads = laws.payload (packet_bytes request) request item.bytes item.short (laws.back request c_is.packet).read in
+      test_sent laws.rows d.lab.topology from to_server (packet_bytes request) request reads item.bytes item.source g.served.row
+      (own_server laws.apart d.lab.topology d.c g.rules g.served) (native_is d full only) (ap is_solicit c_is.message)
+
+  pub tests : (full : Bool) (e : Entry) → IsSuspect full (seen_of d) → e.step.sends ≡ test (setup d) own p (nonce_from d.w) ∷ [] → IsTouch d e
+      → (mention e).bearing.hears ≡ false → (mention e).bearing.queues ≡ None → LightAs d e
+  tests full e only sends touch hears queues =
+      one_send e (send to_server (packet_bytes request)) 7 (payload_is d only.direct.mine) (record {
+        sends = sends ∙ ap (λ (z : Send). z ∷ []) test_is;
+        may = test_may full only;
+        less = g.suspect full only;
+        touch = touch;
+        hears = hears;
+        queues = queues;
+      })

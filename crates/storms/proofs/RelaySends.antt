@@ -1,0 +1,165 @@
+-- What a relay makes of a packet of the IPv6 side weighs less than the packet.
+use Rattle.std.proofs.Common.{◌≡◌, ◌≤◌, ℕ, ◌+◌, ◌||◌, not, Bool, true, false, cond, List, [], ◌∷◌, Some, None, refl, ap, ◌∙◌, arith}
+use Rattle.std.specs.List.{AllByRecursion}
+use Rattle.std.proofs.lemmas.Bool.{false≢true}
+use Rattle.std.proofs.lemmas.List.Sums.{sum_by-cons}
+use Rattle.td_base.specs.Ep.{server_ep}
+use Rattle.td_base.specs.Bytes.{IsBytes}
+use Rattle.td_base.specs.Ip6.{IsIp6}
+use Rattle.td_base.specs.Reach.{is_global6}
+use Rattle.td_base.specs.declared.ipv6.Ip6.{Ip6}
+use Rattle.td_base.specs.declared.side.Side.TheVariants.{Primary}
+use Rattle.ipv6_packet.specs.Reads.{is_packet, fields_in}
+use Rattle.teredo_addr.specs.Teredo.{is_teredo, server_in, embedded}
+use Rattle.bubble.specs.Bubbles.{bubble_of, bubble_bytes}
+use Rattle.bubble.specs.PacketsIn.{packet_given, destination_in}
+use Rattle.teredo_node.specs.declared.fate.Fate.{Fate}
+use Rattle.teredo_node.specs.declared.fate.Fate.TheVariants as fate
+use Rattle.teredo_node.specs.Step.{Send}
+use Rattle.teredo_node.specs.Sends.{send}
+use Rattle.teredo_node.specs.Journal.{from_six, Entry}
+use Rattle.teredo_node.proofs.FirstLines.{first_of_each}
+use Rattle.peer_list.specs.Judged.{is_barred}
+use Rattle.relay_rules.specs.Bearings.{mention, mentions}
+use Rattle.relay_rules.specs.Standing.{Standing, known_in, standing_of}
+use Rattle.relay_rules.specs.Transmission as transmission
+use Rattle.relay_rules.specs.Journals.{entry, relay_six}
+use Rattle.relay_rules.specs.Warrants.{SentOnlyIf, GoesOut}
+use Rattle.storms.specs.Weights.{is_some_server}
+use Rattle.storms.specs.Burden.{relay_packet}
+use Rattle.storms.proofs.PeersWait.{waits_in, added}
+use Rattle.storms.proofs.Sent.{bubble_sent}
+use Rattle.storms.proofs.NewItems.{WeighsFrom, own_weigh}
+use Rattle.storms.proofs.Relays.{IsForClient, packet_weighs}
+use Rattle.teredo_node.proofs.FirstLines.{Each, skip}
+use Rattle.storms.proofs.AtRelay.{RelayLaws, AtRelay, setup, own_of, weigh, waited, IsLight, IsCalm, calm, shifted}
+
+module _ (laws : RelayLaws) (d : AtRelay) (least : 1 ≤ d.heavy) (x : List ℕ) (more : relay_packet x + 4 ≤ d.heavy) where
+  -- the destination, and what is asked of it
+  abbrev p : Ip6
+  p = (fields_in x).dst
+
+  abbrev stands : Standing
+  stands = standing_of d.j d.m (destination_in x)
+
+  abbrev asked : transmission.Given
+  asked = transmission.given (setup d) stands x
+
+  abbrev went : Fate → Entry
+  went f = entry d.m (from_six x) (packet_given x) (destination_in x) (transmission.transmission_step (setup d) stands x p f)
+
+  both_false : (b c : Bool) → not (b || c) ≡ true → b ≡ false
+  both_false false c h = refl
+  both_false true c h = absurd (false≢true h)
+
+  goes_on : GoesOut asked → IsForClient (embedded p) x
+  unfolding transmission.given
+  goes_on out = record {
+    well_formed = out.packet;
+    native = both_false (is_teredo (fields_in x).src) (not (is_global6 (fields_in x).src)) out.foreign_source;
+    teredo = out.teredo;
+    where_to = refl;
+  }
+
+  destination_is : is_packet x ≡ true → destination_in x ≡ Some p
+  unfolding destination_in
+  destination_is h = ap (λ (b : Bool). cond b (Some p) None) h
+
+  given_is : is_packet x ≡ true → packet_given x ≡ Some x
+  unfolding packet_given
+  given_is h = ap (λ (b : Bool). cond b (Some x) None) h
+
+  -- EACH FATE
+
+  abbrev Goes : Fate → Type 0
+  Goes f = SentOnlyIf f asked → IsLight d (went f)
+
+  idly : (f : Fate) → IsCalm (went f) → Goes f
+  idly f is only = calm laws.peers d (went f) least is
+
+  -- what waits grows by what is queued
+  touches : (e : Entry) → is_packet x ≡ true → e.moment ≡ d.m → e.peer ≡ destination_in x → (mention e).bearing.touches ≡ true
+      → waits_in relay_packet (mention e ∷ mentions d.j) d.m ≤ waited d + added relay_packet (mention e).bearing.queues
+  touches e packet moment peer touched = let less = shifted laws.peers d e p moment (peer ∙ destination_is packet) touched in omega (arith, less)
+
+  -- the packet itself goes out
+  packet_out : GoesOut asked → AllByRecursion (WeighsFrom (weigh d) (λ (s : Send). relay_packet s.bytes) (own_of d)) (send (embedded p) x ∷ [])
+  packet_out out = (λ made. packet_weighs laws.rows laws.payload d.lab.topology (embedded p) x (goes_on out) (own_of d Primary) made, tt)
+
+  sent : Goes fate.Sent
+  sent only made =
+      let new = own_weigh (weigh d) (λ (s : Send). relay_packet s.bytes) (own_of d) d.fails 0 (send (embedded p) x ∷ []) [] made (packet_out only.out) in
+      let one = sum_by-cons (λ (s : Send). relay_packet s.bytes) (send (embedded p) x) [] in
+      let less = touches (went fate.Sent) (goes_on only.out).well_formed refl refl refl in
+      omega (arith, more, new, one, less)
+
+  sent_cone : Goes fate.SentCone
+  sent_cone only made =
+      let new = own_weigh (weigh d) (λ (s : Send). relay_packet s.bytes) (own_of d) d.fails 0 (send (embedded p) x ∷ []) [] made (packet_out only.out) in
+      let one = sum_by-cons (λ (s : Send). relay_packet s.bytes) (send (embedded p) x) [] in
+      let less = touches (went fate.SentCone) (goes_on only.out).well_formed refl refl refl in
+      omega (arith, more, new, one, less)
+
+  -- or waits, where no server is at the relay's endpoint
+  module _ (here : is_some_server d.lab.topology d.q.at ≡ false) (six_made_of : IsIp6 d.q.six) (bytes : IsBytes x) where
+    -- the try
+    bubble_is : is_packet x ≡ true → AllByRecursion (WeighsFrom (weigh d) (λ (s : Send). 3) (own_of d)) (transmission.bubble_to (setup d) p ∷ [])
+    unfolding transmission.bubble_to
+    bubble_is packet =
+        let reads = laws.bubble d.q.six p six_made_of (laws.spelled x bytes packet).0.dst in (
+          λ made. bubble_sent laws.rows d.lab.topology d.q.at (server_ep (server_in p)) (bubble_bytes d.q.six p) (bubble_of d.q.six p) reads.payload reads.bytes
+              made.source reads.bubble here,
+          tt,
+        )
+
+    abbrev queued_by : Bool → Entry
+    queued_by barred = entry d.m (from_six x) (packet_given x) (destination_in x) (transmission.queues barred (setup d) p)
+
+    queued : Goes fate.Queued
+    queued only = by (is_barred stands.moment (known_in stands)) where
+      packet : is_packet x ≡ true
+      packet = (goes_on only.out).well_formed
+
+      by : (barred : Bool) → IsLight d (queued_by barred)
+      by true made =
+          let less = touches (queued_by true) packet refl refl refl in
+          let kept = ap (added relay_packet) (given_is packet) in
+          omega (arith, more, less, kept)
+      by false made =
+          let new = own_weigh (weigh d) (λ (s : Send). 3) (own_of d) d.fails 0 (transmission.bubble_to (setup d) p ∷ []) [] made (bubble_is packet) in
+          let one = sum_by-cons (λ (s : Send). 3) (transmission.bubble_to (setup d) p) [] in
+          let less = touches (queued_by false) packet refl refl refl in
+          let kept = ap (added relay_packet) (given_is packet) in
+          omega (arith, more, new, one, less, kept)
+
+    packet_each : Each Goes (transmission.packet_lines asked)
+    packet_each = (
+      idly fate.Malformed (refl, refl, refl, refl, refl),
+      (
+        idly fate.Big (refl, refl, refl, refl, refl),
+        (
+          idly fate.Dest (refl, refl, refl, refl, refl),
+          (
+            idly fate.Source (refl, refl, refl, refl, refl),
+            (idly fate.Embedded (refl, refl, refl, refl, refl), (idly fate.Loop (refl, refl, refl, refl, refl), tt)),
+          ),
+        ),
+      ),
+    )
+
+    destination_each : Each Goes (transmission.destination_lines asked)
+    destination_each = (
+      sent,
+      (
+        idly fate.PeersFull (refl, refl, refl, refl, refl),
+        (sent_cone, (idly fate.Barred (refl, refl, refl, refl, refl), (idly fate.QueueFull (refl, refl, refl, refl, refl), tt))),
+      ),
+    )
+
+    each_way : Goes (transmission.transmission_row asked)
+    each_way = skip Goes (transmission.packet_lines asked) (transmission.destination_lines asked) fate.Queued packet_each
+        (first_of_each Goes (transmission.destination_lines asked) fate.Queued destination_each queued)
+
+    pub packet_lightens : IsLight d (relay_six (setup d) d.j d.m x)
+    unfolding relay_six transmission.transmission
+    packet_lightens = each_way (laws.transmitted (setup d) stands x)
