@@ -12,8 +12,9 @@ use Rattle.qualify.specs.Qualification.{qualification}
 use Rattle.client_rules.specs.Bearings.{bearing_of, mentions}
 use Rattle.history.specs.Full.{Full}
 use Rattle.legal.specs.Past.{now, journal}
+use Rattle.client_rules.specs.Handed.{HandingRule, rule1, rule3}
 use Rattle.first_packets.proofs.Known.{Touches, room_after, waits_after, tried_after, untried}
-use Rattle.first_packets.proofs.Received.{HearsBubble, by_rule1, by_rule3, HandsOver, over_by_rule1, over_by_rule3}
+use Rattle.first_packets.proofs.Received.{HearsBubble, by_rule1, by_rule3}
 use Rattle.first_packets.proofs.Ground.{PacketLaws, address_stays, address_renewed, Keeps, Unbarred}
 
 module _ (laws : PacketLaws) (s : Settings) (j : Journal) (n : ℕ) (peer : Ip6) (e : Entry) (about : e.peer ≡ Some peer) (moment : e.moment ≡ n) where
@@ -24,7 +25,12 @@ module _ (laws : PacketLaws) (s : Settings) (j : Journal) (n : ℕ) (peer : Ip6)
 
   -- an entry with a fate that touches, and changes no address
   touched : (f : Fate) → e.step.fate ≡ f → is_changed f ≡ false → (bearing_of f e).touches ≡ true → Touches e n peer
-  touched f same keeps touches = record { peer = about; moment = moment; keeps = ap is_changed same ∙ keeps; touches = ap (λ (g : Fate). (bearing_of g e).touches) same ∙ touches }
+  touched f same keeps touches = record {
+    peer = about;
+    moment = moment;
+    keeps = ap is_changed same ∙ keeps;
+    touches = ap (λ (g : Fate). (bearing_of g e).touches) same ∙ touches;
+  }
 
   -- nothing waits for one that was heard
   after_hearing : (f : Fate) → e.step.fate ≡ f → (is : Touches e n peer) → turn f ≡ says_nothing
@@ -36,25 +42,35 @@ module _ (laws : PacketLaws) (s : Settings) (j : Journal) (n : ℕ) (peer : Ip6)
 
   -- a bubble of the peer itself ends all waiting
   pub after_bubble : HearsBubble e.step.fate → Afterwards []
-  after_bubble (by_rule1 f) = let is = touched fate.Rule1Bubble f refl refl in after_hearing fate.Rule1Bubble f is refl (waits_after laws.peers e j.entries n peer is fate.Rule1Bubble f)
-  after_bubble (by_rule3 f) = let is = touched fate.Rule3Bubble f refl refl in after_hearing fate.Rule3Bubble f is refl (waits_after laws.peers e j.entries n peer is fate.Rule3Bubble f)
+  after_bubble (by_rule1 f) = let is = touched fate.Rule1Bubble f refl refl in after_hearing fate.Rule1Bubble f is refl
+      (waits_after laws.peers e j.entries n peer is fate.Rule1Bubble f)
+  after_bubble (by_rule3 f) = let is = touched fate.Rule3Bubble f refl refl in after_hearing fate.Rule3Bubble f is refl
+      (waits_after laws.peers e j.entries n peer is fate.Rule3Bubble f)
 
   -- and all tries
   pub unbarred_then : HearsBubble e.step.fate → Unbarred (with_entry j e) n peer
-  unbarred_then (by_rule1 f) = let is = touched fate.Rule1Bubble f refl refl in untried n (known (mentions (e ∷ j.entries)) n peer) (tried_after laws.peers e j.entries n peer is fate.Rule1Bubble f)
-  unbarred_then (by_rule3 f) = let is = touched fate.Rule3Bubble f refl refl in untried n (known (mentions (e ∷ j.entries)) n peer) (tried_after laws.peers e j.entries n peer is fate.Rule3Bubble f)
+  unbarred_then (by_rule1 f) = let is = touched fate.Rule1Bubble f refl refl in untried n (known (mentions (e ∷ j.entries)) n peer)
+      (tried_after laws.peers e j.entries n peer is fate.Rule1Bubble f)
+  unbarred_then (by_rule3 f) = let is = touched fate.Rule3Bubble f refl refl in untried n (known (mentions (e ∷ j.entries)) n peer)
+      (tried_after laws.peers e j.entries n peer is fate.Rule3Bubble f)
 
   -- so does another packet of its
-  pub after_packet : HandsOver e.step.fate → Afterwards []
-  after_packet (over_by_rule1 f) = let is = touched fate.Rule1 f refl refl in after_hearing fate.Rule1 f is refl (waits_after laws.peers e j.entries n peer is fate.Rule1 f)
-  after_packet (over_by_rule3 f) = let is = touched fate.Rule3 f refl refl in after_hearing fate.Rule3 f is refl (waits_after laws.peers e j.entries n peer is fate.Rule3 f)
+  pub after_packet : HandingRule e.step.fate → Afterwards []
+  after_packet (rule1 f) = let is = touched fate.Rule1 f refl refl in after_hearing fate.Rule1 f is refl
+      (waits_after laws.peers e j.entries n peer is fate.Rule1 f)
+  after_packet (rule3 f) = let is = touched fate.Rule3 f refl refl in after_hearing fate.Rule3 f is refl
+      (waits_after laws.peers e j.entries n peer is fate.Rule3 f)
 
   -- an indirect bubble leaves what waits
   pub after_indirect : e.step.fate ≡ fate.Indirect → (known (mentions j.entries) n peer).waiting ≡ [] → Afterwards []
   after_indirect f none =
       let is = touched fate.Indirect f refl refl in
       record {
-        keeps = record { room = room_after laws.peers e j.entries n peer is; waits = waits_after laws.peers e j.entries n peer is fate.Indirect f ∙ ap (λ (ws : List (List ℕ)). ws ++ []) none };
+        keeps = record {
+          room = room_after laws.peers e j.entries n peer is;
+          waits = waits_after laws.peers e j.entries n peer is fate.Indirect f
+              ∙ ap (λ (ws : List (List ℕ)). ws ++ []) none;
+        };
         address = address_renewed laws.ends.address.turns s j e f;
       }
 
@@ -65,7 +81,8 @@ module _ (laws : PacketLaws) (s : Settings) (j : Journal) (n : ℕ) (peer : Ip6)
       record {
         keeps = record {
           room = room_after laws.peers e j.entries n peer is;
-          waits = waits_after laws.peers e j.entries n peer is fate.Queued f ∙ ap (λ (ws : List (List ℕ)). ws ++ option_to_list e.packet) none ∙ ap (λ (o : Option (List ℕ)). option_to_list o) packet;
+          waits = waits_after laws.peers e j.entries n peer is fate.Queued f ∙ ap (λ (ws : List (List ℕ)). ws ++ option_to_list e.packet) none
+              ∙ ap (λ (o : Option (List ℕ)). option_to_list o) packet;
         };
         address = address_stays laws.still s j e (ap turn f);
       }
@@ -73,9 +90,12 @@ module _ (laws : PacketLaws) (s : Settings) (j : Journal) (n : ℕ) (peer : Ip6)
 -- LATER RECORDS AT THE SAME MOMENT
 
 -- what is kept stays
-pub keeps_on : (H : List Full) (q : Full) (n : ℕ) (peer : Ip6) (waiting : List (List ℕ)) (j : Journal) → q.moment ≡ now H → journal n (q ∷ H) ≡ j → Keeps j (now H) peer waiting → Keeps (journal n (q ∷ H)) (now (q ∷ H)) peer waiting
-keeps_on H q n peer waiting j moment same keeps = subst (λ (z : Journal). Keeps z q.moment peer waiting) (sym same) (subst (λ (m : ℕ). Keeps j m peer waiting) (sym moment) keeps)
+pub keeps_on : (H : List Full) (q : Full) (n : ℕ) (peer : Ip6) (waiting : List (List ℕ)) (j : Journal) → q.moment ≡ now H → journal n (q ∷ H) ≡ j
+    → Keeps j (now H) peer waiting → Keeps (journal n (q ∷ H)) (now (q ∷ H)) peer waiting
+keeps_on H q n peer waiting j moment same keeps = subst (λ (z : Journal). Keeps z q.moment peer waiting) (sym same)
+    (subst (λ (m : ℕ). Keeps j m peer waiting) (sym moment) keeps)
 
 -- and what may be tried
-pub unbarred_on : (H : List Full) (q : Full) (n : ℕ) (peer : Ip6) (j : Journal) → q.moment ≡ now H → journal n (q ∷ H) ≡ j → Unbarred j (now H) peer → Unbarred (journal n (q ∷ H)) (now (q ∷ H)) peer
+pub unbarred_on : (H : List Full) (q : Full) (n : ℕ) (peer : Ip6) (j : Journal) → q.moment ≡ now H → journal n (q ∷ H) ≡ j → Unbarred j (now H) peer
+    → Unbarred (journal n (q ∷ H)) (now (q ∷ H)) peer
 unbarred_on H q n peer j moment same is = subst (λ (z : Journal). Unbarred z q.moment peer) (sym same) (subst (λ (m : ℕ). Unbarred j m peer) (sym moment) is)

@@ -23,7 +23,8 @@ use Rattle.teredo_node.specs.declared.fate.Fate.TheVariants as fate
 use Rattle.teredo_node.specs.Step.{Step}
 use Rattle.teredo_node.specs.Journal.{arrived}
 use Rattle.server_core.specs.declared.server.ServerSettings.{ServerSettings}
-use Rattle.server_core.specs.Conditions.{is_other_kind, is_own, own_address, is_for_server, is_solicit, is_solicitation, is_forged, is_for_client, is_not_ours, is_unusable, is_looped}
+use Rattle.server_core.specs.Conditions.{is_other_kind, is_own, own_address, is_for_server, is_solicit, is_solicitation, is_forged, is_for_client, is_not_ours}
+use Rattle.server_core.specs.Conditions.{is_unusable, is_looped}
 use Rattle.server_core.specs.Rules.{seen}
 use Rattle.server_core.specs.Outputs.{forwarded}
 use Rattle.server_core.specs.Server.{sends_one, server_row}
@@ -96,7 +97,8 @@ module _ (laws : PacketLaws) (p : Pair) (is : IsPair p) where
   not_for_server : is_for_server s v.packet ≡ false
   unfolding is_for_server
   not_for_server = refused (same_ip6 other (own_address s)) (λ h.
-      false≢true (sym ((laws.link true (server_ep row.primary) server_made).not_teredo) ∙ ap is_teredo (sym (same_ip6-true other (own_address s) h)) ∙ is.receiver.address.of.teredo))
+      false≢true (sym ((laws.link true (server_ep row.primary) server_made).not_teredo) ∙ ap is_teredo (sym (same_ip6-true other (own_address s) h))
+      ∙ is.receiver.address.of.teredo))
 
   no_solicitation : is_solicitation v.packet ≡ false
   unfolding is_solicitation
@@ -105,7 +107,8 @@ module _ (laws : PacketLaws) (p : Pair) (is : IsPair p) where
   -- its source says where it came from
   unforged : is_forged (embedded own) v.packet ≡ false
   unfolding is_forged
-  unforged = right_fails (is_teredo own) (not (same_ep (embedded own) (embedded own))) (not_so (same_ep (embedded own) (embedded own)) (same_ep-self (embedded own)))
+  unforged = right_fails (is_teredo own) (not (same_ep (embedded own) (embedded own)))
+      (not_so (same_ep (embedded own) (embedded own)) (same_ep-self (embedded own)))
 
   ours : is_not_ours s v.packet ≡ false
   unfolding is_not_ours
@@ -120,7 +123,8 @@ module _ (laws : PacketLaws) (p : Pair) (is : IsPair p) where
   unlooped : is_looped s v.packet ≡ false
   unfolding is_looped
   unlooped = right_fails (is_teredo other) (is_own s (embedded other).ip) (not_own (embedded other).ip
-      (no_server_address laws.ends.apart p.t is.rules p.b p.b is.receiver is.receiver) (no_server_second laws.ends.apart p.t is.rules p.b p.b is.receiver is.receiver))
+      (no_server_address laws.ends.apart p.t is.rules p.b p.b is.receiver is.receiver)
+      (no_server_second laws.ends.apart p.t is.rules p.b p.b is.receiver is.receiver))
 
   -- it is for a client of the server
   for_client : is_for_client s v.packet ≡ true
@@ -136,7 +140,8 @@ module _ (laws : PacketLaws) (p : Pair) (is : IsPair p) where
     kind = no_data;
     well_formed = formed;
     usable = not_so (is_usable Strict (embedded own)) is.sender.usable;
-    foreign = not_own (embedded own).ip (no_server_address laws.ends.apart p.t is.rules p.b p.a is.receiver is.sender) (no_server_second laws.ends.apart p.t is.rules p.b p.a is.receiver is.sender);
+    foreign = not_own (embedded own).ip (no_server_address laws.ends.apart p.t is.rules p.b p.a is.receiver is.sender)
+        (no_server_second laws.ends.apart p.t is.rules p.b p.a is.receiver is.sender);
     for_others = not_for_server;
     no_solicitation = no_solicitation;
     unforged = unforged;
@@ -159,7 +164,9 @@ module _ (laws : PacketLaws) (p : Pair) (is : IsPair p) where
   row_is dst = goes_to_client s (side_at (server row) dst) (embedded own) (bubble_bytes own other) v reads.payload.read for_own_client
 
   -- goes onto the wire
-  pub passes_on : (H : List Full) (q : Full) (dst : Ep) → Did (lab_in p) H q p.b.c.server (server row) (entry_of (lab_in p) H (now H) p.b.c.server dst (arrived (embedded own) (bubble_bytes own other)) (server row)) → HasNoFault q
+  pub passes_on : (H : List Full) (q : Full) (dst : Ep)
+      → Did (lab_in p) H q p.b.c.server (server row) (entry_of (lab_in p) H (now H) p.b.c.server dst (arrived (embedded own) (bubble_bytes own other))
+      (server row)) → HasNoFault q
       → q.made ≡ sent (udp (server_ep row.primary) (embedded other) passed_on) ∷ []
   passes_on H q dst did sound = did_so ∙ unless (is_at_place 0 (armed H)) (subst (λ (ms : List Made). list_any is_fault ms ≡ false) did_so sound) where
     made_by : Step → List Made
@@ -168,7 +175,9 @@ module _ (laws : PacketLaws) (p : Pair) (is : IsPair p) where
     did_so : q.made ≡ made_by step
     did_so = did.made ∙ ap made_by (row_is dst)
 
-    unless : (b : Bool) → list_any is_fault (made_outright b (own_ep (server row)) (record { side = Primary; to = embedded other; bytes = passed_on }) ∷ []) ≡ false
-        → (made_outright b (own_ep (server row)) (record { side = Primary; to = embedded other; bytes = passed_on }) ∷ []) ≡ sent (udp (server_ep row.primary) (embedded other) passed_on) ∷ []
+    unless : (b : Bool) → list_any is_fault (made_outright b (own_ep (server row)) (record { side = Primary; to = embedded other; bytes = passed_on }) ∷ [])
+        ≡ false
+        → (made_outright b (own_ep (server row)) (record { side = Primary; to = embedded other; bytes = passed_on }) ∷ []) ≡ sent
+        (udp (server_ep row.primary) (embedded other) passed_on) ∷ []
     unless true bad = absurd (false≢true (sym bad))
     unless false good = refl

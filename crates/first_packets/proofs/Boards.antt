@@ -1,5 +1,6 @@
 -- A fresh schedule, delivery by delivery: each brings the packet one step nearer, or spends the direct bubble.
-use Rattle.std.proofs.Common.{◌≡◌, ◌⊎◌, inl, inr, ◌≤◌, ◌<◌, ◌+◌, ℕ, zero, suc, Bool, true, false, List, [], ◌∷◌, ◌++◌, length, Some, refl, sym, ap, subst, ◌∙◌, arith}
+use Rattle.std.proofs.Common.{◌≡◌, ◌⊎◌, inl, inr, ◌≤◌, ◌<◌, ◌+◌, ℕ, zero, suc, Bool, true, false, List, [], ◌∷◌, ◌++◌, length, Some, refl, sym, ap, subst, ◌∙◌}
+use Rattle.std.proofs.Common.{arith}
 use Rattle.std.proofs.lemmas.Bool.{false≢true}
 use Rattle.std.proofs.lemmas.Option.{slice_get_within}
 use Rattle.teredo_addr.specs.Teredo.{embedded}
@@ -49,7 +50,8 @@ module _ (p : Pair) (before : List Full) (r : Full) (total : ℕ) where
   within : (k n last : ℕ) → k < n → n ≡ suc last → k ≤ last
   within k n last less same = omega (arith, less, same)
 
-  module _ (laws : PacketLaws) (is : IsPair p) (later : List Full) (board : Board later) (q : Full) (fresh : DeliversFresh r later q) (follows : Follows (lab_in p) (after later) q) where
+  module _ (laws : PacketLaws) (is : IsPair p) (later : List Full) (board : Board later) (q : Full) (fresh : DeliversFresh r later q)
+      (follows : Follows (lab_in p) (after later) q) where
     abbrev H : List Full
     H = after later
 
@@ -60,7 +62,8 @@ module _ (p : Pair) (before : List Full) (r : Full) (total : ℕ) where
     spends : board.direct ≡ true → fresh.number ≡ r.first → Board (q ∷ later)
     spends direct same =
         let passes = at_once laws p is H q board.ground follows fresh.sound r.first (subst (Delivery (lab_in p) H q) same came) (board.bubble direct) in
-        let open_so : AreOpen r.first board.last true (is_open board.k) later = subst (λ (b : Bool). AreOpen r.first board.last b (is_open board.k) later) direct board.are in
+        let open_so : AreOpen r.first board.last true (is_open board.k) later = subst
+        (λ (b : Bool). AreOpen r.first board.last b (is_open board.k) later) direct board.are in
         let sum : length later + (1 + board.k) ≡ total = subst (λ (b : Bool). length later + (bit b + board.k) ≡ total) direct board.sum in
         record {
           last = board.last;
@@ -78,11 +81,13 @@ module _ (p : Pair) (before : List Full) (r : Full) (total : ℕ) where
     advance : (k : ℕ) → is_open k ≡ true → Stage p H board.last later k → Delivery (lab_in p) H q board.last → Next p H q board.last later k
     advance _ opened (asks at sends may back) d = at_server laws p is H q board.ground follows fresh.sound board.last later d board.long at sends may back
     advance _ opened (tells at sends may back) d = at_receiver laws p is H q board.ground follows fresh.sound board.last later d board.long at sends may back
-    advance _ opened (answers at sends back forth) d = at_sender laws p is H q board.ground follows fresh.sound board.last later d board.long at sends back forth
+    advance _ opened (answers at sends back forth) d =
+        at_sender laws p is H q board.ground follows fresh.sound board.last later d board.long at sends back forth
     advance _ opened (releases_it at forth) d = at_end laws p is H q board.ground follows fresh.sound board.last later d board.long at forth
     advance _ opened (has_come come) d = absurd (false≢true opened)
 
-    moves : (k : ℕ) → AreOpen r.first board.last board.direct (is_open k) later → length later + (bit board.direct + k) ≡ total → q.delivered ≡ Some board.last → Next p H q board.last later k → Board (q ∷ later)
+    moves : (k : ℕ) → AreOpen r.first board.last board.direct (is_open k) later → length later + (bit board.direct + k) ≡ total
+        → q.delivered ≡ Some board.last → Next p H q board.last later k → Board (q ∷ later)
     moves _ are sum by (goes_on k ground long stage) = record {
       last = suc board.last;
       direct = board.direct;
@@ -107,10 +112,12 @@ module _ (p : Pair) (before : List Full) (r : Full) (total : ℕ) where
     }
 
     pub next_board : Board (q ∷ later)
-    next_board = by (board.are.only fresh.number fresh.new (within fresh.number (length (wire H)) board.last (is_in H q fresh.number came) board.long) fresh.once) where
-      by : ((board.direct ≡ true) × (fresh.number ≡ r.first)) ⊎ ((is_open board.k ≡ true) × (fresh.number ≡ board.last)) → Board (q ∷ later)
-      by (inl e) = spends e.0 e.1
-      by (inr e) = moves board.k board.are board.sum (fresh.delivered ∙ ap (λ (n : ℕ). Some n) e.1) (advance board.k e.0 board.stage (subst (Delivery (lab_in p) H q) e.1 came))
+    next_board = by (board.are.only fresh.number fresh.new
+        (within fresh.number (length (wire H)) board.last (is_in H q fresh.number came) board.long) fresh.once) where
+          by : ((board.direct ≡ true) × (fresh.number ≡ r.first)) ⊎ ((is_open board.k ≡ true) × (fresh.number ≡ board.last)) → Board (q ∷ later)
+          by (inl e) = spends e.0 e.1
+          by (inr e) = moves board.k board.are board.sum (fresh.delivered ∙ ap (λ (n : ℕ). Some n) e.1)
+              (advance board.k e.0 board.stage (subst (Delivery (lab_in p) H q) e.1 came))
 
   -- so is the whole schedule
   pub boards : PacketLaws → IsPair p → (later : List Full) → Grown (lab_in p) (after later) → AreFresh r later → Board [] → Board later

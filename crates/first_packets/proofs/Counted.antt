@@ -41,26 +41,39 @@ module _ (first last : ℕ) (q : Full) (later : List Full) where
   without_first o are by = record {
     only = λ i low high h. (let w = was i first q later by h in absurd_first i w (are.only i low high w.still));
     first_is = λ closed. absurd (false≢true closed);
-    last_is = λ there. ((are.last_is there).0, (let less = (are.first_is refl).0 in another last first q later by (λ same. omega (arith, less, same)) (are.last_is there).1));
+    last_is = λ there. (
+      (are.last_is there).0,
+      (let less = (are.first_is refl).0 in another last first q later by (λ same. omega (arith, less, same))
+          (are.last_is there).1),
+    );
     none_beyond = λ i far. (let less = (are.first_is refl).0 in another i first q later by (λ same. omega (arith, less, same, far)) (are.none_beyond i far));
   } where
-    absurd_first : (i : ℕ) → Was i first later → ((true ≡ true) × (i ≡ first)) ⊎ ((o ≡ true) × (i ≡ last)) → ((false ≡ true) × (i ≡ first)) ⊎ ((o ≡ true) × (i ≡ last))
+    absurd_first : (i : ℕ) → Was i first later → ((true ≡ true) × (i ≡ first)) ⊎ ((o ≡ true) × (i ≡ last))
+        → ((false ≡ true) × (i ≡ first)) ⊎ ((o ≡ true) × (i ≡ last))
     absurd_first i w (inl e) = absurd (w.other (sym e.1))
     absurd_first i w (inr e) = inr e
 
   -- the last is delivered, and one more entry made
-  pub with_next : (first_open : Bool) → AreOpen first last first_open true later → q.delivered ≡ Some last → AreOpen first (suc last) first_open true (q ∷ later)
+  pub with_next : (first_open : Bool) → AreOpen first last first_open true later → q.delivered ≡ Some last
+      → AreOpen first (suc last) first_open true (q ∷ later)
   with_next o are by = record {
     only = λ i low high h. (let w = was i last q later by h in by_place i low high w (i == suc last) refl);
-    first_is = λ there. (let less = (are.first_is there).0 in (omega (arith, less), another first last q later by (λ same. omega (arith, less, same)) (are.first_is there).1));
-    last_is = λ _. (let low = (are.last_is refl).0 in (omega (arith, low), another (suc last) last q later by (λ same. omega (arith, same)) (are.none_beyond (suc last) (omega arith))));
+    first_is = λ there. (let less = (are.first_is there).0 in
+        (omega (arith, less), another first last q later by (λ same. omega (arith, less, same)) (are.first_is there).1));
+    last_is = λ _. (let low = (are.last_is refl).0 in (
+      omega (arith, low),
+      another (suc last) last q later by (λ same. omega (arith, same))
+          (are.none_beyond (suc last) (omega arith)),
+    ));
     none_beyond = λ i far. another i last q later by (λ same. omega (arith, same, far)) (are.none_beyond i (omega (arith, far)));
   } where
-    of_old : (i : ℕ) → Was i last later → ((o ≡ true) × (i ≡ first)) ⊎ ((true ≡ true) × (i ≡ last)) → ((o ≡ true) × (i ≡ first)) ⊎ ((true ≡ true) × (i ≡ suc last))
+    of_old : (i : ℕ) → Was i last later → ((o ≡ true) × (i ≡ first)) ⊎ ((true ≡ true) × (i ≡ last))
+        → ((o ≡ true) × (i ≡ first)) ⊎ ((true ≡ true) × (i ≡ suc last))
     of_old i w (inl e) = inl e
     of_old i w (inr e) = absurd (w.other (sym e.1))
 
-    by_place : (i : ℕ) → first ≤ i → i ≤ suc last → Was i last later → (b : Bool) → (i == suc last) ≡ b → ((o ≡ true) × (i ≡ first)) ⊎ ((true ≡ true) × (i ≡ suc last))
+    by_place : (i : ℕ) → first ≤ i → i ≤ suc last → Was i last later → (b : Bool) → (i == suc last) ≡ b
+        → ((o ≡ true) × (i ≡ first)) ⊎ ((true ≡ true) × (i ≡ suc last))
     by_place i low high w true e = inr (refl, grind (arith, nat_tests))
     by_place i low high w false e =
         let ne : (i ≡ suc last → ⊥) = λ same. (let one : (i == suc last) ≡ true = grind (arith, nat_tests) in false≢true (sym e ∙ one)) in

@@ -17,7 +17,8 @@ use Rattle.legal.specs.Past.{now, is_node, is_restart, with_entries, new_journal
 use Rattle.legal.specs.Emit.{Route, reaches, route, entry_of, sendings, handed_by}
 use Rattle.legal.specs.Next.{Numbered, plain, acts, no_ep, dst_of, input_of}
 use Rattle.legal.specs.Kinds as kinds
-use Rattle.legal.specs.Kinds.{Delivers, Hands, Quiet, shut, strayed, missing, none_left, settled, uncopied, hosted, restarted, forgot, faulted, Kind, quiet, put, copied, ticks, handed, reached, event_of}
+use Rattle.legal.specs.Kinds.{Delivers, Hands, Quiet, shut, strayed, missing, none_left, settled, uncopied, hosted, restarted, forgot, faulted, Kind, quiet}
+use Rattle.legal.specs.Kinds.{put, copied, ticks, handed, reached, event_of}
 use Rattle.legal.proofs.MadeWire.{entry_input}
 use Rattle.legal.proofs.Growth.{hands_still}
 use Rattle.first_packets.proofs.Bools.{same_number}
@@ -61,7 +62,8 @@ delivers_calm H _ number d = refl
 
 -- of an entry that is there: to a node, or to nobody
 pub data Delivery (lab : Lab) (H : List Full) (q : Full) (number : ℕ) : Type 0 where
-  to_node : (n : ℕ) (x : Item) (a : Node) → slice_get (wire H) number ≡ Some x → route lab H (now H) x ≡ reaches n a → node_at lab.topology n ≡ Some a → is_calm q.asked ≡ true
+  to_node : (n : ℕ) (x : Item) (a : Node) → slice_get (wire H) number ≡ Some x → route lab H (now H) x ≡ reaches n a → node_at lab.topology n ≡ Some a
+      → is_calm q.asked ≡ true
       → Did lab H q n a (entry_of lab H (now H) n (dst_of x) (input_of x) a) → Delivery lab H q number
   to_nobody : (x : Item) → slice_get (wire H) number ≡ Some x → ((n : ℕ) (a : Node) → route lab H (now H) x ≡ reaches n a → ⊥) → is_calm q.asked ≡ true
       → q.made ≡ [] → q.moment ≡ now H → ((n : ℕ) → journal n (q ∷ H) ≡ journal n H) → Delivery lab H q number
@@ -86,16 +88,20 @@ undelivered : {A : Type 0} → (q : Full) (number : ℕ) → q.delivered ≡ Non
 undelivered q number none by = absurd (false≢true (ap (λ (o : Option ℕ). is_some o) (sym none ∙ by)))
 
 -- a record delivers one entry
-same_entry : (H : List Full) (q : Full) (k number : ℕ) (x : Item) → q.delivered ≡ Some k → q.delivered ≡ Some number → slice_get (wire H) k ≡ Some x → slice_get (wire H) number ≡ Some x
+same_entry : (H : List Full) (q : Full) (k number : ℕ) (x : Item) → q.delivered ≡ Some k → q.delivered ≡ Some number → slice_get (wire H) k ≡ Some x
+    → slice_get (wire H) number ≡ Some x
 same_entry H q k number x is by at = ap (slice_get (wire H)) (ap (λ (o : Option ℕ). unwrap_or o k) (sym by ∙ is)) ∙ at
 
 -- where no node is given anything
-of_quiet : (lab : Lab) (H : List Full) (q : Full) (number : ℕ) → Quiet lab H q → q.entry ≡ None → q.made ≡ [] → q.delivered ≡ Some number → Delivery lab H q number
+of_quiet : (lab : Lab) (H : List Full) (q : Full) (number : ℕ) → Quiet lab H q → q.entry ≡ None → q.made ≡ [] → q.delivered ≡ Some number
+    → Delivery lab H q number
 of_quiet lab H q number (kinds.passed ms asked before is) none made by = undelivered q number (ap (λ (z : Full). z.delivered) is) by
 of_quiet lab H q number (shut k j x delivers at goes is) none made by = to_nobody x (same_entry H q k number x (ap (λ (z : Full). z.delivered) is) by at)
-    (λ n a e. false≢true (ap is_reached (sym goes ∙ e))) (delivers_calm H q.asked k delivers) made (ap (λ (z : Full). z.moment) is) (same_journals H q none (ap (λ (z : Full). is_restart z.act) is))
+    (λ n a e. false≢true (ap is_reached (sym goes ∙ e))) (delivers_calm H q.asked k delivers) made (ap (λ (z : Full). z.moment) is)
+    (same_journals H q none (ap (λ (z : Full). is_restart z.act) is))
 of_quiet lab H q number (strayed k x delivers at goes is) none made by = to_nobody x (same_entry H q k number x (ap (λ (z : Full). z.delivered) is) by at)
-    (λ n a e. false≢true (ap is_reached (sym goes ∙ e))) (delivers_calm H q.asked k delivers) made (ap (λ (z : Full). z.moment) is) (same_journals H q none (ap (λ (z : Full). is_restart z.act) is))
+    (λ n a e. false≢true (ap is_reached (sym goes ∙ e))) (delivers_calm H q.asked k delivers) made (ap (λ (z : Full). z.moment) is)
+    (same_journals H q none (ap (λ (z : Full). is_restart z.act) is))
 of_quiet lab H q number (missing k delivers at is) none made by = undelivered q number (ap (λ (z : Full). z.delivered) is) by
 of_quiet lab H q number (none_left asked left is) none made by = undelivered q number (ap (λ (z : Full). z.delivered) is) by
 of_quiet lab H q number (settled asked left is) none made by = undelivered q number (ap (λ (z : Full). z.delivered) is) by
@@ -157,16 +163,22 @@ module _ (r : Full) (e : Entry) (x : List ℕ) (did_it : r.entry ≡ Some e) (wa
   handing lab H n (put src dst bytes asked is) node = nothing (ap (λ (z : Full). z.entry) is)
   handing lab H n (copied k src dst y asked at is) node = nothing (ap (λ (z : Full). z.entry) is)
   handing lab H n (ticks ms y asked due within is) node =
-      absurd (false≢true (sym (ap is_given (input_is (entry_of lab H (max y.moment (now H)) y.number no_ep ticked y.node) ticked (ap (λ (z : Full). z.entry) is) (entry_input lab H (max y.moment (now H)) y.number no_ep ticked y.node)))))
+      absurd (false≢true (sym (ap is_given (input_is (entry_of lab H (max y.moment (now H)) y.number no_ep ticked y.node) ticked
+      (ap (λ (z : Full). z.entry) is) (entry_input lab H (max y.moment (now H)) y.number no_ep ticked y.node)))))
   handing lab H n (reached k i y a delivers at goes there is) node =
-      absurd (false≢true (sym (of_item y) ∙ sym (ap is_given (input_is (entry_of lab H (now H) i (dst_of y) (input_of y) a) (input_of y) (ap (λ (z : Full). z.entry) is) (entry_input lab H (now H) i (dst_of y) (input_of y) a)))))
+      absurd (false≢true (sym (of_item y) ∙ sym (ap is_given
+      (input_is (entry_of lab H (now H) i (dst_of y) (input_of y) a) (input_of y) (ap (λ (z : Full). z.entry) is)
+      (entry_input lab H (now H) i (dst_of y) (input_of y) a)))))
   handing lab H n (handed v i y a hands at is) node =
       let number : i ≡ n = ap (λ (o : Option ℕ). unwrap_or o i) (sym (ap (λ (z : Full). z.node) is) ∙ node) in
-      let bytes : y ≡ x = sym (ap bytes_of (input_is (entry_of lab H (now H) i no_ep (given y) a) (given y) (ap (λ (z : Full). z.entry) is) (entry_input lab H (now H) i no_ep (given y) a))) in
-      let here : Did lab H r i a (entry_of lab H (now H) i no_ep (given y) a) = did lab H (event_of r) (plain v) None i no_ep (given y) a r (hands_still lab H r.asked v i y hands) is in
+      let bytes : y ≡ x = sym (ap bytes_of (input_is (entry_of lab H (now H) i no_ep (given y) a) (given y) (ap (λ (z : Full). z.entry) is)
+      (entry_input lab H (now H) i no_ep (given y) a))) in
+      let here : Did lab H r i a (entry_of lab H (now H) i no_ep (given y) a) = did lab H (event_of r) (plain v) None i no_ep (given y) a r
+      (hands_still lab H r.asked v i y hands) is in
       record {
         node = a;
         there = ap (node_at lab.topology) (sym number) ∙ at;
         calm = hands_calm lab H r.asked v i y hands;
-        did = subst (λ (z : List ℕ). Did lab H r n a (entry_of lab H (now H) n no_ep (given z) a)) bytes (subst (λ (j : ℕ). Did lab H r j a (entry_of lab H (now H) j no_ep (given y) a)) number here);
+        did = subst (λ (z : List ℕ). Did lab H r n a (entry_of lab H (now H) n no_ep (given z) a)) bytes
+            (subst (λ (j : ℕ). Did lab H r j a (entry_of lab H (now H) j no_ep (given y) a)) number here);
       }

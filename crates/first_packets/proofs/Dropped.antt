@@ -62,7 +62,8 @@ module _ (laws : StartLaws) (lab : Lab) (H : List Full) (r : Full) (number : r.f
   alone [] g fresh = refl
   alone (q ∷ later) g fresh =
       let same = alone later g.1 fresh.1 in
-      let came = on_wire lab (later ++ r ∷ H) q fresh.0.number (delivery lab (later ++ r ∷ H) q fresh.0.number (laws.packets.kinds lab (later ++ r ∷ H) q g.0) fresh.0.delivered) in
+      let came = on_wire lab (later ++ r ∷ H) q fresh.0.number
+      (delivery lab (later ++ r ∷ H) q fresh.0.number (laws.packets.kinds lab (later ++ r ∷ H) q g.0) fresh.0.delivered) in
       let within = subst (λ (z : List Full). fresh.0.number < length (wire (z ++ r ∷ H))) same came in
       let new = fresh.0.new in
       absurd (beyond fresh.0.number r.first (length (wire H)) (length (wire (r ∷ H))) new number as_long within)
@@ -72,13 +73,15 @@ module _ (laws : StartLaws) (lab : Lab) (H : List Full) (r : Full) (number : r.f
 
   -- and the packet doesn't get through
   pub kept_back : (m : ℕ) (own other : Ip6) (x : List ℕ) → GetsThrough H r m own other x [] → ⊥
-  kept_back m own other x carried = carried.arrives (λ k low high. absurd (beyond k r.first (length (wire H)) (length (wire (r ∷ H))) low number as_long high)) where
-    beyond : (k first before after : ℕ) → first ≤ k → first ≡ before → after ≡ before → k < after → ⊥
-    beyond k first before after low same still high = omega (arith, low, same, still, high)
+  kept_back m own other x carried = carried.arrives (λ k low high. absurd
+      (beyond k r.first (length (wire H)) (length (wire (r ∷ H))) low number as_long high)) where
+        beyond : (k first before after : ℕ) → first ≤ k → first ≡ before → after ≡ before → k < after → ⊥
+        beyond k first before after low same still high = omega (arith, low, same, still, high)
 
 -- THE RECORD
 
-module _ (laws : StartLaws) (d : Draws) (t : TopologyState) (H : List Full) (r : Full) (n m : ℕ) (a b : ClientNode) (own other : Ip6) (x : List ℕ) (is : IsTopology t) (g : Grown (flat_lab d t) (r ∷ H))
+module _ (laws : StartLaws) (d : Draws) (t : TopologyState) (H : List Full) (r : Full) (n m : ℕ) (a b : ClientNode) (own other : Ip6) (x : List ℕ)
+    (is : IsTopology t) (g : Grown (flat_lab d t) (r ∷ H))
     (turned : IsTurnedAway (flat_lab d t) H r n m a b own other x) where
   abbrev l : PacketLaws
   l = laws.packets
@@ -106,10 +109,12 @@ module _ (laws : StartLaws) (d : Draws) (t : TopologyState) (H : List Full) (r :
 
   its_meets : Meets (setup t a_side) (fields_in x).src (fields_in x).dst
   its_meets = subst (λ (z : Ip6). Meets (setup t a_side) (fields_in x).src z) (sym turned.packet.destination)
-      (subst (λ (z : Ip6). Meets (setup t a_side) z other) (sym turned.packet.source) (meets l.ends.apart t is a_side b_side sender_end receiver_end turned.apart))
+      (subst (λ (z : Ip6). Meets (setup t a_side) z other) (sym turned.packet.source)
+      (meets l.ends.apart t is a_side b_side sender_end receiver_end turned.apart))
 
   its_here : IsHere (setup t a_side) (journal n H) (fields_in x).src
-  its_here = subst (IsHere (setup t a_side) (journal n H)) (sym turned.packet.source) (is_here l lab H n a own g.1 sender_end.there turned.sender_settled.address)
+  its_here = subst (IsHere (setup t a_side) (journal n H)) (sym turned.packet.source)
+      (is_here l lab H n a own g.1 sender_end.there turned.sender_settled.address)
 
   full : has_room (mentions (journal n H).entries) (now H) (fields_in x).dst ≡ false
   full = ap (has_room (mentions (journal n H).entries) (now H)) turned.packet.destination ∙ turned.full
@@ -118,9 +123,11 @@ module _ (laws : StartLaws) (d : Draws) (t : TopologyState) (H : List Full) (r :
   unknown = l.unlisted (mentions (journal n H).entries) (now H) (fields_in x).dst (not_listed (mentions (journal n H).entries) (now H) (fields_in x).dst full)
 
   is_turned : IsTurned (setup t a_side) (journal n H) (now H) x turned.packet.packet its_meets its_here
-      (handed_in.small laws d t H r n a x turned.entry is g sender_end.there turned.node turned.did turned.packet_in turned.packet.packet turned.packet.short) turned.packet.no_bubble unknown e
+      (handed_in.small laws d t H r n a x turned.entry is g sender_end.there turned.node turned.did turned.packet_in turned.packet.packet
+      turned.packet.short) turned.packet.no_bubble unknown e
   is_turned = turned_away (setup t a_side) (journal n H) (now H) x turned.packet.packet its_meets its_here
-      (handed_in.small laws d t H r n a x turned.entry is g sender_end.there turned.node turned.did turned.packet_in turned.packet.packet turned.packet.short) turned.packet.no_bubble unknown
+      (handed_in.small laws d t H r n a x turned.entry is g sender_end.there turned.node turned.did turned.packet_in turned.packet.packet
+      turned.packet.short) turned.packet.no_bubble unknown
       (ap has_cone turned.packet.destination ∙ turned.plain) full (words lab n H)
 
   pub nothing : r.made ≡ []

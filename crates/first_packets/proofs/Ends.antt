@@ -1,8 +1,9 @@
 -- What the premise says of a settled client: its nodes, and what its address embeds.
-use Rattle.std.proofs.Common.{◌≡◌, ◌<◌, ◌≤◌, ◌==◌, ◌+◌, ◌||◌, not, ℕ, Bool, true, false, cond, List, [], ◌∷◌, Option, Some, None, refl, sym, ap, subst, ◌∙◌, arith}
-use Rattle.std.specs.Prelude.{IfSome, unwrap_or, is_some, option_and_then, ◌↔◌}
+use Rattle.std.proofs.Common.{◌≡◌, ◌<◌, ◌≤◌, ◌==◌, ◌+◌, ◌||◌, not, ℕ, Bool, true, false, List, Option, Some, refl, sym, ap, subst, ◌∙◌, arith}
+use Rattle.std.specs.Prelude.{IfSome, unwrap_or, is_some, ◌↔◌}
 use Rattle.std.proofs.lemmas.Bool.{false≢true}
 use Rattle.std.proofs.lemmas.Bool.Decides.{nat_tests}
+use Rattle.std.proofs.lemmas.List.Elements.{All-contains, All-from_recursion}
 use Rattle.td_base.specs.declared.ipv4.Ip4.{Ip4}
 use Rattle.td_base.specs.declared.ipv6.Ip6.{Ip6}
 use Rattle.td_base.specs.declared.endpoint.Ep.{Ep}
@@ -10,7 +11,7 @@ use Rattle.td_base.specs.declared.reach.Policy.TheVariants.{Strict}
 use Rattle.td_base.specs.Ip4.{same_ip, same_ip-self}
 use Rattle.td_base.specs.Ep.{IsEp}
 use Rattle.td_base.specs.Reach.{is_usable, is_global}
-use Rattle.teredo_addr.specs.Teredo.{server_in, has_cone, embedded, flags_of}
+use Rattle.teredo_addr.specs.Teredo.{server_in, embedded, flags_of}
 use Rattle.teredo_addr.specs.Laws.{IsTeredoOf, TeredoTells, FlagsTell}
 use Rattle.bubble.specs.Laws.{PayloadIsSpelled}
 use Rattle.bubble.proofs.MadeInputs.{origin_is}
@@ -21,26 +22,26 @@ use Rattle.nat_kinds.specs.Mappings.{live_port}
 use Rattle.nat_kinds.specs.Answer.{live_after}
 use Rattle.nat_kinds.specs.Entering.{lets_in}
 use Rattle.nat_kinds.specs.Laws.{IsPast, WasAsked}
-use Rattle.teredo_node.specs.Journal.{Input, arrived, given, from_six, ticked, Entry}
+use Rattle.teredo_node.specs.Journal.{Input, arrived, given, from_six, ticked, Entry, Journal}
 use Rattle.teredo_node.specs.MadeInputs.{IsMadeInput, AreMadeInputs}
 use Rattle.qualify.specs.declared.settings.Settings.{Settings}
-use Rattle.qualify.specs.Turns.{Turn, qualifies, is_changed, turn_of, leaves, begins, origin_given, flags_word}
-use Rattle.qualify.specs.Qualification.{Qualification, qualification, address_of, address_after}
-use Rattle.qualify.specs.Laws.{fresh, goes_on, tidings, Turns, TurnsAtStart}
+use Rattle.qualify.specs.Turns.{origin_given}
+use Rattle.qualify.specs.Qualification.{qualification}
+use Rattle.qualify.specs.Laws.{Turns}
 use Rattle.client_rules.specs.MadeSends.{IsMadeClient}
 use Rattle.topology.specs.declared.server_node.ServerNode.{ServerNode}
 use Rattle.topology.specs.declared.nat_node.NatNode.{NatNode}
 use Rattle.topology.specs.declared.client_node.ClientNode.{ClientNode}
 use Rattle.topology.specs.declared.node.Node.{Node}
-use Rattle.topology.specs.declared.node.Node.TheVariants.{Server as server, Nat as nat, Client as client, Relay as relay, Native as native}
+use Rattle.topology.specs.declared.node.Node.TheVariants.{Server as server, Nat as nat, Client as client}
 use Rattle.topology.specs.Rows.{TopologyState}
 use Rattle.topology.specs.Rules.{IsTopology}
-use Rattle.topology.specs.Topology.{node_at, nat_at, server_at, client_at, as_server, as_nat, as_client, nat_settings, settings_of_nat}
+use Rattle.topology.specs.Topology.{node_at, client_at, nat_settings}
 use Rattle.topology.specs.Chains.{nat_set_up}
-use Rattle.topology.specs.NodeRules.{has_address, IsServerNode, IsNatNode, IsClientNode, AddressesAreApart, EachNodeKeepsRules}
+use Rattle.topology.specs.NodeRules.{has_address, IsServerNode, IsNatNode, AddressesAreApart, EachNodeKeepsRules}
 use Rattle.history.specs.Full.{Full}
 use Rattle.legal.specs.Lab.{Lab}
-use Rattle.legal.specs.Settings.{client_settings, primary_of, secondary_of}
+use Rattle.legal.specs.Settings.{client_settings}
 use Rattle.legal.specs.Past.{now, journal, nat_history}
 use Rattle.legal.specs.Legal.{Grown}
 use Rattle.legal.specs.MadeWire.{EachHistoryIsMade}
@@ -48,56 +49,15 @@ use Rattle.legal.proofs.MadeWire.{client_made}
 use Rattle.legal.proofs.NatPasts.{set_up_past}
 use Rattle.settled.specs.Clients.{asks_at, nat_behind}
 use Rattle.settled.specs.Settled.{IsSettled}
+use Rattle.settled.specs.ItsNodes.{ClientsAreThere}
+use Rattle.settled.specs.OwnAddress.{WasTold, IsOwnAddress, EachAddressIsOwn}
 use Rattle.first_packets.proofs.Bools.{both_hold}
 use Rattle.first_packets.proofs.Ways.{CountingHolds, Way, Holds, held_port}
-
--- NODES BY THEIR NUMBERS
-
--- a client by its number
-pub client_there : (t : TopologyState) (n : ℕ) (c : ClientNode) → client_at t n ≡ Some c → node_at t n ≡ Some (client c)
-client_there t n c h = by (node_at t n) h where
-  by : (o : Option Node) → option_and_then as_client o ≡ Some c → o ≡ Some (client c)
-  by None e = absurd (false≢true (ap (λ (z : Option ClientNode). is_some z) e))
-  by (Some (server a)) e = absurd (false≢true (ap (λ (z : Option ClientNode). is_some z) e))
-  by (Some (nat a)) e = absurd (false≢true (ap (λ (z : Option ClientNode). is_some z) e))
-  by (Some (client a)) e = ap (λ (z : Option ClientNode). Some (client (unwrap_or z a))) e
-  by (Some (relay a)) e = absurd (false≢true (ap (λ (z : Option ClientNode). is_some z) e))
-  by (Some (native a)) e = absurd (false≢true (ap (λ (z : Option ClientNode). is_some z) e))
-
--- a NAT by its number
-record NatThere (t : TopologyState) (k : ℕ) : Type 0 where
-  row : NatNode
-  there : node_at t k ≡ Some (nat row)
-
-nat_there : (t : TopologyState) (k : ℕ) → is_some (nat_at t k) ≡ true → NatThere t k
-nat_there t k h = by (node_at t k) refl h where
-  by : (o : Option Node) → node_at t k ≡ o → is_some (option_and_then as_nat o) ≡ true → NatThere t k
-  by None e g = absurd (false≢true g)
-  by (Some (server a)) e g = absurd (false≢true g)
-  by (Some (nat a)) e g = record { row = a; there = e }
-  by (Some (client a)) e g = absurd (false≢true g)
-  by (Some (relay a)) e g = absurd (false≢true g)
-  by (Some (native a)) e g = absurd (false≢true g)
-
--- a server by its number
-record ServerThere (t : TopologyState) (k : ℕ) : Type 0 where
-  row : ServerNode
-  there : node_at t k ≡ Some (server row)
-
-server_there : (t : TopologyState) (k : ℕ) → is_some (server_at t k) ≡ true → ServerThere t k
-server_there t k h = by (node_at t k) refl h where
-  by : (o : Option Node) → node_at t k ≡ o → is_some (option_and_then as_server o) ≡ true → ServerThere t k
-  by None e g = absurd (false≢true g)
-  by (Some (server a)) e g = record { row = a; there = e }
-  by (Some (nat a)) e g = absurd (false≢true g)
-  by (Some (client a)) e g = absurd (false≢true g)
-  by (Some (relay a)) e g = absurd (false≢true g)
-  by (Some (native a)) e g = absurd (false≢true g)
 
 -- WHAT AN ADDRESS IS MADE OF
 
 -- a Teredo address of a client that is set up so
-pub record IsOwnAddress (s : Settings) (ip : Ip6) : Type 0 where
+pub record IsTold (s : Settings) (ip : Ip6) : Type 0 where
   pub flags : ℕ
   pub mapped : Ep
   pub of : IsTeredoOf s.primary flags mapped ip
@@ -108,43 +68,40 @@ pub record AddressLaws : Type 0 where
   pub teredo : TeredoTells
   pub flags : FlagsTell
   pub turns : Turns
-  pub at_start : TurnsAtStart
-
--- an origin makes one
-made_of : AddressLaws → (s : Settings) (cone : Bool) (w : Option ℕ) (o : Option Ep) → IsMadeClient s → IfSome o IsEp → IfSome (address_of s cone w o) (IsOwnAddress s)
-made_of laws s cone w None made h = tt
-made_of laws s cone w (Some ep) made h = record { flags = flags_of cone w; mapped = ep; of = laws.teredo s.primary (flags_of cone w) ep made.primary (laws.flags cone w).sixteen h; made = h }
-
--- so does any turn of the journal
-turned_to : AddressLaws → (s : Settings) (t : Turn) (w : Option ℕ) (o : Option Ep) (a : Option Ip6) → IsMadeClient s → IfSome o IsEp → IfSome a (IsOwnAddress s) → IfSome (address_after s t w o a) (IsOwnAddress s)
-turned_to laws s (qualifies cone) w o a made h before = made_of laws s cone w o made h
-turned_to laws s is_changed w o None made h before = tt
-turned_to laws s is_changed w o (Some p) made h before = made_of laws s (has_cone p) w o made h
-turned_to laws s _ w o a made h before = before
+  pub own : EachAddressIsOwn
 
 -- an origin that came is made
-origin_made : PayloadIsSpelled → (input : Input) → IsMadeInput input → IfSome (origin_given input) IsEp
-origin_made law (arrived from x) h = origin_is law x h.1
-origin_made law (given x) h = tt
-origin_made law (from_six x) h = tt
-origin_made law ticked h = tt
+origin_made : PayloadIsSpelled → (input : Input) (origin : Ep) → IsMadeInput input → origin_given input ≡ Some origin → IsEp origin
+origin_made law (arrived from x) origin made same = subst (λ (o : Option Ep). IfSome o IsEp) same (origin_is law x made.1)
+origin_made law (given x) origin made same = absurd (false≢true (ap (λ (o : Option Ep). is_some o) same))
+origin_made law (from_six x) origin made same = absurd (false≢true (ap (λ (o : Option Ep). is_some o) same))
+origin_made law ticked origin made same = absurd (false≢true (ap (λ (o : Option Ep). is_some o) same))
+
+-- so is one that was told
+told_made : PayloadIsSpelled → (es : List Entry) (origin : Ep) → AreMadeInputs es → WasTold es origin → IsEp origin
+told_made law es origin made (e, at, same) = origin_made law e.input origin
+    (All-contains (λ (q : Entry). IsMadeInput q.input) es e (All-from_recursion (λ (q : Entry). IsMadeInput q.input) es made) at) same
 
 -- the address of a journal is one
-own_address_is : AddressLaws → (s : Settings) (start : ℕ) (es : List Entry) → IsMadeClient s → AreMadeInputs es → IfSome (qualification s (record { start = start; entries = es })).address (IsOwnAddress s)
-own_address_is laws s start [] made a = subst (λ (q : Qualification). IfSome q.address (IsOwnAddress s)) (sym (laws.at_start s start)) tt
-own_address_is laws s start (e ∷ es) made a =
-    subst (λ (q : Qualification). IfSome q.address (IsOwnAddress s)) (sym (laws.turns s (record { start = start; entries = es }) e))
-    (by (leaves (qualification s (record { start = start; entries = es })).phase (turn_of e)) (own_address_is laws s start es made a.1))
-  where
-    by : (b : Bool) → IfSome (qualification s (record { start = start; entries = es })).address (IsOwnAddress s)
-        → IfSome (goes_on s (tidings s e) (cond b (fresh (unwrap_or (begins (turn_of e)) (qualification s (record { start = start; entries = es })).phase) e.moment) (qualification s (record { start = start; entries = es })))).address (IsOwnAddress s)
-    by true before = turned_to laws s (turn_of e) (flags_word s e.words) (origin_given e.input) None made (origin_made laws.payload e.input a.0) tt
-    by false before = turned_to laws s (turn_of e) (flags_word s e.words) (origin_given e.input) (qualification s (record { start = start; entries = es })).address made (origin_made laws.payload e.input a.0) before
+own_address_is : AddressLaws → (s : Settings) (j : Journal) (own : Ip6) → IsMadeClient s → AreMadeInputs j.entries → (qualification s j).address ≡ Some own
+    → IsTold s own
+own_address_is laws s j own made inputs address =
+    let is : IsOwnAddress s j.entries own = laws.own s j own address in
+    let flags : ℕ = flags_of is.cone is.word in
+    let mapped : IsEp is.origin = told_made laws.payload j.entries is.origin inputs is.told in
+    record {
+      flags = flags;
+      mapped = is.origin;
+      of = subst (IsTeredoOf s.primary flags is.origin) (sym is.made)
+          (laws.teredo s.primary flags is.origin made.primary (laws.flags is.cone is.word).sixteen mapped);
+      made = mapped;
+    }
 
 -- ADDRESSES OF NODES
 
 -- nodes of two kinds have no address in common
-pub other_kind : AddressesAreApart → (t : TopologyState) (i j : ℕ) (a b : Node) (ip : Ip4) (test : Node → Bool) → IsTopology t → node_at t i ≡ Some a → node_at t j ≡ Some b
+pub other_kind : AddressesAreApart → (t : TopologyState) (i j : ℕ) (a b : Node) (ip : Ip4) (test : Node → Bool) → IsTopology t → node_at t i ≡ Some a
+    → node_at t j ≡ Some b
     → has_address ip a ≡ true → has_address ip b ≡ true → test a ≡ false → test b ≡ true → ⊥
 other_kind apart t i j a b ip test is at to h g fails holds =
     let same : i ≡ j = apart t i j a b ip is at to h g in
@@ -176,10 +133,13 @@ pub record EndLaws : Type 0 where
   pub address : AddressLaws
   pub apart : AddressesAreApart
   pub rules : EachNodeKeepsRules
+  pub there : ClientsAreThere
   pub made : EachHistoryIsMade
   pub holds : CountingHolds
-  pub ports : (s : NatSettings) (h : List NatEntry) (n : ℕ) → IsPast s h n → (inside dst : Ep) (port : ℕ) → live_port s.kind inside dst (live_after s h n) ≡ Some port → (FIRST_PORT ≤ port) × (port < FIRST_PORT + MAPPINGS_MAX)
-  pub asked : (s : NatSettings) (h : List NatEntry) (n : ℕ) → IsPast s h n → (src : Ep) (port : ℕ) (inside : Ep) → (lets_in s h n src port ≡ Some inside) ↔ WasAsked s h n src port inside
+  pub ports : (s : NatSettings) (h : List NatEntry) (n : ℕ) → IsPast s h n → (inside dst : Ep) (port : ℕ)
+      → live_port s.kind inside dst (live_after s h n) ≡ Some port → (FIRST_PORT ≤ port) × (port < FIRST_PORT + MAPPINGS_MAX)
+  pub asked : (s : NatSettings) (h : List NatEntry) (n : ℕ) → IsPast s h n → (src : Ep) (port : ℕ) (inside : Ep)
+      → (lets_in s h n src port ≡ Some inside) ↔ WasAsked s h n src port inside
 
 -- node n is client c with the address own, whose NAT and server these are
 pub record IsEnd (t : TopologyState) (n : ℕ) (c : ClientNode) (own : Ip6) : Type 0 where
@@ -193,7 +153,7 @@ pub record IsEnd (t : TopologyState) (n : ℕ) (c : ClientNode) (own : Ip6) : Ty
   pub server_is : node_at t c.server ≡ Some (server server_row)
   pub primary : (client_settings t c).primary ≡ server_row.primary
   pub secondary : (client_settings t c).secondary ≡ server_row.secondary
-  pub address : IsOwnAddress (client_settings t c) own
+  pub address : IsTold (client_settings t c) own
   pub made : IsEp (embedded own)
   pub usable : is_usable Strict (embedded own) ≡ true
   pub server_global : is_global Strict (server_in own) ≡ true
@@ -207,47 +167,55 @@ usable_at : (e : Ep) → is_global Strict e.ip ≡ true → (e.port == 0) ≡ fa
 unfolding is_usable
 usable_at e global port = both_hold (is_global Strict e.ip) (not (e.port == 0)) global (ap not port)
 
-module _ (laws : EndLaws) (lab : Lab) (H : List Full) (n : ℕ) (c : ClientNode) (own : Ip6) (is : IsTopology lab.topology) (g : Grown lab H) (at : client_at lab.topology n ≡ Some c) (settled : IsSettled lab H n c own) where
+module _ (laws : EndLaws) (lab : Lab) (H : List Full) (n : ℕ) (c : ClientNode) (own : Ip6) (is : IsTopology lab.topology) (g : Grown lab H)
+    (at : client_at lab.topology n ≡ Some c) (settled : IsSettled lab H n c own) where
   -- what its server sends is let in
   pub way_of_server : Way lab H c.nat (asks_at lab c) (embedded own).port c.inside
-  way_of_server = (laws.asked (nat_behind lab c) (nat_history lab c.nat H) (now H) (set_up_past lab H c.nat g) (asks_at lab c) (embedded own).port c.inside).0 settled.reached
+  way_of_server = (laws.asked (nat_behind lab c) (nat_history lab c.nat H) (now H) (set_up_past lab H c.nat g) (asks_at lab c)
+      (embedded own).port c.inside).0 settled.reached
 
   -- it holds the port in its address
   holds_port : Holds (nat_behind lab c) (nat_history lab c.nat H) (now H) c.inside (embedded own).port
-  holds_port = record { past = set_up_past lab H c.nat g; datagram = way_of_server.datagram; counts = way_of_server.counts; left = way_of_server.left; by_port = way_of_server.by_port }
+  holds_port = record {
+    past = set_up_past lab H c.nat g;
+    datagram = way_of_server.datagram;
+    counts = way_of_server.counts;
+    left = way_of_server.left;
+    by_port = way_of_server.by_port;
+  }
+
+  there : node_at lab.topology n ≡ Some (client c)
+  there = laws.there.node lab.topology n c at
 
   -- its address is made of its server's and an endpoint
-  own_is : IsOwnAddress (client_settings lab.topology c) own
-  own_is = subst (λ (o : Option Ip6). IfSome o (IsOwnAddress (client_settings lab.topology c))) settled.address
-      (own_address_is laws.address (client_settings lab.topology c) (journal n H).start (journal n H).entries (client_made laws.rules lab.topology n c is (client_there lab.topology n c at)) ((laws.made lab H is g).journals n))
+  own_is : IsTold (client_settings lab.topology c) own
+  own_is = own_address_is laws.address (client_settings lab.topology c) (journal n H) own (client_made laws.rules lab.topology n c is there)
+      ((laws.made lab H is g).journals n) settled.address
 
   -- all of it
   pub is_end : IsEnd lab.topology n c own
   is_end =
-      let there = client_there lab.topology n c at in
-      let keeps : IsClientNode lab.topology c = laws.rules lab.topology n (client c) is there in
-      let k = nat_there lab.topology c.nat keeps.rules.behind in
-      let p = server_there lab.topology c.server keeps.rules.asks in
+      let k = laws.there.nat_of lab.topology n c is there in
+      let p = laws.there.server_of lab.topology n c is there in
       let nat_keeps : IsNatNode k.row = laws.rules lab.topology c.nat (nat k.row) is k.there in
       let server_keeps : IsServerNode p.row = laws.rules lab.topology c.server (server p.row) is p.there in
-      let set_up : nat_set_up lab.topology c.nat ≡ nat_settings k.row = ap (λ (o : Option Node). settings_of_nat (option_and_then as_nat o)) k.there in
-      let external : (embedded own).ip ≡ k.row.external = settled.external ∙ ap (λ (s : NatSettings). s.external) set_up in
-      let primary : (client_settings lab.topology c).primary ≡ p.row.primary = ap (λ (o : Option Node). primary_of (option_and_then as_server o)) p.there in
+      let external : (embedded own).ip ≡ k.row.external = settled.external ∙ ap (λ (s : NatSettings). s.external) k.set_up in
       let port = (laws.ports (nat_behind lab c) (nat_history lab c.nat H) (now H) (set_up_past lab H c.nat g) c.inside c.inside (embedded own).port
-      (held_port laws.holds (nat_behind lab c) (nat_history lab c.nat H) (now H) c.inside c.inside (embedded own).port settled.kind holds_port)).0 in
+      (held_port (nat_behind lab c) (nat_history lab c.nat H) (now H) c.inside (embedded own).port holds_port laws.holds c.inside settled.kind)).0 in
       record {
         there = there;
         nat_row = k.row;
         nat_is = k.there;
         external = external;
-        set_up = set_up;
-        lives = subst (λ (s : NatSettings). 0 < s.idle) (sym set_up) (let least = nat_keeps.idle.least in omega (arith, least));
+        set_up = k.set_up;
+        lives = subst (λ (s : NatSettings). 0 < s.idle) (sym k.set_up) (let least = nat_keeps.idle.least in omega (arith, least));
         server_row = p.row;
         server_is = p.there;
-        primary = primary;
-        secondary = ap (λ (o : Option Node). secondary_of (option_and_then as_server o)) p.there;
+        primary = p.primary;
+        secondary = p.secondary;
         address = own_is;
         made = subst IsEp (sym own_is.of.mapped_is) own_is.made;
-        usable = usable_at (embedded own) (subst (λ (ip : Ip4). is_global Strict ip ≡ true) (sym external) nat_keeps.external.global) (high_port (embedded own).port port);
-        server_global = subst (λ (ip : Ip4). is_global Strict ip ≡ true) (sym (own_is.of.server_is ∙ primary)) server_keeps.primary.global;
+        usable = usable_at (embedded own) (subst (λ (ip : Ip4). is_global Strict ip ≡ true) (sym external) nat_keeps.external.global)
+            (high_port (embedded own).port port);
+        server_global = subst (λ (ip : Ip4). is_global Strict ip ≡ true) (sym (own_is.of.server_is ∙ p.primary)) server_keeps.primary.global;
       }

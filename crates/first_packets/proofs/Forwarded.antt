@@ -33,9 +33,11 @@ pub record IsForOwnClient (a : Seen) : Type 0 where
 -- no line but that holds
 goes_on : (a : Seen) → IsForOwnClient a → first_line (datagram_lines a ++ (packet_lines a ++ destination_lines a)) last_line ≡ ForwardOrigin
 goes_on a is =
-    passed_by (datagram_lines a) (packet_lines a ++ destination_lines a) last_line (is.unkeyed, (is.short, (is.kind, (is.well_formed, (is.usable, (is.foreign, tt))))))
+    passed_by (datagram_lines a) (packet_lines a ++ destination_lines a) last_line
+    (is.unkeyed, (is.short, (is.kind, (is.well_formed, (is.usable, (is.foreign, tt))))))
     ∙ passed_by (packet_lines a) (destination_lines a) last_line (is.for_others, (is.no_solicitation, (is.unforged, (is.ours, tt))))
-    ∙ passed_by ((a.unusable_dest, Dropped fate.Embedded) ∷ (a.looped, Dropped fate.Loop) ∷ []) ((a.for_client, ForwardOrigin) ∷ (a.for_teredo, Forward) ∷ (a.for_global, Six) ∷ []) last_line (is.usable_dest, (is.unlooped, tt))
+    ∙ passed_by ((a.unusable_dest, Dropped fate.Embedded) ∷ (a.looped, Dropped fate.Loop) ∷ [])
+    ((a.for_client, ForwardOrigin) ∷ (a.for_teredo, Forward) ∷ (a.for_global, Six) ∷ []) last_line (is.usable_dest, (is.unlooped, tt))
     ∙ ap (λ (b : Bool). cond b ForwardOrigin (first_line ((a.for_teredo, Forward) ∷ (a.for_global, Six) ∷ []) last_line)) is.for_client
 
 rule_is : (s : ServerSettings) (from : Ep) (v : Value) → IsForOwnClient (seen s from v) → rule_of s from v ≡ ForwardOrigin

@@ -29,20 +29,30 @@ pub record IsForPeer (a : Given) : Type 0 where
   pub stale : a.fresh ≡ false
 
 -- the lines on the packet are passed
-to_destination : (a : Given) → IsForPeer a → transmission_row a ≡ first_line ((a.cone, fate.SentCone) ∷ (not a.room, fate.PeersFull) ∷ (a.spent, fate.Barred) ∷ (a.full, fate.QueueFull) ∷ []) fate.Queued
+to_destination : (a : Given) → IsForPeer a → transmission_row a ≡ first_line
+    ((a.cone, fate.SentCone) ∷ (not a.room, fate.PeersFull) ∷ (a.spent, fate.Barred) ∷ (a.full, fate.QueueFull) ∷ []) fate.Queued
 to_destination a is =
-    passed_by (host_lines a) (destination_lines a) fate.Queued (not_so a.qualified is.qualified, (not_so a.packet is.packet, (is.short, (not_so a.own_source is.own, (not_so a.global is.global, (is.no_bubble, (is.for_another, tt)))))))
-    ∙ passed_by ((a.unreachable, fate.Embedded) ∷ (a.fresh, fate.Sent) ∷ []) ((a.cone, fate.SentCone) ∷ (not a.room, fate.PeersFull) ∷ (a.spent, fate.Barred) ∷ (a.full, fate.QueueFull) ∷ []) fate.Queued (is.reachable, (is.stale, tt))
+    passed_by (host_lines a) (destination_lines a) fate.Queued (
+      not_so a.qualified is.qualified,
+      (
+        not_so a.packet is.packet,
+        (is.short, (not_so a.own_source is.own, (not_so a.global is.global, (is.no_bubble, (is.for_another, tt))))),
+      ),
+    )
+    ∙ passed_by ((a.unreachable, fate.Embedded) ∷ (a.fresh, fate.Sent) ∷ [])
+    ((a.cone, fate.SentCone) ∷ (not a.room, fate.PeersFull) ∷ (a.spent, fate.Barred) ∷ (a.full, fate.QueueFull) ∷ []) fate.Queued (is.reachable, (is.stale, tt))
 
 -- it goes there at once where the other is cone
 pub sent_at_once : (a : Given) → IsForPeer a → a.cone ≡ true → transmission_row a ≡ fate.SentCone
 sent_at_once a is cone =
-    to_destination a is ∙ ap (λ (b : Bool). cond b fate.SentCone (first_line ((not a.room, fate.PeersFull) ∷ (a.spent, fate.Barred) ∷ (a.full, fate.QueueFull) ∷ []) fate.Queued)) cone
+    to_destination a is ∙ ap (λ (b : Bool). cond b fate.SentCone
+    (first_line ((not a.room, fate.PeersFull) ∷ (a.spent, fate.Barred) ∷ (a.full, fate.QueueFull) ∷ []) fate.Queued)) cone
 
 -- else it waits
 pub waits_for_it : (a : Given) → IsForPeer a → a.cone ≡ false → a.room ≡ true → a.spent ≡ false → a.full ≡ false → transmission_row a ≡ fate.Queued
 waits_for_it a is cone room spent full =
-    to_destination a is ∙ passed_by ((a.cone, fate.SentCone) ∷ (not a.room, fate.PeersFull) ∷ (a.spent, fate.Barred) ∷ (a.full, fate.QueueFull) ∷ []) [] fate.Queued (cone, (not_so a.room room, (spent, (full, tt))))
+    to_destination a is ∙ passed_by ((a.cone, fate.SentCone) ∷ (not a.room, fate.PeersFull) ∷ (a.spent, fate.Barred) ∷ (a.full, fate.QueueFull)
+    ∷ []) [] fate.Queued (cone, (not_so a.room room, (spent, (full, tt))))
 
 -- and where there is no room for it, it is dropped
 pub no_room_for_it : (a : Given) → IsForPeer a → a.cone ≡ false → a.room ≡ false → transmission_row a ≡ fate.PeersFull
@@ -82,7 +92,8 @@ module _ (s : Settings) (j : Journal) (n : ℕ) (x : List ℕ) (is_one : is_pack
       → client_out s j n x w ≡ entry n (given x) (Some x) (Some (fields_in x).dst) w (transmission_step s standing_for x (fields_in x).dst w f)
   unfolding client_out transmission.transmission
   entry_given w f is =
-      ap (λ (g : Fate). entry n (given x) (packet_given x) (destination_in x) w (transmission_step s (standing_of s j n (destination_in x)) x (fields_in x).dst w g)) (row_is ∙ is)
+      ap (λ (g : Fate). entry n (given x) (packet_given x) (destination_in x) w
+      (transmission_step s (standing_of s j n (destination_in x)) x (fields_in x).dst w g)) (row_is ∙ is)
       ∙ ap (λ (a : Standing). entry n (given x) (packet_given x) (destination_in x) w (transmission_step s a x (fields_in x).dst w f)) stands
       ∙ ap (λ (o : Option Ip6). entry n (given x) (packet_given x) o w (transmission_step s standing_for x (fields_in x).dst w f)) destination
       ∙ ap (λ (o : Option (List ℕ)). entry n (given x) o (Some (fields_in x).dst) w (transmission_step s standing_for x (fields_in x).dst w f)) whole

@@ -49,7 +49,8 @@ not_big spelled long x bytes one short =
       at_most n m most same le = grind (arith, nat_tests)
 
 -- node n is the client a
-module _ (laws : StartLaws) (d : Draws) (t : TopologyState) (H : List Full) (r : Full) (n : ℕ) (a : ClientNode) (x : List ℕ) (entry : Entry) (is : IsTopology t) (g : Grown (flat_lab d t) (r ∷ H))
+module _ (laws : StartLaws) (d : Draws) (t : TopologyState) (H : List Full) (r : Full) (n : ℕ) (a : ClientNode) (x : List ℕ) (entry : Entry)
+    (is : IsTopology t) (g : Grown (flat_lab d t) (r ∷ H))
     (there : node_at t n ≡ Some (client a)) (node : r.node ≡ Some n) (did_it : r.entry ≡ Some entry) (packet_in : entry.input ≡ given x) where
   abbrev lab : Lab
   lab = flat_lab d t
@@ -69,7 +70,8 @@ module _ (laws : StartLaws) (d : Draws) (t : TopologyState) (H : List Full) (r :
   -- the packet is bytes
   pub bytes : IsBytes x
   bytes =
-      let all : AreMadeInputs (with_entry (journal n H) e).entries = subst (λ (j : Journal). AreMadeInputs j.entries) did.later ((laws.packets.ends.made lab (r ∷ H) is g).journals n) in
+      let all : AreMadeInputs (with_entry (journal n H) e).entries = subst (λ (j : Journal). AreMadeInputs j.entries) did.later
+      ((laws.packets.ends.made lab (r ∷ H) is g).journals n) in
       subst IsMadeInput (entry_input lab H (now H) n no_ep (given x) (client a)) all.0
 
   pub small : is_packet x ≡ true → length x ≤ PACKET_MAX → is_big (fields_in x) ≡ false

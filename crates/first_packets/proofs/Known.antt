@@ -41,9 +41,11 @@ module _ (laws : PeerLaws) (e : Entry) (es : List Entry) (n : ℕ) (p : Ip6) (is
   seen_after =
       ap (λ (ms : List Mention). peer_at ms n p) (laws.next e es ∙ ap (λ (b : Bool). cond b [] (mention e ∷ mentions es)) is.keeps)
       ∙ laws.one (mention e) (mentions es) n p
-      ∙ ap (λ (b : Bool). peer_if b (mention e).bearing.touches (is_young LISTED_MS n e.moment) (mention e) (peer_at (mentions es) e.moment p) (peer_at (mentions es) n p)) (ap (is_peer p) is.peer ∙ same_ip6-self p)
+      ∙ ap (λ (b : Bool). peer_if b (mention e).bearing.touches (is_young LISTED_MS n e.moment) (mention e) (peer_at (mentions es) e.moment p)
+      (peer_at (mentions es) n p)) (ap (is_peer p) is.peer ∙ same_ip6-self p)
       ∙ ap (λ (b : Bool). peer_if true b (is_young LISTED_MS n e.moment) (mention e) (peer_at (mentions es) e.moment p) (peer_at (mentions es) n p)) is.touches
-      ∙ ap (λ (b : Bool). peer_if true true b (mention e) (peer_at (mentions es) e.moment p) (peer_at (mentions es) n p)) (ap (is_young LISTED_MS n) is.moment ∙ is_now n)
+      ∙ ap (λ (b : Bool). peer_if true true b (mention e) (peer_at (mentions es) e.moment p) (peer_at (mentions es) n p))
+      (ap (is_young LISTED_MS n) is.moment ∙ is_now n)
       ∙ ap (λ (m : ℕ). Some (after (mention e) (unwrap_or (peer_at (mentions es) m p) no_peer))) is.moment
 
   -- what is known then
@@ -53,7 +55,8 @@ module _ (laws : PeerLaws) (e : Entry) (es : List Entry) (n : ℕ) (p : Ip6) (is
   -- it is listed then, so it has room
   pub room_after : has_room (mentions (e ∷ es)) n p ≡ true
   unfolding has_room
-  room_after = left_holds (is_listed p n (mentions (e ∷ es))) (nat_lt (length (listed (mentions (e ∷ es)) n)) PEERS_MAX) (sym (laws.known_if_listed (mentions (e ∷ es)) n p) ∙ ap (λ (o : Option Peer). is_some o) seen_after)
+  room_after = left_holds (is_listed p n (mentions (e ∷ es))) (nat_lt (length (listed (mentions (e ∷ es)) n)) PEERS_MAX)
+      (sym (laws.known_if_listed (mentions (e ∷ es)) n p) ∙ ap (λ (o : Option Peer). is_some o) seen_after)
 
   -- the packets that wait
   abbrev waits_by : Fate → List (List ℕ)

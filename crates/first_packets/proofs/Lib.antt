@@ -19,6 +19,9 @@ mod Steps
 mod Boards
 mod First
 mod HandedIn
+mod Premise
+mod FirstGround
+mod FirstBoards
 mod Start
 mod Throughout
 mod Dropped

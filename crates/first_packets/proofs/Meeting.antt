@@ -37,9 +37,11 @@ use Rattle.client_rules.specs.Reception.{is_from_server, seen_of, reception_row}
 use Rattle.client_rules.specs.Transmission.{queues}
 use Rattle.client_rules.specs.Journals.{entry, client_in, client_out}
 use Rattle.legal.specs.Emit.{handed_by}
+use Rattle.client_rules.specs.Handed.{HandingRule, rule1, rule3}
 use Rattle.first_packets.proofs.Bools.{right_fails, both_hold, not_so, left_holds}
 use Rattle.first_packets.proofs.Known.{untried, unspent}
-use Rattle.first_packets.proofs.Received.{IsForHere, IsThroughServer, IsFromPeer, answered, HearsBubble, by_rule1, by_rule3, HandsOver, over_by_rule1, over_by_rule3, bubble_heard, packet_handed, seen_here, entry_here}
+use Rattle.first_packets.proofs.Received.{IsForHere, IsThroughServer, IsFromPeer, answered, HearsBubble, by_rule1, by_rule3}
+use Rattle.first_packets.proofs.Received.{bubble_heard, packet_handed, seen_here, entry_here}
 use Rattle.first_packets.proofs.Given.{IsForPeer, sent_at_once, waits_for_it, no_room_for_it, given_here, entry_given}
 
 -- a client that is set up so and has the address own may hear from a peer, and send to it
@@ -113,7 +115,8 @@ module _ (s : Settings) (j : Journal) (n : ℕ) (p : Fields) (meets : Meets s p.
     pub moment : e.moment ≡ n
 
   -- by the table
-  pub hears_bubble : (x : List ℕ) → ReadsPayload (value_written None None p) x → is_bubble p ≡ true → (w : Words) → Releases x (client_in s j n (embedded p.src) x w)
+  pub hears_bubble : (x : List ℕ) → ReadsPayload (value_written None None p) x → is_bubble p ≡ true → (w : Words)
+      → Releases x (client_in s j n (embedded p.src) x w)
   unfolding standing_at
   hears_bubble x reads bubble w = by (bubble_heard (seen_here s j n (embedded p.src) x v reads) advert from_peer bubble) where
     v : Value
@@ -123,19 +126,22 @@ module _ (s : Settings) (j : Journal) (n : ℕ) (p : Fields) (meets : Meets s p.
     advert = advert_row s (standing_at s j n p.src).qualification (embedded p.src) v
 
     by : HearsBubble (reception_row (seen_here s j n (embedded p.src) x v reads) advert) → Releases x (client_in s j n (embedded p.src) x w)
-    by (by_rule1 e) = subst (Releases x) (sym (entry_here s j n (embedded p.src) x v reads w fate.Rule1Bubble e)) (record { hears = by_rule1 refl; sends = refl; about = refl; moment = refl })
-    by (by_rule3 e) = subst (Releases x) (sym (entry_here s j n (embedded p.src) x v reads w fate.Rule3Bubble e)) (record { hears = by_rule3 refl; sends = refl; about = refl; moment = refl })
+    by (by_rule1 e) = subst (Releases x) (sym (entry_here s j n (embedded p.src) x v reads w fate.Rule1Bubble e))
+        (record { hears = by_rule1 refl; sends = refl; about = refl; moment = refl })
+    by (by_rule3 e) = subst (Releases x) (sym (entry_here s j n (embedded p.src) x v reads w fate.Rule3Bubble e))
+        (record { hears = by_rule3 refl; sends = refl; about = refl; moment = refl })
 
   -- any other packet goes to the host
   pub record Hands (x : List ℕ) (e : Entry) : Type 0 where
-    pub over : HandsOver e.step.fate
+    pub over : HandingRule e.step.fate
     pub sends : e.step.sends ≡ releases (embedded p.src) kept
     pub handed : handed_by e ≡ Some x
     pub about : e.peer ≡ Some p.src
     pub moment : e.moment ≡ n
 
   -- by the table
-  pub hands_packet : (x : List ℕ) → ReadsPayload (value_written None None p) x → is_bubble p ≡ false → (w : Words) → Hands x (client_in s j n (embedded p.src) x w)
+  pub hands_packet : (x : List ℕ) → ReadsPayload (value_written None None p) x → is_bubble p ≡ false → (w : Words)
+      → Hands x (client_in s j n (embedded p.src) x w)
   unfolding standing_at
   hands_packet x reads plain w = by (packet_handed (seen_here s j n (embedded p.src) x v reads) advert from_peer plain) where
     v : Value
@@ -147,9 +153,11 @@ module _ (s : Settings) (j : Journal) (n : ℕ) (p : Fields) (meets : Meets s p.
     all : Some (part x (rest_of 0 x)) ≡ Some x
     all = ap (λ (z : List ℕ). Some z) (take_rest x 0)
 
-    by : HandsOver (reception_row (seen_here s j n (embedded p.src) x v reads) advert) → Hands x (client_in s j n (embedded p.src) x w)
-    by (over_by_rule1 e) = subst (Hands x) (sym (entry_here s j n (embedded p.src) x v reads w fate.Rule1 e)) (record { over = over_by_rule1 refl; sends = refl; handed = all; about = refl; moment = refl })
-    by (over_by_rule3 e) = subst (Hands x) (sym (entry_here s j n (embedded p.src) x v reads w fate.Rule3 e)) (record { over = over_by_rule3 refl; sends = refl; handed = all; about = refl; moment = refl })
+    by : HandingRule (reception_row (seen_here s j n (embedded p.src) x v reads) advert) → Hands x (client_in s j n (embedded p.src) x w)
+    by (rule1 e) = subst (Hands x) (sym (entry_here s j n (embedded p.src) x v reads w fate.Rule1 e))
+        (record { over = rule1 refl; sends = refl; handed = all; about = refl; moment = refl })
+    by (rule3 e) = subst (Hands x) (sym (entry_here s j n (embedded p.src) x v reads w fate.Rule3 e))
+        (record { over = rule3 refl; sends = refl; handed = all; about = refl; moment = refl })
 
 -- A BUBBLE THROUGH THE SERVER
 
@@ -171,10 +179,12 @@ module _ (s : Settings) (j : Journal) (n : ℕ) (own peer : Ip6) (meets : Meets 
 
   from_primary : is_from_server s (server_ep s.primary) ≡ true
   unfolding is_from_server
-  from_primary = left_holds (same_ep (server_ep s.primary) (server_ep s.primary)) (same_ep (server_ep s.primary) (server_ep s.secondary)) (same_ep-self (server_ep s.primary))
+  from_primary = left_holds (same_ep (server_ep s.primary) (server_ep s.primary)) (same_ep (server_ep s.primary) (server_ep s.secondary))
+      (same_ep-self (server_ep s.primary))
 
   -- what the lines see of it
-  through_server : is_bubble (bubble_of peer own) ≡ true → is_barred n (known (mentions j.entries) n peer) ≡ false → IsThroughServer (seen_of s (standing_at s j n peer) (server_ep s.primary) true told)
+  through_server : is_bubble (bubble_of peer own) ≡ true → is_barred n (known (mentions j.entries) n peer) ≡ false
+      → IsThroughServer (seen_of s (standing_at s j n peer) (server_ep s.primary) true told)
   unfolding standing_at
   through_server bubble unbarred = record {
     here = for_here s j n (bubble_of peer own) meets knows small_bubble (server_ep s.primary) (Some (embedded peer));
@@ -197,18 +207,26 @@ module _ (s : Settings) (j : Journal) (n : ℕ) (own peer : Ip6) (meets : Meets 
     pub moment : e.moment ≡ n
 
   -- by the table
-  pub answers_it : (x : List ℕ) → ReadsPayload told x → is_bubble (bubble_of peer own) ≡ true → is_barred n (known (mentions j.entries) n peer) ≡ false → (w : Words)
+  pub answers_it : (x : List ℕ) → ReadsPayload told x → is_bubble (bubble_of peer own) ≡ true → is_barred n (known (mentions j.entries) n peer) ≡ false
+      → (w : Words)
       → Answers x (client_in s j n (server_ep s.primary) x w)
   unfolding standing_at
   answers_it x reads bubble unbarred w =
       subst (Answers x) (sym (entry_here s j n (server_ep s.primary) x told reads w fate.Indirect
-      (answered (seen_here s j n (server_ep s.primary) x told reads) (advert_row s (standing_at s j n peer).qualification (server_ep s.primary) told) (through_server bubble unbarred))))
-      (record { indirect = refl; sends = ap (λ (z : Ip6). send (embedded peer) (bubble_bytes z peer) ∷ []) (address_is s j own knows.here.address); about = refl; moment = refl })
+      (answered (seen_here s j n (server_ep s.primary) x told reads) (advert_row s (standing_at s j n peer).qualification (server_ep s.primary) told)
+      (through_server bubble unbarred))))
+      (record {
+        indirect = refl;
+        sends = ap (λ (z : Ip6). send (embedded peer) (bubble_bytes z peer) ∷ []) (address_is s j own knows.here.address);
+        about = refl;
+        moment = refl;
+      })
 
 -- THE HOST'S PACKET
 
 -- x, from this client to the peer, which it doesn't list
-module _ (s : Settings) (j : Journal) (n : ℕ) (x : List ℕ) (is_one : is_packet x ≡ true) (meets : Meets s (fields_in x).src (fields_in x).dst) (here : IsHere s j (fields_in x).src)
+module _ (s : Settings) (j : Journal) (n : ℕ) (x : List ℕ) (is_one : is_packet x ≡ true) (meets : Meets s (fields_in x).src (fields_in x).dst)
+    (here : IsHere s j (fields_in x).src)
     (small : is_big (fields_in x) ≡ false) (plain : is_bubble (fields_in x) ≡ false) (new : known (mentions j.entries) n (fields_in x).dst ≡ no_peer) where
   abbrev to : Ip6
   to = (fields_in x).dst
@@ -219,7 +237,9 @@ module _ (s : Settings) (j : Journal) (n : ℕ) (x : List ℕ) (is_one : is_pack
   -- the peer can be reached
   reachable : is_reachable s.policy to ≡ true
   unfolding is_reachable
-  reachable = both_hold (is_usable s.policy (embedded to)) (is_global s.policy (server_in to)) (ap (λ (z : Policy). is_usable z (embedded to)) meets.strict ∙ meets.usable) (ap (λ (z : Policy). is_global z (server_in to)) meets.strict ∙ meets.server_global)
+  reachable = both_hold (is_usable s.policy (embedded to)) (is_global s.policy (server_in to))
+      (ap (λ (z : Policy). is_usable z (embedded to)) meets.strict ∙ meets.usable)
+      (ap (λ (z : Policy). is_global z (server_in to)) meets.strict ∙ meets.server_global)
 
   stale : is_fresh n no_peer ≡ false
   unfolding is_fresh
@@ -254,7 +274,8 @@ module _ (s : Settings) (j : Journal) (n : ℕ) (x : List ℕ) (is_one : is_pack
   -- by the table
   pub goes_at_once : has_cone to ≡ true → (w : Words) → GoesAtOnce (client_out s j n x w)
   unfolding standing_at
-  goes_at_once cone w = subst GoesAtOnce (sym (entry_given s j n x is_one w fate.SentCone (sent_at_once (given_here s j n x is_one) for_peer (both_hold (is_teredo to) (has_cone to) meets.teredo cone))))
+  goes_at_once cone w = subst GoesAtOnce (sym (entry_given s j n x is_one w fate.SentCone
+      (sent_at_once (given_here s j n x is_one) for_peer (both_hold (is_teredo to) (has_cone to) meets.teredo cone))))
       (record { sent_cone = refl; sends = refl; about = refl; moment = refl })
 
   -- else it waits, and bubbles go out
@@ -281,7 +302,8 @@ module _ (s : Settings) (j : Journal) (n : ℕ) (x : List ℕ) (is_one : is_pack
   unfolding standing_at
   waits_here cone room w =
       subst Waits (sym (entry_given s j n x is_one w fate.Queued
-      (waits_for_it (given_here s j n x is_one) for_peer (right_fails (is_teredo to) (has_cone to) cone) room (ap (is_spent n) new ∙ unspent n no_peer refl) (ap is_full new ∙ not_full))))
+      (waits_for_it (given_here s j n x is_one) for_peer (right_fails (is_teredo to) (has_cone to) cone) room (ap (is_spent n) new ∙ unspent n no_peer refl)
+      (ap is_full new ∙ not_full))))
       (subst (λ (b : Bool). Waits (entry n (given x) (Some x) (Some to) w (queues b s (standing_at s j n to) to w))) (sym unbarred)
       (record { queued = refl; sends = tries_are w; packet = refl; about = refl; moment = refl }))
 
@@ -294,5 +316,6 @@ module _ (s : Settings) (j : Journal) (n : ℕ) (x : List ℕ) (is_one : is_pack
   pub turned_away : has_cone to ≡ false → has_room (mentions j.entries) n to ≡ false → (w : Words) → IsTurned (client_out s j n x w)
   unfolding standing_at
   turned_away cone room w =
-      subst IsTurned (sym (entry_given s j n x is_one w fate.PeersFull (no_room_for_it (given_here s j n x is_one) for_peer (right_fails (is_teredo to) (has_cone to) cone) room)))
+      subst IsTurned (sym (entry_given s j n x is_one w fate.PeersFull
+      (no_room_for_it (given_here s j n x is_one) for_peer (right_fails (is_teredo to) (has_cone to) cone) room)))
       (record { full = refl; sends = refl })

@@ -69,19 +69,27 @@ module _ (apart : AddressesAreApart) (t : TopologyState) (is : IsTopology t) (a 
   pub no_server : is_from_server (setup t a) (embedded b.own) ≡ false
   unfolding is_from_server
   no_server = neither (same_ep (embedded b.own) (server_ep (setup t a).primary)) (same_ep (embedded b.own) (server_ep (setup t a).secondary))
-      (refused (same_ep (embedded b.own) (server_ep (setup t a).primary)) (λ h. not_server an.server_row.primary (server_has an.server_row) (ap (λ (e : Ep). e.ip) (same_ep-true (embedded b.own) (server_ep (setup t a).primary) h) ∙ an.primary)))
-      (refused (same_ep (embedded b.own) (server_ep (setup t a).secondary)) (λ h. not_server an.server_row.secondary (server_has_too an.server_row) (ap (λ (e : Ep). e.ip) (same_ep-true (embedded b.own) (server_ep (setup t a).secondary) h) ∙ an.secondary)))
+      (refused (same_ep (embedded b.own) (server_ep (setup t a).primary))
+      (λ h. not_server an.server_row.primary (server_has an.server_row)
+      (ap (λ (e : Ep). e.ip) (same_ep-true (embedded b.own) (server_ep (setup t a).primary) h) ∙ an.primary)))
+      (refused (same_ep (embedded b.own) (server_ep (setup t a).secondary))
+      (λ h. not_server an.server_row.secondary (server_has_too an.server_row)
+      (ap (λ (e : Ep). e.ip) (same_ep-true (embedded b.own) (server_ep (setup t a).secondary) h) ∙ an.secondary)))
 
   pub no_server_address : same_ip (embedded b.own).ip an.server_row.primary ≡ false
-  no_server_address = refused (same_ip (embedded b.own).ip an.server_row.primary) (λ h. not_server an.server_row.primary (server_has an.server_row) (same_ip-true (embedded b.own).ip an.server_row.primary h))
+  no_server_address = refused (same_ip (embedded b.own).ip an.server_row.primary)
+      (λ h. not_server an.server_row.primary (server_has an.server_row) (same_ip-true (embedded b.own).ip an.server_row.primary h))
 
   pub no_server_second : same_ip (embedded b.own).ip an.server_row.secondary ≡ false
-  no_server_second = refused (same_ip (embedded b.own).ip an.server_row.secondary) (λ h. not_server an.server_row.secondary (server_has_too an.server_row) (same_ip-true (embedded b.own).ip an.server_row.secondary h))
+  no_server_second = refused (same_ip (embedded b.own).ip an.server_row.secondary)
+      (λ h. not_server an.server_row.secondary (server_has_too an.server_row) (same_ip-true (embedded b.own).ip an.server_row.secondary h))
 
   -- the server that a's address tells isn't at b's NAT
   pub server_elsewhere : same_ip (server_in a.own) (nat_by t b).external ≡ false
   server_elsewhere = refused (same_ip (server_in a.own) (nat_by t b).external) (λ h.
-      not_server an.server_row.primary (server_has an.server_row) (bn.external ∙ ap (λ (s : NatSettings). s.external) (sym bn.set_up) ∙ sym (same_ip-true (server_in a.own) (nat_by t b).external h) ∙ an.address.of.server_is ∙ an.primary))
+      not_server an.server_row.primary (server_has an.server_row)
+      (bn.external ∙ ap (λ (s : NatSettings). s.external) (sym bn.set_up) ∙ sym (same_ip-true (server_in a.own) (nat_by t b).external h)
+      ∙ an.address.of.server_is ∙ an.primary))
 
   -- clients behind different NATs
   module _ (differ : a.c.nat ≢ b.c.nat) where

@@ -48,7 +48,8 @@ comes (shut_at j) = false
 
 module _ (laws : RouteLaws) (d : Draws) (t : TopologyState) (is : IsTopology t) (H : List Full) where
   -- what is sent to a server's primary endpoint
-  pub to_server : (k : ℕ) (a : ServerNode) (src : Ep) (bytes : List ℕ) → node_at t k ≡ Some (server a) → route (flat_lab d t) H (now H) (udp src (server_ep a.primary) bytes) ≡ reaches k (server a)
+  pub to_server : (k : ℕ) (a : ServerNode) (src : Ep) (bytes : List ℕ) → node_at t k ≡ Some (server a)
+      → route (flat_lab d t) H (now H) (udp src (server_ep a.primary) bytes) ≡ reaches k (server a)
   to_server k a src bytes there = laws.reached (flat_lab d t) H (now H) (udp src (server_ep a.primary) bytes) k (server a) is there (inl refl)
 
   module _ (n : ℕ) (c : ClientNode) (own : Ip6) (end : IsEnd t n c own) (src : Ep) (bytes : List ℕ) where
@@ -72,11 +73,13 @@ module _ (laws : RouteLaws) (d : Draws) (t : TopologyState) (is : IsTopology t) 
 
     at_server : (a : ServerNode) (k : ℕ) (ip : Ip4) → node_at t k ≡ Some (server a) → has_address ip (server a) ≡ true → (embedded own).ip ≡ ip → ⊥
     at_server a k ip there has same =
-        other_kind laws.apart t k c.nat (server a) (nat end.nat_row) ip is_nat_node is there end.nat_is has (subst (λ (z : Ip4). has_address z (nat end.nat_row) ≡ true) (sym end.external ∙ same) (nat_has end.nat_row)) refl refl
+        other_kind laws.apart t k c.nat (server a) (nat end.nat_row) ip is_nat_node is there end.nat_is has
+        (subst (λ (z : Ip4). has_address z (nat end.nat_row) ≡ true) (sym end.external ∙ same) (nat_has end.nat_row)) refl refl
 
     at_relay : (r : RelayNode) (k : ℕ) → node_at t k ≡ Some (relay r) → embedded own ≡ r.at → ⊥
     at_relay r k there same =
-        other_kind laws.apart t k c.nat (relay r) (nat end.nat_row) r.at.ip is_nat_node is there end.nat_is (ap (λ (b : Bool). b || false) (same_ip-self r.at.ip))
+        other_kind laws.apart t k c.nat (relay r) (nat end.nat_row) r.at.ip is_nat_node is there end.nat_is
+        (ap (λ (b : Bool). b || false) (same_ip-self r.at.ip))
         (subst (λ (z : Ip4). has_address z (nat end.nat_row) ≡ true) (sym end.external ∙ ap (λ (e : Ep). e.ip) same) (nat_has end.nat_row)) refl refl
 
     past_nat : (b : ClientNode) → IsLetIn (flat_lab d t) H (now H) src (embedded own) b → inside ≡ None → ⊥
@@ -84,7 +87,8 @@ module _ (laws : RouteLaws) (d : Draws) (t : TopologyState) (is : IsTopology t) 
         let ip : in_.row.external ≡ end.nat_row.external = sym in_.external ∙ end.external in
         let one : in_.outer ≡ c.nat = laws.apart t in_.outer c.nat (nat in_.row) (nat end.nat_row) in_.row.external is in_.there end.nat_is (nat_has in_.row)
         (subst (λ (z : Ip4). has_address z (nat end.nat_row) ≡ true) (sym ip) (nat_has end.nat_row)) in
-        let enters = subst (λ (k : ℕ). goes_in t [] (nat_pasts (flat_lab d t) H) (now H) src [] k (lets_in (nat_set_up t k) (nat_history (flat_lab d t) k H) (now H) src (embedded own).port) ≡ comes_to b.nat b.inside) one in_.enters in
+        let enters = subst (λ (k : ℕ). goes_in t [] (nat_pasts (flat_lab d t) H) (now H) src [] k
+        (lets_in (nat_set_up t k) (nat_history (flat_lab d t) k H) (now H) src (embedded own).port) ≡ comes_to b.nat b.inside) one in_.enters in
         false≢true (ap comes (sym (ap (goes_in t [] (nat_pasts (flat_lab d t) H) (now H) src [] c.nat) none) ∙ enters))
 
     nowhere_in : (k : ℕ) (v : Node) → node_at t k ≡ Some v → inside ≡ None → DatagramReaches (flat_lab d t) H (now H) src (embedded own) v → ⊥

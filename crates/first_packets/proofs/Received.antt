@@ -15,7 +15,9 @@ use Rattle.teredo_node.specs.Rows.{first_line}
 use Rattle.qualify.specs.declared.settings.Settings.{Settings}
 use Rattle.qualify.specs.Advertisements.{advert_row}
 use Rattle.client_rules.specs.Standing.{Standing, standing_at, standing_of}
-use Rattle.client_rules.specs.Reception.{Seen, seen_of, seen, datagram_lines, server_lines, packet_lines, indirect_lines, trusted_lines, teredo_lines, suspicious_lines, direct_lines, reception_row, reception_fate, reception_step, reception}
+use Rattle.client_rules.specs.Handed.{HandingRule, rule1, rule3}
+use Rattle.client_rules.specs.Reception.{Seen, seen_of, seen, datagram_lines, server_lines, packet_lines, indirect_lines, trusted_lines, teredo_lines}
+use Rattle.client_rules.specs.Reception.{suspicious_lines, direct_lines, reception_row, reception_fate, reception_step, reception}
 use Rattle.client_rules.specs.Journals.{entry, client_in}
 use Rattle.first_packets.proofs.Bools.{left_fails, right_fails, both_hold, not_so, passed_by}
 
@@ -54,34 +56,57 @@ pub record IsFromPeer (a : Seen) : Type 0 where
 pub answered : (a : Seen) (advert : Fate) → IsThroughServer a → reception_row a advert ≡ fate.Indirect
 answered a advert is =
     let here = is.here in
-    passed_by (datagram_lines a) (server_lines a advert ++ (packet_lines a ++ (indirect_lines a ++ direct_lines a))) fate.Suspicious (not_so a.payload here.payload, (here.unkeyed, (here.unconfirmed, (here.short, tt))))
-    ∙ passed_by (server_lines a advert) (packet_lines a ++ (indirect_lines a ++ direct_lines a)) fate.Suspicious (right_fails a.from_server a.ill_formed is.well_formed, (right_fails a.from_server a.advert is.no_advert, (right_fails a.from_server (not (a.bubble && a.origin)) (not_so (a.bubble && a.origin) (both_hold a.bubble a.origin is.bubble is.origin)), tt)))
-    ∙ passed_by (packet_lines a) (indirect_lines a ++ direct_lines a) fate.Suspicious (not_so a.qualified here.qualified, (not_so a.mine here.mine, (here.from_another, tt)))
-    ∙ passed_by ((a.from_server && not a.good_origin, fate.Origin) ∷ (a.from_server && not a.peer.room, fate.PeersFull) ∷ (a.from_server && a.peer.barred, fate.Barred) ∷ []) ((a.from_server, fate.Indirect) ∷ direct_lines a) fate.Suspicious (right_fails a.from_server (not a.good_origin) (not_so a.good_origin is.good), (right_fails a.from_server (not a.peer.room) (not_so a.peer.room here.room), (right_fails a.from_server a.peer.barred is.unbarred, tt)))
+    passed_by (datagram_lines a) (server_lines a advert ++ (packet_lines a ++ (indirect_lines a ++ direct_lines a))) fate.Suspicious
+    (not_so a.payload here.payload, (here.unkeyed, (here.unconfirmed, (here.short, tt))))
+    ∙ passed_by (server_lines a advert) (packet_lines a ++ (indirect_lines a ++ direct_lines a)) fate.Suspicious (
+      right_fails a.from_server a.ill_formed is.well_formed,
+      (
+        right_fails a.from_server a.advert is.no_advert,
+        (
+          right_fails a.from_server (not (a.bubble && a.origin))
+              (not_so (a.bubble && a.origin) (both_hold a.bubble a.origin is.bubble is.origin)),
+          tt,
+        ),
+      ),
+    )
+    ∙ passed_by (packet_lines a) (indirect_lines a ++ direct_lines a) fate.Suspicious
+    (not_so a.qualified here.qualified, (not_so a.mine here.mine, (here.from_another, tt)))
+    ∙ passed_by ((a.from_server && not a.good_origin, fate.Origin) ∷ (a.from_server && not a.peer.room, fate.PeersFull) ∷
+    (a.from_server && a.peer.barred, fate.Barred) ∷ []) ((a.from_server, fate.Indirect) ∷ direct_lines a) fate.Suspicious (
+      right_fails a.from_server (not a.good_origin) (not_so a.good_origin is.good),
+      (right_fails a.from_server (not a.peer.room) (not_so a.peer.room here.room), (right_fails a.from_server a.peer.barred is.unbarred, tt)),
+    )
     ∙ ap (λ (b : Bool). cond b fate.Indirect (first_line (direct_lines a) fate.Suspicious)) is.server
 
 -- such a packet comes to the lines on peers
 to_direct : (a : Seen) (advert : Fate) → IsFromPeer a → reception_row a advert ≡ first_line (direct_lines a) fate.Suspicious
 to_direct a advert is =
     let here = is.here in
-    passed_by (datagram_lines a) (server_lines a advert ++ (packet_lines a ++ (indirect_lines a ++ direct_lines a))) fate.Suspicious (not_so a.payload here.payload, (here.unkeyed, (here.unconfirmed, (here.short, tt))))
-    ∙ passed_by (server_lines a advert) (packet_lines a ++ (indirect_lines a ++ direct_lines a)) fate.Suspicious (left_fails a.from_server a.ill_formed is.no_server, (left_fails a.from_server a.advert is.no_server, (left_fails a.from_server (not (a.bubble && a.origin)) is.no_server, tt)))
-    ∙ passed_by (packet_lines a) (indirect_lines a ++ direct_lines a) fate.Suspicious (not_so a.qualified here.qualified, (not_so a.mine here.mine, (here.from_another, tt)))
-    ∙ passed_by (indirect_lines a) (direct_lines a) fate.Suspicious (left_fails a.from_server (not a.good_origin) is.no_server, (left_fails a.from_server (not a.peer.room) is.no_server, (left_fails a.from_server a.peer.barred is.no_server, (is.no_server, tt))))
+    passed_by (datagram_lines a) (server_lines a advert ++ (packet_lines a ++ (indirect_lines a ++ direct_lines a))) fate.Suspicious
+    (not_so a.payload here.payload, (here.unkeyed, (here.unconfirmed, (here.short, tt))))
+    ∙ passed_by (server_lines a advert) (packet_lines a ++ (indirect_lines a ++ direct_lines a)) fate.Suspicious (
+      left_fails a.from_server a.ill_formed is.no_server,
+      (left_fails a.from_server a.advert is.no_server, (left_fails a.from_server (not (a.bubble && a.origin)) is.no_server, tt)),
+    )
+    ∙ passed_by (packet_lines a) (indirect_lines a ++ direct_lines a) fate.Suspicious
+    (not_so a.qualified here.qualified, (not_so a.mine here.mine, (here.from_another, tt)))
+    ∙ passed_by (indirect_lines a) (direct_lines a) fate.Suspicious (
+      left_fails a.from_server (not a.good_origin) is.no_server,
+      (left_fails a.from_server (not a.peer.room) is.no_server, (left_fails a.from_server a.peer.barred is.no_server, (is.no_server, tt))),
+    )
 
 -- from one that isn't trusted there it comes to the lines on clients
-to_teredo : (a : Seen) → IsFromPeer a → a.peer.trusted_here ≡ false → first_line (direct_lines a) fate.Suspicious ≡ first_line (teredo_lines a ++ suspicious_lines a) fate.Suspicious
-to_teredo a is untrusted = passed_by (trusted_lines a) (teredo_lines a ++ suspicious_lines a) fate.Suspicious (left_fails a.peer.trusted_here a.bubble untrusted, (untrusted, (left_fails (not a.teredo) (a.peer.listed && (not a.peer.fresh && a.peer.reply)) (not_so a.teredo is.teredo), tt)))
+to_teredo : (a : Seen) → IsFromPeer a → a.peer.trusted_here ≡ false
+    → first_line (direct_lines a) fate.Suspicious ≡ first_line (teredo_lines a ++ suspicious_lines a) fate.Suspicious
+to_teredo a is untrusted = passed_by (trusted_lines a) (teredo_lines a ++ suspicious_lines a) fate.Suspicious (
+  left_fails a.peer.trusted_here a.bubble untrusted,
+  (untrusted, (left_fails (not a.teredo) (a.peer.listed && (not a.peer.fresh && a.peer.reply)) (not_so a.teredo is.teredo), tt)),
+)
 
 -- rule 1 or rule 3, of a bubble
 pub data HearsBubble (f : Fate) : Type 0 where
   by_rule1 : f ≡ fate.Rule1Bubble → HearsBubble f
   by_rule3 : f ≡ fate.Rule3Bubble → HearsBubble f
-
--- and of other packets
-pub data HandsOver (f : Fate) : Type 0 where
-  over_by_rule1 : f ≡ fate.Rule1 → HandsOver f
-  over_by_rule3 : f ≡ fate.Rule3 → HandsOver f
 
 -- a bubble of the peer is heard
 pub bubble_heard : (a : Seen) (advert : Fate) → IsFromPeer a → a.bubble ≡ true → HearsBubble (reception_row a advert)
@@ -91,14 +116,17 @@ bubble_heard a advert is bubble = by a.peer.trusted_here refl where
 
   by : (t : Bool) → a.peer.trusted_here ≡ t → HearsBubble (reception_row a advert)
   by true trusted = by_rule1 (to_direct a advert is
-      ∙ ap (λ (b : Bool). cond b fate.Rule1Bubble (first_line ((a.peer.trusted_here, fate.Rule1) ∷ (not a.teredo && (a.peer.listed && (not a.peer.fresh && a.peer.reply)), fate.Rule2) ∷ (teredo_lines a ++ suspicious_lines a)) fate.Suspicious))
+      ∙ ap (λ (b : Bool). cond b fate.Rule1Bubble (first_line
+      ((a.peer.trusted_here, fate.Rule1) ∷ (not a.teredo && (a.peer.listed && (not a.peer.fresh && a.peer.reply)), fate.Rule2) ∷
+      (teredo_lines a ++ suspicious_lines a)) fate.Suspicious))
       (both_hold a.peer.trusted_here a.bubble trusted bubble))
   by false untrusted = by_rule3 (to_direct a advert is ∙ to_teredo a is untrusted
-      ∙ passed_by ((a.embedded_here && not a.peer.room, fate.PeersFull) ∷ []) ((a.embedded_here && a.bubble, fate.Rule3Bubble) ∷ rest) fate.Suspicious (right_fails a.embedded_here (not a.peer.room) (not_so a.peer.room is.here.room), tt)
+      ∙ passed_by ((a.embedded_here && not a.peer.room, fate.PeersFull) ∷ []) ((a.embedded_here && a.bubble, fate.Rule3Bubble) ∷ rest) fate.Suspicious
+      (right_fails a.embedded_here (not a.peer.room) (not_so a.peer.room is.here.room), tt)
       ∙ ap (λ (b : Bool). cond b fate.Rule3Bubble (first_line rest fate.Suspicious)) (both_hold a.embedded_here a.bubble is.embedded bubble))
 
 -- another packet of its goes to the host
-pub packet_handed : (a : Seen) (advert : Fate) → IsFromPeer a → a.bubble ≡ false → HandsOver (reception_row a advert)
+pub packet_handed : (a : Seen) (advert : Fate) → IsFromPeer a → a.bubble ≡ false → HandingRule (reception_row a advert)
 packet_handed a advert is plain = by a.peer.trusted_here refl where
   second : List (Bool × Fate)
   second = (not a.teredo && (a.peer.listed && (not a.peer.fresh && a.peer.reply)), fate.Rule2) ∷ (teredo_lines a ++ suspicious_lines a)
@@ -106,12 +134,15 @@ packet_handed a advert is plain = by a.peer.trusted_here refl where
   rest : List (Bool × Fate)
   rest = (a.teredo, fate.Mismatch) ∷ suspicious_lines a
 
-  by : (t : Bool) → a.peer.trusted_here ≡ t → HandsOver (reception_row a advert)
-  by true trusted = over_by_rule1 (to_direct a advert is
-      ∙ passed_by ((a.peer.trusted_here && a.bubble, fate.Rule1Bubble) ∷ []) ((a.peer.trusted_here, fate.Rule1) ∷ second) fate.Suspicious (right_fails a.peer.trusted_here a.bubble plain, tt)
+  by : (t : Bool) → a.peer.trusted_here ≡ t → HandingRule (reception_row a advert)
+  by true trusted = rule1 (to_direct a advert is
+      ∙ passed_by ((a.peer.trusted_here && a.bubble, fate.Rule1Bubble) ∷ []) ((a.peer.trusted_here, fate.Rule1) ∷ second) fate.Suspicious
+      (right_fails a.peer.trusted_here a.bubble plain, tt)
       ∙ ap (λ (b : Bool). cond b fate.Rule1 (first_line second fate.Suspicious)) trusted)
-  by false untrusted = over_by_rule3 (to_direct a advert is ∙ to_teredo a is untrusted
-      ∙ passed_by ((a.embedded_here && not a.peer.room, fate.PeersFull) ∷ (a.embedded_here && a.bubble, fate.Rule3Bubble) ∷ []) ((a.embedded_here, fate.Rule3) ∷ rest) fate.Suspicious (right_fails a.embedded_here (not a.peer.room) (not_so a.peer.room is.here.room), (right_fails a.embedded_here a.bubble plain, tt))
+  by false untrusted = rule3 (to_direct a advert is ∙ to_teredo a is untrusted
+      ∙ passed_by ((a.embedded_here && not a.peer.room, fate.PeersFull) ∷ (a.embedded_here && a.bubble, fate.Rule3Bubble) ∷ [])
+      ((a.embedded_here, fate.Rule3) ∷ rest) fate.Suspicious
+      (right_fails a.embedded_here (not a.peer.room) (not_so a.peer.room is.here.room), (right_fails a.embedded_here a.bubble plain, tt))
       ∙ ap (λ (b : Bool). cond b fate.Rule3 (first_line rest fate.Suspicious)) is.embedded)
 
 -- THE ENTRY
@@ -147,7 +178,8 @@ module _ (s : Settings) (j : Journal) (n : ℕ) (from : Ep) (x : List ℕ) (v : 
       → client_in s j n from x w ≡ entry n (arrived from x) (packet_in x) (Some v.packet.src) w (reception_step s standing_to from x v w f)
   unfolding client_in reception
   entry_here w f is =
-      ap (λ (g : Fate). entry n (arrived from x) (packet_in x) (source_in x) w (reception_step s (standing_of s j n (source_in x)) from x (value_in x) w g)) (fate_here ∙ is)
+      ap (λ (g : Fate). entry n (arrived from x) (packet_in x) (source_in x) w (reception_step s (standing_of s j n (source_in x)) from x (value_in x) w g))
+      (fate_here ∙ is)
       ∙ ap (λ (u : Value). entry n (arrived from x) (packet_in x) (source_in x) w (reception_step s (standing_of s j n (source_in x)) from x u w f)) reads.value
       ∙ ap (λ (a : Standing). entry n (arrived from x) (packet_in x) (source_in x) w (reception_step s a from x v w f)) stands
       ∙ ap (λ (o : Option Ip6). entry n (arrived from x) (packet_in x) o w (reception_step s standing_to from x v w f)) source

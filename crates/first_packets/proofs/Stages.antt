@@ -51,15 +51,18 @@ Forth p H = Way (lab_in p) H p.b.c.nat (embedded p.a.own) (embedded p.b.own).por
 -- so many deliveries from the end. Entry number `last` is the indirect bubble on its way to the server, or from there to the
 -- receiver; the receiver's bubble; the packet. Or the packet has arrived
 pub data Stage (p : Pair) (H : List Full) (last : ℕ) (later : List Full) : ℕ → Type 0 where
-  asks : At H last (embedded p.a.own) (server_ep (server_in p.b.own)) (bubble_bytes p.a.own p.b.own) → Sends p H → MayTry p H → Back p H → Stage p H last later 4
-  tells : At H last (asks_at (lab_in p) p.b.c) (embedded p.b.own) (forwarded (Some (embedded p.a.own)) (bubble_bytes p.a.own p.b.own)) → Sends p H → MayTry p H → Back p H → Stage p H last later 3
+  asks : At H last (embedded p.a.own) (server_ep (server_in p.b.own)) (bubble_bytes p.a.own p.b.own) → Sends p H → MayTry p H → Back p H
+      → Stage p H last later 4
+  tells : At H last (asks_at (lab_in p) p.b.c) (embedded p.b.own) (forwarded (Some (embedded p.a.own)) (bubble_bytes p.a.own p.b.own)) → Sends p H
+      → MayTry p H → Back p H → Stage p H last later 3
   answers : At H last (embedded p.b.own) (embedded p.a.own) (bubble_bytes p.b.own p.a.own) → Sends p H → Back p H → Forth p H → Stage p H last later 2
   releases_it : At H last (embedded p.a.own) (embedded p.b.own) p.x → Forth p H → Stage p H last later 1
   has_come : HasArrived p.b.n p.x later → Stage p H last later 0
 
 -- the steps: what a delivery of the last entry leaves
 pub data Next (p : Pair) (H : List Full) (q : Full) (last : ℕ) (later : List Full) : ℕ → Type 0 where
-  goes_on : (k : ℕ) → Ground p (q ∷ H) → length (wire (q ∷ H)) ≡ suc (suc last) → Stage p (q ∷ H) (suc last) (q ∷ later) (suc k) → Next p H q last later (suc (suc k))
+  goes_on : (k : ℕ) → Ground p (q ∷ H) → length (wire (q ∷ H)) ≡ suc (suc last) → Stage p (q ∷ H) (suc last) (q ∷ later) (suc k)
+      → Next p H q last later (suc (suc k))
   ends : Ground p (q ∷ H) → length (wire (q ∷ H)) ≡ suc last → Stage p (q ∷ H) last (q ∷ later) 0 → Next p H q last later 1
 
 -- WHERE A DELIVERY GOES
@@ -73,7 +76,8 @@ pub same_item : (H : List Full) (k : ℕ) (x y : Item) → slice_get (wire H) k 
 same_item H k x y at to = ap (λ (o : Option Item). unwrap_or o x) (sym at ∙ to)
 
 -- an entry comes where its route leads
-pub arrival : (lab : Lab) (H : List Full) (q : Full) (k n : ℕ) (a : Node) (x : Item) → Delivery lab H q k → slice_get (wire H) k ≡ Some x → route lab H (now H) x ≡ reaches n a → Arrival lab H q n a x
+pub arrival : (lab : Lab) (H : List Full) (q : Full) (k n : ℕ) (a : Node) (x : Item) → Delivery lab H q k → slice_get (wire H) k ≡ Some x
+    → route lab H (now H) x ≡ reaches n a → Arrival lab H q n a x
 arrival lab H q k n a x (to_nobody y at none calm made moment stay) to goes =
     absurd (none n a (subst (λ (z : Item). route lab H (now H) z ≡ reaches n a) (sym (same_item H k y x at to)) goes))
 arrival lab H q k n a x (to_node i y b at way there calm did) to goes =

@@ -11,8 +11,10 @@ use Rattle.first_packets.proofs.HandedIn.{before_it}
 
 -- at each record of a history
 pub histories : EachFirstPacketArrives → HistoriesCarryFirstPackets
-histories law d t H is g rest later r before split = law d t before r later is (before_it (flat_lab d t) rest (later ++ r ∷ before) (subst (Grown (flat_lab d t)) split g))
+histories law d t H is g rest later r before split = law d t before r later is
+    (before_it (flat_lab d t) rest (later ++ r ∷ before) (subst (Grown (flat_lab d t)) split g))
 
 -- and of a scenario
-pub scenarios : ((lab : Lab) (events : List Event) (h : List Full) → AllByRecursion (IsEvent lab.topology) events → Begun lab events h → Grown lab h) → HistoriesCarryFirstPackets → ScenariosCarryFirstPackets
+pub scenarios : ((lab : Lab) (events : List Event) (h : List Full) → AllByRecursion (IsEvent lab.topology) events → Begun lab events h → Grown lab h)
+    → HistoriesCarryFirstPackets → ScenariosCarryFirstPackets
 scenarios grown law s H is events begun = law (draws s.seed) s.topology H is (grown (lab_of s []) s.events H events begun)

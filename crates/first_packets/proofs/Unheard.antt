@@ -49,7 +49,8 @@ no_trust from = refl
 -- WHAT WAS SEEN
 
 -- of a packet of another client, which isn't trusted, and for which there is no room
-module _ (s : Settings) (a : Standing) (from : Ep) (x : List ℕ) (v : Value) (w : Words) (z : Seen) (h : Heard) (full : z.peer.room ≡ false) (untrusted : z.peer.trusted_here ≡ false) (teredo : z.teredo ≡ true) where
+module _ (s : Settings) (a : Standing) (from : Ep) (x : List ℕ) (v : Value) (w : Words) (z : Seen) (h : Heard) (full : z.peer.room ≡ false)
+    (untrusted : z.peer.trusted_here ≡ false) (teredo : z.teredo ≡ true) where
   no_room : {A : Type 0} → z.peer.room ≡ true → A
   no_room e = absurd (false≢true (sym full ∙ e))
 
@@ -73,7 +74,8 @@ module _ (s : Settings) (a : Standing) (from : Ep) (x : List ℕ) (v : Value) (w
 
 -- THE ENTRY
 
-module _ (warranted : ReceptionIsWarranted) (unlisted : Unlisted) (s : Settings) (j : Journal) (n : ℕ) (from : Ep) (x : List ℕ) (peer : Ip6) (source : source_in x ≡ Some peer) (teredo : is_teredo peer ≡ true)
+module _ (warranted : ReceptionIsWarranted) (unlisted : Unlisted) (s : Settings) (j : Journal) (n : ℕ) (from : Ep) (x : List ℕ) (peer : Ip6)
+    (source : source_in x ≡ Some peer) (teredo : is_teredo peer ≡ true)
     (full : has_room (mentions j.entries) n peer ≡ false) where
   abbrev a : Standing
   a = standing_of s j n (source_in x)
@@ -84,7 +86,8 @@ module _ (warranted : ReceptionIsWarranted) (unlisted : Unlisted) (s : Settings)
 
   nothing_known : known_in a ≡ no_peer
   unfolding standing_at
-  nothing_known = ap (λ (o : Option Ip6). known (mentions j.entries) n (unwrap_or o unspecified)) source ∙ unlisted (mentions j.entries) n peer (not_listed (mentions j.entries) n peer full)
+  nothing_known = ap (λ (o : Option Ip6). known (mentions j.entries) n (unwrap_or o unspecified)) source
+      ∙ unlisted (mentions j.entries) n peer (not_listed (mentions j.entries) n peer full)
 
   untrusted : (seen s a from x).peer.trusted_here ≡ false
   unfolding seen
@@ -104,11 +107,13 @@ module _ (warranted : ReceptionIsWarranted) (unlisted : Unlisted) (s : Settings)
 
   pub silent : (w : Words) → IsSilent (client_in s j n from x w).step
   unfolding client_in reception
-  silent w = by_fate s a from x (value_in x) w (seen s a from x) (heard s a.qualification from (value_in x)) room_is untrusted of_client (reception_fate s a from x) (warranted s a from x)
+  silent w = by_fate s a from x (value_in x) w (seen s a from x) (heard s a.qualification from (value_in x)) room_is untrusted of_client
+      (reception_fate s a from x) (warranted s a from x)
 
 -- THE RECORD
 
-module _ (warranted : ReceptionIsWarranted) (unlisted : Unlisted) (lab : Lab) (H : List Full) (q : Full) (m : ℕ) (b : ClientNode) (peer : Ip6) (is : IsUnheard lab H q m b peer) where
+module _ (warranted : ReceptionIsWarranted) (unlisted : Unlisted) (lab : Lab) (H : List Full) (q : Full) (m : ℕ) (b : ClientNode) (peer : Ip6)
+    (is : IsUnheard lab H q m b peer) where
   input_is : is.act.input ≡ arrived is.from is.bytes
   input_is = sym (ap (λ (z : Entry). z.input) is.act.step ∙ entry_input lab H q.moment m is.act.dst is.act.input (client b)) ∙ is.datagram
 

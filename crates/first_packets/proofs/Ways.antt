@@ -28,7 +28,8 @@ use Rattle.settled.specs.Clients.{is_symmetric}
 
 -- the law that a datagram that counts holds its port
 abbrev pub CountingHolds : Type 0
-CountingHolds = (s : NatSettings) (h : List Entry) (n : ℕ) → IsPast s h n → (e : Outward) → Contains (counting s.idle n h) e → live_port s.kind e.inside e.dst (live_after s h n) ≡ Some e.port
+CountingHolds = (s : NatSettings) (h : List Entry) (n : ℕ) → IsPast s h n → (e : Outward) → Contains (counting s.idle n h) e
+    → live_port s.kind e.inside e.dst (live_after s h n) ≡ Some e.port
 
 -- more in front
 pub behind : {A : Type 0} → (x : A) (xs : List A) (y : A) → Contains xs y → Contains (x ∷ xs) y
@@ -59,10 +60,13 @@ counts_itself idle n e h at positive = by (is_young idle n e) young where
   by false g = absurd (false≢true g)
 
 -- so do many
-all_out : (lab : Lab) (c : ClientNode) (m k idle n : ℕ) (added h : List Entry) (d : Outward) → AllByRecursion (IsOutOf lab c m k) added → Contains (counting idle n h) d → Contains (counting idle n (added ++ h)) d
-all_out lab c m k idle n [] h d a held = held
-all_out lab c m k idle n (x ∷ xs) h d a held =
-    subst (λ (y : Entry). Contains (counting idle n (y ∷ xs ++ h)) d) (sym a.0.is) (counts_on idle n a.0.datagram (xs ++ h) d (all_out lab c m k idle n xs h d a.1 held))
+module _ (lab : Lab) (k idle n : ℕ) (h : List Entry) (d : Outward) where
+  all_out : (c : ClientNode) (m : ℕ) (added : List Entry) → AllByRecursion (IsOutOf lab c m k) added → Contains (counting idle n h) d
+      → Contains (counting idle n (added ++ h)) d
+  all_out c m [] a held = held
+  all_out c m (x ∷ xs) a held =
+      subst (λ (y : Entry). Contains (counting idle n (y ∷ xs ++ h)) d) (sym a.0.is)
+      (counts_on idle n a.0.datagram (xs ++ h) d (all_out c m xs a.1 held))
 
 -- RECORDS THAT LEAVE NATS
 
@@ -73,39 +77,49 @@ is_calm (event.Forget n who) = false
 is_calm _ = true
 
 -- what counted counts after such a record
-pub grows_on : (lab : Lab) (r : Full) (k idle n : ℕ) (added h : List Entry) (d : Outward) → is_calm r.asked ≡ true → NatGrows lab r k added → Contains (counting idle n h) d → Contains (counting idle n (added ++ h)) d
-grows_on lab r k idle n added h d calm (stays none) held = subst (λ (z : List Entry). Contains (counting idle n (z ++ h)) d) (sym none) held
-grows_on lab r k idle n added h d calm (restarts asked is) held = absurd (false≢true (sym (ap is_calm asked) ∙ calm))
-grows_on lab r k idle n added h d calm (forgets who c asked there is) held = absurd (false≢true (sym (ap is_calm asked) ∙ calm))
-grows_on lab r k idle n added h d calm (lets_out j c node there outs) held = all_out lab c r.moment k idle n added h d outs held
+module _ (lab : Lab) (r : Full) (calm : is_calm r.asked ≡ true) (k idle n : ℕ) (h : List Entry) (d : Outward) where
+  grows_on : (added : List Entry) → NatGrows lab r k added → Contains (counting idle n h) d → Contains (counting idle n (added ++ h)) d
+  grows_on added (stays none) held = subst (λ (z : List Entry). Contains (counting idle n (z ++ h)) d) (sym none) held
+  grows_on added (restarts asked is) held = absurd (false≢true (sym (ap is_calm asked) ∙ calm))
+  grows_on added (forgets who c asked there is) held = absurd (false≢true (sym (ap is_calm asked) ∙ calm))
+  grows_on added (lets_out j c node there outs) held = all_out lab k idle n h d c r.moment added outs held
 
 -- a datagram counts at NAT k now
 abbrev pub Counts : Lab → List Full → ℕ → Outward → Type 0
 Counts lab H k d = Contains (counting (nat_set_up lab.topology k).idle (now H) (nat_history lab k H)) d
 
-pub still_counts : EachNatGrows → (lab : Lab) (H : List Full) (r : Full) (k : ℕ) (d : Outward) → Follows lab H r → is_calm r.asked ≡ true → r.moment ≡ now H → Counts lab H k d → Counts lab (r ∷ H) k d
-still_counts law lab H r k d follows calm moment held =
-    let idle = (nat_set_up lab.topology k).idle in
-    subst (λ (m : ℕ). Contains (counting idle m (nat_entries lab k r ++ nat_history lab k H)) d) (sym moment) (grows_on lab r k idle (now H) (nat_entries lab k r) (nat_history lab k H) d calm (law lab H r k follows) held)
-
 -- NAT k lets what comes from src in at a port to an inside endpoint, since some datagram asked for it
 abbrev pub Way : Lab → List Full → ℕ → Ep → ℕ → Ep → Type 0
 Way lab H k src port inside = WasAsked (nat_set_up lab.topology k) (nat_history lab k H) (now H) src port inside
 
--- so a way in stays
-pub still_way : EachNatGrows → (lab : Lab) (H : List Full) (r : Full) (k : ℕ) (src : Ep) (port : ℕ) (inside : Ep) → Follows lab H r → is_calm r.asked ≡ true → r.moment ≡ now H → Way lab H k src port inside → Way lab (r ∷ H) k src port inside
-still_way law lab H r k src port inside follows calm moment way = record {
-  datagram = way.datagram;
-  counts = still_counts law lab H r k way.datagram follows calm moment way.counts;
-  left = way.left;
-  by_port = way.by_port;
-  asked = way.asked;
-}
+-- a record that follows, at once, and leaves NATs
+pub record IsCalmNext (lab : Lab) (H : List Full) (r : Full) : Type 0 where
+  pub follows : Follows lab H r
+  pub calm : is_calm r.asked ≡ true
+  pub moment : r.moment ≡ now H
+
+module _ (law : EachNatGrows) (lab : Lab) (H : List Full) (r : Full) (next : IsCalmNext lab H r) where
+  still_counts : (k : ℕ) (d : Outward) → Counts lab H k d → Counts lab (r ∷ H) k d
+  still_counts k d held =
+      let idle = (nat_set_up lab.topology k).idle in
+      subst (λ (m : ℕ). Contains (counting idle m (nat_entries lab k r ++ nat_history lab k H)) d) (sym next.moment)
+      (grows_on lab r next.calm k idle (now H) (nat_history lab k H) d (nat_entries lab k r) (law lab H r k next.follows) held)
+
+  -- so a way in stays
+  pub still_way : (k : ℕ) (src : Ep) (port : ℕ) (inside : Ep) → Way lab H k src port inside → Way lab (r ∷ H) k src port inside
+  still_way k src port inside way = record {
+    datagram = way.datagram;
+    counts = still_counts k way.datagram way.counts;
+    left = way.left;
+    by_port = way.by_port;
+    asked = way.asked;
+  }
 
 -- A HELD PORT ANSWERS
 
 -- where the NAT isn't symmetric, whatever the destination
-pub any_dst : (kind : NatKind) (inside dst other : Ep) (live : List Outward) → is_symmetric kind ≡ false → live_port kind inside dst live ≡ live_port kind inside other live
+pub any_dst : (kind : NatKind) (inside dst other : Ep) (live : List Outward) → is_symmetric kind ≡ false
+    → live_port kind inside dst live ≡ live_port kind inside other live
 any_dst Cone inside dst other live h = refl
 any_dst Restricted inside dst other live h = refl
 any_dst Port inside dst other live h = refl
@@ -119,29 +133,34 @@ pub record Holds (s : NatSettings) (h : List Entry) (n : ℕ) (inside : Ep) (por
   pub left : datagram.inside ≡ inside
   pub by_port : datagram.port ≡ port
 
--- it goes on from that port
-pub held_port : CountingHolds → (s : NatSettings) (h : List Entry) (n : ℕ) (inside dst : Ep) (port : ℕ) → is_symmetric s.kind ≡ false → Holds s h n inside port → live_port s.kind inside dst (live_after s h n) ≡ Some port
-held_port law s h n inside dst port kind holds =
-    any_dst s.kind inside dst holds.datagram.dst (live_after s h n) kind
-    ∙ ap (λ (e : Ep). live_port s.kind e holds.datagram.dst (live_after s h n)) (sym holds.left)
-    ∙ law s h n holds.past holds.datagram holds.counts
-    ∙ ap (λ (p : ℕ). Some p) holds.by_port
+module _ (s : NatSettings) (h : List Entry) (n : ℕ) (inside : Ep) (port : ℕ) (holds : Holds s h n inside port) where
+  -- it goes on from that port
+  pub held_port : CountingHolds → (dst : Ep) → is_symmetric s.kind ≡ false → live_port s.kind inside dst (live_after s h n) ≡ Some port
+  held_port law dst kind =
+      any_dst s.kind inside dst holds.datagram.dst (live_after s h n) kind
+      ∙ ap (λ (e : Ep). live_port s.kind e holds.datagram.dst (live_after s h n)) (sym holds.left)
+      ∙ law s h n holds.past holds.datagram holds.counts
+      ∙ ap (λ (p : ℕ). Some p) holds.by_port
 
--- so the NAT answers it
-pub answers : CountingHolds → (s : NatSettings) (h : List Entry) (n : ℕ) (inside dst : Ep) (port : ℕ) → is_symmetric s.kind ≡ false → same_ip dst.ip s.external ≡ false → Holds s h n inside port → nat_answer s h n inside dst ≡ Ok port
-answers law s h n inside dst port kind elsewhere holds =
-    ap (λ (b : Bool). cond b (Err refusal.Hairpin) (port_for (live_port s.kind inside dst (live_after s h n)) (live_after s h n))) elsewhere
-    ∙ ap (λ (o : Option ℕ). port_for o (live_after s h n)) (held_port law s h n inside dst port kind holds)
+  -- so the NAT answers it
+  pub answers : CountingHolds → (dst : Ep) → is_symmetric s.kind ≡ false → same_ip dst.ip s.external ≡ false → nat_answer s h n inside dst ≡ Ok port
+  answers law dst kind elsewhere =
+      ap (λ (b : Bool). cond b (Err refusal.Hairpin) (port_for (live_port s.kind inside dst (live_after s h n)) (live_after s h n))) elsewhere
+      ∙ ap (λ (o : Option ℕ). port_for o (live_after s h n)) (held_port law dst kind)
 
--- one datagram more: the port is held
-pub holds_on : (s : NatSettings) (h : List Entry) (n : ℕ) (inside : Ep) (port : ℕ) (e : Outward) → e.moment.0 ≡ n → nat_answer s h n e.inside e.dst ≡ Ok e.port → Holds s h n inside port → Holds s (Out e ∷ h) n inside port
-holds_on s h n inside port e at answer holds = record {
-  past = record {
-    history = (subst (λ (m : ℕ). latest_moment h ≤ m) (sym at) holds.past.moments, subst (λ (m : ℕ). nat_answer s h m e.inside e.dst ≡ Ok e.port) (sym at) answer, holds.past.history);
-    moments = subst (λ (m : ℕ). m ≤ n) (sym at) (omega arith);
-  };
-  datagram = holds.datagram;
-  counts = counts_on s.idle n e h holds.datagram holds.counts;
-  left = holds.left;
-  by_port = holds.by_port;
-}
+  -- one datagram more: the port is held
+  pub holds_on : (e : Outward) → e.moment.0 ≡ n → nat_answer s h n e.inside e.dst ≡ Ok e.port → Holds s (Out e ∷ h) n inside port
+  holds_on e at answer = record {
+    past = record {
+      history = (
+        subst (λ (m : ℕ). latest_moment h ≤ m) (sym at) holds.past.moments,
+        subst (λ (m : ℕ). nat_answer s h m e.inside e.dst ≡ Ok e.port) (sym at) answer,
+        holds.past.history,
+      );
+      moments = subst (λ (m : ℕ). m ≤ n) (sym at) (omega arith);
+    };
+    datagram = holds.datagram;
+    counts = counts_on s.idle n e h holds.datagram holds.counts;
+    left = holds.left;
+    by_port = holds.by_port;
+  }

@@ -5,9 +5,16 @@ pub returns : goal.returns
 returns c = each_arrives (record {
   packets = record {
     ends = record {
-      address = record { payload = c.payload_is_spelled.ensures; teredo = c.teredo_tells.ensures; flags = c.flags_tell.ensures; turns = c.turns.ensures; at_start = c.turns_at_start.ensures };
+      address = record {
+        payload = c.payload_is_spelled.ensures;
+        teredo = c.teredo_tells.ensures;
+        flags = c.flags_tell.ensures;
+        turns = c.turns.ensures;
+        own = c.address_is_own.ensures;
+      };
       apart = c.apart.ensures;
       rules = c.each_node.ensures;
+      there = c.client_is_there.ensures;
       made = c.wire_is_made.ensures;
       holds = c.counting_datagram_holds_its_port.ensures;
       ports = c.live_mappings_are_few.ensures.ports;

@@ -1,0 +1,176 @@
+-- Where a schedule begins: what the first record put onto the wire, by the cone bits of the two clients.
+use Rattle.std.proofs.Common.{◌≡◌, suc, Bool, true, false, List, [], ◌∷◌, ◌++◌, length, refl, ap, ◌∙◌}
+use Rattle.std.specs.Prelude.{slice_get, filter_map}
+use Rattle.std.proofs.lemmas.Bool.{false≢true}
+use Rattle.td_base.specs.declared.ipv6.Ip6.{Ip6}
+use Rattle.td_base.specs.Ip4.{same_ip}
+use Rattle.td_base.specs.Ep.{server_ep}
+use Rattle.teredo_addr.specs.Teredo.{server_in, has_cone, embedded}
+use Rattle.bubble.specs.Bubbles.{bubble_bytes}
+use Rattle.teredo_node.specs.Sends.{send}
+use Rattle.teredo_node.specs.Journal.{Entry, with_entry}
+use Rattle.peer_list.specs.Peers.{Peer, no_peer, known}
+use Rattle.qualify.specs.Turns.{turn}
+use Rattle.client_rules.specs.Bearings.{mentions}
+use Rattle.client_rules.specs.Tries.{both_bubbles}
+use Rattle.topology.specs.declared.node.Node.TheVariants.{Client as client}
+use Rattle.topology.specs.Chains.{passing}
+use Rattle.history.specs.Full.{Item, udp, item_in, Full, wire, items_of}
+use Rattle.legal.specs.Past.{now, journal}
+use Rattle.first_packets.proofs.Known.{untried}
+use Rattle.first_packets.proofs.First.{one_first, first_of_two, second_of_two, two_longer, one_open, two_open}
+use Rattle.first_packets.proofs.Deliveries.{Did}
+use Rattle.first_packets.proofs.Pair.{Pair, IsPair, setup, nat_by, elsewhere, server_elsewhere, asked_itself, asked_all}
+use Rattle.first_packets.proofs.Ground.{PacketLaws, AllSent, address_stays, Keeps, Unbarred, Ground, all_leaves}
+use Rattle.first_packets.proofs.AtClients.{Afterwards, after_queued, keeps_on, unbarred_on}
+use Rattle.first_packets.proofs.Stages.{asks, releases_it}
+use Rattle.first_packets.proofs.Boards.{Board}
+use Rattle.std.specs.List.{AllByRecursion}
+use Rattle.teredo_node.specs.Step.{Send}
+use Rattle.first_packets.proofs.Pair.{lab_in}
+use Rattle.first_packets.proofs.HandedIn.{StartLaws}
+use Rattle.first_packets.proofs.Premise.{IsStart, e, did, is_pair}
+use Rattle.first_packets.proofs.FirstGround.{ground, next, receiver_stays, ground_then, number, open_from, at_once, WaitsFirst, waits}
+
+module _ (laws : StartLaws) (p : Pair) (H : List Full) (r : Full) (start : IsStart p H r) where
+  abbrev l : PacketLaws
+  l = laws.packets
+
+  abbrev is : IsPair p
+  is = is_pair laws p H r start
+
+  -- the addresses of the two
+  abbrev own : Ip6
+  own = p.a.own
+
+  abbrev other : Ip6
+  other = p.b.own
+
+  -- what the sender did, whose sends all leave
+  abbrev done : Entry
+  done = e laws p H r start
+
+  does : Did (lab_in p) H r p.a.n (client p.a.c) done
+  does = did laws p H r start
+
+  before : Ground p H
+  before = ground laws p H r start
+
+  gone : (xs : List Send) → done.step.sends ≡ xs → AllByRecursion (λ (x : Send). same_ip x.to.ip (nat_by p.t p.a).external ≡ false) xs
+      → AllSent (lab_in p) H r p.a.c own xs
+  gone xs sends apart = all_leaves l p H r p.a done is.sender is.sender_kind start.grown.1 before.sender_way does start.sound xs sends apart
+
+  -- the receiver's endpoint and its server are elsewhere
+  other_far : same_ip (embedded other).ip (nat_by p.t p.a).external ≡ false
+  other_far = elsewhere l.ends.apart p.t is.rules p.a p.b is.sender is.receiver is.apart
+
+  server_far : same_ip (server_in other) (nat_by p.t p.a).external ≡ false
+  server_far = server_elsewhere l.ends.apart p.t is.rules p.b p.a is.receiver is.sender
+
+  -- THE RECEIVER IS CONE
+
+  -- the packet goes out at once
+  pub to_cone : has_cone other ≡ true → Board p H r 1 []
+  to_cone cone =
+      let goes = at_once laws p H r start cone in
+      let all = gone (send (embedded other) p.x ∷ []) goes.sends (other_far, tt) in
+      let one = one_first H r (udp (embedded own) (embedded other) p.x) all.made in
+      let then = ground_then laws p H r start (address_stays l.still (setup p.t p.a) (journal p.a.n H) done (ap turn goes.fate_is)) in
+      let way = then.receiver_way in
+      record {
+        last = length (wire H);
+        direct = false;
+        k = 1;
+        ground = then;
+        long = one.longer;
+        are = open_from laws p H r start (length (wire H)) (length (wire H)) false (number laws p H r start) (one_open (length (wire H)));
+        stage = releases_it one.at (record {
+          datagram = way.datagram;
+          counts = way.counts;
+          left = way.left;
+          by_port = way.by_port;
+          asked = asked_all (nat_by p.t p.b).kind (embedded own) way.datagram (is.receiver_cone cone);
+        });
+        bubble = λ none. absurd (false≢true none);
+        sum = refl;
+      }
+
+  -- IT ISN'T
+
+  module _ (far : has_cone other ≡ false) where
+    first : WaitsFirst laws p H r start
+    first = waits laws p H r start far
+
+    -- the bubbles that go out
+    sends_are : (cone : Bool) → has_cone own ≡ cone → done.step.sends ≡ both_bubbles cone own other
+    sends_are cone same = first.sends ∙ ap (λ (c : Bool). both_bubbles c own other) same
+
+    left : Afterwards l (setup p.t p.a) (journal p.a.n H) (now H) other done first.about first.moment (p.x ∷ [])
+    left = after_queued l (setup p.t p.a) (journal p.a.n H) (now H) other done first.about first.moment p.x first.queued first.packet
+        (ap (λ (k : Peer). k.waiting) (l.unlisted (mentions (journal p.a.n H).entries) (now H) other start.first.clients.sender_new.unlisted))
+
+    then : Ground p (r ∷ H)
+    then = ground_then laws p H r start left.address
+
+    -- the packet waits
+    sends : Keeps (journal p.a.n (r ∷ H)) (now (r ∷ H)) other (p.x ∷ [])
+    sends = keeps_on H r p.a.n other (p.x ∷ []) (with_entry (journal p.a.n H) done) (next laws p H r start).moment does.later left.keeps
+
+    -- the receiver may try the sender
+    may : Unbarred (journal p.b.n (r ∷ H)) (now (r ∷ H)) own
+    may =
+        let new : known (mentions (journal p.b.n H).entries) (now H) own ≡ no_peer = l.unlisted (mentions (journal p.b.n H).entries)
+        (now H) own start.first.clients.receiver_new.unlisted in
+        unbarred_on H r p.b.n own (journal p.b.n H) (next laws p H r start).moment (receiver_stays laws p H r start)
+        (untried (now H) (known (mentions (journal p.b.n H).entries) (now H) own) (ap (λ (k : Peer). k.tries) new))
+
+    -- the sender is cone
+    pub from_cone : has_cone own ≡ true → Board p H r 4 []
+    from_cone cone =
+        let all = gone (both_bubbles true own other) (sends_are true cone) (server_far, tt) in
+        let one = one_first H r (udp (embedded own) (server_ep (server_in other)) (bubble_bytes own other)) all.made in
+        let way = then.sender_way in
+        record {
+          last = length (wire H);
+          direct = false;
+          k = 4;
+          ground = then;
+          long = one.longer;
+          are = open_from laws p H r start (length (wire H)) (length (wire H)) false (number laws p H r start) (one_open (length (wire H)));
+          stage = asks one.at sends may (record {
+            datagram = way.datagram;
+            counts = way.counts;
+            left = way.left;
+            by_port = way.by_port;
+            asked = asked_all (nat_by p.t p.a).kind (embedded other) way.datagram (is.sender_cone cone);
+          });
+          bubble = λ none. absurd (false≢true none);
+          sum = refl;
+        }
+
+    -- neither is
+    pub with_both : has_cone own ≡ false → Board p H r 5 []
+    with_both plain =
+        let all = gone (both_bubbles false own other) (sends_are false plain) (other_far, (server_far, tt)) in
+        let direct : Item = udp (embedded own) (embedded other) (bubble_bytes own other) in
+        let indirect : Item = udp (embedded own) (server_ep (server_in other)) (bubble_bytes own other) in
+        let items : items_of r ≡ direct ∷ indirect ∷ [] = ap (filter_map item_in) all.made in
+        record {
+          last = suc (length (wire H));
+          direct = true;
+          k = 4;
+          ground = then;
+          long = ap (λ (xs : List Item). length (wire H ++ xs)) items ∙ two_longer (wire H) direct indirect;
+          are = open_from laws p H r start (length (wire H)) (suc (length (wire H))) true (number laws p H r start) (two_open (length (wire H)));
+          stage = asks (ap (λ (xs : List Item). slice_get (wire H ++ xs) (suc (length (wire H)))) items ∙ second_of_two (wire H) direct indirect) sends may
+              (record {
+                datagram = (passing p.a.c.nat (now H) p.a.c.inside (embedded other) (embedded own).port).datagram;
+                counts = all.counts.0;
+                left = refl;
+                by_port = refl;
+                asked = asked_itself (nat_by p.t p.a).kind (embedded other) _ refl;
+              });
+          bubble = λ _. ap (λ (xs : List Item). slice_get (wire H ++ xs) r.first) items
+              ∙ ap (slice_get (wire H ++ direct ∷ indirect ∷ [])) (number laws p H r start) ∙ first_of_two (wire H) direct indirect;
+          sum = refl;
+        }

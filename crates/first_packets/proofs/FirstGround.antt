@@ -1,0 +1,136 @@
+-- What holds before the first record and after it, and what the sender makes of it.
+use Rattle.std.proofs.Common.{◌≡◌, ℕ, Bool, true, false, List, [], ◌∷◌, length, Some, sym, ap, subst, ◌∙◌}
+use Rattle.td_base.specs.declared.ipv6.Ip6.{Ip6}
+use Rattle.ipv6_packet.specs.Reads.{fields_in}
+use Rattle.teredo_addr.specs.Teredo.{has_cone, embedded}
+use Rattle.teredo_node.specs.Sends.{send}
+use Rattle.teredo_node.specs.Journal.{Entry, with_entry}
+use Rattle.peer_list.specs.Listed.{has_room}
+use Rattle.peer_list.specs.Peers.{Peer, no_peer, known}
+use Rattle.qualify.specs.Qualification.{qualification}
+use Rattle.client_rules.specs.Bearings.{mentions}
+use Rattle.client_rules.specs.Tries.{both_bubbles}
+use Rattle.topology.specs.declared.node.Node.TheVariants.{Client as client}
+use Rattle.history.specs.Full.{Full, wire}
+use Rattle.legal.specs.Past.{now, journal, words}
+use Rattle.first_packets.proofs.Ways.{IsCalmNext}
+use Rattle.first_packets.proofs.Ends.{way_of_server}
+use Rattle.first_packets.proofs.Counted.{AreOpen}
+use Rattle.first_packets.proofs.Deliveries.{Did}
+use Rattle.first_packets.proofs.Meeting.{Meets, IsHere, goes_at_once, waits_here}
+use Rattle.first_packets.proofs.Pair.{Pair, IsPair, setup}
+use Rattle.first_packets.proofs.Ground.{PacketLaws, other_journal, Ground, ground_on, is_here}
+use Rattle.first_packets.proofs.AtClients.{keeps_on}
+use Rattle.first_packets.proofs.Steps.{two_nodes, same_address, same_after}
+use Rattle.teredo_node.specs.declared.fate.Fate.TheVariants as fate
+use Rattle.first_packets.proofs.Pair.{lab_in}
+use Rattle.first_packets.proofs.HandedIn.{StartLaws}
+use Rattle.first_packets.proofs.Premise.{IsStart, sender_end, hand, e, did, small, is_pair}
+
+module _ (laws : StartLaws) (p : Pair) (H : List Full) (r : Full) (start : IsStart p H r) where
+  abbrev l : PacketLaws
+  l = laws.packets
+
+  -- the two clients, and what the sender did
+  abbrev is : IsPair p
+  is = is_pair laws p H r start
+
+  abbrev done : Entry
+  done = e laws p H r start
+
+  does : Did (lab_in p) H r p.a.n (client p.a.c) done
+  does = did laws p H r start
+
+  -- THE GROUND
+
+  nobody_waits : (known (mentions (journal p.b.n H).entries) (now H) p.a.own).waiting ≡ []
+  nobody_waits = ap (λ (k : Peer). k.waiting) (l.unlisted (mentions (journal p.b.n H).entries) (now H) p.a.own start.first.clients.receiver_new.unlisted)
+
+  -- the ground before
+  pub ground : Ground p H
+  ground = record {
+    grown = start.grown.1;
+    sender = start.first.clients.sender_settled.address;
+    receiver = start.first.clients.receiver_settled.address;
+    sender_way = way_of_server l.ends (lab_in p) H p.a.n p.a.c p.a.own start.rules start.grown.1 start.first.clients.sender start.first.clients.sender_settled;
+    receiver_way = way_of_server l.ends
+        (lab_in p) H p.b.n p.b.c p.b.own start.rules start.grown.1 start.first.clients.receiver start.first.clients.receiver_settled;
+    keeps_nothing = record { room = start.first.clients.receiver_new.room; waits = nobody_waits };
+  }
+
+  -- the record leaves NATs
+  pub next : IsCalmNext (lab_in p) H r
+  next = record { follows = start.grown.0; calm = (hand laws p H r start).calm; moment = does.moment }
+
+  -- the receiver does nothing
+  pub receiver_stays : journal p.b.n (r ∷ H) ≡ journal p.b.n H
+  receiver_stays = other_journal l.frame (lab_in p) H r p.a.n p.b.n (client p.a.c) done does (two_nodes l p is H r ground start.grown.0 start.sound)
+
+  -- the ground after
+  pub ground_then : (qualification (setup p.t p.a) (with_entry (journal p.a.n H) done)).address ≡ (qualification (setup p.t p.a) (journal p.a.n H)).address
+      → Ground p (r ∷ H)
+  ground_then stays = ground_on l p H r next ground (same_after l p is H r ground start.grown.0 start.sound p.a done does.later stays)
+      (same_address l p is H r ground start.grown.0 start.sound p.b receiver_stays)
+      (keeps_on H r p.b.n p.a.own [] (journal p.b.n H) next.moment receiver_stays ground.keeps_nothing)
+
+  -- its entries come behind the wire
+  pub number : r.first ≡ length (wire H)
+  number = ap (λ (z : Full). z.first) start.grown.0.is ∙ (laws.event (lab_in p) H r.event r.asked).first
+
+  pub open_from : (f last : ℕ) (direct : Bool) → r.first ≡ f → AreOpen f last direct true [] → AreOpen r.first last direct true []
+  open_from f last direct same are = subst (λ (k : ℕ). AreOpen k last direct true []) (sym same) are
+
+  -- WHAT THE SENDER MAKES OF IT
+
+  -- what the tables say is of the packet's own addresses
+  to_sources : (P : Ip6 → Ip6 → Type 0) → P p.a.own p.b.own → P (fields_in p.x).src (fields_in p.x).dst
+  to_sources P h = subst (λ (z : Ip6). P (fields_in p.x).src z) (sym start.first.packet.destination)
+      (subst (λ (z : Ip6). P z p.b.own) (sym start.first.packet.source) h)
+
+  its_meets : Meets (setup p.t p.a) (fields_in p.x).src (fields_in p.x).dst
+  its_meets = to_sources (Meets (setup p.t p.a)) is.sender_meets
+
+  its_here : IsHere (setup p.t p.a) (journal p.a.n H) (fields_in p.x).src
+  its_here = subst (IsHere (setup p.t p.a) (journal p.a.n H)) (sym start.first.packet.source)
+      (is_here l (lab_in p) H p.a.n p.a.c p.a.own start.grown.1 (sender_end laws p H r start).there ground.sender)
+
+  -- there is room for it
+  room : has_room (mentions (journal p.a.n H).entries) (now H) (fields_in p.x).dst ≡ true
+  room = ap (has_room (mentions (journal p.a.n H).entries) (now H)) start.first.packet.destination ∙ start.first.clients.sender_new.room
+
+  -- the receiver is new to the sender
+  unknown : known (mentions (journal p.a.n H).entries) (now H) (fields_in p.x).dst ≡ no_peer
+  unknown = ap (known (mentions (journal p.a.n H).entries) (now H)) start.first.packet.destination
+      ∙ l.unlisted (mentions (journal p.a.n H).entries) (now H) p.b.own start.first.clients.sender_new.unlisted
+
+  -- where the receiver is cone the packet goes at once
+  pub record SendsItself : Type 0 where
+    pub fate_is : done.step.fate ≡ fate.SentCone
+    pub sends : done.step.sends ≡ send (embedded p.b.own) p.x ∷ []
+
+  pub at_once : has_cone p.b.own ≡ true → SendsItself
+  at_once cone =
+      let goes = goes_at_once (setup p.t p.a) (journal p.a.n H) (now H) p.x start.first.packet.packet its_meets its_here (small laws p H r start)
+      start.first.packet.no_bubble unknown (ap has_cone start.first.packet.destination ∙ cone) (words (lab_in p) p.a.n H) in
+      record { fate_is = goes.sent_cone; sends = goes.sends ∙ ap (λ (z : Ip6). send (embedded z) p.x ∷ []) start.first.packet.destination }
+
+  -- where it isn't the packet waits, and bubbles go out
+  pub record WaitsFirst : Type 0 where
+    pub queued : done.step.fate ≡ fate.Queued
+    pub sends : done.step.sends ≡ both_bubbles (has_cone p.a.own) p.a.own p.b.own
+    pub packet : done.packet ≡ Some p.x
+    pub about : done.peer ≡ Some p.b.own
+    pub moment : done.moment ≡ now H
+
+  pub waits : has_cone p.b.own ≡ false → WaitsFirst
+  waits far =
+      let w = waits_here (setup p.t p.a) (journal p.a.n H) (now H) p.x start.first.packet.packet its_meets its_here (small laws p H r start)
+      start.first.packet.no_bubble unknown (ap has_cone start.first.packet.destination ∙ far) room (words (lab_in p) p.a.n H) in
+      record {
+        queued = w.queued;
+        sends = w.sends ∙ ap (λ (z : Ip6). both_bubbles (has_cone z) z (fields_in p.x).dst) start.first.packet.source
+            ∙ ap (λ (z : Ip6). both_bubbles (has_cone p.a.own) p.a.own z) start.first.packet.destination;
+        packet = w.packet;
+        about = w.about ∙ ap (λ (z : Ip6). Some z) start.first.packet.destination;
+        moment = w.moment;
+      }

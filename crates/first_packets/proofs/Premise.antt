@@ -1,0 +1,86 @@
+-- What the premise of a first packet says: two settled clients, and the record in which the packet is handed in.
+use Rattle.std.proofs.Common.{◌≡◌, false, List, [], ◌∷◌, sym}
+use Rattle.td_base.specs.Bytes.{IsBytes}
+use Rattle.ipv6_packet.specs.Reads.{is_big, fields_in}
+use Rattle.teredo_node.specs.Journal.{given, Entry}
+use Rattle.topology.specs.declared.node.Node.TheVariants.{Client as client}
+use Rattle.topology.specs.Rules.{IsTopology}
+use Rattle.history.specs.Full.{Full}
+use Rattle.legal.specs.Past.{now}
+use Rattle.legal.specs.Emit.{entry_of}
+use Rattle.legal.specs.Next.{no_ep}
+use Rattle.legal.specs.Legal.{Grown}
+use Rattle.first_packets.specs.Schedules.{HasNoFault, AreFresh}
+use Rattle.first_packets.specs.FirstPacket.{IsFirstPacket}
+use Rattle.first_packets.proofs.Ends.{IsEnd, is_end}
+use Rattle.first_packets.proofs.Deliveries.{Did, Handing}
+use Rattle.first_packets.proofs.HandedIn as handed_in
+use Rattle.first_packets.proofs.HandedIn.{StartLaws}
+use Rattle.first_packets.proofs.Pair.{Pair, IsPair, meets}
+use Rattle.first_packets.proofs.Ground.{PacketLaws}
+use Rattle.first_packets.proofs.Pair.{lab_in}
+
+-- no send of the first record failed
+pub sound_first : (r : Full) (later : List Full) → AreFresh r later → HasNoFault r
+sound_first r [] fresh = fresh
+sound_first r (q ∷ later) fresh = sound_first r later fresh.1
+
+-- THE SITUATION
+
+-- the first record after a history, in which the sender's host hands in the packet of a pair
+pub record IsStart (p : Pair) (H : List Full) (r : Full) : Type 0 where
+  pub rules : IsTopology p.t
+  pub grown : Grown (lab_in p) (r ∷ H)
+  pub first : IsFirstPacket (lab_in p) H r p.a.n p.b.n p.a.c p.b.c p.a.own p.b.own p.x
+  pub sound : HasNoFault r
+
+module _ (laws : StartLaws) (p : Pair) (H : List Full) (r : Full) (start : IsStart p H r) where
+  abbrev l : PacketLaws
+  l = laws.packets
+
+  -- both are ends
+  pub sender_end : IsEnd p.t p.a.n p.a.c p.a.own
+  sender_end = is_end l.ends (lab_in p) H p.a.n p.a.c p.a.own start.rules start.grown.1 start.first.clients.sender start.first.clients.sender_settled
+
+  pub receiver_end : IsEnd p.t p.b.n p.b.c p.b.own
+  receiver_end = is_end l.ends (lab_in p) H p.b.n p.b.c p.b.own start.rules start.grown.1 start.first.clients.receiver start.first.clients.receiver_settled
+
+  -- the host handed the packet in
+  pub hand : Handing (lab_in p) H r p.a.n p.x
+  hand = handed_in.hand laws p.d p.t H r p.a.n p.a.c p.x start.first.entry start.rules start.grown sender_end.there start.first.node start.first.did
+      start.first.packet_in
+
+  -- what the sender did
+  abbrev pub e : Entry
+  e = entry_of (lab_in p) H (now H) p.a.n no_ep (given p.x) (client p.a.c)
+
+  pub did : Did (lab_in p) H r p.a.n (client p.a.c) e
+  did = handed_in.did laws p.d p.t H r p.a.n p.a.c p.x start.first.entry start.rules start.grown sender_end.there start.first.node start.first.did
+      start.first.packet_in
+
+  -- the packet is bytes
+  bytes : IsBytes p.x
+  bytes = handed_in.bytes laws p.d p.t H r p.a.n p.a.c p.x start.first.entry start.rules start.grown sender_end.there start.first.node start.first.did
+      start.first.packet_in
+
+  pub small : is_big (fields_in p.x) ≡ false
+  small = handed_in.small laws p.d p.t H r p.a.n p.a.c p.x start.first.entry start.rules start.grown sender_end.there start.first.node start.first.did
+      start.first.packet_in start.first.packet.packet start.first.packet.short
+
+  -- what holds of the two
+  pub is_pair : IsPair p
+  is_pair = record {
+    rules = start.rules;
+    sender = sender_end;
+    receiver = receiver_end;
+    apart = start.first.clients.apart;
+    sender_kind = start.first.clients.sender_settled.kind;
+    receiver_kind = start.first.clients.receiver_settled.kind;
+    sender_cone = start.first.clients.sender_settled.cone;
+    receiver_cone = start.first.clients.receiver_settled.cone;
+    packet = start.first.packet;
+    small = small;
+    bytes = bytes;
+    sender_meets = meets l.ends.apart p.t start.rules p.a p.b sender_end receiver_end start.first.clients.apart;
+    receiver_meets = meets l.ends.apart p.t start.rules p.b p.a receiver_end sender_end (λ same. start.first.clients.apart (sym same));
+  }
