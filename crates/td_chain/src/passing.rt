@@ -83,14 +83,8 @@ pub fn pass_out(
     ensures rows { set_ups nats.new ≡ set_ups nats.old }
 {
     let external = pass(nats, number, leaving, from)?;
-    pass_on(
-        nats,
-        chain,
-        chain,
-        outer_in(chain, number),
-        leaving,
-        external,
-    )
+    let outside = outer_in(chain, number);
+    pass_on(nats, chain, chain, outside, leaving, external)
 }
 
 /// The inside endpoint that the NAT of a number lets a datagram in to.

@@ -20,6 +20,6 @@ returns-clause-crosses c = λ t h passed stand.
     let chain = map behind_of c.args.chain.now in
     let k = c.args.number in
     let p = c.in_ok-external.ensures.passes t h passed stand in
-    subst (λ (o : Option ℕ). Crosses t h c.args.leaving.now.0 c.args.from c.args.leaving.dst passed (k ∷ nats_from chain chain o) c.pass_on.result c.pass_on.new.nats) c.outer_in.ensures
-    (then_crosses t h c.args.leaving.now.0 c.args.from c.args.leaving.dst passed k c.pass.new.nats c.in_ok-external.external p (nats_from chain chain c.outer_in.result) c.pass_on.new.nats c.pass_on.result
+    subst (λ (o : Option ℕ). Crosses t h c.args.leaving.now.0 c.args.from c.args.leaving.dst passed (k ∷ nats_from chain chain o) c.pass_on.result c.pass_on.new.nats) c.outer_in-outside.ensures
+    (then_crosses t h c.args.leaving.now.0 c.args.from c.args.leaving.dst passed k c.pass.new.nats c.in_ok-external.external p (nats_from chain chain c.outer_in-outside.result) c.pass_on.new.nats c.pass_on.result
     (c.pass_on.ensures.crosses t h _ p.stands))
