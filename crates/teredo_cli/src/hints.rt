@@ -53,7 +53,7 @@ fn hint_at(status: u8, is_unread: bool) -> Option<&'static str> {
             "this is no capture of raw IP packets in at most 96 MiB: docs/CAPTURES.md, \"A capture of your own\", makes one",
         ),
         NOT_NESTED => Some(
-            "the scenario isn't played with this chain (`chain`: `-`, or pairs INNER:OUTER of its NATs with commas between them, an inner one before its outer one and inner once, three on a way at most; `nodes`: there is a relay or a native host; `events[I]`: event I, counted from 0, is `forget`, `fault` or `settle`)",
+            "the scenario isn't played with this chain (`chain`: `-`, or pairs INNER:OUTER of its NATs with commas between them, an inner one before its outer one and inner once, three on a way at most; `nodes`: there is a relay or a native host; `events[I]`: event I, counted from 0, is `forget`, `fault` or `settle`): `./teredo lint FILE --chain CHAIN` shows where",
         ),
         _ => None,
     }
