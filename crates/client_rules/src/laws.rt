@@ -11,6 +11,7 @@ ghost use Rattle.client_rules.specs.TickWarrants.{TickIsWarranted};
 ghost use Rattle.client_rules.specs.LateSources.{EachLateIsForeign};
 ghost use Rattle.client_rules.specs.Told.{EachAddressIsTold};
 ghost use Rattle.client_rules.specs.ShortSends.{EachSendIsShort};
+ghost use Rattle.client_rules.specs.Destinations.{EachSendGoesToEndpoint};
 ghost use Rattle.client_rules.specs.TakenPlaces.{WantsOnlyQualified};
 
 /// What is done with a datagram has the fate of its line.
@@ -209,6 +210,17 @@ pub fn each_send_is_short()
     ipv6_packet::packet_is_bytes();
     each_send();
     each_send_is_bytes();
+}
+
+/// And goes to an endpoint that datagrams have, where what the client was given came from such ones.
+pub fn each_send_goes_to_endpoint()
+    ensures { EachSendGoesToEndpoint }
+{
+    bubble::payload_is_spelled();
+    ipv6_packet::packet_is_spelled();
+    peer_list::one_entry();
+    each_standing_is_made();
+    each_send();
 }
 
 /// The numbers of a test are those of the rules.

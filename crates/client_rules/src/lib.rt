@@ -32,6 +32,7 @@
 //! | what is sent, and what is handed to the host | `specs/Sendings.antt`, `Handed.antt` |
 //! | which datagrams take memory, and when | `specs/TakenPlaces.antt` |
 //! | that what is sent are bytes, and not too many | `specs/MadeSends.antt`, `ShortSends.antt` |
+//! | that it goes to endpoints | `specs/Destinations.antt` |
 #![tactic(auto)]
 
 mod laws;
@@ -39,9 +40,9 @@ mod limits;
 
 pub use laws::{
     each_address_is_told, each_handed, each_late, each_late_is_foreign, each_send,
-    each_send_is_bytes, each_send_is_short, each_standing_is_made, fate_of_reception,
-    fate_of_transmission, journal_has_few, journal_is_tried, next_mentions, none_queued,
-    numbers_of_tests, qualified_has_address, qualified_stays, queued_is_own,
+    each_send_goes_to_endpoint, each_send_is_bytes, each_send_is_short, each_standing_is_made,
+    fate_of_reception, fate_of_transmission, journal_has_few, journal_is_tried, next_mentions,
+    none_queued, numbers_of_tests, qualified_has_address, qualified_stays, queued_is_own,
     reception_is_warranted, tick_is_warranted, transmission_is_warranted, tries_touch,
     trusted_is_embedded, waiting_is_own, waiting_was_handed_in, wants_only_qualified,
 };

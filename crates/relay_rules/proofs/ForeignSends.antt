@@ -1,19 +1,23 @@
 -- What a relay sends, by the fates.
-use Rattle.std.proofs.Common.{◌≡◌, ◌≤◌, ℕ, ◌+◌, Bool, true, false, cond, List, [], ◌∷◌, map, length, Option, Some, None, refl, sym, ap, subst, ◌∙◌, arith}
+use Rattle.std.proofs.Common.{◌≡◌, ◌≤◌, ℕ, ◌+◌, Bool, true, false, cond, List, [], ◌∷◌, map, drop, length, Option, Some, None, refl, sym, ap, subst, ◌∙◌, arith}
 use Rattle.std.specs.Prelude.{IfSome, unwrap_or, nat_le, Ok, Result, Err}
 use Rattle.std.specs.List.{AllByRecursion}
 use Rattle.std.proofs.lemmas.Bool.{ltb-false}
+use Rattle.std.proofs.lemmas.List.{length-drop, length-take}
 use Rattle.td_base.specs.Bytes.{IsBytes}
 use Rattle.td_base.specs.Ip6.{IsIp6}
+use Rattle.td_base.specs.Ep.{IsEp, server_ep}
 use Rattle.td_base.specs.declared.endpoint.Ep.{Ep}
 use Rattle.td_base.specs.declared.datagram.TheConstants.{DATAGRAM_MAX}
 use Rattle.td_base.specs.declared.ipv6.Ip6.{Ip6}
+use Rattle.td_base.proofs.BytesLemmas.{IsBytes-drop, IsBytes-take}
 use Rattle.ipv6_packet.specs.declared.header.TheConstants.{HEADER, PACKET_MAX}
 use Rattle.ipv6_packet.specs.declared.fault.PacketFault.{PacketFault}
 use Rattle.ipv6_packet.specs.Packets.{Fields, packet_at}
 use Rattle.ipv6_packet.specs.Reads.{is_big, is_packet, fields_in, is_ok_packet, fields_or}
 use Rattle.ipv6_packet.specs.Laws.{PacketIsSpelled, PacketIsBytes}
-use Rattle.teredo_addr.specs.Teredo.{unspecified, is_teredo, embedded}
+use Rattle.teredo_addr.specs.Teredo.{unspecified, is_teredo, server_in, embedded}
+use Rattle.teredo_addr.proofs.HiddenLaws.{shown_fits}
 use Rattle.bubble.specs.Payloads.{Value}
 use Rattle.bubble.specs.Reads.{value_in}
 use Rattle.bubble.specs.Laws.{PayloadIsSpelled, BubbleReadsBack, PacketIsPayload}
@@ -170,20 +174,38 @@ foreign_packet laws to x fits f =
     let reads = laws.whole x (fields_in x) fits (short_packet laws to x fits f) (read_as x f.well_formed) in
     ap (λ (v : Value). is_teredo v.packet.src) reads.value ∙ f.native
 
+-- WHERE THEY GO
+
+embedded_is : (p : Ip6) → IsIp6 p → IsEp (embedded p)
+unfolding embedded
+embedded_is p fits = shown_fits 10 p.0 (omega (arith, fits.0))
+
+server_of : (p : Ip6) → IsIp6 p → IsEp (server_ep (server_in p))
+unfolding server_in
+server_of p fits =
+    let rest = length-drop 4 p.0 in
+    let front = length-take 4 (drop 4 p.0) in
+    ((omega (arith, rest, front, fits.0), IsBytes-take 4 (drop 4 p.0) (IsBytes-drop 4 p.0 fits.1)), omega arith)
+
+-- EACH SEND
+
 of_send : RelayLaws → (s : RelaySettings) (peer : Option Ip6) (x : Send) → IsMadeRelay s → IfSome peer IsIp6 → IsSending s peer x → IsBytes x.bytes → IsForeignSend x
 unfolding bubble_to
 of_send laws s peer x made there (bubbles p of is) fits =
-    let to : IsIp6 p = subst (λ (o : Option Ip6). IfSome o IsIp6) of there in
-    let reads = laws.bubble s.six p made.six to in
+    let dst : IsIp6 p = subst (λ (o : Option Ip6). IfSome o IsIp6) of there in
+    let reads = laws.bubble s.six p made.six dst in
     let long = reads.long in
     record {
+      to = subst (λ (z : Send). IsEp z.to) (sym is) (server_of p dst);
       bytes = fits;
       short = subst (λ (z : Send). length z.bytes ≤ DATAGRAM_MAX) (sym is) (omega (arith, long));
       foreign = ap (λ (z : Send). is_teredo (value_in z.bytes).packet.src) is ∙ ap (λ (v : Value). is_teredo v.packet.src) reads.payload.value ∙ made.native;
     }
 of_send laws s peer x made there (carries p bytes of foreign is) fits =
+    let dst : IsIp6 p = subst (λ (o : Option Ip6). IfSome o IsIp6) of there in
     let same : x.bytes ≡ bytes = ap (λ (z : Send). z.bytes) is in
     record {
+      to = subst (λ (z : Send). IsEp z.to) (sym is) (embedded_is p dst);
       bytes = fits;
       short = subst (λ (z : Send). length z.bytes ≤ DATAGRAM_MAX) (sym is) (short_packet laws peer bytes (subst IsBytes same fits) foreign);
       foreign = ap (λ (y : List ℕ). is_teredo (value_in y).packet.src) same ∙ foreign_packet laws peer bytes (subst IsBytes same fits) foreign;

@@ -1,9 +1,11 @@
--- What a relay sends are bytes, and not too many, of packets from outside Teredo, where what it was given are bytes.
+-- What a relay sends are bytes, and not too many, of packets from outside Teredo, to endpoints that datagrams have, where what it
+-- was given are bytes.
 use Rattle.std.specs.Prelude.{◌≡◌, ◌≤◌, ◌∷◌, false, List, length}
 use Rattle.std.specs.List.{AllByRecursion}
 use Rattle.td_base.specs.Bytes.{IsBytes}
 use Rattle.td_base.specs.declared.datagram.TheConstants.{DATAGRAM_MAX}
 use Rattle.td_base.specs.Ip6.{IsIp6}
+use Rattle.td_base.specs.Ep.{IsEp}
 use Rattle.teredo_addr.specs.Teredo.{is_teredo}
 use Rattle.bubble.specs.Reads.{value_in}
 use Rattle.teredo_node.specs.Step.{Send}
@@ -17,6 +19,7 @@ pub record IsMadeRelay (s : RelaySettings) : Type 0 where
   pub native : is_teredo s.six ≡ false
 
 pub record IsForeignSend (send : Send) : Type 0 where
+  pub to : IsEp send.to
   pub bytes : IsBytes send.bytes
   pub short : length send.bytes ≤ DATAGRAM_MAX
   pub foreign : is_teredo (value_in send.bytes).packet.src ≡ false

@@ -87,7 +87,8 @@ pub fn each_send()
     waiting_is_foreign();
 }
 
-/// What a relay sends are bytes that fit into a datagram, of packets from outside Teredo, where what it was given are bytes.
+/// What a relay sends are bytes that fit into a datagram, of packets from outside Teredo, to endpoints that datagrams
+/// have, where what it was given are bytes.
 pub fn each_send_is_foreign()
     ensures { EachSendIsForeign }
 {
