@@ -19,7 +19,7 @@ use Rattle.legal.specs.Next.{Numbered, plain, acts, no_ep, dst_of, input_of}
 use Rattle.legal.specs.Kinds as kinds
 use Rattle.legal.specs.Kinds.{Delivers, Hands, Quiet, shut, strayed, missing, none_left, settled, uncopied, hosted, restarted, forgot, faulted, Kind, quiet}
 use Rattle.legal.specs.Kinds.{put, copied, ticks, handed, reached, event_of}
-use Rattle.legal.proofs.MadeWire.{entry_input}
+use Rattle.legal.proofs.MadeInputs.{entry_input}
 use Rattle.legal.proofs.Growth.{hands_still}
 use Rattle.first_packets.proofs.Bools.{same_number}
 use Rattle.first_packets.proofs.Ways.{is_calm}

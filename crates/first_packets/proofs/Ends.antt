@@ -45,7 +45,7 @@ use Rattle.legal.specs.Settings.{client_settings}
 use Rattle.legal.specs.Past.{now, journal, nat_history}
 use Rattle.legal.specs.Legal.{Grown}
 use Rattle.legal.specs.MadeWire.{EachHistoryIsMade}
-use Rattle.legal.proofs.MadeWire.{client_made}
+use Rattle.legal.proofs.MadeInputs.{client_made}
 use Rattle.legal.proofs.NatPasts.{set_up_past}
 use Rattle.settled.specs.Clients.{asks_at, nat_behind}
 use Rattle.settled.specs.Settled.{IsSettled}

@@ -21,7 +21,7 @@ use Rattle.legal.specs.Emit.{entry_of}
 use Rattle.legal.specs.Next.{no_ep}
 use Rattle.legal.specs.Legal.{Grown}
 use Rattle.legal.specs.Laws.{EachIsOfItsEvent}
-use Rattle.legal.proofs.MadeWire.{entry_input}
+use Rattle.legal.proofs.MadeInputs.{entry_input}
 use Rattle.first_packets.proofs.Deliveries.{Did, Handing, handing}
 use Rattle.first_packets.proofs.Ground.{PacketLaws}
 

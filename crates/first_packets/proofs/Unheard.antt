@@ -33,7 +33,7 @@ use Rattle.legal.specs.Lab.{Lab}
 use Rattle.legal.specs.Settings.{client_settings}
 use Rattle.legal.specs.Past.{journal, armed, words}
 use Rattle.legal.specs.Emit.{by_way, entry_of, part_of}
-use Rattle.legal.proofs.MadeWire.{entry_input}
+use Rattle.legal.proofs.MadeInputs.{entry_input}
 use Rattle.first_packets.specs.NoRoom.{IsUnheard, FullReceiverHearsNothing}
 use Rattle.first_packets.proofs.Dropped.{not_listed}
 

@@ -33,7 +33,7 @@ use Rattle.legal.specs.Laws.{EachClientIsJournal}
 use Rattle.legal.specs.Legal.{Grown}
 use Rattle.legal.specs.Actors.{IsGiven, delivered, hosted, ticks, IsActOf, Acted, idles, does, EachActs}
 use Rattle.legal.specs.Routes.{Reaches, EachRoute}
-use Rattle.legal.proofs.MadeWire.{entry_input}
+use Rattle.legal.proofs.MadeInputs.{entry_input}
 use Rattle.origins.specs.Handed.{HandsOver, IsBrought, EachIsBrought, EachLateHandedIsForeign}
 
 -- A CLIENT'S ENTRY

@@ -52,7 +52,7 @@ use Rattle.legal.specs.Actors.{IsActOf}
 use Rattle.legal.specs.MadeWire.{EachHistoryIsMade}
 use Rattle.legal.specs.Recorded.{IsRecorded, EachIsRecorded}
 use Rattle.legal.specs.Routes.{IsLetIn}
-use Rattle.legal.proofs.MadeWire.{client_made}
+use Rattle.legal.proofs.MadeInputs.{client_made}
 use Rattle.settled.specs.ItsNodes.{HasServer, ClientsAreThere}
 use Rattle.origins.specs.Senders.{EachComesFromClient}
 use Rattle.origins.specs.Handed.{EachIsBrought}

@@ -46,7 +46,7 @@ use Rattle.legal.specs.Frame.{EachFrames}
 use Rattle.legal.specs.Actors.{IsGiven, delivered, hosted, ticks, IsActOf, Acted, idles, does, EachActs}
 use Rattle.legal.specs.MadeWire.{EachHistoryIsMade}
 use Rattle.legal.specs.Routes.{IsLetIn, Reaches, EachRoute}
-use Rattle.legal.proofs.MadeWire.{entry_input, client_made}
+use Rattle.legal.proofs.MadeInputs.{entry_input, client_made}
 use Rattle.legal.proofs.NatPasts.{set_up_past}
 use Rattle.settled.specs.ItsNodes.{HasServer, ClientsAreThere}
 use Rattle.origins.specs.Honest.{is_honest_event, are_honest}

@@ -33,7 +33,7 @@ use Rattle.legal.specs.Laws.{EachRelayIsJournal}
 use Rattle.legal.specs.Actors.{IsActOf}
 use Rattle.legal.specs.Makers.{MadeBy, from_nowhere, by_server, by_relay, by_client, by_native, to_six, EachItemIsMade}
 use Rattle.legal.specs.MadeWire.{EachHistoryIsMade}
-use Rattle.legal.proofs.MadeWire.{entry_input}
+use Rattle.legal.proofs.MadeInputs.{entry_input}
 use Rattle.legal.proofs.ItemsMade.{all_joined}
 use Rattle.origins.specs.Honest.{is_honest_event, are_honest}
 use Rattle.origins.specs.Senders.{EntryTellsWhereTo, EachEntryTellsWhereTo, forged, sent_by, ComesFromClient, EachComesFromClient}

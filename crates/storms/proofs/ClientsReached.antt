@@ -27,7 +27,7 @@ use Rattle.history.specs.Full.{Item, udp, six, Full}
 use Rattle.legal.specs.Lab.{Lab}
 use Rattle.legal.specs.Settings.{client_settings}
 use Rattle.legal.specs.Past.{journal, words}
-use Rattle.legal.proofs.MadeWire.{entry_input, client_made}
+use Rattle.legal.proofs.MadeInputs.{entry_input, client_made}
 use Rattle.settled.specs.ItsNodes.{HasServer}
 use Rattle.storms.specs.Weights.{is_nat_at, is_some_server, datagram_weight, weight_at, entry_weight}
 use Rattle.storms.specs.Burden.{waiting_packets, client_packet, waits_at}

@@ -48,7 +48,7 @@ use Rattle.legal.specs.NatGrowth.{EachNatGrows}
 use Rattle.legal.specs.Actors.{IsGiven, delivered, hosted, ticks, IsActOf, EachActs}
 use Rattle.legal.specs.MadeWire.{EachHistoryIsMade}
 use Rattle.legal.specs.Routes.{Reaches, EachRoute}
-use Rattle.legal.proofs.MadeWire.{entry_input, client_made}
+use Rattle.legal.proofs.MadeInputs.{entry_input, client_made}
 use Rattle.legal.proofs.NatPasts.{set_up_past}
 use Rattle.origins.specs.Honest.{are_honest}
 use Rattle.origins.specs.Senders.{EntryTellsWhereTo, EachEntryTellsWhereTo}

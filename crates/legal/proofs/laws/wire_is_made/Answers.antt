@@ -19,6 +19,7 @@ returns c = wires.each_history_is_made (record {
   server = c.each_output_is_made.ensures;
   client = c.each_send_is_bytes.ensures;
   short = c.each_send_is_short.ensures;
+  goes = c.each_send_goes_to_endpoint.ensures;
   relay = c.each_send_is_foreign.ensures;
   own = c.each_is_own_packet.ensures;
   reply = c.each_reply_is_made.ensures;
