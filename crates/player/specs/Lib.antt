@@ -6,3 +6,4 @@ pub mod Accounts
 pub mod CaptureLaws
 pub mod Endings
 pub mod Hearing
+pub mod Numbers

@@ -25,7 +25,7 @@
 //! | `player` | `play`, `play_flat` | `specs/Endings.antt` |
 //! | `report_writer`, `totals_writer`, `capture_writer` | three listeners | `specs/Accounts.antt` |
 //! | `entry_record` | the record of an entry in a capture | `specs/Capture.antt` |
-//! | `laws` | a history's capture is one | `specs/CaptureLaws.antt` |
+//! | `laws` | a history's capture is one; the numbers | `specs/CaptureLaws.antt`, `specs/Numbers.antt` |
 #![tactic(auto)]
 
 mod capture_writer;
@@ -39,7 +39,7 @@ mod totals_writer;
 
 pub use capture_writer::CaptureWriter;
 pub use entry_record::{MILLI_MICROS, SECOND_MS};
-pub use laws::pieces_are_a_capture;
+pub use laws::{moment_numbers, pieces_are_a_capture};
 pub use listener::Listener;
 pub use player::{PlayFault, play, play_flat};
 pub use report_writer::ReportWriter;
