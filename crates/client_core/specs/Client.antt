@@ -1,5 +1,6 @@
 -- What a client keeps, the journals that it stands for, and what a call does for each of them (RFC 4380, section 5.2).
-use Rattle.std.specs.Prelude.{◌≡◌, ◌≤◌, ◌<◌, ℕ, true, List, Some, is_some, unwrap_or}
+use Rattle.std.specs.Prelude.{◌≡◌, ◌≤◌, ◌<◌, ℕ, true, List, map, Option, Some, is_some, unwrap_or}
+use Rattle.rand_chacha.specs.ChaCha.{ChaCha}
 use Rattle.td_base.specs.declared.ipv6.Ip6.{Ip6}
 use Rattle.td_base.specs.declared.endpoint.Ep.{Ep}
 use Rattle.td_outside.specs.declared.clock.TheConstants.{CLOCK_END_MS}
@@ -12,8 +13,8 @@ use Rattle.teredo_node.specs.declared.fate.Fate.{Fate}
 use Rattle.teredo_node.specs.declared.fate.Fate.TheVariants as fate
 use Rattle.teredo_node.specs.Step.{Step}
 use Rattle.teredo_node.specs.Journal.{Input, arrived, given, Entry, Journal, with_entry, Words}
-use Rattle.peer_list.specs.Peers.{peer_at}
-use Rattle.peer_list.specs.Table.{peer_in, has_room_in, waiting_in}
+use Rattle.peer_list.specs.Peers.{Peer, peer_at}
+use Rattle.peer_list.specs.Table.{peer_in, known_to, listed_in, has_room_in, waiting_in}
 use Rattle.peer_list.specs.Calls.{Keeps}
 use Rattle.peer_list.specs.Stands.{StandsForMentions}
 use Rattle.qualify.specs.declared.settings.Settings.{Settings}
@@ -31,9 +32,25 @@ use Rattle.client_rules.specs.TakenPlaces.{TakesPlace}
 abbrev pub settings_of : Client → Settings
 settings_of c = c.qualifier.settings
 
+-- whence it draws its words
+abbrev pub generator_of : Client → ChaCha
+generator_of c = c.rng
+
 -- the words that it draws next
 abbrev pub words_ahead : Client → Words
-words_ahead c = words_of c.rng
+words_ahead c = words_of (generator_of c)
+
+-- it may be called from this moment on: the one of its latest call since it started
+abbrev pub callable_from : Client → ℕ
+callable_from c = c.peers.moment
+
+-- when its phase or its refresh is due
+abbrev pub own_due : Client → Option ℕ
+own_due c = c.qualifier.now.due
+
+-- what it knows of each peer that is listed at a moment
+abbrev pub listed_peers : Client → ℕ → List Peer
+listed_peers c n = map (known_to c.peers n) (listed_in c.peers n)
 
 -- qualification is what the journal says, and so is what is known of each address
 pub record ClientStandsFor (c : Client) (j : Journal) : Type 0 where
@@ -42,7 +59,7 @@ pub record ClientStandsFor (c : Client) (j : Journal) : Type 0 where
 
 -- it may be called at n: at no moment before that of an earlier call, and while a clock runs
 pub record IsCallable (c : Client) (n : ℕ) : Type 0 where
-  pub clock : c.peers.moment ≤ n
+  pub clock : callable_from c ≤ n
   pub early : n < CLOCK_END_MS
 
 -- how it stands to an address at n: what the tables read
@@ -65,14 +82,14 @@ next_entry c j n input = client_entry (settings_of c) j n input (words_ahead c)
 pub record Does (old : Client) (n : ℕ) (input : Input) (step : Step) (new : Client) : Type 0 where
   pub did : (j : Journal) → ClientStandsFor old j → step ≡ (next_entry old j n input).step
   pub stands : (j : Journal) → ClientStandsFor old j → ClientStandsFor new (with_entry j (next_entry old j n input))
-  pub place : new.rng ≡ after_words step.drawn old.rng
+  pub place : generator_of new ≡ after_words step.drawn (generator_of old)
   pub settings : settings_of new ≡ settings_of old
-  pub clock : new.peers.moment ≤ n
+  pub clock : callable_from new ≤ n
 
 -- it is as before: it stands for what it stood for, and draws the same words next
 pub record AsBefore (old new : Client) : Type 0 where
   pub stands : (j : Journal) → ClientStandsFor old j → ClientStandsFor new j
-  pub words : new.rng ≡ old.rng
+  pub words : generator_of new ≡ generator_of old
   pub settings : settings_of new ≡ settings_of old
 
 -- WHERE MEMORY MAY BE WANTING
@@ -91,9 +108,9 @@ WantsQueue c n x = (j : Journal) → ClientStandsFor c j → (next_entry c j n (
 -- for each journal that it stood for it stands for that journal with this entry, whose words were drawn
 pub record Enters (old : Client) (e : Entry) (new : Client) : Type 0 where
   pub stands : (j : Journal) → ClientStandsFor old j → ClientStandsFor new (with_entry j e)
-  pub place : new.rng ≡ after_words e.step.drawn old.rng
+  pub place : generator_of new ≡ after_words e.step.drawn (generator_of old)
   pub settings : settings_of new ≡ settings_of old
-  pub clock : new.peers.moment ≤ e.moment
+  pub clock : callable_from new ≤ e.moment
 
 -- memory was wanting, and nothing changed but that those who aren't listed may have been taken out
 pub record KeepsAll (old : Client) (n : ℕ) (new : Client) : Type 0 where
@@ -122,9 +139,9 @@ pub record TakesPayload (old : Client) (n : ℕ) (from : Ep) (v : Value) (f : Fa
       → step ≡ reception_step (settings_of old) (standing_in old n v.packet.src) from x v (words_ahead old) f
   pub stands : (j : Journal) (x : List ℕ) → ClientStandsFor old j → IsDatagramOf x v
       → ClientStandsFor new (with_entry j (entry_about old n from x v.packet.src step))
-  pub place : new.rng ≡ after_words step.drawn old.rng
+  pub place : generator_of new ≡ after_words step.drawn (generator_of old)
   pub settings : settings_of new ≡ settings_of old
-  pub clock : new.peers.moment ≤ n
+  pub clock : callable_from new ≤ n
 
 -- memory was wanting by the line of a fate of a payload, and all is kept
 pub record KeepsPlace (old : Client) (n : ℕ) (v : Value) (f : Fate) (new : Client) : Type 0 where

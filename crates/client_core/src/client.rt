@@ -5,7 +5,7 @@ ghost use Rattle.teredo_node.specs.Journal.{Journal, from_six};
 ghost use Rattle.qualify.specs.Qualification.{qualification};
 ghost use Rattle.qualify.specs.Qualifier.{IsSettings};
 ghost use Rattle.qualify.specs.Solicitations.{is_qualified};
-ghost use Rattle.client_core.specs.Client.{settings_of, ClientStandsFor, IsCallable, Does};
+ghost use Rattle.client_core.specs.Client.{settings_of, generator_of, callable_from, ClientStandsFor, IsCallable, Does};
 ghost use Rattle.client_rules.specs.Journals.{journal};
 
 use crate::below::below;
@@ -37,8 +37,8 @@ impl Client {
         requires early { now.0 < CLOCK_END_MS }
         ensures stands { ClientStandsFor result (journal now.0 []) }
         ensures settings { settings_of result ≡ s }
-        ensures words { result.rng ≡ rng }
-        ensures clock { result.peers.moment ≡ 0 }
+        ensures words { generator_of result ≡ rng }
+        ensures clock { callable_from result ≡ 0 }
     {
         Client {
             qualifier: Qualifier::start(s, now),
@@ -52,8 +52,8 @@ impl Client {
         requires early { now.0 < CLOCK_END_MS }
         ensures stands { ClientStandsFor self.new (journal now.0 []) }
         ensures settings { settings_of self.new ≡ settings_of self.old }
-        ensures words { self.new.rng ≡ self.old.rng }
-        ensures clock { self.new.peers.moment ≡ 0 }
+        ensures words { generator_of self.new ≡ generator_of self.old }
+        ensures clock { callable_from self.new ≡ 0 }
     {
         self.qualifier = Qualifier::start(*self.qualifier.settings(), now);
         self.peers.clear();

@@ -7,7 +7,7 @@ use Rattle.teredo_node.specs.Journal.{Input, arrived, given, from_six, ticked, E
 use Rattle.rand_chacha.specs.ChaCha.{ChaCha}
 use Rattle.qualify.specs.Generator.{words_of, after_words}
 use Rattle.client_core.specs.declared.client.Client.{Client}
-use Rattle.client_core.specs.Client.{ClientStandsFor, next_entry, Does}
+use Rattle.client_core.specs.Client.{generator_of, ClientStandsFor, next_entry, Does}
 use Rattle.client_rules.specs.Journals.{client_entry}
 use Rattle.relay_core.specs.declared.relay.Relay.{Relay}
 use Rattle.relay_core.specs.Relay.{RelayStandsFor}
@@ -70,7 +70,7 @@ module _ (lab : Lab) (H : List Full) (x : Call) (row : ClientNode) (is : Client)
   client_kept step new law done = record {
     settings = done.settings ∙ kept.settings;
     stands = subst (λ (e : Entry). ClientStandsFor new (with_entry (journal x.node H) e)) client_next (done.stands (journal x.node H) kept.stands);
-    words = ap (λ (g : ChaCha). words_of g) done.place ∙ (λ i k. law is.rng step.drawn k i) ∙ (λ i k. kept.words i ((client_did step new done i).drawn + k));
+    words = ap (λ (g : ChaCha). words_of g) done.place ∙ (λ i k. law (generator_of is) step.drawn k i) ∙ (λ i k. kept.words i ((client_did step new done i).drawn + k));
   }
 
   pub client_starves : ClientStarves is x.now.0 (input_lent x.input) → (sendings lab H x.now.0 (entry_in lab H x (client row)) (client row)).made ≡ [] → takes_memory (entry_in lab H x (client row)).step.fate ≡ true

@@ -3,6 +3,8 @@ mod Rows
 mod NodeLists
 mod Served
 mod Dues
+mod NodesFrom
+mod PeerSums
 mod DueMoments
 mod Waiting
 mod Arrivals

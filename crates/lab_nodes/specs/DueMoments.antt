@@ -1,7 +1,7 @@
 -- All due moments of the nodes, by what is kept of them.
 use Rattle.std.specs.Prelude.{◌≡◌, ℕ, List, [], ◌++◌, flat_map, sum_by, option_to_list}
-use Rattle.td_base.specs.declared.ipv6.Ip6.{Ip6}
-use Rattle.peer_list.specs.Table.{Table, known_to, listed_in}
+use Rattle.relay_core.specs.Relay as relays
+use Rattle.client_core.specs.Client.{own_due, listed_peers}
 use Rattle.topology.specs.Topology.{nodes}
 use Rattle.history.specs.Full.{Full}
 use Rattle.legal.specs.Lab.{Lab}
@@ -12,14 +12,10 @@ use Rattle.lab_nodes.specs.declared.played_node.PlayedNode.{PlayedNode}
 use Rattle.lab_nodes.specs.declared.played_node.PlayedNode.TheVariants as played
 use Rattle.lab_nodes.specs.PlayedNode.{NodesOf, AreReady}
 
--- of all peers that a table lists at a moment
-abbrev pub peers_due : Table → ℕ → List ℕ
-peers_due t m = flat_map (λ (p : Ip6). waits_until (known_to t m p)) (listed_in t m)
-
 -- all of a node: a client's phase or refresh, and its peers; a relay's peers
 abbrev pub due_moments : ℕ → PlayedNode → List ℕ
-due_moments m (played.Client row is) = option_to_list is.qualifier.now.due ++ peers_due is.peers m
-due_moments m (played.Relay row is) = peers_due is.peers m
+due_moments m (played.Client row is) = option_to_list (own_due is) ++ flat_map waits_until (listed_peers is m)
+due_moments m (played.Relay row is) = flat_map waits_until (relays.listed_peers is m)
 due_moments m _ = []
 
 abbrev pub all_due : ℕ → List PlayedNode → List ℕ

@@ -8,7 +8,7 @@ use Rattle.relay_core.specs.declared.relay.Relay.{Relay}
 use Rattle.relay_core.specs.Relay.{RelayStandsFor}
 use Rattle.relay_core.specs.Relay as relays
 use Rattle.client_core.specs.declared.client.Client.{Client}
-use Rattle.client_core.specs.Client.{settings_of, words_ahead, ClientStandsFor}
+use Rattle.client_core.specs.Client.{settings_of, words_ahead, callable_from, ClientStandsFor}
 use Rattle.topology.specs.Rows.{TopologyState}
 use Rattle.topology.specs.declared.node.Node.{Node}
 use Rattle.topology.specs.declared.node.Node.TheVariants.{Server as server, Nat as nat, Client as client, Relay as relay, Native as native}
@@ -72,8 +72,8 @@ pub record NodesOf (lab : Lab) (list : List PlayedNode) (H : List Full) : Type 0
 abbrev pub IsReady : ℕ → PlayedNode → Type 0
 IsReady m (played.Server row) = Unit {0}
 IsReady m (played.Nat row) = Unit {0}
-IsReady m (played.Client row is) = is.peers.moment ≤ m
-IsReady m (played.Relay row is) = is.peers.moment ≤ m
+IsReady m (played.Client row is) = callable_from is ≤ m
+IsReady m (played.Relay row is) = relays.callable_from is ≤ m
 IsReady m (played.Native row) = Unit {0}
 
 abbrev pub AreReady : ℕ → List PlayedNode → Type 0

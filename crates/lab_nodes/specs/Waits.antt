@@ -1,7 +1,8 @@
 -- The packets that wait in the nodes, by what is kept of them.
 use Rattle.std.specs.Prelude.{◌≡◌, ℕ, List, [], flat_map, map, sum}
-use Rattle.td_base.specs.declared.ipv6.Ip6.{Ip6}
-use Rattle.peer_list.specs.Table.{Table, known_to, listed_in}
+use Rattle.peer_list.specs.Peers.{Peer}
+use Rattle.relay_core.specs.Relay as relays
+use Rattle.client_core.specs.Client.{listed_peers}
 use Rattle.history.specs.Full.{Full}
 use Rattle.legal.specs.Lab.{Lab}
 use Rattle.legal.specs.Past.{now}
@@ -11,14 +12,14 @@ use Rattle.lab_nodes.specs.declared.played_node.PlayedNode.{PlayedNode}
 use Rattle.lab_nodes.specs.declared.played_node.PlayedNode.TheVariants as played
 use Rattle.lab_nodes.specs.PlayedNode.{NodesOf, AreReady}
 
--- those that wait for all peers that a table lists at a moment
-abbrev pub waiting_packets : Table → ℕ → List (List ℕ)
-waiting_packets t m = flat_map (λ (p : Ip6). (known_to t m p).waiting) (listed_in t m)
+-- those that wait for these peers
+abbrev pub waiting_packets : List Peer → List (List ℕ)
+waiting_packets peers = flat_map (λ (peer : Peer). peer.waiting) peers
 
 -- their weights in a node
 abbrev pub waits_at : ℕ → PlayedNode → List ℕ
-waits_at m (played.Client row is) = map client_packet (waiting_packets is.peers m)
-waits_at m (played.Relay row is) = map relay_packet (waiting_packets is.peers m)
+waits_at m (played.Client row is) = map client_packet (waiting_packets (listed_peers is m))
+waits_at m (played.Relay row is) = map relay_packet (waiting_packets (relays.listed_peers is m))
 waits_at m _ = []
 
 -- in all nodes

@@ -1,7 +1,7 @@
 //! What a client does with what comes to it, and the address that it gets.
 ghost use Rattle.std.specs.Prelude.{◌≡◌, ◌≤◌, ℕ, List, None, OnOk, OnErr, IfOk};
 ghost use Rattle.teredo_node.specs.Journal.{Entry};
-ghost use Rattle.client_core.specs.Client.{IsCallable, Does};
+ghost use Rattle.client_core.specs.Client.{callable_from, IsCallable, Does};
 ghost use Rattle.qualify.specs.Turns.{turn};
 ghost use Rattle.topology.specs.declared.node.Node.TheVariants as rows;
 ghost use Rattle.history.specs.Full.{Full};
@@ -28,7 +28,7 @@ fn ask_client(client: &mut Client, call: Call<'_>, step: &mut Step) -> Result<()
     requires callable { IsCallable client.old call.now.0 }
     ensures done { OnOk result (Does client.old call.entry.now.0 (input_lent call.entry.input) step.new client.new) }
     ensures starved { OnErr result (ClientStarves client.old call.entry.now.0 (input_lent call.entry.input)) }
-    ensures again { client.new.peers.moment ≤ call.entry.now.0 }
+    ensures again { callable_from client.new ≤ call.entry.now.0 }
 {
     client_rules::fate_of_reception();
     client_rules::reception_is_warranted();
@@ -80,7 +80,7 @@ pub fn answer_client(
     step: &mut Step,
 ) -> Result<Asked, NoMemory>
     requires callable { IsCallable client.old call.now.0 }
-    ensures ready { client.new.peers.moment ≤ call.entry.now.0 }
+    ensures ready { callable_from client.new ≤ call.entry.now.0 }
     ensures answers { IfOk result (λ asked. AnswersCall call.entry (played.Client row client.old) (played.Client row client.new) step.new asked) }
     ensures none { IfOk result (λ asked. asked.packet ≡ None) }
     ensures wants { OnErr result (Wants call.entry (played.Client row client.old)) }

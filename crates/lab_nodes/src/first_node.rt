@@ -7,6 +7,8 @@ ghost use Rattle.legal.specs.Lab.{draws, stream_key, lab_on};
 ghost use Rattle.legal.specs.Past.{new_journal};
 ghost use Rattle.legal.specs.Settings.{primary_of, secondary_of, client_settings, served, relay_settings};
 ghost use Rattle.qualify.specs.Qualifier.{IsSettings};
+ghost use Rattle.relay_core.specs.Relay as relays;
+ghost use Rattle.client_core.specs.Client.{callable_from};
 ghost use Rattle.lab_nodes.specs.PlayedNode.{row_of, past_of, IsClientOf, IsRelayOf, IsKept, NodesOf, IsReady, AreReady};
 
 use crate::played_node::PlayedNode;
@@ -70,7 +72,7 @@ fn first_client(
 ) -> Client
     requires settings { IsSettings (client_settings topology.now row) }
     ensures kept { IsClientOf (client_settings topology.now row) result (new_journal 0) (λ k. draws seed number (0 + k)) }
-    ensures moment { result.peers.moment ≡ 0 }
+    ensures moment { callable_from result ≡ 0 }
 {
     let rng = ChaCha20Rng::from_seed(stream_seed(seed, number));
     Client::new(alloc, settings_of(topology, row), rng, Millis(0))
@@ -97,7 +99,7 @@ fn first_relay(
     row: RelayNode,
 ) -> Result<Relay, NoMemory>
     ensures kept { IfOk result (λ relay. IsRelayOf (relay_settings topology.now number row) relay []) }
-    ensures moment { IfOk result (λ relay. relay.peers.moment ≡ 0) }
+    ensures moment { IfOk result (λ relay. relays.callable_from relay ≡ 0) }
 {
     let list = served(alloc, topology, number)?;
     Ok(Relay::new(alloc, row.at, row.six, Policy::Strict, list))

@@ -12,12 +12,14 @@ pub fn rows_keep_rules()
 pub fn due_as_in_the_past()
     ensures { EachSumIsOfThePast }
 {
-    peer_list::table_is_read();
+    client_core::client_is_read();
+    relay_core::relay_is_read();
 }
 
 /// What waits in what is kept of the nodes weighs as much as what waits by their pasts.
 pub fn waits_as_in_the_past()
     ensures { EachWaitsAsInThePast }
 {
-    peer_list::table_is_read();
+    client_core::client_is_read();
+    relay_core::relay_is_read();
 }

@@ -22,7 +22,7 @@ fn ask_relay(relay: &mut Relay, call: Call<'_>, step: &mut Step) -> Result<(), N
     requires callable { relays.IsCallable relay.old call.now.0 }
     ensures done { OnOk result (relays.Does relay.old call.entry.now.0 (input_lent call.entry.input) step.new relay.new) }
     ensures starved { OnErr result (RelayStarves relay.old call.entry.now.0 (input_lent call.entry.input)) }
-    ensures again { relay.new.peers.moment ≤ call.entry.now.0 }
+    ensures again { relays.callable_from relay.new ≤ call.entry.now.0 }
 {
     relay_rules::fate_of_transmission();
     match call.input {
@@ -51,7 +51,7 @@ pub fn answer_relay(
 ) -> Result<Asked, NoMemory>
     requires callable { relays.IsCallable relay.old call.now.0 }
     requires short { IsShortInput (input_lent call.input) }
-    ensures ready { relay.new.peers.moment ≤ call.entry.now.0 }
+    ensures ready { relays.callable_from relay.new ≤ call.entry.now.0 }
     ensures answers { IfOk result (λ asked. AnswersCall call.entry (played.Relay row relay.old) (played.Relay row relay.new) step.new asked) }
     ensures short { IfOk result (λ asked. IfSome asked.packet (λ packet. length packet.bytes ≤ DATAGRAM_MAX)) }
     ensures wants { OnErr result (Wants call.entry (played.Relay row relay.old)) }

@@ -1,5 +1,5 @@
 -- What a relay keeps, the journals that it stands for, and what a call does for each of them (RFC 4380, section 5.4).
-use Rattle.std.specs.Prelude.{◌≡◌, ◌≤◌, ◌<◌, ◌+◌, ℕ, Bool, true, false, List, ◌∷◌, length, Some, None, is_some, unwrap_or}
+use Rattle.std.specs.Prelude.{◌≡◌, ◌≤◌, ◌<◌, ◌+◌, ℕ, Bool, true, false, List, ◌∷◌, length, map, Some, None, is_some, unwrap_or}
 use Rattle.td_base.specs.declared.ipv6.Ip6.{Ip6}
 use Rattle.td_base.specs.declared.endpoint.Ep.{Ep}
 use Rattle.td_outside.specs.declared.clock.TheConstants.{CLOCK_END_MS}
@@ -11,8 +11,8 @@ use Rattle.teredo_node.specs.declared.fate.Fate.{Fate}
 use Rattle.teredo_node.specs.declared.fate.Fate.TheVariants as fate
 use Rattle.teredo_node.specs.Step.{Step}
 use Rattle.teredo_node.specs.Journal.{Input, arrived, from_six, Entry}
-use Rattle.peer_list.specs.Peers.{peer_at}
-use Rattle.peer_list.specs.Table.{Table, peer_in, known_to, has_room_in}
+use Rattle.peer_list.specs.Peers.{Peer, peer_at}
+use Rattle.peer_list.specs.Table.{Table, peer_in, known_to, listed_in, has_room_in}
 use Rattle.peer_list.specs.Calls.{Keeps}
 use Rattle.peer_list.specs.Stands.{StandsForMentions}
 use Rattle.relay_core.specs.declared.relay.Relay.{Relay}
@@ -26,6 +26,14 @@ use Rattle.relay_rules.specs.Laws.{IsQuiet}
 abbrev pub settings_of : Relay → RelaySettings
 settings_of r = record { at = r.at; six = r.six; policy = r.policy; served = r.served.items }
 
+-- it may be called from this moment on: the one of its latest call since it started
+abbrev pub callable_from : Relay → ℕ
+callable_from r = r.peers.moment
+
+-- what it knows of each peer that is listed at a moment
+abbrev pub listed_peers : Relay → ℕ → List Peer
+listed_peers r n = map (known_to r.peers n) (listed_in r.peers n)
+
 -- what is known of each address is what the journal says, and one with the cone bit has no tries and nothing waiting
 pub record RelayStandsFor (r : Relay) (j : List Entry) : Type 0 where
   pub peers : StandsForMentions r.peers (mentions j)
@@ -33,7 +41,7 @@ pub record RelayStandsFor (r : Relay) (j : List Entry) : Type 0 where
 
 -- it may be called at n: at no moment before that of an earlier call, and while a clock runs
 pub record IsCallable (r : Relay) (n : ℕ) : Type 0 where
-  pub clock : r.peers.moment ≤ n
+  pub clock : callable_from r ≤ n
   pub early : n < CLOCK_END_MS
 
 -- how it stands to an address at n: what the tables read
@@ -55,7 +63,7 @@ pub record Does (old : Relay) (n : ℕ) (input : Input) (step : Step) (new : Rel
   pub did : (j : List Entry) → RelayStandsFor old j → step ≡ (next_entry old j n input).step
   pub stands : (j : List Entry) → RelayStandsFor old j → RelayStandsFor new (next_entry old j n input ∷ j)
   pub settings : settings_of new ≡ settings_of old
-  pub clock : new.peers.moment ≤ n
+  pub clock : callable_from new ≤ n
 
 -- it is as before: it stands for what it stood for
 pub record AsBefore (old new : Relay) : Type 0 where
@@ -79,7 +87,7 @@ WantsMemory r n x = (j : List Entry) → RelayStandsFor r j → TakesRoom r n x 
 pub record RelayEnters (old : Relay) (e : Entry) (new : Relay) : Type 0 where
   pub stands : (j : List Entry) → RelayStandsFor old j → RelayStandsFor new (e ∷ j)
   pub settings : settings_of new ≡ settings_of old
-  pub clock : new.peers.moment ≤ e.moment
+  pub clock : callable_from new ≤ e.moment
 
 -- memory was wanting, and nothing changed but that others may have been taken out
 pub record RelayKeepsAll (old : Relay) (n : ℕ) (new : Relay) : Type 0 where
@@ -101,4 +109,4 @@ pub record RelayTakesPayload (old : Relay) (n : ℕ) (from : Ep) (v : Value) (f 
   pub did : (x : List ℕ) → IsPayloadOf x v → step ≡ reception_step (relay_standing_in old n v.packet.src) x v f
   pub stands : (j : List Entry) (x : List ℕ) → RelayStandsFor old j → RelayStandsFor new (relay_entry_about n from x v.packet.src step ∷ j)
   pub settings : settings_of new ≡ settings_of old
-  pub clock : new.peers.moment ≤ n
+  pub clock : callable_from new ≤ n

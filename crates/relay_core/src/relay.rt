@@ -1,7 +1,7 @@
 //! A relay.
 ghost use Rattle.std.specs.Prelude.{◌≡◌, ℕ, List, []};
 ghost use Rattle.teredo_node.specs.Journal.{given};
-ghost use Rattle.relay_core.specs.Relay.{settings_of, RelayStandsFor, IsCallable, Does};
+ghost use Rattle.relay_core.specs.Relay.{settings_of, callable_from, RelayStandsFor, IsCallable, Does};
 
 use crate::below::below;
 use peer_list::Peers;
@@ -30,7 +30,7 @@ impl Relay {
     pub fn new(alloc: Global, at: Ep, six: Ip6, policy: Policy, served: Vec<Ip6>) -> Relay
         ensures stands { RelayStandsFor result [] }
         ensures settings { settings_of result ≡ record { at = at; six = six; policy = policy; served = served.items } }
-        ensures clock { result.peers.moment ≡ 0 }
+        ensures clock { callable_from result ≡ 0 }
     {
         Relay {
             at,
@@ -54,7 +54,7 @@ impl Relay {
     pub fn restart(&mut self)
         ensures stands { RelayStandsFor self.new [] }
         ensures settings { settings_of self.new ≡ settings_of self.old }
-        ensures clock { self.new.peers.moment ≡ 0 }
+        ensures clock { callable_from self.new ≡ 0 }
     {
         self.peers.clear();
     }
