@@ -1,9 +1,7 @@
 -- What is done with a payload by one line.
-use Rattle.std.proofs.Common.{◌≡◌, ◌≤◌, ◌+◌, ◌-◌, ◌∙◌, ℕ, false, List, [], ◌∷◌, length, Option, Some, None, refl, ap, sym, subst, arith}
-use Rattle.std.specs.Prelude.{true, map, option_to_list, is_some}
+use Rattle.std.proofs.Common.{◌≡◌, ◌≤◌, ◌+◌, ◌-◌, ℕ, false, List, [], ◌∷◌, length, Option, Some, None, refl, ap, sym, subst, arith}
+use Rattle.std.specs.Prelude.{map, option_to_list}
 use Rattle.std.proofs.Math.Nat.{le_refl}
-use Rattle.ipv6_packet.specs.Packets.{packet_bytes}
-use Rattle.bubble.specs.PacketsIn.{packet_in}
 use Rattle.td_base.specs.declared.endpoint.Ep.{Ep}
 use Rattle.td_base.specs.declared.span.Span.{Span}
 use Rattle.indications.specs.Leads.{origin_in}
@@ -12,29 +10,30 @@ use Rattle.teredo_node.specs.declared.fate.Fate.{Fate}
 use Rattle.teredo_node.specs.declared.fate.Fate.TheVariants as fate
 use Rattle.teredo_node.specs.Step.{Step, just, rest_of}
 use Rattle.teredo_node.specs.Sends.{sending, releases}
-use Rattle.teredo_node.specs.Words.{nonce_from}
 use Rattle.teredo_node.specs.Journal.{Entry, Journal, is_changed, with_entry}
-use Rattle.peer_list.specs.Mentions.{Bearing, no_bearing}
 use Rattle.peer_list.specs.Peers.{Peer}
 use Rattle.peer_list.specs.Laws.{after}
-use Rattle.peer_list.specs.Table.{peer_in, known_to}
-use Rattle.peer_list.specs.Calls.{Updates, trusted_at, heard_at, tried_at, held_at}
+use Rattle.peer_list.specs.Table.{known_to}
+use Rattle.peer_list.specs.Calls.{Updates, trusted_at, heard_at, tried_at}
 use Rattle.peer_list.specs.Stands.{bears_nothing}
 use Rattle.qualify.specs.Turns.{turn, says_nothing}
 use Rattle.qualify.specs.Generator.{after_words}
 use Rattle.qualify.specs.Qualifier.{QualifierState, StandsFor, IsOfServer}
 use Rattle.qualify.specs.Solicitations.{own_address}
 use Rattle.client_core.specs.declared.client.Client.{Client}
-use Rattle.client_rules.specs.Bearings.{held_of, mention}
+use Rattle.client_rules.specs.Bearings.{mention}
 use Rattle.client_rules.specs.Tries.{direct_bubble}
 use Rattle.client_rules.specs.Reception.{hands_late, reception_step}
 use Rattle.client_core.specs.Client.{settings_of, words_ahead, standing_in, IsDatagramOf, TakesPayload, entry_about}
-use Rattle.client_core.specs.Lines.{DropsDatagram, tested, OnlyPeers}
+use Rattle.client_core.specs.Lines.{DropsDatagram, OnlyPeers}
 use Rattle.client_core.specs.Below.{BelowClient}
-use Rattle.client_core.proofs.Entered.{Bears, bears_enters, peers_on, none_enters}
+use Rattle.client_core.proofs.Entered.{bears_enters, peers_on, none_enters}
 
--- what was done with a payload, and that of its source this is known then
-pub record Acts (old : Client) (n : ℕ) (from : Ep) (v : Value) (step : Step) (peer : Peer) (new : Client) : Type 0 where
+-- what the line of a fate did with a payload, and that of its source this is known then
+pub record Acts (old : Client) (n : ℕ) (from : Ep) (v : Value) (f : Fate) (new : Client) : Type 0 where
+  pub step : Step
+  pub peer : Peer
+  pub did : (x : List ℕ) → IsDatagramOf x v → step ≡ reception_step (settings_of old) (standing_in old n v.packet.src) from x v (words_ahead old) f
   pub clock : old.peers.moment ≤ n
   pub peers : Updates old.peers new.peers n v.packet.src peer
   pub means : (x : List ℕ) → IsDatagramOf x v → after (mention (entry_about old n from x v.packet.src step)) (known_to old.peers n v.packet.src) ≡ peer
@@ -43,21 +42,21 @@ pub record Acts (old : Client) (n : ℕ) (from : Ep) (v : Value) (step : Step) (
   pub qualifier : new.qualifier ≡ old.qualifier
   pub place : new.rng ≡ after_words step.drawn old.rng
 
-bears : (old new : Client) (n : ℕ) (from : Ep) (v : Value) (step : Step) (peer : Peer) → Acts old n from v step peer new
-    → (x : List ℕ) → IsDatagramOf x v → Bears old (entry_about old n from x v.packet.src step) v.packet.src new
-bears old new n from v step peer a x is = record {
-  of_peer = record { peer = refl; epoch = a.epoch; clock = a.clock; peers = subst (λ (p : Peer). Updates old.peers new.peers n v.packet.src p) (sym (a.means x is)) a.peers };
-  quiet = a.quiet;
-  qualifier = a.qualifier;
-  place = a.place;
-}
-
-pub acts_receives : (law : BelowClient) (old new : Client) (n : ℕ) (from : Ep) (v : Value) (f : Fate) (step : Step) (peer : Peer) → Acts old n from v step peer new
-    → ((x : List ℕ) → IsDatagramOf x v → step ≡ reception_step (settings_of old) (standing_in old n v.packet.src) from x v (words_ahead old) f)
-    → TakesPayload old n from v f step new
-acts_receives law old new n from v f step peer a did = record {
-  did = λ j x h is. did x is;
-  stands = λ j x h is. (bears_enters law old new (entry_about old n from x v.packet.src step) v.packet.src (bears old new n from v step peer a x is)).stands j h;
+pub acts_receives : (law : BelowClient) (old new : Client) (n : ℕ) (from : Ep) (v : Value) (f : Fate) (a : Acts old n from v f new)
+    → TakesPayload old n from v f a.step new
+acts_receives law old new n from v f a = record {
+  did = λ j x h is. a.did x is;
+  stands = λ j x h is. (bears_enters law old new (entry_about old n from x v.packet.src a.step) v.packet.src (record {
+    of_peer = record {
+      peer = refl;
+      epoch = a.epoch;
+      clock = a.clock;
+      peers = subst (λ (p : Peer). Updates old.peers new.peers n v.packet.src p) (sym (a.means x is)) a.peers;
+    };
+    quiet = a.quiet;
+    qualifier = a.qualifier;
+    place = a.place;
+  })).stands j h;
   place = a.place;
   settings = ap (λ (q : QualifierState). q.settings) a.qualifier;
   clock = subst (λ (m : ℕ). m ≤ n) (sym a.peers.moment) (le_refl n);
@@ -107,37 +106,82 @@ handed_there c n from v = record (heard_there c n from v fate.Rule1) { handed = 
 pub rule1 : (law : BelowClient) (old new : Client) (n : ℕ) (from : Ep) (v : Value) → OnlyPeers old n v.packet.src (heard old n v) new → TakesPayload old n from v fate.Rule1 (handed_there old n from v) new
 unfolding after_words
 rule1 law old new n from v o =
-    acts_receives law old new n from v fate.Rule1 (handed_there old n from v) (heard old n v)
-    (record { clock = o.clock; peers = o.peers; means = λ x is. (law.peers.calls_of_an_entry n (known_to old.peers n v.packet.src) (Some v.packet.src)).hear; epoch = refl; quiet = refl; qualifier = o.qualifier; place = o.rng })
-    (λ x is. ap (λ (s : Span). record (heard_there old n from v fate.Rule1) { handed = Some s }) (sym (rest_is x v is)))
+    acts_receives law old new n from v fate.Rule1 (record {
+      step = handed_there old n from v;
+      peer = heard old n v;
+      did = λ x is. ap (λ (s : Span). record (heard_there old n from v fate.Rule1) { handed = Some s }) (sym (rest_is x v is));
+      clock = o.clock;
+      peers = o.peers;
+      means = λ x is. (law.peers.calls_of_an_entry n (known_to old.peers n v.packet.src) (Some v.packet.src)).hear;
+      epoch = refl;
+      quiet = refl;
+      qualifier = o.qualifier;
+      place = o.rng;
+    })
 
 pub rule1_bubble : (law : BelowClient) (old new : Client) (n : ℕ) (from : Ep) (v : Value) → OnlyPeers old n v.packet.src (heard old n v) new → TakesPayload old n from v fate.Rule1Bubble (heard_there old n from v fate.Rule1Bubble) new
 unfolding after_words
 rule1_bubble law old new n from v o =
-    acts_receives law old new n from v fate.Rule1Bubble (heard_there old n from v fate.Rule1Bubble) (heard old n v)
-    (record { clock = o.clock; peers = o.peers; means = λ x is. (law.peers.calls_of_an_entry n (known_to old.peers n v.packet.src) (Some v.packet.src)).hear; epoch = refl; quiet = refl; qualifier = o.qualifier; place = o.rng })
-    (λ x is. refl)
+    acts_receives law old new n from v fate.Rule1Bubble (record {
+      step = heard_there old n from v fate.Rule1Bubble;
+      peer = heard old n v;
+      did = λ x is. refl;
+      clock = o.clock;
+      peers = o.peers;
+      means = λ x is. (law.peers.calls_of_an_entry n (known_to old.peers n v.packet.src) (Some v.packet.src)).hear;
+      epoch = refl;
+      quiet = refl;
+      qualifier = o.qualifier;
+      place = o.rng;
+    })
 
 pub rule2 : (law : BelowClient) (old new : Client) (n : ℕ) (from : Ep) (v : Value) → OnlyPeers old n v.packet.src (trusted old n from v) new → TakesPayload old n from v fate.Rule2 (hands_late from (known_to old.peers n v.packet.src)) new
 unfolding after_words
 rule2 law old new n from v o =
-    acts_receives law old new n from v fate.Rule2 (hands_late from (known_to old.peers n v.packet.src)) (trusted old n from v)
-    (record { clock = o.clock; peers = o.peers; means = λ x is. (law.peers.calls_of_an_entry n (known_to old.peers n v.packet.src) (Some v.packet.src)).trust_and_hear from; epoch = refl; quiet = refl; qualifier = o.qualifier; place = o.rng })
-    (λ x is. refl)
+    acts_receives law old new n from v fate.Rule2 (record {
+      step = hands_late from (known_to old.peers n v.packet.src);
+      peer = trusted old n from v;
+      did = λ x is. refl;
+      clock = o.clock;
+      peers = o.peers;
+      means = λ x is. (law.peers.calls_of_an_entry n (known_to old.peers n v.packet.src) (Some v.packet.src)).trust_and_hear from;
+      epoch = refl;
+      quiet = refl;
+      qualifier = o.qualifier;
+      place = o.rng;
+    })
 
 pub rule3 : (law : BelowClient) (old new : Client) (n : ℕ) (from : Ep) (v : Value) → OnlyPeers old n v.packet.src (trusted old n from v) new → TakesPayload old n from v fate.Rule3 (handed_over old n from v fate.Rule3) new
 unfolding after_words
 rule3 law old new n from v o =
-    acts_receives law old new n from v fate.Rule3 (handed_over old n from v fate.Rule3) (trusted old n from v)
-    (record { clock = o.clock; peers = o.peers; means = λ x is. (law.peers.calls_of_an_entry n (known_to old.peers n v.packet.src) (Some v.packet.src)).trust_and_hear from; epoch = refl; quiet = refl; qualifier = o.qualifier; place = o.rng })
-    (λ x is. ap (λ (s : Span). record (released old n from v fate.Rule3) { handed = Some s }) (sym (rest_is x v is)))
+    acts_receives law old new n from v fate.Rule3 (record {
+      step = handed_over old n from v fate.Rule3;
+      peer = trusted old n from v;
+      did = λ x is. ap (λ (s : Span). record (released old n from v fate.Rule3) { handed = Some s }) (sym (rest_is x v is));
+      clock = o.clock;
+      peers = o.peers;
+      means = λ x is. (law.peers.calls_of_an_entry n (known_to old.peers n v.packet.src) (Some v.packet.src)).trust_and_hear from;
+      epoch = refl;
+      quiet = refl;
+      qualifier = o.qualifier;
+      place = o.rng;
+    })
 
 pub rule3_bubble : (law : BelowClient) (old new : Client) (n : ℕ) (from : Ep) (v : Value) → OnlyPeers old n v.packet.src (trusted old n from v) new → TakesPayload old n from v fate.Rule3Bubble (released old n from v fate.Rule3Bubble) new
 unfolding after_words
 rule3_bubble law old new n from v o =
-    acts_receives law old new n from v fate.Rule3Bubble (released old n from v fate.Rule3Bubble) (trusted old n from v)
-    (record { clock = o.clock; peers = o.peers; means = λ x is. (law.peers.calls_of_an_entry n (known_to old.peers n v.packet.src) (Some v.packet.src)).trust_and_hear from; epoch = refl; quiet = refl; qualifier = o.qualifier; place = o.rng })
-    (λ x is. refl)
+    acts_receives law old new n from v fate.Rule3Bubble (record {
+      step = released old n from v fate.Rule3Bubble;
+      peer = trusted old n from v;
+      did = λ x is. refl;
+      clock = o.clock;
+      peers = o.peers;
+      means = λ x is. (law.peers.calls_of_an_entry n (known_to old.peers n v.packet.src) (Some v.packet.src)).trust_and_hear from;
+      epoch = refl;
+      quiet = refl;
+      qualifier = o.qualifier;
+      place = o.rng;
+    })
 
 -- a bubble through the server, which goes back to this origin
 pub record AnswersBubble (old : Client) (n : ℕ) (v : Value) (to : Ep) (new : Client) : Type 0 where
@@ -165,70 +209,3 @@ indirect law old new n from v to a = record {
   settings = a.settings;
   clock = subst (λ (m : ℕ). m ≤ n) (sym a.peers.moment) (le_refl n);
 }
-
--- RULE 6
-
--- a test of the source, of which no packet more may be held
-pub suspicious_test : (law : BelowClient) (old new : Client) (n : ℕ) (from : Ep) (v : Value) → old.peers.moment ≤ n
-    → Updates old.peers new.peers n v.packet.src (tried_at n (Some (nonce_from (words_ahead old))) (known_to old.peers n v.packet.src))
-    → new.qualifier ≡ old.qualifier → new.rng ≡ after_words 2 old.rng → TakesPayload old n from v fate.SuspiciousTest (tested old v.packet.src fate.SuspiciousTest) new
-suspicious_test law old new n from v l u q g =
-    acts_receives law old new n from v fate.SuspiciousTest (tested old v.packet.src fate.SuspiciousTest) (tried_at n (Some (nonce_from (words_ahead old))) (known_to old.peers n v.packet.src))
-    (record { clock = l; peers = u; means = λ x is. (law.peers.calls_of_an_entry n (known_to old.peers n v.packet.src) (Some v.packet.src)).tried (Some (nonce_from (words_ahead old))); epoch = refl; quiet = refl; qualifier = q; place = g })
-    (λ x is. refl)
-
--- a packet of a payload from there
-abbrev pub held_here : Client → ℕ → Ep → Value → Peer
-held_here c n from v = held_at n from (packet_bytes v.packet) (known_to c.peers n v.packet.src)
-
--- the mention of a packet is that of the payload's
-holds_here : (x : List ℕ) (v : Value) (from : Ep) (call : Bearing → Bearing) (n : ℕ) (p peer : Peer) → packet_in x ≡ Some (packet_bytes v.packet)
-    → after (record { moment = n; peer = Some v.packet.src; bearing = record (call no_bearing) { holds = Some (record { from = from; packet = packet_bytes v.packet }) } }) p ≡ peer
-    → after (record { moment = n; peer = Some v.packet.src; bearing = record (call no_bearing) { holds = held_of (Some from) (packet_in x) } }) p ≡ peer
-holds_here x v from call n p peer is h =
-    ap (λ (o : Option (List ℕ)). after (record { moment = n; peer = Some v.packet.src; bearing = record (call no_bearing) { holds = held_of (Some from) o } }) p) is ∙ h
-
-abbrev tries_with : ℕ → Bearing → Bearing
-tries_with nonce b = record b { touches = true; tries = true; nonce = Some nonce }
-
-abbrev as_it_is : Bearing → Bearing
-as_it_is b = b
-
--- a packet is held, and its source is tested
-pub held_test : (law : BelowClient) (old new : Client) (n : ℕ) (from : Ep) (v : Value) → old.peers.moment ≤ n
-    → Updates old.peers new.peers n v.packet.src (tried_at n (Some (nonce_from (words_ahead old))) (held_here old n from v))
-    → new.qualifier ≡ old.qualifier → new.rng ≡ after_words 2 old.rng → TakesPayload old n from v fate.HeldTest (tested old v.packet.src fate.HeldTest) new
-held_test law old new n from v l u q g =
-    let nonce : ℕ = nonce_from (words_ahead old) in
-    let known : Peer = known_to old.peers n v.packet.src in
-    acts_receives law old new n from v fate.HeldTest (tested old v.packet.src fate.HeldTest) (tried_at n (Some nonce) (held_here old n from v))
-    (record {
-      clock = l;
-      peers = u;
-      means = λ x is. holds_here x v from (tries_with nonce) n known (tried_at n (Some nonce) (held_here old n from v)) is.packet
-          ((law.peers.calls_of_an_entry n known (Some v.packet.src)).hold_tried from (packet_bytes v.packet) (Some nonce));
-      epoch = refl;
-      quiet = refl;
-      qualifier = q;
-      place = g;
-    })
-    (λ x is. refl)
-
--- a further packet of a source that is being tested
-pub held : (law : BelowClient) (old new : Client) (n : ℕ) (from : Ep) (v : Value) → is_some (peer_in old.peers n v.packet.src) ≡ true
-    → OnlyPeers old n v.packet.src (held_here old n from v) new → TakesPayload old n from v fate.Held (just fate.Held) new
-unfolding after_words
-held law old new n from v listed o =
-    let known : Peer = known_to old.peers n v.packet.src in
-    acts_receives law old new n from v fate.Held (just fate.Held) (held_here old n from v)
-    (record {
-      clock = o.clock;
-      peers = o.peers;
-      means = λ x is. holds_here x v from as_it_is n known (held_here old n from v) is.packet
-          ((law.peers.calls_of_an_entry n known (Some v.packet.src)).hold from (packet_bytes v.packet) (law.peers.found_is_listed old.peers n v.packet.src listed));
-      epoch = refl;
-      quiet = refl;
-      qualifier = o.qualifier;
-      place = o.rng;
-    })
-    (λ x is. refl)

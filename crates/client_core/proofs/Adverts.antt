@@ -108,9 +108,15 @@ kind_done : (s : Settings) (a : Standing) (from : Ep) (x : List ℕ) (v : Value)
 kind_done s a from x v w is_moved other = absurd (other refl)
 kind_done s a from x v w _ other = refl
 
-done : (s : Settings) (a : Standing) (from : Ep) (x : List ℕ) (v : Value) (w : Words) (f : Fate) → AdvertFate f → (f ≡ fate.Changed → ⊥) → told s f ≡ reception_step s a from x v w f
-done s a from x v w f k other =
-    ap (λ (g : Fate). told s g) k.is ∙ kind_done s a from x v w k.kind (λ e. other (k.is ∙ e)) ∙ ap (λ (g : Fate). reception_step s a from x v w g) (sym k.is)
+-- one by which the address stays
+pub record StaysAt (f : Fate) : Type 0 where
+  pub told : AdvertFate f
+  pub other : f ≡ fate.Changed → ⊥
+
+done : (s : Settings) (a : Standing) (from : Ep) (x : List ℕ) (v : Value) (w : Words) (f : Fate) → StaysAt f → told s f ≡ reception_step s a from x v w f
+done s a from x v w f stays =
+    let k = stays.told in
+    ap (λ (g : Fate). told s g) k.is ∙ kind_done s a from x v w k.kind (λ e. stays.other (k.is ∙ e)) ∙ ap (λ (g : Fate). reception_step s a from x v w g) (sym k.is)
 
 -- WHAT A CLIENT STANDS FOR THEN
 
@@ -122,11 +128,14 @@ pub record Took (old : Client) (n : ℕ) (from : Ep) (v : Value) (f : Fate) (new
   pub place : new.rng ≡ after_words (advert_words (settings_of old) f) old.rng
   pub settings : settings_of new ≡ settings_of old
 
-row_now : (old new : Client) (n : ℕ) (from : Ep) (v : Value) (f : Fate) → Took old n from v f new → (j : Journal) → StandsFor old.qualifier j → f ≡ advert_row (settings_of old) old.qualifier.now from v
-row_now old new n from v f t j h = t.row j h ∙ ap (λ (q : Qualification). advert_row (settings_of old) q from v) (sym (stands_whole old.qualifier j h))
+-- the journal's row is the one of what the client keeps
+row_now : (old : Client) (from : Ep) (v : Value) (f : Fate) (j : Journal) → StandsFor old.qualifier j
+    → f ≡ advert_row (settings_of old) (qualification (settings_of old) j) from v
+    → f ≡ advert_row (settings_of old) old.qualifier.now from v
+row_now old from v f j h row = row ∙ ap (λ (q : Qualification). advert_row (settings_of old) q from v) (sym (stands_whole old.qualifier j h))
 
-fate_now : (old new : Client) (n : ℕ) (from : Ep) (v : Value) (f : Fate) → Took old n from v f new → (j : Journal) → StandsFor old.qualifier j → AdvertFate f
-fate_now old new n from v f t j h = subst (λ (g : Fate). AdvertFate g) (sym (row_now old new n from v f t j h)) (advert_fate (settings_of old) old.qualifier.now from v)
+fate_now : (old : Client) (from : Ep) (v : Value) (f : Fate) → f ≡ advert_row (settings_of old) old.qualifier.now from v → AdvertFate f
+fate_now old from v f row = subst (λ (g : Fate). AdvertFate g) (sym row) (advert_fate (settings_of old) old.qualifier.now from v)
 
 -- the entry of it
 of_advert : (old : Client) (n : ℕ) (from : Ep) (v : Value) (step : Step) (x : List ℕ) → IsDatagramOf x v → step.drawn ≡ advert_words (settings_of old) step.fate
@@ -139,39 +148,52 @@ of_advert old n from v step x is drawn = record {
 }
 
 -- the peers stay, unless the address changed
-pub advert_kept : (law : BelowClient) (old new : Client) (n : ℕ) (from : Ep) (v : Value) (f : Fate) → Took old n from v f new → (f ≡ fate.Changed → ⊥) → new.peers ≡ old.peers
+pub record TookInPlace (old : Client) (n : ℕ) (from : Ep) (v : Value) (f : Fate) (new : Client) : Type 0 where
+  pub took : Took old n from v f new
+  pub other : f ≡ fate.Changed → ⊥
+  pub peers : new.peers ≡ old.peers
+
+pub advert_kept : (law : BelowClient) (old new : Client) (n : ℕ) (from : Ep) (v : Value) (f : Fate) → TookInPlace old n from v f new
     → TakesPayload old n from v (advert_row (settings_of old) old.qualifier.now from v) (told (settings_of old) f) new
-advert_kept law old new n from v f t other same = record {
+advert_kept law old new n from v f t = record {
   did = λ j x h is.
-      done (settings_of old) (standing_in old n v.packet.src) from x v (words_ahead old) f (fate_now old new n from v f t j h.qualification) other
-      ∙ ap (λ (g : Fate). reception_step (settings_of old) (standing_in old n v.packet.src) from x v (words_ahead old) g) (row_now old new n from v f t j h.qualification);
+      let row = row_now old from v f j h.qualification (t.took.row j h.qualification) in
+      done (settings_of old) (standing_in old n v.packet.src) from x v (words_ahead old) f (record { told = fate_now old from v f row; other = t.other })
+      ∙ ap (λ (g : Fate). reception_step (settings_of old) (standing_in old n v.packet.src) from x v (words_ahead old) g) row;
   stands = λ j x h is.
       let e = entry_about old n from x v.packet.src (told (settings_of old) f) in
-      let is_fate = fate_now old new n from v f t j h.qualification in
+      let is_fate = fate_now old from v f (row_now old from v f j h.qualification (t.took.row j h.qualification)) in
       record {
-        qualification = t.stands j e h.qualification (of_advert old n from v (told (settings_of old) f) x is refl);
-        peers = peers_idle law new.peers j.entries e (keeps_epoch f is_fate other) (bears_nothing (bears_none f e is_fate)) (subst (λ (p : Table). StandsForMentions p (mentions j.entries)) (sym same) h.peers);
+        qualification = t.took.stands j e h.qualification (of_advert old n from v (told (settings_of old) f) x is refl);
+        peers = peers_idle law new.peers j.entries e (keeps_epoch f is_fate t.other) (bears_nothing (bears_none f e is_fate)) (subst (λ (p : Table). StandsForMentions p (mentions j.entries)) (sym t.peers) h.peers);
       };
-  place = t.place;
-  settings = t.settings;
-  clock = subst (λ (p : Table). p.moment ≤ n) (sym same) t.clock;
+  place = t.took.place;
+  settings = t.took.settings;
+  clock = subst (λ (p : Table). p.moment ≤ n) (sym t.peers) t.took.clock;
 }
 
 abbrev pub moved : Client → ℕ → Step
 moved c n = record (just fate.Changed) { gone = waiting_in c.peers n; drawn = advert_words (settings_of c) fate.Changed }
 
 -- then they are forgotten
-pub advert_changed : (law : BelowClient) (old new : Client) (n : ℕ) (from : Ep) (v : Value) → Took old n from v fate.Changed new → StandsForMentions new.peers [] → new.peers.moment ≤ n
+pub record TookElsewhere (old : Client) (n : ℕ) (from : Ep) (v : Value) (new : Client) : Type 0 where
+  pub took : Took old n from v fate.Changed new
+  pub none : StandsForMentions new.peers []
+  pub clock : new.peers.moment ≤ n
+
+pub advert_changed : (law : BelowClient) (old new : Client) (n : ℕ) (from : Ep) (v : Value) → TookElsewhere old n from v new
     → TakesPayload old n from v (advert_row (settings_of old) old.qualifier.now from v) (moved old n) new
-advert_changed law old new n from v t none clock = record {
-  did = λ j x h is. ap (λ (g : Fate). reception_step (settings_of old) (standing_in old n v.packet.src) from x v (words_ahead old) g) (row_now old new n from v fate.Changed t j h.qualification);
+advert_changed law old new n from v t = record {
+  did = λ j x h is.
+      ap (λ (g : Fate). reception_step (settings_of old) (standing_in old n v.packet.src) from x v (words_ahead old) g)
+      (row_now old from v fate.Changed j h.qualification (t.took.row j h.qualification));
   stands = λ j x h is.
       let e = entry_about old n from x v.packet.src (moved old n) in
       record {
-        qualification = t.stands j e h.qualification (of_advert old n from v (moved old n) x is refl);
-        peers = subst (λ (ms : List Mention). StandsForMentions new.peers ms) (sym (changed law e j.entries refl)) none;
+        qualification = t.took.stands j e h.qualification (of_advert old n from v (moved old n) x is refl);
+        peers = subst (λ (ms : List Mention). StandsForMentions new.peers ms) (sym (changed law e j.entries refl)) t.none;
       };
-  place = t.place;
-  settings = t.settings;
-  clock = clock;
+  place = t.took.place;
+  settings = t.took.settings;
+  clock = t.clock;
 }

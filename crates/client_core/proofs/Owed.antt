@@ -47,8 +47,11 @@ sooner_no_sooner m (Some a) (Some b) h k = by_test (nat_lt b a) where
   by_test false = h
 
 -- where neither phase nor peers have something before a moment, nothing is due before it
-pub none_sooner : (law : BelowClient) (c : Client) (m : ℕ) → IsNoSooner m c.qualifier.now.due → ((n : ℕ) → IsNoSooner m (option_map due_moment (first_due_in c.peers n)))
-    → (j : Journal) (n : ℕ) → ClientStandsFor c j → c.peers.moment ≤ n → IsNoSooner m (client_due (settings_of c) j n)
+abbrev pub NothingBefore : Client → ℕ → Type 0
+NothingBefore c m = (j : Journal) (n : ℕ) → ClientStandsFor c j → c.peers.moment ≤ n → IsNoSooner m (client_due (settings_of c) j n)
+
+pub none_sooner : (law : BelowClient) (c : Client) (m : ℕ) → IsNoSooner m c.qualifier.now.due
+    → ((n : ℕ) → IsNoSooner m (option_map due_moment (first_due_in c.peers n))) → NothingBefore c m
 none_sooner law c m phase peers j n h l =
     let due : Option ℕ = sooner c.qualifier.now.due (option_map due_moment (first_due_in c.peers n)) in
     subst (IsNoSooner m) (due_told law c n due l refl j h) (sooner_no_sooner m c.qualifier.now.due (option_map due_moment (first_due_in c.peers n)) phase (peers n))
@@ -76,20 +79,22 @@ already c n q e l = let is = owes_phase c n (ap (λ (d : Option ℕ). is_due n d
 peers_owe : (c : Client) (n : ℕ) → 0 < overdue_in c.peers n → 0 < owing c n
 peers_owe c n some = omega (arith, some)
 
-first_of_both : (c : Client) (n q : ℕ) (p at : Millis) (b : Bool) → c.qualifier.now.due ≡ Some q → IsFirstDue (overdue_in c.peers) n (Some p)
-    → nat_lt p.0 q ≡ b → Some at.0 ≡ (if b then Some p.0 else Some q) → IsFirstDue (owing c) n (Some at)
-first_of_both c n q p at true e f t is =
-    let same : at.0 ≡ p.0 = cc in
-    let earlier = ltb-true p.0 q t in (
-      (λ m le lt. owes_nothing c m (not_yet c m q e (omega (arith, same, earlier, lt))) (f.0 m le (omega (arith, same, lt)))),
-      subst (λ (m : ℕ). 0 < owing c (max n m)) (sym same) (peers_owe c (max n p.0) f.1),
-    )
-first_of_both c n q p at false e f t is =
-    let same : at.0 ≡ q = cc in
-    let later = ltb-false p.0 q t in (
-      (λ m le lt. owes_nothing c m (not_yet c m q e (omega (arith, same, lt))) (f.0 m le (omega (arith, same, later, lt)))),
-      already c (max n at.0) q e (omega (arith, same)),
-    )
+first_of_both : (c : Client) (n q : ℕ) (p at : Millis) → c.qualifier.now.due ≡ Some q → IsFirstDue (overdue_in c.peers) n (Some p)
+    → Some at.0 ≡ (if nat_lt p.0 q then Some p.0 else Some q) → IsFirstDue (owing c) n (Some at)
+first_of_both c n q p at e f is = by_test (nat_lt p.0 q) refl is where
+  by_test : (b : Bool) → nat_lt p.0 q ≡ b → Some at.0 ≡ (if b then Some p.0 else Some q) → IsFirstDue (owing c) n (Some at)
+  by_test true t k =
+      let same : at.0 ≡ p.0 = cc in
+      let earlier = ltb-true p.0 q t in (
+        (λ m le lt. owes_nothing c m (not_yet c m q e (omega (arith, same, earlier, lt))) (f.0 m le (omega (arith, same, lt)))),
+        subst (λ (m : ℕ). 0 < owing c (max n m)) (sym same) (peers_owe c (max n p.0) f.1),
+      )
+  by_test false t k =
+      let same : at.0 ≡ q = cc in
+      let later = ltb-false p.0 q t in (
+        (λ m le lt. owes_nothing c m (not_yet c m q e (omega (arith, same, lt))) (f.0 m le (omega (arith, same, later, lt)))),
+        already c (max n at.0) q e (omega (arith, same)),
+      )
 
 -- what is due first of the phase and of the peers is due first of both
 pub first_due_of : (c : Client) (n : ℕ) (qd : Option ℕ) (try d : Option Millis) → c.qualifier.now.due ≡ qd → IsFirstDue (overdue_in c.peers) n try
@@ -110,16 +115,19 @@ first_due_of c n (Some q) (Some p) None e f is = none_of_two (nat_lt p.0 q) is w
   none_of_two : (b : Bool) → None ≡ (if b then Some p.0 else Some q) → IsFirstDue (owing c) n None
   none_of_two true k = absurd (false≢true (ap (λ (o : Option ℕ). is_some o) k))
   none_of_two false k = absurd (false≢true (ap (λ (o : Option ℕ). is_some o) k))
-first_due_of c n (Some q) (Some p) (Some at) e f is = first_of_both c n q p at (nat_lt p.0 q) e f refl is
+first_due_of c n (Some q) (Some p) (Some at) e f is = first_of_both c n q p at e f is
 
 -- OF THE PHASE OR THE REFRESH
 
-busy_by : (s : Settings) (q : Qualification) (w : Words) (f g : Fate) (b : Bool) → ((solicits_by s q w f).fate ≡ fate.Idle → ⊥) → ((solicits_by s q w g).fate ≡ fate.Idle → ⊥)
-    → (solicits_by s q w (if b then f else g)).fate ≡ fate.Idle → ⊥
+-- by a fate something is done
+abbrev IsBusy : Settings → Qualification → Words → Fate → Type 0
+IsBusy s q w f = (solicits_by s q w f).fate ≡ fate.Idle → ⊥
+
+busy_by : (s : Settings) (q : Qualification) (w : Words) (f g : Fate) (b : Bool) → IsBusy s q w f → IsBusy s q w g → IsBusy s q w (if b then f else g)
 busy_by s q w f g true x y = x
 busy_by s q w f g false x y = y
 
-busy : (s : Settings) (q : Qualification) (w : Words) (p : Phase) (sends : ℕ) → has_due p ≡ true → (solicits_by s q w (due_fate p sends)).fate ≡ fate.Idle → ⊥
+busy : (s : Settings) (q : Qualification) (w : Words) (p : Phase) (sends : ℕ) → has_due p ≡ true → IsBusy s q w (due_fate p sends)
 busy s q w Cone sends h = busy_by s q w fate.RsCone fate.RsRestricted (nat_lt sends SOLICITATIONS_MAX) (λ e. cc) (λ e. cc)
 busy s q w Restricted sends h = busy_by s q w fate.RsRestricted fate.OffLine (nat_lt sends SOLICITATIONS_MAX) (λ e. cc) (λ e. cc)
 busy s q w Secondary sends h = busy_by s q w fate.RsSecondary fate.OffLine (nat_lt sends SOLICITATIONS_MAX) (λ e. cc) (λ e. cc)

@@ -15,6 +15,7 @@ use Rattle.teredo_node.specs.declared.fate.Fate.TheVariants as fate
 use Rattle.teredo_node.specs.Step.{Step, just}
 use Rattle.teredo_node.specs.Journal.{Entry, Journal, Words, arrived, with_entry}
 use Rattle.peer_list.specs.Peers.{Peer, peer_at}
+use Rattle.peer_list.specs.Table.{peer_in}
 use Rattle.peer_list.specs.Stands.{SaysTheSame, bears_nothing}
 use Rattle.qualify.specs.declared.settings.Settings.{Settings}
 use Rattle.qualify.specs.Qualifier.{stands_whole}
@@ -25,7 +26,7 @@ use Rattle.client_rules.specs.Standing.{Standing, standing_at, standing_of}
 use Rattle.client_rules.specs.Reception.{seen_of, seen, reception_row, reception_fate, reception_step, reception}
 use Rattle.client_rules.specs.Journals.{entry, client_in}
 use Rattle.client_rules.specs.TakenPlaces.{TakesPlace}
-use Rattle.client_core.specs.Client.{settings_of, words_ahead, standing_in, ClientStandsFor, Does, TakesPayload, IsDatagramOf, KeepsPlace, WantsPlace, fate_in}
+use Rattle.client_core.specs.Client.{settings_of, words_ahead, standing_in, ClientStandsFor, Does, TakesPayload, IsDatagramOf, WantsPlace, fate_in}
 use Rattle.client_core.specs.Below.{BelowClient}
 use Rattle.client_core.proofs.Entered.{none_enters}
 
@@ -53,32 +54,51 @@ source_there : (x : List ℕ) (v : Value) → is_payload x ≡ true → value_in
 unfolding source_in
 source_there x v payload value = λ i. if payload i then Some (value i).packet.src else None
 
-reception_by : (s : Settings) (a : Standing) (from : Ep) (x : List ℕ) (v : Value) (w : Words) (b : Bool) → is_payload x ≡ b → value_in x ≡ v
-    → reception s a from x w ≡ reception_step s a from x v w (reception_row (seen_of s a from b v) (advert_row s a.qualification from v))
+reception_by : (s : Settings) (a : Standing) (from : Ep) (x : List ℕ) (v : Value) (w : Words) → is_payload x ≡ true → value_in x ≡ v
+    → reception s a from x w ≡ reception_step s a from x v w (reception_row (seen_of s a from true v) (advert_row s a.qualification from v))
 unfolding reception reception_fate seen
-reception_by s a from x v w b payload value =
+reception_by s a from x v w payload value =
     λ i. reception_step s a from x (value i) w (reception_row (seen_of s a from (payload i) (value i)) (advert_row s a.qualification from (value i)))
 
-step_there : (law : BelowClient) (c : Client) (j : Journal) (n : ℕ) (from : Ep) (x : List ℕ) (v : Value) → ClientStandsFor c j → c.peers.moment ≤ n → is_payload x ≡ true → value_in x ≡ v
-    → reception (settings_of c) (standing_of (settings_of c) j n (source_in x)) from x (words_ahead c) ≡ reception_step (settings_of c) (standing_in c n v.packet.src) from x v (words_ahead c) (fate_in c n from v)
-step_there law c j n from x v h l payload value =
-    let a : standing_of (settings_of c) j n (source_in x) ≡ standing_in c n v.packet.src = ap (standing_of (settings_of c) j n) (source_there x v payload value) ∙ sym (standing_is law c j n v.packet.src h l) in
-    ap (λ (b : Standing). reception (settings_of c) b from x (words_ahead c)) a
-    ∙ reception_by (settings_of c) (standing_in c n v.packet.src) from x v (words_ahead c) true payload value
+-- a payload that was read, and a moment at which the client may be called
+pub record IsRead (c : Client) (n : ℕ) (x : List ℕ) (v : Value) : Type 0 where
+  pub clock : c.peers.moment ≤ n
+  pub payload : is_payload x ≡ true
+  pub value : value_in x ≡ v
 
-pub received : (law : BelowClient) (old new : Client) (n : ℕ) (from : Ep) (x : List ℕ) (v : Value) (step : Step) → is_payload x ≡ true → IsDatagramOf x v → old.peers.moment ≤ n
-    → TakesPayload old n from v (fate_in old n from v) step new → Does old n (arrived from x) step new
+standing_there : (law : BelowClient) (c : Client) (j : Journal) (n : ℕ) (x : List ℕ) (v : Value) → ClientStandsFor c j → IsRead c n x v
+    → standing_of (settings_of c) j n (source_in x) ≡ standing_in c n v.packet.src
+standing_there law c j n x v h is =
+    ap (standing_of (settings_of c) j n) (source_there x v is.payload is.value) ∙ sym (standing_is law c j n v.packet.src h is.clock)
+
+step_there : (c : Client) (n : ℕ) (from : Ep) (x : List ℕ) (v : Value) (a : Standing) → IsRead c n x v → a ≡ standing_in c n v.packet.src
+    → reception (settings_of c) a from x (words_ahead c) ≡ reception_step (settings_of c) (standing_in c n v.packet.src) from x v (words_ahead c) (fate_in c n from v)
+step_there c n from x v a is same =
+    ap (λ (b : Standing). reception (settings_of c) b from x (words_ahead c)) same
+    ∙ reception_by (settings_of c) (standing_in c n v.packet.src) from x v (words_ahead c) is.payload is.value
+
+-- and what its line did with it
+pub record Received (old : Client) (n : ℕ) (from : Ep) (x : List ℕ) (step : Step) (new : Client) : Type 0 where
+  pub told : Value
+  pub read : IsRead old n x told
+  pub is : IsDatagramOf x told
+  pub took : TakesPayload old n from told (fate_in old n from told) step new
+
+pub received : (law : BelowClient) (old new : Client) (n : ℕ) (from : Ep) (x : List ℕ) (step : Step) → Received old n from x step new
+    → Does old n (arrived from x) step new
 unfolding client_in
-received law old new n from x v step payload is l r =
+received law old new n from x step r =
     let did : (j : Journal) → ClientStandsFor old j → step ≡ reception (settings_of old) (standing_of (settings_of old) j n (source_in x)) from x (words_ahead old) =
-    (λ j h. r.did j x h is ∙ sym (step_there law old j n from x v h l payload is.of.value)) in
+    (λ j h.
+    r.took.did j x h r.is
+    ∙ sym (step_there old n from x r.told (standing_of (settings_of old) j n (source_in x)) r.read (standing_there law old j n x r.told h r.read))) in
     record {
       did = did;
       stands = λ j h. subst (λ (e : Entry). ClientStandsFor new (with_entry j e))
-          (λ i. entry n (arrived from x) (packet_in x) (sym (source_there x v payload is.of.value) i) (words_ahead old) (did j h i)) (r.stands j x h is);
-      place = r.place;
-      settings = r.settings;
-      clock = r.clock;
+          (λ i. entry n (arrived from x) (packet_in x) (sym (source_there x r.told r.read.payload r.read.value) i) (words_ahead old) (did j h i)) (r.took.stands j x h r.is);
+      place = r.took.place;
+      settings = r.took.settings;
+      clock = r.took.clock;
     }
 
 -- what isn't a payload is dropped
@@ -103,20 +123,20 @@ malformed law c n from x l isnt =
 
 -- WHERE MEMORY WAS WANTING
 
-fate_there : (law : BelowClient) (c : Client) (j : Journal) (n : ℕ) (from : Ep) (x : List ℕ) (v : Value) → ClientStandsFor c j → c.peers.moment ≤ n → is_payload x ≡ true → value_in x ≡ v
-    → reception_fate (settings_of c) (standing_of (settings_of c) j n (source_in x)) from x ≡ fate_in c n from v
+fate_there : (c : Client) (n : ℕ) (from : Ep) (x : List ℕ) (v : Value) (a : Standing) → IsRead c n x v → a ≡ standing_in c n v.packet.src
+    → reception_fate (settings_of c) a from x ≡ fate_in c n from v
 unfolding reception_fate seen
-fate_there law c j n from x v h l payload value =
-    let a : standing_of (settings_of c) j n (source_in x) ≡ standing_in c n v.packet.src = ap (standing_of (settings_of c) j n) (source_there x v payload value) ∙ sym (standing_is law c j n v.packet.src h l) in
-    λ i. reception_row (seen_of (settings_of c) (a i) from (payload i) (value i)) (advert_row (settings_of c) (a i).qualification from (value i))
+fate_there c n from x v a is same =
+    λ i. reception_row (seen_of (settings_of c) (same i) from (is.payload i) (is.value i)) (advert_row (settings_of c) (same i).qualification from (is.value i))
 
-pub wants_place : (law : BelowClient) (old new : Client) (n : ℕ) (from : Ep) (x : List ℕ) (v : Value) → is_payload x ≡ true → value_in x ≡ v → old.peers.moment ≤ n
-    → KeepsPlace old n v (fate_in old n from v) new → WantsPlace old n from x
+pub wants_place : (law : BelowClient) (old : Client) (n : ℕ) (from : Ep) (x : List ℕ) (v : Value) → IsRead old n x v
+    → TakesPlace (fate_in old n from v) (is_some (peer_in old.peers n v.packet.src)) → WantsPlace old n from x
 unfolding client_in
-wants_place law old new n from x v payload value l k j h =
-    let fate_is = law.fate_of_reception (settings_of old) (standing_of (settings_of old) j n (source_in x)) from x (words_ahead old) ∙ fate_there law old j n from x v h l payload value in
+wants_place law old n from x v is takes j h =
+    let a : Standing = standing_of (settings_of old) j n (source_in x) in
+    let fate_is = law.fate_of_reception (settings_of old) a from x (words_ahead old) ∙ fate_there old n from x v a is (standing_there law old j n x v h is) in
     let listed_is =
-    ap (λ (p : Option Ip6). is_some (peer_at (mentions j.entries) n (unwrap_or p unspecified))) (source_there x v payload value)
-    ∙ ap (λ (p : Option Peer). is_some p) (sym ((read_same law old j n h l).peer v.packet.src)) in
+    ap (λ (p : Option Ip6). is_some (peer_at (mentions j.entries) n (unwrap_or p unspecified))) (source_there x v is.payload is.value)
+    ∙ ap (λ (p : Option Peer). is_some p) (sym ((read_same law old j n h is.clock).peer v.packet.src)) in
     subst (λ (f : Fate). TakesPlace f (is_some (peer_at (mentions j.entries) n (unwrap_or (source_in x) unspecified)))) (sym fate_is)
-    (subst (λ (b : Bool). TakesPlace (fate_in old n from v) b) (sym listed_is) k.room)
+    (subst (λ (b : Bool). TakesPlace (fate_in old n from v) b) (sym listed_is) takes)

@@ -1,6 +1,7 @@
 -- What a client stands for after a tick about a peer, and after a packet that waits.
 use Rattle.std.proofs.Common.{◌≡◌, ◌≤◌, ℕ, Bool, true, false, List, [], ◌∷◌, Some, None, refl, sym, subst}
 use Rattle.std.specs.Prelude.{if◌then◌else◌}
+use Rattle.std.proofs.lemmas.Bool.{false≢true}
 use Rattle.td_base.specs.declared.ipv6.Ip6.{Ip6}
 use Rattle.teredo_addr.specs.Teredo.{is_teredo, has_cone}
 use Rattle.teredo_node.specs.declared.fate.Fate.TheVariants as fate
@@ -24,21 +25,27 @@ use Rattle.client_rules.specs.Ticks.{try_fate}
 use Rattle.client_rules.specs.Transmission.{queues}
 use Rattle.client_rules.specs.Journals.{entry}
 use Rattle.client_core.specs.Client.{settings_of, words_ahead, Enters}
+use Rattle.client_core.specs.Lines.{OnlyPeers}
 use Rattle.client_core.specs.Below.{BelowClient}
 use Rattle.client_core.proofs.Entered.{bears_enters}
 
 -- TICKS
 
-pub gave_up : (law : BelowClient) (old new : Client) (n : ℕ) (who : Ip6) (gone : ℕ) → old.peers.moment ≤ n → Updates old.peers new.peers n who (emptied (known_to old.peers n who))
-    → new.qualifier ≡ old.qualifier → new.rng ≡ old.rng → Enters old (entry n ticked None (Some who) (words_ahead old) (record (just fate.GiveUp) { gone = gone })) new
+pub gave_up : (law : BelowClient) (old new : Client) (n : ℕ) (who : Ip6) (gone : ℕ) → OnlyPeers old n who (emptied (known_to old.peers n who)) new
+    → Enters old (entry n ticked None (Some who) (words_ahead old) (record (just fate.GiveUp) { gone = gone })) new
 unfolding after_words
-gave_up law old new n who gone l u q g =
+gave_up law old new n who gone o =
     bears_enters law old new (entry n ticked None (Some who) (words_ahead old) (record (just fate.GiveUp) { gone = gone })) who
     (record {
-      of_peer = record { peer = refl; epoch = refl; clock = l; peers = subst (λ (p : Peer). Updates old.peers new.peers n who p) (sym (law.peers.calls_of_an_entry n (known_to old.peers n who) (Some who)).give_up) u };
+      of_peer = record {
+        peer = refl;
+        epoch = refl;
+        clock = o.clock;
+        peers = subst (λ (p : Peer). Updates old.peers new.peers n who p) (sym (law.peers.calls_of_an_entry n (known_to old.peers n who) (Some who)).give_up) o.peers;
+      };
       quiet = refl;
-      qualifier = q;
-      place = g;
+      qualifier = o.qualifier;
+      place = o.rng;
     })
 
 abbrev try_step : Bool → List Send → Step
@@ -57,16 +64,27 @@ try_quiet : (b : Bool) → turn (try_fate b) ≡ says_nothing
 try_quiet true = refl
 try_quiet false = refl
 
-pub tried_again : (law : BelowClient) (old new : Client) (n : ℕ) (who : Ip6) (sends : List Send) → old.peers.moment ≤ n → Updates old.peers new.peers n who (tried_at n (try_nonce who (words_ahead old)) (known_to old.peers n who))
-    → new.qualifier ≡ old.qualifier → new.rng ≡ after_words (try_words who) old.rng
+-- it was tried, by words that were drawn
+pub record TriesPeer (old : Client) (n : ℕ) (who : Ip6) (new : Client) : Type 0 where
+  pub clock : old.peers.moment ≤ n
+  pub peers : Updates old.peers new.peers n who (tried_at n (try_nonce who (words_ahead old)) (known_to old.peers n who))
+  pub qualifier : new.qualifier ≡ old.qualifier
+  pub place : new.rng ≡ after_words (try_words who) old.rng
+
+pub tried_again : (law : BelowClient) (old new : Client) (n : ℕ) (who : Ip6) (sends : List Send) → TriesPeer old n who new
     → Enters old (entry n ticked None (Some who) (words_ahead old) (record (sending (try_fate (is_teredo who)) sends) { drawn = try_words who })) new
-tried_again law old new n who sends l u q g =
+tried_again law old new n who sends t =
     bears_enters law old new (entry n ticked None (Some who) (words_ahead old) (try_step (is_teredo who) sends)) who
     (record {
-      of_peer = record { peer = refl; epoch = try_epoch (is_teredo who); clock = l; peers = subst (λ (p : Peer). Updates old.peers new.peers n who p) (sym (try_means law n who (words_ahead old) sends (known_to old.peers n who) (is_teredo who))) u };
+      of_peer = record {
+        peer = refl;
+        epoch = try_epoch (is_teredo who);
+        clock = t.clock;
+        peers = subst (λ (p : Peer). Updates old.peers new.peers n who p) (sym (try_means law n who (words_ahead old) sends (known_to old.peers n who) (is_teredo who))) t.peers;
+      };
       quiet = try_quiet (is_teredo who);
-      qualifier = q;
-      place = g;
+      qualifier = t.qualifier;
+      place = t.place;
     })
 
 -- A PACKET THAT WAITS
@@ -87,10 +105,10 @@ try_sends_any s own p w = any_try (is_teredo p) s own p w
 abbrev queued_step : Ip6 → List Send → Step
 queued_step who sends = record (sending fate.Queued sends) { drawn = try_words who }
 
-queued_means : (law : BelowClient) (n : ℕ) (who : Ip6) (x : List ℕ) (w : Words) (sends : List Send) (known : Peer) (b : Bool) → has_any sends ≡ b → b ≡ true
+queued_means : (law : BelowClient) (n : ℕ) (who : Ip6) (x : List ℕ) (w : Words) (sends : List Send) (known : Peer) → has_any sends ≡ true
     → after (mention (entry n (given x) (Some x) (Some who) w (queued_step who sends))) known ≡ tried_at n (try_nonce who w) (queued_at n x known)
-queued_means law n who x w [] known b e h = cc
-queued_means law n who x w (s ∷ sends) known b e h = (law.peers.calls_of_an_entry n known (Some who)).wait_tried x (try_nonce who w)
+queued_means law n who x w [] known any = absurd (false≢true any)
+queued_means law n who x w (s ∷ sends) known any = (law.peers.calls_of_an_entry n known (Some who)).wait_tried x (try_nonce who w)
 
 -- the table after a packet that waits, and a try unless the peer is barred
 pub record Queued (old : Client) (n : ℕ) (who : Ip6) (x : List ℕ) (barred : Bool) (new : Client) : Type 0 where
@@ -99,11 +117,12 @@ pub record Queued (old : Client) (n : ℕ) (who : Ip6) (x : List ℕ) (barred : 
   pub waits : Updates old.peers mid n who (queued_at n x (known_to old.peers n who))
   pub tries : TriesUnless barred mid n who (try_nonce who (words_ahead old)) new.peers
   pub qualifier : new.qualifier ≡ old.qualifier
+  pub standing : Standing
+  pub place : new.rng ≡ after_words (queues barred (settings_of old) standing who (words_ahead old)).drawn old.rng
 
-pub queued : (law : BelowClient) (old new : Client) (n : ℕ) (who : Ip6) (x : List ℕ) (barred : Bool) (a : Standing) → Queued old n who x barred new
-    → new.rng ≡ after_words (queues barred (settings_of old) a who (words_ahead old)).drawn old.rng
-    → Enters old (entry n (given x) (Some x) (Some who) (words_ahead old) (queues barred (settings_of old) a who (words_ahead old))) new
-queued law old new n who x true a k g =
+pub queued : (law : BelowClient) (old new : Client) (n : ℕ) (who : Ip6) (x : List ℕ) (barred : Bool) (k : Queued old n who x barred new)
+    → Enters old (entry n (given x) (Some x) (Some who) (words_ahead old) (queues barred (settings_of old) k.standing who (words_ahead old))) new
+queued law old new n who x true k =
     bears_enters law old new (entry n (given x) (Some x) (Some who) (words_ahead old) (just fate.Queued)) who
     (record {
       of_peer = record {
@@ -115,10 +134,11 @@ queued law old new n who x true a k g =
       };
       quiet = refl;
       qualifier = k.qualifier;
-      place = g;
+      place = k.place;
     })
-queued law old new n who x false a k g =
-    let sends = try_sends (settings_of old) (own_address a.qualification) who (words_ahead old) in
+queued law old new n who x false k =
+    let own : Ip6 = own_address k.standing.qualification in
+    let sends = try_sends (settings_of old) own who (words_ahead old) in
     bears_enters law old new (entry n (given x) (Some x) (Some who) (words_ahead old) (queued_step who sends)) who
     (record {
       of_peer = record {
@@ -126,10 +146,10 @@ queued law old new n who x false a k g =
         epoch = refl;
         clock = k.clock;
         peers = subst (λ (p : Peer). Updates old.peers new.peers n who p)
-            (sym (queued_means law n who x (words_ahead old) sends (known_to old.peers n who) true (try_sends_any (settings_of old) (own_address a.qualification) who (words_ahead old)) refl))
+            (sym (queued_means law n who x (words_ahead old) sends (known_to old.peers n who) (try_sends_any (settings_of old) own who (words_ahead old))))
             ((law.peers.touch_goes_on old.peers k.mid n who (queued_at n x (known_to old.peers n who)) refl k.waits).next new.peers (tried_at n (try_nonce who (words_ahead old))) k.tries);
       };
       quiet = refl;
       qualifier = k.qualifier;
-      place = g;
+      place = k.place;
     })

@@ -34,24 +34,30 @@ due_there law c j n h l =
     let r = read_same law c j n h l in
     λ i. due_at n (q i) (r.first i)
 
-pub ticked_does : (law : BelowClient) (old new : Client) (n : ℕ) (due : Due) (step : Step) → old.peers.moment ≤ n → due_now old n ≡ due
-    → ((j : Journal) → ClientStandsFor old j → step ≡ tick (settings_of old) n old.qualifier.now (words_ahead old) due)
-    → Enters old (entry n ticked None (peer_of_due due) (words_ahead old) step) new → Does old n ticked step new
+-- what is due was done
+pub record TickedSo (old : Client) (n : ℕ) (step : Step) (new : Client) : Type 0 where
+  pub clock : old.peers.moment ≤ n
+  pub due : Due
+  pub is : due_now old n ≡ due
+  pub did : (j : Journal) → ClientStandsFor old j → step ≡ tick (settings_of old) n old.qualifier.now (words_ahead old) due
+  pub entered : Enters old (entry n ticked None (peer_of_due due) (words_ahead old) step) new
+
+pub ticked_does : (law : BelowClient) (old new : Client) (n : ℕ) (step : Step) → TickedSo old n step new → Does old n ticked step new
 unfolding client_tick
-ticked_does law old new n due step l is did entered =
+ticked_does law old new n step t =
     let whole : (j : Journal) → ClientStandsFor old j → step ≡ tick (settings_of old) n (qualification (settings_of old) j) (words_ahead old) (due_at n (qualification (settings_of old) j) (first_peer j n)) =
     (λ j h.
     let q = stands_whole old.qualifier j h.qualification in
-    let d = sym is ∙ due_there law old j n h l in
-    did j h ∙ (λ i. tick (settings_of old) n (q i) (words_ahead old) (d i))) in
+    let d = sym t.is ∙ due_there law old j n h t.clock in
+    t.did j h ∙ (λ i. tick (settings_of old) n (q i) (words_ahead old) (d i))) in
     record {
       did = whole;
       stands = λ j h.
-          let d = sym is ∙ due_there law old j n h l in
-          subst (λ (e : Entry). ClientStandsFor new (with_entry j e)) (λ i. entry n ticked None (peer_of_due (d i)) (words_ahead old) (whole j h i)) (entered.stands j h);
-      place = entered.place;
-      settings = entered.settings;
-      clock = entered.clock;
+          let d = sym t.is ∙ due_there law old j n h t.clock in
+          subst (λ (e : Entry). ClientStandsFor new (with_entry j e)) (λ i. entry n ticked None (peer_of_due (d i)) (words_ahead old) (whole j h i)) (t.entered.stands j h);
+      place = t.entered.place;
+      settings = t.entered.settings;
+      clock = t.entered.clock;
     }
 
 -- OF THE PEERS
@@ -131,17 +137,21 @@ asked_step old new n step a j h =
     ∙ ap (λ (b : Bool). if b then due_step (settings_of old) old.qualifier.now (words_ahead old) else just fate.Idle) a.due
 
 pub asked : (law : BelowClient) (old new : Client) (n : ℕ) (step : Step) → Asks old n step new → Does old n ticked step new
-asked law old new n step a =
-    ticked_does law old new n asks step a.clock (of_phase old n a.due) (λ j h. asked_step old new n step a j h.qualification)
-    (record {
-      stands = λ j h.
-          let e = entry n ticked None None (words_ahead old) step in
-          let same : is_changed step.fate ≡ false = ap (λ (s : Step). is_changed s.fate) (asked_step old new n step a j h.qualification) ∙ unchanged (settings_of old) old.qualifier.now (words_ahead old) in
-          record {
-            qualification = a.stands j e h.qualification (record { moment = refl; did = refl; words = refl });
-            peers = subst (λ (t : Table). StandsForMentions t (mentions (e ∷ j.entries))) (sym a.peers) (peers_idle law old.peers j.entries e same (about_nobody refl) h.peers);
-          };
-      place = a.place;
-      settings = a.settings;
-      clock = subst (λ (t : Table). t.moment ≤ n) (sym a.peers) a.clock;
-    })
+asked law old new n step a = ticked_does law old new n step (record {
+  clock = a.clock;
+  due = asks;
+  is = of_phase old n a.due;
+  did = λ j h. asked_step old new n step a j h.qualification;
+  entered = record {
+    stands = λ j h.
+        let e = entry n ticked None None (words_ahead old) step in
+        let same : is_changed step.fate ≡ false = ap (λ (s : Step). is_changed s.fate) (asked_step old new n step a j h.qualification) ∙ unchanged (settings_of old) old.qualifier.now (words_ahead old) in
+        record {
+          qualification = a.stands j e h.qualification (record { moment = refl; did = refl; words = refl });
+          peers = subst (λ (t : Table). StandsForMentions t (mentions (e ∷ j.entries))) (sym a.peers) (peers_idle law old.peers j.entries e same (about_nobody refl) h.peers);
+        };
+    place = a.place;
+    settings = a.settings;
+    clock = subst (λ (t : Table). t.moment ≤ n) (sym a.peers) a.clock;
+  };
+})

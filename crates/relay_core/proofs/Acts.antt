@@ -19,10 +19,10 @@ use Rattle.relay_core.specs.declared.relay.Relay.{Relay}
 use Rattle.relay_rules.specs.Bearings.{mention}
 use Rattle.relay_rules.specs.Reception.{reception_step}
 use Rattle.relay_rules.specs.Laws.{IsQuiet}
-use Rattle.relay_core.specs.Relay.{settings_of, relay_standing_in, RelayTakesPayload, relay_entry_about}
+use Rattle.relay_core.specs.Relay.{relay_standing_in, RelayTakesPayload, relay_entry_about}
 use Rattle.relay_core.specs.Lines.{RelayDropsDatagram}
 use Rattle.relay_core.specs.Below.{BelowRelay}
-use Rattle.relay_core.proofs.Entered.{bears_stands, none_stands}
+use Rattle.relay_core.proofs.Entered.{OnlyPeers, bears_stands, none_stands}
 
 -- nothing is done
 pub drops : (law : BelowRelay) (r : Relay) (n : ℕ) (from : Ep) (v : Value) (f : Fate) → r.peers.moment ≤ n → RelayDropsDatagram f → RelayTakesPayload r n from v f (just f) r
@@ -38,24 +38,28 @@ abbrev pub heard : Relay → ℕ → Value → Peer
 heard r n v = heard_at n (trusted_at n (embedded v.packet.src) (known_to r.peers n v.packet.src))
 
 -- that is known of the source from then on, and all else is as it was
-pub record Hears (old : Relay) (n : ℕ) (v : Value) (new : Relay) : Type 0 where
-  pub clock : old.peers.moment ≤ n
-  pub peers : Updates old.peers new.peers n v.packet.src (heard old n v)
-  pub settings : settings_of new ≡ settings_of old
+abbrev pub Hears : Relay → ℕ → Value → Relay → Type 0
+Hears old n v new = OnlyPeers old n v.packet.src (heard old n v) new
 
-hears : (law : BelowRelay) (old new : Relay) (n : ℕ) (from : Ep) (v : Value) (f : Fate) (step : Step) → Hears old n v new
-    → ((x : List ℕ) → after (mention (relay_entry_about n from x v.packet.src step)) (known_to old.peers n v.packet.src) ≡ heard old n v)
-    → ((x : List ℕ) → IsPayloadOf x v → step ≡ reception_step (relay_standing_in old n v.packet.src) x v f) → RelayTakesPayload old n from v f step new
-hears law old new n from v f step o means did = record {
-  did = did;
-  stands = λ j x h. bears_stands law old new (relay_entry_about n from x v.packet.src step) v.packet.src (record {
+-- and the line of a fate did this
+record HearsBy (old : Relay) (n : ℕ) (from : Ep) (v : Value) (f : Fate) (new : Relay) : Type 0 where
+  pub step : Step
+  pub hears : Hears old n v new
+  pub means : (x : List ℕ) → after (mention (relay_entry_about n from x v.packet.src step)) (known_to old.peers n v.packet.src) ≡ heard old n v
+  pub did : (x : List ℕ) → IsPayloadOf x v → step ≡ reception_step (relay_standing_in old n v.packet.src) x v f
+
+heard_by : (law : BelowRelay) (old new : Relay) (n : ℕ) (from : Ep) (v : Value) (f : Fate) (a : HearsBy old n from v f new)
+    → RelayTakesPayload old n from v f a.step new
+heard_by law old new n from v f a = record {
+  did = a.did;
+  stands = λ j x h. bears_stands law old new (relay_entry_about n from x v.packet.src a.step) v.packet.src (record {
     peer = refl;
-    clock = o.clock;
-    peers = subst (λ (p : Peer). Updates old.peers new.peers n v.packet.src p) (sym (means x)) o.peers;
-    quiet = λ cone before. subst (λ (p : Peer). IsQuiet p) (sym (means x)) (record { tries = refl; waiting = refl });
+    clock = a.hears.clock;
+    peers = subst (λ (p : Peer). Updates old.peers new.peers n v.packet.src p) (sym (a.means x)) a.hears.peers;
+    quiet = λ cone before. subst (λ (p : Peer). IsQuiet p) (sym (a.means x)) (record { tries = refl; waiting = refl });
   }) j h;
-  settings = o.settings;
-  clock = subst (λ (m : ℕ). m ≤ n) (sym o.peers.moment) (le_refl n);
+  settings = a.hears.settings;
+  clock = subst (λ (m : ℕ). m ≤ n) (sym a.hears.peers.moment) (le_refl n);
 }
 
 -- what waits is sent
@@ -64,13 +68,21 @@ released r n v f = sending f (releases (embedded v.packet.src) (known_to r.peers
 
 pub from_client_bubble : (law : BelowRelay) (old new : Relay) (n : ℕ) (from : Ep) (v : Value) → Hears old n v new → RelayTakesPayload old n from v fate.FromClientBubble (released old n v fate.FromClientBubble) new
 from_client_bubble law old new n from v o =
-    hears law old new n from v fate.FromClientBubble (released old n v fate.FromClientBubble) o
-    (λ x. (law.peers.calls_of_an_entry n (known_to old.peers n v.packet.src) (Some v.packet.src)).trust_and_hear (embedded v.packet.src)) (λ x is. refl)
+    heard_by law old new n from v fate.FromClientBubble (record {
+      step = released old n v fate.FromClientBubble;
+      hears = o;
+      means = λ x. (law.peers.calls_of_an_entry n (known_to old.peers n v.packet.src) (Some v.packet.src)).trust_and_hear (embedded v.packet.src);
+      did = λ x is. refl;
+    })
 
 pub unserved : (law : BelowRelay) (old new : Relay) (n : ℕ) (from : Ep) (v : Value) → Hears old n v new → RelayTakesPayload old n from v fate.Unserved (released old n v fate.Unserved) new
 unserved law old new n from v o =
-    hears law old new n from v fate.Unserved (released old n v fate.Unserved) o
-    (λ x. (law.peers.calls_of_an_entry n (known_to old.peers n v.packet.src) (Some v.packet.src)).trust_and_hear (embedded v.packet.src)) (λ x is. refl)
+    heard_by law old new n from v fate.Unserved (record {
+      step = released old n v fate.Unserved;
+      hears = o;
+      means = λ x. (law.peers.calls_of_an_entry n (known_to old.peers n v.packet.src) (Some v.packet.src)).trust_and_hear (embedded v.packet.src);
+      did = λ x is. refl;
+    })
 
 -- and the packet is passed on
 abbrev pub passed_on : Relay → ℕ → Value → Step
@@ -84,6 +96,9 @@ rest_is x v is =
 
 pub from_client : (law : BelowRelay) (old new : Relay) (n : ℕ) (from : Ep) (v : Value) → Hears old n v new → RelayTakesPayload old n from v fate.FromClient (passed_on old n v) new
 from_client law old new n from v o =
-    hears law old new n from v fate.FromClient (passed_on old n v) o
-    (λ x. (law.peers.calls_of_an_entry n (known_to old.peers n v.packet.src) (Some v.packet.src)).trust_and_hear (embedded v.packet.src))
-    (λ x is. ap (λ (s : Span). record (released old n v fate.FromClient) { six = Some s }) (sym (rest_is x v is)))
+    heard_by law old new n from v fate.FromClient (record {
+      step = passed_on old n v;
+      hears = o;
+      means = λ x. (law.peers.calls_of_an_entry n (known_to old.peers n v.packet.src) (Some v.packet.src)).trust_and_hear (embedded v.packet.src);
+      did = λ x is. ap (λ (s : Span). record (released old n v fate.FromClient) { six = Some s }) (sym (rest_is x v is));
+    })

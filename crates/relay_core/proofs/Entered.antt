@@ -35,15 +35,20 @@ quiet_if true x h = h
 quiet_if false x h = quiet_none
 
 -- a table that is changed so
-quiet_next : (old new : Table) (m : ℕ) (who : Ip6) (peer : Peer) → old.moment ≤ m → Updates old new m who peer → (has_cone who ≡ true → IsQuiet peer) → AreQuiet old → AreQuiet new
-quiet_next old new m who peer clock u quiet before n p l cone = by_who (same_ip6 p who) refl where
+record StaysQuiet (old new : Table) (m : ℕ) (who : Ip6) (peer : Peer) : Type 0 where
+  pub clock : old.moment ≤ m
+  pub update : Updates old new m who peer
+  pub quiet : has_cone who ≡ true → IsQuiet peer
+
+quiet_next : (old new : Table) (m : ℕ) (who : Ip6) (peer : Peer) → StaysQuiet old new m who peer → AreQuiet old → AreQuiet new
+quiet_next old new m who peer s before n p l cone = by_who (same_ip6 p who) refl where
   by_who : (b : Bool) → same_ip6 p who ≡ b → IsQuiet (known_to new n p)
   by_who true is =
-      subst (λ (o : Option Peer). IsQuiet (unwrap_or o no_peer)) (sym (u.view n p (subst (λ (k : ℕ). k ≤ n) u.moment l) ∙ ap (λ (t : Bool). if t then while_listed n peer else peer_in old n p) is))
-      (quiet_if (is_within LISTED_MS n peer.touched) peer (quiet (subst (λ (q : Ip6). has_cone q ≡ true) (same_ip6-true p who is) cone)))
+      subst (λ (o : Option Peer). IsQuiet (unwrap_or o no_peer)) (sym (s.update.view n p (subst (λ (k : ℕ). k ≤ n) s.update.moment l) ∙ ap (λ (t : Bool). if t then while_listed n peer else peer_in old n p) is))
+      (quiet_if (is_within LISTED_MS n peer.touched) peer (s.quiet (subst (λ (q : Ip6). has_cone q ≡ true) (same_ip6-true p who is) cone)))
   by_who false is =
-      subst (λ (o : Option Peer). IsQuiet (unwrap_or o no_peer)) (sym (u.view n p (subst (λ (k : ℕ). k ≤ n) u.moment l) ∙ ap (λ (t : Bool). if t then while_listed n peer else peer_in old n p) is))
-      (before n p (le_trans clock (subst (λ (k : ℕ). k ≤ n) u.moment l)) cone)
+      subst (λ (o : Option Peer). IsQuiet (unwrap_or o no_peer)) (sym (s.update.view n p (subst (λ (k : ℕ). k ≤ n) s.update.moment l) ∙ ap (λ (t : Bool). if t then while_listed n peer else peer_in old n p) is))
+      (before n p (le_trans s.clock (subst (λ (k : ℕ). k ≤ n) s.update.moment l)) cone)
 
 -- nobody is listed at first
 pub nobody_stands : (r : Relay) → r.peers ≡ empty_table → StandsForMentions r.peers [] → RelayStandsFor r []
@@ -66,16 +71,23 @@ pub bears_stands : (law : BelowRelay) (old new : Relay) (e : Entry) (who : Ip6) 
 unfolding mentions
 bears_stands law old new e who b j h = record {
   peers = law.peers.next_stands old.peers new.peers (mention e) (mentions j) who h.peers b.clock b.peer b.peers;
-  quiet = quiet_next old.peers new.peers e.moment who (after (mention e) (known_to old.peers e.moment who)) b.clock b.peers (λ cone. b.quiet cone (h.quiet e.moment who b.clock cone)) h.quiet;
+  quiet = quiet_next old.peers new.peers e.moment who (after (mention e) (known_to old.peers e.moment who))
+      (record { clock = b.clock; update = b.peers; quiet = λ cone. b.quiet cone (h.quiet e.moment who b.clock cone) }) h.quiet;
 }
 
+-- this is known of a peer then, and all else is as it was
+pub record OnlyPeers (old : Relay) (n : ℕ) (who : Ip6) (peer : Peer) (new : Relay) : Type 0 where
+  pub clock : old.peers.moment ≤ n
+  pub peers : Updates old.peers new.peers n who peer
+  pub settings : settings_of new ≡ settings_of old
+
 -- for each journal, where that may rest on what it stands for
-pub bears_enters : (law : BelowRelay) (old new : Relay) (e : Entry) (who : Ip6) (peer : Peer) → Updates old.peers new.peers e.moment who peer → settings_of new ≡ settings_of old
+pub bears_enters : (law : BelowRelay) (old new : Relay) (e : Entry) (who : Ip6) (peer : Peer) → OnlyPeers old e.moment who peer new
     → ((j : List Entry) → RelayStandsFor old j → Bears old e who new) → RelayEnters old e new
-bears_enters law old new e who peer u same b = record {
+bears_enters law old new e who peer o b = record {
   stands = λ j h. bears_stands law old new e who (b j h) j h;
-  settings = same;
-  clock = subst (λ (n : ℕ). n ≤ e.moment) (sym u.moment) (le_refl e.moment);
+  settings = o.settings;
+  clock = subst (λ (n : ℕ). n ≤ e.moment) (sym o.peers.moment) (le_refl e.moment);
 }
 
 -- an entry that means nothing for a peer: the relay is the same

@@ -1,5 +1,5 @@
 -- What a relay reads of itself is what each journal says that it stands for.
-use Rattle.std.proofs.Common.{◌≡◌, ◌≤◌, ℕ, Bool, true, false, List, ◌∷◌, Some, None, refl, ap, sym, subst, ◌∙◌}
+use Rattle.std.proofs.Common.{◌≡◌, ◌≤◌, ℕ, true, false, List, ◌∷◌, Some, None, refl, ap, sym, subst, ◌∙◌}
 use Rattle.std.specs.Prelude.{if◌then◌else◌}
 use Rattle.td_base.specs.declared.ipv6.Ip6.{Ip6}
 use Rattle.td_base.specs.declared.endpoint.Ep.{Ep}
@@ -33,30 +33,45 @@ source_there : (x : List ℕ) (v : Value) → is_payload x ≡ true → value_in
 unfolding source_in
 source_there x v payload value = λ i. if payload i then Some (value i).packet.src else None
 
-reception_by : (s : RelaySettings) (a : Standing) (from : Ep) (x : List ℕ) (v : Value) (b : Bool) → is_payload x ≡ b → value_in x ≡ v
-    → reception s a from x ≡ reception_step a x v (reception_row (seen_of s a from b v))
+reception_by : (s : RelaySettings) (a : Standing) (from : Ep) (x : List ℕ) (v : Value) → is_payload x ≡ true → value_in x ≡ v
+    → reception s a from x ≡ reception_step a x v (reception_row (seen_of s a from true v))
 unfolding reception seen
-reception_by s a from x v b payload value = λ i. reception_step a x (value i) (reception_row (seen_of s a from (payload i) (value i)))
+reception_by s a from x v payload value = λ i. reception_step a x (value i) (reception_row (seen_of s a from (payload i) (value i)))
 
-step_there : (law : BelowRelay) (r : Relay) (j : List Entry) (n : ℕ) (from : Ep) (x : List ℕ) (v : Value) → RelayStandsFor r j → r.peers.moment ≤ n → is_payload x ≡ true → value_in x ≡ v
-    → reception (settings_of r) (standing_of j n (source_in x)) from x ≡ reception_step (relay_standing_in r n v.packet.src) x v (relay_fate_in r n from v)
-step_there law r j n from x v h l payload value =
-    let a : standing_of j n (source_in x) ≡ relay_standing_in r n v.packet.src = ap (standing_of j n) (source_there x v payload value) ∙ sym (standing_is law r j n v.packet.src h l) in
-    ap (λ (b : Standing). reception (settings_of r) b from x) a
-    ∙ reception_by (settings_of r) (relay_standing_in r n v.packet.src) from x v true payload value
+-- a payload that was read, and a moment at which the relay may be called
+pub record IsRead (r : Relay) (n : ℕ) (x : List ℕ) (v : Value) : Type 0 where
+  pub clock : r.peers.moment ≤ n
+  pub payload : is_payload x ≡ true
+  pub of : IsPayloadOf x v
 
-pub received : (law : BelowRelay) (old new : Relay) (n : ℕ) (from : Ep) (x : List ℕ) (v : Value) (step : Step) → is_payload x ≡ true → IsPayloadOf x v → old.peers.moment ≤ n
-    → RelayTakesPayload old n from v (relay_fate_in old n from v) step new → Does old n (arrived from x) step new
+standing_there : (law : BelowRelay) (r : Relay) (j : List Entry) (n : ℕ) (x : List ℕ) (v : Value) → RelayStandsFor r j → IsRead r n x v
+    → standing_of j n (source_in x) ≡ relay_standing_in r n v.packet.src
+standing_there law r j n x v h is = ap (standing_of j n) (source_there x v is.payload is.of.value) ∙ sym (standing_is law r j n v.packet.src h is.clock)
+
+step_there : (r : Relay) (n : ℕ) (from : Ep) (x : List ℕ) (v : Value) (a : Standing) → IsRead r n x v → a ≡ relay_standing_in r n v.packet.src
+    → reception (settings_of r) a from x ≡ reception_step (relay_standing_in r n v.packet.src) x v (relay_fate_in r n from v)
+step_there r n from x v a is same =
+    ap (λ (b : Standing). reception (settings_of r) b from x) same
+    ∙ reception_by (settings_of r) (relay_standing_in r n v.packet.src) from x v is.payload is.of.value
+
+-- and what its line did with it
+pub record Received (old : Relay) (n : ℕ) (from : Ep) (x : List ℕ) (step : Step) (new : Relay) : Type 0 where
+  pub told : Value
+  pub read : IsRead old n x told
+  pub took : RelayTakesPayload old n from told (relay_fate_in old n from told) step new
+
+pub received : (law : BelowRelay) (old new : Relay) (n : ℕ) (from : Ep) (x : List ℕ) (step : Step) → Received old n from x step new
+    → Does old n (arrived from x) step new
 unfolding relay_in
-received law old new n from x v step payload is l r =
+received law old new n from x step r =
     let did : (j : List Entry) → RelayStandsFor old j → step ≡ reception (settings_of old) (standing_of j n (source_in x)) from x =
-    (λ j h. r.did x is ∙ sym (step_there law old j n from x v h l payload is.value)) in
+    (λ j h. r.took.did x r.read.of ∙ sym (step_there old n from x r.told (standing_of j n (source_in x)) r.read (standing_there law old j n x r.told h r.read))) in
     record {
       did = did;
       stands = λ j h. subst (λ (e : Entry). RelayStandsFor new (e ∷ j))
-          (λ i. entry n (arrived from x) (packet_in x) (sym (source_there x v payload is.value) i) (did j h i)) (r.stands j x h);
-      settings = r.settings;
-      clock = r.clock;
+          (λ i. entry n (arrived from x) (packet_in x) (sym (source_there x r.told r.read.payload r.read.of.value) i) (did j h i)) (r.took.stands j x h);
+      settings = r.took.settings;
+      clock = r.took.clock;
     }
 
 -- what isn't a payload is dropped

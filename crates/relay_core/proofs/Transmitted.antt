@@ -26,13 +26,18 @@ use Rattle.relay_rules.specs.Laws.{IsQuiet}
 use Rattle.relay_core.specs.Relay.{settings_of, relay_standing_in, RelayStandsFor, RelayEnters, Does, WantsMemory, to_wait, to_list}
 use Rattle.relay_core.specs.Lines.{RelayDropsPacket, given_to_relay}
 use Rattle.relay_core.specs.Below.{BelowRelay}
-use Rattle.relay_core.proofs.Entered.{bears_enters, none_enters, none_stands}
+use Rattle.relay_core.proofs.Entered.{OnlyPeers, bears_enters, none_enters, none_stands}
 use Rattle.relay_core.proofs.Read.{read_same, standing_is}
 
 -- a packet that was read
 pub record IsFields (x : List ℕ) (p : Fields) : Type 0 where
   pub packet : is_packet x ≡ true
   pub fields : fields_in x ≡ p
+
+-- and a moment at which the relay may be called
+pub record IsAsked (r : Relay) (n : ℕ) (x : List ℕ) (p : Fields) : Type 0 where
+  pub clock : r.peers.moment ≤ n
+  pub read : IsFields x p
 
 destination_there : (x : List ℕ) (p : Fields) → IsFields x p → destination_in x ≡ Some p.dst
 unfolding destination_in
@@ -42,68 +47,98 @@ packet_there : (x : List ℕ) → is_packet x ≡ true → packet_given x ≡ So
 unfolding packet_given
 packet_there x packet = λ i. if packet i then Some x else None
 
-standing_there : (law : BelowRelay) (r : Relay) (j : List Entry) (n : ℕ) (x : List ℕ) (p : Fields) → RelayStandsFor r j → r.peers.moment ≤ n → IsFields x p → standing_of j n (destination_in x) ≡ relay_standing_in r n p.dst
-standing_there law r j n x p h l is = ap (standing_of j n) (destination_there x p is) ∙ sym (standing_is law r j n p.dst h l)
+standing_there : (law : BelowRelay) (r : Relay) (j : List Entry) (n : ℕ) (x : List ℕ) (p : Fields) → RelayStandsFor r j → IsAsked r n x p
+    → standing_of j n (destination_in x) ≡ relay_standing_in r n p.dst
+standing_there law r j n x p h is = ap (standing_of j n) (destination_there x p is.read) ∙ sym (standing_is law r j n p.dst h is.clock)
 
 transmission_by : (s : RelaySettings) (a : Standing) (x : List ℕ) (p : Fields) → IsFields x p → transmission s a x ≡ transmission_step s a x p.dst (transmission_row (given_of s a true p))
 unfolding transmission table.given
 transmission_by s a x p is = λ i. transmission_step s a x (is.fields i).dst (transmission_row (given_of s a (is.packet i) (is.fields i)))
 
 -- what the table gives, as the relay reads itself
-transmission_there : (law : BelowRelay) (r : Relay) (j : List Entry) (n : ℕ) (x : List ℕ) (p : Fields) → RelayStandsFor r j → r.peers.moment ≤ n → IsFields x p
+transmission_there : (law : BelowRelay) (r : Relay) (j : List Entry) (n : ℕ) (x : List ℕ) (p : Fields) → RelayStandsFor r j → IsAsked r n x p
     → transmission (settings_of r) (standing_of j n (destination_in x)) x ≡ transmission_step (settings_of r) (relay_standing_in r n p.dst) x p.dst (transmission_row (given_to_relay r n p))
-transmission_there law r j n x p h l is =
-    ap (λ (a : Standing). transmission (settings_of r) a x) (standing_there law r j n x p h l is) ∙ transmission_by (settings_of r) (relay_standing_in r n p.dst) x p is
+transmission_there law r j n x p h is =
+    ap (λ (a : Standing). transmission (settings_of r) a x) (standing_there law r j n x p h is) ∙ transmission_by (settings_of r) (relay_standing_in r n p.dst) x p is.read
 
--- what a line did with it
-pub transmitted : (law : BelowRelay) (old new : Relay) (n : ℕ) (x : List ℕ) (p : Fields) (f : Fate) (step : Step) → IsFields x p → old.peers.moment ≤ n
-    → f ≡ transmission_row (given_to_relay old n p) → step ≡ transmission_step (settings_of old) (relay_standing_in old n p.dst) x p.dst f
-    → RelayEnters old (entry n (from_six x) (Some x) (Some p.dst) step) new → Does old n (from_six x) step new
+-- the line of a fate is found for it
+pub record IsLine (r : Relay) (n : ℕ) (x : List ℕ) (p : Fields) (f : Fate) : Type 0 where
+  pub is : IsAsked r n x p
+  pub row : f ≡ transmission_row (given_to_relay r n p)
+
+-- and did this with it
+pub record Transmits (old : Relay) (n : ℕ) (x : List ℕ) (p : Fields) (step : Step) (new : Relay) : Type 0 where
+  pub outcome : Fate
+  pub line : IsLine old n x p outcome
+  pub did : step ≡ transmission_step (settings_of old) (relay_standing_in old n p.dst) x p.dst outcome
+  pub entered : RelayEnters old (entry n (from_six x) (Some x) (Some p.dst) step) new
+
+pub transmitted : (law : BelowRelay) (old new : Relay) (n : ℕ) (x : List ℕ) (p : Fields) (step : Step) → Transmits old n x p step new
+    → Does old n (from_six x) step new
 unfolding relay_six
-transmitted law old new n x p f step is l row did entered =
+transmitted law old new n x p step t =
+    let is = t.line.is in
     let whole : (j : List Entry) → RelayStandsFor old j → step ≡ transmission (settings_of old) (standing_of j n (destination_in x)) x =
-    (λ j h. did ∙ ap (λ (g : Fate). transmission_step (settings_of old) (relay_standing_in old n p.dst) x p.dst g) row ∙ sym (transmission_there law old j n x p h l is)) in
+    (λ j h. t.did ∙ ap (λ (g : Fate). transmission_step (settings_of old) (relay_standing_in old n p.dst) x p.dst g) t.line.row ∙ sym (transmission_there law old j n x p h is)) in
     record {
       did = whole;
       stands = λ j h. subst (λ (e : Entry). RelayStandsFor new (e ∷ j))
-          (λ i. entry n (from_six x) (sym (packet_there x is.packet) i) (sym (destination_there x p is) i) (whole j h i)) (entered.stands j h);
-      settings = entered.settings;
-      clock = entered.clock;
+          (λ i. entry n (from_six x) (sym (packet_there x is.read.packet) i) (sym (destination_there x p is.read) i) (whole j h i)) (t.entered.stands j h);
+      settings = t.entered.settings;
+      clock = t.entered.clock;
     }
 
 -- THE LINES
 
-pub drops_packet : (law : BelowRelay) (r : Relay) (n : ℕ) (x : List ℕ) (p : Fields) (f : Fate) → IsFields x p → r.peers.moment ≤ n → f ≡ transmission_row (given_to_relay r n p) → RelayDropsPacket f → Does r n (from_six x) (just f) r
-drops_packet law r n x p f is l row d =
+pub drops_packet : (law : BelowRelay) (r : Relay) (n : ℕ) (x : List ℕ) (p : Fields) (f : Fate) → IsLine r n x p f → RelayDropsPacket f
+    → Does r n (from_six x) (just f) r
+drops_packet law r n x p f line d =
     let e : Entry = entry n (from_six x) (Some x) (Some p.dst) (just f) in
-    transmitted law r r n x p f (just f) is l row (sym (d.step (settings_of r) (relay_standing_in r n p.dst) x p.dst)) (none_enters law r e (bears_nothing (d.nothing e)) l)
+    transmitted law r r n x p (just f) (record {
+      outcome = f;
+      line = line;
+      did = sym (d.step (settings_of r) (relay_standing_in r n p.dst) x p.dst);
+      entered = none_enters law r e (bears_nothing (d.nothing e)) line.is.clock;
+    })
 
-pub sent : (law : BelowRelay) (old new : Relay) (n : ℕ) (x : List ℕ) (p : Fields) → IsFields x p → old.peers.moment ≤ n → fate.Sent ≡ transmission_row (given_to_relay old n p)
-    → Updates old.peers new.peers n p.dst (touched_at n (known_to old.peers n p.dst)) → settings_of new ≡ settings_of old
+pub sent : (law : BelowRelay) (old new : Relay) (n : ℕ) (x : List ℕ) (p : Fields) → IsLine old n x p fate.Sent
+    → OnlyPeers old n p.dst (touched_at n (known_to old.peers n p.dst)) new
     → Does old n (from_six x) (sending fate.Sent (send (embedded p.dst) x ∷ [])) new
-sent law old new n x p is l row u same =
+sent law old new n x p line o =
     let step = sending fate.Sent (send (embedded p.dst) x ∷ []) in
     let known = known_to old.peers n p.dst in
-    transmitted law old new n x p fate.Sent step is l row refl
-    (bears_enters law old new (entry n (from_six x) (Some x) (Some p.dst) step) p.dst (touched_at n known) u same (λ j h. record {
-      peer = refl;
-      clock = l;
-      peers = subst (λ (k : Peer). Updates old.peers new.peers n p.dst k) (sym (law.peers.calls_of_an_entry n known (Some p.dst)).touch) u;
-      quiet = λ cone before. subst (λ (k : Peer). IsQuiet k) (sym (law.peers.calls_of_an_entry n known (Some p.dst)).touch) (record { tries = before.tries; waiting = before.waiting });
-    }))
+    let touch = (law.peers.calls_of_an_entry n known (Some p.dst)).touch in
+    transmitted law old new n x p step (record {
+      outcome = fate.Sent;
+      line = line;
+      did = refl;
+      entered = bears_enters law old new (entry n (from_six x) (Some x) (Some p.dst) step) p.dst (touched_at n known) o (λ j h. record {
+        peer = refl;
+        clock = o.clock;
+        peers = subst (λ (k : Peer). Updates old.peers new.peers n p.dst k) (sym touch) o.peers;
+        quiet = λ cone before. subst (λ (k : Peer). IsQuiet k) (sym touch) (record { tries = before.tries; waiting = before.waiting });
+      });
+    })
 
 -- an address with the cone bit that was listed and trusted where it says
-pub sent_cone : (law : BelowRelay) (old mid new : Relay) (n : ℕ) (who : Ip6) (x : List ℕ) → old.peers.moment ≤ n → has_cone who ≡ true
-    → Updates old.peers mid.peers n who (touched_at n (known_to old.peers n who)) → Updates mid.peers new.peers n who (trusted_at n (embedded who) (known_to mid.peers n who))
-    → settings_of new ≡ settings_of old
+pub record AdmitsCone (old : Relay) (n : ℕ) (who : Ip6) (new : Relay) : Type 0 where
+  pub clock : old.peers.moment ≤ n
+  pub cone : has_cone who ≡ true
+  pub mid : Table
+  pub listed : Updates old.peers mid n who (touched_at n (known_to old.peers n who))
+  pub trusted : Updates mid new.peers n who (trusted_at n (embedded who) (known_to mid n who))
+  pub settings : settings_of new ≡ settings_of old
+
+pub sent_cone : (law : BelowRelay) (old new : Relay) (n : ℕ) (who : Ip6) (x : List ℕ) → AdmitsCone old n who new
     → RelayEnters old (entry n (from_six x) (Some x) (Some who) (sending fate.SentCone (send (embedded who) x ∷ []))) new
-sent_cone law old mid new n who x l cone listed trusted same =
+sent_cone law old new n who x a =
     let known = known_to old.peers n who in
-    let u : Updates old.peers new.peers n who (trusted_at n (embedded who) known) = (law.peers.touch_goes_on old.peers mid.peers n who (touched_at n known) refl listed).next new.peers (trusted_at n (embedded who)) trusted in
-    bears_enters law old new (entry n (from_six x) (Some x) (Some who) (sending fate.SentCone (send (embedded who) x ∷ []))) who (trusted_at n (embedded who) known) u same (λ j h. record {
+    let u : Updates old.peers new.peers n who (trusted_at n (embedded who) known) = (law.peers.touch_goes_on old.peers a.mid n who (touched_at n known) refl a.listed).next new.peers (trusted_at n (embedded who)) a.trusted in
+    bears_enters law old new (entry n (from_six x) (Some x) (Some who) (sending fate.SentCone (send (embedded who) x ∷ []))) who (trusted_at n (embedded who) known)
+    (record { clock = a.clock; peers = u; settings = a.settings }) (λ j h. record {
       peer = refl;
-      clock = l;
-      peers = subst (λ (k : Peer). Updates old.peers new.peers n who k) (sym ((law.peers.calls_of_an_entry n known (Some who)).trust (embedded who) (h.quiet n who l cone).tries)) u;
+      clock = a.clock;
+      peers = subst (λ (k : Peer). Updates old.peers new.peers n who k) (sym ((law.peers.calls_of_an_entry n known (Some who)).trust (embedded who) (h.quiet n who a.clock a.cone).tries)) u;
       quiet = λ it before. subst (λ (k : Peer). IsQuiet k) (sym ((law.peers.calls_of_an_entry n known (Some who)).trust (embedded who) before.tries)) (record { tries = refl; waiting = before.waiting });
     })
 
@@ -121,7 +156,8 @@ pub queued : (law : BelowRelay) (old new : Relay) (n : ℕ) (who : Ip6) (x : Lis
 queued law old new n who x true k =
     let known = known_to old.peers n who in
     let u : Updates old.peers new.peers n who (queued_at n x known) = subst (λ (t : Table). Updates old.peers t n who (queued_at n x known)) (sym k.tries) k.waits in
-    bears_enters law old new (entry n (from_six x) (Some x) (Some who) (queues true (settings_of old) who)) who (queued_at n x known) u k.settings (λ j h. record {
+    bears_enters law old new (entry n (from_six x) (Some x) (Some who) (queues true (settings_of old) who)) who (queued_at n x known)
+    (record { clock = k.clock; peers = u; settings = k.settings }) (λ j h. record {
       peer = refl;
       clock = k.clock;
       peers = subst (λ (p : Peer). Updates old.peers new.peers n who p) (sym ((law.peers.calls_of_an_entry n known (Some who)).wait x)) u;
@@ -130,7 +166,8 @@ queued law old new n who x true k =
 queued law old new n who x false k =
     let known = known_to old.peers n who in
     let u : Updates old.peers new.peers n who (tried_at n None (queued_at n x known)) = (law.peers.touch_goes_on old.peers k.mid n who (queued_at n x known) refl k.waits).next new.peers (tried_at n None) k.tries in
-    bears_enters law old new (entry n (from_six x) (Some x) (Some who) (queues false (settings_of old) who)) who (tried_at n None (queued_at n x known)) u k.settings (λ j h. record {
+    bears_enters law old new (entry n (from_six x) (Some x) (Some who) (queues false (settings_of old) who)) who (tried_at n None (queued_at n x known))
+    (record { clock = k.clock; peers = u; settings = k.settings }) (λ j h. record {
       peer = refl;
       clock = k.clock;
       peers = subst (λ (p : Peer). Updates old.peers new.peers n who p) (sym ((law.peers.calls_of_an_entry n known (Some who)).wait_tried x None)) u;
@@ -166,20 +203,20 @@ short x p small inside = let most = ltb-false _ _ small in omega (arith, inside,
 
 -- WHERE MEMORY WAS WANTING
 
-fate_there : (law : BelowRelay) (r : Relay) (j : List Entry) (n : ℕ) (x : List ℕ) (p : Fields) → RelayStandsFor r j → r.peers.moment ≤ n → IsFields x p
+fate_there : (law : BelowRelay) (r : Relay) (j : List Entry) (n : ℕ) (x : List ℕ) (p : Fields) → RelayStandsFor r j → IsAsked r n x p
     → (relay_six (settings_of r) j n x).step.fate ≡ transmission_row (given_to_relay r n p)
 unfolding relay_six table.given
-fate_there law r j n x p h l is =
-    let a = standing_there law r j n x p h l is in
-    law.fate_of_transmission (settings_of r) (standing_of j n (destination_in x)) x ∙ (λ i. transmission_row (given_of (settings_of r) (a i) (is.packet i) (is.fields i)))
+fate_there law r j n x p h is =
+    let a = standing_there law r j n x p h is in
+    law.fate_of_transmission (settings_of r) (standing_of j n (destination_in x)) x ∙ (λ i. transmission_row (given_of (settings_of r) (a i) (is.read.packet i) (is.read.fields i)))
 
-pub wants_queue : (law : BelowRelay) (r : Relay) (n : ℕ) (x : List ℕ) (p : Fields) → IsFields x p → r.peers.moment ≤ n → fate.Queued ≡ transmission_row (given_to_relay r n p) → WantsMemory r n x
-wants_queue law r n x p is l row j h = to_wait (fate_there law r j n x p h l is ∙ sym row)
+pub wants_queue : (law : BelowRelay) (r : Relay) (n : ℕ) (x : List ℕ) (p : Fields) → IsLine r n x p fate.Queued → WantsMemory r n x
+wants_queue law r n x p line j h = to_wait (fate_there law r j n x p h line.is ∙ sym line.row)
 
-pub wants_place : (law : BelowRelay) (r : Relay) (n : ℕ) (x : List ℕ) (p : Fields) → IsFields x p → r.peers.moment ≤ n → fate.SentCone ≡ transmission_row (given_to_relay r n p)
+pub wants_place : (law : BelowRelay) (r : Relay) (n : ℕ) (x : List ℕ) (p : Fields) → IsLine r n x p fate.SentCone
     → is_some (peer_in r.peers n p.dst) ≡ false → WantsMemory r n x
-wants_place law r n x p is l row unlisted j h =
-    to_list (fate_there law r j n x p h l is ∙ sym row)
-    (ap (λ (q : Option Ip6). is_some (peer_at (mentions j) n (unwrap_or q unspecified))) (destination_there x p is)
-    ∙ ap (λ (q : Option Peer). is_some q) (sym ((read_same law r j n h l).peer p.dst))
+wants_place law r n x p line unlisted j h =
+    to_list (fate_there law r j n x p h line.is ∙ sym line.row)
+    (ap (λ (q : Option Ip6). is_some (peer_at (mentions j) n (unwrap_or q unspecified))) (destination_there x p line.is.read)
+    ∙ ap (λ (q : Option Peer). is_some q) (sym ((read_same law r j n h line.is.clock).peer p.dst))
     ∙ unlisted)

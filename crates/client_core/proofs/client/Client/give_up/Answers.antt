@@ -14,7 +14,8 @@ returns-clause-entered c =
     let old = c.args.self.now in
     let step : c.set_gone.new.self ≡ record (just fate.GiveUp) { gone = c.give_up-gone.result } = c.set_gone.ensures ∙ (λ i. record (c.reset.ensures i) { gone = c.from.ensures i }) in
     subst (λ (s : Step). Enters old (entry n ticked None (Some c.args.who) (words_ahead old) s) (record old { peers = c.give_up-gone.new.self })) (sym step)
-    (gave_up c.below.ensures old (record old { peers = c.give_up-gone.new.self }) n c.args.who c.give_up-gone.result c.requires.callable.clock c.give_up-gone.ensures.rest refl refl)
+    (gave_up c.below.ensures old (record old { peers = c.give_up-gone.new.self }) n c.args.who c.give_up-gone.result
+    (record { clock = c.requires.callable.clock; peers = c.give_up-gone.ensures.rest; qualifier = refl; rng = refl }))
 
 pub returns-clause-less : goal.returns-clause-less
 returns-clause-less c =

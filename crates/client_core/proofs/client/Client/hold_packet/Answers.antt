@@ -6,7 +6,7 @@ use Rattle.peer_list.specs.Table.{known_to}
 use Rattle.peer_list.specs.Calls.{Updates, held_at}
 use Rattle.client_core.specs.declared.client.Client.{Client}
 use Rattle.client_core.specs.Client.{TakesPayload}
-use Rattle.client_core.proofs.Acts.{held}
+use Rattle.client_core.proofs.Holds.{held}
 use Rattle.client_core.proofs.Listed.{listed_has_room}
 use Rattle.client_core.proofs.client.Client.hold_packet.Goals as goal
 

@@ -35,7 +35,11 @@ queue-requires-clause-short c = short c.args.bytes.now (packet_view c.in-Ok.pack
 pub returns-in-Drop-clause-done : goal.returns-in-Drop-clause-done
 returns-in-Drop-clause-done c =
     subst (λ (s : Step). Does c.args.self.now c.args.now.0 (given c.args.bytes.now) s c.args.self.now) (sym c.reset-in-Drop.ensures)
-    (drops_packet c.below.ensures c.args.self.now c.args.now.0 c.args.bytes.now (packet_view c.in-Ok.packet) c.in-Drop.fate (record { packet = c.in-Ok.ensures.seen.0; fields = c.in-Ok.ensures.seen.1 }) c.requires.callable.clock c.in-Drop.ensures.row c.in-Drop.ensures.warrant)
+    (drops_packet c.below.ensures c.args.self.now c.args.now.0 c.args.bytes.now (packet_view c.in-Ok.packet) c.in-Drop.fate
+    (record {
+      is = record { clock = c.requires.callable.clock; packet = c.in-Ok.ensures.seen.0; fields = c.in-Ok.ensures.seen.1 };
+      row = c.in-Drop.ensures.row;
+    }) c.in-Drop.ensures.warrant)
 
 pub returns-in-Sent-clause-done : goal.returns-in-Sent-clause-done
 returns-in-Sent-clause-done c =
@@ -43,7 +47,14 @@ returns-in-Sent-clause-done c =
     let new : Client = record old { peers = c.touch.new.self } in
     let step : c.push.new.self ≡ sending fate.Sent (send c.in-Sent.to c.args.bytes.now ∷ []) = c.push.ensures ∙ (λ i. with_send (c.reset-in-Sent.ensures i) (send c.in-Sent.to c.args.bytes.now)) in
     subst (λ (s : Step). Does old c.args.now.0 (given c.args.bytes.now) s new) (sym step)
-    (sent c.below.ensures old new c.args.now.0 c.args.bytes.now (packet_view c.in-Ok.packet) c.in-Sent.to (record { packet = c.in-Ok.ensures.seen.0; fields = c.in-Ok.ensures.seen.1 }) c.requires.callable.clock c.in-Sent.ensures.row c.in-Sent.ensures.warrant.trusted c.touch.ensures refl refl)
+    (sent c.below.ensures old new c.args.now.0 c.args.bytes.now (packet_view c.in-Ok.packet) c.in-Sent.to (record {
+      line = record {
+        is = record { clock = c.requires.callable.clock; packet = c.in-Ok.ensures.seen.0; fields = c.in-Ok.ensures.seen.1 };
+        row = c.in-Sent.ensures.row;
+      };
+      trusted = c.in-Sent.ensures.warrant.trusted;
+      touched = record { clock = c.requires.callable.clock; peers = c.touch.ensures; qualifier = refl; rng = refl };
+    }))
 
 pub returns-in-SentCone-clause-done : goal.returns-in-SentCone-clause-done
 returns-in-SentCone-clause-done c =
@@ -51,17 +62,33 @@ returns-in-SentCone-clause-done c =
     let p = packet_view c.in-Ok.packet in
     let step : c.push-in-SentCone.new.self ≡ sending fate.SentCone (send (embedded p.dst) c.args.bytes.now ∷ []) = c.push-in-SentCone.ensures ∙ (λ i. with_send (c.reset-in-SentCone.ensures i) (send (c.embedded.ensures i) c.args.bytes.now)) in
     subst (λ (s : Step). Does old c.args.now.0 (given c.args.bytes.now) s old) (sym step)
-    (sent_cone c.below.ensures old c.args.now.0 c.args.bytes.now p (record { packet = c.in-Ok.ensures.seen.0; fields = c.in-Ok.ensures.seen.1 }) c.requires.callable.clock c.in-SentCone.ensures.row)
+    (sent_cone c.below.ensures old c.args.now.0 c.args.bytes.now p
+    (record {
+      is = record { clock = c.requires.callable.clock; packet = c.in-Ok.ensures.seen.0; fields = c.in-Ok.ensures.seen.1 };
+      row = c.in-SentCone.ensures.row;
+    }))
 
 pub returns-in-Queued-clause-done : goal.returns-in-Queued-clause-done
 returns-in-Queued-clause-done c =
     let old = c.args.self.now in
     let p = packet_view c.in-Ok.packet in
     on_ok_both c.queue.result
-    (transmitted c.below.ensures old c.queue.new.self c.args.now.0 c.args.bytes.now p fate.Queued c.queue.new.step (record { packet = c.in-Ok.ensures.seen.0; fields = c.in-Ok.ensures.seen.1 }) c.requires.callable.clock c.in-Queued.ensures.row)
+    (λ did entered. transmitted c.below.ensures old c.queue.new.self c.args.now.0 c.args.bytes.now p c.queue.new.step (record {
+      outcome = fate.Queued;
+      line = record {
+        is = record { clock = c.requires.callable.clock; packet = c.in-Ok.ensures.seen.0; fields = c.in-Ok.ensures.seen.1 };
+        row = c.in-Queued.ensures.row;
+      };
+      did = did;
+      entered = entered;
+    }))
     c.queue.ensures.step c.queue.ensures.entered
 
 pub returns-in-Queued-clause-starved : goal.returns-in-Queued-clause-starved
 returns-in-Queued-clause-starved c =
     on_err_always c.queue.result
-    (wants_queue c.below.ensures c.args.self.now c.args.now.0 c.args.bytes.now (packet_view c.in-Ok.packet) (record { packet = c.in-Ok.ensures.seen.0; fields = c.in-Ok.ensures.seen.1 }) c.requires.callable.clock c.in-Queued.ensures.row)
+    (wants_queue c.below.ensures c.args.self.now c.args.now.0 c.args.bytes.now (packet_view c.in-Ok.packet)
+    (record {
+      is = record { clock = c.requires.callable.clock; packet = c.in-Ok.ensures.seen.0; fields = c.in-Ok.ensures.seen.1 };
+      row = c.in-Queued.ensures.row;
+    }))

@@ -22,10 +22,12 @@ returns-clause-entered c =
     let barred = c.is_barred-barred.result in
     let step : c.try_unless.new.step ≡ queues barred (settings_of old) a c.args.who (words_ahead old) = c.try_unless.ensures.step a refl in
     subst (λ (s : Step). Enters old (entry n (given c.args.bytes.now) (Some c.args.bytes.now) (Some c.args.who) (words_ahead old) s) c.try_unless.new.self) (sym step)
-    (queued c.below.ensures old c.try_unless.new.self n c.args.who c.args.bytes.now barred a (record {
+    (queued c.below.ensures old c.try_unless.new.self n c.args.who c.args.bytes.now barred (record {
       clock = c.requires.callable.clock;
       mid = c.wait.new.self;
       waits = c.in_ok-wait.ensures.queued;
       tries = c.try_unless.ensures.peers;
       qualifier = c.try_unless.ensures.qualifier;
-    }) (c.try_unless.ensures.place ∙ ap (λ (s : Step). after_words s.drawn old.rng) step))
+      standing = a;
+      place = c.try_unless.ensures.place ∙ ap (λ (s : Step). after_words s.drawn old.rng) step;
+    }))

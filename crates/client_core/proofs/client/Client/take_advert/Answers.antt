@@ -22,12 +22,16 @@ returns-in_default c =
     record {
       done = subst (λ (s : Step). TakesPayload old c.args.now.0 c.args.from v (advert_row (settings_of old) old.qualifier.now c.args.from v) s new) (sym step)
           (advert_kept c.below.ensures old new c.args.now.0 c.args.from v f (record {
-            clock = c.requires.callable.clock;
-            row = c.on_advert-fate.ensures.fate;
-            stands = c.on_advert-fate.ensures.stands;
-            place = c.on_advert-fate.ensures.place;
-            settings = c.on_advert-fate.ensures.settings;
-          }) c.in_default.not-Changed refl);
+            took = record {
+              clock = c.requires.callable.clock;
+              row = c.on_advert-fate.ensures.fate;
+              stands = c.on_advert-fate.ensures.stands;
+              place = c.on_advert-fate.ensures.place;
+              settings = c.on_advert-fate.ensures.settings;
+            };
+            other = c.in_default.not-Changed;
+            peers = refl;
+          }));
     }
 
 pub returns-in-Changed : goal.returns-in-Changed
@@ -49,5 +53,9 @@ returns-in-Changed c =
     } in
     record {
       done = subst (λ (s : Step). TakesPayload old n c.args.from v (advert_row (settings_of old) old.qualifier.now c.args.from v) s new) (sym step)
-          (advert_changed c.below.ensures old new n c.args.from v (subst (λ (f : Fate). Took old n c.args.from v f new) is took) c.clear.ensures.stands (omega (arith, ap (λ (t : Table). t.moment) c.clear.ensures.empty)));
+          (advert_changed c.below.ensures old new n c.args.from v (record {
+            took = subst (λ (f : Fate). Took old n c.args.from v f new) is took;
+            none = c.clear.ensures.stands;
+            clock = omega (arith, ap (λ (t : Table). t.moment) c.clear.ensures.empty);
+          }));
     }

@@ -42,7 +42,13 @@ returns c =
     let n = c.args.now.0 in
     let phase : is_due n old.qualifier.now.due ≡ false = ap (λ (d : Option ℕ). is_due n d) (sym c.due.ensures.value) ∙ sym c.is_past.ensures ∙ c.if-is_past.false in
     record {
-      done = ticked_does c.below.ensures old c.tick_peer.new.self n (peer_due n (first_due_in old.peers n)) c.tick_peer.new.step c.requires.callable.clock (of_peers old n phase) (λ j h. c.tick_peer.ensures.step) c.tick_peer.ensures.entered;
+      done = ticked_does c.below.ensures old c.tick_peer.new.self n c.tick_peer.new.step (record {
+        clock = c.requires.callable.clock;
+        due = peer_due n (first_due_in old.peers n);
+        is = of_peers old n phase;
+        did = λ j h. c.tick_peer.ensures.step;
+        entered = c.tick_peer.ensures.entered;
+      });
       idle = peers_idle_too old c.tick_peer.new.self n c.tick_peer.new.step phase c.tick_peer.ensures.less;
       less = peers_lessen old c.tick_peer.new.self n c.tick_peer.new.step phase c.tick_peer.ensures.less;
     }

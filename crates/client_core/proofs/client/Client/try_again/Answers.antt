@@ -24,9 +24,12 @@ returns-clause-entered c =
     let step : c.send_try-nonce.new.step ≡ record (sending (try_fate (is_teredo c.args.who)) sends) { drawn = try_words c.args.who } =
     c.send_try-nonce.ensures.step ∙ (λ i. record (sending (c.fate_of_try-fate.ensures i) sends) { drawn = try_words c.args.who }) in
     subst (λ (s : Step). Enters old (entry n ticked None (Some c.args.who) (words_ahead old) s) new) (sym step)
-    (tried_again c.below.ensures old new n c.args.who sends c.requires.callable.clock
-    (subst (λ (k : Option ℕ). Updates old.peers c.tried.new.self n c.args.who (tried_at n k (known_to old.peers n c.args.who))) c.send_try-nonce.ensures.nonce c.tried.ensures.tried)
-    refl c.send_try-nonce.ensures.place)
+    (tried_again c.below.ensures old new n c.args.who sends (record {
+      clock = c.requires.callable.clock;
+      peers = subst (λ (k : Option ℕ). Updates old.peers c.tried.new.self n c.args.who (tried_at n k (known_to old.peers n c.args.who))) c.send_try-nonce.ensures.nonce c.tried.ensures.tried;
+      qualifier = refl;
+      place = c.send_try-nonce.ensures.place;
+    }))
 
 pub returns-clause-less : goal.returns-clause-less
 returns-clause-less c =

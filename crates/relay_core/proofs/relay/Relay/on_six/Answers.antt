@@ -27,27 +27,48 @@ queue-requires-clause-short c = short c.args.bytes.now (packet_view c.in-Ok.pack
 pub returns-in-Drop-clause-done : goal.returns-in-Drop-clause-done
 returns-in-Drop-clause-done c =
     subst (λ (s : Step). Does c.args.self.now c.args.now.0 (from_six c.args.bytes.now) s c.args.self.now) (sym c.reset-in-Drop.ensures)
-    (drops_packet c.below.ensures c.args.self.now c.args.now.0 c.args.bytes.now (packet_view c.in-Ok.packet) c.in-Drop.fate (record { packet = c.in-Ok.ensures.seen.0; fields = c.in-Ok.ensures.seen.1 }) c.requires.callable.clock c.in-Drop.ensures.row c.in-Drop.ensures.warrant)
+    (drops_packet c.below.ensures c.args.self.now c.args.now.0 c.args.bytes.now (packet_view c.in-Ok.packet) c.in-Drop.fate
+    (record {
+      is = record { clock = c.requires.callable.clock; read = record { packet = c.in-Ok.ensures.seen.0; fields = c.in-Ok.ensures.seen.1 } };
+      row = c.in-Drop.ensures.row;
+    }) c.in-Drop.ensures.warrant)
 
 pub returns-in-Sent-clause-done : goal.returns-in-Sent-clause-done
 returns-in-Sent-clause-done c =
     let old = c.args.self.now in
     let new : Relay = record old { peers = c.touch.new.self } in
     subst (λ (s : Step). Does old c.args.now.0 (from_six c.args.bytes.now) s new) (sym c.send_packet.ensures)
-    (sent c.below.ensures old new c.args.now.0 c.args.bytes.now (packet_view c.in-Ok.packet) (record { packet = c.in-Ok.ensures.seen.0; fields = c.in-Ok.ensures.seen.1 }) c.requires.callable.clock c.in-Sent.ensures.row c.touch.ensures refl)
+    (sent c.below.ensures old new c.args.now.0 c.args.bytes.now (packet_view c.in-Ok.packet)
+    (record {
+      is = record { clock = c.requires.callable.clock; read = record { packet = c.in-Ok.ensures.seen.0; fields = c.in-Ok.ensures.seen.1 } };
+      row = c.in-Sent.ensures.row;
+    })
+    (record { clock = c.requires.callable.clock; peers = c.touch.ensures; settings = refl }))
 
 pub returns-in-SentCone-clause-done : goal.returns-in-SentCone-clause-done
 returns-in-SentCone-clause-done c =
     let old = c.args.self.now in
     let p = packet_view c.in-Ok.packet in
     on_ok_both c.send_cone.result
-    (transmitted c.below.ensures old c.send_cone.new.self c.args.now.0 c.args.bytes.now p fate.SentCone c.send_cone.new.step (record { packet = c.in-Ok.ensures.seen.0; fields = c.in-Ok.ensures.seen.1 }) c.requires.callable.clock c.in-SentCone.ensures.row)
+    (λ did entered. transmitted c.below.ensures old c.send_cone.new.self c.args.now.0 c.args.bytes.now p c.send_cone.new.step (record {
+      outcome = fate.SentCone;
+      line = record {
+        is = record { clock = c.requires.callable.clock; read = record { packet = c.in-Ok.ensures.seen.0; fields = c.in-Ok.ensures.seen.1 } };
+        row = c.in-SentCone.ensures.row;
+      };
+      did = did;
+      entered = entered;
+    }))
     c.send_cone.ensures.step c.send_cone.ensures.entered
 
 pub returns-in-SentCone-clause-starved : goal.returns-in-SentCone-clause-starved
 returns-in-SentCone-clause-starved c =
     on_err_weaker c.send_cone.result
-    (wants_place c.below.ensures c.args.self.now c.args.now.0 c.args.bytes.now (packet_view c.in-Ok.packet) (record { packet = c.in-Ok.ensures.seen.0; fields = c.in-Ok.ensures.seen.1 }) c.requires.callable.clock c.in-SentCone.ensures.row)
+    (wants_place c.below.ensures c.args.self.now c.args.now.0 c.args.bytes.now (packet_view c.in-Ok.packet)
+    (record {
+      is = record { clock = c.requires.callable.clock; read = record { packet = c.in-Ok.ensures.seen.0; fields = c.in-Ok.ensures.seen.1 } };
+      row = c.in-SentCone.ensures.row;
+    }))
     c.send_cone.ensures.unlisted
 
 pub returns-in-Queued-clause-done : goal.returns-in-Queued-clause-done
@@ -55,10 +76,22 @@ returns-in-Queued-clause-done c =
     let old = c.args.self.now in
     let p = packet_view c.in-Ok.packet in
     on_ok_both c.queue.result
-    (transmitted c.below.ensures old c.queue.new.self c.args.now.0 c.args.bytes.now p fate.Queued c.queue.new.step (record { packet = c.in-Ok.ensures.seen.0; fields = c.in-Ok.ensures.seen.1 }) c.requires.callable.clock c.in-Queued.ensures.row)
+    (λ did entered. transmitted c.below.ensures old c.queue.new.self c.args.now.0 c.args.bytes.now p c.queue.new.step (record {
+      outcome = fate.Queued;
+      line = record {
+        is = record { clock = c.requires.callable.clock; read = record { packet = c.in-Ok.ensures.seen.0; fields = c.in-Ok.ensures.seen.1 } };
+        row = c.in-Queued.ensures.row;
+      };
+      did = did;
+      entered = entered;
+    }))
     c.queue.ensures.step c.queue.ensures.entered
 
 pub returns-in-Queued-clause-starved : goal.returns-in-Queued-clause-starved
 returns-in-Queued-clause-starved c =
     on_err_always c.queue.result
-    (wants_queue c.below.ensures c.args.self.now c.args.now.0 c.args.bytes.now (packet_view c.in-Ok.packet) (record { packet = c.in-Ok.ensures.seen.0; fields = c.in-Ok.ensures.seen.1 }) c.requires.callable.clock c.in-Queued.ensures.row)
+    (wants_queue c.below.ensures c.args.self.now c.args.now.0 c.args.bytes.now (packet_view c.in-Ok.packet)
+    (record {
+      is = record { clock = c.requires.callable.clock; read = record { packet = c.in-Ok.ensures.seen.0; fields = c.in-Ok.ensures.seen.1 } };
+      row = c.in-Queued.ensures.row;
+    }))

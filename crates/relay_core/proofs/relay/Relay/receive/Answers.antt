@@ -13,5 +13,8 @@ returns-in_default c =
 
 pub returns : goal.returns
 returns c =
-    received c.below.ensures c.args.self.now c.receive_payload.new.self c.args.now.0 c.args.from c.args.bytes.now (view c.in-Ok.payload) c.receive_payload.new.step c.in-Ok.ensures.seen.0
-    (record { value = c.in-Ok.ensures.seen.1; inside = c.in-Ok.ensures.inside }) c.requires.callable.clock c.receive_payload.ensures
+    received c.below.ensures c.args.self.now c.receive_payload.new.self c.args.now.0 c.args.from c.args.bytes.now c.receive_payload.new.step (record {
+      told = view c.in-Ok.payload;
+      read = record { clock = c.requires.callable.clock; payload = c.in-Ok.ensures.seen.0; of = record { value = c.in-Ok.ensures.seen.1; inside = c.in-Ok.ensures.inside } };
+      took = c.receive_payload.ensures;
+    })

@@ -18,8 +18,13 @@ pub returns-clause-entered : goal.returns-clause-entered
 returns-clause-entered c =
     let old = c.args.self.now in
     let n = c.args.now.0 in
-    let mid : Relay = record old { peers = c.list.new.self } in
     let new : Relay = record old { peers = c.trust.new.self } in
     subst (λ (s : Step). RelayEnters old (entry n (from_six c.args.bytes.now) (Some c.args.bytes.now) (Some c.args.who) s) new) (sym c.send_packet.ensures)
-    (sent_cone c.below.ensures old mid new n c.args.who c.args.bytes.now c.requires.callable.clock c.requires.cone c.in_ok-list.ensures.listed
-    (subst (λ (at : Ep). Updates mid.peers new.peers n c.args.who (trusted_at n at (known_to mid.peers n c.args.who))) c.embedded.ensures c.trust.ensures) refl)
+    (sent_cone c.below.ensures old new n c.args.who c.args.bytes.now (record {
+      clock = c.requires.callable.clock;
+      cone = c.requires.cone;
+      mid = c.list.new.self;
+      listed = c.in_ok-list.ensures.listed;
+      trusted = subst (λ (at : Ep). Updates c.list.new.self new.peers n c.args.who (trusted_at n at (known_to c.list.new.self n c.args.who))) c.embedded.ensures c.trust.ensures;
+      settings = refl;
+    }))

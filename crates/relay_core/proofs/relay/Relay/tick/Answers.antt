@@ -1,4 +1,4 @@
-use Rattle.std.proofs.Common.{◌≡◌, sym, subst, ◌∙◌, ap, Option, None}
+use Rattle.std.proofs.Common.{◌≡◌, true, false, sym, subst, ◌∙◌, ap, Option, None}
 use Rattle.peer_list.specs.Overdue.{listing_at}
 use Rattle.std.specs.Prelude.{option_map, IfNone}
 use Rattle.td_base.specs.declared.ipv6.Ip6.{Ip6}
@@ -28,9 +28,14 @@ returns-then-is_spent c =
     let old = c.args.self.now in
     let n = c.args.now.0 in
     record {
-      done = does_peer c.below.ensures old c.give_up.new.self n c.in-Some.who _ c.give_up.new.step c.requires.callable.clock
-          (sym c.overdue.ensures.first ∙ ap (λ (o : Option Ip6). option_map (λ (who : Ip6). listing_at old.peers n who) o) c.in-Some.is)
-          (sym c.is_spent.ensures ∙ c.if-is_spent.true) c.give_up.ensures.step c.give_up.ensures.entered;
+      done = does_peer c.below.ensures old c.give_up.new.self n c.in-Some.who c.give_up.new.step (record {
+        clock = c.requires.callable.clock;
+        is = sym c.overdue.ensures.first ∙ ap (λ (o : Option Ip6). option_map (λ (who : Ip6). listing_at old.peers n who) o) c.in-Some.is;
+        spent = true;
+        so = sym c.is_spent.ensures ∙ c.if-is_spent.true;
+        did = c.give_up.ensures.step;
+        entered = c.give_up.ensures.entered;
+      });
       idle = put_off_idles old c.give_up.new.self n c.give_up.new.step c.give_up.ensures.less;
       less = put_off_lessens old c.give_up.new.self n c.give_up.new.step c.give_up.ensures.less;
     }
@@ -40,9 +45,14 @@ returns c =
     let old = c.args.self.now in
     let n = c.args.now.0 in
     record {
-      done = does_peer c.below.ensures old c.try_again.new.self n c.in-Some.who _ c.try_again.new.step c.requires.callable.clock
-          (sym c.overdue.ensures.first ∙ ap (λ (o : Option Ip6). option_map (λ (who : Ip6). listing_at old.peers n who) o) c.in-Some.is)
-          (sym c.is_spent.ensures ∙ c.if-is_spent.false) c.try_again.ensures.step c.try_again.ensures.entered;
+      done = does_peer c.below.ensures old c.try_again.new.self n c.in-Some.who c.try_again.new.step (record {
+        clock = c.requires.callable.clock;
+        is = sym c.overdue.ensures.first ∙ ap (λ (o : Option Ip6). option_map (λ (who : Ip6). listing_at old.peers n who) o) c.in-Some.is;
+        spent = false;
+        so = sym c.is_spent.ensures ∙ c.if-is_spent.false;
+        did = c.try_again.ensures.step;
+        entered = c.try_again.ensures.entered;
+      });
       idle = put_off_idles old c.try_again.new.self n c.try_again.new.step c.try_again.ensures.less;
       less = put_off_lessens old c.try_again.new.self n c.try_again.new.step c.try_again.ensures.less;
     }

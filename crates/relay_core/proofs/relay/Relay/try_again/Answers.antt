@@ -12,7 +12,8 @@ returns-clause-entered c =
     let old = c.args.self.now in
     let n = c.args.now.0 in
     subst (λ (s : Step). RelayEnters old (entry n ticked None (Some c.args.who) s) (record old { peers = c.tried.new.self })) (sym c.send_bubble.ensures)
-    (tried_again c.below.ensures old (record old { peers = c.tried.new.self }) n c.args.who c.requires.callable.clock c.requires.overdue c.tried.ensures.tried refl)
+    (tried_again c.below.ensures old (record old { peers = c.tried.new.self }) n c.args.who c.requires.overdue
+    (record { clock = c.requires.callable.clock; peers = c.tried.ensures.tried; settings = refl }))
 
 pub returns-clause-less : goal.returns-clause-less
 returns-clause-less c =
