@@ -28,22 +28,47 @@ pub received : (l : OneArrival) (x : List ℕ) → l.is_taken ≡ false → x �
 received l x free is = rw (free, is) (record { coming = (refl, refl); taken = tt; attempts = tt })
 
 -- a server that is asked through such a link answers that datagram
-pub asked : (s : ServerSettings) (l l' : OneArrival) (step : Step) (new : ServerSettings) (from : Ep) (len failed : ℕ)
-    → l.is_taken ≡ false → length l.bytes.now ≤ DATAGRAM_MAX
-    → AnswersArrival (λ side from x step new. MeetsRow s side from x step new) new (told_of l) (told_of l') step from len failed
-    → step ≡ server_row s (coming_side l.on l.side) l.from l.bytes.now
-asked s l l' step new from len failed free short answers =
+pub record Answered (s : ServerSettings) (l l' : OneArrival) (step : Step) : Type 0 where
+  pub free : l.is_taken ≡ false
+  pub short : length l.bytes.now ≤ DATAGRAM_MAX
+  pub new : ServerSettings
+  pub from : Ep
+  pub len : ℕ
+  pub failed : ℕ
+  pub answers : AnswersArrival (λ side from x step new. MeetsRow s side from x step new) new (told_of l) (told_of l') step from len failed
+
+asked : (s : ServerSettings) (l l' : OneArrival) (step : Step) → Answered s l l' step → step ≡ server_row s (coming_side l.on l.side) l.from l.bytes.now
+asked s l l' step a =
+    let answers = a.answers in
+    let from : Ep = a.from in
     let came : Datagram answers.side from answers.bytes ≡ next_came (if l.is_taken then [] else Datagram (coming_side l.on l.side) l.from (take DATAGRAM_MAX l.bytes.now) ∷ []) = answers.told.coming.0 in
-    let is : Datagram answers.side from answers.bytes ≡ Datagram (coming_side l.on l.side) l.from (take DATAGRAM_MAX l.bytes.now) = came ∙ rw free refl in
+    let is : Datagram answers.side from answers.bytes ≡ Datagram (coming_side l.on l.side) l.from (take DATAGRAM_MAX l.bytes.now) = came ∙ rw (a.free) refl in
     let side : answers.side ≡ coming_side l.on l.side = cc in
     let source : from ≡ l.from = cc in
     let bytes : answers.bytes ≡ take DATAGRAM_MAX l.bytes.now = cc in
-    answers.answered.1 ∙ rw (side, source, bytes, take_all DATAGRAM_MAX l.bytes.now short) refl
+    answers.answered.1 ∙ rw (side, source, bytes, take_all DATAGRAM_MAX l.bytes.now a.short) refl
 
-pub asked_by : (s : ServerSettings) (l l' : OneArrival) (step : Step) (new : ServerSettings) (from : Ep) (len failed : ℕ) (taken : Pumped) (result : Result Pumped PumpFault)
-    → result ≡ Ok taken → taken ≡ Took from len failed → l.is_taken ≡ false → length l.bytes.now ≤ DATAGRAM_MAX
-    → Pumps (λ side from x step new. MeetsRow s side from x step new) (λ side from x. ⊥) new (told_of l) (told_of l') step result
-    → step ≡ server_row s (coming_side l.on l.side) l.from l.bytes.now
-asked_by s l l' step new from len failed taken result ok took free short pumps =
-    let P : Result Pumped PumpFault → Type 0 = λ r. Pumps (λ side from x step new. MeetsRow s side from x step new) (λ side from x. ⊥) new (told_of l) (told_of l') step r in
-    asked s l l' step new from len failed free short (subst P (ok ∙ ap (λ (t : Pumped). Ok t) took) pumps)
+-- so does one that is pumped, where that took a datagram
+pub record PumpedOnce (s : ServerSettings) (l l' : OneArrival) (step : Step) : Type 0 where
+  pub free : l.is_taken ≡ false
+  pub short : length l.bytes.now ≤ DATAGRAM_MAX
+  pub new : ServerSettings
+  pub result : Result Pumped PumpFault
+  pub pumps : Pumps (λ side from x step new. MeetsRow s side from x step new) (λ side from x. ⊥) new (told_of l) (told_of l') step result
+  pub from : Ep
+  pub len : ℕ
+  pub failed : ℕ
+  pub took : result ≡ Ok (Took from len failed)
+
+pub asked_by : (s : ServerSettings) (l l' : OneArrival) (step : Step) → PumpedOnce s l l' step → step ≡ server_row s (coming_side l.on l.side) l.from l.bytes.now
+asked_by s l l' step p =
+    let P : Result Pumped PumpFault → Type 0 = λ r. Pumps (λ side from x step new. MeetsRow s side from x step new) (λ side from x. ⊥) p.new (told_of l) (told_of l') step r in
+    asked s l l' step (record {
+      free = p.free;
+      short = p.short;
+      new = p.new;
+      from = p.from;
+      len = p.len;
+      failed = p.failed;
+      answers = subst P p.took p.pumps;
+    })

@@ -64,11 +64,11 @@ dropped all n a at =
     ∙ ap (λ (k : ℕ). a ∷ drop k all) next
 
 -- and with the tick of node n that of the nodes up to it
-pub one_further : (lab : Lab) (H : List Full) (all : List Node) (n : ℕ) (a : Node) (first new : Option Found) → slice_get all n ≡ Some a → (so : IsFirstSo lab H all n first)
-    → new ≡ option_map due_as (earlier so.tick (tick_of lab H (now H) n a)) → IsFirstSo lab H all (n + 1) new
-one_further lab H all n a first new at so is = record {
+pub one_further : (lab : Lab) (H : List Full) (all : List Node) (n : ℕ) (a : Node) (first : Option Found) → slice_get all n ≡ Some a → (so : IsFirstSo lab H all n first)
+    → IsFirstSo lab H all (n + 1) (option_map due_as (earlier so.tick (tick_of lab H (now H) n a)))
+one_further lab H all n a first at so = record {
   tick = earlier so.tick (tick_of lab H (now H) n a);
-  found = is;
+  found = refl;
   whole = in_turn so.tick (tick_of lab H (now H) n a) (least_due lab H (n + 1) (drop (n + 1) all))
       ∙ ap (λ (xs : List Node). earlier so.tick (least_due lab H n xs)) (sym (dropped all n a at)) ∙ so.whole;
 }
@@ -80,12 +80,15 @@ row_at lab list H n p of at = ap (λ (bs : List Node). slice_get bs n) (sym of.r
 -- THE NODES THAT MAY HAVE A TICK
 
 -- rows without a tick are passed over
-passed_over : {A : Type 0} (lab : Lab) (H : List Full) (f : A → Node) → ((n : ℕ) (x : A) → due_of lab H (now H) n (f x) ≡ None) → (n : ℕ) (xs : List A) (rest : List Node)
+abbrev HasNoTick : Lab → List Full → Node → Type 0
+HasNoTick lab H a = (n : ℕ) → due_of lab H (now H) n a ≡ None
+
+passed_over : {A : Type 0} (lab : Lab) (H : List Full) (f : A → Node) → ((x : A) → HasNoTick lab H (f x)) → (n : ℕ) (xs : List A) (rest : List Node)
     → least_due lab H n (map f xs ++ rest) ≡ least_due lab H (n + length xs) rest
 passed_over lab H f none n [] rest = ap (λ (k : ℕ). least_due lab H k rest) (omega arith)
 passed_over lab H f none n (x ∷ xs) rest =
     let further : n + 1 + length xs ≡ n + suc (length xs) = omega arith in
-    ap (λ (o : Option ℕ). earlier (option_map (λ (m : ℕ). record { moment = m; number = n; node = f x }) o) (least_due lab H (n + 1) (map f xs ++ rest))) (none n x)
+    ap (λ (o : Option ℕ). earlier (option_map (λ (m : ℕ). record { moment = m; number = n; node = f x }) o) (least_due lab H (n + 1) (map f xs ++ rest))) (none x n)
     ∙ passed_over lab H f none (n + 1) xs rest ∙ ap (λ (k : ℕ). least_due lab H k rest) further
 
 none_of_natives : (lab : Lab) (H : List Full) (n : ℕ) (hs : List NativeNode) → least_due lab H n (map native hs) ≡ None
@@ -142,8 +145,8 @@ none_before_clients lab H t =
     record {
       tick = None;
       found = refl;
-      whole = ap (least_due lab H (ticking_from t)) dropped ∙ sym (passed_over lab H server (λ n x. refl) 0 t.servers (map nat t.nats ++ rest)
-          ∙ passed_over lab H nat (λ n x. refl) (0 + length t.servers) t.nats rest ∙ ap (λ (k : ℕ). least_due lab H k rest) number);
+      whole = ap (least_due lab H (ticking_from t)) dropped ∙ sym (passed_over lab H server (λ x n. refl) 0 t.servers (map nat t.nats ++ rest)
+          ∙ passed_over lab H nat (λ x n. refl) (0 + length t.servers) t.nats rest ∙ ap (λ (k : ℕ). least_due lab H k rest) number);
     }
 
 -- and behind the last of them there is none
@@ -162,12 +165,12 @@ same_nodes lab t list H rows of = sym rows ∙ of.rows
 pub none_before : (lab : Lab) (t : TopologyState) (list : List PlayedNode) (H : List Full) → AreOf t list → NodesOf lab list H → IsFirstSo lab H (nodes lab.topology) (ticking_from t) None
 none_before lab t list H rows of = subst (λ (ns : List Node). IsFirstSo lab H ns (ticking_from t) None) (same_nodes lab t list H rows of) (none_before_clients lab H t)
 
-pub at_the_end : (lab : Lab) (t : TopologyState) (list : List PlayedNode) (H : List Full) (n : ℕ) (first : Option Found) → AreOf t list → NodesOf lab list H → n ≡ ticking_until t
-    → IsFirstSo lab H (nodes lab.topology) n first → first ≡ option_map due_as (least_due lab H 0 (nodes lab.topology))
-at_the_end lab t list H n first rows of end so =
+pub at_the_end : (lab : Lab) (t : TopologyState) (list : List PlayedNode) (H : List Full) (first : Option Found) → AreOf t list → NodesOf lab list H
+    → IsFirstSo lab H (nodes lab.topology) (ticking_until t) first → first ≡ option_map due_as (least_due lab H 0 (nodes lab.topology))
+at_the_end lab t list H first rows of so =
     let same = same_nodes lab t list H rows of in
     subst (λ (ns : List Node). first ≡ option_map due_as (least_due lab H 0 ns)) same
-    (first_of_all lab H t first (subst (λ (ns : List Node). IsFirstSo lab H ns (ticking_until t) first) (sym same) (subst (λ (k : ℕ). IsFirstSo lab H (nodes lab.topology) k first) end so)))
+    (first_of_all lab H t first (subst (λ (ns : List Node). IsFirstSo lab H ns (ticking_until t) first) (sym same) so))
 
 -- so far the first tick is of one of the nodes before n
 pub record FirstSoFar (list : List PlayedNode) (at n : ℕ) (first : Option Found) : Type 0 where

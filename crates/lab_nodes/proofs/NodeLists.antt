@@ -1,6 +1,6 @@
 -- The nodes of a topology, and what is kept of them.
 use Rattle.std.proofs.Common.{◌≡◌, ◌≢◌, ◌≤◌, ◌<◌, ℕ, zero, suc, ◌+◌, List, [], ◌∷◌, ◌++◌, length, map, set, take, take_all, Option, Some, None, Result, Ok, Err, refl, sym, ap, subst, ◌∙◌, arith}
-use Rattle.std.specs.Prelude.{slice_get, is_some, unwrap_or, IfOk, OnErr}
+use Rattle.std.specs.Prelude.{slice_get, option_map, is_some, unwrap_or, IfOk, OnErr}
 use Rattle.std.proofs.lemmas.Bool.{false≢true}
 use Rattle.std.proofs.lemmas.List.{length-append, length-map, length-take, map-append}
 use Rattle.std.proofs.lemmas.Option.{slice_get_within}
@@ -31,9 +31,12 @@ take_one_more [] n x e = absurd (false≢true (ap (λ (o : Option _). is_some o)
 take_one_more (y ∷ ys) zero x e = ap (λ z. z ∷ []) (sym (some_inj y x e))
 take_one_more (y ∷ ys) (suc n) x e = ap (λ zs. y ∷ zs) (take_one_more ys n x e)
 
+-- this holds of each element by its number, counted from k on
+abbrev EachFrom : {A : Type 0} → (ℕ → A → Type 0) → ℕ → List A → Type 0
+EachFrom {A} P k xs = (n : ℕ) (x : A) → slice_get xs n ≡ Some x → P (k + n) x
+
 -- an element of a list with one more is one of the list, or that one
-front_or_last : {A : Type 0} → (P : ℕ → A → Type 0) (xs : List A) (y : A) (k : ℕ) → ((n : ℕ) (x : A) → slice_get xs n ≡ Some x → P (k + n) x) → P (k + length xs) y
-    → (n : ℕ) (x : A) → slice_get (xs ++ y ∷ []) n ≡ Some x → P (k + n) x
+front_or_last : {A : Type 0} → (P : ℕ → A → Type 0) (xs : List A) (y : A) (k : ℕ) → EachFrom P k xs → P (k + length xs) y → EachFrom P k (xs ++ y ∷ [])
 front_or_last P [] y k each last zero x e = subst (P (k + 0)) (some_inj y x e) last
 front_or_last P [] y k each last (suc n) x e = absurd (false≢true (ap (λ (o : Option _). is_some o) e))
 front_or_last P (z ∷ xs) y k each last zero x e = each zero x e
@@ -54,10 +57,10 @@ set_elsewhere (x ∷ xs) zero (suc k) y other = refl
 set_elsewhere (x ∷ xs) (suc j) zero y other = refl
 set_elsewhere (x ∷ xs) (suc j) (suc k) y other = set_elsewhere xs j k y (λ e. other (ap (λ (n : ℕ). suc n) e))
 
-map_set : {A B : Type 0} → (f : A → B) (xs : List A) (j : ℕ) (x y : A) → slice_get xs j ≡ Some x → f y ≡ f x → map f (set xs j y) ≡ map f xs
-map_set f [] j x y e same = refl
-map_set f (z ∷ xs) zero x y e same = ap (λ b. b ∷ map f xs) (same ∙ ap f (sym (some_inj z x e)))
-map_set f (z ∷ xs) (suc j) x y e same = ap (λ bs. f z ∷ bs) (map_set f xs j x y e same)
+map_set : {A B : Type 0} → (f : A → B) (xs : List A) (j : ℕ) (y : A) → option_map f (slice_get xs j) ≡ Some (f y) → map f (set xs j y) ≡ map f xs
+map_set f [] j y e = refl
+map_set f (z ∷ xs) zero y e = ap (λ b. b ∷ map f xs) (sym (some_inj (f z) (f y) e))
+map_set f (z ∷ xs) (suc j) y e = ap (λ bs. f z ∷ bs) (map_set f xs j y e)
 
 -- ONE NODE CHANGES
 
@@ -70,7 +73,7 @@ changed change list n before after at row did = record {
   is = set_there list n after (slice_get_within list n before at);
   change = did;
   elsewhere = λ k apart. set_elsewhere list n k after apart;
-  rows = map_set row_of list n before after at row;
+  rows = map_set row_of list n after (ap (λ (o : Option PlayedNode). option_map row_of o) at ∙ ap (λ (a : Node). Some a) (sym row));
 }
 
 pub ready_at : (m : ℕ) (list : List PlayedNode) (n : ℕ) (p : PlayedNode) → AreReady m list → slice_get list n ≡ Some p → IsReady m p
@@ -99,15 +102,15 @@ pub none_first : (lab : Lab) → FirstStand lab []
 none_first lab = record { rows = refl; each = λ n p e. absurd (false≢true (ap (λ (o : Option PlayedNode). is_some o) e)); ready = tt }
 
 -- one more
-pub first_more : (lab : Lab) (list : List PlayedNode) (a : Node) (p : PlayedNode) → node_at lab.topology (length list) ≡ Some a → FirstStand lab list
-    → row_of p ≡ a → IsKept lab.topology (length list) (past_of lab (length list) []) p → IsReady 0 p → FirstStand lab (list ++ p ∷ [])
-first_more lab list a p at so row kept ready =
+pub first_more : (lab : Lab) (list : List PlayedNode) (p : PlayedNode) → node_at lab.topology (length list) ≡ Some (row_of p) → FirstStand lab list
+    → IsKept lab.topology (length list) (past_of lab (length list) []) p → IsReady 0 p → FirstStand lab (list ++ p ∷ [])
+first_more lab list p at so kept ready =
     let all : List Node = nodes lab.topology in
     let longer : suc (length list) ≡ length (list ++ p ∷ []) = omega (arith, length-append list (p ∷ [])) in
     let zeroth : 0 + length list ≡ length list = omega arith in
     record {
-      rows = map-append row_of list (p ∷ []) ∙ ap (λ (bs : List Node). bs ++ row_of p ∷ []) so.rows ∙ ap (λ (b : Node). take (length list) all ++ b ∷ []) row
-          ∙ take_one_more all (length list) a at ∙ ap (λ (k : ℕ). take k all) longer;
+      rows = map-append row_of list (p ∷ []) ∙ ap (λ (bs : List Node). bs ++ row_of p ∷ []) so.rows
+          ∙ take_one_more all (length list) (row_of p) at ∙ ap (λ (k : ℕ). take k all) longer;
       each = λ n q e.
           let same : (k : ℕ) → k ≡ 0 + k = λ (k : ℕ). omega arith in
           let P : ℕ → PlayedNode → Type 0 = λ k q. IsKept lab.topology k (past_of lab k []) q in

@@ -70,31 +70,46 @@ answered : {A : Type 0} (policy : Policy) (p : Ip6) (origin : Option Ep) (f : Ep
 answered policy p None f good e = false≢true good
 answered policy p (Some at) f good e = false≢true (sym (ap has_any e))
 
+-- where the line of a fate sends nothing, that fate takes memory
+abbrev KeepsUnsent : Settings → Standing → Ep → List ℕ → Words → Fate → Type 0
+KeepsUnsent s a from x w f = (reception_step s a from x (value_in x) w f).sends ≡ [] → takes_memory f ≡ true
+
 -- a line that lists the source of a datagram, or holds its packet, and sends nothing has a fate that takes memory
-listing : (s : Settings) (a : Standing) (from : Ep) (x : List ℕ) (w : Words) (f : Fate) → ReceivedOnlyIf f (seen s a from x) (heard s a.qualification from (value_in x)) → lists f ≡ true
-    → (reception_step s a from x (value_in x) w f).sends ≡ [] → takes_memory f ≡ true
+listing : (s : Settings) (a : Standing) (from : Ep) (x : List ℕ) (w : Words) (f : Fate) → ReceivedOnlyIf f (seen s a from x) (heard s a.qualification from (value_in x)) → lists f ≡ true → KeepsUnsent s a from x w f
 unfolding seen
 listing s a from x w fate.Indirect h l unsent = absurd (answered s.policy (value_in x).packet.src (origin_in (value_in x).lead) _ h.origin unsent)
 listing s a from x w fate.Rule3 h l unsent = refl
 listing s a from x w fate.Rule3Bubble h l unsent = refl
 listing s a from x w _ h l unsent = absurd (false≢true l)
 
-holding : (s : Settings) (a : Standing) (from : Ep) (x : List ℕ) (w : Words) (f : Fate) → holds f ≡ true → (reception_step s a from x (value_in x) w f).sends ≡ [] → takes_memory f ≡ true
+holding : (s : Settings) (a : Standing) (from : Ep) (x : List ℕ) (w : Words) (f : Fate) → holds f ≡ true → KeepsUnsent s a from x w f
 holding s a from x w fate.HeldTest l unsent = absurd (filled _ _ unsent)
 holding s a from x w fate.Held l unsent = refl
 holding s a from x w _ l unsent = absurd (false≢true l)
 
-pub received_unsent : FateOfReception → ReceptionIsWarranted → (s : Settings) (j : Journal) (m : ℕ) (from : Ep) (x : List ℕ) (w : Words) (listed : Bool) → TakesPlace (client_in s j m from x w).step.fate listed
-    → SendsOrKeeps (client_in s j m from x w).step
+-- the laws of what a client does with a datagram
+pub record OfReception : Type 0 where
+  pub fates : FateOfReception
+  pub warranted : ReceptionIsWarranted
+
+-- a datagram takes a place, be its source listed or not
+pub record TakesSomePlace (s : Settings) (j : Journal) (m : ℕ) (from : Ep) (x : List ℕ) (w : Words) : Type 0 where
+  pub listed : Bool
+  pub takes : TakesPlace (client_in s j m from x w).step.fate listed
+
+-- where it sends nothing it takes memory
+pub received_unsent : (law : OfReception) (s : Settings) (j : Journal) (m : ℕ) (from : Ep) (x : List ℕ) (w : Words) → TakesSomePlace s j m from x w → SendsOrKeeps (client_in s j m from x w).step
 unfolding client_in reception
-received_unsent fates warranted s j m from x w listed (to_hold l) unsent =
-    let a = standing_of s j m (source_in x) in
-    let is = fates s a from x w in
-    ap takes_memory is ∙ holding s a from x w (reception_fate s a from x) (sym (ap holds is) ∙ l) unsent
-received_unsent fates warranted s j m from x w listed (to_list l none) unsent =
-    let a = standing_of s j m (source_in x) in
-    let is = fates s a from x w in
-    ap takes_memory is ∙ listing s a from x w (reception_fate s a from x) (warranted s a from x) (sym (ap lists is) ∙ l) unsent
+received_unsent law s j m from x w t = by_place t.takes where
+  by_place : TakesPlace (client_in s j m from x w).step.fate t.listed → SendsOrKeeps (client_in s j m from x w).step
+  by_place (to_hold l) unsent =
+      let a = standing_of s j m (source_in x) in
+      let is = law.fates s a from x w in
+      ap takes_memory is ∙ holding s a from x w (reception_fate s a from x) (sym (ap holds is) ∙ l) unsent
+  by_place (to_list l none) unsent =
+      let a = standing_of s j m (source_in x) in
+      let is = law.fates s a from x w in
+      ap takes_memory is ∙ listing s a from x w (reception_fate s a from x) (law.warranted s a from x) (sym (ap lists is) ∙ l) unsent
 
 -- a packet to a cone is sent
 cone_sent : FateOfTransmission → (s : RelaySettings) (j : List Entry) (m : ℕ) (x : List ℕ) → (relay_six s j m x).step.fate ≡ fate.SentCone → SendsOrKeeps (relay_six s j m x).step

@@ -50,12 +50,14 @@ ticking-preserved c =
               | then-may_come_first w ↦ w.first-is ∙ w.put_earlier.ensures.earlier lab H so.tick kept so.found
               | else-may_come_first w ↦ w.first-is ∙ so.found ∙ ap (λ (o : Option Due). option_map due_as o) (sym (w.if-may_come_first.ensures refl lab H c.args.at.0 n so.tick ready kept so.found))
             ] in
-            one_further lab H (nodes lab.topology) n (row_of p) c.ticking.first c.if-may_come_first.first (row_at lab list H n p of here) so
-            (new ∙ ap (λ m. option_map due_as (earlier so.tick (tick_of lab H m n (row_of p)))) e);
+            let found = new ∙ ap (λ m. option_map due_as (earlier so.tick (tick_of lab H m n (row_of p)))) e in
+            subst (λ (o : Option Found). IsFirstSo lab H (nodes lab.topology) (n + 1) o) (sym found)
+            (one_further lab H (nodes lab.topology) n (row_of p) c.ticking.first (row_at lab list H n p of here) so);
       };
     }
 
 pub returns-clause-first : goal.returns-clause-first
 returns-clause-first c = λ lab H of e.
     let end : c.ticking.number ≡ ticking_until c.args.topology.now = grind (arith, c.ticking.invariant.upto, c.ticking-test.false) in
-    at_the_end lab c.args.topology.now c.args.nodes.now H c.ticking.number c.ticking.first c.requires.rows of end (c.ticking.invariant.so.is lab H of e)
+    at_the_end lab c.args.topology.now c.args.nodes.now H c.ticking.first c.requires.rows of
+    (subst (λ (k : ℕ). IsFirstSo lab H (nodes lab.topology) k c.ticking.first) end (c.ticking.invariant.so.is lab H of e))

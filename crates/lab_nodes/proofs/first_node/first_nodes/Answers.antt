@@ -1,4 +1,5 @@
 use Rattle.std.proofs.Common.{◌≡◌, ℕ, [], length, Some, None, sym, ap, subst, ◌∙◌, arith}
+use Rattle.topology.specs.declared.node.Node.{Node}
 use Rattle.topology.specs.Topology.{node_at}
 use Rattle.legal.specs.Lab.{draws, lab_on}
 use Rattle.lab_nodes.specs.PlayedNode.{past_of, IsKept}
@@ -15,7 +16,7 @@ loop-node-preserved c =
     rw (c.in_ok-push.ensures.items) (λ chain.
     let lab = lab_on (draws c.args.seed) c.args.topology.now chain in
     let kept = subst (λ (n : ℕ). IsKept lab.topology n (past_of lab n []) first) same (c.in_ok-first.ensures.kept chain) in
-    first_more lab list c.in-Some.node first here (c.loop-node.invariant chain) c.in_ok-first.ensures.row kept c.in_ok-first.ensures.ready)
+    first_more lab list first (here ∙ ap (λ (a : Node). Some a) (sym c.in_ok-first.ensures.row)) (c.loop-node.invariant chain) kept c.in_ok-first.ensures.ready)
 
 pub returns-clause-kept : goal.returns-clause-kept
 returns-clause-kept c =

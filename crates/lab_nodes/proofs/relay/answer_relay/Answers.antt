@@ -30,7 +30,7 @@ returns-clause-answers c = record {
       record {
         did = did;
         keeps = relay_kept lab H x c.args.row c.args.relay.now kept step new done;
-        leaves = left_own lab H x.now.0 a (entry_in lab H x a) step _ did (c.in_ok-six_of.ensures.made ∙ six_same lab H x a step);
+        leaves = left_own lab H x.now.0 a (entry_in lab H x a) step _ (record { did = did; six = c.in_ok-six_of.ensures.made ∙ six_same lab H x a step });
         handed = c.handed_of.ensures ∙ handed_same lab H x a step did;
         address = refl;
       };
