@@ -7,31 +7,46 @@ use Rattle.td_audit.specs.declared.licences.Licences.{Licences}
 use Rattle.td_audit.specs.declared.counts.Counts.{Counts}
 use Rattle.td_audit.specs.Datagrams.{Datagram, is_audited}
 use Rattle.td_audit.specs.Licences.{output, IsFirstUnlicensed}
-use Rattle.td_audit.specs.Left.{HasKey}
 use Rattle.td_audit.specs.Counting.{with_record}
 use Rattle.td_audit.specs.Judging.{IsCovered, HasGrantRoom, Licenses, Runs, Stands}
 use Rattle.td_audit.proofs.PlaceLaws.{Places, first_stays}
-use Rattle.td_audit.proofs.RunLaws.{room, room_left, runs_skipped, runs_more, runs_out}
+use Rattle.td_audit.proofs.RunLaws.{NextDatagram, room, room_left, runs_skipped, runs_more, runs_out}
 
 -- all were licensed so far
-pub running : (s : ServerSettings) (j : Judge) (places : Places) → j.unlicensed ≡ None → Stands s j places → Runs s j.licences j.counts places
-running s j places none st = subst (λ (o : Option ℕ). MatchOption o (Runs s j.licences j.counts places) (IsFirstUnlicensed s places)) none st.state
+pub record IsRunning (s : ServerSettings) (j : Judge) (places : Places) : Type 0 where
+  pub none : j.unlicensed ≡ None
+  pub stands : Stands s j places
+
+running : (s : ServerSettings) (j : Judge) (places : Places) → IsRunning s j places → Runs s j.licences j.counts places
+running s j places is = subst (λ (o : Option ℕ). MatchOption o (Runs s j.licences j.counts places) (IsFirstUnlicensed s places)) is.none is.stands.state
 
 -- a datagram without a licence
-pub judged_out : (s : ServerSettings) (j : Judge) (used : Licences) (places : Places) (d : Datagram) → HasKey d → j.unlicensed ≡ None → IsCovered j.settings j.licences used d false → Stands s j places → IsFirstUnlicensed s (places ++ Some d ∷ []) j.counts.packets
-judged_out s j used places d fits none covered st =
-    runs_out s j.licences used j.counts places d fits (running s j places none st) (subst (λ (t : ServerSettings). IsCovered t j.licences used d false) st.settings_are covered)
+pub judged_out : (s : ServerSettings) (j : Judge) (used : Licences) (places : Places) (d : NextDatagram places) → IsRunning s j places
+    → IsCovered j.settings j.licences used d.datagram false
+    → IsFirstUnlicensed s (places ++ Some d.datagram ∷ []) j.counts.packets
+judged_out s j used places d is covered =
+    runs_out s j.licences used j.counts places d (running s j places is)
+    (subst (λ (t : ServerSettings). IsCovered t j.licences used d.datagram false) is.stands.settings_are covered)
 
--- a datagram with one, or from elsewhere
-pub judged_on : (s : ServerSettings) (j : Judge) (used more : Licences) (places : Places) (d : Datagram) → HasKey d → length places + 1 < 2 ^ 64 → j.unlicensed ≡ None → IsCovered j.settings j.licences used d true
-    → (HasGrantRoom j.settings used → Licenses used more (output j.settings (Some d))) → Stands s j places → Runs s more (with_record j.counts (is_audited j.settings d.dst) (is_audited j.settings d.src)) (places ++ Some d ∷ [])
-judged_on s j used more places d fits small none covered licenses st =
-    let runs = running s j places none st in
-    let is = st.settings_are in
-    let covered_here : IsCovered s j.licences used d true = subst (λ (t : ServerSettings). IsCovered t j.licences used d true) is covered in
-    let has : HasGrantRoom s used = room_left s j.licences used d (room s j.licences j.counts places runs small) covered_here in
-    let licenses_here : Licenses used more (output s (Some d)) = subst (λ (t : ServerSettings). HasGrantRoom t used → Licenses used more (output t (Some d))) is licenses has in
-    subst (λ (t : ServerSettings). Runs s more (with_record j.counts (is_audited t d.dst) (is_audited t d.src)) (places ++ Some d ∷ [])) (sym is) (runs_more s j.licences used more j.counts places d fits small runs covered_here licenses_here)
+-- a datagram with one, or from elsewhere: what the judge finds
+pub record IsLicensed (j : Judge) (d : Datagram) : Type 0 where
+  pub used : Licences
+  pub more : Licences
+  pub covered : IsCovered j.settings j.licences used d true
+  pub licenses : HasGrantRoom j.settings used → Licenses used more (output j.settings (Some d))
+
+pub judged_on : (s : ServerSettings) (j : Judge) (places : Places) (d : NextDatagram places) → IsRunning s j places → (l : IsLicensed j d.datagram)
+    → Runs s l.more (with_record j.counts (is_audited j.settings d.datagram.dst) (is_audited j.settings d.datagram.src)) (places ++ Some d.datagram ∷ [])
+judged_on s j places d running_is l =
+    let x = d.datagram in
+    let runs = running s j places running_is in
+    let is = running_is.stands.settings_are in
+    let covered : IsCovered s j.licences l.used x true = subst (λ (t : ServerSettings). IsCovered t j.licences l.used x true) is l.covered in
+    let has : HasGrantRoom s l.used = room_left s j.licences l.used x (room s j.licences j.counts places runs d.small) covered in
+    let licenses : Licenses l.used l.more (output s (Some x)) = subst (λ (t : ServerSettings). HasGrantRoom t l.used → Licenses l.used l.more
+    (output t (Some x))) is l.licenses has in
+    subst (λ (t : ServerSettings). Runs s l.more (with_record j.counts (is_audited t x.dst) (is_audited t x.src)) (places ++ Some x ∷ [])) (sym is)
+    (runs_more s j.licences j.counts places d runs (record { used = l.used; more = l.more; covered = covered; licenses = licenses }))
 
 -- once there is an unlicensed place
 out_stays : (s : ServerSettings) (l : Licences) (c : Counts) (places : Places) (x : Option Datagram) (o : Option ℕ) → is_some o ≡ true → MatchOption o (Runs s l c places) (IsFirstUnlicensed s places)
@@ -52,4 +67,4 @@ runs_on s l c places o none runs = subst (λ (p : Option ℕ). MatchOption p (Ru
 
 -- a record without a datagram
 pub skipped_on : (s : ServerSettings) (j : Judge) (places : Places) → length places + 1 < 2 ^ 64 → j.unlicensed ≡ None → Stands s j places → Runs s j.licences (with_record j.counts false false) (places ++ None ∷ [])
-skipped_on s j places small none st = runs_skipped s j.licences j.counts places small (running s j places none st)
+skipped_on s j places small none st = runs_skipped s j.licences j.counts places small (running s j places (record { none = none; stands = st }))

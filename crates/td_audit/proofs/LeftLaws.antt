@@ -31,9 +31,13 @@ apart key other stored differ at =
       | inr other_one ↦ is_eq-slice_cmp other stored ∙ other_one
     ]
 
-other_entries : {K X : Type 0} (eq : K → K → Bool) (test : K → Bool) (old new : List (K × X)) → KeepsOthers eq test old new → (other : K → Bool) → IsKeyTest eq other → AreApart test other → lookup other new ≡ lookup other old
+-- what is at other keys stays
+abbrev OthersStay : {K X : Type 0} → (K → K → Bool) → (K → Bool) → List (K × X) → List (K × X) → Type 0
+OthersStay {K = K} eq test old new = (other : K → Bool) → IsKeyTest eq other → AreApart test other → lookup other new ≡ lookup other old
+
+others_stay : {K X : Type 0} (eq : K → K → Bool) (test : K → Bool) (old new : List (K × X)) → KeepsOthers eq test old new → OthersStay eq test old new
 unfolding KeepsOthers
-other_entries eq test old new h = h
+others_stay eq test old new h = h
 
 module _ {K : Type 0} (items : K → List ℕ) where
   changed : (m n : BTreeMap K ℕ) (key : List ℕ) (w : Option ℕ) → Changes items m n key w → (other : List ℕ) → at_key items n other ≡ cond (bytes_eq key other) w (at_key items m other)
@@ -41,7 +45,8 @@ module _ {K : Type 0} (items : K → List ℕ) where
       elim (cases_Bool (bytes_eq key other)) [
         | inl same ↦ subst (λ (o : List ℕ). at_key items n o ≡ w) ((bytes_eq-Decides key other).0 same) h.1 ∙ sym (cond-true _ w (at_key items m other) same)
         | inr differ ↦
-            other_entries _ _ _ _ h.3 (λ k. is_eq (slice_cmp nat_cmp other (items k))) (λ x y. (eq_by_cmp_equiv nat_list_cmp_total).congr other (items x) (items y)) (λ k. apart key other (items k) differ)
+            others_stay _ _ _ _ h.3 (λ k. is_eq (slice_cmp nat_cmp other (items k)))
+            (λ x y. (eq_by_cmp_equiv nat_list_cmp_total).congr other (items x) (items y)) (λ k. apart key other (items k) differ)
             ∙ sym (cond-false _ w (at_key items m other) differ)
       ]
 

@@ -32,10 +32,17 @@ no_reply s side d step is row silent =
     no_either (is_audited s d.dst) (reply_to s d) (row_sends s side d step is row ∙ ap (on_wire s) silent)
 
 -- a step that sends one datagram
-pub one_reply : (s : ServerSettings) (side sent : Side) (d : Datagram) (fate : Fate) (to : Ep) (bytes : List ℕ) → is_audited s d.dst ≡ true → side ≡ side_with s d.dst → server_row s side d.src d.body ≡ sends_one fate sent to bytes
-    → output s (Some d) ≡ Some (datagram (endpoint s sent) to bytes)
-one_reply s side sent d fate to bytes for_server is row =
-    cond-true (is_audited s d.dst) (reply_to s d) nothing for_server ∙ row_sends s side d (sends_one fate sent to bytes) is row
+pub record OneSend : Type 0 where
+  pub fate : Fate
+  pub side : Side
+  pub to : Ep
+  pub bytes : List ℕ
+
+pub one_reply : (s : ServerSettings) (side : Side) (d : Datagram) (o : OneSend) → is_audited s d.dst ≡ true → side ≡ side_with s d.dst
+    → server_row s side d.src d.body ≡ sends_one o.fate o.side o.to o.bytes
+    → output s (Some d) ≡ Some (datagram (endpoint s o.side) o.to o.bytes)
+one_reply s side d o for_server is row =
+    cond-true (is_audited s d.dst) (reply_to s d) nothing for_server ∙ row_sends s side d (sends_one o.fate o.side o.to o.bytes) is row
 
 -- what is not for the server draws nothing
 pub not_for_server : (s : ServerSettings) (d : Datagram) → is_audited s d.dst ≡ false → output s (Some d) ≡ None

@@ -62,27 +62,45 @@ runs_skipped s l c places small r = record {
   counts_are = ap (λ (k : Counts). with_record k false false) r.counts_are ∙ counts_more s places None small;
 }
 
--- a datagram that is licensed, or isn't from the server
-pub runs_more : (s : ServerSettings) (l0 l1 l2 : Licences) (c : Counts) (places : Places) (d : Datagram) → HasKey d → length places + 1 < 2 ^ 64 → Runs s l0 c places → IsCovered s l0 l1 d true → Licenses l1 l2 (output s (Some d))
-    → Runs s l2 (with_record c (is_audited s d.dst) (is_audited s d.src)) (places ++ Some d ∷ [])
-runs_more s l0 l1 l2 c places d d_fits small r covered licenses = record {
-  each = all_licensed s places (Some d) r.each (last_licensed s places d (λ from.
-      let sum = r.left_is d d_fits from in
-      let used = covered d d_fits from in
-      omega (arith, sum, used, ap one_if (same_itself d))));
-  left_is = λ e e_fits from.
-      let sum = r.left_is e e_fits from in
-      let used = covered e e_fits from in
-      let granted = licenses e e_fits in
-      omega (arith, sum, used, granted, count_more (is_same e) places (Some d), outputs_more s places (Some d) e);
-  counts_are = ap (λ (k : Counts). with_record k (is_audited s d.dst) (is_audited s d.src)) r.counts_are ∙ counts_more s places (Some d) small;
-}
+-- a datagram at the next place
+pub record NextDatagram (places : Places) : Type 0 where
+  pub datagram : Datagram
+  pub fits : HasKey datagram
+  pub small : length places + 1 < 2 ^ 64
+
+-- it is licensed, or isn't from the server: the licences after it was covered, and after what it licenses
+pub record Uses (s : ServerSettings) (old : Licences) (d : Datagram) : Type 0 where
+  pub used : Licences
+  pub more : Licences
+  pub covered : IsCovered s old used d true
+  pub licenses : Licenses used more (output s (Some d))
+
+pub runs_more : (s : ServerSettings) (old : Licences) (c : Counts) (places : Places) (d : NextDatagram places) → Runs s old c places
+    → (u : Uses s old d.datagram)
+    → Runs s u.more (with_record c (is_audited s d.datagram.dst) (is_audited s d.datagram.src)) (places ++ Some d.datagram ∷ [])
+runs_more s old c places next r u =
+    let d = next.datagram in
+    record {
+      each = all_licensed s places (Some d) r.each (last_licensed s places d (λ from.
+          let sum = r.left_is d next.fits from in
+          let used = u.covered d next.fits from in
+          omega (arith, sum, used, ap one_if (same_itself d))));
+      left_is = λ e e_fits from.
+          let sum = r.left_is e e_fits from in
+          let used = u.covered e e_fits from in
+          let granted = u.licenses e e_fits in
+          omega (arith, sum, used, granted, count_more (is_same e) places (Some d), outputs_more s places (Some d) e);
+      counts_are = ap (λ (k : Counts). with_record k (is_audited s d.dst) (is_audited s d.src)) r.counts_are ∙ counts_more s places (Some d) next.small;
+    }
 
 -- a datagram from the server for which no licence is licences_left
-pub runs_out : (s : ServerSettings) (l0 l1 : Licences) (c : Counts) (places : Places) (d : Datagram) → HasKey d → Runs s l0 c places → IsCovered s l0 l1 d false → IsFirstUnlicensed s (places ++ Some d ∷ []) c.packets
-runs_out s l0 l1 c places d d_fits r none =
+pub runs_out : (s : ServerSettings) (old used : Licences) (c : Counts) (places : Places) (d : NextDatagram places) → Runs s old c places
+    → IsCovered s old used d.datagram false
+    → IsFirstUnlicensed s (places ++ Some d.datagram ∷ []) c.packets
+runs_out s old used c places next r none =
+    let d = next.datagram in
     let from = none.0 in
-    let sum = r.left_is d d_fits from in
+    let sum = r.left_is d next.fits from in
     let place_is : length places ≡ c.packets = sym (ap (λ (k : Counts). k.packets) r.counts_are) in
     subst (IsFirstUnlicensed s (places ++ Some d ∷ [])) place_is (record {
       inside = omega (arith, length-append places (Some d ∷ []));

@@ -11,9 +11,20 @@ use Rattle.td_audit.specs.declared.fault.AuditFault.{AuditFault}
 use Rattle.td_audit.specs.declared.fault.AuditFault.TheVariants.{Capture, NoMemory}
 use Rattle.td_audit.specs.Verdicts.{places, IsVerdict, IsJudged, IsAuditFault}
 
-pub one_verdict : (s : ServerSettings) (x : List ℕ) (r : Result Verdict AuditFault) → CaptureIsOne → CaptureHasNoFault → IfOk r (λ v. IsJudged s v x) → IfErr r (λ f. IsAuditFault f x)
+-- a capture is one head and one list of records, and has no fault
+pub record CaptureLaws : Type 0 where
+  pub one : CaptureIsOne
+  pub no_fault : CaptureHasNoFault
+
+-- an answer that says what was judged, or what was wrong
+pub record IsAnswer (s : ServerSettings) (x : List ℕ) (r : Result Verdict AuditFault) : Type 0 where
+  pub judged : IfOk r (λ v. IsJudged s v x)
+  pub fault : IfErr r (λ f. IsAuditFault f x)
+
+pub one_verdict : CaptureLaws → (s : ServerSettings) (x : List ℕ) (r : Result Verdict AuditFault) → IsAnswer s x r
     → (h : Head) (rs : List Captured) → CaptureBytes h rs x → MatchResult r (IsVerdict s (places rs)) (λ f. f ≡ NoMemory)
-one_verdict s x (Ok v) one no_fault judged fault h rs is =
-    subst (λ (qs : List Captured). IsVerdict s (places qs) v) (one judged.head h judged.records rs x judged.capture is).records judged.verdict_is
-one_verdict s x (Err (Capture f)) one no_fault judged fault h rs is = absurd (no_fault h rs x f is fault)
-one_verdict s x (Err NoMemory) one no_fault judged fault h rs is = refl
+one_verdict laws s x (Ok v) answer h rs is =
+    subst (λ (qs : List Captured). IsVerdict s (places qs) v) (laws.one answer.judged.head h answer.judged.records rs x answer.judged.capture is).records
+    answer.judged.verdict_is
+one_verdict laws s x (Err (Capture f)) answer h rs is = absurd (laws.no_fault h rs x f is answer.fault)
+one_verdict laws s x (Err NoMemory) answer h rs is = refl

@@ -7,7 +7,7 @@ use Rattle.td_pcap.specs.declared.head.Head.{Head}
 use Rattle.td_pcap.specs.declared.fault.CapFault.{CapFault}
 use Rattle.td_pcap.specs.Heads.{BeginsWithHead, head_bytes}
 use Rattle.td_pcap.specs.Records.{Captured, IsCaptured, StandsAt, record_bytes, IsRecordFault}
-use Rattle.td_pcap.specs.Captures.{records_bytes, capture_bytes, IsCaptureFault, of_record}
+use Rattle.td_pcap.specs.Captures.{records_bytes, capture_bytes, CaptureBytes, IsCaptureFault, of_record}
 use Rattle.td_audit.specs.declared.judge.Judge.{Judge}
 use Rattle.td_audit.specs.declared.verdict.Verdict.{Verdict}
 use Rattle.td_audit.specs.Judging.{Stands}
@@ -41,39 +41,52 @@ starts s h judge x long begins stands =
     }
 
 -- how many places there are
-pub few_places : (s : ServerSettings) (h : Head) (judge : Judge) (at end : ℕ) (x : List ℕ) → (w : Walks s h judge at x) → at < end → end < 2 ^ 64 → length (places w.records) + 1 < 2 ^ 64
-few_places s h judge at end x w further small = let few = w.few in omega (arith, few, further, small, length-map w.records (λ (r : Captured). datagram_in r.bytes))
+pub few_places : (s : ServerSettings) (h : Head) (judge : Judge) (at : ℕ) (x : List ℕ) → (w : Walks s h judge at x) → at + 1 < 2 ^ 64
+    → length (places w.records) + 1 < 2 ^ 64
+few_places s h judge at x w small = let few = w.few in omega (arith, few, small, length-map w.records (λ (r : Captured). datagram_in r.bytes))
+
+-- a record stands where the walk has come to
+pub record Onward (s : ServerSettings) (h : Head) (judge : Judge) (at : ℕ) (x : List ℕ) : Type 0 where
+  pub walk : Walks s h judge at x
+  pub stored : Captured
+  pub end : ℕ
+  pub there : StandsAt h.little stored at end x
+  pub further : at < end
 
 -- one more record
-pub steps : (s : ServerSettings) (h : Head) (judge next : Judge) (at end : ℕ) (x : List ℕ) (r : Captured) → (w : Walks s h judge at x) → StandsAt h.little r at end x → at < end
-    → Stands s next (places w.records ++ datagram_in r.bytes ∷ []) → Walks s h next end x
-steps s h judge next at end x r w there further stands =
+pub steps : (s : ServerSettings) (h : Head) (judge next : Judge) (at : ℕ) (x : List ℕ) (o : Onward s h judge at x)
+    → Stands s next (places o.walk.records ++ datagram_in o.stored.bytes ∷ []) → Walks s h next o.end x
+steps s h judge next at x o stands =
+    let w = o.walk in
     let rs = w.records in
+    let r = o.stored in
+    let end = o.end in
     let more : List Captured = rs ++ r ∷ [] in
     let whole = capture_more h rs r in
-    let ends = there.ends in
+    let ends = o.there.ends in
     let place = w.place in
     let few = w.few in
     record {
       records = more;
-      fits = record { head = w.fits.head; records = all_more rs r w.fits.records there.fits };
-      bytes = w.bytes ∙ ap (λ (t : List ℕ). capture_bytes h rs ++ t) there.bytes ∙ sym (append_assoc (capture_bytes h rs) (record_bytes h.little r) (drop end x)) ∙ ap (λ (t : List ℕ). t ++ drop end x) (sym whole);
+      fits = record { head = w.fits.head; records = all_more rs r w.fits.records o.there.fits };
+      bytes = w.bytes ∙ ap (λ (t : List ℕ). capture_bytes h rs ++ t) o.there.bytes ∙ sym
+          (append_assoc (capture_bytes h rs) (record_bytes h.little r) (drop end x)) ∙ ap (λ (t : List ℕ). t ++ drop end x) (sym whole);
       place = omega (arith, ends, place, ap length whole, length-append (capture_bytes h rs) (record_bytes h.little r));
-      inside = there.inside;
-      few = omega (arith, few, further, length-append rs (r ∷ []));
+      inside = o.there.inside;
+      few = omega (arith, few, o.further, length-append rs (r ∷ []));
       stands = subst (Stands s next) (sym (map-append (λ (q : Captured). datagram_in q.bytes) rs (r ∷ []))) stands;
     }
 
--- all is judged
-pub ends : (s : ServerSettings) (h : Head) (judge : Judge) (at : ℕ) (x : List ℕ) (verdict : Verdict) → (w : Walks s h judge at x) → at ≡ length x → IsVerdict s (places w.records) verdict → IsJudged s verdict x
-ends s h judge at x verdict w all is =
-    let nothing = drop_all at x (omega (arith, all)) in
-    record {
-      head = h;
-      records = w.records;
-      capture = record { fits = w.fits; bytes = w.bytes ∙ ap (λ (t : List ℕ). capture_bytes h w.records ++ t) nothing ∙ append-nil (capture_bytes h w.records) };
-      verdict_is = is;
-    }
+-- the whole capture was walked
+pub whole : (s : ServerSettings) (h : Head) (judge : Judge) (at : ℕ) (x : List ℕ) → (w : Walks s h judge at x) → at ≡ length x → CaptureBytes h w.records x
+whole s h judge at x w all = record {
+  fits = w.fits;
+  bytes = w.bytes ∙ ap (λ (t : List ℕ). capture_bytes h w.records ++ t) (drop_all at x (omega (arith, all))) ∙ append-nil (capture_bytes h w.records);
+}
+
+-- so it is judged
+pub ends : (s : ServerSettings) (x : List ℕ) (verdict : Verdict) (h : Head) (rs : List Captured) → CaptureBytes h rs x → IsVerdict s (places rs) verdict → IsJudged s verdict x
+ends s x verdict h rs capture is = record { head = h; records = rs; capture = capture; verdict_is = is }
 
 -- a fault stands there
 pub faulty : (s : ServerSettings) (h : Head) (judge : Judge) (at : ℕ) (x : List ℕ) (fault : CapFault) → (w : Walks s h judge at x) → IsRecordFault h.little at fault x → IsCaptureFault fault x

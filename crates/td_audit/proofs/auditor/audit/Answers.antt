@@ -4,4 +4,6 @@ use Rattle.td_audit.proofs.auditor.audit.Goals as goal
 
 pub returns-clause-only : goal.returns-clause-only
 returns-clause-only c =
-    one_verdict (audited c.args.primary c.args.secondary) c.args.bytes.now c.verdict_on.result c.capture_is_one.ensures c.capture_has_no_fault.ensures c.verdict_on.ensures.judged c.verdict_on.ensures.fault
+    one_verdict (record { one = c.capture_is_one.ensures; no_fault = c.capture_has_no_fault.ensures })
+    (audited c.args.primary c.args.secondary) c.args.bytes.now c.verdict_on.result
+    (record { judged = c.verdict_on.ensures.judged; fault = c.verdict_on.ensures.fault })

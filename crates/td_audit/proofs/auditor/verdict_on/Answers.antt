@@ -21,5 +21,6 @@ records-preserved c =
     let step : Option (Rec × ℕ) = Some (c.in-Some.record, end) in
     let there : StandsAt h.little (captured c.in-Some.record) at end x = subst (λ (t : Option (Rec × ℕ)). IfSome t (λ p. StandsAt h.little (captured p.0) at p.1 x)) c.in-Some.is c.in_ok-record.ensures.found in
     let further : (at < end) × (end ≤ length x) = subst (λ (t : Option (Rec × ℕ)). IfSome t (λ p. (at < p.1) × (p.1 ≤ length x))) c.in-Some.is c.in_ok-record.ensures.further in
-    let few = few_places s h c.records.judge at end x w further.0 (omega arith) in
-    steps s h c.records.judge c.take.new.self at end x (captured c.in-Some.record) w there further.0 (c.in_ok-take.ensures s (places w.records) few w.stands)
+    let few = few_places s h c.records.judge at x w (let more = further.0 in omega (arith, more)) in
+    steps s h c.records.judge c.take.new.self at x (record { walk = w; stored = captured c.in-Some.record; end = end; there = there; further = further.0 })
+    (c.in_ok-take.ensures s (places w.records) few w.stands)

@@ -31,5 +31,6 @@ returns-in-Send c =
     let s = c.args.settings.now in
     let row = ap (λ (t : ServerSettings). server_row t c.side_with.result d.src d.body) (sym c.new-server.ensures) ∙ c.in-Send.ensures.row.0 in
     let bytes : List ℕ = take c.in-Send.len c.answer.new.out in
-    let sent = one_reply s c.side_with.result c.in-Send.side d c.in-Send.fate c.in-Send.to bytes (sym c.is_audited.ensures ∙ c.if-not-is_audited.false) c.side_with.ensures row in
+    let sent = one_reply s c.side_with.result d (record { fate = c.in-Send.fate; side = c.in-Send.side; to = c.in-Send.to; bytes = bytes })
+    (sym c.is_audited.ensures ∙ c.if-not-is_audited.false) c.side_with.ensures row in
     (sent ∙ ap (λ (x : Ep). Some (datagram x c.in-Send.to bytes)) (sym c.endpoint.ensures), c.in-Send.ensures.row.1, ap (is_audited s) c.endpoint.ensures ∙ own_endpoint s c.in-Send.side)

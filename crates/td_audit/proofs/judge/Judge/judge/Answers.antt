@@ -4,7 +4,7 @@ use Rattle.td_audit.specs.Datagrams.{datagram, is_audited}
 use Rattle.td_audit.specs.Left.{HasKey}
 use Rattle.td_audit.specs.Counting.{with_record}
 use Rattle.td_audit.specs.Judging.{IsCovered, Runs}
-use Rattle.td_audit.proofs.JudgeLaws.{judged_out, judged_on, runs_on}
+use Rattle.td_audit.proofs.JudgeLaws.{IsLicensed, judged_out, judged_on, runs_on}
 use Rattle.td_audit.proofs.judge.Judge.judge.Goals as goal
 
 pub returns-then-not-branch : goal.returns-then-not-branch
@@ -13,7 +13,11 @@ returns-then-not-branch c = λ s places small st.
     let j = c.args.self.now in
     let fits : HasKey d = record { src_ip = omega arith; src_port = omega arith; dst_ip = omega arith; dst_port = omega arith } in
     let covered = subst (λ (b : Bool). IsCovered j.settings j.licences c.use_if_from.new.licences d b) c.if-not-branch.true c.in_ok-use_if_from.ensures in
-    record { settings_are = st.settings_are; state = judged_out s j c.use_if_from.new.licences places d fits c.requires covered st }
+    record {
+      settings_are = st.settings_are;
+      state = judged_out s j c.use_if_from.new.licences places (record { datagram = d; fits = fits; small = small })
+          (record { none = c.requires; stands = st }) covered;
+    }
 
 pub returns : goal.returns
 returns c = λ s places small st.
@@ -21,7 +25,13 @@ returns c = λ s places small st.
     let j = c.args.self.now in
     let fits : HasKey d = record { src_ip = omega arith; src_port = omega arith; dst_ip = omega arith; dst_port = omega arith } in
     let covered = subst (λ (b : Bool). IsCovered j.settings j.licences c.use_if_from.new.licences d b) c.if-not-branch.false c.in_ok-use_if_from.ensures in
-    let runs = judged_on s j c.use_if_from.new.licences c.license_reply.new.licences places d fits small c.requires covered c.in_ok-license_reply.ensures st in
+    let licensed : IsLicensed j d = record {
+      used = c.use_if_from.new.licences;
+      more = c.license_reply.new.licences;
+      covered = covered;
+      licenses = c.in_ok-license_reply.ensures;
+    } in
+    let runs = judged_on s j places (record { datagram = d; fits = fits; small = small }) (record { none = c.requires; stands = st }) licensed in
     let more = places ++ Some d ∷ [] in
     let to = is_audited j.settings d.dst in
     let counts_are : c.with-self.result ≡ with_record j.counts to (is_audited j.settings d.src) =
