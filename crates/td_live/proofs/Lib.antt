@@ -1,3 +1,4 @@
+pub mod Attempts
 pub mod Entries
 pub mod Unlisted
 pub mod Turned

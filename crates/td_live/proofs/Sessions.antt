@@ -1,5 +1,5 @@
 -- A session: turns at a link that was opened at one socket.
-use Rattle.std.proofs.Common.{◌≡◌, ◌⊎◌, inl, inr, ℕ, List, map, Option, Some, None, Result, Ok, Err, MatchResult, refl, sym, subst, ◌∙◌}
+use Rattle.std.proofs.Common.{◌≡◌, ◌⊎◌, inr, ℕ, List, map, Option, Some, None, Result, Ok, Err, MatchResult, subst, ◌∙◌}
 use Rattle.td_base.specs.declared.endpoint.Ep.{Ep}
 use Rattle.td_outside.specs.declared.fails.Failed.{Failed}
 use Rattle.td_outside.specs.Clock.{ClockState}
@@ -10,7 +10,7 @@ use Rattle.teredo_node.specs.Turn.{Come, Carries, SendFaults}
 use Rattle.td_live.specs.declared.asked.Asked.{Asked}
 use Rattle.td_live.specs.declared.live.Live.{Live}
 use Rattle.td_live.specs.declared.live_totals.LiveTotals.{LiveTotals}
-use Rattle.td_live.specs.Asked.{LiveClient, live_client}
+use Rattle.td_live.specs.Asked.{live_client}
 use Rattle.td_live.specs.Half.{FailsBy}
 use Rattle.td_live.specs.Session.{TakesAll, RunsTurns, Qualifies, SessionOf, NoSession}
 
@@ -27,36 +27,49 @@ takes_all a b c came made opened carried = record {
   attempts = Stays-Moves _ a.attempts b.attempts c.attempts opened.attempts carried.attempts;
 }
 
-from_opening : (c : LiveClient) (most : ℕ) (clock clock' : ClockState) (a b d : Told) (totals : LiveTotals) (result : Result Live Failed) → TurnsToOne a b → RunsTurns c most clock clock' b d totals result → Qualifies c most clock clock' a d totals result
-from_opening c most clock clock' a b d totals result opened runs = record {
-  turns = runs.turns;
-  are = runs.are;
-  some = runs.some;
-  few = runs.few;
-  moments = runs.moments;
-  read = runs.read;
-  answers = runs.answers;
-  each = runs.each;
-  told = takes_all a b d _ _ opened runs.told;
-  sums = runs.sums;
-  ended = runs.ended;
+-- Turns at a link that was opened at an endpoint: the link before, opened, and after the turns, the clock, and what was found.
+pub record Opened (asked : Asked) : Type 0 where
+  pub at : Ep
+  pub before : LinkState
+  pub opened : LinkState
+  pub after : LinkState
+  pub clock : ClockState
+  pub clock' : ClockState
+  pub totals : LiveTotals
+  pub result : Result Live Failed
+  pub inside : at.ip ≡ asked.inside
+  pub place : opened.place ≡ client_on at
+  pub stays : after.place ≡ opened.place
+  pub one : TurnsToOne before.told opened.told
+  pub runs : RunsTurns (live_client asked at) asked.turns clock clock' opened.told after.told totals result
+
+from_opening : (asked : Asked) (o : Opened asked) → Qualifies (live_client asked o.at) asked.turns o.clock o.clock' o.before.told o.after.told o.totals o.result
+from_opening asked o = record {
+  turns = o.runs.turns;
+  are = o.runs.are;
+  some = o.runs.some;
+  few = o.runs.few;
+  moments = o.runs.moments;
+  read = o.runs.read;
+  answers = o.runs.answers;
+  each = o.runs.each;
+  told = takes_all o.before.told o.opened.told o.after.told _ _ o.one o.runs.told;
+  sums = o.runs.sums;
+  ended = o.runs.ended;
 }
 
-session : (asked : Asked) (at : Ep) (l m l' : LinkState) (c c' : ClockState) (totals : LiveTotals) (result : Result Live Failed)
-    → at.ip ≡ asked.inside → m.place ≡ client_on at → l'.place ≡ m.place → TurnsToOne l.told m.told → RunsTurns (live_client asked at) asked.turns c c' m.told l'.told totals result
-    → SessionOf asked l l' c c' totals result
-session asked at l m l' c c' totals result inside place stay opened runs = record {
-  at = at;
-  inside = inside;
-  place = stay ∙ place;
-  turns = from_opening (live_client asked at) asked.turns c c' l.told m.told l'.told totals result opened runs;
-}
+session : (asked : Asked) (o : Opened asked) → SessionOf asked o.before o.after o.clock o.clock' o.totals o.result
+session asked o = record { at = o.at; inside = o.inside; place = o.stays ∙ o.place; turns = from_opening asked o }
 
-pub session_found : (asked : Asked) (at : Ep) (l m l' : LinkState) (c c' : ClockState) (totals : LiveTotals) (result : Result Live Failed)
-    → at.ip ≡ asked.inside → m.place ≡ client_on at → l'.place ≡ m.place → TurnsToOne l.told m.told → RunsTurns (live_client asked at) asked.turns c c' m.told l'.told totals result
-    → MatchResult result (λ answer. SessionOf asked l l' c c' totals (Ok answer)) (λ fault. NoSession l l' c c' totals ⊎ SessionOf asked l l' c c' totals (Err fault))
-session_found asked at l m l' c c' totals (Ok answer) inside place stay opened runs = session asked at l m l' c c' totals (Ok answer) inside place stay opened runs
-session_found asked at l m l' c c' totals (Err fault) inside place stay opened runs = inr (session asked at l m l' c c' totals (Err fault) inside place stay opened runs)
+pub session_found : (asked : Asked) (o : Opened asked)
+    → MatchResult o.result (λ answer. SessionOf asked o.before o.after o.clock o.clock' o.totals (Ok answer))
+    (λ fault. NoSession o.before o.after o.clock o.clock' o.totals ⊎ SessionOf asked o.before o.after o.clock o.clock' o.totals (Err fault))
+session_found asked o = by o.result (session asked o) where
+  by : (r : Result Live Failed) → SessionOf asked o.before o.after o.clock o.clock' o.totals r
+      → MatchResult r (λ answer. SessionOf asked o.before o.after o.clock o.clock' o.totals (Ok answer))
+      (λ fault. NoSession o.before o.after o.clock o.clock' o.totals ⊎ SessionOf asked o.before o.after o.clock o.clock' o.totals (Err fault))
+  by (Ok answer) s = s
+  by (Err fault) s = inr s
 
 pub sends_so : (before now failed : ℕ) → FailsBy before now 0 failed → SendFaults before now failed
 sends_so before now failed so = record { later = so.later; rose = so.rose; kept = so.kept }

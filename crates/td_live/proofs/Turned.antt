@@ -1,7 +1,6 @@
 -- One turn of a session, in its two parts.
-use Rattle.std.proofs.Common.{◌≡◌, ◌++◌, ℕ, Bool, true, false, List, [], ◌∷◌, length, Result, Ok, Err, OnOk, OnErr, is_err, refl, sym, ap, subst, ◌∙◌}
+use Rattle.std.proofs.Common.{◌≡◌, ℕ, Bool, true, false, [], ◌∷◌, Result, Ok, Err, OnOk, OnErr, is_err, refl, sym, ap, subst, ◌∙◌}
 use Rattle.td_base.specs.declared.endpoint.Ep.{Ep}
-use Rattle.td_base.specs.declared.side.Side.{Side}
 use Rattle.td_outside.specs.declared.fails.Failed.{Failed}
 use Rattle.td_outside.specs.Link.{Came, Datagram, Nothing, Told}
 use Rattle.teredo_node.specs.Step.{Step}
@@ -15,58 +14,94 @@ use Rattle.qualify.specs.declared.settings.Settings.{Settings}
 use Rattle.qualify.specs.declared.phase.Phase.{Phase}
 use Rattle.qualify.specs.Qualification.{qualification}
 use Rattle.client_core.specs.declared.client.Client.{Client}
-use Rattle.client_core.specs.Client.{ClientStandsFor, AsBefore, Does, WantsPlace, settings_of}
+use Rattle.client_core.specs.Client.{AsBefore, Does, WantsPlace, settings_of}
 use Rattle.client_rules.specs.TakenPlaces.{WantsOnlyQualified}
 use Rattle.td_live.specs.Asked.{LiveClient}
-use Rattle.td_live.specs.LiveTurns.{LiveTurn, Over, Took as Received, Broke, receives, phase_after, after_due, after_came, after_turn, live_entry}
+use Rattle.td_live.specs.LiveTurns.{Over, Took as Received, Broke, receives, phase_after, after_due, after_came}
 use Rattle.td_live.specs.Half.{IsAt, Advances, TakesTurn}
 use Rattle.td_live.specs.declared.live_totals.LiveTotals.{LiveTotals}
-use Rattle.td_live.proofs.Entries.{GoOn, Counts, goes_on, goes_nowhere, goes_both}
-use Rattle.td_live.proofs.Unlisted.{wants_none}
+use Rattle.td_live.proofs.Attempts.{Counts}
+use Rattle.td_live.proofs.Entries.{GoOn, Point, Goes, Called, goes_on, goes_nowhere, goes_both}
+use Rattle.td_live.proofs.Unlisted.{Waits, wants_none}
 
 -- What a turn of a client did, by its answer.
 abbrev pub PumpsClient : Client → ℕ → Client → Told → Told → Step → Result Pumped PumpFault → Type 0
 PumpsClient own n new link link' step result = Pumps (λ side from x step new. Does own n (arrived from x) step new) (λ side from x. WantsPlace own n from x) new link link' step result
 
-module _ (c : LiveClient) (j : Journal) (n : ℕ) (own new : Client) (link link' : Told) (step : Step) (result : Result Pumped PumpFault) (pumped : PumpsClient own n new link link' step result) where
-  pub took : (answer : Pumped) (from : Ep) (len failed : ℕ) → result ≡ Ok answer → answer ≡ Took from len failed → AnswersArrival (λ side from x step new. Does own n (arrived from x) step new) new link link' step from len failed
-  took answer from len failed ok is = subst (λ (r : Result Pumped PumpFault). PumpsClient own n new link link' step r) (ok ∙ ap (λ (a : Pumped). Ok a) is) pumped
+-- One `pump` of a client that stands at a point: what it did, by its answer.
+pub record Pump (p : Point) : Type 0 where
+  pub now : ℕ
+  pub client : Client
+  pub told : Told
+  pub before : Step
+  pub step : Step
+  pub answer : Result Pumped PumpFault
+  pub turn : PumpsClient p.client now client p.told told step answer
+  pub left : LeavesAll AsBefore p.client client before step answer
 
-  pub took_goes : GoOn → (answer : Pumped) (from : Ep) (len failed : ℕ) (totals totals' : LiveTotals) → result ≡ Ok answer → answer ≡ Took from len failed → IsAt c own j → Counts totals totals' step.sends failed
-      → (came : Came) × Advances c j (after_came c j n came) new link link' (came ∷ []) totals totals'
-  took_goes go_on answer from len failed totals totals' ok is at counts =
-      let a = took answer from len failed ok is in
-      (Datagram a.side from a.bytes, goes_on go_on c own new j n (arrived from a.bytes) step link link' (Datagram a.side from a.bytes ∷ []) totals totals' failed a.answers at a.answered a.each a.told a.bits counts)
+-- it took a datagram
+pub record Takes (p : Point) (r : Pump p) : Type 0 where
+  pub from : Ep
+  pub len : ℕ
+  pub failed : ℕ
+  pub is : r.answer ≡ Ok (Took from len failed)
 
-  pub idle_goes : (before : Step) (answer : Pumped) (totals : LiveTotals) → result ≡ Ok answer → answer ≡ Idle → LeavesAll AsBefore own new before step result → IsAt c own j
-      → (came : Came) × Advances c j (after_came c j n came) new link link' (came ∷ []) totals totals
-  idle_goes before answer totals ok is left at =
-      let whole : result ≡ Ok Idle = ok ∙ ap (λ (a : Pumped). Ok a) is in
-      let carried : Carries link link' (Nothing ∷ []) [] = subst (λ (r : Result Pumped PumpFault). PumpsClient own n new link link' step r) whole pumped in
-      let same : new ≡ own = (subst (λ (r : Result Pumped PumpFault). LeavesAll AsBefore own new before step r) whole left).0 in
-      (Nothing, subst (λ (s : Client). Advances c j j s link link' (Nothing ∷ []) totals totals) (sym same) (goes_nowhere c j own link link' (Nothing ∷ []) totals at carried))
+pub took : (p : Point) (r : Pump p) (t : Takes p r)
+    → AnswersArrival (λ side from x step new. Does p.client r.now (arrived from x) step new) r.client p.told r.told r.step t.from t.len t.failed
+took p r t = subst (λ (a : Result Pumped PumpFault). PumpsClient p.client r.now r.client p.told r.told r.step a) t.is r.turn
 
-  pub broke_goes : (before : Step) (fault : PumpFault) (totals : LiveTotals) → result ≡ Err fault → fault ≡ Receive → LeavesAll AsBefore own new before step result → IsAt c own j
-      → Advances c j j new link link' [] totals totals
-  broke_goes before fault totals err is left at =
-      let whole : result ≡ Err Receive = err ∙ ap (λ (f : PumpFault). Err f) is in
-      let carried : Carries link link' [] [] = subst (λ (r : Result Pumped PumpFault). PumpsClient own n new link link' step r) whole pumped in
-      let same : new ≡ own = (subst (λ (r : Result Pumped PumpFault). LeavesAll AsBefore own new before step r) whole left).0 in
-      subst (λ (s : Client). Advances c j j s link link' [] totals totals) (sym same) (goes_nowhere c j own link link' [] totals at carried)
+-- what is left of it
+abbrev pub ended : (p : Point) → Pump p → LiveTotals → Point
+ended p r totals = record p { client = r.client; told = r.told; totals = totals }
 
-  pub starves_never : WantsOnlyQualified → (fault : PumpFault) → result ≡ Err fault → fault ≡ NoMemory → IsAt c own j → receives (phase_after c j) ≡ true → ⊥
-  starves_never law fault err is at asking =
-      let starved = subst (λ (r : Result Pumped PumpFault). PumpsClient own n new link link' step r) (err ∙ ap (λ (f : PumpFault). Err f) is) pumped in
-      wants_none law c own j n starved.from starved.bytes at asking starved.starved
+-- from a point to another, by what came
+abbrev pub GoesBy : LiveClient → ℕ → Point → Point → Came → Type 0
+GoesBy c n p q came = Advances c p.journal (after_came c p.journal n came) q.client p.told q.told (came ∷ []) p.totals q.totals
 
--- ---- what holds of an answer, for one client and journal
-pub ok_at : {T E : Type 0} (P Q : LiveClient → Journal → Type 0) (r : Result T E) → OnOk r ((c : LiveClient) (j : Journal) → P c j → Q c j) → (c : LiveClient) (j : Journal) → P c j → OnOk r (Q c j)
-ok_at P Q (Ok x) all c j p = all c j p
-ok_at P Q (Err e) all c j p = tt
+pub took_goes : GoOn → (c : LiveClient) (p : Point) (r : Pump p) (t : Takes p r) (totals : LiveTotals) → IsAt c p.client p.journal
+    → Counts p.totals totals r.step.sends t.failed → (came : Came) × GoesBy c r.now p (ended p r totals) came
+took_goes go_on c p r t totals at counts =
+    let a = took p r t in
+    let came = Datagram a.side t.from a.bytes in
+    let call : Called c p (came ∷ []) = record {
+      now = r.now;
+      input = arrived t.from a.bytes;
+      step = r.step;
+      client = r.client;
+      told = r.told;
+      totals = totals;
+      failed = t.failed;
+      answers = a.answers;
+      at = at;
+      does = a.answered;
+      each = a.each;
+      carried = a.told;
+      bits = a.bits;
+      counts = counts;
+    } in
+    (came, goes_on go_on c p (came ∷ []) call)
 
-pub err_at : {T E : Type 0} (P Q : LiveClient → Journal → Type 0) (r : Result T E) → OnErr r ((c : LiveClient) (j : Journal) → P c j → Q c j) → (c : LiveClient) (j : Journal) → P c j → OnErr r (Q c j)
-err_at P Q (Ok x) all c j p = tt
-err_at P Q (Err e) all c j p = all c j p
+pub idle_goes : (c : LiveClient) (p : Point) (r : Pump p) → r.answer ≡ Ok Idle → IsAt c p.client p.journal
+    → (came : Came) × GoesBy c r.now p (ended p r p.totals) came
+idle_goes c p r is at =
+    let carried : Carries p.told r.told (Nothing ∷ []) [] = subst (λ (a : Result Pumped PumpFault). PumpsClient p.client r.now r.client p.told r.told r.step a)
+    is r.turn in
+    let same : r.client ≡ p.client = (subst (λ (a : Result Pumped PumpFault). LeavesAll AsBefore p.client r.client r.before r.step a) is r.left).0 in (
+      Nothing,
+      subst (λ (s : Client). Advances c p.journal p.journal s p.told r.told (Nothing ∷ []) p.totals p.totals) (sym same)
+          (goes_nowhere c p r.told (Nothing ∷ []) at carried),
+    )
+
+pub broke_goes : (c : LiveClient) (p : Point) (r : Pump p) → r.answer ≡ Err Receive → IsAt c p.client p.journal → Goes c p (ended p r p.totals) []
+broke_goes c p r is at =
+    let carried : Carries p.told r.told [] [] = subst (λ (a : Result Pumped PumpFault). PumpsClient p.client r.now r.client p.told r.told r.step a) is r.turn in
+    let same : r.client ≡ p.client = (subst (λ (a : Result Pumped PumpFault). LeavesAll AsBefore p.client r.client r.before r.step a) is r.left).0 in
+    subst (λ (s : Client). Advances c p.journal p.journal s p.told r.told [] p.totals p.totals) (sym same) (goes_nowhere c p r.told [] at carried)
+
+pub starves_never : WantsOnlyQualified → (c : LiveClient) (p : Point) (r : Pump p) → r.answer ≡ Err NoMemory → Waits c p.client p.journal → ⊥
+starves_never law c p r is waits =
+    let starved = subst (λ (a : Result Pumped PumpFault). PumpsClient p.client r.now r.client p.told r.told r.step a) is r.turn in
+    wants_none law c p.client p.journal waits r.now starved.from starved.bytes starved.starved
 
 -- ---- a turn
 
@@ -74,25 +109,40 @@ err_at P Q (Err e) all c j p = all c j p
 pub phase_told : (c : LiveClient) (own : Client) (j : Journal) (phase : Phase) (b : Bool) → IsAt c own j → phase ≡ (qualification (settings_of own) j).phase → b ≡ receives phase → receives (phase_after c j) ≡ b
 phase_told c own j phase b at told is = sym (is ∙ ap receives told ∙ ap (λ (s : Settings). receives (qualification s j).phase) at.settings)
 
-pub turn_over : (c : LiveClient) (j : Journal) (n : ℕ) (new : Client) (link link' : Told) (totals totals' : LiveTotals) → Advances c j (after_due c j n) new link link' [] totals totals' → receives (phase_after c (after_due c j n)) ≡ false → TakesTurn c j n new link link' totals totals' false
-turn_over c j n new link link' totals totals' goes over = record { turn = Over n; moment = refl; kind = over; fault = refl; goes = goes }
+-- from a point to the end of what is due
+abbrev pub DoesDue : LiveClient → ℕ → Point → Point → Type 0
+DoesDue c n p q = Advances c p.journal (after_due c p.journal n) q.client p.told q.told [] p.totals q.totals
 
-pub turn_whole : (c : LiveClient) (j : Journal) (n : ℕ) (mid new : Client) (l m r : Told) (totals totals' totals'' : LiveTotals) (result : Result (Unit {0}) Failed)
-    → Advances c j (after_due c j n) mid l m [] totals totals' → receives (phase_after c (after_due c j n)) ≡ true
-    → OnOk result ((came : Came) × Advances c (after_due c j n) (after_came c (after_due c j n) n came) new m r (came ∷ []) totals' totals'')
-    → OnErr result (Advances c (after_due c j n) (after_due c j n) new m r [] totals' totals'')
-    → TakesTurn c j n new l r totals totals'' (is_err result)
-turn_whole c j n mid new l m r totals totals' totals'' (Ok x) due asking goes broke = record {
+pub turn_over : (c : LiveClient) (n : ℕ) (p q : Point) → DoesDue c n p q → receives (phase_after c (after_due c p.journal n)) ≡ false
+    → TakesTurn c p.journal n q.client p.told q.told p.totals q.totals false
+turn_over c n p q goes over = record { turn = Over n; moment = refl; kind = over; fault = refl; goes = goes }
+
+-- a client that waits for its server's answer after what was due
+pub record StillWaits (c : LiveClient) (n : ℕ) (p : Point) : Type 0 where
+  pub client : Client
+  pub told : Told
+  pub totals : LiveTotals
+  pub due : Advances c p.journal (after_due c p.journal n) client p.told told [] p.totals totals
+  pub asking : receives (phase_after c (after_due c p.journal n)) ≡ true
+
+abbrev pub point_due : (c : LiveClient) (n : ℕ) (p : Point) → StillWaits c n p → Point
+point_due c n p w = record { client = w.client; journal = after_due c p.journal n; told = w.told; totals = w.totals }
+
+pub turn_whole : (c : LiveClient) (n : ℕ) (p q : Point) (w : StillWaits c n p) (result : Result (Unit {0}) Failed)
+    → OnOk result ((came : Came) × GoesBy c n (point_due c n p w) q came)
+    → OnErr result (Advances c (after_due c p.journal n) (after_due c p.journal n) q.client w.told q.told [] w.totals q.totals)
+    → TakesTurn c p.journal n q.client p.told q.told p.totals q.totals (is_err result)
+turn_whole c n p q w (Ok x) goes broke = record {
   turn = Received n goes.0;
   moment = refl;
-  kind = asking;
+  kind = w.asking;
   fault = refl;
-  goes = goes_both c j (after_due c j n) (after_came c (after_due c j n) n goes.0) mid new l m r [] (goes.0 ∷ []) totals totals' totals'' due goes.1;
+  goes = goes_both c p (point_due c n p w) (record q { journal = after_came c (after_due c p.journal n) n goes.0 }) [] (goes.0 ∷ []) w.due goes.1;
 }
-turn_whole c j n mid new l m r totals totals' totals'' (Err f) due asking goes broke = record {
+turn_whole c n p q w (Err f) goes broke = record {
   turn = Broke n;
   moment = refl;
-  kind = asking;
+  kind = w.asking;
   fault = refl;
-  goes = goes_both c j (after_due c j n) (after_due c j n) mid new l m r [] [] totals totals' totals'' due broke;
+  goes = goes_both c p (point_due c n p w) (record q { journal = after_due c p.journal n }) [] [] w.due broke;
 }

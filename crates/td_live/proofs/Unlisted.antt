@@ -23,7 +23,14 @@ not_both Qualified r q = cc
 not_both Symmetric r q = cc
 not_both OffLine r q = cc
 
-pub wants_none : WantsOnlyQualified → (c : LiveClient) (own : Client) (j : Journal) (n : ℕ) (from : Ep) (x : List ℕ) → IsAt c own j → receives (phase_after c j) ≡ true → WantsPlace own n from x → ⊥
-wants_none law c own j n from x at asking wants =
-    let waits : receives (qualification (settings_of own) j).phase ≡ true = ap (λ (t : Settings). receives (qualification t j).phase) at.settings ∙ asking in
-    not_both (qualification (settings_of own) j).phase waits (law (settings_of own) j n from x (words_ahead own) _ (wants j at.stands))
+-- a client at a journal, whose phase waits for the answer
+pub record Waits (c : LiveClient) (own : Client) (j : Journal) : Type 0 where
+  pub at : IsAt c own j
+  pub asking : receives (phase_after c j) ≡ true
+
+pub wants_none : WantsOnlyQualified → (c : LiveClient) (own : Client) (j : Journal) → Waits c own j → (n : ℕ) (from : Ep) (x : List ℕ) → WantsPlace own n from x
+    → ⊥
+wants_none law c own j waits n from x wants =
+    let asking : receives (qualification (settings_of own) j).phase ≡ true = ap (λ (t : Settings). receives (qualification t j).phase) waits.at.settings ∙
+    waits.asking in
+    not_both (qualification (settings_of own) j).phase asking (law (settings_of own) j n from x (words_ahead own) _ (wants j waits.at.stands))

@@ -1,4 +1,4 @@
-use Rattle.std.proofs.Common.{◌≡◌, ◌≤◌, ◌<◌, ◌+◌, ◌*◌, ℕ, false}
+use Rattle.std.proofs.Common.{◌≡◌, ◌≤◌, ◌+◌, ◌*◌, ℕ, false}
 use Rattle.td_outside.specs.Moves.{Stays}
 use Rattle.client_core.specs.Client.{IsCallable}
 use Rattle.td_live.specs.Asked.{live_client}
@@ -9,7 +9,15 @@ use Rattle.td_live.proofs.session.take_turns.Given as goal
 abbrev pub invariant-loop-turn : goal.invariant-loop-turn
 invariant-loop-turn g l = record {
   start : ℕ;
-  ran : Ran (live_client l.fn.asked l.fn.at) start l._turn l.client (g.C.Clock.state l.fn.clock) (g.C.Clock.state l.clock) (g.L.Link.state l.fn.link).told (g.L.Link.state l.link).told l.totals false;
+  ran : Ran (record {
+    client = live_client l.fn.asked l.fn.at;
+    start = start;
+    most = l.fn.asked.turns;
+    clock = g.C.Clock.state l.fn.clock;
+    told
+        = (g.L.Link.state l.fn.link).told;
+  })
+      l._turn (record { own = l.client; clock = g.C.Clock.state l.clock; told = (g.L.Link.state l.link).told; totals = l.totals }) false;
   callable : IsCallable l.client (g.C.Clock.state l.clock).last;
   few : l.totals.sent + l.totals.failed ≤ 16 * l._turn;
   receives : (g.L.Link.state l.link).recv_faults ≡ (g.L.Link.state l.fn.link).recv_faults;

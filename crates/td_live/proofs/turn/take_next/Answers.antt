@@ -1,29 +1,75 @@
-use Rattle.std.proofs.Common.{◌≡◌, Result, Ok, Err, sym, ap, subst, ◌∙◌}
+use Rattle.std.proofs.Common.{Result, Ok, Err, ap, subst, ◌∙◌}
 use Rattle.teredo_node.specs.Turn.{SendFaults, failed_of}
 use Rattle.teredo_node.specs.declared.turn.Pumped.{Pumped}
 use Rattle.teredo_node.specs.declared.turn.PumpFault.{PumpFault}
-use Rattle.td_live.proofs.Entries.{few_lost, fails_by}
-use Rattle.td_live.proofs.Turned.{took, took_goes, idle_goes, broke_goes, starves_never}
+use Rattle.td_live.proofs.Attempts.{few_lost, fails_by}
+use Rattle.td_live.proofs.Entries.{Point}
+use Rattle.td_live.proofs.Turned.{Pump, Takes, took, took_goes, idle_goes, broke_goes, starves_never}
 use Rattle.td_live.proofs.turn.take_next.Goals as goal
 
 pub count-requires-clause-sends : goal.count-requires-clause-sends
 count-requires-clause-sends g c =
     let some = c.requires.asking.somewhere in
-    let t = took some.client some.journal c.args.now.0 c.args.client.now c.pump.new.e (g.L.Link.state c.args.link.now).told (g.L.Link.state c.pump.new.link).told c.pump.new.step c.pump.result c.pump.ensures.turn
-    c.in-Ok-Took.field-0 c.in-Ok-Took.field-0-0 c.in-Ok-Took.field-0-1 c.in-Ok-Took.failed c.in-Ok-Took.is c.in-Ok-Took.field-0-is in
+    let from : Point = record { client = c.args.client.now; journal = some.journal; told = (g.L.Link.state c.args.link.now).told; totals = c.args.totals.now }
+    in
+    let pump : Pump from = record {
+      now = c.args.now.0;
+      client = c.pump.new.e;
+      told = (g.L.Link.state c.pump.new.link).told;
+      before = c.args.step.now;
+      step = c.pump.new.step;
+      answer = c.pump.result;
+      turn = c.pump.ensures.turn;
+      left = c.pump.ensures.left;
+    } in
+    let takes : Takes from pump = record {
+      from = c.in-Ok-Took.field-0-0;
+      len = c.in-Ok-Took.field-0-1;
+      failed = c.in-Ok-Took.failed;
+      is = c.in-Ok-Took.is ∙ ap (λ (a : Pumped). Ok a) c.in-Ok-Took.field-0-is;
+    } in
+    let t = took from pump takes in
     few_lost c.pump.new.step.sends c.in-Ok-Took.failed t.answers t.each t.bits
 
 pub unreachable-requires : goal.unreachable-requires
 unreachable-requires g c =
     let some = c.requires.asking.somewhere in
-    starves_never some.client some.journal c.args.now.0 c.args.client.now c.pump.new.e (g.L.Link.state c.args.link.now).told (g.L.Link.state c.pump.new.link).told c.pump.new.step c.pump.result c.pump.ensures.turn
-    c.wants_only_qualified.ensures c.in-Err-NoMemory.field-0 c.in-Err-NoMemory.is c.in-Err-NoMemory.field-0-is some.at c.requires.asking.phase
+    let from : Point = record { client = c.args.client.now; journal = some.journal; told = (g.L.Link.state c.args.link.now).told; totals = c.args.totals.now }
+    in
+    let pump : Pump from = record {
+      now = c.args.now.0;
+      client = c.pump.new.e;
+      told = (g.L.Link.state c.pump.new.link).told;
+      before = c.args.step.now;
+      step = c.pump.new.step;
+      answer = c.pump.result;
+      turn = c.pump.ensures.turn;
+      left = c.pump.ensures.left;
+    } in
+    starves_never c.wants_only_qualified.ensures some.client from pump (c.in-Err-NoMemory.is ∙ ap (λ (f : PumpFault). Err f) c.in-Err-NoMemory.field-0-is)
+    (record { at = some.at; asking = c.requires.asking.phase })
 
 pub returns-in-Ok-Took-clause-goes : goal.returns-in-Ok-Took-clause-goes
 returns-in-Ok-Took-clause-goes g c =
     λ client j at.
-    took_goes client j c.args.now.0 c.args.client.now c.pump.new.e (g.L.Link.state c.args.link.now).told (g.L.Link.state c.pump.new.link).told c.pump.new.step c.pump.result c.pump.ensures.turn
-    c.words_go_on.ensures.place c.in-Ok-Took.field-0 c.in-Ok-Took.field-0-0 c.in-Ok-Took.field-0-1 c.in-Ok-Took.failed c.args.totals.now c.count.new.self c.in-Ok-Took.is c.in-Ok-Took.field-0-is at c.count.ensures.counted
+    let from : Point = record { client = c.args.client.now; journal = j; told = (g.L.Link.state c.args.link.now).told; totals = c.args.totals.now } in
+    let pump : Pump from = record {
+      now = c.args.now.0;
+      client = c.pump.new.e;
+      told = (g.L.Link.state c.pump.new.link).told;
+      before = c.args.step.now;
+      step = c.pump.new.step;
+      answer = c.pump.result;
+      turn = c.pump.ensures.turn;
+      left = c.pump.ensures.left;
+    } in
+    let takes : Takes from pump = record {
+      from = c.in-Ok-Took.field-0-0;
+      len = c.in-Ok-Took.field-0-1;
+      failed = c.in-Ok-Took.failed;
+      is = c.in-Ok-Took.is ∙ ap (λ (a : Pumped). Ok a) c.in-Ok-Took.field-0-is;
+    } in
+    took_goes c.words_go_on.ensures.place client from pump takes c.count.new.self at c.count.ensures.counted
 
 pub returns-in-Ok-Took-clause-sends : goal.returns-in-Ok-Took-clause-sends
 returns-in-Ok-Took-clause-sends g c =
@@ -34,11 +80,31 @@ returns-in-Ok-Took-clause-sends g c =
 pub returns-in-Ok-Idle-clause-goes : goal.returns-in-Ok-Idle-clause-goes
 returns-in-Ok-Idle-clause-goes g c =
     λ client j at.
-    idle_goes client j c.args.now.0 c.args.client.now c.pump.new.e (g.L.Link.state c.args.link.now).told (g.L.Link.state c.pump.new.link).told c.pump.new.step c.pump.result c.pump.ensures.turn
-    c.args.step.now c.in-Ok-Idle.field-0 c.args.totals.now c.in-Ok-Idle.is c.in-Ok-Idle.field-0-is c.pump.ensures.left at
+    let from : Point = record { client = c.args.client.now; journal = j; told = (g.L.Link.state c.args.link.now).told; totals = c.args.totals.now } in
+    let pump : Pump from = record {
+      now = c.args.now.0;
+      client = c.pump.new.e;
+      told = (g.L.Link.state c.pump.new.link).told;
+      before = c.args.step.now;
+      step = c.pump.new.step;
+      answer = c.pump.result;
+      turn = c.pump.ensures.turn;
+      left = c.pump.ensures.left;
+    } in
+    idle_goes client from pump (c.in-Ok-Idle.is ∙ ap (λ (a : Pumped). Ok a) c.in-Ok-Idle.field-0-is) at
 
 pub returns-in-Err-Receive-clause-broke : goal.returns-in-Err-Receive-clause-broke
 returns-in-Err-Receive-clause-broke g c =
     λ client j at.
-    broke_goes client j c.args.now.0 c.args.client.now c.pump.new.e (g.L.Link.state c.args.link.now).told (g.L.Link.state c.pump.new.link).told c.pump.new.step c.pump.result c.pump.ensures.turn
-    c.args.step.now c.in-Err-Receive.field-0 c.args.totals.now c.in-Err-Receive.is c.in-Err-Receive.field-0-is c.pump.ensures.left at
+    let from : Point = record { client = c.args.client.now; journal = j; told = (g.L.Link.state c.args.link.now).told; totals = c.args.totals.now } in
+    let pump : Pump from = record {
+      now = c.args.now.0;
+      client = c.pump.new.e;
+      told = (g.L.Link.state c.pump.new.link).told;
+      before = c.args.step.now;
+      step = c.pump.new.step;
+      answer = c.pump.result;
+      turn = c.pump.ensures.turn;
+      left = c.pump.ensures.left;
+    } in
+    broke_goes client from pump (c.in-Err-Receive.is ∙ ap (λ (f : PumpFault). Err f) c.in-Err-Receive.field-0-is) at

@@ -1,8 +1,8 @@
-use Rattle.std.proofs.Common.{◌≡◌, false, true, [], ◌∷◌}
-use Rattle.td_outside.specs.Link.{Came}
-use Rattle.td_live.specs.Half.{IsAt, Advances}
-use Rattle.td_live.specs.LiveTurns.{receives, phase_after, after_due, after_came}
-use Rattle.td_live.proofs.Turned.{phase_told, turn_over, turn_whole, ok_at, err_at}
+use Rattle.std.proofs.Common.{◌≡◌, false, true}
+use Rattle.std.proofs.lemmas.Result.{on_ok_weaker, on_err_weaker}
+use Rattle.td_live.specs.LiveTurns.{after_due}
+use Rattle.td_live.proofs.Entries.{Point}
+use Rattle.td_live.proofs.Turned.{StillWaits, phase_told, turn_over, turn_whole}
 use Rattle.td_live.proofs.turn.take_turn.Goals as goal
 
 pub returns-then-not-receives-clause-turn : goal.returns-then-not-receives-clause-turn
@@ -10,7 +10,14 @@ returns-then-not-receives-clause-turn g c =
     λ client j at.
     let goes = c.do_due.ensures.goes client j at in
     let over : c.receives.result ≡ false = c.if-not-receives.true in
-    turn_over client j c.args.now.0 c.do_due.new.client _ _ c.args.totals.now c.do_due.new.totals goes
+    let from : Point = record { client = c.args.client.now; journal = j; told = (g.L.Link.state c.args.link.now).told; totals = c.args.totals.now } in
+    let to : Point = record {
+      client = c.do_due.new.client;
+      journal = after_due client j c.args.now.0;
+      told = (g.L.Link.state c.do_due.new.link).told;
+      totals = c.do_due.new.totals;
+    } in
+    turn_over client c.args.now.0 from to goes
     (rw (← over) (phase_told client c.do_due.new.client (after_due client j c.args.now.0) c.phase.result c.receives.result goes.at (c.phase.ensures (after_due client j c.args.now.0) goes.at.stands) c.receives.ensures))
 
 pub take_next-requires-clause-asking : goal.take_next-requires-clause-asking
@@ -27,9 +34,21 @@ take_next-requires-clause-asking g c =
 pub returns-clause-turn : goal.returns-clause-turn
 returns-clause-turn g c =
     λ client j at.
-    let k = after_due client j c.args.now.0 in
+    let n = c.args.now.0 in
+    let k = after_due client j n in
     let goes = c.do_due.ensures.goes client j at in
     let waits : c.receives.result ≡ true = c.if-not-receives.false in
-    let asking : receives (phase_after client k) ≡ true = rw (← waits) (phase_told client c.do_due.new.client k c.phase.result c.receives.result goes.at (c.phase.ensures k goes.at.stands) c.receives.ensures) in
-    turn_whole client j c.args.now.0 c.do_due.new.client c.take_next.new.client _ _ _ c.args.totals.now c.do_due.new.totals c.take_next.new.totals c.take_next.result goes asking
-    (ok_at (λ a h. IsAt a c.do_due.new.client h) (λ a h. (came : Came) × Advances a h (after_came a h c.args.now.0 came) c.take_next.new.client (g.L.Link.state c.do_due.new.link).told (g.L.Link.state c.take_next.new.link).told (came ∷ []) c.do_due.new.totals c.take_next.new.totals) c.take_next.result c.take_next.ensures.goes client k goes.at) (err_at (λ a h. IsAt a c.do_due.new.client h) (λ a h. Advances a h h c.take_next.new.client (g.L.Link.state c.do_due.new.link).told (g.L.Link.state c.take_next.new.link).told [] c.do_due.new.totals c.take_next.new.totals) c.take_next.result c.take_next.ensures.broke client k goes.at)
+    let from : Point = record { client = c.args.client.now; journal = j; told = (g.L.Link.state c.args.link.now).told; totals = c.args.totals.now } in
+    let to : Point = record { client = c.take_next.new.client; journal = k; told = (g.L.Link.state c.take_next.new.link).told; totals = c.take_next.new.totals }
+    in
+    let still : StillWaits client n from = record {
+      client = c.do_due.new.client;
+      told = (g.L.Link.state c.do_due.new.link).told;
+      totals = c.do_due.new.totals;
+      due = goes;
+      asking = rw (← waits) (phase_told client c.do_due.new.client k c.phase.result c.receives.result goes.at (c.phase.ensures k goes.at.stands)
+          c.receives.ensures);
+    } in
+    turn_whole client n from to still c.take_next.result
+    (on_ok_weaker c.take_next.result (λ all. all client k goes.at) c.take_next.ensures.goes)
+    (on_err_weaker c.take_next.result (λ all. all client k goes.at) c.take_next.ensures.broke)
