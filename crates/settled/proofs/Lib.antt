@@ -1,2 +1,3 @@
+pub mod Earlier
 mod ItsNodes
 mod OwnAddress

@@ -55,12 +55,12 @@ record IsUnder (t : TopologyState) (a : ServerNode) (from : Ep) (v : Value) (k :
   six : GoesToSix (seen (server_settings a) from v) → packet_weight false v.packet ≤ k
 
 sent_on : (t : TopologyState) (a : ServerNode) (s : Send) (k : ℕ) (origin : Option Ep) (p : Fields) → ReadsPayload (value_written None origin p) s.bytes
-    → 1 ≤ k → load t (own_ep (server a) s.side) s.to origin p ≤ k → send_weight t (server a) s ≤ k
-sent_on t a s k origin p reads one less = by (is_some_server t s.to) (load_is t (own_ep (server a) s.side) s.to origin p s.bytes reads) where
+    → (1 ≤ k) × (load t (own_ep (server a) s.side) s.to origin p ≤ k) → send_weight t (server a) s ≤ k
+sent_on t a s k origin p reads both = by (is_some_server t s.to) (load_is t (own_ep (server a) s.side) s.to origin p s.bytes reads) where
   by : (b : Bool) → datagram_weight t (own_ep (server a) s.side) s.to s.bytes ≡ load t (own_ep (server a) s.side) s.to origin p
       → cond b 1 (datagram_weight t (own_ep (server a) s.side) s.to s.bytes) ≤ k
-  by true is = one
-  by false is = omega (arith, is, less)
+  by true is = both.0
+  by false is = let less = both.1 in omega (arith, is, less)
 
 -- the packet in a datagram
 packet_is : (x : List ℕ) (v : Value) → ReadsPayload v x → fields_in (part x (rest_of v.lead.at x)) ≡ v.packet
@@ -75,14 +75,12 @@ module _ (laws : RowLaws) (t : TopologyState) (a : ServerNode) (side : Side) (fr
   by_rule k (Dropped f) w u = omega arith
   by_rule k Advert w u = absurd (false≢true (sym u.plain ∙ w.solicitation))
   by_rule k ForwardOrigin w u =
-      let both = u.own w in
       let one = sent_on t a (send_from Primary (embedded v.packet.dst) (forwarded (Some from) (drop v.lead.at x))) k (Some from) v.packet
-      (laws.goes x v (Some from) bytes reads.read w.on.sound.short made) both.0 both.1 in
+      (laws.goes x v (Some from) bytes reads.read w.on.sound.short made) (u.own w) in
       omega (arith, one)
   by_rule k Forward w u =
-      let both = u.other w in
       let one = sent_on t a (send_from Primary (embedded v.packet.dst) (forwarded None (drop v.lead.at x))) k None v.packet
-      (laws.goes x v None bytes reads.read w.on.sound.short tt) both.0 both.1 in
+      (laws.goes x v None bytes reads.read w.on.sound.short tt) (u.other w) in
       omega (arith, one)
   by_rule k Six w u =
       let less = u.six w in

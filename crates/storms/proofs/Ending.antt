@@ -7,6 +7,7 @@ use Rattle.topology.specs.Rules.{IsTopology}
 use Rattle.history.specs.Full.{Full}
 use Rattle.legal.specs.Lab.{Lab, lab_of}
 use Rattle.legal.specs.Legal.{Begun, Grown}
+use Rattle.settled.proofs.Earlier.{earlier}
 use Rattle.storms.specs.Burden.{burden}
 use Rattle.storms.specs.Loads.{BurdenIsBounded}
 use Rattle.storms.specs.Deliveries.{AreNew, GoesOnSettling, EachLightens, EachStormEnds, SettleDeliversNew, EachSettlingEnds}
@@ -36,10 +37,6 @@ pub settling_ends : EachStormEnds → SettleDeliversNew → EachSettlingEnds
 settling_ends ends law lab H later is g on = ends lab H later is g (are_new law lab H later g on)
 
 -- AT EACH RECORD
-
-earlier : (lab : Lab) (rest H : List Full) → Grown lab (rest ++ H) → Grown lab H
-earlier lab [] H g = g
-earlier lab (r ∷ rest) H g = earlier lab rest H g.1
 
 pub histories : EachStormEnds → EachSettlingEnds → HistoriesHaveNoStorm
 histories ends settle lab H is g rest later before split =

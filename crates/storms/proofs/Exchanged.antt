@@ -98,46 +98,57 @@ behind H r k i (x ∷ xs) is h =
     ap (λ (b : Bool). cond (b || was_delivered i H) (undelivered_from (r ∷ H) (i + 1) xs) (x ∷ undelivered_from (r ∷ H) (i + 1) xs)) first
     ∙ ap (λ (zs : List Item). cond (was_delivered i H) zs (x ∷ zs)) rest
 
+-- a record that delivers an entry, which none before did
+record Delivered : Type 0 where
+  past : List Full
+  full : Full
+  number : ℕ
+  item : Item
+  is : full.delivered ≡ Some number
+  fresh : was_delivered number past ≡ false
+
 -- it goes
-taken : (H : List Full) (r : Full) (k : ℕ) (x : Item) (w : Item → ℕ) (i n : ℕ) (xs : List Item) → r.delivered ≡ Some k → was_delivered k H ≡ false
-    → slice_get xs n ≡ Some x → k ≡ i + n
-    → sum_by w (undelivered_from (r ∷ H) i xs) + w x ≡ sum_by w (undelivered_from H i xs)
-taken H r k x w i n [] is fresh at e = absurd (false≢true (ap (λ (o : Option Item). is_some o) at))
-taken H r k x w i zero (y ∷ xs) is fresh at e =
-    let here : k ≡ i = omega (arith, e) in
-    let one : y ≡ x = ap (λ (o : Option Item). unwrap_or o y) at in
-    let now : is_number i r.delivered ≡ true = ap (is_number i) is ∙ same k i here in
-    let before : was_delivered i H ≡ false = ap (λ (m : ℕ). was_delivered m H) (sym here) ∙ fresh in
-    let rest = behind H r k (i + 1) xs is (omega (arith, here)) in
-    let left : undelivered_from (r ∷ H) i (y ∷ xs) ≡ undelivered_from H (i + 1) xs =
-    ap (λ (b : Bool). cond (b || was_delivered i H) (undelivered_from (r ∷ H) (i + 1) xs) (y ∷ undelivered_from (r ∷ H) (i + 1) xs)) now ∙ rest in
-    let right : undelivered_from H i (y ∷ xs) ≡ y ∷ undelivered_from H (i + 1) xs = ap
-    (λ (b : Bool). cond b (undelivered_from H (i + 1) xs) (y ∷ undelivered_from H (i + 1) xs)) before in
+taken : (d : Delivered) (w : Item → ℕ) (i n : ℕ) (xs : List Item) → slice_get xs n ≡ Some d.item → d.number ≡ i + n
+    → sum_by w (undelivered_from (d.full ∷ d.past) i xs) + w d.item ≡ sum_by w (undelivered_from d.past i xs)
+taken d w i n [] at e = absurd (false≢true (ap (λ (o : Option Item). is_some o) at))
+taken d w i zero (y ∷ xs) at e =
+    let here : d.number ≡ i = omega (arith, e) in
+    let one : y ≡ d.item = ap (λ (o : Option Item). unwrap_or o y) at in
+    let now : is_number i d.full.delivered ≡ true = ap (is_number i) d.is ∙ same d.number i here in
+    let before : was_delivered i d.past ≡ false = ap (λ (m : ℕ). was_delivered m d.past) (sym here) ∙ d.fresh in
+    let rest = behind d.past d.full d.number (i + 1) xs d.is (omega (arith, here)) in
+    let left : undelivered_from (d.full ∷ d.past) i (y ∷ xs) ≡ undelivered_from d.past (i + 1) xs =
+    ap (λ (b : Bool). cond (b || was_delivered i d.past) (undelivered_from (d.full ∷ d.past) (i + 1) xs) (y ∷ undelivered_from (d.full ∷ d.past) (i + 1) xs))
+    now ∙ rest in
+    let right : undelivered_from d.past i (y ∷ xs) ≡ y ∷ undelivered_from d.past (i + 1) xs = ap
+    (λ (b : Bool). cond b (undelivered_from d.past (i + 1) xs) (y ∷ undelivered_from d.past (i + 1) xs)) before in
     let a = ap (sum_by w) left in
     let b = ap (sum_by w) right in
-    let c = sum_by-cons w y (undelivered_from H (i + 1) xs) in
+    let c = sum_by-cons w y (undelivered_from d.past (i + 1) xs) in
     let f = ap w one in
     omega (arith, a, b, c, f)
   where
     same : (m j : ℕ) → m ≡ j → (m == j) ≡ true
     same m j g = grind (arith, nat_tests)
-taken H r k x w i (suc n) (y ∷ xs) is fresh at e =
-    let first : is_number i r.delivered ≡ false = ap (is_number i) is ∙ later i k (omega (arith, e)) in
-    let rest = taken H r k x w (i + 1) n xs is fresh at (omega (arith, e)) in
-    let same : undelivered_from (r ∷ H) i (y ∷ xs) ≡ cond (was_delivered i H) (undelivered_from (r ∷ H) (i + 1) xs) (y ∷ undelivered_from (r ∷ H) (i + 1) xs) =
-    ap (λ (b : Bool). cond (b || was_delivered i H) (undelivered_from (r ∷ H) (i + 1) xs) (y ∷ undelivered_from (r ∷ H) (i + 1) xs)) first in
-    ap (λ (zs : List Item). sum_by w zs + w x) same ∙ by (was_delivered i H) rest
+taken d w i (suc n) (y ∷ xs) at e =
+    let first : is_number i d.full.delivered ≡ false = ap (is_number i) d.is ∙ later i d.number (omega (arith, e)) in
+    let rest = taken d w (i + 1) n xs at (omega (arith, e)) in
+    let same : undelivered_from (d.full ∷ d.past) i (y ∷ xs) ≡ cond (was_delivered i d.past) (undelivered_from (d.full ∷ d.past) (i + 1) xs)
+    (y ∷ undelivered_from (d.full ∷ d.past) (i + 1) xs) =
+    ap (λ (b : Bool). cond (b || was_delivered i d.past) (undelivered_from (d.full ∷ d.past) (i + 1) xs) (y ∷ undelivered_from (d.full ∷ d.past) (i + 1) xs))
+    first in
+    ap (λ (zs : List Item). sum_by w zs + w d.item) same ∙ by (was_delivered i d.past) rest
   where
     later : (j m : ℕ) → j < m → (m == j) ≡ false
     later j m g = grind (arith, nat_tests)
 
-    by : (b : Bool) → sum_by w (undelivered_from (r ∷ H) (i + 1) xs) + w x ≡ sum_by w (undelivered_from H (i + 1) xs)
-        → sum_by w (cond b (undelivered_from (r ∷ H) (i + 1) xs) (y ∷ undelivered_from (r ∷ H) (i + 1) xs)) + w x ≡ sum_by w
-        (cond b (undelivered_from H (i + 1) xs) (y ∷ undelivered_from H (i + 1) xs))
+    by : (b : Bool) → sum_by w (undelivered_from (d.full ∷ d.past) (i + 1) xs) + w d.item ≡ sum_by w (undelivered_from d.past (i + 1) xs)
+        → sum_by w (cond b (undelivered_from (d.full ∷ d.past) (i + 1) xs) (y ∷ undelivered_from (d.full ∷ d.past) (i + 1) xs)) + w d.item ≡ sum_by w
+        (cond b (undelivered_from d.past (i + 1) xs) (y ∷ undelivered_from d.past (i + 1) xs))
     by true h = h
     by false h =
-        let a = sum_by-cons w y (undelivered_from (r ∷ H) (i + 1) xs) in
-        let b = sum_by-cons w y (undelivered_from H (i + 1) xs) in
+        let a = sum_by-cons w y (undelivered_from (d.full ∷ d.past) (i + 1) xs) in
+        let b = sum_by-cons w y (undelivered_from d.past (i + 1) xs) in
         omega (arith, a, b, h)
 
 pub exchanges : KindLaw → DeliveryExchanges
@@ -150,7 +161,7 @@ exchanges law lab H r k x g is fresh at w =
     ap (λ (b : Bool). b || was_delivered j H) (not_number j r.delivered
     (λ m e. let within = is_there lab H r m (law lab H r g.0) e in omega (arith, within, le))) ∙ never law lab H j g.1 (omega (arith, le)) in
     let new : undelivered_from G (0 + length (wire H)) (items_of r) ≡ items_of r = all_open G (0 + length (wire H)) (items_of r) fresh_ones in
-    let old = taken H r k x w 0 k (wire H) is fresh at (omega arith) in
+    let old = taken (record { past = H; full = r; number = k; item = x; is = is; fresh = fresh }) w 0 k (wire H) at (omega arith) in
     let sums = ap (sum_by w) (split ∙ ap (λ (zs : List Item). undelivered_from G 0 (wire H) ++ zs) new)
     ∙ sum_by-append w (undelivered_from G 0 (wire H)) (items_of r) in
     omega (arith, old, sums)

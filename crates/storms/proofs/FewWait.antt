@@ -78,17 +78,6 @@ adds true xs o h f = omega arith
 adds false xs None h f = let both = length-append xs [] in omega (arith, both, h)
 adds false xs (Some x) h f = let both = length-append xs (x ∷ []) in omega (arith, both, f)
 
-few_if : (e : Mention) (j : List Mention) (p : Ip6) (about touches young : Bool) (later : Option Peer) → is_about p e ≡ about → e.bearing.touches ≡ touches → IfSome e.bearing.queues (λ x. QueuesFew e j)
-    → length (known j e.moment p).waiting ≤ 8 → length (unwrap_or later no_peer).waiting ≤ 8 → length (unwrap_or (peer_if about touches young e (peer_at j e.moment p) later) no_peer).waiting ≤ 8
-few_if e j p false touches young later a t q b h = h
-few_if e j p true false young None a t q b h = omega arith
-few_if e j p true false young (Some x) a t q b h =
-    adds (e.bearing.hears || e.bearing.gives_up) x.waiting e.bearing.queues h (to_some (QueuesFew e j) (length x.waiting < 8) e.bearing.queues (λ f. absurd (false≢true (sym t ∙ f.touches))) q)
-few_if e j p true true false later a t q b h = omega arith
-few_if e j p true true true later a t q b h =
-    let x : Peer = known j e.moment p in
-    adds (e.bearing.hears || e.bearing.gives_up) x.waiting e.bearing.queues b (to_some (QueuesFew e j) (length x.waiting < 8) e.bearing.queues (λ f. not_full x (f.free p (peer_is p e.peer a))) q)
-
 known_none : (n : ℕ) (p : Ip6) → known [] n p ≡ no_peer
 unfolding peer_at is_listed
 known_none n p = refl
@@ -97,7 +86,22 @@ few_waiting : OneEntry → (j : List Mention) → QueueFew j → (n : ℕ) (p : 
 few_waiting one [] q n p = let none = ap (λ (x : Peer). length x.waiting) (known_none n p) in omega (arith, none)
 few_waiting one (e ∷ j) q n p =
     subst (λ (o : Option Peer). length (unwrap_or o no_peer).waiting ≤ 8) (sym (one e j n p))
-    (few_if e j p (is_about p e) e.bearing.touches (is_young LISTED_MS n e.moment) (peer_at j n p) refl refl q.0 (few_waiting one j q.1 e.moment p) (few_waiting one j q.1 n p))
+    (by (is_about p e) e.bearing.touches (is_young LISTED_MS n e.moment) (peer_at j n p) refl refl (few_waiting one j q.1 e.moment p)
+    (few_waiting one j q.1 n p))
+  where
+    queues : {P : Type 0} → (QueuesFew e j → P) → IfSome e.bearing.queues (λ x. P)
+    queues {P = P} f = to_some (QueuesFew e j) P e.bearing.queues f q.0
+
+    by : (about touches young : Bool) (later : Option Peer) → is_about p e ≡ about → e.bearing.touches ≡ touches → length (known j e.moment p).waiting ≤ 8
+        → length (unwrap_or later no_peer).waiting ≤ 8 → length (unwrap_or (peer_if about touches young e (peer_at j e.moment p) later) no_peer).waiting ≤ 8
+    by false touches young later a t b h = h
+    by true false young None a t b h = omega arith
+    by true false young (Some x) a t b h = adds (e.bearing.hears || e.bearing.gives_up) x.waiting e.bearing.queues h
+        (queues (λ f. absurd (false≢true (sym t ∙ f.touches))))
+    by true true false later a t b h = omega arith
+    by true true true later a t b h =
+        let x : Peer = known j e.moment p in
+        adds (e.bearing.hears || e.bearing.gives_up) x.waiting e.bearing.queues b (queues (λ f. not_full x (f.free p (peer_is p e.peer a))))
 
 -- FOR ALL PEERS
 
@@ -157,13 +161,18 @@ client_queues : (e : Entry) (f : Fate) (P : Type 0) → (f ≡ fate.Queued → I
 client_queues e fate.Queued P h = h refl
 client_queues e _ P h = tt
 
-client_few : (e : Entry) (j : List Mention) → (e.step.fate ≡ fate.Queued → (p : Ip6) → e.peer ≡ Some p → is_full (known j e.moment p) ≡ false) → IfSome (client_bearings.mention e).bearing.queues (λ x. QueuesFew (client_bearings.mention e) j)
+-- a peer's packets may wait
+abbrev IsFree : Option Ip6 → List Mention → ℕ → Type 0
+IsFree peer j n = (p : Ip6) → peer ≡ Some p → is_full (known j n p) ≡ false
+
+client_few : (e : Entry) (j : List Mention) → (e.step.fate ≡ fate.Queued → IsFree e.peer j e.moment)
+    → IfSome (client_bearings.mention e).bearing.queues (λ x. QueuesFew (client_bearings.mention e) j)
 client_few e j free =
     client_queues e e.step.fate (QueuesFew (client_bearings.mention e) j)
     (λ k. any_some (QueuesFew (client_bearings.mention e) j) e.packet (record { touches = ap (λ (f : Fate). (client_bearings.bearing_of f e).touches) k; free = free k }))
 
-client_out : ClientFewLaws → (s : Settings) (j : Journal) (n : ℕ) (x : List ℕ) (w : Words) → let e : Entry = client_journals.client_out s j n x w in e.step.fate ≡ fate.Queued → (p : Ip6) → e.peer ≡ Some p
-    → is_full (known (client_bearings.mentions j.entries) n p) ≡ false
+client_out : ClientFewLaws → (s : Settings) (j : Journal) (n : ℕ) (x : List ℕ) (w : Words)
+    → let e : Entry = client_journals.client_out s j n x w in e.step.fate ≡ fate.Queued → IsFree e.peer (client_bearings.mentions j.entries) n
 unfolding client_journals.client_out client_transmission.given client_standing.standing_at
 client_out laws s j n x w k p about =
     let a : client_standing.Standing = client_standing.standing_of s j n (destination_in x) in

@@ -42,20 +42,23 @@ pub record FromLaws : Type 0 where
 -- FROM ONE SERVER TO ANOTHER
 
 -- what comes from the server itself draws nothing
-own_rule : (t : TopologyState) (a : ServerNode) (side : Side) (from : Ep) (x : List ℕ) (v : Value) (r : Rule) → is_own (server_settings a) from.ip ≡ true
-    → RuledOnlyIf r (seen (server_settings a) from v) → output_weight t (server a) x (step_of (server_settings a) side from x v r) ≤ 0
-own_rule t a side from x v (Dropped f) own w = omega arith
-own_rule t a side from x v Advert own w = absurd (false≢true (sym w.sound.foreign ∙ own))
-own_rule t a side from x v ForwardOrigin own w = absurd (false≢true (sym w.on.sound.foreign ∙ own))
-own_rule t a side from x v Forward own w = absurd (false≢true (sym w.on.sound.foreign ∙ own))
-own_rule t a side from x v Six own w = absurd (false≢true (sym w.on.sound.foreign ∙ own))
-
 own_draws : RuleIsWarranted → (t : TopologyState) (a : ServerNode) (side : Side) (from : Ep) (x : List ℕ) → is_own (server_settings a) from.ip ≡ true
     → output_weight t (server a) x (server_row (server_settings a) side from x) ≤ 0
 unfolding server_row
 own_draws law t a side from x own = by (payload_at x) where
+  foreign : is_own (server_settings a) from.ip ≡ false → ⊥
+  foreign e = false≢true (sym e ∙ own)
+
+  of_rule : (v : Value) (r : Rule) → RuledOnlyIf r (seen (server_settings a) from v)
+      → output_weight t (server a) x (step_of (server_settings a) side from x v r) ≤ 0
+  of_rule v (Dropped f) w = omega arith
+  of_rule v Advert w = absurd (foreign w.sound.foreign)
+  of_rule v ForwardOrigin w = absurd (foreign w.on.sound.foreign)
+  of_rule v Forward w = absurd (foreign w.on.sound.foreign)
+  of_rule v Six w = absurd (foreign w.on.sound.foreign)
+
   by : (r : Result Value PayloadFault) → output_weight t (server a) x (by_payload (server_settings a) side from x r) ≤ 0
-  by (Ok v) = own_rule t a side from x v (rule_of (server_settings a) from v) own (law (server_settings a) from v)
+  by (Ok v) = of_rule v (rule_of (server_settings a) from v) (law (server_settings a) from v)
   by (Err f) = omega arith
 
 silent_draws : (t : TopologyState) (a : ServerNode) (x : List ℕ) (step : Step) → IsSilent step → output_weight t (server a) x step ≤ 0

@@ -35,35 +35,42 @@ no_longer H i (x ∷ xs) = by (was_delivered i H) (no_longer H (i + 1) xs) where
   by true rest = omega (arith, rest)
   by false rest = omega (arith, rest)
 
-burden_few : FallLaws → (lab : Lab) (H : List Full) → IsTopology lab.topology → Grown lab H → length (wire H) ≤ ENTRY_NUMBER_MAX + 1 → burden lab.topology H ≤ LEFT_MAX
-burden_few laws lab H is g room =
+-- a history that keeps the rules, and has room on its wire
+record HasRoom (lab : Lab) (H : List Full) : Type 0 where
+  is : IsTopology lab.topology
+  grown : Grown lab H
+  room : length (wire H) ≤ ENTRY_NUMBER_MAX + 1
+
+burden_few : FallLaws → (lab : Lab) (H : List Full) → HasRoom lab H → burden lab.topology H ≤ LEFT_MAX
+burden_few laws lab H has =
     let all = laws.bounded lab.topology H in
     let entries = no_longer H 0 (wire H) in
-    let packets = laws.few lab H is g in
+    let packets = laws.few lab H has.is has.grown in
+    let room = has.room in
     omega (arith, all, entries, packets, room)
 
 -- where an event begins
-at_rest : FallLaws → (lab : Lab) (H : List Full) (e : Event) → IsTopology lab.topology → Grown lab H → length (wire H) ≤ ENTRY_NUMBER_MAX + 1 → IsEvent lab.topology e → began H ≡ now H → left_of_event lab H e ≤ LEFT_MAX
-at_rest laws lab H (event.Advance ms) is g room short at = subst (λ (m : ℕ). left_to lab H (m + ms) ≤ LEFT_MAX) (sym at) (laws.short lab H ms is g short)
-at_rest laws lab H event.Settle is g room short at = burden_few laws lab H is g room
-at_rest laws lab H (event.Deliver number) is g room short at = omega arith
-at_rest laws lab H event.Next is g room short at = omega arith
-at_rest laws lab H (event.Host n to body) is g room short at = omega arith
-at_rest laws lab H (event.Echo n to seq) is g room short at = omega arith
-at_rest laws lab H (event.Raw n x) is g room short at = omega arith
-at_rest laws lab H (event.Stranger src dst x) is g room short at = omega arith
-at_rest laws lab H (event.Copy number src dst) is g room short at = omega arith
-at_rest laws lab H (event.Restart n) is g room short at = omega arith
-at_rest laws lab H (event.Forget n who) is g room short at = omega arith
-at_rest laws lab H (event.Fault send) is g room short at = omega arith
+at_rest : FallLaws → (lab : Lab) (H : List Full) (e : Event) → HasRoom lab H → IsEvent lab.topology e → began H ≡ now H → left_of_event lab H e ≤ LEFT_MAX
+at_rest laws lab H (event.Advance ms) has short at = subst (λ (m : ℕ). left_to lab H (m + ms) ≤ LEFT_MAX) (sym at) (laws.short lab H ms has.is has.grown short)
+at_rest laws lab H event.Settle has short at = burden_few laws lab H has
+at_rest laws lab H (event.Deliver number) has short at = omega arith
+at_rest laws lab H event.Next has short at = omega arith
+at_rest laws lab H (event.Host n to body) has short at = omega arith
+at_rest laws lab H (event.Echo n to seq) has short at = omega arith
+at_rest laws lab H (event.Raw n x) has short at = omega arith
+at_rest laws lab H (event.Stranger src dst x) has short at = omega arith
+at_rest laws lab H (event.Copy number src dst) has short at = omega arith
+at_rest laws lab H (event.Restart n) has short at = omega arith
+at_rest laws lab H (event.Forget n who) has short at = omega arith
+at_rest laws lab H (event.Fault send) has short at = omega arith
 
 -- before a record no less is left than of its event
-before : FallLaws → (lab : Lab) (H : List Full) (e : Event) → IsTopology lab.topology → Grown lab H → length (wire H) ≤ ENTRY_NUMBER_MAX + 1 → IsEvent lab.topology e → GoesOn H e → left_of_event lab H e ≤ left lab H
-before laws lab [] e is g room event goes = at_rest laws lab [] e is g room event refl
-before laws lab (q ∷ H) e is g room event goes = by (has_more q.asked q.act) refl where
+before : FallLaws → (lab : Lab) (H : List Full) (e : Event) → HasRoom lab H → IsEvent lab.topology e → GoesOn H e → left_of_event lab H e ≤ left lab H
+before laws lab [] e has event goes = at_rest laws lab [] e has event refl
+before laws lab (q ∷ H) e has event goes = by (has_more q.asked q.act) refl where
   by : (b : Bool) → has_more q.asked q.act ≡ b → left_of_event lab (q ∷ H) e ≤ cond b (left_of_event lab (q ∷ H) q.asked) LEFT_MAX
   by true more = let same : left_of_event lab (q ∷ H) e ≡ left_of_event lab (q ∷ H) q.asked = ap (left_of_event lab (q ∷ H)) (goes more) in omega (arith, same)
-  by false last = at_rest laws lab (q ∷ H) e is g room event (ap (λ (b : Bool). cond b (began H) q.moment) last)
+  by false last = at_rest laws lab (q ∷ H) e has event (ap (λ (b : Bool). cond b (began H) q.moment) last)
 
 -- A RECORD
 
@@ -92,6 +99,6 @@ module _ (laws : FallLaws) (lab : Lab) (H : List Full) (r : Full) (is : IsTopolo
 pub falls : FallLaws → EachFalls
 falls laws lab H r is g room follows more =
     let fell = less laws lab H r is g follows more r.asked refl in
-    let most = before laws lab H r.asked is g room follows.event follows.goes_on in
+    let most = before laws lab H r.asked (record { is = is; grown = g; room = room }) follows.event follows.goes_on in
     let left_now : left lab (r ∷ H) ≡ left_of_event lab (r ∷ H) r.asked = ap (λ (b : Bool). cond b (left_of_event lab (r ∷ H) r.asked) LEFT_MAX) more in
     omega (arith, fell, most, left_now)

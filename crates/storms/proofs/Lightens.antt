@@ -57,9 +57,9 @@ pub record StormLaws : Type 0 where
 -- EACH KIND OF NODE
 
 node_lightens : StormLaws → (lab : Lab) (H : List Full) (r : Full) (n : ℕ) (a : Node) (x : Item) → IsReached lab H r n a x → NodeLightens lab H r n a x
-node_lightens laws lab H r n (server a) x h = server_lightens laws.from laws.relays.rules lab H r n a x h
+node_lightens laws lab H r n (server a) x h = server_lightens (record { from = laws.from; rules = laws.relays.rules }) lab H r n a x h
 node_lightens laws lab H r n (nat a) x h = nat_lightens lab H r n a x h
-node_lightens laws lab H r n (native a) x h = native_lightens laws.replies laws.answers lab H r n a x h
+node_lightens laws lab H r n (native a) x h = native_lightens (record { back = laws.replies; replies = laws.answers }) lab H r n a x h
 node_lightens laws lab H r n (relay a) x h = relay_lightens laws.relays lab H r n a x h
 node_lightens laws lab H r n (client a) x h = client_lightens laws.clients lab H r n a x h
 
@@ -80,7 +80,8 @@ module _ (laws : StormLaws) (lab : Lab) (H : List Full) (r : Full) (is : IsTopol
   by_node n a x at h =
       let less = node_lightens laws lab H r n a x h in
       let items : ℕ = sum_by (entry_weight lab.topology) (items_of r) in
-      let all = node_changes laws.frame lab H r n a (items + 1) (entry_weight lab.topology x) h.there h.node h.moment (omega (arith, less)) in
+      let all = node_changes laws.frame lab H r (record { number = n; node = a; there = h.there; of = h.node; moment = h.moment }) (items + 1)
+      (entry_weight lab.topology x) (omega (arith, less)) in
       fell x at (omega (arith, all))
 
   of_act : (n : ℕ) (a : Node) (e : Entry) → IsActOf lab H r n a e → burden lab.topology (r ∷ H) < burden lab.topology H

@@ -60,19 +60,18 @@ has_message x m e = by (packet_at x) e where
   by (Ok p) g = refl
   by (Err f) g = absurd (false≢true (ap (λ (o : Option Message). is_some o) (sym no_message ∙ g)))
 
-guarded : (P : Fields → Type 0) (a b c : Bool) (e f g : PacketFault) (v : Fields) → P v
-    → is_ok_packet (cond a (Err e) (cond b (Err f) (cond c (Err g) (Ok v)))) ≡ true
-    → P (fields_or (cond a (Err e) (cond b (Err f) (cond c (Err g) (Ok v)))))
-guarded P true b c e f g v p h = absurd (false≢true h)
-guarded P false true c e f g v p h = absurd (false≢true h)
-guarded P false false true e f g v p h = absurd (false≢true h)
-guarded P false false false e f g v p h = p
-
 body_is_bytes : (x : List ℕ) → IsBytes x → is_packet x ≡ true → IsBytes (fields_in x).body
 unfolding is_packet fields_in packet_at fields_of
-body_is_bytes x bytes h = guarded (λ (p : Fields). IsBytes p.body) (nat_lt (length x) HEADER) (not (number_at 0 4 x / 2 ^ 28 == VERSION))
-    (not (number_at 4 2 x == length x - HEADER))
-    (Short (length x)) (Version (number_at 0 4 x / 2 ^ 28)) (Length (number_at 4 2 x) (length x - HEADER)) (fields_of x) (IsBytes-drop HEADER x bytes) h
+body_is_bytes x bytes h = by (nat_lt (length x) HEADER) (not (number_at 0 4 x / 2 ^ 28 == VERSION)) (not (number_at 4 2 x == length x - HEADER)) h where
+  fields : Bool → Bool → Bool → Result Fields PacketFault
+  fields a b c = cond a (Err (Short (length x))) (cond b (Err (Version (number_at 0 4 x / 2 ^ 28)))
+      (cond c (Err (Length (number_at 4 2 x) (length x - HEADER))) (Ok (fields_of x))))
+
+  by : (a b c : Bool) → is_ok_packet (fields a b c) ≡ true → IsBytes (fields_or (fields a b c)).body
+  by true b c k = absurd (false≢true k)
+  by false true c k = absurd (false≢true k)
+  by false false true k = absurd (false≢true k)
+  by false false false k = IsBytes-drop HEADER x bytes
 
 -- THE REPLY
 
@@ -81,8 +80,15 @@ record IsReplyBack (x y : List ℕ) : Type 0 where
   no_request : is_echo_request (message_in (fields_in y)) ≡ false
   reply : is_echo_reply (message_in (fields_in y)) ≡ true
 
-reads_back : ReplyLaws → (x y : List ℕ) → IsBytes x → length x ≤ DATAGRAM_MAX → IsReply x y → IsReplyBack x y
-reads_back laws x y bytes short r =
+-- bytes that a datagram may have
+pub record IsShort (x : List ℕ) : Type 0 where
+  pub bytes : IsBytes x
+  pub short : length x ≤ DATAGRAM_MAX
+
+reads_back : ReplyLaws → (x y : List ℕ) → IsShort x → IsReply x y → IsReplyBack x y
+reads_back laws x y is r =
+    let bytes = is.bytes in
+    let short = is.short in
     let p : Fields = fields_in x in
     let one = has_message x (echo_request r.id r.seq r.body) r.request in
     let spelled = laws.spelled x bytes one in
@@ -130,10 +136,10 @@ request_more id seq body true false = omega arith
 request_more id seq body false true = omega arith
 request_more id seq body false false = omega arith
 
-pub reply_weighs_less : ReplyLaws → (t : TopologyState) (h : NativeNode) (to_relay : Bool) (x y : List ℕ) → IsBytes x → length x ≤ DATAGRAM_MAX
-    → IsReply x y → entry_weight t (six (relay_for h y) y) < packet_weight to_relay (fields_in x)
-reply_weighs_less laws t h to_relay x y bytes short r =
-    let back = reads_back laws x y bytes short r in
+pub reply_weighs_less : ReplyLaws → (t : TopologyState) (h : NativeNode) (to_relay : Bool) (x y : List ℕ) → IsShort x → IsReply x y
+    → entry_weight t (six (relay_for h y) y) < packet_weight to_relay (fields_in x)
+reply_weighs_less laws t h to_relay x y is r =
+    let back = reads_back laws x y is r in
     let p : Fields = fields_in x in
     let old : packet_weight to_relay p ≡ lines to_relay (Some (echo_request r.id r.seq r.body)) (is_teredo p.src) true =
     ap (λ (m : Option Message). lines to_relay m (is_teredo p.src) (is_global6 p.src)) r.request

@@ -43,19 +43,26 @@ sends_weigh w k (lost why dst bytes ∷ ms) (s ∷ ss) are made each =
 abbrev pub WeighsFrom : (Item → ℕ) → (Send → ℕ) → (Side → Ep) → Send → Type 0
 WeighsFrom w k own s = IsMadeItem (udp (own s.side) s.to s.bytes) → w (udp (own s.side) s.to s.bytes) ≤ k s
 
-pub own_weigh : (w : Item → ℕ) (k : Send → ℕ) (own : Side → Ep) (fails : Option ℕ) (i : ℕ) (sends : List Send) (more : List Made)
-    → AllByRecursion IsMadeItem (items_in (outright own fails i sends ++ more)) → AllByRecursion (WeighsFrom w k own) sends
-    → sum_by w (items_in (outright own fails i sends ++ more)) ≤ sum_by k sends + sum_by w (items_in more)
-own_weigh w k own fails i [] more made each = omega arith
-own_weigh w k own fails i (s ∷ ss) more made each = by (is_at_place i fails) made (own_weigh w k own fails (i + 1) ss more) (sum_by-cons k s ss) where
-  by : (b : Bool) → AllByRecursion IsMadeItem (items_in (made_outright b own s ∷ (outright own fails (i + 1) ss ++ more)))
-      → (AllByRecursion IsMadeItem (items_in (outright own fails (i + 1) ss ++ more)) → AllByRecursion (WeighsFrom w k own) ss
-      → sum_by w (items_in (outright own fails (i + 1) ss ++ more)) ≤ sum_by k ss + sum_by w (items_in more))
-      → sum_by k (s ∷ ss) ≡ k s + sum_by k ss
-      → sum_by w (items_in (made_outright b own s ∷ (outright own fails (i + 1) ss ++ more))) ≤ sum_by k (s ∷ ss) + sum_by w (items_in more)
+-- how much items weigh and sends, and whence a node sends
+pub record Scale : Type 0 where
+  pub items : Item → ℕ
+  pub sends : Send → ℕ
+  pub own : Side → Ep
+
+pub own_weigh : (z : Scale) (fails : Option ℕ) (i : ℕ) (sends : List Send) (more : List Made)
+    → AllByRecursion IsMadeItem (items_in (outright z.own fails i sends ++ more)) → AllByRecursion (WeighsFrom z.items z.sends z.own) sends
+    → sum_by z.items (items_in (outright z.own fails i sends ++ more)) ≤ sum_by z.sends sends + sum_by z.items (items_in more)
+own_weigh z fails i [] more made each = omega arith
+own_weigh z fails i (s ∷ ss) more made each = by (is_at_place i fails) made (own_weigh z fails (i + 1) ss more) (sum_by-cons z.sends s ss) where
+  by : (b : Bool) → AllByRecursion IsMadeItem (items_in (made_outright b z.own s ∷ (outright z.own fails (i + 1) ss ++ more)))
+      → (AllByRecursion IsMadeItem (items_in (outright z.own fails (i + 1) ss ++ more)) → AllByRecursion (WeighsFrom z.items z.sends z.own) ss
+      → sum_by z.items (items_in (outright z.own fails (i + 1) ss ++ more)) ≤ sum_by z.sends ss + sum_by z.items (items_in more))
+      → sum_by z.sends (s ∷ ss) ≡ z.sends s + sum_by z.sends ss
+      → sum_by z.items (items_in (made_outright b z.own s ∷ (outright z.own fails (i + 1) ss ++ more))) ≤ sum_by z.sends (s ∷ ss) + sum_by z.items
+      (items_in more)
   by true all ih old = let rest = ih all each.1 in omega (arith, rest, old)
   by false all ih old =
       let rest = ih all.1 each.1 in
       let one = each.0 all.0 in
-      let new = sum_by-cons w (udp (own s.side) s.to s.bytes) (items_in (outright own fails (i + 1) ss ++ more)) in
+      let new = sum_by-cons z.items (udp (z.own s.side) s.to s.bytes) (items_in (outright z.own fails (i + 1) ss ++ more)) in
       omega (arith, rest, one, old, new)

@@ -46,39 +46,43 @@ all_same G H i (b ∷ xs) same =
     let old = joined (waits_at H i b) (waits_from H (i + 1) xs) in
     omega (arith, first, rest, new, old)
 
--- node k alone changes
-one_changes : (G H : List Full) (i n k : ℕ) (a : Node) (xs : List Node) (x y : ℕ) → slice_get xs n ≡ Some a → k ≡ i + n
-    → ((l : ℕ) (b : Node) → l ≢ k → waits_at G l b ≡ waits_at H l b)
-    → sum (waits_at G k a) + x ≤ sum (waits_at H k a) + y → sum (waits_from G i xs) + x ≤ sum (waits_from H i xs) + y
-one_changes G H i n k a [] x y at e same less = absurd (false≢true (ap (λ (o : Option Node). is_some o) at))
-one_changes G H i zero k a (b ∷ xs) x y at e same less =
-    let is : b ≡ a = ap (λ (o : Option Node). unwrap_or o b) at in
-    let here : i ≡ k = omega (arith, e) in
-    let there = subst (λ (j : ℕ). sum (waits_at G j b) + x ≤ sum (waits_at H j b) + y) (sym here)
-    (subst (λ (z : Node). sum (waits_at G k z) + x ≤ sum (waits_at H k z) + y) (sym is) less) in
-    let rest = all_same G H (i + 1) xs (λ l c le. same l c (λ (eq : l ≡ k). omega (arith, le, eq, here))) in
-    let new = joined (waits_at G i b) (waits_from G (i + 1) xs) in
-    let old = joined (waits_at H i b) (waits_from H (i + 1) xs) in
-    omega (arith, there, rest, new, old)
-one_changes G H i (suc n) k a (b ∷ xs) x y at e same less =
-    let first = ap sum (same i b (λ (eq : i ≡ k). omega (arith, eq, e))) in
-    let rest = one_changes G H (i + 1) n k a xs x y at (omega (arith, e)) same less in
-    let new = joined (waits_at G i b) (waits_from G (i + 1) xs) in
-    let old = joined (waits_at H i b) (waits_from H (i + 1) xs) in
-    omega (arith, first, rest, new, old)
-
 -- RECORDS
 
 other_node : (o : Option ℕ) (n k : ℕ) → o ≡ Some n → k ≢ n → o ≢ Some k
 other_node o n k is apart e = apart (sym (ap (λ (z : Option ℕ). unwrap_or z n) (sym is ∙ e)))
 
--- the record is of node n: what waits in the others doesn't change
-pub node_changes : EachFrames → (lab : Lab) (H : List Full) (r : Full) (n : ℕ) (a : Node) (x y : ℕ) → node_at lab.topology n ≡ Some a → r.node ≡ Some n
-    → r.moment ≡ now H
-    → sum (waits_at (r ∷ H) n a) + x ≤ sum (waits_at H n a) + y → sum (waits lab.topology (r ∷ H)) + x ≤ sum (waits lab.topology H) + y
-node_changes frame lab H r n a x y there node moment less =
-    one_changes (r ∷ H) H 0 n n a (nodes lab.topology) x y there (omega arith)
-    (λ l b apart. same_at (r ∷ H) H l b ((frame lab H r).journals l (other_node r.node n l node apart)) moment) less
+-- the record is of a node
+pub record OfNode (lab : Lab) (H : List Full) (r : Full) : Type 0 where
+  pub number : ℕ
+  pub node : Node
+  pub there : node_at lab.topology number ≡ Some node
+  pub of : r.node ≡ Some number
+  pub moment : r.moment ≡ now H
+
+-- what waits in the others doesn't change
+pub node_changes : EachFrames → (lab : Lab) (H : List Full) (r : Full) (o : OfNode lab H r) (x y : ℕ)
+    → sum (waits_at (r ∷ H) o.number o.node) + x ≤ sum (waits_at H o.number o.node) + y → sum (waits lab.topology (r ∷ H)) + x ≤ sum (waits lab.topology H) + y
+node_changes frame lab H r o x y less = by 0 o.number (nodes lab.topology) o.there (omega arith) where
+  same : (k : ℕ) (b : Node) → k ≢ o.number → waits_at (r ∷ H) k b ≡ waits_at H k b
+  same k b apart = same_at (r ∷ H) H k b ((frame lab H r).journals k (other_node r.node o.number k o.of apart)) o.moment
+
+  by : (i n : ℕ) (xs : List Node) → slice_get xs n ≡ Some o.node → o.number ≡ i + n → sum (waits_from (r ∷ H) i xs) + x ≤ sum (waits_from H i xs) + y
+  by i n [] at e = absurd (false≢true (ap (λ (z : Option Node). is_some z) at))
+  by i zero (b ∷ xs) at e =
+      let is : b ≡ o.node = ap (λ (z : Option Node). unwrap_or z b) at in
+      let here : i ≡ o.number = omega (arith, e) in
+      let there = subst (λ (j : ℕ). sum (waits_at (r ∷ H) j b) + x ≤ sum (waits_at H j b) + y) (sym here)
+      (subst (λ (z : Node). sum (waits_at (r ∷ H) o.number z) + x ≤ sum (waits_at H o.number z) + y) (sym is) less) in
+      let rest = all_same (r ∷ H) H (i + 1) xs (λ l c le. same l c (λ (eq : l ≡ o.number). omega (arith, le, eq, here))) in
+      let new = joined (waits_at (r ∷ H) i b) (waits_from (r ∷ H) (i + 1) xs) in
+      let old = joined (waits_at H i b) (waits_from H (i + 1) xs) in
+      omega (arith, there, rest, new, old)
+  by i (suc n) (b ∷ xs) at e =
+      let first = ap sum (same i b (λ (eq : i ≡ o.number). omega (arith, eq, e))) in
+      let rest = by (i + 1) n xs at (omega (arith, e)) in
+      let new = joined (waits_at (r ∷ H) i b) (waits_from (r ∷ H) (i + 1) xs) in
+      let old = joined (waits_at H i b) (waits_from H (i + 1) xs) in
+      omega (arith, first, rest, new, old)
 
 -- in a record in which no node does anything nothing changes
 still : (r : Full) (n : ℕ) (H : List Full) → r.entry ≡ None → is_restart r.act ≡ false → journal n (r ∷ H) ≡ journal n H

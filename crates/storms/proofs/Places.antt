@@ -82,11 +82,10 @@ address_of dst (relay r) h = or_left (same_ip dst.ip r.at.ip) false (ep_ip dst r
 address_of dst (native x) h = absurd (false≢true h)
 
 -- no two nodes are at one endpoint
-pub one_there : AddressesAreApart → (t : TopologyState) (dst : Ep) (n : ℕ) (a b : Node) → IsTopology t → node_at t n ≡ Some a → is_at dst a ≡ true
-    → IsThere t dst b → b ≡ a
-one_there apart t dst n a b is at h there =
-    let same : there.number ≡ n = apart t there.number n b a dst.ip is there.node at (address_of dst b there.passes) (address_of dst a h) in
-    ap (λ (o : Option Node). unwrap_or o b) (sym there.node ∙ ap (node_at t) same ∙ at)
+pub one_there : AddressesAreApart → (t : TopologyState) (dst : Ep) (a b : Node) → IsTopology t → IsThere t dst a → IsThere t dst b → b ≡ a
+one_there apart t dst a b is x y =
+    let same : y.number ≡ x.number = apart t y.number x.number b a dst.ip is y.node x.node (address_of dst b y.passes) (address_of dst a x.passes) in
+    ap (λ (o : Option Node). unwrap_or o b) (sym y.node ∙ ap (node_at t) same ∙ x.node)
 
 -- a node that is there is the first
 pub first_is : AddressesAreApart → (t : TopologyState) (dst : Ep) (n : ℕ) (a : Node) → IsTopology t → node_at t n ≡ Some a → is_at dst a ≡ true
@@ -94,7 +93,7 @@ pub first_is : AddressesAreApart → (t : TopologyState) (dst : Ep) (n : ℕ) (a
 first_is apart t dst n a is at h = by (first_at t dst) refl (finds (is_at dst) (nodes t) n a at h) where
   by : (o : Option Node) → first_at t dst ≡ o → is_some o ≡ true → first_at t dst ≡ Some a
   by None e g = absurd (false≢true g)
-  by (Some b) e g = e ∙ ap (λ (z : Node). Some z) (one_there apart t dst n a b is at h (is_there t dst b e))
+  by (Some b) e g = e ∙ ap (λ (z : Node). Some z) (one_there apart t dst a b is (record { number = n; node = at; passes = h }) (is_there t dst b e))
 
 -- SERVERS, NATS AND RELAYS
 
@@ -146,6 +145,6 @@ relay_is_apart apart t n r is at own = by (is_some_server t r.at) refl where
   by false e = refl
   by true e =
       let s = server_there t r.at e in
-      let same : server s.row ≡ relay r = one_there apart t r.at n (relay r) (server s.row) is at own
-      (record { number = s.number; node = s.node; passes = s.passes }) in
+      let same : server s.row ≡ relay r = one_there apart t r.at (relay r) (server s.row) is
+      (record { number = n; node = at; passes = own }) (record { number = s.number; node = s.node; passes = s.passes }) in
       absurd (false≢true (ap is_relay same))

@@ -110,14 +110,16 @@ module _ (laws : RelayLaws) (d : AtRelay) (is_j : IsJournal (setup d) d.j) (leas
 
   bubbles : Light fate.FromClientBubble
   bubbles only made =
-      let new = own_weigh (weigh d) (λ (s : Send). relay_packet s.bytes) (own_of d) d.fails 0 (releases (embedded p) waiting) [] made (released only.peer) in
+      let new = own_weigh (record { items = weigh d; sends = (λ (s : Send). relay_packet s.bytes); own = own_of d }) d.fails 0 (releases (embedded p) waiting)
+      [] made (released only.peer) in
       let same = released_weigh relay_packet (embedded p) waiting in
       let less = hears (came fate.FromClientBubble) only.peer refl refl refl refl refl in
       omega (arith, least, new, same, less)
 
   unserved : Light fate.Unserved
   unserved only made =
-      let new = own_weigh (weigh d) (λ (s : Send). relay_packet s.bytes) (own_of d) d.fails 0 (releases (embedded p) waiting) [] made (released only.peer) in
+      let new = own_weigh (record { items = weigh d; sends = (λ (s : Send). relay_packet s.bytes); own = own_of d }) d.fails 0 (releases (embedded p) waiting)
+      [] made (released only.peer) in
       let same = released_weigh relay_packet (embedded p) waiting in
       let less = hears (came fate.Unserved) only.peer refl refl refl refl refl in
       omega (arith, least, new, same, less)
@@ -127,7 +129,7 @@ module _ (laws : RelayLaws) (d : AtRelay) (is_j : IsJournal (setup d) d.j) (leas
     served : Light fate.FromClient
     served only made =
         let span = rest_of (value_in x).lead.at x in
-        let new = own_weigh (weigh d) (λ (s : Send). relay_packet s.bytes) (own_of d) d.fails 0 (releases (embedded p) waiting)
+        let new = own_weigh (record { items = weigh d; sends = (λ (s : Send). relay_packet s.bytes); own = own_of d }) d.fails 0 (releases (embedded p) waiting)
         (six_made (arrived src x) (Some span)) made (released only.peer) in
         let same = released_weigh relay_packet (embedded p) waiting in
         let packet = six_weighs d.lab.topology src x (Some span) in

@@ -88,14 +88,16 @@ module _ (laws : RelayLaws) (d : AtRelay) (least : 1 ≤ d.heavy) (x : List ℕ)
 
   sent : Goes fate.Sent
   sent only made =
-      let new = own_weigh (weigh d) (λ (s : Send). relay_packet s.bytes) (own_of d) d.fails 0 (send (embedded p) x ∷ []) [] made (packet_out only.out) in
+      let new = own_weigh (record { items = weigh d; sends = (λ (s : Send). relay_packet s.bytes); own = own_of d }) d.fails 0 (send (embedded p) x ∷ []) []
+      made (packet_out only.out) in
       let one = sum_by-cons (λ (s : Send). relay_packet s.bytes) (send (embedded p) x) [] in
       let less = touches (went fate.Sent) (goes_on only.out).well_formed refl refl refl in
       omega (arith, more, new, one, less)
 
   sent_cone : Goes fate.SentCone
   sent_cone only made =
-      let new = own_weigh (weigh d) (λ (s : Send). relay_packet s.bytes) (own_of d) d.fails 0 (send (embedded p) x ∷ []) [] made (packet_out only.out) in
+      let new = own_weigh (record { items = weigh d; sends = (λ (s : Send). relay_packet s.bytes); own = own_of d }) d.fails 0 (send (embedded p) x ∷ []) []
+      made (packet_out only.out) in
       let one = sum_by-cons (λ (s : Send). relay_packet s.bytes) (send (embedded p) x) [] in
       let less = touches (went fate.SentCone) (goes_on only.out).well_formed refl refl refl in
       omega (arith, more, new, one, less)
@@ -126,7 +128,8 @@ module _ (laws : RelayLaws) (d : AtRelay) (least : 1 ≤ d.heavy) (x : List ℕ)
           let kept = ap (added relay_packet) (given_is packet) in
           omega (arith, more, less, kept)
       by false made =
-          let new = own_weigh (weigh d) (λ (s : Send). 3) (own_of d) d.fails 0 (transmission.bubble_to (setup d) p ∷ []) [] made (bubble_is packet) in
+          let new = own_weigh (record { items = weigh d; sends = (λ (s : Send). 3); own = own_of d }) d.fails 0 (transmission.bubble_to (setup d) p ∷ []) []
+          made (bubble_is packet) in
           let one = sum_by-cons (λ (s : Send). 3) (transmission.bubble_to (setup d) p) [] in
           let less = touches (queued_by false) packet refl refl refl in
           let kept = ap (added relay_packet) (given_is packet) in

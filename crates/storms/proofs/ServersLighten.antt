@@ -53,20 +53,25 @@ pub six_weighs : (t : TopologyState) (src : Ep) (x : List ℕ) (o : Option Span)
 six_weighs t src x None = omega arith
 six_weighs t src x (Some span) = let one = sum_by-cons (entry_weight t) (six None (part x span)) [] in omega (arith, one)
 
-pub server_lightens : FromLaws → EachNodeKeepsRules → (lab : Lab) (H : List Full) (r : Full) (n : ℕ) (a : ServerNode) (x : Item)
+pub record ServerLaws : Type 0 where
+  pub from : FromLaws
+  pub rules : EachNodeKeepsRules
+
+pub server_lightens : ServerLaws → (lab : Lab) (H : List Full) (r : Full) (n : ℕ) (a : ServerNode) (x : Item)
     → IsReached lab H r n (server a) x → NodeLightens lab H r n (server a) x
-server_lightens laws rules lab H r n a (six to bytes) h = nothing_made lab H r (six to bytes) h.made
-server_lightens laws rules lab H r n a (udp src dst bytes) h =
+server_lightens laws lab H r n a (six to bytes) h = nothing_made lab H r (six to bytes) h.made
+server_lightens laws lab H r n a (udp src dst bytes) h =
     let t : TopologyState = lab.topology in
-    let keeps : IsServerNode a = rules t n (server a) h.is h.there in
+    let keeps : IsServerNode a = laws.rules t n (server a) h.is h.there in
     let row : Step = server_row (server_settings a) (side_at (server a) dst) src bytes in
     let own : Side → Ep = own_ep (server a) in
     let made = subst (λ (ms : List Made). AllByRecursion IsMadeItem (items_in ms)) h.made h.fresh in
-    let each = sends_weigh_so laws t h.is n a h.there (side_at (server a) dst) src bytes keeps.primary.made h.came.source h.came.bytes in
-    let new = own_weigh (entry_weight t) (send_weight t (server a)) own (armed H) 0 row.sends (six_made (arrived src bytes) row.six) made each in
+    let each = sends_weigh_so laws.from t h.is n a h.there (side_at (server a) dst) src bytes keeps.primary.made h.came.source h.came.bytes in
+    let new = own_weigh (record { items = entry_weight t; sends = send_weight t (server a); own = own }) (armed H) 0 row.sends
+    (six_made (arrived src bytes) row.six) made each in
     let packet = six_weighs t src bytes row.six in
     let is = ap (λ (ms : List Made). sum_by (entry_weight t) (items_in ms)) h.made in
-    let old = ap (weight_at t src dst bytes) (first_is laws.apart t dst n (server a) h.is h.there (server_there a dst h.goes)) in
+    let old = ap (weight_at t src dst bytes) (first_is laws.from.apart t dst n (server a) h.is h.there (server_there a dst h.goes)) in
     omega (arith, new, packet, is, old)
 
 -- A NAT
@@ -76,20 +81,24 @@ nat_lightens lab H r n a x h = nothing_made lab H r x h.made
 
 -- A NATIVE HOST
 
-pub native_lightens : ReplyLaws → EachIsReply → (lab : Lab) (H : List Full) (r : Full) (n : ℕ) (b : NativeNode) (x : Item)
+pub record NativeLaws : Type 0 where
+  pub back : ReplyLaws
+  pub replies : EachIsReply
+
+pub native_lightens : NativeLaws → (lab : Lab) (H : List Full) (r : Full) (n : ℕ) (b : NativeNode) (x : Item)
     → IsReached lab H r n (native b) x → NodeLightens lab H r n (native b) x
-native_lightens laws replies lab H r n b (udp src dst bytes) h = nothing_made lab H r (udp src dst bytes) h.made
-native_lightens laws replies lab H r n b (six to bytes) h = by (native_in bytes).packet refl to h where
+native_lightens laws lab H r n b (udp src dst bytes) h = nothing_made lab H r (udp src dst bytes) h.made
+native_lightens laws lab H r n b (six to bytes) h = by (native_in bytes).packet refl to h where
   by : (o : Option (List ℕ)) → (native_in bytes).packet ≡ o → (to : Option ℕ) → IsReached lab H r n (native b) (six to bytes)
       → NodeLightens lab H r n (native b) (six to bytes)
   by None e to h = nothing_made lab H r (six to bytes) (h.made ∙ ap (native_made b) e)
   by (Some y) e None h =
-      let less = reply_weighs_less laws lab.topology b false bytes y h.came.bytes h.came.short (replies bytes y e) in
+      let less = reply_weighs_less laws.back lab.topology b false bytes y (record { bytes = h.came.bytes; short = h.came.short }) (laws.replies bytes y e) in
       let is = ap (λ (ms : List Made). sum_by (entry_weight lab.topology) (items_in ms)) (h.made ∙ ap (native_made b) e) in
       let one = sum_by-cons (entry_weight lab.topology) (six (relay_for b y) y) [] in
       omega (arith, less, is, one)
   by (Some y) e (Some k) h =
-      let less = reply_weighs_less laws lab.topology b true bytes y h.came.bytes h.came.short (replies bytes y e) in
+      let less = reply_weighs_less laws.back lab.topology b true bytes y (record { bytes = h.came.bytes; short = h.came.short }) (laws.replies bytes y e) in
       let is = ap (λ (ms : List Made). sum_by (entry_weight lab.topology) (items_in ms)) (h.made ∙ ap (native_made b) e) in
       let one = sum_by-cons (entry_weight lab.topology) (six (relay_for b y) y) [] in
       omega (arith, less, is, one)
