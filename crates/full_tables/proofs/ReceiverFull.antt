@@ -1,0 +1,206 @@
+-- All that a first packet of b for a draws is delivered, and a, which lists 256 others, hears nothing of it.
+use Rattle.std.proofs.Common.{◌≡◌, ◌≢◌, inl, inr, ◌||◌, ◌==◌, ◌≤◌, ◌<◌, ℕ, true, false, List, []}
+use Rattle.std.proofs.Common.{◌∷◌, ◌++◌, filter_map, length, Option, Some, None, refl, sym, ap, ◌∙◌, leb-true, arith}
+use Rattle.std.specs.Prelude.{is_some, unwrap_or}
+use Rattle.std.specs.List.{list_any}
+use Rattle.std.proofs.lemmas.Bool.{false≢true}
+use Rattle.std.proofs.lemmas.Bool.Decides.{nat_tests}
+use Rattle.ipv6_packet.specs.Packets.{packet_bytes, packet_at, fields_of}
+use Rattle.ipv6_packet.specs.Reads.{is_packet, fields_in}
+use Rattle.teredo_addr.specs.Teredo.{is_teredo}
+use Rattle.bubble.specs.Bubbles.{is_bubble}
+use Rattle.teredo_node.specs.Journal.{arrived, Entry}
+use Rattle.peer_list.specs.declared.limits.TheConstants.{PEERS_MAX}
+use Rattle.client_rules.specs.Journals.{client_in}
+use Rattle.topology.specs.declared.node.Node.TheVariants.{Client as client}
+use Rattle.events.specs.declared.event.Event.TheVariants as event
+use Rattle.history.specs.declared.act.Act.TheVariants as act
+use Rattle.history.specs.Full.{Item, item_in, Full, wire, items_of}
+use Rattle.legal.specs.Past.{now, place}
+use Rattle.legal.specs.Emit.{entry_of}
+use Rattle.legal.specs.Next.{numbered, acts, delivers_item, delivers_to}
+use Rattle.legal.specs.Legal.{Follows}
+use Rattle.legal.specs.Actors.{IsActOf, delivered}
+use Rattle.first_packets.specs.Schedules.{is_fault, AreFresh, IsComplete}
+use Rattle.first_packets.specs.FirstPacket.{GoesBetween, HasArrived}
+use Rattle.first_packets.specs.NoRoom.{IsUnheard, FullReceiverHearsNothing}
+use Rattle.full_tables.specs.FullTables.{FullReceiverFails}
+use Rattle.full_tables.proofs.Filler.{FillLaws, IsFilled}
+use Rattle.full_tables.proofs.TwoClients.{a, b, draws, topology, lab, a_own, b_own}
+use Rattle.full_tables.proofs.TwoClientsRules.{keeps_rules}
+use Rattle.full_tables.proofs.BothSettled.{both_settled, to_a, a_outside, at_server, with_origin, computed}
+use Rattle.full_tables.proofs.ManyListed.{fills_a, a_is_settled, b_is_settled, a_lists_many, b_is_unlisted, a_has_no_room, a_is_unlisted, b_has_room}
+use Rattle.full_tables.proofs.ListEnds.{nothing_more}
+use Rattle.full_tables.proofs.TwoBubbles.{r, e, input_is, follows, eight, made_is, q1, follows_1}
+use Rattle.full_tables.proofs.ThroughServer.{q2, follows_2, made_on, sent_bubble, after_server, eleven, third_there, route_to_a}
+
+goes_to_a : GoesBetween b_own a_own to_a
+unfolding packet_bytes packet_at fields_of is_packet fields_in is_bubble
+goes_to_a = record { packet = refl; short = leb-true _ _ refl; no_bubble = refl; source = refl; destination = refl }
+
+b_is_teredo : is_teredo b_own ≡ true
+unfolding is_teredo
+b_is_teredo = refl
+
+nats_differ : b.nat ≢ a.nat
+nats_differ = λ same. omega (arith, same)
+
+module _ (laws : FillLaws) (H : List Full) (filled : IsFilled fills_a both_settled H PEERS_MAX) where
+  -- THE LAST DELIVERY
+
+  abbrev handing : Full
+  handing = r laws H filled
+
+  abbrev before : List Full
+  before = after_server laws H filled
+
+  abbrev q3 : Full
+  q3 = acts lab before (numbered (place before) (event.Deliver 10)) (act.Deliver 10) (Some 10) (now before) 3 a_outside (arrived at_server with_origin)
+      (client a)
+
+  follows_3 : Follows lab before q3
+  follows_3 = record {
+    goes_on = λ more. absurd (false≢true more);
+    event = leb-true _ _ refl;
+    is = sym (
+        ap (delivers_item lab before (numbered (place before) (event.Deliver 10)) 10) (third_there laws H filled)
+        ∙ ap (delivers_to lab before (numbered (place before) (event.Deliver 10)) 10 sent_bubble) (route_to_a laws H filled)
+        );
+  }
+
+  -- a HEARS NOTHING
+
+  abbrev done : Entry
+  done = entry_of lab before (now before) 3 a_outside (arrived at_server with_origin) (client a)
+
+  came : done.input ≡ arrived at_server with_origin
+  unfolding client_in
+  came = refl
+
+  does : IsActOf lab before q3 3 (client a) done
+  does = record {
+    there = refl;
+    node = refl;
+    still = refl;
+    lasting = refl;
+    dst = a_outside;
+    input = arrived at_server with_origin;
+    is_given = delivered 10 sent_bubble refl (third_there laws H filled) (route_to_a laws H filled) refl refl refl;
+    step = refl;
+    entry = refl;
+    later = refl;
+    address = refl;
+    handed = refl;
+    late = refl;
+    made = refl;
+    passed = refl;
+  }
+
+  unheard : IsUnheard lab before q3 3 a b_own
+  unheard = record {
+    entry = done;
+    act = does;
+    from = at_server;
+    bytes = with_origin;
+    datagram = came;
+    source = computed.sent_on.source;
+    teredo = b_is_teredo;
+    full = a_has_no_room laws H filled;
+  }
+
+  -- THE SCHEDULE
+
+  abbrev later : List Full
+  later = q3 ∷ q2 laws H filled ∷ q1 laws H filled ∷ []
+
+  module _ (hears_nothing : FullReceiverHearsNothing) where
+    nothing : (q3.made ≡ []) × (q3.handed ≡ None)
+    nothing = hears_nothing lab before q3 3 a b_own unheard
+
+    from_eight : (k first : ℕ) → first ≡ 8 → 8 ≤ k → first ≤ k
+    from_eight k first is low = omega (arith, is, low)
+
+    fresh : AreFresh handing later
+    fresh = (
+      record {
+        number = 10;
+        delivered = refl;
+        new = from_eight 10 (length (wire H)) (eight laws H filled) (omega arith);
+        once = refl;
+        sound = ap (list_any is_fault) nothing.0;
+      },
+      (
+        record {
+          number = 9;
+          delivered = refl;
+          new = from_eight 9 (length (wire H)) (eight laws H filled) (omega arith);
+          once = refl;
+          sound = ap (list_any is_fault) (made_on laws H filled);
+        },
+        (
+          record { number = 8; delivered = refl; new = from_eight 8 (length (wire H)) (eight laws H filled) (omega arith); once = refl; sound = refl },
+          ap (list_any is_fault) (made_is laws H filled),
+        ),
+      ),
+    )
+
+    -- all is delivered
+    complete : IsComplete H handing later
+    complete k low high =
+        let items : items_of q3 ≡ [] = ap (filter_map item_in) nothing.0 in
+        let most : length (wire (q3 ∷ before)) ≡ 11 =
+        ap (λ (xs : List Item). length (wire before ++ xs)) items ∙ ap (λ (xs : List Item). length xs) (nothing_more (wire before)) ∙ eleven laws H filled in
+        by k (length (wire H)) (length (wire (q3 ∷ before))) (eight laws H filled) low most high where
+          by : (i first all : ℕ) → first ≡ 8 → first ≤ i → all ≡ 11 → i < all → ((10 == i) || ((9 == i) || ((8 == i) || false))) ≡ true
+          by i first all is low most high = grind (arith, nat_tests)
+
+    other_node : (i j : ℕ) → i ≡ 0 → j ≡ 3 → i ≡ j → ⊥
+    other_node i j first second same = omega (arith, first, second, same)
+
+    -- and nothing arrives
+    not_arrived : HasArrived 3 to_a later → ⊥
+    not_arrived (inl arrives) = false≢true (ap (λ (o : Option (List ℕ)). is_some o) (sym nothing.1 ∙ arrives.packet))
+    not_arrived (inr (inl arrives)) = other_node 0 3 refl refl (ap (λ (o : Option ℕ). unwrap_or o 0) arrives.node)
+    not_arrived (inr (inr (inl arrives))) = false≢true (ap (λ (o : Option (List ℕ)). is_some o) arrives.packet)
+    not_arrived (inr (inr (inr none))) = none
+
+    pub receiver_fails : FullReceiverFails
+    receiver_fails = record {
+      trial = record {
+        draws = draws;
+        topology = topology;
+        before = H;
+        handing = handing;
+        later = later;
+        n = 4;
+        m = 3;
+        a = b;
+        b = a;
+        own = b_own;
+        other = a_own;
+        x = to_a;
+      };
+      fair = record {
+        rules = keeps_rules;
+        grown = (follows_3, (follows_2 laws H filled, (follows_1 laws H filled, (follows laws H filled, filled.grown))));
+        fresh = fresh;
+        complete = complete;
+      };
+      first = record {
+        sender = refl;
+        receiver = refl;
+        apart = nats_differ;
+        sender_settled = b_is_settled laws H filled;
+        receiver_settled = a_is_settled laws H filled;
+        sender_unlisted = a_is_unlisted laws H filled;
+        receiver_unlisted = b_is_unlisted laws H filled;
+        node = refl;
+        entry = e laws H filled;
+        did = refl;
+        packet_in = input_is laws H filled;
+        packet = goes_to_a;
+      };
+      sender_has_room = b_has_room laws H filled;
+      receiver_is_full = a_lists_many laws H filled;
+      fails = λ carried. not_arrived (carried.arrives complete);
+    }

@@ -1,0 +1,151 @@
+-- The host of a, which lists 256 others, hands in a packet for b: it is dropped, and draws nothing.
+use Rattle.std.proofs.Common.{◌≡◌, ◌≢◌, ◌≤◌, ◌<◌, ℕ, false, List, [], ◌∷◌, ◌++◌, filter_map}
+use Rattle.std.proofs.Common.{length, Option, Some, None, refl, sym, ap, subst, ◌∙◌, leb-true, arith}
+use Rattle.std.specs.List.{list_any}
+use Rattle.td_base.specs.declared.ipv6.Ip6.{Ip6}
+use Rattle.ipv6_packet.specs.Packets.{packet_bytes, packet_at, fields_of}
+use Rattle.ipv6_packet.specs.Reads.{is_packet, fields_in}
+use Rattle.teredo_addr.specs.Teredo.{has_cone}
+use Rattle.bubble.specs.Bubbles.{is_bubble}
+use Rattle.teredo_node.specs.Journal.{given, Entry}
+use Rattle.peer_list.specs.declared.limits.TheConstants.{PEERS_MAX}
+use Rattle.client_rules.specs.Journals.{client_out}
+use Rattle.topology.specs.declared.node.Node.TheVariants.{Client as client}
+use Rattle.events.specs.declared.event.Event.{Event}
+use Rattle.events.specs.declared.event.Event.TheVariants as event
+use Rattle.events.specs.declared.target.Target.TheVariants as target
+use Rattle.events.specs.declared.verb.Verb.TheVariants as verb
+use Rattle.history.specs.Full.{Item, item_in, Full, wire, items_of}
+use Rattle.legal.specs.Past.{now, place}
+use Rattle.legal.specs.Emit.{by_way, entry_of}
+use Rattle.legal.specs.Next.{numbered, plain, acts, no_ep, data_packet, hands_in}
+use Rattle.legal.specs.Legal.{Follows}
+use Rattle.first_packets.specs.Schedules.{is_fault, HasNoFault, IsComplete}
+use Rattle.first_packets.specs.FirstPacket.{GoesBetween}
+use Rattle.first_packets.specs.NoRoom.{IsTurnedAway, IsDropped, FullSenderDrops}
+use Rattle.full_tables.specs.FullTables.{Trial, FullSenderFails}
+use Rattle.full_tables.proofs.PeerAddresses.{are_bytes}
+use Rattle.full_tables.proofs.LostSends.{none_fails}
+use Rattle.full_tables.proofs.Filler.{FillLaws, IsFilled}
+use Rattle.full_tables.proofs.ListEnds.{nothing_more}
+use Rattle.full_tables.proofs.TwoClients.{a, b, draws, topology, lab, a_own, b_own}
+use Rattle.full_tables.proofs.TwoClientsRules.{keeps_rules}
+use Rattle.full_tables.proofs.BothSettled.{both_settled}
+use Rattle.full_tables.proofs.ManyListed.{fills_a, b_made, a_is_settled, b_is_settled, a_is_here, a_lists_many, b_is_unlisted, a_has_no_room}
+use Rattle.full_tables.proofs.ManyListed.{a_is_unlisted, b_has_room}
+
+-- THE PACKET
+
+abbrev body : List ℕ
+body = 104 ∷ 101 ∷ 108 ∷ 108 ∷ 111 ∷ []
+
+abbrev to_b : List ℕ
+to_b = packet_bytes (data_packet a_own b_own body)
+
+goes_to_b : GoesBetween a_own b_own to_b
+unfolding packet_bytes packet_at fields_of is_packet fields_in is_bubble
+goes_to_b = record { packet = refl; short = leb-true _ _ refl; no_bubble = refl; source = refl; destination = refl }
+
+abbrev event_to_b : Event
+event_to_b = event.Host 3 (target.At b_own) body
+
+b_is_plain : has_cone b_own ≡ false
+unfolding has_cone
+b_is_plain = refl
+
+nats_differ : a.nat ≢ b.nat
+nats_differ = λ same. omega (arith, same)
+
+-- THE RECORD
+
+module _ (laws : FillLaws) (H : List Full) (filled : IsFilled fills_a both_settled H PEERS_MAX) where
+  abbrev r : Full
+  r = acts lab H (numbered (place H) event_to_b) (plain verb.Host) None (now H) 3 no_ep (given to_b) (client a)
+
+  abbrev e : Entry
+  e = entry_of lab H (now H) 3 no_ep (given to_b) (client a)
+
+  input_is : e.input ≡ given to_b
+  unfolding client_out
+  input_is = refl
+
+  follows : Follows lab H r
+  follows = record {
+    goes_on = filled.over event_to_b;
+    event = record { from = refl; target = b_made; short = leb-true _ _ refl; made = are_bytes body refl };
+    is = sym (ap (λ (z : Ip6). hands_in lab H (numbered (place H) event_to_b) verb.Host 3 (packet_bytes (data_packet z b_own body)) (Some (client a)))
+        (a_is_here laws H filled));
+  }
+
+  sound : HasNoFault r
+  sound = subst (λ (o : Option ℕ). list_any is_fault (by_way lab H (now H) (1 ∷ []) a.inside o 0 [] e.step.sends).made ≡ false) (sym filled.armed)
+      (none_fails lab H (now H) (1 ∷ []) a.inside 0 [] e.step.sends)
+
+  turned : IsTurnedAway lab H r 3 4 a b a_own b_own to_b
+  turned = record {
+    sender = refl;
+    receiver = refl;
+    apart = nats_differ;
+    sender_settled = a_is_settled laws H filled;
+    receiver_settled = b_is_settled laws H filled;
+    full = a_has_no_room laws H filled;
+    plain = b_is_plain;
+    node = refl;
+    entry = e;
+    did = refl;
+    packet_in = input_is;
+    packet = goes_to_b;
+  }
+
+  module _ (drops : FullSenderDrops) where
+    dropped : IsDropped H r 4 a_own b_own to_b []
+    dropped = drops draws topology H r [] keeps_rules (follows, filled.grown) 3 4 a b a_own b_own to_b turned sound
+
+    -- nothing was to be delivered
+    complete : IsComplete H r []
+    complete number low high =
+        let items : items_of r ≡ [] = ap (filter_map item_in) dropped.nothing in
+        let same : length (wire (r ∷ H)) ≡ length (wire H) = ap (λ (xs : List Item). length (wire H ++ xs)) items
+        ∙ ap (λ (xs : List Item). length xs) (nothing_more (wire H)) in
+        absurd (beyond number (length (wire H)) (length (wire (r ∷ H))) low same high) where
+          beyond : (k before after : ℕ) → before ≤ k → after ≡ before → k < after → ⊥
+          beyond k before after low still high = omega (arith, low, still, high)
+
+    abbrev trial : Trial
+    trial = record {
+      draws = draws;
+      topology = topology;
+      before = H;
+      handing = r;
+      later = [];
+      n = 3;
+      m = 4;
+      a = a;
+      b = b;
+      own = a_own;
+      other = b_own;
+      x = to_b;
+    }
+
+    pub sender_fails : FullSenderFails
+    sender_fails = record {
+      trial = trial;
+      fair = record { rules = keeps_rules; grown = (follows, filled.grown); fresh = sound; complete = complete };
+      first = record {
+        sender = refl;
+        receiver = refl;
+        apart = nats_differ;
+        sender_settled = a_is_settled laws H filled;
+        receiver_settled = b_is_settled laws H filled;
+        sender_unlisted = b_is_unlisted laws H filled;
+        receiver_unlisted = a_is_unlisted laws H filled;
+        node = refl;
+        entry = e;
+        did = refl;
+        packet_in = input_is;
+        packet = goes_to_b;
+      };
+      sender_is_full = a_lists_many laws H filled;
+      receiver_has_room = b_has_room laws H filled;
+      fails = dropped.kept_back;
+    }
