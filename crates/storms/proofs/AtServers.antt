@@ -94,7 +94,7 @@ module _ (laws : RowLaws) (t : TopologyState) (a : ServerNode) (side : Side) (fr
 
 -- NO SOLICITATION
 
-by_message : (p : Fields) → is_solicit (message_in p) ≡ false → is_solicitation p ≡ false
+pub by_message : (p : Fields) → is_solicit (message_in p) ≡ false → is_solicitation p ≡ false
 unfolding is_solicitation
 by_message p h = and_right (is_link_local p.src && same_ip6 p.dst ALL_ROUTERS) (is_solicit (message_in p)) h
 
@@ -120,7 +120,7 @@ by_destination p h = false_from_ne_true _ (λ (e : is_link_local p.src && same_i
 
 -- KINDS OF PACKETS
 
-for_teredo : (a : ServerNode) (p : Fields) → is_for_client (server_settings a) p ≡ true → is_teredo p.dst ≡ true
+pub for_teredo : (a : ServerNode) (p : Fields) → is_for_client (server_settings a) p ≡ true → is_teredo p.dst ≡ true
 unfolding is_for_client
 for_teredo a p h = (and_parts (is_teredo p.dst) (same_ip (server_in p.dst) a.primary) h).0
 

@@ -41,7 +41,7 @@ use Rattle.storms.proofs.AtClient.{ClientLaws, mentions_after, calm, IsLight, At
 use Rattle.storms.proofs.ClientsLighten.{datagram_lightens}
 
 -- a datagram that is let in to a client, after a history
-abbrev given : Lab → List Full → Full → ℕ → ClientNode → Ep → Ep → List ℕ → AtClient
+abbrev pub given : Lab → List Full → Full → ℕ → ClientNode → Ep → Ep → List ℕ → AtClient
 given lab H r n c src dst x = record {
   lab = lab;
   c = c;
@@ -65,17 +65,17 @@ unfolding client_in
 peer_came s j m from x w = refl
 
 module _ (laws : ClientLaws) (lab : Lab) (H : List Full) (r : Full) (n : ℕ) (c : ClientNode) where
-  abbrev did : Item → Entry
+  abbrev pub did : Item → Entry
   did x = answer_of lab H r n (client c) x
 
-  waits_after : (x : Item) → IsReached lab H r n (client c) x
+  pub waits_after : (x : Item) → IsReached lab H r n (client c) x
       → sum (waits_at (r ∷ H) n (client c)) ≡ waits_in client_packet (mentions_after (did x) (mentions (journal n H).entries)) r.moment
   waits_after x h =
       ap (λ (z : Journal). sum (map client_packet (waiting_packets (mentions z.entries) r.moment))) h.later
       ∙ waits_as laws.peers (did x ∷ (journal n H).entries) r.moment
       ∙ ap (λ (z : List Mention). waits_in client_packet z r.moment) (laws.next (did x) (journal n H).entries)
 
-  waits_before : (x : Item) → IsReached lab H r n (client c) x
+  pub waits_before : (x : Item) → IsReached lab H r n (client c) x
       → sum (waits_at H n (client c)) ≡ waits_in client_packet (mentions (journal n H).entries) r.moment
   waits_before x h = ap (λ (k : ℕ). sum (map client_packet (waiting_packets (mentions (journal n H).entries) k))) (sym h.moment)
       ∙ waits_as laws.peers (journal n H).entries r.moment
@@ -91,21 +91,21 @@ module _ (laws : ClientLaws) (lab : Lab) (H : List Full) (r : Full) (n : ℕ) (c
   -- A DATAGRAM
 
   module _ (src dst : Ep) (x : List ℕ) (h : IsReached lab H r n (client c) (udp src dst x)) where
-    abbrev d : AtClient
+    abbrev pub d : AtClient
     d = given lab H r n c src dst x
 
     served : HasServer lab.topology c
     served = laws.there.server_of lab.topology n c h.is h.there
 
     -- it goes to a NAT
-    is_there : is_at dst (nat h.goes.row) ≡ true
+    pub is_there : is_at dst (nat h.goes.row) ≡ true
     is_there = ap (λ (ip : Ip4). same_ip ip h.goes.row.external) h.goes.external ∙ same_ip-self h.goes.row.external
 
     to_nat : list_any (is_nat_at dst) (nodes lab.topology) ≡ true
     to_nat = any_there (is_nat_at dst) (nodes lab.topology) h.goes.outer (nat h.goes.row) h.goes.there is_there
 
     -- so it weighs this
-    weighs_so : entry_weight lab.topology (udp src dst x) ≡ datagram_weight lab.topology src dst x
+    pub weighs_so : entry_weight lab.topology (udp src dst x) ≡ datagram_weight lab.topology src dst x
     weighs_so = ap (weight_at lab.topology src dst x) (first_is laws.apart lab.topology dst h.goes.outer (nat h.goes.row) h.is h.goes.there is_there)
 
     indirect_by : IsIndirect (seen_of d) → (o : Ep) → origin_in (value_in x).lead ≡ Some o → cond (is_some_server lab.topology o) 3 2 ≤ d.heavy
@@ -125,7 +125,7 @@ module _ (laws : ClientLaws) (lab : Lab) (H : List Full) (r : Full) (n : ℕ) (c
         laws.standing (client_settings lab.topology c) (journal n H) (did (udp src dst x)) after (client_made laws.rules lab.topology n c h.is h.there) input
         ((laws.histories lab H h.is h.grown.1).journals n)
 
-    is_given : IsAtClient d
+    pub is_given : IsAtClient d
     is_given = record {
       least = datagram_least lab.topology src dst x;
       indirect = indirect_by;

@@ -1,30 +1,30 @@
-mod Weighed
-mod Exchanged
+pub mod Weighed
+pub mod Exchanged
 mod Ending
 mod Settles
-mod PeersWait
-mod NodesWait
-mod Places
-mod Freights
-mod AtServers
+pub mod PeersWait
+pub mod NodesWait
+pub mod Places
+pub mod Freights
+pub mod AtServers
 mod Addresses
-mod Sent
-mod NewItems
-mod FromServers
-mod Natives
-mod Reached
-mod ServersLighten
-mod Relays
-mod AtRelay
+pub mod Sent
+pub mod NewItems
+pub mod FromServers
+pub mod Natives
+pub mod Reached
+pub mod ServersLighten
+pub mod Relays
+pub mod AtRelay
 mod RelayReceives
 mod RelaySends
 mod RelaysReached
-mod ClientServers
-mod AtClient
-mod ClientReleases
-mod ClientAnswers
-mod ClientsLighten
-mod ClientsReached
+pub mod ClientServers
+pub mod AtClient
+pub mod ClientReleases
+pub mod ClientAnswers
+pub mod ClientsLighten
+pub mod ClientsReached
 mod Lightens
 mod FewWait
 mod LessLeft

@@ -75,17 +75,17 @@ body_is_bytes x bytes h = by (nat_lt (length x) HEADER) (not (number_at 0 4 x / 
 
 -- THE REPLY
 
-record IsReplyBack (x y : List ℕ) : Type 0 where
-  to : (fields_in y).dst ≡ (fields_in x).src
-  no_request : is_echo_request (message_in (fields_in y)) ≡ false
-  reply : is_echo_reply (message_in (fields_in y)) ≡ true
+pub record IsReplyBack (x y : List ℕ) : Type 0 where
+  pub to : (fields_in y).dst ≡ (fields_in x).src
+  pub no_request : is_echo_request (message_in (fields_in y)) ≡ false
+  pub reply : is_echo_reply (message_in (fields_in y)) ≡ true
 
 -- bytes that a datagram may have
 pub record IsShort (x : List ℕ) : Type 0 where
   pub bytes : IsBytes x
   pub short : length x ≤ DATAGRAM_MAX
 
-reads_back : ReplyLaws → (x y : List ℕ) → IsShort x → IsReply x y → IsReplyBack x y
+pub reads_back : ReplyLaws → (x y : List ℕ) → IsShort x → IsReply x y → IsReplyBack x y
 reads_back laws x y is r =
     let bytes = is.bytes in
     let short = is.short in

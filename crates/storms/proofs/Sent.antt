@@ -43,7 +43,7 @@ sent_under t src to x k plain served = by (first_at t to) refl where
   by (Some (native a)) e = plain
 
 -- a server's endpoint has one of its addresses
-own_there : (a : ServerNode) (to : Ep) → is_at to (server a) ≡ true → is_own (server_settings a) to.ip ≡ true
+pub own_there : (a : ServerNode) (to : Ep) → is_at to (server a) ≡ true → is_own (server_settings a) to.ip ≡ true
 unfolding is_own
 own_there a to h = by (same_ep to (server_ep a.primary)) (same_ep to (server_ep a.secondary)) (ep_ip to (server_ep a.primary))
     (ep_ip to (server_ep a.secondary)) h where
