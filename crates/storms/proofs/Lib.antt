@@ -3,7 +3,7 @@ pub mod Exchanged
 mod Ending
 mod Settles
 pub mod PeersWait
-pub mod NodesWait
+mod NodesWait
 pub mod Places
 pub mod Freights
 pub mod AtServers
@@ -23,7 +23,7 @@ pub mod ClientServers
 pub mod AtClient
 pub mod ClientReleases
 pub mod ClientAnswers
-pub mod ClientsLighten
+mod ClientsLighten
 pub mod ClientsReached
 mod Lightens
 mod FewWait

@@ -6,6 +6,7 @@ pub mod OriginFacts
 pub mod DishonestFacts
 mod StormViews
 mod StormFacts
+mod EasedFacts
 mod FirstPacketViews
 mod FirstPacketFacts
 mod NumberFacts

@@ -10,6 +10,7 @@
 //! | `DishonestFacts` | somebody says that he is a server, and a client's NAT doesn't hold what its address embeds |
 //! | `OriginViews` | the words of these |
 //! | `StormFacts` | what can follow and what does; more deliveries than that with a tick between, or an entry delivered again |
+//! | `EasedFacts` | from a packet for a relay alone nine deliveries may follow, and do |
 //! | `FirstPacketFacts` | a first packet that arrives, and for premises of its arrival a history without one, in which it doesn't |
 //! | `NumberFacts` | the numbers of lower crates that `specs/Numbers.antt` has, from the standards, or our choice |
 #![tactic(auto)]

@@ -1,0 +1,96 @@
+-- A delivery that comes to a node: trust lasts, and what it has to weigh less than.
+use Rattle.std.proofs.Common.{◌≡◌, ◌<◌, ℕ, ◌+◌, ◌==◌, Bool, true, false, List, ◌∷◌, Option, Some, None, refl, sym, ap, subst, ◌∙◌}
+use Rattle.std.specs.Prelude.{sum_by, is_some, unwrap_or}
+use Rattle.std.proofs.lemmas.Bool.{eqb-true, eqb-false}
+use Rattle.td_base.specs.declared.ipv6.Ip6.{Ip6}
+use Rattle.td_base.specs.declared.endpoint.Ep.{Ep}
+use Rattle.teredo_node.specs.Journal.{Entry, Journal, with_entry}
+use Rattle.peer_list.specs.Mentions.{Mention}
+use Rattle.peer_list.specs.Peers.{known}
+use Rattle.relay_rules.specs.Bearings.{mention, mentions}
+use Rattle.relay_rules.specs.Standing.{RelaySettings}
+use Rattle.relay_rules.specs.Journals.{relay_in, relay_six}
+use Rattle.topology.specs.declared.relay_node.RelayNode.{RelayNode}
+use Rattle.topology.specs.Rows.{TopologyState}
+use Rattle.topology.specs.declared.node.Node.{Node}
+use Rattle.topology.specs.declared.node.Node.TheVariants.{Server as server, Nat as nat, Client as client, Relay as relay, Native as native}
+use Rattle.topology.specs.Topology.{node_at}
+use Rattle.history.specs.Full.{Item, udp, six, Full, items_of}
+use Rattle.legal.specs.Lab.{Lab}
+use Rattle.legal.specs.Settings.{relay_settings}
+use Rattle.legal.specs.Past.{now, is_restart, journal}
+use Rattle.legal.specs.Frame.{EachFrames}
+use Rattle.storms.proofs.PeersWait.{PeerLaws}
+use Rattle.storms.proofs.AtRelay.{one_more}
+use Rattle.storms.proofs.Reached.{answer_of, IsReached}
+use Rattle.eased_storms.specs.Trust.{trusts_as, relay_trusts}
+use Rattle.eased_storms.specs.Eased.{eased_weight, waiting_at}
+use Rattle.eased_storms.proofs.Trusts as trusted
+use Rattle.eased_storms.proofs.Weights.{Lasts}
+use Rattle.eased_storms.proofs.Waits.{still}
+
+-- what the node made, and what waits in it then, weigh less than the entry, and what waited in it before
+abbrev pub NodeEases : Lab → List Full → Full → ℕ → Node → Item → Type 0
+NodeEases lab H r n a x = sum_by (eased_weight lab.topology (r ∷ H)) (items_of r) + waiting_at lab.topology (r ∷ H) n a
+    < eased_weight lab.topology H x + waiting_at lab.topology H n a
+
+-- TRUST LASTS
+
+moment_in : (s : RelaySettings) (j : List Entry) (m : ℕ) (src : Ep) (x : List ℕ) → (relay_in s j m src x).moment ≡ m
+unfolding relay_in
+moment_in s j m src x = refl
+
+moment_six : (s : RelaySettings) (j : List Entry) (m : ℕ) (x : List ℕ) → (relay_six s j m x).moment ≡ m
+unfolding relay_six
+moment_six s j m x = refl
+
+answers_then : (lab : Lab) (H : List Full) (r : Full) (n : ℕ) (q : RelayNode) (x : Item) → (answer_of lab H r n (relay q) x).moment ≡ r.moment
+answers_then lab H r n q (udp src dst bytes) = moment_in (relay_settings lab.topology n q) (journal n H).entries r.moment src bytes
+answers_then lab H r n q (six to bytes) = moment_six (relay_settings lab.topology n q) (journal n H).entries r.moment bytes
+
+other_node : (o : Option ℕ) (n k : ℕ) → o ≡ Some n → (n ≡ k → ⊥) → o ≡ Some k → ⊥
+other_node o n k is apart e = apart (ap (λ (z : Option ℕ). unwrap_or z n) (sym is ∙ e))
+
+-- where no journal changes
+same_trust : (H : List Full) (r : Full) (n : ℕ) (c : Ip6) → r.moment ≡ now H → journal n (r ∷ H) ≡ journal n H → (o : Option Node)
+    → trusts_as H n c o ≡ true → trusts_as (r ∷ H) n c o ≡ true
+same_trust H r n c moment same (Some (relay q)) h =
+    ap (λ (z : Journal). is_some (known (mentions z.entries) r.moment c).trusted) same
+    ∙ ap (λ (k : ℕ). is_some (known (mentions (journal n H).entries) k c).trusted) moment ∙ h
+same_trust H r n c moment same None h = h
+same_trust H r n c moment same (Some (server a)) h = h
+same_trust H r n c moment same (Some (nat a)) h = h
+same_trust H r n c moment same (Some (client a)) h = h
+same_trust H r n c moment same (Some (native a)) h = h
+
+-- in a record in which no node does anything
+pub lasts_still : (t : TopologyState) (H : List Full) (r : Full) → r.entry ≡ None → is_restart r.act ≡ false → r.moment ≡ now H → Lasts t H (r ∷ H)
+unfolding relay_trusts
+lasts_still t H r entry lasting moment n c h = same_trust H r n c moment (still r n H entry lasting) (node_at t n) h
+
+module _ (laws : PeerLaws) (frame : EachFrames) (lab : Lab) (H : List Full) (r : Full) (n : ℕ) (a : Node) (x : Item) (h : IsReached lab H r n a x) where
+  -- of the node itself
+  own : (c : Ip6) (o : Option Node) → node_at lab.topology n ≡ o → trusts_as H n c o ≡ true → trusts_as (r ∷ H) n c o ≡ true
+  own c None e g = g
+  own c (Some (server b)) e g = g
+  own c (Some (nat b)) e g = g
+  own c (Some (client b)) e g = g
+  own c (Some (native b)) e g = g
+  own c (Some (relay q)) e g =
+      let is : a ≡ relay q = ap (λ (z : Option Node). unwrap_or z a) (sym h.there ∙ e) in
+      let did : Entry = answer_of lab H r n (relay q) x in
+      let next : journal n (r ∷ H) ≡ with_entry (journal n H) did = h.later ∙ ap (λ (b : Node). with_entry (journal n H) (answer_of lab H r n b x)) is in
+      let before : is_some (known (mentions (journal n H).entries) r.moment c).trusted ≡ true =
+      ap (λ (k : ℕ). is_some (known (mentions (journal n H).entries) k c).trusted) h.moment ∙ g in
+      ap (λ (z : Journal). is_some (known (mentions z.entries) r.moment c).trusted) next
+      ∙ ap (λ (ms : List Mention). is_some (known ms r.moment c).trusted) (one_more did (journal n H).entries)
+      ∙ trusted.lasts laws (mention did) (mentions (journal n H).entries) c r.moment (answers_then lab H r n q x) before
+
+  pub lasts_reached : Lasts lab.topology H (r ∷ H)
+  unfolding relay_trusts
+  lasts_reached k c g = by (n == k) refl where
+    by : (b : Bool) → (n == k) ≡ b → trusts_as (r ∷ H) k c (node_at lab.topology k) ≡ true
+    by true e = subst (λ (l : ℕ). trusts_as H l c (node_at lab.topology l) ≡ true → trusts_as (r ∷ H) l c (node_at lab.topology l) ≡ true) (eqb-true n k e)
+        (own c (node_at lab.topology n) refl) g
+    by false e = same_trust H r k c h.moment
+        ((frame lab H r).journals k (other_node r.node n k h.node (eqb-false n k e))) (node_at lab.topology k) g

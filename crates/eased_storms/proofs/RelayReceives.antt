@@ -1,0 +1,230 @@
+-- What a relay makes of a datagram weighs less than the datagram.
+use Rattle.std.proofs.Common.{◌≡◌, ◌≤◌, ℕ, ◌+◌, Bool, true, false, cond, List, [], ◌∷◌, Option, Some, None}
+use Rattle.std.proofs.Common.{refl, sym, ap, subst, ◌∙◌, arith}
+use Rattle.std.specs.Prelude.{sum_by, unwrap_or, option_map}
+use Rattle.std.specs.List.{list_any, AllByRecursion}
+use Rattle.std.proofs.lemmas.List.{take_rest}
+use Rattle.std.proofs.lemmas.List.Sums.{sum_by-cons}
+use Rattle.td_base.specs.Ip6.{same_ip6, same_ip6-self}
+use Rattle.td_base.specs.declared.ipv6.Ip6.{Ip6}
+use Rattle.td_base.specs.declared.side.Side.TheVariants.{Primary}
+use Rattle.td_base.specs.declared.endpoint.Ep.{Ep}
+use Rattle.td_base.specs.declared.span.Span.{Span}
+use Rattle.ipv6_packet.specs.Packets.{Fields}
+use Rattle.ipv6_packet.specs.Reads.{fields_in}
+use Rattle.teredo_addr.specs.Teredo.{is_teredo, embedded, unspecified}
+use Rattle.bubble.specs.Bubbles.{is_bubble}
+use Rattle.bubble.specs.PacketsIn.{packet_in, source_in}
+use Rattle.bubble.specs.Reads.{is_payload, value_in}
+use Rattle.teredo_node.specs.declared.fate.Fate.{Fate}
+use Rattle.teredo_node.specs.declared.fate.Fate.TheVariants as fate
+use Rattle.teredo_node.specs.Step.{Send, part, rest_of}
+use Rattle.teredo_node.specs.Sends.{send, releases}
+use Rattle.teredo_node.specs.Journal.{arrived, Entry}
+use Rattle.teredo_node.proofs.FirstLines.{first_of_each, Each}
+use Rattle.client_rules.proofs.PayloadPackets.{same_fields}
+use Rattle.peer_list.specs.Mentions.{is_peer}
+use Rattle.peer_list.specs.Peers.{known}
+use Rattle.relay_rules.specs.Bearings.{mention, mentions}
+use Rattle.relay_rules.specs.Standing.{Standing, known_in, standing_at, standing_of}
+use Rattle.relay_rules.specs.Reception as reception
+use Rattle.relay_rules.specs.Journals.{IsJournal, entry, relay_in}
+use Rattle.relay_rules.specs.Warrants.{ReceivedOnlyIf, IsOfPeer, IsServed}
+use Rattle.relay_rules.specs.Laws.{IsForeignTo}
+use Rattle.topology.specs.declared.node.Node.TheVariants.{Relay as relay}
+use Rattle.topology.specs.Rows.{TopologyState}
+use Rattle.topology.specs.Rules.{IsTopology}
+use Rattle.topology.specs.Topology.{node_at}
+use Rattle.history.specs.Full.{six, Full}
+use Rattle.legal.specs.Past.{armed}
+use Rattle.legal.specs.Settings.{served}
+use Rattle.legal.specs.Emit.{six_made}
+use Rattle.storms.proofs.PeersWait.{waits_for, waits_in, freed, added}
+use Rattle.storms.proofs.NewItems.{WeighsFrom, own_weigh}
+use Rattle.storms.proofs.Relays.{released_weigh, released_each}
+use Rattle.storms.proofs.AtRelay.{RelayLaws}
+use Rattle.eased_storms.specs.Trust.{relay_trusts, is_trusted_for}
+use Rattle.eased_storms.specs.Eased.{eases_request}
+use Rattle.eased_storms.proofs.Weights.{eased_is}
+use Rattle.eased_storms.proofs.Freights.{packet_eased}
+use Rattle.eased_storms.proofs.AtRelay.{AtRelay, setup, journal_of, moment_of, own_of, weigh, packet_of, waited, IsNext, IsLight, IsCalm, calm, shifted, begun}
+use Rattle.eased_storms.proofs.Requests.{three, known_served}
+
+-- the relay is there, and the datagram weighs 4 at least where it is from a Teredo address and no bubble
+pub record IsSent (d : AtRelay) (x : List ℕ) : Type 0 where
+  pub is : IsTopology d.lab.topology
+  pub there : node_at d.lab.topology d.n ≡ Some (relay d.q)
+  pub journal : IsJournal (setup d) (journal_of d)
+  pub least : 1 ≤ d.heavy
+  pub more : is_teredo (value_in x).packet.src ≡ true → is_payload x ≡ true → is_bubble (value_in x).packet ≡ false → 4 ≤ d.heavy
+
+module _ (laws : RelayLaws) (d : AtRelay) (src : Ep) (x : List ℕ) (g : IsSent d x) where
+  -- the source, and what is seen of it
+  abbrev p : Ip6
+  p = (value_in x).packet.src
+
+  abbrev a : Standing
+  a = standing_of (journal_of d) (moment_of d) (source_in x)
+
+  abbrev heard : reception.Seen
+  heard = reception.seen (setup d) a src x
+
+  abbrev came : Fate → Entry
+  came f = entry (moment_of d) (arrived src x) (packet_in x) (source_in x) (reception.reception_step a x (value_in x) f)
+
+  source_is : is_payload x ≡ true → source_in x ≡ Some p
+  unfolding source_in
+  source_is h = ap (λ (b : Bool). cond b (Some p) None) h
+
+  peer_payload : IsOfPeer heard → is_payload x ≡ true
+  unfolding reception.seen
+  peer_payload h = h.payload
+
+  peer_teredo : IsOfPeer heard → is_teredo p ≡ true
+  unfolding reception.seen
+  peer_teredo h = h.teredo
+
+  plain_is : IsServed heard → is_bubble (value_in x).packet ≡ false
+  unfolding reception.seen
+  plain_is h = h.no_bubble
+
+  served_is : IsServed heard → list_any (same_ip6 (value_in x).packet.dst) (served d.lab.topology d.n) ≡ true
+  unfolding reception.seen
+  served_is h = h.served
+
+  known_is : source_in x ≡ Some p → (known_in a).waiting ≡ (known (mentions (journal_of d)) (moment_of d) p).waiting
+  unfolding standing_at
+  known_is e = ap (λ (o : Option Ip6). (known (mentions (journal_of d)) (moment_of d) (unwrap_or o unspecified)).waiting) e
+
+  -- IT IS TRUSTED FROM NOW ON
+
+  trusted : (e : Entry) → IsOfPeer heard → IsNext d e → e.moment ≡ moment_of d → e.peer ≡ source_in x → (mention e).bearing.touches ≡ true
+      → (mention e).bearing.trusts ≡ option_map embedded e.peer → relay_trusts d.lab.topology (d.r ∷ d.H) d.n p ≡ true
+  trusted e h next moment peer touches trusts_it =
+      let source = peer ∙ source_is (peer_payload h) in
+      begun laws.peers d e p (embedded p) g.there next
+      (moment, ap (is_peer p) source ∙ same_ip6-self p, touches, trusts_it ∙ ap (option_map embedded) source)
+
+  -- WHAT WAITS FOR THE PEER
+
+  abbrev waiting : List (List ℕ)
+  waiting = (known_in a).waiting
+
+  abbrev PacketWeighs : Send → Type 0
+  PacketWeighs = WeighsFrom (weigh d) (λ (s : Send). packet_of d s.bytes) (own_of d)
+
+  packet_may : relay_trusts d.lab.topology (d.r ∷ d.H) d.n p ≡ true → is_teredo p ≡ true → (y : List ℕ) → IsForeignTo (Some p) y
+      → PacketWeighs (send (embedded p) y)
+  packet_may now teredo y foreign made =
+      let same : p ≡ (fields_in y).dst = ap (λ (o : Option Ip6). unwrap_or o p) foreign.destination in
+      packet_eased laws.rows laws.payload d.lab.topology (d.r ∷ d.H) d.n (embedded p) y (record {
+        well_formed = foreign.well_formed;
+        native = foreign.native;
+        teredo = ap is_teredo (sym same) ∙ teredo;
+        where_to = ap embedded same;
+      }) (own_of d Primary) made (ap (relay_trusts d.lab.topology (d.r ∷ d.H) d.n) (sym same) ∙ now)
+
+  -- goes to it
+  released : IsOfPeer heard → relay_trusts d.lab.topology (d.r ∷ d.H) d.n p ≡ true → AllByRecursion PacketWeighs (releases (embedded p) waiting)
+  released h now = released_each PacketWeighs (IsForeignTo (Some p)) (embedded p) waiting (packet_may now (peer_teredo h))
+      (subst (AllByRecursion (IsForeignTo (Some p))) (sym (known_is (source_is (peer_payload h))))
+      (laws.waiting (setup d) (journal_of d) (moment_of d) p g.journal))
+
+  -- and doesn't wait any more
+  hears : (e : Entry) → IsOfPeer heard → e.moment ≡ moment_of d → e.peer ≡ source_in x → (mention e).bearing.touches ≡ true
+      → (mention e).bearing.hears ≡ true → (mention e).bearing.queues ≡ None
+      → waits_in (packet_of d) (mention e ∷ mentions (journal_of d)) (moment_of d) + sum_by (packet_of d) waiting ≤ waited d
+  hears e h moment peer touches heard_is queues =
+      let less = shifted laws.peers d e p moment (peer ∙ source_is (peer_payload h)) touches in
+      let all = ap (λ (b : Bool). freed (packet_of d) b (waits_for (packet_of d) (mentions (journal_of d)) (moment_of d) p)) heard_is in
+      let none = ap (added (packet_of d)) queues in
+      let same = ap (sum_by (packet_of d)) (known_is (source_is (peer_payload h))) in
+      omega (arith, less, all, none, same)
+
+  -- EACH FATE
+
+  abbrev Light : Fate → Type 0
+  Light f = ReceivedOnlyIf f heard → IsLight d (came f)
+
+  quietly : (f : Fate) → IsCalm (came f) → Light f
+  quietly f is only = calm laws.peers d (came f) g.least is
+
+  bubbles : Light fate.FromClientBubble
+  bubbles only next made =
+      let e : Entry = came fate.FromClientBubble in
+      let now = trusted e only.peer next refl refl refl refl in
+      let new = own_weigh (weigh d) (λ (s : Send). packet_of d s.bytes) (own_of d) (armed d.H) 0 (releases (embedded p) waiting) [] made
+      (released only.peer now) in
+      let same = released_weigh (packet_of d) (embedded p) waiting in
+      let less = hears e only.peer refl refl refl refl refl in
+      let least = g.least in
+      omega (arith, least, new, same, less)
+
+  unserved : Light fate.Unserved
+  unserved only next made =
+      let e : Entry = came fate.Unserved in
+      let now = trusted e only.peer next refl refl refl refl in
+      let new = own_weigh (weigh d) (λ (s : Send). packet_of d s.bytes) (own_of d) (armed d.H) 0 (releases (embedded p) waiting) [] made
+      (released only.peer now) in
+      let same = released_weigh (packet_of d) (embedded p) waiting in
+      let less = hears e only.peer refl refl refl refl refl in
+      let least = g.least in
+      omega (arith, least, new, same, less)
+
+  -- A PACKET FOR A HOST THAT THE RELAY SERVES
+
+  abbrev inner : Fields
+  inner = fields_in (part x (rest_of (value_in x).lead.at x))
+
+  inner_is : is_payload x ≡ true → inner ≡ (value_in x).packet
+  inner_is h = ap fields_in (take_rest x (value_in x).lead.at) ∙ same_fields x h
+
+  handed_on : IsServed heard → relay_trusts d.lab.topology (d.r ∷ d.H) d.n p ≡ true
+      → weigh d (six None (part x (rest_of (value_in x).lead.at x))) ≤ 3
+  handed_on h now =
+      let t : TopologyState = d.lab.topology in
+      let G : List Full = d.r ∷ d.H in
+      let is = eased_is t G (six None (part x (rest_of (value_in x).lead.at x))) (eases_request t G inner) refl in
+      let same = inner_is (peer_payload h.peer) in
+      let known = known_served t G d.n (value_in x).packet.dst p g.is (served_is h) now in
+      let most = three t G inner (ap (λ (v : Fields). is_trusted_for t G v.dst v.src) same ∙ known) in
+      omega (arith, is, most)
+
+  served_on : Light fate.FromClient
+  served_on only next made =
+      let e : Entry = came fate.FromClient in
+      let span : Span = rest_of (value_in x).lead.at x in
+      let now = trusted e only.peer next refl refl refl refl in
+      let new = own_weigh (weigh d) (λ (s : Send). packet_of d s.bytes) (own_of d) (armed d.H) 0 (releases (embedded p) waiting)
+      (six_made (arrived src x) (Some span)) made (released only.peer now) in
+      let same = released_weigh (packet_of d) (embedded p) waiting in
+      let packet = sum_by-cons (weigh d) (six None (part x span)) [] in
+      let most = handed_on only now in
+      let less = hears e only.peer refl refl refl refl refl in
+      let heavy = g.more (peer_teredo only.peer) (peer_payload only.peer) (plain_is only) in
+      omega (arith, heavy, new, same, packet, most, less)
+
+  each_line : Each Light (reception.reception_lines heard)
+  each_line = (
+    quietly fate.Malformed (refl, refl, refl, refl, refl),
+    (
+      quietly fate.Keyed (refl, refl, refl, refl, refl),
+      (
+        quietly fate.Big (refl, refl, refl, refl, refl),
+        (
+          quietly fate.Source (refl, refl, refl, refl, refl),
+          (
+            quietly fate.Mismatch (refl, refl, refl, refl, refl),
+            (quietly fate.Unlisted (refl, refl, refl, refl, refl), (bubbles, (served_on, tt))),
+          ),
+        ),
+      ),
+    ),
+  )
+
+  each_fate : Light (reception.reception_row heard)
+  each_fate = first_of_each Light (reception.reception_lines heard) fate.Unserved each_line unserved
+
+  pub datagram_lightens : IsLight d (relay_in (setup d) (journal_of d) (moment_of d) src x)
+  unfolding relay_in reception.reception
+  datagram_lightens = each_fate (laws.received (setup d) a src x)

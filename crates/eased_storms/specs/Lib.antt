@@ -1,0 +1,3 @@
+pub mod Trust
+pub mod Eased
+pub mod Follow
