@@ -1,5 +1,5 @@
 -- How a scenario that is being played goes on.
-use Rattle.std.proofs.Common.{◌≡◌, ℕ, ◌+◌, ◌*◌, ◌≤◌, ◌<◌, false, true, None, List, [], ◌∷◌, ◌++◌, length, get_or, Option, Some, Result, Ok, Err, refl, sym, ap, subst, ◌∙◌, arith, length-append}
+use Rattle.std.proofs.Common.{◌≡◌, ℕ, Bool, ◌+◌, ◌*◌, ◌≤◌, ◌<◌, false, true, None, List, [], ◌∷◌, ◌++◌, length, get_or, Option, Some, Result, Ok, Err, refl, sym, ap, subst, ◌∙◌, arith, length-append}
 use Rattle.std.specs.Prelude.{slice_get, option_map, IfOk, IfErr}
 use Rattle.std.proofs.lemmas.Option.{slice_get_past, slice_get_read}
 use Rattle.std.proofs.lemmas.Bool.{false≢true}
@@ -29,6 +29,7 @@ use Rattle.legal.specs.Laws.{EachIsOfItsEvent}
 use Rattle.promises.specs.Kept.{KeptOf}
 use Rattle.world.specs.declared.wire.TheConstants.{ENTRIES_MAX}
 use Rattle.world.specs.World.{WorldState, lab_in, StandsFor, Steps, Falls, IsAgain, EndsInTime, StopsFor, NeedsMemory, going_after, record_in, is_more, left_in}
+use Rattle.world.specs.Playing.{turn_from}
 use Rattle.player.specs.declared.player.PlayFault.TheVariants.{Failed, WireFull}
 use Rattle.td_outside.specs.Sink.{SinkState}
 use Rattle.player.specs.SinkLines.{WritesLines, BeginsLines, Writing}
@@ -149,9 +150,32 @@ pub record Turned (a : Account) (s : Scenario) (chain : List Behind) (before aft
   pub steps : Steps w new index event turn
   pub says : said ≡ record_in turn
 
--- what `step` ensures of its result is so of the turn that it answers
-pub stepped : (w new : WorldState) (index : ℕ) (event : Event) (result : Result Turn Stop) (turn : Turn) → result ≡ Ok turn → IfOk result (λ x. Steps w new index event x) → Steps w new index event turn
-stepped w new index event result turn is steps = subst (λ (r : Result Turn Stop). IfOk r (λ x. Steps w new index event x)) is steps
+-- the turn of a record, by whether its event has further ones
+pub turn_of : Bool → Record → Turn
+turn_of true said = More said
+turn_of false said = Last said
+
+pub said_in : (more : Bool) (said : Record) → said ≡ record_in (turn_of more said)
+unfolding turn_of
+said_in true said = refl
+said_in false said = refl
+
+pub more_in : (more : Bool) (said : Record) → is_more (turn_of more said) ≡ more
+unfolding turn_of
+more_in true said = refl
+more_in false said = refl
+
+turn_of_is : (more : Bool) (said : Record) → turn_from (Ok more) said ≡ Ok (turn_of more said)
+unfolding turn_of
+turn_of_is true said = refl
+turn_of_is false said = refl
+
+-- what `step_into` ensures of its record is so of the turn that it played
+pub stepped : (w new : WorldState) (index : ℕ) (event : Event) (result : Result Bool Stop) (more : Bool) (said : Record) → result ≡ Ok more → IfOk (turn_from result said) (λ x. Steps w new index event x)
+    → Steps w new index event (turn_of more said)
+stepped w new index event result more said is steps =
+    subst (λ (r : Result Turn Stop). IfOk r (λ x. Steps w new index event x)) (turn_of_is more said)
+    (subst (λ (r : Result Bool Stop). IfOk (turn_from r said) (λ x. Steps w new index event x)) is steps)
 
 abbrev pub turned : (a : Account) (s : Scenario) (chain : List Behind) (before after : SinkState) (keeps : Kept) (w new : WorldState) (index : ℕ) (event : Event) (turn : Turn) (said : Record)
     → Played a s chain before after keeps w index (IsNextOn event) → index < 50000 → slice_get s.events index ≡ Some event → said ≡ record_in turn → Steps w new index event turn → Turned a s chain before after keeps
@@ -311,9 +335,9 @@ module _ (law : EachIsOfItsEvent) (a : Account) (s : Scenario) (chain : List Beh
 -- ---- where it breaks off
 
 -- why it stopped
-pub stopped_for : (w : WorldState) (i : ℕ) (e : Event) (result : Result Turn Stop) (why : Stop) → result ≡ Err why → w.stopped ≡ None → (w.stopped ≡ None → IfErr result (λ stop. StopsFor w i e stop))
+pub stopped_for : (w : WorldState) (i : ℕ) (e : Event) (result : Result Bool Stop) (why : Stop) → result ≡ Err why → w.stopped ≡ None → (w.stopped ≡ None → IfErr result (λ stop. StopsFor w i e stop))
     → StopsFor w i e why
-stopped_for w i e result why is going cause = subst (λ (r : Result Turn Stop). IfErr r (λ stop. StopsFor w i e stop)) is (cause going)
+stopped_for w i e result why is going cause = subst (λ (r : Result Bool Stop). IfErr r (λ stop. StopsFor w i e stop)) is (cause going)
 
 module _ (a : Account) (s : Scenario) (chain : List Behind) (before after : SinkState) (keeps : Kept) (w : WorldState) (i : ℕ) (e : Event) (p : Played a s chain before after keeps w i (IsNextOn e)) (is : slice_get s.events i ≡ Some e) where
   -- the next record would make too long a wire

@@ -4,17 +4,17 @@ ghost use Rattle.std.specs.List.{AllByRecursion};
 ghost use Rattle.events.specs.declared.event.TheConstants.{EVENTS_MAX};
 ghost use Rattle.events.specs.Events.{IsEvent};
 ghost use Rattle.td_chain.specs.Chains.{StandsFor};
-ghost use Rattle.world.specs.World.{record_in, is_more};
 ghost use Rattle.player.specs.Endings.{IsPlayed};
 
 use crate::listener::Listener;
 use events::{EVENTS_MAX, Events};
-use history::{Record, Stop, Turn};
+use history::Stop;
 use std::alloc::Global;
+use td_base::Millis;
 use td_chain::Chains;
 use td_outside::Sink;
 use topology::Topology;
-use world::World;
+use world::{World, blank};
 
 /// Why a scenario was not played to its end.
 #[derive(Clone, Copy, Debug, PartialEq, Eq)]
@@ -25,26 +25,6 @@ pub enum PlayFault {
     NoMemory,
     /// The next record would make more entries of the wire than it holds.
     WireFull,
-}
-
-/// The record of a turn.
-fn record_in(turn: &Turn) -> &Record
-    ensures { result.now ≡ record_in turn.now }
-{
-    match turn {
-        Turn::More(said) => said,
-        Turn::Last(said) => said,
-    }
-}
-
-/// Whether the event of a turn has further records.
-fn is_more(turn: &Turn) -> bool
-    ensures { result ≡ is_more turn.now }
-{
-    match turn {
-        Turn::More(_) => true,
-        Turn::Last(_) => false,
-    }
 }
 
 /// Plays the scenario of a seed, nodes and events to its end, with those NATs behind others. Each record is heard as soon as
@@ -74,13 +54,13 @@ pub fn play<L: Listener, K: Sink>(
     let Ok(()) = listener.begin(out) else {
         return Err(PlayFault::Failed);
     };
+    let mut said = blank(0, Millis(0));
     for (index, event) in events.as_slice().iter().enumerate() {
         // It ends, since less is left after each record that has further ones.
         loop {
-            let played = world.step(index as u32, event);
-            let turn = match &played {
-                Ok(turn) => turn,
-                Err(stop) => match *stop {
+            let more = match world.step_into(index as u32, event, &mut said) {
+                Ok(more) => more,
+                Err(stop) => match stop {
                     Stop::NoMemory => return Err(PlayFault::NoMemory),
                     Stop::WireFull => {
                         let Ok(()) = listener.break_off(out) else {
@@ -90,10 +70,10 @@ pub fn play<L: Listener, K: Sink>(
                     }
                 },
             };
-            let Ok(()) = listener.hear(&world, record_in(turn), out) else {
+            let Ok(()) = listener.hear(&world, &said, out) else {
                 return Err(PlayFault::Failed);
             };
-            if !is_more(turn) {
+            if !more {
                 break;
             }
         }

@@ -47,5 +47,6 @@ mod wire;
 mod world;
 
 pub use laws::wire_numbers;
+pub use record::blank;
 pub use wire::{ENTRIES_MAX, WireEntry};
 pub use world::World;

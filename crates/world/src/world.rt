@@ -180,12 +180,14 @@ impl<'a> World<'a> {
         }
     }
 
-    /// Plays the next record of event number `index`. After a `Stop` every later call answers the same.
-    pub fn step(&mut self, index: u32, event: &Event) -> Result<Turn, Stop>
+    /// Plays the next record of event number `index` into `out`, in place of what it held, and answers whether the event
+    /// has further ones. After a `Stop` every later call answers the same. A record has some 400 bytes, so that to answer
+    /// it takes longer than to make it.
+    pub fn step_into(&mut self, index: u32, event: &Event, out: &mut Record) -> Result<bool, Stop>
         requires event { IsEvent self.old.topology event.now }
         requires again { self.old.stopped ≡ None → IsAgain self.old.going event.now }
         requires time { self.old.stopped ≡ None → EndsInTime self.old.began event.now }
-        ensures ok { IfOk result (λ turn. Steps self.old self.new index event.now turn) }
+        ensures ok { IfOk (turn_from result out.new) (λ turn. Steps self.old self.new index event.now turn) }
         ensures for_good { IfSome self.old.stopped (λ stop. (result ≡ Err stop) × (self.new ≡ self.old)) }
         ensures cause { self.old.stopped ≡ None → IfErr result (λ stop. StopsFor self.old index event.now stop) }
         ensures err { IfErr result (λ stop. StopsAs self.old self.new stop) }
@@ -200,16 +202,33 @@ impl<'a> World<'a> {
             return Err(stop);
         }
         prove!(self.wire.len() <= ENTRIES_MAX);
-        let mut record = blank(index, self.moment);
-        match self.play(event, &mut record) {
+        *out = blank(index, self.moment);
+        match self.play(event, out) {
             Ok(more) => {
                 prove!(self.wire.len() <= ENTRIES_MAX);
-                Ok(turn_with(more, record))
+                Ok(more)
             }
             Err(stop) => {
                 self.stopped = Some(stop);
                 Err(stop)
             }
+        }
+    }
+
+    /// Plays the next record of event number `index`. After a `Stop` every later call answers the same.
+    pub fn step(&mut self, index: u32, event: &Event) -> Result<Turn, Stop>
+        requires event { IsEvent self.old.topology event.now }
+        requires again { self.old.stopped ≡ None → IsAgain self.old.going event.now }
+        requires time { self.old.stopped ≡ None → EndsInTime self.old.began event.now }
+        ensures ok { IfOk result (λ turn. Steps self.old self.new index event.now turn) }
+        ensures for_good { IfSome self.old.stopped (λ stop. (result ≡ Err stop) × (self.new ≡ self.old)) }
+        ensures cause { self.old.stopped ≡ None → IfErr result (λ stop. StopsFor self.old index event.now stop) }
+        ensures err { IfErr result (λ stop. StopsAs self.old self.new stop) }
+    {
+        let mut said = blank(index, Millis(0));
+        match self.step_into(index, event, &mut said) {
+            Ok(more) => Ok(turn_with(more, said)),
+            Err(stop) => Err(stop),
         }
     }
 }

@@ -1,4 +1,4 @@
-use Rattle.std.proofs.Common.{◌≡◌, ◌≤◌, ◌<◌, Some, sym, subst, refl, arith, ◌∙◌, ap, length, inl, inr}
+use Rattle.std.proofs.Common.{◌≡◌, ◌≤◌, ◌<◌, Some, subst, refl, arith, ◌∙◌, ap, length, inl, inr}
 use Rattle.std.specs.Prelude.{slice_get}
 use Rattle.history.specs.declared.turn.Stop.{Stop}
 use Rattle.world.specs.World.{StopsFor}
@@ -19,93 +19,93 @@ loop-index-init g c =
     let begun = c.in-Ok-begin.ensures c.args.chains.topology c.requires.fresh in
     played.nothing_played g.L.Listener.account (record { seed = c.args.seed; topology = c.args.chains.topology; events = c.args.events.now }) c.args.chains.chain (g.K.Sink.state c.args.out.now) _ (g.L.Listener.keeps c.args.listener.now) c.in-Ok.world (λ H begun. c.kept_in_scenarios.ensures (record { seed = c.args.seed; topology = c.args.chains.topology; events = c.args.events.now }) c.args.chains.chain H (subst IsTopology c.topology-topology.ensures.value c.clients-rules.ensures.rules) c.requires.legal begun) (c.in-Ok.ensures.topology ∙ c.topology-topology.ensures.value) c.in-Ok.ensures.chain c.in-Ok.ensures.goes_on c.in-Ok.ensures.stands c.requires.fresh begun.ok begun.cause.kept
 
-pub loop-turn-init : goal.loop-turn-init
-loop-turn-init g c = played.event_begins g.L.Listener.account (record { seed = c.args.seed; topology = c.args.chains.topology; events = c.args.events.now }) c.args.chains.chain _ _ _ _ _ c.event-item.result c.loop-index.invariant
+pub loop-more-init : goal.loop-more-init
+loop-more-init g c = played.event_begins g.L.Listener.account (record { seed = c.args.seed; topology = c.args.chains.topology; events = c.args.events.now }) c.args.chains.chain _ _ _ _ _ c.event-item.result c.loop-index.invariant
 
 pub hear-requires : goal.hear-requires
 hear-requires g c =
     let event : slice_get c.args.events.now c.loop-index.index ≡ Some c.event-item.result = played.event_at c.args.events.now c.as_slice-event-items.result.now c.loop-index.index c.event-item.result c.as_slice-event-items.ensures (omega arith) c.event-item.is in
     let few : c.loop-index.index < 50000 = omega (arith, ap length c.as_slice-event-items.ensures, c.requires.few) in
-    let p = c.loop-turn.invariant in
-    let steps = played.stepped c.loop-turn.world c.step-played.new.self c.loop-index.index c.event-item.result c.step-played.result c.in-Ok-played.turn c.in-Ok-played.is c.step-played.ensures.ok in
-    let turned = played.turned g.L.Listener.account (record { seed = c.args.seed; topology = c.args.chains.topology; events = c.args.events.now }) c.args.chains.chain (g.K.Sink.state c.args.out.now) (g.K.Sink.state c.loop-turn.out) (g.L.Listener.keeps c.loop-turn.listener) c.loop-turn.world c.step-played.new.self c.loop-index.index c.event-item.result c.in-Ok-played.turn c.record_in.result.now p few event c.record_in.ensures steps in
+    let p = c.loop-more.invariant in
+    let steps = played.stepped c.loop-more.world c.step_into.new.self c.loop-index.index c.event-item.result c.step_into.result c.in-Ok-step_into.more c.step_into.new.out c.in-Ok-step_into.is c.step_into.ensures.ok in
+    let turned = played.turned g.L.Listener.account (record { seed = c.args.seed; topology = c.args.chains.topology; events = c.args.events.now }) c.args.chains.chain (g.K.Sink.state c.args.out.now) (g.K.Sink.state c.loop-more.out) (g.L.Listener.keeps c.loop-more.listener) c.loop-more.world c.step_into.new.self c.loop-index.index c.event-item.result (played.turn_of c.in-Ok-step_into.more c.step_into.new.out) c.step_into.new.out p few event (played.said_in c.in-Ok-step_into.more c.step_into.new.out) steps in
     let law = c.of_its_event.ensures in
-    let H = played.past g.L.Listener.account (record { seed = c.args.seed; topology = c.args.chains.topology; events = c.args.events.now }) c.args.chains.chain (g.K.Sink.state c.args.out.now) (g.K.Sink.state c.loop-turn.out) (g.L.Listener.keeps c.loop-turn.listener) turned in
-    let r = played.given g.L.Listener.account (record { seed = c.args.seed; topology = c.args.chains.topology; events = c.args.events.now }) c.args.chains.chain (g.K.Sink.state c.args.out.now) (g.K.Sink.state c.loop-turn.out) (g.L.Listener.keeps c.loop-turn.listener) turned in
-    let news = played.news g.L.Listener.account (record { seed = c.args.seed; topology = c.args.chains.topology; events = c.args.events.now }) c.args.chains.chain (g.K.Sink.state c.args.out.now) (g.K.Sink.state c.loop-turn.out) (g.L.Listener.keeps c.loop-turn.listener) turned law in
-    played.can_hear g.L.Listener.account (record { seed = c.args.seed; topology = c.args.chains.topology; events = c.args.events.now }) c.args.chains.chain (g.K.Sink.state c.args.out.now) (g.K.Sink.state c.loop-turn.out) (g.L.Listener.keeps c.loop-turn.listener) turned law
+    let H = played.past g.L.Listener.account (record { seed = c.args.seed; topology = c.args.chains.topology; events = c.args.events.now }) c.args.chains.chain (g.K.Sink.state c.args.out.now) (g.K.Sink.state c.loop-more.out) (g.L.Listener.keeps c.loop-more.listener) turned in
+    let r = played.given g.L.Listener.account (record { seed = c.args.seed; topology = c.args.chains.topology; events = c.args.events.now }) c.args.chains.chain (g.K.Sink.state c.args.out.now) (g.K.Sink.state c.loop-more.out) (g.L.Listener.keeps c.loop-more.listener) turned in
+    let news = played.news g.L.Listener.account (record { seed = c.args.seed; topology = c.args.chains.topology; events = c.args.events.now }) c.args.chains.chain (g.K.Sink.state c.args.out.now) (g.K.Sink.state c.loop-more.out) (g.L.Listener.keeps c.loop-more.listener) turned law in
+    played.can_hear g.L.Listener.account (record { seed = c.args.seed; topology = c.args.chains.topology; events = c.args.events.now }) c.args.chains.chain (g.K.Sink.state c.args.out.now) (g.K.Sink.state c.loop-more.out) (g.L.Listener.keeps c.loop-more.listener) turned law
 
-pub loop-turn-preserved : goal.loop-turn-preserved
-loop-turn-preserved g c =
+pub loop-more-preserved : goal.loop-more-preserved
+loop-more-preserved g c =
     let event : slice_get c.args.events.now c.loop-index.index ≡ Some c.event-item.result = played.event_at c.args.events.now c.as_slice-event-items.result.now c.loop-index.index c.event-item.result c.as_slice-event-items.ensures (omega arith) c.event-item.is in
     let few : c.loop-index.index < 50000 = omega (arith, ap length c.as_slice-event-items.ensures, c.requires.few) in
-    let p = c.loop-turn.invariant in
-    let steps = played.stepped c.loop-turn.world c.step-played.new.self c.loop-index.index c.event-item.result c.step-played.result c.in-Ok-played.turn c.in-Ok-played.is c.step-played.ensures.ok in
-    let turned = played.turned g.L.Listener.account (record { seed = c.args.seed; topology = c.args.chains.topology; events = c.args.events.now }) c.args.chains.chain (g.K.Sink.state c.args.out.now) (g.K.Sink.state c.loop-turn.out) (g.L.Listener.keeps c.loop-turn.listener) c.loop-turn.world c.step-played.new.self c.loop-index.index c.event-item.result c.in-Ok-played.turn c.record_in.result.now p few event c.record_in.ensures steps in
+    let p = c.loop-more.invariant in
+    let steps = played.stepped c.loop-more.world c.step_into.new.self c.loop-index.index c.event-item.result c.step_into.result c.in-Ok-step_into.more c.step_into.new.out c.in-Ok-step_into.is c.step_into.ensures.ok in
+    let turned = played.turned g.L.Listener.account (record { seed = c.args.seed; topology = c.args.chains.topology; events = c.args.events.now }) c.args.chains.chain (g.K.Sink.state c.args.out.now) (g.K.Sink.state c.loop-more.out) (g.L.Listener.keeps c.loop-more.listener) c.loop-more.world c.step_into.new.self c.loop-index.index c.event-item.result (played.turn_of c.in-Ok-step_into.more c.step_into.new.out) c.step_into.new.out p few event (played.said_in c.in-Ok-step_into.more c.step_into.new.out) steps in
     let law = c.of_its_event.ensures in
-    let H = played.past g.L.Listener.account (record { seed = c.args.seed; topology = c.args.chains.topology; events = c.args.events.now }) c.args.chains.chain (g.K.Sink.state c.args.out.now) (g.K.Sink.state c.loop-turn.out) (g.L.Listener.keeps c.loop-turn.listener) turned in
-    let r = played.given g.L.Listener.account (record { seed = c.args.seed; topology = c.args.chains.topology; events = c.args.events.now }) c.args.chains.chain (g.K.Sink.state c.args.out.now) (g.K.Sink.state c.loop-turn.out) (g.L.Listener.keeps c.loop-turn.listener) turned in
-    let news = played.news g.L.Listener.account (record { seed = c.args.seed; topology = c.args.chains.topology; events = c.args.events.now }) c.args.chains.chain (g.K.Sink.state c.args.out.now) (g.K.Sink.state c.loop-turn.out) (g.L.Listener.keeps c.loop-turn.listener) turned law in
+    let H = played.past g.L.Listener.account (record { seed = c.args.seed; topology = c.args.chains.topology; events = c.args.events.now }) c.args.chains.chain (g.K.Sink.state c.args.out.now) (g.K.Sink.state c.loop-more.out) (g.L.Listener.keeps c.loop-more.listener) turned in
+    let r = played.given g.L.Listener.account (record { seed = c.args.seed; topology = c.args.chains.topology; events = c.args.events.now }) c.args.chains.chain (g.K.Sink.state c.args.out.now) (g.K.Sink.state c.loop-more.out) (g.L.Listener.keeps c.loop-more.listener) turned in
+    let news = played.news g.L.Listener.account (record { seed = c.args.seed; topology = c.args.chains.topology; events = c.args.events.now }) c.args.chains.chain (g.K.Sink.state c.args.out.now) (g.K.Sink.state c.loop-more.out) (g.L.Listener.keeps c.loop-more.listener) turned law in
     let grows = g.met.L.Listener.grows c.args.chains.topology H r in
-    let heard = played.heard g.L.Listener.account (record { seed = c.args.seed; topology = c.args.chains.topology; events = c.args.events.now }) c.args.chains.chain (g.K.Sink.state c.args.out.now) (g.K.Sink.state c.loop-turn.out) _ (g.L.Listener.keeps c.loop-turn.listener) turned (g.L.Listener.news c.args.chains.topology H r) grows (g.L.Listener.keeps c.hear.new.self) (c.in-Ok-hear.ensures.kept c.args.chains.topology H r p.kept news) (c.in-Ok-hear.ensures.written c.args.chains.topology H r p.kept news) in
-    played.goes_on law g.L.Listener.account (record { seed = c.args.seed; topology = c.args.chains.topology; events = c.args.events.now }) c.args.chains.chain (g.K.Sink.state c.args.out.now) (g.K.Sink.state c.loop-turn.out) _ (g.L.Listener.keeps c.loop-turn.listener) _ turned heard (sym c.is_more.ensures ∙ c.if-not-is_more.false)
+    let heard = played.heard g.L.Listener.account (record { seed = c.args.seed; topology = c.args.chains.topology; events = c.args.events.now }) c.args.chains.chain (g.K.Sink.state c.args.out.now) (g.K.Sink.state c.loop-more.out) _ (g.L.Listener.keeps c.loop-more.listener) turned (g.L.Listener.news c.args.chains.topology H r) grows (g.L.Listener.keeps c.hear.new.self) (c.in-Ok-hear.ensures.kept c.args.chains.topology H r p.kept news) (c.in-Ok-hear.ensures.written c.args.chains.topology H r p.kept news) in
+    played.goes_on law g.L.Listener.account (record { seed = c.args.seed; topology = c.args.chains.topology; events = c.args.events.now }) c.args.chains.chain (g.K.Sink.state c.args.out.now) (g.K.Sink.state c.loop-more.out) _ (g.L.Listener.keeps c.loop-more.listener) _ turned heard (played.more_in c.in-Ok-step_into.more c.step_into.new.out ∙ c.if-not-more.false)
 
-pub loop-turn-smaller : goal.loop-turn-smaller
-loop-turn-smaller g c =
-    let p = c.loop-turn.invariant in
-    let steps = played.stepped c.loop-turn.world c.step-played.new.self c.loop-index.index c.event-item.result c.step-played.result c.in-Ok-played.turn c.in-Ok-played.is c.step-played.ensures.ok in
-    played.falls_by c.loop-turn.world c.step-played.new.self c.in-Ok-played.turn (sym c.is_more.ensures ∙ c.if-not-is_more.false) (steps.falls (draws c.args.seed) p.history p.stands)
+pub loop-more-smaller : goal.loop-more-smaller
+loop-more-smaller g c =
+    let p = c.loop-more.invariant in
+    let steps = played.stepped c.loop-more.world c.step_into.new.self c.loop-index.index c.event-item.result c.step_into.result c.in-Ok-step_into.more c.step_into.new.out c.in-Ok-step_into.is c.step_into.ensures.ok in
+    played.falls_by c.loop-more.world c.step_into.new.self (played.turn_of c.in-Ok-step_into.more c.step_into.new.out) (played.more_in c.in-Ok-step_into.more c.step_into.new.out ∙ c.if-not-more.false) (steps.falls (draws c.args.seed) p.history p.stands)
 
 pub loop-index-preserved : goal.loop-index-preserved
 loop-index-preserved g c =
     let event : slice_get c.args.events.now c.loop-index.index ≡ Some c.event-item.result = played.event_at c.args.events.now c.as_slice-event-items.result.now c.loop-index.index c.event-item.result c.as_slice-event-items.ensures (omega arith) c.event-item.is in
     let few : c.loop-index.index < 50000 = omega (arith, ap length c.as_slice-event-items.ensures, c.requires.few) in
-    let p = c.loop-turn.invariant in
-    let steps = played.stepped c.loop-turn.world c.step-played.new.self c.loop-index.index c.event-item.result c.step-played.result c.in-Ok-played.turn c.in-Ok-played.is c.step-played.ensures.ok in
-    let turned = played.turned g.L.Listener.account (record { seed = c.args.seed; topology = c.args.chains.topology; events = c.args.events.now }) c.args.chains.chain (g.K.Sink.state c.args.out.now) (g.K.Sink.state c.loop-turn.out) (g.L.Listener.keeps c.loop-turn.listener) c.loop-turn.world c.step-played.new.self c.loop-index.index c.event-item.result c.in-Ok-played.turn c.record_in.result.now p few event c.record_in.ensures steps in
+    let p = c.loop-more.invariant in
+    let steps = played.stepped c.loop-more.world c.step_into.new.self c.loop-index.index c.event-item.result c.step_into.result c.in-Ok-step_into.more c.step_into.new.out c.in-Ok-step_into.is c.step_into.ensures.ok in
+    let turned = played.turned g.L.Listener.account (record { seed = c.args.seed; topology = c.args.chains.topology; events = c.args.events.now }) c.args.chains.chain (g.K.Sink.state c.args.out.now) (g.K.Sink.state c.loop-more.out) (g.L.Listener.keeps c.loop-more.listener) c.loop-more.world c.step_into.new.self c.loop-index.index c.event-item.result (played.turn_of c.in-Ok-step_into.more c.step_into.new.out) c.step_into.new.out p few event (played.said_in c.in-Ok-step_into.more c.step_into.new.out) steps in
     let law = c.of_its_event.ensures in
-    let H = played.past g.L.Listener.account (record { seed = c.args.seed; topology = c.args.chains.topology; events = c.args.events.now }) c.args.chains.chain (g.K.Sink.state c.args.out.now) (g.K.Sink.state c.loop-turn.out) (g.L.Listener.keeps c.loop-turn.listener) turned in
-    let r = played.given g.L.Listener.account (record { seed = c.args.seed; topology = c.args.chains.topology; events = c.args.events.now }) c.args.chains.chain (g.K.Sink.state c.args.out.now) (g.K.Sink.state c.loop-turn.out) (g.L.Listener.keeps c.loop-turn.listener) turned in
-    let news = played.news g.L.Listener.account (record { seed = c.args.seed; topology = c.args.chains.topology; events = c.args.events.now }) c.args.chains.chain (g.K.Sink.state c.args.out.now) (g.K.Sink.state c.loop-turn.out) (g.L.Listener.keeps c.loop-turn.listener) turned law in
+    let H = played.past g.L.Listener.account (record { seed = c.args.seed; topology = c.args.chains.topology; events = c.args.events.now }) c.args.chains.chain (g.K.Sink.state c.args.out.now) (g.K.Sink.state c.loop-more.out) (g.L.Listener.keeps c.loop-more.listener) turned in
+    let r = played.given g.L.Listener.account (record { seed = c.args.seed; topology = c.args.chains.topology; events = c.args.events.now }) c.args.chains.chain (g.K.Sink.state c.args.out.now) (g.K.Sink.state c.loop-more.out) (g.L.Listener.keeps c.loop-more.listener) turned in
+    let news = played.news g.L.Listener.account (record { seed = c.args.seed; topology = c.args.chains.topology; events = c.args.events.now }) c.args.chains.chain (g.K.Sink.state c.args.out.now) (g.K.Sink.state c.loop-more.out) (g.L.Listener.keeps c.loop-more.listener) turned law in
     let grows = g.met.L.Listener.grows c.args.chains.topology H r in
-    let heard = played.heard g.L.Listener.account (record { seed = c.args.seed; topology = c.args.chains.topology; events = c.args.events.now }) c.args.chains.chain (g.K.Sink.state c.args.out.now) (g.K.Sink.state c.loop-turn.out) _ (g.L.Listener.keeps c.loop-turn.listener) turned (g.L.Listener.news c.args.chains.topology H r) grows (g.L.Listener.keeps c.hear.new.self) (c.in-Ok-hear.ensures.kept c.args.chains.topology H r p.kept news) (c.in-Ok-hear.ensures.written c.args.chains.topology H r p.kept news) in
-    played.event_ends law g.L.Listener.account (record { seed = c.args.seed; topology = c.args.chains.topology; events = c.args.events.now }) c.args.chains.chain (g.K.Sink.state c.args.out.now) (g.K.Sink.state c.loop-turn.out) _ (g.L.Listener.keeps c.loop-turn.listener) _ turned heard (sym c.is_more.ensures ∙ c.if-not-is_more.true)
+    let heard = played.heard g.L.Listener.account (record { seed = c.args.seed; topology = c.args.chains.topology; events = c.args.events.now }) c.args.chains.chain (g.K.Sink.state c.args.out.now) (g.K.Sink.state c.loop-more.out) _ (g.L.Listener.keeps c.loop-more.listener) turned (g.L.Listener.news c.args.chains.topology H r) grows (g.L.Listener.keeps c.hear.new.self) (c.in-Ok-hear.ensures.kept c.args.chains.topology H r p.kept news) (c.in-Ok-hear.ensures.written c.args.chains.topology H r p.kept news) in
+    played.event_ends law g.L.Listener.account (record { seed = c.args.seed; topology = c.args.chains.topology; events = c.args.events.now }) c.args.chains.chain (g.K.Sink.state c.args.out.now) (g.K.Sink.state c.loop-more.out) _ (g.L.Listener.keeps c.loop-more.listener) _ turned heard (played.more_in c.in-Ok-step_into.more c.step_into.new.out ∙ c.if-not-more.true)
 
 pub returns-in_default-hear : goal.returns-in_default-hear
 returns-in_default-hear g c =
     let event : slice_get c.args.events.now c.loop-index.index ≡ Some c.event-item.result = played.event_at c.args.events.now c.as_slice-event-items.result.now c.loop-index.index c.event-item.result c.as_slice-event-items.ensures (omega arith) c.event-item.is in
     let few : c.loop-index.index < 50000 = omega (arith, ap length c.as_slice-event-items.ensures, c.requires.few) in
-    let p = c.loop-turn.invariant in
-    let steps = played.stepped c.loop-turn.world c.step-played.new.self c.loop-index.index c.event-item.result c.step-played.result c.in-Ok-played.turn c.in-Ok-played.is c.step-played.ensures.ok in
-    let turned = played.turned g.L.Listener.account (record { seed = c.args.seed; topology = c.args.chains.topology; events = c.args.events.now }) c.args.chains.chain (g.K.Sink.state c.args.out.now) (g.K.Sink.state c.loop-turn.out) (g.L.Listener.keeps c.loop-turn.listener) c.loop-turn.world c.step-played.new.self c.loop-index.index c.event-item.result c.in-Ok-played.turn c.record_in.result.now p few event c.record_in.ensures steps in
+    let p = c.loop-more.invariant in
+    let steps = played.stepped c.loop-more.world c.step_into.new.self c.loop-index.index c.event-item.result c.step_into.result c.in-Ok-step_into.more c.step_into.new.out c.in-Ok-step_into.is c.step_into.ensures.ok in
+    let turned = played.turned g.L.Listener.account (record { seed = c.args.seed; topology = c.args.chains.topology; events = c.args.events.now }) c.args.chains.chain (g.K.Sink.state c.args.out.now) (g.K.Sink.state c.loop-more.out) (g.L.Listener.keeps c.loop-more.listener) c.loop-more.world c.step_into.new.self c.loop-index.index c.event-item.result (played.turn_of c.in-Ok-step_into.more c.step_into.new.out) c.step_into.new.out p few event (played.said_in c.in-Ok-step_into.more c.step_into.new.out) steps in
     let law = c.of_its_event.ensures in
-    let H = played.past g.L.Listener.account (record { seed = c.args.seed; topology = c.args.chains.topology; events = c.args.events.now }) c.args.chains.chain (g.K.Sink.state c.args.out.now) (g.K.Sink.state c.loop-turn.out) (g.L.Listener.keeps c.loop-turn.listener) turned in
-    let r = played.given g.L.Listener.account (record { seed = c.args.seed; topology = c.args.chains.topology; events = c.args.events.now }) c.args.chains.chain (g.K.Sink.state c.args.out.now) (g.K.Sink.state c.loop-turn.out) (g.L.Listener.keeps c.loop-turn.listener) turned in
-    let news = played.news g.L.Listener.account (record { seed = c.args.seed; topology = c.args.chains.topology; events = c.args.events.now }) c.args.chains.chain (g.K.Sink.state c.args.out.now) (g.K.Sink.state c.loop-turn.out) (g.L.Listener.keeps c.loop-turn.listener) turned law in
+    let H = played.past g.L.Listener.account (record { seed = c.args.seed; topology = c.args.chains.topology; events = c.args.events.now }) c.args.chains.chain (g.K.Sink.state c.args.out.now) (g.K.Sink.state c.loop-more.out) (g.L.Listener.keeps c.loop-more.listener) turned in
+    let r = played.given g.L.Listener.account (record { seed = c.args.seed; topology = c.args.chains.topology; events = c.args.events.now }) c.args.chains.chain (g.K.Sink.state c.args.out.now) (g.K.Sink.state c.loop-more.out) (g.L.Listener.keeps c.loop-more.listener) turned in
+    let news = played.news g.L.Listener.account (record { seed = c.args.seed; topology = c.args.chains.topology; events = c.args.events.now }) c.args.chains.chain (g.K.Sink.state c.args.out.now) (g.K.Sink.state c.loop-more.out) (g.L.Listener.keeps c.loop-more.listener) turned law in
     let grows = g.met.L.Listener.grows c.args.chains.topology H r in
-    played.broken g.L.Listener.account (record { seed = c.args.seed; topology = c.args.chains.topology; events = c.args.events.now }) c.args.chains.chain (g.K.Sink.state c.args.out.now) (g.K.Sink.state c.loop-turn.out) _ (g.L.Listener.keeps c.loop-turn.listener) turned (g.L.Listener.news c.args.chains.topology H r) grows _ (c.in_default-hear.ensures.written c.args.chains.topology H r p.kept news)
+    played.broken g.L.Listener.account (record { seed = c.args.seed; topology = c.args.chains.topology; events = c.args.events.now }) c.args.chains.chain (g.K.Sink.state c.args.out.now) (g.K.Sink.state c.loop-more.out) _ (g.L.Listener.keeps c.loop-more.listener) turned (g.L.Listener.news c.args.chains.topology H r) grows _ (c.in_default-hear.ensures.written c.args.chains.topology H r p.kept news)
 
 pub returns-in-NoMemory : goal.returns-in-NoMemory
 returns-in-NoMemory g c =
     let event : slice_get c.args.events.now c.loop-index.index ≡ Some c.event-item.result = played.event_at c.args.events.now c.as_slice-event-items.result.now c.loop-index.index c.event-item.result c.as_slice-event-items.ensures (omega arith) c.event-item.is in
     let few : c.loop-index.index < 50000 = omega (arith, ap length c.as_slice-event-items.ensures, c.requires.few) in
-    (c.loop-turn.invariant.quiet, inr (played.starves g.L.Listener.account (record { seed = c.args.seed; topology = c.args.chains.topology; events = c.args.events.now }) c.args.chains.chain (g.K.Sink.state c.args.out.now) (g.K.Sink.state c.loop-turn.out) (g.L.Listener.keeps c.loop-turn.listener) c.loop-turn.world c.loop-index.index c.event-item.result c.loop-turn.invariant event (subst (λ (z : Stop). StopsFor c.loop-turn.world c.loop-index.index c.event-item.result z) c.in-NoMemory.is (played.stopped_for c.loop-turn.world c.loop-index.index c.event-item.result c.step-played.result c.in-Err.stop c.in-Err.is c.loop-turn.invariant.open_still c.step-played.ensures.cause))))
+    (c.loop-more.invariant.quiet, inr (played.starves g.L.Listener.account (record { seed = c.args.seed; topology = c.args.chains.topology; events = c.args.events.now }) c.args.chains.chain (g.K.Sink.state c.args.out.now) (g.K.Sink.state c.loop-more.out) (g.L.Listener.keeps c.loop-more.listener) c.loop-more.world c.loop-index.index c.event-item.result c.loop-more.invariant event (subst (λ (z : Stop). StopsFor c.loop-more.world c.loop-index.index c.event-item.result z) c.in-NoMemory.is (played.stopped_for c.loop-more.world c.loop-index.index c.event-item.result c.step_into.result c.in-Err.stop c.in-Err.is c.loop-more.invariant.open_still c.step_into.ensures.cause))))
 
 pub returns-in-WireFull : goal.returns-in-WireFull
 returns-in-WireFull g c =
     let event : slice_get c.args.events.now c.loop-index.index ≡ Some c.event-item.result = played.event_at c.args.events.now c.as_slice-event-items.result.now c.loop-index.index c.event-item.result c.as_slice-event-items.ensures (omega arith) c.event-item.is in
     let few : c.loop-index.index < 50000 = omega (arith, ap length c.as_slice-event-items.ensures, c.requires.few) in
-    let p = c.loop-turn.invariant in
-    let fills = played.fills g.L.Listener.account (record { seed = c.args.seed; topology = c.args.chains.topology; events = c.args.events.now }) c.args.chains.chain (g.K.Sink.state c.args.out.now) (g.K.Sink.state c.loop-turn.out) (g.L.Listener.keeps c.loop-turn.listener) c.loop-turn.world c.loop-index.index c.event-item.result p event (subst (λ (z : Stop). StopsFor c.loop-turn.world c.loop-index.index c.event-item.result z) c.in-WireFull.is (played.stopped_for c.loop-turn.world c.loop-index.index c.event-item.result c.step-played.result c.in-Err.stop c.in-Err.is c.loop-turn.invariant.open_still c.step-played.ensures.cause)) in
-    played.filled g.L.Listener.account (record { seed = c.args.seed; topology = c.args.chains.topology; events = c.args.events.now }) c.args.chains.chain (g.K.Sink.state c.args.out.now) (g.K.Sink.state c.loop-turn.out) _ p.history p.written p.quiet fills c.in-Ok-break_off.ensures
+    let p = c.loop-more.invariant in
+    let fills = played.fills g.L.Listener.account (record { seed = c.args.seed; topology = c.args.chains.topology; events = c.args.events.now }) c.args.chains.chain (g.K.Sink.state c.args.out.now) (g.K.Sink.state c.loop-more.out) (g.L.Listener.keeps c.loop-more.listener) c.loop-more.world c.loop-index.index c.event-item.result p event (subst (λ (z : Stop). StopsFor c.loop-more.world c.loop-index.index c.event-item.result z) c.in-WireFull.is (played.stopped_for c.loop-more.world c.loop-index.index c.event-item.result c.step_into.result c.in-Err.stop c.in-Err.is c.loop-more.invariant.open_still c.step_into.ensures.cause)) in
+    played.filled g.L.Listener.account (record { seed = c.args.seed; topology = c.args.chains.topology; events = c.args.events.now }) c.args.chains.chain (g.K.Sink.state c.args.out.now) (g.K.Sink.state c.loop-more.out) _ p.history p.written p.quiet fills c.in-Ok-break_off.ensures
 
 pub returns-in_default-break_off : goal.returns-in_default-break_off
 returns-in_default-break_off g c =
     let event : slice_get c.args.events.now c.loop-index.index ≡ Some c.event-item.result = played.event_at c.args.events.now c.as_slice-event-items.result.now c.loop-index.index c.event-item.result c.as_slice-event-items.ensures (omega arith) c.event-item.is in
     let few : c.loop-index.index < 50000 = omega (arith, ap length c.as_slice-event-items.ensures, c.requires.few) in
-    let p = c.loop-turn.invariant in
-    let fills = played.fills g.L.Listener.account (record { seed = c.args.seed; topology = c.args.chains.topology; events = c.args.events.now }) c.args.chains.chain (g.K.Sink.state c.args.out.now) (g.K.Sink.state c.loop-turn.out) (g.L.Listener.keeps c.loop-turn.listener) c.loop-turn.world c.loop-index.index c.event-item.result p event (subst (λ (z : Stop). StopsFor c.loop-turn.world c.loop-index.index c.event-item.result z) c.in-WireFull.is (played.stopped_for c.loop-turn.world c.loop-index.index c.event-item.result c.step-played.result c.in-Err.stop c.in-Err.is c.loop-turn.invariant.open_still c.step-played.ensures.cause)) in
-    played.not_filled g.L.Listener.account (record { seed = c.args.seed; topology = c.args.chains.topology; events = c.args.events.now }) c.args.chains.chain (g.K.Sink.state c.args.out.now) (g.K.Sink.state c.loop-turn.out) _ p.history p.written p.quiet _ fills c.in_default-break_off.ensures
+    let p = c.loop-more.invariant in
+    let fills = played.fills g.L.Listener.account (record { seed = c.args.seed; topology = c.args.chains.topology; events = c.args.events.now }) c.args.chains.chain (g.K.Sink.state c.args.out.now) (g.K.Sink.state c.loop-more.out) (g.L.Listener.keeps c.loop-more.listener) c.loop-more.world c.loop-index.index c.event-item.result p event (subst (λ (z : Stop). StopsFor c.loop-more.world c.loop-index.index c.event-item.result z) c.in-WireFull.is (played.stopped_for c.loop-more.world c.loop-index.index c.event-item.result c.step_into.result c.in-Err.stop c.in-Err.is c.loop-more.invariant.open_still c.step_into.ensures.cause)) in
+    played.not_filled g.L.Listener.account (record { seed = c.args.seed; topology = c.args.chains.topology; events = c.args.events.now }) c.args.chains.chain (g.K.Sink.state c.args.out.now) (g.K.Sink.state c.loop-more.out) _ p.history p.written p.quiet _ fills c.in_default-break_off.ensures
 
 pub returns-in-Ok-end : goal.returns-in-Ok-end
 returns-in-Ok-end g c =

@@ -1,46 +1,10 @@
-use Rattle.std.proofs.Common.{◌≡◌, ◌≤◌, ℕ, length, Result, Ok, ◌∙◌, sym, ap, subst, arith}
+use Rattle.std.proofs.Common.{Result, subst}
 use Rattle.std.specs.Prelude.{IfOk}
-use Rattle.topology.specs.Rules.{IsTopology}
-use Rattle.history.specs.declared.records.Record.{Record}
 use Rattle.history.specs.declared.turn.Stop.{Stop}
 use Rattle.history.specs.declared.turn.Turn.{Turn}
-use Rattle.lab_nodes.specs.PlayedNode.{AreReady}
-use Rattle.world.specs.declared.wire.TheConstants.{ENTRIES_MAX}
-use Rattle.world.specs.World.{WorldState, Steps}
-use Rattle.world.specs.Playing.{turn_from}
-use Rattle.world.proofs.Stepped.{Laws, IsAsked, IsKeptTo, PlaysAll, steps}
+use Rattle.world.specs.World.{Steps}
 use Rattle.world.proofs.world.World.step.Goals as goal
 
 pub returns-in-Ok-clause-ok : goal.returns-in-Ok-clause-ok
 returns-in-Ok-clause-ok c =
-    let laws : Laws = record {
-      of_event = c.of_its_event.ensures;
-      told = c.told.ensures;
-      falls = c.falls.ensures;
-      sums = c.due_as_in_the_past.ensures;
-      waits = c.waits_as_in_the_past.ensures;
-      promised = c.kept.ensures;
-    } in
-    let open_still = sym (ap (λ (x : WorldState). x.stopped) c.self.view_is) ∙ c.in_default.is in
-    let asked : IsAsked c.args.self.now c.args.event.now = record {
-      rules = subst (λ (x : WorldState). IsTopology x.topology) c.self.view_is c.self.invariant.rules;
-      event = c.requires.event;
-      again = c.requires.again open_still;
-      stopped = open_still;
-      entries =
-          let count = c.len.ensures.count in
-          let most = c.len.ensures.most in
-          subst (λ (x : WorldState). length x.wire ≤ ENTRIES_MAX) c.self.view_is (omega (arith, count, most));
-    } in
-    let kept : IsKeptTo c.args.self.now c.play.new.self = record {
-      ready = subst (λ (x : WorldState). AreReady x.moment x.nodes) c.self-2.view_is c.self-2.invariant.ready;
-      time = c.play.ensures.time;
-      entries =
-          let count = c.len-in-Ok.ensures.count in
-          let most = c.len-in-Ok.ensures.most in
-          subst (λ (x : WorldState). length x.wire ≤ ENTRIES_MAX) c.self-2.view_is (omega (arith, count, most));
-    } in
-    let index : c.blank-record.result.event ≡ c.args.index = ap (λ (r : Record). r.event) c.blank-record.ensures in
-    let plays = subst (λ (i : ℕ). PlaysAll c.args.self.now c.play.new.self i c.args.event.now (turn_from (Ok c.in-Ok.more) c.play.new.out)) index c.in-Ok.ensures.plays in
-    subst (λ (played : Result Turn Stop). IfOk played (λ turn. Steps c.args.self.now c.play.new.self c.args.index c.args.event.now turn)) c.turn_with.ensures
-    (steps laws c.args.self.now c.play.new.self c.args.index c.args.event.now (turn_from (Ok c.in-Ok.more) c.play.new.out) asked c.in-Ok.ensures.turned kept plays)
+    subst (λ (played : Result Turn Stop). IfOk played (λ turn. Steps c.args.self.now c.step_into.new.self c.args.index c.args.event.now turn)) c.turn_with.ensures c.in-Ok.ensures.ok
