@@ -66,7 +66,7 @@ module _ (laws : ReplyLaws) (replies : EachIsReply) (lab : Lab) (H : List Full) 
   replies_eased bytes y h e eased =
       let p : Fields = fields_in bytes in
       let both = and_parts (packet_weight false p == 6) (is_trusted_for t H p.dst p.src) eased in
-      let back = reads_back laws bytes y h.came.bytes h.came.short (replies bytes y e) in
+      let back = reads_back laws bytes y (record { bytes = h.came.bytes; short = h.came.short }) (replies bytes y e) in
       let teredo = from_teredo (is_echo_request (message_in p)) (is_echo_reply (message_in p)) (is_teredo p.src) (is_global6 p.src)
       (eqb-true (packet_weight false p) 6 both.0) in
       let to_relay : relay_for b y ≡ Some b.relay = ap (λ (c : Bool). cond c (Some b.relay) None) (ap is_teredo back.to ∙ teredo) in
@@ -91,7 +91,7 @@ module _ (laws : ReplyLaws) (replies : EachIsReply) (lab : Lab) (H : List Full) 
   answered : (to : Option ℕ) (bytes y : List ℕ) → (native_in bytes).packet ≡ Some y → IsReached lab H r n (native b) (six to bytes) → Eases (six to bytes)
   answered None bytes y e h = by (eases_request t H (fields_in bytes)) refl where
     old : NodeLightens lab H r n (native b) (six None bytes)
-    old = native_lightens laws replies lab H r n b (six None bytes) h
+    old = native_lightens (record { back = laws; replies = replies }) lab H r n b (six None bytes) h
 
     by : (c : Bool) → eases_request t H (fields_in bytes) ≡ c → Eases (six None bytes)
     by false eased = plainly lab H r (six None bytes) eased old
@@ -103,7 +103,7 @@ module _ (laws : ReplyLaws) (replies : EachIsReply) (lab : Lab) (H : List Full) 
         let fell = old in
         omega (arith, after, before, a, c, fell)
   answered (Some k) bytes y e h =
-      let back = reads_back laws bytes y h.came.bytes h.came.short (replies bytes y e) in
+      let back = reads_back laws bytes y (record { bytes = h.came.bytes; short = h.came.short }) (replies bytes y e) in
       let few = small bytes y back (relay_for b y) in
       let most = eased_most t (r ∷ H) (six (relay_for b y) y) in
       let a = made_one (Some k) bytes y h e (eased_weight t (r ∷ H)) in

@@ -125,7 +125,7 @@ module _ (laws : RelayLaws) (d : AtRelay) (x : List ℕ) (g : IsGiven d x) where
   sent only next made =
       let packet = (goes_on only.out).well_formed in
       let trusted = lasting laws.peers d (went fate.Sent) p g.there next refl (sym (asked_trust packet) ∙ only.trusted) in
-      let new = own_weigh (weigh d) (λ (s : Send). packet_of d s.bytes) (own_of d) (armed d.H) 0 (send (embedded p) x ∷ []) [] made
+      let new = own_weigh (record { items = weigh d; sends = (λ (s : Send). packet_of d s.bytes); own = own_of d }) (armed d.H) 0 (send (embedded p) x ∷ []) [] made
       (packet_out only.out trusted) in
       let one = sum_by-cons (λ (s : Send). packet_of d s.bytes) (send (embedded p) x) [] in
       let less = touches (went fate.Sent) packet refl refl refl in
@@ -138,7 +138,7 @@ module _ (laws : RelayLaws) (d : AtRelay) (x : List ℕ) (g : IsGiven d x) where
       let peer = destination_is packet in
       let trusted = begun laws.peers d (went fate.SentCone) p (embedded p) g.there next
       (refl, ap (is_peer p) peer ∙ same_ip6-self p, refl, ap (option_map embedded) peer) in
-      let new = own_weigh (weigh d) (λ (s : Send). packet_of d s.bytes) (own_of d) (armed d.H) 0 (send (embedded p) x ∷ []) [] made
+      let new = own_weigh (record { items = weigh d; sends = (λ (s : Send). packet_of d s.bytes); own = own_of d }) (armed d.H) 0 (send (embedded p) x ∷ []) [] made
       (packet_out only.out trusted) in
       let one = sum_by-cons (λ (s : Send). packet_of d s.bytes) (send (embedded p) x) [] in
       let less = touches (went fate.SentCone) packet refl refl refl in

@@ -20,9 +20,7 @@ use Rattle.client_rules.specs.LateSources as client_late
 use Rattle.client_rules.proofs.PayloadPackets.{same_fields}
 use Rattle.client_rules.specs.Handed.{IsHanded, HandsOver as ClientHands, EachHanded}
 use Rattle.topology.specs.declared.client_node.ClientNode.{ClientNode}
-use Rattle.topology.specs.declared.node.Node.{Node}
-use Rattle.topology.specs.declared.node.Node.TheVariants.{Server as server, Nat as nat, Client as client, Relay as relay, Native as native}
-use Rattle.topology.specs.Topology.{node_at, client_at, as_client}
+use Rattle.topology.specs.declared.node.Node.TheVariants.{Client as client}
 use Rattle.history.specs.Full.{Item, udp, six, Full, wire}
 use Rattle.legal.specs.Lab.{Lab}
 use Rattle.legal.specs.Settings.{client_settings}
@@ -31,10 +29,11 @@ use Rattle.legal.specs.Emit.{part_of}
 use Rattle.legal.specs.Next.{input_of}
 use Rattle.legal.specs.Laws.{EachClientIsJournal}
 use Rattle.legal.specs.Legal.{Grown}
-use Rattle.legal.specs.Actors.{IsGiven, delivered, hosted, ticks, IsActOf, Acted, idles, does, EachActs}
+use Rattle.legal.specs.Actors.{IsGiven, delivered, hosted, ticks, IsActOf, EachActs}
 use Rattle.legal.specs.Routes.{Reaches, EachRoute}
 use Rattle.legal.proofs.MadeInputs.{entry_input}
-use Rattle.origins.specs.Handed.{HandsOver, IsBrought, EachIsBrought, EachLateHandedIsForeign}
+use Rattle.origins.specs.Handed.{IsBrought, EachIsBrought, EachLateHandedIsForeign}
+use Rattle.origins.proofs.Records.{OfClient, rests, acts, of_client}
 
 -- A CLIENT'S ENTRY
 
@@ -81,13 +80,6 @@ pub record BroughtLaws : Type 0 where
   pub routes : EachRoute
   pub clients : EachClientIsJournal
   pub handed : EachHanded
-
-pub is_client : (a : Node) (c : ClientNode) → as_client a ≡ Some c → a ≡ client c
-is_client (server x) c e = absurd (false≢true (ap (λ (o : Option ClientNode). is_some o) e))
-is_client (nat x) c e = absurd (false≢true (ap (λ (o : Option ClientNode). is_some o) e))
-is_client (client x) c e = ap (λ (o : Option ClientNode). client (unwrap_or o x)) e
-is_client (relay x) c e = absurd (false≢true (ap (λ (o : Option ClientNode). is_some o) e))
-is_client (native x) c e = absurd (false≢true (ap (λ (o : Option ClientNode). is_some o) e))
 
 abbrev is_arrived : Input → Bool
 is_arrived (arrived from x) = true
@@ -142,34 +134,27 @@ module _ (laws : BroughtLaws) (lab : Lab) (H : List Full) (r : Full) (n : ℕ) (
       by : (s : Settings) → e.input ≡ act.input → CameAs s (qualification s (journal n H)).address e.input e.step.handed x → IsBrought lab H r c x
       by s same (as_datagram from y is of) = of_given from y of act.dst act.input act.is_given (sym same ∙ is)
 
-  of_acted : Grown lab (r ∷ H) → Acted lab H r → HandsOver lab r n c x → IsBrought lab H r c x
-  of_acted g (idles entry address none late lets) o = absurd (false≢true (ap (λ (z : Option (List ℕ)). is_some z) (sym none ∙ o.packet)))
-  of_acted g (does k a e act) o =
-      let same : k ≡ n = ap (λ (p : Option ℕ). unwrap_or p k) (sym act.node ∙ o.node) in
-      let one : a ≡ client c = is_client a c (ap (option_and_then as_client) (sym act.there ∙ ap (node_at lab.topology) same) ∙ o.client) in
-      of_act e g (subst (λ (b : Node). IsActOf lab H r n b e) one (subst (λ (j : ℕ). IsActOf lab H r j a e) same act)) o.packet
+  of_record : Grown lab (r ∷ H) → OfClient lab H r n c → r.handed ≡ Some x → IsBrought lab H r c x
+  of_record g (rests address none late) hands = absurd (false≢true (ap (λ (z : Option (List ℕ)). is_some z) (sym none ∙ hands)))
+  of_record g (acts e act) hands = of_act e g act hands
 
 pub each_is_brought : BroughtLaws → EachIsBrought
-each_is_brought laws lab H r n c x g o = of_acted laws lab H r n c x g (laws.acts lab H r g.0) o
+each_is_brought laws lab H r n c x g o = of_record laws lab H r n c x g (of_client lab H r n c (laws.acts lab H r g.0) o.node o.client) o.packet
 
 -- WHAT IS HANDED OVER LATE
 
-late_of : client_late.EachLateIsForeign → EachClientIsJournal → (lab : Lab) (H : List Full) (r : Full) (n : ℕ) (c : ClientNode) (e : Entry)
-    → Grown lab (r ∷ H) → IsActOf lab H r n (client c) e → AllByRecursion (λ x. is_teredo (fields_in x).src ≡ false) r.late
-late_of law clients lab H r n c e g act =
-    let s : Settings = client_settings lab.topology c in
-    let is_j : IsJournal s (with_entry (journal n H) e) = subst (IsJournal s) act.later (clients lab (r ∷ H) n c g act.there).journal in
-    subst (AllByRecursion (λ x. is_teredo (fields_in x).src ≡ false)) (sym act.late) (law s (journal n H) e is_j)
+record LateLaws : Type 0 where
+  late : client_late.EachLateIsForeign
+  clients : EachClientIsJournal
 
-late_acted : client_late.EachLateIsForeign → EachClientIsJournal → (lab : Lab) (H : List Full) (r : Full) (n : ℕ) (c : ClientNode) → Grown lab (r ∷ H)
-    → Acted lab H r → r.node ≡ Some n → client_at lab.topology n ≡ Some c
+late_of : LateLaws → (lab : Lab) (H : List Full) (r : Full) (n : ℕ) (c : ClientNode) → Grown lab (r ∷ H) → OfClient lab H r n c
     → AllByRecursion (λ x. is_teredo (fields_in x).src ≡ false) r.late
-late_acted law clients lab H r n c g (idles entry address hands none lets) node there = subst (AllByRecursion (λ x. is_teredo (fields_in x).src ≡ false))
-    (sym none) tt
-late_acted law clients lab H r n c g (does k a e act) node there =
-    let same : k ≡ n = ap (λ (p : Option ℕ). unwrap_or p k) (sym act.node ∙ node) in
-    let one : a ≡ client c = is_client a c (ap (option_and_then as_client) (sym act.there ∙ ap (node_at lab.topology) same) ∙ there) in
-    late_of law clients lab H r n c e g (subst (λ (b : Node). IsActOf lab H r n b e) one (subst (λ (j : ℕ). IsActOf lab H r j a e) same act))
+late_of laws lab H r n c g (rests address hands none) = subst (AllByRecursion (λ x. is_teredo (fields_in x).src ≡ false)) (sym none) tt
+late_of laws lab H r n c g (acts e act) =
+    let s : Settings = client_settings lab.topology c in
+    let is_j : IsJournal s (with_entry (journal n H) e) = subst (IsJournal s) act.later (laws.clients lab (r ∷ H) n c g act.there).journal in
+    subst (AllByRecursion (λ x. is_teredo (fields_in x).src ≡ false)) (sym act.late) (laws.late s (journal n H) e is_j)
 
 pub each_late_is_foreign : client_late.EachLateIsForeign → EachClientIsJournal → EachActs → EachLateHandedIsForeign
-each_late_is_foreign law clients acts lab H r n c g node there = late_acted law clients lab H r n c g (acts lab H r g.0) node there
+each_late_is_foreign late clients acted lab H r n c g node there =
+    late_of (record { late = late; clients = clients }) lab H r n c g (of_client lab H r n c (acted lab H r g.0) node there)

@@ -1,7 +1,11 @@
+pub mod Records
 mod SentFrom
 pub mod SentOn
 pub mod Brought
+mod Brings
+mod Queued
 pub mod Carried
 pub mod Whence
+mod Inwards
 pub mod Live
 mod Throughout

@@ -58,10 +58,17 @@ no_global : is_global Strict no_ip ≡ false
 unfolding is_global
 no_global = refl
 
+-- node n has the address
+pub record Has (t : TopologyState) (n : ℕ) (ip : Ip4) : Type 0 where
+  pub node : Node
+  pub at : node_at t n ≡ Some node
+  pub has : has_address ip node ≡ true
+
 -- the address of a NAT that isn't there is nobody's
-nobody_has : SourceLaws → (t : TopologyState) (n : ℕ) (a : Node) (ip : Ip4) → IsTopology t → node_at t n ≡ Some a → has_address ip a ≡ true → ip ≡ no_ip → ⊥
-nobody_has laws t n a ip is at has same =
-    let global : is_global Strict ip ≡ true = any_all (λ (x : Ip4). is_global Strict x ≡ true) ip (addresses_of t) (laws.taken t n a ip at has) is.global in
+nobody_has : SourceLaws → (t : TopologyState) (n : ℕ) (ip : Ip4) → IsTopology t → Has t n ip → ip ≡ no_ip → ⊥
+nobody_has laws t n ip is x same =
+    let global : is_global Strict ip ≡ true = any_all (λ (y : Ip4). is_global Strict y ≡ true) ip (addresses_of t) (laws.taken t n x.node ip x.at x.has)
+    is.global in
     false≢true (sym no_global ∙ ap (is_global Strict) (sym same) ∙ global)
 
 -- A NODE'S OWN ADDRESSES
@@ -78,15 +85,13 @@ pub one_has : (ip : Ip4) → (same_ip ip ip || false) ≡ true
 one_has ip = ap (λ (b : Bool). b || false) (same_ip-self ip)
 
 -- the node that sends from an address is the one that has it
-pub same_node : AddressesAreApart → (t : TopologyState) (n k : ℕ) (a b : Node) (ip : Ip4) → IsTopology t → node_at t n ≡ Some a → node_at t k ≡ Some b
-    → has_address ip a ≡ true → has_address ip b ≡ true
-    → (n ≡ k) × (a ≡ b)
-same_node apart t n k a b ip is at to h g =
-    let same : n ≡ k = apart t n k a b ip is at to h g in
-    (same, ap (λ (o : Option Node). unwrap_or o a) (sym at ∙ ap (node_at t) same ∙ to))
+pub same_node : AddressesAreApart → (t : TopologyState) (n k : ℕ) (ip : Ip4) → IsTopology t → (x : Has t n ip) (y : Has t k ip) → (n ≡ k) × (x.node ≡ y.node)
+same_node apart t n k ip is x y =
+    let same : n ≡ k = apart t n k x.node y.node ip is x.at y.at x.has y.has in
+    (same, ap (λ (o : Option Node). unwrap_or o x.node) (sym x.at ∙ ap (node_at t) same ∙ y.at))
 
-sender : (lab : Lab) (r : Full) (n k : ℕ) (a b : Node) → n ≡ k → a ≡ b → IsSender lab r n a → IsSender lab r k b
-sender lab r n k a b same one s = subst (λ (m : ℕ). IsSender lab r m b) same (subst (λ (x : Node). IsSender lab r n x) one s)
+sender : (lab : Lab) (r : Full) (n k : ℕ) (a b : Node) → (n ≡ k) × (a ≡ b) → IsSender lab r n a → IsSender lab r k b
+sender lab r n k a b one s = subst (λ (m : ℕ). IsSender lab r m b) one.0 (subst (λ (x : Node). IsSender lab r n x) one.1 s)
 
 -- WHERE A WAY OUT ENDS
 
@@ -98,24 +103,35 @@ abbrev is_ep : Result Ep NatRefusal → Bool
 is_ep (Ok e) = true
 is_ep (Err why) = false
 
-leaves_last : (t : TopologyState) (h : NatPasts) (m : ℕ) (dst : Ep) (k : ℕ) (way : List ℕ) (from : Ep) (passed : List Passing) (e : Ep)
-    → (crossing t h m dst (k ∷ way) from passed).leaves ≡ Ok e → e.ip ≡ (nat_set_up t (last_nat k way)).external
-leaves_last t h m dst k [] from passed e is = by (nat_answer (nat_set_up t k) (after_passing passed h k) m from dst) is where
-  by : (r : Result ℕ NatRefusal) → (answered t m k from dst passed (crossing t h m dst []) r).leaves ≡ Ok e → e.ip ≡ (nat_set_up t k).external
+-- a datagram on its way out through NATs, which have pasts
+record Outward : Type 0 where
+  rows : TopologyState
+  pasts : NatPasts
+  moment : ℕ
+  to : Ep
+
+abbrev leaving : Outward → List ℕ → Ep → List Passing → Result Ep NatRefusal
+leaving o way from passed = (crossing o.rows o.pasts o.moment o.to way from passed).leaves
+
+leaves_last : (o : Outward) (k : ℕ) (way : List ℕ) (from : Ep) (passed : List Passing) (e : Ep) → leaving o (k ∷ way) from passed ≡ Ok e
+    → e.ip ≡ (nat_set_up o.rows (last_nat k way)).external
+leaves_last o k [] from passed e is = by (nat_answer (nat_set_up o.rows k) (after_passing passed o.pasts k) o.moment from o.to) is where
+  by : (r : Result ℕ NatRefusal) → (answered o.rows o.moment k from o.to passed (crossing o.rows o.pasts o.moment o.to []) r).leaves ≡ Ok e
+      → e.ip ≡ (nat_set_up o.rows k).external
   by (Ok port) g = sym (ap (ip_or e.ip) g)
   by (Err why) g = absurd (false≢true (ap is_ep g))
-leaves_last t h m dst k (j ∷ way) from passed e is = by (nat_answer (nat_set_up t k) (after_passing passed h k) m from dst) is
-    (λ (f : Ep) (ps : List Passing). leaves_last t h m dst j way f ps e) where
-      by : (r : Result ℕ NatRefusal) → (answered t m k from dst passed (crossing t h m dst (j ∷ way)) r).leaves ≡ Ok e
-          → ((f : Ep) (ps : List Passing) → (crossing t h m dst (j ∷ way) f ps).leaves ≡ Ok e → e.ip ≡ (nat_set_up t (last_nat j way)).external)
-          → e.ip ≡ (nat_set_up t (last_nat j way)).external
-      by (Ok port) g ih = ih (record { ip = (nat_set_up t k).external; port = port }) (passing k m from dst port ∷ passed) g
+leaves_last o k (j ∷ way) from passed e is = by (nat_answer (nat_set_up o.rows k) (after_passing passed o.pasts k) o.moment from o.to) is
+    (λ (f : Ep) (ps : List Passing). leaves_last o j way f ps e) where
+      by : (r : Result ℕ NatRefusal) → (answered o.rows o.moment k from o.to passed (crossing o.rows o.pasts o.moment o.to (j ∷ way)) r).leaves ≡ Ok e
+          → ((f : Ep) (ps : List Passing) → leaving o (j ∷ way) f ps ≡ Ok e → e.ip ≡ (nat_set_up o.rows (last_nat j way)).external)
+          → e.ip ≡ (nat_set_up o.rows (last_nat j way)).external
+      by (Ok port) g ih = ih (record { ip = (nat_set_up o.rows k).external; port = port }) (passing k o.moment from o.to port ∷ passed) g
       by (Err why) g ih = absurd (false≢true (ap is_ep g))
 
 -- a client's datagram leaves at the address of its outermost NAT
 pub leaves_at : (lab : Lab) (H : List Full) (m : ℕ) (c : ClientNode) (dst src : Ep) → Leaves lab H m c dst src
     → src.ip ≡ (nat_set_up lab.topology (outermost lab c)).external
-leaves_at lab H m c dst src l = leaves_last lab.topology (nat_pasts lab H) m dst c.nat
+leaves_at lab H m c dst src l = leaves_last (record { rows = lab.topology; pasts = nat_pasts lab H; moment = m; to = dst }) c.nat
     (nats_from lab.chain lab.chain (outer_in lab.chain c.nat)) c.inside l.before src l.leaves
 
 -- that NAT, if there is one
@@ -134,16 +150,15 @@ whose t k ip same = by (node_at t k) refl same where
   by (Some (native a)) e s = of_nobody s
 
 -- the node that has the address of a client's datagram is that NAT
-pub nat_has : SourceLaws → (lab : Lab) (H : List Full) (m : ℕ) (c : ClientNode) (dst src : Ep) (n : ℕ) (b : Node) → IsTopology lab.topology
-    → Leaves lab H m c dst src → node_at lab.topology n ≡ Some b → has_address src.ip b ≡ true
-    → (row : NatNode) × (outermost lab c ≡ n) × (nat row ≡ b)
-nat_has laws lab H m c dst src n b is l at has = by (whose lab.topology (outermost lab c) src.ip (leaves_at lab H m c dst src l)) where
-  by : WhoseAddress lab.topology (outermost lab c) src.ip → (row : NatNode) × (outermost lab c ≡ n) × (nat row ≡ b)
+pub nat_has : SourceLaws → (lab : Lab) (c : ClientNode) (ip : Ip4) (n : ℕ) → IsTopology lab.topology
+    → ip ≡ (nat_set_up lab.topology (outermost lab c)).external → (x : Has lab.topology n ip) → (row : NatNode) × (outermost lab c ≡ n) × (nat row ≡ x.node)
+nat_has laws lab c ip n is external x = by (whose lab.topology (outermost lab c) ip external) where
+  by : WhoseAddress lab.topology (outermost lab c) ip → (row : NatNode) × (outermost lab c ≡ n) × (nat row ≡ x.node)
   by (of_nat row there same) =
-      let one = same_node laws.apart lab.topology (outermost lab c) n (nat row) b src.ip is there at
-      (subst (λ (ip : Ip4). has_address ip (nat row) ≡ true) (sym same) (one_has row.external)) has in
+      let has = subst (λ (z : Ip4). has_address z (nat row) ≡ true) (sym same) (one_has row.external) in
+      let one = same_node laws.apart lab.topology (outermost lab c) n ip is (record { node = nat row; at = there; has = has }) x in
       (row, one.0, one.1)
-  by (of_nobody none) = absurd (nobody_has laws lab.topology n b src.ip is at has none)
+  by (of_nobody none) = absurd (nobody_has laws lab.topology n ip is x none)
 
 -- ENTRIES
 
@@ -155,14 +170,14 @@ own_source : SourceLaws → (lab : Lab) (H : List Full) (r : Full) (x : Item) �
 own_source laws lab H r x is honest (from_nowhere src dst bytes forged e) = subst (HasOwnSource lab r) (sym e) (λ n a at has.
     absurd (false≢true (sym (untaken lab.topology H src dst bytes r.asked forged honest) ∙ laws.taken lab.topology n a src.ip at has)))
 own_source laws lab H r x is honest (by_server k a e s act c same) = subst (HasOwnSource lab r) (sym same) (λ n b at has.
-    let one = same_node laws.apart lab.topology k n (server a) b (own_ep (server a) s.side).ip is act.there at (server_has a s.side) has in
-    sender lab r k n (server a) b one.0 one.1 act.node)
+    sender lab r k n (server a) b (same_node laws.apart lab.topology k n (own_ep (server a) s.side).ip is
+    (record { node = server a; at = act.there; has = server_has a s.side }) (record { node = b; at = at; has = has })) act.node)
 own_source laws lab H r x is honest (by_relay k a e s act c same) = subst (HasOwnSource lab r) (sym same) (λ n b at has.
-    let one = same_node laws.apart lab.topology k n (relay a) b a.at.ip is act.there at (one_has a.at.ip) has in
-    sender lab r k n (relay a) b one.0 one.1 act.node)
+    sender lab r k n (relay a) b (same_node laws.apart lab.topology k n a.at.ip is
+    (record { node = relay a; at = act.there; has = one_has a.at.ip }) (record { node = b; at = at; has = has })) act.node)
 own_source laws lab H r x is honest (by_client k c e s src act held leaves same) = subst (HasOwnSource lab r) (sym same) (λ n b at has.
-    let one = nat_has laws lab H r.moment c s.to src n b is leaves at has in
-    sender lab r (outermost lab c) n (nat one.0) b one.1 one.2
+    let one = nat_has laws lab c src.ip n is (leaves_at lab H r.moment c s.to src leaves) (record { node = b; at = at; has = has }) in
+    sender lab r (outermost lab c) n (nat one.0) b (one.1, one.2)
     (record { number = k; row = c; node = act.node; client = as_client_at lab.topology k c act.there; nat = refl }))
 own_source laws lab H r x is honest (by_native k h e bytes act p same) = subst (HasOwnSource lab r) (sym same) tt
 own_source laws lab H r x is honest (to_six k a e from bytes span act i p same) = subst (HasOwnSource lab r) (sym same) tt

@@ -20,15 +20,12 @@ use Rattle.relay_rules.specs.ForeignSends.{IsForeignSend, EachSendIsForeign}
 use Rattle.topology.specs.declared.server_node.ServerNode.{ServerNode}
 use Rattle.topology.specs.declared.node.Node.{Node}
 use Rattle.topology.specs.declared.node.Node.TheVariants.{Server as server, Relay as relay}
-use Rattle.topology.specs.Rules.{IsTopology}
 use Rattle.topology.specs.Topology.{side_at, own_ep}
 use Rattle.topology.specs.NodeRules.{IsServerNode, IsRelayNode, EachNodeKeepsRules}
 use Rattle.history.specs.Full.{Item, Full, wire, items_of}
-use Rattle.legal.specs.Lab.{Lab}
 use Rattle.legal.specs.Settings.{server_settings, relay_settings}
 use Rattle.legal.specs.Past.{journal}
 use Rattle.legal.specs.Emit.{entry_of}
-use Rattle.legal.specs.Legal.{Grown}
 use Rattle.legal.specs.Laws.{EachRelayIsJournal}
 use Rattle.legal.specs.Actors.{IsActOf}
 use Rattle.legal.specs.Makers.{MadeBy, from_nowhere, by_server, by_relay, by_client, by_native, to_six, EachItemIsMade}
@@ -37,17 +34,17 @@ use Rattle.legal.proofs.MadeInputs.{entry_input}
 use Rattle.legal.proofs.ItemsMade.{all_joined}
 use Rattle.origins.specs.Honest.{is_honest_event, are_honest}
 use Rattle.origins.specs.Senders.{EntryTellsWhereTo, EachEntryTellsWhereTo, forged, sent_by, ComesFromClient, EachComesFromClient}
-use Rattle.origins.proofs.SentFrom.{SourceLaws, untaken, same_node, one_has, nat_has, all_weaker}
+use Rattle.origins.proofs.Records.{Latest}
+use Rattle.origins.proofs.SentFrom.{SourceLaws, untaken, same_node, one_has, leaves_at, nat_has, all_weaker}
 
 -- what a node was given, and all before, is made
 pub record IsMadeAct (H : List Full) (n : ℕ) (e : Entry) : Type 0 where
   pub input : IsMadeInput e.input
   pub before : AreMadeInputs (journal n H).entries
 
-pub act_made : EachHistoryIsMade → (lab : Lab) (H : List Full) (r : Full) (n : ℕ) (a : Node) (e : Entry) → IsTopology lab.topology → Grown lab (r ∷ H)
-    → IsActOf lab H r n a e → IsMadeAct H n e
-act_made law lab H r n a e is g act =
-    let all : AreMadeInputs (journal n (r ∷ H)).entries = (law lab (r ∷ H) is g).journals n in
+pub act_made : EachHistoryIsMade → (l : Latest) (n : ℕ) (a : Node) (e : Entry) → IsActOf l.lab l.before l.full n a e → IsMadeAct l.before n e
+act_made law l n a e act =
+    let all : AreMadeInputs (journal n (l.full ∷ l.before)).entries = (law l.lab (l.full ∷ l.before) l.is l.grown).journals n in
     let both = subst (λ (j : Journal). AreMadeInputs j.entries) act.later all in
     record { input = both.0; before = both.1 }
 
@@ -59,24 +56,36 @@ nothing_in s c = let within = c.1 in omega (arith, within)
 pub one_of : (P : Send → Type 0) (xs : List Send) (s : Send) → AllByRecursion P xs → Contains xs s → P s
 one_of P xs s a c = All-contains P xs s (All-from_recursion P xs a) c
 
--- what holds of all that a server sends for a datagram holds of each of its sends
-of_server : (P : Ep → Send → Type 0) (lab : Lab) (H : List Full) (m n : ℕ) (dst : Ep) (input : Input) (a : ServerNode) (s : Send) → IsMadeInput input
-    → ((side : Side) (from : Ep) (x : List ℕ) → IsMadeInput (arrived from x) → AllByRecursion (P from) (row.server_row (server_settings a) side from x).sends)
-    → Contains (entry_of lab H m n dst input (server a)).step.sends s → (from : Ep) × P from s
-of_server P lab H m n dst (arrived from x) a s made each c =
-    (from, one_of (P from) (row.server_row (server_settings a) (side_at (server a) dst) from x).sends s (each (side_at (server a) dst) from x made) c)
-of_server P lab H m n dst (given x) a s made each c = absurd (nothing_in s c)
-of_server P lab H m n dst (from_six x) a s made each c = absurd (nothing_in s c)
-of_server P lab H m n dst ticked a s made each c = absurd (nothing_in s c)
+-- what holds of all that a server sends for a datagram
+abbrev OfAnswers : (Ep → Send → Type 0) → ServerNode → Type 0
+OfAnswers P a = (side : Side) (from : Ep) (x : List ℕ) → IsMadeInput (arrived from x) → AllByRecursion (P from)
+    (row.server_row (server_settings a) side from x).sends
 
-by_act : (P : Ep → Send → Type 0) → EachHistoryIsMade → (lab : Lab) (H : List Full) (r : Full) (n : ℕ) (a : ServerNode) (e : Entry) (s : Send)
-    → IsTopology lab.topology → Grown lab (r ∷ H) → IsActOf lab H r n (server a) e
-    → ((side : Side) (from : Ep) (x : List ℕ) → IsMadeInput (arrived from x) → AllByRecursion (P from) (row.server_row (server_settings a) side from x).sends)
-    → Contains e.step.sends s → (from : Ep) × P from s
-by_act P law lab H r n a e s is g act each c =
-    let same : e.input ≡ act.input = ap (λ (z : Entry). z.input) act.step ∙ entry_input lab H r.moment n act.dst act.input (server a) in
-    let made = subst IsMadeInput same (act_made law lab H r n (server a) e is g act).input in
-    of_server P lab H r.moment n act.dst act.input a s made each (subst (λ (z : Entry). Contains z.step.sends s) act.step c)
+-- the latest record is a server's, which sends this in it
+record ServerSends (l : Latest) (a : ServerNode) (s : Send) : Type 0 where
+  number : ℕ
+  entry : Entry
+  act : IsActOf l.lab l.before l.full number (server a) entry
+  sent : Contains entry.step.sends s
+
+-- holds of each of its sends
+by_act : (P : Ep → Send → Type 0) → EachHistoryIsMade → (l : Latest) (a : ServerNode) (s : Send) (d : ServerSends l a s) → OfAnswers P a
+    → (from : Ep) × P from s
+by_act P law l a s d each = by d.act.input (subst IsMadeInput same (act_made law l d.number (server a) d.entry d.act).input)
+    (subst (λ (z : Entry). Contains z.step.sends s) d.act.step d.sent) where
+      same : d.entry.input ≡ d.act.input
+      same = ap (λ (z : Entry). z.input) d.act.step ∙ entry_input l.lab l.before l.full.moment d.number d.act.dst d.act.input (server a)
+
+      by : (input : Input) → IsMadeInput input → Contains (entry_of l.lab l.before l.full.moment d.number d.act.dst input (server a)).step.sends s
+          → (from : Ep) × P from s
+      by (arrived from x) made c = (
+        from,
+        one_of (P from) (row.server_row (server_settings a) (side_at (server a) d.act.dst) from x).sends s
+            (each (side_at (server a) d.act.dst) from x made) c,
+      )
+      by (given x) made c = absurd (nothing_in s c)
+      by (from_six x) made c = absurd (nothing_in s c)
+      by ticked made c = absurd (nothing_in s c)
 
 -- WHERE ADVERTISEMENTS GO
 
@@ -90,28 +99,31 @@ abbrev is_server : Node → Bool
 is_server (server a) = true
 is_server _ = false
 
-tells : TellLaws → (lab : Lab) (H : List Full) (r : Full) (x : Item) → IsTopology lab.topology → Grown lab (r ∷ H)
-    → is_honest_event lab.topology r.asked ≡ true → MadeBy lab H r x → EntryTellsWhereTo lab x
-tells laws lab H r x is g honest (from_nowhere src dst bytes forges same) = subst (EntryTellsWhereTo lab) (sym same) (λ n a at has auth.
-    absurd (false≢true (sym (untaken lab.topology H src dst bytes r.asked forges honest) ∙ laws.sources.taken lab.topology n (server a) src.ip at has)))
-tells laws lab H r x is g honest (by_server k b e s act c same) = subst (EntryTellsWhereTo lab) (sym same) (λ n a at has auth.
-    let keeps : IsServerNode b = laws.rules lab.topology k (server b) is act.there in
-    let one = by_act (λ from z. server_laws.TellsWhereTo z) laws.made lab H r k b e s is g act
-    (λ side from y h. laws.tells (server_settings b) side from y keeps.primary.made h.0 h.1) c in
+tells : TellLaws → (l : Latest) (x : Item) → is_honest_event l.lab.topology l.full.asked ≡ true → MadeBy l.lab l.before l.full x → EntryTellsWhereTo l.lab x
+tells laws l x honest (from_nowhere src dst bytes forges same) = subst (EntryTellsWhereTo l.lab) (sym same) (λ n a at has auth.
+    absurd (false≢true (sym (untaken l.lab.topology l.before src dst bytes l.full.asked forges honest) ∙ laws.sources.taken l.lab.topology n (server a) src.ip
+    at has)))
+tells laws l x honest (by_server k b e s act c same) = subst (EntryTellsWhereTo l.lab) (sym same) (λ n a at has auth.
+    let keeps : IsServerNode b = laws.rules l.lab.topology k (server b) l.is act.there in
+    let one = by_act (λ from z. server_laws.TellsWhereTo z) laws.made l b s (record { number = k; entry = e; act = act; sent = c })
+    (λ side from y h. laws.tells (server_settings b) side from y keeps.primary.made h.0 h.1) in
     one.1.origin auth)
-tells laws lab H r x is g honest (by_relay k b e s act c same) = subst (EntryTellsWhereTo lab) (sym same) (λ n a at has auth.
-    absurd (false≢true (ap is_server ((same_node laws.sources.apart lab.topology k n (relay b) (server a) b.at.ip is act.there at (one_has b.at.ip) has).1))))
-tells laws lab H r x is g honest (by_client k b e s src act held leaves same) = subst (EntryTellsWhereTo lab) (sym same) (λ n a at has auth.
-    absurd (false≢true (ap is_server ((nat_has laws.sources lab H r.moment b s.to src n (server a) is leaves at has).2))))
-tells laws lab H r x is g honest (by_native k h e bytes act p same) = subst (EntryTellsWhereTo lab) (sym same) tt
-tells laws lab H r x is g honest (to_six k a e from bytes span act i p same) = subst (EntryTellsWhereTo lab) (sym same) tt
+tells laws l x honest (by_relay k b e s act c same) = subst (EntryTellsWhereTo l.lab) (sym same) (λ n a at has auth.
+    absurd (false≢true (ap is_server (same_node laws.sources.apart l.lab.topology k n b.at.ip l.is
+    (record { node = relay b; at = act.there; has = one_has b.at.ip }) (record { node = server a; at = at; has = has })).1)))
+tells laws l x honest (by_client k b e s src act held leaves same) = subst (EntryTellsWhereTo l.lab) (sym same) (λ n a at has auth.
+    absurd (false≢true (ap is_server (nat_has laws.sources l.lab b src.ip n l.is (leaves_at l.lab l.before l.full.moment b s.to src leaves)
+    (record { node = server a; at = at; has = has })).2)))
+tells laws l x honest (by_native k h e bytes act p same) = subst (EntryTellsWhereTo l.lab) (sym same) tt
+tells laws l x honest (to_six k a e from bytes span act i p same) = subst (EntryTellsWhereTo l.lab) (sym same) tt
 
 pub each_tells : TellLaws → EachEntryTellsWhereTo
 each_tells laws lab [] is g honest = tt
 each_tells laws lab (r ∷ H) is g honest =
     let both = and_parts (is_honest_event lab.topology r.asked) (are_honest lab.topology H) honest in
     all_joined (EntryTellsWhereTo lab) (wire H) (items_of r) (each_tells laws lab H is g.1 both.1)
-    (all_weaker (MadeBy lab H r) (EntryTellsWhereTo lab) (items_of r) (λ x m. tells laws lab H r x is g both.0 m) (laws.sources.made lab H r g))
+    (all_weaker (MadeBy lab H r) (EntryTellsWhereTo lab) (items_of r) (λ x m. tells laws (record { lab = lab; before = H; full = r; is = is; grown = g }) x
+    both.0 m) (laws.sources.made lab H r g))
 
 -- WHOSE PACKETS COME FROM WHERE THEY SAY
 
@@ -131,28 +143,29 @@ own_is_own a Secondary = by (same_ip a.secondary a.primary) (same_ip a.secondary
   by true c h = refl
   by false c h = h
 
-comes : ComeLaws → (lab : Lab) (H : List Full) (r : Full) (x : Item) → IsTopology lab.topology → Grown lab (r ∷ H) → MadeBy lab H r x
-    → ComesFromClient lab H r x
-comes laws lab H r x is g (from_nowhere src dst bytes forges same) = subst (ComesFromClient lab H r) (sym same) (λ teredo embeds. forged forges)
-comes laws lab H r x is g (by_server k b e s act c same) = subst (ComesFromClient lab H r) (sym same) (λ teredo embeds.
-    let keeps : IsServerNode b = laws.rules lab.topology k (server b) is act.there in
-    let one = by_act (IsFromClient (server_settings b)) laws.made lab H r k b e s is g act
-    (λ side from y h. laws.from_clients (server_settings b) side from y keeps.primary.made h.0 h.1) c in
+comes : ComeLaws → (l : Latest) (x : Item) → MadeBy l.lab l.before l.full x → ComesFromClient l.lab l.before l.full x
+comes laws l x (from_nowhere src dst bytes forges same) = subst (ComesFromClient l.lab l.before l.full) (sym same) (λ teredo embeds. forged forges)
+comes laws l x (by_server k b e s act c same) = subst (ComesFromClient l.lab l.before l.full) (sym same) (λ teredo embeds.
+    let keeps : IsServerNode b = laws.rules l.lab.topology k (server b) l.is act.there in
+    let one = by_act (IsFromClient (server_settings b)) laws.made l b s (record { number = k; entry = e; act = act; sent = c })
+    (λ side from y h. laws.from_clients (server_settings b) side from y keeps.primary.made h.0 h.1) in
     let from_own : one.0 ≡ own_ep (server b) s.side = one.1.embeds teredo ∙ sym embeds in
     absurd (false≢true (sym one.1.elsewhere ∙ ap (λ (z : Ep). is_own (server_settings b) z.ip) from_own ∙ own_is_own b s.side)))
-comes laws lab H r x is g (by_relay k b e s act c same) = subst (ComesFromClient lab H r) (sym same) (λ teredo embeds.
-    let keeps : IsRelayNode b = laws.rules lab.topology k (relay b) is act.there in
-    let made = act_made laws.made lab H r k (relay b) e is g act in
-    let j = (laws.relays lab (r ∷ H) k b g act.there).journal in
-    let is_j = subst (λ (z : Journal). IsRelayJournal (relay_settings lab.topology k b) z.entries) act.later j in
-    let all = laws.foreign (relay_settings lab.topology k b) (journal k H).entries e is_j
+comes laws l x (by_relay k b e s act c same) = subst (ComesFromClient l.lab l.before l.full) (sym same) (λ teredo embeds.
+    let t = l.lab.topology in
+    let keeps : IsRelayNode b = laws.rules t k (relay b) l.is act.there in
+    let made = act_made laws.made l k (relay b) e act in
+    let j = (laws.relays l.lab (l.full ∷ l.before) k b l.grown act.there).journal in
+    let is_j = subst (λ (z : Journal). IsRelayJournal (relay_settings t k b) z.entries) act.later j in
+    let all = laws.foreign (relay_settings t k b) (journal k l.before).entries e is_j
     (record { six = keeps.six; native = keeps.outside.other }) made.input made.before in
     let one = one_of IsForeignSend e.step.sends s all c in
     absurd (false≢true (sym one.foreign ∙ teredo)))
-comes laws lab H r x is g (by_client k b e s src act held leaves same) = subst (ComesFromClient lab H r) (sym same)
+comes laws l x (by_client k b e s src act held leaves same) = subst (ComesFromClient l.lab l.before l.full) (sym same)
     (λ teredo embeds. sent_by k b e s act held leaves refl refl)
-comes laws lab H r x is g (by_native k h e bytes act p same) = subst (ComesFromClient lab H r) (sym same) tt
-comes laws lab H r x is g (to_six k a e from bytes span act i p same) = subst (ComesFromClient lab H r) (sym same) tt
+comes laws l x (by_native k h e bytes act p same) = subst (ComesFromClient l.lab l.before l.full) (sym same) tt
+comes laws l x (to_six k a e from bytes span act i p same) = subst (ComesFromClient l.lab l.before l.full) (sym same) tt
 
 pub each_comes : ComeLaws → EachComesFromClient
-each_comes laws lab H r is g = all_weaker (MadeBy lab H r) (ComesFromClient lab H r) (items_of r) (λ x m. comes laws lab H r x is g m) (laws.items lab H r g)
+each_comes laws lab H r is g = all_weaker (MadeBy lab H r) (ComesFromClient lab H r) (items_of r)
+    (λ x m. comes laws (record { lab = lab; before = H; full = r; is = is; grown = g }) x m) (laws.items lab H r g)

@@ -15,7 +15,7 @@ use Rattle.origins.specs.Handed.{EachIsBrought, EachLateHandedIsForeign}
 use Rattle.origins.specs.Origin.{EachHasOrigin}
 use Rattle.origins.specs.Live.{EachIsLive}
 use Rattle.origins.specs.Throughout.{HistoriesHaveOrigins, ScenariosHaveOrigins, HonestScenarios}
-use Rattle.origins.proofs.Carried.{earlier}
+use Rattle.settled.proofs.Earlier.{earlier}
 
 pub histories : EachIsBrought → EachLateHandedIsForeign → EachHasOrigin → EachIsLive → HistoriesHaveOrigins
 histories came late origin live lab H is g later r before split =

@@ -30,9 +30,12 @@ use Rattle.origins.specs.Senders.{IsForgedOrClients, forged, sent_by, ComesFromC
 use Rattle.origins.specs.Handed.{IsBrought}
 use Rattle.origins.specs.Origin as origin
 use Rattle.origins.specs.Origin.{PutsFrom, HasOrigin, EachHasOrigin}
+use Rattle.settled.proofs.Earlier.{earlier}
+use Rattle.origins.proofs.Records.{Latest}
 use Rattle.origins.proofs.SentFrom.{leaves_at}
 use Rattle.origins.proofs.SentOn.{one_of}
-use Rattle.origins.proofs.Carried.{OriginLaws, earlier, Brings, is_j, of_sending}
+use Rattle.origins.proofs.Brings.{Brings}
+use Rattle.origins.proofs.Carried.{OriginLaws, is_j, of_sending}
 
 -- THE MAKER
 
@@ -79,9 +82,10 @@ module _ (laws : OriginLaws) (lab : Lab) (H : List Full) (r : Full) (c : ClientN
   of_client (forged f) =
       origin.put one.later one.earlier one.maker one.makes (puts one.earlier came.src came.dst (embedded (fields_in x).src) came.bytes one.maker.asked f embeds)
   of_client (sent_by n b e s act held leaves to same) =
-      let journal_is = is_j laws lab one.earlier one.maker n b e s is grown act in
+      let latest : Latest = record { lab = lab; before = one.earlier; full = one.maker; is = is; grown = grown } in
+      let journal_is = is_j laws latest n b e s act in
       let sending = one_of _ e.step.sends s (laws.sends (client_settings lab.topology b) (journal n one.earlier) e journal_is) held in
-      let handed = of_sending laws lab one.earlier one.maker n b e s is grown act x (brings s to same) sending in
+      let handed = of_sending laws latest n b e s act x (brings s to same) sending in
       origin.sent_by one.later one.earlier one.maker one.makes n b (as_client_at lab.topology n b act.there) act.node came.dst came.bytes
       (came.datagram ∙ ap (λ (z : Ep). Some (udp z came.dst came.bytes)) embeds)
       (ap (λ (z : Ep). z.ip) (sym embeds) ∙ leaves_at lab one.earlier one.maker.moment b s.to came.src leaves) handed

@@ -22,12 +22,14 @@ use Rattle.legal.specs.Actors.{IsActOf, Acted, idles, does}
 use Rattle.settled.specs.Clients.{standing}
 use Rattle.verdicts.specs.Undisturbed.{is_seen, starts}
 use Rattle.verdicts.proofs.Members.{Has, none_has}
-use Rattle.verdicts.proofs.Views.{counts_in, IsUnseen}
+use Rattle.verdicts.proofs.Opened.{IsUnseen}
+use Rattle.verdicts.proofs.Views.{counts_in}
 use Rattle.verdicts.proofs.Sound.{IsSoundIn}
 use Rattle.verdicts.proofs.Entries.{IsFirst, first_cone, first_restricted, phase_first, is_first}
 use Rattle.verdicts.proofs.Outs.{none_out}
 use Rattle.verdicts.proofs.LetIn.{view_of}
-use Rattle.verdicts.proofs.Steps.{VerdictLaws, IsSound, IsCalm, Scene, own_record, left_alone, of_client}
+use Rattle.verdicts.proofs.Scenes.{VerdictLaws, IsSound, IsCalm, Scene}
+use Rattle.verdicts.proofs.Steps.{own_record, left_alone, of_client}
 
 -- A START
 

@@ -13,10 +13,11 @@ use Rattle.legal.specs.Lab.{Lab}
 use Rattle.settled.specs.Clients.{standing, address_in, nat_behind, is_symmetric}
 use Rattle.settled.specs.Settled.{IsSettled}
 use Rattle.verdicts.specs.Right.{IsRight, IsRightWithoutCone}
-use Rattle.verdicts.proofs.Views.{NatLaws, IsPastOf, held_open, let_in_open}
+use Rattle.verdicts.proofs.Opened.{held_open, let_in_open}
+use Rattle.verdicts.proofs.Views.{NatLaws, IsPastOf}
 use Rattle.verdicts.proofs.Sound.{IsGoodAddress, GoodAddress, IsSoundIn}
 use Rattle.verdicts.proofs.LetIn.{view_of}
-use Rattle.verdicts.proofs.Steps.{IsSound}
+use Rattle.verdicts.proofs.Scenes.{IsSound}
 
 -- a client has an address in one phase alone
 is_phase : (ph : Phase) → is_qualified ph ≡ true → ph ≡ Qualified

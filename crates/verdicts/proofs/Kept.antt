@@ -114,23 +114,32 @@ latest_at s (Out x ∷ h) inside dst e i f = by (is_out_to inside dst (Out x)) f
   by true g ih = let one : x.moment.0 ≡ e.moment.0 = ap (λ (z : Entry). (out_or x z).moment.0) (some_out e (Out x) g) in omega (arith, one)
   by false g ih = let before = ih g in let later = i.0 in omega (arith, before, later)
 
--- where a datagram of an inside endpoint is kept, its latest one to an endpoint is, if it is later
-pub later_kept : (s : NatSettings) (h : List Entry) (inside dst : Ep) (d e : Outward) → IsHistory s h → Has (kept h) d → d.inside ≡ inside
-    → find (is_out_to inside dst) h ≡ Some (Out e) → e.inside ≡ inside → d.moment.0 < e.moment.0 → Has (kept h) e
-later_kept s [] inside dst d e i k left f to lt = absurd k
-later_kept s (Restart ∷ h) inside dst d e i k left f to lt = absurd k
-later_kept s (Forget who ∷ h) inside dst d e i k left f to lt =
-    let both = filtered_has (λ (x : Outward). not (same_ep x.inside who)) (kept h) d k in
-    has_filtered (λ (x : Outward). not (same_ep x.inside who)) (kept h) e (later_kept s h inside dst d e i both.0 left f to lt)
-    (ap (λ (x : Ep). not (same_ep x who)) (to ∙ sym left) ∙ both.1)
-later_kept s (Out x ∷ h) inside dst d e i k left f to lt = by (is_out_to inside dst (Out x)) f k
-    (λ g old. later_kept s h inside dst d e i.2 old left g to lt) where
-      by : (b : Bool) → cond b (Some (Out x)) (find (is_out_to inside dst) h) ≡ Some (Out e) → Has (x ∷ kept h) d
-          → (find (is_out_to inside dst) h ≡ Some (Out e) → Has (kept h) d → Has (kept h) e) → Has (x ∷ kept h) e
-      by true g old ih = inl (ap (out_or x) (some_out e (Out x) g))
-      by false g (inl same) ih =
-          let before = latest_at s h inside dst e i.2 g in
-          let later = i.0 in
-          let one : x.moment.0 ≡ d.moment.0 = ap (λ (z : Outward). z.moment.0) same in
-          absurd (omega (arith, before, later, one, lt))
-      by false g (inr old) ih = inr (ih g old)
+-- two datagrams of an inside endpoint, one later than the other
+pub record TwoSent : Type 0 where
+  pub inside : Ep
+  pub first : Outward
+  pub second : Outward
+  pub left : first.inside ≡ inside
+  pub left_too : second.inside ≡ inside
+  pub later : first.moment.0 < second.moment.0
+
+-- where the first is kept, so is the second if it is the latest one to an endpoint
+pub later_kept : (s : NatSettings) (h : List Entry) (dst : Ep) (t : TwoSent) → IsHistory s h → Has (kept h) t.first
+    → find (is_out_to t.inside dst) h ≡ Some (Out t.second) → Has (kept h) t.second
+later_kept s [] dst t i k f = absurd k
+later_kept s (Restart ∷ h) dst t i k f = absurd k
+later_kept s (Forget who ∷ h) dst t i k f =
+    let both = filtered_has (λ (x : Outward). not (same_ep x.inside who)) (kept h) t.first k in
+    has_filtered (λ (x : Outward). not (same_ep x.inside who)) (kept h) t.second (later_kept s h dst t i both.0 f)
+    (ap (λ (x : Ep). not (same_ep x who)) (t.left_too ∙ sym t.left) ∙ both.1)
+later_kept s (Out x ∷ h) dst t i k f = by (is_out_to t.inside dst (Out x)) f k (λ g old. later_kept s h dst t i.2 old g) where
+  by : (b : Bool) → cond b (Some (Out x)) (find (is_out_to t.inside dst) h) ≡ Some (Out t.second) → Has (x ∷ kept h) t.first
+      → (find (is_out_to t.inside dst) h ≡ Some (Out t.second) → Has (kept h) t.first → Has (kept h) t.second) → Has (x ∷ kept h) t.second
+  by true g old ih = inl (ap (out_or x) (some_out t.second (Out x) g))
+  by false g (inl same) ih =
+      let before = latest_at s h t.inside dst t.second i.2 g in
+      let later = i.0 in
+      let lt = t.later in
+      let one : x.moment.0 ≡ t.first.moment.0 = ap (λ (z : Outward). z.moment.0) same in
+      absurd (omega (arith, before, later, one, lt))
+  by false g (inr old) ih = inr (ih g old)

@@ -29,7 +29,8 @@ use Rattle.verdicts.proofs.Adverts.{is_told}
 use Rattle.verdicts.proofs.Sound.{IsSoundIn, still_begins, is_resting}
 use Rattle.verdicts.proofs.Entries.{IsFirst, first_cone, first_restricted, phase_next, is_first}
 use Rattle.verdicts.proofs.LetIn.{view_of}
-use Rattle.verdicts.proofs.Steps.{VerdictLaws, IsSound, Scene, is_told_at}
+use Rattle.verdicts.proofs.Scenes.{VerdictLaws, IsSound, Scene}
+use Rattle.verdicts.proofs.Steps.{is_told_at}
 use Rattle.verdicts.proofs.Begins.{starts_in, sound_at_start, fresh_journal, Concerns, own, others, concerns, goes_on}
 use Rattle.verdicts.proofs.Undisturbed.{open_of}
 

@@ -26,7 +26,7 @@ use Rattle.settled.specs.ItsNodes.{ClientsAreThere}
 use Rattle.settled.specs.Clients.{nat_behind, past_of_nat, asks_at}
 use Rattle.verdicts.proofs.Members.{Has, contains_of}
 use Rattle.verdicts.proofs.Views.{View, IsPastOf, counts_in}
-use Rattle.verdicts.proofs.Sound.{IsLetInAt}
+use Rattle.verdicts.proofs.SoundAdverts.{IsLetInAt}
 
 -- a client's NAT after a history
 abbrev pub view_of : Lab → List Full → ClientNode → View

@@ -1,11 +1,14 @@
 mod Members
 mod Kept
 mod Views
+mod Opened
 mod Adverts
 mod Sound
+mod SoundAdverts
 mod Entries
 mod Outs
 mod LetIn
+mod Scenes
 mod Steps
 mod Begins
 mod Judged

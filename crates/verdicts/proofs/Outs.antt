@@ -71,17 +71,27 @@ out_to P k (p ∷ ps) d on h = by (p.nat == k) h (out_to P k ps d on.1) where
   by true (inr later) ih = ih later
   by false later ih = ih later
 
--- what a NAT lets out of a client's record goes where the client sends it
-pub act_out : (P : Ep → Type 0) (lab : Lab) (H : List Full) (r : Full) (n k : ℕ) (c : ClientNode) (e : Entry) (d : Outward) → IsActOf lab H r n (client c) e
-    → AllByRecursion (λ (x : Send). P x.to) e.step.sends → Has (nat_entries lab k r) (Out d) → P d.dst
-act_out P lab H r n k c e d act to h = by (is_node k r.node) h where
-  itself : at_nat lab r.asked r.act ≡ []
-  itself = ap (λ (b : Bool). cond b (Restart ∷ []) (forgotten lab r.asked)) act.still ∙ act.lasting
+-- a record of a client, and what it did
+pub record ClientActs : Type 0 where
+  pub lab : Lab
+  pub past : List Full
+  pub full : Full
+  pub number : ℕ
+  pub row : ClientNode
+  pub entry : Entry
+  pub act : IsActOf lab past full number (client row) entry
 
-  by : (b : Bool) → Has (cond b (at_nat lab r.asked r.act) (outs_at k r.passed)) (Out d) → P d.dst
+-- what a NAT lets out of it goes where the client sends it
+pub act_out : (P : Ep → Type 0) (a : ClientActs) (k : ℕ) (d : Outward) → AllByRecursion (λ (x : Send). P x.to) a.entry.step.sends
+    → Has (nat_entries a.lab k a.full) (Out d) → P d.dst
+act_out P a k d to h = by (is_node k a.full.node) h where
+  itself : at_nat a.lab a.full.asked a.full.act ≡ []
+  itself = ap (λ (b : Bool). cond b (Restart ∷ []) (forgotten a.lab a.full.asked)) a.act.still ∙ a.act.lasting
+
+  by : (b : Bool) → Has (cond b (at_nat a.lab a.full.asked a.full.act) (outs_at k a.full.passed)) (Out d) → P d.dst
   by true there = absurd (subst (λ (xs : List NatEntry). Has xs (Out d)) itself there)
-  by false there = out_to P k r.passed d (subst (λ (ps : List Passing). AllByRecursion (λ (p : Passing). P p.datagram.dst) ps) (sym act.passed)
-      (all_sent lab H r.moment P (way_out lab.chain c.nat) c.inside (armed H) 0 [] e.step.sends to tt)) there
+  by false there = out_to P k a.full.passed d (subst (λ (ps : List Passing). AllByRecursion (λ (p : Passing). P p.datagram.dst) ps) (sym a.act.passed)
+      (all_sent a.lab a.past a.full.moment P (way_out a.lab.chain a.row.nat) a.row.inside (armed a.past) 0 [] a.entry.step.sends to tt)) there
 
 -- RECORDS IN WHICH NOTHING IS LET OUT
 

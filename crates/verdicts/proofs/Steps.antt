@@ -1,20 +1,18 @@
 -- What a record leaves of what a client's phase says of its NAT.
-use Rattle.std.proofs.Common.{◌≡◌, ℕ, Bool, true, false, cond, List, [], ◌∷◌, Option, Some, None, refl, sym, ap, subst, ◌∙◌}
+use Rattle.std.proofs.Common.{◌≡◌, ℕ, Bool, true, false, cond, List, ◌∷◌, Option, Some, None, refl, sym, ap, subst, ◌∙◌, []}
 use Rattle.std.specs.Prelude.{is_some, IfSome, unwrap_or, option_and_then, slice_get}
-use Rattle.std.specs.List.{list_any, AllByRecursion}
+use Rattle.std.specs.List.{AllByRecursion}
 use Rattle.std.proofs.lemmas.Bool.{false≢true}
 use Rattle.td_base.specs.declared.ipv6.Ip6.{Ip6}
 use Rattle.td_base.specs.declared.endpoint.Ep.{Ep}
-use Rattle.td_base.specs.Ip4.{same_ip, same_ip-self}
 use Rattle.td_base.specs.Ep.{IsEp, server_ep}
 use Rattle.indications.specs.Leads.{origin_in}
 use Rattle.bubble.specs.Reads.{value_in}
-use Rattle.bubble.specs.Laws.{PayloadIsSpelled}
 use Rattle.bubble.proofs.MadeInputs.{origin_is}
 use Rattle.nat_kinds.specs.declared.outgoing.Outward.{Outward}
 use Rattle.nat_kinds.specs.History.{Entry as NatEntry, Out, Restart}
 use Rattle.teredo_node.specs.Step.{Send}
-use Rattle.teredo_node.specs.Journal.{Input, arrived, given, from_six, ticked, Entry, Journal, with_entry}
+use Rattle.teredo_node.specs.Journal.{Input, Entry, Journal, with_entry}
 use Rattle.teredo_node.specs.MadeInputs.{IsMadeInput}
 use Rattle.qualify.specs.declared.settings.Settings.{Settings}
 use Rattle.qualify.specs.declared.phase.Phase.{Phase}
@@ -22,115 +20,42 @@ use Rattle.qualify.specs.declared.phase.Phase.TheVariants.{Cone}
 use Rattle.qualify.specs.Turns.{Turn, asks_cone, asks_restricted, asks_secondary, ends, refreshes, qualifies, is_answered, differs, is_same, is_changed, renews}
 use Rattle.qualify.specs.Turns.{says_nothing, turn_of, begins, origin_given, flags_word}
 use Rattle.qualify.specs.Qualification.{Qualification, qualification}
-use Rattle.qualify.specs.Solicitations.{is_qualified, is_cone, asked_at, expected_in, expected}
+use Rattle.qualify.specs.Solicitations.{is_qualified, is_cone, asked_at}
 use Rattle.qualify.specs.Advertisements.{is_same_origin, origin_before, phase_line}
-use Rattle.client_rules.specs.Epochs.{QualifiedHasAddress}
-use Rattle.client_rules.specs.Sendings.{IsBubbleTo, IsCarriedTo, IsSending, solicits, bubbles, tests, carries, EachSend}
+use Rattle.client_rules.specs.Sendings.{IsBubbleTo, IsCarriedTo, IsSending, solicits, bubbles, tests, carries}
 use Rattle.client_rules.specs.Journals.{client_entry, IsJournal}
 use Rattle.topology.specs.declared.client_node.ClientNode.{ClientNode}
 use Rattle.topology.specs.declared.node.Node.{Node}
-use Rattle.topology.specs.declared.node.Node.TheVariants.{Server as server, Client as client}
-use Rattle.topology.specs.Rules.{IsTopology}
+use Rattle.topology.specs.declared.node.Node.TheVariants.{Client as client}
 use Rattle.topology.specs.Topology.{node_at, as_client}
-use Rattle.topology.specs.NodeRules.{IsServerNode, EachNodeKeepsRules}
 use Rattle.topology.specs.Chains.{outs_at, way_out}
 use Rattle.topology.proofs.Lists.{all_at}
 use Rattle.history.specs.Full.{Item, udp, six, Full, wire}
 use Rattle.legal.specs.Lab.{Lab}
 use Rattle.legal.specs.Settings.{client_settings}
 use Rattle.legal.specs.Past.{now, forgotten, journal, words, nat_entries, armed}
-use Rattle.legal.specs.Emit.{entry_of, by_way}
+use Rattle.legal.specs.Emit.{by_way}
 use Rattle.legal.specs.Next.{input_of}
-use Rattle.legal.specs.Legal.{Grown}
-use Rattle.legal.specs.Laws.{EachIsLater, EachClientIsJournal}
-use Rattle.legal.specs.Frame.{EachFrames}
-use Rattle.legal.specs.NatGrowth.{EachNatGrows}
-use Rattle.legal.specs.Actors.{IsGiven, delivered, hosted, ticks, IsActOf, EachActs}
-use Rattle.legal.specs.MadeWire.{EachHistoryIsMade}
-use Rattle.legal.specs.Routes.{Reaches, EachRoute}
+use Rattle.legal.specs.Actors.{IsGiven, delivered, hosted, ticks, IsActOf}
+use Rattle.legal.specs.Routes.{Reaches}
 use Rattle.legal.proofs.MadeInputs.{entry_input, client_made}
 use Rattle.legal.proofs.NatPasts.{set_up_past}
-use Rattle.origins.specs.Honest.{are_honest}
-use Rattle.origins.specs.Senders.{EntryTellsWhereTo, EachEntryTellsWhereTo}
-use Rattle.origins.proofs.Brought.{is_client}
+use Rattle.origins.specs.Senders.{EntryTellsWhereTo}
+use Rattle.origins.proofs.Records.{is_client}
 use Rattle.origins.proofs.SentOn.{act_made}
 use Rattle.origins.proofs.Live.{from_server, is_arrived, from_of, bytes_of}
 use Rattle.settled.specs.ItsNodes.{HasServer}
 use Rattle.settled.specs.Clients.{standing, nat_behind, past_of_nat, asks_at}
-use Rattle.verdicts.specs.Undisturbed.{is_loss_of, is_open_at}
 use Rattle.verdicts.proofs.Members.{Has}
-use Rattle.verdicts.proofs.Views.{View, counts_in, IsPastOf, IsNext}
-use Rattle.verdicts.proofs.Adverts.{AdvertLaws, is_told, IsAdvertised, advertised}
-use Rattle.verdicts.proofs.Sound.{IsSoundIn, is_resting, stays_sound, kept_then, address_then, untold, IsLetInAt, TurnLaws, After, told}
+use Rattle.verdicts.proofs.Opened.{IsNext}
+use Rattle.verdicts.proofs.Views.{View, counts_in, IsPastOf}
+use Rattle.verdicts.proofs.Adverts.{is_told, IsAdvertised, advertised}
+use Rattle.verdicts.proofs.SoundAdverts.{IsLetInAt, After, told}
+use Rattle.verdicts.proofs.Sound.{IsSoundIn, stays_sound, kept_then, address_then, untold}
 use Rattle.verdicts.proofs.Entries.{phase_next, kept_next, address_next}
 use Rattle.verdicts.proofs.Outs.{act_out, whose}
-use Rattle.verdicts.proofs.LetIn.{view_of, at_its_nat, ReplyLaws, one_client}
-
--- what is known of histories
-pub record VerdictLaws : Type 0 where
-  pub acts : EachActs
-  pub routes : EachRoute
-  pub frame : EachFrames
-  pub later : EachIsLater
-  pub grows : EachNatGrows
-  pub clients : EachClientIsJournal
-  pub made : EachHistoryIsMade
-  pub tells : EachEntryTellsWhereTo
-  pub addresses : QualifiedHasAddress
-  pub sends : EachSend
-  pub payload : PayloadIsSpelled
-  pub replies : ReplyLaws
-  pub adverts : AdvertLaws
-  pub turns : TurnLaws
-
--- what the client's phase says after a history is so
-abbrev pub IsSound : Lab → List Full → ℕ → ClientNode → Type 0
-IsSound lab H n c = IsSoundIn (view_of lab H c) c.cone_try (standing lab H n c).phase (standing lab H n c).kept (standing lab H n c).address
-
--- THE RECORD
-
--- a client expects an answer by its phase and its cone bit
-as_expected : (s : Settings) (q : Qualification) (v : View) (dst : Ep) → IsLetInAt v (expected s q) dst → IsLetInAt v (expected_in s q.phase (is_cone q)) dst
-unfolding expected
-as_expected s q v dst is = is
-
--- what a client does
-client_does : (lab : Lab) (H : List Full) (m n : ℕ) (dst : Ep) (c : ClientNode) (input : Input)
-    → entry_of lab H m n dst input (client c) ≡ client_entry (client_settings lab.topology c) (journal n H) m input (words lab n H)
-client_does lab H m n dst c (arrived from x) = refl
-client_does lab H m n dst c (given x) = refl
-client_does lab H m n dst c (from_six x) = refl
-client_does lab H m n dst c ticked = refl
-
--- the server's addresses are apart
-two_addresses : (laws : EachNodeKeepsRules) (lab : Lab) (c : ClientNode) → IsTopology lab.topology → HasServer lab.topology c
-    → (client_settings lab.topology c).primary ≡ (client_settings lab.topology c).secondary → ⊥
-two_addresses laws lab c is b same =
-    let keeps : IsServerNode b.row = laws lab.topology c.server (server b.row) is b.there in
-    false≢true (sym keeps.apart ∙ ap (same_ip b.row.primary) (sym b.secondary ∙ sym same ∙ b.primary) ∙ same_ip-self b.row.primary)
-
--- what the record is of: client n, which is c, where no NAT is behind another one
-pub record Scene (lab : Lab) (H : List Full) (r : Full) (n : ℕ) (c : ClientNode) : Type 0 where
-  pub flat : lab.chain ≡ []
-  pub is : IsTopology lab.topology
-  pub there : node_at lab.topology n ≡ Some (client c)
-  pub grown : Grown lab (r ∷ H)
-  pub honest : are_honest lab.topology H ≡ true
-
--- the NAT loses nothing of the client, and its server is let in where the phase rests on that
-pub record IsCalm (lab : Lab) (H : List Full) (r : Full) (n : ℕ) (c : ClientNode) : Type 0 where
-  pub spared : list_any (is_loss_of c.inside) (nat_entries lab c.nat r) ≡ false
-  pub server_open : is_resting (standing lab H n c).phase ≡ true → is_open_at lab H r.moment c ≡ true
-
--- what a client was told, where it was let in
-pub record IsToldAt (lab : Lab) (H : List Full) (r : Full) (n : ℕ) (c : ClientNode) (e : Entry) : Type 0 where
-  pub dst : Ep
-  pub made : IsEp dst
-  pub let_in : IsLetInAt (view_of lab H c) (expected (client_settings lab.topology c) (standing lab H n c)) dst
-  pub origin : origin_given e.input ≡ Some dst
-  pub phase : phase_line (standing lab H n c).phase (is_same_origin (Some dst) (origin_before (standing lab H n c) (standing lab H n c).phase)) ≡ e.step.fate
-  pub quiet : e.step.sends ≡ []
-  pub moment : r.moment ≡ now H
+use Rattle.verdicts.proofs.LetIn.{view_of, at_its_nat, one_client}
+use Rattle.verdicts.proofs.Scenes.{VerdictLaws, IsSound, as_expected, client_does, two_addresses, Scene, IsCalm, IsToldAt}
 
 module _ (laws : VerdictLaws) (lab : Lab) (H : List Full) (r : Full) (n : ℕ) (c : ClientNode) (scene : Scene lab H r n c) where
   abbrev s : Settings
@@ -204,7 +129,7 @@ module _ (laws : VerdictLaws) (lab : Lab) (H : List Full) (r : Full) (n : ℕ) (
         (ap (λ (z : List ℕ). is_some (value_in z).lead.auth) all ∙ adv.auth) in
         let given : origin_in (value_in adv.bytes).lead ≡ Some dst = ap (λ (z : List ℕ). origin_in (value_in z).lead) (sym all) ∙ to in
         let input : IsMadeInput (input_of (udp src dst bytes)) = subst IsMadeInput same
-        (act_made laws.made lab H r n (client c) e scene.is scene.grown act).input in
+        (act_made laws.made (record { lab = lab; before = H; full = r; is = scene.is; grown = scene.grown }) n (client c) e act).input in
         record {
           dst = dst;
           made = subst (λ (o : Option Ep). IfSome o IsEp) to (origin_is laws.payload bytes input.1);
@@ -315,7 +240,8 @@ module _ (laws : VerdictLaws) (lab : Lab) (H : List Full) (r : Full) (n : ℕ) (
     of_rest calm h i =
         let stays : IsSoundIn (view_of lab (r ∷ H) c) c.cone_try q.phase q.kept q.address = stays_sound laws.turns.nat (view_of lab H c)
         (nat_entries lab c.nat r) r.moment (next calm) c.cone_try q.kept q.address q.phase calm.server_open
-        (λ cone d new counts left. act_out (λ (x : Ep). x ≡ asks_at lab c) lab H r n c.nat c e d act
+        (λ cone d new counts left. act_out (λ (x : Ep). x ≡ asks_at lab c) (record { lab = lab; past = H; full = r; number = n; row = c; entry = e; act = act })
+        c.nat d
         (all_sends cone h e.step.sends (laws.sends s (journal n H) e is_journal)) new) i in
         entry_then (view_of lab (r ∷ H) c) (untold s (view_of lab (r ∷ H) c) c.cone_try (turn_of e) (flags_word s e.words)
         (origin_given e.input) q.kept q.address h q.phase stays)

@@ -15,11 +15,11 @@ use Rattle.legal.specs.Settings.{client_settings}
 use Rattle.legal.specs.Past.{journal}
 use Rattle.legal.specs.Legal.{Begun, Grown}
 use Rattle.legal.proofs.NatPasts.{set_up_past}
-use Rattle.origins.proofs.Brought.{is_client}
-use Rattle.origins.proofs.Carried.{earlier}
+use Rattle.settled.proofs.Earlier.{earlier}
+use Rattle.origins.proofs.Records.{is_client}
 use Rattle.verdicts.specs.Right.{EachIsRight, EachIsRightWithoutCone, EachVerdictIsRight}
 use Rattle.verdicts.specs.Throughout.{HistoriesHaveRightVerdicts, ScenariosHaveRightVerdicts}
-use Rattle.verdicts.proofs.Steps.{VerdictLaws}
+use Rattle.verdicts.proofs.Scenes.{VerdictLaws}
 use Rattle.verdicts.proofs.Judged.{right, right_without_cone}
 use Rattle.verdicts.proofs.Undisturbed.{fine}
 use Rattle.verdicts.proofs.KeptOpen.{firm}

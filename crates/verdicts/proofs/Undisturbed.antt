@@ -26,12 +26,14 @@ use Rattle.origins.specs.Honest.{is_honest_event, are_honest}
 use Rattle.settled.specs.Clients.{standing}
 use Rattle.verdicts.specs.Undisturbed.{is_out_of, is_loss_of, is_seen, is_open_at, starts, began_seen, was_lost, has_sent, was_shut}
 use Rattle.verdicts.proofs.Members.{none_has}
-use Rattle.verdicts.proofs.Views.{IsUnseen, still_unseen}
+use Rattle.verdicts.proofs.Opened.{IsUnseen, still_unseen}
 use Rattle.verdicts.proofs.Adverts.{is_told}
-use Rattle.verdicts.proofs.Sound.{still_begins, was_asked, is_resting}
+use Rattle.verdicts.proofs.SoundAdverts.{was_asked}
+use Rattle.verdicts.proofs.Sound.{still_begins, is_resting}
 use Rattle.verdicts.proofs.Entries.{IsFirst, first_cone, first_restricted, phase_next, is_first}
 use Rattle.verdicts.proofs.LetIn.{view_of}
-use Rattle.verdicts.proofs.Steps.{VerdictLaws, IsSound, Scene, past_before, is_told_at}
+use Rattle.verdicts.proofs.Scenes.{VerdictLaws, IsSound, Scene}
+use Rattle.verdicts.proofs.Steps.{past_before, is_told_at}
 use Rattle.verdicts.proofs.Begins.{starts_in, sound_at_start, unseen_of, fresh_journal, Concerns, own, others, concerns, goes_on}
 
 -- a phase in which nothing came yet

@@ -1,26 +1,21 @@
 -- What a client's NAT is to the client and its server, after a history.
-use Rattle.std.proofs.Common.{◌≡◌, ◌⊎◌, ℕ, ◌<◌, ◌≤◌, Bool, true, false, cond, List, [], ◌∷◌, ◌++◌, find, Option, Some, None, refl, sym, ap, ◌∙◌, subst, inl}
-use Rattle.std.proofs.Common.{inr, arith}
-use Rattle.std.specs.Prelude.{Contains, nat_lt, unwrap_or}
-use Rattle.std.specs.List.{list_any}
+use Rattle.std.proofs.Common.{◌≡◌, ℕ, Bool, true, false, List, ◌++◌, find, Option, Some, None, refl, sym, ap, ◌∙◌, subst}
+use Rattle.std.specs.Prelude.{Contains}
 use Rattle.std.proofs.lemmas.Bool.{false≢true}
-use Rattle.std.proofs.lemmas.Bool.Decides.{nat_tests}
-use Rattle.std.proofs.Math.Nat.{le_refl}
 use Rattle.td_base.specs.declared.endpoint.Ep.{Ep}
 use Rattle.nat_kinds.specs.declared.kind.NatKind.{NatKind}
 use Rattle.nat_kinds.specs.declared.kind.NatKind.TheVariants as kind
 use Rattle.nat_kinds.specs.declared.outgoing.Outward.{Outward}
 use Rattle.nat_kinds.specs.declared.settings.NatSettings.{NatSettings}
-use Rattle.nat_kinds.specs.History.{Entry, Out, Forget, Restart, is_young, counting}
+use Rattle.nat_kinds.specs.History.{Entry, counting}
 use Rattle.nat_kinds.specs.Mappings.{has_key, port_in, live_port}
 use Rattle.nat_kinds.specs.Answer.{live_after}
 use Rattle.nat_kinds.specs.Entering.{lets_in}
 use Rattle.nat_kinds.specs.Laws.{IsPast, SameKey, Asked, WasAsked}
 use Rattle.nat_kinds.proofs.ListLemmas.{find_alike, all_any}
 use Rattle.settled.specs.Clients.{is_symmetric}
-use Rattle.verdicts.specs.Undisturbed.{is_out_to, is_loss_of, is_young_out}
+use Rattle.verdicts.specs.Undisturbed.{is_out_to}
 use Rattle.verdicts.proofs.Members.{Has, contains_of}
-use Rattle.verdicts.proofs.Kept.{stays_kept, younger_too, counts_of, counts_kept, counted, out_to, later_kept}
 
 -- what is known of NATs
 pub record NatLaws : Type 0 where
@@ -83,16 +78,26 @@ asks_it kind.Restricted src d same = ap (λ (e : Ep). e.ip) same
 asks_it kind.Port src d same = same
 asks_it kind.Symmetric src d same = same
 
--- the inside endpoint holds, towards what a datagram that counts asked, the datagram's port
-pub asked_port : NatLaws → (v : View) (src : Ep) (d : Outward) → IsPastOf v → Has (counts_in v) d → d.inside ≡ v.inside → Asked v.nat.kind src d
+-- a datagram of the client that counts at its NAT
+pub record CountsOwn (v : View) (d : Outward) : Type 0 where
+  pub counts : Has (counts_in v) d
+  pub left : d.inside ≡ v.inside
+
+-- which asked an endpoint
+pub record AskedOwn (v : View) (src : Ep) (d : Outward) : Type 0 where
+  pub own : CountsOwn v d
+  pub asked : Asked v.nat.kind src d
+
+-- the inside endpoint holds, towards what it asked, the datagram's port
+pub asked_port : NatLaws → (v : View) (src : Ep) (d : Outward) → IsPastOf v → AskedOwn v src d
     → live_port v.nat.kind v.inside src (live_after v.nat v.past v.moment) ≡ Some d.port
-asked_port laws v src d p c left a = by (is_symmetric v.nat.kind) refl where
+asked_port laws v src d p x = by (is_symmetric v.nat.kind) refl where
   held : live_port v.nat.kind v.inside d.dst (live_after v.nat v.past v.moment) ≡ Some d.port
-  held = subst (λ (e : Ep). live_port v.nat.kind e d.dst (live_after v.nat v.past v.moment) ≡ Some d.port) left
-      (laws.ports v.nat v.past v.moment p d (contains_of (counts_in v) d c))
+  held = subst (λ (e : Ep). live_port v.nat.kind e d.dst (live_after v.nat v.past v.moment) ≡ Some d.port) x.own.left
+      (laws.ports v.nat v.past v.moment p d (contains_of (counts_in v) d x.own.counts))
 
   by : (b : Bool) → is_symmetric v.nat.kind ≡ b → live_port v.nat.kind v.inside src (live_after v.nat v.past v.moment) ≡ Some d.port
-  by true e = subst (λ (x : Ep). live_port v.nat.kind v.inside x (live_after v.nat v.past v.moment) ≡ Some d.port) (asked_same v.nat.kind e src d a) held
+  by true e = subst (λ (z : Ep). live_port v.nat.kind v.inside z (live_after v.nat v.past v.moment) ≡ Some d.port) (asked_same v.nat.kind e src d x.asked) held
   by false e = plain_port v.nat.kind e v.inside src d.dst (live_after v.nat v.past v.moment) ∙ held
 
 -- the port, or another where there is none
@@ -101,153 +106,12 @@ port_or p None = p
 port_or p (Some q) = q
 
 -- two that asked the same have one port
-pub one_port : NatLaws → (v : View) (src : Ep) (d e : Outward) → IsPastOf v → Has (counts_in v) d → d.inside ≡ v.inside → Asked v.nat.kind src d
-    → Has (counts_in v) e → e.inside ≡ v.inside → Asked v.nat.kind src e → d.port ≡ e.port
-one_port laws v src d e p c left a c' left' a' = ap (port_or d.port) (sym (asked_port laws v src d p c left a) ∙ asked_port laws v src e p c' left' a')
+pub one_port : NatLaws → (v : View) (src : Ep) (d e : Outward) → IsPastOf v → AskedOwn v src d → AskedOwn v src e → d.port ≡ e.port
+one_port laws v src d e p x y = ap (port_or d.port) (sym (asked_port laws v src d p x) ∙ asked_port laws v src e p y)
 
 -- and, of a NAT that isn't symmetric, any two
-pub plain_one_port : NatLaws → (v : View) (d e : Outward) → is_symmetric v.nat.kind ≡ false → IsPastOf v → Has (counts_in v) d → d.inside ≡ v.inside
-    → Has (counts_in v) e → e.inside ≡ v.inside → d.port ≡ e.port
-plain_one_port laws v d e h p c left c' left' =
-    ap (port_or d.port) (sym (asked_port laws v d.dst d p c left (asks_it v.nat.kind d.dst d refl))
+pub plain_one_port : NatLaws → (v : View) (d e : Outward) → is_symmetric v.nat.kind ≡ false → IsPastOf v → CountsOwn v d → CountsOwn v e → d.port ≡ e.port
+plain_one_port laws v d e h p x y =
+    ap (port_or d.port) (sym (asked_port laws v d.dst d p (record { own = x; asked = asks_it v.nat.kind d.dst d refl }))
     ∙ plain_port v.nat.kind h v.inside d.dst e.dst (live_after v.nat v.past v.moment)
-    ∙ asked_port laws v e.dst e p c' left' (asks_it v.nat.kind e.dst e refl))
-
--- OPEN TO THE SERVER
-
--- a datagram that counts holds the port of an endpoint at the NAT's address, and asked the server. It isn't before the
--- latest one that went to the server
-pub record IsOpen (v : View) (o : Ep) : Type 0 where
-  pub datagram : Outward
-  pub counts : Has (counts_in v) datagram
-  pub left : datagram.inside ≡ v.inside
-  pub asked : Asked v.nat.kind v.server datagram
-  pub external : o.ip ≡ v.nat.external
-  pub port : o.port ≡ datagram.port
-  pub latest : (e : Outward) → latest_ask v ≡ Some (Out e) → e.moment.0 ≤ datagram.moment.0
-
--- the server is let in there, and the client holds that port towards it
-pub held_open : NatLaws → (v : View) (o : Ep) → IsPastOf v → IsOpen v o
-    → live_port v.nat.kind v.inside v.server (live_after v.nat v.past v.moment) ≡ Some o.port
-held_open laws v o p is = asked_port laws v v.server is.datagram p is.counts is.left is.asked ∙ ap (λ (q : ℕ). Some q) (sym is.port)
-
--- and its datagrams get in
-pub let_in_open : NatLaws → (v : View) (o : Ep) → IsPastOf v → IsOpen v o → lets_in v.nat v.past v.moment v.server o.port ≡ Some v.inside
-let_in_open laws v o p is = (laws.asked v.nat v.past v.moment p v.server o.port v.inside).1
-    (record { datagram = is.datagram; counts = contains_of (counts_in v) is.datagram is.counts; left = is.left; by_port = sym is.port; asked = is.asked })
-
--- what was found is that entry
-some_entry : (x y : Entry) → Some x ≡ Some y → x ≡ y
-some_entry x y h = ap (λ (o : Option Entry). unwrap_or o x) h
-
--- the datagram, or another where there is none
-abbrev datagram_or : Outward → Option Entry → Outward
-datagram_or d (Some (Out e)) = e
-datagram_or d (Some (Forget who)) = d
-datagram_or d (Some Restart) = d
-datagram_or d None = d
-
--- one search finds one datagram
-same_out : (d e : Outward) (o : Option Entry) → o ≡ Some (Out d) → o ≡ Some (Out e) → d ≡ e
-same_out d e o a b = ap (datagram_or d) (sym a ∙ b)
-
--- what a search for datagrams to an endpoint finds
-is_out_entry : (inside dst : Ep) (h : List Entry) (x : Entry) → find (is_out_to inside dst) h ≡ Some x → is_out_to inside dst x ≡ true
-is_out_entry inside dst [] x f = absurd cc
-is_out_entry inside dst (y ∷ h) x f = by (is_out_to inside dst y) refl f (is_out_entry inside dst h x) where
-  by : (b : Bool) → is_out_to inside dst y ≡ b → cond b (Some y) (find (is_out_to inside dst) h) ≡ Some x
-      → (find (is_out_to inside dst) h ≡ Some x → is_out_to inside dst x ≡ true) → is_out_to inside dst x ≡ true
-  by true e g ih = ap (is_out_to inside dst) (sym (some_entry y x g)) ∙ e
-  by false e g ih = ih g
-
--- open by a datagram that counts and asked the server, or by a later one that went there
-module _ (laws : NatLaws) (v : View) (p : IsPastOf v) (o : Ep) (d : Outward) (c : Has (counts_in v) d) (left : d.inside ≡ v.inside)
-    (asked : Asked v.nat.kind v.server d) (external : o.ip ≡ v.nat.external) (port : o.port ≡ d.port) where
-  -- by the later one
-  by_later : (e : Outward) → latest_ask v ≡ Some (Out e) → d.moment.0 < e.moment.0 → IsOpen v o
-  by_later e f lt =
-      let to = out_to v.inside v.server e (is_out_entry v.inside v.server v.past (Out e) f) in
-      let k = counts_kept v.nat.idle v.moment v.past d c in
-      let before : d.moment.0 ≤ e.moment.0 = omega (arith, lt) in
-      let counts : Has (counts_in v) e = counts_of v.nat.idle v.moment v.past e (later_kept v.nat v.past v.inside v.server d e p.history k.0 left f to.0 lt)
-      (younger_too v.nat.idle v.moment e d before k.1) in
-      record {
-        datagram = e;
-        counts = counts;
-        left = to.0;
-        asked = asks_it v.nat.kind v.server e to.1;
-        external = external;
-        port = port ∙ one_port laws v v.server d e p c left asked counts to.0 (asks_it v.nat.kind v.server e to.1);
-        latest = λ x g. subst (λ (z : Outward). z.moment.0 ≤ e.moment.0) (same_out e x (latest_ask v) f g) (le_refl e.moment.0);
-      }
-
-  -- or by itself
-  by_itself : ((e : Outward) → latest_ask v ≡ Some (Out e) → e.moment.0 ≤ d.moment.0) → IsOpen v o
-  by_itself latest = record { datagram = d; counts = c; left = left; asked = asked; external = external; port = port; latest = latest }
-
-  -- by either
-  pub opens : IsOpen v o
-  opens = by (latest_ask v) refl where
-    with_out : (e : Outward) → latest_ask v ≡ Some (Out e) → (b : Bool) → nat_lt d.moment.0 e.moment.0 ≡ b → IsOpen v o
-    with_out e f true t = let lt : d.moment.0 < e.moment.0 = grind (arith, nat_tests) in by_later e f lt
-    with_out e f false t = let ge : e.moment.0 ≤ d.moment.0 = grind (arith, nat_tests) in by_itself
-        (λ x g. subst (λ (z : Outward). z.moment.0 ≤ d.moment.0) (same_out e x (latest_ask v) f g) ge)
-
-    by : (q : Option Entry) → latest_ask v ≡ q → IsOpen v o
-    by None f = by_itself (λ e g. absurd (let h : None ≡ Some (Out e) = sym f ∙ g in cc))
-    by (Some (Out e)) f = with_out e f (nat_lt d.moment.0 e.moment.0) refl
-    by (Some (Forget who)) f = absurd (false≢true (is_out_entry v.inside v.server v.past (Forget who) f))
-    by (Some Restart) f = absurd (false≢true (is_out_entry v.inside v.server v.past Restart f))
-
--- A FURTHER RECORD
-
--- what it adds to the NAT's history
-pub record IsNext (v : View) (added : List Entry) (m : ℕ) : Type 0 where
-  pub later : v.moment ≤ m
-  pub past : IsPast v.nat (added ++ v.past) m
-  pub spared : list_any (is_loss_of v.inside) added ≡ false
-
--- what is open stays open, where the latest datagram to the server is young
-module _ (laws : NatLaws) (v : View) (added : List Entry) (m : ℕ) (next : IsNext v added m) (o : Ep) (is : IsOpen v o) where
-  still_young : (q : Option Entry) → latest_ask v ≡ q → is_young_out v.nat.idle m q ≡ true → is_young v.nat.idle m is.datagram ≡ true
-  still_young None f y = absurd (false≢true y)
-  still_young (Some (Out e)) f y = younger_too v.nat.idle m is.datagram e (is.latest e f) y
-  still_young (Some (Forget who)) f y = absurd (false≢true y)
-  still_young (Some Restart) f y = absurd (false≢true y)
-
-  module _ (young : is_young_out v.nat.idle m (latest_ask v) ≡ true) where
-    still_counts : Has (counts_in (grown v added m)) is.datagram
-    still_counts =
-        let k = counts_kept v.nat.idle v.moment v.past is.datagram is.counts in
-        counts_of v.nat.idle m (added ++ v.past) is.datagram (stays_kept v.inside added v.past is.datagram next.spared is.left k.0)
-        (still_young (latest_ask v) refl young)
-
-    pub stays_open : IsOpen (grown v added m) o
-    stays_open = opens laws (grown v added m) next.past o is.datagram still_counts is.left is.asked is.external is.port
-
--- THE CONE PHASE
-
--- all that counts of the client went to its server
-abbrev pub AsksAlone : View → Type 0
-AsksAlone v = (d : Outward) → Has (counts_in v) d → d.inside ≡ v.inside → d.dst ≡ v.server
-
--- that stays so where new datagrams go there
-pub still_alone : (v : View) (added : List Entry) (m : ℕ) → v.moment ≤ m
-    → ((d : Outward) → Has added (Out d) → Has (counts_in (grown v added m)) d → d.inside ≡ v.inside → d.dst ≡ v.server) → AsksAlone v
-    → AsksAlone (grown v added m)
-still_alone v added m le new old d c left = by (counted v.nat.idle v.moment m added v.past d le c) where
-  by : Has added (Out d) ⊎ Has (counts_in v) d → d.dst ≡ v.server
-  by (inl k) = new d k c left
-  by (inr k) = old d k left
-
--- nothing of the client counts
-abbrev pub IsUnseen : View → Type 0
-IsUnseen v = (d : Outward) → Has (counts_in v) d → d.inside ≡ v.inside → ⊥
-
--- that stays so where the client sends nothing
-pub still_unseen : (v : View) (added : List Entry) (m : ℕ) → v.moment ≤ m → ((d : Outward) → Has added (Out d) → d.inside ≡ v.inside → ⊥) → IsUnseen v
-    → IsUnseen (grown v added m)
-still_unseen v added m le new old d c left = by (counted v.nat.idle v.moment m added v.past d le c) where
-  by : Has added (Out d) ⊎ Has (counts_in v) d → ⊥
-  by (inl k) = new d k left
-  by (inr k) = old d k left
+    ∙ asked_port laws v e.dst e p (record { own = y; asked = asks_it v.nat.kind e.dst e refl }))

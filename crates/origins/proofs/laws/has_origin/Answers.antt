@@ -14,8 +14,7 @@ returns c = each_has_origin (record {
   clients = c.client_journals.ensures;
   sends = c.each_send.ensures;
   standing = c.each_standing_is_made.ensures;
-  queued = c.queued_is_own.ensures;
-  still = c.keeps_still.ensures;
+  queue = record { queued = c.queued_is_own.ensures; still = c.keeps_still.ensures };
   bubble = c.bubble_reads_back.ensures;
   packet = c.packet_is_payload.ensures;
 })

@@ -1,0 +1,105 @@
+-- What a send brought to a client's host.
+use Rattle.std.proofs.Common.{◌≡◌, ◌≤◌, ℕ, Bool, true, false, List, length, drop, Some, Result, Ok, Err}
+use Rattle.std.proofs.Common.{refl, sym, ap, subst, ◌∙◌}
+use Rattle.std.proofs.lemmas.Bool.{false≢true}
+use Rattle.td_base.specs.Bytes.{IsBytes}
+use Rattle.td_base.specs.Ep.{server_ep}
+use Rattle.td_base.specs.declared.datagram.TheConstants.{DATAGRAM_MAX}
+use Rattle.td_base.specs.declared.ipv4.Ip4.{Ip4}
+use Rattle.td_base.specs.declared.ipv6.Ip6.{Ip6}
+use Rattle.td_base.specs.declared.endpoint.Ep.{Ep}
+use Rattle.ipv6_packet.specs.Packets.{Fields, packet_at}
+use Rattle.ipv6_packet.specs.Reads.{is_ok_packet, fields_or, is_packet, fields_in}
+use Rattle.ipv6_packet.specs.declared.fault.PacketFault.{PacketFault}
+use Rattle.bubble.specs.Bubbles.{is_bubble, bubble_bytes}
+use Rattle.bubble.specs.Payloads.{Value}
+use Rattle.bubble.specs.Reads.{value_in}
+use Rattle.bubble.specs.Laws.{ReadsBubble, PacketIsPayload}
+use Rattle.teredo_node.specs.Step.{Send}
+use Rattle.qualify.specs.declared.settings.Settings.{Settings}
+use Rattle.qualify.specs.declared.phase.Phase.{Phase}
+use Rattle.qualify.specs.declared.phase.Phase.TheVariants.{Cone, Restricted, Secondary, Qualified, Symmetric, OffLine}
+use Rattle.qualify.specs.Solicitations.{asked_at}
+use Rattle.client_rules.specs.Tries.{test}
+use Rattle.topology.specs.declared.server_node.ServerNode.{ServerNode}
+use Rattle.topology.specs.declared.client_node.ClientNode.{ClientNode}
+use Rattle.topology.specs.declared.node.Node.{Node}
+use Rattle.topology.specs.declared.node.Node.TheVariants.{Server as server, Nat as nat}
+use Rattle.topology.specs.Rows.{TopologyState}
+use Rattle.topology.specs.Rules.{IsTopology}
+use Rattle.topology.specs.Topology.{node_at}
+use Rattle.topology.specs.NodeRules.{has_address, AddressesAreApart}
+use Rattle.history.specs.Full.{Full}
+use Rattle.legal.specs.Lab.{Lab}
+use Rattle.legal.specs.Settings.{client_settings}
+use Rattle.legal.specs.Routes.{IsLetIn}
+use Rattle.settled.specs.ItsNodes.{HasServer}
+use Rattle.origins.proofs.SentFrom.{same_node, one_has}
+
+-- a send came as a datagram that was let in to a client, and ended in x, which is no bubble
+pub record Brings (lab : Lab) (s : Send) (x : List ℕ) : Type 0 where
+  pub past : List Full
+  pub moment : ℕ
+  pub src : Ep
+  pub dst : Ep
+  pub to : ClientNode
+  pub let_in : IsLetIn lab past moment src dst to
+  pub goes : dst ≡ s.to
+  pub bytes : IsBytes s.bytes
+  pub short : length s.bytes ≤ DATAGRAM_MAX
+  pub whole : x ≡ drop (value_in s.bytes).lead.at s.bytes
+  pub packet : (value_in s.bytes).packet ≡ fields_in x
+  pub no_bubble : is_bubble (fields_in x) ≡ false
+
+-- WHAT ISN'T HANDED OVER
+
+abbrev is_nat : Node → Bool
+is_nat (nat a) = true
+is_nat _ = false
+
+-- where a solicitation goes there is a server
+pub server_there : (t : TopologyState) (c : ClientNode) (phase : Phase) (b : HasServer t c)
+    → has_address (asked_at (client_settings t c) phase).ip (server b.row) ≡ true
+server_there t c Cone b = subst (λ (ip : Ip4). has_address ip (server b.row) ≡ true) (sym b.primary) b.has_primary
+server_there t c Restricted b = subst (λ (ip : Ip4). has_address ip (server b.row) ≡ true) (sym b.primary) b.has_primary
+server_there t c Secondary b = subst (λ (ip : Ip4). has_address ip (server b.row) ≡ true) (sym b.secondary) b.has_secondary
+server_there t c Qualified b = subst (λ (ip : Ip4). has_address ip (server b.row) ≡ true) (sym b.primary) b.has_primary
+server_there t c Symmetric b = subst (λ (ip : Ip4). has_address ip (server b.row) ≡ true) (sym b.primary) b.has_primary
+server_there t c OffLine b = subst (λ (ip : Ip4). has_address ip (server b.row) ≡ true) (sym b.primary) b.has_primary
+
+-- and no NAT lets in what goes there
+pub no_server : AddressesAreApart → (lab : Lab) (s : Send) (x : List ℕ) → IsTopology lab.topology → Brings lab s x
+    → (k : ℕ) × (a : ServerNode) × (node_at lab.topology k ≡ Some (server a)) × (has_address s.to.ip (server a) ≡ true) → ⊥
+no_server apart lab s x is b (k, a, at, has) =
+    let external : s.to.ip ≡ b.let_in.row.external = sym (ap (λ (e : Ep). e.ip) b.goes) ∙ b.let_in.external in
+    let has_too = subst (λ (ip : Ip4). has_address ip (nat b.let_in.row) ≡ true) (sym external) (one_has b.let_in.row.external) in
+    let one = same_node apart lab.topology k b.let_in.outer s.to.ip is (record { node = server a; at = at; has = has })
+    (record { node = nat b.let_in.row; at = b.let_in.there; has = has_too }) in
+    false≢true (ap is_nat one.1)
+
+-- nor a test, which goes to the server
+pub test_to : (s : Settings) (own p : Ip6) (nonce : ℕ) (x : Send) → x ≡ test s own p nonce → x.to ≡ server_ep s.primary
+unfolding test
+test_to s own p nonce x e = ap (λ (z : Send). z.to) e
+
+-- a bubble isn't handed over
+pub no_bubble : (own p : Ip6) (bytes x : List ℕ) → ReadsBubble own p (bubble_bytes own p) → bytes ≡ bubble_bytes own p → (value_in bytes).packet ≡ fields_in x
+    → is_bubble (fields_in x) ≡ false → ⊥
+no_bubble own p bytes x reads same packet other =
+    let is : is_bubble (fields_in x) ≡ true = ap is_bubble (sym packet) ∙ ap (λ (z : List ℕ). is_bubble (value_in z).packet) same
+    ∙ ap (λ (v : Value). is_bubble v.packet) reads.payload.value ∙ reads.bubble in
+    false≢true (sym other ∙ is)
+
+-- A PACKET WITH NOTHING IN FRONT
+
+read_as : (x : List ℕ) → is_packet x ≡ true → packet_at x ≡ Ok (fields_in x)
+unfolding is_packet fields_in
+read_as x h = by (packet_at x) h where
+  by : (r : Result Fields PacketFault) → is_ok_packet r ≡ true → r ≡ Ok (fields_or r)
+  by (Ok p) g = refl
+  by (Err f) g = absurd (false≢true g)
+
+-- what is handed over of it is all of it
+pub all_of_it : PacketIsPayload → (bytes x : List ℕ) → IsBytes bytes → length bytes ≤ DATAGRAM_MAX → is_packet bytes ≡ true
+    → x ≡ drop (value_in bytes).lead.at bytes → x ≡ bytes
+all_of_it law bytes x fits short one whole = whole ∙ ap (λ (v : Value). drop v.lead.at bytes) (law bytes (fields_in bytes) fits short (read_as bytes one)).value

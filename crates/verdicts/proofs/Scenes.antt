@@ -1,0 +1,109 @@
+-- A record of a client where no NAT is behind another one, and what it rests on.
+use Rattle.std.proofs.Common.{◌≡◌, ℕ, true, false, List, ◌∷◌, Some, refl, sym, ap, ◌∙◌, []}
+use Rattle.std.specs.List.{list_any}
+use Rattle.std.proofs.lemmas.Bool.{false≢true}
+use Rattle.td_base.specs.declared.endpoint.Ep.{Ep}
+use Rattle.td_base.specs.Ip4.{same_ip, same_ip-self}
+use Rattle.td_base.specs.Ep.{IsEp}
+use Rattle.bubble.specs.Laws.{PayloadIsSpelled}
+use Rattle.teredo_node.specs.Journal.{Input, arrived, given, from_six, ticked, Entry}
+use Rattle.qualify.specs.declared.settings.Settings.{Settings}
+use Rattle.qualify.specs.Turns.{origin_given}
+use Rattle.qualify.specs.Qualification.{Qualification}
+use Rattle.qualify.specs.Solicitations.{is_cone, expected_in, expected}
+use Rattle.qualify.specs.Advertisements.{is_same_origin, origin_before, phase_line}
+use Rattle.client_rules.specs.Epochs.{QualifiedHasAddress}
+use Rattle.client_rules.specs.Sendings.{EachSend}
+use Rattle.client_rules.specs.Journals.{client_entry}
+use Rattle.topology.specs.declared.client_node.ClientNode.{ClientNode}
+use Rattle.topology.specs.declared.node.Node.TheVariants.{Server as server, Client as client}
+use Rattle.topology.specs.Rules.{IsTopology}
+use Rattle.topology.specs.Topology.{node_at}
+use Rattle.topology.specs.NodeRules.{IsServerNode, EachNodeKeepsRules}
+use Rattle.history.specs.Full.{Full}
+use Rattle.legal.specs.Lab.{Lab}
+use Rattle.legal.specs.Settings.{client_settings}
+use Rattle.legal.specs.Past.{now, journal, words, nat_entries}
+use Rattle.legal.specs.Emit.{entry_of}
+use Rattle.legal.specs.Legal.{Grown}
+use Rattle.legal.specs.Laws.{EachIsLater, EachClientIsJournal}
+use Rattle.legal.specs.Frame.{EachFrames}
+use Rattle.legal.specs.NatGrowth.{EachNatGrows}
+use Rattle.legal.specs.Actors.{EachActs}
+use Rattle.legal.specs.MadeWire.{EachHistoryIsMade}
+use Rattle.legal.specs.Routes.{EachRoute}
+use Rattle.origins.specs.Honest.{are_honest}
+use Rattle.origins.specs.Senders.{EachEntryTellsWhereTo}
+use Rattle.settled.specs.ItsNodes.{HasServer}
+use Rattle.settled.specs.Clients.{standing}
+use Rattle.verdicts.specs.Undisturbed.{is_loss_of, is_open_at}
+use Rattle.verdicts.proofs.Views.{View}
+use Rattle.verdicts.proofs.Adverts.{AdvertLaws}
+use Rattle.verdicts.proofs.SoundAdverts.{IsLetInAt, TurnLaws}
+use Rattle.verdicts.proofs.Sound.{IsSoundIn, is_resting}
+use Rattle.verdicts.proofs.LetIn.{view_of, ReplyLaws}
+
+-- what is known of histories
+pub record VerdictLaws : Type 0 where
+  pub acts : EachActs
+  pub routes : EachRoute
+  pub frame : EachFrames
+  pub later : EachIsLater
+  pub grows : EachNatGrows
+  pub clients : EachClientIsJournal
+  pub made : EachHistoryIsMade
+  pub tells : EachEntryTellsWhereTo
+  pub addresses : QualifiedHasAddress
+  pub sends : EachSend
+  pub payload : PayloadIsSpelled
+  pub replies : ReplyLaws
+  pub adverts : AdvertLaws
+  pub turns : TurnLaws
+
+-- what the client's phase says after a history is so
+abbrev pub IsSound : Lab → List Full → ℕ → ClientNode → Type 0
+IsSound lab H n c = IsSoundIn (view_of lab H c) c.cone_try (standing lab H n c).phase (standing lab H n c).kept (standing lab H n c).address
+
+-- a client expects an answer by its phase and its cone bit
+pub as_expected : (s : Settings) (q : Qualification) (v : View) (dst : Ep) → IsLetInAt v (expected s q) dst
+    → IsLetInAt v (expected_in s q.phase (is_cone q)) dst
+unfolding expected
+as_expected s q v dst is = is
+
+-- what a client does
+pub client_does : (lab : Lab) (H : List Full) (m n : ℕ) (dst : Ep) (c : ClientNode) (input : Input)
+    → entry_of lab H m n dst input (client c) ≡ client_entry (client_settings lab.topology c) (journal n H) m input (words lab n H)
+client_does lab H m n dst c (arrived from x) = refl
+client_does lab H m n dst c (given x) = refl
+client_does lab H m n dst c (from_six x) = refl
+client_does lab H m n dst c ticked = refl
+
+-- the server's addresses are apart
+pub two_addresses : (laws : EachNodeKeepsRules) (lab : Lab) (c : ClientNode) → IsTopology lab.topology → HasServer lab.topology c
+    → (client_settings lab.topology c).primary ≡ (client_settings lab.topology c).secondary → ⊥
+two_addresses laws lab c is b same =
+    let keeps : IsServerNode b.row = laws lab.topology c.server (server b.row) is b.there in
+    false≢true (sym keeps.apart ∙ ap (same_ip b.row.primary) (sym b.secondary ∙ sym same ∙ b.primary) ∙ same_ip-self b.row.primary)
+
+-- what the record is of: client n, which is c, where no NAT is behind another one
+pub record Scene (lab : Lab) (H : List Full) (r : Full) (n : ℕ) (c : ClientNode) : Type 0 where
+  pub flat : lab.chain ≡ []
+  pub is : IsTopology lab.topology
+  pub there : node_at lab.topology n ≡ Some (client c)
+  pub grown : Grown lab (r ∷ H)
+  pub honest : are_honest lab.topology H ≡ true
+
+-- the NAT loses nothing of the client, and its server is let in where the phase rests on that
+pub record IsCalm (lab : Lab) (H : List Full) (r : Full) (n : ℕ) (c : ClientNode) : Type 0 where
+  pub spared : list_any (is_loss_of c.inside) (nat_entries lab c.nat r) ≡ false
+  pub server_open : is_resting (standing lab H n c).phase ≡ true → is_open_at lab H r.moment c ≡ true
+
+-- what a client was told, where it was let in
+pub record IsToldAt (lab : Lab) (H : List Full) (r : Full) (n : ℕ) (c : ClientNode) (e : Entry) : Type 0 where
+  pub dst : Ep
+  pub made : IsEp dst
+  pub let_in : IsLetInAt (view_of lab H c) (expected (client_settings lab.topology c) (standing lab H n c)) dst
+  pub origin : origin_given e.input ≡ Some dst
+  pub phase : phase_line (standing lab H n c).phase (is_same_origin (Some dst) (origin_before (standing lab H n c) (standing lab H n c).phase)) ≡ e.step.fate
+  pub quiet : e.step.sends ≡ []
+  pub moment : r.moment ≡ now H

@@ -1,0 +1,195 @@
+-- An advertisement that was let in keeps what a client's phase rests on.
+use Rattle.std.proofs.Common.{◌≡◌, ℕ, Bool, true, false, List, Option, Some, None, refl, sym, ap, subst, ◌∙◌}
+use Rattle.std.specs.Prelude.{unwrap_or}
+use Rattle.std.proofs.lemmas.Bool.{false≢true}
+use Rattle.td_base.specs.Ep.{IsEp, server_ep, same_ep, same_ep-true, same_ep-self}
+use Rattle.td_base.specs.Ip4.{IsIp4}
+use Rattle.td_base.specs.declared.ipv4.Ip4.{Ip4}
+use Rattle.td_base.specs.declared.endpoint.Ep.{Ep}
+use Rattle.td_base.specs.declared.ipv6.Ip6.{Ip6}
+use Rattle.teredo_addr.specs.Teredo.{embedded, has_cone, flags_of, teredo_ip}
+use Rattle.teredo_addr.specs.Laws.{TeredoTells, FlagsTell}
+use Rattle.nat_kinds.specs.declared.kind.NatKind.{NatKind}
+use Rattle.nat_kinds.specs.declared.kind.NatKind.TheVariants as kind
+use Rattle.nat_kinds.specs.declared.outgoing.Outward.{Outward}
+use Rattle.nat_kinds.specs.Entering.{lets_in}
+use Rattle.nat_kinds.specs.Laws.{SameKey, Asked, WasAsked}
+use Rattle.nat_kinds.specs.Answer.{live_after}
+use Rattle.nat_kinds.specs.Mappings.{live_port}
+use Rattle.teredo_node.specs.declared.fate.Fate.{Fate}
+use Rattle.qualify.specs.declared.settings.Settings.{Settings}
+use Rattle.qualify.specs.declared.phase.Phase.{Phase}
+use Rattle.qualify.specs.declared.phase.Phase.TheVariants.{Cone, Restricted, Secondary, Qualified, Symmetric, OffLine}
+use Rattle.qualify.specs.Turns.{turn, begins}
+use Rattle.qualify.specs.Qualification.{Qualification, address_of}
+use Rattle.qualify.specs.Solicitations.{expected_in}
+use Rattle.qualify.specs.Advertisements.{is_same_origin, origin_before, phase_line}
+use Rattle.settled.specs.Clients.{is_symmetric, is_cone}
+use Rattle.verdicts.proofs.Members.{Has, has_of}
+use Rattle.verdicts.proofs.Opened.{IsOpen, opens, AsksAlone}
+use Rattle.verdicts.proofs.Views.{NatLaws, View, IsPastOf, counts_in, asked_port, plain_one_port}
+use Rattle.verdicts.proofs.Sound.{IsGoodAddress, GoodAddress, OpenOrigin, IsSoundIn, kept_then, address_then}
+
+-- what is known of NATs, and of addresses that are made
+pub record TurnLaws : Type 0 where
+  pub nat : NatLaws
+  pub teredo : TeredoTells
+  pub flags : FlagsTell
+
+-- a datagram from src to dst was let in to the client
+pub record IsLetInAt (v : View) (src dst : Ep) : Type 0 where
+  pub external : dst.ip ≡ v.nat.external
+  pub enters : lets_in v.nat v.past v.moment src dst.port ≡ Some v.inside
+
+-- the client asked it, by a datagram that counts
+pub record IsAsked (v : View) (src dst : Ep) : Type 0 where
+  pub datagram : Outward
+  pub counts : Has (counts_in v) datagram
+  pub left : datagram.inside ≡ v.inside
+  pub asked : Asked v.nat.kind src datagram
+  pub port : dst.port ≡ datagram.port
+
+-- it did, where it was let in
+pub was_asked : NatLaws → (v : View) (src dst : Ep) → IsPastOf v → IsLetInAt v src dst → IsAsked v src dst
+was_asked laws v src dst p in_ =
+    let w : WasAsked v.nat v.past v.moment src dst.port v.inside = (laws.asked v.nat v.past v.moment p src dst.port v.inside).0 in_.enters in
+    record { datagram = w.datagram; counts = has_of (counts_in v) w.datagram w.counts; left = w.left; asked = w.asked; port = sym w.by_port }
+
+-- the same endpoint
+same_of : (a b : Ep) → a.ip ≡ b.ip → a.port ≡ b.port → same_ep a b ≡ true
+unfolding same_ep
+same_of a b ip port = rw (ip, port) (same_ep-self b)
+
+-- who asked the server's primary address alone is let in from its secondary address only by a cone NAT
+only_cone : (k : NatKind) (first second : Ip4) (d : Outward) → (first ≡ second → ⊥) → d.dst ≡ server_ep first → Asked k (server_ep second) d → is_cone k ≡ true
+only_cone kind.Cone first second d apart to a = refl
+only_cone kind.Restricted first second d apart to a = absurd (apart (sym (ap (λ (e : Ep). e.ip) to) ∙ a))
+only_cone kind.Port first second d apart to a = absurd (apart (ap (λ (e : Ep). e.ip) (sym to ∙ a)))
+only_cone kind.Symmetric first second d apart to a = absurd (apart (ap (λ (e : Ep). e.ip) (sym to ∙ a)))
+
+-- a cone NAT isn't symmetric
+cone_is_plain : (k : NatKind) → is_cone k ≡ true → is_symmetric k ≡ false
+cone_is_plain kind.Cone h = refl
+cone_is_plain kind.Restricted h = absurd (false≢true h)
+cone_is_plain kind.Port h = absurd (false≢true h)
+cone_is_plain kind.Symmetric h = absurd (false≢true h)
+
+-- and lets everybody in
+cone_asked : (k : NatKind) (src : Ep) (d : Outward) → is_cone k ≡ true → Asked k src d
+cone_asked kind.Cone src d h = tt
+cone_asked kind.Restricted src d h = absurd (false≢true h)
+cone_asked kind.Port src d h = absurd (false≢true h)
+cone_asked kind.Symmetric src d h = absurd (false≢true h)
+
+-- a symmetric NAT gives a port to one destination
+one_destination : (k : NatKind) (a b c d : Ep) → is_symmetric k ≡ true → SameKey k a b c d → b ≡ d
+one_destination kind.Cone a b c d h same = absurd (false≢true h)
+one_destination kind.Restricted a b c d h same = absurd (false≢true h)
+one_destination kind.Port a b c d h same = absurd (false≢true h)
+one_destination kind.Symmetric a b c d h same = same.1
+
+-- a client of a server with these addresses, that an advertisement told where it was let in
+module _ (laws : TurnLaws) (s : Settings) (v : View) (b : Bool) (primary : IsIp4 s.primary) (apart : s.primary ≡ s.secondary → ⊥)
+    (asks : v.server ≡ server_ep s.primary) (p : IsPastOf v) (dst : Ep) (is_ep : IsEp dst) where
+  -- the address embeds that, and has the cone bit as asked
+  embeds : (cone : Bool) (w : Option ℕ) → embedded (teredo_ip s.primary (flags_of cone w) dst) ≡ dst
+  embeds cone w = (laws.teredo s.primary (flags_of cone w) dst primary (laws.flags cone w).sixteen is_ep).mapped_is
+
+  bit : (cone : Bool) (w : Option ℕ) → has_cone (teredo_ip s.primary (flags_of cone w) dst) ≡ cone
+  bit cone w = (laws.teredo s.primary (flags_of cone w) dst primary (laws.flags cone w).sixteen is_ep).cone_is ∙ (laws.flags cone w).cone_is
+
+  -- and is good where that is open
+  good : (cone : Bool) (w : Option ℕ) → IsOpen v dst → is_symmetric v.nat.kind ≡ false → (cone ≡ true → (is_cone v.nat.kind ≡ true) × (b ≡ true))
+      → GoodAddress v b (address_of s cone w (Some dst))
+  good cone w o plain says = record { opened = subst (IsOpen v) (sym (embeds cone w)) o; plain = plain; cone = λ h. says (sym (bit cone w) ∙ h) }
+
+  -- in phase Cone, from the secondary address
+  in_cone : (w : Option ℕ) → b ≡ true → AsksAlone v → IsLetInAt v (server_ep s.secondary) dst → GoodAddress v b (address_of s true w (Some dst))
+  in_cone w tries alone in_ =
+      let a = was_asked laws.nat v (server_ep s.secondary) dst p in_ in
+      let cone = only_cone v.nat.kind s.primary s.secondary a.datagram apart (alone a.datagram a.counts a.left ∙ asks) a.asked in
+      good true w (opens laws.nat v p dst a.datagram a.counts a.left (cone_asked v.nat.kind v.server a.datagram cone) in_.external a.port)
+      (cone_is_plain v.nat.kind cone) (λ h. (cone, tries))
+
+  -- in phase Restricted, from the primary address
+  in_restricted : IsLetInAt v (server_ep s.primary) dst → IsOpen v dst
+  in_restricted in_ =
+      let a = was_asked laws.nat v (server_ep s.primary) dst p in_ in
+      opens laws.nat v p dst a.datagram a.counts a.left (subst (λ (e : Ep). Asked v.nat.kind e a.datagram) (sym asks) a.asked) in_.external a.port
+
+  -- in phase Secondary, from the secondary address: a NAT that isn't symmetric lets it in where the first answer came
+  plain_same : (o : Ep) → is_symmetric v.nat.kind ≡ false → IsOpen v o → IsLetInAt v (server_ep s.secondary) dst → same_ep dst o ≡ true
+  plain_same o plain is in_ =
+      let a = was_asked laws.nat v (server_ep s.secondary) dst p in_ in
+      same_of dst o (in_.external ∙ sym is.external) (a.port ∙ plain_one_port laws.nat v a.datagram is.datagram plain p
+      (record { counts = a.counts; left = a.left }) (record { counts = is.counts; left = is.left }) ∙ sym is.port)
+
+  -- so where it came to another endpoint the NAT is symmetric
+  in_other : (o : Ep) → same_ep dst o ≡ false → IsOpen v o → IsLetInAt v (server_ep s.secondary) dst → is_symmetric v.nat.kind ≡ true
+  in_other o other is in_ = by (is_symmetric v.nat.kind) refl where
+    by : (c : Bool) → is_symmetric v.nat.kind ≡ c → is_symmetric v.nat.kind ≡ true
+    by true e = e
+    by false e = absurd (false≢true (sym other ∙ plain_same o e is in_))
+
+  -- and where it came to the same one it isn't
+  same_plain : (o : Ep) → dst ≡ o → IsOpen v o → IsLetInAt v (server_ep s.secondary) dst → is_symmetric v.nat.kind ≡ false
+  same_plain o same is in_ = by (is_symmetric v.nat.kind) refl where
+    live : List Outward
+    live = live_after v.nat v.past v.moment
+
+    by : (c : Bool) → is_symmetric v.nat.kind ≡ c → is_symmetric v.nat.kind ≡ false
+    by false e = e
+    by true e =
+        let a = was_asked laws.nat v (server_ep s.secondary) dst p in_ in
+        let first : live_port v.nat.kind v.inside v.server live ≡ Some is.datagram.port =
+        asked_port laws.nat v v.server is.datagram p (record { own = record { counts = is.counts; left = is.left }; asked = is.asked }) in
+        let one : a.datagram.port ≡ is.datagram.port = sym a.port ∙ ap (λ (x : Ep). x.port) same ∙ is.port in
+        let second : live_port v.nat.kind v.inside (server_ep s.secondary) live ≡ Some is.datagram.port = asked_port laws.nat v
+        (server_ep s.secondary) a.datagram p (record { own = record { counts = a.counts; left = a.left }; asked = a.asked }) ∙ ap (λ (q : ℕ). Some q) one in
+        let key = laws.nat.keys v.nat v.past v.moment p v.inside v.server v.inside (server_ep s.secondary) is.datagram.port first second in
+        absurd (apart (ap (λ (x : Ep). x.ip) (sym asks ∙ one_destination v.nat.kind v.inside v.server v.inside (server_ep s.secondary) e key)))
+
+  -- while Qualified, from where the NAT lets it in
+  in_qualified : (src : Ep) (w : Option ℕ) (own : Ip6) → IsGoodAddress v b own → IsLetInAt v src dst
+      → GoodAddress v b (address_of s (has_cone own) w (Some dst))
+  in_qualified src w own is in_ =
+      let a = was_asked laws.nat v src dst p in_ in
+      let o = is.opened in
+      good (has_cone own) w (record {
+        datagram = o.datagram;
+        counts = o.counts;
+        left = o.left;
+        asked = o.asked;
+        external = in_.external;
+        port = a.port ∙ plain_one_port laws.nat v a.datagram o.datagram is.plain p
+            (record { counts = a.counts; left = a.left }) (record { counts = o.counts; left = o.left });
+        latest = o.latest;
+      }) is.plain is.cone
+
+  -- what holds after an advertisement
+  module _ (w : Option ℕ) where
+    abbrev pub After : Phase → Option Ep → Option Ip6 → Fate → Type 0
+    After ph k a f = IsSoundIn v b (unwrap_or (begins (turn f)) ph) (kept_then ph (turn f) (Some dst) k) (address_then s ph (turn f) w (Some dst) a)
+
+    by_second : (k : Option Ep) (a : Option Ip6) → OpenOrigin v k → IsLetInAt v (server_ep s.secondary) dst → (same : Bool)
+        → is_same_origin (Some dst) k ≡ same → After Secondary k a (phase_line Secondary same)
+    by_second None a is in_ same e = absurd is
+    by_second (Some o) a is in_ true e =
+        let one : dst ≡ o = same_ep-true dst o e in
+        good false w (subst (IsOpen v) (sym one) is) (same_plain o one is in_) (λ h. absurd (false≢true h))
+    by_second (Some o) a is in_ false e = in_other o e is in_
+
+    by_refresh : (src : Ep) (k : Option Ep) (a : Option Ip6) → GoodAddress v b a → IsLetInAt v src dst → (same : Bool)
+        → After Qualified k a (phase_line Qualified same)
+    by_refresh src k None is in_ same = absurd is
+    by_refresh src k (Some own) is in_ true = is
+    by_refresh src k (Some own) is in_ false = in_qualified src w own is in_
+
+    pub told : (q : Qualification) (cone : Bool) (ph : Phase) → IsSoundIn v b ph q.kept q.address → IsLetInAt v (expected_in s ph cone) dst → (same : Bool)
+        → is_same_origin (Some dst) (origin_before q ph) ≡ same → After ph q.kept q.address (phase_line ph same)
+    told q cone Cone i in_ same e = in_cone w i.0 i.1 in_
+    told q cone Restricted i in_ same e = in_restricted in_
+    told q cone Secondary i in_ same e = by_second q.kept q.address i in_ same e
+    told q cone Qualified i in_ same e = by_refresh (expected_in s Qualified cone) q.kept q.address i in_ same
+    told q cone Symmetric i in_ same e = i
+    told q cone OffLine i in_ same e = tt
