@@ -89,13 +89,7 @@ module _ (laws : PacketLaws) (s : Settings) (j : Journal) (n : ℕ) (peer : Ip6)
 
 -- LATER RECORDS AT THE SAME MOMENT
 
--- what is kept stays
-pub keeps_on : (H : List Full) (q : Full) (n : ℕ) (peer : Ip6) (waiting : List (List ℕ)) (j : Journal) → q.moment ≡ now H → journal n (q ∷ H) ≡ j
-    → Keeps j (now H) peer waiting → Keeps (journal n (q ∷ H)) (now (q ∷ H)) peer waiting
-keeps_on H q n peer waiting j moment same keeps = subst (λ (z : Journal). Keeps z q.moment peer waiting) (sym same)
-    (subst (λ (m : ℕ). Keeps j m peer waiting) (sym moment) keeps)
-
--- and what may be tried
-pub unbarred_on : (H : List Full) (q : Full) (n : ℕ) (peer : Ip6) (j : Journal) → q.moment ≡ now H → journal n (q ∷ H) ≡ j → Unbarred j (now H) peer
-    → Unbarred (journal n (q ∷ H)) (now (q ∷ H)) peer
-unbarred_on H q n peer j moment same is = subst (λ (z : Journal). Unbarred z q.moment peer) (sym same) (subst (λ (m : ℕ). Unbarred j m peer) (sym moment) is)
+-- what holds of a client's journal holds on
+pub at_same_moment : (P : Journal → ℕ → Type 0) (H : List Full) (q : Full) (n : ℕ) (j : Journal) → q.moment ≡ now H → journal n (q ∷ H) ≡ j → P j (now H)
+    → P (journal n (q ∷ H)) (now (q ∷ H))
+at_same_moment P H q n j moment same holds = subst (λ (z : Journal). P z q.moment) (sym same) (subst (λ (m : ℕ). P j m) (sym moment) holds)

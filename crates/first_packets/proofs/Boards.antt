@@ -12,9 +12,12 @@ use Rattle.first_packets.specs.FirstPacket.{HasArrived}
 use Rattle.first_packets.proofs.Counted.{AreOpen, without_first, with_next, without_last}
 use Rattle.first_packets.proofs.Deliveries.{Delivery, to_node, to_nobody, delivery}
 use Rattle.first_packets.proofs.Pair.{Pair, IsPair, lab_in}
-use Rattle.first_packets.proofs.Ground.{PacketLaws, Ground, still_there}
+use Rattle.first_packets.proofs.Lists.{still_there}
+use Rattle.first_packets.proofs.Ground.{PacketLaws, Ground}
 use Rattle.first_packets.proofs.Stages.{At, Stage, asks, tells, answers, releases_it, has_come, Next, goes_on, ends, no_more}
-use Rattle.first_packets.proofs.Steps.{at_server, at_receiver, at_sender, at_end, at_once, stage_stays}
+use Rattle.first_packets.proofs.After.{IsRecord}
+use Rattle.first_packets.proofs.Steps.{at_server, at_receiver, at_sender, at_end}
+use Rattle.first_packets.proofs.Direct.{at_once, stage_stays}
 
 -- as long as the packet hasn't come, the latest entry is open
 abbrev pub is_open : ℕ → Bool
@@ -55,13 +58,16 @@ module _ (p : Pair) (before : List Full) (r : Full) (total : ℕ) where
     abbrev H : List Full
     H = after later
 
+    is_record : IsRecord p H q
+    is_record = record { pair = is; ground = board.ground; follows = follows; sound = fresh.sound }
+
     came : Delivery (lab_in p) H q fresh.number
     came = delivery (lab_in p) H q fresh.number (laws.kinds (lab_in p) H q follows) fresh.delivered
 
     -- the direct bubble
     spends : board.direct ≡ true → fresh.number ≡ r.first → Board (q ∷ later)
     spends direct same =
-        let passes = at_once laws p is H q board.ground follows fresh.sound r.first (subst (Delivery (lab_in p) H q) same came) (board.bubble direct) in
+        let passes = at_once laws p H q is_record r.first (subst (Delivery (lab_in p) H q) same came) (board.bubble direct) in
         let open_so : AreOpen r.first board.last true (is_open board.k) later = subst
         (λ (b : Bool). AreOpen r.first board.last b (is_open board.k) later) direct board.are in
         let sum : length later + (1 + board.k) ≡ total = subst (λ (b : Bool). length later + (bit b + board.k) ≡ total) direct board.sum in
@@ -72,18 +78,17 @@ module _ (p : Pair) (before : List Full) (r : Full) (total : ℕ) where
           ground = passes.ground_then;
           long = ap (λ (xs : List Item). length xs) (no_more H q passes.made) ∙ board.long;
           are = without_first r.first board.last q later (is_open board.k) open_so (fresh.delivered ∙ ap (λ (n : ℕ). Some n) same);
-          stage = stage_stays laws p is H q board.ground follows fresh.sound board.last board.k later passes board.stage;
+          stage = stage_stays laws p H q is_record board.last board.k later passes board.stage;
           bubble = λ spent. absurd (false≢true spent);
           sum = omega (arith, sum);
         }
 
     -- the latest entry
     advance : (k : ℕ) → is_open k ≡ true → Stage p H board.last later k → Delivery (lab_in p) H q board.last → Next p H q board.last later k
-    advance _ opened (asks at sends may back) d = at_server laws p is H q board.ground follows fresh.sound board.last later d board.long at sends may back
-    advance _ opened (tells at sends may back) d = at_receiver laws p is H q board.ground follows fresh.sound board.last later d board.long at sends may back
-    advance _ opened (answers at sends back forth) d =
-        at_sender laws p is H q board.ground follows fresh.sound board.last later d board.long at sends back forth
-    advance _ opened (releases_it at forth) d = at_end laws p is H q board.ground follows fresh.sound board.last later d board.long at forth
+    advance _ opened (asks at sends may back) d = at_server laws p H q is_record board.last later d board.long at sends may back
+    advance _ opened (tells at sends may back) d = at_receiver laws p H q is_record board.last later d board.long at sends may back
+    advance _ opened (answers at sends back forth) d = at_sender laws p H q is_record board.last later d board.long at sends back forth
+    advance _ opened (releases_it at forth) d = at_end laws p H q is_record board.last later d board.long at forth
     advance _ opened (has_come come) d = absurd (false≢true opened)
 
     moves : (k : ℕ) → AreOpen r.first board.last board.direct (is_open k) later → length later + (bit board.direct + k) ≡ total

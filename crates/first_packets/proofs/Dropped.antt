@@ -29,11 +29,14 @@ use Rattle.first_packets.specs.FirstPacket.{GetsThrough}
 use Rattle.first_packets.specs.NoRoom.{IsTurnedAway, FullSenderDrops}
 use Rattle.first_packets.proofs.Ends.{IsEnd, is_end}
 use Rattle.first_packets.proofs.Deliveries.{Did, Delivery, to_node, to_nobody, delivery}
-use Rattle.first_packets.proofs.Meeting.{Meets, IsHere, IsTurned, turned_away}
+use Rattle.first_packets.proofs.HostPacket.{IsTurned, turned_away}
+use Rattle.first_packets.proofs.Meeting.{Meets, IsHere}
 use Rattle.first_packets.proofs.Pair.{Side, setup, meets}
-use Rattle.first_packets.proofs.Ground.{PacketLaws, none_longer, is_here}
+use Rattle.first_packets.proofs.Lists.{none_longer}
+use Rattle.first_packets.proofs.Ground.{PacketLaws, is_here}
 use Rattle.first_packets.proofs.HandedIn as handed_in
-use Rattle.first_packets.proofs.HandedIn.{StartLaws, before_it}
+use Rattle.settled.proofs.Earlier.{earlier}
+use Rattle.first_packets.proofs.HandedIn.{StartLaws}
 
 -- one for which there is no room isn't listed
 pub not_listed : (j : List Mention) (n : ℕ) (p : Ip6) → has_room j n p ≡ false → is_listed p n j ≡ false
@@ -114,7 +117,7 @@ module _ (laws : StartLaws) (d : Draws) (t : TopologyState) (H : List Full) (r :
 
   its_here : IsHere (setup t a_side) (journal n H) (fields_in x).src
   its_here = subst (IsHere (setup t a_side) (journal n H)) (sym turned.packet.source)
-      (is_here l lab H n a own g.1 sender_end.there turned.sender_settled.address)
+      (is_here l lab H n a own (record { grown = g.1; there = sender_end.there; address = turned.sender_settled.address }))
 
   full : has_room (mentions (journal n H).entries) (now H) (fields_in x).dst ≡ false
   full = ap (has_room (mentions (journal n H).entries) (now H)) turned.packet.destination ∙ turned.full
@@ -139,7 +142,7 @@ module _ (laws : StartLaws) (d : Draws) (t : TopologyState) (H : List Full) (r :
 pub full_sender_drops : StartLaws → FullSenderDrops
 full_sender_drops laws d t H r later is g n m a b own other x turned fresh =
     let lab = flat_lab d t in
-    let there = before_it lab later (r ∷ H) g in
+    let there = earlier lab later (r ∷ H) g in
     let nothing = nothing laws d t H r n m a b own other x is there turned in
     let number : r.first ≡ length (wire H) = ap (λ (z : Full). z.first) there.0.is ∙ (laws.event lab H r.event r.asked).first in
     let same = alone laws lab H r number nothing later g fresh in

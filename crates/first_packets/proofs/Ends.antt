@@ -1,20 +1,14 @@
 -- What the premise says of a settled client: its nodes, and what its address embeds.
-use Rattle.std.proofs.Common.{◌≡◌, ◌<◌, ◌≤◌, ◌==◌, ◌+◌, ◌||◌, not, ℕ, Bool, true, false, List, Option, Some, refl, sym, ap, subst, ◌∙◌, arith}
-use Rattle.std.specs.Prelude.{IfSome, unwrap_or, is_some, ◌↔◌}
-use Rattle.std.proofs.lemmas.Bool.{false≢true}
+use Rattle.std.proofs.Common.{◌≡◌, ◌<◌, ◌≤◌, ◌==◌, ◌+◌, not, ℕ, true, false, List, Some, sym, ap, subst, ◌∙◌, arith}
+use Rattle.std.specs.Prelude.{◌↔◌}
 use Rattle.std.proofs.lemmas.Bool.Decides.{nat_tests}
-use Rattle.std.proofs.lemmas.List.Elements.{All-contains, All-from_recursion}
 use Rattle.td_base.specs.declared.ipv4.Ip4.{Ip4}
 use Rattle.td_base.specs.declared.ipv6.Ip6.{Ip6}
 use Rattle.td_base.specs.declared.endpoint.Ep.{Ep}
 use Rattle.td_base.specs.declared.reach.Policy.TheVariants.{Strict}
-use Rattle.td_base.specs.Ip4.{same_ip, same_ip-self}
 use Rattle.td_base.specs.Ep.{IsEp}
 use Rattle.td_base.specs.Reach.{is_usable, is_global}
-use Rattle.teredo_addr.specs.Teredo.{server_in, embedded, flags_of}
-use Rattle.teredo_addr.specs.Laws.{IsTeredoOf, TeredoTells, FlagsTell}
-use Rattle.bubble.specs.Laws.{PayloadIsSpelled}
-use Rattle.bubble.proofs.MadeInputs.{origin_is}
+use Rattle.teredo_addr.specs.Teredo.{server_in, embedded}
 use Rattle.nat_kinds.specs.declared.settings.NatSettings.{NatSettings}
 use Rattle.nat_kinds.specs.declared.limits.TheConstants.{FIRST_PORT, MAPPINGS_MAX}
 use Rattle.nat_kinds.specs.History.{Entry as NatEntry}
@@ -22,23 +16,15 @@ use Rattle.nat_kinds.specs.Mappings.{live_port}
 use Rattle.nat_kinds.specs.Answer.{live_after}
 use Rattle.nat_kinds.specs.Entering.{lets_in}
 use Rattle.nat_kinds.specs.Laws.{IsPast, WasAsked}
-use Rattle.teredo_node.specs.Journal.{Input, arrived, given, from_six, ticked, Entry, Journal}
-use Rattle.teredo_node.specs.MadeInputs.{IsMadeInput, AreMadeInputs}
-use Rattle.qualify.specs.declared.settings.Settings.{Settings}
-use Rattle.qualify.specs.Turns.{origin_given}
-use Rattle.qualify.specs.Qualification.{qualification}
-use Rattle.qualify.specs.Laws.{Turns}
-use Rattle.client_rules.specs.MadeSends.{IsMadeClient}
 use Rattle.topology.specs.declared.server_node.ServerNode.{ServerNode}
 use Rattle.topology.specs.declared.nat_node.NatNode.{NatNode}
 use Rattle.topology.specs.declared.client_node.ClientNode.{ClientNode}
-use Rattle.topology.specs.declared.node.Node.{Node}
 use Rattle.topology.specs.declared.node.Node.TheVariants.{Server as server, Nat as nat, Client as client}
 use Rattle.topology.specs.Rows.{TopologyState}
 use Rattle.topology.specs.Rules.{IsTopology}
 use Rattle.topology.specs.Topology.{node_at, client_at, nat_settings}
 use Rattle.topology.specs.Chains.{nat_set_up}
-use Rattle.topology.specs.NodeRules.{has_address, IsServerNode, IsNatNode, AddressesAreApart, EachNodeKeepsRules}
+use Rattle.topology.specs.NodeRules.{IsServerNode, IsNatNode, AddressesAreApart, EachNodeKeepsRules}
 use Rattle.history.specs.Full.{Full}
 use Rattle.legal.specs.Lab.{Lab}
 use Rattle.legal.specs.Settings.{client_settings}
@@ -50,84 +36,9 @@ use Rattle.legal.proofs.NatPasts.{set_up_past}
 use Rattle.settled.specs.Clients.{asks_at, nat_behind}
 use Rattle.settled.specs.Settled.{IsSettled}
 use Rattle.settled.specs.ItsNodes.{ClientsAreThere}
-use Rattle.settled.specs.OwnAddress.{WasTold, IsOwnAddress, EachAddressIsOwn}
 use Rattle.first_packets.proofs.Bools.{both_hold}
 use Rattle.first_packets.proofs.Ways.{CountingHolds, Way, Holds, held_port}
-
--- WHAT AN ADDRESS IS MADE OF
-
--- a Teredo address of a client that is set up so
-pub record IsTold (s : Settings) (ip : Ip6) : Type 0 where
-  pub flags : ℕ
-  pub mapped : Ep
-  pub of : IsTeredoOf s.primary flags mapped ip
-  pub made : IsEp mapped
-
-pub record AddressLaws : Type 0 where
-  pub payload : PayloadIsSpelled
-  pub teredo : TeredoTells
-  pub flags : FlagsTell
-  pub turns : Turns
-  pub own : EachAddressIsOwn
-
--- an origin that came is made
-origin_made : PayloadIsSpelled → (input : Input) (origin : Ep) → IsMadeInput input → origin_given input ≡ Some origin → IsEp origin
-origin_made law (arrived from x) origin made same = subst (λ (o : Option Ep). IfSome o IsEp) same (origin_is law x made.1)
-origin_made law (given x) origin made same = absurd (false≢true (ap (λ (o : Option Ep). is_some o) same))
-origin_made law (from_six x) origin made same = absurd (false≢true (ap (λ (o : Option Ep). is_some o) same))
-origin_made law ticked origin made same = absurd (false≢true (ap (λ (o : Option Ep). is_some o) same))
-
--- so is one that was told
-told_made : PayloadIsSpelled → (es : List Entry) (origin : Ep) → AreMadeInputs es → WasTold es origin → IsEp origin
-told_made law es origin made (e, at, same) = origin_made law e.input origin
-    (All-contains (λ (q : Entry). IsMadeInput q.input) es e (All-from_recursion (λ (q : Entry). IsMadeInput q.input) es made) at) same
-
--- the address of a journal is one
-own_address_is : AddressLaws → (s : Settings) (j : Journal) (own : Ip6) → IsMadeClient s → AreMadeInputs j.entries → (qualification s j).address ≡ Some own
-    → IsTold s own
-own_address_is laws s j own made inputs address =
-    let is : IsOwnAddress s j.entries own = laws.own s j own address in
-    let flags : ℕ = flags_of is.cone is.word in
-    let mapped : IsEp is.origin = told_made laws.payload j.entries is.origin inputs is.told in
-    record {
-      flags = flags;
-      mapped = is.origin;
-      of = subst (IsTeredoOf s.primary flags is.origin) (sym is.made)
-          (laws.teredo s.primary flags is.origin made.primary (laws.flags is.cone is.word).sixteen mapped);
-      made = mapped;
-    }
-
--- ADDRESSES OF NODES
-
--- nodes of two kinds have no address in common
-pub other_kind : AddressesAreApart → (t : TopologyState) (i j : ℕ) (a b : Node) (ip : Ip4) (test : Node → Bool) → IsTopology t → node_at t i ≡ Some a
-    → node_at t j ≡ Some b
-    → has_address ip a ≡ true → has_address ip b ≡ true → test a ≡ false → test b ≡ true → ⊥
-other_kind apart t i j a b ip test is at to h g fails holds =
-    let same : i ≡ j = apart t i j a b ip is at to h g in
-    let one : a ≡ b = ap (λ (o : Option Node). unwrap_or o a) (sym at ∙ ap (node_at t) same ∙ to) in
-    false≢true (sym fails ∙ ap test one ∙ holds)
-
--- a NAT has its address
-pub nat_has : (a : NatNode) → has_address a.external (nat a) ≡ true
-nat_has a = ap (λ (b : Bool). b || false) (same_ip-self a.external)
-
--- a server has its two
-pub server_has : (a : ServerNode) → has_address a.primary (server a) ≡ true
-server_has a = ap (λ (b : Bool). b || (same_ip a.primary a.secondary || false)) (same_ip-self a.primary)
-
-pub server_has_too : (a : ServerNode) → has_address a.secondary (server a) ≡ true
-server_has_too a = by (same_ip a.secondary a.primary) (same_ip a.secondary a.secondary) (same_ip-self a.secondary) where
-  by : (b c : Bool) → c ≡ true → (b || (c || false)) ≡ true
-  by true c h = refl
-  by false true h = refl
-  by false false h = absurd (false≢true h)
-
-abbrev pub is_nat_node : Node → Bool
-is_nat_node (nat a) = true
-is_nat_node _ = false
-
--- A SETTLED CLIENT
+use Rattle.first_packets.proofs.Addresses.{IsTold, AddressLaws, own_address_is}
 
 pub record EndLaws : Type 0 where
   pub address : AddressLaws

@@ -5,7 +5,7 @@ use Rattle.std.proofs.lemmas.Bool.{false≢true}
 use Rattle.std.proofs.lemmas.Bool.Decides.{nat_tests}
 use Rattle.history.specs.Full.{Item, sent, item_in, Full, wire, items_of}
 use Rattle.first_packets.proofs.Counted.{AreOpen}
-use Rattle.first_packets.proofs.Ground.{last_there, one_longer}
+use Rattle.first_packets.proofs.Lists.{last_there, one_longer}
 
 -- one entry behind the wire
 pub record OneFirst (H : List Full) (r : Full) (x : Item) : Type 0 where

@@ -21,8 +21,9 @@ use Rattle.first_packets.proofs.Known.{untried}
 use Rattle.first_packets.proofs.First.{one_first, first_of_two, second_of_two, two_longer, one_open, two_open}
 use Rattle.first_packets.proofs.Deliveries.{Did}
 use Rattle.first_packets.proofs.Pair.{Pair, IsPair, setup, nat_by, elsewhere, server_elsewhere, asked_itself, asked_all}
-use Rattle.first_packets.proofs.Ground.{PacketLaws, AllSent, address_stays, Keeps, Unbarred, Ground, all_leaves}
-use Rattle.first_packets.proofs.AtClients.{Afterwards, after_queued, keeps_on, unbarred_on}
+use Rattle.first_packets.proofs.AllSent.{AllSent, all_leaves}
+use Rattle.first_packets.proofs.Ground.{PacketLaws, address_stays, Keeps, Unbarred, Ground}
+use Rattle.first_packets.proofs.AtClients.{Afterwards, after_queued, at_same_moment}
 use Rattle.first_packets.proofs.Stages.{asks, releases_it}
 use Rattle.first_packets.proofs.Boards.{Board}
 use Rattle.std.specs.List.{AllByRecursion}
@@ -114,14 +115,15 @@ module _ (laws : StartLaws) (p : Pair) (H : List Full) (r : Full) (start : IsSta
 
     -- the packet waits
     sends : Keeps (journal p.a.n (r ∷ H)) (now (r ∷ H)) other (p.x ∷ [])
-    sends = keeps_on H r p.a.n other (p.x ∷ []) (with_entry (journal p.a.n H) done) (next laws p H r start).moment does.later left.keeps
+    sends = at_same_moment (λ j m. Keeps j m other (p.x ∷ [])) H r p.a.n (with_entry (journal p.a.n H) done) (next laws p H r start).moment does.later
+        left.keeps
 
     -- the receiver may try the sender
     may : Unbarred (journal p.b.n (r ∷ H)) (now (r ∷ H)) own
     may =
         let new : known (mentions (journal p.b.n H).entries) (now H) own ≡ no_peer = l.unlisted (mentions (journal p.b.n H).entries)
         (now H) own start.first.clients.receiver_new.unlisted in
-        unbarred_on H r p.b.n own (journal p.b.n H) (next laws p H r start).moment (receiver_stays laws p H r start)
+        at_same_moment (λ j m. Unbarred j m own) H r p.b.n (journal p.b.n H) (next laws p H r start).moment (receiver_stays laws p H r start)
         (untried (now H) (known (mentions (journal p.b.n H).entries) (now H) own) (ap (λ (k : Peer). k.tries) new))
 
     -- the sender is cone

@@ -17,11 +17,12 @@ use Rattle.first_packets.proofs.Ways.{IsCalmNext}
 use Rattle.first_packets.proofs.Ends.{way_of_server}
 use Rattle.first_packets.proofs.Counted.{AreOpen}
 use Rattle.first_packets.proofs.Deliveries.{Did}
-use Rattle.first_packets.proofs.Meeting.{Meets, IsHere, goes_at_once, waits_here}
+use Rattle.first_packets.proofs.HostPacket.{goes_at_once, waits_here}
+use Rattle.first_packets.proofs.Meeting.{Meets, IsHere}
 use Rattle.first_packets.proofs.Pair.{Pair, IsPair, setup}
-use Rattle.first_packets.proofs.Ground.{PacketLaws, other_journal, Ground, ground_on, is_here}
-use Rattle.first_packets.proofs.AtClients.{keeps_on}
-use Rattle.first_packets.proofs.Steps.{two_nodes, same_address, same_after}
+use Rattle.first_packets.proofs.Ground.{PacketLaws, other_journal, Keeps, Ground, ground_on, is_here}
+use Rattle.first_packets.proofs.AtClients.{at_same_moment}
+use Rattle.first_packets.proofs.After.{IsRecord, two_nodes, same_address, same_after}
 use Rattle.teredo_node.specs.declared.fate.Fate.TheVariants as fate
 use Rattle.first_packets.proofs.Pair.{lab_in}
 use Rattle.first_packets.proofs.HandedIn.{StartLaws}
@@ -62,16 +63,19 @@ module _ (laws : StartLaws) (p : Pair) (H : List Full) (r : Full) (start : IsSta
   pub next : IsCalmNext (lab_in p) H r
   next = record { follows = start.grown.0; calm = (hand laws p H r start).calm; moment = does.moment }
 
+  is_record : IsRecord p H r
+  is_record = record { pair = is; ground = ground; follows = start.grown.0; sound = start.sound }
+
   -- the receiver does nothing
   pub receiver_stays : journal p.b.n (r ∷ H) ≡ journal p.b.n H
-  receiver_stays = other_journal l.frame (lab_in p) H r p.a.n p.b.n (client p.a.c) done does (two_nodes l p is H r ground start.grown.0 start.sound)
+  receiver_stays = other_journal l.frame (lab_in p) H r p.a.n p.b.n does.node (two_nodes l p H r is_record)
 
   -- the ground after
   pub ground_then : (qualification (setup p.t p.a) (with_entry (journal p.a.n H) done)).address ≡ (qualification (setup p.t p.a) (journal p.a.n H)).address
       → Ground p (r ∷ H)
-  ground_then stays = ground_on l p H r next ground (same_after l p is H r ground start.grown.0 start.sound p.a done does.later stays)
-      (same_address l p is H r ground start.grown.0 start.sound p.b receiver_stays)
-      (keeps_on H r p.b.n p.a.own [] (journal p.b.n H) next.moment receiver_stays ground.keeps_nothing)
+  ground_then stays =
+      ground_on l p H r next ground (same_after l p H r is_record p.a done does.later stays, same_address l p H r is_record p.b receiver_stays)
+      (at_same_moment (λ j m. Keeps j m p.a.own []) H r p.b.n (journal p.b.n H) next.moment receiver_stays ground.keeps_nothing)
 
   -- its entries come behind the wire
   pub number : r.first ≡ length (wire H)
@@ -92,7 +96,7 @@ module _ (laws : StartLaws) (p : Pair) (H : List Full) (r : Full) (start : IsSta
 
   its_here : IsHere (setup p.t p.a) (journal p.a.n H) (fields_in p.x).src
   its_here = subst (IsHere (setup p.t p.a) (journal p.a.n H)) (sym start.first.packet.source)
-      (is_here l (lab_in p) H p.a.n p.a.c p.a.own start.grown.1 (sender_end laws p H r start).there ground.sender)
+      (is_here l (lab_in p) H p.a.n p.a.c p.a.own (record { grown = start.grown.1; there = (sender_end laws p H r start).there; address = ground.sender }))
 
   -- there is room for it
   room : has_room (mentions (journal p.a.n H).entries) (now H) (fields_in p.x).dst ≡ true

@@ -1,5 +1,5 @@
 -- The record in which a host hands in a packet: what its client did, and that the packet is bytes.
-use Rattle.std.proofs.Common.{◌≡◌, ◌≤◌, ◌+◌, ℕ, true, false, List, [], ◌∷◌, ◌++◌, length, Option, Some, sym, ap, subst, ◌∙◌, arith}
+use Rattle.std.proofs.Common.{◌≡◌, ◌≤◌, ◌+◌, ℕ, true, false, List, ◌∷◌, length, Option, Some, sym, ap, subst, ◌∙◌, arith}
 use Rattle.std.specs.Prelude.{unwrap_or, nat_lt}
 use Rattle.std.proofs.lemmas.Bool.Decides.{nat_tests}
 use Rattle.td_base.specs.Bytes.{IsBytes}
@@ -32,11 +32,6 @@ pub record StartLaws : Type 0 where
   pub long : PacketIsBytes
 
 -- THE PREMISE
-
--- the records before
-pub before_it : (lab : Lab) (later xs : List Full) → Grown lab (later ++ xs) → Grown lab xs
-before_it lab [] xs g = g
-before_it lab (q ∷ later) xs g = before_it lab later xs g.1
 
 -- a short packet isn't big
 not_big : PacketIsSpelled → PacketIsBytes → (x : List ℕ) → IsBytes x → is_packet x ≡ true → length x ≤ PACKET_MAX → is_big (fields_in x) ≡ false

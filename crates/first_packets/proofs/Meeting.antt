@@ -1,5 +1,5 @@
 -- Two settled clients: what one does with what the other's first packet draws.
-use Rattle.std.proofs.Common.{◌≡◌, ◌||◌, not, ℕ, Bool, true, false, List, [], ◌∷◌, Option, Some, None, refl, sym, ap, subst, ◌∙◌}
+use Rattle.std.proofs.Common.{◌≡◌, ◌||◌, not, ℕ, Bool, true, false, List, ◌∷◌, Option, Some, None, refl, sym, ap, subst, ◌∙◌, []}
 use Rattle.std.specs.Prelude.{unwrap_or}
 use Rattle.std.proofs.lemmas.List.{take_rest}
 use Rattle.td_base.specs.declared.endpoint.Ep.{Ep}
@@ -10,9 +10,8 @@ use Rattle.td_base.specs.Reach.{is_usable, is_global, is_global6}
 use Rattle.td_base.specs.Ip6.{same_ip6, same_ip6-self}
 use Rattle.td_base.specs.Ep.{same_ep, same_ep-self, server_ep}
 use Rattle.ipv6_packet.specs.Packets.{Fields}
-use Rattle.ipv6_packet.specs.Reads.{is_big, is_packet, fields_in}
-use Rattle.teredo_addr.specs.Teredo.{is_teredo, server_in, has_cone, embedded, unspecified}
-use Rattle.teredo_addr.specs.Reaching.{is_reachable}
+use Rattle.ipv6_packet.specs.Reads.{is_big}
+use Rattle.teredo_addr.specs.Teredo.{is_teredo, server_in, embedded, unspecified}
 use Rattle.indications.specs.Leads.{is_keyed, is_confirmed}
 use Rattle.bubble.specs.Bubbles.{is_bubble, bubble_of, bubble_bytes}
 use Rattle.bubble.specs.Payloads.{Value, value_written}
@@ -22,27 +21,23 @@ use Rattle.teredo_node.specs.declared.fate.Fate.{Fate}
 use Rattle.teredo_node.specs.declared.fate.Fate.TheVariants as fate
 use Rattle.teredo_node.specs.Step.{rest_of, part}
 use Rattle.teredo_node.specs.Sends.{send, releases}
-use Rattle.teredo_node.specs.Journal.{given, Entry, Journal, Words}
+use Rattle.teredo_node.specs.Journal.{Entry, Journal, Words}
 use Rattle.peer_list.specs.Listed.{has_room}
-use Rattle.peer_list.specs.Peers.{no_peer, known}
-use Rattle.peer_list.specs.Judged.{is_fresh, is_spent, is_barred, is_full}
+use Rattle.peer_list.specs.Peers.{known}
+use Rattle.peer_list.specs.Judged.{is_barred}
 use Rattle.qualify.specs.declared.settings.Settings.{Settings}
 use Rattle.qualify.specs.Qualification.{qualification}
 use Rattle.qualify.specs.Solicitations.{is_qualified, own_address}
 use Rattle.qualify.specs.Advertisements.{advert_row}
 use Rattle.client_rules.specs.Bearings.{mentions}
 use Rattle.client_rules.specs.Standing.{standing_at}
-use Rattle.client_rules.specs.Tries.{both_bubbles, tries_by, try_sends}
 use Rattle.client_rules.specs.Reception.{is_from_server, seen_of, reception_row}
-use Rattle.client_rules.specs.Transmission.{queues}
-use Rattle.client_rules.specs.Journals.{entry, client_in, client_out}
+use Rattle.client_rules.specs.Journals.{client_in}
 use Rattle.legal.specs.Emit.{handed_by}
 use Rattle.client_rules.specs.Handed.{HandingRule, rule1, rule3}
-use Rattle.first_packets.proofs.Bools.{right_fails, both_hold, not_so, left_holds}
-use Rattle.first_packets.proofs.Known.{untried, unspent}
+use Rattle.first_packets.proofs.Bools.{both_hold, left_holds}
 use Rattle.first_packets.proofs.Received.{IsForHere, IsThroughServer, IsFromPeer, answered, HearsBubble, by_rule1, by_rule3}
 use Rattle.first_packets.proofs.Received.{bubble_heard, packet_handed, seen_here, entry_here}
-use Rattle.first_packets.proofs.Given.{IsForPeer, sent_at_once, waits_for_it, no_room_for_it, given_here, entry_given}
 
 -- a client that is set up so and has the address own may hear from a peer, and send to it
 pub record Meets (s : Settings) (own peer : Ip6) : Type 0 where
@@ -65,7 +60,7 @@ pub record Knows (s : Settings) (j : Journal) (n : ℕ) (own peer : Ip6) : Type 
   pub room : has_room (mentions j.entries) n peer ≡ true
 
 -- its own address
-address_is : (s : Settings) (j : Journal) (own : Ip6) → (qualification s j).address ≡ Some own → own_address (qualification s j) ≡ own
+pub address_is : (s : Settings) (j : Journal) (own : Ip6) → (qualification s j).address ≡ Some own → own_address (qualification s j) ≡ own
 unfolding own_address
 address_is s j own e = ap (λ (o : Option Ip6). unwrap_or o unspecified) e
 
@@ -221,101 +216,3 @@ module _ (s : Settings) (j : Journal) (n : ℕ) (own peer : Ip6) (meets : Meets 
         about = refl;
         moment = refl;
       })
-
--- THE HOST'S PACKET
-
--- x, from this client to the peer, which it doesn't list
-module _ (s : Settings) (j : Journal) (n : ℕ) (x : List ℕ) (is_one : is_packet x ≡ true) (meets : Meets s (fields_in x).src (fields_in x).dst)
-    (here : IsHere s j (fields_in x).src)
-    (small : is_big (fields_in x) ≡ false) (plain : is_bubble (fields_in x) ≡ false) (new : known (mentions j.entries) n (fields_in x).dst ≡ no_peer) where
-  abbrev to : Ip6
-  to = (fields_in x).dst
-
-  from_here : own_address (qualification s j) ≡ (fields_in x).src
-  from_here = address_is s j (fields_in x).src here.address
-
-  -- the peer can be reached
-  reachable : is_reachable s.policy to ≡ true
-  unfolding is_reachable
-  reachable = both_hold (is_usable s.policy (embedded to)) (is_global s.policy (server_in to))
-      (ap (λ (z : Policy). is_usable z (embedded to)) meets.strict ∙ meets.usable)
-      (ap (λ (z : Policy). is_global z (server_in to)) meets.strict ∙ meets.server_global)
-
-  stale : is_fresh n no_peer ≡ false
-  unfolding is_fresh
-  stale = refl
-
-  not_full : is_full no_peer ≡ false
-  unfolding is_full
-  not_full = refl
-
-  -- what the lines see of the packet
-  for_peer : IsForPeer (given_here s j n x is_one)
-  unfolding standing_at
-  for_peer = record {
-    qualified = here.qualified;
-    packet = refl;
-    short = small;
-    own = ap (same_ip6 (fields_in x).src) from_here ∙ same_ip6-self (fields_in x).src;
-    global = meets.global;
-    no_bubble = plain;
-    for_another = ap (same_ip6 to) from_here ∙ meets.other;
-    reachable = right_fails (is_teredo to) (not (is_reachable s.policy to)) (not_so (is_reachable s.policy to) reachable);
-    stale = ap (is_fresh n) new ∙ stale;
-  }
-
-  -- it goes at once to a cone peer
-  pub record GoesAtOnce (e : Entry) : Type 0 where
-    pub sent_cone : e.step.fate ≡ fate.SentCone
-    pub sends : e.step.sends ≡ send (embedded to) x ∷ []
-    pub about : e.peer ≡ Some to
-    pub moment : e.moment ≡ n
-
-  -- by the table
-  pub goes_at_once : has_cone to ≡ true → (w : Words) → GoesAtOnce (client_out s j n x w)
-  unfolding standing_at
-  goes_at_once cone w = subst GoesAtOnce (sym (entry_given s j n x is_one w fate.SentCone
-      (sent_at_once (given_here s j n x is_one) for_peer (both_hold (is_teredo to) (has_cone to) meets.teredo cone))))
-      (record { sent_cone = refl; sends = refl; about = refl; moment = refl })
-
-  -- else it waits, and bubbles go out
-  pub record Waits (e : Entry) : Type 0 where
-    pub queued : e.step.fate ≡ fate.Queued
-    pub sends : e.step.sends ≡ both_bubbles (has_cone (fields_in x).src) (fields_in x).src to
-    pub packet : e.packet ≡ Some x
-    pub about : e.peer ≡ Some to
-    pub moment : e.moment ≡ n
-
-  -- the bubbles of a try
-  tries_are : (w : Words) → try_sends s (own_address (qualification s j)) to w ≡ both_bubbles (has_cone (fields_in x).src) (fields_in x).src to
-  unfolding try_sends
-  tries_are w =
-      ap (λ (b : Bool). tries_by b s (own_address (qualification s j)) to w) meets.teredo
-      ∙ ap (λ (z : Ip6). both_bubbles (has_cone z) z to) from_here
-
-  -- nothing bars it
-  unbarred : is_barred n (known (mentions j.entries) n to) ≡ false
-  unbarred = ap (is_barred n) new ∙ untried n no_peer refl
-
-  -- by the table
-  pub waits_here : has_cone to ≡ false → has_room (mentions j.entries) n to ≡ true → (w : Words) → Waits (client_out s j n x w)
-  unfolding standing_at
-  waits_here cone room w =
-      subst Waits (sym (entry_given s j n x is_one w fate.Queued
-      (waits_for_it (given_here s j n x is_one) for_peer (right_fails (is_teredo to) (has_cone to) cone) room (ap (is_spent n) new ∙ unspent n no_peer refl)
-      (ap is_full new ∙ not_full))))
-      (subst (λ (b : Bool). Waits (entry n (given x) (Some x) (Some to) w (queues b s (standing_at s j n to) to w))) (sym unbarred)
-      (record { queued = refl; sends = tries_are w; packet = refl; about = refl; moment = refl }))
-
-  -- it is dropped where there is no room for the peer
-  pub record IsTurned (e : Entry) : Type 0 where
-    pub full : e.step.fate ≡ fate.PeersFull
-    pub sends : e.step.sends ≡ []
-
-  -- by the table
-  pub turned_away : has_cone to ≡ false → has_room (mentions j.entries) n to ≡ false → (w : Words) → IsTurned (client_out s j n x w)
-  unfolding standing_at
-  turned_away cone room w =
-      subst IsTurned (sym (entry_given s j n x is_one w fate.PeersFull
-      (no_room_for_it (given_here s j n x is_one) for_peer (right_fails (is_teredo to) (has_cone to) cone) room)))
-      (record { full = refl; sends = refl })

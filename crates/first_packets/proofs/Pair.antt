@@ -28,7 +28,8 @@ use Rattle.legal.specs.Settings.{client_settings}
 use Rattle.settled.specs.Clients.{is_symmetric, is_cone}
 use Rattle.first_packets.specs.FirstPacket.{GoesBetween}
 use Rattle.first_packets.proofs.Bools.{neither, refused}
-use Rattle.first_packets.proofs.Ends.{IsEnd, other_kind, nat_has, server_has, server_has_too, is_nat_node}
+use Rattle.first_packets.proofs.Addresses.{other_kind, nat_has, server_has, server_has_too}
+use Rattle.first_packets.proofs.Ends.{IsEnd}
 use Rattle.first_packets.proofs.Meeting.{Meets}
 
 -- client n of a topology, which is c, with the address own
@@ -62,8 +63,13 @@ nat_by t a = nat_set_up t a.c.nat
 module _ (apart : AddressesAreApart) (t : TopologyState) (is : IsTopology t) (a b : Side) (an : IsEnd t a.n a.c a.own) (bn : IsEnd t b.n b.c b.own) where
   -- no NAT has a server's address
   not_server : (ip : Ip4) → has_address ip (server an.server_row) ≡ true → (embedded b.own).ip ≡ ip → ⊥
-  not_server ip has same = other_kind apart t a.c.server b.c.nat (server an.server_row) (nat bn.nat_row) ip is_nat_node is an.server_is bn.nat_is has
-      (subst (λ (z : Ip4). has_address z (nat bn.nat_row) ≡ true) (sym bn.external ∙ same) (nat_has bn.nat_row)) refl refl
+  not_server ip has same = other_kind apart t ip is (record { number = a.c.server; node = server an.server_row; at = an.server_is; has = has })
+      (record {
+        number = b.c.nat;
+        node = nat bn.nat_row;
+        at = bn.nat_is;
+        has = subst (λ (z : Ip4). has_address z (nat bn.nat_row) ≡ true) (sym bn.external ∙ same) (nat_has bn.nat_row);
+      }) refl refl
 
   -- b's endpoint is none of a's server
   pub no_server : is_from_server (setup t a) (embedded b.own) ≡ false

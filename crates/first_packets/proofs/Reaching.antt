@@ -23,7 +23,8 @@ use Rattle.legal.specs.Lab.{Draws, flat_lab}
 use Rattle.legal.specs.Past.{now, nat_history, nat_pasts}
 use Rattle.legal.specs.Emit.{Route, reaches, route}
 use Rattle.legal.specs.Routes.{IsLetIn, DatagramReaches, EachRoute, EachIsReached}
-use Rattle.first_packets.proofs.Ends.{IsEnd, other_kind, nat_has, server_has, server_has_too, is_nat_node}
+use Rattle.first_packets.proofs.Addresses.{other_kind, nat_has, server_has, server_has_too}
+use Rattle.first_packets.proofs.Ends.{IsEnd}
 
 pub record RouteLaws : Type 0 where
   pub routes : EachRoute
@@ -71,16 +72,19 @@ module _ (laws : RouteLaws) (d : Draws) (t : TopologyState) (is : IsTopology t) 
       enters = ap (goes_in t [] (nat_pasts (flat_lab d t) H) (now H) src [] c.nat) enters;
     })
 
+    -- its NAT has it
+    its_own : (ip : Ip4) → (embedded own).ip ≡ ip → has_address ip (nat end.nat_row) ≡ true
+    its_own ip same = subst (λ (z : Ip4). has_address z (nat end.nat_row) ≡ true) (sym end.external ∙ same) (nat_has end.nat_row)
+
     at_server : (a : ServerNode) (k : ℕ) (ip : Ip4) → node_at t k ≡ Some (server a) → has_address ip (server a) ≡ true → (embedded own).ip ≡ ip → ⊥
-    at_server a k ip there has same =
-        other_kind laws.apart t k c.nat (server a) (nat end.nat_row) ip is_nat_node is there end.nat_is has
-        (subst (λ (z : Ip4). has_address z (nat end.nat_row) ≡ true) (sym end.external ∙ same) (nat_has end.nat_row)) refl refl
+    at_server a k ip there has same = other_kind laws.apart t ip is (record { number = k; node = server a; at = there; has = has })
+        (record { number = c.nat; node = nat end.nat_row; at = end.nat_is; has = its_own ip same }) refl refl
 
     at_relay : (r : RelayNode) (k : ℕ) → node_at t k ≡ Some (relay r) → embedded own ≡ r.at → ⊥
     at_relay r k there same =
-        other_kind laws.apart t k c.nat (relay r) (nat end.nat_row) r.at.ip is_nat_node is there end.nat_is
-        (ap (λ (b : Bool). b || false) (same_ip-self r.at.ip))
-        (subst (λ (z : Ip4). has_address z (nat end.nat_row) ≡ true) (sym end.external ∙ ap (λ (e : Ep). e.ip) same) (nat_has end.nat_row)) refl refl
+        let has : has_address r.at.ip (relay r) ≡ true = ap (λ (b : Bool). b || false) (same_ip-self r.at.ip) in
+        other_kind laws.apart t r.at.ip is (record { number = k; node = relay r; at = there; has = has })
+        (record { number = c.nat; node = nat end.nat_row; at = end.nat_is; has = its_own r.at.ip (ap (λ (e : Ep). e.ip) same) }) refl refl
 
     past_nat : (b : ClientNode) → IsLetIn (flat_lab d t) H (now H) src (embedded own) b → inside ≡ None → ⊥
     past_nat b in_ none =

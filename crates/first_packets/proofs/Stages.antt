@@ -27,7 +27,8 @@ use Rattle.first_packets.proofs.Ways.{Way, is_calm}
 use Rattle.first_packets.proofs.Reaching.{same_end}
 use Rattle.first_packets.proofs.Deliveries.{Did, Delivery, to_node, to_nobody}
 use Rattle.first_packets.proofs.Pair.{Pair, lab_in}
-use Rattle.first_packets.proofs.Ground.{last_there, one_longer, none_longer, Keeps, Unbarred, Ground}
+use Rattle.first_packets.proofs.Lists.{last_there, one_longer, none_longer}
+use Rattle.first_packets.proofs.Ground.{Keeps, Unbarred, Ground}
 
 -- entry number k of the wire is this datagram
 abbrev pub At : List Full → ℕ → Ep → Ep → List ℕ → Type 0
@@ -75,17 +76,25 @@ pub record Arrival (lab : Lab) (H : List Full) (q : Full) (n : ℕ) (a : Node) (
 pub same_item : (H : List Full) (k : ℕ) (x y : Item) → slice_get (wire H) k ≡ Some x → slice_get (wire H) k ≡ Some y → x ≡ y
 same_item H k x y at to = ap (λ (o : Option Item). unwrap_or o x) (sym at ∙ to)
 
--- an entry comes where its route leads
-pub arrival : (lab : Lab) (H : List Full) (q : Full) (k n : ℕ) (a : Node) (x : Item) → Delivery lab H q k → slice_get (wire H) k ≡ Some x
-    → route lab H (now H) x ≡ reaches n a → Arrival lab H q n a x
-arrival lab H q k n a x (to_nobody y at none calm made moment stay) to goes =
-    absurd (none n a (subst (λ (z : Item). route lab H (now H) z ≡ reaches n a) (sym (same_item H k y x at to)) goes))
-arrival lab H q k n a x (to_node i y b at way there calm did) to goes =
-    let item : y ≡ x = same_item H k y x at to in
-    let end = same_end (route lab H (now H) x) i n b a (subst (λ (z : Item). route lab H (now H) z ≡ reaches i b) item way) goes in
+-- the entry of a number leads to a node
+pub record Leads (lab : Lab) (H : List Full) (k : ℕ) : Type 0 where
+  pub number : ℕ
+  pub node : Node
+  pub item : Item
+  pub at : slice_get (wire H) k ≡ Some item
+  pub goes : route lab H (now H) item ≡ reaches number node
+
+-- and comes to it
+pub arrival : (lab : Lab) (H : List Full) (q : Full) (k : ℕ) → Delivery lab H q k → (l : Leads lab H k) → Arrival lab H q l.number l.node l.item
+arrival lab H q k (to_nobody y at none calm made moment stay) l =
+    absurd (none l.number l.node (subst (λ (z : Item). route lab H (now H) z ≡ reaches l.number l.node) (sym (same_item H k y l.item at l.at)) l.goes))
+arrival lab H q k (to_node i y b at way there calm did) l =
+    let x = l.item in
+    let item : y ≡ x = same_item H k y x at l.at in
+    let end = same_end (route lab H (now H) x) i l.number b l.node (subst (λ (z : Item). route lab H (now H) z ≡ reaches i b) item way) l.goes in
     record {
       calm = calm;
-      did = subst (λ (c : Node). Did lab H q n c (entry_of lab H (now H) n (dst_of x) (input_of x) c)) end.1
+      did = subst (λ (c : Node). Did lab H q l.number c (entry_of lab H (now H) l.number (dst_of x) (input_of x) c)) end.1
           (subst (λ (m : ℕ). Did lab H q m b (entry_of lab H (now H) m (dst_of x) (input_of x) b)) end.0
           (subst (λ (z : Item). Did lab H q i b (entry_of lab H (now H) i (dst_of z) (input_of z) b)) item did));
     }

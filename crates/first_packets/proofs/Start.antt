@@ -10,7 +10,8 @@ use Rattle.first_packets.specs.FirstPacket.{GetsThrough}
 use Rattle.first_packets.specs.Throughout.{EachFirstPacketArrives}
 use Rattle.first_packets.proofs.Pair.{Pair, lab_in}
 use Rattle.first_packets.proofs.Boards.{Board, boards, few, arrives}
-use Rattle.first_packets.proofs.HandedIn.{StartLaws, before_it}
+use Rattle.settled.proofs.Earlier.{earlier}
+use Rattle.first_packets.proofs.HandedIn.{StartLaws}
 use Rattle.first_packets.proofs.Premise.{sound_first, IsStart, is_pair}
 use Rattle.first_packets.proofs.FirstBoards.{to_cone, from_cone, with_both}
 
@@ -49,5 +50,5 @@ module _ (laws : StartLaws) (p : Pair) (H : List Full) (r : Full) (start : IsSta
 pub each_arrives : StartLaws → EachFirstPacketArrives
 each_arrives laws d t H r later is g n m a b own other x first fresh =
     let p : Pair = record { d = d; t = t; a = record { n = n; c = a; own = own }; b = record { n = m; c = b; own = other }; x = x } in
-    let start : IsStart p H r = record { rules = is; grown = before_it (flat_lab d t) later (r ∷ H) g; first = first; sound = sound_first r later fresh } in
+    let start : IsStart p H r = record { rules = is; grown = earlier (flat_lab d t) later (r ∷ H) g; first = first; sound = sound_first r later fresh } in
     carried laws p H r start later g fresh (has_cone other) refl (has_cone own) refl

@@ -7,12 +7,12 @@ use Rattle.history.specs.Full.{Full}
 use Rattle.legal.specs.Lab.{Lab, draws, flat_lab, lab_of}
 use Rattle.legal.specs.Legal.{Begun, Grown}
 use Rattle.first_packets.specs.Throughout.{EachFirstPacketArrives, HistoriesCarryFirstPackets, ScenariosCarryFirstPackets}
-use Rattle.first_packets.proofs.HandedIn.{before_it}
+use Rattle.settled.proofs.Earlier.{earlier}
 
 -- at each record of a history
 pub histories : EachFirstPacketArrives → HistoriesCarryFirstPackets
 histories law d t H is g rest later r before split = law d t before r later is
-    (before_it (flat_lab d t) rest (later ++ r ∷ before) (subst (Grown (flat_lab d t)) split g))
+    (earlier (flat_lab d t) rest (later ++ r ∷ before) (subst (Grown (flat_lab d t)) split g))
 
 -- and of a scenario
 pub scenarios : ((lab : Lab) (events : List Event) (h : List Full) → AllByRecursion (IsEvent lab.topology) events → Begun lab events h → Grown lab h)

@@ -2,9 +2,9 @@
 ghost use Rattle.first_packets.specs.Throughout.{EachFirstPacketArrives, HistoriesCarryFirstPackets, ScenariosCarryFirstPackets};
 ghost use Rattle.first_packets.specs.NoRoom.{FullSenderDrops, FullReceiverHearsNothing};
 
-/// A first packet is carried in every fresh schedule after it.
-pub fn first_packet_arrives()
-    ensures { EachFirstPacketArrives }
+// What becomes of a first packet between two settled clients, with room for it and without.
+fn between_settled_clients()
+    ensures { EachFirstPacketArrives × FullSenderDrops }
 {
     bubble::payload_is_spelled();
     bubble::bubble_reads_back();
@@ -38,6 +38,13 @@ pub fn first_packet_arrives()
     legal::client_journals();
     legal::wire_is_made();
     legal::of_its_event();
+}
+
+/// A first packet is carried in every fresh schedule after it.
+pub fn first_packet_arrives()
+    ensures { EachFirstPacketArrives }
+{
+    between_settled_clients();
 }
 
 /// So it is at each record of every history.
@@ -59,38 +66,7 @@ pub fn scenarios_carry_first_packets()
 pub fn full_sender_drops()
     ensures { FullSenderDrops }
 {
-    bubble::payload_is_spelled();
-    bubble::bubble_reads_back();
-    bubble::packet_is_payload();
-    teredo_addr::teredo_tells();
-    teredo_addr::flags_tell();
-    teredo_addr::link_local_tells();
-    qualify::turns();
-    qualify::keeps_still();
-    ipv6_packet::packet_is_spelled();
-    ipv6_packet::packet_is_bytes();
-    topology::apart();
-    topology::each_node();
-    settled::client_is_there();
-    settled::address_is_own();
-    nat_kinds::counting_datagram_holds_its_port();
-    nat_kinds::live_mappings_are_few();
-    nat_kinds::let_in_where_asked();
-    nat_kinds::port_has_one_key();
-    server_core::forwarded_reads_back();
-    peer_list::one_entry();
-    peer_list::unlisted();
-    peer_list::listed_is_known();
-    client_rules::next_mentions();
-    client_rules::qualified_has_address();
-    legal::routes();
-    legal::is_reached();
-    legal::kinds();
-    legal::nat_grows();
-    legal::frame();
-    legal::client_journals();
-    legal::wire_is_made();
-    legal::of_its_event();
+    between_settled_clients();
 }
 
 /// A client that has no room for another one answers no bubble of it, and its host is handed nothing of it.

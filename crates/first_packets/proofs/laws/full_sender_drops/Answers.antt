@@ -1,41 +1,4 @@
-use Rattle.first_packets.proofs.Dropped as dropped
 use Rattle.first_packets.proofs.laws.full_sender_drops.Goals as goal
 
 pub returns : goal.returns
-returns c = dropped.full_sender_drops (record {
-  packets = record {
-    ends = record {
-      address = record {
-        payload = c.payload_is_spelled.ensures;
-        teredo = c.teredo_tells.ensures;
-        flags = c.flags_tell.ensures;
-        turns = c.turns.ensures;
-        own = c.address_is_own.ensures;
-      };
-      apart = c.apart.ensures;
-      rules = c.each_node.ensures;
-      there = c.client_is_there.ensures;
-      made = c.wire_is_made.ensures;
-      holds = c.counting_datagram_holds_its_port.ensures;
-      ports = c.live_mappings_are_few.ensures.ports;
-      asked = c.let_in_where_asked.ensures;
-    };
-    routes = record { routes = c.routes.ensures; reached = c.is_reached.ensures; apart = c.apart.ensures };
-    peers = record { next = c.next_mentions.ensures; one = c.one_entry.ensures; known_if_listed = c.listed_is_known.ensures };
-    kinds = c.kinds.ensures;
-    grows = c.nat_grows.ensures;
-    frame = c.frame.ensures;
-    clients = c.client_journals.ensures;
-    qualified = c.qualified_has_address.ensures;
-    still = c.keeps_still.ensures;
-    bubble = c.bubble_reads_back.ensures;
-    packet = c.packet_is_payload.ensures;
-    forwarded = c.forwarded_reads_back.ensures;
-    unlisted = c.unlisted.ensures;
-    link = c.link_local_tells.ensures;
-    one_key = c.port_has_one_key.ensures;
-  };
-  event = c.of_its_event.ensures;
-  spelled = c.packet_is_spelled.ensures;
-  long = c.packet_is_bytes.ensures;
-})
+returns c = c.between_settled_clients.ensures.1

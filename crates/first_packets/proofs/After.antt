@@ -1,0 +1,117 @@
+-- A record that follows at once: what it leaves of the ground.
+use Rattle.std.proofs.Common.{◌≡◌, ℕ, true, List, ◌∷◌, Option, Some, sym, ap, ◌∙◌, []}
+use Rattle.std.specs.Prelude.{unwrap_or}
+use Rattle.std.proofs.lemmas.Bool.{false≢true}
+use Rattle.td_base.specs.declared.endpoint.Ep.{Ep}
+use Rattle.nat_kinds.specs.Entering.{lets_in}
+use Rattle.teredo_node.specs.Step.{Send}
+use Rattle.teredo_node.specs.Journal.{Entry, Journal, with_entry}
+use Rattle.qualify.specs.Qualification.{qualification}
+use Rattle.topology.specs.declared.node.Node.{Node}
+use Rattle.topology.specs.declared.node.Node.TheVariants.{Server as server, Client as client}
+use Rattle.topology.specs.Topology.{node_at}
+use Rattle.topology.specs.Chains.{nat_set_up}
+use Rattle.history.specs.Full.{Full}
+use Rattle.legal.specs.Lab.{Lab}
+use Rattle.legal.specs.Past.{now, journal, nat_history, armed}
+use Rattle.legal.specs.Emit.{by_way}
+use Rattle.legal.specs.Legal.{Follows}
+use Rattle.legal.proofs.NatPasts.{set_up_past}
+use Rattle.settled.specs.Clients.{address_in}
+use Rattle.first_packets.specs.Schedules.{HasNoFault}
+use Rattle.first_packets.proofs.Ways.{Way, is_calm, IsCalmNext, still_way}
+use Rattle.first_packets.proofs.Deliveries.{Did}
+use Rattle.first_packets.proofs.Meeting.{Knows}
+use Rattle.first_packets.proofs.Pair.{Side, Pair, IsPair, lab_in, setup}
+use Rattle.first_packets.proofs.Ground.{PacketLaws, Keeps, Ground, is_here}
+use Rattle.first_packets.proofs.AtClients.{at_same_moment}
+use Rattle.first_packets.proofs.Stages.{Sends}
+use Rattle.first_packets.proofs.Stages.{is_client_node}
+
+-- a record q after H, of which the ground holds
+pub record IsRecord (p : Pair) (H : List Full) (q : Full) : Type 0 where
+  pub pair : IsPair p
+  pub ground : Ground p H
+  pub follows : Follows (lab_in p) H q
+  pub sound : HasNoFault q
+
+module _ (laws : PacketLaws) (p : Pair) (H : List Full) (q : Full) (r : IsRecord p H q) where
+  abbrev lab : Lab
+  lab = lab_in p
+
+  abbrev a : Side
+  a = p.a
+
+  abbrev b : Side
+  b = p.b
+
+  abbrev is : IsPair p
+  is = r.pair
+
+  abbrev ground : Ground p H
+  ground = r.ground
+
+  abbrev follows : Follows (lab_in p) H q
+  follows = r.follows
+
+  -- the clients are two nodes
+  pub two_nodes : a.n ≡ b.n → ⊥
+  two_nodes same =
+      let one : client a.c ≡ client b.c = ap (λ (o : Option Node). unwrap_or o (client a.c))
+      (sym is.sender.there ∙ ap (node_at p.t) same ∙ is.receiver.there) in
+      is.apart (ap nat_of one) where
+        nat_of : Node → ℕ
+        nat_of (client c) = c.nat
+        nat_of _ = 0
+
+  -- nor is the server a client
+  pub no_server_node : (s : Side) → node_at p.t s.n ≡ Some (client s.c) → b.c.server ≡ s.n → ⊥
+  no_server_node s there same =
+      let one : server is.receiver.server_row ≡ client s.c = ap (λ (o : Option Node). unwrap_or o (server is.receiver.server_row))
+      (sym is.receiver.server_is ∙ ap (node_at p.t) same ∙ there) in
+      false≢true (ap is_client_node one)
+
+  pub next_is : is_calm q.asked ≡ true → q.moment ≡ now H → IsCalmNext lab H q
+  next_is calm moment = record { follows = follows; calm = calm; moment = moment }
+
+  -- of node k, neither of whom is
+  pub same_address : (s : Side) → journal s.n (q ∷ H) ≡ journal s.n H → address_in lab (q ∷ H) s.n s.c ≡ address_in lab H s.n s.c
+  same_address s same = ap (λ (j : Journal). (qualification (setup p.t s) j).address) same
+
+  pub same_after : (s : Side) (e : Entry) → journal s.n (q ∷ H) ≡ with_entry (journal s.n H) e
+      → (qualification (setup p.t s) (with_entry (journal s.n H) e)).address ≡ (qualification (setup p.t s) (journal s.n H)).address
+      → address_in lab (q ∷ H) s.n s.c ≡ address_in lab H s.n s.c
+  same_after s e later stays = ap (λ (j : Journal). (qualification (setup p.t s) j).address) later ∙ stays
+
+  pub keeps_waiting : (j : Journal) → q.moment ≡ now H → journal b.n (q ∷ H) ≡ j → Keeps j (now H) a.own [] → Keeps (journal b.n (q ∷ H)) (now (q ∷ H)) a.own []
+  keeps_waiting j moment later keeps = at_same_moment (λ z m. Keeps z m a.own []) H q b.n j moment later keeps
+
+  pub still_sends : q.moment ≡ now H → journal a.n (q ∷ H) ≡ journal a.n H → Sends p H → Sends p (q ∷ H)
+  still_sends moment same sends = at_same_moment (λ z m. Keeps z m b.own (p.x ∷ [])) H q a.n (journal a.n H) moment same sends
+
+  -- ways in stay
+  pub on_way : (k : ℕ) (src : Ep) (port : ℕ) (inside : Ep) → IsCalmNext lab H q → Way lab H k src port inside → Way lab (q ∷ H) k src port inside
+  on_way k src port inside next way = still_way laws.grows lab H q next k src port inside way
+
+  pub let_in : (s : Side) (src : Ep) (port : ℕ) → Way lab H s.c.nat src port s.c.inside
+      → lets_in (nat_set_up p.t s.c.nat) (nat_history lab s.c.nat H) (now H) src port ≡ Some s.c.inside
+  let_in s src port way = (laws.ends.asked (nat_set_up p.t s.c.nat) (nat_history lab s.c.nat H) (now H)
+      (set_up_past lab H s.c.nat ground.grown) src port s.c.inside).1 way
+
+  -- the receiver has its address and room
+  pub receiver_knows : Knows (setup p.t b) (journal b.n H) (now H) b.own a.own
+  receiver_knows = record {
+    here = is_here laws lab H b.n b.c b.own (record { grown = ground.grown; there = is.receiver.there; address = ground.receiver });
+    room = ground.keeps_nothing.room;
+  }
+
+  -- so has the sender
+  pub sender_knows : Sends p H → Knows (setup p.t a) (journal a.n H) (now H) a.own b.own
+  sender_knows sends = record {
+    here = is_here laws lab H a.n a.c a.own (record { grown = ground.grown; there = is.sender.there; address = ground.sender });
+    room = sends.room;
+  }
+
+  -- who sends nothing makes no entry
+  pub made_none : (s : Side) (e : Entry) → Did lab H q s.n (client s.c) e → e.step.sends ≡ [] → q.made ≡ []
+  made_none s e did none = did.made ∙ ap (λ (xs : List Send). (by_way lab H (now H) (s.c.nat ∷ []) s.c.inside (armed H) 0 [] xs).made) none
