@@ -49,19 +49,17 @@ use Rattle.relay_rules.specs.Reception.{seen as relay_seen, reception as relay_r
 use Rattle.relay_rules.specs.Journals.{relay_in, relay_six, relay_tick, relay_due}
 use Rattle.native_host.specs.Natives.{native_in, native_out}
 use Rattle.legal.specs.Next.{next}
-use Rattle.nat_kinds.specs.declared.kind.NatKind.TheVariants as kind
 use Rattle.teredo_node.specs.declared.fate.Fate.TheVariants as fate
 use Rattle.events.specs.declared.event.Event.{Event}
 use Rattle.events.specs.declared.event.Event.TheVariants as event
 use Rattle.events.specs.declared.target.Target.TheVariants as target
 use Rattle.events.specs.Scenario.{Scenario}
 use Rattle.td_base.specs.declared.ipv6.Ip6.{Ip6}
-use Rattle.topology.specs.declared.client_node.ClientNode.{ClientNode}
 use Rattle.history.specs.Full.{Full}
 use Rattle.first_packets.specs.FirstPacket.{HasArrived, GetsThrough}
-use Rattle.worked_scenarios.proofs.Scenes.{name1, name2, ip, ip6, ep, some_words, play}
+use Rattle.worked_scenarios.proofs.Scenes.{name1, ip, ip6, ep, some_words, play}
 use Rattle.worked_scenarios.proofs.MeetingReports.{meeting}
-use Rattle.worked_facts.proofs.FirstPacketViews.{carriage, not_carried, not_arrived}
+use Rattle.worked_facts.proofs.FirstPacketViews.{carriage, Two, not_carried, not_arrived}
 
 -- THE CLIENTS
 
@@ -95,6 +93,10 @@ late-bubble-view = refl
 
 -- WITHOUT A PREMISE
 
+-- a sends to b
+abbrev a_to_b : Two
+a_to_b = record { sender = 3; receiver = 4; own = a_own; other = b_own }
+
 -- a lists b already: it has just tried, so a second packet only waits, and brings nothing about
 abbrev pub listed-by-sender : Scenario
 listed-by-sender = after_meeting (to_b ∷ to_b ∷ [])
@@ -104,7 +106,7 @@ unfolding same_ip same_ip6 cmp_ip6 same_ep is_global is_usable is_global6 is_lin
 listed-by-sender-view = refl
 
 pub listed-by-sender-fails : (r : Full) → slice_get (play some_words listed-by-sender 22 []) 0 ≡ Some r → (x : List ℕ) → GetsThrough (drop 1 (play some_words listed-by-sender 22 [])) r 4 a_own b_own x (take 0 (play some_words listed-by-sender 22 [])) → ⊥
-listed-by-sender-fails = not_carried 3 4 a_own b_own 0 (play some_words listed-by-sender 22 []) _ listed-by-sender-view refl refl
+listed-by-sender-fails = not_carried a_to_b 0 (play some_words listed-by-sender 22 []) _ listed-by-sender-view refl refl
 
 -- b lists a already: its own try, of which one bubble was lost, bars it from answering
 abbrev pub listed-by-receiver : Scenario
@@ -115,7 +117,7 @@ unfolding same_ip same_ip6 cmp_ip6 same_ep is_global is_usable is_global6 is_lin
 listed-by-receiver-view = refl
 
 pub listed-by-receiver-fails : (r : Full) → slice_get (play some_words listed-by-receiver 26 []) 3 ≡ Some r → (x : List ℕ) → GetsThrough (drop 4 (play some_words listed-by-receiver 26 [])) r 4 a_own b_own x (take 3 (play some_words listed-by-receiver 26 [])) → ⊥
-listed-by-receiver-fails = not_carried 3 4 a_own b_own 3 (play some_words listed-by-receiver 26 []) _ listed-by-receiver-view refl refl
+listed-by-receiver-fails = not_carried a_to_b 3 (play some_words listed-by-receiver 26 []) _ listed-by-receiver-view refl refl
 
 -- the bubble through the server fails
 abbrev pub failed-bubble : Scenario
@@ -126,7 +128,7 @@ unfolding same_ip same_ip6 cmp_ip6 same_ep is_global is_usable is_global6 is_lin
 failed-bubble-view = refl
 
 pub failed-bubble-fails : (r : Full) → slice_get (play some_words failed-bubble 23 []) 1 ≡ Some r → (x : List ℕ) → GetsThrough (drop 2 (play some_words failed-bubble 23 [])) r 4 a_own b_own x (take 1 (play some_words failed-bubble 23 [])) → ⊥
-failed-bubble-fails = not_carried 3 4 a_own b_own 1 (play some_words failed-bubble 23 []) _ failed-bubble-view refl refl
+failed-bubble-fails = not_carried a_to_b 1 (play some_words failed-bubble 23 []) _ failed-bubble-view refl refl
 
 -- the bubble through the server is lost: the schedule isn't complete
 abbrev pub lost-bubble : Scenario
@@ -137,7 +139,7 @@ unfolding same_ip same_ip6 cmp_ip6 same_ep is_global is_usable is_global6 is_lin
 lost-bubble-view = refl
 
 pub lost-bubble-fails : (r : Full) → slice_get (play some_words lost-bubble 22 []) 1 ≡ Some r → (x : List ℕ) → HasArrived 4 x (take 1 (play some_words lost-bubble 22 [])) → ⊥
-lost-bubble-fails = not_arrived 3 4 a_own b_own 1 (play some_words lost-bubble 22 []) _ lost-bubble-view refl
+lost-bubble-fails = not_arrived a_to_b 1 (play some_words lost-bubble 22 []) _ lost-bubble-view refl
 
 -- the answer to it is lost, the last but one of five
 abbrev pub lost-answer : Scenario
@@ -148,7 +150,7 @@ unfolding same_ip same_ip6 cmp_ip6 same_ep is_global is_usable is_global6 is_lin
 lost-answer-view = refl
 
 pub lost-answer-fails : (r : Full) → slice_get (play some_words lost-answer 24 []) 3 ≡ Some r → (x : List ℕ) → HasArrived 4 x (take 3 (play some_words lost-answer 24 [])) → ⊥
-lost-answer-fails = not_arrived 3 4 a_own b_own 3 (play some_words lost-answer 24 []) _ lost-answer-view refl
+lost-answer-fails = not_arrived a_to_b 3 (play some_words lost-answer 24 []) _ lost-answer-view refl
 
 -- 8 seconds pass before the deliveries: a tries three times more, and gives up. What comes back finds no packet
 abbrev pub waited : Scenario
@@ -159,7 +161,7 @@ unfolding same_ip same_ip6 cmp_ip6 same_ep is_global is_usable is_global6 is_lin
 waited-view = refl
 
 pub waited-fails : (r : Full) → slice_get (play some_words waited 39 []) 18 ≡ Some r → (x : List ℕ) → GetsThrough (drop 19 (play some_words waited 39 [])) r 4 a_own b_own x (take 18 (play some_words waited 39 [])) → ⊥
-waited-fails = not_carried 3 4 a_own b_own 18 (play some_words waited 39 []) _ waited-view refl refl
+waited-fails = not_carried a_to_b 18 (play some_words waited 39 []) _ waited-view refl refl
 
 -- both are behind one NAT, which sends nothing back to itself
 abbrev pub one-nat : Scenario
@@ -170,4 +172,4 @@ unfolding same_ip same_ip6 cmp_ip6 same_ep is_global is_usable is_global6 is_lin
 one-nat-view = refl
 
 pub one-nat-fails : (r : Full) → slice_get (play some_words one-nat 23 []) 2 ≡ Some r → (x : List ℕ) → GetsThrough (drop 3 (play some_words one-nat 23 [])) r 4 a_own b_own_too x (take 2 (play some_words one-nat 23 [])) → ⊥
-one-nat-fails = not_carried 3 4 a_own b_own_too 2 (play some_words one-nat 23 []) _ one-nat-view refl refl
+one-nat-fails = not_carried (record a_to_b { other = b_own_too }) 2 (play some_words one-nat 23 []) _ one-nat-view refl refl

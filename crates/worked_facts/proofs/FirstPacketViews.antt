@@ -1,12 +1,12 @@
 -- What is seen of a first packet and of the schedule after it; and how a schedule breaks the conclusion.
-use Rattle.std.proofs.Common.{◌≡◌, inl, inr, ◌≤◌, ◌<◌, ◌+◌, ◌-◌, ◌==◌, ℕ, zero, suc, Bool, true, false, cond, List, [], ◌∷◌, ◌++◌, length, take, drop, map, Option, Some, None, refl, sym, ap, subst, ◌∙◌, arith}
+use Rattle.std.proofs.Common.{◌≡◌, inl, inr, ◌≤◌, ◌<◌, ◌+◌, ◌-◌, ◌==◌, ℕ, zero, suc, Bool, true, false, cond, List, [], ◌∷◌, ◌++◌, length, take, drop, map, Option, Some, refl, sym, ap, subst, ◌∙◌, arith}
 use Rattle.std.specs.Prelude.{is_some, slice_get, option_map, unwrap_or}
 use Rattle.std.specs.List.{list_any}
 use Rattle.std.proofs.lemmas.Bool.{false≢true}
 use Rattle.std.proofs.lemmas.Bool.Decides.{nat_tests}
 use Rattle.td_base.specs.declared.ipv6.Ip6.{Ip6}
 use Rattle.teredo_node.specs.declared.fate.Fate.{Fate}
-use Rattle.peer_list.specs.Listed.{is_listed, has_room}
+use Rattle.peer_list.specs.Listed.{is_listed}
 use Rattle.client_rules.specs.Bearings.{mentions}
 use Rattle.history.specs.Full.{Full, wire}
 use Rattle.legal.specs.Past.{now, journal, was_delivered}
@@ -82,20 +82,37 @@ rejoined k [] r at = absurd (false≢true (ap (λ (o : Option Full). is_some o) 
 rejoined zero (q ∷ H) r at = ap (λ (z : Full). z ∷ H) (sym (ap (λ (o : Option Full). unwrap_or o q) at))
 rejoined (suc k) (q ∷ H) r at = ap (λ (z : List Full). q ∷ z) (rejoined k H r at)
 
+-- two clients, of which the first sends to the second
+pub record Two : Type 0 where
+  pub sender : ℕ
+  pub receiver : ℕ
+  pub own : Ip6
+  pub other : Ip6
+
+-- no packet that record k begins with gets through
+abbrev pub NothingThrough : Two → ℕ → List Full → Type 0
+NothingThrough t k H = (r : Full) → slice_get H k ≡ Some r → (x : List ℕ) → GetsThrough (drop (suc k) H) r t.receiver t.own t.other x (take k H) → ⊥
+
 -- a complete schedule that hands nothing over carries nothing
-pub not_carried : (n m : ℕ) (own other : Ip6) (k : ℕ) (H : List Full) (c : Carriage) → carriage n m own other k H ≡ Some c → c.left ≡ [] → is_none_over c.handed ≡ true
-    → (r : Full) → slice_get H k ≡ Some r → (x : List ℕ) → GetsThrough (drop (suc k) H) r m own other x (take k H) → ⊥
-not_carried n m own other k H c seen left none r at x carried =
-    let is : carriage_of n m own other (drop (suc k) H) H (take k H) r ≡ c = ap (λ (o : Option Carriage). unwrap_or o c) (sym (ap (option_map (carriage_of n m own other (drop (suc k) H) H (take k H))) at) ∙ seen) in
+pub not_carried : (t : Two) (k : ℕ) (H : List Full) (c : Carriage) → carriage t.sender t.receiver t.own t.other k H ≡ Some c → c.left ≡ []
+    → is_none_over c.handed ≡ true → NothingThrough t k H
+not_carried t k H c seen left none r at x carried =
+    let of : Full → Carriage = carriage_of t.sender t.receiver t.own t.other (drop (suc k) H) H (take k H) in
+    let is : of r ≡ c = ap (λ (o : Option Carriage). unwrap_or o c) (sym (ap (option_map of) at) ∙ seen) in
     let nothing : left_from (take k H) r.first (length (wire H) - r.first) ≡ [] = ap (λ (v : Carriage). v.left) is ∙ left in
     let complete : IsComplete (drop (suc k) H) r (take k H) = λ number low high. (
     let within : number < length (wire H) = subst (λ (xs : List Full). number < length (wire xs)) (rejoined k H r at) high in
     all_there (take k H) r.first (length (wire H) - r.first) nothing number low (omega (arith, low, within))) in
-    not_come m x (take k H) (ap (λ (v : Carriage). is_none_over v.handed) is ∙ none) (carried.arrives complete)
+    not_come t.receiver x (take k H) (ap (λ (v : Carriage). is_none_over v.handed) is ∙ none) (carried.arrives complete)
+
+-- none of it arrives
+abbrev pub NothingArrives : Two → ℕ → List Full → Type 0
+NothingArrives t k H = (r : Full) → slice_get H k ≡ Some r → (x : List ℕ) → HasArrived t.receiver x (take k H) → ⊥
 
 -- one that hands nothing over brings the packet nowhere, complete or not
-pub not_arrived : (n m : ℕ) (own other : Ip6) (k : ℕ) (H : List Full) (c : Carriage) → carriage n m own other k H ≡ Some c → is_none_over c.handed ≡ true
-    → (r : Full) → slice_get H k ≡ Some r → (x : List ℕ) → HasArrived m x (take k H) → ⊥
-not_arrived n m own other k H c seen none r at x come =
-    let is : carriage_of n m own other (drop (suc k) H) H (take k H) r ≡ c = ap (λ (o : Option Carriage). unwrap_or o c) (sym (ap (option_map (carriage_of n m own other (drop (suc k) H) H (take k H))) at) ∙ seen) in
-    not_come m x (take k H) (ap (λ (v : Carriage). is_none_over v.handed) is ∙ none) come
+pub not_arrived : (t : Two) (k : ℕ) (H : List Full) (c : Carriage) → carriage t.sender t.receiver t.own t.other k H ≡ Some c → is_none_over c.handed ≡ true
+    → NothingArrives t k H
+not_arrived t k H c seen none r at x come =
+    let of : Full → Carriage = carriage_of t.sender t.receiver t.own t.other (drop (suc k) H) H (take k H) in
+    let is : of r ≡ c = ap (λ (o : Option Carriage). unwrap_or o c) (sym (ap (option_map of) at) ∙ seen) in
+    not_come t.receiver x (take k H) (ap (λ (v : Carriage). is_none_over v.handed) is ∙ none) come

@@ -117,5 +117,12 @@ cone-sends-packet =
     record {
       honest = refl;
       hands = (record { node = refl; client = refl; packet = refl }, refl);
-      origin = sent_latest (flat_lab some_words cone-sends.topology) 3 a 12 (fields_in sent-packet).src (ep (ip 198 51 100 2) 1024) sent-packet sent-packet (drop 1 cone-sends-history) (lit≤ tt, lit< tt, refl, refl, refl, refl) handed;
+      origin = sent_latest (flat_lab some_words cone-sends.topology) (record {
+        number = 3;
+        row = a;
+        entry = 12;
+        own = (fields_in sent-packet).src;
+        dst = ep (ip 198 51 100 2) 1024;
+        bytes = sent-packet;
+      }) sent-packet (drop 1 cone-sends-history) (lit≤ tt, lit< tt, refl, refl, refl, refl) handed;
     }

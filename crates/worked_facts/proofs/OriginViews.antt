@@ -95,14 +95,25 @@ handed_in lab n c p x k H latest = by (drop k H) (sym (take-append-drop k H)) la
   by [] split none = absurd none
   by (r ∷ earlier) split (node, is, address) = of_entry r earlier r.entry split refl node is address
 
--- the latest record made entry k: client n sent it, and it left at the address of its outermost NAT
-abbrev pub SentLatest : Lab → ℕ → ClientNode → ℕ → Ip6 → Ep → List ℕ → List Full → Type 0
-SentLatest lab n c k p dst bytes [] = ⊥
-SentLatest lab n c k p dst bytes (maker ∷ earlier) =
-    (length (wire earlier) ≤ k) × (k < length (wire (maker ∷ earlier))) × (client_at lab.topology n ≡ Some c) × (maker.node ≡ Some n)
-    × (slice_get (wire (maker ∷ earlier)) k ≡ Some (udp (embedded p) dst bytes)) × ((embedded p).ip ≡ (nat_set_up lab.topology (outermost lab c)).external)
+-- a datagram that a client sent from where its address says, and the number of its entry
+pub record Sending : Type 0 where
+  pub number : ℕ
+  pub row : ClientNode
+  pub entry : ℕ
+  pub own : Ip6
+  pub dst : Ep
+  pub bytes : List ℕ
 
-pub sent_latest : (lab : Lab) (n : ℕ) (c : ClientNode) (k : ℕ) (p : Ip6) (dst : Ep) (bytes x : List ℕ) (H : List Full) → SentLatest lab n c k p dst bytes H → HandedIn lab H n c p x → HasOrigin lab H k p x
-sent_latest lab n c k p dst bytes x [] none handed = absurd none
-sent_latest lab n c k p dst bytes x (maker ∷ earlier) (begins, ends, client, node, item, external) handed =
-    sent_by [] earlier maker (record { split = refl; begins = begins; ends = ends }) n c client node dst bytes item external handed
+-- the latest record made the entry, and it left at the address of the client's outermost NAT
+abbrev pub SentLatest : Lab → Sending → List Full → Type 0
+SentLatest lab s [] = ⊥
+SentLatest lab s (maker ∷ earlier) =
+    (length (wire earlier) ≤ s.entry) × (s.entry < length (wire (maker ∷ earlier))) × (client_at lab.topology s.number ≡ Some s.row)
+    × (maker.node ≡ Some s.number) × (slice_get (wire (maker ∷ earlier)) s.entry ≡ Some (udp (embedded s.own) s.dst s.bytes))
+    × ((embedded s.own).ip ≡ (nat_set_up lab.topology (outermost lab s.row)).external)
+
+pub sent_latest : (lab : Lab) (s : Sending) (x : List ℕ) (H : List Full) → SentLatest lab s H → HandedIn lab H s.number s.row s.own x
+    → HasOrigin lab H s.entry s.own x
+sent_latest lab s x [] none handed = absurd none
+sent_latest lab s x (maker ∷ earlier) (begins, ends, client, node, item, external) handed =
+    sent_by [] earlier maker (record { split = refl; begins = begins; ends = ends }) s.number s.row client node s.dst s.bytes item external handed

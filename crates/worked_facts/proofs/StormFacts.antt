@@ -82,7 +82,8 @@ asked-deliveries = refl
 
 pub ticks_between : (deliveries (play some_words cone-nat 4 []) ≤ burden_most cone-nat.topology []) → ⊥
 unfolding listed touched client_mentions
-ticks_between = too_many cone-nat.topology [] (play some_words cone-nat 4 []) 0 2 refl asked-deliveries (omega arith)
+ticks_between = too_many cone-nat.topology [] (play some_words cone-nat 4 [])
+    (record { most = 0; many = 2; bound = refl; count = asked-deliveries; more = omega arith })
 
 -- WITH AN ENTRY DELIVERED AGAIN
 
@@ -102,4 +103,5 @@ unfolding same_ip same_ip6 cmp_ip6 same_ep is_global is_usable is_global6 is_lin
 repeated-deliveries = refl
 
 pub delivered_again : (deliveries (take 13 (play some_words repeated 14 [])) ≤ burden_most repeated.topology (play some_words repeated 1 [])) → ⊥
-delivered_again = too_many repeated.topology (play some_words repeated 1 []) (take 13 (play some_words repeated 14 [])) 12 13 repeated-most repeated-deliveries (omega arith)
+delivered_again = too_many repeated.topology (play some_words repeated 1 []) (take 13 (play some_words repeated 14 []))
+    (record { most = 12; many = 13; bound = repeated-most; count = repeated-deliveries; more = omega arith })

@@ -20,5 +20,12 @@ abbrev pub deliveries : List Full → ℕ
 deliveries later = sum_by (λ (r : Full). if is_some r.delivered then 1 else 0) later
 
 -- they are more than may follow
-pub too_many : (t : TopologyState) (H later : List Full) (most many : ℕ) → burden_most t H ≡ most → deliveries later ≡ many → most < many → deliveries later ≤ burden_most t H → ⊥
-too_many t H later most many bound count more less = omega (arith, bound, count, more, less)
+pub record Exceeds (t : TopologyState) (H later : List Full) : Type 0 where
+  pub most : ℕ
+  pub many : ℕ
+  pub bound : burden_most t H ≡ most
+  pub count : deliveries later ≡ many
+  pub more : most < many
+
+pub too_many : (t : TopologyState) (H later : List Full) → Exceeds t H later → deliveries later ≤ burden_most t H → ⊥
+too_many t H later e less = let bound = e.bound in let count = e.count in let more = e.more in omega (arith, bound, count, more, less)
