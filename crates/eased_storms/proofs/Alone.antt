@@ -59,8 +59,8 @@ no_nat apart t n r is there some = let p = placed (is_nat_at r.at) (nodes t) som
 
   by : (k : ℕ) (a : Node) → node_at t k ≡ Some a → is_nat_at r.at a ≡ true → ⊥
   by k (nat a) at passes =
-      let same : nat a ≡ relay r = one_there apart t r.at n (relay r) (nat a) is there (same_ep-self r.at)
-      (record { number = k; node = at; passes = passes }) in
+      let same : nat a ≡ relay r = one_there apart t r.at (relay r) (nat a) is
+      (record { number = n; node = there; passes = same_ep-self r.at }) (record { number = k; node = at; passes = passes }) in
       false≢true (ap is_relay same)
   by k (server a) at passes = false≢true passes
   by k (client a) at passes = false≢true passes

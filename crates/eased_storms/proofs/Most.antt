@@ -1,5 +1,5 @@
 -- No entry of the wire draws more than nine deliveries, itself counted, and no packet that waits more than eight.
-use Rattle.std.proofs.Common.{◌≡◌, ◌⊎◌, inl, inr, ◌≤◌, ℕ, ◌+◌, ◌*◌, Bool, true, false, cond, List, [], ◌∷◌, ◌++◌, length, Option, Some, None, refl, arith}
+use Rattle.std.proofs.Common.{◌≡◌, ◌⊎◌, inl, inr, ◌≤◌, ℕ, ◌+◌, ◌*◌, Bool, true, false, cond, List, [], ◌∷◌, ◌++◌, length, Option, Some, None, refl, subst, arith}
 use Rattle.std.specs.Prelude.{sum_by, option_and_then}
 use Rattle.std.specs.List.{AllByRecursion}
 use Rattle.std.proofs.lemmas.Bool.{false≢true}
@@ -19,6 +19,7 @@ use Rattle.history.specs.Full.{Item, udp, six, Full}
 use Rattle.legal.specs.Lab.{Lab}
 use Rattle.legal.specs.Past.{now, journal}
 use Rattle.legal.specs.Legal.{Grown}
+use Rattle.settled.proofs.Earlier.{earlier}
 use Rattle.storms.specs.Weights.{packet_weight, weight_at}
 use Rattle.storms.specs.Burden.{undelivered_items, waiting_packets, client_packet, relay_packet, waits_at, waits_from}
 use Rattle.storms.specs.Deliveries.{AreNew, GoesOnSettling, SettleDeliversNew}
@@ -26,6 +27,7 @@ use Rattle.storms.proofs.Weighed.{datagram_most, served_most}
 use Rattle.eased_storms.specs.Trust.{relay_trusts}
 use Rattle.eased_storms.specs.Eased.{is_of_relay, eases_for_relay, less, eased_weight, waiting_weight, waiting_at, waiting_from}
 use Rattle.eased_storms.specs.Follow.{FewFollow, NineForEach, NineSettle}
+use Rattle.eased_storms.specs.Throughout.{HistoriesHaveNine}
 use Rattle.eased_storms.proofs.Weights.{less_most, eased_is, eased_most}
 use Rattle.eased_storms.proofs.Freights.{packet_lines}
 use Rattle.eased_storms.proofs.OfHosts.{HostLaws, IsOfHost, undelivered_of_hosts}
@@ -110,10 +112,6 @@ all_eight t H n (a ∷ rest) =
 
 -- ALL
 
-earlier : (lab : Lab) (rest H : List Full) → Grown lab (rest ++ H) → Grown lab H
-earlier lab [] H g = g
-earlier lab (r ∷ rest) H g = earlier lab rest H g.1
-
 pub nine_for_each : OneOutput → HostLaws → FewFollow → NineForEach
 nine_for_each law laws few lab H later is g new =
     let follow = few lab H later is g new in
@@ -129,3 +127,10 @@ are_new law lab H (r ∷ later) g on = (law lab (later ++ H) r g on.0, are_new l
 
 pub nine_settle : NineForEach → SettleDeliversNew → NineSettle
 nine_settle each law lab H later is g on = each lab H later is g (are_new law lab H later g on)
+
+-- FROM EACH RECORD ON
+
+pub histories : NineForEach → NineSettle → HistoriesHaveNine
+histories each settle lab H is g rest later before split =
+    let there : Grown lab (later ++ before) = earlier lab rest (later ++ before) (subst (Grown lab) split g) in
+    record { deliveries = each lab before later is there; settling = settle lab before later is there }

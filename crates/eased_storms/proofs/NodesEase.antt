@@ -95,7 +95,7 @@ module _ (laws : FromLaws) (rules : EachNodeKeepsRules) (lab : Lab) (H : List Fu
   server_eases (six to bytes) h = nothing_made lab H r (six to bytes) h.made
   server_eases (udp src dst bytes) h = by (is_eased t H (udp src dst bytes)) refl where
     old : NodeLightens lab H r n (server a) (udp src dst bytes)
-    old = server_lightens laws rules lab H r n a (udp src dst bytes) h
+    old = server_lightens (record { from = laws; rules = rules }) lab H r n a (udp src dst bytes) h
 
     by : (b : Bool) → is_eased t H (udp src dst bytes) ≡ b → NodeEases lab H r n (server a) (udp src dst bytes)
     by false e = plainly lab H r (udp src dst bytes) e old

@@ -72,7 +72,7 @@ module _ (laws : HostLaws) (lab : Lab) (H : List Full) (r : Full) (is : IsTopolo
       (ap (λ (y : List ℕ). same_ip6 (fields_in y).src h.six) own.same ∙ own.source))
   did dst (from_six x) bytes e made =
       let item = made x refl in
-      let back = reads_back laws.replies x bytes item.bytes item.short (laws.answers x bytes e) in
+      let back = reads_back laws.replies x bytes (record { bytes = item.bytes; short = item.short }) (laws.answers x bytes e) in
       of_relay bytes (λ plain. absurd (false≢true (sym plain ∙ back.reply)))
 
   of_native : (bytes : List ℕ) → native_packet h e.input ≡ Some bytes → Sends bytes
@@ -86,7 +86,7 @@ module _ (laws : HostLaws) (lab : Lab) (H : List Full) (r : Full) (is : IsTopolo
           is_six (from_six y) = true
           is_six _ = false
       as_six x (six to bytes) e made = subst (λ (y : List ℕ). IsMadeItem (six None y)) (sym (ap bytes_in e))
-          (record { source = tt; bytes = made.bytes; short = made.short })
+          (record { source = tt; destination = tt; bytes = made.bytes; short = made.short })
         where
           bytes_in : Input → List ℕ
           bytes_in (from_six y) = y

@@ -153,7 +153,8 @@ module _ (laws : RelayLaws) (d : AtRelay) (src : Ep) (x : List ℕ) (g : IsSent 
   bubbles only next made =
       let e : Entry = came fate.FromClientBubble in
       let now = trusted e only.peer next refl refl refl refl in
-      let new = own_weigh (record { items = weigh d; sends = (λ (s : Send). packet_of d s.bytes); own = own_of d }) (armed d.H) 0 (releases (embedded p) waiting) [] made
+      let new = own_weigh (record { items = weigh d; sends = (λ (s : Send). packet_of d s.bytes); own = own_of d })
+      (armed d.H) 0 (releases (embedded p) waiting) [] made
       (released only.peer now) in
       let same = released_weigh (packet_of d) (embedded p) waiting in
       let less = hears e only.peer refl refl refl refl refl in
@@ -164,7 +165,8 @@ module _ (laws : RelayLaws) (d : AtRelay) (src : Ep) (x : List ℕ) (g : IsSent 
   unserved only next made =
       let e : Entry = came fate.Unserved in
       let now = trusted e only.peer next refl refl refl refl in
-      let new = own_weigh (record { items = weigh d; sends = (λ (s : Send). packet_of d s.bytes); own = own_of d }) (armed d.H) 0 (releases (embedded p) waiting) [] made
+      let new = own_weigh (record { items = weigh d; sends = (λ (s : Send). packet_of d s.bytes); own = own_of d })
+      (armed d.H) 0 (releases (embedded p) waiting) [] made
       (released only.peer now) in
       let same = released_weigh (packet_of d) (embedded p) waiting in
       let less = hears e only.peer refl refl refl refl refl in
@@ -195,7 +197,8 @@ module _ (laws : RelayLaws) (d : AtRelay) (src : Ep) (x : List ℕ) (g : IsSent 
       let e : Entry = came fate.FromClient in
       let span : Span = rest_of (value_in x).lead.at x in
       let now = trusted e only.peer next refl refl refl refl in
-      let new = own_weigh (record { items = weigh d; sends = (λ (s : Send). packet_of d s.bytes); own = own_of d }) (armed d.H) 0 (releases (embedded p) waiting)
+      let new = own_weigh (record { items = weigh d; sends = (λ (s : Send). packet_of d s.bytes); own = own_of d })
+      (armed d.H) 0 (releases (embedded p) waiting)
       (six_made (arrived src x) (Some span)) made (released only.peer now) in
       let same = released_weigh (packet_of d) (embedded p) waiting in
       let packet = sum_by-cons (weigh d) (six None (part x span)) [] in

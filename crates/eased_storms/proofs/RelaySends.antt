@@ -125,7 +125,8 @@ module _ (laws : RelayLaws) (d : AtRelay) (x : List ℕ) (g : IsGiven d x) where
   sent only next made =
       let packet = (goes_on only.out).well_formed in
       let trusted = lasting laws.peers d (went fate.Sent) p g.there next refl (sym (asked_trust packet) ∙ only.trusted) in
-      let new = own_weigh (record { items = weigh d; sends = (λ (s : Send). packet_of d s.bytes); own = own_of d }) (armed d.H) 0 (send (embedded p) x ∷ []) [] made
+      let new = own_weigh (record { items = weigh d; sends = (λ (s : Send). packet_of d s.bytes); own = own_of d })
+      (armed d.H) 0 (send (embedded p) x ∷ []) [] made
       (packet_out only.out trusted) in
       let one = sum_by-cons (λ (s : Send). packet_of d s.bytes) (send (embedded p) x) [] in
       let less = touches (went fate.Sent) packet refl refl refl in
@@ -138,7 +139,8 @@ module _ (laws : RelayLaws) (d : AtRelay) (x : List ℕ) (g : IsGiven d x) where
       let peer = destination_is packet in
       let trusted = begun laws.peers d (went fate.SentCone) p (embedded p) g.there next
       (refl, ap (is_peer p) peer ∙ same_ip6-self p, refl, ap (option_map embedded) peer) in
-      let new = own_weigh (record { items = weigh d; sends = (λ (s : Send). packet_of d s.bytes); own = own_of d }) (armed d.H) 0 (send (embedded p) x ∷ []) [] made
+      let new = own_weigh (record { items = weigh d; sends = (λ (s : Send). packet_of d s.bytes); own = own_of d })
+      (armed d.H) 0 (send (embedded p) x ∷ []) [] made
       (packet_out only.out trusted) in
       let one = sum_by-cons (λ (s : Send). packet_of d s.bytes) (send (embedded p) x) [] in
       let less = touches (went fate.SentCone) packet refl refl refl in
@@ -177,7 +179,8 @@ module _ (laws : RelayLaws) (d : AtRelay) (x : List ℕ) (g : IsGiven d x) where
         omega (arith, heavy, less, kept)
     by false next made =
         let heavy = more in
-        let new = own_weigh (weigh d) (λ (s : Send). 3) (own_of d) (armed d.H) 0 (transmission.bubble_to (setup d) p ∷ []) [] made (bubble_is packet) in
+        let new = own_weigh (record { items = weigh d; sends = (λ (s : Send). 3); own = own_of d }) (armed d.H) 0
+        (transmission.bubble_to (setup d) p ∷ []) [] made (bubble_is packet) in
         let one = sum_by-cons (λ (s : Send). 3) (transmission.bubble_to (setup d) p) [] in
         let less = touches (queued_by false) packet refl refl refl in
         let kept = ap (added (packet_of d)) (given_is packet) in

@@ -1,3 +1,4 @@
 pub mod Trust
 pub mod Eased
 pub mod Follow
+pub mod Throughout

@@ -1,6 +1,7 @@
 //! Laws of every history.
 ghost use Rattle.eased_storms.specs.Follow.{TrustLasts, EachEases, FewFollow, NoMoreThanBefore};
 ghost use Rattle.eased_storms.specs.Follow.{NineForEach, NineSettle, NineFollow, FourFollow};
+ghost use Rattle.eased_storms.specs.Throughout.{HistoriesHaveNine};
 
 /// What can follow is never more than the weights of `storms` say.
 pub fn no_more_than_before()
@@ -97,6 +98,14 @@ pub fn nine_settle()
 {
     nine_for_each();
     storms::settle_delivers_new();
+}
+
+/// So it is from each record of every history on.
+pub fn histories_have_nine()
+    ensures { HistoriesHaveNine }
+{
+    nine_for_each();
+    nine_settle();
 }
 
 /// Nine from a packet for a relay alone, itself counted.

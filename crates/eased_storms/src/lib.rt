@@ -22,11 +22,12 @@
 //! | whom a relay trusts, and which relay a host has | `specs/Trust.antt` |
 //! | which entries and packets are eased, and what they weigh | `specs/Eased.antt` |
 //! | how many deliveries follow | `specs/Follow.antt` |
+//! | the same from each record of a history on | `specs/Throughout.antt` |
 #![tactic(auto)]
 
 mod laws;
 
 pub use laws::{
-    each_eases, few_follow, four_follow, nine_follow, nine_for_each, nine_settle,
-    no_more_than_before, trust_lasts,
+    each_eases, few_follow, four_follow, histories_have_nine, nine_follow, nine_for_each,
+    nine_settle, no_more_than_before, trust_lasts,
 };

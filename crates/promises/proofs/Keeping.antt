@@ -14,6 +14,7 @@ use Rattle.origins.specs.Live.{EachIsHeld}
 use Rattle.origins.specs.Throughout.{HasOriginsThroughout, HistoriesHaveOrigins, HonestScenarios}
 use Rattle.verdicts.specs.Throughout.{HasRightVerdictsThroughout, HistoriesHaveRightVerdicts}
 use Rattle.storms.specs.Throughout.{HasNoStormThroughout, HistoriesHaveNoStorm}
+use Rattle.eased_storms.specs.Throughout.{NineFollowThroughout, HistoriesHaveNine}
 use Rattle.first_packets.specs.Throughout.{FirstPacketsArrive, HistoriesCarryFirstPackets}
 use Rattle.promises.specs.Kept.{
   IsFlat,
@@ -21,6 +22,7 @@ use Rattle.promises.specs.Kept.{
   AddressIsHeld,
   VerdictsAreRight,
   DeliveriesAreFew,
+  AtMostNineFollow,
   FirstPacketIsCarried,
   HistoriesAreKept,
   ScenariosAreKept,
@@ -48,6 +50,9 @@ within rest before split ends = split ∙ ap (λ (z : List Full). rest ++ z) end
 few : (lab : Lab) (H : List Full) → HasNoStormThroughout lab.topology H → (rest before : List Full) → H ≡ rest ++ before → DeliveriesAreFew lab before
 few lab H have rest before split later earlier ends = have rest later earlier (within rest before split ends)
 
+nine : (lab : Lab) (H : List Full) → NineFollowThroughout lab.topology H → (rest before : List Full) → H ≡ rest ++ before → AtMostNineFollow lab before
+nine lab H have rest before split later earlier ends = have rest later earlier (within rest before split ends)
+
 carried : (lab : Lab) (H : List Full) → (IsFlat lab → FirstPacketsArrive lab H) → (rest before : List Full) → H ≡ rest ++ before
     → FirstPacketIsCarried lab before
 carried lab H have rest before split flat later r earlier ends = have flat rest later r earlier (within rest before split ends)
@@ -66,6 +71,7 @@ pub record Laws : Type 0 where
   pub held : EachIsHeld
   pub verdicts : HistoriesHaveRightVerdicts
   pub no_storm : HistoriesHaveNoStorm
+  pub nine : HistoriesHaveNine
   pub first_packets : HistoriesCarryFirstPackets
 
 pub histories : Laws → HistoriesAreKept
@@ -76,6 +82,7 @@ histories laws lab H is g later before split =
       held = held lab H have laws.held later before split;
       verdicts = right lab H (λ flat. laws.verdicts lab H flat is g) later before split;
       no_storm = few lab H (laws.no_storm lab H is g) later before split;
+      nine = nine lab H (laws.nine lab H is g) later before split;
       first_packet = carried lab H (λ flat. first laws.first_packets lab flat H is g) later before split;
     }
 

@@ -19,6 +19,7 @@ use Rattle.origins.specs.Live.{IsHeld}
 use Rattle.origins.specs.Throughout.{HasOrigins}
 use Rattle.verdicts.specs.Throughout.{HasRightVerdicts}
 use Rattle.storms.specs.Throughout.{HasNoStorm}
+use Rattle.eased_storms.specs.Throughout.{NineFollowEach}
 use Rattle.first_packets.specs.FirstPacket.{FirstPacketArrives}
 
 -- no NAT is behind another one
@@ -46,6 +47,10 @@ VerdictsAreRight lab (r ∷ H) = IsFlat lab → HasRightVerdicts lab (r ∷ H)
 abbrev pub DeliveriesAreFew : Lab → List Full → Type 0
 DeliveriesAreFew lab H = (later before : List Full) → H ≡ later ++ before → HasNoStorm lab.topology before later
 
+-- nine at most for each entry that wasn't delivered before them, and each packet that waited
+abbrev pub AtMostNineFollow : Lab → List Full → Type 0
+AtMostNineFollow lab H = (later before : List Full) → H ≡ later ++ before → NineFollowEach lab.topology before later
+
 -- where they are a fresh schedule after a first packet they carry it, where no NAT is behind another one
 abbrev pub FirstPacketIsCarried : Lab → List Full → Type 0
 FirstPacketIsCarried lab H = IsFlat lab → (later : List Full) (r : Full) (before : List Full) → H ≡ later ++ r ∷ before → FirstPacketArrives lab before r later
@@ -56,6 +61,7 @@ pub record Kept (lab : Lab) (H : List Full) : Type 0 where
   pub held : are_honest lab.topology H ≡ true → AddressIsHeld lab H
   pub verdicts : VerdictsAreRight lab H
   pub no_storm : DeliveriesAreFew lab H
+  pub nine : AtMostNineFollow lab H
   pub first_packet : FirstPacketIsCarried lab H
 
 -- at each of its records

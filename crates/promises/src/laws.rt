@@ -9,6 +9,7 @@ pub fn kept()
     origins::is_held();
     verdicts::histories_have_right_verdicts();
     storms::histories_have_no_storm();
+    eased_storms::histories_have_nine();
     first_packets::histories_carry_first_packets();
 }
 

@@ -8,7 +8,8 @@
 //! - A packet with a Teredo source that a client's host is handed came from the endpoint that the source embeds: a named
 //!   event put it there, or a client's host had handed it in while that source was its address. In an honest history each
 //!   address that a client gets embeds an endpoint that leads to it (`specs/Kept.antt`; the words are those of `origins`).
-//! - Deliveries alone end: at most twelve follow for each undelivered entry and each packet that waits (`storms`).
+//! - Deliveries alone end: at most nine follow for each undelivered entry and each packet that waits (`eased_storms`), and no
+//!   more than the weights of entries say (`storms`).
 //!
 //! And where no NAT is behind another one:
 //!

@@ -7,5 +7,6 @@ returns c = keeping.histories (record {
   held = c.is_held.ensures;
   verdicts = c.histories_have_right_verdicts.ensures;
   no_storm = c.histories_have_no_storm.ensures;
+  nine = c.histories_have_nine.ensures;
   first_packets = c.histories_carry_first_packets.ensures;
 })
