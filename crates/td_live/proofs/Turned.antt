@@ -18,11 +18,11 @@ use Rattle.client_core.specs.Client.{AsBefore, Does, WantsPlace, settings_of}
 use Rattle.client_rules.specs.TakenPlaces.{WantsOnlyQualified}
 use Rattle.td_live.specs.Asked.{LiveClient}
 use Rattle.td_live.specs.LiveTurns.{Over, Took as Received, Broke, receives, phase_after, after_due, after_came}
-use Rattle.td_live.specs.Half.{IsAt, Advances, TakesTurn}
+use Rattle.td_live.specs.Half.{IsAt, IsAwaiting, Advances, TakesTurn}
 use Rattle.td_live.specs.declared.live_totals.LiveTotals.{LiveTotals}
 use Rattle.td_live.proofs.Attempts.{Counts}
 use Rattle.td_live.proofs.Entries.{GoOn, Point, Goes, Called, goes_on, goes_nowhere, goes_both}
-use Rattle.td_live.proofs.Unlisted.{Waits, wants_none}
+use Rattle.td_live.proofs.Unlisted.{wants_none}
 
 -- What a turn of a client did, by its answer.
 abbrev pub PumpsClient : Client → ℕ → Client → Told → Told → Step → Result Pumped PumpFault → Type 0
@@ -98,10 +98,10 @@ broke_goes c p r is at =
     let same : r.client ≡ p.client = (subst (λ (a : Result Pumped PumpFault). LeavesAll AsBefore p.client r.client r.before r.step a) is r.left).0 in
     subst (λ (s : Client). Advances c p.journal p.journal s p.told r.told [] p.totals p.totals) (sym same) (goes_nowhere c p r.told [] at carried)
 
-pub starves_never : WantsOnlyQualified → (c : LiveClient) (p : Point) (r : Pump p) → r.answer ≡ Err NoMemory → Waits c p.client p.journal → ⊥
-starves_never law c p r is waits =
+pub starves_never : WantsOnlyQualified → (p : Point) (r : Pump p) → r.answer ≡ Err NoMemory → IsAwaiting p.client → ⊥
+starves_never law p r is waits =
     let starved = subst (λ (a : Result Pumped PumpFault). PumpsClient p.client r.now r.client p.told r.told r.step a) is r.turn in
-    wants_none law c p.client p.journal waits r.now starved.from starved.bytes starved.starved
+    wants_none law p.client waits r.now starved.from starved.bytes starved.starved
 
 -- ---- a turn
 

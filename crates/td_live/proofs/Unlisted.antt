@@ -1,7 +1,6 @@
 -- A client that waits for its server's answer lists nobody, and so wants no memory.
 use Rattle.std.proofs.Common.{◌≡◌, ℕ, true, List, ap, ◌∙◌}
 use Rattle.td_base.specs.declared.endpoint.Ep.{Ep}
-use Rattle.teredo_node.specs.Journal.{Journal}
 use Rattle.qualify.specs.declared.settings.Settings.{Settings}
 use Rattle.qualify.specs.declared.phase.Phase.{Phase}
 use Rattle.qualify.specs.declared.phase.Phase.TheVariants.{Cone, Restricted, Secondary, Qualified, Symmetric, OffLine}
@@ -10,9 +9,8 @@ use Rattle.qualify.specs.Solicitations.{is_qualified}
 use Rattle.client_rules.specs.TakenPlaces.{WantsOnlyQualified}
 use Rattle.client_core.specs.declared.client.Client.{Client}
 use Rattle.client_core.specs.Client.{settings_of, words_ahead, WantsPlace}
-use Rattle.td_live.specs.Asked.{LiveClient}
-use Rattle.td_live.specs.LiveTurns.{receives, phase_after}
-use Rattle.td_live.specs.Half.{IsAt}
+use Rattle.td_live.specs.LiveTurns.{receives}
+use Rattle.td_live.specs.Half.{IsAwaiting}
 
 -- A client that waits for an answer isn't qualified.
 not_both : (p : Phase) → receives p ≡ true → is_qualified p ≡ true → ⊥
@@ -23,14 +21,9 @@ not_both Qualified r q = cc
 not_both Symmetric r q = cc
 not_both OffLine r q = cc
 
--- a client at a journal, whose phase waits for the answer
-pub record Waits (c : LiveClient) (own : Client) (j : Journal) : Type 0 where
-  pub at : IsAt c own j
-  pub asking : receives (phase_after c j) ≡ true
-
-pub wants_none : WantsOnlyQualified → (c : LiveClient) (own : Client) (j : Journal) → Waits c own j → (n : ℕ) (from : Ep) (x : List ℕ) → WantsPlace own n from x
-    → ⊥
-wants_none law c own j waits n from x wants =
-    let asking : receives (qualification (settings_of own) j).phase ≡ true = ap (λ (t : Settings). receives (qualification t j).phase) waits.at.settings ∙
-    waits.asking in
-    not_both (qualification (settings_of own) j).phase asking (law (settings_of own) j n from x (words_ahead own) _ (wants j waits.at.stands))
+pub wants_none : WantsOnlyQualified → (own : Client) (w : IsAwaiting own) (n : ℕ) (from : Ep) (x : List ℕ) → WantsPlace own n from x → ⊥
+wants_none law own w n from x wants =
+    let j = w.somewhere.journal in
+    let at = w.somewhere.at in
+    let waits : receives (qualification (settings_of own) j).phase ≡ true = ap (λ (t : Settings). receives (qualification t j).phase) at.settings ∙ w.phase in
+    not_both (qualification (settings_of own) j).phase waits (law (settings_of own) j n from x (words_ahead own) _ (wants j at.stands))

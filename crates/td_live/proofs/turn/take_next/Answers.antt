@@ -46,8 +46,8 @@ unreachable-requires g c =
       turn = c.pump.ensures.turn;
       left = c.pump.ensures.left;
     } in
-    starves_never c.wants_only_qualified.ensures some.client from pump (c.in-Err-NoMemory.is ∙ ap (λ (f : PumpFault). Err f) c.in-Err-NoMemory.field-0-is)
-    (record { at = some.at; asking = c.requires.asking.phase })
+    starves_never c.wants_only_qualified.ensures from pump (c.in-Err-NoMemory.is ∙ ap (λ (f : PumpFault). Err f) c.in-Err-NoMemory.field-0-is)
+    c.requires.asking
 
 pub returns-in-Ok-Took-clause-goes : goal.returns-in-Ok-Took-clause-goes
 returns-in-Ok-Took-clause-goes g c =
