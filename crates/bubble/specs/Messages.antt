@@ -4,7 +4,7 @@ use Rattle.std.specs.Prelude.{option_map, Result, Ok, Err, if◌then◌else◌}
 use Rattle.td_base.specs.declared.ipv6.Ip6.{Ip6}
 use Rattle.ipv6_packet.specs.Packets.{Fields}
 use Rattle.ipv6_packet.specs.declared.header.TheConstants.{NEXT_ICMP}
-use Rattle.icmp6.specs.Message.{Message, echo_reply, router_advert, message_at, view as message_view}
+use Rattle.icmp6.specs.Message.{Message, echo_reply, router_advert, message_at, message_view}
 use Rattle.icmp6.specs.Layout.{message_len, message_bytes}
 use Rattle.icmp6.specs.declared.message.Msg.{Msg}
 use Rattle.icmp6.specs.declared.fault.IcmpFault.{IcmpFault}

@@ -1,6 +1,6 @@
 //! The ICMPv6 message of a packet.
 ghost use Rattle.std.specs.Prelude.{◌≡◌, ◌≤◌, length};
-ghost use Rattle.ipv6_packet.specs.Packets.{view as packet_view};
+ghost use Rattle.ipv6_packet.specs.Packets.{packet_view};
 ghost use Rattle.td_base.specs.declared.datagram.TheConstants.{DATAGRAM_MAX};
 ghost use Rattle.bubble.specs.Messages.{IsMessageOf, is_ill_formed};
 

@@ -3,7 +3,7 @@ ghost use Rattle.std.specs.Prelude.{◌≡◌, ◌+◌, ◌≤◌, length, true,
 ghost use Rattle.td_base.specs.Results.{Gives};
 ghost use Rattle.ipv6_packet.specs.declared.header.TheConstants.{HEADER};
 ghost use Rattle.indications.specs.Blocks.{AreSpansBefore};
-ghost use Rattle.bubble.specs.Payloads.{Value, view, PayloadBytes, IsFirstFault, payload_at};
+ghost use Rattle.bubble.specs.Payloads.{Value, payload_view, PayloadBytes, IsFirstPayloadFault, payload_at};
 ghost use Rattle.bubble.specs.Reads.{is_payload, value_in};
 
 use crate::fault::PayloadFault;
@@ -16,19 +16,19 @@ use td_base::DATAGRAM_MAX;
 #[inline(always)]
 pub fn read(bytes: &[u8]) -> Result<Payload<'_>, PayloadFault>
     // What is read is spelled so.
-    ensures found { IfOk result (λ p. PayloadBytes (view p) bytes.now) }
+    ensures found { IfOk result (λ p. PayloadBytes (payload_view p) bytes.now) }
     // What is spelled so is read.
-    ensures only { (v : Value) → PayloadBytes v bytes.now → Gives view result (Ok v) }
+    ensures only { (v : Value) → PayloadBytes v bytes.now → Gives payload_view result (Ok v) }
     // A fault is the first one.
-    ensures fault { IfErr result (λ e. IsFirstFault e bytes.now) }
+    ensures fault { IfErr result (λ e. IsFirstPayloadFault e bytes.now) }
     // The packet is all that follows the indications.
     ensures inside { IfOk result (λ p. p.lead.at + HEADER + length p.packet.body.now ≡ length bytes.now) }
     ensures spans { IfOk result (λ p. IfSome p.lead.auth (AreSpansBefore p.lead.at)) }
     // As rules see the bytes.
-    ensures seen { IfOk result (λ p. (is_payload bytes.now ≡ true) × (value_in bytes.now ≡ view p)) }
+    ensures seen { IfOk result (λ p. (is_payload bytes.now ≡ true) × (value_in bytes.now ≡ payload_view p)) }
     ensures unseen { IfErr result (λ e. is_payload bytes.now ≡ false) }
     // The same as one function of the bytes.
-    ensures exact { Gives view result (payload_at bytes.now) }
+    ensures exact { Gives payload_view result (payload_at bytes.now) }
 {
     if bytes.len() > DATAGRAM_MAX {
         return Err(PayloadFault::Long { len: bytes.len() });

@@ -1,7 +1,7 @@
 //! Payloads into bytes.
 ghost use Rattle.std.specs.Prelude.{◌≡◌, ◌+◌, ◌<◌, ◌≤◌, ◌^◌, length, take, IfOk, Ok};
 ghost use Rattle.td_base.specs.Bytes.{Writes};
-ghost use Rattle.ipv6_packet.specs.Packets.{view as packet_view};
+ghost use Rattle.ipv6_packet.specs.Packets.{packet_view};
 ghost use Rattle.indications.specs.Blocks.{indications_len};
 ghost use Rattle.bubble.specs.Payloads.{PayloadBytes, value_written, payload_at};
 ghost use Rattle.bubble.specs.Reads.{payload_bytes};

@@ -18,7 +18,7 @@ use Rattle.peer_list.specs.Calls.{Updates, trusted_at, heard_at, tried_at}
 use Rattle.peer_list.specs.Stands.{bears_nothing}
 use Rattle.qualify.specs.Turns.{turn, says_nothing}
 use Rattle.qualify.specs.Generator.{after_words}
-use Rattle.qualify.specs.Qualifier.{QualifierState, StandsFor, IsOfServer}
+use Rattle.qualify.specs.Qualifier.{QualifierState, QualifierStandsFor, IsOfServer}
 use Rattle.qualify.specs.Solicitations.{own_address}
 use Rattle.client_core.specs.declared.client.Client.{Client}
 use Rattle.client_rules.specs.Bearings.{mention}
@@ -188,7 +188,7 @@ pub record AnswersBubble (old : Client) (n : ℕ) (v : Value) (to : Ep) (new : C
   pub clock : old.peers.moment ≤ n
   pub origin : origin_in v.lead ≡ Some to
   pub peers : Updates old.peers new.peers n v.packet.src (tried_at n None (known_to old.peers n v.packet.src))
-  pub qualified : (j : Journal) (e : Entry) → StandsFor old.qualifier j → IsOfServer n e → StandsFor new.qualifier (with_entry j e)
+  pub qualified : (j : Journal) (e : Entry) → QualifierStandsFor old.qualifier j → IsOfServer n e → QualifierStandsFor new.qualifier (with_entry j e)
   pub settings : new.qualifier.settings ≡ old.qualifier.settings
   pub rng : new.rng ≡ old.rng
 

@@ -18,7 +18,7 @@ use Rattle.qualify.specs.declared.phase.Phase.TheVariants.{Cone, Restricted, Sec
 use Rattle.qualify.specs.Qualification.{Qualification, qualification}
 use Rattle.qualify.specs.Advertisements.{heard, phase_line, advert_row, advert_words}
 use Rattle.qualify.specs.Generator.{after_words}
-use Rattle.qualify.specs.Qualifier.{StandsFor, stands_whole, IsOfAdvert}
+use Rattle.qualify.specs.Qualifier.{QualifierStandsFor, stands_whole, IsOfAdvert}
 use Rattle.client_core.specs.declared.client.Client.{Client}
 use Rattle.client_rules.specs.Bearings.{mentions, bearing_of}
 use Rattle.client_rules.specs.Standing.{Standing}
@@ -123,13 +123,13 @@ done s a from x v w f stays =
 -- qualification took an advertisement with this fate
 pub record Took (old : Client) (n : ℕ) (from : Ep) (v : Value) (f : Fate) (new : Client) : Type 0 where
   pub clock : old.peers.moment ≤ n
-  pub row : (j : Journal) → StandsFor old.qualifier j → f ≡ advert_row (settings_of old) (qualification (settings_of old) j) from v
-  pub stands : (j : Journal) (e : Entry) → StandsFor old.qualifier j → IsOfAdvert (settings_of old) n v f (words_ahead old) e → StandsFor new.qualifier (with_entry j e)
+  pub row : (j : Journal) → QualifierStandsFor old.qualifier j → f ≡ advert_row (settings_of old) (qualification (settings_of old) j) from v
+  pub stands : (j : Journal) (e : Entry) → QualifierStandsFor old.qualifier j → IsOfAdvert (settings_of old) n v f (words_ahead old) e → QualifierStandsFor new.qualifier (with_entry j e)
   pub place : new.rng ≡ after_words (advert_words (settings_of old) f) old.rng
   pub settings : settings_of new ≡ settings_of old
 
 -- the journal's row is the one of what the client keeps
-row_now : (old : Client) (from : Ep) (v : Value) (f : Fate) (j : Journal) → StandsFor old.qualifier j
+row_now : (old : Client) (from : Ep) (v : Value) (f : Fate) (j : Journal) → QualifierStandsFor old.qualifier j
     → f ≡ advert_row (settings_of old) (qualification (settings_of old) j) from v
     → f ≡ advert_row (settings_of old) old.qualifier.now from v
 row_now old from v f j h row = row ∙ ap (λ (q : Qualification). advert_row (settings_of old) q from v) (sym (stands_whole old.qualifier j h))

@@ -13,7 +13,7 @@ use Rattle.peer_list.specs.Calls.{Updates}
 use Rattle.peer_list.specs.Stands.{StandsForMentions, MeansNothing, bears_nothing}
 use Rattle.qualify.specs.Turns.{turn_of, says_nothing}
 use Rattle.qualify.specs.Qualification.{Qualification, qualification}
-use Rattle.qualify.specs.Qualifier.{QualifierState, StandsFor, stands_whole}
+use Rattle.qualify.specs.Qualifier.{QualifierState, QualifierStandsFor, stands_whole}
 use Rattle.qualify.specs.Generator.{after_words}
 use Rattle.client_core.specs.declared.client.Client.{Client}
 use Rattle.client_rules.specs.Bearings.{mention, mentions}
@@ -24,7 +24,7 @@ use Rattle.client_core.specs.Below.{BelowClient}
 -- QUALIFICATION
 
 -- the parts of an equal whole
-stands_by : (q : QualifierState) (j : Journal) → q.now ≡ qualification q.settings j → StandsFor q j
+stands_by : (q : QualifierState) (j : Journal) → q.now ≡ qualification q.settings j → QualifierStandsFor q j
 stands_by q j e = record {
   phase = ap (λ (x : Qualification). x.phase) e;
   due = ap (λ (x : Qualification). x.due) e;
@@ -36,7 +36,7 @@ stands_by q j e = record {
 }
 
 -- an entry that says nothing of it leaves it
-pub still_stands : (law : BelowClient) (q : QualifierState) (j : Journal) (e : Entry) → turn_of e ≡ says_nothing → StandsFor q j → StandsFor q (with_entry j e)
+pub still_stands : (law : BelowClient) (q : QualifierState) (j : Journal) (e : Entry) → turn_of e ≡ says_nothing → QualifierStandsFor q j → QualifierStandsFor q (with_entry j e)
 still_stands law q j e quiet h = stands_by q (with_entry j e) (stands_whole q j h ∙ sym (law.keeps_still q.settings j e quiet))
 
 -- PEERS
@@ -75,7 +75,7 @@ peers_on law old new e who b j h =
 pub bears_enters : (law : BelowClient) (old new : Client) (e : Entry) (who : Ip6) → Bears old e who new → Enters old e new
 bears_enters law old new e who b = record {
   stands = λ j h. record {
-    qualification = still_stands law new.qualifier j e b.quiet (subst (λ (q : QualifierState). StandsFor q j) (sym b.qualifier) h.qualification);
+    qualification = still_stands law new.qualifier j e b.quiet (subst (λ (q : QualifierState). QualifierStandsFor q j) (sym b.qualifier) h.qualification);
     peers = peers_on law old new e who b.of_peer j h;
   };
   place = b.place;
@@ -116,7 +116,7 @@ takes_no_six law c n x l =
 pub keeps_stays : (law : BelowClient) (old new : Client) (n : ℕ) → old.peers.moment ≤ n → KeepsAll old n new → AsBefore old new
 keeps_stays law old new n clock k = record {
   stands = λ j h. record {
-    qualification = subst (λ (q : QualifierState). StandsFor q j) (sym k.qualifier) h.qualification;
+    qualification = subst (λ (q : QualifierState). QualifierStandsFor q j) (sym k.qualifier) h.qualification;
     peers = law.peers.kept_stands old.peers new.peers n (mentions j.entries) h.peers clock k.peers;
   };
   words = k.rng;

@@ -14,7 +14,7 @@ use Rattle.qualify.specs.declared.limits.TheConstants.{SOLICITATIONS_MAX}
 use Rattle.qualify.specs.Qualification.{Qualification, qualification}
 use Rattle.qualify.specs.Solicitations.{is_due, due_fate, solicits_by, due_step, step_at}
 use Rattle.qualify.specs.Generator.{after_words}
-use Rattle.qualify.specs.Qualifier.{StandsFor, stands_whole, IsOfTick}
+use Rattle.qualify.specs.Qualifier.{QualifierStandsFor, stands_whole, IsOfTick}
 use Rattle.client_core.specs.declared.client.Client.{Client}
 use Rattle.client_rules.specs.Bearings.{mentions}
 use Rattle.client_rules.specs.Ticks.{Due, asks, due_at, peer_due, peer_of_due, tick}
@@ -124,13 +124,13 @@ unchanged s q w = let d = due_fate_is q.phase q.sends in ap (λ (f : Fate). is_c
 pub record Asks (old : Client) (n : ℕ) (step : Step) (new : Client) : Type 0 where
   pub clock : old.peers.moment ≤ n
   pub due : is_due n old.qualifier.now.due ≡ true
-  pub did : (j : Journal) → StandsFor old.qualifier j → step ≡ step_at (settings_of old) (qualification (settings_of old) j) n (words_ahead old)
-  pub stands : (j : Journal) (e : Entry) → StandsFor old.qualifier j → IsOfTick n step (words_ahead old) e → StandsFor new.qualifier (with_entry j e)
+  pub did : (j : Journal) → QualifierStandsFor old.qualifier j → step ≡ step_at (settings_of old) (qualification (settings_of old) j) n (words_ahead old)
+  pub stands : (j : Journal) (e : Entry) → QualifierStandsFor old.qualifier j → IsOfTick n step (words_ahead old) e → QualifierStandsFor new.qualifier (with_entry j e)
   pub place : new.rng ≡ after_words step.drawn old.rng
   pub settings : settings_of new ≡ settings_of old
   pub peers : new.peers ≡ old.peers
 
-pub asked_step : (old new : Client) (n : ℕ) (step : Step) → Asks old n step new → (j : Journal) → StandsFor old.qualifier j → step ≡ due_step (settings_of old) old.qualifier.now (words_ahead old)
+pub asked_step : (old new : Client) (n : ℕ) (step : Step) → Asks old n step new → (j : Journal) → QualifierStandsFor old.qualifier j → step ≡ due_step (settings_of old) old.qualifier.now (words_ahead old)
 asked_step old new n step a j h =
     a.did j h
     ∙ ap (λ (q : Qualification). step_at (settings_of old) q n (words_ahead old)) (sym (stands_whole old.qualifier j h))

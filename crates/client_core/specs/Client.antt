@@ -20,7 +20,7 @@ use Rattle.peer_list.specs.Stands.{StandsForMentions}
 use Rattle.qualify.specs.declared.settings.Settings.{Settings}
 use Rattle.qualify.specs.Advertisements.{advert_row}
 use Rattle.qualify.specs.Generator.{words_of, after_words}
-use Rattle.qualify.specs.Qualifier.{StandsFor}
+use Rattle.qualify.specs.Qualifier.{QualifierStandsFor}
 use Rattle.client_core.specs.declared.client.Client.{Client}
 use Rattle.client_rules.specs.Bearings.{mentions}
 use Rattle.client_rules.specs.Standing.{Standing}
@@ -54,7 +54,7 @@ listed_peers c n = map (known_to c.peers n) (listed_in c.peers n)
 
 -- qualification is what the journal says, and so is what is known of each address
 pub record ClientStandsFor (c : Client) (j : Journal) : Type 0 where
-  pub qualification : StandsFor c.qualifier j
+  pub qualification : QualifierStandsFor c.qualifier j
   pub peers : StandsForMentions c.peers (mentions j.entries)
 
 -- it may be called at n: at no moment before that of an earlier call, and while a clock runs

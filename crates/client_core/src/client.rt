@@ -6,7 +6,7 @@ ghost use Rattle.qualify.specs.Qualification.{qualification};
 ghost use Rattle.qualify.specs.Qualifier.{IsSettings};
 ghost use Rattle.qualify.specs.Solicitations.{is_qualified};
 ghost use Rattle.client_core.specs.Client.{settings_of, generator_of, callable_from, ClientStandsFor, IsCallable, Does};
-ghost use Rattle.client_rules.specs.Journals.{journal};
+ghost use Rattle.client_rules.specs.Journals.{journal_since};
 
 use crate::below::below;
 use peer_list::Peers;
@@ -35,7 +35,7 @@ impl Client {
     pub fn new(alloc: Global, s: Settings, rng: ChaCha20Rng, now: Millis) -> Client
         requires settings { IsSettings s }
         requires early { now.0 < CLOCK_END_MS }
-        ensures stands { ClientStandsFor result (journal now.0 []) }
+        ensures stands { ClientStandsFor result (journal_since now.0 []) }
         ensures settings { settings_of result ≡ s }
         ensures words { generator_of result ≡ rng }
         ensures clock { callable_from result ≡ 0 }
@@ -50,7 +50,7 @@ impl Client {
     /// Starts anew: the first phase begins, and no peer is known. The random words go on where they were.
     pub fn restart(&mut self, now: Millis)
         requires early { now.0 < CLOCK_END_MS }
-        ensures stands { ClientStandsFor self.new (journal now.0 []) }
+        ensures stands { ClientStandsFor self.new (journal_since now.0 []) }
         ensures settings { settings_of self.new ≡ settings_of self.old }
         ensures words { generator_of self.new ≡ generator_of self.old }
         ensures clock { callable_from self.new ≡ 0 }

@@ -3,7 +3,7 @@ ghost use Rattle.std.specs.Prelude.{◌≡◌, ◌≤◌, length, is_some, IfSom
 ghost use Rattle.std.specs.Option.{option_or};
 ghost use Rattle.byteorder.specs.Endian.{big_bytes};
 ghost use Rattle.td_base.specs.declared.datagram.TheConstants.{DATAGRAM_MAX};
-ghost use Rattle.ipv6_packet.specs.Packets.{view as packet_view};
+ghost use Rattle.ipv6_packet.specs.Packets.{packet_view};
 ghost use Rattle.bubble.specs.Messages.{IsMessageOf, message_in, is_advert, is_echo_reply};
 ghost use Rattle.client_rules.specs.Reception.{is_from_server, is_good_origin, is_reply_to};
 

@@ -5,7 +5,7 @@ ghost use Rattle.ipv6_packet.specs.declared.header.TheConstants.{HEADER, PACKET_
 ghost use Rattle.ipv6_packet.specs.Packets.{packet_bytes};
 ghost use Rattle.td_base.specs.declared.endpoint.Ep.{Ep};
 ghost use Rattle.indications.specs.Leads.{origin_in};
-ghost use Rattle.bubble.specs.Payloads.{view};
+ghost use Rattle.bubble.specs.Payloads.{payload_view};
 ghost use Rattle.teredo_node.specs.declared.fate.Fate.{Fate};
 ghost use Rattle.teredo_node.specs.Journal.{arrived};
 ghost use Rattle.teredo_node.specs.Step.{just};
@@ -79,10 +79,11 @@ impl Client {
     ) -> Result<(), NoMemory>
         requires callable { IsCallable self.old now.0 }
         requires short { length payload.now.packet.body.now ≤ DATAGRAM_MAX }
-        requires packet { packet.now ≡ packet_bytes (view payload.now).packet }
+        requires packet { packet.now ≡ packet_bytes (payload_view payload.now).packet }
         requires long { length packet.now ≡ HEADER + length payload.now.packet.body.now }
-        ensures done { OnOk result (TakesPayload self.old now.0 from (view payload.now) (fate_in self.old now.0 from (view payload.now)) step.new self.new) }
-        ensures kept { OnErr result (KeepsPlace self.old now.0 (view payload.now) (fate_in self.old now.0 from (view payload.now)) self.new) }
+        ensures done { OnOk result (TakesPayload self.old now.0 from (payload_view payload.now)
+            (fate_in self.old now.0 from (payload_view payload.now)) step.new self.new) }
+        ensures kept { OnErr result (KeepsPlace self.old now.0 (payload_view payload.now) (fate_in self.old now.0 from (payload_view payload.now)) self.new) }
         ensures untouched { OnErr result (step.new ≡ step.old) }
     {
         below();
@@ -155,8 +156,8 @@ impl Client {
     fn take_advert(&mut self, now: Millis, from: Ep, payload: &Payload<'_>, step: &mut Step)
         requires callable { IsCallable self.old now.0 }
         requires short { length payload.now.packet.body.now ≤ DATAGRAM_MAX }
-        ensures done { TakesPayload self.old now.0 from (view payload.now) (advert_row (settings_of self.old) self.old.qualifier.now from
-            (view payload.now)) step.new self.new }
+        ensures done { TakesPayload self.old now.0 from (payload_view payload.now) (advert_row (settings_of self.old) self.old.qualifier.now from
+            (payload_view payload.now)) step.new self.new }
     {
         below();
         let fate = self.qualifier.on_advert(now, from, payload, &mut self.rng);
@@ -182,8 +183,8 @@ impl Client {
         requires callable { IsCallable self.old now.0 }
         requires origin { origin_in payload.now.lead ≡ Some origin }
         requires room { has_room_in self.old.peers now.0 payload.now.packet.src ≡ true }
-        ensures done { (from : Ep) → OnOk result (TakesPayload self.old now.0 from (view payload.now) Fate.Indirect step.new self.new) }
-        ensures kept { OnErr result (KeepsPlace self.old now.0 (view payload.now) Fate.Indirect self.new) }
+        ensures done { (from : Ep) → OnOk result (TakesPayload self.old now.0 from (payload_view payload.now) Fate.Indirect step.new self.new) }
+        ensures kept { OnErr result (KeepsPlace self.old now.0 (payload_view payload.now) Fate.Indirect self.new) }
         ensures untouched { OnErr result (step.new ≡ step.old) }
     {
         below();
@@ -207,8 +208,8 @@ impl Client {
         requires callable { IsCallable self.old now.0 }
         requires short { length payload.now.packet.body.now ≤ DATAGRAM_MAX }
         requires room { has_room_in self.old.peers now.0 payload.now.packet.src ≡ true }
-        ensures done { OnOk result (TakesPayload self.old now.0 from (view payload.now) Fate.Rule3 step.new self.new) }
-        ensures kept { OnErr result (KeepsPlace self.old now.0 (view payload.now) Fate.Rule3 self.new) }
+        ensures done { OnOk result (TakesPayload self.old now.0 from (payload_view payload.now) Fate.Rule3 step.new self.new) }
+        ensures kept { OnErr result (KeepsPlace self.old now.0 (payload_view payload.now) Fate.Rule3 self.new) }
         ensures untouched { OnErr result (step.new ≡ step.old) }
     {
         below();
@@ -229,8 +230,8 @@ impl Client {
     ) -> Result<(), NoMemory>
         requires callable { IsCallable self.old now.0 }
         requires room { has_room_in self.old.peers now.0 payload.now.packet.src ≡ true }
-        ensures done { OnOk result (TakesPayload self.old now.0 from (view payload.now) Fate.Rule3Bubble step.new self.new) }
-        ensures kept { OnErr result (KeepsPlace self.old now.0 (view payload.now) Fate.Rule3Bubble self.new) }
+        ensures done { OnOk result (TakesPayload self.old now.0 from (payload_view payload.now) Fate.Rule3Bubble step.new self.new) }
+        ensures kept { OnErr result (KeepsPlace self.old now.0 (payload_view payload.now) Fate.Rule3Bubble self.new) }
         ensures untouched { OnErr result (step.new ≡ step.old) }
     {
         below();
@@ -254,9 +255,9 @@ impl Client {
         requires room { has_room_in self.old.peers now.0 payload.now.packet.src ≡ true }
         requires free { holds_most (known_to self.old.peers now.0 payload.now.packet.src) ≡ false }
         requires short { length packet.now ≤ PACKET_MAX }
-        requires packet { packet.now ≡ packet_bytes (view payload.now).packet }
-        ensures done { OnOk result (TakesPayload self.old now.0 from (view payload.now) Fate.HeldTest step.new self.new) }
-        ensures kept { OnErr result (KeepsPlace self.old now.0 (view payload.now) Fate.HeldTest self.new) }
+        requires packet { packet.now ≡ packet_bytes (payload_view payload.now).packet }
+        ensures done { OnOk result (TakesPayload self.old now.0 from (payload_view payload.now) Fate.HeldTest step.new self.new) }
+        ensures kept { OnErr result (KeepsPlace self.old now.0 (payload_view payload.now) Fate.HeldTest self.new) }
         ensures untouched { OnErr result (step.new ≡ step.old) }
     {
         below();
@@ -270,7 +271,7 @@ impl Client {
     fn test_source(&mut self, now: Millis, payload: &Payload<'_>, step: &mut Step)
         requires callable { IsCallable self.old now.0 }
         requires listed { is_some (peer_in self.old.peers now.0 payload.now.packet.src) ≡ true }
-        ensures { (from : Ep) → TakesPayload self.old now.0 from (view payload.now) Fate.SuspiciousTest step.new self.new }
+        ensures { (from : Ep) → TakesPayload self.old now.0 from (payload_view payload.now) Fate.SuspiciousTest step.new self.new }
     {
         below();
         self.test_peer(now, payload.packet.src, Fate::SuspiciousTest, step);
@@ -289,9 +290,9 @@ impl Client {
         requires listed { is_some (peer_in self.old.peers now.0 payload.now.packet.src) ≡ true }
         requires free { holds_most (known_to self.old.peers now.0 payload.now.packet.src) ≡ false }
         requires short { length packet.now ≤ PACKET_MAX }
-        requires packet { packet.now ≡ packet_bytes (view payload.now).packet }
-        ensures done { OnOk result (TakesPayload self.old now.0 from (view payload.now) Fate.Held step.new self.new) }
-        ensures kept { OnErr result (KeepsPlace self.old now.0 (view payload.now) Fate.Held self.new) }
+        requires packet { packet.now ≡ packet_bytes (payload_view payload.now).packet }
+        ensures done { OnOk result (TakesPayload self.old now.0 from (payload_view payload.now) Fate.Held step.new self.new) }
+        ensures kept { OnErr result (KeepsPlace self.old now.0 (payload_view payload.now) Fate.Held self.new) }
         ensures untouched { OnErr result (step.new ≡ step.old) }
     {
         below();

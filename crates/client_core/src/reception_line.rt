@@ -4,7 +4,7 @@ ghost use Rattle.td_base.specs.declared.datagram.TheConstants.{DATAGRAM_MAX};
 ghost use Rattle.td_base.specs.Ep.{same_ep};
 ghost use Rattle.ipv6_packet.specs.Reads.{is_big};
 ghost use Rattle.teredo_addr.specs.Teredo.{is_teredo, embedded};
-ghost use Rattle.bubble.specs.Payloads.{view};
+ghost use Rattle.bubble.specs.Payloads.{payload_view};
 ghost use Rattle.teredo_node.specs.declared.fate.Fate.{Fate};
 ghost use Rattle.teredo_node.specs.Rows.{first_line};
 ghost use Rattle.qualify.specs.Solicitations.{is_qualified};
@@ -48,9 +48,9 @@ pub enum ReceptionLine {
 pub fn line_of(client: &Client, now: Millis, from: Ep, payload: &Payload<'_>) -> ReceptionLine
     requires clock { client.now.peers.moment ≤ now.0 }
     requires short { length payload.now.packet.body.now ≤ DATAGRAM_MAX }
-    ensures row { (advert : Fate) → fate_of result advert ≡ reception_row (seen_by client.now now.0 from (view payload.now)) advert }
-    ensures warrant { WarrantsDatagram (standing_in client.now now.0 payload.now.packet.src) (view payload.now) result }
-    ensures small { keeps result ≡ true → is_big (view payload.now).packet ≡ false }
+    ensures row { (advert : Fate) → fate_of result advert ≡ reception_row (seen_by client.now now.0 from (payload_view payload.now)) advert }
+    ensures warrant { WarrantsDatagram (standing_in client.now now.0 payload.now.packet.src) (payload_view payload.now) result }
+    ensures small { keeps result ≡ true → is_big (payload_view payload.now).packet ≡ false }
 {
     // keyed: our choice
     if is_keyed(&payload.lead) {
@@ -75,10 +75,10 @@ fn line_of_server(client: &Client, now: Millis, from: Ep, payload: &Payload<'_>)
     requires clock { client.now.peers.moment ≤ now.0 }
     requires short { length payload.now.packet.body.now ≤ DATAGRAM_MAX }
     requires server { is_from_server (settings_of client.now) from ≡ true }
-    ensures row { let a = seen_by client.now now.0 from (view payload.now) in
+    ensures row { let a = seen_by client.now now.0 from (payload_view payload.now) in
         (advert : Fate) → fate_of result advert ≡ first_line (server_lines a advert ++ (packet_lines a ++
         (indirect_lines a ++ direct_lines a))) Fate.Suspicious }
-    ensures warrant { WarrantsDatagram (standing_in client.now now.0 payload.now.packet.src) (view payload.now) result }
+    ensures warrant { WarrantsDatagram (standing_in client.now now.0 payload.now.packet.src) (payload_view payload.now) result }
 {
     let packet = &payload.packet;
     let message = message_of(packet);
@@ -102,9 +102,9 @@ fn line_of_server(client: &Client, now: Millis, from: Ep, payload: &Payload<'_>)
 fn line_of_packet(client: &Client, now: Millis, from: Ep, payload: &Payload<'_>) -> ReceptionLine
     requires clock { client.now.peers.moment ≤ now.0 }
     requires short { length payload.now.packet.body.now ≤ DATAGRAM_MAX }
-    ensures row { let a = seen_by client.now now.0 from (view payload.now) in
+    ensures row { let a = seen_by client.now now.0 from (payload_view payload.now) in
         (advert : Fate) → fate_of result advert ≡ first_line (packet_lines a ++ (indirect_lines a ++ direct_lines a)) Fate.Suspicious }
-    ensures warrant { WarrantsDatagram (standing_in client.now now.0 payload.now.packet.src) (view payload.now) result }
+    ensures warrant { WarrantsDatagram (standing_in client.now now.0 payload.now.packet.src) (payload_view payload.now) result }
 {
     let packet = &payload.packet;
     // off: RFC 4380, section 5.2.3
@@ -129,9 +129,9 @@ fn line_of_packet(client: &Client, now: Millis, from: Ep, payload: &Payload<'_>)
 fn line_of_indirect(client: &Client, now: Millis, from: Ep, payload: &Payload<'_>) -> ReceptionLine
     requires clock { client.now.peers.moment ≤ now.0 }
     requires server { is_from_server (settings_of client.now) from ≡ true }
-    ensures row { let a = seen_by client.now now.0 from (view payload.now) in
+    ensures row { let a = seen_by client.now now.0 from (payload_view payload.now) in
         (advert : Fate) → fate_of result advert ≡ first_line (indirect_lines a ++ direct_lines a) Fate.Suspicious }
-    ensures warrant { WarrantsDatagram (standing_in client.now now.0 payload.now.packet.src) (view payload.now) result }
+    ensures warrant { WarrantsDatagram (standing_in client.now now.0 payload.now.packet.src) (payload_view payload.now) result }
 {
     let source = payload.packet.src;
     // origin: RFC 4380, section 5.2.3
@@ -160,9 +160,9 @@ fn line_of_direct(client: &Client, now: Millis, from: Ep, payload: &Payload<'_>)
     requires clock { client.now.peers.moment ≤ now.0 }
     requires short { length payload.now.packet.body.now ≤ DATAGRAM_MAX }
     requires peer { is_from_server (settings_of client.now) from ≡ false }
-    ensures row { let a = seen_by client.now now.0 from (view payload.now) in
+    ensures row { let a = seen_by client.now now.0 from (payload_view payload.now) in
         (advert : Fate) → fate_of result advert ≡ first_line (indirect_lines a ++ direct_lines a) Fate.Suspicious }
-    ensures warrant { WarrantsDatagram (standing_in client.now now.0 payload.now.packet.src) (view payload.now) result }
+    ensures warrant { WarrantsDatagram (standing_in client.now now.0 payload.now.packet.src) (payload_view payload.now) result }
 {
     let packet = &payload.packet;
     if client.peers.is_trusted_at(now, packet.src, from) {
@@ -187,9 +187,9 @@ fn line_of_direct(client: &Client, now: Millis, from: Ep, payload: &Payload<'_>)
 fn line_of_embedded(client: &Client, now: Millis, from: Ep, payload: &Payload<'_>) -> ReceptionLine
     requires clock { client.now.peers.moment ≤ now.0 }
     requires here { (is_teredo payload.now.packet.src && same_ep (embedded payload.now.packet.src) from) ≡ true }
-    ensures row { let a = seen_by client.now now.0 from (view payload.now) in
+    ensures row { let a = seen_by client.now now.0 from (payload_view payload.now) in
         (advert : Fate) → fate_of result advert ≡ first_line (teredo_lines a ++ suspicious_lines a) Fate.Suspicious }
-    ensures warrant { WarrantsDatagram (standing_in client.now now.0 payload.now.packet.src) (view payload.now) result }
+    ensures warrant { WarrantsDatagram (standing_in client.now now.0 payload.now.packet.src) (payload_view payload.now) result }
 {
     let packet = &payload.packet;
     // peers_full: our choice
@@ -209,9 +209,9 @@ fn line_of_other(client: &Client, now: Millis, from: Ep, payload: &Payload<'_>) 
     requires clock { client.now.peers.moment ≤ now.0 }
     requires short { length payload.now.packet.body.now ≤ DATAGRAM_MAX }
     requires elsewhere { (is_teredo payload.now.packet.src && same_ep (embedded payload.now.packet.src) from) ≡ false }
-    ensures row { let a = seen_by client.now now.0 from (view payload.now) in
+    ensures row { let a = seen_by client.now now.0 from (payload_view payload.now) in
         (advert : Fate) → fate_of result advert ≡ first_line (teredo_lines a ++ suspicious_lines a) Fate.Suspicious }
-    ensures warrant { WarrantsDatagram (standing_in client.now now.0 payload.now.packet.src) (view payload.now) result }
+    ensures warrant { WarrantsDatagram (standing_in client.now now.0 payload.now.packet.src) (payload_view payload.now) result }
 {
     // mismatch: RFC 4380, section 5.2.3, rule 3
     if is_teredo(payload.packet.src) {
@@ -236,9 +236,10 @@ fn line_of_other(client: &Client, now: Millis, from: Ep, payload: &Payload<'_>) 
 #[tactic(auto, using(crate::proofs::Listed::holding_is_listed, crate::proofs::Listed::testable_has_room))]
 fn line_of_tested(client: &Client, now: Millis, from: Ep, payload: &Payload<'_>) -> ReceptionLine
     requires clock { client.now.peers.moment ≤ now.0 }
-    requires testable { is_testable (seen_by client.now now.0 from (view payload.now)) ≡ true }
-    ensures row { (advert : Fate) → fate_of result advert ≡ first_line (suspicious_lines (seen_by client.now now.0 from (view payload.now))) Fate.Suspicious }
-    ensures warrant { WarrantsDatagram (standing_in client.now now.0 payload.now.packet.src) (view payload.now) result }
+    requires testable { is_testable (seen_by client.now now.0 from (payload_view payload.now)) ≡ true }
+    ensures row { (advert : Fate) → fate_of result advert
+        ≡ first_line (suspicious_lines (seen_by client.now now.0 from (payload_view payload.now))) Fate.Suspicious }
+    ensures warrant { WarrantsDatagram (standing_in client.now now.0 payload.now.packet.src) (payload_view payload.now) result }
 {
     // suspicious_test: RFC 4380, section 5.2.3, rule 6
     if client.peers.holds_most(now, payload.packet.src) {
@@ -259,7 +260,8 @@ fn is_embedded_at(ip: Ip6, from: Ep) -> bool
 fn answers_test(client: &Client, now: Millis, from: Ep, payload: &Payload<'_>) -> bool
     requires clock { client.now.peers.moment ≤ now.0 }
     requires short { length payload.now.packet.body.now ≤ DATAGRAM_MAX }
-    ensures { let a = seen_by client.now now.0 from (view payload.now) in result ≡ (not a.teredo && (a.peer.listed && (not a.peer.fresh && a.peer.reply))) }
+    ensures { let a = seen_by client.now now.0 from (payload_view payload.now) in
+        result ≡ (not a.teredo && (a.peer.listed && (not a.peer.fresh && a.peer.reply))) }
 {
     let packet = &payload.packet;
     !is_teredo(packet.src)
@@ -276,7 +278,7 @@ fn answers_test(client: &Client, now: Millis, from: Ep, payload: &Payload<'_>) -
 fn may_be_tested(client: &Client, now: Millis, from: Ep, payload: &Payload<'_>) -> bool
     requires clock { client.now.peers.moment ≤ now.0 }
     requires short { length payload.now.packet.body.now ≤ DATAGRAM_MAX }
-    ensures { result ≡ is_testable (seen_by client.now now.0 from (view payload.now)) }
+    ensures { result ≡ is_testable (seen_by client.now now.0 from (payload_view payload.now)) }
 {
     let packet = &payload.packet;
     is_global6(packet.src)
@@ -291,7 +293,7 @@ fn may_be_tested(client: &Client, now: Millis, from: Ep, payload: &Payload<'_>) 
 fn is_under_test(client: &Client, now: Millis, from: Ep, payload: &Payload<'_>) -> bool
     requires clock { client.now.peers.moment ≤ now.0 }
     requires short { length payload.now.packet.body.now ≤ DATAGRAM_MAX }
-    ensures { result ≡ is_under_test (seen_by client.now now.0 from (view payload.now)) }
+    ensures { result ≡ is_under_test (seen_by client.now now.0 from (payload_view payload.now)) }
 {
     let packet = &payload.packet;
     is_global6(packet.src)

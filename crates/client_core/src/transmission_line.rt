@@ -1,6 +1,6 @@
 //! The table of packets of the host.
 ghost use Rattle.std.specs.Prelude.{◌≡◌, ◌≤◌, true, false, Some, is_some, IfSome};
-ghost use Rattle.ipv6_packet.specs.Packets.{view as packet_view};
+ghost use Rattle.ipv6_packet.specs.Packets.{packet_view};
 ghost use Rattle.ipv6_packet.specs.Reads.{is_big};
 ghost use Rattle.peer_list.specs.Judged.{is_fresh};
 ghost use Rattle.peer_list.specs.Table.{peer_in, known_to};

@@ -21,7 +21,7 @@ use Rattle.qualify.specs.Qualification.{first_phase, address_after, Qualificatio
 use Rattle.qualify.specs.Solicitations.{is_qualified, own_address}
 use Rattle.qualify.specs.Laws.{fresh, tidings, goes_on, turned, Turns, TurnsAtStart}
 use Rattle.client_rules.specs.Bearings.{mention, mentions}
-use Rattle.client_rules.specs.Journals.{journal, Follows, AreEntries}
+use Rattle.client_rules.specs.Journals.{journal_since, ClientFollows, AreEntries}
 use Rattle.client_rules.specs.Epochs.{IsOwnTo, QueuesOwn, QualifiedHasAddress, QualifiedStays, QueuedIsOwn, NoneQueued, WaitingIsOwn, WasQueued, WasHandedIn, WaitingWasHandedIn}
 use Rattle.client_rules.proofs.Bearings.{queued_by, changes, changes_alike}
 use Rattle.client_rules.proofs.Entered.{sets, IsQueuedAt, IsEffect, of_entry}
@@ -163,7 +163,7 @@ next s q e es f h = by_phase (is_qualified q.phase) refl where
 
 -- JOURNALS
 
-effect : (s : Settings) (j : Journal) (e : Entry) → Follows s j e → IsEffect (qualification s j) e
+effect : (s : Settings) (j : Journal) (e : Entry) → ClientFollows s j e → IsEffect (qualification s j) e
 effect s j e f = subst (λ x. IsEffect (qualification s j) x) (sym f.is) (of_entry s j e.moment e.input f.words)
 
 first_unqualified : (cone_try : Bool) → false ≡ is_qualified (cond cone_try Cone Restricted)
@@ -174,11 +174,11 @@ at_start : (s : Settings) (start : ℕ) → IsHeld (fresh (first_phase s) start)
 unfolding first_phase
 at_start s start = record { addressed = first_unqualified s.cone_try; queued = tt }
 
-held : Turns → TurnsAtStart → (s : Settings) (start : ℕ) (j : List Entry) → AreEntries s start j → IsHeld (qualification s (journal start j)) (epoch j)
+held : Turns → TurnsAtStart → (s : Settings) (start : ℕ) (j : List Entry) → AreEntries s start j → IsHeld (qualification s (journal_since start j)) (epoch j)
 held turns first s start [] a = subst (λ q. IsHeld q []) (sym (first s start)) (at_start s start)
 held turns first s start (e ∷ j) a =
-    subst (λ q. IsHeld q (epoch (e ∷ j))) (sym (turns s (journal start j) e))
-    (next s (qualification s (journal start j)) e (epoch j) (effect s (journal start j) e a.0) (held turns first s start j a.1))
+    subst (λ q. IsHeld q (epoch (e ∷ j))) (sym (turns s (journal_since start j) e))
+    (next s (qualification s (journal_since start j)) e (epoch j) (effect s (journal_since start j) e a.0) (held turns first s start j a.1))
 
 pub qualified_has_address : Turns → TurnsAtStart → QualifiedHasAddress
 qualified_has_address turns first s j a = (held turns first s j.start j.entries a).addressed
@@ -223,7 +223,7 @@ HasGiven e = e.step.fate ≡ fate.Queued → IfSome e.packet (λ x. WasQueued e.
 
 all_given : (s : Settings) (start : ℕ) (es : List Entry) → AreEntries s start es → AllByRecursion HasGiven es
 all_given s start [] a = tt
-all_given s start (e ∷ es) a = ((λ k. given_packet e e.packet refl k ((effect s (journal start es) e a.0).queued k).given), all_given s start es a.1)
+all_given s start (e ∷ es) a = ((λ k. given_packet e e.packet refl k ((effect s (journal_since start es) e a.0).queued k).given), all_given s start es a.1)
 
 in_epoch : (P : Entry → Type 0) (es : List Entry) → AllByRecursion P es → AllByRecursion P (epoch es)
 in_epoch P [] a = tt

@@ -27,7 +27,7 @@ use Rattle.qualify.specs.declared.settings.Settings.{Settings}
 use Rattle.qualify.specs.declared.phase.Phase.{Phase}
 use Rattle.qualify.specs.declared.phase.Phase.TheVariants.{Secondary}
 use Rattle.qualify.specs.Qualification.{qualification}
-use Rattle.qualify.specs.Solicitations.{asked_at}
+use Rattle.qualify.specs.Solicitations.{server_asked}
 use Rattle.client_rules.specs.Bearings.{source_of, mention, mentions}
 use Rattle.client_rules.specs.Tries.{test}
 use Rattle.client_rules.specs.Sendings.{IsBubbleTo, direct, indirect, answer, IsCarriedTo, to_trusted, to_cone, released}
@@ -93,7 +93,7 @@ record IsMadeNext (s : Settings) (j : Journal) (e : Entry) : Type 0 where
   before : AreMadeInputs j.entries
   peer : IfSome e.peer IsIp6
 
-asked_is : (s : Settings) (phase : Phase) → IsMadeClient s → IsIp4 s.secondary → IsEp (asked_at s phase)
+asked_is : (s : Settings) (phase : Phase) → IsMadeClient s → IsIp4 s.secondary → IsEp (server_asked s phase)
 asked_is s Secondary made second = (second, omega arith)
 asked_is s _ made second = (made.primary, omega arith)
 

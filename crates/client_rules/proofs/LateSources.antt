@@ -19,7 +19,7 @@ use Rattle.client_rules.specs.Bearings.{source_of}
 use Rattle.client_rules.specs.Standing.{Standing, standing_of}
 use Rattle.client_rules.specs.Reception.{Seen, seen, reception_fate}
 use Rattle.client_rules.specs.Warrants.{ReceivedOnlyIf}
-use Rattle.client_rules.specs.Journals.{journal, client_in, client_entry, Follows, AreEntries, IsJournal}
+use Rattle.client_rules.specs.Journals.{journal_since, client_in, client_entry, ClientFollows, AreEntries, IsJournal}
 use Rattle.client_rules.specs.Handed.{HoldingRule, held_test, held, WasHeld, WasHeldIn, HandsLate, nothing, rule2, EachLate}
 use Rattle.client_rules.specs.LateSources.{EachLateIsForeign}
 use Rattle.client_rules.proofs.Fates.{fate_of_reception}
@@ -34,14 +34,14 @@ IsForeign x = is_teredo (fields_in x).src ≡ false
 -- it follows from the journal before it
 record Stands (s : Settings) (q : Entry) : Type 0 where
   before : Journal
-  follows : Follows s before q
+  follows : ClientFollows s before q
 
 stands : (s : Settings) (start : ℕ) (es : List Entry) (q : Entry) → AreEntries s start es → Contains (epoch es) q → Stands s q
 stands s start [] q is c = absurd (let within = c.1 in omega (arith, within))
 stands s start (e ∷ es) q is c = by (is_changed e.step.fate) c (stands s start es q is.1) where
   by : (b : Bool) → Contains (cond b [] (e ∷ epoch es)) q → (Contains (epoch es) q → Stands s q) → Stands s q
   by true k ih = absurd (let within = k.1 in omega (arith, within))
-  by false (zero, within, at) ih = record { before = journal start es; follows = subst (Follows s (journal start es)) at is.0 }
+  by false (zero, within, at) ih = record { before = journal_since start es; follows = subst (ClientFollows s (journal_since start es)) at is.0 }
   by false (suc i, within, at) ih = ih (i, omega (arith, within), at)
 
 -- WHAT IS HELD

@@ -21,7 +21,7 @@ use Rattle.peer_list.specs.Waiting.{Listing}
 use Rattle.peer_list.specs.Laws.{FirstWaits, OneEntry}
 use Rattle.qualify.specs.declared.settings.Settings.{Settings}
 use Rattle.qualify.specs.Turns.{Turn, qualifies, is_changed as changes, turn_of, leaves, begins, origin_given, flags_word}
-use Rattle.qualify.specs.Qualification.{Qualification, qualification, address_of, address_after}
+use Rattle.qualify.specs.Qualification.{Qualification, qualification, address_told, address_after}
 use Rattle.qualify.specs.Laws.{fresh, goes_on, tidings, Turns, TurnsAtStart}
 use Rattle.client_rules.specs.Bearings.{bearing_of, mention, mentions}
 use Rattle.client_rules.specs.Ticks.{asks, tries, nothing, due_at, peer_due, peer_of_due}
@@ -43,7 +43,7 @@ pub record InputLaws : Type 0 where
 
 -- THE ADDRESS
 
-made_address : InputLaws → (s : Settings) (cone : Bool) (w : Option ℕ) (o : Option Ep) → IsMadeClient s → IfSome o IsEp → IfSome (address_of s cone w o) IsIp6
+made_address : InputLaws → (s : Settings) (cone : Bool) (w : Option ℕ) (o : Option Ep) → IsMadeClient s → IfSome o IsEp → IfSome (address_told s cone w o) IsIp6
 made_address laws s cone w None made h = tt
 made_address laws s cone w (Some ep) made h = (laws.teredo s.primary (flags_of cone w) ep made.primary (laws.flags cone w).sixteen h).sixteen
 

@@ -29,7 +29,7 @@ use Rattle.client_rules.specs.Standing.{Standing, standing_at, standing_of}
 use Rattle.client_rules.specs.Reception.{Seen, seen, datagram_lines, server_lines, packet_lines, indirect_lines, trusted_lines, teredo_lines, is_testable, is_under_test, suspicious_lines, reception_row, reception_fate}
 use Rattle.client_rules.specs.Transmission.{Given, given, host_lines, transmission_row}
 use Rattle.client_rules.specs.Ticks.{Due, asks, tries, nothing, due_at, peer_due}
-use Rattle.client_rules.specs.Journals.{client_in, client_out, client_tick, client_entry, first_peer, ticks, journal, AreEntries}
+use Rattle.client_rules.specs.Journals.{client_in, client_out, client_tick, client_entry, first_peer, ticks, journal_since, AreEntries}
 use Rattle.client_rules.specs.Laws.{JournalHasFew}
 use Rattle.client_rules.proofs.Fates.{fate_of_reception, fate_of_transmission}
 use Rattle.client_rules.proofs.Tried.{journal_is_tried}
@@ -178,7 +178,7 @@ have_room : FirstWaits → (s : Settings) (start : ℕ) (j : List Entry) → Are
 unfolding mentions
 have_room first s start [] a = tt
 have_room first s start (e ∷ j) a =
-    let one : FindsRoom (mention e) (mentions j) = subst (λ (x : Entry). FindsRoom (mention x) (mentions j)) (sym a.0.is) (of_entry first s (journal start j) e.moment e.input a.0.words) in
+    let one : FindsRoom (mention e) (mentions j) = subst (λ (x : Entry). FindsRoom (mention x) (mentions j)) (sym a.0.is) (of_entry first s (journal_since start j) e.moment e.input a.0.words) in
     by (is_changed e.step.fate) one (have_room first s start j a.1)
   where
     by : (b : Bool) → FindsRoom (mention e) (mentions j) → HaveRoom (mentions j) → HaveRoom (map mention (cond b [] (e ∷ epoch j)))

@@ -20,13 +20,13 @@ use Rattle.teredo_node.specs.MadeInputs.{IsMadeInput}
 use Rattle.qualify.specs.declared.settings.Settings.{Settings}
 use Rattle.qualify.specs.Advertisements.{Heard, is_one_of, heard}
 use Rattle.qualify.specs.Turns.{Turn, qualifies, is_changed as changes, turn, turn_of, leaves, begins, origin_given, flags_word}
-use Rattle.qualify.specs.Qualification.{Qualification, qualification, address_of, address_after}
+use Rattle.qualify.specs.Qualification.{Qualification, qualification, address_told, address_after}
 use Rattle.qualify.specs.Solicitations.{expected}
 use Rattle.qualify.specs.Laws.{fresh, goes_on, tidings, Turns}
 use Rattle.client_rules.specs.Standing.{Standing, standing_of, standing_at}
 use Rattle.client_rules.specs.Reception.{Seen, seen, reception_fate, reception_step, reception}
 use Rattle.client_rules.specs.Warrants.{IsAdvert, ReceivedOnlyIf}
-use Rattle.client_rules.specs.Journals.{client_in, client_entry, Follows}
+use Rattle.client_rules.specs.Journals.{client_in, client_entry, ClientFollows}
 use Rattle.client_rules.specs.MadeSends.{IsMadeClient}
 use Rattle.client_rules.specs.Told.{sets_address, IsToldAddress, EachAddressIsTold}
 use Rattle.client_rules.proofs.Entered.{sets, IsEffect, of_entry}
@@ -45,7 +45,7 @@ pub record ToldLaws : Type 0 where
 abbrev Embeds : Option Ep → Option Ip6 → Type 0
 Embeds o a = IfSome a (λ p. o ≡ Some (embedded p))
 
-made_of : ToldLaws → (s : Settings) (cone : Bool) (w : Option ℕ) (o : Option Ep) → IsMadeClient s → IfSome o IsEp → Embeds o (address_of s cone w o)
+made_of : ToldLaws → (s : Settings) (cone : Bool) (w : Option ℕ) (o : Option Ep) → IsMadeClient s → IfSome o IsEp → Embeds o (address_told s cone w o)
 made_of laws s cone w None made h = tt
 made_of laws s cone w (Some ep) made h = ap (λ (e : Ep). Some e) (sym (laws.teredo s.primary (flags_of cone w) ep made.primary (laws.flags cone w).sixteen h).mapped_is)
 
@@ -126,7 +126,7 @@ told_of s j n ticked w own set some embeds_it same = absurd (false≢true some)
 
 pub each_address_is_told : ToldLaws → EachAddressIsTold
 each_address_is_told laws s j e own is made h set address =
-    let f : Follows s j e = is.0 in
+    let f : ClientFollows s j e = is.0 in
     let whole : e ≡ client_entry s j e.moment e.input f.words = f.is in
     let set_it : sets_address (turn_of (client_entry s j e.moment e.input f.words)) ≡ true = subst (λ (z : Entry). sets_address (turn_of z) ≡ true) whole set in
     let effect : IsEffect (qualification s j) (client_entry s j e.moment e.input f.words) = of_entry s j e.moment e.input f.words in

@@ -18,7 +18,7 @@ use Rattle.qualify.specs.Advertisements.{heard}
 use Rattle.client_rules.specs.Bearings.{mention, mentions}
 use Rattle.client_rules.specs.Standing.{Standing, standing_of}
 use Rattle.client_rules.specs.Reception.{seen, reception}
-use Rattle.client_rules.specs.Journals.{entry, client_in, client_out, client_tick, client_entry, journal, AreEntries}
+use Rattle.client_rules.specs.Journals.{entry, client_in, client_out, client_tick, client_entry, journal_since, AreEntries}
 use Rattle.client_rules.specs.Warrants.{IsTested, IsEmbedded, ReceivedOnlyIf}
 use Rattle.client_rules.specs.Epochs.{TrustedIsEmbedded}
 use Rattle.client_rules.proofs.Fates.{fate_of_reception}
@@ -68,7 +68,7 @@ unfolding mentions
 all_there s start [] p a teredo = tt
 all_there s start (e ∷ j) p a teredo =
     let rest : AllByRecursion (λ (m : Mention). is_about p m ≡ true → IfSome m.bearing.trusts (IsThere p)) (map mention (epoch j)) = all_there s start j p a.1 teredo in
-    let own : TrustsThere p e = subst (λ x. TrustsThere p x) (sym a.0.is) (of_entry s (journal start j) e.moment e.input a.0.words p teredo) in
+    let own : TrustsThere p e = subst (λ x. TrustsThere p x) (sym a.0.is) (of_entry s (journal_since start j) e.moment e.input a.0.words p teredo) in
     elim (is_changed e.step.fate) as (λ b. AllByRecursion (λ (m : Mention). is_about p m ≡ true → IfSome m.bearing.trusts (IsThere p)) (map mention (cond b [] (e ∷ epoch j)))) [ true ↦ tt | false ↦ (own, rest) ]
 
 pub trusted_is_embedded : OneEntry → TrustedIsEmbedded

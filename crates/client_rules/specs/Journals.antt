@@ -63,18 +63,18 @@ abbrev pub last_moment : ℕ → List Entry → ℕ
 last_moment start [] = start
 last_moment start (e ∷ j) = e.moment
 
-abbrev pub journal : ℕ → List Entry → Journal
-journal start j = record { start = start; entries = j }
+abbrev pub journal_since : ℕ → List Entry → Journal
+journal_since start j = record { start = start; entries = j }
 
 -- the entry that follows, for some words, no earlier than the journal's last moment
-pub record Follows (s : Settings) (j : Journal) (e : Entry) : Type 0 where
+pub record ClientFollows (s : Settings) (j : Journal) (e : Entry) : Type 0 where
   pub later : last_moment j.start j.entries ≤ e.moment
   pub words : Words
   pub is : e ≡ client_entry s j e.moment e.input words
 
 abbrev pub AreEntries : Settings → ℕ → List Entry → Type 0
 AreEntries s start [] = Unit {0}
-AreEntries s start (e ∷ j) = Follows s (journal start j) e × AreEntries s start j
+AreEntries s start (e ∷ j) = ClientFollows s (journal_since start j) e × AreEntries s start j
 
 -- a journal of a client that is set up so
 abbrev pub IsJournal : Settings → Journal → Type 0

@@ -18,7 +18,7 @@ use Rattle.qualify.specs.declared.settings.Settings.{Settings}
 use Rattle.qualify.specs.declared.phase.Phase.{Phase}
 use Rattle.qualify.specs.declared.phase.Phase.TheVariants.{Cone, Qualified}
 use Rattle.qualify.specs.Qualification.{Qualification, qualification}
-use Rattle.qualify.specs.Solicitations.{is_cone, asked_at, solicitation}
+use Rattle.qualify.specs.Solicitations.{is_cone, server_asked, solicitation}
 use Rattle.client_rules.specs.Tries.{test}
 use Rattle.client_rules.specs.Journals.{IsJournal}
 use Rattle.client_rules.specs.Bearings.{mentions}
@@ -50,7 +50,7 @@ pub data IsCarriedTo (j : Journal) (e : Entry) (to : Ep) (bytes : List ℕ) : Ty
 -- nothing in front. Bubbles and packets go where these say
 pub data IsSending (s : Settings) (q : Qualification) (phase : Phase) (peer : Option Ip6)
     (bubbled : Ip6 → Ep → Type 0) (carried : Ep → List ℕ → Type 0) (x : Send) : Type 0 where
-  solicits : (nonce : ℕ) → x ≡ send (asked_at s phase) (solicitation s (asks_as_cone q phase) nonce) → IsSending s q phase peer bubbled carried x
+  solicits : (nonce : ℕ) → x ≡ send (server_asked s phase) (solicitation s (asks_as_cone q phase) nonce) → IsSending s q phase peer bubbled carried x
   bubbles : (own p : Ip6) (to : Ep) → q.address ≡ Some own → peer ≡ Some p → bubbled p to
       → x ≡ send to (bubble_bytes own p) → IsSending s q phase peer bubbled carried x
   tests : (own p : Ip6) (nonce : ℕ) → q.address ≡ Some own → peer ≡ Some p → x ≡ test s own p nonce → IsSending s q phase peer bubbled carried x

@@ -11,7 +11,7 @@ use Rattle.teredo_node.specs.Step.{Send}
 use Rattle.teredo_node.specs.Journal.{arrived, given, from_six, ticked, Input, Entry, Journal, with_entry}
 use Rattle.peer_list.specs.Mentions.{Mention, is_peer}
 use Rattle.peer_list.specs.Peers.{known}
-use Rattle.relay_rules.specs.Bearings.{mention, mentions}
+use Rattle.relay_rules.specs.Bearings.{relay_mention, relay_mentions}
 use Rattle.relay_rules.specs.Standing.{RelaySettings}
 use Rattle.topology.specs.declared.relay_node.RelayNode.{RelayNode}
 use Rattle.topology.specs.Rows.{TopologyState}
@@ -62,7 +62,7 @@ abbrev pub packet_of : AtRelay → List ℕ → ℕ
 packet_of d = waiting_weight d.lab.topology d.n
 
 abbrev pub waited : AtRelay → ℕ
-waited d = waits_in (packet_of d) (mentions (journal_of d)) (moment_of d)
+waited d = waits_in (packet_of d) (relay_mentions (journal_of d)) (moment_of d)
 
 -- what an entry makes
 abbrev pub made_by : AtRelay → Entry → List Made
@@ -75,18 +75,18 @@ IsNext d e = journal d.n (d.r ∷ d.H) ≡ with_entry (journal d.n d.H) e
 -- what it makes and leaves weighs less than this, and what waited before
 abbrev pub IsLight : AtRelay → Entry → Type 0
 IsLight d e = IsNext d e → AllByRecursion IsMadeItem (items_in (made_by d e))
-    → sum_by (weigh d) (items_in (made_by d e)) + waits_in (packet_of d) (mention e ∷ mentions (journal_of d)) (moment_of d) < d.heavy + waited d
+    → sum_by (weigh d) (items_in (made_by d e)) + waits_in (packet_of d) (relay_mention e ∷ relay_mentions (journal_of d)) (moment_of d) < d.heavy + waited d
 
 -- nothing is sent, and nothing waits more or less
 abbrev pub IsCalm : Entry → Type 0
-IsCalm e = (e.step.sends ≡ []) × (e.step.six ≡ None) × ((mention e).bearing.touches ≡ false) × ((mention e).bearing.hears ≡ false) ×
-    ((mention e).bearing.queues ≡ None)
+IsCalm e = (e.step.sends ≡ []) × (e.step.six ≡ None) × ((relay_mention e).bearing.touches ≡ false) × ((relay_mention e).bearing.hears ≡ false) ×
+    ((relay_mention e).bearing.queues ≡ None)
 
 pub calm : PeerLaws → (d : AtRelay) (e : Entry) → 1 ≤ d.heavy → IsCalm e → IsLight d e
 calm laws d e least is next made =
     let none = ap (λ (ss : List Send). sum_by (weigh d) (items_in (outright (own_of d) (armed d.H) 0 ss ++ six_made e.input e.step.six))) is.0 in
     let packet = no_packet e.input e.step.six is.1 in
-    let less = stays (packet_of d) laws (mention e) (mentions (journal_of d)) (moment_of d) is.2 is.3 is.4 in
+    let less = stays (packet_of d) laws (relay_mention e) (relay_mentions (journal_of d)) (moment_of d) is.2 is.3 is.4 in
     omega (arith, least, none, packet, less)
   where
     no_packet : (i : Input) (o : Option Span) → o ≡ None → sum_by (weigh d) (items_in (six_made i o)) ≡ 0
@@ -97,36 +97,36 @@ calm laws d e least is next made =
     no_packet ticked o h = refl
 
 -- what waits after an entry that touches a peer
-pub shifted : PeerLaws → (d : AtRelay) (e : Entry) (p : Ip6) → e.moment ≡ moment_of d → e.peer ≡ Some p → (mention e).bearing.touches ≡ true
-    → waits_in (packet_of d) (mention e ∷ mentions (journal_of d)) (moment_of d)
-    + freed (packet_of d) (mention e).bearing.hears (waits_for (packet_of d) (mentions (journal_of d)) (moment_of d) p)
-    ≤ waited d + added (packet_of d) (mention e).bearing.queues
+pub shifted : PeerLaws → (d : AtRelay) (e : Entry) (p : Ip6) → e.moment ≡ moment_of d → e.peer ≡ Some p → (relay_mention e).bearing.touches ≡ true
+    → waits_in (packet_of d) (relay_mention e ∷ relay_mentions (journal_of d)) (moment_of d)
+    + freed (packet_of d) (relay_mention e).bearing.hears (waits_for (packet_of d) (relay_mentions (journal_of d)) (moment_of d) p)
+    ≤ waited d + added (packet_of d) (relay_mention e).bearing.queues
 shifted laws d e p moment peer touches =
-    subst (λ (k : ℕ). waits_in (packet_of d) (mention e ∷ mentions (journal_of d)) k + freed (packet_of d) (mention e).bearing.hears
-    (waits_for (packet_of d) (mentions (journal_of d)) k p)
-    ≤ waits_in (packet_of d) (mentions (journal_of d)) k + added (packet_of d) (mention e).bearing.queues) moment
-    (shifts (packet_of d) laws (mention e) (mentions (journal_of d)) p peer touches)
+    subst (λ (k : ℕ). waits_in (packet_of d) (relay_mention e ∷ relay_mentions (journal_of d)) k + freed (packet_of d) (relay_mention e).bearing.hears
+    (waits_for (packet_of d) (relay_mentions (journal_of d)) k p)
+    ≤ waits_in (packet_of d) (relay_mentions (journal_of d)) k + added (packet_of d) (relay_mention e).bearing.queues) moment
+    (shifts (packet_of d) laws (relay_mention e) (relay_mentions (journal_of d)) p peer touches)
 
 -- WHOM IT TRUSTS
 
 -- after the record, as the journal's mentions have it
 pub trusts_after : (d : AtRelay) (e : Entry) (client : Ip6) → node_at d.lab.topology d.n ≡ Some (relay d.q) → IsNext d e
-    → is_some (known (mention e ∷ mentions (journal_of d)) (moment_of d) client).trusted ≡ true → relay_trusts d.lab.topology (d.r ∷ d.H) d.n client ≡ true
+    → is_some (known (relay_mention e ∷ relay_mentions (journal_of d)) (moment_of d) client).trusted ≡ true → relay_trusts d.lab.topology (d.r ∷ d.H) d.n client ≡ true
 unfolding relay_trusts
 trusts_after d e client there next h =
     ap (trusts_as (d.r ∷ d.H) d.n client) there
-    ∙ ap (λ (z : Journal). is_some (known (mentions z.entries) (moment_of d) client).trusted) next
+    ∙ ap (λ (z : Journal). is_some (known (relay_mentions z.entries) (moment_of d) client).trusted) next
     ∙ ap (λ (ms : List Mention). is_some (known ms (moment_of d) client).trusted) (one_more e (journal_of d)) ∙ h
 
 -- an entry about it gave trust, or it was trusted before
 pub begun : PeerLaws → (d : AtRelay) (e : Entry) (client : Ip6) (at : Ep) → node_at d.lab.topology d.n ≡ Some (relay d.q) → IsNext d e
-    → (e.moment ≡ moment_of d) × (is_peer client e.peer ≡ true) × ((mention e).bearing.touches ≡ true) × ((mention e).bearing.trusts ≡ Some at)
+    → (e.moment ≡ moment_of d) × (is_peer client e.peer ≡ true) × ((relay_mention e).bearing.touches ≡ true) × ((relay_mention e).bearing.trusts ≡ Some at)
     → relay_trusts d.lab.topology (d.r ∷ d.H) d.n client ≡ true
 begun laws d e client at there next is =
     trusts_after d e client there next
-    (trusted.begins laws (mention e) (mentions (journal_of d)) client (moment_of d) at is.0 is.1 is.2 is.3)
+    (trusted.begins laws (relay_mention e) (relay_mentions (journal_of d)) client (moment_of d) at is.0 is.1 is.2 is.3)
 
 pub lasting : PeerLaws → (d : AtRelay) (e : Entry) (client : Ip6) → node_at d.lab.topology d.n ≡ Some (relay d.q) → IsNext d e → e.moment ≡ moment_of d
-    → is_some (known (mentions (journal_of d)) (moment_of d) client).trusted ≡ true → relay_trusts d.lab.topology (d.r ∷ d.H) d.n client ≡ true
+    → is_some (known (relay_mentions (journal_of d)) (moment_of d) client).trusted ≡ true → relay_trusts d.lab.topology (d.r ∷ d.H) d.n client ≡ true
 lasting laws d e client there next moment h =
-    trusts_after d e client there next (trusted.lasts laws (mention e) (mentions (journal_of d)) client (moment_of d) moment h)
+    trusts_after d e client there next (trusted.lasts laws (relay_mention e) (relay_mentions (journal_of d)) client (moment_of d) moment h)

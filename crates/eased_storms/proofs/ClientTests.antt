@@ -16,7 +16,7 @@ use Rattle.client_rules.proofs.PayloadPackets.{same_fields}
 use Rattle.server_core.specs.declared.rules.Rule.{Rule}
 use Rattle.server_core.specs.declared.rules.Rule.TheVariants.{Dropped, Advert, ForwardOrigin, Forward, Six}
 use Rattle.server_core.specs.Conditions.{is_solicit}
-use Rattle.server_core.specs.Rules.{seen, rule_of}
+use Rattle.server_core.specs.Rules.{server_seen, rule_of}
 use Rattle.server_core.specs.RuleWarrants.{RuledOnlyIf}
 use Rattle.server_core.specs.Server.{step_of, by_payload, server_row}
 use Rattle.topology.specs.declared.server_node.ServerNode.{ServerNode}
@@ -53,7 +53,7 @@ module _ (laws : RowLaws) (t : TopologyState) (G : List Full) (a : ServerNode) (
       ∙ ap (λ (w : Value). w.packet) reads.value
 
   module _ (native : is_teredo p.dst ≡ false) (plain : is_solicit (message_in p) ≡ false) (knows : is_trusted_for t G p.dst p.src ≡ true) where
-    by_rule : (r : Rule) → RuledOnlyIf r (seen (server_settings a) from v) → Four (step_of (server_settings a) side from x v r)
+    by_rule : (r : Rule) → RuledOnlyIf r (server_seen (server_settings a) from v) → Four (step_of (server_settings a) side from x v r)
     by_rule (Dropped f) w = omega arith
     by_rule Advert w = absurd (false≢true (sym (by_message p plain) ∙ w.solicitation))
     by_rule ForwardOrigin w = absurd (false≢true (sym native ∙ for_teredo a p w.for_client))

@@ -10,11 +10,11 @@ use Rattle.ipv6_packet.specs.Reads.{fields_in}
 use Rattle.bubble.specs.Messages.{message_in, is_echo_reply}
 use Rattle.server_core.specs.Laws.{OneOutput}
 use Rattle.client_rules.specs.Bearings as client_bearings
-use Rattle.relay_rules.specs.Bearings as relay_bearings
+use Rattle.relay_rules.specs.Bearings.{relay_mentions}
 use Rattle.topology.specs.Rows.{TopologyState}
 use Rattle.topology.specs.declared.node.Node.{Node}
 use Rattle.topology.specs.declared.node.Node.TheVariants.{Server as server, Nat as nat, Client as client, Relay as relay, Native as native}
-use Rattle.topology.specs.Topology.{nodes, node_at, number_of, is_at}
+use Rattle.topology.specs.Topology.{nodes, node_at, first_passing, is_at}
 use Rattle.history.specs.Full.{Item, udp, six, Full}
 use Rattle.legal.specs.Lab.{Lab}
 use Rattle.legal.specs.Past.{now, journal}
@@ -51,7 +51,7 @@ datagram_nine law t src dst x (Some (native a)) = let most = datagram_most t src
 -- each that is on the wire
 entry_nine : OneOutput → (t : TopologyState) (H : List Full) (x : Item) → IsOfHost t x → eased_weight t H x ≤ 9
 entry_nine law t H (udp src dst x) of =
-    let nine = datagram_nine law t src dst x (option_and_then (node_at t) (number_of (is_at dst) t)) in
+    let nine = datagram_nine law t src dst x (option_and_then (node_at t) (first_passing (is_at dst) t)) in
     let most = eased_most t H (udp src dst x) in
     omega (arith, nine, most)
 entry_nine law t H (six None x) of = by (packet_lines (fields_in x)) where
@@ -94,7 +94,7 @@ at_eight t H n (client c) =
     let many = length-map xs client_packet in
     omega (arith, most, many)
 at_eight t H n (relay r) =
-    let xs = waiting_packets (relay_bearings.mentions (journal n H).entries) (now H) in
+    let xs = waiting_packets (relay_mentions (journal n H).entries) (now H) in
     let most = packets_eight (waiting_weight t n) xs (waiting_eight t n) in
     let many = length-map xs relay_packet in
     omega (arith, most, many)

@@ -7,7 +7,7 @@ use Rattle.td_base.specs.declared.endpoint.Ep.{Ep}
 use Rattle.teredo_node.specs.Journal.{Entry, Journal, with_entry}
 use Rattle.peer_list.specs.Mentions.{Mention}
 use Rattle.peer_list.specs.Peers.{known}
-use Rattle.relay_rules.specs.Bearings.{mention, mentions}
+use Rattle.relay_rules.specs.Bearings.{relay_mention, relay_mentions}
 use Rattle.relay_rules.specs.Standing.{RelaySettings}
 use Rattle.relay_rules.specs.Journals.{relay_in, relay_six}
 use Rattle.topology.specs.declared.relay_node.RelayNode.{RelayNode}
@@ -55,8 +55,8 @@ other_node o n k is apart e = apart (ap (λ (z : Option ℕ). unwrap_or z n) (sy
 same_trust : (H : List Full) (r : Full) (n : ℕ) (c : Ip6) → r.moment ≡ now H → journal n (r ∷ H) ≡ journal n H → (o : Option Node)
     → trusts_as H n c o ≡ true → trusts_as (r ∷ H) n c o ≡ true
 same_trust H r n c moment same (Some (relay q)) h =
-    ap (λ (z : Journal). is_some (known (mentions z.entries) r.moment c).trusted) same
-    ∙ ap (λ (k : ℕ). is_some (known (mentions (journal n H).entries) k c).trusted) moment ∙ h
+    ap (λ (z : Journal). is_some (known (relay_mentions z.entries) r.moment c).trusted) same
+    ∙ ap (λ (k : ℕ). is_some (known (relay_mentions (journal n H).entries) k c).trusted) moment ∙ h
 same_trust H r n c moment same None h = h
 same_trust H r n c moment same (Some (server a)) h = h
 same_trust H r n c moment same (Some (nat a)) h = h
@@ -80,11 +80,11 @@ module _ (laws : PeerLaws) (frame : EachFrames) (lab : Lab) (H : List Full) (r :
       let is : a ≡ relay q = ap (λ (z : Option Node). unwrap_or z a) (sym h.there ∙ e) in
       let did : Entry = answer_of lab H r n (relay q) x in
       let next : journal n (r ∷ H) ≡ with_entry (journal n H) did = h.later ∙ ap (λ (b : Node). with_entry (journal n H) (answer_of lab H r n b x)) is in
-      let before : is_some (known (mentions (journal n H).entries) r.moment c).trusted ≡ true =
-      ap (λ (k : ℕ). is_some (known (mentions (journal n H).entries) k c).trusted) h.moment ∙ g in
-      ap (λ (z : Journal). is_some (known (mentions z.entries) r.moment c).trusted) next
+      let before : is_some (known (relay_mentions (journal n H).entries) r.moment c).trusted ≡ true =
+      ap (λ (k : ℕ). is_some (known (relay_mentions (journal n H).entries) k c).trusted) h.moment ∙ g in
+      ap (λ (z : Journal). is_some (known (relay_mentions z.entries) r.moment c).trusted) next
       ∙ ap (λ (ms : List Mention). is_some (known ms r.moment c).trusted) (one_more did (journal n H).entries)
-      ∙ trusted.lasts laws (mention did) (mentions (journal n H).entries) c r.moment (answers_then lab H r n q x) before
+      ∙ trusted.lasts laws (relay_mention did) (relay_mentions (journal n H).entries) c r.moment (answers_then lab H r n q x) before
 
   pub lasts_reached : Lasts lab.topology H (r ∷ H)
   unfolding relay_trusts

@@ -25,11 +25,11 @@ use Rattle.teredo_node.proofs.FirstLines.{first_of_each, Each}
 use Rattle.client_rules.proofs.PayloadPackets.{same_fields}
 use Rattle.peer_list.specs.Mentions.{is_peer}
 use Rattle.peer_list.specs.Peers.{known}
-use Rattle.relay_rules.specs.Bearings.{mention, mentions}
-use Rattle.relay_rules.specs.Standing.{Standing, known_in, standing_at, standing_of}
-use Rattle.relay_rules.specs.Reception as reception
-use Rattle.relay_rules.specs.Journals.{IsJournal, entry, relay_in}
-use Rattle.relay_rules.specs.Warrants.{ReceivedOnlyIf, IsOfPeer, IsServed}
+use Rattle.relay_rules.specs.Bearings.{relay_mention, relay_mentions}
+use Rattle.relay_rules.specs.Standing.{RelayStanding, relay_known_in, relay_standing_at, relay_standing_of}
+use Rattle.relay_rules.specs.Reception.{RelaySeen, relay_seen, relay_reception_step, reception_lines, relay_reception_row, relay_reception}
+use Rattle.relay_rules.specs.Journals.{IsRelayJournal, wordless_entry, relay_in}
+use Rattle.relay_rules.specs.Warrants.{RelayReceivedOnlyIf, IsOfPeer, IsServed}
 use Rattle.relay_rules.specs.Laws.{IsForeignTo}
 use Rattle.topology.specs.declared.node.Node.TheVariants.{Relay as relay}
 use Rattle.topology.specs.Rows.{TopologyState}
@@ -54,7 +54,7 @@ use Rattle.eased_storms.proofs.Requests.{three, known_served}
 pub record IsSent (d : AtRelay) (x : List ℕ) : Type 0 where
   pub is : IsTopology d.lab.topology
   pub there : node_at d.lab.topology d.n ≡ Some (relay d.q)
-  pub journal : IsJournal (setup d) (journal_of d)
+  pub journal : IsRelayJournal (setup d) (journal_of d)
   pub least : 1 ≤ d.heavy
   pub more : is_teredo (value_in x).packet.src ≡ true → is_payload x ≡ true → is_bubble (value_in x).packet ≡ false → 4 ≤ d.heavy
 
@@ -63,43 +63,43 @@ module _ (laws : RelayLaws) (d : AtRelay) (src : Ep) (x : List ℕ) (g : IsSent 
   abbrev p : Ip6
   p = (value_in x).packet.src
 
-  abbrev a : Standing
-  a = standing_of (journal_of d) (moment_of d) (source_in x)
+  abbrev a : RelayStanding
+  a = relay_standing_of (journal_of d) (moment_of d) (source_in x)
 
-  abbrev heard : reception.Seen
-  heard = reception.seen (setup d) a src x
+  abbrev heard : RelaySeen
+  heard = relay_seen (setup d) a src x
 
   abbrev came : Fate → Entry
-  came f = entry (moment_of d) (arrived src x) (packet_in x) (source_in x) (reception.reception_step a x (value_in x) f)
+  came f = wordless_entry (moment_of d) (arrived src x) (packet_in x) (source_in x) (relay_reception_step a x (value_in x) f)
 
   source_is : is_payload x ≡ true → source_in x ≡ Some p
   unfolding source_in
   source_is h = ap (λ (b : Bool). cond b (Some p) None) h
 
   peer_payload : IsOfPeer heard → is_payload x ≡ true
-  unfolding reception.seen
+  unfolding relay_seen
   peer_payload h = h.payload
 
   peer_teredo : IsOfPeer heard → is_teredo p ≡ true
-  unfolding reception.seen
+  unfolding relay_seen
   peer_teredo h = h.teredo
 
   plain_is : IsServed heard → is_bubble (value_in x).packet ≡ false
-  unfolding reception.seen
+  unfolding relay_seen
   plain_is h = h.no_bubble
 
   served_is : IsServed heard → list_any (same_ip6 (value_in x).packet.dst) (served d.lab.topology d.n) ≡ true
-  unfolding reception.seen
+  unfolding relay_seen
   served_is h = h.served
 
-  known_is : source_in x ≡ Some p → (known_in a).waiting ≡ (known (mentions (journal_of d)) (moment_of d) p).waiting
-  unfolding standing_at
-  known_is e = ap (λ (o : Option Ip6). (known (mentions (journal_of d)) (moment_of d) (unwrap_or o unspecified)).waiting) e
+  known_is : source_in x ≡ Some p → (relay_known_in a).waiting ≡ (known (relay_mentions (journal_of d)) (moment_of d) p).waiting
+  unfolding relay_standing_at
+  known_is e = ap (λ (o : Option Ip6). (known (relay_mentions (journal_of d)) (moment_of d) (unwrap_or o unspecified)).waiting) e
 
   -- IT IS TRUSTED FROM NOW ON
 
-  trusted : (e : Entry) → IsOfPeer heard → IsNext d e → e.moment ≡ moment_of d → e.peer ≡ source_in x → (mention e).bearing.touches ≡ true
-      → (mention e).bearing.trusts ≡ option_map embedded e.peer → relay_trusts d.lab.topology (d.r ∷ d.H) d.n p ≡ true
+  trusted : (e : Entry) → IsOfPeer heard → IsNext d e → e.moment ≡ moment_of d → e.peer ≡ source_in x → (relay_mention e).bearing.touches ≡ true
+      → (relay_mention e).bearing.trusts ≡ option_map embedded e.peer → relay_trusts d.lab.topology (d.r ∷ d.H) d.n p ≡ true
   trusted e h next moment peer touches trusts_it =
       let source = peer ∙ source_is (peer_payload h) in
       begun laws.peers d e p (embedded p) g.there next
@@ -108,7 +108,7 @@ module _ (laws : RelayLaws) (d : AtRelay) (src : Ep) (x : List ℕ) (g : IsSent 
   -- WHAT WAITS FOR THE PEER
 
   abbrev waiting : List (List ℕ)
-  waiting = (known_in a).waiting
+  waiting = (relay_known_in a).waiting
 
   abbrev PacketWeighs : Send → Type 0
   PacketWeighs = WeighsFrom (weigh d) (λ (s : Send). packet_of d s.bytes) (own_of d)
@@ -131,12 +131,12 @@ module _ (laws : RelayLaws) (d : AtRelay) (src : Ep) (x : List ℕ) (g : IsSent 
       (laws.waiting (setup d) (journal_of d) (moment_of d) p g.journal))
 
   -- and doesn't wait any more
-  hears : (e : Entry) → IsOfPeer heard → e.moment ≡ moment_of d → e.peer ≡ source_in x → (mention e).bearing.touches ≡ true
-      → (mention e).bearing.hears ≡ true → (mention e).bearing.queues ≡ None
-      → waits_in (packet_of d) (mention e ∷ mentions (journal_of d)) (moment_of d) + sum_by (packet_of d) waiting ≤ waited d
+  hears : (e : Entry) → IsOfPeer heard → e.moment ≡ moment_of d → e.peer ≡ source_in x → (relay_mention e).bearing.touches ≡ true
+      → (relay_mention e).bearing.hears ≡ true → (relay_mention e).bearing.queues ≡ None
+      → waits_in (packet_of d) (relay_mention e ∷ relay_mentions (journal_of d)) (moment_of d) + sum_by (packet_of d) waiting ≤ waited d
   hears e h moment peer touches heard_is queues =
       let less = shifted laws.peers d e p moment (peer ∙ source_is (peer_payload h)) touches in
-      let all = ap (λ (b : Bool). freed (packet_of d) b (waits_for (packet_of d) (mentions (journal_of d)) (moment_of d) p)) heard_is in
+      let all = ap (λ (b : Bool). freed (packet_of d) b (waits_for (packet_of d) (relay_mentions (journal_of d)) (moment_of d) p)) heard_is in
       let none = ap (added (packet_of d)) queues in
       let same = ap (sum_by (packet_of d)) (known_is (source_is (peer_payload h))) in
       omega (arith, less, all, none, same)
@@ -144,7 +144,7 @@ module _ (laws : RelayLaws) (d : AtRelay) (src : Ep) (x : List ℕ) (g : IsSent 
   -- EACH FATE
 
   abbrev Light : Fate → Type 0
-  Light f = ReceivedOnlyIf f heard → IsLight d (came f)
+  Light f = RelayReceivedOnlyIf f heard → IsLight d (came f)
 
   quietly : (f : Fate) → IsCalm (came f) → Light f
   quietly f is only = calm laws.peers d (came f) g.least is
@@ -207,7 +207,7 @@ module _ (laws : RelayLaws) (d : AtRelay) (src : Ep) (x : List ℕ) (g : IsSent 
       let heavy = g.more (peer_teredo only.peer) (peer_payload only.peer) (plain_is only) in
       omega (arith, heavy, new, same, packet, most, less)
 
-  each_line : Each Light (reception.reception_lines heard)
+  each_line : Each Light (reception_lines heard)
   each_line = (
     quietly fate.Malformed (refl, refl, refl, refl, refl),
     (
@@ -225,9 +225,9 @@ module _ (laws : RelayLaws) (d : AtRelay) (src : Ep) (x : List ℕ) (g : IsSent 
     ),
   )
 
-  each_fate : Light (reception.reception_row heard)
-  each_fate = first_of_each Light (reception.reception_lines heard) fate.Unserved each_line unserved
+  each_fate : Light (relay_reception_row heard)
+  each_fate = first_of_each Light (reception_lines heard) fate.Unserved each_line unserved
 
   pub datagram_lightens : IsLight d (relay_in (setup d) (journal_of d) (moment_of d) src x)
-  unfolding relay_in reception.reception
+  unfolding relay_in relay_reception
   datagram_lightens = each_fate (laws.received (setup d) a src x)

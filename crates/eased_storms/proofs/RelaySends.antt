@@ -23,11 +23,11 @@ use Rattle.teredo_node.proofs.FirstLines.{first_of_each, Each, skip}
 use Rattle.peer_list.specs.Mentions.{is_peer}
 use Rattle.peer_list.specs.Peers.{known}
 use Rattle.peer_list.specs.Judged.{is_barred}
-use Rattle.relay_rules.specs.Bearings.{mention, mentions}
-use Rattle.relay_rules.specs.Standing.{Standing, known_in, standing_at, standing_of}
-use Rattle.relay_rules.specs.Transmission as transmission
-use Rattle.relay_rules.specs.Journals.{entry, relay_six}
-use Rattle.relay_rules.specs.Warrants.{SentOnlyIf, GoesOut}
+use Rattle.relay_rules.specs.Bearings.{relay_mention, relay_mentions}
+use Rattle.relay_rules.specs.Standing.{RelayStanding, relay_known_in, relay_standing_at, relay_standing_of}
+use Rattle.relay_rules.specs.Transmission.{RelayGiven, relay_given, relay_transmission_step, bubble_to, relay_queues, relay_packet_lines, relay_destination_lines, relay_transmission_row, relay_transmission}
+use Rattle.relay_rules.specs.Journals.{wordless_entry, relay_six}
+use Rattle.relay_rules.specs.Warrants.{RelaySentOnlyIf, RelayGoesOut}
 use Rattle.topology.specs.declared.node.Node.TheVariants.{Relay as relay}
 use Rattle.topology.specs.Topology.{node_at}
 use Rattle.history.specs.Full.{udp}
@@ -46,7 +46,7 @@ use Rattle.eased_storms.proofs.AtRelay.{begun, lasting}
 
 -- the destination's trust before the packet
 abbrev pub trusted_before : AtRelay → Ip6 → Bool
-trusted_before d p = is_some (known (mentions (journal_of d)) (moment_of d) p).trusted
+trusted_before d p = is_some (known (relay_mentions (journal_of d)) (moment_of d) p).trusted
 
 -- the relay is there, and the packet weighs more than it does while it waits, and more where it must wait for a bubble
 pub record IsGiven (d : AtRelay) (x : List ℕ) : Type 0 where
@@ -65,21 +65,21 @@ module _ (laws : RelayLaws) (d : AtRelay) (x : List ℕ) (g : IsGiven d x) where
   abbrev p : Ip6
   p = (fields_in x).dst
 
-  abbrev stands : Standing
-  stands = standing_of (journal_of d) (moment_of d) (destination_in x)
+  abbrev stands : RelayStanding
+  stands = relay_standing_of (journal_of d) (moment_of d) (destination_in x)
 
-  abbrev asked : transmission.Given
-  asked = transmission.given (setup d) stands x
+  abbrev asked : RelayGiven
+  asked = relay_given (setup d) stands x
 
   abbrev went : Fate → Entry
-  went f = entry (moment_of d) (from_six x) (packet_given x) (destination_in x) (transmission.transmission_step (setup d) stands x p f)
+  went f = wordless_entry (moment_of d) (from_six x) (packet_given x) (destination_in x) (relay_transmission_step (setup d) stands x p f)
 
   both_false : (b c : Bool) → not (b || c) ≡ true → b ≡ false
   both_false false c h = refl
   both_false true c h = absurd (false≢true h)
 
-  goes_on : GoesOut asked → IsForClient (embedded p) x
-  unfolding transmission.given
+  goes_on : RelayGoesOut asked → IsForClient (embedded p) x
+  unfolding relay_given
   goes_on out = record {
     well_formed = out.packet;
     native = both_false (is_teredo (fields_in x).src) (not (is_global6 (fields_in x).src)) out.foreign_source;
@@ -97,24 +97,24 @@ module _ (laws : RelayLaws) (d : AtRelay) (x : List ℕ) (g : IsGiven d x) where
 
   -- whom it asks about
   asked_trust : is_packet x ≡ true → asked.trusted ≡ trusted_before d p
-  unfolding transmission.given standing_at
-  asked_trust h = ap (λ (o : Option Ip6). is_some (known (mentions (journal_of d)) (moment_of d) (unwrap_or o unspecified)).trusted) (destination_is h)
+  unfolding relay_given relay_standing_at
+  asked_trust h = ap (λ (o : Option Ip6). is_some (known (relay_mentions (journal_of d)) (moment_of d) (unwrap_or o unspecified)).trusted) (destination_is h)
 
   -- EACH FATE
 
   abbrev Goes : Fate → Type 0
-  Goes f = SentOnlyIf f asked → IsLight d (went f)
+  Goes f = RelaySentOnlyIf f asked → IsLight d (went f)
 
   idly : (f : Fate) → IsCalm (went f) → Goes f
   idly f is only = calm laws.peers d (went f) least is
 
   -- what waits grows by what is queued
-  touches : (e : Entry) → is_packet x ≡ true → e.moment ≡ moment_of d → e.peer ≡ destination_in x → (mention e).bearing.touches ≡ true
-      → waits_in (packet_of d) (mention e ∷ mentions (journal_of d)) (moment_of d) ≤ waited d + added (packet_of d) (mention e).bearing.queues
+  touches : (e : Entry) → is_packet x ≡ true → e.moment ≡ moment_of d → e.peer ≡ destination_in x → (relay_mention e).bearing.touches ≡ true
+      → waits_in (packet_of d) (relay_mention e ∷ relay_mentions (journal_of d)) (moment_of d) ≤ waited d + added (packet_of d) (relay_mention e).bearing.queues
   touches e packet moment peer touched = let less = shifted laws.peers d e p moment (peer ∙ destination_is packet) touched in omega (arith, less)
 
   -- the packet itself goes out
-  packet_out : GoesOut asked → relay_trusts d.lab.topology (d.r ∷ d.H) d.n p ≡ true
+  packet_out : RelayGoesOut asked → relay_trusts d.lab.topology (d.r ∷ d.H) d.n p ≡ true
       → AllByRecursion (WeighsFrom (weigh d) (λ (s : Send). packet_of d s.bytes) (own_of d)) (send (embedded p) x ∷ [])
   packet_out out trusted = (
     λ made. packet_eased laws.rows laws.payload d.lab.topology (d.r ∷ d.H) d.n (embedded p) x (goes_on out) (own_of d Primary) made trusted,
@@ -148,8 +148,8 @@ module _ (laws : RelayLaws) (d : AtRelay) (x : List ℕ) (g : IsGiven d x) where
       omega (arith, more, new, one, less)
 
   -- or waits, where no server is at the relay's endpoint; the try
-  bubble_is : is_packet x ≡ true → AllByRecursion (WeighsFrom (weigh d) (λ (s : Send). 3) (own_of d)) (transmission.bubble_to (setup d) p ∷ [])
-  unfolding transmission.bubble_to
+  bubble_is : is_packet x ≡ true → AllByRecursion (WeighsFrom (weigh d) (λ (s : Send). 3) (own_of d)) (bubble_to (setup d) p ∷ [])
+  unfolding bubble_to
   bubble_is packet =
       let reads = laws.bubble d.q.six p g.six (laws.spelled x g.bytes packet).0.dst in (
         λ made.
@@ -161,10 +161,10 @@ module _ (laws : RelayLaws) (d : AtRelay) (x : List ℕ) (g : IsGiven d x) where
       )
 
   abbrev queued_by : Bool → Entry
-  queued_by barred = entry (moment_of d) (from_six x) (packet_given x) (destination_in x) (transmission.queues barred (setup d) p)
+  queued_by barred = wordless_entry (moment_of d) (from_six x) (packet_given x) (destination_in x) (relay_queues barred (setup d) p)
 
   queued : Goes fate.Queued
-  queued only = by (is_barred stands.moment (known_in stands)) where
+  queued only = by (is_barred stands.moment (relay_known_in stands)) where
     packet : is_packet x ≡ true
     packet = (goes_on only.out).well_formed
 
@@ -180,13 +180,13 @@ module _ (laws : RelayLaws) (d : AtRelay) (x : List ℕ) (g : IsGiven d x) where
     by false next made =
         let heavy = more in
         let new = own_weigh (record { items = weigh d; sends = (λ (s : Send). 3); own = own_of d }) (armed d.H) 0
-        (transmission.bubble_to (setup d) p ∷ []) [] made (bubble_is packet) in
-        let one = sum_by-cons (λ (s : Send). 3) (transmission.bubble_to (setup d) p) [] in
+        (bubble_to (setup d) p ∷ []) [] made (bubble_is packet) in
+        let one = sum_by-cons (λ (s : Send). 3) (bubble_to (setup d) p) [] in
         let less = touches (queued_by false) packet refl refl refl in
         let kept = ap (added (packet_of d)) (given_is packet) in
         omega (arith, heavy, new, one, less, kept)
 
-  packet_each : Each Goes (transmission.packet_lines asked)
+  packet_each : Each Goes (relay_packet_lines asked)
   packet_each = (
     idly fate.Malformed (refl, refl, refl, refl, refl),
     (
@@ -201,7 +201,7 @@ module _ (laws : RelayLaws) (d : AtRelay) (x : List ℕ) (g : IsGiven d x) where
     ),
   )
 
-  destination_each : Each Goes (transmission.destination_lines asked)
+  destination_each : Each Goes (relay_destination_lines asked)
   destination_each = (
     sent,
     (
@@ -210,10 +210,10 @@ module _ (laws : RelayLaws) (d : AtRelay) (x : List ℕ) (g : IsGiven d x) where
     ),
   )
 
-  each_way : Goes (transmission.transmission_row asked)
-  each_way = skip Goes (transmission.packet_lines asked) (transmission.destination_lines asked) fate.Queued packet_each
-      (first_of_each Goes (transmission.destination_lines asked) fate.Queued destination_each queued)
+  each_way : Goes (relay_transmission_row asked)
+  each_way = skip Goes (relay_packet_lines asked) (relay_destination_lines asked) fate.Queued packet_each
+      (first_of_each Goes (relay_destination_lines asked) fate.Queued destination_each queued)
 
   pub packet_lightens : IsLight d (relay_six (setup d) (journal_of d) (moment_of d) x)
-  unfolding relay_six transmission.transmission
+  unfolding relay_six relay_transmission
   packet_lightens = each_way (laws.transmitted (setup d) stands x)

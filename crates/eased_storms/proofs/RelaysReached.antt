@@ -11,7 +11,7 @@ use Rattle.bubble.specs.Messages.{message_in, is_echo_reply}
 use Rattle.teredo_node.specs.Journal.{Entry, Journal}
 use Rattle.peer_list.specs.Mentions.{Mention}
 use Rattle.peer_list.specs.Peers.{known}
-use Rattle.relay_rules.specs.Bearings.{mention, mentions}
+use Rattle.relay_rules.specs.Bearings.{relay_mention, relay_mentions}
 use Rattle.topology.specs.declared.relay_node.RelayNode.{RelayNode}
 use Rattle.topology.specs.Rows.{TopologyState}
 use Rattle.topology.specs.declared.node.Node.TheVariants.{Relay as relay}
@@ -40,18 +40,18 @@ use Rattle.eased_storms.proofs.Reached.{NodeEases}
 -- what waits in the relay after it and before it
 waits_after : PeerLaws → (lab : Lab) (H : List Full) (r : Full) (n : ℕ) (q : RelayNode) (x : Item) → IsReached lab H r n (relay q) x
     → waiting_at lab.topology (r ∷ H) n (relay q)
-    ≡ waits_in (waiting_weight lab.topology n) (mention (answer_of lab H r n (relay q) x) ∷ mentions (journal n H).entries) r.moment
+    ≡ waits_in (waiting_weight lab.topology n) (relay_mention (answer_of lab H r n (relay q) x) ∷ relay_mentions (journal n H).entries) r.moment
 waits_after laws lab H r n q x h =
     let e : Entry = answer_of lab H r n (relay q) x in
-    ap (λ (z : Journal). sum_by (waiting_weight lab.topology n) (waiting_packets (mentions z.entries) r.moment)) h.later
-    ∙ waiting_is (waiting_weight lab.topology n) laws (mentions (e ∷ (journal n H).entries)) r.moment
+    ap (λ (z : Journal). sum_by (waiting_weight lab.topology n) (waiting_packets (relay_mentions z.entries) r.moment)) h.later
+    ∙ waiting_is (waiting_weight lab.topology n) laws (relay_mentions (e ∷ (journal n H).entries)) r.moment
     ∙ ap (λ (z : List Mention). waits_in (waiting_weight lab.topology n) z r.moment) (one_more e (journal n H).entries)
 
 waits_before : PeerLaws → (lab : Lab) (H : List Full) (r : Full) (n : ℕ) (q : RelayNode) (x : Item) → IsReached lab H r n (relay q) x
-    → waiting_at lab.topology H n (relay q) ≡ waits_in (waiting_weight lab.topology n) (mentions (journal n H).entries) r.moment
+    → waiting_at lab.topology H n (relay q) ≡ waits_in (waiting_weight lab.topology n) (relay_mentions (journal n H).entries) r.moment
 waits_before laws lab H r n q x h =
-    ap (λ (k : ℕ). sum_by (waiting_weight lab.topology n) (waiting_packets (mentions (journal n H).entries) k)) (sym h.moment)
-    ∙ waiting_is (waiting_weight lab.topology n) laws (mentions (journal n H).entries) r.moment
+    ap (λ (k : ℕ). sum_by (waiting_weight lab.topology n) (waiting_packets (relay_mentions (journal n H).entries) k)) (sym h.moment)
+    ∙ waiting_is (waiting_weight lab.topology n) laws (relay_mentions (journal n H).entries) r.moment
 
 -- A PACKET FOR IT
 
@@ -90,7 +90,7 @@ module _ (laws : RelayLaws) (lab : Lab) (H : List Full) (r : Full) (n : ℕ) (q 
 
   -- trust before it
   before_is : node_at lab.topology n ≡ Some (relay q) → (c : Ip6) → relay_trusts lab.topology H n c
-      ≡ is_some (known (mentions (journal n H).entries) (now H) c).trusted
+      ≡ is_some (known (relay_mentions (journal n H).entries) (now H) c).trusted
   unfolding relay_trusts
   before_is there c = ap (trusts_as H n c) there
 
@@ -110,7 +110,7 @@ module _ (laws : RelayLaws) (lab : Lab) (H : List Full) (r : Full) (n : ℕ) (q 
         there = h.there;
         more = omega (arith, is, more);
         later = λ e.
-            let now_is = ap (λ (m : ℕ). is_some (known (mentions (journal n H).entries) m p.dst).trusted) (sym h.moment) in
+            let now_is = ap (λ (m : ℕ). is_some (known (relay_mentions (journal n H).entries) m p.dst).trusted) (sym h.moment) in
             let later = later_by reply (relay_trusts t H n p.dst) (is_of_relay t n p) (before_is h.there p.dst ∙ now_is ∙ e) in
             omega (arith, is, later);
         here = relay_is_apart laws.apart t n q h.is h.there (same_ep-self q.at);

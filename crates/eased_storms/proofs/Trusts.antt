@@ -7,7 +7,7 @@ use Rattle.td_base.specs.declared.ipv6.Ip6.{Ip6}
 use Rattle.td_base.specs.declared.endpoint.Ep.{Ep}
 use Rattle.peer_list.specs.declared.limits.TheConstants.{LISTED_MS}
 use Rattle.peer_list.specs.Mentions.{Mention, is_about}
-use Rattle.peer_list.specs.Listed.{is_young}
+use Rattle.peer_list.specs.Listed.{is_younger}
 use Rattle.peer_list.specs.Peers.{Peer, no_peer, peer_at, known}
 use Rattle.peer_list.specs.Laws.{after}
 use Rattle.storms.proofs.PeersWait.{PeerLaws}
@@ -16,7 +16,7 @@ abbrev pub trusted_as : Option Peer → Bool
 trusted_as o = is_some (unwrap_or o no_peer).trusted
 
 -- a moment is young at itself
-pub young : (m : ℕ) → is_young LISTED_MS m m ≡ true
+pub young : (m : ℕ) → is_younger LISTED_MS m m ≡ true
 young m = ap (λ (k : ℕ). nat_lt k LISTED_MS) (none m) where
   none : (k : ℕ) → k - k ≡ 0
   none k = omega arith

@@ -7,7 +7,7 @@ use Rattle.ipv6_packet.specs.Reads.{fields_in}
 use Rattle.bubble.specs.Messages.{message_in, is_echo_reply}
 use Rattle.teredo_node.specs.Journal.{Journal, Entry}
 use Rattle.client_rules.specs.Bearings as client_bearings
-use Rattle.relay_rules.specs.Bearings as relay_bearings
+use Rattle.relay_rules.specs.Bearings.{relay_mentions}
 use Rattle.topology.specs.Rows.{TopologyState}
 use Rattle.topology.specs.declared.node.Node.{Node}
 use Rattle.topology.specs.declared.node.Node.TheVariants.{Server as server, Nat as nat, Client as client, Relay as relay, Native as native}
@@ -29,8 +29,8 @@ module _ (t : TopologyState) (G H : List Full) where
       ap (λ (n : ℕ). sum_by client_packet (waiting_packets (client_bearings.mentions (journal k G).entries) n)) m
       ∙ ap (λ (z : Journal). sum_by client_packet (waiting_packets (client_bearings.mentions z.entries) (now H))) j
   same_at k (relay r) j m =
-      ap (λ (n : ℕ). sum_by (waiting_weight t k) (waiting_packets (relay_bearings.mentions (journal k G).entries) n)) m
-      ∙ ap (λ (z : Journal). sum_by (waiting_weight t k) (waiting_packets (relay_bearings.mentions z.entries) (now H))) j
+      ap (λ (n : ℕ). sum_by (waiting_weight t k) (waiting_packets (relay_mentions (journal k G).entries) n)) m
+      ∙ ap (λ (z : Journal). sum_by (waiting_weight t k) (waiting_packets (relay_mentions z.entries) (now H))) j
   same_at k (server a) j m = refl
   same_at k (nat a) j m = refl
   same_at k (native h) j m = refl
@@ -100,7 +100,7 @@ at_most t H n (client c) =
     let is = sum-map client_packet (waiting_packets (client_bearings.mentions (journal n H).entries) (now H)) in
     omega (arith, is)
 at_most t H n (relay r) =
-    let xs = waiting_packets (relay_bearings.mentions (journal n H).entries) (now H) in
+    let xs = waiting_packets (relay_mentions (journal n H).entries) (now H) in
     let is = sum-map relay_packet xs in
     let under = all_under (waiting_weight t n) relay_packet xs (packet_most t n) in
     omega (arith, is, under)

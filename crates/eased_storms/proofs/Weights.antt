@@ -14,7 +14,7 @@ use Rattle.server_core.specs.Server.{server_row}
 use Rattle.topology.specs.Rows.{TopologyState}
 use Rattle.topology.specs.declared.node.Node.{Node}
 use Rattle.topology.specs.declared.node.Node.TheVariants.{Server as server, Nat as nat, Client as client, Relay as relay, Native as native}
-use Rattle.topology.specs.Topology.{node_at, number_of, is_at, side_at}
+use Rattle.topology.specs.Topology.{node_at, first_passing, is_at, side_at}
 use Rattle.history.specs.Full.{Item, udp, six, Full}
 use Rattle.legal.specs.Settings.{server_settings}
 use Rattle.storms.specs.Weights.{packet_weight, datagram_weight, send_weight, six_weight, weight_at, entry_weight}
@@ -60,7 +60,7 @@ for_relay_four p = by (is_echo_reply (message_in p)) where
   by false = omega arith
 
 pub eased_four : (t : TopologyState) (H : List Full) (x : Item) → is_eased t H x ≡ true → 4 ≤ entry_weight t x
-eased_four t H (udp src dst x) h = at_four t H src dst x (option_and_then (node_at t) (number_of (is_at dst) t)) h
+eased_four t H (udp src dst x) h = at_four t H src dst x (option_and_then (node_at t) (first_passing (is_at dst) t)) h
 eased_four t H (six None x) h = let is = request_is t H (fields_in x) h in omega (arith, is)
 eased_four t H (six (Some n) x) h = for_relay_four (fields_in x)
 
@@ -147,7 +147,7 @@ module _ (t : TopologyState) (H G : List Full) (lasts : Lasts t H G) where
     by false g = g
 
   pub eased_lasts : (x : Item) → is_eased t H x ≡ true → is_eased t G x ≡ true
-  eased_lasts (udp src dst x) h = at_lasts src dst x (option_and_then (node_at t) (number_of (is_at dst) t)) h
+  eased_lasts (udp src dst x) h = at_lasts src dst x (option_and_then (node_at t) (first_passing (is_at dst) t)) h
   eased_lasts (six None x) h = request_lasts (fields_in x) h
   eased_lasts (six (Some n) x) h = for_relay_lasts n (fields_in x) h
 

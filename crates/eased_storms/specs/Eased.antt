@@ -10,11 +10,11 @@ use Rattle.bubble.specs.Reads.{value_in}
 use Rattle.teredo_node.specs.Step.{part}
 use Rattle.server_core.specs.Server.{server_row}
 use Rattle.client_rules.specs.Bearings as client_bearings
-use Rattle.relay_rules.specs.Bearings as relay_bearings
+use Rattle.relay_rules.specs.Bearings.{relay_mentions}
 use Rattle.topology.specs.Rows.{TopologyState}
 use Rattle.topology.specs.declared.node.Node.{Node}
 use Rattle.topology.specs.declared.node.Node.TheVariants.{Server as server, Client as client, Relay as relay}
-use Rattle.topology.specs.Topology.{nodes, node_at, number_of, is_at, side_at}
+use Rattle.topology.specs.Topology.{nodes, node_at, first_passing, is_at, side_at}
 use Rattle.history.specs.Full.{Item, udp, six, Full}
 use Rattle.legal.specs.Settings.{server_settings}
 use Rattle.legal.specs.Past.{now, is_node, journal}
@@ -68,7 +68,7 @@ eases_at t H src dst x _ = eases_datagram t H (value_in x).packet (datagram_weig
 -- THE WEIGHT OF AN ENTRY
 
 abbrev pub is_eased : TopologyState → List Full → Item → Bool
-is_eased t H (udp src dst x) = eases_at t H src dst x (option_and_then (node_at t) (number_of (is_at dst) t))
+is_eased t H (udp src dst x) = eases_at t H src dst x (option_and_then (node_at t) (first_passing (is_at dst) t))
 is_eased t H (six None x) = eases_request t H (fields_in x)
 is_eased t H (six (Some n) x) = eases_for_relay t H n (fields_in x)
 
@@ -88,7 +88,7 @@ waiting_weight t n x = if is_echo_reply (message_in (fields_in x)) then 1 else l
 -- in node n
 abbrev pub waiting_at : TopologyState → List Full → ℕ → Node → ℕ
 waiting_at t H n (client c) = sum_by client_packet (waiting_packets (client_bearings.mentions (journal n H).entries) (now H))
-waiting_at t H n (relay r) = sum_by (waiting_weight t n) (waiting_packets (relay_bearings.mentions (journal n H).entries) (now H))
+waiting_at t H n (relay r) = sum_by (waiting_weight t n) (waiting_packets (relay_mentions (journal n H).entries) (now H))
 waiting_at t H n _ = 0
 
 abbrev pub waiting_from : TopologyState → List Full → ℕ → List Node → ℕ

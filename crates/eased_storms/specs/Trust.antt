@@ -3,7 +3,7 @@ use Rattle.std.specs.Prelude.{ℕ, Bool, false, if◌then◌else◌, List, [], �
 use Rattle.td_base.specs.Ip6.{same_ip6}
 use Rattle.td_base.specs.declared.ipv6.Ip6.{Ip6}
 use Rattle.peer_list.specs.Peers.{known}
-use Rattle.relay_rules.specs.Bearings.{mentions}
+use Rattle.relay_rules.specs.Bearings.{relay_mentions}
 use Rattle.topology.specs.declared.native_node.NativeNode.{NativeNode}
 use Rattle.topology.specs.Rows.{TopologyState}
 use Rattle.topology.specs.declared.node.Node.{Node}
@@ -14,7 +14,7 @@ use Rattle.legal.specs.Past.{now, journal}
 
 -- node n, where it is a relay, trusts the client with that address now
 abbrev pub trusts_as : List Full → ℕ → Ip6 → Option Node → Bool
-trusts_as H n client (Some (relay r)) = is_some (known (mentions (journal n H).entries) (now H) client).trusted
+trusts_as H n client (Some (relay r)) = is_some (known (relay_mentions (journal n H).entries) (now H) client).trusted
 trusts_as H n client _ = false
 
 unfoldable pub relay_trusts : TopologyState → List Full → ℕ → Ip6 → Bool

@@ -2,7 +2,7 @@
 use Rattle.std.proofs.Common.{◌≡◌, ℕ, ◌<◌, ◌≤◌, ◌&&◌, nat_le, Bool, true, false, cond, List, [], ◌∷◌, length, get_or, Option, Some, None, Result, Ok, Err, refl, ◌∙◌, ap, subst, arith, leb-true}
 use Rattle.std.specs.Prelude.{position, option_map, slice_get, codes, IfOk}
 use Rattle.events.specs.declared.event_fault.EventFault.{EventFault}
-use Rattle.events.specs.Answers.{Answers}
+use Rattle.events.specs.Answers.{ReadsAs}
 use Rattle.std.specs.Option.{option_or}
 use Rattle.std.specs.Result.{result_ok}
 use Rattle.std.proofs.lemmas.Bool.{and_parts}
@@ -31,11 +31,11 @@ use Rattle.topology.specs.Topology.{nodes, node_at}
 use Rattle.topology.specs.Named.{has_host, is_nat, is_client_of}
 use Rattle.events.specs.Events.{IsTarget, IsEvent}
 use Rattle.td_base.specs.Values.{same_text, number_of, ep_of}
-use Rattle.events.specs.Words.{few_bytes, hex_of, bytes_of}
+use Rattle.events.specs.Words.{few_bytes, hex_of, bytes_spelled}
 use Rattle.events.specs.Verbs.{verb_of}
 use Rattle.topology.specs.Named.{any_kind, is_named, named}
 use Rattle.events.specs.NodeWords.{target_of}
-use Rattle.events.specs.EventText.{Words, no_word, a_word, words, said, word, no_more, event_behind, event_of}
+use Rattle.events.specs.EventText.{TextWords, no_word, a_word, text_words, said, word, no_more, event_behind, event_of}
 use Rattle.td_base.proofs.NumberValues.{bind_some, some_same, kept_some, number_of-sound}
 
 -- ---- steps
@@ -44,15 +44,15 @@ pub bind_ok : {A B : Type 0} (r : Result A ℕ) (f : A → Result B ℕ) (y : B)
 bind_ok (Ok x) f y e = (x, refl, e)
 bind_ok (Err n) f y e = absurd cc
 
-said_ok : {A : Type 0} (place : ℕ) (more : Words) (o : Option A) (y : A × Words) → said place more o ≡ Ok y → o ≡ Some y.0
+said_ok : {A : Type 0} (place : ℕ) (more : TextWords) (o : Option A) (y : A × TextWords) → said place more o ≡ Ok y → o ≡ Some y.0
 said_ok place more None y e = absurd cc
 said_ok place more (Some x) y e = let same : (x, more) ≡ y = cc in ap (λ p. Some p.0) same
 
-pub word_ok : {A : Type 0} (rule : List ℕ → Option A) (ws : Words) (y : A × Words) → word rule ws ≡ Ok y → (text : List ℕ) × (rule text ≡ Some y.0)
+pub word_ok : {A : Type 0} (rule : List ℕ → Option A) (ws : TextWords) (y : A × TextWords) → word rule ws ≡ Ok y → (text : List ℕ) × (rule text ≡ Some y.0)
 word_ok rule (no_word place) y e = absurd cc
 word_ok rule (a_word place text more) y e = (text, said_ok place more (rule text) y e)
 
-no_more_ok : (e f : Event) (ws : Words) → no_more e ws ≡ Ok f → e ≡ f
+no_more_ok : (e f : Event) (ws : TextWords) → no_more e ws ≡ Ok f → e ≡ f
 no_more_ok e f (no_word place) h = cc
 no_more_ok e f (a_word place text more) h = absurd cc
 
@@ -76,8 +76,8 @@ few_or_none false most text bytes e =
     let read = decoded text b.0 (decode_of text) refl b.1 in
     subst (AreFew most) (some_same _ _ kept.1) (record { short = leb-true (length b.0) most both.1; made = read })
 
-pub bytes_of-few : (most : ℕ) (text bytes : List ℕ) → bytes_of most text ≡ Some bytes → AreFew most bytes
-unfolding bytes_of
+pub bytes_of-few : (most : ℕ) (text bytes : List ℕ) → bytes_spelled most text ≡ Some bytes → AreFew most bytes
+unfolding bytes_spelled
 bytes_of-few most text bytes e = few_or_none (same_text text (codes "-")) most text bytes e
 
 placed_in : (p : Node → Bool) (xs : List Node) (i : ℕ) → position p xs ≡ Some i → (x : Node) × (slice_get xs i ≡ Some x) × (p x ≡ true) × (i < length xs)
@@ -105,7 +105,7 @@ target_at t text to None None at is e = absurd cc
 target_of-sound : (t : TopologyState) (text : List ℕ) (to : Target) → target_of t text ≡ Some to → IsTarget t to
 target_of-sound t text to e = target_at t text to (named has_host t text) (ip6_of text) refl refl e
 
-pub legal_behind : (t : TopologyState) (v : Verb) (ws : Words) (e : Event) → event_behind t v ws ≡ Ok e → IsEvent t e
+pub legal_behind : (t : TopologyState) (v : Verb) (ws : TextWords) (e : Event) → event_behind t v ws ≡ Ok e → IsEvent t e
 unfolding event_behind
 legal_behind t verb.Advance ws e h =
     let ms = bind_ok (word (number_of ADVANCE_MAX_MS) ws) _ e h in
@@ -123,10 +123,10 @@ legal_behind t verb.Next ws e h =
 legal_behind t verb.Host ws e h =
     let node = bind_ok (word (named has_host t) ws) _ e h in
     let to = bind_ok (word (target_of t) node.0.1) _ e node.2 in
-    let body = bind_ok (word (bytes_of BODY_MAX) to.0.1) _ e to.2 in
+    let body = bind_ok (word (bytes_spelled BODY_MAX) to.0.1) _ e to.2 in
     let a = word_ok (named has_host t) ws node.0 node.1 in
     let b = word_ok (target_of t) node.0.1 to.0 to.1 in
-    let c = word_ok (bytes_of BODY_MAX) to.0.1 body.0 body.1 in
+    let c = word_ok (bytes_spelled BODY_MAX) to.0.1 body.0 body.1 in
     let P : Event → Type 0 = λ x. IsEvent t x in
     subst P (no_more_ok _ e _ body.2) (record { from = (named-kind has_host t a.0 node.0.0 a.1).0; target = target_of-sound t b.0 to.0.0 b.1; short = (bytes_of-few BODY_MAX c.0 body.0.0 c.1).short; made = (bytes_of-few BODY_MAX c.0 body.0.0 c.1).made })
 legal_behind t verb.Echo ws e h =
@@ -140,18 +140,18 @@ legal_behind t verb.Echo ws e h =
     subst P (no_more_ok _ e _ seq.2) (record { from = (named-kind has_host t a.0 node.0.0 a.1).0; target = target_of-sound t b.0 to.0.0 b.1; most = (number_of-sound SEQUENCE_MAX seq.0.0 c.0 c.1).0 })
 legal_behind t verb.Raw ws e h =
     let node = bind_ok (word (named has_host t) ws) _ e h in
-    let bytes = bind_ok (word (bytes_of DATAGRAM_MAX) node.0.1) _ e node.2 in
+    let bytes = bind_ok (word (bytes_spelled DATAGRAM_MAX) node.0.1) _ e node.2 in
     let a = word_ok (named has_host t) ws node.0 node.1 in
-    let b = word_ok (bytes_of DATAGRAM_MAX) node.0.1 bytes.0 bytes.1 in
+    let b = word_ok (bytes_spelled DATAGRAM_MAX) node.0.1 bytes.0 bytes.1 in
     let P : Event → Type 0 = λ x. IsEvent t x in
     subst P (no_more_ok _ e _ bytes.2) (record { from = (named-kind has_host t a.0 node.0.0 a.1).0; short = (bytes_of-few DATAGRAM_MAX b.0 bytes.0.0 b.1).short; made = (bytes_of-few DATAGRAM_MAX b.0 bytes.0.0 b.1).made })
 legal_behind t verb.Stranger ws e h =
     let src = bind_ok (word ep_of ws) _ e h in
     let dst = bind_ok (word ep_of src.0.1) _ e src.2 in
-    let bytes = bind_ok (word (bytes_of DATAGRAM_MAX) dst.0.1) _ e dst.2 in
+    let bytes = bind_ok (word (bytes_spelled DATAGRAM_MAX) dst.0.1) _ e dst.2 in
     let from = word_ok ep_of ws src.0 src.1 in
     let to = word_ok ep_of src.0.1 dst.0 dst.1 in
-    let b = word_ok (bytes_of DATAGRAM_MAX) dst.0.1 bytes.0 bytes.1 in
+    let b = word_ok (bytes_spelled DATAGRAM_MAX) dst.0.1 bytes.0 bytes.1 in
     let few = bytes_of-few DATAGRAM_MAX b.0 bytes.0.0 b.1 in
     let P : Event → Type 0 = λ x. IsEvent t x in
     subst P (no_more_ok _ e _ bytes.2) (record { from = (ep_of-sound src.0.0 from.0 from.1).0; to = (ep_of-sound dst.0.0 to.0 to.1).0; short = few.short; made = few.made })
@@ -189,9 +189,9 @@ legal_behind t verb.Settle ws e h =
 pub event_of-legal : (t : TopologyState) (text : List ℕ) (e : Event) → event_of t text ≡ Ok e → IsEvent t e
 unfolding event_of
 event_of-legal t text e h =
-    let v = bind_ok (word verb_of (words text)) _ e h in
+    let v = bind_ok (word verb_of (text_words text)) _ e h in
     legal_behind t v.0.0 v.0.1 e v.2
 
-pub answers_legal : (t : TopologyState) (text : List ℕ) (r : Result Event EventFault) → Answers (λ e. e) r (event_of t text) → IfOk r (λ e. IsEvent t e)
+pub answers_legal : (t : TopologyState) (text : List ℕ) (r : Result Event EventFault) → ReadsAs (λ e. e) r (event_of t text) → IfOk r (λ e. IsEvent t e)
 answers_legal t text (Ok e) h = event_of-legal t text e h
 answers_legal t text (Err fault) h = tt

@@ -34,8 +34,8 @@ use Rattle.events.specs.Words.{space}
 use Rattle.events.specs.Verbs.{verb_word, verb_of}
 use Rattle.topology.specs.Named.{any_kind, is_named, named}
 use Rattle.events.specs.NodeWords.{target_of}
-use Rattle.events.specs.EventText.{Words, no_word, a_word, placed, word, event_behind, event_of}
-use Rattle.events.specs.EventSpelling.{hex_word, word_of_name, name_word, target_word, event_words, event_text, is_plain, HasPlainNames, IsMadeTarget}
+use Rattle.events.specs.EventText.{TextWords, no_word, a_word, placed, word, event_behind, event_of}
+use Rattle.events.specs.EventSpelling.{hex_word, word_of_name, name_word, target_word, event_words, event_text, is_plain_text, HasPlainNames, IsMadeTarget}
 use Rattle.td_base.proofs.NumberValues.{number_back, same_text-true, same_text-self}
 use Rattle.td_base.proofs.AddressValues.{ep_of-text}
 use Rattle.td_base.proofs.Ip6ValueLemmas.{ip6_of-spelled}
@@ -100,7 +100,7 @@ within [] n lt = absurd (omega (arith, lt))
 within (x ∷ xs) zero lt = (x, refl)
 within (x ∷ xs) (suc n) lt = within xs n (omega (arith, lt))
 
-plain_of : (xs : List Node) (n : ℕ) → AllByRecursion (λ name. is_plain (name_text name) ≡ true) (map name_of xs) → is_plain (word_of_name (option_map name_of (slice_get xs n))) ≡ true
+plain_of : (xs : List Node) (n : ℕ) → AllByRecursion (λ name. is_plain_text (name_text name) ≡ true) (map name_of xs) → is_plain_text (word_of_name (option_map name_of (slice_get xs n))) ≡ true
 plain_of [] n h = refl
 plain_of (x ∷ xs) zero h = h.0
 plain_of (x ∷ xs) (suc n) h = plain_of xs n h.1
@@ -110,17 +110,17 @@ is_word-name t n plain = is_word-plain (name_word t n) (plain_of (nodes t) n pla
 
 -- ---- targets
 
-differs : (b : Bool) (x y : List ℕ) → same_text x y ≡ b → is_plain x ≡ true → is_plain y ≡ false → same_text x y ≡ false
+differs : (b : Bool) (x y : List ℕ) → same_text x y ≡ b → is_plain_text x ≡ true → is_plain_text y ≡ false → same_text x y ≡ false
 differs true x y e p q = let same = same_text-true x y e in absurd cc
 differs false x y e p q = e
 
-unnamed : (kind : Option Node → Bool) (xs : List Node) (j : ℕ) (text : List ℕ) → AllByRecursion (λ name. is_plain (name_text name) ≡ true) (map name_of xs) → is_plain text ≡ false → position_from (finds kind text) j xs ≡ None
+unnamed : (kind : Option Node → Bool) (xs : List Node) (j : ℕ) (text : List ℕ) → AllByRecursion (λ name. is_plain_text (name_text name) ≡ true) (map name_of xs) → is_plain_text text ≡ false → position_from (finds kind text) j xs ≡ None
 unnamed kind [] j text h other = refl
 unnamed kind (x ∷ xs) j text h other =
     passed (kind (Some x)) (is_named text x) j (position_from (finds kind text) (j + 1) xs) (differs (is_named text x) (name_text (name_of x)) text refl h.0 other)
     ∙ unnamed kind xs (j + 1) text h.1 other
 
-no_name : (kind : Option Node → Bool) (t : TopologyState) (text : List ℕ) → HasPlainNames t → is_plain text ≡ false → named kind t text ≡ None
+no_name : (kind : Option Node → Bool) (t : TopologyState) (text : List ℕ) → HasPlainNames t → is_plain_text text ≡ false → named kind t text ≡ None
 unfolding named
 no_name kind t text plain other = position_from-zero (finds kind text) (nodes t) ∙ unnamed kind (nodes t) 0 text plain other
 
@@ -141,19 +141,19 @@ name_byte_is_plain byte e = by (eqb_tells byte 32) (eqb_tells byte 58) where
   by (inr a) (inl b) = absurd (false≢true (ap is_name_byte (sym b.1) ∙ e))
   by (inr a) (inr b) = rw (a.0, b.0) refl
 
-name_bytes_are_plain : (text : List ℕ) → list_all is_name_byte text ≡ true → is_plain text ≡ true
+name_bytes_are_plain : (text : List ℕ) → list_all is_name_byte text ≡ true → is_plain_text text ≡ true
 name_bytes_are_plain [] e = refl
 name_bytes_are_plain (x ∷ xs) e =
     let both = and_parts (is_name_byte x) (list_all is_name_byte xs) e in
     rw (name_byte_is_plain x both.0) (name_bytes_are_plain xs both.1)
 
-name_is_plain : (text : List ℕ) → is_name text ≡ true → is_plain text ≡ true
+name_is_plain : (text : List ℕ) → is_name text ≡ true → is_plain_text text ≡ true
 unfolding is_name
 name_is_plain text e =
     let front = and_parts (begins_with_letter text && list_all is_name_byte text) (nat_le (length text) NAME_LEN) e in
     name_bytes_are_plain text (and_parts (begins_with_letter text) (list_all is_name_byte text) front.0).1
 
-each_is_plain : (names : List Name) → AllByRecursion (λ (a : Name). is_name (name_text a) ≡ true) names → AllByRecursion (λ (a : Name). is_plain (name_text a) ≡ true) names
+each_is_plain : (names : List Name) → AllByRecursion (λ (a : Name). is_name (name_text a) ≡ true) names → AllByRecursion (λ (a : Name). is_plain_text (name_text a) ≡ true) names
 each_is_plain [] h = tt
 each_is_plain (a ∷ names) h = (name_is_plain (name_text a) h.0, each_is_plain names h.1)
 
@@ -162,7 +162,7 @@ plain_names t is = each_is_plain (names_of t) is.spelled
 
 -- ---- events
 
-abbrev behind_first : Words → Words
+abbrev behind_first : TextWords → TextWords
 behind_first (no_word place) = no_word place
 behind_first (a_word place text more) = more
 

@@ -23,9 +23,9 @@ use Rattle.td_base.proofs.Ip6Lemmas.{printed_is_spelled}
 use Rattle.events.specs.declared.verb.Verb.{Verb}
 use Rattle.events.specs.declared.verb.Verb.TheVariants as verb
 use Rattle.td_base.specs.Values.{same_text}
-use Rattle.events.specs.Words.{space, bytes_of}
+use Rattle.events.specs.Words.{space, bytes_spelled}
 use Rattle.events.specs.Verbs.{verb_word, verb_of}
-use Rattle.events.specs.EventSpelling.{hex_word, is_plain}
+use Rattle.events.specs.EventSpelling.{hex_word, is_plain_text}
 use Rattle.td_base.proofs.NumberValues.{same_text-true}
 
 -- no byte of the text is a space
@@ -115,10 +115,10 @@ is_word-ip4 ip h =
 pub is_word-ep : (ep : Ep) → IsEp ep → is_word (ep_text ep) ≡ true
 is_word-ep ep h = is_word-append (ip4_text ep.ip) (58 ∷ decimal ep.port) (is_word-ip4 ep.ip h.0) (is_word-decimal ep.port (omega (arith, h.1)))
 
-pub is_word-plain : (text : List ℕ) → is_plain text ≡ true → is_word text ≡ true
+pub is_word-plain : (text : List ℕ) → is_plain_text text ≡ true → is_word text ≡ true
 is_word-plain [] e = refl
 is_word-plain (x ∷ xs) e =
-    let both = and_parts (not (x == 32) && not (x == 58)) (is_plain xs) e in
+    let both = and_parts (not (x == 32) && not (x == 58)) (is_plain_text xs) e in
     and_from (not (x == 32)) (is_word xs) (and_parts (not (x == 32)) (not (x == 58)) both.0).0 (is_word-plain xs both.1)
 
 -- ---- bytes
@@ -148,8 +148,8 @@ same_or false x y e other = e
 not_dash : (b : ℕ) (more : List ℕ) → same_text (encode_lower (b ∷ more)) (codes "-") ≡ false
 not_dash b more = same_or (same_text (encode_lower (b ∷ more)) (codes "-")) (encode_lower (b ∷ more)) (codes "-") refl (λ e. absurd (omega (arith, ap length e, length-encode_with lower_digits (b ∷ more))))
 
-pub bytes_back : (most : ℕ) (bytes : List ℕ) → length bytes ≤ most → IsBytes bytes → bytes_of most (hex_word bytes) ≡ Some bytes
-unfolding bytes_of
+pub bytes_back : (most : ℕ) (bytes : List ℕ) → length bytes ≤ most → IsBytes bytes → bytes_spelled most (hex_word bytes) ≡ Some bytes
+unfolding bytes_spelled
 bytes_back most [] le h = refl
 bytes_back most (b ∷ more) le h =
     let some : nat_le 1 (length (b ∷ more)) ≡ true = le-leb 1 (length (b ∷ more)) (omega arith) in
@@ -170,13 +170,13 @@ is_word-spelled ip text (inr e) = ap is_word e.spelled ∙ is_word-append e.head
 pub is_word-ip6 : (ip : Ip6) → IsIp6 ip → is_word (ip6_text ip) ≡ true
 is_word-ip6 ip h = is_word-spelled ip (ip6_text ip) (printed_is_spelled ip h)
 
-has_colon : (xs more : List ℕ) → is_plain (xs ++ 58 ∷ more) ≡ false
+has_colon : (xs more : List ℕ) → is_plain_text (xs ++ 58 ∷ more) ≡ false
 has_colon [] more = refl
 has_colon (x ∷ xs) more = ap (λ b. (not (x == 32) && not (x == 58)) && b) (has_colon xs more) ∙ and-false (not (x == 32) && not (x == 58))
 
-colon_spelled : (ip : Ip6) (text : List ℕ) → Spells ip text → is_plain text ≡ false
-colon_spelled ip text (inl h) = ap is_plain h.4 ∙ has_colon h.0 h.1
-colon_spelled ip text (inr e) = ap is_plain e.spelled ∙ has_colon e.head_text (58 ∷ e.tail_text)
+colon_spelled : (ip : Ip6) (text : List ℕ) → Spells ip text → is_plain_text text ≡ false
+colon_spelled ip text (inl h) = ap is_plain_text h.4 ∙ has_colon h.0 h.1
+colon_spelled ip text (inr e) = ap is_plain_text e.spelled ∙ has_colon e.head_text (58 ∷ e.tail_text)
 
-pub colon_ip6 : (ip : Ip6) → IsIp6 ip → is_plain (ip6_text ip) ≡ false
+pub colon_ip6 : (ip : Ip6) → IsIp6 ip → is_plain_text (ip6_text ip) ≡ false
 colon_ip6 ip h = colon_spelled ip (ip6_text ip) (printed_is_spelled ip h)

@@ -7,7 +7,7 @@ use Rattle.std.proofs.lemmas.List.{drop-drop, length-drop, length-take, take_all
 use Rattle.std.proofs.lemmas.List.Splits.{slice_split_none, slice_split_first, length-slice_split}
 use Rattle.std.proofs.lemmas.List.Sums.{fails_before_first, prefix_len-le-length}
 use Rattle.events.specs.Words.{space}
-use Rattle.events.specs.EventText.{no_word, a_word, placed, words}
+use Rattle.events.specs.EventText.{no_word, a_word, placed, text_words}
 use Rattle.events.specs.Answers.{words_from}
 
 -- behind the end of the text
@@ -78,5 +78,5 @@ words_from-cut text at len le e =
           ∙ ap (a_word at (take len left)) (ap no_word size2 ∙ sym (words_from-end text (at + len + 1) (omega (arith, all, size2))))
     ]
 
-pub whole : (text : List ℕ) → words_from text 0 ≡ words text
+pub whole : (text : List ℕ) → words_from text 0 ≡ text_words text
 whole text = within text 0 (omega arith)

@@ -55,12 +55,12 @@ unfoldable pub event_text : TopologyState → Event → List ℕ
 event_text t e = join_with_byte space (event_words t e)
 
 -- a text without a space, and without a colon, which each IPv6 address has
-abbrev pub is_plain : List ℕ → Bool
-is_plain text = list_all (λ byte. not (byte == space) && not (byte == colon)) text
+abbrev pub is_plain_text : List ℕ → Bool
+is_plain_text text = list_all (λ byte. not (byte == space) && not (byte == colon)) text
 
 -- no name has a space or a colon
 abbrev pub HasPlainNames : TopologyState → Type 0
-HasPlainNames t = AllByRecursion (λ name. is_plain (name_text name) ≡ true) (names_of t)
+HasPlainNames t = AllByRecursion (λ name. is_plain_text (name_text name) ≡ true) (names_of t)
 
 -- an address of a target has sixteen bytes
 abbrev pub IsMadeTarget : Target → Type 0

@@ -18,5 +18,5 @@ abbrev pub hex_of : ℕ → List ℕ → Option (List ℕ)
 hex_of most text = result_ok (decode_of text) >>= few_bytes most
 
 -- the bytes that a word says: none by `-`, or else some
-unfoldable pub bytes_of : ℕ → List ℕ → Option (List ℕ)
-bytes_of most text = if same_text text (codes "-") then Some [] else hex_of most text
+unfoldable pub bytes_spelled : ℕ → List ℕ → Option (List ℕ)
+bytes_spelled most text = if same_text text (codes "-") then Some [] else hex_of most text

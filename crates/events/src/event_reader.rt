@@ -3,7 +3,7 @@ ghost use Rattle.std.specs.Prelude.{◌≡◌, ℕ, IfOk};
 ghost use Rattle.topology.specs.Rows.{TopologyState};
 ghost use Rattle.events.specs.Events.{IsEvent};
 ghost use Rattle.events.specs.EventText.{event_behind, event_of};
-ghost use Rattle.events.specs.Answers.{Answers, words_from};
+ghost use Rattle.events.specs.Answers.{ReadsAs, words_from};
 ghost use Rattle.events.specs.declared.verb.Verb.TheVariants as verb;
 ghost use Rattle.events.specs.declared.event_fault.EventFault.TheVariants.{At};
 
@@ -19,7 +19,7 @@ use topology::Topology;
 
 #[tactic(auto, unfolding(crate::specs::EventText::event_behind))]
 fn advance(words: WordsLeft) -> Result<Event, EventFault>
-    ensures { (t : TopologyState) → Answers (λ e. e) result (event_behind t verb.Advance (words_from words.entry.text.now words.entry.at)) }
+    ensures { (t : TopologyState) → ReadsAs (λ e. e) result (event_behind t verb.Advance (words_from words.entry.text.now words.entry.at)) }
 {
     let (ms, words) = number(words, ADVANCE_MAX_MS)?;
     no_more(Event::Advance { ms }, words)
@@ -27,7 +27,7 @@ fn advance(words: WordsLeft) -> Result<Event, EventFault>
 
 #[tactic(auto, unfolding(crate::specs::EventText::event_behind))]
 fn deliver(words: WordsLeft) -> Result<Event, EventFault>
-    ensures { (t : TopologyState) → Answers (λ e. e) result (event_behind t verb.Deliver (words_from words.entry.text.now words.entry.at)) }
+    ensures { (t : TopologyState) → ReadsAs (λ e. e) result (event_behind t verb.Deliver (words_from words.entry.text.now words.entry.at)) }
 {
     let (number, words) = number(words, u64::from(ENTRY_NUMBER_MAX))?;
     no_more(
@@ -40,7 +40,7 @@ fn deliver(words: WordsLeft) -> Result<Event, EventFault>
 
 #[tactic(auto, unfolding(crate::specs::EventText::event_behind))]
 fn host_event(alloc: Global, t: &Topology, words: WordsLeft) -> Result<Event, EventFault>
-    ensures { Answers (λ e. e) result (event_behind t.now verb.Host (words_from words.entry.text.now words.entry.at)) }
+    ensures { ReadsAs (λ e. e) result (event_behind t.now verb.Host (words_from words.entry.text.now words.entry.at)) }
 {
     let (node, words) = host(t, words)?;
     let (to, words) = target(t, words)?;
@@ -50,7 +50,7 @@ fn host_event(alloc: Global, t: &Topology, words: WordsLeft) -> Result<Event, Ev
 
 #[tactic(auto, unfolding(crate::specs::EventText::event_behind))]
 fn echo(t: &Topology, words: WordsLeft) -> Result<Event, EventFault>
-    ensures { Answers (λ e. e) result (event_behind t.now verb.Echo (words_from words.entry.text.now words.entry.at)) }
+    ensures { ReadsAs (λ e. e) result (event_behind t.now verb.Echo (words_from words.entry.text.now words.entry.at)) }
 {
     let (node, words) = host(t, words)?;
     let (to, words) = target(t, words)?;
@@ -67,7 +67,7 @@ fn echo(t: &Topology, words: WordsLeft) -> Result<Event, EventFault>
 
 #[tactic(auto, unfolding(crate::specs::EventText::event_behind))]
 fn raw(alloc: Global, t: &Topology, words: WordsLeft) -> Result<Event, EventFault>
-    ensures { Answers (λ e. e) result (event_behind t.now verb.Raw (words_from words.entry.text.now words.entry.at)) }
+    ensures { ReadsAs (λ e. e) result (event_behind t.now verb.Raw (words_from words.entry.text.now words.entry.at)) }
 {
     let (node, words) = host(t, words)?;
     let (bytes, words) = bytes(alloc, words, DATAGRAM_MAX)?;
@@ -76,7 +76,7 @@ fn raw(alloc: Global, t: &Topology, words: WordsLeft) -> Result<Event, EventFaul
 
 #[tactic(auto, unfolding(crate::specs::EventText::event_behind))]
 fn stranger(alloc: Global, words: WordsLeft) -> Result<Event, EventFault>
-    ensures { (t : TopologyState) → Answers (λ e. e) result (event_behind t verb.Stranger (words_from words.entry.text.now words.entry.at)) }
+    ensures { (t : TopologyState) → ReadsAs (λ e. e) result (event_behind t verb.Stranger (words_from words.entry.text.now words.entry.at)) }
 {
     let (src, words) = endpoint(words)?;
     let (dst, words) = endpoint(words)?;
@@ -86,7 +86,7 @@ fn stranger(alloc: Global, words: WordsLeft) -> Result<Event, EventFault>
 
 #[tactic(auto, unfolding(crate::specs::EventText::event_behind))]
 fn copy(words: WordsLeft) -> Result<Event, EventFault>
-    ensures { (t : TopologyState) → Answers (λ e. e) result (event_behind t verb.Copy (words_from words.entry.text.now words.entry.at)) }
+    ensures { (t : TopologyState) → ReadsAs (λ e. e) result (event_behind t verb.Copy (words_from words.entry.text.now words.entry.at)) }
 {
     let (number, words) = number(words, u64::from(ENTRY_NUMBER_MAX))?;
     let (src, words) = endpoint(words)?;
@@ -103,7 +103,7 @@ fn copy(words: WordsLeft) -> Result<Event, EventFault>
 
 #[tactic(auto, unfolding(crate::specs::EventText::event_behind))]
 fn restart(t: &Topology, words: WordsLeft) -> Result<Event, EventFault>
-    ensures { Answers (λ e. e) result (event_behind t.now verb.Restart (words_from words.entry.text.now words.entry.at)) }
+    ensures { ReadsAs (λ e. e) result (event_behind t.now verb.Restart (words_from words.entry.text.now words.entry.at)) }
 {
     let (node, words) = node(t, words)?;
     no_more(Event::Restart { node }, words)
@@ -111,7 +111,7 @@ fn restart(t: &Topology, words: WordsLeft) -> Result<Event, EventFault>
 
 #[tactic(auto, unfolding(crate::specs::EventText::event_behind))]
 fn forget(t: &Topology, words: WordsLeft) -> Result<Event, EventFault>
-    ensures { Answers (λ e. e) result (event_behind t.now verb.Forget (words_from words.entry.text.now words.entry.at)) }
+    ensures { ReadsAs (λ e. e) result (event_behind t.now verb.Forget (words_from words.entry.text.now words.entry.at)) }
 {
     let (nat, words) = nat(t, words)?;
     let (client, words) = client(t, nat, words)?;
@@ -120,7 +120,7 @@ fn forget(t: &Topology, words: WordsLeft) -> Result<Event, EventFault>
 
 #[tactic(auto, unfolding(crate::specs::EventText::event_behind))]
 fn fault(words: WordsLeft) -> Result<Event, EventFault>
-    ensures { (t : TopologyState) → Answers (λ e. e) result (event_behind t verb.Fault (words_from words.entry.text.now words.entry.at)) }
+    ensures { (t : TopologyState) → ReadsAs (λ e. e) result (event_behind t verb.Fault (words_from words.entry.text.now words.entry.at)) }
 {
     let (send, words) = number(words, u64::from(FAULT_MAX))?;
     no_more(Event::Fault { send: send as u8 }, words)
@@ -133,7 +133,7 @@ fn event_behind(
     verb: Verb,
     words: WordsLeft,
 ) -> Result<Event, EventFault>
-    ensures { Answers (λ e. e) result (event_behind t.now verb (words_from words.entry.text.now words.entry.at)) }
+    ensures { ReadsAs (λ e. e) result (event_behind t.now verb (words_from words.entry.text.now words.entry.at)) }
 {
     match verb {
         Verb::Advance => advance(words),
@@ -153,7 +153,7 @@ fn event_behind(
 
 #[tactic(auto, unfolding(crate::specs::EventText::event_of), using(crate::proofs::WordsLemmas::whole))]
 fn event_from(alloc: Global, t: &Topology, text: &[u8]) -> Result<Event, EventFault>
-    ensures { Answers (λ e. e) result (event_of t.now text.now) }
+    ensures { ReadsAs (λ e. e) result (event_of t.now text.now) }
 {
     let words = WordsLeft { text, at: 0 };
     let (verb, words) = verb(words)?;

@@ -2,13 +2,13 @@
 ghost use Rattle.std.specs.Prelude.{◌≡◌, ◌==◌, ◌≤◌, length, position, find, IfOk, IfErr};
 ghost use Rattle.std.specs.List.{position_or_len};
 ghost use Rattle.td_base.specs.Values.{same_text, number_of, ep_of};
-ghost use Rattle.events.specs.Words.{space, bytes_of};
+ghost use Rattle.events.specs.Words.{space, bytes_spelled};
 ghost use Rattle.events.specs.EventText.{no_word, a_word, word, no_more};
 ghost use Rattle.events.specs.Verbs.{verb_word, verb_of};
 ghost use Rattle.topology.specs.Named.{any_kind, named};
 ghost use Rattle.events.specs.NodeWords.{target_of};
 ghost use Rattle.topology.specs.Named.{has_host, is_nat, is_client_of};
-ghost use Rattle.events.specs.Answers.{Answers, words_from};
+ghost use Rattle.events.specs.Answers.{ReadsAs, words_from};
 ghost use Rattle.events.specs.declared.event_fault.EventFault.TheVariants.{At};
 
 use crate::event::Event;
@@ -67,7 +67,7 @@ fn next_word(words: WordsLeft) -> Result<(&[u8], WordsLeft), EventFault>
 
 /// The event, where no word is left.
 pub(crate) fn no_more(event: Event, words: WordsLeft) -> Result<Event, EventFault>
-    ensures { Answers (λ e. e) result (no_more event (words_from words.entry.text.now words.entry.at)) }
+    ensures { ReadsAs (λ e. e) result (no_more event (words_from words.entry.text.now words.entry.at)) }
 {
     if words.at > words.text.len() {
         return Ok(event);
@@ -77,7 +77,7 @@ pub(crate) fn no_more(event: Event, words: WordsLeft) -> Result<Event, EventFaul
 
 /// A number up to `most`.
 pub(crate) fn number(words: WordsLeft, most: u64) -> Result<(u64, WordsLeft), EventFault>
-    ensures value { Answers (λ x. (x.0, words_from x.1.text.now x.1.at)) result (word (number_of most) (words_from words.entry.text.now words.entry.at)) }
+    ensures value { ReadsAs (λ x. (x.0, words_from x.1.text.now x.1.at)) result (word (number_of most) (words_from words.entry.text.now words.entry.at)) }
     ensures small { IfOk result (λ x. x.0 ≤ most) }
 {
     let (word, behind) = next_word(words)?;
@@ -88,7 +88,7 @@ pub(crate) fn number(words: WordsLeft, most: u64) -> Result<(u64, WordsLeft), Ev
 
 /// An endpoint.
 pub(crate) fn endpoint(words: WordsLeft) -> Result<(Ep, WordsLeft), EventFault>
-    ensures { Answers (λ x. (x.0, words_from x.1.text.now x.1.at)) result (word ep_of (words_from words.entry.text.now words.entry.at)) }
+    ensures { ReadsAs (λ x. (x.0, words_from x.1.text.now x.1.at)) result (word ep_of (words_from words.entry.text.now words.entry.at)) }
 {
     let (word, behind) = next_word(words)?;
     let read = read_ep(word).ok();
@@ -103,7 +103,7 @@ pub(crate) fn bytes(
     most: usize,
 ) -> Result<(Octets, WordsLeft), EventFault>
     requires { most ≤ DATAGRAM_MAX }
-    ensures { Answers (λ x. (x.0, words_from x.1.text.now x.1.at)) result (word (bytes_of most) (words_from words.entry.text.now words.entry.at)) }
+    ensures { ReadsAs (λ x. (x.0, words_from x.1.text.now x.1.at)) result (word (bytes_spelled most) (words_from words.entry.text.now words.entry.at)) }
 {
     let (word, behind) = next_word(words)?;
     let bytes = bytes_word(alloc, word, most)?.ok_or(EventFault::At { place: words.at })?;
@@ -115,7 +115,7 @@ pub(crate) fn host<'a>(
     t: &Topology,
     words: WordsLeft<'a>,
 ) -> Result<(u16, WordsLeft<'a>), EventFault>
-    ensures { Answers (λ x. (x.0, words_from x.1.text.now x.1.at)) result (word (named has_host t.now) (words_from words.entry.text.now words.entry.at)) }
+    ensures { ReadsAs (λ x. (x.0, words_from x.1.text.now x.1.at)) result (word (named has_host t.now) (words_from words.entry.text.now words.entry.at)) }
 {
     let (word, behind) = next_word(words)?;
     let number = host_named(t, word).ok_or(EventFault::At { place: words.at })?;
@@ -127,7 +127,7 @@ pub(crate) fn target<'a>(
     t: &Topology,
     words: WordsLeft<'a>,
 ) -> Result<(Target, WordsLeft<'a>), EventFault>
-    ensures { Answers (λ x. (x.0, words_from x.1.text.now x.1.at)) result (word (target_of t.now) (words_from words.entry.text.now words.entry.at)) }
+    ensures { ReadsAs (λ x. (x.0, words_from x.1.text.now x.1.at)) result (word (target_of t.now) (words_from words.entry.text.now words.entry.at)) }
 {
     let (word, behind) = next_word(words)?;
     let target = target_word(t, word).ok_or(EventFault::At { place: words.at })?;
@@ -139,7 +139,7 @@ pub(crate) fn node<'a>(
     t: &Topology,
     words: WordsLeft<'a>,
 ) -> Result<(u16, WordsLeft<'a>), EventFault>
-    ensures { Answers (λ x. (x.0, words_from x.1.text.now x.1.at)) result (word (named any_kind t.now) (words_from words.entry.text.now words.entry.at)) }
+    ensures { ReadsAs (λ x. (x.0, words_from x.1.text.now x.1.at)) result (word (named any_kind t.now) (words_from words.entry.text.now words.entry.at)) }
 {
     let (word, behind) = next_word(words)?;
     let number = node_named(t, word).ok_or(EventFault::At { place: words.at })?;
@@ -151,7 +151,7 @@ pub(crate) fn nat<'a>(
     t: &Topology,
     words: WordsLeft<'a>,
 ) -> Result<(u16, WordsLeft<'a>), EventFault>
-    ensures { Answers (λ x. (x.0, words_from x.1.text.now x.1.at)) result (word (named is_nat t.now) (words_from words.entry.text.now words.entry.at)) }
+    ensures { ReadsAs (λ x. (x.0, words_from x.1.text.now x.1.at)) result (word (named is_nat t.now) (words_from words.entry.text.now words.entry.at)) }
 {
     let (word, behind) = next_word(words)?;
     let number = nat_named(t, word).ok_or(EventFault::At { place: words.at })?;
@@ -164,7 +164,7 @@ pub(crate) fn client<'a>(
     nat: u16,
     words: WordsLeft<'a>,
 ) -> Result<(u16, WordsLeft<'a>), EventFault>
-    ensures { Answers (λ x. (x.0, words_from x.1.text.now x.1.at)) result
+    ensures { ReadsAs (λ x. (x.0, words_from x.1.text.now x.1.at)) result
         (word (named (is_client_of nat) t.now) (words_from words.entry.text.now words.entry.at)) }
 {
     let (word, behind) = next_word(words)?;
@@ -191,7 +191,7 @@ fn verb_named(word: &[u8]) -> Option<Verb>
 
 /// Which event it is.
 pub(crate) fn verb(words: WordsLeft) -> Result<(Verb, WordsLeft), EventFault>
-    ensures { Answers (λ x. (x.0, words_from x.1.text.now x.1.at)) result (word verb_of (words_from words.entry.text.now words.entry.at)) }
+    ensures { ReadsAs (λ x. (x.0, words_from x.1.text.now x.1.at)) result (word verb_of (words_from words.entry.text.now words.entry.at)) }
 {
     let (word, behind) = next_word(words)?;
     let verb = verb_named(word).ok_or(EventFault::At { place: words.at })?;

@@ -1,6 +1,6 @@
 //! What one word of a text says.
 ghost use Rattle.std.specs.Prelude.{◌≡◌, ◌≤◌, IfOk};
-ghost use Rattle.events.specs.Words.{hex_of, bytes_of};
+ghost use Rattle.events.specs.Words.{hex_of, bytes_spelled};
 
 use std::alloc::Global;
 use td_base::{DATAGRAM_MAX, NoMemory};
@@ -27,14 +27,14 @@ fn digits_word(alloc: Global, digits: &[u8], most: usize) -> Result<Option<Octet
 }
 
 /// The bytes that a word says, at most `most` of them.
-#[tactic(auto, unfolding(crate::specs::Words::bytes_of))]
+#[tactic(auto, unfolding(crate::specs::Words::bytes_spelled))]
 pub(crate) fn bytes_word(
     alloc: Global,
     word: &[u8],
     most: usize,
 ) -> Result<Option<Octets>, NoMemory>
     requires { most ≤ DATAGRAM_MAX }
-    ensures { IfOk result (λ o. o ≡ bytes_of most word.now) }
+    ensures { IfOk result (λ o. o ≡ bytes_spelled most word.now) }
 {
     if word == b"-".as_slice() {
         return Ok(Some(Octets::new(alloc, b"")?));

@@ -17,7 +17,7 @@ use Rattle.legal.specs.Past.{now, journal, nat_history, armed}
 use Rattle.legal.specs.Emit.{by_way}
 use Rattle.legal.specs.Legal.{Follows}
 use Rattle.legal.proofs.NatPasts.{set_up_past}
-use Rattle.settled.specs.Clients.{address_in}
+use Rattle.settled.specs.Clients.{client_address}
 use Rattle.first_packets.specs.Schedules.{HasNoFault}
 use Rattle.first_packets.proofs.Ways.{Way, is_calm, IsCalmNext, still_way}
 use Rattle.first_packets.proofs.Deliveries.{Did}
@@ -75,12 +75,12 @@ module _ (laws : PacketLaws) (p : Pair) (H : List Full) (q : Full) (r : IsRecord
   next_is calm moment = record { follows = follows; calm = calm; moment = moment }
 
   -- of node k, neither of whom is
-  pub same_address : (s : Side) → journal s.n (q ∷ H) ≡ journal s.n H → address_in lab (q ∷ H) s.n s.c ≡ address_in lab H s.n s.c
+  pub same_address : (s : Side) → journal s.n (q ∷ H) ≡ journal s.n H → client_address lab (q ∷ H) s.n s.c ≡ client_address lab H s.n s.c
   same_address s same = ap (λ (j : Journal). (qualification (setup p.t s) j).address) same
 
   pub same_after : (s : Side) (e : Entry) → journal s.n (q ∷ H) ≡ with_entry (journal s.n H) e
       → (qualification (setup p.t s) (with_entry (journal s.n H) e)).address ≡ (qualification (setup p.t s) (journal s.n H)).address
-      → address_in lab (q ∷ H) s.n s.c ≡ address_in lab H s.n s.c
+      → client_address lab (q ∷ H) s.n s.c ≡ client_address lab H s.n s.c
   same_after s e later stays = ap (λ (j : Journal). (qualification (setup p.t s) j).address) later ∙ stays
 
   pub keeps_waiting : (j : Journal) → q.moment ≡ now H → journal b.n (q ∷ H) ≡ j → Keeps j (now H) a.own [] → Keeps (journal b.n (q ∷ H)) (now (q ∷ H)) a.own []

@@ -11,7 +11,7 @@ use Rattle.td_base.specs.declared.endpoint.Ep.{Ep}
 use Rattle.td_base.specs.Ip4.{same_ip}
 use Rattle.teredo_addr.specs.Teredo.{embedded}
 use Rattle.nat_kinds.specs.declared.settings.NatSettings.{NatSettings}
-use Rattle.nat_kinds.specs.History.{Entry as NatEntry, counting}
+use Rattle.nat_kinds.specs.History.{NatEntry, counting}
 use Rattle.teredo_node.specs.Step.{Send}
 use Rattle.teredo_node.specs.Journal.{Entry}
 use Rattle.topology.specs.declared.client_node.ClientNode.{ClientNode}

@@ -23,9 +23,9 @@ use Rattle.teredo_node.specs.declared.fate.Fate.TheVariants as fate
 use Rattle.teredo_node.specs.Step.{Step}
 use Rattle.teredo_node.specs.Journal.{arrived}
 use Rattle.server_core.specs.declared.server.ServerSettings.{ServerSettings}
-use Rattle.server_core.specs.Conditions.{is_other_kind, is_own, own_address, is_for_server, is_solicit, is_solicitation, is_forged, is_for_client, is_not_ours}
+use Rattle.server_core.specs.Conditions.{is_other_kind, is_own, server_link_local, is_for_server, is_solicit, is_solicitation, is_forged, is_for_client, is_not_ours}
 use Rattle.server_core.specs.Conditions.{is_unusable, is_looped}
-use Rattle.server_core.specs.Rules.{seen}
+use Rattle.server_core.specs.Rules.{server_seen}
 use Rattle.server_core.specs.Outputs.{forwarded}
 use Rattle.server_core.specs.Server.{sends_one, server_row}
 use Rattle.topology.specs.declared.server_node.ServerNode.{ServerNode}
@@ -96,8 +96,8 @@ module _ (laws : PacketLaws) (p : Pair) (is : IsPair p) where
   -- the bubble isn't for the server itself
   not_for_server : is_for_server s v.packet ≡ false
   unfolding is_for_server
-  not_for_server = refused (same_ip6 other (own_address s)) (λ h.
-      false≢true (sym ((laws.link true (server_ep row.primary) server_made).not_teredo) ∙ ap is_teredo (sym (same_ip6-true other (own_address s) h))
+  not_for_server = refused (same_ip6 other (server_link_local s)) (λ h.
+      false≢true (sym ((laws.link true (server_ep row.primary) server_made).not_teredo) ∙ ap is_teredo (sym (same_ip6-true other (server_link_local s) h))
       ∙ is.receiver.address.of.teredo))
 
   no_solicitation : is_solicitation v.packet ≡ false
@@ -133,7 +133,7 @@ module _ (laws : PacketLaws) (p : Pair) (is : IsPair p) where
       (ap (λ (ip : Ip4). same_ip ip row.primary) (is.receiver.address.of.server_is ∙ is.receiver.primary) ∙ same_ip-self row.primary)
 
   -- so all lines but one are passed
-  for_own_client : IsForOwnClient (seen s (embedded own) v)
+  for_own_client : IsForOwnClient (server_seen s (embedded own) v)
   for_own_client = record {
     unkeyed = unkeyed;
     short = small;

@@ -18,7 +18,7 @@ use Rattle.legal.specs.Emit.{Route, reaches, route, entry_of, sendings, handed_b
 use Rattle.legal.specs.Next.{Numbered, plain, acts, no_ep, dst_of, input_of}
 use Rattle.legal.specs.Kinds as kinds
 use Rattle.legal.specs.Kinds.{Delivers, Hands, Quiet, shut, strayed, missing, none_left, settled, uncopied, hosted, restarted, forgot, faulted, Kind, quiet}
-use Rattle.legal.specs.Kinds.{put, copied, ticks, handed, reached, event_of}
+use Rattle.legal.specs.Kinds.{put, copied, ticks, handed, reached, asked_event}
 use Rattle.legal.proofs.MadeInputs.{entry_input}
 use Rattle.legal.proofs.Growth.{hands_still}
 use Rattle.first_packets.proofs.Bools.{same_number}
@@ -120,7 +120,7 @@ delivery lab H q number (ticks ms x asked due within is) by = undelivered q numb
 delivery lab H q number (handed v n x a hands at is) by = undelivered q number (ap (λ (z : Full). z.delivered) is) by
 delivery lab H q number (reached k n x a delivers at goes there is) by =
     to_node n x a (same_entry H q k number x (ap (λ (z : Full). z.delivered) is) by at) goes there (delivers_calm H q.asked k delivers)
-    (did lab H (event_of q) (act.Deliver k) (Some k) n (dst_of x) (input_of x) a q refl is)
+    (did lab H (asked_event q) (act.Deliver k) (Some k) n (dst_of x) (input_of x) a q refl is)
 
 -- PACKETS OF HOSTS
 
@@ -173,7 +173,7 @@ module _ (r : Full) (e : Entry) (x : List ℕ) (did_it : r.entry ≡ Some e) (wa
       let number : i ≡ n = ap (λ (o : Option ℕ). unwrap_or o i) (sym (ap (λ (z : Full). z.node) is) ∙ node) in
       let bytes : y ≡ x = sym (ap bytes_of (input_is (entry_of lab H (now H) i no_ep (given y) a) (given y) (ap (λ (z : Full). z.entry) is)
       (entry_input lab H (now H) i no_ep (given y) a))) in
-      let here : Did lab H r i a (entry_of lab H (now H) i no_ep (given y) a) = did lab H (event_of r) (plain v) None i no_ep (given y) a r
+      let here : Did lab H r i a (entry_of lab H (now H) i no_ep (given y) a) = did lab H (asked_event r) (plain v) None i no_ep (given y) a r
       (hands_still lab H r.asked v i y hands) is in
       record {
         node = a;

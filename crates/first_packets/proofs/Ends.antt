@@ -11,7 +11,7 @@ use Rattle.td_base.specs.Reach.{is_usable, is_global}
 use Rattle.teredo_addr.specs.Teredo.{server_in, embedded}
 use Rattle.nat_kinds.specs.declared.settings.NatSettings.{NatSettings}
 use Rattle.nat_kinds.specs.declared.limits.TheConstants.{FIRST_PORT, MAPPINGS_MAX}
-use Rattle.nat_kinds.specs.History.{Entry as NatEntry}
+use Rattle.nat_kinds.specs.History.{NatEntry}
 use Rattle.nat_kinds.specs.Mappings.{live_port}
 use Rattle.nat_kinds.specs.Answer.{live_after}
 use Rattle.nat_kinds.specs.Entering.{lets_in}

@@ -7,7 +7,7 @@ use Rattle.teredo_addr.specs.Teredo.{embedded}
 use Rattle.teredo_addr.specs.Laws.{LinkLocalTells}
 use Rattle.bubble.specs.Laws.{BubbleReadsBack, PacketIsPayload}
 use Rattle.nat_kinds.specs.declared.settings.NatSettings.{NatSettings}
-use Rattle.nat_kinds.specs.History.{Entry as NatEntry}
+use Rattle.nat_kinds.specs.History.{NatEntry}
 use Rattle.nat_kinds.specs.Mappings.{live_port}
 use Rattle.nat_kinds.specs.Answer.{live_after}
 use Rattle.nat_kinds.specs.Laws.{IsPast, SameKey}
@@ -38,7 +38,7 @@ use Rattle.legal.specs.Legal.{Follows, Grown}
 use Rattle.legal.specs.NatGrowth.{EachNatGrows}
 use Rattle.legal.specs.Frame.{EachFrames}
 use Rattle.legal.specs.Laws.{EachClientIsJournal}
-use Rattle.settled.specs.Clients.{address_in, asks_at}
+use Rattle.settled.specs.Clients.{client_address, asks_at}
 use Rattle.first_packets.proofs.Ways.{Way, IsCalmNext, still_way}
 use Rattle.first_packets.proofs.Known.{PeerLaws}
 use Rattle.first_packets.proofs.Ends.{EndLaws}
@@ -108,16 +108,16 @@ Unbarred j n peer = is_barred n (known (mentions j.entries) n peer) ≡ false
 -- both have their addresses, and their servers' datagrams come in; the receiver keeps nothing for the sender
 pub record Ground (p : Pair) (H : List Full) : Type 0 where
   pub grown : Grown (lab_in p) H
-  pub sender : address_in (lab_in p) H p.a.n p.a.c ≡ Some p.a.own
-  pub receiver : address_in (lab_in p) H p.b.n p.b.c ≡ Some p.b.own
+  pub sender : client_address (lab_in p) H p.a.n p.a.c ≡ Some p.a.own
+  pub receiver : client_address (lab_in p) H p.b.n p.b.c ≡ Some p.b.own
   pub sender_way : Way (lab_in p) H p.a.c.nat (asks_at (lab_in p) p.a.c) (embedded p.a.own).port p.a.c.inside
   pub receiver_way : Way (lab_in p) H p.b.c.nat (asks_at (lab_in p) p.b.c) (embedded p.b.own).port p.b.c.inside
   pub keeps_nothing : Keeps (journal p.b.n H) (now H) p.a.own []
 
 -- both keep their addresses
 abbrev pub KeepAddresses : Pair → List Full → Full → Type 0
-KeepAddresses p H q = (address_in (lab_in p) (q ∷ H) p.a.n p.a.c ≡ address_in (lab_in p) H p.a.n p.a.c)
-    × (address_in (lab_in p) (q ∷ H) p.b.n p.b.c ≡ address_in (lab_in p) H p.b.n p.b.c)
+KeepAddresses p H q = (client_address (lab_in p) (q ∷ H) p.a.n p.a.c ≡ client_address (lab_in p) H p.a.n p.a.c)
+    × (client_address (lab_in p) (q ∷ H) p.b.n p.b.c ≡ client_address (lab_in p) H p.b.n p.b.c)
 
 -- after a record that follows, at once, and leaves NATs, it holds again
 pub ground_on : PacketLaws → (p : Pair) (H : List Full) (q : Full) → IsCalmNext (lab_in p) H q → Ground p H → KeepAddresses p H q
@@ -135,7 +135,7 @@ ground_on laws p H q next ground addresses keeps = record {
 pub record HasOwn (lab : Lab) (H : List Full) (n : ℕ) (c : ClientNode) (own : Ip6) : Type 0 where
   pub grown : Grown lab H
   pub there : node_at lab.topology n ≡ Some (client c)
-  pub address : address_in lab H n c ≡ Some own
+  pub address : client_address lab H n c ≡ Some own
 
 -- so it is qualified
 pub is_here : PacketLaws → (lab : Lab) (H : List Full) (n : ℕ) (c : ClientNode) (own : Ip6) → HasOwn lab H n c own

@@ -9,7 +9,7 @@ use Rattle.teredo_node.specs.declared.fate.Fate.{Fate}
 use Rattle.teredo_node.specs.Journal.{Entry, is_changed}
 use Rattle.peer_list.specs.declared.limits.TheConstants.{LISTED_MS, PEERS_MAX, TRY_GAP_MS, TRIES_MAX}
 use Rattle.peer_list.specs.Mentions.{Mention, is_peer}
-use Rattle.peer_list.specs.Listed.{is_young, is_listed, listed, has_room}
+use Rattle.peer_list.specs.Listed.{is_younger, is_listed, listed, has_room}
 use Rattle.peer_list.specs.Peers.{Peer, no_peer, peer_at, known}
 use Rattle.peer_list.specs.Judged.{is_spent, is_barred}
 use Rattle.peer_list.specs.Laws.{tries_after, after, OneEntry, peer_if, ListedIsKnown}
@@ -29,7 +29,7 @@ pub record Touches (e : Entry) (n : ℕ) (p : Ip6) : Type 0 where
   pub keeps : is_changed e.step.fate ≡ false
   pub touches : (bearing_of e.step.fate e).touches ≡ true
 
-is_now : (n : ℕ) → is_young LISTED_MS n n ≡ true
+is_now : (n : ℕ) → is_younger LISTED_MS n n ≡ true
 is_now n = grind (arith, nat_tests)
 
 module _ (laws : PeerLaws) (e : Entry) (es : List Entry) (n : ℕ) (p : Ip6) (is : Touches e n p) where
@@ -41,11 +41,11 @@ module _ (laws : PeerLaws) (e : Entry) (es : List Entry) (n : ℕ) (p : Ip6) (is
   seen_after =
       ap (λ (ms : List Mention). peer_at ms n p) (laws.next e es ∙ ap (λ (b : Bool). cond b [] (mention e ∷ mentions es)) is.keeps)
       ∙ laws.one (mention e) (mentions es) n p
-      ∙ ap (λ (b : Bool). peer_if b (mention e).bearing.touches (is_young LISTED_MS n e.moment) (mention e) (peer_at (mentions es) e.moment p)
+      ∙ ap (λ (b : Bool). peer_if b (mention e).bearing.touches (is_younger LISTED_MS n e.moment) (mention e) (peer_at (mentions es) e.moment p)
       (peer_at (mentions es) n p)) (ap (is_peer p) is.peer ∙ same_ip6-self p)
-      ∙ ap (λ (b : Bool). peer_if true b (is_young LISTED_MS n e.moment) (mention e) (peer_at (mentions es) e.moment p) (peer_at (mentions es) n p)) is.touches
+      ∙ ap (λ (b : Bool). peer_if true b (is_younger LISTED_MS n e.moment) (mention e) (peer_at (mentions es) e.moment p) (peer_at (mentions es) n p)) is.touches
       ∙ ap (λ (b : Bool). peer_if true true b (mention e) (peer_at (mentions es) e.moment p) (peer_at (mentions es) n p))
-      (ap (is_young LISTED_MS n) is.moment ∙ is_now n)
+      (ap (is_younger LISTED_MS n) is.moment ∙ is_now n)
       ∙ ap (λ (m : ℕ). Some (after (mention e) (unwrap_or (peer_at (mentions es) m p) no_peer))) is.moment
 
   -- what is known then
@@ -74,7 +74,7 @@ module _ (laws : PeerLaws) (e : Entry) (es : List Entry) (n : ℕ) (p : Ip6) (is
 
 -- one that wasn't tried isn't barred
 abbrev barred_by : ℕ → List ℕ → Bool
-barred_by n ms = nat_le TRIES_MAX (length (filter (is_young LISTED_MS n) ms)) || list_any (is_young TRY_GAP_MS n) (filter (is_young LISTED_MS n) ms)
+barred_by n ms = nat_le TRIES_MAX (length (filter (is_younger LISTED_MS n) ms)) || list_any (is_younger TRY_GAP_MS n) (filter (is_younger LISTED_MS n) ms)
 
 pub untried : (n : ℕ) (peer : Peer) → peer.tries ≡ [] → is_barred n peer ≡ false
 unfolding is_barred is_spent
@@ -83,4 +83,4 @@ untried n peer none = ap (barred_by n) none
 -- nor is it spent
 pub unspent : (n : ℕ) (peer : Peer) → peer.tries ≡ [] → is_spent n peer ≡ false
 unfolding is_spent
-unspent n peer none = ap (λ (ms : List ℕ). nat_le TRIES_MAX (length (filter (is_young LISTED_MS n) ms))) none
+unspent n peer none = ap (λ (ms : List ℕ). nat_le TRIES_MAX (length (filter (is_younger LISTED_MS n) ms))) none

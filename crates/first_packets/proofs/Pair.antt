@@ -25,7 +25,7 @@ use Rattle.topology.specs.Chains.{nat_set_up}
 use Rattle.topology.specs.NodeRules.{has_address, AddressesAreApart}
 use Rattle.legal.specs.Lab.{Draws, Lab, flat_lab}
 use Rattle.legal.specs.Settings.{client_settings}
-use Rattle.settled.specs.Clients.{is_symmetric, is_cone}
+use Rattle.settled.specs.Clients.{is_symmetric, is_cone_kind}
 use Rattle.first_packets.specs.FirstPacket.{GoesBetween}
 use Rattle.first_packets.proofs.Bools.{neither, refused}
 use Rattle.first_packets.proofs.Addresses.{other_kind, nat_has, server_has, server_has_too}
@@ -132,7 +132,7 @@ asked_itself Port src d same = same
 asked_itself Symmetric src d same = same
 
 -- at a cone NAT it asked everybody
-pub asked_all : (kind : NatKind) (src : Ep) (d : Outward) → is_cone kind ≡ true → Asked kind src d
+pub asked_all : (kind : NatKind) (src : Ep) (d : Outward) → is_cone_kind kind ≡ true → Asked kind src d
 asked_all Cone src d h = tt
 asked_all Restricted src d h = absurd (false≢true h)
 asked_all Port src d h = absurd (false≢true h)
@@ -148,8 +148,8 @@ pub record IsPair (p : Pair) : Type 0 where
   pub apart : p.a.c.nat ≢ p.b.c.nat
   pub sender_kind : is_symmetric (nat_by p.t p.a).kind ≡ false
   pub receiver_kind : is_symmetric (nat_by p.t p.b).kind ≡ false
-  pub sender_cone : has_cone p.a.own ≡ true → is_cone (nat_by p.t p.a).kind ≡ true
-  pub receiver_cone : has_cone p.b.own ≡ true → is_cone (nat_by p.t p.b).kind ≡ true
+  pub sender_cone : has_cone p.a.own ≡ true → is_cone_kind (nat_by p.t p.a).kind ≡ true
+  pub receiver_cone : has_cone p.b.own ≡ true → is_cone_kind (nat_by p.t p.b).kind ≡ true
   pub packet : GoesBetween p.a.own p.b.own p.x
   pub small : is_big (fields_in p.x) ≡ false
   pub bytes : IsBytes p.x

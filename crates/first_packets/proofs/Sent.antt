@@ -7,7 +7,7 @@ use Rattle.td_base.specs.declared.endpoint.Ep.{Ep}
 use Rattle.td_base.specs.Ip4.{same_ip}
 use Rattle.nat_kinds.specs.declared.outgoing.Outward.{Outward}
 use Rattle.nat_kinds.specs.declared.settings.NatSettings.{NatSettings}
-use Rattle.nat_kinds.specs.History.{Entry, Out, counting}
+use Rattle.nat_kinds.specs.History.{NatEntry, Out, counting}
 use Rattle.nat_kinds.specs.Answer.{nat_answer}
 use Rattle.teredo_node.specs.Step.{Send}
 use Rattle.topology.specs.Chains.{Passing, nat_set_up, outs_at, Crossing, passing, answered, crossing}
@@ -31,7 +31,7 @@ module _ (law : CountingHolds) (lab : Lab) (H : List Full) (m k : ℕ) (inside :
   leaving = record { ip = s.external; port = port }
 
   -- the NAT's history with what was let out
-  abbrev pub with_outs : List Passing → List Entry
+  abbrev pub with_outs : List Passing → List NatEntry
   with_outs passed = outs_at k passed ++ nat_history lab k H
 
   -- such a datagram
@@ -72,14 +72,14 @@ module _ (law : CountingHolds) (lab : Lab) (H : List Full) (m k : ℕ) (inside :
             let ps : List Passing = passing k m inside x.to port ∷ passed in
             let crossed : crossing_unless false lab H m x.to (k ∷ []) inside passed ≡ record { leaves = Ok leaving; passed = ps } =
             ap (answered lab.topology m k inside x.to passed (crossing lab.topology (nat_pasts lab H) m x.to [])) answer in
-            let held : Holds s (with_outs ps) m inside port = subst (λ (h : List Entry). Holds s h m inside port) (sym (one_more x.to passed))
+            let held : Holds s (with_outs ps) m inside port = subst (λ (h : List NatEntry). Holds s h m inside port) (sym (one_more x.to passed))
             (holds_on s (with_outs passed) m inside port holds (out_to x.to) refl answer) in
             let rest = ih ps held (subst (λ (c : Crossing). list_any is_fault (after_one false c).made ≡ false) crossed good) in
-            let counted : Contains (counting s.idle m (with_outs ps)) (out_to x.to) = subst (λ (h : List Entry). Contains (counting s.idle m h) (out_to x.to))
+            let counted : Contains (counting s.idle m (with_outs ps)) (out_to x.to) = subst (λ (h : List NatEntry). Contains (counting s.idle m h) (out_to x.to))
             (sym (one_more x.to passed)) (counts_itself s.idle m (out_to x.to) (with_outs passed) refl lives) in
             subst (λ (c : Crossing). AllLeave passed (x ∷ xs) (after_one false c)) (sym crossed) (record {
               made = ap (λ (z : List Made). sent (udp leaving x.to x.bytes) ∷ z) rest.made;
-              lasting = λ d c. rest.lasting d (subst (λ (h : List Entry). Contains (counting s.idle m h) d) (sym (one_more x.to passed))
+              lasting = λ d c. rest.lasting d (subst (λ (h : List NatEntry). Contains (counting s.idle m h) d) (sym (one_more x.to passed))
                   (counts_on s.idle m (out_to x.to) (with_outs passed) d c));
               each = (rest.lasting (out_to x.to) counted, rest.each);
             })

@@ -11,7 +11,7 @@ use Rattle.nat_kinds.specs.declared.kind.NatKind.TheVariants.{Cone, Restricted, 
 use Rattle.nat_kinds.specs.declared.outgoing.Outward.{Outward}
 use Rattle.nat_kinds.specs.declared.settings.NatSettings.{NatSettings}
 use Rattle.nat_kinds.specs.declared.refusal.NatRefusal.TheVariants as refusal
-use Rattle.nat_kinds.specs.History.{Entry, Out, is_young, counting}
+use Rattle.nat_kinds.specs.History.{NatEntry, Out, is_young, counting}
 use Rattle.nat_kinds.specs.Mappings.{live_port}
 use Rattle.nat_kinds.specs.Answer.{live_after, port_for, nat_answer}
 use Rattle.nat_kinds.specs.Laws.{latest_moment, IsPast, WasAsked}
@@ -28,7 +28,7 @@ use Rattle.settled.specs.Clients.{is_symmetric}
 
 -- the law that a datagram that counts holds its port
 abbrev pub CountingHolds : Type 0
-CountingHolds = (s : NatSettings) (h : List Entry) (n : ℕ) → IsPast s h n → (e : Outward) → Contains (counting s.idle n h) e
+CountingHolds = (s : NatSettings) (h : List NatEntry) (n : ℕ) → IsPast s h n → (e : Outward) → Contains (counting s.idle n h) e
     → live_port s.kind e.inside e.dst (live_after s h n) ≡ Some e.port
 
 -- more in front
@@ -41,14 +41,14 @@ in_front x xs = (0, omega arith, refl)
 -- MORE DATAGRAMS
 
 -- one more leaves what counts
-pub counts_on : (idle n : ℕ) (e : Outward) (h : List Entry) (d : Outward) → Contains (counting idle n h) d → Contains (counting idle n (Out e ∷ h)) d
+pub counts_on : (idle n : ℕ) (e : Outward) (h : List NatEntry) (d : Outward) → Contains (counting idle n h) d → Contains (counting idle n (Out e ∷ h)) d
 counts_on idle n e h d c = by (is_young idle n e) where
   by : (b : Bool) → Contains (cond b (e ∷ counting idle n h) (counting idle n h)) d
   by true = behind e (counting idle n h) d c
   by false = c
 
 -- the one that goes out at a moment counts then
-pub counts_itself : (idle n : ℕ) (e : Outward) (h : List Entry) → e.moment.0 ≡ n → 0 < idle → Contains (counting idle n (Out e ∷ h)) e
+pub counts_itself : (idle n : ℕ) (e : Outward) (h : List NatEntry) → e.moment.0 ≡ n → 0 < idle → Contains (counting idle n (Out e ∷ h)) e
 counts_itself idle n e h at positive = by (is_young idle n e) young where
   young : is_young idle n e ≡ true
   young = subst (λ (m : ℕ). nat_lt (n - m) idle ≡ true) (sym at) (lasts idle n positive) where
@@ -60,12 +60,12 @@ counts_itself idle n e h at positive = by (is_young idle n e) young where
   by false g = absurd (false≢true g)
 
 -- so do many
-module _ (lab : Lab) (k idle n : ℕ) (h : List Entry) (d : Outward) where
-  all_out : (c : ClientNode) (m : ℕ) (added : List Entry) → AllByRecursion (IsOutOf lab c m k) added → Contains (counting idle n h) d
+module _ (lab : Lab) (k idle n : ℕ) (h : List NatEntry) (d : Outward) where
+  all_out : (c : ClientNode) (m : ℕ) (added : List NatEntry) → AllByRecursion (IsOutOf lab c m k) added → Contains (counting idle n h) d
       → Contains (counting idle n (added ++ h)) d
   all_out c m [] a held = held
   all_out c m (x ∷ xs) a held =
-      subst (λ (y : Entry). Contains (counting idle n (y ∷ xs ++ h)) d) (sym a.0.is)
+      subst (λ (y : NatEntry). Contains (counting idle n (y ∷ xs ++ h)) d) (sym a.0.is)
       (counts_on idle n a.0.datagram (xs ++ h) d (all_out c m xs a.1 held))
 
 -- RECORDS THAT LEAVE NATS
@@ -77,9 +77,9 @@ is_calm (event.Forget n who) = false
 is_calm _ = true
 
 -- what counted counts after such a record
-module _ (lab : Lab) (r : Full) (calm : is_calm r.asked ≡ true) (k idle n : ℕ) (h : List Entry) (d : Outward) where
-  grows_on : (added : List Entry) → NatGrows lab r k added → Contains (counting idle n h) d → Contains (counting idle n (added ++ h)) d
-  grows_on added (stays none) held = subst (λ (z : List Entry). Contains (counting idle n (z ++ h)) d) (sym none) held
+module _ (lab : Lab) (r : Full) (calm : is_calm r.asked ≡ true) (k idle n : ℕ) (h : List NatEntry) (d : Outward) where
+  grows_on : (added : List NatEntry) → NatGrows lab r k added → Contains (counting idle n h) d → Contains (counting idle n (added ++ h)) d
+  grows_on added (stays none) held = subst (λ (z : List NatEntry). Contains (counting idle n (z ++ h)) d) (sym none) held
   grows_on added (restarts asked is) held = absurd (false≢true (sym (ap is_calm asked) ∙ calm))
   grows_on added (forgets who c asked there is) held = absurd (false≢true (sym (ap is_calm asked) ∙ calm))
   grows_on added (lets_out j c node there outs) held = all_out lab k idle n h d c r.moment added outs held
@@ -126,14 +126,14 @@ any_dst Port inside dst other live h = refl
 any_dst Symmetric inside dst other live h = absurd (false≢true (sym h))
 
 -- an inside endpoint holds a port
-pub record Holds (s : NatSettings) (h : List Entry) (n : ℕ) (inside : Ep) (port : ℕ) : Type 0 where
+pub record Holds (s : NatSettings) (h : List NatEntry) (n : ℕ) (inside : Ep) (port : ℕ) : Type 0 where
   pub past : IsPast s h n
   pub datagram : Outward
   pub counts : Contains (counting s.idle n h) datagram
   pub left : datagram.inside ≡ inside
   pub by_port : datagram.port ≡ port
 
-module _ (s : NatSettings) (h : List Entry) (n : ℕ) (inside : Ep) (port : ℕ) (holds : Holds s h n inside port) where
+module _ (s : NatSettings) (h : List NatEntry) (n : ℕ) (inside : Ep) (port : ℕ) (holds : Holds s h n inside port) where
   -- it goes on from that port
   pub held_port : CountingHolds → (dst : Ep) → is_symmetric s.kind ≡ false → live_port s.kind inside dst (live_after s h n) ≡ Some port
   held_port law dst kind =

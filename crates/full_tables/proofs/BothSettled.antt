@@ -63,7 +63,7 @@ use Rattle.settled.specs.Settled.{IsSettled}
 use Rattle.td_base.specs.Ep.{server_ep}
 use Rattle.td_base.specs.declared.side.Side.TheVariants.{Primary}
 use Rattle.bubble.specs.Bubbles.{bubble_bytes}
-use Rattle.nat_kinds.specs.History.{Entry as NatEntry, Out}
+use Rattle.nat_kinds.specs.History.{NatEntry, Out}
 use Rattle.legal.specs.Settings.{server_settings}
 use Rattle.full_tables.proofs.TwoClients.{ep, the_server, nat_of_a, nat_of_b, a, b, topology, lab, a_own, b_own}
 

@@ -7,7 +7,7 @@ use Rattle.td_base.specs.Ip4.{same_ip}
 use Rattle.td_base.specs.Ip6.{IsIp6, same_ip6}
 use Rattle.td_base.specs.declared.ipv6.Ip6.{Ip6}
 use Rattle.teredo_addr.specs.Teredo.{server_in, embedded}
-use Rattle.nat_kinds.specs.History.{Entry as NatEntry}
+use Rattle.nat_kinds.specs.History.{NatEntry}
 use Rattle.nat_kinds.specs.Mappings.{live_port}
 use Rattle.nat_kinds.specs.Answer.{live_after}
 use Rattle.nat_kinds.specs.Entering.{lets_in}
@@ -21,7 +21,7 @@ use Rattle.topology.specs.declared.client_node.ClientNode.{ClientNode}
 use Rattle.history.specs.Full.{Full}
 use Rattle.legal.specs.Settings.{client_settings}
 use Rattle.legal.specs.Past.{now, journal, nat_history}
-use Rattle.settled.specs.Clients.{address_in, asks_at, nat_behind}
+use Rattle.settled.specs.Clients.{client_address, asks_at, nat_behind}
 use Rattle.settled.specs.Settled.{IsSettled}
 use Rattle.full_tables.proofs.PeerAddresses.{at_nat, first_peers, count_is, are_bytes, other_is_new}
 use Rattle.full_tables.proofs.ManyPeers.{ListsThese, listed_is, not_listed, room_by_count}
@@ -76,7 +76,7 @@ many_are laws law = is_filled laws fills_a is_filler both_settled (record {
 record IsAsBefore (H G : List Full) (n : ℕ) (c : ClientNode) : Type 0 where
   moment : now G ≡ now H
   nat : nat_history lab c.nat G ≡ nat_history lab c.nat H
-  address : address_in lab G n c ≡ address_in lab H n c
+  address : client_address lab G n c ≡ client_address lab H n c
 
 -- so it is settled as before
 settled_still : (H G : List Full) (n : ℕ) (c : ClientNode) (own : Ip6) → IsAsBefore H G n c → IsSettled lab H n c own → IsSettled lab G n c own

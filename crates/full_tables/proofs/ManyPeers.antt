@@ -8,7 +8,7 @@ use Rattle.td_base.specs.declared.ipv6.Ip6.{Ip6}
 use Rattle.td_base.specs.Ip6.{same_ip6, same_ip6-self}
 use Rattle.peer_list.specs.declared.limits.TheConstants.{LISTED_MS, PEERS_MAX}
 use Rattle.peer_list.specs.Mentions.{Mention, is_peer, is_touch_of}
-use Rattle.peer_list.specs.Listed.{is_young, is_recent_touch, is_listed, with_peer, touched, listed, has_room}
+use Rattle.peer_list.specs.Listed.{is_younger, is_recent_touch, is_listed, with_peer, touched, listed, has_room}
 use Rattle.peer_list.specs.Peers.{no_peer, known}
 use Rattle.peer_list.specs.Laws.{ListedAre, Unlisted}
 
@@ -40,7 +40,7 @@ others_stay p (q ∷ ps) none = by (same_ip6 p q) refl none (others_stay p ps) w
   by true is none rest = absurd (false≢true (sym none))
   by false is none rest = ap (λ (z : List Ip6). q ∷ z) (rest none)
 
-is_now : (n : ℕ) → is_young LISTED_MS n n ≡ true
+is_now : (n : ℕ) → is_younger LISTED_MS n n ≡ true
 is_now n = grind (arith, nat_tests)
 
 -- ONE MORE
@@ -53,7 +53,7 @@ module _ (e : Mention) (j : List Mention) (n : ℕ) (p : Ip6) (is : TouchesNow e
       ap (λ (o : Option Ip6). is_recent_touch LISTED_MS n (cond (cond (is_peer p o) e.bearing.touches false) (Some e) (find (is_touch_of p) j))) is.peer
       ∙ ap (λ (b : Bool). is_recent_touch LISTED_MS n (cond (cond b e.bearing.touches false) (Some e) (find (is_touch_of p) j))) (same_ip6-self p)
       ∙ ap (λ (b : Bool). is_recent_touch LISTED_MS n (cond b (Some e) (find (is_touch_of p) j))) is.touches
-      ∙ ap (λ (m : ℕ). is_young LISTED_MS n m) is.moment
+      ∙ ap (λ (m : ℕ). is_younger LISTED_MS n m) is.moment
       ∙ is_now n
 
   -- who was listed still is
@@ -61,7 +61,7 @@ module _ (e : Mention) (j : List Mention) (n : ℕ) (p : Ip6) (is : TouchesNow e
   unfolding is_listed
   still_listed q before = by (is_touch_of q e) where
     by : (b : Bool) → is_recent_touch LISTED_MS n (cond b (Some e) (find (is_touch_of q) j)) ≡ true
-    by true = ap (λ (m : ℕ). is_young LISTED_MS n m) is.moment ∙ is_now n
+    by true = ap (λ (m : ℕ). is_younger LISTED_MS n m) is.moment ∙ is_now n
     by false = before
 
   all_still : (ps : List Ip6) → AllByRecursion (λ (q : Ip6). is_listed q n j ≡ true) ps → AllByRecursion (λ (q : Ip6). is_listed q n (e ∷ j) ≡ true) ps

@@ -7,7 +7,7 @@ use Rattle.td_base.specs.Ep.{same_ep}
 use Rattle.td_base.specs.declared.endpoint.Ep.{Ep}
 use Rattle.td_base.specs.declared.side.Side.TheVariants.{Primary}
 use Rattle.td_base.specs.declared.span.Span.{Span}
-use Rattle.nat_kinds.specs.History.{Entry as NatEntry}
+use Rattle.nat_kinds.specs.History.{NatEntry}
 use Rattle.nat_kinds.specs.Entering.{lets_in}
 use Rattle.server_core.specs.Server.{server_row}
 use Rattle.teredo_node.specs.Step.{Send}

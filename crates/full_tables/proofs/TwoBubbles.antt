@@ -9,7 +9,7 @@ use Rattle.td_base.specs.declared.ipv6.Ip6.{Ip6}
 use Rattle.td_base.specs.declared.endpoint.Ep.{Ep}
 use Rattle.ipv6_packet.specs.Packets.{packet_bytes}
 use Rattle.nat_kinds.specs.declared.refusal.NatRefusal.{NatRefusal}
-use Rattle.nat_kinds.specs.History.{Entry as NatEntry, Out}
+use Rattle.nat_kinds.specs.History.{NatEntry, Out}
 use Rattle.nat_kinds.specs.Answer.{nat_answer}
 use Rattle.nat_kinds.specs.Entering.{lets_in}
 use Rattle.teredo_node.specs.declared.fate.Fate.TheVariants as fate

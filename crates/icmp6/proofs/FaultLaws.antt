@@ -13,7 +13,7 @@ use Rattle.icmp6.specs.declared.fault.IcmpFault.TheVariants.{Short, Sum, HopLimi
 use Rattle.icmp6.specs.Checksum.{checksum_of}
 use Rattle.icmp6.specs.Options.{option_len, whole_options}
 use Rattle.icmp6.specs.Message.{Message, echo_request, echo_reply, router_solicit, router_advert, other, has_len, has_hop, has_code, has_source, echo_request_at, echo_reply_at, solicit_at, advert_at, message_at}
-use Rattle.icmp6.specs.Faults.{is_router, is_known, least_len, IsSummed, HasFields, IsNear, HasOptionsAt, AreWholeUpTo, IsOptionFault, IsFirstFault}
+use Rattle.icmp6.specs.Faults.{is_router, is_known, least_len, IsSummed, HasFields, IsNear, HasOptionsAt, AreWholeUpTo, IsOptionFault, IsFirstMessageFault}
 use Rattle.icmp6.proofs.Steps.{ok_len, ok_hop, ok_code, ok_source}
 use Rattle.icmp6.proofs.OptionLaws.{IsWholeAt, none_left, one_more, option_found}
 use Rattle.icmp6.proofs.AgainLaws.{typed}
@@ -109,22 +109,22 @@ options_err (suc n) start x e h =
 abbrev given : Message → Result Message IcmpFault
 given m = Ok m
 
-short_fault : (src dst : Ip6) (hop least : ℕ) (x : List ℕ) (e : IcmpFault) → IsSummed src dst x → least_len (slice_index x 0) ≡ least → has_len least x ≡ Err e → IsFirstFault src dst hop x e
+short_fault : (src dst : Ip6) (hop least : ℕ) (x : List ℕ) (e : IcmpFault) → IsSummed src dst x → least_len (slice_index x 0) ≡ least → has_len least x ≡ Err e → IsFirstMessageFault src dst hop x e
 short_fault src dst hop least x e summed least_is h =
     let a = len_err least x e h in
     let short : length x < least_len (slice_index x 0) = omega (arith, a.0, least_is) in
-    subst (IsFirstFault src dst hop x) a.1 (refl, inr (summed, short))
+    subst (IsFirstMessageFault src dst hop x) a.1 (refl, inr (summed, short))
 
 has_fields : (src dst : Ip6) (least : ℕ) (x : List ℕ) (u : Unit {0}) → IsSummed src dst x → least_len (slice_index x 0) ≡ least → has_len least x ≡ Ok u → HasFields src dst x
 has_fields src dst least x u summed least_is h = record { summed = summed; long = omega (arith, ok_len least x u h, least_is) }
 
-code_fault : (src dst : Ip6) (hop : ℕ) (x : List ℕ) (e : IcmpFault) → IsNear src dst hop x → is_known (slice_index x 0) ≡ true → has_code x ≡ Err e → IsFirstFault src dst hop x e
+code_fault : (src dst : Ip6) (hop : ℕ) (x : List ℕ) (e : IcmpFault) → IsNear src dst hop x → is_known (slice_index x 0) ≡ true → has_code x ≡ Err e → IsFirstMessageFault src dst hop x e
 code_fault src dst hop x e near known h =
     let a = code_err x e h in
-    subst (IsFirstFault src dst hop x) a.1 (near, known, refl, a.0)
+    subst (IsFirstMessageFault src dst hop x) a.1 (near, known, refl, a.0)
 
 echo_fault : (src dst : Ip6) (hop : ℕ) (m : Message) (x : List ℕ) (e : IcmpFault) → IsSummed src dst x → least_len (slice_index x 0) ≡ 8 → is_router (slice_index x 0) ≡ false → is_known (slice_index x 0) ≡ true
-    → (has_len 8 x >>= λ _. has_code x >>= λ _. given m) ≡ Err e → IsFirstFault src dst hop x e
+    → (has_len 8 x >>= λ _. has_code x >>= λ _. given m) ≡ Err e → IsFirstMessageFault src dst hop x e
 echo_fault src dst hop m x e summed least_is no_router known h =
     elim (bind_err (has_len 8 x) (λ _. has_code x >>= λ _. given m) e h) [
       | inl short ↦ short_fault src dst hop 8 x e summed least_is short
@@ -142,7 +142,7 @@ echo_fault src dst hop m x e summed least_is no_router known h =
 
 -- a router's message up to its code
 router_fault : (src dst : Ip6) (hop least : ℕ) (rest : Result Message IcmpFault) (x : List ℕ) (e : IcmpFault) → IsSummed src dst x → least_len (slice_index x 0) ≡ least → is_router (slice_index x 0) ≡ true → is_known (slice_index x 0) ≡ true
-    → (has_len least x >>= λ _. has_hop hop >>= λ _. has_code x >>= λ _. rest) ≡ Err e → IsFirstFault src dst hop x e ⊎ (IsNear src dst hop x × (slice_index x 1 ≡ 0) × (rest ≡ Err e))
+    → (has_len least x >>= λ _. has_hop hop >>= λ _. has_code x >>= λ _. rest) ≡ Err e → IsFirstMessageFault src dst hop x e ⊎ (IsNear src dst hop x × (slice_index x 1 ≡ 0) × (rest ≡ Err e))
 router_fault src dst hop least rest x e summed least_is router known h =
     elim (bind_err (has_len least x) (λ _. has_hop hop >>= λ _. has_code x >>= λ _. rest) e h) [
       | inl short ↦ inl (short_fault src dst hop least x e summed least_is short)
@@ -151,7 +151,7 @@ router_fault src dst hop least rest x e summed least_is router known h =
           elim (bind_err (has_hop hop) (λ _. has_code x >>= λ _. rest) e a.2) [
             | inl far ↦
                 let b = hop_err hop e far in
-                inl (subst (IsFirstFault src dst hop x) b.1 (fields, router, refl, b.0))
+                inl (subst (IsFirstMessageFault src dst hop x) b.1 (fields, router, refl, b.0))
             | inr b ↦
                 let near : IsNear src dst hop x = record { fields = fields; near = λ _. ok_hop hop b.0 b.1 } in
                 elim (bind_err (has_code x) (λ _. rest) e b.2) [
@@ -162,7 +162,7 @@ router_fault src dst hop least rest x e summed least_is router known h =
     ]
 
 -- a fault of the options is the first
-option_fault : (start : ℕ) (src dst : Ip6) (hop : ℕ) (x : List ℕ) (e : IcmpFault) → HasOptionsAt start src dst hop x → IsOptionFault start x e → IsFirstFault src dst hop x e
+option_fault : (start : ℕ) (src dst : Ip6) (hop : ℕ) (x : List ℕ) (e : IcmpFault) → HasOptionsAt start src dst hop x → IsOptionFault start x e → IsFirstMessageFault src dst hop x e
 option_fault start src dst hop x (OptionCut place) has is = (start, has, is)
 option_fault start src dst hop x (OptionZero place) has is = (start, has, is)
 option_fault start src dst hop x (Short n) has is = absurd is
@@ -171,7 +171,7 @@ option_fault start src dst hop x (HopLimit found) has is = absurd is
 option_fault start src dst hop x (Code code) has is = absurd is
 option_fault start src dst hop x Source has is = absurd is
 
-solicit_fault : (src dst : Ip6) (hop : ℕ) (x : List ℕ) (e : IcmpFault) → IsSummed src dst x → slice_index x 0 ≡ 133 → solicit_at hop x ≡ Err e → IsFirstFault src dst hop x e
+solicit_fault : (src dst : Ip6) (hop : ℕ) (x : List ℕ) (e : IcmpFault) → IsSummed src dst x → slice_index x 0 ≡ 133 → solicit_at hop x ≡ Err e → IsFirstMessageFault src dst hop x e
 unfolding solicit_at
 solicit_fault src dst hop x e summed kind h =
     let m : Message = router_solicit (drop 8 x) in
@@ -184,7 +184,7 @@ solicit_fault src dst hop x e summed kind h =
       ]
     ]
 
-advert_fault : (src dst : Ip6) (hop : ℕ) (x : List ℕ) (e : IcmpFault) → IsSummed src dst x → slice_index x 0 ≡ 134 → advert_at src hop x ≡ Err e → IsFirstFault src dst hop x e
+advert_fault : (src dst : Ip6) (hop : ℕ) (x : List ℕ) (e : IcmpFault) → IsSummed src dst x → slice_index x 0 ≡ 134 → advert_at src hop x ≡ Err e → IsFirstMessageFault src dst hop x e
 unfolding advert_at
 advert_fault src dst hop x e summed kind h =
     let m : Message = router_advert (slice_index x 4) (slice_index x 5) (number_at 6 2 x) (number_at 8 4 x) (number_at 12 4 x) (drop 16 x) in
@@ -194,7 +194,7 @@ advert_fault src dst hop x e summed kind h =
       | inr a ↦ elim (bind_err (has_source src) (λ _. options) e a.2) [
         | inl source ↦
             let b = source_err src e source in
-            subst (IsFirstFault src dst hop x) b.1 (a.0, kind, a.1, b.0)
+            subst (IsFirstMessageFault src dst hop x) b.1 (a.0, kind, a.1, b.0)
         | inr b ↦ elim (bind_err (whole_options (length x) 16 x) (λ _. given m) e b.2) [
           | inl cut ↦ option_fault 16 src dst hop x e (record { near = a.0; code = a.1; kind = inr (kind, refl, ok_source src b.0 b.1) }) (options_err (length x) 16 x e cut)
           | inr c ↦ absurd (no_err m e c.2)
@@ -202,17 +202,17 @@ advert_fault src dst hop x e summed kind h =
       ]
     ]
 
-echo_request_fault : (src dst : Ip6) (hop : ℕ) (x : List ℕ) (e : IcmpFault) → IsSummed src dst x → slice_index x 0 ≡ 128 → echo_request_at x ≡ Err e → IsFirstFault src dst hop x e
+echo_request_fault : (src dst : Ip6) (hop : ℕ) (x : List ℕ) (e : IcmpFault) → IsSummed src dst x → slice_index x 0 ≡ 128 → echo_request_at x ≡ Err e → IsFirstMessageFault src dst hop x e
 unfolding echo_request_at
 echo_request_fault src dst hop x e summed kind h = echo_fault src dst hop (echo_request (number_at 4 2 x) (number_at 6 2 x) (drop 8 x)) x e summed (ap least_len kind) (ap is_router kind) (ap is_known kind) h
 
-echo_reply_fault : (src dst : Ip6) (hop : ℕ) (x : List ℕ) (e : IcmpFault) → IsSummed src dst x → slice_index x 0 ≡ 129 → echo_reply_at x ≡ Err e → IsFirstFault src dst hop x e
+echo_reply_fault : (src dst : Ip6) (hop : ℕ) (x : List ℕ) (e : IcmpFault) → IsSummed src dst x → slice_index x 0 ≡ 129 → echo_reply_at x ≡ Err e → IsFirstMessageFault src dst hop x e
 unfolding echo_reply_at
 echo_reply_fault src dst hop x e summed kind h = echo_fault src dst hop (echo_reply (number_at 4 2 x) (number_at 6 2 x) (drop 8 x)) x e summed (ap least_len kind) (ap is_router kind) (ap is_known kind) h
 
 -- ---- the message
 
-typed_fault : (src dst : Ip6) (hop : ℕ) (x : List ℕ) (e : IcmpFault) → IsSummed src dst x → typed src hop x ≡ Err e → IsFirstFault src dst hop x e
+typed_fault : (src dst : Ip6) (hop : ℕ) (x : List ℕ) (e : IcmpFault) → IsSummed src dst x → typed src hop x ≡ Err e → IsFirstMessageFault src dst hop x e
 typed_fault src dst hop x e summed h =
     let kind : ℕ = slice_index x 0 in
     let m : Message = other kind (slice_index x 1) (drop 4 x) in
@@ -233,19 +233,19 @@ typed_fault src dst hop x e summed h =
       ]
     ]
 
-pub read_fault : (src dst : Ip6) (hop : ℕ) (x : List ℕ) (e : IcmpFault) → message_at src dst hop x ≡ Err e → IsFirstFault src dst hop x e
+pub read_fault : (src dst : Ip6) (hop : ℕ) (x : List ℕ) (e : IcmpFault) → message_at src dst hop x ≡ Err e → IsFirstMessageFault src dst hop x e
 unfolding message_at
 read_fault src dst hop x e h =
     let said : ℕ = number_at 2 2 x in
     let found : ℕ = checksum_of src dst x in
     elim (guard_err (ltb (length x) 4) (Short (length x)) (cond (not (eqb said found)) (Err (Sum said found)) (typed src hop x)) e h) [
-      | inl short ↦ subst (IsFirstFault src dst hop x) short.1 (refl, inl (ltb-true _ _ short.0))
+      | inl short ↦ subst (IsFirstMessageFault src dst hop x) short.1 (refl, inl (ltb-true _ _ short.0))
       | inr a ↦ elim (guard_err (not (eqb said found)) (Sum said found) (typed src hop x) e a.1) [
-        | inl wrong ↦ subst (IsFirstFault src dst hop x) wrong.1 (ltb-false _ _ a.0, refl, refl, eqb-false _ _ (not-true _ wrong.0))
+        | inl wrong ↦ subst (IsFirstMessageFault src dst hop x) wrong.1 (ltb-false _ _ a.0, refl, refl, eqb-false _ _ (not-true _ wrong.0))
         | inr b ↦ typed_fault src dst hop x e (record { long = ltb-false _ _ a.0; sum = eqb-true _ _ (not-false _ b.0) }) b.1
       ]
     ]
 
-pub is_fault : {P : Type 0} (view : P → Message) (src dst : Ip6) (hop : ℕ) (x : List ℕ) (r : Result P IcmpFault) → Gives view r (message_at src dst hop x) → IfErr r (λ e. IsFirstFault src dst hop x e)
+pub is_fault : {P : Type 0} (view : P → Message) (src dst : Ip6) (hop : ℕ) (x : List ℕ) (r : Result P IcmpFault) → Gives view r (message_at src dst hop x) → IfErr r (λ e. IsFirstMessageFault src dst hop x e)
 is_fault view src dst hop x (Ok m) read = tt
 is_fault view src dst hop x (Err e) read = read_fault src dst hop x e read

@@ -64,11 +64,11 @@ IsOptionFault start x (OptionZero place) = AreWholeUpTo start place x × (place 
 IsOptionFault start x _ = ⊥
 
 -- the fault is the first of x: its condition holds, and none before it does
-abbrev pub IsFirstFault : Ip6 → Ip6 → ℕ → List ℕ → IcmpFault → Type 0
-IsFirstFault src dst hop x (Short len) = (len ≡ length x) × ((len < HEAD_LEN) ⊎ (IsSummed src dst x × (len < least_len (slice_index x 0))))
-IsFirstFault src dst hop x (Sum said found) = (HEAD_LEN ≤ length x) × (said ≡ number_at 2 2 x) × (found ≡ checksum_of src dst x) × (said ≢ found)
-IsFirstFault src dst hop x (HopLimit found) = HasFields src dst x × IsTrue (is_router (slice_index x 0)) × (found ≡ hop) × (found ≢ ROUTER_HOP)
-IsFirstFault src dst hop x (Code code) = IsNear src dst hop x × IsTrue (is_known (slice_index x 0)) × (code ≡ slice_index x 1) × (code ≢ 0)
-IsFirstFault src dst hop x Source = IsNear src dst hop x × (slice_index x 0 ≡ ROUTER_ADVERT) × (slice_index x 1 ≡ 0) × (is_link_local src ≡ false)
-IsFirstFault src dst hop x (OptionCut place) = (start : ℕ) × HasOptionsAt start src dst hop x × IsOptionFault start x (OptionCut place)
-IsFirstFault src dst hop x (OptionZero place) = (start : ℕ) × HasOptionsAt start src dst hop x × IsOptionFault start x (OptionZero place)
+abbrev pub IsFirstMessageFault : Ip6 → Ip6 → ℕ → List ℕ → IcmpFault → Type 0
+IsFirstMessageFault src dst hop x (Short len) = (len ≡ length x) × ((len < HEAD_LEN) ⊎ (IsSummed src dst x × (len < least_len (slice_index x 0))))
+IsFirstMessageFault src dst hop x (Sum said found) = (HEAD_LEN ≤ length x) × (said ≡ number_at 2 2 x) × (found ≡ checksum_of src dst x) × (said ≢ found)
+IsFirstMessageFault src dst hop x (HopLimit found) = HasFields src dst x × IsTrue (is_router (slice_index x 0)) × (found ≡ hop) × (found ≢ ROUTER_HOP)
+IsFirstMessageFault src dst hop x (Code code) = IsNear src dst hop x × IsTrue (is_known (slice_index x 0)) × (code ≡ slice_index x 1) × (code ≢ 0)
+IsFirstMessageFault src dst hop x Source = IsNear src dst hop x × (slice_index x 0 ≡ ROUTER_ADVERT) × (slice_index x 1 ≡ 0) × (is_link_local src ≡ false)
+IsFirstMessageFault src dst hop x (OptionCut place) = (start : ℕ) × HasOptionsAt start src dst hop x × IsOptionFault start x (OptionCut place)
+IsFirstMessageFault src dst hop x (OptionZero place) = (start : ℕ) × HasOptionsAt start src dst hop x × IsOptionFault start x (OptionZero place)

@@ -22,12 +22,12 @@ pub data Message : Type 0 where
   other : (kind code : ℕ) (rest : List ℕ) → Message
 
 -- what a message says
-abbrev pub view : Msg → Message
-view (EchoRequest id seq body) = echo_request id seq body.now
-view (EchoReply id seq body) = echo_reply id seq body.now
-view (RouterSolicit options) = router_solicit options.now
-view (RouterAdvert hop flags life reach retrans options) = router_advert hop flags life reach retrans options.now
-view (Other kind code rest) = other kind code rest.now
+abbrev pub message_view : Msg → Message
+message_view (EchoRequest id seq body) = echo_request id seq body.now
+message_view (EchoReply id seq body) = echo_reply id seq body.now
+message_view (RouterSolicit options) = router_solicit options.now
+message_view (RouterAdvert hop flags life reach retrans options) = router_advert hop flags life reach retrans options.now
+message_view (Other kind code rest) = other kind code rest.now
 
 -- the options that a message lends
 abbrev pub options_in : Message → List ℕ

@@ -1,11 +1,11 @@
 //! Reading a message: the tests that types share, a reader for each type, and the whole.
 ghost use Rattle.std.specs.Prelude.{◌≡◌, ◌≤◌, length, IfOk, IfErr};
 ghost use Rattle.td_base.specs.Results.{Gives};
-ghost use Rattle.icmp6.specs.Message.{Message, view, options_in, has_len, has_hop, has_code, has_source};
+ghost use Rattle.icmp6.specs.Message.{Message, message_view, options_in, has_len, has_hop, has_code, has_source};
 ghost use Rattle.icmp6.specs.Message.{echo_request_at, echo_reply_at, solicit_at, advert_at, message_at};
 ghost use Rattle.icmp6.specs.Options.{AreOptions};
 ghost use Rattle.icmp6.specs.Grammar.{MessageBytes};
-ghost use Rattle.icmp6.specs.Faults.{IsFirstFault};
+ghost use Rattle.icmp6.specs.Faults.{IsFirstMessageFault};
 
 use crate::fault::IcmpFault;
 use crate::message::Msg;
@@ -66,7 +66,7 @@ fn has_source(src: Ip6) -> Result<(), IcmpFault>
 #[tactic(auto, unfolding(crate::specs::Message::echo_request_at))]
 fn echo_request(body: &[u8]) -> Result<Msg<'_>, IcmpFault>
     requires { HEAD_LEN ≤ length body.now }
-    ensures { Gives view result (echo_request_at body.now) }
+    ensures { Gives message_view result (echo_request_at body.now) }
 {
     has_len(body, ECHO_LEN)?;
     has_code(body)?;
@@ -81,7 +81,7 @@ fn echo_request(body: &[u8]) -> Result<Msg<'_>, IcmpFault>
 #[tactic(auto, unfolding(crate::specs::Message::echo_reply_at))]
 fn echo_reply(body: &[u8]) -> Result<Msg<'_>, IcmpFault>
     requires { HEAD_LEN ≤ length body.now }
-    ensures { Gives view result (echo_reply_at body.now) }
+    ensures { Gives message_view result (echo_reply_at body.now) }
 {
     has_len(body, ECHO_LEN)?;
     has_code(body)?;
@@ -96,7 +96,7 @@ fn echo_reply(body: &[u8]) -> Result<Msg<'_>, IcmpFault>
 #[tactic(auto, unfolding(crate::specs::Message::solicit_at))]
 fn router_solicit(hop: u8, body: &[u8]) -> Result<Msg<'_>, IcmpFault>
     requires { HEAD_LEN ≤ length body.now }
-    ensures { Gives view result (solicit_at hop body.now) }
+    ensures { Gives message_view result (solicit_at hop body.now) }
 {
     has_len(body, SOLICIT_LEN)?;
     has_hop(hop)?;
@@ -111,7 +111,7 @@ fn router_solicit(hop: u8, body: &[u8]) -> Result<Msg<'_>, IcmpFault>
 #[tactic(auto, unfolding(crate::specs::Message::advert_at))]
 fn router_advert(src: Ip6, hop: u8, body: &[u8]) -> Result<Msg<'_>, IcmpFault>
     requires { HEAD_LEN ≤ length body.now }
-    ensures { Gives view result (advert_at src hop body.now) }
+    ensures { Gives message_view result (advert_at src hop body.now) }
 {
     has_len(body, ADVERT_LEN)?;
     has_hop(hop)?;
@@ -133,15 +133,15 @@ fn router_advert(src: Ip6, hop: u8, body: &[u8]) -> Result<Msg<'_>, IcmpFault>
 pub fn read(src: Ip6, dst: Ip6, hop: u8, body: &[u8]) -> Result<Msg<'_>, IcmpFault>
     requires { length body.now ≤ 65535 }
     // What is read is a message of the grammar.
-    ensures found { IfOk result (λ m. MessageBytes src dst hop (view m) body.now) }
+    ensures found { IfOk result (λ m. MessageBytes src dst hop (message_view m) body.now) }
     // What is a message of the grammar is read.
-    ensures only { (m : Message) → MessageBytes src dst hop m body.now → Gives view result (Ok m) }
+    ensures only { (m : Message) → MessageBytes src dst hop m body.now → Gives message_view result (Ok m) }
     // Which fault it is.
-    ensures fault { IfErr result (λ e. IsFirstFault src dst hop body.now e) }
+    ensures fault { IfErr result (λ e. IsFirstMessageFault src dst hop body.now e) }
     // What `options` wants.
-    ensures lends { IfOk result (λ m. AreOptions (options_in (view m))) }
+    ensures lends { IfOk result (λ m. AreOptions (options_in (message_view m))) }
     // The message, or the first fault, as one function of the bytes.
-    ensures exact { Gives view result (message_at src dst hop body.now) }
+    ensures exact { Gives message_view result (message_at src dst hop body.now) }
 {
     message_of(src, dst, hop, body)
 }
@@ -150,7 +150,7 @@ pub fn read(src: Ip6, dst: Ip6, hop: u8, body: &[u8]) -> Result<Msg<'_>, IcmpFau
 #[tactic(auto, unfolding(crate::specs::Message::message_at))]
 fn message_of(src: Ip6, dst: Ip6, hop: u8, body: &[u8]) -> Result<Msg<'_>, IcmpFault>
     requires { length body.now ≤ 65535 }
-    ensures { Gives view result (message_at src dst hop body.now) }
+    ensures { Gives message_view result (message_at src dst hop body.now) }
 {
     if body.len() < HEAD_LEN {
         return Err(IcmpFault::Short { len: body.len() });

@@ -2,7 +2,7 @@
 ghost use Rattle.std.specs.Prelude.{◌≡◌, ℕ, ◌+◌, ◌≤◌, [], ◌∷◌, ◌++◌, length, take, drop, IfOk};
 ghost use Rattle.byteorder.specs.Endian.{big_bytes};
 ghost use Rattle.td_base.specs.Bytes.{Writes};
-ghost use Rattle.icmp6.specs.Message.{view, message_at};
+ghost use Rattle.icmp6.specs.Message.{message_view, message_at};
 ghost use Rattle.icmp6.specs.Layout.{layout, message_len, message_bytes};
 ghost use Rattle.icmp6.specs.Grammar.{MessageFits, IsValid, MessageBytes};
 
@@ -17,8 +17,8 @@ use td_base::{Ip6, Room, put, put16};
 /// How many bytes a message has.
 #[inline(always)]
 fn len_of(m: &Msg<'_>) -> usize
-    requires { message_len (view m.now) ≤ MESSAGE_MAX }
-    ensures { result ≡ message_len (view m.now) }
+    requires { message_len (message_view m.now) ≤ MESSAGE_MAX }
+    ensures { result ≡ message_len (message_view m.now) }
 {
     match *m {
         Msg::EchoRequest { body, .. } | Msg::EchoReply { body, .. } => ECHO_LEN + body.len(),
@@ -88,11 +88,11 @@ fn put_parts(out: &mut [u8], head: &[u8], tail: &[u8]) -> usize
 /// Puts a message with checksum 0 to the front.
 #[inline(always)]
 fn put_plain(m: &Msg<'_>, out: &mut [u8]) -> usize
-    requires most { message_len (view m.now) ≤ MESSAGE_MAX }
-    requires room { message_len (view m.now) ≤ length out.old }
-    ensures put { out.new ≡ layout 0 0 (view m.now) ++ drop result out.old }
-    ensures after { result ≡ message_len (view m.now) }
-    ensures fits { MessageFits (view m.now) }
+    requires most { message_len (message_view m.now) ≤ MESSAGE_MAX }
+    requires room { message_len (message_view m.now) ≤ length out.old }
+    ensures put { out.new ≡ layout 0 0 (message_view m.now) ++ drop result out.old }
+    ensures after { result ≡ message_len (message_view m.now) }
+    ensures fits { MessageFits (message_view m.now) }
 {
     match *m {
         Msg::EchoRequest { id, seq, body } => {
@@ -117,12 +117,12 @@ fn put_plain(m: &Msg<'_>, out: &mut [u8]) -> usize
 /// Writes the message with its checksum to the front of `out`.
 #[inline(always)]
 pub fn write(m: &Msg<'_>, src: Ip6, dst: Ip6, out: &mut [u8]) -> Result<usize, Room>
-    requires { message_len (view m.now) ≤ MESSAGE_MAX }
-    ensures written { Writes (message_bytes src dst (view m.now)) out.old out.new result }
+    requires { message_len (message_view m.now) ≤ MESSAGE_MAX }
+    ensures written { Writes (message_bytes src dst (message_view m.now)) out.old out.new result }
     // It is the message's spelling, where the message may come with a hop limit.
-    ensures spelled { IfOk result (λ n. (hop : ℕ) → IsValid src hop (view m.now) → MessageBytes src dst hop (view m.now) (take n out.new)) }
+    ensures spelled { IfOk result (λ n. (hop : ℕ) → IsValid src hop (message_view m.now) → MessageBytes src dst hop (message_view m.now) (take n out.new)) }
     // What may come with a hop limit reads back.
-    ensures again { IfOk result (λ n. (hop : ℕ) → IsValid src hop (view m.now) → message_at src dst hop (take n out.new) ≡ Ok (view m.now)) }
+    ensures again { IfOk result (λ n. (hop : ℕ) → IsValid src hop (message_view m.now) → message_at src dst hop (take n out.new) ≡ Ok (message_view m.now)) }
 {
     let needed = len_of(m);
     if out.len() < needed {

@@ -16,7 +16,7 @@ use Rattle.indications.specs.declared.fault.LeadFault.{LeadFault}
 use Rattle.indications.specs.declared.fault.LeadFault.TheVariants.{Cut, Order, Kind}
 use Rattle.indications.specs.Indications.{head_at, auth_at, origin_at, lead_at, begins_auth, begins_origin, begins_packet, nonce_place, auth_of, origin_of}
 use Rattle.indications.specs.Blocks.{AuthBlock, Blocks, auth_bytes, origin_bytes, optional, blocks_bytes, AreBlocks, origin}
-use Rattle.indications.specs.Faults.{StartsBlock, IsOutOfOrder, IsNoKind, IsFaultBehind, IsFirstFault}
+use Rattle.indications.specs.Faults.{StartsBlock, IsOutOfOrder, IsNoKind, IsFaultBehind, IsFirstLeadFault}
 use Rattle.indications.proofs.HeadLaws.{bind_err, HeadIs, HeadFails, head_tells, head_fails, at_first, at_second}
 use Rattle.indications.proofs.FoundLaws.{FoundAuth, FoundOrigin, auth_found, origin_found, auth_is, origin_is, gives, gives_is, gives_origin, gives_origin_is}
 
@@ -62,7 +62,7 @@ origin_none place x found e none =
 abbrev blocks_of : Option AuthBlock → Option Ep → Blocks
 blocks_of auth ep = record { auth = auth; origin = ep }
 
-behind : (x : List ℕ) (b : Blocks) (place : ℕ) (e : LeadFault) → AreBlocks b → x ≡ blocks_bytes b ++ drop place x → IsFaultBehind b (drop place x) e → IsFirstFault e x
+behind : (x : List ℕ) (b : Blocks) (place : ℕ) (e : LeadFault) → AreBlocks b → x ≡ blocks_bytes b ++ drop place x → IsFaultBehind b (drop place x) e → IsFirstLeadFault e x
 behind x b place e fits bytes fault = record { before = b; rest = drop place x; fits = fits; bytes = bytes; fault = fault }
 
 head_behind : (b : Blocks) (place : ℕ) (rest : List ℕ) (e : LeadFault) → place ≡ length (blocks_bytes b) → HeadFails place rest e → IsFaultBehind b rest e
@@ -85,7 +85,7 @@ auth_cut x e h =
       | inr none ↦ absurd cc
     ]
 
-auth_fault : (x : List ℕ) (e : LeadFault) → auth_at x ≡ Err e → IsFirstFault e x
+auth_fault : (x : List ℕ) (e : LeadFault) → auth_at x ≡ Err e → IsFirstLeadFault e x
 unfolding auth_at
 auth_fault x e h =
     let short : Result (Option Auth × ℕ) LeadFault = cond (ltb (length x) (nonce_place x + 9)) (Err (Cut 0)) (Ok (Some (auth_of x), nonce_place x + 9)) in
@@ -97,7 +97,7 @@ auth_fault x e h =
           let a = kept (begins_auth b.0) (None, 0) short e b.2 in
           let cut = auth_cut x e a.1 in
           let head = auth_is b.0 0 x a.0 (head_tells 0 x b.0 b.1) in
-          subst (λ (f : LeadFault). IsFirstFault f x) cut.1 (behind x none 0 (Cut 0) fits refl (refl, inr (inl (starts_auth 0 x head, refl, cut.0))))
+          subst (λ (f : LeadFault). IsFirstLeadFault f x) cut.1 (behind x none 0 (Cut 0) fits refl (refl, inr (inl (starts_auth 0 x head, refl, cut.0))))
     ]
 
 -- ---- the origin
@@ -109,7 +109,7 @@ origin_cut place x e h =
       | inr none ↦ absurd cc
     ]
 
-origin_fault : (x : List ℕ) (a : Option Auth × ℕ) (e : LeadFault) → FoundAuth x a → origin_at a.1 x ≡ Err e → IsFirstFault e x
+origin_fault : (x : List ℕ) (a : Option Auth × ℕ) (e : LeadFault) → FoundAuth x a → origin_at a.1 x ≡ Err e → IsFirstLeadFault e x
 unfolding origin_at
 origin_fault x a e found h =
     let place : ℕ = a.1 in
@@ -126,7 +126,7 @@ origin_fault x a e found h =
           let o = kept (begins_origin k.0) (None, place) short e k.2 in
           let cut = origin_cut place x e o.1 in
           let head = origin_is k.0 place x o.0 (head_tells place x k.0 k.1) in
-          subst (λ (f : LeadFault). IsFirstFault f x) cut.1 (behind x b place (Cut place) fits bytes (is, inr (inr (starts_origin place x head, refl, omega (arith, length-drop place x, inside, cut.0)))))
+          subst (λ (f : LeadFault). IsFirstLeadFault f x) cut.1 (behind x b place (Cut place) fits bytes (is, inr (inr (starts_origin place x head, refl, omega (arith, length-drop place x, inside, cut.0)))))
     ]
 
 -- ---- what follows both
@@ -160,7 +160,7 @@ not_packet heads.Packet l f e h = absurd cc
 not_packet heads.Auth l f e h = (refl, cc)
 not_packet heads.Origin l f e h = (refl, cc)
 
-pub lead_fault : (x : List ℕ) (e : LeadFault) → IsBytes x → lead_at x ≡ Err e → IsFirstFault e x
+pub lead_fault : (x : List ℕ) (e : LeadFault) → IsBytes x → lead_at x ≡ Err e → IsFirstLeadFault e x
 unfolding lead_at
 lead_fault x e fits h =
     let last : Option Auth → Option Origin × ℕ → Head → Result Lead LeadFault = λ auth o head. cond (begins_packet head) (Ok (record { auth = auth; origin = o.0; at = o.1 })) (Err (Order o.1)) in
@@ -184,11 +184,11 @@ lead_fault x e fits h =
                   | inl head ↦ behind x b place e blocks bytes (head_behind b place (drop place x) e is (head_fails place x e inside head))
                   | inr k ↦
                       let order = not_packet k.0 (record { auth = a.0.0; origin = o.0.0; at = place }) (Order place) e k.2 in
-                      subst (λ (f : LeadFault). IsFirstFault f x) order.1 (behind x b place (Order place) blocks bytes (is, out_of_order x a.0 o.0 fa fo k.0 a.1 o.1 k.1 order.0 is))
+                      subst (λ (f : LeadFault). IsFirstLeadFault f x) order.1 (behind x b place (Order place) blocks bytes (is, out_of_order x a.0 o.0 fa fo k.0 a.1 o.1 k.1 order.0 is))
                 ]
           ]
     ]
 
-pub is_first : (x : List ℕ) (r : Result Lead LeadFault) → IsBytes x → r ≡ lead_at x → IfErr r (λ e. IsFirstFault e x)
+pub is_first : (x : List ℕ) (r : Result Lead LeadFault) → IsBytes x → r ≡ lead_at x → IfErr r (λ e. IsFirstLeadFault e x)
 is_first x (Ok l) fits e = tt
 is_first x (Err f) fits e = lead_fault x f fits (sym e)

@@ -37,7 +37,7 @@ IsFaultBehind before rest (Order at) = (at ≡ length (blocks_bytes before)) × 
 IsFaultBehind before rest (Kind at byte) = IsNoKind (length (blocks_bytes before)) rest at byte
 
 -- x is some blocks, and behind them stands the fault
-pub record IsFirstFault (e : LeadFault) (x : List ℕ) : Type 0 where
+pub record IsFirstLeadFault (e : LeadFault) (x : List ℕ) : Type 0 where
   pub before : Blocks
   pub rest : List ℕ
   pub fits : AreBlocks before

@@ -6,7 +6,7 @@ ghost use Rattle.indications.specs.declared.head.Head.TheVariants as heads;
 ghost use Rattle.indications.specs.Indications.{head_at, auth_at, auth_of, nonce_place, lead_at};
 ghost use Rattle.indications.specs.Places.{auth_to, origin_between, lead_by, AreThere};
 ghost use Rattle.indications.specs.Blocks.{LeadBytes, AreSpansBefore};
-ghost use Rattle.indications.specs.Faults.{IsFirstFault};
+ghost use Rattle.indications.specs.Faults.{IsFirstLeadFault};
 
 use crate::blocks::{AUTH_HEAD, AUTH_TAIL, Auth, Lead, NONCE, ORIGIN, Origin};
 use crate::fault::LeadFault;
@@ -23,7 +23,7 @@ pub fn read(bytes: &[u8]) -> Result<Lead, LeadFault>
     // What stands there is read.
     ensures only { (lead : Lead) → LeadBytes lead bytes.now → result ≡ Ok lead }
     // A fault is the first one.
-    ensures fault { IfErr result (λ e. IsFirstFault e bytes.now) }
+    ensures fault { IfErr result (λ e. IsFirstLeadFault e bytes.now) }
     // A packet's first byte is there.
     ensures inside { IfOk result (λ lead. lead.at < length bytes.now) }
     ensures spans { IfOk result (λ lead. IfSome lead.auth (AreSpansBefore lead.at)) }

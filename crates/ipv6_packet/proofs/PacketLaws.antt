@@ -12,7 +12,7 @@ use Rattle.td_base.proofs.ResultLaws.{guard_ok, guard_err}
 use Rattle.ipv6_packet.specs.declared.fault.PacketFault.{PacketFault}
 use Rattle.ipv6_packet.specs.declared.fault.PacketFault.TheVariants.{Short, Version, Length}
 use Rattle.ipv6_packet.specs.Reads.{is_packet, fields_in, is_ok_packet, fields_or}
-use Rattle.ipv6_packet.specs.Packets.{Fields, IsPacket, PacketBytes, IsFirstFault, packet_bytes, packet_at, fields_of}
+use Rattle.ipv6_packet.specs.Packets.{Fields, IsPacket, PacketBytes, IsFirstPacketFault, packet_bytes, packet_at, fields_of}
 
 abbrev done : Fields → Result Fields PacketFault
 done x = Ok x
@@ -110,22 +110,22 @@ packet_again v fits = spelling_again v fits.class fits.flow fits.src.0 fits.dst.
 first_nibble : (x : List ℕ) → IsBytes x → number_at 0 4 x / 2 ^ 28 ≡ slice_index x 0 / 16
 first_nibble x fits = omega (arith, fits 0, fits 1, fits 2, fits 3)
 
-pub packet_fault : (x : List ℕ) (e : PacketFault) → IsBytes x → packet_at x ≡ Err e → IsFirstFault e x
+pub packet_fault : (x : List ℕ) (e : PacketFault) → IsBytes x → packet_at x ≡ Err e → IsFirstPacketFault e x
 unfolding packet_at
 packet_fault x e fits read =
     let nibble = first_nibble x fits in
     let third : Result Fields PacketFault = cond (not (eqb (number_at 4 2 x) (length x - 40))) (Err (Length (number_at 4 2 x) (length x - 40))) (Ok (fields_of x)) in
     let second : Result Fields PacketFault = cond (not (eqb (number_at 0 4 x / 2 ^ 28) 6)) (Err (Version (number_at 0 4 x / 2 ^ 28))) third in
     elim (guard_err (ltb (length x) 40) (Short (length x)) second e read) [
-      | inl short ↦ subst (λ (f : PacketFault). IsFirstFault f x) short.1 (refl, ltb-true _ _ short.0)
+      | inl short ↦ subst (λ (f : PacketFault). IsFirstPacketFault f x) short.1 (refl, ltb-true _ _ short.0)
       | inr a ↦
           let long : 40 ≤ length x = ltb-false _ _ a.0 in
           elim (guard_err (not (eqb (number_at 0 4 x / 2 ^ 28) 6)) (Version (number_at 0 4 x / 2 ^ 28)) third e a.1) [
-            | inl version ↦ subst (λ (f : PacketFault). IsFirstFault f x) version.1 (long, nibble, eqb-false _ _ (not-true _ version.0))
+            | inl version ↦ subst (λ (f : PacketFault). IsFirstPacketFault f x) version.1 (long, nibble, eqb-false _ _ (not-true _ version.0))
             | inr b ↦
                 let six : number_at 0 4 x / 2 ^ 28 ≡ 6 = eqb-true _ _ (not-false _ b.0) in
                 elim (guard_err (not (eqb (number_at 4 2 x) (length x - 40))) (Length (number_at 4 2 x) (length x - 40)) (Ok (fields_of x)) e b.1) [
-                  | inl length ↦ subst (λ (f : PacketFault). IsFirstFault f x) length.1 (omega arith, sym nibble ∙ six, refl, eqb-false _ _ (not-true _ length.0))
+                  | inl length ↦ subst (λ (f : PacketFault). IsFirstPacketFault f x) length.1 (omega arith, sym nibble ∙ six, refl, eqb-false _ _ (not-true _ length.0))
                   | inr none ↦ absurd cc
                 ]
           ]
@@ -135,7 +135,7 @@ pub is_found : {P : Type 0} (view : P → Fields) (x : List ℕ) (r : Result P P
 is_found view x (Ok p) fits given = packet_found x (view p) fits given
 is_found view x (Err e) fits given = tt
 
-pub is_fault : {P : Type 0} (view : P → Fields) (x : List ℕ) (r : Result P PacketFault) → IsBytes x → Gives view r (packet_at x) → IfErr r (λ e. IsFirstFault e x)
+pub is_fault : {P : Type 0} (view : P → Fields) (x : List ℕ) (r : Result P PacketFault) → IsBytes x → Gives view r (packet_at x) → IfErr r (λ e. IsFirstPacketFault e x)
 is_fault view x (Ok p) fits given = tt
 is_fault view x (Err e) fits given = packet_fault x e fits given
 

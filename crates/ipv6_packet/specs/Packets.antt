@@ -20,8 +20,8 @@ pub record Fields : Type 0 where
   pub dst : Ip6
   pub body : List ℕ
 
-abbrev pub view : Packet → Fields
-view p = record { class = p.class; flow = p.flow; next = p.next; hop = p.hop; src = p.src; dst = p.dst; body = p.body.now }
+abbrev pub packet_view : Packet → Fields
+packet_view p = record { class = p.class; flow = p.flow; next = p.next; hop = p.hop; src = p.src; dst = p.dst; body = p.body.now }
 
 -- what has a spelling
 pub record IsPacket (v : Fields) : Type 0 where
@@ -44,10 +44,10 @@ abbrev pub PacketBytes : Fields → List ℕ → Type 0
 PacketBytes v x = IsPacket v × (x ≡ packet_bytes v)
 
 -- the fault is the first one of x: its condition holds, and none before it does
-abbrev pub IsFirstFault : PacketFault → List ℕ → Type 0
-IsFirstFault (Short len) x = (len ≡ length x) × (len < HEADER)
-IsFirstFault (Version nibble) x = (HEADER ≤ length x) × (nibble ≡ slice_index x 0 / 16) × (nibble ≢ VERSION)
-IsFirstFault (Length said there) x = (HEADER + there ≡ length x) × (slice_index x 0 / 16 ≡ VERSION) × (said ≡ number_at 4 2 x) × (said ≢ there)
+abbrev pub IsFirstPacketFault : PacketFault → List ℕ → Type 0
+IsFirstPacketFault (Short len) x = (len ≡ length x) × (len < HEADER)
+IsFirstPacketFault (Version nibble) x = (HEADER ≤ length x) × (nibble ≡ slice_index x 0 / 16) × (nibble ≢ VERSION)
+IsFirstPacketFault (Length said there) x = (HEADER + there ≡ length x) × (slice_index x 0 / 16 ≡ VERSION) × (said ≡ number_at 4 2 x) × (said ≢ there)
 
 -- what stands at the places of the header, and behind it
 unfoldable pub fields_of : List ℕ → Fields

@@ -1,6 +1,6 @@
 //! The packet, and the numbers of its header.
 ghost use Rattle.std.specs.Prelude.{◌≡◌};
-ghost use Rattle.ipv6_packet.specs.Packets.{view};
+ghost use Rattle.ipv6_packet.specs.Packets.{packet_view};
 ghost use Rattle.ipv6_packet.specs.Reads.{is_big};
 
 use td_base::Ip6;
@@ -37,7 +37,7 @@ pub struct Packet<'a> {
 #[inline(always)]
 #[tactic(auto, unfolding(crate::specs::Reads::is_big))]
 pub fn is_big(p: &Packet) -> bool
-    ensures { result ≡ is_big (view p.now) }
+    ensures { result ≡ is_big (packet_view p.now) }
 {
     p.body.len() > PACKET_MAX - HEADER
 }

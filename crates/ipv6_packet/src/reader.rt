@@ -1,7 +1,7 @@
 //! Packets out of bytes.
 ghost use Rattle.std.specs.Prelude.{◌≡◌, ◌+◌, ◌≤◌, length, true, false, IfOk, IfErr, OnOk, Ok};
 ghost use Rattle.td_base.specs.Results.{Gives};
-ghost use Rattle.ipv6_packet.specs.Packets.{Fields, view, PacketBytes, IsFirstFault, fields_of, packet_at};
+ghost use Rattle.ipv6_packet.specs.Packets.{Fields, packet_view, PacketBytes, IsFirstPacketFault, fields_of, packet_at};
 ghost use Rattle.ipv6_packet.specs.Reads.{is_packet, fields_in};
 
 use crate::fault::PacketFault;
@@ -12,18 +12,18 @@ use td_base::{field16, field32, ip6_at};
 #[inline(always)]
 pub fn read(bytes: &[u8]) -> Result<Packet<'_>, PacketFault>
     // What is read is spelled so.
-    ensures found { IfOk result (λ p. PacketBytes (view p) bytes.now) }
+    ensures found { IfOk result (λ p. PacketBytes (packet_view p) bytes.now) }
     // What is spelled so is read.
-    ensures only { (v : Fields) → PacketBytes v bytes.now → Gives view result (Ok v) }
+    ensures only { (v : Fields) → PacketBytes v bytes.now → Gives packet_view result (Ok v) }
     // A fault is the first one.
-    ensures fault { IfErr result (λ e. IsFirstFault e bytes.now) }
+    ensures fault { IfErr result (λ e. IsFirstPacketFault e bytes.now) }
     // The body is what follows the header.
     ensures inside { IfOk result (λ p. HEADER + length p.body.now ≡ length bytes.now) }
     // As rules see the bytes.
-    ensures seen { IfOk result (λ p. (is_packet bytes.now ≡ true) × (fields_in bytes.now ≡ view p)) }
+    ensures seen { IfOk result (λ p. (is_packet bytes.now ≡ true) × (fields_in bytes.now ≡ packet_view p)) }
     ensures unseen { IfErr result (λ e. is_packet bytes.now ≡ false) }
     // The same as one function of the bytes.
-    ensures exact { Gives view result (packet_at bytes.now) }
+    ensures exact { Gives packet_view result (packet_at bytes.now) }
 {
     packet_of(bytes)
 }
@@ -31,7 +31,7 @@ pub fn read(bytes: &[u8]) -> Result<Packet<'_>, PacketFault>
 #[inline(always)]
 fn packet_of(bytes: &[u8]) -> Result<Packet<'_>, PacketFault>
     ensures inside { IfOk result (λ p. HEADER + length p.body.now ≡ length bytes.now) }
-    ensures exact { Gives view result (packet_at bytes.now) }
+    ensures exact { Gives packet_view result (packet_at bytes.now) }
 {
     check(bytes)?;
     Ok(packet_in(bytes))
@@ -65,7 +65,7 @@ pub fn check(bytes: &[u8]) -> Result<(), PacketFault>
 pub fn packet_in(bytes: &[u8]) -> Packet<'_>
     requires { HEADER ≤ length bytes.now }
     ensures inside { HEADER + length result.body.now ≡ length bytes.now }
-    ensures exact { view result ≡ fields_of bytes.now }
+    ensures exact { packet_view result ≡ fields_of bytes.now }
 {
     let word = field32(bytes, 0);
     Packet {

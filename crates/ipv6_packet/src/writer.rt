@@ -1,7 +1,7 @@
 //! Packets into bytes.
 ghost use Rattle.std.specs.Prelude.{◌≡◌, ◌+◌, ◌*◌, ◌<◌, ◌^◌, ◌/◌, length, take, slice_index, IfOk, Ok};
 ghost use Rattle.td_base.specs.Bytes.{Writes};
-ghost use Rattle.ipv6_packet.specs.Packets.{view, PacketBytes, packet_bytes, packet_at};
+ghost use Rattle.ipv6_packet.specs.Packets.{packet_view, PacketBytes, packet_bytes, packet_at};
 
 use crate::header::{HEADER, Packet, VERSION};
 use td_base::{Room, put, put8, put16, put32};
@@ -10,10 +10,10 @@ use td_base::{Room, put, put8, put16, put32};
 #[inline(always)]
 pub fn len(p: &Packet) -> usize
     requires { length p.now.body.now < 2 ^ 16 }
-    ensures whole { result ≡ length (packet_bytes (view p.now)) }
+    ensures whole { result ≡ length (packet_bytes (packet_view p.now)) }
     ensures parts { result ≡ HEADER + length p.now.body.now }
     // A packet begins with the version.
-    ensures version { p.now.flow < 2 ^ 20 → slice_index (packet_bytes (view p.now)) 0 / 16 ≡ VERSION }
+    ensures version { p.now.flow < 2 ^ 20 → slice_index (packet_bytes (packet_view p.now)) 0 / 16 ≡ VERSION }
 {
     // This read tells the proof that source and destination have 16 bytes each.
     let _next = p.next;
@@ -34,11 +34,11 @@ fn first_word(class: u8, flow: u32) -> u32
 pub fn write(p: &Packet, out: &mut [u8]) -> Result<usize, Room>
     requires flow { p.now.flow < 2 ^ 20 }
     requires body { length p.now.body.now < 2 ^ 16 }
-    ensures written { Writes (packet_bytes (view p.now)) out.old out.new result }
+    ensures written { Writes (packet_bytes (packet_view p.now)) out.old out.new result }
     // It is a packet's spelling.
-    ensures spelled { IfOk result (λ n. PacketBytes (view p.now) (take n out.new)) }
+    ensures spelled { IfOk result (λ n. PacketBytes (packet_view p.now) (take n out.new)) }
     // What was written reads back.
-    ensures again { IfOk result (λ n. packet_at (take n out.new) ≡ Ok (view p.now)) }
+    ensures again { IfOk result (λ n. packet_at (take n out.new) ≡ Ok (packet_view p.now)) }
 {
     let needed = len(p);
     if out.len() < needed {

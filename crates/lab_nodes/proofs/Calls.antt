@@ -11,7 +11,7 @@ use Rattle.client_core.specs.Client.{generator_of, ClientStandsFor, next_entry, 
 use Rattle.client_rules.specs.Journals.{client_entry}
 use Rattle.relay_core.specs.declared.relay.Relay.{Relay}
 use Rattle.relay_core.specs.Relay.{RelayStandsFor}
-use Rattle.relay_core.specs.Relay as relays
+use Rattle.relay_core.specs.Relay.{RelayDoes, next_relay_entry}
 use Rattle.relay_rules.specs.Journals.{relay_entry}
 use Rattle.topology.specs.declared.client_node.ClientNode.{ClientNode}
 use Rattle.topology.specs.declared.relay_node.RelayNode.{RelayNode}
@@ -87,15 +87,15 @@ relay_is lab H m n dst (from_six x) r = refl
 relay_is lab H m n dst ticked r = refl
 
 module _ (lab : Lab) (H : List Full) (x : Call) (row : RelayNode) (is : Relay) (kept : IsRelayOf (relay_settings lab.topology x.node row) is (journal x.node H).entries) where
-  pub relay_next : relays.next_entry is (journal x.node H).entries x.now.0 (input_lent x.input) ≡ entry_in lab H x (relay row)
+  pub relay_next : next_relay_entry is (journal x.node H).entries x.now.0 (input_lent x.input) ≡ entry_in lab H x (relay row)
   relay_next =
       (λ i. relay_entry (kept.settings i) (journal x.node H).entries x.now.0 (input_lent x.input))
       ∙ sym (relay_is lab H x.now.0 x.node (dst_lent x.input) (input_lent x.input) row)
 
-  pub relay_did : (step : Step) (new : Relay) → relays.Does is x.now.0 (input_lent x.input) step new → step ≡ (entry_in lab H x (relay row)).step
+  pub relay_did : (step : Step) (new : Relay) → RelayDoes is x.now.0 (input_lent x.input) step new → step ≡ (entry_in lab H x (relay row)).step
   relay_did step new done = done.did (journal x.node H).entries kept.stands ∙ ap (λ (e : Entry). e.step) relay_next
 
-  pub relay_kept : (step : Step) (new : Relay) → relays.Does is x.now.0 (input_lent x.input) step new
+  pub relay_kept : (step : Step) (new : Relay) → RelayDoes is x.now.0 (input_lent x.input) step new
       → IsRelayOf (relay_settings lab.topology x.node row) new (with_entry (journal x.node H) (entry_in lab H x (relay row))).entries
   relay_kept step new done = record {
     settings = done.settings ∙ kept.settings;
@@ -109,7 +109,7 @@ module _ (lab : Lab) (H : List Full) (x : Call) (row : RelayNode) (is : Relay) (
       subst (λ (e : Entry). SendsOrKeeps e.step) relay_next (starved (journal x.node H).entries kept.stands) sends
 
   -- where a packet wants memory something is made
-  pub relay_needs : (step : Step) (new : Relay) → relays.Does is x.now.0 (input_lent x.input) step new → six_made (input_lent x.input) step.six ≢ [] → (sendings lab H x.now.0 (entry_in lab H x (relay row)) (relay row)).made ≢ []
+  pub relay_needs : (step : Step) (new : Relay) → RelayDoes is x.now.0 (input_lent x.input) step new → six_made (input_lent x.input) step.six ≢ [] → (sendings lab H x.now.0 (entry_in lab H x (relay row)) (relay row)).made ≢ []
   relay_needs step new done needs none =
       let e = entry_in lab H x (relay row) in
       let packet = none_besides (own_ep (relay row)) (armed H) 0 e.step.sends (six_made e.input e.step.six) none in

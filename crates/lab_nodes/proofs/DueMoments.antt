@@ -8,8 +8,8 @@ use Rattle.qualify.specs.Qualification.{qualification}
 use Rattle.client_rules.specs.Bearings as client_bearings
 use Rattle.client_core.specs.Client.{own_due, listed_peers}
 use Rattle.client_core.specs.Laws.{SaysWhatJournalSays}
-use Rattle.relay_rules.specs.Bearings as relay_bearings
-use Rattle.relay_core.specs.Relay as relays
+use Rattle.relay_rules.specs.Bearings.{relay_mentions}
+use Rattle.relay_core.specs.Relay.{relay_listed_peers}
 use Rattle.topology.specs.declared.node.Node.{Node}
 use Rattle.history.specs.Full.{Full}
 use Rattle.legal.specs.Settings.{client_settings}
@@ -20,14 +20,14 @@ use Rattle.legal.specs.Left as legal
 use Rattle.lab_nodes.specs.declared.played_node.PlayedNode.{PlayedNode}
 use Rattle.lab_nodes.specs.declared.played_node.PlayedNode.TheVariants as played
 use Rattle.lab_nodes.specs.PlayedNode.{row_of, past_of, IsKept, IsReady}
-use Rattle.lab_nodes.specs.DueMoments.{due_moments, all_due, EachSumIsOfThePast}
+use Rattle.lab_nodes.specs.DueMoments.{played_due, all_played_due, EachSumIsOfThePast}
 use Rattle.lab_nodes.proofs.PeerSums.{AreRead, same_sums}
 use Rattle.lab_nodes.proofs.NodesFrom.{NodesFrom, all_from, first_kept, first_ready, behind}
 
 -- OF A NODE
 
 same_moments : AreRead → (lab : Lab) (H : List Full) (n : ℕ) (w : ℕ → ℕ) (p : PlayedNode) → IsKept lab.topology n (past_of lab n H) p → IsReady (now H) p
-    → sum_by w (due_moments (now H) p) ≡ sum_by w (legal.due_moments lab H n (row_of p))
+    → sum_by w (played_due (now H) p) ≡ sum_by w (legal.due_moments lab H n (row_of p))
 same_moments read lab H n w (played.Client c is) kept ready =
     let j : Journal = journal n H in
     let peers : List ℕ = flat_map waits_until (listed_peers is (now H)) in
@@ -41,7 +41,7 @@ same_moments read lab H n w (played.Client c is) kept ready =
     ∙ sym (sum_by-append w (option_to_list (qualification (client_settings lab.topology c) j).due) past)
 same_moments read lab H n w (played.Relay r is) kept ready =
     let j = (journal n H).entries in
-    same_sums w waits_until (relays.listed_peers is (now H)) (relay_bearings.mentions j) (now H) (read.relay is j (now H) kept.stands ready)
+    same_sums w waits_until (relay_listed_peers is (now H)) (relay_mentions j) (now H) (read.relay is j (now H) kept.stands ready)
 same_moments read lab H n w (played.Server row) kept ready = refl
 same_moments read lab H n w (played.Nat row) kept ready = refl
 same_moments read lab H n w (played.Native row) kept ready = refl
@@ -50,14 +50,14 @@ same_moments read lab H n w (played.Native row) kept ready = refl
 
 -- of the nodes from number n on
 same_from : AreRead → (lab : Lab) (H : List Full) (w : ℕ → ℕ) (n : ℕ) (rest : List PlayedNode) → NodesFrom lab H n rest
-    → sum_by w (all_due (now H) rest) ≡ sum_by w (legal.all_due lab H n (map row_of rest))
+    → sum_by w (all_played_due (now H) rest) ≡ sum_by w (legal.all_due lab H n (map row_of rest))
 same_from read lab H w n [] from = refl
 same_from read lab H w n (p ∷ rest) from =
-    let one : sum_by w (due_moments (now H) p) ≡ sum_by w (legal.due_moments lab H n (row_of p)) =
+    let one : sum_by w (played_due (now H) p) ≡ sum_by w (legal.due_moments lab H n (row_of p)) =
     same_moments read lab H n w p (first_kept lab H n p rest from) (first_ready lab H n p rest from) in
     let others = same_from read lab H w (n + 1) rest (behind lab H n p rest from) in
-    sum_by-append w (due_moments (now H) p) (all_due (now H) rest)
-    ∙ ap (λ (k : ℕ). k + sum_by w (all_due (now H) rest)) one
+    sum_by-append w (played_due (now H) p) (all_played_due (now H) rest)
+    ∙ ap (λ (k : ℕ). k + sum_by w (all_played_due (now H) rest)) one
     ∙ ap (λ (k : ℕ). sum_by w (legal.due_moments lab H n (row_of p)) + k) others
     ∙ sym (sum_by-append w (legal.due_moments lab H n (row_of p)) (legal.all_due lab H (n + 1) (map row_of rest)))
 

@@ -15,35 +15,35 @@ use Rattle.topology.specs.Topology.{nodes, node_at}
 use Rattle.lab_nodes.specs.declared.played_node.PlayedNode.{PlayedNode}
 use Rattle.lab_nodes.specs.declared.due.Due.{Due as Found}
 use Rattle.lab_nodes.specs.PlayedNode.{row_of, AreOf, NodesOf}
-use Rattle.legal.specs.Emit.{due_of}
-use Rattle.legal.specs.Next.{Due, earlier, least_due}
+use Rattle.legal.specs.Emit.{tick_due}
+use Rattle.legal.specs.Next.{DueNode, earlier, least_due}
 use Rattle.lab_nodes.specs.Due.{due_as, tick_of}
 
 -- the second of two is earlier, or it isn't
-later : (a b : Due) → a.moment ≤ b.moment → earlier (Some a) (Some b) ≡ Some a
+later : (a b : DueNode) → a.moment ≤ b.moment → earlier (Some a) (Some b) ≡ Some a
 later a b le = rw (le-ltb b.moment a.moment le) refl
 
-sooner : (a b : Due) → b.moment < a.moment → earlier (Some a) (Some b) ≡ Some b
+sooner : (a b : DueNode) → b.moment < a.moment → earlier (Some a) (Some b) ≡ Some b
 sooner a b lt = rw (lt-ltb b.moment a.moment lt) refl
 
-of_three : (a b c : Due) → earlier (earlier (Some a) (Some b)) (Some c) ≡ earlier (Some a) (earlier (Some b) (Some c))
+of_three : (a b c : DueNode) → earlier (earlier (Some a) (Some b)) (Some c) ≡ earlier (Some a) (earlier (Some b) (Some c))
 of_three a b c = elim (cases_lt b.moment a.moment) [
-  | inl ba ↦ ap (λ (x : Option Due). earlier x (Some c)) (sooner a b ba) ∙ elim (cases_lt c.moment b.moment) [
+  | inl ba ↦ ap (λ (x : Option DueNode). earlier x (Some c)) (sooner a b ba) ∙ elim (cases_lt c.moment b.moment) [
     | inl cb ↦ sooner b c cb ∙ sym (sooner a c (omega (arith, ba, cb))) ∙ ap (earlier (Some a)) (sym (sooner b c cb))
     | inr bc ↦ later b c bc ∙ sym (sooner a b ba) ∙ ap (earlier (Some a)) (sym (later b c bc))
   ]
-  | inr ab ↦ ap (λ (x : Option Due). earlier x (Some c)) (later a b ab) ∙ elim (cases_lt c.moment b.moment) [
+  | inr ab ↦ ap (λ (x : Option DueNode). earlier x (Some c)) (later a b ab) ∙ elim (cases_lt c.moment b.moment) [
     | inl cb ↦ ap (earlier (Some a)) (sym (sooner b c cb))
     | inr bc ↦ later a c (omega (arith, ab, bc)) ∙ sym (later a b ab) ∙ ap (earlier (Some a)) (sym (later b c bc))
   ]
 ]
 
-earlier_alone : (x : Option Due) → earlier x None ≡ x
+earlier_alone : (x : Option DueNode) → earlier x None ≡ x
 earlier_alone None = refl
 earlier_alone (Some a) = refl
 
 -- it is one which two come together first
-pub in_turn : (a b c : Option Due) → earlier (earlier a b) c ≡ earlier a (earlier b c)
+pub in_turn : (a b c : Option DueNode) → earlier (earlier a b) c ≡ earlier a (earlier b c)
 in_turn None b c = refl
 in_turn (Some a) None c = refl
 in_turn (Some a) (Some b) None = earlier_alone (earlier (Some a) (Some b))
@@ -53,7 +53,7 @@ in_turn (Some a) (Some b) (Some c) = of_three a b c
 
 -- the first tick of the nodes before n was found, and those of the others are still to come
 pub record IsFirstSo (lab : Lab) (H : List Full) (all : List Node) (n : ℕ) (first : Option Found) : Type 0 where
-  pub tick : Option Due
+  pub tick : Option DueNode
   pub found : first ≡ option_map due_as tick
   pub whole : earlier tick (least_due lab H n (drop n all)) ≡ least_due lab H 0 all
 
@@ -81,7 +81,7 @@ row_at lab list H n p of at = ap (λ (bs : List Node). slice_get bs n) (sym of.r
 
 -- rows without a tick are passed over
 abbrev HasNoTick : Lab → List Full → Node → Type 0
-HasNoTick lab H a = (n : ℕ) → due_of lab H (now H) n a ≡ None
+HasNoTick lab H a = (n : ℕ) → tick_due lab H (now H) n a ≡ None
 
 passed_over : {A : Type 0} (lab : Lab) (H : List Full) (f : A → Node) → ((x : A) → HasNoTick lab H (f x)) → (n : ℕ) (xs : List A) (rest : List Node)
     → least_due lab H n (map f xs ++ rest) ≡ least_due lab H (n + length xs) rest
@@ -156,7 +156,7 @@ first_of_all lab H t first so =
     let dropped : drop n (nodes t) ≡ map native t.natives =
     ap (drop n) (behind_relays t) ∙ drop_at ((map server t.servers ++ map nat t.nats) ++ with_ticks t) (map native t.natives) n (count_until t) in
     let none : least_due lab H n (drop n (nodes t)) ≡ None = ap (least_due lab H n) dropped ∙ none_of_natives lab H n t.natives in
-    so.found ∙ ap (λ (o : Option Due). option_map due_as o) (sym (earlier_alone so.tick) ∙ ap (earlier so.tick) (sym none) ∙ so.whole)
+    so.found ∙ ap (λ (o : Option DueNode). option_map due_as o) (sym (earlier_alone so.tick) ∙ ap (earlier so.tick) (sym none) ∙ so.whole)
 
 -- as of what is kept of the nodes
 same_nodes : (lab : Lab) (t : TopologyState) (list : List PlayedNode) (H : List Full) → AreOf t list → NodesOf lab list H → nodes t ≡ nodes lab.topology

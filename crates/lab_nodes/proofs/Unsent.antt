@@ -24,11 +24,11 @@ use Rattle.client_rules.specs.Laws.{FateOfReception, ReceptionIsWarranted}
 use Rattle.client_rules.specs.Journals.{client_in}
 use Rattle.client_rules.specs.TakenPlaces.{holds, lists, TakesPlace, to_hold, to_list}
 use Rattle.relay_core.specs.declared.relay.Relay.{Relay}
-use Rattle.relay_core.specs.Relay.{settings_of}
+use Rattle.relay_core.specs.Relay.{relay_settings_of}
 use Rattle.relay_core.specs.Relay as relays
-use Rattle.relay_rules.specs.Standing.{RelaySettings, standing_of as relay_standing_of}
-use Rattle.relay_rules.specs.Transmission.{given as given_to, transmission_row, transmission_step, transmission}
-use Rattle.relay_rules.specs.Laws.{FateOfTransmission}
+use Rattle.relay_rules.specs.Standing.{RelaySettings, relay_standing_of}
+use Rattle.relay_rules.specs.Transmission.{relay_given, relay_transmission_row, relay_transmission_step, relay_transmission}
+use Rattle.relay_rules.specs.Laws.{FateOfRelayTransmission}
 use Rattle.relay_rules.specs.Journals.{relay_six}
 use Rattle.topology.specs.declared.native_node.NativeNode.{NativeNode}
 use Rattle.history.specs.Full.{Made, Full}
@@ -112,14 +112,14 @@ received_unsent law s j m from x w t = by_place t.takes where
       ap takes_memory is ∙ listing s a from x w (reception_fate s a from x) (law.warranted s a from x) (sym (ap lists is) ∙ l) unsent
 
 -- a packet to a cone is sent
-cone_sent : FateOfTransmission → (s : RelaySettings) (j : List Entry) (m : ℕ) (x : List ℕ) → (relay_six s j m x).step.fate ≡ fate.SentCone → SendsOrKeeps (relay_six s j m x).step
-unfolding relay_six transmission
+cone_sent : FateOfRelayTransmission → (s : RelaySettings) (j : List Entry) (m : ℕ) (x : List ℕ) → (relay_six s j m x).step.fate ≡ fate.SentCone → SendsOrKeeps (relay_six s j m x).step
+unfolding relay_six relay_transmission
 cone_sent fates s j m x is unsent =
     let a = relay_standing_of j m (destination_in x) in
-    let row : transmission_row (given_to s a x) ≡ fate.SentCone = sym (fates s a x) ∙ is in
-    absurd (filled _ _ (sym (ap (λ (f : Fate). (transmission_step s a x (fields_in x).dst f).sends) row) ∙ unsent))
+    let row : relay_transmission_row (relay_given s a x) ≡ fate.SentCone = sym (fates s a x) ∙ is in
+    absurd (filled _ _ (sym (ap (λ (f : Fate). (relay_transmission_step s a x (fields_in x).dst f).sends) row) ∙ unsent))
 
 -- so what takes room and sends nothing is a packet that waits
-pub room_unsent : FateOfTransmission → (r : Relay) (j : List Entry) (m : ℕ) (x : List ℕ) → relays.TakesRoom r m x j → SendsOrKeeps (relay_six (settings_of r) j m x).step
+pub room_unsent : FateOfRelayTransmission → (r : Relay) (j : List Entry) (m : ℕ) (x : List ℕ) → relays.TakesRoom r m x j → SendsOrKeeps (relay_six (relay_settings_of r) j m x).step
 room_unsent fates r j m x (relays.to_wait is) unsent = ap takes_memory is
-room_unsent fates r j m x (relays.to_list is new) unsent = cone_sent fates (settings_of r) j m x is unsent
+room_unsent fates r j m x (relays.to_list is new) unsent = cone_sent fates (relay_settings_of r) j m x is unsent

@@ -6,8 +6,8 @@ use Rattle.peer_list.specs.Mentions.{Mention}
 use Rattle.peer_list.specs.Peers.{Peer}
 use Rattle.client_rules.specs.Bearings as client_bearings
 use Rattle.client_core.specs.Client.{listed_peers}
-use Rattle.relay_rules.specs.Bearings as relay_bearings
-use Rattle.relay_core.specs.Relay as relays
+use Rattle.relay_rules.specs.Bearings.{relay_mentions}
+use Rattle.relay_core.specs.Relay.{relay_listed_peers}
 use Rattle.topology.specs.declared.node.Node.{Node}
 use Rattle.history.specs.Full.{Full}
 use Rattle.legal.specs.Lab.{Lab}
@@ -17,39 +17,39 @@ use Rattle.storms.specs.Burden as past
 use Rattle.lab_nodes.specs.declared.played_node.PlayedNode.{PlayedNode}
 use Rattle.lab_nodes.specs.declared.played_node.PlayedNode.TheVariants as played
 use Rattle.lab_nodes.specs.PlayedNode.{row_of, past_of, IsKept, IsReady}
-use Rattle.lab_nodes.specs.Waits.{waiting_packets, waits_at, waits, EachWaitsAsInThePast}
+use Rattle.lab_nodes.specs.Waits.{peers_packets, played_waits_at, played_waits, EachWaitsAsInThePast}
 use Rattle.lab_nodes.proofs.PeerSums.{AreRead, AreMentioned, same_sums}
 use Rattle.lab_nodes.proofs.NodesFrom.{NodesFrom, all_from, first_kept, first_ready, behind}
 
 -- OF PEERS
 
 same_packets : (w : List ℕ → ℕ) (peers : List Peer) (j : List Mention) (m : ℕ) → AreMentioned peers j m
-    → sum (map w (waiting_packets peers)) ≡ sum (map w (past.waiting_packets j m))
+    → sum (map w (peers_packets peers)) ≡ sum (map w (past.waiting_packets j m))
 same_packets w peers j m read =
-    sum-map w (waiting_packets peers) ∙ same_sums w (λ (peer : Peer). peer.waiting) peers j m read ∙ sym (sum-map w (past.waiting_packets j m))
+    sum-map w (peers_packets peers) ∙ same_sums w (λ (peer : Peer). peer.waiting) peers j m read ∙ sym (sum-map w (past.waiting_packets j m))
 
 -- OF A NODE
 
 same_at : AreRead → (lab : Lab) (H : List Full) (n : ℕ) (p : PlayedNode) → IsKept lab.topology n (past_of lab n H) p → IsReady (now H) p
-    → sum (waits_at (now H) p) ≡ sum (past.waits_at H n (row_of p))
+    → sum (played_waits_at (now H) p) ≡ sum (past.waits_at H n (row_of p))
 same_at read lab H n (played.Client c is) kept ready =
     let j = journal n H in
     same_packets client_packet (listed_peers is (now H)) (client_bearings.mentions j.entries) (now H) (read.client is j (now H) kept.stands ready).sum
 same_at read lab H n (played.Relay r is) kept ready =
     let j = (journal n H).entries in
-    same_packets relay_packet (relays.listed_peers is (now H)) (relay_bearings.mentions j) (now H) (read.relay is j (now H) kept.stands ready)
+    same_packets relay_packet (relay_listed_peers is (now H)) (relay_mentions j) (now H) (read.relay is j (now H) kept.stands ready)
 same_at read lab H n _ kept ready = refl
 
 -- OF ALL
 
 -- of the nodes from number n on
 same_from : AreRead → (lab : Lab) (H : List Full) (n : ℕ) (rest : List PlayedNode) → NodesFrom lab H n rest
-    → sum (waits (now H) rest) ≡ sum (past.waits_from H n (map row_of rest))
+    → sum (played_waits (now H) rest) ≡ sum (past.waits_from H n (map row_of rest))
 same_from read lab H n [] from = refl
 same_from read lab H n (p ∷ rest) from =
-    let one : sum (waits_at (now H) p) ≡ sum (past.waits_at H n (row_of p)) = same_at read lab H n p (first_kept lab H n p rest from) (first_ready lab H n p rest from) in
+    let one : sum (played_waits_at (now H) p) ≡ sum (past.waits_at H n (row_of p)) = same_at read lab H n p (first_kept lab H n p rest from) (first_ready lab H n p rest from) in
     let others = same_from read lab H (n + 1) rest (behind lab H n p rest from) in
-    let new = sum_by-append (λ (k : ℕ). k) (waits_at (now H) p) (waits (now H) rest) in
+    let new = sum_by-append (λ (k : ℕ). k) (played_waits_at (now H) p) (played_waits (now H) rest) in
     let old = sum_by-append (λ (k : ℕ). k) (past.waits_at H n (row_of p)) (past.waits_from H (n + 1) (map row_of rest)) in
     omega (arith, one, others, new, old)
 

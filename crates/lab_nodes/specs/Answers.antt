@@ -5,7 +5,7 @@ use Rattle.teredo_node.specs.Step.{Step}
 use Rattle.teredo_node.specs.Journal.{Input, Entry, Journal}
 use Rattle.relay_core.specs.declared.relay.Relay.{Relay}
 use Rattle.relay_core.specs.Relay.{RelayStandsFor}
-use Rattle.relay_core.specs.Relay as relays
+use Rattle.relay_core.specs.Relay.{next_relay_entry}
 use Rattle.client_core.specs.declared.client.Client.{Client}
 use Rattle.client_core.specs.Client.{ClientStandsFor, next_entry}
 use Rattle.history.specs.Full.{Full}
@@ -30,7 +30,7 @@ abbrev pub ClientStarves : Client → ℕ → Input → Type 0
 ClientStarves c m input = (j : Journal) → ClientStandsFor c j → SendsOrKeeps (next_entry c j m input).step
 
 abbrev pub RelayStarves : Relay → ℕ → Input → Type 0
-RelayStarves r m input = (j : List Entry) → RelayStandsFor r j → SendsOrKeeps (relays.next_entry r j m input).step
+RelayStarves r m input = (j : List Entry) → RelayStandsFor r j → SendsOrKeeps (next_relay_entry r j m input).step
 
 -- memory was wanting: what the node does keeps something, or sends
 abbrev pub Wants : Call → PlayedNode → Type 0

@@ -6,7 +6,7 @@ use Rattle.qualify.specs.declared.settings.Settings.{Settings}
 use Rattle.relay_rules.specs.Standing.{RelaySettings}
 use Rattle.relay_core.specs.declared.relay.Relay.{Relay}
 use Rattle.relay_core.specs.Relay.{RelayStandsFor}
-use Rattle.relay_core.specs.Relay as relays
+use Rattle.relay_core.specs.Relay.{relay_callable_from, relay_settings_of}
 use Rattle.client_core.specs.declared.client.Client.{Client}
 use Rattle.client_core.specs.Client.{settings_of, words_ahead, callable_from, ClientStandsFor}
 use Rattle.topology.specs.Rows.{TopologyState}
@@ -46,7 +46,7 @@ pub record IsClientOf (s : Settings) (is : Client) (j : Journal) (w : Words) : T
 
 -- a relay is set up so, and stands for these entries
 pub record IsRelayOf (s : RelaySettings) (is : Relay) (j : List Entry) : Type 0 where
-  pub settings : relays.settings_of is ≡ s
+  pub settings : relay_settings_of is ≡ s
   pub stands : RelayStandsFor is j
 
 -- what is kept of node n stands for its past. Of a server, a NAT and a native host nothing is
@@ -73,7 +73,7 @@ abbrev pub IsReady : ℕ → PlayedNode → Type 0
 IsReady m (played.Server row) = Unit {0}
 IsReady m (played.Nat row) = Unit {0}
 IsReady m (played.Client row is) = callable_from is ≤ m
-IsReady m (played.Relay row is) = relays.callable_from is ≤ m
+IsReady m (played.Relay row is) = relay_callable_from is ≤ m
 IsReady m (played.Native row) = Unit {0}
 
 abbrev pub AreReady : ℕ → List PlayedNode → Type 0

@@ -24,7 +24,7 @@ pub struct Due {
 /// Whether a tick of a node may be due before the first one so far. It looks at the bounds that clients and relays keep,
 /// and so may say that one is where none is.
 fn may_come_first(first: &Option<Due>, node: &PlayedNode) -> bool
-    ensures { result ≡ false → (lab : Lab) (H : List Full) (m n : ℕ) (f : Option next.Due) → IsReady m node.now
+    ensures { result ≡ false → (lab : Lab) (H : List Full) (m n : ℕ) (f : Option next.DueNode) → IsReady m node.now
         → IsKept lab.topology n (past_of lab n H) node.now
         → first.now ≡ option_map due_as f → next.earlier f (tick_of lab H m n (row_of node.now)) ≡ f }
 {
@@ -45,7 +45,7 @@ fn may_come_first(first: &Option<Due>, node: &PlayedNode) -> bool
 
 /// Whether a tick at a moment is due before the first one so far, if there is one.
 fn comes_first(first: &Option<Due>, moment: Millis) -> bool
-    ensures { (f : Option next.Due) (x : next.Due) → first.now ≡ option_map due_as f → x.moment ≡ moment.0
+    ensures { (f : Option next.DueNode) (x : next.DueNode) → first.now ≡ option_map due_as f → x.moment ≡ moment.0
         → next.earlier f (Some x) ≡ (if result then Some x else f) }
 {
     match first {
@@ -59,7 +59,7 @@ fn put_earlier(first: &mut Option<Due>, number: u16, node: &PlayedNode, at: Mill
     requires ready { IsReady at.0 node.now }
     requires early { at.0 < CLOCK_END_MS }
     ensures within { (k : ℕ) → number < k → IfSome first.old (λ x. x.node < k) → IfSome first.new (λ x. x.node < k) }
-    ensures earlier { (lab : Lab) (H : List Full) (f : Option next.Due)
+    ensures earlier { (lab : Lab) (H : List Full) (f : Option next.DueNode)
         → IsKept lab.topology number (past_of lab number H) node.now → first.old ≡ option_map due_as f
         → first.new ≡ option_map due_as (next.earlier f (tick_of lab H at.0 number (row_of node.now))) }
 {

@@ -7,7 +7,7 @@ ghost use Rattle.legal.specs.Lab.{draws, stream_key, lab_on};
 ghost use Rattle.legal.specs.Past.{new_journal};
 ghost use Rattle.legal.specs.Settings.{primary_of, secondary_of, client_settings, served, relay_settings};
 ghost use Rattle.qualify.specs.Qualifier.{IsSettings};
-ghost use Rattle.relay_core.specs.Relay as relays;
+ghost use Rattle.relay_core.specs.Relay.{relay_callable_from};
 ghost use Rattle.client_core.specs.Client.{callable_from};
 ghost use Rattle.lab_nodes.specs.PlayedNode.{row_of, past_of, IsClientOf, IsRelayOf, IsKept, NodesOf, IsReady, AreReady};
 
@@ -99,7 +99,7 @@ fn first_relay(
     row: RelayNode,
 ) -> Result<Relay, NoMemory>
     ensures kept { IfOk result (λ relay. IsRelayOf (relay_settings topology.now number row) relay []) }
-    ensures moment { IfOk result (λ relay. relays.callable_from relay ≡ 0) }
+    ensures moment { IfOk result (λ relay. relay_callable_from relay ≡ 0) }
 {
     let list = served(alloc, topology, number)?;
     Ok(Relay::new(alloc, row.at, row.six, Policy::Strict, list))

@@ -4,7 +4,7 @@ ghost use Rattle.td_base.specs.declared.datagram.TheConstants.{DATAGRAM_MAX};
 ghost use Rattle.td_outside.specs.declared.clock.TheConstants.{CLOCK_END_MS};
 ghost use Rattle.history.specs.Full.{Full};
 ghost use Rattle.legal.specs.Lab.{Lab};
-ghost use Rattle.legal.specs.Emit.{due_of};
+ghost use Rattle.legal.specs.Emit.{tick_due};
 ghost use Rattle.legal.specs.Next.{address_of};
 ghost use Rattle.lab_nodes.specs.Call.{input_lent, IsShortInput};
 ghost use Rattle.lab_nodes.specs.PlayedNode.{row_of, past_of, IsKept, IsReady};
@@ -68,7 +68,7 @@ impl PlayedNode {
         requires ready { IsReady at.0 self.now }
         requires early { at.0 < CLOCK_END_MS }
         ensures { (lab : Lab) (H : List Full) (n : ℕ) → IsKept lab.topology n (past_of lab n H) self.now
-            → option_map (λ m. m.0) result ≡ due_of lab H at.0 n (row_of self.now) }
+            → option_map (λ m. m.0) result ≡ tick_due lab H at.0 n (row_of self.now) }
     {
         match self {
             PlayedNode::Client { client, .. } => client.due(at),

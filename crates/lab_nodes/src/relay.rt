@@ -1,7 +1,7 @@
 //! What a relay does with what comes to it.
 ghost use Rattle.std.specs.Prelude.{◌≤◌, length, OnOk, OnErr, IfOk, IfSome};
 ghost use Rattle.td_base.specs.declared.datagram.TheConstants.{DATAGRAM_MAX};
-ghost use Rattle.relay_core.specs.Relay as relays;
+ghost use Rattle.relay_core.specs.Relay.{RelayDoes, IsCallableRelay, relay_callable_from};
 ghost use Rattle.lab_nodes.specs.declared.played_node.PlayedNode.TheVariants as played;
 ghost use Rattle.lab_nodes.specs.Call.{input_lent, IsShortInput};
 ghost use Rattle.lab_nodes.specs.Answers.{RelayStarves, AnswersCall, Wants};
@@ -19,10 +19,10 @@ use topology::RelayNode;
 
 /// Lets a relay do what is asked of it.
 fn ask_relay(relay: &mut Relay, call: Call<'_>, step: &mut Step) -> Result<(), NoMemory>
-    requires callable { relays.IsCallable relay.old call.now.0 }
-    ensures done { OnOk result (relays.Does relay.old call.entry.now.0 (input_lent call.entry.input) step.new relay.new) }
+    requires callable { IsCallableRelay relay.old call.now.0 }
+    ensures done { OnOk result (RelayDoes relay.old call.entry.now.0 (input_lent call.entry.input) step.new relay.new) }
     ensures starved { OnErr result (RelayStarves relay.old call.entry.now.0 (input_lent call.entry.input)) }
-    ensures again { relays.callable_from relay.new ≤ call.entry.now.0 }
+    ensures again { relay_callable_from relay.new ≤ call.entry.now.0 }
 {
     relay_rules::fate_of_transmission();
     match call.input {
@@ -49,9 +49,9 @@ pub fn answer_relay(
     call: Call<'_>,
     step: &mut Step,
 ) -> Result<Asked, NoMemory>
-    requires callable { relays.IsCallable relay.old call.now.0 }
+    requires callable { IsCallableRelay relay.old call.now.0 }
     requires short { IsShortInput (input_lent call.input) }
-    ensures ready { relays.callable_from relay.new ≤ call.entry.now.0 }
+    ensures ready { relay_callable_from relay.new ≤ call.entry.now.0 }
     ensures answers { IfOk result (λ asked. AnswersCall call.entry (played.Relay row relay.old) (played.Relay row relay.new) step.new asked) }
     ensures short { IfOk result (λ asked. IfSome asked.packet (λ packet. length packet.bytes ≤ DATAGRAM_MAX)) }
     ensures wants { OnErr result (Wants call.entry (played.Relay row relay.old)) }

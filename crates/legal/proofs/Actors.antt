@@ -14,7 +14,7 @@ use Rattle.legal.specs.Past.{now, is_restart, forgotten, new_journal, journal}
 use Rattle.legal.specs.Emit.{entry_of}
 use Rattle.legal.specs.Next.{Numbered, acts, plain, no_ep, dst_of, input_of}
 use Rattle.legal.specs.Kinds as kinds
-use Rattle.legal.specs.Kinds.{Quiet, shut, strayed, missing, none_left, settled, uncopied, hosted, restarted, forgot, faulted, Kind, quiet, put, copied, ticks, handed, reached, event_of}
+use Rattle.legal.specs.Kinds.{Quiet, shut, strayed, missing, none_left, settled, uncopied, hosted, restarted, forgot, faulted, Kind, quiet, put, copied, ticks, handed, reached, asked_event}
 use Rattle.legal.specs.Actors as actors
 use Rattle.legal.specs.Actors.{IsGiven, IsActOf, Acted, idles, does, EachActs}
 use Rattle.legal.proofs.ByKind.{kind_of}
@@ -68,13 +68,13 @@ acted_in lab H r (quiet entry address made passed why) = idles entry address (ha
 acted_in lab H r (put src dst bytes asked is) = nobody lab H r _ is refl refl refl refl refl
 acted_in lab H r (copied number src dst x asked at is) = nobody lab H r _ is refl refl refl refl refl
 acted_in lab H r (ticks ms x asked due within is) =
-    acts_as lab H (event_of r) act.Tick None (max x.moment (now H)) x.number no_ep ticked x.node r is due.there refl (ap (forgotten lab) asked)
+    acts_as lab H (asked_event r) act.Tick None (max x.moment (now H)) x.number no_ep ticked x.node r is due.there refl (ap (forgotten lab) asked)
     (actors.ticks x due refl (ap (λ (z : Full). z.delivered) is) (ap (λ (z : Full). z.moment) is) refl refl)
 acted_in lab H r (handed v n x a hands at is) =
-    acts_as lab H (event_of r) (plain v) None (now H) n no_ep (given x) a r is at (hands_still lab H r.asked v n x hands) (hands_forget_none lab H r.asked v n x hands)
+    acts_as lab H (asked_event r) (plain v) None (now H) n no_ep (given x) a r is at (hands_still lab H r.asked v n x hands) (hands_forget_none lab H r.asked v n x hands)
     (actors.hosted v x hands (ap (λ (z : Full). z.delivered) is) (ap (λ (z : Full). z.moment) is) refl refl)
 acted_in lab H r (reached number n x a delivers at goes to is) =
-    acts_as lab H (event_of r) (act.Deliver number) (Some number) (now H) n (dst_of x) (input_of x) a r is to refl (delivers_forget_none lab H r.asked number delivers)
+    acts_as lab H (asked_event r) (act.Deliver number) (Some number) (now H) n (dst_of x) (input_of x) a r is to refl (delivers_forget_none lab H r.asked number delivers)
     (actors.delivered number x (ap (λ (z : Full). z.delivered) is) at goes (ap (λ (z : Full). z.moment) is) refl refl)
 
 pub each_acts : EachActs

@@ -10,8 +10,8 @@ use Rattle.peer_list.specs.Judged.{is_none, due_of}
 use Rattle.qualify.specs.Qualification.{qualification}
 use Rattle.client_rules.specs.Bearings as client_bearings
 use Rattle.client_rules.specs.Laws as client_laws
-use Rattle.relay_rules.specs.Bearings as relay_bearings
-use Rattle.relay_rules.specs.Laws as relay_laws
+use Rattle.relay_rules.specs.Bearings.{relay_mentions}
+use Rattle.relay_rules.specs.Laws.{RelayJournalHasFew}
 use Rattle.topology.specs.Rows.{TopologyState}
 use Rattle.topology.specs.Rules.{IsTopology}
 use Rattle.topology.specs.declared.node.Node.{Node}
@@ -29,7 +29,7 @@ use Rattle.legal.specs.Lab.{Lab}
 -- the laws of journals that this needs
 pub record FewLaws : Type 0 where
   pub client : client_laws.JournalHasFew
-  pub relay : relay_laws.JournalHasFew
+  pub relay : RelayJournalHasFew
 
 -- OF PEERS
 
@@ -74,7 +74,7 @@ few_moments laws lab H n (client c) g there =
     at_most_one (Some x) = omega arith
 few_moments laws lab H n (relay r) g there =
     let is : IsOfRelay (relay_settings lab.topology n r) (journal n H) (now H) = of_relay lab H n r g there in
-    let peers : length (peers_due (relay_bearings.mentions (journal n H).entries) (now H)) ≤ 256 = few_peers (relay_bearings.mentions (journal n H).entries) (now H) (laws.relay (relay_settings lab.topology n r) (journal n H).entries (now H) is.journal is.moments) in
+    let peers : length (peers_due (relay_mentions (journal n H).entries) (now H)) ≤ 256 = few_peers (relay_mentions (journal n H).entries) (now H) (laws.relay (relay_settings lab.topology n r) (journal n H).entries (now H) is.journal is.moments) in
     omega (arith, peers)
 few_moments laws lab H n (native a) g there = omega arith
 

@@ -26,7 +26,7 @@ use Rattle.legal.specs.Past.{now, is_node, is_restart, forgotten, at_nat, nat_pa
 use Rattle.legal.specs.Emit.{is_at_place, crossing_unless, by_way, entry_of}
 use Rattle.legal.specs.Next.{Numbered, acts, plain, no_ep, dst_of, input_of}
 use Rattle.legal.specs.Kinds as kinds
-use Rattle.legal.specs.Kinds.{Delivers, Hands, Quiet, shut, strayed, missing, none_left, settled, uncopied, hosted, restarted, forgot, faulted, Kind, quiet, put, copied, ticks, handed, reached, event_of}
+use Rattle.legal.specs.Kinds.{Delivers, Hands, Quiet, shut, strayed, missing, none_left, settled, uncopied, hosted, restarted, forgot, faulted, Kind, quiet, put, copied, ticks, handed, reached, asked_event}
 use Rattle.legal.specs.NatGrowth.{ComesBy, IsOutOf, NatGrows, stays, restarts, forgets, lets_out, EachNatGrows}
 use Rattle.legal.proofs.ByKind.{kind_of}
 use Rattle.legal.proofs.Framed.{is_node-true}
@@ -87,9 +87,9 @@ let_out : (lab : Lab) (H : List Full) (r : Full) → Kind lab H r → LetsOut la
 let_out lab H r (quiet entry address made passed why) = nothing passed
 let_out lab H r (put src dst bytes asked is) = nothing (ap (λ (z : Full). z.passed) is)
 let_out lab H r (copied number src dst x asked there is) = nothing (ap (λ (z : Full). z.passed) is)
-let_out lab H r (ticks ms x asked due within is) = subst (LetsOut lab H) (sym is) (lets_of lab H (event_of r) act.Tick None (max x.moment (now H)) x.number no_ep ticked x.node due.there)
-let_out lab H r (handed v n x a hands there is) = subst (LetsOut lab H) (sym is) (lets_of lab H (event_of r) (plain v) None (now H) n no_ep (given x) a there)
-let_out lab H r (reached number n x a delivers there goes to is) = subst (LetsOut lab H) (sym is) (lets_of lab H (event_of r) (act.Deliver number) (Some number) (now H) n (dst_of x) (input_of x) a to)
+let_out lab H r (ticks ms x asked due within is) = subst (LetsOut lab H) (sym is) (lets_of lab H (asked_event r) act.Tick None (max x.moment (now H)) x.number no_ep ticked x.node due.there)
+let_out lab H r (handed v n x a hands there is) = subst (LetsOut lab H) (sym is) (lets_of lab H (asked_event r) (plain v) None (now H) n no_ep (given x) a there)
+let_out lab H r (reached number n x a delivers there goes to is) = subst (LetsOut lab H) (sym is) (lets_of lab H (asked_event r) (act.Deliver number) (Some number) (now H) n (dst_of x) (input_of x) a to)
 
 grows_out : (lab : Lab) (H : List Full) (r : Full) (k : ℕ) → LetsOut lab H r → NatGrows lab r k (outs_at k r.passed)
 grows_out lab H r k (nothing none) = stays (ap (outs_at k) none)

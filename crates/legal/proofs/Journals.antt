@@ -18,7 +18,7 @@ use Rattle.legal.specs.Settings.{client_settings, relay_settings}
 use Rattle.legal.specs.Past.{now, is_node, is_restart, with_entries, new_journal, journal, words}
 use Rattle.legal.specs.Emit.{entry_of}
 use Rattle.legal.specs.Next.{Numbered, acts, plain, no_ep, dst_of, input_of}
-use Rattle.legal.specs.Kinds.{Kind, quiet, put, copied, ticks, handed, reached, event_of}
+use Rattle.legal.specs.Kinds.{Kind, quiet, put, copied, ticks, handed, reached, asked_event}
 use Rattle.legal.specs.Laws.{IsOfClient, IsOfRelay, EachClientIsJournal, EachRelayIsJournal}
 use Rattle.legal.proofs.Framed.{is_node-true}
 use Rattle.legal.proofs.ByKind.{kind_of}
@@ -45,9 +45,9 @@ entry_kind : (lab : Lab) (H : List Full) (r : Full) (n : ℕ) (a : Node) → Kin
 entry_kind lab H r n a (quiet entry address made passed why) at here = inl entry
 entry_kind lab H r n a (put src dst bytes asked is) at here = inl (ap (λ (z : Full). z.entry) is)
 entry_kind lab H r n a (copied number src dst x asked there is) at here = inl (ap (λ (z : Full). z.entry) is)
-entry_kind lab H r n a (ticks ms x asked due within is) at here = inr (of_acts lab H (event_of r) act.Tick None (max x.moment (now H)) x.number n no_ep ticked a x.node r is at due.there here)
-entry_kind lab H r n a (handed v k x b hands there is) at here = inr (of_acts lab H (event_of r) (plain v) None (now H) k n no_ep (given x) a b r is at there here)
-entry_kind lab H r n a (reached number k x b delivers there goes to is) at here = inr (of_acts lab H (event_of r) (act.Deliver number) (Some number) (now H) k n (dst_of x) (input_of x) a b r is at to here)
+entry_kind lab H r n a (ticks ms x asked due within is) at here = inr (of_acts lab H (asked_event r) act.Tick None (max x.moment (now H)) x.number n no_ep ticked a x.node r is at due.there here)
+entry_kind lab H r n a (handed v k x b hands there is) at here = inr (of_acts lab H (asked_event r) (plain v) None (now H) k n no_ep (given x) a b r is at there here)
+entry_kind lab H r n a (reached number k x b delivers there goes to is) at here = inr (of_acts lab H (asked_event r) (act.Deliver number) (Some number) (now H) k n (dst_of x) (input_of x) a b r is at to here)
 
 -- A FURTHER ENTRY
 

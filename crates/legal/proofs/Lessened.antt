@@ -17,12 +17,12 @@ use Rattle.topology.specs.declared.node.Node.TheVariants.{Server as server, Nat 
 use Rattle.topology.specs.Topology.{nodes}
 use Rattle.qualify.specs.Qualification.{qualification}
 use Rattle.client_rules.specs.Bearings as client_bearings
-use Rattle.relay_rules.specs.Bearings as relay_bearings
+use Rattle.relay_rules.specs.Bearings.{relay_mentions}
 use Rattle.legal.specs.declared.left.TheConstants.{LEFT_MAX}
 use Rattle.legal.specs.Settings.{client_settings, relay_settings}
 use Rattle.legal.specs.Past.{now, began, has_more, journal, words}
-use Rattle.legal.specs.Emit.{entry_of, due_of}
-use Rattle.legal.specs.Next.{Numbered, numbered, Due, least_due, advanced, advance_with, acts, no_ep, next_of}
+use Rattle.legal.specs.Emit.{entry_of, tick_due}
+use Rattle.legal.specs.Next.{Numbered, numbered, DueNode, least_due, advanced, advance_with, acts, no_ep, next_of}
 use Rattle.legal.specs.Legal.{GoesOn}
 use Rattle.legal.specs.Kinds.{IsDue}
 use Rattle.legal.specs.Left.{peers_due, due_moments, all_due, left_to}
@@ -85,7 +85,7 @@ module _ (laws : ClientLaws) (lab : Lab) (H : List Full) (e : Numbered) (n k end
       subst (λ (j : Journal). weights end n (option_to_list (qualification (client_settings lab.topology c) j).due ++ peers_due (client_bearings.mentions j.entries) n) ≤ weights end (now H) (due_moments lab H i (client c)))
       (sym (same_journal i other)) (client_fades laws (client_settings lab.topology c) (journal i H) (now H) n end later)
   other_node i (relay b) other =
-      subst (λ (j : Journal). weights end n (peers_due (relay_bearings.mentions j.entries) n) ≤ weights end (now H) (due_moments lab H i (relay b)))
+      subst (λ (j : Journal). weights end n (peers_due (relay_mentions j.entries) n) ≤ weights end (now H) (due_moments lab H i (relay b)))
       (sym (same_journal i other)) (relay_fades laws.peers (journal i H).entries (now H) n end later)
   other_node i (native b) other = omega arith
 
@@ -99,7 +99,7 @@ module _ (laws : ClientLaws) (lab : Lab) (H : List Full) (e : Numbered) (n k end
       omega (arith, others, one, new, old)
 
   -- its own due moments weigh less
-  own : (m : ℕ) (x : Node) → x ≡ a → due_of lab H (now H) k x ≡ Some m → m ≤ n → IsSlow x → weights end n (due_moments lab (r ∷ H) k x) < weights end (now H) (due_moments lab H k x)
+  own : (m : ℕ) (x : Node) → x ≡ a → tick_due lab H (now H) k x ≡ Some m → m ≤ n → IsSlow x → weights end n (due_moments lab (r ∷ H) k x) < weights end (now H) (due_moments lab H k x)
   own m (server b) is due le slow = absurd (false≢true (ap is_some due))
   own m (nat b) is due le slow = absurd (false≢true (ap is_some due))
   own m (client c) is due le slow =
@@ -109,12 +109,12 @@ module _ (laws : ClientLaws) (lab : Lab) (H : List Full) (e : Numbered) (n k end
       (sym next) (client_falls laws s (journal k H) (now H) n end m (words lab k H) slow later within due le)
   own m (relay b) is due le slow =
       let next : journal k (r ∷ H) ≡ with_entry (journal k H) (entry_of lab H n k no_ep ticked (relay b)) = next_journal ∙ ap (λ (x : Node). with_entry (journal k H) (entry_of lab H n k no_ep ticked x)) (sym is) in
-      subst (λ (j : Journal). weights end n (peers_due (relay_bearings.mentions j.entries) n) < weights end (now H) (due_moments lab H k (relay b)))
+      subst (λ (j : Journal). weights end n (peers_due (relay_mentions j.entries) n) < weights end (now H) (due_moments lab H k (relay b)))
       (sym next) (relay_falls laws.peers (relay_settings lab.topology k b) (journal k H).entries (now H) n end m later within due le)
   own m (native b) is due le slow = absurd (false≢true (ap is_some due))
 
   -- all due moments do, from node i on
-  among : (m i p : ℕ) (rest : List Node) → i + p ≡ k → slice_get rest p ≡ Some a → due_of lab H (now H) k a ≡ Some m → m ≤ n → IsSlow a
+  among : (m i p : ℕ) (rest : List Node) → i + p ≡ k → slice_get rest p ≡ Some a → tick_due lab H (now H) k a ≡ Some m → m ≤ n → IsSlow a
       → weights end n (all_due lab (r ∷ H) i rest) < weights end (now H) (all_due lab H i rest)
   among m i p [] place there due le slow = absurd (false≢true (ap is_some there))
   among m i zero (b ∷ rest) place there due le slow =
@@ -140,13 +140,13 @@ module _ (laws : ClientLaws) (lab : Lab) (H : List Full) (e : Numbered) (n k end
 -- a tick within an advance
 record IsTick (lab : Lab) (H : List Full) (i : ℕ) (e : Event) : Type 0 where
   ms : ℕ
-  x : Due
+  x : DueNode
   asked : e ≡ event.Advance ms
   due : IsDue lab H x
   within : x.moment ≤ began H + ms
   is : next_of lab H i e ≡ acts lab H (numbered i (event.Advance ms)) act.Tick None (max x.moment (now H)) x.number no_ep ticked x.node
 
-advance_ticks : (lab : Lab) (H : List Full) (i ms : ℕ) (o : Option Due) → least_due lab H 0 (nodes lab.topology) ≡ o
+advance_ticks : (lab : Lab) (H : List Full) (i ms : ℕ) (o : Option DueNode) → least_due lab H 0 (nodes lab.topology) ≡ o
     → let r : Full = advance_with lab H (numbered i (event.Advance ms)) (began H + ms) o in has_more (event.Advance ms) r.act ≡ true → next_of lab H i (event.Advance ms) ≡ r → IsTick lab H i (event.Advance ms)
 advance_ticks lab H i ms None e more is = absurd (false≢true more)
 advance_ticks lab H i ms (Some a) e more is = by (nat_le a.moment (began H + ms)) refl more is where
@@ -173,7 +173,7 @@ more_ticks lab H i event.Settle is more = absurd (false≢true is)
 -- WHAT IS LEFT
 
 -- of the advance less is left after the tick
-less_to : ClientLaws → (lab : Lab) (H : List Full) (e : Numbered) (x : Due) (end : ℕ) → IsTopology lab.topology → IsDue lab H x → x.moment ≤ end → now H ≤ end
+less_to : ClientLaws → (lab : Lab) (H : List Full) (e : Numbered) (x : DueNode) (end : ℕ) → IsTopology lab.topology → IsDue lab H x → x.moment ≤ end → now H ≤ end
     → left_to lab (acts lab H e act.Tick None (max x.moment (now H)) x.number no_ep ticked x.node ∷ H) end < left_to lab H end
 less_to laws lab H e x end is due within past =
     among laws lab H e (max x.moment (now H)) x.number end x.node (omega arith) (omega (arith, within, past)) x.moment 0 x.number (nodes lab.topology) (omega arith) due.there due.due (omega arith) (one_slow (nodes lab.topology) x.number x.node (all_slow lab.topology is) due.there)

@@ -6,7 +6,7 @@ use Rattle.td_base.specs.Ip4.{IsIp4, same_ip}
 use Rattle.td_base.specs.Ep.{IsEp}
 use Rattle.td_base.specs.declared.endpoint.Ep.{Ep}
 use Rattle.bubble.proofs.MadeInputs.{zeros_are}
-use Rattle.nat_kinds.specs.History.{Entry as NatEntry}
+use Rattle.nat_kinds.specs.History.{NatEntry}
 use Rattle.nat_kinds.specs.Mappings.{live_port, is_used, first_free, lowest_free}
 use Rattle.nat_kinds.specs.Answer.{port_for, nat_answer, live_after}
 use Rattle.nat_kinds.specs.Laws.{IsPast}

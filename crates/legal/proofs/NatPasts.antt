@@ -4,7 +4,7 @@ use Rattle.std.specs.Prelude.{max, option_map, option_to_list}
 use Rattle.std.proofs.Math.Nat.{le_refl, le_trans}
 use Rattle.std.proofs.lemmas.Bool.Decides.{nat_tests}
 use Rattle.td_base.specs.declared.endpoint.Ep.{Ep}
-use Rattle.nat_kinds.specs.History.{Entry as NatEntry, Out, Forget, Restart}
+use Rattle.nat_kinds.specs.History.{NatEntry, Out, Forget, Restart}
 use Rattle.nat_kinds.specs.Answer.{nat_answer}
 use Rattle.nat_kinds.specs.Laws.{IsPast}
 use Rattle.nat_kinds.specs.declared.settings.NatSettings.{NatSettings}
@@ -26,7 +26,7 @@ use Rattle.legal.specs.Emit.{is_at_place, crossing_unless, by_way, sendings, ent
 use Rattle.topology.specs.Chains.{Passing, nat_set_up, outs_at, after_passing, way_out, passing, answered, crossing}
 use Rattle.legal.specs.Next.{Numbered, acts, plain, no_ep, dst_of, input_of}
 use Rattle.legal.specs.Legal.{Grown}
-use Rattle.legal.specs.Kinds.{Kind, quiet, put, copied, ticks, handed, reached, event_of}
+use Rattle.legal.specs.Kinds.{Kind, quiet, put, copied, ticks, handed, reached, asked_event}
 use Rattle.legal.proofs.ByKind.{kind_of}
 use Rattle.legal.proofs.Times.{is_later}
 use Rattle.legal.specs.Lab.{Lab}
@@ -88,9 +88,9 @@ of_kind : (lab : Lab) (H : List Full) (r : Full) (k : ℕ) → Kind lab H r → 
 of_kind lab H r k (quiet entry address made passed why) = subst (λ (ps : List Passing). Past lab H r.moment k [] → Past lab H r.moment k ps) (sym passed) (λ p. p)
 of_kind lab H r k (put src dst bytes asked is) = subst (λ (z : Full). IsLetOut lab H k z) (sym is) (λ p. p)
 of_kind lab H r k (copied number src dst x asked there is) = subst (λ (z : Full). IsLetOut lab H k z) (sym is) (λ p. p)
-of_kind lab H r k (ticks ms x asked due within is) = of_acts lab H (event_of r) act.Tick None (max x.moment (now H)) x.number k no_ep ticked x.node r is
-of_kind lab H r k (handed v n x a hands there is) = of_acts lab H (event_of r) (plain v) None (now H) n k no_ep (given x) a r is
-of_kind lab H r k (reached number n x a delivers there goes at is) = of_acts lab H (event_of r) (act.Deliver number) (Some number) (now H) n k (dst_of x) (input_of x) a r is
+of_kind lab H r k (ticks ms x asked due within is) = of_acts lab H (asked_event r) act.Tick None (max x.moment (now H)) x.number k no_ep ticked x.node r is
+of_kind lab H r k (handed v n x a hands there is) = of_acts lab H (asked_event r) (plain v) None (now H) n k no_ep (given x) a r is
+of_kind lab H r k (reached number n x a delivers there goes at is) = of_acts lab H (asked_event r) (act.Deliver number) (Some number) (now H) n k (dst_of x) (input_of x) a r is
 
 -- WHAT A RECORD ADDS
 

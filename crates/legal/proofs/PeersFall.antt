@@ -9,7 +9,7 @@ use Rattle.td_base.specs.Ip6.{same_ip6, same_ip6-true, same_ip6-self}
 use Rattle.td_base.specs.declared.ipv6.Ip6.{Ip6}
 use Rattle.peer_list.specs.declared.limits.TheConstants.{LISTED_MS}
 use Rattle.peer_list.specs.Mentions.{Bearing, no_bearing, Mention}
-use Rattle.peer_list.specs.Listed.{is_young, is_listed, with_peer, touched, listed}
+use Rattle.peer_list.specs.Listed.{is_younger, is_listed, with_peer, touched, listed}
 use Rattle.peer_list.specs.Peers.{Peer, no_peer, peer_at, known}
 use Rattle.peer_list.specs.Judged.{is_none, due_of}
 use Rattle.peer_list.specs.Waiting.{Listing, first_due}
@@ -143,7 +143,7 @@ was_touched : PeerLaws → (j : List Mention) (n : ℕ) (p : Ip6) → is_listed 
 unfolding listed
 was_touched laws j n p h = passes_in (λ q. is_listed q n j) p (touched j) (laws.are j n p ∙ h)
 
-young_now : (m : ℕ) → is_young LISTED_MS m m ≡ true
+young_now : (m : ℕ) → is_younger LISTED_MS m m ≡ true
 young_now m = lt-ltb _ _ (omega arith)
 
 -- where a peer was due, and none is any more, they weigh less
@@ -217,13 +217,13 @@ fall_turn laws end n b j l first less =
     in_front there true = moved new l.who (touched j) there
     in_front there false = omega arith
 
-    entry : (p : Ip6) → peer_at (e ∷ j) n p ≡ peer_if (same_ip6 p l.who) b.touches (is_young LISTED_MS n n) e (peer_at j n p) (peer_at j n p)
+    entry : (p : Ip6) → peer_at (e ∷ j) n p ≡ peer_if (same_ip6 p l.who) b.touches (is_younger LISTED_MS n n) e (peer_at j n p) (peer_at j n p)
     entry p = laws.one_entry e j n p
 
     turned : is_none (known j n l.who).waiting ≡ false → known (e ∷ j) n l.who ≡ after e (known j n l.who)
     turned waits =
         ap (λ (o : Option Peer). unwrap_or o no_peer) (entry l.who)
-        ∙ ap (λ x. unwrap_or (peer_if x b.touches (is_young LISTED_MS n n) e (peer_at j n l.who) (peer_at j n l.who)) no_peer) (same_ip6-self l.who)
+        ∙ ap (λ x. unwrap_or (peer_if x b.touches (is_younger LISTED_MS n n) e (peer_at j n l.who) (peer_at j n l.who)) no_peer) (same_ip6-self l.who)
         ∙ ap (λ x. unwrap_or (peer_if true b.touches x e (peer_at j n l.who) (peer_at j n l.who)) no_peer) (young_now n)
         ∙ after_entry b.touches e (peer_at j n l.who) waits
 
@@ -242,7 +242,7 @@ fall_turn laws end n b j l first less =
           subst (λ x. new x ≤ old x) (sym is) (omega (arith, at))
       by false other =
           let is : new p ≡ old p =
-          ap (λ (o : Option Peer). peer_weight end n (unwrap_or o no_peer)) (entry p ∙ ap (λ x. peer_if x b.touches (is_young LISTED_MS n n) e (peer_at j n p) (peer_at j n p)) other) in
+          ap (λ (o : Option Peer). peer_weight end n (unwrap_or o no_peer)) (entry p ∙ ap (λ x. peer_if x b.touches (is_younger LISTED_MS n n) e (peer_at j n p) (peer_at j n p)) other) in
           omega (arith, is)
 
 -- WHAT A TRY DOES

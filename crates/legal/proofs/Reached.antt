@@ -19,7 +19,7 @@ use Rattle.topology.specs.declared.native_node.NativeNode.{NativeNode}
 use Rattle.topology.specs.Rows.{TopologyState}
 use Rattle.topology.specs.declared.node.Node.{Node}
 use Rattle.topology.specs.declared.node.Node.TheVariants.{Server as server, Nat as nat, Client as client, Relay as relay, Native as native}
-use Rattle.topology.specs.Topology.{nodes, node_at, is_at, is_behind, is_native, number_of}
+use Rattle.topology.specs.Topology.{nodes, node_at, is_at, is_behind, is_native, first_passing}
 use Rattle.topology.specs.Rules.{AreDistinct, same_inside, IsTopology}
 use Rattle.topology.specs.NodeRules.{has_address, AddressesAreApart}
 use Rattle.topology.specs.Chains.{chain_in}
@@ -51,7 +51,7 @@ placed p xs n a at h only =
     ∙ ap (λ (b : Bool). cond b (Some n) None) (lt-ltb n (length xs) (slice_get_within xs n a at))
 
 -- a node that alone passes is reached
-looked_up : (test : Node → Bool) (t : TopologyState) (n : ℕ) (a : Node) → node_at t n ≡ Some a → test a ≡ true → ((k : ℕ) (b : Node) → node_at t k ≡ Some b → test b ≡ true → k ≡ n) → reach t (number_of test t) ≡ reaches n a
+looked_up : (test : Node → Bool) (t : TopologyState) (n : ℕ) (a : Node) → node_at t n ≡ Some a → test a ≡ true → ((k : ℕ) (b : Node) → node_at t k ≡ Some b → test b ≡ true → k ≡ n) → reach t (first_passing test t) ≡ reaches n a
 looked_up test t n a at h only = ap (reach t) (placed test (nodes t) n a at h only) ∙ ap (reach_node n) at
 
 -- LISTS OF DIFFERENT THINGS
@@ -131,7 +131,7 @@ has_it dst (relay r) h =
     subst (λ (ip : Ip4). has_address ip (relay r) ≡ true) (sym same) (here_has r.at.ip false)
 has_it dst (native h) g = absurd (false≢true g)
 
-at_dst : AddressesAreApart → (t : TopologyState) (dst : Ep) (n : ℕ) (a : Node) → IsTopology t → node_at t n ≡ Some a → is_at dst a ≡ true → reach t (number_of (is_at dst) t) ≡ reaches n a
+at_dst : AddressesAreApart → (t : TopologyState) (dst : Ep) (n : ℕ) (a : Node) → IsTopology t → node_at t n ≡ Some a → is_at dst a ≡ true → reach t (first_passing (is_at dst) t) ≡ reaches n a
 at_dst apart t dst n a is at h = looked_up (is_at dst) t n a at h (λ k b to g. apart t k n b a dst.ip is to at (has_it dst b g) (has_it dst a h))
 
 -- ONE INSIDE ENDPOINT
@@ -207,7 +207,7 @@ it_sits k inside (nat a) h = absurd (false≢true h)
 it_sits k inside (relay a) h = absurd (false≢true h)
 it_sits k inside (native a) h = absurd (false≢true h)
 
-at_inside : (t : TopologyState) (n : ℕ) (c : ClientNode) → IsTopology t → node_at t n ≡ Some (client c) → reach t (number_of (is_behind c.nat c.inside) t) ≡ reaches n (client c)
+at_inside : (t : TopologyState) (n : ℕ) (c : ClientNode) → IsTopology t → node_at t n ≡ Some (client c) → reach t (first_passing (is_behind c.nat c.inside) t) ≡ reaches n (client c)
 at_inside t n c is at =
     let own : is_behind c.nat c.inside (client c) ≡ true = both_true (c.nat == c.nat) (same_ep c.inside c.inside) (same_number c.nat) (same_ep-self c.inside) in
     let distinct : AreDistinct same_inside (flat_map clients_in (nodes t)) = subst (AreDistinct same_inside) (sym (all_clients t)) is.inside in
@@ -241,7 +241,7 @@ it_has ip (nat a) g = absurd (false≢true g)
 it_has ip (client a) g = absurd (false≢true g)
 it_has ip (relay a) g = absurd (false≢true g)
 
-at_six : (t : TopologyState) (ip : Ip6) (n : ℕ) (h : NativeNode) → IsTopology t → node_at t n ≡ Some (native h) → same_ip6 ip h.six ≡ true → reach t (number_of (is_native ip) t) ≡ reaches n (native h)
+at_six : (t : TopologyState) (ip : Ip6) (n : ℕ) (h : NativeNode) → IsTopology t → node_at t n ≡ Some (native h) → same_ip6 ip h.six ≡ true → reach t (first_passing (is_native ip) t) ≡ reaches n (native h)
 at_six t ip n h is at own =
     let theirs : AreDistinct same_ip6 (map (λ (x : NativeNode). x.six) t.natives) = right_distinct same_ip6 (same_ip6 ip) (two_same ip) natives_in (map (λ (r : RelayNode). r.six) t.relays) (map (λ (x : NativeNode). x.six) t.natives) is.sixes in
     let distinct : AreDistinct same_ip6 (flat_map natives_in (nodes t)) = subst (AreDistinct same_ip6) (sym (all_natives t)) theirs in
@@ -274,7 +274,7 @@ each_is_reached apart lab H m (udp src dst bytes) n (relay r) is at h =
 each_is_reached apart lab H m (udp src dst bytes) n (native x) is at h = absurd h
 each_is_reached apart lab H m (six (Some k) bytes) n a is at h = ap (λ (j : ℕ). reach lab.topology (Some j)) (sym h) ∙ ap (reach_node n) at
 each_is_reached apart lab H m (six None bytes) n (native x) is at h =
-    ap (λ (b : Bool). cond b (reach lab.topology (number_of (is_native (fields_in bytes).dst) lab.topology)) astray) h.packet ∙ at_six lab.topology (fields_in bytes).dst n x is at h.destination
+    ap (λ (b : Bool). cond b (reach lab.topology (first_passing (is_native (fields_in bytes).dst) lab.topology)) astray) h.packet ∙ at_six lab.topology (fields_in bytes).dst n x is at h.destination
 each_is_reached apart lab H m (six None bytes) n (server x) is at h = absurd h
 each_is_reached apart lab H m (six None bytes) n (nat x) is at h = absurd h
 each_is_reached apart lab H m (six None bytes) n (client x) is at h = absurd h

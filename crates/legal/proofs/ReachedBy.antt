@@ -13,7 +13,7 @@ use Rattle.topology.specs.declared.nat_node.NatNode.{NatNode}
 use Rattle.topology.specs.Rows.{TopologyState}
 use Rattle.topology.specs.declared.node.Node.{Node}
 use Rattle.topology.specs.declared.node.Node.TheVariants.{Server as server, Nat as nat, Client as client, Relay as relay, Native as native}
-use Rattle.topology.specs.Topology.{nodes, node_at, as_nat, is_at, is_behind, is_native, number_of}
+use Rattle.topology.specs.Topology.{nodes, node_at, as_nat, is_at, is_behind, is_native, first_passing}
 use Rattle.topology.specs.Chains.{is_inner, Inward, comes_to, shut_at, chain_in}
 use Rattle.history.specs.Full.{udp, six, Full}
 use Rattle.legal.specs.Lab.{Lab}
@@ -48,9 +48,9 @@ reached_at t k n a e = by (node_at t k) refl e where
       let same : k ≡ n = ap (number_in k) h in
       (same, ap (node_at t) (sym same) ∙ is ∙ ap (λ (r : Route). Some (node_of b r)) h)
 
-found : (test : Node → Bool) (t : TopologyState) (n : ℕ) (a : Node) → reach t (number_of test t) ≡ reaches n a → Found test t n a
-found test t n a e = by (number_of test t) refl e where
-  by : (o : Option ℕ) → number_of test t ≡ o → reach t o ≡ reaches n a → Found test t n a
+found : (test : Node → Bool) (t : TopologyState) (n : ℕ) (a : Node) → reach t (first_passing test t) ≡ reaches n a → Found test t n a
+found test t n a e = by (first_passing test t) refl e where
+  by : (o : Option ℕ) → first_passing test t ≡ o → reach t o ≡ reaches n a → Found test t n a
   by None is h = absurd (false≢true (ap is_reached h))
   by (Some k) is h =
       let at = reached_at t k n a h in
@@ -126,9 +126,9 @@ module _ (lab : Lab) (H : List Full) (m : ℕ) (src dst : Ep) where
       let same : b ≡ a = ap (node_of b) h in
       at_itself a (ap (is_at dst) (sym same) ∙ f.passes) (ap as_nat (sym same) ∙ none)
 
-  arrives : (n : ℕ) (a : Node) → from_outside lab H m src dst (reach lab.topology (number_of (is_at dst) lab.topology)) ≡ reaches n a → DatagramReaches lab H m src dst a
-  arrives n a e = by (reach lab.topology (number_of (is_at dst) lab.topology)) refl e where
-    by : (r : Route) → reach lab.topology (number_of (is_at dst) lab.topology) ≡ r → from_outside lab H m src dst r ≡ reaches n a → DatagramReaches lab H m src dst a
+  arrives : (n : ℕ) (a : Node) → from_outside lab H m src dst (reach lab.topology (first_passing (is_at dst) lab.topology)) ≡ reaches n a → DatagramReaches lab H m src dst a
+  arrives n a e = by (reach lab.topology (first_passing (is_at dst) lab.topology)) refl e where
+    by : (r : Route) → reach lab.topology (first_passing (is_at dst) lab.topology) ≡ r → from_outside lab H m src dst r ≡ reaches n a → DatagramReaches lab H m src dst a
     by (reaches k (nat b)) is h = through k b n a (found (is_at dst) lab.topology k (nat b) is) h
     by (reaches k (server b)) is h = itself k n (server b) a (found (is_at dst) lab.topology k (server b) is) refl h
     by (reaches k (client b)) is h = itself k n (client b) a (found (is_at dst) lab.topology k (client b) is) refl h
@@ -146,9 +146,9 @@ for_native bytes (client x) p h = absurd (false≢true h)
 for_native bytes (relay x) p h = absurd (false≢true h)
 for_native bytes (native x) p h = record { packet = p; destination = h }
 
-packet_reaches : (t : TopologyState) (bytes : List ℕ) (n : ℕ) (a : Node) → cond (is_packet bytes) (reach t (number_of (is_native (fields_in bytes).dst) t)) astray ≡ reaches n a → PacketReaches bytes a
+packet_reaches : (t : TopologyState) (bytes : List ℕ) (n : ℕ) (a : Node) → cond (is_packet bytes) (reach t (first_passing (is_native (fields_in bytes).dst) t)) astray ≡ reaches n a → PacketReaches bytes a
 packet_reaches t bytes n a e = by (is_packet bytes) refl e where
-  by : (b : Bool) → is_packet bytes ≡ b → cond b (reach t (number_of (is_native (fields_in bytes).dst) t)) astray ≡ reaches n a → PacketReaches bytes a
+  by : (b : Bool) → is_packet bytes ≡ b → cond b (reach t (first_passing (is_native (fields_in bytes).dst) t)) astray ≡ reaches n a → PacketReaches bytes a
   by true p h = for_native bytes a p ((found (is_native (fields_in bytes).dst) t n a h).passes)
   by false p h = absurd (false≢true (ap is_reached h))
 

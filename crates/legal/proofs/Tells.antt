@@ -17,7 +17,7 @@ use Rattle.teredo_node.specs.declared.fate.Fate.TheVariants as fate
 use Rattle.teredo_node.specs.Journal.{arrived, from_six, ticked, Entry, Journal, Words}
 use Rattle.server_core.specs.declared.server.ServerSettings.{ServerSettings}
 use Rattle.server_core.specs.declared.rules.Rule.{Rule}
-use Rattle.server_core.specs.Rules.{seen, datagram_lines, packet_lines, destination_lines, last_line, rule_of}
+use Rattle.server_core.specs.Rules.{server_seen, server_datagram_lines, server_packet_lines, server_destination_lines, last_line, rule_of}
 use Rattle.server_core.specs.Server.{step_of, by_payload, server_row}
 use Rattle.qualify.specs.declared.settings.Settings.{Settings}
 use Rattle.qualify.specs.declared.phase.Phase.{Phase}
@@ -28,12 +28,12 @@ use Rattle.client_rules.specs.Standing.{Standing, standing_of}
 use Rattle.client_rules.specs.Reception as reception
 use Rattle.client_rules.specs.Journals.{client_in}
 use Rattle.client_rules.specs.Laws.{FateOfReception}
-use Rattle.relay_rules.specs.Standing as relaying
+use Rattle.relay_rules.specs.Standing.{relay_standing_of}
 use Rattle.relay_rules.specs.Standing.{RelaySettings}
-use Rattle.relay_rules.specs.Reception as relay_reception
-use Rattle.relay_rules.specs.Transmission as relay_transmission
+use Rattle.relay_rules.specs.Reception.{reception_lines, relay_seen}
+use Rattle.relay_rules.specs.Transmission.{relay_destination_lines, relay_given, relay_packet_lines}
 use Rattle.relay_rules.specs.Journals.{relay_in, relay_six}
-use Rattle.relay_rules.specs.Laws as relay_laws
+use Rattle.relay_rules.specs.Laws.{FateOfRelayReception, FateOfRelayTransmission}
 use Rattle.events.specs.declared.event.Event.{Event}
 use Rattle.events.specs.declared.event.Event.TheVariants as event
 use Rattle.history.specs.declared.act.Act.TheVariants as act
@@ -49,7 +49,7 @@ use Rattle.legal.specs.Past.{now, began, first_undelivered, journal, words}
 use Rattle.native_host.specs.Natives.{echo_of, native_in}
 use Rattle.legal.specs.Settings.{server_settings, client_settings, relay_settings}
 use Rattle.legal.specs.Emit.{Route, reaches, closed, astray, route, entry_of}
-use Rattle.legal.specs.Next.{Numbered, numbered, Due, least_due, plain, advance_with, advanced, acts, no_ep, blank, delivers_to, delivers_item, delivers_or, copies, data_packet, echo_packet, address_at, target_address, hands_in, next_of}
+use Rattle.legal.specs.Next.{Numbered, numbered, DueNode, least_due, plain, advance_with, advanced, acts, no_ep, blank, delivers_to, delivers_item, delivers_or, copies, data_packet, echo_packet, address_at, target_address, hands_in, next_of}
 use Rattle.legal.specs.Lab.{Lab}
 
 abbrev IsOther : Fate → Type 0
@@ -60,8 +60,8 @@ IsOther f = is_no_entry f ≡ false
 server_payload : (s : ServerSettings) (side : Side) (from : Ep) (x : List ℕ) (v : Value) → IsOther (step_of s side from x v (rule_of s from v)).fate
 unfolding rule_of
 server_payload s side from x v =
-    let a = seen s from v in
-    first_of_each (λ (r : Rule). IsOther (step_of s side from x v r).fate) (datagram_lines a ++ (packet_lines a ++ destination_lines a)) last_line
+    let a = server_seen s from v in
+    first_of_each (λ (r : Rule). IsOther (step_of s side from x v r).fate) (server_datagram_lines a ++ (server_packet_lines a ++ server_destination_lines a)) last_line
     (refl, (refl, (refl, (refl, (refl, (refl, (refl, (refl, (refl, (refl, (refl, (refl, (refl, (refl, (refl, tt)))))))))))))))
     refl
 
@@ -109,20 +109,20 @@ client_tells by s j n from x w =
 
 -- RELAYS
 
-relay_in_tells : relay_laws.FateOfReception → (s : RelaySettings) (j : List Entry) (n : ℕ) (from : Ep) (x : List ℕ) → IsOther (relay_in s j n from x).step.fate
+relay_in_tells : FateOfRelayReception → (s : RelaySettings) (j : List Entry) (n : ℕ) (from : Ep) (x : List ℕ) → IsOther (relay_in s j n from x).step.fate
 unfolding relay_in
 relay_in_tells by s j n from x =
-    let a = relaying.standing_of j n (source_in x) in
+    let a = relay_standing_of j n (source_in x) in
     ap is_no_entry (by s a from x)
-    ∙ first_of_each IsOther (relay_reception.reception_lines (relay_reception.seen s a from x)) fate.Unserved (refl, (refl, (refl, (refl, (refl, (refl, (refl, (refl, tt)))))))) refl
+    ∙ first_of_each IsOther (reception_lines (relay_seen s a from x)) fate.Unserved (refl, (refl, (refl, (refl, (refl, (refl, (refl, (refl, tt)))))))) refl
 
-relay_six_tells : relay_laws.FateOfTransmission → (s : RelaySettings) (j : List Entry) (n : ℕ) (x : List ℕ) → IsOther (relay_six s j n x).step.fate
+relay_six_tells : FateOfRelayTransmission → (s : RelaySettings) (j : List Entry) (n : ℕ) (x : List ℕ) → IsOther (relay_six s j n x).step.fate
 unfolding relay_six
 relay_six_tells by s j n x =
-    let a = relaying.standing_of j n (destination_in x) in
-    let g = relay_transmission.given s a x in
+    let a = relay_standing_of j n (destination_in x) in
+    let g = relay_given s a x in
     ap is_no_entry (by s a x)
-    ∙ first_of_each IsOther (relay_transmission.packet_lines g ++ relay_transmission.destination_lines g) fate.Queued
+    ∙ first_of_each IsOther (relay_packet_lines g ++ relay_destination_lines g) fate.Queued
     (refl, (refl, (refl, (refl, (refl, (refl, (refl, (refl, (refl, (refl, (refl, tt))))))))))) refl
 
 -- NATIVES
@@ -142,8 +142,8 @@ native_tells x = echo_tells (fields_in x) (is_global6 (fields_in x).src) (messag
 -- what the tables of clients and relays say of their fates
 pub record Tables : Type 0 where
   pub client : FateOfReception
-  pub relay : relay_laws.FateOfReception
-  pub six : relay_laws.FateOfTransmission
+  pub relay : FateOfRelayReception
+  pub six : FateOfRelayTransmission
 
 came_tells : Tables → (lab : Lab) (H : List Full) (m n : ℕ) (dst from : Ep) (x : List ℕ) (a : Node) → IsOther (entry_of lab H m n dst (arrived from x) a).step.fate
 came_tells by lab H m n dst from x (server a) = server_tells (server_settings a) (side_at (server a) dst) from x
@@ -171,7 +171,7 @@ item_tells : Tables → (lab : Lab) (H : List Full) (e : Numbered) (n : ℕ) (o 
 item_tells by lab H e n None = record { delivered = refl }
 item_tells by lab H e n (Some item) = to_tells by lab H e n item (route lab H (now H) item)
 
-advance_tells : (lab : Lab) (H : List Full) (e : Numbered) (end : ℕ) (o : Option Due) → IsTold (advance_with lab H e end o)
+advance_tells : (lab : Lab) (H : List Full) (e : Numbered) (end : ℕ) (o : Option DueNode) → IsTold (advance_with lab H e end o)
 advance_tells lab H e end None = record { delivered = refl }
 advance_tells lab H e end (Some a) = by (nat_le a.moment end) where
   by : (b : Bool) → IsTold (cond b (acts lab H e act.Tick None (max a.moment (now H)) a.number no_ep ticked a.node) (advanced H e end))

@@ -17,7 +17,7 @@ use Rattle.topology.specs.Topology.{nodes, node_at}
 use Rattle.history.specs.Full.{Item, Full, wire}
 use Rattle.legal.specs.Past.{now, began, has_more, first_undelivered}
 use Rattle.legal.specs.Emit.{Route, reaches, closed, astray, route}
-use Rattle.legal.specs.Next.{Numbered, numbered, Due, least_due, plain, advance_with, advanced, acts, no_ep, blank, delivers_to, delivers_item, delivers_or, copies, data_packet, echo_packet, address_at, target_address, hands_in, next_of}
+use Rattle.legal.specs.Next.{Numbered, numbered, DueNode, least_due, plain, advance_with, advanced, acts, no_ep, blank, delivers_to, delivers_item, delivers_or, copies, data_packet, echo_packet, address_at, target_address, hands_in, next_of}
 use Rattle.legal.specs.Legal.{GoesOn, Grown}
 use Rattle.legal.specs.Laws.{is_advance, EachIsAtOnce}
 use Rattle.legal.specs.Lab.{Lab}
@@ -27,7 +27,7 @@ record IsWithin (H : List Full) (end : ℕ) (r : Full) : Type 0 where
   later : now H ≤ r.moment
   ends : r.moment ≤ end
 
-advance_within : (lab : Lab) (H : List Full) (e : Numbered) (end : ℕ) (o : Option Due) → now H ≤ end → IsWithin H end (advance_with lab H e end o)
+advance_within : (lab : Lab) (H : List Full) (e : Numbered) (end : ℕ) (o : Option DueNode) → now H ≤ end → IsWithin H end (advance_with lab H e end o)
 advance_within lab H e end None h = record { later = h; ends = le_refl end }
 advance_within lab H e end (Some a) h = by (nat_le a.moment end) refl where
   by : (b : Bool) → nat_le a.moment end ≡ b → IsWithin H end (cond b (acts lab H e act.Tick None (max a.moment (now H)) a.number no_ep ticked a.node) (advanced H e end))

@@ -19,7 +19,7 @@ use Rattle.legal.specs.Past.{now, nat_pasts, armed}
 use Rattle.legal.specs.Emit.{is_at_place, crossing_unless, by_way, sendings, entry_of}
 use Rattle.topology.specs.Chains.{Passing, nat_set_up, after_passing, way_out, passing, answered, crossing}
 use Rattle.legal.specs.Next.{Numbered, acts, plain, no_ep, dst_of, input_of}
-use Rattle.legal.specs.Kinds.{Kind, quiet, put, copied, ticks, handed, reached, event_of}
+use Rattle.legal.specs.Kinds.{Kind, quiet, put, copied, ticks, handed, reached, asked_event}
 use Rattle.legal.specs.Frame.{way_by, way_from, KeepsToItsWay, EachKeepsToItsWay}
 use Rattle.legal.proofs.ByKind.{kind_of}
 
@@ -75,9 +75,9 @@ of_kind : (lab : Lab) (H : List Full) (r : Full) → Kind lab H r → KeepsToIts
 of_kind lab H r (quiet entry address made passed why) = subst (λ (ps : List Passing). AreOn (way_from lab r.node) ps) (sym passed) tt
 of_kind lab H r (put src dst bytes asked is) = subst (λ (z : Full). KeepsToItsWay lab z) (sym is) tt
 of_kind lab H r (copied number src dst x asked there is) = subst (λ (z : Full). KeepsToItsWay lab z) (sym is) tt
-of_kind lab H r (ticks ms x asked due within is) = of_acts lab H (event_of r) act.Tick None (max x.moment (now H)) x.number no_ep ticked x.node r is due.there
-of_kind lab H r (handed v n x a hands there is) = of_acts lab H (event_of r) (plain v) None (now H) n no_ep (given x) a r is there
-of_kind lab H r (reached number n x a delivers there goes at is) = of_acts lab H (event_of r) (act.Deliver number) (Some number) (now H) n (dst_of x) (input_of x) a r is at
+of_kind lab H r (ticks ms x asked due within is) = of_acts lab H (asked_event r) act.Tick None (max x.moment (now H)) x.number no_ep ticked x.node r is due.there
+of_kind lab H r (handed v n x a hands there is) = of_acts lab H (asked_event r) (plain v) None (now H) n no_ep (given x) a r is there
+of_kind lab H r (reached number n x a delivers there goes at is) = of_acts lab H (asked_event r) (act.Deliver number) (Some number) (now H) n (dst_of x) (input_of x) a r is at
 
 pub keeps : EachKeepsToItsWay
 keeps lab H r follows = of_kind lab H r (kind_of lab H r follows)

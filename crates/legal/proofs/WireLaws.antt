@@ -4,7 +4,7 @@ use Rattle.td_base.specs.declared.endpoint.Ep.{Ep}
 use Rattle.ipv6_packet.specs.Laws.{PacketIsBytes}
 use Rattle.icmp6.specs.Laws.{MessageIsBytes}
 use Rattle.bubble.specs.Laws.{MessageIsCarried}
-use Rattle.nat_kinds.specs.History.{Entry as NatEntry}
+use Rattle.nat_kinds.specs.History.{NatEntry}
 use Rattle.nat_kinds.specs.Mappings.{live_port}
 use Rattle.nat_kinds.specs.Answer.{live_after}
 use Rattle.nat_kinds.specs.Laws.{IsPast}

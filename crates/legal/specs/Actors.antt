@@ -9,7 +9,7 @@ use Rattle.history.specs.Full.{Item, Full, wire}
 use Rattle.legal.specs.Lab.{Lab}
 use Rattle.legal.specs.Past.{now, is_restart, forgotten, journal}
 use Rattle.legal.specs.Emit.{reaches, route, entry_of, sendings, address_by, handed_by}
-use Rattle.legal.specs.Next.{Due, no_ep, dst_of, input_of}
+use Rattle.legal.specs.Next.{DueNode, no_ep, dst_of, input_of}
 use Rattle.legal.specs.Kinds.{IsDue, Hands}
 use Rattle.legal.specs.Legal.{Follows}
 
@@ -19,7 +19,7 @@ pub data IsGiven (lab : Lab) (H : List Full) (r : Full) (n : ℕ) (a : Node) (ds
       → r.moment ≡ now H → dst ≡ dst_of x → input ≡ input_of x → IsGiven lab H r n a dst input
   hosted : (v : Verb) (x : List ℕ) → Hands lab H r.asked v n x → r.delivered ≡ None
       → r.moment ≡ now H → dst ≡ no_ep → input ≡ given x → IsGiven lab H r n a dst input
-  ticks : (x : Due) → IsDue lab H x → x.number ≡ n → r.delivered ≡ None
+  ticks : (x : DueNode) → IsDue lab H x → x.number ≡ n → r.delivered ≡ None
       → r.moment ≡ max x.moment (now H) → dst ≡ no_ep → input ≡ ticked → IsGiven lab H r n a dst input
 
 -- the record is of node n, which is a, and e is what the node did. No node starts anew, and no NAT forgets anybody

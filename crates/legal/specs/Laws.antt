@@ -10,7 +10,7 @@ use Rattle.teredo_node.specs.Journal.{Journal}
 use Rattle.qualify.specs.declared.settings.Settings.{Settings}
 use Rattle.client_rules.specs.Journals as client_journals
 use Rattle.relay_rules.specs.Standing.{RelaySettings}
-use Rattle.relay_rules.specs.Journals as relay_journals
+use Rattle.relay_rules.specs.Journals.{IsRelayJournal, relay_last_moment}
 use Rattle.topology.specs.declared.nat_node.NatNode.{NatNode}
 use Rattle.topology.specs.declared.client_node.ClientNode.{ClientNode}
 use Rattle.topology.specs.declared.relay_node.RelayNode.{RelayNode}
@@ -95,8 +95,8 @@ EachClientIsJournal = (lab : Lab) (H : List Full) (n : ℕ) (c : ClientNode) →
 
 -- a journal of a relay
 pub record IsOfRelay (s : RelaySettings) (j : Journal) (m : ℕ) : Type 0 where
-  pub journal : relay_journals.IsJournal s j.entries
-  pub moments : relay_journals.last_moment j.entries ≤ m
+  pub journal : IsRelayJournal s j.entries
+  pub moments : relay_last_moment j.entries ≤ m
 
 -- and a relay's one that the laws of relays speak of
 abbrev pub EachRelayIsJournal : Type 0

@@ -7,7 +7,7 @@ use Rattle.peer_list.specs.Peers.{Peer, known}
 use Rattle.peer_list.specs.Judged.{is_none, due_of}
 use Rattle.qualify.specs.Qualification.{qualification}
 use Rattle.client_rules.specs.Bearings as client_bearings
-use Rattle.relay_rules.specs.Bearings as relay_bearings
+use Rattle.relay_rules.specs.Bearings.{relay_mentions}
 use Rattle.topology.specs.declared.node.Node.{Node}
 use Rattle.topology.specs.declared.node.Node.TheVariants.{Client as client, Relay as relay}
 use Rattle.topology.specs.Topology.{nodes}
@@ -28,7 +28,7 @@ peers_due j m = flat_map (λ (p : Ip6). waits_until (known j m p)) (listed j m)
 abbrev pub due_moments : Lab → List Full → ℕ → Node → List ℕ
 due_moments lab H n (client c) = option_to_list (qualification (client_settings lab.topology c) (journal n H)).due
     ++ peers_due (client_bearings.mentions (journal n H).entries) (now H)
-due_moments lab H n (relay r) = peers_due (relay_bearings.mentions (journal n H).entries) (now H)
+due_moments lab H n (relay r) = peers_due (relay_mentions (journal n H).entries) (now H)
 due_moments lab H n _ = []
 
 abbrev pub all_due : Lab → List Full → ℕ → List Node → List ℕ

@@ -3,7 +3,7 @@ use Rattle.std.specs.Prelude.{◌≡◌, ◌⊎◌, ℕ, List, [], ◌∷◌, So
 use Rattle.std.specs.List.{AllByRecursion}
 use Rattle.td_base.specs.declared.endpoint.Ep.{Ep}
 use Rattle.nat_kinds.specs.declared.outgoing.Outward.{Outward}
-use Rattle.nat_kinds.specs.History.{Entry, Out, Forget, Restart}
+use Rattle.nat_kinds.specs.History.{NatEntry, Out, Forget, Restart}
 use Rattle.topology.specs.declared.client_node.ClientNode.{ClientNode}
 use Rattle.topology.specs.Rows.{TopologyState}
 use Rattle.topology.specs.Topology.{client_at}
@@ -22,14 +22,14 @@ ComesBy t from (j ∷ way) k inside =
     ((k ≡ j) × (inside ≡ from)) ⊎ ((port : ℕ) × ComesBy t (record { ip = (nat_set_up t j).external; port = port }) way k inside)
 
 -- a client's datagram that NAT k let out at a moment, on the client's way out
-pub record IsOutOf (lab : Lab) (c : ClientNode) (m k : ℕ) (x : Entry) : Type 0 where
+pub record IsOutOf (lab : Lab) (c : ClientNode) (m k : ℕ) (x : NatEntry) : Type 0 where
   pub datagram : Outward
   pub is : x ≡ Out datagram
   pub moment : datagram.moment.0 ≡ m
   pub way : ComesBy lab.topology c.inside (way_out lab.chain c.nat) k datagram.inside
 
 -- which of the four it is
-pub data NatGrows (lab : Lab) (r : Full) (k : ℕ) (added : List Entry) : Type 0 where
+pub data NatGrows (lab : Lab) (r : Full) (k : ℕ) (added : List NatEntry) : Type 0 where
   stays : added ≡ [] → NatGrows lab r k added
   restarts : r.asked ≡ event.Restart k → added ≡ Restart ∷ [] → NatGrows lab r k added
   forgets : (who : ℕ) (c : ClientNode) → r.asked ≡ event.Forget k who → client_at lab.topology who ≡ Some c

@@ -11,7 +11,7 @@ use Rattle.nat_kinds.specs.declared.kind.NatKind.{NatKind}
 use Rattle.nat_kinds.specs.declared.kind.NatKind.TheVariants.{Cone, Restricted, Port, Symmetric}
 use Rattle.nat_kinds.specs.declared.outgoing.Outward.{Outward}
 use Rattle.nat_kinds.specs.declared.settings.NatSettings.{NatSettings}
-use Rattle.nat_kinds.specs.History.{Entry, Out, Forget, Restart, kept, young, is_young, counting}
+use Rattle.nat_kinds.specs.History.{NatEntry, Out, Forget, Restart, kept, young, is_young, counting}
 use Rattle.nat_kinds.specs.Mappings.{has_key, latest, port_in, live_port}
 use Rattle.nat_kinds.specs.Answer.{IsAnswer, live_after}
 use Rattle.nat_kinds.specs.Entering.{reaches, is_way_in, inside_in, lets_in}
@@ -26,7 +26,7 @@ use Rattle.nat_kinds.proofs.OrderLemmas.{young-again}
 
 -- WHAT COUNTS IS SOUND
 
-pub sound_counting : (s : NatSettings) (h : List Entry) (n : ℕ) → IsHistory s h → latest_moment h ≤ n → Sound s.kind (counting s.idle n h)
+pub sound_counting : (s : NatSettings) (h : List NatEntry) (n : ℕ) → IsHistory s h → latest_moment h ≤ n → Sound s.kind (counting s.idle n h)
 sound_counting s [] n i l = record { agree = tt; in_range = tt }
 sound_counting s (Out e ∷ h) n i l =
     let before : Sound s.kind (counting s.idle e.moment.0 h) = sound_counting s h e.moment.0 i.2 i.0 in
@@ -37,7 +37,7 @@ sound_counting s (Out e ∷ h) n i l =
 sound_counting s (Forget who ∷ h) n i l = rw (filter_swap (is_young s.idle n) _ (kept h)) (Sound-filter s.kind _ _ (sound_counting s h n i l))
 sound_counting s (Restart ∷ h) n i l = record { agree = tt; in_range = tt }
 
-pub sound_past : (s : NatSettings) (h : List Entry) (n : ℕ) → IsPast s h n → Sound s.kind (counting s.idle n h)
+pub sound_past : (s : NatSettings) (h : List NatEntry) (n : ℕ) → IsPast s h n → Sound s.kind (counting s.idle n h)
 sound_past s h n p = sound_counting s h n p.history p.moments
 
 -- WHAT A SEARCH FINDS
@@ -92,7 +92,7 @@ agrees_at s outs q f e sound h m =
 
 -- PORTS
 
-pub one_key : (s : NatSettings) (h : List Entry) (n : ℕ) → IsPast s h n → (inside dst inside' dst' : Ep) (port : ℕ) → live_port s.kind inside dst (live_after s h n) ≡ Some port → live_port s.kind inside' dst' (live_after s h n) ≡ Some port → SameKey s.kind inside dst inside' dst'
+pub one_key : (s : NatSettings) (h : List NatEntry) (n : ℕ) → IsPast s h n → (inside dst inside' dst' : Ep) (port : ℕ) → live_port s.kind inside dst (live_after s h n) ≡ Some port → live_port s.kind inside' dst' (live_after s h n) ≡ Some port → SameKey s.kind inside dst inside' dst'
 one_key s h n past inside dst inside' dst' port a b =
     let outs : List Outward = counting s.idle n h in
     let sound : Sound s.kind outs = sound_past s h n past in
@@ -100,7 +100,7 @@ one_key s h n past inside dst inside' dst' port a b =
     let g = held_by s outs inside' dst' port b in
     same_from s.kind inside dst inside' dst' f.0 g.0 (found_passes _ outs f.0 f.1) (found_passes _ outs g.0 g.1) (agrees_at s outs _ f.0 g.0 sound f.1 (found_is_in _ outs g.0 g.1) ∙ eq-eqb f.0.port g.0.port (f.2 ∙ sym g.2))
 
-pub ports_in_range : (s : NatSettings) (h : List Entry) (n : ℕ) → IsPast s h n → (inside dst : Ep) (port : ℕ) → live_port s.kind inside dst (live_after s h n) ≡ Some port → (FIRST_PORT ≤ port) × (port < FIRST_PORT + MAPPINGS_MAX)
+pub ports_in_range : (s : NatSettings) (h : List NatEntry) (n : ℕ) → IsPast s h n → (inside dst : Ep) (port : ℕ) → live_port s.kind inside dst (live_after s h n) ≡ Some port → (FIRST_PORT ≤ port) × (port < FIRST_PORT + MAPPINGS_MAX)
 ports_in_range s h n past inside dst port a =
     let outs : List Outward = counting s.idle n h in
     let f = held_by s outs inside dst port a in
@@ -120,17 +120,17 @@ asked-reaches Restricted src e a = ap (λ i. same_ip i src.ip) a ∙ same_ip-sel
 asked-reaches Port src e a = ap (λ i. same_ep i src) a ∙ same_ep-self src
 asked-reaches Symmetric src e a = ap (λ i. same_ep i src) a ∙ same_ep-self src
 
-let_in_is : (s : NatSettings) (h : List Entry) (n : ℕ) → IsPast s h n → (src : Ep) (port : ℕ) → lets_in s h n src port ≡ inside_in (find (is_way_in s.kind src port) (counting s.idle n h))
+let_in_is : (s : NatSettings) (h : List NatEntry) (n : ℕ) → IsPast s h n → (src : Ep) (port : ℕ) → lets_in s h n src port ≡ inside_in (find (is_way_in s.kind src port) (counting s.idle n h))
 let_in_is s h n past src port = inside_of-is s.kind (counting s.idle n h) src port (sound_past s h n past).agree
 
-pub asked_where_let_in : (s : NatSettings) (h : List Entry) (n : ℕ) → IsPast s h n → (src : Ep) (port : ℕ) (inside : Ep) → lets_in s h n src port ≡ Some inside → WasAsked s h n src port inside
+pub asked_where_let_in : (s : NatSettings) (h : List NatEntry) (n : ℕ) → IsPast s h n → (src : Ep) (port : ℕ) (inside : Ep) → lets_in s h n src port ≡ Some inside → WasAsked s h n src port inside
 asked_where_let_in s h n past src port inside l =
     let outs : List Outward = counting s.idle n h in
     let f = leads_found (find (is_way_in s.kind src port) outs) inside (sym (let_in_is s h n past src port) ∙ l) in
     let way = and_parts _ _ (found_passes (is_way_in s.kind src port) outs f.0 f.1) in
     record { datagram = f.0; counts = found_is_in _ outs f.0 f.1; left = f.2; by_port = sym (eqb-true port f.0.port way.0); asked = reaches-asked s.kind src f.0 way.1 }
 
-pub let_in_where_asked : (s : NatSettings) (h : List Entry) (n : ℕ) → IsPast s h n → (src : Ep) (port : ℕ) (inside : Ep) → WasAsked s h n src port inside → lets_in s h n src port ≡ Some inside
+pub let_in_where_asked : (s : NatSettings) (h : List NatEntry) (n : ℕ) → IsPast s h n → (src : Ep) (port : ℕ) (inside : Ep) → WasAsked s h n src port inside → lets_in s h n src port ≡ Some inside
 let_in_where_asked s h n past src port inside w =
     let outs : List Outward = counting s.idle n h in
     let f = found_at (is_way_in s.kind src port) outs w.datagram w.counts (and_from _ _ (eq-eqb port w.datagram.port (sym w.by_port)) (asked-reaches s.kind src w.datagram w.asked)) in
@@ -147,22 +147,22 @@ asks_its_own Port e = refl
 asks_its_own Symmetric e = refl
 
 -- what counts has its port live
-pub live_where_counts : (s : NatSettings) (h : List Entry) (n : ℕ) → IsPast s h n → (e : Outward) → Contains (counting s.idle n h) e → live_port s.kind e.inside e.dst (live_after s h n) ≡ Some e.port
+pub live_where_counts : (s : NatSettings) (h : List NatEntry) (n : ℕ) → IsPast s h n → (e : Outward) → Contains (counting s.idle n h) e → live_port s.kind e.inside e.dst (live_after s h n) ≡ Some e.port
 live_where_counts s h n past e m =
     let outs : List Outward = counting s.idle n h in
     let f = found_at (has_key s.kind e.inside e.dst) outs e m (has_itself s.kind e) in
     let same : f.0.port ≡ e.port = eqb-true f.0.port e.port (sym (agrees_at s outs _ f.0 e (sound_past s h n past) f.1 m) ∙ key_symm s.kind f.0 e ∙ found_passes _ outs f.0 f.1) in
     live_is s.kind e.inside e.dst outs ∙ ap port_in f.1 ∙ ap (λ p. Some p) same
 
-pub owner : (s : NatSettings) (h : List Entry) (n : ℕ) → IsPast s h n → (src : Ep) (port : ℕ) (inside : Ep) → lets_in s h n src port ≡ Some inside → (dst : Ep) × (live_port s.kind inside dst (live_after s h n) ≡ Some port)
+pub owner : (s : NatSettings) (h : List NatEntry) (n : ℕ) → IsPast s h n → (src : Ep) (port : ℕ) (inside : Ep) → lets_in s h n src port ≡ Some inside → (dst : Ep) × (live_port s.kind inside dst (live_after s h n) ≡ Some port)
 owner s h n past src port inside l =
     let w = asked_where_let_in s h n past src port inside l in
     (w.datagram.dst, subst (λ (i : Ep). live_port s.kind i w.datagram.dst (live_after s h n) ≡ Some port) w.left (live_where_counts s h n past w.datagram w.counts ∙ ap (λ p. Some p) w.by_port))
 
-pub reply : (s : NatSettings) (h : List Entry) (n : ℕ) → IsPast s h n → (e : Outward) → Contains (counting s.idle n h) e → lets_in s h n e.dst e.port ≡ Some e.inside
+pub reply : (s : NatSettings) (h : List NatEntry) (n : ℕ) → IsPast s h n → (e : Outward) → Contains (counting s.idle n h) e → lets_in s h n e.dst e.port ≡ Some e.inside
 reply s h n past e m = let_in_where_asked s h n past e.dst e.port e.inside (record { datagram = e; counts = m; left = refl; by_port = refl; asked = asks_its_own s.kind e })
 
-pub cone : (s : NatSettings) (h : List Entry) (n : ℕ) → IsPast s h n → s.kind ≡ Cone → (inside dst : Ep) (port : ℕ) → live_port s.kind inside dst (live_after s h n) ≡ Some port → (src : Ep) → lets_in s h n src port ≡ Some inside
+pub cone : (s : NatSettings) (h : List NatEntry) (n : ℕ) → IsPast s h n → s.kind ≡ Cone → (inside dst : Ep) (port : ℕ) → live_port s.kind inside dst (live_after s h n) ≡ Some port → (src : Ep) → lets_in s h n src port ≡ Some inside
 cone s h n past k inside dst port l src =
     let outs : List Outward = counting s.idle n h in
     let f = held_by s outs inside dst port l in

@@ -7,7 +7,7 @@ use Rattle.std.proofs.lemmas.Bool.{ltb-true, lt-ltb, ltb-false, le-ltb}
 use Rattle.nat_kinds.specs.declared.kind.NatKind.{NatKind}
 use Rattle.nat_kinds.specs.declared.outgoing.Outward.{Outward}
 use Rattle.nat_kinds.specs.declared.settings.NatSettings.{NatSettings}
-use Rattle.nat_kinds.specs.History.{Entry, Out, Forget, Restart, kept, young, is_young}
+use Rattle.nat_kinds.specs.History.{NatEntry, Out, Forget, Restart, kept, young, is_young}
 use Rattle.nat_kinds.specs.Mappings.{has_key, latest}
 use Rattle.nat_kinds.specs.Answer.{live_after}
 use Rattle.nat_kinds.specs.Laws.{latest_moment, IsHistory}
@@ -31,13 +31,13 @@ InOrder-filter p [] o = tt
 InOrder-filter p (e ∷ outs) o = elim (p e) as (λ b. InOrder (cond b (e ∷ filter p outs) (filter p outs))) [ true ↦ (all_filter _ p outs o.0, InOrder-filter p outs o.1) | false ↦ InOrder-filter p outs o.1 ]
 
 -- what is kept of a history is not later than its latest moment
-pub kept_before : (s : NatSettings) (h : List Entry) → IsHistory s h → AllByRecursion (λ o. o.moment.0 ≤ latest_moment h) (kept h)
+pub kept_before : (s : NatSettings) (h : List NatEntry) → IsHistory s h → AllByRecursion (λ o. o.moment.0 ≤ latest_moment h) (kept h)
 kept_before s [] i = tt
 kept_before s (Out e ∷ h) i = (le_refl e.moment.0, all_map (λ o. o.moment.0 ≤ latest_moment h) (λ o. o.moment.0 ≤ e.moment.0) (kept h) (λ o l. le_trans l i.0) (kept_before s h i.2))
 kept_before s (Forget who ∷ h) i = all_filter (λ o. o.moment.0 ≤ latest_moment h) _ (kept h) (kept_before s h i)
 kept_before s (Restart ∷ h) i = tt
 
-kept_in_order : (s : NatSettings) (h : List Entry) → IsHistory s h → InOrder (kept h)
+kept_in_order : (s : NatSettings) (h : List NatEntry) → IsHistory s h → InOrder (kept h)
 kept_in_order s [] i = tt
 kept_in_order s (Out e ∷ h) i = (all_map (λ o. o.moment.0 ≤ latest_moment h) (λ o. o.moment.0 ≤ e.moment.0) (kept h) (λ o l. le_trans l i.0) (kept_before s h i.2), kept_in_order s h i.2)
 kept_in_order s (Forget who ∷ h) i = InOrder-filter _ (kept h) (kept_in_order s h i)
@@ -64,5 +64,5 @@ young-latest kind idle n (e ∷ outs) o = by_young (is_young idle n e) refl (ap 
         let none : young idle n outs ≡ [] = none_young idle n e.moment.0 outs o.0 y in
         ap (latest kind) none ∙ sym (ap (λ xs. filter others (latest kind xs)) none) ∙ h
 
-pub live_is_latest : (s : NatSettings) (h : List Entry) → IsHistory s h → (n : ℕ) → live_after s h n ≡ young s.idle n (latest s.kind (kept h))
+pub live_is_latest : (s : NatSettings) (h : List NatEntry) → IsHistory s h → (n : ℕ) → live_after s h n ≡ young s.idle n (latest s.kind (kept h))
 live_is_latest s h i n = young-latest s.kind s.idle n (kept h) (kept_in_order s h i)

@@ -16,7 +16,7 @@ use Rattle.nat_kinds.specs.declared.outgoing.Outward.{Outward}
 use Rattle.nat_kinds.specs.declared.refusal.NatRefusal.{NatRefusal}
 use Rattle.nat_kinds.specs.declared.settings.NatSettings.{NatSettings}
 use Rattle.nat_kinds.specs.declared.way.Way.{Way}
-use Rattle.nat_kinds.specs.History.{Entry, Out, Forget, is_young, without, kept, counting}
+use Rattle.nat_kinds.specs.History.{NatEntry, Out, Forget, is_young, without, kept, counting}
 use Rattle.nat_kinds.specs.Mappings.{has_key, latest}
 use Rattle.nat_kinds.specs.Answer.{nat_answer, answer_of, GivesAnswer}
 use Rattle.nat_kinds.specs.Entering.{admits, inside_if, lets_in}
@@ -25,7 +25,7 @@ use Rattle.nat_kinds.specs.Laws.{latest_moment, IsPast}
 use Rattle.nat_kinds.specs.Way.{asked_way}
 use Rattle.nat_kinds.specs.Places.{place_at, if_young, unless_key, unless_of, unless_in, IsPutIn, Shows}
 use Rattle.nat_kinds.specs.Asked.{asked_at, is_recent, passes, inside_by, recalled, IsNoted, IsOnce, Recalls}
-use Rattle.nat_kinds.specs.Nat.{NatState, StandsFor, StandsAsBefore}
+use Rattle.nat_kinds.specs.Nat.{NatState, NatStandsFor, StandsAsBefore}
 use Rattle.nat_kinds.proofs.ListLemmas.{all_map, all_found, found_passes, filter_swap}
 use Rattle.nat_kinds.proofs.OrderLemmas.{kept_before, none_young}
 use Rattle.nat_kinds.proofs.LawLemmas.{sound_past}
@@ -34,11 +34,11 @@ use Rattle.nat_kinds.proofs.WayLemmas.{asked_same}
 use Rattle.nat_kinds.proofs.ForgetLemmas.{find_without, young_unless, any_without}
 use Rattle.nat_kinds.proofs.RecallLemmas.{Within, Lately, recalls_same, recalls_out, recalls_forgot, recalls_none}
 
-later_past : (s : NatSettings) (h : List Entry) (m n : ℕ) → IsPast s h m → m ≤ n → IsPast s h n
+later_past : (s : NatSettings) (h : List NatEntry) (m n : ℕ) → IsPast s h m → m ≤ n → IsPast s h n
 later_past s h m n p le = record { history = p.history; moments = le_trans p.moments le }
 
 -- where the latest datagram is old, nothing counts
-none_count : (s : NatSettings) (h : List Entry) (m n : ℕ) (e : Outward) → IsPast s h m → m ≤ e.moment.0 → is_young s.idle n e ≡ false → counting s.idle n h ≡ []
+none_count : (s : NatSettings) (h : List NatEntry) (m n : ℕ) (e : Outward) → IsPast s h m → m ≤ e.moment.0 → is_young s.idle n e ≡ false → counting s.idle n h ≡ []
 none_count s h m n e past l y = none_young s.idle n e.moment.0 (kept h) (all_map (λ o. o.moment.0 ≤ latest_moment h) (λ o. o.moment.0 ≤ e.moment.0) (kept h) (λ o k. le_trans k (le_trans past.moments l)) (kept_before s h past.history)) y
 
 -- THE TABLE AFTER A DATAGRAM
@@ -52,7 +52,7 @@ unless_old kind idle n e (Some x) other = by_cases (has_key kind e.inside e.dst 
     by_cases true h true k = absurd (false≢true (sym (other x (ap (λ b. cond b (Some x) None) k)) ∙ h))
     by_cases false h y k = ap (λ b. cond b (Some x) None) k
 
-shows_out : (s : NatSettings) (h : List Entry) (m n : ℕ) (e : Outward) (old new : List (Option Outward)) → IsPast s h m → m ≤ e.moment.0 → IsPast s (Out e ∷ h) n → IsPutIn s.kind old new e → Shows s.idle n old (counting s.idle n h) → Shows s.idle n new (counting s.idle n (Out e ∷ h))
+shows_out : (s : NatSettings) (h : List NatEntry) (m n : ℕ) (e : Outward) (old new : List (Option Outward)) → IsPast s h m → m ≤ e.moment.0 → IsPast s (Out e ∷ h) n → IsPutIn s.kind old new e → Shows s.idle n old (counting s.idle n h) → Shows s.idle n new (counting s.idle n (Out e ∷ h))
 shows_out s h m n e old new past l past' put shows port = ap (if_young s.idle n) (put port) ∙ by_young (is_young s.idle n e) refl (e.port == port) refl
   where
     outs : List Outward
@@ -112,7 +112,7 @@ recalls_at : (old new : NatState) (outs : List Outward) (asked : List (Way × Mi
 recalls_at old new outs asked n m i is = subst (λ (s : NatSettings). Recalls s.kind (recalled s.kind s.idle new.moment outs) asked) (sym i) (subst (λ (k : ℕ). Recalls old.settings.kind (recalled old.settings.kind old.settings.idle k outs) asked) (sym m) is)
 
 -- an outward datagram at now joins what counts now
-pub stands_out : (old new : NatState) (mid : List (Way × Millis)) (e : Outward) → old.moment ≤ e.moment.0 → new.moment ≡ e.moment.0 → new.settings ≡ old.settings → IsPutIn old.settings.kind old.places new.places e → Swept old.settings.idle e.moment.0 old.asked mid → IsNoted old.settings.kind mid new.asked e → (IsOnce mid → IsOnce new.asked) → (h : List Entry) → nat_answer old.settings h e.moment.0 e.inside e.dst ≡ Ok e.port → StandsFor old h → StandsFor new (Out e ∷ h)
+pub stands_out : (old new : NatState) (mid : List (Way × Millis)) (e : Outward) → old.moment ≤ e.moment.0 → new.moment ≡ e.moment.0 → new.settings ≡ old.settings → IsPutIn old.settings.kind old.places new.places e → Swept old.settings.idle e.moment.0 old.asked mid → IsNoted old.settings.kind mid new.asked e → (IsOnce mid → IsOnce new.asked) → (h : List NatEntry) → nat_answer old.settings h e.moment.0 e.inside e.dst ≡ Ok e.port → NatStandsFor old h → NatStandsFor new (Out e ∷ h)
 stands_out old new mid e l m i put swept noted once h answer is =
     let s : NatSettings = old.settings in
     let now : IsPast s (Out e ∷ h) e.moment.0 = record { history = (le_trans is.past.moments l, answer, is.past.history); moments = le_refl e.moment.0 } in
@@ -159,7 +159,7 @@ passes_forgot Port idle n who outs old new forgets src m h = ap (is_recent idle 
     forgot true o i = refl
     forgot false o i = i
 
-pub stands_forget : (old new : NatState) (who : Ep) → new.moment ≡ old.moment → new.settings ≡ old.settings → ((p : ℕ) → place_at new.places p ≡ unless_of who (place_at old.places p)) → ((way : Way) → asked_at new.asked way ≡ unless_in who way (asked_at old.asked way)) → IsOnce new.asked → (h : List Entry) → StandsFor old h → StandsFor new (Forget who ∷ h)
+pub stands_forget : (old new : NatState) (who : Ep) → new.moment ≡ old.moment → new.settings ≡ old.settings → ((p : ℕ) → place_at new.places p ≡ unless_of who (place_at old.places p)) → ((way : Way) → asked_at new.asked way ≡ unless_in who way (asked_at old.asked way)) → IsOnce new.asked → (h : List NatEntry) → NatStandsFor old h → NatStandsFor new (Forget who ∷ h)
 stands_forget old new who m i table forgets once h is =
     let s : NatSettings = old.settings in
     let swapped : (n : ℕ) → without who (counting s.idle n h) ≡ counting s.idle n (Forget who ∷ h) = λ n. filter_swap _ (is_young s.idle n) (kept h) in
@@ -190,7 +190,7 @@ shows_none idle n port = by_case (nat_lt port FIRST_PORT)
     by_case true = refl
     by_case false = refl
 
-pub stands_none : (nat : NatState) (h : List Entry) → nat.places ≡ [] → nat.asked ≡ [] → IsPast nat.settings h nat.moment → ((n : ℕ) → counting nat.settings.idle n h ≡ []) → StandsFor nat h
+pub stands_none : (nat : NatState) (h : List NatEntry) → nat.places ≡ [] → nat.asked ≡ [] → IsPast nat.settings h nat.moment → ((n : ℕ) → counting nat.settings.idle n h ≡ []) → NatStandsFor nat h
 stands_none nat h p a past none = record {
   past = past;
   ports = λ n k port. ap (λ places. if_young nat.settings.idle n (place_at places port)) p ∙ shows_none nat.settings.idle n port ∙ sym (ap (find (λ o. port == o.port)) (none n));
@@ -200,7 +200,7 @@ stands_none nat h p a past none = record {
 
 -- LETTING IN
 
-pub lets_in-stands : (nat : NatState) (now : ℕ) (src : Ep) (port : ℕ) (r : Option Ep) → nat.moment ≤ now → r ≡ inside_by nat.settings.kind nat.settings.idle now nat.asked src (if_young nat.settings.idle now (place_at nat.places port)) → (h : List Entry) → StandsFor nat h → r ≡ lets_in nat.settings h now src port
+pub lets_in-stands : (nat : NatState) (now : ℕ) (src : Ep) (port : ℕ) (r : Option Ep) → nat.moment ≤ now → r ≡ inside_by nat.settings.kind nat.settings.idle now nat.asked src (if_young nat.settings.idle now (place_at nat.places port)) → (h : List NatEntry) → NatStandsFor nat h → r ≡ lets_in nat.settings h now src port
 lets_in-stands nat now src port r l e h is =
     e ∙ ap (inside_by s.kind s.idle now nat.asked src) (is.ports now l port) ∙ by_found (find (λ o. port == o.port) outs)
     ∙ sym (inside_is s.kind outs src port (sound_past s h now (later_past s h nat.moment now is.past l)).agree)
@@ -221,13 +221,13 @@ lets_in-stands nat now src port r l e h is =
 abbrev pub AnswersBy : NatState → ℕ → Ep → Ep → Result Ep NatRefusal → Type 0
 AnswersBy nat now inside dst r = (outs : List Outward) → Sound nat.settings.kind outs → Shows nat.settings.idle now nat.places outs → GivesAnswer nat.settings (answer_of nat.settings (latest nat.settings.kind outs) inside dst) r
 
-pub answers : (nat : NatState) (now : ℕ) (inside dst : Ep) (r : Result Ep NatRefusal) → nat.moment ≤ now → AnswersBy nat now inside dst r → (h : List Entry) → StandsFor nat h → GivesAnswer nat.settings (nat_answer nat.settings h now inside dst) r
+pub answers : (nat : NatState) (now : ℕ) (inside dst : Ep) (r : Result Ep NatRefusal) → nat.moment ≤ now → AnswersBy nat now inside dst r → (h : List NatEntry) → NatStandsFor nat h → GivesAnswer nat.settings (nat_answer nat.settings h now inside dst) r
 answers nat now inside dst r l answer h is = answer (counting nat.settings.idle now h) (sound_past nat.settings h now (later_past nat.settings h nat.moment now is.past l)) (is.ports now l)
 
 pub stands_out_or : (old new : NatState) (mid : List (Way × Millis)) (now : Millis) (inside dst : Ep) → old.moment ≤ now.0 → new.moment ≡ now.0 → new.settings ≡ old.settings → Swept old.settings.idle now.0 old.asked mid → (IsOnce mid → IsOnce new.asked) → (r : Result Ep NatRefusal) → AnswersBy old now.0 inside dst r
     → IfOk r (λ ep. IsPutIn old.settings.kind old.places new.places (record { moment = now; inside = inside; dst = dst; port = ep.port }))
     → IfOk r (λ ep. IsNoted old.settings.kind mid new.asked (record { moment = now; inside = inside; dst = dst; port = ep.port }))
-    → IfOk r (λ ep. (h : List Entry) → StandsFor old h → StandsFor new (Out (record { moment = now; inside = inside; dst = dst; port = ep.port }) ∷ h))
+    → IfOk r (λ ep. (h : List NatEntry) → NatStandsFor old h → NatStandsFor new (Out (record { moment = now; inside = inside; dst = dst; port = ep.port }) ∷ h))
 stands_out_or old new mid now inside dst l m i swept once (Ok ep) answer put noted = λ h is. stands_out old new mid (record { moment = now; inside = inside; dst = dst; port = ep.port }) l m i put swept noted once h (answers old now.0 inside dst (Ok ep) l answer h is).0 is
 stands_out_or old new mid now inside dst l m i swept once (Err e) answer put noted = tt
 

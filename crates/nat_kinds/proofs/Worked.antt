@@ -9,7 +9,7 @@ use Rattle.nat_kinds.specs.declared.kind.NatKind.TheVariants.{Cone, Restricted, 
 use Rattle.nat_kinds.specs.declared.refusal.NatRefusal.{NatRefusal}
 use Rattle.nat_kinds.specs.declared.refusal.NatRefusal.TheVariants.{Hairpin}
 use Rattle.nat_kinds.specs.declared.settings.NatSettings.{NatSettings}
-use Rattle.nat_kinds.specs.History.{Entry, Out}
+use Rattle.nat_kinds.specs.History.{NatEntry, Out}
 use Rattle.nat_kinds.specs.Answer.{nat_answer}
 use Rattle.nat_kinds.specs.Entering.{lets_in}
 
@@ -32,11 +32,11 @@ abbrev settings : NatKind → NatSettings
 settings kind = record { kind = kind; external = record { 0 = 198 ∷ 51 ∷ 100 ∷ 1 ∷ [] }; idle = 60000 }
 
 -- one datagram to asked at 0
-abbrev once : List Entry
+abbrev once : List NatEntry
 once = Out (record { moment = record { 0 = 0 }; inside = inside; dst = asked; port = 1024 }) ∷ []
 
 -- and one to stranger at 2, from a port
-abbrev twice : ℕ → List Entry
+abbrev twice : ℕ → List NatEntry
 twice port = Out (record { moment = record { 0 = 2 }; inside = inside; dst = stranger; port = port }) ∷ once
 
 -- the ports of the two datagrams, and what becomes of one to the NAT's own address

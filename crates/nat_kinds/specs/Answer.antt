@@ -8,11 +8,11 @@ use Rattle.nat_kinds.specs.declared.outgoing.Outward.{Outward}
 use Rattle.nat_kinds.specs.declared.settings.NatSettings.{NatSettings}
 use Rattle.nat_kinds.specs.declared.refusal.NatRefusal.{NatRefusal}
 use Rattle.nat_kinds.specs.declared.refusal.NatRefusal.TheVariants.{Hairpin, Full, NoMemory}
-use Rattle.nat_kinds.specs.History.{Entry, counting}
+use Rattle.nat_kinds.specs.History.{NatEntry, counting}
 use Rattle.nat_kinds.specs.Mappings.{latest, live_port, IsLowestFree, lowest_free}
 
 -- the mappings that are live at n, after the history h
-abbrev pub live_after : NatSettings → List Entry → ℕ → List Outward
+abbrev pub live_after : NatSettings → List NatEntry → ℕ → List Outward
 live_after s h n = latest s.kind (counting s.idle n h)
 
 -- the port that the key holds, else the lowest free one, unless MAPPINGS_MAX keys hold one
@@ -25,7 +25,7 @@ abbrev pub answer_of : NatSettings → List Outward → Ep → Ep → Result ℕ
 answer_of s live inside dst = if same_ip dst.ip s.external then Err Hairpin else port_for (live_port s.kind inside dst live) live
 
 -- the external port of a datagram from inside to dst that is sent at n after the history h, or why it is not sent
-abbrev pub nat_answer : NatSettings → List Entry → ℕ → Ep → Ep → Result ℕ NatRefusal
+abbrev pub nat_answer : NatSettings → List NatEntry → ℕ → Ep → Ep → Result ℕ NatRefusal
 nat_answer s h n inside dst = answer_of s (live_after s h n) inside dst
 
 -- the port that a key without a live port gets: the lowest free one, where fewer than MAPPINGS_MAX keys hold one

@@ -8,7 +8,7 @@ use Rattle.nat_kinds.specs.declared.kind.NatKind.{NatKind}
 use Rattle.nat_kinds.specs.declared.kind.NatKind.TheVariants.{Cone, Restricted, Port, Symmetric}
 use Rattle.nat_kinds.specs.declared.outgoing.Outward.{Outward}
 use Rattle.nat_kinds.specs.declared.settings.NatSettings.{NatSettings}
-use Rattle.nat_kinds.specs.History.{Entry, counting}
+use Rattle.nat_kinds.specs.History.{NatEntry, counting}
 use Rattle.nat_kinds.specs.Mappings.{latest}
 
 -- a mapping lets a datagram from src in, where these outward datagrams count
@@ -44,5 +44,5 @@ abbrev pub inside_of : NatKind → List Outward → Ep → ℕ → Option Ep
 inside_of kind outs src port = inside_if kind outs src (find (λ e. port == e.port) (latest kind outs))
 
 -- the inside endpoint that a datagram from src to a port is let in to at n after the history h
-abbrev pub lets_in : NatSettings → List Entry → ℕ → Ep → ℕ → Option Ep
+abbrev pub lets_in : NatSettings → List NatEntry → ℕ → Ep → ℕ → Option Ep
 lets_in s h n src port = inside_of s.kind (counting s.idle n h) src port

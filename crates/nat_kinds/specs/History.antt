@@ -6,17 +6,17 @@ use Rattle.td_base.specs.declared.endpoint.Ep.{Ep}
 use Rattle.nat_kinds.specs.declared.outgoing.Outward.{Outward}
 
 -- what happened to a NAT: a datagram went out, an inside endpoint was forgotten, all was lost. A history is a list of these, the latest first
-pub data Entry : Type 0 where
-  Out : Outward → Entry
-  Forget : Ep → Entry
-  Restart : Entry
+pub data NatEntry : Type 0 where
+  Out : Outward → NatEntry
+  Forget : Ep → NatEntry
+  Restart : NatEntry
 
 -- those of other inside endpoints
 abbrev pub without : Ep → List Outward → List Outward
 without who outs = filter (λ e. not (same_ep e.inside who)) outs
 
 -- the outward datagrams after which came no restart, and no forget of their inside endpoint
-abbrev pub kept : List Entry → List Outward
+abbrev pub kept : List NatEntry → List Outward
 kept [] = []
 kept (Out e ∷ h) = e ∷ kept h
 kept (Forget who ∷ h) = without who (kept h)
@@ -31,5 +31,5 @@ abbrev pub young : ℕ → ℕ → List Outward → List Outward
 young idle n outs = filter (is_young idle n) outs
 
 -- the outward datagrams that count at n
-abbrev pub counting : ℕ → ℕ → List Entry → List Outward
+abbrev pub counting : ℕ → ℕ → List NatEntry → List Outward
 counting idle n h = young idle n (kept h)

@@ -5,7 +5,7 @@ use Rattle.td_base.specs.declared.millis.Millis.{Millis}
 use Rattle.nat_kinds.specs.declared.outgoing.Outward.{Outward}
 use Rattle.nat_kinds.specs.declared.settings.NatSettings.{NatSettings}
 use Rattle.nat_kinds.specs.declared.way.Way.{Way}
-use Rattle.nat_kinds.specs.History.{Entry, kept, counting}
+use Rattle.nat_kinds.specs.History.{NatEntry, kept, counting}
 use Rattle.nat_kinds.specs.Entering.{admits}
 use Rattle.nat_kinds.specs.Places.{Shows}
 use Rattle.nat_kinds.specs.Asked.{passes, recalled, Recalls}
@@ -21,7 +21,7 @@ pub record NatState : Type 0 where
 -- the history is one of such a NAT; from the NAT's moment on its table shows the latest datagram of each port that counts,
 -- and each mapping lets in whom the history lets in; and of whom was asked nothing is kept but the latest moments of the
 -- last two idle times
-pub record StandsFor (nat : NatState) (h : List Entry) : Type 0 where
+pub record NatStandsFor (nat : NatState) (h : List NatEntry) : Type 0 where
   pub past : IsPast nat.settings h nat.moment
   pub ports : (n : ℕ) → nat.moment ≤ n → Shows nat.settings.idle n nat.places (counting nat.settings.idle n h)
   pub lets : (n : ℕ) → nat.moment ≤ n → (src : Ep) (m : Outward)
@@ -31,4 +31,4 @@ pub record StandsFor (nat : NatState) (h : List Entry) : Type 0 where
 
 -- it stands for each history that it stood for
 abbrev pub StandsAsBefore : NatState → NatState → Type 0
-StandsAsBefore old new = (h : List Entry) → StandsFor old h → StandsFor new h
+StandsAsBefore old new = (h : List NatEntry) → NatStandsFor old h → NatStandsFor new h

@@ -46,11 +46,11 @@ pub same_way-self : (a : Way) → same_way a a ≡ true
 same_way-self a = (same_way_decides a a).1 refl
 
 -- an endpoint as one number, for hashes
-unfoldable pub number_of : Ep → ℕ
-number_of ep = number_at 0 4 ep.ip.0 * 65536 + ep.port
+unfoldable pub endpoint_number : Ep → ℕ
+endpoint_number ep = number_at 0 4 ep.ip.0 * 65536 + ep.port
 
 abbrev pub fed_way : Way → List (List ℕ)
-fed_way w = fed.u64 (number_of w.inside) ++ fed.u64 (number_of w.other)
+fed_way w = fed.u64 (endpoint_number w.inside) ++ fed.u64 (endpoint_number w.other)
 
 pub same_fed : (a b : Way) → same_way a b ≡ true → fed_way a ≡ fed_way b
 same_fed a b t = ap fed_way (same_way-true a b t)

@@ -3,12 +3,12 @@ ghost use Rattle.std.specs.Prelude.{◌≡◌, ℕ, ◌+◌, ◌<◌, ◌≤◌,
 ghost use Rattle.td_base.specs.declared.endpoint.Ep.{Ep};
 ghost use Rattle.nat_kinds.specs.declared.outgoing.Outward.{Outward};
 ghost use Rattle.nat_kinds.specs.declared.settings.NatSettings.{NatSettings};
-ghost use Rattle.nat_kinds.specs.History.{Entry, kept, young, counting};
+ghost use Rattle.nat_kinds.specs.History.{NatEntry, kept, young, counting};
 ghost use Rattle.nat_kinds.specs.Mappings.{latest, live_port};
 ghost use Rattle.nat_kinds.specs.Answer.{IsAnswer, live_after, nat_answer};
 ghost use Rattle.nat_kinds.specs.Entering.{lets_in};
 ghost use Rattle.nat_kinds.specs.Asked.{recalled};
-ghost use Rattle.nat_kinds.specs.Nat.{NatState, StandsFor};
+ghost use Rattle.nat_kinds.specs.Nat.{NatState, NatStandsFor};
 ghost use Rattle.nat_kinds.specs.Laws.{IsHistory, IsPast, SameKey, WasAsked};
 ghost use Rattle.nat_kinds.specs.Numbers.{NatNumbers};
 
@@ -17,26 +17,26 @@ use crate::limits::{FIRST_PORT, MAPPINGS_MAX};
 
 /// The answer is the port that the key holds, else the lowest free one, else a refusal.
 pub fn answer_is_lowest_free()
-    ensures { (s : NatSettings) (h : List Entry) (n : ℕ) (inside dst : Ep) →
+    ensures { (s : NatSettings) (h : List NatEntry) (n : ℕ) (inside dst : Ep) →
         IsAnswer s (live_after s h n) inside dst (nat_answer s h n inside dst) }
 {}
 
 /// A mapping is live exactly while the latest datagram of its key counts.
 pub fn latest_datagram_decides()
-    ensures { (s : NatSettings) (h : List Entry) → IsHistory s h → (n : ℕ) →
+    ensures { (s : NatSettings) (h : List NatEntry) → IsHistory s h → (n : ℕ) →
         live_after s h n ≡ young s.idle n (latest s.kind (kept h)) }
 {}
 
 /// While a datagram counts, its key holds its port.
 pub fn counting_datagram_holds_its_port()
-    ensures { (s : NatSettings) (h : List Entry) (n : ℕ) → IsPast s h n →
+    ensures { (s : NatSettings) (h : List NatEntry) (n : ℕ) → IsPast s h n →
         (e : Outward) → Contains (counting s.idle n h) e →
         live_port s.kind e.inside e.dst (live_after s h n) ≡ Some e.port }
 {}
 
 /// No two keys hold the same port.
 pub fn port_has_one_key()
-    ensures { (s : NatSettings) (h : List Entry) (n : ℕ) → IsPast s h n →
+    ensures { (s : NatSettings) (h : List NatEntry) (n : ℕ) → IsPast s h n →
         (inside dst inside' dst' : Ep) (port : ℕ) →
         live_port s.kind inside dst (live_after s h n) ≡ Some port →
         live_port s.kind inside' dst' (live_after s h n) ≡ Some port →
@@ -45,9 +45,9 @@ pub fn port_has_one_key()
 
 /// No more than `MAPPINGS_MAX` mappings live, and they hold ports from `FIRST_PORT` on.
 pub fn live_mappings_are_few()
-    ensures few { (s : NatSettings) (h : List Entry) (n : ℕ) → IsPast s h n →
+    ensures few { (s : NatSettings) (h : List NatEntry) (n : ℕ) → IsPast s h n →
         length (live_after s h n) ≤ MAPPINGS_MAX }
-    ensures ports { (s : NatSettings) (h : List Entry) (n : ℕ) → IsPast s h n →
+    ensures ports { (s : NatSettings) (h : List NatEntry) (n : ℕ) → IsPast s h n →
         (inside dst : Ep) (port : ℕ) →
         live_port s.kind inside dst (live_after s h n) ≡ Some port →
         (FIRST_PORT ≤ port) × (port < FIRST_PORT + MAPPINGS_MAX) }
@@ -56,20 +56,20 @@ pub fn live_mappings_are_few()
 /// Of whom the inside endpoints asked no more is kept than they asked in the last two idle times. A cone and a symmetric
 /// NAT keep nothing of it.
 pub fn asked_are_few()
-    ensures { (nat : NatState) (h : List Entry) → StandsFor nat h →
+    ensures { (nat : NatState) (h : List NatEntry) → NatStandsFor nat h →
         length nat.asked ≤ length (recalled nat.settings.kind nat.settings.idle nat.moment (kept h)) }
 {}
 
 /// A datagram is let in to an inside endpoint exactly where that one asked its source from the port.
 pub fn let_in_where_asked()
-    ensures { (s : NatSettings) (h : List Entry) (n : ℕ) → IsPast s h n →
+    ensures { (s : NatSettings) (h : List NatEntry) (n : ℕ) → IsPast s h n →
         (src : Ep) (port : ℕ) (inside : Ep) →
         (lets_in s h n src port ≡ Some inside) ↔ WasAsked s h n src port inside }
 {}
 
 /// A datagram that is let in reaches the inside endpoint that owns the port.
 pub fn owner_is_reached()
-    ensures { (s : NatSettings) (h : List Entry) (n : ℕ) → IsPast s h n →
+    ensures { (s : NatSettings) (h : List NatEntry) (n : ℕ) → IsPast s h n →
         (src : Ep) (port : ℕ) (inside : Ep) →
         lets_in s h n src port ≡ Some inside →
         (dst : Ep) × (live_port s.kind inside dst (live_after s h n) ≡ Some port) }
@@ -77,14 +77,14 @@ pub fn owner_is_reached()
 
 /// While an outward datagram counts, a reply to it is let in, whatever the kind.
 pub fn reply_is_let_in()
-    ensures { (s : NatSettings) (h : List Entry) (n : ℕ) → IsPast s h n →
+    ensures { (s : NatSettings) (h : List NatEntry) (n : ℕ) → IsPast s h n →
         (e : Outward) → Contains (counting s.idle n h) e →
         lets_in s h n e.dst e.port ≡ Some e.inside }
 {}
 
 /// A cone NAT lets every source in at a live port.
 pub fn cone_lets_all_in()
-    ensures { (s : NatSettings) (h : List Entry) (n : ℕ) → IsPast s h n → s.kind ≡ NatKind.Cone →
+    ensures { (s : NatSettings) (h : List NatEntry) (n : ℕ) → IsPast s h n → s.kind ≡ NatKind.Cone →
         (inside dst : Ep) (port : ℕ) →
         live_port s.kind inside dst (live_after s h n) ≡ Some port →
         (src : Ep) → lets_in s h n src port ≡ Some inside }

@@ -1,9 +1,9 @@
 //! A network address translator.
 ghost use Rattle.std.specs.Prelude.{◌≡◌, ℕ, ◌≤◌, [], ◌∷◌, List, IfOk, OnErr};
-ghost use Rattle.nat_kinds.specs.History.{Entry, Out, Forget, Restart};
+ghost use Rattle.nat_kinds.specs.History.{NatEntry, Out, Forget, Restart};
 ghost use Rattle.nat_kinds.specs.Answer.{nat_answer, GivesAnswer};
 ghost use Rattle.nat_kinds.specs.Entering.{lets_in};
-ghost use Rattle.nat_kinds.specs.Nat.{StandsFor, StandsAsBefore};
+ghost use Rattle.nat_kinds.specs.Nat.{NatStandsFor, StandsAsBefore};
 
 use crate::asked::{self, Asked};
 use crate::departure::Departure;
@@ -47,7 +47,7 @@ impl Nat {
     pub fn new(alloc: Global, kind: NatKind, external: Ip4, idle: u32) -> Nat
         ensures settings { result.settings ≡ record { kind = kind; external = external; idle = idle } }
         ensures moment { result.moment ≡ 0 }
-        ensures stands { StandsFor result [] }
+        ensures stands { NatStandsFor result [] }
     {
         Nat {
             settings: NatSettings {
@@ -68,10 +68,10 @@ impl Nat {
         requires clock { self.old.moment ≤ now.0 }
 
         // After each history that it stood for, this is the answer; then it stands for that history with this datagram.
-        ensures answer { (h : List Entry) → StandsFor self.old h →
+        ensures answer { (h : List NatEntry) → NatStandsFor self.old h →
             GivesAnswer self.old.settings (nat_answer self.old.settings h now.0 inside dst) result }
-        ensures stands { IfOk result (λ ep. (h : List Entry) → StandsFor self.old h →
-            StandsFor self.new (Out (record { moment = now; inside = inside; dst = dst; port = ep.port }) ∷ h)) }
+        ensures stands { IfOk result (λ ep. (h : List NatEntry) → NatStandsFor self.old h →
+            NatStandsFor self.new (Out (record { moment = now; inside = inside; dst = dst; port = ep.port }) ∷ h)) }
         ensures refused { OnErr result (StandsAsBefore self.old self.new) }
 
         ensures moment { self.new.moment ≡ now.0 }
@@ -96,7 +96,7 @@ impl Nat {
     /// The inside endpoint that a datagram from `src` to an external port is let in to. It refreshes nothing.
     pub fn inward(&self, now: Millis, src: Ep, port: u16) -> Option<Ep>
         requires clock { self.now.moment ≤ now.0 }
-        ensures answer { (h : List Entry) → StandsFor self.now h →
+        ensures answer { (h : List NatEntry) → NatStandsFor self.now h →
             result ≡ lets_in self.now.settings h now.0 src port }
     {
         mappings::inside_at(&self.places, &self.asked, &self.settings, now, src, port)
@@ -104,7 +104,7 @@ impl Nat {
 
     /// Drops the mappings and permissions of one inside endpoint. Its ports are free from then on.
     pub fn forget(&mut self, inside: Ep)
-        ensures stands { (h : List Entry) → StandsFor self.old h → StandsFor self.new (Forget inside ∷ h) }
+        ensures stands { (h : List NatEntry) → NatStandsFor self.old h → NatStandsFor self.new (Forget inside ∷ h) }
         ensures moment { self.new.moment ≡ self.old.moment }
         ensures settings { self.new.settings ≡ self.old.settings }
     {
@@ -119,7 +119,7 @@ impl Nat {
 
     /// Drops all mappings and permissions.
     pub fn restart(&mut self)
-        ensures stands { (h : List Entry) → StandsFor self.old h → StandsFor self.new (Restart ∷ h) }
+        ensures stands { (h : List NatEntry) → NatStandsFor self.old h → NatStandsFor self.new (Restart ∷ h) }
         ensures moment { self.new.moment ≡ self.old.moment }
         ensures settings { self.new.settings ≡ self.old.settings }
     {

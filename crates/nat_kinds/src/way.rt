@@ -1,6 +1,6 @@
 //! What a NAT finds mappings and permissions by.
 ghost use Rattle.std.specs.Prelude.{◌≡◌};
-ghost use Rattle.nat_kinds.specs.Way.{number_of, key_way, asked_way};
+ghost use Rattle.nat_kinds.specs.Way.{endpoint_number, key_way, asked_way};
 
 use crate::kind::NatKind;
 use std::hash::{Hash, Hasher};
@@ -50,9 +50,9 @@ impl Hash for Way {
 
 /// An endpoint as one number.
 #[inline(always)]
-#[tactic(auto, unfolding(crate::specs::Way::number_of))]
+#[tactic(auto, unfolding(crate::specs::Way::endpoint_number))]
 fn number(ep: Ep) -> u64
-    ensures { result ≡ number_of ep }
+    ensures { result ≡ endpoint_number ep }
 {
     u64::from(field32(&ep.ip.0, 0)) * 65536 + u64::from(ep.port)
 }

@@ -19,7 +19,7 @@ use Rattle.teredo_node.specs.Step.{Send}
 use Rattle.qualify.specs.declared.settings.Settings.{Settings}
 use Rattle.qualify.specs.declared.phase.Phase.{Phase}
 use Rattle.qualify.specs.declared.phase.Phase.TheVariants.{Cone, Restricted, Secondary, Qualified, Symmetric, OffLine}
-use Rattle.qualify.specs.Solicitations.{asked_at}
+use Rattle.qualify.specs.Solicitations.{server_asked}
 use Rattle.client_rules.specs.Tries.{test}
 use Rattle.topology.specs.declared.server_node.ServerNode.{ServerNode}
 use Rattle.topology.specs.declared.client_node.ClientNode.{ClientNode}
@@ -59,7 +59,7 @@ is_nat _ = false
 
 -- where a solicitation goes there is a server
 pub server_there : (t : TopologyState) (c : ClientNode) (phase : Phase) (b : HasServer t c)
-    → has_address (asked_at (client_settings t c) phase).ip (server b.row) ≡ true
+    → has_address (server_asked (client_settings t c) phase).ip (server b.row) ≡ true
 server_there t c Cone b = subst (λ (ip : Ip4). has_address ip (server b.row) ≡ true) (sym b.primary) b.has_primary
 server_there t c Restricted b = subst (λ (ip : Ip4). has_address ip (server b.row) ≡ true) (sym b.primary) b.has_primary
 server_there t c Secondary b = subst (λ (ip : Ip4). has_address ip (server b.row) ≡ true) (sym b.secondary) b.has_secondary

@@ -32,7 +32,8 @@ use Rattle.history.specs.Full.{Item, udp, six, Full, wire}
 use Rattle.legal.specs.Lab.{Lab}
 use Rattle.legal.specs.Settings.{client_settings}
 use Rattle.legal.specs.Past.{now, forgotten, journal, nat_history, armed}
-use Rattle.legal.specs.Emit.{sets_address, by_way}
+use Rattle.client_rules.specs.Told.{sets_address}
+use Rattle.legal.specs.Emit.{by_way}
 use Rattle.legal.specs.Next.{input_of}
 use Rattle.legal.specs.Laws.{EachClientIsJournal}
 use Rattle.legal.specs.Frame.{EachFrames}

@@ -15,7 +15,7 @@ use Rattle.server_core.specs.Conditions.{is_own}
 use Rattle.server_core.specs.Server as row
 use Rattle.server_core.specs.Laws as server_laws
 use Rattle.server_core.specs.Outgoing.{IsFromClient, EachIsFromClient}
-use Rattle.relay_rules.specs.Journals.{IsJournal as IsRelayJournal}
+use Rattle.relay_rules.specs.Journals.{IsRelayJournal}
 use Rattle.relay_rules.specs.ForeignSends.{IsForeignSend, EachSendIsForeign}
 use Rattle.topology.specs.declared.server_node.ServerNode.{ServerNode}
 use Rattle.topology.specs.declared.node.Node.{Node}

@@ -15,7 +15,7 @@ use Rattle.legal.specs.Legal.{Grown}
 use Rattle.legal.specs.Routes.{IsLetIn}
 
 -- the record hands x to the host of client n
-pub record HandsOver (lab : Lab) (r : Full) (n : ℕ) (c : ClientNode) (x : List ℕ) : Type 0 where
+pub record HandsToHost (lab : Lab) (r : Full) (n : ℕ) (c : ClientNode) (x : List ℕ) : Type 0 where
   pub node : r.node ≡ Some n
   pub client : client_at lab.topology n ≡ Some c
   pub packet : r.handed ≡ Some x
@@ -37,7 +37,7 @@ pub record IsBrought (lab : Lab) (H : List Full) (r : Full) (c : ClientNode) (x 
 
 -- each packet that is handed over at once was brought so, whatever strangers do
 abbrev pub EachIsBrought : Type 0
-EachIsBrought = (lab : Lab) (H : List Full) (r : Full) (n : ℕ) (c : ClientNode) (x : List ℕ) → Grown lab (r ∷ H) → HandsOver lab r n c x
+EachIsBrought = (lab : Lab) (H : List Full) (r : Full) (n : ℕ) (c : ClientNode) (x : List ℕ) → Grown lab (r ∷ H) → HandsToHost lab r n c x
     → IsBrought lab H r c x
 
 -- what a client's host is handed late is from outside Teredo

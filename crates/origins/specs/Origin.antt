@@ -19,7 +19,7 @@ use Rattle.legal.specs.Past.{journal}
 use Rattle.legal.specs.Legal.{Grown}
 use Rattle.legal.specs.Laws.{Makes}
 use Rattle.origins.specs.Sources.{outermost}
-use Rattle.origins.specs.Handed.{HandsOver}
+use Rattle.origins.specs.Handed.{HandsToHost}
 
 -- the event puts a datagram onto the wire from this endpoint
 abbrev pub PutsFrom : Event → Ep → Type 0
@@ -53,4 +53,4 @@ pub data HasOrigin (lab : Lab) (H : List Full) (k : ℕ) (p : Ip6) (x : List ℕ
 -- each packet with a Teredo source that a client's host is handed has its origin where the source says, whatever strangers do
 abbrev pub EachHasOrigin : Type 0
 EachHasOrigin = (lab : Lab) (H : List Full) (r : Full) (n : ℕ) (c : ClientNode) (x : List ℕ) → IsTopology lab.topology → Grown lab (r ∷ H)
-    → HandsOver lab r n c x → is_teredo (fields_in x).src ≡ true → (k : ℕ) → r.delivered ≡ Some k → HasOrigin lab H k (fields_in x).src x
+    → HandsToHost lab r n c x → is_teredo (fields_in x).src ≡ true → (k : ℕ) → r.delivered ≡ Some k → HasOrigin lab H k (fields_in x).src x

@@ -14,19 +14,19 @@ use Rattle.history.specs.Full.{Full}
 use Rattle.legal.specs.Lab.{Lab, lab_of}
 use Rattle.legal.specs.Legal.{Begun, Grown}
 use Rattle.origins.specs.Honest.{is_honest, are_honest}
-use Rattle.origins.specs.Handed.{HandsOver, IsBrought}
+use Rattle.origins.specs.Handed.{HandsToHost, IsBrought}
 use Rattle.origins.specs.Origin.{HasOrigin}
 use Rattle.origins.specs.Live.{IsLive}
 
 -- of the record after H
 pub record HasOrigins (lab : Lab) (H : List Full) (r : Full) : Type 0 where
   -- what a client's host is handed at once came in a datagram, with a Teredo source from where that says
-  pub brought : (n : ℕ) (c : ClientNode) (x : List ℕ) → HandsOver lab r n c x → IsBrought lab H r c x
+  pub brought : (n : ℕ) (c : ClientNode) (x : List ℕ) → HandsToHost lab r n c x → IsBrought lab H r c x
   -- what it is handed late has none
   pub late : (n : ℕ) (c : ClientNode) → r.node ≡ Some n → client_at lab.topology n ≡ Some c
       → AllByRecursion (λ x. is_teredo (fields_in x).src ≡ false) r.late
   -- such a datagram was put there by a named event, or by a client whose host had handed in the packet
-  pub origin : (n : ℕ) (c : ClientNode) (x : List ℕ) (k : ℕ) → HandsOver lab r n c x → is_teredo (fields_in x).src ≡ true
+  pub origin : (n : ℕ) (c : ClientNode) (x : List ℕ) (k : ℕ) → HandsToHost lab r n c x → is_teredo (fields_in x).src ≡ true
       → r.delivered ≡ Some k → HasOrigin lab H k (fields_in x).src x
   -- in an honest history an address that a client gets leads to it
   pub live : (n : ℕ) (c : ClientNode) (own : Ip6) → are_honest lab.topology (r ∷ H) ≡ true → r.node ≡ Some n → client_at lab.topology n ≡ Some c

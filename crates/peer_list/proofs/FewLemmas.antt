@@ -7,7 +7,7 @@ use Rattle.td_base.specs.Ip6.{same_ip6, same_ip6-true}
 use Rattle.td_base.specs.declared.ipv6.Ip6.{Ip6}
 use Rattle.peer_list.specs.declared.limits.TheConstants.{LISTED_MS, PEERS_MAX}
 use Rattle.peer_list.specs.Mentions.{Mention, is_about, is_touch_of}
-use Rattle.peer_list.specs.Listed.{is_young, is_recent_touch, is_listed, with_peer, touched, listed, has_room}
+use Rattle.peer_list.specs.Listed.{is_younger, is_recent_touch, is_listed, with_peer, touched, listed, has_room}
 use Rattle.peer_list.specs.Few.{FindsRoom, FewListed}
 use Rattle.peer_list.proofs.Lists.{listed_was_touched, other_way}
 use Rattle.peer_list.proofs.Orders.{has, without}
@@ -58,12 +58,12 @@ count_is j n = length-filter (λ p. is_listed p n j) (touched j)
 -- who is listed later was before
 recent_before : (m n : ℕ) (o : Option Mention) → m ≤ n → one_if (is_recent_touch LISTED_MS n o) ≤ one_if (is_recent_touch LISTED_MS m o)
 recent_before m n None l = omega arith
-recent_before m n (Some e) l = by (is_young LISTED_MS n e.moment) refl where
-  by : (b : Bool) → is_young LISTED_MS n e.moment ≡ b → one_if b ≤ one_if (is_young LISTED_MS m e.moment)
+recent_before m n (Some e) l = by (is_younger LISTED_MS n e.moment) refl where
+  by : (b : Bool) → is_younger LISTED_MS n e.moment ≡ b → one_if b ≤ one_if (is_younger LISTED_MS m e.moment)
   by false h = omega arith
   by true h =
       let less : n - e.moment < LISTED_MS = ltb-true (n - e.moment) LISTED_MS h in
-      let before : is_young LISTED_MS m e.moment ≡ true = lt-ltb (m - e.moment) LISTED_MS (omega (arith, less, l)) in
+      let before : is_younger LISTED_MS m e.moment ≡ true = lt-ltb (m - e.moment) LISTED_MS (omega (arith, less, l)) in
       rw before (omega arith)
 
 -- an entry that doesn't touch it changes nothing

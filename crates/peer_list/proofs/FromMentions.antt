@@ -11,7 +11,7 @@ use Rattle.td_base.specs.Ip6.{same_ip6-true}
 use Rattle.peer_list.specs.declared.limits.TheConstants.{LISTED_MS}
 use Rattle.peer_list.specs.declared.held.Held.{Held}
 use Rattle.peer_list.specs.Mentions.{Mention, is_peer, is_about}
-use Rattle.peer_list.specs.Listed.{is_young, is_listed}
+use Rattle.peer_list.specs.Listed.{is_younger, is_listed}
 use Rattle.peer_list.specs.Peers.{Peer, no_peer, peer_at, known}
 use Rattle.peer_list.specs.Laws.{after, peer_if, OneEntry}
 
@@ -57,7 +57,7 @@ pub kept : OneEntry → (Q : Peer → Type 0) (R : Mention → Type 0) → IsKep
 kept one Q R k p [] a n = subst Q (sym (known_none n p)) k.none
 kept one Q R k p (e ∷ ms) a n =
     subst (λ o. Q (unwrap_or o no_peer)) (sym (one e ms n p))
-    (kept_if Q R k e (is_about p e) e.bearing.touches (is_young LISTED_MS n e.moment) (peer_at ms e.moment p) (peer_at ms n p) a.0
+    (kept_if Q R k e (is_about p e) e.bearing.touches (is_younger LISTED_MS n e.moment) (peer_at ms e.moment p) (peer_at ms n p) a.0
     (kept one Q R k p ms a.1 e.moment) (kept one Q R k p ms a.1 n))
 
 -- PACKETS THAT WAIT

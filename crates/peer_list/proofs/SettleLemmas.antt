@@ -14,7 +14,7 @@ use Rattle.peer_list.specs.declared.change.Change.TheVariants.{Touch, Trust, Hea
 use Rattle.peer_list.specs.Calls.{changed_at, Updates, Keeps}
 use Rattle.peer_list.specs.Sound.{IsSince}
 use Rattle.peer_list.specs.Entries.{listings_of, key_of, entry_due, AreInTurn, AreWhole, AreWholeBut, AreKept, with_peer_at, IsAfter}
-use Rattle.peer_list.specs.Timely.{IsTimely, AreTimely, IsHeld}
+use Rattle.peer_list.specs.Timely.{IsTimely, AreTimely, IsKeptTimely}
 use Rattle.peer_list.proofs.ListingLemmas.{has_listing, known_there}
 use Rattle.peer_list.proofs.TimelyLemmas.{timely_updated, timely_later, timely_answered}
 use Rattle.peer_list.proofs.ChangeLemmas.{known_at, whole_but, turn_still, kept_after, updates_after, since_touched}
@@ -95,17 +95,17 @@ module _ (e : Entries) (k n : ℕ) (who : Ip6) (v : Table) (is : table k (listin
       (subst (λ (t : Table). Updates t (table n (listings_of new)) n who peer) is (updates_after e new key l peer a k n who w found))
 
   -- and it is due while it is listed
-  pub held_by_call : (new : Entries) (key : ℕ) (l : Listing) (peer : Peer) (call : Peer → Peer) → IsHeld e k → v.moment ≤ n → is_some (peer_in v n who) ≡ true → key_of e who ≡ Some key → IsAfter e new key l peer → peer ≡ call l.peer
-      → AreKept new n → (AreTimely v → v.moment ≤ n → IsTimely n (call (known_to v n who))) → IsHeld new n
+  pub held_by_call : (new : Entries) (key : ℕ) (l : Listing) (peer : Peer) (call : Peer → Peer) → IsKeptTimely e k → v.moment ≤ n → is_some (peer_in v n who) ≡ true → key_of e who ≡ Some key → IsAfter e new key l peer → peer ≡ call l.peer
+      → AreKept new n → (AreTimely v → v.moment ≤ n → IsTimely n (call (known_to v n who))) → IsKeptTimely new n
   held_by_call new key l peer call held clock listed found a done kept so =
       let before : AreTimely v = subst AreTimely is held.timely in
       record { kept = kept; timely = timely_updated v (table n (listings_of new)) n who (call (known_to v n who)) before clock (so before clock) (updates_by_call new key l peer call held.kept.whole listed found a done) }
 
 -- a call that may be refused
-pub held_answered : {A E : Type 0} (e new : Entries) (k n : ℕ) (who : Ip6) (call : Peer → Peer) (r : Result A E) → IsHeld e k → k ≤ n → AreKept new n
+pub held_answered : {A E : Type 0} (e new : Entries) (k n : ℕ) (who : Ip6) (call : Peer → Peer) (r : Result A E) → IsKeptTimely e k → k ≤ n → AreKept new n
     → (AreTimely (table n (listings_of e)) → IsTimely n (call (known_to (table n (listings_of e)) n who)))
     → OnOk r (Updates (table n (listings_of e)) (table n (listings_of new)) n who (call (known_to (table n (listings_of e)) n who)))
-    → OnErr r (Keeps (table n (listings_of e)) (table n (listings_of new)) n) → IsHeld new n
+    → OnErr r (Keeps (table n (listings_of e)) (table n (listings_of new)) n) → IsKeptTimely new n
 held_answered e new k n who call r held later kept so done refused =
     let old : Table = table n (listings_of e) in
     let before : AreTimely old = timely_later k n (listings_of e) later held.timely in

@@ -6,7 +6,7 @@ use Rattle.td_base.specs.Ip6.{same_ip6, same_ip6-true}
 use Rattle.td_base.specs.declared.ipv6.Ip6.{Ip6}
 use Rattle.peer_list.specs.declared.limits.TheConstants.{LISTED_MS, PEERS_MAX}
 use Rattle.peer_list.specs.Mentions.{Mention, no_bearing, is_peer, is_about}
-use Rattle.peer_list.specs.Listed.{is_young, is_listed, listed, has_room}
+use Rattle.peer_list.specs.Listed.{is_younger, is_listed, listed, has_room}
 use Rattle.peer_list.specs.Peers.{Peer, no_peer, peer_at, known}
 use Rattle.peer_list.specs.Judged.{is_within}
 use Rattle.peer_list.specs.Waiting.{Listing, kept_count, kept_among, first_among}
@@ -88,12 +88,12 @@ touch_by e true before now = refl
 touch_by e false before now = refl
 
 seen_by : (e : Mention) (old : Table) (n : ℕ) (who : Ip6) (t : Bool) → e.bearing.touches ≡ t → e.moment ≤ n
-    → while_listed n (after e (known_to old e.moment who)) ≡ peer_if true t (is_young LISTED_MS n e.moment) e (peer_in old e.moment who) (peer_in old n who)
+    → while_listed n (after e (known_to old e.moment who)) ≡ peer_if true t (is_younger LISTED_MS n e.moment) e (peer_in old e.moment who) (peer_in old n who)
 unfolding peer_in
 seen_by e old n who true touches l =
     let touched : (after e (known_to old e.moment who)).touched ≡ Some e.moment = ap (λ t. cond t (Some e.moment) (known_to old e.moment who).touched) touches in
     ap (λ o. cond (is_within LISTED_MS n o) (Some (after e (known_to old e.moment who))) None) touched
-    ∙ touch_by e (is_young LISTED_MS n e.moment) (peer_in old e.moment who) (peer_in old n who)
+    ∙ touch_by e (is_younger LISTED_MS n e.moment) (peer_in old e.moment who) (peer_in old n who)
 seen_by e old n who false quiet l =
     let f : Peer → Peer = λ x. record (after e x) { touched = x.touched } in
     let all : after e ≡ f = λ i x. after_quiet e x quiet i in
@@ -116,14 +116,14 @@ next_stands old new e j who s l about u = record {
   by_test n p from before true is =
       let same : p ≡ who = same_ip6-true p who is in
       let here : is_about p e ≡ true = about_is p ∙ is in
-      let view : while_listed n (after e (known_to old e.moment who)) ≡ peer_if true e.bearing.touches (is_young LISTED_MS n e.moment) e (peer_in old e.moment who) (peer_in old n who) = seen_by e old n who e.bearing.touches refl from in
-      let both : peer_if true e.bearing.touches (is_young LISTED_MS n e.moment) e (peer_in old e.moment who) (peer_in old n who) ≡ peer_if true e.bearing.touches (is_young LISTED_MS n e.moment) e (peer_at j e.moment who) (peer_at j n who) =
-      ap (λ o. peer_if true e.bearing.touches (is_young LISTED_MS n e.moment) e o (peer_in old n who)) (s.view e.moment who l)
-      ∙ ap (λ o. peer_if true e.bearing.touches (is_young LISTED_MS n e.moment) e (peer_at j e.moment who) o) (s.view n who before) in
+      let view : while_listed n (after e (known_to old e.moment who)) ≡ peer_if true e.bearing.touches (is_younger LISTED_MS n e.moment) e (peer_in old e.moment who) (peer_in old n who) = seen_by e old n who e.bearing.touches refl from in
+      let both : peer_if true e.bearing.touches (is_younger LISTED_MS n e.moment) e (peer_in old e.moment who) (peer_in old n who) ≡ peer_if true e.bearing.touches (is_younger LISTED_MS n e.moment) e (peer_at j e.moment who) (peer_at j n who) =
+      ap (λ o. peer_if true e.bearing.touches (is_younger LISTED_MS n e.moment) e o (peer_in old n who)) (s.view e.moment who l)
+      ∙ ap (λ o. peer_if true e.bearing.touches (is_younger LISTED_MS n e.moment) e (peer_at j e.moment who) o) (s.view n who before) in
       ap (λ b. cond b (while_listed n (after e (known_to old e.moment who))) (peer_in old n p)) is
       ∙ view ∙ both
-      ∙ ap (λ q. peer_if true e.bearing.touches (is_young LISTED_MS n e.moment) e (peer_at j e.moment q) (peer_at j n q)) (sym same)
-      ∙ ap (λ b. peer_if b e.bearing.touches (is_young LISTED_MS n e.moment) e (peer_at j e.moment p) (peer_at j n p)) (sym here)
+      ∙ ap (λ q. peer_if true e.bearing.touches (is_younger LISTED_MS n e.moment) e (peer_at j e.moment q) (peer_at j n q)) (sym same)
+      ∙ ap (λ b. peer_if b e.bearing.touches (is_younger LISTED_MS n e.moment) e (peer_at j e.moment p) (peer_at j n p)) (sym here)
 
 -- an entry that means nothing
 idle_peer : (m : ℕ) (who : Option Ip6) (x : Peer) → after (record { moment = m; peer = who; bearing = no_bearing }) x ≡ x
@@ -140,7 +140,7 @@ idle_if true y m who before now = idle_map m who now
 idle_view : (e : Mention) (j : List Mention) (n : ℕ) (p : Ip6) → MeansNothing e → view_after e (peer_at j) n p ≡ peer_at j n p
 idle_view e j n p (about_nobody none) = let no : is_about p e ≡ false = ap (is_peer p) none in rw no refl
 idle_view e j n p (bears_nothing none) =
-    subst (λ (b : _). peer_if (is_about p e) b.touches (is_young LISTED_MS n e.moment) (record e { bearing = b }) (peer_at j e.moment p) (peer_at j n p) ≡ peer_at j n p) (sym none) (idle_if (is_about p e) (is_young LISTED_MS n e.moment) e.moment e.peer (peer_at j e.moment p) (peer_at j n p))
+    subst (λ (b : _). peer_if (is_about p e) b.touches (is_younger LISTED_MS n e.moment) (record e { bearing = b }) (peer_at j e.moment p) (peer_at j n p) ≡ peer_at j n p) (sym none) (idle_if (is_about p e) (is_younger LISTED_MS n e.moment) e.moment e.peer (peer_at j e.moment p) (peer_at j n p))
 
 pub idle_stands : IdleStands
 idle_stands t e j s idle = record { view = λ n p l. s.view n p l ∙ sym (idle_view e j n p idle) ∙ sym (one_entry e j n p) }

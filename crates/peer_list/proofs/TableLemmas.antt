@@ -7,7 +7,7 @@ use Rattle.std.proofs.lemmas.Map.Views.{any-filter_same}
 use Rattle.td_base.specs.Ip6.{same_ip6, same_ip6-true, same_ip6-self}
 use Rattle.td_base.specs.declared.ipv6.Ip6.{Ip6}
 use Rattle.peer_list.specs.declared.limits.TheConstants.{LISTED_MS}
-use Rattle.peer_list.specs.Listed.{is_young, with_peer}
+use Rattle.peer_list.specs.Listed.{is_younger, with_peer}
 use Rattle.peer_list.specs.Peers.{Peer, no_peer}
 use Rattle.peer_list.specs.Judged.{is_within}
 use Rattle.peer_list.specs.Waiting.{Listing}
@@ -29,7 +29,7 @@ within_after m n o l h = by_test (is_within LISTED_MS n o) refl where
   by_test false e = e
   by_test true e = absurd (false≢true (sym h ∙ within_before m n o l e))
 
-pub young_now : (m : ℕ) → is_young LISTED_MS m m ≡ true
+pub young_now : (m : ℕ) → is_younger LISTED_MS m m ≡ true
 young_now m = lt-ltb _ _ (omega arith)
 
 pub touched_is_listed : TouchedIsListed

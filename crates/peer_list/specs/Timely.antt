@@ -22,7 +22,7 @@ abbrev pub AreTimely : Table → Type 0
 AreTimely t = (p : Ip6) (peer : Peer) → peer_in t t.moment p ≡ Some peer → IsTimely t.moment peer
 
 -- what stands of a table's entries at its moment
-pub record IsHeld (e : Entries) (m : ℕ) : Type 0 where
+pub record IsKeptTimely (e : Entries) (m : ℕ) : Type 0 where
   pub kept : AreKept e m
   pub timely : AreTimely (table m (listings_of e))
 

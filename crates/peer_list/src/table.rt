@@ -29,13 +29,13 @@ const _: () = prove_eq!(size_of::<Peers>(), size_of::<(Global, Millis, Entries)>
 impl Model for Peers {
     ghost use Rattle.peer_list.specs.Table.{Table};
     ghost use Rattle.peer_list.specs.Entries.{listings_of};
-    ghost use Rattle.peer_list.specs.Timely.{IsHeld};
+    ghost use Rattle.peer_list.specs.Timely.{IsKeptTimely};
 
     ghost Value = { Table };
 
     ghost view = { λ s. record { moment = s.moment.0; listings = listings_of s.entries } };
 
-    ghost invariant = { λ s. IsHeld s.entries s.moment.0 };
+    ghost invariant = { λ s. IsKeptTimely s.entries s.moment.0 };
 }
 
 impl Peers {

@@ -2,7 +2,7 @@
 ghost use Rattle.std.specs.Prelude.{◌≡◌, ◌≤◌, ◌<◌, ◌||◌, nat_le, [], ◌∷◌, take, length, filter, map};
 ghost use Rattle.std.specs.List.{list_any};
 ghost use Rattle.td_outside.specs.declared.clock.TheConstants.{CLOCK_END_MS};
-ghost use Rattle.peer_list.specs.Listed.{is_young};
+ghost use Rattle.peer_list.specs.Listed.{is_younger};
 ghost use Rattle.peer_list.specs.Judged.{next_try};
 ghost use Rattle.peer_list.specs.Bounds.{AreEarly};
 
@@ -33,7 +33,7 @@ impl Model for Tries {
 
 /// Whether a moment is less than so many milliseconds ago.
 pub(crate) fn is_young(ms: u64, now: Millis, moment: Millis) -> bool
-    ensures { result ≡ is_young ms now.0 moment.0 }
+    ensures { result ≡ is_younger ms now.0 moment.0 }
 {
     now.0.saturating_sub(moment.0) < ms
 }
@@ -73,7 +73,7 @@ impl Tries {
 
     /// Whether `TRIES_MAX` of them are as young as a listing may be.
     pub(crate) fn is_spent(&self, now: Millis) -> bool
-        ensures { result ≡ nat_le TRIES_MAX (length (filter (is_young LISTED_MS now.0) self.now)) }
+        ensures { result ≡ nat_le TRIES_MAX (length (filter (is_younger LISTED_MS now.0) self.now)) }
     {
         let mut young: usize = 0;
         for moment in self.as_slice() {
@@ -86,7 +86,7 @@ impl Tries {
 
     /// Whether one of them is too young for another.
     pub(crate) fn is_recent(&self, now: Millis) -> bool
-        ensures { result ≡ list_any (is_young TRY_GAP_MS now.0) (filter (is_young LISTED_MS now.0) self.now) }
+        ensures { result ≡ list_any (is_younger TRY_GAP_MS now.0) (filter (is_younger LISTED_MS now.0) self.now) }
     {
         for moment in self.as_slice() {
             if is_young(TRY_GAP_MS, now, *moment) {

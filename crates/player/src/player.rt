@@ -3,7 +3,7 @@ ghost use Rattle.std.specs.Prelude.{◌≡◌, ◌≤◌, [], length};
 ghost use Rattle.std.specs.List.{AllByRecursion};
 ghost use Rattle.events.specs.declared.event.TheConstants.{EVENTS_MAX};
 ghost use Rattle.events.specs.Events.{IsEvent};
-ghost use Rattle.td_chain.specs.Chains.{StandsFor};
+ghost use Rattle.td_chain.specs.Chains.{ChainsStandFor};
 ghost use Rattle.player.specs.Endings.{IsPlayed};
 
 use crate::listener::Listener;
@@ -39,10 +39,11 @@ pub fn play<L: Listener, K: Sink>(
 ) -> Result<(), PlayFault>
     requires few { length events.now ≤ EVENTS_MAX }
     requires legal { AllByRecursion (IsEvent chains.topology) events.now }
-    requires first { StandsFor chains (λ k. []) }
+    requires first { ChainsStandFor chains (λ k. []) }
     requires moment { chains.moment ≡ 0 }
     requires fresh { L.keeps listener.old chains.topology [] }
-    ensures { IsPlayed L.account (record { seed = seed; topology = chains.entry.topology; events = events.now }) chains.entry.chain (K.state out.old) (K.state out.new) result }
+    ensures { IsPlayed L.account (record { seed = seed; topology = chains.entry.topology; events = events.now }) chains.entry.chain
+        (K.state out.old) (K.state out.new) result }
 {
     legal::of_its_event();
     promises::kept_in_scenarios();

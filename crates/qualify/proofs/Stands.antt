@@ -17,11 +17,11 @@ use Rattle.qualify.specs.Turns.{Turn, says_nothing, renews, turn, turn_of, inter
 use Rattle.qualify.specs.Qualification.{first_phase, Qualification, qualification}
 use Rattle.qualify.specs.Advertisements.{advert_lines, heard, phase_line, is_same_origin, origin_before, advert_row, advert_words}
 use Rattle.qualify.specs.Laws.{Tidings, tidings_of, tidings, fresh, turned, KeepsStill}
-use Rattle.qualify.specs.Qualifier.{QualifierState, StandsFor, stands_whole, IsOfAdvert, IsOfTick, IsOfServer, TurnsBy}
+use Rattle.qualify.specs.Qualifier.{QualifierState, QualifierStandsFor, stands_whole, IsOfAdvert, IsOfTick, IsOfServer, TurnsBy}
 use Rattle.qualify.proofs.Turned.{turns, turns_at_start}
 
 -- the parts of an equal whole
-pub stands_by : (q : QualifierState) (j : Journal) → q.now ≡ qualification q.settings j → StandsFor q j
+pub stands_by : (q : QualifierState) (j : Journal) → q.now ≡ qualification q.settings j → QualifierStandsFor q j
 stands_by q j e = record {
   phase = ap (λ (x : Qualification). x.phase) e;
   due = ap (λ (x : Qualification). x.due) e;
@@ -35,12 +35,12 @@ stands_by q j e = record {
 abbrev state : Settings → Qualification → QualifierState
 state s q = record { settings = s; now = q }
 
-pub stands_at_start : (s : Settings) (q : Qualification) (start : ℕ) → q ≡ fresh (first_phase s) start → StandsFor (state s q) (record { start = start; entries = [] })
+pub stands_at_start : (s : Settings) (q : Qualification) (start : ℕ) → q ≡ fresh (first_phase s) start → QualifierStandsFor (state s q) (record { start = start; entries = [] })
 stands_at_start s q start e = stands_by (state s q) (record { start = start; entries = [] }) (e ∙ sym (turns_at_start s start))
 
 -- one entry more
-pub stands_on : (s : Settings) (before after : Qualification) (j : Journal) (e : Entry) → StandsFor (state s before) j → after ≡ turned s (tidings s e) before
-    → StandsFor (state s after) (with_entry j e)
+pub stands_on : (s : Settings) (before after : Qualification) (j : Journal) (e : Entry) → QualifierStandsFor (state s before) j → after ≡ turned s (tidings s e) before
+    → QualifierStandsFor (state s after) (with_entry j e)
 stands_on s before after j e h is =
     stands_by (state s after) (with_entry j e) (is ∙ ap (turned s (tidings s e)) (stands_whole (state s before) j h) ∙ sym (turns s j e))
 
@@ -50,19 +50,19 @@ pub tells : (s : Settings) (n : ℕ) (fate : Fate) (words : List ℕ) (origin : 
 tells s n fate words origin e a b c d = λ i. tidings_of s (a i) (b i) (c i) (d i)
 
 pub stands_advert : (s : Settings) (before after : Qualification) (n : ℕ) (v : Value) (fate : Fate) (w : Words) → TurnsBy s n fate (drawn_words (advert_words s fate) w) (origin_in v.lead) before after
-    → (j : Journal) (e : Entry) → StandsFor (state s before) j → IsOfAdvert s n v fate w e → StandsFor (state s after) (with_entry j e)
+    → (j : Journal) (e : Entry) → QualifierStandsFor (state s before) j → IsOfAdvert s n v fate w e → QualifierStandsFor (state s after) (with_entry j e)
 stands_advert s before after n v fate w is j e h a =
     stands_on s before after j e h (is ∙ ap (λ (t : Tidings). turned s t before) (sym (tells s n fate (drawn_words (advert_words s fate) w) (origin_in v.lead) e a.moment a.became a.words a.origin)))
 
 pub stands_tick : (s : Settings) (before after : Qualification) (n : ℕ) (step : Step) (w : Words) → ((origin : Option Ep) → TurnsBy s n step.fate (drawn_words step.drawn w) origin before after)
-    → (j : Journal) (e : Entry) → StandsFor (state s before) j → IsOfTick n step w e → StandsFor (state s after) (with_entry j e)
+    → (j : Journal) (e : Entry) → QualifierStandsFor (state s before) j → IsOfTick n step w e → QualifierStandsFor (state s after) (with_entry j e)
 stands_tick s before after n step w is j e h a =
     let t = tells s n step.fate (drawn_words step.drawn w) (origin_given e.input) e a.moment (ap (λ (x : Step). x.fate) a.did) a.words refl in
     stands_on s before after j e h (is (origin_given e.input) ∙ ap (λ (x : Tidings). turned s x before) (sym t))
 
 pub stands_server : (s : Settings) (before after : Qualification) (n : ℕ)
     → ((r : Settings) (t : Tidings) → t.moment ≡ n → t.turn ≡ renews → t.interval ≡ None → after ≡ turned r t before)
-    → (j : Journal) (e : Entry) → StandsFor (state s before) j → IsOfServer n e → StandsFor (state s after) (with_entry j e)
+    → (j : Journal) (e : Entry) → QualifierStandsFor (state s before) j → IsOfServer n e → QualifierStandsFor (state s after) (with_entry j e)
 stands_server s before after n is j e h a =
     stands_on s before after j e h (is s (tidings s e) a.moment a.renewed (ap (λ (x : Turn). option_map (interval_of s) (interval_word x e.words)) a.renewed))
 

@@ -33,7 +33,7 @@ pub record QualifierState : Type 0 where
   pub now : Qualification
 
 -- each part is what the journal says
-pub record StandsFor (q : QualifierState) (j : Journal) : Type 0 where
+pub record QualifierStandsFor (q : QualifierState) (j : Journal) : Type 0 where
   pub phase : q.now.phase ≡ (qualification q.settings j).phase
   pub due : q.now.due ≡ (qualification q.settings j).due
   pub sends : q.now.sends ≡ (qualification q.settings j).sends
@@ -43,7 +43,7 @@ pub record StandsFor (q : QualifierState) (j : Journal) : Type 0 where
   pub interval : q.now.interval ≡ (qualification q.settings j).interval
 
 -- so the whole is
-pub stands_whole : (q : QualifierState) (j : Journal) → StandsFor q j → q.now ≡ qualification q.settings j
+pub stands_whole : (q : QualifierState) (j : Journal) → QualifierStandsFor q j → q.now ≡ qualification q.settings j
 stands_whole q j h = λ i. record {
   phase = h.phase i;
   due = h.due i;

@@ -1,12 +1,12 @@
 //! The table of advertisements.
 ghost use Rattle.std.specs.Prelude.{◌≡◌, ◌≤◌, Some, length, filter_map, is_some, IfSome};
 ghost use Rattle.icmp6.specs.Blocks.{options_left};
-ghost use Rattle.icmp6.specs.Message.{options_in, view as message_view};
+ghost use Rattle.icmp6.specs.Message.{options_in, message_view};
 ghost use Rattle.icmp6.specs.Options.{AreOptions};
-ghost use Rattle.ipv6_packet.specs.Packets.{view as packet_view};
+ghost use Rattle.ipv6_packet.specs.Packets.{packet_view};
 ghost use Rattle.indications.specs.Leads.{origin_in};
 ghost use Rattle.td_base.specs.declared.datagram.TheConstants.{DATAGRAM_MAX};
-ghost use Rattle.bubble.specs.Payloads.{view};
+ghost use Rattle.bubble.specs.Payloads.{payload_view};
 ghost use Rattle.bubble.specs.Messages.{message_in};
 ghost use Rattle.qualify.specs.Advertisements.{is_own_prefix, is_usable_origin, prefix_of, prefixes_in, IsOnly, Takes};
 ghost use Rattle.qualify.specs.State.{qualification_of};
@@ -31,7 +31,7 @@ pub fn taken_origin(
     payload: &Payload<'_>,
 ) -> Result<Ep, Fate>
     requires { length payload.now.packet.body.now ≤ DATAGRAM_MAX }
-    ensures { Takes settings.now (qualification_of state.now) from (view payload.now) result }
+    ensures { Takes settings.now (qualification_of state.now) from (payload_view payload.now) result }
 {
     // nonce: RFC 4380, section 5.2.1
     if !state.has_open(nonce_of(&payload.lead)) {

@@ -2,14 +2,14 @@
 ghost use Rattle.std.specs.Prelude.{◌≡◌, ◌+◌, ◌<◌, ◌≤◌, Some, None, length};
 ghost use Rattle.indications.specs.Leads.{origin_in};
 ghost use Rattle.td_base.specs.declared.datagram.TheConstants.{DATAGRAM_MAX};
-ghost use Rattle.bubble.specs.Payloads.{view};
+ghost use Rattle.bubble.specs.Payloads.{payload_view};
 ghost use Rattle.teredo_node.specs.Words.{drawn_words};
 ghost use Rattle.td_outside.specs.declared.clock.TheConstants.{CLOCK_END_MS};
 ghost use Rattle.qualify.specs.declared.round.Round.{Round};
 ghost use Rattle.qualify.specs.Turns.{interval_of, flags_word};
 ghost use Rattle.qualify.specs.Advertisements.{advert_row, advert_words, flags_words};
 ghost use Rattle.qualify.specs.Generator.{after_words, words_of};
-ghost use Rattle.qualify.specs.Qualification.{address_of};
+ghost use Rattle.qualify.specs.Qualification.{address_told};
 ghost use Rattle.qualify.specs.Qualifier.{IsSettings, AnswersBy, TurnsBy};
 ghost use Rattle.qualify.specs.State.{qualification_of, asks_so, keeps_up};
 
@@ -38,7 +38,7 @@ pub fn heard(
     requires settings { IsSettings settings.now }
     requires bound { now.0 < CLOCK_END_MS }
     requires short { length payload.now.packet.body.now ≤ DATAGRAM_MAX }
-    ensures fate { result.1 ≡ advert_row settings.now (qualification_of state) from (view payload.now) }
+    ensures fate { result.1 ≡ advert_row settings.now (qualification_of state) from (payload_view payload.now) }
     ensures turns { TurnsBy settings.now now.0 result.1 (drawn_words (advert_words settings.now result.1)
         (words_of rng.old)) (origin_in payload.now.lead) (qualification_of state) (qualification_of result.0) }
     ensures place { rng.new ≡ after_words (advert_words settings.now result.1) rng.old }
@@ -90,7 +90,7 @@ fn qualified(
 ) -> Upkeep
     requires settings { IsSettings settings.now }
     requires bound { now.0 < CLOCK_END_MS }
-    ensures address { Some result.address ≡ address_of settings.now cone
+    ensures address { Some result.address ≡ address_told settings.now cone
         (flags_word settings.now (drawn_words (1 + flags_words settings.now) (words_of rng.old))) (Some origin) }
     ensures interval { result.interval ≡ interval_of settings.now (words_of rng.old 0) }
     ensures due { result.due.0 ≡ now.0 + result.interval }
@@ -104,7 +104,7 @@ fn qualified(
 
 /// The address of a client whose server tells this origin, with the flags of this word.
 fn address(settings: &Settings, cone: bool, word: Option<u32>, origin: Ep) -> Ip6
-    ensures { Some result ≡ address_of settings.now cone word (Some origin) }
+    ensures { Some result ≡ address_told settings.now cone word (Some origin) }
 {
     to_ip6(TeredoAddr {
         server: settings.primary,

@@ -2,14 +2,14 @@
 ghost use Rattle.std.specs.Prelude.{◌≡◌, ◌≤◌, ◌<◌, ℕ, [], length, false, is_some, option_map, IfSome};
 ghost use Rattle.td_outside.specs.declared.clock.TheConstants.{CLOCK_END_MS};
 ghost use Rattle.td_base.specs.declared.datagram.TheConstants.{DATAGRAM_MAX};
-ghost use Rattle.bubble.specs.Payloads.{view};
+ghost use Rattle.bubble.specs.Payloads.{payload_view};
 ghost use Rattle.teredo_node.specs.Journal.{Entry, Journal, with_entry};
 ghost use Rattle.qualify.specs.declared.limits.TheConstants.{DUE_END_MS};
 ghost use Rattle.qualify.specs.Qualification.{qualification};
 ghost use Rattle.qualify.specs.Solicitations.{is_due, is_qualified, step_at};
 ghost use Rattle.qualify.specs.Advertisements.{advert_row, advert_words};
 ghost use Rattle.qualify.specs.Generator.{words_of, after_words};
-ghost use Rattle.qualify.specs.Qualifier.{IsSettings, StandsFor, IsOfAdvert, IsOfTick, IsOfServer, has_due};
+ghost use Rattle.qualify.specs.Qualifier.{IsSettings, QualifierStandsFor, IsOfAdvert, IsOfTick, IsOfServer, has_due};
 
 use crate::answers::heard;
 use crate::phase::Phase;
@@ -49,7 +49,7 @@ impl Qualifier {
         requires settings { IsSettings settings }
         requires bound { now.0 < CLOCK_END_MS }
         ensures settings { result.settings ≡ settings }
-        ensures stands { StandsFor result (record { start = now.0; entries = [] }) }
+        ensures stands { QualifierStandsFor result (record { start = now.0; entries = [] }) }
     {
         Qualifier {
             settings,
@@ -101,10 +101,10 @@ impl Qualifier {
         requires short { length payload.now.packet.body.now ≤ DATAGRAM_MAX }
 
         // After each journal that it stood for, this is the fate; then it stands for that journal with this entry.
-        ensures fate { (j : Journal) → StandsFor self.old j →
-            result ≡ advert_row self.old.settings (qualification self.old.settings j) from (view payload.now) }
-        ensures stands { (j : Journal) (e : Entry) → StandsFor self.old j →
-            IsOfAdvert self.old.settings now.0 (view payload.now) result (words_of rng.old) e → StandsFor self.new (with_entry j e) }
+        ensures fate { (j : Journal) → QualifierStandsFor self.old j →
+            result ≡ advert_row self.old.settings (qualification self.old.settings j) from (payload_view payload.now) }
+        ensures stands { (j : Journal) (e : Entry) → QualifierStandsFor self.old j →
+            IsOfAdvert self.old.settings now.0 (payload_view payload.now) result (words_of rng.old) e → QualifierStandsFor self.new (with_entry j e) }
 
         ensures place { rng.new ≡ after_words (advert_words self.old.settings result) rng.old }
         ensures settings { self.new.settings ≡ self.old.settings }
@@ -117,8 +117,8 @@ impl Qualifier {
     /// A bubble came through the server: the next refresh is an interval from now.
     pub fn heard_server(&mut self, now: Millis)
         requires bound { now.0 < CLOCK_END_MS }
-        ensures stands { (j : Journal) (e : Entry) → StandsFor self.old j →
-            IsOfServer now.0 e → StandsFor self.new (with_entry j e) }
+        ensures stands { (j : Journal) (e : Entry) → QualifierStandsFor self.old j →
+            IsOfServer now.0 e → QualifierStandsFor self.new (with_entry j e) }
         ensures settings { self.new.settings ≡ self.old.settings }
     {
         self.state = self.state.renewed(now);
@@ -130,10 +130,10 @@ impl Qualifier {
         requires bound { now.0 < CLOCK_END_MS }
 
         // After each journal that it stood for, this is done; then it stands for that journal with this entry.
-        ensures step { (j : Journal) → StandsFor self.old j →
+        ensures step { (j : Journal) → QualifierStandsFor self.old j →
             step.new ≡ step_at self.old.settings (qualification self.old.settings j) now.0 (words_of rng.old) }
-        ensures stands { (j : Journal) (e : Entry) → StandsFor self.old j →
-            IsOfTick now.0 step.new (words_of rng.old) e → StandsFor self.new (with_entry j e) }
+        ensures stands { (j : Journal) (e : Entry) → QualifierStandsFor self.old j →
+            IsOfTick now.0 step.new (words_of rng.old) e → QualifierStandsFor self.new (with_entry j e) }
         // Whatever it stands for, it is what its own state gives.
         ensures does { step.new ≡ step_at self.old.settings self.old.now now.0 (words_of rng.old) }
         // Nothing is due at this moment any more.

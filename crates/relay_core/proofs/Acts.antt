@@ -16,8 +16,8 @@ use Rattle.peer_list.specs.Table.{known_to}
 use Rattle.peer_list.specs.Calls.{Updates, trusted_at, heard_at}
 use Rattle.peer_list.specs.Stands.{bears_nothing}
 use Rattle.relay_core.specs.declared.relay.Relay.{Relay}
-use Rattle.relay_rules.specs.Bearings.{mention}
-use Rattle.relay_rules.specs.Reception.{reception_step}
+use Rattle.relay_rules.specs.Bearings.{relay_mention}
+use Rattle.relay_rules.specs.Reception.{relay_reception_step}
 use Rattle.relay_rules.specs.Laws.{IsQuiet}
 use Rattle.relay_core.specs.Relay.{relay_standing_in, RelayTakesPayload, relay_entry_about}
 use Rattle.relay_core.specs.Lines.{RelayDropsDatagram}
@@ -45,8 +45,8 @@ Hears old n v new = OnlyPeers old n v.packet.src (heard old n v) new
 record HearsBy (old : Relay) (n : ℕ) (from : Ep) (v : Value) (f : Fate) (new : Relay) : Type 0 where
   pub step : Step
   pub hears : Hears old n v new
-  pub means : (x : List ℕ) → after (mention (relay_entry_about n from x v.packet.src step)) (known_to old.peers n v.packet.src) ≡ heard old n v
-  pub did : (x : List ℕ) → IsPayloadOf x v → step ≡ reception_step (relay_standing_in old n v.packet.src) x v f
+  pub means : (x : List ℕ) → after (relay_mention (relay_entry_about n from x v.packet.src step)) (known_to old.peers n v.packet.src) ≡ heard old n v
+  pub did : (x : List ℕ) → IsPayloadOf x v → step ≡ relay_reception_step (relay_standing_in old n v.packet.src) x v f
 
 heard_by : (law : BelowRelay) (old new : Relay) (n : ℕ) (from : Ep) (v : Value) (f : Fate) (a : HearsBy old n from v f new)
     → RelayTakesPayload old n from v f a.step new

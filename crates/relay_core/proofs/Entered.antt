@@ -16,10 +16,10 @@ use Rattle.peer_list.specs.Table.{Table, empty_table, while_listed, peer_in, kno
 use Rattle.peer_list.specs.Calls.{Updates}
 use Rattle.peer_list.specs.Stands.{StandsForMentions, MeansNothing, bears_nothing}
 use Rattle.relay_core.specs.declared.relay.Relay.{Relay}
-use Rattle.relay_rules.specs.Bearings.{mention, mentions}
+use Rattle.relay_rules.specs.Bearings.{relay_mention, relay_mentions}
 use Rattle.relay_rules.specs.Laws.{IsQuiet}
-use Rattle.relay_rules.specs.Journals.{entry}
-use Rattle.relay_core.specs.Relay.{settings_of, RelayStandsFor, Does, RelayEnters, RelayKeepsAll, AsBefore}
+use Rattle.relay_rules.specs.Journals.{wordless_entry}
+use Rattle.relay_core.specs.Relay.{relay_settings_of, RelayStandsFor, RelayDoes, RelayEnters, RelayKeepsAll, RelayAsBefore}
 use Rattle.relay_core.specs.Below.{BelowRelay}
 
 -- WHO IS QUIET
@@ -52,7 +52,7 @@ quiet_next old new m who peer s before n p l cone = by_who (same_ip6 p who) refl
 
 -- nobody is listed at first
 pub nobody_stands : (r : Relay) → r.peers ≡ empty_table → StandsForMentions r.peers [] → RelayStandsFor r []
-unfolding mentions peer_in
+unfolding relay_mentions peer_in
 nobody_stands r is stands = record {
   peers = stands;
   quiet = λ n p l cone. subst (λ (t : Table). IsQuiet (known_to t n p)) (sym is) quiet_none;
@@ -64,14 +64,14 @@ nobody_stands r is stands = record {
 pub record Bears (old : Relay) (e : Entry) (who : Ip6) (new : Relay) : Type 0 where
   pub peer : e.peer ≡ Some who
   pub clock : old.peers.moment ≤ e.moment
-  pub peers : Updates old.peers new.peers e.moment who (after (mention e) (known_to old.peers e.moment who))
-  pub quiet : has_cone who ≡ true → IsQuiet (known_to old.peers e.moment who) → IsQuiet (after (mention e) (known_to old.peers e.moment who))
+  pub peers : Updates old.peers new.peers e.moment who (after (relay_mention e) (known_to old.peers e.moment who))
+  pub quiet : has_cone who ≡ true → IsQuiet (known_to old.peers e.moment who) → IsQuiet (after (relay_mention e) (known_to old.peers e.moment who))
 
 pub bears_stands : (law : BelowRelay) (old new : Relay) (e : Entry) (who : Ip6) → Bears old e who new → (j : List Entry) → RelayStandsFor old j → RelayStandsFor new (e ∷ j)
-unfolding mentions
+unfolding relay_mentions
 bears_stands law old new e who b j h = record {
-  peers = law.peers.next_stands old.peers new.peers (mention e) (mentions j) who h.peers b.clock b.peer b.peers;
-  quiet = quiet_next old.peers new.peers e.moment who (after (mention e) (known_to old.peers e.moment who))
+  peers = law.peers.next_stands old.peers new.peers (relay_mention e) (relay_mentions j) who h.peers b.clock b.peer b.peers;
+  quiet = quiet_next old.peers new.peers e.moment who (after (relay_mention e) (known_to old.peers e.moment who))
       (record { clock = b.clock; update = b.peers; quiet = λ cone. b.quiet cone (h.quiet e.moment who b.clock cone) }) h.quiet;
 }
 
@@ -79,7 +79,7 @@ bears_stands law old new e who b j h = record {
 pub record OnlyPeers (old : Relay) (n : ℕ) (who : Ip6) (peer : Peer) (new : Relay) : Type 0 where
   pub clock : old.peers.moment ≤ n
   pub peers : Updates old.peers new.peers n who peer
-  pub settings : settings_of new ≡ settings_of old
+  pub settings : relay_settings_of new ≡ relay_settings_of old
 
 -- for each journal, where that may rest on what it stands for
 pub bears_enters : (law : BelowRelay) (old new : Relay) (e : Entry) (who : Ip6) (peer : Peer) → OnlyPeers old e.moment who peer new
@@ -91,20 +91,20 @@ bears_enters law old new e who peer o b = record {
 }
 
 -- an entry that means nothing for a peer: the relay is the same
-pub none_stands : (law : BelowRelay) (r : Relay) (e : Entry) → MeansNothing (mention e) → (j : List Entry) → RelayStandsFor r j → RelayStandsFor r (e ∷ j)
-unfolding mentions
-none_stands law r e idle j h = record { peers = law.peers.idle_stands r.peers (mention e) (mentions j) h.peers idle; quiet = h.quiet }
+pub none_stands : (law : BelowRelay) (r : Relay) (e : Entry) → MeansNothing (relay_mention e) → (j : List Entry) → RelayStandsFor r j → RelayStandsFor r (e ∷ j)
+unfolding relay_mentions
+none_stands law r e idle j h = record { peers = law.peers.idle_stands r.peers (relay_mention e) (relay_mentions j) h.peers idle; quiet = h.quiet }
 
-pub none_enters : (law : BelowRelay) (r : Relay) (e : Entry) → MeansNothing (mention e) → r.peers.moment ≤ e.moment → RelayEnters r e r
+pub none_enters : (law : BelowRelay) (r : Relay) (e : Entry) → MeansNothing (relay_mention e) → r.peers.moment ≤ e.moment → RelayEnters r e r
 none_enters law r e idle clock = record { stands = none_stands law r e idle; settings = refl; clock = clock }
 
 -- REFUSALS
 
 -- whatever keeps all stays as it was
-pub keeps_stays : (law : BelowRelay) (old new : Relay) (n : ℕ) → old.peers.moment ≤ n → RelayKeepsAll old n new → AsBefore old new
+pub keeps_stays : (law : BelowRelay) (old new : Relay) (n : ℕ) → old.peers.moment ≤ n → RelayKeepsAll old n new → RelayAsBefore old new
 keeps_stays law old new n clock k = record {
   stands = λ j h. record {
-    peers = law.peers.kept_stands old.peers new.peers n (mentions j) h.peers clock k.peers;
+    peers = law.peers.kept_stands old.peers new.peers n (relay_mentions j) h.peers clock k.peers;
     quiet = λ m p l cone.
         let later : n ≤ m = subst (λ (i : ℕ). i ≤ m) k.peers.moment l in
         subst (λ (o : Option Peer). IsQuiet (unwrap_or o no_peer)) (sym (k.peers.view m p later)) (h.quiet m p (le_trans clock later) cone);
@@ -113,7 +113,7 @@ keeps_stays law old new n clock k = record {
 }
 
 -- the entry of a packet of a host, which a relay doesn't have
-pub takes_no_host : (law : BelowRelay) (r : Relay) (n : ℕ) (x : List ℕ) → r.peers.moment ≤ n → Does r n (given x) (just fate.Idle) r
+pub takes_no_host : (law : BelowRelay) (r : Relay) (n : ℕ) (x : List ℕ) → r.peers.moment ≤ n → RelayDoes r n (given x) (just fate.Idle) r
 takes_no_host law r n x l =
-    let entered = none_enters law r (entry n (given x) None None (just fate.Idle)) (bears_nothing refl) l in
+    let entered = none_enters law r (wordless_entry n (given x) None None (just fate.Idle)) (bears_nothing refl) l in
     record { did = λ j h. refl; stands = entered.stands; settings = refl; clock = l }

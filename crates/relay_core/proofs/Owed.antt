@@ -9,8 +9,8 @@ use Rattle.peer_list.specs.Table.{first_due_in}
 use Rattle.peer_list.specs.Overdue.{due_moment, IsNoSooner}
 use Rattle.relay_core.specs.declared.relay.Relay.{Relay}
 use Rattle.relay_rules.specs.Journals.{relay_due}
-use Rattle.relay_core.specs.Relay.{RelayStandsFor, AsBefore}
-use Rattle.relay_core.specs.Endpoint.{owing, DoesDue}
+use Rattle.relay_core.specs.Relay.{RelayStandsFor, RelayAsBefore}
+use Rattle.relay_core.specs.Endpoint.{relay_owing, DoesDue}
 use Rattle.relay_core.specs.Below.{BelowRelay}
 use Rattle.relay_core.proofs.Read.{read_same}
 
@@ -27,22 +27,22 @@ none_sooner law r m peers j n h l = subst (IsNoSooner m) (due_told law r n (opti
 
 -- A TICK WHERE NOTHING IS DUE
 
-pub rests : (r : Relay) (n : ℕ) → Idles (owing r n) (AsBefore r r) (just fate.Idle)
+pub rests : (r : Relay) (n : ℕ) → Idles (relay_owing r n) (RelayAsBefore r r) (just fate.Idle)
 rests r n owed = (refl, record { stands = λ j h. h; settings = refl })
 
-pub rests_too : (r : Relay) (n : ℕ) → owing r n ≡ 0 → Lessens (owing r n) (owing r n) (just fate.Idle)
+pub rests_too : (r : Relay) (n : ℕ) → relay_owing r n ≡ 0 → Lessens (relay_owing r n) (relay_owing r n) (just fate.Idle)
 rests_too r n none owed = absurd (omega (arith, none, owed))
 
 -- A TICK WHERE A PEER IS DUE
 
-pub put_off_idles : (old new : Relay) (n : ℕ) (step : Step) → DoesDue old new n step → Idles (owing old n) (AsBefore old new) step
+pub put_off_idles : (old new : Relay) (n : ℕ) (step : Step) → DoesDue old new n step → Idles (relay_owing old n) (RelayAsBefore old new) step
 put_off_idles old new n step p owed = let less = p.less in absurd (omega (arith, less, owed))
 
-pub put_off_lessens : (old new : Relay) (n : ℕ) (step : Step) → DoesDue old new n step → Lessens (owing old n) (owing new n) step
+pub put_off_lessens : (old new : Relay) (n : ℕ) (step : Step) → DoesDue old new n step → Lessens (relay_owing old n) (relay_owing new n) step
 put_off_lessens old new n step p owed = (p.less, p.busy)
 
-pub given_up : (old new : Relay) (n : ℕ) (step : Step) → owing new n < owing old n → step.fate ≡ fate.GiveUp → DoesDue old new n step
+pub given_up : (old new : Relay) (n : ℕ) (step : Step) → relay_owing new n < relay_owing old n → step.fate ≡ fate.GiveUp → DoesDue old new n step
 given_up old new n step less f = record { less = less; busy = λ e. let no_way : fate.GiveUp ≡ fate.Idle = sym f ∙ e in cc }
 
-pub tried_off : (old new : Relay) (n : ℕ) (step : Step) → owing new n < owing old n → step.fate ≡ fate.Bubbles → DoesDue old new n step
+pub tried_off : (old new : Relay) (n : ℕ) (step : Step) → relay_owing new n < relay_owing old n → step.fate ≡ fate.Bubbles → DoesDue old new n step
 tried_off old new n step less f = record { less = less; busy = λ e. let no_way : fate.Bubbles ≡ fate.Idle = sym f ∙ e in cc }

@@ -12,19 +12,19 @@ use Rattle.teredo_node.specs.Step.{Step, just}
 use Rattle.teredo_node.specs.Journal.{Entry, arrived}
 use Rattle.peer_list.specs.Stands.{SaysTheSame, bears_nothing}
 use Rattle.relay_core.specs.declared.relay.Relay.{Relay}
-use Rattle.relay_rules.specs.Bearings.{mentions}
-use Rattle.relay_rules.specs.Standing.{RelaySettings, Standing, standing_at, standing_of}
-use Rattle.relay_rules.specs.Reception.{seen_of, seen, reception_row, reception_step, reception}
-use Rattle.relay_rules.specs.Journals.{entry, relay_in}
-use Rattle.relay_core.specs.Relay.{settings_of, relay_standing_in, RelayStandsFor, Does, RelayTakesPayload, relay_fate_in}
+use Rattle.relay_rules.specs.Bearings.{relay_mentions}
+use Rattle.relay_rules.specs.Standing.{RelaySettings, RelayStanding, relay_standing_at, relay_standing_of}
+use Rattle.relay_rules.specs.Reception.{relay_seen_of, relay_seen, relay_reception_row, relay_reception_step, relay_reception}
+use Rattle.relay_rules.specs.Journals.{wordless_entry, relay_in}
+use Rattle.relay_core.specs.Relay.{relay_settings_of, relay_standing_in, RelayStandsFor, RelayDoes, RelayTakesPayload, relay_fate_in}
 use Rattle.relay_core.specs.Below.{BelowRelay}
 use Rattle.relay_core.proofs.Entered.{none_stands}
 
-pub read_same : (law : BelowRelay) (r : Relay) (j : List Entry) (n : ℕ) → RelayStandsFor r j → r.peers.moment ≤ n → SaysTheSame r.peers (mentions j) n
-read_same law r j n h l = law.peers.table_is_read r.peers (mentions j) n h.peers l
+pub read_same : (law : BelowRelay) (r : Relay) (j : List Entry) (n : ℕ) → RelayStandsFor r j → r.peers.moment ≤ n → SaysTheSame r.peers (relay_mentions j) n
+read_same law r j n h l = law.peers.table_is_read r.peers (relay_mentions j) n h.peers l
 
-pub standing_is : (law : BelowRelay) (r : Relay) (j : List Entry) (n : ℕ) (p : Ip6) → RelayStandsFor r j → r.peers.moment ≤ n → relay_standing_in r n p ≡ standing_at j n p
-unfolding standing_at
+pub standing_is : (law : BelowRelay) (r : Relay) (j : List Entry) (n : ℕ) (p : Ip6) → RelayStandsFor r j → r.peers.moment ≤ n → relay_standing_in r n p ≡ relay_standing_at j n p
+unfolding relay_standing_at
 standing_is law r j n p h l = let s = read_same law r j n h l in λ i. record { moment = n; peer = s.peer p i; room = s.room p i }
 
 -- DATAGRAMS
@@ -33,10 +33,10 @@ source_there : (x : List ℕ) (v : Value) → is_payload x ≡ true → value_in
 unfolding source_in
 source_there x v payload value = λ i. if payload i then Some (value i).packet.src else None
 
-reception_by : (s : RelaySettings) (a : Standing) (from : Ep) (x : List ℕ) (v : Value) → is_payload x ≡ true → value_in x ≡ v
-    → reception s a from x ≡ reception_step a x v (reception_row (seen_of s a from true v))
-unfolding reception seen
-reception_by s a from x v payload value = λ i. reception_step a x (value i) (reception_row (seen_of s a from (payload i) (value i)))
+reception_by : (s : RelaySettings) (a : RelayStanding) (from : Ep) (x : List ℕ) (v : Value) → is_payload x ≡ true → value_in x ≡ v
+    → relay_reception s a from x ≡ relay_reception_step a x v (relay_reception_row (relay_seen_of s a from true v))
+unfolding relay_reception relay_seen
+reception_by s a from x v payload value = λ i. relay_reception_step a x (value i) (relay_reception_row (relay_seen_of s a from (payload i) (value i)))
 
 -- a payload that was read, and a moment at which the relay may be called
 pub record IsRead (r : Relay) (n : ℕ) (x : List ℕ) (v : Value) : Type 0 where
@@ -45,14 +45,14 @@ pub record IsRead (r : Relay) (n : ℕ) (x : List ℕ) (v : Value) : Type 0 wher
   pub of : IsPayloadOf x v
 
 standing_there : (law : BelowRelay) (r : Relay) (j : List Entry) (n : ℕ) (x : List ℕ) (v : Value) → RelayStandsFor r j → IsRead r n x v
-    → standing_of j n (source_in x) ≡ relay_standing_in r n v.packet.src
-standing_there law r j n x v h is = ap (standing_of j n) (source_there x v is.payload is.of.value) ∙ sym (standing_is law r j n v.packet.src h is.clock)
+    → relay_standing_of j n (source_in x) ≡ relay_standing_in r n v.packet.src
+standing_there law r j n x v h is = ap (relay_standing_of j n) (source_there x v is.payload is.of.value) ∙ sym (standing_is law r j n v.packet.src h is.clock)
 
-step_there : (r : Relay) (n : ℕ) (from : Ep) (x : List ℕ) (v : Value) (a : Standing) → IsRead r n x v → a ≡ relay_standing_in r n v.packet.src
-    → reception (settings_of r) a from x ≡ reception_step (relay_standing_in r n v.packet.src) x v (relay_fate_in r n from v)
+step_there : (r : Relay) (n : ℕ) (from : Ep) (x : List ℕ) (v : Value) (a : RelayStanding) → IsRead r n x v → a ≡ relay_standing_in r n v.packet.src
+    → relay_reception (relay_settings_of r) a from x ≡ relay_reception_step (relay_standing_in r n v.packet.src) x v (relay_fate_in r n from v)
 step_there r n from x v a is same =
-    ap (λ (b : Standing). reception (settings_of r) b from x) same
-    ∙ reception_by (settings_of r) (relay_standing_in r n v.packet.src) from x v is.payload is.of.value
+    ap (λ (b : RelayStanding). relay_reception (relay_settings_of r) b from x) same
+    ∙ reception_by (relay_settings_of r) (relay_standing_in r n v.packet.src) from x v is.payload is.of.value
 
 -- and what its line did with it
 pub record Received (old : Relay) (n : ℕ) (from : Ep) (x : List ℕ) (step : Step) (new : Relay) : Type 0 where
@@ -61,33 +61,33 @@ pub record Received (old : Relay) (n : ℕ) (from : Ep) (x : List ℕ) (step : S
   pub took : RelayTakesPayload old n from told (relay_fate_in old n from told) step new
 
 pub received : (law : BelowRelay) (old new : Relay) (n : ℕ) (from : Ep) (x : List ℕ) (step : Step) → Received old n from x step new
-    → Does old n (arrived from x) step new
+    → RelayDoes old n (arrived from x) step new
 unfolding relay_in
 received law old new n from x step r =
-    let did : (j : List Entry) → RelayStandsFor old j → step ≡ reception (settings_of old) (standing_of j n (source_in x)) from x =
-    (λ j h. r.took.did x r.read.of ∙ sym (step_there old n from x r.told (standing_of j n (source_in x)) r.read (standing_there law old j n x r.told h r.read))) in
+    let did : (j : List Entry) → RelayStandsFor old j → step ≡ relay_reception (relay_settings_of old) (relay_standing_of j n (source_in x)) from x =
+    (λ j h. r.took.did x r.read.of ∙ sym (step_there old n from x r.told (relay_standing_of j n (source_in x)) r.read (standing_there law old j n x r.told h r.read))) in
     record {
       did = did;
       stands = λ j h. subst (λ (e : Entry). RelayStandsFor new (e ∷ j))
-          (λ i. entry n (arrived from x) (packet_in x) (sym (source_there x r.told r.read.payload r.read.of.value) i) (did j h i)) (r.took.stands j x h);
+          (λ i. wordless_entry n (arrived from x) (packet_in x) (sym (source_there x r.told r.read.payload r.read.of.value) i) (did j h i)) (r.took.stands j x h);
       settings = r.took.settings;
       clock = r.took.clock;
     }
 
 -- what isn't a payload is dropped
-malformed_by : (s : RelaySettings) (a : Standing) (from : Ep) (x : List ℕ) → is_payload x ≡ false → reception s a from x ≡ just fate.Malformed
-unfolding reception seen
-malformed_by s a from x isnt = λ i. reception_step a x (value_in x) (reception_row (seen_of s a from (isnt i) (value_in x)))
+malformed_by : (s : RelaySettings) (a : RelayStanding) (from : Ep) (x : List ℕ) → is_payload x ≡ false → relay_reception s a from x ≡ just fate.Malformed
+unfolding relay_reception relay_seen
+malformed_by s a from x isnt = λ i. relay_reception_step a x (value_in x) (relay_reception_row (relay_seen_of s a from (isnt i) (value_in x)))
 
-pub malformed : (law : BelowRelay) (r : Relay) (n : ℕ) (from : Ep) (x : List ℕ) → r.peers.moment ≤ n → is_payload x ≡ false → Does r n (arrived from x) (just fate.Malformed) r
+pub malformed : (law : BelowRelay) (r : Relay) (n : ℕ) (from : Ep) (x : List ℕ) → r.peers.moment ≤ n → is_payload x ≡ false → RelayDoes r n (arrived from x) (just fate.Malformed) r
 unfolding relay_in
 malformed law r n from x l isnt =
-    let whole : (j : List Entry) → just fate.Malformed ≡ reception (settings_of r) (standing_of j n (source_in x)) from x =
-    (λ j. sym (malformed_by (settings_of r) (standing_of j n (source_in x)) from x isnt)) in
-    let e : Entry = entry n (arrived from x) (packet_in x) (source_in x) (just fate.Malformed) in
+    let whole : (j : List Entry) → just fate.Malformed ≡ relay_reception (relay_settings_of r) (relay_standing_of j n (source_in x)) from x =
+    (λ j. sym (malformed_by (relay_settings_of r) (relay_standing_of j n (source_in x)) from x isnt)) in
+    let e : Entry = wordless_entry n (arrived from x) (packet_in x) (source_in x) (just fate.Malformed) in
     record {
       did = λ j h. whole j;
-      stands = λ j h. subst (λ (k : Entry). RelayStandsFor r (k ∷ j)) (λ i. entry n (arrived from x) (packet_in x) (source_in x) (whole j i)) (none_stands law r e (bears_nothing refl) j h);
+      stands = λ j h. subst (λ (k : Entry). RelayStandsFor r (k ∷ j)) (λ i. wordless_entry n (arrived from x) (packet_in x) (source_in x) (whole j i)) (none_stands law r e (bears_nothing refl) j h);
       settings = refl;
       clock = l;
     }

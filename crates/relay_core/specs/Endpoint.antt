@@ -14,10 +14,10 @@ abbrev pub IsRelayDue : Relay → ℕ → Option Millis → Type 0
 IsRelayDue r n due = (j : List Entry) → RelayStandsFor r j → option_map (λ (m : Millis). m.0) due ≡ relay_due j n
 
 -- how much is due at a moment: packets that wait for peers whose next try is due
-abbrev pub owing : Relay → ℕ → ℕ
-owing r n = overdue_in r.peers n
+abbrev pub relay_owing : Relay → ℕ → ℕ
+relay_owing r n = overdue_in r.peers n
 
 -- what was due was done: less is due after it
 pub record DoesDue (old new : Relay) (n : ℕ) (step : Step) : Type 0 where
-  pub less : owing new n < owing old n
+  pub less : relay_owing new n < relay_owing old n
   pub busy : step.fate ≡ Idle → ⊥

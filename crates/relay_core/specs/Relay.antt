@@ -16,36 +16,36 @@ use Rattle.peer_list.specs.Table.{Table, peer_in, known_to, listed_in, has_room_
 use Rattle.peer_list.specs.Calls.{Keeps}
 use Rattle.peer_list.specs.Stands.{StandsForMentions}
 use Rattle.relay_core.specs.declared.relay.Relay.{Relay}
-use Rattle.relay_rules.specs.Bearings.{mentions}
-use Rattle.relay_rules.specs.Standing.{RelaySettings, Standing}
-use Rattle.relay_rules.specs.Reception.{seen_of, reception_row, reception_step}
-use Rattle.relay_rules.specs.Journals.{entry, relay_entry}
+use Rattle.relay_rules.specs.Bearings.{relay_mentions}
+use Rattle.relay_rules.specs.Standing.{RelaySettings, RelayStanding}
+use Rattle.relay_rules.specs.Reception.{relay_seen_of, relay_reception_row, relay_reception_step}
+use Rattle.relay_rules.specs.Journals.{wordless_entry, relay_entry}
 use Rattle.relay_rules.specs.Laws.{IsQuiet}
 
 -- how it is set up
-abbrev pub settings_of : Relay → RelaySettings
-settings_of r = record { at = r.at; six = r.six; policy = r.policy; served = r.served.items }
+abbrev pub relay_settings_of : Relay → RelaySettings
+relay_settings_of r = record { at = r.at; six = r.six; policy = r.policy; served = r.served.items }
 
 -- it may be called from this moment on: the one of its latest call since it started
-abbrev pub callable_from : Relay → ℕ
-callable_from r = r.peers.moment
+abbrev pub relay_callable_from : Relay → ℕ
+relay_callable_from r = r.peers.moment
 
 -- what it knows of each peer that is listed at a moment
-abbrev pub listed_peers : Relay → ℕ → List Peer
-listed_peers r n = map (known_to r.peers n) (listed_in r.peers n)
+abbrev pub relay_listed_peers : Relay → ℕ → List Peer
+relay_listed_peers r n = map (known_to r.peers n) (listed_in r.peers n)
 
 -- what is known of each address is what the journal says, and one with the cone bit has no tries and nothing waiting
 pub record RelayStandsFor (r : Relay) (j : List Entry) : Type 0 where
-  pub peers : StandsForMentions r.peers (mentions j)
+  pub peers : StandsForMentions r.peers (relay_mentions j)
   pub quiet : (n : ℕ) (p : Ip6) → r.peers.moment ≤ n → has_cone p ≡ true → IsQuiet (known_to r.peers n p)
 
 -- it may be called at n: at no moment before that of an earlier call, and while a clock runs
-pub record IsCallable (r : Relay) (n : ℕ) : Type 0 where
-  pub clock : callable_from r ≤ n
+pub record IsCallableRelay (r : Relay) (n : ℕ) : Type 0 where
+  pub clock : relay_callable_from r ≤ n
   pub early : n < CLOCK_END_MS
 
 -- how it stands to an address at n: what the tables read
-abbrev pub relay_standing_in : Relay → ℕ → Ip6 → Standing
+abbrev pub relay_standing_in : Relay → ℕ → Ip6 → RelayStanding
 relay_standing_in r n p = record {
   moment = n;
   peer = peer_in r.peers n p;
@@ -55,28 +55,28 @@ relay_standing_in r n p = record {
 -- WHAT A CALL DOES
 
 -- the entry of an input at n, after a journal
-abbrev pub next_entry : Relay → List Entry → ℕ → Input → Entry
-next_entry r j n input = relay_entry (settings_of r) j n input
+abbrev pub next_relay_entry : Relay → List Entry → ℕ → Input → Entry
+next_relay_entry r j n input = relay_entry (relay_settings_of r) j n input
 
 -- for each journal that it stood for it did what the next entry says, and stands for the journal with that entry
-pub record Does (old : Relay) (n : ℕ) (input : Input) (step : Step) (new : Relay) : Type 0 where
-  pub did : (j : List Entry) → RelayStandsFor old j → step ≡ (next_entry old j n input).step
-  pub stands : (j : List Entry) → RelayStandsFor old j → RelayStandsFor new (next_entry old j n input ∷ j)
-  pub settings : settings_of new ≡ settings_of old
-  pub clock : callable_from new ≤ n
+pub record RelayDoes (old : Relay) (n : ℕ) (input : Input) (step : Step) (new : Relay) : Type 0 where
+  pub did : (j : List Entry) → RelayStandsFor old j → step ≡ (next_relay_entry old j n input).step
+  pub stands : (j : List Entry) → RelayStandsFor old j → RelayStandsFor new (next_relay_entry old j n input ∷ j)
+  pub settings : relay_settings_of new ≡ relay_settings_of old
+  pub clock : relay_callable_from new ≤ n
 
 -- it is as before: it stands for what it stood for
-pub record AsBefore (old new : Relay) : Type 0 where
+pub record RelayAsBefore (old new : Relay) : Type 0 where
   pub stands : (j : List Entry) → RelayStandsFor old j → RelayStandsFor new j
-  pub settings : settings_of new ≡ settings_of old
+  pub settings : relay_settings_of new ≡ relay_settings_of old
 
 -- WHERE MEMORY MAY BE WANTING
 
 -- the line of a packet lets it wait, or sends it to an address with the cone bit that isn't listed yet
 pub data TakesRoom (r : Relay) (n : ℕ) (x : List ℕ) (j : List Entry) : Type 0 where
-  to_wait : (next_entry r j n (from_six x)).step.fate ≡ fate.Queued → TakesRoom r n x j
-  to_list : (next_entry r j n (from_six x)).step.fate ≡ fate.SentCone
-      → is_some (peer_at (mentions j) n (unwrap_or (destination_in x) unspecified)) ≡ false → TakesRoom r n x j
+  to_wait : (next_relay_entry r j n (from_six x)).step.fate ≡ fate.Queued → TakesRoom r n x j
+  to_list : (next_relay_entry r j n (from_six x)).step.fate ≡ fate.SentCone
+      → is_some (peer_at (relay_mentions j) n (unwrap_or (destination_in x) unspecified)) ≡ false → TakesRoom r n x j
 
 abbrev pub WantsMemory : Relay → ℕ → List ℕ → Type 0
 WantsMemory r n x = (j : List Entry) → RelayStandsFor r j → TakesRoom r n x j
@@ -86,27 +86,27 @@ WantsMemory r n x = (j : List Entry) → RelayStandsFor r j → TakesRoom r n x 
 -- for each journal that it stood for it stands for that journal with this entry
 pub record RelayEnters (old : Relay) (e : Entry) (new : Relay) : Type 0 where
   pub stands : (j : List Entry) → RelayStandsFor old j → RelayStandsFor new (e ∷ j)
-  pub settings : settings_of new ≡ settings_of old
-  pub clock : callable_from new ≤ e.moment
+  pub settings : relay_settings_of new ≡ relay_settings_of old
+  pub clock : relay_callable_from new ≤ e.moment
 
 -- memory was wanting, and nothing changed but that others may have been taken out
 pub record RelayKeepsAll (old : Relay) (n : ℕ) (new : Relay) : Type 0 where
   pub peers : Keeps old.peers new.peers n
-  pub settings : settings_of new ≡ settings_of old
+  pub settings : relay_settings_of new ≡ relay_settings_of old
 
 -- DATAGRAMS
 
 -- a datagram of this payload from `from` has this fate, by what a relay sees
 abbrev pub relay_fate_in : Relay → ℕ → Ep → Value → Fate
-relay_fate_in r n from v = reception_row (seen_of (settings_of r) (relay_standing_in r n v.packet.src) from true v)
+relay_fate_in r n from v = relay_reception_row (relay_seen_of (relay_settings_of r) (relay_standing_in r n v.packet.src) from true v)
 
 -- the entry of a datagram x about `who`, where this was done
 abbrev pub relay_entry_about : ℕ → Ep → List ℕ → Ip6 → Step → Entry
-relay_entry_about n from x who step = entry n (arrived from x) (packet_in x) (Some who) step
+relay_entry_about n from x who step = wordless_entry n (arrived from x) (packet_in x) (Some who) step
 
 -- what was done with a payload by the line of a fate
 pub record RelayTakesPayload (old : Relay) (n : ℕ) (from : Ep) (v : Value) (f : Fate) (step : Step) (new : Relay) : Type 0 where
-  pub did : (x : List ℕ) → IsPayloadOf x v → step ≡ reception_step (relay_standing_in old n v.packet.src) x v f
+  pub did : (x : List ℕ) → IsPayloadOf x v → step ≡ relay_reception_step (relay_standing_in old n v.packet.src) x v f
   pub stands : (j : List Entry) (x : List ℕ) → RelayStandsFor old j → RelayStandsFor new (relay_entry_about n from x v.packet.src step ∷ j)
-  pub settings : settings_of new ≡ settings_of old
-  pub clock : callable_from new ≤ n
+  pub settings : relay_settings_of new ≡ relay_settings_of old
+  pub clock : relay_callable_from new ≤ n

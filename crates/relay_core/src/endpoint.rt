@@ -10,26 +10,26 @@ impl Endpoint for Relay {
     ghost use Rattle.std.proofs.Common.{◌∙◌};
     ghost use Rattle.std.proofs.Math.Nat.{le_trans};
     ghost use Rattle.teredo_node.specs.Journal.{arrived, ticked};
-    ghost use Rattle.relay_core.specs.Relay.{IsCallable, Does, AsBefore};
-    ghost use Rattle.relay_core.specs.Endpoint.{IsRelayDue, owing};
+    ghost use Rattle.relay_core.specs.Relay.{IsCallableRelay, RelayDoes, RelayAsBefore};
+    ghost use Rattle.relay_core.specs.Endpoint.{IsRelayDue, relay_owing};
 
     const FRUGAL: bool = false;
 
     ghost FRUGAL = { false };
 
-    ghost ready = { λ r now. IsCallable r now };
+    ghost ready = { λ r now. IsCallableRelay r now };
 
-    ghost stays = { λ old new. AsBefore old new };
+    ghost stays = { λ old new. RelayAsBefore old new };
 
-    ghost rule = { λ r now side from x step new. Does r now (arrived from x) step new };
+    ghost rule = { λ r now side from x step new. RelayDoes r now (arrived from x) step new };
 
     ghost starves = { λ r now side from x. ⊥ };
 
-    ghost ticks = { λ r now step new. Does r now ticked step new };
+    ghost ticks = { λ r now step new. RelayDoes r now ticked step new };
 
     ghost is_due = { λ r now due. IsRelayDue r now due };
 
-    ghost owing = { λ r now. owing r now };
+    ghost owing = { λ r now. relay_owing r now };
 
     fn on_datagram(
         &mut self,

@@ -2,11 +2,11 @@
 ghost use Rattle.std.specs.Prelude.{◌≡◌, ◌≤◌, ◌+◌, length, Some};
 ghost use Rattle.td_base.specs.declared.datagram.TheConstants.{DATAGRAM_MAX};
 ghost use Rattle.ipv6_packet.specs.declared.header.TheConstants.{HEADER};
-ghost use Rattle.bubble.specs.Payloads.{view};
+ghost use Rattle.bubble.specs.Payloads.{payload_view};
 ghost use Rattle.teredo_node.specs.declared.fate.Fate.{Fate};
 ghost use Rattle.teredo_node.specs.Journal.{arrived};
 ghost use Rattle.teredo_node.specs.Step.{just};
-ghost use Rattle.relay_core.specs.Relay.{relay_fate_in, IsCallable, Does, RelayTakesPayload};
+ghost use Rattle.relay_core.specs.Relay.{relay_fate_in, IsCallableRelay, RelayDoes, RelayTakesPayload};
 
 use crate::below::below;
 use crate::reception_line::{ReceptionLine, line_of};
@@ -32,8 +32,8 @@ fn pass_on(payload: &Payload<'_>, step: &mut Step)
 impl Relay {
     /// Takes a datagram that came from `from`.
     pub(crate) fn receive(&mut self, now: Millis, from: Ep, bytes: &[u8], step: &mut Step)
-        requires callable { IsCallable self.old now.0 }
-        ensures { Does self.old now.0 (arrived from bytes.now) step.new self.new }
+        requires callable { IsCallableRelay self.old now.0 }
+        ensures { RelayDoes self.old now.0 (arrived from bytes.now) step.new self.new }
     {
         below();
         // malformed: RFC 4380, section 5.4.2
@@ -46,9 +46,10 @@ impl Relay {
 
     /// Takes a payload.
     fn receive_payload(&mut self, now: Millis, from: Ep, payload: &Payload<'_>, step: &mut Step)
-        requires callable { IsCallable self.old now.0 }
+        requires callable { IsCallableRelay self.old now.0 }
         requires short { length payload.now.packet.body.now ≤ DATAGRAM_MAX }
-        ensures { RelayTakesPayload self.old now.0 from (view payload.now) (relay_fate_in self.old now.0 from (view payload.now)) step.new self.new }
+        ensures { RelayTakesPayload self.old now.0 from (payload_view payload.now)
+            (relay_fate_in self.old now.0 from (payload_view payload.now)) step.new self.new }
     {
         below();
         let who = payload.packet.src;

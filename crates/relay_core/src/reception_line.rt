@@ -3,12 +3,12 @@ ghost use Rattle.std.specs.Prelude.{◌≡◌, ◌≤◌, ◌++◌, true, false,
 ghost use Rattle.std.specs.List.{list_any};
 ghost use Rattle.td_base.specs.Ip6.{same_ip6};
 ghost use Rattle.teredo_addr.specs.Teredo.{is_teredo, embedded};
-ghost use Rattle.bubble.specs.Payloads.{view};
+ghost use Rattle.bubble.specs.Payloads.{payload_view};
 ghost use Rattle.teredo_node.specs.declared.fate.Fate.{Fate};
 ghost use Rattle.teredo_node.specs.Rows.{first_line};
 ghost use Rattle.peer_list.specs.Table.{peer_in};
-ghost use Rattle.relay_rules.specs.Reception.{reception_row};
-ghost use Rattle.relay_core.specs.Relay.{settings_of, relay_standing_in};
+ghost use Rattle.relay_rules.specs.Reception.{relay_reception_row};
+ghost use Rattle.relay_core.specs.Relay.{relay_settings_of, relay_standing_in};
 ghost use Rattle.relay_core.specs.Lines.{relay_fate_of, seen_by_relay, client_row, RelayWarrantsDatagram};
 
 use crate::relay::Relay;
@@ -35,7 +35,7 @@ pub enum ReceptionLine {
 /// The first line that holds for a payload that came from `from`.
 pub fn line_of(relay: &Relay, now: Millis, from: Ep, payload: &Payload<'_>) -> ReceptionLine
     requires clock { relay.now.peers.moment ≤ now.0 }
-    ensures row { relay_fate_of result ≡ reception_row (seen_by_relay relay.now now.0 from (view payload.now)) }
+    ensures row { relay_fate_of result ≡ relay_reception_row (seen_by_relay relay.now now.0 from (payload_view payload.now)) }
     ensures warrant { RelayWarrantsDatagram (relay_standing_in relay.now now.0 payload.now.packet.src) result }
 {
     let source = payload.packet.src;
@@ -65,7 +65,7 @@ pub fn line_of(relay: &Relay, now: Millis, from: Ep, payload: &Payload<'_>) -> R
 /// The lines on packets of a listed client.
 fn line_of_client(relay: &Relay, now: Millis, from: Ep, payload: &Payload<'_>) -> ReceptionLine
     requires listed { is_some (peer_in relay.now.peers now.0 payload.now.packet.src) ≡ true }
-    ensures row { relay_fate_of result ≡ client_row (seen_by_relay relay.now now.0 from (view payload.now)) }
+    ensures row { relay_fate_of result ≡ client_row (seen_by_relay relay.now now.0 from (payload_view payload.now)) }
     ensures warrant { RelayWarrantsDatagram (relay_standing_in relay.now now.0 payload.now.packet.src) result }
 {
     // from_client_bubble: RFC 4380, section 5.4.2
@@ -82,7 +82,7 @@ fn line_of_client(relay: &Relay, now: Millis, from: Ep, payload: &Payload<'_>) -
 
 /// Whether a relay serves an address.
 fn serves(relay: &Relay, ip: Ip6) -> bool
-    ensures { result ≡ list_any (same_ip6 ip) (settings_of relay.now).served }
+    ensures { result ≡ list_any (same_ip6 ip) (relay_settings_of relay.now).served }
 {
     relay.served.iter().any(|one| ip == *one)
 }

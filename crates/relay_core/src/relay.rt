@@ -1,7 +1,7 @@
 //! A relay.
 ghost use Rattle.std.specs.Prelude.{◌≡◌, ℕ, List, []};
 ghost use Rattle.teredo_node.specs.Journal.{given};
-ghost use Rattle.relay_core.specs.Relay.{settings_of, callable_from, RelayStandsFor, IsCallable, Does};
+ghost use Rattle.relay_core.specs.Relay.{relay_settings_of, relay_callable_from, RelayStandsFor, IsCallableRelay, RelayDoes};
 
 use crate::below::below;
 use peer_list::Peers;
@@ -29,8 +29,8 @@ impl Relay {
     /// A relay at an endpoint, with an IPv6 address of its own, that serves these natives.
     pub fn new(alloc: Global, at: Ep, six: Ip6, policy: Policy, served: Vec<Ip6>) -> Relay
         ensures stands { RelayStandsFor result [] }
-        ensures settings { settings_of result ≡ record { at = at; six = six; policy = policy; served = served.items } }
-        ensures clock { callable_from result ≡ 0 }
+        ensures settings { relay_settings_of result ≡ record { at = at; six = six; policy = policy; served = served.items } }
+        ensures clock { relay_callable_from result ≡ 0 }
     {
         Relay {
             at,
@@ -43,8 +43,8 @@ impl Relay {
 
     /// Takes a packet of a host, with which a relay does nothing, since it has none.
     pub fn on_host(&self, now: Millis, step: &mut Step)
-        requires callable { IsCallable self.now now.0 }
-        ensures done { (bytes : List ℕ) → Does self.now now.0 (given bytes) step.new self.now }
+        requires callable { IsCallableRelay self.now now.0 }
+        ensures done { (bytes : List ℕ) → RelayDoes self.now now.0 (given bytes) step.new self.now }
     {
         below();
         step.reset(Fate::Idle);
@@ -53,8 +53,8 @@ impl Relay {
     /// Starts anew: no peer is known.
     pub fn restart(&mut self)
         ensures stands { RelayStandsFor self.new [] }
-        ensures settings { settings_of self.new ≡ settings_of self.old }
-        ensures clock { callable_from self.new ≡ 0 }
+        ensures settings { relay_settings_of self.new ≡ relay_settings_of self.old }
+        ensures clock { relay_callable_from self.new ≡ 0 }
     {
         self.peers.clear();
     }

@@ -1,6 +1,6 @@
 //! A relay at late calls, by its fates.
 ghost use Rattle.std.specs.Prelude.{◌≤◌};
-ghost use Rattle.relay_core.specs.Relay.{IsCallable};
+ghost use Rattle.relay_core.specs.Relay.{IsCallableRelay};
 
 use crate::Relay;
 use std::alloc::Global;
@@ -70,7 +70,7 @@ fn packet(src: Ip6, dst: Ip6, next: u8) -> [u8; 40] {
 
 /// The fate of what a relay is given.
 fn give(relay: &mut Relay, now: Millis, given: Given, step: &mut Step) -> Result<Fate, NoMemory>
-    requires { IsCallable relay.old now.0 }
+    requires { IsCallableRelay relay.old now.0 }
     ensures { relay.new.peers.moment ≤ now.0 }
 {
     let bytes = match given {

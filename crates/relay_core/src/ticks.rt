@@ -4,10 +4,10 @@ ghost use Rattle.teredo_node.specs.Journal.{Entry, ticked};
 ghost use Rattle.teredo_node.specs.Due.{IsFirstDue, Idles, Lessens};
 ghost use Rattle.peer_list.specs.Table.{known_to};
 ghost use Rattle.peer_list.specs.Overdue.{IsNoSooner, IsKeptDue, IsOverdue};
-ghost use Rattle.relay_rules.specs.Journals.{entry, relay_due};
-ghost use Rattle.relay_rules.specs.Ticks.{tries_peer};
-ghost use Rattle.relay_core.specs.Relay.{settings_of, RelayStandsFor, IsCallable, RelayEnters, Does, AsBefore};
-ghost use Rattle.relay_core.specs.Endpoint.{IsRelayDue, owing, DoesDue};
+ghost use Rattle.relay_rules.specs.Journals.{wordless_entry, relay_due};
+ghost use Rattle.relay_rules.specs.Ticks.{relay_tries_peer};
+ghost use Rattle.relay_core.specs.Relay.{relay_settings_of, RelayStandsFor, IsCallableRelay, RelayEnters, RelayDoes, RelayAsBefore};
+ghost use Rattle.relay_core.specs.Endpoint.{IsRelayDue, relay_owing, DoesDue};
 
 use crate::below::below;
 use crate::relay::Relay;
@@ -17,10 +17,10 @@ use teredo_node::{Fate, Step};
 impl Relay {
     /// Does what is due of the peer that is due first.
     pub(crate) fn tick(&mut self, now: Millis, step: &mut Step)
-        requires callable { IsCallable self.old now.0 }
-        ensures done { Does self.old now.0 ticked step.new self.new }
-        ensures idle { Idles (owing self.old now.0) (AsBefore self.old self.new) step.new }
-        ensures less { Lessens (owing self.old now.0) (owing self.new now.0) step.new }
+        requires callable { IsCallableRelay self.old now.0 }
+        ensures done { RelayDoes self.old now.0 ticked step.new self.new }
+        ensures idle { Idles (relay_owing self.old now.0) (RelayAsBefore self.old self.new) step.new }
+        ensures less { Lessens (relay_owing self.old now.0) (relay_owing self.new now.0) step.new }
     {
         below();
         let Some(who) = self.peers.overdue(now) else {
@@ -38,10 +38,10 @@ impl Relay {
 
     /// Drops the packets that wait for a peer.
     fn give_up(&mut self, now: Millis, who: Ip6, step: &mut Step)
-        requires callable { IsCallable self.old now.0 }
+        requires callable { IsCallableRelay self.old now.0 }
         requires overdue { IsOverdue self.old.peers now.0 who }
-        ensures step { step.new ≡ tries_peer true (settings_of self.old) (record { who = who; peer = known_to self.old.peers now.0 who }) }
-        ensures entered { RelayEnters self.old (entry now.0 ticked None (Some who) step.new) self.new }
+        ensures step { step.new ≡ relay_tries_peer true (relay_settings_of self.old) (record { who = who; peer = known_to self.old.peers now.0 who }) }
+        ensures entered { RelayEnters self.old (wordless_entry now.0 ticked None (Some who) step.new) self.new }
         ensures less { DoesDue self.old self.new now.0 step.new }
     {
         below();
@@ -52,10 +52,10 @@ impl Relay {
 
     /// Tries a peer for which packets wait.
     fn try_again(&mut self, now: Millis, who: Ip6, step: &mut Step)
-        requires callable { IsCallable self.old now.0 }
+        requires callable { IsCallableRelay self.old now.0 }
         requires overdue { IsOverdue self.old.peers now.0 who }
-        ensures step { step.new ≡ tries_peer false (settings_of self.old) (record { who = who; peer = known_to self.old.peers now.0 who }) }
-        ensures entered { RelayEnters self.old (entry now.0 ticked None (Some who) step.new) self.new }
+        ensures step { step.new ≡ relay_tries_peer false (relay_settings_of self.old) (record { who = who; peer = known_to self.old.peers now.0 who }) }
+        ensures entered { RelayEnters self.old (wordless_entry now.0 ticked None (Some who) step.new) self.new }
         ensures less { DoesDue self.old self.new now.0 step.new }
     {
         below();
@@ -65,9 +65,9 @@ impl Relay {
 
     /// When something is due: a try at a peer, or the end of the packets that wait for it.
     pub(crate) fn next_due(&self, now: Millis) -> Option<Millis>
-        requires callable { IsCallable self.now now.0 }
+        requires callable { IsCallableRelay self.now now.0 }
         ensures told { IsRelayDue self.now now.0 result }
-        ensures first { IsFirstDue (owing self.now) now.0 result }
+        ensures first { IsFirstDue (relay_owing self.now) now.0 result }
     {
         below();
         self.peers.next_due(now)

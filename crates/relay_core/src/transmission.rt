@@ -8,9 +8,9 @@ ghost use Rattle.teredo_node.specs.Sends.{send, sending};
 ghost use Rattle.peer_list.specs.Judged.{is_barred, is_full};
 ghost use Rattle.peer_list.specs.Table.{peer_in, known_to, has_room_in};
 ghost use Rattle.peer_list.specs.Calls.{TriesUnless};
-ghost use Rattle.relay_rules.specs.Transmission.{queues};
-ghost use Rattle.relay_rules.specs.Journals.{entry};
-ghost use Rattle.relay_core.specs.Relay.{settings_of, IsCallable, RelayEnters, Does, AsBefore, RelayKeepsAll, WantsMemory};
+ghost use Rattle.relay_rules.specs.Transmission.{relay_queues};
+ghost use Rattle.relay_rules.specs.Journals.{wordless_entry};
+ghost use Rattle.relay_core.specs.Relay.{relay_settings_of, IsCallableRelay, RelayEnters, RelayDoes, RelayAsBefore, RelayKeepsAll, WantsMemory};
 
 use crate::below::below;
 use crate::relay::Relay;
@@ -32,11 +32,11 @@ impl Relay {
     /// Takes a packet of the IPv6 side. Memory may be wanting where the packet is to wait, or its destination to be
     /// listed.
     pub fn on_six(&mut self, now: Millis, bytes: &[u8], step: &mut Step) -> Result<(), NoMemory>
-        requires callable { IsCallable self.old now.0 }
-        ensures done { OnOk result (Does self.old now.0 (from_six bytes.now) step.new self.new) }
+        requires callable { IsCallableRelay self.old now.0 }
+        ensures done { OnOk result (RelayDoes self.old now.0 (from_six bytes.now) step.new self.new) }
         ensures starved { OnErr result (WantsMemory self.old now.0 bytes.now) }
-        ensures as_before { OnErr result (AsBefore self.old self.new) }
-        ensures again { OnErr result (IsCallable self.new now.0) }
+        ensures as_before { OnErr result (RelayAsBefore self.old self.new) }
+        ensures again { OnErr result (IsCallableRelay self.new now.0) }
         ensures untouched { OnErr result (step.new ≡ step.old) }
     {
         below();
@@ -68,12 +68,12 @@ impl Relay {
         bytes: &[u8],
         step: &mut Step,
     ) -> Result<(), NoMemory>
-        requires callable { IsCallable self.old now.0 }
+        requires callable { IsCallableRelay self.old now.0 }
         requires room { has_room_in self.old.peers now.0 who ≡ true }
         requires cone { has_cone who ≡ true }
         requires short { length bytes.now ≤ PACKET_MAX }
         ensures step { OnOk result (step.new ≡ sending Fate.SentCone (send (embedded who) bytes.now ∷ [])) }
-        ensures entered { OnOk result (RelayEnters self.old (entry now.0 (from_six bytes.now) (Some bytes.now) (Some who) step.new) self.new) }
+        ensures entered { OnOk result (RelayEnters self.old (wordless_entry now.0 (from_six bytes.now) (Some bytes.now) (Some who) step.new) self.new) }
         ensures kept { OnErr result (RelayKeepsAll self.old now.0 self.new) }
         ensures unlisted { OnErr result (is_some (peer_in self.old.peers now.0 who) ≡ false) }
         ensures untouched { OnErr result (step.new ≡ step.old) }
@@ -93,13 +93,13 @@ impl Relay {
         bytes: &[u8],
         step: &mut Step,
     ) -> Result<(), NoMemory>
-        requires callable { IsCallable self.old now.0 }
+        requires callable { IsCallableRelay self.old now.0 }
         requires room { has_room_in self.old.peers now.0 who ≡ true }
         requires plain { has_cone who ≡ false }
         requires free { is_full (known_to self.old.peers now.0 who) ≡ false }
         requires short { length bytes.now ≤ PACKET_MAX }
-        ensures step { OnOk result (step.new ≡ queues (is_barred now.0 (known_to self.old.peers now.0 who)) (settings_of self.old) who) }
-        ensures entered { OnOk result (RelayEnters self.old (entry now.0 (from_six bytes.now) (Some bytes.now) (Some who) step.new) self.new) }
+        ensures step { OnOk result (step.new ≡ relay_queues (is_barred now.0 (known_to self.old.peers now.0 who)) (relay_settings_of self.old) who) }
+        ensures entered { OnOk result (RelayEnters self.old (wordless_entry now.0 (from_six bytes.now) (Some bytes.now) (Some who) step.new) self.new) }
         ensures kept { OnErr result (RelayKeepsAll self.old now.0 self.new) }
         ensures untouched { OnErr result (step.new ≡ step.old) }
     {
@@ -112,11 +112,11 @@ impl Relay {
 
     /// Tries a peer whose packet waits, unless it is barred.
     fn try_unless(&mut self, barred: bool, now: Millis, who: Ip6, step: &mut Step)
-        requires callable { IsCallable self.old now.0 }
+        requires callable { IsCallableRelay self.old now.0 }
         requires listed { is_some (peer_in self.old.peers now.0 who) ≡ true }
-        ensures step { step.new ≡ queues barred (settings_of self.old) who }
+        ensures step { step.new ≡ relay_queues barred (relay_settings_of self.old) who }
         ensures peers { TriesUnless barred self.old.peers now.0 who None self.new.peers }
-        ensures settings { settings_of self.new ≡ settings_of self.old }
+        ensures settings { relay_settings_of self.new ≡ relay_settings_of self.old }
     {
         if barred {
             step.reset(Fate::Queued);

@@ -1,14 +1,14 @@
 //! The table of packets of the IPv6 side.
 ghost use Rattle.std.specs.Prelude.{◌≡◌, ◌≤◌, ◌||◌, not, true, false, is_some};
 ghost use Rattle.td_base.specs.Reach.{is_global6};
-ghost use Rattle.ipv6_packet.specs.Packets.{view as packet_view};
+ghost use Rattle.ipv6_packet.specs.Packets.{packet_view};
 ghost use Rattle.ipv6_packet.specs.Reads.{is_big};
 ghost use Rattle.teredo_addr.specs.Teredo.{is_teredo};
 ghost use Rattle.teredo_node.specs.declared.fate.Fate.{Fate};
 ghost use Rattle.teredo_node.specs.Rows.{first_line};
 ghost use Rattle.peer_list.specs.Table.{peer_in, known_to};
-ghost use Rattle.relay_rules.specs.Transmission.{destination_lines, transmission_row};
-ghost use Rattle.relay_core.specs.Relay.{settings_of, relay_standing_in};
+ghost use Rattle.relay_rules.specs.Transmission.{relay_destination_lines, relay_transmission_row};
+ghost use Rattle.relay_core.specs.Relay.{relay_settings_of, relay_standing_in};
 ghost use Rattle.relay_core.specs.Lines.{relay_fate_for, given_to_relay, RelayWarrantsPacket, IsCarriedByRelay};
 
 use crate::relay::Relay;
@@ -33,7 +33,7 @@ pub enum TransmissionLine {
 /// The first line that holds for a packet.
 pub fn line_for(relay: &Relay, now: Millis, packet: &Packet<'_>) -> TransmissionLine
     requires clock { relay.now.peers.moment ≤ now.0 }
-    ensures row { relay_fate_for result ≡ transmission_row (given_to_relay relay.now now.0 (packet_view packet.now)) }
+    ensures row { relay_fate_for result ≡ relay_transmission_row (given_to_relay relay.now now.0 (packet_view packet.now)) }
     ensures warrant { RelayWarrantsPacket (relay_standing_in relay.now now.0 packet.now.dst) packet.now.dst result }
     ensures small { IsCarriedByRelay (packet_view packet.now) result }
 {
@@ -64,7 +64,7 @@ pub fn line_for(relay: &Relay, now: Millis, packet: &Packet<'_>) -> Transmission
 fn line_for_destination(relay: &Relay, now: Millis, packet: &Packet<'_>) -> TransmissionLine
     requires clock { relay.now.peers.moment ≤ now.0 }
     requires small { is_big (packet_view packet.now) ≡ false }
-    ensures row { relay_fate_for result ≡ first_line (destination_lines (given_to_relay relay.now now.0 (packet_view packet.now))) Fate.Queued }
+    ensures row { relay_fate_for result ≡ first_line (relay_destination_lines (given_to_relay relay.now now.0 (packet_view packet.now))) Fate.Queued }
     ensures warrant { RelayWarrantsPacket (relay_standing_in relay.now now.0 packet.now.dst) packet.now.dst result }
     ensures small { IsCarriedByRelay (packet_view packet.now) result }
 {

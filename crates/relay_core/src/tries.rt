@@ -2,7 +2,7 @@
 ghost use Rattle.std.specs.Prelude.{◌≡◌, ◌∷◌, []};
 ghost use Rattle.teredo_node.specs.Sends.{sending};
 ghost use Rattle.relay_rules.specs.Transmission.{bubble_to};
-ghost use Rattle.relay_core.specs.Relay.{settings_of};
+ghost use Rattle.relay_core.specs.Relay.{relay_settings_of};
 
 use crate::relay::Relay;
 use bubble::{BUBBLE, make_bubble};
@@ -14,7 +14,7 @@ impl Relay {
     /// Begins a step with this fate by a try at a client: a bubble through its server.
     #[tactic(auto, unfolding(relay_rules::specs::Transmission::bubble_to))]
     pub(crate) fn send_bubble(&self, who: Ip6, fate: Fate, step: &mut Step)
-        ensures { step.new ≡ sending fate (bubble_to (settings_of self.now) who ∷ []) }
+        ensures { step.new ≡ sending fate (bubble_to (relay_settings_of self.now) who ∷ []) }
     {
         let mut bytes = [0; BUBBLE];
         make_bubble(self.six, who, &mut bytes);

@@ -30,15 +30,15 @@ use Rattle.teredo_node.specs.Journal.{Input, arrived, given, from_six, ticked, E
 use Rattle.peer_list.specs.Waiting.{Listing}
 use Rattle.peer_list.specs.Judged.{is_spent, is_barred, due_of}
 use Rattle.peer_list.specs.Laws.{FirstWaits, OneEntry}
-use Rattle.relay_rules.specs.Standing.{RelaySettings, Standing, known_in, standing_at, standing_of}
-use Rattle.relay_rules.specs.Bearings.{bearing_of, mention, mentions}
+use Rattle.relay_rules.specs.Standing.{RelaySettings, RelayStanding, relay_known_in, relay_standing_at, relay_standing_of}
+use Rattle.relay_rules.specs.Bearings.{relay_bearing_of, relay_mention, relay_mentions}
 use Rattle.relay_rules.specs.Laws.{IsForeignTo}
-use Rattle.relay_rules.specs.Sendings.{IsSending, bubbles, carries, EachSend}
-use Rattle.relay_rules.specs.Reception.{seen, reception_row, reception_step, reception}
-use Rattle.relay_rules.specs.Transmission.{given as given_to, bubble_to, queues, transmission_row, transmission_step, transmission}
-use Rattle.relay_rules.specs.Ticks.{peer_of_due, tries_peer, tick}
+use Rattle.relay_rules.specs.Sendings.{IsRelaySending, bubbles, carries, EachRelaySend}
+use Rattle.relay_rules.specs.Reception.{relay_seen, relay_reception_row, relay_reception_step, relay_reception}
+use Rattle.relay_rules.specs.Transmission.{relay_given, bubble_to, relay_queues, relay_transmission_row, relay_transmission_step, relay_transmission}
+use Rattle.relay_rules.specs.Ticks.{relay_peer_of_due, relay_tries_peer, relay_tick_step}
 use Rattle.peer_list.specs.Overdue.{due_by}
-use Rattle.relay_rules.specs.Journals.{first_peer, relay_in, relay_six, relay_tick, relay_entry, IsJournal}
+use Rattle.relay_rules.specs.Journals.{relay_first_peer, relay_in, relay_six, relay_tick, relay_entry, IsRelayJournal}
 use Rattle.teredo_node.specs.MadeInputs.{IsMadeInput, AreMadeInputs}
 use Rattle.bubble.proofs.MadeInputs.{source_is, destination_is, packet_is, packet_came, destination_made}
 use Rattle.peer_list.proofs.MadeMentions.{IsMadeMention, waiting_is, listed_peer}
@@ -52,7 +52,7 @@ pub record RelayLaws : Type 0 where
   pub one : OneEntry
   pub bubble : BubbleReadsBack
   pub whole : PacketIsPayload
-  pub sends : EachSend
+  pub sends : EachRelaySend
 
 -- MENTIONS
 
@@ -60,37 +60,37 @@ record IsMadeEntry (e : Entry) : Type 0 where
   peer : IfSome e.peer IsIp6
   packet : IfSome e.packet IsBytes
 
-queues_of : (f : Fate) (e : Entry) → IfSome e.packet IsBytes → IfSome (bearing_of f e).queues IsBytes
+queues_of : (f : Fate) (e : Entry) → IfSome e.packet IsBytes → IfSome (relay_bearing_of f e).queues IsBytes
 queues_of fate.Queued e h = h
 queues_of _ e h = tt
 
-mentioned : (es : List Entry) → AllByRecursion IsMadeEntry es → AllByRecursion IsMadeMention (map mention es)
+mentioned : (es : List Entry) → AllByRecursion IsMadeEntry es → AllByRecursion IsMadeMention (map relay_mention es)
 mentioned [] a = tt
 mentioned (e ∷ es) a = (record { peer = a.0.peer; packet = queues_of e.step.fate e a.0.packet }, mentioned es a.1)
 
-all_mentions : (es : List Entry) → AllByRecursion IsMadeEntry es → AllByRecursion IsMadeMention (mentions es)
-unfolding mentions
+all_mentions : (es : List Entry) → AllByRecursion IsMadeEntry es → AllByRecursion IsMadeMention (relay_mentions es)
+unfolding relay_mentions
 all_mentions es a = mentioned es a
 
 -- ENTRIES
 
-due_peer : FirstWaits → (j : List Entry) (n : ℕ) → AllByRecursion IsMadeMention (mentions j) → IfSome (peer_of_due (due_by n (first_peer j n))) IsIp6
-due_peer law j n a = by (first_peer j n) refl where
-  by : (o : Option Listing) → first_peer j n ≡ o → IfSome (peer_of_due (due_by n o)) IsIp6
+due_peer : FirstWaits → (j : List Entry) (n : ℕ) → AllByRecursion IsMadeMention (relay_mentions j) → IfSome (relay_peer_of_due (due_by n (relay_first_peer j n))) IsIp6
+due_peer law j n a = by (relay_first_peer j n) refl where
+  by : (o : Option Listing) → relay_first_peer j n ≡ o → IfSome (relay_peer_of_due (due_by n o)) IsIp6
   by None e = tt
   by (Some l) e = at (nat_le (due_of l.peer) n) where
-    at : (b : Bool) → IfSome (peer_of_due (cond b (Some l) None)) IsIp6
-    at true = listed_peer l.who n (mentions j) a ((law (mentions j) n l e).listed)
+    at : (b : Bool) → IfSome (relay_peer_of_due (cond b (Some l) None)) IsIp6
+    at true = listed_peer l.who n (relay_mentions j) a ((law (relay_mentions j) n l e).listed)
     at false = tt
 
-entry_is : RelayLaws → (s : RelaySettings) (j : List Entry) (n : ℕ) (input : Input) → AllByRecursion IsMadeMention (mentions j) → IsMadeInput input → IsMadeEntry (relay_entry s j n input)
+entry_is : RelayLaws → (s : RelaySettings) (j : List Entry) (n : ℕ) (input : Input) → AllByRecursion IsMadeMention (relay_mentions j) → IsMadeInput input → IsMadeEntry (relay_entry s j n input)
 unfolding relay_in relay_six relay_tick
 entry_is laws s j n (arrived from x) a h = record { peer = source_is laws.payload x h.1; packet = packet_came x h.1 }
 entry_is laws s j n (from_six x) a h = record { peer = destination_is laws.packet x h; packet = packet_is x h }
 entry_is laws s j n (given x) a h = record { peer = tt; packet = tt }
 entry_is laws s j n ticked a h = record { peer = due_peer laws.waits j n a; packet = tt }
 
-entries_are : RelayLaws → (s : RelaySettings) (es : List Entry) → IsJournal s es → AreMadeInputs es → AllByRecursion IsMadeEntry es
+entries_are : RelayLaws → (s : RelaySettings) (es : List Entry) → IsRelayJournal s es → AreMadeInputs es → AllByRecursion IsMadeEntry es
 entries_are laws s [] is a = tt
 entries_are laws s (e ∷ es) is a =
     let rest = entries_are laws s es is.1 a.1 in
@@ -105,44 +105,44 @@ releases_are : (to : Ep) (xs : List (List ℕ)) → AllByRecursion IsBytes xs �
 releases_are to [] a = tt
 releases_are to (x ∷ xs) a = (a.0, releases_are to xs a.1)
 
-received : (a : Standing) (x : List ℕ) (v : Value) (f : Fate) → AllByRecursion IsBytes (known_in a).waiting → AreBytesIn (reception_step a x v f).sends
-received a x v fate.FromClientBubble w = releases_are (embedded v.packet.src) (known_in a).waiting w
-received a x v fate.FromClient w = releases_are (embedded v.packet.src) (known_in a).waiting w
-received a x v fate.Unserved w = releases_are (embedded v.packet.src) (known_in a).waiting w
+received : (a : RelayStanding) (x : List ℕ) (v : Value) (f : Fate) → AllByRecursion IsBytes (relay_known_in a).waiting → AreBytesIn (relay_reception_step a x v f).sends
+received a x v fate.FromClientBubble w = releases_are (embedded v.packet.src) (relay_known_in a).waiting w
+received a x v fate.FromClient w = releases_are (embedded v.packet.src) (relay_known_in a).waiting w
+received a x v fate.Unserved w = releases_are (embedded v.packet.src) (relay_known_in a).waiting w
 received a x v _ w = tt
 
 bubble_is : BubbleReadsBack → (s : RelaySettings) (p : Ip6) → IsIp6 s.six → IsIp6 p → IsBytes (bubble_to s p).bytes
 unfolding bubble_to
 bubble_is law s p six to = (law s.six p six to).bytes
 
-queued : BubbleReadsBack → (barred : Bool) (s : RelaySettings) (p : Ip6) → IsIp6 s.six → IsIp6 p → AreBytesIn (queues barred s p).sends
+queued : BubbleReadsBack → (barred : Bool) (s : RelaySettings) (p : Ip6) → IsIp6 s.six → IsIp6 p → AreBytesIn (relay_queues barred s p).sends
 queued law true s p six to = tt
 queued law false s p six to = (bubble_is law s p six to, tt)
 
-sent : BubbleReadsBack → (s : RelaySettings) (a : Standing) (x : List ℕ) (p : Ip6) (f : Fate) → IsIp6 s.six → IsIp6 p → IsBytes x → AreBytesIn (transmission_step s a x p f).sends
+sent : BubbleReadsBack → (s : RelaySettings) (a : RelayStanding) (x : List ℕ) (p : Ip6) (f : Fate) → IsIp6 s.six → IsIp6 p → IsBytes x → AreBytesIn (relay_transmission_step s a x p f).sends
 sent law s a x p fate.Sent six to h = (h, tt)
 sent law s a x p fate.SentCone six to h = (h, tt)
-sent law s a x p fate.Queued six to h = queued law (is_barred a.moment (known_in a)) s p six to
+sent law s a x p fate.Queued six to h = queued law (is_barred a.moment (relay_known_in a)) s p six to
 sent law s a x p _ six to h = tt
 
-ticks_of : BubbleReadsBack → (s : RelaySettings) (n : ℕ) (due : Option Listing) → IsIp6 s.six → IfSome (peer_of_due due) IsIp6 → AreBytesIn (tick s n due).sends
+ticks_of : BubbleReadsBack → (s : RelaySettings) (n : ℕ) (due : Option Listing) → IsIp6 s.six → IfSome (relay_peer_of_due due) IsIp6 → AreBytesIn (relay_tick_step s n due).sends
 ticks_of law s n None six peer = tt
 ticks_of law s n (Some l) six peer = by (is_spent n l.peer) where
-  by : (b : Bool) → AreBytesIn (tries_peer b s l).sends
+  by : (b : Bool) → AreBytesIn (relay_tries_peer b s l).sends
   by true = tt
   by false = (bubble_is law s l.who six peer, tt)
 
-waits_of : OneEntry → (j : List Entry) (n : ℕ) (p : Option Ip6) → AllByRecursion IsMadeMention (mentions j) → AllByRecursion IsBytes (known_in (standing_of j n p)).waiting
-unfolding standing_at
-waits_of one j n p a = waiting_is one (mentions j) n (unwrap_or p unspecified) a
+waits_of : OneEntry → (j : List Entry) (n : ℕ) (p : Option Ip6) → AllByRecursion IsMadeMention (relay_mentions j) → AllByRecursion IsBytes (relay_known_in (relay_standing_of j n p)).waiting
+unfolding relay_standing_at
+waits_of one j n p a = waiting_is one (relay_mentions j) n (unwrap_or p unspecified) a
 
-of_entry : RelayLaws → (s : RelaySettings) (j : List Entry) (n : ℕ) (input : Input) → IsMadeRelay s → AllByRecursion IsMadeMention (mentions j) → IsMadeInput input → AreBytesIn (relay_entry s j n input).step.sends
-unfolding relay_in relay_six relay_tick reception transmission
-of_entry laws s j n (arrived from x) made a h = received (standing_of j n (source_in x)) x (value_in x) (reception_row (seen s (standing_of j n (source_in x)) from x)) (waits_of laws.one j n (source_in x) a)
+of_entry : RelayLaws → (s : RelaySettings) (j : List Entry) (n : ℕ) (input : Input) → IsMadeRelay s → AllByRecursion IsMadeMention (relay_mentions j) → IsMadeInput input → AreBytesIn (relay_entry s j n input).step.sends
+unfolding relay_in relay_six relay_tick relay_reception relay_transmission
+of_entry laws s j n (arrived from x) made a h = received (relay_standing_of j n (source_in x)) x (value_in x) (relay_reception_row (relay_seen s (relay_standing_of j n (source_in x)) from x)) (waits_of laws.one j n (source_in x) a)
 of_entry laws s j n (from_six x) made a h =
-    sent laws.bubble s (standing_of j n (destination_in x)) x (fields_in x).dst (transmission_row (given_to s (standing_of j n (destination_in x)) x)) made.six (destination_made laws.packet x h) h
+    sent laws.bubble s (relay_standing_of j n (destination_in x)) x (fields_in x).dst (relay_transmission_row (relay_given s (relay_standing_of j n (destination_in x)) x)) made.six (destination_made laws.packet x h) h
 of_entry laws s j n (given x) made a h = tt
-of_entry laws s j n ticked made a h = ticks_of laws.bubble s n (due_by n (first_peer j n)) made.six (due_peer laws.waits j n a)
+of_entry laws s j n ticked made a h = ticks_of laws.bubble s n (due_by n (relay_first_peer j n)) made.six (due_peer laws.waits j n a)
 
 -- WHOSE PACKETS
 
@@ -189,7 +189,7 @@ server_of p fits =
 
 -- EACH SEND
 
-of_send : RelayLaws → (s : RelaySettings) (peer : Option Ip6) (x : Send) → IsMadeRelay s → IfSome peer IsIp6 → IsSending s peer x → IsBytes x.bytes → IsForeignSend x
+of_send : RelayLaws → (s : RelaySettings) (peer : Option Ip6) (x : Send) → IsMadeRelay s → IfSome peer IsIp6 → IsRelaySending s peer x → IsBytes x.bytes → IsForeignSend x
 unfolding bubble_to
 of_send laws s peer x made there (bubbles p of is) fits =
     let dst : IsIp6 p = subst (λ (o : Option Ip6). IfSome o IsIp6) of there in
@@ -211,7 +211,7 @@ of_send laws s peer x made there (carries p bytes of foreign is) fits =
       foreign = ap (λ (y : List ℕ). is_teredo (value_in y).packet.src) same ∙ foreign_packet laws peer bytes (subst IsBytes same fits) foreign;
     }
 
-both : (s : RelaySettings) (peer : Option Ip6) (xs : List Send) → ((x : Send) → IsSending s peer x → IsBytes x.bytes → IsForeignSend x) → AllByRecursion (IsSending s peer) xs → AreBytesIn xs → AllByRecursion IsForeignSend xs
+both : (s : RelaySettings) (peer : Option Ip6) (xs : List Send) → ((x : Send) → IsRelaySending s peer x → IsBytes x.bytes → IsForeignSend x) → AllByRecursion (IsRelaySending s peer) xs → AreBytesIn xs → AllByRecursion IsForeignSend xs
 both s peer [] f a b = tt
 both s peer (x ∷ xs) f a b = (f x a.0 b.0, both s peer xs f a.1 b.1)
 

@@ -16,13 +16,13 @@ use Rattle.teredo_node.specs.Journal.{Input, arrived, given, from_six, ticked, E
 use Rattle.peer_list.specs.Mentions.{Mention, is_peer, is_about}
 use Rattle.peer_list.specs.Peers.{known}
 use Rattle.peer_list.specs.Laws.{OneEntry}
-use Rattle.relay_rules.specs.Bearings.{mention, mentions}
-use Rattle.relay_rules.specs.Standing.{RelaySettings, Standing, standing_of}
-use Rattle.relay_rules.specs.Reception.{Seen, seen, reception_lines, reception_row, reception}
-use Rattle.relay_rules.specs.Transmission.{given as given_to, transmission}
-use Rattle.relay_rules.specs.Journals.{entry, relay_in, relay_six, relay_tick, relay_entry, IsJournal}
-use Rattle.relay_rules.specs.Warrants.{GoesOut, GoesLater, SentOnlyIf}
-use Rattle.relay_rules.specs.Laws.{IsForeignTo, WaitingIsForeign, TrustedIsEmbedded, HoldsNothing}
+use Rattle.relay_rules.specs.Bearings.{relay_mention, relay_mentions}
+use Rattle.relay_rules.specs.Standing.{RelaySettings, RelayStanding, relay_standing_of}
+use Rattle.relay_rules.specs.Reception.{RelaySeen, relay_seen, reception_lines, relay_reception_row, relay_reception}
+use Rattle.relay_rules.specs.Transmission.{relay_given, relay_transmission}
+use Rattle.relay_rules.specs.Journals.{wordless_entry, relay_in, relay_six, relay_tick, relay_entry, IsRelayJournal}
+use Rattle.relay_rules.specs.Warrants.{RelayGoesOut, RelayGoesLater, RelaySentOnlyIf}
+use Rattle.relay_rules.specs.Laws.{IsForeignTo, WaitingIsForeign, RelayTrustedIsEmbedded, HoldsNothing}
 use Rattle.relay_rules.proofs.Fates.{fate_of_reception, fate_of_transmission}
 use Rattle.teredo_node.proofs.FirstLines.{by_lines}
 use Rattle.relay_rules.proofs.Warranted.{transmission_is_warranted}
@@ -36,12 +36,12 @@ is_queued fate.Queued = true
 is_queued _ = false
 
 -- no datagram is queued
-never_queued : (a : Seen) → is_queued (reception_row a) ≡ false
+never_queued : (a : RelaySeen) → is_queued (relay_reception_row a) ≡ false
 never_queued a = by_lines (λ (f : Fate). is_queued f ≡ false) (reception_lines a) fate.Unserved ((λ _. refl), (λ _. ((λ _. refl), (λ _. ((λ _. refl), (λ _. ((λ _. refl), (λ _. ((λ _. refl), (λ _. ((λ _. refl), (λ _. ((λ _. refl), (λ _. ((λ _. refl), (λ _. refl))))))))))))))))
 
 -- an entry queues, if anything, a packet from outside to its peer
 abbrev QueuesForeign : Entry → Type 0
-QueuesForeign e = IfSome (mention e).bearing.queues (IsForeignTo e.peer)
+QueuesForeign e = IfSome (relay_mention e).bearing.queues (IsForeignTo e.peer)
 
 both_hold : (t g : Bool) → not (t || not g) ≡ true → (t ≡ false) × (g ≡ true)
 both_hold true g h = absurd (false≢true h)
@@ -53,8 +53,8 @@ if_there true x P h = h
 if_there false x P h = tt
 
 -- a packet that goes out is from outside
-pub foreign_to : (s : RelaySettings) (a : Standing) (x : List ℕ) → GoesOut (given_to s a x) → IsForeignTo (destination_in x) x
-unfolding given_to destination_in
+pub foreign_to : (s : RelaySettings) (a : RelayStanding) (x : List ℕ) → RelayGoesOut (relay_given s a x) → IsForeignTo (destination_in x) x
+unfolding relay_given destination_in
 foreign_to s a x out =
     let source = both_hold (is_teredo (fields_in x).src) (is_global6 (fields_in x).src) out.foreign_source in
     record {
@@ -65,35 +65,35 @@ foreign_to s a x out =
       destination = ap (λ (b : Bool). cond b (Some (fields_in x).dst) None) out.packet;
     }
 
-foreign : (s : RelaySettings) (a : Standing) (x : List ℕ) → GoesLater (given_to s a x) → IfSome (packet_given x) (IsForeignTo (destination_in x))
+foreign : (s : RelaySettings) (a : RelayStanding) (x : List ℕ) → RelayGoesLater (relay_given s a x) → IfSome (packet_given x) (IsForeignTo (destination_in x))
 unfolding packet_given
 foreign s a x g = if_there (is_packet x) x (IsForeignTo (destination_in x)) (foreign_to s a x g.out)
 
-of_packet : (s : RelaySettings) (a : Standing) (n : ℕ) (x : List ℕ) → QueuesForeign (entry n (from_six x) (packet_given x) (destination_in x) (transmission s a x))
-of_packet s a n x = queued_by (transmission s a x).fate (entry n (from_six x) (packet_given x) (destination_in x) (transmission s a x)) (IsForeignTo (destination_in x))
-    (λ k. foreign s a x (subst (λ f. SentOnlyIf f (given_to s a x)) (sym (fate_of_transmission s a x) ∙ k) (transmission_is_warranted s a x)))
+of_packet : (s : RelaySettings) (a : RelayStanding) (n : ℕ) (x : List ℕ) → QueuesForeign (wordless_entry n (from_six x) (packet_given x) (destination_in x) (relay_transmission s a x))
+of_packet s a n x = queued_by (relay_transmission s a x).fate (wordless_entry n (from_six x) (packet_given x) (destination_in x) (relay_transmission s a x)) (IsForeignTo (destination_in x))
+    (λ k. foreign s a x (subst (λ f. RelaySentOnlyIf f (relay_given s a x)) (sym (fate_of_transmission s a x) ∙ k) (transmission_is_warranted s a x)))
 
-of_datagram : (s : RelaySettings) (a : Standing) (n : ℕ) (from : Ep) (x : List ℕ) → QueuesForeign (entry n (arrived from x) (packet_in x) (source_in x) (reception s a from x))
-of_datagram s a n from x = queued_by (reception s a from x).fate (entry n (arrived from x) (packet_in x) (source_in x) (reception s a from x)) (IsForeignTo (source_in x))
-    (λ k. absurd (false≢true (sym (never_queued (seen s a from x)) ∙ ap is_queued (sym (fate_of_reception s a from x) ∙ k))))
+of_datagram : (s : RelaySettings) (a : RelayStanding) (n : ℕ) (from : Ep) (x : List ℕ) → QueuesForeign (wordless_entry n (arrived from x) (packet_in x) (source_in x) (relay_reception s a from x))
+of_datagram s a n from x = queued_by (relay_reception s a from x).fate (wordless_entry n (arrived from x) (packet_in x) (source_in x) (relay_reception s a from x)) (IsForeignTo (source_in x))
+    (λ k. absurd (false≢true (sym (never_queued (relay_seen s a from x)) ∙ ap is_queued (sym (fate_of_reception s a from x) ∙ k))))
 
 of_entry : (s : RelaySettings) (j : List Entry) (n : ℕ) (input : Input) → QueuesForeign (relay_entry s j n input)
 unfolding relay_in relay_six relay_tick
-of_entry s j n (arrived from x) = of_datagram s (standing_of j n (source_in x)) n from x
-of_entry s j n (from_six x) = of_packet s (standing_of j n (destination_in x)) n x
+of_entry s j n (arrived from x) = of_datagram s (relay_standing_of j n (source_in x)) n from x
+of_entry s j n (from_six x) = of_packet s (relay_standing_of j n (destination_in x)) n x
 of_entry s j n ticked = queued_by (relay_entry s j n ticked).step.fate (relay_entry s j n ticked) (IsForeignTo (relay_entry s j n ticked).peer) (λ _. tt)
 of_entry s j n (given x) = tt
 
-foreign_mentions : (s : RelaySettings) (j : List Entry) (p : Ip6) → IsJournal s j → AllByRecursion (λ (m : Mention). is_about p m ≡ true → IfSome m.bearing.queues (IsForeignTo (Some p))) (map mention j)
+foreign_mentions : (s : RelaySettings) (j : List Entry) (p : Ip6) → IsRelayJournal s j → AllByRecursion (λ (m : Mention). is_about p m ≡ true → IfSome m.bearing.queues (IsForeignTo (Some p))) (map relay_mention j)
 foreign_mentions s [] p a = tt
 foreign_mentions s (e ∷ j) p a =
     let own : QueuesForeign e = subst (λ x. QueuesForeign x) (sym a.0.is) (of_entry s j e.moment e.input) in
-    ((λ about. subst (λ to. IfSome (mention e).bearing.queues (IsForeignTo to)) (peer_is p e.peer about) own), foreign_mentions s j p a.1)
+    ((λ about. subst (λ to. IfSome (relay_mention e).bearing.queues (IsForeignTo to)) (peer_is p e.peer about) own), foreign_mentions s j p a.1)
 
 pub waiting_is_foreign : OneEntry → WaitingIsForeign
-unfolding mentions
+unfolding relay_mentions
 waiting_is_foreign one s j n p a =
-    kept one (λ x. AllByRecursion (IsForeignTo (Some p)) x.waiting) (λ m. IfSome m.bearing.queues (IsForeignTo (Some p))) (waiting_is_kept (IsForeignTo (Some p))) p (map mention j) (foreign_mentions s j p a) n
+    kept one (λ x. AllByRecursion (IsForeignTo (Some p)) x.waiting) (λ m. IfSome m.bearing.queues (IsForeignTo (Some p))) (waiting_is_kept (IsForeignTo (Some p))) p (map relay_mention j) (foreign_mentions s j p a) n
 
 -- TRUST
 
@@ -104,23 +104,23 @@ embedded_there : (p : Ip6) (o : Option Ip6) → is_peer p o ≡ true → IfSome 
 embedded_there p None h = tt
 embedded_there p (Some q) h = ap embedded (sym (same_ip6-true p q h))
 
-there_mentions : (j : List Entry) (p : Ip6) → AllByRecursion (λ (m : Mention). is_about p m ≡ true → IfSome m.bearing.trusts (IsThere p)) (map mention j)
+there_mentions : (j : List Entry) (p : Ip6) → AllByRecursion (λ (m : Mention). is_about p m ≡ true → IfSome m.bearing.trusts (IsThere p)) (map relay_mention j)
 there_mentions [] p = tt
 there_mentions (e ∷ j) p = ((λ about. trusted_by e.step.fate e (IsThere p) (embedded_there p e.peer about)), there_mentions j p)
 
-pub trusted_is_embedded : OneEntry → TrustedIsEmbedded
-unfolding mentions
+pub trusted_is_embedded : OneEntry → RelayTrustedIsEmbedded
+unfolding relay_mentions
 trusted_is_embedded one j n p at is =
-    let there : IfSome (known (map mention j) n p).trusted (IsThere p) =
-    kept one (λ x. IfSome x.trusted (IsThere p)) (λ m. IfSome m.bearing.trusts (IsThere p)) (trust_is_kept (IsThere p)) p (map mention j) (there_mentions j p) n in
+    let there : IfSome (known (map relay_mention j) n p).trusted (IsThere p) =
+    kept one (λ x. IfSome x.trusted (IsThere p)) (λ m. IfSome m.bearing.trusts (IsThere p)) (trust_is_kept (IsThere p)) p (map relay_mention j) (there_mentions j p) n in
     subst (λ o. IfSome o (IsThere p)) is there
 
 -- HELD PACKETS
 
-none_held : (j : List Entry) (p : Ip6) → AllByRecursion (λ (m : Mention). is_about p m ≡ true → m.bearing.holds ≡ None) (map mention j)
+none_held : (j : List Entry) (p : Ip6) → AllByRecursion (λ (m : Mention). is_about p m ≡ true → m.bearing.holds ≡ None) (map relay_mention j)
 none_held [] p = tt
 none_held (e ∷ j) p = ((λ about. holds_none e.step.fate e), none_held j p)
 
 pub holds_nothing : OneEntry → HoldsNothing
-unfolding mentions
-holds_nothing one j n p = kept one (λ x. x.held ≡ []) (λ m. m.bearing.holds ≡ None) held_is_kept p (map mention j) (none_held j p) n
+unfolding relay_mentions
+holds_nothing one j n p = kept one (λ x. x.held ≡ []) (λ m. m.bearing.holds ≡ None) held_is_kept p (map relay_mention j) (none_held j p) n

@@ -16,17 +16,17 @@ use Rattle.teredo_node.specs.Journal.{Input, arrived, given, from_six, ticked, E
 use Rattle.peer_list.specs.Overdue.{due_by}
 use Rattle.peer_list.specs.declared.limits.TheConstants.{LISTED_MS}
 use Rattle.peer_list.specs.Mentions.{Mention, is_about}
-use Rattle.peer_list.specs.Listed.{is_young, is_listed}
+use Rattle.peer_list.specs.Listed.{is_younger, is_listed}
 use Rattle.peer_list.specs.Peers.{Peer, no_peer, peer_at, known}
 use Rattle.peer_list.specs.Judged.{is_none, due_of}
 use Rattle.peer_list.specs.Waiting.{Listing, first_due}
 use Rattle.peer_list.specs.Laws.{tries_after, after, OfAnother, OfATouch, OfNoTouch, FirstWaits}
 use Rattle.peer_list.proofs.FromMentions.{peer_is_if}
-use Rattle.relay_rules.specs.Bearings.{mention, mentions}
-use Rattle.relay_rules.specs.Standing.{RelaySettings, standing_of}
-use Rattle.relay_rules.specs.Reception.{Seen, seen, reception_lines, reception_row}
-use Rattle.relay_rules.specs.Transmission.{Given, given as given_of_packet, packet_lines, destination_lines, transmission_row}
-use Rattle.relay_rules.specs.Journals.{relay_in, relay_six, ticks, relay_tick, relay_entry, IsJournal}
+use Rattle.relay_rules.specs.Bearings.{relay_mention, relay_mentions}
+use Rattle.relay_rules.specs.Standing.{RelaySettings, relay_standing_of}
+use Rattle.relay_rules.specs.Reception.{RelaySeen, relay_seen, reception_lines, relay_reception_row}
+use Rattle.relay_rules.specs.Transmission.{RelayGiven, relay_given, relay_packet_lines, relay_destination_lines, relay_transmission_row}
+use Rattle.relay_rules.specs.Journals.{relay_in, relay_six, relay_ticks, relay_tick, relay_entry, IsRelayJournal}
 use Rattle.relay_rules.specs.Laws.{IsQuiet, ConeIsQuiet}
 use Rattle.relay_rules.proofs.Fates.{fate_of_reception, fate_of_transmission, is_attempt, no_attempt}
 
@@ -44,7 +44,7 @@ abbrev IsNone : Fate → Type 0
 IsNone f = is_attempt f ≡ false
 
 -- a datagram is no attempt
-received_is_none : (a : Seen) → is_attempt (reception_row a) ≡ false
+received_is_none : (a : RelaySeen) → is_attempt (relay_reception_row a) ≡ false
 received_is_none a = skip IsNone (reception_lines a) [] fate.Unserved (refl, (refl, (refl, (refl, (refl, (refl, (refl, (refl, tt)))))))) refl
 
 at_cone : (b : Bool) (ls : List (Bool × Fate)) (last : Fate) → b ≡ true → is_attempt (first_line ((b, fate.SentCone) ∷ ls) last) ≡ false
@@ -52,12 +52,12 @@ at_cone true ls last h = refl
 at_cone false ls last h = absurd (false≢true h)
 
 -- nor is a packet to an address with the cone bit
-cone_is_none : (a : Given) → a.cone ≡ true → is_attempt (transmission_row a) ≡ false
+cone_is_none : (a : RelayGiven) → a.cone ≡ true → is_attempt (relay_transmission_row a) ≡ false
 cone_is_none a cone =
     let rest : List (Bool × Fate) = (a.cone, fate.SentCone) ∷ (a.spent, fate.Barred) ∷ (a.full, fate.QueueFull) ∷ [] in
     let from_room : is_attempt (first_line ((a.trusted, fate.Sent) ∷ (not a.room, fate.PeersFull) ∷ rest) fate.Queued) ≡ false =
     skip IsNone ((a.trusted, fate.Sent) ∷ (not a.room, fate.PeersFull) ∷ []) rest fate.Queued (refl, (refl, tt)) (at_cone a.cone ((a.spent, fate.Barred) ∷ (a.full, fate.QueueFull) ∷ []) fate.Queued cone) in
-    skip IsNone (packet_lines a) (destination_lines a) fate.Queued (refl, (refl, (refl, (refl, (refl, (refl, tt)))))) from_room
+    skip IsNone (relay_packet_lines a) (relay_destination_lines a) fate.Queued (refl, (refl, (refl, (refl, (refl, (refl, tt)))))) from_room
 
 -- ONE FURTHER ENTRY
 
@@ -95,7 +95,7 @@ quiet_more law e ms p none before n = by_about (is_about p e) refl where
   by_touch : (t : Bool) → is_about p e ≡ true → e.bearing.touches ≡ t → IsQuiet (known (e ∷ ms) n p)
   by_touch true about t =
       let parts = none about in
-      subst (λ o. IsQuiet (unwrap_or o no_peer)) (sym (law.a_touch e ms n p about t)) (quiet_if (is_young LISTED_MS n e.moment) (after e (known ms e.moment p)) (quiet_after e (known ms e.moment p) parts.0 parts.1 (before e.moment)))
+      subst (λ o. IsQuiet (unwrap_or o no_peer)) (sym (law.a_touch e ms n p about t)) (quiet_if (is_younger LISTED_MS n e.moment) (after e (known ms e.moment p)) (quiet_after e (known ms e.moment p) parts.0 parts.1 (before e.moment)))
   by_touch false about t =
       let parts = none about in
       subst (λ o. IsQuiet (unwrap_or o no_peer)) (sym (law.no_touch e ms n p about t)) (quiet_map e (peer_at ms n p) parts.0 parts.1 (before n))
@@ -108,21 +108,21 @@ quiet_more law e ms p none before n = by_about (is_about p e) refl where
 
 -- the entry neither tries nor queues, if it is about p
 abbrev NoAttempt : Ip6 → Entry → Type 0
-NoAttempt p e = is_about p (mention e) ≡ true → ((mention e).bearing.tries ≡ false) × ((mention e).bearing.queues ≡ None)
+NoAttempt p e = is_about p (relay_mention e) ≡ true → ((relay_mention e).bearing.tries ≡ false) × ((relay_mention e).bearing.queues ≡ None)
 
 by_fate : (p : Ip6) (e : Entry) → is_attempt e.step.fate ≡ false → NoAttempt p e
 by_fate p e h about = no_attempt e.step.fate e h
 
 of_datagram : (s : RelaySettings) (j : List Entry) (n : ℕ) (from : Ep) (x : List ℕ) (p : Ip6) → NoAttempt p (relay_in s j n from x)
 unfolding relay_in
-of_datagram s j n from x p = by_fate p (relay_in s j n from x) (ap is_attempt (fate_of_reception s (standing_of j n (source_in x)) from x) ∙ received_is_none (seen s (standing_of j n (source_in x)) from x))
+of_datagram s j n from x p = by_fate p (relay_in s j n from x) (ap is_attempt (fate_of_reception s (relay_standing_of j n (source_in x)) from x) ∙ received_is_none (relay_seen s (relay_standing_of j n (source_in x)) from x))
 
 of_packet : (s : RelaySettings) (j : List Entry) (n : ℕ) (x : List ℕ) (p : Ip6) → has_cone p ≡ true → NoAttempt p (relay_six s j n x)
-unfolding relay_six given_of_packet destination_in
+unfolding relay_six relay_given destination_in
 of_packet s j n x p cone about =
     let is : p ≡ (fields_in x).dst = peer_is_if (is_packet x) p (fields_in x).dst about in
     let at : has_cone (fields_in x).dst ≡ true = subst (λ q. has_cone q ≡ true) is cone in
-    by_fate p (relay_six s j n x) (ap is_attempt (fate_of_transmission s (standing_of j n (destination_in x)) x) ∙ cone_is_none (given_of_packet s (standing_of j n (destination_in x)) x) at) about
+    by_fate p (relay_six s j n x) (ap is_attempt (fate_of_transmission s (relay_standing_of j n (destination_in x)) x) ∙ cone_is_none (relay_given s (relay_standing_of j n (destination_in x)) x) at) about
 
 waits_no_more : (xs : List (List ℕ)) → xs ≡ [] → is_none xs ≡ false → ⊥
 waits_no_more [] e h = false≢true (sym h)
@@ -142,29 +142,29 @@ due_waits law ms n l h = by_first (first_due ms n) refl h where
   by_first None e g = absurd (false≢true (ap is_some g))
   by_first (Some k) e g = by_due (nat_le (due_of k.peer) n) k e g
 
-of_due : (law : OfPeers) (s : RelaySettings) (j : List Entry) (n : ℕ) (p : Ip6) → AreQuiet p (mentions j) → (due : Option Listing) → due_by n (first_due (mentions j) n) ≡ due → NoAttempt p (ticks s n due)
-of_due law s j n p quiet None e = by_fate p (ticks s n None) refl
+of_due : (law : OfPeers) (s : RelaySettings) (j : List Entry) (n : ℕ) (p : Ip6) → AreQuiet p (relay_mentions j) → (due : Option Listing) → due_by n (first_due (relay_mentions j) n) ≡ due → NoAttempt p (relay_ticks s n due)
+of_due law s j n p quiet None e = by_fate p (relay_ticks s n None) refl
 of_due law s j n p quiet (Some l) e = λ about.
     let is : p ≡ l.who = same_ip6-true p l.who about in
-    absurd (waits_no_more (known (mentions j) n l.who).waiting (ap (λ q. (known (mentions j) n q).waiting) (sym is) ∙ (quiet n).waiting) (due_waits law (mentions j) n l e))
+    absurd (waits_no_more (known (relay_mentions j) n l.who).waiting (ap (λ q. (known (relay_mentions j) n q).waiting) (sym is) ∙ (quiet n).waiting) (due_waits law (relay_mentions j) n l e))
 
-of_tick : (law : OfPeers) (s : RelaySettings) (j : List Entry) (n : ℕ) (p : Ip6) → AreQuiet p (mentions j) → NoAttempt p (relay_tick s j n)
+of_tick : (law : OfPeers) (s : RelaySettings) (j : List Entry) (n : ℕ) (p : Ip6) → AreQuiet p (relay_mentions j) → NoAttempt p (relay_tick s j n)
 unfolding relay_tick
-of_tick law s j n p quiet = of_due law s j n p quiet (due_by n (first_due (mentions j) n)) refl
+of_tick law s j n p quiet = of_due law s j n p quiet (due_by n (first_due (relay_mentions j) n)) refl
 
-of_entry : (law : OfPeers) (s : RelaySettings) (j : List Entry) (n : ℕ) (input : Input) (p : Ip6) → has_cone p ≡ true → AreQuiet p (mentions j) → NoAttempt p (relay_entry s j n input)
+of_entry : (law : OfPeers) (s : RelaySettings) (j : List Entry) (n : ℕ) (input : Input) (p : Ip6) → has_cone p ≡ true → AreQuiet p (relay_mentions j) → NoAttempt p (relay_entry s j n input)
 of_entry law s j n (arrived from x) p cone quiet = of_datagram s j n from x p
 of_entry law s j n (from_six x) p cone quiet = of_packet s j n x p cone
 of_entry law s j n ticked p cone quiet = of_tick law s j n p quiet
 of_entry law s j n (given x) p cone quiet = by_fate p (relay_entry s j n (given x)) refl
 
-all_quiet : (law : OfPeers) (s : RelaySettings) (j : List Entry) (p : Ip6) → IsJournal s j → has_cone p ≡ true → AreQuiet p (mentions j)
-unfolding mentions peer_at is_listed
+all_quiet : (law : OfPeers) (s : RelaySettings) (j : List Entry) (p : Ip6) → IsRelayJournal s j → has_cone p ≡ true → AreQuiet p (relay_mentions j)
+unfolding relay_mentions peer_at is_listed
 all_quiet law s [] p a cone = λ n. quiet_none
 all_quiet law s (e ∷ j) p a cone =
-    let before : AreQuiet p (mentions j) = all_quiet law s j p a.1 cone in
+    let before : AreQuiet p (relay_mentions j) = all_quiet law s j p a.1 cone in
     let none : NoAttempt p e = subst (λ (x : Entry). NoAttempt p x) (sym a.0.is) (of_entry law s j e.moment e.input p cone before) in
-    quiet_more law (mention e) (mentions j) p none before
+    quiet_more law (relay_mention e) (relay_mentions j) p none before
 
 pub cone_is_quiet : OfPeers → ConeIsQuiet
 cone_is_quiet law s j n p a cone = all_quiet law s j p a cone n

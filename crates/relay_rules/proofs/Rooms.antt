@@ -17,12 +17,12 @@ use Rattle.peer_list.specs.Waiting.{Listing}
 use Rattle.peer_list.specs.Laws.{FirstWaits}
 use Rattle.peer_list.specs.Few.{FindsRoom, HaveRoom, FewListed}
 use Rattle.peer_list.proofs.Rooms.{not_known, listed_has_room, room_by, room_of_none}
-use Rattle.relay_rules.specs.Bearings.{bearing_of, mention, mentions}
-use Rattle.relay_rules.specs.Standing.{RelaySettings, Standing, standing_at, standing_of}
-use Rattle.relay_rules.specs.Reception.{Seen, seen, reception_row}
-use Rattle.relay_rules.specs.Transmission.{Given, given, packet_lines, transmission_row}
-use Rattle.relay_rules.specs.Journals.{relay_in, relay_six, relay_tick, relay_entry, first_peer, ticks, IsJournal}
-use Rattle.relay_rules.specs.Laws.{JournalHasFew}
+use Rattle.relay_rules.specs.Bearings.{relay_bearing_of, relay_mention, relay_mentions}
+use Rattle.relay_rules.specs.Standing.{RelaySettings, RelayStanding, relay_standing_at, relay_standing_of}
+use Rattle.relay_rules.specs.Reception.{RelaySeen, relay_seen, relay_reception_row}
+use Rattle.relay_rules.specs.Transmission.{RelayGiven, relay_given, relay_packet_lines, relay_transmission_row}
+use Rattle.relay_rules.specs.Journals.{relay_in, relay_six, relay_tick, relay_entry, relay_first_peer, relay_ticks, IsRelayJournal}
+use Rattle.relay_rules.specs.Laws.{RelayJournalHasFew}
 use Rattle.relay_rules.proofs.Fates.{fate_of_reception, fate_of_transmission}
 use Rattle.relay_rules.proofs.Tried.{journal_is_tried}
 
@@ -30,101 +30,101 @@ use Rattle.relay_rules.proofs.Tried.{journal_is_tried}
 
 -- it touches nobody
 abbrev IsIdle : Fate → Type 0
-IsIdle f = (e : Entry) → (bearing_of f e).touches ≡ false
+IsIdle f = (e : Entry) → (relay_bearing_of f e).touches ≡ false
 
 -- DATAGRAMS
 
-abbrev unlisted : Seen → Seen
+abbrev unlisted : RelaySeen → RelaySeen
 unlisted z = record z { listed = false }
 
-row_idle : (z : Seen) → IsIdle (reception_row (unlisted z))
+row_idle : (z : RelaySeen) → IsIdle (relay_reception_row (unlisted z))
 row_idle z =
     first_where IsIdle ((not z.payload, fate.Malformed) ∷ (z.keyed, fate.Keyed) ∷ (z.big, fate.Big) ∷ (not z.teredo, fate.Source) ∷ (not z.embedded_here, fate.Mismatch) ∷ []) fate.Unlisted
     ((λ h e. refl), ((λ h e. refl), ((λ h e. refl), ((λ h e. refl), ((λ h e. refl), tt))))) (λ e. refl)
 
-received_idle : (s : RelaySettings) (a : Standing) (from : Ep) (x : List ℕ) → a.peer ≡ None → IsIdle (reception_row (seen s a from x))
-unfolding seen
+received_idle : (s : RelaySettings) (a : RelayStanding) (from : Ep) (x : List ℕ) → a.peer ≡ None → IsIdle (relay_reception_row (relay_seen s a from x))
+unfolding relay_seen
 received_idle s a from x none =
-    let z : Seen = seen s a from x in
+    let z : RelaySeen = relay_seen s a from x in
     let out : z.listed ≡ false = ap is_some none in
     let is : z ≡ unlisted z = λ i. record z { listed = out i } in
-    subst (λ (y : Seen). IsIdle (reception_row y)) (sym is) (row_idle z)
+    subst (λ (y : RelaySeen). IsIdle (relay_reception_row y)) (sym is) (row_idle z)
 
 -- PACKETS OF THE IPV6 SIDE
 
-abbrev crowded : Given → Given
+abbrev crowded : RelayGiven → RelayGiven
 crowded z = record z { trusted = false; room = false }
 
-out_idle : (z : Given) → IsIdle (transmission_row (crowded z))
+out_idle : (z : RelayGiven) → IsIdle (relay_transmission_row (crowded z))
 out_idle z =
-    let y : Given = crowded z in
-    first_where IsIdle (packet_lines y ++ (y.trusted, fate.Sent) ∷ []) fate.PeersFull
+    let y : RelayGiven = crowded z in
+    first_where IsIdle (relay_packet_lines y ++ (y.trusted, fate.Sent) ∷ []) fate.PeersFull
     ((λ h e. refl), ((λ h e. refl), ((λ h e. refl), ((λ h e. refl), ((λ h e. refl), ((λ h e. refl), ((λ h. absurd (false≢true h)), tt))))))) (λ e. refl)
 
-sent_idle : (s : RelaySettings) (a : Standing) (x : List ℕ) → a.room ≡ false → a.peer ≡ None → IsIdle (transmission_row (given s a x))
-unfolding given
+sent_idle : (s : RelaySettings) (a : RelayStanding) (x : List ℕ) → a.room ≡ false → a.peer ≡ None → IsIdle (relay_transmission_row (relay_given s a x))
+unfolding relay_given
 sent_idle s a x room none =
-    let z : Given = given s a x in
+    let z : RelayGiven = relay_given s a x in
     let trusted : z.trusted ≡ false = ap (λ (o : Option Peer). is_some (unwrap_or o no_peer).trusted) none in
     let is : z ≡ crowded z = λ i. record z { trusted = trusted i; room = room i } in
-    subst (λ (y : Given). IsIdle (transmission_row y)) (sym is) (out_idle z)
+    subst (λ (y : RelayGiven). IsIdle (relay_transmission_row y)) (sym is) (out_idle z)
 
 -- AN ENTRY
 
-of_datagram : (s : RelaySettings) (j : List Entry) (n : ℕ) (from : Ep) (x : List ℕ) → FindsRoom (mention (relay_in s j n from x)) (mentions j)
-unfolding relay_in standing_at
+of_datagram : (s : RelaySettings) (j : List Entry) (n : ℕ) (from : Ep) (x : List ℕ) → FindsRoom (relay_mention (relay_in s j n from x)) (relay_mentions j)
+unfolding relay_in relay_standing_at
 of_datagram s j n from x =
     let e : Entry = relay_in s j n from x in
-    room_by (mention e) (mentions j) (λ p about none.
-    let a : Standing = standing_of j n (source_in x) in
-    let out : a.peer ≡ None = ap (λ (o : Option Ip6). (standing_of j n o).peer) about ∙ not_known (mentions j) n p none in
-    ap (λ (f : Fate). (bearing_of f e).touches) (fate_of_reception s a from x) ∙ received_idle s a from x out e)
+    room_by (relay_mention e) (relay_mentions j) (λ p about none.
+    let a : RelayStanding = relay_standing_of j n (source_in x) in
+    let out : a.peer ≡ None = ap (λ (o : Option Ip6). (relay_standing_of j n o).peer) about ∙ not_known (relay_mentions j) n p none in
+    ap (λ (f : Fate). (relay_bearing_of f e).touches) (fate_of_reception s a from x) ∙ received_idle s a from x out e)
 
-of_packet : (s : RelaySettings) (j : List Entry) (n : ℕ) (x : List ℕ) → FindsRoom (mention (relay_six s j n x)) (mentions j)
-unfolding relay_six standing_at
+of_packet : (s : RelaySettings) (j : List Entry) (n : ℕ) (x : List ℕ) → FindsRoom (relay_mention (relay_six s j n x)) (relay_mentions j)
+unfolding relay_six relay_standing_at
 of_packet s j n x =
     let e : Entry = relay_six s j n x in
-    room_by (mention e) (mentions j) (λ p about none.
-    let a : Standing = standing_of j n (destination_in x) in
-    let room : a.room ≡ false = ap (λ (o : Option Ip6). (standing_of j n o).room) about ∙ none in
-    let out : a.peer ≡ None = ap (λ (o : Option Ip6). (standing_of j n o).peer) about ∙ not_known (mentions j) n p none in
-    ap (λ (f : Fate). (bearing_of f e).touches) (fate_of_transmission s a x) ∙ sent_idle s a x room out e)
+    room_by (relay_mention e) (relay_mentions j) (λ p about none.
+    let a : RelayStanding = relay_standing_of j n (destination_in x) in
+    let room : a.room ≡ false = ap (λ (o : Option Ip6). (relay_standing_of j n o).room) about ∙ none in
+    let out : a.peer ≡ None = ap (λ (o : Option Ip6). (relay_standing_of j n o).peer) about ∙ not_known (relay_mentions j) n p none in
+    ap (λ (f : Fate). (relay_bearing_of f e).touches) (fate_of_transmission s a x) ∙ sent_idle s a x room out e)
 
 -- a listed peer is tried
-of_tick : FirstWaits → (s : RelaySettings) (j : List Entry) (n : ℕ) → FindsRoom (mention (relay_tick s j n)) (mentions j)
+of_tick : FirstWaits → (s : RelaySettings) (j : List Entry) (n : ℕ) → FindsRoom (relay_mention (relay_tick s j n)) (relay_mentions j)
 unfolding relay_tick
-of_tick first s j n = by_peer (first_peer j n) refl where
+of_tick first s j n = by_peer (relay_first_peer j n) refl where
   finds : Option Listing → Type 0
-  finds due = FindsRoom (mention (ticks s n due)) (mentions j)
+  finds due = FindsRoom (relay_mention (relay_ticks s n due)) (relay_mentions j)
 
-  by_time : (b : Bool) (l : Listing) → first_peer j n ≡ Some l → finds (cond b (Some l) None)
+  by_time : (b : Bool) (l : Listing) → relay_first_peer j n ≡ Some l → finds (cond b (Some l) None)
   by_time true l is =
-      room_by (mention (ticks s n (Some l))) (mentions j) (λ p about none.
+      room_by (relay_mention (relay_ticks s n (Some l))) (relay_mentions j) (λ p about none.
       let same : l.who ≡ p = ap (λ (o : Option Ip6). unwrap_or o l.who) about in
-      let room : has_room (mentions j) n l.who ≡ true = listed_has_room (mentions j) n l.who (first (mentions j) n l is).listed in
-      absurd (false≢true (sym none ∙ ap (has_room (mentions j) n) (sym same) ∙ room)))
-  by_time false l is = room_of_none (mention (ticks s n None)) (mentions j) refl
+      let room : has_room (relay_mentions j) n l.who ≡ true = listed_has_room (relay_mentions j) n l.who (first (relay_mentions j) n l is).listed in
+      absurd (false≢true (sym none ∙ ap (has_room (relay_mentions j) n) (sym same) ∙ room)))
+  by_time false l is = room_of_none (relay_mention (relay_ticks s n None)) (relay_mentions j) refl
 
-  by_peer : (o : Option Listing) → first_peer j n ≡ o → finds (due_by n o)
-  by_peer None is = room_of_none (mention (ticks s n None)) (mentions j) refl
+  by_peer : (o : Option Listing) → relay_first_peer j n ≡ o → finds (due_by n o)
+  by_peer None is = room_of_none (relay_mention (relay_ticks s n None)) (relay_mentions j) refl
   by_peer (Some l) is = by_time (nat_le (due_of l.peer) n) l is
 
-of_entry : FirstWaits → (s : RelaySettings) (j : List Entry) (n : ℕ) (input : Input) → FindsRoom (mention (relay_entry s j n input)) (mentions j)
+of_entry : FirstWaits → (s : RelaySettings) (j : List Entry) (n : ℕ) (input : Input) → FindsRoom (relay_mention (relay_entry s j n input)) (relay_mentions j)
 of_entry first s j n (arrived from x) = of_datagram s j n from x
 of_entry first s j n (from_six x) = of_packet s j n x
 of_entry first s j n ticked = of_tick first s j n
-of_entry first s j n (handed x) = room_of_none (mention (relay_entry s j n (handed x))) (mentions j) refl
+of_entry first s j n (handed x) = room_of_none (relay_mention (relay_entry s j n (handed x))) (relay_mentions j) refl
 
 -- JOURNALS
 
-have_room : FirstWaits → (s : RelaySettings) (j : List Entry) → IsJournal s j → HaveRoom (mentions j)
-unfolding mentions
+have_room : FirstWaits → (s : RelaySettings) (j : List Entry) → IsRelayJournal s j → HaveRoom (relay_mentions j)
+unfolding relay_mentions
 have_room first s [] a = tt
 have_room first s (e ∷ j) a =
-    let one : FindsRoom (mention e) (mentions j) = subst (λ (x : Entry). FindsRoom (mention x) (mentions j)) (sym a.0.is) (of_entry first s j e.moment e.input) in
+    let one : FindsRoom (relay_mention e) (relay_mentions j) = subst (λ (x : Entry). FindsRoom (relay_mention x) (relay_mentions j)) (sym a.0.is) (of_entry first s j e.moment e.input) in
     (one, have_room first s j a.1)
 
-pub journal_has_few : FirstWaits → FewListed → JournalHasFew
+pub journal_has_few : FirstWaits → FewListed → RelayJournalHasFew
 journal_has_few first few s j n a l =
     let tried = journal_is_tried s j n a l in
-    few (mentions j) n tried.order tried.past (have_room first s j a)
+    few (relay_mentions j) n tried.order tried.past (have_room first s j a)

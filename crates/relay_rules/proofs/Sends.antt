@@ -17,38 +17,38 @@ use Rattle.teredo_node.specs.Journal.{Input, arrived, given, from_six, ticked, E
 use Rattle.peer_list.specs.Overdue.{due_by}
 use Rattle.peer_list.specs.Judged.{is_spent, is_barred}
 use Rattle.peer_list.specs.Waiting.{Listing}
-use Rattle.relay_rules.specs.Standing.{RelaySettings, Standing, known_in, standing_at, standing_of}
-use Rattle.relay_rules.specs.Reception.{seen, released, reception_row, reception_step, reception}
-use Rattle.relay_rules.specs.Transmission.{given as given_to, queues, transmission_row, transmission_step, transmission}
-use Rattle.relay_rules.specs.Ticks.{peer_of_due, tries_peer, tick}
-use Rattle.relay_rules.specs.Journals.{relay_in, relay_six, relay_tick, first_peer, relay_entry, IsJournal}
-use Rattle.relay_rules.specs.Warrants.{IsOfPeer, ReceivedOnlyIf, GoesOut, SentOnlyIf}
+use Rattle.relay_rules.specs.Standing.{RelaySettings, RelayStanding, relay_known_in, relay_standing_at, relay_standing_of}
+use Rattle.relay_rules.specs.Reception.{relay_seen, released, relay_reception_row, relay_reception_step, relay_reception}
+use Rattle.relay_rules.specs.Transmission.{relay_given, relay_queues, relay_transmission_row, relay_transmission_step, relay_transmission}
+use Rattle.relay_rules.specs.Ticks.{relay_peer_of_due, relay_tries_peer, relay_tick_step}
+use Rattle.relay_rules.specs.Journals.{relay_in, relay_six, relay_tick, relay_first_peer, relay_entry, IsRelayJournal}
+use Rattle.relay_rules.specs.Warrants.{IsOfPeer, RelayReceivedOnlyIf, RelayGoesOut, RelaySentOnlyIf}
 use Rattle.relay_rules.specs.Laws.{IsForeignTo, WaitingIsForeign}
-use Rattle.relay_rules.specs.Sendings.{IsSending, bubbles, carries, EachSend}
+use Rattle.relay_rules.specs.Sendings.{IsRelaySending, bubbles, carries, EachRelaySend}
 use Rattle.relay_rules.proofs.Warranted.{reception_is_warranted, transmission_is_warranted}
 use Rattle.relay_rules.proofs.Held.{foreign_to}
 
 -- EACH FATE
 
 -- what holds of all that a datagram's fate may send
-record OfReception (P : Send → Type 0) (a : Standing) (v : Value) (f : Fate) : Type 0 where
+record OfReception (P : Send → Type 0) (a : RelayStanding) (v : Value) (f : Fate) : Type 0 where
   bubble : f ≡ fate.FromClientBubble → AllByRecursion P (released a v)
   client : f ≡ fate.FromClient → AllByRecursion P (released a v)
   unserved : f ≡ fate.Unserved → AllByRecursion P (released a v)
 
-by_reception : (P : Send → Type 0) (a : Standing) (x : List ℕ) (v : Value) (f : Fate) → OfReception P a v f → AllByRecursion P (reception_step a x v f).sends
+by_reception : (P : Send → Type 0) (a : RelayStanding) (x : List ℕ) (v : Value) (f : Fate) → OfReception P a v f → AllByRecursion P (relay_reception_step a x v f).sends
 by_reception P a x v fate.FromClientBubble h = h.bubble refl
 by_reception P a x v fate.FromClient h = h.client refl
 by_reception P a x v fate.Unserved h = h.unserved refl
 by_reception P a x v _ h = tt
 
 -- and a packet's
-record OfTransmission (P : Send → Type 0) (s : RelaySettings) (a : Standing) (x : List ℕ) (p : Ip6) (f : Fate) : Type 0 where
+record OfTransmission (P : Send → Type 0) (s : RelaySettings) (a : RelayStanding) (x : List ℕ) (p : Ip6) (f : Fate) : Type 0 where
   sent : f ≡ fate.Sent → AllByRecursion P (send (embedded p) x ∷ [])
   sent_cone : f ≡ fate.SentCone → AllByRecursion P (send (embedded p) x ∷ [])
-  queued : f ≡ fate.Queued → AllByRecursion P (queues (is_barred a.moment (known_in a)) s p).sends
+  queued : f ≡ fate.Queued → AllByRecursion P (relay_queues (is_barred a.moment (relay_known_in a)) s p).sends
 
-by_transmission : (P : Send → Type 0) (s : RelaySettings) (a : Standing) (x : List ℕ) (p : Ip6) (f : Fate) → OfTransmission P s a x p f → AllByRecursion P (transmission_step s a x p f).sends
+by_transmission : (P : Send → Type 0) (s : RelaySettings) (a : RelayStanding) (x : List ℕ) (p : Ip6) (f : Fate) → OfTransmission P s a x p f → AllByRecursion P (relay_transmission_step s a x p f).sends
 by_transmission P s a x p fate.Sent h = h.sent refl
 by_transmission P s a x p fate.SentCone h = h.sent_cone refl
 by_transmission P s a x p fate.Queued h = h.queued refl
@@ -56,32 +56,32 @@ by_transmission P s a x p _ h = tt
 
 -- DATAGRAMS
 
-carried : (s : RelaySettings) (peer : Option Ip6) (p : Ip6) (xs : List (List ℕ)) → peer ≡ Some p → AllByRecursion (IsForeignTo peer) xs → AllByRecursion (IsSending s peer) (releases (embedded p) xs)
+carried : (s : RelaySettings) (peer : Option Ip6) (p : Ip6) (xs : List (List ℕ)) → peer ≡ Some p → AllByRecursion (IsForeignTo peer) xs → AllByRecursion (IsRelaySending s peer) (releases (embedded p) xs)
 carried s peer p [] is a = tt
 carried s peer p (x ∷ xs) is a = (carries p x is a.0 refl, carried s peer p xs is a.1)
 
 -- what waits for this peer
-abbrev IsReady : Standing → Option Ip6 → Type 0
-IsReady a peer = AllByRecursion (IsForeignTo (Some (unwrap_or peer unspecified))) (known_in a).waiting
+abbrev IsReady : RelayStanding → Option Ip6 → Type 0
+IsReady a peer = AllByRecursion (IsForeignTo (Some (unwrap_or peer unspecified))) (relay_known_in a).waiting
 
-source_is : (s : RelaySettings) (a : Standing) (from : Ep) (x : List ℕ) → IsOfPeer (seen s a from x) → source_in x ≡ Some (value_in x).packet.src
-unfolding seen source_in
+source_is : (s : RelaySettings) (a : RelayStanding) (from : Ep) (x : List ℕ) → IsOfPeer (relay_seen s a from x) → source_in x ≡ Some (value_in x).packet.src
+unfolding relay_seen source_in
 source_is s a from x m = ap (λ (b : Bool). cond b (Some (value_in x).packet.src) None) m.payload
 
 given_back : (o : Option Ip6) (p : Ip6) → o ≡ Some p → Some (unwrap_or o unspecified) ≡ o
 given_back o p h = subst (λ k. Some (unwrap_or k unspecified) ≡ k) (sym h) refl
 
-all_released : (s : RelaySettings) (a : Standing) (from : Ep) (x : List ℕ) → IsReady a (source_in x) → IsOfPeer (seen s a from x) → AllByRecursion (IsSending s (source_in x)) (released a (value_in x))
+all_released : (s : RelaySettings) (a : RelayStanding) (from : Ep) (x : List ℕ) → IsReady a (source_in x) → IsOfPeer (relay_seen s a from x) → AllByRecursion (IsRelaySending s (source_in x)) (released a (value_in x))
 all_released s a from x r m =
     let is = source_is s a from x m in
-    carried s (source_in x) (value_in x).packet.src (known_in a).waiting is (subst (λ to. AllByRecursion (IsForeignTo to) (known_in a).waiting) (given_back (source_in x) (value_in x).packet.src is) r)
+    carried s (source_in x) (value_in x).packet.src (relay_known_in a).waiting is (subst (λ to. AllByRecursion (IsForeignTo to) (relay_known_in a).waiting) (given_back (source_in x) (value_in x).packet.src is) r)
 
-of_datagram : (s : RelaySettings) (a : Standing) (from : Ep) (x : List ℕ) → IsReady a (source_in x) → AllByRecursion (IsSending s (source_in x)) (reception s a from x).sends
-unfolding reception
+of_datagram : (s : RelaySettings) (a : RelayStanding) (from : Ep) (x : List ℕ) → IsReady a (source_in x) → AllByRecursion (IsRelaySending s (source_in x)) (relay_reception s a from x).sends
+unfolding relay_reception
 of_datagram s a from x r =
-    let f = reception_row (seen s a from x) in
-    let told : (g : Fate) → f ≡ g → ReceivedOnlyIf g (seen s a from x) = λ g k. subst (λ i. ReceivedOnlyIf i (seen s a from x)) k (reception_is_warranted s a from x) in
-    by_reception (IsSending s (source_in x)) a x (value_in x) f (record {
+    let f = relay_reception_row (relay_seen s a from x) in
+    let told : (g : Fate) → f ≡ g → RelayReceivedOnlyIf g (relay_seen s a from x) = λ g k. subst (λ i. RelayReceivedOnlyIf i (relay_seen s a from x)) k (reception_is_warranted s a from x) in
+    by_reception (IsRelaySending s (source_in x)) a x (value_in x) f (record {
       bubble = λ k. all_released s a from x r (told fate.FromClientBubble k).peer;
       client = λ k. all_released s a from x r (told fate.FromClient k).peer;
       unserved = λ k. all_released s a from x r (told fate.Unserved k).peer;
@@ -89,50 +89,50 @@ of_datagram s a from x r =
 
 -- PACKETS OF THE IPV6 SIDE
 
-queued_try : (b : Bool) (s : RelaySettings) (p : Ip6) → AllByRecursion (IsSending s (Some p)) (queues b s p).sends
+queued_try : (b : Bool) (s : RelaySettings) (p : Ip6) → AllByRecursion (IsRelaySending s (Some p)) (relay_queues b s p).sends
 queued_try true s p = tt
 queued_try false s p = (bubbles p refl refl, tt)
 
-sent_there : (s : RelaySettings) (a : Standing) (x : List ℕ) → GoesOut (given_to s a x) → AllByRecursion (IsSending s (destination_in x)) (send (embedded (fields_in x).dst) x ∷ [])
+sent_there : (s : RelaySettings) (a : RelayStanding) (x : List ℕ) → RelayGoesOut (relay_given s a x) → AllByRecursion (IsRelaySending s (destination_in x)) (send (embedded (fields_in x).dst) x ∷ [])
 sent_there s a x out = let own = foreign_to s a x out in (carries (fields_in x).dst x own.destination own refl, tt)
 
-of_packet : (s : RelaySettings) (a : Standing) (x : List ℕ) → AllByRecursion (IsSending s (destination_in x)) (transmission s a x).sends
-unfolding transmission
+of_packet : (s : RelaySettings) (a : RelayStanding) (x : List ℕ) → AllByRecursion (IsRelaySending s (destination_in x)) (relay_transmission s a x).sends
+unfolding relay_transmission
 of_packet s a x =
-    let f = transmission_row (given_to s a x) in
-    let told : (g : Fate) → f ≡ g → SentOnlyIf g (given_to s a x) = λ g k. subst (λ i. SentOnlyIf i (given_to s a x)) k (transmission_is_warranted s a x) in
-    by_transmission (IsSending s (destination_in x)) s a x (fields_in x).dst f (record {
+    let f = relay_transmission_row (relay_given s a x) in
+    let told : (g : Fate) → f ≡ g → RelaySentOnlyIf g (relay_given s a x) = λ g k. subst (λ i. RelaySentOnlyIf i (relay_given s a x)) k (transmission_is_warranted s a x) in
+    by_transmission (IsRelaySending s (destination_in x)) s a x (fields_in x).dst f (record {
       sent = λ k. sent_there s a x (told fate.Sent k).out;
       sent_cone = λ k. sent_there s a x (told fate.SentCone k).out;
       queued = λ k.
           let own = foreign_to s a x (told fate.Queued k).out in
-          subst (λ peer. AllByRecursion (IsSending s peer) (queues (is_barred a.moment (known_in a)) s (fields_in x).dst).sends) (sym own.destination)
-          (queued_try (is_barred a.moment (known_in a)) s (fields_in x).dst);
+          subst (λ peer. AllByRecursion (IsRelaySending s peer) (relay_queues (is_barred a.moment (relay_known_in a)) s (fields_in x).dst).sends) (sym own.destination)
+          (queued_try (is_barred a.moment (relay_known_in a)) s (fields_in x).dst);
     })
 
 -- TICKS
 
-tried_peer : (spent : Bool) (s : RelaySettings) (l : Listing) → AllByRecursion (IsSending s (Some l.who)) (tries_peer spent s l).sends
+tried_peer : (spent : Bool) (s : RelaySettings) (l : Listing) → AllByRecursion (IsRelaySending s (Some l.who)) (relay_tries_peer spent s l).sends
 tried_peer true s l = tt
 tried_peer false s l = (bubbles l.who refl refl, tt)
 
-of_due : (s : RelaySettings) (n : ℕ) (due : Option Listing) → AllByRecursion (IsSending s (peer_of_due due)) (tick s n due).sends
+of_due : (s : RelaySettings) (n : ℕ) (due : Option Listing) → AllByRecursion (IsRelaySending s (relay_peer_of_due due)) (relay_tick_step s n due).sends
 of_due s n None = tt
 of_due s n (Some l) = tried_peer (is_spent n l.peer) s l
 
 -- ANY ENTRY
 
-ready : WaitingIsForeign → (s : RelaySettings) (j : List Entry) (n : ℕ) (peer : Option Ip6) → IsJournal s j → IsReady (standing_of j n peer) peer
-unfolding standing_at
+ready : WaitingIsForeign → (s : RelaySettings) (j : List Entry) (n : ℕ) (peer : Option Ip6) → IsRelayJournal s j → IsReady (relay_standing_of j n peer) peer
+unfolding relay_standing_at
 ready wait s j n peer a = wait s j n (unwrap_or peer unspecified) a
 
-of_entry : WaitingIsForeign → (s : RelaySettings) (j : List Entry) (n : ℕ) (input : Input) → IsJournal s j → AllByRecursion (IsSending s (relay_entry s j n input).peer) (relay_entry s j n input).step.sends
+of_entry : WaitingIsForeign → (s : RelaySettings) (j : List Entry) (n : ℕ) (input : Input) → IsRelayJournal s j → AllByRecursion (IsRelaySending s (relay_entry s j n input).peer) (relay_entry s j n input).step.sends
 unfolding relay_in relay_six relay_tick
-of_entry wait s j n (arrived from x) a = of_datagram s (standing_of j n (source_in x)) from x (ready wait s j n (source_in x) a)
-of_entry wait s j n (from_six x) a = of_packet s (standing_of j n (destination_in x)) x
-of_entry wait s j n ticked a = of_due s n (due_by n (first_peer j n))
+of_entry wait s j n (arrived from x) a = of_datagram s (relay_standing_of j n (source_in x)) from x (ready wait s j n (source_in x) a)
+of_entry wait s j n (from_six x) a = of_packet s (relay_standing_of j n (destination_in x)) x
+of_entry wait s j n ticked a = of_due s n (due_by n (relay_first_peer j n))
 of_entry wait s j n (given x) a = tt
 
-pub each_send : WaitingIsForeign → EachSend
+pub each_send : WaitingIsForeign → EachRelaySend
 each_send wait s j e a =
-    subst (λ (x : Entry). AllByRecursion (IsSending s x.peer) x.step.sends) (sym a.0.is) (of_entry wait s j e.moment e.input a.1)
+    subst (λ (x : Entry). AllByRecursion (IsRelaySending s x.peer) x.step.sends) (sym a.0.is) (of_entry wait s j e.moment e.input a.1)

@@ -3,13 +3,13 @@ use Rattle.std.proofs.Common.{◌≡◌, ℕ, Bool, true, false, Option, Some, N
 use Rattle.peer_list.specs.Judged.{is_spent}
 use Rattle.peer_list.specs.Waiting.{Listing}
 use Rattle.relay_rules.specs.Standing.{RelaySettings}
-use Rattle.relay_rules.specs.Ticks.{tries_peer, tick}
-use Rattle.relay_rules.specs.TickWarrants.{IsPeersTurn, TickedOnlyIf, TickIsWarranted}
+use Rattle.relay_rules.specs.Ticks.{relay_tries_peer, relay_tick_step}
+use Rattle.relay_rules.specs.TickWarrants.{IsRelayPeersTurn, RelayTickedOnlyIf, RelayTickIsWarranted}
 
-by_tries : (s : RelaySettings) (n : ℕ) (l : Listing) (b : Bool) → is_spent n l.peer ≡ b → TickedOnlyIf (tries_peer b s l).fate n (Some l)
+by_tries : (s : RelaySettings) (n : ℕ) (l : Listing) (b : Bool) → is_spent n l.peer ≡ b → RelayTickedOnlyIf (relay_tries_peer b s l).fate n (Some l)
 by_tries s n l true spent = record { listing = l; is_due = refl; spent_is = spent }
 by_tries s n l false spent = record { listing = l; is_due = refl; spent_is = spent }
 
-pub tick_is_warranted : TickIsWarranted
+pub tick_is_warranted : RelayTickIsWarranted
 tick_is_warranted s n None = tt
 tick_is_warranted s n (Some l) = by_tries s n l (is_spent n l.peer) refl

@@ -3,14 +3,14 @@ use Rattle.std.proofs.Common.{◌++◌}
 use Rattle.std.proofs.lemmas.Bool.{not-false}
 use Rattle.teredo_node.specs.declared.fate.Fate.{Fate}
 use Rattle.teredo_node.specs.declared.fate.Fate.TheVariants as fate
-use Rattle.relay_rules.specs.Reception.{Seen, seen, reception_lines, reception_row}
-use Rattle.relay_rules.specs.Transmission.{Given, given, packet_lines, destination_lines, transmission_row}
-use Rattle.relay_rules.specs.Warrants.{IsOfPeer, GoesOut, ReceivedOnlyIf, SentOnlyIf}
-use Rattle.relay_rules.specs.Laws.{ReceptionIsWarranted, TransmissionIsWarranted}
+use Rattle.relay_rules.specs.Reception.{RelaySeen, relay_seen, reception_lines, relay_reception_row}
+use Rattle.relay_rules.specs.Transmission.{RelayGiven, relay_given, relay_packet_lines, relay_destination_lines, relay_transmission_row}
+use Rattle.relay_rules.specs.Warrants.{IsOfPeer, RelayGoesOut, RelayReceivedOnlyIf, RelaySentOnlyIf}
+use Rattle.relay_rules.specs.Laws.{RelayReceptionIsWarranted, RelayTransmissionIsWarranted}
 use Rattle.teredo_node.proofs.FirstLines.{by_lines}
 
-received : (a : Seen) → ReceivedOnlyIf (reception_row a) a
-received a = by_lines (λ (f : Fate). ReceivedOnlyIf f a) (reception_lines a) fate.Unserved (
+received : (a : RelaySeen) → RelayReceivedOnlyIf (relay_reception_row a) a
+received a = by_lines (λ (f : Fate). RelayReceivedOnlyIf f a) (reception_lines a) fate.Unserved (
   (λ _. tt),
   (λ payload. (
     (λ _. tt),
@@ -45,11 +45,11 @@ received a = by_lines (λ (f : Fate). ReceivedOnlyIf f a) (reception_lines a) fa
   )),
 )
 
-pub reception_is_warranted : ReceptionIsWarranted
-reception_is_warranted s a from x = received (seen s a from x)
+pub reception_is_warranted : RelayReceptionIsWarranted
+reception_is_warranted s a from x = received (relay_seen s a from x)
 
-sent : (a : Given) → SentOnlyIf (transmission_row a) a
-sent a = by_lines (λ (f : Fate). SentOnlyIf f a) (packet_lines a ++ destination_lines a) fate.Queued (
+sent : (a : RelayGiven) → RelaySentOnlyIf (relay_transmission_row a) a
+sent a = by_lines (λ (f : Fate). RelaySentOnlyIf f a) (relay_packet_lines a ++ relay_destination_lines a) fate.Queued (
   (λ _. tt),
   (λ packet. (
     (λ _. tt),
@@ -62,7 +62,7 @@ sent a = by_lines (λ (f : Fate). SentOnlyIf f a) (packet_lines a ++ destination
           (λ reachable. (
             (λ _. tt),
             (λ unlooped.
-                let out : GoesOut a = record {
+                let out : RelayGoesOut a = record {
                   packet = not-false a.packet packet;
                   short = short;
                   teredo = not-false a.teredo teredo;
@@ -93,5 +93,5 @@ sent a = by_lines (λ (f : Fate). SentOnlyIf f a) (packet_lines a ++ destination
   )),
 )
 
-pub transmission_is_warranted : TransmissionIsWarranted
-transmission_is_warranted s a x = sent (given s a x)
+pub transmission_is_warranted : RelayTransmissionIsWarranted
+transmission_is_warranted s a x = sent (relay_given s a x)

@@ -11,7 +11,7 @@ use Rattle.bubble.specs.Reads.{value_in}
 use Rattle.teredo_node.specs.Step.{Send}
 use Rattle.teredo_node.specs.Journal.{Entry}
 use Rattle.relay_rules.specs.Standing.{RelaySettings}
-use Rattle.relay_rules.specs.Journals.{IsJournal}
+use Rattle.relay_rules.specs.Journals.{IsRelayJournal}
 use Rattle.teredo_node.specs.MadeInputs.{IsMadeInput, AreMadeInputs}
 
 pub record IsMadeRelay (s : RelaySettings) : Type 0 where
@@ -25,5 +25,5 @@ pub record IsForeignSend (send : Send) : Type 0 where
   pub foreign : is_teredo (value_in send.bytes).packet.src ≡ false
 
 abbrev pub EachSendIsForeign : Type 0
-EachSendIsForeign = (s : RelaySettings) (j : List Entry) (e : Entry) → IsJournal s (e ∷ j) → IsMadeRelay s
+EachSendIsForeign = (s : RelaySettings) (j : List Entry) (e : Entry) → IsRelayJournal s (e ∷ j) → IsMadeRelay s
     → IsMadeInput e.input → AreMadeInputs j → AllByRecursion IsForeignSend e.step.sends

@@ -11,38 +11,41 @@ use Rattle.peer_list.specs.declared.limits.TheConstants.{PEERS_MAX}
 use Rattle.peer_list.specs.Listed.{listed}
 use Rattle.peer_list.specs.Peers.{Peer, known}
 use Rattle.peer_list.specs.Laws.{IsTried}
-use Rattle.relay_rules.specs.Bearings.{mention, mentions}
-use Rattle.relay_rules.specs.Standing.{RelaySettings, Standing}
-use Rattle.relay_rules.specs.Reception.{reception_row, seen, reception}
-use Rattle.relay_rules.specs.Transmission.{transmission_row, given, transmission}
-use Rattle.relay_rules.specs.Warrants.{ReceivedOnlyIf, SentOnlyIf}
-use Rattle.relay_rules.specs.Journals.{last_moment, IsJournal}
+use Rattle.relay_rules.specs.Bearings.{relay_mention, relay_mentions}
+use Rattle.relay_rules.specs.Standing.{RelaySettings, RelayStanding}
+use Rattle.relay_rules.specs.Reception.{relay_reception_row, relay_seen, relay_reception}
+use Rattle.relay_rules.specs.Transmission.{relay_transmission_row, relay_given, relay_transmission}
+use Rattle.relay_rules.specs.Warrants.{RelayReceivedOnlyIf, RelaySentOnlyIf}
+use Rattle.relay_rules.specs.Journals.{relay_last_moment, IsRelayJournal}
 
 -- THE TABLES
 
 -- what is done has the fate of the line
-abbrev pub FateOfReception : Type 0
-FateOfReception = (s : RelaySettings) (a : Standing) (from : Ep) (x : List ℕ) → (reception s a from x).fate ≡ reception_row (seen s a from x)
+abbrev pub FateOfRelayReception : Type 0
+FateOfRelayReception = (s : RelaySettings) (a : RelayStanding) (from : Ep) (x : List ℕ)
+    → (relay_reception s a from x).fate ≡ relay_reception_row (relay_seen s a from x)
 
-abbrev pub FateOfTransmission : Type 0
-FateOfTransmission = (s : RelaySettings) (a : Standing) (x : List ℕ) → (transmission s a x).fate ≡ transmission_row (given s a x)
+abbrev pub FateOfRelayTransmission : Type 0
+FateOfRelayTransmission = (s : RelaySettings) (a : RelayStanding) (x : List ℕ) → (relay_transmission s a x).fate ≡ relay_transmission_row (relay_given s a x)
 
 -- what was seen of a datagram with a fate, and of a packet of the IPv6 side
-abbrev pub ReceptionIsWarranted : Type 0
-ReceptionIsWarranted = (s : RelaySettings) (a : Standing) (from : Ep) (x : List ℕ) → ReceivedOnlyIf (reception_row (seen s a from x)) (seen s a from x)
+abbrev pub RelayReceptionIsWarranted : Type 0
+RelayReceptionIsWarranted = (s : RelaySettings) (a : RelayStanding) (from : Ep) (x : List ℕ)
+    → RelayReceivedOnlyIf (relay_reception_row (relay_seen s a from x)) (relay_seen s a from x)
 
-abbrev pub TransmissionIsWarranted : Type 0
-TransmissionIsWarranted = (s : RelaySettings) (a : Standing) (x : List ℕ) → SentOnlyIf (transmission_row (given s a x)) (given s a x)
+abbrev pub RelayTransmissionIsWarranted : Type 0
+RelayTransmissionIsWarranted = (s : RelaySettings) (a : RelayStanding) (x : List ℕ)
+    → RelaySentOnlyIf (relay_transmission_row (relay_given s a x)) (relay_given s a x)
 
 -- JOURNALS
 
 -- each try touches its peer
-abbrev pub TriesTouch : Type 0
-TriesTouch = (e : Entry) → (mention e).bearing.tries ≡ true → (mention e).bearing.touches ≡ true
+abbrev pub RelayTriesTouch : Type 0
+RelayTriesTouch = (e : Entry) → (relay_mention e).bearing.tries ≡ true → (relay_mention e).bearing.touches ≡ true
 
 -- so in a journal spent and barred are what they are without regard to a stay
-abbrev pub JournalIsTried : Type 0
-JournalIsTried = (s : RelaySettings) (j : List Entry) (n : ℕ) → IsJournal s j → last_moment j ≤ n → IsTried (mentions j) n
+abbrev pub RelayJournalIsTried : Type 0
+RelayJournalIsTried = (s : RelaySettings) (j : List Entry) (n : ℕ) → IsRelayJournal s j → relay_last_moment j ≤ n → IsTried (relay_mentions j) n
 
 -- nothing was tried and nothing waits
 pub record IsQuiet (peer : Peer) : Type 0 where
@@ -51,11 +54,12 @@ pub record IsQuiet (peer : Peer) : Type 0 where
 
 -- an address with the cone bit has no tries and nothing waiting: packets to it go out at once
 abbrev pub ConeIsQuiet : Type 0
-ConeIsQuiet = (s : RelaySettings) (j : List Entry) (n : ℕ) (p : Ip6) → IsJournal s j → has_cone p ≡ true → IsQuiet (known (mentions j) n p)
+ConeIsQuiet = (s : RelaySettings) (j : List Entry) (n : ℕ) (p : Ip6) → IsRelayJournal s j → has_cone p ≡ true → IsQuiet (known (relay_mentions j) n p)
 
 -- no more than 256 peers are ever listed
-abbrev pub JournalHasFew : Type 0
-JournalHasFew = (s : RelaySettings) (j : List Entry) (n : ℕ) → IsJournal s j → last_moment j ≤ n → length (listed (mentions j) n) ≤ PEERS_MAX
+abbrev pub RelayJournalHasFew : Type 0
+RelayJournalHasFew = (s : RelaySettings) (j : List Entry) (n : ℕ) → IsRelayJournal s j → relay_last_moment j ≤ n
+    → length (listed (relay_mentions j) n) ≤ PEERS_MAX
 
 -- x is a packet from outside Teredo to that address, and not too long
 pub record IsForeignTo (to : Option Ip6) (x : List ℕ) : Type 0 where
@@ -67,13 +71,13 @@ pub record IsForeignTo (to : Option Ip6) (x : List ℕ) : Type 0 where
 
 -- what waits for p is such a packet to p
 abbrev pub WaitingIsForeign : Type 0
-WaitingIsForeign = (s : RelaySettings) (j : List Entry) (n : ℕ) (p : Ip6) → IsJournal s j
-    → AllByRecursion (IsForeignTo (Some p)) (known (mentions j) n p).waiting
+WaitingIsForeign = (s : RelaySettings) (j : List Entry) (n : ℕ) (p : Ip6) → IsRelayJournal s j
+    → AllByRecursion (IsForeignTo (Some p)) (known (relay_mentions j) n p).waiting
 
 -- a client is trusted where its address says
-abbrev pub TrustedIsEmbedded : Type 0
-TrustedIsEmbedded = (j : List Entry) (n : ℕ) (p : Ip6) (at : Ep) → (known (mentions j) n p).trusted ≡ Some at → at ≡ embedded p
+abbrev pub RelayTrustedIsEmbedded : Type 0
+RelayTrustedIsEmbedded = (j : List Entry) (n : ℕ) (p : Ip6) (at : Ep) → (known (relay_mentions j) n p).trusted ≡ Some at → at ≡ embedded p
 
 -- a relay holds no packets
 abbrev pub HoldsNothing : Type 0
-HoldsNothing = (j : List Entry) (n : ℕ) (p : Ip6) → (known (mentions j) n p).held ≡ []
+HoldsNothing = (j : List Entry) (n : ℕ) (p : Ip6) → (known (relay_mentions j) n p).held ≡ []

@@ -15,10 +15,10 @@ use Rattle.teredo_node.specs.declared.fate.Fate.TheVariants as fate
 use Rattle.teredo_node.specs.Step.{Send, Step, just, rest_of}
 use Rattle.teredo_node.specs.Sends.{releases, sending}
 use Rattle.teredo_node.specs.Rows.{first_line}
-use Rattle.relay_rules.specs.Standing.{RelaySettings, Standing, known_in}
+use Rattle.relay_rules.specs.Standing.{RelaySettings, RelayStanding, relay_known_in}
 
 -- what the lines ask, in their order
-pub record Seen : Type 0 where
+pub record RelaySeen : Type 0 where
   pub payload : Bool
   pub keyed : Bool
   pub big : Bool
@@ -29,8 +29,8 @@ pub record Seen : Type 0 where
   pub served : Bool
 
 -- what is seen of a payload from `from`
-abbrev pub seen_of : RelaySettings → Standing → Ep → Bool → Value → Seen
-seen_of s a from payload v = record {
+abbrev pub relay_seen_of : RelaySettings → RelayStanding → Ep → Bool → Value → RelaySeen
+relay_seen_of s a from payload v = record {
   payload = payload;
   keyed = is_keyed v.lead;
   big = is_big v.packet;
@@ -41,10 +41,10 @@ seen_of s a from payload v = record {
   served = list_any (same_ip6 v.packet.dst) s.served;
 }
 
-unfoldable pub seen : RelaySettings → Standing → Ep → List ℕ → Seen
-seen s a from x = seen_of s a from (is_payload x) (value_in x)
+unfoldable pub relay_seen : RelaySettings → RelayStanding → Ep → List ℕ → RelaySeen
+relay_seen s a from x = relay_seen_of s a from (is_payload x) (value_in x)
 
-abbrev pub reception_lines : Seen → List (Bool × Fate)
+abbrev pub reception_lines : RelaySeen → List (Bool × Fate)
 reception_lines a =
     (not a.payload, fate.Malformed)
     ∷ (a.keyed, fate.Keyed)
@@ -56,19 +56,19 @@ reception_lines a =
     ∷ (a.served, fate.FromClient)
     ∷ []
 
-abbrev pub reception_row : Seen → Fate
-reception_row a = first_line (reception_lines a) fate.Unserved
+abbrev pub relay_reception_row : RelaySeen → Fate
+relay_reception_row a = first_line (reception_lines a) fate.Unserved
 
 -- the packets that wait for the peer, in order, to its embedded endpoint
-abbrev pub released : Standing → Value → List Send
-released a v = releases (embedded v.packet.src) (known_in a).waiting
+abbrev pub released : RelayStanding → Value → List Send
+released a v = releases (embedded v.packet.src) (relay_known_in a).waiting
 
-abbrev pub reception_step : Standing → List ℕ → Value → Fate → Step
-reception_step a x v fate.FromClientBubble = sending fate.FromClientBubble (released a v)
-reception_step a x v fate.FromClient = record (sending fate.FromClient (released a v)) { six = Some (rest_of v.lead.at x) }
-reception_step a x v fate.Unserved = sending fate.Unserved (released a v)
-reception_step a x v fate = just fate
+abbrev pub relay_reception_step : RelayStanding → List ℕ → Value → Fate → Step
+relay_reception_step a x v fate.FromClientBubble = sending fate.FromClientBubble (released a v)
+relay_reception_step a x v fate.FromClient = record (sending fate.FromClient (released a v)) { six = Some (rest_of v.lead.at x) }
+relay_reception_step a x v fate.Unserved = sending fate.Unserved (released a v)
+relay_reception_step a x v fate = just fate
 
 -- what a relay does with a datagram x from `from`, standing so to the packet's source
-unfoldable pub reception : RelaySettings → Standing → Ep → List ℕ → Step
-reception s a from x = reception_step a x (value_in x) (reception_row (seen s a from x))
+unfoldable pub relay_reception : RelaySettings → RelayStanding → Ep → List ℕ → Step
+relay_reception s a from x = relay_reception_step a x (value_in x) (relay_reception_row (relay_seen s a from x))

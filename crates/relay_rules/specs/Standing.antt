@@ -7,7 +7,7 @@ use Rattle.teredo_addr.specs.Teredo.{unspecified}
 use Rattle.teredo_node.specs.Journal.{Entry}
 use Rattle.peer_list.specs.Listed.{has_room}
 use Rattle.peer_list.specs.Peers.{Peer, no_peer, peer_at}
-use Rattle.relay_rules.specs.Bearings.{mentions}
+use Rattle.relay_rules.specs.Bearings.{relay_mentions}
 
 -- its endpoint and its IPv6 address, which addresses are global, the natives that it serves
 pub record RelaySettings : Type 0 where
@@ -16,22 +16,22 @@ pub record RelaySettings : Type 0 where
   pub policy : Policy
   pub served : List Ip6
 
-pub record Standing : Type 0 where
+pub record RelayStanding : Type 0 where
   pub moment : ℕ
   pub peer : Option Peer  -- what is known of the address, where it is listed
   pub room : Bool  -- it is listed, or there is room for it
 
 -- what is known of the address, be it listed or not
-abbrev pub known_in : Standing → Peer
-known_in a = unwrap_or a.peer no_peer
+abbrev pub relay_known_in : RelayStanding → Peer
+relay_known_in a = unwrap_or a.peer no_peer
 
-unfoldable pub standing_at : List Entry → ℕ → Ip6 → Standing
-standing_at j n p = record {
+unfoldable pub relay_standing_at : List Entry → ℕ → Ip6 → RelayStanding
+relay_standing_at j n p = record {
   moment = n;
-  peer = peer_at (mentions j) n p;
-  room = has_room (mentions j) n p;
+  peer = peer_at (relay_mentions j) n p;
+  room = has_room (relay_mentions j) n p;
 }
 
 -- the same where there may be no address
-abbrev pub standing_of : List Entry → ℕ → Option Ip6 → Standing
-standing_of j n p = standing_at j n (unwrap_or p unspecified)
+abbrev pub relay_standing_of : List Entry → ℕ → Option Ip6 → RelayStanding
+relay_standing_of j n p = relay_standing_at j n (unwrap_or p unspecified)

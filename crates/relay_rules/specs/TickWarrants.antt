@@ -5,19 +5,19 @@ use Rattle.teredo_node.specs.declared.fate.Fate.TheVariants as fate
 use Rattle.peer_list.specs.Judged.{is_spent}
 use Rattle.peer_list.specs.Waiting.{Listing}
 use Rattle.relay_rules.specs.Standing.{RelaySettings}
-use Rattle.relay_rules.specs.Ticks.{tick}
+use Rattle.relay_rules.specs.Ticks.{relay_tick_step}
 
 -- this peer is due, after four tries in the last 300 s or fewer
-pub record IsPeersTurn (spent : Bool) (n : ℕ) (due : Option Listing) : Type 0 where
+pub record IsRelayPeersTurn (spent : Bool) (n : ℕ) (due : Option Listing) : Type 0 where
   pub listing : Listing
   pub is_due : due ≡ Some listing
   pub spent_is : is_spent n listing.peer ≡ spent
 
-abbrev pub TickedOnlyIf : Fate → ℕ → Option Listing → Type 0
-TickedOnlyIf fate.GiveUp n due = IsPeersTurn true n due
-TickedOnlyIf fate.Bubbles n due = IsPeersTurn false n due
-TickedOnlyIf fate.Idle n due = Unit {0}
-TickedOnlyIf _ n due = ⊥
+abbrev pub RelayTickedOnlyIf : Fate → ℕ → Option Listing → Type 0
+RelayTickedOnlyIf fate.GiveUp n due = IsRelayPeersTurn true n due
+RelayTickedOnlyIf fate.Bubbles n due = IsRelayPeersTurn false n due
+RelayTickedOnlyIf fate.Idle n due = Unit {0}
+RelayTickedOnlyIf _ n due = ⊥
 
-abbrev pub TickIsWarranted : Type 0
-TickIsWarranted = (s : RelaySettings) (n : ℕ) (due : Option Listing) → TickedOnlyIf (tick s n due).fate n due
+abbrev pub RelayTickIsWarranted : Type 0
+RelayTickIsWarranted = (s : RelaySettings) (n : ℕ) (due : Option Listing) → RelayTickedOnlyIf (relay_tick_step s n due).fate n due

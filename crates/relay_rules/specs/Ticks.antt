@@ -10,15 +10,15 @@ use Rattle.relay_rules.specs.Standing.{RelaySettings}
 use Rattle.relay_rules.specs.Transmission.{bubble_to}
 
 -- whom a tick is about
-abbrev pub peer_of_due : Option Listing → Option Ip6
-peer_of_due due = option_map (λ l. l.who) due
+abbrev pub relay_peer_of_due : Option Listing → Option Ip6
+relay_peer_of_due due = option_map (λ l. l.who) due
 
 -- a spent peer's packets are dropped; any other gets a bubble
-abbrev pub tries_peer : (spent : Bool) → RelaySettings → Listing → Step
-tries_peer true s l = record (just fate.GiveUp) { gone = length l.peer.waiting }
-tries_peer false s l = sending fate.Bubbles (bubble_to s l.who ∷ [])
+abbrev pub relay_tries_peer : (spent : Bool) → RelaySettings → Listing → Step
+relay_tries_peer true s l = record (just fate.GiveUp) { gone = length l.peer.waiting }
+relay_tries_peer false s l = sending fate.Bubbles (bubble_to s l.who ∷ [])
 
 -- what a relay does at n, where this peer is due
-abbrev pub tick : RelaySettings → ℕ → Option Listing → Step
-tick s n None = just fate.Idle
-tick s n (Some l) = tries_peer (is_spent n l.peer) s l
+abbrev pub relay_tick_step : RelaySettings → ℕ → Option Listing → Step
+relay_tick_step s n None = just fate.Idle
+relay_tick_step s n (Some l) = relay_tries_peer (is_spent n l.peer) s l

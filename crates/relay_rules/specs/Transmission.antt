@@ -15,10 +15,10 @@ use Rattle.teredo_node.specs.Step.{Send, Step, just}
 use Rattle.teredo_node.specs.Sends.{send, sending}
 use Rattle.teredo_node.specs.Rows.{first_line}
 use Rattle.peer_list.specs.Judged.{is_spent, is_barred, is_full}
-use Rattle.relay_rules.specs.Standing.{RelaySettings, Standing, known_in}
+use Rattle.relay_rules.specs.Standing.{RelaySettings, RelayStanding, relay_known_in}
 
 -- what the lines ask, in their order
-pub record Given : Type 0 where
+pub record RelayGiven : Type 0 where
   pub packet : Bool
   pub big : Bool
   pub teredo : Bool
@@ -32,9 +32,9 @@ pub record Given : Type 0 where
   pub full : Bool
 
 -- what is seen of a packet
-abbrev pub given_of : RelaySettings → Standing → Bool → Fields → Given
-given_of s a packet p =
-    let peer = known_in a in
+abbrev pub relay_given_of : RelaySettings → RelayStanding → Bool → Fields → RelayGiven
+relay_given_of s a packet p =
+    let peer = relay_known_in a in
     record {
       packet = packet;
       big = is_big p;
@@ -49,12 +49,12 @@ given_of s a packet p =
       full = is_full peer;
     }
 
-unfoldable pub given : RelaySettings → Standing → List ℕ → Given
-given s a x = given_of s a (is_packet x) (fields_in x)
+unfoldable pub relay_given : RelaySettings → RelayStanding → List ℕ → RelayGiven
+relay_given s a x = relay_given_of s a (is_packet x) (fields_in x)
 
 -- what is asked of the packet
-abbrev pub packet_lines : Given → List (Bool × Fate)
-packet_lines a =
+abbrev pub relay_packet_lines : RelayGiven → List (Bool × Fate)
+relay_packet_lines a =
     (not a.packet, fate.Malformed)
     ∷ (a.big, fate.Big)
     ∷ (not a.teredo, fate.Dest)
@@ -64,8 +64,8 @@ packet_lines a =
     ∷ []
 
 -- what is asked of its destination
-abbrev pub destination_lines : Given → List (Bool × Fate)
-destination_lines a =
+abbrev pub relay_destination_lines : RelayGiven → List (Bool × Fate)
+relay_destination_lines a =
     (a.trusted, fate.Sent)
     ∷ (not a.room, fate.PeersFull)
     ∷ (a.cone, fate.SentCone)
@@ -73,24 +73,24 @@ destination_lines a =
     ∷ (a.full, fate.QueueFull)
     ∷ []
 
-abbrev pub transmission_row : Given → Fate
-transmission_row a = first_line (packet_lines a ++ destination_lines a) fate.Queued
+abbrev pub relay_transmission_row : RelayGiven → Fate
+relay_transmission_row a = first_line (relay_packet_lines a ++ relay_destination_lines a) fate.Queued
 
 -- a try: a bubble through the peer's server
 unfoldable pub bubble_to : RelaySettings → Ip6 → Send
 bubble_to s p = send (server_ep (server_in p)) (bubble_bytes s.six p)
 
 -- it waits, and a bubble goes out unless the destination is barred
-abbrev pub queues : (barred : Bool) → RelaySettings → Ip6 → Step
-queues true s p = just fate.Queued
-queues false s p = sending fate.Queued (bubble_to s p ∷ [])
+abbrev pub relay_queues : (barred : Bool) → RelaySettings → Ip6 → Step
+relay_queues true s p = just fate.Queued
+relay_queues false s p = sending fate.Queued (bubble_to s p ∷ [])
 
-abbrev pub transmission_step : RelaySettings → Standing → List ℕ → Ip6 → Fate → Step
-transmission_step s a x p fate.Sent = sending fate.Sent (send (embedded p) x ∷ [])
-transmission_step s a x p fate.SentCone = sending fate.SentCone (send (embedded p) x ∷ [])
-transmission_step s a x p fate.Queued = queues (is_barred a.moment (known_in a)) s p
-transmission_step s a x p fate = just fate
+abbrev pub relay_transmission_step : RelaySettings → RelayStanding → List ℕ → Ip6 → Fate → Step
+relay_transmission_step s a x p fate.Sent = sending fate.Sent (send (embedded p) x ∷ [])
+relay_transmission_step s a x p fate.SentCone = sending fate.SentCone (send (embedded p) x ∷ [])
+relay_transmission_step s a x p fate.Queued = relay_queues (is_barred a.moment (relay_known_in a)) s p
+relay_transmission_step s a x p fate = just fate
 
 -- what a relay does with a packet x of the IPv6 side, standing so to the packet's destination
-unfoldable pub transmission : RelaySettings → Standing → List ℕ → Step
-transmission s a x = transmission_step s a x (fields_in x).dst (transmission_row (given s a x))
+unfoldable pub relay_transmission : RelaySettings → RelayStanding → List ℕ → Step
+relay_transmission s a x = relay_transmission_step s a x (fields_in x).dst (relay_transmission_row (relay_given s a x))

@@ -3,13 +3,13 @@
 use Rattle.std.specs.Prelude.{◌≡◌, true, false}
 use Rattle.teredo_node.specs.declared.fate.Fate.{Fate}
 use Rattle.teredo_node.specs.declared.fate.Fate.TheVariants as fate
-use Rattle.relay_rules.specs.Reception.{Seen}
-use Rattle.relay_rules.specs.Transmission.{Given}
+use Rattle.relay_rules.specs.Reception.{RelaySeen}
+use Rattle.relay_rules.specs.Transmission.{RelayGiven}
 
 -- DATAGRAMS
 
 -- a packet of a listed client, from where its address says
-pub record IsOfPeer (a : Seen) : Type 0 where
+pub record IsOfPeer (a : RelaySeen) : Type 0 where
   pub payload : a.payload ≡ true
   pub unkeyed : a.keyed ≡ false
   pub short : a.big ≡ false
@@ -18,33 +18,33 @@ pub record IsOfPeer (a : Seen) : Type 0 where
   pub listed : a.listed ≡ true
 
 -- a bubble
-pub record IsPeerBubble (a : Seen) : Type 0 where
+pub record IsPeerBubble (a : RelaySeen) : Type 0 where
   pub peer : IsOfPeer a
   pub bubble : a.bubble ≡ true
 
 -- none, for a native that the relay serves
-pub record IsServed (a : Seen) : Type 0 where
+pub record IsServed (a : RelaySeen) : Type 0 where
   pub peer : IsOfPeer a
   pub no_bubble : a.bubble ≡ false
   pub served : a.served ≡ true
 
 -- none, and for nobody that it serves
-pub record IsUnserved (a : Seen) : Type 0 where
+pub record IsUnserved (a : RelaySeen) : Type 0 where
   pub peer : IsOfPeer a
   pub no_bubble : a.bubble ≡ false
   pub unserved : a.served ≡ false
 
 -- what was seen of a datagram with this fate; other drops say nothing
-abbrev pub ReceivedOnlyIf : Fate → Seen → Type 0
-ReceivedOnlyIf fate.FromClientBubble a = IsPeerBubble a
-ReceivedOnlyIf fate.FromClient a = IsServed a
-ReceivedOnlyIf fate.Unserved a = IsUnserved a
-ReceivedOnlyIf _ a = Unit {0}
+abbrev pub RelayReceivedOnlyIf : Fate → RelaySeen → Type 0
+RelayReceivedOnlyIf fate.FromClientBubble a = IsPeerBubble a
+RelayReceivedOnlyIf fate.FromClient a = IsServed a
+RelayReceivedOnlyIf fate.Unserved a = IsUnserved a
+RelayReceivedOnlyIf _ a = Unit {0}
 
 -- PACKETS OF THE IPV6 SIDE
 
 -- a packet from outside Teredo to a client that can be reached, and isn't the relay itself
-pub record GoesOut (a : Given) : Type 0 where
+pub record RelayGoesOut (a : RelayGiven) : Type 0 where
   pub packet : a.packet ≡ true
   pub short : a.big ≡ false
   pub teredo : a.teredo ≡ true
@@ -53,20 +53,20 @@ pub record GoesOut (a : Given) : Type 0 where
   pub unlooped : a.looped ≡ false
 
 -- its destination is trusted
-pub record GoesToTrusted (a : Given) : Type 0 where
-  pub out : GoesOut a
+pub record GoesToTrusted (a : RelayGiven) : Type 0 where
+  pub out : RelayGoesOut a
   pub trusted : a.trusted ≡ true
 
 -- its destination is a cone
-pub record GoesToCone (a : Given) : Type 0 where
-  pub out : GoesOut a
+pub record RelayGoesToCone (a : RelayGiven) : Type 0 where
+  pub out : RelayGoesOut a
   pub untrusted : a.trusted ≡ false
   pub room : a.room ≡ true
   pub cone : a.cone ≡ true
 
 -- it may wait for its destination
-pub record GoesLater (a : Given) : Type 0 where
-  pub out : GoesOut a
+pub record RelayGoesLater (a : RelayGiven) : Type 0 where
+  pub out : RelayGoesOut a
   pub untrusted : a.trusted ≡ false
   pub room : a.room ≡ true
   pub no_cone : a.cone ≡ false
@@ -74,8 +74,8 @@ pub record GoesLater (a : Given) : Type 0 where
   pub free : a.full ≡ false
 
 -- what was seen of a packet with this fate; drops say nothing
-abbrev pub SentOnlyIf : Fate → Given → Type 0
-SentOnlyIf fate.Sent a = GoesToTrusted a
-SentOnlyIf fate.SentCone a = GoesToCone a
-SentOnlyIf fate.Queued a = GoesLater a
-SentOnlyIf _ a = Unit {0}
+abbrev pub RelaySentOnlyIf : Fate → RelayGiven → Type 0
+RelaySentOnlyIf fate.Sent a = GoesToTrusted a
+RelaySentOnlyIf fate.SentCone a = RelayGoesToCone a
+RelaySentOnlyIf fate.Queued a = RelayGoesLater a
+RelaySentOnlyIf _ a = Unit {0}

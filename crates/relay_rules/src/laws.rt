@@ -1,44 +1,44 @@
 //! Laws of every journal of a relay.
-ghost use Rattle.relay_rules.specs.Laws.{FateOfReception, FateOfTransmission, ReceptionIsWarranted};
-ghost use Rattle.relay_rules.specs.Laws.{TransmissionIsWarranted, TriesTouch, JournalIsTried, ConeIsQuiet};
-ghost use Rattle.relay_rules.specs.Laws.{WaitingIsForeign, TrustedIsEmbedded, HoldsNothing, JournalHasFew};
-ghost use Rattle.relay_rules.specs.TickWarrants.{TickIsWarranted};
-ghost use Rattle.relay_rules.specs.Sendings.{EachSend};
+ghost use Rattle.relay_rules.specs.Laws.{FateOfRelayReception, FateOfRelayTransmission, RelayReceptionIsWarranted};
+ghost use Rattle.relay_rules.specs.Laws.{RelayTransmissionIsWarranted, RelayTriesTouch, RelayJournalIsTried, ConeIsQuiet};
+ghost use Rattle.relay_rules.specs.Laws.{WaitingIsForeign, RelayTrustedIsEmbedded, HoldsNothing, RelayJournalHasFew};
+ghost use Rattle.relay_rules.specs.TickWarrants.{RelayTickIsWarranted};
+ghost use Rattle.relay_rules.specs.Sendings.{EachRelaySend};
 ghost use Rattle.relay_rules.specs.ForeignSends.{EachSendIsForeign};
 
 /// What is done with a datagram has the fate of its line.
 pub fn fate_of_reception()
-    ensures { FateOfReception }
+    ensures { FateOfRelayReception }
 {}
 
 /// So has what is done with a packet of the IPv6 side.
 pub fn fate_of_transmission()
-    ensures { FateOfTransmission }
+    ensures { FateOfRelayTransmission }
 {}
 
 /// A datagram has the fate of a listed client's packet only by the line of that fate.
 pub fn reception_is_warranted()
-    ensures { ReceptionIsWarranted }
+    ensures { RelayReceptionIsWarranted }
 {}
 
 /// A packet of the IPv6 side has a fate other than a drop's only by the line of that fate.
 pub fn transmission_is_warranted()
-    ensures { TransmissionIsWarranted }
+    ensures { RelayTransmissionIsWarranted }
 {}
 
 /// A tick has a fate only where this is due.
 pub fn tick_is_warranted()
-    ensures { TickIsWarranted }
+    ensures { RelayTickIsWarranted }
 {}
 
 /// Each try touches its peer.
 pub fn tries_touch()
-    ensures { TriesTouch }
+    ensures { RelayTriesTouch }
 {}
 
 /// In a journal moments don't fall, and each try touches its peer.
 pub fn journal_is_tried()
-    ensures { JournalIsTried }
+    ensures { RelayJournalIsTried }
 {}
 
 /// An address with the cone bit has no tries and nothing waiting.
@@ -53,7 +53,7 @@ pub fn cone_is_quiet()
 
 /// Each entry that touches a peer finds room for it, so no more than 256 are listed.
 pub fn journal_has_few()
-    ensures { JournalHasFew }
+    ensures { RelayJournalHasFew }
 {
     peer_list::first_waits();
     peer_list::few_listed();
@@ -68,7 +68,7 @@ pub fn waiting_is_foreign()
 
 /// A client is trusted at the endpoint that its address embeds, and nowhere else.
 pub fn trusted_is_embedded()
-    ensures { TrustedIsEmbedded }
+    ensures { RelayTrustedIsEmbedded }
 {
     peer_list::one_entry();
 }
@@ -82,7 +82,7 @@ pub fn holds_nothing()
 
 /// Each datagram that a relay sends is a bubble, or a packet from outside Teredo.
 pub fn each_send()
-    ensures { EachSend }
+    ensures { EachRelaySend }
 {
     waiting_is_foreign();
 }

@@ -24,10 +24,10 @@ use Rattle.server_core.specs.declared.server.ServerSettings.{ServerSettings}
 use Rattle.server_core.specs.declared.rules.Rule.{Rule}
 use Rattle.server_core.specs.declared.rules.Rule.TheVariants.{Dropped, Advert, ForwardOrigin, Forward, Six}
 use Rattle.server_core.specs.Bounds.{IsSilent}
-use Rattle.server_core.specs.Conditions.{is_own, own_address, is_solicit, is_solicitation, is_forged, is_for_client, is_not_ours}
+use Rattle.server_core.specs.Conditions.{is_own, server_link_local, is_solicit, is_solicitation, is_forged, is_for_client, is_not_ours}
 use Rattle.server_core.specs.Outputs.{advertisement, advert_packet, advert_bytes, forwarded}
-use Rattle.server_core.specs.Rules.{Seen, seen, rule_of}
-use Rattle.server_core.specs.RuleWarrants.{GoesOn, RuledOnlyIf}
+use Rattle.server_core.specs.Rules.{ServerSeen, server_seen, rule_of}
+use Rattle.server_core.specs.RuleWarrants.{IsPassedOn, RuledOnlyIf}
 use Rattle.server_core.specs.Server.{by_payload, server_row}
 use Rattle.server_core.specs.Outgoing.{IsOutgoing, adverts, goes_to_own, goes_to_other}
 use Rattle.server_core.specs.AmongServers.{EachEndsAmongServers}
@@ -38,7 +38,7 @@ use Rattle.server_core.proofs.Outgoing.{SendLaws, unforged_from, Told, told, of_
 -- WHERE A DATAGRAM IS DROPPED
 
 -- nobody's solicitation, and forged or for nobody of this server
-drops_by : (r : Rule) (a : Seen) → RuledOnlyIf r a → a.solicitation ≡ false → (a.forged ≡ true) ⊎ (a.not_ours ≡ true) → IsDropped r
+drops_by : (r : Rule) (a : ServerSeen) → RuledOnlyIf r a → a.solicitation ≡ false → (a.forged ≡ true) ⊎ (a.not_ours ≡ true) → IsDropped r
 drops_by (Dropped f) a w none why = (f, refl)
 drops_by Advert a w none why = absurd (false≢true (sym none ∙ w.solicitation))
 drops_by ForwardOrigin a w none (inl forged) = absurd (false≢true (sym w.on.unforged ∙ forged))
@@ -52,7 +52,7 @@ silent : (s : ServerSettings) (at : Side) (own : Ep) (y : List ℕ) (v : Value) 
 unfolding server_row
 silent s at own y v e none why =
     subst (λ (r : Result Value PayloadFault). IsSilent (by_payload s at own y r)) (sym e)
-    (dropped_is_silent s at own y v (rule_of s own v) (drops_by (rule_of s own v) (seen s own v) (rule_is_warranted s own v) none why))
+    (dropped_is_silent s at own y v (rule_of s own v) (drops_by (rule_of s own v) (server_seen s own v) (rule_is_warranted s own v) none why))
 
 -- WHAT GOES ON
 
@@ -62,7 +62,7 @@ both_true true true h g = absurd (false≢true (sym g))
 both_true false c h g = absurd (false≢true h)
 
 -- it comes from somewhere else than its source embeds
-forged_there : (s : ServerSettings) (from own : Ep) (v : Value) → GoesOn (seen s from v) → is_own s own.ip ≡ true → is_teredo v.packet.src ≡ true → is_forged own v.packet ≡ true
+forged_there : (s : ServerSettings) (from own : Ep) (v : Value) → IsPassedOn (server_seen s from v) → is_own s own.ip ≡ true → is_teredo v.packet.src ≡ true → is_forged own v.packet ≡ true
 unfolding is_forged
 forged_there s from own v on mine teredo = both_true (is_teredo v.packet.src) (same_ep (embedded v.packet.src) own) teredo (by (same_ep (embedded v.packet.src) own) refl) where
   by : (b : Bool) → same_ep (embedded v.packet.src) own ≡ b → b ≡ false
@@ -92,13 +92,13 @@ other_client s other p apart mine = by (is_teredo p.dst && same_ip (server_in p.
       let b : server_in p.dst ≡ other.primary = same_ip-true (server_in p.dst) other.primary (and_parts (is_teredo p.dst) (same_ip (server_in p.dst) other.primary) e).1 in
       absurd (false≢true (sym apart ∙ ap (same_ip s.primary) (sym b ∙ a) ∙ same_ip-self s.primary))
 
-not_ours_there : (s other : ServerSettings) (from : Ep) (v : Value) → GoesOn (seen s from v) → same_ip s.primary other.primary ≡ false → is_teredo v.packet.src ≡ false → is_not_ours other v.packet ≡ true
+not_ours_there : (s other : ServerSettings) (from : Ep) (v : Value) → IsPassedOn (server_seen s from v) → same_ip s.primary other.primary ≡ false → is_teredo v.packet.src ≡ false → is_not_ours other v.packet ≡ true
 unfolding is_not_ours
 not_ours_there s other from v on apart native =
     let mine : is_for_client s v.packet ≡ true = not_both (is_teredo v.packet.src) (is_for_client s v.packet) on.ours native in
     neither (is_teredo v.packet.src) (is_for_client other v.packet) native (other_client s other v.packet apart mine)
 
-goes_on : (s other : ServerSettings) (at : Side) (from own : Ep) (v : Value) (origin : Option Ep) (y : List ℕ) → GoesOn (seen s from v) → is_own s own.ip ≡ true → same_ip s.primary other.primary ≡ false
+goes_on : (s other : ServerSettings) (at : Side) (from own : Ep) (v : Value) (origin : Option Ep) (y : List ℕ) → IsPassedOn (server_seen s from v) → is_own s own.ip ≡ true → same_ip s.primary other.primary ≡ false
     → ReadsPayload (value_written None origin v.packet) y → IsSilent (server_row other at own y)
 goes_on s other at from own v origin y on mine apart reads = silent other at own y (value_written None origin v.packet) reads.read on.no_solicitation (by (is_teredo v.packet.src) refl) where
   by : (b : Bool) → is_teredo v.packet.src ≡ b → (is_forged own v.packet ≡ true) ⊎ (is_not_ours other v.packet ≡ true)
@@ -125,7 +125,7 @@ no_solicit false b c h = refl
 -- it is no solicitation, and for a client's link-local address
 advert_plain : (s : ServerSettings) (client : Ip6) → message_in (advert_packet s client) ≡ Some (advertisement s.primary) → is_solicitation (advert_packet s client) ≡ false
 unfolding is_solicitation
-advert_plain s client m = no_solicit (is_link_local (own_address s)) (same_ip6 client ALL_ROUTERS) (is_solicit (message_in (advert_packet s client))) (ap is_solicit m)
+advert_plain s client m = no_solicit (is_link_local (server_link_local s)) (same_ip6 client ALL_ROUTERS) (is_solicit (message_in (advert_packet s client))) (ap is_solicit m)
 
 not_for : (s : ServerSettings) (p : Fields) → is_teredo p.src ≡ false → is_teredo p.dst ≡ false → is_not_ours s p ≡ true
 unfolding is_not_ours is_for_client
@@ -139,7 +139,7 @@ of_send laws s other side at from own x v send primary origin fits e t mine apar
     let client : Ip6 = v.packet.src in
     let reads = laws.back s from (nonce_of v.lead) client (record { primary = primary; origin = origin; nonce_fits = t.nonce; address = t.source }) in
     let plain = advert_plain s client (ap (λ (w : Value). message_in w.packet) (sym reads.payload.value) ∙ reads.carries.message) in
-    let foreign : is_teredo (own_address s) ≡ false = (laws.link_local true (server_ep s.primary) (primary, omega arith)).not_teredo in
+    let foreign : is_teredo (server_link_local s) ≡ false = (laws.link_local true (server_ep s.primary) (primary, omega arith)).not_teredo in
     subst (λ (z : Send). IsSilent (server_row other at own z.bytes)) (sym is)
     (silent other at own (advert_bytes s from (nonce_of v.lead) client) (value_written (nonce_of v.lead) (Some from) (advert_packet s client)) reads.payload.read plain
     (inr (not_for other (advert_packet s client) foreign (not_teredo client (from_link v.packet answered.solicitation)))))

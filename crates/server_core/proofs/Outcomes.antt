@@ -6,7 +6,7 @@ use Rattle.bubble.specs.Payloads.{Value, payload_at}
 use Rattle.bubble.specs.declared.fault.PayloadFault.{PayloadFault}
 use Rattle.server_core.specs.declared.server.ServerSettings.{ServerSettings}
 use Rattle.server_core.specs.declared.rules.Rule.{Rule}
-use Rattle.server_core.specs.Rules.{seen, datagram_lines, packet_lines, destination_lines, last_line, rule_of}
+use Rattle.server_core.specs.Rules.{server_seen, server_datagram_lines, server_packet_lines, server_destination_lines, last_line, rule_of}
 use Rattle.server_core.specs.Bounds.{outcomes}
 use Rattle.server_core.specs.Laws.{OneOutcome}
 use Rattle.server_core.specs.Server.{step_of, by_payload, server_row}
@@ -15,8 +15,8 @@ use Rattle.teredo_node.proofs.FirstLines.{first_of_each}
 one_of_payload : (s : ServerSettings) (side : Side) (from : Ep) (x : List ℕ) (v : Value) → outcomes (step_of s side from x v (rule_of s from v)) ≡ 1
 unfolding rule_of
 one_of_payload s side from x v =
-    let a = seen s from v in
-    first_of_each (λ (r : Rule). outcomes (step_of s side from x v r) ≡ 1) (datagram_lines a ++ (packet_lines a ++ destination_lines a)) last_line
+    let a = server_seen s from v in
+    first_of_each (λ (r : Rule). outcomes (step_of s side from x v r) ≡ 1) (server_datagram_lines a ++ (server_packet_lines a ++ server_destination_lines a)) last_line
     (refl, (refl, (refl, (refl, (refl, (refl, (refl, (refl, (refl, (refl, (refl, (refl, (refl, (refl, (refl, tt)))))))))))))))
     refl
 

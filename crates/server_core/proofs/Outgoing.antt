@@ -34,19 +34,19 @@ use Rattle.teredo_node.specs.Step.{Send}
 use Rattle.server_core.specs.declared.server.ServerSettings.{ServerSettings}
 use Rattle.server_core.specs.declared.rules.Rule.{Rule}
 use Rattle.server_core.specs.declared.rules.Rule.TheVariants.{Dropped, Advert, ForwardOrigin, Forward, Six}
-use Rattle.server_core.specs.Conditions.{own_address, is_forged}
-use Rattle.server_core.specs.Rules.{seen, rule_of}
+use Rattle.server_core.specs.Conditions.{server_link_local, is_forged}
+use Rattle.server_core.specs.Rules.{server_seen, rule_of}
 use Rattle.server_core.specs.Outputs.{advert_bytes, forwarded}
 use Rattle.server_core.specs.Server.{step_of, by_payload, server_row}
 use Rattle.server_core.specs.Laws.{AdvertReadsBack, ForwardedReadsBack}
-use Rattle.server_core.specs.RuleWarrants.{GoesOn, RuledOnlyIf}
+use Rattle.server_core.specs.RuleWarrants.{IsPassedOn, RuledOnlyIf}
 use Rattle.server_core.specs.Outgoing.{IsOutgoing, adverts, goes_to_own, goes_to_other, EachIsOutgoing, IsFromClient, EachIsFromClient, EachOutputIsMade}
 use Rattle.teredo_node.specs.MadeInputs.{IsMadeSend}
 use Rattle.server_core.proofs.Warranted.{rule_is_warranted}
 
 -- EACH SEND
 
-by_rule : (s : ServerSettings) (side : Side) (from : Ep) (x : List ℕ) (v : Value) (r : Rule) → RuledOnlyIf r (seen s from v) → AllByRecursion (IsOutgoing s side from x v) (step_of s side from x v r).sends
+by_rule : (s : ServerSettings) (side : Side) (from : Ep) (x : List ℕ) (v : Value) (r : Rule) → RuledOnlyIf r (server_seen s from v) → AllByRecursion (IsOutgoing s side from x v) (step_of s side from x v r).sends
 by_rule s side from x v (Dropped f) w = tt
 by_rule s side from x v Advert w = (adverts w refl, tt)
 by_rule s side from x v ForwardOrigin w = (goes_to_own w refl, tt)
@@ -73,7 +73,7 @@ unforged_from from v h teredo = sym (same_ep-true (embedded v.packet.src) from (
   by true false is g = absurd (false≢true (sym g))
   by false c is g = absurd (false≢true is)
 
-went_on : (s : ServerSettings) (from : Ep) (v : Value) (origin : Option Ep) (send : Send) → GoesOn (seen s from v) → ReadsPayload (value_written None origin v.packet) send.bytes → IsFromClient s from send
+went_on : (s : ServerSettings) (from : Ep) (v : Value) (origin : Option Ep) (send : Send) → IsPassedOn (server_seen s from v) → ReadsPayload (value_written None origin v.packet) send.bytes → IsFromClient s from send
 went_on s from v origin send on reads =
     let same : (value_in send.bytes).packet ≡ v.packet = ap (λ (w : Value). w.packet) reads.value in
     record {
@@ -86,7 +86,7 @@ of_send : SendLaws → (s : ServerSettings) (side : Side) (from : Ep) (x : List 
 of_send laws s side from x v send primary origin fits e nonce source (adverts answered is) =
     let reads = laws.back s from (nonce_of v.lead) v.packet.src (record { primary = primary; origin = origin; nonce_fits = nonce; address = source }) in
     let bytes : send.bytes ≡ advert_bytes s from (nonce_of v.lead) v.packet.src = ap (λ (z : Send). z.bytes) is in
-    let src : (value_in send.bytes).packet.src ≡ own_address s = ap (λ (y : List ℕ). (value_in y).packet.src) bytes ∙ ap (λ (w : Value). w.packet.src) reads.payload.value in
+    let src : (value_in send.bytes).packet.src ≡ server_link_local s = ap (λ (y : List ℕ). (value_in y).packet.src) bytes ∙ ap (λ (w : Value). w.packet.src) reads.payload.value in
     record {
       embeds = λ teredo. absurd (false≢true (sym (laws.link_local true (server_ep s.primary) (primary, omega arith)).not_teredo ∙ ap is_teredo (sym src) ∙ teredo));
       elsewhere = answered.sound.foreign;

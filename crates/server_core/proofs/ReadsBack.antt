@@ -34,9 +34,9 @@ use Rattle.teredo_node.specs.Step.{Send}
 use Rattle.server_core.specs.declared.server.ServerSettings.{ServerSettings}
 use Rattle.server_core.specs.declared.rules.Rule.{Rule}
 use Rattle.server_core.specs.declared.rules.Rule.TheVariants.{Dropped, Advert, ForwardOrigin, Forward, Six}
-use Rattle.server_core.specs.Conditions.{own_address}
+use Rattle.server_core.specs.Conditions.{server_link_local}
 use Rattle.server_core.specs.Outputs.{advert_options, advertisement, advert_packet, advert_bytes, forwarded}
-use Rattle.server_core.specs.Rules.{seen, datagram_lines, packet_lines, destination_lines, last_line, rule_of}
+use Rattle.server_core.specs.Rules.{server_seen, server_datagram_lines, server_packet_lines, server_destination_lines, last_line, rule_of}
 use Rattle.server_core.specs.Server.{step_of, by_payload, server_row}
 use Rattle.server_core.specs.Laws.{AreServerOptions, MayBeAnswered, ReadsAdvert, AdvertReadsBack, ForwardedReadsBack, TellsWhereTo, EachTellsWhereTo}
 use Rattle.server_core.proofs.Lengths.{nonce_len_most}
@@ -92,7 +92,7 @@ carries : AdvertLaws → (s : ServerSettings) (client : Ip6) → IsIp4 s.primary
 carries laws s client primary address =
     let own = laws.link_local true (server_ep s.primary) (primary, omega arith) in
     let len = options_long s.primary primary.0 in
-    laws.carried 255 (own_address s) client (advertisement s.primary) (record {
+    laws.carried 255 (server_link_local s) client (advertisement s.primary) (record {
       hop_fits = omega arith;
       src_fits = own.sixteen;
       dst_fits = address;
@@ -147,7 +147,7 @@ advert_reads_back laws s from nonce client may =
     let sent = may_be_sent s from nonce client may carried in
     let payload = laws.back nonce (Some from) p sent in
     let whole = laws.bytes nonce (Some from) p sent in
-    let body = (laws.message (own_address s) client (advertisement s.primary)).bytes (omega arith, omega arith, omega arith, omega arith, omega arith) (option_bytes s.primary may.primary.1) in
+    let body = (laws.message (server_link_local s) client (advertisement s.primary)).bytes (omega arith, omega arith, omega arith, omega arith, omega arith) (option_bytes s.primary may.primary.1) in
     record {
       payload = payload;
       same_nonce = ap (λ (v : Value). nonce_of v.lead) payload.value ∙ again nonce from p;
@@ -214,8 +214,8 @@ big_drops P h false false rest e = absurd (false≢true e)
 big_is_silent : (s : ServerSettings) (side : Side) (from : Ep) (x : List ℕ) (v : Value) → is_big v.packet ≡ true → AllByRecursion TellsWhereTo (step_of s side from x v (rule_of s from v)).sends
 unfolding rule_of
 big_is_silent s side from x v big =
-    let a = seen s from v in
-    big_drops (λ (r : Rule). AllByRecursion TellsWhereTo (step_of s side from x v r).sends) (λ f. tt) a.keyed a.big (drop 2 (datagram_lines a) ++ (packet_lines a ++ destination_lines a)) big
+    let a = server_seen s from v in
+    big_drops (λ (r : Rule). AllByRecursion TellsWhereTo (step_of s side from x v r).sends) (λ f. tt) a.keyed a.big (drop 2 (server_datagram_lines a) ++ (server_packet_lines a ++ server_destination_lines a)) big
 
 of_payload : AdvertReadsBack → ForwardedReadsBack → (s : ServerSettings) (side : Side) (from : Ep) (x : List ℕ) (v : Value) → Came s from x v → AllByRecursion TellsWhereTo (step_of s side from x v (rule_of s from v)).sends
 of_payload adverts goes s side from x v came = by (is_big v.packet) refl where

@@ -10,19 +10,19 @@ use Rattle.teredo_node.specs.declared.fate.Fate.{Fate}
 use Rattle.teredo_node.proofs.FirstLines.{first_of_each}
 use Rattle.server_core.specs.declared.server.ServerSettings.{ServerSettings}
 use Rattle.server_core.specs.declared.rules.Rule.{Rule}
-use Rattle.server_core.specs.Rules.{seen, datagram_lines, packet_lines, destination_lines, last_line, rule_of}
+use Rattle.server_core.specs.Rules.{server_seen, server_datagram_lines, server_packet_lines, server_destination_lines, last_line, rule_of}
 use Rattle.server_core.specs.Laws.{FateOfRow, row_fates}
 use Rattle.server_core.specs.Server.{step_of, by_payload, server_row}
 
 fate_of_payload : (P : Fate → Type 0) → AllByRecursion P row_fates → (s : ServerSettings) (side : Side) (from : Ep) (x : List ℕ) (v : Value) → P (step_of s side from x v (rule_of s from v)).fate
 unfolding rule_of
 fate_of_payload P all s side from x v =
-    let a = seen s from v in
+    let a = server_seen s from v in
     let keyed = all.1 in
     let loop = keyed.1.1.1.1.1 in
     let own_echo = loop.1 in
     let embedded = own_echo.1.1.1.1 in
-    first_of_each (λ (r : Rule). P (step_of s side from x v r).fate) (datagram_lines a ++ (packet_lines a ++ destination_lines a)) last_line
+    first_of_each (λ (r : Rule). P (step_of s side from x v r).fate) (server_datagram_lines a ++ (server_packet_lines a ++ server_destination_lines a)) last_line
     (keyed.0, (keyed.1.0, (keyed.1.1.0, (keyed.1.1.1.0, (keyed.1.1.1.1.0, (loop.0, (own_echo.0, (own_echo.1.0, (own_echo.1.1.0, (own_echo.1.1.1.0, (embedded.0, (loop.0, (embedded.1.0, (embedded.1.1.0, (embedded.1.1.1.0, tt)))))))))))))))
     embedded.1.1.1.1.0
 

@@ -17,7 +17,7 @@ use Rattle.server_core.specs.declared.reply.Answer.{Answer}
 use Rattle.server_core.specs.declared.reply.Answer.TheVariants as answers
 use Rattle.server_core.specs.declared.reply.Answer.TheVariants.{Drop, Send}
 use Rattle.server_core.specs.Conditions.{is_own}
-use Rattle.server_core.specs.Rules.{seen, packet_lines, destination_lines, last_line, rule_of}
+use Rattle.server_core.specs.Rules.{server_seen, server_packet_lines, server_destination_lines, last_line, rule_of}
 use Rattle.server_core.specs.Server.{step_of, by_payload, server_row}
 use Rattle.server_core.specs.Bounds.{IsSilent, EndsThere, endpoint, outputs}
 
@@ -39,8 +39,8 @@ own_drops false false false false false false rest e = absurd cc
 own_is_dropped : (s : ServerSettings) (from : Ep) (v : Value) → is_own s from.ip ≡ true → IsDropped (rule_of s from v)
 unfolding rule_of
 own_is_dropped s from v own =
-    let a = seen s from v in
-    own_drops a.keyed a.big a.other_kind a.ill_formed a.unusable_source a.from_server (packet_lines a ++ destination_lines a) own
+    let a = server_seen s from v in
+    own_drops a.keyed a.big a.other_kind a.ill_formed a.unusable_source a.from_server (server_packet_lines a ++ server_destination_lines a) own
 
 pub dropped_is_silent : (s : ServerSettings) (side : Side) (from : Ep) (x : List ℕ) (v : Value) (r : Rule) → IsDropped r → IsSilent (step_of s side from x v r)
 dropped_is_silent s side from x v r dropped =

@@ -1,13 +1,13 @@
 -- What was seen of a datagram where it has a rule.
 use Rattle.teredo_node.proofs.FirstLines.{by_lines}
 use Rattle.server_core.specs.declared.rules.Rule.{Rule}
-use Rattle.server_core.specs.Rules.{Seen, seen, rule_of, datagram_lines, packet_lines, destination_lines, last_line}
-use Rattle.server_core.specs.RuleWarrants.{IsSound, GoesOn, RuledOnlyIf, RuleIsWarranted}
+use Rattle.server_core.specs.Rules.{ServerSeen, server_seen, rule_of, server_datagram_lines, server_packet_lines, server_destination_lines, last_line}
+use Rattle.server_core.specs.RuleWarrants.{IsSoundAtServer, IsPassedOn, RuledOnlyIf, RuleIsWarranted}
 use Rattle.std.specs.Prelude.{◌++◌}
 use Rattle.teredo_node.specs.Rows.{first_line}
 
-ruled : (a : Seen) → RuledOnlyIf (first_line (datagram_lines a ++ (packet_lines a ++ destination_lines a)) last_line) a
-ruled a = by_lines (λ (r : Rule). RuledOnlyIf r a) (datagram_lines a ++ (packet_lines a ++ destination_lines a)) last_line (
+ruled : (a : ServerSeen) → RuledOnlyIf (first_line (server_datagram_lines a ++ (server_packet_lines a ++ server_destination_lines a)) last_line) a
+ruled a = by_lines (λ (r : Rule). RuledOnlyIf r a) (server_datagram_lines a ++ (server_packet_lines a ++ server_destination_lines a)) last_line (
   (λ _. tt),
   (λ unkeyed. (
     (λ _. tt),
@@ -22,7 +22,7 @@ ruled a = by_lines (λ (r : Rule). RuledOnlyIf r a) (datagram_lines a ++ (packet
             (λ foreign. (
               (λ _. tt),
               (λ others.
-                  let sound : IsSound a = record { unkeyed = unkeyed; short = short; kind = kind; well_formed = well_formed; usable = usable; foreign = foreign; for_others = others } in (
+                  let sound : IsSoundAtServer a = record { unkeyed = unkeyed; short = short; kind = kind; well_formed = well_formed; usable = usable; foreign = foreign; for_others = others } in (
                     (λ solicitation. record { sound = sound; solicitation = solicitation }),
                     (λ no_solicitation. (
                       (λ _. tt),
@@ -33,7 +33,7 @@ ruled a = by_lines (λ (r : Rule). RuledOnlyIf r a) (datagram_lines a ++ (packet
                           (λ usable_dest. (
                             (λ _. tt),
                             (λ unlooped.
-                                let on : GoesOn a = record { sound = sound; no_solicitation = no_solicitation; unforged = unforged; ours = ours; usable_dest = usable_dest; unlooped = unlooped } in (
+                                let on : IsPassedOn a = record { sound = sound; no_solicitation = no_solicitation; unforged = unforged; ours = ours; usable_dest = usable_dest; unlooped = unlooped } in (
                                   (λ own. record { on = on; for_client = own }),
                                   (λ others_too. (
                                     (λ teredo. record { on = on; for_others = others_too; for_teredo = teredo }),
@@ -58,4 +58,4 @@ ruled a = by_lines (λ (r : Rule). RuledOnlyIf r a) (datagram_lines a ++ (packet
 
 pub rule_is_warranted : RuleIsWarranted
 unfolding rule_of
-rule_is_warranted s from v = ruled (seen s from v)
+rule_is_warranted s from v = ruled (server_seen s from v)

@@ -31,12 +31,12 @@ unfoldable pub is_own : ServerSettings → Ip4 → Bool
 is_own s ip = same_ip ip s.primary || same_ip ip s.secondary
 
 -- the server's link-local address
-abbrev pub own_address : ServerSettings → Ip6
-own_address s = link_local true (server_ep s.primary)
+abbrev pub server_link_local : ServerSettings → Ip6
+server_link_local s = link_local true (server_ep s.primary)
 
 -- the destination is the server
 unfoldable pub is_for_server : ServerSettings → Fields → Bool
-is_for_server s p = same_ip6 p.dst (own_address s)
+is_for_server s p = same_ip6 p.dst (server_link_local s)
 
 abbrev pub is_solicit : Option Message → Bool
 is_solicit (Some (router_solicit options)) = true

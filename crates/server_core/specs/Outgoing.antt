@@ -15,7 +15,7 @@ use Rattle.teredo_node.specs.Step.{Send}
 use Rattle.teredo_node.specs.MadeInputs.{IsMadeSend}
 use Rattle.server_core.specs.declared.server.ServerSettings.{ServerSettings}
 use Rattle.server_core.specs.Conditions.{is_own}
-use Rattle.server_core.specs.Rules.{seen}
+use Rattle.server_core.specs.Rules.{server_seen}
 use Rattle.server_core.specs.Outputs.{advert_bytes, forwarded}
 use Rattle.server_core.specs.Server.{answering_side, server_row}
 use Rattle.server_core.specs.RuleWarrants.{IsAnswered, GoesToOwn, GoesToOther}
@@ -26,14 +26,14 @@ send_from side to bytes = record { side = side; to = to; bytes = bytes }
 -- a datagram of the server in answer to a payload x from `from`
 pub data IsOutgoing (s : ServerSettings) (side : Side) (from : Ep) (x : List ℕ) (v : Value) (send : Send) : Type 0 where
   -- an advertisement to whoever asked
-  adverts : IsAnswered (seen s from v)
+  adverts : IsAnswered (server_seen s from v)
       → send ≡ send_from (answering_side side v.packet.src) from (advert_bytes s from (nonce_of v.lead) v.packet.src)
       → IsOutgoing s side from x v send
   -- the packet, to the endpoint that its destination embeds: for a client of this server with its origin in front
-  goes_to_own : GoesToOwn (seen s from v)
+  goes_to_own : GoesToOwn (server_seen s from v)
       → send ≡ send_from Primary (embedded v.packet.dst) (forwarded (Some from) (drop v.lead.at x))
       → IsOutgoing s side from x v send
-  goes_to_other : GoesToOther (seen s from v)
+  goes_to_other : GoesToOther (server_seen s from v)
       → send ≡ send_from Primary (embedded v.packet.dst) (forwarded None (drop v.lead.at x))
       → IsOutgoing s side from x v send
 

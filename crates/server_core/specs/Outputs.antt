@@ -12,7 +12,7 @@ use Rattle.icmp6.specs.declared.numbers.TheConstants.{ROUTER_HOP}
 use Rattle.indications.specs.Blocks.{indications_bytes}
 use Rattle.bubble.specs.Reads.{payload_bytes}
 use Rattle.server_core.specs.declared.server.ServerSettings.{ServerSettings}
-use Rattle.server_core.specs.Conditions.{own_address}
+use Rattle.server_core.specs.Conditions.{server_link_local}
 
 -- a Prefix Information: 64 bits, autonomous, both lifetimes without end, the prefix 2001:0:P::; an MTU
 abbrev pub advert_options : Ip4 → List ℕ
@@ -30,9 +30,9 @@ advert_packet s client = record {
   flow = 0;
   next = NEXT_ICMP;
   hop = ROUTER_HOP;
-  src = own_address s;
+  src = server_link_local s;
   dst = client;
-  body = message_bytes (own_address s) client (advertisement s.primary);
+  body = message_bytes (server_link_local s) client (advertisement s.primary);
 }
 
 -- the answer to a client's solicitation from `from`: the nonce that came, the origin, the advertisement

@@ -17,7 +17,7 @@ use Rattle.bubble.specs.Messages.{is_ill_formed}
 use Rattle.server_core.specs.Conditions.{is_other_kind, is_own, is_for_server, is_solicitation, is_forged, is_for_client, is_not_ours, is_unusable, is_looped}
 
 -- what the lines ask, in their order
-pub record Seen : Type 0 where
+pub record ServerSeen : Type 0 where
   pub keyed : Bool
   pub big : Bool
   pub other_kind : Bool
@@ -35,8 +35,8 @@ pub record Seen : Type 0 where
   pub for_global : Bool
 
 -- what is seen of a payload from `from`
-abbrev pub seen : ServerSettings → Ep → Value → Seen
-seen s from v = record {
+abbrev pub server_seen : ServerSettings → Ep → Value → ServerSeen
+server_seen s from v = record {
   keyed = is_keyed v.lead;
   big = is_big v.packet;
   other_kind = is_other_kind v.packet;
@@ -55,8 +55,8 @@ seen s from v = record {
 }
 
 -- what is asked of the datagram
-abbrev pub datagram_lines : Seen → List (Bool × Rule)
-datagram_lines a =
+abbrev pub server_datagram_lines : ServerSeen → List (Bool × Rule)
+server_datagram_lines a =
     (a.keyed, Dropped fate.Keyed)
     ∷ (a.big, Dropped fate.Big)
     ∷ (a.other_kind, Dropped fate.Kind)
@@ -66,8 +66,8 @@ datagram_lines a =
     ∷ []
 
 -- who sent the packet to whom
-abbrev pub packet_lines : Seen → List (Bool × Rule)
-packet_lines a =
+abbrev pub server_packet_lines : ServerSeen → List (Bool × Rule)
+server_packet_lines a =
     (a.for_server, Dropped fate.OwnEcho)
     ∷ (a.solicitation, Advert)
     ∷ (a.forged, Dropped fate.Mismatch)
@@ -75,8 +75,8 @@ packet_lines a =
     ∷ []
 
 -- where the packet goes
-abbrev pub destination_lines : Seen → List (Bool × Rule)
-destination_lines a =
+abbrev pub server_destination_lines : ServerSeen → List (Bool × Rule)
+server_destination_lines a =
     (a.unusable_dest, Dropped fate.Embedded)
     ∷ (a.looped, Dropped fate.Loop)
     ∷ (a.for_client, ForwardOrigin)
@@ -90,7 +90,7 @@ last_line = Dropped fate.Dest
 
 -- the table
 unfoldable pub rule_of : ServerSettings → Ep → Value → Rule
-rule_of s from v = let a = seen s from v in first_line (datagram_lines a ++ (packet_lines a ++ destination_lines a)) last_line
+rule_of s from v = let a = server_seen s from v in first_line (server_datagram_lines a ++ (server_packet_lines a ++ server_destination_lines a)) last_line
 
 -- an endpoint that the server may send to
 abbrev pub IsPeer : ServerSettings → Ep → Type 0

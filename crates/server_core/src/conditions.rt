@@ -1,10 +1,10 @@
 //! What the lines of the server's table ask of a datagram.
 ghost use Rattle.std.specs.Prelude.{◌≡◌, ◌≤◌, length, IsTrue};
 ghost use Rattle.td_base.specs.declared.datagram.TheConstants.{DATAGRAM_MAX};
-ghost use Rattle.ipv6_packet.specs.Packets.{view as packet_view};
+ghost use Rattle.ipv6_packet.specs.Packets.{packet_view};
 ghost use Rattle.icmp6.specs.declared.numbers.TheConstants.{SOLICIT_LEN};
 ghost use Rattle.bubble.specs.Messages.{IsMessageOf};
-ghost use Rattle.server_core.specs.Conditions.{own_address, is_other_kind, is_own, is_for_server, is_solicitation};
+ghost use Rattle.server_core.specs.Conditions.{server_link_local, is_other_kind, is_own, is_for_server, is_solicitation};
 ghost use Rattle.server_core.specs.Conditions.{is_forged, is_for_client, is_not_ours, is_unusable, is_looped};
 
 use crate::server::ServerSettings;
@@ -38,7 +38,7 @@ pub fn is_own(settings: &ServerSettings, ip: Ip4) -> bool
 /// The server's link-local address.
 #[inline(always)]
 pub fn own_address(settings: &ServerSettings) -> Ip6
-    ensures { result ≡ own_address settings.now }
+    ensures { result ≡ server_link_local settings.now }
 {
     link_local(true, Ep::of_server(settings.primary))
 }

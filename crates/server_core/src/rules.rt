@@ -1,12 +1,12 @@
 //! The server's table.
 ghost use Rattle.std.specs.Prelude.{◌≡◌, ◌≤◌, ◌++◌, false, length};
 ghost use Rattle.td_base.specs.declared.datagram.TheConstants.{DATAGRAM_MAX};
-ghost use Rattle.bubble.specs.Payloads.{view};
+ghost use Rattle.bubble.specs.Payloads.{payload_view};
 ghost use Rattle.ipv6_packet.specs.Reads.{is_big};
-ghost use Rattle.ipv6_packet.specs.Packets.{view as packet_view};
+ghost use Rattle.ipv6_packet.specs.Packets.{packet_view};
 ghost use Rattle.teredo_node.specs.Rows.{first_line};
 ghost use Rattle.bubble.specs.Messages.{IsMessageOf};
-ghost use Rattle.server_core.specs.Rules.{seen, packet_lines, destination_lines, last_line, rule_of, IsPeer, Warrants};
+ghost use Rattle.server_core.specs.Rules.{server_seen, server_packet_lines, server_destination_lines, last_line, rule_of, IsPeer, Warrants};
 
 use crate::conditions::{
     is_for_client, is_for_server, is_forged, is_looped, is_not_ours, is_other_kind, is_own,
@@ -41,8 +41,8 @@ pub enum Rule {
 #[tactic(auto, unfolding(crate::specs::Rules::rule_of))]
 pub fn first_rule(settings: &ServerSettings, from: Ep, payload: &Payload<'_>) -> Rule
     requires { length payload.now.packet.body.now ≤ DATAGRAM_MAX }
-    ensures row { result ≡ rule_of settings.now from (view payload.now) }
-    ensures warrant { Warrants settings.now from (view payload.now) result }
+    ensures row { result ≡ rule_of settings.now from (payload_view payload.now) }
+    ensures warrant { Warrants settings.now from (payload_view payload.now) result }
 {
     let packet = &payload.packet;
     // keyed: RFC 4380, section 5.1.1
@@ -84,8 +84,9 @@ fn rule_of_packet(
     requires message { IsMessageOf (packet_view payload.now.packet) message }
     requires small { is_big (packet_view payload.now.packet) ≡ false }
     requires peer { IsPeer settings.now from }
-    ensures row { let a = seen settings.now from (view payload.now) in result ≡ first_line (packet_lines a ++ destination_lines a) last_line }
-    ensures warrant { Warrants settings.now from (view payload.now) result }
+    ensures row { let a = server_seen settings.now from (payload_view payload.now) in
+        result ≡ first_line (server_packet_lines a ++ server_destination_lines a) last_line }
+    ensures warrant { Warrants settings.now from (payload_view payload.now) result }
 {
     let packet = &payload.packet;
     // own_echo: our choice
@@ -111,8 +112,8 @@ fn rule_of_packet(
 #[inline(always)]
 fn rule_of_destination(settings: &ServerSettings, from: Ep, payload: &Payload<'_>) -> Rule
     requires small { is_big (packet_view payload.now.packet) ≡ false }
-    ensures row { result ≡ first_line (destination_lines (seen settings.now from (view payload.now))) last_line }
-    ensures warrant { Warrants settings.now from (view payload.now) result }
+    ensures row { result ≡ first_line (server_destination_lines (server_seen settings.now from (payload_view payload.now))) last_line }
+    ensures warrant { Warrants settings.now from (payload_view payload.now) result }
 {
     let packet = &payload.packet;
     // embedded: RFC 4380, section 5.3.1

@@ -9,7 +9,7 @@ use Rattle.teredo_addr.specs.Teredo.{has_cone}
 use Rattle.teredo_node.specs.Journal.{Entry, Journal}
 use Rattle.qualify.specs.declared.settings.Settings.{Settings}
 use Rattle.qualify.specs.Turns.{Turn, qualifies, is_changed, turn_of, leaves, begins, origin_given, flags_word}
-use Rattle.qualify.specs.Qualification.{Qualification, qualification, address_of, address_after}
+use Rattle.qualify.specs.Qualification.{Qualification, qualification, address_told, address_after}
 use Rattle.qualify.specs.Laws.{fresh, goes_on, tidings, Turns, TurnsAtStart}
 use Rattle.settled.specs.OwnAddress.{WasTold, IsOwnAddress, EachAddressIsOwn}
 
@@ -19,7 +19,7 @@ module _ (s : Settings) (all : List Entry) where
   IsOwn o = IfSome o (IsOwnAddress s all)
 
   -- an origin that was told makes one
-  of_origin : (cone : Bool) (w : Option ℕ) (o : Option Ep) → IfSome o (WasTold all) → IsOwn (address_of s cone w o)
+  of_origin : (cone : Bool) (w : Option ℕ) (o : Option Ep) → IfSome o (WasTold all) → IsOwn (address_told s cone w o)
   of_origin cone w None told = tt
   of_origin cone w (Some ep) told = record { cone = cone; word = w; origin = ep; told = told; made = refl }
 

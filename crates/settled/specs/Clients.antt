@@ -6,7 +6,7 @@ use Rattle.td_base.specs.Ep.{server_ep}
 use Rattle.nat_kinds.specs.declared.kind.NatKind.{NatKind}
 use Rattle.nat_kinds.specs.declared.kind.NatKind.TheVariants as kind
 use Rattle.nat_kinds.specs.declared.settings.NatSettings.{NatSettings}
-use Rattle.nat_kinds.specs.History.{Entry as NatEntry}
+use Rattle.nat_kinds.specs.History.{NatEntry}
 use Rattle.nat_kinds.specs.Mappings.{live_port}
 use Rattle.nat_kinds.specs.Answer.{live_after}
 use Rattle.qualify.specs.Qualification.{Qualification, qualification}
@@ -24,8 +24,8 @@ abbrev pub standing : Lab → List Full → ℕ → ClientNode → Qualification
 standing lab H n c = qualification (client_settings lab.topology c) (journal n H)
 
 -- its address, while it is qualified
-abbrev pub address_in : Lab → List Full → ℕ → ClientNode → Option Ip6
-address_in lab H n c = (standing lab H n c).address
+abbrev pub client_address : Lab → List Full → ℕ → ClientNode → Option Ip6
+client_address lab H n c = (standing lab H n c).address
 
 -- the primary endpoint of its server
 abbrev pub asks_at : Lab → ClientNode → Ep
@@ -47,6 +47,6 @@ abbrev pub is_symmetric : NatKind → Bool
 is_symmetric kind.Symmetric = true
 is_symmetric _ = false
 
-abbrev pub is_cone : NatKind → Bool
-is_cone kind.Cone = true
-is_cone _ = false
+abbrev pub is_cone_kind : NatKind → Bool
+is_cone_kind kind.Cone = true
+is_cone_kind _ = false

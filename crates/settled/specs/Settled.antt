@@ -7,14 +7,14 @@ use Rattle.topology.specs.declared.client_node.ClientNode.{ClientNode}
 use Rattle.history.specs.Full.{Full}
 use Rattle.legal.specs.Lab.{Lab}
 use Rattle.legal.specs.Past.{now}
-use Rattle.settled.specs.Clients.{address_in, asks_at, nat_behind, past_of_nat, port_to, is_symmetric, is_cone}
+use Rattle.settled.specs.Clients.{client_address, asks_at, nat_behind, past_of_nat, port_to, is_symmetric, is_cone_kind}
 
 -- client n has the address own behind a NAT that isn't symmetric. This embeds the NAT's address and the live port of the
 -- client, at which its server is let in to it, and has the cone bit only behind a cone NAT
 pub record IsSettled (lab : Lab) (H : List Full) (n : ℕ) (c : ClientNode) (own : Ip6) : Type 0 where
-  pub address : address_in lab H n c ≡ Some own
+  pub address : client_address lab H n c ≡ Some own
   pub kind : is_symmetric (nat_behind lab c).kind ≡ false
   pub external : (embedded own).ip ≡ (nat_behind lab c).external
   pub port : port_to lab H c (asks_at lab c) ≡ Some (embedded own).port
   pub reached : lets_in (nat_behind lab c) (past_of_nat lab H c) (now H) (asks_at lab c) (embedded own).port ≡ Some c.inside
-  pub cone : has_cone own ≡ true → is_cone (nat_behind lab c).kind ≡ true
+  pub cone : has_cone own ≡ true → is_cone_kind (nat_behind lab c).kind ≡ true

@@ -4,7 +4,7 @@ use Rattle.std.specs.Char.{is_ascii_hexdigit}
 use Rattle.std.specs.List.{AllPass}
 use Rattle.hex.specs.Hex.{decode_of}
 use Rattle.bubble.specs.declared.fault.PayloadFault.{PayloadFault}
-use Rattle.bubble.specs.Payloads.{Value, PayloadBytes, IsFirstFault}
+use Rattle.bubble.specs.Payloads.{Value, PayloadBytes, IsFirstPayloadFault}
 use Rattle.show.specs.Lines.{payload_lines}
 use Rattle.show.specs.Faults.{hex_fault_line, fault_line}
 
@@ -32,7 +32,7 @@ pub record ShowsFault (word page : List ℕ) : Type 0 where
   pub bytes : List ℕ
   pub fault : PayloadFault
   pub said : decode_of word ≡ Ok bytes
-  pub first : IsFirstFault fault bytes
+  pub first : IsFirstPayloadFault fault bytes
   pub line : page ≡ fault_line fault
 
 -- the word says no payload, and its first fault is what stands there

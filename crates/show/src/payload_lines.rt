@@ -1,7 +1,7 @@
 //! The lines of a payload.
 ghost use Rattle.std.specs.Prelude.{◌≡◌, ◌+◌, ◌*◌, ◌≤◌, ◌++◌, length, IfSome};
-ghost use Rattle.ipv6_packet.specs.Packets.{view as packet_view};
-ghost use Rattle.bubble.specs.Payloads.{view};
+ghost use Rattle.ipv6_packet.specs.Packets.{packet_view};
+ghost use Rattle.bubble.specs.Payloads.{payload_view};
 ghost use Rattle.show.specs.Lines.{number_digits, span_bytes, AreShortSpans, keys_line, auth_line, origin_line};
 ghost use Rattle.show.specs.Lines.{packet_line, embedded_line, teredo_line, address_lines, kind_word, body_line};
 ghost use Rattle.show.specs.Lines.{payload_lines};
@@ -188,7 +188,7 @@ pub(crate) fn put_payload(bytes: &[u8], payload: &Payload, page: &mut Page)
     requires spans { IfSome payload.now.lead.auth (AreShortSpans bytes.now) }
     requires body { length payload.now.packet.body.now ≤ DATAGRAM_MAX }
     requires room { length page.old + PAYLOAD_ROOM ≤ PAGE_LEN }
-    ensures { page.new ≡ page.old ++ payload_lines bytes.now (view payload.now) }
+    ensures { page.new ≡ page.old ++ payload_lines bytes.now (payload_view payload.now) }
 {
     put_auth(bytes, payload.lead.auth, page);
     put_origin(payload.lead.origin, page);

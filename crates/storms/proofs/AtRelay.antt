@@ -12,8 +12,8 @@ use Rattle.ipv6_packet.specs.Laws.{PacketIsSpelled}
 use Rattle.bubble.specs.Laws.{PacketIsPayload, BubbleReadsBack}
 use Rattle.teredo_node.specs.Step.{Send}
 use Rattle.teredo_node.specs.Journal.{arrived, given, from_six, ticked, Input, Entry}
-use Rattle.relay_rules.specs.Bearings.{mention, mentions}
-use Rattle.relay_rules.specs.Laws.{WaitingIsForeign, ReceptionIsWarranted, TransmissionIsWarranted}
+use Rattle.relay_rules.specs.Bearings.{relay_mention, relay_mentions}
+use Rattle.relay_rules.specs.Laws.{WaitingIsForeign, RelayReceptionIsWarranted, RelayTransmissionIsWarranted}
 use Rattle.topology.specs.declared.relay_node.RelayNode.{RelayNode}
 use Rattle.topology.specs.declared.node.Node.TheVariants.{Relay as relay}
 use Rattle.topology.specs.Topology.{own_ep}
@@ -39,8 +39,8 @@ pub record RelayLaws : Type 0 where
   pub peers : PeerLaws
   pub journals : EachRelayIsJournal
   pub waiting : WaitingIsForeign
-  pub received : ReceptionIsWarranted
-  pub transmitted : TransmissionIsWarranted
+  pub received : RelayReceptionIsWarranted
+  pub transmitted : RelayTransmissionIsWarranted
   pub payload : PacketIsPayload
   pub bubble : BubbleReadsBack
   pub spelled : PacketIsSpelled
@@ -48,11 +48,11 @@ pub record RelayLaws : Type 0 where
 -- WHAT WAITS
 
 -- as the journal's mentions have it
-pub waits_as : PeerLaws → (j : List Entry) (m : ℕ) → sum (map relay_packet (waiting_packets (mentions j) m)) ≡ waits_in relay_packet (mentions j) m
-waits_as laws j m = sum-map relay_packet (waiting_packets (mentions j) m) ∙ waiting_is relay_packet laws (mentions j) m
+pub waits_as : PeerLaws → (j : List Entry) (m : ℕ) → sum (map relay_packet (waiting_packets (relay_mentions j) m)) ≡ waits_in relay_packet (relay_mentions j) m
+waits_as laws j m = sum-map relay_packet (waiting_packets (relay_mentions j) m) ∙ waiting_is relay_packet laws (relay_mentions j) m
 
-pub one_more : (e : Entry) (j : List Entry) → mentions (e ∷ j) ≡ mention e ∷ mentions j
-unfolding mentions
+pub one_more : (e : Entry) (j : List Entry) → relay_mentions (e ∷ j) ≡ relay_mention e ∷ relay_mentions j
+unfolding relay_mentions
 one_more e j = refl
 
 -- LIGHT ENTRIES
@@ -77,7 +77,7 @@ abbrev pub weigh : AtRelay → Item → ℕ
 weigh d = entry_weight d.lab.topology
 
 abbrev pub waited : AtRelay → ℕ
-waited d = waits_in relay_packet (mentions d.j) d.m
+waited d = waits_in relay_packet (relay_mentions d.j) d.m
 
 -- what an entry makes
 abbrev pub made_by : AtRelay → Entry → List Made
@@ -86,18 +86,18 @@ made_by d e = outright (own_of d) d.fails 0 e.step.sends ++ six_made e.input e.s
 -- what the entry makes and leaves weighs less than this, and what waited before
 abbrev pub IsLight : AtRelay → Entry → Type 0
 IsLight d e = AllByRecursion IsMadeItem (items_in (made_by d e))
-    → sum_by (weigh d) (items_in (made_by d e)) + waits_in relay_packet (mention e ∷ mentions d.j) d.m < d.heavy + waited d
+    → sum_by (weigh d) (items_in (made_by d e)) + waits_in relay_packet (relay_mention e ∷ relay_mentions d.j) d.m < d.heavy + waited d
 
 -- nothing is sent, and nothing waits more or less
 abbrev pub IsCalm : Entry → Type 0
-IsCalm e = (e.step.sends ≡ []) × (e.step.six ≡ None) × ((mention e).bearing.touches ≡ false) × ((mention e).bearing.hears ≡ false) ×
-    ((mention e).bearing.queues ≡ None)
+IsCalm e = (e.step.sends ≡ []) × (e.step.six ≡ None) × ((relay_mention e).bearing.touches ≡ false) × ((relay_mention e).bearing.hears ≡ false) ×
+    ((relay_mention e).bearing.queues ≡ None)
 
 pub calm : PeerLaws → (d : AtRelay) (e : Entry) → 1 ≤ d.heavy → IsCalm e → IsLight d e
 calm laws d e least is made =
     let none = ap (λ (ss : List Send). sum_by (weigh d) (items_in (outright (own_of d) d.fails 0 ss ++ six_made e.input e.step.six))) is.0 in
     let packet = no_packet e.input e.step.six is.1 in
-    let less = stays relay_packet laws (mention e) (mentions d.j) d.m is.2 is.3 is.4 in
+    let less = stays relay_packet laws (relay_mention e) (relay_mentions d.j) d.m is.2 is.3 is.4 in
     omega (arith, least, none, packet, less)
   where
     no_packet : (i : Input) (o : Option Span) → o ≡ None → sum_by (weigh d) (items_in (six_made i o)) ≡ 0
@@ -108,11 +108,11 @@ calm laws d e least is made =
     no_packet ticked o h = refl
 
 -- what waits after an entry that touches a peer
-pub shifted : PeerLaws → (d : AtRelay) (e : Entry) (p : Ip6) → e.moment ≡ d.m → e.peer ≡ Some p → (mention e).bearing.touches ≡ true
-    → waits_in relay_packet (mention e ∷ mentions d.j) d.m + freed relay_packet (mention e).bearing.hears (waits_for relay_packet (mentions d.j) d.m p)
-    ≤ waited d + added relay_packet (mention e).bearing.queues
+pub shifted : PeerLaws → (d : AtRelay) (e : Entry) (p : Ip6) → e.moment ≡ d.m → e.peer ≡ Some p → (relay_mention e).bearing.touches ≡ true
+    → waits_in relay_packet (relay_mention e ∷ relay_mentions d.j) d.m + freed relay_packet (relay_mention e).bearing.hears (waits_for relay_packet (relay_mentions d.j) d.m p)
+    ≤ waited d + added relay_packet (relay_mention e).bearing.queues
 shifted laws d e p moment peer touches =
-    subst (λ (k : ℕ). waits_in relay_packet (mention e ∷ mentions d.j) k + freed relay_packet (mention e).bearing.hears
-    (waits_for relay_packet (mentions d.j) k p)
-    ≤ waits_in relay_packet (mentions d.j) k + added relay_packet (mention e).bearing.queues) moment
-    (shifts relay_packet laws (mention e) (mentions d.j) p peer touches)
+    subst (λ (k : ℕ). waits_in relay_packet (relay_mention e ∷ relay_mentions d.j) k + freed relay_packet (relay_mention e).bearing.hears
+    (waits_for relay_packet (relay_mentions d.j) k p)
+    ≤ waits_in relay_packet (relay_mentions d.j) k + added relay_packet (relay_mention e).bearing.queues) moment
+    (shifts relay_packet laws (relay_mention e) (relay_mentions d.j) p peer touches)

@@ -30,7 +30,7 @@ use Rattle.server_core.specs.Conditions.{is_own, is_solicit, is_solicitation, is
 use Rattle.server_core.specs.Laws.{ForwardedReadsBack}
 use Rattle.server_core.specs.Outgoing.{send_from}
 use Rattle.server_core.specs.Outputs.{forwarded}
-use Rattle.server_core.specs.Rules.{seen, rule_of}
+use Rattle.server_core.specs.Rules.{server_seen, rule_of}
 use Rattle.server_core.specs.RuleWarrants.{GoesToOwn, GoesToOther, GoesToSix, RuledOnlyIf, RuleIsWarranted}
 use Rattle.server_core.specs.Server.{step_of, by_payload, server_row}
 use Rattle.topology.specs.declared.server_node.ServerNode.{ServerNode}
@@ -50,9 +50,9 @@ pub record RowLaws : Type 0 where
 -- what each rule would bring is no more than k
 record IsUnder (t : TopologyState) (a : ServerNode) (from : Ep) (v : Value) (k : ℕ) : Type 0 where
   plain : is_solicitation v.packet ≡ false
-  own : GoesToOwn (seen (server_settings a) from v) → (1 ≤ k) × (load t (own_ep (server a) Primary) (embedded v.packet.dst) (Some from) v.packet ≤ k)
-  other : GoesToOther (seen (server_settings a) from v) → (1 ≤ k) × (load t (own_ep (server a) Primary) (embedded v.packet.dst) None v.packet ≤ k)
-  six : GoesToSix (seen (server_settings a) from v) → packet_weight false v.packet ≤ k
+  own : GoesToOwn (server_seen (server_settings a) from v) → (1 ≤ k) × (load t (own_ep (server a) Primary) (embedded v.packet.dst) (Some from) v.packet ≤ k)
+  other : GoesToOther (server_seen (server_settings a) from v) → (1 ≤ k) × (load t (own_ep (server a) Primary) (embedded v.packet.dst) None v.packet ≤ k)
+  six : GoesToSix (server_seen (server_settings a) from v) → packet_weight false v.packet ≤ k
 
 sent_on : (t : TopologyState) (a : ServerNode) (s : Send) (k : ℕ) (origin : Option Ep) (p : Fields) → ReadsPayload (value_written None origin p) s.bytes
     → (1 ≤ k) × (load t (own_ep (server a) s.side) s.to origin p ≤ k) → send_weight t (server a) s ≤ k
@@ -70,7 +70,7 @@ packet_is x v reads =
 
 module _ (laws : RowLaws) (t : TopologyState) (a : ServerNode) (side : Side) (from : Ep) (x : List ℕ) (v : Value) (reads : ReadsPayload v x)
     (bytes : IsBytes x) (made : IsEp from) where
-  by_rule : (k : ℕ) (r : Rule) → RuledOnlyIf r (seen (server_settings a) from v) → IsUnder t a from v k
+  by_rule : (k : ℕ) (r : Rule) → RuledOnlyIf r (server_seen (server_settings a) from v) → IsUnder t a from v k
       → output_weight t (server a) x (step_of (server_settings a) side from x v r) ≤ k
   by_rule k (Dropped f) w u = omega arith
   by_rule k Advert w u = absurd (false≢true (sym u.plain ∙ w.solicitation))

@@ -12,7 +12,7 @@ use Rattle.teredo_node.specs.Journal.{Input, arrived, given, from_six, ticked, E
 use Rattle.teredo_node.proofs.FirstLines.{first_of_each}
 use Rattle.peer_list.specs.declared.limits.TheConstants.{LISTED_MS}
 use Rattle.peer_list.specs.Mentions.{Mention, is_about}
-use Rattle.peer_list.specs.Listed.{is_young, is_listed, listed}
+use Rattle.peer_list.specs.Listed.{is_younger, is_listed, listed}
 use Rattle.peer_list.specs.Peers.{Peer, no_peer, peer_at, known}
 use Rattle.peer_list.specs.Judged.{is_full}
 use Rattle.peer_list.specs.Laws.{peer_if, OneEntry}
@@ -28,14 +28,14 @@ use Rattle.client_rules.specs.Transmission as client_transmission
 use Rattle.client_rules.specs.Warrants as client_warrants
 use Rattle.client_rules.specs.Journals as client_journals
 use Rattle.client_rules.specs.Laws as client_laws
-use Rattle.relay_rules.specs.Bearings as relay_bearings
-use Rattle.relay_rules.specs.Standing as relay_standing
+use Rattle.relay_rules.specs.Bearings.{relay_bearing_of, relay_mention, relay_mentions}
+use Rattle.relay_rules.specs.Standing.{RelayStanding, relay_known_in, relay_standing_at, relay_standing_of}
 use Rattle.relay_rules.specs.Standing.{RelaySettings}
-use Rattle.relay_rules.specs.Reception as relay_reception
-use Rattle.relay_rules.specs.Transmission as relay_transmission
-use Rattle.relay_rules.specs.Warrants as relay_warrants
+use Rattle.relay_rules.specs.Reception.{relay_reception_row, relay_seen, reception_lines}
+use Rattle.relay_rules.specs.Transmission.{relay_given}
+use Rattle.relay_rules.specs.Warrants.{RelayGoesLater, RelaySentOnlyIf}
 use Rattle.relay_rules.specs.Journals as relay_journals
-use Rattle.relay_rules.specs.Laws as relay_laws
+use Rattle.relay_rules.specs.Laws.{FateOfRelayReception, FateOfRelayTransmission, RelayJournalHasFew, RelayTransmissionIsWarranted}
 use Rattle.topology.specs.Rows.{TopologyState}
 use Rattle.topology.specs.Rules.{IsTopology}
 use Rattle.topology.specs.declared.node.Node.{Node}
@@ -86,7 +86,7 @@ few_waiting : OneEntry → (j : List Mention) → QueueFew j → (n : ℕ) (p : 
 few_waiting one [] q n p = let none = ap (λ (x : Peer). length x.waiting) (known_none n p) in omega (arith, none)
 few_waiting one (e ∷ j) q n p =
     subst (λ (o : Option Peer). length (unwrap_or o no_peer).waiting ≤ 8) (sym (one e j n p))
-    (by (is_about p e) e.bearing.touches (is_young LISTED_MS n e.moment) (peer_at j n p) refl refl (few_waiting one j q.1 e.moment p)
+    (by (is_about p e) e.bearing.touches (is_younger LISTED_MS n e.moment) (peer_at j n p) refl refl (few_waiting one j q.1 e.moment p)
     (few_waiting one j q.1 n p))
   where
     queues : {P : Type 0} → (QueuesFew e j → P) → IfSome e.bearing.queues (λ x. P)
@@ -196,7 +196,7 @@ client_queue : ClientFewLaws → (s : Settings) (start : ℕ) (j : List Entry) �
 unfolding client_bearings.mentions
 client_queue laws s start [] a = tt
 client_queue laws s start (e ∷ j) a =
-    let one = subst (λ (x : Entry). IfSome (client_bearings.mention x).bearing.queues (λ y. QueuesFew (client_bearings.mention x) (client_bearings.mentions j))) (sym a.0.is) (client_entry_few laws s (client_journals.journal start j) e.moment e.input a.0.words) in
+    let one = subst (λ (x : Entry). IfSome (client_bearings.mention x).bearing.queues (λ y. QueuesFew (client_bearings.mention x) (client_bearings.mentions j))) (sym a.0.is) (client_entry_few laws s (client_journals.journal_since start j) e.moment e.input a.0.words) in
     by (is_changed e.step.fate) one (client_queue laws s start j a.1)
   where
     by : (b : Bool) → IfSome (client_bearings.mention e).bearing.queues (λ y. QueuesFew (client_bearings.mention e) (client_bearings.mentions j)) → QueueFew (client_bearings.mentions j) → QueueFew (map client_bearings.mention (cond b [] (e ∷ epoch j)))
@@ -206,52 +206,52 @@ client_queue laws s start (e ∷ j) a =
 -- WHAT A RELAY QUEUES
 
 -- no datagram of a relay is
-relayed_other : (s : RelaySettings) (a : relay_standing.Standing) (from : Ep) (x : List ℕ) → IsOther (relay_reception.reception_row (relay_reception.seen s a from x))
+relayed_other : (s : RelaySettings) (a : RelayStanding) (from : Ep) (x : List ℕ) → IsOther (relay_reception_row (relay_seen s a from x))
 relayed_other s a from x =
-    first_of_each IsOther (relay_reception.reception_lines (relay_reception.seen s a from x)) fate.Unserved (refl, (refl, (refl, (refl, (refl, (refl, (refl, (refl, tt)))))))) refl
+    first_of_each IsOther (reception_lines (relay_seen s a from x)) fate.Unserved (refl, (refl, (refl, (refl, (refl, (refl, (refl, (refl, tt)))))))) refl
 
 pub record RelayFewLaws : Type 0 where
-  pub received : relay_laws.FateOfReception
-  pub sent : relay_laws.FateOfTransmission
-  pub warranted : relay_laws.TransmissionIsWarranted
-  pub few : relay_laws.JournalHasFew
+  pub received : FateOfRelayReception
+  pub sent : FateOfRelayTransmission
+  pub warranted : RelayTransmissionIsWarranted
+  pub few : RelayJournalHasFew
   pub journals : EachRelayIsJournal
 
-relay_queues : (e : Entry) (f : Fate) (P : Type 0) → (f ≡ fate.Queued → IfSome e.packet (λ x. P)) → IfSome (relay_bearings.bearing_of f e).queues (λ x. P)
+relay_queues : (e : Entry) (f : Fate) (P : Type 0) → (f ≡ fate.Queued → IfSome e.packet (λ x. P)) → IfSome (relay_bearing_of f e).queues (λ x. P)
 relay_queues e fate.Queued P h = h refl
 relay_queues e _ P h = tt
 
-relay_few : (e : Entry) (j : List Mention) → (e.step.fate ≡ fate.Queued → (p : Ip6) → e.peer ≡ Some p → is_full (known j e.moment p) ≡ false) → IfSome (relay_bearings.mention e).bearing.queues (λ x. QueuesFew (relay_bearings.mention e) j)
+relay_few : (e : Entry) (j : List Mention) → (e.step.fate ≡ fate.Queued → (p : Ip6) → e.peer ≡ Some p → is_full (known j e.moment p) ≡ false) → IfSome (relay_mention e).bearing.queues (λ x. QueuesFew (relay_mention e) j)
 relay_few e j free =
-    relay_queues e e.step.fate (QueuesFew (relay_bearings.mention e) j)
-    (λ k. any_some (QueuesFew (relay_bearings.mention e) j) e.packet (record { touches = ap (λ (f : Fate). (relay_bearings.bearing_of f e).touches) k; free = free k }))
+    relay_queues e e.step.fate (QueuesFew (relay_mention e) j)
+    (λ k. any_some (QueuesFew (relay_mention e) j) e.packet (record { touches = ap (λ (f : Fate). (relay_bearing_of f e).touches) k; free = free k }))
 
 relay_six : RelayFewLaws → (s : RelaySettings) (j : List Entry) (n : ℕ) (x : List ℕ) → let e : Entry = relay_journals.relay_six s j n x in e.step.fate ≡ fate.Queued → (p : Ip6) → e.peer ≡ Some p
-    → is_full (known (relay_bearings.mentions j) n p) ≡ false
-unfolding relay_journals.relay_six relay_transmission.given relay_standing.standing_at
+    → is_full (known (relay_mentions j) n p) ≡ false
+unfolding relay_journals.relay_six relay_given relay_standing_at
 relay_six laws s j n x k p about =
-    let a : relay_standing.Standing = relay_standing.standing_of j n (destination_in x) in
-    let later : relay_warrants.GoesLater (relay_transmission.given s a x) = subst (λ (f : Fate). relay_warrants.SentOnlyIf f (relay_transmission.given s a x)) (sym (laws.sent s a x) ∙ k) (laws.warranted s a x) in
-    ap (λ (o : Option Ip6). is_full (relay_standing.known_in (relay_standing.standing_of j n o))) (sym about) ∙ later.free
+    let a : RelayStanding = relay_standing_of j n (destination_in x) in
+    let later : RelayGoesLater (relay_given s a x) = subst (λ (f : Fate). RelaySentOnlyIf f (relay_given s a x)) (sym (laws.sent s a x) ∙ k) (laws.warranted s a x) in
+    ap (λ (o : Option Ip6). is_full (relay_known_in (relay_standing_of j n o))) (sym about) ∙ later.free
 
 relay_entry_few : RelayFewLaws → (s : RelaySettings) (j : List Entry) (n : ℕ) (input : Input) → let e : Entry = relay_journals.relay_entry s j n input in
-    IfSome (relay_bearings.mention e).bearing.queues (λ x. QueuesFew (relay_bearings.mention e) (relay_bearings.mentions j))
+    IfSome (relay_mention e).bearing.queues (λ x. QueuesFew (relay_mention e) (relay_mentions j))
 unfolding relay_journals.relay_in relay_journals.relay_six relay_journals.relay_tick
 relay_entry_few laws s j n (arrived from x) =
-    let a : relay_standing.Standing = relay_standing.standing_of j n (source_in x) in
-    relay_few (relay_journals.relay_entry s j n (arrived from x)) (relay_bearings.mentions j)
-    (λ k. queued_other (relay_reception.reception_row (relay_reception.seen s a from x)) (relayed_other s a from x) (sym (laws.received s a from x) ∙ k))
-relay_entry_few laws s j n (from_six x) = relay_few (relay_journals.relay_entry s j n (from_six x)) (relay_bearings.mentions j) (relay_six laws s j n x)
+    let a : RelayStanding = relay_standing_of j n (source_in x) in
+    relay_few (relay_journals.relay_entry s j n (arrived from x)) (relay_mentions j)
+    (λ k. queued_other (relay_reception_row (relay_seen s a from x)) (relayed_other s a from x) (sym (laws.received s a from x) ∙ k))
+relay_entry_few laws s j n (from_six x) = relay_few (relay_journals.relay_entry s j n (from_six x)) (relay_mentions j) (relay_six laws s j n x)
 relay_entry_few laws s j n ticked =
     let e : Entry = relay_journals.relay_entry s j n ticked in
-    relay_queues e e.step.fate (QueuesFew (relay_bearings.mention e) (relay_bearings.mentions j)) (λ k. tt)
+    relay_queues e e.step.fate (QueuesFew (relay_mention e) (relay_mentions j)) (λ k. tt)
 relay_entry_few laws s j n (given x) = tt
 
-relay_queue : RelayFewLaws → (s : RelaySettings) (j : List Entry) → relay_journals.IsJournal s j → QueueFew (relay_bearings.mentions j)
-unfolding relay_bearings.mentions
+relay_queue : RelayFewLaws → (s : RelaySettings) (j : List Entry) → relay_journals.IsRelayJournal s j → QueueFew (relay_mentions j)
+unfolding relay_mentions
 relay_queue laws s [] a = tt
 relay_queue laws s (e ∷ j) a =
-    let one = subst (λ (x : Entry). IfSome (relay_bearings.mention x).bearing.queues (λ y. QueuesFew (relay_bearings.mention x) (relay_bearings.mentions j))) (sym a.0.is) (relay_entry_few laws s j e.moment e.input) in
+    let one = subst (λ (x : Entry). IfSome (relay_mention x).bearing.queues (λ y. QueuesFew (relay_mention x) (relay_mentions j))) (sym a.0.is) (relay_entry_few laws s j e.moment e.input) in
     (one, relay_queue laws s j a.1)
 
 -- IN A NODE
@@ -281,8 +281,8 @@ module _ (one : OneEntry) (clients : ClientFewLaws) (relays : RelayFewLaws) (lab
       let s : RelaySettings = relay_settings lab.topology n r in
       let j : Journal = journal n H in
       let is = relays.journals lab H n r g there in
-      let all = few_packets one (relay_bearings.mentions j.entries) (now H) (relay_queue relays s j.entries is.journal) (relays.few s j.entries (now H) is.journal is.moments) in
-      let same = length-mapped relay_packet (waiting_packets (relay_bearings.mentions j.entries) (now H)) in
+      let all = few_packets one (relay_mentions j.entries) (now H) (relay_queue relays s j.entries is.journal) (relays.few s j.entries (now H) is.journal is.moments) in
+      let same = length-mapped relay_packet (waiting_packets (relay_mentions j.entries) (now H)) in
       omega (arith, all, same)
   node_few n (native a) there = omega arith
 

@@ -18,7 +18,7 @@ use Rattle.server_core.specs.declared.rules.Rule.TheVariants.{Dropped, Advert, F
 use Rattle.server_core.specs.AmongServers.{EachEndsAmongServers}
 use Rattle.server_core.specs.Bounds.{IsSilent}
 use Rattle.server_core.specs.Conditions.{is_own}
-use Rattle.server_core.specs.Rules.{seen, rule_of}
+use Rattle.server_core.specs.Rules.{server_seen, rule_of}
 use Rattle.server_core.specs.RuleWarrants.{RuledOnlyIf, RuleIsWarranted}
 use Rattle.server_core.specs.Server.{step_of, by_payload, server_row}
 use Rattle.topology.specs.declared.server_node.ServerNode.{ServerNode}
@@ -49,7 +49,7 @@ own_draws law t a side from x own = by (payload_at x) where
   foreign : is_own (server_settings a) from.ip ≡ false → ⊥
   foreign e = false≢true (sym e ∙ own)
 
-  of_rule : (v : Value) (r : Rule) → RuledOnlyIf r (seen (server_settings a) from v)
+  of_rule : (v : Value) (r : Rule) → RuledOnlyIf r (server_seen (server_settings a) from v)
       → output_weight t (server a) x (step_of (server_settings a) side from x v r) ≤ 0
   of_rule v (Dropped f) w = omega arith
   of_rule v Advert w = absurd (foreign w.sound.foreign)

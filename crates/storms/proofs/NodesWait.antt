@@ -6,7 +6,7 @@ use Rattle.std.proofs.lemmas.Bool.{false≢true}
 use Rattle.std.proofs.lemmas.List.Sums.{sum_by-append}
 use Rattle.teredo_node.specs.Journal.{Journal, Entry}
 use Rattle.client_rules.specs.Bearings as client_bearings
-use Rattle.relay_rules.specs.Bearings as relay_bearings
+use Rattle.relay_rules.specs.Bearings.{relay_mentions}
 use Rattle.topology.specs.Rows.{TopologyState}
 use Rattle.topology.specs.declared.node.Node.{Node}
 use Rattle.topology.specs.declared.node.Node.TheVariants.{Server as server, Nat as nat, Client as client, Relay as relay, Native as native}
@@ -25,8 +25,8 @@ same_at G H k (client c) j m =
     ap (λ (n : ℕ). map client_packet (waiting_packets (client_bearings.mentions (journal k G).entries) n)) m
     ∙ ap (λ (z : Journal). map client_packet (waiting_packets (client_bearings.mentions z.entries) (now H))) j
 same_at G H k (relay r) j m =
-    ap (λ (n : ℕ). map relay_packet (waiting_packets (relay_bearings.mentions (journal k G).entries) n)) m
-    ∙ ap (λ (z : Journal). map relay_packet (waiting_packets (relay_bearings.mentions z.entries) (now H))) j
+    ap (λ (n : ℕ). map relay_packet (waiting_packets (relay_mentions (journal k G).entries) n)) m
+    ∙ ap (λ (z : Journal). map relay_packet (waiting_packets (relay_mentions z.entries) (now H))) j
 same_at G H k (server a) j m = refl
 same_at G H k (nat a) j m = refl
 same_at G H k (native h) j m = refl

@@ -9,7 +9,7 @@ use Rattle.td_base.specs.Ip6.{same_ip6, same_ip6-self, same_ip6-true}
 use Rattle.td_base.specs.declared.ipv6.Ip6.{Ip6}
 use Rattle.peer_list.specs.declared.limits.TheConstants.{LISTED_MS}
 use Rattle.peer_list.specs.Mentions.{Mention, is_peer, is_about}
-use Rattle.peer_list.specs.Listed.{is_young, is_listed, with_peer, touched, listed}
+use Rattle.peer_list.specs.Listed.{is_younger, is_listed, with_peer, touched, listed}
 use Rattle.peer_list.specs.Peers.{Peer, no_peer, peer_at, known}
 use Rattle.peer_list.specs.Laws.{after, OfAnother, OfATouch, OfNoTouch, Unlisted, ListedAre}
 use Rattle.storms.specs.Burden.{waiting_packets}
@@ -151,7 +151,7 @@ module _ (w : List ℕ → ℕ) where
       → waits_for (e ∷ j) e.moment q + freed e.bearing.hears (waits_for j e.moment q) ≤ waits_for j e.moment q + added e.bearing.queues
   after_touch laws e j q about touches =
       let is = ap (λ (o : Option Peer). sum_by w (unwrap_or o no_peer).waiting) (laws.touch e j e.moment q about touches) in
-      by (is_young LISTED_MS e.moment e.moment) e.bearing.hears e.bearing.gives_up is
+      by (is_younger LISTED_MS e.moment e.moment) e.bearing.hears e.bearing.gives_up is
     where
       by : (young hears gives_up : Bool)
           → waits_for (e ∷ j) e.moment q ≡ sum_by w (unwrap_or

@@ -14,7 +14,7 @@ use Rattle.topology.specs.declared.relay_node.RelayNode.{RelayNode}
 use Rattle.topology.specs.Rows.{TopologyState}
 use Rattle.topology.specs.declared.node.Node.{Node}
 use Rattle.topology.specs.declared.node.Node.TheVariants.{Server as server, Nat as nat, Client as client, Relay as relay, Native as native}
-use Rattle.topology.specs.Topology.{nodes, node_at, is_at, number_of}
+use Rattle.topology.specs.Topology.{nodes, node_at, is_at, first_passing}
 use Rattle.topology.specs.Rules.{IsTopology}
 use Rattle.topology.specs.NodeRules.{has_address, AddressesAreApart}
 use Rattle.storms.specs.Weights.{is_server_at, is_some_server}
@@ -23,7 +23,7 @@ use Rattle.storms.specs.Weights.{is_server_at, is_some_server}
 
 -- the node that datagrams to dst come to
 abbrev pub first_at : TopologyState → Ep → Option Node
-first_at t dst = option_and_then (node_at t) (number_of (is_at dst) t)
+first_at t dst = option_and_then (node_at t) (first_passing (is_at dst) t)
 
 pub record IsThere (t : TopologyState) (dst : Ep) (a : Node) : Type 0 where
   pub number : ℕ
@@ -31,8 +31,8 @@ pub record IsThere (t : TopologyState) (dst : Ep) (a : Node) : Type 0 where
   pub passes : is_at dst a ≡ true
 
 pub is_there : (t : TopologyState) (dst : Ep) (a : Node) → first_at t dst ≡ Some a → IsThere t dst a
-is_there t dst a e = by (number_of (is_at dst) t) refl e where
-  by : (o : Option ℕ) → number_of (is_at dst) t ≡ o → option_and_then (node_at t) o ≡ Some a → IsThere t dst a
+is_there t dst a e = by (first_passing (is_at dst) t) refl e where
+  by : (o : Option ℕ) → first_passing (is_at dst) t ≡ o → option_and_then (node_at t) o ≡ Some a → IsThere t dst a
   by None is h = absurd (false≢true (ap (λ (z : Option Node). is_some z) h))
   by (Some k) is h =
       let some = position-Some (is_at dst) (nodes t) k a is in

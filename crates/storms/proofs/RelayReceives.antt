@@ -17,11 +17,11 @@ use Rattle.teredo_node.specs.Sends.{send, releases}
 use Rattle.teredo_node.specs.Journal.{arrived, Entry}
 use Rattle.teredo_node.proofs.FirstLines.{first_of_each}
 use Rattle.peer_list.specs.Peers.{known}
-use Rattle.relay_rules.specs.Bearings.{mention, mentions}
-use Rattle.relay_rules.specs.Standing.{Standing, known_in, standing_at, standing_of}
-use Rattle.relay_rules.specs.Reception as reception
-use Rattle.relay_rules.specs.Journals.{IsJournal, entry, relay_in}
-use Rattle.relay_rules.specs.Warrants.{ReceivedOnlyIf, IsOfPeer, IsServed}
+use Rattle.relay_rules.specs.Bearings.{relay_mention, relay_mentions}
+use Rattle.relay_rules.specs.Standing.{RelayStanding, relay_known_in, relay_standing_at, relay_standing_of}
+use Rattle.relay_rules.specs.Reception.{RelaySeen, relay_seen, relay_reception_step, reception_lines, relay_reception_row, relay_reception}
+use Rattle.relay_rules.specs.Journals.{IsRelayJournal, wordless_entry, relay_in}
+use Rattle.relay_rules.specs.Warrants.{RelayReceivedOnlyIf, IsOfPeer, IsServed}
 use Rattle.relay_rules.specs.Laws.{IsForeignTo}
 use Rattle.legal.specs.Emit.{six_made}
 use Rattle.storms.specs.Burden.{relay_packet}
@@ -33,44 +33,44 @@ use Rattle.storms.proofs.Relays.{packet_weighs, released_weigh, released_each}
 use Rattle.teredo_node.proofs.FirstLines.{Each}
 use Rattle.storms.proofs.AtRelay.{RelayLaws, AtRelay, setup, own_of, weigh, waited, IsLight, IsCalm, calm, shifted}
 
-module _ (laws : RelayLaws) (d : AtRelay) (is_j : IsJournal (setup d) d.j) (least : 1 ≤ d.heavy) (src : Ep) (x : List ℕ) where
+module _ (laws : RelayLaws) (d : AtRelay) (is_j : IsRelayJournal (setup d) d.j) (least : 1 ≤ d.heavy) (src : Ep) (x : List ℕ) where
   -- the source, and what is seen of it
   abbrev p : Ip6
   p = (value_in x).packet.src
 
-  abbrev a : Standing
-  a = standing_of d.j d.m (source_in x)
+  abbrev a : RelayStanding
+  a = relay_standing_of d.j d.m (source_in x)
 
-  abbrev heard : reception.Seen
-  heard = reception.seen (setup d) a src x
+  abbrev heard : RelaySeen
+  heard = relay_seen (setup d) a src x
 
   abbrev came : Fate → Entry
-  came f = entry d.m (arrived src x) (packet_in x) (source_in x) (reception.reception_step a x (value_in x) f)
+  came f = wordless_entry d.m (arrived src x) (packet_in x) (source_in x) (relay_reception_step a x (value_in x) f)
 
   source_is : is_payload x ≡ true → source_in x ≡ Some p
   unfolding source_in
   source_is h = ap (λ (b : Bool). cond b (Some p) None) h
 
   peer_payload : IsOfPeer heard → is_payload x ≡ true
-  unfolding reception.seen
+  unfolding relay_seen
   peer_payload h = h.payload
 
   peer_teredo : IsOfPeer heard → is_teredo p ≡ true
-  unfolding reception.seen
+  unfolding relay_seen
   peer_teredo h = h.teredo
 
   plain_is : IsServed heard → is_bubble (value_in x).packet ≡ false
-  unfolding reception.seen
+  unfolding relay_seen
   plain_is h = h.no_bubble
 
-  known_is : source_in x ≡ Some p → (known_in a).waiting ≡ (known (mentions d.j) d.m p).waiting
-  unfolding standing_at
-  known_is e = ap (λ (o : Option Ip6). (known (mentions d.j) d.m (unwrap_or o unspecified)).waiting) e
+  known_is : source_in x ≡ Some p → (relay_known_in a).waiting ≡ (known (relay_mentions d.j) d.m p).waiting
+  unfolding relay_standing_at
+  known_is e = ap (λ (o : Option Ip6). (known (relay_mentions d.j) d.m (unwrap_or o unspecified)).waiting) e
 
   -- WHAT WAITS FOR THE PEER
 
   abbrev waiting : List (List ℕ)
-  waiting = (known_in a).waiting
+  waiting = (relay_known_in a).waiting
 
   abbrev PacketWeighs : Send → Type 0
   PacketWeighs = WeighsFrom (weigh d) (λ (s : Send). relay_packet s.bytes) (own_of d)
@@ -91,11 +91,11 @@ module _ (laws : RelayLaws) (d : AtRelay) (is_j : IsJournal (setup d) d.j) (leas
       (subst (AllByRecursion (IsForeignTo (Some p))) (sym (known_is (source_is (peer_payload h)))) (laws.waiting (setup d) d.j d.m p is_j))
 
   -- and doesn't wait any more
-  hears : (e : Entry) → IsOfPeer heard → e.moment ≡ d.m → e.peer ≡ source_in x → (mention e).bearing.touches ≡ true → (mention e).bearing.hears ≡ true
-      → (mention e).bearing.queues ≡ None → waits_in relay_packet (mention e ∷ mentions d.j) d.m + sum_by relay_packet waiting ≤ waited d
+  hears : (e : Entry) → IsOfPeer heard → e.moment ≡ d.m → e.peer ≡ source_in x → (relay_mention e).bearing.touches ≡ true → (relay_mention e).bearing.hears ≡ true
+      → (relay_mention e).bearing.queues ≡ None → waits_in relay_packet (relay_mention e ∷ relay_mentions d.j) d.m + sum_by relay_packet waiting ≤ waited d
   hears e h moment peer touches heard_is queues =
       let less = shifted laws.peers d e p moment (peer ∙ source_is (peer_payload h)) touches in
-      let all = ap (λ (b : Bool). freed relay_packet b (waits_for relay_packet (mentions d.j) d.m p)) heard_is in
+      let all = ap (λ (b : Bool). freed relay_packet b (waits_for relay_packet (relay_mentions d.j) d.m p)) heard_is in
       let none = ap (added relay_packet) queues in
       let same = ap (sum_by relay_packet) (known_is (source_is (peer_payload h))) in
       omega (arith, less, all, none, same)
@@ -103,7 +103,7 @@ module _ (laws : RelayLaws) (d : AtRelay) (is_j : IsJournal (setup d) d.j) (leas
   -- EACH FATE
 
   abbrev Light : Fate → Type 0
-  Light f = ReceivedOnlyIf f heard → IsLight d (came f)
+  Light f = RelayReceivedOnlyIf f heard → IsLight d (came f)
 
   quietly : (f : Fate) → IsCalm (came f) → Light f
   quietly f is only = calm laws.peers d (came f) least is
@@ -138,7 +138,7 @@ module _ (laws : RelayLaws) (d : AtRelay) (is_j : IsJournal (setup d) d.j) (leas
         let heavy = more (peer_teredo only.peer) (peer_payload only.peer) (plain_is only) in
         omega (arith, heavy, new, same, packet, six, less)
 
-    each_line : Each Light (reception.reception_lines heard)
+    each_line : Each Light (reception_lines heard)
     each_line = (
       quietly fate.Malformed (refl, refl, refl, refl, refl),
       (
@@ -153,9 +153,9 @@ module _ (laws : RelayLaws) (d : AtRelay) (is_j : IsJournal (setup d) d.j) (leas
       ),
     )
 
-    each_fate : Light (reception.reception_row heard)
-    each_fate = first_of_each Light (reception.reception_lines heard) fate.Unserved each_line unserved
+    each_fate : Light (relay_reception_row heard)
+    each_fate = first_of_each Light (reception_lines heard) fate.Unserved each_line unserved
 
     pub datagram_lightens : IsLight d (relay_in (setup d) d.j d.m src x)
-    unfolding relay_in reception.reception
+    unfolding relay_in relay_reception
     datagram_lightens = each_fate (laws.received (setup d) a src x)

@@ -20,11 +20,11 @@ use Rattle.teredo_node.specs.Sends.{send}
 use Rattle.teredo_node.specs.Journal.{from_six, Entry}
 use Rattle.teredo_node.proofs.FirstLines.{first_of_each}
 use Rattle.peer_list.specs.Judged.{is_barred}
-use Rattle.relay_rules.specs.Bearings.{mention, mentions}
-use Rattle.relay_rules.specs.Standing.{Standing, known_in, standing_of}
-use Rattle.relay_rules.specs.Transmission as transmission
-use Rattle.relay_rules.specs.Journals.{entry, relay_six}
-use Rattle.relay_rules.specs.Warrants.{SentOnlyIf, GoesOut}
+use Rattle.relay_rules.specs.Bearings.{relay_mention, relay_mentions}
+use Rattle.relay_rules.specs.Standing.{RelayStanding, relay_known_in, relay_standing_of}
+use Rattle.relay_rules.specs.Transmission.{RelayGiven, relay_given, relay_transmission_step, bubble_to, relay_queues, relay_packet_lines, relay_destination_lines, relay_transmission_row, relay_transmission}
+use Rattle.relay_rules.specs.Journals.{wordless_entry, relay_six}
+use Rattle.relay_rules.specs.Warrants.{RelaySentOnlyIf, RelayGoesOut}
 use Rattle.storms.specs.Weights.{is_some_server}
 use Rattle.storms.specs.Burden.{relay_packet}
 use Rattle.storms.proofs.PeersWait.{waits_in, added}
@@ -39,21 +39,21 @@ module _ (laws : RelayLaws) (d : AtRelay) (least : 1 ≤ d.heavy) (x : List ℕ)
   abbrev p : Ip6
   p = (fields_in x).dst
 
-  abbrev stands : Standing
-  stands = standing_of d.j d.m (destination_in x)
+  abbrev stands : RelayStanding
+  stands = relay_standing_of d.j d.m (destination_in x)
 
-  abbrev asked : transmission.Given
-  asked = transmission.given (setup d) stands x
+  abbrev asked : RelayGiven
+  asked = relay_given (setup d) stands x
 
   abbrev went : Fate → Entry
-  went f = entry d.m (from_six x) (packet_given x) (destination_in x) (transmission.transmission_step (setup d) stands x p f)
+  went f = wordless_entry d.m (from_six x) (packet_given x) (destination_in x) (relay_transmission_step (setup d) stands x p f)
 
   both_false : (b c : Bool) → not (b || c) ≡ true → b ≡ false
   both_false false c h = refl
   both_false true c h = absurd (false≢true h)
 
-  goes_on : GoesOut asked → IsForClient (embedded p) x
-  unfolding transmission.given
+  goes_on : RelayGoesOut asked → IsForClient (embedded p) x
+  unfolding relay_given
   goes_on out = record {
     well_formed = out.packet;
     native = both_false (is_teredo (fields_in x).src) (not (is_global6 (fields_in x).src)) out.foreign_source;
@@ -72,18 +72,18 @@ module _ (laws : RelayLaws) (d : AtRelay) (least : 1 ≤ d.heavy) (x : List ℕ)
   -- EACH FATE
 
   abbrev Goes : Fate → Type 0
-  Goes f = SentOnlyIf f asked → IsLight d (went f)
+  Goes f = RelaySentOnlyIf f asked → IsLight d (went f)
 
   idly : (f : Fate) → IsCalm (went f) → Goes f
   idly f is only = calm laws.peers d (went f) least is
 
   -- what waits grows by what is queued
-  touches : (e : Entry) → is_packet x ≡ true → e.moment ≡ d.m → e.peer ≡ destination_in x → (mention e).bearing.touches ≡ true
-      → waits_in relay_packet (mention e ∷ mentions d.j) d.m ≤ waited d + added relay_packet (mention e).bearing.queues
+  touches : (e : Entry) → is_packet x ≡ true → e.moment ≡ d.m → e.peer ≡ destination_in x → (relay_mention e).bearing.touches ≡ true
+      → waits_in relay_packet (relay_mention e ∷ relay_mentions d.j) d.m ≤ waited d + added relay_packet (relay_mention e).bearing.queues
   touches e packet moment peer touched = let less = shifted laws.peers d e p moment (peer ∙ destination_is packet) touched in omega (arith, less)
 
   -- the packet itself goes out
-  packet_out : GoesOut asked → AllByRecursion (WeighsFrom (weigh d) (λ (s : Send). relay_packet s.bytes) (own_of d)) (send (embedded p) x ∷ [])
+  packet_out : RelayGoesOut asked → AllByRecursion (WeighsFrom (weigh d) (λ (s : Send). relay_packet s.bytes) (own_of d)) (send (embedded p) x ∷ [])
   packet_out out = (λ made. packet_weighs laws.rows laws.payload d.lab.topology (embedded p) x (goes_on out) (own_of d Primary) made, tt)
 
   sent : Goes fate.Sent
@@ -105,8 +105,8 @@ module _ (laws : RelayLaws) (d : AtRelay) (least : 1 ≤ d.heavy) (x : List ℕ)
   -- or waits, where no server is at the relay's endpoint
   module _ (here : is_some_server d.lab.topology d.q.at ≡ false) (six_made_of : IsIp6 d.q.six) (bytes : IsBytes x) where
     -- the try
-    bubble_is : is_packet x ≡ true → AllByRecursion (WeighsFrom (weigh d) (λ (s : Send). 3) (own_of d)) (transmission.bubble_to (setup d) p ∷ [])
-    unfolding transmission.bubble_to
+    bubble_is : is_packet x ≡ true → AllByRecursion (WeighsFrom (weigh d) (λ (s : Send). 3) (own_of d)) (bubble_to (setup d) p ∷ [])
+    unfolding bubble_to
     bubble_is packet =
         let reads = laws.bubble d.q.six p six_made_of (laws.spelled x bytes packet).0.dst in (
           λ made. bubble_sent laws.rows d.lab.topology d.q.at (server_ep (server_in p)) (bubble_bytes d.q.six p) (bubble_of d.q.six p) reads.payload reads.bytes
@@ -115,10 +115,10 @@ module _ (laws : RelayLaws) (d : AtRelay) (least : 1 ≤ d.heavy) (x : List ℕ)
         )
 
     abbrev queued_by : Bool → Entry
-    queued_by barred = entry d.m (from_six x) (packet_given x) (destination_in x) (transmission.queues barred (setup d) p)
+    queued_by barred = wordless_entry d.m (from_six x) (packet_given x) (destination_in x) (relay_queues barred (setup d) p)
 
     queued : Goes fate.Queued
-    queued only = by (is_barred stands.moment (known_in stands)) where
+    queued only = by (is_barred stands.moment (relay_known_in stands)) where
       packet : is_packet x ≡ true
       packet = (goes_on only.out).well_formed
 
@@ -128,14 +128,14 @@ module _ (laws : RelayLaws) (d : AtRelay) (least : 1 ≤ d.heavy) (x : List ℕ)
           let kept = ap (added relay_packet) (given_is packet) in
           omega (arith, more, less, kept)
       by false made =
-          let new = own_weigh (record { items = weigh d; sends = (λ (s : Send). 3); own = own_of d }) d.fails 0 (transmission.bubble_to (setup d) p ∷ []) []
+          let new = own_weigh (record { items = weigh d; sends = (λ (s : Send). 3); own = own_of d }) d.fails 0 (bubble_to (setup d) p ∷ []) []
           made (bubble_is packet) in
-          let one = sum_by-cons (λ (s : Send). 3) (transmission.bubble_to (setup d) p) [] in
+          let one = sum_by-cons (λ (s : Send). 3) (bubble_to (setup d) p) [] in
           let less = touches (queued_by false) packet refl refl refl in
           let kept = ap (added relay_packet) (given_is packet) in
           omega (arith, more, new, one, less, kept)
 
-    packet_each : Each Goes (transmission.packet_lines asked)
+    packet_each : Each Goes (relay_packet_lines asked)
     packet_each = (
       idly fate.Malformed (refl, refl, refl, refl, refl),
       (
@@ -150,7 +150,7 @@ module _ (laws : RelayLaws) (d : AtRelay) (least : 1 ≤ d.heavy) (x : List ℕ)
       ),
     )
 
-    destination_each : Each Goes (transmission.destination_lines asked)
+    destination_each : Each Goes (relay_destination_lines asked)
     destination_each = (
       sent,
       (
@@ -159,10 +159,10 @@ module _ (laws : RelayLaws) (d : AtRelay) (least : 1 ≤ d.heavy) (x : List ℕ)
       ),
     )
 
-    each_way : Goes (transmission.transmission_row asked)
-    each_way = skip Goes (transmission.packet_lines asked) (transmission.destination_lines asked) fate.Queued packet_each
-        (first_of_each Goes (transmission.destination_lines asked) fate.Queued destination_each queued)
+    each_way : Goes (relay_transmission_row asked)
+    each_way = skip Goes (relay_packet_lines asked) (relay_destination_lines asked) fate.Queued packet_each
+        (first_of_each Goes (relay_destination_lines asked) fate.Queued destination_each queued)
 
     pub packet_lightens : IsLight d (relay_six (setup d) d.j d.m x)
-    unfolding relay_six transmission.transmission
+    unfolding relay_six relay_transmission
     packet_lightens = each_way (laws.transmitted (setup d) stands x)

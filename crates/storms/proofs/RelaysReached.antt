@@ -7,7 +7,7 @@ use Rattle.ipv6_packet.specs.Reads.{fields_in}
 use Rattle.bubble.specs.Messages.{message_in, is_echo_reply}
 use Rattle.teredo_node.specs.Journal.{Entry, Journal}
 use Rattle.peer_list.specs.Mentions.{Mention}
-use Rattle.relay_rules.specs.Bearings.{mention, mentions}
+use Rattle.relay_rules.specs.Bearings.{relay_mention, relay_mentions}
 use Rattle.topology.specs.declared.relay_node.RelayNode.{RelayNode}
 use Rattle.topology.specs.Rows.{TopologyState}
 use Rattle.topology.specs.declared.node.Node.TheVariants.{Relay as relay}
@@ -31,15 +31,15 @@ use Rattle.storms.proofs.RelaySends.{packet_lightens}
 
 -- what waits in the relay after it and before it
 waits_after : PeerLaws → (lab : Lab) (H : List Full) (r : Full) (n : ℕ) (q : RelayNode) (x : Item) → IsReached lab H r n (relay q) x
-    → sum (waits_at (r ∷ H) n (relay q)) ≡ waits_in relay_packet (mention (answer_of lab H r n (relay q) x) ∷ mentions (journal n H).entries) r.moment
+    → sum (waits_at (r ∷ H) n (relay q)) ≡ waits_in relay_packet (relay_mention (answer_of lab H r n (relay q) x) ∷ relay_mentions (journal n H).entries) r.moment
 waits_after laws lab H r n q x h =
     let e : Entry = answer_of lab H r n (relay q) x in
-    ap (λ (z : Journal). sum (map relay_packet (waiting_packets (mentions z.entries) r.moment))) h.later ∙ waits_as laws (e ∷ (journal n H).entries) r.moment
+    ap (λ (z : Journal). sum (map relay_packet (waiting_packets (relay_mentions z.entries) r.moment))) h.later ∙ waits_as laws (e ∷ (journal n H).entries) r.moment
     ∙ ap (λ (z : List Mention). waits_in relay_packet z r.moment) (one_more e (journal n H).entries)
 
 waits_before : PeerLaws → (lab : Lab) (H : List Full) (r : Full) (n : ℕ) (q : RelayNode) (x : Item) → IsReached lab H r n (relay q) x
-    → sum (waits_at H n (relay q)) ≡ waits_in relay_packet (mentions (journal n H).entries) r.moment
-waits_before laws lab H r n q x h = ap (λ (k : ℕ). sum (map relay_packet (waiting_packets (mentions (journal n H).entries) k))) (sym h.moment)
+    → sum (waits_at H n (relay q)) ≡ waits_in relay_packet (relay_mentions (journal n H).entries) r.moment
+waits_before laws lab H r n q x h = ap (λ (k : ℕ). sum (map relay_packet (waiting_packets (relay_mentions (journal n H).entries) k))) (sym h.moment)
     ∙ waits_as laws (journal n H).entries r.moment
 
 -- a packet for a relay that is an echo reply weighs 5, and any other 12

@@ -17,12 +17,12 @@ use Rattle.bubble.specs.Reads.{is_payload, value_in}
 use Rattle.teredo_addr.specs.Teredo.{is_teredo}
 use Rattle.td_base.specs.Reach.{is_global6}
 use Rattle.client_rules.specs.Bearings as client_bearings
-use Rattle.relay_rules.specs.Bearings as relay_bearings
+use Rattle.relay_rules.specs.Bearings.{relay_mentions}
 use Rattle.topology.specs.declared.server_node.ServerNode.{ServerNode}
 use Rattle.topology.specs.Rows.{TopologyState}
 use Rattle.topology.specs.declared.node.Node.{Node}
 use Rattle.topology.specs.declared.node.Node.TheVariants.{Server as server, Nat as nat, Client as client, Relay as relay, Native as native}
-use Rattle.topology.specs.Topology.{nodes, node_at, number_of, is_at, side_at, own_ep}
+use Rattle.topology.specs.Topology.{nodes, node_at, first_passing, is_at, side_at, own_ep}
 use Rattle.history.specs.Full.{Item, udp, six, Full}
 use Rattle.legal.specs.Settings.{server_settings}
 use Rattle.legal.specs.Past.{now, journal}
@@ -81,7 +81,7 @@ at_most law t src dst x (Some (relay a)) = let most = datagram_most t src dst x 
 at_most law t src dst x (Some (native a)) = let most = datagram_most t src dst x in omega (arith, most)
 
 weight_most : OneOutput → (t : TopologyState) (x : Item) → entry_weight t x ≤ 12
-weight_most law t (udp src dst x) = at_most law t src dst x (option_and_then (node_at t) (number_of (is_at dst) t))
+weight_most law t (udp src dst x) = at_most law t src dst x (option_and_then (node_at t) (first_passing (is_at dst) t))
 weight_most law t (six None x) = let most = six_most (fields_in x) in omega (arith, most)
 weight_most law t (six (Some k) x) = packet_most (fields_in x)
 
@@ -109,7 +109,7 @@ at_least t src dst x (Some (relay a)) = datagram_least t src dst x
 at_least t src dst x (Some (native a)) = datagram_least t src dst x
 
 pub weight_least : (t : TopologyState) (x : Item) → 1 ≤ entry_weight t x
-weight_least t (udp src dst x) = at_least t src dst x (option_and_then (node_at t) (number_of (is_at dst) t))
+weight_least t (udp src dst x) = at_least t src dst x (option_and_then (node_at t) (first_passing (is_at dst) t))
 weight_least t (six None x) = packet_least false (fields_in x)
 weight_least t (six (Some k) x) = packet_least true (fields_in x)
 
@@ -157,7 +157,7 @@ relays_few (x ∷ xs) = (relay_few x, relays_few xs)
 
 node_few : (H : List Full) (n : ℕ) (a : Node) → AllByRecursion Few (waits_at H n a)
 node_few H n (client c) = clients_few (waiting_packets (client_bearings.mentions (journal n H).entries) (now H))
-node_few H n (relay r) = relays_few (waiting_packets (relay_bearings.mentions (journal n H).entries) (now H))
+node_few H n (relay r) = relays_few (waiting_packets (relay_mentions (journal n H).entries) (now H))
 node_few H n (server a) = tt
 node_few H n (nat a) = tt
 node_few H n (native a) = tt

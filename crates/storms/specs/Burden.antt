@@ -7,7 +7,7 @@ use Rattle.peer_list.specs.Mentions.{Mention}
 use Rattle.peer_list.specs.Listed.{listed}
 use Rattle.peer_list.specs.Peers.{known}
 use Rattle.client_rules.specs.Bearings as client_bearings
-use Rattle.relay_rules.specs.Bearings as relay_bearings
+use Rattle.relay_rules.specs.Bearings.{relay_mentions}
 use Rattle.topology.specs.Rows.{TopologyState}
 use Rattle.topology.specs.declared.node.Node.{Node}
 use Rattle.topology.specs.declared.node.Node.TheVariants.{Client as client, Relay as relay}
@@ -43,7 +43,7 @@ relay_packet x = if is_echo_reply (message_in (fields_in x)) then 1 else 8
 -- the weights of the packets that wait in node n
 abbrev pub waits_at : List Full → ℕ → Node → List ℕ
 waits_at H n (client c) = map client_packet (waiting_packets (client_bearings.mentions (journal n H).entries) (now H))
-waits_at H n (relay r) = map relay_packet (waiting_packets (relay_bearings.mentions (journal n H).entries) (now H))
+waits_at H n (relay r) = map relay_packet (waiting_packets (relay_mentions (journal n H).entries) (now H))
 waits_at H n _ = []
 
 abbrev pub waits_from : List Full → ℕ → List Node → List ℕ

@@ -23,7 +23,7 @@ use Rattle.server_core.specs.Server.{server_row}
 use Rattle.topology.specs.Rows.{TopologyState}
 use Rattle.topology.specs.declared.node.Node.{Node}
 use Rattle.topology.specs.declared.node.Node.TheVariants.{Server as server, Nat as nat, Relay as relay}
-use Rattle.topology.specs.Topology.{nodes, node_at, number_of, is_at, side_at, own_ep}
+use Rattle.topology.specs.Topology.{nodes, node_at, first_passing, is_at, side_at, own_ep}
 use Rattle.history.specs.Full.{Item, udp, six}
 use Rattle.legal.specs.Settings.{server_settings}
 
@@ -126,6 +126,6 @@ weight_at t src dst x _ = datagram_weight t src dst x
 -- THE WEIGHT OF AN ENTRY
 
 abbrev pub entry_weight : TopologyState → Item → ℕ
-entry_weight t (udp src dst x) = weight_at t src dst x (option_and_then (node_at t) (number_of (is_at dst) t))
+entry_weight t (udp src dst x) = weight_at t src dst x (option_and_then (node_at t) (first_passing (is_at dst) t))
 entry_weight t (six None x) = packet_weight false (fields_in x)
 entry_weight t (six (Some r) x) = packet_weight true (fields_in x)

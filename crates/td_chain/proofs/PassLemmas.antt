@@ -7,10 +7,10 @@ use Rattle.td_base.specs.declared.ipv4.Ip4.{Ip4}
 use Rattle.nat_kinds.specs.declared.settings.NatSettings.{NatSettings}
 use Rattle.nat_kinds.specs.declared.refusal.NatRefusal.{NatRefusal}
 use Rattle.nat_kinds.specs.declared.refusal.NatRefusal.TheVariants.{Hairpin, Full, NoMemory}
-use Rattle.nat_kinds.specs.History.{Entry, Out}
+use Rattle.nat_kinds.specs.History.{NatEntry, Out}
 use Rattle.nat_kinds.specs.Answer.{nat_answer, GivesAnswer}
 use Rattle.nat_kinds.specs.Nat.{NatState, StandsAsBefore}
-use Rattle.nat_kinds.specs.Nat as nats
+use Rattle.nat_kinds.specs.Nat.{NatStandsFor}
 use Rattle.topology.specs.Rows.{TopologyState}
 use Rattle.topology.specs.Chains.{Behind, outer_in, nats_from, NatPasts, Passing, outs_at, after_passing, passing, nat_set_up, answered, Crossing, crossing}
 use Rattle.td_chain.specs.Chains.{NatsStand, set_ups, NatIsThere, NatsReady, with_nat_entry, LacksMemory, Crosses}
@@ -76,7 +76,7 @@ module _ (list : List (Option NatState)) (k : ℕ) (now new : NatState) (at : sl
       ready_at (inr there) = ready j nat there.1
 
   -- they stand for histories that differ at this NAT alone
-  pub stand_later : (t : TopologyState) (before after : NatPasts) → NatsStand t list before → nats.StandsFor new (after k) → ((j : ℕ) → j ≢ k → after j ≡ before j) → NatsStand t later after
+  pub stand_later : (t : TopologyState) (before after : NatPasts) → NatsStand t list before → NatStandsFor new (after k) → ((j : ℕ) → j ≢ k → after j ≡ before j) → NatsStand t later after
   stand_later t before after stand here apart = record {
     set_up = λ j nat e. set_up_at j nat (put_or list k j (Some nat) (Some new) e);
     stands = λ j nat e. stands_at j nat (put_or list k j (Some nat) (Some new) e);
@@ -86,18 +86,18 @@ module _ (list : List (Option NatState)) (k : ℕ) (now new : NatState) (at : sl
       set_up_at j nat (inl put) = ap (λ (x : NatState). x.settings) (some_inj nat new put.1) ∙ same ∙ stand.set_up k now at ∙ ap (nat_set_up t) (sym put.0)
       set_up_at j nat (inr there) = stand.set_up j nat there.1
 
-      stands_at : (j : ℕ) (nat : NatState) → IsPutOr list k j (Some nat) (Some new) → nats.StandsFor nat (after j)
-      stands_at j nat (inl put) = subst (λ (i : ℕ). nats.StandsFor nat (after i)) (sym put.0) (subst (λ (x : NatState). nats.StandsFor x (after k)) (sym (some_inj nat new put.1)) here)
-      stands_at j nat (inr there) = subst (nats.StandsFor nat) (sym (apart j there.0)) (stand.stands j nat there.1)
+      stands_at : (j : ℕ) (nat : NatState) → IsPutOr list k j (Some nat) (Some new) → NatStandsFor nat (after j)
+      stands_at j nat (inl put) = subst (λ (i : ℕ). NatStandsFor nat (after i)) (sym put.0) (subst (λ (x : NatState). NatStandsFor x (after k)) (sym (some_inj nat new put.1)) here)
+      stands_at j nat (inr there) = subst (NatStandsFor nat) (sym (apart j there.0)) (stand.stands j nat there.1)
 
   module _ (t : TopologyState) (h : NatPasts) (m : ℕ) (from dst : Ep) (passed : List Passing) (stand : NatsStand t list (after_passing passed h)) where
-    pub passes : (result : Result Ep NatRefusal) → ((past : List Entry) → nats.StandsFor now past → GivesAnswer now.settings (nat_answer now.settings past m from dst) result)
-        → IfOk result (λ ep. (past : List Entry) → nats.StandsFor now past → nats.StandsFor new (Out (passing k m from dst ep.port).datagram ∷ past)) → OnErr result (StandsAsBefore now new)
+    pub passes : (result : Result Ep NatRefusal) → ((past : List NatEntry) → NatStandsFor now past → GivesAnswer now.settings (nat_answer now.settings past m from dst) result)
+        → IfOk result (λ ep. (past : List NatEntry) → NatStandsFor now past → NatStandsFor new (Out (passing k m from dst ep.port).datagram ∷ past)) → OnErr result (StandsAsBefore now new)
         → Passes t h m from dst passed k result later
     passes (Ok ep) answer stands refused = record {
       answer = subst (λ (s : NatSettings). GivesAnswer s (nat_answer s (after_passing passed h k) m from dst) (Ok ep)) (stand.set_up k now at) (answer _ (stand.stands k now at));
       stands = stand_later t (after_passing passed h) (after_passing (passing k m from dst ep.port ∷ passed) h) stand
-          (subst (nats.StandsFor new) (sym (own_out t k m from dst ep.port passed h)) (stands _ (stand.stands k now at))) (λ j other. other_out j k m from dst ep.port passed h other);
+          (subst (NatStandsFor new) (sym (own_out t k m from dst ep.port passed h)) (stands _ (stand.stands k now at))) (λ j other. other_out j k m from dst ep.port passed h other);
     }
     passes (Err why) answer stands refused = record {
       answer = subst (λ (s : NatSettings). GivesAnswer s (nat_answer s (after_passing passed h k) m from dst) (Err why)) (stand.set_up k now at) (answer _ (stand.stands k now at));
@@ -105,11 +105,11 @@ module _ (list : List (Option NatState)) (k : ℕ) (now new : NatState) (at : sl
     }
 
 -- where no NAT stands, none is changed
-pub none_with : (t : TopologyState) (list : List (Option NatState)) (k : ℕ) (h : NatPasts) (e : Entry) → ((nat : NatState) → slice_get list k ≡ Some (Some nat) → ⊥)
+pub none_with : (t : TopologyState) (list : List (Option NatState)) (k : ℕ) (h : NatPasts) (e : NatEntry) → ((nat : NatState) → slice_get list k ≡ Some (Some nat) → ⊥)
     → NatsStand t list h → NatsStand t list (with_nat_entry k e h)
 none_with t list k h e none stand = record {
   set_up = stand.set_up;
-  stands = λ j nat at. subst (nats.StandsFor nat)
+  stands = λ j nat at. subst (NatStandsFor nat)
       (sym (ap (λ (b : Bool). cond b (e ∷ h j) (h j)) (ne_eqb j k (λ same. none nat (ap (slice_get list) (sym same) ∙ at))))) (stand.stands j nat at);
 }
 
@@ -175,8 +175,8 @@ way_is chain (n ∷ list) rest next after k is l e f =
 
 module _ (list : List (Option NatState)) (k : ℕ) (now new : NatState) (at : slice_get list k ≡ Some (Some now)) (same : new.settings ≡ now.settings) where
   -- each stands for its history, this one with an entry more
-  pub stand_with : (t : TopologyState) (h : NatPasts) (e : Entry) → NatsStand t list h → ((past : List Entry) → nats.StandsFor now past → nats.StandsFor new (e ∷ past))
+  pub stand_with : (t : TopologyState) (h : NatPasts) (e : NatEntry) → NatsStand t list h → ((past : List NatEntry) → NatStandsFor now past → NatStandsFor new (e ∷ past))
       → NatsStand t (set list k (Some new)) (with_nat_entry k e h)
   stand_with t h e stand stands = stand_later list k now new at same t h (with_nat_entry k e h) stand
-      (subst (nats.StandsFor new) (sym (ap (λ (b : Bool). cond b (e ∷ h k) (h k)) (eq-eqb k k refl))) (stands (h k) (stand.stands k now at)))
+      (subst (NatStandsFor new) (sym (ap (λ (b : Bool). cond b (e ∷ h k) (h k)) (eq-eqb k k refl))) (stands (h k) (stand.stands k now at)))
       (λ j other. ap (λ (b : Bool). cond b (e ∷ h j) (h j)) (ne_eqb j k other))

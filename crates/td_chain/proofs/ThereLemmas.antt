@@ -7,7 +7,7 @@ use Rattle.std.proofs.lemmas.Bool.{and_parts, false≢true}
 use Rattle.std.proofs.lemmas.Option.{slice_get-map}
 use Rattle.nat_kinds.specs.declared.settings.NatSettings.{NatSettings}
 use Rattle.nat_kinds.specs.Nat.{NatState}
-use Rattle.nat_kinds.specs.Nat as nats
+use Rattle.nat_kinds.specs.Nat.{NatStandsFor}
 use Rattle.topology.specs.declared.node.Node.{Node}
 use Rattle.topology.specs.declared.node.Node.TheVariants.{Server as server, Nat as nat, Client as client, Relay as relay, Native as native}
 use Rattle.topology.specs.declared.client_node.ClientNode.{ClientNode}
@@ -105,7 +105,7 @@ alone_is_chain t = all_apart t t.clients
 -- nothing happened to it
 abbrev pub IsFirst : Option NatState → Type 0
 IsFirst None = Unit {0}
-IsFirst (Some x) = nats.StandsFor x [] × (x.moment ≡ 0)
+IsFirst (Some x) = NatStandsFor x [] × (x.moment ≡ 0)
 
 pub record FirstNats (t : TopologyState) (list : List (Option NatState)) : Type 0 where
   pub rows : set_ups list ≡ take (length list) (map row_of (nodes t))
@@ -114,7 +114,7 @@ pub record FirstNats (t : TopologyState) (list : List (Option NatState)) : Type 
 pub none_first : (t : TopologyState) → FirstNats t []
 none_first t = record { rows = refl; each = tt }
 
-pub first_of : (o : Option NatState) → IfSome o (λ x. nats.StandsFor x []) → IfSome o (λ x. x.moment ≡ 0) → IsFirst o
+pub first_of : (o : Option NatState) → IfSome o (λ x. NatStandsFor x []) → IfSome o (λ x. x.moment ≡ 0) → IsFirst o
 first_of None stands moment = tt
 first_of (Some x) stands moment = (stands, moment)
 

@@ -4,9 +4,9 @@ use Rattle.td_base.specs.declared.endpoint.Ep.{Ep}
 use Rattle.nat_kinds.specs.declared.settings.NatSettings.{NatSettings}
 use Rattle.nat_kinds.specs.declared.refusal.NatRefusal.{NatRefusal}
 use Rattle.nat_kinds.specs.declared.refusal.NatRefusal.TheVariants.{NoMemory}
-use Rattle.nat_kinds.specs.History.{Entry}
+use Rattle.nat_kinds.specs.History.{NatEntry}
 use Rattle.nat_kinds.specs.Nat.{NatState}
-use Rattle.nat_kinds.specs.Nat as nats
+use Rattle.nat_kinds.specs.Nat.{NatStandsFor}
 use Rattle.topology.specs.declared.node.Node.{Node}
 use Rattle.topology.specs.Rows.{TopologyState}
 use Rattle.topology.specs.Topology.{nodes, as_nat, nat_settings}
@@ -27,13 +27,13 @@ pub record ChainsState : Type 0 where
 -- each is set up as in the topology, and stands for its history
 pub record NatsStand (t : TopologyState) (list : List (Option NatState)) (h : NatPasts) : Type 0 where
   pub set_up : (k : ℕ) (nat : NatState) → slice_get list k ≡ Some (Some nat) → nat.settings ≡ nat_set_up t k
-  pub stands : (k : ℕ) (nat : NatState) → slice_get list k ≡ Some (Some nat) → nats.StandsFor nat (h k)
+  pub stands : (k : ℕ) (nat : NatState) → slice_get list k ≡ Some (Some nat) → NatStandsFor nat (h k)
 
-abbrev pub StandsFor : ChainsState → NatPasts → Type 0
-StandsFor c h = NatsStand c.topology c.nats h
+abbrev pub ChainsStandFor : ChainsState → NatPasts → Type 0
+ChainsStandFor c h = NatsStand c.topology c.nats h
 
 -- the histories with one entry more at NAT k
-abbrev pub with_nat_entry : ℕ → Entry → NatPasts → NatPasts
+abbrev pub with_nat_entry : ℕ → NatEntry → NatPasts → NatPasts
 with_nat_entry k e h = λ j. if j == k then e ∷ h j else h j
 
 -- how each is set up

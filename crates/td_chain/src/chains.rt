@@ -6,7 +6,7 @@ ghost use Rattle.topology.specs.Topology.{node_at};
 ghost use Rattle.topology.specs.Chains.{NatPasts, Passing, after_passing, is_inner, chain_in};
 ghost use Rattle.td_chain.specs.declared.chain_fault.ChainFault.TheVariants.{Chain};
 ghost use Rattle.td_chain.specs.ChainText.{chain_asked};
-ghost use Rattle.td_chain.specs.Chains.{StandsFor, AreNatsOf, CrossesChain, with_nat_entry, inward_of};
+ghost use Rattle.td_chain.specs.Chains.{ChainsStandFor, AreNatsOf, CrossesChain, with_nat_entry, inward_of};
 
 use crate::chain_fault::ChainFault;
 use crate::chain_text::read_chain;
@@ -61,7 +61,7 @@ impl<'a> Chains<'a> {
         ensures chain { IfOk result (λ c. chain_asked topology.now chain.now ≡ Some c.chain) }
         ensures refused { IfErr result (λ why. why ≡ Chain → chain_asked topology.now chain.now ≡ None) }
         ensures moment { IfOk result (λ c. c.moment ≡ 0) }
-        ensures stands { IfOk result (λ c. StandsFor c (λ k. [])) }
+        ensures stands { IfOk result (λ c. ChainsStandFor c (λ k. [])) }
     {
         let chain = read_chain(alloc, topology, chain)?;
         let nats = first_nats(alloc, topology)?;
@@ -78,7 +78,7 @@ impl<'a> Chains<'a> {
         ensures topology { IfOk result (λ c. c.topology ≡ topology.now) }
         ensures chain { IfOk result (λ c. c.chain ≡ []) }
         ensures moment { IfOk result (λ c. c.moment ≡ 0) }
-        ensures stands { IfOk result (λ c. StandsFor c (λ k. [])) }
+        ensures stands { IfOk result (λ c. ChainsStandFor c (λ k. [])) }
     {
         let nats = first_nats(alloc, topology)?;
         Ok(Chains {
@@ -95,7 +95,7 @@ impl<'a> Chains<'a> {
         requires clock { self.old.moment ≤ now.0 }
 
         // For histories, and what was let out since: the answer is what becomes of this datagram, past all NATs on its way.
-        ensures goes_out { (h : NatPasts) (passed : List Passing) → StandsFor self.old (after_passing passed h)
+        ensures goes_out { (h : NatPasts) (passed : List Passing) → ChainsStandFor self.old (after_passing passed h)
             → CrossesChain self.old self.new h passed now.0 nat inside dst result }
         ensures same { self.new ≡ record self.old { moment = now.0; nats = self.new.nats } }
     {
@@ -108,7 +108,7 @@ impl<'a> Chains<'a> {
     pub fn inward(&self, now: Millis, nat: u16, src: Ep, port: u16) -> Way
         requires nat { is_nat (node_at self.now.topology nat) ≡ true }
         requires clock { self.now.moment ≤ now.0 }
-        ensures { (h : NatPasts) → StandsFor self.now h → inward_of result ≡ chain_in self.now.topology self.now.chain h now.0 nat src port }
+        ensures { (h : NatPasts) → ChainsStandFor self.now h → inward_of result ≡ chain_in self.now.topology self.now.chain h now.0 nat src port }
     {
         let all = Nats {
             topology: self.topology,
@@ -136,7 +136,7 @@ impl<'a> Chains<'a> {
     /// Lets a NAT drop the mappings of an inside endpoint. The others stay.
     pub fn forget(&mut self, nat: u16, inside: Ep)
         requires nat { is_nat (node_at self.old.topology nat) ≡ true }
-        ensures stands { (h : NatPasts) → StandsFor self.old h → StandsFor self.new (with_nat_entry nat (Forget inside) h) }
+        ensures stands { (h : NatPasts) → ChainsStandFor self.old h → ChainsStandFor self.new (with_nat_entry nat (Forget inside) h) }
         ensures same { self.new ≡ record self.old { nats = self.new.nats } }
     {
         forget_at(&mut self.nats, nat, inside);
@@ -144,7 +144,7 @@ impl<'a> Chains<'a> {
 
     /// Lets a node start anew: a NAT drops all its mappings, and the others stay. Where it is no NAT nothing changes.
     pub fn restart(&mut self, node: u16)
-        ensures stands { (h : NatPasts) → StandsFor self.old h → StandsFor self.new (with_nat_entry node Restart h) }
+        ensures stands { (h : NatPasts) → ChainsStandFor self.old h → ChainsStandFor self.new (with_nat_entry node Restart h) }
         ensures same { self.new ≡ record self.old { nats = self.new.nats } }
     {
         restart_at(&mut self.nats, node);

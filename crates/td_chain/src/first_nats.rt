@@ -1,6 +1,6 @@
 //! The NATs of a topology before anything happens.
 ghost use Rattle.std.specs.Prelude.{◌≡◌, ◌≤◌, [], length, option_map, IfOk, IfSome};
-ghost use Rattle.nat_kinds.specs.Nat as nats;
+ghost use Rattle.nat_kinds.specs.Nat.{NatStandsFor};
 ghost use Rattle.topology.specs.Topology.{as_nat, nat_settings};
 ghost use Rattle.td_chain.specs.Chains.{NatsStand, AreNatsOf, NatsReady};
 
@@ -12,7 +12,7 @@ use topology::{Node, Topology};
 /// The NAT of a node, if it is one.
 fn first_nat(alloc: Global, node: Node) -> Option<Nat>
     ensures row { option_map (λ nat. nat.settings) result ≡ option_map nat_settings (as_nat node) }
-    ensures stands { IfSome result (λ nat. nats.StandsFor nat []) }
+    ensures stands { IfSome result (λ nat. NatStandsFor nat []) }
     ensures moment { IfSome result (λ nat. nat.moment ≡ 0) }
 {
     match node {

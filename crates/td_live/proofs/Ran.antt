@@ -13,13 +13,13 @@ use Rattle.qualify.specs.declared.settings.Settings.{Settings}
 use Rattle.qualify.specs.declared.phase.Phase.TheVariants.{Cone, Restricted}
 use Rattle.qualify.specs.Qualification.{Qualification, first_phase, qualification}
 use Rattle.qualify.specs.Laws.{TurnsAtStart}
-use Rattle.client_rules.specs.Journals.{journal}
+use Rattle.client_rules.specs.Journals.{journal_since}
 use Rattle.client_core.specs.declared.client.Client.{Client}
 use Rattle.client_core.specs.Client.{ClientStandsFor, settings_of}
 use Rattle.td_live.specs.declared.live.Live.{Live}
 use Rattle.td_live.specs.declared.live_totals.LiveTotals.{LiveTotals}
 use Rattle.td_live.specs.Asked.{LiveClient}
-use Rattle.td_live.specs.LiveTurns.{LiveTurn, live_moment, taken_in, AreTurns, Rising, receives, phase_after, after_due, after_turn, journal_from, live_journal, start_of, ends_broken, is_asking, sends_in, moments_in, came_in}
+use Rattle.td_live.specs.LiveTurns.{LiveTurn, live_moment, taken_in, AreTurns, LiveRising, receives, phase_after, after_due, after_turn, journal_from, live_journal, start_of, ends_broken, is_asking, sends_in, live_moments, live_came}
 use Rattle.td_live.specs.LiveTotals.{no_attempts}
 use Rattle.td_live.specs.Half.{IsAt, Advances, TakesTurn}
 use Rattle.td_live.specs.Verdict.{live_of}
@@ -49,9 +49,9 @@ pub record Ran (b : Beginning) (done : ℕ) (now : Reached) (broken : Bool) : Ty
   pub starts : 0 < length turns → start_of turns ≡ b.start
   pub are : AreTurns b.client b.start turns
   pub whole : ends_broken turns ≡ broken
-  pub moments : Rising b.clock.last turns now.clock.last
-  pub read : GainsAll b.clock.gave now.clock.gave (moments_in turns)
-  pub goes : Advances b.client (journal b.start []) (journal_from b.client b.start turns) now.own b.told now.told (came_in turns) no_attempts now.totals
+  pub moments : LiveRising b.clock.last turns now.clock.last
+  pub read : GainsAll b.clock.gave now.clock.gave (live_moments turns)
+  pub goes : Advances b.client (journal_since b.start []) (journal_from b.client b.start turns) now.own b.told now.told (live_came turns) no_attempts now.totals
 
 -- The clock's next moment.
 pub record IsRead (last now : ClockState) (n : ℕ) : Type 0 where
@@ -59,7 +59,7 @@ pub record IsRead (last now : ClockState) (n : ℕ) : Type 0 where
   pub given : now.last ≡ n
   pub told : Gains last.gave now.gave n
 
-ran_none : (b : Beginning) (own : Client) → IsAt b.client own (journal b.start [])
+ran_none : (b : Beginning) (own : Client) → IsAt b.client own (journal_since b.start [])
     → Ran b 0 (record { own = own; clock = b.clock; told = b.told; totals = no_attempts }) false
 ran_none b own at = record {
   turns = [];
@@ -70,7 +70,7 @@ ran_none b own at = record {
   whole = refl;
   moments = omega arith;
   read = GainsAll-nil b.clock.gave b.clock.gave (Stays-refl b.clock.gave);
-  goes = goes_nowhere b.client (record { client = own; journal = journal b.start []; told = b.told; totals = no_attempts }) b.told [] at
+  goes = goes_nowhere b.client (record { client = own; journal = journal_since b.start []; told = b.told; totals = no_attempts }) b.told [] at
       (carries_nothing b.told);
 }
 
@@ -78,7 +78,7 @@ starts_on : (turns : List LiveTurn) (t : LiveTurn) (start : ℕ) → (0 < length
 starts_on [] t start so first = first refl
 starts_on (u ∷ turns) t start so first = so (omega arith)
 
-rising_later : (first : ℕ) (turns : List LiveTurn) (last later : ℕ) → last ≤ later → Rising first turns last → Rising first turns later
+rising_later : (first : ℕ) (turns : List LiveTurn) (last later : ℕ) → last ≤ later → LiveRising first turns last → LiveRising first turns later
 rising_later first [] last later e p = omega (arith, e, p)
 rising_later first (t ∷ turns) last later e p = (omega (arith, e, p.0), p.1)
 
@@ -99,7 +99,7 @@ ran_turn b done old new broken ran next =
     let n = next.moment in
     let j = journal_from c b.start ran.turns in
     let at : live_moment t.turn ≡ n = t.moment in
-    let begin : Point = record { client = old.own; journal = journal b.start []; told = b.told; totals = no_attempts } in
+    let begin : Point = record { client = old.own; journal = journal_since b.start []; told = b.told; totals = no_attempts } in
     let before : Point = record { client = old.own; journal = j; told = old.told; totals = old.totals } in
     let after : Point = record { client = new.own; journal = after_turn c j t.turn; told = new.told; totals = new.totals } in
     record {
@@ -121,9 +121,9 @@ ran_turn b done old new broken ran next =
         rising_later b.clock.last ran.turns old.clock.last (live_moment t.turn)
             (omega (arith, at, next.read.later)) ran.moments,
       );
-      read = subst (λ (m : ℕ). GainsAll b.clock.gave new.clock.gave (moments_in ran.turns ++ m ∷ [])) (sym at)
-          (GainsAll-append b.clock.gave old.clock.gave new.clock.gave (moments_in ran.turns) (n ∷ []) ran.read next.read.told);
-      goes = goes_both c begin before after (came_in ran.turns) (taken_in t.turn) ran.goes t.goes;
+      read = subst (λ (m : ℕ). GainsAll b.clock.gave new.clock.gave (live_moments ran.turns ++ m ∷ [])) (sym at)
+          (GainsAll-append b.clock.gave old.clock.gave new.clock.gave (live_moments ran.turns) (n ∷ []) ran.read next.read.told);
+      goes = goes_both c begin before after (live_came ran.turns) (taken_in t.turn) ran.goes t.goes;
     }
 
 waits_by : (b : Bool) → receives (if b then Cone else Restricted) ≡ true
@@ -135,7 +135,7 @@ unfolding first_phase
 waits_first s = waits_by s.cone_try
 
 -- A client that starts waits for its server's answer.
-pub waits_at_start : TurnsAtStart → (c : LiveClient) (start : ℕ) → receives (phase_after c (journal start [])) ≡ true
+pub waits_at_start : TurnsAtStart → (c : LiveClient) (start : ℕ) → receives (phase_after c (journal_since start [])) ≡ true
 waits_at_start law c start = ap (λ (q : Qualification). receives q.phase) (law c.settings start) ∙ waits_first c.settings
 
 -- The first turn, at the start, of a client that has done nothing.
@@ -143,10 +143,10 @@ pub record FirstTurn (b : Beginning) (new : Reached) (broken : Bool) : Type 0 wh
   pub own : Client
   pub totals : LiveTotals
   pub some : 0 < b.most
-  pub at : IsAt b.client own (journal b.start [])
+  pub at : IsAt b.client own (journal_since b.start [])
   pub read : IsRead b.clock new.clock b.start
   pub zero : totals ≡ no_attempts
-  pub turn : TakesTurn b.client (journal b.start []) b.start new.own b.told new.told totals new.totals broken
+  pub turn : TakesTurn b.client (journal_since b.start []) b.start new.own b.told new.told totals new.totals broken
 
 pub ran_first : TurnsAtStart → (b : Beginning) (new : Reached) (broken : Bool) → FirstTurn b new broken → Ran b 1 new broken
 unfolding ran_none
@@ -157,7 +157,7 @@ ran_first law b new broken first =
       begun = waits_at_start law b.client b.start;
       read = first.read;
       first = λ e. refl;
-      turn = subst (λ (s : LiveTotals). TakesTurn b.client (journal b.start []) b.start new.own b.told new.told s new.totals broken) first.zero first.turn;
+      turn = subst (λ (s : LiveTotals). TakesTurn b.client (journal_since b.start []) b.start new.own b.told new.told s new.totals broken) first.zero first.turn;
     })
 
 -- The end of the turns.
@@ -178,7 +178,7 @@ runs b done now broken result ran some ended =
       read = ran.read;
       answers = ran.goes.answers;
       each = ran.goes.each ∙ ap (λ (l : List Send). length l) sends;
-      told = subst (λ (l : List Send). Carries b.told now.told (came_in ran.turns) (attempts_of l ran.goes.answers)) sends ran.goes.told;
+      told = subst (λ (l : List Send). Carries b.told now.told (live_came ran.turns) (attempts_of l ran.goes.answers)) sends ran.goes.told;
       sums = ran.goes.sums;
       ended = ended;
     }

@@ -9,7 +9,7 @@ use Rattle.qualify.specs.declared.phase.Phase.TheVariants.{Cone, Restricted, Sec
 use Rattle.qualify.specs.Qualification.{qualification}
 use Rattle.qualify.specs.Solicitations.{is_due}
 use Rattle.qualify.specs.Generator.{words_of, after_words}
-use Rattle.client_rules.specs.Journals.{client_entry, client_due, journal}
+use Rattle.client_rules.specs.Journals.{client_entry, client_due, journal_since}
 use Rattle.td_live.specs.Asked.{LiveClient}
 
 -- ENTRIES
@@ -84,7 +84,7 @@ after_turn c j (Broke n) = after_due c j n
 
 -- of turns from a start on
 abbrev pub journal_from : LiveClient → ℕ → List LiveTurn → Journal
-journal_from c start [] = journal start []
+journal_from c start [] = journal_since start []
 journal_from c start (t ∷ ts) = after_turn c (journal_from c start ts) t
 
 -- the first of the moments
@@ -116,18 +116,18 @@ AreTurns c start [] = ⊤
 AreTurns c start (t ∷ ts) = IsTurn c start ts t × AreTurns c start ts
 
 -- their moments lie between two, and none is before the one of an earlier turn
-abbrev pub Rising : ℕ → List LiveTurn → ℕ → Type 0
-Rising first [] last = first ≤ last
-Rising first (t ∷ ts) last = (live_moment t ≤ last) × Rising first ts (live_moment t)
+abbrev pub LiveRising : ℕ → List LiveTurn → ℕ → Type 0
+LiveRising first [] last = first ≤ last
+LiveRising first (t ∷ ts) last = (live_moment t ≤ last) × LiveRising first ts (live_moment t)
 
 -- WHAT A CLOCK AND A LINK TELL OF THEM
 
 -- the moments, one for each turn
-abbrev pub moments_in : List LiveTurn → List ℕ
-moments_in [] = []
-moments_in (t ∷ ts) = moments_in ts ++ live_moment t ∷ []
+abbrev pub live_moments : List LiveTurn → List ℕ
+live_moments [] = []
+live_moments (t ∷ ts) = live_moments ts ++ live_moment t ∷ []
 
 -- what was taken, one element for each turn that received
-abbrev pub came_in : List LiveTurn → List Came
-came_in [] = []
-came_in (t ∷ ts) = came_in ts ++ taken_in t
+abbrev pub live_came : List LiveTurn → List Came
+live_came [] = []
+live_came (t ∷ ts) = live_came ts ++ taken_in t

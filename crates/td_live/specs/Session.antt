@@ -11,7 +11,8 @@ use Rattle.td_live.specs.declared.asked.Asked.{Asked}
 use Rattle.td_live.specs.declared.live.Live.{Live}
 use Rattle.td_live.specs.declared.live_totals.LiveTotals.{LiveTotals}
 use Rattle.td_live.specs.Asked.{LiveClient, live_client}
-use Rattle.td_live.specs.LiveTurns.{LiveTurn, AreTurns, Rising, receives, phase_after, ends_broken, start_of, live_journal, sends_in, moments_in, came_in}
+use Rattle.td_live.specs.LiveTurns.{LiveTurn, AreTurns, LiveRising, receives, phase_after, ends_broken, start_of, live_journal}
+use Rattle.td_live.specs.LiveTurns.{sends_in, live_moments, live_came}
 use Rattle.td_live.specs.LiveTotals.{no_attempts, with_attempts}
 use Rattle.td_live.specs.Verdict.{live_of}
 
@@ -36,11 +37,11 @@ pub record TurnsOf (c : LiveClient) (most : ℕ) (clock clock' : ClockState)
   pub are : AreTurns c (start_of turns) turns
   pub some : 0 < length turns
   pub few : length turns ≤ most
-  pub moments : Rising clock.last turns clock'.last
-  pub read : GainsAll clock.gave clock'.gave (moments_in turns)
+  pub moments : LiveRising clock.last turns clock'.last
+  pub read : GainsAll clock.gave clock'.gave (live_moments turns)
   pub answers : List Bool
   pub each : length answers ≡ length (sends_in (live_journal c turns).entries)
-  pub told : carries (came_in turns) (attempts_of (sends_in (live_journal c turns).entries) answers)
+  pub told : carries (live_came turns) (attempts_of (sends_in (live_journal c turns).entries) answers)
   pub sums : totals ≡ with_attempts no_attempts answers
   pub ended : EndsTurns c most turns result
 

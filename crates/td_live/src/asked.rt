@@ -2,7 +2,7 @@
 ghost use Rattle.std.specs.Prelude.{◌≡◌, ◌<◌, ℕ, []};
 ghost use Rattle.td_outside.specs.declared.clock.TheConstants.{CLOCK_END_MS};
 ghost use Rattle.client_core.specs.Client.{IsCallable};
-ghost use Rattle.client_rules.specs.Journals.{journal};
+ghost use Rattle.client_rules.specs.Journals.{journal_since};
 ghost use Rattle.td_live.specs.Asked.{live_client, live_seed};
 ghost use Rattle.td_live.specs.Half.{IsAt};
 
@@ -49,7 +49,7 @@ fn stream_seed(seed: u64) -> [u8; STREAM_SEED]
 /// The client, which starts now.
 pub(crate) fn client_at(alloc: Global, asked: Asked, at: Ep, now: Millis) -> Client
     requires early { now.0 < CLOCK_END_MS }
-    ensures at { IsAt (live_client asked at) result (journal now.0 []) }
+    ensures at { IsAt (live_client asked at) result (journal_since now.0 []) }
     ensures callable { IsCallable result now.0 }
 {
     let settings = Settings {

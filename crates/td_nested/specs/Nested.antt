@@ -22,10 +22,10 @@ abbrev pub DashIsFlat : Type 0
 DashIsFlat = (t : TopologyState) (chain : List Behind) → IsNested t (codes "-") chain → chain ≡ []
 
 -- A reason against it is due: the first of the two that applies. Want of memory says nothing of the text and the nodes.
-abbrev pub IsDue : TopologyState → List ℕ → NestedFault → Type 0
-IsDue t text Chain = chain_asked t text ≡ None
-IsDue t text Nodes = ((chain : List Behind) × (chain_asked t text ≡ Some chain)) × (has_six_side t ≡ true)
-IsDue t text NoMemory = Unit {0}
+abbrev pub IsDueFault : TopologyState → List ℕ → NestedFault → Type 0
+IsDueFault t text Chain = chain_asked t text ≡ None
+IsDueFault t text Nodes = ((chain : List Behind) × (chain_asked t text ≡ Some chain)) × (has_six_side t ≡ true)
+IsDueFault t text NoMemory = Unit {0}
 
 -- such a laboratory isn't asked for this
 abbrev pub is_left_out : Event → Bool

@@ -4,7 +4,7 @@ ghost use Rattle.events.specs.Events.{IsEvent};
 ghost use Rattle.legal.specs.Lab.{draws};
 ghost use Rattle.world.specs.declared.wire.TheConstants.{ENTRIES_MAX};
 ghost use Rattle.world.specs.World.{StandsFor, IsAgain, EndsInTime, Steps, StopsFor, StopsAs};
-ghost use Rattle.td_nested.specs.Nested.{IsNested, IsDue, is_left_out};
+ghost use Rattle.td_nested.specs.Nested.{IsNested, IsDueFault, is_left_out};
 
 use crate::nested_chains::chains_of;
 use crate::nested_fault::NestedFault;
@@ -42,7 +42,7 @@ impl<'a> Nested<'a> {
         ensures chain { IfOk result (λ n. IsNested t.now chain.now n.chain) }
         ensures stands { IfOk result (λ n. StandsFor (draws seed) n []) }
         ensures goes_on { IfOk result (λ n. n.stopped ≡ None) }
-        ensures due { IfErr result (λ why. IsDue t.now chain.now why) }
+        ensures due { IfErr result (λ why. IsDueFault t.now chain.now why) }
     {
         let chains = chains_of(alloc, t, chain)?;
         let world = World::new(alloc, t, chains, seed)?;

@@ -1,7 +1,7 @@
 //! The NATs of a topology in the chain that a text asks for.
 ghost use Rattle.std.specs.Prelude.{◌≡◌, [], IfOk, IfErr};
-ghost use Rattle.td_chain.specs.Chains.{StandsFor};
-ghost use Rattle.td_nested.specs.Nested.{has_six_side, IsNested, IsDue};
+ghost use Rattle.td_chain.specs.Chains.{ChainsStandFor};
+ghost use Rattle.td_nested.specs.Nested.{has_six_side, IsNested, IsDueFault};
 
 use crate::nested_fault::NestedFault;
 use std::alloc::Global;
@@ -28,8 +28,8 @@ pub fn chains_of<'a>(
     ensures topology { IfOk result (λ c. c.topology ≡ topology.now) }
     ensures chain { IfOk result (λ c. IsNested topology.now chain.now c.chain) }
     ensures moment { IfOk result (λ c. c.moment ≡ 0) }
-    ensures stands { IfOk result (λ c. StandsFor c (λ k. [])) }
-    ensures due { IfErr result (λ why. IsDue topology.now chain.now why) }
+    ensures stands { IfOk result (λ c. ChainsStandFor c (λ k. [])) }
+    ensures due { IfErr result (λ why. IsDueFault topology.now chain.now why) }
 {
     let chains = match Chains::new(alloc, topology, chain) {
         Ok(chains) => chains,

@@ -7,7 +7,6 @@ use Rattle.std.specs.Net.Addr.{ipv4_octets}
 use Rattle.std.specs.Net.Socket.{v4_ip, v4_port}
 use Rattle.td_base.specs.declared.endpoint.Ep.{Ep}
 use Rattle.td_base.specs.declared.side.Side.{Side}
-use Rattle.td_base.specs.declared.side.Side.TheVariants.{Primary, Secondary}
 use Rattle.td_outside.specs.declared.link.Arrival.{Arrival}
 use Rattle.td_outside.specs.declared.link.Arrival.TheVariants.{Got, Idle}
 
@@ -24,7 +23,3 @@ endpoint_at (V6 a) = None
 abbrev pub arrival_from : Side → SocketAddr → ℕ → Arrival
 arrival_from side (V4 a) len = Got side (endpoint_of a) len
 arrival_from side (V6 a) len = Idle
-
-abbrev pub other_side : Side → Side
-other_side Primary = Secondary
-other_side Secondary = Primary

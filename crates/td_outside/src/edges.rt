@@ -4,7 +4,8 @@ ghost use Rattle.std.specs.Duration.{as_nanos};
 ghost use Rattle.std.specs.IoError.{error_kind};
 ghost use Rattle.std.specs.Time.{instant_nanos};
 ghost use Rattle.td_outside.specs.Link.{FitsBuffer};
-ghost use Rattle.td_outside.specs.Edges.{endpoint_at, endpoint_of, arrival_from, other_side};
+ghost use Rattle.td_base.specs.Side.{other_side};
+ghost use Rattle.td_outside.specs.Edges.{endpoint_at, endpoint_of, arrival_from};
 
 use crate::Arrival;
 use std::io;

@@ -5,7 +5,7 @@ use Rattle.td_outside.specs.declared.link.Place.{Place}
 use Rattle.td_outside.specs.Link.{Came, Attempt, Told, KeepsTold, open_on}
 use Rattle.td_outside.specs.MoveLaws.{Stays-Moves}
 use Rattle.teredo_node.specs.Turn.{Carries, LeftBy, SendFaults, ReceiveFaults}
-use Rattle.teredo_node.specs.Serve.{Turn, Waited, Answered, Goes, Carried, Serves, came_in, made_in, totals_of}
+use Rattle.teredo_node.specs.Serve.{ServeTurn, Waited, Answered, Goes, Carried, Serves, came_in, made_in, totals_of}
 use Rattle.teredo_node.specs.declared.turn.PumpFault.{PumpFault}
 use Rattle.teredo_node.specs.declared.turn.PumpFault.TheVariants.{Receive, NoMemory}
 use Rattle.teredo_node.specs.declared.serve.Totals.{Totals}
@@ -18,13 +18,13 @@ use Rattle.td_outside.specs.Clock.{ClockState}
 use Rattle.teredo_app.specs.Session.{server_on, AnswersByTable, NoneStarves, IsSame, Session, BreaksOff}
 
 -- the server stays as it is
-stays : (old : ServerSettings) (turns : List Turn) (new : ServerSettings) → Goes AnswersByTable old turns new → new ≡ old
+stays : (old : ServerSettings) (turns : List ServeTurn) (new : ServerSettings) → Goes AnswersByTable old turns new → new ≡ old
 stays old [] new g = g
 stays old (Waited moment ∷ turns) new g = stays old turns new g
 stays old (Answered moment side from bytes step sent ∷ turns) new g = g.2.0 ∙ stays old turns g.0 g.1
 
 -- each arrival has one outcome
-each_once : (one : OneOutcome) (old : ServerSettings) (turns : List Turn) (new : ServerSettings) → Goes AnswersByTable old turns new → (totals_of turns).served ≡ (totals_of turns).sent + (totals_of turns).failed + (totals_of turns).six + (totals_of turns).dropped
+each_once : (one : OneOutcome) (old : ServerSettings) (turns : List ServeTurn) (new : ServerSettings) → Goes AnswersByTable old turns new → (totals_of turns).served ≡ (totals_of turns).sent + (totals_of turns).failed + (totals_of turns).six + (totals_of turns).dropped
 each_once one old [] new g = refl
 each_once one old (Waited moment ∷ turns) new g = each_once one old turns new g
 each_once one old (Answered moment side from bytes step sent ∷ turns) new g =
@@ -40,7 +40,7 @@ carries_after a b c came made same carried = record {
   attempts = Stays-Moves _ a.attempts b.attempts c.attempts same.attempts carried.attempts;
 }
 
-carried_after : (a b c : Told) (s s' : ServerSettings) (last : ℕ) (turns : List Turn) (ended : Result (Unit {0}) PumpFault) → KeepsTold a b → Carried (NoneStarves s last) b c turns ended → Carried (NoneStarves s' last) a c turns ended
+carried_after : (a b c : Told) (s s' : ServerSettings) (last : ℕ) (turns : List ServeTurn) (ended : Result (Unit {0}) PumpFault) → KeepsTold a b → Carried (NoneStarves s last) b c turns ended → Carried (NoneStarves s' last) a c turns ended
 carried_after a b c s s' last turns (Ok x) same carried = carries_after a b c (came_in turns) (made_in turns) same carried
 carried_after a b c s s' last turns (Err Receive) same carried = carries_after a b c (came_in turns) (made_in turns) same carried
 carried_after a b c s s' last turns (Err NoMemory) same carried = absurd carried.3

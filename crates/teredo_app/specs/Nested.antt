@@ -8,7 +8,7 @@ use Rattle.td_outside.specs.Source.{SourceState}
 use Rattle.topology.specs.Chains.{Behind}
 use Rattle.events.specs.Scenario.{Scenario}
 use Rattle.td_nested.specs.declared.nested_fault.NestedFault.TheVariants as fault
-use Rattle.td_nested.specs.Nested.{IsNested, IsDue, is_left_out}
+use Rattle.td_nested.specs.Nested.{IsNested, IsDueFault, is_left_out}
 use Rattle.scenario.specs.declared.scenario_fault.ScenarioFault.{ScenarioFault}
 use Rattle.scenario.specs.Refusals.{refusal_line}
 use Rattle.player.specs.SinkLines.{WritesLines, BeginsLines, WritesNothing}
@@ -30,8 +30,8 @@ pub record IsPlayedIn (s : Scenario) (text : List ℕ) (chain : List Behind) : T
 
 -- It isn't, and why: the first of the three that applies. The events have their numbers from 0.
 abbrev pub IsNotPlayed : Scenario → List ℕ → NotNested → Type 0
-IsNotPlayed s text Chain = IsDue s.topology text fault.Chain
-IsNotPlayed s text Nodes = IsDue s.topology text fault.Nodes
+IsNotPlayed s text Chain = IsDueFault s.topology text fault.Chain
+IsNotPlayed s text Nodes = IsDueFault s.topology text fault.Nodes
 IsNotPlayed s text (Event index) = ((chain : List Behind) × IsNested s.topology text chain) × (position is_left_out s.events ≡ Some index)
 
 -- The text of the file is a scenario, which is played with this chain.

@@ -3,7 +3,7 @@ ghost use Rattle.std.specs.Prelude.{◌≡◌, ◌≤◌, [], None, Some, length
 ghost use Rattle.std.specs.List.{AllByRecursion, position};
 ghost use Rattle.events.specs.declared.event.TheConstants.{EVENTS_MAX};
 ghost use Rattle.events.specs.Events.{IsEvent};
-ghost use Rattle.td_chain.specs.Chains.{StandsFor};
+ghost use Rattle.td_chain.specs.Chains.{ChainsStandFor};
 ghost use Rattle.td_nested.specs.Nested.{is_left_out};
 ghost use Rattle.scenario.specs.Told.{told};
 ghost use Rattle.teredo_app.specs.Nested.{IsPlayedIn, NestedEnds};
@@ -42,7 +42,7 @@ fn chains_for<'a>(alloc: Global, s: &'a Scenario, chain: &str) -> Result<Chains<
     ensures topology { IfOk result (λ c. c.topology ≡ s.now.topology) }
     ensures played { IfOk result (λ c. IsPlayedIn (told s.now) chain.now c.chain) }
     ensures moment { IfOk result (λ c. c.moment ≡ 0) }
-    ensures stands { IfOk result (λ c. StandsFor c (λ k. [])) }
+    ensures stands { IfOk result (λ c. ChainsStandFor c (λ k. [])) }
     ensures none { IfErr result (λ why. NoChainsFor (told s.now) chain.now why) }
 {
     let chains = match chains_of(alloc, &s.topology, chain.as_bytes()) {

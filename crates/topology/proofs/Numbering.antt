@@ -18,7 +18,7 @@ use Rattle.topology.specs.Rows.{TopologyState}
 use Rattle.topology.specs.Named.{has_host, is_server, is_nat, is_relay, is_client_of, any_kind, is_named, named}
 use Rattle.topology.specs.declared.node.Node.{Node}
 use Rattle.topology.specs.declared.node.Node.TheVariants.{Server as server, Nat as nat, Client as client, Relay as relay, Native as native}
-use Rattle.topology.specs.Topology.{nodes, number_of, is_at, is_behind, is_native}
+use Rattle.topology.specs.Topology.{nodes, first_passing, is_at, is_behind, is_native}
 
 pub at_front : {A : Type 0} (p : A → Bool) (xs : List A) → position p xs ≡ position_from p 0 xs
 at_front p xs = position_from-zero p xs
@@ -67,7 +67,7 @@ or_none None = refl
 or_none (Some x) = refl
 
 -- the node that datagrams to an endpoint come to: a server, else a NAT, else a relay
-pub at_an_endpoint : (dst : Ep) (t : TopologyState) → number_of (is_at dst) t
+pub at_an_endpoint : (dst : Ep) (t : TopologyState) → first_passing (is_at dst) t
     ≡ option_or (position (λ (a : ServerNode). is_at dst (server a)) t.servers)
     (option_or (option_map (λ k. length t.servers + k) (position (λ (a : NatNode). is_at dst (nat a)) t.nats))
     (option_map (λ k. length t.servers + length t.nats + length t.clients + k) (position (λ (r : RelayNode). is_at dst (relay r)) t.relays)))
@@ -76,14 +76,14 @@ at_an_endpoint dst t =
     ∙ rw (sym (at_front (λ (a : ServerNode). is_at dst (server a)) t.servers), behind (λ (a : NatNode). is_at dst (nat a)) (length t.servers) t.nats, from_none (length t.servers + length t.nats) t.clients, behind (λ (r : RelayNode). is_at dst (relay r)) (length t.servers + length t.nats + length t.clients) t.relays, from_none (length t.servers + length t.nats + length t.clients + length t.relays) t.natives, or_none) refl
 
 -- a client behind a NAT
-pub behind_a_nat : (n : ℕ) (inside : Ep) (t : TopologyState) → number_of (is_behind n inside) t
+pub behind_a_nat : (n : ℕ) (inside : Ep) (t : TopologyState) → first_passing (is_behind n inside) t
     ≡ option_map (λ k. length t.servers + length t.nats + k) (position (λ (c : ClientNode). is_behind n inside (client c)) t.clients)
 behind_a_nat n inside t =
     parts (is_behind n inside) t
     ∙ rw (from_none 0 t.servers, from_none (length t.servers) t.nats, behind (λ (c : ClientNode). is_behind n inside (client c)) (length t.servers + length t.nats) t.clients, from_none (length t.servers + length t.nats + length t.clients) t.relays, from_none (length t.servers + length t.nats + length t.clients + length t.relays) t.natives, or_none) refl
 
 -- a native host
-pub with_an_address : (ip : Ip6) (t : TopologyState) → number_of (is_native ip) t
+pub with_an_address : (ip : Ip6) (t : TopologyState) → first_passing (is_native ip) t
     ≡ option_map (λ k. length t.servers + length t.nats + length t.clients + length t.relays + k) (position (λ (h : NativeNode). is_native ip (native h)) t.natives)
 with_an_address ip t =
     parts (is_native ip) t

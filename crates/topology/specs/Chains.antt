@@ -4,7 +4,7 @@ use Rattle.std.specs.Prelude.{unwrap_or, Result, Ok, Err, if◌then◌else◌}
 use Rattle.td_base.specs.Ip4.{same_ip}
 use Rattle.td_base.specs.declared.ipv4.Ip4.{Ip4}
 use Rattle.td_base.specs.declared.endpoint.Ep.{Ep}
-use Rattle.nat_kinds.specs.History.{Entry, Out}
+use Rattle.nat_kinds.specs.History.{NatEntry, Out}
 use Rattle.nat_kinds.specs.Answer.{nat_answer}
 use Rattle.nat_kinds.specs.Entering.{lets_in}
 use Rattle.nat_kinds.specs.declared.outgoing.Outward.{Outward}
@@ -52,7 +52,7 @@ inner_at t (b ∷ rest) k ip = if (b.outer == k) && has_external ip (nat_at t b.
 
 -- the history of each NAT, by its number
 abbrev pub NatPasts : Type 0
-NatPasts = ℕ → List Entry
+NatPasts = ℕ → List NatEntry
 
 abbrev pub nat_set_up : TopologyState → ℕ → NatSettings
 nat_set_up t k = settings_of_nat (nat_at t k)
@@ -63,7 +63,7 @@ pub record Passing : Type 0 where
   pub datagram : Outward
 
 -- those of NAT k, as its history has them. All lists of these have the latest first
-abbrev pub outs_at : ℕ → List Passing → List Entry
+abbrev pub outs_at : ℕ → List Passing → List NatEntry
 outs_at k [] = []
 outs_at k (p ∷ ps) = if p.nat == k then Out p.datagram ∷ outs_at k ps else outs_at k ps
 

@@ -5,7 +5,7 @@ use Rattle.topology.specs.Names.{name_text}
 use Rattle.topology.specs.Rows.{TopologyState}
 use Rattle.topology.specs.declared.node.Node.{Node}
 use Rattle.topology.specs.declared.node.Node.TheVariants.{Server as server, Nat as nat, Client as client, Relay as relay, Native as native}
-use Rattle.topology.specs.Topology.{name_of, number_of}
+use Rattle.topology.specs.Topology.{name_of, first_passing}
 
 -- a client or a native host: a node with a host of its own
 abbrev pub has_host : Option Node → Bool
@@ -36,7 +36,7 @@ is_named text node = pointwise nat_eq (name_text (name_of node)) text
 
 -- the number of the node of a kind that has this name
 unfoldable pub named : (Option Node → Bool) → TopologyState → List ℕ → Option ℕ
-named kind t text = number_of (λ node. kind (Some node) && is_named text node) t
+named kind t text = first_passing (λ node. kind (Some node) && is_named text node) t
 
 -- a node of any kind
 abbrev pub any_kind : Option Node → Bool

@@ -100,8 +100,8 @@ is_native ip (native h) = same_ip6 ip h.six
 is_native ip _ = false
 
 -- the number of the first node that passes
-abbrev pub number_of : (Node → Bool) → TopologyState → Option ℕ
-number_of test t = position test (nodes t)
+abbrev pub first_passing : (Node → Bool) → TopologyState → Option ℕ
+first_passing test t = position test (nodes t)
 
 -- which of its two addresses a server was asked at
 abbrev pub side_at : Node → Ep → Side

@@ -70,7 +70,7 @@ impl Topology {
     ghost use Rattle.topology.specs.Rows.{no_nodes, with_server, with_nat, with_client, with_relay, with_native};
     ghost use Rattle.topology.specs.Rules.{IsTopology};
     ghost use Rattle.topology.specs.declared.node.Node.TheVariants.{Server as server, Nat as nat, Client as client, Relay as relay, Native as native};
-    ghost use Rattle.topology.specs.Topology.{name_of, node_at, nodes, number_of, is_at, is_behind, is_native};
+    ghost use Rattle.topology.specs.Topology.{name_of, node_at, nodes, first_passing, is_at, is_behind, is_native};
 
     /// No nodes.
     pub fn new(alloc: Global) -> Topology
@@ -221,21 +221,21 @@ impl Topology {
 
     /// The number of the node that datagrams to an endpoint come to.
     pub fn at(&self, dst: Ep) -> Option<u16>
-        ensures { result ≡ number_of (is_at dst) self.now }
+        ensures { result ≡ first_passing (is_at dst) self.now }
     {
         self.number_at(dst)
     }
 
     /// The number of the client behind a NAT that has this inside endpoint.
     pub fn client_behind(&self, nat: u16, inside: Ep) -> Option<u16>
-        ensures { result ≡ number_of (is_behind nat inside) self.now }
+        ensures { result ≡ first_passing (is_behind nat inside) self.now }
     {
         self.number_behind(nat, inside)
     }
 
     /// The number of the native host with this address.
     pub fn native_with(&self, ip: Ip6) -> Option<u16>
-        ensures { result ≡ number_of (is_native ip) self.now }
+        ensures { result ≡ first_passing (is_native ip) self.now }
     {
         self.number_with(ip)
     }

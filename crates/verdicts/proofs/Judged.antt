@@ -10,7 +10,7 @@ use Rattle.qualify.specs.Solicitations.{is_qualified}
 use Rattle.topology.specs.declared.client_node.ClientNode.{ClientNode}
 use Rattle.history.specs.Full.{Full}
 use Rattle.legal.specs.Lab.{Lab}
-use Rattle.settled.specs.Clients.{standing, address_in, nat_behind, is_symmetric}
+use Rattle.settled.specs.Clients.{standing, client_address, nat_behind, is_symmetric}
 use Rattle.settled.specs.Settled.{IsSettled}
 use Rattle.verdicts.specs.Right.{IsRight, IsRightWithoutCone}
 use Rattle.verdicts.proofs.Opened.{held_open, let_in_open}
@@ -35,7 +35,7 @@ module _ (laws : NatLaws) (lab : Lab) (H : List Full) (n : ℕ) (c : ClientNode)
       (is_phase (standing lab H n c).phase h) i
 
   -- who has an address is settled
-  settled : (o : Option Ip6) → address_in lab H n c ≡ o → GoodAddress (view_of lab H c) c.cone_try o → (own : Ip6) × IsSettled lab H n c own
+  settled : (o : Option Ip6) → client_address lab H n c ≡ o → GoodAddress (view_of lab H c) c.cone_try o → (own : Ip6) × IsSettled lab H n c own
   settled None e is = absurd is
   settled (Some own) e is = (
     own,
@@ -69,7 +69,7 @@ module _ (laws : NatLaws) (lab : Lab) (H : List Full) (n : ℕ) (c : ClientNode)
 
   -- a client that doesn't try the cone phase has no cone bit
   no_cone : c.cone_try ≡ false → (is_some (standing lab H n c).address ≡ is_qualified (standing lab H n c).phase) → (own : Ip6)
-      → address_in lab H n c ≡ Some own → has_cone own ≡ false
+      → client_address lab H n c ≡ Some own → has_cone own ≡ false
   no_cone never there own has = by (has_cone own) refl where
     is : IsGoodAddress (view_of lab H c) c.cone_try own
     is = subst (GoodAddress (view_of lab H c) c.cone_try) has (good (sym there ∙ ap (λ (o : Option Ip6). is_some o) has))

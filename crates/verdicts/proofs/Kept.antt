@@ -9,7 +9,7 @@ use Rattle.td_base.specs.declared.endpoint.Ep.{Ep}
 use Rattle.td_base.specs.Ep.{same_ep, same_ep-self, same_ep-true}
 use Rattle.nat_kinds.specs.declared.outgoing.Outward.{Outward}
 use Rattle.nat_kinds.specs.declared.settings.NatSettings.{NatSettings}
-use Rattle.nat_kinds.specs.History.{Entry, Out, Forget, Restart, kept, is_young, counting}
+use Rattle.nat_kinds.specs.History.{NatEntry, Out, Forget, Restart, kept, is_young, counting}
 use Rattle.nat_kinds.specs.Laws.{latest_moment, IsHistory}
 use Rattle.verdicts.specs.Undisturbed.{is_out_to, is_loss_of}
 use Rattle.verdicts.proofs.Members.{Has, has_filtered, filtered_has}
@@ -17,7 +17,7 @@ use Rattle.verdicts.proofs.Members.{Has, has_filtered, filtered_has}
 -- AN ENTRY'S DATAGRAM
 
 -- the datagram, or another where there is none
-abbrev out_or : Outward → Entry → Outward
+abbrev out_or : Outward → NatEntry → Outward
 out_or d (Out e) = e
 out_or d (Forget who) = d
 out_or d Restart = d
@@ -32,7 +32,7 @@ other_kept inside who d left other = by (same_ep d.inside who) refl where
   by false e = refl
 
 -- what is kept stays kept, where its inside endpoint loses nothing
-pub stays_kept : (inside : Ep) (added h : List Entry) (d : Outward) → list_any (is_loss_of inside) added ≡ false → d.inside ≡ inside → Has (kept h) d
+pub stays_kept : (inside : Ep) (added h : List NatEntry) (d : Outward) → list_any (is_loss_of inside) added ≡ false → d.inside ≡ inside → Has (kept h) d
     → Has (kept (added ++ h)) d
 stays_kept inside [] h d spared left k = k
 stays_kept inside (Out e ∷ added) h d spared left k = inr (stays_kept inside added h d spared left k)
@@ -43,7 +43,7 @@ stays_kept inside (Forget who ∷ added) h d spared left k =
 stays_kept inside (Restart ∷ added) h d spared left k = absurd (false≢true (sym spared))
 
 -- what is kept was added, or was kept before
-pub was_kept : (added h : List Entry) (d : Outward) → Has (kept (added ++ h)) d → Has added (Out d) ⊎ Has (kept h) d
+pub was_kept : (added h : List NatEntry) (d : Outward) → Has (kept (added ++ h)) d → Has added (Out d) ⊎ Has (kept h) d
 was_kept [] h d k = inr k
 was_kept (Out e ∷ added) h d (inl same) = inl (inl (ap Out same))
 was_kept (Out e ∷ added) h d (inr later) = by (was_kept added h d later) where
@@ -73,15 +73,15 @@ younger_too idle n d e le y =
     grind (arith, nat_tests)
 
 -- what is kept and young counts
-pub counts_of : (idle n : ℕ) (h : List Entry) (d : Outward) → Has (kept h) d → is_young idle n d ≡ true → Has (counting idle n h) d
+pub counts_of : (idle n : ℕ) (h : List NatEntry) (d : Outward) → Has (kept h) d → is_young idle n d ≡ true → Has (counting idle n h) d
 counts_of idle n h d k y = has_filtered (is_young idle n) (kept h) d k y
 
 -- and what counts is kept and young
-pub counts_kept : (idle n : ℕ) (h : List Entry) (d : Outward) → Has (counting idle n h) d → Has (kept h) d × (is_young idle n d ≡ true)
+pub counts_kept : (idle n : ℕ) (h : List NatEntry) (d : Outward) → Has (counting idle n h) d → Has (kept h) d × (is_young idle n d ≡ true)
 counts_kept idle n h d c = filtered_has (is_young idle n) (kept h) d c
 
 -- what counts later was added, or counted before
-pub counted : (idle m n : ℕ) (added h : List Entry) (d : Outward) → m ≤ n → Has (counting idle n (added ++ h)) d → Has added (Out d) ⊎ Has (counting idle m h) d
+pub counted : (idle m n : ℕ) (added h : List NatEntry) (d : Outward) → m ≤ n → Has (counting idle n (added ++ h)) d → Has added (Out d) ⊎ Has (counting idle m h) d
 counted idle m n added h d le c =
     let k = counts_kept idle n (added ++ h) d c in
     by (was_kept added h d k.0) k.1
@@ -99,11 +99,11 @@ out_to inside dst e h =
     (same_ep-true e.inside inside both.0, same_ep-true e.dst dst both.1)
 
 -- what was found is that datagram
-some_out : (e : Outward) (x : Entry) → Some x ≡ Some (Out e) → x ≡ Out e
-some_out e x h = ap (λ (o : Option Entry). unwrap_or o x) h
+some_out : (e : Outward) (x : NatEntry) → Some x ≡ Some (Out e) → x ≡ Out e
+some_out e x h = ap (λ (o : Option NatEntry). unwrap_or o x) h
 
 -- no datagram that is found is later than the latest
-latest_at : (s : NatSettings) (h : List Entry) (inside dst : Ep) (e : Outward) → IsHistory s h → find (is_out_to inside dst) h ≡ Some (Out e)
+latest_at : (s : NatSettings) (h : List NatEntry) (inside dst : Ep) (e : Outward) → IsHistory s h → find (is_out_to inside dst) h ≡ Some (Out e)
     → e.moment.0 ≤ latest_moment h
 latest_at s [] inside dst e i f = absurd cc
 latest_at s (Forget who ∷ h) inside dst e i f = latest_at s h inside dst e i f
@@ -111,7 +111,7 @@ latest_at s (Restart ∷ h) inside dst e i f = latest_at s h inside dst e i f
 latest_at s (Out x ∷ h) inside dst e i f = by (is_out_to inside dst (Out x)) f (λ g. latest_at s h inside dst e i.2 g) where
   by : (b : Bool) → cond b (Some (Out x)) (find (is_out_to inside dst) h) ≡ Some (Out e)
       → (find (is_out_to inside dst) h ≡ Some (Out e) → e.moment.0 ≤ latest_moment h) → e.moment.0 ≤ x.moment.0
-  by true g ih = let one : x.moment.0 ≡ e.moment.0 = ap (λ (z : Entry). (out_or x z).moment.0) (some_out e (Out x) g) in omega (arith, one)
+  by true g ih = let one : x.moment.0 ≡ e.moment.0 = ap (λ (z : NatEntry). (out_or x z).moment.0) (some_out e (Out x) g) in omega (arith, one)
   by false g ih = let before = ih g in let later = i.0 in omega (arith, before, later)
 
 -- two datagrams of an inside endpoint, one later than the other
@@ -124,7 +124,7 @@ pub record TwoSent : Type 0 where
   pub later : first.moment.0 < second.moment.0
 
 -- where the first is kept, so is the second if it is the latest one to an endpoint
-pub later_kept : (s : NatSettings) (h : List Entry) (dst : Ep) (t : TwoSent) → IsHistory s h → Has (kept h) t.first
+pub later_kept : (s : NatSettings) (h : List NatEntry) (dst : Ep) (t : TwoSent) → IsHistory s h → Has (kept h) t.first
     → find (is_out_to t.inside dst) h ≡ Some (Out t.second) → Has (kept h) t.second
 later_kept s [] dst t i k f = absurd k
 later_kept s (Restart ∷ h) dst t i k f = absurd k

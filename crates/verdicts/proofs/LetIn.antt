@@ -5,7 +5,7 @@ use Rattle.std.proofs.lemmas.Bool.{false≢true}
 use Rattle.td_base.specs.declared.endpoint.Ep.{Ep}
 use Rattle.nat_kinds.specs.declared.outgoing.Outward.{Outward}
 use Rattle.nat_kinds.specs.declared.settings.NatSettings.{NatSettings}
-use Rattle.nat_kinds.specs.History.{Entry as NatEntry, counting}
+use Rattle.nat_kinds.specs.History.{NatEntry, counting}
 use Rattle.nat_kinds.specs.Entering.{lets_in}
 use Rattle.nat_kinds.specs.Laws.{IsPast}
 use Rattle.topology.specs.declared.nat_node.NatNode.{NatNode}

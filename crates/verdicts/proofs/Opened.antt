@@ -8,7 +8,7 @@ use Rattle.std.proofs.lemmas.Bool.Decides.{nat_tests}
 use Rattle.std.proofs.Math.Nat.{le_refl}
 use Rattle.td_base.specs.declared.endpoint.Ep.{Ep}
 use Rattle.nat_kinds.specs.declared.outgoing.Outward.{Outward}
-use Rattle.nat_kinds.specs.History.{Entry, Out, Forget, Restart, is_young}
+use Rattle.nat_kinds.specs.History.{NatEntry, Out, Forget, Restart, is_young}
 use Rattle.nat_kinds.specs.Mappings.{live_port}
 use Rattle.nat_kinds.specs.Answer.{live_after}
 use Rattle.nat_kinds.specs.Entering.{lets_in}
@@ -41,22 +41,22 @@ let_in_open laws v o p is = (laws.asked v.nat v.past v.moment p v.server o.port 
     (record { datagram = is.datagram; counts = contains_of (counts_in v) is.datagram is.counts; left = is.left; by_port = sym is.port; asked = is.asked })
 
 -- what was found is that entry
-some_entry : (x y : Entry) → Some x ≡ Some y → x ≡ y
-some_entry x y h = ap (λ (o : Option Entry). unwrap_or o x) h
+some_entry : (x y : NatEntry) → Some x ≡ Some y → x ≡ y
+some_entry x y h = ap (λ (o : Option NatEntry). unwrap_or o x) h
 
 -- the datagram, or another where there is none
-abbrev datagram_or : Outward → Option Entry → Outward
+abbrev datagram_or : Outward → Option NatEntry → Outward
 datagram_or d (Some (Out e)) = e
 datagram_or d (Some (Forget who)) = d
 datagram_or d (Some Restart) = d
 datagram_or d None = d
 
 -- one search finds one datagram
-same_out : (d e : Outward) (o : Option Entry) → o ≡ Some (Out d) → o ≡ Some (Out e) → d ≡ e
+same_out : (d e : Outward) (o : Option NatEntry) → o ≡ Some (Out d) → o ≡ Some (Out e) → d ≡ e
 same_out d e o a b = ap (datagram_or d) (sym a ∙ b)
 
 -- what a search for datagrams to an endpoint finds
-is_out_entry : (inside dst : Ep) (h : List Entry) (x : Entry) → find (is_out_to inside dst) h ≡ Some x → is_out_to inside dst x ≡ true
+is_out_entry : (inside dst : Ep) (h : List NatEntry) (x : NatEntry) → find (is_out_to inside dst) h ≡ Some x → is_out_to inside dst x ≡ true
 is_out_entry inside dst [] x f = absurd cc
 is_out_entry inside dst (y ∷ h) x f = by (is_out_to inside dst y) refl f (is_out_entry inside dst h x) where
   by : (b : Bool) → is_out_to inside dst y ≡ b → cond b (Some y) (find (is_out_to inside dst) h) ≡ Some x
@@ -100,7 +100,7 @@ module _ (laws : NatLaws) (v : View) (p : IsPastOf v) (o : Ep) (d : Outward) (c 
     with_out e f false t = let ge : e.moment.0 ≤ d.moment.0 = grind (arith, nat_tests) in by_itself
         (λ x g. subst (λ (z : Outward). z.moment.0 ≤ d.moment.0) (same_out e x (latest_ask v) f g) ge)
 
-    by : (q : Option Entry) → latest_ask v ≡ q → IsOpen v o
+    by : (q : Option NatEntry) → latest_ask v ≡ q → IsOpen v o
     by None f = by_itself (λ e g. absurd (let h : None ≡ Some (Out e) = sym f ∙ g in cc))
     by (Some (Out e)) f = with_out e f (nat_lt d.moment.0 e.moment.0) refl
     by (Some (Forget who)) f = absurd (false≢true (is_out_entry v.inside v.server v.past (Forget who) f))
@@ -109,14 +109,14 @@ module _ (laws : NatLaws) (v : View) (p : IsPastOf v) (o : Ep) (d : Outward) (c 
 -- A FURTHER RECORD
 
 -- what it adds to the NAT's history
-pub record IsNext (v : View) (added : List Entry) (m : ℕ) : Type 0 where
+pub record IsNext (v : View) (added : List NatEntry) (m : ℕ) : Type 0 where
   pub later : v.moment ≤ m
   pub past : IsPast v.nat (added ++ v.past) m
   pub spared : list_any (is_loss_of v.inside) added ≡ false
 
 -- what is open stays open, where the latest datagram to the server is young
-module _ (laws : NatLaws) (v : View) (added : List Entry) (m : ℕ) (next : IsNext v added m) (o : Ep) (is : IsOpen v o) where
-  still_young : (q : Option Entry) → latest_ask v ≡ q → is_young_out v.nat.idle m q ≡ true → is_young v.nat.idle m is.datagram ≡ true
+module _ (laws : NatLaws) (v : View) (added : List NatEntry) (m : ℕ) (next : IsNext v added m) (o : Ep) (is : IsOpen v o) where
+  still_young : (q : Option NatEntry) → latest_ask v ≡ q → is_young_out v.nat.idle m q ≡ true → is_young v.nat.idle m is.datagram ≡ true
   still_young None f y = absurd (false≢true y)
   still_young (Some (Out e)) f y = younger_too v.nat.idle m is.datagram e (is.latest e f) y
   still_young (Some (Forget who)) f y = absurd (false≢true y)
@@ -139,7 +139,7 @@ abbrev pub AsksAlone : View → Type 0
 AsksAlone v = (d : Outward) → Has (counts_in v) d → d.inside ≡ v.inside → d.dst ≡ v.server
 
 -- that stays so where new datagrams go there
-pub still_alone : (v : View) (added : List Entry) (m : ℕ) → v.moment ≤ m
+pub still_alone : (v : View) (added : List NatEntry) (m : ℕ) → v.moment ≤ m
     → ((d : Outward) → Has added (Out d) → Has (counts_in (grown v added m)) d → d.inside ≡ v.inside → d.dst ≡ v.server) → AsksAlone v
     → AsksAlone (grown v added m)
 still_alone v added m le new old d c left = by (counted v.nat.idle v.moment m added v.past d le c) where
@@ -152,7 +152,7 @@ abbrev pub IsUnseen : View → Type 0
 IsUnseen v = (d : Outward) → Has (counts_in v) d → d.inside ≡ v.inside → ⊥
 
 -- that stays so where the client sends nothing
-pub still_unseen : (v : View) (added : List Entry) (m : ℕ) → v.moment ≤ m → ((d : Outward) → Has added (Out d) → d.inside ≡ v.inside → ⊥) → IsUnseen v
+pub still_unseen : (v : View) (added : List NatEntry) (m : ℕ) → v.moment ≤ m → ((d : Outward) → Has added (Out d) → d.inside ≡ v.inside → ⊥) → IsUnseen v
     → IsUnseen (grown v added m)
 still_unseen v added m le new old d c left = by (counted v.nat.idle v.moment m added v.past d le c) where
   by : Has added (Out d) ⊎ Has (counts_in v) d → ⊥

@@ -6,14 +6,14 @@ use Rattle.td_base.specs.declared.endpoint.Ep.{Ep}
 use Rattle.td_base.specs.declared.ipv6.Ip6.{Ip6}
 use Rattle.teredo_addr.specs.Teredo.{embedded, has_cone}
 use Rattle.nat_kinds.specs.declared.outgoing.Outward.{Outward}
-use Rattle.nat_kinds.specs.History.{Entry as NatEntry, Out}
+use Rattle.nat_kinds.specs.History.{NatEntry, Out}
 use Rattle.qualify.specs.declared.settings.Settings.{Settings}
 use Rattle.qualify.specs.declared.phase.Phase.{Phase}
 use Rattle.qualify.specs.declared.phase.Phase.TheVariants.{Cone, Restricted, Secondary, Qualified, Symmetric, OffLine}
 use Rattle.qualify.specs.Turns.{Turn, asks_cone, asks_restricted, asks_secondary, ends, refreshes, qualifies, is_answered, differs, is_same, is_changed, renews}
 use Rattle.qualify.specs.Turns.{says_nothing, begins, leaves}
 use Rattle.qualify.specs.Qualification.{kept_after, address_after}
-use Rattle.settled.specs.Clients.{is_symmetric, is_cone}
+use Rattle.settled.specs.Clients.{is_symmetric, is_cone_kind}
 use Rattle.verdicts.specs.Undisturbed.{is_young_out}
 use Rattle.verdicts.proofs.Members.{Has}
 use Rattle.verdicts.proofs.Opened.{IsOpen, IsNext, stays_open, AsksAlone, still_alone}
@@ -27,7 +27,7 @@ use Rattle.verdicts.proofs.Adverts.{is_told}
 pub record IsGoodAddress (v : View) (cone_try : Bool) (own : Ip6) : Type 0 where
   pub opened : IsOpen v (embedded own)
   pub plain : is_symmetric v.nat.kind ≡ false
-  pub cone : has_cone own ≡ true → (is_cone v.nat.kind ≡ true) × (cone_try ≡ true)
+  pub cone : has_cone own ≡ true → (is_cone_kind v.nat.kind ≡ true) × (cone_try ≡ true)
 
 -- there is an address, and it is such a one
 abbrev pub GoodAddress : View → Bool → Option Ip6 → Type 0

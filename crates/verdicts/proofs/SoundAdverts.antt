@@ -21,10 +21,10 @@ use Rattle.qualify.specs.declared.settings.Settings.{Settings}
 use Rattle.qualify.specs.declared.phase.Phase.{Phase}
 use Rattle.qualify.specs.declared.phase.Phase.TheVariants.{Cone, Restricted, Secondary, Qualified, Symmetric, OffLine}
 use Rattle.qualify.specs.Turns.{turn, begins}
-use Rattle.qualify.specs.Qualification.{Qualification, address_of}
+use Rattle.qualify.specs.Qualification.{Qualification, address_told}
 use Rattle.qualify.specs.Solicitations.{expected_in}
 use Rattle.qualify.specs.Advertisements.{is_same_origin, origin_before, phase_line}
-use Rattle.settled.specs.Clients.{is_symmetric, is_cone}
+use Rattle.settled.specs.Clients.{is_symmetric, is_cone_kind}
 use Rattle.verdicts.proofs.Members.{Has, has_of}
 use Rattle.verdicts.proofs.Opened.{IsOpen, opens, AsksAlone}
 use Rattle.verdicts.proofs.Views.{NatLaws, View, IsPastOf, counts_in, asked_port, plain_one_port}
@@ -61,21 +61,21 @@ unfolding same_ep
 same_of a b ip port = rw (ip, port) (same_ep-self b)
 
 -- who asked the server's primary address alone is let in from its secondary address only by a cone NAT
-only_cone : (k : NatKind) (first second : Ip4) (d : Outward) → (first ≡ second → ⊥) → d.dst ≡ server_ep first → Asked k (server_ep second) d → is_cone k ≡ true
+only_cone : (k : NatKind) (first second : Ip4) (d : Outward) → (first ≡ second → ⊥) → d.dst ≡ server_ep first → Asked k (server_ep second) d → is_cone_kind k ≡ true
 only_cone kind.Cone first second d apart to a = refl
 only_cone kind.Restricted first second d apart to a = absurd (apart (sym (ap (λ (e : Ep). e.ip) to) ∙ a))
 only_cone kind.Port first second d apart to a = absurd (apart (ap (λ (e : Ep). e.ip) (sym to ∙ a)))
 only_cone kind.Symmetric first second d apart to a = absurd (apart (ap (λ (e : Ep). e.ip) (sym to ∙ a)))
 
 -- a cone NAT isn't symmetric
-cone_is_plain : (k : NatKind) → is_cone k ≡ true → is_symmetric k ≡ false
+cone_is_plain : (k : NatKind) → is_cone_kind k ≡ true → is_symmetric k ≡ false
 cone_is_plain kind.Cone h = refl
 cone_is_plain kind.Restricted h = absurd (false≢true h)
 cone_is_plain kind.Port h = absurd (false≢true h)
 cone_is_plain kind.Symmetric h = absurd (false≢true h)
 
 -- and lets everybody in
-cone_asked : (k : NatKind) (src : Ep) (d : Outward) → is_cone k ≡ true → Asked k src d
+cone_asked : (k : NatKind) (src : Ep) (d : Outward) → is_cone_kind k ≡ true → Asked k src d
 cone_asked kind.Cone src d h = tt
 cone_asked kind.Restricted src d h = absurd (false≢true h)
 cone_asked kind.Port src d h = absurd (false≢true h)
@@ -99,12 +99,12 @@ module _ (laws : TurnLaws) (s : Settings) (v : View) (b : Bool) (primary : IsIp4
   bit cone w = (laws.teredo s.primary (flags_of cone w) dst primary (laws.flags cone w).sixteen is_ep).cone_is ∙ (laws.flags cone w).cone_is
 
   -- and is good where that is open
-  good : (cone : Bool) (w : Option ℕ) → IsOpen v dst → is_symmetric v.nat.kind ≡ false → (cone ≡ true → (is_cone v.nat.kind ≡ true) × (b ≡ true))
-      → GoodAddress v b (address_of s cone w (Some dst))
+  good : (cone : Bool) (w : Option ℕ) → IsOpen v dst → is_symmetric v.nat.kind ≡ false → (cone ≡ true → (is_cone_kind v.nat.kind ≡ true) × (b ≡ true))
+      → GoodAddress v b (address_told s cone w (Some dst))
   good cone w o plain says = record { opened = subst (IsOpen v) (sym (embeds cone w)) o; plain = plain; cone = λ h. says (sym (bit cone w) ∙ h) }
 
   -- in phase Cone, from the secondary address
-  in_cone : (w : Option ℕ) → b ≡ true → AsksAlone v → IsLetInAt v (server_ep s.secondary) dst → GoodAddress v b (address_of s true w (Some dst))
+  in_cone : (w : Option ℕ) → b ≡ true → AsksAlone v → IsLetInAt v (server_ep s.secondary) dst → GoodAddress v b (address_told s true w (Some dst))
   in_cone w tries alone in_ =
       let a = was_asked laws.nat v (server_ep s.secondary) dst p in_ in
       let cone = only_cone v.nat.kind s.primary s.secondary a.datagram apart (alone a.datagram a.counts a.left ∙ asks) a.asked in
@@ -151,7 +151,7 @@ module _ (laws : TurnLaws) (s : Settings) (v : View) (b : Bool) (primary : IsIp4
 
   -- while Qualified, from where the NAT lets it in
   in_qualified : (src : Ep) (w : Option ℕ) (own : Ip6) → IsGoodAddress v b own → IsLetInAt v src dst
-      → GoodAddress v b (address_of s (has_cone own) w (Some dst))
+      → GoodAddress v b (address_told s (has_cone own) w (Some dst))
   in_qualified src w own is in_ =
       let a = was_asked laws.nat v src dst p in_ in
       let o = is.opened in

@@ -10,7 +10,7 @@ use Rattle.indications.specs.Leads.{origin_in}
 use Rattle.bubble.specs.Reads.{value_in}
 use Rattle.bubble.proofs.MadeInputs.{origin_is}
 use Rattle.nat_kinds.specs.declared.outgoing.Outward.{Outward}
-use Rattle.nat_kinds.specs.History.{Entry as NatEntry, Out, Restart}
+use Rattle.nat_kinds.specs.History.{NatEntry, Out, Restart}
 use Rattle.teredo_node.specs.Step.{Send}
 use Rattle.teredo_node.specs.Journal.{Input, Entry, Journal, with_entry}
 use Rattle.teredo_node.specs.MadeInputs.{IsMadeInput}
@@ -20,7 +20,7 @@ use Rattle.qualify.specs.declared.phase.Phase.TheVariants.{Cone}
 use Rattle.qualify.specs.Turns.{Turn, asks_cone, asks_restricted, asks_secondary, ends, refreshes, qualifies, is_answered, differs, is_same, is_changed, renews}
 use Rattle.qualify.specs.Turns.{says_nothing, turn_of, begins, origin_given, flags_word}
 use Rattle.qualify.specs.Qualification.{Qualification, qualification}
-use Rattle.qualify.specs.Solicitations.{is_qualified, is_cone, asked_at}
+use Rattle.qualify.specs.Solicitations.{is_qualified, is_cone, server_asked}
 use Rattle.qualify.specs.Advertisements.{is_same_origin, origin_before, phase_line}
 use Rattle.client_rules.specs.Sendings.{IsBubbleTo, IsCarriedTo, IsSending, solicits, bubbles, tests, carries}
 use Rattle.client_rules.specs.Journals.{client_entry, IsJournal}
@@ -199,9 +199,9 @@ module _ (laws : VerdictLaws) (lab : Lab) (H : List Full) (r : Full) (n : ℕ) (
         (sym (same_view (past_of_nat lab (r ∷ H) c) r.moment (unchanged t.quiet) t.moment)) by_input)
 
     -- in phase Cone a client asks its server's primary address alone
-    to_primary : (u : Turn) → is_told u ≡ false → asked_at s (unwrap_or (begins u) Cone) ≡ asks_at lab c
+    to_primary : (u : Turn) → is_told u ≡ false → server_asked s (unwrap_or (begins u) Cone) ≡ asks_at lab c
     to_primary u h = by u h where
-      by : (u : Turn) → is_told u ≡ false → asked_at s (unwrap_or (begins u) Cone) ≡ server_ep s.primary
+      by : (u : Turn) → is_told u ≡ false → server_asked s (unwrap_or (begins u) Cone) ≡ server_ep s.primary
       by asks_cone h = refl
       by asks_restricted h = refl
       by asks_secondary h = refl
@@ -224,7 +224,7 @@ module _ (laws : VerdictLaws) (lab : Lab) (H : List Full) (r : Full) (n : ℕ) (
     one_send : q.phase ≡ Cone → is_told (turn_of e) ≡ false → (x : Send)
         → IsSending s q (qualification s (with_entry (journal n H) e)).phase e.peer (IsBubbleTo e) (IsCarriedTo (journal n H) e) x → x.to ≡ asks_at lab c
     one_send cone h x (solicits nonce same) = ap (λ (z : Send). z.to) same
-        ∙ ap (asked_at s) (phase_next s (journal n H) e ∙ ap (unwrap_or (begins (turn_of e))) cone) ∙ to_primary (turn_of e) h
+        ∙ ap (server_asked s) (phase_next s (journal n H) e ∙ ap (unwrap_or (begins (turn_of e))) cone) ∙ to_primary (turn_of e) h
     one_send cone h x (bubbles own p to has peer goes same) = absurd (no_address cone own has)
     one_send cone h x (tests own p nonce has peer same) = absurd (no_address cone own has)
     one_send cone h x (carries to bytes own goes same) = absurd (no_address cone _ own.source)

@@ -7,7 +7,7 @@ use Rattle.nat_kinds.specs.declared.kind.NatKind.{NatKind}
 use Rattle.nat_kinds.specs.declared.kind.NatKind.TheVariants as kind
 use Rattle.nat_kinds.specs.declared.outgoing.Outward.{Outward}
 use Rattle.nat_kinds.specs.declared.settings.NatSettings.{NatSettings}
-use Rattle.nat_kinds.specs.History.{Entry, counting}
+use Rattle.nat_kinds.specs.History.{NatEntry, counting}
 use Rattle.nat_kinds.specs.Mappings.{has_key, port_in, live_port}
 use Rattle.nat_kinds.specs.Answer.{live_after}
 use Rattle.nat_kinds.specs.Entering.{lets_in}
@@ -19,24 +19,24 @@ use Rattle.verdicts.proofs.Members.{Has, contains_of}
 
 -- what is known of NATs
 pub record NatLaws : Type 0 where
-  pub ports : (s : NatSettings) (h : List Entry) (n : ℕ) → IsPast s h n → (e : Outward) → Contains (counting s.idle n h) e
+  pub ports : (s : NatSettings) (h : List NatEntry) (n : ℕ) → IsPast s h n → (e : Outward) → Contains (counting s.idle n h) e
       → live_port s.kind e.inside e.dst (live_after s h n) ≡ Some e.port
-  pub keys : (s : NatSettings) (h : List Entry) (n : ℕ) → IsPast s h n → (inside dst inside' dst' : Ep) (port : ℕ)
+  pub keys : (s : NatSettings) (h : List NatEntry) (n : ℕ) → IsPast s h n → (inside dst inside' dst' : Ep) (port : ℕ)
       → live_port s.kind inside dst (live_after s h n) ≡ Some port → live_port s.kind inside' dst' (live_after s h n) ≡ Some port
       → SameKey s.kind inside dst inside' dst'
-  pub asked : (s : NatSettings) (h : List Entry) (n : ℕ) → IsPast s h n → (src : Ep) (port : ℕ) (inside : Ep)
+  pub asked : (s : NatSettings) (h : List NatEntry) (n : ℕ) → IsPast s h n → (src : Ep) (port : ℕ) (inside : Ep)
       → (lets_in s h n src port ≡ Some inside → WasAsked s h n src port inside) × (WasAsked s h n src port inside → lets_in s h n src port ≡ Some inside)
 
 -- a NAT after a history, at a moment, with the inside endpoint of one of its clients and the endpoint that this asks
 pub record View : Type 0 where
   pub nat : NatSettings
-  pub past : List Entry
+  pub past : List NatEntry
   pub moment : ℕ
   pub inside : Ep
   pub server : Ep
 
 -- after a further record
-abbrev pub grown : View → List Entry → ℕ → View
+abbrev pub grown : View → List NatEntry → ℕ → View
 grown v added m = record { nat = v.nat; past = added ++ v.past; moment = m; inside = v.inside; server = v.server }
 
 -- the history is one that the laws of NATs speak of
@@ -48,7 +48,7 @@ abbrev pub counts_in : View → List Outward
 counts_in v = counting v.nat.idle v.moment v.past
 
 -- the latest datagram to the server
-abbrev pub latest_ask : View → Option Entry
+abbrev pub latest_ask : View → Option NatEntry
 latest_ask v = find (is_out_to v.inside v.server) v.past
 
 -- PORTS

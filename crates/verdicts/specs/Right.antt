@@ -11,7 +11,7 @@ use Rattle.history.specs.Full.{Full}
 use Rattle.legal.specs.Lab.{Lab}
 use Rattle.legal.specs.Legal.{Grown}
 use Rattle.origins.specs.Honest.{are_honest}
-use Rattle.settled.specs.Clients.{standing, address_in, nat_behind, is_symmetric}
+use Rattle.settled.specs.Clients.{standing, client_address, nat_behind, is_symmetric}
 use Rattle.settled.specs.Settled.{IsSettled}
 use Rattle.verdicts.specs.Undisturbed.{IsUndisturbed, IsKeptOpen}
 
@@ -32,7 +32,7 @@ EachIsRight = (lab : Lab) (H : List Full) (n : ℕ) (c : ClientNode) → lab.cha
 -- that of a client which doesn't try the cone phase; its address doesn't say that its NAT is cone
 pub record IsRightWithoutCone (lab : Lab) (H : List Full) (n : ℕ) (c : ClientNode) : Type 0 where
   pub right : IsRight lab H n c
-  pub no_cone : (own : Ip6) → address_in lab H n c ≡ Some own → has_cone own ≡ false
+  pub no_cone : (own : Ip6) → client_address lab H n c ≡ Some own → has_cone own ≡ false
 
 -- so is that of each such client whose NAT was kept open
 abbrev pub EachIsRightWithoutCone : Type 0

@@ -5,7 +5,7 @@ use Rattle.std.specs.List.{list_any}
 use Rattle.td_base.specs.declared.endpoint.Ep.{Ep}
 use Rattle.td_base.specs.Ep.{same_ep}
 use Rattle.nat_kinds.specs.declared.outgoing.Outward.{Outward}
-use Rattle.nat_kinds.specs.History.{Entry as NatEntry, Out, Forget, Restart, counting, is_young}
+use Rattle.nat_kinds.specs.History.{NatEntry, Out, Forget, Restart, counting, is_young}
 use Rattle.teredo_node.specs.Journal.{Entry}
 use Rattle.qualify.specs.Turns.{Turn, is_answered, turn_of}
 use Rattle.topology.specs.declared.client_node.ClientNode.{ClientNode}

@@ -17,7 +17,7 @@ use Rattle.legal.specs.Settings.{client_settings}
 use Rattle.legal.specs.Past.{journal}
 use Rattle.origins.specs.Honest.{are_honest}
 use Rattle.origins.specs.Sources.{outermost}
-use Rattle.origins.specs.Handed.{HandsOver}
+use Rattle.origins.specs.Handed.{HandsToHost}
 use Rattle.origins.specs.Origin.{PutsFrom, HandedIn, HasOrigin, put, sent_by}
 use Rattle.origins.specs.Live.{IsHeld}
 
@@ -43,7 +43,7 @@ GivesUnheld lab n c own (r ∷ H) = (are_honest lab.topology (r ∷ H) ≡ false
 -- the latest record hands x to the host of client n, which is c, from entry k
 abbrev pub LatestHands : Lab → ℕ → ClientNode → ℕ → List ℕ → List Full → Type 0
 LatestHands lab n c k x [] = ⊥
-LatestHands lab n c k x (r ∷ H) = HandsOver lab r n c x × (r.delivered ≡ Some k)
+LatestHands lab n c k x (r ∷ H) = HandsToHost lab r n c x × (r.delivered ≡ Some k)
 
 -- the history is honest; its latest record does, and the entry has its origin where the source of x says
 pub record HandsTold (lab : Lab) (n : ℕ) (c : ClientNode) (k : ℕ) (x : List ℕ) (H : List Full) : Type 0 where

@@ -15,7 +15,7 @@ use Rattle.history.specs.Full.{Full}
 use Rattle.legal.specs.Lab.{Lab}
 use Rattle.legal.specs.Next.{next}
 use Rattle.origins.specs.Honest.{are_honest}
-use Rattle.settled.specs.Clients.{standing, address_in, asks_at, nat_behind, port_to, is_cone}
+use Rattle.settled.specs.Clients.{standing, client_address, asks_at, nat_behind, port_to, is_cone_kind}
 use Rattle.settled.specs.Settled.{IsSettled}
 use Rattle.verdicts.specs.Undisturbed.{began_seen, was_lost, has_sent, was_answered, was_shut}
 use Rattle.verdicts.specs.Right.{IsRight}
@@ -66,9 +66,9 @@ view lab H n c = record {
   };
   verdict = record {
     phase = (standing lab H n c).phase;
-    address = address_in lab H n c;
-    embeds = option_map embedded (address_in lab H n c);
-    says_cone = option_map has_cone (address_in lab H n c);
+    address = client_address lab H n c;
+    embeds = option_map embedded (client_address lab H n c);
+    says_cone = option_map has_cone (client_address lab H n c);
     port = port_to lab H c (asks_at lab c);
   };
 }
@@ -90,7 +90,7 @@ module _ (lab : Lab) (H : List Full) (n : ℕ) (c : ClientNode) (v : ClientView)
       false≢true (ap (λ (o : Option ℕ). is_some o) (sym none ∙ ap (λ (x : ClientView). x.verdict.port) (sym is) ∙ own.1.port))
 
   -- the NAT isn't cone, as the address says
-  pub wrong_cone : v.verdict.says_cone ≡ Some true → is_cone (nat_behind lab c).kind ≡ false → IsRight lab H n c → ⊥
+  pub wrong_cone : v.verdict.says_cone ≡ Some true → is_cone_kind (nat_behind lab c).kind ≡ false → IsRight lab H n c → ⊥
   wrong_cone says other r =
       let own = settled r in
       let bit : has_cone own.0 ≡ true = ap (λ (o : Option Bool). unwrap_or o true) (ap (option_map has_cone) (sym own.1.address) ∙ ap (λ (x : ClientView). x.verdict.says_cone) is ∙ says) in

@@ -43,10 +43,10 @@ use Rattle.client_rules.specs.Reception.{is_from_server, seen as client_seen, re
 use Rattle.client_rules.specs.Transmission.{given as client_given, transmission as client_transmission}
 use Rattle.client_rules.specs.Ticks.{due_at as client_due_at, next_due}
 use Rattle.client_rules.specs.Journals.{client_in, client_out, client_tick, client_due}
-use Rattle.relay_rules.specs.Bearings.{mentions as relay_mentions}
-use Rattle.relay_rules.specs.Standing.{standing_at as relay_standing_at}
-use Rattle.relay_rules.specs.Transmission.{given as relay_given, bubble_to, transmission as relay_transmission}
-use Rattle.relay_rules.specs.Reception.{seen as relay_seen, reception as relay_reception}
+use Rattle.relay_rules.specs.Bearings.{relay_mentions}
+use Rattle.relay_rules.specs.Standing.{relay_standing_at}
+use Rattle.relay_rules.specs.Transmission.{relay_given, bubble_to, relay_transmission}
+use Rattle.relay_rules.specs.Reception.{relay_seen, relay_reception}
 use Rattle.relay_rules.specs.Journals.{relay_in, relay_six, relay_tick, relay_due}
 use Rattle.teredo_node.specs.declared.fate.Fate.TheVariants as fate
 use Rattle.topology.specs.Rows.{TopologyState}

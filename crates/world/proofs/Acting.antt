@@ -15,7 +15,7 @@ use Rattle.topology.specs.Rows.{TopologyState}
 use Rattle.topology.specs.declared.nat_node.NatNode.{NatNode}
 use Rattle.nat_kinds.specs.declared.settings.NatSettings.{NatSettings}
 use Rattle.nat_kinds.specs.Nat.{NatState}
-use Rattle.nat_kinds.specs.Nat as kept
+use Rattle.nat_kinds.specs.Nat.{NatStandsFor}
 use Rattle.td_chain.specs.Chains.{ChainsState, set_ups, AreNatsOf}
 use Rattle.topology.specs.declared.node.Node.{Node}
 use Rattle.topology.specs.declared.node.Node.TheVariants.{Server as server, Nat as nat, Client as client, Relay as relay, Native as native}
@@ -234,7 +234,7 @@ nats_after : (x : Doing) (y : Asking) (nats : ChainsState) (new : WireState) (ma
 nats_after x y nats new marks is asked done = record {
   topology = done.knows.topology;
   chain = done.knows.chain;
-  stands = record { set_up = done.knows.stands.set_up; stands = λ k its at. subst (kept.StandsFor its) (by k its at (eqb_tells k x.call.node)) (done.knows.stands.stands k its at) };
+  stands = record { set_up = done.knows.stands.set_up; stands = λ k its at. subst (NatStandsFor its) (by k its at (eqb_tells k x.call.node)) (done.knows.stands.stands k its at) };
 } where
   passed : (leaving x y).passed ≡ (record_by x).passed
   passed = ap (λ (s : Sendings). s.passed) (sym (leaves_so x y is asked))

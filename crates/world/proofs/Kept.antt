@@ -4,15 +4,15 @@ use Rattle.std.specs.Prelude.{is_some}
 use Rattle.std.proofs.lemmas.Bool.{false≢true}
 use Rattle.std.proofs.lemmas.Bool.Decides.{eqb_tells}
 use Rattle.nat_kinds.specs.Nat.{NatState}
-use Rattle.nat_kinds.specs.Nat as nats
-use Rattle.nat_kinds.specs.History.{Entry as NatEntry, Restart}
+use Rattle.nat_kinds.specs.Nat.{NatStandsFor}
+use Rattle.nat_kinds.specs.History.{NatEntry, Restart}
 use Rattle.teredo_node.specs.Journal.{Journal}
 use Rattle.client_core.specs.Client.{ClientStandsFor}
 use Rattle.relay_core.specs.Relay.{RelayStandsFor}
 use Rattle.topology.specs.Rows.{TopologyState}
 use Rattle.topology.specs.Chains.{NatPasts, Passing, outs_at, after_passing}
 use Rattle.td_chain.specs.Chains.{ChainsState, NatsStand, with_nat_entry}
-use Rattle.td_chain.specs.Chains as chains
+use Rattle.td_chain.specs.Chains.{ChainsStandFor}
 use Rattle.history.specs.declared.act.Act.{Act}
 use Rattle.events.specs.declared.event.Event.{Event}
 use Rattle.history.specs.Full.{Full}
@@ -129,7 +129,7 @@ all_away frame lab list H r of nobody = record {
 
 -- they stand for histories that are the same
 stand_as : (t : TopologyState) (list : List (Option NatState)) (g h : NatPasts) → ((k : ℕ) → g k ≡ h k) → NatsStand t list g → NatsStand t list h
-stand_as t list g h same stand = record { set_up = stand.set_up; stands = λ k nat at. subst (nats.StandsFor nat) (same k) (stand.stands k nat at) }
+stand_as t list g h same stand = record { set_up = stand.set_up; stands = λ k nat at. subst (NatStandsFor nat) (same k) (stand.stands k nat at) }
 
 -- a record adds to them what was let out
 pub nats_as : (lab : Lab) (H : List Full) (r : Full) (passed : List Passing) (now : ChainsState) → ((k : ℕ) → outs_at k passed ++ nat_history lab k H ≡ nat_history lab k (r ∷ H))
@@ -155,7 +155,7 @@ joins lab H r n e node none its k =
     by false = refl
 
 pub record Joins (n : ℕ) (e : NatEntry) (old new : ChainsState) : Type 0 where
-  pub stands : (h : NatPasts) → chains.StandsFor old h → chains.StandsFor new (with_nat_entry n e h)
+  pub stands : (h : NatPasts) → ChainsStandFor old h → ChainsStandFor new (with_nat_entry n e h)
   pub same : new ≡ record old { nats = new.nats }
 
 pub nats_join : (lab : Lab) (H : List Full) (r : Full) (n : ℕ) (e : NatEntry) (old new : ChainsState) → r.node ≡ Some n → r.passed ≡ [] → at_nat lab r.asked r.act ≡ e ∷ [] → Joins n e old new

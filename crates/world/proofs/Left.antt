@@ -15,9 +15,9 @@ use Rattle.storms.specs.Weights.{entry_weight}
 use Rattle.storms.specs.Burden as past
 use Rattle.storms.specs.Left.{left_of_event, left}
 use Rattle.lab_nodes.specs.PlayedNode.{NodesOf, AreReady}
-use Rattle.lab_nodes.specs.DueMoments.{all_due, EachSumIsOfThePast}
-use Rattle.lab_nodes.specs.Waits.{waits, EachWaitsAsInThePast}
-use Rattle.world.specs.World.{WorldState, undelivered_from, left_of, left_in, lab_in}
+use Rattle.lab_nodes.specs.DueMoments.{all_played_due, EachSumIsOfThePast}
+use Rattle.lab_nodes.specs.Waits.{played_waits, EachWaitsAsInThePast}
+use Rattle.world.specs.World.{WorldState, not_done_from, left_of, left_in, lab_in}
 
 -- THE SAME DUE MOMENTS IN ANOTHER ORDER
 
@@ -36,11 +36,11 @@ same_time end at xs ys same =
 
 -- THE SAME ENTRIES
 
-same_items : (H : List Full) (done : List Bool) (i : ℕ) (xs : List Item) → ((k : ℕ) → get_or done k false ≡ was_delivered k H) → undelivered_from done i xs ≡ past.undelivered_from H i xs
+same_items : (H : List Full) (done : List Bool) (i : ℕ) (xs : List Item) → ((k : ℕ) → get_or done k false ≡ was_delivered k H) → not_done_from done i xs ≡ past.undelivered_from H i xs
 same_items H done i [] same = refl
 same_items H done i (x ∷ xs) same =
     let rest = same_items H done (i + 1) xs same in
-    ap (λ (b : Bool). cond b (undelivered_from done (i + 1) xs) (x ∷ undelivered_from done (i + 1) xs)) (same i)
+    ap (λ (b : Bool). cond b (not_done_from done (i + 1) xs) (x ∷ not_done_from done (i + 1) xs)) (same i)
     ∙ ap (λ (ys : List Item). cond (was_delivered i H) ys (x ∷ ys)) rest
 
 -- BY THE EVENT THAT GOES ON
@@ -73,11 +73,11 @@ left_is law waited d w H is = left_by_going (lab_in d w) H ∙ ap (left_so (lab_
   by None = refl
   by (Some (event.Advance ms)) =
       let ready : AreReady (now H) w.nodes = subst (λ (m : ℕ). AreReady m w.nodes) is.moment is.ready in
-      let same : time_left (began H + ms) (now H) (all_due (now H) w.nodes) ≡ time_left (began H + ms) (now H) (legal.all_due (lab_in d w) H 0 (nodes w.topology)) =
-      same_time (began H + ms) (now H) (all_due (now H) w.nodes) (legal.all_due (lab_in d w) H 0 (nodes w.topology)) (λ weight. law (lab_in d w) w.nodes H weight is.nodes ready) in
+      let same : time_left (began H + ms) (now H) (all_played_due (now H) w.nodes) ≡ time_left (began H + ms) (now H) (legal.all_due (lab_in d w) H 0 (nodes w.topology)) =
+      same_time (began H + ms) (now H) (all_played_due (now H) w.nodes) (legal.all_due (lab_in d w) H 0 (nodes w.topology)) (λ weight. law (lab_in d w) w.nodes H weight is.nodes ready) in
       sym same
-      ∙ ap (λ (m : ℕ). time_left (began H + ms) m (all_due m w.nodes)) (sym is.moment)
-      ∙ ap (λ (m : ℕ). time_left (m + ms) w.moment (all_due w.moment w.nodes)) (sym is.began)
+      ∙ ap (λ (m : ℕ). time_left (began H + ms) m (all_played_due m w.nodes)) (sym is.moment)
+      ∙ ap (λ (m : ℕ). time_left (m + ms) w.moment (all_played_due w.moment w.nodes)) (sym is.began)
   by (Some (event.Deliver number)) = refl
   by (Some event.Next) = refl
   by (Some (event.Host node to body)) = refl
@@ -91,6 +91,6 @@ left_is law waited d w H is = left_by_going (lab_in d w) H ∙ ap (left_so (lab_
   by (Some event.Settle) =
       let weight : Item → ℕ = entry_weight w.topology in
       let ready : AreReady (now H) w.nodes = subst (λ (m : ℕ). AreReady m w.nodes) is.moment is.ready in
-      let items : undelivered_from w.done 0 w.wire ≡ past.undelivered_items H = same_items H w.done 0 w.wire is.done ∙ ap (past.undelivered_from H 0) is.wire in
-      let packets : sum (waits w.moment w.nodes) ≡ sum (past.waits w.topology H) = ap (λ (m : ℕ). sum (waits m w.nodes)) is.moment ∙ waited (lab_in d w) w.nodes H is.nodes ready in
-      ap (λ (n : ℕ). sum_by weight (past.undelivered_items H) + n) (sym packets) ∙ ap (λ (xs : List Item). sum_by weight xs + sum (waits w.moment w.nodes)) (sym items)
+      let items : not_done_from w.done 0 w.wire ≡ past.undelivered_items H = same_items H w.done 0 w.wire is.done ∙ ap (past.undelivered_from H 0) is.wire in
+      let packets : sum (played_waits w.moment w.nodes) ≡ sum (past.waits w.topology H) = ap (λ (m : ℕ). sum (played_waits m w.nodes)) is.moment ∙ waited (lab_in d w) w.nodes H is.nodes ready in
+      ap (λ (n : ℕ). sum_by weight (past.undelivered_items H) + n) (sym packets) ∙ ap (λ (xs : List Item). sum_by weight xs + sum (played_waits w.moment w.nodes)) (sym items)

@@ -16,8 +16,8 @@ use Rattle.history.specs.declared.turn.Turn.TheVariants.{More, Last}
 use Rattle.history.specs.Full.{Full}
 use Rattle.legal.specs.Lab.{Draws, Lab}
 use Rattle.legal.specs.Past.{now, began}
-use Rattle.legal.specs.Emit.{due_of}
-use Rattle.legal.specs.Next.{numbered, plain, acts, no_ep, Due, earlier, least_due, advanced, advance_with, next_of}
+use Rattle.legal.specs.Emit.{tick_due}
+use Rattle.legal.specs.Next.{numbered, plain, acts, no_ep, DueNode, earlier, least_due, advanced, advance_with, next_of}
 use Rattle.legal.specs.Frame.{EachFrames}
 use Rattle.lab_nodes.specs.declared.due.Due as found
 use Rattle.lab_nodes.specs.Due.{due_as}
@@ -32,7 +32,7 @@ use Rattle.world.proofs.Played.{rests}
 
 -- WHOSE TICK IT IS
 
-one_of : (a b : Option Due) (x : Due) → earlier a b ≡ Some x → (a ≡ Some x) ⊎ (b ≡ Some x)
+one_of : (a b : Option DueNode) (x : DueNode) → earlier a b ≡ Some x → (a ≡ Some x) ⊎ (b ≡ Some x)
 one_of None b x e = inr e
 one_of (Some a) None x e = inl e
 one_of (Some a) (Some b) x e = by (nat_lt b.moment a.moment) refl where
@@ -41,24 +41,24 @@ one_of (Some a) (Some b) x e = by (nat_lt b.moment a.moment) refl where
   by false is = inl (sym (rw is refl) ∙ e)
 
 -- the tick of a node, where one is due
-abbrev tick_at : ℕ → Node → ℕ → Due
+abbrev tick_at : ℕ → Node → ℕ → DueNode
 tick_at n a m = record { moment = m; number = n; node = a }
 
-whose : (n : ℕ) (a : Node) (o : Option ℕ) (x : Due) → option_map (tick_at n a) o ≡ Some x → (n ≡ x.number) × (a ≡ x.node)
-whose n a None x e = absurd (false≢true (ap (λ (o : Option Due). is_some o) e))
-whose n a (Some m) x e = let same = some_inj (tick_at n a m) x e in (ap (λ (y : Due). y.number) same, ap (λ (y : Due). y.node) same)
+whose : (n : ℕ) (a : Node) (o : Option ℕ) (x : DueNode) → option_map (tick_at n a) o ≡ Some x → (n ≡ x.number) × (a ≡ x.node)
+whose n a None x e = absurd (false≢true (ap (λ (o : Option DueNode). is_some o) e))
+whose n a (Some m) x e = let same = some_inj (tick_at n a m) x e in (ap (λ (y : DueNode). y.number) same, ap (λ (y : DueNode). y.node) same)
 
-among : (lab : Lab) (H : List Full) (n : ℕ) (ns : List Node) (x : Due) → least_due lab H n ns ≡ Some x → (k : ℕ) × (x.number ≡ n + k) × (slice_get ns k ≡ Some x.node)
-among lab H n [] x e = absurd (false≢true (ap (λ (o : Option Due). is_some o) e))
-among lab H n (a ∷ rest) x e = by (one_of (option_map (tick_at n a) (due_of lab H (now H) n a)) (least_due lab H (n + 1) rest) x e) (λ h. among lab H (n + 1) rest x h) where
-  by : (option_map (tick_at n a) (due_of lab H (now H) n a) ≡ Some x) ⊎ (least_due lab H (n + 1) rest ≡ Some x)
+among : (lab : Lab) (H : List Full) (n : ℕ) (ns : List Node) (x : DueNode) → least_due lab H n ns ≡ Some x → (k : ℕ) × (x.number ≡ n + k) × (slice_get ns k ≡ Some x.node)
+among lab H n [] x e = absurd (false≢true (ap (λ (o : Option DueNode). is_some o) e))
+among lab H n (a ∷ rest) x e = by (one_of (option_map (tick_at n a) (tick_due lab H (now H) n a)) (least_due lab H (n + 1) rest) x e) (λ h. among lab H (n + 1) rest x h) where
+  by : (option_map (tick_at n a) (tick_due lab H (now H) n a) ≡ Some x) ⊎ (least_due lab H (n + 1) rest ≡ Some x)
       → (least_due lab H (n + 1) rest ≡ Some x → (k : ℕ) × (x.number ≡ n + 1 + k) × (slice_get rest k ≡ Some x.node))
       → (k : ℕ) × (x.number ≡ n + k) × (slice_get (a ∷ rest) k ≡ Some x.node)
-  by (inl mine) later = let is = whose n a (due_of lab H (now H) n a) x mine in let at = is.0 in (0, omega (arith, at), ap (λ (b : Node). Some b) is.1)
+  by (inl mine) later = let is = whose n a (tick_due lab H (now H) n a) x mine in let at = is.0 in (0, omega (arith, at), ap (λ (b : Node). Some b) is.1)
   by (inr other) later = let is = later other in let at = is.1 in (suc is.0, omega (arith, at), is.2)
 
 -- the node of the tick that is due first is there
-pub due_is_there : (lab : Lab) (H : List Full) (x : Due) → least_due lab H 0 (nodes lab.topology) ≡ Some x → node_at lab.topology x.number ≡ Some x.node
+pub due_is_there : (lab : Lab) (H : List Full) (x : DueNode) → least_due lab H 0 (nodes lab.topology) ≡ Some x → node_at lab.topology x.number ≡ Some x.node
 due_is_there lab H x e =
     let is = among lab H 0 (nodes lab.topology) x e in
     let at = is.1 in
@@ -78,13 +78,13 @@ takes_time _ = false
 -- the tick that was found is the first one, or is past a moment where it is later, or there is none
 pub found_first : (lab : Lab) (H : List Full) (o : Option found.Due) (x : found.Due) → o ≡ Some x → o ≡ option_map due_as (least_due lab H 0 (nodes lab.topology)) → IsFound lab H x
 found_first lab H o x is e = by (least_due lab H 0 (nodes lab.topology)) refl (sym is ∙ e) where
-  by : (l : Option Due) → least_due lab H 0 (nodes lab.topology) ≡ l → Some x ≡ option_map due_as l → IsFound lab H x
+  by : (l : Option DueNode) → least_due lab H 0 (nodes lab.topology) ≡ l → Some x ≡ option_map due_as l → IsFound lab H x
   by None least same = absurd (false≢true (ap (λ (o : Option found.Due). is_some o) (sym same)))
   by (Some y) least same = record { tick = y; least = least; is = some_inj (due_as y) x (sym same) }
 
 pub past_none : (lab : Lab) (H : List Full) (end : ℕ) (o : Option found.Due) → o ≡ None → o ≡ option_map due_as (least_due lab H 0 (nodes lab.topology)) → NoneIsDue end (least_due lab H 0 (nodes lab.topology))
 past_none lab H end o is e = by (least_due lab H 0 (nodes lab.topology)) (sym is ∙ e) where
-  by : (l : Option Due) → None ≡ option_map due_as l → NoneIsDue end l
+  by : (l : Option DueNode) → None ≡ option_map due_as l → NoneIsDue end l
   by None same = tt
   by (Some y) same = absurd (false≢true (ap (λ (o : Option found.Due). is_some o) same))
 
@@ -102,7 +102,7 @@ in_going m (Some (going_on.Advance began long)) ms again is = let same : ms ≡ 
 -- WHAT FOLLOWS
 
 -- a tick that is due up to the end
-pub next_is_tick : (d : Draws) (w : WorldState) (H : List Full) (i ms : ℕ) (x : Due) → StandsFor d w H → least_due (lab_in d w) H 0 (nodes w.topology) ≡ Some x → x.moment ≤ w.began + ms
+pub next_is_tick : (d : Draws) (w : WorldState) (H : List Full) (i ms : ℕ) (x : DueNode) → StandsFor d w H → least_due (lab_in d w) H 0 (nodes w.topology) ≡ Some x → x.moment ≤ w.began + ms
     → next_of (lab_in d w) H i (event.Advance ms) ≡ ticks_at d w H (numbered i (event.Advance ms)) x
 next_is_tick d w H i ms x s least within =
     let lab = lab_in d w in
@@ -117,7 +117,7 @@ next_is_tick d w H i ms x s least within =
 pub next_is_end : (d : Draws) (w : WorldState) (H : List Full) (i ms : ℕ) → StandsFor d w H → NoneIsDue (w.began + ms) (least_due (lab_in d w) H 0 (nodes w.topology))
     → next_of (lab_in d w) H i (event.Advance ms) ≡ advanced H (numbered i (event.Advance ms)) (w.began + ms)
 next_is_end d w H i ms s past = by (least_due (lab_in d w) H 0 (nodes w.topology)) refl past where
-  by : (o : Option Due) → least_due (lab_in d w) H 0 (nodes w.topology) ≡ o → NoneIsDue (w.began + ms) o → next_of (lab_in d w) H i (event.Advance ms) ≡ advanced H (numbered i (event.Advance ms)) (w.began + ms)
+  by : (o : Option DueNode) → least_due (lab_in d w) H 0 (nodes w.topology) ≡ o → NoneIsDue (w.began + ms) o → next_of (lab_in d w) H i (event.Advance ms) ≡ advanced H (numbered i (event.Advance ms)) (w.began + ms)
   by None is past = ap (advance_with (lab_in d w) H (numbered i (event.Advance ms)) (began H + ms)) is ∙ ap (λ (m : ℕ). advanced H (numbered i (event.Advance ms)) (m + ms)) (sym s.began)
   by (Some x) is past =
       let start = s.began in
@@ -138,12 +138,12 @@ passes frame d old new H i ms s past same =
     )
 
 -- a tick is played
-pub ticks : (d : Draws) (old new : WorldState) (H : List Full) (i ms : ℕ) (x : Due) (word : Record) → StandsFor d old H → least_due (lab_in d old) H 0 (nodes old.topology) ≡ Some x → x.moment ≤ old.began + ms
+pub ticks : (d : Draws) (old new : WorldState) (H : List Full) (i ms : ℕ) (x : DueNode) (word : Record) → StandsFor d old H → least_due (lab_in d old) H 0 (nodes old.topology) ≡ Some x → x.moment ≤ old.began + ms
     → Plays d old new H (ticks_at d old H (numbered i (event.Advance ms)) x) (Ok word) → PlaysTurn d old new H (next_of (lab_in d old) H i (event.Advance ms)) (Ok (More word))
 ticks d old new H i ms x word s least within plays =
     subst (λ (z : Full). PlaysTurn d old new H z (Ok (More word))) (sym (next_is_tick d old H i ms x s least within)) (plays.0, refl, plays.1)
 
 -- or isn't
-pub tick_stops : (d : Draws) (old : WorldState) (H : List Full) (i ms : ℕ) (x : Due) (why : Stop) → StandsFor d old H → least_due (lab_in d old) H 0 (nodes old.topology) ≡ Some x → x.moment ≤ old.began + ms
+pub tick_stops : (d : Draws) (old : WorldState) (H : List Full) (i ms : ℕ) (x : DueNode) (why : Stop) → StandsFor d old H → least_due (lab_in d old) H 0 (nodes old.topology) ≡ Some x → x.moment ≤ old.began + ms
     → IsCause old (ticks_at d old H (numbered i (event.Advance ms)) x) why → IsCause old (next_of (lab_in d old) H i (event.Advance ms)) why
 tick_stops d old H i ms x why s least within cause = subst (λ (z : Full). IsCause old z why) (sym (next_is_tick d old H i ms x s least within)) cause

@@ -7,7 +7,7 @@ use Rattle.topology.specs.Named.{is_nat}
 use Rattle.topology.specs.Topology.{node_at}
 use Rattle.topology.specs.Chains.{Passing, after_passing, Crossing}
 use Rattle.td_chain.specs.Chains.{ChainsState}
-use Rattle.td_chain.specs.Chains as chains
+use Rattle.td_chain.specs.Chains.{ChainsStandFor}
 use Rattle.history.specs.declared.mark.Loss.{Loss}
 use Rattle.history.specs.Full.{Full}
 use Rattle.legal.specs.Lab.{Lab}
@@ -23,7 +23,7 @@ use Rattle.world.specs.declared.sender.Sender.{Sender}
 pub record AreNatsWith (lab : Lab) (H : List Full) (passed : List Passing) (nats : ChainsState) : Type 0 where
   pub topology : nats.topology ≡ lab.topology
   pub chain : nats.chain ≡ lab.chain
-  pub stands : chains.StandsFor nats (after_passing passed (nat_pasts lab H))
+  pub stands : ChainsStandFor nats (after_passing passed (nat_pasts lab H))
 
 -- a datagram has the source that its way gave it, or is lost, and the NATs know what was let out
 pub record Crossed (lab : Lab) (H : List Full) (c : Crossing) (failing : Bool) (src : Result Ep Loss) (nats : ChainsState) : Type 0 where

@@ -58,17 +58,17 @@ prompted d w H e a prompt number node = acts (lab_in d w) H e a (delivered_by pr
     (dst_by w.wire prompt) (input_by w.wire prompt) node
 
 -- a tick that is due
-abbrev pub ticks_at : Draws → WorldState → List Full → Numbered → next.Due → Full
+abbrev pub ticks_at : Draws → WorldState → List Full → Numbered → next.DueNode → Full
 ticks_at d w H e x = acts (lab_in d w) H e act.Tick None (max x.moment w.moment) x.number no_ep ticked x.node
 
 -- no tick is due up to a moment
-abbrev pub NoneIsDue : ℕ → Option next.Due → Type 0
+abbrev pub NoneIsDue : ℕ → Option next.DueNode → Type 0
 NoneIsDue end None = Unit {0}
 NoneIsDue end (Some x) = end < x.moment
 
 -- it was found as the tick that is due first
 pub record IsFound (lab : Lab) (H : List Full) (x : Due) : Type 0 where
-  pub tick : next.Due
+  pub tick : next.DueNode
   pub least : next.least_due lab H 0 (nodes lab.topology) ≡ Some tick
   pub is : due_as tick ≡ x
 

@@ -29,8 +29,8 @@ use Rattle.storms.specs.Left.{left}
 use Rattle.promises.specs.Kept.{KeptThroughout}
 use Rattle.lab_nodes.specs.declared.played_node.PlayedNode.{PlayedNode}
 use Rattle.lab_nodes.specs.PlayedNode.{NodesOf}
-use Rattle.lab_nodes.specs.DueMoments.{all_due}
-use Rattle.lab_nodes.specs.Waits.{waits}
+use Rattle.lab_nodes.specs.DueMoments.{all_played_due}
+use Rattle.lab_nodes.specs.Waits.{played_waits}
 use Rattle.lab_nodes.specs.Memory.{takes_memory}
 use Rattle.world.specs.Emission.{AreNatsWith}
 use Rattle.world.specs.Wire.{WireState}
@@ -82,16 +82,16 @@ lab_in d w = lab_on d w.topology w.chain
 
 -- for an advance that ends at `end`
 abbrev pub left_until : WorldState → ℕ → ℕ
-left_until w end = time_left end w.moment (all_due w.moment w.nodes)
+left_until w end = time_left end w.moment (all_played_due w.moment w.nodes)
 
 -- of these entries, which are numbered from i on, those that were never delivered
-abbrev pub undelivered_from : List Bool → ℕ → List Item → List Item
-undelivered_from done i [] = []
-undelivered_from done i (x ∷ xs) = if get_or done i false then undelivered_from done (i + 1) xs else x ∷ undelivered_from done (i + 1) xs
+abbrev pub not_done_from : List Bool → ℕ → List Item → List Item
+not_done_from done i [] = []
+not_done_from done i (x ∷ xs) = if get_or done i false then not_done_from done (i + 1) xs else x ∷ not_done_from done (i + 1) xs
 
 -- for `settle`: what can follow from all that is undelivered, and from all packets that wait
 abbrev pub burden_in : WorldState → ℕ
-burden_in w = sum_by (entry_weight w.topology) (undelivered_from w.done 0 w.wire) + sum (waits w.moment w.nodes)
+burden_in w = sum_by (entry_weight w.topology) (not_done_from w.done 0 w.wire) + sum (played_waits w.moment w.nodes)
 
 -- of the event that goes on; as much as may be where none does
 abbrev pub left_of : WorldState → Option Event → ℕ

@@ -11,7 +11,7 @@ ghost use Rattle.legal.specs.Lab.{Draws};
 ghost use Rattle.legal.specs.Past.{forgotten, arms};
 ghost use Rattle.legal.specs.Next.{numbered, plain, least_due, next_of};
 ghost use Rattle.td_outside.specs.declared.clock.TheConstants.{CLOCK_END_MS};
-ghost use Rattle.legal.specs.Next.{Due as Tick};
+ghost use Rattle.legal.specs.Next.{DueNode as Tick};
 ghost use Rattle.lab_nodes.specs.Due.{due_as};
 ghost use Rattle.world.specs.Record.{fresh_record, with_deed};
 ghost use Rattle.world.specs.World.{StandsFor, IsAgain, lab_in};

@@ -4,7 +4,7 @@ ghost use Rattle.events.specs.declared.event.Event.TheVariants as event;
 ghost use Rattle.events.specs.declared.event.TheConstants.{ADVANCE_MAX_MS};
 ghost use Rattle.td_base.specs.declared.datagram.TheConstants.{DATAGRAM_MAX};
 ghost use Rattle.events.specs.Events.{IsEvent};
-ghost use Rattle.td_chain.specs.Chains as chains;
+ghost use Rattle.td_chain.specs.Chains.{ChainsStandFor};
 ghost use Rattle.history.specs.Full.{Full, bytes_of};
 ghost use Rattle.legal.specs.Lab.{Draws, draws};
 ghost use Rattle.legal.specs.Laws.{may_go_on};
@@ -66,7 +66,7 @@ impl<'a> World<'a> {
         seed: u64,
     ) -> Result<World<'a>, NoMemory>
         requires same { nats.topology ≡ topology.now }
-        requires first { (chains.StandsFor nats (λ k. [])) × (nats.moment ≡ 0) }
+        requires first { (ChainsStandFor nats (λ k. [])) × (nats.moment ≡ 0) }
         ensures topology { IfOk result (λ w. w.topology ≡ topology.now) }
         ensures chain { IfOk result (λ w. w.chain ≡ nats.entry.chain) }
         ensures stands { IfOk result (λ w. StandsFor (draws seed) w []) }

@@ -1,5 +1,5 @@
 use Rattle.std.proofs.Common.{◌≡◌, ◌++◌, ◌+◌, ◌-◌, ℕ, List, length, Ok, refl, sym, ap, ◌∙◌, arith}
-use Rattle.ipv6_packet.specs.Packets.{packet_bytes, packet_at, view as packet_view}
+use Rattle.ipv6_packet.specs.Packets.{packet_bytes, packet_at, packet_view}
 use Rattle.indications.specs.Indications.{lead_at}
 use Rattle.indications.specs.Blocks.{indications_bytes, blocks_given, lead}
 use Rattle.bubble.specs.Payloads.{payload_at}

@@ -2,14 +2,14 @@ use Rattle.std.proofs.Common.{◌≡◌, ℕ, [], ◌∷◌, ◌++◌, length, t
 use Rattle.std.proofs.lemmas.List.{take_at}
 use Rattle.byteorder.specs.Endian.{big_bytes}
 use Rattle.td_base.proofs.BytesLemmas.{IsBytes-take, front_none, front_more, front_writes}
-use Rattle.ipv6_packet.specs.Packets.{view, packet_bytes, packet_at}
+use Rattle.ipv6_packet.specs.Packets.{packet_view, packet_bytes, packet_at}
 use Rattle.ipv6_packet.proofs.PacketLaws.{packet_found, spelling_again}
 use Rattle.ipv6_packet.proofs.writer.write.Goals as goal
 
 pub returns-clause-written : goal.returns-clause-written
 unfolding packet_bytes
 returns-clause-written c =
-    let v = view c.args.p.now in
+    let v = packet_view c.args.p.now in
     let f1 = front_more c.put32-at.result (big_bytes 4 c.first_word.result) c.put32-at.new.out (front_none c.args.out.now) c.put32-at.ensures.put c.put32-at.ensures.after in
     let f2 = front_more c.put16-at.result (big_bytes 2 (length v.body)) c.put16-at.new.out f1 c.put16-at.ensures.put c.put16-at.ensures.after in
     let f3 = front_more c.put8-at.result (v.next ∷ []) c.put8-at.new.out f2 c.put8-at.ensures.put c.put8-at.ensures.after in
@@ -21,11 +21,11 @@ returns-clause-written c =
 
 pub returns-clause-again : goal.returns-clause-again
 returns-clause-again c =
-    let v = view c.args.p.now in
+    let v = packet_view c.args.p.now in
     let w = returns-clause-written c in
     let front : take c.put.result c.put.new.out ≡ packet_bytes v = ap (take c.put.result) w.2 ∙ take_at (packet_bytes v) (drop c.put.result c.args.out.now) c.put.result (sym w.0) in
     ap packet_at front ∙ spelling_again v (omega arith) c.requires.flow (omega arith) (omega arith) c.requires.body
 
 pub returns-clause-spelled : goal.returns-clause-spelled
 returns-clause-spelled c =
-    packet_found (take c.put.result c.put.new.out) (view c.args.p.now) (IsBytes-take c.put.result c.put.new.out (λ i. omega (arith, c.type_inv.out i))) (returns-clause-again c)
+    packet_found (take c.put.result c.put.new.out) (packet_view c.args.p.now) (IsBytes-take c.put.result c.put.new.out (λ i. omega (arith, c.type_inv.out i))) (returns-clause-again c)

@@ -2,7 +2,7 @@ use Rattle.std.proofs.Common.{◌≡◌, ◌<◌, ◌+◌, ℕ, length, Some, No
 use Rattle.std.specs.Prelude.{option_map, slice_get, IfSome}
 use Rattle.std.proofs.lemmas.Option.{slice_get_read}
 use Rattle.topology.specs.Topology.{nodes}
-use Rattle.legal.specs.Next.{Due, earlier}
+use Rattle.legal.specs.Next.{DueNode, earlier}
 use Rattle.lab_nodes.specs.declared.due.Due.{Due as Found}
 use Rattle.lab_nodes.specs.PlayedNode.{row_of, past_of, IsKept, IsReady}
 use Rattle.lab_nodes.specs.Due.{due_as, tick_of}
@@ -45,10 +45,10 @@ ticking-preserved c =
             let ready : IsReady c.args.at.0 p = ready_at c.args.at.0 list n p c.requires.ready here in
             let kept : IsKept lab.topology n (past_of lab n H) p = of.each n p here in
             let so = so_far.is lab H of e in
-            let tick : Option Due = tick_of lab H c.args.at.0 n (row_of p) in
+            let tick : Option DueNode = tick_of lab H c.args.at.0 n (row_of p) in
             let new : c.if-may_come_first.first ≡ option_map due_as (earlier so.tick tick) = elim c.if-may_come_first.branch [
               | then-may_come_first w ↦ w.first-is ∙ w.put_earlier.ensures.earlier lab H so.tick kept so.found
-              | else-may_come_first w ↦ w.first-is ∙ so.found ∙ ap (λ (o : Option Due). option_map due_as o) (sym (w.if-may_come_first.ensures refl lab H c.args.at.0 n so.tick ready kept so.found))
+              | else-may_come_first w ↦ w.first-is ∙ so.found ∙ ap (λ (o : Option DueNode). option_map due_as o) (sym (w.if-may_come_first.ensures refl lab H c.args.at.0 n so.tick ready kept so.found))
             ] in
             let found = new ∙ ap (λ m. option_map due_as (earlier so.tick (tick_of lab H m n (row_of p)))) e in
             subst (λ (o : Option Found). IsFirstSo lab H (nodes lab.topology) (n + 1) o) (sym found)

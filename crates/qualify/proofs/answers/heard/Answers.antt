@@ -1,5 +1,5 @@
 use Rattle.std.proofs.Common.{ℕ, sym, ap, ◌∙◌}
-use Rattle.bubble.specs.Payloads.{view}
+use Rattle.bubble.specs.Payloads.{payload_view}
 use Rattle.qualify.specs.Generator.{after_words}
 use Rattle.qualify.specs.State.{qualification_of}
 use Rattle.qualify.proofs.Stands.{row_of_taken, row_of_refused}
@@ -8,10 +8,10 @@ use Rattle.qualify.proofs.answers.heard.Goals as goal
 pub returns-in-Ok-clause-fate : goal.returns-in-Ok-clause-fate
 returns-in-Ok-clause-fate c =
     c.answered.ensures.answer.line
-    ∙ sym (row_of_taken c.args.settings.now (qualification_of c.args.state) c.args.from (view c.args.payload.now) c.in-Ok.origin c.in-Ok.ensures.0 c.in-Ok.ensures.1)
+    ∙ sym (row_of_taken c.args.settings.now (qualification_of c.args.state) c.args.from (payload_view c.args.payload.now) c.in-Ok.origin c.in-Ok.ensures.0 c.in-Ok.ensures.1)
 
 pub returns-in-Err-clause-fate : goal.returns-in-Err-clause-fate
-returns-in-Err-clause-fate c = sym (row_of_refused c.args.settings.now (qualification_of c.args.state) c.args.from (view c.args.payload.now) c.in-Err.fate c.in-Err.ensures.2)
+returns-in-Err-clause-fate c = sym (row_of_refused c.args.settings.now (qualification_of c.args.state) c.args.from (payload_view c.args.payload.now) c.in-Err.fate c.in-Err.ensures.2)
 
 pub returns-in-Err-clause-place : goal.returns-in-Err-clause-place
 unfolding after_words

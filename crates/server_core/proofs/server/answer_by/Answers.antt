@@ -1,9 +1,9 @@
 use Rattle.std.proofs.Common.{false, ◌≡◌, ◌≤◌, ◌+◌, ◌-◌, ℕ, List, Some, length, take, drop, ap, sym, ◌∙◌, arith}
 use Rattle.std.proofs.lemmas.List.{take_rest, length-drop}
-use Rattle.ipv6_packet.specs.Packets.{Fields, view as packet_view}
+use Rattle.ipv6_packet.specs.Packets.{Fields, packet_view}
 use Rattle.ipv6_packet.specs.Reads.{is_big}
 use Rattle.indications.specs.Blocks.{nonce_len}
-use Rattle.bubble.specs.Payloads.{view}
+use Rattle.bubble.specs.Payloads.{payload_view}
 use Rattle.teredo_node.specs.declared.fate.Fate.TheVariants as fate
 use Rattle.td_base.specs.declared.side.Side.TheVariants.{Primary}
 use Rattle.server_core.specs.declared.rules.Rule.TheVariants as rules
@@ -27,14 +27,14 @@ write_alone-requires-clause-small c = small_rest (packet_view c.in-Ok.payload.pa
 
 pub returns-in-Advert-clause-short : goal.returns-in-Advert-clause-short
 returns-in-Advert-clause-short c =
-    let before = nonce_before (view c.in-Ok.payload) _ c.in-Ok.ensures.found in
+    let before = nonce_before (payload_view c.in-Ok.payload) _ c.in-Ok.ensures.found in
     let same = ap nonce_len c.nonce_of.ensures in
     omega (arith, before, same, c.in-Ok.ensures.inside, c.in-Advert.ensures.warrant.1, c.write_advert.ensures.len)
 
 pub returns-in-ForwardOrigin-clause-row : goal.returns-in-ForwardOrigin-clause-row
 returns-in-ForwardOrigin-clause-row c =
     let x = c.args.bytes.now in
-    let v = view c.in-Ok.payload in
+    let v = payload_view c.in-Ok.payload in
     let step = row_of_rule c.args.settings.now c.args.side c.args.from x v rules.ForwardOrigin c.in-Ok.ensures.exact c.in-ForwardOrigin.ensures.row in
     let bytes = ap (forwarded (Some c.args.from)) (sym (take_rest x v.lead.at)) ∙ sym c.write_with_origin.ensures.written in
     (step ∙ same_send fate.ForwardOrigin Primary _ _ _ _ (sym c.embedded.ensures) bytes, omega (arith, small_rest v.packet x v.lead.at c.in-ForwardOrigin.ensures.warrant.1 c.in-Ok.ensures.inside, c.write_with_origin.ensures.len))

@@ -1,7 +1,7 @@
 use Rattle.std.proofs.Common.{◌≡◌, ◌+◌, ℕ, Bool, true, false, [], is_err, ap, subst, ◌∙◌, arith}
 use Rattle.std.proofs.lemmas.Result.{err_from_is_err_and}
 use Rattle.td_outside.specs.MoveLaws.{Stays-Moves}
-use Rattle.client_rules.specs.Journals.{journal}
+use Rattle.client_rules.specs.Journals.{journal_since}
 use Rattle.td_live.specs.Asked.{live_client}
 use Rattle.td_live.specs.Half.{FailsBy}
 use Rattle.td_live.specs.LiveTurns.{journal_from}
@@ -33,7 +33,7 @@ returns-in_err-take_turn-clause-turns g c =
       at = c.client_at-client.ensures.at;
       read = record { later = c.now-first.ensures.later; given = c.now-first.ensures.given; told = c.now-first.ensures.told };
       zero = c.requires.zero;
-      turn = c.take_turn.ensures.turn begin.client (journal begin.start []) c.client_at-client.ensures.at;
+      turn = c.take_turn.ensures.turn begin.client (journal_since begin.start []) c.client_at-client.ensures.at;
     }) in
     let broken : is_err c.take_turn.result ≡ true = ap is_err c.in_err-take_turn.was in
     let p = err_from_is_err_and c.from_residual.result c.from_residual.ensures.1 in
@@ -61,7 +61,7 @@ loop-turn-init g c =
       at = c.client_at-client.ensures.at;
       read = record { later = c.now-first.ensures.later; given = c.now-first.ensures.given; told = c.now-first.ensures.told };
       zero = c.requires.zero;
-      turn = c.take_turn.ensures.turn begin.client (journal begin.start []) c.client_at-client.ensures.at;
+      turn = c.take_turn.ensures.turn begin.client (journal_since begin.start []) c.client_at-client.ensures.at;
     }) in
     let whole : is_err c.take_turn.result ≡ false = ap is_err c.in_ok-take_turn.was in
     let sent : c.args.totals.now.sent ≡ 0 = ap (λ (t : LiveTotals). t.sent) c.requires.zero in

@@ -1,5 +1,5 @@
 use Rattle.std.proofs.Common.{◌≡◌, refl, sym, subst, ◌∙◌}
-use Rattle.bubble.specs.Payloads.{view}
+use Rattle.bubble.specs.Payloads.{payload_view}
 use Rattle.teredo_node.specs.declared.fate.Fate.TheVariants as fate
 use Rattle.teredo_node.specs.Step.{Step}
 use Rattle.teredo_node.specs.Sends.{releases}
@@ -18,7 +18,7 @@ trust_and_hear-requires-clause-listed c =
 pub returns-clause-done : goal.returns-clause-done
 returns-clause-done c =
     let n = c.args.now.0 in
-    let v = view c.args.payload.now in
+    let v = payload_view c.args.payload.now in
     let old = c.args.self.now in
     let known = known_to old.peers n v.packet.src in
     let mid = c.below.ensures.peers.touch_goes_on old.peers c.list.new.self n v.packet.src (touched_at n known) refl c.in_ok-list.ensures.listed in

@@ -1,6 +1,6 @@
 use Rattle.std.proofs.Common.{◌≡◌, [], ◌∷◌, refl, sym, subst, ◌∙◌}
 use Rattle.std.specs.Prelude.{None}
-use Rattle.bubble.specs.Payloads.{view}
+use Rattle.bubble.specs.Payloads.{payload_view}
 use Rattle.teredo_node.specs.declared.fate.Fate.TheVariants as fate
 use Rattle.teredo_node.specs.Step.{Step, with_send}
 use Rattle.teredo_node.specs.Sends.{sending}
@@ -21,7 +21,7 @@ tried-requires-clause-listed c =
 pub returns-clause-done : goal.returns-clause-done
 returns-clause-done c from =
     let n = c.args.now.0 in
-    let v = view c.args.payload.now in
+    let v = payload_view c.args.payload.now in
     let old = c.args.self.now in
     let new : Client = record { qualifier = c.heard_server.new.self; peers = c.tried.new.self; rng = old.rng } in
     let known = known_to old.peers n v.packet.src in

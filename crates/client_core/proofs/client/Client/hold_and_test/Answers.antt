@@ -1,5 +1,5 @@
 use Rattle.std.proofs.Common.{List, ℕ, Some, sym, subst}
-use Rattle.bubble.specs.Payloads.{view}
+use Rattle.bubble.specs.Payloads.{payload_view}
 use Rattle.teredo_node.specs.declared.fate.Fate.TheVariants as fate
 use Rattle.teredo_node.specs.Step.{Step}
 use Rattle.teredo_node.specs.Words.{nonce_from}
@@ -16,7 +16,7 @@ pub returns-clause-done : goal.returns-clause-done
 returns-clause-done c =
     let old = c.args.self.now in
     let n = c.args.now.0 in
-    let v = view c.args.payload.now in
+    let v = payload_view c.args.payload.now in
     let t = c.test_peer in
     let nonce = nonce_from (words_ahead old) in
     subst (λ (s : Step). TakesPayload old n c.args.from v fate.HeldTest s t.new.self) (sym t.ensures.step)

@@ -1,5 +1,5 @@
 use Rattle.std.proofs.Common.{List, ℕ, refl, sym, subst}
-use Rattle.bubble.specs.Payloads.{view}
+use Rattle.bubble.specs.Payloads.{payload_view}
 use Rattle.teredo_node.specs.declared.fate.Fate.TheVariants as fate
 use Rattle.teredo_node.specs.Step.{Step}
 use Rattle.peer_list.specs.Table.{known_to}
@@ -17,7 +17,7 @@ pub returns-clause-done : goal.returns-clause-done
 returns-clause-done c =
     let old = c.args.self.now in
     let n = c.args.now.0 in
-    let v = view c.args.payload.now in
+    let v = payload_view c.args.payload.now in
     let new : Client = record old { peers = c.hold.new.self } in
     subst (λ (s : Step). TakesPayload old n c.args.from v fate.Held s new) (sym c.reset.ensures)
     (held c.below.ensures old new n c.args.from v c.requires.listed

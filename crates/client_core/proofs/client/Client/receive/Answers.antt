@@ -1,6 +1,6 @@
 use Rattle.std.proofs.Common.{arith, sym, subst}
 use Rattle.std.proofs.lemmas.Result.{on_ok_weaker, on_err_weaker}
-use Rattle.bubble.specs.Payloads.{view}
+use Rattle.bubble.specs.Payloads.{payload_view}
 use Rattle.teredo_node.specs.Step.{Step}
 use Rattle.teredo_node.specs.Journal.{arrived}
 use Rattle.client_core.specs.Client.{Does, KeepsPlace, fate_in}
@@ -14,7 +14,7 @@ returns-in_default-clause-done c =
 
 pub returns-clause-done : goal.returns-clause-done
 returns-clause-done c =
-    let v = view c.in-Ok.payload in
+    let v = payload_view c.in-Ok.payload in
     on_ok_weaker c.receive_payload.result
     (λ took. received c.below.ensures c.args.self.now c.receive_payload.new.self c.args.now.0 c.args.from c.args.bytes.now c.receive_payload.new.step (record {
       told = v;
@@ -31,7 +31,7 @@ pub returns-clause-starved : goal.returns-clause-starved
 returns-clause-starved c =
     let old = c.args.self.now in
     let n = c.args.now.0 in
-    let v = view c.in-Ok.payload in
+    let v = payload_view c.in-Ok.payload in
     on_err_weaker c.receive_payload.result
     (λ (kept : KeepsPlace old n v (fate_in old n c.args.from v) c.receive_payload.new.self). wants_place c.below.ensures old n c.args.from c.args.bytes.now v
     (record { clock = c.requires.callable.clock; payload = c.in-Ok.ensures.seen.0; value = c.in-Ok.ensures.seen.1 }) kept.room)

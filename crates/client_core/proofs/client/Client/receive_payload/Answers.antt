@@ -1,5 +1,5 @@
 use Rattle.std.proofs.Common.{◌≡◌, length, refl, sym, subst, ◌∙◌}
-use Rattle.bubble.specs.Payloads.{view}
+use Rattle.bubble.specs.Payloads.{payload_view}
 use Rattle.teredo_node.specs.declared.fate.Fate.{Fate}
 use Rattle.teredo_node.specs.declared.fate.Fate.TheVariants as fate
 use Rattle.teredo_node.specs.Step.{Step, just}
@@ -16,7 +16,7 @@ pub returns-in-Drop-clause-done : goal.returns-in-Drop-clause-done
 returns-in-Drop-clause-done c =
     let old = c.args.self.now in
     let n = c.args.now.0 in
-    let v = view c.args.payload.now in
+    let v = payload_view c.args.payload.now in
     let advert = advert_row (settings_of old) old.qualifier.now c.args.from v in
     subst (λ (s : Step). TakesPayload old n c.args.from v (fate_in old n c.args.from v) s old) (sym c.reset.ensures)
     (subst (λ (f : Fate). TakesPayload old n c.args.from v f (just c.in-Drop.fate) old) (c.in-Drop.ensures.row advert)
@@ -26,7 +26,7 @@ pub returns-in-Rule1-clause-done : goal.returns-in-Rule1-clause-done
 returns-in-Rule1-clause-done c =
     let old = c.args.self.now in
     let n = c.args.now.0 in
-    let v = view c.args.payload.now in
+    let v = payload_view c.args.payload.now in
     let known = known_to old.peers n v.packet.src in
     let step : c.hear_trusted.new.step ≡ handed_there old n c.args.from v = c.hear_trusted.ensures.step ∙ (λ i. record (c.hand_over.ensures i) { sends = releases c.args.from known.waiting; gone = length known.held }) in
     subst (λ (s : Step). TakesPayload old n c.args.from v (fate_in old n c.args.from v) s c.hear_trusted.new.self) (sym step)
@@ -37,7 +37,7 @@ pub returns-in-Rule1Bubble-clause-done : goal.returns-in-Rule1Bubble-clause-done
 returns-in-Rule1Bubble-clause-done c =
     let old = c.args.self.now in
     let n = c.args.now.0 in
-    let v = view c.args.payload.now in
+    let v = payload_view c.args.payload.now in
     let known = known_to old.peers n v.packet.src in
     let new = c.hear_trusted-in-Rule1Bubble.new.self in
     let step : c.hear_trusted-in-Rule1Bubble.new.step ≡ heard_there old n c.args.from v fate.Rule1Bubble = c.hear_trusted-in-Rule1Bubble.ensures.step ∙ (λ i. record (c.reset-in-Rule1Bubble.ensures i) { sends = releases c.args.from known.waiting; gone = length known.held }) in
@@ -49,20 +49,20 @@ pub returns-in-Rule2-clause-done : goal.returns-in-Rule2-clause-done
 returns-in-Rule2-clause-done c =
     let old = c.args.self.now in
     let n = c.args.now.0 in
-    let v = view c.args.payload.now in
+    let v = payload_view c.args.payload.now in
     subst (λ (s : Step). TakesPayload old n c.args.from v (fate_in old n c.args.from v) s c.hand_late.new.self) (sym c.hand_late.ensures.step)
     (subst (λ (f : Fate). TakesPayload old n c.args.from v f (hands_late c.args.from (known_to old.peers n v.packet.src)) c.hand_late.new.self) (c.in-Rule2.ensures.row (advert_row (settings_of old) old.qualifier.now c.args.from v))
     (rule2 c.below.ensures old c.hand_late.new.self n c.args.from v c.hand_late.ensures.heard))
 
 pub hold_and_test-requires-clause-short : goal.hold_and_test-requires-clause-short
-hold_and_test-requires-clause-short c = short c.args.packet.now (view c.args.payload.now).packet (c.in-HeldTest.ensures.small refl) (sym c.requires.long)
+hold_and_test-requires-clause-short c = short c.args.packet.now (payload_view c.args.payload.now).packet (c.in-HeldTest.ensures.small refl) (sym c.requires.long)
 
 pub hold_packet-requires-clause-short : goal.hold_packet-requires-clause-short
-hold_packet-requires-clause-short c = short c.args.packet.now (view c.args.payload.now).packet (c.in-Held.ensures.small refl) (sym c.requires.long)
+hold_packet-requires-clause-short c = short c.args.packet.now (payload_view c.args.payload.now).packet (c.in-Held.ensures.small refl) (sym c.requires.long)
 
 pub returns-in-SuspiciousTest-clause-done : goal.returns-in-SuspiciousTest-clause-done
 returns-in-SuspiciousTest-clause-done c =
     let old = c.args.self.now in
     let n = c.args.now.0 in
-    let v = view c.args.payload.now in
+    let v = payload_view c.args.payload.now in
     subst (λ (f : Fate). TakesPayload old n c.args.from v f c.test_source.new.step c.test_source.new.self) (c.in-SuspiciousTest.ensures.row (advert_row (settings_of old) old.qualifier.now c.args.from v)) (c.test_source.ensures c.args.from)

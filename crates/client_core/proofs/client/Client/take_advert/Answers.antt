@@ -1,5 +1,5 @@
 use Rattle.std.proofs.Common.{◌≡◌, refl, sym, subst, ◌∙◌, ap, arith}
-use Rattle.bubble.specs.Payloads.{view}
+use Rattle.bubble.specs.Payloads.{payload_view}
 use Rattle.teredo_node.specs.declared.fate.Fate.{Fate}
 use Rattle.teredo_node.specs.declared.fate.Fate.TheVariants as fate
 use Rattle.teredo_node.specs.Step.{Step}
@@ -14,7 +14,7 @@ use Rattle.client_core.proofs.client.Client.take_advert.Goals as goal
 pub returns-in_default : goal.returns-in_default
 returns-in_default c =
     let old = c.args.self.now in
-    let v = view c.args.payload.now in
+    let v = payload_view c.args.payload.now in
     let f = c.on_advert-fate.result in
     let new : Client = record { qualifier = c.on_advert-fate.new.self; peers = old.peers; rng = c.on_advert-fate.new.rng } in
     let drawn : c.words_of_advert.result ≡ advert_words (settings_of old) f = c.words_of_advert.ensures ∙ ap (λ (s : Settings). advert_words s f) (c.settings.ensures.value ∙ c.on_advert-fate.ensures.settings) in
@@ -38,7 +38,7 @@ pub returns-in-Changed : goal.returns-in-Changed
 returns-in-Changed c =
     let old = c.args.self.now in
     let n = c.args.now.0 in
-    let v = view c.args.payload.now in
+    let v = payload_view c.args.payload.now in
     let new : Client = record { qualifier = c.on_advert-fate.new.self; peers = c.clear.new.self; rng = c.on_advert-fate.new.rng } in
     let is = c.in-Changed.is in
     let drawn : c.words_of_advert.result ≡ advert_words (settings_of old) c.on_advert-fate.result = c.words_of_advert.ensures ∙ ap (λ (s : Settings). advert_words s c.on_advert-fate.result) (c.settings.ensures.value ∙ c.on_advert-fate.ensures.settings) in

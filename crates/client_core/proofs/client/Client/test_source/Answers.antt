@@ -1,5 +1,5 @@
 use Rattle.std.proofs.Common.{sym, subst}
-use Rattle.bubble.specs.Payloads.{view}
+use Rattle.bubble.specs.Payloads.{payload_view}
 use Rattle.teredo_node.specs.declared.fate.Fate.TheVariants as fate
 use Rattle.teredo_node.specs.Step.{Step}
 use Rattle.client_core.specs.Client.{TakesPayload}
@@ -9,7 +9,7 @@ use Rattle.client_core.proofs.client.Client.test_source.Goals as goal
 pub returns : goal.returns
 returns c from =
     let n = c.args.now.0 in
-    let v = view c.args.payload.now in
+    let v = payload_view c.args.payload.now in
     let t = c.test_peer in
     subst (λ (s : Step). TakesPayload c.args.self.now n from v fate.SuspiciousTest s t.new.self) (sym t.ensures.step)
     (suspicious_test c.below.ensures c.args.self.now t.new.self n from v

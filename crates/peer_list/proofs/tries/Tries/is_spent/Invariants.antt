@@ -1,12 +1,12 @@
 use Rattle.std.proofs.Common.{◌≡◌, ◌≤◌, ◌+◌, map, filter, length, drop}
 use Rattle.td_base.specs.declared.millis.Millis.{Millis}
 use Rattle.peer_list.specs.declared.limits.TheConstants.{LISTED_MS}
-use Rattle.peer_list.specs.Listed.{is_young}
+use Rattle.peer_list.specs.Listed.{is_younger}
 use Rattle.peer_list.proofs.tries.Tries.is_spent.Given as goal
 
 -- the young ones so far, and those of what is left, are all
 abbrev pub invariant-loop-moment : goal.invariant-loop-moment
 invariant-loop-moment l = record {
   few : l.young ≤ l.moment-index;
-  all : l.young + length (filter (is_young LISTED_MS l.now.0) (map (λ (m : Millis). m.0) (drop l.moment-index l.moment-items))) ≡ length (filter (is_young LISTED_MS l.now.0) (map (λ (m : Millis). m.0) l.moment-items));
+  all : l.young + length (filter (is_younger LISTED_MS l.now.0) (map (λ (m : Millis). m.0) (drop l.moment-index l.moment-items))) ≡ length (filter (is_younger LISTED_MS l.now.0) (map (λ (m : Millis). m.0) l.moment-items));
 }

@@ -1,21 +1,21 @@
 use Rattle.std.proofs.Common.{sym, ap, subst, ◌∙◌}
-use Rattle.bubble.specs.Payloads.{view}
+use Rattle.bubble.specs.Payloads.{payload_view}
 use Rattle.qualify.specs.Advertisements.{advert_row}
 use Rattle.qualify.specs.Generator.{words_of}
 use Rattle.qualify.specs.State.{qualification_of}
 use Rattle.qualify.specs.Qualification.{Qualification}
-use Rattle.qualify.specs.Qualifier.{QualifierState, StandsFor, stands_whole, IsOfAdvert}
+use Rattle.qualify.specs.Qualifier.{QualifierState, QualifierStandsFor, stands_whole, IsOfAdvert}
 use Rattle.qualify.proofs.Stands.{stands_advert}
 use Rattle.qualify.proofs.qualifier.Qualifier.on_advert.Goals as goal
 
 pub returns-clause-fate : goal.returns-clause-fate
 returns-clause-fate c j h =
     c.heard-state.ensures.fate
-    ∙ ap (λ (q : QualifierState). advert_row q.settings q.now c.args.from (view c.args.payload.now)) c.self.view_is
-    ∙ ap (λ (q : Qualification). advert_row c.args.self.now.settings q c.args.from (view c.args.payload.now)) (stands_whole c.args.self.now j h)
+    ∙ ap (λ (q : QualifierState). advert_row q.settings q.now c.args.from (payload_view c.args.payload.now)) c.self.view_is
+    ∙ ap (λ (q : Qualification). advert_row c.args.self.now.settings q c.args.from (payload_view c.args.payload.now)) (stands_whole c.args.self.now j h)
 
 pub returns-clause-stands : goal.returns-clause-stands
 returns-clause-stands c j e h a =
-    stands_advert c.self.inside.settings (qualification_of c.self.inside.state) (qualification_of c.heard-state.result.0) c.args.now.0 (view c.args.payload.now) c.heard-state.result.1 (words_of c.args.rng.now) c.heard-state.ensures.turns j e
-    (subst (λ (q : QualifierState). StandsFor q j) (sym c.self.view_is) h)
-    (subst (λ (q : QualifierState). IsOfAdvert q.settings c.args.now.0 (view c.args.payload.now) c.heard-state.result.1 (words_of c.args.rng.now) e) (sym c.self.view_is) a)
+    stands_advert c.self.inside.settings (qualification_of c.self.inside.state) (qualification_of c.heard-state.result.0) c.args.now.0 (payload_view c.args.payload.now) c.heard-state.result.1 (words_of c.args.rng.now) c.heard-state.ensures.turns j e
+    (subst (λ (q : QualifierState). QualifierStandsFor q j) (sym c.self.view_is) h)
+    (subst (λ (q : QualifierState). IsOfAdvert q.settings c.args.now.0 (payload_view c.args.payload.now) c.heard-state.result.1 (words_of c.args.rng.now) e) (sym c.self.view_is) a)

@@ -2,7 +2,7 @@ use Rattle.std.proofs.Common.{◌≡◌, None, Some, refl, ap, sym, subst, ◌�
 use Rattle.teredo_node.specs.declared.fate.Fate.TheVariants as fate
 use Rattle.teredo_node.specs.Step.{Step, just}
 use Rattle.teredo_node.specs.Journal.{ticked}
-use Rattle.relay_rules.specs.Journals.{entry}
+use Rattle.relay_rules.specs.Journals.{wordless_entry}
 use Rattle.relay_core.specs.Relay.{RelayEnters}
 use Rattle.relay_core.proofs.Ticked.{gave_up}
 use Rattle.relay_core.proofs.Owed.{given_up}
@@ -13,7 +13,7 @@ returns-clause-entered c =
     let old = c.args.self.now in
     let n = c.args.now.0 in
     let step : c.set_gone.new.self ≡ record (just fate.GiveUp) { gone = c.give_up-gone.result } = c.set_gone.ensures ∙ (λ i. record (c.reset.ensures i) { gone = c.from.ensures i }) in
-    subst (λ (s : Step). RelayEnters old (entry n ticked None (Some c.args.who) s) (record old { peers = c.give_up-gone.new.self })) (sym step)
+    subst (λ (s : Step). RelayEnters old (wordless_entry n ticked None (Some c.args.who) s) (record old { peers = c.give_up-gone.new.self })) (sym step)
     (gave_up c.below.ensures old (record old { peers = c.give_up-gone.new.self }) n c.args.who c.give_up-gone.result
     (record { clock = c.requires.callable.clock; peers = c.give_up-gone.ensures.rest; settings = refl }))
 

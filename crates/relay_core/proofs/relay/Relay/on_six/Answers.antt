@@ -1,18 +1,18 @@
 use Rattle.std.proofs.Common.{refl, sym, subst}
 use Rattle.std.proofs.lemmas.Result.{on_err_weaker}
-use Rattle.ipv6_packet.specs.Packets.{view as packet_view}
+use Rattle.ipv6_packet.specs.Packets.{packet_view}
 use Rattle.teredo_node.specs.declared.fate.Fate.TheVariants as fate
 use Rattle.teredo_node.specs.Step.{Step}
 use Rattle.teredo_node.specs.Journal.{from_six}
 use Rattle.relay_core.specs.declared.relay.Relay.{Relay}
-use Rattle.relay_core.specs.Relay.{Does}
+use Rattle.relay_core.specs.Relay.{RelayDoes}
 use Rattle.td_base.proofs.ResultLaws.{on_ok_both, on_err_always}
 use Rattle.relay_core.proofs.Transmitted.{malformed, drops_packet, sent, transmitted, short, wants_queue, wants_place}
 use Rattle.relay_core.proofs.relay.Relay.on_six.Goals as goal
 
 pub returns-in_default-clause-done : goal.returns-in_default-clause-done
 returns-in_default-clause-done c =
-    subst (λ (s : Step). Does c.args.self.now c.args.now.0 (from_six c.args.bytes.now) s c.args.self.now) (sym c.reset.ensures)
+    subst (λ (s : Step). RelayDoes c.args.self.now c.args.now.0 (from_six c.args.bytes.now) s c.args.self.now) (sym c.reset.ensures)
     (malformed c.below.ensures c.args.self.now c.args.now.0 c.args.bytes.now c.requires.callable.clock c.in_default.ensures.unseen)
 
 pub send_packet-requires : goal.send_packet-requires
@@ -26,7 +26,7 @@ queue-requires-clause-short c = short c.args.bytes.now (packet_view c.in-Ok.pack
 
 pub returns-in-Drop-clause-done : goal.returns-in-Drop-clause-done
 returns-in-Drop-clause-done c =
-    subst (λ (s : Step). Does c.args.self.now c.args.now.0 (from_six c.args.bytes.now) s c.args.self.now) (sym c.reset-in-Drop.ensures)
+    subst (λ (s : Step). RelayDoes c.args.self.now c.args.now.0 (from_six c.args.bytes.now) s c.args.self.now) (sym c.reset-in-Drop.ensures)
     (drops_packet c.below.ensures c.args.self.now c.args.now.0 c.args.bytes.now (packet_view c.in-Ok.packet) c.in-Drop.fate
     (record {
       is = record { clock = c.requires.callable.clock; read = record { packet = c.in-Ok.ensures.seen.0; fields = c.in-Ok.ensures.seen.1 } };
@@ -37,7 +37,7 @@ pub returns-in-Sent-clause-done : goal.returns-in-Sent-clause-done
 returns-in-Sent-clause-done c =
     let old = c.args.self.now in
     let new : Relay = record old { peers = c.touch.new.self } in
-    subst (λ (s : Step). Does old c.args.now.0 (from_six c.args.bytes.now) s new) (sym c.send_packet.ensures)
+    subst (λ (s : Step). RelayDoes old c.args.now.0 (from_six c.args.bytes.now) s new) (sym c.send_packet.ensures)
     (sent c.below.ensures old new c.args.now.0 c.args.bytes.now (packet_view c.in-Ok.packet)
     (record {
       is = record { clock = c.requires.callable.clock; read = record { packet = c.in-Ok.ensures.seen.0; fields = c.in-Ok.ensures.seen.1 } };

@@ -3,7 +3,7 @@ use Rattle.teredo_node.specs.Step.{Step}
 use Rattle.teredo_node.specs.Journal.{from_six}
 use Rattle.peer_list.specs.Table.{known_to}
 use Rattle.peer_list.specs.Calls.{queued_at}
-use Rattle.relay_rules.specs.Journals.{entry}
+use Rattle.relay_rules.specs.Journals.{wordless_entry}
 use Rattle.relay_core.specs.Relay.{RelayEnters}
 use Rattle.relay_core.proofs.Transmitted.{queued}
 use Rattle.relay_core.proofs.relay.Relay.queue.Goals as goal
@@ -16,7 +16,7 @@ pub returns-clause-entered : goal.returns-clause-entered
 returns-clause-entered c =
     let old = c.args.self.now in
     let n = c.args.now.0 in
-    subst (λ (s : Step). RelayEnters old (entry n (from_six c.args.bytes.now) (Some c.args.bytes.now) (Some c.args.who) s) c.try_unless.new.self) (sym c.try_unless.ensures.step)
+    subst (λ (s : Step). RelayEnters old (wordless_entry n (from_six c.args.bytes.now) (Some c.args.bytes.now) (Some c.args.who) s) c.try_unless.new.self) (sym c.try_unless.ensures.step)
     (queued c.below.ensures old c.try_unless.new.self n c.args.who c.args.bytes.now c.is_barred-barred.result (record {
       clock = c.requires.callable.clock;
       plain = c.requires.plain;

@@ -1,5 +1,5 @@
 use Rattle.std.proofs.Common.{◌≡◌, refl, sym, subst, ◌∙◌}
-use Rattle.bubble.specs.Payloads.{view}
+use Rattle.bubble.specs.Payloads.{payload_view}
 use Rattle.td_base.specs.declared.endpoint.Ep.{Ep}
 use Rattle.teredo_node.specs.declared.fate.Fate.{Fate}
 use Rattle.teredo_node.specs.declared.fate.Fate.TheVariants as fate
@@ -16,7 +16,7 @@ pub returns-in-Drop : goal.returns-in-Drop
 returns-in-Drop c =
     let old = c.args.self.now in
     let n = c.args.now.0 in
-    let v = view c.args.payload.now in
+    let v = payload_view c.args.payload.now in
     subst (λ (s : Step). RelayTakesPayload old n c.args.from v (relay_fate_in old n c.args.from v) s old) (sym c.reset.ensures)
     (subst (λ (f : Fate). RelayTakesPayload old n c.args.from v f (just c.in-Drop.fate) old) c.in-Drop.ensures.row
     (drops c.below.ensures old n c.args.from v c.in-Drop.fate c.requires.callable.clock c.in-Drop.ensures.warrant))
@@ -25,7 +25,7 @@ pub returns-in-FromClientBubble : goal.returns-in-FromClientBubble
 returns-in-FromClientBubble c =
     let old = c.args.self.now in
     let n = c.args.now.0 in
-    let v = view c.args.payload.now in
+    let v = payload_view c.args.payload.now in
     let new : Relay = record old { peers = c.trust_and_hear.new.self } in
     let step : c.trust_and_hear.new.step ≡ released old n v fate.FromClientBubble = c.trust_and_hear.ensures.sends ∙ (λ i. record (c.reset-in-FromClientBubble.ensures i) { sends = releases (c.embedded-at.ensures i) (known_to old.peers n v.packet.src).waiting }) in
     subst (λ (s : Step). RelayTakesPayload old n c.args.from v (relay_fate_in old n c.args.from v) s new) (sym step)
@@ -36,7 +36,7 @@ pub returns-in-FromClient : goal.returns-in-FromClient
 returns-in-FromClient c =
     let old = c.args.self.now in
     let n = c.args.now.0 in
-    let v = view c.args.payload.now in
+    let v = payload_view c.args.payload.now in
     let new : Relay = record old { peers = c.trust_and_hear-in-FromClient.new.self } in
     let step : c.trust_and_hear-in-FromClient.new.step ≡ passed_on old n v = c.trust_and_hear-in-FromClient.ensures.sends ∙ (λ i. record (c.pass_on.ensures i) { sends = releases (c.embedded-at.ensures i) (known_to old.peers n v.packet.src).waiting }) in
     subst (λ (s : Step). RelayTakesPayload old n c.args.from v (relay_fate_in old n c.args.from v) s new) (sym step)
@@ -47,7 +47,7 @@ pub returns-in-Unserved : goal.returns-in-Unserved
 returns-in-Unserved c =
     let old = c.args.self.now in
     let n = c.args.now.0 in
-    let v = view c.args.payload.now in
+    let v = payload_view c.args.payload.now in
     let new : Relay = record old { peers = c.trust_and_hear-in-Unserved.new.self } in
     let step : c.trust_and_hear-in-Unserved.new.step ≡ released old n v fate.Unserved = c.trust_and_hear-in-Unserved.ensures.sends ∙ (λ i. record (c.reset-in-Unserved.ensures i) { sends = releases (c.embedded-at.ensures i) (known_to old.peers n v.packet.src).waiting }) in
     subst (λ (s : Step). RelayTakesPayload old n c.args.from v (relay_fate_in old n c.args.from v) s new) (sym step)

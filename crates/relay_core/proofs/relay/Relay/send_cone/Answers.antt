@@ -4,7 +4,7 @@ use Rattle.teredo_node.specs.Step.{Step}
 use Rattle.teredo_node.specs.Journal.{from_six}
 use Rattle.peer_list.specs.Table.{known_to}
 use Rattle.peer_list.specs.Calls.{Updates, touched_at, trusted_at}
-use Rattle.relay_rules.specs.Journals.{entry}
+use Rattle.relay_rules.specs.Journals.{wordless_entry}
 use Rattle.relay_core.specs.declared.relay.Relay.{Relay}
 use Rattle.relay_core.specs.Relay.{RelayEnters}
 use Rattle.relay_core.proofs.Transmitted.{sent_cone}
@@ -19,7 +19,7 @@ returns-clause-entered c =
     let old = c.args.self.now in
     let n = c.args.now.0 in
     let new : Relay = record old { peers = c.trust.new.self } in
-    subst (λ (s : Step). RelayEnters old (entry n (from_six c.args.bytes.now) (Some c.args.bytes.now) (Some c.args.who) s) new) (sym c.send_packet.ensures)
+    subst (λ (s : Step). RelayEnters old (wordless_entry n (from_six c.args.bytes.now) (Some c.args.bytes.now) (Some c.args.who) s) new) (sym c.send_packet.ensures)
     (sent_cone c.below.ensures old new n c.args.who c.args.bytes.now (record {
       clock = c.requires.callable.clock;
       cone = c.requires.cone;

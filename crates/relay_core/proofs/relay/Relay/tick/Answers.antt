@@ -5,8 +5,8 @@ use Rattle.td_base.specs.declared.ipv6.Ip6.{Ip6}
 use Rattle.teredo_node.specs.Step.{Step}
 use Rattle.teredo_node.specs.Due.{Idles, Lessens}
 use Rattle.teredo_node.specs.Journal.{ticked}
-use Rattle.relay_core.specs.Relay.{Does, AsBefore}
-use Rattle.relay_core.specs.Endpoint.{owing}
+use Rattle.relay_core.specs.Relay.{RelayDoes, RelayAsBefore}
+use Rattle.relay_core.specs.Endpoint.{relay_owing}
 use Rattle.relay_core.proofs.Ticked.{due_now, idles, does_peer}
 use Rattle.relay_core.proofs.Owed.{rests, rests_too, put_off_idles, put_off_lessens}
 use Rattle.relay_core.proofs.relay.Relay.tick.Goals as goal
@@ -16,11 +16,11 @@ returns-in_default c =
     let r = c.args.self.now in
     let n = c.args.now.0 in
     let nobody : due_now r n ≡ None = sym c.overdue.ensures.first ∙ ap (λ (o : Option Ip6). option_map (λ (who : Ip6). listing_at r.peers n who) o) c.in_default.is in
-    let none : owing r n ≡ 0 = subst (λ (o : Option Ip6). IfNone o (owing r n ≡ 0)) c.in_default.is c.overdue.ensures.none in
+    let none : relay_owing r n ≡ 0 = subst (λ (o : Option Ip6). IfNone o (relay_owing r n ≡ 0)) c.in_default.is c.overdue.ensures.none in
     record {
-      done = subst (λ (s : Step). Does r n ticked s r) (sym c.reset.ensures) (idles c.below.ensures r n c.requires.callable.clock nobody);
-      idle = subst (λ (s : Step). Idles (owing r n) (AsBefore r r) s) (sym c.reset.ensures) (rests r n);
-      less = subst (λ (s : Step). Lessens (owing r n) (owing r n) s) (sym c.reset.ensures) (rests_too r n none);
+      done = subst (λ (s : Step). RelayDoes r n ticked s r) (sym c.reset.ensures) (idles c.below.ensures r n c.requires.callable.clock nobody);
+      idle = subst (λ (s : Step). Idles (relay_owing r n) (RelayAsBefore r r) s) (sym c.reset.ensures) (rests r n);
+      less = subst (λ (s : Step). Lessens (relay_owing r n) (relay_owing r n) s) (sym c.reset.ensures) (rests_too r n none);
     }
 
 pub returns-then-is_spent : goal.returns-then-is_spent

@@ -8,7 +8,7 @@ use Rattle.history.specs.Full.{Full}
 use Rattle.legal.specs.Lab.{Draws, lab_on}
 use Rattle.legal.specs.Past.{forgotten, arms}
 use Rattle.legal.specs.Next.{numbered, acts, no_ep}
-use Rattle.legal.specs.Next.{Due as Tick}
+use Rattle.legal.specs.Next.{DueNode as Tick}
 use Rattle.lab_nodes.specs.declared.due.Due.{Due}
 use Rattle.lab_nodes.specs.Due.{due_as}
 use Rattle.world.specs.declared.going.Going.TheVariants as going_on
