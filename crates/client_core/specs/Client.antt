@@ -3,7 +3,7 @@ use Rattle.std.specs.Prelude.{◌≡◌, ◌≤◌, ◌<◌, ℕ, true, List, ma
 use Rattle.rand_chacha.specs.ChaCha.{ChaCha}
 use Rattle.td_base.specs.declared.ipv6.Ip6.{Ip6}
 use Rattle.td_base.specs.declared.endpoint.Ep.{Ep}
-use Rattle.td_outside.specs.declared.clock.TheConstants.{CLOCK_END_MS}
+use Rattle.td_base.specs.declared.millis.TheConstants.{CLOCK_END_MS}
 use Rattle.teredo_addr.specs.Teredo.{unspecified}
 use Rattle.bubble.specs.Payloads.{Value}
 use Rattle.bubble.specs.PayloadOf.{IsPayloadOf}

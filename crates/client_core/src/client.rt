@@ -1,6 +1,6 @@
 //! A client.
 ghost use Rattle.std.specs.Prelude.{◌≡◌, ◌<◌, ℕ, List, [], is_some};
-ghost use Rattle.td_outside.specs.declared.clock.TheConstants.{CLOCK_END_MS};
+ghost use Rattle.td_base.specs.declared.millis.TheConstants.{CLOCK_END_MS};
 ghost use Rattle.teredo_node.specs.Journal.{Journal, from_six};
 ghost use Rattle.qualify.specs.Qualification.{qualification};
 ghost use Rattle.qualify.specs.Qualifier.{IsSettings};

@@ -1,6 +1,5 @@
 use crate::target::Target;
-use td_base::Ep;
-use td_outside::Octets;
+use td_base::{Ep, Octets};
 
 /// The most events of a scenario.
 pub const EVENTS_MAX: usize = 50_000;

@@ -18,8 +18,7 @@ use crate::target::Target;
 use crate::verb::{VERBS, Verb};
 use crate::word_texts::bytes_word;
 use std::alloc::Global;
-use td_base::{DATAGRAM_MAX, Ep, read_ep, read_number};
-use td_outside::Octets;
+use td_base::{DATAGRAM_MAX, Ep, Octets, read_ep, read_number};
 use topology::{Topology, client_named, host_named, nat_named, node_named};
 
 /// The words of a text from a place on. Behind the last word's end none is left.

@@ -3,8 +3,7 @@ ghost use Rattle.std.specs.Prelude.{◌≡◌, ◌≤◌, IfOk};
 ghost use Rattle.events.specs.Words.{hex_of, bytes_spelled};
 
 use std::alloc::Global;
-use td_base::{DATAGRAM_MAX, NoMemory};
-use td_outside::Octets;
+use td_base::{DATAGRAM_MAX, NoMemory, Octets};
 
 /// The bytes that hexadecimal digits say, one to `most` of them.
 fn digits_word(alloc: Global, digits: &[u8], most: usize) -> Result<Option<Octets>, NoMemory>

@@ -8,8 +8,7 @@ ghost use Rattle.generator.specs.GeneratedEvent.{host_event, copy_event, upset_e
 use crate::nodes::{FIRST_CLIENT, FIRST_NAT, FIRST_NATIVE, external_ip};
 use events::{Event, Target};
 use std::alloc::Global;
-use td_base::{Ep, Ip4, NoMemory};
-use td_outside::Octets;
+use td_base::{Ep, Ip4, NoMemory, Octets};
 
 /// A millisecond more than an event lets pass at most.
 pub const ADVANCE_END_MS: u32 = 5_000;

@@ -6,10 +6,10 @@ use Rattle.td_base.specs.declared.datagram.TheConstants.{DATAGRAM_MAX}
 use Rattle.td_outside.specs.Link.{Datagram, Receives, next_came}
 use Rattle.td_base.specs.declared.endpoint.Ep.{Ep}
 use Rattle.teredo_node.specs.Step.{Step}
-use Rattle.teredo_node.specs.Turn.{AnswersArrival, Pumps}
-use Rattle.teredo_node.specs.declared.turn.Pumped.{Pumped}
-use Rattle.teredo_node.specs.declared.turn.Pumped.TheVariants.{Took}
-use Rattle.teredo_node.specs.declared.turn.PumpFault.{PumpFault}
+use Rattle.td_turns.specs.Turn.{AnswersArrival, Pumps}
+use Rattle.td_turns.specs.declared.turn.Pumped.{Pumped}
+use Rattle.td_turns.specs.declared.turn.Pumped.TheVariants.{Took}
+use Rattle.td_turns.specs.declared.turn.PumpFault.{PumpFault}
 use Rattle.server_core.specs.declared.server.ServerSettings.{ServerSettings}
 use Rattle.server_core.specs.Server.{server_row}
 use Rattle.server_core.specs.Endpoint.{MeetsRow}

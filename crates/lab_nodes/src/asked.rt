@@ -1,7 +1,6 @@
 //! What comes of a call of a node, besides its step.
 use crate::outlet::Outlet;
-use td_base::Ip6;
-use td_outside::Octets;
+use td_base::{Ip6, Octets};
 
 /// An IPv6 packet that a node sends: for the relay of that number, or for whoever has its destination.
 #[derive(Drop)]

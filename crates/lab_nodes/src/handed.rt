@@ -11,8 +11,7 @@ ghost use Rattle.lab_nodes.specs.Outlet.{six_sent};
 use crate::asked::SixPacket;
 use crate::input::Input;
 use std::alloc::Global;
-use td_base::{Ep, NoMemory, Span};
-use td_outside::Octets;
+use td_base::{Ep, NoMemory, Octets, Span};
 use teredo_node::Step;
 
 /// The part of a datagram that a span tells.

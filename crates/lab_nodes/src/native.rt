@@ -17,8 +17,7 @@ use crate::call::Call;
 use crate::input::Input;
 use crate::outlet::Outlet;
 use std::alloc::Global;
-use td_base::{DATAGRAM_MAX, NoMemory};
-use td_outside::Octets;
+use td_base::{DATAGRAM_MAX, NoMemory, Octets};
 use teredo_node::{Fate, Step};
 use topology::NativeNode;
 

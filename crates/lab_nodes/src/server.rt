@@ -20,7 +20,8 @@ use crate::outlet::Outlet;
 use server_core::Server;
 use std::alloc::Global;
 use td_base::{Ep, Millis, NoMemory, Policy, Side};
-use teredo_node::{Fate, Pumped, Step, pump};
+use td_turns::{Pumped, pump};
+use teredo_node::{Fate, Step};
 use topology::ServerNode;
 
 /// The side of a server that datagrams to an endpoint come to.

@@ -1,10 +1,9 @@
 //! The forms in memory.
 use std::alloc::Global;
 use std::test::Fail;
-use td_base::{DATAGRAM_MAX, Ep, Ip4, Millis, NoMemory, Side};
+use td_base::{DATAGRAM_MAX, Ep, Ip4, Millis, NoMemory, Octets, Side};
 use td_outside::{
-    Arrival, Clock, Failed, Link, MemArrival, MemLink, MemSink, MemSource, Octets, Sink, Source,
-    TestClock,
+    Arrival, Clock, Failed, Link, MemArrival, MemLink, MemSink, MemSource, Sink, Source, TestClock,
 };
 
 #[test]

@@ -3,8 +3,8 @@ ghost use Rattle.std.specs.Prelude.{◌≡◌, ◌≤◌, ◌<◌, ℕ, List, Op
 ghost use Rattle.td_outside.specs.Moves.{Gains, RisesBy};
 
 use std::alloc::Global;
-use td_base::{DATAGRAM_MAX, Ep, Ip4, Side};
-use td_outside::{Addresses, Arrival, Failed, Link, Octets, Place, Sink, Source};
+use td_base::{DATAGRAM_MAX, Ep, Ip4, Octets, Side};
+use td_outside::{Addresses, Arrival, Failed, Link, Place, Sink, Source};
 
 /// Passes each call on to what it is made over, and tells what was asked as long as there is memory for it.
 #[derive(Drop)]

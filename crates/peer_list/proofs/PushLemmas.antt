@@ -1,7 +1,7 @@
 -- One try more, before the latest ones.
 use Rattle.std.proofs.Common.{◌≡◌, ◌≤◌, ◌<◌, ℕ, zero, suc, ◌+◌, min, List, [], ◌∷◌, length, map, take, get_or, refl, arith}
 use Rattle.td_base.specs.declared.millis.Millis.{Millis}
-use Rattle.td_outside.specs.declared.clock.TheConstants.{CLOCK_END_MS}
+use Rattle.td_base.specs.declared.millis.TheConstants.{CLOCK_END_MS}
 use Rattle.peer_list.specs.declared.limits.TheConstants.{TRIES_MAX}
 use Rattle.peer_list.specs.Bounds.{AreEarly}
 use Rattle.peer_list.proofs.TryLemmas.{all_taken}

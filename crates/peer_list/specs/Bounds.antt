@@ -1,7 +1,7 @@
 -- How much is kept of a peer.
 use Rattle.std.specs.Prelude.{◌≤◌, ◌<◌, ℕ, List, length}
 use Rattle.std.specs.List.{AllByRecursion}
-use Rattle.td_outside.specs.declared.clock.TheConstants.{CLOCK_END_MS}
+use Rattle.td_base.specs.declared.millis.TheConstants.{CLOCK_END_MS}
 use Rattle.ipv6_packet.specs.declared.header.TheConstants.{PACKET_MAX}
 use Rattle.peer_list.specs.declared.held.Held.{Held}
 use Rattle.peer_list.specs.declared.limits.TheConstants.{WAITING_MAX, HELD_MAX}

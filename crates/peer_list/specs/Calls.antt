@@ -4,7 +4,7 @@ use Rattle.std.specs.Option.{option_or}
 use Rattle.td_base.specs.Ip6.{same_ip6}
 use Rattle.td_base.specs.declared.ipv6.Ip6.{Ip6}
 use Rattle.td_base.specs.declared.endpoint.Ep.{Ep}
-use Rattle.td_outside.specs.declared.clock.TheConstants.{CLOCK_END_MS}
+use Rattle.td_base.specs.declared.millis.TheConstants.{CLOCK_END_MS}
 use Rattle.peer_list.specs.declared.limits.TheConstants.{TRIES_MAX}
 use Rattle.peer_list.specs.declared.change.Change.{Change}
 use Rattle.peer_list.specs.declared.change.Change.TheVariants.{Touch, Trust, Hear, Try, GiveUp}

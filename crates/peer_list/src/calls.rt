@@ -1,7 +1,7 @@
 //! What is done with the peers that a node keeps.
 ghost use Rattle.std.specs.Prelude.{◌≡◌, ◌≤◌, ◌<◌, [], true, false, length, is_some, OnOk, OnErr};
 ghost use Rattle.ipv6_packet.specs.declared.header.TheConstants.{PACKET_MAX};
-ghost use Rattle.td_outside.specs.declared.clock.TheConstants.{CLOCK_END_MS};
+ghost use Rattle.td_base.specs.declared.millis.TheConstants.{CLOCK_END_MS};
 ghost use Rattle.teredo_node.specs.Sends.{releases};
 ghost use Rattle.peer_list.specs.Judged.{is_full, holds_most};
 ghost use Rattle.peer_list.specs.Table.{empty_table, peer_in, known_to, has_room_in};

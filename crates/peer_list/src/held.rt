@@ -1,6 +1,5 @@
 //! A packet that is held until its source is trusted.
-use td_base::Ep;
-use td_outside::Octets;
+use td_base::{Ep, Octets};
 
 /// A packet, and the endpoint that it came from. No call hands one out: contracts speak of it.
 #[derive(Drop)]

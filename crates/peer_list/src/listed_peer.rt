@@ -2,7 +2,7 @@
 ghost use Rattle.std.specs.Prelude.{◌≡◌, ◌≤◌, ◌<◌, ◌+◌, ◌&&◌, not, ℕ, false, true, [], ◌++◌, ◌∷◌, map, length, option_map, IfOk, OnOk, OnErr};
 ghost use Rattle.std.specs.List.{AllByRecursion};
 ghost use Rattle.ipv6_packet.specs.declared.header.TheConstants.{PACKET_MAX};
-ghost use Rattle.td_outside.specs.declared.clock.TheConstants.{CLOCK_END_MS};
+ghost use Rattle.td_base.specs.declared.millis.TheConstants.{CLOCK_END_MS};
 ghost use Rattle.teredo_node.specs.Sends.{releases};
 ghost use Rattle.peer_list.specs.Peers.{no_peer};
 ghost use Rattle.peer_list.specs.Judged.{is_within, is_none, is_fresh, is_spent, is_barred, is_full, holds_most};
@@ -16,8 +16,7 @@ use crate::limits::{FRESH_MS, HELD_MAX, LISTED_MS, TRIES_MAX, WAITING_MAX};
 use crate::tries::{self, Tries};
 use std::alloc::Global;
 use std::marker::Model;
-use td_base::{Ep, Millis, NoMemory, Side};
-use td_outside::Octets;
+use td_base::{Ep, Millis, NoMemory, Octets, Side};
 use teredo_node::Step;
 
 /// What is known of a listed peer.

@@ -1,6 +1,6 @@
 //! The peers of a node at the moments at which something changes, and each refusal.
 ghost use Rattle.std.specs.Prelude.{◌≡◌, ◌≤◌, ◌<◌, length};
-ghost use Rattle.td_outside.specs.declared.clock.TheConstants.{CLOCK_END_MS};
+ghost use Rattle.td_base.specs.declared.millis.TheConstants.{CLOCK_END_MS};
 
 use crate::Peers;
 use std::process::Abort;

@@ -1,7 +1,7 @@
 //! The latest tries of a peer.
 ghost use Rattle.std.specs.Prelude.{◌≡◌, ◌≤◌, ◌<◌, ◌||◌, nat_le, [], ◌∷◌, take, length, filter, map};
 ghost use Rattle.std.specs.List.{list_any};
-ghost use Rattle.td_outside.specs.declared.clock.TheConstants.{CLOCK_END_MS};
+ghost use Rattle.td_base.specs.declared.millis.TheConstants.{CLOCK_END_MS};
 ghost use Rattle.peer_list.specs.Listed.{is_younger};
 ghost use Rattle.peer_list.specs.Judged.{next_try};
 ghost use Rattle.peer_list.specs.Bounds.{AreEarly};

@@ -2,8 +2,8 @@
 use crate::vectors::{ANSWER_LEN, CLIENT, ROOM, SOLICITATION, TO_A_HOST, words_of};
 use std::alloc::Global;
 use std::test::Fail;
-use td_base::{Millis, NoMemory, Side};
-use td_outside::{MemArrival, MemLink, MemSink, MemSource, Octets, TestClock};
+use td_base::{Millis, NoMemory, Octets, Side};
+use td_outside::{MemArrival, MemLink, MemSink, MemSource, TestClock};
 use teredo_app::run;
 
 /// How many attempts the link has room for.

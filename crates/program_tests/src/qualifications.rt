@@ -2,8 +2,8 @@
 use crate::vectors::{ROOM, words_of};
 use std::alloc::Global;
 use std::test::Fail;
-use td_base::{Ep, Ip4, Millis, NoMemory, Side};
-use td_outside::{MemArrival, MemLink, MemSink, MemSource, Octets, TestClock};
+use td_base::{Ep, Ip4, Millis, NoMemory, Octets, Side};
+use td_outside::{MemArrival, MemLink, MemSink, MemSource, TestClock};
 use teredo_app::run;
 
 /// A solicitation with the cone bit, from 198.51.100.7:40000: its nonce is the first two words of seed 0's stream.

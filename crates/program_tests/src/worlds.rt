@@ -2,10 +2,9 @@
 use crate::nodes::one_of_each;
 use events::Event;
 use std::test::Fail;
-use td_base::{Ep, Ip4};
+use td_base::{Ep, Ip4, Octets};
 use td_chain::Chains;
 use td_nested::{Nested, NestedFault};
-use td_outside::Octets;
 use topology::Topology;
 use world::{WireEntry, World};
 

@@ -4,7 +4,7 @@ ghost use Rattle.indications.specs.Leads.{origin_in};
 ghost use Rattle.td_base.specs.declared.datagram.TheConstants.{DATAGRAM_MAX};
 ghost use Rattle.bubble.specs.Payloads.{payload_view};
 ghost use Rattle.teredo_node.specs.Words.{drawn_words};
-ghost use Rattle.td_outside.specs.declared.clock.TheConstants.{CLOCK_END_MS};
+ghost use Rattle.td_base.specs.declared.millis.TheConstants.{CLOCK_END_MS};
 ghost use Rattle.qualify.specs.declared.round.Round.{Round};
 ghost use Rattle.qualify.specs.Turns.{interval_of, flags_word};
 ghost use Rattle.qualify.specs.Advertisements.{advert_row, advert_words, flags_words};

@@ -1,6 +1,6 @@
 //! A client's qualification.
 ghost use Rattle.std.specs.Prelude.{◌≡◌, ◌≤◌, ◌<◌, ℕ, [], length, false, is_some, option_map, IfSome};
-ghost use Rattle.td_outside.specs.declared.clock.TheConstants.{CLOCK_END_MS};
+ghost use Rattle.td_base.specs.declared.millis.TheConstants.{CLOCK_END_MS};
 ghost use Rattle.td_base.specs.declared.datagram.TheConstants.{DATAGRAM_MAX};
 ghost use Rattle.bubble.specs.Payloads.{payload_view};
 ghost use Rattle.teredo_node.specs.Journal.{Entry, Journal, with_entry};

@@ -1,6 +1,6 @@
 //! A phase that asks.
 ghost use Rattle.std.specs.Prelude.{◌≡◌, ◌+◌, ◌<◌, ◌≤◌, [], ◌∷◌, length, IsTrue, nat_lt};
-ghost use Rattle.td_outside.specs.declared.clock.TheConstants.{CLOCK_END_MS};
+ghost use Rattle.td_base.specs.declared.millis.TheConstants.{CLOCK_END_MS};
 ghost use Rattle.qualify.specs.declared.limits.TheConstants.{SOLICITATION_GAP_MS, SOLICITATIONS_MAX, DUE_END_MS};
 
 use crate::limits::{SOLICITATION_GAP_MS, SOLICITATIONS_MAX};

@@ -1,6 +1,6 @@
 //! What a client keeps of its qualification.
 ghost use Rattle.std.specs.Prelude.{◌≡◌, ◌<◌, None, option_map, is_some, IfSome};
-ghost use Rattle.td_outside.specs.declared.clock.TheConstants.{CLOCK_END_MS};
+ghost use Rattle.td_base.specs.declared.millis.TheConstants.{CLOCK_END_MS};
 ghost use Rattle.qualify.specs.declared.settings.Settings.{Settings};
 ghost use Rattle.qualify.specs.declared.limits.TheConstants.{DUE_END_MS};
 

@@ -1,6 +1,6 @@
 //! A client's first minutes, beside words and bytes that other programs made.
 ghost use Rattle.std.specs.Prelude.{◌<◌};
-ghost use Rattle.td_outside.specs.declared.clock.TheConstants.{CLOCK_END_MS};
+ghost use Rattle.td_base.specs.declared.millis.TheConstants.{CLOCK_END_MS};
 
 use crate::{Phase, Qualifier, Settings, draw_nonce};
 use rand_chacha::ChaCha20Rng;

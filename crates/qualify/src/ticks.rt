@@ -1,6 +1,6 @@
 //! What a client does where its phase or its refresh is due.
 ghost use Rattle.std.specs.Prelude.{◌≡◌, ◌<◌, ◌∷◌, [], Some, None, false};
-ghost use Rattle.td_outside.specs.declared.clock.TheConstants.{CLOCK_END_MS};
+ghost use Rattle.td_base.specs.declared.millis.TheConstants.{CLOCK_END_MS};
 ghost use Rattle.td_base.specs.Ep.{server_ep};
 ghost use Rattle.teredo_node.specs.Step.{just};
 ghost use Rattle.teredo_node.specs.Sends.{send, sending};

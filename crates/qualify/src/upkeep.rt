@@ -1,7 +1,7 @@
 //! An address, and what keeps it.
 ghost use Rattle.std.specs.Prelude.{◌≡◌, ◌+◌, ◌<◌, ◌==◌, None, Some, option_to_list};
 ghost use Rattle.std.specs.List.{list_any};
-ghost use Rattle.td_outside.specs.declared.clock.TheConstants.{CLOCK_END_MS};
+ghost use Rattle.td_base.specs.declared.millis.TheConstants.{CLOCK_END_MS};
 ghost use Rattle.qualify.specs.declared.limits.TheConstants.{DUE_END_MS};
 
 use td_base::{Ip6, Millis};

@@ -2,7 +2,7 @@
 use Rattle.std.specs.Prelude.{◌≡◌, ◌≤◌, ◌<◌, ◌+◌, ℕ, Bool, true, false, List, ◌∷◌, length, map, Some, None, is_some, unwrap_or}
 use Rattle.td_base.specs.declared.ipv6.Ip6.{Ip6}
 use Rattle.td_base.specs.declared.endpoint.Ep.{Ep}
-use Rattle.td_outside.specs.declared.clock.TheConstants.{CLOCK_END_MS}
+use Rattle.td_base.specs.declared.millis.TheConstants.{CLOCK_END_MS}
 use Rattle.teredo_addr.specs.Teredo.{unspecified, has_cone}
 use Rattle.bubble.specs.Payloads.{Value}
 use Rattle.bubble.specs.PayloadOf.{IsPayloadOf}

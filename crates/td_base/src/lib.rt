@@ -9,7 +9,7 @@
 //! - A text that is refused is refused at its place: the length of the longest front that begins an accepted text.
 //! - `ones_sum` is the sum of all Internet checksums, whole or in steps.
 //! - `==` on addresses and endpoints is an opaque test with laws (`specs/Ip4.antt`, `Ip6.antt`, `Ep.antt`).
-//! - No call takes memory.
+//! - No call takes memory but that of `Octets::new`, for its copy.
 //!
 //! # What it does not know
 //!
@@ -21,7 +21,8 @@
 //! |---|---|---|
 //! | `ipv4`, `ipv6`, `endpoint` | `Ip4`, `Ip6`, `Ep`: equality and order | `specs/Ip4.antt`, `Ip6.antt`, `Ep.antt` |
 //! | `reach` | `Policy`, and which addresses are global, usable, link-local | `specs/Reach.antt` |
-//! | `millis`, `span`, `datagram` | `Millis`, `Span`, and the most bytes of a datagram | |
+//! | `millis`, `span`, `datagram` | `Millis` and the end of all clocks, `Span`, and the most bytes of a datagram | |
+//! | `octets` | `Octets`, bytes that are kept | |
 //! | `side` | `Side` | `specs/Side.antt` |
 //! | `refusals` | `BadText`, `Room`, `NoMemory` | |
 //! | `fields` | numbers in network order, and addresses, at a place | `specs/Bytes.antt` |
@@ -50,6 +51,7 @@ mod laws;
 mod line;
 mod millis;
 mod numeral;
+mod octets;
 mod reach;
 mod refusals;
 mod short_text;
@@ -68,8 +70,9 @@ pub use ipv6_reader::read_ip6;
 pub use ipv6_text::print_ip6;
 pub use laws::texts_are_made;
 pub use line::{LINE_LEN, LineBuf, print_text};
-pub use millis::Millis;
+pub use millis::{CLOCK_END_MS, Millis};
 pub use numeral::{NUMBER_LEN, print_number, read_number};
+pub use octets::Octets;
 pub use reach::{Policy, is_global, is_global6, is_link_local, usable};
 pub use refusals::{BadText, NoMemory, Room};
 pub use short_text::SHORT_LEN;

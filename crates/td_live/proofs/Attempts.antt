@@ -5,8 +5,8 @@ use Rattle.std.proofs.lemmas.List.Sums.{count_by-le-length, sum_by-append}
 use Rattle.std.proofs.Math.Nat.{eq-zero-or-pos}
 use Rattle.td_outside.specs.Causes.{Rose}
 use Rattle.teredo_node.specs.Step.{Send}
-use Rattle.teredo_node.specs.Turn.{SendFaults, failed_bits}
-use Rattle.teredo_node.specs.AttemptLaws.{ones_failed}
+use Rattle.td_turns.specs.Turn.{SendFaults, failed_bits}
+use Rattle.td_turns.specs.AttemptLaws.{ones_failed}
 use Rattle.td_live.specs.Half.{FailsBy}
 use Rattle.td_live.specs.LiveTotals.{with_attempts}
 use Rattle.td_live.specs.declared.live_totals.LiveTotals.{LiveTotals}

@@ -5,9 +5,9 @@ use Rattle.rand_chacha.specs.ChaCha.{ChaCha}
 use Rattle.td_outside.specs.Link.{Came, Attempt, Told}
 use Rattle.teredo_node.specs.Step.{Step, Send}
 use Rattle.teredo_node.specs.Journal.{Input, ticked, Entry, Journal, with_entry}
-use Rattle.teredo_node.specs.Turn.{Carries, attempts_of, failed_bits}
-use Rattle.teredo_node.specs.AttemptLaws.{attempts_append}
-use Rattle.teredo_node.specs.CarryLaws.{carries_on}
+use Rattle.td_turns.specs.Turn.{Carries, attempts_of, failed_bits}
+use Rattle.td_turns.specs.AttemptLaws.{attempts_append}
+use Rattle.td_turns.specs.CarryLaws.{carries_on}
 use Rattle.qualify.specs.Solicitations.{is_due}
 use Rattle.qualify.specs.Generator.{words_of, after_words}
 use Rattle.client_rules.specs.Journals.{client_entry, client_due}

@@ -7,8 +7,8 @@ use Rattle.td_outside.specs.Moves.{Gains, GainsAll}
 use Rattle.td_outside.specs.MoveLaws.{Stays-refl, GainsAll-nil, GainsAll-append}
 use Rattle.teredo_node.specs.Step.{Send}
 use Rattle.teredo_node.specs.Journal.{Journal}
-use Rattle.teredo_node.specs.Turn.{Carries, attempts_of}
-use Rattle.teredo_node.specs.CarryLaws.{carries_nothing}
+use Rattle.td_turns.specs.Turn.{Carries, attempts_of}
+use Rattle.td_turns.specs.CarryLaws.{carries_nothing}
 use Rattle.qualify.specs.declared.settings.Settings.{Settings}
 use Rattle.qualify.specs.declared.phase.Phase.TheVariants.{Cone, Restricted}
 use Rattle.qualify.specs.Qualification.{Qualification, first_phase, qualification}

@@ -6,7 +6,7 @@ use Rattle.td_outside.specs.Clock.{ClockState}
 use Rattle.td_outside.specs.Link.{Came, Attempt, Told, LinkState, TurnsToOne, at_primary, client_on}
 use Rattle.td_outside.specs.Moves.{Moves}
 use Rattle.td_outside.specs.MoveLaws.{Stays-Moves}
-use Rattle.teredo_node.specs.Turn.{Come, Carries, SendFaults}
+use Rattle.td_turns.specs.Turn.{Come, Carries, SendFaults}
 use Rattle.td_live.specs.declared.asked.Asked.{Asked}
 use Rattle.td_live.specs.declared.live.Live.{Live}
 use Rattle.td_live.specs.declared.live_totals.LiveTotals.{LiveTotals}

@@ -5,11 +5,11 @@ use Rattle.td_outside.specs.declared.fails.Failed.{Failed}
 use Rattle.td_outside.specs.Link.{Came, Datagram, Nothing, Told}
 use Rattle.teredo_node.specs.Step.{Step}
 use Rattle.teredo_node.specs.Journal.{arrived, Journal}
-use Rattle.teredo_node.specs.Turn.{Carries, AnswersArrival, Pumps, LeavesAll}
-use Rattle.teredo_node.specs.declared.turn.Pumped.{Pumped}
-use Rattle.teredo_node.specs.declared.turn.Pumped.TheVariants.{Took, Idle}
-use Rattle.teredo_node.specs.declared.turn.PumpFault.{PumpFault}
-use Rattle.teredo_node.specs.declared.turn.PumpFault.TheVariants.{Receive, NoMemory}
+use Rattle.td_turns.specs.Turn.{Carries, AnswersArrival, Pumps, LeavesAll}
+use Rattle.td_turns.specs.declared.turn.Pumped.{Pumped}
+use Rattle.td_turns.specs.declared.turn.Pumped.TheVariants.{Took, Idle}
+use Rattle.td_turns.specs.declared.turn.PumpFault.{PumpFault}
+use Rattle.td_turns.specs.declared.turn.PumpFault.TheVariants.{Receive, NoMemory}
 use Rattle.qualify.specs.declared.settings.Settings.{Settings}
 use Rattle.qualify.specs.declared.phase.Phase.{Phase}
 use Rattle.qualify.specs.Qualification.{qualification}

@@ -4,7 +4,7 @@ use Rattle.td_outside.specs.Causes.{Rose}
 use Rattle.td_outside.specs.Link.{Came, Told}
 use Rattle.teredo_node.specs.Step.{Send}
 use Rattle.teredo_node.specs.Journal.{Journal}
-use Rattle.teredo_node.specs.Turn.{Carries, attempts_of}
+use Rattle.td_turns.specs.Turn.{Carries, attempts_of}
 use Rattle.qualify.specs.Generator.{after_words}
 use Rattle.client_core.specs.declared.client.Client.{Client}
 use Rattle.client_core.specs.Client.{ClientStandsFor, settings_of}

@@ -5,7 +5,7 @@ use Rattle.td_outside.specs.declared.fails.Failed.{Failed}
 use Rattle.td_outside.specs.Clock.{ClockState}
 use Rattle.td_outside.specs.Link.{Came, Attempt, Told, LinkState, KeepsTold, at_primary, client_on}
 use Rattle.td_outside.specs.Moves.{Moves, GainsAll}
-use Rattle.teredo_node.specs.Turn.{Come, Carries, attempts_of}
+use Rattle.td_turns.specs.Turn.{Come, Carries, attempts_of}
 use Rattle.qualify.specs.Qualification.{qualification}
 use Rattle.td_live.specs.declared.asked.Asked.{Asked}
 use Rattle.td_live.specs.declared.live.Live.{Live}

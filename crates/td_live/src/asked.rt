@@ -1,6 +1,6 @@
 //! What is asked of a session.
 ghost use Rattle.std.specs.Prelude.{◌≡◌, ◌<◌, ℕ, []};
-ghost use Rattle.td_outside.specs.declared.clock.TheConstants.{CLOCK_END_MS};
+ghost use Rattle.td_base.specs.declared.millis.TheConstants.{CLOCK_END_MS};
 ghost use Rattle.client_core.specs.Client.{IsCallable};
 ghost use Rattle.client_rules.specs.Journals.{journal_since};
 ghost use Rattle.td_live.specs.Asked.{live_client, live_seed};

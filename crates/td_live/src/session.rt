@@ -3,7 +3,7 @@ ghost use Rattle.std.specs.Prelude.{◌≡◌, ◌≤◌, ◌<◌, ◌+◌, ◌*
 ghost use Rattle.td_outside.specs.Causes.{HasCause};
 ghost use Rattle.td_outside.specs.Link.{KeepsTold, client_on, free_port_of};
 ghost use Rattle.td_outside.specs.Moves.{Stays, Gains};
-ghost use Rattle.teredo_node.specs.Turn.{SendFaults};
+ghost use Rattle.td_turns.specs.Turn.{SendFaults};
 ghost use Rattle.td_live.specs.Asked.{live_client};
 ghost use Rattle.td_live.specs.LiveTotals.{no_attempts};
 ghost use Rattle.td_live.specs.Session.{RunsTurns, SessionOf, NoSession};

@@ -3,7 +3,7 @@ ghost use Rattle.std.specs.Prelude.{◌≡◌, ◌≤◌, ◌+◌, ◌*◌, List
 ghost use Rattle.td_outside.specs.Causes.{HasCause};
 ghost use Rattle.td_outside.specs.Link.{Came};
 ghost use Rattle.td_outside.specs.Moves.{Stays};
-ghost use Rattle.teredo_node.specs.Turn.{Carries};
+ghost use Rattle.td_turns.specs.Turn.{Carries};
 ghost use Rattle.teredo_node.specs.declared.step.TheConstants.{SENDS_MAX};
 ghost use Rattle.teredo_node.specs.Journal.{Journal};
 ghost use Rattle.qualify.specs.declared.phase.Phase.{Phase};
@@ -21,7 +21,8 @@ use client_core::Client;
 use qualify::Phase;
 use td_base::Millis;
 use td_outside::{Failed, Link};
-use teredo_node::{Endpoint, PumpFault, Pumped, Step, pump, tick};
+use td_turns::{PumpFault, Pumped, pump, tick};
+use teredo_node::{Endpoint, Step};
 
 /// Whether a client waits for its server's answer in a phase.
 pub(crate) fn receives(phase: Phase) -> bool

@@ -2,7 +2,7 @@
 use Rattle.std.specs.Prelude.{◌≤◌, ◌<◌, ℕ, ⊤, List, [], ◌∷◌, ◌++◌, Option, Some, None, nat_lt, if◌then◌else◌}
 use Rattle.std.specs.Option.{option_and_then}
 use Rattle.td_base.specs.declared.millis.Millis.{Millis}
-use Rattle.td_outside.specs.declared.clock.TheConstants.{CLOCK_END_MS}
+use Rattle.td_base.specs.declared.millis.TheConstants.{CLOCK_END_MS}
 use Rattle.td_outside.specs.Causes.{raised, count_end}
 
 -- moments that a clock may give: each below its end, and none below the one before it

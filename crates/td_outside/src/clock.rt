@@ -1,12 +1,10 @@
 //! The time.
 ghost use Rattle.std.specs.Prelude.{◌≡◌, ◌≤◌, ◌<◌};
+ghost use Rattle.td_base.specs.declared.millis.TheConstants.{CLOCK_END_MS};
 ghost use Rattle.td_outside.specs.Clock.{ClockState};
 ghost use Rattle.td_outside.specs.Moves.{Gains};
 
 use td_base::Millis;
-
-/// Each moment of a clock is below this one, in milliseconds: 2^48, which is 8,900 years.
-pub const CLOCK_END_MS: u64 = 1 << 48;
 
 /// What gives the time since a start of its own.
 pub trait Clock {

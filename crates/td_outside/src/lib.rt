@@ -32,7 +32,6 @@
 //! | `mem_source`, `mem_sink` | `MemSource`, `MemSink` | `specs/Streams.antt` |
 //! | `mem_link`, `mem_arrival`, `mem_attempt` | `MemLink`, what it receives and what it keeps | `specs/MemLink.antt` |
 //! | `test_clock` | `TestClock` | `specs/TestClock.antt` |
-//! | `octets` | `Octets` | |
 //! | `file_source`, `udp_pair` | files and sockets | `specs/FileSource.antt`, `specs/UdpPair.antt` |
 //! | `std_sink`, `system_clock` | output and time of the real thing | |
 //! | `sockets` | the sockets of a `UdpPair` | `specs/Sockets.antt` |
@@ -52,7 +51,6 @@ mod mem_attempt;
 mod mem_link;
 mod mem_sink;
 mod mem_source;
-mod octets;
 mod one_socket;
 mod sides;
 mod sink;
@@ -63,7 +61,7 @@ mod system_clock;
 mod test_clock;
 mod udp_pair;
 
-pub use clock::{CLOCK_END_MS, Clock};
+pub use clock::Clock;
 pub use fails::Failed;
 pub use file_source::FileSource;
 pub use link::{Addresses, Arrival, Link, Place};
@@ -72,7 +70,6 @@ pub use mem_attempt::MemAttempt;
 pub use mem_link::MemLink;
 pub use mem_sink::MemSink;
 pub use mem_source::MemSource;
-pub use octets::Octets;
 pub use sink::Sink;
 pub use source::Source;
 pub use std_sink::StdSink;

@@ -3,8 +3,8 @@ ghost use Rattle.std.specs.Prelude.{◌≡◌, ◌≤◌, length, map, take, dro
 ghost use Rattle.td_outside.specs.Link.{FitsBuffer, at_primary, came_by};
 ghost use Rattle.td_outside.specs.MemLink.{came_from};
 
-use crate::{Arrival, Octets};
-use td_base::{DATAGRAM_MAX, Ep, Side};
+use crate::Arrival;
+use td_base::{DATAGRAM_MAX, Ep, Octets, Side};
 
 /// What a link in memory is given to receive. A longer datagram is cut to `DATAGRAM_MAX` bytes.
 #[derive(Drop)]

@@ -1,12 +1,12 @@
 //! The clock of the system.
 ghost use Rattle.std.specs.Prelude.{◌≡◌, ◌≤◌, ◌<◌, ℕ, None};
-ghost use Rattle.td_outside.specs.declared.clock.TheConstants.{CLOCK_END_MS};
+ghost use Rattle.td_base.specs.declared.millis.TheConstants.{CLOCK_END_MS};
 
-use crate::{CLOCK_END_MS, Clock};
+use crate::Clock;
 use std::marker::Model;
 use std::time::{Duration, Instant};
 use std::{io, time};
-use td_base::Millis;
+use td_base::{CLOCK_END_MS, Millis};
 
 /// The milliseconds since its own first call. Where the system's clock fails or goes back, it repeats its last
 /// moment. Contracts see the moment that it gave last.

@@ -1,10 +1,11 @@
 //! A clock of four moments.
 ghost use Rattle.std.specs.Prelude.{◌≡◌, ◌≤◌, ◌<◌, ◌-◌, ◌+◌, ◌^◌, ◌++◌, ℕ, List, [], ◌∷◌, length, drop, take, map};
 ghost use Rattle.std.specs.Prelude.{replicate, min, nat_lt, Some, slice_index, IsTrue, if◌then◌else◌};
+ghost use Rattle.td_base.specs.declared.millis.TheConstants.{CLOCK_END_MS};
 ghost use Rattle.td_outside.specs.Moves.{Gains};
 ghost use Rattle.td_outside.specs.TestClock.{Timetable, IsTimetable, moment_of, clock_after};
 
-use crate::{CLOCK_END_MS, Clock};
+use crate::Clock;
 use std::marker::Model;
 use td_base::Millis;
 

@@ -4,11 +4,11 @@ use Rattle.std.proofs.lemmas.List.Sums.{count_by-le-length}
 use Rattle.td_outside.specs.declared.link.Place.{Place}
 use Rattle.td_outside.specs.Link.{Came, Attempt, Told, KeepsTold, open_on}
 use Rattle.td_outside.specs.MoveLaws.{Stays-Moves}
-use Rattle.teredo_node.specs.Turn.{Carries, LeftBy, SendFaults, ReceiveFaults}
-use Rattle.teredo_node.specs.Serve.{ServeTurn, Waited, Answered, Goes, Carried, Serves, came_in, made_in, totals_of}
-use Rattle.teredo_node.specs.declared.turn.PumpFault.{PumpFault}
-use Rattle.teredo_node.specs.declared.turn.PumpFault.TheVariants.{Receive, NoMemory}
-use Rattle.teredo_node.specs.declared.serve.Totals.{Totals}
+use Rattle.td_turns.specs.Turn.{Carries, LeftBy, SendFaults, ReceiveFaults}
+use Rattle.td_turns.specs.Serve.{ServeTurn, Waited, Answered, Goes, Carried, Serves, came_in, made_in, totals_of}
+use Rattle.td_turns.specs.declared.turn.PumpFault.{PumpFault}
+use Rattle.td_turns.specs.declared.turn.PumpFault.TheVariants.{Receive, NoMemory}
+use Rattle.td_turns.specs.declared.serve.Totals.{Totals}
 use Rattle.server_core.specs.declared.server.ServerSettings.{ServerSettings}
 use Rattle.server_core.specs.Bounds.{outcomes}
 use Rattle.server_core.specs.Laws.{OneOutcome}

@@ -3,7 +3,7 @@ use Rattle.std.specs.Prelude.{◌≡◌, ◌≤◌, ℕ, List, [], ◌∷◌, co
 use Rattle.td_base.specs.Ip4.{IsIp4}
 use Rattle.td_base.specs.Texts.{ip4_text}
 use Rattle.td_live.specs.declared.asked.Asked.{Asked}
-use Rattle.teredo_node.specs.declared.serve.TheConstants.{TURNS_MAX}
+use Rattle.td_turns.specs.declared.serve.TheConstants.{TURNS_MAX}
 use Rattle.teredo_app.specs.declared.gen_words.TheConstants.{SEED_MAX}
 
 -- the words: each address and each number has one text

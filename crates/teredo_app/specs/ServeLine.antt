@@ -1,6 +1,6 @@
 -- The line that `serve` ends with.
 use Rattle.std.specs.Prelude.{ℕ, List, ◌++◌, codes, decimal}
-use Rattle.teredo_node.specs.declared.serve.Totals.{Totals}
+use Rattle.td_turns.specs.declared.serve.Totals.{Totals}
 
 -- a word and a number
 abbrev pub word_and_number : List ℕ → ℕ → List ℕ

@@ -2,7 +2,7 @@
 use Rattle.std.specs.Prelude.{◌≡◌, ◌≤◌, ℕ, List, [], ◌∷◌, codes, decimal}
 use Rattle.td_base.specs.Ip4.{IsIp4}
 use Rattle.td_base.specs.Texts.{ip4_text}
-use Rattle.teredo_node.specs.declared.serve.TheConstants.{TURNS_MAX}
+use Rattle.td_turns.specs.declared.serve.TheConstants.{TURNS_MAX}
 use Rattle.teredo_app.specs.declared.serve_words.ServeWords.{ServeWords}
 
 -- the words: each address and each number has one text

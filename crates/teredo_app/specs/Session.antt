@@ -7,11 +7,11 @@ use Rattle.td_outside.specs.Causes.{Rose}
 use Rattle.td_outside.specs.Moves.{Gains}
 use Rattle.td_outside.specs.Link.{KeepsTold, both_at, open_on}
 use Rattle.teredo_node.specs.Step.{Step}
-use Rattle.teredo_node.specs.Turn.{SendFaults, ReceiveFaults}
-use Rattle.teredo_node.specs.Serve.{Serves}
-use Rattle.teredo_node.specs.declared.turn.PumpFault.{PumpFault}
-use Rattle.teredo_node.specs.declared.turn.PumpFault.TheVariants.{Receive}
-use Rattle.teredo_node.specs.declared.serve.Totals.{Totals}
+use Rattle.td_turns.specs.Turn.{SendFaults, ReceiveFaults}
+use Rattle.td_turns.specs.Serve.{Serves}
+use Rattle.td_turns.specs.declared.turn.PumpFault.{PumpFault}
+use Rattle.td_turns.specs.declared.turn.PumpFault.TheVariants.{Receive}
+use Rattle.td_turns.specs.declared.serve.Totals.{Totals}
 use Rattle.server_core.specs.declared.server.ServerSettings.{ServerSettings}
 use Rattle.server_core.specs.Endpoint as server
 use Rattle.teredo_app.specs.declared.serve_words.ServeWords.{ServeWords}

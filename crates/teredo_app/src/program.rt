@@ -23,7 +23,7 @@ use show::{Page, explain};
 use std::alloc::Global;
 use td_base::LineBuf;
 use td_outside::{Clock, Link, Sink, Source};
-use teredo_node::TURNS_MAX;
+use td_turns::TURNS_MAX;
 
 /// The command `show HEX`. It never answers `NO_MEMORY`.
 fn show<K: Sink>(word: &str, out: &mut K) -> u8

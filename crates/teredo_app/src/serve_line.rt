@@ -3,7 +3,7 @@ ghost use Rattle.std.specs.Prelude.{◌≡◌, ◌+◌, ◌≤◌, ◌++◌, len
 ghost use Rattle.teredo_app.specs.ServeLine.{word_and_number, serve_line};
 
 use td_base::{LINE_LEN, LineBuf, NUMBER_LEN, print_number};
-use teredo_node::Totals;
+use td_turns::Totals;
 
 /// Appends a word and a number.
 pub(crate) fn put_part(word: &[u8], number: u64, out: &mut LineBuf)

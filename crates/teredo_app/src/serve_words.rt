@@ -5,7 +5,7 @@ ghost use Rattle.td_base.specs.Texts.{ip4_text};
 ghost use Rattle.teredo_app.specs.ServeWords.{Asks};
 
 use td_base::{Ip4, read_ip4, read_number};
-use teredo_node::TURNS_MAX;
+use td_turns::TURNS_MAX;
 
 /// What the words ask for: the two addresses to serve on, and when to end.
 #[derive(Clone, Copy, Debug)]

@@ -9,7 +9,7 @@ use crate::serve_words::ServeWords;
 use server_core::Server;
 use td_base::Policy;
 use td_outside::{Clock, Failed, Link};
-use teredo_node::{TURNS_MAX, Totals, serve_loop};
+use td_turns::{TURNS_MAX, Totals, serve_loop};
 
 /// Opens the link and serves on it to the end that is asked for, under the policy that lets loopback addresses in.
 /// Only the link can fail.

@@ -6,13 +6,13 @@ use Rattle.td_base.specs.declared.endpoint.TheConstants.{TEREDO_PORT}
 use Rattle.td_base.specs.declared.short_text.TheConstants.{SHORT_LEN}
 use Rattle.td_base.specs.declared.datagram.TheConstants.{DATAGRAM_MAX}
 use Rattle.td_outside.specs.declared.mem_link.TheConstants.{CLIENT_PORT}
-use Rattle.td_outside.specs.declared.clock.TheConstants.{CLOCK_END_MS}
+use Rattle.td_base.specs.declared.millis.TheConstants.{CLOCK_END_MS}
 use Rattle.td_pcap.specs.declared.head.TheConstants.{HEAD, MAGIC_MICRO, MAGIC_NANO, MAGIC_MICRO_LITTLE, MAGIC_NANO_LITTLE, MAJOR, MINOR, LINK_RAW}
 use Rattle.td_pcap.specs.declared.record.TheConstants.{REC_HEAD, KEPT_MAX}
 use Rattle.icmp6.specs.declared.numbers.TheConstants.{MESSAGE_MAX}
 use Rattle.teredo_addr.specs.declared.local.TheConstants.{ALL_ROUTERS, UNSPECIFIED}
 use Rattle.teredo_node.specs.declared.fate.TheConstants.{FATE_LEN}
-use Rattle.teredo_node.specs.declared.serve.TheConstants.{TURNS_MAX}
+use Rattle.td_turns.specs.declared.serve.TheConstants.{TURNS_MAX}
 use Rattle.qualify.specs.declared.limits.TheConstants.{DUE_END_MS}
 use Rattle.native_host.specs.declared.limits.TheConstants.{HOST_HOP, HOST_DATA_NEXT, HOST_ECHO_ID}
 

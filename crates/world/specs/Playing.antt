@@ -27,7 +27,7 @@ use Rattle.topology.specs.Topology.{nodes}
 use Rattle.lab_nodes.specs.declared.due.Due.{Due}
 use Rattle.lab_nodes.specs.Due.{due_as}
 use Rattle.lab_nodes.specs.declared.played_node.PlayedNode.{PlayedNode}
-use Rattle.td_outside.specs.declared.clock.TheConstants.{CLOCK_END_MS}
+use Rattle.td_base.specs.declared.millis.TheConstants.{CLOCK_END_MS}
 use Rattle.lab_nodes.specs.PlayedNode.{AreOf, NodesOf, AreReady}
 use Rattle.world.specs.Emission.{AreNatsWith}
 use Rattle.world.specs.World.{WorldState, lab_in, IsCause, going_after, is_more, record_in}

@@ -15,7 +15,7 @@ use Rattle.history.specs.Full.{Item, Full, wire, items_of}
 use Rattle.history.specs.Records.{record_of}
 use Rattle.history.specs.Telling.{IsTold}
 use Rattle.world.specs.declared.wire.TheConstants.{ENTRIES_MAX}
-use Rattle.td_outside.specs.declared.clock.TheConstants.{CLOCK_END_MS}
+use Rattle.td_base.specs.declared.millis.TheConstants.{CLOCK_END_MS}
 use Rattle.world.specs.declared.going.Going.{Going}
 use Rattle.world.specs.declared.going.Going.TheVariants as going_on
 use Rattle.legal.specs.Lab.{Draws, Lab, lab_on}

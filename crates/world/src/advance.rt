@@ -10,7 +10,7 @@ ghost use Rattle.history.specs.Full.{Full};
 ghost use Rattle.legal.specs.Lab.{Draws};
 ghost use Rattle.legal.specs.Past.{forgotten, arms};
 ghost use Rattle.legal.specs.Next.{numbered, plain, least_due, next_of};
-ghost use Rattle.td_outside.specs.declared.clock.TheConstants.{CLOCK_END_MS};
+ghost use Rattle.td_base.specs.declared.millis.TheConstants.{CLOCK_END_MS};
 ghost use Rattle.legal.specs.Next.{DueNode as Tick};
 ghost use Rattle.lab_nodes.specs.Due.{due_as};
 ghost use Rattle.world.specs.Record.{fresh_record, with_deed};

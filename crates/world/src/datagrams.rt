@@ -16,8 +16,7 @@ use crate::wire::Entry;
 use crate::world::World;
 use events::Verb;
 use history::{Act, Record, Stop};
-use td_base::Ep;
-use td_outside::Octets;
+use td_base::{Ep, Octets};
 use teredo_node::Fate;
 
 impl<'a> World<'a> {

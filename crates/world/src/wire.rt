@@ -12,8 +12,7 @@ ghost use Rattle.world.specs.WireEntry.{item_lent};
 use history::{Loss, Mark, Marks, Stop};
 use std::alloc::Global;
 use std::marker::Model;
-use td_base::{Ep, NoMemory};
-use td_outside::Octets;
+use td_base::{Ep, NoMemory, Octets};
 
 /// The most entries of a wire.
 pub const ENTRIES_MAX: usize = 65_536;

@@ -1,5 +1,5 @@
 use Rattle.std.proofs.Common.{Ok, refl, ap, ◌∙◌}
-use Rattle.teredo_node.specs.declared.turn.Pumped.{Pumped}
+use Rattle.td_turns.specs.declared.turn.Pumped.{Pumped}
 use Rattle.lab_nodes.proofs.Arrivals.{asked_by}
 use Rattle.lab_nodes.proofs.server.serve.Goals as goal
 

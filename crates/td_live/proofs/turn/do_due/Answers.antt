@@ -1,6 +1,6 @@
 use Rattle.std.proofs.Common.{◌≡◌, false, true, [], ap, subst, ◌∙◌}
 use Rattle.teredo_node.specs.Journal.{ticked, Journal}
-use Rattle.teredo_node.specs.CarryLaws.{carries_nothing}
+use Rattle.td_turns.specs.CarryLaws.{carries_nothing}
 use Rattle.qualify.specs.declared.settings.Settings.{Settings}
 use Rattle.qualify.specs.Solicitations.{is_due}
 use Rattle.client_rules.specs.Journals.{client_due}

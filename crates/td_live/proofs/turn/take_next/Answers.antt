@@ -1,7 +1,7 @@
 use Rattle.std.proofs.Common.{Result, Ok, Err, ap, subst, ◌∙◌}
-use Rattle.teredo_node.specs.Turn.{SendFaults, failed_of}
-use Rattle.teredo_node.specs.declared.turn.Pumped.{Pumped}
-use Rattle.teredo_node.specs.declared.turn.PumpFault.{PumpFault}
+use Rattle.td_turns.specs.Turn.{SendFaults, failed_of}
+use Rattle.td_turns.specs.declared.turn.Pumped.{Pumped}
+use Rattle.td_turns.specs.declared.turn.PumpFault.{PumpFault}
 use Rattle.td_live.proofs.Attempts.{few_lost, fails_by}
 use Rattle.td_live.proofs.Entries.{Point}
 use Rattle.td_live.proofs.Turned.{Pump, Takes, took, took_goes, idle_goes, broke_goes, starves_never}

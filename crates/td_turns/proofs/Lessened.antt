@@ -3,10 +3,10 @@ use Rattle.std.proofs.Common.{◌≡◌, ◌+◌, ℕ, not, min, List, [], ◌�
 use Rattle.td_outside.specs.Causes.{count_end}
 use Rattle.td_outside.specs.Link.{Told}
 use Rattle.teredo_node.specs.Step.{Step}
-use Rattle.teredo_node.specs.Turn.{Carries, SendFaults, attempts_of}
-use Rattle.teredo_node.specs.Ticks.{Ticked, TicksOnce, GoesBy, TicksThrough, NothingDue, made_by, failed_by, last_step}
-use Rattle.teredo_node.specs.CarryLaws.{carries_on, carries_stays, carries_nothing}
-use Rattle.teredo_node.specs.AttemptLaws.{ones_failed}
+use Rattle.td_turns.specs.Turn.{Carries, SendFaults, attempts_of}
+use Rattle.td_turns.specs.Ticks.{Ticked, TicksOnce, GoesBy, TicksThrough, NothingDue, made_by, failed_by, last_step}
+use Rattle.td_turns.specs.CarryLaws.{carries_on, carries_stays, carries_nothing}
+use Rattle.td_turns.specs.AttemptLaws.{ones_failed}
 
 -- The ticks so far.
 pub record Ran {S : Type 0} (ticks : S → Step → S → Type 0) (owing : S → ℕ) (old new : S) (link link' : Told) (step step' : Step) (failed : ℕ) : Type 0 where

@@ -1,9 +1,9 @@
 //! A list of bytes that owns its memory.
 ghost use Rattle.std.specs.Prelude.{◌≡◌, ℕ, List, IfOk};
 
+use crate::NoMemory;
 use std::alloc::Global;
 use std::marker::Model;
-use td_base::NoMemory;
 
 /// Bytes that are kept, as the content of a datagram. Contracts see the list of them.
 #[derive(Drop)]

@@ -1,9 +1,9 @@
 use Rattle.std.proofs.Common.{◌≡◌, ◌+◌, min, count_ones, ◌∙◌, arith}
 use Rattle.td_outside.specs.Causes.{count_end}
 use Rattle.td_outside.specs.MoveLaws.{Stays-Moves}
-use Rattle.teredo_node.proofs.Turns.{faults_on}
-use Rattle.teredo_node.proofs.Lessened.{ran_ticked, faults_up_to}
-use Rattle.teredo_node.proofs.ticks.tick_through.Goals as goal
+use Rattle.td_turns.proofs.Turns.{faults_on}
+use Rattle.td_turns.proofs.Lessened.{ran_ticked, faults_up_to}
+use Rattle.td_turns.proofs.ticks.tick_through.Goals as goal
 
 pub loop-failed-preserved : goal.loop-failed-preserved
 loop-failed-preserved g c =

@@ -3,7 +3,7 @@ use Rattle.std.specs.Prelude.{◌≡◌, ◌<◌, ◌+◌, ℕ, not, min, List, 
 use Rattle.td_outside.specs.Causes.{count_end}
 use Rattle.td_outside.specs.Link.{Attempt, Told}
 use Rattle.teredo_node.specs.Step.{Step}
-use Rattle.teredo_node.specs.Turn.{Carries, Attempts, attempts_of}
+use Rattle.td_turns.specs.Turn.{Carries, Attempts, attempts_of}
 
 -- one tick: what was done, and whether each of its sends was sent
 pub record Ticked : Type 0 where

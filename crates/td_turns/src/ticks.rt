@@ -1,13 +1,13 @@
 //! What is due of an endpoint at a moment, done at a link.
 ghost use Rattle.std.specs.Prelude.{◌≡◌, ℕ, nat_lt, option_map, unwrap_or};
 ghost use Rattle.td_outside.specs.Moves.{Stays};
-ghost use Rattle.teredo_node.specs.Turn.{SendFaults};
-ghost use Rattle.teredo_node.specs.Ticks.{TicksIfDue, TicksThrough};
+ghost use Rattle.td_turns.specs.Turn.{SendFaults};
+ghost use Rattle.td_turns.specs.Ticks.{TicksIfDue, TicksThrough};
 
 use crate::turn::send_all;
-use crate::{Endpoint, Step};
 use td_base::Millis;
 use td_outside::Link;
+use teredo_node::{Endpoint, Step};
 
 // Whether something is due now.
 fn is_due<E: Endpoint>(e: &E, now: Millis) -> bool

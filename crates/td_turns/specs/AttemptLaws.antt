@@ -5,7 +5,7 @@ use Rattle.std.proofs.lemmas.List.Recursion.{is_count_by}
 use Rattle.std.specs.Int.Count.{ones-ones}
 use Rattle.td_outside.specs.Link.{Attempt, attempt}
 use Rattle.teredo_node.specs.Step.{Send}
-use Rattle.teredo_node.specs.Turn.{attempts_of, failed_bits}
+use Rattle.td_turns.specs.Turn.{attempts_of, failed_bits}
 
 ones_bit : (n bit : ℕ) → bit < 2 → count_ones (2 * n + bit) ≡ count_ones n + count_ones bit
 ones_bit n bit below =

@@ -1,8 +1,8 @@
 use Rattle.std.proofs.Common.{◌≡◌}
 use Rattle.td_outside.specs.Moves.{Stays}
-use Rattle.teredo_node.specs.Turn.{SendFaults}
-use Rattle.teredo_node.proofs.Lessened.{Ran}
-use Rattle.teredo_node.proofs.ticks.tick_through.Given as goal
+use Rattle.td_turns.specs.Turn.{SendFaults}
+use Rattle.td_turns.proofs.Lessened.{Ran}
+use Rattle.td_turns.proofs.ticks.tick_through.Given as goal
 
 abbrev pub invariant-loop-failed : goal.invariant-loop-failed
 invariant-loop-failed g l = record {

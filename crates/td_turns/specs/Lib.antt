@@ -1,0 +1,5 @@
+pub mod AttemptLaws
+pub mod CarryLaws
+pub mod Serve
+pub mod Ticks
+pub mod Turn
