@@ -13,7 +13,7 @@ use std::time::{Clock, Duration, Instant};
 use td_base::{DATAGRAM_MAX, Ep, Ip4, Side, TEREDO_PORT};
 
 // The most datagrams that a side gives while the other one, which had none when it was asked, isn't asked again.
-const LEAD_MAX: u8 = 4;
+const LEAD_MAX: u8 = 16;
 
 // After so many datagrams without a wait the sockets are watched no more until the next one: to be watched has its
 // price at each datagram that comes or goes.
@@ -84,7 +84,7 @@ impl Sides {
     }
 
     // Asks both sides without waiting. Two busy sides give a datagram each in turn. Where one has nothing the other
-    // leads, since each question is a call of the system's: it gives a few datagrams before the first is asked again.
+    // leads, since each question is a call of the system's: it gives some datagrams before the first is asked again.
     fn ask_both(&mut self, buf: &mut [u8; DATAGRAM_MAX]) -> io::Result<Arrival>
         ensures { IfOk result (λ arrival. FitsBuffer arrival) }
     {
