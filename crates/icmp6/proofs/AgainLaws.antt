@@ -1,11 +1,10 @@
 -- What is a message is read as it.
-use Rattle.std.proofs.Common.{◌≡◌, ◌≢◌, true, cond, not, eqb, ℕ, ◌^◌, ◌<◌, ◌≤◌, List, ◌++◌, length, drop, Result, Ok, refl, sym, ap, subst, ◌∙◌, arith}
+use Rattle.std.proofs.Common.{◌≡◌, cond, not, eqb, ℕ, ◌^◌, ◌<◌, ◌≤◌, List, ◌++◌, length, drop, Result, Ok, refl, sym, ap, subst, ◌∙◌, arith}
 use Rattle.std.specs.Prelude.{slice_index}
 use Rattle.std.proofs.lemmas.Bool.{le-ltb, eq-eqb, ne_eqb, cond-false}
 use Rattle.byteorder.specs.Endian.{big_bytes}
 use Rattle.byteorder.specs.Numbers.{big_number-reads_back}
 use Rattle.td_base.specs.Bytes.{number_at}
-use Rattle.td_base.specs.Reach.{is_link_local}
 use Rattle.td_base.specs.declared.ipv6.Ip6.{Ip6}
 use Rattle.icmp6.specs.declared.fault.IcmpFault.{IcmpFault}
 use Rattle.icmp6.specs.Checksum.{checksum_of}
@@ -50,20 +49,31 @@ solicit_again sum reserved hop options valid =
     past (has_len 8 x) _ _ (len_ok 8 x (omega arith)) (past (has_hop hop) _ _ (hop_ok hop valid.near) (past (has_code x) _ _ (code_ok x refl)
     (past (whole_options (length x) 8 x) _ _ (options_whole 8 options x (omega arith) refl valid.whole) refl)))
 
-advert_again : (src : Ip6) (sum hop own_hop flags life reach retrans : ℕ) (options : List ℕ) → life < 2 ^ 16 → reach < 2 ^ 32 → retrans < 2 ^ 32 → is_link_local src ≡ true → IsOfRouter hop options
-    → advert_at src hop (layout sum 0 (router_advert own_hop flags life reach retrans options)) ≡ Ok (router_advert own_hop flags life reach retrans options)
+-- an advertisement's fields
+record Advert : Type 0 where
+  pub own_hop : ℕ
+  pub flags : ℕ
+  pub life : ℕ
+  pub reach : ℕ
+  pub retrans : ℕ
+  pub options : List ℕ
+
+abbrev advert : Advert → Message
+advert a = router_advert a.own_hop a.flags a.life a.reach a.retrans a.options
+
+advert_again : (src : Ip6) (sum hop : ℕ) (a : Advert) → MessageFits (advert a) → IsValid src hop (advert a) → advert_at src hop (layout sum 0 (advert a)) ≡ Ok (advert a)
 unfolding advert_at
-advert_again src sum hop own_hop flags life reach retrans options life_fits reach_fits retrans_fits source valid =
-    let x : List ℕ = layout sum 0 (router_advert own_hop flags life reach retrans options) in
-    let life_is : number_at 6 2 x ≡ life = big_number-reads_back 2 life (big_bytes 4 reach ++ (big_bytes 4 retrans ++ options)) (omega (arith, life_fits)) in
-    let reach_is : number_at 8 4 x ≡ reach = big_number-reads_back 4 reach (big_bytes 4 retrans ++ options) (omega (arith, reach_fits)) in
-    let retrans_is : number_at 12 4 x ≡ retrans = big_number-reads_back 4 retrans options (omega (arith, retrans_fits)) in
-    let same : given (router_advert own_hop flags (number_at 6 2 x) (number_at 8 4 x) (number_at 12 4 x) options) ≡ given (router_advert own_hop flags life reach retrans options) =
-    ap (λ (n : ℕ). given (router_advert own_hop flags n (number_at 8 4 x) (number_at 12 4 x) options)) life_is
-    ∙ ap (λ (n : ℕ). given (router_advert own_hop flags life n (number_at 12 4 x) options)) reach_is
-    ∙ ap (λ (n : ℕ). given (router_advert own_hop flags life reach n options)) retrans_is in
+advert_again src sum hop a fits (source, valid) =
+    let x : List ℕ = layout sum 0 (advert a) in
+    let life_is : number_at 6 2 x ≡ a.life = big_number-reads_back 2 a.life (big_bytes 4 a.reach ++ (big_bytes 4 a.retrans ++ a.options)) (omega (arith, fits.2)) in
+    let reach_is : number_at 8 4 x ≡ a.reach = big_number-reads_back 4 a.reach (big_bytes 4 a.retrans ++ a.options) (omega (arith, fits.3)) in
+    let retrans_is : number_at 12 4 x ≡ a.retrans = big_number-reads_back 4 a.retrans a.options (omega (arith, fits.4)) in
+    let same : given (router_advert a.own_hop a.flags (number_at 6 2 x) (number_at 8 4 x) (number_at 12 4 x) a.options) ≡ given (advert a) =
+    ap (λ (n : ℕ). given (router_advert a.own_hop a.flags n (number_at 8 4 x) (number_at 12 4 x) a.options)) life_is
+    ∙ ap (λ (n : ℕ). given (router_advert a.own_hop a.flags a.life n (number_at 12 4 x) a.options)) reach_is
+    ∙ ap (λ (n : ℕ). given (router_advert a.own_hop a.flags a.life a.reach n a.options)) retrans_is in
     past (has_len 16 x) _ _ (len_ok 16 x (omega arith)) (past (has_hop hop) _ _ (hop_ok hop valid.near) (past (has_code x) _ _ (code_ok x refl)
-    (past (has_source src) _ _ (source_ok src source) (past (whole_options (length x) 16 x) _ _ (options_whole 16 options x (omega arith) refl valid.whole) same))))
+    (past (has_source src) _ _ (source_ok src source) (past (whole_options (length x) 16 x) _ _ (options_whole 16 a.options x (omega arith) refl valid.whole) same))))
 
 -- ---- the type
 
@@ -75,8 +85,8 @@ typed src hop x =
     (cond (eqb (slice_index x 0) 133) (solicit_at hop x)
     (cond (eqb (slice_index x 0) 134) (advert_at src hop x) (Ok (other (slice_index x 0) (slice_index x 1) (drop 4 x))))))
 
-other_again : (src : Ip6) (sum hop kind code : ℕ) (rest : List ℕ) → kind ≢ 128 → kind ≢ 129 → kind ≢ 133 → kind ≢ 134 → typed src hop (layout sum 0 (other kind code rest)) ≡ Ok (other kind code rest)
-other_again src sum hop kind code rest a b c d =
+other_again : (src : Ip6) (sum hop kind code : ℕ) (rest : List ℕ) → IsValid src hop (other kind code rest) → typed src hop (layout sum 0 (other kind code rest)) ≡ Ok (other kind code rest)
+other_again src sum hop kind code rest (a, b, c, d) =
     cond-false _ _ _ (ne_eqb kind 128 a) ∙ cond-false _ _ _ (ne_eqb kind 129 b) ∙ cond-false _ _ _ (ne_eqb kind 133 c) ∙ cond-false _ _ _ (ne_eqb kind 134 d)
 
 typed_again : (src : Ip6) (sum reserved hop : ℕ) (m : Message) → MessageFits m → IsValid src hop m → typed src hop (layout sum reserved m) ≡ Ok m
@@ -84,8 +94,8 @@ typed_again src sum reserved hop (echo_request id seq body) fits valid = echo_re
 typed_again src sum reserved hop (echo_reply id seq body) fits valid = echo_reply_again sum id seq body fits.0 fits.1
 typed_again src sum reserved hop (router_solicit options) fits valid = solicit_again sum reserved hop options valid
 typed_again src sum reserved hop (router_advert own_hop flags life reach retrans options) fits valid =
-    advert_again src sum hop own_hop flags life reach retrans options fits.2 fits.3 fits.4 valid.0 valid.1
-typed_again src sum reserved hop (other kind code rest) fits valid = other_again src sum hop kind code rest valid.0 valid.1 valid.2 valid.3
+    advert_again src sum hop (record { own_hop = own_hop; flags = flags; life = life; reach = reach; retrans = retrans; options = options }) fits valid
+typed_again src sum reserved hop (other kind code rest) fits valid = other_again src sum hop kind code rest valid
 
 -- ---- the head
 

@@ -109,29 +109,36 @@ options_err (suc n) start x e h =
 abbrev given : Message → Result Message IcmpFault
 given m = Ok m
 
-short_fault : (src dst : Ip6) (hop least : ℕ) (x : List ℕ) (e : IcmpFault) → IsSummed src dst x → least_len (slice_index x 0) ≡ least → has_len least x ≡ Err e → IsFirstMessageFault src dst hop x e
-short_fault src dst hop least x e summed least_is h =
-    let a = len_err least x e h in
-    let short : length x < least_len (slice_index x 0) = omega (arith, a.0, least_is) in
-    subst (IsFirstMessageFault src dst hop x) a.1 (refl, inr (summed, short))
+-- the checksum is right, and the type is known: a router's or not, and of so many bytes at least
+record IsOfType (src dst : Ip6) (router : Bool) (x : List ℕ) : Type 0 where
+  pub summed : IsSummed src dst x
+  pub least : ℕ
+  pub least_is : least_len (slice_index x 0) ≡ least
+  pub router_is : is_router (slice_index x 0) ≡ router
+  pub known : is_known (slice_index x 0) ≡ true
 
-has_fields : (src dst : Ip6) (least : ℕ) (x : List ℕ) (u : Unit {0}) → IsSummed src dst x → least_len (slice_index x 0) ≡ least → has_len least x ≡ Ok u → HasFields src dst x
-has_fields src dst least x u summed least_is h = record { summed = summed; long = omega (arith, ok_len least x u h, least_is) }
+short_fault : (src dst : Ip6) (hop : ℕ) (router : Bool) (x : List ℕ) (e : IcmpFault) (t : IsOfType src dst router x) → has_len t.least x ≡ Err e → IsFirstMessageFault src dst hop x e
+short_fault src dst hop router x e t h =
+    let a = len_err t.least x e h in
+    let short : length x < least_len (slice_index x 0) = omega (arith, a.0, t.least_is) in
+    subst (IsFirstMessageFault src dst hop x) a.1 (refl, inr (t.summed, short))
+
+has_fields : (src dst : Ip6) (router : Bool) (x : List ℕ) (u : Unit {0}) (t : IsOfType src dst router x) → has_len t.least x ≡ Ok u → HasFields src dst x
+has_fields src dst router x u t h = record { summed = t.summed; long = omega (arith, ok_len t.least x u h, t.least_is) }
 
 code_fault : (src dst : Ip6) (hop : ℕ) (x : List ℕ) (e : IcmpFault) → IsNear src dst hop x → is_known (slice_index x 0) ≡ true → has_code x ≡ Err e → IsFirstMessageFault src dst hop x e
 code_fault src dst hop x e near known h =
     let a = code_err x e h in
     subst (IsFirstMessageFault src dst hop x) a.1 (near, known, refl, a.0)
 
-echo_fault : (src dst : Ip6) (hop : ℕ) (m : Message) (x : List ℕ) (e : IcmpFault) → IsSummed src dst x → least_len (slice_index x 0) ≡ 8 → is_router (slice_index x 0) ≡ false → is_known (slice_index x 0) ≡ true
-    → (has_len 8 x >>= λ _. has_code x >>= λ _. given m) ≡ Err e → IsFirstMessageFault src dst hop x e
-echo_fault src dst hop m x e summed least_is no_router known h =
-    elim (bind_err (has_len 8 x) (λ _. has_code x >>= λ _. given m) e h) [
-      | inl short ↦ short_fault src dst hop 8 x e summed least_is short
+echo_fault : (src dst : Ip6) (hop : ℕ) (m : Message) (x : List ℕ) (e : IcmpFault) (t : IsOfType src dst false x) → (has_len t.least x >>= λ _. has_code x >>= λ _. given m) ≡ Err e → IsFirstMessageFault src dst hop x e
+echo_fault src dst hop m x e t h =
+    elim (bind_err (has_len t.least x) (λ _. has_code x >>= λ _. given m) e h) [
+      | inl short ↦ short_fault src dst hop false x e t short
       | inr a ↦
-          let near : IsNear src dst hop x = record { fields = has_fields src dst 8 x a.0 summed least_is a.1; near = λ router. absurd (not_both _ no_router router) } in
+          let near : IsNear src dst hop x = record { fields = has_fields src dst false x a.0 t a.1; near = λ router. absurd (not_both _ t.router_is router) } in
           elim (bind_err (has_code x) (λ _. given m) e a.2) [
-            | inl code ↦ code_fault src dst hop x e near known code
+            | inl code ↦ code_fault src dst hop x e near t.known code
             | inr b ↦ absurd (no_err m e b.2)
           ]
     ]
@@ -141,21 +148,21 @@ echo_fault src dst hop m x e summed least_is no_router known h =
     not_both false e h = absurd cc
 
 -- a router's message up to its code
-router_fault : (src dst : Ip6) (hop least : ℕ) (rest : Result Message IcmpFault) (x : List ℕ) (e : IcmpFault) → IsSummed src dst x → least_len (slice_index x 0) ≡ least → is_router (slice_index x 0) ≡ true → is_known (slice_index x 0) ≡ true
-    → (has_len least x >>= λ _. has_hop hop >>= λ _. has_code x >>= λ _. rest) ≡ Err e → IsFirstMessageFault src dst hop x e ⊎ (IsNear src dst hop x × (slice_index x 1 ≡ 0) × (rest ≡ Err e))
-router_fault src dst hop least rest x e summed least_is router known h =
-    elim (bind_err (has_len least x) (λ _. has_hop hop >>= λ _. has_code x >>= λ _. rest) e h) [
-      | inl short ↦ inl (short_fault src dst hop least x e summed least_is short)
+router_fault : (src dst : Ip6) (hop : ℕ) (rest : Result Message IcmpFault) (x : List ℕ) (e : IcmpFault) (t : IsOfType src dst true x)
+    → (has_len t.least x >>= λ _. has_hop hop >>= λ _. has_code x >>= λ _. rest) ≡ Err e → IsFirstMessageFault src dst hop x e ⊎ (IsNear src dst hop x × (slice_index x 1 ≡ 0) × (rest ≡ Err e))
+router_fault src dst hop rest x e t h =
+    elim (bind_err (has_len t.least x) (λ _. has_hop hop >>= λ _. has_code x >>= λ _. rest) e h) [
+      | inl short ↦ inl (short_fault src dst hop true x e t short)
       | inr a ↦
-          let fields = has_fields src dst least x a.0 summed least_is a.1 in
+          let fields = has_fields src dst true x a.0 t a.1 in
           elim (bind_err (has_hop hop) (λ _. has_code x >>= λ _. rest) e a.2) [
             | inl far ↦
                 let b = hop_err hop e far in
-                inl (subst (IsFirstMessageFault src dst hop x) b.1 (fields, router, refl, b.0))
+                inl (subst (IsFirstMessageFault src dst hop x) b.1 (fields, t.router_is, refl, b.0))
             | inr b ↦
                 let near : IsNear src dst hop x = record { fields = fields; near = λ _. ok_hop hop b.0 b.1 } in
                 elim (bind_err (has_code x) (λ _. rest) e b.2) [
-                  | inl code ↦ inl (code_fault src dst hop x e near known code)
+                  | inl code ↦ inl (code_fault src dst hop x e near t.known code)
                   | inr c ↦ inr (near, ok_code x c.0 c.1, c.2)
                 ]
           ]
@@ -176,7 +183,7 @@ unfolding solicit_at
 solicit_fault src dst hop x e summed kind h =
     let m : Message = router_solicit (drop 8 x) in
     let rest : Result Message IcmpFault = whole_options (length x) 8 x >>= λ _. given m in
-    elim (router_fault src dst hop 8 rest x e summed (ap least_len kind) (ap is_router kind) (ap is_known kind) h) [
+    elim (router_fault src dst hop rest x e (record { summed = summed; least = 8; least_is = ap least_len kind; router_is = ap is_router kind; known = ap is_known kind }) h) [
       | inl first ↦ first
       | inr a ↦ elim (bind_err (whole_options (length x) 8 x) (λ _. given m) e a.2) [
         | inl cut ↦ option_fault 8 src dst hop x e (record { near = a.0; code = a.1; kind = inl (kind, refl) }) (options_err (length x) 8 x e cut)
@@ -189,7 +196,7 @@ unfolding advert_at
 advert_fault src dst hop x e summed kind h =
     let m : Message = router_advert (slice_index x 4) (slice_index x 5) (number_at 6 2 x) (number_at 8 4 x) (number_at 12 4 x) (drop 16 x) in
     let options : Result Message IcmpFault = whole_options (length x) 16 x >>= λ _. given m in
-    elim (router_fault src dst hop 16 (has_source src >>= λ _. options) x e summed (ap least_len kind) (ap is_router kind) (ap is_known kind) h) [
+    elim (router_fault src dst hop (has_source src >>= λ _. options) x e (record { summed = summed; least = 16; least_is = ap least_len kind; router_is = ap is_router kind; known = ap is_known kind }) h) [
       | inl first ↦ first
       | inr a ↦ elim (bind_err (has_source src) (λ _. options) e a.2) [
         | inl source ↦
@@ -204,11 +211,11 @@ advert_fault src dst hop x e summed kind h =
 
 echo_request_fault : (src dst : Ip6) (hop : ℕ) (x : List ℕ) (e : IcmpFault) → IsSummed src dst x → slice_index x 0 ≡ 128 → echo_request_at x ≡ Err e → IsFirstMessageFault src dst hop x e
 unfolding echo_request_at
-echo_request_fault src dst hop x e summed kind h = echo_fault src dst hop (echo_request (number_at 4 2 x) (number_at 6 2 x) (drop 8 x)) x e summed (ap least_len kind) (ap is_router kind) (ap is_known kind) h
+echo_request_fault src dst hop x e summed kind h = echo_fault src dst hop (echo_request (number_at 4 2 x) (number_at 6 2 x) (drop 8 x)) x e (record { summed = summed; least = 8; least_is = ap least_len kind; router_is = ap is_router kind; known = ap is_known kind }) h
 
 echo_reply_fault : (src dst : Ip6) (hop : ℕ) (x : List ℕ) (e : IcmpFault) → IsSummed src dst x → slice_index x 0 ≡ 129 → echo_reply_at x ≡ Err e → IsFirstMessageFault src dst hop x e
 unfolding echo_reply_at
-echo_reply_fault src dst hop x e summed kind h = echo_fault src dst hop (echo_reply (number_at 4 2 x) (number_at 6 2 x) (drop 8 x)) x e summed (ap least_len kind) (ap is_router kind) (ap is_known kind) h
+echo_reply_fault src dst hop x e summed kind h = echo_fault src dst hop (echo_reply (number_at 4 2 x) (number_at 6 2 x) (drop 8 x)) x e (record { summed = summed; least = 8; least_is = ap least_len kind; router_is = ap is_router kind; known = ap is_known kind }) h
 
 -- ---- the message
 

@@ -1,5 +1,5 @@
 -- What is read is a message.
-use Rattle.std.proofs.Common.{◌≡◌, ◌≢◌, cond, not, ltb, eqb, ℕ, ◌≤◌, List, [], ◌∷◌, ◌++◌, length, drop, inl, inr, Result, Ok, Err, refl, ap, subst, ◌∙◌, arith}
+use Rattle.std.proofs.Common.{◌≡◌, cond, not, ltb, eqb, ℕ, ◌≤◌, List, [], ◌∷◌, ◌++◌, length, drop, inl, inr, Result, Ok, Err, refl, ap, subst, ◌∙◌, arith}
 use Rattle.std.specs.Prelude.{slice_index, IfOk}
 use Rattle.std.proofs.lemmas.Bool.{ltb-false, eqb-true, eqb-false, not-false}
 use Rattle.std.proofs.lemmas.List.{drop_more}
@@ -15,18 +15,28 @@ use Rattle.icmp6.specs.Checksum.{checksum_of}
 use Rattle.icmp6.specs.Options.{AreOptions, whole_options}
 use Rattle.icmp6.specs.Message.{Message, options_in, echo_request, echo_reply, router_solicit, router_advert, other, has_len, has_hop, has_code, has_source, echo_request_at, echo_reply_at, solicit_at, advert_at, message_at}
 use Rattle.icmp6.specs.Layout.{layout}
-use Rattle.icmp6.specs.Grammar.{MessageBytes}
+use Rattle.icmp6.specs.Grammar.{IsValid, MessageBytes}
 use Rattle.icmp6.proofs.Steps.{ok_is, ok_len, ok_hop, ok_code, ok_source}
 use Rattle.icmp6.proofs.OptionLaws.{none_left, options_found}
 use Rattle.icmp6.proofs.AgainLaws.{typed}
 
--- type, code, checksum and the rest
-head_is : (kind code sum : ℕ) (rest x : List ℕ) → IsBytes x → 4 ≤ length x → slice_index x 0 ≡ kind → slice_index x 1 ≡ code → number_at 2 2 x ≡ sum → drop 4 x ≡ rest → x ≡ kind ∷ code ∷ (big_bytes 2 sum ++ rest)
-head_is kind code sum rest x fits long kind_is code_is sum_is rest_is =
-    let type : x ≡ slice_index x 0 ∷ drop 1 x = drop_more x 0 0 (omega arith) in
-    let second : drop 1 x ≡ slice_index x 1 ∷ drop 2 x = drop_more x 1 0 (omega arith) in
-    let third : drop 2 x ≡ big_bytes 2 sum ++ rest = cut_2 2 x fits (omega arith) ∙ ap (λ (n : ℕ). big_bytes 2 n ++ drop 4 x) sum_is ∙ ap (λ (t : List ℕ). big_bytes 2 sum ++ t) rest_is in
+-- what is known of the head
+record HasHead (src dst : Ip6) (x : List ℕ) : Type 0 where
+  bytes : IsBytes x
+  long : 4 ≤ length x
+  sum : number_at 2 2 x ≡ checksum_of src dst x
+
+-- type, code, checksum and what follows
+head_is : (src dst : Ip6) (kind code : ℕ) (x : List ℕ) → HasHead src dst x → slice_index x 0 ≡ kind → slice_index x 1 ≡ code → x ≡ kind ∷ code ∷ (big_bytes 2 (checksum_of src dst x) ++ drop 4 x)
+head_is src dst kind code x head kind_is code_is =
+    let type : x ≡ slice_index x 0 ∷ drop 1 x = drop_more x 0 0 (omega (arith, head.long)) in
+    let second : drop 1 x ≡ slice_index x 1 ∷ drop 2 x = drop_more x 1 0 (omega (arith, head.long)) in
+    let third : drop 2 x ≡ big_bytes 2 (checksum_of src dst x) ++ drop 4 x = cut_2 2 x head.bytes (omega (arith, head.long)) ∙ ap (λ (n : ℕ). big_bytes 2 n ++ drop 4 x) head.sum in
     type ∙ ap (λ (n : ℕ). n ∷ drop 1 x) kind_is ∙ ap (λ (t : List ℕ). kind ∷ t) (second ∙ ap (λ (n : ℕ). n ∷ drop 2 x) code_is ∙ ap (λ (t : List ℕ). code ∷ t) third)
+
+-- and what follows it
+abbrev with_head : ℕ → ℕ → ℕ → List ℕ → List ℕ
+with_head kind code sum rest = kind ∷ code ∷ (big_bytes 2 sum ++ rest)
 
 echo_rest : (x : List ℕ) → IsBytes x → 8 ≤ length x → drop 4 x ≡ big_bytes 2 (number_at 4 2 x) ++ (big_bytes 2 (number_at 6 2 x) ++ drop 8 x)
 echo_rest x fits long = cut_2 4 x fits (omega arith) ∙ ap (λ (t : List ℕ). big_bytes 2 (number_at 4 2 x) ++ t) (cut_2 6 x fits (omega arith))
@@ -37,12 +47,6 @@ advert_rest x fits long =
     let times : drop 8 x ≡ big_bytes 4 (number_at 8 4 x) ++ (big_bytes 4 (number_at 12 4 x) ++ drop 16 x) = cut_4 8 x fits (omega arith) ∙ ap (λ (t : List ℕ). big_bytes 4 (number_at 8 4 x) ++ t) (cut_4 12 x fits (omega arith)) in
     let life : drop 6 x ≡ big_bytes 2 (number_at 6 2 x) ++ (big_bytes 4 (number_at 8 4 x) ++ (big_bytes 4 (number_at 12 4 x) ++ drop 16 x)) = cut_2 6 x fits (omega arith) ∙ ap (λ (t : List ℕ). big_bytes 2 (number_at 6 2 x) ++ t) times in
     drop_more x 4 0 (omega arith) ∙ ap (λ (t : List ℕ). slice_index x 4 ∷ t) (drop_more x 5 0 (omega arith) ∙ ap (λ (t : List ℕ). slice_index x 5 ∷ t) life)
-
--- what is known of the head
-record HasHead (src dst : Ip6) (x : List ℕ) : Type 0 where
-  bytes : IsBytes x
-  long : 4 ≤ length x
-  sum : number_at 2 2 x ≡ checksum_of src dst x
 
 abbrev given : Message → Result Message IcmpFault
 given m = Ok m
@@ -56,7 +60,7 @@ echo_request_found src dst hop m x head kind e =
     let a = bind_ok (has_len 8 x) (λ _. has_code x >>= λ _. given found) m e in
     let b = bind_ok (has_code x) (λ _. given found) m a.2 in
     let long = ok_len 8 x a.0 a.1 in
-    let all : x ≡ layout (checksum_of src dst x) 0 found = head_is 128 0 _ _ x head.bytes head.long kind (ok_code x b.0 b.1) head.sum (echo_rest x head.bytes long) in
+    let all : x ≡ layout (checksum_of src dst x) 0 found = head_is src dst 128 0 x head kind (ok_code x b.0 b.1) ∙ ap (with_head 128 0 (checksum_of src dst x)) (echo_rest x head.bytes long) in
     subst (λ (v : Message). MessageBytes src dst hop v x) (ok_is found m b.2)
     (record { fits = (two_fits 4 x head.bytes, two_fits 6 x head.bytes); valid = tt; reserved = 0; reserved_fits = omega arith; bytes = all })
 
@@ -67,7 +71,7 @@ echo_reply_found src dst hop m x head kind e =
     let a = bind_ok (has_len 8 x) (λ _. has_code x >>= λ _. given found) m e in
     let b = bind_ok (has_code x) (λ _. given found) m a.2 in
     let long = ok_len 8 x a.0 a.1 in
-    let all : x ≡ layout (checksum_of src dst x) 0 found = head_is 129 0 _ _ x head.bytes head.long kind (ok_code x b.0 b.1) head.sum (echo_rest x head.bytes long) in
+    let all : x ≡ layout (checksum_of src dst x) 0 found = head_is src dst 129 0 x head kind (ok_code x b.0 b.1) ∙ ap (with_head 129 0 (checksum_of src dst x)) (echo_rest x head.bytes long) in
     subst (λ (v : Message). MessageBytes src dst hop v x) (ok_is found m b.2)
     (record { fits = (two_fits 4 x head.bytes, two_fits 6 x head.bytes); valid = tt; reserved = 0; reserved_fits = omega arith; bytes = all })
 
@@ -80,7 +84,7 @@ solicit_found src dst hop m x head kind e =
     let c = bind_ok (has_code x) (λ _. whole_options (length x) 8 x >>= λ _. given found) m b.2 in
     let d = bind_ok (whole_options (length x) 8 x) (λ _. given found) m c.2 in
     let long = ok_len 8 x a.0 a.1 in
-    let all : x ≡ layout (checksum_of src dst x) (number_at 4 4 x) found = head_is 133 0 _ _ x head.bytes head.long kind (ok_code x c.0 c.1) head.sum (cut_4 4 x head.bytes (omega arith)) in
+    let all : x ≡ layout (checksum_of src dst x) (number_at 4 4 x) found = head_is src dst 133 0 x head kind (ok_code x c.0 c.1) ∙ ap (with_head 133 0 (checksum_of src dst x)) (cut_4 4 x head.bytes (omega arith)) in
     subst (λ (v : Message). MessageBytes src dst hop v x) (ok_is found m d.2)
     (record { fits = tt; valid = record { near = ok_hop hop b.0 b.1; whole = options_found (length x) 8 d.0 x (omega arith) d.1 }; reserved = number_at 4 4 x; reserved_fits = four_fits 4 x head.bytes; bytes = all })
 
@@ -94,7 +98,7 @@ advert_found src dst hop m x head kind e =
     let d = bind_ok (has_source src) (λ _. whole_options (length x) 16 x >>= λ _. given found) m c.2 in
     let o = bind_ok (whole_options (length x) 16 x) (λ _. given found) m d.2 in
     let long = ok_len 16 x a.0 a.1 in
-    let all : x ≡ layout (checksum_of src dst x) 0 found = head_is 134 0 _ _ x head.bytes head.long kind (ok_code x c.0 c.1) head.sum (advert_rest x head.bytes long) in
+    let all : x ≡ layout (checksum_of src dst x) 0 found = head_is src dst 134 0 x head kind (ok_code x c.0 c.1) ∙ ap (with_head 134 0 (checksum_of src dst x)) (advert_rest x head.bytes long) in
     let near : hop ≡ 255 = ok_hop hop b.0 b.1 in
     subst (λ (v : Message). MessageBytes src dst hop v x) (ok_is found m o.2)
     (record {
@@ -105,13 +109,12 @@ advert_found src dst hop m x head kind e =
       bytes = all;
     })
 
-other_found : (src dst : Ip6) (hop : ℕ) (m : Message) (x : List ℕ) → HasHead src dst x → slice_index x 0 ≢ 128 → slice_index x 0 ≢ 129 → slice_index x 0 ≢ 133 → slice_index x 0 ≢ 134
-    → given (other (slice_index x 0) (slice_index x 1) (drop 4 x)) ≡ Ok m → MessageBytes src dst hop m x
-other_found src dst hop m x head a b c d e =
+other_found : (src dst : Ip6) (hop : ℕ) (m : Message) (x : List ℕ) → HasHead src dst x → IsValid src hop (other (slice_index x 0) (slice_index x 1) (drop 4 x)) → given (other (slice_index x 0) (slice_index x 1) (drop 4 x)) ≡ Ok m → MessageBytes src dst hop m x
+other_found src dst hop m x head valid e =
     let found : Message = other (slice_index x 0) (slice_index x 1) (drop 4 x) in
-    let all : x ≡ layout (checksum_of src dst x) 0 found = head_is (slice_index x 0) (slice_index x 1) _ _ x head.bytes head.long refl refl head.sum refl in
+    let all : x ≡ layout (checksum_of src dst x) 0 found = head_is src dst (slice_index x 0) (slice_index x 1) x head refl refl in
     subst (λ (v : Message). MessageBytes src dst hop v x) (ok_is found m e)
-    (record { fits = (head.bytes 0, head.bytes 1); valid = (a, b, c, d); reserved = 0; reserved_fits = omega arith; bytes = all })
+    (record { fits = (head.bytes 0, head.bytes 1); valid = valid; reserved = 0; reserved_fits = omega arith; bytes = all })
 
 -- ---- the message
 
@@ -130,7 +133,7 @@ typed_found src dst hop m x head e =
           | inl is ↦ solicit_found src dst hop m x head (eqb-true _ _ is.0) is.1
           | inr c ↦ elim (chosen (eqb kind 134) (advert_at src hop x) last (Ok m) c.1) [
             | inl is ↦ advert_found src dst hop m x head (eqb-true _ _ is.0) is.1
-            | inr d ↦ other_found src dst hop m x head (eqb-false _ _ a.0) (eqb-false _ _ b.0) (eqb-false _ _ c.0) (eqb-false _ _ d.0) d.1
+            | inr d ↦ other_found src dst hop m x head (eqb-false _ _ a.0, eqb-false _ _ b.0, eqb-false _ _ c.0, eqb-false _ _ d.0) d.1
           ]
         ]
       ]

@@ -24,21 +24,31 @@ length-plain (router_solicit options) = omega arith
 length-plain (router_advert own_hop flags life reach retrans options) = omega arith
 length-plain (other kind code rest) = omega arith
 
--- the checksum of what was put, put into it
-pub sum_is_put : (src dst : Ip6) (m : Message) (len sum : ℕ) (old plain new : List ℕ) → len ≡ message_len m → plain ≡ layout 0 0 m ++ drop len old → sum ≡ checksum_of src dst (take len plain) → IsPut 2 (big_bytes 2 sum) plain new
-    → new ≡ message_bytes src dst m ++ drop len old
+-- the message is put to the front of what a buffer held with checksum 0, and the checksum of that into it
+pub record PutsSum (src dst : Ip6) (m : Message) (old new : List ℕ) : Type 0 where
+  pub len : ℕ
+  pub len_is : len ≡ message_len m
+  pub plain : List ℕ
+  pub plain_is : plain ≡ layout 0 0 m ++ drop len old
+  pub sum : ℕ
+  pub sum_is : sum ≡ checksum_of src dst (take len plain)
+  pub put : IsPut 2 (big_bytes 2 sum) plain new
+
+-- so the message stands there
+pub sum_is_put : (src dst : Ip6) (m : Message) (old new : List ℕ) (p : PutsSum src dst m old new) → new ≡ message_bytes src dst m ++ drop p.len old
 unfolding message_bytes
-sum_is_put src dst m len sum old plain new len_is plain_is sum_is put =
-    let front : take len plain ≡ layout 0 0 m = ap (take len) plain_is ∙ take_at (layout 0 0 m) (drop len old) len (length-plain m ∙ sym len_is) in
-    put ∙ ap (λ (t : List ℕ). take 2 t ++ big_bytes 2 sum ++ drop 4 t) plain_is ∙ sum_put sum m (drop len old)
-    ∙ ap (λ (n : ℕ). layout n 0 m ++ drop len old) (sum_is ∙ ap (checksum_of src dst) front)
+sum_is_put src dst m old new p =
+    let front : take p.len p.plain ≡ layout 0 0 m = ap (take p.len) p.plain_is ∙ take_at (layout 0 0 m) (drop p.len old) p.len (length-plain m ∙ sym p.len_is) in
+    p.put ∙ ap (λ (t : List ℕ). take 2 t ++ big_bytes 2 p.sum ++ drop 4 t) p.plain_is ∙ sum_put p.sum m (drop p.len old)
+    ∙ ap (λ (n : ℕ). layout n 0 m ++ drop p.len old) (p.sum_is ∙ ap (checksum_of src dst) front)
+
+pub front_is : (src dst : Ip6) (m : Message) (len : ℕ) (rest new : List ℕ) → len ≡ message_len m → new ≡ message_bytes src dst m ++ rest → take len new ≡ message_bytes src dst m
+front_is src dst m len rest new len_is is = ap (take len) is ∙ take_at (message_bytes src dst m) rest len (length-message_bytes src dst m ∙ sym len_is)
 
 -- what was written is the message's spelling
-pub front_spelled : (src dst : Ip6) (m : Message) (len : ℕ) (rest new : List ℕ) → len ≡ message_len m → MessageFits m → new ≡ message_bytes src dst m ++ rest → (hop : ℕ) → IsValid src hop m → MessageBytes src dst hop m (take len new)
-front_spelled src dst m len rest new len_is fits is hop valid =
-    let front : take len new ≡ message_bytes src dst m = ap (take len) is ∙ take_at (message_bytes src dst m) rest len (length-message_bytes src dst m ∙ sym len_is) in
-    subst (λ (x : List ℕ). MessageBytes src dst hop m x) (sym front) (written_is src dst hop m fits valid)
+pub front_spelled : (src dst : Ip6) (m : Message) (x : List ℕ) → MessageFits m → x ≡ message_bytes src dst m → (hop : ℕ) → IsValid src hop m → MessageBytes src dst hop m x
+front_spelled src dst m x fits is hop valid = subst (λ (t : List ℕ). MessageBytes src dst hop m t) (sym is) (written_is src dst hop m fits valid)
 
 -- so it reads back
-pub front_again : (src dst : Ip6) (m : Message) (len : ℕ) (rest new : List ℕ) → len ≡ message_len m → MessageFits m → new ≡ message_bytes src dst m ++ rest → (hop : ℕ) → IsValid src hop m → message_at src dst hop (take len new) ≡ Ok m
-front_again src dst m len rest new len_is fits is hop valid = read_again src dst hop m (take len new) (front_spelled src dst m len rest new len_is fits is hop valid)
+pub front_again : (src dst : Ip6) (m : Message) (x : List ℕ) → MessageFits m → x ≡ message_bytes src dst m → (hop : ℕ) → IsValid src hop m → message_at src dst hop x ≡ Ok m
+front_again src dst m x fits is hop valid = read_again src dst hop m x (front_spelled src dst m x fits is hop valid)

@@ -1,6 +1,5 @@
 -- The port that a key is given, by what a search over the outward datagrams finds; and that an entry with it may join them.
 use Rattle.std.proofs.Common.{◌≡◌, ℕ, ◌+◌, ◌-◌, ◌<◌, ◌≤◌, true, ◌==◌, List, ◌∷◌, length, map, find, Option, Some, None, Ok, refl, sym, ap, ◌∙◌, subst, arith}
-use Rattle.std.specs.Prelude.{IfSome, IfNone}
 use Rattle.std.specs.Option.{ok_or}
 use Rattle.std.proofs.lemmas.Map.Steps.{le-length_from_below}
 use Rattle.td_base.specs.declared.endpoint.Ep.{Ep}
@@ -44,18 +43,22 @@ joins_live kind inside dst outs p s h e i d port = from (find (has_key kind insi
 
 -- IT HAS NONE
 
-pub joins_free : (kind : NatKind) (inside dst : Ep) (outs : List Outward) (p : ℕ) → Sound kind outs → port_in (find (has_key kind inside dst) outs) ≡ None → p < FIRST_PORT + MAPPINGS_MAX → IsLowestFree outs p → Joins kind inside dst outs p
-joins_free kind inside dst outs p s h l f e i d port =
+-- what a search for a free port finds: the lowest one, or none where each is held
+abbrev pub FindsFree : List Outward → Option ℕ → Type 0
+FindsFree outs None = (q : ℕ) → FIRST_PORT ≤ q → q < FIRST_PORT + MAPPINGS_MAX → is_used outs q ≡ true
+FindsFree outs (Some p) = (p < FIRST_PORT + MAPPINGS_MAX) × IsLowestFree outs p
+
+pub joins_free : (kind : NatKind) (inside dst : Ep) (outs : List Outward) (p : ℕ) → Sound kind outs → port_in (find (has_key kind inside dst) outs) ≡ None → FindsFree outs (Some p) → Joins kind inside dst outs p
+joins_free kind inside dst outs p s h f e i d port =
     let none : find (has_key kind inside dst) outs ≡ None = none_in _ h in
     let there : find (has_key kind e.inside e.dst) outs ≡ None = rw (i, d) none in
-    record { agree = (agree_new kind e outs there (ap (is_used outs) port ∙ f.free), s.agree); in_range = ((omega (arith, f.from_first), omega arith), s.in_range) }
+    record { agree = (agree_new kind e outs there (ap (is_used outs) port ∙ f.1.free), s.agree); in_range = ((omega (arith, f.1.from_first), omega (arith, f.0)), s.in_range) }
 
--- a search finds the lowest free port, or each port is held
-pub port_for-free : (kind : NatKind) (inside dst : Ep) (outs : List Outward) → Sound kind outs → port_in (find (has_key kind inside dst) outs) ≡ None → (r : Option ℕ) → IfNone r ((q : ℕ) → FIRST_PORT ≤ q → q < FIRST_PORT + MAPPINGS_MAX → is_used outs q ≡ true) → IfSome r (λ p. p < FIRST_PORT + MAPPINGS_MAX) → IfSome r (IsLowestFree outs) → ok_or r Full ≡ port_for (live_port kind inside dst (latest kind outs)) (latest kind outs)
-port_for-free kind inside dst outs s h None all within lowest =
+pub port_for-free : (kind : NatKind) (inside dst : Ep) (outs : List Outward) → Sound kind outs → port_in (find (has_key kind inside dst) outs) ≡ None → (r : Option ℕ) → FindsFree outs r → ok_or r Full ≡ port_for (live_port kind inside dst (latest kind outs)) (latest kind outs)
+port_for-free kind inside dst outs s h None all =
     let many : length (latest kind outs) ≡ MAPPINGS_MAX = count_full kind outs s all in
     sym (ap (λ held. port_for held (latest kind outs)) (live_is kind inside dst outs ∙ h) ∙ port_for-full (latest kind outs) (omega arith))
-port_for-free kind inside dst outs s h (Some p) all within lowest =
+port_for-free kind inside dst outs s h (Some p) (within, lowest) =
     let live : IsLowestFree (latest kind outs) p = record { from_first = lowest.from_first; free = used_latest kind outs p s.agree ∙ lowest.free; lowest = λ q a b. used_latest kind outs q s.agree ∙ lowest.lowest q a b } in
     sym (ap (λ held. port_for held (latest kind outs)) (live_is kind inside dst outs ∙ h) ∙ port_for-given None (latest kind outs) p (count_free kind outs p s lowest.from_first within lowest.free, live))
 
@@ -75,7 +78,7 @@ joins_given kind inside dst outs p s g = by_held (live_port kind inside dst (lat
     by_held (Some port) h g = joins_live kind inside dst outs p s (sym (live_is kind inside dst outs) ∙ h ∙ ap (λ n. Some n) (sym g))
     by_held None h g =
         let lowest : IsLowestFree outs p = record { from_first = g.1.from_first; free = sym (used_latest kind outs p s.agree) ∙ g.1.free; lowest = λ q a b. sym (used_latest kind outs q s.agree) ∙ g.1.lowest q a b } in
-        joins_free kind inside dst outs p s (sym (live_is kind inside dst outs) ∙ h) (below_last _ p g.0 g.1) lowest
+        joins_free kind inside dst outs p s (sym (live_is kind inside dst outs) ∙ h) (below_last _ p g.0 g.1, lowest)
 
 -- INWARD
 

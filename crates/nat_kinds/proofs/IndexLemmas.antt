@@ -7,10 +7,12 @@ use Rattle.td_base.specs.declared.endpoint.Ep.{Ep}
 use Rattle.nat_kinds.specs.declared.kind.NatKind.{NatKind}
 use Rattle.nat_kinds.specs.declared.kind.NatKind.TheVariants.{Cone, Restricted, Port, Symmetric}
 use Rattle.nat_kinds.specs.declared.outgoing.Outward.{Outward}
+use Rattle.nat_kinds.specs.declared.settings.NatSettings.{NatSettings}
 use Rattle.nat_kinds.specs.declared.way.Way.{Way}
+use Rattle.nat_kinds.specs.History.{is_young}
 use Rattle.nat_kinds.specs.Mappings.{has_key}
 use Rattle.nat_kinds.specs.Way.{same_way, same_way-true, same_way-self, same_parts, key_way}
-use Rattle.nat_kinds.specs.Places.{place_at, indexed, way_of, unless_key, unless_at, unless_way, unless_of, unless_in, IsIndexed, IsSetAt, IsPutIn}
+use Rattle.nat_kinds.specs.Places.{place_at, indexed, way_of, unless_key, unless_at, unless_way, unless_of, unless_in, IsIndexed, IsSetAt, HasNoLive}
 
 -- KEYS
 
@@ -32,10 +34,13 @@ inside_of_way Cone x = refl
 inside_of_way Restricted x = refl
 inside_of_way Port x = refl
 
--- a table f and an index g go together
-pub record Goes (kind : NatKind) (f : ℕ → Option Outward) (g : Way → Option ℕ) : Type 0 where
-  pub there : (port : ℕ) (e : Outward) → f port ≡ Some e → g (way_of kind e) ≡ Some port
-  pub back : (key : Way) (port : ℕ) → g key ≡ Some port → (e : Outward) × (f port ≡ Some e) × (way_of kind e ≡ key)
+-- a table and its index
+pub record Table : Type 0 where
+  pub places : List (Option Outward)
+  pub index : List (Way × ℕ)
+
+abbrev pub Goes : NatKind → Table → Type 0
+Goes kind t = IsIndexed kind t.places t.index
 
 same_some : {X : Type 0} (a b : X) → Some a ≡ Some b → a ≡ b
 same_some a b e = cc
@@ -50,14 +55,14 @@ not_none a e = absurd (cc e)
 -- PUTTING
 
 -- what the index has at the key of e stands where a datagram of e's key does
-pub unless_same : (kind : NatKind) (f : ℕ → Option Outward) (g : Way → Option ℕ) (e : Outward) → Goes kind f g → (p : ℕ) → unless_at (g (way_of kind e)) p (f p) ≡ unless_key kind e (f p)
-unless_same kind f g e goes p = by_place (f p) refl
+unless_same : (kind : NatKind) (e : Outward) (t : Table) → Goes kind t → (p : ℕ) → unless_at (indexed t.index (way_of kind e)) p (place_at t.places p) ≡ unless_key kind e (place_at t.places p)
+unless_same kind e t goes p = by_place (place_at t.places p) refl
   where
     none_at : (o : Option ℕ) → unless_at o p None ≡ None
     none_at None = refl
     none_at (Some q) = same_branch (q == p) None
 
-    some_at : (x : Outward) → f p ≡ Some x → has_key kind e.inside e.dst x ≡ false → (o : Option ℕ) → g (way_of kind e) ≡ o → unless_at o p (Some x) ≡ Some x
+    some_at : (x : Outward) → place_at t.places p ≡ Some x → has_key kind e.inside e.dst x ≡ false → (o : Option ℕ) → indexed t.index (way_of kind e) ≡ o → unless_at o p (Some x) ≡ Some x
     some_at x i n None h = refl
     some_at x i n (Some q) h = by_port (q == p) refl
       where
@@ -69,14 +74,14 @@ unless_same kind f g e goes p = by_place (f p) refl
             let same : y.0 ≡ x = same_some _ _ (sym y.1 ∙ i) in
             absurd (false≢true (sym n ∙ key_has kind e.inside e.dst x (sym y.2 ∙ ap (way_of kind) same)))
 
-    by_key : (x : Outward) → f p ≡ Some x → (b : Bool) → has_key kind e.inside e.dst x ≡ b → unless_at (g (way_of kind e)) p (Some x) ≡ cond b None (Some x)
-    by_key x i false n = some_at x i n (g (way_of kind e)) refl
+    by_key : (x : Outward) → place_at t.places p ≡ Some x → (b : Bool) → has_key kind e.inside e.dst x ≡ b → unless_at (indexed t.index (way_of kind e)) p (Some x) ≡ cond b None (Some x)
+    by_key x i false n = some_at x i n (indexed t.index (way_of kind e)) refl
     by_key x i true n =
-        let held : g (way_of kind e) ≡ Some p = ap g (key_is kind e.inside e.dst x n) ∙ goes.there p x i in
+        let held : indexed t.index (way_of kind e) ≡ Some p = ap (indexed t.index) (key_is kind e.inside e.dst x n) ∙ goes.there p x i in
         ap (λ o. unless_at o p (Some x)) held ∙ ap (λ b. cond b None (Some x)) (eq-eqb p p refl)
 
-    by_place : (o : Option Outward) → f p ≡ o → unless_at (g (way_of kind e)) p o ≡ unless_key kind e o
-    by_place None i = none_at (g (way_of kind e))
+    by_place : (o : Option Outward) → place_at t.places p ≡ o → unless_at (indexed t.index (way_of kind e)) p o ≡ unless_key kind e o
+    by_place None i = none_at (indexed t.index (way_of kind e))
     by_place (Some x) i = by_key x i (has_key kind e.inside e.dst x) refl
 
 -- what is left has another key
@@ -96,13 +101,21 @@ other_way kind e y n = by_case (same_way (way_of kind e) (way_of kind y)) refl
     by_case true h = absurd (false≢true (sym n ∙ key_has kind e.inside e.dst y (same_way-true _ _ h)))
 
 -- new is old with e at its port, where the place of e's key was cleared; and the index has that, and lost what the port held
-pub record Puts (kind : NatKind) (e : Outward) (f f' : ℕ → Option Outward) (g g' : Way → Option ℕ) : Type 0 where
-  pub table : (p : ℕ) → f' p ≡ cond (e.port == p) (Some e) (unless_key kind e (f p))
-  pub index : (k : Way) → g' k ≡ cond (same_way (way_of kind e) k) (Some e.port) (unless_way kind (unless_key kind e (f e.port)) k (g k))
+pub record Puts (kind : NatKind) (e : Outward) (old new : Table) : Type 0 where
+  pub goes : Goes kind old
+  pub places : (p : ℕ) → place_at new.places p ≡ cond (e.port == p) (Some e) (unless_key kind e (place_at old.places p))
+  pub index : (k : Way) → indexed new.index k ≡ cond (same_way (way_of kind e) k) (Some e.port) (unless_way kind (unless_key kind e (place_at old.places e.port)) k (indexed old.index k))
+  pub len : length new.places ≡ length old.places
 
-puts_there : (kind : NatKind) (e : Outward) (f f' : ℕ → Option Outward) (g g' : Way → Option ℕ) → Goes kind f g → Puts kind e f f' g g' → (p : ℕ) (y : Outward) → f' p ≡ Some y → g' (way_of kind y) ≡ Some p
-puts_there kind e f f' g g' goes puts p y h = by_port (e.port == p) refl (sym (puts.table p) ∙ h)
+puts_there : (kind : NatKind) (e : Outward) (old new : Table) → Puts kind e old new → (p : ℕ) (y : Outward) → place_at new.places p ≡ Some y → indexed new.index (way_of kind y) ≡ Some p
+puts_there kind e old new puts p y h = by_port (e.port == p) refl (sym (puts.places p) ∙ h)
   where
+    f : ℕ → Option Outward
+    f = place_at old.places
+
+    g : Way → Option ℕ
+    g = indexed old.index
+
     kept_at : (p : ℕ) (y : Outward) → (e.port == p) ≡ false → g (way_of kind y) ≡ Some p → (o : Option Outward) → unless_key kind e (f e.port) ≡ o → unless_way kind o (way_of kind y) (g (way_of kind y)) ≡ Some p
     kept_at p y n i None j = i
     kept_at p y n i (Some x) j = by_way (same_way (way_of kind x) (way_of kind y)) refl
@@ -110,21 +123,27 @@ puts_there kind e f f' g g' goes puts p y h = by_port (e.port == p) refl (sym (p
         by_way : (b : Bool) → same_way (way_of kind x) (way_of kind y) ≡ b → cond b None (g (way_of kind y)) ≡ Some p
         by_way false k = i
         by_way true k =
-            let at : g (way_of kind x) ≡ Some e.port = goes.there e.port x (left_of kind e x (f e.port) j).0 in
+            let at : g (way_of kind x) ≡ Some e.port = puts.goes.there e.port x (left_of kind e x (f e.port) j).0 in
             let same : e.port ≡ p = same_some _ _ (sym at ∙ ap g (same_way-true _ _ k) ∙ i) in
             absurd (false≢true (sym n ∙ eq-eqb e.port p same))
 
-    by_port : (b : Bool) → (e.port == p) ≡ b → cond b (Some e) (unless_key kind e (f p)) ≡ Some y → g' (way_of kind y) ≡ Some p
+    by_port : (b : Bool) → (e.port == p) ≡ b → cond b (Some e) (unless_key kind e (f p)) ≡ Some y → indexed new.index (way_of kind y) ≡ Some p
     by_port true n i =
         let same : e ≡ y = same_some _ _ i in
         puts.index (way_of kind y) ∙ ap (λ (x : Outward). cond (same_way (way_of kind e) (way_of kind x)) (Some e.port) (unless_way kind (unless_key kind e (f e.port)) (way_of kind x) (g (way_of kind x)))) (sym same) ∙ ap (λ b. cond b (Some e.port) (unless_way kind (unless_key kind e (f e.port)) (way_of kind e) (g (way_of kind e)))) (same_way-self (way_of kind e)) ∙ ap (λ q. Some q) (eqb-true e.port p n)
     by_port false n i =
         let left = left_of kind e y (f p) i in
-        puts.index (way_of kind y) ∙ ap (λ b. cond b (Some e.port) (unless_way kind (unless_key kind e (f e.port)) (way_of kind y) (g (way_of kind y)))) (other_way kind e y left.1) ∙ kept_at p y n (goes.there p y left.0) (unless_key kind e (f e.port)) refl
+        puts.index (way_of kind y) ∙ ap (λ b. cond b (Some e.port) (unless_way kind (unless_key kind e (f e.port)) (way_of kind y) (g (way_of kind y)))) (other_way kind e y left.1) ∙ kept_at p y n (puts.goes.there p y left.0) (unless_key kind e (f e.port)) refl
 
-puts_back : (kind : NatKind) (e : Outward) (f f' : ℕ → Option Outward) (g g' : Way → Option ℕ) → Goes kind f g → Puts kind e f f' g g' → (k : Way) (p : ℕ) → g' k ≡ Some p → (y : Outward) × (f' p ≡ Some y) × (way_of kind y ≡ k)
-puts_back kind e f f' g g' goes puts k p h = by_way (same_way (way_of kind e) k) refl (sym (puts.index k) ∙ h)
+puts_back : (kind : NatKind) (e : Outward) (old new : Table) → Puts kind e old new → (k : Way) (p : ℕ) → indexed new.index k ≡ Some p → (y : Outward) × (place_at new.places p ≡ Some y) × (way_of kind y ≡ k)
+puts_back kind e old new puts k p h = by_way (same_way (way_of kind e) k) refl (sym (puts.index k) ∙ h)
   where
+    f : ℕ → Option Outward
+    f = place_at old.places
+
+    g : Way → Option ℕ
+    g = indexed old.index
+
     -- what isn't taken out was there
     was : (o : Option Outward) → unless_way kind o k (g k) ≡ Some p → g k ≡ Some p
     was None i = i
@@ -140,20 +159,76 @@ puts_back kind e f f' g g' goes puts k p h = by_way (same_way (way_of kind e) k)
         by_key false j = refl
         by_key true j = absurd (false≢true (sym n ∙ ap (λ (x : Way). same_way x k) (key_is kind e.inside e.dst y j ∙ w) ∙ same_way-self k))
 
-    by_port : (y : Outward) → f p ≡ Some y → way_of kind y ≡ k → same_way (way_of kind e) k ≡ false → unless_way kind (unless_key kind e (f e.port)) k (g k) ≡ Some p → (b : Bool) → (e.port == p) ≡ b → f' p ≡ Some y
-    by_port y at w n i false m = puts.table p ∙ ap (λ b. cond b (Some e) (unless_key kind e (f p))) m ∙ ap (unless_key kind e) at ∙ unkeyed y w n
+    by_port : (y : Outward) → f p ≡ Some y → way_of kind y ≡ k → same_way (way_of kind e) k ≡ false → unless_way kind (unless_key kind e (f e.port)) k (g k) ≡ Some p → (b : Bool) → (e.port == p) ≡ b → place_at new.places p ≡ Some y
+    by_port y at w n i false m = puts.places p ∙ ap (λ b. cond b (Some e) (unless_key kind e (f p))) m ∙ ap (unless_key kind e) at ∙ unkeyed y w n
     by_port y at w n i true m =
         let here : unless_key kind e (f e.port) ≡ Some y = ap (λ q. unless_key kind e (f q)) (eqb-true e.port p m) ∙ ap (unless_key kind e) at ∙ unkeyed y w n in
         absurd (none_left y w (sym (ap (λ o. unless_way kind o k (g k)) here) ∙ i))
 
-    by_way : (b : Bool) → same_way (way_of kind e) k ≡ b → cond b (Some e.port) (unless_way kind (unless_key kind e (f e.port)) k (g k)) ≡ Some p → (y : Outward) × (f' p ≡ Some y) × (way_of kind y ≡ k)
-    by_way true n i = (e, puts.table p ∙ ap (λ b. cond b (Some e) (unless_key kind e (f p))) (eq-eqb e.port p (same_some _ _ i)), same_way-true _ _ n)
+    by_way : (b : Bool) → same_way (way_of kind e) k ≡ b → cond b (Some e.port) (unless_way kind (unless_key kind e (f e.port)) k (g k)) ≡ Some p → (y : Outward) × (place_at new.places p ≡ Some y) × (way_of kind y ≡ k)
+    by_way true n i = (e, puts.places p ∙ ap (λ b. cond b (Some e) (unless_key kind e (f p))) (eq-eqb e.port p (same_some _ _ i)), same_way-true _ _ n)
     by_way false n i =
-        let y = goes.back k p (was (unless_key kind e (f e.port)) i) in
+        let y = puts.goes.back k p (was (unless_key kind e (f e.port)) i) in
         (y.0, by_port y.0 y.1 y.2 n i (e.port == p) refl, y.2)
 
-pub puts_goes : (kind : NatKind) (e : Outward) (f f' : ℕ → Option Outward) (g g' : Way → Option ℕ) → Goes kind f g → Puts kind e f f' g g' → Goes kind f' g'
-puts_goes kind e f f' g g' goes puts = record { there = puts_there kind e f f' g g' goes puts; back = puts_back kind e f f' g g' goes puts }
+pub puts_goes : (kind : NatKind) (e : Outward) (old new : Table) → Puts kind e old new → Goes kind new
+puts_goes kind e old new puts = record { there = puts_there kind e old new puts; back = puts_back kind e old new puts; few = omega (arith, puts.goes.few, puts.len) }
+
+-- the datagram stands at its port, and all else is as it was
+pub record Sets (e : Outward) (old new : List (Option Outward)) : Type 0 where
+  pub set : IsSetAt old new e.port (Some e)
+  pub len : length new ≡ length old
+
+-- a datagram of the same key in its place changes nothing of the index
+pub refresh_puts : (kind : NatKind) (e : Outward) (old new : List (Option Outward)) (index : List (Way × ℕ)) → IsIndexed kind old index → (x : Outward) × (place_at old e.port ≡ Some x) × (has_key kind e.inside e.dst x ≡ true) → Sets e old new
+    → Puts kind e (record { places = old; index = index }) (record { places = new; index = index })
+refresh_puts kind e old new index i same sets = record {
+  goes = i;
+  places = λ p. sets.set p ∙ by_port p (e.port == p) refl;
+  index = λ k. by_way k (same_way (way_of kind e) k) refl;
+  len = sets.len;
+}
+  where
+    held : indexed index (way_of kind e) ≡ Some e.port
+    held = ap (indexed index) (key_is kind e.inside e.dst same.0 same.2) ∙ i.there e.port same.0 same.1
+
+    by_port : (p : ℕ) (b : Bool) → (e.port == p) ≡ b → cond b (Some e) (place_at old p) ≡ cond b (Some e) (unless_key kind e (place_at old p))
+    by_port p true n = refl
+    by_port p false n = sym (ap (λ b. cond b None (place_at old p)) n) ∙ ap (λ o. unless_at o p (place_at old p)) (sym held) ∙ unless_same kind e (record { places = old; index = index }) i p
+
+    gone : unless_key kind e (place_at old e.port) ≡ None
+    gone = ap (unless_key kind e) same.1 ∙ ap (λ b. cond b None (Some same.0)) same.2
+
+    by_way : (k : Way) (b : Bool) → same_way (way_of kind e) k ≡ b → indexed index k ≡ cond b (Some e.port) (unless_way kind (unless_key kind e (place_at old e.port)) k (indexed index k))
+    by_way k true n = ap (indexed index) (sym (same_way-true _ _ n)) ∙ held
+    by_way k false n = sym (ap (λ o. unless_way kind o k (indexed index k)) gone)
+
+-- the place of the key is cleared, what then stands at the port leaves the index, and the datagram is put there
+pub record PutsAnew (kind : NatKind) (e : Outward) (old new : Table) : Type 0 where
+  pub goes : Goes kind old
+  pub key : Way
+  pub key_is : key ≡ way_of kind e
+  pub cleared : List (Option Outward)
+  pub clears : (p : ℕ) → place_at cleared p ≡ unless_at (indexed old.index key) p (place_at old.places p)
+  pub stood : Option Outward
+  pub stood_is : stood ≡ place_at cleared e.port
+  pub left : List (Way × ℕ)
+  pub leaves : (k : Way) → indexed left k ≡ unless_way kind stood k (indexed old.index k)
+  pub set : IsSetAt cleared new.places e.port (Some e)
+  pub added : (k : Way) → indexed new.index k ≡ cond (same_way key k) (Some e.port) (indexed left k)
+  pub len : length new.places ≡ length old.places
+
+pub anew_puts : (kind : NatKind) (e : Outward) (old new : Table) → PutsAnew kind e old new → Puts kind e old new
+anew_puts kind e old new a = record {
+  goes = a.goes;
+  places = λ p. a.set p ∙ ap (λ o. cond (e.port == p) (Some e) o) (cleared_is p);
+  index = λ k. a.added k ∙ ap (λ (w : Way). cond (same_way w k) (Some e.port) (indexed a.left k)) a.key_is
+      ∙ ap (λ r. cond (same_way (way_of kind e) k) (Some e.port) r) (a.leaves k ∙ ap (λ o. unless_way kind o k (indexed old.index k)) (a.stood_is ∙ cleared_is e.port));
+  len = a.len;
+}
+  where
+    cleared_is : (p : ℕ) → place_at a.cleared p ≡ unless_key kind e (place_at old.places p)
+    cleared_is p = a.clears p ∙ ap (λ (w : Way). unless_at (indexed old.index w) p (place_at old.places p)) a.key_is ∙ unless_same kind e old a.goes p
 
 -- FORGETTING
 
@@ -165,20 +240,22 @@ unless_of-left who y (Some x) h = by_case (same_ep x.inside who) refl h
     by_case true n i = absurd (not_none y i)
     by_case false n i = (i, ap (λ (z : Outward). same_ep z.inside who) (sym (same_some _ _ i)) ∙ n)
 
-pub forgets_goes : (kind : NatKind) (who : Ep) (f f' : ℕ → Option Outward) (g g' : Way → Option ℕ) → Goes kind f g → ((p : ℕ) → f' p ≡ unless_of who (f p)) → ((k : Way) → g' k ≡ unless_in who k (g k)) → Goes kind f' g'
-forgets_goes kind who f f' g g' goes table index = record {
+-- the table and the index without an inside endpoint
+pub forgets_goes : (kind : NatKind) (who : Ep) (old new : Table) → Goes kind old → ((p : ℕ) → place_at new.places p ≡ unless_of who (place_at old.places p)) → ((k : Way) → indexed new.index k ≡ unless_in who k (indexed old.index k)) → length new.places ≡ length old.places → Goes kind new
+forgets_goes kind who old new goes places index len = record {
   there = λ p y h.
-      let left = unless_of-left who y (f p) (sym (table p) ∙ h) in
-      index (way_of kind y) ∙ ap (λ b. cond b None (g (way_of kind y))) (ap (λ i. same_ep i who) (inside_of_way kind y) ∙ left.1) ∙ goes.there p y left.0;
+      let left = unless_of-left who y (place_at old.places p) (sym (places p) ∙ h) in
+      index (way_of kind y) ∙ ap (λ b. cond b None (indexed old.index (way_of kind y))) (ap (λ i. same_ep i who) (inside_of_way kind y) ∙ left.1) ∙ goes.there p y left.0;
   back = λ k p h. by_case k p (same_ep k.inside who) refl (sym (index k) ∙ h);
+  few = omega (arith, goes.few, len);
 }
   where
-    by_case : (k : Way) (p : ℕ) (b : Bool) → same_ep k.inside who ≡ b → cond b None (g k) ≡ Some p → (e : Outward) × (f' p ≡ Some e) × (way_of kind e ≡ k)
+    by_case : (k : Way) (p : ℕ) (b : Bool) → same_ep k.inside who ≡ b → cond b None (indexed old.index k) ≡ Some p → (e : Outward) × (place_at new.places p ≡ Some e) × (way_of kind e ≡ k)
     by_case k p true n i = absurd (not_none p i)
     by_case k p false n i =
         let y = goes.back k p i in
         let other : same_ep y.0.inside who ≡ false = ap (λ i. same_ep i who) (sym (inside_of_way kind y.0) ∙ ap (λ (w : Way). w.inside) y.2) ∙ n in
-        (y.0, table p ∙ ap (unless_of who) y.1 ∙ ap (λ b. cond b None (Some y.0)) other, y.2)
+        (y.0, places p ∙ ap (unless_of who) y.1 ∙ ap (λ b. cond b None (Some y.0)) other, y.2)
 
 -- A LOOK-UP OVER THE KEYS THAT ARE LEFT
 
@@ -204,86 +281,28 @@ lookup_others {X} who key (e ∷ es) = by_way (same_way key e.0) refl (same_ep e
     by_way false h true n i = i
     by_way false h false n i = ap (λ b. cond b (Some e.1) (lookup (same_way key) (filter (λ e. not (same_ep e.0.inside who)) es))) h ∙ i
 
--- OVER TABLES
-
-places_go : (kind : NatKind) (places : List (Option Outward)) (index : List (Way × ℕ)) → IsIndexed kind places index → Goes kind (place_at places) (indexed index)
-places_go kind places index i = record { there = i.there; back = i.back }
-
-indexed_by : (kind : NatKind) (old new : List (Option Outward)) (was is : List (Way × ℕ)) → IsIndexed kind old was → Goes kind (place_at new) (indexed is) → length new ≡ length old → IsIndexed kind new is
-indexed_by kind old new was is i g l = record { there = g.there; back = g.back; few = omega (arith, i.few, l) }
-
--- a datagram of the same key in its place changes nothing of the index
-refresh_puts : (kind : NatKind) (e : Outward) (old new : List (Option Outward)) (index : List (Way × ℕ)) → IsIndexed kind old index → (x : Outward) × (place_at old e.port ≡ Some x) × (has_key kind e.inside e.dst x ≡ true) → IsSetAt old new e.port (Some e) → Puts kind e (place_at old) (place_at new) (indexed index) (indexed index)
-refresh_puts kind e old new index i same set = record {
-  table = λ p. set p ∙ by_port p (e.port == p) refl;
-  index = λ k. by_way k (same_way (way_of kind e) k) refl;
-}
-  where
-    held : indexed index (way_of kind e) ≡ Some e.port
-    held = ap (indexed index) (key_is kind e.inside e.dst same.0 same.2) ∙ i.there e.port same.0 same.1
-
-    by_port : (p : ℕ) (b : Bool) → (e.port == p) ≡ b → cond b (Some e) (place_at old p) ≡ cond b (Some e) (unless_key kind e (place_at old p))
-    by_port p true n = refl
-    by_port p false n = sym (ap (λ b. cond b None (place_at old p)) n) ∙ ap (λ o. unless_at o p (place_at old p)) (sym held) ∙ unless_same kind (place_at old) (indexed index) e (places_go kind old index i) p
-
-    gone : unless_key kind e (place_at old e.port) ≡ None
-    gone = ap (unless_key kind e) same.1 ∙ ap (λ b. cond b None (Some same.0)) same.2
-
-    by_way : (k : Way) (b : Bool) → same_way (way_of kind e) k ≡ b → indexed index k ≡ cond b (Some e.port) (unless_way kind (unless_key kind e (place_at old e.port)) k (indexed index k))
-    by_way k true n = ap (indexed index) (sym (same_way-true _ _ n)) ∙ held
-    by_way k false n = sym (ap (λ o. unless_way kind o k (indexed index k)) gone)
-
-pub refreshed : (kind : NatKind) (e : Outward) (old new : List (Option Outward)) (index : List (Way × ℕ)) → IsIndexed kind old index → (x : Outward) × (place_at old e.port ≡ Some x) × (has_key kind e.inside e.dst x ≡ true) → IsSetAt old new e.port (Some e) → length new ≡ length old → IsIndexed kind new index
-refreshed kind e old new index i same set l = indexed_by kind old new index index i (puts_goes kind e _ _ _ _ (places_go kind old index i) (refresh_puts kind e old new index i same set)) l
-
-pub refreshed_put : (kind : NatKind) (e : Outward) (old new : List (Option Outward)) (index : List (Way × ℕ)) → IsIndexed kind old index → (x : Outward) × (place_at old e.port ≡ Some x) × (has_key kind e.inside e.dst x ≡ true) → IsSetAt old new e.port (Some e) → IsPutIn kind old new e
-refreshed_put kind e old new index i same set = (refresh_puts kind e old new index i same set).table
-
--- the key is cleared, what stood at the port leaves the index, and the datagram is put there
-put_puts : (kind : NatKind) (e : Outward) (old mid new : List (Option Outward)) (was taken is : List (Way × ℕ)) → IsIndexed kind old was
-    → ((p : ℕ) → place_at mid p ≡ unless_at (indexed was (way_of kind e)) p (place_at old p))
-    → ((k : Way) → indexed taken k ≡ unless_way kind (place_at mid e.port) k (indexed was k))
-    → IsSetAt mid new e.port (Some e) → ((k : Way) → indexed is k ≡ cond (same_way (way_of kind e) k) (Some e.port) (indexed taken k))
-    → Puts kind e (place_at old) (place_at new) (indexed was) (indexed is)
-put_puts kind e old mid new was taken is i cleared out set added = record {
-  table = λ p. set p ∙ ap (λ o. cond (e.port == p) (Some e) o) (mid_is p);
-  index = λ k. added k ∙ ap (λ r. cond (same_way (way_of kind e) k) (Some e.port) r) (out k ∙ ap (λ o. unless_way kind o k (indexed was k)) (mid_is e.port));
-}
-  where
-    mid_is : (p : ℕ) → place_at mid p ≡ unless_key kind e (place_at old p)
-    mid_is p = cleared p ∙ unless_same kind (place_at old) (indexed was) e (places_go kind old was i) p
-
-pub put_by : (kind : NatKind) (e : Outward) (key : Way) (stood : Option Outward) (old mid new : List (Option Outward)) (was taken is : List (Way × ℕ)) → key ≡ way_of kind e → stood ≡ place_at mid e.port → IsIndexed kind old was
-    → ((p : ℕ) → place_at mid p ≡ unless_at (indexed was key) p (place_at old p))
-    → ((k : Way) → indexed taken k ≡ unless_way kind stood k (indexed was k))
-    → IsSetAt mid new e.port (Some e) → ((k : Way) → indexed is k ≡ cond (same_way key k) (Some e.port) (indexed taken k))
-    → Puts kind e (place_at old) (place_at new) (indexed was) (indexed is)
-put_by kind e key stood old mid new was taken is key_e stood_is i cleared out set added =
-    put_puts kind e old mid new was taken is i
-    (λ p. cleared p ∙ ap (λ (w : Way). unless_at (indexed was w) p (place_at old p)) key_e)
-    (λ k. out k ∙ ap (λ o. unless_way kind o k (indexed was k)) stood_is)
-    set
-    (λ k. added k ∙ ap (λ (w : Way). cond (same_way w k) (Some e.port) (indexed taken k)) key_e)
-
-pub put_indexed : (kind : NatKind) (e : Outward) (old new : List (Option Outward)) (was is : List (Way × ℕ)) → IsIndexed kind old was → Puts kind e (place_at old) (place_at new) (indexed was) (indexed is) → length new ≡ length old → IsIndexed kind new is
-put_indexed kind e old new was is i puts l = indexed_by kind old new was is i (puts_goes kind e _ _ _ _ (places_go kind old was i) puts) l
-
-pub forget_indexed : (kind : NatKind) (who : Ep) (old new : List (Option Outward)) (was is : List (Way × ℕ)) → IsIndexed kind old was → ((p : ℕ) → place_at new p ≡ unless_of who (place_at old p)) → ((k : Way) → indexed is k ≡ unless_in who k (indexed was k)) → length new ≡ length old → IsIndexed kind new is
-forget_indexed kind who old new was is i table index l = indexed_by kind old new was is i (forgets_goes kind who _ _ _ _ (places_go kind old was i) table index) l
-
 -- LIVE
 
-pub none_live : (kind : NatKind) (places : List (Option Outward)) (index : List (Way × ℕ)) (inside dst : Ep) → IsIndexed kind places index → indexed index (key_way kind inside dst) ≡ None → (port : ℕ) (e : Outward) → place_at places port ≡ Some e → has_key kind inside dst e ≡ true → ⊥
-none_live kind places index inside dst i none port e at has = not_none port (sym none ∙ ap (indexed index) (key_is kind inside dst e has) ∙ i.there port e at)
+-- the index leads from the key of a datagram from inside to dst to this port, where this datagram stands
+pub record LeadsTo (kind : NatKind) (t : Table) (inside dst : Ep) (sent : Outward) : Type 0 where
+  pub goes : Goes kind t
+  pub port : ℕ
+  pub key_at : indexed t.index (key_way kind inside dst) ≡ Some port
+  pub stands : place_at t.places port ≡ Some sent
 
--- what stands at the port of the key is the only one of it
-pub only_live : (kind : NatKind) (places : List (Option Outward)) (index : List (Way × ℕ)) (inside dst : Ep) (port : ℕ) (sent : Outward) → IsIndexed kind places index → indexed index (key_way kind inside dst) ≡ Some port → place_at places port ≡ Some sent → (q : ℕ) (e : Outward) → place_at places q ≡ Some e → has_key kind inside dst e ≡ true → e ≡ sent
-only_live kind places index inside dst port sent i at is q e there has =
-    let same : port ≡ q = same_some _ _ (sym at ∙ ap (indexed index) (key_is kind inside dst e has) ∙ i.there q e there) in
-    same_some _ _ (sym there ∙ ap (place_at places) (sym same) ∙ is)
+-- where it leads nowhere, no datagram of the key is live
+pub none_live : (s : NatSettings) (n : ℕ) (t : Table) (inside dst : Ep) → Goes s.kind t → indexed t.index (key_way s.kind inside dst) ≡ None → HasNoLive s.kind s.idle n t.places inside dst
+none_live s n t inside dst goes none port e at has = absurd (not_none port (sym none ∙ ap (indexed t.index) (key_is s.kind inside dst e has) ∙ goes.there port e at))
 
-pub has_it : (kind : NatKind) (places : List (Option Outward)) (index : List (Way × ℕ)) (inside dst : Ep) (port : ℕ) (sent : Outward) → IsIndexed kind places index → indexed index (key_way kind inside dst) ≡ Some port → place_at places port ≡ Some sent → has_key kind inside dst sent ≡ true
-has_it kind places index inside dst port sent i at is =
-    let y = i.back _ port at in
-    let same : y.0 ≡ sent = same_some _ _ (sym y.1 ∙ is) in
+-- and where it leads to an old one, neither
+pub old_alone : (s : NatSettings) (n : ℕ) (t : Table) (inside dst : Ep) (sent : Outward) → LeadsTo s.kind t inside dst sent → is_young s.idle n sent ≡ false → HasNoLive s.kind s.idle n t.places inside dst
+old_alone s n t inside dst sent leads old q e there has =
+    let same : leads.port ≡ q = same_some _ _ (sym leads.key_at ∙ ap (indexed t.index) (key_is s.kind inside dst e has) ∙ leads.goes.there q e there) in
+    let one : e ≡ sent = same_some _ _ (sym there ∙ ap (place_at t.places) (sym same) ∙ leads.stands) in
+    ap (is_young s.idle n) one ∙ old
+
+pub has_it : (kind : NatKind) (t : Table) (inside dst : Ep) (sent : Outward) → LeadsTo kind t inside dst sent → has_key kind inside dst sent ≡ true
+has_it kind t inside dst sent leads =
+    let y = leads.goes.back _ leads.port leads.key_at in
+    let same : y.0 ≡ sent = same_some _ _ (sym y.1 ∙ leads.stands) in
     key_has kind inside dst sent (sym y.2 ∙ ap (way_of kind) same)

@@ -11,12 +11,15 @@ use Rattle.nat_kinds.specs.declared.kind.NatKind.{NatKind}
 use Rattle.nat_kinds.specs.declared.kind.NatKind.TheVariants.{Cone, Restricted, Port, Symmetric}
 use Rattle.nat_kinds.specs.declared.outgoing.Outward.{Outward}
 use Rattle.nat_kinds.specs.declared.settings.NatSettings.{NatSettings}
+use Rattle.nat_kinds.specs.declared.way.Way.{Way}
 use Rattle.nat_kinds.specs.History.{NatEntry, Out, Forget, Restart, kept, young, is_young, counting}
 use Rattle.nat_kinds.specs.Mappings.{has_key, latest, port_in, live_port}
 use Rattle.nat_kinds.specs.Answer.{IsAnswer, live_after}
 use Rattle.nat_kinds.specs.Entering.{reaches, is_way_in, inside_in, lets_in}
 use Rattle.nat_kinds.specs.Sound.{Sound}
 use Rattle.nat_kinds.specs.Laws.{latest_moment, IsHistory, IsPast, SameKey, Asked, WasAsked}
+use Rattle.nat_kinds.specs.Way.{key_way}
+use Rattle.nat_kinds.proofs.IndexLemmas.{key_is}
 use Rattle.nat_kinds.proofs.ListLemmas.{filter_swap, all_found, found_passes, none_found}
 use Rattle.nat_kinds.proofs.PortLemmas.{has_itself, Sound-filter, AgreesWith-found, key_symm}
 use Rattle.nat_kinds.proofs.ChoiceLemmas.{live_is, joins_given}
@@ -61,9 +64,15 @@ leads_found : (o : Option Outward) (inside : Ep) → inside_in o ≡ Some inside
 leads_found None inside h = absurd (let g : Some inside ≡ None = sym h in cc)
 leads_found (Some f) inside h = let g : f.inside ≡ inside = cc in (f, refl, g)
 
+-- a datagram from inside to dst has the key that holds a port, where these count
+pub record Holder (kind : NatKind) (outs : List Outward) (port : ℕ) : Type 0 where
+  pub inside : Ep
+  pub dst : Ep
+  pub live : live_port kind inside dst (latest kind outs) ≡ Some port
+
 -- the datagram behind a live port
-pub held_by : (s : NatSettings) (outs : List Outward) (inside dst : Ep) (port : ℕ) → live_port s.kind inside dst (latest s.kind outs) ≡ Some port → (f : Outward) × (find (has_key s.kind inside dst) outs ≡ Some f) × (f.port ≡ port)
-held_by s outs inside dst port h = holds_found (find (has_key s.kind inside dst) outs) port (sym (live_is s.kind inside dst outs) ∙ h)
+held_by : (kind : NatKind) (outs : List Outward) (port : ℕ) (a : Holder kind outs port) → (f : Outward) × (find (has_key kind a.inside a.dst) outs ≡ Some f) × (f.port ≡ port)
+held_by kind outs port a = holds_found (find (has_key kind a.inside a.dst) outs) port (sym (live_is kind a.inside a.dst outs) ∙ a.live)
 
 -- KEYS
 
@@ -73,16 +82,11 @@ key_inside Restricted inside dst e h = same_ep-true e.inside inside h
 key_inside Port inside dst e h = same_ep-true e.inside inside h
 key_inside Symmetric inside dst e h = same_ep-true e.inside inside (and_parts _ _ h).0
 
--- f has the one key, g the other, and g has f's
-same_from : (kind : NatKind) (a b c d : Ep) (f g : Outward) → has_key kind a b f ≡ true → has_key kind c d g ≡ true → has_key kind f.inside f.dst g ≡ true → SameKey kind a b c d
-same_from Cone a b c d f g x y z = let p : f.inside ≡ a = same_ep-true _ _ x in let q : g.inside ≡ c = same_ep-true _ _ y in let r : g.inside ≡ f.inside = same_ep-true _ _ z in cc
-same_from Restricted a b c d f g x y z = let p : f.inside ≡ a = same_ep-true _ _ x in let q : g.inside ≡ c = same_ep-true _ _ y in let r : g.inside ≡ f.inside = same_ep-true _ _ z in cc
-same_from Port a b c d f g x y z = let p : f.inside ≡ a = same_ep-true _ _ x in let q : g.inside ≡ c = same_ep-true _ _ y in let r : g.inside ≡ f.inside = same_ep-true _ _ z in cc
-same_from Symmetric a b c d f g x y z =
-    let p = and_parts (same_ep f.inside a) (same_ep f.dst b) x in
-    let q = and_parts (same_ep g.inside c) (same_ep g.dst d) y in
-    let r = and_parts (same_ep g.inside f.inside) (same_ep g.dst f.dst) z in
-    (sym (same_ep-true _ _ p.0) ∙ sym (same_ep-true _ _ r.0) ∙ same_ep-true _ _ q.0, sym (same_ep-true _ _ p.1) ∙ sym (same_ep-true _ _ r.1) ∙ same_ep-true _ _ q.1)
+same_key : (kind : NatKind) (a b c d : Ep) → key_way kind a b ≡ key_way kind c d → SameKey kind a b c d
+same_key Cone a b c d e = ap (λ (w : Way). w.inside) e
+same_key Restricted a b c d e = ap (λ (w : Way). w.inside) e
+same_key Port a b c d e = ap (λ (w : Way). w.inside) e
+same_key Symmetric a b c d e = (ap (λ (w : Way). w.inside) e, ap (λ (w : Way). w.other) e)
 
 -- what a search found agrees with each
 agrees_at : (s : NatSettings) (outs : List Outward) (q : Outward → Bool) (f e : Outward) → Sound s.kind outs → find q outs ≡ Some f → Contains outs e → has_key s.kind f.inside f.dst e ≡ (f.port == e.port)
@@ -92,18 +96,18 @@ agrees_at s outs q f e sound h m =
 
 -- PORTS
 
-pub one_key : (s : NatSettings) (h : List NatEntry) (n : ℕ) → IsPast s h n → (inside dst inside' dst' : Ep) (port : ℕ) → live_port s.kind inside dst (live_after s h n) ≡ Some port → live_port s.kind inside' dst' (live_after s h n) ≡ Some port → SameKey s.kind inside dst inside' dst'
-one_key s h n past inside dst inside' dst' port a b =
+pub one_key : (s : NatSettings) (h : List NatEntry) (n : ℕ) → IsPast s h n → (port : ℕ) (a b : Holder s.kind (counting s.idle n h) port) → SameKey s.kind a.inside a.dst b.inside b.dst
+one_key s h n past port a b =
     let outs : List Outward = counting s.idle n h in
-    let sound : Sound s.kind outs = sound_past s h n past in
-    let f = held_by s outs inside dst port a in
-    let g = held_by s outs inside' dst' port b in
-    same_from s.kind inside dst inside' dst' f.0 g.0 (found_passes _ outs f.0 f.1) (found_passes _ outs g.0 g.1) (agrees_at s outs _ f.0 g.0 sound f.1 (found_is_in _ outs g.0 g.1) ∙ eq-eqb f.0.port g.0.port (f.2 ∙ sym g.2))
+    let f = held_by s.kind outs port a in
+    let g = held_by s.kind outs port b in
+    let has_g : has_key s.kind f.0.inside f.0.dst g.0 ≡ true = agrees_at s outs _ f.0 g.0 (sound_past s h n past) f.1 (found_is_in _ outs g.0 g.1) ∙ eq-eqb f.0.port g.0.port (f.2 ∙ sym g.2) in
+    same_key s.kind a.inside a.dst b.inside b.dst (key_is s.kind a.inside a.dst f.0 (found_passes _ outs f.0 f.1) ∙ key_is s.kind f.0.inside f.0.dst g.0 has_g ∙ sym (key_is s.kind b.inside b.dst g.0 (found_passes _ outs g.0 g.1)))
 
-pub ports_in_range : (s : NatSettings) (h : List NatEntry) (n : ℕ) → IsPast s h n → (inside dst : Ep) (port : ℕ) → live_port s.kind inside dst (live_after s h n) ≡ Some port → (FIRST_PORT ≤ port) × (port < FIRST_PORT + MAPPINGS_MAX)
-ports_in_range s h n past inside dst port a =
+pub ports_in_range : (s : NatSettings) (h : List NatEntry) (n : ℕ) → IsPast s h n → (port : ℕ) → Holder s.kind (counting s.idle n h) port → (FIRST_PORT ≤ port) × (port < FIRST_PORT + MAPPINGS_MAX)
+ports_in_range s h n past port a =
     let outs : List Outward = counting s.idle n h in
-    let f = held_by s outs inside dst port a in
+    let f = held_by s.kind outs port a in
     subst (λ (p : ℕ). (FIRST_PORT ≤ p) × (p < FIRST_PORT + MAPPINGS_MAX)) f.2 (all_found _ _ outs f.0 (sound_past s h n past).in_range f.1)
 
 -- LETTING IN
@@ -162,8 +166,8 @@ owner s h n past src port inside l =
 pub reply : (s : NatSettings) (h : List NatEntry) (n : ℕ) → IsPast s h n → (e : Outward) → Contains (counting s.idle n h) e → lets_in s h n e.dst e.port ≡ Some e.inside
 reply s h n past e m = let_in_where_asked s h n past e.dst e.port e.inside (record { datagram = e; counts = m; left = refl; by_port = refl; asked = asks_its_own s.kind e })
 
-pub cone : (s : NatSettings) (h : List NatEntry) (n : ℕ) → IsPast s h n → s.kind ≡ Cone → (inside dst : Ep) (port : ℕ) → live_port s.kind inside dst (live_after s h n) ≡ Some port → (src : Ep) → lets_in s h n src port ≡ Some inside
-cone s h n past k inside dst port l src =
+pub cone : (s : NatSettings) (h : List NatEntry) (n : ℕ) → IsPast s h n → s.kind ≡ Cone → (port : ℕ) (a : Holder s.kind (counting s.idle n h) port) (src : Ep) → lets_in s h n src port ≡ Some a.inside
+cone s h n past k port a src =
     let outs : List Outward = counting s.idle n h in
-    let f = held_by s outs inside dst port l in
-    let_in_where_asked s h n past src port inside (record { datagram = f.0; counts = found_is_in _ outs f.0 f.1; left = key_inside s.kind inside dst f.0 (found_passes _ outs f.0 f.1); by_port = f.2; asked = subst (λ (kind : NatKind). Asked kind src f.0) (sym k) tt })
+    let f = held_by s.kind outs port a in
+    let_in_where_asked s h n past src port a.inside (record { datagram = f.0; counts = found_is_in _ outs f.0 f.1; left = key_inside s.kind a.inside a.dst f.0 (found_passes _ outs f.0 f.1); by_port = f.2; asked = subst (λ (kind : NatKind). Asked kind src f.0) (sym k) tt })

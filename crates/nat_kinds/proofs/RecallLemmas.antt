@@ -13,11 +13,12 @@ use Rattle.td_base.specs.declared.millis.Millis.{Millis}
 use Rattle.nat_kinds.specs.declared.kind.NatKind.{NatKind}
 use Rattle.nat_kinds.specs.declared.kind.NatKind.TheVariants.{Cone, Restricted, Port, Symmetric}
 use Rattle.nat_kinds.specs.declared.outgoing.Outward.{Outward}
+use Rattle.nat_kinds.specs.declared.settings.NatSettings.{NatSettings}
 use Rattle.nat_kinds.specs.declared.way.Way.{Way}
 use Rattle.nat_kinds.specs.History.{without, is_young, young}
 use Rattle.nat_kinds.specs.Way.{same_way, same_way_equiv, same_way-true, asked_way}
 use Rattle.nat_kinds.specs.Places.{unless_in}
-use Rattle.nat_kinds.specs.Asked.{asked_at, keeps_asked, asked_after, asked_by, recalled, IsNoted, IsOnce, Recalls, IsSwept}
+use Rattle.nat_kinds.specs.Asked.{asked_at, is_recent, keeps_asked, asked_by, recalled, IsNoted, IsOnce, Recalls, IsSwept}
 use Rattle.nat_kinds.proofs.ListLemmas.{filter_swap}
 use Rattle.nat_kinds.proofs.OrderLemmas.{young-again}
 
@@ -28,6 +29,21 @@ Within new old = (way : Way) (m : Millis) → asked_at new way ≡ Some m → as
 -- none is from more than twice idle before n
 abbrev pub Lately : ℕ → ℕ → List (Way × Millis) → Type 0
 Lately idle n asked = (way : Way) (m : Millis) → asked_at asked way ≡ Some m → n ≤ m.0 + 2 * idle
+
+-- what was asked long before now may be gone, and nothing else is seen to change
+pub record Swept (idle now : ℕ) (old new : List (Way × Millis)) : Type 0 where
+  pub recent : (n : ℕ) → now ≤ n → (way : Way) → is_recent idle n (asked_at new way) ≡ is_recent idle n (asked_at old way)
+  pub within : Within new old
+  pub once : IsOnce old → IsOnce new
+  pub lately : Lately idle now new
+
+pub swept_same : (idle now : ℕ) (old mid new : List (Way × Millis)) → Swept idle now old mid → ((way : Way) → asked_at new way ≡ asked_at mid way) → (IsOnce mid → IsOnce new) → Swept idle now old new
+swept_same idle now old mid new swept same once = record {
+  recent = λ n l way. ap (is_recent idle n) (same way) ∙ swept.recent n l way;
+  within = λ way m i. swept.within way m (sym (same way) ∙ i);
+  once = λ o. once (swept.once o);
+  lately = λ way m i. swept.lately way m (sym (same way) ∙ i);
+}
 
 pub swept_lately : (idle n swept : ℕ) (asked new : List (Way × Millis)) → IsSwept idle n swept asked → Within new asked → Lately idle n new
 swept_lately idle n swept asked new s within way m is = let k : swept ≤ m.0 + idle = s.kept way m (within way m is) in omega (arith, s.lately, k)
@@ -46,47 +62,46 @@ filter_found kind p way m left (e ∷ outs) is = by_cases (p e) refl (same_way w
     by_cases false h false k rec i = rec i
     by_cases false h true k rec i = let same : e.moment ≡ m = cc in absurd (false≢true (sym h ∙ left e k same))
 
--- what is young enough is found later
-young_found : (kind : NatKind) (w before n : ℕ) (way : Way) (m : Millis) (outs : List Outward) → before ≤ n → nat_lt (n - m.0) w ≡ true → asked_at (asked_by kind (young w before outs)) way ≡ Some m → asked_at (asked_by kind (young w n outs)) way ≡ Some m
-young_found kind w before n way m outs l y is =
-    sym (ap (λ os. asked_at (asked_by kind os) way) (young-again w before n outs l))
-    ∙ filter_found kind (is_young w n) way m (λ e t same. ap (λ (x : Millis). nat_lt (n - x.0) w) same ∙ y) (young w before outs) is
-
 -- what stays young
 stays_young : (idle n m : ℕ) → n ≤ m + 2 * idle → nat_lt (n - m) (2 * idle + 1) ≡ true
 stays_young idle n m l = lt-ltb _ _ (omega (arith, l))
 
-recalled_later : (kind : NatKind) (idle before n : ℕ) (way : Way) (m : Millis) (outs : List Outward) → before ≤ n → n ≤ m.0 + 2 * idle → asked_at (asked_by kind (recalled kind idle before outs)) way ≡ Some m → asked_at (asked_by kind (recalled kind idle n outs)) way ≡ Some m
-recalled_later kind idle before n way m outs l late = by_kind (keeps_asked kind)
+-- time passes
+pub recalls_later : (s : NatSettings) (before n : ℕ) (outs : List Outward) (asked : List (Way × Millis)) → before ≤ n → Lately s.idle n asked → Recalls s.kind (recalled s.kind s.idle before outs) asked → Recalls s.kind (recalled s.kind s.idle n outs) asked
+recalls_later s before n outs asked l late is = record { once = is.once; latest = λ way m i. by_kind way m (late way m i) (keeps_asked s.kind) (is.latest way m i) }
   where
-    by_kind : (k : Bool) → asked_at (asked_by kind (cond k (young (2 * idle + 1) before outs) [])) way ≡ Some m → asked_at (asked_by kind (cond k (young (2 * idle + 1) n outs) [])) way ≡ Some m
-    by_kind true is = young_found kind (2 * idle + 1) before n way m outs l (stays_young idle n m.0 late) is
-    by_kind false is = is
+    w : ℕ
+    w = 2 * s.idle + 1
+
+    by_kind : (way : Way) (m : Millis) → n ≤ m.0 + 2 * s.idle → (k : Bool) → asked_at (asked_by s.kind (cond k (young w before outs) [])) way ≡ Some m → asked_at (asked_by s.kind (cond k (young w n outs) [])) way ≡ Some m
+    by_kind way m k true i =
+        sym (ap (λ os. asked_at (asked_by s.kind os) way) (young-again w before n outs l))
+        ∙ filter_found s.kind (is_young w n) way m (λ e t same. ap (λ (x : Millis). nat_lt (n - x.0) w) same ∙ stays_young s.idle n m.0 k) (young w before outs) i
+    by_kind way m k false i = i
 
 -- nothing was asked
-pub recalls_same : (kind : NatKind) (idle before n : ℕ) (outs : List Outward) (old new : List (Way × Millis)) → before ≤ n → Within new old → Lately idle n new → IsOnce new → Recalls kind (recalled kind idle before outs) old → Recalls kind (recalled kind idle n outs) new
-recalls_same kind idle before n outs old new l within late once is = record { once = once; latest = λ way m i. recalled_later kind idle before n way m outs l (late way m i) (is.latest way m (within way m i)) }
+pub recalls_within : (kind : NatKind) (outs : List Outward) (old new : List (Way × Millis)) → Within new old → IsOnce new → Recalls kind outs old → Recalls kind outs new
+recalls_within kind outs old new within once is = record { once = once; latest = λ way m i. is.latest way m (within way m i) }
 
 -- a datagram asked
-young_out : (kind : NatKind) (w n : ℕ) (e : Outward) (way : Way) (m : Millis) (outs : List Outward) (o : Option Millis) → is_young w n e ≡ true → cond (same_way (asked_way kind e.inside e.dst) way) (Some e.moment) o ≡ Some m → (o ≡ Some m → asked_at (asked_by kind (young w n outs)) way ≡ Some m) → asked_at (asked_by kind (young w n (e ∷ outs))) way ≡ Some m
-young_out kind w n e way m outs o y is found = ap (λ b. asked_at (asked_by kind (cond b (e ∷ young w n outs) (young w n outs))) way) y ∙ by_way (same_way (asked_way kind e.inside e.dst) way) refl is
+pub recalls_noted : (s : NatSettings) (e : Outward) (outs : List Outward) (old new : List (Way × Millis)) → IsNoted s.kind old new e → IsOnce new → Recalls s.kind (recalled s.kind s.idle e.moment.0 outs) old → Recalls s.kind (recalled s.kind s.idle e.moment.0 (e ∷ outs)) new
+recalls_noted s e outs old new noted once is = record { once = once; latest = λ way m i. by_kind way m (asked_at old way) (keeps_asked s.kind) (sym (noted way) ∙ i) (is.latest way m) }
   where
-    by_way : (t : Bool) → same_way (asked_way kind e.inside e.dst) way ≡ t → cond t (Some e.moment) o ≡ Some m → cond (same_way way (asked_way kind e.inside e.dst)) (Some e.moment) (asked_at (asked_by kind (young w n outs)) way) ≡ Some m
-    by_way true k i = ap (λ t. cond t (Some e.moment) (asked_at (asked_by kind (young w n outs)) way)) (same_way_equiv.symm way (asked_way kind e.inside e.dst) ∙ k) ∙ i
-    by_way false k i = ap (λ t. cond t (Some e.moment) (asked_at (asked_by kind (young w n outs)) way)) (same_way_equiv.symm way (asked_way kind e.inside e.dst) ∙ k) ∙ found i
+    its : Way
+    its = asked_way s.kind e.inside e.dst
 
-recalled_out : (kind : NatKind) (idle before : ℕ) (e : Outward) (way : Way) (m : Millis) (outs : List Outward) (o : Option Millis) → before ≤ e.moment.0 → (o ≡ Some m → e.moment.0 ≤ m.0 + 2 * idle) → asked_after kind e way o ≡ Some m → (o ≡ Some m → asked_at (asked_by kind (recalled kind idle before outs)) way ≡ Some m) → asked_at (asked_by kind (recalled kind idle e.moment.0 (e ∷ outs))) way ≡ Some m
-recalled_out kind idle before e way m outs o l late = by_kind (keeps_asked kind)
-  where
-    by_kind : (k : Bool) → cond (k && same_way (asked_way kind e.inside e.dst) way) (Some e.moment) o ≡ Some m → (o ≡ Some m → asked_at (asked_by kind (cond k (young (2 * idle + 1) before outs) [])) way ≡ Some m) → asked_at (asked_by kind (cond k (young (2 * idle + 1) e.moment.0 (e ∷ outs)) [])) way ≡ Some m
-    by_kind true is found = young_out kind (2 * idle + 1) e.moment.0 e way m outs o (stays_young idle e.moment.0 e.moment.0 (omega arith)) is (λ i. young_found kind (2 * idle + 1) before e.moment.0 way m outs l (stays_young idle e.moment.0 m.0 (late i)) (found i))
-    by_kind false is found = found is
+    before : List Outward
+    before = young (2 * s.idle + 1) e.moment.0 outs
 
-pub recalls_out : (kind : NatKind) (idle before : ℕ) (e : Outward) (outs : List Outward) (old mid new : List (Way × Millis)) → before ≤ e.moment.0 → Within mid old → Lately idle e.moment.0 mid → IsNoted kind mid new e → IsOnce new → Recalls kind (recalled kind idle before outs) old → Recalls kind (recalled kind idle e.moment.0 (e ∷ outs)) new
-recalls_out kind idle before e outs old mid new l within late noted once is = record {
-  once = once;
-  latest = λ way m i. recalled_out kind idle before e way m outs (asked_at mid way) l (late way m) (sym (noted way) ∙ i) (λ j. is.latest way m (within way m j));
-}
+    by_way : (way : Way) (m : Millis) (o : Option Millis) (t : Bool) → same_way its way ≡ t → cond t (Some e.moment) o ≡ Some m → (o ≡ Some m → asked_at (asked_by s.kind before) way ≡ Some m) → cond (same_way way its) (Some e.moment) (asked_at (asked_by s.kind before) way) ≡ Some m
+    by_way way m o true k i found = ap (λ t. cond t (Some e.moment) (asked_at (asked_by s.kind before) way)) (same_way_equiv.symm way its ∙ k) ∙ i
+    by_way way m o false k i found = ap (λ t. cond t (Some e.moment) (asked_at (asked_by s.kind before) way)) (same_way_equiv.symm way its ∙ k) ∙ found i
+
+    by_kind : (way : Way) (m : Millis) (o : Option Millis) (k : Bool) → cond (k && same_way its way) (Some e.moment) o ≡ Some m → (o ≡ Some m → asked_at (asked_by s.kind (cond k before [])) way ≡ Some m) → asked_at (asked_by s.kind (cond k (young (2 * s.idle + 1) e.moment.0 (e ∷ outs)) [])) way ≡ Some m
+    by_kind way m o true i found =
+        ap (λ b. asked_at (asked_by s.kind (cond b (e ∷ before) before)) way) (stays_young s.idle e.moment.0 e.moment.0 (omega arith))
+        ∙ by_way way m o (same_way its way) refl i found
+    by_kind way m o false i found = found i
 
 -- what a datagram asked is its inside endpoint's
 asked_inside : (kind : NatKind) (e : Outward) (way : Way) → same_way way (asked_way kind e.inside e.dst) ≡ true → e.inside ≡ way.inside
@@ -95,17 +110,6 @@ asked_inside Restricted e way t = ap (λ (w : Way). w.inside) (sym (same_way-tru
 asked_inside Port e way t = ap (λ (w : Way). w.inside) (sym (same_way-true _ _ t))
 asked_inside Symmetric e way t = ap (λ (w : Way). w.inside) (sym (same_way-true _ _ t))
 
--- an inside endpoint is forgotten
-recalled_forgot : (kind : NatKind) (idle n : ℕ) (who : Ep) (way : Way) (m : Millis) (outs : List Outward) → same_ep way.inside who ≡ false → asked_at (asked_by kind (recalled kind idle n outs)) way ≡ Some m → asked_at (asked_by kind (recalled kind idle n (without who outs))) way ≡ Some m
-recalled_forgot kind idle n who way m outs other = by_kind (keeps_asked kind)
-  where
-    left : (e : Outward) → same_way way (asked_way kind e.inside e.dst) ≡ true → e.moment ≡ m → not (same_ep e.inside who) ≡ true
-    left e t same = ap (λ x. not (same_ep x who)) (asked_inside kind e way t) ∙ ap not other
-
-    by_kind : (k : Bool) → asked_at (asked_by kind (cond k (young (2 * idle + 1) n outs) [])) way ≡ Some m → asked_at (asked_by kind (cond k (young (2 * idle + 1) n (without who outs)) [])) way ≡ Some m
-    by_kind true is = ap (λ os. asked_at (asked_by kind os) way) (sym (filter_swap _ (is_young (2 * idle + 1) n) outs)) ∙ filter_found kind (λ e. not (same_ep e.inside who)) way m left (young (2 * idle + 1) n outs) is
-    by_kind false is = is
-
 unless_in-there : (who : Ep) (way : Way) (o : Option Millis) (m : Millis) → unless_in who way o ≡ Some m → (same_ep way.inside who ≡ false) × (o ≡ Some m)
 unless_in-there who way o m = by_who (same_ep way.inside who) refl
   where
@@ -113,16 +117,27 @@ unless_in-there who way o m = by_who (same_ep way.inside who) refl
     by_who true h i = absurd (let g : None ≡ Some m = i in cc)
     by_who false h i = (h, i)
 
-pub within_forgot : (who : Ep) (old new : List (Way × Millis)) → ((way : Way) → asked_at new way ≡ unless_in who way (asked_at old way)) → Within new old
-within_forgot who old new forgets way m i = (unless_in-there who way (asked_at old way) m (sym (forgets way) ∙ i)).1
+-- what this inside endpoint asked is gone
+pub record Forgets (who : Ep) (old new : List (Way × Millis)) : Type 0 where
+  pub each : (way : Way) → asked_at new way ≡ unless_in who way (asked_at old way)
+  pub once : IsOnce new
 
-pub recalls_forgot : (kind : NatKind) (idle n : ℕ) (who : Ep) (outs : List Outward) (old new : List (Way × Millis)) → ((way : Way) → asked_at new way ≡ unless_in who way (asked_at old way)) → IsOnce new → Recalls kind (recalled kind idle n outs) old → Recalls kind (recalled kind idle n (without who outs)) new
-recalls_forgot kind idle n who outs old new forgets once is = record {
-  once = once;
+pub recalls_forgot : (s : NatSettings) (n : ℕ) (who : Ep) (outs : List Outward) (old new : List (Way × Millis)) → Forgets who old new → Recalls s.kind (recalled s.kind s.idle n outs) old → Recalls s.kind (recalled s.kind s.idle n (without who outs)) new
+recalls_forgot s n who outs old new forgets is = record {
+  once = forgets.once;
   latest = λ way m i.
-      let was = unless_in-there who way (asked_at old way) m (sym (forgets way) ∙ i) in
-      recalled_forgot kind idle n who way m outs was.0 (is.latest way m was.1);
+      let was = unless_in-there who way (asked_at old way) m (sym (forgets.each way) ∙ i) in
+      by_kind way m was.0 (keeps_asked s.kind) (is.latest way m was.1);
 }
+  where
+    w : ℕ
+    w = 2 * s.idle + 1
+
+    by_kind : (way : Way) (m : Millis) → same_ep way.inside who ≡ false → (k : Bool) → asked_at (asked_by s.kind (cond k (young w n outs) [])) way ≡ Some m → asked_at (asked_by s.kind (cond k (young w n (without who outs)) [])) way ≡ Some m
+    by_kind way m other true i =
+        ap (λ os. asked_at (asked_by s.kind os) way) (sym (filter_swap _ (is_young w n) outs))
+        ∙ filter_found s.kind (λ e. not (same_ep e.inside who)) way m (λ e t same. ap (λ x. not (same_ep x who)) (asked_inside s.kind e way t) ∙ ap not other) (young w n outs) i
+    by_kind way m other false i = i
 
 -- nothing is kept
 none_once : IsOnce []
@@ -131,16 +146,6 @@ none_once = tt
 
 pub recalls_none : (kind : NatKind) (outs : List Outward) (asked : List (Way × Millis)) → asked ≡ [] → Recalls kind outs asked
 recalls_none kind outs asked none = subst (Recalls kind outs) (sym none) (record { once = none_once; latest = λ way m i. absurd (let g : None ≡ Some m = i in cc) })
-
-pub swept_within : (idle n swept : ℕ) (old new : List (Way × Millis)) → Within new old → IsSwept idle n swept old → IsSwept idle n swept new
-swept_within idle n swept old new within s = record { past = s.past; lately = s.lately; kept = λ way m i. s.kept way m (within way m i) }
-
-pub swept_noted : (kind : NatKind) (idle n swept : ℕ) (e : Outward) (old new : List (Way × Millis)) → e.moment.0 ≡ n → IsNoted kind old new e → IsSwept idle n swept old → IsSwept idle n swept new
-swept_noted kind idle n swept e old new at noted s = record { past = s.past; lately = s.lately; kept = λ way m i. by_asked way m (keeps_asked kind && same_way (asked_way kind e.inside e.dst) way) (sym (noted way) ∙ i) }
-  where
-    by_asked : (way : Way) (m : Millis) (b : Bool) → cond b (Some e.moment) (asked_at old way) ≡ Some m → swept ≤ m.0 + idle
-    by_asked way m true i = let same : e.moment ≡ m = cc in let k : m.0 ≡ n = ap (λ (x : Millis). x.0) (sym same) ∙ at in omega (arith, s.past, k)
-    by_asked way m false i = s.kept way m i
 
 -- there are no more of them than such datagrams
 pub recalls_few : (kind : NatKind) (outs : List Outward) (asked : List (Way × Millis)) → Recalls kind outs asked → length asked ≤ length outs

@@ -5,6 +5,7 @@ use Rattle.td_base.specs.declared.ipv6.Ip6.{Ip6}
 use Rattle.td_base.specs.Bytes.{IsBytes}
 use Rattle.td_base.specs.Ip6.{IsIp6}
 use Rattle.td_base.specs.Ip6Texts.{groups}
+use Rattle.td_base.proofs.BytesLemmas.{AreBytes, byte_first}
 use Rattle.td_base.proofs.SpellingLemmas.{AllSmall}
 
 -- each number's two bytes
@@ -57,13 +58,6 @@ one_ip6 p q f g e =
     let lists : p.0 ≡ q.0 = sym (pair_bytes-groups p f) ∙ ap pair_bytes e ∙ pair_bytes-groups q g in
     ap (λ (l : List ℕ). record { 0 = l }) lists
 
-IsBytes-nil : IsBytes []
-IsBytes-nil i = omega arith
-
-IsBytes-cons : (b : ℕ) (bytes : List ℕ) → b < 256 → IsBytes bytes → IsBytes (b ∷ bytes)
-IsBytes-cons b bytes lt is zero = lt
-IsBytes-cons b bytes lt is (suc i) = is i
-
-pub sixteen_bytes : {a b c d e f g h i j k l m n o p : ℕ} → a < 256 → b < 256 → c < 256 → d < 256 → e < 256 → f < 256 → g < 256 → h < 256 → i < 256 → j < 256 → k < 256 → l < 256 → m < 256 → n < 256 → o < 256 → p < 256 → IsBytes (a ∷ b ∷ c ∷ d ∷ e ∷ f ∷ g ∷ h ∷ i ∷ j ∷ k ∷ l ∷ m ∷ n ∷ o ∷ p ∷ [])
-sixteen_bytes {a} {b} {c} {d} {e} {f} {g} {h} {i} {j} {k} {l} {m} {n} {o} {p} a' b' c' d' e' f' g' h' i' j' k' l' m' n' o' p' =
-    IsBytes-cons a (b ∷ c ∷ d ∷ e ∷ f ∷ g ∷ h ∷ i ∷ j ∷ k ∷ l ∷ m ∷ n ∷ o ∷ p ∷ []) a' (IsBytes-cons b (c ∷ d ∷ e ∷ f ∷ g ∷ h ∷ i ∷ j ∷ k ∷ l ∷ m ∷ n ∷ o ∷ p ∷ []) b' (IsBytes-cons c (d ∷ e ∷ f ∷ g ∷ h ∷ i ∷ j ∷ k ∷ l ∷ m ∷ n ∷ o ∷ p ∷ []) c' (IsBytes-cons d (e ∷ f ∷ g ∷ h ∷ i ∷ j ∷ k ∷ l ∷ m ∷ n ∷ o ∷ p ∷ []) d' (IsBytes-cons e (f ∷ g ∷ h ∷ i ∷ j ∷ k ∷ l ∷ m ∷ n ∷ o ∷ p ∷ []) e' (IsBytes-cons f (g ∷ h ∷ i ∷ j ∷ k ∷ l ∷ m ∷ n ∷ o ∷ p ∷ []) f' (IsBytes-cons g (h ∷ i ∷ j ∷ k ∷ l ∷ m ∷ n ∷ o ∷ p ∷ []) g' (IsBytes-cons h (i ∷ j ∷ k ∷ l ∷ m ∷ n ∷ o ∷ p ∷ []) h' (IsBytes-cons i (j ∷ k ∷ l ∷ m ∷ n ∷ o ∷ p ∷ []) i' (IsBytes-cons j (k ∷ l ∷ m ∷ n ∷ o ∷ p ∷ []) j' (IsBytes-cons k (l ∷ m ∷ n ∷ o ∷ p ∷ []) k' (IsBytes-cons l (m ∷ n ∷ o ∷ p ∷ []) l' (IsBytes-cons m (n ∷ o ∷ p ∷ []) m' (IsBytes-cons n (o ∷ p ∷ []) n' (IsBytes-cons o (p ∷ []) o' (IsBytes-cons p [] p' IsBytes-nil)))))))))))))))
+-- the two bytes of a group, before others
+pub group_first : {a b : ℕ} {bytes : List ℕ} → a < 256 → b < 256 → AreBytes bytes → AreBytes (a ∷ b ∷ bytes)
+group_first {a} {b} {bytes} p q is = byte_first a p (byte_first b q is)

@@ -3,7 +3,7 @@ use Rattle.std.proofs.Common.{◌≡◌, ◌≢◌, ℕ, zero, suc, ◌+◌, ◌
 use Rattle.std.specs.Prelude.{replicate}
 use Rattle.std.specs.Char.{digit_value}
 use Rattle.std.specs.Str.Parse.{AllDigits}
-use Rattle.std.proofs.lemmas.List.{append_assoc, append-nil, take_rest}
+use Rattle.std.proofs.lemmas.List.{append_assoc, append-nil, length-append, take_rest}
 use Rattle.td_base.specs.Fronts.{Halts}
 use Rattle.td_base.specs.Ip6Texts.{IsGroup}
 use Rattle.td_base.specs.Ip6Fronts.{Accepts, GroupThen, AfterTail, Tail, AfterHead, NoHex, IsFrontGroup}
@@ -23,20 +23,28 @@ colon_no_hex byte lt e =
     let lt' : digit_value 58 < 16 = subst (λ (x : ℕ). digit_value x < 16) e lt in
     omega (arith, lt')
 
--- a group ends where its digits do, or at four of them
-one_group : (xs ys s t : List ℕ) (m : ℕ) → AllDigits 16 xs → AllDigits 16 ys → length ys ≤ m → (length xs ≡ m) ⊎ NoHex s → ColonOrEnd t → xs ++ s ≡ ys ++ t → (xs ≡ ys) × (s ≡ t)
-one_group [] [] s t m p q le stop end e = (refl, e)
-one_group [] (y ∷ ys) s t m p q le (inl full) end e = absurd (omega arith)
-one_group [] (y ∷ ys) s t m p q le (inr none) end e = absurd (omega (arith, none y (ys ++ t) e, q.0))
-one_group (x ∷ xs) [] s t m p q le stop end e = absurd (colon_no_hex x p.0 (end x (xs ++ s) (sym e)))
-one_group (x ∷ xs) (y ∷ ys) s t zero p q le stop end e = absurd (omega arith)
-one_group (x ∷ xs) (y ∷ ys) s t (suc m) p q le (inl full) end e =
+-- up to m digits, and as many as there are
+abbrev AreLongest : ℕ → List ℕ → List ℕ → Type 0
+AreLongest m digits rest = AllDigits 16 digits × ((length digits ≡ m) ⊎ NoHex rest)
+
+-- up to m digits before a colon or the end
+abbrev AreEnded : ℕ → List ℕ → List ℕ → Type 0
+AreEnded m digits rest = AllDigits 16 digits × (length digits ≤ m) × ColonOrEnd rest
+
+-- a group ends where its digits do, or at so many of them
+one_group : (m : ℕ) (xs ys s t : List ℕ) → AreLongest m xs s → AreEnded m ys t → xs ++ s ≡ ys ++ t → (xs ≡ ys) × (s ≡ t)
+one_group m [] [] s t p q e = (refl, e)
+one_group m [] (y ∷ ys) s t (p, inl full) q e = absurd (omega (arith, full, q.1))
+one_group m [] (y ∷ ys) s t (p, inr none) q e = absurd (omega (arith, none y (ys ++ t) e, q.0.0))
+one_group m (x ∷ xs) [] s t p q e = absurd (colon_no_hex x p.0.0 (q.2 x (xs ++ s) (sym e)))
+one_group zero (x ∷ xs) (y ∷ ys) s t p q e = absurd (omega (arith, q.1))
+one_group (suc m) (x ∷ xs) (y ∷ ys) s t (p, inl full) q e =
     let heads : x ≡ y = cc in
-    let h = one_group xs ys s t m p.1 q.1 (omega arith) (inl (omega arith)) end cc in
+    let h = one_group m xs ys s t (p.1, inl (omega (arith, full))) (q.0.1, omega (arith, q.1), q.2) cc in
     (rw heads (ap (λ (l : List ℕ). y ∷ l) h.0), h.1)
-one_group (x ∷ xs) (y ∷ ys) s t (suc m) p q le (inr none) end e =
+one_group (suc m) (x ∷ xs) (y ∷ ys) s t (p, inr none) q e =
     let heads : x ≡ y = cc in
-    let h = one_group xs ys s t m p.1 q.1 (omega arith) (inr none) end cc in
+    let h = one_group m xs ys s t (p.1, inr none) (q.0.1, omega (arith, q.1), q.2) cc in
     (rw heads (ap (λ (l : List ℕ). y ∷ l) h.0), h.1)
 
 -- the first byte of a front is that of the text
@@ -48,13 +56,15 @@ stop_front : (digits rest front : List ℕ) (byte : ℕ) (after more : List ℕ)
 stop_front digits rest front byte after more (inl full) e = inl full
 stop_front digits rest front byte after more (inr none) e = inr (no_hex_front rest front byte after more none e)
 
-pub group_goes_on : (Rest : List ℕ → List ℕ → Type 0) (digits rest : List ℕ) (n left : ℕ) → IsGroup digits n → (length digits ≡ 4) ⊎ NoHex rest → Ends Rest → Halts (Accepts Rest) rest left → Halts (Accepts (GroupThen Rest)) (digits ++ rest) left
-group_goes_on Rest digits rest n left is stop end h =
+pub group_goes_on : (Rest : List ℕ → List ℕ → Type 0) (text rest : List ℕ) (n left : ℕ) → IsFrontGroup text n rest → Ends Rest → Halts (Accepts Rest) rest left → Halts (Accepts (GroupThen Rest)) text left
+group_goes_on Rest text rest n left front end h =
+    let digits : List ℕ = front.0 in
+    let is : IsGroup digits n = front.1 in
     let b = h.begins in
     record {
       front = digits ++ h.front;
       rest = h.rest;
-      parts = ap (λ (l : List ℕ). digits ++ l) h.parts ∙ sym (append_assoc digits h.front h.rest);
+      parts = front.2 ∙ ap (λ (l : List ℕ). digits ++ l) h.parts ∙ sym (append_assoc digits h.front h.rest);
       count = h.count;
       begins = (b.0, (n ∷ b.1.0, (digits, h.front ++ b.0, n, b.1.0, is, b.1.1, append_assoc digits h.front b.0, refl)));
       stops = λ byte after e a.
@@ -62,13 +72,25 @@ group_goes_on Rest digits rest n left is stop end h =
           let whole : digits ++ ((h.front ++ byte ∷ []) ++ a.0) ≡ g.0 ++ g.1 =
           sym (append_assoc digits (h.front ++ byte ∷ []) a.0) ∙ ap (λ (l : List ℕ). l ++ a.0) (sym (append_assoc digits h.front (byte ∷ []))) ∙ g.6 in
           let rest_is : rest ≡ h.front ++ byte ∷ after = h.parts ∙ ap (λ (l : List ℕ). h.front ++ l) e in
-          let same = one_group digits g.0 ((h.front ++ byte ∷ []) ++ a.0) g.1 4 is.0.1 g.4.0.1 g.4.2 (stop_front digits rest h.front byte after a.0 stop rest_is) (end g.1 g.3 g.5) whole in
+          let same = one_group 4 digits g.0 ((h.front ++ byte ∷ []) ++ a.0) g.1 (is.0.1, stop_front digits rest h.front byte after a.0 front.3 rest_is) (g.4.0.1, g.4.2, end g.1 g.3 g.5) whole in
           h.stops byte after e (a.0, (g.3, subst (λ (t : List ℕ). Rest t g.3) (sym same.1) g.5));
       refused = λ a.
           let g = a.1 in
-          let same = one_group digits g.0 rest g.1 4 is.0.1 g.4.0.1 g.4.2 stop (end g.1 g.3 g.5) g.6 in
+          let same = one_group 4 digits g.0 rest g.1 (is.0.1, front.3) (g.4.0.1, g.4.2, end g.1 g.3 g.5) (sym front.2 ∙ g.6) in
           h.refused (g.3, subst (λ (t : List ℕ). Rest t g.3) (sym same.1) g.5);
     }
+
+-- a group has a digit
+group_has_some : (text rest : List ℕ) (n : ℕ) → IsFrontGroup text n rest → 1 ≤ length text
+group_has_some text rest n g = omega (arith, g.1.0.0, ap length g.2, length-append g.0 rest)
+
+-- and so it doesn't begin with a colon
+group_no_colon : (text rest : List ℕ) (n : ℕ) → IsFrontGroup text n rest → NotColon text
+group_no_colon text rest n g after e = by_digits g.0 g.1.0.0 g.1.0.1 (sym e ∙ g.2)
+  where
+    by_digits : (digits : List ℕ) → 0 < length digits → AllDigits 16 digits → 58 ∷ after ≡ digits ++ rest → ⊥
+    by_digits [] some all f = omega arith
+    by_digits (d ∷ digits) some all f = colon_no_hex d all.0 cc
 
 zero_group : IsGroup (48 ∷ []) 0
 zero_group = ((omega arith, (lit< tt, tt)), refl, omega arith)
@@ -181,17 +203,28 @@ tail_no_group most text rest left ne f h =
     let i = tail_inhabited (most - 1) in
     rw h.0 (tail_step most (most - 1) text rest (length rest) (omega (arith, ne)) f (no_group (AfterTail (most - 1)) rest i.0 i.1 i.2 h.1))
 
-pub tail_halts : (most : ℕ) (text rest after : List ℕ) (n left : ℕ) → most ≢ 0 → text ≡ 58 ∷ rest → IsFrontGroup rest n after → Halts (Accepts (AfterTail (most - 1))) after left → Halts (Accepts (AfterTail most)) text left
-tail_halts most text rest after n left ne f g h =
-    tail_step most (most - 1) text rest left (omega (arith, ne)) f (rw g.2 (group_goes_on (AfterTail (most - 1)) g.0 after n left g.1 g.3 (ends_after_tail (most - 1)) h))
+-- behind a colon stand a group and then `after`
+pub record ColonGroup (text after : List ℕ) : Type 0 where
+  pub rest : List ℕ
+  pub n : ℕ
+  pub colon : text ≡ 58 ∷ rest
+  pub group : IsFrontGroup rest n after
 
-pub tail_found : (most : ℕ) (text rest after : List ℕ) (n : ℕ) (old mid new : List ℕ) → most ≢ 0 → text ≡ 58 ∷ rest → IsFrontGroup rest n after → mid ≡ old ++ n ∷ []
-    → (more : List ℕ) × AfterTail (most - 1) after more × (new ≡ mid ++ more) → (more : List ℕ) × AfterTail most text more × (new ≡ old ++ more)
-tail_found zero text rest after n old mid new ne f g pushed h = absurd (ne refl)
-tail_found (suc most) text rest after n old mid new ne f g pushed h =
+-- the text is read so, and its numbers were pushed
+abbrev pub Found : (List ℕ → List ℕ → Type 0) → List ℕ → List ℕ → List ℕ → Type 0
+Found Reads text old new = (more : List ℕ) × Reads text more × (new ≡ old ++ more)
+
+pub tail_halts : (most : ℕ) (text after : List ℕ) (left : ℕ) → most ≢ 0 → ColonGroup text after → Halts (Accepts (AfterTail (most - 1))) after left → Halts (Accepts (AfterTail most)) text left
+tail_halts most text after left ne g h =
+    tail_step most (most - 1) text g.rest left (omega (arith, ne)) g.colon (group_goes_on (AfterTail (most - 1)) g.rest after g.n left g.group (ends_after_tail (most - 1)) h)
+
+pub tail_found : (most : ℕ) (text after old new : List ℕ) → most ≢ 0 → (g : ColonGroup text after) → Found (AfterTail (most - 1)) after (old ++ g.n ∷ []) new → Found (AfterTail most) text old new
+tail_found zero text after old new ne g h = absurd (ne refl)
+tail_found (suc most) text after old new ne g h =
     let m : suc most - 1 ≡ most = omega arith in
     let is : AfterTail most after h.0 = subst (λ (k : ℕ). AfterTail k after h.0) m h.1 in
-    (n ∷ h.0, inr (rest, f, (g.0, after, n, h.0, g.1, is, g.2, refl)), h.2 ∙ rw pushed (append_assoc old (n ∷ []) h.0))
+    let f = g.group in
+    (g.n ∷ h.0, inr (g.rest, g.colon, (f.0, after, g.n, h.0, f.1, is, f.2, refl)), h.2 ∙ append_assoc old (g.n ∷ []) h.0)
 
 -- ---- the exits of `tail_groups`
 
@@ -221,9 +254,9 @@ tail_begins_badly most text left ne some h =
     let i = tail_inhabited (most - 1) in
     rw h.0 (tail_group_at most text (length text) ne some (no_group (AfterTail (most - 1)) text i.0 i.1 i.2 h.1))
 
-pub tail_goes_on : (most : ℕ) (text after : List ℕ) (n left : ℕ) → most ≢ 0 → 1 ≤ length text → IsFrontGroup text n after → Halts (Accepts (AfterTail (most - 1))) after left → Halts (Accepts (Tail most)) text left
-tail_goes_on most text after n left ne some g h =
-    tail_group_at most text left ne some (rw g.2 (group_goes_on (AfterTail (most - 1)) g.0 after n left g.1 g.3 (ends_after_tail (most - 1)) h))
+pub tail_goes_on : (most : ℕ) (text after : List ℕ) (n left : ℕ) → most ≢ 0 → IsFrontGroup text n after → Halts (Accepts (AfterTail (most - 1))) after left → Halts (Accepts (Tail most)) text left
+tail_goes_on most text after n left ne g h =
+    tail_group_at most text left ne (group_has_some text after n g) (group_goes_on (AfterTail (most - 1)) text after n left g (ends_after_tail (most - 1)) h)
 
 -- ---- the exits of `after_head`
 
@@ -258,9 +291,9 @@ pub tail_of : (s t : List ℕ) → 58 ∷ s ≡ 58 ∷ t → s ≡ t
 tail_of s t e = cc
 
 -- a first byte that is no colon stays the first byte
-pub front_no_colon : (rest front : List ℕ) (byte : ℕ) (after more s : List ℕ) → NotColon rest → rest ≡ front ++ byte ∷ after → (front ++ byte ∷ []) ++ more ≡ 58 ∷ s → ⊥
-front_no_colon rest [] byte after more s other e f = other after (e ∙ ap (λ (x : ℕ). x ∷ after) cc)
-front_no_colon rest (c ∷ front) byte after more s other e f = other (front ++ byte ∷ after) (e ∙ ap (λ (x : ℕ). x ∷ (front ++ byte ∷ after)) cc)
+pub front_no_colon : (rest front : List ℕ) (byte : ℕ) (after more : List ℕ) → NotColon rest → rest ≡ front ++ byte ∷ after → NotColon ((front ++ byte ∷ []) ++ more)
+front_no_colon rest [] byte after more other e s f = other after (e ∙ ap (λ (x : ℕ). x ∷ after) cc)
+front_no_colon rest (c ∷ front) byte after more other e s f = other (front ++ byte ∷ after) (e ∙ ap (λ (x : ℕ). x ∷ (front ++ byte ∷ after)) cc)
 
 head_group : (m : ℕ) (rest : List ℕ) (left : ℕ) → NotColon rest → Halts (Accepts (GroupThen (AfterHead m))) rest left → Halts (Accepts (AfterHead (suc m))) (58 ∷ rest) left
 head_group m rest left other h = record {
@@ -272,7 +305,7 @@ head_group m rest left other h = record {
   stops = λ byte after e a.
       let same = tail_of _ _ a.1.1.1 in
       elim a.1.1.2 [
-        | inl x ↦ front_no_colon rest h.front byte after a.0 x.0 other (h.parts ∙ ap (λ (l : List ℕ). h.front ++ l) e) (same ∙ x.2)
+        | inl x ↦ front_no_colon rest h.front byte after a.0 other (h.parts ∙ ap (λ (l : List ℕ). h.front ++ l) e) x.0 (same ∙ x.2)
         | inr x ↦ h.stops byte after e (a.0, (a.1.0, subst (λ (t : List ℕ). GroupThen (AfterHead m) t a.1.0) (sym same) x))
       ];
   refused = λ a.
@@ -327,17 +360,17 @@ head_no_group missing text rest left ne e other h =
     let i = head_inhabited (missing - 1) in
     rw h.0 (head_group_at missing text rest (length rest) ne e other (no_group (AfterHead (missing - 1)) rest i.0 i.1 i.2 h.1))
 
-pub head_halts : (missing : ℕ) (text rest after : List ℕ) (n left : ℕ) → missing ≢ 0 → text ≡ 58 ∷ rest → NotColon rest → IsFrontGroup rest n after → Halts (Accepts (AfterHead (missing - 1))) after left → Halts (Accepts (AfterHead missing)) text left
-head_halts missing text rest after n left ne e other g h =
-    head_group_at missing text rest left ne e other (rw g.2 (group_goes_on (AfterHead (missing - 1)) g.0 after n left g.1 g.3 (ends_after_head (missing - 1)) h))
+pub head_halts : (missing : ℕ) (text after : List ℕ) (left : ℕ) → missing ≢ 0 → ColonGroup text after → Halts (Accepts (AfterHead (missing - 1))) after left → Halts (Accepts (AfterHead missing)) text left
+head_halts missing text after left ne g h =
+    head_group_at missing text g.rest left ne g.colon (group_no_colon g.rest after g.n g.group) (group_goes_on (AfterHead (missing - 1)) g.rest after g.n left g.group (ends_after_head (missing - 1)) h)
 
-pub head_found : (missing : ℕ) (text rest after : List ℕ) (n : ℕ) (old mid new : List ℕ) → missing ≢ 0 → text ≡ 58 ∷ rest → IsFrontGroup rest n after → mid ≡ old ++ n ∷ []
-    → (more : List ℕ) × AfterHead (missing - 1) after more × (new ≡ mid ++ more) → (more : List ℕ) × AfterHead missing text more × (new ≡ old ++ more)
-head_found zero text rest after n old mid new ne f g pushed h = absurd (ne refl)
-head_found (suc m) text rest after n old mid new ne f g pushed h =
+pub head_found : (missing : ℕ) (text after old new : List ℕ) → missing ≢ 0 → (g : ColonGroup text after) → Found (AfterHead (missing - 1)) after (old ++ g.n ∷ []) new → Found (AfterHead missing) text old new
+head_found zero text after old new ne g h = absurd (ne refl)
+head_found (suc m) text after old new ne g h =
     let one : suc m - 1 ≡ m = omega arith in
     let is : AfterHead m after h.0 = subst (λ (k : ℕ). AfterHead k after h.0) one h.1 in
-    (n ∷ h.0, (rest, f, inr (g.0, after, n, h.0, g.1, is, g.2, refl)), h.2 ∙ rw pushed (append_assoc old (n ∷ []) h.0))
+    let f = g.group in
+    (g.n ∷ h.0, (g.rest, g.colon, inr (f.0, after, g.n, h.0, f.1, is, f.2, refl)), h.2 ∙ append_assoc old (g.n ∷ []) h.0)
 
 pub head_found_elided : (missing : ℕ) (text after : List ℕ) (old new : List ℕ) → missing ≢ 0 → text ≡ 58 ∷ 58 ∷ after
     → (tail : List ℕ) × Tail (missing - 1) after tail × (new ≡ old ++ (replicate (missing - 1 + 1 - length tail) 0 ++ tail)) → (more : List ℕ) × AfterHead missing text more × (new ≡ old ++ more)

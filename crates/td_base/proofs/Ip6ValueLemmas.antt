@@ -253,4 +253,4 @@ ip6_of-spelled ip text is h = ap (option_map address) (spelled_numbers text (gro
 
 pub ip6_read : {E : Type 0} (text : List ℕ) (r : Result Ip6 E) → IfOk r (λ ip. IsIp6 ip × Spells ip text) → ((ip : Ip6) → IsIp6 ip → Spells ip text → r ≡ Ok ip) → result_ok r ≡ ip6_of text
 ip6_read text r found only =
-    as_read (λ ip. IsIp6 ip × Spells ip text) r (ip6_of text) found (λ ip h. only ip h.0 h.1) (λ ip e. ip6_of-sound ip text e) (λ ip h. ip6_of-spelled ip text h.0 h.1)
+    as_read (λ ip. IsIp6 ip × Spells ip text) r (ip6_of text) found (λ ip h. only ip h.0 h.1) (λ ip. (ip6_of-sound ip text, λ h. ip6_of-spelled ip text h.0 h.1))

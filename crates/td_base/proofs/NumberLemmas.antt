@@ -37,17 +37,23 @@ number_decides a b m n p q e f =
 pub one_number : (a b : Ip4) (m n : ℕ) → IsIp4 a → IsIp4 b → m ≡ number_at 0 4 a.0 → n ≡ number_at 0 4 b.0 → eqb m n ≡ same_ip a b
 one_number a b m n p q e f = same_from_decides _ _ (number_decides a b m n p q e f) (same_ip_decides a b)
 
-halves_decide : (a b : Ip6) → IsIp6 a → IsIp6 b → number_at 0 8 a.0 ≡ number_at 0 8 b.0 → (m n : ℕ) → m ≡ number_at 8 8 a.0 → n ≡ number_at 8 8 b.0 → Decides (eqb m n) (a ≡ b)
+-- an address, and the numbers of its halves
+pub record HasHalves (ip : Ip6) (first last : ℕ) : Type 0 where
+  pub is : IsIp6 ip
+  pub first_is : first ≡ number_at 0 8 ip.0
+  pub last_is : last ≡ number_at 8 8 ip.0
+
+halves_decide : (a b : Ip6) (first m n : ℕ) → HasHalves a first m → HasHalves b first n → Decides (eqb m n) (a ≡ b)
 unfolding as_ip6
-halves_decide a b p q high m n e f =
+halves_decide a b first m n p q =
     let joined : ℕ → ℕ → List ℕ = λ k l. big_bytes 8 k ++ big_bytes 8 l in (
-      λ t. ap as_ip6 (sixteen a.0 p.0 p.1 ∙ ap (λ (k : ℕ). joined k (number_at 8 8 a.0)) high ∙ ap (joined (number_at 0 8 b.0)) (sym e ∙ eqb-true _ _ t ∙ f) ∙ sym (sixteen b.0 q.0 q.1)),
-      λ same. eq-eqb _ _ (e ∙ ap (λ (x : Ip6). number_at 8 8 x.0) same ∙ sym f),
+      λ t. ap as_ip6 (sixteen a.0 p.is.0 p.is.1 ∙ ap (λ (k : ℕ). joined k (number_at 8 8 a.0)) (sym p.first_is ∙ q.first_is) ∙ ap (joined (number_at 0 8 b.0)) (sym p.last_is ∙ eqb-true _ _ t ∙ q.last_is) ∙ sym (sixteen b.0 q.is.0 q.is.1)),
+      λ same. eq-eqb _ _ (p.last_is ∙ ap (λ (x : Ip6). number_at 8 8 x.0) same ∙ sym q.last_is),
     )
 
 -- where the first halves are the same
-pub by_last_half : (a b : Ip6) (m n : ℕ) → IsIp6 a → IsIp6 b → number_at 0 8 a.0 ≡ number_at 0 8 b.0 → m ≡ number_at 8 8 a.0 → n ≡ number_at 8 8 b.0 → eqb m n ≡ same_ip6 a b
-by_last_half a b m n p q high e f = same_from_decides _ _ (halves_decide a b p q high m n e f) (same_ip6_decides a b)
+pub by_last_half : (a b : Ip6) (first m n : ℕ) → HasHalves a first m → HasHalves b first n → eqb m n ≡ same_ip6 a b
+by_last_half a b first m n p q = same_from_decides _ _ (halves_decide a b first m n p q) (same_ip6_decides a b)
 
 -- where they aren't
 pub by_first_half : (a b : Ip6) → number_at 0 8 a.0 ≢ number_at 0 8 b.0 → same_ip6 a b ≡ false

@@ -1,6 +1,6 @@
 -- What a reader answers, as an option, and the numbers that texts are.
 use Rattle.std.proofs.Common.{◌≡◌, ℕ, ◌^◌, ◌<◌, ◌≤◌, nat_le, ◌&&◌, Bool, true, false, if◌then◌else◌, List, Option, Some, None, Result, Ok, Err, refl, sym, arith}
-use Rattle.std.specs.Prelude.{decimal, IfOk}
+use Rattle.std.specs.Prelude.{◌↔◌, decimal, IfOk}
 use Rattle.std.specs.Result.{result_ok}
 use Rattle.std.specs.Str.Parse.{AllDigits, digits_value}
 use Rattle.std.proofs.lemmas.Bool.Decides.{Decides-eqb, nat_tests}
@@ -11,12 +11,16 @@ use Rattle.std.proofs.lemmas.Str.Parse.{IsNumeralModel, numerals_by_value, tells
 use Rattle.td_base.specs.Options.{◌>>=◌}
 use Rattle.td_base.specs.Values.{same_text, number_of}
 
+-- the option has the value of which this holds, where there is one
+abbrev pub Tells : {X : Type 0} → (X → Type 0) → Option X → Type 0
+Tells {X} Is o = (x : X) → (o ≡ Some x) ↔ Is x
+
 -- a reader that accepts the texts that are some value's, and no others
-pub as_read : {X E : Type 0} (Is : X → Type 0) (r : Result X E) (o : Option X) → IfOk r Is → ((x : X) → Is x → r ≡ Ok x) → ((x : X) → o ≡ Some x → Is x) → ((x : X) → Is x → o ≡ Some x) → result_ok r ≡ o
-as_read Is (Ok x) o found only sound complete = sym (complete x found)
-as_read Is (Err e) None found only sound complete = refl
-as_read Is (Err e) (Some x) found only sound complete =
-    let wrong : Err e ≡ Ok x = only x (sound x refl) in
+pub as_read : {X E : Type 0} (Is : X → Type 0) (r : Result X E) (o : Option X) → IfOk r Is → ((x : X) → Is x → r ≡ Ok x) → Tells Is o → result_ok r ≡ o
+as_read Is (Ok x) o found only tells = sym ((tells x).1 found)
+as_read Is (Err e) None found only tells = refl
+as_read Is (Err e) (Some x) found only tells =
+    let wrong : Err e ≡ Ok x = only x ((tells x).0 refl) in
     absurd cc
 
 -- the value that a step gave
@@ -64,4 +68,4 @@ number_back most n small le = number_of-decimal most n (decimal n) small le refl
 
 pub number_read : {E : Type 0} (most : ℕ) (text : List ℕ) (r : Result ℕ E) → most < 2 ^ 64 → IfOk r (λ n. (n ≤ most) × (text ≡ decimal n)) → ((n : ℕ) → n ≤ most → text ≡ decimal n → r ≡ Ok n) → result_ok r ≡ number_of most text
 number_read most text r small found only =
-    as_read (λ n. (n ≤ most) × (text ≡ decimal n)) r (number_of most text) found (λ n h. only n h.0 h.1) (λ n e. number_of-sound most n text e) (λ n h. number_of-decimal most n text small h.0 h.1)
+    as_read (λ n. (n ≤ most) × (text ≡ decimal n)) r (number_of most text) found (λ n h. only n h.0 h.1) (λ n. (number_of-sound most n text, λ h. number_of-decimal most n text small h.0 h.1))

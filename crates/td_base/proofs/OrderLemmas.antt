@@ -12,6 +12,7 @@ use Rattle.td_base.specs.Bytes.{IsBytes, number_at}
 use Rattle.td_base.specs.Ip6.{IsIp6, cmp_ip6}
 use Rattle.td_base.specs.declared.ipv6.Ip6.{Ip6}
 use Rattle.td_base.proofs.BytesLemmas.{IsBytes-drop}
+use Rattle.td_base.proofs.NumberLemmas.{HasHalves}
 
 less : (m n : ℕ) → m < n → nat_cmp m n ≡ Less
 less m n h = sym (nat_cmp_is m n Less h)
@@ -93,5 +94,5 @@ by_halves a b p q =
     ∙ then_equal last)
 
 -- the same of numbers that are the halves
-pub as_numbers : (a b : Ip6) (j k m n : ℕ) → IsIp6 a → IsIp6 b → j ≡ number_at 0 8 a.0 → k ≡ number_at 8 8 a.0 → m ≡ number_at 0 8 b.0 → n ≡ number_at 8 8 b.0 → ordering_then (nat_cmp j m) (nat_cmp k n) ≡ cmp_ip6 a b
-as_numbers a b j k m n p q ej ek em en = rw ej (rw ek (rw em (rw en (sym (by_halves a b p q)))))
+pub as_numbers : (a b : Ip6) (j k m n : ℕ) → HasHalves a j k → HasHalves b m n → ordering_then (nat_cmp j m) (nat_cmp k n) ≡ cmp_ip6 a b
+as_numbers a b j k m n p q = rw (p.first_is, p.last_is, q.first_is, q.last_is) (sym (by_halves a b p.is q.is))

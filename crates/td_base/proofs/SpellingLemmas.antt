@@ -1,6 +1,7 @@
 -- The texts that spell groups, as they are read from their front.
 use Rattle.std.proofs.Common.{◌≡◌, ℕ, zero, suc, ◌+◌, ◌-◌, ◌^◌, ◌<◌, ◌≤◌, List, [], ◌∷◌, ◌++◌, length, get_or, refl, sym, ap, ◌∙◌, arith, inl, inr, ◌⊎◌, lit≤}
 use Rattle.std.specs.Prelude.{replicate}
+use Rattle.std.specs.List.{AllByRecursion}
 use Rattle.std.proofs.Math.Nat.{pow-le-pow_right}
 use Rattle.std.proofs.lemmas.Int.Digits.{digits_value-lt}
 use Rattle.std.proofs.lemmas.List.{append_assoc, append-nil, length-append, length-replicate}
@@ -137,49 +138,60 @@ pub group_and_head : (n : ℕ) (ns text : List ℕ) → AreGroups (n ∷ ns) tex
 group_and_head n [] text is = (text, [], n, [], is, (refl, refl), sym (append-nil text), refl)
 group_and_head n (k ∷ ns) text is = (is.0, 58 ∷ is.1, n, k ∷ ns, is.2, (is.1, refl, inr (group_and_head k ns is.1 is.3)), is.4, refl)
 
-group_and_elided : (m n : ℕ) (head tail head_text tail_text : List ℕ) → AreGroups (n ∷ head) head_text → AreGroups tail tail_text → length head + length tail < m
-    → GroupThen (AfterHead m) (head_text ++ 58 ∷ 58 ∷ tail_text) (n ∷ (head ++ (replicate (m - length head - length tail) 0 ++ tail)))
-group_and_elided zero n head tail head_text tail_text is tails lt = absurd (omega arith)
-group_and_elided (suc m) n [] tail head_text tail_text is tails lt =
-    let same : suc m - 0 - length tail ≡ suc m - length tail = omega arith in (
-      head_text,
-      58 ∷ 58 ∷ tail_text,
+-- groups, and the text that they are
+record Written : Type 0 where
+  pub numbers : List ℕ
+  pub text : List ℕ
+  pub are : AreGroups numbers text
+
+group_and_elided : (m n : ℕ) (head text : List ℕ) (tail : Written) → AreGroups (n ∷ head) text → length head + length tail.numbers < m
+    → GroupThen (AfterHead m) (text ++ 58 ∷ 58 ∷ tail.text) (n ∷ (head ++ (replicate (m - length head - length tail.numbers) 0 ++ tail.numbers)))
+group_and_elided zero n head text tail is lt = absurd (omega arith)
+group_and_elided (suc m) n [] text tail is lt =
+    let same : suc m - 0 - length tail.numbers ≡ suc m - length tail.numbers = omega arith in (
+      text,
+      58 ∷ 58 ∷ tail.text,
       n,
-      replicate (suc m - length tail) 0 ++ tail,
+      replicate (suc m - length tail.numbers) 0 ++ tail.numbers,
       is,
-      (58 ∷ tail_text, refl, inl (tail_text, tail, refl, tail_from m tail tail_text tails (omega (arith, lt)), refl)),
+      (58 ∷ tail.text, refl, inl (tail.text, tail.numbers, refl, tail_from m tail.numbers tail.text tail.are (omega (arith, lt)), refl)),
       refl,
       rw same refl,
     )
-group_and_elided (suc m) n (k ∷ head) tail head_text tail_text is tails lt =
-    let same : suc m - suc (length head) - length tail ≡ m - length head - length tail = omega arith in
-    let later = group_and_elided m k head tail is.1 tail_text is.3 tails (omega (arith, lt)) in (
+group_and_elided (suc m) n (k ∷ head) text tail is lt =
+    let same : suc m - suc (length head) - length tail.numbers ≡ m - length head - length tail.numbers = omega arith in
+    let later = group_and_elided m k head is.1 tail is.3 (omega (arith, lt)) in (
       is.0,
-      58 ∷ (is.1 ++ 58 ∷ 58 ∷ tail_text),
+      58 ∷ (is.1 ++ 58 ∷ 58 ∷ tail.text),
       n,
       _,
       is.2,
-      (is.1 ++ 58 ∷ 58 ∷ tail_text, refl, inr later),
-      ap (λ (t : List ℕ). t ++ 58 ∷ 58 ∷ tail_text) is.4 ∙ append_assoc is.0 (58 ∷ is.1) (58 ∷ 58 ∷ tail_text),
+      (is.1 ++ 58 ∷ 58 ∷ tail.text, refl, inr later),
+      ap (λ (t : List ℕ). t ++ 58 ∷ 58 ∷ tail.text) is.4 ∙ append_assoc is.0 (58 ∷ is.1) (58 ∷ 58 ∷ tail.text),
       rw same refl,
     )
 
-elided_whole : (text numbers head tail head_text tail_text : List ℕ) → AreGroups head head_text → AreGroups tail tail_text → text ≡ head_text ++ 58 ∷ 58 ∷ tail_text → length head + length tail < 8
-    → numbers ≡ head ++ (replicate (8 - length head - length tail) 0 ++ tail) → Whole text numbers
-elided_whole text numbers [] tail head_text tail_text is tails e room value =
-    inl (58 ∷ tail_text, e ∙ ap (λ (t : List ℕ). t ++ 58 ∷ 58 ∷ tail_text) is, (tail_text, tail, refl, tail_from 7 tail tail_text tails (omega (arith, room)), value))
-elided_whole text numbers (n ∷ head) tail head_text tail_text is tails e room value =
-    let same : 8 - suc (length head) - length tail ≡ 7 - length head - length tail = omega arith in
-    let value' : numbers ≡ n ∷ (head ++ (replicate (7 - length head - length tail) 0 ++ tail)) = rw same at value in
-    inr (rw (e, value') (group_and_elided 7 n head tail head_text tail_text is tails (omega (arith, room))))
-
 pub elided_is_whole : (text numbers : List ℕ) → IsElided numbers text → Whole text numbers
-elided_is_whole text numbers h = elided_whole text numbers h.head h.tail h.head_text h.tail_text h.head_groups h.tail_groups h.spelled h.room h.value
+elided_is_whole text numbers h = by_head h.head h.head_groups h.room h.value
+  where
+    by_head : (head : List ℕ) → AreGroups head h.head_text → length head + length h.tail < 8 → numbers ≡ head ++ (replicate (8 - length head - length h.tail) 0 ++ h.tail) → Whole text numbers
+    by_head [] is room value =
+        inl (58 ∷ h.tail_text, h.spelled ∙ ap (λ (t : List ℕ). t ++ 58 ∷ 58 ∷ h.tail_text) is, (h.tail_text, h.tail, refl, tail_from 7 h.tail h.tail_text h.tail_groups (omega (arith, room)), value))
+    by_head (n ∷ head) is room value =
+        let same : 8 - suc (length head) - length h.tail ≡ 7 - length head - length h.tail = omega arith in
+        let value' : numbers ≡ n ∷ (head ++ (replicate (7 - length head - length h.tail) 0 ++ h.tail)) = rw same at value in
+        inr (rw (h.spelled, value') (group_and_elided 7 n head h.head_text (record { numbers = h.tail; text = h.tail_text; are = h.tail_groups }) is (omega (arith, room))))
 
 -- ---- how many numbers, and how large
 
 abbrev pub AllSmall : List ℕ → Type 0
 AllSmall ns = (k : ℕ) → get_or ns k 0 < 2 ^ 16
+
+-- numbers that are written out
+pub each_small : (ns : List ℕ) → AllByRecursion (λ n. n < 2 ^ 16) ns → AllSmall ns
+each_small [] all k = omega arith
+each_small (n ∷ ns) all zero = all.0
+each_small (n ∷ ns) all (suc k) = each_small ns all.1 k
 
 pub AllSmall-nil : AllSmall []
 AllSmall-nil k = omega arith

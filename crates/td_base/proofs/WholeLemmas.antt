@@ -1,5 +1,5 @@
 -- Where the reading of a whole address halts.
-use Rattle.std.proofs.Common.{◌≡◌, ℕ, zero, suc, ◌+◌, ◌-◌, List, [], ◌∷◌, ◌++◌, length, refl, sym, ap, subst, ◌∙◌, arith, inl, inr}
+use Rattle.std.proofs.Common.{◌≡◌, ℕ, zero, suc, ◌-◌, List, [], ◌∷◌, ◌++◌, length, refl, sym, ap, subst, ◌∙◌, inl, inr}
 use Rattle.std.specs.Prelude.{replicate}
 use Rattle.td_base.specs.Fronts.{Halts}
 use Rattle.td_base.specs.Ip6Fronts.{Accepts, GroupThen, Tail, Elided, AfterHead, Whole, NoHex, IsFrontGroup}
@@ -66,7 +66,7 @@ group_is_whole text left other h = record {
   count = h.count;
   begins = (h.begins.0, (h.begins.1.0, inr h.begins.1.1));
   stops = λ byte after e a. elim a.1.1 [
-    | inl x ↦ front_no_colon text h.front byte after a.0 x.0 other (h.parts ∙ ap (λ (l : List ℕ). h.front ++ l) e) x.1
+    | inl x ↦ front_no_colon text h.front byte after a.0 other (h.parts ∙ ap (λ (l : List ℕ). h.front ++ l) e) x.0 x.1
     | inr x ↦ h.stops byte after e (a.0, (a.1.0, x))
   ];
   refused = λ a. elim a.1 [ inl x ↦ other x.0 x.1 | inr x ↦ h.refused (a.0, x) ];
@@ -74,18 +74,4 @@ group_is_whole text left other h = record {
 
 pub whole_halts : (text after : List ℕ) (n left : ℕ) → NotColon text → IsFrontGroup text n after → Halts (Accepts (AfterHead 7)) after left → Halts (Accepts Whole) text left
 whole_halts text after n left other g h =
-    group_is_whole text left other (rw g.2 (group_goes_on (AfterHead 7) g.0 after n left g.1 g.3 (ends_after_head 7) h))
-
--- ---- what was found
-
-pub elided_found : (most : ℕ) (text after old new : List ℕ) → text ≡ 58 ∷ after → (tail : List ℕ) × Tail most after tail × (new ≡ old ++ (replicate (most + 1 - length tail) 0 ++ tail))
-    → (more : List ℕ) × Elided most text more × (new ≡ old ++ more)
-elided_found most text after old new is h =
-    let one : most + 1 ≡ suc most = omega arith in
-    (replicate (suc most - length h.0) 0 ++ h.0, (after, h.0, is, h.1, refl), h.2 ∙ rw one refl)
-
-pub whole_found_leading : (text rest old new : List ℕ) → old ≡ [] → text ≡ 58 ∷ rest → (more : List ℕ) × Elided 7 rest more × (new ≡ old ++ more) → Whole text new
-whole_found_leading text rest old new empty is h = rw (h.2, empty) (inl (rest, is, h.1))
-
-pub whole_found : (text after : List ℕ) (n : ℕ) (old mid new : List ℕ) → old ≡ [] → IsFrontGroup text n after → mid ≡ old ++ n ∷ [] → (more : List ℕ) × AfterHead 7 after more × (new ≡ mid ++ more) → Whole text new
-whole_found text after n old mid new empty g pushed h = rw (h.2, pushed, empty) (inr (g.0, after, n, h.0, g.1, h.1, g.2, refl))
+    group_is_whole text left other (group_goes_on (AfterHead 7) text after n left g (ends_after_head 7) h)

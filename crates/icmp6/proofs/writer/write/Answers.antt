@@ -1,7 +1,7 @@
 use Rattle.std.proofs.Common.{drop, refl, sym, ◌∙◌, arith}
 use Rattle.icmp6.specs.Message.{Message, message_view}
 use Rattle.icmp6.proofs.AgainLaws.{length-message_bytes}
-use Rattle.icmp6.proofs.WriteLaws.{sum_is_put, front_spelled, front_again}
+use Rattle.icmp6.proofs.WriteLaws.{sum_is_put, front_is, front_spelled, front_again}
 use Rattle.icmp6.proofs.writer.write.Goals as goal
 
 pub returns-then-out-needed-clause-written : goal.returns-then-out-needed-clause-written
@@ -16,15 +16,23 @@ returns-clause-written c =
     let len_is = c.put_plain-len.ensures.after in (
       len_is ∙ sym size,
       omega (arith, len_is, c.len_of-needed.ensures),
-      sum_is_put c.args.src c.args.dst m c.put_plain-len.result c.checksum-sum.result c.args.out.now c.put_plain-len.new.out c.put16.new.out len_is c.put_plain-len.ensures.put c.checksum-sum.ensures c.put16.ensures.put,
+      sum_is_put c.args.src c.args.dst m c.args.out.now c.put16.new.out (record {
+        len = c.put_plain-len.result;
+        len_is = len_is;
+        plain = c.put_plain-len.new.out;
+        plain_is = c.put_plain-len.ensures.put;
+        sum = c.checksum-sum.result;
+        sum_is = c.checksum-sum.ensures;
+        put = c.put16.ensures.put;
+      }),
     )
 
 pub returns-clause-spelled : goal.returns-clause-spelled
 returns-clause-spelled c =
     let m : Message = message_view c.args.m.now in
-    front_spelled c.args.src c.args.dst m c.put_plain-len.result (drop c.put_plain-len.result c.args.out.now) c.put16.new.out c.put_plain-len.ensures.after c.put_plain-len.ensures.fits (returns-clause-written c).2
+    front_spelled c.args.src c.args.dst m _ c.put_plain-len.ensures.fits (front_is c.args.src c.args.dst m c.put_plain-len.result (drop c.put_plain-len.result c.args.out.now) c.put16.new.out c.put_plain-len.ensures.after (returns-clause-written c).2)
 
 pub returns-clause-again : goal.returns-clause-again
 returns-clause-again c =
     let m : Message = message_view c.args.m.now in
-    front_again c.args.src c.args.dst m c.put_plain-len.result (drop c.put_plain-len.result c.args.out.now) c.put16.new.out c.put_plain-len.ensures.after c.put_plain-len.ensures.fits (returns-clause-written c).2
+    front_again c.args.src c.args.dst m _ c.put_plain-len.ensures.fits (front_is c.args.src c.args.dst m c.put_plain-len.result (drop c.put_plain-len.result c.args.out.now) c.put16.new.out c.put_plain-len.ensures.after (returns-clause-written c).2)

@@ -7,4 +7,4 @@ pub returns-clause-few : goal.returns-clause-few
 returns-clause-few c = λ s h n past. count_most s.kind (counting s.idle n h) (sound_past s h n past)
 
 pub returns-clause-ports : goal.returns-clause-ports
-returns-clause-ports c = ports_in_range
+returns-clause-ports c = λ s h n past inside dst port l. ports_in_range s h n past port (record { inside = inside; dst = dst; live = l })

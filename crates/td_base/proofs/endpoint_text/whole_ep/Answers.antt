@@ -1,25 +1,25 @@
 use Rattle.std.proofs.lemmas.Result.{err_from_is_err_and}
 use Rattle.td_base.proofs.Halting.{then_halts}
-use Rattle.td_base.proofs.Ip4Lemmas.{LastOfEp, Port, halts_0, halts_1, halts_2, halts_3, some_last_of_ep, some_port, colon_goes_on, ep_halts}
+use Rattle.td_base.proofs.Ip4Lemmas.{Port, some_dot, dot_halts, dot_goes_on, some_last_of_ep, some_port, colon_goes_on, ep_halts}
 use Rattle.td_base.proofs.endpoint_text.whole_ep.Goals as goal
 
 pub returns-in_err-a-clause-halts : goal.returns-in_err-a-clause-halts
 returns-in_err-a-clause-halts c =
     let p = err_from_is_err_and c.from_residual.result c.from_residual.ensures.1 in
-    rw (p.1, p.2) (ep_halts _ _ (halts_0 LastOfEp _ _ some_last_of_ep c.in_err-a.ensures.halts))
+    rw (p.1, p.2) (ep_halts _ _ (dot_halts (some_dot (some_dot some_last_of_ep)) c.in_err-a.ensures.halts))
 
 pub returns-in_err-b-clause-halts : goal.returns-in_err-b-clause-halts
 returns-in_err-b-clause-halts c =
     let p = err_from_is_err_and c.from_residual-in_err-b.result c.from_residual-in_err-b.ensures.1 in
     let a = c.in_ok-a.ensures.found in
-    rw (p.1, p.2) (ep_halts _ _ (halts_1 LastOfEp _ _ _ _ some_last_of_ep a.0 a.1 c.in_err-b.ensures.halts))
+    rw (p.1, p.2) (ep_halts _ _ (dot_goes_on _ a (dot_halts (some_dot some_last_of_ep) c.in_err-b.ensures.halts)))
 
 pub returns-in_err-c-clause-halts : goal.returns-in_err-c-clause-halts
 returns-in_err-c-clause-halts c =
     let p = err_from_is_err_and c.from_residual-in_err-c.result c.from_residual-in_err-c.ensures.1 in
     let a = c.in_ok-a.ensures.found in
     let b = c.in_ok-b.ensures.found in
-    rw (p.1, p.2) (ep_halts _ _ (halts_2 LastOfEp _ _ _ _ _ _ some_last_of_ep a.0 a.1 b.0 b.1 c.in_err-c.ensures.halts))
+    rw (p.1, p.2) (ep_halts _ _ (dot_goes_on _ a (dot_goes_on _ b (dot_halts some_last_of_ep c.in_err-c.ensures.halts))))
 
 pub returns-in_err-d-clause-halts : goal.returns-in_err-d-clause-halts
 returns-in_err-d-clause-halts c =
@@ -27,7 +27,7 @@ returns-in_err-d-clause-halts c =
     let a = c.in_ok-a.ensures.found in
     let b = c.in_ok-b.ensures.found in
     let d = c.in_ok-c.ensures.found in
-    rw (p.1, p.2) (ep_halts _ _ (halts_3 LastOfEp _ _ _ _ _ _ _ _ a.0 a.1 b.0 b.1 d.0 d.1 (then_halts Port 255 58 _ _ some_port.0 some_port.1 c.in_err-d.ensures.halts)))
+    rw (p.1, p.2) (ep_halts _ _ (dot_goes_on _ a (dot_goes_on _ b (dot_goes_on _ d (then_halts Port 255 58 _ _ some_port.0 some_port.1 c.in_err-d.ensures.halts)))))
 
 pub returns-in_err-port-clause-halts : goal.returns-in_err-port-clause-halts
 returns-in_err-port-clause-halts c =
@@ -36,4 +36,4 @@ returns-in_err-port-clause-halts c =
     let b = c.in_ok-b.ensures.found in
     let d = c.in_ok-c.ensures.found in
     let e = c.in_ok-d.ensures.found in
-    rw (p.1, p.2) (ep_halts _ _ (halts_3 LastOfEp _ _ _ _ _ _ _ _ a.0 a.1 b.0 b.1 d.0 d.1 (colon_goes_on _ _ _ _ e.0 e.1 c.in_err-port.ensures.halts)))
+    rw (p.1, p.2) (ep_halts _ _ (dot_goes_on _ a (dot_goes_on _ b (dot_goes_on _ d (colon_goes_on _ e c.in_err-port.ensures.halts)))))

@@ -6,7 +6,7 @@ use Rattle.td_base.proofs.halves.ones_sum.Goals as goal
 
 pub loop-rest-preserved : goal.loop-rest-preserved
 loop-rest-preserved c =
-    rw (take_rest c.loop-rest.rest.now 8) (word_goes_on _ c.loop-rest.sum c.from-sum-in-loop-rest.result _ c.loop-rest.rest.now c.loop-rest-test.true (c.from-sum-in-loop-rest.ensures ∙ c.field64.ensures) (rw c.from-sum-in-loop-rest.ensures c.field64.type_inv) c.loop-rest.invariant)
+    rw (take_rest c.loop-rest.rest.now 8) (word_goes_on _ c.loop-rest.sum c.from-sum-in-loop-rest.result _ c.loop-rest.rest.now (c.loop-rest-test.true, c.from-sum-in-loop-rest.ensures ∙ c.field64.ensures, rw c.from-sum-in-loop-rest.ensures c.field64.type_inv) c.loop-rest.invariant)
 
 pub returns-clause-sum : goal.returns-clause-sum
 returns-clause-sum c = search rules

@@ -1,3 +1,4 @@
+use Rattle.std.proofs.Common.{ℕ, List, ◌++◌, ap, ◌∙◌}
 use Rattle.std.proofs.lemmas.Result.{err_from_is_err_and, on_ok_weaker, IfErr-weaker}
 use Rattle.td_base.proofs.GroupLemmas.{first_colon, head_short, head_full, head_no_colon, head_no_group, head_halts, head_found, head_elided_at, head_found_elided, two_colons}
 use Rattle.td_base.proofs.ipv6_reader.+after_head.Goals as goal
@@ -30,9 +31,9 @@ returns-in_err-number-clause-halts t c =
 pub returns-clause-found : goal.returns-clause-found
 returns-clause-found t c =
     let colon = first_colon c.args.text.now c.in-len1-up.len_at_least c.if-byte-ne58.false in
-    on_ok_weaker c.after_head.result (λ h. head_found _ c.args.text.now _ _ _ c.args.out.now _ _ c.if-missing-eq0-2.false colon c.in_ok-number.ensures.found c.push.ensures h) c.after_head.ensures.found
+    on_ok_weaker c.after_head.result (λ h. head_found _ c.args.text.now _ c.args.out.now _ c.if-missing-eq0-2.false (record { rest = _; n = _; colon = colon; group = c.in_ok-number.ensures.found }) (h.0, h.1, h.2 ∙ ap (λ (l : List ℕ). l ++ h.0) c.push.ensures)) c.after_head.ensures.found
 
 pub returns-clause-halts : goal.returns-clause-halts
 returns-clause-halts t c =
     let colon = first_colon c.args.text.now c.in-len1-up.len_at_least c.if-byte-ne58.false in
-    IfErr-weaker c.after_head.result _ _ (λ left h. head_halts _ c.args.text.now _ _ _ left c.if-missing-eq0-2.false colon c.if-begins_with_colon.ensures c.in_ok-number.ensures.found h) c.after_head.ensures.halts
+    IfErr-weaker c.after_head.result _ _ (λ left h. head_halts _ c.args.text.now _ left c.if-missing-eq0-2.false (record { rest = _; n = _; colon = colon; group = c.in_ok-number.ensures.found }) h) c.after_head.ensures.halts

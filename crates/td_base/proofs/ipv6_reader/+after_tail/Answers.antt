@@ -1,3 +1,4 @@
+use Rattle.std.proofs.Common.{ℕ, List, ◌++◌, ap, ◌∙◌}
 use Rattle.std.proofs.lemmas.Result.{err_from_is_err_and, on_ok_weaker, IfErr-weaker}
 use Rattle.td_base.proofs.GroupLemmas.{first_colon, tail_over, tail_full, tail_no_colon, tail_no_group, tail_halts, tail_found}
 use Rattle.td_base.proofs.ipv6_reader.+after_tail.Goals as goal
@@ -20,9 +21,9 @@ returns-in_err-number-clause-halts t c =
 pub returns-clause-found : goal.returns-clause-found
 returns-clause-found t c =
     let colon = first_colon c.args.text.now c.in-len1-up.len_at_least c.if-byte-ne58.false in
-    on_ok_weaker c.after_tail.result (λ h. tail_found _ c.args.text.now _ _ _ c.args.out.now _ _ c.if-most-eq0.false colon c.in_ok-number.ensures.found c.push.ensures h) c.after_tail.ensures.found
+    on_ok_weaker c.after_tail.result (λ h. tail_found _ c.args.text.now _ c.args.out.now _ c.if-most-eq0.false (record { rest = _; n = _; colon = colon; group = c.in_ok-number.ensures.found }) (h.0, h.1, h.2 ∙ ap (λ (l : List ℕ). l ++ h.0) c.push.ensures)) c.after_tail.ensures.found
 
 pub returns-clause-halts : goal.returns-clause-halts
 returns-clause-halts t c =
     let colon = first_colon c.args.text.now c.in-len1-up.len_at_least c.if-byte-ne58.false in
-    IfErr-weaker c.after_tail.result _ _ (λ left h. tail_halts _ c.args.text.now _ _ _ left c.if-most-eq0.false colon c.in_ok-number.ensures.found h) c.after_tail.ensures.halts
+    IfErr-weaker c.after_tail.result _ _ (λ left h. tail_halts _ c.args.text.now _ left c.if-most-eq0.false (record { rest = _; n = _; colon = colon; group = c.in_ok-number.ensures.found }) h) c.after_tail.ensures.halts

@@ -11,5 +11,4 @@ returns-in_err-number-clause-halts c =
 
 pub returns-clause-halts : goal.returns-clause-halts
 returns-clause-halts c =
-    let some : 1 ≤ length c.args.text.now = search rules in
-    IfErr-weaker c.after_tail.result _ _ (λ left h. tail_goes_on _ c.args.text.now _ _ left c.if-most-eq0.false some c.in_ok-number.ensures.found h) c.after_tail.ensures.halts
+    IfErr-weaker c.after_tail.result _ _ (λ left h. tail_goes_on _ c.args.text.now _ _ left c.if-most-eq0.false c.in_ok-number.ensures.found h) c.after_tail.ensures.halts

@@ -1,4 +1,4 @@
-use Rattle.std.proofs.Common.{◌≤◌, sym, subst}
+use Rattle.std.proofs.Common.{◌≤◌, ◌∙◌, sym, subst}
 use Rattle.nat_kinds.specs.Nat.{NatState}
 use Rattle.nat_kinds.proofs.StandsLemmas.{lets_in-stands}
 use Rattle.nat_kinds.proofs.translator.Nat.inward.Goals as goal
@@ -6,4 +6,4 @@ use Rattle.nat_kinds.proofs.translator.Nat.inward.Goals as goal
 pub returns : goal.returns
 returns c =
     let l : c.self.inside.moment.0 ≤ c.args.now.0 = subst (λ (v : NatState). v.moment ≤ c.args.now.0) (sym c.self.view_is) c.requires.clock in
-    rw (← c.self.view_is) (record { answer = lets_in-stands _ c.args.now.0 c.args.src c.args.port c.inside_at.result l (rw c.deref.ensures.value at c.inside_at.ensures.value) })
+    rw (← c.self.view_is) (record { answer = λ h is. (rw c.deref.ensures.value at c.inside_at.ensures.value) ∙ lets_in-stands _ c.args.now.0 c.args.src c.args.port l h is })
