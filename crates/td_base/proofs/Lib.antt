@@ -2,6 +2,8 @@ pub mod AddressGroups
 pub mod AddressValues
 pub mod BytesLemmas
 pub mod Decimals
+pub mod DigitPairs
+pub mod DottedParts
 pub mod Folding
 pub mod GroupLemmas
 pub mod Halting

@@ -1,5 +1,5 @@
 //! The text of an endpoint: its address, a colon, and its port.
-ghost use Rattle.std.specs.Prelude.{◌≡◌, ◌≤◌, length, IfOk, IfErr};
+ghost use Rattle.std.specs.Prelude.{◌≡◌, ◌+◌, ◌≤◌, ◌++◌, length, take, IfOk, IfErr};
 ghost use Rattle.std.specs.Result.{result_ok};
 ghost use Rattle.td_base.specs.Prints.{Prints};
 ghost use Rattle.td_base.specs.Ep.{IsEp};
@@ -8,9 +8,10 @@ ghost use Rattle.td_base.specs.Values.{ep_of};
 ghost use Rattle.td_base.specs.Fronts.{Halts};
 ghost use Rattle.td_base.specs.declared.endpoint.Ep.{Ep};
 
+use crate::digits::{write_byte, write_eight};
 use crate::endpoint::Ep;
 use crate::ipv4::Ip4;
-use crate::ipv4_text::{PART_MAX, short_ip4};
+use crate::ipv4_text::{PART_MAX, write_ip4};
 use crate::line::{LineBuf, print_text};
 use crate::numeral::{number_last, number_then};
 use crate::refusals::{BadText, Room};
@@ -19,15 +20,39 @@ use crate::short_text::SHORT_LEN;
 /// The largest port.
 const PORT_MAX: u64 = u16::MAX as u64;
 
+/// Writes an endpoint at a place, and returns where it ends.
+pub(crate) fn write_ep(out: &mut [u8], at: usize, ep: Ep) -> usize
+    requires { at + SHORT_LEN ≤ length out.old }
+    ensures text { take result out.new ≡ take at out.old ++ ep_text ep }
+    ensures end { result ≤ at + SHORT_LEN }
+{
+    let at = write_ip4(out, at, ep.ip);
+    let at = write_byte(out, at, b':');
+    write_eight(out, at, u32::from(ep.port))
+}
+
 /// Appends an endpoint.
 pub fn print_ep(ep: Ep, out: &mut LineBuf) -> Result<(), Room>
     ensures text { Prints result out.old out.new (ep_text ep) }
     ensures short { length (ep_text ep) ≤ SHORT_LEN }
 {
-    let mut text = short_ip4(ep.ip);
-    text.push(b':');
-    text.push_number(ep.port);
-    print_text(text.as_slice(), out)
+    if out.has_room() {
+        out.push_ep(ep);
+        return Ok(());
+    }
+    print_ep_apart(ep, out)
+}
+
+/// Appends an endpoint, which is made apart, since the line may be too full for it.
+#[cold]
+#[inline(never)]
+fn print_ep_apart(ep: Ep, out: &mut LineBuf) -> Result<(), Room>
+    ensures text { Prints result out.old out.new (ep_text ep) }
+    ensures short { length (ep_text ep) ≤ SHORT_LEN }
+{
+    let mut text = [0; SHORT_LEN];
+    let end = write_ep(&mut text, 0, ep);
+    print_text(&text[..end], out)
 }
 
 /// Four numbers with dots between them, a colon and a port, which are the whole text. The error is

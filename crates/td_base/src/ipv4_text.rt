@@ -1,5 +1,5 @@
 //! The text of an IPv4 address: four decimal numbers, joined by dots.
-ghost use Rattle.std.specs.Prelude.{◌≡◌, ◌+◌, ◌≤◌, ◌++◌, length, IfOk, IfErr};
+ghost use Rattle.std.specs.Prelude.{◌≡◌, ◌+◌, ◌≤◌, ◌∷◌, [], ◌++◌, length, take, decimal, IfOk, IfErr};
 ghost use Rattle.std.specs.Result.{result_ok};
 ghost use Rattle.td_base.specs.Prints.{Prints};
 ghost use Rattle.td_base.specs.Ip4.{IsIp4};
@@ -8,31 +8,44 @@ ghost use Rattle.td_base.specs.Values.{ip4_of};
 ghost use Rattle.td_base.specs.Fronts.{Halts};
 ghost use Rattle.td_base.specs.declared.ipv4.Ip4.{Ip4};
 
+use crate::digits::{write_byte, write_four};
 use crate::ipv4::Ip4;
 use crate::line::{LineBuf, print_text};
 use crate::numeral::{number_last, number_then};
 use crate::refusals::{BadText, Room};
-use crate::short_text::{DIGITS, SHORT_LEN, ShortText};
+use crate::short_text::SHORT_LEN;
 
 /// The largest of the four numbers.
 pub(crate) const PART_MAX: u64 = u8::MAX as u64;
 
-/// The text of an IPv4 address.
-pub(crate) fn short_ip4(ip: Ip4) -> ShortText
-    ensures text { result ≡ ip4_text ip }
-    // There is room for a colon and a port behind it.
-    ensures short { length result + 1 + DIGITS ≤ SHORT_LEN }
+/// How many bytes are enough for one of the four numbers and a dot.
+const PART_ROOM: usize = 5;
+
+/// How many bytes are enough for an IPv4 address.
+pub(crate) const IP4_ROOM: usize = 4 * PART_ROOM;
+
+/// Writes one of the four numbers and a dot at a place, and returns where they end.
+#[inline(always)]
+fn write_dotted(out: &mut [u8], at: usize, part: u8) -> usize
+    requires { at + PART_ROOM ≤ length out.old }
+    ensures text { take result out.new ≡ take at out.old ++ (decimal part ++ 46 ∷ []) }
+    ensures end { result ≤ at + PART_ROOM }
+{
+    let at = write_four(out, at, u32::from(part));
+    write_byte(out, at, b'.')
+}
+
+/// Writes an IPv4 address at a place, and returns where it ends.
+pub(crate) fn write_ip4(out: &mut [u8], at: usize, ip: Ip4) -> usize
+    requires { at + IP4_ROOM ≤ length out.old }
+    ensures text { take result out.new ≡ take at out.old ++ ip4_text ip }
+    ensures end { result ≤ at + IP4_ROOM }
 {
     let [a, b, c, d] = ip.0;
-    let mut text = ShortText::new();
-    text.push_number(u16::from(a));
-    text.push(b'.');
-    text.push_number(u16::from(b));
-    text.push(b'.');
-    text.push_number(u16::from(c));
-    text.push(b'.');
-    text.push_number(u16::from(d));
-    text
+    let at = write_dotted(out, at, a);
+    let at = write_dotted(out, at, b);
+    let at = write_dotted(out, at, c);
+    write_four(out, at, u32::from(d))
 }
 
 /// Appends an IPv4 address.
@@ -40,7 +53,23 @@ pub fn print_ip4(ip: Ip4, out: &mut LineBuf) -> Result<(), Room>
     ensures text { Prints result out.old out.new (ip4_text ip) }
     ensures short { length (ip4_text ip) ≤ SHORT_LEN }
 {
-    print_text(short_ip4(ip).as_slice(), out)
+    if out.has_room() {
+        out.push_ip4(ip);
+        return Ok(());
+    }
+    print_ip4_apart(ip, out)
+}
+
+/// Appends an IPv4 address, which is made apart, since the line may be too full for it.
+#[cold]
+#[inline(never)]
+fn print_ip4_apart(ip: Ip4, out: &mut LineBuf) -> Result<(), Room>
+    ensures text { Prints result out.old out.new (ip4_text ip) }
+    ensures short { length (ip4_text ip) ≤ SHORT_LEN }
+{
+    let mut text = [0; SHORT_LEN];
+    let end = write_ip4(&mut text, 0, ip);
+    print_text(&text[..end], out)
 }
 
 /// Four numbers with dots between them, which are the whole text. The error is how many bytes were

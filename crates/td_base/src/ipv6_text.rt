@@ -1,16 +1,17 @@
 //! The text of an IPv6 address, as RFC 5952, section 4, has it.
-ghost use Rattle.std.specs.Prelude.{◌≡◌, ◌+◌, ◌*◌, ◌<◌, ◌≤◌, ◌++◌, length, codes};
+ghost use Rattle.std.specs.Prelude.{◌≡◌, ◌+◌, ◌*◌, ◌<◌, ◌≤◌, ◌++◌, length, take, codes};
 ghost use Rattle.std.specs.Char.{digit_char};
 ghost use Rattle.std.specs.Net.Text as Text;
 ghost use Rattle.td_base.specs.Prints.{Prints};
 ghost use Rattle.td_base.specs.Ip6.{IsIp6};
 ghost use Rattle.td_base.specs.Ip6Texts.{groups, ip6_text, Spells};
 
+use crate::digits::{write_byte, write_text};
 use crate::ipv6::Ip6;
 use crate::ipv6_groups::groups_of;
 use crate::line::{LineBuf, print_text};
 use crate::refusals::Room;
-use crate::short_text::{SHORT_LEN, ShortText};
+use crate::short_text::SHORT_LEN;
 
 /// How many digits a group has at most.
 pub(crate) const GROUP_DIGITS: usize = 4;
@@ -59,12 +60,12 @@ fn longest_zero_run(groups: &[u16]) -> (usize, usize)
     (start, len)
 }
 
-/// Appends a group in hexadecimal.
+/// Writes a group in hexadecimal at a place, and returns where it ends.
 #[tactic(auto, unfolding(std::specs::Net::Text::hex))]
-fn push_hex(text: &mut ShortText, n: u16)
-    requires { length text.old + GROUP_DIGITS ≤ SHORT_LEN }
-    ensures text { text.new ≡ text.old ++ Text.hex n }
-    ensures short { length text.new ≤ length text.old + GROUP_DIGITS }
+fn write_hex(out: &mut [u8], at: usize, n: u16) -> usize
+    requires { at + GROUP_DIGITS ≤ length out.old }
+    ensures text { take result out.new ≡ take at out.old ++ Text.hex n }
+    ensures end { result ≤ at + GROUP_DIGITS }
 {
     let digits = [
         hex_char(n / 0x1000),
@@ -72,50 +73,52 @@ fn push_hex(text: &mut ShortText, n: u16)
         hex_char(n / 0x10 % 16),
         hex_char(n % 16),
     ];
-    text.push_text(&digits[leading_zero_digits(n)..]);
+    write_text(out, at, &digits[leading_zero_digits(n)..])
 }
 
-/// Appends groups with colons between them.
-fn push_groups(text: &mut ShortText, groups: &[u16])
-    requires { length text.old + GROUP_ROOM * length groups.now ≤ SHORT_LEN }
-    ensures text { text.new ≡ text.old ++ Text.groups_text groups.now }
-    ensures short { length text.new ≤ length text.old + GROUP_ROOM * length groups.now }
+/// Writes groups with colons between them at a place, and returns where they end.
+fn write_groups(out: &mut [u8], at: usize, groups: &[u16]) -> usize
+    requires { at + GROUP_ROOM * length groups.now ≤ length out.old }
+    ensures text { take result out.new ≡ take at out.old ++ Text.groups_text groups.now }
+    ensures end { result ≤ at + GROUP_ROOM * length groups.now }
 {
-    if let [first, rest @ ..] = groups {
-        push_hex(text, *first);
-        for group in rest {
-            text.push(b':');
-            push_hex(text, *group);
-        }
+    let [first, rest @ ..] = groups else {
+        return at;
+    };
+    let mut end = write_hex(out, at, *first);
+    for group in rest {
+        end = write_byte(out, end, b':');
+        end = write_hex(out, end, *group);
     }
+    end
 }
 
-/// Appends groups, `::` and groups.
-fn push_elided(text: &mut ShortText, front: &[u16], back: &[u16])
-    requires { length text.old + GROUP_ROOM * length front.now + GROUP_ROOM * length back.now + 2 ≤ SHORT_LEN }
-    ensures { text.new ≡ text.old ++ (Text.groups_text front.now ++ codes "::" ++ Text.groups_text back.now) }
+/// Writes groups, `::` and groups at a place, and returns where they end.
+fn write_elided(out: &mut [u8], at: usize, front: &[u16], back: &[u16]) -> usize
+    requires { at + GROUP_ROOM * length front.now + GROUP_ROOM * length back.now + 2 ≤ length out.old }
+    ensures text { take result out.new ≡ take at out.old ++ (Text.groups_text front.now ++ codes "::" ++ Text.groups_text back.now) }
+    ensures end { result ≤ at + GROUP_ROOM * length front.now + GROUP_ROOM * length back.now + 2 }
 {
-    push_groups(text, front);
-    text.push(b':');
-    text.push(b':');
-    push_groups(text, back);
+    let at = write_groups(out, at, front);
+    let at = write_byte(out, at, b':');
+    let at = write_byte(out, at, b':');
+    write_groups(out, at, back)
 }
 
-/// The text of an IPv6 address.
+/// Writes an IPv6 address at a place, and returns where it ends.
 #[tactic(auto, unfolding(std::specs::Net::Text::hex_groups_text))]
-fn short_ip6(ip: Ip6) -> ShortText
-    ensures { result ≡ ip6_text ip }
+pub(crate) fn write_ip6(out: &mut [u8], at: usize, ip: Ip6) -> usize
+    requires { at + SHORT_LEN ≤ length out.old }
+    ensures text { take result out.new ≡ take at out.old ++ ip6_text ip }
+    ensures end { result ≤ at + SHORT_LEN }
 {
     let groups = groups_of(ip);
     let groups = &groups[..];
     let (start, len) = longest_zero_run(groups);
-    let mut text = ShortText::new();
     if len > 1 {
-        push_elided(&mut text, &groups[..start], &groups[start + len..]);
-        return text;
+        return write_elided(out, at, &groups[..start], &groups[start + len..]);
     }
-    push_groups(&mut text, groups);
-    text
+    write_groups(out, at, groups)
 }
 
 /// Appends an IPv6 address.
@@ -126,5 +129,21 @@ pub fn print_ip6(ip: Ip6, out: &mut LineBuf) -> Result<(), Room>
     // The text that is printed is one of the address's, so that it reads back.
     ensures spelled { IsIp6 ip → Spells ip (ip6_text ip) }
 {
-    print_text(short_ip6(ip).as_slice(), out)
+    if out.has_room() {
+        out.push_ip6(ip);
+        return Ok(());
+    }
+    print_ip6_apart(ip, out)
+}
+
+/// Appends an IPv6 address, which is made apart, since the line may be too full for it.
+#[cold]
+#[inline(never)]
+fn print_ip6_apart(ip: Ip6, out: &mut LineBuf) -> Result<(), Room>
+    ensures text { Prints result out.old out.new (ip6_text ip) }
+    ensures short { length (ip6_text ip) ≤ SHORT_LEN }
+{
+    let mut text = [0; SHORT_LEN];
+    let end = write_ip6(&mut text, 0, ip);
+    print_text(&text[..end], out)
 }

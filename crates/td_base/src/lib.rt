@@ -31,12 +31,14 @@
 //! | `numeral`, `ipv4_text`, `endpoint_text` | the texts of numbers, IPv4 addresses and endpoints | `specs/Texts.antt` |
 //! | `ipv6_text`, `ipv6_reader` | the texts of IPv6 addresses, printed and read | `specs/Ip6Texts.antt` |
 //! | `laws` | what holds of every text; what a text is, as a function | `specs/Laws.antt`, `Values.antt`, `Ip6Values.antt` |
-//! | `short_text`, `ipv6_groups` | the private buffers of the two | |
+//! | `short_text`, `ipv6_groups` | how long such texts are, and the groups of an IPv6 address | |
+//! | `digits` | the digits of a number, written at a place in a line or a buffer | |
 //!
 //! `specs/Fronts.antt` and `Ip6Fronts.antt` say how a text is read from its front, for the contracts of private functions.
 #![tactic(auto)]
 
 mod datagram;
+mod digits;
 mod endpoint;
 mod endpoint_text;
 mod fields;

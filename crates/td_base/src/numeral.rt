@@ -6,9 +6,9 @@ ghost use Rattle.td_base.specs.Texts.{IsNumberText, IsLongestBegin};
 ghost use Rattle.td_base.specs.Values.{number_of};
 ghost use Rattle.td_base.specs.Fronts.{so_far, NoneGoesOn, Halts, HaltsThen};
 
+use crate::digits::write_number;
 use crate::line::{LineBuf, print_text};
 use crate::refusals::{BadText, Room};
-use itoa::Buffer;
 
 /// How many digits a number of 64 bits has at most.
 pub const NUMBER_LEN: usize = 20;
@@ -18,8 +18,23 @@ pub fn print_number(number: u64, out: &mut LineBuf) -> Result<(), Room>
     ensures text { Prints result out.old out.new (decimal number) }
     ensures short { length (decimal number) ≤ NUMBER_LEN }
 {
-    let mut digits = Buffer::new();
-    print_text(digits.format(number).as_bytes(), out)
+    if out.has_room() {
+        out.push_number(number);
+        return Ok(());
+    }
+    print_number_apart(number, out)
+}
+
+/// Appends a number's decimal digits, which are made apart, since the line may be too full for them.
+#[cold]
+#[inline(never)]
+fn print_number_apart(number: u64, out: &mut LineBuf) -> Result<(), Room>
+    ensures text { Prints result out.old out.new (decimal number) }
+    ensures short { length (decimal number) ≤ NUMBER_LEN }
+{
+    let mut digits = [0; NUMBER_LEN];
+    let end = write_number(&mut digits, 0, number);
+    print_text(&digits[..end], out)
 }
 
 /// The value of a decimal digit.
