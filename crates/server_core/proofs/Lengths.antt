@@ -1,10 +1,10 @@
 -- How long what is written is.
-use Rattle.std.proofs.Common.{false, ◌≡◌, ◌≤◌, ◌+◌, ℕ, List, [], ◌∷◌, ◌++◌, length, Option, Some, None, sym, subst, ◌∙◌, arith}
+use Rattle.std.proofs.Common.{false, ◌≡◌, ◌≤◌, ◌+◌, ◌-◌, ℕ, List, [], ◌∷◌, ◌++◌, length, take, drop, Option, Some, None, sym, subst, ◌∙◌, arith}
 use Rattle.std.specs.Prelude.{option_map}
 use Rattle.std.proofs.lemmas.Bool.{ltb-false}
 use Rattle.byteorder.specs.Endian.{big_bytes}
 use Rattle.ipv6_packet.specs.Reads.{is_big}
-use Rattle.std.proofs.lemmas.List.{length-append}
+use Rattle.std.proofs.lemmas.List.{length-append, length-drop, take_rest}
 use Rattle.td_base.specs.declared.endpoint.Ep.{Ep}
 use Rattle.ipv6_packet.specs.Packets.{Fields, packet_bytes}
 use Rattle.ipv6_packet.proofs.PacketLaws.{packet_len}
@@ -49,3 +49,16 @@ nonce_of_blocks l b told = subst (λ (k : Lead). nonce_len (nonce_of k) ≤ k.at
 -- a nonce that came stands before the packet
 pub nonce_before : (v : Value) (x : List ℕ) → PayloadBytes v x → nonce_len (nonce_of v.lead) ≤ v.lead.at
 nonce_before v x found = nonce_of_blocks v.lead found.blocks found.told
+
+-- the rest of a datagram is a packet that isn't big
+pub small_rest : (p : Fields) (x : List ℕ) (at : ℕ) → is_big p ≡ false → at + 40 + length p.body ≡ length x → length (take (length x - at) (drop at x)) ≤ 1280
+small_rest p x at big inside =
+    let short = packet_is_small p big in
+    let small : length (drop at x) ≤ 1280 = omega (arith, length-drop at x, inside, short) in
+    rw (take_rest x at) small
+
+-- and no longer than the datagram
+pub rest_within : (x : List ℕ) (at : ℕ) → length (take (length x - at) (drop at x)) ≤ length x
+rest_within x at =
+    let within : length (drop at x) ≤ length x = omega (arith, length-drop at x) in
+    rw (take_rest x at) within

@@ -1,7 +1,6 @@
 //! The server as an endpoint of a link.
-use crate::reply::Answer;
 use crate::server::Server;
-use td_base::{DATAGRAM_MAX, Ep, Millis, NoMemory, Side};
+use td_base::{Ep, Millis, NoMemory, Side};
 use teredo_node::{Endpoint, Fate, Step};
 
 /// It answers by its table alone: it keeps nothing, wants no memory, and has nothing due.
@@ -36,23 +35,7 @@ impl Endpoint for Server {
         bytes: &[u8],
         step: &mut Step,
     ) -> Result<(), NoMemory> {
-        let mut out = [0; DATAGRAM_MAX];
-        match self.answer(side, from, bytes, &mut out) {
-            Answer::Drop { fate } => step.reset(fate),
-            Answer::Send {
-                fate,
-                side,
-                to,
-                len,
-            } => {
-                step.reset(fate);
-                step.push(side, to, &out[..len]);
-            }
-            Answer::Six { span } => {
-                step.reset(Fate::Six);
-                step.set_six(span);
-            }
-        }
+        self.answer_into(side, from, bytes, step);
         Ok(())
     }
 

@@ -24,9 +24,11 @@
 //! |---|---|---|
 //! | `server` | `Server` and its settings | `specs/Server.antt`, `Answers.antt`, `Bounds.antt` |
 //! | `endpoint` | `Server` as an endpoint of a link | `specs/Endpoint.antt` |
+//! | `in_step` | the table carried out in a step | `specs/Server.antt` |
 //! | `reply` | `Answer` | `specs/Answers.antt` |
 //! | `rules` | the table | `specs/Rules.antt` |
 //! | `conditions` | what the lines of the table ask | `specs/Conditions.antt` |
+//! | `decision` | what the server does with a datagram, before anything is written | `specs/Decision.antt` |
 //! | `advertisement` | the Router Advertisement | `specs/Outputs.antt` |
 //! | `forwarded` | the forwarded packet | `specs/Outputs.antt` |
 //! | `laws` | what holds of every datagram, and of what is sent | `specs/Laws.antt` |
@@ -34,8 +36,10 @@
 
 mod advertisement;
 mod conditions;
+mod decision;
 mod endpoint;
 mod forwarded;
+mod in_step;
 mod laws;
 mod reply;
 mod rules;

@@ -5,14 +5,14 @@ ghost use Rattle.server_core.specs.Answers.{Answers};
 ghost use Rattle.server_core.specs.Bounds.{IsShort, IsNamed, GoesAway, EndsThere, outputs};
 
 use crate::advertisement::write_advert;
+use crate::decision::{Decision, decide};
 use crate::forwarded::{write_alone, write_with_origin};
+use crate::in_step::answer_in;
 use crate::reply::Answer;
-use crate::rules::{Rule, first_rule};
-use indications::nonce_of;
 use std::marker::Model;
-use td_base::{DATAGRAM_MAX, Ep, Ip4, Ip6, Policy, Side, Span};
-use teredo_addr::{embedded, has_cone};
-use teredo_node::Fate;
+use td_base::{DATAGRAM_MAX, Ep, Ip4, Ip6, Policy, Side};
+use teredo_addr::has_cone;
+use teredo_node::{Fate, Step};
 
 /// The most bytes that what is sent is longer than the datagram that drew it: an origin of 8, and an advertisement
 /// of 56 for a solicitation of 8.
@@ -67,18 +67,24 @@ impl Server {
     {
         answer_by(&self.settings, side, from, bytes, out)
     }
+
+    /// The same in a step.
+    pub(crate) fn answer_into(&self, side: Side, from: Ep, bytes: &[u8], step: &mut Step)
+        ensures { step.new ≡ server_row self.now side from bytes.now }
+    {
+        answer_in(&self.settings, side, from, bytes, step)
+    }
 }
 
 /// The side that an advertisement leaves from: the other one where the client asks whether its NAT lets in what
 /// comes from an address that it sent nothing to (RFC 4380, section 5.3.2).
-fn answering_side(side: Side, client: Ip6) -> Side
+pub(crate) fn answering_side(side: Side, client: Ip6) -> Side
     ensures { result ≡ answering_side side client }
 {
     if has_cone(client) { side.other() } else { side }
 }
 
 /// The table and its outputs, over the settings alone.
-#[tactic(auto, unfolding(crate::specs::Server::server_row))]
 fn answer_by(
     settings: &ServerSettings,
     side: Side,
@@ -91,38 +97,26 @@ fn answer_by(
     ensures short { IsShort result bytes.now }
     ensures away { GoesAway settings.now result }
 {
-    let Ok(payload) = bubble::read(bytes) else {
-        return Answer::Drop {
-            fate: Fate::Malformed,
-        };
-    };
-    let at = payload.lead.at;
-    let packet = &payload.packet;
-    match first_rule(settings, from, &payload) {
-        Rule::Dropped(fate) => Answer::Drop { fate },
-        Rule::Advert => Answer::Send {
+    match decide(settings, from, bytes) {
+        Decision::Dropped(fate) => Answer::Drop { fate },
+        Decision::Advert { nonce, client } => Answer::Send {
             fate: Fate::Advert,
-            side: answering_side(side, packet.src),
+            side: answering_side(side, client),
             to: from,
-            len: write_advert(settings, from, nonce_of(&payload.lead), packet.src, out),
+            len: write_advert(settings, from, nonce, client, out),
         },
-        Rule::ForwardOrigin => Answer::Send {
+        Decision::ForwardOrigin { to, packet } => Answer::Send {
             fate: Fate::ForwardOrigin,
             side: Side::Primary,
-            to: embedded(packet.dst),
-            len: write_with_origin(from, &bytes[at..], out),
+            to,
+            len: write_with_origin(from, packet, out),
         },
-        Rule::Forward => Answer::Send {
+        Decision::Forward { to, packet } => Answer::Send {
             fate: Fate::Forward,
             side: Side::Primary,
-            to: embedded(packet.dst),
-            len: write_alone(&bytes[at..], out),
+            to,
+            len: write_alone(packet, out),
         },
-        Rule::Six => Answer::Six {
-            span: Span {
-                at,
-                len: bytes.len() - at,
-            },
-        },
+        Decision::Six(span) => Answer::Six { span },
     }
 }
