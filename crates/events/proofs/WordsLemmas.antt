@@ -1,11 +1,12 @@
 -- The words of a text, one after the other.
-use Rattle.std.proofs.Common.{◌≡◌, ℕ, ◌+◌, ◌-◌, ◌<◌, ◌≤◌, ◌==◌, nat_lt, not, cond, Bool, true, false, List, [], ◌∷◌, length, take, drop, Some, None, refl, sym, ap, ◌∙◌, arith, le-leb, ltb-false, inl, inr, add_assoc}
-use Rattle.std.specs.Prelude.{position}
+use Rattle.std.proofs.Common.{◌≡◌, ℕ, ◌+◌, ◌-◌, ◌<◌, ◌≤◌, ◌==◌, not, Bool, true, false, List, [], ◌∷◌, length, take, drop, Option, Some, None, refl, sym, ap, ◌∙◌, arith, le-leb, inl, inr, add_assoc}
+use Rattle.std.specs.Prelude.{unwrap_or}
 use Rattle.std.specs.List.{slice_split, position_or_len}
 use Rattle.std.proofs.lemmas.Bool.{lt-leb, cases_lt}
 use Rattle.std.proofs.lemmas.List.{drop-drop, length-drop, length-take, take_all}
 use Rattle.std.proofs.lemmas.List.Splits.{slice_split_none, slice_split_first, length-slice_split}
-use Rattle.std.proofs.lemmas.List.Sums.{fails_before_first, prefix_len-le-length}
+use Rattle.std.proofs.lemmas.List.Sums.{fails_before_first, position_or_len_is, prefix_len-le-length}
+use Rattle.memchr.specs.Find.{IsFirstByte, is_byte}
 use Rattle.events.specs.Words.{space}
 use Rattle.events.specs.EventText.{no_word, a_word, placed, text_words}
 use Rattle.events.specs.Answers.{words_from}
@@ -19,24 +20,14 @@ placed-more : (place : ℕ) (word : List ℕ) (parts : List (List ℕ)) → 0 < 
 placed-more place word [] some = absurd (omega (arith, some))
 placed-more place word (next ∷ more) some = refl
 
-choice_some : {A : Type 0} (b : Bool) (x y : A) → cond b (Some x) None ≡ Some y → (b ≡ true) × (x ≡ y)
-choice_some true x y e = (refl, cc)
-choice_some false x y e = absurd cc
+fails : (b : Bool) → ¬ (b ≡ true) → b ≡ false
+fails true h = absurd (h refl)
+fails false h = refl
 
-choice_none : {A : Type 0} (b : Bool) (x : A) → cond b (Some x) None ≡ None → b ≡ false
-choice_none true x e = absurd cc
-choice_none false x e = refl
-
--- the first place, and how many elements are before it
-pub len_found : {A : Type 0} (p : A → Bool) (xs : List A) (i : ℕ) → position p xs ≡ Some i → (i ≡ position_or_len p xs) × (i ≤ length xs)
-len_found p xs i e =
-    let both = choice_some (nat_lt (position_or_len p xs) (length xs)) (position_or_len p xs) i e in
-    (sym both.1, omega (arith, both.1, prefix_len-le-length (λ x. not (p x)) xs))
-
-pub len_none : {A : Type 0} (p : A → Bool) (xs : List A) → position p xs ≡ None → length xs ≡ position_or_len p xs
-len_none p xs e =
-    let past = ltb-false (position_or_len p xs) (length xs) (choice_none (nat_lt (position_or_len p xs) (length xs)) (position_or_len p xs) e) in
-    omega (arith, past, prefix_len-le-length (λ x. not (p x)) xs)
+-- the first such byte, or the end where there is none
+pub ends_at : (wanted : ℕ) (text : List ℕ) (r : Option ℕ) → IsFirstByte (is_byte wanted) text r → unwrap_or r (length text) ≡ position_or_len (λ byte. byte == wanted) text
+ends_at wanted text None h = sym (position_or_len_is (λ byte. byte == wanted) text (length text) 0 (omega arith) (λ k lt. fails _ (h k (omega arith) lt)) (λ lt. absurd (omega (arith, lt))))
+ends_at wanted text (Some k) h = sym (position_or_len_is (λ byte. byte == wanted) text k 0 (omega (arith, h.0.high)) (λ j lt. fails _ (h.0.before j (omega arith) lt)) (λ lt. h.1))
 
 abbrev is_space : ℕ → Bool
 is_space byte = byte == space

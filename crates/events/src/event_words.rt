@@ -1,5 +1,5 @@
 //! The words of an event's text, one after the other.
-ghost use Rattle.std.specs.Prelude.{◌≡◌, ◌==◌, ◌≤◌, length, position, find, IfOk, IfErr};
+ghost use Rattle.std.specs.Prelude.{◌≡◌, ◌==◌, ◌≤◌, length, find, IfOk, IfErr};
 ghost use Rattle.std.specs.List.{position_or_len};
 ghost use Rattle.td_base.specs.Values.{same_text, number_of, ep_of};
 ghost use Rattle.events.specs.Words.{space, bytes_spelled};
@@ -17,6 +17,7 @@ use crate::node_words::target_word;
 use crate::target::Target;
 use crate::verb::{VERBS, Verb};
 use crate::word_texts::bytes_word;
+use memchr::memchr;
 use std::alloc::Global;
 use td_base::{DATAGRAM_MAX, Ep, Octets, read_ep, read_number};
 use topology::{Topology, client_named, host_named, nat_named, node_named};
@@ -28,18 +29,12 @@ pub(crate) struct WordsLeft<'a> {
     pub(crate) at: usize,
 }
 
-fn first_space(text: &[u8]) -> Option<usize>
-    ensures { result ≡ position (λ byte. byte == space) text.now }
-{
-    text.iter().position(|byte| *byte == b' ')
-}
-
 /// How many bytes stand before the first space.
 fn word_len(text: &[u8]) -> usize
     ensures value { result ≡ position_or_len (λ byte. byte == space) text.now }
     ensures within { result ≤ length text.now }
 {
-    match first_space(text) {
+    match memchr(b' ', text) {
         Some(len) => len,
         None => text.len(),
     }

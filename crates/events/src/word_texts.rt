@@ -1,9 +1,31 @@
 //! What one word of a text says.
-ghost use Rattle.std.specs.Prelude.{◌≡◌, ◌≤◌, IfOk};
+ghost use Rattle.std.specs.Prelude.{◌≡◌, ◌<◌, ◌≤◌, ◌/◌, length, IfOk};
 ghost use Rattle.events.specs.Words.{hex_of, bytes_spelled};
 
 use std::alloc::Global;
 use td_base::{DATAGRAM_MAX, NoMemory, Octets};
+
+/// How many bytes most words say at most. Only for a longer word is more room made.
+const SHORT_MAX: usize = 64;
+
+/// The bytes that digits say, at most as many as there is room for.
+fn read_into(
+    alloc: Global,
+    digits: &[u8],
+    most: usize,
+    room: &mut [u8],
+) -> Result<Option<Octets>, NoMemory>
+    requires some { 0 < length digits.now }
+    requires few { length digits.now / 2 ≤ most }
+    requires room { length digits.now / 2 ≤ length room.old }
+    ensures { IfOk result (λ o. o ≡ hex_of most digits.now) }
+{
+    let bytes = &mut room[..digits.len() / 2];
+    if hex::decode_to_slice(digits, bytes).is_err() {
+        return Ok(None);
+    }
+    Ok(Some(Octets::new(alloc, bytes)?))
+}
 
 /// The bytes that hexadecimal digits say, one to `most` of them.
 fn digits_word(alloc: Global, digits: &[u8], most: usize) -> Result<Option<Octets>, NoMemory>
@@ -17,12 +39,10 @@ fn digits_word(alloc: Global, digits: &[u8], most: usize) -> Result<Option<Octet
     if len > most {
         return Ok(None);
     }
-    let mut room = [0; DATAGRAM_MAX];
-    let bytes = &mut room[..len];
-    if hex::decode_to_slice(digits, bytes).is_err() {
-        return Ok(None);
+    if len <= SHORT_MAX {
+        return read_into(alloc, digits, most, &mut [0; SHORT_MAX]);
     }
-    Ok(Some(Octets::new(alloc, bytes)?))
+    read_into(alloc, digits, most, &mut [0; DATAGRAM_MAX])
 }
 
 /// The bytes that a word says, at most `most` of them.

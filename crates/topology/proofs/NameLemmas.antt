@@ -48,9 +48,9 @@ pub same_name-true : (a b : Name) → same_name a b ≡ true → a ≡ b
 same_name-true a b = (same_name_decides a b).0
 
 -- the texts are the same exactly where all bytes are
-pub by_all_bytes : (a b : Name) → ((a.len == b.len) && pointwise nat_eq a.bytes b.bytes) ≡ same_name a b
+pub by_all_bytes : (a b : Name) → (pointwise nat_eq a.bytes b.bytes && (a.len == b.len)) ≡ same_name a b
 by_all_bytes a b =
-    let both = Decides-and (a.len == b.len) (pointwise nat_eq a.bytes b.bytes) (Decides-eqb a.len b.len) (pointwise_decides Decides-eqb a.bytes b.bytes) in
-    let all : Decides ((a.len == b.len) && pointwise nat_eq a.bytes b.bytes) (a ≡ b) =
-    (λ t. let h = both.0 t in same_parts a b h.0 h.1, λ e. both.1 (ap (λ (x : Name). x.len) e, ap (λ (x : Name). x.bytes) e)) in
+    let both = Decides-and (pointwise nat_eq a.bytes b.bytes) (a.len == b.len) (pointwise_decides Decides-eqb a.bytes b.bytes) (Decides-eqb a.len b.len) in
+    let all : Decides (pointwise nat_eq a.bytes b.bytes && (a.len == b.len)) (a ≡ b) =
+    (λ t. let h = both.0 t in same_parts a b h.1 h.0, λ e. both.1 (ap (λ (x : Name). x.bytes) e, ap (λ (x : Name). x.len) e)) in
     same_from_decides _ _ all (same_name_decides a b)

@@ -49,12 +49,14 @@ impl Name {
     }
 }
 
-/// Whether length and all sixteen bytes are the same. The bytes are compared as two numbers, as those of an address are.
+/// Whether all sixteen bytes and the length are the same. The bytes are compared as two numbers, as those of an address
+/// are, and first: many names of a scenario have one length.
+#[inline(always)]
 #[tactic(auto, unfolding(td_base::specs::Ip6::same_ip6))]
 fn have_same_bytes(a: &Name, b: &Name) -> bool
-    ensures { result ≡ ((a.now.len == b.now.len) && pointwise nat_eq a.now.bytes b.now.bytes) }
+    ensures { result ≡ (pointwise nat_eq a.now.bytes b.now.bytes && (a.now.len == b.now.len)) }
 {
-    a.len == b.len && Ip6(a.bytes) == Ip6(b.bytes)
+    Ip6(a.bytes) == Ip6(b.bytes) && a.len == b.len
 }
 
 impl PartialEq for Name {
@@ -65,6 +67,7 @@ impl PartialEq for Name {
 
     ghost laws = { partial_equiv_from_equiv same_name_equiv };
 
+    #[inline(always)]
     #[tactic(auto, using(crate::proofs::NameLemmas::by_all_bytes))]
     fn eq(&self, other: &Name) -> bool {
         have_same_bytes(self, other)

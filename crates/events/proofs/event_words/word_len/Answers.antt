@@ -1,13 +1,10 @@
-use Rattle.std.proofs.Common.{sym, arith}
-use Rattle.events.proofs.WordsLemmas.{len_found, len_none}
+use Rattle.std.specs.Prelude.{Some, None}
+use Rattle.events.specs.Words.{space}
+use Rattle.events.proofs.WordsLemmas.{ends_at}
 use Rattle.events.proofs.event_words.word_len.Goals as goal
 
-pub returns-in-Some : goal.returns-in-Some
-returns-in-Some c =
-    let h = len_found _ c.args.text.now c.in-Some.len (sym c.in-Some.ensures) in
-    record { value = h.0; within = h.1 }
+pub returns-in-Some-clause-value : goal.returns-in-Some-clause-value
+returns-in-Some-clause-value c = ends_at space c.args.text.now (Some c.in-Some.len) c.in-Some.ensures
 
-pub returns-in-None : goal.returns-in-None
-returns-in-None c =
-    let h = len_none _ c.args.text.now (sym c.in-None.ensures) in
-    record { value = h; within = omega arith }
+pub returns-in-None-clause-value : goal.returns-in-None-clause-value
+returns-in-None-clause-value c = ends_at space c.args.text.now None c.in-None.ensures
