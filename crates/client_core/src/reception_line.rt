@@ -264,14 +264,13 @@ fn answers_test(client: &Client, now: Millis, from: Ep, payload: &Payload<'_>) -
         result ≡ (not a.teredo && (a.peer.listed && (not a.peer.fresh && a.peer.reply))) }
 {
     let packet = &payload.packet;
-    !is_teredo(packet.src)
-        && client.peers.is_listed(now, packet.src)
-        && !client.peers.is_fresh(now, packet.src)
-        && is_reply_to(
-            client.peers.nonce(now, packet.src),
-            packet,
-            message_of(packet),
-        )
+    if is_teredo(packet.src) {
+        return false;
+    }
+    let Some(peer) = client.peers.find(now, packet.src) else {
+        return false;
+    };
+    !peer.is_fresh(now) && is_reply_to(peer.nonce(), packet, message_of(packet))
 }
 
 /// Whether a packet's source may be tested, and the packet is one that a test answers.

@@ -1,9 +1,9 @@
 //! The table of packets of the host.
-ghost use Rattle.std.specs.Prelude.{◌≡◌, ◌≤◌, true, false, Some, is_some, IfSome};
+ghost use Rattle.std.specs.Prelude.{◌≡◌, ◌≤◌, true, false, Some, is_some, option_map, unwrap_or, IfSome};
 ghost use Rattle.ipv6_packet.specs.Packets.{packet_view};
 ghost use Rattle.ipv6_packet.specs.Reads.{is_big};
-ghost use Rattle.peer_list.specs.Judged.{is_fresh};
-ghost use Rattle.peer_list.specs.Table.{peer_in, known_to};
+ghost use Rattle.peer_list.specs.Judged.{is_fresh, is_spent, is_full};
+ghost use Rattle.peer_list.specs.Peers.{no_peer};
 ghost use Rattle.qualify.specs.Solicitations.{is_qualified};
 ghost use Rattle.client_core.specs.Client.{standing_in};
 ghost use Rattle.client_rules.specs.Transmission.{destination_lines, transmission_row};
@@ -14,6 +14,7 @@ ghost use Rattle.teredo_node.specs.Rows.{first_line};
 use crate::client::Client;
 use bubble::is_bubble;
 use ipv6_packet::{Packet, is_big};
+use peer_list::Peer;
 use td_base::{Ep, Ip6, Millis, is_global6};
 use teredo_addr::{has_cone, is_reachable, is_teredo};
 use teredo_node::Fate;
@@ -77,8 +78,9 @@ fn line_for_destination(client: &Client, now: Millis, packet: &Packet<'_>) -> Tr
     if is_teredo(who) && !is_reachable(client.qualifier.settings().policy, who) {
         return TransmissionLine::Drop(Fate::Embedded);
     }
+    let peer = client.peers.find(now, who);
     // sent: RFC 4380, section 5.2.4, case 1
-    if let Some(to) = endpoint_of_fresh(client, now, who) {
+    if let Some(to) = endpoint_of_fresh(peer, now) {
         return TransmissionLine::Sent(to);
     }
     // sent_cone: RFC 4380, section 5.2.4, case 4
@@ -90,27 +92,51 @@ fn line_for_destination(client: &Client, now: Millis, packet: &Packet<'_>) -> Tr
         return TransmissionLine::Drop(Fate::PeersFull);
     }
     // barred: RFC 4380, section 5.2.6
-    if client.peers.is_spent(now, who) {
+    if is_spent(peer, now) {
         return TransmissionLine::Drop(Fate::Barred);
     }
     // queue_full: our choice
-    if client.peers.is_full(now, who) {
+    if is_full(peer) {
         return TransmissionLine::Drop(Fate::QueueFull);
     }
     // queued: RFC 4380, section 5.2.4, cases 2, 3 and 5
     TransmissionLine::Queued
 }
 
-/// Where an address is trusted, if it is fresh.
+/// Where a peer is trusted, if it is fresh.
 #[tactic(auto, unfolding(peer_list::specs::Judged::is_fresh))]
-fn endpoint_of_fresh(client: &Client, now: Millis, who: Ip6) -> Option<Ep>
-    requires clock { client.now.peers.moment ≤ now.0 }
-    ensures fresh { is_some result ≡ is_fresh now.0 (known_to client.now.peers now.0 who) }
-    ensures trusted { IfSome result (λ to. (known_to client.now.peers now.0 who).trusted ≡ Some to) }
-    ensures listed { IfSome result (λ to. is_some (peer_in client.now.peers now.0 who) ≡ true) }
+fn endpoint_of_fresh(peer: Option<&Peer>, now: Millis) -> Option<Ep>
+    ensures fresh { is_some result ≡ is_fresh now.0 (unwrap_or (option_map (λ p. p.now) peer.entry) no_peer) }
+    ensures trusted { IfSome result (λ to. (unwrap_or (option_map (λ p. p.now) peer.entry) no_peer).trusted ≡ Some to) }
+    ensures listed { IfSome result (λ to. is_some peer.entry ≡ true) }
 {
-    if !client.peers.is_fresh(now, who) {
+    let Some(peer) = peer else {
+        return None;
+    };
+    if !peer.is_fresh(now) {
         return None;
     }
-    client.peers.trusted(now, who)
+    peer.trusted()
+}
+
+/// Whether no further try at a peer helps.
+#[tactic(auto, unfolding(peer_list::specs::Judged::is_spent))]
+fn is_spent(peer: Option<&Peer>, now: Millis) -> bool
+    ensures { result ≡ is_spent now.0 (unwrap_or (option_map (λ p. p.now) peer.entry) no_peer) }
+{
+    match peer {
+        None => false,
+        Some(peer) => peer.is_spent(now),
+    }
+}
+
+/// Whether no further packet may wait for a peer.
+#[tactic(auto, unfolding(peer_list::specs::Judged::is_full))]
+fn is_full(peer: Option<&Peer>) -> bool
+    ensures { result ≡ is_full (unwrap_or (option_map (λ p. p.now) peer.entry) no_peer) }
+{
+    match peer {
+        None => false,
+        Some(peer) => peer.is_full(),
+    }
 }

@@ -34,6 +34,13 @@ impl Lates {
         }
     }
 
+    /// Takes all out. What they were isn't overwritten.
+    pub fn clear(&mut self)
+        ensures { self.new ≡ [] }
+    {
+        self.len = 0;
+    }
+
     /// The lengths in order.
     pub fn as_slice(&self) -> &[usize]
         ensures value { result.now ≡ self.now }

@@ -48,6 +48,13 @@ impl Marks {
         }
     }
 
+    /// Takes all out. What they were isn't overwritten.
+    pub fn clear(&mut self)
+        ensures { self.new ≡ [] }
+    {
+        self.len = 0;
+    }
+
     /// The marks in order.
     pub fn as_slice(&self) -> &[Mark]
         ensures value { result.now ≡ self.now }

@@ -10,7 +10,7 @@ use Rattle.peer_list.specs.Peers.{Peer}
 use Rattle.peer_list.specs.Waiting.{Listing}
 use Rattle.peer_list.specs.Table.{Table, table, is_of, peer_in, known_to}
 use Rattle.peer_list.specs.declared.change.Change.{Change}
-use Rattle.peer_list.specs.declared.change.Change.TheVariants.{Touch, Trust, Hear, Try, GiveUp}
+use Rattle.peer_list.specs.declared.change.Change.TheVariants.{Touch, Trust, Hear, TrustAndHear, Try, GiveUp}
 use Rattle.peer_list.specs.Calls.{changed_at, Updates, Keeps}
 use Rattle.peer_list.specs.Sound.{IsSince}
 use Rattle.peer_list.specs.Entries.{listings_of, key_of, entry_due, AreInTurn, AreWhole, AreWholeBut, AreKept, with_peer_at, IsAfter}
@@ -52,6 +52,7 @@ changed_since : {e : Entries} {n : ℕ} (key : ℕ) {l : Listing} (change : Chan
 changed_since key Touch kept was = kept.past
 changed_since key (Trust at) kept was = kept.past
 changed_since key Hear kept was = kept.past
+changed_since key (TrustAndHear at) kept was = kept.past
 changed_since key (Try test) kept was = kept.past
 changed_since {e} {n} key {l} GiveUp kept was = kept.touched key l was
 

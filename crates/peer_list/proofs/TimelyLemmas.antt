@@ -13,7 +13,7 @@ use Rattle.peer_list.specs.Judged.{is_none, is_within, due_of}
 use Rattle.peer_list.specs.Waiting.{Listing}
 use Rattle.peer_list.specs.Table.{Table, table, while_listed, peer_listed, is_of, peer_in, known_to, first_due_in, due_and_who}
 use Rattle.peer_list.specs.declared.change.Change.{Change}
-use Rattle.peer_list.specs.declared.change.Change.TheVariants.{Touch, Trust, Hear, Try, GiveUp}
+use Rattle.peer_list.specs.declared.change.Change.TheVariants.{Touch, Trust, Hear, TrustAndHear, Try, GiveUp}
 use Rattle.peer_list.specs.Calls.{touched_at, trusted_at, heard_at, tried_at, queued_at, held_at, emptied, changed_at, Updates, Keeps}
 use Rattle.peer_list.specs.Timely.{IsTimely, AreTimely, FirstLasts}
 use Rattle.peer_list.proofs.TableLemmas.{listed_while, found_is_listed, other_peer}
@@ -73,6 +73,10 @@ module _ (t : Table) (n : ℕ) (who : Ip6) (all : AreTimely t) (later : t.moment
   unfolding due_of
   heard_so = record { touched = n; at = refl; past = omega arith; due = omega arith }
 
+  trusted_and_heard_so : (at : Ep) → IsTimely n (heard_at n (trusted_at n at (known_to t n who)))
+  unfolding due_of
+  trusted_and_heard_so at = record { touched = n; at = refl; past = omega arith; due = omega arith }
+
   tried_so : (test : Option ℕ) → IsTimely n (tried_at n test (known_to t n who))
   unfolding due_of
   tried_so test = record { touched = n; at = refl; past = omega arith; due = omega arith }
@@ -85,6 +89,7 @@ module _ (t : Table) (n : ℕ) (who : Ip6) (all : AreTimely t) (later : t.moment
   changed_so Touch h = touched_so
   changed_so (Trust at) h = trusted_so at
   changed_so Hear h = heard_so
+  changed_so (TrustAndHear at) h = trusted_and_heard_so at
   changed_so (Try test) h = tried_so test
   changed_so GiveUp h = emptied_so h
 

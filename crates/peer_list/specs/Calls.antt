@@ -7,7 +7,7 @@ use Rattle.td_base.specs.declared.endpoint.Ep.{Ep}
 use Rattle.td_base.specs.declared.millis.TheConstants.{CLOCK_END_MS}
 use Rattle.peer_list.specs.declared.limits.TheConstants.{TRIES_MAX}
 use Rattle.peer_list.specs.declared.change.Change.{Change}
-use Rattle.peer_list.specs.declared.change.Change.TheVariants.{Touch, Trust, Hear, Try, GiveUp}
+use Rattle.peer_list.specs.declared.change.Change.TheVariants.{Touch, Trust, Hear, TrustAndHear, Try, GiveUp}
 use Rattle.peer_list.specs.Peers.{Peer}
 use Rattle.peer_list.specs.Table.{Table, while_listed, peer_in, known_to}
 
@@ -50,6 +50,7 @@ abbrev pub changed_at : ℕ → Change → Peer → Peer
 changed_at m Touch p = touched_at m p
 changed_at m (Trust at) p = trusted_at m at p
 changed_at m Hear p = heard_at m p
+changed_at m (TrustAndHear at) p = heard_at m (trusted_at m at p)
 changed_at m (Try test) p = tried_at m test p
 changed_at m GiveUp p = emptied p
 

@@ -1,6 +1,7 @@
 -- How the entries of the listed peers stand: slab and index, and the order in which they are due.
 use Rattle.std.specs.Prelude.{◌≡◌, ◌≤◌, ℕ, Bool, true, false, not, if◌then◌else◌, nat_eq, List, [], ◌∷◌, length, filter, Option, Some, None, is_some}
 use Rattle.std.specs.List.{AllByRecursion, count_by, filter_map}
+use Rattle.std.specs.List.Sorted.{IsPartitionPoint}
 use Rattle.std.specs.BTreeMap.{BTreeMap, IsOrdered}
 use Rattle.std.specs.BTreeMap as map
 use Rattle.slab.specs.Slab.{Slab, get}
@@ -65,6 +66,11 @@ is_sooner (Some next) first = is_before next first
 abbrev pub AreInTurn : Slab Listing → List ℕ → Type 0
 AreInTurn s [] = Unit {0}
 AreInTurn s (key ∷ keys) = AllByRecursion (λ later. is_sooner (entry_due (get s later)) (entry_due (get s key)) ≡ false) keys × AreInTurn s keys
+
+-- all keys before a place stay in front of a key there, since their entries aren't due later, and all from there on are
+abbrev pub IsPlaceFor : Slab Listing → List ℕ → ℕ → ℕ → Type 0
+IsPlaceFor s keys key i = IsPartitionPoint (λ other. not (is_sooner (entry_due (get s key)) (entry_due (get s other))) ≡ true)
+    (λ other. not (is_sooner (entry_due (get s key)) (entry_due (get s other))) ≡ false) keys i
 
 -- the keys of the slab, each once
 abbrev pub AreKeysOnce : Slab Listing → List ℕ → Type 0

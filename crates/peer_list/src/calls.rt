@@ -67,6 +67,22 @@ impl Peers {
         self.entries.change(key, now, change);
     }
 
+    /// The same, where first what waits for the peer goes to an endpoint, in order. The peer is looked for once.
+    fn release(&mut self, now: Millis, who: Ip6, to: Ep, change: Change, step: &mut Step)
+        requires clock { self.old.moment ≤ now.0 }
+        requires listed { is_some (peer_in self.old now.0 who) ≡ true }
+        requires early { IsInTime now.0 change }
+        requires first { step.old.sends ≡ [] }
+        ensures sends { step.new ≡ record step.old { sends = releases to (known_to self.old now.0 who).waiting } }
+        ensures changed { Updates self.old self.new now.0 who (changed_at now.0 change (known_to self.old now.0 who)) }
+    {
+        let key = self.entries.key(who);
+        let peer = self.entries.peer_under(key, who);
+        peer.send_waiting(to, step);
+        self.moment = now;
+        self.entries.change(key, now, change);
+    }
+
     /// Touches a listed peer: it stays listed for `LISTED_MS` from now.
     pub fn touch(&mut self, now: Millis, who: Ip6)
         requires clock { self.old.moment ≤ now.0 }
@@ -94,8 +110,7 @@ impl Peers {
         ensures sends { step.new ≡ record step.old { sends = releases to (known_to self.old now.0 who).waiting } }
         ensures heard { Updates self.old self.new now.0 who (heard_at now.0 (known_to self.old now.0 who)) }
     {
-        self.peer(now, who).send_waiting(to, step);
-        self.change(now, who, Change::Hear);
+        self.release(now, who, to, Change::Hear, step);
     }
 
     /// The same of a peer that is trusted from now on at the endpoint to which what waits goes.
@@ -106,8 +121,7 @@ impl Peers {
         ensures sends { step.new ≡ record step.old { sends = releases at (known_to self.old now.0 who).waiting } }
         ensures heard { Updates self.old self.new now.0 who (heard_at now.0 (trusted_at now.0 at (known_to self.old now.0 who))) }
     {
-        self.trust(now, who, at);
-        self.hear(now, who, at, step);
+        self.release(now, who, at, Change::TrustAndHear(at), step);
     }
 
     /// Touches a listed peer that was tried, where there is one with a test and its nonce. Whether it may be tried is

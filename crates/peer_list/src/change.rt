@@ -10,6 +10,8 @@ pub enum Change {
     Trust(Ep),
     /// A direct reception came from it: what was tried is over, and nothing waits or is held any more.
     Hear,
+    /// Both: such a reception came from an endpoint, where it is trusted from then on.
+    TrustAndHear(Ep),
     /// It was tried, where there is one with a test and its nonce.
     Try(Option<u64>),
     /// Nothing waits for it any more.

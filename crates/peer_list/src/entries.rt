@@ -89,7 +89,17 @@ impl Entries {
         requires there { is_some (find (is_of who) (listings_of self.now)) ≡ true }
         ensures { option_map (λ l. l.peer) (find (is_of who) (listings_of self.now)) ≡ Some result.now }
     {
-        &self.slab[self.key(who)].peer
+        self.peer_under(self.key(who), who)
+    }
+
+    /// The same, where the key of the entry is known.
+    pub fn peer_under(&self, key: usize, who: Ip6) -> &Peer
+        requires whole { AreWhole self.now }
+        requires key { key_of self.now who ≡ Some key }
+        requires there { ContainsKey self.now.slab key }
+        ensures { option_map (λ l. l.peer) (find (is_of who) (listings_of self.now)) ≡ Some result.now }
+    {
+        &self.slab[key].peer
     }
 
     /// Whether there is room for anybody: then nobody needs to be looked for.

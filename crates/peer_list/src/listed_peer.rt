@@ -270,6 +270,10 @@ impl Peer {
             Change::Touch => self.touch(now),
             Change::Trust(at) => self.trust(now, at),
             Change::Hear => self.hear(now),
+            Change::TrustAndHear(at) => {
+                self.trust(now, at);
+                self.hear(now);
+            }
             Change::Try(nonce) => self.note_try(now, nonce),
             Change::GiveUp => self.give_up(),
         }

@@ -1,9 +1,9 @@
 //! The keys of the entries, in the order in which these are due.
-ghost use Rattle.std.specs.Prelude.{◌≡◌, ◌<◌, ◌+◌, ℕ, true, not, is_some, if◌then◌else◌, nat_eq, length, get_or};
+ghost use Rattle.std.specs.Prelude.{◌≡◌, ◌<◌, ◌≤◌, ◌+◌, ℕ, true, not, is_some, if◌then◌else◌, nat_eq, length, get_or};
 ghost use Rattle.std.specs.List.{count_by};
 ghost use Rattle.std.specs.Vec.{vec_len, vec_capacity};
 ghost use Rattle.slab.specs.Slab.{get};
-ghost use Rattle.peer_list.specs.Entries.{entry_due, is_sooner, AreInTurn, AreKeysOnce, keys_without};
+ghost use Rattle.peer_list.specs.Entries.{entry_due, is_sooner, AreInTurn, IsPlaceFor, AreKeysOnce, keys_without};
 
 use crate::listings::Listing;
 use slab::Slab;
@@ -54,6 +54,20 @@ fn is_in_turn(slab: &Slab<Listing>, first: usize, next: Option<(Millis, Ip6)>) -
     !is_sooner(next, due_at(slab, first))
 }
 
+/// The place behind all keys whose entries aren't due later than that of one. What isn't due comes last, so that no entry is
+/// looked at for it.
+fn place_behind(order: &[usize], slab: &Slab<Listing>, key: usize) -> usize
+    requires turn { AreInTurn slab.now order.now }
+    ensures within { result ≤ length order.now }
+    ensures place { IsPlaceFor slab.now order.now key result }
+{
+    let due = due_at(slab, key);
+    if due.is_none() {
+        return order.len();
+    }
+    order.partition_point(|other| is_in_turn(slab, *other, due))
+}
+
 /// Puts a key behind all whose entries aren't due later. There has to be room for it.
 pub fn put(order: &mut Vec<usize>, slab: &Slab<Listing>, key: usize)
     requires room { vec_len order.old < vec_capacity order.old }
@@ -61,8 +75,7 @@ pub fn put(order: &mut Vec<usize>, slab: &Slab<Listing>, key: usize)
     ensures turn { AreInTurn slab.now order.new.items }
     ensures keys { (k : ℕ) → count_by (nat_eq k) order.new.items ≡ count_by (nat_eq k) order.old.items + (if nat_eq k key then 1 else 0) }
 {
-    let due = due_at(slab, key);
-    let place = order.partition_point(|other| is_in_turn(slab, *other, due));
+    let place = place_behind(order, slab, key);
     order.insert(place, key).unwrap();
 }
 

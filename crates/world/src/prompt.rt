@@ -1,8 +1,6 @@
 //! What prompts a node.
 ghost use Rattle.std.specs.Prelude.{◌≡◌};
-ghost use Rattle.legal.specs.Next.{dst_of, input_of};
 ghost use Rattle.lab_nodes.specs.Call.{dst_lent, input_lent, IsShortInput};
-ghost use Rattle.world.specs.WireEntry.{item_lent};
 ghost use Rattle.world.specs.Prompt.{IsPrompt, dst_by, input_by, done_by};
 
 use crate::wire::{Wire, WireEntry};
@@ -19,26 +17,19 @@ pub enum Prompt<'a> {
     Tick,
 }
 
-/// What comes to a node by an entry of the wire.
-fn input_by(entry: WireEntry<'_>) -> Input<'_>
-    ensures input { input_lent result ≡ input_of (item_lent entry.entry) }
-    ensures dst { dst_lent result ≡ dst_of (item_lent entry.entry) }
-{
-    match entry {
-        WireEntry::Udp { src, dst, bytes } => Input::Arrived { src, dst, bytes },
-        WireEntry::Six { bytes, .. } => Input::FromSix { bytes },
-    }
-}
-
-/// What comes to a node by an entry of that number: where there is none, its tick.
+/// What comes to a node by an entry of that number: where there is none, its tick. It is made at once, since it would
+/// take longer to hand it on than to make it.
 fn input_at(wire: &Wire, number: u32) -> Input<'_>
     ensures input { input_lent result ≡ input_by wire.now.items (Prompt.Entry number) }
     ensures dst { dst_lent result ≡ dst_by wire.now.items (Prompt.Entry number) }
     ensures short { IsShortInput (input_lent result) }
 {
-    match wire.get(number as usize) {
-        Some(entry) => input_by(entry),
-        None => Input::Ticked,
+    let Some(entry) = wire.get(number as usize) else {
+        return Input::Ticked;
+    };
+    match entry {
+        WireEntry::Udp { src, dst, bytes } => Input::Arrived { src, dst, bytes },
+        WireEntry::Six { bytes, .. } => Input::FromSix { bytes },
     }
 }
 

@@ -16,7 +16,7 @@ ghost use Rattle.world.specs.Record.{fresh_record};
 ghost use Rattle.world.specs.Playing.{Plays, PlaysTurn, Turned, played, ended, turn_from};
 
 use crate::going::Going;
-use crate::record::{blank, say};
+use crate::record::{begin, blank, say};
 use crate::wire::{ENTRIES_MAX, Wire, WireEntry};
 use events::{Event, Verb};
 use history::{Act, Record, Stop, Turn};
@@ -202,7 +202,7 @@ impl<'a> World<'a> {
             return Err(stop);
         }
         prove!(self.wire.len() <= ENTRIES_MAX);
-        *out = blank(index, self.moment);
+        begin(out, index, self.moment);
         match self.play(event, out) {
             Ok(more) => {
                 prove!(self.wire.len() <= ENTRIES_MAX);

@@ -37,6 +37,6 @@ returns-in-Ok-clause-ok c =
           let most = c.len-in-Ok.ensures.most in
           subst (λ (x : WorldState). length x.wire ≤ ENTRIES_MAX) c.self-2.view_is (omega (arith, count, most));
     } in
-    let index : c.blank.result.event ≡ c.args.index = ap (λ (r : Record). r.event) c.blank.ensures in
+    let index : c.begin.new.out.event ≡ c.args.index = ap (λ (r : Record). r.event) c.begin.ensures in
     let plays = subst (λ (i : ℕ). PlaysAll c.args.self.now c.play.new.self i c.args.event.now (turn_from (Ok c.in-Ok.more) c.play.new.out)) index c.in-Ok.ensures.plays in
     steps laws c.args.self.now c.play.new.self c.args.index c.args.event.now (turn_from (Ok c.in-Ok.more) c.play.new.out) asked c.in-Ok.ensures.turned kept plays

@@ -1,5 +1,5 @@
 use Rattle.std.proofs.Common.{◌≡◌, map, length, take}
-use Rattle.world.proofs.record.lates_of.Given as goal
+use Rattle.world.proofs.record.put_lates.Given as goal
 
 -- the lengths of those so far
 abbrev pub invariant-loop-i : goal.invariant-loop-i

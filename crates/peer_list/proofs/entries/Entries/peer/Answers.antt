@@ -1,9 +1,0 @@
-use Rattle.std.proofs.Common.{ap, sym, ◌∙◌}
-use Rattle.std.specs.Prelude.{option_map}
-use Rattle.peer_list.specs.Waiting.{Listing}
-use Rattle.peer_list.specs.Entries.{entry_under}
-use Rattle.peer_list.proofs.EntryLemmas.{finds}
-use Rattle.peer_list.proofs.entries.Entries.peer.Goals as goal
-
-pub returns : goal.returns
-returns c = ap (option_map (λ (l : Listing). l.peer)) (finds c.args.self.now c.args.who c.requires.whole.names ∙ ap (entry_under c.args.self.now.slab) c.key.ensures.key ∙ c.index.ensures)
