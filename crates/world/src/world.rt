@@ -189,6 +189,7 @@ impl<'a> World<'a> {
         requires time { self.old.stopped ≡ None → EndsInTime self.old.began event.now }
         ensures ok { IfOk (turn_from result out.new) (λ turn. Steps self.old self.new index event.now turn) }
         ensures for_good { IfSome self.old.stopped (λ stop. (result ≡ Err stop) × (self.new ≡ self.old)) }
+        ensures untouched { IfSome self.old.stopped (λ _. out.new ≡ out.old) }
         ensures cause { self.old.stopped ≡ None → IfErr result (λ stop. StopsFor self.old index event.now stop) }
         ensures err { IfErr result (λ stop. StopsAs self.old self.new stop) }
     {
