@@ -2,8 +2,8 @@
 use crate::vectors::CLIENT;
 use std::test::Fail;
 use td_base::{
-    BadText, Ep, Ip4, LineBuf, Policy, Room, is_global, ones_sum, print_ep, print_ip4, print_ip6,
-    print_number, print_text, read_ep, read_ip4, read_ip6, read_number,
+    BadText, Ep, Ip4, LineBuf, Policy, Room, folded_sum, is_global, ones_sum, print_ep, print_ip4,
+    print_ip6, print_number, print_text, read_ep, read_ip4, read_ip6, read_number, unfolded_sum,
 };
 
 /// What a text is read as.
@@ -137,7 +137,7 @@ fn a_line_fills_up(rt: HostRuntime) {
     assert_eq!(rt; line.as_slice(), b"192.0.2.45:40000".as_slice());
 }
 
-/// RFC 1071's example, an IPv4 header of RFC 791's form, odd lengths, and what folds over.
+/// RFC 1071's example, whole and in two steps, an IPv4 header of RFC 791's form, odd lengths, and what folds over.
 #[test]
 fn sums(rt: HostRuntime) {
     let header = [
@@ -146,6 +146,10 @@ fn sums(rt: HostRuntime) {
     let example = [0, 1, 0xf2, 3, 0xf4, 0xf5, 0xf6, 0xf7];
     for (sum, want) in [
         (ones_sum(&example, 0), 0xddf2),
+        (
+            folded_sum(unfolded_sum(&example[4..], unfolded_sum(&example[..4], 0))),
+            0xddf2,
+        ),
         (ones_sum(&header, 0), 0x479e),
         (ones_sum(&[1], 0), 0x0100),
         (

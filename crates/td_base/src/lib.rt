@@ -7,7 +7,8 @@
 //!
 //! - A value prints as one text, which reads back as the value. Of an IPv6 address each other spelling is read as it, too.
 //! - A text that is refused is refused at its place: the length of the longest front that begins an accepted text.
-//! - `ones_sum` is the sum of all Internet checksums, whole or in steps.
+//! - `ones_sum` is the sum of all Internet checksums, whole or in steps. `unfolded_sum` is the same sum while
+//!   it goes on, and `folded_sum` its end, so that it is folded once.
 //! - `==` on addresses and endpoints is an opaque test with laws (`specs/Ip4.antt`, `Ip6.antt`, `Ep.antt`).
 //! - No call takes memory but that of `Octets::new`, for its copy.
 //!
@@ -64,7 +65,7 @@ pub use datagram::DATAGRAM_MAX;
 pub use endpoint::{Ep, TEREDO_PORT};
 pub use endpoint_text::{print_ep, read_ep};
 pub use fields::{field16, field32, field64, ip4_at, ip6_at, put, put8, put16, put32, put64};
-pub use halves::ones_sum;
+pub use halves::{SUM_START_MAX, folded_sum, ones_sum, unfolded_sum};
 pub use ipv4::Ip4;
 pub use ipv4_text::{print_ip4, read_ip4};
 pub use ipv6::Ip6;
