@@ -6,7 +6,7 @@ ghost use Rattle.td_ipv4.specs.Checksums.{head_checksum, other_spelling, udp_che
 use crate::heads::{fixed_head, udp_len};
 use crate::numbers::{NO_SUM, OPTIONS_MAX, TOTAL_MAX, UDP};
 use crate::udp4::Udp4;
-use td_base::ones_sum;
+use td_base::{folded_sum, unfolded_sum};
 
 /// The right checksum of the header, whatever it says: RFC 791, section 3.1.
 #[inline(always)]
@@ -15,8 +15,8 @@ pub fn head_checksum(u: &Udp4<'_>) -> u16
     requires total { total_len (udp4_view u.now) ≤ TOTAL_MAX }
     ensures { result ≡ head_checksum (udp4_view u.now) }
 {
-    let fixed = u32::from(ones_sum(&fixed_head(u, 0), 0));
-    !ones_sum(u.options, fixed)
+    let fixed = unfolded_sum(&fixed_head(u, 0), 0);
+    !folded_sum(unfolded_sum(u.options, fixed))
 }
 
 /// A sum of 0 in its other spelling: RFC 768.
@@ -33,9 +33,9 @@ pub fn udp_checksum(u: &Udp4<'_>) -> u16
     requires { total_len (udp4_view u.now) ≤ TOTAL_MAX }
     ensures { result ≡ udp_checksum (udp4_view u.now) }
 {
-    let source = u32::from(ones_sum(&u.src.ip.0, 0));
-    let addresses = u32::from(ones_sum(&u.dst.ip.0, source));
+    let addresses = unfolded_sum(&u.dst.ip.0, unfolded_sum(&u.src.ip.0, 0));
     let len = u32::from(udp_len(u));
     let head = u32::from(UDP) + len + u32::from(u.src.port) + u32::from(u.dst.port) + len;
-    told(!ones_sum(u.body, addresses + head))
+    let front = addresses + u128::from(head);
+    told(!folded_sum(unfolded_sum(u.body, front)))
 }

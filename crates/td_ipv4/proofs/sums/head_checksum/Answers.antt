@@ -1,6 +1,6 @@
 use Rattle.std.proofs.Common.{◌∙◌, ◌-◌, ℕ, ap, arith, length-append}
 use Rattle.td_base.specs.Sums.{StandsForSum, folded, halves_sum}
-use Rattle.td_base.proofs.SumLemmas.{nothing_summed, sum_stands}
+use Rattle.td_base.proofs.SumLemmas.{nothing_summed}
 use Rattle.td_ipv4.specs.Datagrams.{udp4_view, fixed_head}
 use Rattle.td_ipv4.specs.Checksums.{head_checksum}
 use Rattle.td_ipv4.proofs.sums.head_checksum.Goals as goal
@@ -9,6 +9,9 @@ pub returns : goal.returns
 unfolding head_checksum
 returns c =
     let v = udp4_view c.args.u.now in
-    let fixed : StandsForSum c.from-fixed.result (fixed_head 0 v) =
-    sum_stands _ _ (omega (arith, length-append v.src.ip.0 v.dst.ip.0, c.fixed_head.ensures.src.0.0, c.fixed_head.ensures.dst.0.0)) (c.from-fixed.ensures ∙ c.ones_sum.ensures.goes_on _ nothing_summed ∙ ap (λ bytes. folded (halves_sum bytes)) c.fixed_head.ensures.bytes) in
-    ap (λ (n : ℕ). 65535 - n) (c.ones_sum-2.ensures.goes_on (fixed_head 0 v) fixed)
+    let fixed : StandsForSum c.unfolded_sum-fixed.result (fixed_head 0 v) =
+    record {
+      whole = omega (arith, length-append v.src.ip.0 v.dst.ip.0, c.fixed_head.ensures.src.0.0, c.fixed_head.ensures.dst.0.0);
+      same = c.unfolded_sum-fixed.ensures.goes_on _ nothing_summed ∙ ap (λ bytes. folded (halves_sum bytes)) c.fixed_head.ensures.bytes;
+    } in
+    ap (λ (n : ℕ). 65535 - n) (c.folded_sum.ensures ∙ c.unfolded_sum.ensures.goes_on (fixed_head 0 v) fixed)
