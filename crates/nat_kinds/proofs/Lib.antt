@@ -8,6 +8,7 @@ pub mod PortLemmas
 pub mod ChoiceLemmas
 pub mod SearchLemmas
 pub mod ShowsLemmas
+pub mod FrontLemmas
 pub mod RecallLemmas
 pub mod StandsLemmas
 pub mod AnswerLemmas

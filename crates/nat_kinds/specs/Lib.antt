@@ -5,6 +5,7 @@ pub mod Entering
 pub mod Sound
 pub mod Way
 pub mod Places
+pub mod Front
 pub mod Asked
 pub mod Nat
 pub mod Laws

@@ -18,7 +18,8 @@
 //!
 //! Packets, sockets and clocks. It moves no bytes: it names endpoints. Moments come with each call and never
 //! fall. The latest outward datagram of each port is kept, and when each was asked last; earlier ones aren't. What was
-//! asked too long ago is looked for once in an idle time, by `outward`.
+//! asked too long ago is looked for once in an idle time, by `outward`. The lowest free port is looked for behind the
+//! first places, while these are known to be live.
 //!
 //! # Parts
 //!
@@ -29,6 +30,7 @@
 //! | `outgoing` | `Outward`: its age, its key | `specs/History.antt`, `Mappings.antt` |
 //! | `way` | what mappings and permissions are found by | `specs/Way.antt` |
 //! | `places`, `index` | the latest datagram of each port, and the port of each key | `specs/Places.antt` |
+//! | `front` | how many of the first places are known to be live | `specs/Front.antt` |
 //! | `asked` | whom the inside endpoints asked, and when last | `specs/Asked.antt` |
 //! | `mappings` | the answers over these | `specs/Answer.antt`, `Entering.antt`, `Sound.antt` |
 //! | `translator` | `Nat` | `specs/Nat.antt` |
@@ -37,6 +39,7 @@
 
 mod asked;
 mod departure;
+mod front;
 mod index;
 mod kind;
 mod laws;

@@ -1,16 +1,18 @@
 //! The answers of a NAT, over its table, its index and what was asked.
-ghost use Rattle.std.specs.Prelude.{◌≡◌, ℕ, ◌<◌, true, List, IfOk, IfErr, OnOk, OnErr};
+ghost use Rattle.std.specs.Prelude.{◌≡◌, ℕ, ◌<◌, ◌≤◌, true, List, IfOk, IfErr, OnOk, OnErr};
 ghost use Rattle.std.specs.HashMap.{spare};
 ghost use Rattle.nat_kinds.specs.Mappings.{latest, live_port};
 ghost use Rattle.nat_kinds.specs.Answer.{port_for, answer_of, GivesAnswer};
 ghost use Rattle.nat_kinds.specs.Sound.{Sound};
 ghost use Rattle.nat_kinds.specs.Places.{place_at, if_young, unless_of, unless_in, HasRoom, IsIndexed, IsNext, IsPutIn, Shows};
+ghost use Rattle.nat_kinds.specs.Front.{HasKeyOnlyAt, IsFront};
 ghost use Rattle.nat_kinds.specs.Asked.{asked_at, inside_by, keeps_asked, IsNoted, IsOnce};
 ghost use Rattle.nat_kinds.specs.declared.outgoing.Outward.{Outward};
 ghost use Rattle.nat_kinds.specs.declared.way.Way.{Way};
 
 use crate::asked::{self, Asked};
 use crate::departure::Departure;
+use crate::front::Front;
 use crate::index::{self, Index};
 use crate::kind::NatKind;
 use crate::outgoing::Outward;
@@ -19,24 +21,33 @@ use crate::refusal::NatRefusal;
 use crate::settings::NatSettings;
 use td_base::{Ep, Millis};
 
-/// The port of a datagram from `inside` to `dst`: the one that its key holds, else the lowest free one.
+/// The port of a datagram: the one that its key holds, else the lowest free one.
 fn port_for(
     places: &[Option<Outward>],
     index: &Index,
+    front: &mut Front,
     settings: &NatSettings,
-    now: Millis,
-    inside: Ep,
-    dst: Ep,
+    departure: Departure,
 ) -> Result<u16, NatRefusal>
     requires indexed { IsIndexed settings.now.kind places.now index.now.entries }
-    ensures value { (outs : List Outward) → Sound settings.now.kind outs → Shows settings.now.idle now.0 places.now outs →
-        result ≡ port_for (live_port settings.now.kind inside dst (latest settings.now.kind outs)) (latest settings.now.kind outs) }
+    requires front { IsFront places.now front.old }
+    requires past { front.old.since.0 ≤ departure.moment.0 }
+    ensures value { (outs : List Outward) → Sound settings.now.kind outs → Shows settings.now.idle departure.moment.0 places.now outs →
+        result ≡ port_for (live_port settings.now.kind departure.inside departure.dst (latest settings.now.kind outs)) (latest settings.now.kind outs) }
     ensures next { IfOk result (IsNext places.now) }
+    ensures front { IsFront places.now front.new }
+    ensures past { front.new.since.0 ≤ departure.moment.0 }
+    ensures key { IfOk result (HasKeyOnlyAt settings.now.kind departure.inside departure.dst places.now front.new) }
 {
-    if let Some(port) = index::held_port(places, index, settings, now, inside, dst) {
+    let Departure {
+        moment,
+        inside,
+        dst,
+    } = departure;
+    if let Some(port) = index::held_port(places, index, settings, moment, inside, dst) {
         return Ok(port);
     }
-    places::lowest_free(places, settings.idle, now).ok_or(NatRefusal::Full)
+    places::lowest_free(places, front, settings.idle, moment).ok_or(NatRefusal::Full)
 }
 
 /// Takes all the memory that a datagram wants, and changes nothing that is seen.
@@ -70,11 +81,16 @@ fn room(
 pub fn send(
     places: &mut Vec<Option<Outward>>,
     index: &mut Index,
+    front: &mut Front,
     asked: &mut Asked,
     settings: &NatSettings,
     departure: Departure,
 ) -> Result<Ep, NatRefusal>
     requires indexed { IsIndexed settings.now.kind places.old.items index.old.entries }
+    requires front { IsFront places.old.items front.old }
+    requires past { front.old.since.0 ≤ departure.moment.0 }
+    ensures front { IsFront places.new.items front.new }
+    ensures past { front.new.since.0 ≤ departure.moment.0 }
     ensures indexed { IsIndexed settings.now.kind places.new.items index.new.entries }
     ensures answer { (outs : List Outward) → Sound settings.now.kind outs → Shows settings.now.idle departure.moment.0 places.old.items outs →
         GivesAnswer settings.now (answer_of settings.now (latest settings.now.kind outs) departure.inside departure.dst) result }
@@ -94,7 +110,7 @@ pub fn send(
     if dst.ip == settings.external {
         return Err(NatRefusal::Hairpin);
     }
-    let port = port_for(places, index, settings, moment, inside, dst)?;
+    let port = port_for(places, index, front, settings, departure)?;
     let sent = Outward {
         moment,
         inside,
@@ -114,17 +130,21 @@ pub fn send(
 pub fn forget(
     places: &mut Vec<Option<Outward>>,
     index: &mut Index,
+    front: &mut Front,
     asked: &mut Asked,
     settings: &NatSettings,
     inside: Ep,
 )
     requires indexed { IsIndexed settings.now.kind places.old.items index.old.entries }
+    ensures front { IsFront places.new.items front.new }
+    ensures since { front.new.since ≡ front.old.since }
     ensures indexed { IsIndexed settings.now.kind places.new.items index.new.entries }
     ensures forgets { (p : ℕ) → place_at places.new.items p ≡ unless_of inside (place_at places.old.items p) }
     ensures asked { (way : Way) → asked_at asked.new.entries way ≡ unless_in inside way (asked_at asked.old.entries way) }
     ensures once { IsOnce asked.new.entries }
 {
     places::forget(places, inside);
+    front.clear();
     index::forget_keys(index, inside);
     asked::forget_asked(asked, inside);
 }

@@ -1,7 +1,9 @@
 //! The table of a NAT: the latest outward datagram of each port.
 ghost use Rattle.std.specs.Prelude.{◌≡◌, ℕ, ◌+◌, ◌<◌, ◌≤◌, None, length, is_some, true, IfNone, IfSome, OnOk};
 ghost use Rattle.nat_kinds.specs.Places.{place_at, if_young, unless_of, IsPlace, IsSetAt, IsFree};
+ghost use Rattle.nat_kinds.specs.Front.{IsFront, IsLiveFront};
 
+use crate::front::Front;
 use crate::limits::{FIRST_PORT, MAPPINGS_MAX};
 use crate::outgoing::Outward;
 use std::alloc::AllocError;
@@ -50,20 +52,50 @@ pub fn widen(places: &mut Vec<Option<Outward>>, port: u16) -> Result<(), AllocEr
     Ok(())
 }
 
-/// Whether a place holds a datagram that counts.
+/// What a place holds, where it counts.
 #[inline(always)]
-fn is_live(place: &Option<Outward>, idle: u32, now: Millis) -> bool
-    ensures { result ≡ is_some (if_young idle now.0 place.now) }
+fn if_young(place: Option<Outward>, idle: u32, now: Millis) -> Option<Outward>
+    ensures { result ≡ if_young idle now.0 place }
 {
-    match place {
-        Some(sent) => sent.is_young(idle, now),
-        None => false,
+    let sent = place?;
+    if !sent.is_young(idle, now) {
+        return None;
+    }
+    Some(sent)
+}
+
+/// Moves the front on, up to the first place that is free.
+fn move_on(places: &[Option<Outward>], front: &mut Front, idle: u32, now: Millis)
+    requires few { length places.now ≤ MAPPINGS_MAX }
+    requires front { IsFront places.now front.old }
+    requires live { IsLiveFront idle now.0 places.now front.old }
+    ensures front { IsFront places.now front.new }
+    ensures live { IsLiveFront idle now.0 places.now front.new }
+    ensures since { front.new.since.0 ≤ front.old.since.0 }
+    ensures free { IsFree idle now.0 places.now (FIRST_PORT + front.new.len) }
+    ensures short { front.new.len ≤ length places.now }
+{
+    while front.len < places.len() {
+        let Some(sent) = if_young(places[front.len], idle, now) else {
+            return;
+        };
+        front.take_in(sent.moment);
     }
 }
 
-/// The lowest port that no live mapping holds, if there is one.
-pub fn lowest_free(places: &[Option<Outward>], idle: u32, now: Millis) -> Option<u16>
+/// The lowest port that no live mapping holds, if there is one: the one behind the front, which is moved on to there.
+pub fn lowest_free(
+    places: &[Option<Outward>],
+    front: &mut Front,
+    idle: u32,
+    now: Millis,
+) -> Option<u16>
     requires few { length places.now ≤ MAPPINGS_MAX }
+    requires front { IsFront places.now front.old }
+    requires past { front.old.since.0 ≤ now.0 }
+    ensures front { IsFront places.now front.new }
+    ensures live { IsLiveFront idle now.0 places.now front.new }
+    ensures past { front.new.since.0 ≤ now.0 }
     ensures all { IfNone result ((q : ℕ) → FIRST_PORT ≤ q → q < FIRST_PORT + MAPPINGS_MAX → is_some (if_young idle now.0 (place_at places.now q)) ≡ true) }
     ensures below { IfSome result (λ port. port < FIRST_PORT + MAPPINGS_MAX) }
     ensures next { IfSome result (λ port. port ≤ FIRST_PORT + length places.now) }
@@ -71,15 +103,12 @@ pub fn lowest_free(places: &[Option<Outward>], idle: u32, now: Millis) -> Option
     ensures free { IfSome result (λ port. IsFree idle now.0 places.now port) }
     ensures lowest { IfSome result (λ port. (q : ℕ) → FIRST_PORT ≤ q → q < port → is_some (if_young idle now.0 (place_at places.now q)) ≡ true) }
 {
-    for (i, place) in places.iter().enumerate() {
-        if !is_live(place, idle, now) {
-            return Some(FIRST_PORT + i as u16);
-        }
-    }
-    if places.len() == MAPPINGS_MAX {
+    front.renew(idle, now);
+    move_on(places, front, idle, now);
+    if front.len == MAPPINGS_MAX {
         return None;
     }
-    Some(FIRST_PORT + places.len() as u16)
+    Some(FIRST_PORT + front.len as u16)
 }
 
 /// Takes out the datagrams of an inside endpoint.

@@ -7,6 +7,7 @@ ghost use Rattle.nat_kinds.specs.Nat.{NatStandsFor, StandsAsBefore};
 
 use crate::asked::{self, Asked};
 use crate::departure::Departure;
+use crate::front::Front;
 use crate::index::Index;
 use crate::kind::NatKind;
 use crate::mappings;
@@ -25,21 +26,26 @@ pub struct Nat {
     moment: Millis,
     places: Vec<Option<Outward>>,
     index: Index,
+    front: Front,
     asked: Asked,
     // when what was asked too long ago was looked for
     swept: Millis,
 }
 
 impl Model for Nat {
+    ghost use Rattle.std.specs.Prelude.{◌≤◌};
     ghost use Rattle.nat_kinds.specs.Nat.{NatState};
     ghost use Rattle.nat_kinds.specs.Places.{IsIndexed};
+    ghost use Rattle.nat_kinds.specs.Front.{IsFront};
     ghost use Rattle.nat_kinds.specs.Asked.{IsSwept};
 
     ghost Value = { NatState };
 
     ghost view = { λ a. record { settings = a.settings; moment = a.moment.0; places = a.places.items; asked = a.asked.entries } };
 
-    ghost invariant = { λ a. IsIndexed a.settings.kind a.places.items a.index.entries × IsSwept a.settings.idle a.moment.0 a.swept.0 a.asked.entries };
+    ghost invariant = { λ a. IsIndexed a.settings.kind a.places.items a.index.entries
+        × IsFront a.places.items a.front × (a.front.since.0 ≤ a.moment.0)
+        × IsSwept a.settings.idle a.moment.0 a.swept.0 a.asked.entries };
 }
 
 impl Nat {
@@ -58,6 +64,7 @@ impl Nat {
             moment: Millis(0),
             places: Vec::new(alloc),
             index: HashMap::new(alloc),
+            front: Front::empty(Millis(0)),
             asked: HashMap::new(alloc),
             swept: Millis(0),
         }
@@ -87,6 +94,7 @@ impl Nat {
         mappings::send(
             &mut self.places,
             &mut self.index,
+            &mut self.front,
             &mut self.asked,
             &self.settings,
             departure,
@@ -111,6 +119,7 @@ impl Nat {
         mappings::forget(
             &mut self.places,
             &mut self.index,
+            &mut self.front,
             &mut self.asked,
             &self.settings,
             inside,
@@ -125,6 +134,7 @@ impl Nat {
     {
         self.places.clear();
         self.index.clear();
+        self.front.clear();
         self.asked.clear();
     }
 }
