@@ -12,7 +12,7 @@ use Rattle.teredo_node.specs.Due.{IsFirstDue, Idles, Lessens}
 use Rattle.peer_list.specs.Judged.{due_of}
 use Rattle.peer_list.specs.Waiting.{Listing}
 use Rattle.peer_list.specs.Table.{Table, first_due_in}
-use Rattle.peer_list.specs.Overdue.{due_moment, due_by, listing_at, IsNoSooner, overdue_in}
+use Rattle.peer_list.specs.Overdue.{due_moment, due_by, listing_at, IsNoSooner, IsSooner, overdue_in}
 use Rattle.qualify.specs.declared.settings.Settings.{Settings}
 use Rattle.qualify.specs.declared.phase.Phase.{Phase}
 use Rattle.qualify.specs.declared.phase.Phase.TheVariants.{Cone, Restricted, Secondary, Qualified, Symmetric, OffLine}
@@ -45,6 +45,23 @@ sooner_no_sooner m (Some a) (Some b) h k = by_test (nat_lt b a) where
   by_test : (t : Bool) → IsNoSooner m (if t then Some b else Some a)
   by_test true = k
   by_test false = h
+
+-- the sooner of two says this of both, or of one of them
+pub none_of_two_sooner : (m : ℕ) (a b : Option ℕ) → IsNoSooner m (sooner a b) → IsNoSooner m a × IsNoSooner m b
+none_of_two_sooner m None b h = (tt, h)
+none_of_two_sooner m (Some a) None h = (h, tt)
+none_of_two_sooner m (Some a) (Some b) h = by_test (nat_lt b a) refl h where
+  by_test : (t : Bool) → nat_lt b a ≡ t → IsNoSooner m (if t then Some b else Some a) → (m ≤ a) × (m ≤ b)
+  by_test true is le = let lt = ltb-true b a is in (omega (arith, lt, le), le)
+  by_test false is le = let ge = ltb-false b a is in (le, omega (arith, ge, le))
+
+pub one_of_two_sooner : {X : Type 0} (m : ℕ) (a b : Option ℕ) → (IsSooner m a → X) → (IsSooner m b → X) → IsSooner m (sooner a b) → X
+one_of_two_sooner m None b one other h = other h
+one_of_two_sooner m (Some a) None one other h = one h
+one_of_two_sooner {X} m (Some a) (Some b) one other h = by_test (nat_lt b a) h where
+  by_test : (t : Bool) → IsSooner m (if t then Some b else Some a) → X
+  by_test true lt = other lt
+  by_test false lt = one lt
 
 -- where neither phase nor peers have something before a moment, nothing is due before it
 abbrev pub NothingBefore : Client → ℕ → Type 0

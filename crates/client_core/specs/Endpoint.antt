@@ -1,10 +1,10 @@
 -- A client as an endpoint of a link: when something is due of it, and how much.
-use Rattle.std.specs.Prelude.{◌≡◌, ◌<◌, ◌+◌, ℕ, if◌then◌else◌, Option, Some, None, option_map}
+use Rattle.std.specs.Prelude.{◌≡◌, ◌<◌, ◌+◌, ℕ, if◌then◌else◌, Option, option_map}
 use Rattle.td_base.specs.declared.millis.Millis.{Millis}
 use Rattle.teredo_node.specs.declared.fate.Fate.TheVariants.{Idle}
 use Rattle.teredo_node.specs.Step.{Step, just}
 use Rattle.teredo_node.specs.Journal.{Journal}
-use Rattle.peer_list.specs.Overdue.{overdue_in, IsKeptDue}
+use Rattle.peer_list.specs.Overdue.{overdue_in, IsSooner, IsKeptDue}
 use Rattle.qualify.specs.Solicitations.{is_due}
 use Rattle.client_core.specs.declared.client.Client.{Client}
 use Rattle.client_core.specs.Client.{settings_of, ClientStandsFor}
@@ -13,11 +13,6 @@ use Rattle.client_rules.specs.Journals.{client_due}
 -- for each journal that it stands for, this is when something is due
 abbrev pub IsClientDue : Client → ℕ → Option Millis → Type 0
 IsClientDue c n due = (j : Journal) → ClientStandsFor c j → option_map (λ (m : Millis). m.0) due ≡ client_due (settings_of c) j n
-
--- there is such a moment, and it is before m
-abbrev pub IsSooner : ℕ → Option ℕ → Type 0
-IsSooner m None = ⊥
-IsSooner m (Some due) = due < m
 
 -- what makes a client say that something may be due before m: the phase or the refresh, or a peer that it keeps
 pub data MayBeDue (c : Client) (m : ℕ) : Type 0 where

@@ -3,11 +3,11 @@ ghost use Rattle.std.specs.Prelude.{◌≡◌, ◌≤◌, ℕ, true, false, None
 ghost use Rattle.teredo_node.specs.Journal.{Journal, ticked};
 ghost use Rattle.teredo_node.specs.Due.{IsFirstDue, Idles, Lessens};
 ghost use Rattle.peer_list.specs.Table.{known_to, first_due_in};
-ghost use Rattle.peer_list.specs.Overdue.{IsNoSooner, IsOverdue};
+ghost use Rattle.peer_list.specs.Overdue.{IsNoSooner, IsSooner, IsOverdue};
 ghost use Rattle.qualify.specs.Solicitations.{is_due, own_address};
 ghost use Rattle.teredo_addr.specs.Teredo.{is_teredo};
 ghost use Rattle.client_core.specs.Client.{settings_of, words_ahead, ClientStandsFor, IsCallable, Enters, Does, AsBefore};
-ghost use Rattle.client_core.specs.Endpoint.{IsClientDue, owing, PutsOff, IsSooner, MayBeDue};
+ghost use Rattle.client_core.specs.Endpoint.{IsClientDue, owing, PutsOff, MayBeDue};
 ghost use Rattle.client_rules.specs.Journals.{entry, client_due};
 ghost use Rattle.client_rules.specs.Ticks.{peer_due, peer_of_due, tries_peer, tick, try_fate, sooner};
 
@@ -36,17 +36,6 @@ fn fate_of_try(peer: Ip6) -> Fate
         Fate::Bubbles
     } else {
         Fate::Test
-    }
-}
-
-/// Whether something is due before a moment.
-fn is_before(due: Option<Millis>, moment: Millis) -> bool
-    ensures no { result ≡ false → IsNoSooner moment.0 (option_map (λ m. m.0) due) }
-    ensures yes { result ≡ true → IsSooner moment.0 (option_map (λ m. m.0) due) }
-{
-    match due {
-        Some(at) => at.0 < moment.0,
-        None => false,
     }
 }
 
@@ -151,17 +140,14 @@ impl Client {
         sooner(self.qualifier.due(), self.peers.next_due(now))
     }
 
-    /// Whether something may be due before a moment, whenever it is asked. It looks at the phase or the refresh and at one
-    /// peer, listed or not, and so may say that something is where nothing is.
-    pub fn may_be_due_before(&self, moment: Millis) -> bool
-        ensures none { result ≡ false → (j : Journal) (n : ℕ) → ClientStandsFor self.now j → self.now.peers.moment ≤ n
-            → IsNoSooner moment.0 (client_due (settings_of self.now) j n) }
-        ensures some { result ≡ true → MayBeDue self.now moment.0 }
+    /// The moment before which nothing is due, whenever it is asked; `None` where nothing is due at all. It is that of the
+    /// phase or the refresh, or of one peer, listed or not, and so nothing need be due then.
+    pub fn quiet_until(&self) -> Option<Millis>
+        ensures none { (m : ℕ) → IsNoSooner m (option_map (λ at. at.0) result)
+            → (j : Journal) (n : ℕ) → ClientStandsFor self.now j → self.now.peers.moment ≤ n → IsNoSooner m (client_due (settings_of self.now) j n) }
+        ensures some { (m : ℕ) → IsSooner m (option_map (λ at. at.0) result) → MayBeDue self.now m }
     {
         below();
-        if is_before(self.qualifier.due(), moment) {
-            return true;
-        }
-        self.peers.may_be_due_before(moment)
+        sooner(self.qualifier.due(), self.peers.quiet_until())
     }
 }

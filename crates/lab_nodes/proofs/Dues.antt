@@ -38,7 +38,7 @@ of_three a b c = elim (cases_lt b.moment a.moment) [
   ]
 ]
 
-earlier_alone : (x : Option DueNode) → earlier x None ≡ x
+pub earlier_alone : (x : Option DueNode) → earlier x None ≡ x
 earlier_alone None = refl
 earlier_alone (Some a) = refl
 

@@ -3,6 +3,7 @@ mod Rows
 mod NodeLists
 mod Served
 mod Dues
+mod Quiet
 mod NodesFrom
 mod PeerSums
 mod DueMoments

@@ -18,7 +18,7 @@ use Rattle.lab_nodes.specs.Answers.{AnswersCall, Wants, AnswersOrWants}
 
 -- LISTS
 
-some_inj : {A : Type 0} → (x y : A) → Some x ≡ Some y → x ≡ y
+pub some_inj : {A : Type 0} → (x y : A) → Some x ≡ Some y → x ≡ y
 some_inj x y e = ap (λ (o : Option _). unwrap_or o x) e
 
 slice_get_end : {A : Type 0} → (xs : List A) (n : ℕ) → slice_get xs n ≡ None → length xs ≤ n
@@ -36,7 +36,7 @@ abbrev EachFrom : {A : Type 0} → (ℕ → A → Type 0) → ℕ → List A →
 EachFrom {A} P k xs = (n : ℕ) (x : A) → slice_get xs n ≡ Some x → P (k + n) x
 
 -- an element of a list with one more is one of the list, or that one
-front_or_last : {A : Type 0} → (P : ℕ → A → Type 0) (xs : List A) (y : A) (k : ℕ) → EachFrom P k xs → P (k + length xs) y → EachFrom P k (xs ++ y ∷ [])
+pub front_or_last : {A : Type 0} → (P : ℕ → A → Type 0) (xs : List A) (y : A) (k : ℕ) → EachFrom P k xs → P (k + length xs) y → EachFrom P k (xs ++ y ∷ [])
 front_or_last P [] y k each last zero x e = subst (P (k + 0)) (some_inj y x e) last
 front_or_last P [] y k each last (suc n) x e = absurd (false≢true (ap (λ (o : Option _). is_some o) e))
 front_or_last P (z ∷ xs) y k each last zero x e = each zero x e
@@ -45,12 +45,12 @@ front_or_last P (z ∷ xs) y k each last (suc n) x e =
     subst (λ (j : ℕ). P j x) (sym (moved n))
     (front_or_last P xs y (suc k) (λ m z at. subst (λ (j : ℕ). P j z) (moved m) (each (suc m) z at)) (subst (λ (j : ℕ). P j y) (moved (length xs)) last) n x e)
 
-set_there : {A : Type 0} → (xs : List A) (j : ℕ) (y : A) → j < length xs → slice_get (set xs j y) j ≡ Some y
+pub set_there : {A : Type 0} → (xs : List A) (j : ℕ) (y : A) → j < length xs → slice_get (set xs j y) j ≡ Some y
 set_there [] j y h = absurd (omega (arith, h))
 set_there (x ∷ xs) zero y h = refl
 set_there (x ∷ xs) (suc j) y h = set_there xs j y (omega (arith, h))
 
-set_elsewhere : {A : Type 0} → (xs : List A) (j k : ℕ) (y : A) → k ≢ j → slice_get (set xs j y) k ≡ slice_get xs k
+pub set_elsewhere : {A : Type 0} → (xs : List A) (j k : ℕ) (y : A) → k ≢ j → slice_get (set xs j y) k ≡ slice_get xs k
 set_elsewhere [] j k y other = refl
 set_elsewhere (x ∷ xs) zero zero y other = absurd (other refl)
 set_elsewhere (x ∷ xs) zero (suc k) y other = refl

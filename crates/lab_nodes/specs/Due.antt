@@ -1,11 +1,15 @@
 -- Which tick is due first, as it is found.
-use Rattle.std.specs.Prelude.{ℕ, List, Option, option_map}
+use Rattle.std.specs.Prelude.{◌≡◌, ◌≢◌, ℕ, List, length, slice_get, Option, Some, option_map}
+use Rattle.td_base.specs.declared.millis.Millis.{Millis}
+use Rattle.peer_list.specs.Overdue.{IsNoSooner}
 use Rattle.topology.specs.declared.node.Node.{Node}
 use Rattle.history.specs.Full.{Full}
-use Rattle.legal.specs.Lab.{Lab}
 use Rattle.legal.specs.Emit.{tick_due}
 use Rattle.legal.specs.Next.{DueNode}
+use Rattle.legal.specs.Lab.{Lab}
 use Rattle.lab_nodes.specs.declared.due.Due.{Due}
+use Rattle.lab_nodes.specs.declared.played_node.PlayedNode.{PlayedNode}
+use Rattle.lab_nodes.specs.PlayedNode.{row_of, past_of, IsKept, IsReady}
 
 -- when it is due, and of which node
 abbrev pub due_as : DueNode → Due
@@ -14,3 +18,27 @@ due_as x = record { moment = record { 0 = x.moment }; node = x.number }
 -- the tick of node n, as it stands at the moment m
 abbrev pub tick_of : Lab → List Full → ℕ → ℕ → Node → Option DueNode
 tick_of lab H m n a = option_map (λ (k : ℕ). record { moment = k; number = n; node = a }) (tick_due lab H m n a)
+
+abbrev pub tick_moment : DueNode → ℕ
+tick_moment x = x.moment
+
+-- WHICH NODES NEEDN'T BE ASKED
+
+-- what is due, if anything, isn't due before a bound: where there is no bound nothing is due
+abbrev pub IsQuietUntil : Option ℕ → Option ℕ → Type 0
+IsQuietUntil bound due = (m : ℕ) → IsNoSooner m bound → IsNoSooner m due
+
+-- no tick of a node is due before this, whatever happened to it of what it stands for, and whenever it is asked
+abbrev pub IsQuietNode : Option Millis → PlayedNode → Type 0
+IsQuietNode quiet p = (lab : Lab) (H : List Full) (n m : ℕ) → IsReady m p → IsKept lab.topology n (past_of lab n H) p
+    → IsQuietUntil (option_map (λ (at : Millis). at.0) quiet) (tick_due lab H m n (row_of p))
+
+-- each of the nodes is quiet until the moment in its place, but for one
+pub record AreQuietBut (but : ℕ) (list : List PlayedNode) (quiet : List (Option Millis)) : Type 0 where
+  pub same : length quiet ≡ length list
+  pub each : (n : ℕ) → n ≢ but → (p : PlayedNode) (q : Option Millis) → slice_get list n ≡ Some p → slice_get quiet n ≡ Some q → IsQuietNode q p
+
+-- each of them
+pub record AreQuiet (list : List PlayedNode) (quiet : List (Option Millis)) : Type 0 where
+  pub same : length quiet ≡ length list
+  pub each : (n : ℕ) (p : PlayedNode) (q : Option Millis) → slice_get list n ≡ Some p → slice_get quiet n ≡ Some q → IsQuietNode q p

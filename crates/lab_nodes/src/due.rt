@@ -8,7 +8,7 @@ ghost use Rattle.legal.specs.Lab.{Lab};
 ghost use Rattle.legal.specs.Past.{now};
 ghost use Rattle.legal.specs.Next as next;
 ghost use Rattle.lab_nodes.specs.PlayedNode.{row_of, past_of, IsKept, AreOf, NodesOf, IsReady, AreReady};
-ghost use Rattle.lab_nodes.specs.Due.{due_as, tick_of};
+ghost use Rattle.lab_nodes.specs.Due.{due_as, tick_moment, tick_of, IsQuietUntil, AreQuiet};
 
 use crate::played_node::PlayedNode;
 use td_base::Millis;
@@ -21,25 +21,18 @@ pub struct Due {
     pub node: u16,
 }
 
-/// Whether a tick of a node may be due before the first one so far. It looks at the bounds that clients and relays keep,
-/// and so may say that one is where none is.
-fn may_come_first(first: &Option<Due>, node: &PlayedNode) -> bool
-    ensures { result ≡ false → (lab : Lab) (H : List Full) (m n : ℕ) (f : Option next.DueNode) → IsReady m node.now
-        → IsKept lab.topology n (past_of lab n H) node.now
-        → first.now ≡ option_map due_as f → next.earlier f (tick_of lab H m n (row_of node.now)) ≡ f }
+/// Whether a tick of a node may be due before the first one so far, where none of it is due until a moment, or none at
+/// all. It may say that one is where none is.
+fn may_come_first(first: &Option<Due>, quiet: Option<Millis>) -> bool
+    ensures { result ≡ false → (f x : Option next.DueNode) → first.now ≡ option_map due_as f → IsQuietUntil (option_map (λ at. at.0) quiet) (option_map tick_moment x)
+        → next.earlier f x ≡ f }
 {
-    match node {
-        PlayedNode::Client { client, .. } => match first {
-            Some(one) => client.may_be_due_before(one.moment),
-            None => true,
-        },
-        PlayedNode::Relay { relay, .. } => match first {
-            Some(one) => relay.may_be_due_before(one.moment),
-            None => true,
-        },
-        PlayedNode::Server { .. } => false,
-        PlayedNode::Nat { .. } => false,
-        PlayedNode::Native { .. } => false,
+    let Some(at) = quiet else {
+        return false;
+    };
+    match first {
+        Some(one) => at.0 < one.moment.0,
+        None => true,
     }
 }
 
@@ -88,9 +81,15 @@ fn ticking_until(topology: &Topology) -> usize
     ticking_from(topology) + topology.clients().len() + topology.relays().len()
 }
 
-/// The tick that is due first, of the node with the least number among those of one moment. Only clients and relays are
-/// looked at, and of them only the few are asked that may come before all those in front of them.
-pub fn first_due(topology: &Topology, nodes: &[PlayedNode], at: Millis) -> Option<Due>
+/// The tick that is due first, of the node with the least number among those of one moment. Only the few clients and
+/// relays are asked that aren't known to be quiet and may come before all those in front of them.
+pub fn first_due(
+    topology: &Topology,
+    nodes: &[PlayedNode],
+    quiet: &[Option<Millis>],
+    at: Millis,
+) -> Option<Due>
+    requires quiet { AreQuiet nodes.now quiet.now }
     requires few { length nodes.now ≤ NODES_MAX }
     requires rows { AreOf topology.now nodes.now }
     requires ready { AreReady at.0 nodes.now }
@@ -104,7 +103,8 @@ pub fn first_due(topology: &Topology, nodes: &[PlayedNode], at: Millis) -> Optio
     let mut first = None;
     'ticking: while number < end {
         let node = &nodes[number];
-        if may_come_first(&first, node) {
+        let until = quiet[number];
+        if may_come_first(&first, until) {
             put_earlier(&mut first, number as u16, node, at);
         }
         number += 1;

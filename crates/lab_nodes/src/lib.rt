@@ -24,7 +24,8 @@
 //! | module | holds | stated in |
 //! |---|---|---|
 //! | `played_node` | a node with what is kept of it, and what is asked of it | `specs/PlayedNode.antt`, `Changes.antt` |
-//! | `first_node`, `nodes` | all nodes: at first, and by their numbers | |
+//! | `nodes` | all nodes, by their numbers, and until when each of them is quiet | |
+//! | `first_node`, `one_node` | the nodes at first; what is asked of one of them | |
 //! | `call`, `input` | what is asked of a node | `specs/Call.antt` |
 //! | `asked`, `outlet` | what comes of it besides its step | `specs/Answers.antt`, `Outlet.antt`, `Memory.antt` |
 //! | `server`, `nat`, `client`, `relay`, `native` | the same for each kind of node | |
@@ -48,6 +49,7 @@ mod nat;
 mod native;
 mod nodes;
 mod one_arrival;
+mod one_node;
 mod outlet;
 mod played_node;
 mod relay;
@@ -55,11 +57,10 @@ mod server;
 
 pub use asked::{Asked, SixPacket};
 pub use call::Call;
-pub use due::{Due, first_due};
-pub use first_node::first_nodes;
+pub use due::Due;
 pub use host::{DATA_MAX, ECHO, address_at, echo, target_address, write_data};
 pub use input::Input;
 pub use laws::{due_as_in_the_past, rows_keep_rules, waits_as_in_the_past};
-pub use nodes::{ask, restart_at};
+pub use nodes::Nodes;
 pub use outlet::Outlet;
 pub use played_node::PlayedNode;

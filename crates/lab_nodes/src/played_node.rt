@@ -10,6 +10,7 @@ ghost use Rattle.lab_nodes.specs.Call.{input_lent, IsShortInput};
 ghost use Rattle.lab_nodes.specs.PlayedNode.{row_of, past_of, IsKept, IsReady};
 ghost use Rattle.lab_nodes.specs.Changes.{Restarts};
 ghost use Rattle.lab_nodes.specs.Answers.{AnswersCall, Wants};
+ghost use Rattle.lab_nodes.specs.Due.{IsQuietNode};
 
 use crate::asked::Asked;
 use crate::call::Call;
@@ -73,6 +74,20 @@ impl PlayedNode {
         match self {
             PlayedNode::Client { client, .. } => client.due(at),
             PlayedNode::Relay { relay, .. } => relay.due(at),
+            PlayedNode::Server { .. } => None,
+            PlayedNode::Nat { .. } => None,
+            PlayedNode::Native { .. } => None,
+        }
+    }
+
+    /// The moment before which no tick of it is due, whenever it is asked; `None` where none is due at all. It is a bound
+    /// that clients and relays keep, and so none need be due then.
+    pub(crate) fn quiet_until(&self) -> Option<Millis>
+        ensures { IsQuietNode result self.now }
+    {
+        match self {
+            PlayedNode::Client { client, .. } => client.quiet_until(),
+            PlayedNode::Relay { relay, .. } => relay.quiet_until(),
             PlayedNode::Server { .. } => None,
             PlayedNode::Nat { .. } => None,
             PlayedNode::Native { .. } => None,

@@ -1,5 +1,5 @@
 -- Who is due by now, and what is left once that is done.
-use Rattle.std.proofs.Common.{◌≡◌, ◌≤◌, ◌<◌, ◌+◌, ℕ, Bool, true, false, cond, find, Option, Some, None, refl, sym, ap, ◌∙◌, subst, arith}
+use Rattle.std.proofs.Common.{◌≡◌, ◌≤◌, ◌<◌, ◌+◌, ℕ, Bool, true, false, cond, Option, Some, None, refl, sym, ap, ◌∙◌, subst, arith}
 use Rattle.std.specs.Prelude.{max, IfSome, option_map, unwrap_or, is_some, nat_lt, nat_le, nat_eq}
 use Rattle.std.specs.Ordering.{nat_cmp, is_lt}
 use Rattle.std.specs.declared.cmp.Ordering.TheVariants.{Less, Equal, Greater}
@@ -14,7 +14,7 @@ use Rattle.peer_list.specs.declared.limits.TheConstants.{LISTED_MS, TRY_GAP_MS}
 use Rattle.peer_list.specs.Peers.{Peer, no_peer}
 use Rattle.peer_list.specs.Judged.{is_none, is_within, due_of}
 use Rattle.peer_list.specs.Waiting.{Listing}
-use Rattle.peer_list.specs.Table.{Table, table, while_listed, is_of, peer_in, known_to, first_due_in, due_and_who}
+use Rattle.peer_list.specs.Table.{Table, table, while_listed, known_to, first_due_in, due_and_who}
 use Rattle.peer_list.specs.Timely.{FirstLasts}
 use Rattle.peer_list.specs.Entries.{listings_of, entry_due, AreWhole, IsFirstOf}
 use Rattle.peer_list.specs.Calls.{tried_at, emptied, Updates}

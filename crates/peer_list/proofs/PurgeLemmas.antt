@@ -1,5 +1,5 @@
 -- A call that lists a peer, over entries p, which are those of e that are still listed.
-use Rattle.std.proofs.Common.{◌≡◌, ℕ, true, length, filter, find, None, Some, sym, ap, ◌∙◌, subst}
+use Rattle.std.proofs.Common.{◌≡◌, ℕ, length, filter, find, None, Some, sym, ap, ◌∙◌, subst}
 use Rattle.std.specs.Prelude.{unwrap_or, nat_lt}
 use Rattle.slab.specs.Slab.{get}
 use Rattle.td_base.specs.declared.ipv6.Ip6.{Ip6}

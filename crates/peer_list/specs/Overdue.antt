@@ -16,6 +16,11 @@ abbrev pub IsNoSooner : ℕ → Option ℕ → Type 0
 IsNoSooner m None = Unit {0}
 IsNoSooner m (Some due) = m ≤ due
 
+-- something is due before m
+abbrev pub IsSooner : ℕ → Option ℕ → Type 0
+IsSooner m None = ⊥
+IsSooner m (Some due) = due < m
+
 -- packets wait for a peer that a table keeps, be it still listed or not, and that is due before m
 pub record IsKeptDue (t : Table) (m : ℕ) : Type 0 where
   pub listing : Listing

@@ -4,7 +4,7 @@ ghost use Rattle.slab.specs.Slab.{get, ContainsKey};
 ghost use Rattle.peer_list.specs.Calls.{changed_at, IsInTime};
 ghost use Rattle.peer_list.specs.Waiting.{Listing as Kept};
 ghost use Rattle.peer_list.specs.Table.{table, is_of, is_listed_at, listed_in, waiting_in, first_due_in, due_and_who};
-ghost use Rattle.peer_list.specs.Overdue.{due_moment, IsNoSooner, IsKeptDue};
+ghost use Rattle.peer_list.specs.Overdue.{due_moment, IsNoSooner, IsSooner, IsKeptDue};
 ghost use Rattle.peer_list.specs.declared.limits.TheConstants.{PEERS_MAX};
 ghost use Rattle.peer_list.specs.Sound.{NoneBefore};
 ghost use Rattle.peer_list.specs.Entries.{listings_of, entry_for, key_of, AreWhole, AreWholeBut, entry_due, AreInTurn};
@@ -148,16 +148,15 @@ impl Entries {
         order::due_at(&self.slab, *self.order.first()?)
     }
 
-    /// Whether one of them may be due before a moment, be it listed then or not.
-    pub fn may_be_due_before(&self, moment: Millis) -> bool
+    /// When the first of them is due, be it listed then or not: nothing is due before.
+    pub fn quiet_until(&self) -> Option<Millis>
         requires whole { AreWhole self.now }
-        ensures none { result ≡ false → (n : ℕ) → IsNoSooner moment.0 (option_map due_moment (first_due_in (table n (listings_of self.now)) n)) }
-        ensures some { result ≡ true → (n : ℕ) → IsKeptDue (table n (listings_of self.now)) moment.0 }
+        ensures none { (m : ℕ) → IsNoSooner m (option_map (λ at. at.0) result)
+            → (n : ℕ) → IsNoSooner m (option_map due_moment (first_due_in (table n (listings_of self.now)) n)) }
+        ensures some { (m : ℕ) → IsSooner m (option_map (λ at. at.0) result) → (n : ℕ) → IsKeptDue (table n (listings_of self.now)) m }
     {
-        match self.first() {
-            None => false,
-            Some((at, _)) => at.0 < moment.0,
-        }
+        let (at, _) = self.first()?;
+        Some(at)
     }
 
     /// When the next try is due, and whose: that of the first that is listed.

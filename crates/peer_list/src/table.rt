@@ -2,7 +2,7 @@
 ghost use Rattle.std.specs.Prelude.{◌≡◌, ◌≤◌, ◌<◌, [], ℕ, true, false, length, option_map, is_some, IfSome, IfNone};
 ghost use Rattle.peer_list.specs.Judged.{is_trusted_at, is_fresh, is_spent, is_barred, is_full, holds_most, held_from, held_elsewhere};
 ghost use Rattle.peer_list.specs.Table.{empty_table, peer_in, known_to, listed_in, has_room_in, waiting_in, first_due_in, due_and_who};
-ghost use Rattle.peer_list.specs.Overdue.{due_moment, due_by, overdue_in, listing_at, IsOverdue, IsNoSooner, IsKeptDue};
+ghost use Rattle.peer_list.specs.Overdue.{due_moment, due_by, overdue_in, listing_at, IsOverdue, IsNoSooner, IsSooner, IsKeptDue};
 ghost use Rattle.peer_list.specs.Timely.{FirstLasts};
 ghost use Rattle.peer_list.specs.Stands.{StandsForMentions};
 ghost use Rattle.teredo_node.specs.Due.{IsFirstDue};
@@ -244,13 +244,13 @@ impl Peers {
         Some(who)
     }
 
-    /// Whether a try may be due before a moment, whenever it is asked. It looks at one entry, listed or not, and so may
-    /// say that one is where none is.
-    pub fn may_be_due_before(&self, moment: Millis) -> bool
-        ensures none { result ≡ false → (n : ℕ) → IsNoSooner moment.0 (option_map due_moment (first_due_in self.now n)) }
-        ensures some { result ≡ true → IsKeptDue self.now moment.0 }
+    /// The moment before which no try is due, whenever it is asked; `None` where none is due at all. It is that of one
+    /// entry, listed or not, and so nothing need be due then.
+    pub fn quiet_until(&self) -> Option<Millis>
+        ensures none { (m : ℕ) → IsNoSooner m (option_map (λ at. at.0) result) → (n : ℕ) → IsNoSooner m (option_map due_moment (first_due_in self.now n)) }
+        ensures some { (m : ℕ) → IsSooner m (option_map (λ at. at.0) result) → IsKeptDue self.now m }
     {
-        self.entries.may_be_due_before(moment)
+        self.entries.quiet_until()
     }
 
     /// How many packets wait for all listed peers, or are held.

@@ -1,5 +1,5 @@
 -- What a relay keeps, the journals that it stands for, and what a call does for each of them (RFC 4380, section 5.4).
-use Rattle.std.specs.Prelude.{◌≡◌, ◌≤◌, ◌<◌, ◌+◌, ℕ, Bool, true, false, List, ◌∷◌, length, map, Some, None, is_some, unwrap_or}
+use Rattle.std.specs.Prelude.{◌≡◌, ◌≤◌, ◌<◌, ℕ, true, false, List, ◌∷◌, map, Some, is_some, unwrap_or}
 use Rattle.td_base.specs.declared.ipv6.Ip6.{Ip6}
 use Rattle.td_base.specs.declared.endpoint.Ep.{Ep}
 use Rattle.td_base.specs.declared.millis.TheConstants.{CLOCK_END_MS}
@@ -12,7 +12,7 @@ use Rattle.teredo_node.specs.declared.fate.Fate.TheVariants as fate
 use Rattle.teredo_node.specs.Step.{Step}
 use Rattle.teredo_node.specs.Journal.{Input, arrived, from_six, Entry}
 use Rattle.peer_list.specs.Peers.{Peer, peer_at}
-use Rattle.peer_list.specs.Table.{Table, peer_in, known_to, listed_in, has_room_in}
+use Rattle.peer_list.specs.Table.{peer_in, known_to, listed_in, has_room_in}
 use Rattle.peer_list.specs.Calls.{Keeps}
 use Rattle.peer_list.specs.Stands.{StandsForMentions}
 use Rattle.relay_core.specs.declared.relay.Relay.{Relay}

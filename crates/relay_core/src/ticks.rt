@@ -1,9 +1,9 @@
 //! What a relay does where something is due.
-ghost use Rattle.std.specs.Prelude.{◌≡◌, ◌≤◌, ℕ, List, true, false, None, Some};
+ghost use Rattle.std.specs.Prelude.{◌≡◌, ◌≤◌, ℕ, List, true, false, None, Some, option_map};
 ghost use Rattle.teredo_node.specs.Journal.{Entry, ticked};
 ghost use Rattle.teredo_node.specs.Due.{IsFirstDue, Idles, Lessens};
 ghost use Rattle.peer_list.specs.Table.{known_to};
-ghost use Rattle.peer_list.specs.Overdue.{IsNoSooner, IsKeptDue, IsOverdue};
+ghost use Rattle.peer_list.specs.Overdue.{IsNoSooner, IsSooner, IsKeptDue, IsOverdue};
 ghost use Rattle.relay_rules.specs.Journals.{wordless_entry, relay_due};
 ghost use Rattle.relay_rules.specs.Ticks.{relay_tries_peer};
 ghost use Rattle.relay_core.specs.Relay.{relay_settings_of, RelayStandsFor, IsCallableRelay, RelayEnters, RelayDoes, RelayAsBefore};
@@ -73,13 +73,14 @@ impl Relay {
         self.peers.next_due(now)
     }
 
-    /// Whether something may be due before a moment, whenever it is asked. It looks at one peer, listed or not, and so
-    /// may say that something is where nothing is.
-    pub fn may_be_due_before(&self, moment: Millis) -> bool
-        ensures none { result ≡ false → (j : List Entry) (n : ℕ) → RelayStandsFor self.now j → self.now.peers.moment ≤ n → IsNoSooner moment.0 (relay_due j n) }
-        ensures some { result ≡ true → IsKeptDue self.now.peers moment.0 }
+    /// The moment before which nothing is due, whenever it is asked; `None` where nothing is due at all. It is that of one
+    /// peer, listed or not, and so nothing need be due then.
+    pub fn quiet_until(&self) -> Option<Millis>
+        ensures none { (m : ℕ) → IsNoSooner m (option_map (λ at. at.0) result)
+            → (j : List Entry) (n : ℕ) → RelayStandsFor self.now j → self.now.peers.moment ≤ n → IsNoSooner m (relay_due j n) }
+        ensures some { (m : ℕ) → IsSooner m (option_map (λ at. at.0) result) → IsKeptDue self.now.peers m }
     {
         below();
-        self.peers.may_be_due_before(moment)
+        self.peers.quiet_until()
     }
 }

@@ -34,12 +34,6 @@ pub added : {n : ℕ} {front : List ℕ} (m : ℕ) (bytes : List ℕ) → Stands
 added {n} {front} m bytes so_far whole is =
     record { whole = omega (arith, length-append front bytes, so_far.whole); same = front_summed bytes so_far (ap (λ (k : ℕ). folded (n + k)) is) }
 
--- the folded sum of whole halves stands for it
-pub sum_stands : (n : ℕ) (x : List ℕ) → length x % 2 ≡ 0 → n ≡ folded (halves_sum x) → StandsForSum n x
-sum_stands n x whole is =
-    let twice : folded (folded (halves_sum x)) ≡ folded (halves_sum x) = ap folded (omega arith) ∙ folded_again (halves_sum x) 0 ∙ ap folded (omega arith) in
-    record { whole = whole; same = ap folded is ∙ twice }
-
 pub number_summed : (m : ℕ) → m < 2 ^ 16 → halves_sum (big_bytes 2 m) ≡ m
 number_summed m small = omega arith
 

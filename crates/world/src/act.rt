@@ -17,7 +17,7 @@ use crate::record::say_step;
 use crate::sender::{Sender, emit, still_armed};
 use crate::world::World;
 use history::{Act, Record, Stop};
-use lab_nodes::{Asked, Call, ask};
+use lab_nodes::{Asked, Call};
 
 impl<'a> World<'a> {
     /// Lets a node, by its number, do what it is prompted to now, and puts what it sends on the wire.
@@ -51,7 +51,7 @@ impl<'a> World<'a> {
             packet,
             handed,
             address,
-        } = ask(&mut self.nodes, call, &mut self.step)?;
+        } = self.nodes.ask(call, &mut self.step)?;
         say_step(out, act, number, &self.step);
         let fails = self.armed;
         let sender = Sender { outlet, now, fails };

@@ -23,7 +23,7 @@ use crate::record::say;
 use crate::world::World;
 use events::Verb;
 use history::{Act, Record, Stop};
-use lab_nodes::{Due, first_due};
+use lab_nodes::Due;
 use td_base::Millis;
 use teredo_node::Fate;
 
@@ -47,7 +47,7 @@ impl<'a> World<'a> {
         ensures early { IfSome result (λ x. x.moment.0 ≤ end.0) }
         ensures within { IfSome result (λ x. x.node < length self.now.nodes) }
     {
-        let Some(due) = first_due(self.topology, self.nodes.as_slice(), self.moment) else {
+        let Some(due) = self.nodes.first_due(self.topology, self.moment) else {
             return None;
         };
         if end.0 < due.moment.0 {

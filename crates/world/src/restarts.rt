@@ -13,7 +13,6 @@ use crate::record::say;
 use crate::world::World;
 use events::Verb;
 use history::{Act, Record};
-use lab_nodes::restart_at;
 use teredo_node::Fate;
 use topology::Node;
 
@@ -27,7 +26,7 @@ impl<'a> World<'a> {
         ensures rest { self.new ≡ record self.old { nodes = self.new.nodes; nats = self.new.nats } }
     {
         legal::frame();
-        restart_at(&mut self.nodes, number, self.moment);
+        self.nodes.restart_at(number, self.moment);
         self.nats.restart(number);
         let act = Act::Plain {
             verb: Verb::Restart,

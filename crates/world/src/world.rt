@@ -20,7 +20,7 @@ use crate::record::{begin, blank, say};
 use crate::wire::{ENTRIES_MAX, Wire, WireEntry};
 use events::{Event, Verb};
 use history::{Act, Record, Stop, Turn};
-use lab_nodes::{PlayedNode, first_nodes};
+use lab_nodes::Nodes;
 use std::alloc::Global;
 use std::marker::Model;
 use td_base::{Millis, NoMemory};
@@ -34,7 +34,7 @@ pub struct World<'a> {
     pub(crate) topology: &'a Topology,
     // what is kept of the NATs, of which some may be behind others
     pub(crate) nats: Chains<'a>,
-    pub(crate) nodes: Vec<PlayedNode>,
+    pub(crate) nodes: Nodes,
     pub(crate) wire: Wire,
     pub(crate) moment: Millis,
     pub(crate) going: Option<Going>,
@@ -51,9 +51,9 @@ impl<'a> Model for World<'a> {
 
     ghost Value = { WorldState };
 
-    ghost view = { λ w. state_of w.topology.now w.nats w.moment.0 w.going w.armed w.nodes.items w.wire w.stopped };
+    ghost view = { λ w. state_of w.topology.now w.nats w.moment.0 w.going w.armed w.nodes w.wire w.stopped };
 
-    ghost invariant = { λ w. IsWorld w.topology.now w.nats w.moment.0 w.going w.nodes.items };
+    ghost invariant = { λ w. IsWorld w.topology.now w.nats w.moment.0 w.going w.nodes };
 }
 
 impl<'a> World<'a> {
@@ -73,12 +73,13 @@ impl<'a> World<'a> {
         ensures goes_on { IfOk result (λ w. w.stopped ≡ None) }
     {
         let _rules = topology.clients();
-        let nodes = first_nodes(alloc, topology, seed)?;
+        let nodes = Nodes::new(alloc, topology, seed)?;
+        let wire = Wire::new(alloc);
         Ok(World {
             topology,
             nats,
             nodes,
-            wire: Wire::new(alloc),
+            wire,
             moment: Millis(0),
             going: None,
             armed: None,

@@ -1,13 +1,15 @@
 use Rattle.std.proofs.Common.{◌≡◌, ◌<◌, ◌+◌, ℕ, length, Some, None, Option, refl, sym, ap, ◌∙◌, subst, arith}
-use Rattle.std.specs.Prelude.{option_map, slice_get, IfSome}
-use Rattle.std.proofs.lemmas.Option.{slice_get_read}
+use Rattle.std.specs.Prelude.{option_map, slice_get, get_or, IfSome}
+use Rattle.std.proofs.lemmas.Option.{slice_get_read, slice_get-get_or}
+use Rattle.td_base.specs.declared.millis.Millis.{Millis}
 use Rattle.topology.specs.Topology.{nodes}
 use Rattle.legal.specs.Next.{DueNode, earlier}
 use Rattle.lab_nodes.specs.declared.due.Due.{Due as Found}
 use Rattle.lab_nodes.specs.PlayedNode.{row_of, past_of, IsKept, IsReady}
-use Rattle.lab_nodes.specs.Due.{due_as, tick_of}
+use Rattle.lab_nodes.specs.Due.{due_as, tick_moment, tick_of, IsQuietUntil}
 use Rattle.lab_nodes.proofs.NodeLists.{ready_at}
 use Rattle.lab_nodes.proofs.Dues.{IsFirstSo, ticking_until, until_within, none_before, one_further, row_at, at_the_end, still_within}
+use Rattle.lab_nodes.proofs.Quiet.{moments_of}
 use Rattle.lab_nodes.proofs.due.first_due.Goals as goal
 use Rattle.lab_nodes.proofs.due.first_due.Goals.{then-may_come_first, else-may_come_first}
 
@@ -33,6 +35,10 @@ ticking-preserved c =
     let so_far = c.ticking.invariant.so in
     let longer : IfSome c.ticking.first (λ (x : Found). x.node < n + 1) = still_within n c.ticking.first so_far.within in
     let here : slice_get list n ≡ Some p = slice_get_read list (length list) n p refl (omega (arith, c.ticking-test.true, c.ticking.invariant.within)) c.index-nodes-number.is in
+    let quiet = c.args.quiet.now in
+    let q : Option Millis = get_or quiet n None in
+    let there : slice_get quiet n ≡ Some q =
+    slice_get-get_or quiet n None (omega (arith, c.ticking-test.true, c.ticking.invariant.within, c.requires.quiet.same)) in
     record {
       within = c.ticking.invariant.within;
       upto = omega (arith, c.ticking-test.true);
@@ -46,9 +52,11 @@ ticking-preserved c =
             let kept : IsKept lab.topology n (past_of lab n H) p = of.each n p here in
             let so = so_far.is lab H of e in
             let tick : Option DueNode = tick_of lab H c.args.at.0 n (row_of p) in
+            let bound : IsQuietUntil (option_map (λ (q : Millis). q.0) q) (option_map tick_moment tick) =
+            subst (IsQuietUntil (option_map (λ (q : Millis). q.0) q)) (sym (moments_of lab H c.args.at.0 n (row_of p))) (c.requires.quiet.each n p q here there lab H n c.args.at.0 ready kept) in
             let new : c.if-may_come_first.first ≡ option_map due_as (earlier so.tick tick) = elim c.if-may_come_first.branch [
               | then-may_come_first w ↦ w.first-is ∙ w.put_earlier.ensures.earlier lab H so.tick kept so.found
-              | else-may_come_first w ↦ w.first-is ∙ so.found ∙ ap (λ (o : Option DueNode). option_map due_as o) (sym (w.if-may_come_first.ensures refl lab H c.args.at.0 n so.tick ready kept so.found))
+              | else-may_come_first w ↦ w.first-is ∙ so.found ∙ ap (λ (o : Option DueNode). option_map due_as o) (sym (w.if-may_come_first.ensures refl so.tick tick so.found bound))
             ] in
             let found = new ∙ ap (λ m. option_map due_as (earlier so.tick (tick_of lab H m n (row_of p)))) e in
             subst (λ (o : Option Found). IsFirstSo lab H (nodes lab.topology) (n + 1) o) (sym found)

@@ -41,7 +41,7 @@ returns-in_err-outlet-clause-plays c =
     let w = c.self.inside in
     let p = err_from_is_err_and c.from_residual.result c.from_residual.ensures.1 in
     let a : Deed = record { index = c.args.out.now.event; act = c.args.act; prompt = c.args.prompt; number = c.args.number } in
-    let old = state_of w.topology.now w.nats w.moment.0 w.going w.armed w.nodes.items w.wire w.stopped in
+    let old = state_of w.topology.now w.nats w.moment.0 w.going w.armed w.nodes w.wire w.stopped in
     let call : Call = record { node = c.args.number; now = w.moment; input = c.input_of.result } in
     let is_call : IsCall old c.args.prompt call = record { at = refl; dst = c.input_of.ensures.dst; input = c.input_of.ensures.input } in
     let did = c.in_err-outlet.ensures.answers in
@@ -55,11 +55,11 @@ returns-in_err-emit-clause-plays c =
     let w = c.self.inside in
     let p = err_from_is_err_and c.from_residual-in_err-emit.result c.from_residual-in_err-emit.ensures.1 in
     let a : Deed = record { index = c.args.out.now.event; act = c.args.act; prompt = c.args.prompt; number = c.args.number } in
-    let old = state_of w.topology.now w.nats w.moment.0 w.going w.armed w.nodes.items w.wire w.stopped in
+    let old = state_of w.topology.now w.nats w.moment.0 w.going w.armed w.nodes w.wire w.stopped in
     let call : Call = record { node = c.args.number; now = w.moment; input = c.input_of.result } in
     let is_call : IsCall old c.args.prompt call = record { at = refl; dst = c.input_of.ensures.dst; input = c.input_of.ensures.input } in
     let did = c.in_ok-outlet.ensures.answers in
-    let y : Asking = record { mid = c.ask.new.nodes.items; after = did.after; step = c.ask.new.step; asked = c.in_ok-outlet.field-0 } in
+    let y : Asking = record { mid = c.ask.new.self; after = did.after; step = c.ask.new.step; asked = c.in_ok-outlet.field-0 } in
     let why = c.in_err-emit.field-0.0 in
     rw (p.1, p.2) (subst (OfEach a (λ d x H r. IsCause x r why)) c.self.view_is (λ d H s e quiet mild node here.
     let x : Doing = record { draws = d; world = old; history = H; event = numbered c.args.out.now.event e; act = c.args.act; prompt = c.args.prompt; call = call; before = did.before } in
@@ -72,14 +72,14 @@ returns-clause-plays c =
     let w = c.self.inside in
     let index = c.args.out.now.event in
     let a : Deed = record { index = index; act = c.args.act; prompt = c.args.prompt; number = c.args.number } in
-    let old = state_of w.topology.now w.nats w.moment.0 w.going w.armed w.nodes.items w.wire w.stopped in
-    let new : Option ℕ → WireState → WorldState = λ a z. state_of w.topology.now c.emit.new.nats w.moment.0 w.going a c.ask.new.nodes.items z w.stopped in
+    let old = state_of w.topology.now w.nats w.moment.0 w.going w.armed w.nodes w.wire w.stopped in
+    let new : Option ℕ → WireState → WorldState = λ a z. state_of w.topology.now c.emit.new.nats w.moment.0 w.going a c.ask.new.self z w.stopped in
     let marks = c.emit.new.marks in
     let call : Call = record { node = c.args.number; now = w.moment; input = c.input_of.result } in
     let is_call : IsCall old c.args.prompt call = record { at = refl; dst = c.input_of.ensures.dst; input = c.input_of.ensures.input } in
     let there : IsPrompt old.wire old.done c.args.prompt = subst (λ (x : WorldState). IsPrompt x.wire x.done c.args.prompt) (sym c.self.view_is) c.requires.prompt in
     let did = c.in_ok-outlet.ensures.answers in
-    let y : Asking = record { mid = c.ask.new.nodes.items; after = did.after; step = c.ask.new.step; asked = c.in_ok-outlet.field-0 } in
+    let y : Asking = record { mid = c.ask.new.self; after = did.after; step = c.ask.new.step; asked = c.in_ok-outlet.field-0 } in
     let fresh : c.args.out.now ≡ fresh_record index w.moment.0 = c.requires.fresh ∙ ap (λ (x : WorldState). fresh_record index x.moment) (sym c.self.view_is) in
     let deed : Record → Record = λ r. record (with_deed r c.args.act (Some c.args.number) c.ask.new.step.fate) { late = map length c.ask.new.step.late; gone = c.ask.new.step.gone } in
     let said : c.say_step.new.out ≡ deed (fresh_record index w.moment.0) = c.say_step.ensures ∙ ap deed fresh in
@@ -104,7 +104,7 @@ pub emit-requires-clause-nat : goal.emit-requires-clause-nat
 emit-requires-clause-nat c =
     let w = c.self.inside in
     let did = c.in_ok-outlet.ensures.answers in
-    let was = row_at w.topology.now w.nodes.items c.args.number did.before c.self.invariant.rows did.was in
+    let was = row_at w.topology.now w.nodes c.args.number did.before c.self.invariant.rows did.was in
     subst (HasItsNat c.in_ok-outlet.field-0.outlet) (sym c.self.invariant.same)
     (has_its_nat c.rows_keep_rules.ensures w.topology.now c.args.number (row_of did.before) c.in_ok-outlet.field-0.outlet c.self.invariant.rules was did.change.outlet)
 
@@ -112,7 +112,7 @@ pub invariant_of-self : goal.invariant_of-self
 invariant_of-self c =
     let is = c.in_err-outlet.ensures.answers in
     let few = c.self.invariant.few in
-    let long = same_length c.ask.new.nodes.items c.self.inside.nodes.items is.rows in
+    let long = same_length c.ask.new.self c.self.inside.nodes is.rows in
     record {
       rules = c.self.invariant.rules;
       same = c.self.invariant.same;

@@ -23,7 +23,7 @@ use Rattle.world.proofs.world.World.deliver.Goals as goal
 pub returns-in-Astray-clause-plays : goal.returns-in-Astray-clause-plays
 returns-in-Astray-clause-plays c =
     let w = c.self.inside in
-    let old = state_of w.topology.now w.nats w.moment.0 w.going w.armed w.nodes.items w.wire w.stopped in
+    let old = state_of w.topology.now w.nats w.moment.0 w.going w.armed w.nodes w.wire w.stopped in
     let item = item_lent c.in-Some.entry in
     let there : slice_get w.wire.items c.args.number ≡ Some item = sym c.get.ensures.lent ∙ ap (λ o. option_map item_lent o) c.in-Some.is in
     let x : Draws → List Full → Event → Delivery = λ d H e. record { draws = d; world = old; history = H; event = numbered c.args.out.now.event e; number = c.args.number; item = item } in
@@ -31,12 +31,12 @@ returns-in-Astray-clause-plays c =
     let fresh : c.args.out.now ≡ fresh_record c.args.out.now.event w.moment.0 = c.requires.fresh ∙ ap (λ (x : WorldState). fresh_record c.args.out.now.event x.moment) (sym c.self.view_is) in
     rw (← c.self.view_is, c.say-in-Astray.ensures, fresh) (λ d H s e keeps mild.
     let goes = sym (c.route_of.ensures.route d H s.nats) ∙ ap (by_route w.topology.now) c.in-Astray.is in
-    subst (λ (z : WireState). Plays d old (state_of w.topology.now w.nats w.moment.0 w.going w.armed w.nodes.items z w.stopped) H (record_in (x d H e)) (Ok (with_deed (fresh_record c.args.out.now.event w.moment.0) (act.Deliver c.args.number) None fate.Nowhere))) (sym c.set_delivered.ensures) (answered.strays c.frame.ensures (x d H e) (is d H e s keeps mild) goes))
+    subst (λ (z : WireState). Plays d old (state_of w.topology.now w.nats w.moment.0 w.going w.armed w.nodes z w.stopped) H (record_in (x d H e)) (Ok (with_deed (fresh_record c.args.out.now.event w.moment.0) (act.Deliver c.args.number) None fate.Nowhere))) (sym c.set_delivered.ensures) (answered.strays c.frame.ensures (x d H e) (is d H e s keeps mild) goes))
 
 pub returns-in-Closed-clause-plays : goal.returns-in-Closed-clause-plays
 returns-in-Closed-clause-plays c =
     let w = c.self.inside in
-    let old = state_of w.topology.now w.nats w.moment.0 w.going w.armed w.nodes.items w.wire w.stopped in
+    let old = state_of w.topology.now w.nats w.moment.0 w.going w.armed w.nodes w.wire w.stopped in
     let item = item_lent c.in-Some.entry in
     let there : slice_get w.wire.items c.args.number ≡ Some item = sym c.get.ensures.lent ∙ ap (λ o. option_map item_lent o) c.in-Some.is in
     let x : Draws → List Full → Event → Delivery = λ d H e. record { draws = d; world = old; history = H; event = numbered c.args.out.now.event e; number = c.args.number; item = item } in
@@ -44,7 +44,7 @@ returns-in-Closed-clause-plays c =
     let fresh : c.args.out.now ≡ fresh_record c.args.out.now.event w.moment.0 = c.requires.fresh ∙ ap (λ (x : WorldState). fresh_record c.args.out.now.event x.moment) (sym c.self.view_is) in
     rw (← c.self.view_is, c.say-in-Closed.ensures, fresh) (λ d H s e keeps mild.
     let goes = sym (c.route_of.ensures.route d H s.nats) ∙ ap (by_route w.topology.now) c.in-Closed.is in
-    subst (λ (z : WireState). Plays d old (state_of w.topology.now w.nats w.moment.0 w.going w.armed w.nodes.items z w.stopped) H (record_in (x d H e)) (Ok (with_deed (fresh_record c.args.out.now.event w.moment.0) (act.Deliver c.args.number) (Some c.in-Closed.nat) fate.NatClosed))) (sym c.set_delivered-in-Closed.ensures) (answered.shut_out c.frame.ensures (x d H e) c.in-Closed.nat (is d H e s keeps mild) goes))
+    subst (λ (z : WireState). Plays d old (state_of w.topology.now w.nats w.moment.0 w.going w.armed w.nodes z w.stopped) H (record_in (x d H e)) (Ok (with_deed (fresh_record c.args.out.now.event w.moment.0) (act.Deliver c.args.number) (Some c.in-Closed.nat) fate.NatClosed))) (sym c.set_delivered-in-Closed.ensures) (answered.shut_out c.frame.ensures (x d H e) c.in-Closed.nat (is d H e s keeps mild) goes))
 
 pub returns-in-Reaches-clause-plays : goal.returns-in-Reaches-clause-plays
 returns-in-Reaches-clause-plays c = λ d H s e keeps mild.
@@ -60,7 +60,7 @@ returns-in-Reaches-clause-plays c = λ d H s e keeps mild.
       keeps = keeps;
       mild = mild;
     } in
-    let before : StandsFor d (state_of w.topology.now w.nats w.moment.0 w.going w.armed w.nodes.items w.wire w.stopped) H = subst (λ (z : WorldState). StandsFor d z H) (sym same) s in
+    let before : StandsFor d (state_of w.topology.now w.nats w.moment.0 w.going w.armed w.nodes w.wire w.stopped) H = subst (λ (z : WorldState). StandsFor d z H) (sym same) s in
     let here = there_at w.topology.now c.in-Reaches.node (subst (IsThere w.topology.now) c.in-Reaches.is c.route_of.ensures.there) in
     let goes : route (lab_on d w.topology.now w.nats.chain) H w.moment.0 item ≡ reaches c.in-Reaches.node here.0 =
     sym (c.route_of.ensures.route d H before.nats) ∙ ap (by_route w.topology.now) c.in-Reaches.is ∙ ap (reach_node c.in-Reaches.node) here.1 in
@@ -71,7 +71,7 @@ returns-in-Reaches-clause-plays c = λ d H s e keeps mild.
 pub returns-in_default-clause-plays : goal.returns-in_default-clause-plays
 returns-in_default-clause-plays c =
     let w = c.self.inside in
-    let old = state_of w.topology.now w.nats w.moment.0 w.going w.armed w.nodes.items w.wire w.stopped in
+    let old = state_of w.topology.now w.nats w.moment.0 w.going w.armed w.nodes w.wire w.stopped in
     let none : slice_get w.wire.items c.args.number ≡ None = sym c.get.ensures.lent ∙ ap (λ o. option_map item_lent o) c.in_default.is in
     let fresh : c.args.out.now ≡ fresh_record c.args.out.now.event w.moment.0 = c.requires.fresh ∙ ap (λ (x : WorldState). fresh_record c.args.out.now.event x.moment) (sym c.self.view_is) in
     rw (← c.self.view_is, c.say.ensures, fresh) (λ d H s e keeps mild. answered.missing c.frame.ensures d old H (numbered c.args.out.now.event e) c.args.number s keeps mild none)
@@ -80,4 +80,4 @@ pub act-requires-clause-within : goal.act-requires-clause-within
 act-requires-clause-within c =
     let w = c.self.inside in
     let there : c.in-Reaches.node < length (nodes w.topology.now) = subst (IsThere w.topology.now) c.in-Reaches.is c.route_of.ensures.there in
-    subst (λ (x : WorldState). c.in-Reaches.node < length x.nodes) c.self.view_is (within_as w.topology.now w.nodes.items c.in-Reaches.node c.self.invariant.rows there)
+    subst (λ (x : WorldState). c.in-Reaches.node < length x.nodes) c.self.view_is (within_as w.topology.now w.nodes c.in-Reaches.node c.self.invariant.rows there)

@@ -1,7 +1,6 @@
 use Rattle.std.proofs.Common.{◌<◌, arith}
 use Rattle.legal.specs.Lab.{lab_on}
 use Rattle.std.proofs.lemmas.Bool.Decides.{nat_tests}
-use Rattle.lab_nodes.specs.PlayedNode.{NodesOf}
 use Rattle.world.proofs.Ticking.{found_first, past_none, past_later}
 use Rattle.world.proofs.world.World.due_by.Goals as goal
 
@@ -9,8 +8,7 @@ pub returns-in_default-clause-none : goal.returns-in_default-clause-none
 returns-in_default-clause-none c =
     let w = c.self.inside in
     rw (← c.self.view_is) (λ d H s.
-    let nodes : NodesOf (lab_on d w.topology.now w.nats.chain) c.as_slice.result.now H = rw (c.as_slice.ensures.value) s.nodes in
-    past_none (lab_on d w.topology.now w.nats.chain) H c.args.end.0 c.first_due.result c.in_default.is (c.first_due.ensures.first (lab_on d w.topology.now w.nats.chain) H nodes s.moment))
+    past_none (lab_on d w.topology.now w.nats.chain) H c.args.end.0 c.first_due.result c.in_default.is (c.first_due.ensures.first (lab_on d w.topology.now w.nats.chain) H s.nodes s.moment))
 
 pub returns-then-end-due-clause-none : goal.returns-then-end-due-clause-none
 returns-then-end-due-clause-none c =
@@ -18,12 +16,10 @@ returns-then-end-due-clause-none c =
     let test = c.if-end-due.true in
     let after : c.args.end.0 < c.in-Some.due.moment.0 = grind (arith, nat_tests) in
     rw (← c.self.view_is) (λ d H s.
-    let nodes : NodesOf (lab_on d w.topology.now w.nats.chain) c.as_slice.result.now H = rw (c.as_slice.ensures.value) s.nodes in
-    past_later (lab_on d w.topology.now w.nats.chain) H c.args.end.0 c.first_due.result c.in-Some.due c.in-Some.is after (c.first_due.ensures.first (lab_on d w.topology.now w.nats.chain) H nodes s.moment))
+    past_later (lab_on d w.topology.now w.nats.chain) H c.args.end.0 c.first_due.result c.in-Some.due c.in-Some.is after (c.first_due.ensures.first (lab_on d w.topology.now w.nats.chain) H s.nodes s.moment))
 
 pub returns-clause-due : goal.returns-clause-due
 returns-clause-due c =
     let w = c.self.inside in
     rw (← c.self.view_is) (λ d H s.
-    let nodes : NodesOf (lab_on d w.topology.now w.nats.chain) c.as_slice.result.now H = rw (c.as_slice.ensures.value) s.nodes in
-    found_first (lab_on d w.topology.now w.nats.chain) H c.first_due.result c.in-Some.due c.in-Some.is (c.first_due.ensures.first (lab_on d w.topology.now w.nats.chain) H nodes s.moment))
+    found_first (lab_on d w.topology.now w.nats.chain) H c.first_due.result c.in-Some.due c.in-Some.is (c.first_due.ensures.first (lab_on d w.topology.now w.nats.chain) H s.nodes s.moment))

@@ -50,7 +50,7 @@ invariant_of-self c = record {
 pub returns-clause-plays : goal.returns-clause-plays
 returns-clause-plays c =
     let w = c.self.inside in
-    let old = state_of w.topology.now w.nats w.moment.0 w.going w.armed w.nodes.items w.wire w.stopped in
+    let old = state_of w.topology.now w.nats w.moment.0 w.going w.armed w.nodes w.wire w.stopped in
     let there : node_at w.topology.now c.args.who ≡ Some (client c.in-Client.row) = ap (node_at w.topology.now) (sym c.from.ensures) ∙ sym c.node.ensures.found ∙ c.in-Some.is ∙ ap (λ (a : Node). Some a) c.in-Client.is in
     let fresh : c.args.out.now ≡ fresh_record c.args.out.now.event w.moment.0 = c.requires.fresh ∙ ap (λ (x : WorldState). fresh_record c.args.out.now.event x.moment) (sym c.self.view_is) in
     rw (← c.self.view_is, c.say.ensures, fresh) (λ d H s. forgets d old c.forget.new.self H c.args.out.now.event c.args.number c.args.who c.in-Client.row s (ap (option_and_then as_client) there)
@@ -60,5 +60,5 @@ pub returns-clause-rest : goal.returns-clause-rest
 returns-clause-rest c =
     let w = c.self.inside in
     let chain : c.forget.new.self.chain ≡ w.nats.chain = ap (λ (x : ChainsState). x.chain) c.forget.ensures.same in
-    let new = state_of w.topology.now c.forget.new.self w.moment.0 w.going w.armed w.nodes.items w.wire w.stopped in
+    let new = state_of w.topology.now c.forget.new.self w.moment.0 w.going w.armed w.nodes w.wire w.stopped in
     rw (← c.self.view_is) (λ i. record new { chain = chain i })

@@ -15,7 +15,7 @@ pub returns-clause-plays : goal.returns-clause-plays
 returns-clause-plays c =
     let w = c.self.inside in
     let index = c.args.out.now.event in
-    let old = state_of w.topology.now w.nats w.moment.0 w.going w.armed w.nodes.items w.wire w.stopped in
+    let old = state_of w.topology.now w.nats w.moment.0 w.going w.armed w.nodes w.wire w.stopped in
     let fresh : c.args.out.now ≡ fresh_record index w.moment.0 = c.requires.fresh ∙ ap (λ (x : WorldState). fresh_record index x.moment) (sym c.self.view_is) in
     let said : c.say.new.out ≡ with_deed (fresh_record index w.moment.0) c.args.act None fate.Put = c.say.ensures ∙ ap (λ (r : Record). with_deed r c.args.act None fate.Put) fresh in
     let none : c.say.new.out.marks ≡ [] = ap (λ (r : Record). r.marks) said in

@@ -10,7 +10,7 @@ pub invariant_of-self : goal.invariant_of-self
 invariant_of-self c =
     let is = c.restart_at.ensures.restarts in
     let few = c.self.invariant.few in
-    let long = same_length c.restart_at.new.nodes.items c.self.inside.nodes.items is.rows in
+    let long = same_length c.restart_at.new.self c.self.inside.nodes is.rows in
     record {
       rules = c.self.invariant.rules;
       same = ap (λ (x : ChainsState). x.topology) c.restart.ensures.same ∙ c.self.invariant.same;
@@ -25,14 +25,14 @@ invariant_of-self c =
 pub returns-clause-plays : goal.returns-clause-plays
 returns-clause-plays c =
     let w = c.self.inside in
-    let old = state_of w.topology.now w.nats w.moment.0 w.going w.armed w.nodes.items w.wire w.stopped in
+    let old = state_of w.topology.now w.nats w.moment.0 w.going w.armed w.nodes w.wire w.stopped in
     let fresh : c.args.out.now ≡ fresh_record c.args.out.now.event w.moment.0 = c.requires.fresh ∙ ap (λ (x : WorldState). fresh_record c.args.out.now.event x.moment) (sym c.self.view_is) in
-    rw (← c.self.view_is, c.say.ensures, fresh) (λ d H s. starts_anew c.frame.ensures d old c.restart_at.new.nodes.items c.restart.new.self H c.args.out.now.event c.args.number s c.restart_at.ensures.restarts
+    rw (← c.self.view_is, c.say.ensures, fresh) (λ d H s. starts_anew c.frame.ensures d old c.restart_at.new.self c.restart.new.self H c.args.out.now.event c.args.number s c.restart_at.ensures.restarts
     (record { stands = c.restart.ensures.stands; same = c.restart.ensures.same }))
 
 pub returns-clause-rest : goal.returns-clause-rest
 returns-clause-rest c =
     let w = c.self.inside in
     let chain : c.restart.new.self.chain ≡ w.nats.chain = ap (λ (x : ChainsState). x.chain) c.restart.ensures.same in
-    let new = state_of w.topology.now c.restart.new.self w.moment.0 w.going w.armed c.restart_at.new.nodes.items w.wire w.stopped in
+    let new = state_of w.topology.now c.restart.new.self w.moment.0 w.going w.armed c.restart_at.new.self w.wire w.stopped in
     rw (← c.self.view_is) (λ i. record new { chain = chain i })

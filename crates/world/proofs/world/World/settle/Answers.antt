@@ -16,8 +16,8 @@ pub returns-in_default-clause-plays : goal.returns-in_default-clause-plays
 returns-in_default-clause-plays c =
     let w = c.self.inside in
     let i = c.args.out.now.event in
-    let old = state_of w.topology.now w.nats w.moment.0 w.going w.armed w.nodes.items w.wire w.stopped in
-    let new : WireState → WorldState = λ z. state_of w.topology.now w.nats w.moment.0 None w.armed w.nodes.items z w.stopped in
+    let old = state_of w.topology.now w.nats w.moment.0 w.going w.armed w.nodes w.wire w.stopped in
+    let new : WireState → WorldState = λ z. state_of w.topology.now w.nats w.moment.0 None w.armed w.nodes z w.stopped in
     let fresh : c.args.out.now ≡ fresh_record i w.moment.0 = c.requires.fresh ∙ ap (λ (x : WorldState). fresh_record i x.moment) (sym c.self.view_is) in
     rw (← c.self.view_is, c.say.ensures, fresh) (λ d H s.
     subst (λ (z : WireState). PlaysTurn d old (new z) H (next_of (lab_on d w.topology.now w.nats.chain) H i event.Settle) (Ok (Last (with_deed (fresh_record i w.moment.0) (plain verb.Settle) None fate.Done)))) (sym c.first_undelivered.ensures.same)
@@ -29,8 +29,8 @@ returns-in-Ok-clause-plays c = λ d H s.
     let old = c.args.self.now in
     let i = c.args.out.now.event in
     let n = c.in-Some.number in
-    let mid = state_of w.topology.now w.nats w.moment.0 w.going w.armed w.nodes.items c.first_undelivered.new.self w.stopped in
-    let same : mid ≡ old = ap (λ (z : WireState). state_of w.topology.now w.nats w.moment.0 w.going w.armed w.nodes.items z w.stopped) c.first_undelivered.ensures.same ∙ c.self.view_is in
+    let mid = state_of w.topology.now w.nats w.moment.0 w.going w.armed w.nodes c.first_undelivered.new.self w.stopped in
+    let same : mid ≡ old = ap (λ (z : WireState). state_of w.topology.now w.nats w.moment.0 w.going w.armed w.nodes z w.stopped) c.first_undelivered.ensures.same ∙ c.self.view_is in
     let least : IsLeast old n = subst (λ (x : WorldState). IsLeast x n) c.self.view_is c.in-Some.ensures.found in
     let before : StandsFor d mid H = subst (λ (x : WorldState). StandsFor d x H) (sym same) s in
     let r = delivers (lab_in d old) H (numbered i event.Settle) n in
@@ -47,8 +47,8 @@ returns-in-Err-clause-plays c = λ d H s.
     let old = c.args.self.now in
     let i = c.args.out.now.event in
     let n = c.in-Some.number in
-    let mid = state_of w.topology.now w.nats w.moment.0 w.going w.armed w.nodes.items c.first_undelivered.new.self w.stopped in
-    let same : mid ≡ old = ap (λ (z : WireState). state_of w.topology.now w.nats w.moment.0 w.going w.armed w.nodes.items z w.stopped) c.first_undelivered.ensures.same ∙ c.self.view_is in
+    let mid = state_of w.topology.now w.nats w.moment.0 w.going w.armed w.nodes c.first_undelivered.new.self w.stopped in
+    let same : mid ≡ old = ap (λ (z : WireState). state_of w.topology.now w.nats w.moment.0 w.going w.armed w.nodes z w.stopped) c.first_undelivered.ensures.same ∙ c.self.view_is in
     let least : IsLeast old n = subst (λ (x : WorldState). IsLeast x n) c.self.view_is c.in-Some.ensures.found in
     let before : StandsFor d mid H = subst (λ (x : WorldState). StandsFor d x H) (sym same) s in
     settle_stops d old c.deliver.new.self H i n c.in-Err.stop s least

@@ -25,8 +25,8 @@ returns-clause-plays c =
     let w = c.self.inside in
     let index = c.args.out.now.event in
     let due = c.args.due in
-    let old = state_of w.topology.now w.nats w.moment.0 w.going w.armed w.nodes.items w.wire w.stopped in
-    let mid = state_of w.topology.now w.nats c.later-now.result.0 (Some (going_on.Advance c.args.began c.args.ms)) w.armed w.nodes.items w.wire w.stopped in
+    let old = state_of w.topology.now w.nats w.moment.0 w.going w.armed w.nodes w.wire w.stopped in
+    let mid = state_of w.topology.now w.nats c.later-now.result.0 (Some (going_on.Advance c.args.began c.args.ms)) w.armed w.nodes w.wire w.stopped in
     subst (λ (y : WorldState). (d : Draws) (H : List Full) → StandsFor d y H → (e : Event) → forgotten (lab_in d y) e ≡ [] → arms e ≡ None → (x : Tick) → due_as x ≡ due → node_at y.topology x.number ≡ Some x.node
     → Plays d y c.act.new.self H (ticks_at d y H (numbered index e) x) (played c.act.result c.act.new.out)) c.self.view_is (λ d H s e quiet mild x same there.
     let lab = lab_on d w.topology.now w.nats.chain in

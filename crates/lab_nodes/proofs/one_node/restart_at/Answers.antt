@@ -3,7 +3,7 @@ use Rattle.std.specs.Prelude.{slice_get}
 use Rattle.std.proofs.lemmas.Option.{slice_get_read}
 use Rattle.lab_nodes.specs.Changes.{Restarts, ChangesAt}
 use Rattle.lab_nodes.proofs.NodeLists.{changed, ready_at, still_ready}
-use Rattle.lab_nodes.proofs.nodes.restart_at.Goals as goal
+use Rattle.lab_nodes.proofs.one_node.restart_at.Goals as goal
 
 pub returns-clause-ready : goal.returns-clause-ready
 returns-clause-ready c = λ m all.

@@ -4,7 +4,7 @@ use Rattle.std.proofs.lemmas.Option.{slice_get_read}
 use Rattle.lab_nodes.specs.Changes.{ChangesAt}
 use Rattle.lab_nodes.specs.Answers.{AnswersOrWants}
 use Rattle.lab_nodes.proofs.NodeLists.{changed, answers_or_wants}
-use Rattle.lab_nodes.proofs.nodes.ask.Goals as goal
+use Rattle.lab_nodes.proofs.one_node.ask_at.Goals as goal
 
 pub returns-clause-answers : goal.returns-clause-answers
 returns-clause-answers c =

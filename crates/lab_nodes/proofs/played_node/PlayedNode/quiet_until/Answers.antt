@@ -1,0 +1,14 @@
+use Rattle.std.proofs.Common.{subst}
+use Rattle.qualify.specs.declared.settings.Settings.{Settings}
+use Rattle.peer_list.specs.Overdue.{IsNoSooner}
+use Rattle.client_rules.specs.Journals.{client_due}
+use Rattle.legal.specs.Past.{journal}
+use Rattle.lab_nodes.proofs.played_node.PlayedNode.quiet_until.Goals as goal
+
+pub returns-in-Client : goal.returns-in-Client
+returns-in-Client c = rw (c.in-Client.is) (λ lab H n m ready kept bound late.
+    subst (λ (s : Settings). IsNoSooner bound (client_due s (journal n H) m)) kept.settings (c.quiet_until.ensures.none bound late (journal n H) m kept.stands ready))
+
+pub returns-in-Relay : goal.returns-in-Relay
+returns-in-Relay c = rw (c.in-Relay.is) (λ lab H n m ready kept bound late.
+    c.quiet_until-in-Relay.ensures.none bound late (journal n H).entries m kept.stands ready)
