@@ -14,8 +14,8 @@ use std::alloc::Global;
 use td_base::{Ep, NoMemory, Octets, Span};
 use teredo_node::Step;
 
-/// The part of a datagram that a span tells.
-fn lend_part(bytes: &[u8], span: Span) -> &[u8]
+/// The part of some bytes that a span tells.
+pub fn lend_part(bytes: &[u8], span: Span) -> &[u8]
     ensures { result.now ≡ part bytes.now span }
 {
     let rest = &bytes[span.at.min(bytes.len())..];

@@ -93,11 +93,6 @@ impl Nodes {
         self.list.as_slice()
     }
 
-    /// Where they take their memory.
-    pub fn allocator(&self) -> &Global {
-        self.list.allocator()
-    }
-
     /// Lets the node of a call do what is asked of it.
     pub fn ask(&mut self, call: Call<'_>, step: &mut Step) -> Result<Asked, NoMemory>
         requires within { call.node < length self.old }

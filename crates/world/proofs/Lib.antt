@@ -1,4 +1,5 @@
 mod Wires
+mod Placed
 mod States
 mod Routes
 mod Entered

@@ -1,4 +1,5 @@
 pub mod Wire
+pub mod Entries
 pub mod WireEntry
 pub mod Route
 pub mod Emission

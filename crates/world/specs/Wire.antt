@@ -5,16 +5,9 @@ use Rattle.td_base.specs.declared.datagram.TheConstants.{DATAGRAM_MAX}
 use Rattle.history.specs.declared.mark.Mark.{Mark}
 use Rattle.history.specs.declared.turn.Stop.{Stop}
 use Rattle.history.specs.declared.turn.Stop.TheVariants.{WireFull, NoMemory}
-use Rattle.history.specs.Full.{Item, udp, six, Made, item_in, bytes_of}
+use Rattle.history.specs.Full.{Item, Made, item_in, bytes_of}
 use Rattle.history.specs.Records.{marks_of}
 use Rattle.world.specs.declared.wire.TheConstants.{ENTRIES_MAX}
-use Rattle.world.specs.declared.wire.Entry.{Entry}
-use Rattle.world.specs.declared.wire.Entry.TheVariants.{Udp, Six}
-
--- the entry that is kept
-abbrev pub item_of : Entry → Item
-item_of (Udp src dst bytes) = udp src dst bytes
-item_of (Six relay bytes) = six relay bytes
 
 -- the entries in order, and for each whether it was delivered
 pub record WireState : Type 0 where

@@ -1,7 +1,7 @@
 -- What a world lends of the wire.
 use Rattle.history.specs.Full.{Item, udp, six}
-use Rattle.world.specs.declared.wire.WireEntry.{WireEntry}
-use Rattle.world.specs.declared.wire.WireEntry.TheVariants.{Udp, Six}
+use Rattle.world.specs.declared.wire_entry.WireEntry.{WireEntry}
+use Rattle.world.specs.declared.wire_entry.WireEntry.TheVariants.{Udp, Six}
 
 -- the entry that is lent
 abbrev pub item_lent : WireEntry → Item

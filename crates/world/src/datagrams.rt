@@ -12,11 +12,11 @@ ghost use Rattle.world.specs.Record.{fresh_record};
 ghost use Rattle.world.specs.Playing.{Plays, played};
 
 use crate::record::say;
-use crate::wire::Entry;
+use crate::wire_entry::WireEntry;
 use crate::world::World;
 use events::Verb;
 use history::{Act, Record, Stop};
-use td_base::{Ep, Octets};
+use td_base::Ep;
 use teredo_node::Fate;
 
 impl<'a> World<'a> {
@@ -26,20 +26,20 @@ impl<'a> World<'a> {
         act: Act,
         src: Ep,
         dst: Ep,
-        bytes: Octets,
+        bytes: &[u8],
         out: &mut Record,
     ) -> Result<(), Stop>
         requires fresh { out.old ≡ fresh_record out.old.event self.old.moment }
-        requires short { length bytes ≤ DATAGRAM_MAX }
+        requires short { length bytes.now ≤ DATAGRAM_MAX }
         ensures plays { (d : Draws) (H : List Full) → StandsFor d self.old H → (e : Event) → arms e ≡ None
-            → Plays d self.old self.new H (puts H (numbered out.old.event e) act src dst bytes) (played result out.new) }
+            → Plays d self.old self.new H (puts H (numbered out.old.event e) act src dst bytes.now) (played result out.new) }
         ensures rest { self.new ≡ record self.old { wire = self.new.wire; done = self.new.done } }
         ensures err { OnErr result ((self.new.wire ≡ self.old.wire) × (self.new.done ≡ self.old.done)) }
     {
         legal::frame();
         say(out, act, None, Fate::Put);
         self.wire
-            .put(Entry::Udp { src, dst, bytes }, &mut out.marks)
+            .put(WireEntry::Udp { src, dst, bytes }, &mut out.marks)
     }
 
     /// Puts a stranger's datagram on the wire.
@@ -60,7 +60,6 @@ impl<'a> World<'a> {
         let act = Act::Plain {
             verb: Verb::Stranger,
         };
-        let bytes = Octets::new(*self.nodes.allocator(), bytes)?;
         self.put(act, src, dst, bytes, out)
     }
 
@@ -84,7 +83,7 @@ impl<'a> World<'a> {
             say(out, act, None, Fate::NoEntry);
             return Ok(());
         };
-        let bytes = Octets::new(*self.nodes.allocator(), entry.bytes())?;
-        self.put(act, src, dst, bytes, out)
+        let bytes = self.wire.copy_of(entry.bytes())?;
+        self.put(act, src, dst, bytes.as_slice(), out)
     }
 }

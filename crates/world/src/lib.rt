@@ -25,7 +25,8 @@
 //! | `prompt` | what prompts a node, and what comes to it | `specs/Prompt.antt` |
 //! | `deliveries`, `packets`, `datagrams`, `restarts`, `advance` | what each event does to a world | `specs/Playing.antt` |
 //! | `sender` | how what a node sends comes onto the wire | `specs/Emission.antt` |
-//! | `wire` | everything that was sent, and what of it was delivered; the door onto it | `specs/Wire.antt`, `WireEntry.antt` |
+//! | `wire` | everything that was sent, and what of it was delivered; the door onto it | `specs/Wire.antt` |
+//! | `entries`, `wire_entry` | what is kept of what was sent; what is lent of it | `specs/Entries.antt`, `WireEntry.antt` |
 //! | `route` | where an entry goes | `specs/Route.antt` |
 //! | `record` | what is said of a step | `specs/Record.antt` |
 //! | `laws` | what holds of the numbers | `specs/Numbers.antt` |
@@ -35,6 +36,7 @@ mod act;
 mod advance;
 mod datagrams;
 mod deliveries;
+mod entries;
 mod going;
 mod laws;
 mod packets;
@@ -44,9 +46,11 @@ mod restarts;
 mod route;
 mod sender;
 mod wire;
+mod wire_entry;
 mod world;
 
 pub use laws::wire_numbers;
 pub use record::blank;
-pub use wire::{ENTRIES_MAX, WireEntry};
+pub use wire::ENTRIES_MAX;
+pub use wire_entry::WireEntry;
 pub use world::World;

@@ -3,7 +3,8 @@ ghost use Rattle.std.specs.Prelude.{◌≡◌};
 ghost use Rattle.lab_nodes.specs.Call.{dst_lent, input_lent, IsShortInput};
 ghost use Rattle.world.specs.Prompt.{IsPrompt, dst_by, input_by, done_by};
 
-use crate::wire::{Wire, WireEntry};
+use crate::wire::Wire;
+use crate::wire_entry::WireEntry;
 use lab_nodes::Input;
 
 /// What prompts a node to do something.

@@ -11,7 +11,7 @@ ghost use Rattle.world.specs.Emission.{AreNatsWith};
 ghost use Rattle.world.specs.WireEntry.{item_lent};
 ghost use Rattle.world.specs.Route.{by_route, IsThere};
 
-use crate::wire::WireEntry;
+use crate::wire_entry::WireEntry;
 use td_base::{Ep, Millis};
 use td_chain::{Chains, Way};
 use topology::{Node, Topology};

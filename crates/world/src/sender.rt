@@ -14,7 +14,8 @@ ghost use Rattle.lab_nodes.specs.Outlet.{source_at, six_sent};
 ghost use Rattle.world.specs.Wire.{Puts, Extends};
 ghost use Rattle.world.specs.Emission.{AreNatsWith, Crossed, HasItsNat, emitted_by};
 
-use crate::wire::{Entry, Wire};
+use crate::wire::Wire;
+use crate::wire_entry::WireEntry;
 use history::{Loss, Marks, Stop};
 use lab_nodes::{Outlet, SixPacket};
 use nat_kinds::NatRefusal;
@@ -194,7 +195,10 @@ fn put_six(wire: &mut Wire, packet: Option<SixPacket>, marks: &mut Marks) -> Res
 {
     match packet {
         None => Ok(()),
-        Some(SixPacket { relay, bytes }) => wire.put(Entry::Six { relay, bytes }, marks),
+        Some(SixPacket { relay, bytes }) => {
+            let bytes = bytes.as_slice();
+            wire.put(WireEntry::Six { relay, bytes }, marks)
+        }
     }
 }
 

@@ -1,14 +1,15 @@
 //! The wire: everything that was sent.
-ghost use Rattle.std.specs.Prelude.{◌≡◌, ◌<◌, ◌≤◌, ◌∷◌, [], ℕ, true, false, length, map, set, get_or, slice_get, option_map, OnOk, OnErr, IfSome, IfNone};
+ghost use Rattle.std.specs.Prelude.{◌≡◌, ◌<◌, ◌≤◌, ◌∷◌, [], ℕ, true, false, length, set, get_or, slice_get, option_map, IfOk, OnOk, OnErr, IfSome, IfNone};
 ghost use Rattle.history.specs.Full.{bytes_of, sent};
-ghost use Rattle.history.specs.Records.{mark_of};
 ghost use Rattle.history.specs.declared.mark_list.TheConstants.{MARKS_MAX};
 ghost use Rattle.legal.specs.Emit.{marked};
 ghost use Rattle.td_base.specs.declared.datagram.TheConstants.{DATAGRAM_MAX};
 ghost use Rattle.td_base.specs.declared.side.Side.{Side};
-ghost use Rattle.world.specs.Wire.{item_of, WireState, no_wire, with_items, front_of, Puts};
+ghost use Rattle.world.specs.Wire.{WireState, no_wire, with_items, front_of, Puts};
 ghost use Rattle.world.specs.WireEntry.{item_lent};
 
+use crate::entries::Entries;
+use crate::wire_entry::WireEntry;
 use history::{Loss, Mark, Marks, Stop};
 use std::alloc::Global;
 use std::marker::Model;
@@ -17,75 +18,23 @@ use td_base::{Ep, NoMemory, Octets};
 /// The most entries of a wire.
 pub const ENTRIES_MAX: usize = 65_536;
 
-/// What was sent, with its bytes.
-#[derive(Drop)]
-pub enum Entry {
-    /// A datagram.
-    Udp { src: Ep, dst: Ep, bytes: Octets },
-    /// An IPv6 packet, for the relay of that number, or for whoever has its destination.
-    Six { relay: Option<u16>, bytes: Octets },
-}
-
-impl Entry {
-    /// Its mark, where this is its number.
-    fn mark(&self, number: u32) -> Mark
-        ensures { result ≡ mark_of number (sent (item_of self.now)) }
-    {
-        match self {
-            Entry::Udp { src, dst, bytes } => Mark::Udp {
-                number,
-                src: *src,
-                dst: *dst,
-                len: bytes.as_slice().len(),
-            },
-            Entry::Six { relay, bytes } => Mark::Six {
-                number,
-                relay: *relay,
-                len: bytes.as_slice().len(),
-            },
-        }
-    }
-}
-
-/// An entry of the wire, lent.
-#[derive(Clone, Copy, Debug)]
-pub enum WireEntry<'a> {
-    /// A datagram.
-    Udp { src: Ep, dst: Ep, bytes: &'a [u8] },
-    /// An IPv6 packet, for the relay of that number, if any.
-    Six { relay: Option<u16>, bytes: &'a [u8] },
-}
-
-impl<'a> WireEntry<'a> {
-    /// Its bytes.
-    pub fn bytes(self) -> &'a [u8]
-        ensures { result.now ≡ bytes_of (item_lent self.entry) }
-    {
-        match self {
-            WireEntry::Udp { bytes, .. } => bytes,
-            WireEntry::Six { bytes, .. } => bytes,
-        }
-    }
-}
-
 /// Everything that was sent, in order, numbered from 0, and which of it was delivered. Entries never go away.
 #[derive(Drop)]
 pub struct Wire {
-    entries: Vec<Entry>,
+    entries: Entries,
     delivered: Vec<bool>,
     // all entries before it were delivered
     low: usize,
 }
 
 impl Model for Wire {
-    ghost use Rattle.std.specs.Prelude.{map};
-    ghost use Rattle.world.specs.Wire.{item_of, WireState, IsWire};
+    ghost use Rattle.world.specs.Wire.{WireState, IsWire};
 
     ghost Value = { WireState };
 
-    ghost view = { λ w. record { items = map item_of w.entries.items; done = w.delivered.items } };
+    ghost view = { λ w. record { items = w.entries; done = w.delivered.items } };
 
-    ghost invariant = { λ w. IsWire (map item_of w.entries.items) w.delivered.items w.low };
+    ghost invariant = { λ w. IsWire w.entries w.delivered.items w.low };
 }
 
 impl Wire {
@@ -94,7 +43,7 @@ impl Wire {
         ensures { result ≡ no_wire }
     {
         Wire {
-            entries: Vec::new(alloc),
+            entries: Entries::new(alloc),
             delivered: Vec::new(alloc),
             low: 0,
         }
@@ -116,14 +65,21 @@ impl Wire {
         ensures marked { IfSome result (λ _. number < length self.now.done) }
         ensures short { IfSome result (λ e. length (bytes_of (item_lent e)) ≤ DATAGRAM_MAX) }
     {
-        lend(self.entries.as_slice(), number)
+        self.entries.get(number)
+    }
+
+    /// A copy of some bytes, in memory from where the wire takes its own.
+    pub fn copy_of(&self, bytes: &[u8]) -> Result<Octets, NoMemory>
+        ensures copied { IfOk result (λ copied. copied ≡ bytes.now) }
+    {
+        Octets::new(*self.delivered.allocator(), bytes)
     }
 
     /// Appends an entry.
-    fn push(&mut self, entry: Entry) -> Result<(), NoMemory>
+    fn push(&mut self, entry: WireEntry<'_>) -> Result<(), NoMemory>
         requires room { length self.old.items < ENTRIES_MAX }
-        requires short { length (bytes_of (item_of entry)) ≤ DATAGRAM_MAX }
-        ensures ok { OnOk result (self.new ≡ with_items self.old (item_of entry ∷ [])) }
+        requires short { length (bytes_of (item_lent entry)) ≤ DATAGRAM_MAX }
+        ensures ok { OnOk result (self.new ≡ with_items self.old (item_lent entry.entry ∷ [])) }
         ensures err { OnErr result (self.new ≡ self.old) }
     {
         self.delivered.push(false)?;
@@ -134,11 +90,11 @@ impl Wire {
         Ok(())
     }
 
-    /// Puts an entry on the wire, and its mark behind these: the one door, and the one test for room.
-    pub fn put(&mut self, entry: Entry, marks: &mut Marks) -> Result<(), Stop>
-        requires short { length (bytes_of (item_of entry)) ≤ DATAGRAM_MAX }
+    /// Puts a copy of an entry on the wire, and its mark behind these: the one door, and the one test for room.
+    pub fn put(&mut self, entry: WireEntry<'_>, marks: &mut Marks) -> Result<(), Stop>
+        requires short { length (bytes_of (item_lent entry)) ≤ DATAGRAM_MAX }
         requires few { length marks.old < MARKS_MAX }
-        ensures puts { Puts self.old self.new marks.old marks.new (sent (item_of entry) ∷ []) result }
+        ensures puts { Puts self.old self.new marks.old marks.new (sent (item_lent entry.entry) ∷ []) result }
         ensures err { OnErr result (self.new ≡ self.old) }
     {
         if self.entries.len() >= ENTRIES_MAX {
@@ -168,8 +124,8 @@ impl Wire {
         let len = bytes.len();
         match src {
             Ok(src) => {
-                let bytes = Octets::new(*self.entries.allocator(), bytes)?;
-                self.put(Entry::Udp { src, dst, bytes }, marks)
+                let entry = WireEntry::Udp { src, dst, bytes };
+                self.put(entry, marks)
             }
             Err(why) => {
                 marks.push(Mark::Lost { why, dst, len });
@@ -214,29 +170,4 @@ impl Wire {
         }
         None
     }
-}
-
-/// What an entry lends.
-fn lend_entry(entry: &Entry) -> WireEntry<'_>
-    ensures { item_lent result ≡ item_of entry.now }
-{
-    match entry {
-        Entry::Udp { src, dst, bytes } => WireEntry::Udp {
-            src: *src,
-            dst: *dst,
-            bytes: bytes.as_slice(),
-        },
-        Entry::Six { relay, bytes } => WireEntry::Six {
-            relay: *relay,
-            bytes: bytes.as_slice(),
-        },
-    }
-}
-
-/// Lends the entry at a place.
-fn lend(entries: &[Entry], number: usize) -> Option<WireEntry<'_>>
-    ensures { option_map item_lent result ≡ slice_get (map item_of entries.now) number }
-{
-    let entry = entries.get(number)?;
-    Some(lend_entry(entry))
 }

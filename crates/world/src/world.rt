@@ -17,7 +17,8 @@ ghost use Rattle.world.specs.Playing.{Plays, PlaysTurn, Turned, played, ended, t
 
 use crate::going::Going;
 use crate::record::{begin, blank, say};
-use crate::wire::{ENTRIES_MAX, Wire, WireEntry};
+use crate::wire::{ENTRIES_MAX, Wire};
+use crate::wire_entry::WireEntry;
 use events::{Event, Verb};
 use history::{Act, Record, Stop, Turn};
 use lab_nodes::Nodes;

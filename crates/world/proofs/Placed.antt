@@ -1,0 +1,63 @@
+-- What is kept of an entry stays what it is while further ones come behind it.
+use Rattle.std.proofs.Common.{◌≡◌, ◌≤◌, ◌+◌, ℕ, refl, List, [], ◌∷◌, ◌++◌, length, map, take, drop, sym, ◌∙◌, ap, subst, arith}
+use Rattle.std.specs.List.{AllByRecursion}
+use Rattle.std.proofs.lemmas.List.{take-append-le, drop-append-le, length-append, length-drop, map-append}
+use Rattle.std.proofs.Math.Seq.{drop-append_seam, take-length}
+use Rattle.td_base.specs.declared.span.Span.{Span}
+use Rattle.teredo_node.specs.Step.{part}
+use Rattle.history.specs.Full.{Item, udp, six, bytes_of}
+use Rattle.world.specs.declared.entries.Entry.{Entry}
+use Rattle.world.specs.declared.entries.Entry.TheVariants.{Udp, Six}
+use Rattle.world.specs.Entries.{item_at, IsInside, kept_entry}
+
+-- A PART OF SOME BYTES
+
+part-in_front : (xs ys : List ℕ) (s : Span) → s.at + s.len ≤ length xs → part (xs ++ ys) s ≡ part xs s
+part-in_front xs ys s fits =
+    let before : drop s.at (xs ++ ys) ≡ drop s.at xs ++ ys = drop-append-le s.at xs ys (omega (arith, fits)) in
+    let rest = length-drop s.at xs in
+    ap (take s.len) before ∙ take-append-le s.len (drop s.at xs) ys (omega (arith, fits, rest))
+
+part-behind : (xs ys : List ℕ) → part (xs ++ ys) (record { at = length xs; len = length ys }) ≡ ys
+part-behind xs ys = ap (take (length ys)) (drop-append_seam xs ys) ∙ take-length ys
+
+-- AN ENTRY
+
+pub item-in_front : (xs ys : List ℕ) (e : Entry) → IsInside (length xs) e → item_at (xs ++ ys) e ≡ item_at xs e
+item-in_front xs ys (Udp src dst span) inside = ap (udp src dst) (part-in_front xs ys span inside)
+item-in_front xs ys (Six relay span) inside = ap (six relay) (part-in_front xs ys span inside)
+
+pub item-kept_entry : (xs : List ℕ) (x : Item) → item_at (xs ++ bytes_of x) (kept_entry x (length xs)) ≡ x
+item-kept_entry xs (udp src dst bytes) = ap (udp src dst) (part-behind xs bytes)
+item-kept_entry xs (six relay bytes) = ap (six relay) (part-behind xs bytes)
+
+pub kept_entry-inside : (xs : List ℕ) (x : Item) → IsInside (length (xs ++ bytes_of x)) (kept_entry x (length xs))
+kept_entry-inside xs (udp src dst bytes) = subst (λ n. length xs + length bytes ≤ n) (sym (length-append xs bytes)) (omega arith)
+kept_entry-inside xs (six relay bytes) = subst (λ n. length xs + length bytes ≤ n) (sym (length-append xs bytes)) (omega arith)
+
+-- ALL OF THEM
+
+pub items-in_front : (xs ys : List ℕ) (es : List Entry) → AllByRecursion (IsInside (length xs)) es → map (item_at (xs ++ ys)) es ≡ map (item_at xs) es
+items-in_front xs ys [] all = refl
+items-in_front xs ys (e ∷ es) all = rw (item-in_front xs ys e all.0, items-in_front xs ys es all.1) refl
+
+pub inside-longer : (n m : ℕ) → n ≤ m → (es : List Entry) → AllByRecursion (IsInside n) es → AllByRecursion (IsInside m) es
+inside-longer n m longer [] all = tt
+inside-longer n m longer (e ∷ es) all = (omega (arith, longer, all.0), inside-longer n m longer es all.1)
+
+pub inside-and : (n : ℕ) (es : List Entry) (e : Entry) → AllByRecursion (IsInside n) es → IsInside n e → AllByRecursion (IsInside n) (es ++ e ∷ [])
+inside-and n [] e all inside = (inside, tt)
+inside-and n (x ∷ es) e all inside = (all.0, inside-and n es e all.1 inside)
+
+-- ONE MORE BEHIND THEM
+
+pub pushed : (all : List ℕ) (es : List Entry) (x : Item) → AllByRecursion (IsInside (length all)) es
+    → map (item_at (all ++ bytes_of x)) (es ++ kept_entry x (length all) ∷ []) ≡ map (item_at all) es ++ x ∷ []
+pushed all es x inside =
+    rw (map-append (item_at (all ++ bytes_of x)) es (kept_entry x (length all) ∷ []), items-in_front all (bytes_of x) es inside, item-kept_entry all x) refl
+
+pub pushed-inside : (all : List ℕ) (es : List Entry) (x : Item) → AllByRecursion (IsInside (length all)) es
+    → AllByRecursion (IsInside (length (all ++ bytes_of x))) (es ++ kept_entry x (length all) ∷ [])
+pushed-inside all es x inside =
+    let longer : length all ≤ length (all ++ bytes_of x) = subst (λ n. length all ≤ n) (sym (length-append all (bytes_of x))) (omega arith) in
+    inside-and (length (all ++ bytes_of x)) es (kept_entry x (length all)) (inside-longer (length all) (length (all ++ bytes_of x)) longer es inside) (kept_entry-inside all x)

@@ -1,0 +1,7 @@
+use Rattle.std.proofs.Common.{refl}
+use Rattle.std.proofs.lemmas.List.{take-map}
+use Rattle.world.specs.Entries.{item_at}
+use Rattle.world.proofs.entries.Entries.truncate.Goals as goal
+
+pub returns : goal.returns
+returns c = rw (← c.self.view_is, c.truncate.ensures.items, take-map (item_at c.self.inside.bytes.items) c.args.len c.self.inside.list.items) refl
