@@ -1,5 +1,5 @@
 -- The order of addresses by their bytes is that of their halves as numbers.
-use Rattle.std.proofs.Common.{◌≡◌, ℕ, zero, suc, ◌+◌, ◌*◌, ◌^◌, ◌<◌, ◌≤◌, List, [], ◌∷◌, length, drop, refl, sym, ap, ◌∙◌, arith, inl, inr, Ordering, Less, Equal, Greater}
+use Rattle.std.proofs.Common.{◌≡◌, ◌≢◌, ℕ, zero, suc, ◌+◌, ◌*◌, ◌^◌, ◌<◌, ◌≤◌, List, [], ◌∷◌, length, drop, refl, sym, ap, ◌∙◌, arith, inl, inr, Ordering, Less, Equal, Greater}
 use Rattle.std.specs.Ordering.{nat_cmp, ordering_then}
 use Rattle.std.specs.Cmp.{nat_cmp_is}
 use Rattle.std.specs.Cmp.Lexicographic.{slice_cmp}
@@ -22,6 +22,20 @@ same m n h = sym (nat_cmp_is m n Equal h)
 
 greater : (m n : ℕ) → n < m → nat_cmp m n ≡ Greater
 greater m n h = sym (nat_cmp_is m n Greater h)
+
+-- two numbers that differ decide, and others leave it to what comes behind
+pub decided : (m n : ℕ) (o : Ordering) → m ≢ n → nat_cmp m n ≡ ordering_then (nat_cmp m n) o
+decided m n o differ =
+    elim (cases_lt m n) [
+      | inl lt ↦ less m n lt ∙ sym (ap (λ p. ordering_then p o) (less m n lt))
+      | inr le ↦ elim (cases_lt n m) [
+        | inl gt ↦ greater m n gt ∙ sym (ap (λ p. ordering_then p o) (greater m n gt))
+        | inr ge ↦ absurd (differ (omega arith))
+      ]
+    ]
+
+pub undecided : (m n : ℕ) (o : Ordering) → m ≡ n → o ≡ ordering_then (nat_cmp m n) o
+undecided m n o one = sym (ap (λ p. ordering_then p o) (same m n one))
 
 -- of two numbers in places below p, the higher places decide
 below : (a b s t p : ℕ) → a < b → s < p → a * p + s < b * p + t
