@@ -1,5 +1,5 @@
 -- Where an entry goes, as a world finds it.
-use Rattle.std.specs.Prelude.{◌<◌, length, Some}
+use Rattle.std.specs.Prelude.{◌<◌, ℕ, length, Some}
 use Rattle.topology.specs.Rows.{TopologyState}
 use Rattle.topology.specs.Topology.{nodes}
 use Rattle.legal.specs.Emit as legal
@@ -11,6 +11,9 @@ abbrev pub by_route : TopologyState → Route → legal.Route
 by_route t (Reaches n) = reach t (Some n)
 by_route t (Closed n) = closed n
 by_route t Astray = astray
+
+abbrev pub reached : ℕ → Route
+reached n = Reaches n
 
 -- a node that is reached is one of the topology
 abbrev pub IsThere : TopologyState → Route → Type 0

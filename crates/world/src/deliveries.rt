@@ -37,7 +37,13 @@ impl<'a> World<'a> {
             say(out, act, None, Fate::NoEntry);
             return Ok(());
         };
-        match route_of(self.topology, &self.nats, self.moment, entry) {
+        match route_of(
+            self.topology,
+            &self.nats,
+            &mut self.guesses,
+            self.moment,
+            entry,
+        ) {
             Route::Astray => {
                 self.wire.set_delivered(place);
                 say(out, act, None, Fate::Nowhere);

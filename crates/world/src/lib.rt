@@ -27,7 +27,7 @@
 //! | `sender` | how what a node sends comes onto the wire | `specs/Emission.antt` |
 //! | `wire` | everything that was sent, and what of it was delivered; the door onto it | `specs/Wire.antt` |
 //! | `entries`, `wire_entry` | what is kept of what was sent; what is lent of it | `specs/Entries.antt`, `WireEntry.antt` |
-//! | `route` | where an entry goes | `specs/Route.antt` |
+//! | `route`, `guesses` | where an entry goes; where such ones went lately | `specs/Route.antt` |
 //! | `record` | what is said of a step | `specs/Record.antt` |
 //! | `laws` | what holds of the numbers | `specs/Numbers.antt` |
 #![tactic(auto)]
@@ -38,6 +38,7 @@ mod datagrams;
 mod deliveries;
 mod entries;
 mod going;
+mod guesses;
 mod laws;
 mod packets;
 mod prompt;

@@ -1,5 +1,7 @@
 //! Where an entry of the wire goes.
-ghost use Rattle.std.specs.Prelude.{◌≡◌, ◌≤◌, ℕ, true, List, [], Some};
+ghost use Rattle.std.specs.Prelude.{◌≡◌, ◌≤◌, ℕ, true, List, [], Some, None};
+ghost use Rattle.ipv6_packet.specs.Reads.{is_packet, fields_in};
+ghost use Rattle.topology.specs.declared.node.Node.TheVariants.{Nat as nat};
 ghost use Rattle.topology.specs.Named.{is_nat};
 ghost use Rattle.topology.specs.Topology.{node_at};
 ghost use Rattle.topology.specs.Chains.{Behind};
@@ -7,14 +9,16 @@ ghost use Rattle.td_chain.specs.Chains.{inward_of};
 ghost use Rattle.history.specs.Full.{Full, udp, six};
 ghost use Rattle.legal.specs.Lab.{Draws, lab_on};
 ghost use Rattle.legal.specs.Emit.{reach, route_in, from_outside, route};
+ghost use Rattle.legal.specs.Routes.{IsLetIn};
 ghost use Rattle.world.specs.Emission.{AreNatsWith};
 ghost use Rattle.world.specs.WireEntry.{item_lent};
-ghost use Rattle.world.specs.Route.{by_route, IsThere};
+ghost use Rattle.world.specs.Route.{by_route, reached, IsThere};
 
+use crate::guesses::Guesses;
 use crate::wire_entry::WireEntry;
-use td_base::{Ep, Millis};
+use td_base::{Ep, Ip6, Millis};
 use td_chain::{Chains, Way};
-use topology::{Node, Topology};
+use topology::{ClientNode, NatNode, Node, Topology};
 
 /// Where an entry goes: to a node, to a NAT that lets it in to nobody, or to nobody at all. Nodes stand by their
 /// numbers.
@@ -90,7 +94,7 @@ fn route_at(topology: &Topology, nats: &Chains<'_>, at: u16, now: Millis, src: E
     }
 }
 
-/// The route of a datagram.
+/// The route of a datagram, searched for.
 fn datagram_route(topology: &Topology, nats: &Chains<'_>, now: Millis, src: Ep, dst: Ep) -> Route
     requires same { nats.now.topology ≡ topology.now }
     requires clock { nats.now.moment ≤ now.0 }
@@ -104,8 +108,134 @@ fn datagram_route(topology: &Topology, nats: &Chains<'_>, now: Millis, src: Ep, 
     }
 }
 
+/// Whether a datagram goes to the address of a client's NAT, which is behind no other one, and is let in to the client.
+fn lets_in(
+    nats: &Chains<'_>,
+    row: NatNode,
+    client: ClientNode,
+    now: Millis,
+    src: Ep,
+    dst: Ep,
+) -> bool
+    requires there { node_at nats.now.topology client.nat ≡ Some (nat row) }
+    requires clock { nats.now.moment ≤ now.0 }
+    ensures { result ≡ true → (d : Draws) (H : List Full) → AreNatsWith (lab_on d nats.now.topology nats.now.chain) H [] nats.now
+        → IsLetIn (lab_on d nats.now.topology nats.now.chain) H now.0 src dst client }
+{
+    if dst.ip != row.external {
+        return false;
+    }
+    if nats.is_inner(client.nat) {
+        return false;
+    }
+    match nats.inward(now, client.nat, src, dst.port) {
+        Way::Closed { .. } => false,
+        Way::In { nat, inside } => {
+            if nat != client.nat {
+                return false;
+            }
+            inside == client.inside
+        }
+    }
+}
+
+/// Whether a datagram goes to the client of a number, through one NAT.
+fn goes_to_client(
+    topology: &Topology,
+    nats: &Chains<'_>,
+    now: Millis,
+    src: Ep,
+    dst: Ep,
+    number: u16,
+) -> bool
+    requires same { nats.now.topology ≡ topology.now }
+    requires clock { nats.now.moment ≤ now.0 }
+    ensures there { result ≡ true → IsThere topology.now (reached number) }
+    ensures route { result ≡ true → (d : Draws) (H : List Full) → AreNatsWith (lab_on d topology.now nats.now.chain) H [] nats.now → (bytes : List ℕ)
+        → by_route topology.now (reached number) ≡ route (lab_on d topology.now nats.now.chain) H now.0 (udp src dst bytes) }
+{
+    legal::is_reached();
+    let _rules = topology.clients();
+    let Some(node) = topology.node(usize::from(number)) else {
+        return false;
+    };
+    let Node::Client(client) = node else {
+        return false;
+    };
+    let Some(before) = topology.node(usize::from(client.nat)) else {
+        return false;
+    };
+    let Node::Nat(row) = before else {
+        return false;
+    };
+    lets_in(nats, row, client, now, src, dst)
+}
+
+/// The route of a datagram. The client that got the last one to its address is looked at first.
+fn route_of_datagram(
+    topology: &Topology,
+    nats: &Chains<'_>,
+    guesses: &mut Guesses,
+    now: Millis,
+    src: Ep,
+    dst: Ep,
+) -> Route
+    requires same { nats.now.topology ≡ topology.now }
+    requires clock { nats.now.moment ≤ now.0 }
+    ensures there { IsThere topology.now result }
+    ensures route { (d : Draws) (H : List Full) → AreNatsWith (lab_on d topology.now nats.now.chain) H [] nats.now → (bytes : List ℕ)
+        → by_route topology.now result ≡ route (lab_on d topology.now nats.now.chain) H now.0 (udp src dst bytes) }
+{
+    let node = guesses.outside(dst.ip);
+    if goes_to_client(topology, nats, now, src, dst, node) {
+        return Route::Reaches { node };
+    }
+    let route = datagram_route(topology, nats, now, src, dst);
+    guesses.note_outside(dst.ip, route);
+    route
+}
+
+/// Whether the node of a number is a native host with this address.
+fn is_native(topology: &Topology, number: u16, ip: Ip6) -> bool
+    ensures there { result ≡ true → IsThere topology.now (reached number) }
+    ensures route { result ≡ true → (d : Draws) (chain : List Behind) (H : List Full) (m : ℕ) (bytes : List ℕ)
+        → is_packet bytes ≡ true → (fields_in bytes).dst ≡ ip
+        → by_route topology.now (reached number) ≡ route (lab_on d topology.now chain) H m (six None bytes) }
+{
+    legal::is_reached();
+    let _rules = topology.clients();
+    let Some(node) = topology.node(usize::from(number)) else {
+        return false;
+    };
+    let Node::Native(row) = node else {
+        return false;
+    };
+    ip == row.six
+}
+
+/// The route of a packet for a native host with this address. The one that got the last packet to it is looked at first.
+fn route_to_native(topology: &Topology, guesses: &mut Guesses, ip: Ip6) -> Route
+    ensures there { IsThere topology.now result }
+    ensures route { (d : Draws) (chain : List Behind) (H : List Full) (m : ℕ) (bytes : List ℕ)
+        → is_packet bytes ≡ true → (fields_in bytes).dst ≡ ip
+        → by_route topology.now result ≡ route (lab_on d topology.now chain) H m (six None bytes) }
+{
+    let node = guesses.six(ip);
+    if is_native(topology, node, ip) {
+        return Route::Reaches { node };
+    }
+    let route = route_to(topology, topology.native_with(ip));
+    guesses.note_six(ip, route);
+    route
+}
+
 /// The route of an IPv6 packet: to its relay, or to the native host with its destination.
-fn packet_route(topology: &Topology, relay: Option<u16>, bytes: &[u8]) -> Route
+fn packet_route(
+    topology: &Topology,
+    guesses: &mut Guesses,
+    relay: Option<u16>,
+    bytes: &[u8],
+) -> Route
     ensures there { IsThere topology.now result }
     ensures route { (d : Draws) (chain : List Behind) (H : List Full) (m : ℕ)
         → by_route topology.now result ≡ route (lab_on d topology.now chain) H m (six relay bytes.now) }
@@ -114,13 +244,19 @@ fn packet_route(topology: &Topology, relay: Option<u16>, bytes: &[u8]) -> Route
         return route_to(topology, Some(relay));
     }
     match ipv6_packet::read(bytes) {
-        Ok(packet) => route_to(topology, topology.native_with(packet.dst)),
+        Ok(packet) => route_to_native(topology, guesses, packet.dst),
         Err(_) => Route::Astray,
     }
 }
 
 /// The route of an entry that is delivered now.
-pub fn route_of(topology: &Topology, nats: &Chains<'_>, now: Millis, entry: WireEntry) -> Route
+pub fn route_of(
+    topology: &Topology,
+    nats: &Chains<'_>,
+    guesses: &mut Guesses,
+    now: Millis,
+    entry: WireEntry,
+) -> Route
     requires same { nats.now.topology ≡ topology.now }
     requires clock { nats.now.moment ≤ now.0 }
     ensures there { IsThere topology.now result }
@@ -128,7 +264,9 @@ pub fn route_of(topology: &Topology, nats: &Chains<'_>, now: Millis, entry: Wire
         → by_route topology.now result ≡ route (lab_on d topology.now nats.now.chain) H now.0 (item_lent entry.entry) }
 {
     match entry {
-        WireEntry::Udp { src, dst, .. } => datagram_route(topology, nats, now, src, dst),
-        WireEntry::Six { relay, bytes } => packet_route(topology, relay, bytes),
+        WireEntry::Udp { src, dst, .. } => route_of_datagram(
+            topology, nats, guesses, now, src, dst,
+        ),
+        WireEntry::Six { relay, bytes } => packet_route(topology, guesses, relay, bytes),
     }
 }

@@ -16,6 +16,7 @@ ghost use Rattle.world.specs.Record.{fresh_record};
 ghost use Rattle.world.specs.Playing.{Plays, PlaysTurn, Turned, played, ended, turn_from};
 
 use crate::going::Going;
+use crate::guesses::Guesses;
 use crate::record::{begin, blank, say};
 use crate::wire::{ENTRIES_MAX, Wire};
 use crate::wire_entry::WireEntry;
@@ -42,6 +43,8 @@ pub struct World<'a> {
     // the number of the send that fails in the next record with sends
     pub(crate) armed: Option<u8>,
     pub(crate) stopped: Option<Stop>,
+    // where entries went lately, so that a search needn't begin with the first node
+    pub(crate) guesses: Guesses,
     // what the node does that is being asked
     pub(crate) step: Step,
 }
@@ -85,6 +88,7 @@ impl<'a> World<'a> {
             going: None,
             armed: None,
             stopped: None,
+            guesses: Guesses::new(),
             step: Step::new(),
         })
     }

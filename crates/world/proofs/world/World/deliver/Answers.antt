@@ -1,7 +1,7 @@
 use Rattle.std.proofs.Common.{◌≡◌, ◌<◌, length, List, [], Some, None, Ok, sym, ap, subst, ◌∙◌}
 use Rattle.std.specs.Prelude.{slice_get, option_map}
 use Rattle.teredo_node.specs.declared.fate.Fate.TheVariants as fate
-use Rattle.topology.specs.Topology.{nodes, node_at}
+use Rattle.topology.specs.Topology.{nodes}
 use Rattle.events.specs.declared.event.Event.{Event}
 use Rattle.history.specs.declared.act.Act.TheVariants as act
 use Rattle.history.specs.Full.{Full}
@@ -14,7 +14,7 @@ use Rattle.world.specs.WireEntry.{item_lent}
 use Rattle.world.specs.Route.{by_route, IsThere}
 use Rattle.world.proofs.Routes.{there_at, within_as}
 use Rattle.world.specs.Record.{fresh_record, with_deed}
-use Rattle.world.specs.World.{WorldState, StandsFor, state_of, lab_in}
+use Rattle.world.specs.World.{WorldState, StandsFor, state_of}
 use Rattle.world.specs.Playing.{Plays, played}
 use Rattle.world.proofs.Answered as answered
 use Rattle.world.proofs.Answered.{Delivery, IsDelivery, record_in}
@@ -47,26 +47,19 @@ returns-in-Closed-clause-plays c =
     subst (λ (z : WireState). Plays d old (state_of w.topology.now w.nats w.moment.0 w.going w.armed w.nodes z w.stopped) H (record_in (x d H e)) (Ok (with_deed (fresh_record c.args.out.now.event w.moment.0) (act.Deliver c.args.number) (Some c.in-Closed.nat) fate.NatClosed))) (sym c.set_delivered-in-Closed.ensures) (answered.shut_out c.frame.ensures (x d H e) c.in-Closed.nat (is d H e s keeps mild) goes))
 
 pub returns-in-Reaches-clause-plays : goal.returns-in-Reaches-clause-plays
-returns-in-Reaches-clause-plays c = λ d H s e keeps mild.
+returns-in-Reaches-clause-plays c =
     let w = c.self.inside in
-    let same = c.self.view_is in
+    let old = state_of w.topology.now w.nats w.moment.0 w.going w.armed w.nodes w.wire w.stopped in
     let item = item_lent c.in-Some.entry in
     let there : slice_get w.wire.items c.args.number ≡ Some item = sym c.get.ensures.lent ∙ ap (λ o. option_map item_lent o) c.in-Some.is in
-    let x : Delivery = record { draws = d; world = c.args.self.now; history = H; event = numbered c.args.out.now.event e; number = c.args.number; item = item } in
-    let is : IsDelivery x = record {
-      stands = s;
-      there = subst (λ (z : WorldState). slice_get z.wire c.args.number ≡ Some item) same there;
-      within = subst (λ (z : WorldState). c.args.number < length z.done) same c.in-Some.ensures.marked;
-      keeps = keeps;
-      mild = mild;
-    } in
-    let before : StandsFor d (state_of w.topology.now w.nats w.moment.0 w.going w.armed w.nodes w.wire w.stopped) H = subst (λ (z : WorldState). StandsFor d z H) (sym same) s in
     let here = there_at w.topology.now c.in-Reaches.node (subst (IsThere w.topology.now) c.in-Reaches.is c.route_of.ensures.there) in
+    rw (← c.self.view_is) (λ d H s e keeps mild.
+    let x : Delivery = record { draws = d; world = old; history = H; event = numbered c.args.out.now.event e; number = c.args.number; item = item } in
+    let is : IsDelivery x = record { stands = s; there = there; within = c.in-Some.ensures.marked; keeps = keeps; mild = mild } in
     let goes : route (lab_on d w.topology.now w.nats.chain) H w.moment.0 item ≡ reaches c.in-Reaches.node here.0 =
-    sym (c.route_of.ensures.route d H before.nats) ∙ ap (by_route w.topology.now) c.in-Reaches.is ∙ ap (reach_node c.in-Reaches.node) here.1 in
-    answered.taken x c.act.new.self (played c.act.result c.act.new.out) c.in-Reaches.node here.0 is
-    (subst (λ (z : WorldState). route (lab_in d z) H z.moment item ≡ reaches c.in-Reaches.node here.0) same goes)
-    (c.act.ensures.plays d H (record { nodes = s.nodes; nats = s.nats; wire = s.wire; armed = s.armed }) e keeps mild here.0 (subst (λ (z : WorldState). node_at z.topology c.in-Reaches.node ≡ Some here.0) same here.1))
+    sym (c.route_of.ensures.route d H s.nats) ∙ ap (by_route w.topology.now) c.in-Reaches.is ∙ ap (reach_node c.in-Reaches.node) here.1 in
+    answered.taken x c.act.new.self (played c.act.result c.act.new.out) c.in-Reaches.node here.0 is goes
+    (c.act.ensures.plays d H (record { nodes = s.nodes; nats = s.nats; wire = s.wire; armed = s.armed }) e keeps mild here.0 here.1))
 
 pub returns-in_default-clause-plays : goal.returns-in_default-clause-plays
 returns-in_default-clause-plays c =
@@ -80,4 +73,4 @@ pub act-requires-clause-within : goal.act-requires-clause-within
 act-requires-clause-within c =
     let w = c.self.inside in
     let there : c.in-Reaches.node < length (nodes w.topology.now) = subst (IsThere w.topology.now) c.in-Reaches.is c.route_of.ensures.there in
-    subst (λ (x : WorldState). c.in-Reaches.node < length x.nodes) c.self.view_is (within_as w.topology.now w.nodes c.in-Reaches.node c.self.invariant.rows there)
+    within_as w.topology.now w.nodes c.in-Reaches.node c.self.invariant.rows there
