@@ -1,24 +1,24 @@
 -- Until when nodes are quiet, and what follows for the tick that is due first.
-use Rattle.std.proofs.Common.{◌≡◌, ◌≤◌, ◌<◌, ℕ, suc, ◌+◌, List, [], ◌∷◌, ◌++◌, length, map, set, Option, Some, None, refl, sym, ap, subst, ◌∙◌, arith, inl, inr}
-use Rattle.std.specs.Prelude.{slice_get, option_map, is_some}
-use Rattle.std.proofs.lemmas.Bool.{false≢true, cases_eq, le-ltb}
+use Rattle.std.proofs.Common.{◌≡◌, ◌≤◌, ◌<◌, ℕ, suc, ◌+◌, Bool, true, false, List, [], ◌∷◌, ◌++◌, length, map, set, Option, Some, None, refl, sym, ap, subst, ◌∙◌, arith, inl, inr}
+use Rattle.std.specs.Prelude.{slice_get, get_or, option_map, is_some, nat_lt, if◌then◌else◌}
+use Rattle.std.proofs.lemmas.Bool.{false≢true, cases_eq, cases_lt, le-ltb}
 use Rattle.std.proofs.lemmas.List.{length-map, length-set}
-use Rattle.std.proofs.lemmas.Option.{slice_get_within}
+use Rattle.std.proofs.lemmas.Option.{slice_get_within, slice_get-get_or}
 use Rattle.td_base.specs.declared.millis.Millis.{Millis}
+use Rattle.peer_list.specs.Overdue.{IsNoSooner}
 use Rattle.topology.specs.declared.node.Node.{Node}
+use Rattle.topology.specs.Topology.{nodes}
 use Rattle.history.specs.Full.{Full}
 use Rattle.legal.specs.Lab.{Lab}
+use Rattle.legal.specs.Past.{now}
 use Rattle.legal.specs.Emit.{tick_due}
-use Rattle.legal.specs.Next.{DueNode, earlier}
+use Rattle.legal.specs.Next.{DueNode, earlier, least_due}
 use Rattle.lab_nodes.specs.declared.played_node.PlayedNode.{PlayedNode}
 use Rattle.lab_nodes.specs.declared.due.Due.{Due as Found}
-use Rattle.lab_nodes.specs.PlayedNode.{row_of}
+use Rattle.lab_nodes.specs.PlayedNode.{row_of, past_of, IsKept, NodesOf, IsReady, AreReady}
 use Rattle.lab_nodes.specs.Changes.{ChangesAt}
-use Rattle.lab_nodes.specs.Due.{due_as, tick_moment, tick_of, IsQuietUntil, IsQuietNode, AreQuiet, AreQuietBut}
-use Rattle.lab_nodes.proofs.NodeLists.{some_inj, front_or_last, set_there, set_elsewhere}
-
-abbrev bound_of : Option Millis → Option ℕ
-bound_of quiet = option_map (λ (at : Millis). at.0) quiet
+use Rattle.lab_nodes.specs.Due.{due_as, tick_moment, tick_of, NoneIsDue, IsQuietUntil, bound_of, IsQuietNode, AreQuiet, AreQuietBut, NoneIsSooner, AreQuietWith}
+use Rattle.lab_nodes.proofs.NodeLists.{some_inj, front_or_last, set_there, set_elsewhere, ready_at}
 
 -- THE BOUNDS
 
@@ -86,3 +86,97 @@ not_first (Some a) (Some x) at one is late quiet =
     let same : one.moment.0 ≡ a.moment = ap (λ (d : Found). d.moment.0) (some_inj one (due_as a) is) in
     let behind : at.0 ≤ x.moment = quiet at.0 (omega arith) in
     rw (le-ltb x.moment a.moment (omega (arith, same, late, behind))) refl
+
+-- THE LEAST BOUND
+
+-- this holds of the first so many bounds: none of them is sooner
+abbrev pub NoneSoonerSo : Option Millis → List (Option Millis) → ℕ → Type 0
+NoneSoonerSo soonest quiet k = (n : ℕ) (q : Option Millis) → n < k → slice_get quiet n ≡ Some q → IsQuietUntil (bound_of soonest) (bound_of q)
+
+-- and with the next one, where the bound so far is no later
+pub one_more_bound : (old new : Option Millis) (quiet : List (Option Millis)) (k : ℕ) (until : Option Millis) → NoneSoonerSo old quiet k → slice_get quiet k ≡ Some until
+    → IsQuietUntil (bound_of new) (bound_of old) × IsQuietUntil (bound_of new) (bound_of until) → NoneSoonerSo new quiet (k + 1)
+one_more_bound old new quiet k until so here both = λ n q within at. elim (cases_lt n k) [
+  | inl before ↦ λ m late. so n q before at m (both.0 m late)
+  | inr behind ↦
+      let last : n ≡ k = omega (arith, within, behind) in
+      let bound : until ≡ q = some_inj until q (sym here ∙ ap (slice_get quiet) (sym last) ∙ at) in
+      subst (λ (x : Option Millis). IsQuietUntil (bound_of new) (bound_of x)) bound both.1
+]
+
+pub no_bound_sooner : (soonest : Option Millis) (quiet : List (Option Millis)) (k : ℕ) → NoneSoonerSo soonest quiet k → length quiet ≤ k → NoneIsSooner soonest quiet
+no_bound_sooner soonest quiet k so all = λ n q at.
+    let within = slice_get_within quiet n q at in
+    so n q (omega (arith, within, all)) at
+
+-- where one bound changes
+pub still_sooner : (old new : Option Millis) (quiet : List (Option Millis)) (n : ℕ) (q : Option Millis) → NoneIsSooner old quiet → n < length quiet
+    → IsQuietUntil (bound_of new) (bound_of old) × IsQuietUntil (bound_of new) (bound_of q) → NoneIsSooner new (set quiet n q)
+still_sooner old new quiet n q none within both = λ k x at. elim (cases_eq k n) [
+  | inl e ↦
+      let bound : q ≡ x = some_inj q x (sym (set_there quiet n q within) ∙ ap (slice_get (set quiet n q)) (sym e) ∙ at) in
+      subst (λ (y : Option Millis). IsQuietUntil (bound_of new) (bound_of y)) bound both.1
+  | inr apart ↦ λ m late. none k x (sym (set_elsewhere quiet n k q apart) ∙ at) m (both.0 m late)
+]
+
+-- WHAT ISN'T DUE YET
+
+-- no tick of any node is due before m
+abbrev pub NoneBefore : ℕ → List PlayedNode → Type 0
+NoneBefore m list = (lab : Lab) (H : List Full) (n k : ℕ) (p : PlayedNode) → slice_get list n ≡ Some p → IsReady k p → IsKept lab.topology n (past_of lab n H) p
+    → IsNoSooner m (tick_due lab H k n (row_of p))
+
+pub none_before_soonest : (m : ℕ) (soonest : Option Millis) (list : List PlayedNode) (quiet : List (Option Millis)) → AreQuietWith soonest list quiet → IsNoSooner m (bound_of soonest)
+    → NoneBefore m list
+none_before_soonest m soonest list quiet are late = λ lab H n k p at ready kept.
+    let within = slice_get_within list n p at in
+    let there = slice_get-get_or quiet n None (omega (arith, within, are.each.same)) in
+    are.each.each n p (get_or quiet n None) at there lab H n k ready kept m (are.none n (get_or quiet n None) there m late)
+
+neither_before : (m : ℕ) (a b : Option DueNode) → IsNoSooner m (option_map tick_moment a) → IsNoSooner m (option_map tick_moment b) → IsNoSooner m (option_map tick_moment (earlier a b))
+neither_before m None b x y = y
+neither_before m (Some a) None x y = x
+neither_before m (Some a) (Some b) x y = by (nat_lt b.moment a.moment) where
+  by : (t : Bool) → IsNoSooner m (option_map tick_moment (if t then Some b else Some a))
+  by true = y
+  by false = x
+
+-- this holds of the tick of each node, counted from n on
+abbrev EachBefore : Lab → List Full → ℕ → ℕ → List PlayedNode → Type 0
+EachBefore lab H m n list = (k : ℕ) (p : PlayedNode) → slice_get list k ≡ Some p → IsNoSooner m (tick_due lab H (now H) (n + k) (row_of p))
+
+least_not_before : (lab : Lab) (H : List Full) (m n : ℕ) (list : List PlayedNode) → EachBefore lab H m n list → IsNoSooner m (option_map tick_moment (least_due lab H n (map row_of list)))
+least_not_before lab H m n [] each = tt
+least_not_before lab H m n (p ∷ rest) each =
+    let here : n + 0 ≡ n = omega arith in
+    let further : (k : ℕ) → n + suc k ≡ n + 1 + k = λ (k : ℕ). omega arith in
+    let first : IsNoSooner m (tick_due lab H (now H) n (row_of p)) = subst (λ (j : ℕ). IsNoSooner m (tick_due lab H (now H) j (row_of p))) here (each 0 p refl) in
+    neither_before m (tick_of lab H (now H) n (row_of p)) (least_due lab H (n + 1) (map row_of rest))
+    (subst (IsNoSooner m) (sym (moments_of lab H (now H) n (row_of p))) first)
+    (least_not_before lab H m (n + 1) rest (λ k q at. subst (λ (j : ℕ). IsNoSooner m (tick_due lab H (now H) j (row_of q))) (further k) (each (suc k) q at)))
+
+is_past : (end : ℕ) (x : Option DueNode) → IsNoSooner (end + 1) (option_map tick_moment x) → NoneIsDue end x
+is_past end None late = tt
+is_past end (Some x) late = omega (arith, late)
+
+pub none_due : (lab : Lab) (H : List Full) (end : ℕ) (list : List PlayedNode) → NoneBefore (end + 1) list → AreReady (now H) list → NodesOf lab list H
+    → NoneIsDue end (least_due lab H 0 (nodes lab.topology))
+none_due lab H end list before ready of =
+    let same : (k : ℕ) → k ≡ 0 + k = λ (k : ℕ). omega arith in
+    let each : EachBefore lab H (end + 1) 0 list = λ k p at.
+    subst (λ (j : ℕ). IsNoSooner (end + 1) (tick_due lab H (now H) j (row_of p))) (same k)
+    (before lab H k (now H) p at (ready_at (now H) list k p ready at) (of.each k p at)) in
+    subst (λ (rows : List Node). NoneIsDue end (least_due lab H 0 rows)) of.rows
+    (is_past end (least_due lab H 0 (map row_of list)) (least_not_before lab H (end + 1) 0 list each))
+
+-- what was found is due later
+pub later_than : (end : ℕ) (o : Option Found) (x : Found) (f : Option DueNode) → o ≡ Some x → end < x.moment.0 → o ≡ option_map due_as f → NoneIsDue end f
+later_than end o x None is later e = tt
+later_than end o x (Some f) is later e =
+    let same : x.moment.0 ≡ f.moment = ap (λ (d : Found). d.moment.0) (some_inj x (due_as f) (sym is ∙ e)) in
+    omega (arith, same, later)
+
+-- or nothing was
+pub nothing_found : (end : ℕ) (o : Option Found) (f : Option DueNode) → o ≡ None → o ≡ option_map due_as f → NoneIsDue end f
+nothing_found end o None is e = tt
+nothing_found end o (Some f) is e = absurd (false≢true (ap (λ (x : Option Found). is_some x) (sym is ∙ e)))

@@ -1,5 +1,5 @@
 //! Which tick is due first.
-ghost use Rattle.std.specs.Prelude.{◌≡◌, ◌≤◌, ◌<◌, ◌+◌, ℕ, false, if◌then◌else◌, List, length, Option, Some, None, option_map, IfSome};
+ghost use Rattle.std.specs.Prelude.{◌≡◌, ◌≤◌, ◌<◌, ◌+◌, ℕ, false, if◌then◌else◌, List, length, Option, Some, None, option_map, IfSome, IfNone};
 ghost use Rattle.td_base.specs.declared.millis.TheConstants.{CLOCK_END_MS};
 ghost use Rattle.topology.specs.declared.topology.TheConstants.{NODES_MAX};
 ghost use Rattle.topology.specs.Topology as all;
@@ -8,7 +8,7 @@ ghost use Rattle.legal.specs.Lab.{Lab};
 ghost use Rattle.legal.specs.Past.{now};
 ghost use Rattle.legal.specs.Next as next;
 ghost use Rattle.lab_nodes.specs.PlayedNode.{row_of, past_of, IsKept, AreOf, NodesOf, IsReady, AreReady};
-ghost use Rattle.lab_nodes.specs.Due.{due_as, tick_moment, tick_of, IsQuietUntil, AreQuiet};
+ghost use Rattle.lab_nodes.specs.Due.{due_as, tick_moment, tick_of, NoneIsDue, IsQuietUntil, bound_of, AreQuiet};
 
 use crate::played_node::PlayedNode;
 use td_base::Millis;
@@ -24,7 +24,7 @@ pub struct Due {
 /// Whether a tick of a node may be due before the first one so far, where none of it is due until a moment, or none at
 /// all. It may say that one is where none is.
 fn may_come_first(first: &Option<Due>, quiet: Option<Millis>) -> bool
-    ensures { result ≡ false → (f x : Option next.DueNode) → first.now ≡ option_map due_as f → IsQuietUntil (option_map (λ at. at.0) quiet) (option_map tick_moment x)
+    ensures { result ≡ false → (f x : Option next.DueNode) → first.now ≡ option_map due_as f → IsQuietUntil (bound_of quiet) (option_map tick_moment x)
         → next.earlier f x ≡ f }
 {
     let Some(at) = quiet else {
@@ -110,4 +110,20 @@ pub fn first_due(
         number += 1;
     }
     first
+}
+
+/// The tick that is due first, where it is due by a moment.
+pub fn by(first: Option<Due>, end: Millis) -> Option<Due>
+    ensures within { (k : ℕ) → IfSome first (λ x. x.node < k) → IfSome result (λ x. x.node < k) }
+    ensures early { IfSome result (λ x. x.moment.0 ≤ end.0) }
+    ensures due { (f : Option next.DueNode) → first ≡ option_map due_as f → IfSome result (λ x. Some x ≡ option_map due_as f) }
+    ensures none { (f : Option next.DueNode) → first ≡ option_map due_as f → IfNone result (NoneIsDue end.0 f) }
+{
+    let Some(one) = first else {
+        return None;
+    };
+    if end.0 < one.moment.0 {
+        return None;
+    }
+    Some(one)
 }

@@ -9,8 +9,8 @@
 //!   the entry sends something, or may keep something (`specs/Answers.antt`, `Memory.antt`).
 //! - A node that starts anew stands for its past with that. In each call one node changes, and keeps its row
 //!   (`specs/Changes.antt`).
-//! - The tick that is found is the one that is due first (`specs/Due.antt`); what a host sends has exactly the bytes of its
-//!   packet.
+//! - The tick that is found is the one that is due first, and where none is found none is due by the moment that was given
+//!   (`specs/Due.antt`); what a host sends has exactly the bytes of its packet.
 //! - All due moments of the nodes, and all packets that wait in them, can be read off what is kept of them
 //!   (`specs/DueMoments.antt`, `Waits.antt`).
 //!

@@ -1,7 +1,8 @@
 //! The nodes of a scenario, by their numbers.
-ghost use Rattle.std.specs.Prelude.{◌≡◌, ◌≤◌, ◌<◌, ◌+◌, ℕ, [], List, length, option_map, IfOk, IfSome};
+ghost use Rattle.std.specs.Prelude.{◌≡◌, ◌≤◌, ◌<◌, ◌+◌, ℕ, true, [], List, length, Some, option_map, IfOk, IfSome, IfNone};
 ghost use Rattle.td_base.specs.declared.datagram.TheConstants.{DATAGRAM_MAX};
 ghost use Rattle.td_base.specs.declared.millis.TheConstants.{CLOCK_END_MS};
+ghost use Rattle.peer_list.specs.Overdue.{IsNoSooner};
 ghost use Rattle.topology.specs.declared.topology.TheConstants.{NODES_MAX};
 ghost use Rattle.topology.specs.Chains.{Behind};
 ghost use Rattle.topology.specs.Topology as all;
@@ -13,7 +14,7 @@ ghost use Rattle.lab_nodes.specs.Call.{input_lent, IsShortInput};
 ghost use Rattle.lab_nodes.specs.PlayedNode.{AreOf, NodesOf, AreReady};
 ghost use Rattle.lab_nodes.specs.Changes.{Restarts, ChangesAt};
 ghost use Rattle.lab_nodes.specs.Answers.{AnswersOrWants};
-ghost use Rattle.lab_nodes.specs.Due.{due_as, AreQuiet, AreQuietBut};
+ghost use Rattle.lab_nodes.specs.Due.{due_as, NoneIsDue, IsQuietUntil, bound_of, AreQuiet, AreQuietBut, NoneIsSooner, AreQuietWith};
 
 use crate::asked::Asked;
 use crate::call::Call;
@@ -33,24 +34,26 @@ pub struct Nodes {
     list: Vec<PlayedNode>,
     // until when no tick of a node is due, so that a search for the first needn't look at each of them
     quiet: Vec<Option<Millis>>,
+    // until when no tick of any node is due: the least of `quiet` or sooner, so that most often no search is needed
+    soonest: Option<Millis>,
 }
 
 // No clause sees a field that nothing reads: so they are their parts, and no byte more.
 const _: () = prove_eq!(
     size_of::<Nodes>(),
-    size_of::<(Vec<PlayedNode>, Vec<Option<Millis>>)>()
+    size_of::<(Vec<PlayedNode>, Vec<Option<Millis>>, Option<Millis>)>()
 );
 
 impl Model for Nodes {
     ghost use Rattle.std.specs.Prelude.{List};
     ghost use Rattle.lab_nodes.specs.declared.played_node.PlayedNode.{PlayedNode};
-    ghost use Rattle.lab_nodes.specs.Due.{AreQuiet};
+    ghost use Rattle.lab_nodes.specs.Due.{AreQuietWith};
 
     ghost Value = { List PlayedNode };
 
     ghost view = { λ nodes. nodes.list.items };
 
-    ghost invariant = { λ nodes. AreQuiet nodes.list.items nodes.quiet.items };
+    ghost invariant = { λ nodes. AreQuietWith nodes.soonest nodes.list.items nodes.quiet.items };
 }
 
 /// Until when no tick of each node is due.
@@ -64,14 +67,56 @@ fn quiet_of(alloc: Global, nodes: &[PlayedNode]) -> Result<Vec<Option<Millis>>, 
     Ok(quiet)
 }
 
-/// Looks anew until when no tick of the node of a number is due.
-fn look_again(quiet: &mut [Option<Millis>], nodes: &[PlayedNode], number: u16)
+/// The sooner of two bounds: `None` is later than any moment.
+fn sooner(a: Option<Millis>, b: Option<Millis>) -> Option<Millis>
+    ensures { IsQuietUntil (bound_of result) (bound_of a) × IsQuietUntil (bound_of result) (bound_of b) }
+{
+    let Some(one) = a else {
+        return b;
+    };
+    let Some(other) = b else {
+        return a;
+    };
+    if other.0 < one.0 { b } else { a }
+}
+
+/// The soonest of all bounds; `None` where nothing is due at all.
+fn soonest_of(quiet: &[Option<Millis>]) -> Option<Millis>
+    ensures { NoneIsSooner result quiet.now }
+{
+    let mut soonest = None;
+    for until in quiet {
+        soonest = sooner(soonest, *until);
+    }
+    soonest
+}
+
+/// Looks anew until when no tick of the node of a number is due. The soonest bound may be lowered, and is never raised.
+fn look_again(
+    soonest: &mut Option<Millis>,
+    quiet: &mut [Option<Millis>],
+    nodes: &[PlayedNode],
+    number: u16,
+)
     requires within { number < length nodes.now }
     requires others { AreQuietBut number nodes.now quiet.old }
-    ensures { AreQuiet nodes.now quiet.new }
+    requires soonest { NoneIsSooner soonest.old quiet.old }
+    ensures { AreQuietWith soonest.new nodes.now quiet.new }
 {
     let number = usize::from(number);
-    quiet[number] = nodes[number].quiet_until();
+    let until = nodes[number].quiet_until();
+    quiet[number] = until;
+    *soonest = sooner(*soonest, until);
+}
+
+/// Whether the soonest bound is later than a moment, so that nothing is due by then.
+fn is_quiet_by(soonest: Option<Millis>, end: Millis) -> bool
+    ensures { result ≡ true → IsNoSooner (end.0 + 1) (bound_of soonest) }
+{
+    match soonest {
+        None => true,
+        Some(at) => end.0 < at.0,
+    }
 }
 
 impl Nodes {
@@ -83,7 +128,12 @@ impl Nodes {
     {
         let list = first_nodes(alloc, topology, seed)?;
         let quiet = quiet_of(alloc, list.as_slice())?;
-        Ok(Nodes { list, quiet })
+        let soonest = soonest_of(quiet.as_slice());
+        Ok(Nodes {
+            list,
+            quiet,
+            soonest,
+        })
     }
 
     /// The nodes in order.
@@ -105,7 +155,12 @@ impl Nodes {
     {
         let number = call.node;
         let asked = one_node::ask_at(&mut self.list, call, step);
-        look_again(&mut self.quiet, self.list.as_slice(), number);
+        look_again(
+            &mut self.soonest,
+            &mut self.quiet,
+            self.list.as_slice(),
+            number,
+        );
         asked
     }
 
@@ -117,19 +172,37 @@ impl Nodes {
         ensures restarts { ChangesAt (Restarts now.0) number self.old self.new }
     {
         one_node::restart_at(&mut self.list, number, now);
-        look_again(&mut self.quiet, self.list.as_slice(), number);
+        look_again(
+            &mut self.soonest,
+            &mut self.quiet,
+            self.list.as_slice(),
+            number,
+        );
     }
 
-    /// The tick that is due first, of the node with the least number among those of one moment.
-    pub fn first_due(&self, topology: &Topology, at: Millis) -> Option<Due>
-        requires few { length self.now ≤ NODES_MAX }
-        requires rows { AreOf topology.now self.now }
-        requires ready { AreReady at.0 self.now }
+    /// The tick that is due first, of the node with the least number among those of one moment, where it is due by `end`.
+    /// While the soonest bound is later than that, nothing is searched.
+    pub fn first_due_by(&mut self, topology: &Topology, at: Millis, end: Millis) -> Option<Due>
+        requires few { length self.old ≤ NODES_MAX }
+        requires rows { AreOf topology.now self.old }
+        requires ready { AreReady at.0 self.old }
         requires early { at.0 < CLOCK_END_MS }
-        ensures within { IfSome result (λ x. x.node < length self.now) }
-        ensures first { (lab : Lab) (H : List Full) → NodesOf lab self.now H → at.0 ≡ now H
-            → result ≡ option_map due_as (next.least_due lab H 0 (all.nodes lab.topology)) }
+        ensures same { self.new ≡ self.old }
+        ensures within { IfSome result (λ x. x.node < length self.old) }
+        ensures early { IfSome result (λ x. x.moment.0 ≤ end.0) }
+        ensures due { (lab : Lab) (H : List Full) → NodesOf lab self.old H → at.0 ≡ now H
+            → IfSome result (λ x. Some x ≡ option_map due_as (next.least_due lab H 0 (all.nodes lab.topology))) }
+        ensures none { (lab : Lab) (H : List Full) → NodesOf lab self.old H → at.0 ≡ now H
+            → IfNone result (NoneIsDue end.0 (next.least_due lab H 0 (all.nodes lab.topology))) }
     {
-        due::first_due(topology, self.list.as_slice(), self.quiet.as_slice(), at)
+        if is_quiet_by(self.soonest, end) {
+            return None;
+        }
+        let first = due::first_due(topology, self.list.as_slice(), self.quiet.as_slice(), at);
+        let Some(due) = due::by(first, end) else {
+            self.soonest = soonest_of(self.quiet.as_slice());
+            return None;
+        };
+        Some(due)
     }
 }

@@ -1,5 +1,5 @@
 -- The ticks of an advance, and its end.
-use Rattle.std.proofs.Common.{◌≡◌, ◌≤◌, ◌<◌, ◌+◌, ℕ, suc, Bool, true, false, max, List, [], ◌∷◌, get_or, Option, Some, None, Ok, refl, sym, ap, subst, ◌∙◌, arith, ◌⊎◌, inl, inr}
+use Rattle.std.proofs.Common.{◌≡◌, ◌≤◌, ◌+◌, ℕ, suc, Bool, true, false, max, List, [], ◌∷◌, get_or, Option, Some, None, Ok, refl, sym, ap, subst, ◌∙◌, arith, ◌⊎◌, inl, inr}
 use Rattle.std.specs.Prelude.{slice_get, option_map, nat_lt, nat_le, is_some}
 use Rattle.std.proofs.lemmas.Bool.{false≢true}
 use Rattle.std.proofs.lemmas.Bool.Decides.{nat_tests}
@@ -20,13 +20,13 @@ use Rattle.legal.specs.Emit.{tick_due}
 use Rattle.legal.specs.Next.{numbered, plain, acts, no_ep, DueNode, earlier, least_due, advanced, advance_with, next_of}
 use Rattle.legal.specs.Frame.{EachFrames}
 use Rattle.lab_nodes.specs.declared.due.Due as found
-use Rattle.lab_nodes.specs.Due.{due_as}
+use Rattle.lab_nodes.specs.Due.{due_as, NoneIsDue}
 use Rattle.history.specs.declared.turn.Stop.{Stop}
 use Rattle.world.specs.Record.{fresh_record, with_deed}
 use Rattle.world.specs.declared.going.Going.TheVariants as going_on
 use Rattle.world.specs.declared.going.Going.{Going}
 use Rattle.world.specs.World.{WorldState, StandsFor, IsAgain, IsCause, event_in, began_in, lab_in}
-use Rattle.world.specs.Playing.{ticks_at, NoneIsDue, IsFound, IsGoing, Plays, PlaysTurn}
+use Rattle.world.specs.Playing.{ticks_at, IsFound, IsGoing, Plays, PlaysTurn}
 use Rattle.world.proofs.States.{some_inj}
 use Rattle.world.proofs.Played.{rests}
 
@@ -75,23 +75,12 @@ abbrev takes_time : Event → Bool
 takes_time (event.Advance ms) = true
 takes_time _ = false
 
--- the tick that was found is the first one, or is past a moment where it is later, or there is none
-pub found_first : (lab : Lab) (H : List Full) (o : Option found.Due) (x : found.Due) → o ≡ Some x → o ≡ option_map due_as (least_due lab H 0 (nodes lab.topology)) → IsFound lab H x
-found_first lab H o x is e = by (least_due lab H 0 (nodes lab.topology)) refl (sym is ∙ e) where
+-- the tick that was found is the first one
+pub found_first : (lab : Lab) (H : List Full) (x : found.Due) → Some x ≡ option_map due_as (least_due lab H 0 (nodes lab.topology)) → IsFound lab H x
+found_first lab H x is = by (least_due lab H 0 (nodes lab.topology)) refl is where
   by : (l : Option DueNode) → least_due lab H 0 (nodes lab.topology) ≡ l → Some x ≡ option_map due_as l → IsFound lab H x
   by None least same = absurd (false≢true (ap (λ (o : Option found.Due). is_some o) (sym same)))
   by (Some y) least same = record { tick = y; least = least; is = some_inj (due_as y) x (sym same) }
-
-pub past_none : (lab : Lab) (H : List Full) (end : ℕ) (o : Option found.Due) → o ≡ None → o ≡ option_map due_as (least_due lab H 0 (nodes lab.topology)) → NoneIsDue end (least_due lab H 0 (nodes lab.topology))
-past_none lab H end o is e = by (least_due lab H 0 (nodes lab.topology)) (sym is ∙ e) where
-  by : (l : Option DueNode) → None ≡ option_map due_as l → NoneIsDue end l
-  by None same = tt
-  by (Some y) same = absurd (false≢true (ap (λ (o : Option found.Due). is_some o) same))
-
-pub past_later : (lab : Lab) (H : List Full) (end : ℕ) (o : Option found.Due) (x : found.Due) → o ≡ Some x → end < x.moment.0 → o ≡ option_map due_as (least_due lab H 0 (nodes lab.topology)) → NoneIsDue end (least_due lab H 0 (nodes lab.topology))
-past_later lab H end o x is later e =
-    let first = found_first lab H o x is e in
-    subst (NoneIsDue end) (sym first.least) (subst (λ (y : found.Due). end < y.moment.0) (sym first.is) later)
 
 -- an advance that goes on isn't over
 pub in_going : (m : ℕ) (g : Option Going) (ms : ℕ) → IsAgain (event_in g) (event.Advance ms) → IsGoing m g → m ≤ began_in m g + ms

@@ -61,11 +61,6 @@ prompted d w H e a prompt number node = acts (lab_in d w) H e a (delivered_by pr
 abbrev pub ticks_at : Draws → WorldState → List Full → Numbered → next.DueNode → Full
 ticks_at d w H e x = acts (lab_in d w) H e act.Tick None (max x.moment w.moment) x.number no_ep ticked x.node
 
--- no tick is due up to a moment
-abbrev pub NoneIsDue : ℕ → Option next.DueNode → Type 0
-NoneIsDue end None = Unit {0}
-NoneIsDue end (Some x) = end < x.moment
-
 -- it was found as the tick that is due first
 pub record IsFound (lab : Lab) (H : List Full) (x : Due) : Type 0 where
   pub tick : next.DueNode

@@ -12,10 +12,10 @@ ghost use Rattle.legal.specs.Past.{forgotten, arms};
 ghost use Rattle.legal.specs.Next.{numbered, plain, least_due, next_of};
 ghost use Rattle.td_base.specs.declared.millis.TheConstants.{CLOCK_END_MS};
 ghost use Rattle.legal.specs.Next.{DueNode as Tick};
-ghost use Rattle.lab_nodes.specs.Due.{due_as};
+ghost use Rattle.lab_nodes.specs.Due.{due_as, NoneIsDue};
 ghost use Rattle.world.specs.Record.{fresh_record, with_deed};
 ghost use Rattle.world.specs.World.{StandsFor, IsAgain, lab_in};
-ghost use Rattle.world.specs.Playing.{ticks_at, NoneIsDue, IsFound, Plays, PlaysTurn, Turned, played, turn_from};
+ghost use Rattle.world.specs.Playing.{ticks_at, IsFound, Plays, PlaysTurn, Turned, played, turn_from};
 
 use crate::going::Going;
 use crate::prompt::Prompt;
@@ -40,20 +40,15 @@ impl<'a> World<'a> {
     }
 
     /// The tick that is due first, up to a moment.
-    fn due_by(&self, end: Millis) -> Option<Due>
-        ensures due { (d : Draws) (H : List Full) → StandsFor d self.now H → IfSome result (λ x. IsFound (lab_in d self.now) H x) }
-        ensures none { (d : Draws) (H : List Full) → StandsFor d self.now H
-            → IfNone result (NoneIsDue end.0 (least_due (lab_in d self.now) H 0 (nodes self.now.topology))) }
+    fn due_by(&mut self, end: Millis) -> Option<Due>
+        ensures due { (d : Draws) (H : List Full) → StandsFor d self.old H → IfSome result (λ x. IsFound (lab_in d self.old) H x) }
+        ensures none { (d : Draws) (H : List Full) → StandsFor d self.old H
+            → IfNone result (NoneIsDue end.0 (least_due (lab_in d self.old) H 0 (nodes self.old.topology))) }
         ensures early { IfSome result (λ x. x.moment.0 ≤ end.0) }
-        ensures within { IfSome result (λ x. x.node < length self.now.nodes) }
+        ensures within { IfSome result (λ x. x.node < length self.old.nodes) }
+        ensures same { self.new ≡ self.old }
     {
-        let Some(due) = self.nodes.first_due(self.topology, self.moment) else {
-            return None;
-        };
-        if end.0 < due.moment.0 {
-            return None;
-        }
-        Some(due)
+        self.nodes.first_due_by(self.topology, self.moment, end)
     }
 
     /// Lets time pass up to the end of an advance.

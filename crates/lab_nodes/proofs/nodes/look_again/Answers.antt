@@ -1,8 +1,8 @@
-use Rattle.std.proofs.Common.{◌≡◌, ◌<◌, ℕ, length, Some, refl, sym, subst}
+use Rattle.std.proofs.Common.{◌≡◌, ◌<◌, ℕ, length, Some, refl, sym, subst, arith}
 use Rattle.std.specs.Prelude.{slice_get}
 use Rattle.std.proofs.lemmas.Option.{slice_get_read}
 use Rattle.lab_nodes.specs.Due.{AreQuietBut}
-use Rattle.lab_nodes.proofs.Quiet.{quiet_again}
+use Rattle.lab_nodes.proofs.Quiet.{quiet_again, still_sooner}
 use Rattle.lab_nodes.proofs.nodes.look_again.Goals as goal
 
 pub returns : goal.returns
@@ -11,7 +11,11 @@ returns c =
     let quiet = c.args.quiet.now in
     let n = c.from-number.result in
     let p = c.index-nodes-number.result in
+    let q = c.quiet_until-until.result in
     let within : n < length list = rw (c.from-number.ensures) c.requires.within in
     let here : slice_get list n ≡ Some p = slice_get_read list (length list) n p refl within c.index-nodes-number.is in
     let others : AreQuietBut n list quiet = subst (λ (k : ℕ). AreQuietBut k list quiet) (sym c.from-number.ensures) c.requires.others in
-    quiet_again n list quiet p c.quiet_until.result others here c.quiet_until.ensures
+    record {
+      each = quiet_again n list quiet p q others here c.quiet_until-until.ensures;
+      none = still_sooner c.args.soonest.now c.sooner.result quiet n q c.requires.soonest (omega (arith, within, others.same)) c.sooner.ensures;
+    }

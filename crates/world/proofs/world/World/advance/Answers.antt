@@ -1,15 +1,27 @@
-use Rattle.std.proofs.Common.{◌≡◌, ◌+◌, ℕ, None, refl, sym, ap, subst, ◌∙◌, arith}
+use Rattle.std.proofs.Common.{◌≡◌, ◌+◌, ℕ, List, [], Some, None, Result, Ok, Err, refl, sym, ap, subst, ◌∙◌, arith}
 use Rattle.teredo_node.specs.declared.fate.Fate.TheVariants as fate
 use Rattle.events.specs.declared.verb.Verb.TheVariants as verb
+use Rattle.events.specs.declared.event.Event.{Event}
 use Rattle.events.specs.declared.event.Event.TheVariants as event
-use Rattle.topology.specs.Topology.{nodes}
-use Rattle.legal.specs.Next.{plain, least_due}
+use Rattle.history.specs.declared.records.Record.{Record}
+use Rattle.history.specs.declared.turn.Stop.{Stop}
+use Rattle.history.specs.Full.{Full}
+use Rattle.topology.specs.Topology.{nodes, node_at}
+use Rattle.legal.specs.Lab.{Draws}
+use Rattle.legal.specs.Past.{forgotten, arms}
+use Rattle.legal.specs.Next.{numbered, plain, DueNode, least_due}
 use Rattle.lab_nodes.specs.declared.due.Due.{Due}
+use Rattle.lab_nodes.specs.Due.{due_as, NoneIsDue}
 use Rattle.world.specs.Record.{fresh_record, with_deed}
-use Rattle.world.specs.World.{WorldState, IsAgain, lab_in}
-use Rattle.world.specs.Playing.{NoneIsDue}
+use Rattle.world.specs.World.{WorldState, StandsFor, IsAgain, lab_in}
+use Rattle.world.specs.Playing.{ticks_at, Plays}
 use Rattle.world.proofs.Ticking.{passes, ticks, tick_stops, due_is_there, in_going}
 use Rattle.world.proofs.world.World.advance.Goals as goal
+
+-- the tick of a node is played, or isn't
+abbrev PlaysTick : Due → WorldState → ℕ → Result Record Stop → WorldState → Type 0
+PlaysTick due new index result old = (d : Draws) (H : List Full) → StandsFor d old H → (e : Event) → forgotten (lab_in d old) e ≡ [] → arms e ≡ None
+    → (x : DueNode) → due_as x ≡ due → node_at old.topology x.number ≡ Some x.node → Plays d old new H (ticks_at d old H (numbered index e) x) result
 
 pub pass-requires-clause-later : goal.pass-requires-clause-later
 pass-requires-clause-later c =
@@ -19,7 +31,8 @@ pass-requires-clause-later c =
     let at = ap (λ (x : WorldState). x.moment) c.self.view_is in
     let from = ap (λ (x : WorldState). x.began) c.self.view_is in
     let start = c.began-began.ensures in
-    omega (arith, le, at, from, start)
+    let still = ap (λ (x : WorldState). x.moment) c.in_default.ensures.same in
+    omega (arith, le, at, from, start, still)
 
 pub tick-requires-clause-going : goal.tick-requires-clause-going
 tick-requires-clause-going c =
@@ -29,15 +42,17 @@ tick-requires-clause-going c =
     let at = ap (λ (x : WorldState). x.moment) c.self.view_is in
     let from = ap (λ (x : WorldState). x.began) c.self.view_is in
     let start = c.began-began.ensures in
+    let still = ap (λ (x : WorldState). x.moment) c.in-Some.ensures.same in
     let time = c.requires.time in
-    (omega (arith, le, at, from, start), omega (arith, start, time))
+    (omega (arith, le, at, from, start, still), omega (arith, start, time))
 
 pub returns-in_default-clause-plays : goal.returns-in_default-clause-plays
 returns-in_default-clause-plays c = λ d H s.
     let w = c.args.self.now in
     let end : c.began-began.result.0 + c.args.ms ≡ w.began + c.args.ms = ap (λ (m : ℕ). m + c.args.ms) c.began-began.ensures in
     let past = subst (λ (m : ℕ). NoneIsDue m (least_due (lab_in d w) H 0 (nodes w.topology))) end (c.in_default.ensures.none d H s) in
-    let same = c.pass.ensures.rest in
+    let ends : WorldState → WorldState = λ x. record x { moment = c.began-began.result.0 + c.args.ms; began = c.began-began.result.0 + c.args.ms; going = None } in
+    let same = c.pass.ensures.rest ∙ ap ends c.in_default.ensures.same in
     let turn = passes c.frame.ensures d w c.pass.new.self H c.args.out.now.event c.args.ms s past
     (ap (λ (x : WorldState). x.moment) same ∙ end, ap (λ (x : WorldState). x.nodes) same, ap (λ (x : WorldState). x.nats) same, ap (λ (x : WorldState). x.wire) same, ap (λ (x : WorldState). x.done) same, ap (λ (x : WorldState). x.armed) same) in
     (c.pass.ensures.record_is ∙ ap (λ (m : ℕ). with_deed (fresh_record c.args.out.now.event m) (plain verb.Advance) None fate.Done) end ∙ turn.0, turn.1, turn.2)
@@ -49,8 +64,9 @@ returns-in-Ok-clause-plays c = λ d H s.
     let due = c.in-Some.ensures.due d H s in
     let moment : due.tick.moment ≡ c.in-Some.due.moment.0 = ap (λ (y : Due). y.moment.0) due.is in
     let before = c.in-Some.ensures.early in
+    let plays = subst (PlaysTick c.in-Some.due c.tick.new.self c.args.out.now.event (Ok c.tick.new.out)) c.in-Some.ensures.same c.in-Ok.ensures.plays in
     ticks d w c.tick.new.self H c.args.out.now.event c.args.ms due.tick c.tick.new.out s due.least (omega (arith, end, before, moment))
-    (c.in-Ok.ensures.plays d H s (event.Advance c.args.ms) refl refl due.tick due.is (due_is_there (lab_in d w) H due.tick due.least))
+    (plays d H s (event.Advance c.args.ms) refl refl due.tick due.is (due_is_there (lab_in d w) H due.tick due.least))
 
 pub returns-in-Err-clause-plays : goal.returns-in-Err-clause-plays
 returns-in-Err-clause-plays c = λ d H s.
@@ -59,5 +75,6 @@ returns-in-Err-clause-plays c = λ d H s.
     let due = c.in-Some.ensures.due d H s in
     let moment : due.tick.moment ≡ c.in-Some.due.moment.0 = ap (λ (y : Due). y.moment.0) due.is in
     let before = c.in-Some.ensures.early in
+    let plays = subst (PlaysTick c.in-Some.due c.tick.new.self c.args.out.now.event (Err c.in-Err.stop)) c.in-Some.ensures.same c.in-Err.ensures.plays in
     tick_stops d w H c.args.out.now.event c.args.ms due.tick c.in-Err.stop s due.least (omega (arith, end, before, moment))
-    (c.in-Err.ensures.plays d H s (event.Advance c.args.ms) refl refl due.tick due.is (due_is_there (lab_in d w) H due.tick due.least))
+    (plays d H s (event.Advance c.args.ms) refl refl due.tick due.is (due_is_there (lab_in d w) H due.tick due.least))
