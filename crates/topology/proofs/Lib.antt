@@ -3,3 +3,4 @@ pub mod NameLemmas
 pub mod Numbering
 pub mod Lists
 pub mod AtNodes
+pub mod DistinctNames

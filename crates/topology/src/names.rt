@@ -1,7 +1,8 @@
 //! The nodes that have a name.
-ghost use Rattle.std.specs.Prelude.{◌≡◌, ◌+◌, ◌==◌, ◌&&◌, nat_eq, length, position, option_map};
+ghost use Rattle.std.specs.Prelude.{◌≡◌, ◌≤◌, ◌+◌, ◌==◌, ◌&&◌, false, nat_eq, length, map, position, slice_get, option_map, unwrap_or, IfSome};
 ghost use Rattle.std.specs.Cmp.Lexicographic.{pointwise};
-ghost use Rattle.topology.specs.Names.{name_text};
+ghost use Rattle.topology.specs.Names.{name_text, same_name};
+ghost use Rattle.topology.specs.Rules.{AreDistinct};
 ghost use Rattle.topology.specs.Named.{has_host, is_server, is_nat, is_relay, is_client_of, any_kind, named};
 
 use crate::client_node::ClientNode;
@@ -24,13 +25,53 @@ fn nat_place(rows: &[NatNode], word: &[u8]) -> Option<usize>
     rows.iter().position(|row| row.name.as_slice() == word)
 }
 
+/// The value of a decimal digit.
+fn digit(byte: u8) -> Option<usize>
+    ensures { IfSome result (λ value. value ≤ 9) }
+{
+    if !byte.is_ascii_digit() {
+        return None;
+    }
+    Some(usize::from(byte - b'0'))
+}
+
+/// The number that a word ends with, of two digits at most; 0 where it ends with none. The nodes of a scenario are
+/// mostly named so in order, and the row at this place is looked at first.
+fn last_number(word: &[u8]) -> usize {
+    let [.., tens, ones] = word else {
+        return 0;
+    };
+    let Some(ones) = digit(*ones) else {
+        return 0;
+    };
+    let Some(tens) = digit(*tens) else {
+        return ones;
+    };
+    10 * tens + ones
+}
+
+/// Whether there is a client at a place, and it has the name.
+fn client_has_name(rows: &[ClientNode], place: usize, name: &Name) -> bool
+    ensures { result ≡ unwrap_or (option_map (λ row. same_name row.name name.now) (slice_get rows.now place)) false }
+{
+    let Some(client) = rows.get(place) else {
+        return false;
+    };
+    client.name == *name
+}
+
 #[tactic(auto, unfolding(crate::specs::Names::same_name))]
 fn client_place(rows: &[ClientNode], word: &[u8]) -> Option<usize>
+    requires { AreDistinct same_name (map (λ row. row.name) rows.now) }
     ensures { result ≡ position (λ row. pointwise nat_eq (name_text row.name) word.now) rows.now }
 {
     let Some(name) = Name::new(word) else {
         return rows.iter().position(|row| row.name.as_slice() == word);
     };
+    let guess = last_number(word);
+    if client_has_name(rows, guess, &name) {
+        return Some(guess);
+    }
     rows.iter().position(|row| row.name == name)
 }
 
@@ -40,13 +81,28 @@ fn relay_place(rows: &[RelayNode], word: &[u8]) -> Option<usize>
     rows.iter().position(|row| row.name.as_slice() == word)
 }
 
+/// Whether there is a native host at a place, and it has the name.
+fn native_has_name(rows: &[NativeNode], place: usize, name: &Name) -> bool
+    ensures { result ≡ unwrap_or (option_map (λ row. same_name row.name name.now) (slice_get rows.now place)) false }
+{
+    let Some(host) = rows.get(place) else {
+        return false;
+    };
+    host.name == *name
+}
+
 #[tactic(auto, unfolding(crate::specs::Names::same_name))]
 fn native_place(rows: &[NativeNode], word: &[u8]) -> Option<usize>
+    requires { AreDistinct same_name (map (λ row. row.name) rows.now) }
     ensures { result ≡ position (λ row. pointwise nat_eq (name_text row.name) word.now) rows.now }
 {
     let Some(name) = Name::new(word) else {
         return rows.iter().position(|row| row.name.as_slice() == word);
     };
+    let guess = last_number(word);
+    if native_has_name(rows, guess, &name) {
+        return Some(guess);
+    }
     rows.iter().position(|row| row.name == name)
 }
 
@@ -75,6 +131,7 @@ fn nat_number(t: &Topology, word: &[u8]) -> Option<u16>
     Some((t.servers().len() + place) as u16)
 }
 
+#[tactic(auto, using(crate::proofs::DistinctNames::clients_distinct))]
 fn client_number(t: &Topology, word: &[u8]) -> Option<u16>
     ensures { result ≡ option_map (λ k. length t.now.servers + length t.now.nats + k)
         (position (λ row. pointwise nat_eq (name_text row.name) word.now) t.now.clients) }
@@ -95,6 +152,7 @@ fn relay_number(t: &Topology, word: &[u8]) -> Option<u16>
     Some((t.servers().len() + t.nats().len() + t.clients().len() + place) as u16)
 }
 
+#[tactic(auto, using(crate::proofs::DistinctNames::natives_distinct))]
 fn native_number(t: &Topology, word: &[u8]) -> Option<u16>
     ensures { result ≡ option_map (λ k. length t.now.servers + length t.now.nats + length t.now.clients + length t.now.relays + k)
         (position (λ row. pointwise nat_eq (name_text row.name) word.now) t.now.natives) }
