@@ -1,10 +1,11 @@
 -- What an added entry leaves.
-use Rattle.std.proofs.Common.{◌≡◌, ◌≤◌, inl, inr, ℕ, ◌+◌, Bool, true, false, cond, List, length, find, get_or, Option, Some, None, Result, Ok, Err, refl, sym, ap, ◌∙◌, subst, arith}
+use Rattle.std.proofs.Common.{◌≡◌, ◌≤◌, inl, inr, ℕ, ◌+◌, ◌&&◌, Bool, true, false, cond, List, length, find, get_or, Option, Some, None, Result, Ok, Err, refl, sym, ap, ◌∙◌, subst, arith}
 use Rattle.std.specs.Prelude.{is_some, nat_eq, OnOk, OnErr}
 use Rattle.std.specs.List.{AllByRecursion, count_by}
 use Rattle.std.specs.BTreeMap.{BTreeMap, IsOrdered, insert_entry, is_at}
 use Rattle.std.specs.BTreeMap as map
-use Rattle.std.proofs.lemmas.Bool.{false≢true, cases_eq, eqb-true, eq-eqb}
+use Rattle.std.specs.Vec.{vec_capacity}
+use Rattle.std.proofs.lemmas.Bool.{false≢true, cases_eq, eqb-true, eqb-false}
 use Rattle.slab.specs.Slab.{Slab, get}
 use Rattle.td_base.specs.Ip6.{same_ip6, cmp_ip6, cmp_ip6_ties}
 use Rattle.td_base.specs.declared.ipv6.Ip6.{Ip6}
@@ -13,9 +14,9 @@ use Rattle.peer_list.specs.declared.limits.TheConstants.{PEERS_MAX}
 use Rattle.peer_list.specs.Waiting.{Listing}
 use Rattle.peer_list.specs.Table.{is_of}
 use Rattle.peer_list.specs.Sound.{IsSince}
-use Rattle.peer_list.specs.Entries.{listings_in, listings_of, entry_due, Leads, NameEachOther, AreInTurn, AreKeysOnce, AreWhole, IsSinceAll, AreKept, Adds, SameEntries}
+use Rattle.peer_list.specs.Entries.{listings_in, listings_of, entry_due, Leads, NameEachOther, AreInTurn, AreDueOnce, AreWhole, IsSinceAll, AreKept, Adds, SameEntries}
 use Rattle.peer_list.proofs.Lists.{other_way}
-use Rattle.peer_list.proofs.OrderLemmas.{one_if, turn_other, turn_same}
+use Rattle.peer_list.proofs.OrderLemmas.{one_if, one_due, turn_other, turn_same}
 use Rattle.peer_list.proofs.EntryLemmas.{Fills, finds, leads_filled, named_filled, entry_filled, names_same, listings_same, once_same}
 
 turned : (p q : Ip6) → same_ip6 p q ≡ same_ip6 q p
@@ -40,25 +41,25 @@ module _ (s t : Slab Listing) (key : ℕ) (l : Listing) (c : Fills s t key l) (i
     few = few;
   }
 
-  none_yet : (keys : List ℕ) → AreKeysOnce s keys → count_by (nat_eq key) keys ≡ 0
-  none_yet keys once = once key ∙ ap (λ o. one_if (is_some o)) c.vacant
+  none_yet : (keys : List ℕ) → AreDueOnce s keys → count_by (nat_eq key) keys ≡ 0
+  none_yet keys once = once key ∙ ap one_due c.vacant
 
-  pub turn_filled : (keys : List ℕ) → AreKeysOnce s keys → AreInTurn s keys → AreInTurn t keys
+  pub turn_filled : (keys : List ℕ) → AreDueOnce s keys → AreInTurn s keys → AreInTurn t keys
   turn_filled keys once turn = turn_other s t key keys (none_yet keys once) c.update.others turn
 
-  pub once_filled : (keys new : List ℕ) → AreKeysOnce s keys → ((k : ℕ) → count_by (nat_eq k) new ≡ count_by (nat_eq k) keys + one_if (nat_eq k key)) → AreKeysOnce t new
+  pub once_filled : (keys new : List ℕ) → AreDueOnce s keys
+      → ((k : ℕ) → count_by (nat_eq k) new ≡ count_by (nat_eq k) keys + one_if (nat_eq k key && is_some (entry_due (get t key)))) → AreDueOnce t new
   once_filled keys new once put k = by_test (nat_eq k key) refl (put k) (once k) where
-    by_test : (b : Bool) → nat_eq k key ≡ b → count_by (nat_eq k) new ≡ count_by (nat_eq k) keys + one_if (nat_eq k key) → count_by (nat_eq k) keys ≡ one_if (is_some (get s k)) → count_by (nat_eq k) new ≡ one_if (is_some (get t k))
+    by_test : (b : Bool) → nat_eq k key ≡ b → count_by (nat_eq k) new ≡ count_by (nat_eq k) keys + one_if (b && is_some (entry_due (get t key)))
+        → count_by (nat_eq k) keys ≡ one_if (is_some (entry_due (get s k))) → count_by (nat_eq k) new ≡ one_if (is_some (entry_due (get t k)))
     by_test true e more was =
         let same : k ≡ key = eqb-true k key e in
-        let here : one_if (nat_eq k key) ≡ 1 = ap one_if e in
-        let none : one_if (is_some (get s k)) ≡ 0 = ap (λ i. one_if (is_some (get s i))) same ∙ ap (λ o. one_if (is_some o)) c.vacant in
-        let full : one_if (is_some (get t k)) ≡ 1 = ap (λ i. one_if (is_some (get t i))) same ∙ ap (λ o. one_if (is_some o)) c.update.changed in
-        omega (arith, more, was, here, none, full)
+        let none : one_if (is_some (entry_due (get s k))) ≡ 0 = ap (λ i. one_due (get s i)) same ∙ ap one_due c.vacant in
+        let full : one_if (is_some (entry_due (get t k))) ≡ one_if (is_some (entry_due (get t key))) = ap (λ i. one_due (get t i)) same in
+        omega (arith, more, was, none, full)
     by_test false e more was =
-        let here : one_if (nat_eq k key) ≡ 0 = ap one_if e in
-        let kept : one_if (is_some (get t k)) ≡ one_if (is_some (get s k)) = ap (λ o. one_if (is_some o)) (c.update.others k (λ same. false≢true (sym e ∙ eq-eqb k key same))) in
-        omega (arith, more, was, here, kept)
+        let kept : one_if (is_some (entry_due (get t k))) ≡ one_if (is_some (entry_due (get s k))) = ap one_due (c.update.others k (eqb-false k key e)) in
+        omega (arith, more, was, kept)
 
   pub since_filled : (m : ℕ) → IsSince m l.peer.touched → IsSinceAll m s → IsSinceAll m t
   since_filled m since all k x h = elim (cases_eq k key) [
@@ -87,13 +88,15 @@ kept_added old new l m k w a same touched = record {
 
 -- WHERE MEMORY IS WANTING
 
-pub whole_same : (old new : Entries) → new.slab.slots ≡ old.slab.slots → new.index.entries ≡ old.index.entries → new.order.items ≡ old.order.items → AreWhole old → AreWhole new
-whole_same old new slots entries items w =
+pub whole_same : (old new : Entries) → new.slab.slots ≡ old.slab.slots → new.index.entries ≡ old.index.entries → new.order.items ≡ old.order.items
+    → vec_capacity old.order ≤ vec_capacity new.order → AreWhole old → AreWhole new
+whole_same old new slots entries items more w =
     let same : (k : ℕ) → get new.slab k ≡ get old.slab k = λ k. ap (λ ss. get_or ss k None) slots in
     record {
       names = names_same old.slab new.slab same old.index new.index entries w.names;
       once = rw items (once_same old.slab new.slab same old.order.items w.once);
       turn = rw items (turn_same old.slab new.slab old.order.items (λ k. ap entry_due (same k)) w.turn);
+      room = let room = w.room in let long = ap length entries in omega (arith, room, long, more);
     }
 
 pub listings_kept : (old new : Entries) → SameEntries old new → listings_of new ≡ listings_of old

@@ -50,12 +50,13 @@ module _ (old new : Entries) (key : ℕ) (l : Listing) (peer : Peer) (a : IsAfte
   pub names_after : AreWhole old → NameEachOther new.slab new.index
   names_after w = subst (NameEachOther new.slab) (sym a.index) (names_changed old.slab new.slab key l (with_peer_at l peer) change old.index w.names)
 
-  pub whole_but : new.order ≡ old.order → AreWhole old → AreWholeBut new key
-  whole_but order w = record {
+  pub whole_but : (before : Option (Millis × Ip6)) → before ≡ entry_due (get old.slab key) → new.order ≡ old.order → AreWhole old → AreWholeBut new key before
+  whole_but before was order w = record {
     names = names_after w;
     there = ap is_some change.update.changed;
-    once = rw order (once_changed old.slab new.slab key l (with_peer_at l peer) change old.order.items w.once);
+    once = rw order (once_changed old.slab new.slab key l (with_peer_at l peer) change before old.order.items was w.once);
     turn = rw order (turn_changed old.slab new.slab key l (with_peer_at l peer) change old.order.items w.turn);
+    room = rw (order, a.index) w.room;
   }
 
   pub kept_after : (m n : ℕ) → AreKept old m → m ≤ n → AreWhole new → IsSince old.touched.0 peer.touched → AreKept new n

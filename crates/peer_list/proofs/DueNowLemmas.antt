@@ -5,7 +5,6 @@ use Rattle.std.specs.Ordering.{nat_cmp, is_lt}
 use Rattle.std.specs.declared.cmp.Ordering.TheVariants.{Less, Equal, Greater}
 use Rattle.std.proofs.Math.Nat.{le_refl}
 use Rattle.std.proofs.lemmas.Bool.{false≢true, lt-leb, ltb-false, ltb-true}
-use Rattle.slab.specs.Slab.{get}
 use Rattle.td_base.specs.declared.ipv6.Ip6.{Ip6}
 use Rattle.td_base.specs.declared.millis.Millis.{Millis}
 use Rattle.teredo_node.specs.Due.{IsFirstDue}
@@ -16,7 +15,7 @@ use Rattle.peer_list.specs.Judged.{is_none, is_within, due_of}
 use Rattle.peer_list.specs.Waiting.{Listing}
 use Rattle.peer_list.specs.Table.{Table, table, while_listed, known_to, first_due_in, due_and_who}
 use Rattle.peer_list.specs.Timely.{FirstLasts}
-use Rattle.peer_list.specs.Entries.{listings_of, entry_due, AreWhole, IsFirstOf}
+use Rattle.peer_list.specs.Entries.{listings_of, AreWhole, IsFirstOf}
 use Rattle.peer_list.specs.Calls.{tried_at, emptied, Updates}
 use Rattle.peer_list.specs.Overdue.{due_moment, IsKeptDue, while_due, overdue_in, listing_at, IsOverdue}
 use Rattle.peer_list.proofs.TableLemmas.{touched_is_listed, found_is_listed}
@@ -134,16 +133,6 @@ less_tried old new n who test u d =
     less_overdue old new n who (tried_at n test known) (record { listed = d.listed; waits = d.waits; due = d.due; stays = touched_is_listed n (tried_at n test known) refl; over = tried_over n test known }) u
 
 -- WHAT MAY BE DUE
-
-first_of_by : (e : Entries) (key : ℕ) (o : Option Listing) → get e.slab key ≡ o → IfSome (entry_due o) (IsFirstOf e)
-first_of_by e key None at = tt
-first_of_by e key (Some l) at = by_test (is_none l.peer.waiting) refl where
-  by_test : (b : Bool) → is_none l.peer.waiting ≡ b → IfSome (cond b None (Some (due_and_who l))) (IsFirstOf e)
-  by_test true w = tt
-  by_test false w = record { key = key; listing = l; at = at; waits = w; is = refl }
-
-pub first_of_key : (e : Entries) (key : ℕ) → IfSome (entry_due (get e.slab key)) (IsFirstOf e)
-first_of_key e key = first_of_by e key (get e.slab key) refl
 
 pub kept_due : (e : Entries) (n m : ℕ) (x : Millis × Ip6) → AreWhole e → IsFirstOf e x → x.0.0 < m → IsKeptDue (table n (listings_of e)) m
 kept_due e n m x w f l =

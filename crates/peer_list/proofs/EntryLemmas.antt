@@ -11,17 +11,18 @@ use Rattle.std.specs.List.Sorted.{IsStrictlySortedBy}
 use Rattle.std.specs.BTreeMap.{BTreeMap, IsOrdered, insert_entry, is_at}
 use Rattle.std.specs.BTreeMap as map
 use Rattle.std.specs.Map.{lookup, keys_of}
-use Rattle.std.proofs.lemmas.Bool.{false≢true, cases_eq, eq-eqb}
+use Rattle.std.proofs.lemmas.Bool.{false≢true, cases_eq, eq-eqb, eqb-true, eqb-false}
 use Rattle.slab.specs.Slab.{Slab, get}
 use Rattle.slab.specs.Slab as slab
 use Rattle.td_base.specs.Ip6.{same_ip6, same_ip6-true, same_ip6-self, cmp_ip6, cmp_ip6_ties}
 use Rattle.td_base.specs.declared.ipv6.Ip6.{Ip6}
+use Rattle.td_base.specs.declared.millis.Millis.{Millis}
 use Rattle.peer_list.specs.declared.entries.Entries.{Entries}
 use Rattle.peer_list.specs.declared.limits.TheConstants.{PEERS_MAX}
 use Rattle.peer_list.specs.Waiting.{Listing}
 use Rattle.peer_list.specs.Table.{is_of, is_listed_at}
 use Rattle.peer_list.specs.Sound.{AreInOrder, AreSound, IsSince}
-use Rattle.peer_list.specs.Entries.{listings_in, listings_of, entry_under, entry_for, Leads, NameEachOther, AreInTurn, AreKeysOnce, keys_without, IsSinceAll}
+use Rattle.peer_list.specs.Entries.{listings_in, listings_of, entry_under, entry_for, Leads, NameEachOther, entry_due, AreInTurn, AreDueOnce, AreDueButOnce, keys_without, IsSinceAll}
 use Rattle.peer_list.proofs.OrderLemmas.{count_kept, turn_passing}
 
 -- WHAT AN ADDRESS FINDS
@@ -121,14 +122,11 @@ module _ (s t : Slab Listing) (key : ℕ) (l new : Listing) (c : Changes s t key
   pub names_changed : (index : BTreeMap Ip6 ℕ) → NameEachOther s index → NameEachOther t index
   names_changed index n = record { leads = all_lead s t index.entries lead_changed n.leads; named = named_changed index n; order = n.order; few = n.few }
 
-  filled : (k : ℕ) → is_some (get t k) ≡ is_some (get s k)
-  filled k = elim (cases_eq k key) [
-    | inl same ↦ ap (λ i. is_some (get t i)) same ∙ ap is_some c.update.changed ∙ sym (ap (λ i. is_some (get s i)) same ∙ ap is_some c.was)
-    | inr differs ↦ ap is_some (c.update.others k differs)
-  ]
-
-  pub once_changed : (keys : List ℕ) → AreKeysOnce s keys → AreKeysOnce t keys
-  once_changed keys o k = o k ∙ ap (λ b. cond b 1 0) (sym (filled k))
+  pub once_changed : (before : Option (Millis × Ip6)) (keys : List ℕ) → before ≡ entry_due (get s key) → AreDueOnce s keys → AreDueButOnce t key before keys
+  once_changed before keys was once k = once k ∙ ap (λ o. cond (is_some o) 1 0) (by_test (nat_eq k key) refl) where
+    by_test : (b : Bool) → nat_eq k key ≡ b → entry_due (get s k) ≡ cond b before (entry_due (get t k))
+    by_test true e = ap (λ i. entry_due (get s i)) (eqb-true k key e) ∙ sym was
+    by_test false e = sym (ap entry_due (c.update.others k (eqb-false k key e)))
 
   pub since_changed : (m : ℕ) → IsSince m new.peer.touched → IsSinceAll m s → IsSinceAll m t
   since_changed m since all k x h = elim (cases_eq k key) [
@@ -234,8 +232,8 @@ module _ (s t : Slab Listing) (same : (k : ℕ) → get t k ≡ get s k) where
   listings_same [] = refl
   listings_same (pair ∷ pairs) = ap (λ o. cons_option o (listings_in t pairs)) (same pair.1) ∙ ap (cons_option (get s pair.1)) (listings_same pairs)
 
-  pub once_same : (keys : List ℕ) → AreKeysOnce s keys → AreKeysOnce t keys
-  once_same keys o k = o k ∙ ap (λ x. cond (is_some x) 1 0) (sym (same k))
+  pub once_same : (keys : List ℕ) → AreDueOnce s keys → AreDueOnce t keys
+  once_same keys o k = o k ∙ ap (λ x. cond (is_some (entry_due x)) 1 0) (sym (same k))
 
 -- WHERE SOME ARE TAKEN OUT
 
@@ -327,7 +325,7 @@ module _ (s t : Slab Listing) (n : ℕ) (is : (k : ℕ) → get t k ≡ keep_lis
     by_test false true e f h' next = ap (λ b. cond b (Some pair.1) (lookup (is_at (cmp_ip6 p)) rest)) e ∙ next h'
     by_test false false e f h' next = next h'
 
-  shorter : (pairs : List (Ip6 × ℕ)) → length (filter (λ (pair : Ip6 × ℕ). taken pair.1) pairs) ≤ length pairs
+  pub shorter : (pairs : List (Ip6 × ℕ)) → length (filter (λ (pair : Ip6 × ℕ). taken pair.1) pairs) ≤ length pairs
   shorter [] = omega arith
   shorter (pair ∷ pairs) = by_test (taken pair.1) (shorter pairs) where
     by_test : (b : Bool) → length (filter (λ (q : Ip6 × ℕ). taken q.1) pairs) ≤ length pairs → length (cond b (pair ∷ filter (λ (q : Ip6 × ℕ). taken q.1) pairs) (filter (λ (q : Ip6 × ℕ). taken q.1) pairs)) ≤ length (pair ∷ pairs)
@@ -342,11 +340,15 @@ module _ (s t : Slab Listing) (n : ℕ) (is : (k : ℕ) → get t k ≡ keep_lis
     few = let few = m.few in let less = shorter index.entries in let same = ap length kept in omega (arith, few, less, same);
   }
 
-  pub once_kept : (keys : List ℕ) → AreKeysOnce s keys → AreKeysOnce t (filter taken keys)
+  none_of : (o : Option Listing) → is_some o ≡ false → is_some (entry_due o) ≡ false
+  none_of None h = refl
+  none_of (Some x) h = absurd (false≢true (sym h))
+
+  pub once_kept : (keys : List ℕ) → AreDueOnce s keys → AreDueOnce t (filter taken keys)
   once_kept keys o k = count_kept k taken keys ∙ by_test (taken k) refl where
-    by_test : (b : Bool) → taken k ≡ b → cond b (count_by (nat_eq k) keys) 0 ≡ cond b 1 0
-    by_test true e = o k ∙ ap (λ x. cond (is_some x) 1 0) (sym (same_there k e)) ∙ ap (λ c. cond c 1 0) e
-    by_test false e = refl
+    by_test : (b : Bool) → taken k ≡ b → cond b (count_by (nat_eq k) keys) 0 ≡ cond (is_some (entry_due (get t k))) 1 0
+    by_test true e = o k ∙ ap (λ x. cond (is_some (entry_due x)) 1 0) (sym (same_there k e))
+    by_test false e = sym (ap (λ c. cond c 1 0) (none_of (get t k) e))
 
   pub turn_left : (keys : List ℕ) → AreInTurn s keys → AreInTurn t (filter taken keys)
   turn_left keys a = turn_passing s t taken keys same_there a

@@ -1,8 +1,8 @@
--- The keys of the entries in the order in which these are due: what is put among them, and what is taken out.
-use Rattle.std.proofs.Common.{◌≡◌, ◌≤◌, ◌<◌, ◌⊎◌, inl, inr, ⊎_elim, ℕ, zero, suc, ◌+◌, not, Bool, true, false, cond, List, [], ◌∷◌, ◌++◌, length, filter, get_or, take, drop, Option, refl, sym, ap, ◌∙◌, subst, arith}
+-- The keys of those entries for which packets wait, in the order in which these are due: what is put among them, and what is taken out.
+use Rattle.std.proofs.Common.{◌≡◌, ◌≤◌, ◌<◌, ◌⊎◌, inl, inr, ⊎_elim, ℕ, zero, suc, ◌+◌, ◌&&◌, not, Bool, true, false, cond, List, [], ◌∷◌, ◌++◌, length, filter, get_or, take, drop, Option, Some, refl, sym, ap, ◌∙◌, subst, arith}
 use Rattle.std.specs.Prelude.{nat_eq, is_some}
 use Rattle.std.specs.List.{AllByRecursion, count_by, insert, remove}
-use Rattle.std.specs.List.Sorted.{IsPartitionedBy, IsPartitionPoint}
+use Rattle.std.specs.List.Sorted.{IsPartitionedBy}
 use Rattle.std.proofs.lemmas.Bool.{false≢true, eqb-true, eq-eqb, eqb-false, ne_eqb}
 use Rattle.std.proofs.lemmas.List.{take-append-drop}
 use Rattle.std.proofs.lemmas.List.Sums.{sum_by-cons}
@@ -10,7 +10,8 @@ use Rattle.slab.specs.Slab.{Slab, get}
 use Rattle.td_base.specs.declared.ipv6.Ip6.{Ip6}
 use Rattle.td_base.specs.declared.millis.Millis.{Millis}
 use Rattle.peer_list.specs.Waiting.{Listing}
-use Rattle.peer_list.specs.Entries.{entry_due, is_sooner, AreInTurn, AreKeysOnce, keys_without}
+use Rattle.peer_list.specs.Sound.{is_before}
+use Rattle.peer_list.specs.Entries.{entry_due, is_sooner, AreInTurn, IsPlaceFor, AreDueOnce, AreDueButOnce, keys_without}
 use Rattle.peer_list.proofs.FirstLemmas.{sooner_back, sooner_through}
 
 -- LISTS OF NUMBERS
@@ -55,7 +56,7 @@ back_all P (x ∷ ls) (suc i) f = back_all P ls i (λ k d z b. f (suc k) d (omeg
 abbrev pub one_if : Bool → ℕ
 one_if b = cond b 1 0
 
-count_cons : (test : ℕ → Bool) (x : ℕ) (xs : List ℕ) → count_by test (x ∷ xs) ≡ one_if (test x) + count_by test xs
+pub count_cons : (test : ℕ → Bool) (x : ℕ) (xs : List ℕ) → count_by test (x ∷ xs) ≡ one_if (test x) + count_by test xs
 count_cons test x xs = sum_by-cons (λ y. cond (test y) 1 0) x xs
 
 count_between : (test : ℕ → Bool) (xs ys : List ℕ) (y : ℕ) → count_by test (xs ++ y ∷ ys) ≡ count_by test (xs ++ ys) + cond (test y) 1 0
@@ -71,9 +72,6 @@ count_put test ks i y = count_between test (take i ks) (drop i ks) y ∙ ap (λ 
 
 eq_turned : (a b : ℕ) → nat_eq a b ≡ false → nat_eq b a ≡ false
 eq_turned a b h = ne_eqb b a (λ same. eqb-false a b h (sym same))
-
-eq_turned_true : (a b : ℕ) → nat_eq b a ≡ true → nat_eq a b ≡ true
-eq_turned_true a b h = eq-eqb a b (sym (eqb-true b a h))
 
 -- a key that stands in no place differs from each
 none_there : (key : ℕ) (ks : List ℕ) → count_by (nat_eq key) ks ≡ 0 → AllByRecursion (λ k. nat_eq key k ≡ false) ks
@@ -168,6 +166,10 @@ le_split zero (suc j) l = inl (omega arith)
 le_split (suc i) zero l = absurd (omega arith)
 le_split (suc i) (suc j) l = ⊎_elim (λ (b : i < j). inl (omega (arith, b))) (λ (e : i ≡ j). inr (ap suc e)) (le_split i j (omega arith))
 
+-- one, where packets wait for an entry
+abbrev pub one_due : Option Listing → ℕ
+one_due o = one_if (is_some (entry_due o))
+
 -- IN TURN
 
 module _ (s : Slab Listing) where
@@ -188,9 +190,9 @@ module _ (s : Slab Listing) where
   turn_more [] ys y before behind a = (behind, a)
   turn_more (x ∷ xs) ys y before behind a = (all_more (λ later. is_sooner (due later) (due x) ≡ false) xs ys y before.0 a.0, turn_more xs ys y before.1 behind a.1)
 
-  -- what isn't due later than the key
-  abbrev pub stays : ℕ → ℕ → Bool
-  stays key other = not (is_sooner (due key) (due other))
+  -- what isn't due later
+  abbrev pub stays : Millis × Ip6 → ℕ → Bool
+  stays next other = not (is_before next (due other))
 
   not_of : (b : Bool) → not b ≡ true → b ≡ false
   not_of true h = absurd (false≢true h)
@@ -200,22 +202,33 @@ module _ (s : Slab Listing) where
   not_not true h = refl
   not_not false h = absurd (false≢true (sym h))
 
-  pub parted : (ks : List ℕ) (key : ℕ) → AreInTurn s ks → IsPartitionedBy (stays key) ks
-  parted ks key a i j d le lt late = ⊎_elim
-      (λ (below : i < j). by_test (is_sooner (due key) (due (get_or ks i d))) refl (turn_at ks i j d below lt a))
-      (λ (same : i ≡ j). subst (λ k. stays key (get_or ks k d) ≡ true) (sym same) late)
+  pub parted : (ks : List ℕ) (next : Millis × Ip6) → AreInTurn s ks → IsPartitionedBy (stays next) ks
+  parted ks next a i j d le lt late = ⊎_elim
+      (λ (below : i < j). by_test (is_before next (due (get_or ks i d))) refl (turn_at ks i j d below lt a))
+      (λ (same : i ≡ j). subst (λ k. stays next (get_or ks k d) ≡ true) (sym same) late)
       (le_split i j le)
     where
-      by_test : (b : Bool) → is_sooner (due key) (due (get_or ks i d)) ≡ b → is_sooner (due (get_or ks j d)) (due (get_or ks i d)) ≡ false → not b ≡ true
+      by_test : (b : Bool) → is_before next (due (get_or ks i d)) ≡ b → is_sooner (due (get_or ks j d)) (due (get_or ks i d)) ≡ false → not b ≡ true
       by_test false e t = refl
-      by_test true e t = absurd (false≢true (sym (not_of (is_sooner (due key) (due (get_or ks j d))) late) ∙ sooner_through (due key) (due (get_or ks i d)) (due (get_or ks j d)) e t))
+      by_test true e t =
+          let soon = sooner_through (Some next) (due (get_or ks i d)) (due (get_or ks j d)) e t in
+          absurd (false≢true (sym (not_of (is_before next (due (get_or ks j d))) late) ∙ soon))
 
-  pub turn_put : (ks : List ℕ) (i key : ℕ) → i ≤ length ks → IsPartitionPoint (λ k. stays key k ≡ true) (λ k. stays key k ≡ false) ks i → AreInTurn s ks → AreInTurn s (insert ks i key)
-  turn_put ks i key within point a =
+  pub turn_put : (ks : List ℕ) (i key : ℕ) (next : Millis × Ip6) → Some next ≡ due key → i ≤ length ks → IsPlaceFor s ks next i → AreInTurn s ks
+      → AreInTurn s (insert ks i key)
+  turn_put ks i key next is within point a =
       turn_more (take i ks) (drop i ks) key
-      (all_to (λ k. stays key k ≡ true) (λ k. is_sooner (due key) (due k) ≡ false) (take i ks) (λ k h. not_of (is_sooner (due key) (due k)) h) (front_all (λ k. stays key k ≡ true) ks i within point.0))
-      (all_to (λ k. stays key k ≡ false) (λ k. is_sooner (due k) (due key) ≡ false) (drop i ks) (λ k h. sooner_back (due key) (due k) (not_not (is_sooner (due key) (due k)) h)) (back_all (λ k. stays key k ≡ false) ks i point.1))
+      (all_to (λ k. stays next k ≡ true) (λ k. is_sooner (due key) (due k) ≡ false) (take i ks) not_sooner
+      (front_all (λ k. stays next k ≡ true) ks i within point.0))
+      (all_to (λ k. stays next k ≡ false) (λ k. is_sooner (due k) (due key) ≡ false) (drop i ks) not_later
+      (back_all (λ k. stays next k ≡ false) ks i point.1))
       (subst (AreInTurn s) (sym (take-append-drop i ks)) a)
+    where
+      not_sooner : (k : ℕ) → stays next k ≡ true → is_sooner (due key) (due k) ≡ false
+      not_sooner k h = ap (λ o. is_sooner o (due k)) (sym is) ∙ not_of (is_before next (due k)) h
+
+      not_later : (k : ℕ) → stays next k ≡ false → is_sooner (due k) (due key) ≡ false
+      not_later k h = ap (is_sooner (due k)) (sym is) ∙ sooner_back (Some next) (due k) (not_not (is_before next (due k)) h)
 
 -- WHERE THE ENTRIES CHANGE
 
@@ -246,31 +259,30 @@ turn_other s t key ks none e a =
 
 -- WHERE ONE IS TAKEN OUT AND PUT AGAIN
 
-pub once_settled : (s : Slab Listing) (key : ℕ) (ks kept new : List ℕ) → AreKeysOnce s ks → is_some (get s key) ≡ true → kept ≡ keys_without key ks
-    → ((k : ℕ) → count_by (nat_eq k) new ≡ count_by (nat_eq k) kept + one_if (nat_eq k key)) → AreKeysOnce s new
-once_settled s key ks kept new once there is put k =
-    let rest : count_by (nat_eq k) kept ≡ cond (not (nat_eq k key)) (count_by (nat_eq k) ks) 0 = ap (count_by (nat_eq k)) is ∙ count_kept k (λ other. not (nat_eq other key)) ks in
-    by_test (nat_eq k key) refl (put k) rest
-  where
-    by_test : (b : Bool) → nat_eq k key ≡ b → count_by (nat_eq k) new ≡ count_by (nat_eq k) kept + one_if (nat_eq k key) → count_by (nat_eq k) kept ≡ cond (not (nat_eq k key)) (count_by (nat_eq k) ks) 0 → count_by (nat_eq k) new ≡ one_if (is_some (get s k))
-    by_test true e more rest =
-        let here : one_if (nat_eq k key) ≡ 1 = ap one_if e in
-        let none : count_by (nat_eq k) kept ≡ 0 = rest ∙ ap (λ b. cond (not b) (count_by (nat_eq k) ks) 0) e in
-        let full : one_if (is_some (get s k)) ≡ 1 = ap (λ i. one_if (is_some (get s i))) (eqb-true k key e) ∙ ap one_if there in
-        omega (arith, more, here, none, full)
-    by_test false e more rest =
-        let here : one_if (nat_eq k key) ≡ 0 = ap one_if e in
-        let same : count_by (nat_eq k) kept ≡ count_by (nat_eq k) ks = rest ∙ ap (λ b. cond (not b) (count_by (nat_eq k) ks) 0) e in
-        let was = once k in
-        omega (arith, more, here, same, was)
+pub once_settled : (s : Slab Listing) (key : ℕ) (before : Option (Millis × Ip6)) (ks new : List ℕ) → AreDueButOnce s key before ks
+    → ((k : ℕ) → count_by (nat_eq k) new ≡ count_by (nat_eq k) (keys_without key ks) + one_if (nat_eq k key && is_some (entry_due (get s key))))
+    → AreDueOnce s new
+once_settled s key before ks new once put k = by_test (nat_eq k key) refl (put k) (count_kept k (λ other. not (nat_eq other key)) ks) (once k) where
+  kept : ℕ
+  kept = count_by (nat_eq k) (keys_without key ks)
 
--- there is room for the one that was taken out
+  by_test : (b : Bool) → nat_eq k key ≡ b → count_by (nat_eq k) new ≡ kept + one_if (b && is_some (entry_due (get s key)))
+      → kept ≡ cond (not b) (count_by (nat_eq k) ks) 0
+      → count_by (nat_eq k) ks ≡ one_if (is_some (cond b before (entry_due (get s k)))) → count_by (nat_eq k) new ≡ one_if (is_some (entry_due (get s k)))
+  by_test true e more rest was =
+      let same : one_if (is_some (entry_due (get s k))) ≡ one_if (is_some (entry_due (get s key))) = ap (λ i. one_due (get s i)) (eqb-true k key e) in
+      omega (arith, more, rest, same)
+  by_test false e more rest was = omega (arith, more, rest, was)
+
 -- none is a key that differs from each
 all_differ : (key : ℕ) (ks : List ℕ) → AllByRecursion (λ k. nat_eq key k ≡ false) ks → keys_without key ks ≡ ks
 all_differ key [] a = refl
 all_differ key (k ∷ ks) a =
     let differs : nat_eq k key ≡ false = eq_turned key k a.0 in
     ap (λ b. cond (not b) (k ∷ keys_without key ks) (keys_without key ks)) differs ∙ ap (λ (xs : List ℕ). k ∷ xs) (all_differ key ks a.1)
+
+pub none_out : (key : ℕ) (ks : List ℕ) → count_by (nat_eq key) ks ≡ 0 → ks ≡ keys_without key ks
+none_out key ks none = sym (all_differ key ks (none_there key ks none))
 
 -- a list without the place of a key that stands there once is the list without that key
 pub taken_out : (key : ℕ) (ks : List ℕ) (i : ℕ) → count_by (nat_eq key) ks ≡ 1 → i < length ks → get_or ks i 0 ≡ key → remove ks i ≡ keys_without key ks
@@ -291,7 +303,7 @@ taken_out key (x ∷ ks) (suc i) h k at = by_test (nat_eq key x) refl (subst (λ
       let here : one_if (nat_eq key x) ≡ 0 = ap one_if e in
       ap (λ (xs : List ℕ). x ∷ xs) (rest (omega (arith, one, here, h))) ∙ sym (ap (λ b. cond (not b) (x ∷ keys_without key ks) (keys_without key ks)) (eq_turned key x e))
 
--- where it stands at no place before this one, nor here, it stands behind; and where at none behind, before
+-- where it stands at no place before this one, nor here, it stands behind
 pub stands_behind : (key place : ℕ) (ks : List ℕ) → count_by (nat_eq key) ks ≡ 1 → ((i : ℕ) → i < length ks → get_or ks i 0 ≡ key → place ≤ i) → (get_or ks place 0 ≡ key → ⊥)
     → (place + 1 < length ks) × ((i : ℕ) → i < length ks → get_or ks i 0 ≡ key → place + 1 ≤ i)
 stands_behind key place ks once back differs =
@@ -304,25 +316,20 @@ stands_behind key place ks once back differs =
     one_more : (i : ℕ) → place ≤ i → (place ≡ i → ⊥) → place + 1 ≤ i
     one_more i le ne = ⊎_elim (λ (lt : place < i). omega (arith, lt)) (λ (e : place ≡ i). absurd (ne e)) (le_split place i le)
 
-pub stands_before : (key place : ℕ) (ks : List ℕ) → count_by (nat_eq key) ks ≡ 1 → ((i : ℕ) → i < length ks → get_or ks i 0 ≡ key → i ≤ place) → (get_or ks place 0 ≡ key → ⊥) → 1 ≤ place
-stands_before key place ks once front differs =
-    let p = place_of key ks (omega (arith, once)) in
-    ⊎_elim (λ (lt : p.0 < place). omega (arith, lt)) (λ (e : p.0 ≡ place). absurd (differs (ap (λ j. get_or ks j 0) (sym e) ∙ p.2 0))) (le_split p.0 place (front p.0 p.1 (p.2 0)))
+-- there is room for a key that was taken out, and for one that wasn't there
+pub room_without : (key cap : ℕ) (ks : List ℕ) (b : Bool) → count_by (nat_eq key) ks ≡ one_if b → (b ≡ false → length ks < cap) → length ks ≤ cap
+    → length (keys_without key ks) < cap
+room_without key cap ks true once room fits = let less = shorter_without key ks (omega (arith, once)) in omega (arith, less, fits)
+room_without key cap ks false once room fits = subst (λ (xs : List ℕ). length xs < cap) (none_out key ks once) (room refl)
 
-pub room_without : (s : Slab Listing) (key : ℕ) (ks : List ℕ) → AreKeysOnce s ks → is_some (get s key) ≡ true → length (keys_without key ks) < length ks
-room_without s key ks once there =
-    let full : one_if (is_some (get s key)) ≡ 1 = ap one_if there in
-    let is = once key in
-    shorter_without key ks (omega (arith, is, full))
+-- PACKETS WAIT FOR THE ENTRY OF A KEY THAT STANDS THERE
 
--- A KEY THAT STANDS THERE HAS AN ENTRY
-
-pub filled_at : (s : Slab Listing) (ks : List ℕ) (i d : ℕ) → AreKeysOnce s ks → i < length ks → is_some (get s (get_or ks i d)) ≡ true
-filled_at s ks i d once k = by_test (is_some (get s (get_or ks i d))) refl where
-  by_test : (b : Bool) → is_some (get s (get_or ks i d)) ≡ b → is_some (get s (get_or ks i d)) ≡ true
+pub due_at_place : (s : Slab Listing) (ks : List ℕ) (i d : ℕ) → AreDueOnce s ks → i < length ks → is_some (entry_due (get s (get_or ks i d))) ≡ true
+due_at_place s ks i d once k = by_test (is_some (entry_due (get s (get_or ks i d)))) refl where
+  by_test : (b : Bool) → is_some (entry_due (get s (get_or ks i d))) ≡ b → is_some (entry_due (get s (get_or ks i d))) ≡ true
   by_test true e = e
   by_test false e =
-      let none : one_if (is_some (get s (get_or ks i d))) ≡ 0 = ap one_if e in
+      let none : one_if (is_some (entry_due (get s (get_or ks i d)))) ≡ 0 = ap one_if e in
       let some = counted_at ks i d k in
       let is = once (get_or ks i d) in
       absurd (omega (arith, none, some, is))

@@ -27,8 +27,9 @@ with_peer e key l peer = record e { slab = with_value e.slab key (with_peer_at l
 pub is_after : (e : Entries) {key : ℕ} {l : Listing} (peer : Peer) → get e.slab key ≡ Some l → IsAfter e (with_peer e key l peer) key l peer
 is_after e peer was = record { was = was; slab = refl; index = refl; touched = refl }
 
-pub but_one : {e : Entries} (key : ℕ) (l : Listing) (peer : Peer) → AreWhole e → get e.slab key ≡ Some l → AreWholeBut (with_peer e key l peer) key
-but_one {e} key l peer w was = whole_but e (with_peer e key l peer) key l peer (is_after e peer was) refl w
+pub but_one : {e : Entries} (key : ℕ) (l : Listing) (peer : Peer) (before : Option (Millis × Ip6)) → AreWhole e → get e.slab key ≡ Some l
+    → before ≡ entry_due (get e.slab key) → AreWholeBut (with_peer e key l peer) key before
+but_one {e} key l peer before w was is = whole_but e (with_peer e key l peer) key l peer (is_after e peer was) before is refl w
 
 pub in_turn_still : {e : Entries} (key : ℕ) (l : Listing) (peer : Peer) (before : Option (Millis × Ip6)) → AreWhole e → get e.slab key ≡ Some l → before ≡ entry_due (get e.slab key)
     → entry_due (get (with_peer e key l peer).slab key) ≡ before → AreInTurn (with_peer e key l peer).slab e.order.items

@@ -1,5 +1,5 @@
 -- The first entry, in the order in which they are due, that is listed and for which packets wait.
-use Rattle.std.proofs.Common.{◌≡◌, ◌≤◌, ◌<◌, ◌⊎◌, inl, inr, ℕ, zero, suc, ◌+◌, ◌&&◌, not, Bool, true, false, cond, List, [], ◌∷◌, length, filter, get_or, Option, Some, None, refl, sym, ap, ◌∙◌, arith}
+use Rattle.std.proofs.Common.{◌≡◌, ◌≤◌, ◌<◌, ◌⊎◌, inl, inr, ℕ, zero, suc, ◌+◌, ◌&&◌, not, Bool, true, false, cond, List, [], ◌∷◌, length, filter, get_or, Option, Some, None, refl, sym, ap, ◌∙◌, subst, arith}
 use Rattle.std.specs.Prelude.{option_map, unwrap_or, is_some, slice_get}
 use Rattle.std.specs.List.{AllByRecursion}
 use Rattle.std.proofs.lemmas.Bool.{false≢true}
@@ -15,7 +15,7 @@ use Rattle.peer_list.specs.Entries.{listings_of, entry_due, is_sooner, entry_und
 use Rattle.peer_list.proofs.PlaceLemmas.{apart_of}
 use Rattle.peer_list.proofs.DueLemmas.{waits_at}
 use Rattle.peer_list.proofs.FirstLemmas.{not_before_itself, not_sooner_itself, waits_of, first_is, first_is_none}
-use Rattle.peer_list.proofs.OrderLemmas.{one_if, place_of, turn_at}
+use Rattle.peer_list.proofs.OrderLemmas.{one_if, one_due, place_of, turn_at, due_at_place}
 use Rattle.peer_list.proofs.EntryLemmas.{finds, sound_of, all_listings}
 
 -- an entry, where there is one, that is listed at n and for which packets wait
@@ -58,6 +58,20 @@ none_kept test (x ∷ ls) a = ap (λ b. cond b (x ∷ filter test ls) (filter te
 due_is : (n : ℕ) (l : Listing) → waits_at n l ≡ true → entry_due (Some l) ≡ Some (due_and_who l)
 due_is n l h = ap (λ b. cond b None (Some (due_and_who l))) (waits_of n l h)
 
+some_first : (ks : List ℕ) (k d : ℕ) → Some k ≡ slice_get ks 0 → get_or ks 0 d ≡ k
+some_first [] k d h = absurd (false≢true (sym (ap is_some h)))
+some_first (x ∷ ks) k d h = ap (λ o. unwrap_or o x) (sym h)
+
+one_there : (ks : List ℕ) (k : ℕ) → Some k ≡ slice_get ks 0 → 0 < length ks
+one_there [] k h = absurd (false≢true (sym (ap is_some h)))
+one_there (x ∷ ks) k h = omega arith
+
+some_waits : (l : Listing) → is_some (entry_due (Some l)) ≡ true → is_none l.peer.waiting ≡ false
+some_waits l h = by_test (is_none l.peer.waiting) h where
+  by_test : (b : Bool) → is_some (cond b None (Some (due_and_who l))) ≡ true → b ≡ false
+  by_test true k = absurd (false≢true k)
+  by_test false k = refl
+
 module _ (e : Entries) (n : ℕ) (w : AreWhole e) where
   apart : AreApart (listings_of e)
   apart = apart_of (sound_of e w.names)
@@ -65,10 +79,10 @@ module _ (e : Entries) (n : ℕ) (w : AreWhole e) where
   abbrev pub keys : List ℕ
   keys = e.order.items
 
-  -- each entry has a place
-  placed : (key : ℕ) (x : Listing) → get e.slab key ≡ Some x → (i : ℕ) × (i < length keys) × ((d : ℕ) → get_or keys i d ≡ key)
-  placed key x h =
-      let one : one_if (is_some (get e.slab key)) ≡ 1 = ap (λ o. one_if (is_some o)) h in
+  -- each entry for which packets wait has a place
+  placed : (key : ℕ) (x : Listing) → get e.slab key ≡ Some x → is_none x.peer.waiting ≡ false → (i : ℕ) × (i < length keys) × ((d : ℕ) → get_or keys i d ≡ key)
+  placed key x h some =
+      let one : one_if (is_some (entry_due (get e.slab key))) ≡ 1 = ap one_due h ∙ ap (λ b. one_if (is_some (cond b None (Some (due_and_who x))))) some in
       let once = w.once key in
       place_of key keys (omega (arith, one, once))
 
@@ -77,14 +91,14 @@ module _ (e : Entries) (n : ℕ) (w : AreWhole e) where
   none_before first late = all_listings e.slab (IsNotBefore first) e.index.entries not_before w.names.leads where
     not_before : (k : ℕ) (x : Listing) → get e.slab k ≡ Some x → IsNotBefore first x
     not_before k x h waits =
-        let p = placed k x h in
+        let p = placed k x h waits in
         let due : entry_due (get e.slab (get_or keys p.0 k)) ≡ Some (due_and_who x) = ap (λ m. entry_due (get e.slab m)) (p.2 k) ∙ ap entry_due h ∙ ap (λ b. cond b None (Some (due_and_who x))) waits in
         sym (ap (λ o. is_sooner o first) due) ∙ late p.0 k p.1
 
   pub none_before_none : length keys ≡ 0 → NoneBefore None (listings_of e)
   none_before_none none = none_before None (λ j d k. absurd (omega (arith, k, none)))
 
-  pub none_before_first : (k : ℕ) → ((d : ℕ) → get_or keys 0 d ≡ k) → NoneBefore (entry_due (get e.slab k)) (listings_of e)
+  none_before_first : (k : ℕ) → ((d : ℕ) → get_or keys 0 d ≡ k) → NoneBefore (entry_due (get e.slab k)) (listings_of e)
   none_before_first k at = none_before (entry_due (get e.slab k)) late where
     late : (j d : ℕ) → j < length keys → is_sooner (entry_due (get e.slab (get_or keys j d))) (entry_due (get e.slab k)) ≡ false
     late zero d within = ap (λ m. is_sooner (entry_due (get e.slab m)) (entry_due (get e.slab k))) (at d) ∙ not_sooner_itself (entry_due (get e.slab k))
@@ -96,7 +110,7 @@ module _ (e : Entries) (n : ℕ) (w : AreWhole e) where
     behind : (j : ℕ) → i < j → j < length keys → ((d : ℕ) → get_or keys j d ≡ key) → Stands i key
 
   stands : (i : ℕ) → NoneInFront e.slab keys n i → (key : ℕ) (x : Listing) → get e.slab key ≡ Some x → waits_at n x ≡ true → Stands i key
-  stands i front key x h waits = by_place (placed key x h) where
+  stands i front key x h waits = by_place (placed key x h (waits_of n x waits)) where
     compare : (i j : ℕ) → (j < i) ⊎ ((j ≡ i) ⊎ (i < j))
     compare zero zero = inr (inl refl)
     compare zero (suc j) = inr (inr (omega arith))
@@ -143,31 +157,16 @@ module _ (e : Entries) (n : ℕ) (w : AreWhole e) where
     by_test x true t g = absurd (g t)
     by_test x false t g = t
 
-  -- behind one for which no packets wait none waits
-  pub idle_due : (i key : ℕ) (l : Listing) → i < length keys → key ≡ get_or keys i key → get e.slab key ≡ Some l → NoneInFront e.slab keys n i → is_none l.peer.waiting ≡ true
-      → None ≡ option_map due_and_who (first_due_in (table n (listings_of e)) n)
-  idle_due i key l within at h front idle = none_waits none where
-    nothing : entry_due (get e.slab (get_or keys i key)) ≡ None
-    nothing = ap (λ m. entry_due (get e.slab m)) (sym at) ∙ ap entry_due h ∙ ap (λ b. cond b None (Some (due_and_who l))) idle
-
-    none : (k : ℕ) (x : Listing) → get e.slab k ≡ Some x → waits_at n x ≡ true → ⊥
-    none k x h' waits = by_place (stands i front k x h' waits) where
-      due : entry_due (get e.slab k) ≡ Some (due_and_who x)
-      due = ap entry_due h' ∙ due_is n x waits
-
-      by_place : Stands i k → ⊥
-      by_place (there is) = false≢true (ap is_some (sym nothing ∙ ap (λ m. entry_due (get e.slab m)) (is key) ∙ due))
-      by_place (behind j after within' is) =
-          let turn = turn_at e.slab keys i j key after within' w.turn in
-          false≢true (sym turn ∙ ap (λ m. is_sooner (entry_due (get e.slab m)) (entry_due (get e.slab (get_or keys i key)))) (is key) ∙ ap (λ o. is_sooner o (entry_due (get e.slab (get_or keys i key)))) due ∙ ap (is_sooner (Some (due_and_who x))) nothing)
-
   -- where none waits in any place
   pub no_due : (i : ℕ) → length keys ≤ i → NoneInFront e.slab keys n i → None ≡ option_map due_and_who (first_due_in (table n (listings_of e)) n)
   no_due i past front = none_waits none where
     none : (k : ℕ) (x : Listing) → get e.slab k ≡ Some x → waits_at n x ≡ true → ⊥
     none k x h waits = by_place (stands i front k x h waits) where
       by_place : Stands i k → ⊥
-      by_place (there is) = absurd (let p = placed k x h in false≢true (sym (front p.0 k (omega (arith, p.1, past))) ∙ ap (λ m. waits_under n (get e.slab m)) (p.2 k) ∙ ap (waits_under n) h ∙ waits))
+      by_place (there is) =
+          let p = placed k x h (waits_of n x waits) in
+          let early = front p.0 k (omega (arith, p.1, past)) in
+          absurd (false≢true (sym early ∙ ap (λ m. waits_under n (get e.slab m)) (p.2 k) ∙ ap (waits_under n) h ∙ waits))
       by_place (behind j after within' is) = absurd (omega (arith, after, within', past))
 
   -- the same of the entry at a place
@@ -175,9 +174,24 @@ module _ (e : Entries) (n : ℕ) (w : AreWhole e) where
       → Some (due_and_who l) ≡ option_map due_and_who (first_due_in (table n (listings_of e)) n)
   first_at ks i d l is within h front waits = first_due i (get_or keys i d) l within (any_or keys i d (get_or keys i d) within) (ap (λ (xs : List ℕ). get e.slab (get_or xs i d)) (sym is) ∙ h) front waits
 
-  pub idle_at : (ks : List ℕ) (i d : ℕ) (l : Listing) → ks ≡ keys → i < length keys → get e.slab (get_or ks i d) ≡ Some l → NoneInFront e.slab keys n i → is_none l.peer.waiting ≡ true
-      → None ≡ option_map due_and_who (first_due_in (table n (listings_of e)) n)
-  idle_at ks i d l is within h front idle = idle_due i (get_or keys i d) l within (any_or keys i d (get_or keys i d) within) (ap (λ (xs : List ℕ). get e.slab (get_or xs i d)) (sym is) ∙ h) front idle
+  -- packets wait for the entry of a key that stands there
+  pub waits_there : (ks : List ℕ) (i d : ℕ) (l : Listing) → ks ≡ keys → i < length keys → get e.slab (get_or ks i d) ≡ Some l → is_none l.peer.waiting ≡ false
+  waits_there ks i d l is within h =
+      let there : get e.slab (get_or keys i d) ≡ Some l = ap (λ (xs : List ℕ). get e.slab (get_or xs i d)) (sym is) ∙ h in
+      some_waits l (sym (ap (λ o. is_some (entry_due o)) there) ∙ due_at_place e.slab keys i d w.once within)
+
+  -- packets wait for the entry of the first key, and none is due before it
+  module _ (ks : List ℕ) (key : ℕ) (l : Listing) (is : ks ≡ keys) (first : Some key ≡ slice_get ks 0) (h : get e.slab key ≡ Some l) where
+    in_front : Some key ≡ slice_get keys 0
+    in_front = first ∙ ap (λ (xs : List ℕ). slice_get xs 0) is
+
+    pub first_waits : is_none l.peer.waiting ≡ false
+    first_waits = waits_there keys 0 key l refl (one_there keys key in_front) (ap (get e.slab) (some_first keys key key in_front) ∙ h)
+
+    pub none_before_it : NoneBefore (Some (due_and_who l)) (listings_of e)
+    none_before_it =
+        let due : entry_due (get e.slab key) ≡ Some (due_and_who l) = ap entry_due h ∙ ap (λ b. cond b None (Some (due_and_who l))) first_waits in
+        subst (λ o. NoneBefore o (listings_of e)) due (none_before_first key (λ d. some_first keys key d in_front))
 
 pub waits_both : (n : ℕ) (l : Listing) → is_listed_at n l ≡ true → is_none l.peer.waiting ≡ false → waits_at n l ≡ true
 waits_both n l listed some = ap (λ b. b && not (is_none l.peer.waiting)) listed ∙ ap not some
@@ -185,7 +199,3 @@ waits_both n l listed some = ap (λ b. b && not (is_none l.peer.waiting)) listed
 pub none_first : (ks : List ℕ) → None ≡ slice_get ks 0 → length ks ≡ 0
 none_first [] h = refl
 none_first (k ∷ ks) h = absurd (false≢true (ap is_some h))
-
-pub some_first : (ks : List ℕ) (k d : ℕ) → Some k ≡ slice_get ks 0 → get_or ks 0 d ≡ k
-some_first [] k d h = absurd (false≢true (sym (ap is_some h)))
-some_first (x ∷ ks) k d h = ap (λ o. unwrap_or o x) (sym h)

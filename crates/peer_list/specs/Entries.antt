@@ -4,6 +4,7 @@ use Rattle.std.specs.List.{AllByRecursion, count_by, filter_map}
 use Rattle.std.specs.List.Sorted.{IsPartitionPoint}
 use Rattle.std.specs.BTreeMap.{BTreeMap, IsOrdered}
 use Rattle.std.specs.BTreeMap as map
+use Rattle.std.specs.Vec.{vec_capacity}
 use Rattle.slab.specs.Slab.{Slab, get}
 use Rattle.slab.specs.Slab as slab
 use Rattle.td_base.specs.Ip6.{same_ip6, cmp_ip6}
@@ -57,7 +58,7 @@ abbrev pub entry_due : Option Listing → Option (Millis × Ip6)
 entry_due None = None
 entry_due (Some l) = if is_none l.peer.waiting then None else Some (due_and_who l)
 
--- what isn't due comes last
+-- what is due comes before what is due later, or not at all
 abbrev pub is_sooner : Option (Millis × Ip6) → Option (Millis × Ip6) → Bool
 is_sooner None first = false
 is_sooner (Some next) first = is_before next first
@@ -67,14 +68,19 @@ abbrev pub AreInTurn : Slab Listing → List ℕ → Type 0
 AreInTurn s [] = Unit {0}
 AreInTurn s (key ∷ keys) = AllByRecursion (λ later. is_sooner (entry_due (get s later)) (entry_due (get s key)) ≡ false) keys × AreInTurn s keys
 
--- all keys before a place stay in front of a key there, since their entries aren't due later, and all from there on are
-abbrev pub IsPlaceFor : Slab Listing → List ℕ → ℕ → ℕ → Type 0
-IsPlaceFor s keys key i = IsPartitionPoint (λ other. not (is_sooner (entry_due (get s key)) (entry_due (get s other))) ≡ true)
-    (λ other. not (is_sooner (entry_due (get s key)) (entry_due (get s other))) ≡ false) keys i
+-- the entries of all keys before a place aren't due later than what is due next, and those of all from there on are
+abbrev pub IsPlaceFor : Slab Listing → List ℕ → Millis × Ip6 → ℕ → Type 0
+IsPlaceFor s keys next i =
+    IsPartitionPoint (λ other. not (is_before next (entry_due (get s other))) ≡ true) (λ other. not (is_before next (entry_due (get s other))) ≡ false) keys i
 
--- the keys of the slab, each once
-abbrev pub AreKeysOnce : Slab Listing → List ℕ → Type 0
-AreKeysOnce s keys = (key : ℕ) → count_by (nat_eq key) keys ≡ (if is_some (get s key) then 1 else 0)
+-- the keys of the entries for which packets wait, each once
+abbrev pub AreDueOnce : Slab Listing → List ℕ → Type 0
+AreDueOnce s keys = (key : ℕ) → count_by (nat_eq key) keys ≡ (if is_some (entry_due (get s key)) then 1 else 0)
+
+-- the same, but for a key whose entry was changed: that stands there as the entry was due before
+abbrev pub AreDueButOnce : Slab Listing → ℕ → Option (Millis × Ip6) → List ℕ → Type 0
+AreDueButOnce s changed before keys =
+    (key : ℕ) → count_by (nat_eq key) keys ≡ (if is_some (if nat_eq key changed then before else entry_due (get s key)) then 1 else 0)
 
 abbrev pub keys_without : ℕ → List ℕ → List ℕ
 keys_without key keys = filter (λ other. not (nat_eq other key)) keys
@@ -83,15 +89,17 @@ keys_without key keys = filter (λ other. not (nat_eq other key)) keys
 
 pub record AreWhole (e : Entries) : Type 0 where
   pub names : NameEachOther e.slab e.index
-  pub once : AreKeysOnce e.slab e.order.items
+  pub once : AreDueOnce e.slab e.order.items
   pub turn : AreInTurn e.slab e.order.items
+  pub room : length e.index.entries ≤ vec_capacity e.order
 
--- one key may stand where it doesn't belong
-pub record AreWholeBut (e : Entries) (key : ℕ) : Type 0 where
+-- one key may stand where it doesn't belong, or in no place: its entry was due otherwise before
+pub record AreWholeBut (e : Entries) (key : ℕ) (before : Option (Millis × Ip6)) : Type 0 where
   pub names : NameEachOther e.slab e.index
   pub there : is_some (get e.slab key) ≡ true
-  pub once : AreKeysOnce e.slab e.order.items
+  pub once : AreDueButOnce e.slab key before e.order.items
   pub turn : AreInTurn e.slab (keys_without key e.order.items)
+  pub room : length e.index.entries ≤ vec_capacity e.order
 
 -- no entry was touched before m
 abbrev pub IsSinceAll : ℕ → Slab Listing → Type 0

@@ -26,7 +26,7 @@ pub struct Entries {
     pub slab: Slab<Listing>,
     /// From an address to the key of its entry.
     pub index: BTreeMap<Ip6, usize>,
-    /// The keys in the order in which the entries are due; those for which no packets wait come last.
+    /// The keys of those for which packets wait, in the order in which these are due. There is room for every other key.
     pub order: Vec<usize>,
     /// No entry was touched before, so that a call needn't look at each of them.
     pub touched: Millis,
@@ -145,7 +145,8 @@ impl Entries {
         ensures before { NoneBefore result (listings_of self.now) }
         ensures there { IfSome result (IsFirstOf self.now) }
     {
-        order::due_at(&self.slab, *self.order.first()?)
+        let listing = &self.slab[*self.order.first()?];
+        Some((listing.peer.due(), listing.who))
     }
 
     /// When the first of them is due, be it listed then or not: nothing is due before.
@@ -166,9 +167,6 @@ impl Entries {
     {
         for key in &self.order {
             let listing = &self.slab[*key];
-            if listing.peer.is_idle() {
-                return None;
-            }
             if listing.peer.is_listed(now) {
                 return Some((listing.peer.due(), listing.who));
             }
@@ -185,7 +183,7 @@ impl Entries {
 
     /// Puts a key, whose entry was changed, where it belongs now. Where it is due as before it stays.
     pub fn settle(&mut self, key: usize, before: Option<(Millis, Ip6)>)
-        requires but { AreWholeBut self.old key }
+        requires but { AreWholeBut self.old key before }
         requires still { entry_due (get self.old.slab key) ≡ before → AreInTurn self.old.slab self.old.order.items }
         ensures whole { AreWhole self.new }
         ensures slab { self.new.slab ≡ self.old.slab }
@@ -255,8 +253,10 @@ impl Entries {
         ensures added { OnOk result (Adds self.old self.new listing) }
         ensures same { OnErr result (SameEntries self.old self.new) }
     {
+        // A place in the order for each key, so that whoever becomes due later needs no memory for it.
+        let places = (self.index.len() + 1).saturating_sub(self.order.len());
         self.slab.reserve(1)?;
-        self.order.reserve(1)?;
+        self.order.reserve(places)?;
         self.index.insert(listing.who, self.slab.vacant_key())?;
         let key = self.slab.insert_reserved(listing);
         order::put(&mut self.order, &self.slab, key);

@@ -1,9 +1,10 @@
-//! The keys of the entries, in the order in which these are due.
-ghost use Rattle.std.specs.Prelude.{◌≡◌, ◌<◌, ◌≤◌, ◌+◌, ℕ, true, not, is_some, if◌then◌else◌, nat_eq, length, get_or};
+//! The keys of the entries for which packets wait, in the order in which these are due.
+ghost use Rattle.std.specs.Prelude.{◌≡◌, ◌<◌, ◌≤◌, ◌+◌, ◌&&◌, ℕ, true, false, not, is_some, if◌then◌else◌, nat_eq, length, get_or};
 ghost use Rattle.std.specs.List.{count_by};
 ghost use Rattle.std.specs.Vec.{vec_len, vec_capacity};
 ghost use Rattle.slab.specs.Slab.{get};
-ghost use Rattle.peer_list.specs.Entries.{entry_due, is_sooner, AreInTurn, IsPlaceFor, AreKeysOnce, keys_without};
+ghost use Rattle.peer_list.specs.Sound.{is_before};
+ghost use Rattle.peer_list.specs.Entries.{entry_due, AreInTurn, IsPlaceFor, AreDueOnce, AreDueButOnce, keys_without};
 
 use crate::listings::Listing;
 use slab::Slab;
@@ -20,15 +21,14 @@ pub fn due_at(slab: &Slab<Listing>, key: usize) -> Option<(Millis, Ip6)>
     Some((listing.peer.due(), listing.who))
 }
 
-/// Whether one is due before another. What isn't due comes last.
-fn is_sooner(next: Option<(Millis, Ip6)>, first: Option<(Millis, Ip6)>) -> bool
-    ensures { result ≡ is_sooner next first }
+/// Whether one is due before the first.
+fn is_before(next: (Millis, Ip6), first: Option<(Millis, Ip6)>) -> bool
+    ensures { result ≡ is_before next first }
 {
-    match (next, first) {
-        (None, _) => false,
-        (Some(_), None) => true,
-        (Some(next), Some(first)) => next.0.cmp(&first.0).then(next.1.cmp(&first.1)).is_lt(),
-    }
+    let Some(first) = first else {
+        return true;
+    };
+    next.0.cmp(&first.0).then(next.1.cmp(&first.1)).is_lt()
 }
 
 /// Whether both are due at one moment, of one address, or neither is due.
@@ -48,41 +48,41 @@ fn is_same(now: Option<(Millis, Ip6)>, before: Option<(Millis, Ip6)>) -> bool
 }
 
 /// Whether an entry may stand in front of what is due then: that isn't due before it.
-fn is_in_turn(slab: &Slab<Listing>, first: usize, next: Option<(Millis, Ip6)>) -> bool
-    ensures { result ≡ not (is_sooner next (entry_due (get slab.now first))) }
+fn is_in_turn(slab: &Slab<Listing>, first: usize, next: (Millis, Ip6)) -> bool
+    ensures { result ≡ not (is_before next (entry_due (get slab.now first))) }
 {
-    !is_sooner(next, due_at(slab, first))
+    !is_before(next, due_at(slab, first))
 }
 
-/// The place behind all keys whose entries aren't due later than that of one. What isn't due comes last, so that no entry is
-/// looked at for it.
-fn place_behind(order: &[usize], slab: &Slab<Listing>, key: usize) -> usize
+/// The place behind all keys whose entries aren't due later.
+fn place_behind(order: &[usize], slab: &Slab<Listing>, next: (Millis, Ip6)) -> usize
     requires turn { AreInTurn slab.now order.now }
     ensures within { result ≤ length order.now }
-    ensures place { IsPlaceFor slab.now order.now key result }
+    ensures place { IsPlaceFor slab.now order.now next result }
 {
-    let due = due_at(slab, key);
-    if due.is_none() {
-        return order.len();
-    }
-    order.partition_point(|other| is_in_turn(slab, *other, due))
+    order.partition_point(|other| is_in_turn(slab, *other, next))
 }
 
-/// Puts a key behind all whose entries aren't due later. There has to be room for it.
+/// Puts a key, where packets wait for its entry, behind all whose entries aren't due later. There has to be room for it.
 pub fn put(order: &mut Vec<usize>, slab: &Slab<Listing>, key: usize)
     requires room { vec_len order.old < vec_capacity order.old }
     requires turn { AreInTurn slab.now order.old.items }
     ensures turn { AreInTurn slab.now order.new.items }
-    ensures keys { (k : ℕ) → count_by (nat_eq k) order.new.items ≡ count_by (nat_eq k) order.old.items + (if nat_eq k key then 1 else 0) }
+    ensures keys { (k : ℕ) → count_by (nat_eq k) order.new.items
+        ≡ count_by (nat_eq k) order.old.items + (if nat_eq k key && is_some (entry_due (get slab.now key)) then 1 else 0) }
+    ensures capacity { vec_capacity order.old ≤ vec_capacity order.new }
 {
-    let place = place_behind(order, slab, key);
+    let Some(due) = due_at(slab, key) else {
+        return;
+    };
+    let place = place_behind(order, slab, due);
     order.insert(place, key).unwrap();
 }
 
-/// The place of a key that stands there once, looked for from the front.
+/// The place of a key that stands there once.
 // Inlined into its callers, the scan of 256 keys took 20 ns more.
 #[inline(never)]
-fn first_place(order: &[usize], key: usize) -> usize
+fn place_of(order: &[usize], key: usize) -> usize
     requires once { count_by (nat_eq key) order.now ≡ 1 }
     ensures there { result < length order.now }
     ensures key { get_or order.now result 0 ≡ key }
@@ -94,40 +94,16 @@ fn first_place(order: &[usize], key: usize) -> usize
     place
 }
 
-/// The same, looked for from the back.
-// As above.
-#[inline(never)]
-fn last_place(order: &[usize], key: usize) -> usize
-    requires once { count_by (nat_eq key) order.now ≡ 1 }
-    ensures there { result < length order.now }
-    ensures key { get_or order.now result 0 ≡ key }
-{
-    let mut place = order.len() - 1;
-    while order[place] != key {
-        place -= 1;
-    }
-    place
-}
-
-/// The same, looked for from where it is nearer: what isn't due stands at the back.
-fn place_of(order: &[usize], key: usize, was_due: bool) -> usize
-    requires once { count_by (nat_eq key) order.now ≡ 1 }
-    ensures there { result < length order.now }
-    ensures key { get_or order.now result 0 ≡ key }
-{
-    if was_due {
-        return first_place(order, key);
-    }
-    last_place(order, key)
-}
-
-/// Takes out a key that stands there once.
+/// Takes out a key, which stands there once where its entry was due, and else nowhere.
 fn take_out(order: &mut Vec<usize>, key: usize, was_due: bool)
-    requires once { count_by (nat_eq key) order.old.items ≡ 1 }
+    requires once { count_by (nat_eq key) order.old.items ≡ (if was_due then 1 else 0) }
     ensures items { order.new.items ≡ keys_without key order.old.items }
     ensures capacity { vec_capacity order.new ≡ vec_capacity order.old }
 {
-    order.remove(place_of(order, key, was_due));
+    if !was_due {
+        return;
+    }
+    order.remove(place_of(order, key));
 }
 
 /// Puts a key, whose entry was changed, where it belongs now. Where it is due as before it stays.
@@ -137,12 +113,13 @@ pub fn settle(
     key: usize,
     before: Option<(Millis, Ip6)>,
 )
-    requires once { AreKeysOnce slab.now order.old.items }
-    requires there { is_some (get slab.now key) ≡ true }
+    requires once { AreDueButOnce slab.now key before order.old.items }
+    requires room { is_some before ≡ false → vec_len order.old < vec_capacity order.old }
     requires others { AreInTurn slab.now (keys_without key order.old.items) }
     requires still { entry_due (get slab.now key) ≡ before → AreInTurn slab.now order.old.items }
-    ensures once { AreKeysOnce slab.now order.new.items }
+    ensures once { AreDueOnce slab.now order.new.items }
     ensures turn { AreInTurn slab.now order.new.items }
+    ensures capacity { vec_capacity order.old ≤ vec_capacity order.new }
 {
     if is_same(due_at(slab, key), before) {
         return;

@@ -5,7 +5,7 @@ use Rattle.peer_list.proofs.listings.wait_at.Goals as goal
 
 pub settle-requires : goal.settle-requires
 settle-requires c = record {
-  but = but_one _ _ _ c.requires.kept.whole c.index_mut.ensures.value;
+  but = but_one _ _ _ _ c.requires.kept.whole c.index_mut.ensures.value c.due_at-before.ensures;
   still = in_turn_still _ _ _ _ c.requires.kept.whole c.index_mut.ensures.value c.due_at-before.ensures;
 }
 

@@ -1,4 +1,4 @@
-use Rattle.std.proofs.Common.{◌≡◌, ◌≤◌, ℕ, ◌+◌, cond, length, get_or, None, Some, refl, sym, ap, ◌∙◌, arith}
+use Rattle.std.proofs.Common.{◌≡◌, ◌≤◌, ℕ, ◌+◌, ◌&&◌, cond, length, get_or, None, Some, refl, sym, ap, ◌∙◌, arith}
 use Rattle.std.specs.Prelude.{is_some, nat_eq, Option}
 use Rattle.std.specs.List.{count_by}
 use Rattle.std.specs.BTreeMap as map
@@ -9,18 +9,36 @@ use Rattle.peer_list.specs.declared.limits.TheConstants.{PEERS_MAX}
 use Rattle.peer_list.specs.Waiting.{Listing}
 use Rattle.peer_list.specs.Entries.{entry_due}
 use Rattle.peer_list.proofs.OrderLemmas.{turn_same}
+use Rattle.peer_list.proofs.KeyLemmas.{few_due}
 use Rattle.peer_list.proofs.EntryLemmas.{Fills, names_same, once_same}
 use Rattle.peer_list.proofs.AddLemmas.{whole_same, leads_to, names_filled, turn_filled, once_filled}
 use Rattle.peer_list.proofs.entries.Entries.add.Goals as goal
 
 pub returns-in_err-reserve-clause-whole : goal.returns-in_err-reserve-clause-whole
-returns-in_err-reserve-clause-whole c = whole_same c.args.self.now _ (ap (λ (s : Slab Listing). s.slots) c.reserve.ensures.rest_kept) refl refl c.requires.whole
+returns-in_err-reserve-clause-whole c =
+    whole_same c.args.self.now _ (ap (λ (s : Slab Listing). s.slots) c.reserve.ensures.rest_kept) refl refl (omega arith) c.requires.whole
 
 pub returns-in_err-reserve-2-clause-whole : goal.returns-in_err-reserve-2-clause-whole
-returns-in_err-reserve-2-clause-whole c = whole_same c.args.self.now _ (ap (λ (s : Slab Listing). s.slots) c.reserve.ensures.rest_kept) refl c.reserve-2.ensures.items c.requires.whole
+returns-in_err-reserve-2-clause-whole c =
+    let slots = ap (λ (s : Slab Listing). s.slots) c.reserve.ensures.rest_kept in
+    whole_same c.args.self.now _ slots refl c.reserve-2.ensures.items c.reserve-2.ensures.capacity c.requires.whole
 
 pub returns-in_err-insert-clause-whole : goal.returns-in_err-insert-clause-whole
-returns-in_err-insert-clause-whole c = whole_same c.args.self.now _ (ap (λ (s : Slab Listing). s.slots) c.reserve.ensures.rest_kept) c.in_err-insert.ensures.err c.reserve-2.ensures.items c.requires.whole
+returns-in_err-insert-clause-whole c =
+    let slots = ap (λ (s : Slab Listing). s.slots) c.reserve.ensures.rest_kept in
+    whole_same c.args.self.now _ slots c.in_err-insert.ensures.err c.reserve-2.ensures.items c.reserve-2.ensures.capacity c.requires.whole
+
+pub put-requires-clause-room : goal.put-requires-clause-room
+put-requires-clause-room c =
+    let e = c.args.self.now in
+    let few = few_due e.slab e.index c.requires.whole.names e.order.items c.requires.whole.once in
+    let long = e.order.ok.0 in
+    let same = c.reserve-2.ensures.len in
+    let amount = c.saturating_sub-places.ensures in
+    let entries = c.len.ensures.len in
+    let keys = c.len-2.ensures in
+    let room = c.in_ok-reserve-2.ensures.ok in
+    omega (arith, few, long, same, amount, entries, keys, room)
 
 pub put-requires-clause-turn : goal.put-requires-clause-turn
 put-requires-clause-turn c =
@@ -42,16 +60,23 @@ returns-clause-whole c =
     let key_is : c.vacant_key.result ≡ key = c.vacant_key.ensures.value ∙ sym c.insert_reserved-key.ensures.key in
     let leads : (p : Ip6) → map.get cmp_ip6 more p ≡ cond (same_ip6 p c.args.listing.who) (Some key) (map.get cmp_ip6 index p) =
     leads_to s t key c.args.listing fills index more (λ q. c.in_ok-insert.ensures.updates.0 q ∙ ap (λ k. cond (map.is_at (cmp_ip6 c.args.listing.who) q) (Some k) (map.get cmp_ip6 index q)) key_is) in
-    let few : length more.entries ≤ PEERS_MAX =
     let longer : length more.entries ≡ length index.entries + 1 = c.in_ok-insert.ensures.len ∙ ap (λ (o : Option ℕ). length index.entries + cond (is_some o) 0 1) (c.in_ok-insert.ensures.old ∙ c.requires.absent) in
-    let room = c.requires.room in
-    omega (arith, longer, room) in
+    let few : length more.entries ≤ PEERS_MAX = let room = c.requires.room in omega (arith, longer, room) in
     record {
       names = names_filled s t key c.args.listing fills index more (names_same c.args.self.now.slab s same index index refl c.requires.whole.names) c.requires.absent
           (c.in_ok-insert.ensures.entries ∙ ap (map.insert_entry cmp_ip6 index.entries c.args.listing.who) key_is) leads c.insert.ensures.ordered few;
       once = once_filled s t key c.args.listing fills index more c.args.self.now.order.items c.put.new.order.items (once_same c.args.self.now.slab s same c.args.self.now.order.items c.requires.whole.once)
-          (λ k. c.put.ensures.keys k ∙ ap (λ ks. count_by (nat_eq k) ks + cond (nat_eq k key) 1 0) c.reserve-2.ensures.items);
+          (λ k. c.put.ensures.keys k
+          ∙ ap (λ ks. count_by (nat_eq k) ks + cond (nat_eq k key && is_some (entry_due (get t key))) 1 0) c.reserve-2.ensures.items);
       turn = c.put.ensures.turn;
+      room =
+          let same = c.reserve-2.ensures.len in
+          let amount = c.saturating_sub-places.ensures in
+          let entries = c.len.ensures.len in
+          let keys = c.len-2.ensures in
+          let room = c.in_ok-reserve-2.ensures.ok in
+          let cap = c.put.ensures.capacity in
+          omega (arith, longer, same, amount, entries, keys, room, cap);
     }
 
 pub returns-clause-added : goal.returns-clause-added

@@ -1,10 +1,10 @@
-use Rattle.std.proofs.Common.{rules, ◌≡◌, ℕ, filter, sym, ap, ◌∙◌, subst}
+use Rattle.std.proofs.Common.{rules, ◌≡◌, ℕ, filter, length, sym, ap, ◌∙◌, subst, arith}
 use Rattle.std.specs.Prelude.{is_some}
 use Rattle.std.proofs.lemmas.Fn.{filter_same}
 use Rattle.slab.specs.Slab.{get}
 use Rattle.td_base.specs.declared.ipv6.Ip6.{Ip6}
-use Rattle.peer_list.specs.Entries.{listings_in, AreInTurn, AreKeysOnce}
-use Rattle.peer_list.proofs.EntryLemmas.{keep_listed, retained, retained_pairs, names_kept, once_kept, turn_left, kept_listings}
+use Rattle.peer_list.specs.Entries.{listings_in, AreInTurn, AreDueOnce}
+use Rattle.peer_list.proofs.EntryLemmas.{keep_listed, retained, retained_pairs, names_kept, once_kept, turn_left, shorter, kept_listings}
 use Rattle.peer_list.proofs.entries.Entries.take_out_unlisted.Goals as goal
 
 pub returns-clause-whole : goal.returns-clause-whole
@@ -17,8 +17,14 @@ returns-clause-whole c =
     let keys : c.retain-3.new.self.items ≡ filter (λ k. is_some (get t k)) c.args.self.now.order.items = filter_same _ _ _ (λ x b f' k. search rules) _ _ c.retain-3.ensures.filtered in
     record {
       names = names_kept s t c.args.now.0 is c.args.self.now.index c.retain-2.new.self pairs c.retain-2.ensures.ordered c.requires.whole.names;
-      once = subst (AreKeysOnce t) (sym keys) (once_kept s t c.args.now.0 is c.args.self.now.order.items c.requires.whole.once);
+      once = subst (AreDueOnce t) (sym keys) (once_kept s t c.args.now.0 is c.args.self.now.order.items c.requires.whole.once);
       turn = subst (AreInTurn t) (sym keys) (turn_left s t c.args.now.0 is c.args.self.now.order.items c.requires.whole.turn);
+      room =
+          let room = c.requires.whole.room in
+          let less = shorter s t c.args.now.0 is c.args.self.now.index.entries in
+          let same = ap length pairs in
+          let cap = c.retain-3.ensures.capacity in
+          omega (arith, room, less, same, cap);
     }
 
 pub returns-clause-listings : goal.returns-clause-listings

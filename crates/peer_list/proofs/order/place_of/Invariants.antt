@@ -1,5 +1,5 @@
 use Rattle.std.proofs.Common.{◌≡◌, ◌≤◌, ◌<◌, ◌-◌, ℕ, length, get_or}
-use Rattle.peer_list.proofs.order.first_place.Given as goal
+use Rattle.peer_list.proofs.order.place_of.Given as goal
 
 -- the key stands nowhere before
 abbrev pub invariant-loop-place : goal.invariant-loop-place

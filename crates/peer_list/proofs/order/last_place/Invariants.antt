@@ -1,9 +1,0 @@
-use Rattle.std.proofs.Common.{◌≡◌, ◌≤◌, ◌<◌, ℕ, length, get_or}
-use Rattle.peer_list.proofs.order.last_place.Given as goal
-
--- the key stands nowhere behind
-abbrev pub invariant-loop-place : goal.invariant-loop-place
-invariant-loop-place l = (l.place < length l.order) × ((i : ℕ) → i < length l.order → get_or l.order i 0 ≡ l.fn.key → i ≤ l.place)
-
-abbrev pub decreases-loop-place : goal.decreases-loop-place
-decreases-loop-place l = l.place
