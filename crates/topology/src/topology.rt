@@ -153,12 +153,29 @@ impl Topology {
         Some(Node::Native(*row))
     }
 
-    /// The name of the node with that number.
+    /// The name of the node with that number. Its row isn't copied, of which the name is a small part.
     pub fn name_at(&self, number: u16) -> Option<Name>
         ensures { result ≡ option_map name_of (node_at self.now number) }
     {
-        let node = self.node(usize::from(number))?;
-        Some(node.name())
+        let mut left = usize::from(number);
+        if let Some(row) = self.servers.get(left) {
+            return Some(row.name);
+        }
+        left -= self.servers.len();
+        if let Some(row) = self.nats.get(left) {
+            return Some(row.name);
+        }
+        left -= self.nats.len();
+        if let Some(row) = self.clients.get(left) {
+            return Some(row.name);
+        }
+        left -= self.clients.len();
+        if let Some(row) = self.relays.get(left) {
+            return Some(row.name);
+        }
+        left -= self.relays.len();
+        let row = self.natives.get(left)?;
+        Some(row.name)
     }
 
     fn nat_number(&self, dst: Ep) -> Option<u16>
