@@ -1,81 +1,122 @@
--- Names that are all different: a row that has a name is the first one that has it.
-use Rattle.std.proofs.Common.{◌≡◌, ℕ, zero, suc, ◌+◌, nat_eq, ◌||◌, Bool, true, false, cond, List, [], ◌∷◌, ◌++◌, map, Some, refl, sym, ap, subst, ◌∙◌, arith, append-nil}
-use Rattle.std.specs.Prelude.{position, slice_get, option_map, unwrap_or}
+-- Names that are all different: a client or native host that has a name is the only node with it.
+use Rattle.std.proofs.Common.{◌≡◌, ℕ, zero, suc, ◌+◌, ◌<◌, ◌&&◌, Bool, true, false, cond, List, [], ◌∷◌, ◌++◌, length, map, Some, None, refl, sym, ap, ◌∙◌, arith}
+use Rattle.std.specs.Prelude.{slice_get, option_map, unwrap_or}
 use Rattle.std.specs.List.{list_any, position_from}
-use Rattle.std.specs.Cmp.Lexicographic.{pointwise}
-use Rattle.std.proofs.lemmas.Bool.{or_parts}
+use Rattle.std.proofs.Math.Bool.{and-false}
+use Rattle.std.proofs.lemmas.Bool.{and_parts, or_parts}
+use Rattle.std.proofs.lemmas.Option.{slice_get-map}
 use Rattle.topology.specs.declared.node_name.Name.{Name}
+use Rattle.topology.specs.declared.node_name.TheConstants.{NAME_LEN}
 use Rattle.topology.specs.declared.client_node.ClientNode.{ClientNode}
 use Rattle.topology.specs.declared.native_node.NativeNode.{NativeNode}
 use Rattle.topology.specs.declared.node.Node.{Node}
 use Rattle.topology.specs.declared.node.Node.TheVariants.{Server as server, Nat as nat, Client as client, Relay as relay, Native as native}
 use Rattle.topology.specs.Names.{name_text, same_name}
+use Rattle.topology.specs.Named.{has_host, is_named, named}
 use Rattle.topology.specs.Rows.{TopologyState}
-use Rattle.topology.specs.Rules.{AreDistinct, names_of}
-use Rattle.topology.specs.Topology.{name_of}
-use Rattle.topology.proofs.NameLemmas.{same_name-true}
+use Rattle.topology.specs.Rules.{AreDistinct, names_of, IsTopology}
+use Rattle.topology.specs.Topology.{nodes, name_of}
+use Rattle.topology.proofs.NameLemmas.{same_name-true, no_text_so_long}
 use Rattle.topology.proofs.Numbering.{at_front}
 
--- THE PLACE OF A NAME
+-- there is one at the place, and it passes
+abbrev passes_at : {A : Type 0} → (A → Bool) → List A → ℕ → Bool
+passes_at p xs i = unwrap_or (option_map p (slice_get xs i)) false
 
--- there is one at the place, and it has the name
-abbrev has_name : {A : Type 0} → (A → Name) → Name → List A → ℕ → Bool
-has_name name of xs i = unwrap_or (option_map (λ x. same_name (name x) of) (slice_get xs i)) false
+-- a client or native host of the name
+abbrev is_host : Name → Node → Bool
+is_host of node = has_host (Some node) && same_name (name_of node) of
+
+-- THE FIRST OF A NAME
 
 -- a name that is none of these isn't that of the one at a place
-other_name : {A : Type 0} (name : A → Name) (of a : Name) (xs : List A) (i : ℕ) → list_any (same_name a) (map name xs) ≡ false → has_name name of xs i ≡ true → same_name a of ≡ false
-other_name name of a [] i none has = absurd cc
-other_name name of a (x ∷ xs) zero none has =
-    let both = or_parts (same_name a (name x)) (list_any (same_name a) (map name xs)) none in
-    ap (same_name a) (sym (same_name-true (name x) of has)) ∙ both.0
-other_name name of a (x ∷ xs) (suc i) none has =
-    let both = or_parts (same_name a (name x)) (list_any (same_name a) (map name xs)) none in
-    other_name name of a xs i both.1 has
+other_name : (of a : Name) (xs : List Node) (i : ℕ) → list_any (same_name a) (map name_of xs) ≡ false → passes_at (is_host of) xs i ≡ true
+    → same_name a of ≡ false
+other_name of a [] i none has = absurd cc
+other_name of a (x ∷ xs) zero none has =
+    let both = or_parts (same_name a (name_of x)) (list_any (same_name a) (map name_of xs)) none in
+    let is = and_parts (has_host (Some x)) (same_name (name_of x) of) has in
+    ap (same_name a) (sym (same_name-true (name_of x) of is.1)) ∙ both.0
+other_name of a (x ∷ xs) (suc i) none has =
+    let both = or_parts (same_name a (name_of x)) (list_any (same_name a) (map name_of xs)) none in
+    other_name of a xs i both.1 has
 
-found_from : {A : Type 0} (name : A → Name) (of : Name) (xs : List A) (j i : ℕ) → AreDistinct same_name (map name xs) → has_name name of xs i ≡ true
-    → position_from (λ x. same_name (name x) of) j xs ≡ Some (j + i)
-found_from name of [] j i distinct has = absurd cc
-found_from name of (x ∷ xs) j zero distinct has =
-    ap (λ b. cond b (Some j) (position_from (λ y. same_name (name y) of) (j + 1) xs)) has
+-- the one of the name at a place is the first one
+found_from : (of : Name) (xs : List Node) (j i : ℕ) → AreDistinct same_name (map name_of xs) → passes_at (is_host of) xs i ≡ true
+    → position_from (is_host of) j xs ≡ Some (j + i)
+found_from of [] j i distinct has = absurd cc
+found_from of (x ∷ xs) j zero distinct has =
+    ap (λ b. cond b (Some j) (position_from (is_host of) (j + 1) xs)) has
     ∙ ap Some (omega arith)
-found_from name of (x ∷ xs) j (suc i) distinct has =
-    ap (λ b. cond b (Some j) (position_from (λ y. same_name (name y) of) (j + 1) xs)) (other_name name of (name x) xs i distinct.0 has)
-    ∙ found_from name of xs (j + 1) i distinct.1 has
+found_from of (x ∷ xs) j (suc i) distinct has =
+    let other = other_name of (name_of x) xs i distinct.0 has in
+    ap (λ b. cond (has_host (Some x) && b) (Some j) (position_from (is_host of) (j + 1) xs)) other
+    ∙ ap (λ b. cond b (Some j) (position_from (is_host of) (j + 1) xs)) (and-false (has_host (Some x)))
+    ∙ found_from of xs (j + 1) i distinct.1 has
     ∙ ap Some (omega arith)
 
-pub found_at : {A : Type 0} (name : A → Name) (of : Name) (text : List ℕ) (xs : List A) (i : ℕ) → name_text of ≡ text → AreDistinct same_name (map name xs) → has_name name of xs i ≡ true
-    → Some i ≡ position (λ x. pointwise nat_eq (name_text (name x)) text) xs
-unfolding same_name
-found_at name of text xs i is distinct has =
+-- the number of the one of a name
+found_at : (t : TopologyState) (of : Name) (n : ℕ) → AreDistinct same_name (names_of t) → passes_at (is_host of) (nodes t) n ≡ true
+    → Some n ≡ named has_host t (name_text of)
+unfolding named same_name
+found_at t of n distinct has =
     sym (
-    at_front (λ x. pointwise nat_eq (name_text (name x)) text) xs
-    ∙ ap (λ l. position_from (λ x. pointwise nat_eq (name_text (name x)) l) 0 xs) (sym is)
-    ∙ found_from name of xs 0 i distinct has
+    at_front (is_host of) (nodes t)
+    ∙ found_from of (nodes t) 0 n distinct has
     ∙ ap Some (omega arith))
 
--- THE NAMES OF ONE KIND OF NODE
+-- THE PLACE AMONG ALL NODES
 
-none_in_front : {A : Type 0} (f : A → Node) (a : Name) (xs : List A) (ys : List Node) → list_any (same_name a) (map name_of (map f xs ++ ys)) ≡ false → list_any (same_name a) (map (λ x. name_of (f x)) xs) ≡ false
-none_in_front f a [] ys none = refl
-none_in_front f a (x ∷ xs) ys none =
-    let both = or_parts (same_name a (name_of (f x))) (list_any (same_name a) (map name_of (map f xs ++ ys))) none in
-    ap (λ b. b || list_any (same_name a) (map (λ x. name_of (f x)) xs)) both.0
-    ∙ none_in_front f a xs ys both.1
+-- in a list of one kind, in front of others, behind others
+of_kind : {A B : Type 0} (p : B → Bool) (f : A → B) (xs : List A) (i : ℕ) (x : A) → slice_get xs i ≡ Some x → p (f x) ≡ true
+    → passes_at p (map f xs) i ≡ true
+of_kind p f xs i x at has =
+    ap (λ o. unwrap_or (option_map p o) false) (slice_get-map f xs i ∙ ap (option_map f) at)
+    ∙ has
 
-front_distinct : {A : Type 0} (f : A → Node) (xs : List A) (ys : List Node) → AreDistinct same_name (map name_of (map f xs ++ ys)) → AreDistinct same_name (map (λ x. name_of (f x)) xs)
-front_distinct f [] ys distinct = tt
-front_distinct f (x ∷ xs) ys distinct = (none_in_front f (name_of (f x)) xs ys distinct.0, front_distinct f xs ys distinct.1)
+in_front : {A : Type 0} (p : A → Bool) (xs ys : List A) (i : ℕ) → passes_at p xs i ≡ true → passes_at p (xs ++ ys) i ≡ true
+in_front p [] ys i has = absurd cc
+in_front p (x ∷ xs) ys zero has = has
+in_front p (x ∷ xs) ys (suc i) has = in_front p xs ys i has
 
-rest_distinct : {A : Type 0} (f : A → Node) (xs : List A) (ys : List Node) → AreDistinct same_name (map name_of (map f xs ++ ys)) → AreDistinct same_name (map name_of ys)
-rest_distinct f [] ys distinct = distinct
-rest_distinct f (x ∷ xs) ys distinct = rest_distinct f xs ys distinct.1
+behind : {A B : Type 0} (p : B → Bool) (f : A → B) (xs : List A) (ys : List B) (i : ℕ) → passes_at p ys i ≡ true
+    → passes_at p (map f xs ++ ys) (length xs + i) ≡ true
+behind p f [] ys i has = let same : 0 + i ≡ i = omega arith in ap (passes_at p ys) same ∙ has
+behind p f (x ∷ xs) ys i has =
+    let same : suc (length xs) + i ≡ suc (length xs + i) = omega arith in
+    ap (passes_at p (f x ∷ map f xs ++ ys)) same ∙ behind p f xs ys i has
 
-behind_nats : (t : TopologyState) → AreDistinct same_name (names_of t) → AreDistinct same_name (map name_of (map client t.clients ++ (map relay t.relays ++ map native t.natives)))
-behind_nats t distinct = rest_distinct nat t.nats _ (rest_distinct server t.servers _ distinct)
+-- the client at a place is the one of its name
+pub client_found : (t : TopologyState) (of : Name) (i : ℕ) (c : ClientNode) → IsTopology t → slice_get t.clients i ≡ Some c → same_name c.name of ≡ true
+    → Some (length t.servers + length t.nats + i) ≡ named has_host t (name_text of)
+client_found t of i c rules at has =
+    let number : length t.servers + length t.nats + i ≡ length t.servers + (length t.nats + i) = omega arith in
+    let among_clients = of_kind (is_host of) client t.clients i c at has in
+    let place = in_front (is_host of) (map client t.clients) _ i among_clients in
+    ap Some number
+    ∙ found_at t of _ rules.names (behind (is_host of) server t.servers _ _ (behind (is_host of) nat t.nats _ i place))
 
-pub clients_distinct : (t : TopologyState) → AreDistinct same_name (names_of t) → AreDistinct same_name (map (λ (c : ClientNode). c.name) t.clients)
-clients_distinct t distinct = front_distinct client t.clients _ (behind_nats t distinct)
+-- the native host at a place is the one of its name
+pub native_found : (t : TopologyState) (of : Name) (i : ℕ) (h : NativeNode) → IsTopology t → slice_get t.natives i ≡ Some h → same_name h.name of ≡ true
+    → Some (length t.servers + length t.nats + length t.clients + length t.relays + i) ≡ named has_host t (name_text of)
+native_found t of i h rules at has =
+    let number : length t.servers + length t.nats + length t.clients + length t.relays + i
+    ≡ length t.servers + (length t.nats + (length t.clients + (length t.relays + i))) = omega arith in
+    let behind_relays = behind (is_host of) relay t.relays _ i (of_kind (is_host of) native t.natives i h at has) in
+    let behind_clients = behind (is_host of) client t.clients _ _ behind_relays in
+    ap Some number
+    ∙ found_at t of _ rules.names (behind (is_host of) server t.servers _ _ (behind (is_host of) nat t.nats _ _ behind_clients))
 
-pub natives_distinct : (t : TopologyState) → AreDistinct same_name (names_of t) → AreDistinct same_name (map (λ (h : NativeNode). h.name) t.natives)
-natives_distinct t distinct =
-    front_distinct native t.natives [] (subst (λ (ns : List Node). AreDistinct same_name (map name_of ns)) (sym (append-nil (map native t.natives))) (rest_distinct relay t.relays _ (rest_distinct client t.clients _ (behind_nats t distinct))))
+-- NO NAME
+
+-- a text longer than names may be is nobody's
+nowhere : (text : List ℕ) (xs : List Node) (j : ℕ) → NAME_LEN < length text → position_from (λ node. has_host (Some node) && is_named text node) j xs ≡ None
+nowhere text [] j long = refl
+nowhere text (x ∷ xs) j long =
+    ap (λ b. cond (has_host (Some x) && b) (Some j) (position_from (λ node. has_host (Some node) && is_named text node) (j + 1) xs)) (no_text_so_long (name_of x) text long)
+    ∙ ap (λ b. cond b (Some j) (position_from (λ node. has_host (Some node) && is_named text node) (j + 1) xs)) (and-false (has_host (Some x)))
+    ∙ nowhere text xs (j + 1) long
+
+pub none_so_long : (t : TopologyState) (text : List ℕ) → NAME_LEN < length text → named has_host t text ≡ None
+unfolding named
+none_so_long t text long = at_front (λ node. has_host (Some node) && is_named text node) (nodes t) ∙ nowhere text (nodes t) 0 long

@@ -2,7 +2,7 @@
 use Rattle.std.specs.Cmp.Lexicographic.{pointwise, pointwise_decides}
 use Rattle.std.specs.Prelude.{◌-◌, ◌==◌, ◌&&◌, nat_eq, replicate}
 use Rattle.std.specs.Bool.{Decides}
-use Rattle.std.proofs.Common.{◌≡◌, ℕ, ◌≤◌, true, List, ◌++◌, length, take, refl, sym, ap, subst, ◌∙◌, arith}
+use Rattle.std.proofs.Common.{◌≡◌, ℕ, ◌≤◌, ◌<◌, Bool, true, false, List, ◌++◌, length, take, refl, sym, ap, subst, ◌∙◌, arith}
 use Rattle.std.proofs.Props.{props}
 use Rattle.std.proofs.lemmas.Bool.Decides.{Decides-eqb, Decides-and, same_from_decides}
 use Rattle.std.proofs.lemmas.List.{length-take-le}
@@ -54,3 +54,13 @@ by_all_bytes a b =
     let all : Decides (pointwise nat_eq a.bytes b.bytes && (a.len == b.len)) (a ≡ b) =
     (λ t. let h = both.0 t in same_parts a b h.1 h.0, λ e. both.1 (ap (λ (x : Name). x.bytes) e, ap (λ (x : Name). x.len) e)) in
     same_from_decides _ _ all (same_name_decides a b)
+
+-- no name has a text longer than names may be
+pub no_text_so_long : (a : Name) (text : List ℕ) → NAME_LEN < length text → pointwise nat_eq (name_text a) text ≡ false
+no_text_so_long a text long = by_test (pointwise nat_eq (name_text a) text) refl where
+  by_test : (b : Bool) → pointwise nat_eq (name_text a) text ≡ b → pointwise nat_eq (name_text a) text ≡ false
+  by_test false e = e
+  by_test true e =
+      let same : length (name_text a) ≡ length text = ap length ((pointwise_decides Decides-eqb (name_text a) text).0 e) in
+      let len = length-name_text a in
+      absurd (omega (arith, long, same, len, a.short))

@@ -1,14 +1,13 @@
 //! The nodes that have a name.
-ghost use Rattle.std.specs.Prelude.{◌≡◌, ◌≤◌, ◌+◌, ◌==◌, ◌&&◌, false, nat_eq, length, map, position, slice_get, option_map, unwrap_or, IfSome};
+ghost use Rattle.std.specs.Prelude.{◌≡◌, ◌<◌, ◌+◌, ◌==◌, ◌&&◌, nat_eq, length, position, option_map, Some, IfSome};
 ghost use Rattle.std.specs.Cmp.Lexicographic.{pointwise};
-ghost use Rattle.topology.specs.Names.{name_text, same_name};
-ghost use Rattle.topology.specs.Rules.{AreDistinct};
+ghost use Rattle.topology.specs.Names.{name_text};
 ghost use Rattle.topology.specs.Named.{has_host, is_server, is_nat, is_relay, is_client_of, any_kind, named};
 
 use crate::client_node::ClientNode;
 use crate::nat_node::NatNode;
 use crate::native_node::NativeNode;
-use crate::node_name::Name;
+use crate::node_name::{NAME_LEN, Name};
 use crate::relay_node::RelayNode;
 use crate::server_node::ServerNode;
 use crate::topology::Topology;
@@ -25,53 +24,13 @@ fn nat_place(rows: &[NatNode], word: &[u8]) -> Option<usize>
     rows.iter().position(|row| row.name.as_slice() == word)
 }
 
-/// The value of a decimal digit.
-fn digit(byte: u8) -> Option<usize>
-    ensures { IfSome result (λ value. value ≤ 9) }
-{
-    if !byte.is_ascii_digit() {
-        return None;
-    }
-    Some(usize::from(byte - b'0'))
-}
-
-/// The number that a word ends with, of two digits at most; 0 where it ends with none. The nodes of a scenario are
-/// mostly named so in order, and the row at this place is looked at first.
-fn last_number(word: &[u8]) -> usize {
-    let [.., tens, ones] = word else {
-        return 0;
-    };
-    let Some(ones) = digit(*ones) else {
-        return 0;
-    };
-    let Some(tens) = digit(*tens) else {
-        return ones;
-    };
-    10 * tens + ones
-}
-
-/// Whether there is a client at a place, and it has the name.
-fn client_has_name(rows: &[ClientNode], place: usize, name: &Name) -> bool
-    ensures { result ≡ unwrap_or (option_map (λ row. same_name row.name name.now) (slice_get rows.now place)) false }
-{
-    let Some(client) = rows.get(place) else {
-        return false;
-    };
-    client.name == *name
-}
-
 #[tactic(auto, unfolding(crate::specs::Names::same_name))]
 fn client_place(rows: &[ClientNode], word: &[u8]) -> Option<usize>
-    requires { AreDistinct same_name (map (λ row. row.name) rows.now) }
     ensures { result ≡ position (λ row. pointwise nat_eq (name_text row.name) word.now) rows.now }
 {
     let Some(name) = Name::new(word) else {
         return rows.iter().position(|row| row.name.as_slice() == word);
     };
-    let guess = last_number(word);
-    if client_has_name(rows, guess, &name) {
-        return Some(guess);
-    }
     rows.iter().position(|row| row.name == name)
 }
 
@@ -81,28 +40,13 @@ fn relay_place(rows: &[RelayNode], word: &[u8]) -> Option<usize>
     rows.iter().position(|row| row.name.as_slice() == word)
 }
 
-/// Whether there is a native host at a place, and it has the name.
-fn native_has_name(rows: &[NativeNode], place: usize, name: &Name) -> bool
-    ensures { result ≡ unwrap_or (option_map (λ row. same_name row.name name.now) (slice_get rows.now place)) false }
-{
-    let Some(host) = rows.get(place) else {
-        return false;
-    };
-    host.name == *name
-}
-
 #[tactic(auto, unfolding(crate::specs::Names::same_name))]
 fn native_place(rows: &[NativeNode], word: &[u8]) -> Option<usize>
-    requires { AreDistinct same_name (map (λ row. row.name) rows.now) }
     ensures { result ≡ position (λ row. pointwise nat_eq (name_text row.name) word.now) rows.now }
 {
     let Some(name) = Name::new(word) else {
         return rows.iter().position(|row| row.name.as_slice() == word);
     };
-    let guess = last_number(word);
-    if native_has_name(rows, guess, &name) {
-        return Some(guess);
-    }
     rows.iter().position(|row| row.name == name)
 }
 
@@ -113,61 +57,137 @@ fn place_behind(rows: &[ClientNode], nat: u16, word: &[u8]) -> Option<usize>
         .position(|row| row.nat == nat && row.name.as_slice() == word)
 }
 
+/// The number of the client at a place.
+fn number_of_client(t: &Topology, place: usize) -> u16
+    requires { place < length t.now.clients }
+    ensures { result ≡ length t.now.servers + length t.now.nats + place }
+{
+    (t.servers().len() + t.nats().len() + place) as u16
+}
+
+/// The number of the native host at a place.
+fn number_of_native(t: &Topology, place: usize) -> u16
+    requires { place < length t.now.natives }
+    ensures { result ≡ length t.now.servers + length t.now.nats + length t.now.clients + length t.now.relays + place }
+{
+    (t.servers().len() + t.nats().len() + t.clients().len() + t.relays().len() + place) as u16
+}
+
 fn server_number(t: &Topology, word: &[u8]) -> Option<u16>
     ensures { result ≡ position (λ row. pointwise nat_eq (name_text row.name) word.now) t.now.servers }
 {
-    let Some(place) = server_place(t.servers(), word) else {
-        return None;
-    };
+    let place = server_place(t.servers(), word)?;
     Some(place as u16)
 }
 
 fn nat_number(t: &Topology, word: &[u8]) -> Option<u16>
     ensures { result ≡ option_map (λ k. length t.now.servers + k) (position (λ row. pointwise nat_eq (name_text row.name) word.now) t.now.nats) }
 {
-    let Some(place) = nat_place(t.nats(), word) else {
-        return None;
-    };
+    let place = nat_place(t.nats(), word)?;
     Some((t.servers().len() + place) as u16)
 }
 
-#[tactic(auto, using(crate::proofs::DistinctNames::clients_distinct))]
 fn client_number(t: &Topology, word: &[u8]) -> Option<u16>
     ensures { result ≡ option_map (λ k. length t.now.servers + length t.now.nats + k)
         (position (λ row. pointwise nat_eq (name_text row.name) word.now) t.now.clients) }
 {
-    let Some(place) = client_place(t.clients(), word) else {
-        return None;
-    };
-    Some((t.servers().len() + t.nats().len() + place) as u16)
+    let place = client_place(t.clients(), word)?;
+    Some(number_of_client(t, place))
 }
 
 fn relay_number(t: &Topology, word: &[u8]) -> Option<u16>
     ensures { result ≡ option_map (λ k. length t.now.servers + length t.now.nats + length t.now.clients + k)
         (position (λ row. pointwise nat_eq (name_text row.name) word.now) t.now.relays) }
 {
-    let Some(place) = relay_place(t.relays(), word) else {
-        return None;
-    };
+    let place = relay_place(t.relays(), word)?;
     Some((t.servers().len() + t.nats().len() + t.clients().len() + place) as u16)
 }
 
-#[tactic(auto, using(crate::proofs::DistinctNames::natives_distinct))]
 fn native_number(t: &Topology, word: &[u8]) -> Option<u16>
     ensures { result ≡ option_map (λ k. length t.now.servers + length t.now.nats + length t.now.clients + length t.now.relays + k)
         (position (λ row. pointwise nat_eq (name_text row.name) word.now) t.now.natives) }
 {
-    let Some(place) = native_place(t.natives(), word) else {
-        return None;
-    };
-    Some((t.servers().len() + t.nats().len() + t.clients().len() + t.relays().len() + place) as u16)
+    let place = native_place(t.natives(), word)?;
+    Some(number_of_native(t, place))
 }
 
-/// The number of the client or native host of a name.
-#[tactic(auto, using(crate::proofs::Numbering::host_at))]
+/// The value of a decimal digit.
+fn digit(byte: u8) -> Option<usize> {
+    if !byte.is_ascii_digit() {
+        return None;
+    }
+    Some(usize::from(byte - b'0'))
+}
+
+/// The number that a word ends with; 0 where it ends with none. The nodes of a scenario are mostly named so in order, and the
+/// row at this place is looked at first.
+fn last_number(word: &[u8]) -> usize {
+    let mut number = 0usize;
+    for byte in word {
+        number = match digit(*byte) {
+            Some(value) => number.wrapping_mul(10).wrapping_add(value),
+            None => 0,
+        };
+    }
+    number
+}
+
+/// The number of the client at a place, where it has the name.
+fn guessed_client(t: &Topology, place: usize, name: &Name) -> Option<u16>
+    ensures { IfSome result (λ number. Some number ≡ named has_host t.now (name_text name.now)) }
+{
+    let client = t.clients().get(place)?;
+    if client.name != *name {
+        return None;
+    }
+    Some(number_of_client(t, place))
+}
+
+/// The number of the native host at a place, where it has the name.
+fn guessed_native(t: &Topology, place: usize, name: &Name) -> Option<u16>
+    ensures { IfSome result (λ number. Some number ≡ named has_host t.now (name_text name.now)) }
+{
+    let host = t.natives().get(place)?;
+    if host.name != *name {
+        return None;
+    }
+    Some(number_of_native(t, place))
+}
+
+/// The number of the client or native host at a place, where it has the name.
+fn guessed_at(t: &Topology, place: usize, name: &Name) -> Option<u16>
+    ensures { IfSome result (λ number. Some number ≡ named has_host t.now (name_text name.now)) }
+{
+    if let Some(number) = guessed_client(t, place, name) {
+        return Some(number);
+    }
+    guessed_native(t, place, name)
+}
+
+/// The number of the client or native host of a name, where it stands at the place that its last digits say, or at the one in
+/// front of that: the first has number 0 in some scenarios, and 1 in others.
+fn guessed_host(t: &Topology, word: &[u8]) -> Option<u16>
+    ensures { IfSome result (λ number. Some number ≡ named has_host t.now word.now) }
+{
+    let name = Name::new(word)?;
+    let guess = last_number(word);
+    if let Some(number) = guessed_at(t, guess, &name) {
+        return Some(number);
+    }
+    guessed_at(t, guess.wrapping_sub(1), &name)
+}
+
+/// The number of the client or native host of a name. A longer word names none: an address, mostly.
+#[tactic(auto, using(crate::proofs::Numbering::host_at, crate::proofs::DistinctNames::none_so_long))]
 pub fn host_named(t: &Topology, word: &[u8]) -> Option<u16>
     ensures { result ≡ named has_host t.now word.now }
 {
+    if word.len() > NAME_LEN {
+        return None;
+    }
+    if let Some(number) = guessed_host(t, word) {
+        return Some(number);
+    }
     if let Some(number) = client_number(t, word) {
         return Some(number);
     }
@@ -202,10 +222,8 @@ fn number_behind(t: &Topology, nat: u16, word: &[u8]) -> Option<u16>
     ensures { result ≡ option_map (λ k. length t.now.servers + length t.now.nats + k)
         (position (λ row. (row.nat == nat) && pointwise nat_eq (name_text row.name) word.now) t.now.clients) }
 {
-    let Some(place) = place_behind(t.clients(), nat, word) else {
-        return None;
-    };
-    Some((t.servers().len() + t.nats().len() + place) as u16)
+    let place = place_behind(t.clients(), nat, word)?;
+    Some(number_of_client(t, place))
 }
 
 /// The number of the client of a name behind a NAT.
