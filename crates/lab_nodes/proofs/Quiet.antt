@@ -1,7 +1,7 @@
 -- Until when nodes are quiet, and what follows for the tick that is due first.
 use Rattle.std.proofs.Common.{◌≡◌, ◌≤◌, ◌<◌, ℕ, suc, ◌+◌, Bool, true, false, List, [], ◌∷◌, ◌++◌, length, map, set, Option, Some, None, refl, sym, ap, subst, ◌∙◌, arith, inl, inr}
 use Rattle.std.specs.Prelude.{slice_get, get_or, option_map, is_some, nat_lt, if◌then◌else◌}
-use Rattle.std.proofs.lemmas.Bool.{false≢true, cases_eq, cases_lt, le-ltb}
+use Rattle.std.proofs.lemmas.Bool.{false≢true, cases_eq, le-ltb}
 use Rattle.std.proofs.lemmas.List.{length-map, length-set}
 use Rattle.std.proofs.lemmas.Option.{slice_get_within, slice_get-get_or}
 use Rattle.td_base.specs.declared.millis.Millis.{Millis}
@@ -17,29 +17,29 @@ use Rattle.lab_nodes.specs.declared.played_node.PlayedNode.{PlayedNode}
 use Rattle.lab_nodes.specs.declared.due.Due.{Due as Found}
 use Rattle.lab_nodes.specs.PlayedNode.{row_of, past_of, IsKept, NodesOf, IsReady, AreReady}
 use Rattle.lab_nodes.specs.Changes.{ChangesAt}
-use Rattle.lab_nodes.specs.Due.{due_as, tick_moment, tick_of, NoneIsDue, IsQuietUntil, bound_of, IsQuietNode, AreQuiet, AreQuietBut, NoneIsSooner, AreQuietWith}
+use Rattle.lab_nodes.specs.Due.{due_as, tick_moment, tick_of, NoneIsDue, IsQuietNode, AreQuiet, AreQuietBut, NoneIsSooner, AreQuietWith}
 use Rattle.lab_nodes.proofs.NodeLists.{some_inj, front_or_last, set_there, set_elsewhere, ready_at}
 
 -- THE BOUNDS
 
 -- those that were looked at
-abbrev pub EachQuiet : List PlayedNode → List (Option Millis) → Type 0
-EachQuiet list quiet = (n : ℕ) (p : PlayedNode) (q : Option Millis) → slice_get list n ≡ Some p → slice_get quiet n ≡ Some q → IsQuietNode q p
+abbrev pub EachQuiet : List PlayedNode → List Millis → Type 0
+EachQuiet list quiet = (n : ℕ) (p : PlayedNode) (q : Millis) → slice_get list n ≡ Some p → slice_get quiet n ≡ Some q → IsQuietNode q p
 
 pub none_looked_at : (list : List PlayedNode) → EachQuiet list []
-none_looked_at list n p q here there = absurd (false≢true (ap (λ (o : Option (Option Millis)). is_some o) there))
+none_looked_at list n p q here there = absurd (false≢true (ap (λ (o : Option Millis). is_some o) there))
 
-pub one_more : (list : List PlayedNode) (quiet : List (Option Millis)) (p : PlayedNode) (q : Option Millis) → EachQuiet list quiet → slice_get list (length quiet) ≡ Some p → IsQuietNode q p
+pub one_more : (list : List PlayedNode) (quiet : List Millis) (p : PlayedNode) (q : Millis) → EachQuiet list quiet → slice_get list (length quiet) ≡ Some p → IsQuietNode q p
     → EachQuiet list (quiet ++ q ∷ [])
 one_more list quiet p q each here is = λ n p' q' at at'.
     let same : (k : ℕ) → k ≡ 0 + k = λ (k : ℕ). omega arith in
-    let P : ℕ → Option Millis → Type 0 = λ k x. (y : PlayedNode) → slice_get list k ≡ Some y → IsQuietNode x y in
+    let P : ℕ → Millis → Type 0 = λ k x. (y : PlayedNode) → slice_get list k ≡ Some y → IsQuietNode x y in
     let last : P (length quiet) q = λ y e. subst (IsQuietNode q) (some_inj p y (sym here ∙ e)) is in
     subst (λ (k : ℕ). P k q') (sym (same n))
     (front_or_last P quiet q 0 (λ k x e. subst (λ (j : ℕ). P j x) (same k) (λ y e'. each k y x e' e)) (subst (λ (j : ℕ). P j q) (same (length quiet)) last) n q' at') p' at
 
 -- where one node changes the others are as quiet as before
-pub others_quiet : (does : PlayedNode → PlayedNode → Type 0) (n : ℕ) (old new : List PlayedNode) (quiet : List (Option Millis)) → AreQuiet old quiet → ChangesAt does n old new
+pub others_quiet : (does : PlayedNode → PlayedNode → Type 0) (n : ℕ) (old new : List PlayedNode) (quiet : List Millis) → AreQuiet old quiet → ChangesAt does n old new
     → AreQuietBut n new quiet
 others_quiet does n old new quiet are changes =
     let long : length (map row_of new) ≡ length (map row_of old) = ap (λ (rows : List Node). length rows) changes.rows in
@@ -49,7 +49,7 @@ others_quiet does n old new quiet are changes =
     }
 
 -- and with a look at that one all bounds are right
-pub quiet_again : (n : ℕ) (list : List PlayedNode) (quiet : List (Option Millis)) (p : PlayedNode) (q : Option Millis) → AreQuietBut n list quiet → slice_get list n ≡ Some p → IsQuietNode q p
+pub quiet_again : (n : ℕ) (list : List PlayedNode) (quiet : List Millis) (p : PlayedNode) (q : Millis) → AreQuietBut n list quiet → slice_get list n ≡ Some p → IsQuietNode q p
     → AreQuiet list (set quiet n q)
 quiet_again n list quiet p q but here is = record {
   same = length-set quiet n q ∙ but.same;
@@ -59,7 +59,7 @@ quiet_again n list quiet p q but here is = record {
         let set_n : slice_get (set quiet n q) n ≡ Some q' = ap (slice_get (set quiet n q)) (sym e) ∙ at' in
         let within : n < length quiet = omega (arith, but.same, slice_get_within list n p here) in
         let bound : q ≡ q' = some_inj q q' (sym (set_there quiet n q within) ∙ set_n) in
-        subst (λ (x : Option Millis). IsQuietNode x p') bound (subst (IsQuietNode q) (some_inj p p' (sym here ∙ at_n)) is)
+        subst (λ (x : Millis). IsQuietNode x p') bound (subst (IsQuietNode q) (some_inj p p' (sym here ∙ at_n)) is)
     | inr apart ↦ but.each k apart p' q' at (sym (set_elsewhere quiet n k q apart) ∙ at')
   ];
 }
@@ -72,66 +72,50 @@ moments_of lab H m n a = by_due (tick_due lab H m n a) where
   by_due None = refl
   by_due (Some k) = refl
 
--- what is quiet for good has no tick
-pub never : (x : Option DueNode) → IsQuietUntil None (option_map tick_moment x) → x ≡ None
-never None quiet = refl
-never (Some x) quiet = let late = quiet (suc x.moment) tt in absurd (omega (arith, late))
-
 -- a tick that isn't before the first one so far doesn't come first
-pub not_first : (f : Option DueNode) (x : Option DueNode) (at : Millis) (one : Found) → Some one ≡ option_map due_as f → one.moment.0 ≤ at.0 → IsQuietUntil (Some at.0) (option_map tick_moment x)
+pub not_first : (f : Option DueNode) (x : Option DueNode) (at : Millis) (one : Found) → Some one ≡ option_map due_as f → one.moment.0 ≤ at.0 → IsNoSooner at.0 (option_map tick_moment x)
     → earlier f x ≡ f
 not_first None x at one is late quiet = absurd (false≢true (sym (ap (λ (o : Option Found). is_some o) is)))
 not_first (Some a) None at one is late quiet = refl
 not_first (Some a) (Some x) at one is late quiet =
     let same : one.moment.0 ≡ a.moment = ap (λ (d : Found). d.moment.0) (some_inj one (due_as a) is) in
-    let behind : at.0 ≤ x.moment = quiet at.0 (omega arith) in
-    rw (le-ltb x.moment a.moment (omega (arith, same, late, behind))) refl
+    rw (le-ltb x.moment a.moment (omega (arith, same, late, quiet))) refl
 
 -- THE LEAST BOUND
 
 -- this holds of the first so many bounds: none of them is sooner
-abbrev pub NoneSoonerSo : Option Millis → List (Option Millis) → ℕ → Type 0
-NoneSoonerSo soonest quiet k = (n : ℕ) (q : Option Millis) → n < k → slice_get quiet n ≡ Some q → IsQuietUntil (bound_of soonest) (bound_of q)
-
--- and with the next one, where the bound so far is no later
-pub one_more_bound : (old new : Option Millis) (quiet : List (Option Millis)) (k : ℕ) (until : Option Millis) → NoneSoonerSo old quiet k → slice_get quiet k ≡ Some until
-    → IsQuietUntil (bound_of new) (bound_of old) × IsQuietUntil (bound_of new) (bound_of until) → NoneSoonerSo new quiet (k + 1)
-one_more_bound old new quiet k until so here both = λ n q within at. elim (cases_lt n k) [
-  | inl before ↦ λ m late. so n q before at m (both.0 m late)
-  | inr behind ↦
-      let last : n ≡ k = omega (arith, within, behind) in
-      let bound : until ≡ q = some_inj until q (sym here ∙ ap (slice_get quiet) (sym last) ∙ at) in
-      subst (λ (x : Option Millis). IsQuietUntil (bound_of new) (bound_of x)) bound both.1
-]
-
-pub no_bound_sooner : (soonest : Option Millis) (quiet : List (Option Millis)) (k : ℕ) → NoneSoonerSo soonest quiet k → length quiet ≤ k → NoneIsSooner soonest quiet
-no_bound_sooner soonest quiet k so all = λ n q at.
-    let within = slice_get_within quiet n q at in
-    so n q (omega (arith, within, all)) at
+abbrev pub NoneSoonerSo : Millis → List Millis → ℕ → Type 0
+NoneSoonerSo soonest quiet k = (n : ℕ) (q : Millis) → n < k → slice_get quiet n ≡ Some q → soonest.0 ≤ q.0
 
 -- where one bound changes
-pub still_sooner : (old new : Option Millis) (quiet : List (Option Millis)) (n : ℕ) (q : Option Millis) → NoneIsSooner old quiet → n < length quiet
-    → IsQuietUntil (bound_of new) (bound_of old) × IsQuietUntil (bound_of new) (bound_of q) → NoneIsSooner new (set quiet n q)
+pub still_sooner : (old new : Millis) (quiet : List Millis) (n : ℕ) (q : Millis) → NoneIsSooner old quiet → n < length quiet
+    → (new.0 ≤ old.0) × (new.0 ≤ q.0) → NoneIsSooner new (set quiet n q)
 still_sooner old new quiet n q none within both = λ k x at. elim (cases_eq k n) [
   | inl e ↦
       let bound : q ≡ x = some_inj q x (sym (set_there quiet n q within) ∙ ap (slice_get (set quiet n q)) (sym e) ∙ at) in
-      subst (λ (y : Option Millis). IsQuietUntil (bound_of new) (bound_of y)) bound both.1
-  | inr apart ↦ λ m late. none k x (sym (set_elsewhere quiet n k q apart) ∙ at) m (both.0 m late)
+      subst (λ (y : Millis). new.0 ≤ y.0) bound both.1
+  | inr apart ↦ let was = none k x (sym (set_elsewhere quiet n k q apart) ∙ at) in omega (arith, was, both.0)
 ]
 
 -- WHAT ISN'T DUE YET
+
+-- what isn't due before one moment isn't before one that is no later
+no_sooner_still : (m n : ℕ) (due : Option ℕ) → m ≤ n → IsNoSooner n due → IsNoSooner m due
+no_sooner_still m n None le late = tt
+no_sooner_still m n (Some k) le late = omega (arith, le, late)
 
 -- no tick of any node is due before m
 abbrev pub NoneBefore : ℕ → List PlayedNode → Type 0
 NoneBefore m list = (lab : Lab) (H : List Full) (n k : ℕ) (p : PlayedNode) → slice_get list n ≡ Some p → IsReady k p → IsKept lab.topology n (past_of lab n H) p
     → IsNoSooner m (tick_due lab H k n (row_of p))
 
-pub none_before_soonest : (m : ℕ) (soonest : Option Millis) (list : List PlayedNode) (quiet : List (Option Millis)) → AreQuietWith soonest list quiet → IsNoSooner m (bound_of soonest)
-    → NoneBefore m list
+pub none_before_soonest : (m : ℕ) (soonest : Millis) (list : List PlayedNode) (quiet : List Millis) → AreQuietWith soonest list quiet → m ≤ soonest.0 → NoneBefore m list
 none_before_soonest m soonest list quiet are late = λ lab H n k p at ready kept.
     let within = slice_get_within list n p at in
-    let there = slice_get-get_or quiet n None (omega (arith, within, are.each.same)) in
-    are.each.each n p (get_or quiet n None) at there lab H n k ready kept m (are.none n (get_or quiet n None) there m late)
+    let q = get_or quiet n soonest in
+    let there = slice_get-get_or quiet n soonest (omega (arith, within, are.each.same)) in
+    let bound = are.none n q there in
+    no_sooner_still m q.0 _ (omega (arith, late, bound)) (are.each.each n p q at there lab H n k ready kept)
 
 neither_before : (m : ℕ) (a b : Option DueNode) → IsNoSooner m (option_map tick_moment a) → IsNoSooner m (option_map tick_moment b) → IsNoSooner m (option_map tick_moment (earlier a b))
 neither_before m None b x y = y

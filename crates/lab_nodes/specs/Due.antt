@@ -1,5 +1,5 @@
 -- Which tick is due first, as it is found.
-use Rattle.std.specs.Prelude.{◌≡◌, ◌≢◌, ◌<◌, ℕ, List, length, slice_get, Option, Some, None, option_map}
+use Rattle.std.specs.Prelude.{◌≡◌, ◌≢◌, ◌<◌, ◌≤◌, ℕ, List, length, slice_get, Option, Some, None, option_map}
 use Rattle.td_base.specs.declared.millis.Millis.{Millis}
 use Rattle.peer_list.specs.Overdue.{IsNoSooner}
 use Rattle.topology.specs.declared.node.Node.{Node}
@@ -29,34 +29,26 @@ NoneIsDue end (Some x) = end < x.moment
 
 -- WHICH NODES NEEDN'T BE ASKED
 
--- what is due, if anything, isn't due before a bound: where there is no bound nothing is due
-abbrev pub IsQuietUntil : Option ℕ → Option ℕ → Type 0
-IsQuietUntil bound due = (m : ℕ) → IsNoSooner m bound → IsNoSooner m due
-
--- a bound in milliseconds
-abbrev pub bound_of : Option Millis → Option ℕ
-bound_of quiet = option_map (λ (at : Millis). at.0) quiet
-
 -- no tick of a node is due before this, whatever happened to it of what it stands for, and whenever it is asked
-abbrev pub IsQuietNode : Option Millis → PlayedNode → Type 0
-IsQuietNode quiet p = (lab : Lab) (H : List Full) (n m : ℕ) → IsReady m p → IsKept lab.topology n (past_of lab n H) p
-    → IsQuietUntil (bound_of quiet) (tick_due lab H m n (row_of p))
+abbrev pub IsQuietNode : Millis → PlayedNode → Type 0
+IsQuietNode until p = (lab : Lab) (H : List Full) (n m : ℕ) → IsReady m p → IsKept lab.topology n (past_of lab n H) p
+    → IsNoSooner until.0 (tick_due lab H m n (row_of p))
 
 -- each of the nodes is quiet until the moment in its place, but for one
-pub record AreQuietBut (but : ℕ) (list : List PlayedNode) (quiet : List (Option Millis)) : Type 0 where
+pub record AreQuietBut (but : ℕ) (list : List PlayedNode) (quiet : List Millis) : Type 0 where
   pub same : length quiet ≡ length list
-  pub each : (n : ℕ) → n ≢ but → (p : PlayedNode) (q : Option Millis) → slice_get list n ≡ Some p → slice_get quiet n ≡ Some q → IsQuietNode q p
+  pub each : (n : ℕ) → n ≢ but → (p : PlayedNode) (q : Millis) → slice_get list n ≡ Some p → slice_get quiet n ≡ Some q → IsQuietNode q p
 
 -- each of them
-pub record AreQuiet (list : List PlayedNode) (quiet : List (Option Millis)) : Type 0 where
+pub record AreQuiet (list : List PlayedNode) (quiet : List Millis) : Type 0 where
   pub same : length quiet ≡ length list
-  pub each : (n : ℕ) (p : PlayedNode) (q : Option Millis) → slice_get list n ≡ Some p → slice_get quiet n ≡ Some q → IsQuietNode q p
+  pub each : (n : ℕ) (p : PlayedNode) (q : Millis) → slice_get list n ≡ Some p → slice_get quiet n ≡ Some q → IsQuietNode q p
 
 -- none of the bounds is sooner than this one
-abbrev pub NoneIsSooner : Option Millis → List (Option Millis) → Type 0
-NoneIsSooner soonest quiet = (n : ℕ) (q : Option Millis) → slice_get quiet n ≡ Some q → IsQuietUntil (bound_of soonest) (bound_of q)
+abbrev pub NoneIsSooner : Millis → List Millis → Type 0
+NoneIsSooner soonest quiet = (n : ℕ) (q : Millis) → slice_get quiet n ≡ Some q → soonest.0 ≤ q.0
 
 -- each of the nodes is quiet until the moment in its place, and all of them are until the soonest
-pub record AreQuietWith (soonest : Option Millis) (list : List PlayedNode) (quiet : List (Option Millis)) : Type 0 where
+pub record AreQuietWith (soonest : Millis) (list : List PlayedNode) (quiet : List Millis) : Type 0 where
   pub each : AreQuiet list quiet
   pub none : NoneIsSooner soonest quiet

@@ -1,6 +1,7 @@
 //! Which tick is due first.
 ghost use Rattle.std.specs.Prelude.{◌≡◌, ◌≤◌, ◌<◌, ◌+◌, ℕ, false, if◌then◌else◌, List, length, Option, Some, None, option_map, IfSome, IfNone};
 ghost use Rattle.td_base.specs.declared.millis.TheConstants.{CLOCK_END_MS};
+ghost use Rattle.peer_list.specs.Overdue.{IsNoSooner};
 ghost use Rattle.topology.specs.declared.topology.TheConstants.{NODES_MAX};
 ghost use Rattle.topology.specs.Topology as all;
 ghost use Rattle.history.specs.Full.{Full};
@@ -8,7 +9,7 @@ ghost use Rattle.legal.specs.Lab.{Lab};
 ghost use Rattle.legal.specs.Past.{now};
 ghost use Rattle.legal.specs.Next as next;
 ghost use Rattle.lab_nodes.specs.PlayedNode.{row_of, past_of, IsKept, AreOf, NodesOf, IsReady, AreReady};
-ghost use Rattle.lab_nodes.specs.Due.{due_as, tick_moment, tick_of, NoneIsDue, IsQuietUntil, bound_of, AreQuiet};
+ghost use Rattle.lab_nodes.specs.Due.{due_as, tick_moment, tick_of, NoneIsDue, AreQuiet};
 
 use crate::played_node::PlayedNode;
 use td_base::Millis;
@@ -21,17 +22,14 @@ pub struct Due {
     pub node: u16,
 }
 
-/// Whether a tick of a node may be due before the first one so far, where none of it is due until a moment, or none at
-/// all. It may say that one is where none is.
-fn may_come_first(first: &Option<Due>, quiet: Option<Millis>) -> bool
-    ensures { result ≡ false → (f x : Option next.DueNode) → first.now ≡ option_map due_as f → IsQuietUntil (bound_of quiet) (option_map tick_moment x)
+/// Whether a tick of a node may be due before the first one so far, where none of it is due until a moment. It may say that
+/// one is where none is.
+fn may_come_first(first: &Option<Due>, until: Millis) -> bool
+    ensures { result ≡ false → (f x : Option next.DueNode) → first.now ≡ option_map due_as f → IsNoSooner until.0 (option_map tick_moment x)
         → next.earlier f x ≡ f }
 {
-    let Some(at) = quiet else {
-        return false;
-    };
     match first {
-        Some(one) => at.0 < one.moment.0,
+        Some(one) => until.0 < one.moment.0,
         None => true,
     }
 }
@@ -86,7 +84,7 @@ fn ticking_until(topology: &Topology) -> usize
 pub fn first_due(
     topology: &Topology,
     nodes: &[PlayedNode],
-    quiet: &[Option<Millis>],
+    quiet: &[Millis],
     at: Millis,
 ) -> Option<Due>
     requires quiet { AreQuiet nodes.now quiet.now }

@@ -2,7 +2,6 @@
 ghost use Rattle.std.specs.Prelude.{◌≡◌, ◌≤◌, ◌<◌, ◌+◌, ℕ, true, [], List, length, Some, option_map, IfOk, IfSome, IfNone};
 ghost use Rattle.td_base.specs.declared.datagram.TheConstants.{DATAGRAM_MAX};
 ghost use Rattle.td_base.specs.declared.millis.TheConstants.{CLOCK_END_MS};
-ghost use Rattle.peer_list.specs.Overdue.{IsNoSooner};
 ghost use Rattle.topology.specs.declared.topology.TheConstants.{NODES_MAX};
 ghost use Rattle.topology.specs.Chains.{Behind};
 ghost use Rattle.topology.specs.Topology as all;
@@ -14,14 +13,14 @@ ghost use Rattle.lab_nodes.specs.Call.{input_lent, IsShortInput};
 ghost use Rattle.lab_nodes.specs.PlayedNode.{AreOf, NodesOf, AreReady};
 ghost use Rattle.lab_nodes.specs.Changes.{Restarts, ChangesAt};
 ghost use Rattle.lab_nodes.specs.Answers.{AnswersOrWants};
-ghost use Rattle.lab_nodes.specs.Due.{due_as, NoneIsDue, IsQuietUntil, bound_of, AreQuiet, AreQuietBut, NoneIsSooner, AreQuietWith};
+ghost use Rattle.lab_nodes.specs.Due.{due_as, NoneIsDue, AreQuiet, AreQuietBut, NoneIsSooner, AreQuietWith};
 
 use crate::asked::Asked;
 use crate::call::Call;
 use crate::due::{self, Due};
 use crate::first_node::first_nodes;
 use crate::one_node;
-use crate::played_node::PlayedNode;
+use crate::played_node::{NEVER, PlayedNode};
 use std::alloc::Global;
 use std::marker::Model;
 use td_base::{Millis, NoMemory};
@@ -33,15 +32,15 @@ use topology::Topology;
 pub struct Nodes {
     list: Vec<PlayedNode>,
     // until when no tick of a node is due, so that a search for the first needn't look at each of them
-    quiet: Vec<Option<Millis>>,
+    quiet: Vec<Millis>,
     // until when no tick of any node is due: the least of `quiet` or sooner, so that most often no search is needed
-    soonest: Option<Millis>,
+    soonest: Millis,
 }
 
 // No clause sees a field that nothing reads: so they are their parts, and no byte more.
 const _: () = prove_eq!(
     size_of::<Nodes>(),
-    size_of::<(Vec<PlayedNode>, Vec<Option<Millis>>, Option<Millis>)>()
+    size_of::<(Vec<PlayedNode>, Vec<Millis>, Millis)>()
 );
 
 impl Model for Nodes {
@@ -57,7 +56,7 @@ impl Model for Nodes {
 }
 
 /// Until when no tick of each node is due.
-fn quiet_of(alloc: Global, nodes: &[PlayedNode]) -> Result<Vec<Option<Millis>>, NoMemory>
+fn quiet_of(alloc: Global, nodes: &[PlayedNode]) -> Result<Vec<Millis>, NoMemory>
     ensures { IfOk result (λ quiet. AreQuiet nodes.now quiet.items) }
 {
     let mut quiet = Vec::new(alloc);
@@ -67,24 +66,18 @@ fn quiet_of(alloc: Global, nodes: &[PlayedNode]) -> Result<Vec<Option<Millis>>, 
     Ok(quiet)
 }
 
-/// The sooner of two bounds: `None` is later than any moment.
-fn sooner(a: Option<Millis>, b: Option<Millis>) -> Option<Millis>
-    ensures { IsQuietUntil (bound_of result) (bound_of a) × IsQuietUntil (bound_of result) (bound_of b) }
+/// The sooner of two moments.
+fn sooner(a: Millis, b: Millis) -> Millis
+    ensures { (result.0 ≤ a.0) × (result.0 ≤ b.0) }
 {
-    let Some(one) = a else {
-        return b;
-    };
-    let Some(other) = b else {
-        return a;
-    };
-    if other.0 < one.0 { b } else { a }
+    Millis(a.0.min(b.0))
 }
 
-/// The soonest of all bounds; `None` where nothing is due at all.
-fn soonest_of(quiet: &[Option<Millis>]) -> Option<Millis>
+/// The soonest of all bounds; `NEVER` where nothing is due at all.
+fn soonest_of(quiet: &[Millis]) -> Millis
     ensures { NoneIsSooner result quiet.now }
 {
-    let mut soonest = None;
+    let mut soonest = NEVER;
     for until in quiet {
         soonest = sooner(soonest, *until);
     }
@@ -92,12 +85,7 @@ fn soonest_of(quiet: &[Option<Millis>]) -> Option<Millis>
 }
 
 /// Looks anew until when no tick of the node of a number is due. The soonest bound may be lowered, and is never raised.
-fn look_again(
-    soonest: &mut Option<Millis>,
-    quiet: &mut [Option<Millis>],
-    nodes: &[PlayedNode],
-    number: u16,
-)
+fn look_again(soonest: &mut Millis, quiet: &mut [Millis], nodes: &[PlayedNode], number: u16)
     requires within { number < length nodes.now }
     requires others { AreQuietBut number nodes.now quiet.old }
     requires soonest { NoneIsSooner soonest.old quiet.old }
@@ -107,16 +95,6 @@ fn look_again(
     let until = nodes[number].quiet_until();
     quiet[number] = until;
     *soonest = sooner(*soonest, until);
-}
-
-/// Whether the soonest bound is later than a moment, so that nothing is due by then.
-fn is_quiet_by(soonest: Option<Millis>, end: Millis) -> bool
-    ensures { result ≡ true → IsNoSooner (end.0 + 1) (bound_of soonest) }
-{
-    match soonest {
-        None => true,
-        Some(at) => end.0 < at.0,
-    }
 }
 
 impl Nodes {
@@ -195,7 +173,7 @@ impl Nodes {
         ensures none { (lab : Lab) (H : List Full) → NodesOf lab self.old H → at.0 ≡ now H
             → IfNone result (NoneIsDue end.0 (next.least_due lab H 0 (all.nodes lab.topology))) }
     {
-        if is_quiet_by(self.soonest, end) {
+        if end.0 < self.soonest.0 {
             return None;
         }
         let first = due::first_due(topology, self.list.as_slice(), self.quiet.as_slice(), at);

@@ -2,6 +2,7 @@
 ghost use Rattle.std.specs.Prelude.{◌≡◌, ◌≤◌, ◌<◌, ℕ, List, length, option_map, Some, IfOk, IfSome, OnErr};
 ghost use Rattle.td_base.specs.declared.datagram.TheConstants.{DATAGRAM_MAX};
 ghost use Rattle.td_base.specs.declared.millis.TheConstants.{CLOCK_END_MS};
+ghost use Rattle.peer_list.specs.Overdue.{IsNoSooner};
 ghost use Rattle.history.specs.Full.{Full};
 ghost use Rattle.legal.specs.Lab.{Lab};
 ghost use Rattle.legal.specs.Emit.{tick_due};
@@ -22,7 +23,7 @@ use crate::server::answer_server;
 use client_core::Client;
 use relay_core::Relay;
 use std::alloc::Global;
-use td_base::{Ip6, Millis, NoMemory};
+use td_base::{CLOCK_END_MS, Ip6, Millis, NoMemory};
 use teredo_addr::UNSPECIFIED;
 use teredo_node::{Endpoint, Step};
 use topology::{ClientNode, NatNode, NativeNode, RelayNode, ServerNode};
@@ -36,6 +37,16 @@ pub enum PlayedNode {
     Client { row: ClientNode, client: Client },
     Relay { row: RelayNode, relay: Relay },
     Native { row: NativeNode },
+}
+
+/// Until when a node is quiet of which no tick is due at all: the end of the clock.
+pub(crate) const NEVER: Millis = Millis(CLOCK_END_MS);
+
+/// The moment, or `NEVER` where there is none.
+fn or_never(at: Option<Millis>) -> Millis
+    ensures { IsNoSooner result.0 (option_map (λ at. at.0) at) }
+{
+    at.unwrap_or(NEVER)
 }
 
 impl PlayedNode {
@@ -80,17 +91,17 @@ impl PlayedNode {
         }
     }
 
-    /// The moment before which no tick of it is due, whenever it is asked; `None` where none is due at all. It is a bound
+    /// The moment before which no tick of it is due, whenever it is asked: `NEVER` where none is due at all. It is a bound
     /// that clients and relays keep, and so none need be due then.
-    pub(crate) fn quiet_until(&self) -> Option<Millis>
+    pub(crate) fn quiet_until(&self) -> Millis
         ensures { IsQuietNode result self.now }
     {
         match self {
-            PlayedNode::Client { client, .. } => client.quiet_until(),
-            PlayedNode::Relay { relay, .. } => relay.quiet_until(),
-            PlayedNode::Server { .. } => None,
-            PlayedNode::Nat { .. } => None,
-            PlayedNode::Native { .. } => None,
+            PlayedNode::Client { client, .. } => or_never(client.quiet_until()),
+            PlayedNode::Relay { relay, .. } => or_never(relay.quiet_until()),
+            PlayedNode::Server { .. } => NEVER,
+            PlayedNode::Nat { .. } => NEVER,
+            PlayedNode::Native { .. } => NEVER,
         }
     }
 

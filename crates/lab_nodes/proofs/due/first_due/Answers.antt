@@ -6,7 +6,8 @@ use Rattle.topology.specs.Topology.{nodes}
 use Rattle.legal.specs.Next.{DueNode, earlier}
 use Rattle.lab_nodes.specs.declared.due.Due.{Due as Found}
 use Rattle.lab_nodes.specs.PlayedNode.{row_of, past_of, IsKept, IsReady}
-use Rattle.lab_nodes.specs.Due.{due_as, tick_moment, tick_of, IsQuietUntil}
+use Rattle.peer_list.specs.Overdue.{IsNoSooner}
+use Rattle.lab_nodes.specs.Due.{due_as, tick_moment, tick_of}
 use Rattle.lab_nodes.proofs.NodeLists.{ready_at}
 use Rattle.lab_nodes.proofs.Dues.{IsFirstSo, ticking_until, until_within, none_before, one_further, row_at, at_the_end, still_within}
 use Rattle.lab_nodes.proofs.Quiet.{moments_of}
@@ -36,9 +37,9 @@ ticking-preserved c =
     let longer : IfSome c.ticking.first (λ (x : Found). x.node < n + 1) = still_within n c.ticking.first so_far.within in
     let here : slice_get list n ≡ Some p = slice_get_read list (length list) n p refl (omega (arith, c.ticking-test.true, c.ticking.invariant.within)) c.index-nodes-number.is in
     let quiet = c.args.quiet.now in
-    let q : Option Millis = get_or quiet n None in
+    let q : Millis = get_or quiet n (record { 0 = 0 }) in
     let there : slice_get quiet n ≡ Some q =
-    slice_get-get_or quiet n None (omega (arith, c.ticking-test.true, c.ticking.invariant.within, c.requires.quiet.same)) in
+    slice_get-get_or quiet n (record { 0 = 0 }) (omega (arith, c.ticking-test.true, c.ticking.invariant.within, c.requires.quiet.same)) in
     record {
       within = c.ticking.invariant.within;
       upto = omega (arith, c.ticking-test.true);
@@ -52,8 +53,8 @@ ticking-preserved c =
             let kept : IsKept lab.topology n (past_of lab n H) p = of.each n p here in
             let so = so_far.is lab H of e in
             let tick : Option DueNode = tick_of lab H c.args.at.0 n (row_of p) in
-            let bound : IsQuietUntil (option_map (λ (q : Millis). q.0) q) (option_map tick_moment tick) =
-            subst (IsQuietUntil (option_map (λ (q : Millis). q.0) q)) (sym (moments_of lab H c.args.at.0 n (row_of p))) (c.requires.quiet.each n p q here there lab H n c.args.at.0 ready kept) in
+            let bound : IsNoSooner q.0 (option_map tick_moment tick) =
+            subst (IsNoSooner q.0) (sym (moments_of lab H c.args.at.0 n (row_of p))) (c.requires.quiet.each n p q here there lab H n c.args.at.0 ready kept) in
             let new : c.if-may_come_first.first ≡ option_map due_as (earlier so.tick tick) = elim c.if-may_come_first.branch [
               | then-may_come_first w ↦ w.first-is ∙ w.put_earlier.ensures.earlier lab H so.tick kept so.found
               | else-may_come_first w ↦ w.first-is ∙ so.found ∙ ap (λ (o : Option DueNode). option_map due_as o) (sym (w.if-may_come_first.ensures refl so.tick tick so.found bound))

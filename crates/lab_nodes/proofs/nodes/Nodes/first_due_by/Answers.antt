@@ -1,21 +1,22 @@
-use Rattle.std.proofs.Common.{◌<◌, ◌+◌, ℕ, List, Option, length, sym, subst}
+use Rattle.std.proofs.Common.{◌<◌, ◌≤◌, ◌+◌, ℕ, List, length, sym, subst, arith}
+use Rattle.std.proofs.lemmas.Bool.Decides.{nat_tests}
 use Rattle.std.specs.Prelude.{IfSome}
 use Rattle.td_base.specs.declared.millis.Millis.{Millis}
-use Rattle.peer_list.specs.Overdue.{IsNoSooner}
 use Rattle.topology.specs.Topology.{nodes}
 use Rattle.legal.specs.Next.{least_due}
 use Rattle.lab_nodes.specs.declared.due.Due.{Due}
 use Rattle.lab_nodes.specs.declared.played_node.PlayedNode.{PlayedNode}
 use Rattle.lab_nodes.specs.PlayedNode.{NodesOf, AreReady}
-use Rattle.lab_nodes.specs.Due.{bound_of, NoneIsSooner}
+use Rattle.lab_nodes.specs.Due.{NoneIsSooner}
 use Rattle.lab_nodes.proofs.Quiet.{none_before_soonest, none_due}
 use Rattle.lab_nodes.proofs.nodes.Nodes.first_due_by.Goals as goal
 
-pub returns-then-is_quiet_by-clause-none : goal.returns-then-is_quiet_by-clause-none
-returns-then-is_quiet_by-clause-none c =
+pub returns-then-end-self-clause-none : goal.returns-then-end-self-clause-none
+returns-then-end-self-clause-none c =
     let is = c.self.inside in
     let m : ℕ = c.args.end.0 + 1 in
-    let late : IsNoSooner m (bound_of is.soonest) = c.is_quiet_by.ensures c.if-is_quiet_by.true in
+    let test = c.if-end-self.true in
+    let late : m ≤ is.soonest.0 = grind (arith, nat_tests) in
     let before = none_before_soonest m is.soonest is.list.items is.quiet.items c.self.invariant late in
     let ready : AreReady c.args.at.0 is.list.items = subst (λ (list : List PlayedNode). AreReady c.args.at.0 list) (sym c.self.view_is) c.requires.ready in
     rw (← c.self.view_is) (λ lab H of e. none_due lab H c.args.end.0 is.list.items before (subst (λ (k : ℕ). AreReady k is.list.items) e ready) of)
@@ -23,7 +24,7 @@ returns-then-is_quiet_by-clause-none c =
 pub invariant_of-self : goal.invariant_of-self
 invariant_of-self c = record {
   each = c.self.invariant.each;
-  none = subst (λ (quiet : List (Option Millis)). NoneIsSooner c.soonest_of-self-inside.result quiet) c.as_slice-in_default.ensures.value c.soonest_of-self-inside.ensures;
+  none = subst (λ (quiet : List Millis). NoneIsSooner c.soonest_of-self-inside.result quiet) c.as_slice-in_default.ensures.value c.soonest_of-self-inside.ensures;
 }
 
 pub returns-clause-within : goal.returns-clause-within

@@ -1,4 +1,4 @@
-use Rattle.std.proofs.Common.{List, Option, subst}
+use Rattle.std.proofs.Common.{List, subst}
 use Rattle.td_base.specs.declared.millis.Millis.{Millis}
 use Rattle.lab_nodes.specs.declared.played_node.PlayedNode.{PlayedNode}
 use Rattle.lab_nodes.specs.Due.{AreQuiet, NoneIsSooner}
@@ -7,5 +7,5 @@ use Rattle.lab_nodes.proofs.nodes.Nodes.new.Goals as goal
 pub invariant_of-result : goal.invariant_of-result
 invariant_of-result c = record {
   each = subst (λ (list : List PlayedNode). AreQuiet list c.in_ok-quiet.quiet.items) c.as_slice.ensures.value c.in_ok-quiet.ensures;
-  none = subst (λ (quiet : List (Option Millis)). NoneIsSooner c.soonest_of-soonest.result quiet) c.as_slice-2.ensures.value c.soonest_of-soonest.ensures;
+  none = subst (λ (quiet : List Millis). NoneIsSooner c.soonest_of-soonest.result quiet) c.as_slice-2.ensures.value c.soonest_of-soonest.ensures;
 }
