@@ -1,8 +1,9 @@
 //! What was sent, with its bytes.
-ghost use Rattle.std.specs.Prelude.{◌≡◌, ◌++◌, ◌∷◌, [], length, map, take, slice_get, option_map, OnOk, OnErr};
+ghost use Rattle.std.specs.Prelude.{◌≡◌, ◌++◌, ◌∷◌, [], length, map, take, slice_get, option_map, IfOk, OnOk, OnErr};
 ghost use Rattle.world.specs.Entries.{item_at, kept_entry};
 ghost use Rattle.world.specs.WireEntry.{item_lent};
 
+use crate::wire::ENTRIES_MAX;
 use crate::wire_entry::WireEntry;
 use lab_nodes::lend_part;
 use std::alloc::Global;
@@ -42,15 +43,18 @@ impl Model for Entries {
     ghost invariant = { λ s. AllByRecursion (IsInside (length s.bytes.items)) s.list.items };
 }
 
+/// How many bytes of entries there is room for before more memory is taken.
+const BYTES_AT_FIRST: usize = 64 * ENTRIES_MAX;
+
 impl Entries {
-    /// Nothing was sent.
-    pub fn new(alloc: Global) -> Entries
-        ensures { result ≡ [] }
+    /// Nothing was sent. There is room for all entries, so that none is copied where their list grows: memory that nothing
+    /// touches costs nothing.
+    pub fn new(alloc: Global) -> Result<Entries, NoMemory>
+        ensures { IfOk result (λ entries. entries ≡ []) }
     {
-        Entries {
-            list: Vec::new(alloc),
-            bytes: Vec::new(alloc),
-        }
+        let list = Vec::with_capacity(alloc, ENTRIES_MAX)?;
+        let bytes = Vec::with_capacity(alloc, BYTES_AT_FIRST)?;
+        Ok(Entries { list, bytes })
     }
 
     /// How many there are.

@@ -30,15 +30,6 @@ fn place_of_six(ip: Ip6) -> usize
     usize::from(ip.0[15])
 }
 
-/// The number of the node at which a route ends, else another one.
-fn end_of(route: Route) -> u16 {
-    match route {
-        Route::Reaches { node } => node,
-        Route::Closed { nat } => nat,
-        Route::Astray => 0,
-    }
-}
-
 impl Guesses {
     /// Nothing was sent: each guess is the first node.
     pub fn new() -> Guesses {
@@ -53,9 +44,11 @@ impl Guesses {
         self.outside[place_of(ip)]
     }
 
-    /// Remembers where a datagram to an address went.
+    /// Remembers who got a datagram to an address, if anybody did.
     pub fn note_outside(&mut self, ip: Ip4, route: Route) {
-        self.outside[place_of(ip)] = end_of(route);
+        if let Route::Reaches { node } = route {
+            self.outside[place_of(ip)] = node;
+        }
     }
 
     /// Who may have got the last packet to an address.
@@ -63,8 +56,10 @@ impl Guesses {
         self.six[place_of_six(ip)]
     }
 
-    /// Remembers where a packet to an address went.
+    /// Remembers who got a packet to an address, if anybody did.
     pub fn note_six(&mut self, ip: Ip6, route: Route) {
-        self.six[place_of_six(ip)] = end_of(route);
+        if let Route::Reaches { node } = route {
+            self.six[place_of_six(ip)] = node;
+        }
     }
 }

@@ -39,14 +39,16 @@ impl Model for Wire {
 
 impl Wire {
     /// Nothing was sent.
-    pub fn new(alloc: Global) -> Wire
-        ensures { result ≡ no_wire }
+    pub fn new(alloc: Global) -> Result<Wire, NoMemory>
+        ensures { IfOk result (λ wire. wire ≡ no_wire) }
     {
-        Wire {
-            entries: Entries::new(alloc),
-            delivered: Vec::new(alloc),
+        let entries = Entries::new(alloc)?;
+        let delivered = Vec::with_capacity(alloc, ENTRIES_MAX)?;
+        Ok(Wire {
+            entries,
+            delivered,
             low: 0,
-        }
+        })
     }
 
     /// How many entries there are.

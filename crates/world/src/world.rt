@@ -78,7 +78,7 @@ impl<'a> World<'a> {
     {
         let _rules = topology.clients();
         let nodes = Nodes::new(alloc, topology, seed)?;
-        let wire = Wire::new(alloc);
+        let wire = Wire::new(alloc)?;
         Ok(World {
             topology,
             nats,

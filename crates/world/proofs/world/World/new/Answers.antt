@@ -22,8 +22,8 @@ returns-clause-stands c = record {
   going = refl;
   nodes = c.in_ok-nodes.ensures.kept c.args.nats.chain;
   nats = record { topology = c.requires.same; chain = refl; stands = c.requires.first.0 };
-  wire = ap (λ (w : WireState). w.items) c.new-wire.ensures;
-  done = λ i. rw (c.new-wire.ensures) refl;
+  wire = ap (λ (w : WireState). w.items) c.in_ok-wire.ensures;
+  done = λ i. rw (c.in_ok-wire.ensures) refl;
   armed = refl;
   left = refl;
   most = omega arith;
