@@ -22,13 +22,13 @@ use Rattle.topology.specs.declared.node.Node.TheVariants.{Server as server, Nat 
 use Rattle.topology.specs.Topology.{nodes, node_at, is_at, is_behind, is_native, first_passing}
 use Rattle.topology.specs.Rules.{AreDistinct, same_inside, IsTopology}
 use Rattle.topology.specs.NodeRules.{has_address, AddressesAreApart}
-use Rattle.topology.specs.Chains.{chain_in}
+use Rattle.topology.specs.Chains.{Inward, comes_to, shut_at, chain_in}
 use Rattle.topology.proofs.Lists.{flat_joined}
 use Rattle.history.specs.Full.{udp, six, Full}
 use Rattle.legal.specs.Lab.{Lab}
 use Rattle.legal.specs.Past.{nat_pasts}
 use Rattle.legal.specs.Emit.{reaches, astray, reach, reach_node, route_in, from_outside, route}
-use Rattle.legal.specs.Routes.{IsLetIn, EachIsReached}
+use Rattle.legal.specs.Routes.{EntersBy, IsLetIn, EachIsReached, EachIsShutOut}
 
 -- THE FIRST THAT PASSES
 
@@ -257,13 +257,21 @@ server_there dst a (inr e) = ap (λ (b : Bool). same_ep dst (server_ep a.primary
   or_true true = refl
   or_true false = refl
 
-let_in : AddressesAreApart → (lab : Lab) (H : List Full) (m : ℕ) (src dst : Ep) (bytes : List ℕ) (n : ℕ) (c : ClientNode) → IsTopology lab.topology → node_at lab.topology n ≡ Some (client c) → IsLetIn lab H m src dst c
-    → route lab H m (udp src dst bytes) ≡ reaches n (client c)
-let_in apart lab H m src dst bytes n c is at in_ =
+-- a datagram for the address of a NAT that is behind no other
+past_nats : AddressesAreApart → (lab : Lab) (H : List Full) (m : ℕ) (src dst : Ep) (bytes : List ℕ) (way : Inward) → IsTopology lab.topology
+    → EntersBy lab H m src dst way → route lab H m (udp src dst bytes) ≡ route_in lab.topology way
+past_nats apart lab H m src dst bytes way is in_ =
     let there : is_at dst (nat in_.row) ≡ true = ap (λ (ip : Ip4). same_ip dst.ip ip) (sym in_.external) ∙ same_ip-self dst.ip in
     ap (from_outside lab H m src dst) (at_dst apart lab.topology dst in_.outer (nat in_.row) is in_.there there)
     ∙ ap (λ (b : Bool). cond b astray (route_in lab.topology (chain_in lab.topology lab.chain (nat_pasts lab H) m in_.outer src dst.port))) in_.outermost
-    ∙ ap (route_in lab.topology) in_.enters ∙ at_inside lab.topology n c is at
+    ∙ ap (route_in lab.topology) in_.enters
+
+let_in : AddressesAreApart → (lab : Lab) (H : List Full) (m : ℕ) (src dst : Ep) (bytes : List ℕ) (n : ℕ) (c : ClientNode) → IsTopology lab.topology
+    → node_at lab.topology n ≡ Some (client c) → IsLetIn lab H m src dst c → route lab H m (udp src dst bytes) ≡ reaches n (client c)
+let_in apart lab H m src dst bytes n c is at in_ = past_nats apart lab H m src dst bytes (comes_to c.nat c.inside) is in_ ∙ at_inside lab.topology n c is at
+
+pub each_is_shut_out : AddressesAreApart → EachIsShutOut
+each_is_shut_out apart lab H m src dst bytes k is shut = past_nats apart lab H m src dst bytes (shut_at k) is shut
 
 pub each_is_reached : AddressesAreApart → EachIsReached
 each_is_reached apart lab H m (udp src dst bytes) n (server a) is at h = ap (from_outside lab H m src dst) (at_dst apart lab.topology dst n (server a) is at (server_there dst a h))

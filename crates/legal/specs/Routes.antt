@@ -11,21 +11,28 @@ use Rattle.topology.specs.declared.node.Node.{Node}
 use Rattle.topology.specs.declared.node.Node.TheVariants.{Server as server, Nat as nat, Client as client, Relay as relay, Native as native}
 use Rattle.topology.specs.Rules.{IsTopology}
 use Rattle.topology.specs.Topology.{node_at}
-use Rattle.topology.specs.Chains.{is_inner, comes_to, chain_in}
+use Rattle.topology.specs.Chains.{is_inner, Inward, comes_to, shut_at, chain_in}
 use Rattle.history.specs.Full.{Item, udp, six, Full}
 use Rattle.legal.specs.Lab.{Lab}
 use Rattle.legal.specs.Past.{nat_pasts}
-use Rattle.legal.specs.Emit.{reaches, route}
+use Rattle.legal.specs.Emit.{reaches, closed, route}
 
--- a datagram from src goes to the address of a NAT that is behind no other. This NAT and those behind it let it in to the
--- client
-pub record IsLetIn (lab : Lab) (H : List Full) (m : ℕ) (src dst : Ep) (c : ClientNode) : Type 0 where
+-- a datagram from src goes to the address of a NAT that is behind no other. So it comes in past this NAT and those behind it
+pub record EntersBy (lab : Lab) (H : List Full) (m : ℕ) (src dst : Ep) (way : Inward) : Type 0 where
   pub outer : ℕ
   pub row : NatNode
   pub there : node_at lab.topology outer ≡ Some (nat row)
   pub outermost : is_inner lab.chain outer ≡ false
   pub external : dst.ip ≡ row.external
-  pub enters : chain_in lab.topology lab.chain (nat_pasts lab H) m outer src dst.port ≡ comes_to c.nat c.inside
+  pub enters : chain_in lab.topology lab.chain (nat_pasts lab H) m outer src dst.port ≡ way
+
+-- they let it in to the client
+abbrev pub IsLetIn : Lab → List Full → ℕ → Ep → Ep → ClientNode → Type 0
+IsLetIn lab H m src dst c = EntersBy lab H m src dst (comes_to c.nat c.inside)
+
+-- NAT k of them lets it in to nobody
+abbrev pub IsShutOut : Lab → List Full → ℕ → Ep → Ep → ℕ → Type 0
+IsShutOut lab H m src dst k = EntersBy lab H m src dst (shut_at k)
 
 -- a packet without a relay is for the native host with its destination
 pub record IsForNative (h : NativeNode) (bytes : List ℕ) : Type 0 where
@@ -58,3 +65,8 @@ EachRoute = (lab : Lab) (H : List Full) (m : ℕ) (x : Item) (n : ℕ) (a : Node
 abbrev pub EachIsReached : Type 0
 EachIsReached = (lab : Lab) (H : List Full) (m : ℕ) (x : Item) (n : ℕ) (a : Node) → IsTopology lab.topology → node_at lab.topology n ≡ Some a
     → Reaches lab H m x n a → route lab H m x ≡ reaches n a
+
+-- and no node where a NAT shuts it out
+abbrev pub EachIsShutOut : Type 0
+EachIsShutOut = (lab : Lab) (H : List Full) (m : ℕ) (src dst : Ep) (bytes : List ℕ) (k : ℕ) → IsTopology lab.topology
+    → IsShutOut lab H m src dst k → route lab H m (udp src dst bytes) ≡ closed k

@@ -1,15 +1,14 @@
 //! Where an entry of the wire goes.
-ghost use Rattle.std.specs.Prelude.{◌≡◌, ◌≤◌, ℕ, true, List, [], Some, None};
+ghost use Rattle.std.specs.Prelude.{◌≡◌, ◌≤◌, ℕ, true, List, [], Some, None, IfSome};
 ghost use Rattle.ipv6_packet.specs.Reads.{is_packet, fields_in};
-ghost use Rattle.topology.specs.declared.node.Node.TheVariants.{Nat as nat};
 ghost use Rattle.topology.specs.Named.{is_nat};
 ghost use Rattle.topology.specs.Topology.{node_at};
-ghost use Rattle.topology.specs.Chains.{Behind};
+ghost use Rattle.topology.specs.Chains.{Behind, comes_to};
 ghost use Rattle.td_chain.specs.Chains.{inward_of};
 ghost use Rattle.history.specs.Full.{Full, udp, six};
 ghost use Rattle.legal.specs.Lab.{Draws, lab_on};
 ghost use Rattle.legal.specs.Emit.{reach, route_in, from_outside, route};
-ghost use Rattle.legal.specs.Routes.{IsLetIn};
+ghost use Rattle.legal.specs.Routes.{EntersBy};
 ghost use Rattle.world.specs.Emission.{AreNatsWith};
 ghost use Rattle.world.specs.WireEntry.{item_lent};
 ghost use Rattle.world.specs.Route.{by_route, reached, IsThere};
@@ -18,7 +17,7 @@ use crate::guesses::Guesses;
 use crate::wire_entry::WireEntry;
 use td_base::{Ep, Ip6, Millis};
 use td_chain::{Chains, Way};
-use topology::{ClientNode, NatNode, Node, Topology};
+use topology::{ClientNode, Node, Topology};
 
 /// Where an entry goes: to a node, to a NAT that lets it in to nobody, or to nobody at all. Nodes stand by their
 /// numbers.
@@ -108,67 +107,76 @@ fn datagram_route(topology: &Topology, nats: &Chains<'_>, now: Millis, src: Ep, 
     }
 }
 
-/// Whether a datagram goes to the address of a client's NAT, which is behind no other one, and is let in to the client.
-fn lets_in(
+/// The way in of a datagram that goes to the address of the NAT of a number, where this is behind no other one.
+fn way_in(
+    topology: &Topology,
     nats: &Chains<'_>,
-    row: NatNode,
-    client: ClientNode,
+    at: u16,
     now: Millis,
     src: Ep,
     dst: Ep,
-) -> bool
-    requires there { node_at nats.now.topology client.nat ≡ Some (nat row) }
+) -> Option<Way>
+    requires same { nats.now.topology ≡ topology.now }
     requires clock { nats.now.moment ≤ now.0 }
-    ensures { result ≡ true → (d : Draws) (H : List Full) → AreNatsWith (lab_on d nats.now.topology nats.now.chain) H [] nats.now
-        → IsLetIn (lab_on d nats.now.topology nats.now.chain) H now.0 src dst client }
+    ensures { IfSome result (λ (way : Way). (d : Draws) (H : List Full) → AreNatsWith (lab_on d topology.now nats.now.chain) H [] nats.now
+        → EntersBy (lab_on d topology.now nats.now.chain) H now.0 src dst (inward_of way)) }
 {
+    let node = topology.node(usize::from(at))?;
+    let Node::Nat(row) = node else {
+        return None;
+    };
     if dst.ip != row.external {
-        return false;
+        return None;
     }
-    if nats.is_inner(client.nat) {
-        return false;
+    if nats.is_inner(at) {
+        return None;
     }
-    match nats.inward(now, client.nat, src, dst.port) {
-        Way::Closed { .. } => false,
-        Way::In { nat, inside } => {
-            if nat != client.nat {
-                return false;
-            }
-            inside == client.inside
-        }
-    }
+    Some(nats.inward(now, at, src, dst.port))
 }
 
-/// Whether a datagram goes to the client of a number, through one NAT.
-fn goes_to_client(
+/// Whether a client is the one behind a NAT that has this inside endpoint.
+fn is_inside(client: ClientNode, nat: u16, inside: Ep) -> bool
+    ensures { result ≡ true → comes_to nat inside ≡ comes_to client.nat client.inside }
+{
+    if nat != client.nat {
+        return false;
+    }
+    inside == client.inside
+}
+
+/// The route of a datagram that goes to the address of the NAT of a guessed client: to the client, or to the NAT that shuts
+/// it out. None where the guess doesn't tell.
+fn guessed_route(
     topology: &Topology,
     nats: &Chains<'_>,
     now: Millis,
     src: Ep,
     dst: Ep,
     number: u16,
-) -> bool
+) -> Option<Route>
     requires same { nats.now.topology ≡ topology.now }
     requires clock { nats.now.moment ≤ now.0 }
-    ensures there { result ≡ true → IsThere topology.now (reached number) }
-    ensures route { result ≡ true → (d : Draws) (H : List Full) → AreNatsWith (lab_on d topology.now nats.now.chain) H [] nats.now → (bytes : List ℕ)
-        → by_route topology.now (reached number) ≡ route (lab_on d topology.now nats.now.chain) H now.0 (udp src dst bytes) }
+    ensures there { IfSome result (IsThere topology.now) }
+    ensures route { IfSome result (λ (told : Route). (d : Draws) (H : List Full) → AreNatsWith (lab_on d topology.now nats.now.chain) H [] nats.now → (bytes : List ℕ)
+        → by_route topology.now told ≡ route (lab_on d topology.now nats.now.chain) H now.0 (udp src dst bytes)) }
 {
     legal::is_reached();
+    legal::is_shut_out();
     let _rules = topology.clients();
-    let Some(node) = topology.node(usize::from(number)) else {
-        return false;
-    };
+    let node = topology.node(usize::from(number))?;
     let Node::Client(client) = node else {
-        return false;
+        return None;
     };
-    let Some(before) = topology.node(usize::from(client.nat)) else {
-        return false;
-    };
-    let Node::Nat(row) = before else {
-        return false;
-    };
-    lets_in(nats, row, client, now, src, dst)
+    let way = way_in(topology, nats, client.nat, now, src, dst)?;
+    match way {
+        Way::Closed { nat } => Some(Route::Closed { nat }),
+        Way::In { nat, inside } => {
+            if is_inside(client, nat, inside) {
+                return Some(Route::Reaches { node: number });
+            }
+            None
+        }
+    }
 }
 
 /// The route of a datagram. The client that got the last one to its address is looked at first.
@@ -187,8 +195,8 @@ fn route_of_datagram(
         → by_route topology.now result ≡ route (lab_on d topology.now nats.now.chain) H now.0 (udp src dst bytes) }
 {
     let node = guesses.outside(dst.ip);
-    if goes_to_client(topology, nats, now, src, dst, node) {
-        return Route::Reaches { node };
+    if let Some(route) = guessed_route(topology, nats, now, src, dst, node) {
+        return route;
     }
     let route = datagram_route(topology, nats, now, src, dst);
     guesses.note_outside(dst.ip, route);

@@ -1,0 +1,32 @@
+use Rattle.std.proofs.Common.{◌≡◌, Some, sym, ap, subst, ◌∙◌}
+use Rattle.topology.specs.declared.node.Node.{Node}
+use Rattle.topology.specs.declared.node.Node.TheVariants.{Client as client}
+use Rattle.topology.specs.Topology.{node_at}
+use Rattle.history.specs.Full.{udp}
+use Rattle.td_chain.specs.Chains.{inward_of}
+use Rattle.td_chain.specs.declared.way.Way.{Way}
+use Rattle.legal.specs.Lab.{lab_on}
+use Rattle.legal.specs.Emit.{reach_node}
+use Rattle.legal.specs.Routes.{EntersBy}
+use Rattle.world.proofs.route.guessed_route.Goals as goal
+
+pub returns-in-Closed-clause-route : goal.returns-in-Closed-clause-route
+returns-in-Closed-clause-route c = λ d H is bytes.
+    let t = c.args.topology.now in
+    let lab = lab_on d t c.args.nats.now.chain in
+    let m = c.args.now.0 in
+    let shut = subst (λ (w : Way). EntersBy lab H m c.args.src c.args.dst (inward_of w)) c.in-Closed.is (c.in_ok-way.ensures d H is) in
+    sym (c.is_shut_out.ensures lab H m c.args.src c.args.dst bytes c.in-Closed.nat c.clients-rules.ensures.rules shut)
+
+pub returns-then-is_inside-clause-route : goal.returns-then-is_inside-clause-route
+returns-then-is_inside-clause-route c = λ d H is bytes.
+    let t = c.args.topology.now in
+    let lab = lab_on d t c.args.nats.now.chain in
+    let m = c.args.now.0 in
+    let row = c.in-Client.client in
+    let there : node_at t c.args.number ≡ Some (client row) =
+    ap (node_at t) (sym c.from.ensures) ∙ sym c.in_ok-node.ensures.found ∙ ap (λ (a : Node). Some a) c.in-Client.is in
+    let in_ = subst (λ (w : Way). EntersBy lab H m c.args.src c.args.dst (inward_of w)) c.in-In.is (c.in_ok-way.ensures d H is) in
+    let goes = subst (EntersBy lab H m c.args.src c.args.dst) (c.is_inside.ensures c.if-is_inside.true) in_ in
+    ap (reach_node c.args.number) there
+    ∙ sym (c.is_reached.ensures lab H m (udp c.args.src c.args.dst bytes) c.args.number (client row) c.clients-rules.ensures.rules there goes)
