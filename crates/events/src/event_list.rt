@@ -38,6 +38,7 @@ impl Events {
     }
 
     /// Appends an event, or drops it where memory runs out.
+    #[inline(always)]
     pub fn push(&mut self, event: Event) -> Result<(), NoMemory>
         ensures ok { OnOk result (self.new ≡ self.old ++ event ∷ []) }
         ensures err { OnErr result (self.new ≡ self.old) }

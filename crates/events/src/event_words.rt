@@ -41,6 +41,7 @@ fn word_len(text: &[u8]) -> usize
 }
 
 /// The next word, and those behind it.
+#[inline(always)]
 fn next_word(words: WordsLeft) -> Result<(&[u8], WordsLeft), EventFault>
     ensures found { IfOk result (λ x. words_from words.entry.text.now words.entry.at ≡ a_word words.entry.at x.0.now (words_from x.1.text.now x.1.at)) }
     ensures none { IfErr result (λ e. (e ≡ At (length words.entry.text.now))
@@ -91,6 +92,7 @@ pub(crate) fn endpoint(words: WordsLeft) -> Result<(Ep, WordsLeft), EventFault>
 }
 
 /// At most `most` bytes.
+#[inline(always)]
 pub(crate) fn bytes(
     alloc: Global,
     words: WordsLeft,
@@ -117,6 +119,7 @@ pub(crate) fn host<'a>(
 }
 
 /// Whom a packet is sent to.
+#[inline(always)]
 pub(crate) fn target<'a>(
     t: &Topology,
     words: WordsLeft<'a>,
