@@ -1,10 +1,10 @@
 //! The words of an event's text, one after the other.
-ghost use Rattle.std.specs.Prelude.{◌≡◌, ◌==◌, ◌≤◌, length, find, IfOk, IfErr};
+ghost use Rattle.std.specs.Prelude.{◌≡◌, ◌==◌, ◌≤◌, length, IfOk, IfErr};
 ghost use Rattle.std.specs.List.{position_or_len};
-ghost use Rattle.td_base.specs.Values.{same_text, number_of, ep_of};
+ghost use Rattle.td_base.specs.Values.{number_of, ep_of};
 ghost use Rattle.events.specs.Words.{space, bytes_spelled};
 ghost use Rattle.events.specs.EventText.{no_word, a_word, word, no_more};
-ghost use Rattle.events.specs.Verbs.{verb_word, verb_of};
+ghost use Rattle.events.specs.Verbs.{verb_of};
 ghost use Rattle.topology.specs.Named.{any_kind, named};
 ghost use Rattle.events.specs.NodeWords.{target_of};
 ghost use Rattle.topology.specs.Named.{has_host, is_nat, is_client_of};
@@ -15,7 +15,7 @@ use crate::event::Event;
 use crate::event_fault::EventFault;
 use crate::node_words::target_word;
 use crate::target::Target;
-use crate::verb::{VERBS, Verb};
+use crate::verb::{Verb, verb_named};
 use crate::word_texts::bytes_word;
 use memchr::memchr;
 use std::alloc::Global;
@@ -167,23 +167,6 @@ pub(crate) fn client<'a>(
     let (word, behind) = next_word(words)?;
     let number = client_named(t, nat, word).ok_or(EventFault::At { place: words.at })?;
     Ok((number, behind))
-}
-
-fn verb_among(verbs: &[Verb], word: &[u8]) -> Option<Verb>
-    ensures { result ≡ find (λ verb. same_text (verb_word verb) word.now) verbs.now }
-{
-    verbs
-        .iter()
-        .copied()
-        .find(|verb| verb.name().as_bytes() == word)
-}
-
-/// The event's word that a text is.
-#[tactic(auto, unfolding(crate::specs::Verbs::verb_of))]
-fn verb_named(word: &[u8]) -> Option<Verb>
-    ensures { result ≡ verb_of word.now }
-{
-    verb_among(&VERBS, word)
 }
 
 /// Which event it is.

@@ -1,5 +1,5 @@
 ghost use Rattle.std.specs.Prelude.{◌≡◌};
-ghost use Rattle.events.specs.Verbs.{verb_word};
+ghost use Rattle.events.specs.Verbs.{verb_word, verb_of};
 
 /// An event's word.
 #[derive(Clone, Copy, Debug, PartialEq, Eq)]
@@ -17,22 +17,6 @@ pub enum Verb {
     Fault,
     Settle,
 }
-
-/// All of them.
-pub(crate) const VERBS: [Verb; 12] = [
-    Verb::Advance,
-    Verb::Deliver,
-    Verb::Next,
-    Verb::Host,
-    Verb::Echo,
-    Verb::Raw,
-    Verb::Stranger,
-    Verb::Copy,
-    Verb::Restart,
-    Verb::Forget,
-    Verb::Fault,
-    Verb::Settle,
-];
 
 impl Verb {
     /// The word as it stands in a text.
@@ -53,5 +37,27 @@ impl Verb {
             Verb::Fault => "fault",
             Verb::Settle => "settle",
         }
+    }
+}
+
+/// The event's word that a text is.
+#[tactic(auto, unfolding(crate::specs::Verbs::verb_of))]
+pub(crate) fn verb_named(word: &[u8]) -> Option<Verb>
+    ensures { result ≡ verb_of word.now }
+{
+    match word {
+        b"advance" => Some(Verb::Advance),
+        b"deliver" => Some(Verb::Deliver),
+        b"next" => Some(Verb::Next),
+        b"host" => Some(Verb::Host),
+        b"echo" => Some(Verb::Echo),
+        b"raw" => Some(Verb::Raw),
+        b"stranger" => Some(Verb::Stranger),
+        b"copy" => Some(Verb::Copy),
+        b"restart" => Some(Verb::Restart),
+        b"forget" => Some(Verb::Forget),
+        b"fault" => Some(Verb::Fault),
+        b"settle" => Some(Verb::Settle),
+        _ => None,
     }
 }
