@@ -16,7 +16,7 @@ use Rattle.topology.specs.Named.{has_host, is_named, named}
 use Rattle.topology.specs.Rows.{TopologyState}
 use Rattle.topology.specs.Rules.{AreDistinct, names_of, IsTopology}
 use Rattle.topology.specs.Topology.{nodes, name_of}
-use Rattle.topology.proofs.NameLemmas.{same_name-true, no_text_so_long}
+use Rattle.topology.proofs.NameLemmas.{same_name-self, same_name-true, no_text_so_long}
 use Rattle.topology.proofs.Numbering.{at_front}
 
 -- there is one at the place, and it passes
@@ -87,22 +87,24 @@ behind p f (x ∷ xs) ys i has =
     ap (passes_at p (f x ∷ map f xs ++ ys)) same ∙ behind p f xs ys i has
 
 -- the client at a place is the one of its name
-pub client_found : (t : TopologyState) (of : Name) (i : ℕ) (c : ClientNode) → IsTopology t → slice_get t.clients i ≡ Some c → same_name c.name of ≡ true
-    → Some (length t.servers + length t.nats + i) ≡ named has_host t (name_text of)
-client_found t of i c rules at has =
+pub client_found : (t : TopologyState) (i : ℕ) (c : ClientNode) → IsTopology t → slice_get t.clients i ≡ Some c
+    → Some (length t.servers + length t.nats + i) ≡ named has_host t (name_text c.name)
+client_found t i c rules at =
+    let of = c.name in
     let number : length t.servers + length t.nats + i ≡ length t.servers + (length t.nats + i) = omega arith in
-    let among_clients = of_kind (is_host of) client t.clients i c at has in
+    let among_clients = of_kind (is_host of) client t.clients i c at (same_name-self of) in
     let place = in_front (is_host of) (map client t.clients) _ i among_clients in
     ap Some number
     ∙ found_at t of _ rules.names (behind (is_host of) server t.servers _ _ (behind (is_host of) nat t.nats _ i place))
 
 -- the native host at a place is the one of its name
-pub native_found : (t : TopologyState) (of : Name) (i : ℕ) (h : NativeNode) → IsTopology t → slice_get t.natives i ≡ Some h → same_name h.name of ≡ true
-    → Some (length t.servers + length t.nats + length t.clients + length t.relays + i) ≡ named has_host t (name_text of)
-native_found t of i h rules at has =
+pub native_found : (t : TopologyState) (i : ℕ) (h : NativeNode) → IsTopology t → slice_get t.natives i ≡ Some h
+    → Some (length t.servers + length t.nats + length t.clients + length t.relays + i) ≡ named has_host t (name_text h.name)
+native_found t i h rules at =
+    let of = h.name in
     let number : length t.servers + length t.nats + length t.clients + length t.relays + i
     ≡ length t.servers + (length t.nats + (length t.clients + (length t.relays + i))) = omega arith in
-    let behind_relays = behind (is_host of) relay t.relays _ i (of_kind (is_host of) native t.natives i h at has) in
+    let behind_relays = behind (is_host of) relay t.relays _ i (of_kind (is_host of) native t.natives i h at (same_name-self of)) in
     let behind_clients = behind (is_host of) client t.clients _ _ behind_relays in
     ap Some number
     ∙ found_at t of _ rules.names (behind (is_host of) server t.servers _ _ (behind (is_host of) nat t.nats _ _ behind_clients))

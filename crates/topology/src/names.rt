@@ -133,35 +133,35 @@ fn last_number(word: &[u8]) -> usize {
 }
 
 /// The number of the client at a place, where it has the name.
-fn guessed_client(t: &Topology, place: usize, name: &Name) -> Option<u16>
-    ensures { IfSome result (λ number. Some number ≡ named has_host t.now (name_text name.now)) }
+fn guessed_client(t: &Topology, place: usize, word: &[u8]) -> Option<u16>
+    ensures { IfSome result (λ number. Some number ≡ named has_host t.now word.now) }
 {
     let client = t.clients().get(place)?;
-    if client.name != *name {
+    if client.name.as_slice() != word {
         return None;
     }
     Some(number_of_client(t, place))
 }
 
 /// The number of the native host at a place, where it has the name.
-fn guessed_native(t: &Topology, place: usize, name: &Name) -> Option<u16>
-    ensures { IfSome result (λ number. Some number ≡ named has_host t.now (name_text name.now)) }
+fn guessed_native(t: &Topology, place: usize, word: &[u8]) -> Option<u16>
+    ensures { IfSome result (λ number. Some number ≡ named has_host t.now word.now) }
 {
     let host = t.natives().get(place)?;
-    if host.name != *name {
+    if host.name.as_slice() != word {
         return None;
     }
     Some(number_of_native(t, place))
 }
 
 /// The number of the client or native host at a place, where it has the name.
-fn guessed_at(t: &Topology, place: usize, name: &Name) -> Option<u16>
-    ensures { IfSome result (λ number. Some number ≡ named has_host t.now (name_text name.now)) }
+fn guessed_at(t: &Topology, place: usize, word: &[u8]) -> Option<u16>
+    ensures { IfSome result (λ number. Some number ≡ named has_host t.now word.now) }
 {
-    if let Some(number) = guessed_client(t, place, name) {
+    if let Some(number) = guessed_client(t, place, word) {
         return Some(number);
     }
-    guessed_native(t, place, name)
+    guessed_native(t, place, word)
 }
 
 /// The number of the client or native host of a name, where it stands at the place that its last digits say, or at the one in
@@ -169,12 +169,11 @@ fn guessed_at(t: &Topology, place: usize, name: &Name) -> Option<u16>
 fn guessed_host(t: &Topology, word: &[u8]) -> Option<u16>
     ensures { IfSome result (λ number. Some number ≡ named has_host t.now word.now) }
 {
-    let name = Name::new(word)?;
     let guess = last_number(word);
-    if let Some(number) = guessed_at(t, guess, &name) {
+    if let Some(number) = guessed_at(t, guess, word) {
         return Some(number);
     }
-    guessed_at(t, guess.wrapping_sub(1), &name)
+    guessed_at(t, guess.wrapping_sub(1), word)
 }
 
 /// The number of the client or native host of a name. A longer word names none: an address, mostly.

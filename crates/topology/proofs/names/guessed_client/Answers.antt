@@ -1,7 +1,10 @@
 use Rattle.std.proofs.Common.{arith, ◌≡◌, true, Some, refl, sym, ap, ◌∙◌}
-use Rattle.std.specs.Prelude.{slice_get}
+use Rattle.std.specs.Cmp.Lexicographic.{pointwise, pointwise_decides}
+use Rattle.std.specs.Prelude.{nat_eq, slice_get}
+use Rattle.std.proofs.lemmas.Bool.Decides.{Decides-eqb}
 use Rattle.std.proofs.lemmas.Option.{slice_get_read}
-use Rattle.topology.specs.Names.{same_name}
+use Rattle.topology.specs.Names.{name_text}
+use Rattle.topology.specs.Named.{has_host, named}
 use Rattle.topology.proofs.DistinctNames.{client_found}
 use Rattle.topology.proofs.names.guessed_client.Goals as goal
 
@@ -11,6 +14,8 @@ returns c =
     let at = c.in_ok-client.ensures.lookup in
     let there = ap (λ rows. slice_get rows c.args.place) (sym c.clients.ensures.value)
     ∙ slice_get_read c.clients.result.now _ c.args.place row refl at.3.0 at.1 in
-    let has : same_name row.name c.args.name.now ≡ true = grind arith in
+    let same : pointwise nat_eq (name_text row.name) c.args.word.now ≡ true = grind arith in
+    let is : name_text row.name ≡ c.args.word.now = (pointwise_decides Decides-eqb (name_text row.name) c.args.word.now).0 same in
     ap Some c.number_of_client.ensures
-    ∙ client_found c.args.t.now c.args.name.now c.args.place row c.clients.ensures.rules there has
+    ∙ client_found c.args.t.now c.args.place row c.clients.ensures.rules there
+    ∙ ap (named has_host c.args.t.now) is
