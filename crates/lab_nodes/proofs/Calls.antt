@@ -1,5 +1,5 @@
 -- What comes of a call of a client and of a relay, by the entry of its journal.
-use Rattle.std.proofs.Common.{◌≡◌, ◌≢◌, ℕ, ◌+◌, true, List, [], ◌∷◌, length, refl, sym, ap, subst, ◌∙◌}
+use Rattle.std.proofs.Common.{◌≡◌, ℕ, ◌+◌, true, List, [], ◌∷◌, length, refl, sym, ap, subst, ◌∙◌}
 use Rattle.std.specs.Prelude.{option_map, option_and_then}
 use Rattle.td_base.specs.declared.endpoint.Ep.{Ep}
 use Rattle.teredo_node.specs.Step.{Step}
@@ -30,7 +30,7 @@ use Rattle.lab_nodes.specs.Call.{dst_lent, input_lent, entry_in}
 use Rattle.lab_nodes.specs.Answers.{SendsOrKeeps, ClientStarves, RelayStarves}
 use Rattle.lab_nodes.specs.Memory.{takes_memory}
 use Rattle.lab_nodes.proofs.Inputs.{input_is}
-use Rattle.lab_nodes.proofs.Unsent.{none_by_way, none_outright, none_besides}
+use Rattle.lab_nodes.proofs.Unsent.{none_by_way, none_outright}
 
 -- what is handed, by the step that is the entry's
 pub handed_same : (lab : Lab) (H : List Full) (x : Call) (a : Node) (step : Step) → step ≡ (entry_in lab H x a).step
@@ -107,10 +107,3 @@ module _ (lab : Lab) (H : List Full) (x : Call) (row : RelayNode) (is : Relay) (
       let e = entry_in lab H x (relay row) in
       let sends = none_outright (own_ep (relay row)) (armed H) 0 e.step.sends (six_made e.input e.step.six) none in
       subst (λ (e : Entry). SendsOrKeeps e.step) relay_next (starved (journal x.node H).entries kept.stands) sends
-
-  -- where a packet wants memory something is made
-  pub relay_needs : (step : Step) (new : Relay) → RelayDoes is x.now.0 (input_lent x.input) step new → six_made (input_lent x.input) step.six ≢ [] → (sendings lab H x.now.0 (entry_in lab H x (relay row)) (relay row)).made ≢ []
-  relay_needs step new done needs none =
-      let e = entry_in lab H x (relay row) in
-      let packet = none_besides (own_ep (relay row)) (armed H) 0 e.step.sends (six_made e.input e.step.six) none in
-      needs (six_same lab H x (relay row) step ∙ ap (λ (s : Step). six_made e.input s.six) (relay_did step new done) ∙ packet)

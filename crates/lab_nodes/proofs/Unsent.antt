@@ -1,6 +1,6 @@
 -- Where nothing is made of an entry it sends nothing, and has a fate at which something is kept.
 use Rattle.std.proofs.Common.{◌≡◌, ℕ, Bool, true, List, [], ◌∷◌, ◌++◌, Option, Some, None, refl, sym, ap, ◌∙◌}
-use Rattle.std.specs.Prelude.{map, option_to_list, is_some}
+use Rattle.std.specs.Prelude.{map, option_to_list}
 use Rattle.std.proofs.lemmas.Bool.{false≢true}
 use Rattle.td_base.specs.declared.endpoint.Ep.{Ep}
 use Rattle.td_base.specs.declared.ipv6.Ip6.{Ip6}
@@ -30,11 +30,10 @@ use Rattle.relay_rules.specs.Standing.{RelaySettings, relay_standing_of}
 use Rattle.relay_rules.specs.Transmission.{relay_given, relay_transmission_row, relay_transmission_step, relay_transmission}
 use Rattle.relay_rules.specs.Laws.{FateOfRelayTransmission}
 use Rattle.relay_rules.specs.Journals.{relay_six}
-use Rattle.topology.specs.declared.native_node.NativeNode.{NativeNode}
 use Rattle.history.specs.Full.{Made, Full}
 use Rattle.legal.specs.Lab.{Lab}
 use Rattle.legal.specs.Past.{armed}
-use Rattle.legal.specs.Emit.{by_way, outright, native_made}
+use Rattle.legal.specs.Emit.{by_way, outright}
 use Rattle.lab_nodes.specs.Memory.{takes_memory}
 use Rattle.lab_nodes.specs.Answers.{SendsOrKeeps}
 
@@ -48,20 +47,10 @@ pub none_by_way : (lab : Lab) (H : List Full) (m : ℕ) (way : List ℕ) (inside
 none_by_way lab H m way inside [] e = refl
 none_by_way lab H m way inside (y ∷ ys) e = absurd (false≢true (sym (ap has_any e)))
 
--- of a server or relay: neither a datagram nor a packet
+-- of a server or relay
 pub none_outright : (own : Side → Ep) (fails : Option ℕ) (i : ℕ) (sends : List Send) (more : List Made) → outright own fails i sends ++ more ≡ [] → sends ≡ []
 none_outright own fails i [] more e = refl
 none_outright own fails i (y ∷ ys) more e = absurd (false≢true (sym (ap has_any e)))
-
-pub none_besides : (own : Side → Ep) (fails : Option ℕ) (i : ℕ) (sends : List Send) (more : List Made) → outright own fails i sends ++ more ≡ [] → more ≡ []
-none_besides own fails i [] [] e = refl
-none_besides own fails i [] (y ∷ ys) e = absurd (false≢true (sym (ap has_any e)))
-none_besides own fails i (y ∷ ys) more e = absurd (false≢true (sym (ap has_any e)))
-
--- of a native host
-pub none_native : (h : NativeNode) (packet : Option (List ℕ)) → is_some packet ≡ true → native_made h packet ≡ [] → ⊥
-none_native h None some e = false≢true some
-none_native h (Some x) some e = false≢true (sym (ap has_any e))
 
 -- WHERE NOTHING IS SENT
 

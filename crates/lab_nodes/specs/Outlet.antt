@@ -31,7 +31,7 @@ source_at primary secondary Secondary = secondary
 -- the entry of the packet that is sent besides the datagrams
 abbrev pub six_sent : Option SixPacket → List Made
 six_sent None = []
-six_sent (Some packet) = sent (six packet.relay packet.bytes) ∷ []
+six_sent (Some packet) = sent (six packet.relay packet.bytes.now) ∷ []
 
 -- what becomes of datagrams that leave so, of which the one of a number fails, and of a packet besides them
 abbrev pub sendings_but : Lab → List Full → ℕ → (fails : Option ℕ) → Outlet → Option SixPacket → List Send → Sendings

@@ -79,7 +79,7 @@ pub fn answer_client(
     client: &mut Client,
     call: Call<'_>,
     step: &mut Step,
-) -> Result<Asked, NoMemory>
+) -> Result<Asked<'static>, NoMemory>
     requires callable { IsCallable client.old call.now.0 }
     ensures ready { callable_from client.new ≤ call.entry.now.0 }
     ensures answers { IfOk result (λ asked. AnswersCall call.entry (played.Client row client.old) (played.Client row client.new) step.new asked) }

@@ -1,5 +1,5 @@
 //! What a step hands of a datagram to the host, or to the IPv6 side.
-ghost use Rattle.std.specs.Prelude.{◌≡◌, ◌≢◌, ◌≤◌, [], None, length, option_map, option_and_then, OnErr, IfOk, IfSome};
+ghost use Rattle.std.specs.Prelude.{◌≡◌, ◌≤◌, None, length, option_map, option_and_then, IfSome};
 ghost use Rattle.td_base.specs.declared.datagram.TheConstants.{DATAGRAM_MAX};
 ghost use Rattle.td_base.specs.declared.endpoint.Ep.{Ep};
 ghost use Rattle.teredo_node.specs.Step.{part};
@@ -10,9 +10,12 @@ ghost use Rattle.lab_nodes.specs.Outlet.{six_sent};
 
 use crate::asked::SixPacket;
 use crate::input::Input;
-use std::alloc::Global;
-use td_base::{Ep, NoMemory, Octets, Span};
+use td_base::{DATAGRAM_MAX, Span};
 use teredo_node::Step;
+
+/// Room for the packet that a node sends. What comes to a node is lent by the wire, onto which its packet is put next: so
+/// the packet stands here in between, and takes no memory of its own.
+pub type PacketRoom = [u8; DATAGRAM_MAX];
 
 /// The part of some bytes that a span tells.
 pub fn lend_part(bytes: &[u8], span: Span) -> &[u8]
@@ -22,19 +25,27 @@ pub fn lend_part(bytes: &[u8], span: Span) -> &[u8]
     &rest[..span.len.min(rest.len())]
 }
 
-/// A copy of what a step gives of a datagram to the IPv6 side.
-fn part_copied(alloc: Global, bytes: &[u8], step: &Step) -> Result<Option<SixPacket>, NoMemory>
-    ensures made { (src : Ep) → IfOk result (λ packet. six_sent packet ≡ six_made (arrived src bytes.now) step.now.six) }
-    ensures short { IfOk result (λ packet. IfSome packet (λ copied. length copied.bytes ≤ length bytes.now)) }
-    ensures needs { (src : Ep) → OnErr result (six_made (arrived src bytes.now) step.now.six ≢ []) }
+/// Some bytes, copied to the front of `room`.
+pub fn copied<'a>(bytes: &[u8], room: &'a mut PacketRoom) -> &'a [u8]
+    requires { length bytes.now ≤ DATAGRAM_MAX }
+    ensures { result.now ≡ bytes.now }
 {
-    match step.six() {
-        None => Ok(None),
-        Some(span) => Ok(Some(SixPacket {
-            relay: None,
-            bytes: Octets::new(alloc, lend_part(bytes, span))?,
-        })),
-    }
+    let front = &mut room[..bytes.len()];
+    front.copy_from_slice(bytes);
+    front
+}
+
+/// What a step gives of a datagram to the IPv6 side.
+fn part_copied<'a>(bytes: &[u8], step: &Step, room: &'a mut PacketRoom) -> Option<SixPacket<'a>>
+    requires short { length bytes.now ≤ DATAGRAM_MAX }
+    ensures made { (src : Ep) → six_sent result ≡ six_made (arrived src bytes.now) step.now.six }
+    ensures short { IfSome result (λ packet. length packet.bytes.now ≤ DATAGRAM_MAX) }
+{
+    let span = step.six()?;
+    Some(SixPacket {
+        relay: None,
+        bytes: copied(lend_part(bytes, span), room),
+    })
 }
 
 /// The length of what a step hands of a datagram to the host.
@@ -50,16 +61,16 @@ pub fn handed_of(input: Input<'_>, step: &Step) -> Option<usize>
     }
 }
 
-/// A copy of what a step gives of what came to the IPv6 side.
-pub fn six_of(alloc: Global, input: Input<'_>, step: &Step) -> Result<Option<SixPacket>, NoMemory>
-    ensures made { IfOk result (λ packet. six_sent packet ≡ six_made (input_lent input.entry) step.now.six) }
-    ensures short { IsShortInput (input_lent input.entry) → IfOk result (λ packet. IfSome packet (λ copied. length copied.bytes ≤ DATAGRAM_MAX)) }
-    ensures needs { OnErr result (six_made (input_lent input.entry) step.now.six ≢ []) }
+/// What a step gives of what came to the IPv6 side.
+pub fn six_of<'a>(input: Input<'_>, step: &Step, room: &'a mut PacketRoom) -> Option<SixPacket<'a>>
+    requires short { IsShortInput (input_lent input) }
+    ensures made { six_sent result ≡ six_made (input_lent input.entry) step.now.six }
+    ensures short { IfSome result (λ packet. length packet.bytes.now ≤ DATAGRAM_MAX) }
 {
     match input {
-        Input::Arrived { bytes, .. } => part_copied(alloc, bytes, step),
-        Input::Given { .. } => Ok(None),
-        Input::FromSix { .. } => Ok(None),
-        Input::Ticked => Ok(None),
+        Input::Arrived { bytes, .. } => part_copied(bytes, step, room),
+        Input::Given { .. } => None,
+        Input::FromSix { .. } => None,
+        Input::Ticked => None,
     }
 }

@@ -58,7 +58,7 @@ mod server;
 pub use asked::{Asked, SixPacket};
 pub use call::Call;
 pub use due::Due;
-pub use handed::lend_part;
+pub use handed::{PacketRoom, lend_part};
 pub use host::{DATA_MAX, ECHO, address_at, echo, target_address, write_data};
 pub use input::Input;
 pub use laws::{due_as_in_the_past, rows_keep_rules, waits_as_in_the_past};

@@ -10,7 +10,7 @@ use crate::outlet::Outlet;
 use teredo_node::{Fate, Step};
 
 /// What a NAT does that is asked: nothing.
-pub fn answer_nat(step: &mut Step) -> Asked
+pub fn answer_nat(step: &mut Step) -> Asked<'static>
     ensures none { result.packet ≡ None }
     ensures answers { (x : Call) (row : NatNode) → AnswersCall x (played.Nat row) (played.Nat row) step.new result }
 {

@@ -1,5 +1,5 @@
 //! What a native host does with what comes to it.
-ghost use Rattle.std.specs.Prelude.{◌≡◌, ◌≤◌, true, is_some, List, length, option_map, OnErr, IfOk, IfSome};
+ghost use Rattle.std.specs.Prelude.{◌≡◌, ◌≤◌, List, length, option_map, IfSome};
 ghost use Rattle.td_base.specs.declared.datagram.TheConstants.{DATAGRAM_MAX};
 ghost use Rattle.topology.specs.declared.node.Node.TheVariants.{Native as native};
 ghost use Rattle.teredo_node.specs.Step.{just};
@@ -10,81 +10,77 @@ ghost use Rattle.legal.specs.Emit.{native_packet, relay_for, native_made};
 ghost use Rattle.lab_nodes.specs.declared.played_node.PlayedNode.TheVariants as played;
 ghost use Rattle.lab_nodes.specs.Call.{input_lent, IsShortInput, entry_in};
 ghost use Rattle.lab_nodes.specs.Outlet.{six_sent};
-ghost use Rattle.lab_nodes.specs.Answers.{AnswersCall, Wants};
+ghost use Rattle.lab_nodes.specs.Answers.{AnswersCall};
 
 use crate::asked::{Asked, SixPacket};
 use crate::call::Call;
+use crate::handed::{PacketRoom, copied};
 use crate::input::Input;
 use crate::outlet::Outlet;
-use std::alloc::Global;
-use td_base::{DATAGRAM_MAX, NoMemory, Octets};
 use teredo_node::{Fate, Step};
 use topology::NativeNode;
 
-/// What a native host does with a packet of its own.
-fn give_native(
-    alloc: Global,
+/// What a native host does with a packet of its own, and the packet that it sends.
+fn give_native<'a>(
     row: &NativeNode,
     bytes: &[u8],
     step: &mut Step,
-) -> Result<Option<Octets>, NoMemory>
-    ensures did { IfOk result (λ packet. step.new ≡ just (native_out row.now.six bytes.now).fate) }
-    ensures packet { IfOk result (λ packet. packet ≡ (native_out row.now.six bytes.now).packet) }
-    ensures short { length bytes.now ≤ DATAGRAM_MAX → IfOk result (λ packet. IfSome packet (λ copied. length copied ≤ DATAGRAM_MAX)) }
-    ensures needs { OnErr result (is_some (native_out row.now.six bytes.now).packet ≡ true) }
+    room: &'a mut PacketRoom,
+) -> Option<&'a [u8]>
+    requires short { length bytes.now ≤ DATAGRAM_MAX }
+    ensures did { step.new ≡ just (native_out row.now.six bytes.now).fate }
+    ensures packet { option_map (λ x. x.now) result ≡ (native_out row.now.six bytes.now).packet }
+    ensures short { IfSome result (λ x. length x.now ≤ DATAGRAM_MAX) }
 {
     let fate = native_host::send(row.six, bytes);
     step.reset(fate);
     match fate {
-        Fate::SentSix => Ok(Some(Octets::new(alloc, bytes)?)),
-        _ => Ok(None),
+        Fate::SentSix => Some(copied(bytes, room)),
+        _ => None,
     }
 }
 
-/// What a native host does with a packet of the IPv6 side.
-fn reply_native(alloc: Global, bytes: &[u8], step: &mut Step) -> Result<Option<Octets>, NoMemory>
+/// What a native host does with a packet of the IPv6 side, and the packet that it sends.
+fn reply_native<'a>(bytes: &[u8], step: &mut Step, room: &'a mut PacketRoom) -> Option<&'a [u8]>
     requires short { length bytes.now ≤ DATAGRAM_MAX }
-    ensures did { IfOk result (λ packet. step.new ≡ just (native_in bytes.now).fate) }
-    ensures packet { IfOk result (λ packet. packet ≡ (native_in bytes.now).packet) }
-    ensures short { IfOk result (λ packet. IfSome packet (λ copied. length copied ≤ DATAGRAM_MAX)) }
-    ensures needs { OnErr result (is_some (native_in bytes.now).packet ≡ true) }
+    ensures did { step.new ≡ just (native_in bytes.now).fate }
+    ensures packet { option_map (λ x. x.now) result ≡ (native_in bytes.now).packet }
+    ensures short { IfSome result (λ x. length x.now ≤ DATAGRAM_MAX) }
 {
-    let mut reply = [0; DATAGRAM_MAX];
-    match native_host::receive(bytes, &mut reply) {
+    match native_host::receive(bytes, room) {
         Some(len) => {
             step.reset(Fate::Echoed);
-            Ok(Some(Octets::new(alloc, &reply[..len])?))
+            Some(&room[..len])
         }
         None => {
             step.reset(Fate::Kept);
-            Ok(None)
+            None
         }
     }
 }
 
-/// Lets a native host do what is asked of it, and gives a copy of the packet that it sends.
-fn ask_native(
-    alloc: Global,
+/// Lets a native host do what is asked of it, and lends the packet that it sends.
+fn ask_native<'a>(
     row: &NativeNode,
     call: Call<'_>,
     step: &mut Step,
-) -> Result<Option<Octets>, NoMemory>
+    room: &'a mut PacketRoom,
+) -> Option<&'a [u8]>
     requires short { IsShortInput (input_lent call.input) }
-    ensures did { IfOk result (λ packet. (lab : Lab) (H : List Full) → step.new ≡ (entry_in lab H call.entry (native row.now)).step) }
-    ensures packet { IfOk result (λ packet. packet ≡ native_packet row.now (input_lent call.entry.input)) }
-    ensures short { IfOk result (λ packet. IfSome packet (λ copied. length copied ≤ DATAGRAM_MAX)) }
-    ensures needs { OnErr result (is_some (native_packet row.now (input_lent call.entry.input)) ≡ true) }
+    ensures did { (lab : Lab) (H : List Full) → step.new ≡ (entry_in lab H call.entry (native row.now)).step }
+    ensures packet { option_map (λ x. x.now) result ≡ native_packet row.now (input_lent call.entry.input) }
+    ensures short { IfSome result (λ x. length x.now ≤ DATAGRAM_MAX) }
 {
     match call.input {
-        Input::Given { bytes } => give_native(alloc, row, bytes, step),
-        Input::FromSix { bytes } => reply_native(alloc, bytes, step),
+        Input::Given { bytes } => give_native(row, bytes, step, room),
+        Input::FromSix { bytes } => reply_native(bytes, step, room),
         Input::Arrived { .. } => {
             step.reset(Fate::Idle);
-            Ok(None)
+            None
         }
         Input::Ticked => {
             step.reset(Fate::Idle);
-            Ok(None)
+            None
         }
     }
 }
@@ -104,33 +100,32 @@ fn relay_for(row: &NativeNode, bytes: &[u8]) -> Option<u16>
 }
 
 /// A packet of a native host, with the relay that it goes to.
-fn with_relay(row: &NativeNode, packet: Option<Octets>) -> Option<SixPacket>
-    ensures { six_sent result ≡ native_made row.now packet }
+fn with_relay<'a>(row: &NativeNode, packet: Option<&'a [u8]>) -> Option<SixPacket<'a>>
+    ensures { six_sent result ≡ native_made row.now (option_map (λ x. x.now) packet.entry) }
 {
     let bytes = packet?;
     Some(SixPacket {
-        relay: relay_for(row, bytes.as_slice()),
+        relay: relay_for(row, bytes),
         bytes,
     })
 }
 
 /// What a native host does whose row this is. Nothing is kept of it.
-pub fn answer_native(
-    alloc: Global,
+pub fn answer_native<'a>(
     row: NativeNode,
     call: Call<'_>,
     step: &mut Step,
-) -> Result<Asked, NoMemory>
+    room: &'a mut PacketRoom,
+) -> Asked<'a>
     requires short { IsShortInput (input_lent call.input) }
-    ensures answers { IfOk result (λ asked. AnswersCall call.entry (played.Native row) (played.Native row) step.new asked) }
-    ensures short { IfOk result (λ asked. IfSome asked.packet (λ packet. length packet.bytes ≤ DATAGRAM_MAX)) }
-    ensures wants { OnErr result (Wants call.entry (played.Native row)) }
+    ensures answers { AnswersCall call.entry (played.Native row) (played.Native row) step.new result }
+    ensures short { IfSome result.packet (λ packet. length packet.bytes.now ≤ DATAGRAM_MAX) }
 {
-    let packet = ask_native(alloc, &row, call, step)?;
-    Ok(Asked {
+    let packet = ask_native(&row, call, step, room);
+    Asked {
         outlet: Outlet::Silent,
         packet: with_relay(&row, packet),
         handed: None,
         address: None,
-    })
+    }
 }

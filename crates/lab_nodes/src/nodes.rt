@@ -1,5 +1,5 @@
 //! The nodes of a scenario, by their numbers.
-ghost use Rattle.std.specs.Prelude.{◌≡◌, ◌≤◌, ◌<◌, ◌+◌, ℕ, true, [], List, length, Some, option_map, IfOk, IfSome, IfNone};
+ghost use Rattle.std.specs.Prelude.{◌≡◌, ◌≤◌, ◌<◌, ℕ, [], List, length, Some, option_map, IfOk, IfSome, IfNone};
 ghost use Rattle.td_base.specs.declared.datagram.TheConstants.{DATAGRAM_MAX};
 ghost use Rattle.td_base.specs.declared.millis.TheConstants.{CLOCK_END_MS};
 ghost use Rattle.topology.specs.declared.topology.TheConstants.{NODES_MAX};
@@ -19,6 +19,7 @@ use crate::asked::Asked;
 use crate::call::Call;
 use crate::due::{self, Due};
 use crate::first_node::first_nodes;
+use crate::handed::PacketRoom;
 use crate::one_node;
 use crate::played_node::{NEVER, PlayedNode};
 use std::alloc::Global;
@@ -121,18 +122,23 @@ impl Nodes {
         self.list.as_slice()
     }
 
-    /// Lets the node of a call do what is asked of it.
-    pub fn ask(&mut self, call: Call<'_>, step: &mut Step) -> Result<Asked, NoMemory>
+    /// Lets the node of a call do what is asked of it. A packet that it sends besides its step stands in `room`.
+    pub fn ask<'a>(
+        &mut self,
+        call: Call<'_>,
+        step: &mut Step,
+        room: &'a mut PacketRoom,
+    ) -> Result<Asked<'a>, NoMemory>
         requires within { call.node < length self.old }
         requires short { IsShortInput (input_lent call.input) }
         requires early { call.now.0 < CLOCK_END_MS }
         requires ready { AreReady call.now.0 self.old }
         ensures ready { AreReady call.entry.now.0 self.new }
         ensures answers { ChangesAt (AnswersOrWants call.entry step.new result) call.entry.node self.old self.new }
-        ensures short { IfOk result (λ asked. IfSome asked.packet (λ packet. length packet.bytes ≤ DATAGRAM_MAX)) }
+        ensures short { IfOk result (λ asked. IfSome asked.packet (λ packet. length packet.bytes.now ≤ DATAGRAM_MAX)) }
     {
         let number = call.node;
-        let asked = one_node::ask_at(&mut self.list, call, step);
+        let asked = one_node::ask_at(&mut self.list, call, step, room);
         look_again(
             &mut self.soonest,
             &mut self.quiet,

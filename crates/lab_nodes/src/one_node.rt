@@ -9,27 +9,28 @@ ghost use Rattle.lab_nodes.specs.Answers.{AnswersOrWants};
 
 use crate::asked::Asked;
 use crate::call::Call;
+use crate::handed::PacketRoom;
 use crate::played_node::PlayedNode;
 use td_base::{Millis, NoMemory};
 use teredo_node::Step;
 
 /// Lets the node of a call do what is asked of it.
-pub fn ask_at(
+pub fn ask_at<'a>(
     nodes: &mut Vec<PlayedNode>,
     call: Call<'_>,
     step: &mut Step,
-) -> Result<Asked, NoMemory>
+    room: &'a mut PacketRoom,
+) -> Result<Asked<'a>, NoMemory>
     requires within { call.node < length nodes.old.items }
     requires short { IsShortInput (input_lent call.input) }
     requires early { call.now.0 < CLOCK_END_MS }
     requires ready { AreReady call.now.0 nodes.old.items }
     ensures ready { AreReady call.entry.now.0 nodes.new.items }
     ensures answers { ChangesAt (AnswersOrWants call.entry step.new result) call.entry.node nodes.old.items nodes.new.items }
-    ensures short { IfOk result (λ asked. IfSome asked.packet (λ packet. length packet.bytes ≤ DATAGRAM_MAX)) }
+    ensures short { IfOk result (λ asked. IfSome asked.packet (λ packet. length packet.bytes.now ≤ DATAGRAM_MAX)) }
 {
-    let alloc = *nodes.allocator();
     let node = &mut nodes[usize::from(call.node)];
-    node.answer(alloc, call, step)
+    node.answer(call, step, room)
 }
 
 /// Lets the node of a number start anew. Of a NAT nothing is kept here that would change.

@@ -16,13 +16,13 @@ ghost use Rattle.lab_nodes.specs.Due.{IsQuietNode};
 use crate::asked::Asked;
 use crate::call::Call;
 use crate::client::answer_client;
+use crate::handed::PacketRoom;
 use crate::nat::answer_nat;
 use crate::native::answer_native;
 use crate::relay::answer_relay;
 use crate::server::answer_server;
 use client_core::Client;
 use relay_core::Relay;
-use std::alloc::Global;
 use td_base::{CLOCK_END_MS, Ip6, Millis, NoMemory};
 use teredo_addr::UNSPECIFIED;
 use teredo_node::{Endpoint, Step};
@@ -51,27 +51,27 @@ fn or_never(at: Option<Millis>) -> Millis
 
 impl PlayedNode {
     /// Lets it do what is asked of it.
-    pub(crate) fn answer(
+    pub(crate) fn answer<'a>(
         &mut self,
-        alloc: Global,
         call: Call<'_>,
         step: &mut Step,
-    ) -> Result<Asked, NoMemory>
+        room: &'a mut PacketRoom,
+    ) -> Result<Asked<'a>, NoMemory>
         requires short { IsShortInput (input_lent call.input) }
         requires early { call.now.0 < CLOCK_END_MS }
         requires ready { IsReady call.now.0 self.old }
         ensures row { row_of self.new ≡ row_of self.old }
         ensures ready { IsReady call.entry.now.0 self.new }
         ensures answers { IfOk result (λ asked. AnswersCall call.entry self.old self.new step.new asked) }
-        ensures short { IfOk result (λ asked. IfSome asked.packet (λ packet. length packet.bytes ≤ DATAGRAM_MAX)) }
+        ensures short { IfOk result (λ asked. IfSome asked.packet (λ packet. length packet.bytes.now ≤ DATAGRAM_MAX)) }
         ensures wants { OnErr result (Wants call.entry self.old) }
     {
         match self {
-            PlayedNode::Server { row } => answer_server(alloc, *row, call, step),
+            PlayedNode::Server { row } => Ok(answer_server(*row, call, step, room)),
             PlayedNode::Nat { .. } => Ok(answer_nat(step)),
             PlayedNode::Client { row, client } => answer_client(*row, client, call, step),
-            PlayedNode::Relay { row, relay } => answer_relay(alloc, *row, relay, call, step),
-            PlayedNode::Native { row } => answer_native(alloc, *row, call, step),
+            PlayedNode::Relay { row, relay } => answer_relay(*row, relay, call, step, room),
+            PlayedNode::Native { row } => Ok(answer_native(*row, call, step, room)),
         }
     }
 

@@ -8,11 +8,10 @@ ghost use Rattle.lab_nodes.specs.Answers.{RelayStarves, AnswersCall, Wants};
 
 use crate::asked::Asked;
 use crate::call::Call;
-use crate::handed::{handed_of, six_of};
+use crate::handed::{PacketRoom, handed_of, six_of};
 use crate::input::Input;
 use crate::outlet::Outlet;
 use relay_core::Relay;
-use std::alloc::Global;
 use td_base::{NoMemory, Side};
 use teredo_node::{Endpoint, Step};
 use topology::RelayNode;
@@ -42,18 +41,18 @@ fn ask_relay(relay: &mut Relay, call: Call<'_>, step: &mut Step) -> Result<(), N
 }
 
 /// What a relay does whose row this is.
-pub fn answer_relay(
-    alloc: Global,
+pub fn answer_relay<'a>(
     row: RelayNode,
     relay: &mut Relay,
     call: Call<'_>,
     step: &mut Step,
-) -> Result<Asked, NoMemory>
+    room: &'a mut PacketRoom,
+) -> Result<Asked<'a>, NoMemory>
     requires callable { IsCallableRelay relay.old call.now.0 }
     requires short { IsShortInput (input_lent call.input) }
     ensures ready { relay_callable_from relay.new ≤ call.entry.now.0 }
     ensures answers { IfOk result (λ asked. AnswersCall call.entry (played.Relay row relay.old) (played.Relay row relay.new) step.new asked) }
-    ensures short { IfOk result (λ asked. IfSome asked.packet (λ packet. length packet.bytes ≤ DATAGRAM_MAX)) }
+    ensures short { IfOk result (λ asked. IfSome asked.packet (λ packet. length packet.bytes.now ≤ DATAGRAM_MAX)) }
     ensures wants { OnErr result (Wants call.entry (played.Relay row relay.old)) }
 {
     ask_relay(relay, call, step)?;
@@ -62,7 +61,7 @@ pub fn answer_relay(
             primary: row.at,
             secondary: row.at,
         },
-        packet: six_of(alloc, call.input, step)?,
+        packet: six_of(call.input, step, room),
         handed: handed_of(call.input, step),
         address: None,
     })

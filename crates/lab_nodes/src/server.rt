@@ -1,5 +1,5 @@
 //! What a server does with what comes to it.
-ghost use Rattle.std.specs.Prelude.{◌≡◌, ◌≤◌, ℕ, List, length, OnErr, IfOk, IfSome};
+ghost use Rattle.std.specs.Prelude.{◌≡◌, ◌≤◌, List, length, IfSome};
 ghost use Rattle.td_base.specs.declared.datagram.TheConstants.{DATAGRAM_MAX};
 ghost use Rattle.topology.specs.declared.node.Node.TheVariants.{Server as server};
 ghost use Rattle.topology.specs.Topology.{side_at};
@@ -9,17 +9,16 @@ ghost use Rattle.legal.specs.Lab.{Lab};
 ghost use Rattle.legal.specs.Settings.{server_settings};
 ghost use Rattle.lab_nodes.specs.declared.played_node.PlayedNode.TheVariants as played;
 ghost use Rattle.lab_nodes.specs.Call.{input_lent, IsShortInput, entry_in};
-ghost use Rattle.lab_nodes.specs.Answers.{AnswersCall, Wants};
+ghost use Rattle.lab_nodes.specs.Answers.{AnswersCall};
 
 use crate::asked::Asked;
 use crate::call::Call;
-use crate::handed::{handed_of, six_of};
+use crate::handed::{PacketRoom, handed_of, six_of};
 use crate::input::Input;
 use crate::one_arrival::OneArrival;
 use crate::outlet::Outlet;
 use server_core::Server;
-use std::alloc::Global;
-use td_base::{Ep, Millis, NoMemory, Policy, Side};
+use td_base::{Ep, Millis, Policy, Side};
 use td_turns::{Pumped, pump};
 use teredo_node::{Fate, Step};
 use topology::ServerNode;
@@ -63,25 +62,24 @@ fn ask_server(row: &ServerNode, call: Call<'_>, step: &mut Step)
 }
 
 /// What a server does whose row this is.
-pub fn answer_server(
-    alloc: Global,
+pub fn answer_server<'a>(
     row: ServerNode,
     call: Call<'_>,
     step: &mut Step,
-) -> Result<Asked, NoMemory>
+    room: &'a mut PacketRoom,
+) -> Asked<'a>
     requires short { IsShortInput (input_lent call.input) }
-    ensures answers { IfOk result (λ asked. AnswersCall call.entry (played.Server row) (played.Server row) step.new asked) }
-    ensures short { IfOk result (λ asked. IfSome asked.packet (λ packet. length packet.bytes ≤ DATAGRAM_MAX)) }
-    ensures wants { OnErr result (Wants call.entry (played.Server row)) }
+    ensures answers { AnswersCall call.entry (played.Server row) (played.Server row) step.new result }
+    ensures short { IfSome result.packet (λ packet. length packet.bytes.now ≤ DATAGRAM_MAX) }
 {
     ask_server(&row, call, step);
-    Ok(Asked {
+    Asked {
         outlet: Outlet::Own {
             primary: Ep::of_server(row.primary),
             secondary: Ep::of_server(row.secondary),
         },
-        packet: six_of(alloc, call.input, step)?,
+        packet: six_of(call.input, step, room),
         handed: handed_of(call.input, step),
         address: None,
-    })
+    }
 }

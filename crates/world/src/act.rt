@@ -51,7 +51,7 @@ impl<'a> World<'a> {
             packet,
             handed,
             address,
-        } = self.nodes.ask(call, &mut self.step)?;
+        } = self.nodes.ask(call, &mut self.step, &mut self.room)?;
         say_step(out, act, number, &self.step);
         let fails = self.armed;
         let sender = Sender { outlet, now, fails };

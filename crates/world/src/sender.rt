@@ -187,18 +187,15 @@ fn put_through(
 }
 
 /// Puts an IPv6 packet on the wire, if there is one.
-fn put_six(wire: &mut Wire, packet: Option<SixPacket>, marks: &mut Marks) -> Result<(), Stop>
-    requires short { IfSome packet (λ six. length six.bytes ≤ DATAGRAM_MAX) }
+fn put_six(wire: &mut Wire, packet: Option<SixPacket<'_>>, marks: &mut Marks) -> Result<(), Stop>
+    requires short { IfSome packet (λ six. length six.bytes.now ≤ DATAGRAM_MAX) }
     requires few { length marks.old ≤ SENDS_MAX }
-    ensures puts { Puts wire.old wire.new marks.old marks.new (six_sent packet) result }
+    ensures puts { Puts wire.old wire.new marks.old marks.new (six_sent packet.entry) result }
     ensures err { OnErr result (wire.new ≡ wire.old) }
 {
     match packet {
         None => Ok(()),
-        Some(SixPacket { relay, bytes }) => {
-            let bytes = bytes.as_slice();
-            wire.put(WireEntry::Six { relay, bytes }, marks)
-        }
+        Some(SixPacket { relay, bytes }) => wire.put(WireEntry::Six { relay, bytes }, marks),
     }
 }
 
@@ -208,12 +205,12 @@ fn put_own(
     from: Sources,
     fails: Option<u8>,
     step: &Step,
-    packet: Option<SixPacket>,
+    packet: Option<SixPacket<'_>>,
     marks: &mut Marks,
 ) -> Result<(), Stop>
     requires none { marks.old ≡ [] }
-    requires short { IfSome packet (λ six. length six.bytes ≤ DATAGRAM_MAX) }
-    ensures puts { Puts wire.old wire.new [] marks.new (outright (source_at from.primary from.secondary) fails 0 step.now.sends ++ six_sent packet) result }
+    requires short { IfSome packet (λ six. length six.bytes.now ≤ DATAGRAM_MAX) }
+    ensures puts { Puts wire.old wire.new [] marks.new (outright (source_at from.primary from.secondary) fails 0 step.now.sends ++ six_sent packet.entry) result }
     ensures err { OnErr result (Extends wire.old wire.new) }
 {
     put_outright(wire, from, fails, step, marks)?;
@@ -227,17 +224,17 @@ fn put_all(
     nats: &mut Chains<'_>,
     wire: &mut Wire,
     step: &Step,
-    packet: Option<SixPacket>,
+    packet: Option<SixPacket<'_>>,
     marks: &mut Marks,
 ) -> Result<(), Stop>
     requires none { marks.old ≡ [] }
-    requires short { IfSome packet (λ six. length six.bytes ≤ DATAGRAM_MAX) }
+    requires short { IfSome packet (λ six. length six.bytes.now ≤ DATAGRAM_MAX) }
     requires nat { HasItsNat sender.outlet nats.old.topology }
     requires clock { nats.old.moment ≤ sender.now.0 }
     ensures puts { (lab : Lab) (H : List Full) → AreNatsWith lab H [] nats.old
-        → Puts wire.old wire.new [] marks.new (emitted_by lab H sender packet step.now.sends).made result }
+        → Puts wire.old wire.new [] marks.new (emitted_by lab H sender packet.entry step.now.sends).made result }
     ensures knows { OnOk result ((lab : Lab) (H : List Full) → AreNatsWith lab H [] nats.old
-        → AreNatsWith lab H (emitted_by lab H sender packet step.now.sends).passed nats.new) }
+        → AreNatsWith lab H (emitted_by lab H sender packet.entry step.now.sends).passed nats.new) }
     ensures same { nats.new ≡ record nats.old { moment = nats.new.moment; nats = nats.new.nats } }
     ensures clock { nats.new.moment ≤ sender.now.0 }
     ensures err { OnErr result (Extends wire.old wire.new) }
@@ -261,17 +258,17 @@ pub fn emit(
     nats: &mut Chains<'_>,
     wire: &mut Wire,
     step: &Step,
-    packet: Option<SixPacket>,
+    packet: Option<SixPacket<'_>>,
     marks: &mut Marks,
 ) -> Result<(), Stop>
     requires none { marks.old ≡ [] }
-    requires short { IfSome packet (λ six. length six.bytes ≤ DATAGRAM_MAX) }
+    requires short { IfSome packet (λ six. length six.bytes.now ≤ DATAGRAM_MAX) }
     requires nat { HasItsNat sender.outlet nats.old.topology }
     requires clock { nats.old.moment ≤ sender.now.0 }
     ensures puts { (lab : Lab) (H : List Full) → AreNatsWith lab H [] nats.old
-        → Puts wire.old wire.new [] marks.new (emitted_by lab H sender packet step.now.sends).made result }
+        → Puts wire.old wire.new [] marks.new (emitted_by lab H sender packet.entry step.now.sends).made result }
     ensures knows { OnOk result ((lab : Lab) (H : List Full) → AreNatsWith lab H [] nats.old
-        → AreNatsWith lab H (emitted_by lab H sender packet step.now.sends).passed nats.new) }
+        → AreNatsWith lab H (emitted_by lab H sender packet.entry step.now.sends).passed nats.new) }
     ensures same { nats.new ≡ record nats.old { moment = nats.new.moment; nats = nats.new.nats } }
     ensures clock { nats.new.moment ≤ sender.now.0 }
     ensures err { OnErr result (wire.new ≡ wire.old) }

@@ -93,6 +93,7 @@ impl Wire {
     }
 
     /// Puts a copy of an entry on the wire, and its mark behind these: the one door, and the one test for room.
+    #[inline(always)]
     pub fn put(&mut self, entry: WireEntry<'_>, marks: &mut Marks) -> Result<(), Stop>
         requires short { length (bytes_of (item_lent entry)) ≤ DATAGRAM_MAX }
         requires few { length marks.old < MARKS_MAX }

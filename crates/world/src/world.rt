@@ -22,10 +22,10 @@ use crate::wire::{ENTRIES_MAX, Wire};
 use crate::wire_entry::WireEntry;
 use events::{Event, Verb};
 use history::{Act, Record, Stop, Turn};
-use lab_nodes::Nodes;
+use lab_nodes::{Nodes, PacketRoom};
 use std::alloc::Global;
 use std::marker::Model;
-use td_base::{Millis, NoMemory};
+use td_base::{DATAGRAM_MAX, Millis, NoMemory};
 use td_chain::Chains;
 use teredo_node::{Fate, Step};
 use topology::Topology;
@@ -45,8 +45,9 @@ pub struct World<'a> {
     pub(crate) stopped: Option<Stop>,
     // where entries went lately, so that a search needn't begin with the first node
     pub(crate) guesses: Guesses,
-    // what the node does that is being asked
+    // what the node does that is being asked, and where the packet stands that it sends
     pub(crate) step: Step,
+    pub(crate) room: PacketRoom,
 }
 
 impl<'a> Model for World<'a> {
@@ -90,6 +91,7 @@ impl<'a> World<'a> {
             stopped: None,
             guesses: Guesses::new(),
             step: Step::new(),
+            room: [0; DATAGRAM_MAX],
         })
     }
 

@@ -2,7 +2,7 @@ use Rattle.std.proofs.Common.{refl, ◌∙◌}
 use Rattle.std.proofs.lemmas.Result.{err_from_is_err_and}
 use Rattle.topology.specs.declared.node.Node.TheVariants as rows
 use Rattle.lab_nodes.specs.Call.{entry_in}
-use Rattle.lab_nodes.proofs.Calls.{handed_same, six_same, relay_did, relay_kept, relay_starves, relay_needs}
+use Rattle.lab_nodes.proofs.Calls.{handed_same, six_same, relay_did, relay_kept, relay_starves}
 use Rattle.lab_nodes.proofs.Leaving.{left_own}
 use Rattle.lab_nodes.proofs.relay.answer_relay.Goals as goal
 
@@ -10,12 +10,6 @@ pub returns-in_err-ask_relay-clause-wants : goal.returns-in_err-ask_relay-clause
 returns-in_err-ask_relay-clause-wants c =
     let p = err_from_is_err_and c.from_residual.result c.from_residual.ensures.1 in
     rw (p.1) (λ lab H kept none. relay_starves lab H c.args.call c.args.row c.args.relay.now kept c.in_err-ask_relay.ensures.starved none)
-
-pub returns-in_err-six_of-clause-wants : goal.returns-in_err-six_of-clause-wants
-returns-in_err-six_of-clause-wants c =
-    let p = err_from_is_err_and c.from_residual-in_err-six_of.result c.from_residual-in_err-six_of.ensures.1 in
-    rw (p.1) (λ lab H kept none.
-    absurd (relay_needs lab H c.args.call c.args.row c.args.relay.now kept c.ask_relay.new.step c.ask_relay.new.relay c.in_ok-ask_relay.ensures.done c.in_err-six_of.ensures.needs none))
 
 pub returns-clause-answers : goal.returns-clause-answers
 returns-clause-answers c = record {
@@ -30,7 +24,7 @@ returns-clause-answers c = record {
       record {
         did = did;
         keeps = relay_kept lab H x c.args.row c.args.relay.now kept step new done;
-        leaves = left_own lab H x.now.0 a (entry_in lab H x a) step _ (record { did = did; six = c.in_ok-six_of.ensures.made ∙ six_same lab H x a step });
+        leaves = left_own lab H x.now.0 a (entry_in lab H x a) step _ (record { did = did; six = c.six_of.ensures.made ∙ six_same lab H x a step });
         handed = c.handed_of.ensures ∙ handed_same lab H x a step did;
         address = refl;
       };
