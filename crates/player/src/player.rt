@@ -9,7 +9,6 @@ ghost use Rattle.player.specs.Endings.{IsPlayed};
 use crate::listener::Listener;
 use events::{EVENTS_MAX, Events};
 use history::Stop;
-use std::alloc::Global;
 use td_base::Millis;
 use td_chain::Chains;
 use td_outside::Sink;
@@ -28,9 +27,10 @@ pub enum PlayFault {
 }
 
 /// Plays the scenario of a seed, nodes and events to its end, with those NATs behind others. Each record is heard as soon as
-/// it is made.
+/// it is made. The memory of `room`, whose bytes are dropped, is the wire's: that of the text, say, which was read and isn't
+/// needed any more.
 pub fn play<L: Listener, K: Sink>(
-    alloc: Global,
+    room: Vec<u8>,
     seed: u64,
     chains: Chains<'_>,
     events: &Events,
@@ -49,7 +49,7 @@ pub fn play<L: Listener, K: Sink>(
     promises::kept_in_scenarios();
     let topology = chains.topology();
     let _rules = topology.clients();
-    let Ok(mut world) = World::new(alloc, topology, chains, seed) else {
+    let Ok(mut world) = World::in_room(room, topology, chains, seed) else {
         return Err(PlayFault::NoMemory);
     };
     let Ok(()) = listener.begin(out) else {
@@ -87,7 +87,7 @@ pub fn play<L: Listener, K: Sink>(
 
 /// Plays the scenario of a seed, nodes and events to its end, with no NAT behind another one.
 pub fn play_flat<L: Listener, K: Sink>(
-    alloc: Global,
+    room: Vec<u8>,
     seed: u64,
     topology: &Topology,
     events: &Events,
@@ -99,8 +99,8 @@ pub fn play_flat<L: Listener, K: Sink>(
     requires fresh { L.keeps listener.old topology.now [] }
     ensures { IsPlayed L.account (record { seed = seed; topology = topology.now; events = events.now }) [] (K.state out.old) (K.state out.new) result }
 {
-    let Ok(chains) = Chains::alone(alloc, topology) else {
+    let Ok(chains) = Chains::alone(*room.allocator(), topology) else {
         return Err(PlayFault::NoMemory);
     };
-    play(alloc, seed, chains, events, listener, out)
+    play(room, seed, chains, events, listener, out)
 }

@@ -48,7 +48,7 @@ fn totals_give_way_to_a_full_wire(rt: HostRuntime) -> Result<(), Fail> {
     let mut sink = MemSink::new(rt.alloc(), ROOM, &[])?;
     let mut totals = TotalsWriter::new();
     let played = play_flat(
-        rt.alloc(),
+        Vec::new(rt.alloc()),
         s.seed,
         &s.topology,
         &s.events,

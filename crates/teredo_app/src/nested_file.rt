@@ -59,13 +59,13 @@ fn chains_for<'a>(alloc: Global, s: &'a Scenario, chain: &str) -> Result<Chains<
     }
 }
 
-/// Plays a scenario with the chain that a text asks for.
-fn play_in<K: Sink>(alloc: Global, s: &Scenario, chain: &str, out: &mut K) -> u8
+/// Plays a scenario with the chain that a text asks for. The memory of `room` is the wire's.
+fn play_in<K: Sink>(room: Vec<u8>, s: &Scenario, chain: &str, out: &mut K) -> u8
     requires few { length s.now.events ≤ EVENTS_MAX }
     requires legal { AllByRecursion (IsEvent s.now.topology) s.now.events }
     ensures { PlaysIn (K.state out.old) (K.state out.new) (told s.now) chain.now result }
 {
-    let chains = match chains_for(alloc, s, chain) {
+    let chains = match chains_for(*room.allocator(), s, chain) {
         Ok(chains) => chains,
         Err(NoChains::NoMemory) => return NO_MEMORY,
         Err(NoChains::Refused(why)) => {
@@ -75,7 +75,7 @@ fn play_in<K: Sink>(alloc: Global, s: &Scenario, chain: &str, out: &mut K) -> u8
         }
     };
     let mut report = ReportWriter::new(&s.topology);
-    status_of(play(alloc, s.seed, chains, &s.events, &mut report, out))
+    status_of(play(room, s.seed, chains, &s.events, &mut report, out))
 }
 
 /// The command `nested FILE CHAIN`.
@@ -89,7 +89,7 @@ pub fn nested<S: Source, K: Sink>(
     ensures { NestedEnds (S.state src.old) (S.state src.new) (K.state out.old) (K.state out.new) file.now chain.now result }
 {
     match scenario_in(alloc, file, src, out) {
-        Ok(s) => play_in(alloc, &s, chain, out),
+        Ok((s, text)) => play_in(text, &s, chain, out),
         Err(status) => status,
     }
 }

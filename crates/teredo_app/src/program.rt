@@ -64,7 +64,14 @@ fn play_generated<K: Sink>(alloc: Global, asked: &GenWords, out: &mut K) -> u8
         return NO_MEMORY;
     };
     let mut totals = TotalsWriter::new();
-    status_of(play_flat(alloc, s.seed, &s.topology, &s.events, &mut totals, out))
+    status_of(play_flat(
+        Vec::new(alloc),
+        s.seed,
+        &s.topology,
+        &s.events,
+        &mut totals,
+        out,
+    ))
 }
 
 /// Does what the words of the command line ask for, and answers the program's status.

@@ -20,20 +20,20 @@ use std::alloc::Global;
 use td_base::LineBuf;
 use td_outside::{Sink, Source};
 
-/// The scenario of a file, or the status of a run that ends without one.
+/// The scenario of a file, and its text, or the status of a run that ends without one.
 pub(crate) fn scenario_in<S: Source, K: Sink>(
     alloc: Global,
     file: &str,
     src: &mut S,
     out: &mut K,
-) -> Result<Scenario, u8>
+) -> Result<(Scenario, Vec<u8>), u8>
     ensures opened { Gains (S.state src.old).openings (S.state src.new).openings file.now }
     ensures taken { TakesAtMost TEXT_READ_MAX (S.state src.old).taken (S.state src.new).taken }
-    ensures read { IfOk result (λ s. Reads (S.state src.old) file.now (Ok (told s))) }
+    ensures read { IfOk result (λ it. Reads (S.state src.old) file.now (Ok (told it.0))) }
     ensures quiet { OnOk result ((S.state src.new).faults ≡ (S.state src.old).faults) }
     ensures untouched { OnOk result (out.new ≡ out.old) }
-    ensures few { IfOk result (λ s. length s.events ≤ EVENTS_MAX) }
-    ensures legal { IfOk result (λ s. AllByRecursion (IsEvent s.topology) s.events) }
+    ensures few { IfOk result (λ it. length it.0.events ≤ EVENTS_MAX) }
+    ensures legal { IfOk result (λ it. AllByRecursion (IsEvent it.0.topology) it.0.events) }
     ensures ends { IfErr result (λ status. NotPlayed (S.state src.old) (S.state src.new) (K.state out.old) (K.state out.new) file.now status) }
 {
     let text = match read_named(alloc, src, file, TEXT_READ_MAX) {
@@ -42,7 +42,7 @@ pub(crate) fn scenario_in<S: Source, K: Sink>(
         Err(ReadFault::NoMemory) => return Err(NO_MEMORY),
     };
     match read(alloc, &text) {
-        Ok(s) => Ok(s),
+        Ok(s) => Ok((s, text)),
         Err(ScenarioFault::NoMemory) => Err(NO_MEMORY),
         Err(fault) => {
             let mut line = LineBuf::new();
@@ -69,9 +69,9 @@ pub fn lab<S: Source, K: Sink>(alloc: Global, file: &str, src: &mut S, out: &mut
     ensures { LabEnds (S.state src.old) (S.state src.new) (K.state out.old) (K.state out.new) file.now result }
 {
     match scenario_in(alloc, file, src, out) {
-        Ok(s) => {
+        Ok((s, text)) => {
             let mut report = ReportWriter::new(&s.topology);
-            status_of(play_flat(alloc, s.seed, &s.topology, &s.events, &mut report, out))
+            status_of(play_flat(text, s.seed, &s.topology, &s.events, &mut report, out))
         }
         Err(status) => status,
     }
@@ -82,9 +82,9 @@ pub fn wire<S: Source, K: Sink>(alloc: Global, file: &str, src: &mut S, out: &mu
     ensures { WireEnds (S.state src.old) (S.state src.new) (K.state out.old) (K.state out.new) file.now result }
 {
     match scenario_in(alloc, file, src, out) {
-        Ok(s) => {
+        Ok((s, text)) => {
             let mut capture = CaptureWriter::new();
-            status_of(play_flat(alloc, s.seed, &s.topology, &s.events, &mut capture, out))
+            status_of(play_flat(text, s.seed, &s.topology, &s.events, &mut capture, out))
         }
         Err(status) => status,
     }

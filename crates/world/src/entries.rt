@@ -6,7 +6,6 @@ ghost use Rattle.world.specs.WireEntry.{item_lent};
 use crate::wire::ENTRIES_MAX;
 use crate::wire_entry::WireEntry;
 use lab_nodes::lend_part;
-use std::alloc::Global;
 use std::marker::Model;
 use td_base::{Ep, NoMemory, Span};
 
@@ -48,12 +47,14 @@ const BYTES_AT_FIRST: usize = 64 * ENTRIES_MAX;
 
 impl Entries {
     /// Nothing was sent. There is room for all entries, so that none is copied where their list grows: memory that nothing
-    /// touches costs nothing.
-    pub fn new(alloc: Global) -> Result<Entries, NoMemory>
+    /// touches costs nothing. The memory of `room` is that of their bytes.
+    pub fn in_room(room: Vec<u8>) -> Result<Entries, NoMemory>
         ensures { IfOk result (λ entries. entries ≡ []) }
     {
-        let list = Vec::with_capacity(alloc, ENTRIES_MAX)?;
-        let bytes = Vec::with_capacity(alloc, BYTES_AT_FIRST)?;
+        let list = Vec::with_capacity(*room.allocator(), ENTRIES_MAX)?;
+        let mut bytes = room;
+        bytes.clear();
+        bytes.reserve(BYTES_AT_FIRST)?;
         Ok(Entries { list, bytes })
     }
 

@@ -11,7 +11,6 @@ ghost use Rattle.world.specs.WireEntry.{item_lent};
 use crate::entries::Entries;
 use crate::wire_entry::WireEntry;
 use history::{Loss, Mark, Marks, Stop};
-use std::alloc::Global;
 use std::marker::Model;
 use td_base::{Ep, NoMemory, Octets};
 
@@ -38,12 +37,12 @@ impl Model for Wire {
 }
 
 impl Wire {
-    /// Nothing was sent.
-    pub fn new(alloc: Global) -> Result<Wire, NoMemory>
+    /// Nothing was sent. The memory of `room` is that of the bytes that will be.
+    pub fn in_room(room: Vec<u8>) -> Result<Wire, NoMemory>
         ensures { IfOk result (λ wire. wire ≡ no_wire) }
     {
-        let entries = Entries::new(alloc)?;
-        let delivered = Vec::with_capacity(alloc, ENTRIES_MAX)?;
+        let delivered = Vec::with_capacity(*room.allocator(), ENTRIES_MAX)?;
+        let entries = Entries::in_room(room)?;
         Ok(Wire {
             entries,
             delivered,

@@ -77,9 +77,27 @@ impl<'a> World<'a> {
         ensures stands { IfOk result (λ w. StandsFor (draws seed) w []) }
         ensures goes_on { IfOk result (λ w. w.stopped ≡ None) }
     {
+        World::in_room(Vec::new(alloc), topology, nats, seed)
+    }
+
+    /// The same in memory that is there: that of `room`, whose bytes are dropped, is the wire's, and what is wanted besides
+    /// is taken where that was.
+    pub fn in_room(
+        room: Vec<u8>,
+        topology: &'a Topology,
+        nats: Chains<'a>,
+        seed: u64,
+    ) -> Result<World<'a>, NoMemory>
+        requires same { nats.topology ≡ topology.now }
+        requires first { (ChainsStandFor nats (λ k. [])) × (nats.moment ≡ 0) }
+        ensures topology { IfOk result (λ w. w.topology ≡ topology.now) }
+        ensures chain { IfOk result (λ w. w.chain ≡ nats.entry.chain) }
+        ensures stands { IfOk result (λ w. StandsFor (draws seed) w []) }
+        ensures goes_on { IfOk result (λ w. w.stopped ≡ None) }
+    {
         let _rules = topology.clients();
-        let nodes = Nodes::new(alloc, topology, seed)?;
-        let wire = Wire::new(alloc)?;
+        let nodes = Nodes::new(*room.allocator(), topology, seed)?;
+        let wire = Wire::in_room(room)?;
         Ok(World {
             topology,
             nats,

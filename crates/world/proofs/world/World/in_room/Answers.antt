@@ -1,6 +1,6 @@
 use Rattle.std.proofs.Common.{[], refl, ap, arith}
 use Rattle.world.specs.Wire.{WireState}
-use Rattle.world.proofs.world.World.new.Goals as goal
+use Rattle.world.proofs.world.World.in_room.Goals as goal
 
 pub invariant_of-result : goal.invariant_of-result
 invariant_of-result c = record {
