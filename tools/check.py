@@ -6,9 +6,10 @@ status with NAME.toml.status. And with each line of the scenario that says so it
 
   "deliver 3",
   # expect: b rule3 handed/45        a record of the event before has these words behind its act, in this order
-  # expect: total handed 2           the last line of the report has them
-  # expect: scenario seed: kind      the text is refused with this line
+  # expect: total handed 2 kept 0    the last line of the report has each number right behind its word
+  # expect: scenario seed: kind      the text is refused with this line, the whole of it
   # expect: nested: nodes            so is what a chain can't be played with
+  # expect: wire full                the report ends with this line
 
 Of several lines below one event each is met by a later record than the one before. A scenario with a line
 `# chain: CHAIN` is played by `nested FILE CHAIN`, every other one by `lab FILE`. `--write` writes NAME.toml.stdout
@@ -28,7 +29,7 @@ import command
 import toml_places
 
 EXPECT = re.compile(r'#[ \t]*expect:[ \t]*(.*?)[ \t]*$', re.M)
-REFUSED = {'scenario': 3, 'nested': 12}  # the status of what ends with a line of this word
+STATUSES = {'wire': 8, 'scenario': 3, 'nested': 12}  # of what ends with a line of this word
 DIFFERENCES_MAX = 20  # lines that are shown of one report
 
 
@@ -56,6 +57,18 @@ def has_in_order(line, words):
     return all(word in rest for word in words)
 
 
+def counts_of(words):
+    """The words of a line of totals, each with the number right behind it."""
+    return re.sub(r' (?=[0-9])', '=', ' '.join(words)).split(' ')
+
+
+def is_last(line, words):
+    """Whether the last line has what is expected: of totals those that are named, and of another line all of it."""
+    if words[0] == 'total':
+        return set(counts_of(words)) <= set(counts_of(line.split()))
+    return line.split() == words
+
+
 def unmet(text, written):
     """What is wrong with the expectations of a text, beside what was written."""
     lines, found, after = written.splitlines(), [], {}
@@ -63,9 +76,9 @@ def unmet(text, written):
         said = ' '.join(expected.words)
         if not expected.words:
             found.append(f'{expected.line}: expects nothing')
-        elif expected.words[0].rstrip(':') in ('total', 'scenario', 'nested', 'wire'):
+        elif expected.words[0].rstrip(':') in ('total', *STATUSES):
             last = lines[-1] if lines else ''
-            if not has_in_order(last.split(), expected.words):
+            if not is_last(last, expected.words):
                 found.append(f'{expected.line}: expected {said}, and the last line is: {last}')
         else:
             records = [(at, line.split()) for at, line in enumerate(lines) if line.split()[2:3] == [str(expected.event)]]
@@ -88,8 +101,8 @@ def differences(path, written):
 def wanted_status(path, text, has_report):
     if os.path.exists(path + '.status'):
         return int(command.read(path + '.status'))
-    refused = [] if has_report else [expected.words[0].rstrip(':') for expected in expectations(text) if expected.words]
-    return next((status for word, status in REFUSED.items() if word in refused), 0)
+    firsts = [] if has_report else [expected.words[0].rstrip(':') for expected in expectations(text) if expected.words]
+    return next((status for word, status in STATUSES.items() if word in firsts), 0)
 
 
 def check(program, path, is_written=False):
