@@ -93,7 +93,7 @@ def of_value(top, table, key, item, word):
         return ''
     if word == 'range':
         known = wanted.properties(table)[key].get('enum', []) if table else []
-        return wanted.nearest(value, known) or twin(top, key, value, item.start)
+        return wanted.nearest_value(value, known) or twin(top, key, value, item.start)
     nodes = list(names_of(top))
     if word == 'name' and key == 'name':
         return ''.join(f'; {kind} {name} has it' for name, kind, place in nodes if name == value and place < item.start)

@@ -67,4 +67,14 @@ def page_chains():
 def nearest(word, known):
     """What was meant, maybe."""
     found = difflib.get_close_matches(str(word).lower(), list(known), 1, 0.6)
-    return f'; did you mean {found[0]}?' if found and found[0] != word else ''
+    return meant(found[0]) if found and found[0] != word else ''
+
+
+def nearest_value(value, known):
+    """The known value that this one begins with, as `port restricted cone` does with `port`, or else the nearest one."""
+    begun = [word for word in known if value.lower().startswith(word)]
+    return meant(begun[0]) if begun else nearest(value, known)
+
+
+def meant(word):
+    return f'; did you mean {word}?'
