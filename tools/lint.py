@@ -76,9 +76,15 @@ def of_key(top, table, node, key, word):
         return Finding(node.start, node.end - node.start if table else 1, f'{where} has no {key}, and wants one, {wanted.rule(table, key)}')
     if word == 'key':
         place = next((place for name, place in node.keys.items() if shown(name) == key), node.start)
-        return Finding(place, len(key), f'{where} has no key {key}{wanted.nearest(key, known)}; it has {", ".join(known)}')
+        return Finding(place, len(key), f'{where} has no key {key}{wanted.nearest(key, known)}; it has {", ".join(known)}{of_the_top(key)}')
     item = node.value[key]
     return Finding(item.start, item.end - item.start, wanted.rule(table, key) + of_value(top, table, key, item, word))
+
+
+def of_the_top(key):
+    """What is said of a key of the top that stands in a table."""
+    is_there = key in wanted.properties() and key not in LISTS
+    return f'; {key} belongs to the top: move it above the first [[..]]' if is_there else ''
 
 
 def shown(key):
@@ -122,7 +128,7 @@ def of_word(top, words, number, here):
         return f'an event begins with one of {", ".join(known)}{wanted.nearest(here, known)}'
     shape, told = known[words[0]]
     if number >= len(shape):
-        return f'nothing more: the event is {" ".join(shape)}'
+        return f'nothing more: the event is {" ".join(shape)}; {told}'
     if here == '' and number < len(words):
         return f'{shape[number]}, and one space before it: the event is {" ".join(shape)}; {told}'
     if words[0] == 'forget' and number == 2 and here in [name for name, kind, _ in names_of(top) if kind == 'client']:
