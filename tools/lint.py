@@ -176,6 +176,11 @@ def of_chain(text, said, chain):
     return Finding(line.start(1) if is_said else None, len(chain), chains.fault_of(top.plain(), chain))
 
 
+def found_of(status, text, said, chain):
+    """The finding for a scenario that isn't played, from its status and the line that was said."""
+    return finding(text, said) if status == 3 else of_chain(text, said, chain)
+
+
 def of_top_key(top, key, word):
     if word != 'key' and key in LISTS and isinstance(top.value[key].value, dict):
         return Finding(top.value[key].start, len(key) + 2, f'two brackets, [[{key}]]: a list of tables')
@@ -225,7 +230,7 @@ def lint(program, path, chain=None):
     if status not in (3, 12):
         return []
     said = written.strip()
-    found = finding(text, said) if status == 3 else of_chain(text, said, chain)
+    found = found_of(status, text, said, chain)
     if found.place is None:
         return [f'{path}: {said}', f'  wanted: {found.text}']
     line, column, there = toml_places.place_of(text, found.place)

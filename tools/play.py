@@ -2,14 +2,14 @@
 """A prompt over a scenario: type an event, see its records. The scenario is played anew each time.
 
   EVENT          an event of docs/SCENARIOS.md, as `next` or `host a b 00`: is added, played, and its records are shown
-  all            delivers with `next` until nothing is left
-  until FATE     delivers with `next` until a record has this fate
+  all            delivers with `next` until nothing is left; after 1,000 deliveries it stops, and says so
+  until FATE     the same, until a record has this fate
   undo           takes the last event back, or all that the last `all` or `until` added
   report         the whole report
   events         the events so far, with their numbers
   nodes          each node that acted: its address, or how far it is
   wire           each entry: who made it, where it goes, what came of it
-  why [N]        what became of each packet that a host handed in, or of event N
+  why [N]        what became of each packet that a host handed in, or of the packet of event N
   save FILE      writes the scenario as it is now
   help           this; an empty line does nothing; `quit` or the end of the input ends
 """
@@ -18,7 +18,9 @@ import sys
 
 sys.dont_write_bytecode = True
 
+import chains
 import command
+import lint
 import travel
 from report import Report, record_of
 from toml_places import scenario_node
@@ -66,10 +68,18 @@ class Session:
         if self.status in (0, 8):
             number = len(self.events()) - 1
             return [record.line for record in self.records() if record.event == number] + self.full(), True
-        said = self.written.strip() or f'status {self.status}'
+        said = self.refusal()
         self.added.pop()
         self.status, self.written = before
-        return [said], False
+        return said, False
+
+    def refusal(self):
+        """What is said of a scenario that isn't played, and what is wanted there."""
+        said = self.written.strip() or f'status {self.status}'
+        if self.status not in (3, 12):
+            return [said]
+        chain = chains.chain_of(self.text) if self.chain is None else self.chain
+        return [said, f'  wanted: {lint.found_of(self.status, self.whole(), said, chain).text}']
 
     def full(self):
         return ['wire full'] if self.status == 8 else []
@@ -79,12 +89,18 @@ class Session:
         lines, count = [], 0
         while count < NEXT_MAX:
             said, is_event = self.add('next')
-            if not is_event or record_of(said[0]).fate == 'no_entry':
-                self.take(is_event)
+            if not is_event or self.status == 8:
+                lines, count = lines + said, count + is_event
+                break
+            made = record_of(said[0])
+            if made.fate == 'no_entry':
+                self.take(1)
                 break
             lines, count = lines + said, count + 1
-            if is_enough(record_of(said[0])) or self.status == 8:
+            if is_enough(made):
                 break
+        else:
+            lines.append(f'{count:,} deliveries: more may be left; type it again')
         return lines or ['nothing is left to deliver'], count
 
     def take(self, count):
@@ -134,16 +150,28 @@ def why(session, words):
     travels = travel.Travels(report_of(session), travel.targets_of(session.events()))
     lines = [f'{session.events()[record.event]}: {travel.text_of(travels, record)}' for record in travels.report.records
              if travel.text_of(travels, record) and (record.event == number_of(words) if words else record.act in travel.HANDED_IN)]
-    return lines or ['there is no such packet']
+    return lines or [no_packet(session, words)]
+
+
+def no_packet(session, words):
+    number = number_of(words)
+    if number is None or number >= len(session.events()):
+        return f'there is no event {words[0]}' if words else 'no host handed in a packet'
+    return f'event {number} handed in no packet: `save FILE`, and `./teredo trace FILE --event {number}` has what came of it'
 
 
 def number_of(words):
-    return int(words[0]) if words[0].isdecimal() else None
+    return int(words[0]) if words and words[0].isdecimal() else None
 
 
 def save(session, words):
     command.write(words[0], session.whole())
     return [f'saved as {words[0]}']
+
+
+def usage(first):
+    """The line of the help on a command."""
+    return [line for line in __doc__.splitlines() if line.startswith(f'  {first} ')]
 
 
 # A command, how many words it wants, and what it answers.
@@ -168,6 +196,8 @@ def answer(session, line):
         lines, count = session.deliver(lambda record: False)
     elif first == 'until' and len(words) == 1:
         lines, count = session.deliver(lambda record: record.fate == words[0])
+    elif usage(first):
+        return usage(first)  # the command, with other words
     else:
         lines, count = session.add(line)
     session.steps += [int(count)] if count else []
