@@ -6,7 +6,8 @@
 - The scenario that README.md shows is the example that it names.
 - Each row of examples/refusals.txt: the example at the top of docs/SCENARIOS.md is changed as it says, and played.
 
-Ends with status 1 where something differs, or where fewer are found than BLOCKS_MIN and ROWS_MIN say.
+Ends with status 1 where something differs, where fewer blocks are found than BLOCKS_MIN says, or other rows than
+docs/SCENARIOS.md counts.
 """
 import glob
 import os
@@ -20,9 +21,8 @@ TOP = os.path.dirname(os.path.dirname(os.path.abspath(__file__)))
 PROGRAM = os.path.join(TOP, 'crates', 'teredo_cli', 'out', 'teredo_cli')
 TOOLS = ('trace', 'flow', 'lint', 'check', 'generated')
 COMMAND = re.compile(rf'^\$ \./teredo (lab examples/|nested examples/|wire examples/|show |gen |(?:{"|".join(TOOLS)}) )')
-# How many commands each page quotes at least, and how many refusals there are: a check of nothing passes.
+# How many commands each page quotes at least: a check of nothing passes.
 BLOCKS_MIN = {'README.md': 1, 'docs/GUIDE.md': 15, 'docs/SURE.md': 9, 'docs/CAPTURES.md': 2}
-ROWS_MIN = 49
 # The status of what ends so; 0 of all else.
 STATUSES = {'fault ': 1, 'words': 2, 'scenario ': 3, 'wire full': 8, 'unlicensed ': 10, 'capture ': 11, 'nested': 12}
 
@@ -104,9 +104,10 @@ def check_refusals(program):
         if before not in example or played.returncode != 3 or played.stdout.decode() != said + '\n':
             wrong += 1
             print(f'examples/refusals.txt: `{before}` to `{after}` says {played.stdout.decode()[:80]!r}, status {played.returncode}')
-    if len(found) < ROWS_MIN:
+    told = re.findall(r'`examples/refusals.txt` has (\d+) more', page)
+    if told != [str(len(found))]:
         wrong += 1
-        print(f'examples/refusals.txt: {len(found)} refusals are found, and {ROWS_MIN} at least should be')
+        print(f'docs/SCENARIOS.md: counts {told} refusals, and examples/refusals.txt has {len(found)}')
     return wrong
 
 
