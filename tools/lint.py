@@ -6,7 +6,7 @@ a caret below it. So it does where `nested` has no chain of NATs to play, or a n
 with status 0 where all are played, and with 1 where one is refused.
 
   lint FILE..
-  lint FILE --chain CHAIN
+  lint FILE --chain=CHAIN
 """
 import re
 import sys
