@@ -10,7 +10,8 @@
     lab.event('host a b 00', 'settle')
     print(lab.text(), end='')
 
-Every text that comes of it is one that docs/SCENARIOS.md allows, where the names and the events are.
+`PYTHONPATH=tools python3 -B OWN.py >OWN.toml` runs that at the top of the repository, wherever OWN.py lies. Every text that
+comes of it is one that docs/SCENARIOS.md allows, where the names and the events are.
 """
 
 # How long each client needs until it has an answer to wait for: no time, twice where it doesn't try the cone phase; else,
