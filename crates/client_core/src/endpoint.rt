@@ -3,8 +3,8 @@ use crate::client::Client;
 use td_base::{Ep, Millis, NoMemory, Side};
 use teredo_node::{Endpoint, Step};
 
-/// A client has one endpoint: it answers by its table of datagrams, and memory may be wanting where a source is to be
-/// listed. At a tick it does the first thing that is due.
+/// A client has one endpoint: it answers by its table of datagrams, and memory may be wanting where a packet is to be
+/// held or a source to be listed. At a tick it does the first thing that is due.
 impl Endpoint for Client {
     ghost use Rattle.std.specs.Prelude.{◌≡◌, false, refl};
     ghost use Rattle.std.proofs.Common.{◌∙◌};

@@ -23,7 +23,7 @@ use Rattle.legal.specs.Emit.{is_at_place, crossing_unless, or_loss, marked, by_w
 use Rattle.legal.specs.Kinds.{Kind, quiet, put, copied, ticks, handed, reached}
 use Rattle.legal.specs.Actors.{IsActOf, Acted, idles, does}
 use Rattle.legal.specs.Makers as makers
-use Rattle.legal.specs.Makers.{Forges, Leaves, MadeBy, from_nowhere, by_server, by_relay, by_client, by_native, to_six, EachItemIsMade}
+use Rattle.legal.specs.Makers.{Forges, MadeBy, from_nowhere, by_server, by_relay, by_client, by_native, to_six, EachItemIsMade}
 use Rattle.legal.proofs.ByKind.{kind_of}
 use Rattle.legal.proofs.Actors.{acted_in}
 use Rattle.legal.proofs.NatPasts.{Past, crossed, set_up_past, later_past}

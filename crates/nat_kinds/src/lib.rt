@@ -6,7 +6,7 @@
 //!
 //! - A `Nat` stands for the history of its calls (`specs/Nat.antt`), and each call answers what that history
 //!   gives: `outward` is `nat_answer`, `inward` is `lets_in`. The histories are quantified in each clause, so a
-//!   caller composes calls without looking into `StandsFor`.
+//!   caller composes calls without looking into `NatStandsFor`.
 //! - Only an outward datagram keeps a mapping or a permission alive: `inward` changes nothing.
 //! - `Hairpin` comes before `Full`, and both come exactly where the history gives them. `NoMemory` comes only
 //!   from `outward`, and the NAT then stands for what it stood for. No other call takes memory.

@@ -6,7 +6,7 @@
 //!   none (`specs/ChainText.antt`, `ChainRules.antt`); by `Chains::alone` no NAT is behind another one. At first the NATs
 //!   stand for empty histories.
 //! - `Chains` stand for a history of each NAT (`specs/Chains.antt`). The histories are quantified in each clause, so a caller
-//!   composes calls without looking into `StandsFor`.
+//!   composes calls without looking into `ChainsStandFor`.
 //! - `outward` answers where the datagram leaves its outermost NAT, or the refusal of the first NAT that refuses. Each NAT
 //!   that let it out has that in its history, also where another one refuses.
 //! - Want of memory comes only from `outward`, at a NAT that had a port to give. That NAT and those outside it stay, and

@@ -1,4 +1,4 @@
--- The rules that a topology keeps, and the events that a scenario with it may ask for.
+-- The rules that a topology keeps.
 use Rattle.std.specs.Prelude.{◌≡◌, ◌≢◌, ◌≤◌, ◌==◌, ◌&&◌, Bool, true, false, is_some, List, [], ◌∷◌, ◌++◌, map, flat_map, length}
 use Rattle.std.specs.List.{list_any, AllByRecursion}
 use Rattle.td_base.specs.Ip4.{IsIp4, same_ip}
