@@ -1,7 +1,6 @@
--- How long a session may last, and how its client is set up.
+-- How the client of a session is set up.
 use Rattle.std.specs.Prelude.{◌≡◌}
 use Rattle.td_live.specs.declared.asked.TheConstants.{REFRESH_LOW_MS, REFRESH_HIGH_MS, STREAM_NUMBER}
-use Rattle.td_live.specs.declared.session.TheConstants.{TURNS_MAX}
 
 pub record LiveNumbers : Type 0 where
   -- RFC 4380, section 5.2.5: between 75 and 100 per cent of 30 seconds, in milliseconds
@@ -9,5 +8,3 @@ pub record LiveNumbers : Type 0 where
   pub refresh_high : REFRESH_HIGH_MS ≡ 30000
   -- our choice: the words of a laboratory's first node
   pub stream : STREAM_NUMBER ≡ 0
-  -- the most turns: our choice
-  pub turns_most : TURNS_MAX ≡ 1000000000

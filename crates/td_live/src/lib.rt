@@ -40,4 +40,4 @@ pub use asked::{Asked, REFRESH_HIGH_MS, REFRESH_LOW_MS, STREAM_NUMBER};
 pub use laws::live_numbers;
 pub use live::Live;
 pub use live_totals::LiveTotals;
-pub use session::{TURNS_MAX, qualify};
+pub use session::qualify;

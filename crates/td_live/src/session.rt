@@ -15,10 +15,8 @@ use crate::{Asked, Live, LiveTotals};
 use std::alloc::Global;
 use td_base::{Ep, Ip4};
 use td_outside::{Clock, Failed, Link};
+use td_turns::TURNS_MAX;
 use teredo_node::Step;
-
-/// The most turns that a session is asked for.
-pub const TURNS_MAX: u64 = 1_000_000_000;
 
 // Takes turns at a link that is open.
 fn take_turns<L: Link, C: Clock>(

@@ -7,8 +7,9 @@ use crate::qualify_line::{live_status, put_qualify_line};
 use crate::statuses::NO_LINK;
 use std::alloc::Global;
 use td_base::LineBuf;
-use td_live::{Asked, LiveTotals, TURNS_MAX, qualify};
+use td_live::{Asked, LiveTotals, qualify};
 use td_outside::{Clock, Link, Sink};
+use td_turns::TURNS_MAX;
 
 /// The command `qualify INSIDE IP1 IP2 SEED TURNS`. It never answers `NO_MEMORY`.
 pub fn qualify_at<K: Sink, L: Link, C: Clock>(
