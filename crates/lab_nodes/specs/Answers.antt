@@ -14,6 +14,7 @@ use Rattle.legal.specs.Emit.{sendings, address_by, handed_by}
 use Rattle.lab_nodes.specs.Call.{entry_in}
 use Rattle.lab_nodes.specs.declared.call.Call.{Call}
 use Rattle.lab_nodes.specs.declared.played_node.PlayedNode.{PlayedNode}
+use Rattle.lab_nodes.specs.declared.played_node.PlayedNode.TheVariants as played
 use Rattle.lab_nodes.specs.declared.asked.Asked.{Asked}
 use Rattle.lab_nodes.specs.PlayedNode.{row_of, past_of, IsKept}
 use Rattle.lab_nodes.specs.Outlet.{outlet_of, sendings_by}
@@ -32,10 +33,18 @@ ClientStarves c m input = (j : Journal) → ClientStandsFor c j → SendsOrKeeps
 abbrev pub RelayStarves : Relay → ℕ → Input → Type 0
 RelayStarves r m input = (j : List Entry) → RelayStandsFor r j → SendsOrKeeps (next_relay_entry r j m input).step
 
--- memory was wanting: what the node does keeps something, or sends
-abbrev pub Wants : Call → PlayedNode → Type 0
-Wants x old = (lab : Lab) (H : List Full) → IsKept lab.topology x.node (past_of lab x.node H) old
+-- what a node does keeps something, or sends
+abbrev pub KeepsOrSends : Call → PlayedNode → Type 0
+KeepsOrSends x old = (lab : Lab) (H : List Full) → IsKept lab.topology x.node (past_of lab x.node H) old
     → (sendings lab H x.now.0 (entry_in lab H x (row_of old)) (row_of old)).made ≡ [] → takes_memory (entry_in lab H x (row_of old)).step.fate ≡ true
+
+-- memory was wanting: the node is a client or a relay, and keeps something, or sends. No other node wants any
+abbrev pub Wants : Call → PlayedNode → Type 0
+Wants x (played.Server row) = ⊥
+Wants x (played.Nat row) = ⊥
+Wants x (played.Client row is) = KeepsOrSends x (played.Client row is)
+Wants x (played.Relay row is) = KeepsOrSends x (played.Relay row is)
+Wants x (played.Native row) = ⊥
 
 -- WHAT COMES OF A CALL
 

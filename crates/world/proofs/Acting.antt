@@ -40,7 +40,7 @@ use Rattle.lab_nodes.specs.declared.played_node.PlayedNode.TheVariants as played
 use Rattle.lab_nodes.specs.PlayedNode.{row_of, past_of, IsKept, NodesOf}
 use Rattle.lab_nodes.specs.Changes.{with_call}
 use Rattle.lab_nodes.specs.Call.{dst_lent, input_lent, entry_in}
-use Rattle.lab_nodes.specs.Answers.{AnswersFor, AnswersCall, Wants}
+use Rattle.lab_nodes.specs.Answers.{AnswersFor, AnswersCall, KeepsOrSends, Wants}
 use Rattle.lab_nodes.specs.Outlet.{sendings_but}
 use Rattle.world.specs.declared.sender.Sender.{Sender}
 use Rattle.world.specs.declared.prompt.Prompt.{Prompt}
@@ -306,11 +306,19 @@ acted_plays frame x y nats new marks call there a at is asked done =
 
 -- OR DIDN'T
 
+-- it was wanting at a client or a relay
+wanted : (x : Call) (old : PlayedNode) → Wants x old → KeepsOrSends x old
+wanted x (played.Server row) wants = absurd wants
+wanted x (played.Nat row) wants = absurd wants
+wanted x (played.Client row is) wants = wants
+wanted x (played.Relay row is) wants = wants
+wanted x (played.Native row) wants = absurd wants
+
 -- memory was wanting when it was asked
 pub wants_memory : (x : Doing) (a : Node) → IsCall x.world x.prompt x.call → IsDoing x → node_at x.world.topology x.call.node ≡ Some a → Wants x.call x.before
     → NeedsMemory (prompted x.draws x.world x.history x.event x.act x.prompt x.call.node a)
 wants_memory x a call is at wants =
-    subst (λ (r : Full). NeedsMemory r) (prompted_is x a is call at) (wants (lab_of_doing x) x.history (is.finds.nodes.each x.call.node x.before is.was))
+    subst (λ (r : Full). NeedsMemory r) (prompted_is x a is call at) (wanted x.call x.before wants (lab_of_doing x) x.history (is.finds.nodes.each x.call.node x.before is.was))
 
 -- the wire has no room for what it sends, or memory was wanting for it
 pub acted_stops : (x : Doing) (y : Asking) (new : WireState) (marks : List Mark) (why : Stop) (a : Node) → IsCall x.world x.prompt x.call → IsDoing x → IsAsked x y → node_at x.world.topology x.call.node ≡ Some a
