@@ -6,6 +6,7 @@ use Rattle.td_outside.specs.Clock.{ClockState}
 use Rattle.td_outside.specs.Link.{LinkState, free_port_of}
 use Rattle.td_outside.specs.Moves.{Gains}
 use Rattle.td_outside.specs.Sink.{SinkState}
+use Rattle.td_turns.specs.Turn.{SendFaults}
 use Rattle.td_live.specs.declared.asked.Asked.{Asked}
 use Rattle.td_live.specs.declared.live.Live.{Live}
 use Rattle.td_live.specs.declared.live.Live.TheVariants.{Qualified, Symmetric, OffLine, Undecided}
@@ -68,16 +69,16 @@ module _ (o o' : SinkState) (l l' : LinkState) (c c' : ClockState) (asked : Aske
   line_ends live found result (line_failed ends rose lines) = subst (λ (n : ℕ). QualifyEnds o o' l l' c c' asked n) (sym ends) (unwritten_ends live found rose lines)
 
   -- the session's answer
-  pub found_line : (totals : LiveTotals) (result : Result Live Failed) (live : Live) → result ≡ Ok live
+  pub found_line : (totals : LiveTotals) (result : Result Live Failed) (live : Live) → result ≡ Ok live → SendFaults l.send_faults l'.send_faults totals.failed
       → MatchResult result (λ answer. SessionOf asked l l' c c' totals (Ok answer)) (λ fault. NoSession l l' c c' totals ⊎ SessionOf asked l l' c c' totals (Err fault))
       → (status : ℕ) → LineEnds o o' (qualify_line live totals) (live_status live) status → QualifyEnds o o' l l' c c' asked status
-  found_line totals result live is session status ends =
+  found_line totals result live is sends session status ends =
       let so : SessionOf asked l l' c c' totals (Ok live) = subst (λ (r : Result Live Failed). MatchResult r (λ answer. SessionOf asked l l' c c' totals (Ok answer)) (λ fault. NoSession l l' c c' totals ⊎ SessionOf asked l l' c c' totals (Err fault))) is session in
-      line_ends live (record { totals = totals; session = so }) status ends
+      line_ends live (record { totals = totals; session = so; sends = sends }) status ends
 
   -- the session's fault
-  pub fault_ends : (totals : LiveTotals) (result : Result Live Failed) → ((live : Live) → result ≡ Ok live → ⊥) → o'.faults ≡ o.faults → WritesNothing o o' → HasCause l.recv_faults l'.recv_faults result
+  pub fault_ends : (totals : LiveTotals) (result : Result Live Failed) → ((live : Live) → result ≡ Ok live → ⊥) → o'.faults ≡ o.faults → WritesNothing o o' → HasCause l.recv_faults l'.recv_faults result → SendFaults l.send_faults l'.send_faults totals.failed
       → MatchResult result (λ answer. SessionOf asked l l' c c' totals (Ok answer)) (λ fault. NoSession l l' c c' totals ⊎ SessionOf asked l l' c c' totals (Err fault))
       → QualifyEnds o o' l l' c c' asked 6
-  fault_ends totals (Ok live) none same nothing cause session = absurd (none live refl)
-  fault_ends totals (Err fault) none same nothing cause session = unlinked_ends cause.failed same nothing (totals, elim session [ inl shut ↦ inl shut | inr broke ↦ inr (fault, broke) ])
+  fault_ends totals (Ok live) none same nothing cause sends session = absurd (none live refl)
+  fault_ends totals (Err fault) none same nothing cause sends session = unlinked_ends cause.failed same nothing (totals, sends, elim session [ inl shut ↦ inl shut | inr broke ↦ inr (fault, broke) ])

@@ -6,6 +6,7 @@ use Rattle.td_outside.specs.Clock.{ClockState}
 use Rattle.td_outside.specs.Link.{LinkState, free_port_of}
 use Rattle.td_outside.specs.Moves.{Gains}
 use Rattle.td_outside.specs.Sink.{SinkState}
+use Rattle.td_turns.specs.Turn.{SendFaults}
 use Rattle.td_live.specs.declared.asked.Asked.{Asked}
 use Rattle.td_live.specs.declared.live.Live.{Live}
 use Rattle.td_live.specs.declared.live.Live.TheVariants.{Undecided}
@@ -19,10 +20,13 @@ use Rattle.teredo_app.specs.QualifyLine.{qualify_line}
 pub record FindsLive (l l' : LinkState) (c c' : ClockState) (asked : Asked) (live : Live) : Type 0 where
   pub totals : LiveTotals
   pub session : SessionOf asked l l' c c' totals (Ok live)
+  -- a send is counted as one that failed where one did
+  pub sends : SendFaults l.send_faults l'.send_faults totals.failed
 
 -- The link failed: it couldn't be opened, or a receive failed after some turns.
 abbrev pub FindsNothing : LinkState → LinkState → ClockState → ClockState → Asked → Type 0
-FindsNothing l l' c c' asked = (totals : LiveTotals) × (NoSession l l' c c' totals ⊎ ((fault : Failed) × SessionOf asked l l' c c' totals (Err fault)))
+FindsNothing l l' c c' asked = (totals : LiveTotals) × SendFaults l.send_faults l'.send_faults totals.failed
+    × (NoSession l l' c c' totals ⊎ ((fault : Failed) × SessionOf asked l l' c c' totals (Err fault)))
 
 -- How it ends: for each status its cause, and what was written. It never wants memory.
 pub record QualifyEnds (o o' : SinkState) (l l' : LinkState) (c c' : ClockState) (asked : Asked) (status : ℕ) : Type 0 where
