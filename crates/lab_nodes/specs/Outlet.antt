@@ -18,7 +18,7 @@ use Rattle.lab_nodes.specs.declared.asked.SixPacket.{SixPacket}
 
 -- a server and a relay send from endpoints of their own, a client from its endpoint behind its NAT
 abbrev pub outlet_of : Node → Outlet
-outlet_of (client c) = Through c.nat c.inside
+outlet_of (client c) = Through c.inside c.nat
 outlet_of (nat a) = Silent
 outlet_of (native h) = Silent
 outlet_of a = Own (own_ep a Primary) (own_ep a Secondary)
@@ -37,7 +37,7 @@ six_sent (Some packet) = sent (six packet.relay packet.bytes.now) ∷ []
 abbrev pub sendings_but : Lab → List Full → ℕ → (fails : Option ℕ) → Outlet → Option SixPacket → List Send → Sendings
 sendings_but lab H m fails Silent packet xs = direct (six_sent packet)
 sendings_but lab H m fails (Own primary secondary) packet xs = direct (outright (source_at primary secondary) fails 0 xs ++ six_sent packet)
-sendings_but lab H m fails (Through k inside) packet xs = by_way lab H m (way_out lab.chain k) inside fails 0 [] xs
+sendings_but lab H m fails (Through inside k) packet xs = by_way lab H m (way_out lab.chain k) inside fails 0 [] xs
 
 -- the one that was armed does
 abbrev pub sendings_by : Lab → List Full → ℕ → Outlet → Option SixPacket → List Send → Sendings

@@ -90,8 +90,8 @@ pub fn answer_client(
     ask_client(client, call, step)?;
     Ok(Asked {
         outlet: Outlet::Through {
-            nat: row.nat,
             inside: row.inside,
+            nat: row.nat,
         },
         packet: None,
         handed: handed_of(call.input, step),

@@ -32,7 +32,7 @@ pub record Crossed (lab : Lab) (H : List Full) (c : Crossing) (failing : Bool) (
 
 -- what leaves through a NAT leaves through one that is there
 abbrev pub HasItsNat : Outlet → TopologyState → Type 0
-HasItsNat (Through k inside) t = is_nat (node_at t k) ≡ true
+HasItsNat (Through inside k) t = is_nat (node_at t k) ≡ true
 HasItsNat _ t = Unit {0}
 
 -- what becomes of what is sent

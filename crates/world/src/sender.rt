@@ -42,8 +42,8 @@ struct Sources {
 /// An endpoint of a client's own, behind its NAT.
 #[derive(Clone, Copy, Debug)]
 struct ClientEnd {
-    nat: u16,
     inside: Ep,
+    nat: u16,
 }
 
 /// Whether the send of this number fails.
@@ -245,8 +245,8 @@ fn put_all(
             let from = Sources { primary, secondary };
             put_own(wire, from, sender.fails, step, packet, marks)
         }
-        Outlet::Through { nat, inside } => {
-            let from = ClientEnd { nat, inside };
+        Outlet::Through { inside, nat } => {
+            let from = ClientEnd { inside, nat };
             put_through(wire, nats, sender, from, step, marks)
         }
     }
