@@ -1,5 +1,6 @@
 pub mod Records
 mod SentFrom
+pub mod HonestFor
 pub mod SentOn
 pub mod Brought
 mod Brings

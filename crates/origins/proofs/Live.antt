@@ -12,20 +12,17 @@ use Rattle.nat_kinds.specs.History.{Restart}
 use Rattle.teredo_node.specs.Step.{Send}
 use Rattle.teredo_node.specs.Journal.{Input, arrived, Entry, with_entry}
 use Rattle.qualify.specs.declared.settings.Settings.{Settings}
-use Rattle.qualify.specs.declared.phase.Phase.{Phase}
-use Rattle.qualify.specs.declared.phase.Phase.TheVariants.{Cone, Restricted, Secondary, Qualified, Symmetric, OffLine}
-use Rattle.qualify.specs.Qualification.{Qualification, qualification}
-use Rattle.qualify.specs.Solicitations.{is_cone, expected_in, expected}
+use Rattle.qualify.specs.Qualification.{qualification}
 use Rattle.qualify.specs.Turns.{turn_of}
 use Rattle.client_rules.specs.Journals.{IsJournal}
 use Rattle.client_rules.specs.Told.{IsToldAddress, EachAddressIsTold}
 use Rattle.topology.specs.declared.nat_node.NatNode.{NatNode}
 use Rattle.topology.specs.declared.client_node.ClientNode.{ClientNode}
 use Rattle.topology.specs.declared.node.Node.{Node}
-use Rattle.topology.specs.declared.node.Node.TheVariants.{Server as server, Nat as nat, Client as client}
+use Rattle.topology.specs.declared.node.Node.TheVariants.{Nat as nat, Client as client}
 use Rattle.topology.specs.Rows.{TopologyState}
-use Rattle.topology.specs.Topology.{node_at, as_nat, settings_of_nat}
-use Rattle.topology.specs.NodeRules.{has_address, EachNodeKeepsRules}
+use Rattle.topology.specs.Topology.{node_at, client_at, as_nat, settings_of_nat}
+use Rattle.topology.specs.NodeRules.{EachNodeKeepsRules}
 use Rattle.topology.specs.Chains.{Behind, nat_set_up, outs_at, inner_at, way_out}
 use Rattle.topology.proofs.Lists.{all_at}
 use Rattle.history.specs.Full.{Item, udp, six, Full, wire}
@@ -41,8 +38,9 @@ use Rattle.legal.specs.Actors.{IsGiven, delivered, hosted, ticks, IsActOf, EachA
 use Rattle.legal.specs.MadeWire.{EachHistoryIsMade}
 use Rattle.legal.specs.Routes.{Reaches, EachRoute}
 use Rattle.legal.proofs.MadeInputs.{entry_input, client_made}
-use Rattle.settled.specs.ItsNodes.{HasServer, ClientsAreThere}
-use Rattle.origins.specs.Honest.{is_honest_event, are_honest}
+use Rattle.settled.specs.ItsNodes.{ClientsAreThere}
+use Rattle.origins.specs.Honest.{is_honest_event_for, are_honest_for}
+use Rattle.origins.proofs.HonestFor.{from_its}
 use Rattle.origins.specs.Senders.{EntryTellsWhereTo, EachEntryTellsWhereTo}
 use Rattle.origins.specs.Live as live
 use Rattle.origins.specs.Live.{LeadsTo, IsLive, EachIsLive, IsHeld, EachIsHeld}
@@ -63,22 +61,6 @@ pub record LiveLaws : Type 0 where
   pub owner : OwnerHolds
 
 -- THE ADVERTISEMENT
-
--- the server has the address from which the client expects an answer
-expected_has : (t : TopologyState) (c : ClientNode) (phase : Phase) (cone : Bool) (b : HasServer t c)
-    → has_address (expected_in (client_settings t c) phase cone).ip (server b.row) ≡ true
-expected_has t c Cone cone b = subst (λ (ip : Ip4). has_address ip (server b.row) ≡ true) (sym b.secondary) b.has_secondary
-expected_has t c Restricted cone b = subst (λ (ip : Ip4). has_address ip (server b.row) ≡ true) (sym b.primary) b.has_primary
-expected_has t c Secondary cone b = subst (λ (ip : Ip4). has_address ip (server b.row) ≡ true) (sym b.secondary) b.has_secondary
-expected_has t c Qualified true b = subst (λ (ip : Ip4). has_address ip (server b.row) ≡ true) (sym b.secondary) b.has_secondary
-expected_has t c Qualified false b = subst (λ (ip : Ip4). has_address ip (server b.row) ≡ true) (sym b.primary) b.has_primary
-expected_has t c Symmetric cone b = subst (λ (ip : Ip4). has_address ip (server b.row) ≡ true) (sym b.primary) b.has_primary
-expected_has t c OffLine cone b = subst (λ (ip : Ip4). has_address ip (server b.row) ≡ true) (sym b.primary) b.has_primary
-
-pub from_server : (t : TopologyState) (c : ClientNode) (q : Qualification) (from : Ep) (b : HasServer t c) → from ≡ expected (client_settings t c) q
-    → has_address from.ip (server b.row) ≡ true
-unfolding expected
-from_server t c q from b same = subst (λ (e : Ep). has_address e.ip (server b.row) ≡ true) (sym same) (expected_has t c q.phase (is_cone q) b)
 
 abbrev pub is_arrived : Input → Bool
 is_arrived (arrived from x) = true
@@ -120,7 +102,7 @@ unchanged laws l n c e act none k =
     (laws.frame l.lab l.before l.full).silent k (ap (outs_at k) passed)
     (ap (λ (b : Bool). cond b (Restart ∷ []) (forgotten l.lab l.full.asked)) act.still ∙ act.lasting)
 
-module _ (laws : LiveLaws) (l : Latest) (n : ℕ) (c : ClientNode) (e : Entry) (own : Ip6) (honest : are_honest l.lab.topology l.before ≡ true)
+module _ (laws : LiveLaws) (l : Latest) (n : ℕ) (c : ClientNode) (e : Entry) (own : Ip6) (at_n : client_at l.lab.topology n ≡ Some c) (honest : are_honest_for l.lab.topology c l.before ≡ true)
     (act : IsActOf l.lab l.before l.full n (client c) e) where
   abbrev lab : Lab
   lab = l.lab
@@ -143,13 +125,12 @@ module _ (laws : LiveLaws) (l : Latest) (n : ℕ) (c : ClientNode) (e : Entry) (
   of_item : (told : IsToldAddress s (journal n H) e own) (number : ℕ) (x : Item) → slice_get (wire H) number ≡ Some x → Reaches lab H (now H) x n (client c)
       → arrived told.from told.bytes ≡ input_of x → Unchanged lab H r → r.moment ≡ now H → IsLive lab (r ∷ H) c (embedded own)
   of_item told number (udp src dst bytes) at goes same stay moment =
-      let b : HasServer lab.topology c = laws.there.server_of lab.topology n c l.is act.there in
       let source : src ≡ told.from = sym (ap (from_of told.from) same) in
       let all : bytes ≡ told.bytes = sym (ap bytes_of same) in
-      let has = from_server lab.topology c (qualification s (journal n H)) src b (source ∙ told.source) in
-      let tells : EntryTellsWhereTo lab (udp src dst bytes) = all_at (EntryTellsWhereTo lab) (wire H) number (udp src dst bytes)
-      (laws.tells lab H l.is l.grown.1 honest) at in
-      let goes_to : origin_in (value_in bytes).lead ≡ Some dst = tells c.server b.row b.there has
+      let its = from_its lab.topology c (qualification s (journal n H)) src (source ∙ told.source) in
+      let tells : EntryTellsWhereTo lab c (udp src dst bytes) = all_at (EntryTellsWhereTo lab c) (wire H) number (udp src dst bytes)
+      (laws.tells lab H n c l.is l.grown.1 at_n honest) at in
+      let goes_to : origin_in (value_in bytes).lead ≡ Some dst = tells its
       (ap (λ (z : List ℕ). is_some (value_in z).lead.auth) all ∙ told.auth) in
       let one : dst ≡ embedded own = ap (λ (o : Option Ep). unwrap_or o dst) (sym goes_to ∙ ap (λ (z : List ℕ). origin_in (value_in z).lead) all ∙ told.told) in
       subst (IsLive lab (r ∷ H) c) one (still_live lab H r c stay moment dst (is_live laws.owner lab H src c l.grown.1 dst goes))
@@ -168,15 +149,15 @@ module _ (laws : LiveLaws) (l : Latest) (n : ℕ) (c : ClientNode) (e : Entry) (
       of_given told act.is_given (ap (λ (z : Entry). z.input) act.step ∙ entry_input lab H r.moment n act.dst act.input (client c))
       (unchanged laws l n c e act told.quiet)
 
-of_record : LiveLaws → (l : Latest) (n : ℕ) (c : ClientNode) (own : Ip6) → are_honest l.lab.topology l.before ≡ true → OfClient l.lab l.before l.full n c
+of_record : LiveLaws → (l : Latest) (n : ℕ) (c : ClientNode) (own : Ip6) → client_at l.lab.topology n ≡ Some c → are_honest_for l.lab.topology c l.before ≡ true → OfClient l.lab l.before l.full n c
     → l.full.address ≡ Some own → IsLive l.lab (l.full ∷ l.before) c (embedded own)
-of_record laws l n c own honest (rests none hands late) address = absurd (false≢true (ap (λ (z : Option Ip6). is_some z) (sym none ∙ address)))
-of_record laws l n c own honest (acts e act) address = of_act laws l n c e own honest act address
+of_record laws l n c own at_n honest (rests none hands late) address = absurd (false≢true (ap (λ (z : Option Ip6). is_some z) (sym none ∙ address)))
+of_record laws l n c own at_n honest (acts e act) address = of_act laws l n c e own at_n honest act address
 
 pub each_is_live : LiveLaws → EachIsLive
-each_is_live laws lab H r n c own is g honest node there address =
-    of_record laws (record { lab = lab; before = H; full = r; is = is; grown = g }) n c own
-    (and_parts (is_honest_event lab.topology r.asked) (are_honest lab.topology H) honest).1 (of_client lab H r n c (laws.acts lab H r g.0) node there) address
+each_is_live laws lab H r n c own is g honest node at address =
+    of_record laws (record { lab = lab; before = H; full = r; is = is; grown = g }) n c own at
+    (and_parts (is_honest_event_for lab.topology c r.asked) (are_honest_for lab.topology c H) honest).1 (of_client lab H r n c (laws.acts lab H r g.0) node at) address
 
 -- WHERE NO NAT IS BEHIND ANOTHER ONE
 

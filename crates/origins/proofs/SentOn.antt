@@ -18,6 +18,7 @@ use Rattle.server_core.specs.Outgoing.{IsFromClient, EachIsFromClient}
 use Rattle.relay_rules.specs.Journals.{IsRelayJournal}
 use Rattle.relay_rules.specs.ForeignSends.{IsForeignSend, EachSendIsForeign}
 use Rattle.topology.specs.declared.server_node.ServerNode.{ServerNode}
+use Rattle.topology.specs.declared.client_node.ClientNode.{ClientNode}
 use Rattle.topology.specs.declared.node.Node.{Node}
 use Rattle.topology.specs.declared.node.Node.TheVariants.{Server as server, Relay as relay}
 use Rattle.topology.specs.Topology.{side_at, own_ep}
@@ -32,10 +33,12 @@ use Rattle.legal.specs.Makers.{MadeBy, from_nowhere, by_server, by_relay, by_cli
 use Rattle.legal.specs.MadeWire.{EachHistoryIsMade}
 use Rattle.legal.proofs.MadeInputs.{entry_input}
 use Rattle.legal.proofs.ItemsMade.{all_joined}
-use Rattle.origins.specs.Honest.{is_honest_event, are_honest}
+use Rattle.settled.specs.ItsNodes.{HasServer, ClientsAreThere}
+use Rattle.origins.specs.Honest.{is_honest_event_for, are_honest_for}
+use Rattle.origins.proofs.HonestFor.{not_its, its_has}
 use Rattle.origins.specs.Senders.{EntryTellsWhereTo, EachEntryTellsWhereTo, forged, sent_by, ComesFromClient, EachComesFromClient}
 use Rattle.origins.proofs.Records.{Latest}
-use Rattle.origins.proofs.SentFrom.{SourceLaws, untaken, same_node, one_has, leaves_at, nat_has, all_weaker}
+use Rattle.origins.proofs.SentFrom.{SourceLaws, same_node, one_has, leaves_at, nat_has, all_weaker}
 
 -- what a node was given, and all before, is made
 pub record IsMadeAct (H : List Full) (n : ℕ) (e : Entry) : Type 0 where
@@ -94,36 +97,42 @@ pub record TellLaws : Type 0 where
   pub rules : EachNodeKeepsRules
   pub made : EachHistoryIsMade
   pub tells : server_laws.EachTellsWhereTo
+  pub there : ClientsAreThere
 
 abbrev is_server : Node → Bool
 is_server (server a) = true
 is_server _ = false
 
-tells : TellLaws → (l : Latest) (x : Item) → is_honest_event l.lab.topology l.full.asked ≡ true → MadeBy l.lab l.before l.full x → EntryTellsWhereTo l.lab x
-tells laws l x honest (from_nowhere src dst bytes forges same) = subst (EntryTellsWhereTo l.lab) (sym same) (λ n a at has auth.
-    absurd (false≢true (sym (untaken l.lab.topology l.before src dst bytes l.full.asked forges honest) ∙ laws.sources.taken l.lab.topology n (server a) src.ip
-    at has)))
-tells laws l x honest (by_server k b e s act c same) = subst (EntryTellsWhereTo l.lab) (sym same) (λ n a at has auth.
-    let keeps : IsServerNode b = laws.rules l.lab.topology k (server b) l.is act.there in
-    let one = by_act (λ from z. server_laws.TellsWhereTo z) laws.made l b s (record { number = k; entry = e; act = act; sent = c })
-    (λ side from y h. laws.tells (server_settings b) side from y keeps.primary.made h.0 h.1) in
-    one.1.origin auth)
-tells laws l x honest (by_relay k b e s act c same) = subst (EntryTellsWhereTo l.lab) (sym same) (λ n a at has auth.
-    absurd (false≢true (ap is_server (same_node laws.sources.apart l.lab.topology k n b.at.ip l.is
-    (record { node = relay b; at = act.there; has = one_has b.at.ip }) (record { node = server a; at = at; has = has })).1)))
-tells laws l x honest (by_client k b e s src act held leaves same) = subst (EntryTellsWhereTo l.lab) (sym same) (λ n a at has auth.
-    absurd (false≢true (ap is_server (nat_has laws.sources l.lab b src.ip n l.is (leaves_at l.lab l.before l.full.moment b s.to src leaves)
-    (record { node = server a; at = at; has = has })).2)))
-tells laws l x honest (by_native k h e bytes act p same) = subst (EntryTellsWhereTo l.lab) (sym same) tt
-tells laws l x honest (to_six k a e from bytes span act i p same) = subst (EntryTellsWhereTo l.lab) (sym same) tt
+module _ (laws : TellLaws) (l : Latest) (c : ClientNode) (its : HasServer l.lab.topology c) where
+  abbrev Tells : Item → Type 0
+  Tells x = EntryTellsWhereTo l.lab c x
+
+  tells : (x : Item) → is_honest_event_for l.lab.topology c l.full.asked ≡ true → MadeBy l.lab l.before l.full x → Tells x
+  tells x honest (from_nowhere src dst bytes forges same) = subst Tells (sym same) (λ is auth.
+      absurd (false≢true (sym (not_its l.lab.topology c l.before src dst bytes l.full.asked forges honest) ∙ is)))
+  tells x honest (by_server k b e s act d same) = subst Tells (sym same) (λ is auth.
+      let keeps : IsServerNode b = laws.rules l.lab.topology k (server b) l.is act.there in
+      let one = by_act (λ from z. server_laws.TellsWhereTo z) laws.made l b s (record { number = k; entry = e; act = act; sent = d })
+      (λ side from y h. laws.tells (server_settings b) side from y keeps.primary.made h.0 h.1) in
+      one.1.origin auth)
+  tells x honest (by_relay k b e s act d same) = subst Tells (sym same) (λ is auth.
+      absurd (false≢true (ap is_server (same_node laws.sources.apart l.lab.topology k c.server b.at.ip l.is
+      (record { node = relay b; at = act.there; has = one_has b.at.ip })
+      (record { node = server its.row; at = its.there; has = its_has l.lab.topology c b.at its is })).1)))
+  tells x honest (by_client k b e s src act held leaves same) = subst Tells (sym same) (λ is auth.
+      absurd (false≢true (ap is_server (nat_has laws.sources l.lab b src.ip c.server l.is (leaves_at l.lab l.before l.full.moment b s.to src leaves)
+      (record { node = server its.row; at = its.there; has = its_has l.lab.topology c src its is })).2)))
+  tells x honest (by_native k h e bytes act p same) = subst Tells (sym same) tt
+  tells x honest (to_six k a e from bytes span act i p same) = subst Tells (sym same) tt
 
 pub each_tells : TellLaws → EachEntryTellsWhereTo
-each_tells laws lab [] is g honest = tt
-each_tells laws lab (r ∷ H) is g honest =
-    let both = and_parts (is_honest_event lab.topology r.asked) (are_honest lab.topology H) honest in
-    all_joined (EntryTellsWhereTo lab) (wire H) (items_of r) (each_tells laws lab H is g.1 both.1)
-    (all_weaker (MadeBy lab H r) (EntryTellsWhereTo lab) (items_of r) (λ x m. tells laws (record { lab = lab; before = H; full = r; is = is; grown = g }) x
-    both.0 m) (laws.sources.made lab H r g))
+each_tells laws lab [] n c is g at honest = tt
+each_tells laws lab (r ∷ H) n c is g at honest =
+    let both = and_parts (is_honest_event_for lab.topology c r.asked) (are_honest_for lab.topology c H) honest in
+    let its = laws.there.server_of lab.topology n c is (laws.there.node lab.topology n c at) in
+    all_joined (EntryTellsWhereTo lab c) (wire H) (items_of r) (each_tells laws lab H n c is g.1 at both.1)
+    (all_weaker (MadeBy lab H r) (EntryTellsWhereTo lab c) (items_of r)
+    (λ x m. tells laws (record { lab = lab; before = H; full = r; is = is; grown = g }) c its x both.0 m) (laws.sources.made lab H r g))
 
 -- WHOSE PACKETS COME FROM WHERE THEY SAY
 

@@ -10,11 +10,11 @@ use Rattle.legal.specs.Lab.{Lab, lab_of}
 use Rattle.legal.specs.Past.{place}
 use Rattle.legal.specs.Legal.{Begun, Grown}
 use Rattle.legal.proofs.Asked.{brought}
-use Rattle.origins.specs.Honest.{is_honest_event, are_honest}
+use Rattle.origins.specs.Honest.{is_honest_event, is_honest_event_for}
 use Rattle.origins.specs.Handed.{EachIsBrought, EachLateHandedIsForeign}
 use Rattle.origins.specs.Origin.{EachHasOrigin}
 use Rattle.origins.specs.Live.{EachIsLive}
-use Rattle.origins.specs.Throughout.{HistoriesHaveOrigins, ScenariosHaveOrigins, HonestScenarios}
+use Rattle.origins.specs.Throughout.{HistoriesHaveOrigins, ScenariosHaveOrigins, HonestScenarios, HonestForScenarios}
 use Rattle.settled.proofs.Earlier.{earlier}
 
 pub histories : EachIsBrought → EachLateHandedIsForeign → EachHasOrigin → EachIsLive → HistoriesHaveOrigins
@@ -40,11 +40,16 @@ both_true : (b c : Bool) → b ≡ true → c ≡ true → (b && c) ≡ true
 both_true true c h g = g
 both_true false c h g = absurd (false≢true h)
 
-honest : (lab : Lab) (es : List Event) (H : List Full) → list_all (is_honest_event lab.topology) es ≡ true → Begun lab es H → are_honest lab.topology H ≡ true
-honest lab es [] all begun = refl
-honest lab es (r ∷ H) all begun =
-    both_true (is_honest_event lab.topology r.asked) (are_honest lab.topology H)
-    (one_of (is_honest_event lab.topology) es (place H) r.asked all (brought lab es H r begun.0).asked) (honest lab es H all begun.1)
+-- what holds of each event of a scenario holds of each that was played
+honest : (p : Event → Bool) (lab : Lab) (es : List Event) (H : List Full) → list_all p es ≡ true → Begun lab es H
+    → list_all (λ (r : Full). p r.asked) H ≡ true
+honest p lab es [] all begun = refl
+honest p lab es (r ∷ H) all begun =
+    both_true (p r.asked) (list_all (λ (q : Full). p q.asked) H)
+    (one_of p es (place H) r.asked all (brought lab es H r begun.0).asked) (honest p lab es H all begun.1)
 
 pub honest_scenarios : HonestScenarios
-honest_scenarios s chain H all begun = honest (lab_of s chain) s.events H all begun
+honest_scenarios s chain H all begun = honest (is_honest_event s.topology) (lab_of s chain) s.events H all begun
+
+pub honest_for_scenarios : HonestForScenarios
+honest_for_scenarios s chain H c all begun = honest (is_honest_event_for s.topology c) (lab_of s chain) s.events H all begun

@@ -15,7 +15,7 @@ use Rattle.history.specs.Full.{Full}
 use Rattle.legal.specs.Lab.{Lab}
 use Rattle.legal.specs.Past.{now, nat_history}
 use Rattle.legal.specs.Legal.{Grown}
-use Rattle.origins.specs.Honest.{are_honest}
+use Rattle.origins.specs.Honest.{are_honest_for}
 
 -- NAT k holds the port live for this inside endpoint
 abbrev pub HoldsPort : Lab → List Full → ℕ → Ep → ℕ → Type 0
@@ -38,10 +38,10 @@ pub record IsLive (lab : Lab) (H : List Full) (c : ClientNode) (e : Ep) : Type 0
   pub external : e.ip ≡ row.external
   pub leads : LeadsTo lab H c outer e.port
 
--- in an honest history the endpoint in each address that a record sets is live
+-- in a history that is honest for the client the endpoint in each address that a record sets is live
 abbrev pub EachIsLive : Type 0
 EachIsLive = (lab : Lab) (H : List Full) (r : Full) (n : ℕ) (c : ClientNode) (own : Ip6) → IsTopology lab.topology → Grown lab (r ∷ H)
-    → are_honest lab.topology (r ∷ H) ≡ true → r.node ≡ Some n → client_at lab.topology n ≡ Some c → r.address ≡ Some own
+    → are_honest_for lab.topology c (r ∷ H) ≡ true → r.node ≡ Some n → client_at lab.topology n ≡ Some c → r.address ≡ Some own
     → IsLive lab (r ∷ H) c (embedded own)
 
 -- where no NAT is behind another one it is the client's NAT's address, and a port that this holds for the client

@@ -7,29 +7,27 @@ use Rattle.indications.specs.Leads.{origin_in}
 use Rattle.bubble.specs.Reads.{value_in}
 use Rattle.teredo_node.specs.Step.{Send}
 use Rattle.teredo_node.specs.Journal.{Entry}
-use Rattle.topology.specs.declared.server_node.ServerNode.{ServerNode}
 use Rattle.topology.specs.declared.client_node.ClientNode.{ClientNode}
-use Rattle.topology.specs.declared.node.Node.TheVariants.{Server as server, Client as client}
+use Rattle.topology.specs.declared.node.Node.TheVariants.{Client as client}
 use Rattle.topology.specs.Rules.{IsTopology}
-use Rattle.topology.specs.NodeRules.{has_address}
-use Rattle.topology.specs.Topology.{node_at}
+use Rattle.topology.specs.Topology.{client_at}
 use Rattle.history.specs.Full.{Item, udp, six, Full, wire, items_of}
 use Rattle.legal.specs.Lab.{Lab}
 use Rattle.legal.specs.Legal.{Grown}
 use Rattle.legal.specs.Actors.{IsActOf}
 use Rattle.legal.specs.Makers.{Forges, Leaves}
-use Rattle.origins.specs.Honest.{are_honest}
+use Rattle.origins.specs.Honest.{is_its_server, are_honest_for}
 
--- a datagram from a server's address that has an authentication has, as its origin, the endpoint that it goes to
-abbrev pub EntryTellsWhereTo : Lab → Item → Type 0
-EntryTellsWhereTo lab (udp src dst bytes) = (n : ℕ) (a : ServerNode) → node_at lab.topology n ≡ Some (server a) → has_address src.ip (server a) ≡ true
-    → is_some (value_in bytes).lead.auth ≡ true → origin_in (value_in bytes).lead ≡ Some dst
-EntryTellsWhereTo lab (six to bytes) = Unit {0}
+-- a datagram from a client's server that has an authentication has, as its origin, the endpoint that it goes to
+abbrev pub EntryTellsWhereTo : Lab → ClientNode → Item → Type 0
+EntryTellsWhereTo lab c (udp src dst bytes) = is_its_server lab.topology c src ≡ true → is_some (value_in bytes).lead.auth ≡ true
+    → origin_in (value_in bytes).lead ≡ Some dst
+EntryTellsWhereTo lab c (six to bytes) = Unit {0}
 
--- in an honest history each does
+-- in a history that is honest for the client each does
 abbrev pub EachEntryTellsWhereTo : Type 0
-EachEntryTellsWhereTo = (lab : Lab) (H : List Full) → IsTopology lab.topology → Grown lab H → are_honest lab.topology H ≡ true
-    → AllByRecursion (EntryTellsWhereTo lab) (wire H)
+EachEntryTellsWhereTo = (lab : Lab) (H : List Full) (n : ℕ) (c : ClientNode) → IsTopology lab.topology → Grown lab H
+    → client_at lab.topology n ≡ Some c → are_honest_for lab.topology c H ≡ true → AllByRecursion (EntryTellsWhereTo lab c) (wire H)
 
 -- who made a datagram that comes from the endpoint that its Teredo source embeds: nobody, or a client past its NATs
 pub data IsForgedOrClients (lab : Lab) (H : List Full) (r : Full) (src dst : Ep) (bytes : List ℕ) : Type 0 where

@@ -1,6 +1,7 @@
 -- Who sent a datagram that says that it comes from a node's address.
-use Rattle.std.specs.Prelude.{◌≡◌, ℕ, true, List, [], ◌∷◌, Some}
+use Rattle.std.specs.Prelude.{◌≡◌, ◌≢◌, ℕ, true, List, [], ◌∷◌, Some}
 use Rattle.std.specs.List.{AllByRecursion}
+use Rattle.topology.specs.declared.nat_node.NatNode.{NatNode}
 use Rattle.topology.specs.declared.client_node.ClientNode.{ClientNode}
 use Rattle.topology.specs.declared.node.Node.{Node}
 use Rattle.topology.specs.declared.node.Node.TheVariants.{Server as server, Nat as nat, Relay as relay}
@@ -8,10 +9,10 @@ use Rattle.topology.specs.NodeRules.{has_address}
 use Rattle.topology.specs.Rules.{IsTopology}
 use Rattle.topology.specs.Topology.{node_at, client_at}
 use Rattle.topology.specs.Chains.{outer_in, nats_from}
-use Rattle.history.specs.Full.{Item, udp, six, Full, items_of}
+use Rattle.history.specs.Full.{Item, udp, six, Full, wire, items_of}
 use Rattle.legal.specs.Lab.{Lab}
 use Rattle.legal.specs.Legal.{Grown}
-use Rattle.origins.specs.Honest.{is_honest_event}
+use Rattle.origins.specs.Honest.{is_honest_event, are_honest}
 
 -- the last NAT of a way that begins with NAT k
 abbrev pub last_nat : ℕ → List ℕ → ℕ
@@ -45,3 +46,13 @@ HasOwnSource lab r (six to bytes) = Unit {0}
 abbrev pub EachHasOwnSource : Type 0
 EachHasOwnSource = (lab : Lab) (H : List Full) (r : Full) → IsTopology lab.topology → Grown lab (r ∷ H) → is_honest_event lab.topology r.asked ≡ true
     → AllByRecursion (HasOwnSource lab r) (items_of r)
+
+-- a datagram from the address of a NAT goes to another address: a NAT sends nothing back to its own
+abbrev pub GoesElsewhere : Lab → Item → Type 0
+GoesElsewhere lab (udp src dst bytes) = (k : ℕ) (a : NatNode) → node_at lab.topology k ≡ Some (nat a) → src.ip ≡ a.external → dst.ip ≢ a.external
+GoesElsewhere lab (six to bytes) = Unit {0}
+
+-- in an honest history each does
+abbrev pub EachGoesElsewhere : Type 0
+EachGoesElsewhere = (lab : Lab) (H : List Full) → IsTopology lab.topology → Grown lab H → are_honest lab.topology H ≡ true
+    → AllByRecursion (GoesElsewhere lab) (wire H)

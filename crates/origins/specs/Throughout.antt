@@ -13,7 +13,7 @@ use Rattle.events.specs.Scenario.{Scenario}
 use Rattle.history.specs.Full.{Full}
 use Rattle.legal.specs.Lab.{Lab, lab_of}
 use Rattle.legal.specs.Legal.{Begun, Grown}
-use Rattle.origins.specs.Honest.{is_honest, are_honest}
+use Rattle.origins.specs.Honest.{is_honest, are_honest, is_honest_for, are_honest_for}
 use Rattle.origins.specs.Handed.{HandsToHost, IsBrought}
 use Rattle.origins.specs.Origin.{HasOrigin}
 use Rattle.origins.specs.Live.{IsLive}
@@ -28,8 +28,8 @@ pub record HasOrigins (lab : Lab) (H : List Full) (r : Full) : Type 0 where
   -- such a datagram was put there by a named event, or by a client whose host had handed in the packet
   pub origin : (n : ℕ) (c : ClientNode) (x : List ℕ) (k : ℕ) → HandsToHost lab r n c x → is_teredo (fields_in x).src ≡ true
       → r.delivered ≡ Some k → HasOrigin lab H k (fields_in x).src x
-  -- in an honest history an address that a client gets leads to it
-  pub live : (n : ℕ) (c : ClientNode) (own : Ip6) → are_honest lab.topology (r ∷ H) ≡ true → r.node ≡ Some n → client_at lab.topology n ≡ Some c
+  -- in a history that is honest for a client an address that it gets leads to it
+  pub live : (n : ℕ) (c : ClientNode) (own : Ip6) → are_honest_for lab.topology c (r ∷ H) ≡ true → r.node ≡ Some n → client_at lab.topology n ≡ Some c
       → r.address ≡ Some own → IsLive lab (r ∷ H) c (embedded own)
 
 -- of each record
@@ -48,3 +48,8 @@ ScenariosHaveOrigins = (s : Scenario) (chain : List Behind) (H : List Full) → 
 -- the history of an honest scenario is honest
 abbrev pub HonestScenarios : Type 0
 HonestScenarios = (s : Scenario) (chain : List Behind) (H : List Full) → is_honest s ≡ true → Begun (lab_of s chain) s.events H → are_honest s.topology H ≡ true
+
+-- that of one that is honest for a client is so
+abbrev pub HonestForScenarios : Type 0
+HonestForScenarios = (s : Scenario) (chain : List Behind) (H : List Full) (c : ClientNode) → is_honest_for s c ≡ true → Begun (lab_of s chain) s.events H
+    → are_honest_for s.topology c H ≡ true

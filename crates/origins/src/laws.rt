@@ -1,10 +1,11 @@
 //! Laws of every history.
-ghost use Rattle.origins.specs.Sources.{EachHasOwnSource};
+ghost use Rattle.origins.specs.Sources.{EachHasOwnSource, EachGoesElsewhere};
+ghost use Rattle.origins.specs.Honest.{HonestIsForEach};
 ghost use Rattle.origins.specs.Senders.{EachEntryTellsWhereTo, EachComesFromClient};
 ghost use Rattle.origins.specs.Handed.{EachIsBrought, EachLateHandedIsForeign};
 ghost use Rattle.origins.specs.Origin.{EachHasOrigin};
 ghost use Rattle.origins.specs.Live.{EachIsLive, EachIsHeld};
-ghost use Rattle.origins.specs.Throughout.{HistoriesHaveOrigins, ScenariosHaveOrigins, HonestScenarios};
+ghost use Rattle.origins.specs.Throughout.{HistoriesHaveOrigins, ScenariosHaveOrigins, HonestScenarios, HonestForScenarios};
 
 /// In an honest history an entry from a node's address is the node's, or that of a client behind it.
 pub fn own_sources()
@@ -16,10 +17,28 @@ pub fn own_sources()
     legal::items_are_made();
 }
 
-/// In an honest history a datagram from a server's address that has an authentication tells where it goes.
+/// In an honest history a datagram from a NAT's address goes elsewhere.
+pub fn goes_elsewhere()
+    ensures { EachGoesElsewhere }
+{
+    topology::apart();
+    topology::taken();
+    legal::items_are_made();
+}
+
+/// What is honest is so for each client.
+pub fn honest_is_for_each()
+    ensures { HonestIsForEach }
+{
+    topology::taken();
+    settled::client_is_there();
+}
+
+/// In a history that is honest for a client a datagram from its server that has an authentication tells where it goes.
 pub fn tells_where_to()
     ensures { EachEntryTellsWhereTo }
 {
+    settled::client_is_there();
     topology::apart();
     topology::taken();
     topology::each_node();
@@ -80,7 +99,7 @@ pub fn has_origin()
     bubble::packet_is_payload();
 }
 
-/// In an honest history each address that a client gets embeds an endpoint that leads to the client.
+/// In a history that is honest for a client each address that it gets embeds an endpoint that leads to it.
 pub fn is_live()
     ensures { EachIsLive }
 {
@@ -122,4 +141,9 @@ pub fn scenarios_have_origins()
 /// The history of an honest scenario is honest.
 pub fn honest_scenarios()
     ensures { HonestScenarios }
+{}
+
+/// That of one that is honest for a client is so.
+pub fn honest_for_scenarios()
+    ensures { HonestForScenarios }
 {}

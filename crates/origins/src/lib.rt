@@ -31,6 +31,7 @@
 mod laws;
 
 pub use laws::{
-    comes_from_clients, has_origin, histories_have_origins, honest_scenarios, is_brought, is_held,
-    is_live, late_is_foreign, own_sources, scenarios_have_origins, tells_where_to,
+    comes_from_clients, goes_elsewhere, has_origin, histories_have_origins, honest_for_scenarios,
+    honest_is_for_each, honest_scenarios, is_brought, is_held, is_live, late_is_foreign,
+    own_sources, scenarios_have_origins, tells_where_to,
 };

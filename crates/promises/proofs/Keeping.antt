@@ -1,17 +1,19 @@
 -- Every history keeps all that is proved of it, at each of its records.
-use Rattle.std.proofs.Common.{◌≡◌, true, List, [], ◌∷◌, ◌++◌, ap, sym, subst, ◌∙◌}
+use Rattle.std.proofs.Common.{◌≡◌, ◌⊎◌, inl, inr, ℕ, Some, true, List, [], ◌∷◌, ◌++◌, ap, sym, subst, ◌∙◌}
 use Rattle.std.specs.List.{AllByRecursion}
 use Rattle.teredo_addr.specs.Teredo.{embedded}
+use Rattle.topology.specs.declared.client_node.ClientNode.{ClientNode}
 use Rattle.topology.specs.Rules.{IsTopology}
+use Rattle.topology.specs.Topology.{client_at}
 use Rattle.topology.specs.Chains.{Behind}
 use Rattle.events.specs.declared.event.Event.{Event}
 use Rattle.events.specs.Events.{IsEvent}
 use Rattle.history.specs.Full.{Full}
 use Rattle.legal.specs.Lab.{Lab, lab_on, lab_of}
 use Rattle.legal.specs.Legal.{Begun, Grown}
-use Rattle.origins.specs.Honest.{are_honest}
+use Rattle.origins.specs.Honest.{is_honest, is_honest_for, are_honest_for, HonestIsForEach}
 use Rattle.origins.specs.Live.{EachIsHeld}
-use Rattle.origins.specs.Throughout.{HasOriginsThroughout, HistoriesHaveOrigins, HonestScenarios}
+use Rattle.origins.specs.Throughout.{HasOriginsThroughout, HistoriesHaveOrigins, HonestScenarios, HonestForScenarios}
 use Rattle.verdicts.specs.Throughout.{HasRightVerdictsThroughout, HistoriesHaveRightVerdicts}
 use Rattle.storms.specs.Throughout.{HasNoStormThroughout, HistoriesHaveNoStorm}
 use Rattle.eased_storms.specs.Throughout.{NineFollowThroughout, HistoriesHaveNine}
@@ -33,9 +35,9 @@ module _ (lab : Lab) (H : List Full) (have : HasOriginsThroughout lab H) where
   told later [] split = tt
   told later (r ∷ before) split = have later r before split
 
-  held : EachIsHeld → (later before : List Full) → H ≡ later ++ before → are_honest lab.topology before ≡ true → AddressIsHeld lab before
-  held law later [] split honest = tt
-  held law later (r ∷ before) split honest = λ flat n c own node client address.
+  held : EachIsHeld → (later before : List Full) → H ≡ later ++ before → AddressIsHeld lab before
+  held law later [] split = tt
+  held law later (r ∷ before) split = λ flat n c own honest node client address.
       law lab (r ∷ before) c (embedded own) flat ((have later r before split).live n c own honest node client address)
 
 right : (lab : Lab) (H : List Full) → (IsFlat lab → HasRightVerdictsThroughout lab H) → (later before : List Full) → H ≡ later ++ before
@@ -92,9 +94,14 @@ begun_before lab events [] before begun = begun
 begun_before lab events (r ∷ later) before begun = begun_before lab events later before begun.1
 
 pub scenarios : ((lab : Lab) (events : List Event) (h : List Full) → AllByRecursion (IsEvent lab.topology) events → Begun lab events h → Grown lab h)
-    → HonestScenarios → HistoriesAreKept → ScenariosAreKept
-scenarios grown honest law s chain H is events begun = record {
+    → HonestScenarios → HonestForScenarios → HonestIsForEach → HistoriesAreKept → ScenariosAreKept
+scenarios grown honest honest_for each law s chain H is events begun = record {
   kept = law (lab_of s chain) H is (grown (lab_of s chain) s.events H events begun);
-  honest = λ all later before split.
-      honest s chain before all (begun_before (lab_of s chain) s.events later before (subst (Begun (lab_of s chain) s.events) split begun));
-}
+  honest = λ n c at all later before split.
+      let front = begun_before (lab_of s chain) s.events later before (subst (Begun (lab_of s chain) s.events) split begun) in
+      by n c at all before front;
+} where
+  by : (n : ℕ) (c : ClientNode) → client_at s.topology n ≡ Some c → (is_honest s ≡ true) ⊎ (is_honest_for s c ≡ true) → (before : List Full)
+      → Begun (lab_of s chain) s.events before → are_honest_for s.topology c before ≡ true
+  by n c at (inl all) before front = each s.topology n c before is at (honest s chain before all front)
+  by n c at (inr all) before front = honest_for s chain before c all front

@@ -1,7 +1,7 @@
 -- What is proved of every history of a laboratory, whichever NATs are behind others, as one record: it is what a world says
 -- of the history that it stands for, and a run of the one that it played. Some of it is known only where no NAT is behind
 -- another one, and says so.
-use Rattle.std.specs.Prelude.{◌≡◌, ℕ, true, List, [], ◌∷◌, ◌++◌, Some}
+use Rattle.std.specs.Prelude.{◌≡◌, ◌⊎◌, ℕ, true, List, [], ◌∷◌, ◌++◌, Some}
 use Rattle.std.specs.List.{AllByRecursion}
 use Rattle.td_base.specs.declared.ipv6.Ip6.{Ip6}
 use Rattle.teredo_addr.specs.Teredo.{embedded}
@@ -14,7 +14,7 @@ use Rattle.events.specs.Scenario.{Scenario}
 use Rattle.history.specs.Full.{Full}
 use Rattle.legal.specs.Lab.{Lab, lab_of}
 use Rattle.legal.specs.Legal.{Begun, Grown}
-use Rattle.origins.specs.Honest.{is_honest, are_honest}
+use Rattle.origins.specs.Honest.{is_honest, is_honest_for, are_honest_for}
 use Rattle.origins.specs.Live.{IsHeld}
 use Rattle.origins.specs.Throughout.{HasOrigins}
 use Rattle.verdicts.specs.Throughout.{HasRightVerdicts}
@@ -31,11 +31,11 @@ abbrev pub OriginsAreTold : Lab → List Full → Type 0
 OriginsAreTold lab [] = Unit {0}
 OriginsAreTold lab (r ∷ H) = HasOrigins lab H r
 
--- where no NAT is behind another one, an address that the latest record sets embeds the address of the client's NAT, and a
+-- where no NAT is behind another one, and all is honest for the client, an address that the latest record sets embeds the address of the client's NAT, and a
 -- port that this holds for the client. Elsewhere it leads to the client through several NATs, which is said of the origins
 abbrev pub AddressIsHeld : Lab → List Full → Type 0
 AddressIsHeld lab [] = Unit {0}
-AddressIsHeld lab (r ∷ H) = IsFlat lab → (n : ℕ) (c : ClientNode) (own : Ip6) → r.node ≡ Some n → client_at lab.topology n ≡ Some c → r.address ≡ Some own
+AddressIsHeld lab (r ∷ H) = IsFlat lab → (n : ℕ) (c : ClientNode) (own : Ip6) → are_honest_for lab.topology c (r ∷ H) ≡ true → r.node ≡ Some n → client_at lab.topology n ≡ Some c → r.address ≡ Some own
     → IsHeld lab (r ∷ H) c (embedded own)
 
 -- what clients make of their NATs after the latest record is right, where no NAT is behind another one
@@ -58,7 +58,7 @@ FirstPacketIsCarried lab H = IsFlat lab → (later : List Full) (r : Full) (befo
 -- of a history, at its latest record
 pub record Kept (lab : Lab) (H : List Full) : Type 0 where
   pub origins : OriginsAreTold lab H
-  pub held : are_honest lab.topology H ≡ true → AddressIsHeld lab H
+  pub held : AddressIsHeld lab H
   pub verdicts : VerdictsAreRight lab H
   pub no_storm : DeliveriesAreFew lab H
   pub nine : AtMostNineFollow lab H
@@ -72,10 +72,12 @@ KeptThroughout lab H = (later before : List Full) → H ≡ later ++ before → 
 abbrev pub HistoriesAreKept : Type 0
 HistoriesAreKept = (lab : Lab) (H : List Full) → IsTopology lab.topology → Grown lab H → KeptThroughout lab H
 
--- so is a history of a scenario; where this is honest, it is honest at each of its records
+-- so is a history of a scenario; where this is honest for a client, it is so at each of its records. It is for each where it is
+-- honest
 pub record KeptOf (s : Scenario) (chain : List Behind) (H : List Full) : Type 0 where
   pub kept : KeptThroughout (lab_of s chain) H
-  pub honest : is_honest s ≡ true → (later before : List Full) → H ≡ later ++ before → are_honest s.topology before ≡ true
+  pub honest : (n : ℕ) (c : ClientNode) → client_at s.topology n ≡ Some c → (is_honest s ≡ true) ⊎ (is_honest_for s c ≡ true)
+      → (later before : List Full) → H ≡ later ++ before → are_honest_for s.topology c before ≡ true
 
 -- each, as far as it was played, whichever NATs are behind others
 abbrev pub ScenariosAreKept : Type 0

@@ -19,5 +19,7 @@ pub fn kept_in_scenarios()
 {
     legal::grown();
     origins::honest_scenarios();
+    origins::honest_for_scenarios();
+    origins::honest_is_for_each();
     kept();
 }

@@ -60,7 +60,7 @@ fresh_journal H r n on = let both = and_parts (is_node n r.node) (is_restart r.a
 -- ANOTHER RECORD
 
 -- a record in which the client does nothing leaves its journal
-idle_journal : (H : List Full) (r : Full) (n : ℕ) → starts n r ≡ false → r.entry ≡ None → journal n (r ∷ H) ≡ journal n H
+pub idle_journal : (H : List Full) (r : Full) (n : ℕ) → starts n r ≡ false → r.entry ≡ None → journal n (r ∷ H) ≡ journal n H
 idle_journal H r n off none = by (is_node n r.node) refl where
   goes_on : (b : Bool) → b ≡ false → cond b (new_journal r.moment) (with_entries (journal n H) r.entry) ≡ journal n H
   goes_on true e = absurd (false≢true (sym e))

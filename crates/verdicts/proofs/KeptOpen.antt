@@ -15,14 +15,14 @@ use Rattle.qualify.specs.Advertisements.{is_same_origin, origin_before, phase_li
 use Rattle.topology.specs.declared.client_node.ClientNode.{ClientNode}
 use Rattle.topology.specs.declared.node.Node.TheVariants.{Client as client}
 use Rattle.topology.specs.Rules.{IsTopology}
-use Rattle.topology.specs.Topology.{node_at}
+use Rattle.topology.specs.Topology.{node_at, client_at}
 use Rattle.history.specs.Full.{Full}
 use Rattle.legal.specs.Lab.{Lab}
 use Rattle.legal.specs.Settings.{client_settings}
 use Rattle.legal.specs.Past.{is_node, journal, nat_entries, new_journal}
 use Rattle.legal.specs.Legal.{Grown}
 use Rattle.legal.specs.Actors.{IsActOf}
-use Rattle.origins.specs.Honest.{is_honest_event, are_honest}
+use Rattle.origins.specs.Honest.{is_honest_event_for, are_honest_for}
 use Rattle.settled.specs.Clients.{standing}
 use Rattle.verdicts.specs.Undisturbed.{is_loss_of, is_open_at, starts, was_lost, has_sent, is_first_answer, answers, was_answered, was_shut}
 use Rattle.verdicts.proofs.Adverts.{is_told}
@@ -31,6 +31,8 @@ use Rattle.verdicts.proofs.Entries.{IsFirst, first_cone, first_restricted, phase
 use Rattle.verdicts.proofs.LetIn.{view_of}
 use Rattle.verdicts.proofs.Scenes.{VerdictLaws, IsSound, Scene}
 use Rattle.verdicts.proofs.Steps.{is_told_at}
+use Rattle.verdicts.specs.Stays.{AddressStays}
+use Rattle.verdicts.proofs.Stays.{still_stays, stays_at_start}
 use Rattle.verdicts.proofs.Begins.{starts_in, sound_at_start, fresh_journal, Concerns, own, others, concerns, goes_on}
 use Rattle.verdicts.proofs.Undisturbed.{open_of}
 
@@ -38,20 +40,21 @@ use Rattle.verdicts.proofs.Undisturbed.{open_of}
 pub record IsFirm (lab : Lab) (H : List Full) (n : ℕ) (c : ClientNode) : Type 0 where
   pub sound : IsSound lab H n c
   pub answered : is_resting (standing lab H n c).phase ≡ true → was_answered H n ≡ true
+  pub stays : AddressStays H n
 
 -- a first phase doesn't rest on the NAT
-first_rests : (tries : Bool) (ph : Phase) → IsFirst tries ph → is_resting ph ≡ false
+pub first_rests : (tries : Bool) (ph : Phase) → IsFirst tries ph → is_resting ph ≡ false
 first_rests tries ph (first_cone t same) = ap is_resting same
 first_rests tries ph (first_restricted same) = ap is_resting same
 
 -- a phase that rests on the NAT goes on, or was begun by the first answer
-data Rests (ph : Phase) (f : Fate) : Type 0 where
+pub data Rests (ph : Phase) (f : Fate) : Type 0 where
   rested : is_resting ph ≡ true → Rests ph f
   answered_now : is_first_answer (turn f) ≡ true → Rests ph f
   not_resting : is_resting (unwrap_or (begins (turn f)) ph) ≡ false → Rests ph f
 
 -- so it is after an advertisement, but in phase Cone
-told_rests : (ph : Phase) (same : Bool) → (ph ≡ Cone → ⊥) → Rests ph (phase_line ph same)
+pub told_rests : (ph : Phase) (same : Bool) → (ph ≡ Cone → ⊥) → Rests ph (phase_line ph same)
 told_rests Cone same other = absurd (other refl)
 told_rests Restricted same other = answered_now refl
 told_rests Secondary same other = rested refl
@@ -60,7 +63,7 @@ told_rests Symmetric same other = not_resting refl
 told_rests OffLine same other = not_resting refl
 
 -- after any other entry it went on
-untold_rests : (u : Turn) (ph : Phase) → is_told u ≡ false → is_resting (unwrap_or (begins u) ph) ≡ true → is_resting ph ≡ true
+pub untold_rests : (u : Turn) (ph : Phase) → is_told u ≡ false → is_resting (unwrap_or (begins u) ph) ≡ true → is_resting ph ≡ true
 untold_rests u ph h rests = by (still_begins u h) where
   by : (begins u ≡ None) ⊎ ((begins u ≡ Some Restricted) ⊎ (begins u ≡ Some OffLine)) → is_resting ph ≡ true
   by (inl e) = ap (λ (o : Option Phase). is_resting (unwrap_or o ph)) (sym e) ∙ rests
@@ -116,7 +119,7 @@ module _ (laws : VerdictLaws) (lab : Lab) (H : List Full) (r : Full) (n : ℕ) (
         (λ (j : Journal). is_resting (qualification (client_settings lab.topology c) j).phase ≡ true) same rests))
 
 module _ (laws : VerdictLaws) (lab : Lab) (n : ℕ) (c : ClientNode) (flat : lab.chain ≡ []) (is : IsTopology lab.topology)
-    (there : node_at lab.topology n ≡ Some (client c)) (never : c.cone_try ≡ false) where
+    (there : node_at lab.topology n ≡ Some (client c)) (listed : client_at lab.topology n ≡ Some c) (never : c.cone_try ≡ false) where
   abbrev HasBegun : List Full → Bool
   HasBegun before = has_sent lab before n c || was_answered before n
 
@@ -130,6 +133,7 @@ module _ (laws : VerdictLaws) (lab : Lab) (n : ℕ) (c : ClientNode) (flat : lab
           (or_right (has_sent lab H n c) (was_answered H n) (firm.answered rests)) shut;
     }) firm.sound;
     answered = still_answered laws lab H r n c scene off never firm;
+    stays = still_stays laws lab H r n c scene off firm.sound firm.stays;
   }
 
   -- a start
@@ -138,15 +142,16 @@ module _ (laws : VerdictLaws) (lab : Lab) (n : ℕ) (c : ClientNode) (flat : lab
     sound = sound_at_start lab H n m c fresh (λ tries. absurd (false≢true (sym never ∙ tries)));
     answered = λ rests. absurd (false≢true (sym (ap is_resting (starts_in lab H n m c fresh)
         ∙ first_rests c.cone_try (first_phase (client_settings lab.topology c)) (is_first (client_settings lab.topology c))) ∙ rests));
+    stays = stays_at_start H n m fresh;
   }
 
   -- a whole history
-  pub firm : (H : List Full) → Grown lab H → are_honest lab.topology H ≡ true → was_lost lab H n c ≡ false → was_shut HasBegun lab H n c ≡ false
+  pub firm : (H : List Full) → Grown lab H → are_honest_for lab.topology c H ≡ true → was_lost lab H n c ≡ false → was_shut HasBegun lab H n c ≡ false
       → IsFirm lab H n c
   firm [] g honest lost shut = start [] 0 refl
   firm (r ∷ H) g honest lost shut = by (starts n r) refl lost shut (λ l s. firm H g.1 earlier l s) where
-    earlier : are_honest lab.topology H ≡ true
-    earlier = (and_parts (is_honest_event lab.topology r.asked) (are_honest lab.topology H) honest).1
+    earlier : are_honest_for lab.topology c H ≡ true
+    earlier = (and_parts (is_honest_event_for lab.topology c r.asked) (are_honest_for lab.topology c H) honest).1
 
     by : (b : Bool) → starts n r ≡ b
         → cond b false (list_any (is_loss_of c.inside) (nat_entries lab c.nat r) || was_lost lab H n c) ≡ false
@@ -156,4 +161,4 @@ module _ (laws : VerdictLaws) (lab : Lab) (n : ℕ) (c : ClientNode) (flat : lab
     by false off l s ih =
         let lost_parts = or_parts (list_any (is_loss_of c.inside) (nat_entries lab c.nat r)) (was_lost lab H n c) l in
         let shut_parts = or_parts (HasBegun H && not (is_open_at lab H r.moment c)) (was_shut HasBegun lab H n c) s in
-        step H r (record { flat = flat; is = is; there = there; grown = g; honest = earlier }) off (ih lost_parts.1 shut_parts.1) lost_parts.0 shut_parts.0
+        step H r (record { flat = flat; is = is; there = there; listed = listed; grown = g; honest = earlier }) off (ih lost_parts.1 shut_parts.1) lost_parts.0 shut_parts.0

@@ -1,17 +1,18 @@
-mod Members
-mod Kept
-mod Views
-mod Opened
-mod Adverts
-mod Sound
-mod SoundAdverts
-mod Entries
-mod Outs
-mod LetIn
-mod Scenes
-mod Steps
-mod Begins
-mod Judged
-mod Undisturbed
-mod KeptOpen
-mod Throughout
+pub mod Members
+pub mod Kept
+pub mod Views
+pub mod Opened
+pub mod Adverts
+pub mod Sound
+pub mod SoundAdverts
+pub mod Entries
+pub mod Outs
+pub mod LetIn
+pub mod Scenes
+pub mod Steps
+pub mod Begins
+pub mod Stays
+pub mod Judged
+pub mod Undisturbed
+pub mod KeptOpen
+pub mod Throughout

@@ -18,7 +18,7 @@ use Rattle.client_rules.specs.Journals.{client_entry}
 use Rattle.topology.specs.declared.client_node.ClientNode.{ClientNode}
 use Rattle.topology.specs.declared.node.Node.TheVariants.{Server as server, Client as client}
 use Rattle.topology.specs.Rules.{IsTopology}
-use Rattle.topology.specs.Topology.{node_at}
+use Rattle.topology.specs.Topology.{node_at, client_at}
 use Rattle.topology.specs.NodeRules.{IsServerNode, EachNodeKeepsRules}
 use Rattle.history.specs.Full.{Full}
 use Rattle.legal.specs.Lab.{Lab}
@@ -32,7 +32,7 @@ use Rattle.legal.specs.NatGrowth.{EachNatGrows}
 use Rattle.legal.specs.Actors.{EachActs}
 use Rattle.legal.specs.MadeWire.{EachHistoryIsMade}
 use Rattle.legal.specs.Routes.{EachRoute}
-use Rattle.origins.specs.Honest.{are_honest}
+use Rattle.origins.specs.Honest.{are_honest_for}
 use Rattle.origins.specs.Senders.{EachEntryTellsWhereTo}
 use Rattle.settled.specs.ItsNodes.{HasServer}
 use Rattle.settled.specs.Clients.{standing}
@@ -91,7 +91,8 @@ pub record Scene (lab : Lab) (H : List Full) (r : Full) (n : ℕ) (c : ClientNod
   pub is : IsTopology lab.topology
   pub there : node_at lab.topology n ≡ Some (client c)
   pub grown : Grown lab (r ∷ H)
-  pub honest : are_honest lab.topology H ≡ true
+  pub listed : client_at lab.topology n ≡ Some c
+  pub honest : are_honest_for lab.topology c H ≡ true
 
 -- the NAT loses nothing of the client, and its server is let in where the phase rests on that
 pub record IsCalm (lab : Lab) (H : List Full) (r : Full) (n : ℕ) (c : ClientNode) : Type 0 where

@@ -96,12 +96,12 @@ still_begins renews h = inl refl
 still_begins says_nothing h = inl refl
 
 -- the origin stays
-still_kept : (u : Turn) (o k : Option Ep) → is_told u ≡ false → kept_after u o k ≡ k
+pub still_kept : (u : Turn) (o k : Option Ep) → is_told u ≡ false → kept_after u o k ≡ k
 still_kept is_answered o k h = absurd (false≢true (sym h))
 still_kept _ o k h = refl
 
 -- and so does the address
-still_address : (s : Settings) (u : Turn) (w : Option ℕ) (o : Option Ep) (a : Option Ip6) → is_told u ≡ false → address_after s u w o a ≡ a
+pub still_address : (s : Settings) (u : Turn) (w : Option ℕ) (o : Option Ep) (a : Option Ip6) → is_told u ≡ false → address_after s u w o a ≡ a
 still_address s (qualifies cone) w o a h = absurd (false≢true (sym h))
 still_address s is_changed w o a h = absurd (false≢true (sym h))
 still_address s _ w o a h = refl

@@ -43,7 +43,8 @@ use Rattle.legal.proofs.NatPasts.{set_up_past}
 use Rattle.origins.specs.Senders.{EntryTellsWhereTo}
 use Rattle.origins.proofs.Records.{is_client}
 use Rattle.origins.proofs.SentOn.{act_made}
-use Rattle.origins.proofs.Live.{from_server, is_arrived, from_of, bytes_of}
+use Rattle.origins.proofs.HonestFor.{from_its}
+use Rattle.origins.proofs.Live.{is_arrived, from_of, bytes_of}
 use Rattle.settled.specs.ItsNodes.{HasServer}
 use Rattle.settled.specs.Clients.{standing, nat_behind, past_of_nat, asks_at}
 use Rattle.verdicts.proofs.Members.{Has}
@@ -121,11 +122,10 @@ module _ (laws : VerdictLaws) (lab : Lab) (H : List Full) (r : Full) (n : ℕ) (
         let came = sym same ∙ adv.came in
         let source : src ≡ adv.from = ap (from_of src) came in
         let all : bytes ≡ adv.bytes = ap bytes_of came in
-        let b = has_server in
-        let has = from_server lab.topology c q src b (source ∙ adv.source) in
-        let tells : EntryTellsWhereTo lab (udp src dst bytes) = all_at (EntryTellsWhereTo lab) (wire H) number (udp src dst bytes)
-        (laws.tells lab H scene.is scene.grown.1 scene.honest) at in
-        let to : origin_in (value_in bytes).lead ≡ Some dst = tells c.server b.row b.there has
+        let its = from_its lab.topology c q src (source ∙ adv.source) in
+        let tells : EntryTellsWhereTo lab c (udp src dst bytes) = all_at (EntryTellsWhereTo lab c) (wire H) number (udp src dst bytes)
+        (laws.tells lab H n c scene.is scene.grown.1 scene.listed scene.honest) at in
+        let to : origin_in (value_in bytes).lead ≡ Some dst = tells its
         (ap (λ (z : List ℕ). is_some (value_in z).lead.auth) all ∙ adv.auth) in
         let given : origin_in (value_in adv.bytes).lead ≡ Some dst = ap (λ (z : List ℕ). origin_in (value_in z).lead) (sym all) ∙ to in
         let input : IsMadeInput (input_of (udp src dst bytes)) = subst IsMadeInput same

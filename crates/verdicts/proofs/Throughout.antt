@@ -1,5 +1,5 @@
 -- Right verdicts, at each record.
-use Rattle.std.proofs.Common.{◌≡◌, ℕ, List, [], ◌∷◌, Option, Some, None, refl, ap, subst}
+use Rattle.std.proofs.Common.{◌≡◌, inl, inr, ℕ, List, [], ◌∷◌, Option, Some, None, refl, ap, subst}
 use Rattle.std.specs.Prelude.{option_and_then, is_some}
 use Rattle.std.specs.List.{AllByRecursion}
 use Rattle.std.proofs.lemmas.Bool.{false≢true}
@@ -18,6 +18,7 @@ use Rattle.legal.proofs.NatPasts.{set_up_past}
 use Rattle.settled.proofs.Earlier.{earlier}
 use Rattle.origins.proofs.Records.{is_client}
 use Rattle.verdicts.specs.Right.{EachIsRight, EachIsRightWithoutCone, EachVerdictIsRight}
+use Rattle.verdicts.specs.Stays.{EachAddressStays}
 use Rattle.verdicts.specs.Throughout.{HistoriesHaveRightVerdicts, ScenariosHaveRightVerdicts}
 use Rattle.verdicts.proofs.Scenes.{VerdictLaws}
 use Rattle.verdicts.proofs.Judged.{right, right_without_cone}
@@ -35,14 +36,21 @@ node_of lab n c there = by (node_at lab.topology n) there where
 each_is_right : VerdictLaws → EachIsRight
 each_is_right laws lab H n c flat is g honest there calm =
     right laws.turns.nat lab H n c (set_up_past lab H c.nat g)
-    (fine laws lab n c flat is (node_of lab n c there) H g honest calm.began calm.lasts calm.server_open).sound
+    (fine laws lab n c flat is (node_of lab n c there) there H g honest calm.began calm.lasts calm.server_open).sound
 
 -- clients without the cone phase
 each_is_right_without_cone : VerdictLaws → EachIsRightWithoutCone
 each_is_right_without_cone laws lab H n c flat is g honest there never calm =
     let at = node_of lab n c there in
-    right_without_cone laws.turns.nat lab H n c (set_up_past lab H c.nat g) (firm laws lab n c flat is at never H g honest calm.lasts calm.server_open).sound
+    right_without_cone laws.turns.nat lab H n c (set_up_past lab H c.nat g) (firm laws lab n c flat is at there never H g honest calm.lasts calm.server_open).sound
     never (laws.addresses (client_settings lab.topology c) (journal n H) (laws.clients lab H n c g at).journal)
+
+-- addresses stay
+pub addresses_stay : VerdictLaws → EachAddressStays
+addresses_stay laws lab H n c flat is g honest there (inl calm) =
+    (fine laws lab n c flat is (node_of lab n c there) there H g honest calm.began calm.lasts calm.server_open).stays
+addresses_stay laws lab H n c flat is g honest there (inr both) =
+    (firm laws lab n c flat is (node_of lab n c there) there both.0 H g honest both.1.lasts both.1.server_open).stays
 
 -- both
 pub verdicts_are_right : VerdictLaws → EachVerdictIsRight
@@ -53,8 +61,8 @@ pub histories : EachVerdictIsRight → HistoriesHaveRightVerdicts
 histories laws lab H flat is g later r before split =
     let there : Grown lab (r ∷ before) = earlier lab later (r ∷ before) (subst (Grown lab) split g) in
     record {
-      undisturbed = λ honest n c client. laws.undisturbed lab (r ∷ before) n c flat is there honest client;
-      kept_open = λ honest n c client. laws.kept_open lab (r ∷ before) n c flat is there honest client;
+      undisturbed = λ n c honest client. laws.undisturbed lab (r ∷ before) n c flat is there honest client;
+      kept_open = λ n c honest client. laws.kept_open lab (r ∷ before) n c flat is there honest client;
     }
 
 -- and of a scenario

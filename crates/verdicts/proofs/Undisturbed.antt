@@ -15,14 +15,14 @@ use Rattle.qualify.specs.Solicitations.{expected}
 use Rattle.topology.specs.declared.client_node.ClientNode.{ClientNode}
 use Rattle.topology.specs.declared.node.Node.TheVariants.{Client as client}
 use Rattle.topology.specs.Rules.{IsTopology}
-use Rattle.topology.specs.Topology.{node_at}
+use Rattle.topology.specs.Topology.{node_at, client_at}
 use Rattle.history.specs.Full.{Full}
 use Rattle.legal.specs.Lab.{Lab}
 use Rattle.legal.specs.Settings.{client_settings}
 use Rattle.legal.specs.Past.{journal, nat_entries, new_journal}
 use Rattle.legal.specs.Legal.{Grown}
 use Rattle.legal.specs.Actors.{IsActOf}
-use Rattle.origins.specs.Honest.{is_honest_event, are_honest}
+use Rattle.origins.specs.Honest.{is_honest_event_for, are_honest_for}
 use Rattle.settled.specs.Clients.{standing}
 use Rattle.verdicts.specs.Undisturbed.{is_out_of, is_loss_of, is_seen, is_open_at, starts, began_seen, was_lost, has_sent, was_shut}
 use Rattle.verdicts.proofs.Members.{none_has}
@@ -34,6 +34,8 @@ use Rattle.verdicts.proofs.Entries.{IsFirst, first_cone, first_restricted, phase
 use Rattle.verdicts.proofs.LetIn.{view_of}
 use Rattle.verdicts.proofs.Scenes.{VerdictLaws, IsSound, Scene}
 use Rattle.verdicts.proofs.Steps.{past_before, is_told_at}
+use Rattle.verdicts.specs.Stays.{AddressStays}
+use Rattle.verdicts.proofs.Stays.{still_stays, stays_at_start}
 use Rattle.verdicts.proofs.Begins.{starts_in, sound_at_start, unseen_of, fresh_journal, Concerns, own, others, concerns, goes_on}
 
 -- a phase in which nothing came yet
@@ -49,7 +51,7 @@ pub record IsUntried (lab : Lab) (H : List Full) (n : ℕ) (c : ClientNode) : Ty
   pub early : is_early (standing lab H n c).phase ≡ true
 
 -- a first phase is such a one
-first_is_early : (tries : Bool) (ph : Phase) → IsFirst tries ph → is_early ph ≡ true
+pub first_is_early : (tries : Bool) (ph : Phase) → IsFirst tries ph → is_early ph ≡ true
 first_is_early tries ph (first_cone t same) = ap is_early same
 first_is_early tries ph (first_restricted same) = ap is_early same
 
@@ -62,7 +64,7 @@ untried_at_start lab H n m c fresh unseen = record {
 }
 
 -- only an advertisement ends that
-still_early : (u : Turn) (ph : Phase) → is_told u ≡ false → is_early ph ≡ true → is_early (unwrap_or (begins u) ph) ≡ true
+pub still_early : (u : Turn) (ph : Phase) → is_told u ≡ false → is_early ph ≡ true → is_early (unwrap_or (begins u) ph) ≡ true
 still_early u ph h early = by (still_begins u h) where
   by : (begins u ≡ None) ⊎ ((begins u ≡ Some Restricted) ⊎ (begins u ≡ Some OffLine)) → is_early (unwrap_or (begins u) ph) ≡ true
   by (inl e) = ap (λ (o : Option Phase). is_early (unwrap_or o ph)) e ∙ early
@@ -93,13 +95,14 @@ module _ (laws : VerdictLaws) (lab : Lab) (H : List Full) (r : Full) (n : ℕ) (
         (of_turn e act (is_told (turn_of e)) refl)
     by (others same nothing) = subst (λ (j : Journal). is_early (qualification (client_settings lab.topology c) j).phase ≡ true) (sym same) u.early
 
--- what holds of an undisturbed client
+-- what holds of an undisturbed client; its address stayed
 pub record IsFine (lab : Lab) (H : List Full) (n : ℕ) (c : ClientNode) : Type 0 where
   pub sound : IsSound lab H n c
   pub untried : has_sent lab H n c ≡ false → IsUntried lab H n c
+  pub stays : AddressStays H n
 
 -- no such phase rests on the NAT
-rests_late : (ph : Phase) → is_resting ph ≡ true → is_early ph ≡ true → ⊥
+pub rests_late : (ph : Phase) → is_resting ph ≡ true → is_early ph ≡ true → ⊥
 rests_late Cone r e = false≢true r
 rests_late Restricted r e = false≢true r
 rests_late OffLine r e = false≢true r
@@ -114,7 +117,7 @@ open_of true false b h = absurd (false≢true (sym h))
 open_of false is_open b h = absurd (false≢true b)
 
 module _ (laws : VerdictLaws) (lab : Lab) (n : ℕ) (c : ClientNode) (flat : lab.chain ≡ []) (is : IsTopology lab.topology)
-    (there : node_at lab.topology n ≡ Some (client c)) where
+    (there : node_at lab.topology n ≡ Some (client c)) (listed : client_at lab.topology n ≡ Some c) where
   -- the NAT let a datagram of the client out
   abbrev HasSent : List Full → Bool
   HasSent before = has_sent lab before n c
@@ -131,6 +134,7 @@ module _ (laws : VerdictLaws) (lab : Lab) (n : ℕ) (c : ClientNode) (flat : lab
     untried = λ none. let both = or_parts (list_any (is_out_of c.inside) (nat_entries lab c.nat r)) (has_sent lab H n c)
         (ap (λ (b : Bool). cond b false (list_any (is_out_of c.inside) (nat_entries lab c.nat r) || has_sent lab H n c)) (sym off) ∙ none) in
         untried laws lab H r n c scene off both.0 (fine.untried both.1);
+    stays = still_stays laws lab H r n c scene off fine.sound fine.stays;
   } where
     sent : is_resting (standing lab H n c).phase ≡ true → (b : Bool) → has_sent lab H n c ≡ b → has_sent lab H n c ≡ true
     sent rests true e = e
@@ -138,15 +142,15 @@ module _ (laws : VerdictLaws) (lab : Lab) (n : ℕ) (c : ClientNode) (flat : lab
 
   -- a start
   start : (H : List Full) (m : ℕ) → journal n H ≡ new_journal m → IsUnseen (view_of lab H c) → IsFine lab H n c
-  start H m fresh unseen = record { sound = sound_at_start lab H n m c fresh (λ _. unseen); untried = λ _. untried_at_start lab H n m c fresh unseen }
+  start H m fresh unseen = record { sound = sound_at_start lab H n m c fresh (λ _. unseen); untried = λ _. untried_at_start lab H n m c fresh unseen; stays = stays_at_start H n m fresh }
 
   -- a whole history
-  pub fine : (H : List Full) → Grown lab H → are_honest lab.topology H ≡ true → began_seen lab H n c ≡ false → was_lost lab H n c ≡ false
+  pub fine : (H : List Full) → Grown lab H → are_honest_for lab.topology c H ≡ true → began_seen lab H n c ≡ false → was_lost lab H n c ≡ false
       → was_shut HasSent lab H n c ≡ false → IsFine lab H n c
   fine [] g honest began lost shut = start [] 0 refl (λ d counts left. counts)
   fine (r ∷ H) g honest began lost shut = by (starts n r) refl began lost shut (λ b l s. fine H g.1 before b l s) where
-    before : are_honest lab.topology H ≡ true
-    before = (and_parts (is_honest_event lab.topology r.asked) (are_honest lab.topology H) honest).1
+    before : are_honest_for lab.topology c H ≡ true
+    before = (and_parts (is_honest_event_for lab.topology c r.asked) (are_honest_for lab.topology c H) honest).1
 
     by : (b : Bool) → starts n r ≡ b → cond b (is_seen lab (r ∷ H) c) (began_seen lab H n c) ≡ false
         → cond b false (list_any (is_loss_of c.inside) (nat_entries lab c.nat r) || was_lost lab H n c) ≡ false
@@ -156,4 +160,4 @@ module _ (laws : VerdictLaws) (lab : Lab) (n : ℕ) (c : ClientNode) (flat : lab
     by false off b l s ih =
         let lost_parts = or_parts (list_any (is_loss_of c.inside) (nat_entries lab c.nat r)) (was_lost lab H n c) l in
         let shut_parts = or_parts (has_sent lab H n c && not (is_open_at lab H r.moment c)) (was_shut HasSent lab H n c) s in
-        step H r (record { flat = flat; is = is; there = there; grown = g; honest = before }) off (ih b lost_parts.1 shut_parts.1) lost_parts.0 shut_parts.0
+        step H r (record { flat = flat; is = is; there = there; listed = listed; grown = g; honest = before }) off (ih b lost_parts.1 shut_parts.1) lost_parts.0 shut_parts.0

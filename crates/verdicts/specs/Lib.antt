@@ -1,3 +1,4 @@
 pub mod Undisturbed
 pub mod Right
+pub mod Stays
 pub mod Throughout

@@ -10,7 +10,7 @@ use Rattle.topology.specs.Topology.{client_at}
 use Rattle.history.specs.Full.{Full}
 use Rattle.legal.specs.Lab.{Lab}
 use Rattle.legal.specs.Legal.{Grown}
-use Rattle.origins.specs.Honest.{are_honest}
+use Rattle.origins.specs.Honest.{are_honest_for}
 use Rattle.settled.specs.Clients.{standing, client_address, nat_behind, is_symmetric}
 use Rattle.settled.specs.Settled.{IsSettled}
 use Rattle.verdicts.specs.Undisturbed.{IsUndisturbed, IsKeptOpen}
@@ -24,10 +24,10 @@ pub record IsRight (lab : Lab) (H : List Full) (n : ℕ) (c : ClientNode) : Type
   -- behind a NAT of another kind it doesn't hold this for symmetric
   pub other : is_symmetric (nat_behind lab c).kind ≡ false → (standing lab H n c).phase ≢ Symmetric
 
--- where no NAT is behind another one, that of each undisturbed client in an honest history is
+-- where no NAT is behind another one, that of each undisturbed client is, in a history that is honest for it
 abbrev pub EachIsRight : Type 0
 EachIsRight = (lab : Lab) (H : List Full) (n : ℕ) (c : ClientNode) → lab.chain ≡ [] → IsTopology lab.topology → Grown lab H
-    → are_honest lab.topology H ≡ true → client_at lab.topology n ≡ Some c → IsUndisturbed lab H n c → IsRight lab H n c
+    → are_honest_for lab.topology c H ≡ true → client_at lab.topology n ≡ Some c → IsUndisturbed lab H n c → IsRight lab H n c
 
 -- that of a client which doesn't try the cone phase; its address doesn't say that its NAT is cone
 pub record IsRightWithoutCone (lab : Lab) (H : List Full) (n : ℕ) (c : ClientNode) : Type 0 where
@@ -37,7 +37,7 @@ pub record IsRightWithoutCone (lab : Lab) (H : List Full) (n : ℕ) (c : ClientN
 -- so is that of each such client whose NAT was kept open
 abbrev pub EachIsRightWithoutCone : Type 0
 EachIsRightWithoutCone = (lab : Lab) (H : List Full) (n : ℕ) (c : ClientNode) → lab.chain ≡ [] → IsTopology lab.topology → Grown lab H
-    → are_honest lab.topology H ≡ true → client_at lab.topology n ≡ Some c → c.cone_try ≡ false → IsKeptOpen lab H n c
+    → are_honest_for lab.topology c H ≡ true → client_at lab.topology n ≡ Some c → c.cone_try ≡ false → IsKeptOpen lab H n c
     → IsRightWithoutCone lab H n c
 
 pub record EachVerdictIsRight : Type 0 where

@@ -9,17 +9,17 @@ use Rattle.events.specs.Scenario.{Scenario}
 use Rattle.history.specs.Full.{Full}
 use Rattle.legal.specs.Lab.{Lab, lab_of}
 use Rattle.legal.specs.Legal.{Begun, Grown}
-use Rattle.origins.specs.Honest.{are_honest}
+use Rattle.origins.specs.Honest.{are_honest_for}
 use Rattle.verdicts.specs.Undisturbed.{IsUndisturbed, IsKeptOpen}
 use Rattle.verdicts.specs.Right.{IsRight, IsRightWithoutCone}
 
--- after the latest record, where all records are honest
+-- after the latest record, of clients for which all records are honest
 pub record HasRightVerdicts (lab : Lab) (H : List Full) : Type 0 where
   -- the verdict of each undisturbed client is right
-  pub undisturbed : are_honest lab.topology H ≡ true → (n : ℕ) (c : ClientNode) → client_at lab.topology n ≡ Some c
+  pub undisturbed : (n : ℕ) (c : ClientNode) → are_honest_for lab.topology c H ≡ true → client_at lab.topology n ≡ Some c
       → IsUndisturbed lab H n c → IsRight lab H n c
   -- so is that of each client without the cone phase whose NAT was kept open
-  pub kept_open : are_honest lab.topology H ≡ true → (n : ℕ) (c : ClientNode) → client_at lab.topology n ≡ Some c
+  pub kept_open : (n : ℕ) (c : ClientNode) → are_honest_for lab.topology c H ≡ true → client_at lab.topology n ≡ Some c
       → c.cone_try ≡ false → IsKeptOpen lab H n c → IsRightWithoutCone lab H n c
 
 -- after each record

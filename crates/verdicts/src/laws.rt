@@ -1,11 +1,11 @@
 //! Laws of every history.
 ghost use Rattle.verdicts.specs.Right.{EachVerdictIsRight};
+ghost use Rattle.verdicts.specs.Stays.{EachAddressStays};
 ghost use Rattle.verdicts.specs.Throughout.{HistoriesHaveRightVerdicts, ScenariosHaveRightVerdicts};
 
-/// In an honest history the verdict of each undisturbed client is right. So is that of each client that doesn't try the cone
-/// phase and whose NAT was kept open; its address has no cone bit.
-pub fn verdicts_are_right()
-    ensures { EachVerdictIsRight }
+// What a client makes of its NAT is right, and its address stays.
+fn clients_of_one_nat()
+    ensures { EachVerdictIsRight × EachAddressStays }
 {
     origins::tells_where_to();
     topology::each_node();
@@ -29,6 +29,21 @@ pub fn verdicts_are_right()
     nat_kinds::port_has_one_key();
     nat_kinds::let_in_where_asked();
     nat_kinds::reply_is_let_in();
+}
+
+/// In a history that is honest for it the verdict of each undisturbed client is right. So is that of each client that doesn't
+/// try the cone phase and whose NAT was kept open; its address has no cone bit.
+pub fn verdicts_are_right()
+    ensures { EachVerdictIsRight }
+{
+    clients_of_one_nat();
+}
+
+/// The address of such a client stays.
+pub fn addresses_stay()
+    ensures { EachAddressStays }
+{
+    clients_of_one_nat();
 }
 
 /// Every history has right verdicts, at each of its records.

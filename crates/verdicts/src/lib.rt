@@ -27,4 +27,7 @@
 
 mod laws;
 
-pub use laws::{histories_have_right_verdicts, scenarios_have_right_verdicts, verdicts_are_right};
+pub use laws::{
+    addresses_stay, histories_have_right_verdicts, scenarios_have_right_verdicts,
+    verdicts_are_right,
+};

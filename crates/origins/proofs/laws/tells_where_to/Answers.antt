@@ -7,4 +7,5 @@ returns c = each_tells (record {
   rules = c.each_node.ensures;
   made = c.wire_is_made.ensures;
   tells = c.each_tells_where_to.ensures;
+  there = c.client_is_there.ensures;
 })

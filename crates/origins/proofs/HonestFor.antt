@@ -1,0 +1,95 @@
+-- Who speaks for a client's server.
+use Rattle.std.proofs.Common.{◌≡◌, ℕ, ◌&&◌, ◌||◌, Bool, true, false, List, [], ◌∷◌, refl, sym, ap, subst, ◌∙◌}
+use Rattle.std.specs.Prelude.{not}
+use Rattle.std.proofs.lemmas.Bool.{false≢true, and_parts}
+use Rattle.td_base.specs.declared.ipv4.Ip4.{Ip4}
+use Rattle.td_base.specs.declared.endpoint.Ep.{Ep}
+use Rattle.td_base.specs.Ep.{same_ep, same_ep-true, same_ep-self, server_ep}
+use Rattle.qualify.specs.declared.phase.Phase.{Phase}
+use Rattle.qualify.specs.declared.phase.Phase.TheVariants.{Cone, Restricted, Secondary, Qualified, Symmetric, OffLine}
+use Rattle.qualify.specs.Qualification.{Qualification}
+use Rattle.qualify.specs.Solicitations.{is_cone, expected_in, expected}
+use Rattle.topology.specs.declared.client_node.ClientNode.{ClientNode}
+use Rattle.topology.specs.declared.node.Node.TheVariants.{Server as server}
+use Rattle.topology.specs.Rows.{TopologyState}
+use Rattle.topology.specs.NodeRules.{has_address, OwnAddressIsTaken, is_taken}
+use Rattle.events.specs.declared.event.Event.{Event}
+use Rattle.events.specs.declared.event.Event.TheVariants as event
+use Rattle.history.specs.Full.{Full}
+use Rattle.legal.specs.Settings.{client_settings}
+use Rattle.legal.specs.Makers.{Forges, strange, copied}
+use Rattle.settled.specs.ItsNodes.{HasServer, ClientsAreThere}
+use Rattle.origins.specs.Honest.{is_honest_event, are_honest, is_its_server, is_honest_event_for, are_honest_for, HonestIsForEach}
+
+kept_false : (b : Bool) → not b ≡ true → b ≡ false
+kept_false true h = absurd (false≢true h)
+kept_false false h = refl
+
+-- a forged source isn't its server's
+pub not_its : (t : TopologyState) (c : ClientNode) (H : List Full) (src dst : Ep) (bytes : List ℕ) (e : Event) → Forges H src dst bytes e
+    → is_honest_event_for t c e ≡ true → is_its_server t c src ≡ false
+not_its t c H src dst bytes _ strange h = kept_false (is_its_server t c src) h
+not_its t c H src dst bytes _ (copied number x at is) h = kept_false (is_its_server t c src) h
+
+-- the server has the addresses of these
+pub its_has : (t : TopologyState) (c : ClientNode) (src : Ep) (b : HasServer t c) → is_its_server t c src ≡ true
+    → has_address src.ip (server b.row) ≡ true
+its_has t c src b its = by (same_ep src (server_ep (client_settings t c).primary)) refl its where
+  by : (x : Bool) → same_ep src (server_ep (client_settings t c).primary) ≡ x → (x || same_ep src (server_ep (client_settings t c).secondary)) ≡ true
+      → has_address src.ip (server b.row) ≡ true
+  by true e h = subst (λ (ip : Ip4). has_address ip (server b.row) ≡ true)
+      (sym (ap (λ (x : Ep). x.ip) (same_ep-true src (server_ep (client_settings t c).primary) e) ∙ b.primary)) b.has_primary
+  by false e h = subst (λ (ip : Ip4). has_address ip (server b.row) ≡ true)
+      (sym (ap (λ (x : Ep). x.ip) (same_ep-true src (server_ep (client_settings t c).secondary) h) ∙ b.secondary)) b.has_secondary
+
+-- WHERE A CLIENT EXPECTS ITS ANSWERS FROM
+
+first : (t : TopologyState) (c : ClientNode) → is_its_server t c (server_ep (client_settings t c).primary) ≡ true
+first t c = ap (λ (b : Bool). b || same_ep (server_ep (client_settings t c).primary) (server_ep (client_settings t c).secondary))
+    (same_ep-self (server_ep (client_settings t c).primary))
+
+second : (t : TopologyState) (c : ClientNode) → is_its_server t c (server_ep (client_settings t c).secondary) ≡ true
+second t c = by (same_ep (server_ep (client_settings t c).secondary) (server_ep (client_settings t c).primary))
+    (same_ep (server_ep (client_settings t c).secondary) (server_ep (client_settings t c).secondary))
+    (same_ep-self (server_ep (client_settings t c).secondary)) where
+      by : (x y : Bool) → y ≡ true → (x || y) ≡ true
+      by true y h = refl
+      by false y h = h
+
+expected_is_its : (t : TopologyState) (c : ClientNode) (phase : Phase) (cone : Bool) → is_its_server t c (expected_in (client_settings t c) phase cone) ≡ true
+expected_is_its t c Cone cone = second t c
+expected_is_its t c Restricted cone = first t c
+expected_is_its t c Secondary cone = second t c
+expected_is_its t c Qualified true = second t c
+expected_is_its t c Qualified false = first t c
+expected_is_its t c Symmetric cone = first t c
+expected_is_its t c OffLine cone = first t c
+
+pub from_its : (t : TopologyState) (c : ClientNode) (q : Qualification) (from : Ep) → from ≡ expected (client_settings t c) q → is_its_server t c from ≡ true
+unfolding expected
+from_its t c q from same = subst (λ (e : Ep). is_its_server t c e ≡ true) (sym same) (expected_is_its t c q.phase (is_cone q))
+
+-- WHAT IS HONEST IS SO FOR EACH CLIENT
+
+module _ (taken : OwnAddressIsTaken) (t : TopologyState) (c : ClientNode) (b : HasServer t c) where
+  of_source : (src : Ep) → not (is_taken t src.ip) ≡ true → not (is_its_server t c src) ≡ true
+  of_source src h = by (is_its_server t c src) refl where
+    by : (x : Bool) → is_its_server t c src ≡ x → not x ≡ true
+    by false e = refl
+    by true e = absurd (false≢true (sym (kept_false (is_taken t src.ip) h) ∙ taken t c.server (server b.row) src.ip b.there (its_has t c src b e)))
+
+  of_event : (e : Event) → is_honest_event t e ≡ true → is_honest_event_for t c e ≡ true
+  of_event (event.Stranger src dst bytes) h = of_source src h
+  of_event (event.Copy number src dst) h = of_source src h
+  of_event _ h = refl
+
+  of_all : (H : List Full) → are_honest t H ≡ true → are_honest_for t c H ≡ true
+  of_all [] h = refl
+  of_all (r ∷ H) h = let both = and_parts (is_honest_event t r.asked) (are_honest t H) h in
+      both_true (is_honest_event_for t c r.asked) (are_honest_for t c H) (of_event r.asked both.0) (of_all H both.1) where
+        both_true : (x y : Bool) → x ≡ true → y ≡ true → (x && y) ≡ true
+        both_true true y f g = g
+        both_true false y f g = absurd (false≢true f)
+
+pub honest_is_for_each : OwnAddressIsTaken → ClientsAreThere → HonestIsForEach
+honest_is_for_each taken there t n c H is at = of_all taken t c (there.server_of t n c is (there.node t n c at)) H
