@@ -19,7 +19,8 @@ use Rattle.history.specs.Full.{Full}
 use Rattle.legal.specs.Settings.{client_settings}
 use Rattle.legal.specs.Makers.{Forges, strange, copied}
 use Rattle.settled.specs.ItsNodes.{HasServer, ClientsAreThere}
-use Rattle.origins.specs.Honest.{is_honest_event, are_honest, is_its_server, is_honest_event_for, are_honest_for, HonestIsForEach}
+use Rattle.legal.specs.Honest.{is_honest_event, are_honest, is_its_server, is_honest_event_for, are_honest_for}
+use Rattle.origins.specs.Throughout.{HonestIsForEach}
 
 kept_false : (b : Bool) → not b ≡ true → b ≡ false
 kept_false true h = absurd (false≢true h)

@@ -39,7 +39,7 @@ use Rattle.legal.specs.MadeWire.{EachHistoryIsMade}
 use Rattle.legal.specs.Routes.{Reaches, EachRoute}
 use Rattle.legal.proofs.MadeInputs.{entry_input, client_made}
 use Rattle.settled.specs.ItsNodes.{ClientsAreThere}
-use Rattle.origins.specs.Honest.{is_honest_event_for, are_honest_for}
+use Rattle.legal.specs.Honest.{is_honest_event_for, are_honest_for}
 use Rattle.origins.proofs.HonestFor.{from_its}
 use Rattle.origins.specs.Senders.{EntryTellsWhereTo, EachEntryTellsWhereTo}
 use Rattle.origins.specs.Live as live

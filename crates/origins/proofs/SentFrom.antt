@@ -32,7 +32,7 @@ use Rattle.legal.specs.Lab.{Lab}
 use Rattle.legal.specs.Past.{nat_pasts}
 use Rattle.legal.specs.Makers.{Forges, strange, copied, Leaves, MadeBy, from_nowhere, by_server, by_relay, by_client, by_native, to_six, EachItemIsMade}
 use Rattle.legal.proofs.ItemsMade.{all_joined}
-use Rattle.origins.specs.Honest.{is_honest_event, are_honest}
+use Rattle.legal.specs.Honest.{is_honest_event, are_honest}
 use Rattle.origins.specs.Sources.{last_nat, outermost, IsSender, HasOwnSource, EachHasOwnSource, GoesElsewhere, EachGoesElsewhere}
 
 pub record SourceLaws : Type 0 where

@@ -34,7 +34,7 @@ use Rattle.legal.specs.MadeWire.{EachHistoryIsMade}
 use Rattle.legal.proofs.MadeInputs.{entry_input}
 use Rattle.legal.proofs.ItemsMade.{all_joined}
 use Rattle.settled.specs.ItsNodes.{HasServer, ClientsAreThere}
-use Rattle.origins.specs.Honest.{is_honest_event_for, are_honest_for}
+use Rattle.legal.specs.Honest.{is_honest_event_for, are_honest_for}
 use Rattle.origins.proofs.HonestFor.{not_its, its_has}
 use Rattle.origins.specs.Senders.{EntryTellsWhereTo, EachEntryTellsWhereTo, forged, sent_by, ComesFromClient, EachComesFromClient}
 use Rattle.origins.proofs.Records.{Latest}

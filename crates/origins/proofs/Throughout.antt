@@ -10,7 +10,7 @@ use Rattle.legal.specs.Lab.{Lab, lab_of}
 use Rattle.legal.specs.Past.{place}
 use Rattle.legal.specs.Legal.{Begun, Grown}
 use Rattle.legal.proofs.Asked.{brought}
-use Rattle.origins.specs.Honest.{is_honest_event, is_honest_event_for}
+use Rattle.legal.specs.Honest.{is_honest_event, is_honest_event_for}
 use Rattle.origins.specs.Handed.{EachIsBrought, EachLateHandedIsForeign}
 use Rattle.origins.specs.Origin.{EachHasOrigin}
 use Rattle.origins.specs.Live.{EachIsLive}

@@ -1,4 +1,3 @@
-pub mod Honest
 pub mod Sources
 pub mod Senders
 pub mod Handed

@@ -15,7 +15,7 @@ use Rattle.history.specs.Full.{Full}
 use Rattle.legal.specs.Lab.{Lab}
 use Rattle.legal.specs.Past.{now, nat_history}
 use Rattle.legal.specs.Legal.{Grown}
-use Rattle.origins.specs.Honest.{are_honest_for}
+use Rattle.legal.specs.Honest.{are_honest_for}
 
 -- NAT k holds the port live for this inside endpoint
 abbrev pub HoldsPort : Lab → List Full → ℕ → Ep → ℕ → Type 0

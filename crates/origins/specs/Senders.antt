@@ -16,7 +16,7 @@ use Rattle.legal.specs.Lab.{Lab}
 use Rattle.legal.specs.Legal.{Grown}
 use Rattle.legal.specs.Actors.{IsActOf}
 use Rattle.legal.specs.Makers.{Forges, Leaves}
-use Rattle.origins.specs.Honest.{is_its_server, are_honest_for}
+use Rattle.legal.specs.Honest.{is_its_server, are_honest_for}
 
 -- a datagram from a client's server that has an authentication has, as its origin, the endpoint that it goes to
 abbrev pub EntryTellsWhereTo : Lab → ClientNode → Item → Type 0

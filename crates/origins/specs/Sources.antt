@@ -12,7 +12,7 @@ use Rattle.topology.specs.Chains.{outer_in, nats_from}
 use Rattle.history.specs.Full.{Item, udp, six, Full, wire, items_of}
 use Rattle.legal.specs.Lab.{Lab}
 use Rattle.legal.specs.Legal.{Grown}
-use Rattle.origins.specs.Honest.{is_honest_event, are_honest}
+use Rattle.legal.specs.Honest.{is_honest_event, are_honest}
 
 -- the last NAT of a way that begins with NAT k
 abbrev pub last_nat : ℕ → List ℕ → ℕ

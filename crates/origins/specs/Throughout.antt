@@ -5,6 +5,7 @@ use Rattle.td_base.specs.declared.ipv6.Ip6.{Ip6}
 use Rattle.ipv6_packet.specs.Reads.{fields_in}
 use Rattle.teredo_addr.specs.Teredo.{is_teredo, embedded}
 use Rattle.topology.specs.declared.client_node.ClientNode.{ClientNode}
+use Rattle.topology.specs.Rows.{TopologyState}
 use Rattle.topology.specs.Rules.{IsTopology}
 use Rattle.topology.specs.Topology.{client_at}
 use Rattle.topology.specs.Chains.{Behind}
@@ -13,7 +14,7 @@ use Rattle.events.specs.Scenario.{Scenario}
 use Rattle.history.specs.Full.{Full}
 use Rattle.legal.specs.Lab.{Lab, lab_of}
 use Rattle.legal.specs.Legal.{Begun, Grown}
-use Rattle.origins.specs.Honest.{is_honest, are_honest, is_honest_for, are_honest_for}
+use Rattle.legal.specs.Honest.{is_honest, are_honest, is_honest_for, are_honest_for}
 use Rattle.origins.specs.Handed.{HandsToHost, IsBrought}
 use Rattle.origins.specs.Origin.{HasOrigin}
 use Rattle.origins.specs.Live.{IsLive}
@@ -53,3 +54,8 @@ HonestScenarios = (s : Scenario) (chain : List Behind) (H : List Full) → is_ho
 abbrev pub HonestForScenarios : Type 0
 HonestForScenarios = (s : Scenario) (chain : List Behind) (H : List Full) (c : ClientNode) → is_honest_for s c ≡ true → Begun (lab_of s chain) s.events H
     → are_honest_for s.topology c H ≡ true
+
+-- what is honest is so for each client
+abbrev pub HonestIsForEach : Type 0
+HonestIsForEach = (t : TopologyState) (n : ℕ) (c : ClientNode) (H : List Full) → IsTopology t → client_at t n ≡ Some c → are_honest t H ≡ true
+    → are_honest_for t c H ≡ true

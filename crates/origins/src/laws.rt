@@ -1,6 +1,6 @@
 //! Laws of every history.
 ghost use Rattle.origins.specs.Sources.{EachHasOwnSource, EachGoesElsewhere};
-ghost use Rattle.origins.specs.Honest.{HonestIsForEach};
+ghost use Rattle.origins.specs.Throughout.{HonestIsForEach};
 ghost use Rattle.origins.specs.Senders.{EachEntryTellsWhereTo, EachComesFromClient};
 ghost use Rattle.origins.specs.Handed.{EachIsBrought, EachLateHandedIsForeign};
 ghost use Rattle.origins.specs.Origin.{EachHasOrigin};

@@ -19,7 +19,6 @@
 //!
 //! | what is said | in |
 //! |---|---|
-//! | honest scenarios | `specs/Honest.antt` |
 //! | who sent from a node's address | `specs/Sources.antt` |
 //! | what servers and relays send | `specs/Senders.antt` |
 //! | what brought a packet to a host | `specs/Handed.antt` |

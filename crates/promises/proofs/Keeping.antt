@@ -11,7 +11,8 @@ use Rattle.events.specs.Events.{IsEvent}
 use Rattle.history.specs.Full.{Full}
 use Rattle.legal.specs.Lab.{Lab, lab_on, lab_of}
 use Rattle.legal.specs.Legal.{Begun, Grown}
-use Rattle.origins.specs.Honest.{is_honest, is_honest_for, are_honest_for, HonestIsForEach}
+use Rattle.legal.specs.Honest.{is_honest, is_honest_for, are_honest_for}
+use Rattle.origins.specs.Throughout.{HonestIsForEach}
 use Rattle.origins.specs.Live.{EachIsHeld}
 use Rattle.origins.specs.Throughout.{HasOriginsThroughout, HistoriesHaveOrigins, HonestScenarios, HonestForScenarios}
 use Rattle.verdicts.specs.Throughout.{HasRightVerdictsThroughout, HistoriesHaveRightVerdicts}

@@ -14,7 +14,7 @@ use Rattle.events.specs.Scenario.{Scenario}
 use Rattle.history.specs.Full.{Full}
 use Rattle.legal.specs.Lab.{Lab, lab_of}
 use Rattle.legal.specs.Legal.{Begun, Grown}
-use Rattle.origins.specs.Honest.{is_honest, is_honest_for, are_honest_for}
+use Rattle.legal.specs.Honest.{is_honest, is_honest_for, are_honest_for}
 use Rattle.origins.specs.Live.{IsHeld}
 use Rattle.origins.specs.Throughout.{HasOrigins}
 use Rattle.verdicts.specs.Throughout.{HasRightVerdicts}

@@ -22,7 +22,7 @@ use Rattle.legal.specs.Settings.{client_settings}
 use Rattle.legal.specs.Past.{is_node, journal, nat_entries, new_journal}
 use Rattle.legal.specs.Legal.{Grown}
 use Rattle.legal.specs.Actors.{IsActOf}
-use Rattle.origins.specs.Honest.{is_honest_event_for, are_honest_for}
+use Rattle.legal.specs.Honest.{is_honest_event_for, are_honest_for}
 use Rattle.settled.specs.Clients.{standing}
 use Rattle.verdicts.specs.Undisturbed.{is_loss_of, is_open_at, starts, was_lost, has_sent, is_first_answer, answers, was_answered, was_shut}
 use Rattle.verdicts.proofs.Adverts.{is_told}

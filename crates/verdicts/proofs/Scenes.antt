@@ -32,7 +32,7 @@ use Rattle.legal.specs.NatGrowth.{EachNatGrows}
 use Rattle.legal.specs.Actors.{EachActs}
 use Rattle.legal.specs.MadeWire.{EachHistoryIsMade}
 use Rattle.legal.specs.Routes.{EachRoute}
-use Rattle.origins.specs.Honest.{are_honest_for}
+use Rattle.legal.specs.Honest.{are_honest_for}
 use Rattle.origins.specs.Senders.{EachEntryTellsWhereTo}
 use Rattle.settled.specs.ItsNodes.{HasServer}
 use Rattle.settled.specs.Clients.{standing}

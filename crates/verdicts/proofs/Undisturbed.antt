@@ -22,7 +22,7 @@ use Rattle.legal.specs.Settings.{client_settings}
 use Rattle.legal.specs.Past.{journal, nat_entries, new_journal}
 use Rattle.legal.specs.Legal.{Grown}
 use Rattle.legal.specs.Actors.{IsActOf}
-use Rattle.origins.specs.Honest.{is_honest_event_for, are_honest_for}
+use Rattle.legal.specs.Honest.{is_honest_event_for, are_honest_for}
 use Rattle.settled.specs.Clients.{standing}
 use Rattle.verdicts.specs.Undisturbed.{is_out_of, is_loss_of, is_seen, is_open_at, starts, began_seen, was_lost, has_sent, was_shut}
 use Rattle.verdicts.proofs.Members.{none_has}

@@ -10,7 +10,7 @@ use Rattle.topology.specs.Topology.{client_at}
 use Rattle.history.specs.Full.{Full}
 use Rattle.legal.specs.Lab.{Lab}
 use Rattle.legal.specs.Legal.{Grown}
-use Rattle.origins.specs.Honest.{are_honest_for}
+use Rattle.legal.specs.Honest.{are_honest_for}
 use Rattle.settled.specs.Clients.{standing, client_address, nat_behind, is_symmetric}
 use Rattle.settled.specs.Settled.{IsSettled}
 use Rattle.verdicts.specs.Undisturbed.{IsUndisturbed, IsKeptOpen}

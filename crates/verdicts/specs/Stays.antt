@@ -10,7 +10,7 @@ use Rattle.history.specs.Full.{Full}
 use Rattle.legal.specs.Lab.{Lab}
 use Rattle.legal.specs.Past.{journal}
 use Rattle.legal.specs.Legal.{Grown}
-use Rattle.origins.specs.Honest.{are_honest_for}
+use Rattle.legal.specs.Honest.{are_honest_for}
 use Rattle.verdicts.specs.Undisturbed.{IsUndisturbed, IsKeptOpen}
 
 -- no entry since the start of node n changes its address

@@ -9,7 +9,7 @@ use Rattle.events.specs.Scenario.{Scenario}
 use Rattle.history.specs.Full.{Full}
 use Rattle.legal.specs.Lab.{Lab, lab_of}
 use Rattle.legal.specs.Legal.{Begun, Grown}
-use Rattle.origins.specs.Honest.{are_honest_for}
+use Rattle.legal.specs.Honest.{are_honest_for}
 use Rattle.verdicts.specs.Undisturbed.{IsUndisturbed, IsKeptOpen}
 use Rattle.verdicts.specs.Right.{IsRight, IsRightWithoutCone}
 

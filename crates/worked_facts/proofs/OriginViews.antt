@@ -15,7 +15,7 @@ use Rattle.history.specs.Full.{udp, Full, wire}
 use Rattle.legal.specs.Lab.{Lab}
 use Rattle.legal.specs.Settings.{client_settings}
 use Rattle.legal.specs.Past.{journal}
-use Rattle.origins.specs.Honest.{are_honest}
+use Rattle.legal.specs.Honest.{are_honest}
 use Rattle.origins.specs.Sources.{outermost}
 use Rattle.origins.specs.Handed.{HandsToHost}
 use Rattle.origins.specs.Origin.{PutsFrom, HandedIn, HasOrigin, put, sent_by}

@@ -14,7 +14,7 @@ use Rattle.events.specs.declared.event.Event.{Event}
 use Rattle.history.specs.Full.{Full}
 use Rattle.legal.specs.Lab.{Lab}
 use Rattle.legal.specs.Next.{next}
-use Rattle.origins.specs.Honest.{are_honest}
+use Rattle.legal.specs.Honest.{are_honest}
 use Rattle.settled.specs.Clients.{standing, client_address, asks_at, nat_behind, port_to, is_cone_kind}
 use Rattle.settled.specs.Settled.{IsSettled}
 use Rattle.verdicts.specs.Undisturbed.{began_seen, was_lost, has_sent, was_answered, was_shut}

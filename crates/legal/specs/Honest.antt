@@ -1,13 +1,11 @@
 -- Honest scenarios: nobody who sends from nowhere says that it is a NAT, a server or a relay. Those that are honest for a client:
 -- nobody says that it is this client's server.
-use Rattle.std.specs.Prelude.{◌≡◌, ◌||◌, not, ℕ, Bool, true, List, Some}
+use Rattle.std.specs.Prelude.{◌||◌, not, Bool, true, List}
 use Rattle.std.specs.List.{list_all}
 use Rattle.td_base.specs.declared.endpoint.Ep.{Ep}
 use Rattle.td_base.specs.Ep.{same_ep, server_ep}
 use Rattle.topology.specs.declared.client_node.ClientNode.{ClientNode}
 use Rattle.topology.specs.Rows.{TopologyState}
-use Rattle.topology.specs.Rules.{IsTopology}
-use Rattle.topology.specs.Topology.{client_at}
 use Rattle.topology.specs.NodeRules.{is_taken}
 use Rattle.events.specs.declared.event.Event.{Event}
 use Rattle.events.specs.declared.event.Event.TheVariants as event
@@ -48,8 +46,3 @@ is_honest_for s c = list_all (is_honest_event_for s.topology c) s.events
 -- the events of these records are
 abbrev pub are_honest_for : TopologyState → ClientNode → List Full → Bool
 are_honest_for t c H = list_all (λ (r : Full). is_honest_event_for t c r.asked) H
-
--- what is honest is so for each client
-abbrev pub HonestIsForEach : Type 0
-HonestIsForEach = (t : TopologyState) (n : ℕ) (c : ClientNode) (H : List Full) → IsTopology t → client_at t n ≡ Some c → are_honest t H ≡ true
-    → are_honest_for t c H ≡ true
