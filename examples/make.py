@@ -107,6 +107,8 @@ TO_PEER = bubble(CLIENT, teredo('192.0.2.1', PEER))
 
 # A cone client of `client_table`, the nonce of its first question, which follows from the seed, and who sends to it.
 OWN, OWN_NONCE = teredo('192.0.2.1', '198.51.100.1:1024', cone=True), '7bbe63ba71bc8c21'
+# The nonce of its first test, which follows from the seed too.
+TEST_NONCE = '6cf84512d1d6fbcf'
 ASKING = link_local('10.0.0.2:4000', cone=True)
 FRIEND, OTHER = (teredo('192.0.2.1', f'203.0.113.5:{port}') for port in (9, 11))
 ANSWER = advertisement('192.0.2.1', ASKING)
@@ -166,6 +168,11 @@ PACKETS = {
     'scenarios/borrowed_source.toml': [
         packet(source, OWN, DATA, b'hello') for source in (FRIEND, teredo('192.0.2.1', '198.51.100.2:1024', cone=True))
     ],
+    'scenarios/read_test.toml': [
+        packet(NATIVE, OWN, DATA, b'hello'),
+        icmp(NATIVE, OWN, 129, bytes(4) + bytes.fromhex(TEST_NONCE)),
+    ],
+    'scenarios/trusted_relay_spoofed.toml': [packet(NATIVE, teredo('192.0.2.1', '198.51.100.1:1024'), DATA, b'hello')],
     'scenarios/random_flags.toml': [
         packet(NATIVE, teredo('192.0.2.1', f'198.51.100.{nat}:1024', cone=True), UDP, b'hello', hop=64) for nat in (1, 2)
     ],
