@@ -11,7 +11,8 @@ use Rattle.teredo_node.specs.Journal.{given, Entry}
 use Rattle.peer_list.specs.declared.limits.TheConstants.{PEERS_MAX}
 use Rattle.peer_list.specs.Mentions.{Mention}
 use Rattle.peer_list.specs.Listed.{is_listed, listed, has_room}
-use Rattle.peer_list.specs.Peers.{no_peer, known}
+use Rattle.peer_list.specs.Peers.{known}
+use Rattle.peer_list.specs.Judged.{is_fresh}
 use Rattle.client_rules.specs.Bearings.{mentions}
 use Rattle.topology.specs.declared.client_node.ClientNode.{ClientNode}
 use Rattle.topology.specs.declared.node.Node.TheVariants.{Client as client}
@@ -108,30 +109,31 @@ module _ (laws : StartLaws) (d : Draws) (t : TopologyState) (H : List Full) (r :
   e = entry_of lab H (now H) n no_ep (given x) (client a)
 
   pub did : Did lab H r n (client a) e
-  did = handed_in.did laws d t H r n a x turned.entry is g sender_end.there turned.node turned.did turned.packet_in
+  did = handed_in.did laws d t H r n a own other x is g sender_end.there turned.handed
 
   its_meets : Meets (setup t a_side) (fields_in x).src (fields_in x).dst
-  its_meets = subst (λ (z : Ip6). Meets (setup t a_side) (fields_in x).src z) (sym turned.packet.destination)
-      (subst (λ (z : Ip6). Meets (setup t a_side) z other) (sym turned.packet.source)
+  its_meets = subst (λ (z : Ip6). Meets (setup t a_side) (fields_in x).src z) (sym turned.handed.packet.destination)
+      (subst (λ (z : Ip6). Meets (setup t a_side) z other) (sym turned.handed.packet.source)
       (meets l.ends.apart t is a_side b_side sender_end receiver_end turned.apart))
 
   its_here : IsHere (setup t a_side) (journal n H) (fields_in x).src
-  its_here = subst (IsHere (setup t a_side) (journal n H)) (sym turned.packet.source)
+  its_here = subst (IsHere (setup t a_side) (journal n H)) (sym turned.handed.packet.source)
       (is_here l lab H n a own (record { grown = g.1; there = sender_end.there; address = turned.sender_settled.address }))
 
   full : has_room (mentions (journal n H).entries) (now H) (fields_in x).dst ≡ false
-  full = ap (has_room (mentions (journal n H).entries) (now H)) turned.packet.destination ∙ turned.full
+  full = ap (has_room (mentions (journal n H).entries) (now H)) turned.handed.packet.destination ∙ turned.full
 
-  unknown : known (mentions (journal n H).entries) (now H) (fields_in x).dst ≡ no_peer
-  unknown = l.unlisted (mentions (journal n H).entries) (now H) (fields_in x).dst (not_listed (mentions (journal n H).entries) (now H) (fields_in x).dst full)
+  -- so the receiver isn't fresh
+  stale : is_fresh (now H) (known (mentions (journal n H).entries) (now H) (fields_in x).dst) ≡ false
+  unfolding is_fresh
+  stale = ap (is_fresh (now H)) (l.unlisted (mentions (journal n H).entries) (now H) (fields_in x).dst
+      (not_listed (mentions (journal n H).entries) (now H) (fields_in x).dst full))
 
-  is_turned : IsTurned (setup t a_side) (journal n H) (now H) x turned.packet.packet its_meets its_here
-      (handed_in.small laws d t H r n a x turned.entry is g sender_end.there turned.node turned.did turned.packet_in turned.packet.packet
-      turned.packet.short) turned.packet.no_bubble unknown e
-  is_turned = turned_away (setup t a_side) (journal n H) (now H) x turned.packet.packet its_meets its_here
-      (handed_in.small laws d t H r n a x turned.entry is g sender_end.there turned.node turned.did turned.packet_in turned.packet.packet
-      turned.packet.short) turned.packet.no_bubble unknown
-      (ap has_cone turned.packet.destination ∙ turned.plain) full (words lab n H)
+  is_turned : IsTurned (setup t a_side) (journal n H) (now H) x turned.handed.packet.packet its_meets its_here
+      (handed_in.small laws d t H r n a own other x is g sender_end.there turned.handed) turned.handed.packet.no_bubble stale e
+  is_turned = turned_away (setup t a_side) (journal n H) (now H) x turned.handed.packet.packet its_meets its_here
+      (handed_in.small laws d t H r n a own other x is g sender_end.there turned.handed) turned.handed.packet.no_bubble stale
+      (ap has_cone turned.handed.packet.destination ∙ turned.plain) full (words lab n H)
 
   pub nothing : r.made ≡ []
   nothing = did.made ∙ ap (λ (z : List Send). (by_way lab H (now H) (way_out lab.chain a.nat) a.inside (armed H) 0 [] z).made) is_turned.sends

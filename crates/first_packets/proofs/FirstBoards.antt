@@ -9,15 +9,12 @@ use Rattle.teredo_addr.specs.Teredo.{server_in, has_cone, embedded}
 use Rattle.bubble.specs.Bubbles.{bubble_bytes}
 use Rattle.teredo_node.specs.Sends.{send}
 use Rattle.teredo_node.specs.Journal.{Entry, with_entry}
-use Rattle.peer_list.specs.Peers.{Peer, no_peer, known}
 use Rattle.qualify.specs.Turns.{turn}
-use Rattle.client_rules.specs.Bearings.{mentions}
 use Rattle.client_rules.specs.Tries.{both_bubbles}
 use Rattle.topology.specs.declared.node.Node.TheVariants.{Client as client}
 use Rattle.topology.specs.Chains.{passing}
 use Rattle.history.specs.Full.{Item, udp, item_in, Full, wire, items_of}
 use Rattle.legal.specs.Past.{now, journal}
-use Rattle.first_packets.proofs.Known.{untried}
 use Rattle.first_packets.proofs.First.{one_first, first_of_two, second_of_two, two_longer, one_open, two_open}
 use Rattle.first_packets.proofs.Deliveries.{Did}
 use Rattle.first_packets.proofs.Pair.{Pair, IsPair, setup, nat_by, elsewhere, server_elsewhere, asked_itself, asked_all}
@@ -108,7 +105,7 @@ module _ (laws : StartLaws) (p : Pair) (H : List Full) (r : Full) (start : IsSta
 
     left : Afterwards l (setup p.t p.a) (journal p.a.n H) (now H) other done first.about first.moment (p.x ∷ [])
     left = after_queued l (setup p.t p.a) (journal p.a.n H) (now H) other done first.about first.moment p.x first.queued first.packet
-        (ap (λ (k : Peer). k.waiting) (l.unlisted (mentions (journal p.a.n H).entries) (now H) other start.first.clients.sender_new.unlisted))
+        (start.first.clients.sender_ready far).nothing_waits
 
     then : Ground p (r ∷ H)
     then = ground_then laws p H r start left.address
@@ -120,11 +117,8 @@ module _ (laws : StartLaws) (p : Pair) (H : List Full) (r : Full) (start : IsSta
 
     -- the receiver may try the sender
     may : Unbarred (journal p.b.n (r ∷ H)) (now (r ∷ H)) own
-    may =
-        let new : known (mentions (journal p.b.n H).entries) (now H) own ≡ no_peer = l.unlisted (mentions (journal p.b.n H).entries)
-        (now H) own start.first.clients.receiver_new.unlisted in
-        at_same_moment (λ j m. Unbarred j m own) H r p.b.n (journal p.b.n H) (next laws p H r start).moment (receiver_stays laws p H r start)
-        (untried (now H) (known (mentions (journal p.b.n H).entries) (now H) own) (ap (λ (k : Peer). k.tries) new))
+    may = at_same_moment (λ j m. Unbarred j m own) H r p.b.n (journal p.b.n H) (next laws p H r start).moment (receiver_stays laws p H r start)
+        (start.first.clients.receiver_unbarred far)
 
     -- the sender is cone
     pub from_cone : has_cone own ≡ true → Board p H r 4 []

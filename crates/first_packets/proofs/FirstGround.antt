@@ -6,13 +6,15 @@ use Rattle.teredo_addr.specs.Teredo.{has_cone, embedded}
 use Rattle.teredo_node.specs.Sends.{send}
 use Rattle.teredo_node.specs.Journal.{Entry, with_entry}
 use Rattle.peer_list.specs.Listed.{has_room}
-use Rattle.peer_list.specs.Peers.{Peer, no_peer, known}
+use Rattle.peer_list.specs.Peers.{Peer}
+use Rattle.peer_list.specs.Judged.{is_fresh, is_barred}
 use Rattle.qualify.specs.Qualification.{qualification}
 use Rattle.client_rules.specs.Bearings.{mentions}
 use Rattle.client_rules.specs.Tries.{both_bubbles}
 use Rattle.topology.specs.declared.node.Node.TheVariants.{Client as client}
 use Rattle.history.specs.Full.{Full, wire}
 use Rattle.legal.specs.Past.{now, journal, words}
+use Rattle.first_packets.specs.MayMeet.{known_by}
 use Rattle.first_packets.proofs.Ways.{IsCalmNext}
 use Rattle.first_packets.proofs.Ends.{way_of_server}
 use Rattle.first_packets.proofs.Counted.{AreOpen}
@@ -44,9 +46,6 @@ module _ (laws : StartLaws) (p : Pair) (H : List Full) (r : Full) (start : IsSta
 
   -- THE GROUND
 
-  nobody_waits : (known (mentions (journal p.b.n H).entries) (now H) p.a.own).waiting ≡ []
-  nobody_waits = ap (λ (k : Peer). k.waiting) (l.unlisted (mentions (journal p.b.n H).entries) (now H) p.a.own start.first.clients.receiver_new.unlisted)
-
   -- the ground before
   pub ground : Ground p H
   ground = record {
@@ -56,7 +55,7 @@ module _ (laws : StartLaws) (p : Pair) (H : List Full) (r : Full) (start : IsSta
     sender_way = way_of_server l.ends (lab_in p) H p.a.n p.a.c p.a.own start.rules start.grown.1 start.first.clients.sender start.first.clients.sender_settled;
     receiver_way = way_of_server l.ends
         (lab_in p) H p.b.n p.b.c p.b.own start.rules start.grown.1 start.first.clients.receiver start.first.clients.receiver_settled;
-    keeps_nothing = record { room = start.first.clients.receiver_new.room; waits = nobody_waits };
+    keeps_nothing = record { room = start.first.clients.receiver_ready.room; waits = start.first.clients.receiver_ready.nothing_waits };
   }
 
   -- the record leaves NATs
@@ -88,24 +87,23 @@ module _ (laws : StartLaws) (p : Pair) (H : List Full) (r : Full) (start : IsSta
 
   -- what the tables say is of the packet's own addresses
   to_sources : (P : Ip6 → Ip6 → Type 0) → P p.a.own p.b.own → P (fields_in p.x).src (fields_in p.x).dst
-  to_sources P h = subst (λ (z : Ip6). P (fields_in p.x).src z) (sym start.first.packet.destination)
-      (subst (λ (z : Ip6). P z p.b.own) (sym start.first.packet.source) h)
+  to_sources P h = subst (λ (z : Ip6). P (fields_in p.x).src z) (sym start.first.handed.packet.destination)
+      (subst (λ (z : Ip6). P z p.b.own) (sym start.first.handed.packet.source) h)
 
   its_meets : Meets (setup p.t p.a) (fields_in p.x).src (fields_in p.x).dst
   its_meets = to_sources (Meets (setup p.t p.a)) is.sender_meets
 
   its_here : IsHere (setup p.t p.a) (journal p.a.n H) (fields_in p.x).src
-  its_here = subst (IsHere (setup p.t p.a) (journal p.a.n H)) (sym start.first.packet.source)
+  its_here = subst (IsHere (setup p.t p.a) (journal p.a.n H)) (sym start.first.handed.packet.source)
       (is_here l (lab_in p) H p.a.n p.a.c p.a.own (record { grown = start.grown.1; there = (sender_end laws p H r start).there; address = ground.sender }))
 
-  -- there is room for it
-  room : has_room (mentions (journal p.a.n H).entries) (now H) (fields_in p.x).dst ≡ true
-  room = ap (has_room (mentions (journal p.a.n H).entries) (now H)) start.first.packet.destination ∙ start.first.clients.sender_new.room
+  -- what the sender knows of the receiver
+  known_is : known_by H p.a.n (fields_in p.x).dst ≡ known_by H p.a.n p.b.own
+  known_is = ap (known_by H p.a.n) start.first.handed.packet.destination
 
-  -- the receiver is new to the sender
-  unknown : known (mentions (journal p.a.n H).entries) (now H) (fields_in p.x).dst ≡ no_peer
-  unknown = ap (known (mentions (journal p.a.n H).entries) (now H)) start.first.packet.destination
-      ∙ l.unlisted (mentions (journal p.a.n H).entries) (now H) p.b.own start.first.clients.sender_new.unlisted
+  -- which isn't fresh
+  stale : is_fresh (now H) (known_by H p.a.n (fields_in p.x).dst) ≡ false
+  stale = ap (is_fresh (now H)) known_is ∙ start.first.clients.stale
 
   -- where the receiver is cone the packet goes at once
   pub record SendsItself : Type 0 where
@@ -114,9 +112,9 @@ module _ (laws : StartLaws) (p : Pair) (H : List Full) (r : Full) (start : IsSta
 
   pub at_once : has_cone p.b.own ≡ true → SendsItself
   at_once cone =
-      let goes = goes_at_once (setup p.t p.a) (journal p.a.n H) (now H) p.x start.first.packet.packet its_meets its_here (small laws p H r start)
-      start.first.packet.no_bubble unknown (ap has_cone start.first.packet.destination ∙ cone) (words (lab_in p) p.a.n H) in
-      record { fate_is = goes.sent_cone; sends = goes.sends ∙ ap (λ (z : Ip6). send (embedded z) p.x ∷ []) start.first.packet.destination }
+      let goes = goes_at_once (setup p.t p.a) (journal p.a.n H) (now H) p.x start.first.handed.packet.packet its_meets its_here (small laws p H r start)
+      start.first.handed.packet.no_bubble stale (ap has_cone start.first.handed.packet.destination ∙ cone) (words (lab_in p) p.a.n H) in
+      record { fate_is = goes.sent_cone; sends = goes.sends ∙ ap (λ (z : Ip6). send (embedded z) p.x ∷ []) start.first.handed.packet.destination }
 
   -- where it isn't the packet waits, and bubbles go out
   pub record WaitsFirst : Type 0 where
@@ -128,13 +126,17 @@ module _ (laws : StartLaws) (p : Pair) (H : List Full) (r : Full) (start : IsSta
 
   pub waits : has_cone p.b.own ≡ false → WaitsFirst
   waits far =
-      let w = waits_here (setup p.t p.a) (journal p.a.n H) (now H) p.x start.first.packet.packet its_meets its_here (small laws p H r start)
-      start.first.packet.no_bubble unknown (ap has_cone start.first.packet.destination ∙ far) room (words (lab_in p) p.a.n H) in
+      let dst = start.first.handed.packet.destination in
+      let ready = start.first.clients.sender_ready far in
+      let w = waits_here (setup p.t p.a) (journal p.a.n H) (now H) p.x start.first.handed.packet.packet its_meets its_here (small laws p H r start)
+      start.first.handed.packet.no_bubble stale (ap has_cone dst ∙ far) (ap (has_room (mentions (journal p.a.n H).entries) (now H)) dst ∙ ready.room)
+      (ap (λ (k : Peer). k.waiting) known_is ∙ ready.nothing_waits) (ap (is_barred (now H)) known_is ∙ start.first.clients.sender_unbarred far)
+      (words (lab_in p) p.a.n H) in
       record {
         queued = w.queued;
-        sends = w.sends ∙ ap (λ (z : Ip6). both_bubbles (has_cone z) z (fields_in p.x).dst) start.first.packet.source
-            ∙ ap (λ (z : Ip6). both_bubbles (has_cone p.a.own) p.a.own z) start.first.packet.destination;
+        sends = w.sends ∙ ap (λ (z : Ip6). both_bubbles (has_cone z) z (fields_in p.x).dst) start.first.handed.packet.source
+            ∙ ap (λ (z : Ip6). both_bubbles (has_cone p.a.own) p.a.own z) start.first.handed.packet.destination;
         packet = w.packet;
-        about = w.about ∙ ap (λ (z : Ip6). Some z) start.first.packet.destination;
+        about = w.about ∙ ap (λ (z : Ip6). Some z) start.first.handed.packet.destination;
         moment = w.moment;
       }

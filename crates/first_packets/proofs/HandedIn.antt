@@ -3,6 +3,7 @@ use Rattle.std.proofs.Common.{◌≡◌, ◌≤◌, ◌+◌, ℕ, true, false, L
 use Rattle.std.specs.Prelude.{unwrap_or, nat_lt}
 use Rattle.std.proofs.lemmas.Bool.Decides.{nat_tests}
 use Rattle.td_base.specs.Bytes.{IsBytes}
+use Rattle.td_base.specs.declared.ipv6.Ip6.{Ip6}
 use Rattle.ipv6_packet.specs.declared.header.TheConstants.{HEADER, PACKET_MAX}
 use Rattle.ipv6_packet.specs.Reads.{is_big, is_packet, fields_in}
 use Rattle.ipv6_packet.specs.Laws.{PacketIsSpelled, PacketIsBytes}
@@ -22,6 +23,7 @@ use Rattle.legal.specs.Next.{no_ep}
 use Rattle.legal.specs.Legal.{Grown}
 use Rattle.legal.specs.Laws.{EachIsOfItsEvent}
 use Rattle.legal.proofs.MadeInputs.{entry_input}
+use Rattle.first_packets.specs.FirstPacket.{IsHandedIn}
 use Rattle.first_packets.proofs.Deliveries.{Did, Handing, handing}
 use Rattle.first_packets.proofs.Ground.{PacketLaws}
 
@@ -44,14 +46,13 @@ not_big spelled long x bytes one short =
       at_most n m most same le = grind (arith, nat_tests)
 
 -- node n is the client a
-module _ (laws : StartLaws) (d : Draws) (t : TopologyState) (H : List Full) (r : Full) (n : ℕ) (a : ClientNode) (x : List ℕ) (entry : Entry)
-    (is : IsTopology t) (g : Grown (flat_lab d t) (r ∷ H))
-    (there : node_at t n ≡ Some (client a)) (node : r.node ≡ Some n) (did_it : r.entry ≡ Some entry) (packet_in : entry.input ≡ given x) where
+module _ (laws : StartLaws) (d : Draws) (t : TopologyState) (H : List Full) (r : Full) (n : ℕ) (a : ClientNode) (own other : Ip6) (x : List ℕ)
+    (is : IsTopology t) (g : Grown (flat_lab d t) (r ∷ H)) (there : node_at t n ≡ Some (client a)) (handed : IsHandedIn r n own other x) where
   abbrev lab : Lab
   lab = flat_lab d t
 
   pub hand : Handing lab H r n x
-  hand = handing r entry x did_it packet_in lab H n (laws.packets.kinds lab H r g.0) node
+  hand = handing r handed.entry x handed.did handed.packet_in lab H n (laws.packets.kinds lab H r g.0) handed.node
 
   abbrev e : Entry
   e = entry_of lab H (now H) n no_ep (given x) (client a)
@@ -69,5 +70,5 @@ module _ (laws : StartLaws) (d : Draws) (t : TopologyState) (H : List Full) (r :
       ((laws.packets.ends.made lab (r ∷ H) is g).journals n) in
       subst IsMadeInput (entry_input lab H (now H) n no_ep (given x) (client a)) all.0
 
-  pub small : is_packet x ≡ true → length x ≤ PACKET_MAX → is_big (fields_in x) ≡ false
-  small = not_big laws.spelled laws.long x bytes
+  pub small : is_big (fields_in x) ≡ false
+  small = not_big laws.spelled laws.long x bytes handed.packet.packet handed.packet.short

@@ -1,5 +1,7 @@
 -- What a client that meets another does with its host's packet for it.
-use Rattle.std.proofs.Common.{◌≡◌, not, ℕ, Bool, true, false, List, ◌∷◌, Some, refl, sym, ap, subst, ◌∙◌, []}
+use Rattle.std.proofs.Common.{◌≡◌, ◌||◌, not, ℕ, Bool, true, false, List, ◌∷◌, length, Some, refl, sym, ap, subst, ◌∙◌, []}
+use Rattle.std.specs.Prelude.{nat_le}
+use Rattle.std.specs.List.{list_any}
 use Rattle.td_base.specs.declared.ipv6.Ip6.{Ip6}
 use Rattle.td_base.specs.declared.reach.Policy.{Policy}
 use Rattle.td_base.specs.Reach.{is_usable, is_global}
@@ -11,9 +13,10 @@ use Rattle.bubble.specs.Bubbles.{is_bubble}
 use Rattle.teredo_node.specs.declared.fate.Fate.TheVariants as fate
 use Rattle.teredo_node.specs.Sends.{send}
 use Rattle.teredo_node.specs.Journal.{given, Entry, Journal, Words}
-use Rattle.peer_list.specs.Listed.{has_room}
-use Rattle.peer_list.specs.Peers.{no_peer, known}
-use Rattle.peer_list.specs.Judged.{is_fresh, is_spent, is_barred, is_full}
+use Rattle.peer_list.specs.Listed.{is_younger, has_room}
+use Rattle.peer_list.specs.Peers.{Peer, known}
+use Rattle.peer_list.specs.declared.limits.TheConstants.{TRY_GAP_MS, WAITING_MAX}
+use Rattle.peer_list.specs.Judged.{young_tries, is_fresh, is_spent, is_barred, is_full}
 use Rattle.qualify.specs.declared.settings.Settings.{Settings}
 use Rattle.qualify.specs.Qualification.{qualification}
 use Rattle.qualify.specs.Solicitations.{own_address}
@@ -23,14 +26,13 @@ use Rattle.client_rules.specs.Tries.{both_bubbles, tries_by, try_sends}
 use Rattle.client_rules.specs.Transmission.{queues}
 use Rattle.client_rules.specs.Journals.{entry, client_out}
 use Rattle.first_packets.proofs.Bools.{right_fails, both_hold, not_so}
-use Rattle.first_packets.proofs.Known.{untried, unspent}
 use Rattle.first_packets.proofs.Given.{IsForPeer, sent_at_once, waits_for_it, no_room_for_it, given_here, entry_given}
 use Rattle.first_packets.proofs.Meeting.{Meets, IsHere, address_is}
 
--- x, from this client to the peer, which it doesn't list
+-- x, from this client to the peer, which isn't fresh
 module _ (s : Settings) (j : Journal) (n : ℕ) (x : List ℕ) (is_one : is_packet x ≡ true) (meets : Meets s (fields_in x).src (fields_in x).dst)
-    (here : IsHere s j (fields_in x).src)
-    (small : is_big (fields_in x) ≡ false) (plain : is_bubble (fields_in x) ≡ false) (new : known (mentions j.entries) n (fields_in x).dst ≡ no_peer) where
+    (here : IsHere s j (fields_in x).src) (small : is_big (fields_in x) ≡ false) (plain : is_bubble (fields_in x) ≡ false)
+    (stale : is_fresh n (known (mentions j.entries) n (fields_in x).dst) ≡ false) where
   abbrev to : Ip6
   to = (fields_in x).dst
 
@@ -44,13 +46,22 @@ module _ (s : Settings) (j : Journal) (n : ℕ) (x : List ℕ) (is_one : is_pack
       (ap (λ (z : Policy). is_usable z (embedded to)) meets.strict ∙ meets.usable)
       (ap (λ (z : Policy). is_global z (server_in to)) meets.strict ∙ meets.server_global)
 
-  stale : is_fresh n no_peer ≡ false
-  unfolding is_fresh
-  stale = refl
+  -- what is known of it
+  abbrev peer : Peer
+  peer = known (mentions j.entries) n to
 
-  not_full : is_full no_peer ≡ false
+  -- where nothing waits, more may
+  not_full : peer.waiting ≡ [] → is_full peer ≡ false
   unfolding is_full
-  not_full = refl
+  not_full none = ap (λ (ws : List (List ℕ)). nat_le WAITING_MAX (length ws)) none
+
+  -- one that isn't barred isn't spent
+  unspent : is_barred n peer ≡ false → is_spent n peer ≡ false
+  unfolding is_barred
+  unspent may = by (is_spent n peer) (list_any (is_younger TRY_GAP_MS n) (young_tries n peer)) may where
+    by : (b c : Bool) → (b || c) ≡ false → b ≡ false
+    by false c e = refl
+    by true c e = e
 
   -- what the lines see of the packet
   for_peer : IsForPeer (given_here s j n x is_one)
@@ -64,7 +75,7 @@ module _ (s : Settings) (j : Journal) (n : ℕ) (x : List ℕ) (is_one : is_pack
     no_bubble = plain;
     for_another = ap (same_ip6 to) from_here ∙ meets.other;
     reachable = right_fails (is_teredo to) (not (is_reachable s.policy to)) (not_so (is_reachable s.policy to) reachable);
-    stale = ap (is_fresh n) new ∙ stale;
+    stale = stale;
   }
 
   -- it goes at once to a cone peer
@@ -96,18 +107,14 @@ module _ (s : Settings) (j : Journal) (n : ℕ) (x : List ℕ) (is_one : is_pack
       ap (λ (b : Bool). tries_by b s (own_address (qualification s j)) to w) meets.teredo
       ∙ ap (λ (z : Ip6). both_bubbles (has_cone z) z to) from_here
 
-  -- nothing bars it
-  unbarred : is_barred n (known (mentions j.entries) n to) ≡ false
-  unbarred = ap (is_barred n) new ∙ untried n no_peer refl
-
   -- by the table
-  pub waits_here : has_cone to ≡ false → has_room (mentions j.entries) n to ≡ true → (w : Words) → Waits (client_out s j n x w)
+  pub waits_here : has_cone to ≡ false → has_room (mentions j.entries) n to ≡ true → peer.waiting ≡ [] → is_barred n peer ≡ false → (w : Words)
+      → Waits (client_out s j n x w)
   unfolding standing_at
-  waits_here cone room w =
+  waits_here cone room none may w =
       subst Waits (sym (entry_given s j n x is_one w fate.Queued
-      (waits_for_it (given_here s j n x is_one) for_peer (right_fails (is_teredo to) (has_cone to) cone) room (ap (is_spent n) new ∙ unspent n no_peer refl)
-      (ap is_full new ∙ not_full))))
-      (subst (λ (b : Bool). Waits (entry n (given x) (Some x) (Some to) w (queues b s (standing_at s j n to) to w))) (sym unbarred)
+      (waits_for_it (given_here s j n x is_one) for_peer (right_fails (is_teredo to) (has_cone to) cone) room (unspent may) (not_full none))))
+      (subst (λ (b : Bool). Waits (entry n (given x) (Some x) (Some to) w (queues b s (standing_at s j n to) to w))) (sym may)
       (record { queued = refl; sends = tries_are w; packet = refl; about = refl; moment = refl }))
 
   -- it is dropped where there is no room for the peer

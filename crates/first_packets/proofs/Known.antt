@@ -79,8 +79,3 @@ barred_by n ms = nat_le TRIES_MAX (length (filter (is_younger LISTED_MS n) ms)) 
 pub untried : (n : ℕ) (peer : Peer) → peer.tries ≡ [] → is_barred n peer ≡ false
 unfolding is_barred is_spent
 untried n peer none = ap (barred_by n) none
-
--- nor is it spent
-pub unspent : (n : ℕ) (peer : Peer) → peer.tries ≡ [] → is_spent n peer ≡ false
-unfolding is_spent
-unspent n peer none = ap (λ (ms : List ℕ). nat_le TRIES_MAX (length (filter (is_younger LISTED_MS n) ms))) none

@@ -1,4 +1,4 @@
--- What the premise of a first packet says: two settled clients, and the record in which the packet is handed in.
+-- What the premise of a packet says: two settled clients, and the record in which the packet is handed in.
 use Rattle.std.proofs.Common.{◌≡◌, false, List, [], ◌∷◌, sym}
 use Rattle.td_base.specs.Bytes.{IsBytes}
 use Rattle.ipv6_packet.specs.Reads.{is_big, fields_in}
@@ -11,7 +11,7 @@ use Rattle.legal.specs.Emit.{entry_of}
 use Rattle.legal.specs.Next.{no_ep}
 use Rattle.legal.specs.Legal.{Grown}
 use Rattle.first_packets.specs.Schedules.{HasNoFault, AreFresh}
-use Rattle.first_packets.specs.FirstPacket.{IsFirstPacket}
+use Rattle.first_packets.specs.MayMeet.{IsNextPacket}
 use Rattle.first_packets.proofs.Ends.{IsEnd, is_end}
 use Rattle.first_packets.proofs.Deliveries.{Did, Handing}
 use Rattle.first_packets.proofs.HandedIn as handed_in
@@ -31,7 +31,7 @@ sound_first r (q ∷ later) fresh = sound_first r later fresh.1
 pub record IsStart (p : Pair) (H : List Full) (r : Full) : Type 0 where
   pub rules : IsTopology p.t
   pub grown : Grown (lab_in p) (r ∷ H)
-  pub first : IsFirstPacket (lab_in p) H r p.a.n p.b.n p.a.c p.b.c p.a.own p.b.own p.x
+  pub first : IsNextPacket (lab_in p) H r p.a.n p.b.n p.a.c p.b.c p.a.own p.b.own p.x
   pub sound : HasNoFault r
 
 module _ (laws : StartLaws) (p : Pair) (H : List Full) (r : Full) (start : IsStart p H r) where
@@ -47,25 +47,21 @@ module _ (laws : StartLaws) (p : Pair) (H : List Full) (r : Full) (start : IsSta
 
   -- the host handed the packet in
   pub hand : Handing (lab_in p) H r p.a.n p.x
-  hand = handed_in.hand laws p.d p.t H r p.a.n p.a.c p.x start.first.entry start.rules start.grown sender_end.there start.first.node start.first.did
-      start.first.packet_in
+  hand = handed_in.hand laws p.d p.t H r p.a.n p.a.c p.a.own p.b.own p.x start.rules start.grown sender_end.there start.first.handed
 
   -- what the sender did
   abbrev pub e : Entry
   e = entry_of (lab_in p) H (now H) p.a.n no_ep (given p.x) (client p.a.c)
 
   pub did : Did (lab_in p) H r p.a.n (client p.a.c) e
-  did = handed_in.did laws p.d p.t H r p.a.n p.a.c p.x start.first.entry start.rules start.grown sender_end.there start.first.node start.first.did
-      start.first.packet_in
+  did = handed_in.did laws p.d p.t H r p.a.n p.a.c p.a.own p.b.own p.x start.rules start.grown sender_end.there start.first.handed
 
   -- the packet is bytes
   bytes : IsBytes p.x
-  bytes = handed_in.bytes laws p.d p.t H r p.a.n p.a.c p.x start.first.entry start.rules start.grown sender_end.there start.first.node start.first.did
-      start.first.packet_in
+  bytes = handed_in.bytes laws p.d p.t H r p.a.n p.a.c p.a.own p.b.own p.x start.rules start.grown sender_end.there start.first.handed
 
   pub small : is_big (fields_in p.x) ≡ false
-  small = handed_in.small laws p.d p.t H r p.a.n p.a.c p.x start.first.entry start.rules start.grown sender_end.there start.first.node start.first.did
-      start.first.packet_in start.first.packet.packet start.first.packet.short
+  small = handed_in.small laws p.d p.t H r p.a.n p.a.c p.a.own p.b.own p.x start.rules start.grown sender_end.there start.first.handed
 
   -- what holds of the two
   pub is_pair : IsPair p
@@ -78,7 +74,7 @@ module _ (laws : StartLaws) (p : Pair) (H : List Full) (r : Full) (start : IsSta
     receiver_kind = start.first.clients.receiver_settled.kind;
     sender_cone = start.first.clients.sender_settled.cone;
     receiver_cone = start.first.clients.receiver_settled.cone;
-    packet = start.first.packet;
+    packet = start.first.handed.packet;
     small = small;
     bytes = bytes;
     sender_meets = meets l.ends.apart p.t start.rules p.a p.b sender_end receiver_end start.first.clients.apart;

@@ -1,4 +1,5 @@
 pub mod Schedules
 pub mod FirstPacket
+pub mod MayMeet
 pub mod Throughout
 pub mod NoRoom

@@ -6,7 +6,7 @@ use Rattle.td_base.specs.declared.endpoint.Ep.{Ep}
 use Rattle.teredo_addr.specs.Teredo.{is_teredo, has_cone}
 use Rattle.bubble.specs.PacketsIn.{source_in}
 use Rattle.teredo_node.specs.declared.fate.Fate.TheVariants as fate
-use Rattle.teredo_node.specs.Journal.{arrived, given, Entry}
+use Rattle.teredo_node.specs.Journal.{arrived, Entry}
 use Rattle.peer_list.specs.Listed.{has_room}
 use Rattle.client_rules.specs.Bearings.{mentions}
 use Rattle.topology.specs.Rows.{TopologyState}
@@ -21,7 +21,7 @@ use Rattle.legal.specs.Legal.{Grown}
 use Rattle.legal.specs.Actors.{IsActOf}
 use Rattle.settled.specs.Settled.{IsSettled}
 use Rattle.first_packets.specs.Schedules.{AreFresh}
-use Rattle.first_packets.specs.FirstPacket.{GoesBetween, GetsThrough}
+use Rattle.first_packets.specs.FirstPacket.{IsHandedIn, GetsThrough}
 
 -- at a moment client n has no room for the peer, so it doesn't list it
 abbrev pub HasNoRoom : List Full → ℕ → ℕ → Ip6 → Type 0
@@ -38,11 +38,7 @@ pub record IsTurnedAway (lab : Lab) (H : List Full) (r : Full) (n m : ℕ) (a b 
   pub receiver_settled : IsSettled lab H m b other
   pub full : HasNoRoom H n (now H) other
   pub plain : has_cone other ≡ false
-  pub node : r.node ≡ Some n
-  pub entry : Entry
-  pub did : r.entry ≡ Some entry
-  pub packet_in : entry.input ≡ given x
-  pub packet : GoesBetween own other x
+  pub handed : IsHandedIn r n own other x
 
 -- the sender drops it, and it draws nothing: so no delivery can follow, none is left out, and it doesn't get through
 pub record IsDropped (H : List Full) (r : Full) (m : ℕ) (own other : Ip6) (x : List ℕ) (later : List Full) : Type 0 where

@@ -1,10 +1,11 @@
 //! What becomes of first packets.
+ghost use Rattle.first_packets.specs.MayMeet.{EachNextPacketArrives, StrangersMayMeet};
 ghost use Rattle.first_packets.specs.Throughout.{EachFirstPacketArrives, HistoriesCarryFirstPackets, ScenariosCarryFirstPackets};
 ghost use Rattle.first_packets.specs.NoRoom.{FullSenderDrops, FullReceiverHearsNothing};
 
-// What becomes of a first packet between two settled clients, with room for it and without.
+// What becomes of a packet between two settled clients, with room for it and without.
 fn between_settled_clients()
-    ensures { EachFirstPacketArrives × FullSenderDrops }
+    ensures { EachNextPacketArrives × FullSenderDrops }
 {
     bubble::payload_is_spelled();
     bubble::bubble_reads_back();
@@ -40,11 +41,26 @@ fn between_settled_clients()
     legal::of_its_event();
 }
 
-/// A first packet is carried in every fresh schedule after it.
+/// A packet between clients that may meet is carried in every fresh schedule after it, be it the first or a later one.
+pub fn next_packet_arrives()
+    ensures { EachNextPacketArrives }
+{
+    between_settled_clients();
+}
+
+/// Strangers may meet.
+pub fn strangers_may_meet()
+    ensures { StrangersMayMeet }
+{
+    peer_list::unlisted();
+}
+
+/// So a first packet between strangers is carried.
 pub fn first_packet_arrives()
     ensures { EachFirstPacketArrives }
 {
-    between_settled_clients();
+    next_packet_arrives();
+    strangers_may_meet();
 }
 
 /// So it is at each record of every history.

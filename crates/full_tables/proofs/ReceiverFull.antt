@@ -194,11 +194,7 @@ module _ (laws : FillLaws) (H : List Full) (filled : IsFilled fills_a both_settl
         receiver_settled = a_is_settled laws H filled;
         sender_unlisted = a_is_unlisted laws H filled;
         receiver_unlisted = b_is_unlisted laws H filled;
-        node = refl;
-        entry = e laws H filled;
-        did = refl;
-        packet_in = input_is laws H filled;
-        packet = goes_to_a;
+        handed = record { node = refl; entry = e laws H filled; did = refl; packet_in = input_is laws H filled; packet = goes_to_a };
       };
       sender_has_room = b_has_room laws H filled;
       receiver_is_full = a_lists_many laws H filled;

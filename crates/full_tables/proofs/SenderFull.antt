@@ -21,7 +21,7 @@ use Rattle.legal.specs.Emit.{by_way, entry_of}
 use Rattle.legal.specs.Next.{numbered, plain, acts, no_ep, data_packet, hands_in}
 use Rattle.legal.specs.Legal.{Follows}
 use Rattle.first_packets.specs.Schedules.{is_fault, HasNoFault, IsComplete}
-use Rattle.first_packets.specs.FirstPacket.{GoesBetween}
+use Rattle.first_packets.specs.FirstPacket.{GoesBetween, IsHandedIn}
 use Rattle.first_packets.specs.NoRoom.{IsTurnedAway, IsDropped, FullSenderDrops}
 use Rattle.full_tables.specs.FullTables.{Trial, FullSenderFails}
 use Rattle.full_tables.proofs.PeerAddresses.{are_bytes}
@@ -81,6 +81,10 @@ module _ (laws : FillLaws) (H : List Full) (filled : IsFilled fills_a both_settl
   sound = subst (λ (o : Option ℕ). list_any is_fault (by_way lab H (now H) (1 ∷ []) a.inside o 0 [] e.step.sends).made ≡ false) (sym filled.armed)
       (none_fails lab H (now H) (1 ∷ []) a.inside 0 [] e.step.sends)
 
+  -- the host of a handed it in
+  handed_in : IsHandedIn r 3 a_own b_own to_b
+  handed_in = record { node = refl; entry = e; did = refl; packet_in = input_is; packet = goes_to_b }
+
   turned : IsTurnedAway lab H r 3 4 a b a_own b_own to_b
   turned = record {
     sender = refl;
@@ -90,11 +94,7 @@ module _ (laws : FillLaws) (H : List Full) (filled : IsFilled fills_a both_settl
     receiver_settled = b_is_settled laws H filled;
     full = a_has_no_room laws H filled;
     plain = b_is_plain;
-    node = refl;
-    entry = e;
-    did = refl;
-    packet_in = input_is;
-    packet = goes_to_b;
+    handed = handed_in;
   }
 
   module _ (drops : FullSenderDrops) where
@@ -139,11 +139,7 @@ module _ (laws : FillLaws) (H : List Full) (filled : IsFilled fills_a both_settl
         receiver_settled = b_is_settled laws H filled;
         sender_unlisted = b_is_unlisted laws H filled;
         receiver_unlisted = a_is_unlisted laws H filled;
-        node = refl;
-        entry = e;
-        did = refl;
-        packet_in = input_is;
-        packet = goes_to_b;
+        handed = handed_in;
       };
       sender_is_full = a_lists_many laws H filled;
       receiver_has_room = b_has_room laws H filled;

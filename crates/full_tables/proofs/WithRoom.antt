@@ -12,9 +12,5 @@ first_with_room t first room room_too = record {
     sender_new = record { unlisted = first.sender_unlisted; room = room };
     receiver_new = record { unlisted = first.receiver_unlisted; room = room_too };
   };
-  node = first.node;
-  entry = first.entry;
-  did = first.did;
-  packet_in = first.packet_in;
-  packet = first.packet;
+  handed = first.handed;
 }

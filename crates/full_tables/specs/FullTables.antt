@@ -2,7 +2,6 @@
 -- all else is as the theorem on first packets wants it. So neither premise on room can be left out.
 use Rattle.std.specs.Prelude.{◌≡◌, ◌≢◌, ℕ, true, false, List, ◌∷◌, ◌++◌, length, Some}
 use Rattle.td_base.specs.declared.ipv6.Ip6.{Ip6}
-use Rattle.teredo_node.specs.Journal.{given, Entry}
 use Rattle.peer_list.specs.Listed.{is_listed, listed, has_room}
 use Rattle.client_rules.specs.Bearings.{mentions}
 use Rattle.topology.specs.declared.client_node.ClientNode.{ClientNode}
@@ -15,7 +14,7 @@ use Rattle.legal.specs.Past.{now, journal}
 use Rattle.legal.specs.Legal.{Grown}
 use Rattle.settled.specs.Settled.{IsSettled}
 use Rattle.first_packets.specs.Schedules.{AreFresh, IsComplete}
-use Rattle.first_packets.specs.FirstPacket.{GoesBetween, IsFirstPacket, GetsThrough}
+use Rattle.first_packets.specs.FirstPacket.{IsHandedIn, IsFirstPacket, GetsThrough}
 
 -- A TRIAL
 
@@ -67,11 +66,7 @@ pub record IsFirstButForRoom (t : Trial) : Type 0 where
   pub receiver_settled : IsSettled (trial_lab t) t.before t.m t.b t.other
   pub sender_unlisted : IsUnlisted t t.n t.other
   pub receiver_unlisted : IsUnlisted t t.m t.own
-  pub node : t.handing.node ≡ Some t.n
-  pub entry : Entry
-  pub did : t.handing.entry ≡ Some entry
-  pub packet_in : entry.input ≡ given t.x
-  pub packet : GoesBetween t.own t.other t.x
+  pub handed : IsHandedIn t.handing t.n t.own t.other t.x
 
 -- so with room at both it is a first packet
 abbrev pub IsFirstWithRoom : Type 0

@@ -1,5 +1,5 @@
 use Rattle.first_packets.proofs.HandedIn.{StartLaws}
-use Rattle.first_packets.proofs.Start.{each_arrives}
+use Rattle.first_packets.proofs.Start.{each_next}
 use Rattle.first_packets.proofs.Dropped as dropped
 use Rattle.first_packets.proofs.laws.between_settled_clients.Goals as goal
 
@@ -42,4 +42,4 @@ returns c =
       spelled = c.packet_is_spelled.ensures;
       long = c.packet_is_bytes.ensures;
     } in
-    (each_arrives laws, dropped.full_sender_drops laws)
+    (each_next laws, dropped.full_sender_drops laws)
