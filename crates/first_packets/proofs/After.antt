@@ -1,5 +1,5 @@
 -- A record that follows at once: what it leaves of the ground.
-use Rattle.std.proofs.Common.{◌≡◌, ℕ, true, List, ◌∷◌, Option, Some, sym, ap, ◌∙◌, []}
+use Rattle.std.proofs.Common.{◌≡◌, ℕ, Bool, true, List, ◌∷◌, Option, Some, sym, ap, ◌∙◌, []}
 use Rattle.std.specs.Prelude.{unwrap_or}
 use Rattle.std.proofs.lemmas.Bool.{false≢true}
 use Rattle.td_base.specs.declared.endpoint.Ep.{Ep}
@@ -31,7 +31,8 @@ use Rattle.first_packets.proofs.Stages.{is_client_node}
 -- a record q after H, of which the ground holds
 pub record IsRecord (p : Pair) (H : List Full) (q : Full) : Type 0 where
   pub pair : IsPair p
-  pub ground : Ground p H
+  pub trusted : Bool
+  pub ground : Ground p H trusted
   pub follows : Follows (lab_in p) H q
   pub sound : HasNoFault q
 
@@ -48,7 +49,10 @@ module _ (laws : PacketLaws) (p : Pair) (H : List Full) (q : Full) (r : IsRecord
   abbrev is : IsPair p
   is = r.pair
 
-  abbrev ground : Ground p H
+  abbrev trusted : Bool
+  trusted = r.trusted
+
+  abbrev ground : Ground p H trusted
   ground = r.ground
 
   abbrev follows : Follows (lab_in p) H q
@@ -83,11 +87,12 @@ module _ (laws : PacketLaws) (p : Pair) (H : List Full) (q : Full) (r : IsRecord
       → client_address lab (q ∷ H) s.n s.c ≡ client_address lab H s.n s.c
   same_after s e later stays = ap (λ (j : Journal). (qualification (setup p.t s) j).address) later ∙ stays
 
-  pub keeps_waiting : (j : Journal) → q.moment ≡ now H → journal b.n (q ∷ H) ≡ j → Keeps j (now H) a.own [] → Keeps (journal b.n (q ∷ H)) (now (q ∷ H)) a.own []
-  keeps_waiting j moment later keeps = at_same_moment (λ z m. Keeps z m a.own []) H q b.n j moment later keeps
+  pub keeps_waiting : (j : Journal) (t : Bool) → q.moment ≡ now H → journal b.n (q ∷ H) ≡ j → Keeps j (now H) a.own [] t
+      → Keeps (journal b.n (q ∷ H)) (now (q ∷ H)) a.own [] t
+  keeps_waiting j t moment later keeps = at_same_moment (λ z m. Keeps z m a.own [] t) H q b.n j moment later keeps
 
-  pub still_sends : q.moment ≡ now H → journal a.n (q ∷ H) ≡ journal a.n H → Sends p H → Sends p (q ∷ H)
-  still_sends moment same sends = at_same_moment (λ z m. Keeps z m b.own (p.x ∷ [])) H q a.n (journal a.n H) moment same sends
+  pub still_sends : (back : Bool) → q.moment ≡ now H → journal a.n (q ∷ H) ≡ journal a.n H → Sends p H back → Sends p (q ∷ H) back
+  still_sends back moment same sends = at_same_moment (λ z m. Keeps z m b.own (p.x ∷ []) back) H q a.n (journal a.n H) moment same sends
 
   -- ways in stay
   pub on_way : (k : ℕ) (src : Ep) (port : ℕ) (inside : Ep) → IsCalmNext lab H q → Way lab H k src port inside → Way lab (q ∷ H) k src port inside
@@ -99,17 +104,19 @@ module _ (laws : PacketLaws) (p : Pair) (H : List Full) (q : Full) (r : IsRecord
       (set_up_past lab H s.c.nat ground.grown) src port s.c.inside).1 way
 
   -- the receiver has its address and room
-  pub receiver_knows : Knows (setup p.t b) (journal b.n H) (now H) b.own a.own
+  pub receiver_knows : Knows (setup p.t b) (journal b.n H) (now H) b.own a.own trusted
   receiver_knows = record {
     here = is_here laws lab H b.n b.c b.own (record { grown = ground.grown; there = is.receiver.there; address = ground.receiver });
     room = ground.keeps_nothing.room;
+    trust = ground.keeps_nothing.trust;
   }
 
   -- so has the sender
-  pub sender_knows : Sends p H → Knows (setup p.t a) (journal a.n H) (now H) a.own b.own
-  sender_knows sends = record {
+  pub sender_knows : (back : Bool) → Sends p H back → Knows (setup p.t a) (journal a.n H) (now H) a.own b.own back
+  sender_knows back sends = record {
     here = is_here laws lab H a.n a.c a.own (record { grown = ground.grown; there = is.sender.there; address = ground.sender });
     room = sends.room;
+    trust = sends.trust;
   }
 
   -- who sends nothing makes no entry

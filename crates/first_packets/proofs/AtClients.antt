@@ -1,26 +1,30 @@
 -- What one of the two clients keeps for the other after it heard of it, and its address.
-use Rattle.std.proofs.Common.{◌≡◌, ℕ, true, false, List, [], ◌∷◌, ◌++◌, Option, Some, refl, sym, ap, subst, ◌∙◌}
+use Rattle.std.proofs.Common.{◌≡◌, ℕ, Bool, true, false, List, [], ◌∷◌, ◌++◌, Option, Some, None, refl, sym, ap, subst, ◌∙◌}
 use Rattle.std.specs.Prelude.{option_to_list}
+use Rattle.std.specs.Option.{option_or}
+use Rattle.td_base.specs.declared.endpoint.Ep.{Ep}
 use Rattle.td_base.specs.declared.ipv6.Ip6.{Ip6}
+use Rattle.td_base.specs.Ep.{same_ep-self}
+use Rattle.teredo_addr.specs.Teredo.{embedded}
 use Rattle.teredo_node.specs.declared.fate.Fate.{Fate}
 use Rattle.teredo_node.specs.declared.fate.Fate.TheVariants as fate
-use Rattle.teredo_node.specs.Journal.{Entry, Journal, with_entry, is_changed}
+use Rattle.teredo_node.specs.Journal.{arrived, Entry, Journal, with_entry, is_changed}
 use Rattle.peer_list.specs.Peers.{known}
+use Rattle.peer_list.specs.Judged.{is_ep, is_trusted_at}
 use Rattle.qualify.specs.declared.settings.Settings.{Settings}
 use Rattle.qualify.specs.Turns.{turn, says_nothing}
 use Rattle.qualify.specs.Qualification.{qualification}
-use Rattle.client_rules.specs.Bearings.{bearing_of, mentions}
+use Rattle.client_rules.specs.Bearings.{source_of, bearing_of, mentions}
 use Rattle.history.specs.Full.{Full}
 use Rattle.legal.specs.Past.{now, journal}
-use Rattle.client_rules.specs.Handed.{HandingRule, rule1, rule3}
-use Rattle.first_packets.proofs.Known.{Touches, room_after, waits_after, tried_after, untried}
-use Rattle.first_packets.proofs.Received.{HearsBubble, by_rule1, by_rule3}
+use Rattle.first_packets.proofs.Known.{Touches, room_after, waits_after, trusted_after, trusted_before, tried_after, untried}
+use Rattle.first_packets.proofs.Received.{hears_by, hands_by}
 use Rattle.first_packets.proofs.Ground.{PacketLaws, address_stays, address_renewed, Keeps, Unbarred}
 
 module _ (laws : PacketLaws) (s : Settings) (j : Journal) (n : ℕ) (peer : Ip6) (e : Entry) (about : e.peer ≡ Some peer) (moment : e.moment ≡ n) where
-  -- the peer has room then, and these packets wait for it. The address stays
-  pub record Afterwards (waiting : List (List ℕ)) : Type 0 where
-    pub keeps : Keeps (with_entry j e) n peer waiting
+  -- the peer has room then, these packets wait for it, and it is trusted or not. The address stays
+  pub record Afterwards (waiting : List (List ℕ)) (trusted : Bool) : Type 0 where
+    pub keeps : Keeps (with_entry j e) n peer waiting trusted
     pub address : (qualification s (with_entry j e)).address ≡ (qualification s j).address
 
   -- an entry with a fate that touches, and changes no address
@@ -32,50 +36,70 @@ module _ (laws : PacketLaws) (s : Settings) (j : Journal) (n : ℕ) (peer : Ip6)
     touches = ap (λ (g : Fate). (bearing_of g e).touches) same ∙ touches;
   }
 
+  -- whether the peer is trusted where it is
+  abbrev pub trusts : List Entry → Bool
+  trusts es = is_trusted_at (embedded peer) (known (mentions es) n peer)
+
+  -- an entry that says nothing of it leaves that
+  still_trusted : (f : Fate) → e.step.fate ≡ f → Touches e n peer → (bearing_of f e).trusts ≡ None → trusts (e ∷ j.entries) ≡ trusts j.entries
+  still_trusted f same is none =
+      trusted_after laws.peers e j.entries n peer is (embedded peer) f same
+      ∙ ap (λ (o : Option Ep). is_ep (embedded peer) (option_or o (known (mentions j.entries) n peer).trusted)) none
+      ∙ trusted_before laws.peers e j.entries n peer is (embedded peer)
+
+  -- one that came from there has it trusted
+  now_trusted : (f : Fate) → e.step.fate ≡ f → Touches e n peer → (bearing_of f e).trusts ≡ Some (embedded peer) → trusts (e ∷ j.entries) ≡ true
+  now_trusted f same is there =
+      trusted_after laws.peers e j.entries n peer is (embedded peer) f same
+      ∙ ap (λ (o : Option Ep). is_ep (embedded peer) (option_or o (known (mentions j.entries) n peer).trusted)) there
+      ∙ same_ep-self (embedded peer)
+
   -- nothing waits for one that was heard
   after_hearing : (f : Fate) → e.step.fate ≡ f → (is : Touches e n peer) → turn f ≡ says_nothing
-      → (known (mentions (e ∷ j.entries)) n peer).waiting ≡ [] → Afterwards []
-  after_hearing f same is none waits = record {
-    keeps = record { room = room_after laws.peers e j.entries n peer is; waits = waits };
+      → (known (mentions (e ∷ j.entries)) n peer).waiting ≡ [] → trusts (e ∷ j.entries) ≡ true → Afterwards [] true
+  after_hearing f same is none waits trust = record {
+    keeps = record { room = room_after laws.peers e j.entries n peer is; waits = waits; trust = trust };
     address = address_stays laws.still s j e (ap turn same ∙ none);
   }
 
-  -- a bubble of the peer itself ends all waiting
-  pub after_bubble : HearsBubble e.step.fate → Afterwards []
-  after_bubble (by_rule1 f) = let is = touched fate.Rule1Bubble f refl refl in after_hearing fate.Rule1Bubble f is refl
-      (waits_after laws.peers e j.entries n peer is fate.Rule1Bubble f)
-  after_bubble (by_rule3 f) = let is = touched fate.Rule3Bubble f refl refl in after_hearing fate.Rule3Bubble f is refl
-      (waits_after laws.peers e j.entries n peer is fate.Rule3Bubble f)
+  -- a bubble of the peer itself ends all waiting, and has it trusted
+  pub after_bubble : (x : List ℕ) → e.input ≡ arrived (embedded peer) x → (t : Bool) → trusts j.entries ≡ t → e.step.fate ≡ hears_by t → Afterwards [] true
+  after_bubble x came true trust f = let is = touched fate.Rule1Bubble f refl refl in after_hearing fate.Rule1Bubble f is refl
+      (waits_after laws.peers e j.entries n peer is fate.Rule1Bubble f) (still_trusted fate.Rule1Bubble f is refl ∙ trust)
+  after_bubble x came false trust f = let is = touched fate.Rule3Bubble f refl refl in after_hearing fate.Rule3Bubble f is refl
+      (waits_after laws.peers e j.entries n peer is fate.Rule3Bubble f) (now_trusted fate.Rule3Bubble f is (ap source_of came))
 
   -- and all tries
-  pub unbarred_then : HearsBubble e.step.fate → Unbarred (with_entry j e) n peer
-  unbarred_then (by_rule1 f) = let is = touched fate.Rule1Bubble f refl refl in untried n (known (mentions (e ∷ j.entries)) n peer)
+  pub unbarred_then : (t : Bool) → e.step.fate ≡ hears_by t → Unbarred (with_entry j e) n peer
+  unbarred_then true f = let is = touched fate.Rule1Bubble f refl refl in untried n (known (mentions (e ∷ j.entries)) n peer)
       (tried_after laws.peers e j.entries n peer is fate.Rule1Bubble f)
-  unbarred_then (by_rule3 f) = let is = touched fate.Rule3Bubble f refl refl in untried n (known (mentions (e ∷ j.entries)) n peer)
+  unbarred_then false f = let is = touched fate.Rule3Bubble f refl refl in untried n (known (mentions (e ∷ j.entries)) n peer)
       (tried_after laws.peers e j.entries n peer is fate.Rule3Bubble f)
 
   -- so does another packet of its
-  pub after_packet : HandingRule e.step.fate → Afterwards []
-  after_packet (rule1 f) = let is = touched fate.Rule1 f refl refl in after_hearing fate.Rule1 f is refl
-      (waits_after laws.peers e j.entries n peer is fate.Rule1 f)
-  after_packet (rule3 f) = let is = touched fate.Rule3 f refl refl in after_hearing fate.Rule3 f is refl
-      (waits_after laws.peers e j.entries n peer is fate.Rule3 f)
+  pub after_packet : (x : List ℕ) → e.input ≡ arrived (embedded peer) x → (t : Bool) → trusts j.entries ≡ t → e.step.fate ≡ hands_by t → Afterwards [] true
+  after_packet x came true trust f = let is = touched fate.Rule1 f refl refl in after_hearing fate.Rule1 f is refl
+      (waits_after laws.peers e j.entries n peer is fate.Rule1 f) (still_trusted fate.Rule1 f is refl ∙ trust)
+  after_packet x came false trust f = let is = touched fate.Rule3 f refl refl in after_hearing fate.Rule3 f is refl
+      (waits_after laws.peers e j.entries n peer is fate.Rule3 f) (now_trusted fate.Rule3 f is (ap source_of came))
 
   -- an indirect bubble leaves what waits
-  pub after_indirect : e.step.fate ≡ fate.Indirect → (known (mentions j.entries) n peer).waiting ≡ [] → Afterwards []
-  after_indirect f none =
+  pub after_indirect : (t : Bool) → trusts j.entries ≡ t → e.step.fate ≡ fate.Indirect → (known (mentions j.entries) n peer).waiting ≡ [] → Afterwards [] t
+  after_indirect t trust f none =
       let is = touched fate.Indirect f refl refl in
       record {
         keeps = record {
           room = room_after laws.peers e j.entries n peer is;
           waits = waits_after laws.peers e j.entries n peer is fate.Indirect f
               ∙ ap (λ (ws : List (List ℕ)). ws ++ []) none;
+          trust = still_trusted fate.Indirect f is refl ∙ trust;
         };
         address = address_renewed laws.ends.address.turns s j e f;
       }
 
   -- a packet that is queued waits
-  pub after_queued : (x : List ℕ) → e.step.fate ≡ fate.Queued → e.packet ≡ Some x → (known (mentions j.entries) n peer).waiting ≡ [] → Afterwards (x ∷ [])
+  pub after_queued : (x : List ℕ) → e.step.fate ≡ fate.Queued → e.packet ≡ Some x → (known (mentions j.entries) n peer).waiting ≡ []
+      → Afterwards (x ∷ []) (trusts j.entries)
   after_queued x f packet none =
       let is = touched fate.Queued f refl refl in
       record {
@@ -83,6 +107,7 @@ module _ (laws : PacketLaws) (s : Settings) (j : Journal) (n : ℕ) (peer : Ip6)
           room = room_after laws.peers e j.entries n peer is;
           waits = waits_after laws.peers e j.entries n peer is fate.Queued f ∙ ap (λ (ws : List (List ℕ)). ws ++ option_to_list e.packet) none
               ∙ ap (λ (o : Option (List ℕ)). option_to_list o) packet;
+          trust = still_trusted fate.Queued f is refl;
         };
         address = address_stays laws.still s j e (ap turn f);
       }

@@ -163,6 +163,12 @@ module _ (laws : PacketLaws) (p : Pair) (is : IsPair p) where
   row_is : (dst : Ep) → server_row s (side_at (server row) dst) (embedded own) (bubble_bytes own other) ≡ step
   row_is dst = goes_to_client s (side_at (server row) dst) (embedded own) (bubble_bytes own other) v reads.payload.read for_own_client
 
+  -- with this fate
+  pub passes_by : (H : List Full) (q : Full) (dst : Ep)
+      → Did (lab_in p) H q p.b.c.server (server row) (entry_of (lab_in p) H (now H) p.b.c.server dst (arrived (embedded own) (bubble_bytes own other))
+      (server row)) → q.fate ≡ fate.ForwardOrigin
+  passes_by H q dst did = did.fate ∙ ap (λ (z : Step). z.fate) (row_is dst)
+
   -- goes onto the wire
   pub passes_on : (H : List Full) (q : Full) (dst : Ep)
       → Did (lab_in p) H q p.b.c.server (server row) (entry_of (lab_in p) H (now H) p.b.c.server dst (arrived (embedded own) (bubble_bytes own other))

@@ -2,13 +2,17 @@
 use Rattle.std.proofs.Common.{◌≡◌, ◌⊎◌, inl, inr, ◌≤◌, ◌<◌, ◌+◌, ℕ, zero, suc, Bool, true, false, List, [], ◌∷◌, ◌++◌, length, Some, refl, sym, ap, subst, ◌∙◌}
 use Rattle.std.proofs.Common.{arith}
 use Rattle.std.proofs.lemmas.Bool.{false≢true}
+use Rattle.std.proofs.lemmas.List.{append-nil}
 use Rattle.std.proofs.lemmas.Option.{slice_get_within}
 use Rattle.teredo_addr.specs.Teredo.{embedded}
 use Rattle.bubble.specs.Bubbles.{bubble_bytes}
+use Rattle.teredo_node.specs.declared.fate.Fate.{Fate}
 use Rattle.history.specs.Full.{Item, Full, wire, items_of}
 use Rattle.legal.specs.Legal.{Follows, Grown}
 use Rattle.first_packets.specs.Schedules.{DeliversFresh, AreFresh, IsComplete}
 use Rattle.first_packets.specs.FirstPacket.{HasArrived}
+use Rattle.first_packets.specs.Courses.{fates_of}
+use Rattle.first_packets.proofs.Course.{Ahead, ahead_of_step, ahead_of_shut, ahead_of_bubble}
 use Rattle.first_packets.proofs.Counted.{AreOpen, without_first, with_next, without_last}
 use Rattle.first_packets.proofs.Deliveries.{Delivery, to_node, to_nobody, delivery}
 use Rattle.first_packets.proofs.Pair.{Pair, IsPair, lab_in}
@@ -17,7 +21,7 @@ use Rattle.first_packets.proofs.Ground.{PacketLaws, Ground}
 use Rattle.first_packets.proofs.Stages.{At, Stage, asks, tells, answers, releases_it, has_come, Next, goes_on, ends, no_more}
 use Rattle.first_packets.proofs.After.{IsRecord}
 use Rattle.first_packets.proofs.Steps.{at_server, at_receiver, at_sender, at_end}
-use Rattle.first_packets.proofs.Direct.{at_once, stage_stays}
+use Rattle.first_packets.proofs.Direct.{HasFate, shut_out, let_in_there, at_once, stage_stays, is_early}
 
 -- as long as the packet hasn't come, the latest entry is open
 abbrev pub is_open : ℕ → Bool
@@ -29,7 +33,7 @@ abbrev pub bit : Bool → ℕ
 bit true = 1
 bit false = 0
 
-module _ (p : Pair) (before : List Full) (r : Full) (total : ℕ) where
+module _ (p : Pair) (before : List Full) (r : Full) (total : ℕ) (back : Bool) (P : List Fate → Type 0) where
   abbrev pub after : List Full → List Full
   after later = later ++ r ∷ before
 
@@ -37,18 +41,20 @@ module _ (p : Pair) (before : List Full) (r : Full) (total : ℕ) where
   pub record Board (later : List Full) : Type 0 where
     pub last : ℕ
     pub direct : Bool
+    pub trusted : Bool
     pub k : ℕ
-    pub ground : Ground p (after later)
+    pub ground : Ground p (after later) trusted
     pub long : length (wire (after later)) ≡ suc last
     pub are : AreOpen r.first last direct (is_open k) later
-    pub stage : Stage p (after later) last later k
+    pub stage : Stage p (after later) back last later k
     pub bubble : direct ≡ true → At (after later) r.first (embedded p.a.own) (embedded p.b.own) (bubble_bytes p.a.own p.b.own)
     pub sum : length later + (bit direct + k) ≡ total
+    pub ahead : Ahead P back later direct trusted k
 
   -- what is delivered is on the wire
   is_in : (H : List Full) (q : Full) (k : ℕ) → Delivery (lab_in p) H q k → k < length (wire H)
   is_in H q k (to_node n x a at goes there calm did) = slice_get_within (wire H) k x at
-  is_in H q k (to_nobody x at none calm made moment stay) = slice_get_within (wire H) k x at
+  is_in H q k (to_nobody x at none shut calm made moment stay) = slice_get_within (wire H) k x at
 
   within : (k n last : ℕ) → k < n → n ≡ suc last → k ≤ last
   within k n last less same = omega (arith, less, same)
@@ -58,8 +64,8 @@ module _ (p : Pair) (before : List Full) (r : Full) (total : ℕ) where
     abbrev H : List Full
     H = after later
 
-    is_record : IsRecord p H q
-    is_record = record { pair = is; ground = board.ground; follows = follows; sound = fresh.sound }
+    abbrev is_record : IsRecord p H q
+    is_record = record { pair = is; trusted = board.trusted; ground = board.ground; follows = follows; sound = fresh.sound }
 
     came : Delivery (lab_in p) H q fresh.number
     came = delivery (lab_in p) H q fresh.number (laws.kinds (lab_in p) H q follows) fresh.delivered
@@ -74,28 +80,36 @@ module _ (p : Pair) (before : List Full) (r : Full) (total : ℕ) where
         record {
           last = board.last;
           direct = false;
+          trusted = passes.then;
           k = board.k;
           ground = passes.ground_then;
           long = ap (λ (xs : List Item). length xs) (no_more H q passes.made) ∙ board.long;
           are = without_first r.first board.last q later (is_open board.k) open_so (fresh.delivered ∙ ap (λ (n : ℕ). Some n) same);
-          stage = stage_stays laws p H q is_record board.last board.k later passes board.stage;
+          stage = stage_stays laws p H q is_record back board.last board.k later passes board.stage;
           bubble = λ spent. absurd (false≢true spent);
           sum = omega (arith, sum);
-        }
+          ahead = spent passes.then passes.fate_is (subst (λ (b : Bool). Ahead P back later b board.trusted board.k) direct board.ahead);
+        } where
+          spent : (t : Bool) → HasFate laws p H q is_record t → Ahead P back later true board.trusted board.k → Ahead P back (q ∷ later) false t board.k
+          spent _ (shut_out same shut) ahead =
+              ahead_of_shut P back q later board.trusted board.k same (is_early laws p H q is_record back board.last board.k later shut board.stage) ahead
+          spent _ (let_in_there same) ahead = ahead_of_bubble P back q later board.trusted board.k same ahead
 
     -- the latest entry
-    advance : (k : ℕ) → is_open k ≡ true → Stage p H board.last later k → Delivery (lab_in p) H q board.last → Next p H q board.last later k
-    advance _ opened (asks at sends may back) d = at_server laws p H q is_record board.last later d board.long at sends may back
-    advance _ opened (tells at sends may back) d = at_receiver laws p H q is_record board.last later d board.long at sends may back
-    advance _ opened (answers at sends back forth) d = at_sender laws p H q is_record board.last later d board.long at sends back forth
-    advance _ opened (releases_it at forth) d = at_end laws p H q is_record board.last later d board.long at forth
-    advance _ opened (has_come come) d = absurd (false≢true opened)
+    advance : (k : ℕ) → is_open k ≡ true → Stage p H back board.last later k → Delivery (lab_in p) H q board.last
+        → Next p H q back board.trusted board.last later k
+    advance _ opened (asks at sends may inward) d = at_server laws p H q is_record back board.last later d board.long at sends may inward
+    advance _ opened (tells at sends may inward) d = at_receiver laws p H q is_record back board.last later d board.long at sends may inward
+    advance _ opened (answers at sends inward forth) d = at_sender laws p H q is_record back board.last later d board.long at sends inward forth
+    advance _ opened (releases_it at forth) d = at_end laws p H q is_record back board.last later d board.long at forth
+    advance _ opened (has_come come forth) d = absurd (false≢true opened)
 
     moves : (k : ℕ) → AreOpen r.first board.last board.direct (is_open k) later → length later + (bit board.direct + k) ≡ total
-        → q.delivered ≡ Some board.last → Next p H q board.last later k → Board (q ∷ later)
-    moves _ are sum by (goes_on k ground long stage) = record {
+        → Ahead P back later board.direct board.trusted k → q.delivered ≡ Some board.last → Next p H q back board.trusted board.last later k → Board (q ∷ later)
+    moves _ are sum ahead by (goes_on k f ground long stage) = record {
       last = suc board.last;
       direct = board.direct;
+      trusted = board.trusted;
       k = suc k;
       ground = ground;
       long = long;
@@ -103,10 +117,12 @@ module _ (p : Pair) (before : List Full) (r : Full) (total : ℕ) where
       stage = stage;
       bubble = λ direct. still_there (wire H) (items_of q) r.first _ (board.bubble direct);
       sum = omega (arith, sum);
+      ahead = ahead_of_step P back q later board.direct board.trusted (suc k) f ahead;
     }
-    moves _ are sum by (ends ground long stage) = record {
+    moves _ are sum ahead by (ends f ground long stage) = record {
       last = board.last;
       direct = board.direct;
+      trusted = true;
       k = 0;
       ground = ground;
       long = long;
@@ -114,6 +130,7 @@ module _ (p : Pair) (before : List Full) (r : Full) (total : ℕ) where
       stage = stage;
       bubble = λ direct. still_there (wire H) (items_of q) r.first _ (board.bubble direct);
       sum = omega (arith, sum);
+      ahead = ahead_of_step P back q later board.direct board.trusted 0 f ahead;
     }
 
     pub next_board : Board (q ∷ later)
@@ -121,7 +138,7 @@ module _ (p : Pair) (before : List Full) (r : Full) (total : ℕ) where
         (within fresh.number (length (wire H)) board.last (is_in H q fresh.number came) board.long) fresh.once) where
           by : ((board.direct ≡ true) × (fresh.number ≡ r.first)) ⊎ ((is_open board.k ≡ true) × (fresh.number ≡ board.last)) → Board (q ∷ later)
           by (inl e) = spends e.0 e.1
-          by (inr e) = moves board.k board.are board.sum (fresh.delivered ∙ ap (λ (n : ℕ). Some n) e.1)
+          by (inr e) = moves board.k board.are board.sum board.ahead (fresh.delivered ∙ ap (λ (n : ℕ). Some n) e.1)
               (advance board.k e.0 board.stage (subst (Delivery (lab_in p) H q) e.1 came))
 
   -- so is the whole schedule
@@ -133,18 +150,36 @@ module _ (p : Pair) (before : List Full) (r : Full) (total : ℕ) where
   pub few : (later : List Full) → Board later → length later ≤ total
   few later board = let sum = board.sum in omega (arith, sum)
 
-  -- where no entry is left, the packet has come
-  pub arrives : (later : List Full) → Board later → IsComplete before r later → HasArrived p.b.n p.x later
-  arrives later board all = by board.k board.stage closed where
+  -- where no entry is left
+  module _ (later : List Full) (board : Board later) (all : IsComplete before r later) where
     closed : is_open board.k ≡ true → ⊥
     closed opened =
         let it = board.are.last_is opened in
         let long = board.long in
         false≢true (sym it.1 ∙ all board.last it.0 (omega (arith, long)))
 
-    by : (k : ℕ) → Stage p (after later) board.last later k → (is_open k ≡ true → ⊥) → HasArrived p.b.n p.x later
-    by _ (asks at sends may back) shut = absurd (shut refl)
-    by _ (tells at sends may back) shut = absurd (shut refl)
-    by _ (answers at sends back forth) shut = absurd (shut refl)
-    by _ (releases_it at forth) shut = absurd (shut refl)
-    by _ (has_come come) shut = come
+    -- so the packet has come
+    pub arrives : HasArrived p.b.n p.x later
+    arrives = by board.k board.stage closed where
+      by : (k : ℕ) → Stage p (after later) back board.last later k → (is_open k ≡ true → ⊥) → HasArrived p.b.n p.x later
+      by _ (asks at sends may inward) shut = absurd (shut refl)
+      by _ (tells at sends may inward) shut = absurd (shut refl)
+      by _ (answers at sends inward forth) shut = absurd (shut refl)
+      by _ (releases_it at forth) shut = absurd (shut refl)
+      by _ (has_come come forth) shut = come
+
+    -- the direct bubble isn't on its way
+    spent_too : board.direct ≡ true → ⊥
+    spent_too direct =
+        let it = board.are.first_is direct in
+        let low = it.0 in
+        let long = board.long in
+        false≢true (sym it.1 ∙ all r.first (omega arith) (omega (arith, low, long)))
+
+    -- and nothing follows
+    pub taken : P (fates_of later)
+    taken = subst P (append-nil (fates_of later)) (by board.k board.direct closed spent_too board.ahead) where
+      by : (k : ℕ) (direct : Bool) → (is_open k ≡ true → ⊥) → (direct ≡ true → ⊥) → Ahead P back later direct board.trusted k → P (fates_of later ++ [])
+      by zero false shut none ahead = ahead
+      by zero true shut none ahead = absurd (none refl)
+      by (suc k) direct shut none ahead = absurd (shut refl)

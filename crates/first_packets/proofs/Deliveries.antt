@@ -14,7 +14,8 @@ use Rattle.history.specs.declared.act.Act.TheVariants as act
 use Rattle.history.specs.Full.{Item, udp, six, Full, wire}
 use Rattle.legal.specs.Lab.{Lab}
 use Rattle.legal.specs.Past.{now, is_node, is_restart, with_entries, new_journal, journal}
-use Rattle.legal.specs.Emit.{Route, reaches, route, entry_of, sendings, handed_by}
+use Rattle.teredo_node.specs.declared.fate.Fate.TheVariants as fate
+use Rattle.legal.specs.Emit.{Route, reaches, closed, route, entry_of, sendings, handed_by}
 use Rattle.legal.specs.Next.{Numbered, plain, acts, no_ep, dst_of, input_of}
 use Rattle.legal.specs.Kinds as kinds
 use Rattle.legal.specs.Kinds.{Delivers, Hands, Quiet, shut, strayed, missing, none_left, settled, uncopied, hosted, restarted, forgot, faulted, Kind, quiet}
@@ -65,12 +66,17 @@ pub data Delivery (lab : Lab) (H : List Full) (q : Full) (number : ℕ) : Type 0
   to_node : (n : ℕ) (x : Item) (a : Node) → slice_get (wire H) number ≡ Some x → route lab H (now H) x ≡ reaches n a → node_at lab.topology n ≡ Some a
       → is_calm q.asked ≡ true
       → Did lab H q n a (entry_of lab H (now H) n (dst_of x) (input_of x) a) → Delivery lab H q number
-  to_nobody : (x : Item) → slice_get (wire H) number ≡ Some x → ((n : ℕ) (a : Node) → route lab H (now H) x ≡ reaches n a → ⊥) → is_calm q.asked ≡ true
+  to_nobody : (x : Item) → slice_get (wire H) number ≡ Some x → ((n : ℕ) (a : Node) → route lab H (now H) x ≡ reaches n a → ⊥)
+      → ((k : ℕ) → route lab H (now H) x ≡ closed k → q.fate ≡ fate.NatClosed) → is_calm q.asked ≡ true
       → q.made ≡ [] → q.moment ≡ now H → ((n : ℕ) → journal n (q ∷ H) ≡ journal n H) → Delivery lab H q number
 
-abbrev is_reached : Route → Bool
+abbrev pub is_reached : Route → Bool
 is_reached (reaches n a) = true
 is_reached _ = false
+
+abbrev is_closed : Route → Bool
+is_closed (closed k) = true
+is_closed _ = false
 
 both : (b : Bool) (j : Journal) → cond b j j ≡ j
 both true j = refl
@@ -97,10 +103,12 @@ of_quiet : (lab : Lab) (H : List Full) (q : Full) (number : ℕ) → Quiet lab H
     → Delivery lab H q number
 of_quiet lab H q number (kinds.passed ms asked before is) none made by = undelivered q number (ap (λ (z : Full). z.delivered) is) by
 of_quiet lab H q number (shut k j x delivers at goes is) none made by = to_nobody x (same_entry H q k number x (ap (λ (z : Full). z.delivered) is) by at)
-    (λ n a e. false≢true (ap is_reached (sym goes ∙ e))) (delivers_calm H q.asked k delivers) made (ap (λ (z : Full). z.moment) is)
+    (λ n a e. false≢true (ap is_reached (sym goes ∙ e))) (λ i e. ap (λ (z : Full). z.fate) is)
+    (delivers_calm H q.asked k delivers) made (ap (λ (z : Full). z.moment) is)
     (same_journals H q none (ap (λ (z : Full). is_restart z.act) is))
 of_quiet lab H q number (strayed k x delivers at goes is) none made by = to_nobody x (same_entry H q k number x (ap (λ (z : Full). z.delivered) is) by at)
-    (λ n a e. false≢true (ap is_reached (sym goes ∙ e))) (delivers_calm H q.asked k delivers) made (ap (λ (z : Full). z.moment) is)
+    (λ n a e. false≢true (ap is_reached (sym goes ∙ e))) (λ i e. absurd (false≢true (ap is_closed (sym goes ∙ e))))
+    (delivers_calm H q.asked k delivers) made (ap (λ (z : Full). z.moment) is)
     (same_journals H q none (ap (λ (z : Full). is_restart z.act) is))
 of_quiet lab H q number (missing k delivers at is) none made by = undelivered q number (ap (λ (z : Full). z.delivered) is) by
 of_quiet lab H q number (none_left asked left is) none made by = undelivered q number (ap (λ (z : Full). z.delivered) is) by

@@ -1,29 +1,34 @@
 -- The direct bubble: let in or not, the stage stays.
-use Rattle.std.proofs.Common.{◌≡◌, inr, ℕ, List, ◌∷◌, Option, Some, None, refl, sym, ap, subst, ◌∙◌, []}
+use Rattle.std.proofs.Common.{◌≡◌, inr, ℕ, Bool, true, List, ◌∷◌, Option, Some, None, refl, sym, ap, subst, ◌∙◌, []}
+use Rattle.std.specs.Prelude.{is_some, slice_get}
+use Rattle.std.proofs.lemmas.Bool.{false≢true}
 use Rattle.td_base.specs.declared.endpoint.Ep.{Ep}
 use Rattle.teredo_addr.specs.Teredo.{embedded}
 use Rattle.bubble.specs.Bubbles.{bubble_of, bubble_bytes}
 use Rattle.nat_kinds.specs.Entering.{lets_in}
+use Rattle.teredo_node.specs.declared.fate.Fate.TheVariants as fate
 use Rattle.teredo_node.specs.Sends.{releases}
 use Rattle.teredo_node.specs.Journal.{arrived, Entry, with_entry}
 use Rattle.topology.specs.declared.node.Node.TheVariants.{Client as client}
 use Rattle.history.specs.Full.{Item, udp, Full, wire, items_of}
 use Rattle.legal.specs.Lab.{Lab}
 use Rattle.legal.specs.Past.{now, journal, nat_history, words}
-use Rattle.legal.specs.Emit.{reaches, route, entry_of}
+use Rattle.legal.specs.Emit.{closed, route, entry_of}
 use Rattle.legal.proofs.NatPasts.{set_up_past}
 use Rattle.first_packets.proofs.Ways.{IsCalmNext, held_port}
 use Rattle.first_packets.proofs.Reaching.{to_client, to_none}
-use Rattle.first_packets.proofs.Deliveries.{Delivery, to_node, to_nobody}
+use Rattle.first_packets.proofs.Deliveries.{Delivery, to_node, to_nobody, is_reached}
+use Rattle.first_packets.proofs.Received.{hears_by}
+use Rattle.first_packets.proofs.Course.{may_be_shut}
 use Rattle.first_packets.proofs.Meeting.{hears_bubble}
 use Rattle.first_packets.proofs.Pair.{Side, Pair, IsPair, lab_in, setup, nat_by}
 use Rattle.first_packets.proofs.Lists.{still_there}
 use Rattle.first_packets.proofs.Ground.{PacketLaws, other_journal, Unbarred, Ground, ground_on}
 use Rattle.first_packets.proofs.AtServer.{reads}
 use Rattle.first_packets.proofs.AtClients.{after_bubble, unbarred_then, at_same_moment}
-use Rattle.first_packets.proofs.Stages.{At, MayTry, Stage, asks, tells, answers, releases_it, has_come, Arrival}
+use Rattle.first_packets.proofs.Stages.{At, MayTry, Forth, Stage, asks, tells, answers, releases_it, has_come, Arrival}
 use Rattle.first_packets.proofs.Stages.{same_item, arrival, bubble_small, same_inside}
-use Rattle.first_packets.proofs.After.{IsRecord, two_nodes, next_is, same_address, same_after, keeps_waiting, still_sends, on_way, receiver_knows, made_none}
+use Rattle.first_packets.proofs.After.{IsRecord, two_nodes, next_is, same_address, same_after, keeps_waiting, still_sends, on_way, let_in, receiver_knows, made_none}
 
 module _ (laws : PacketLaws) (p : Pair) (H : List Full) (q : Full) (r : IsRecord p H q) where
   abbrev lab : Lab
@@ -38,12 +43,22 @@ module _ (laws : PacketLaws) (p : Pair) (H : List Full) (q : Full) (r : IsRecord
   abbrev is : IsPair p
   is = r.pair
 
-  abbrev ground : Ground p H
+  abbrev trusted : Bool
+  trusted = r.trusted
+
+  abbrev ground : Ground p H trusted
   ground = r.ground
+
+  -- where the receiver's NAT is closed to the sender it is shut out. Else it is heard, and the sender trusted
+  pub data HasFate : (then : Bool) → Type 0 where
+    shut_out : q.fate ≡ fate.NatClosed → (Forth p H → ⊥) → HasFate trusted
+    let_in_there : q.fate ≡ hears_by trusted → HasFate true
 
   -- what it leaves
   pub record Passes : Type 0 where
-    pub ground_then : Ground p (q ∷ H)
+    pub then : Bool
+    pub fate_is : HasFate then
+    pub ground_then : Ground p (q ∷ H) then
     pub made : q.made ≡ []
     pub next : IsCalmNext lab H q
     pub sender_stays : journal a.n (q ∷ H) ≡ journal a.n H
@@ -55,19 +70,23 @@ module _ (laws : PacketLaws) (p : Pair) (H : List Full) (q : Full) (r : IsRecord
       let x = bubble_bytes a.own b.own in
       let e : Entry = entry_of lab H (now H) b.n (embedded b.own) (arrived (embedded a.own) x) (client b.c) in
       let bubble = reads laws p is in
-      let heard = hears_bubble (setup p.t b) (journal b.n H) (now H) (bubble_of a.own b.own) is.receiver_meets (receiver_knows laws p H q r)
+      let heard = hears_bubble (setup p.t b) (journal b.n H) (now H) (bubble_of a.own b.own) is.receiver_meets trusted (receiver_knows laws p H q r)
       (bubble_small a.own b.own) x bubble.payload bubble.bubble (words lab b.n H) in
       let next = next_is laws p H q r came.calm came.did.moment in
-      let left = after_bubble laws (setup p.t b) (journal b.n H) (now H) a.own e heard.about heard.moment heard.hears in
+      let left = after_bubble laws (setup p.t b) (journal b.n H) (now H) a.own e heard.about heard.moment x heard.came trusted ground.keeps_nothing.trust
+      heard.hears in
       let ja = other_journal laws.frame lab H q b.n a.n came.did.node (λ other. two_nodes laws p H q r (sym other)) in
       record {
-        ground_then = ground_on laws p H q next ground (same_address laws p H q r a ja, same_after laws p H q r b e came.did.later left.address)
-            (keeps_waiting laws p H q r (with_entry (journal b.n H) e) next.moment came.did.later left.keeps);
+        then = true;
+        fate_is = let_in_there (came.did.fate ∙ heard.hears);
+        ground_then = ground_on laws p H q next trusted true ground
+            (same_address laws p H q r a ja, same_after laws p H q r b e came.did.later left.address)
+            (keeps_waiting laws p H q r (with_entry (journal b.n H) e) true next.moment came.did.later left.keeps);
         made = made_none laws p H q r b e came.did (heard.sends ∙ ap (releases (embedded a.own)) ground.keeps_nothing.waits);
         next = next;
         sender_stays = ja;
         may_try = λ _. at_same_moment (λ z m. Unbarred z m a.own) H q b.n (with_entry (journal b.n H) e) next.moment came.did.later
-            (unbarred_then laws (setup p.t b) (journal b.n H) (now H) a.own e heard.about heard.moment heard.hears);
+            (unbarred_then laws (setup p.t b) (journal b.n H) (now H) a.own e heard.about heard.moment trusted heard.hears);
       }
 
   -- at its own endpoint nobody else is let in
@@ -95,15 +114,26 @@ module _ (laws : PacketLaws) (p : Pair) (H : List Full) (q : Full) (r : IsRecord
     x : List ℕ
     x = bubble_bytes a.own b.own
 
+    -- its NAT is closed to it
+    closes : lets_in (nat_by p.t b) (nat_history lab b.c.nat H) (now H) (embedded a.own) (embedded b.own).port ≡ None → (y : Item)
+        → slice_get (wire H) k ≡ Some y → route lab H (now H) y ≡ closed b.c.nat
+    closes none y there = subst (λ (z : Item). route lab H (now H) z ≡ closed b.c.nat)
+        (same_item H k (udp (embedded a.own) (embedded b.own) x) y at there)
+        (to_none laws.routes p.d p.t is.rules H b.n b.c b.own is.receiver (embedded a.own) x none)
+
+    -- so there is no way in
+    no_way : lets_in (nat_by p.t b) (nat_history lab b.c.nat H) (now H) (embedded a.own) (embedded b.own).port ≡ None → Forth p H → ⊥
+    no_way none forth = false≢true (ap (λ (o : Option Ep). is_some o) (sym none ∙ let_in laws p H q r b (embedded a.own) (embedded b.own).port forth))
+
     shut : Delivery lab H q k → lets_in (nat_by p.t b) (nat_history lab b.c.nat H) (now H) (embedded a.own) (embedded b.own).port ≡ None → Passes
-    shut (to_node n y v there goes is_there calm did) none =
-        absurd (to_none laws.routes p.d p.t is.rules H b.n b.c b.own is.receiver (embedded a.own) x n v is_there none
-        (subst (λ (z : Item). route lab H (now H) z ≡ reaches n v) (same_item H k y (udp (embedded a.own) (embedded b.own) x) there at) goes))
-    shut (to_nobody y there nowhere calm made moment stay) none =
+    shut (to_node n y v there goes is_there calm did) none = absurd (false≢true (ap is_reached (sym (closes none y there) ∙ goes)))
+    shut (to_nobody y there nowhere closed_so calm made moment stay) none =
         let next = next_is laws p H q r calm moment in
         record {
-          ground_then = ground_on laws p H q next ground (same_address laws p H q r a (stay a.n), same_address laws p H q r b (stay b.n))
-              (keeps_waiting laws p H q r (journal b.n H) moment (stay b.n) ground.keeps_nothing);
+          then = trusted;
+          fate_is = shut_out (closed_so b.c.nat (closes none y there)) (no_way none);
+          ground_then = ground_on laws p H q next trusted trusted ground (same_address laws p H q r a (stay a.n), same_address laws p H q r b (stay b.n))
+              (keeps_waiting laws p H q r (journal b.n H) trusted moment (stay b.n) ground.keeps_nothing);
           made = made;
           next = next;
           sender_stays = stay a.n;
@@ -123,17 +153,26 @@ module _ (laws : PacketLaws) (p : Pair) (H : List Full) (q : Full) (r : IsRecord
         }))
 
   -- the stage stays
-  pub stage_stays : (last k : ℕ) (later : List Full) → Passes → Stage p H last later k → Stage p (q ∷ H) last (q ∷ later) k
-  stage_stays last k later passes (asks at sends may back) =
-      asks (still_there (wire H) (items_of q) last _ at) (still_sends laws p H q r passes.next.moment passes.sender_stays sends)
-      (passes.may_try may) (on_way laws p H q r a.c.nat (embedded b.own) (embedded a.own).port a.c.inside passes.next back)
-  stage_stays last k later passes (tells at sends may back) =
-      tells (still_there (wire H) (items_of q) last _ at) (still_sends laws p H q r passes.next.moment passes.sender_stays sends)
-      (passes.may_try may) (on_way laws p H q r a.c.nat (embedded b.own) (embedded a.own).port a.c.inside passes.next back)
-  stage_stays last k later passes (answers at sends back forth) =
-      answers (still_there (wire H) (items_of q) last _ at) (still_sends laws p H q r passes.next.moment passes.sender_stays sends)
-      (on_way laws p H q r a.c.nat (embedded b.own) (embedded a.own).port a.c.inside passes.next back)
+  pub stage_stays : (back : Bool) (last k : ℕ) (later : List Full) → Passes → Stage p H back last later k → Stage p (q ∷ H) back last (q ∷ later) k
+  stage_stays back last k later passes (asks at sends may inward) =
+      asks (still_there (wire H) (items_of q) last _ at) (still_sends laws p H q r back passes.next.moment passes.sender_stays sends)
+      (passes.may_try may) (on_way laws p H q r a.c.nat (embedded b.own) (embedded a.own).port a.c.inside passes.next inward)
+  stage_stays back last k later passes (tells at sends may inward) =
+      tells (still_there (wire H) (items_of q) last _ at) (still_sends laws p H q r back passes.next.moment passes.sender_stays sends)
+      (passes.may_try may) (on_way laws p H q r a.c.nat (embedded b.own) (embedded a.own).port a.c.inside passes.next inward)
+  stage_stays back last k later passes (answers at sends inward forth) =
+      answers (still_there (wire H) (items_of q) last _ at) (still_sends laws p H q r back passes.next.moment passes.sender_stays sends)
+      (on_way laws p H q r a.c.nat (embedded b.own) (embedded a.own).port a.c.inside passes.next inward)
       (on_way laws p H q r b.c.nat (embedded a.own) (embedded b.own).port b.c.inside passes.next forth)
-  stage_stays last k later passes (releases_it at forth) = releases_it (still_there (wire H) (items_of q) last _ at)
+  stage_stays back last k later passes (releases_it at forth) = releases_it (still_there (wire H) (items_of q) last _ at)
       (on_way laws p H q r b.c.nat (embedded a.own) (embedded b.own).port b.c.inside passes.next forth)
-  stage_stays last k later passes (has_come come) = has_come (inr come)
+  stage_stays back last k later passes (has_come come forth) = has_come (inr come)
+      (on_way laws p H q r b.c.nat (embedded a.own) (embedded b.own).port b.c.inside passes.next forth)
+
+  -- the receiver's NAT can be closed to the sender before it answered alone
+  pub is_early : (back : Bool) (last k : ℕ) (later : List Full) → (Forth p H → ⊥) → Stage p H back last later k → may_be_shut k ≡ true
+  is_early back last _ later shut (asks at sends may inward) = refl
+  is_early back last _ later shut (tells at sends may inward) = refl
+  is_early back last _ later shut (answers at sends inward forth) = absurd (shut forth)
+  is_early back last _ later shut (releases_it at forth) = absurd (shut forth)
+  is_early back last _ later shut (has_come come forth) = absurd (shut forth)

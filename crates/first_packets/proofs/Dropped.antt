@@ -50,7 +50,7 @@ not_listed j n p full = by (is_listed p n j) (nat_lt (length (listed j n)) PEERS
 -- what is delivered is on the wire
 on_wire : (lab : Lab) (H : List Full) (q : Full) (k : ℕ) → Delivery lab H q k → k < length (wire H)
 on_wire lab H q k (to_node n x a at goes there calm did) = slice_get_within (wire H) k x at
-on_wire lab H q k (to_nobody x at none calm made moment stay) = slice_get_within (wire H) k x at
+on_wire lab H q k (to_nobody x at none shut calm made moment stay) = slice_get_within (wire H) k x at
 
 -- AFTER A RECORD THAT MAKES NOTHING
 

@@ -1,5 +1,5 @@
 -- Where a schedule begins: what the first record put onto the wire, by the cone bits of the two clients.
-use Rattle.std.proofs.Common.{◌≡◌, suc, Bool, true, false, List, [], ◌∷◌, ◌++◌, length, refl, ap, ◌∙◌}
+use Rattle.std.proofs.Common.{◌≡◌, ℕ, suc, Bool, true, false, List, [], ◌∷◌, ◌++◌, length, refl, ap, ◌∙◌}
 use Rattle.std.specs.Prelude.{slice_get, filter_map}
 use Rattle.std.proofs.lemmas.Bool.{false≢true}
 use Rattle.td_base.specs.declared.ipv6.Ip6.{Ip6}
@@ -7,6 +7,7 @@ use Rattle.td_base.specs.Ip4.{same_ip}
 use Rattle.td_base.specs.Ep.{server_ep}
 use Rattle.teredo_addr.specs.Teredo.{server_in, has_cone, embedded}
 use Rattle.bubble.specs.Bubbles.{bubble_bytes}
+use Rattle.teredo_node.specs.declared.fate.Fate.{Fate}
 use Rattle.teredo_node.specs.Sends.{send}
 use Rattle.teredo_node.specs.Journal.{Entry, with_entry}
 use Rattle.qualify.specs.Turns.{turn}
@@ -28,9 +29,10 @@ use Rattle.teredo_node.specs.Step.{Send}
 use Rattle.first_packets.proofs.Pair.{lab_in}
 use Rattle.first_packets.proofs.HandedIn.{StartLaws}
 use Rattle.first_packets.proofs.Premise.{IsStart, e, did, is_pair}
-use Rattle.first_packets.proofs.FirstGround.{ground, next, receiver_stays, ground_then, number, open_from, at_once, WaitsFirst, waits}
+use Rattle.first_packets.proofs.Course.{Follow}
+use Rattle.first_packets.proofs.FirstGround.{back, forth, ground, next, receiver_stays, ground_then, number, open_from, at_once, WaitsFirst, waits}
 
-module _ (laws : StartLaws) (p : Pair) (H : List Full) (r : Full) (start : IsStart p H r) where
+module _ (laws : StartLaws) (p : Pair) (H : List Full) (r : Full) (start : IsStart p H r) (P : List Fate → Type 0) where
   abbrev l : PacketLaws
   l = laws.packets
 
@@ -51,7 +53,18 @@ module _ (laws : StartLaws) (p : Pair) (H : List Full) (r : Full) (start : IsSta
   does : Did (lab_in p) H r p.a.n (client p.a.c) done
   does = did laws p H r start
 
-  before : Ground p H
+  -- whether each trusts the other
+  abbrev pub sender_trusts : Bool
+  sender_trusts = back laws p H r start
+
+  abbrev pub receiver_trusts : Bool
+  receiver_trusts = forth laws p H r start
+
+  -- what may follow
+  abbrev pub First : (direct : Bool) → ℕ → Type 0
+  First direct k = Follow P sender_trusts direct receiver_trusts k
+
+  before : Ground p H receiver_trusts
   before = ground laws p H r start
 
   gone : (xs : List Send) → done.step.sends ≡ xs → AllByRecursion (λ (x : Send). same_ip x.to.ip (nat_by p.t p.a).external ≡ false) xs
@@ -68,8 +81,8 @@ module _ (laws : StartLaws) (p : Pair) (H : List Full) (r : Full) (start : IsSta
   -- THE RECEIVER IS CONE
 
   -- the packet goes out at once
-  pub to_cone : has_cone other ≡ true → Board p H r 1 []
-  to_cone cone =
+  pub to_cone : has_cone other ≡ true → First false 1 → Board p H r 1 sender_trusts P []
+  to_cone cone ahead =
       let goes = at_once laws p H r start cone in
       let all = gone (send (embedded other) p.x ∷ []) goes.sends (other_far, tt) in
       let one = one_first H r (udp (embedded own) (embedded other) p.x) all.made in
@@ -78,6 +91,7 @@ module _ (laws : StartLaws) (p : Pair) (H : List Full) (r : Full) (start : IsSta
       record {
         last = length (wire H);
         direct = false;
+        trusted = receiver_trusts;
         k = 1;
         ground = then;
         long = one.longer;
@@ -91,6 +105,7 @@ module _ (laws : StartLaws) (p : Pair) (H : List Full) (r : Full) (start : IsSta
         });
         bubble = λ none. absurd (false≢true none);
         sum = refl;
+        ahead = ahead;
       }
 
   -- IT ISN'T
@@ -103,16 +118,17 @@ module _ (laws : StartLaws) (p : Pair) (H : List Full) (r : Full) (start : IsSta
     sends_are : (cone : Bool) → has_cone own ≡ cone → done.step.sends ≡ both_bubbles cone own other
     sends_are cone same = first.sends ∙ ap (λ (c : Bool). both_bubbles c own other) same
 
-    left : Afterwards l (setup p.t p.a) (journal p.a.n H) (now H) other done first.about first.moment (p.x ∷ [])
+    left : Afterwards l (setup p.t p.a) (journal p.a.n H) (now H) other done first.about first.moment (p.x ∷ []) sender_trusts
     left = after_queued l (setup p.t p.a) (journal p.a.n H) (now H) other done first.about first.moment p.x first.queued first.packet
         (start.first.clients.sender_ready far).nothing_waits
 
-    then : Ground p (r ∷ H)
+    then : Ground p (r ∷ H) receiver_trusts
     then = ground_then laws p H r start left.address
 
     -- the packet waits
-    sends : Keeps (journal p.a.n (r ∷ H)) (now (r ∷ H)) other (p.x ∷ [])
-    sends = at_same_moment (λ j m. Keeps j m other (p.x ∷ [])) H r p.a.n (with_entry (journal p.a.n H) done) (next laws p H r start).moment does.later
+    sends : Keeps (journal p.a.n (r ∷ H)) (now (r ∷ H)) other (p.x ∷ []) sender_trusts
+    sends = at_same_moment (λ j m. Keeps j m other (p.x ∷ []) sender_trusts)
+        H r p.a.n (with_entry (journal p.a.n H) done) (next laws p H r start).moment does.later
         left.keeps
 
     -- the receiver may try the sender
@@ -121,14 +137,15 @@ module _ (laws : StartLaws) (p : Pair) (H : List Full) (r : Full) (start : IsSta
         (start.first.clients.receiver_unbarred far)
 
     -- the sender is cone
-    pub from_cone : has_cone own ≡ true → Board p H r 4 []
-    from_cone cone =
+    pub from_cone : has_cone own ≡ true → First false 4 → Board p H r 4 sender_trusts P []
+    from_cone cone ahead =
         let all = gone (both_bubbles true own other) (sends_are true cone) (server_far, tt) in
         let one = one_first H r (udp (embedded own) (server_ep (server_in other)) (bubble_bytes own other)) all.made in
         let way = then.sender_way in
         record {
           last = length (wire H);
           direct = false;
+          trusted = receiver_trusts;
           k = 4;
           ground = then;
           long = one.longer;
@@ -142,11 +159,12 @@ module _ (laws : StartLaws) (p : Pair) (H : List Full) (r : Full) (start : IsSta
           });
           bubble = λ none. absurd (false≢true none);
           sum = refl;
+          ahead = ahead;
         }
 
     -- neither is
-    pub with_both : has_cone own ≡ false → Board p H r 5 []
-    with_both plain =
+    pub with_both : has_cone own ≡ false → First true 4 → Board p H r 5 sender_trusts P []
+    with_both plain ahead =
         let all = gone (both_bubbles false own other) (sends_are false plain) (other_far, (server_far, tt)) in
         let direct : Item = udp (embedded own) (embedded other) (bubble_bytes own other) in
         let indirect : Item = udp (embedded own) (server_ep (server_in other)) (bubble_bytes own other) in
@@ -154,6 +172,7 @@ module _ (laws : StartLaws) (p : Pair) (H : List Full) (r : Full) (start : IsSta
         record {
           last = suc (length (wire H));
           direct = true;
+          trusted = receiver_trusts;
           k = 4;
           ground = then;
           long = ap (λ (xs : List Item). length (wire H ++ xs)) items ∙ two_longer (wire H) direct indirect;
@@ -169,4 +188,5 @@ module _ (laws : StartLaws) (p : Pair) (H : List Full) (r : Full) (start : IsSta
           bubble = λ _. ap (λ (xs : List Item). slice_get (wire H ++ xs) r.first) items
               ∙ ap (slice_get (wire H ++ direct ∷ indirect ∷ [])) (number laws p H r start) ∙ first_of_two (wire H) direct indirect;
           sum = refl;
+          ahead = ahead;
         }

@@ -1,5 +1,5 @@
 -- What holds before the first record and after it, and what the sender makes of it.
-use Rattle.std.proofs.Common.{◌≡◌, ℕ, Bool, true, false, List, [], ◌∷◌, length, Some, sym, ap, subst, ◌∙◌}
+use Rattle.std.proofs.Common.{◌≡◌, ℕ, Bool, true, false, List, [], ◌∷◌, length, Some, refl, sym, ap, subst, ◌∙◌}
 use Rattle.td_base.specs.declared.ipv6.Ip6.{Ip6}
 use Rattle.ipv6_packet.specs.Reads.{fields_in}
 use Rattle.teredo_addr.specs.Teredo.{has_cone, embedded}
@@ -7,7 +7,7 @@ use Rattle.teredo_node.specs.Sends.{send}
 use Rattle.teredo_node.specs.Journal.{Entry, with_entry}
 use Rattle.peer_list.specs.Listed.{has_room}
 use Rattle.peer_list.specs.Peers.{Peer}
-use Rattle.peer_list.specs.Judged.{is_fresh, is_barred}
+use Rattle.peer_list.specs.Judged.{is_fresh, is_barred, is_trusted_at}
 use Rattle.qualify.specs.Qualification.{qualification}
 use Rattle.client_rules.specs.Bearings.{mentions}
 use Rattle.client_rules.specs.Tries.{both_bubbles}
@@ -46,8 +46,15 @@ module _ (laws : StartLaws) (p : Pair) (H : List Full) (r : Full) (start : IsSta
 
   -- THE GROUND
 
+  -- whether each trusts the other where it is
+  abbrev pub back : Bool
+  back = is_trusted_at (embedded p.b.own) (known_by H p.a.n p.b.own)
+
+  abbrev pub forth : Bool
+  forth = is_trusted_at (embedded p.a.own) (known_by H p.b.n p.a.own)
+
   -- the ground before
-  pub ground : Ground p H
+  pub ground : Ground p H forth
   ground = record {
     grown = start.grown.1;
     sender = start.first.clients.sender_settled.address;
@@ -55,7 +62,7 @@ module _ (laws : StartLaws) (p : Pair) (H : List Full) (r : Full) (start : IsSta
     sender_way = way_of_server l.ends (lab_in p) H p.a.n p.a.c p.a.own start.rules start.grown.1 start.first.clients.sender start.first.clients.sender_settled;
     receiver_way = way_of_server l.ends
         (lab_in p) H p.b.n p.b.c p.b.own start.rules start.grown.1 start.first.clients.receiver start.first.clients.receiver_settled;
-    keeps_nothing = record { room = start.first.clients.receiver_ready.room; waits = start.first.clients.receiver_ready.nothing_waits };
+    keeps_nothing = record { room = start.first.clients.receiver_ready.room; waits = start.first.clients.receiver_ready.nothing_waits; trust = refl };
   }
 
   -- the record leaves NATs
@@ -63,7 +70,7 @@ module _ (laws : StartLaws) (p : Pair) (H : List Full) (r : Full) (start : IsSta
   next = record { follows = start.grown.0; calm = (hand laws p H r start).calm; moment = does.moment }
 
   is_record : IsRecord p H r
-  is_record = record { pair = is; ground = ground; follows = start.grown.0; sound = start.sound }
+  is_record = record { pair = is; trusted = forth; ground = ground; follows = start.grown.0; sound = start.sound }
 
   -- the receiver does nothing
   pub receiver_stays : journal p.b.n (r ∷ H) ≡ journal p.b.n H
@@ -71,10 +78,10 @@ module _ (laws : StartLaws) (p : Pair) (H : List Full) (r : Full) (start : IsSta
 
   -- the ground after
   pub ground_then : (qualification (setup p.t p.a) (with_entry (journal p.a.n H) done)).address ≡ (qualification (setup p.t p.a) (journal p.a.n H)).address
-      → Ground p (r ∷ H)
+      → Ground p (r ∷ H) forth
   ground_then stays =
-      ground_on l p H r next ground (same_after l p H r is_record p.a done does.later stays, same_address l p H r is_record p.b receiver_stays)
-      (at_same_moment (λ j m. Keeps j m p.a.own []) H r p.b.n (journal p.b.n H) next.moment receiver_stays ground.keeps_nothing)
+      ground_on l p H r next forth forth ground (same_after l p H r is_record p.a done does.later stays, same_address l p H r is_record p.b receiver_stays)
+      (at_same_moment (λ j m. Keeps j m p.a.own [] forth) H r p.b.n (journal p.b.n H) next.moment receiver_stays ground.keeps_nothing)
 
   -- its entries come behind the wire
   pub number : r.first ≡ length (wire H)

@@ -16,7 +16,7 @@ use Rattle.teredo_node.specs.declared.fate.Fate.TheVariants as fate
 use Rattle.teredo_node.specs.Journal.{Entry, Journal, with_entry}
 use Rattle.peer_list.specs.Listed.{has_room}
 use Rattle.peer_list.specs.Peers.{known}
-use Rattle.peer_list.specs.Judged.{is_barred}
+use Rattle.peer_list.specs.Judged.{is_barred, is_trusted_at}
 use Rattle.peer_list.specs.Laws.{Unlisted}
 use Rattle.qualify.specs.declared.settings.Settings.{Settings}
 use Rattle.qualify.specs.declared.phase.Phase.{Phase}
@@ -94,10 +94,11 @@ address_renewed law s j e indirect =
 
 -- WHAT A CLIENT KEEPS FOR THE OTHER
 
--- there is room for the peer, and these packets wait for it
-pub record Keeps (j : Journal) (n : ℕ) (peer : Ip6) (waiting : List (List ℕ)) : Type 0 where
+-- there is room for the peer, these packets wait for it, and it is trusted at its own endpoint or not
+pub record Keeps (j : Journal) (n : ℕ) (peer : Ip6) (waiting : List (List ℕ)) (trusted : Bool) : Type 0 where
   pub room : has_room (mentions j.entries) n peer ≡ true
   pub waits : (known (mentions j.entries) n peer).waiting ≡ waiting
+  pub trust : is_trusted_at (embedded peer) (known (mentions j.entries) n peer) ≡ trusted
 
 -- the peer may be tried
 abbrev pub Unbarred : Journal → ℕ → Ip6 → Type 0
@@ -105,14 +106,14 @@ Unbarred j n peer = is_barred n (known (mentions j.entries) n peer) ≡ false
 
 -- THE GROUND
 
--- both have their addresses, and their servers' datagrams come in; the receiver keeps nothing for the sender
-pub record Ground (p : Pair) (H : List Full) : Type 0 where
+-- both have their addresses, and their servers' datagrams come in; the receiver keeps nothing for the sender, and trusts it or not
+pub record Ground (p : Pair) (H : List Full) (trusted : Bool) : Type 0 where
   pub grown : Grown (lab_in p) H
   pub sender : client_address (lab_in p) H p.a.n p.a.c ≡ Some p.a.own
   pub receiver : client_address (lab_in p) H p.b.n p.b.c ≡ Some p.b.own
   pub sender_way : Way (lab_in p) H p.a.c.nat (asks_at (lab_in p) p.a.c) (embedded p.a.own).port p.a.c.inside
   pub receiver_way : Way (lab_in p) H p.b.c.nat (asks_at (lab_in p) p.b.c) (embedded p.b.own).port p.b.c.inside
-  pub keeps_nothing : Keeps (journal p.b.n H) (now H) p.a.own []
+  pub keeps_nothing : Keeps (journal p.b.n H) (now H) p.a.own [] trusted
 
 -- both keep their addresses
 abbrev pub KeepAddresses : Pair → List Full → Full → Type 0
@@ -120,9 +121,9 @@ KeepAddresses p H q = (client_address (lab_in p) (q ∷ H) p.a.n p.a.c ≡ clien
     × (client_address (lab_in p) (q ∷ H) p.b.n p.b.c ≡ client_address (lab_in p) H p.b.n p.b.c)
 
 -- after a record that follows, at once, and leaves NATs, it holds again
-pub ground_on : PacketLaws → (p : Pair) (H : List Full) (q : Full) → IsCalmNext (lab_in p) H q → Ground p H → KeepAddresses p H q
-    → Keeps (journal p.b.n (q ∷ H)) (now (q ∷ H)) p.a.own [] → Ground p (q ∷ H)
-ground_on laws p H q next ground addresses keeps = record {
+pub ground_on : PacketLaws → (p : Pair) (H : List Full) (q : Full) → IsCalmNext (lab_in p) H q → (trusted then : Bool) → Ground p H trusted
+    → KeepAddresses p H q → Keeps (journal p.b.n (q ∷ H)) (now (q ∷ H)) p.a.own [] then → Ground p (q ∷ H) then
+ground_on laws p H q next trusted then ground addresses keeps = record {
   grown = (next.follows, ground.grown);
   sender = addresses.0 ∙ ground.sender;
   receiver = addresses.1 ∙ ground.receiver;

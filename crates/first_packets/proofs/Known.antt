@@ -1,8 +1,10 @@
 -- What a client knows of a peer after an entry that touches it, at the moment of the entry.
-use Rattle.std.proofs.Common.{◌≡◌, ◌||◌, ℕ, Bool, true, false, cond, List, [], ◌∷◌, ◌++◌, length, Option, Some, sym, ap, ◌∙◌, arith}
+use Rattle.std.proofs.Common.{◌≡◌, ◌||◌, ℕ, Bool, true, false, cond, List, [], ◌∷◌, ◌++◌, length, Option, Some, refl, sym, ap, ◌∙◌, arith}
 use Rattle.std.specs.Prelude.{unwrap_or, is_some, nat_lt, nat_le, option_to_list, filter}
 use Rattle.std.specs.List.{list_any}
 use Rattle.std.proofs.lemmas.Bool.Decides.{nat_tests}
+use Rattle.std.specs.Option.{option_or}
+use Rattle.td_base.specs.declared.endpoint.Ep.{Ep}
 use Rattle.td_base.specs.declared.ipv6.Ip6.{Ip6}
 use Rattle.td_base.specs.Ip6.{same_ip6-self}
 use Rattle.teredo_node.specs.declared.fate.Fate.{Fate}
@@ -11,7 +13,7 @@ use Rattle.peer_list.specs.declared.limits.TheConstants.{LISTED_MS, PEERS_MAX, T
 use Rattle.peer_list.specs.Mentions.{Mention, is_peer}
 use Rattle.peer_list.specs.Listed.{is_younger, is_listed, listed, has_room}
 use Rattle.peer_list.specs.Peers.{Peer, no_peer, peer_at, known}
-use Rattle.peer_list.specs.Judged.{is_spent, is_barred}
+use Rattle.peer_list.specs.Judged.{is_spent, is_barred, is_ep, is_trusted_at}
 use Rattle.peer_list.specs.Laws.{tries_after, after, OneEntry, peer_if, ListedIsKnown}
 use Rattle.client_rules.specs.Bearings.{bearing_of, mention, mentions}
 use Rattle.client_rules.specs.Laws.{NextMentions}
@@ -64,6 +66,19 @@ module _ (laws : PeerLaws) (e : Entry) (es : List Entry) (n : ℕ) (p : Ip6) (is
 
   pub waits_after : (f : Fate) → e.step.fate ≡ f → (known (mentions (e ∷ es)) n p).waiting ≡ waits_by f
   waits_after f same = ap (λ (k : Peer). k.waiting) known_after ∙ ap waits_by same
+
+  -- where it is trusted
+  abbrev trusts_by : Fate → Option Ep
+  trusts_by f = option_or (bearing_of f e).trusts before.trusted
+
+  pub trusted_after : (from : Ep) (f : Fate) → e.step.fate ≡ f → is_trusted_at from (known (mentions (e ∷ es)) n p) ≡ is_ep from (trusts_by f)
+  unfolding is_trusted_at
+  trusted_after from f same = ap (λ (k : Peer). is_ep from k.trusted) known_after ∙ ap (λ (g : Fate). is_ep from (trusts_by g)) same
+
+  -- one that was trusted there still is, and one that wasn't still isn't
+  pub trusted_before : (from : Ep) → is_ep from before.trusted ≡ is_trusted_at from before
+  unfolding is_trusted_at
+  trusted_before from = refl
 
   -- the tries
   abbrev tries_by : Fate → List ℕ

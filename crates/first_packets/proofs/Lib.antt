@@ -18,6 +18,7 @@ mod Ground
 mod AllSent
 mod AtServer
 mod AtClients
+mod Course
 mod Stages
 mod After
 mod Steps
@@ -29,6 +30,7 @@ mod Premise
 mod FirstGround
 mod FirstBoards
 mod Start
+mod Strangers
 mod Throughout
 mod Dropped
 mod Unheard

@@ -21,10 +21,10 @@ use Rattle.teredo_node.specs.declared.fate.Fate.{Fate}
 use Rattle.teredo_node.specs.declared.fate.Fate.TheVariants as fate
 use Rattle.teredo_node.specs.Step.{rest_of, part}
 use Rattle.teredo_node.specs.Sends.{send, releases}
-use Rattle.teredo_node.specs.Journal.{Entry, Journal, Words}
+use Rattle.teredo_node.specs.Journal.{arrived, Entry, Journal, Words}
 use Rattle.peer_list.specs.Listed.{has_room}
 use Rattle.peer_list.specs.Peers.{known}
-use Rattle.peer_list.specs.Judged.{is_barred}
+use Rattle.peer_list.specs.Judged.{is_barred, is_trusted_at}
 use Rattle.qualify.specs.declared.settings.Settings.{Settings}
 use Rattle.qualify.specs.Qualification.{qualification}
 use Rattle.qualify.specs.Solicitations.{is_qualified, own_address}
@@ -34,9 +34,8 @@ use Rattle.client_rules.specs.Standing.{standing_at}
 use Rattle.client_rules.specs.Reception.{is_from_server, seen_of, reception_row}
 use Rattle.client_rules.specs.Journals.{client_in}
 use Rattle.legal.specs.Emit.{handed_by}
-use Rattle.client_rules.specs.Handed.{HandingRule, rule1, rule3}
 use Rattle.first_packets.proofs.Bools.{both_hold, left_holds}
-use Rattle.first_packets.proofs.Received.{IsForHere, IsThroughServer, IsFromPeer, answered, HearsBubble, by_rule1, by_rule3}
+use Rattle.first_packets.proofs.Received.{IsForHere, IsThroughServer, IsFromPeer, answered, hears_by, hands_by}
 use Rattle.first_packets.proofs.Received.{bubble_heard, packet_handed, seen_here, entry_here}
 
 -- a client that is set up so and has the address own may hear from a peer, and send to it
@@ -54,10 +53,11 @@ pub record IsHere (s : Settings) (j : Journal) (own : Ip6) : Type 0 where
   pub address : (qualification s j).address ≡ Some own
   pub qualified : is_qualified (qualification s j).phase ≡ true
 
--- and room for the peer
-pub record Knows (s : Settings) (j : Journal) (n : ℕ) (own peer : Ip6) : Type 0 where
+-- and room for the peer, which it trusts at its own endpoint or not
+pub record Knows (s : Settings) (j : Journal) (n : ℕ) (own peer : Ip6) (trusted : Bool) : Type 0 where
   pub here : IsHere s j own
   pub room : has_room (mentions j.entries) n peer ≡ true
+  pub trust : is_trusted_at (embedded peer) (known (mentions j.entries) n peer) ≡ trusted
 
 -- its own address
 pub address_is : (s : Settings) (j : Journal) (own : Ip6) → (qualification s j).address ≡ Some own → own_address (qualification s j) ≡ own
@@ -71,7 +71,8 @@ right_holds false c e = e
 -- A DATAGRAM FROM THE PEER
 
 -- with the packet p, from the peer to this client
-module _ (s : Settings) (j : Journal) (n : ℕ) (p : Fields) (meets : Meets s p.dst p.src) (knows : Knows s j n p.dst p.src) (small : is_big p ≡ false) where
+module _ (s : Settings) (j : Journal) (n : ℕ) (p : Fields) (meets : Meets s p.dst p.src) (trusted : Bool) (knows : Knows s j n p.dst p.src trusted)
+    (small : is_big p ≡ false) where
   own_is : own_address (qualification s j) ≡ p.dst
   own_is = address_is s j p.dst knows.here.address
 
@@ -103,32 +104,35 @@ module _ (s : Settings) (j : Journal) (n : ℕ) (p : Fields) (meets : Meets s p.
   kept = (known (mentions j.entries) n p.src).waiting
 
   -- a bubble from where the peer's address says releases what waits for it
-  pub record Releases (x : List ℕ) (e : Entry) : Type 0 where
-    pub hears : HearsBubble e.step.fate
+  pub record Releases (t : Bool) (x : List ℕ) (e : Entry) : Type 0 where
+    pub hears : e.step.fate ≡ hears_by t
+    pub came : e.input ≡ arrived (embedded p.src) x
     pub sends : e.step.sends ≡ releases (embedded p.src) kept
     pub about : e.peer ≡ Some p.src
     pub moment : e.moment ≡ n
 
   -- by the table
   pub hears_bubble : (x : List ℕ) → ReadsPayload (value_written None None p) x → is_bubble p ≡ true → (w : Words)
-      → Releases x (client_in s j n (embedded p.src) x w)
+      → Releases trusted x (client_in s j n (embedded p.src) x w)
   unfolding standing_at
-  hears_bubble x reads bubble w = by (bubble_heard (seen_here s j n (embedded p.src) x v reads) advert from_peer bubble) where
+  hears_bubble x reads bubble w = by trusted (bubble_heard (seen_here s j n (embedded p.src) x v reads) advert from_peer bubble trusted knows.trust) where
     v : Value
     v = value_written None None p
 
     advert : Fate
     advert = advert_row s (standing_at s j n p.src).qualification (embedded p.src) v
 
-    by : HearsBubble (reception_row (seen_here s j n (embedded p.src) x v reads) advert) → Releases x (client_in s j n (embedded p.src) x w)
-    by (by_rule1 e) = subst (Releases x) (sym (entry_here s j n (embedded p.src) x v reads w fate.Rule1Bubble e))
-        (record { hears = by_rule1 refl; sends = refl; about = refl; moment = refl })
-    by (by_rule3 e) = subst (Releases x) (sym (entry_here s j n (embedded p.src) x v reads w fate.Rule3Bubble e))
-        (record { hears = by_rule3 refl; sends = refl; about = refl; moment = refl })
+    by : (t : Bool) → reception_row (seen_here s j n (embedded p.src) x v reads) advert ≡ hears_by t
+        → Releases t x (client_in s j n (embedded p.src) x w)
+    by true e = subst (Releases true x) (sym (entry_here s j n (embedded p.src) x v reads w fate.Rule1Bubble e))
+        (record { hears = refl; came = refl; sends = refl; about = refl; moment = refl })
+    by false e = subst (Releases false x) (sym (entry_here s j n (embedded p.src) x v reads w fate.Rule3Bubble e))
+        (record { hears = refl; came = refl; sends = refl; about = refl; moment = refl })
 
   -- any other packet goes to the host
-  pub record Hands (x : List ℕ) (e : Entry) : Type 0 where
-    pub over : HandingRule e.step.fate
+  pub record Hands (t : Bool) (x : List ℕ) (e : Entry) : Type 0 where
+    pub over : e.step.fate ≡ hands_by t
+    pub came : e.input ≡ arrived (embedded p.src) x
     pub sends : e.step.sends ≡ releases (embedded p.src) kept
     pub handed : handed_by e ≡ Some x
     pub about : e.peer ≡ Some p.src
@@ -136,9 +140,9 @@ module _ (s : Settings) (j : Journal) (n : ℕ) (p : Fields) (meets : Meets s p.
 
   -- by the table
   pub hands_packet : (x : List ℕ) → ReadsPayload (value_written None None p) x → is_bubble p ≡ false → (w : Words)
-      → Hands x (client_in s j n (embedded p.src) x w)
+      → Hands trusted x (client_in s j n (embedded p.src) x w)
   unfolding standing_at
-  hands_packet x reads plain w = by (packet_handed (seen_here s j n (embedded p.src) x v reads) advert from_peer plain) where
+  hands_packet x reads plain w = by trusted (packet_handed (seen_here s j n (embedded p.src) x v reads) advert from_peer plain trusted knows.trust) where
     v : Value
     v = value_written None None p
 
@@ -148,15 +152,16 @@ module _ (s : Settings) (j : Journal) (n : ℕ) (p : Fields) (meets : Meets s p.
     all : Some (part x (rest_of 0 x)) ≡ Some x
     all = ap (λ (z : List ℕ). Some z) (take_rest x 0)
 
-    by : HandingRule (reception_row (seen_here s j n (embedded p.src) x v reads) advert) → Hands x (client_in s j n (embedded p.src) x w)
-    by (rule1 e) = subst (Hands x) (sym (entry_here s j n (embedded p.src) x v reads w fate.Rule1 e))
-        (record { over = rule1 refl; sends = refl; handed = all; about = refl; moment = refl })
-    by (rule3 e) = subst (Hands x) (sym (entry_here s j n (embedded p.src) x v reads w fate.Rule3 e))
-        (record { over = rule3 refl; sends = refl; handed = all; about = refl; moment = refl })
+    by : (t : Bool) → reception_row (seen_here s j n (embedded p.src) x v reads) advert ≡ hands_by t
+        → Hands t x (client_in s j n (embedded p.src) x w)
+    by true e = subst (Hands true x) (sym (entry_here s j n (embedded p.src) x v reads w fate.Rule1 e))
+        (record { over = refl; came = refl; sends = refl; handed = all; about = refl; moment = refl })
+    by false e = subst (Hands false x) (sym (entry_here s j n (embedded p.src) x v reads w fate.Rule3 e))
+        (record { over = refl; came = refl; sends = refl; handed = all; about = refl; moment = refl })
 
 -- A BUBBLE THROUGH THE SERVER
 
-module _ (s : Settings) (j : Journal) (n : ℕ) (own peer : Ip6) (meets : Meets s own peer) (knows : Knows s j n own peer) where
+module _ (s : Settings) (j : Journal) (n : ℕ) (own peer : Ip6) (meets : Meets s own peer) (trusted : Bool) (knows : Knows s j n own peer trusted) where
   abbrev told : Value
   told = value_written None (Some (embedded peer)) (bubble_of peer own)
 
@@ -182,7 +187,7 @@ module _ (s : Settings) (j : Journal) (n : ℕ) (own peer : Ip6) (meets : Meets 
       → IsThroughServer (seen_of s (standing_at s j n peer) (server_ep s.primary) true told)
   unfolding standing_at
   through_server bubble unbarred = record {
-    here = for_here s j n (bubble_of peer own) meets knows small_bubble (server_ep s.primary) (Some (embedded peer));
+    here = for_here s j n (bubble_of peer own) meets trusted knows small_bubble (server_ep s.primary) (Some (embedded peer));
     server = from_primary;
     well_formed = formed;
     no_advert = ap is_advert no_message;

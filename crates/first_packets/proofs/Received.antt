@@ -1,5 +1,5 @@
 -- What a client does with a bubble through its server, and with what comes from another client itself, by its table.
-use Rattle.std.proofs.Common.{◌≡◌, ◌&&◌, not, ℕ, Bool, true, false, cond, List, [], ◌∷◌, ◌++◌, Option, Some, None, refl, ap, ◌∙◌}
+use Rattle.std.proofs.Common.{◌≡◌, ◌&&◌, not, ℕ, Bool, true, false, cond, List, [], ◌∷◌, ◌++◌, Option, Some, None, ap, ◌∙◌}
 use Rattle.std.specs.Prelude.{unwrap_or}
 use Rattle.td_base.specs.declared.endpoint.Ep.{Ep}
 use Rattle.td_base.specs.declared.ipv6.Ip6.{Ip6}
@@ -15,7 +15,6 @@ use Rattle.teredo_node.specs.Rows.{first_line}
 use Rattle.qualify.specs.declared.settings.Settings.{Settings}
 use Rattle.qualify.specs.Advertisements.{advert_row}
 use Rattle.client_rules.specs.Standing.{Standing, standing_at, standing_of}
-use Rattle.client_rules.specs.Handed.{HandingRule, rule1, rule3}
 use Rattle.client_rules.specs.Reception.{Seen, seen_of, seen, datagram_lines, server_lines, packet_lines, indirect_lines, trusted_lines, teredo_lines}
 use Rattle.client_rules.specs.Reception.{suspicious_lines, direct_lines, reception_row, reception_fate, reception_step, reception}
 use Rattle.client_rules.specs.Journals.{entry, client_in}
@@ -103,47 +102,54 @@ to_teredo a is untrusted = passed_by (trusted_lines a) (teredo_lines a ++ suspic
   (untrusted, (left_fails (not a.teredo) (a.peer.listed && (not a.peer.fresh && a.peer.reply)) (not_so a.teredo is.teredo), tt)),
 )
 
--- rule 1 or rule 3, of a bubble
-pub data HearsBubble (f : Fate) : Type 0 where
-  by_rule1 : f ≡ fate.Rule1Bubble → HearsBubble f
-  by_rule3 : f ≡ fate.Rule3Bubble → HearsBubble f
+-- a bubble is heard by rule 1 where the peer is trusted there, else by rule 3
+abbrev pub hears_by : (trusted : Bool) → Fate
+hears_by true = fate.Rule1Bubble
+hears_by false = fate.Rule3Bubble
+
+-- by the same rules another packet is handed over
+abbrev pub hands_by : (trusted : Bool) → Fate
+hands_by true = fate.Rule1
+hands_by false = fate.Rule3
 
 -- a bubble of the peer is heard
-pub bubble_heard : (a : Seen) (advert : Fate) → IsFromPeer a → a.bubble ≡ true → HearsBubble (reception_row a advert)
-bubble_heard a advert is bubble = by a.peer.trusted_here refl where
+pub bubble_heard : (a : Seen) (advert : Fate) → IsFromPeer a → a.bubble ≡ true → (trusted : Bool) → a.peer.trusted_here ≡ trusted
+    → reception_row a advert ≡ hears_by trusted
+bubble_heard a advert is bubble = by where
   rest : List (Bool × Fate)
   rest = (a.embedded_here, fate.Rule3) ∷ (a.teredo, fate.Mismatch) ∷ suspicious_lines a
 
-  by : (t : Bool) → a.peer.trusted_here ≡ t → HearsBubble (reception_row a advert)
-  by true trusted = by_rule1 (to_direct a advert is
+  by : (t : Bool) → a.peer.trusted_here ≡ t → reception_row a advert ≡ hears_by t
+  by true trusted = to_direct a advert is
       ∙ ap (λ (b : Bool). cond b fate.Rule1Bubble (first_line
       ((a.peer.trusted_here, fate.Rule1) ∷ (not a.teredo && (a.peer.listed && (not a.peer.fresh && a.peer.reply)), fate.Rule2) ∷
       (teredo_lines a ++ suspicious_lines a)) fate.Suspicious))
-      (both_hold a.peer.trusted_here a.bubble trusted bubble))
-  by false untrusted = by_rule3 (to_direct a advert is ∙ to_teredo a is untrusted
+      (both_hold a.peer.trusted_here a.bubble trusted bubble)
+  by false untrusted = to_direct a advert is ∙ to_teredo a is untrusted
       ∙ passed_by ((a.embedded_here && not a.peer.room, fate.PeersFull) ∷ []) ((a.embedded_here && a.bubble, fate.Rule3Bubble) ∷ rest) fate.Suspicious
       (right_fails a.embedded_here (not a.peer.room) (not_so a.peer.room is.here.room), tt)
-      ∙ ap (λ (b : Bool). cond b fate.Rule3Bubble (first_line rest fate.Suspicious)) (both_hold a.embedded_here a.bubble is.embedded bubble))
+      ∙ ap (λ (b : Bool). cond b fate.Rule3Bubble (first_line rest fate.Suspicious)) (both_hold a.embedded_here a.bubble is.embedded bubble)
 
 -- another packet of its goes to the host
-pub packet_handed : (a : Seen) (advert : Fate) → IsFromPeer a → a.bubble ≡ false → HandingRule (reception_row a advert)
-packet_handed a advert is plain = by a.peer.trusted_here refl where
+pub packet_handed : (a : Seen) (advert : Fate) → IsFromPeer a → a.bubble ≡ false → (trusted : Bool) → a.peer.trusted_here ≡ trusted
+    → reception_row a advert ≡ hands_by trusted
+packet_handed a advert is plain = by where
   second : List (Bool × Fate)
   second = (not a.teredo && (a.peer.listed && (not a.peer.fresh && a.peer.reply)), fate.Rule2) ∷ (teredo_lines a ++ suspicious_lines a)
 
   rest : List (Bool × Fate)
   rest = (a.teredo, fate.Mismatch) ∷ suspicious_lines a
 
-  by : (t : Bool) → a.peer.trusted_here ≡ t → HandingRule (reception_row a advert)
-  by true trusted = rule1 (to_direct a advert is
+  by : (t : Bool) → a.peer.trusted_here ≡ t → reception_row a advert ≡ hands_by t
+  by true trusted = to_direct a advert is
       ∙ passed_by ((a.peer.trusted_here && a.bubble, fate.Rule1Bubble) ∷ []) ((a.peer.trusted_here, fate.Rule1) ∷ second) fate.Suspicious
       (right_fails a.peer.trusted_here a.bubble plain, tt)
-      ∙ ap (λ (b : Bool). cond b fate.Rule1 (first_line second fate.Suspicious)) trusted)
-  by false untrusted = rule3 (to_direct a advert is ∙ to_teredo a is untrusted
+      ∙ ap (λ (b : Bool). cond b fate.Rule1 (first_line second fate.Suspicious)) trusted
+  by false untrusted = to_direct a advert is ∙ to_teredo a is untrusted
       ∙ passed_by ((a.embedded_here && not a.peer.room, fate.PeersFull) ∷ (a.embedded_here && a.bubble, fate.Rule3Bubble) ∷ [])
       ((a.embedded_here, fate.Rule3) ∷ rest) fate.Suspicious
       (right_fails a.embedded_here (not a.peer.room) (not_so a.peer.room is.here.room), (right_fails a.embedded_here a.bubble plain, tt))
-      ∙ ap (λ (b : Bool). cond b fate.Rule3 (first_line rest fate.Suspicious)) is.embedded)
+      ∙ ap (λ (b : Bool). cond b fate.Rule3 (first_line rest fate.Suspicious)) is.embedded
 
 -- THE ENTRY
 

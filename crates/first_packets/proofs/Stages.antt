@@ -29,14 +29,15 @@ use Rattle.first_packets.proofs.Deliveries.{Did, Delivery, to_node, to_nobody}
 use Rattle.first_packets.proofs.Pair.{Pair, lab_in}
 use Rattle.first_packets.proofs.Lists.{last_there, one_longer, none_longer}
 use Rattle.first_packets.proofs.Ground.{Keeps, Unbarred, Ground}
+use Rattle.first_packets.proofs.Course.{step_fate}
 
 -- entry number k of the wire is this datagram
 abbrev pub At : List Full → ℕ → Ep → Ep → List ℕ → Type 0
 At H k src dst bytes = slice_get (wire H) k ≡ Some (udp src dst bytes)
 
--- the sender keeps the packet for the receiver
-abbrev pub Sends : Pair → List Full → Type 0
-Sends p H = Keeps (journal p.a.n H) (now H) p.b.own (p.x ∷ [])
+-- the sender keeps the packet for the receiver, which it trusts or not
+abbrev pub Sends : Pair → List Full → Bool → Type 0
+Sends p H back = Keeps (journal p.a.n H) (now H) p.b.own (p.x ∷ []) back
 
 -- the receiver may be tried
 abbrev pub MayTry : Pair → List Full → Type 0
@@ -51,20 +52,21 @@ Forth p H = Way (lab_in p) H p.b.c.nat (embedded p.a.own) (embedded p.b.own).por
 
 -- so many deliveries from the end. Entry number `last` is the indirect bubble on its way to the server, or from there to the
 -- receiver; the receiver's bubble; the packet. Or the packet has arrived
-pub data Stage (p : Pair) (H : List Full) (last : ℕ) (later : List Full) : ℕ → Type 0 where
-  asks : At H last (embedded p.a.own) (server_ep (server_in p.b.own)) (bubble_bytes p.a.own p.b.own) → Sends p H → MayTry p H → Back p H
-      → Stage p H last later 4
-  tells : At H last (asks_at (lab_in p) p.b.c) (embedded p.b.own) (forwarded (Some (embedded p.a.own)) (bubble_bytes p.a.own p.b.own)) → Sends p H
-      → MayTry p H → Back p H → Stage p H last later 3
-  answers : At H last (embedded p.b.own) (embedded p.a.own) (bubble_bytes p.b.own p.a.own) → Sends p H → Back p H → Forth p H → Stage p H last later 2
-  releases_it : At H last (embedded p.a.own) (embedded p.b.own) p.x → Forth p H → Stage p H last later 1
-  has_come : HasArrived p.b.n p.x later → Stage p H last later 0
+pub data Stage (p : Pair) (H : List Full) (back : Bool) (last : ℕ) (later : List Full) : ℕ → Type 0 where
+  asks : At H last (embedded p.a.own) (server_ep (server_in p.b.own)) (bubble_bytes p.a.own p.b.own) → Sends p H back → MayTry p H → Back p H
+      → Stage p H back last later 4
+  tells : At H last (asks_at (lab_in p) p.b.c) (embedded p.b.own) (forwarded (Some (embedded p.a.own)) (bubble_bytes p.a.own p.b.own)) → Sends p H back
+      → MayTry p H → Back p H → Stage p H back last later 3
+  answers : At H last (embedded p.b.own) (embedded p.a.own) (bubble_bytes p.b.own p.a.own) → Sends p H back → Back p H → Forth p H → Stage p H back last later 2
+  releases_it : At H last (embedded p.a.own) (embedded p.b.own) p.x → Forth p H → Stage p H back last later 1
+  has_come : HasArrived p.b.n p.x later → Forth p H → Stage p H back last later 0
 
--- the steps: what a delivery of the last entry leaves
-pub data Next (p : Pair) (H : List Full) (q : Full) (last : ℕ) (later : List Full) : ℕ → Type 0 where
-  goes_on : (k : ℕ) → Ground p (q ∷ H) → length (wire (q ∷ H)) ≡ suc (suc last) → Stage p (q ∷ H) (suc last) (q ∷ later) (suc k)
-      → Next p H q last later (suc (suc k))
-  ends : Ground p (q ∷ H) → length (wire (q ∷ H)) ≡ suc last → Stage p (q ∷ H) last (q ∷ later) 0 → Next p H q last later 1
+-- the steps: what a delivery of the last entry leaves, where the receiver trusts the sender or not
+pub data Next (p : Pair) (H : List Full) (q : Full) (back forth : Bool) (last : ℕ) (later : List Full) : ℕ → Type 0 where
+  goes_on : (k : ℕ) → q.fate ≡ step_fate back forth (suc (suc k)) → Ground p (q ∷ H) forth → length (wire (q ∷ H)) ≡ suc (suc last)
+      → Stage p (q ∷ H) back (suc last) (q ∷ later) (suc k) → Next p H q back forth last later (suc (suc k))
+  ends : q.fate ≡ step_fate back forth 1 → Ground p (q ∷ H) true → length (wire (q ∷ H)) ≡ suc last → Stage p (q ∷ H) back last (q ∷ later) 0
+      → Next p H q back forth last later 1
 
 -- WHERE A DELIVERY GOES
 
@@ -86,7 +88,7 @@ pub record Leads (lab : Lab) (H : List Full) (k : ℕ) : Type 0 where
 
 -- and comes to it
 pub arrival : (lab : Lab) (H : List Full) (q : Full) (k : ℕ) → Delivery lab H q k → (l : Leads lab H k) → Arrival lab H q l.number l.node l.item
-arrival lab H q k (to_nobody y at none calm made moment stay) l =
+arrival lab H q k (to_nobody y at none shut calm made moment stay) l =
     absurd (none l.number l.node (subst (λ (z : Item). route lab H (now H) z ≡ reaches l.number l.node) (sym (same_item H k y l.item at l.at)) l.goes))
 arrival lab H q k (to_node i y b at way there calm did) l =
     let x = l.item in

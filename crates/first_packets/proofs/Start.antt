@@ -1,99 +1,107 @@
--- A packet is carried: from where its schedule begins to its end. A first one between strangers is such a packet.
-use Rattle.std.proofs.Common.{◌≡◌, ℕ, Bool, true, false, List, [], ◌∷◌, ◌++◌, refl, sym, ap, ◌∙◌, arith}
+-- A packet is carried, and takes its course: from where its schedule begins to its end.
+use Rattle.std.proofs.Common.{◌≡◌, ℕ, Bool, true, false, List, [], ◌∷◌, ◌++◌, refl, sym, ◌∙◌, arith}
 use Rattle.std.proofs.lemmas.Bool.{false≢true}
-use Rattle.teredo_addr.specs.Teredo.{has_cone}
 use Rattle.td_base.specs.declared.ipv6.Ip6.{Ip6}
-use Rattle.peer_list.specs.Peers.{Peer, no_peer}
-use Rattle.peer_list.specs.Judged.{is_fresh}
-use Rattle.peer_list.specs.Laws.{Unlisted}
-use Rattle.client_rules.specs.Bearings.{mentions}
+use Rattle.teredo_addr.specs.Teredo.{has_cone}
+use Rattle.teredo_node.specs.declared.fate.Fate.{Fate}
+use Rattle.topology.specs.declared.client_node.ClientNode.{ClientNode}
+use Rattle.topology.specs.Rows.{TopologyState}
 use Rattle.history.specs.Full.{Full}
-use Rattle.legal.specs.Past.{now, journal}
-use Rattle.legal.specs.Lab.{flat_lab}
+use Rattle.legal.specs.Lab.{Draws, flat_lab}
 use Rattle.legal.specs.Legal.{Grown}
-use Rattle.first_packets.specs.Schedules.{AreFresh}
-use Rattle.first_packets.specs.FirstPacket.{IsNew, GetsThrough}
-use Rattle.first_packets.specs.MayMeet.{known_by, IsReadyFor, IsUnbarredFor, EachNextPacketArrives, StrangersMayMeet}
-use Rattle.first_packets.specs.Throughout.{EachFirstPacketArrives}
-use Rattle.first_packets.proofs.Known.{untried}
+use Rattle.first_packets.specs.Schedules.{AreFresh, IsComplete}
+use Rattle.first_packets.specs.FirstPacket.{GetsThrough}
+use Rattle.first_packets.specs.MayMeet.{EachNextPacketArrives}
+use Rattle.first_packets.specs.Courses.{fates_of}
 use Rattle.first_packets.proofs.Pair.{Pair, lab_in}
-use Rattle.first_packets.proofs.Boards.{Board, boards, few, arrives}
+use Rattle.first_packets.proofs.Course.{AtFirst, all_follow}
+use Rattle.first_packets.proofs.Boards.{Board, boards, few, arrives, taken}
 use Rattle.settled.proofs.Earlier.{earlier}
 use Rattle.first_packets.proofs.HandedIn.{StartLaws}
 use Rattle.first_packets.proofs.Premise.{sound_first, IsStart, is_pair}
+use Rattle.first_packets.proofs.FirstGround.{back, forth}
 use Rattle.first_packets.proofs.FirstBoards.{to_cone, from_cone, with_both}
 
 module _ (laws : StartLaws) (p : Pair) (H : List Full) (r : Full) (start : IsStart p H r) (later : List Full) (g : Grown (lab_in p) (later ++ r ∷ H))
     (fresh : AreFresh r later) where
-  -- the whole schedule
-  all : (total : ℕ) → Board p H r total [] → Board p H r total later
-  all total board = boards p H r total laws.packets (is_pair laws p H r start) later g fresh board
+  -- whether each trusts the other
+  abbrev pub sender_trusts : Bool
+  sender_trusts = back laws p H r start
 
-  -- by the cone bits of both
-  carried : (far : Bool) → has_cone p.b.own ≡ far → (near : Bool) → has_cone p.a.own ≡ near → GetsThrough H r p.b.n p.a.own p.b.own p.x later
-  carried true cone near plain =
-      let board = all 1 (to_cone laws p H r start cone) in
-      let most = few p H r 1 later board in
-      record { few = omega (arith, most); few_from_cone = λ _. omega (arith, most); few_to_cone = λ _. most; arrives = arrives p H r 1 later board }
-  carried false far true cone =
-      let board = all 4 (from_cone laws p H r start far cone) in
-      let most = few p H r 4 later board in
-      record {
-        few = omega (arith, most);
-        few_from_cone = λ _. most;
-        few_to_cone = λ c. absurd (false≢true (sym far ∙ c));
-        arrives = arrives p H r 4 later board;
-      }
-  carried false far false plain =
-      let board = all 5 (with_both laws p H r start far plain) in
-      let most = few p H r 5 later board in
-      record {
-        few = most;
-        few_from_cone = λ c. absurd (false≢true (sym plain ∙ c));
-        few_to_cone = λ c. absurd (false≢true (sym far ∙ c));
-        arrives = arrives p H r 5 later board;
-      }
+  abbrev pub receiver_trusts : Bool
+  receiver_trusts = forth laws p H r start
 
--- so it is for each packet between clients that may meet
-pub each_next : StartLaws → EachNextPacketArrives
-each_next laws d t H r later is g n m a b own other x first fresh =
-    let p : Pair = record { d = d; t = t; a = record { n = n; c = a; own = own }; b = record { n = m; c = b; own = other }; x = x } in
-    let start : IsStart p H r = record { rules = is; grown = earlier (flat_lab d t) later (r ∷ H) g; first = first; sound = sound_first r later fresh } in
-    carried laws p H r start later g fresh (has_cone other) refl (has_cone own) refl
+  -- of the fates of a complete schedule P holds, if it does of what may follow by the cone bits of both
+  module _ (P : List Fate → Type 0) where
+    -- the whole schedule
+    all : (total : ℕ) → Board p H r total sender_trusts P [] → Board p H r total sender_trusts P later
+    all total board = boards p H r total sender_trusts P laws.packets (is_pair laws p H r start) later g fresh board
 
--- STRANGERS
+    -- it is carried, and takes its course
+    pub record Ends : Type 0 where
+      pub carried : GetsThrough H r p.b.n p.a.own p.b.own p.x later
+      pub course : IsComplete H r later → P (fates_of later)
 
--- who is new is nothing known, so it is ready and unbarred
-module _ (unlisted : Unlisted) (H : List Full) (n : ℕ) (peer : Ip6) (new : IsNew H n peer) where
-  unknown : known_by H n peer ≡ no_peer
-  unknown = unlisted (mentions (journal n H).entries) (now H) peer new.unlisted
+    -- by the cone bits of both
+    pub ended : (far : Bool) → has_cone p.b.own ≡ far → (near : Bool) → has_cone p.a.own ≡ near → AtFirst P sender_trusts receiver_trusts near far → Ends
+    ended true cone near plain ahead =
+        let board = all 1 (to_cone laws p H r start P cone ahead) in
+        let most = few p H r 1 sender_trusts P later board in
+        record {
+          carried = record {
+            few = omega (arith, most);
+            few_from_cone = λ _. omega (arith, most);
+            few_to_cone = λ _. most;
+            arrives = arrives p H r 1 sender_trusts P later board;
+          };
+          course = taken p H r 1 sender_trusts P later board;
+        }
+    ended false far true cone ahead =
+        let board = all 4 (from_cone laws p H r start P far cone ahead) in
+        let most = few p H r 4 sender_trusts P later board in
+        record {
+          carried = record {
+            few = omega (arith, most);
+            few_from_cone = λ _. most;
+            few_to_cone = λ c. absurd (false≢true (sym far ∙ c));
+            arrives = arrives p H r 4 sender_trusts P later board;
+          };
+          course = taken p H r 4 sender_trusts P later board;
+        }
+    ended false far false plain ahead =
+        let board = all 5 (with_both laws p H r start P far plain ahead) in
+        let most = few p H r 5 sender_trusts P later board in
+        record {
+          carried = record {
+            few = most;
+            few_from_cone = λ c. absurd (false≢true (sym plain ∙ c));
+            few_to_cone = λ c. absurd (false≢true (sym far ∙ c));
+            arrives = arrives p H r 5 sender_trusts P later board;
+          };
+          course = taken p H r 5 sender_trusts P later board;
+        }
 
-  ready : IsReadyFor H n peer
-  ready = record { room = new.room; nothing_waits = ap (λ (k : Peer). k.waiting) unknown }
+  -- it is carried, whatever the course
+  pub carried_so : (near far : Bool) → has_cone p.a.own ≡ near → has_cone p.b.own ≡ far → GetsThrough H r p.b.n p.a.own p.b.own p.x later
+  carried_so near far n f = (ended (λ (fs : List Fate). Unit {0}) far f near n (any near far)).carried where
+    any : (n f : Bool) → AtFirst (λ (fs : List Fate). Unit {0}) sender_trusts receiver_trusts n f
+    any n true = tt
+    any true false = tt
+    any false false = all_follow (λ (fs : List Fate). Unit {0}) (λ fs. tt) sender_trusts true receiver_trusts 4
 
-  unbarred : IsUnbarredFor H n peer
-  unbarred = untried (now H) (known_by H n peer) (ap (λ (k : Peer). k.tries) unknown)
-
-  stale : is_fresh (now H) (known_by H n peer) ≡ false
-  unfolding is_fresh
-  stale = ap (is_fresh (now H)) unknown
-
-pub strangers_may : Unlisted → StrangersMayMeet
-strangers_may unlisted lab H n m a b own other are = record {
-  sender = are.sender;
-  receiver = are.receiver;
-  apart = are.apart;
-  sender_settled = are.sender_settled;
-  receiver_settled = are.receiver_settled;
-  stale = stale unlisted H n other are.sender_new;
-  receiver_ready = ready unlisted H m own are.receiver_new;
-  sender_ready = λ far. ready unlisted H n other are.sender_new;
-  sender_unbarred = λ far. unbarred unlisted H n other are.sender_new;
-  receiver_unbarred = λ far. unbarred unlisted H m own are.receiver_new;
+-- the two clients of a packet
+abbrev pub pair_of : Draws → TopologyState → (n m : ℕ) (a b : ClientNode) (own other : Ip6) → List ℕ → Pair
+pair_of d t n m a b own other x = record {
+  d = d;
+  t = t;
+  a = record { n = n; c = a; own = own };
+  b = record { n = m; c = b; own = other };
+  x = x;
 }
 
--- so the first packet between them is carried
-pub each_first : EachNextPacketArrives → StrangersMayMeet → EachFirstPacketArrives
-each_first law may d t H r later is g n m a b own other x first fresh =
-    law d t H r later is g n m a b own other x
-    (record { clients = may (flat_lab d t) H n m a b own other first.clients; handed = first.handed }) fresh
+-- each packet between clients that may meet is carried
+pub each_next : StartLaws → EachNextPacketArrives
+each_next laws d t H r later is g n m a b own other x next fresh =
+    let p = pair_of d t n m a b own other x in
+    let start : IsStart p H r = record { rules = is; grown = earlier (flat_lab d t) later (r ∷ H) g; first = next; sound = sound_first r later fresh } in
+    carried_so laws p H r start later g fresh (has_cone own) (has_cone other) refl refl

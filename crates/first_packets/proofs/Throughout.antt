@@ -7,11 +7,17 @@ use Rattle.history.specs.Full.{Full}
 use Rattle.legal.specs.Lab.{Lab, draws, flat_lab, lab_of}
 use Rattle.legal.specs.Legal.{Begun, Grown}
 use Rattle.first_packets.specs.Throughout.{EachFirstPacketArrives, HistoriesCarryFirstPackets, ScenariosCarryFirstPackets}
+use Rattle.first_packets.specs.Courses.{EachTakesACourse, HistoriesTakeCourses}
 use Rattle.settled.proofs.Earlier.{earlier}
 
 -- at each record of a history
 pub histories : EachFirstPacketArrives → HistoriesCarryFirstPackets
 histories law d t H is g rest later r before split = law d t before r later is
+    (earlier (flat_lab d t) rest (later ++ r ∷ before) (subst (Grown (flat_lab d t)) split g))
+
+-- so is its course
+pub courses_taken : EachTakesACourse → HistoriesTakeCourses
+courses_taken law d t H is g rest later r before split = law d t before r later is
     (earlier (flat_lab d t) rest (later ++ r ∷ before) (subst (Grown (flat_lab d t)) split g))
 
 -- and of a scenario

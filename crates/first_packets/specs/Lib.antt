@@ -2,4 +2,5 @@ pub mod Schedules
 pub mod FirstPacket
 pub mod MayMeet
 pub mod Throughout
+pub mod Courses
 pub mod NoRoom

@@ -1,11 +1,12 @@
 //! What becomes of first packets.
 ghost use Rattle.first_packets.specs.MayMeet.{EachNextPacketArrives, StrangersMayMeet};
 ghost use Rattle.first_packets.specs.Throughout.{EachFirstPacketArrives, HistoriesCarryFirstPackets, ScenariosCarryFirstPackets};
+ghost use Rattle.first_packets.specs.Courses.{EachTakesACourse, HistoriesTakeCourses};
 ghost use Rattle.first_packets.specs.NoRoom.{FullSenderDrops, FullReceiverHearsNothing};
 
 // What becomes of a packet between two settled clients, with room for it and without.
 fn between_settled_clients()
-    ensures { EachNextPacketArrives × FullSenderDrops }
+    ensures { EachNextPacketArrives × EachTakesACourse × FullSenderDrops }
 {
     bubble::payload_is_spelled();
     bubble::bubble_reads_back();
@@ -31,8 +32,8 @@ fn between_settled_clients()
     peer_list::listed_is_known();
     client_rules::next_mentions();
     client_rules::qualified_has_address();
-    legal::routes();
     legal::is_reached();
+    legal::is_shut_out();
     legal::kinds();
     legal::nat_grows();
     legal::frame();
@@ -63,6 +64,13 @@ pub fn first_packet_arrives()
     strangers_may_meet();
 }
 
+/// And takes one of the courses: no other fates come, and in no other order.
+pub fn takes_a_course()
+    ensures { EachTakesACourse }
+{
+    between_settled_clients();
+}
+
 /// So it is at each record of every history.
 pub fn histories_carry_first_packets()
     ensures { HistoriesCarryFirstPackets }
@@ -70,7 +78,14 @@ pub fn histories_carry_first_packets()
     first_packet_arrives();
 }
 
-/// And of the history of every scenario, as far as it was played.
+/// There each first packet takes one of the courses, too.
+pub fn histories_take_courses()
+    ensures { HistoriesTakeCourses }
+{
+    takes_a_course();
+}
+
+/// And each is carried in the history of every scenario, as far as it was played.
 pub fn scenarios_carry_first_packets()
     ensures { ScenariosCarryFirstPackets }
 {

@@ -7,6 +7,8 @@
 //! - A first packet, and its arrival (`specs/FirstPacket.antt`): the two clients are settled, behind different NATs and new to
 //!   each other. A fresh schedule has five deliveries at most; four where the sender's address has the cone bit, one where the
 //!   receiver's has it. A complete one brings the packet to the receiver's host, by rule 1 or rule 3.
+//! - A complete one takes one of six courses, four from or one to a client with the cone bit: so many fates, in this order
+//!   (`specs/Courses.antt`).
 //! - The same of a later packet wherever the two may meet (`specs/MayMeet.antt`): the receiver isn't fresh at the sender, neither
 //!   is barred for the other or keeps packets for it, and each has room. Strangers may.
 //! - That holds at each record of every history in which no NAT is behind another one (`specs/Throughout.antt`).
@@ -25,6 +27,7 @@
 //! | fresh and complete schedules | `specs/Schedules.antt` |
 //! | the premise, and what becomes of the packet | `specs/FirstPacket.antt` |
 //! | the premise of a later packet | `specs/MayMeet.antt` |
+//! | the fates of a schedule, in their order | `specs/Courses.antt` |
 //! | the same at each record | `specs/Throughout.antt` |
 //! | what becomes of it where one of the two has no room for the other | `specs/NoRoom.antt` |
 #![tactic(auto)]
@@ -33,6 +36,6 @@ mod laws;
 
 pub use laws::{
     first_packet_arrives, full_receiver_hears_nothing, full_sender_drops,
-    histories_carry_first_packets, next_packet_arrives, scenarios_carry_first_packets,
-    strangers_may_meet,
+    histories_carry_first_packets, histories_take_courses, next_packet_arrives,
+    scenarios_carry_first_packets, strangers_may_meet, takes_a_course,
 };

@@ -19,6 +19,7 @@ use Rattle.verdicts.specs.Throughout.{HasRightVerdictsThroughout, HistoriesHaveR
 use Rattle.storms.specs.Throughout.{HasNoStormThroughout, HistoriesHaveNoStorm}
 use Rattle.eased_storms.specs.Throughout.{NineFollowThroughout, HistoriesHaveNine}
 use Rattle.first_packets.specs.Throughout.{FirstPacketsArrive, HistoriesCarryFirstPackets}
+use Rattle.first_packets.specs.Courses.{FirstPacketsTakeCourses, HistoriesTakeCourses}
 use Rattle.promises.specs.Kept.{
   IsFlat,
   OriginsAreTold,
@@ -27,6 +28,7 @@ use Rattle.promises.specs.Kept.{
   DeliveriesAreFew,
   AtMostNineFollow,
   FirstPacketIsCarried,
+  FirstPacketTakesACourse,
   HistoriesAreKept,
   ScenariosAreKept,
 }
@@ -60,13 +62,23 @@ carried : (lab : Lab) (H : List Full) → (IsFlat lab → FirstPacketsArrive lab
     → FirstPacketIsCarried lab before
 carried lab H have rest before split flat later r earlier ends = have flat rest later r earlier (within rest before split ends)
 
--- the law of first packets, over a laboratory
-module _ (law : HistoriesCarryFirstPackets) (lab : Lab) where
+taken : (lab : Lab) (H : List Full) → (IsFlat lab → FirstPacketsTakeCourses lab H) → (rest before : List Full) → H ≡ rest ++ before
+    → FirstPacketTakesACourse lab before
+taken lab H have rest before split flat later r earlier ends = have flat rest later r earlier (within rest before split ends)
+
+-- the laws of first packets, over a laboratory
+module _ (law : HistoriesCarryFirstPackets) (course : HistoriesTakeCourses) (lab : Lab) where
   abbrev HasThem : Lab → Type 0
   HasThem lab = (H : List Full) → IsTopology lab.topology → Grown lab H → FirstPacketsArrive lab H
 
   first : IsFlat lab → HasThem lab
   first flat = subst (λ (chain : List Behind). HasThem (lab_on lab.draws lab.topology chain)) (sym flat) (law lab.draws lab.topology)
+
+  abbrev HasCourses : Lab → Type 0
+  HasCourses lab = (H : List Full) → IsTopology lab.topology → Grown lab H → FirstPacketsTakeCourses lab H
+
+  courses : IsFlat lab → HasCourses lab
+  courses flat = subst (λ (chain : List Behind). HasCourses (lab_on lab.draws lab.topology chain)) (sym flat) (course lab.draws lab.topology)
 
 -- the laws of all theorems
 pub record Laws : Type 0 where
@@ -76,6 +88,7 @@ pub record Laws : Type 0 where
   pub no_storm : HistoriesHaveNoStorm
   pub nine : HistoriesHaveNine
   pub first_packets : HistoriesCarryFirstPackets
+  pub courses : HistoriesTakeCourses
 
 pub histories : Laws → HistoriesAreKept
 histories laws lab H is g later before split =
@@ -86,7 +99,8 @@ histories laws lab H is g later before split =
       verdicts = right lab H (λ flat. laws.verdicts lab H flat is g) later before split;
       no_storm = few lab H (laws.no_storm lab H is g) later before split;
       nine = nine lab H (laws.nine lab H is g) later before split;
-      first_packet = carried lab H (λ flat. first laws.first_packets lab flat H is g) later before split;
+      first_packet = carried lab H (λ flat. first laws.first_packets laws.courses lab flat H is g) later before split;
+      course = taken lab H (λ flat. courses laws.first_packets laws.courses lab flat H is g) later before split;
     }
 
 -- the records before some

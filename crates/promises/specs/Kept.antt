@@ -21,6 +21,7 @@ use Rattle.verdicts.specs.Throughout.{HasRightVerdicts}
 use Rattle.storms.specs.Throughout.{HasNoStorm}
 use Rattle.eased_storms.specs.Throughout.{NineFollowEach}
 use Rattle.first_packets.specs.FirstPacket.{FirstPacketArrives}
+use Rattle.first_packets.specs.Courses.{TakesACourse}
 
 -- no NAT is behind another one
 abbrev pub IsFlat : Lab → Type 0
@@ -55,6 +56,10 @@ AtMostNineFollow lab H = (later before : List Full) → H ≡ later ++ before �
 abbrev pub FirstPacketIsCarried : Lab → List Full → Type 0
 FirstPacketIsCarried lab H = IsFlat lab → (later : List Full) (r : Full) (before : List Full) → H ≡ later ++ r ∷ before → FirstPacketArrives lab before r later
 
+-- and where it is complete it takes one of the courses of a first packet: these fates, in this order
+abbrev pub FirstPacketTakesACourse : Lab → List Full → Type 0
+FirstPacketTakesACourse lab H = IsFlat lab → (later : List Full) (r : Full) (before : List Full) → H ≡ later ++ r ∷ before → TakesACourse lab before r later
+
 -- of a history, at its latest record
 pub record Kept (lab : Lab) (H : List Full) : Type 0 where
   pub origins : OriginsAreTold lab H
@@ -63,6 +68,7 @@ pub record Kept (lab : Lab) (H : List Full) : Type 0 where
   pub no_storm : DeliveriesAreFew lab H
   pub nine : AtMostNineFollow lab H
   pub first_packet : FirstPacketIsCarried lab H
+  pub course : FirstPacketTakesACourse lab H
 
 -- at each of its records
 abbrev pub KeptThroughout : Lab → List Full → Type 0

@@ -11,6 +11,7 @@ pub fn kept()
     storms::histories_have_no_storm();
     eased_storms::histories_have_nine();
     first_packets::histories_carry_first_packets();
+    first_packets::histories_take_courses();
 }
 
 /// So has the history of every scenario, as far as it was played; that of an honest one is honest.

@@ -1,5 +1,6 @@
 use Rattle.first_packets.proofs.HandedIn.{StartLaws}
 use Rattle.first_packets.proofs.Start.{each_next}
+use Rattle.first_packets.proofs.Strangers.{each_course}
 use Rattle.first_packets.proofs.Dropped as dropped
 use Rattle.first_packets.proofs.laws.between_settled_clients.Goals as goal
 
@@ -23,7 +24,7 @@ returns c =
           ports = c.live_mappings_are_few.ensures.ports;
           asked = c.let_in_where_asked.ensures;
         };
-        routes = record { routes = c.routes.ensures; reached = c.is_reached.ensures; apart = c.apart.ensures };
+        routes = record { reached = c.is_reached.ensures; shut = c.is_shut_out.ensures };
         peers = record { next = c.next_mentions.ensures; one = c.one_entry.ensures; known_if_listed = c.listed_is_known.ensures };
         kinds = c.kinds.ensures;
         grows = c.nat_grows.ensures;
@@ -42,4 +43,4 @@ returns c =
       spelled = c.packet_is_spelled.ensures;
       long = c.packet_is_bytes.ensures;
     } in
-    (each_next laws, dropped.full_sender_drops laws)
+    (each_next laws, each_course laws, dropped.full_sender_drops laws)

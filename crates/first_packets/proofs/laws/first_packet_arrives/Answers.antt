@@ -1,4 +1,4 @@
-use Rattle.first_packets.proofs.Start.{each_first}
+use Rattle.first_packets.proofs.Strangers.{each_first}
 use Rattle.first_packets.proofs.laws.first_packet_arrives.Goals as goal
 
 pub returns : goal.returns

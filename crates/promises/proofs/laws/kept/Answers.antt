@@ -9,4 +9,5 @@ returns c = keeping.histories (record {
   no_storm = c.histories_have_no_storm.ensures;
   nine = c.histories_have_nine.ensures;
   first_packets = c.histories_carry_first_packets.ensures;
+  courses = c.histories_take_courses.ensures;
 })

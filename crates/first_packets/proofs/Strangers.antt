@@ -1,0 +1,107 @@
+-- Strangers may meet: so a first packet between them is carried, and takes one of the courses.
+use Rattle.std.proofs.Common.{◌≡◌, ℕ, Bool, true, false, List, ◌∷◌, Contains, refl, sym, ap, subst, arith}
+use Rattle.std.proofs.lemmas.Bool.{false≢true}
+use Rattle.td_base.specs.declared.ipv6.Ip6.{Ip6}
+use Rattle.td_base.specs.declared.endpoint.Ep.{Ep}
+use Rattle.teredo_addr.specs.Teredo.{has_cone, embedded}
+use Rattle.teredo_node.specs.declared.fate.Fate.{Fate}
+use Rattle.peer_list.specs.Peers.{Peer, no_peer}
+use Rattle.peer_list.specs.Judged.{is_fresh, is_trusted_at}
+use Rattle.peer_list.specs.Laws.{Unlisted}
+use Rattle.client_rules.specs.Bearings.{mentions}
+use Rattle.history.specs.Full.{Full}
+use Rattle.legal.specs.Lab.{flat_lab}
+use Rattle.legal.specs.Past.{now, journal}
+use Rattle.first_packets.specs.FirstPacket.{IsNew}
+use Rattle.first_packets.specs.MayMeet.{known_by, IsReadyFor, IsUnbarredFor, EachNextPacketArrives, StrangersMayMeet}
+use Rattle.first_packets.specs.Throughout.{EachFirstPacketArrives}
+use Rattle.first_packets.specs.Courses.{courses, EachTakesACourse}
+use Rattle.settled.proofs.Earlier.{earlier}
+use Rattle.first_packets.proofs.Known.{untried}
+use Rattle.first_packets.proofs.HandedIn.{StartLaws}
+use Rattle.first_packets.proofs.Premise.{sound_first, IsStart}
+use Rattle.first_packets.proofs.Course.{AtFirst}
+use Rattle.first_packets.proofs.Start.{pair_of, ended}
+
+-- who is new is nothing known, so it is ready and unbarred
+module _ (unlisted : Unlisted) (H : List Full) (n : ℕ) (peer : Ip6) (new : IsNew H n peer) where
+  unknown : known_by H n peer ≡ no_peer
+  unknown = unlisted (mentions (journal n H).entries) (now H) peer new.unlisted
+
+  ready : IsReadyFor H n peer
+  ready = record { room = new.room; nothing_waits = ap (λ (k : Peer). k.waiting) unknown }
+
+  unbarred : IsUnbarredFor H n peer
+  unbarred = untried (now H) (known_by H n peer) (ap (λ (k : Peer). k.tries) unknown)
+
+  stale : is_fresh (now H) (known_by H n peer) ≡ false
+  unfolding is_fresh
+  stale = ap (is_fresh (now H)) unknown
+
+  -- nor is it trusted
+  untrusted : (from : Ep) → is_trusted_at from (known_by H n peer) ≡ false
+  unfolding is_trusted_at
+  untrusted from = ap (is_trusted_at from) unknown
+
+pub strangers_may : Unlisted → StrangersMayMeet
+strangers_may unlisted lab H n m a b own other are = record {
+  sender = are.sender;
+  receiver = are.receiver;
+  apart = are.apart;
+  sender_settled = are.sender_settled;
+  receiver_settled = are.receiver_settled;
+  stale = stale unlisted H n other are.sender_new;
+  receiver_ready = ready unlisted H m own are.receiver_new;
+  sender_ready = λ far. ready unlisted H n other are.sender_new;
+  sender_unbarred = λ far. unbarred unlisted H n other are.sender_new;
+  receiver_unbarred = λ far. unbarred unlisted H m own are.receiver_new;
+}
+
+-- so the first packet between them is carried
+pub each_first : EachNextPacketArrives → StrangersMayMeet → EachFirstPacketArrives
+each_first law may d t H r later is g n m a b own other x first fresh =
+    law d t H r later is g n m a b own other x
+    (record { clients = may (flat_lab d t) H n m a b own other first.clients; handed = first.handed }) fresh
+
+-- THE COURSES
+
+-- what may follow between strangers
+all_courses : (near far : Bool) → AtFirst (λ (fs : List Fate). Contains (courses near far) fs) false false near far
+all_courses near true = (0, omega arith, refl)
+all_courses true false = (0, omega arith, refl)
+all_courses false false = (
+  λ may. (0, omega arith, refl),
+  (
+    (2, omega arith, refl),
+    (
+      λ may. (1, omega arith, refl),
+      (
+        (3, omega arith, refl),
+        (
+          λ may. absurd (false≢true may),
+          ((4, omega arith, refl), (λ may. absurd (false≢true may), ((4, omega arith, refl), (5, omega arith, refl)))),
+        ),
+      ),
+    ),
+  ),
+)
+
+-- each takes one of them
+pub each_course : StartLaws → EachTakesACourse
+each_course laws d t H r later is g n m a b own other x first fresh complete =
+    let P : List Fate → Type 0 = λ fs. Contains (courses (has_cone own) (has_cone other)) fs in
+    let p = pair_of d t n m a b own other x in
+    let unlisted = laws.packets.unlisted in
+    let may = strangers_may unlisted (flat_lab d t) H n m a b own other first.clients in
+    let start : IsStart p H r = record {
+      rules = is;
+      grown = earlier (flat_lab d t) later (r ∷ H) g;
+      first = record { clients = may; handed = first.handed };
+      sound = sound_first r later fresh;
+    } in
+    let sender = untrusted unlisted H n other first.clients.sender_new (embedded other) in
+    let receiver = untrusted unlisted H m own first.clients.receiver_new (embedded own) in
+    let forth = is_trusted_at (embedded own) (known_by H m own) in
+    (ended laws p H r start later g fresh P (has_cone other) refl (has_cone own) refl
+    (subst (λ (back : Bool). AtFirst P back forth (has_cone own) (has_cone other)) (sym sender)
+    (subst (λ (z : Bool). AtFirst P false z (has_cone own) (has_cone other)) (sym receiver) (all_courses (has_cone own) (has_cone other))))).course complete
