@@ -3,7 +3,7 @@
 
 Makes what the program is given in a temporary folder, runs it N times, 5 where N isn't given, and prints the tables of
 docs/PERFORMANCE.md: wall time and processor time, each the least and the median, and the most memory, which is looked at in
-runs of its own. PROGRAM is the built program where none is named; `./teredo` builds it. Other work on the machine makes
+runs of its own. PROGRAM is the built program where none is named; `./teredo build` builds it. Other work on the machine makes
 other figures: the first line has its load.
 
   clients  `lab` and `wire` on 64 clients with 50,000 events

@@ -19,10 +19,10 @@ import tempfile
 
 TOP = os.path.dirname(os.path.dirname(os.path.abspath(__file__)))
 PROGRAM = os.path.join(TOP, 'crates', 'teredo_cli', 'out', 'teredo_cli')
-TOOLS = ('trace', 'flow', 'lint', 'check', 'generated')
+TOOLS = {'trace': 'trace', 'flow': 'flow', 'lint': 'lint', 'check': 'check', 'generated': 'generated', 'json': 'json_lines', 'csv': 'csv_table'}
 COMMAND = re.compile(rf'^\$ \./teredo (lab examples/|nested examples/|wire examples/|show |gen |(?:{"|".join(TOOLS)}) )')
 # How many commands each page quotes at least: a check of nothing passes.
-BLOCKS_MIN = {'README.md': 1, 'docs/GUIDE.md': 15, 'docs/SURE.md': 9, 'docs/CAPTURES.md': 2}
+BLOCKS_MIN = {'README.md': 1, 'docs/GUIDE.md': 15, 'docs/SURE.md': 9, 'docs/CAPTURES.md': 2, 'docs/COMMANDS.md': 4}
 # The status of what ends so; 0 of all else.
 STATUSES = {'fault ': 1, 'words': 2, 'scenario ': 3, 'wire full': 8, 'unlicensed ': 10, 'capture ': 11, 'nested': 12}
 
@@ -48,7 +48,7 @@ def blocks(text):
 def run(program, command):
     """The status of a quoted command, and the lines that it writes."""
     word = command.split()[2]
-    ours = [sys.executable, '-B', f'tools/{word}.py', '--program', program] if word in TOOLS else [program, word]
+    ours = [sys.executable, '-B', f'tools/{TOOLS[word]}.py', '--program', program] if word in TOOLS else [program, word]
     command = command.replace(f'$ ./teredo {word}', shlex.join(ours), 1)
     command = command.replace('| ./teredo ', f'| {shlex.quote(program)} ')
     done = subprocess.run(['bash', '-o', 'pipefail', '-c', command], cwd=TOP, stdout=subprocess.PIPE,

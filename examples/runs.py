@@ -24,7 +24,7 @@ def program_of(text):
     words = shlex.split(text)
     path = shutil.which(words[0]) if words else None
     if path is None:
-        raise command.Refusal(f'{text}: there is no such program; ./teredo builds the one of this repository at its first use',
+        raise command.Refusal(f'{text}: there is no such program; ./teredo build builds the one of this repository',
                               command.UNREADABLE)
     return [os.path.abspath(path), *words[1:]]
 

@@ -1,7 +1,7 @@
 """What the tools of this folder share: where things lie, how the program is called, how a tool ends.
 
 A tool ends with 0 where all is well, 1 where it found something, 2 where its words are wrong, 4 where a file can't be
-read or written, and 125 where the program can't be built. A fault is one line on standard error, never a traceback.
+read or written, and 125 where there is no program that may answer. A fault is one line on standard error, never a traceback.
 """
 import argparse
 import os
@@ -12,7 +12,7 @@ import tempfile
 import chains
 
 TOP = os.path.dirname(os.path.dirname(os.path.abspath(__file__)))
-PROGRAM = os.path.join(TOP, 'teredo')  # which builds the program where it has to
+PROGRAM = os.path.join(TOP, 'teredo')  # which says where the program has to be built first
 FOUND, WRONG_WORDS, UNREADABLE = 1, 2, 4
 SECONDS_MAX = 60  # that a run of the built program may take
 
@@ -33,7 +33,7 @@ def words(doc):
 def with_program(parser):
     """The same parser, with the program as an option."""
     parser.add_argument('--program', metavar='PROGRAM', default=PROGRAM,
-                        help='the built program; where none is named ./teredo, which builds it')
+                        help='the built program; ./teredo where none is named')
     return parser
 
 
@@ -66,12 +66,15 @@ def write(path, text):
         raise Refusal(f'{path}: {fault.strerror}', UNREADABLE) from None
 
 
-def call(program, *shape):
-    """The status of the program with these words, and the bytes that it wrote."""
+def call(program, *shape, once=False):
+    """The status of the program with these words, and the bytes that it wrote.
+
+    A tool that asks `once` may get an unproved answer where nothing is built, which then takes a minute or two."""
+    asked = {**os.environ, 'TEREDO_QUIET': '1'} | ({} if once else {'TEREDO_PROVED': '1'})
     try:
-        is_built = program != PROGRAM  # else it may be built first, and what that says is shown
+        is_built = program != PROGRAM  # else ./teredo may have something to say, which is shown
         played = subprocess.run([program, *shape], stdin=subprocess.DEVNULL, stdout=subprocess.PIPE,
-                                stderr=subprocess.DEVNULL if is_built else None, env={**os.environ, 'TEREDO_QUIET': '1'},
+                                stderr=subprocess.DEVNULL if is_built else None, env=asked,
                                 timeout=SECONDS_MAX if is_built else None)
     except OSError as fault:
         raise Refusal(f'{program}: {fault.strerror}', UNREADABLE) from None
@@ -82,18 +85,18 @@ def call(program, *shape):
     return played.returncode, played.stdout
 
 
-def play_file(program, path, chain=None):
+def play_file(program, path, chain=None, once=False):
     """The status of `lab PATH`, or of `nested PATH CHAIN`, and what it wrote."""
-    status, written = call(program, *(['lab', path] if chain is None else ['nested', path, chain]))
+    status, written = call(program, *(['lab', path] if chain is None else ['nested', path, chain]), once=once)
     return status, written.decode('utf-8', 'replace')
 
 
-def play(program, text, chain=None):
+def play(program, text, chain=None, once=False):
     """The same of a scenario's text; where no chain is named, with the one that it says."""
     with tempfile.NamedTemporaryFile('w', suffix='.toml', encoding='utf-8') as file:
         file.write(text)
         file.flush()
-        return play_file(program, file.name, chains.chain_of(text) if chain is None else chain)
+        return play_file(program, file.name, chains.chain_of(text) if chain is None else chain, once)
 
 
 def run(main):

@@ -222,11 +222,11 @@ def by_python(text):
     return ''
 
 
-def lint(program, path, chain=None):
+def lint(program, path, chain=None, once=False):
     """The lines on a file, none where it is played."""
     text = command.read(path)
     chain = chains.chain_of(text) if chain is None else chain
-    status, written = command.play_file(program, path, chain)
+    status, written = command.play_file(program, path, chain, once)
     if status not in (3, 12):
         return []
     said = written.strip()
@@ -242,7 +242,8 @@ def main():
     parser = command.with_chain(command.with_program(command.words(__doc__)))
     parser.add_argument('files', metavar='FILE', nargs='+')
     options = parser.parse_args()
-    lines = [line for path in options.files for line in lint(options.program, path, options.chain)]
+    is_one = len(options.files) == 1
+    lines = [line for path in options.files for line in lint(options.program, path, options.chain, is_one)]
     if lines:
         print('\n'.join(lines))
     return command.FOUND if lines else 0

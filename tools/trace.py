@@ -27,7 +27,7 @@ def load(options):
     if is_report(text):
         return Report(text), []
     events = scenario_events(options.file, text)
-    status, written = command.play(options.program, text, options.chain)
+    status, written = command.play(options.program, text, options.chain, once=True)
     if status not in (0, 8):
         raise command.Refusal(f'{options.file}: {written.strip() or f"status {status}"}; lint says where')
     return Report(written), events

@@ -1,0 +1,69 @@
+#!/usr/bin/env python3
+"""A report as JSON: a line for each record, its marks as objects, and last a line of the totals.
+
+FILE is a report of `lab` or `nested`, or a scenario, which is played first; `-` is standard input. What a record doesn't
+have stands in no key. docs/report.schema.json has the keys of a line.
+
+  json FILE | jq -r 'select(.drop) | "\\(.ms) \\(.node) \\(.fate)"'    when, where and by which rule something was dropped
+  json FILE | jq -c 'select(.address) | [.ms, .node, .address]'      who got which address
+"""
+import json
+import sys
+
+sys.dont_write_bytecode = True
+
+import causes
+import command
+from report import Entry
+from trace import load
+
+
+def mark_of(mark):
+    """An entry of the wire, or what wasn't sent."""
+    if not isinstance(mark, Entry):
+        return {'lost': mark.word, 'to': mark.target, 'bytes': mark.length}
+    if not mark.is_six:
+        return {'entry': mark.number, 'from': mark.source, 'to': mark.target, 'bytes': mark.length}
+    made = {'entry': mark.number, 'ipv6': True, 'bytes': mark.length}
+    return made | {'relay': mark.relay} if mark.relay else made
+
+
+def line_of(record):
+    line = {'record': record.index, 'ms': record.moment, 'event': record.event, 'act': record.act.partition(':')[0]}
+    if record.act.partition(':')[2].isdigit():
+        line['of'] = int(record.act.partition(':')[2])
+    if record.node != '-':
+        line['node'] = record.node
+    line |= {'fate': record.fate, 'drop': causes.is_drop(record.fate)}
+    had = {'address': record.address, 'handed': record.handed, 'late': record.late, 'gone': record.gone,
+           'marks': [mark_of(mark) for mark in record.marks]}
+    return line | {key: value for key, value in had.items() if value or value == 0 and key == 'handed'}
+
+
+def totals_of(text):
+    """The last line: numbers by their names, or that the wire is full."""
+    if text == 'wire full':
+        return {'wire': 'full'}
+    words = text.split(' ')[1:]
+    return {'totals': {name: int(number) for name, number in zip(words[::2], words[1::2])}}
+
+
+def lines_of(report):
+    return [line_of(record) for record in report.records] + [totals_of(report.totals)]
+
+
+def options_of(words):
+    parser = command.with_chain(command.with_program(command.words(__doc__)))
+    parser.add_argument('file', metavar='FILE', help='a report or a scenario')
+    return parser.parse_args(words)
+
+
+def main():
+    report, _ = load(options_of(sys.argv[1:]))
+    for line in lines_of(report):
+        print(json.dumps(line))
+    return 0
+
+
+if __name__ == '__main__':
+    command.run(main)

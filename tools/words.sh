@@ -1,0 +1,49 @@
+# What ./teredo says of words that the program would refuse: which word is wrong, and why. It is sourced.
+# shellcheck shell=bash
+
+# want SAID COUNT WANTED: as many words as the command has.
+want() {
+  [ "$2" -eq "$3" ] || refuse "$1"
+}
+
+# Is there a file to read? Where there is none, the program would answer the same.
+want_file() {
+  [ -e "$1" ] || { say "$1: there is no such file"; exit "$unreadable"; }
+  [ -r "$1" ] && [ ! -d "$1" ] || { say "$1: can't be read: a folder, or its permissions"; exit "$unreadable"; }
+}
+
+# is_above NUMBER MOST: of two numbers without leading zeros, of as many digits as there may be.
+is_above() {
+  [ ${#1} -gt ${#2} ] || { [ ${#1} -eq ${#2} ] && [[ $1 > $2 ]]; }
+}
+
+# want_number NAME WORD LEAST MOST: a whole number in its one spelling.
+want_number() {
+  local LC_ALL=C
+  case $2 in
+    '' | *[!0-9]*) refuse "$1 is a whole number in digits alone, from $3 to $4, and '$2' is none" ;;
+    0?*) refuse "$1 has no zeros in front: '$2'" ;;
+  esac
+  ! is_above "$2" "$4" || refuse "$1 is at most $4, and $2 is more"
+  [ "$3" = 0 ] || [ "$2" != 0 ] || refuse "$1 is at least $3"
+}
+
+# want_address NAME WORD: an IPv4 address in its one spelling.
+want_address() {
+  local LC_ALL=C part parts
+  [[ $2 =~ ^[0-9]+\.[0-9]+\.[0-9]+\.[0-9]+$ ]] || refuse "$1 is an IPv4 address, four numbers with points between them, and '$2' is none"
+  IFS=. read -ra parts <<<"$2"
+  for part in "${parts[@]}"; do
+    case $part in
+      0?*) refuse "$1 has no zeros in front of a number: '$2'" ;;
+    esac
+    ! is_above "$part" 255 || refuse "$1 has four numbers from 0 to 255: '$2'"
+  done
+}
+
+# want_pair IP1 IP2: the two addresses of a server.
+want_pair() {
+  want_address IP1 "$1"
+  want_address IP2 "$2"
+  [ "$1" != "$2" ] || refuse "IP1 and IP2 are two addresses, and both are $1"
+}
