@@ -56,6 +56,17 @@ coloured() {
     { print }' "$top/docs/SCENARIOS.md" -
 }
 
+# What the program says but that nobody reads any more.
+without_noise() {
+  local line
+  while IFS= read -r line; do
+    case $line in
+      *'nobody reads standard output any more'*) ;;
+      *) echo "$line" ;;
+    esac
+  done
+}
+
 # Runs the program. A pipe whose reader has enough is no fault worth a line; a report on a terminal has its drops in red.
 run_program() {
   case $1 in
@@ -65,7 +76,7 @@ run_program() {
       tell_asked "$@"
       ;;
     lab | nested)
-      if [ -t 1 ] && [ -z "${NO_COLOR-}" ] && [ "${TERM-dumb}" != dumb ]; then
+      if [ -t 1 ] && [ -z "${NO_COLOR-}" ] && [ "${TERM-dumb}" != dumb ] && command -v awk >/dev/null; then
         "$program" "$@" | coloured
         exit "${PIPESTATUS[0]}"
       fi
@@ -73,7 +84,7 @@ run_program() {
     *)
       if [ -p /dev/stdout ] && [ -z "${TEREDO_QUIET-}" ]; then
         exec 3>&1
-        "$program" "$@" 2>&1 >&3 3>&- | grep -v 'nobody reads standard output any more' >&2
+        "$program" "$@" 2>&1 >&3 3>&- | without_noise >&2
         exit "${PIPESTATUS[0]}"
       fi
       ;;

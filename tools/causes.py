@@ -1,9 +1,23 @@
 """Why a packet was lost or waits: a sentence for each way, from what the report says happened before."""
+import os
+import re
+
+import command
 import fates
 from report import SOLICITATIONS, Entry, teredo_parts
 
-# How long a peer is trusted, and listed, after it was heard, and what lies between two tries: docs/RULES.md, "Peers".
-FRESH_MS, LISTED_MS, TRY_GAP_MS = 30_000, 300_000, 2_000
+
+def peer_ms(word):
+    """The milliseconds in what docs/RULES.md, "Peers", says of a word."""
+    page = command.read(os.path.join(command.TOP, 'docs', 'RULES.md')).partition('\n## Peers\n')[2]
+    found = re.search(rf'^\| {word} \| .*?([\d,]+) ms ago', page, re.M)
+    if not found:
+        raise command.Refusal(f'docs/RULES.md, "Peers", has no time for `{word}`')
+    return int(found[1].replace(',', ''))
+
+
+# How long a peer is trusted, and listed, after it was heard, and what lies between two tries.
+FRESH_MS, LISTED_MS, TRY_GAP_MS = peer_ms('fresh'), peer_ms('listed'), peer_ms('barred')
 TRIES = ('queued', 'bubbles', 'test', 'indirect', 'held_test', 'suspicious_test')
 TESTS = ('held_test', 'suspicious_test')
 DRAWS = ('queued', 'indirect', 'advert', 'echoed', 'forward', 'forward_origin', 'six', 'sent', 'sent_cone')
@@ -317,7 +331,7 @@ def of_unlisted(travels, record):
     if restarts and (not known or restarts[-1].index > known[-1].index):
         return f'{relay} was restarted {when(restarts[-1])}, and knows nothing of {entry.source} since'
     if known:
-        return f'{relay} had nothing to do with {entry.source} for {record.moment - known[-1].moment:,} ms: forgotten after 300 s'
+        return f'{relay} had nothing to do with {entry.source} for {record.moment - known[-1].moment:,} ms: forgotten after {LISTED_MS // 1000} s'
     return f'{relay} never had a packet for {entry.source}: the IPv6 side has to speak first'
 
 

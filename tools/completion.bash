@@ -1,0 +1,35 @@
+# Completion of teredo's words for bash: commands, files, and the options of the tools.
+# In a checkout: . tools/completion.bash
+_teredo() {
+  local word=${COMP_WORDS[COMP_CWORD]} before=${COMP_WORDS[COMP_CWORD-1]} name=${COMP_WORDS[1]} options=
+  COMPREPLY=()
+  if [ "$COMP_CWORD" -eq 1 ]; then
+    mapfile -t COMPREPLY < <(compgen -W 'lab nested gen show wire audit serve qualify lint trace flow json csv play check generated pairs build --help --version' -- "$word")
+    return
+  fi
+  case $name in
+    lint | json | csv | play) options='--program --chain' ;;
+    trace) options='--program --chain --event --packets' ;;
+    flow) options='--program --chain --svg --from --to --nodes' ;;
+    check) options='--program --write' ;;
+    pairs) options='--check --scenario' ;;
+    build) options='--jobs' ;;
+  esac
+  case $before in
+    --chain | --event | --from | --to | --nodes | --jobs | --scenario) return ;;
+  esac
+  case $word in
+    -*) mapfile -t COMPREPLY < <(compgen -W "$options --help" -- "$word"); return ;;
+  esac
+  case $name:$COMP_CWORD in
+    lab:2 | nested:2 | wire:2 | audit:4 | lint:* | trace:* | flow:* | json:* | csv:* | play:* | check:*)
+      compopt -o filenames 2>/dev/null
+      mapfile -t COMPREPLY < <(compgen -f -- "$word")
+      ;;
+    serve:[23] | audit:[23] | qualify:[234])
+      mapfile -t COMPREPLY < <(compgen -W "$(ip -4 -o address 2>/dev/null | awk '{sub(/\/.*/, "", $4); print $4}')" -- "$word")
+      ;;
+    pairs:*) mapfile -t COMPREPLY < <(compgen -W 'cone restricted port symmetric native' -- "$word") ;;
+  esac
+}
+complete -F _teredo teredo ./teredo
