@@ -93,6 +93,20 @@ run_program() {
   exec "$program" "$@"
 }
 
+# Does a capture have another form than the program reads, and one that tools/capture.py converts? Pipes are taken as they are.
+wants_conversion() {
+  local head
+  [ -f "$1" ] && command -v python3 >/dev/null || return 1
+  head=$(od -An -v -tx1 -N24 -- "$1" | tr -d ' \n')
+  case $head in
+    0a0d0d0a*) return 0 ;;                                                    # pcapng
+    d4c3b2a1* | 4d3cb2a1*) [ "${head:40:8}" = 65000000 ] || return 0 ;;       # another link than raw IP
+    a1b2c3d4* | a1b23c4d*) [ "${head:40:8}" = 00000065 ] || return 0 ;;
+    *) return 1 ;;
+  esac
+  [ "$(stat -c %s -- "$1")" -gt 100663296 ]
+}
+
 # The name of a file in the folder of a trial: its own, where that may stand there.
 trial_name() {
   local name=${1##*/}
@@ -143,6 +157,9 @@ try_unproved() {
 # Answers by the built program, always where there is one; else by a trial, where the words may have one.
 answer() {
   if is_built; then
+    case $1 in
+      audit | explain) ! wants_conversion "$4" || run_tool "$top/tools/capture.py" "$4" --judge "$1" "$2" "$3" --program "$program" ;;
+    esac
     run_program "$@"
   fi
   [ -z "${TEREDO_PROVED-}" ] || ask_for_build "the program isn't built from these sources, and nothing unproved may answer here"
