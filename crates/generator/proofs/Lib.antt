@@ -3,3 +3,4 @@ mod Fitting
 mod EventRules
 mod Names
 mod Stream
+mod Honest

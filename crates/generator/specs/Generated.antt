@@ -1,8 +1,9 @@
 -- The generated scenario.
-use Rattle.std.specs.Prelude.{ℕ, ◌+◌, ◌*◌, List}
+use Rattle.std.specs.Prelude.{◌≡◌, ℕ, ◌+◌, ◌*◌, true, List}
 use Rattle.events.specs.declared.event.Event.{Event}
 use Rattle.events.specs.Scenario.{Scenario}
 use Rattle.legal.specs.Lab.{draws}
+use Rattle.legal.specs.Honest.{is_honest}
 use Rattle.generator.specs.declared.words.TheConstants.{EVENTS_STREAM}
 use Rattle.generator.specs.GeneratedNodes.{firsts, generated_nodes}
 use Rattle.generator.specs.GeneratedEvent.{generated_event}
@@ -22,3 +23,7 @@ generated_events seed count = firsts (event_numbered seed) count
 -- the scenario of a seed, with so many events
 abbrev pub generated : ℕ → ℕ → Scenario
 generated seed count = record { seed = seed; topology = generated_nodes; events = generated_events seed count }
+
+-- it is honest: nobody in it says that it is a NAT, a server or a relay
+abbrev pub EachGeneratedIsHonest : Type 0
+EachGeneratedIsHonest = (seed count : ℕ) → is_honest (generated seed count) ≡ true

@@ -6,6 +6,7 @@
 //!
 //! - `generate` makes the nodes and events of `specs/Generated.antt`, the same on every machine, or memory ran out.
 //! - The nodes keep the rules of a topology, and each event is one that its nodes can be asked for.
+//! - Each such scenario is honest: nobody in it says that it is a NAT, a server or a relay.
 //!
 //! # What it does not know
 //!
@@ -19,7 +20,7 @@
 //! | `event` | an event of three words | `specs/GeneratedEvent.antt` |
 //! | `words` | the stream of the words | `specs/Generated.antt` |
 //! | `generated` | `Generated`, `generate` | `specs/Generated.antt` |
-//! | `laws` | what holds of the numbers | `specs/Numbers.antt` |
+//! | `laws` | what holds of every scenario, and of the numbers | `specs/Generated.antt`, `specs/Numbers.antt` |
 #![tactic(auto)]
 
 mod event;
@@ -32,6 +33,6 @@ mod words;
 
 pub use event::ADVANCE_END_MS;
 pub use generated::{Generated, generate};
-pub use laws::generated_numbers;
+pub use laws::{generated_is_honest, generated_numbers};
 pub use nodes::{FIRST_CLIENT, FIRST_NAT, FIRST_NATIVE, INSIDE_PORT, MAPPING_IDLE_MS, THE_RELAY};
 pub use words::EVENTS_STREAM;
