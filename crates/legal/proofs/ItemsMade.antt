@@ -1,6 +1,6 @@
 -- What each entry of a record is, by the record's kind and by its node.
-use Rattle.std.proofs.Common.{◌≡◌, ℕ, ◌+◌, suc, Bool, true, false, List, [], ◌∷◌, ◌++◌, Option, Some, None, Result, Ok, Err, refl, sym, ap, subst, ◌∙◌, arith}
-use Rattle.std.specs.Prelude.{Contains, filter_map, is_some}
+use Rattle.std.proofs.Common.{◌≡◌, ℕ, ◌+◌, zero, suc, Bool, true, false, List, [], ◌∷◌, ◌++◌, Option, Some, None, Result, Ok, Err, refl, sym, ap, subst, ◌∙◌, arith}
+use Rattle.std.specs.Prelude.{Contains, filter_map, slice_get, is_some}
 use Rattle.std.proofs.lemmas.Bool.{false≢true}
 use Rattle.std.specs.List.{AllByRecursion}
 use Rattle.std.proofs.lemmas.List.Elements.{filter_map-append}
@@ -16,7 +16,7 @@ use Rattle.topology.specs.declared.node.Node.{Node}
 use Rattle.topology.specs.declared.node.Node.TheVariants.{Server as server, Nat as nat, Client as client, Relay as relay, Native as native}
 use Rattle.topology.specs.Topology.{own_ep}
 use Rattle.topology.specs.Chains.{Passing, nat_set_up, way_out, crossing}
-use Rattle.history.specs.Full.{Item, udp, six, Made, item_in, Full, items_of, bytes_of}
+use Rattle.history.specs.Full.{Item, udp, six, Made, item_in, Full, wire, items_of, bytes_of}
 use Rattle.legal.specs.Lab.{Lab}
 use Rattle.legal.specs.Past.{now, nat_history, nat_pasts, armed}
 use Rattle.legal.specs.Emit.{is_at_place, crossing_unless, or_loss, marked, by_way, made_outright, outright, six_made, native_packet, relay_for, native_made, sendings}
@@ -40,6 +40,16 @@ there x xs y c = (suc c.0, (let within = c.1 in omega (arith, within)), c.2)
 pub all_joined : {A : Type 0} (P : A → Type 0) (xs ys : List A) → AllByRecursion P xs → AllByRecursion P ys → AllByRecursion P (xs ++ ys)
 all_joined P [] ys a b = b
 all_joined P (x ∷ xs) ys a b = (a.0, all_joined P xs ys a.1 b)
+
+-- what was on the wire stays there, at its place
+pub stays : (xs ys : List Item) (i : ℕ) (x : Item) → slice_get xs i ≡ Some x → slice_get (xs ++ ys) i ≡ Some x
+stays [] ys i x e = absurd (false≢true (ap (λ (o : Option Item). is_some o) e))
+stays (y ∷ xs) ys zero x e = e
+stays (y ∷ xs) ys (suc i) x e = stays xs ys i x e
+
+pub wire_stays : (later H : List Full) (i : ℕ) (x : Item) → slice_get (wire H) i ≡ Some x → slice_get (wire (later ++ H)) i ≡ Some x
+wire_stays [] H i x e = e
+wire_stays (r ∷ later) H i x e = stays (wire (later ++ H)) (items_of r) i x (wire_stays later H i x e)
 
 -- all that two lists of sends and losses made
 items_joined : (P : Item → Type 0) (xs ys : List Made) → AllByRecursion P (filter_map item_in xs) → AllByRecursion P (filter_map item_in ys) → AllByRecursion P (filter_map item_in (xs ++ ys))

@@ -43,7 +43,7 @@ use Rattle.topology.specs.NodeRules.{IsServerNode, IsClientNode, IsRelayNode}
 use Rattle.topology.proofs.Lists.{all_at}
 use Rattle.events.specs.declared.event.Event.{Event}
 use Rattle.events.specs.Events.{IsEvent}
-use Rattle.history.specs.Full.{Item, udp, six, Full, wire}
+use Rattle.history.specs.Full.{Item, udp, Full, wire}
 use Rattle.legal.specs.Lab.{Lab}
 use Rattle.legal.specs.Settings.{server_settings, client_settings, relay_settings}
 use Rattle.legal.specs.Past.{journal}

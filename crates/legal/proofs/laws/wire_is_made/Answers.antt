@@ -14,6 +14,7 @@ returns c = wires.each_history_is_made (record {
     one = c.one_entry.ensures;
   };
   packet = c.packet_is_bytes.ensures;
+  back = c.packet_reads_back.ensures;
   carried = c.message_is_carried.ensures;
   message = c.message_is_bytes.ensures;
   server = c.each_output_is_made.ensures;
@@ -23,6 +24,8 @@ returns c = wires.each_history_is_made (record {
   relay = c.each_send_is_foreign.ensures;
   own = c.each_is_own_packet.ensures;
   reply = c.each_reply_is_made.ensures;
+  answers = c.each_is_reply.ensures;
+  gives = c.gives_packet.ensures;
   rules = c.each_node.ensures;
   ports = c.live_mappings_are_few.ensures.ports;
 })

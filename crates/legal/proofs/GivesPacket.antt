@@ -1,0 +1,156 @@
+-- What servers and relays give to the IPv6 side: the packet of a datagram, which came from where a Teredo source says.
+use Rattle.std.proofs.Common.{◌≡◌, ◌-◌, ℕ, Bool, true, false, not, ◌&&◌, List, length, drop, Option, Some, None, Result, Ok, Err, refl, sym, ap, subst, ◌∙◌, arith, length-drop}
+use Rattle.std.specs.Prelude.{is_some, unwrap_or}
+use Rattle.std.proofs.lemmas.Bool.{false≢true}
+use Rattle.std.proofs.lemmas.List.{take_all}
+use Rattle.td_base.specs.Bytes.{IsBytes}
+use Rattle.td_base.specs.Ep.{same_ep, same_ep-true}
+use Rattle.td_base.specs.declared.endpoint.Ep.{Ep}
+use Rattle.td_base.specs.declared.span.Span.{Span}
+use Rattle.td_base.specs.declared.side.Side.{Side}
+use Rattle.ipv6_packet.specs.Packets.{Fields}
+use Rattle.ipv6_packet.specs.Laws.{ReadsPacket, PacketReadsBack}
+use Rattle.teredo_addr.specs.Teredo.{is_teredo, embedded}
+use Rattle.bubble.specs.Payloads.{Value, payload_at}
+use Rattle.bubble.specs.Reads.{is_payload, value_in, is_ok_payload, value_or}
+use Rattle.bubble.specs.Laws.{PayloadIsSpelled}
+use Rattle.bubble.specs.PacketsIn.{source_in}
+use Rattle.bubble.specs.declared.fault.PayloadFault.{PayloadFault}
+use Rattle.teredo_node.specs.declared.fate.Fate.{Fate}
+use Rattle.teredo_node.specs.declared.fate.Fate.TheVariants as fate
+use Rattle.teredo_node.specs.Step.{Step, part, rest_of}
+use Rattle.teredo_node.specs.Journal.{Words}
+use Rattle.server_core.specs.declared.server.ServerSettings.{ServerSettings}
+use Rattle.server_core.specs.declared.rules.Rule.{Rule}
+use Rattle.server_core.specs.declared.rules.Rule.TheVariants.{Dropped, Advert, ForwardOrigin, Forward, Six}
+use Rattle.server_core.specs.Rules.{server_seen, rule_of}
+use Rattle.server_core.specs.RuleWarrants.{RuledOnlyIf, RuleIsWarranted}
+use Rattle.server_core.specs.Conditions.{is_forged}
+use Rattle.server_core.specs.Server.{step_of, by_payload, server_row}
+use Rattle.relay_rules.specs.Standing.{RelaySettings, RelayStanding, relay_standing_of}
+use Rattle.relay_rules.specs.Reception.{relay_seen, relay_reception_row, relay_reception_step, relay_reception}
+use Rattle.relay_rules.specs.Warrants.{RelayReceivedOnlyIf}
+use Rattle.relay_rules.specs.Laws.{RelayReceptionIsWarranted}
+use Rattle.relay_rules.specs.Journals.{relay_in}
+use Rattle.qualify.specs.declared.settings.Settings.{Settings}
+use Rattle.client_rules.specs.Standing.{Standing, standing_of}
+use Rattle.client_rules.specs.Reception.{reception_fate, reception_step, reception}
+use Rattle.client_rules.specs.Journals.{client_in}
+use Rattle.topology.specs.declared.node.Node.{Node}
+use Rattle.topology.specs.declared.node.Node.TheVariants.{Server as server, Nat as nat, Client as client, Relay as relay, Native as native}
+use Rattle.topology.specs.Topology.{side_at}
+use Rattle.legal.specs.Settings.{server_settings, client_settings, relay_settings}
+use Rattle.legal.specs.Past.{journal, words}
+use Rattle.legal.specs.GivesPacket.{PassesOn, GivesPacket, EachGivesPacket}
+
+-- what is given is the packet of a payload, from where it says
+record IsItsPacket (from : Ep) (x : List ℕ) (span : Span) : Type 0 where
+  payload : is_payload x ≡ true
+  whole : span ≡ rest_of (value_in x).lead.at x
+  embeds : is_teredo (value_in x).packet.src ≡ true → from ≡ embedded (value_in x).packet.src
+
+abbrev Gives : Ep → List ℕ → Step → Type 0
+Gives from x step = (span : Span) → step.six ≡ Some span → IsItsPacket from x span
+
+none_given : (from : Ep) (x : List ℕ) (step : Step) → step.six ≡ None → Gives from x step
+none_given from x step none span is = absurd (false≢true (ap (λ (o : Option Span). is_some o) (sym none ∙ is)))
+
+one_given : (at span : Span) → Some at ≡ Some span → span ≡ at
+one_given at span e = sym (ap (λ (o : Option Span). unwrap_or o at) e)
+
+-- where a test of both fails and the one holds, the other does
+second : (b c : Bool) → (b && not c) ≡ false → b ≡ true → c ≡ true
+second true true h e = refl
+second true false h e = absurd (false≢true (sym h))
+second false c h e = absurd (false≢true e)
+
+-- a server
+unforged : (from : Ep) (p : Fields) → is_forged from p ≡ false → is_teredo p.src ≡ true → from ≡ embedded p.src
+unfolding is_forged
+unforged from p h teredo = sym (same_ep-true (embedded p.src) from (second (is_teredo p.src) (same_ep (embedded p.src) from) h teredo))
+
+server_gives : RuleIsWarranted → (s : ServerSettings) (side : Side) (from : Ep) (x : List ℕ) → Gives from x (server_row s side from x)
+unfolding server_row is_payload value_in
+server_gives law s side from x = by (payload_at x) refl where
+  by_rule : (v : Value) → payload_at x ≡ Ok v → (r : Rule) → RuledOnlyIf r (server_seen s from v) → Gives from x (step_of s side from x v r)
+  by_rule v e (Dropped f) only = none_given from x (step_of s side from x v (Dropped f)) refl
+  by_rule v e Advert only = none_given from x (step_of s side from x v Advert) refl
+  by_rule v e ForwardOrigin only = none_given from x (step_of s side from x v ForwardOrigin) refl
+  by_rule v e Forward only = none_given from x (step_of s side from x v Forward) refl
+  by_rule v e Six only = λ span is.
+      record {
+        payload = ap is_ok_payload e;
+        whole = one_given (rest_of v.lead.at x) span is ∙ ap (λ (r : Result Value PayloadFault). rest_of (value_or r).lead.at x) (sym e);
+        embeds = λ teredo.
+            let same : value_or (payload_at x) ≡ v = ap value_or e in
+            unforged from v.packet only.on.unforged (ap (λ (z : Value). is_teredo z.packet.src) (sym same) ∙ teredo) ∙ ap (λ (z : Value). embedded z.packet.src) (sym same);
+      }
+
+  by : (r : Result Value PayloadFault) → payload_at x ≡ r → Gives from x (by_payload s side from x r)
+  by (Ok v) e = by_rule v e (rule_of s from v) (law s from v)
+  by (Err f) e = none_given from x (by_payload s side from x (Err f)) refl
+
+-- a relay
+relay_gives : RelayReceptionIsWarranted → (s : RelaySettings) (a : RelayStanding) (from : Ep) (x : List ℕ) → Gives from x (relay_reception s a from x)
+unfolding relay_reception relay_seen
+relay_gives law s a from x = by (relay_reception_row (relay_seen s a from x)) (law s a from x) where
+  by : (f : Fate) → RelayReceivedOnlyIf f (relay_seen s a from x) → Gives from x (relay_reception_step a x (value_in x) f)
+  by fate.FromClient only = λ span is.
+      record {
+        payload = only.peer.payload;
+        whole = one_given (rest_of (value_in x).lead.at x) span is;
+        embeds = λ teredo. sym (same_ep-true (embedded (value_in x).packet.src) from only.peer.embedded);
+      }
+  by fate.FromClientBubble only = none_given from x (relay_reception_step a x (value_in x) fate.FromClientBubble) refl
+  by fate.Unserved only = none_given from x (relay_reception_step a x (value_in x) fate.Unserved) refl
+  by f only = none_given from x (relay_reception_step a x (value_in x) f) refl
+
+-- a client gives nothing
+client_gives : (s : Settings) (a : Standing) (from : Ep) (x : List ℕ) (w : Words) → (reception s a from x w).six ≡ None
+unfolding reception
+client_gives s a from x w = by (value_in x) (reception_fate s a from x) where
+  by : (v : Value) (f : Fate) → (reception_step s a from x v w f).six ≡ None
+  by v fate.QualifiedCone = refl
+  by v fate.QualifiedRestricted = refl
+  by v fate.Changed = refl
+  by v fate.Indirect = refl
+  by v fate.Rule1 = refl
+  by v fate.Rule1Bubble = refl
+  by v fate.Rule2 = refl
+  by v fate.Rule3 = refl
+  by v fate.Rule3Bubble = refl
+  by v fate.HeldTest = refl
+  by v fate.SuspiciousTest = refl
+  by v _ = refl
+
+-- EACH NODE
+
+pub record GivingLaws : Type 0 where
+  pub servers : RuleIsWarranted
+  pub relays : RelayReceptionIsWarranted
+  pub payload : PayloadIsSpelled
+  pub back : PacketReadsBack
+
+module _ (laws : GivingLaws) where
+  -- it is read as the packet of the payload
+  reads : (from : Ep) (x : List ℕ) (span : Span) → IsItsPacket from x span → IsBytes x → ReadsPacket (value_in x).packet (part x span)
+  reads from x span is bytes =
+      let spelled = laws.payload x bytes is.payload in
+      let at = (value_in x).lead.at in
+      let whole : part x (rest_of at x) ≡ drop at x = take_all (length x - at) (drop at x) (let l = length-drop at x in omega (arith, l)) in
+      subst (ReadsPacket (value_in x).packet) (sym (ap (part x) is.whole ∙ whole ∙ spelled.packet)) (laws.back (value_in x).packet spelled.spelled.is_packet.0)
+
+  given : (a : Node) (from : Ep) (x : List ℕ) (span : Span) → PassesOn a → IsItsPacket from x span → GivesPacket a from x span
+  given a from x span passes is =
+      record { passes = passes; payload = is.payload; whole = is.whole; reads = reads from x span is; embeds = is.embeds }
+
+  pub each_gives_packet : EachGivesPacket
+  unfolding client_in relay_in
+  each_gives_packet lab H m n dst from x (server a) span e =
+      given (server a) from x span tt (server_gives laws.servers (server_settings a) (side_at (server a) dst) from x span e)
+  each_gives_packet lab H m n dst from x (relay r) span e = given (relay r) from x span tt
+      (relay_gives laws.relays (relay_settings lab.topology n r) (relay_standing_of (journal n H).entries m (source_in x)) from x span e)
+  each_gives_packet lab H m n dst from x (client c) span e = absurd (false≢true (ap (λ (o : Option Span). is_some o)
+      (sym (client_gives (client_settings lab.topology c) (standing_of (client_settings lab.topology c) (journal n H) m (source_in x)) from x (words lab n H)) ∙ e)))
+  each_gives_packet lab H m n dst from x (nat a) span e = absurd (false≢true (ap (λ (o : Option Span). is_some o) e))
+  each_gives_packet lab H m n dst from x (native h) span e = absurd (false≢true (ap (λ (o : Option Span). is_some o) e))

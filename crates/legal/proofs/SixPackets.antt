@@ -1,0 +1,98 @@
+-- What is on its way on the IPv6 side is a packet.
+use Rattle.std.proofs.Common.{◌≡◌, ◌+◌, ℕ, true, List, ◌∷◌, ◌++◌, length, Option, Some, None, Result, Ok, Err, refl, sym, ap, subst, ◌∙◌, arith}
+use Rattle.std.specs.Prelude.{is_some}
+use Rattle.std.proofs.lemmas.Bool.{false≢true}
+use Rattle.std.proofs.lemmas.List.{length-append}
+use Rattle.td_base.specs.Ip6.{IsIp6}
+use Rattle.ipv6_packet.specs.declared.fault.PacketFault.{PacketFault}
+use Rattle.ipv6_packet.specs.declared.header.TheConstants.{HEADER}
+use Rattle.ipv6_packet.specs.Packets.{Fields, packet_bytes, packet_at}
+use Rattle.ipv6_packet.specs.Reads.{no_fields, is_ok_packet, fields_or, is_packet, fields_in}
+use Rattle.icmp6.specs.Message.{Message, echo_request, echo_reply}
+use Rattle.bubble.specs.Messages.{message_in, message_packet}
+use Rattle.native_host.specs.declared.limits.TheConstants.{HOST_HOP}
+use Rattle.native_host.specs.Natives.{native_in}
+use Rattle.native_host.specs.NativeSends.{IsMadePacket, IsReply}
+use Rattle.teredo_node.specs.Step.{Step}
+use Rattle.teredo_node.specs.Journal.{Input, arrived, given, from_six, ticked, Entry}
+use Rattle.topology.specs.declared.native_node.NativeNode.{NativeNode}
+use Rattle.topology.specs.declared.node.Node.TheVariants.{Native as native}
+use Rattle.history.specs.Full.{Item, Full}
+use Rattle.legal.specs.Lab.{Lab}
+use Rattle.legal.specs.Emit.{entry_of, native_packet}
+use Rattle.legal.specs.Legal.{Grown}
+use Rattle.legal.specs.Makers.{MadeBy, from_nowhere, by_server, by_relay, by_client, by_native, to_six}
+use Rattle.legal.specs.MadeWire.{IsPacketItem}
+use Rattle.legal.proofs.WireLaws.{WireLaws, Scene}
+use Rattle.legal.proofs.MadeInputs.{IsShortInput, entry_input, act_made}
+
+-- A REPLY
+
+no_message : message_in no_fields ≡ None
+unfolding message_in
+no_message = refl
+
+-- one with a message is a packet
+pub has_message : (x : List ℕ) (m : Message) → message_in (fields_in x) ≡ Some m → is_packet x ≡ true
+unfolding is_packet fields_in
+has_message x m e = by (packet_at x) e where
+  by : (r : Result Fields PacketFault) → message_in (fields_or r) ≡ Some m → is_ok_packet r ≡ true
+  by (Ok p) g = refl
+  by (Err f) g = absurd (false≢true (ap (λ (o : Option Message). is_some o) (sym no_message ∙ g)))
+
+long_of : (v : Fields) → IsIp6 v.src → IsIp6 v.dst → length (packet_bytes v) ≡ HEADER + length v.body
+unfolding packet_bytes
+long_of v src dst =
+    let whole = length-append (v.src.0 ++ v.dst.0) v.body in
+    let both = length-append v.src.0 v.dst.0 in
+    let from = src.0 in
+    let to = dst.0 in
+    omega (arith, whole, both, from, to)
+
+reply_is_packet : WireLaws → (x y : List ℕ) → IsMadePacket x → (native_in x).packet ≡ Some y → is_packet y ≡ true
+reply_is_packet laws x y made e =
+    let r : IsReply x y = laws.answers x y e in
+    let ends = (laws.inputs.packet x made.bytes (has_message x (echo_request r.id r.seq r.body) r.request)).0 in
+    let v : Fields = message_packet HOST_HOP (fields_in x).dst (fields_in x).src (echo_reply r.id r.seq r.body) in
+    let most = (laws.reply x y made e).short in
+    let long = ap length r.reply ∙ long_of v ends.dst ends.src in
+    let back = laws.back v (record {
+      class = omega arith;
+      flow = omega arith;
+      next = omega arith;
+      hop = omega arith;
+      src = ends.dst;
+      dst = ends.src;
+      body = omega (arith, most, long);
+    }) in
+    ap is_packet r.reply ∙ back.is_one
+
+-- WHAT A NATIVE SENDS
+
+no_bytes_in : {x : List ℕ} {P : Type 0} → None ≡ Some x → P
+no_bytes_in e = absurd (false≢true (ap (λ (o : Option (List ℕ)). is_some o) e))
+
+native_sends : WireLaws → (h : NativeNode) (input : Input) (y : List ℕ) → IsShortInput input → native_packet h input ≡ Some y → is_packet y ≡ true
+native_sends laws h (given x) y made e = let is = laws.own h.six x y e in ap is_packet is.same ∙ is.packet
+native_sends laws h (from_six x) y made e = reply_is_packet laws x y (record { bytes = made.made; short = made.short }) e
+native_sends laws h (arrived from x) y made e = no_bytes_in e
+native_sends laws h ticked y made e = no_bytes_in e
+
+-- EACH
+
+module _ (lab : Lab) (H : List Full) (scene : Scene lab H) (r : Full) (g : Grown lab (r ∷ H)) where
+  pub is_packet_item : (x : Item) → MadeBy lab H r x → IsPacketItem x
+  is_packet_item x (from_nowhere src dst bytes forged same) = subst IsPacketItem (sym same) tt
+  is_packet_item x (by_server n a e s act c same) = subst IsPacketItem (sym same) tt
+  is_packet_item x (by_relay n a e s act c same) = subst IsPacketItem (sym same) tt
+  is_packet_item x (by_client n c e s src act held leaves same) = subst IsPacketItem (sym same) tt
+  is_packet_item x (by_native n h e bytes act p same) =
+      subst IsPacketItem (sym same) (native_sends scene.laws h e.input bytes (act_made lab H scene r n (native h) e g.0.event act) p)
+  is_packet_item x (to_six n a e from bytes span act came gives same) =
+      let input : act.input ≡ arrived from bytes =
+      sym (ap (λ (z : Entry). z.input) act.step ∙ entry_input lab H r.moment n act.dst act.input a) ∙ came in
+      let step : e.step ≡ (entry_of lab H r.moment n act.dst (arrived from bytes) a).step =
+      ap (λ (z : Entry). z.step) act.step ∙ ap (λ (i : Input). (entry_of lab H r.moment n act.dst i a).step) input in
+      let packet = scene.laws.gives lab H r.moment n act.dst from bytes a span (ap (λ (z : Step). z.six) (sym step) ∙ gives) in
+      let made = (subst IsShortInput came (act_made lab H scene r n a e g.0.event act)).made.1 in
+      subst IsPacketItem (sym same) (packet.reads made).is_one
