@@ -76,7 +76,7 @@ module _ (laws : OriginLaws) (l : Latest) (n : ℕ) (c : ClientNode) (e : Entry)
   pub is_j : IsJournal own (with_entry before e)
   is_j = subst (IsJournal own) act.later (laws.clients lab (r ∷ H) n c l.grown act.there).journal
 
-  its : IsMadeStanding own before e
+  pub its : IsMadeStanding own before e
   its =
       let made = act_made laws.made l n (client c) e act in
       laws.standing own before e is_j (client_made laws.rules lab.topology n c l.is act.there) made.input made.before
@@ -116,7 +116,7 @@ module _ (laws : OriginLaws) (l : Latest) (n : ℕ) (c : ClientNode) (e : Entry)
             (sym same);
       }
 
-  carried : (to : Ep) (x : List ℕ) (p : Ip6) → IsCarriedTo before e to x → IsOwnTo (qualification own before).address e.peer x → p ≡ (fields_in x).src
+  pub carried : (to : Ep) (x : List ℕ) (p : Ip6) → IsCarriedTo before e to x → IsOwnTo (qualification own before).address e.peer x → p ≡ (fields_in x).src
       → HandedIn lab (r ∷ H) n c p x
   carried to x p (to_trusted input by at) of same = now_handed x p input (of.source ∙ ap (λ (z : Ip6). Some z) (sym same))
   carried to x p (to_cone input by at) of same = now_handed x p input (of.source ∙ ap (λ (z : Ip6). Some z) (sym same))

@@ -9,4 +9,10 @@ pub mod Carried
 pub mod Whence
 mod Inwards
 pub mod Live
+mod Voices
+mod BroughtBy
+mod NativesSend
+mod Unsolicited
+mod PassedSource
+mod PassedOn
 mod Throughout

@@ -1,6 +1,9 @@
 pub mod Sources
+pub mod Voices
 pub mod Senders
 pub mod Handed
 pub mod Origin
 pub mod Live
+pub mod Outside
+pub mod AtNatives
 pub mod Throughout

@@ -17,18 +17,24 @@ use Rattle.legal.specs.Legal.{Begun, Grown}
 use Rattle.legal.specs.Honest.{is_honest, are_honest, is_honest_for, are_honest_for}
 use Rattle.origins.specs.Handed.{HandsToHost, IsBrought}
 use Rattle.origins.specs.Origin.{HasOrigin}
+use Rattle.origins.specs.Outside.{ReachesHost, IsBroughtBy}
+use Rattle.origins.specs.AtNatives.{ComesToNative, WasPassedOn}
 use Rattle.origins.specs.Live.{IsLive}
 
 -- of the record after H
 pub record HasOrigins (lab : Lab) (H : List Full) (r : Full) : Type 0 where
   -- what a client's host is handed at once came in a datagram, with a Teredo source from where that says
   pub brought : (n : ℕ) (c : ClientNode) (x : List ℕ) → HandsToHost lab r n c x → IsBrought lab H r c x
-  -- what it is handed late has none
+  -- and late too in some datagram
+  pub brought_by : (n : ℕ) (c : ClientNode) (x : List ℕ) → ReachesHost lab r n c x → IsBroughtBy H r n x
+  -- what it is handed late has no Teredo source
   pub late : (n : ℕ) (c : ClientNode) → r.node ≡ Some n → client_at lab.topology n ≡ Some c
       → AllByRecursion (λ x. is_teredo (fields_in x).src ≡ false) r.late
   -- such a datagram was put there by a named event, or by a client whose host had handed in the packet
   pub origin : (n : ℕ) (c : ClientNode) (x : List ℕ) (k : ℕ) → HandsToHost lab r n c x → is_teredo (fields_in x).src ≡ true
       → r.delivered ≡ Some k → HasOrigin lab H k (fields_in x).src x
+  -- what a native is brought with a Teredo source was passed on by a server or a relay, from where the source says
+  pub passed_on : (k : ℕ) (x : List ℕ) → ComesToNative lab H r k x → is_teredo (fields_in x).src ≡ true → WasPassedOn lab H k (fields_in x).src x
   -- in a history that is honest for a client an address that it gets leads to it
   pub live : (n : ℕ) (c : ClientNode) (own : Ip6) → are_honest_for lab.topology c (r ∷ H) ≡ true → r.node ≡ Some n → client_at lab.topology n ≡ Some c
       → r.address ≡ Some own → IsLive lab (r ∷ H) c (embedded own)

@@ -1,9 +1,12 @@
 //! Laws of every history.
 ghost use Rattle.origins.specs.Sources.{EachHasOwnSource, EachGoesElsewhere};
 ghost use Rattle.origins.specs.Throughout.{HonestIsForEach};
+ghost use Rattle.origins.specs.Voices.{EachServerHasOwnVoice};
 ghost use Rattle.origins.specs.Senders.{EachEntryTellsWhereTo, EachComesFromClient};
 ghost use Rattle.origins.specs.Handed.{EachIsBrought, EachLateHandedIsForeign};
 ghost use Rattle.origins.specs.Origin.{EachHasOrigin};
+ghost use Rattle.origins.specs.Outside.{EachIsBroughtBy};
+ghost use Rattle.origins.specs.AtNatives.{EachWasPassedOn};
 ghost use Rattle.origins.specs.Live.{EachIsLive, EachIsHeld};
 ghost use Rattle.origins.specs.Throughout.{HistoriesHaveOrigins, ScenariosHaveOrigins, HonestScenarios, HonestForScenarios};
 
@@ -14,6 +17,15 @@ pub fn own_sources()
     topology::apart();
     topology::taken();
     topology::each_node();
+    legal::items_are_made();
+}
+
+/// An entry from an endpoint of a server is one of the server's sends, where no event speaks for it.
+pub fn own_voices()
+    ensures { EachServerHasOwnVoice }
+{
+    topology::apart();
+    topology::taken();
     legal::items_are_made();
 }
 
@@ -69,6 +81,17 @@ pub fn is_brought()
     client_rules::each_handed();
 }
 
+/// Each packet that a client's host is handed, at once or late, was brought by a datagram of the wire.
+pub fn is_brought_by()
+    ensures { EachIsBroughtBy }
+{
+    is_brought();
+    legal::acted();
+    legal::is_recorded();
+    legal::client_journals();
+    client_rules::each_late();
+}
+
 /// Each packet that a client's host is handed late is from outside Teredo.
 pub fn late_is_foreign()
     ensures { EachLateHandedIsForeign }
@@ -99,6 +122,37 @@ pub fn has_origin()
     bubble::packet_is_payload();
 }
 
+/// A packet with a Teredo source that comes to a native was passed on by a server or a relay, from where the source says.
+pub fn was_passed_on()
+    ensures { EachWasPassedOn }
+{
+    is_brought();
+    comes_from_clients();
+    topology::apart();
+    topology::each_node();
+    settled::client_is_there();
+    legal::made();
+    legal::items_are_made();
+    legal::gives_packet();
+    legal::wire_is_made();
+    legal::is_recorded();
+    legal::routes();
+    legal::client_journals();
+    client_rules::each_send();
+    client_rules::each_standing_is_made();
+    client_rules::queued_is_own();
+    qualify::keeps_still();
+    teredo_addr::link_local_tells();
+    ipv6_packet::packet_is_spelled();
+    ipv6_packet::packet_reads_back();
+    bubble::bubble_reads_back();
+    bubble::packet_is_payload();
+    bubble::payload_reads_back();
+    bubble::message_is_carried();
+    native_host::each_is_own_packet();
+    native_host::each_is_reply();
+}
+
 /// In a history that is honest for a client each address that it gets embeds an endpoint that leads to it.
 pub fn is_live()
     ensures { EachIsLive }
@@ -125,8 +179,10 @@ pub fn histories_have_origins()
     ensures { HistoriesHaveOrigins }
 {
     is_brought();
+    is_brought_by();
     late_is_foreign();
     has_origin();
+    was_passed_on();
     is_live();
 }
 

@@ -1,4 +1,4 @@
-//! Whence packets come that clients' hosts are handed, and what clients' addresses embed, in every history.
+//! Whence packets come that clients' hosts and native hosts are handed, and what clients' addresses embed, in every history.
 //!
 //! # What the layer above may rely on
 //!
@@ -6,7 +6,11 @@
 //!   the endpoint that this embeds, whatever strangers do (`specs/Handed.antt`).
 //! - Such a packet was put onto the wire there by a named event, or a client's host had handed it in,
 //!   byte for byte, while the client's address was that source (`specs/Origin.antt`).
+//! - Each packet that a client's host is handed, at once or late, was brought by a datagram (`specs/Outside.antt`).
+//! - A packet with a Teredo source that comes to a native host was passed on by a server or a relay, from where the source
+//!   says; a client's host had handed it in, the client made it of itself, or a named event put it there (`specs/AtNatives.antt`).
 //! - In an honest scenario each address that a client gets embeds an endpoint that leads to the client (`specs/Live.antt`).
+//! - A datagram from a server's endpoint is the server's own, where no named event speaks for it (`specs/Voices.antt`).
 //! - In an honest scenario a datagram from a node's address is the node's, or of a client behind it (`specs/Sources.antt`),
 //!   and what a server says of its origin is where it goes (`specs/Senders.antt`).
 //!
@@ -20,9 +24,12 @@
 //! | what is said | in |
 //! |---|---|
 //! | who sent from a node's address | `specs/Sources.antt` |
+//! | who speaks for a server | `specs/Voices.antt` |
 //! | what servers and relays send | `specs/Senders.antt` |
 //! | what brought a packet to a host | `specs/Handed.antt` |
 //! | whence it came | `specs/Origin.antt` |
+//! | what brought one that is handed late | `specs/Outside.antt` |
+//! | whence packets come at native hosts | `specs/AtNatives.antt` |
 //! | what an address embeds | `specs/Live.antt` |
 //! | all of it, at each record | `specs/Throughout.antt` |
 #![tactic(auto)]
@@ -31,6 +38,7 @@ mod laws;
 
 pub use laws::{
     comes_from_clients, goes_elsewhere, has_origin, histories_have_origins, honest_for_scenarios,
-    honest_is_for_each, honest_scenarios, is_brought, is_held, is_live, late_is_foreign,
-    own_sources, scenarios_have_origins, tells_where_to,
+    honest_is_for_each, honest_scenarios, is_brought, is_brought_by, is_held, is_live,
+    late_is_foreign, own_sources, own_voices, scenarios_have_origins, tells_where_to,
+    was_passed_on,
 };

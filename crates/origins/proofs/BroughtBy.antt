@@ -1,0 +1,118 @@
+-- Each packet that a client's host is handed, at once or late, was brought by an entry of the wire.
+use Rattle.std.proofs.Common.{◌≡◌, ℕ, List, [], ◌∷◌, Option, Some, sym, ap, subst, ◌∙◌, arith}
+use Rattle.std.specs.Prelude.{Contains, slice_get, is_some}
+use Rattle.std.proofs.lemmas.Bool.{false≢true}
+use Rattle.std.proofs.lemmas.List.Elements.{All-from_recursion, All-contains}
+use Rattle.td_base.specs.declared.endpoint.Ep.{Ep}
+use Rattle.td_base.specs.declared.ipv6.Ip6.{Ip6}
+use Rattle.teredo_node.specs.Journal.{Input, Entry, with_entry, epoch}
+use Rattle.client_rules.specs.Bearings.{source_of}
+use Rattle.client_rules.specs.Journals.{IsJournal}
+use Rattle.client_rules.specs.Handed.{WasHeldIn, HandsLate, nothing, rule2, EachLate}
+use Rattle.topology.specs.declared.client_node.ClientNode.{ClientNode}
+use Rattle.topology.specs.declared.node.Node.{Node}
+use Rattle.topology.specs.Topology.{client_at}
+use Rattle.history.specs.Full.{udp, six, Full, wire}
+use Rattle.legal.specs.Lab.{Lab}
+use Rattle.legal.specs.Settings.{client_settings}
+use Rattle.legal.specs.Past.{journal}
+use Rattle.legal.specs.Legal.{Grown}
+use Rattle.legal.specs.Laws.{EachClientIsJournal}
+use Rattle.legal.specs.Actors.{IsGiven, delivered, hosted, ticks, EachActs}
+use Rattle.legal.specs.Recorded.{IsRecorded, EachIsRecorded}
+use Rattle.legal.proofs.MadeInputs.{entry_input}
+use Rattle.legal.proofs.ItemsMade.{wire_stays}
+use Rattle.origins.specs.Handed.{EachIsBrought}
+use Rattle.origins.specs.Outside.{at_once, late, IsBroughtBy, hands_now, hands_late, EachIsBroughtBy}
+use Rattle.origins.proofs.Records.{OfClient, rests, acts, of_client}
+use Rattle.origins.proofs.Queued.{in_epoch}
+
+pub record BroughtLaws : Type 0 where
+  pub brought : EachIsBrought
+  pub acts : EachActs
+  pub recorded : EachIsRecorded
+  pub clients : EachClientIsJournal
+  pub lates : EachLate
+
+-- LISTS
+
+none_in : {A : Type 0} (xs : List A) (x : A) → xs ≡ [] → Contains xs x → ⊥
+none_in xs x none c = let within = subst (λ (ys : List _). Contains ys x) none c in let less = within.1 in omega (arith, less)
+
+-- A PACKET THAT WAS HELD
+
+-- the datagram that a node was given
+record IsDatagram (H : List Full) (r : Full) : Type 0 where
+  number : ℕ
+  from : Ep
+  dst : Ep
+  bytes : List ℕ
+  told : r.delivered ≡ Some number
+  at : slice_get (wire H) number ≡ Some (udp from dst bytes)
+
+-- an input with a source is one
+with_source : (lab : Lab) (H : List Full) (r : Full) (n : ℕ) (a : Node) (dst : Ep) (i : Input) (from : Ep) → IsGiven lab H r n a dst i → source_of i ≡ Some from → IsDatagram H r
+with_source lab H r n a dst i from (delivered number (udp src to bytes) told at goes moment where_to came) is =
+    record { number = number; from = src; dst = to; bytes = bytes; told = told; at = at }
+with_source lab H r n a dst i from (delivered number (six to bytes) told at goes moment where_to came) is =
+    absurd (false≢true (ap (λ (o : Option Ep). is_some o) (sym (ap source_of came) ∙ is)))
+with_source lab H r n a dst i from (hosted v x hands none moment where_to came) is = absurd (false≢true (ap (λ (o : Option Ep). is_some o) (sym (ap source_of came) ∙ is)))
+with_source lab H r n a dst i from (ticks due least same none moment where_to came) is =
+    absurd (false≢true (ap (λ (o : Option Ep). is_some o) (sym (ap source_of came) ∙ is)))
+
+module _ (laws : BroughtLaws) (lab : Lab) (H : List Full) (r : Full) (g : Grown lab (r ∷ H)) (n : ℕ) (x : List ℕ) where
+  -- an entry of the client's journal that held x
+  was_held : (from : Ep) (p : Option Ip6) → Contains r.late x → WasHeldIn (epoch (journal n H).entries) from p x → IsBroughtBy H r n x
+  was_held from p now (q, there, was) =
+      let rec : IsRecorded lab H n q = laws.recorded lab H n q g.1 (in_epoch (journal n H).entries q there) in
+      let same : q.input ≡ rec.act.input = ap (λ (z : Entry). z.input) rec.act.step
+      ∙ entry_input lab rec.earlier rec.record_of.moment n rec.act.dst rec.act.input rec.node in
+      let came : IsDatagram rec.earlier rec.record_of =
+      with_source lab rec.earlier rec.record_of n rec.node rec.act.dst rec.act.input from rec.act.is_given (sym (ap source_of same) ∙ was.came) in
+      let at : slice_get (wire H) came.number ≡ Some (udp came.from came.dst came.bytes) =
+      subst (λ (z : List Full). slice_get (wire z) came.number ≡ Some (udp came.from came.dst came.bytes)) (sym rec.split)
+      (wire_stays rec.later (rec.record_of ∷ rec.earlier) came.number (udp came.from came.dst came.bytes)
+      (wire_stays (rec.record_of ∷ []) rec.earlier came.number (udp came.from came.dst came.bytes) came.at)) in
+      record {
+        number = came.number;
+        from = came.from;
+        dst = came.dst;
+        bytes = came.bytes;
+        brings = late now (record {
+          later = rec.later;
+          record_of = rec.record_of;
+          earlier = rec.earlier;
+          split = rec.split;
+          node = rec.act.node;
+          delivered = came.told;
+          entry = q;
+          did = rec.act.entry;
+          rule = was.rule;
+          packet = was.packet;
+        });
+        datagram = at;
+      }
+
+  handed_late : (c : ClientNode) → r.node ≡ Some n → client_at lab.topology n ≡ Some c → Contains r.late x → IsBroughtBy H r n x
+  handed_late c node there now = by (of_client lab H r n c (laws.acts lab H r g.0) node there) where
+    by_late : (e : Entry) → r.late ≡ e.step.late → HandsLate (epoch (journal n H).entries) e → IsBroughtBy H r n x
+    by_late e same (nothing none) = absurd (none_in r.late x (same ∙ none) now)
+    by_late e same (rule2 from is fate all) =
+        was_held from e.peer now (All-contains (WasHeldIn (epoch (journal n H).entries) from e.peer) e.step.late x
+        (All-from_recursion (WasHeldIn (epoch (journal n H).entries) from e.peer) e.step.late all)
+        (subst (λ (ys : List (List ℕ)). Contains ys x) same now))
+
+    by : OfClient lab H r n c → IsBroughtBy H r n x
+    by (rests address handed none) = absurd (none_in r.late x none now)
+    by (acts e act) =
+        let j : IsJournal (client_settings lab.topology c) (with_entry (journal n H) e) =
+        subst (IsJournal (client_settings lab.topology c)) act.later (laws.clients lab (r ∷ H) n c g act.there).journal in
+        by_late e act.late (laws.lates (client_settings lab.topology c) (journal n H) e j)
+
+-- EACH
+
+pub each_is_brought_by : BroughtLaws → EachIsBroughtBy
+each_is_brought_by laws lab H r n c x g (hands_now now) =
+    let is = laws.brought lab H r n c x g now in
+    record { number = is.number; from = is.src; dst = is.dst; bytes = is.bytes; brings = at_once now.packet is.delivered; datagram = is.datagram }
+each_is_brought_by laws lab H r n c x g (hands_late node there now) = handed_late laws lab H r g n x c node there now
