@@ -1,5 +1,5 @@
 -- A native host's reply weighs less than the request.
-use Rattle.std.proofs.Common.{◌≡◌, ◌≤◌, ◌<◌, ℕ, ◌+◌, ◌&&◌, ◌==◌, Bool, true, false, cond, List, [], ◌∷◌, length, Option, Some, None, Result, Ok, Err, refl, sym}
+use Rattle.std.proofs.Common.{◌≡◌, ◌≤◌, ◌<◌, ℕ, ◌+◌, ◌&&◌, ◌==◌, Bool, true, false, cond, List, [], ◌∷◌, length, Option, Some, None, Result, Ok, Err, sym}
 use Rattle.std.proofs.Common.{ap, ◌∙◌, arith}
 use Rattle.std.specs.Prelude.{is_some, unwrap_or, nat_lt, not, ◌^◌, ◌/◌, ◌-◌}
 use Rattle.std.proofs.lemmas.Bool.{false≢true}
@@ -9,7 +9,7 @@ use Rattle.td_base.specs.declared.ipv6.Ip6.{Ip6}
 use Rattle.td_base.specs.declared.datagram.TheConstants.{DATAGRAM_MAX}
 use Rattle.td_base.proofs.BytesLemmas.{IsBytes-drop}
 use Rattle.ipv6_packet.specs.Packets.{Fields, packet_at, fields_of}
-use Rattle.ipv6_packet.specs.Reads.{no_fields, is_ok_packet, fields_or, is_packet, fields_in}
+use Rattle.ipv6_packet.specs.Reads.{is_ok_packet, fields_or, is_packet, fields_in}
 use Rattle.ipv6_packet.specs.Laws.{PacketReadsBack, PacketIsSpelled, PacketIsBytes}
 use Rattle.ipv6_packet.specs.declared.fault.PacketFault.{PacketFault}
 use Rattle.ipv6_packet.specs.declared.fault.PacketFault.TheVariants.{Short, Version, Length}
@@ -28,6 +28,7 @@ use Rattle.topology.specs.declared.native_node.NativeNode.{NativeNode}
 use Rattle.topology.specs.Rows.{TopologyState}
 use Rattle.history.specs.Full.{six}
 use Rattle.legal.specs.Emit.{relay_for}
+use Rattle.legal.proofs.SixPackets.{has_message}
 use Rattle.storms.specs.Weights.{is_echo_request, packet_weight, entry_weight}
 use Rattle.storms.proofs.Freights.{packet_under}
 
@@ -47,18 +48,6 @@ message_of true (Err f) m e = absurd (false≢true (ap (λ (o : Option Message).
 accepted_as : (p : Fields) (m : Message) → message_in p ≡ Some m → message_at p.src p.dst p.hop p.body ≡ Ok m
 unfolding message_in
 accepted_as p m e = message_of (p.next == NEXT_ICMP) (message_at p.src p.dst p.hop p.body) m e
-
-no_message : message_in no_fields ≡ None
-unfolding message_in
-no_message = refl
-
--- one with a message is a packet
-has_message : (x : List ℕ) (m : Message) → message_in (fields_in x) ≡ Some m → is_packet x ≡ true
-unfolding is_packet fields_in
-has_message x m e = by (packet_at x) e where
-  by : (r : Result Fields PacketFault) → message_in (fields_or r) ≡ Some m → is_ok_packet r ≡ true
-  by (Ok p) g = refl
-  by (Err f) g = absurd (false≢true (ap (λ (o : Option Message). is_some o) (sym no_message ∙ g)))
 
 body_is_bytes : (x : List ℕ) → IsBytes x → is_packet x ≡ true → IsBytes (fields_in x).body
 unfolding is_packet fields_in packet_at fields_of
