@@ -1,9 +1,10 @@
 -- Who speaks for a client's server.
-use Rattle.std.proofs.Common.{◌≡◌, ℕ, ◌&&◌, ◌||◌, Bool, true, false, List, [], ◌∷◌, refl, sym, ap, subst, ◌∙◌}
+use Rattle.std.proofs.Common.{◌≡◌, ℕ, ◌||◌, Bool, true, false, List, [], ◌∷◌, refl, sym, ap, subst, ◌∙◌}
 use Rattle.std.specs.Prelude.{not}
-use Rattle.std.proofs.lemmas.Bool.{false≢true, and_parts}
+use Rattle.std.proofs.lemmas.Bool.{false≢true, and_parts, and_from, or_right}
 use Rattle.td_base.specs.declared.ipv4.Ip4.{Ip4}
 use Rattle.td_base.specs.declared.endpoint.Ep.{Ep}
+use Rattle.td_base.specs.Ip4.{same_ip, same_ip-self}
 use Rattle.td_base.specs.Ep.{same_ep, same_ep-true, same_ep-self, server_ep}
 use Rattle.qualify.specs.declared.phase.Phase.{Phase}
 use Rattle.qualify.specs.declared.phase.Phase.TheVariants.{Cone, Restricted, Secondary, Qualified, Symmetric, OffLine}
@@ -12,19 +13,18 @@ use Rattle.qualify.specs.Solicitations.{is_cone, expected_in, expected}
 use Rattle.topology.specs.declared.client_node.ClientNode.{ClientNode}
 use Rattle.topology.specs.declared.node.Node.TheVariants.{Server as server}
 use Rattle.topology.specs.Rows.{TopologyState}
-use Rattle.topology.specs.NodeRules.{has_address, OwnAddressIsTaken, is_taken}
+use Rattle.topology.specs.Rules.{IsTopology}
+use Rattle.topology.specs.NodeRules.{has_address, OwnAddressIsTaken, is_taken, IsServerNode, EachNodeKeepsRules}
 use Rattle.events.specs.declared.event.Event.{Event}
 use Rattle.events.specs.declared.event.Event.TheVariants as event
 use Rattle.history.specs.Full.{Full}
+use Rattle.legal.specs.Lab.{Lab}
 use Rattle.legal.specs.Settings.{client_settings}
+use Rattle.legal.specs.Honest.{is_honest_event, are_honest, is_its_server, is_honest_event_for, are_honest_for}
 use Rattle.legal.specs.Makers.{Forges, strange, copied}
 use Rattle.settled.specs.ItsNodes.{HasServer, ClientsAreThere}
-use Rattle.legal.specs.Honest.{is_honest_event, are_honest, is_its_server, is_honest_event_for, are_honest_for}
 use Rattle.origins.specs.Throughout.{HonestIsForEach}
-
-kept_false : (b : Bool) → not b ≡ true → b ≡ false
-kept_false true h = absurd (false≢true h)
-kept_false false h = refl
+use Rattle.origins.proofs.SentFrom.{kept_false}
 
 -- a forged source isn't its server's
 pub not_its : (t : TopologyState) (c : ClientNode) (H : List Full) (src dst : Ep) (bytes : List ℕ) (e : Event) → Forges H src dst bytes e
@@ -43,20 +43,27 @@ its_has t c src b its = by (same_ep src (server_ep (client_settings t c).primary
   by false e h = subst (λ (ip : Ip4). has_address ip (server b.row) ≡ true)
       (sym (ap (λ (x : Ep). x.ip) (same_ep-true src (server_ep (client_settings t c).secondary) h) ∙ b.secondary)) b.has_secondary
 
+-- its two addresses are apart
+pub two_addresses : EachNodeKeepsRules → (lab : Lab) (c : ClientNode) → IsTopology lab.topology → HasServer lab.topology c
+    → (client_settings lab.topology c).primary ≡ (client_settings lab.topology c).secondary → ⊥
+two_addresses laws lab c is b same =
+    let keeps : IsServerNode b.row = laws lab.topology c.server (server b.row) is b.there in
+    false≢true (sym keeps.apart ∙ ap (same_ip b.row.primary) (sym b.secondary ∙ sym same ∙ b.primary) ∙ same_ip-self b.row.primary)
+
 -- WHERE A CLIENT EXPECTS ITS ANSWERS FROM
 
+-- the first
 first : (t : TopologyState) (c : ClientNode) → is_its_server t c (server_ep (client_settings t c).primary) ≡ true
 first t c = ap (λ (b : Bool). b || same_ep (server_ep (client_settings t c).primary) (server_ep (client_settings t c).secondary))
     (same_ep-self (server_ep (client_settings t c).primary))
 
+-- the second
 second : (t : TopologyState) (c : ClientNode) → is_its_server t c (server_ep (client_settings t c).secondary) ≡ true
-second t c = by (same_ep (server_ep (client_settings t c).secondary) (server_ep (client_settings t c).primary))
+second t c = or_right (same_ep (server_ep (client_settings t c).secondary) (server_ep (client_settings t c).primary))
     (same_ep (server_ep (client_settings t c).secondary) (server_ep (client_settings t c).secondary))
-    (same_ep-self (server_ep (client_settings t c).secondary)) where
-      by : (x y : Bool) → y ≡ true → (x || y) ≡ true
-      by true y h = refl
-      by false y h = h
+    (same_ep-self (server_ep (client_settings t c).secondary))
 
+-- in each phase it is one of the two
 expected_is_its : (t : TopologyState) (c : ClientNode) (phase : Phase) (cone : Bool) → is_its_server t c (expected_in (client_settings t c) phase cone) ≡ true
 expected_is_its t c Cone cone = second t c
 expected_is_its t c Restricted cone = first t c
@@ -66,6 +73,7 @@ expected_is_its t c Qualified false = first t c
 expected_is_its t c Symmetric cone = first t c
 expected_is_its t c OffLine cone = first t c
 
+-- so is what comes from where it is expected
 pub from_its : (t : TopologyState) (c : ClientNode) (q : Qualification) (from : Ep) → from ≡ expected (client_settings t c) q → is_its_server t c from ≡ true
 unfolding expected
 from_its t c q from same = subst (λ (e : Ep). is_its_server t c e ≡ true) (sym same) (expected_is_its t c q.phase (is_cone q))
@@ -73,24 +81,25 @@ from_its t c q from same = subst (λ (e : Ep). is_its_server t c e ≡ true) (sy
 -- WHAT IS HONEST IS SO FOR EACH CLIENT
 
 module _ (taken : OwnAddressIsTaken) (t : TopologyState) (c : ClientNode) (b : HasServer t c) where
+  -- no node's address is no address of the server
   of_source : (src : Ep) → not (is_taken t src.ip) ≡ true → not (is_its_server t c src) ≡ true
   of_source src h = by (is_its_server t c src) refl where
     by : (x : Bool) → is_its_server t c src ≡ x → not x ≡ true
     by false e = refl
     by true e = absurd (false≢true (sym (kept_false (is_taken t src.ip) h) ∙ taken t c.server (server b.row) src.ip b.there (its_has t c src b e)))
 
+  -- an event
   of_event : (e : Event) → is_honest_event t e ≡ true → is_honest_event_for t c e ≡ true
   of_event (event.Stranger src dst bytes) h = of_source src h
   of_event (event.Copy number src dst) h = of_source src h
   of_event _ h = refl
 
+  -- and the events of a history
   of_all : (H : List Full) → are_honest t H ≡ true → are_honest_for t c H ≡ true
   of_all [] h = refl
   of_all (r ∷ H) h = let both = and_parts (is_honest_event t r.asked) (are_honest t H) h in
-      both_true (is_honest_event_for t c r.asked) (are_honest_for t c H) (of_event r.asked both.0) (of_all H both.1) where
-        both_true : (x y : Bool) → x ≡ true → y ≡ true → (x && y) ≡ true
-        both_true true y f g = g
-        both_true false y f g = absurd (false≢true f)
+      and_from (is_honest_event_for t c r.asked) (are_honest_for t c H) (of_event r.asked both.0) (of_all H both.1)
 
+-- for each client
 pub honest_is_for_each : OwnAddressIsTaken → ClientsAreThere → HonestIsForEach
 honest_is_for_each taken there t n c H is at = of_all taken t c (there.server_of t n c is (there.node t n c at)) H

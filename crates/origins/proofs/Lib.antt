@@ -1,5 +1,6 @@
 pub mod Records
 mod SentFrom
+mod SentElsewhere
 pub mod HonestFor
 pub mod SentOn
 pub mod Brought

@@ -102,7 +102,12 @@ unchanged laws l n c e act none k =
     (laws.frame l.lab l.before l.full).silent k (ap (outs_at k) passed)
     (ap (λ (b : Bool). cond b (Restart ∷ []) (forgotten l.lab l.full.asked)) act.still ∙ act.lasting)
 
-module _ (laws : LiveLaws) (l : Latest) (n : ℕ) (c : ClientNode) (e : Entry) (own : Ip6) (at_n : client_at l.lab.topology n ≡ Some c) (honest : are_honest_for l.lab.topology c l.before ≡ true)
+-- it is client n's, and nobody spoke for its server before
+pub record IsHonestTo (l : Latest) (n : ℕ) (c : ClientNode) : Type 0 where
+  pub listed : client_at l.lab.topology n ≡ Some c
+  pub honest : are_honest_for l.lab.topology c l.before ≡ true
+
+module _ (laws : LiveLaws) (l : Latest) (n : ℕ) (c : ClientNode) (e : Entry) (own : Ip6) (honest : IsHonestTo l n c)
     (act : IsActOf l.lab l.before l.full n (client c) e) where
   abbrev lab : Lab
   lab = l.lab
@@ -129,7 +134,7 @@ module _ (laws : LiveLaws) (l : Latest) (n : ℕ) (c : ClientNode) (e : Entry) (
       let all : bytes ≡ told.bytes = sym (ap bytes_of same) in
       let its = from_its lab.topology c (qualification s (journal n H)) src (source ∙ told.source) in
       let tells : EntryTellsWhereTo lab c (udp src dst bytes) = all_at (EntryTellsWhereTo lab c) (wire H) number (udp src dst bytes)
-      (laws.tells lab H n c l.is l.grown.1 at_n honest) at in
+      (laws.tells lab H n c l.is l.grown.1 honest.listed honest.honest) at in
       let goes_to : origin_in (value_in bytes).lead ≡ Some dst = tells its
       (ap (λ (z : List ℕ). is_some (value_in z).lead.auth) all ∙ told.auth) in
       let one : dst ≡ embedded own = ap (λ (o : Option Ep). unwrap_or o dst) (sym goes_to ∙ ap (λ (z : List ℕ). origin_in (value_in z).lead) all ∙ told.told) in
@@ -149,15 +154,16 @@ module _ (laws : LiveLaws) (l : Latest) (n : ℕ) (c : ClientNode) (e : Entry) (
       of_given told act.is_given (ap (λ (z : Entry). z.input) act.step ∙ entry_input lab H r.moment n act.dst act.input (client c))
       (unchanged laws l n c e act told.quiet)
 
-of_record : LiveLaws → (l : Latest) (n : ℕ) (c : ClientNode) (own : Ip6) → client_at l.lab.topology n ≡ Some c → are_honest_for l.lab.topology c l.before ≡ true → OfClient l.lab l.before l.full n c
+of_record : LiveLaws → (l : Latest) (n : ℕ) (c : ClientNode) (own : Ip6) → IsHonestTo l n c → OfClient l.lab l.before l.full n c
     → l.full.address ≡ Some own → IsLive l.lab (l.full ∷ l.before) c (embedded own)
-of_record laws l n c own at_n honest (rests none hands late) address = absurd (false≢true (ap (λ (z : Option Ip6). is_some z) (sym none ∙ address)))
-of_record laws l n c own at_n honest (acts e act) address = of_act laws l n c e own at_n honest act address
+of_record laws l n c own honest (rests none hands late) address = absurd (false≢true (ap (λ (z : Option Ip6). is_some z) (sym none ∙ address)))
+of_record laws l n c own honest (acts e act) address = of_act laws l n c e own honest act address
 
 pub each_is_live : LiveLaws → EachIsLive
-each_is_live laws lab H r n c own is g honest node at address =
-    of_record laws (record { lab = lab; before = H; full = r; is = is; grown = g }) n c own at
-    (and_parts (is_honest_event_for lab.topology c r.asked) (are_honest_for lab.topology c H) honest).1 (of_client lab H r n c (laws.acts lab H r g.0) node at) address
+each_is_live laws lab H r n c own is g honest node there address =
+    let before = and_parts (is_honest_event_for lab.topology c r.asked) (are_honest_for lab.topology c H) honest in
+    of_record laws (record { lab = lab; before = H; full = r; is = is; grown = g }) n c own (record { listed = there; honest = before.1 })
+    (of_client lab H r n c (laws.acts lab H r g.0) node there) address
 
 -- WHERE NO NAT IS BEHIND ANOTHER ONE
 

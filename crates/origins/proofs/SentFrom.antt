@@ -1,8 +1,8 @@
 -- Who sent a datagram with a node's address.
-use Rattle.std.proofs.Common.{◌≡◌, ℕ, ◌||◌, Bool, true, false, cond, List, [], ◌∷◌, Option, Some, None, Result, Ok, Err, refl, sym, ap, subst, ◌∙◌}
+use Rattle.std.proofs.Common.{◌≡◌, ℕ, ◌||◌, Bool, true, false, List, [], ◌∷◌, Option, Some, None, Result, Ok, Err, refl, sym, ap, subst, ◌∙◌}
 use Rattle.std.specs.Prelude.{not, option_and_then, unwrap_or}
 use Rattle.std.specs.List.{list_any, AllByRecursion}
-use Rattle.std.proofs.lemmas.Bool.{false≢true, and_parts}
+use Rattle.std.proofs.lemmas.Bool.{false≢true}
 use Rattle.td_base.specs.declared.ipv4.Ip4.{Ip4}
 use Rattle.td_base.specs.declared.endpoint.Ep.{Ep}
 use Rattle.td_base.specs.declared.reach.Policy.TheVariants.{Strict}
@@ -10,11 +10,7 @@ use Rattle.td_base.specs.declared.side.Side.{Side}
 use Rattle.td_base.specs.declared.side.Side.TheVariants.{Primary, Secondary}
 use Rattle.td_base.specs.Ip4.{same_ip, same_ip-self, same_ip-true}
 use Rattle.td_base.specs.Reach.{is_global}
-use Rattle.nat_kinds.specs.Answer.{nat_answer, live_after, port_for}
-use Rattle.nat_kinds.specs.Mappings.{live_port}
-use Rattle.nat_kinds.specs.declared.refusal.NatRefusal.TheVariants.{Hairpin}
-use Rattle.nat_kinds.specs.declared.settings.NatSettings.{NatSettings}
-use Rattle.nat_kinds.specs.History.{NatEntry}
+use Rattle.nat_kinds.specs.Answer.{nat_answer}
 use Rattle.nat_kinds.specs.declared.refusal.NatRefusal.{NatRefusal}
 use Rattle.topology.specs.declared.server_node.ServerNode.{ServerNode}
 use Rattle.topology.specs.declared.nat_node.NatNode.{NatNode}
@@ -27,13 +23,12 @@ use Rattle.topology.specs.Topology.{node_at, client_at, as_nat, as_client, no_ip
 use Rattle.topology.specs.NodeRules.{has_address, is_taken, AddressesAreApart, OwnAddressIsTaken}
 use Rattle.topology.specs.Chains.{NatPasts, Passing, nat_set_up, outer_in, nats_from, after_passing, passing, answered, crossing}
 use Rattle.events.specs.declared.event.Event.{Event}
-use Rattle.history.specs.Full.{Item, Full, wire, items_of}
+use Rattle.history.specs.Full.{Item, Full, items_of}
 use Rattle.legal.specs.Lab.{Lab}
 use Rattle.legal.specs.Past.{nat_pasts}
 use Rattle.legal.specs.Makers.{Forges, strange, copied, Leaves, MadeBy, from_nowhere, by_server, by_relay, by_client, by_native, to_six, EachItemIsMade}
-use Rattle.legal.proofs.ItemsMade.{all_joined}
-use Rattle.legal.specs.Honest.{is_honest_event, are_honest}
-use Rattle.origins.specs.Sources.{last_nat, outermost, IsSender, HasOwnSource, EachHasOwnSource, GoesElsewhere, EachGoesElsewhere}
+use Rattle.legal.specs.Honest.{is_honest_event}
+use Rattle.origins.specs.Sources.{last_nat, outermost, IsSender, HasOwnSource, EachHasOwnSource}
 
 pub record SourceLaws : Type 0 where
   pub apart : AddressesAreApart
@@ -42,7 +37,8 @@ pub record SourceLaws : Type 0 where
 
 -- NOBODY'S ADDRESSES
 
-kept_false : (b : Bool) → not b ≡ true → b ≡ false
+-- what isn't so is false
+pub kept_false : (b : Bool) → not b ≡ true → b ≡ false
 kept_false true h = absurd (false≢true h)
 kept_false false h = refl
 
@@ -100,22 +96,22 @@ sender lab r n k a b one s = subst (λ (m : ℕ). IsSender lab r m b) one.0 (sub
 
 -- WHERE A WAY OUT ENDS
 
-abbrev ip_or : Ip4 → Result Ep NatRefusal → Ip4
+abbrev pub ip_or : Ip4 → Result Ep NatRefusal → Ip4
 ip_or ip (Ok e) = e.ip
 ip_or ip (Err why) = ip
 
-abbrev is_ep : Result Ep NatRefusal → Bool
+abbrev pub is_ep : Result Ep NatRefusal → Bool
 is_ep (Ok e) = true
 is_ep (Err why) = false
 
 -- a datagram on its way out through NATs, which have pasts
-record Outward : Type 0 where
-  rows : TopologyState
-  pasts : NatPasts
-  moment : ℕ
-  to : Ep
+pub record Outward : Type 0 where
+  pub rows : TopologyState
+  pub pasts : NatPasts
+  pub moment : ℕ
+  pub to : Ep
 
-abbrev leaving : Outward → List ℕ → Ep → List Passing → Result Ep NatRefusal
+abbrev pub leaving : Outward → List ℕ → Ep → List Passing → Result Ep NatRefusal
 leaving o way from passed = (crossing o.rows o.pasts o.moment o.to way from passed).leaves
 
 leaves_last : (o : Outward) (k : ℕ) (way : List ℕ) (from : Ep) (passed : List Passing) (e : Ep) → leaving o (k ∷ way) from passed ≡ Ok e
@@ -194,61 +190,3 @@ all_weaker P Q (x ∷ xs) f a = (f x a.0, all_weaker P Q xs f a.1)
 pub each_own_source : SourceLaws → EachHasOwnSource
 each_own_source laws lab H r is grown honest = all_weaker (MadeBy lab H r) (HasOwnSource lab r) (items_of r) (λ x m. own_source laws lab H r x is honest m)
     (laws.made lab H r grown)
-
--- NO NAT SENDS TO ITS OWN ADDRESS
-
--- a NAT that answers with a port was asked about another address
-goes_out : (s : NatSettings) (h : List NatEntry) (n : ℕ) (inside dst : Ep) (port : ℕ) → nat_answer s h n inside dst ≡ Ok port → dst.ip ≡ s.external → ⊥
-goes_out s h n inside dst port is same = by (same_ip dst.ip s.external) (subst (λ (ip : Ip4). same_ip dst.ip ip ≡ true) same (same_ip-self dst.ip)) is where
-  by : (b : Bool) → b ≡ true → cond b (Err Hairpin) (port_for (live_port s.kind inside dst (live_after s h n)) (live_after s h n)) ≡ Ok port → ⊥
-  by true e f = false≢true (ap is_port f) where
-    is_port : Result ℕ NatRefusal → Bool
-    is_port (Ok p) = true
-    is_port (Err why) = false
-  by false e f = false≢true e
-
--- so what leaves a way goes elsewhere than where it leaves from
-leaves_elsewhere : (o : Outward) (k : ℕ) (way : List ℕ) (from : Ep) (passed : List Passing) (e : Ep) → leaving o (k ∷ way) from passed ≡ Ok e
-    → o.to.ip ≡ e.ip → ⊥
-leaves_elsewhere o k [] from passed e is same = by (nat_answer (nat_set_up o.rows k) (after_passing passed o.pasts k) o.moment from o.to) refl is where
-  by : (r : Result ℕ NatRefusal) → nat_answer (nat_set_up o.rows k) (after_passing passed o.pasts k) o.moment from o.to ≡ r
-      → (answered o.rows o.moment k from o.to passed (crossing o.rows o.pasts o.moment o.to []) r).leaves ≡ Ok e → ⊥
-  by (Ok port) f g = goes_out (nat_set_up o.rows k) (after_passing passed o.pasts k) o.moment from o.to port f (same ∙ sym (ap (ip_or e.ip) g))
-  by (Err why) f g = false≢true (ap is_ep g)
-leaves_elsewhere o k (j ∷ way) from passed e is same = by (nat_answer (nat_set_up o.rows k) (after_passing passed o.pasts k) o.moment from o.to) is
-    (λ (f : Ep) (ps : List Passing). λ g. leaves_elsewhere o j way f ps e g same) where
-      by : (r : Result ℕ NatRefusal) → (answered o.rows o.moment k from o.to passed (crossing o.rows o.pasts o.moment o.to (j ∷ way)) r).leaves ≡ Ok e
-          → ((f : Ep) (ps : List Passing) → leaving o (j ∷ way) f ps ≡ Ok e → ⊥) → ⊥
-      by (Ok port) g ih = ih (record { ip = (nat_set_up o.rows k).external; port = port }) (passing k o.moment from o.to port ∷ passed) g
-      by (Err why) g ih = false≢true (ap is_ep g)
-
--- a NAT has its address
-at_nat : (ip : Ip4) (a : NatNode) → ip ≡ a.external → has_address ip (nat a) ≡ true
-at_nat ip a same = subst (λ (x : Ip4). has_address ip (nat a) ≡ true) same (subst (λ (x : Ip4). (same_ip ip x || false) ≡ true) same (one_has ip))
-
-abbrev is_nat : Node → Bool
-is_nat (nat a) = true
-is_nat _ = false
-
-elsewhere : SourceLaws → (lab : Lab) (H : List Full) (r : Full) (x : Item) → IsTopology lab.topology → is_honest_event lab.topology r.asked ≡ true
-    → MadeBy lab H r x → GoesElsewhere lab x
-elsewhere laws lab H r x is honest (from_nowhere src dst bytes forged e) = subst (GoesElsewhere lab) (sym e) (λ k a at same to.
-    false≢true (sym (untaken lab.topology H src dst bytes r.asked forged honest) ∙ laws.taken lab.topology k (nat a) src.ip at (at_nat src.ip a same)))
-elsewhere laws lab H r x is honest (by_server n b e s act c same) = subst (GoesElsewhere lab) (sym same) (λ k a at from to.
-    false≢true (ap is_nat (same_node laws.apart lab.topology n k (own_ep (server b) s.side).ip is
-    (record { node = server b; at = act.there; has = server_has b s.side }) (record { node = nat a; at = at; has = at_nat (own_ep (server b) s.side).ip a from })).1))
-elsewhere laws lab H r x is honest (by_relay n b e s act c same) = subst (GoesElsewhere lab) (sym same) (λ k a at from to.
-    false≢true (ap is_nat (same_node laws.apart lab.topology n k b.at.ip is
-    (record { node = relay b; at = act.there; has = one_has b.at.ip }) (record { node = nat a; at = at; has = at_nat b.at.ip a from })).1))
-elsewhere laws lab H r x is honest (by_client n c e s src act held leaves same) = subst (GoesElsewhere lab) (sym same) (λ k a at from to.
-    leaves_elsewhere (record { rows = lab.topology; pasts = nat_pasts lab H; moment = r.moment; to = s.to }) c.nat
-    (nats_from lab.chain lab.chain (outer_in lab.chain c.nat)) c.inside leaves.before src leaves.leaves (to ∙ sym from))
-elsewhere laws lab H r x is honest (by_native n h e bytes act p same) = subst (GoesElsewhere lab) (sym same) tt
-elsewhere laws lab H r x is honest (to_six n a e from bytes span act i p same) = subst (GoesElsewhere lab) (sym same) tt
-
-pub each_goes_elsewhere : SourceLaws → EachGoesElsewhere
-each_goes_elsewhere laws lab [] is g honest = tt
-each_goes_elsewhere laws lab (r ∷ H) is g honest =
-    let both = and_parts (is_honest_event lab.topology r.asked) (are_honest lab.topology H) honest in
-    all_joined (GoesElsewhere lab) (wire H) (items_of r) (each_goes_elsewhere laws lab H is g.1 both.1)
-    (all_weaker (MadeBy lab H r) (GoesElsewhere lab) (items_of r) (λ x m. elsewhere laws lab H r x is both.0 m) (laws.made lab H r g))

@@ -1,15 +1,14 @@
 -- A client's start, and the records after it.
-use Rattle.std.proofs.Common.{◌≡◌, ◌≢◌, ℕ, ◌==◌, ◌&&◌, Bool, true, false, cond, List, ◌∷◌, Option, Some, None, refl, sym, ap, subst, ◌∙◌, arith}
+use Rattle.std.proofs.Common.{◌≡◌, ◌≢◌, ℕ, ◌==◌, Bool, true, false, List, ◌∷◌, Option, Some, refl, sym, ap, subst, ◌∙◌, arith}
 use Rattle.std.specs.Prelude.{unwrap_or}
-use Rattle.std.proofs.lemmas.Bool.{false≢true, and_parts}
 use Rattle.std.proofs.lemmas.Bool.Decides.{nat_tests}
 use Rattle.td_base.specs.declared.endpoint.Ep.{Ep}
 use Rattle.td_base.specs.Ep.{same_ep, same_ep-self}
 use Rattle.nat_kinds.specs.declared.outgoing.Outward.{Outward}
 use Rattle.nat_kinds.specs.History.{Out}
-use Rattle.teredo_node.specs.Journal.{Entry, Journal}
+use Rattle.teredo_node.specs.Journal.{Entry}
 use Rattle.qualify.specs.declared.phase.Phase.{Phase}
-use Rattle.qualify.specs.Qualification.{first_phase, qualification}
+use Rattle.qualify.specs.Qualification.{first_phase}
 use Rattle.topology.specs.declared.client_node.ClientNode.{ClientNode}
 use Rattle.topology.specs.declared.node.Node.{Node}
 use Rattle.topology.specs.declared.node.Node.TheVariants.{Client as client}
@@ -17,7 +16,7 @@ use Rattle.topology.specs.Topology.{node_at}
 use Rattle.history.specs.Full.{Full}
 use Rattle.legal.specs.Lab.{Lab}
 use Rattle.legal.specs.Settings.{client_settings}
-use Rattle.legal.specs.Past.{is_node, is_restart, new_journal, journal, with_entries, nat_entries}
+use Rattle.legal.specs.Past.{new_journal, journal, nat_entries}
 use Rattle.legal.specs.Actors.{IsActOf, Acted, idles, does}
 use Rattle.settled.specs.Clients.{standing}
 use Rattle.verdicts.specs.Undisturbed.{is_seen, starts}
@@ -25,23 +24,20 @@ use Rattle.verdicts.proofs.Members.{Has, none_has}
 use Rattle.verdicts.proofs.Opened.{IsUnseen}
 use Rattle.verdicts.proofs.Views.{counts_in}
 use Rattle.verdicts.proofs.Sound.{IsSoundIn}
-use Rattle.verdicts.proofs.Entries.{IsFirst, first_cone, first_restricted, phase_first, is_first}
+use Rattle.verdicts.proofs.Entries.{IsFirst, first_cone, first_restricted, is_first}
 use Rattle.verdicts.proofs.Outs.{none_out}
 use Rattle.verdicts.proofs.LetIn.{view_of}
 use Rattle.verdicts.proofs.Scenes.{VerdictLaws, IsSound, IsCalm, Scene}
 use Rattle.verdicts.proofs.Steps.{own_record, left_alone, of_client}
+use Rattle.verdicts.proofs.Journals.{idle_journal, starts_in}
 
 -- A START
 
--- it begins with what a first phase says
+-- what its first phase says is so
 module _ (lab : Lab) (H : List Full) (n m : ℕ) (c : ClientNode) (fresh : journal n H ≡ new_journal m) where
-  pub starts_in : (standing lab H n c).phase ≡ first_phase (client_settings lab.topology c)
-  starts_in = ap (λ (j : Journal). (qualification (client_settings lab.topology c) j).phase) fresh ∙ phase_first (client_settings lab.topology c) m
-
-  -- and what that says is so
   pub sound_at_start : (c.cone_try ≡ true → IsUnseen (view_of lab H c)) → IsSound lab H n c
   sound_at_start unseen = subst (λ (ph : Phase). IsSoundIn (view_of lab H c) c.cone_try ph (standing lab H n c).kept (standing lab H n c).address)
-      (sym starts_in) (by (first_phase (client_settings lab.topology c)) (is_first (client_settings lab.topology c))) where
+      (sym (starts_in lab H n m c fresh)) (by (first_phase (client_settings lab.topology c)) (is_first (client_settings lab.topology c))) where
         by : (ph : Phase) → IsFirst c.cone_try ph → IsSoundIn (view_of lab H c) c.cone_try ph (standing lab H n c).kept (standing lab H n c).address
         by ph (first_cone tries same) = subst (λ (x : Phase). IsSoundIn (view_of lab H c) c.cone_try x (standing lab H n c).kept (standing lab H n c).address)
             (sym same) (tries, λ d counts left. absurd (unseen tries d counts left))
@@ -53,23 +49,7 @@ pub unseen_of : (lab : Lab) (H : List Full) (c : ClientNode) → is_seen lab H c
 unseen_of lab H c none d counts left = none_has (λ (e : Outward). same_ep e.inside c.inside) (counts_in (view_of lab H c)) d none counts
     (ap (λ (e : Ep). same_ep e c.inside) left ∙ same_ep-self c.inside)
 
--- the record of a start
-pub fresh_journal : (H : List Full) (r : Full) (n : ℕ) → starts n r ≡ true → journal n (r ∷ H) ≡ new_journal r.moment
-fresh_journal H r n on = let both = and_parts (is_node n r.node) (is_restart r.act) on in rw (both.0, both.1) refl
-
 -- ANOTHER RECORD
-
--- a record in which the client does nothing leaves its journal
-pub idle_journal : (H : List Full) (r : Full) (n : ℕ) → starts n r ≡ false → r.entry ≡ None → journal n (r ∷ H) ≡ journal n H
-idle_journal H r n off none = by (is_node n r.node) refl where
-  goes_on : (b : Bool) → b ≡ false → cond b (new_journal r.moment) (with_entries (journal n H) r.entry) ≡ journal n H
-  goes_on true e = absurd (false≢true (sym e))
-  goes_on false e = ap (with_entries (journal n H)) none
-
-  by : (b : Bool) → is_node n r.node ≡ b → cond b (cond (is_restart r.act) (new_journal r.moment) (with_entries (journal n H) r.entry))
-      (journal n H) ≡ journal n H
-  by true e = goes_on (is_restart r.act) (ap (λ (b : Bool). b && is_restart r.act) (sym e) ∙ off)
-  by false e = refl
 
 -- of the client, or of another node or none, which leaves the client as it was
 pub data Concerns (lab : Lab) (H : List Full) (r : Full) (n : ℕ) (c : ClientNode) : Type 0 where

@@ -1,5 +1,5 @@
 -- A client's phase, kept origin and address after one further entry.
-use Rattle.std.proofs.Common.{◌≡◌, ℕ, Bool, true, false, cond, [], ◌∷◌, None, refl}
+use Rattle.std.proofs.Common.{◌≡◌, ℕ, Bool, true, false, cond, [], ◌∷◌, None, refl, ap}
 use Rattle.std.specs.Prelude.{unwrap_or}
 use Rattle.teredo_node.specs.Journal.{Entry, Journal, with_entry}
 use Rattle.qualify.specs.declared.settings.Settings.{Settings}
@@ -7,7 +7,7 @@ use Rattle.qualify.specs.declared.phase.Phase.{Phase}
 use Rattle.qualify.specs.declared.phase.Phase.TheVariants.{Cone, Restricted}
 use Rattle.qualify.specs.Turns.{turn_of, begins, leaves, origin_given, flags_word}
 use Rattle.qualify.specs.Qualification.{first_phase, phase_of, in_phase, kept_origin, kept_after, address_in, address_after, qualification}
-use Rattle.verdicts.proofs.Sound.{kept_then, address_then}
+use Rattle.verdicts.proofs.Phases.{kept_then, address_then, is_early, is_resting}
 
 -- an entry's turn begins a phase, or none
 pub phase_next : (s : Settings) (j : Journal) (e : Entry) → (qualification s (with_entry j e)).phase ≡ unwrap_or (begins (turn_of e)) (qualification s j).phase
@@ -52,3 +52,13 @@ is_first s = by s.cone_try refl where
   by : (b : Bool) → s.cone_try ≡ b → IsFirst s.cone_try (cond b Cone Restricted)
   by true e = first_cone e refl
   by false e = first_restricted refl
+
+-- in which nothing came yet
+pub first_is_early : (tries : Bool) (ph : Phase) → IsFirst tries ph → is_early ph ≡ true
+first_is_early tries ph (first_cone t same) = ap is_early same
+first_is_early tries ph (first_restricted same) = ap is_early same
+
+-- and which rests on no NAT
+pub first_rests : (tries : Bool) (ph : Phase) → IsFirst tries ph → is_resting ph ≡ false
+first_rests tries ph (first_cone t same) = ap is_resting same
+first_rests tries ph (first_restricted same) = ap is_resting same

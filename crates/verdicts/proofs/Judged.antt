@@ -14,10 +14,11 @@ use Rattle.settled.specs.Clients.{standing, client_address, nat_behind, is_symme
 use Rattle.settled.specs.Settled.{IsSettled}
 use Rattle.verdicts.specs.Right.{IsRight, IsRightWithoutCone}
 use Rattle.verdicts.proofs.Opened.{held_open, let_in_open}
-use Rattle.verdicts.proofs.Views.{NatLaws, IsPastOf}
+use Rattle.verdicts.proofs.Views.{IsPastOf}
 use Rattle.verdicts.proofs.Sound.{IsGoodAddress, GoodAddress, IsSoundIn}
 use Rattle.verdicts.proofs.LetIn.{view_of}
 use Rattle.verdicts.proofs.Scenes.{IsSound}
+use Rattle.verdicts.proofs.NatPorts.{NatLaws}
 
 -- a client has an address in one phase alone
 is_phase : (ph : Phase) → is_qualified ph ≡ true → ph ≡ Qualified

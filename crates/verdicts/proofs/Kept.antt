@@ -1,5 +1,5 @@
 -- What a NAT keeps of an inside endpoint's datagrams as its history grows.
-use Rattle.std.proofs.Common.{◌≡◌, ◌⊎◌, ℕ, ◌-◌, ◌<◌, ◌≤◌, not, Bool, true, false, cond, List, [], ◌∷◌, ◌++◌, find, Option, Some, refl, sym, ap, ◌∙◌, inl, inr}
+use Rattle.std.proofs.Common.{◌≡◌, ◌⊎◌, ℕ, ◌-◌, ◌<◌, ◌≤◌, ◌&&◌, not, Bool, true, false, cond, List, [], ◌∷◌, ◌++◌, find, Option, Some, refl, sym, ap, ◌∙◌, inl, inr}
 use Rattle.std.proofs.Common.{arith}
 use Rattle.std.specs.Prelude.{unwrap_or}
 use Rattle.std.specs.List.{list_any}
@@ -17,7 +17,7 @@ use Rattle.verdicts.proofs.Members.{Has, has_filtered, filtered_has}
 -- AN ENTRY'S DATAGRAM
 
 -- the datagram, or another where there is none
-abbrev out_or : Outward → NatEntry → Outward
+abbrev pub out_or : Outward → NatEntry → Outward
 out_or d (Out e) = e
 out_or d (Forget who) = d
 out_or d Restart = d
@@ -81,7 +81,8 @@ pub counts_kept : (idle n : ℕ) (h : List NatEntry) (d : Outward) → Has (coun
 counts_kept idle n h d c = filtered_has (is_young idle n) (kept h) d c
 
 -- what counts later was added, or counted before
-pub counted : (idle m n : ℕ) (added h : List NatEntry) (d : Outward) → m ≤ n → Has (counting idle n (added ++ h)) d → Has added (Out d) ⊎ Has (counting idle m h) d
+pub counted : (idle m n : ℕ) (added h : List NatEntry) (d : Outward) → m ≤ n → Has (counting idle n (added ++ h)) d
+    → Has added (Out d) ⊎ Has (counting idle m h) d
 counted idle m n added h d le c =
     let k = counts_kept idle n (added ++ h) d c in
     by (was_kept added h d k.0) k.1
@@ -89,6 +90,12 @@ counted idle m n added h d le c =
     by : Has added (Out d) ⊎ Has (kept h) d → is_young idle n d ≡ true → Has added (Out d) ⊎ Has (counting idle m h) d
     by (inl new) y = inl new
     by (inr old) y = inr (counts_of idle m h d old (younger_at idle m n d le y))
+
+-- open where it had begun
+pub open_of : (begun is_open : Bool) → begun ≡ true → (begun && not is_open) ≡ false → is_open ≡ true
+open_of true true b h = refl
+open_of true false b h = absurd (false≢true (sym h))
+open_of false is_open b h = absurd (false≢true b)
 
 -- THE LATEST TO AN ENDPOINT
 

@@ -1,17 +1,16 @@
 -- Clients without the cone phase: the NAT is open from the first answer on.
-use Rattle.std.proofs.Common.{◌≡◌, ◌⊎◌, inl, inr, ℕ, ◌&&◌, ◌||◌, not, Bool, true, false, cond, List, [], ◌∷◌, Option, Some, None, refl, sym, ap, subst, ◌∙◌}
+use Rattle.std.proofs.Common.{◌≡◌, ℕ, ◌&&◌, ◌||◌, not, Bool, true, false, cond, List, [], ◌∷◌, Some, refl, sym, ap, subst, ◌∙◌}
 use Rattle.std.proofs.Common.{arith}
 use Rattle.std.specs.Prelude.{unwrap_or}
 use Rattle.std.specs.List.{list_any}
 use Rattle.std.proofs.lemmas.Bool.{false≢true, and_parts, and_from, or_parts, or_left, or_right}
 use Rattle.std.proofs.lemmas.Bool.Decides.{nat_tests}
-use Rattle.teredo_node.specs.declared.fate.Fate.{Fate}
 use Rattle.teredo_node.specs.Journal.{Entry, Journal, with_entry}
 use Rattle.qualify.specs.declared.phase.Phase.{Phase}
-use Rattle.qualify.specs.declared.phase.Phase.TheVariants.{Cone, Restricted, Secondary, Qualified, Symmetric, OffLine}
-use Rattle.qualify.specs.Turns.{Turn, turn, turn_of, begins}
+use Rattle.qualify.specs.declared.phase.Phase.TheVariants.{Cone}
+use Rattle.qualify.specs.Turns.{turn_of, begins}
 use Rattle.qualify.specs.Qualification.{first_phase, qualification}
-use Rattle.qualify.specs.Advertisements.{is_same_origin, origin_before, phase_line}
+use Rattle.qualify.specs.Advertisements.{is_same_origin, origin_before}
 use Rattle.topology.specs.declared.client_node.ClientNode.{ClientNode}
 use Rattle.topology.specs.declared.node.Node.TheVariants.{Client as client}
 use Rattle.topology.specs.Rules.{IsTopology}
@@ -24,51 +23,25 @@ use Rattle.legal.specs.Legal.{Grown}
 use Rattle.legal.specs.Actors.{IsActOf}
 use Rattle.legal.specs.Honest.{is_honest_event_for, are_honest_for}
 use Rattle.settled.specs.Clients.{standing}
-use Rattle.verdicts.specs.Undisturbed.{is_loss_of, is_open_at, starts, was_lost, has_sent, is_first_answer, answers, was_answered, was_shut}
+use Rattle.verdicts.specs.Undisturbed.{is_loss_of, is_open_at, starts, was_lost, has_sent, answers, was_answered, was_shut}
 use Rattle.verdicts.proofs.Adverts.{is_told}
-use Rattle.verdicts.proofs.Sound.{IsSoundIn, still_begins, is_resting}
-use Rattle.verdicts.proofs.Entries.{IsFirst, first_cone, first_restricted, phase_next, is_first}
+use Rattle.verdicts.proofs.Sound.{IsSoundIn}
+use Rattle.verdicts.proofs.Entries.{phase_next, is_first, first_rests}
 use Rattle.verdicts.proofs.LetIn.{view_of}
 use Rattle.verdicts.proofs.Scenes.{VerdictLaws, IsSound, Scene}
 use Rattle.verdicts.proofs.Steps.{is_told_at}
 use Rattle.verdicts.specs.Stays.{AddressStays}
-use Rattle.verdicts.proofs.Stays.{still_stays, stays_at_start}
-use Rattle.verdicts.proofs.Begins.{starts_in, sound_at_start, fresh_journal, Concerns, own, others, concerns, goes_on}
-use Rattle.verdicts.proofs.Undisturbed.{open_of}
+use Rattle.verdicts.proofs.Stays.{still_stays}
+use Rattle.verdicts.proofs.Begins.{sound_at_start, Concerns, own, others, concerns, goes_on}
+use Rattle.verdicts.proofs.Journals.{fresh_journal, starts_in, stays_at_start}
+use Rattle.verdicts.proofs.Phases.{Rests, answered_now, is_resting, not_resting, rested, told_rests, untold_rests}
+use Rattle.verdicts.proofs.Kept.{open_of}
 
 -- what holds of a client without the cone phase whose NAT was kept open
 pub record IsFirm (lab : Lab) (H : List Full) (n : ℕ) (c : ClientNode) : Type 0 where
   pub sound : IsSound lab H n c
   pub answered : is_resting (standing lab H n c).phase ≡ true → was_answered H n ≡ true
   pub stays : AddressStays H n
-
--- a first phase doesn't rest on the NAT
-pub first_rests : (tries : Bool) (ph : Phase) → IsFirst tries ph → is_resting ph ≡ false
-first_rests tries ph (first_cone t same) = ap is_resting same
-first_rests tries ph (first_restricted same) = ap is_resting same
-
--- a phase that rests on the NAT goes on, or was begun by the first answer
-pub data Rests (ph : Phase) (f : Fate) : Type 0 where
-  rested : is_resting ph ≡ true → Rests ph f
-  answered_now : is_first_answer (turn f) ≡ true → Rests ph f
-  not_resting : is_resting (unwrap_or (begins (turn f)) ph) ≡ false → Rests ph f
-
--- so it is after an advertisement, but in phase Cone
-pub told_rests : (ph : Phase) (same : Bool) → (ph ≡ Cone → ⊥) → Rests ph (phase_line ph same)
-told_rests Cone same other = absurd (other refl)
-told_rests Restricted same other = answered_now refl
-told_rests Secondary same other = rested refl
-told_rests Qualified same other = rested refl
-told_rests Symmetric same other = not_resting refl
-told_rests OffLine same other = not_resting refl
-
--- after any other entry it went on
-pub untold_rests : (u : Turn) (ph : Phase) → is_told u ≡ false → is_resting (unwrap_or (begins u) ph) ≡ true → is_resting ph ≡ true
-untold_rests u ph h rests = by (still_begins u h) where
-  by : (begins u ≡ None) ⊎ ((begins u ≡ Some Restricted) ⊎ (begins u ≡ Some OffLine)) → is_resting ph ≡ true
-  by (inl e) = ap (λ (o : Option Phase). is_resting (unwrap_or o ph)) (sym e) ∙ rests
-  by (inr (inl e)) = absurd (false≢true (ap (λ (o : Option Phase). is_resting (unwrap_or o ph)) (sym e) ∙ rests))
-  by (inr (inr e)) = absurd (false≢true (ap (λ (o : Option Phase). is_resting (unwrap_or o ph)) (sym e) ∙ rests))
 
 module _ (laws : VerdictLaws) (lab : Lab) (H : List Full) (r : Full) (n : ℕ) (c : ClientNode) (scene : Scene lab H r n c) (off : starts n r ≡ false)
     (never : c.cone_try ≡ false) (firm : IsFirm lab H n c) where
@@ -161,4 +134,5 @@ module _ (laws : VerdictLaws) (lab : Lab) (n : ℕ) (c : ClientNode) (flat : lab
     by false off l s ih =
         let lost_parts = or_parts (list_any (is_loss_of c.inside) (nat_entries lab c.nat r)) (was_lost lab H n c) l in
         let shut_parts = or_parts (HasBegun H && not (is_open_at lab H r.moment c)) (was_shut HasBegun lab H n c) s in
-        step H r (record { flat = flat; is = is; there = there; listed = listed; grown = g; honest = earlier }) off (ih lost_parts.1 shut_parts.1) lost_parts.0 shut_parts.0
+        step H r (record { flat = flat; is = is; there = there; listed = listed; grown = g; honest = earlier }) off
+        (ih lost_parts.1 shut_parts.1) lost_parts.0 shut_parts.0

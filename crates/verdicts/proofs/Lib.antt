@@ -1,18 +1,21 @@
 pub mod Members
 pub mod Kept
-pub mod Views
-pub mod Opened
+pub mod NatPorts
+mod Views
+mod Opened
 pub mod Adverts
-pub mod Sound
-pub mod SoundAdverts
+pub mod Phases
+mod Sound
+mod SoundAdverts
 pub mod Entries
 pub mod Outs
-pub mod LetIn
-pub mod Scenes
-pub mod Steps
-pub mod Begins
-pub mod Stays
-pub mod Judged
-pub mod Undisturbed
-pub mod KeptOpen
-pub mod Throughout
+mod LetIn
+mod Scenes
+mod Steps
+pub mod Journals
+mod Begins
+mod Stays
+mod Judged
+mod Undisturbed
+mod KeptOpen
+mod Throughout

@@ -16,7 +16,8 @@ use Rattle.nat_kinds.specs.Laws.{IsPast, Asked}
 use Rattle.verdicts.specs.Undisturbed.{is_out_to, is_loss_of, is_young_out}
 use Rattle.verdicts.proofs.Members.{Has, contains_of}
 use Rattle.verdicts.proofs.Kept.{stays_kept, younger_too, counts_of, counts_kept, counted, out_to, TwoSent, later_kept}
-use Rattle.verdicts.proofs.Views.{NatLaws, View, grown, IsPastOf, counts_in, latest_ask, asks_it, asked_port, one_port}
+use Rattle.verdicts.proofs.Views.{View, grown, IsPastOf, counts_in, latest_ask, asked_port, one_port}
+use Rattle.verdicts.proofs.NatPorts.{NatLaws, asks_it}
 
 -- a datagram that counts holds the port of an endpoint at the NAT's address, and asked the server. It isn't before the
 -- latest one that went to the server

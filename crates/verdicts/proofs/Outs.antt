@@ -25,6 +25,7 @@ use Rattle.legal.specs.Emit.{is_at_place, crossing_unless, by_way}
 use Rattle.legal.specs.Actors.{IsActOf}
 use Rattle.legal.specs.NatGrowth.{ComesBy, IsOutOf, NatGrows, stays, restarts, forgets, lets_out}
 use Rattle.verdicts.proofs.Members.{Has, all_has}
+use Rattle.verdicts.proofs.Kept.{out_or}
 
 -- WHERE A CLIENT'S DATAGRAMS GO
 
@@ -55,19 +56,13 @@ module _ (lab : Lab) (H : List Full) (m : ℕ) (P : Ep → Type 0) where
       all_sent way inside fails (i + 1) (crossing_unless (is_at_place i fails) lab H m x.to way inside passed).passed xs to.1
       (crossed_unless (is_at_place i fails) way x.to inside passed to.0 on)
 
--- the datagram, or another where there is none
-abbrev out_in : Outward → NatEntry → Outward
-out_in d (Out e) = e
-out_in d (Forget who) = d
-out_in d Restart = d
-
 -- so what one NAT let out does
 out_to : (P : Ep → Type 0) (k : ℕ) (passed : List Passing) (d : Outward) → AllByRecursion (λ (p : Passing). P p.datagram.dst) passed
     → Has (outs_at k passed) (Out d) → P d.dst
 out_to P k [] d on h = absurd h
 out_to P k (p ∷ ps) d on h = by (p.nat == k) h (out_to P k ps d on.1) where
   by : (b : Bool) → Has (cond b (Out p.datagram ∷ outs_at k ps) (outs_at k ps)) (Out d) → (Has (outs_at k ps) (Out d) → P d.dst) → P d.dst
-  by true (inl same) ih = subst (λ (x : Outward). P x.dst) (ap (out_in d) same) on.0
+  by true (inl same) ih = subst (λ (x : Outward). P x.dst) (ap (out_or d) same) on.0
   by true (inr later) ih = ih later
   by false later ih = ih later
 
@@ -96,18 +91,18 @@ act_out P a k d to h = by (is_node k a.full.node) h where
 -- RECORDS IN WHICH NOTHING IS LET OUT
 
 -- a datagram left
-abbrev is_out : NatEntry → Bool
+abbrev pub is_out : NatEntry → Bool
 is_out (Out e) = true
 is_out (Forget who) = false
 is_out Restart = false
 
 -- an entry of another kind is no datagram
-one_entry : (x : NatEntry) (d : Outward) → is_out x ≡ false → Has (x ∷ []) (Out d) → ⊥
+pub one_entry : (x : NatEntry) (d : Outward) → is_out x ≡ false → Has (x ∷ []) (Out d) → ⊥
 one_entry x d none (inl same) = false≢true (sym none ∙ ap is_out same)
 one_entry x d none (inr later) = later
 
 -- to forget lets nothing out
-none_forgotten : (lab : Lab) (e : Event) (d : Outward) → Has (forgotten lab e) (Out d) → ⊥
+pub none_forgotten : (lab : Lab) (e : Event) (d : Outward) → Has (forgotten lab e) (Out d) → ⊥
 none_forgotten lab (event.Forget k who) d h = by (client_at lab.topology who) h where
   by : (o : Option ClientNode) → Has (option_to_list (option_map (λ (c : ClientNode). Forget c.inside) o)) (Out d) → ⊥
   by None there = there
@@ -152,6 +147,6 @@ whose lab r k added d flat (restarts asked is) h = absurd (one_entry Restart d r
 whose lab r k added d flat (forgets who c asked there is) h = absurd (one_entry (Forget c.inside) d refl (subst (λ (xs : List NatEntry). Has xs (Out d)) is h))
 whose lab r k added d flat (lets_out n c node there all) h =
     let one : IsOutOf lab c r.moment k (Out d) = all_has (IsOutOf lab c r.moment k) added (Out d) all h in
-    let same : d ≡ one.datagram = ap (out_in d) one.is in
+    let same : d ≡ one.datagram = ap (out_or d) one.is in
     let way = direct lab.topology c.inside lab.chain c.nat k one.datagram.inside flat one.way in
     record { number = n; row = c; node = node; there = there; behind = way.0; sender = ap (λ (x : Outward). x.inside) same ∙ way.1 }

@@ -1,12 +1,10 @@
 -- A record of a client where no NAT is behind another one, and what it rests on.
-use Rattle.std.proofs.Common.{◌≡◌, ℕ, true, false, List, ◌∷◌, Some, refl, sym, ap, ◌∙◌, []}
+use Rattle.std.proofs.Common.{◌≡◌, ℕ, true, false, List, ◌∷◌, Some, []}
 use Rattle.std.specs.List.{list_any}
-use Rattle.std.proofs.lemmas.Bool.{false≢true}
 use Rattle.td_base.specs.declared.endpoint.Ep.{Ep}
-use Rattle.td_base.specs.Ip4.{same_ip, same_ip-self}
 use Rattle.td_base.specs.Ep.{IsEp}
 use Rattle.bubble.specs.Laws.{PayloadIsSpelled}
-use Rattle.teredo_node.specs.Journal.{Input, arrived, given, from_six, ticked, Entry}
+use Rattle.teredo_node.specs.Journal.{Entry}
 use Rattle.qualify.specs.declared.settings.Settings.{Settings}
 use Rattle.qualify.specs.Turns.{origin_given}
 use Rattle.qualify.specs.Qualification.{Qualification}
@@ -14,17 +12,14 @@ use Rattle.qualify.specs.Solicitations.{is_cone, expected_in, expected}
 use Rattle.qualify.specs.Advertisements.{is_same_origin, origin_before, phase_line}
 use Rattle.client_rules.specs.Epochs.{QualifiedHasAddress}
 use Rattle.client_rules.specs.Sendings.{EachSend}
-use Rattle.client_rules.specs.Journals.{client_entry}
 use Rattle.topology.specs.declared.client_node.ClientNode.{ClientNode}
-use Rattle.topology.specs.declared.node.Node.TheVariants.{Server as server, Client as client}
+use Rattle.topology.specs.declared.node.Node.TheVariants.{Client as client}
 use Rattle.topology.specs.Rules.{IsTopology}
 use Rattle.topology.specs.Topology.{node_at, client_at}
-use Rattle.topology.specs.NodeRules.{IsServerNode, EachNodeKeepsRules}
 use Rattle.history.specs.Full.{Full}
 use Rattle.legal.specs.Lab.{Lab}
 use Rattle.legal.specs.Settings.{client_settings}
-use Rattle.legal.specs.Past.{now, journal, words, nat_entries}
-use Rattle.legal.specs.Emit.{entry_of}
+use Rattle.legal.specs.Past.{now, nat_entries}
 use Rattle.legal.specs.Legal.{Grown}
 use Rattle.legal.specs.Laws.{EachIsLater, EachClientIsJournal}
 use Rattle.legal.specs.Frame.{EachFrames}
@@ -34,14 +29,14 @@ use Rattle.legal.specs.MadeWire.{EachHistoryIsMade}
 use Rattle.legal.specs.Routes.{EachRoute}
 use Rattle.legal.specs.Honest.{are_honest_for}
 use Rattle.origins.specs.Senders.{EachEntryTellsWhereTo}
-use Rattle.settled.specs.ItsNodes.{HasServer}
 use Rattle.settled.specs.Clients.{standing}
 use Rattle.verdicts.specs.Undisturbed.{is_loss_of, is_open_at}
 use Rattle.verdicts.proofs.Views.{View}
 use Rattle.verdicts.proofs.Adverts.{AdvertLaws}
 use Rattle.verdicts.proofs.SoundAdverts.{IsLetInAt, TurnLaws}
-use Rattle.verdicts.proofs.Sound.{IsSoundIn, is_resting}
+use Rattle.verdicts.proofs.Sound.{IsSoundIn}
 use Rattle.verdicts.proofs.LetIn.{view_of, ReplyLaws}
+use Rattle.verdicts.proofs.Phases.{is_resting}
 
 -- what is known of histories
 pub record VerdictLaws : Type 0 where
@@ -69,21 +64,6 @@ pub as_expected : (s : Settings) (q : Qualification) (v : View) (dst : Ep) → I
     → IsLetInAt v (expected_in s q.phase (is_cone q)) dst
 unfolding expected
 as_expected s q v dst is = is
-
--- what a client does
-pub client_does : (lab : Lab) (H : List Full) (m n : ℕ) (dst : Ep) (c : ClientNode) (input : Input)
-    → entry_of lab H m n dst input (client c) ≡ client_entry (client_settings lab.topology c) (journal n H) m input (words lab n H)
-client_does lab H m n dst c (arrived from x) = refl
-client_does lab H m n dst c (given x) = refl
-client_does lab H m n dst c (from_six x) = refl
-client_does lab H m n dst c ticked = refl
-
--- the server's addresses are apart
-pub two_addresses : (laws : EachNodeKeepsRules) (lab : Lab) (c : ClientNode) → IsTopology lab.topology → HasServer lab.topology c
-    → (client_settings lab.topology c).primary ≡ (client_settings lab.topology c).secondary → ⊥
-two_addresses laws lab c is b same =
-    let keeps : IsServerNode b.row = laws lab.topology c.server (server b.row) is b.there in
-    false≢true (sym keeps.apart ∙ ap (same_ip b.row.primary) (sym b.secondary ∙ sym same ∙ b.primary) ∙ same_ip-self b.row.primary)
 
 -- what the record is of: client n, which is c, where no NAT is behind another one
 pub record Scene (lab : Lab) (H : List Full) (r : Full) (n : ℕ) (c : ClientNode) : Type 0 where

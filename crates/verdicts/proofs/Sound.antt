@@ -1,7 +1,6 @@
 -- What a client's phase says of its NAT, and what a turn of the client makes of it.
 use Rattle.std.proofs.Common.{◌≡◌, ◌⊎◌, inl, inr, ℕ, Bool, true, false, cond, List, Option, Some, None, refl, sym, ap, subst, ◌∙◌}
 use Rattle.std.specs.Prelude.{is_some, unwrap_or}
-use Rattle.std.proofs.lemmas.Bool.{false≢true}
 use Rattle.td_base.specs.declared.endpoint.Ep.{Ep}
 use Rattle.td_base.specs.declared.ipv6.Ip6.{Ip6}
 use Rattle.teredo_addr.specs.Teredo.{embedded, has_cone}
@@ -10,15 +9,16 @@ use Rattle.nat_kinds.specs.History.{NatEntry, Out}
 use Rattle.qualify.specs.declared.settings.Settings.{Settings}
 use Rattle.qualify.specs.declared.phase.Phase.{Phase}
 use Rattle.qualify.specs.declared.phase.Phase.TheVariants.{Cone, Restricted, Secondary, Qualified, Symmetric, OffLine}
-use Rattle.qualify.specs.Turns.{Turn, asks_cone, asks_restricted, asks_secondary, ends, refreshes, qualifies, is_answered, differs, is_same, is_changed, renews}
-use Rattle.qualify.specs.Turns.{says_nothing, begins, leaves}
-use Rattle.qualify.specs.Qualification.{kept_after, address_after}
+use Rattle.qualify.specs.Turns.{Turn}
+use Rattle.qualify.specs.Turns.{begins}
 use Rattle.settled.specs.Clients.{is_symmetric, is_cone_kind}
 use Rattle.verdicts.specs.Undisturbed.{is_young_out}
 use Rattle.verdicts.proofs.Members.{Has}
 use Rattle.verdicts.proofs.Opened.{IsOpen, IsNext, stays_open, AsksAlone, still_alone}
-use Rattle.verdicts.proofs.Views.{NatLaws, View, grown, counts_in, latest_ask}
+use Rattle.verdicts.proofs.Views.{View, grown, counts_in, latest_ask}
 use Rattle.verdicts.proofs.Adverts.{is_told}
+use Rattle.verdicts.proofs.NatPorts.{NatLaws}
+use Rattle.verdicts.proofs.Phases.{address_then, is_resting, kept_then, still_address, still_begins, still_kept}
 
 -- THE INVARIANT
 
@@ -49,12 +49,6 @@ IsSoundIn v cone_try Qualified kept address = GoodAddress v cone_try address
 IsSoundIn v cone_try Symmetric kept address = is_symmetric v.nat.kind ≡ true
 IsSoundIn v cone_try OffLine kept address = Unit {0}
 
--- a phase that rests on what the NAT keeps
-abbrev pub is_resting : Phase → Bool
-is_resting Secondary = true
-is_resting Qualified = true
-is_resting _ = false
-
 -- WHAT THE NAT KEEPS
 
 -- what is so stays so
@@ -79,39 +73,6 @@ module _ (laws : NatLaws) (v : View) (added : List NatEntry) (m : ℕ) (next : I
   stays_sound OffLine young new i = tt
 
 -- TURNS THAT NO ADVERTISEMENT BRINGS
-
--- a phase goes on, or begins anew with nothing known
-pub still_begins : (u : Turn) → is_told u ≡ false → (begins u ≡ None) ⊎ ((begins u ≡ Some Restricted) ⊎ (begins u ≡ Some OffLine))
-still_begins asks_cone h = inl refl
-still_begins asks_restricted h = inr (inl refl)
-still_begins asks_secondary h = inl refl
-still_begins ends h = inr (inr refl)
-still_begins refreshes h = inl refl
-still_begins (qualifies cone) h = absurd (false≢true (sym h))
-still_begins is_answered h = absurd (false≢true (sym h))
-still_begins differs h = absurd (false≢true (sym h))
-still_begins is_same h = inl refl
-still_begins is_changed h = absurd (false≢true (sym h))
-still_begins renews h = inl refl
-still_begins says_nothing h = inl refl
-
--- the origin stays
-pub still_kept : (u : Turn) (o k : Option Ep) → is_told u ≡ false → kept_after u o k ≡ k
-still_kept is_answered o k h = absurd (false≢true (sym h))
-still_kept _ o k h = refl
-
--- and so does the address
-pub still_address : (s : Settings) (u : Turn) (w : Option ℕ) (o : Option Ep) (a : Option Ip6) → is_told u ≡ false → address_after s u w o a ≡ a
-still_address s (qualifies cone) w o a h = absurd (false≢true (sym h))
-still_address s is_changed w o a h = absurd (false≢true (sym h))
-still_address s _ w o a h = refl
-
--- what is known after a turn
-abbrev pub kept_then : Phase → Turn → Option Ep → Option Ep → Option Ep
-kept_then p u o k = kept_after u o (cond (leaves p u) None k)
-
-abbrev pub address_then : Settings → Phase → Turn → Option ℕ → Option Ep → Option Ip6 → Option Ip6
-address_then s p u w o a = address_after s u w o (cond (leaves p u) None a)
 
 module _ (s : Settings) (v : View) (b : Bool) (u : Turn) (w : Option ℕ) (o k : Option Ep) (a : Option Ip6) (h : is_told u ≡ false) where
   goes_on : (p : Phase) → begins u ≡ None → IsSoundIn v b p k a → IsSoundIn v b p (kept_then p u o k) (address_then s p u w o a)

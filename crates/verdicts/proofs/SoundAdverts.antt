@@ -27,8 +27,10 @@ use Rattle.qualify.specs.Advertisements.{is_same_origin, origin_before, phase_li
 use Rattle.settled.specs.Clients.{is_symmetric, is_cone_kind}
 use Rattle.verdicts.proofs.Members.{Has, has_of}
 use Rattle.verdicts.proofs.Opened.{IsOpen, opens, AsksAlone}
-use Rattle.verdicts.proofs.Views.{NatLaws, View, IsPastOf, counts_in, asked_port, plain_one_port}
-use Rattle.verdicts.proofs.Sound.{IsGoodAddress, GoodAddress, OpenOrigin, IsSoundIn, kept_then, address_then}
+use Rattle.verdicts.proofs.Views.{View, IsPastOf, counts_in, asked_port, plain_one_port}
+use Rattle.verdicts.proofs.Sound.{IsGoodAddress, GoodAddress, OpenOrigin, IsSoundIn}
+use Rattle.verdicts.proofs.NatPorts.{NatLaws}
+use Rattle.verdicts.proofs.Phases.{address_then, kept_then}
 
 -- what is known of NATs, and of addresses that are made
 pub record TurnLaws : Type 0 where
@@ -61,7 +63,8 @@ unfolding same_ep
 same_of a b ip port = rw (ip, port) (same_ep-self b)
 
 -- who asked the server's primary address alone is let in from its secondary address only by a cone NAT
-only_cone : (k : NatKind) (first second : Ip4) (d : Outward) → (first ≡ second → ⊥) → d.dst ≡ server_ep first → Asked k (server_ep second) d → is_cone_kind k ≡ true
+only_cone : (k : NatKind) (first second : Ip4) (d : Outward) → (first ≡ second → ⊥) → d.dst ≡ server_ep first → Asked k (server_ep second) d
+    → is_cone_kind k ≡ true
 only_cone kind.Cone first second d apart to a = refl
 only_cone kind.Restricted first second d apart to a = absurd (apart (sym (ap (λ (e : Ep). e.ip) to) ∙ a))
 only_cone kind.Port first second d apart to a = absurd (apart (ap (λ (e : Ep). e.ip) (sym to ∙ a)))

@@ -8,12 +8,11 @@ use Rattle.td_base.specs.declared.ipv6.Ip6.{Ip6}
 use Rattle.td_base.specs.Ep.{same_ep, same_ep-self}
 use Rattle.teredo_addr.specs.Teredo.{embedded}
 use Rattle.teredo_node.specs.declared.fate.Fate.{Fate}
-use Rattle.teredo_node.specs.declared.fate.Fate.TheVariants as fate
 use Rattle.teredo_node.specs.Journal.{Entry, Journal, is_changed}
 use Rattle.qualify.specs.declared.phase.Phase.{Phase}
 use Rattle.qualify.specs.declared.phase.Phase.TheVariants.{Cone, Restricted, Secondary, Qualified, Symmetric, OffLine}
 use Rattle.qualify.specs.declared.settings.Settings.{Settings}
-use Rattle.qualify.specs.Turns.{turn, turn_of}
+use Rattle.qualify.specs.Turns.{turn_of}
 use Rattle.qualify.specs.Qualification.{Qualification}
 use Rattle.qualify.specs.Solicitations.{is_cone, expected_in}
 use Rattle.qualify.specs.Advertisements.{is_same_origin, origin_before, phase_line}
@@ -22,12 +21,12 @@ use Rattle.topology.specs.declared.node.Node.TheVariants.{Client as client}
 use Rattle.history.specs.Full.{Full}
 use Rattle.legal.specs.Lab.{Lab}
 use Rattle.legal.specs.Settings.{client_settings}
-use Rattle.legal.specs.Past.{new_journal, journal}
+use Rattle.legal.specs.Past.{journal}
 use Rattle.legal.specs.Actors.{IsActOf}
 use Rattle.settled.specs.Clients.{standing}
 use Rattle.verdicts.specs.Undisturbed.{starts}
 use Rattle.verdicts.specs.Stays.{AddressStays}
-use Rattle.verdicts.proofs.Views.{NatLaws, View, IsPastOf, plain_one_port}
+use Rattle.verdicts.proofs.Views.{View, IsPastOf, plain_one_port}
 use Rattle.verdicts.proofs.Adverts.{is_told}
 use Rattle.verdicts.proofs.Sound.{IsGoodAddress, GoodAddress, IsSoundIn}
 use Rattle.verdicts.proofs.SoundAdverts.{IsLetInAt, was_asked}
@@ -35,6 +34,8 @@ use Rattle.verdicts.proofs.LetIn.{view_of}
 use Rattle.verdicts.proofs.Scenes.{VerdictLaws, IsSound, as_expected, Scene}
 use Rattle.verdicts.proofs.Steps.{past_before, is_told_at}
 use Rattle.verdicts.proofs.Begins.{Concerns, own, others, concerns}
+use Rattle.verdicts.proofs.NatPorts.{NatLaws}
+use Rattle.verdicts.proofs.Phases.{untold_same}
 
 -- the same endpoint
 same_of : (a b : Ep) → a.ip ≡ b.ip → a.port ≡ b.port → same_ep a b ≡ true
@@ -66,15 +67,6 @@ module _ (laws : NatLaws) (s : Settings) (v : View) (b : Bool) (p : IsPastOf v) 
   told_same q cone Qualified i in_ same e = by_refresh (expected_in s Qualified cone) q.address i in_ same e
   told_same q cone Symmetric i in_ same e = refl
   told_same q cone OffLine i in_ same e = refl
-
--- at a start nothing changed it
-pub stays_at_start : (H : List Full) (n m : ℕ) → journal n H ≡ new_journal m → AddressStays H n
-stays_at_start H n m fresh = ap (λ (j : Journal). list_any (λ (e : Entry). is_changed e.step.fate) j.entries) fresh
-
--- nor does any other turn
-pub untold_same : (f : Fate) → is_told (turn f) ≡ false → is_changed f ≡ false
-untold_same fate.Changed h = absurd (false≢true (sym h))
-untold_same _ h = refl
 
 module _ (laws : VerdictLaws) (lab : Lab) (H : List Full) (r : Full) (n : ℕ) (c : ClientNode) (scene : Scene lab H r n c) (off : starts n r ≡ false) where
   abbrev q : Qualification

@@ -43,7 +43,7 @@ use Rattle.legal.proofs.NatPasts.{set_up_past}
 use Rattle.origins.specs.Senders.{EntryTellsWhereTo}
 use Rattle.origins.proofs.Records.{is_client}
 use Rattle.origins.proofs.SentOn.{act_made}
-use Rattle.origins.proofs.HonestFor.{from_its}
+use Rattle.origins.proofs.HonestFor.{from_its, two_addresses}
 use Rattle.origins.proofs.Live.{is_arrived, from_of, bytes_of}
 use Rattle.settled.specs.ItsNodes.{HasServer}
 use Rattle.settled.specs.Clients.{standing, nat_behind, past_of_nat, asks_at}
@@ -52,11 +52,13 @@ use Rattle.verdicts.proofs.Opened.{IsNext}
 use Rattle.verdicts.proofs.Views.{View, counts_in, IsPastOf}
 use Rattle.verdicts.proofs.Adverts.{is_told, IsAdvertised, advertised}
 use Rattle.verdicts.proofs.SoundAdverts.{IsLetInAt, After, told}
-use Rattle.verdicts.proofs.Sound.{IsSoundIn, stays_sound, kept_then, address_then, untold}
+use Rattle.verdicts.proofs.Sound.{IsSoundIn, stays_sound, untold}
 use Rattle.verdicts.proofs.Entries.{phase_next, kept_next, address_next}
 use Rattle.verdicts.proofs.Outs.{act_out, whose}
 use Rattle.verdicts.proofs.LetIn.{view_of, at_its_nat, one_client}
-use Rattle.verdicts.proofs.Scenes.{VerdictLaws, IsSound, as_expected, client_does, two_addresses, Scene, IsCalm, IsToldAt}
+use Rattle.verdicts.proofs.Scenes.{VerdictLaws, IsSound, as_expected, Scene, IsCalm, IsToldAt}
+use Rattle.verdicts.proofs.Journals.{client_does}
+use Rattle.verdicts.proofs.Phases.{address_then, kept_then}
 
 module _ (laws : VerdictLaws) (lab : Lab) (H : List Full) (r : Full) (n : ℕ) (c : ClientNode) (scene : Scene lab H r n c) where
   abbrev s : Settings

@@ -42,7 +42,8 @@ each_is_right laws lab H n c flat is g honest there calm =
 each_is_right_without_cone : VerdictLaws → EachIsRightWithoutCone
 each_is_right_without_cone laws lab H n c flat is g honest there never calm =
     let at = node_of lab n c there in
-    right_without_cone laws.turns.nat lab H n c (set_up_past lab H c.nat g) (firm laws lab n c flat is at there never H g honest calm.lasts calm.server_open).sound
+    let f = firm laws lab n c flat is at there never H g honest calm.lasts calm.server_open in
+    right_without_cone laws.turns.nat lab H n c (set_up_past lab H c.nat g) f.sound
     never (laws.addresses (client_settings lab.topology c) (journal n H) (laws.clients lab H n c g at).journal)
 
 -- addresses stay

@@ -1,15 +1,12 @@
 -- Undisturbed clients: until something is sent nothing is known, and afterwards the NAT is open.
-use Rattle.std.proofs.Common.{◌≡◌, ◌⊎◌, inl, inr, ℕ, ◌&&◌, ◌||◌, not, Bool, true, false, cond, List, [], ◌∷◌, Option, Some, None, refl, sym, ap, subst, ◌∙◌}
-use Rattle.std.specs.Prelude.{unwrap_or}
+use Rattle.std.proofs.Common.{◌≡◌, ℕ, ◌&&◌, ◌||◌, not, Bool, true, false, cond, List, [], ◌∷◌, Some, refl, sym, ap, subst, ◌∙◌}
 use Rattle.std.specs.List.{list_any}
-use Rattle.std.proofs.lemmas.Bool.{false≢true, and_parts, or_parts}
+use Rattle.std.proofs.lemmas.Bool.{and_parts, or_parts}
 use Rattle.td_base.specs.declared.endpoint.Ep.{Ep}
 use Rattle.td_base.specs.Ep.{same_ep, same_ep-self}
 use Rattle.nat_kinds.specs.History.{Out}
 use Rattle.teredo_node.specs.Journal.{Entry, Journal, with_entry}
-use Rattle.qualify.specs.declared.phase.Phase.{Phase}
-use Rattle.qualify.specs.declared.phase.Phase.TheVariants.{Cone, Restricted, Secondary, Qualified, Symmetric, OffLine}
-use Rattle.qualify.specs.Turns.{Turn, turn_of, begins}
+use Rattle.qualify.specs.Turns.{turn_of}
 use Rattle.qualify.specs.Qualification.{first_phase, qualification}
 use Rattle.qualify.specs.Solicitations.{expected}
 use Rattle.topology.specs.declared.client_node.ClientNode.{ClientNode}
@@ -29,31 +26,21 @@ use Rattle.verdicts.proofs.Members.{none_has}
 use Rattle.verdicts.proofs.Opened.{IsUnseen, still_unseen}
 use Rattle.verdicts.proofs.Adverts.{is_told}
 use Rattle.verdicts.proofs.SoundAdverts.{was_asked}
-use Rattle.verdicts.proofs.Sound.{still_begins, is_resting}
-use Rattle.verdicts.proofs.Entries.{IsFirst, first_cone, first_restricted, phase_next, is_first}
+use Rattle.verdicts.proofs.Entries.{phase_next, is_first, first_is_early}
 use Rattle.verdicts.proofs.LetIn.{view_of}
 use Rattle.verdicts.proofs.Scenes.{VerdictLaws, IsSound, Scene}
 use Rattle.verdicts.proofs.Steps.{past_before, is_told_at}
 use Rattle.verdicts.specs.Stays.{AddressStays}
-use Rattle.verdicts.proofs.Stays.{still_stays, stays_at_start}
-use Rattle.verdicts.proofs.Begins.{starts_in, sound_at_start, unseen_of, fresh_journal, Concerns, own, others, concerns, goes_on}
-
--- a phase in which nothing came yet
-abbrev pub is_early : Phase → Bool
-is_early Cone = true
-is_early Restricted = true
-is_early OffLine = true
-is_early _ = false
+use Rattle.verdicts.proofs.Stays.{still_stays}
+use Rattle.verdicts.proofs.Begins.{sound_at_start, unseen_of, Concerns, own, others, concerns, goes_on}
+use Rattle.verdicts.proofs.Journals.{fresh_journal, starts_in, stays_at_start}
+use Rattle.verdicts.proofs.Phases.{is_early, is_resting, rests_late, still_early}
+use Rattle.verdicts.proofs.Kept.{open_of}
 
 -- until the client sent something, nothing of it counts and nothing came
 pub record IsUntried (lab : Lab) (H : List Full) (n : ℕ) (c : ClientNode) : Type 0 where
   pub unseen : IsUnseen (view_of lab H c)
   pub early : is_early (standing lab H n c).phase ≡ true
-
--- a first phase is such a one
-pub first_is_early : (tries : Bool) (ph : Phase) → IsFirst tries ph → is_early ph ≡ true
-first_is_early tries ph (first_cone t same) = ap is_early same
-first_is_early tries ph (first_restricted same) = ap is_early same
 
 -- so it is at a start
 untried_at_start : (lab : Lab) (H : List Full) (n m : ℕ) (c : ClientNode) → journal n H ≡ new_journal m → IsUnseen (view_of lab H c) → IsUntried lab H n c
@@ -62,14 +49,6 @@ untried_at_start lab H n m c fresh unseen = record {
   early = ap is_early (starts_in lab H n m c fresh) ∙ first_is_early c.cone_try (first_phase (client_settings lab.topology c))
       (is_first (client_settings lab.topology c));
 }
-
--- only an advertisement ends that
-pub still_early : (u : Turn) (ph : Phase) → is_told u ≡ false → is_early ph ≡ true → is_early (unwrap_or (begins u) ph) ≡ true
-still_early u ph h early = by (still_begins u h) where
-  by : (begins u ≡ None) ⊎ ((begins u ≡ Some Restricted) ⊎ (begins u ≡ Some OffLine)) → is_early (unwrap_or (begins u) ph) ≡ true
-  by (inl e) = ap (λ (o : Option Phase). is_early (unwrap_or o ph)) e ∙ early
-  by (inr (inl e)) = ap (λ (o : Option Phase). is_early (unwrap_or o ph)) e
-  by (inr (inr e)) = ap (λ (o : Option Phase). is_early (unwrap_or o ph)) e
 
 module _ (laws : VerdictLaws) (lab : Lab) (H : List Full) (r : Full) (n : ℕ) (c : ClientNode) (scene : Scene lab H r n c) (off : starts n r ≡ false) where
   -- a record with no datagram of the client leaves it so
@@ -101,21 +80,6 @@ pub record IsFine (lab : Lab) (H : List Full) (n : ℕ) (c : ClientNode) : Type 
   pub untried : has_sent lab H n c ≡ false → IsUntried lab H n c
   pub stays : AddressStays H n
 
--- no such phase rests on the NAT
-pub rests_late : (ph : Phase) → is_resting ph ≡ true → is_early ph ≡ true → ⊥
-rests_late Cone r e = false≢true r
-rests_late Restricted r e = false≢true r
-rests_late OffLine r e = false≢true r
-rests_late Secondary r e = false≢true e
-rests_late Qualified r e = false≢true e
-rests_late Symmetric r e = false≢true e
-
--- open where it had begun
-pub open_of : (begun is_open : Bool) → begun ≡ true → (begun && not is_open) ≡ false → is_open ≡ true
-open_of true true b h = refl
-open_of true false b h = absurd (false≢true (sym h))
-open_of false is_open b h = absurd (false≢true b)
-
 module _ (laws : VerdictLaws) (lab : Lab) (n : ℕ) (c : ClientNode) (flat : lab.chain ≡ []) (is : IsTopology lab.topology)
     (there : node_at lab.topology n ≡ Some (client c)) (listed : client_at lab.topology n ≡ Some c) where
   -- the NAT let a datagram of the client out
@@ -142,7 +106,11 @@ module _ (laws : VerdictLaws) (lab : Lab) (n : ℕ) (c : ClientNode) (flat : lab
 
   -- a start
   start : (H : List Full) (m : ℕ) → journal n H ≡ new_journal m → IsUnseen (view_of lab H c) → IsFine lab H n c
-  start H m fresh unseen = record { sound = sound_at_start lab H n m c fresh (λ _. unseen); untried = λ _. untried_at_start lab H n m c fresh unseen; stays = stays_at_start H n m fresh }
+  start H m fresh unseen = record {
+    sound = sound_at_start lab H n m c fresh (λ _. unseen);
+    untried = λ _. untried_at_start lab H n m c fresh unseen;
+    stays = stays_at_start H n m fresh;
+  }
 
   -- a whole history
   pub fine : (H : List Full) → Grown lab H → are_honest_for lab.topology c H ≡ true → began_seen lab H n c ≡ false → was_lost lab H n c ≡ false
@@ -160,4 +128,5 @@ module _ (laws : VerdictLaws) (lab : Lab) (n : ℕ) (c : ClientNode) (flat : lab
     by false off b l s ih =
         let lost_parts = or_parts (list_any (is_loss_of c.inside) (nat_entries lab c.nat r)) (was_lost lab H n c) l in
         let shut_parts = or_parts (has_sent lab H n c && not (is_open_at lab H r.moment c)) (was_shut HasSent lab H n c) s in
-        step H r (record { flat = flat; is = is; there = there; listed = listed; grown = g; honest = before }) off (ih b lost_parts.1 shut_parts.1) lost_parts.0 shut_parts.0
+        step H r (record { flat = flat; is = is; there = there; listed = listed; grown = g; honest = before }) off
+        (ih b lost_parts.1 shut_parts.1) lost_parts.0 shut_parts.0

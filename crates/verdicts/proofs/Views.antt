@@ -1,31 +1,16 @@
 -- What a client's NAT is to the client and its server, after a history.
-use Rattle.std.proofs.Common.{◌≡◌, ℕ, Bool, true, false, List, ◌++◌, find, Option, Some, None, refl, sym, ap, ◌∙◌, subst}
-use Rattle.std.specs.Prelude.{Contains}
-use Rattle.std.proofs.lemmas.Bool.{false≢true}
+use Rattle.std.proofs.Common.{◌≡◌, ℕ, Bool, true, false, List, ◌++◌, find, Option, Some, refl, sym, ap, ◌∙◌, subst}
 use Rattle.td_base.specs.declared.endpoint.Ep.{Ep}
-use Rattle.nat_kinds.specs.declared.kind.NatKind.{NatKind}
-use Rattle.nat_kinds.specs.declared.kind.NatKind.TheVariants as kind
 use Rattle.nat_kinds.specs.declared.outgoing.Outward.{Outward}
 use Rattle.nat_kinds.specs.declared.settings.NatSettings.{NatSettings}
 use Rattle.nat_kinds.specs.History.{NatEntry, counting}
-use Rattle.nat_kinds.specs.Mappings.{has_key, port_in, live_port}
+use Rattle.nat_kinds.specs.Mappings.{live_port}
 use Rattle.nat_kinds.specs.Answer.{live_after}
-use Rattle.nat_kinds.specs.Entering.{lets_in}
-use Rattle.nat_kinds.specs.Laws.{IsPast, SameKey, Asked, WasAsked}
-use Rattle.nat_kinds.proofs.ListLemmas.{find_alike, all_any}
+use Rattle.nat_kinds.specs.Laws.{IsPast, Asked}
 use Rattle.settled.specs.Clients.{is_symmetric}
 use Rattle.verdicts.specs.Undisturbed.{is_out_to}
 use Rattle.verdicts.proofs.Members.{Has, contains_of}
-
--- what is known of NATs
-pub record NatLaws : Type 0 where
-  pub ports : (s : NatSettings) (h : List NatEntry) (n : ℕ) → IsPast s h n → (e : Outward) → Contains (counting s.idle n h) e
-      → live_port s.kind e.inside e.dst (live_after s h n) ≡ Some e.port
-  pub keys : (s : NatSettings) (h : List NatEntry) (n : ℕ) → IsPast s h n → (inside dst inside' dst' : Ep) (port : ℕ)
-      → live_port s.kind inside dst (live_after s h n) ≡ Some port → live_port s.kind inside' dst' (live_after s h n) ≡ Some port
-      → SameKey s.kind inside dst inside' dst'
-  pub asked : (s : NatSettings) (h : List NatEntry) (n : ℕ) → IsPast s h n → (src : Ep) (port : ℕ) (inside : Ep)
-      → (lets_in s h n src port ≡ Some inside → WasAsked s h n src port inside) × (WasAsked s h n src port inside → lets_in s h n src port ≡ Some inside)
+use Rattle.verdicts.proofs.NatPorts.{NatLaws, asked_same, asks_it, plain_port, port_or}
 
 -- a NAT after a history, at a moment, with the inside endpoint of one of its clients and the endpoint that this asks
 pub record View : Type 0 where
@@ -53,31 +38,6 @@ latest_ask v = find (is_out_to v.inside v.server) v.past
 
 -- PORTS
 
--- to a NAT that isn't symmetric one destination is as another
-plain_key : (k : NatKind) → is_symmetric k ≡ false → (inside a b : Ep) (e : Outward) → has_key k inside a e ≡ has_key k inside b e
-plain_key kind.Cone h inside a b e = refl
-plain_key kind.Restricted h inside a b e = refl
-plain_key kind.Port h inside a b e = refl
-plain_key kind.Symmetric h inside a b e = absurd (false≢true (sym h))
-
--- so the port that it holds is the same towards both
-pub plain_port : (k : NatKind) → is_symmetric k ≡ false → (inside a b : Ep) (live : List Outward) → live_port k inside a live ≡ live_port k inside b live
-plain_port k h inside a b live = ap port_in (find_alike (has_key k inside a) (has_key k inside b) live (all_any _ live (plain_key k h inside a b)))
-
--- and a symmetric one is asked by what went there alone
-asked_same : (k : NatKind) → is_symmetric k ≡ true → (src : Ep) (d : Outward) → Asked k src d → d.dst ≡ src
-asked_same kind.Cone h src d a = absurd (false≢true h)
-asked_same kind.Restricted h src d a = absurd (false≢true h)
-asked_same kind.Port h src d a = absurd (false≢true h)
-asked_same kind.Symmetric h src d a = a
-
--- what was sent to an endpoint asked it
-pub asks_it : (k : NatKind) (src : Ep) (d : Outward) → d.dst ≡ src → Asked k src d
-asks_it kind.Cone src d same = tt
-asks_it kind.Restricted src d same = ap (λ (e : Ep). e.ip) same
-asks_it kind.Port src d same = same
-asks_it kind.Symmetric src d same = same
-
 -- a datagram of the client that counts at its NAT
 pub record CountsOwn (v : View) (d : Outward) : Type 0 where
   pub counts : Has (counts_in v) d
@@ -99,11 +59,6 @@ asked_port laws v src d p x = by (is_symmetric v.nat.kind) refl where
   by : (b : Bool) → is_symmetric v.nat.kind ≡ b → live_port v.nat.kind v.inside src (live_after v.nat v.past v.moment) ≡ Some d.port
   by true e = subst (λ (z : Ep). live_port v.nat.kind v.inside z (live_after v.nat v.past v.moment) ≡ Some d.port) (asked_same v.nat.kind e src d x.asked) held
   by false e = plain_port v.nat.kind e v.inside src d.dst (live_after v.nat v.past v.moment) ∙ held
-
--- the port, or another where there is none
-abbrev port_or : ℕ → Option ℕ → ℕ
-port_or p None = p
-port_or p (Some q) = q
 
 -- two that asked the same have one port
 pub one_port : NatLaws → (v : View) (src : Ep) (d e : Outward) → IsPastOf v → AskedOwn v src d → AskedOwn v src e → d.port ≡ e.port

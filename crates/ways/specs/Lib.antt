@@ -5,3 +5,4 @@ pub mod UndisturbedAlong
 pub mod RightAlong
 pub mod Addresses
 pub mod Neighbours
+pub mod Throughout

@@ -1,5 +1,5 @@
 -- Neighbours: clients with one outermost NAT never hear each other, since a NAT sends nothing back to its own address.
-use Rattle.std.specs.Prelude.{◌≡◌, ◌≢◌, ℕ, true, List, ◌∷◌}
+use Rattle.std.specs.Prelude.{◌≡◌, ◌≢◌, ℕ, true, List, [], ◌∷◌}
 use Rattle.ipv6_packet.specs.Reads.{fields_in}
 use Rattle.teredo_addr.specs.Teredo.{is_teredo, embedded}
 use Rattle.topology.specs.declared.client_node.ClientNode.{ClientNode}
@@ -10,10 +10,19 @@ use Rattle.legal.specs.Legal.{Grown}
 use Rattle.legal.specs.Honest.{are_honest}
 use Rattle.origins.specs.Sources.{outermost}
 use Rattle.origins.specs.Handed.{HandsToHost}
-use Rattle.ways.specs.Ways.{IsNested, nat_of}
+use Rattle.ways.specs.Ways.{IsChained, nat_of}
 
--- in an honest history no packet is handed to a client's host whose Teredo source embeds the address of the client's outermost NAT
-abbrev pub NeighboursAreUnheard : Type 0
-NeighboursAreUnheard = (lab : Lab) (H : List Full) (r : Full) (n : ℕ) (c : ClientNode) (x : List ℕ) → IsTopology lab.topology → IsNested lab
-    → Grown lab (r ∷ H) → are_honest lab.topology H ≡ true → HandsToHost lab r n c x → is_teredo (fields_in x).src ≡ true
+-- a record hands no packet to a client's host whose Teredo source embeds the address of the client's outermost NAT
+abbrev pub IsUnheardIn : Lab → Full → Type 0
+IsUnheardIn lab r = (n : ℕ) (c : ClientNode) (x : List ℕ) → HandsToHost lab r n c x → is_teredo (fields_in x).src ≡ true
     → (embedded (fields_in x).src).ip ≢ (nat_of lab (outermost lab c)).external
+
+-- after a history that is honest
+abbrev pub NeighboursAreUnheard : Type 0
+NeighboursAreUnheard = (lab : Lab) (H : List Full) (r : Full) → IsTopology lab.topology → IsChained lab → Grown lab (r ∷ H)
+    → are_honest lab.topology H ≡ true → IsUnheardIn lab r
+
+-- the latest record does so, where those before it are honest
+abbrev pub NeighboursUnheardLast : Lab → List Full → Type 0
+NeighboursUnheardLast lab [] = Unit {0}
+NeighboursUnheardLast lab (r ∷ H) = are_honest lab.topology H ≡ true → IsUnheardIn lab r

@@ -12,7 +12,7 @@ use Rattle.legal.specs.Lab.{Lab}
 use Rattle.legal.specs.Legal.{Grown}
 use Rattle.legal.specs.Honest.{are_honest_for}
 use Rattle.settled.specs.Clients.{standing, client_address}
-use Rattle.ways.specs.Ways.{IsNested, has_symmetric}
+use Rattle.ways.specs.Ways.{IsChained, has_symmetric}
 use Rattle.ways.specs.SettledAlong.{IsSettledAlong}
 use Rattle.ways.specs.UndisturbedAlong.{IsUndisturbedAlong, IsKeptOpenAlong}
 
@@ -27,7 +27,7 @@ pub record IsRightAlong (lab : Lab) (H : List Full) (n : ℕ) (c : ClientNode) :
 
 -- in a history that is honest for it that of each client which is undisturbed along its way is
 abbrev pub EachIsRightAlong : Type 0
-EachIsRightAlong = (lab : Lab) (H : List Full) (n : ℕ) (c : ClientNode) → IsTopology lab.topology → IsNested lab → Grown lab H
+EachIsRightAlong = (lab : Lab) (H : List Full) (n : ℕ) (c : ClientNode) → IsTopology lab.topology → IsChained lab → Grown lab H
     → are_honest_for lab.topology c H ≡ true → client_at lab.topology n ≡ Some c → IsUndisturbedAlong lab H n c → IsRightAlong lab H n c
 
 -- that of a client which doesn't try the cone phase; its address doesn't say that its NATs are cone
@@ -37,7 +37,7 @@ pub record IsRightAlongWithoutCone (lab : Lab) (H : List Full) (n : ℕ) (c : Cl
 
 -- so is that of each such client whose NATs were kept open
 abbrev pub EachIsRightAlongWithoutCone : Type 0
-EachIsRightAlongWithoutCone = (lab : Lab) (H : List Full) (n : ℕ) (c : ClientNode) → IsTopology lab.topology → IsNested lab → Grown lab H
+EachIsRightAlongWithoutCone = (lab : Lab) (H : List Full) (n : ℕ) (c : ClientNode) → IsTopology lab.topology → IsChained lab → Grown lab H
     → are_honest_for lab.topology c H ≡ true → client_at lab.topology n ≡ Some c → c.cone_try ≡ false → IsKeptOpenAlong lab H n c
     → IsRightAlongWithoutCone lab H n c
 

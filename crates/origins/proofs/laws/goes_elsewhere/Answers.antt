@@ -1,4 +1,4 @@
-use Rattle.origins.proofs.SentFrom.{each_goes_elsewhere}
+use Rattle.origins.proofs.SentElsewhere.{each_goes_elsewhere}
 use Rattle.origins.proofs.laws.goes_elsewhere.Goals as goal
 
 pub returns : goal.returns

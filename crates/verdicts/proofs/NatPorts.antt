@@ -1,0 +1,74 @@
+-- What asked a NAT, and the ports that it holds.
+use Rattle.std.proofs.Common.{◌≡◌, ℕ, true, false, List, Option, Some, None, refl, sym, ap}
+use Rattle.std.specs.Prelude.{Contains}
+use Rattle.std.proofs.lemmas.Bool.{false≢true}
+use Rattle.td_base.specs.declared.endpoint.Ep.{Ep}
+use Rattle.nat_kinds.specs.declared.kind.NatKind.{NatKind}
+use Rattle.nat_kinds.specs.declared.kind.NatKind.TheVariants as kind
+use Rattle.nat_kinds.specs.declared.outgoing.Outward.{Outward}
+use Rattle.nat_kinds.specs.declared.settings.NatSettings.{NatSettings}
+use Rattle.nat_kinds.specs.History.{NatEntry, counting}
+use Rattle.nat_kinds.specs.Mappings.{has_key, port_in, live_port}
+use Rattle.nat_kinds.specs.Answer.{live_after}
+use Rattle.nat_kinds.specs.Entering.{lets_in}
+use Rattle.nat_kinds.specs.Laws.{IsPast, SameKey, Asked, WasAsked}
+use Rattle.nat_kinds.proofs.ListLemmas.{find_alike, all_any}
+use Rattle.settled.specs.Clients.{is_symmetric}
+
+-- what is known of every history of a NAT: the ports that datagrams hold, that a port has one key, and whom it lets in
+pub record NatLaws : Type 0 where
+  pub ports : (s : NatSettings) (h : List NatEntry) (n : ℕ) → IsPast s h n → (e : Outward) → Contains (counting s.idle n h) e
+      → live_port s.kind e.inside e.dst (live_after s h n) ≡ Some e.port
+  pub keys : (s : NatSettings) (h : List NatEntry) (n : ℕ) → IsPast s h n → (inside dst inside' dst' : Ep) (port : ℕ)
+      → live_port s.kind inside dst (live_after s h n) ≡ Some port → live_port s.kind inside' dst' (live_after s h n) ≡ Some port
+      → SameKey s.kind inside dst inside' dst'
+  pub asked : (s : NatSettings) (h : List NatEntry) (n : ℕ) → IsPast s h n → (src : Ep) (port : ℕ) (inside : Ep)
+      → (lets_in s h n src port ≡ Some inside → WasAsked s h n src port inside) × (WasAsked s h n src port inside → lets_in s h n src port ≡ Some inside)
+
+-- WHAT IT ASKED
+
+-- what was sent to an endpoint asked it
+pub asks_it : (k : NatKind) (src : Ep) (d : Outward) → d.dst ≡ src → Asked k src d
+asks_it kind.Cone src d same = tt
+asks_it kind.Restricted src d same = ap (λ (e : Ep). e.ip) same
+asks_it kind.Port src d same = same
+asks_it kind.Symmetric src d same = same
+
+-- and a symmetric one is asked by what went there alone
+pub asked_same : (k : NatKind) → is_symmetric k ≡ true → (src : Ep) (d : Outward) → Asked k src d → d.dst ≡ src
+asked_same kind.Cone h src d a = absurd (false≢true h)
+asked_same kind.Restricted h src d a = absurd (false≢true h)
+asked_same kind.Port h src d a = absurd (false≢true h)
+asked_same kind.Symmetric h src d a = a
+
+-- KEYS AND PORTS
+
+-- one key has one inside endpoint
+pub key_inside : (k : NatKind) (a b c d : Ep) → SameKey k a b c d → a ≡ c
+key_inside kind.Cone a b c d same = same
+key_inside kind.Restricted a b c d same = same
+key_inside kind.Port a b c d same = same
+key_inside kind.Symmetric a b c d same = same.0
+
+-- and behind a symmetric NAT one destination
+pub key_to : (k : NatKind) (a b c d : Ep) → is_symmetric k ≡ true → SameKey k a b c d → b ≡ d
+key_to kind.Cone a b c d h same = absurd (false≢true h)
+key_to kind.Restricted a b c d h same = absurd (false≢true h)
+key_to kind.Port a b c d h same = absurd (false≢true h)
+key_to kind.Symmetric a b c d h same = same.1
+
+-- to a NAT that isn't symmetric one destination is as another
+plain_key : (k : NatKind) → is_symmetric k ≡ false → (inside a b : Ep) (e : Outward) → has_key k inside a e ≡ has_key k inside b e
+plain_key kind.Cone h inside a b e = refl
+plain_key kind.Restricted h inside a b e = refl
+plain_key kind.Port h inside a b e = refl
+plain_key kind.Symmetric h inside a b e = absurd (false≢true (sym h))
+
+-- so the port that it holds is the same towards both
+pub plain_port : (k : NatKind) → is_symmetric k ≡ false → (inside a b : Ep) (live : List Outward) → live_port k inside a live ≡ live_port k inside b live
+plain_port k h inside a b live = ap port_in (find_alike (has_key k inside a) (has_key k inside b) live (all_any _ live (plain_key k h inside a b)))
+
+-- the port, or another where there is none
+abbrev pub port_or : ℕ → Option ℕ → ℕ
+port_or p None = p
+port_or p (Some q) = q

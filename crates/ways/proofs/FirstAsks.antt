@@ -1,0 +1,182 @@
+-- In phase Cone a client asks its server's primary address alone, from its first datagram on.
+use Rattle.std.proofs.Common.{◌≡◌, ◌⊎◌, inl, inr, ℕ, ◌&&◌, ◌||◌, Bool, true, false, cond, List, [], ◌∷◌, Option, Some, refl, sym, ap, subst, ◌∙◌}
+use Rattle.std.specs.Prelude.{Contains, find, is_some, not, unwrap_or}
+use Rattle.std.specs.List.{AllByRecursion}
+use Rattle.std.proofs.lemmas.Bool.{false≢true}
+use Rattle.td_base.specs.declared.ipv6.Ip6.{Ip6}
+use Rattle.td_base.specs.declared.endpoint.Ep.{Ep}
+use Rattle.td_base.specs.Ep.{same_ep, same_ep-self}
+use Rattle.nat_kinds.specs.declared.outgoing.Outward.{Outward}
+use Rattle.nat_kinds.specs.History.{NatEntry, Out, counting}
+use Rattle.teredo_node.specs.Step.{Send}
+use Rattle.teredo_node.specs.Journal.{Entry, with_entry}
+use Rattle.qualify.specs.declared.settings.Settings.{Settings}
+use Rattle.qualify.specs.declared.phase.Phase.TheVariants.{Cone}
+use Rattle.qualify.specs.Turns.{Turn, asks_cone, asks_restricted, asks_secondary, ends, refreshes, qualifies, is_answered, differs, is_same, is_changed, renews}
+use Rattle.qualify.specs.Turns.{says_nothing, turn_of, begins}
+use Rattle.qualify.specs.Qualification.{Qualification, qualification}
+use Rattle.qualify.specs.Solicitations.{is_qualified, server_asked}
+use Rattle.client_rules.specs.Sendings.{IsBubbleTo, IsCarriedTo, IsSending, solicits, bubbles, tests, carries}
+use Rattle.client_rules.specs.Journals.{IsJournal}
+use Rattle.topology.specs.declared.client_node.ClientNode.{ClientNode}
+use Rattle.topology.specs.declared.node.Node.TheVariants.{Client as client}
+use Rattle.topology.specs.Chains.{outs_at}
+use Rattle.history.specs.Full.{Full}
+use Rattle.legal.specs.Lab.{Lab}
+use Rattle.legal.specs.Past.{journal, is_node, nat_history}
+use Rattle.legal.specs.Actors.{IsActOf}
+use Rattle.verdicts.specs.Undisturbed.{starts}
+use Rattle.verdicts.proofs.Members.{Has, none_has, has_of}
+use Rattle.verdicts.proofs.Adverts.{is_told}
+use Rattle.verdicts.proofs.Entries.{phase_next}
+use Rattle.verdicts.proofs.Outs.{act_out}
+use Rattle.ways.specs.Ways.{outer_nats_of, nat_of}
+use Rattle.ways.specs.UndisturbedAlong.{went_to, came_from, has_passed, is_known, passed_known}
+use Rattle.ways.proofs.Rises.{IsPart, whole_part, next_part}
+use Rattle.ways.proofs.WayLaws.{WayLaws}
+use Rattle.ways.proofs.OneMore.{Asker, OneMore, was, after, stands, own_did}
+use Rattle.ways.proofs.Asks.{server_of, latest_ask, IsAsk, left_at}
+use Rattle.ways.proofs.Sound.{settings_of, standing_of, way_of, Asks, AloneFrom}
+use Rattle.ways.proofs.Places.{at_next}
+use Rattle.ways.proofs.StillAsks.{CameFrom, new_or_old, came_next}
+use Rattle.ways.proofs.StillAlone.{NoneOld, AllNew, first_alone}
+use Rattle.ways.proofs.Fresh.{come, entries_are}
+use Rattle.ways.proofs.Turns.{IsCalm}
+use Rattle.ways.proofs.CameFrom.{Came, came}
+use Rattle.ways.proofs.NoneOut.{Nothing}
+use Rattle.ways.proofs.Concerns.{SentNothing, nothing_yet, own_node, own_record}
+
+-- nothing of the client counts at its next NAT at a moment
+abbrev pub IsUnseenAt : Asker → ℕ → Type 0
+IsUnseenAt v m =
+    (d : Outward) → Contains (counting (nat_of v.lab v.row.nat).idle m (nat_history v.lab v.row.nat v.past)) d → d.inside ≡ v.row.inside → ⊥
+
+-- these NATs didn't know where what the client sent first came from
+abbrev pub Unknown : OneMore → List ℕ → Type 0
+Unknown x way = AllByRecursion (λ (j : ℕ). passed_known x.lab (x.full ∷ x.before) x.number j ≡ false) way
+
+-- what came first to a NAT came from where it knew nothing
+known_of : (s a b x y : Bool) → cond s false ((not a && b && x) || y) ≡ false → s ≡ false → a ≡ false → b ≡ true → x ≡ false
+known_of false false true false y h e f g = refl
+known_of false false true true y h e f g = h
+known_of true a b x y h e f g = absurd (false≢true (sym e))
+known_of false true b x y h e f g = absurd (false≢true (sym f))
+known_of false false false x y h e f g = absurd (false≢true g)
+
+module _ (laws : WayLaws) (x : OneMore) (calm : IsCalm x) (e : Entry) (act : IsActOf x.lab x.before x.full x.number (client x.row) e) where
+  abbrev lab : Lab
+  lab = x.lab
+
+  abbrev H : List Full
+  H = x.before
+
+  abbrev r : Full
+  r = x.full
+
+  abbrev n : ℕ
+  n = x.number
+
+  abbrev c : ClientNode
+  c = x.row
+
+  abbrev s : Settings
+  s = settings_of (was x)
+
+  abbrev q : Qualification
+  q = standing_of (was x)
+
+  abbrev P : Ep
+  P = server_of (was x)
+
+  -- WHERE IT SENDS
+
+  is_journal : IsJournal s (with_entry (journal n H) e)
+  is_journal = subst (IsJournal s) act.later (laws.clients lab (r ∷ H) n c x.grown (stands laws.ends.there lab n c x.there)).journal
+
+  before_is_journal : IsJournal s (journal n H)
+  before_is_journal = (laws.clients lab H n c x.grown.1 (stands laws.ends.there lab n c x.there)).journal
+
+  to_primary : (u : Turn) → is_told u ≡ false → server_asked s (unwrap_or (begins u) Cone) ≡ P
+  to_primary asks_cone h = refl
+  to_primary asks_restricted h = refl
+  to_primary asks_secondary h = refl
+  to_primary ends h = refl
+  to_primary refreshes h = refl
+  to_primary (qualifies cone) h = absurd (false≢true (sym h))
+  to_primary is_answered h = absurd (false≢true (sym h))
+  to_primary differs h = absurd (false≢true (sym h))
+  to_primary is_same h = refl
+  to_primary is_changed h = absurd (false≢true (sym h))
+  to_primary renews h = refl
+  to_primary says_nothing h = refl
+
+  no_address : q.phase ≡ Cone → (own : Ip6) → q.address ≡ Some own → ⊥
+  no_address cone own has = false≢true (sym (ap is_qualified cone) ∙ sym (laws.addresses s (journal n H) before_is_journal)
+      ∙ ap (λ (o : Option Ip6). is_some o) has)
+
+  -- what it may send with this entry
+  abbrev Sends : Send → Type 0
+  Sends y = IsSending s q (qualification s (with_entry (journal n H) e)).phase e.peer (IsBubbleTo e) (IsCarriedTo (journal n H) e) y
+
+  one_send : q.phase ≡ Cone → is_told (turn_of e) ≡ false → (y : Send) → Sends y → y.to ≡ P
+  one_send cone h y (solicits nonce same) = ap (λ (z : Send). z.to) same
+      ∙ ap (server_asked s) (phase_next s (journal n H) e ∙ ap (unwrap_or (begins (turn_of e))) cone) ∙ to_primary (turn_of e) h
+  one_send cone h y (bubbles own p to has peer goes same) = absurd (no_address cone own has)
+  one_send cone h y (tests own p nonce has peer same) = absurd (no_address cone own has)
+  one_send cone h y (carries to bytes own goes same) = absurd (no_address cone _ own.source)
+
+  all_sends : q.phase ≡ Cone → is_told (turn_of e) ≡ false → (ys : List Send) → AllByRecursion Sends ys → AllByRecursion (λ (y : Send). y.to ≡ P) ys
+  all_sends cone h [] a = tt
+  all_sends cone h (y ∷ ys) a = (one_send cone h y a.0, all_sends cone h ys a.1)
+
+  -- new datagrams go to its server
+  abbrev pub SendsGo : Type 0
+  SendsGo = (k : ℕ) (d : Outward) → Has (outs_at k r.passed) (Out d) → d.dst ≡ P
+
+  pub sends_go : q.phase ≡ Cone → is_told (turn_of e) ≡ false → SendsGo
+  sends_go cone h k d there = act_out (λ (z : Ep). z ≡ P) (record { lab = lab; past = H; full = r; number = n; row = c; entry = e; act = act }) k d
+      (all_sends cone h e.step.sends (laws.sends s (journal n H) e is_journal))
+      (subst (λ (xs : List NatEntry). Has xs (Out d)) (sym (entries_are laws x (own_did x e act) k d there)) there)
+
+  -- THE FIRST DATAGRAM
+
+  -- an ask is new where there was none
+  newly : (k : ℕ) (inside : Ep) (d : Outward) → Nothing n H k → IsAsk (after x) k inside d → Has (outs_at k r.passed) (Out d)
+  newly k inside d none ask = by (new_or_old laws x (own_record laws x calm e act) k d ask.latest) where
+    by : (Has (outs_at k r.passed) (Out d) × (d.dst ≡ P)) ⊎ (latest_ask (was x) k ≡ Some (Out d)) → Has (outs_at k r.passed) (Out d)
+    by (inl new) = new.0
+    by (inr old) = absurd (false≢true (ap (λ (o : Option NatEntry). is_some o) (sym (ap (find (went_to P)) none.let_out) ∙ old)))
+
+  none_old : (j : ℕ) (inside : Ep) → is_known lab H j r.moment (Some inside) ≡ false → NoneOld laws x j inside
+  none_old j inside none d counts left =
+      let were = counting (nat_of lab j).idle r.moment (nat_history lab j H) in
+      none_has (λ (z : Outward). same_ep z.inside inside) were d none (has_of were d counts)
+      (ap (λ (z : Ep). same_ep z inside) left ∙ same_ep-self inside)
+
+  -- what NAT j let out first came from where it knew nothing
+  none_at : SendsGo → (j : ℕ) (inside : Ep) (d : Outward) → CameFrom laws x j inside → Nothing n H j → passed_known lab (r ∷ H) n j ≡ false
+      → IsAsk (after x) j inside d → NoneOld laws x j inside
+  none_at f j inside d came_j nothing_j known_j ask =
+      let y : Came r.passed j = came j r.passed d (newly j inside d nothing_j ask) in
+      let from : y.inside ≡ inside = sym y.from ∙ came_j y.datagram y.there (f j y.datagram y.there) in
+      let unknown : is_known lab H j r.moment (came_from j r.passed) ≡ false = known_of (starts n r) (has_passed H n j) (is_node n r.node)
+      (is_known lab H j r.moment (came_from j r.passed)) (passed_known lab H n j) known_j calm.off nothing_j.passed (own_node laws x calm e act) in
+      none_old j inside (ap (is_known lab H j r.moment) (ap (λ (z : Ep). Some z) (sym from) ∙ sym y.is) ∙ unknown)
+
+  new_all : SendsGo → (way : List ℕ) (k : ℕ) (inside o : Ep) → IsPart lab c way k → AllByRecursion (Nothing n H) (k ∷ way) → Unknown x way
+      → CameFrom laws x k inside → NoneOld laws x k inside → AllNew laws x way k inside o
+  new_all f [] k inside o part nothing_here known came_k none = ((λ d h left. f k d h), none)
+  new_all f (j ∷ way) k inside o part nothing_here known came_k none = (
+    ((λ d h left. f k d h), none),
+    λ a ask asks.
+        let came_j = came_next laws x (own_record laws x calm e act) way k j inside a part came_k ask in
+        new_all f way j (left_at lab k a) o (next_part lab c way k j part) nothing_here.1 known.1 came_j
+        (none_at f j (left_at lab k a) asks.0 came_j nothing_here.1.0 known.0 asks.1),
+  )
+
+  -- so all that counts went to the server, once it asked along its way
+  pub alone_first : q.phase ≡ Cone → is_told (turn_of e) ≡ false → SentNothing laws x calm → IsUnseenAt (was x) r.moment → Unknown x (outer_nats_of lab c)
+      → (o : Ep) → Asks (after x) o → AloneFrom (after x) (way_of (was x)) c.inside
+  alone_first cone h none unseen known o a = first_alone laws x (outer_nats_of lab c) c.nat c.inside o a
+      (new_all (sends_go cone h) (outer_nats_of lab c) c.nat c.inside o (whole_part lab c x.there.chained) (nothing_yet laws x calm none) known
+      (λ d there to. at_next lab c x.there.chained r.passed (come laws x (own_did x e act)) d there) unseen)

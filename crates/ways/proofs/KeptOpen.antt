@@ -1,0 +1,243 @@
+-- Clients without the cone phase whose NATs were kept open, over whole histories: their verdicts are right, and their addresses
+-- stay.
+use Rattle.std.proofs.Common.{◌≡◌, inl, inr, ℕ, ◌&&◌, ◌||◌, Bool, true, false, cond, List, [], ◌∷◌, Option, Some, None, refl, sym, ap, subst, ◌∙◌}
+use Rattle.std.specs.Prelude.{is_some, not, unwrap_or}
+use Rattle.std.proofs.lemmas.Bool.{false≢true, and_from, or_parts, or_left, or_right}
+use Rattle.td_base.specs.declared.ipv6.Ip6.{Ip6}
+use Rattle.td_base.specs.declared.endpoint.Ep.{Ep}
+use Rattle.teredo_addr.specs.Teredo.{has_cone}
+use Rattle.teredo_node.specs.Journal.{Entry, Journal, with_entry}
+use Rattle.qualify.specs.declared.settings.Settings.{Settings}
+use Rattle.qualify.specs.declared.phase.Phase.{Phase}
+use Rattle.qualify.specs.declared.phase.Phase.TheVariants.{Cone, Restricted, Secondary, Qualified, Symmetric, OffLine}
+use Rattle.qualify.specs.Turns.{turn, turn_of, begins}
+use Rattle.qualify.specs.Qualification.{qualification, first_phase}
+use Rattle.qualify.specs.Solicitations.{is_qualified}
+use Rattle.qualify.specs.Advertisements.{is_same_origin, origin_before}
+use Rattle.topology.specs.declared.client_node.ClientNode.{ClientNode}
+use Rattle.topology.specs.declared.node.Node.TheVariants.{Client as client}
+use Rattle.history.specs.Full.{Full}
+use Rattle.legal.specs.Lab.{Lab}
+use Rattle.legal.specs.Past.{new_journal, journal, is_node}
+use Rattle.legal.specs.Legal.{Grown}
+use Rattle.legal.specs.Honest.{are_honest_for}
+use Rattle.legal.specs.Actors.{IsActOf}
+use Rattle.verdicts.specs.Undisturbed.{starts, has_sent, answers, was_answered}
+use Rattle.verdicts.specs.Stays.{AddressStays}
+use Rattle.verdicts.proofs.Kept.{open_of}
+use Rattle.verdicts.proofs.Adverts.{is_told}
+use Rattle.verdicts.proofs.Phases.{is_resting, qualified_rests, Rests, rested, answered_now, not_resting, told_rests, told_qualifies, untold_rests}
+use Rattle.verdicts.proofs.Entries.{phase_next, IsFirst, first_cone, first_restricted, is_first, first_rests}
+use Rattle.verdicts.proofs.Journals.{starts_in, fresh_journal, stays_at_start}
+use Rattle.ways.specs.UndisturbedAlong.{let_out_of, is_open_along, was_shut_along, IsKeptOpenAlong}
+use Rattle.ways.specs.RightAlong.{EachIsRightAlongWithoutCone, EachVerdictIsRightAlong}
+use Rattle.ways.specs.Addresses.{EachAddressStays}
+use Rattle.ways.proofs.WayLaws.{WayLaws}
+use Rattle.ways.proofs.OneMore.{Asker, OneMore, was, after, IsThere, stands}
+use Rattle.ways.proofs.Sound.{settings_of, standing_of, HasAsked, GoodAddress, IsSoundAlong, IsSoundNow}
+use Rattle.ways.proofs.Turns.{IsCalm, is_told_along}
+use Rattle.ways.proofs.Concerns.{AsksCount, IsOpen, Concerns, own, others, concerns, own_node, asks_next, asks_on}
+use Rattle.ways.proofs.SoundOn.{IsReady, sound_next, stays_next}
+use Rattle.ways.proofs.Judged.{judged}
+use Rattle.ways.proofs.Histories.{one_more_of, honest_before, kept_before, calm_of, asks_at_start}
+use Rattle.ways.proofs.Undisturbed.{fine, each_is_right_along}
+
+-- what holds of such a client
+pub record IsFirm (v : Asker) : Type 0 where
+  pub sound : IsSoundNow v
+  pub asks : AsksCount v
+  pub rests : is_qualified (standing_of v).phase ≡ true → HasAsked v
+  pub answered : is_resting (standing_of v).phase ≡ true → was_answered v.past v.number ≡ true
+  pub stays : AddressStays v.past v.number
+
+-- ONE RECORD MORE
+
+module _ (laws : WayLaws) (x : OneMore) (calm : IsCalm x) (never : x.row.cone_try ≡ false) (firm : IsFirm (was x)) where
+  abbrev lab : Lab
+  lab = x.lab
+
+  abbrev H : List Full
+  H = x.before
+
+  abbrev r : Full
+  r = x.full
+
+  abbrev n : ℕ
+  n = x.number
+
+  abbrev c : ClientNode
+  c = x.row
+
+  abbrev s : Settings
+  s = settings_of (was x)
+
+  abbrev ph : Phase
+  ph = (standing_of (was x)).phase
+
+  no_cone : ph ≡ Cone → ⊥
+  no_cone e =
+      let is = subst (λ (p : Phase). IsSoundAlong (was x) p (standing_of (was x)).kept (standing_of (was x)).address) e firm.sound in
+      false≢true (sym never ∙ is.0)
+
+  -- the first answer came in the record, or had come
+  abbrev AnsweredNow : Bool
+  AnsweredNow = is_node n r.node && answers r.entry
+
+  before : was_answered H n ≡ true → was_answered (r ∷ H) n ≡ true
+  before answered = ap (λ (b : Bool). cond b false (AnsweredNow || was_answered H n)) calm.off ∙ or_right AnsweredNow (was_answered H n) answered
+
+  of_turn : (e : Entry) → IsActOf lab H r n (client c) e → is_resting (qualification s (with_entry (journal n H) e)).phase ≡ true
+      → was_answered (r ∷ H) n ≡ true
+  of_turn e act rests = by (is_told (turn_of e)) refl where
+    then_rests : is_resting (unwrap_or (begins (turn_of e)) ph) ≡ true
+    then_rests = ap is_resting (sym (phase_next s (journal n H) e)) ∙ rests
+
+    of_rests : Rests ph e.step.fate → was_answered (r ∷ H) n ≡ true
+    of_rests (rested had) = before (firm.answered had)
+    of_rests (answered_now now_is) =
+        let here : AnsweredNow ≡ true = and_from (is_node n r.node) (answers r.entry) (own_node laws x calm e act) (ap answers act.entry ∙ now_is) in
+        ap (λ (b : Bool). cond b false (AnsweredNow || was_answered H n)) calm.off ∙ or_left AnsweredNow (was_answered H n) here
+    of_rests (not_resting none) = absurd (false≢true (sym none ∙ then_rests))
+
+    by : (b : Bool) → is_told (turn_of e) ≡ b → was_answered (r ∷ H) n ≡ true
+    by true h =
+        let t = is_told_along laws x calm e act h in
+        of_rests (subst (Rests ph) t.phase (told_rests ph (is_same_origin (Some t.dst) (origin_before (standing_of (was x)) ph)) no_cone))
+    by false h = before (firm.answered (untold_rests (turn_of e) ph h then_rests))
+
+  -- who rests now was answered
+  still_answered : is_resting (standing_of (after x)).phase ≡ true → was_answered (r ∷ H) n ≡ true
+  still_answered rests = by (concerns laws x calm) where
+    by : Concerns laws x calm → was_answered (r ∷ H) n ≡ true
+    by (own e act) = of_turn e act (subst (λ (j : Journal). is_resting (qualification s j).phase ≡ true) act.later rests)
+    by (others same out goes) = before (firm.answered (subst (λ (j : Journal). is_resting (qualification s j).phase ≡ true) same rests))
+
+  -- who is qualified now rested
+  rested_before : is_qualified (standing_of (after x)).phase ≡ true → is_resting ph ≡ true
+  rested_before q = by (concerns laws x calm) where
+    turned : (e : Entry) → IsActOf lab H r n (client c) e → is_qualified (unwrap_or (begins (turn_of e)) ph) ≡ true
+        → (b : Bool) → is_told (turn_of e) ≡ b → is_resting ph ≡ true
+    turned e act then_is true h =
+        let t = is_told_along laws x calm e act h in
+        told_qualifies ph (is_same_origin (Some t.dst) (origin_before (standing_of (was x)) ph)) no_cone
+        (ap (λ f. is_qualified (unwrap_or (begins (turn f)) ph)) t.phase ∙ then_is)
+    turned e act then_is false h = untold_rests (turn_of e) ph h (qualified_rests (unwrap_or (begins (turn_of e)) ph) then_is)
+
+    by : Concerns laws x calm → is_resting ph ≡ true
+    by (own e act) = turned e act (ap is_qualified (sym (phase_next s (journal n H) e))
+        ∙ subst (λ (j : Journal). is_qualified (qualification s j).phase ≡ true) act.later q) (is_told (turn_of e)) refl
+    by (others same out goes) = qualified_rests ph (subst (λ (j : Journal). is_qualified (qualification s j).phase ≡ true) same q)
+
+  pub firm_next : ((has_sent lab H n c || was_answered H n) && not (is_open_along lab H r.moment n c)) ≡ false → IsFirm (after x)
+  firm_next shut = by (has_sent lab H n c) refl where
+    open_if : (has_sent lab H n c || was_answered H n) ≡ true → IsOpen laws x calm
+    open_if h = open_of (has_sent lab H n c || was_answered H n) (is_open_along lab H r.moment n c) h shut
+
+    open_rest : is_resting ph ≡ true → IsOpen laws x calm
+    open_rest rests = open_if (or_right (has_sent lab H n c) (was_answered H n) (firm.answered rests))
+
+    ready_by : (b : Bool) → has_sent lab H n c ≡ b → IsReady laws x calm
+    ready_by true e = record { asks = firm.asks; begun = inl (open_if (or_left (has_sent lab H n c) (was_answered H n) e)); rests = open_rest }
+    ready_by false e = record { asks = firm.asks; begun = inr (e, λ tries. absurd (false≢true (sym never ∙ tries))); rests = open_rest }
+
+    asks_by : (b : Bool) → has_sent lab H n c ≡ b → AsksCount (after x)
+    asks_by true e = asks_next laws x calm firm.asks (inl (open_if (or_left (has_sent lab H n c) (was_answered H n) e))) (concerns laws x calm)
+    asks_by false e = asks_next laws x calm firm.asks (inr e) (concerns laws x calm)
+
+    by : (b : Bool) → has_sent lab H n c ≡ b → IsFirm (after x)
+    by b e = record {
+      sound = sound_next laws x calm (ready_by b e) firm.sound;
+      asks = asks_by b e;
+      rests = λ q. asks_on laws x calm firm.asks (open_rest (rested_before q));
+      answered = still_answered;
+      stays = stays_next laws x calm (ready_by b e) firm.sound firm.stays;
+    }
+
+-- A WHOLE HISTORY
+
+-- a start
+firm_at_start : (v : Asker) (m : ℕ) → v.row.cone_try ≡ false → journal v.number v.past ≡ new_journal m → ((k : ℕ) → let_out_of v.number k v.past ≡ [])
+    → IsFirm v
+firm_at_start v m never fresh none = record {
+  sound = subst (λ (p : Phase). IsSoundAlong v p (standing_of v).kept (standing_of v).address)
+      (sym (starts_in v.lab v.past v.number m v.row fresh)) (by (first_phase (settings_of v)) (is_first (settings_of v)));
+  asks = asks_at_start v none;
+  rests = λ q. absurd (false≢true (sym resting ∙ qualified_rests (standing_of v).phase q));
+  answered = λ rests. absurd (false≢true (sym resting ∙ rests));
+  stays = stays_at_start v.past v.number m fresh;
+} where
+  resting : is_resting (standing_of v).phase ≡ false
+  resting = ap is_resting (starts_in v.lab v.past v.number m v.row fresh)
+      ∙ first_rests v.row.cone_try (first_phase (settings_of v)) (is_first (settings_of v))
+
+  by : (p : Phase) → IsFirst v.row.cone_try p → IsSoundAlong v p (standing_of v).kept (standing_of v).address
+  by p (first_cone tries same) = absurd (false≢true (sym never ∙ tries))
+  by p (first_restricted same) = subst (λ (z : Phase). IsSoundAlong v z (standing_of v).kept (standing_of v).address) (sym same) tt
+
+module _ (laws : WayLaws) (lab : Lab) (n : ℕ) (c : ClientNode) (there : IsThere lab n c) (never : c.cone_try ≡ false) where
+  abbrev client_after : List Full → Asker
+  client_after H = record { lab = lab; past = H; number = n; row = c }
+
+  abbrev HasBegun : List Full → Bool
+  HasBegun H = has_sent lab H n c || was_answered H n
+
+  abbrev Shut : List Full → Bool
+  Shut H = was_shut_along HasBegun lab H n c
+
+  pub firm : (H : List Full) → Grown lab H → are_honest_for lab.topology c H ≡ true → IsKeptOpenAlong lab H n c → IsFirm (client_after H)
+  firm [] g honest calm = firm_at_start (client_after []) 0 never refl (λ k. refl)
+  firm (r ∷ H) g honest calm = by (starts n r) refl calm.server_open (firm H g.1 (honest_before lab n c H r honest)) where
+    by : (b : Bool) → starts n r ≡ b → cond b false ((HasBegun H && not (is_open_along lab H r.moment n c)) || Shut H) ≡ false
+        → (IsKeptOpenAlong lab H n c → IsFirm (client_after H)) → IsFirm (client_after (r ∷ H))
+    by true on shut ih = firm_at_start (client_after (r ∷ H)) r.moment never (fresh_journal H r n on) (λ k. rw on refl)
+    by false off shut ih =
+        let shut_parts = or_parts (HasBegun H && not (is_open_along lab H r.moment n c)) (Shut H) shut in
+        let before : IsKeptOpenAlong lab H n c = record { lasts = kept_before lab n c H r off calm.lasts; server_open = shut_parts.1 } in
+        firm_next laws (one_more_of lab n c there H r g) (calm_of lab n c H r there g off honest calm.lasts) never (ih before) shut_parts.0
+
+-- ITS ADDRESS HAS NO CONE BIT
+
+in_qualified : (v : Asker) (ph : Phase) (k : Option Ep) (a : Option Ip6) → is_qualified ph ≡ true → IsSoundAlong v ph k a → GoodAddress v a
+in_qualified v Qualified k a h i = i
+in_qualified v Cone k a h i = absurd (false≢true h)
+in_qualified v Restricted k a h i = absurd (false≢true h)
+in_qualified v Secondary k a h i = absurd (false≢true h)
+in_qualified v Symmetric k a h i = absurd (false≢true h)
+in_qualified v OffLine k a h i = absurd (false≢true h)
+
+bit_false : (v : Asker) → v.row.cone_try ≡ false → (a : Option Ip6) → GoodAddress v a → (address : Ip6) → a ≡ Some address → has_cone address ≡ false
+bit_false v never None i address at = absurd i
+bit_false v never (Some z) i address at = by (has_cone address) refl where
+  same : z ≡ address
+  same = ap (λ (o : Option Ip6). unwrap_or o z) at
+
+  by : (b : Bool) → has_cone address ≡ b → has_cone address ≡ false
+  by false e = e
+  by true e = absurd (false≢true (sym never ∙ (i.cone (ap has_cone same ∙ e)).1))
+
+-- ALL OF IT
+
+pub each_is_right_along_without_cone : WayLaws → EachIsRightAlongWithoutCone
+each_is_right_along_without_cone laws lab H n c is chained g honest listed never calm =
+    let there : IsThere lab n c = record { is = is; chained = chained; listed = listed } in
+    let v : Asker = record { lab = lab; past = H; number = n; row = c } in
+    let f = firm laws lab n c there never H g honest calm in
+    let node = stands laws.ends.there lab n c there in
+    record {
+      right = judged laws v there g f.sound f.rests;
+      no_cone = λ address at.
+          let qualified : is_qualified (standing_of v).phase ≡ true =
+          sym (laws.addresses (settings_of v) (journal n H) (laws.clients lab H n c g node).journal) ∙ ap (λ (o : Option Ip6). is_some o) at in
+          bit_false v never (standing_of v).address
+          (in_qualified v (standing_of v).phase (standing_of v).kept (standing_of v).address qualified f.sound) address at;
+    }
+
+pub each_verdict_is_right_along : WayLaws → EachVerdictIsRightAlong
+each_verdict_is_right_along laws = record { undisturbed = each_is_right_along laws; kept_open = each_is_right_along_without_cone laws }
+
+-- and addresses stay
+pub each_address_stays : WayLaws → EachAddressStays
+each_address_stays laws lab H n c is chained g honest listed (inl calm) =
+    (fine laws lab n c (record { is = is; chained = chained; listed = listed }) H g honest calm).stays
+each_address_stays laws lab H n c is chained g honest listed (inr both) =
+    (firm laws lab n c (record { is = is; chained = chained; listed = listed }) both.0 H g honest both.1).stays

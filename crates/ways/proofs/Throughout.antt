@@ -1,0 +1,35 @@
+-- What holds along ways does at each record.
+use Rattle.std.proofs.Common.{List, [], ◌∷◌, subst}
+use Rattle.topology.specs.Rules.{IsTopology}
+use Rattle.history.specs.Full.{Full}
+use Rattle.legal.specs.Lab.{Lab}
+use Rattle.legal.specs.Legal.{Grown}
+use Rattle.settled.proofs.Earlier.{earlier}
+use Rattle.ways.specs.Ways.{IsChained}
+use Rattle.ways.specs.RightAlong.{EachVerdictIsRightAlong}
+use Rattle.ways.specs.Addresses.{EachAddressStays, AddressesDiffer}
+use Rattle.ways.specs.Neighbours.{NeighboursAreUnheard, NeighboursUnheardLast}
+use Rattle.ways.specs.Throughout.{HistoriesHoldAlongWays}
+
+-- the laws of ways
+pub record Laws : Type 0 where
+  pub right : EachVerdictIsRightAlong
+  pub stays : EachAddressStays
+  pub differ : AddressesDiffer
+  pub unheard : NeighboursAreUnheard
+
+-- the latest record
+unheard_last : NeighboursAreUnheard → (lab : Lab) (H : List Full) → IsTopology lab.topology → IsChained lab → Grown lab H → NeighboursUnheardLast lab H
+unheard_last law lab [] is chained g = tt
+unheard_last law lab (r ∷ H) is chained g = λ honest. law lab H r is chained g honest
+
+pub histories : Laws → HistoriesHoldAlongWays
+histories laws lab H is chained g later before split =
+    let there : Grown lab before = earlier lab later before (subst (Grown lab) split g) in
+    record {
+      undisturbed = λ n c honest at. laws.right.undisturbed lab before n c is chained there honest at;
+      kept_open = λ n c honest at. laws.right.kept_open lab before n c is chained there honest at;
+      stays = λ n c honest at. laws.stays lab before n c is chained there honest at;
+      differ = λ n m a b own other. laws.differ lab before n m a b own other is;
+      unheard = unheard_last laws.unheard lab before is chained there;
+    }
