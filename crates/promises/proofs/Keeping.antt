@@ -16,6 +16,8 @@ use Rattle.origins.specs.Throughout.{HonestIsForEach}
 use Rattle.origins.specs.Live.{EachIsHeld}
 use Rattle.origins.specs.Throughout.{HasOriginsThroughout, HistoriesHaveOrigins, HonestScenarios, HonestForScenarios}
 use Rattle.verdicts.specs.Throughout.{HasRightVerdictsThroughout, HistoriesHaveRightVerdicts}
+use Rattle.ways.specs.Ways.{IsChained}
+use Rattle.ways.specs.Throughout.{HoldsAlongWaysThroughout, HistoriesHoldAlongWays}
 use Rattle.storms.specs.Throughout.{HasNoStormThroughout, HistoriesHaveNoStorm}
 use Rattle.eased_storms.specs.Throughout.{NineFollowThroughout, HistoriesHaveNine}
 use Rattle.first_packets.specs.Throughout.{FirstPacketsArrive, HistoriesCarryFirstPackets}
@@ -24,6 +26,7 @@ use Rattle.promises.specs.Kept.{
   IsFlat,
   OriginsAreTold,
   AddressIsHeld,
+  WaysAreRight,
   VerdictsAreRight,
   DeliveriesAreFew,
   AtMostNineFollow,
@@ -47,6 +50,10 @@ right : (lab : Lab) (H : List Full) → (IsFlat lab → HasRightVerdictsThrougho
     → VerdictsAreRight lab before
 right lab H have later [] split = tt
 right lab H have later (r ∷ before) split = λ flat. have flat later r before split
+
+along : (lab : Lab) (H : List Full) → (IsChained lab → HoldsAlongWaysThroughout lab H) → (later before : List Full) → H ≡ later ++ before
+    → WaysAreRight lab before
+along lab H have later before split = λ chained. have chained later before split
 
 -- records that end an earlier history stand within the whole one
 within : {H ended : List Full} (rest before : List Full) → H ≡ rest ++ before → before ≡ ended → H ≡ rest ++ ended
@@ -84,6 +91,7 @@ module _ (law : HistoriesCarryFirstPackets) (course : HistoriesTakeCourses) (lab
 pub record Laws : Type 0 where
   pub origins : HistoriesHaveOrigins
   pub held : EachIsHeld
+  pub ways : HistoriesHoldAlongWays
   pub verdicts : HistoriesHaveRightVerdicts
   pub no_storm : HistoriesHaveNoStorm
   pub nine : HistoriesHaveNine
@@ -96,6 +104,7 @@ histories laws lab H is g later before split =
     record {
       origins = told lab H have later before split;
       held = held lab H have laws.held later before split;
+      ways = along lab H (λ chained. laws.ways lab H is chained g) later before split;
       verdicts = right lab H (λ flat. laws.verdicts lab H flat is g) later before split;
       no_storm = few lab H (laws.no_storm lab H is g) later before split;
       nine = nine lab H (laws.nine lab H is g) later before split;

@@ -1,6 +1,6 @@
 -- What is proved of every history of a laboratory, whichever NATs are behind others, as one record: it is what a world says
--- of the history that it stands for, and a run of the one that it played. Some of it is known only where no NAT is behind
--- another one, and says so.
+-- of the history that it stands for, and a run of the one that it played. What clients make of their NATs is said along ways,
+-- where the chain keeps its rules, and once more for clients behind one NAT. First packets are said of these alone.
 use Rattle.std.specs.Prelude.{◌≡◌, ◌⊎◌, ℕ, true, List, [], ◌∷◌, ◌++◌, Some}
 use Rattle.std.specs.List.{AllByRecursion}
 use Rattle.td_base.specs.declared.ipv6.Ip6.{Ip6}
@@ -18,6 +18,8 @@ use Rattle.legal.specs.Honest.{is_honest, is_honest_for, are_honest_for}
 use Rattle.origins.specs.Live.{IsHeld}
 use Rattle.origins.specs.Throughout.{HasOrigins}
 use Rattle.verdicts.specs.Throughout.{HasRightVerdicts}
+use Rattle.ways.specs.Ways.{IsChained}
+use Rattle.ways.specs.Throughout.{HoldsAlongWays}
 use Rattle.storms.specs.Throughout.{HasNoStorm}
 use Rattle.eased_storms.specs.Throughout.{NineFollowEach}
 use Rattle.first_packets.specs.FirstPacket.{FirstPacketArrives}
@@ -32,12 +34,18 @@ abbrev pub OriginsAreTold : Lab → List Full → Type 0
 OriginsAreTold lab [] = Unit {0}
 OriginsAreTold lab (r ∷ H) = HasOrigins lab H r
 
--- where no NAT is behind another one, and all is honest for the client, an address that the latest record sets embeds the address of the client's NAT, and a
--- port that this holds for the client. Elsewhere it leads to the client through several NATs, which is said of the origins
+-- where no NAT is behind another one, and all is honest for the client, an address that the latest record sets embeds the
+-- address of the client's NAT, and a port that this holds for the client. It is the case of one NAT: that an address leads to
+-- its client through all NATs of the way is said of the origins
 abbrev pub AddressIsHeld : Lab → List Full → Type 0
 AddressIsHeld lab [] = Unit {0}
-AddressIsHeld lab (r ∷ H) = IsFlat lab → (n : ℕ) (c : ClientNode) (own : Ip6) → are_honest_for lab.topology c (r ∷ H) ≡ true → r.node ≡ Some n → client_at lab.topology n ≡ Some c → r.address ≡ Some own
-    → IsHeld lab (r ∷ H) c (embedded own)
+AddressIsHeld lab (r ∷ H) = IsFlat lab → (n : ℕ) (c : ClientNode) (own : Ip6) → are_honest_for lab.topology c (r ∷ H) ≡ true
+    → r.node ≡ Some n → client_at lab.topology n ≡ Some c → r.address ≡ Some own → IsHeld lab (r ∷ H) c (embedded own)
+
+-- what clients make of the NATs of their ways after the latest record is right, and their addresses stay and differ, where the
+-- NATs that are behind others are so by the rules
+abbrev pub WaysAreRight : Lab → List Full → Type 0
+WaysAreRight lab H = IsChained lab → HoldsAlongWays lab H
 
 -- what clients make of their NATs after the latest record is right, where no NAT is behind another one
 abbrev pub VerdictsAreRight : Lab → List Full → Type 0
@@ -64,6 +72,7 @@ FirstPacketTakesACourse lab H = IsFlat lab → (later : List Full) (r : Full) (b
 pub record Kept (lab : Lab) (H : List Full) : Type 0 where
   pub origins : OriginsAreTold lab H
   pub held : AddressIsHeld lab H
+  pub ways : WaysAreRight lab H
   pub verdicts : VerdictsAreRight lab H
   pub no_storm : DeliveriesAreFew lab H
   pub nine : AtMostNineFollow lab H

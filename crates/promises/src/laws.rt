@@ -7,6 +7,7 @@ pub fn kept()
 {
     origins::histories_have_origins();
     origins::is_held();
+    ways::histories_hold_along_ways();
     verdicts::histories_have_right_verdicts();
     storms::histories_have_no_storm();
     eased_storms::histories_have_nine();

@@ -6,20 +6,28 @@
 //! - Every history that grows, and the history of every scenario as far as it was played, keeps all of it at each of its
 //!   records (`specs/Kept.antt`).
 //! - A packet with a Teredo source that a client's host is handed came from the endpoint that the source embeds: a named
-//!   event put it there, or a client's host had handed it in while that source was its address. In an honest history each
-//!   address that a client gets embeds an endpoint that leads to it (`specs/Kept.antt`; the words are those of `origins`).
+//!   event put it there, or a client's host had handed it in while that source was its address. In a history that is honest
+//!   for a client each address that it gets embeds an endpoint that leads to it (`specs/Kept.antt`; the words are those of
+//!   `origins`).
 //! - Deliveries alone end: at most nine follow for each undelivered entry and each packet that waits (`eased_storms`), and no
 //!   more than the weights of entries say (`storms`).
 //!
+//! Where the NATs that are behind others are so by the rules of a chain (the words are those of `ways`):
+//!
+//! - In a history that is honest for it the verdict of each client that nothing disturbs along its way is right, and its
+//!   address stays.
+//! - Two clients that are settled along their ways have different endpoints in their addresses; and in an honest history no
+//!   client's host hears a client behind the same outermost NAT.
+//!
 //! And where no NAT is behind another one:
 //!
-//! - In an honest history each address that a client gets embeds its NAT's address, and a port that the NAT then holds for it.
-//! - In an honest history the verdict of each undisturbed client on its NAT is right (the words are those of `verdicts`).
+//! - In a history that is honest for it each address that a client gets embeds its NAT's address, and a port that the NAT then
+//!   holds for it, and its verdict on its NAT is right where nothing disturbs it (the words are those of `verdicts`).
 //! - The first packet between two settled clients arrives in each schedule that delivers all that it draws (`first_packets`).
 //!
 //! # What it does not know
 //!
-//! How a history is played; what clients behind several NATs make of them; whether anything is delivered.
+//! How a history is played; whether a first packet arrives along ways of several NATs; whether anything is delivered.
 #![tactic(auto)]
 
 mod laws;

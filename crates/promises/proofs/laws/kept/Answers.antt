@@ -5,6 +5,7 @@ pub returns : goal.returns
 returns c = keeping.histories (record {
   origins = c.histories_have_origins.ensures;
   held = c.is_held.ensures;
+  ways = c.histories_hold_along_ways.ensures;
   verdicts = c.histories_have_right_verdicts.ensures;
   no_storm = c.histories_have_no_storm.ensures;
   nine = c.histories_have_nine.ensures;
