@@ -31,7 +31,7 @@ use Rattle.verdicts.proofs.Adverts.{is_told}
 use Rattle.verdicts.proofs.Entries.{phase_next}
 use Rattle.verdicts.proofs.Outs.{act_out}
 use Rattle.ways.specs.Ways.{outer_nats_of, nat_of}
-use Rattle.ways.specs.UndisturbedAlong.{went_to, came_from, has_passed, is_known, passed_known}
+use Rattle.ways.specs.UndisturbedAlong.{went_to, first_from, has_passed, knows_endpoint, passed_known}
 use Rattle.ways.proofs.Rises.{IsPart, whole_part, next_part}
 use Rattle.ways.proofs.WayLaws.{WayLaws}
 use Rattle.ways.proofs.OneMore.{Asker, OneMore, was, after, stands, own_did}
@@ -147,7 +147,7 @@ module _ (laws : WayLaws) (x : OneMore) (calm : IsCalm x) (e : Entry) (act : IsA
     by (inl new) = new.0
     by (inr old) = absurd (false≢true (ap (λ (o : Option NatEntry). is_some o) (sym (ap (find (went_to P)) none.let_out) ∙ old)))
 
-  none_old : (j : ℕ) (inside : Ep) → is_known lab H j r.moment (Some inside) ≡ false → NoneOld laws x j inside
+  none_old : (j : ℕ) (inside : Ep) → knows_endpoint lab H j r.moment (Some inside) ≡ false → NoneOld laws x j inside
   none_old j inside none d counts left =
       let were = counting (nat_of lab j).idle r.moment (nat_history lab j H) in
       none_has (λ (z : Outward). same_ep z.inside inside) were d none (has_of were d counts)
@@ -159,9 +159,9 @@ module _ (laws : WayLaws) (x : OneMore) (calm : IsCalm x) (e : Entry) (act : IsA
   none_at f j inside d came_j nothing_j known_j ask =
       let y : Came r.passed j = came j r.passed d (newly j inside d nothing_j ask) in
       let from : y.inside ≡ inside = sym y.from ∙ came_j y.datagram y.there (f j y.datagram y.there) in
-      let unknown : is_known lab H j r.moment (came_from j r.passed) ≡ false = known_of (starts n r) (has_passed H n j) (is_node n r.node)
-      (is_known lab H j r.moment (came_from j r.passed)) (passed_known lab H n j) known_j calm.off nothing_j.passed (own_node laws x calm e act) in
-      none_old j inside (ap (is_known lab H j r.moment) (ap (λ (z : Ep). Some z) (sym from) ∙ sym y.is) ∙ unknown)
+      let unknown : knows_endpoint lab H j r.moment (first_from j r.passed) ≡ false = known_of (starts n r) (has_passed H n j) (is_node n r.node)
+      (knows_endpoint lab H j r.moment (first_from j r.passed)) (passed_known lab H n j) known_j calm.off nothing_j.passed (own_node laws x calm e act) in
+      none_old j inside (ap (knows_endpoint lab H j r.moment) (ap (λ (z : Ep). Some z) (sym from) ∙ sym y.is) ∙ unknown)
 
   new_all : SendsGo → (way : List ℕ) (k : ℕ) (inside o : Ep) → IsPart lab c way k → AllByRecursion (Nothing n H) (k ∷ way) → Unknown x way
       → CameFrom laws x k inside → NoneOld laws x k inside → AllNew laws x way k inside o

@@ -31,7 +31,7 @@ use Rattle.verdicts.proofs.Entries.{phase_next, IsFirst, first_cone, first_restr
 use Rattle.verdicts.proofs.Journals.{starts_in, fresh_journal, stays_at_start}
 use Rattle.ways.specs.UndisturbedAlong.{let_out_of, is_open_along, was_shut_along, IsKeptOpenAlong}
 use Rattle.ways.specs.RightAlong.{EachIsRightAlongWithoutCone, EachVerdictIsRightAlong}
-use Rattle.ways.specs.Addresses.{EachAddressStays}
+use Rattle.ways.specs.Addresses.{EachAddressStaysAlong}
 use Rattle.ways.proofs.WayLaws.{WayLaws}
 use Rattle.ways.proofs.OneMore.{Asker, OneMore, was, after, IsThere, stands}
 use Rattle.ways.proofs.Sound.{settings_of, standing_of, HasAsked, GoodAddress, IsSoundAlong, IsSoundNow}
@@ -236,7 +236,7 @@ pub each_verdict_is_right_along : WayLaws → EachVerdictIsRightAlong
 each_verdict_is_right_along laws = record { undisturbed = each_is_right_along laws; kept_open = each_is_right_along_without_cone laws }
 
 -- and addresses stay
-pub each_address_stays : WayLaws → EachAddressStays
+pub each_address_stays : WayLaws → EachAddressStaysAlong
 each_address_stays laws lab H n c is chained g honest listed (inl calm) =
     (fine laws lab n c (record { is = is; chained = chained; listed = listed }) H g honest calm).stays
 each_address_stays laws lab H n c is chained g honest listed (inr both) =

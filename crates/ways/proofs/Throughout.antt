@@ -7,14 +7,14 @@ use Rattle.legal.specs.Legal.{Grown}
 use Rattle.settled.proofs.Earlier.{earlier}
 use Rattle.ways.specs.Ways.{IsChained}
 use Rattle.ways.specs.RightAlong.{EachVerdictIsRightAlong}
-use Rattle.ways.specs.Addresses.{EachAddressStays, AddressesDiffer}
+use Rattle.ways.specs.Addresses.{EachAddressStaysAlong, AddressesDiffer}
 use Rattle.ways.specs.Neighbours.{NeighboursAreUnheard, NeighboursUnheardLast}
 use Rattle.ways.specs.Throughout.{HistoriesHoldAlongWays}
 
 -- the laws of ways
 pub record Laws : Type 0 where
   pub right : EachVerdictIsRightAlong
-  pub stays : EachAddressStays
+  pub stays : EachAddressStaysAlong
   pub differ : AddressesDiffer
   pub unheard : NeighboursAreUnheard
 

@@ -17,8 +17,8 @@ use Rattle.ways.specs.UndisturbedAlong.{IsUndisturbedAlong, IsKeptOpenAlong}
 
 -- that of a client which is undisturbed along its way stays; so does that of one which doesn't try the cone phase and whose
 -- NATs were kept open
-abbrev pub EachAddressStays : Type 0
-EachAddressStays = (lab : Lab) (H : List Full) (n : ℕ) (c : ClientNode) → IsTopology lab.topology → IsChained lab → Grown lab H
+abbrev pub EachAddressStaysAlong : Type 0
+EachAddressStaysAlong = (lab : Lab) (H : List Full) (n : ℕ) (c : ClientNode) → IsTopology lab.topology → IsChained lab → Grown lab H
     → are_honest_for lab.topology c H ≡ true → client_at lab.topology n ≡ Some c
     → IsUndisturbedAlong lab H n c ⊎ ((c.cone_try ≡ false) × IsKeptOpenAlong lab H n c) → AddressStays H n
 
