@@ -1,6 +1,8 @@
 mod VerdictViews
 mod VerdictFacts
 mod DisturbedFacts
+mod WayViews
+mod WayFacts
 pub mod OriginViews
 pub mod OriginFacts
 pub mod DishonestFacts

@@ -6,6 +6,7 @@
 //! |---|---|
 //! | `VerdictFacts` | clients behind each kind of NAT that nothing disturbs, and what they make of it |
 //! | `DisturbedFacts` | for each premise of a right verdict a history without it, in which a client's verdict is wrong |
+//! | `WayFacts` | clients behind two and three NATs: the premises of a right verdict are met, or one isn't and the verdict is wrong |
 //! | `OriginFacts` | honest histories: whence a packet came that a host is handed, and that a client's NAT holds what its address embeds |
 //! | `DishonestFacts` | somebody says that he is a server, and a client's NAT doesn't hold what its address embeds |
 //! | `OriginViews` | the words of these |
