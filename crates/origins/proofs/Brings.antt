@@ -92,7 +92,7 @@ no_bubble own p bytes x reads same packet other =
 
 -- A PACKET WITH NOTHING IN FRONT
 
-read_as : (x : List ℕ) → is_packet x ≡ true → packet_at x ≡ Ok (fields_in x)
+pub read_as : (x : List ℕ) → is_packet x ≡ true → packet_at x ≡ Ok (fields_in x)
 unfolding is_packet fields_in
 read_as x h = by (packet_at x) h where
   by : (r : Result Fields PacketFault) → is_ok_packet r ≡ true → r ≡ Ok (fields_or r)

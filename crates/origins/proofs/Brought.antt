@@ -38,11 +38,11 @@ use Rattle.origins.proofs.Records.{OfClient, rests, acts, of_client}
 -- A CLIENT'S ENTRY
 
 -- what a client handed over of a datagram
-record IsOf (from : Ep) (y x : List ℕ) : Type 0 where
-  whole : x ≡ drop (value_in y).lead.at y
-  packet : (value_in y).packet ≡ fields_in x
-  no_bubble : is_bubble (fields_in x) ≡ false
-  embeds : is_teredo (fields_in x).src ≡ true → from ≡ embedded (fields_in x).src
+pub record IsOf (from : Ep) (y x : List ℕ) : Type 0 where
+  pub whole : x ≡ drop (value_in y).lead.at y
+  pub packet : (value_in y).packet ≡ fields_in x
+  pub no_bubble : is_bubble (fields_in x) ≡ false
+  pub embeds : is_teredo (fields_in x).src ≡ true → from ≡ embedded (fields_in x).src
 
 of_datagram : (s : Settings) (own : Option Ip6) (from : Ep) (y x : List ℕ) (o : Option Span) → IsHanded s own from y o
     → option_and_then (part_of (arrived from y)) o ≡ Some x → IsOf from y x
@@ -58,15 +58,15 @@ of_datagram s own from y x o h e =
       embeds = λ teredo. h.there (ap (λ (p : Fields). is_teredo p.src) fields ∙ teredo) ∙ ap (λ (p : Fields). embedded p.src) fields;
     }
 
-has_some : (o : Option Span) (x : List ℕ) (f : Span → Option (List ℕ)) → option_and_then f o ≡ Some x → is_some o ≡ true
+pub has_some : (o : Option Span) (x : List ℕ) (f : Span → Option (List ℕ)) → option_and_then f o ≡ Some x → is_some o ≡ true
 has_some None x f e = absurd (false≢true (ap (λ (z : Option (List ℕ)). is_some z) e))
 has_some (Some a) x f e = refl
 
 -- only a datagram is handed over
-data CameAs (s : Settings) (own : Option Ip6) (input : Input) (o : Option Span) (x : List ℕ) : Type 0 where
+pub data CameAs (s : Settings) (own : Option Ip6) (input : Input) (o : Option Span) (x : List ℕ) : Type 0 where
   as_datagram : (from : Ep) (y : List ℕ) → input ≡ arrived from y → IsOf from y x → CameAs s own input o x
 
-came_as : (s : Settings) (own : Option Ip6) (input : Input) (o : Option Span) (x : List ℕ) → ClientHands s own input o
+pub came_as : (s : Settings) (own : Option Ip6) (input : Input) (o : Option Span) (x : List ℕ) → ClientHands s own input o
     → option_and_then (part_of input) o ≡ Some x → CameAs s own input o x
 came_as s own (arrived from y) o x h e = as_datagram from y refl (of_datagram s own from y x o h e)
 came_as s own (given y) o x h e = absurd h

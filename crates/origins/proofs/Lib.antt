@@ -16,4 +16,12 @@ mod NativesSend
 mod Unsolicited
 mod PassedSource
 mod PassedOn
+mod ForRelays
+mod PeersMade
+mod RelayCarries
+mod CameDirect
+mod FromServers
+mod GivenIn
+mod Datagrams
+mod FromOutside
 mod Throughout

@@ -1,5 +1,5 @@
 -- Who sent the datagram in which a packet was that is passed on.
-use Rattle.std.proofs.Common.{◌≡◌, ◌-◌, ℕ, true, List, ◌∷◌, length, Option, Some, None, Ok, refl, sym, ap, subst, ◌∙◌, arith}
+use Rattle.std.proofs.Common.{◌≡◌, ◌-◌, ℕ, true, List, ◌∷◌, length, Option, Some, None, refl, sym, ap, subst, ◌∙◌, arith}
 use Rattle.std.specs.Prelude.{slice_get, IfSome, option_and_then}
 use Rattle.std.proofs.lemmas.Bool.{false≢true}
 use Rattle.std.proofs.lemmas.Option.{slice_get_within}
@@ -9,8 +9,8 @@ use Rattle.td_base.specs.Ip6.{IsIp6}
 use Rattle.td_base.specs.declared.endpoint.Ep.{Ep}
 use Rattle.td_base.specs.declared.ipv6.Ip6.{Ip6}
 use Rattle.td_base.specs.declared.span.Span.{Span}
-use Rattle.ipv6_packet.specs.Packets.{Fields, packet_at}
-use Rattle.ipv6_packet.specs.Reads.{is_packet, fields_in, is_ok_packet, fields_or}
+use Rattle.ipv6_packet.specs.Packets.{Fields}
+use Rattle.ipv6_packet.specs.Reads.{is_packet, fields_in}
 use Rattle.ipv6_packet.specs.Laws.{PacketReadsBack}
 use Rattle.icmp6.specs.Message.{echo_request}
 use Rattle.teredo_addr.specs.Teredo.{is_teredo, embedded}
@@ -33,7 +33,6 @@ use Rattle.topology.specs.Chains.{nat_set_up}
 use Rattle.topology.specs.Rules.{IsTopology}
 use Rattle.topology.specs.Topology.{client_at, as_client}
 use Rattle.topology.proofs.Lists.{all_at}
-use Rattle.events.specs.declared.event.Event.{Event}
 use Rattle.history.specs.Full.{udp, Full, wire, items_of}
 use Rattle.legal.specs.Lab.{Lab}
 use Rattle.legal.specs.Settings.{client_settings}
@@ -41,7 +40,6 @@ use Rattle.legal.specs.Past.{journal}
 use Rattle.legal.specs.Legal.{Grown}
 use Rattle.legal.specs.Laws.{HasOneMaker}
 use Rattle.legal.specs.Actors.{IsActOf}
-use Rattle.legal.specs.Makers.{Forges, strange, copied}
 use Rattle.legal.specs.MadeWire.{IsMadeItem}
 use Rattle.settled.proofs.Earlier.{earlier}
 use Rattle.origins.specs.Sources.{outermost}
@@ -52,19 +50,10 @@ use Rattle.origins.specs.AtNatives.{IsOwnMaking, test_of, bubble_of as its_bubbl
 use Rattle.origins.proofs.Records.{Latest}
 use Rattle.origins.proofs.SentFrom.{leaves_at}
 use Rattle.origins.proofs.SentOn.{one_of}
+use Rattle.origins.proofs.Brings.{read_as}
+use Rattle.origins.proofs.Whence.{puts}
 use Rattle.origins.proofs.Carried.{OriginLaws, is_j, its, carried}
 use Rattle.origins.proofs.Unsolicited.{SolicitLaws, no_teredo}
-
-puts : (H : List Full) (src dst from : Ep) (bytes : List ℕ) (e : Event) → Forges H src dst bytes e → src ≡ from → PutsFrom e from
-puts H src dst from bytes _ strange same = same
-puts H src dst from bytes _ (copied number x at of) same = same
-
-read_as : (x : List ℕ) → is_packet x ≡ true → packet_at x ≡ Ok (fields_in x)
-unfolding is_packet fields_in
-read_as x h = by (packet_at x) h where
-  by : (r : _) → is_ok_packet r ≡ true → r ≡ Ok (fields_or r)
-  by (Ok p) g = refl
-  by (_) g = absurd (false≢true g)
 
 -- with nothing in front the packet is all of it
 all_of : (bytes x : List ℕ) (span : Span) (v : Fields) → value_in bytes ≡ value_written None None v → x ≡ part bytes span → span ≡ rest_of (value_in bytes).lead.at bytes → x ≡ bytes

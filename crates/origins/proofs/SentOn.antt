@@ -60,19 +60,19 @@ pub one_of : (P : Send → Type 0) (xs : List Send) (s : Send) → AllByRecursio
 one_of P xs s a c = All-contains P xs s (All-from_recursion P xs a) c
 
 -- what holds of all that a server sends for a datagram
-abbrev OfAnswers : (Ep → Send → Type 0) → ServerNode → Type 0
+abbrev pub OfAnswers : (Ep → Send → Type 0) → ServerNode → Type 0
 OfAnswers P a = (side : Side) (from : Ep) (x : List ℕ) → IsMadeInput (arrived from x) → AllByRecursion (P from)
     (row.server_row (server_settings a) side from x).sends
 
 -- the latest record is a server's, which sends this in it
-record ServerSends (l : Latest) (a : ServerNode) (s : Send) : Type 0 where
-  number : ℕ
-  entry : Entry
-  act : IsActOf l.lab l.before l.full number (server a) entry
-  sent : Contains entry.step.sends s
+pub record ServerSends (l : Latest) (a : ServerNode) (s : Send) : Type 0 where
+  pub number : ℕ
+  pub entry : Entry
+  pub act : IsActOf l.lab l.before l.full number (server a) entry
+  pub sent : Contains entry.step.sends s
 
 -- holds of each of its sends
-by_act : (P : Ep → Send → Type 0) → EachHistoryIsMade → (l : Latest) (a : ServerNode) (s : Send) (d : ServerSends l a s) → OfAnswers P a
+pub by_act : (P : Ep → Send → Type 0) → EachHistoryIsMade → (l : Latest) (a : ServerNode) (s : Send) (d : ServerSends l a s) → OfAnswers P a
     → (from : Ep) × P from s
 by_act P law l a s d each = by d.act.input (subst IsMadeInput same (act_made law l d.number (server a) d.entry d.act).input)
     (subst (λ (z : Entry). Contains z.step.sends s) d.act.step d.sent) where

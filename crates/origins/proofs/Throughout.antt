@@ -14,19 +14,21 @@ use Rattle.legal.specs.Honest.{is_honest_event, is_honest_event_for}
 use Rattle.origins.specs.Handed.{EachIsBrought, EachLateHandedIsForeign}
 use Rattle.origins.specs.Origin.{EachHasOrigin}
 use Rattle.origins.specs.Outside.{EachIsBroughtBy}
+use Rattle.origins.specs.FromOutside.{EachHasOutsideOrigin}
 use Rattle.origins.specs.AtNatives.{EachWasPassedOn}
 use Rattle.origins.specs.Live.{EachIsLive}
 use Rattle.origins.specs.Throughout.{HistoriesHaveOrigins, ScenariosHaveOrigins, HonestScenarios, HonestForScenarios}
 use Rattle.settled.proofs.Earlier.{earlier}
 
-pub histories : EachIsBrought → EachIsBroughtBy → EachLateHandedIsForeign → EachHasOrigin → EachWasPassedOn → EachIsLive → HistoriesHaveOrigins
-histories came by late origin passed live lab H is g later r before split =
+pub histories : EachIsBrought → EachIsBroughtBy → EachLateHandedIsForeign → EachHasOrigin → EachHasOutsideOrigin → EachWasPassedOn → EachIsLive → HistoriesHaveOrigins
+histories came by late origin outside passed live lab H is g later r before split =
     let there : Grown lab (r ∷ before) = earlier lab later (r ∷ before) (subst (Grown lab) split g) in
     record {
       brought = λ n c x o. came lab before r n c x there o;
       brought_by = λ n c x o. by lab before r n c x there o;
       late = λ n c node client. late lab before r n c there node client;
       origin = λ n c x k o teredo told. origin lab before r n c x is there o teredo k told;
+      outside = λ n c x o foreign. outside lab before r n c x is there o foreign;
       passed_on = λ k x comes teredo. passed lab before r k x is there comes teredo;
       live = λ n c own honest node client address. live lab before r n c own is there honest node client address;
     }

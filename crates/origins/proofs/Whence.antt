@@ -39,7 +39,7 @@ use Rattle.origins.proofs.Carried.{OriginLaws, is_j, of_sending}
 
 -- THE MAKER
 
-puts : (H : List Full) (src dst from : Ep) (bytes : List ℕ) (e : Event) → Forges H src dst bytes e → src ≡ from → PutsFrom e from
+pub puts : (H : List Full) (src dst from : Ep) (bytes : List ℕ) (e : Event) → Forges H src dst bytes e → src ≡ from → PutsFrom e from
 puts H src dst from bytes _ strange same = same
 puts H src dst from bytes _ (copied number x at of) same = same
 

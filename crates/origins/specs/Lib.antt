@@ -5,5 +5,6 @@ pub mod Handed
 pub mod Origin
 pub mod Live
 pub mod Outside
+pub mod FromOutside
 pub mod AtNatives
 pub mod Throughout

@@ -18,6 +18,7 @@ use Rattle.legal.specs.Honest.{is_honest, are_honest, is_honest_for, are_honest_
 use Rattle.origins.specs.Handed.{HandsToHost, IsBrought}
 use Rattle.origins.specs.Origin.{HasOrigin}
 use Rattle.origins.specs.Outside.{ReachesHost, IsBroughtBy}
+use Rattle.origins.specs.FromOutside.{HasOutsideOrigin}
 use Rattle.origins.specs.AtNatives.{ComesToNative, WasPassedOn}
 use Rattle.origins.specs.Live.{IsLive}
 
@@ -33,6 +34,8 @@ pub record HasOrigins (lab : Lab) (H : List Full) (r : Full) : Type 0 where
   -- such a datagram was put there by a named event, or by a client whose host had handed in the packet
   pub origin : (n : ℕ) (c : ClientNode) (x : List ℕ) (k : ℕ) → HandsToHost lab r n c x → is_teredo (fields_in x).src ≡ true
       → r.delivered ≡ Some k → HasOrigin lab H k (fields_in x).src x
+  -- what such a host is handed from outside Teredo was put there by a named event, or came from a relay for the native that sent it
+  pub outside : (n : ℕ) (c : ClientNode) (x : List ℕ) → ReachesHost lab r n c x → is_teredo (fields_in x).src ≡ false → HasOutsideOrigin lab H r n x
   -- what a native is brought with a Teredo source was passed on by a server or a relay, from where the source says
   pub passed_on : (k : ℕ) (x : List ℕ) → ComesToNative lab H r k x → is_teredo (fields_in x).src ≡ true → WasPassedOn lab H k (fields_in x).src x
   -- in a history that is honest for a client an address that it gets leads to it

@@ -6,6 +6,7 @@ ghost use Rattle.origins.specs.Senders.{EachEntryTellsWhereTo, EachComesFromClie
 ghost use Rattle.origins.specs.Handed.{EachIsBrought, EachLateHandedIsForeign};
 ghost use Rattle.origins.specs.Origin.{EachHasOrigin};
 ghost use Rattle.origins.specs.Outside.{EachIsBroughtBy};
+ghost use Rattle.origins.specs.FromOutside.{EachHasOutsideOrigin};
 ghost use Rattle.origins.specs.AtNatives.{EachWasPassedOn};
 ghost use Rattle.origins.specs.Live.{EachIsLive, EachIsHeld};
 ghost use Rattle.origins.specs.Throughout.{HistoriesHaveOrigins, ScenariosHaveOrigins, HonestScenarios, HonestForScenarios};
@@ -122,6 +123,46 @@ pub fn has_origin()
     bubble::packet_is_payload();
 }
 
+/// A packet from outside Teredo that a client's host is handed was put there by a named event, or came from a relay for the native
+/// that sent it.
+pub fn has_outside_origin()
+    ensures { EachHasOutsideOrigin }
+{
+    is_brought();
+    comes_from_clients();
+    topology::apart();
+    topology::each_node();
+    settled::client_is_there();
+    settled::address_is_own();
+    legal::acted();
+    legal::made();
+    legal::items_are_made();
+    legal::wire_is_made();
+    legal::is_recorded();
+    legal::routes();
+    legal::client_journals();
+    legal::relay_journals();
+    client_rules::each_send();
+    client_rules::each_handed();
+    client_rules::each_late();
+    client_rules::each_standing_is_made();
+    client_rules::queued_is_own();
+    client_rules::fate_of_reception();
+    client_rules::reception_is_warranted();
+    relay_rules::fate_of_reception();
+    peer_list::first_waits();
+    peer_list::one_entry();
+    qualify::keeps_still();
+    server_core::advert_reads_back();
+    server_core::forwarded_reads_back();
+    ipv6_packet::packet_is_spelled();
+    bubble::payload_is_spelled();
+    bubble::bubble_reads_back();
+    bubble::packet_is_payload();
+    native_host::each_is_own_packet();
+    native_host::each_is_reply();
+}
+
 /// A packet with a Teredo source that comes to a native was passed on by a server or a relay, from where the source says.
 pub fn was_passed_on()
     ensures { EachWasPassedOn }
@@ -182,6 +223,7 @@ pub fn histories_have_origins()
     is_brought_by();
     late_is_foreign();
     has_origin();
+    has_outside_origin();
     was_passed_on();
     is_live();
 }

@@ -7,6 +7,8 @@
 //! - Such a packet was put onto the wire there by a named event, or a client's host had handed it in,
 //!   byte for byte, while the client's address was that source (`specs/Origin.antt`).
 //! - Each packet that a client's host is handed, at once or late, was brought by a datagram (`specs/Outside.antt`).
+//! - Such a packet from outside Teredo was put onto the wire by a named event, or came from a relay, for the native host
+//!   that sent it (`specs/FromOutside.antt`).
 //! - A packet with a Teredo source that comes to a native host was passed on by a server or a relay, from where the source
 //!   says; a client's host had handed it in, the client made it of itself, or a named event put it there (`specs/AtNatives.antt`).
 //! - In an honest scenario each address that a client gets embeds an endpoint that leads to the client (`specs/Live.antt`).
@@ -29,6 +31,7 @@
 //! | what brought a packet to a host | `specs/Handed.antt` |
 //! | whence it came | `specs/Origin.antt` |
 //! | what brought one that is handed late | `specs/Outside.antt` |
+//! | who sent one from outside Teredo | `specs/FromOutside.antt` |
 //! | whence packets come at native hosts | `specs/AtNatives.antt` |
 //! | what an address embeds | `specs/Live.antt` |
 //! | all of it, at each record | `specs/Throughout.antt` |
@@ -37,8 +40,8 @@
 mod laws;
 
 pub use laws::{
-    comes_from_clients, goes_elsewhere, has_origin, histories_have_origins, honest_for_scenarios,
-    honest_is_for_each, honest_scenarios, is_brought, is_brought_by, is_held, is_live,
-    late_is_foreign, own_sources, own_voices, scenarios_have_origins, tells_where_to,
+    comes_from_clients, goes_elsewhere, has_origin, has_outside_origin, histories_have_origins,
+    honest_for_scenarios, honest_is_for_each, honest_scenarios, is_brought, is_brought_by, is_held,
+    is_live, late_is_foreign, own_sources, own_voices, scenarios_have_origins, tells_where_to,
     was_passed_on,
 };

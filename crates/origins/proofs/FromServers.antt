@@ -1,0 +1,142 @@
+-- No packet from outside Teredo comes from a server to a client that isn't its own.
+use Rattle.std.proofs.Common.{◌≡◌, ◌&&◌, ℕ, Bool, true, false, not, List, Option, Some, None, Ok, refl, sym, ap, ◌∙◌}
+use Rattle.std.specs.Prelude.{unwrap_or}
+use Rattle.std.specs.List.{AllByRecursion}
+use Rattle.std.proofs.lemmas.Bool.{false≢true, and_parts}
+use Rattle.std.proofs.lemmas.List.{take_at}
+use Rattle.td_base.specs.Bytes.{IsBytes}
+use Rattle.td_base.specs.Ip4.{IsIp4, same_ip, same_ip-true}
+use Rattle.td_base.specs.Ip6.{same_ip6}
+use Rattle.td_base.specs.Ep.{IsEp}
+use Rattle.td_base.specs.Reach.{is_link_local}
+use Rattle.td_base.specs.declared.ipv4.Ip4.{Ip4}
+use Rattle.td_base.specs.declared.ipv6.Ip6.{Ip6}
+use Rattle.td_base.specs.declared.endpoint.Ep.{Ep}
+use Rattle.td_base.specs.declared.side.Side.{Side}
+use Rattle.td_base.specs.declared.side.Side.TheVariants.{Primary}
+use Rattle.ipv6_packet.specs.Packets.{Fields}
+use Rattle.teredo_addr.specs.Teredo.{is_teredo, server_in, teredo_ip, unspecified, identifier}
+use Rattle.teredo_addr.specs.declared.local.TheConstants.{ALL_ROUTERS}
+use Rattle.indications.specs.Leads.{nonce_of}
+use Rattle.bubble.specs.Payloads.{Value, payload_at}
+use Rattle.bubble.specs.Reads.{value_in}
+use Rattle.bubble.specs.Messages.{message_in}
+use Rattle.bubble.specs.Laws.{PayloadIsSpelled}
+use Rattle.teredo_node.specs.Step.{Send}
+use Rattle.teredo_node.specs.Journal.{Journal}
+use Rattle.server_core.specs.declared.server.ServerSettings.{ServerSettings}
+use Rattle.server_core.specs.Conditions.{is_solicit, is_solicitation, is_for_client, is_not_ours}
+use Rattle.server_core.specs.Server.{server_row}
+use Rattle.server_core.specs.Laws.{AdvertReadsBack, ForwardedReadsBack}
+use Rattle.server_core.specs.Outgoing.{IsOutgoing, adverts, goes_to_own, goes_to_other}
+use Rattle.server_core.proofs.Outgoing.{Told, told, of_read}
+use Rattle.qualify.specs.declared.settings.Settings.{Settings}
+use Rattle.qualify.specs.Qualification.{qualification}
+use Rattle.qualify.specs.Solicitations.{own_address}
+use Rattle.settled.specs.OwnAddress.{EachAddressIsOwn, IsOwnAddress}
+
+-- WHOSE PACKETS A SERVER SENDS
+
+-- a link's, another client's, or for a client of this server, from its primary address
+pub data IsServersOwn (s : ServerSettings) (z : Send) : Type 0 where
+  to_link : is_link_local (value_in z.bytes).packet.dst ≡ true → IsServersOwn s z
+  from_teredo : is_teredo (value_in z.bytes).packet.src ≡ true → IsServersOwn s z
+  to_own : z.side ≡ Primary → is_teredo (value_in z.bytes).packet.dst ≡ true → server_in (value_in z.bytes).packet.dst ≡ s.primary → IsServersOwn s z
+
+pub record ServerLaws : Type 0 where
+  pub back : AdvertReadsBack
+  pub goes : ForwardedReadsBack
+  pub spelled : PayloadIsSpelled
+
+from_link : (p : Fields) → is_solicitation p ≡ true → is_link_local p.src ≡ true
+unfolding is_solicitation
+from_link p is = (and_parts (is_link_local p.src) (same_ip6 p.dst ALL_ROUTERS)
+    (and_parts (is_link_local p.src && same_ip6 p.dst ALL_ROUTERS) (is_solicit (message_in p)) is).0).0
+
+-- for a client of its own
+record IsFor (s : ServerSettings) (p : Fields) : Type 0 where
+  teredo : is_teredo p.dst ≡ true
+  server : server_in p.dst ≡ s.primary
+
+for_client : (s : ServerSettings) (p : Fields) → is_for_client s p ≡ true → IsFor s p
+unfolding is_for_client
+for_client s p is =
+    let both = and_parts (is_teredo p.dst) (same_ip (server_in p.dst) s.primary) is in
+    record { teredo = both.0; server = same_ip-true (server_in p.dst) s.primary both.1 }
+
+-- from a client
+for_others : (s : ServerSettings) (p : Fields) → is_not_ours s p ≡ false → is_for_client s p ≡ false → is_teredo p.src ≡ true
+unfolding is_not_ours
+for_others s p ours other = by (is_teredo p.src) (is_for_client s p) ours other where
+  by : (b c : Bool) → (not b && not c) ≡ false → c ≡ false → b ≡ true
+  by true c g h = refl
+  by false true g h = absurd (false≢true (sym h))
+  by false false g h = absurd (false≢true (sym g))
+
+of_send : ServerLaws → (s : ServerSettings) (side : Side) (from : Ep) (x : List ℕ) (v : Value) (z : Send) → IsIp4 s.primary → IsEp from → IsBytes x
+    → payload_at x ≡ Ok v → Told v → IsOutgoing s side from x v z → IsServersOwn s z
+of_send laws s side from x v z primary origin fits e t (adverts answered is) =
+    let reads = laws.back s from (nonce_of v.lead) v.packet.src (record { primary = primary; origin = origin; nonce_fits = t.nonce; address = t.source }) in
+    let dst : (value_in z.bytes).packet.dst ≡ v.packet.src = ap (λ (w : Send). (value_in w.bytes).packet.dst) is ∙ ap (λ (w : Value). w.packet.dst) reads.payload.value in
+    to_link (ap is_link_local dst ∙ from_link v.packet answered.solicitation)
+of_send laws s side from x v z primary origin fits e t (goes_to_own on is) =
+    let reads = laws.goes x v (Some from) fits e on.on.sound.short origin in
+    let same : (value_in z.bytes).packet ≡ v.packet = ap (λ (w : Send). (value_in w.bytes).packet) is ∙ ap (λ (w : Value). w.packet) reads.value in
+    let own = for_client s v.packet on.for_client in
+    to_own (ap (λ (w : Send). w.side) is) (ap (λ (p : Fields). is_teredo p.dst) same ∙ own.teredo) (ap (λ (p : Fields). server_in p.dst) same ∙ own.server)
+of_send laws s side from x v z primary origin fits e t (goes_to_other on is) =
+    let reads = laws.goes x v None fits e on.on.sound.short tt in
+    let same : (value_in z.bytes).packet ≡ v.packet = ap (λ (w : Send). (value_in w.bytes).packet) is ∙ ap (λ (w : Value). w.packet) reads.value in
+    from_teredo (ap (λ (p : Fields). is_teredo p.src) same ∙ for_others s v.packet on.on.ours on.for_others)
+
+pub each_is_servers_own : ServerLaws → (s : ServerSettings) (side : Side) (from : Ep) (x : List ℕ) → IsIp4 s.primary → IsEp from → IsBytes x
+    → AllByRecursion (IsServersOwn s) (server_row s side from x).sends
+unfolding server_row
+each_is_servers_own laws s side from x primary origin fits =
+    of_read (IsServersOwn s) s side from x (λ v e z is. of_send laws s side from x v z primary origin fits e (told laws.spelled x v fits e) is) (payload_at x) refl
+
+-- A CLIENT'S OWN ADDRESS
+
+made_is_teredo : (p : Ip4) (flags : ℕ) (e : Ep) → is_teredo (teredo_ip p flags e) ≡ true
+unfolding is_teredo teredo_ip
+made_is_teredo p flags e = refl
+
+made_is_no_link : (p : Ip4) (flags : ℕ) (e : Ep) → is_link_local (teredo_ip p flags e) ≡ false
+unfolding is_link_local teredo_ip
+made_is_no_link p flags e = refl
+
+ip4_of : List ℕ → Ip4
+ip4_of xs = record { 0 = xs }
+
+made_tells : (p : Ip4) (flags : ℕ) (e : Ep) → IsIp4 p → server_in (teredo_ip p flags e) ≡ p
+unfolding server_in teredo_ip ip4_of
+made_tells p flags e fits = ap ip4_of (take_at p.0 (identifier flags e) 4 fits.0)
+
+none_is_teredo : is_teredo unspecified ≡ false
+unfolding is_teredo
+none_is_teredo = refl
+
+none_is_link : is_link_local unspecified ≡ false
+unfolding is_link_local
+none_is_link = refl
+
+-- where there is none it is no Teredo address
+pub record IsOwnOf (s : Settings) (own : Ip6) : Type 0 where
+  pub no_link : is_link_local own ≡ false
+  pub server : is_teredo own ≡ true → server_in own ≡ s.primary
+
+pub own_is : EachAddressIsOwn → (s : Settings) (j : Journal) → IsIp4 s.primary → IsOwnOf s (own_address (qualification s j))
+unfolding own_address
+own_is law s j primary = by (qualification s j).address refl where
+  by : (o : Option Ip6) → (qualification s j).address ≡ o → IsOwnOf s (unwrap_or o unspecified)
+  by None e = record { no_link = none_is_link; server = λ teredo. absurd (false≢true (sym none_is_teredo ∙ teredo)) }
+  by (Some own) e =
+      let is : IsOwnAddress s j.entries own = law s j own e in
+      record {
+        no_link = ap is_link_local is.made ∙ made_is_no_link s.primary _ is.origin;
+        server = λ teredo. ap server_in is.made ∙ made_tells s.primary _ is.origin primary;
+      }
+
+-- an address of a client is a Teredo address
+pub own_is_teredo : EachAddressIsOwn → (s : Settings) (j : Journal) (own : Ip6) → (qualification s j).address ≡ Some own → is_teredo own ≡ true
+own_is_teredo law s j own e = let is = law s j own e in ap is_teredo is.made ∙ made_is_teredo s.primary _ is.origin

@@ -1,0 +1,95 @@
+-- A record that gives a client a datagram from a peer itself, in which a packet is.
+use Rattle.std.proofs.Common.{◌≡◌, ℕ, Bool, true, false, List, ◌∷◌, drop, Some, sym, ap, subst, ◌∙◌}
+use Rattle.std.specs.Prelude.{slice_get}
+use Rattle.std.proofs.lemmas.Bool.{false≢true}
+use Rattle.td_base.specs.declared.endpoint.Ep.{Ep}
+use Rattle.ipv6_packet.specs.Reads.{fields_in}
+use Rattle.bubble.specs.Reads.{value_in}
+use Rattle.teredo_node.specs.Journal.{Input, arrived, Entry, with_entry}
+use Rattle.client_rules.specs.Journals.{IsJournal}
+use Rattle.client_rules.specs.Handed.{EachLate, EachHanded}
+use Rattle.client_rules.proofs.PayloadPackets.{same_fields}
+use Rattle.qualify.specs.declared.settings.Settings.{Settings}
+use Rattle.topology.specs.declared.client_node.ClientNode.{ClientNode}
+use Rattle.topology.specs.declared.node.Node.TheVariants.{Client as client}
+use Rattle.history.specs.Full.{udp, six, Full, wire}
+use Rattle.legal.specs.Lab.{Lab}
+use Rattle.legal.specs.Settings.{client_settings}
+use Rattle.legal.specs.Past.{now, journal}
+use Rattle.legal.specs.Legal.{Grown}
+use Rattle.legal.specs.Laws.{EachClientIsJournal}
+use Rattle.legal.specs.Actors.{IsGiven, delivered, hosted, ticks, IsActOf, EachActs}
+use Rattle.legal.specs.Recorded.{EachIsRecorded}
+use Rattle.legal.specs.Routes.{IsLetIn, EachRoute}
+use Rattle.legal.proofs.MadeInputs.{entry_input}
+use Rattle.origins.proofs.CameDirect.{DirectRule, WarrantLaws, IsCameDirect, came_direct}
+
+pub record DatagramLaws : Type 0 where
+  pub acts : EachActs
+  pub routes : EachRoute
+  pub recorded : EachIsRecorded
+  pub clients : EachClientIsJournal
+  pub handed : EachHanded
+  pub lates : EachLate
+  pub warrants : WarrantLaws
+
+-- the record after `past` gave client n the datagram in that entry, in which x is, from a peer itself
+pub record IsGivenIn (lab : Lab) (past : List Full) (q : Full) (n : ℕ) (c : ClientNode) (x : List ℕ) : Type 0 where
+  pub number : ℕ
+  pub from : Ep
+  pub dst : Ep
+  pub bytes : List ℕ
+  pub told : q.delivered ≡ Some number
+  pub datagram : slice_get (wire past) number ≡ Some (udp from dst bytes)
+  pub let_in : IsLetIn lab past (now past) from dst c
+  pub whole : x ≡ drop (value_in bytes).lead.at bytes
+  pub packet : (value_in bytes).packet ≡ fields_in x
+  pub came : IsCameDirect (client_settings lab.topology c) (journal n past) from bytes
+
+-- ONE RECORD
+
+abbrev is_arrived : Input → Bool
+is_arrived (arrived from x) = true
+is_arrived _ = false
+
+abbrev from_of : Ep → Input → Ep
+from_of e (arrived from x) = from
+from_of e _ = e
+
+abbrev bytes_in : List ℕ → Input → List ℕ
+bytes_in d (arrived from x) = x
+bytes_in d _ = d
+
+module _ (laws : DatagramLaws) (lab : Lab) (past : List Full) (q : Full) (n : ℕ) (c : ClientNode) (x : List ℕ) where
+  abbrev s : Settings
+  s = client_settings lab.topology c
+
+  given_in : (from : Ep) (y : List ℕ) (dst : Ep) (i : Input) → IsGiven lab past q n (client c) dst i → i ≡ arrived from y
+      → x ≡ drop (value_in y).lead.at y → IsCameDirect s (journal n past) from y → IsGivenIn lab past q n c x
+  given_in from y dst i (delivered number (udp src to bytes) told at goes moment where_to same) is whole came =
+      let sources : src ≡ from = ap (from_of src) (sym same ∙ is) in
+      let all : bytes ≡ y = ap (bytes_in bytes) (sym same ∙ is) in
+      record {
+        number = number;
+        from = from;
+        dst = to;
+        bytes = y;
+        told = told;
+        datagram = at ∙ ap (λ (e : Ep). Some (udp e to bytes)) sources ∙ ap (λ (z : List ℕ). Some (udp from to z)) all;
+        let_in = subst (λ (e : Ep). IsLetIn lab past (now past) e to c) sources (laws.routes lab past (now past) (udp src to bytes) n (client c) goes);
+        whole = whole;
+        packet = sym (same_fields y came.payload) ∙ ap fields_in (sym whole);
+        came = came;
+      }
+  given_in from y dst i (delivered number (six to bytes) told at goes moment where_to same) is whole came = absurd (false≢true (ap is_arrived (sym same ∙ is)))
+  given_in from y dst i (hosted v z handing none moment to same) is whole came = absurd (false≢true (ap is_arrived (sym same ∙ is)))
+  given_in from y dst i (ticks d due at none moment to same) is whole came = absurd (false≢true (ap is_arrived (sym same ∙ is)))
+
+  -- the client's entry, of a datagram
+  pub of_entry : Grown lab (q ∷ past) → (e : Entry) → IsActOf lab past q n (client c) e → (from : Ep) (y : List ℕ) → e.input ≡ arrived from y → DirectRule e.step.fate
+      → (IsJournal s (with_entry (journal n past) e) → IsCameDirect s (journal n past) from y → x ≡ drop (value_in y).lead.at y) → IsGivenIn lab past q n c x
+  of_entry g e act from y input rule whole =
+      let is_j : IsJournal s (with_entry (journal n past) e) = subst (IsJournal s) act.later (laws.clients lab (q ∷ past) n c g act.there).journal in
+      let came = came_direct laws.warrants s (journal n past) e is_j from y input rule in
+      let same : act.input ≡ arrived from y = sym (ap (λ (z : Entry). z.input) act.step ∙ entry_input lab past q.moment n act.dst act.input (client c)) ∙ input in
+      given_in from y act.dst act.input act.is_given same (whole is_j came) came
