@@ -1,0 +1,6 @@
+mod ReadsBack
+mod Counting
+mod Places
+mod ServerAnswers
+mod AskedBefore
+mod CleanWire

@@ -1,0 +1,115 @@
+-- The capture of a history holds a record for each entry, and is read back.
+use Rattle.std.proofs.Common.{◌≡◌, ◌≤◌, ◌/◌, ℕ, Bool, true, false, not, cond, List, [], ◌∷◌, ◌++◌, length, None, Result, Err, refl, ap, arith}
+use Rattle.std.specs.Prelude.{map, slice_index, nat_lt, ◌==◌}
+use Rattle.std.specs.List.{AllByRecursion}
+use Rattle.std.proofs.lemmas.Bool.{false≢true}
+use Rattle.td_base.specs.Results.{◌>>=◌}
+use Rattle.td_base.specs.declared.endpoint.Ep.{Ep}
+use Rattle.ipv6_packet.specs.Reads.{fields_in}
+use Rattle.ipv6_packet.specs.Laws.{PacketIsSpelled}
+use Rattle.ipv6_packet.proofs.PacketLaws.{packet_begins}
+use Rattle.td_ipv4.specs.Datagrams.{Udp4Fields}
+use Rattle.td_ipv4.specs.declared.fault.Ip4Fault.{Ip4Fault}
+use Rattle.td_ipv4.specs.declared.numbers.TheConstants.{HEAD_MIN, IPV4}
+use Rattle.td_ipv4.specs.Tests.{udp4_at, udp_place}
+use Rattle.td_ipv4.specs.Checksums.{made_udp4, made_bytes}
+use Rattle.td_ipv4.specs.Laws.{Udp4ReadsBack, MadeIsUdp4, IsMadeUdp4}
+use Rattle.td_pcap.specs.Records.{Captured, IsCaptured}
+use Rattle.td_audit.specs.Verdicts.{datagram_read, datagram_in}
+use Rattle.topology.specs.Rules.{IsTopology}
+use Rattle.history.specs.Full.{Item, udp, six, Full, wire, items_of}
+use Rattle.legal.specs.Lab.{Lab}
+use Rattle.legal.specs.Legal.{Grown}
+use Rattle.legal.specs.MadeWire.{IsMadeItem, IsPacketItem, EachHistoryIsMade}
+use Rattle.legal.proofs.ItemsMade.{all_joined}
+use Rattle.player.specs.Capture.{packet_of, entry_record, step_records, capture_records}
+use Rattle.player.specs.CaptureLaws.{PiecesAreACapture}
+use Rattle.wires.specs.ReadsBack.{ReadsBackAs, AreRecordsOf, IsReadBack, EachWireReadsBack}
+
+pub record CaptureLaws : Type 0 where
+  pub made : EachHistoryIsMade
+  pub datagram : MadeIsUdp4
+  pub back : Udp4ReadsBack
+  pub spelled : PacketIsSpelled
+  pub pieces : PiecesAreACapture
+
+-- A PACKET OF THE IPV6 SIDE IS NO DATAGRAM
+
+refused : (a b : Bool) (f g : Ip4Fault) (rest : Result ℕ Ip4Fault) (on : ℕ → Result Udp4Fields Ip4Fault) → b ≡ true
+    → datagram_read (cond a (Err f) (cond b (Err g) rest) >>= on) ≡ None
+refused true b f g rest on is = refl
+refused false true f g rest on is = refl
+refused false false f g rest on is = absurd (false≢true is)
+
+no_datagram : (x : List ℕ) → slice_index x 0 / 16 ≡ 6 → datagram_in x ≡ None
+unfolding datagram_in udp4_at udp_place
+no_datagram x is = refused (nat_lt (length x) HEAD_MIN) (not (slice_index x 0 / 16 == IPV4)) _ _ _ _ (ap (λ (n : ℕ). not (n == IPV4)) is)
+
+-- ONE RECORD
+
+module _ (laws : CaptureLaws) where
+  made_datagram : (src dst : Ep) (bytes : List ℕ) → IsMadeItem (udp src dst bytes) → IsMadeUdp4 src dst bytes
+  made_datagram src dst bytes m = laws.datagram src dst bytes m.source m.destination m.short
+
+  short : (x : Item) → IsMadeItem x → length (packet_of x) ≤ 1428
+  short (udp src dst bytes) m = let long = (made_datagram src dst bytes m).long in let few = m.short in omega (arith, long, few)
+  short (six to bytes) m = let few = m.short in omega (arith, few)
+
+  fits : (moment : ℕ) (x : Item) → IsMadeItem x → IsCaptured (entry_record moment x)
+  fits moment x m =
+      let few = short x m in
+      record { sec = omega arith; frac = omega arith; orig = omega (arith, few); kept = omega (arith, few) }
+
+  reads : (x : Item) → IsMadeItem x → IsPacketItem x → ReadsBackAs x (packet_of x)
+  unfolding made_bytes
+  reads (udp src dst bytes) m p = laws.back (made_udp4 src dst bytes) (made_datagram src dst bytes m).fits
+  reads (six to bytes) m p = no_datagram bytes (packet_begins (fields_in bytes) bytes (laws.spelled bytes m.bytes p)).1
+
+  -- THOSE OF ONE STEP
+
+  step_fits : (moment : ℕ) (xs : List Item) → AllByRecursion IsMadeItem xs → AllByRecursion IsCaptured (map (entry_record moment) xs)
+  step_fits moment [] made = tt
+  step_fits moment (x ∷ xs) made = (fits moment x made.0, step_fits moment xs made.1)
+
+  step_is : (moment : ℕ) (xs : List Item) → AllByRecursion IsMadeItem xs → AllByRecursion IsPacketItem xs → AreRecordsOf xs (map (entry_record moment) xs)
+  step_is moment [] made packets = tt
+  step_is moment (x ∷ xs) made packets = (record { bytes = refl; whole = refl; reads = reads x made.0 packets.0 }, step_is moment xs made.1 packets.1)
+
+-- ALL OF THEM
+
+right : {A : Type 0} (P : A → Type 0) (xs ys : List A) → AllByRecursion P (xs ++ ys) → AllByRecursion P ys
+right P [] ys all = all
+right P (x ∷ xs) ys all = right P xs ys all.1
+
+joined : (xs ys : List Item) (rs qs : List Captured) → AreRecordsOf xs rs → AreRecordsOf ys qs → AreRecordsOf (xs ++ ys) (rs ++ qs)
+joined [] ys [] qs l r = r
+joined (x ∷ xs) ys (a ∷ rs) qs l r = (l.0, joined xs ys rs qs l.1 r)
+joined [] ys (a ∷ rs) qs l r = absurd l
+joined (x ∷ xs) ys [] qs l r = absurd l
+
+module _ (laws : CaptureLaws) (lab : Lab) where
+  all_fit : (H : List Full) → IsTopology lab.topology → Grown lab H → AllByRecursion IsCaptured (capture_records H)
+  all_fit [] is g = tt
+  all_fit (r ∷ H) is g =
+      let made = right IsMadeItem (wire H) (items_of r) (laws.made lab (r ∷ H) is g).wire in
+      all_joined IsCaptured (capture_records H) (step_records r) (all_fit H is g.1) (step_fits laws r.moment (items_of r) made)
+
+  all_are : (H : List Full) → IsTopology lab.topology → Grown lab H → AreRecordsOf (wire H) (capture_records H)
+  all_are [] is g = tt
+  all_are (r ∷ H) is g =
+      let history = laws.made lab (r ∷ H) is g in
+      let made = right IsMadeItem (wire H) (items_of r) history.wire in
+      let packets = right IsPacketItem (wire H) (items_of r) history.packets in
+      joined (wire H) (items_of r) (capture_records H) (step_records r) (all_are H is g.1) (step_is laws r.moment (items_of r) made packets)
+
+  read_back : (H : List Full) → IsTopology lab.topology → Grown lab H → IsReadBack lab.topology H
+  read_back H is g = record {
+    capture = record {
+      fits = record { head = record { zone = omega arith; figs = omega arith; snap = omega arith }; records = all_fit H is g };
+      bytes = laws.pieces lab.topology H;
+    };
+    records = all_are H is g;
+  }
+
+pub each_reads_back : CaptureLaws → EachWireReadsBack
+each_reads_back laws lab H is g = read_back laws lab H is g

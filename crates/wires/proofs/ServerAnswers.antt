@@ -1,0 +1,204 @@
+-- What a server makes of what is delivered to it: a datagram of it goes out where one came of which it is the output, and no other.
+use Rattle.std.proofs.Common.{◌≡◌, ◌⊎◌, inl, inr, ◌≤◌, ℕ, Bool, true, false, cond, List, [], ◌∷◌, ◌++◌, length, Option, Some, None, refl, sym, ap, subst, ◌∙◌, arith}
+use Rattle.std.specs.Prelude.{Contains, filter_map, count_by, slice_get, ◌||◌}
+use Rattle.std.specs.List.{AllByRecursion}
+use Rattle.std.proofs.lemmas.Bool.{false≢true, and_parts}
+use Rattle.td_base.specs.Ip4.{same_ip, same_ip-self}
+use Rattle.td_base.specs.Ep.{same_ep, same_ep-self, same_ep-true, server_ep}
+use Rattle.td_base.specs.declared.endpoint.Ep.{Ep}
+use Rattle.td_base.specs.declared.span.Span.{Span}
+use Rattle.td_base.specs.declared.side.Side.{Side}
+use Rattle.td_base.specs.declared.side.Side.TheVariants.{Primary, Secondary}
+use Rattle.teredo_node.specs.Step.{Send, Step}
+use Rattle.teredo_node.specs.Journal.{Input, arrived, given, from_six, ticked, Entry}
+use Rattle.server_core.specs.declared.server.ServerSettings.{ServerSettings}
+use Rattle.server_core.specs.Laws.{OneOutput}
+use Rattle.server_core.specs.Server.{server_row}
+use Rattle.topology.specs.declared.server_node.ServerNode.{ServerNode}
+use Rattle.topology.specs.declared.node.Node.TheVariants.{Server as server}
+use Rattle.topology.specs.NodeRules.{EachNodeKeepsRules}
+use Rattle.topology.specs.Rules.{IsTopology}
+use Rattle.topology.specs.Topology.{node_at, side_at, own_ep}
+use Rattle.history.specs.Full.{Item, udp, six, Made, sent, lost, item_in, Full, wire, items_of}
+use Rattle.legal.specs.Lab.{Lab}
+use Rattle.legal.specs.Past.{now}
+use Rattle.legal.specs.Emit.{entry_of, six_made}
+use Rattle.legal.specs.Routes.{EachRoute}
+use Rattle.legal.specs.OwnSends.{EachMakesItsOwn}
+use Rattle.legal.specs.Legal.{Grown}
+use Rattle.legal.specs.Actors.{IsGiven, delivered, hosted, ticks, IsActOf}
+use Rattle.origins.specs.Voices.{speaks_for, is_sent_by, IsOwnSend, own_send, IsOwnIfSent, EachServerHasOwnVoice}
+use Rattle.td_audit.specs.Datagrams.{Datagram, datagram, same_datagram, is_same, is_audited}
+use Rattle.td_audit.specs.Licences.{side_with, on_wire, reply_to, output}
+use Rattle.td_audit.specs.Verdicts.{audited}
+use Rattle.wires.proofs.Counting.{one_if, count_cons}
+use Rattle.wires.proofs.Places.{held, none_there, only_one, as_many, own_is_endpoint}
+
+pub record CleanLaws : Type 0 where
+  pub voices : EachServerHasOwnVoice
+  pub sends : EachMakesItsOwn
+  pub one : OneOutput
+  pub routes : EachRoute
+  pub rules : EachNodeKeepsRules
+
+-- the server whose wire is audited
+pub record Audited : Type 0 where
+  pub lab : Lab
+  pub is : IsTopology lab.topology
+  pub number : ℕ
+  pub row : ServerNode
+  pub there : node_at lab.topology number ≡ Some (server row)
+
+abbrev pub settings_of : Audited → ServerSettings
+settings_of v = audited v.row.primary v.row.secondary
+
+-- an entry is d, and its output is
+abbrev pub is_datagram : Datagram → Item → Bool
+is_datagram d x = is_same d (held x)
+
+abbrev pub draws_datagram : ServerSettings → Datagram → Item → Bool
+draws_datagram s d x = is_same d (output s (held x))
+
+-- the record after H makes no entry of the one kind, or one on the delivery of an entry of the other
+pub data Answers (f o : Item → Bool) (H : List Full) (r : Full) : Type 0 where
+  silent : count_by f (items_of r) ≡ 0 → Answers f o H r
+  answers : count_by f (items_of r) ≤ 1 → (k : ℕ) (y : Item) → r.delivered ≡ Some k → slice_get (wire H) k ≡ Some y → o y ≡ true → Answers f o H r
+
+-- ONE SERVER, AND ONE OF ITS DATAGRAMS
+
+module _ (laws : CleanLaws) (v : Audited) (d : Datagram) (mine : is_audited (settings_of v) d.src ≡ true) where
+  abbrev lab : Lab
+  lab = v.lab
+
+  abbrev n : ℕ
+  n = v.number
+
+  abbrev a : ServerNode
+  a = v.row
+
+  abbrev s : ServerSettings
+  s = settings_of v
+
+  abbrev f : Item → Bool
+  f = is_datagram d
+
+  abbrev o : Item → Bool
+  o = draws_datagram s d
+
+  source_is : (src dst : Ep) (bytes : List ℕ) → f (udp src dst bytes) ≡ true → is_sent_by a (udp src dst bytes) ≡ true
+  unfolding same_datagram is_audited
+  source_is src dst bytes e =
+      let parts = and_parts (same_ep d.src src) _ e in
+      ap (λ (z : Ep). is_audited s z) (sym (same_ep-true d.src src parts.0)) ∙ mine
+
+  of_it : (x : Item) → f x ≡ true → is_sent_by a x ≡ true
+  of_it (udp src dst bytes) e = source_is src dst bytes e
+  of_it (six relay bytes) e = absurd (false≢true e)
+
+  -- WHAT A DELIVERY ANSWERS
+
+  side_is : (dst : Ep) → (dst ≡ server_ep a.primary) ⊎ (dst ≡ server_ep a.secondary) → side_with s dst ≡ side_at (server a) dst
+  side_is dst (inl e) = subst (λ (z : Ep). side_with s z ≡ side_at (server a) z) (sym e)
+      (ap (λ (b : Bool). cond b Primary Secondary) (same_ep-self (server_ep a.primary))
+      ∙ sym (ap (λ (b : Bool). cond b Secondary Primary) (laws.rules lab.topology n (server a) v.is v.there).apart))
+  side_is dst (inr e) = subst (λ (z : Ep). side_with s z ≡ side_at (server a) z) (sym e)
+      (ap (λ (b : Bool). cond b Primary Secondary) (other (same_ep (server_ep a.secondary) (server_ep a.primary)) refl)
+      ∙ sym (ap (λ (b : Bool). cond b Secondary Primary) (same_ip-self a.secondary)))
+    where
+      other : (b : Bool) → same_ep (server_ep a.secondary) (server_ep a.primary) ≡ b → b ≡ false
+      other false g = refl
+      other true g =
+          let same = ap (λ (z : Ep). z.ip) (same_ep-true (server_ep a.secondary) (server_ep a.primary) g) in
+          absurd (false≢true (sym (laws.rules lab.topology n (server a) v.is v.there).apart
+          ∙ ap (λ (z : _). same_ip z a.secondary) (sym same) ∙ same_ip-self a.secondary))
+
+  audited_is : (dst : Ep) → (dst ≡ server_ep a.primary) ⊎ (dst ≡ server_ep a.secondary) → is_audited s dst ≡ true
+  unfolding is_audited
+  audited_is dst (inl e) = subst (λ (z : Ep). is_audited s z ≡ true) (sym e) (ap (λ (b : Bool). b || same_ep (server_ep a.primary) (server_ep a.secondary)) (same_ep-self (server_ep a.primary)))
+  audited_is dst (inr e) = subst (λ (z : Ep). is_audited s z ≡ true) (sym e) (by (same_ep (server_ep a.secondary) (server_ep a.primary)) (same_ep (server_ep a.secondary) (server_ep a.secondary)) (same_ep-self (server_ep a.secondary)))
+    where
+      by : (b c : Bool) → c ≡ true → (b || c) ≡ true
+      by true c h = refl
+      by false c h = h
+
+  -- the reply to what came, where the server sends z
+  replies : (from dst : Ep) (x : List ℕ) (z : Send) → (dst ≡ server_ep a.primary) ⊎ (dst ≡ server_ep a.secondary)
+      → Contains (server_row s (side_at (server a) dst) from x).sends z → output s (held (udp from dst x)) ≡ Some (datagram (own_ep (server a) z.side) z.to z.bytes)
+  unfolding reply_to
+  replies from dst x z at c =
+      let few : length (server_row s (side_at (server a) dst) from x).sends ≤ 1 = let most = laws.one s (side_at (server a) dst) from x in omega (arith, most) in
+      let sends = only_one (server_row s (side_at (server a) dst) from x).sends z few c in
+      ap (λ (b : Bool). cond b (on_wire s (server_row s (side_with s dst) from x).sends) None) (audited_is dst at)
+      ∙ ap (λ (side : Side). on_wire s (server_row s side from x).sends) (side_is dst at)
+      ∙ ap (λ (zs : List Send). on_wire s zs) sends
+      ∙ ap (λ (e : Ep). Some (datagram e z.to z.bytes)) (sym (own_is_endpoint a z.side))
+
+  -- WHAT A RECORD MAKES
+
+  no_more : (front : List Made) (i : Input) (span : Option Span) → count_by f (filter_map item_in (front ++ six_made i span)) ≤ length front
+  no_more [] (arrived from x) (Some span) = omega arith
+  no_more [] (arrived from x) None = omega arith
+  no_more [] (given x) span = omega arith
+  no_more [] (from_six x) span = omega arith
+  no_more [] ticked span = omega arith
+  no_more (sent item ∷ front) i span =
+      let whole = count_cons f item (filter_map item_in (front ++ six_made i span)) in
+      let rest = no_more front i span in
+      let one : one_if (f item) ≤ 1 = by (f item) in
+      omega (arith, whole, rest, one)
+    where
+      by : (b : Bool) → one_if b ≤ 1
+      by true = omega arith
+      by false = omega arith
+  no_more (lost why dst bytes ∷ front) i span = let rest = no_more front i span in omega (arith, rest)
+
+  -- one of them is d, or none
+  found : (P : Item → Type 0) (xs : List Item) → AllByRecursion P xs → (count_by f xs ≡ 0) ⊎ ((x : Item) × (f x ≡ true) × P x)
+  found P [] made = inl refl
+  found P (x ∷ xs) made = by (f x) refl (found P xs made.1) where
+    by : (b : Bool) → f x ≡ b → (count_by f xs ≡ 0) ⊎ ((y : Item) × (f y ≡ true) × P y) → (count_by f (x ∷ xs) ≡ 0) ⊎ ((y : Item) × (f y ≡ true) × P y)
+    by true e rest = inr (x, e, made.0)
+    by false e (inr some) = inr some
+    by false e (inl none) = inl (count_cons f x xs ∙ (let one = ap one_if e in omega (arith, one, none)))
+
+  made_few : (H : List Full) (r : Full) (e : Entry) (z : Send) → IsActOf lab H r n (server a) e → length e.step.sends ≤ 1 → count_by f (items_of r) ≤ 1
+  made_few H r e z act few =
+      let are = laws.sends lab H r n (server a) e act in
+      let same = ap (λ (ms : List Made). count_by f (filter_map item_in ms)) are.split in
+      let most = no_more are.front e.input e.step.six in
+      let many = as_many are.front e.step.sends are.each in
+      omega (arith, same, most, many, few)
+
+  of_act : (H : List Full) (r : Full) (x : Item) (e : Entry) (z : Send) → f x ≡ true → IsActOf lab H r n (server a) e → Contains e.step.sends z
+      → x ≡ udp (own_ep (server a) z.side) z.to z.bytes → Answers f o H r
+  of_act H r x e z hit act c same = by act.dst act.input act.is_given act.step where
+    idle : (dst : Ep) (i : Input) → e ≡ entry_of lab H r.moment n dst i (server a) → (entry_of lab H r.moment n dst i (server a)).step.sends ≡ [] → Answers f o H r
+    idle dst i step none = absurd (none_there z (subst (λ (zs : List Send). Contains zs z) (ap (λ (y : Entry). y.step.sends) step ∙ none) c))
+
+    by : (dst : Ep) (i : Input) → IsGiven lab H r n (server a) dst i → e ≡ entry_of lab H r.moment n dst i (server a) → Answers f o H r
+    by dst i (delivered number (udp from to bytes) told at goes moment where_to came) step =
+        let row : e.step ≡ server_row s (side_at (server a) to) from bytes =
+        ap (λ (y : Entry). y.step) step ∙ ap (λ (j : Input). (entry_of lab H r.moment n dst j (server a)).step) came
+        ∙ ap (λ (q : Ep). server_row s (side_at (server a) q) from bytes) where_to in
+        let sends : Contains (server_row s (side_at (server a) to) from bytes).sends z = subst (λ (y : Step). Contains y.sends z) row c in
+        let reached = laws.routes lab H (now H) (udp from to bytes) n (server a) goes in
+        let out = replies from to bytes z reached sends in
+        let few : length e.step.sends ≤ 1 =
+        let most = laws.one s (side_at (server a) to) from bytes in
+        let same_length = ap (λ (y : Step). length y.sends) row in
+        omega (arith, most, same_length) in
+        answers (made_few H r e z act few) number (udp from to bytes) told at
+        (ap (λ (q : Option Datagram). is_same d q) out ∙ sym (ap f same) ∙ hit)
+    by dst i (delivered number (six to bytes) told at goes moment where_to came) step =
+        idle dst i step (ap (λ (j : Input). (entry_of lab H r.moment n dst j (server a)).step.sends) came)
+    by dst i (hosted v y hands none moment where_to came) step = idle dst i step (ap (λ (j : Input). (entry_of lab H r.moment n dst j (server a)).step.sends) came)
+    by dst i (ticks due least same_node none moment where_to came) step = idle dst i step (ap (λ (j : Input). (entry_of lab H r.moment n dst j (server a)).step.sends) came)
+
+  pub step_answers : (H : List Full) (r : Full) → Grown lab (r ∷ H) → speaks_for a r.asked ≡ false → Answers f o H r
+  step_answers H r g quiet = by (found (IsOwnIfSent lab H r n a) (items_of r) (laws.voices lab H r n a v.is g v.there quiet)) where
+    by_send : (x : Item) → f x ≡ true → IsOwnSend lab H r n a x → Answers f o H r
+    by_send x hit (own_send e z act c same) = of_act H r x e z hit act c same
+
+    by : (count_by f (items_of r) ≡ 0) ⊎ ((x : Item) × (f x ≡ true) × IsOwnIfSent lab H r n a x) → Answers f o H r
+    by (inl none) = silent none
+    by (inr (x, hit, own)) = by_send x hit (own (of_it x hit))

@@ -1,0 +1,27 @@
+//! What is proved of the capture that is written of a wire, and of an audit of it.
+//!
+//! Standards: RFC 4380, section 5.3, for what a server answers; RFC 791 and RFC 768 for the datagrams.
+//!
+//! # What the layer above may rely on
+//!
+//! - The capture of a history is read back: one record for each entry of the wire, in order. A datagram's is read as this
+//!   datagram, one of the IPv6 side as none (`specs/ReadsBack.antt`).
+//! - Where nobody speaks for a server, and no entry was delivered to it twice, an audit of the capture for this server is
+//!   clean, with the true counts (`specs/CleanWire.antt`).
+//!
+//! # What it does not know
+//!
+//! How a capture is written and read, and how an audit is made: no code stands here but the laws. Captures of other
+//! networks.
+//!
+//! # Parts
+//!
+//! | what is said | in |
+//! |---|---|
+//! | what the capture of a history holds | `specs/ReadsBack.antt` |
+//! | what an audit finds in it | `specs/CleanWire.antt` |
+#![tactic(auto)]
+
+mod laws;
+
+pub use laws::{wire_is_clean, wire_reads_back};
