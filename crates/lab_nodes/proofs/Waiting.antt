@@ -12,8 +12,8 @@ use Rattle.topology.specs.declared.node.Node.{Node}
 use Rattle.history.specs.Full.{Full}
 use Rattle.legal.specs.Lab.{Lab}
 use Rattle.legal.specs.Past.{now, journal}
-use Rattle.storms.specs.Burden.{client_packet, relay_packet}
-use Rattle.storms.specs.Burden as past
+use Rattle.weights.specs.Burden.{client_packet, relay_packet}
+use Rattle.weights.specs.Burden as past
 use Rattle.lab_nodes.specs.declared.played_node.PlayedNode.{PlayedNode}
 use Rattle.lab_nodes.specs.declared.played_node.PlayedNode.TheVariants as played
 use Rattle.lab_nodes.specs.PlayedNode.{row_of, past_of, IsKept, IsReady}

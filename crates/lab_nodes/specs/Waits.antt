@@ -6,8 +6,8 @@ use Rattle.client_core.specs.Client.{listed_peers}
 use Rattle.history.specs.Full.{Full}
 use Rattle.legal.specs.Lab.{Lab}
 use Rattle.legal.specs.Past.{now}
-use Rattle.storms.specs.Burden.{client_packet, relay_packet}
-use Rattle.storms.specs.Burden as past
+use Rattle.weights.specs.Burden.{client_packet, relay_packet}
+use Rattle.weights.specs.Burden as past
 use Rattle.lab_nodes.specs.declared.played_node.PlayedNode.{PlayedNode}
 use Rattle.lab_nodes.specs.declared.played_node.PlayedNode.TheVariants as played
 use Rattle.lab_nodes.specs.PlayedNode.{NodesOf, AreReady}

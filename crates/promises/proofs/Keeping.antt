@@ -19,7 +19,7 @@ use Rattle.verdicts.specs.Throughout.{HasRightVerdictsThroughout, HistoriesHaveR
 use Rattle.ways.specs.Ways.{IsChained}
 use Rattle.ways.specs.Throughout.{HoldsAlongWaysThroughout, HistoriesHoldAlongWays}
 use Rattle.storms.specs.Throughout.{HasNoStormThroughout, HistoriesHaveNoStorm}
-use Rattle.eased_storms.specs.Throughout.{NineFollowThroughout, HistoriesHaveNine}
+use Rattle.storms.specs.NineThroughout.{NineFollowThroughout, HistoriesHaveNine}
 use Rattle.first_packets.specs.Throughout.{FirstPacketsArrive, HistoriesCarryFirstPackets}
 use Rattle.first_packets.specs.Courses.{FirstPacketsTakeCourses, HistoriesTakeCourses}
 use Rattle.promises.specs.Kept.{

@@ -21,7 +21,7 @@ use Rattle.verdicts.specs.Throughout.{HasRightVerdicts}
 use Rattle.ways.specs.Ways.{IsChained}
 use Rattle.ways.specs.Throughout.{HoldsAlongWays}
 use Rattle.storms.specs.Throughout.{HasNoStorm}
-use Rattle.eased_storms.specs.Throughout.{NineFollowEach}
+use Rattle.storms.specs.NineThroughout.{NineFollowEach}
 use Rattle.first_packets.specs.FirstPacket.{FirstPacketArrives}
 use Rattle.first_packets.specs.Courses.{TakesACourse}
 

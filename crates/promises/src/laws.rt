@@ -10,7 +10,7 @@ pub fn kept()
     ways::histories_hold_along_ways();
     verdicts::histories_have_right_verdicts();
     storms::histories_have_no_storm();
-    eased_storms::histories_have_nine();
+    storms::histories_have_nine();
     first_packets::histories_carry_first_packets();
     first_packets::histories_take_courses();
 }

@@ -9,8 +9,8 @@
 //!   event put it there, or a client's host had handed it in while that source was its address. In a history that is honest
 //!   for a client each address that it gets embeds an endpoint that leads to it (`specs/Kept.antt`; the words are those of
 //!   `origins`).
-//! - Deliveries alone end: at most nine follow for each undelivered entry and each packet that waits (`eased_storms`), and no
-//!   more than the weights of entries say (`storms`).
+//! - Deliveries alone end: at most nine follow for each undelivered entry and each packet that waits (`storms`), and no more than
+//!   the weights of entries say (`weights`).
 //!
 //! Where the NATs that are behind others are so by the rules of a chain (the words are those of `ways`):
 //!

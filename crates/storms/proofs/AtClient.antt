@@ -32,10 +32,9 @@ use Rattle.client_rules.specs.Reception as reception
 use Rattle.client_rules.specs.Standing.{Standing, known_in, standing_at, standing_of}
 use Rattle.client_rules.specs.Warrants.{ReceivedOnlyIf, IsForClient, IsIndirect, IsSuspect}
 use Rattle.topology.specs.declared.client_node.ClientNode.{ClientNode}
-use Rattle.topology.specs.Rows.{TopologyState}
 use Rattle.topology.specs.Rules.{IsTopology}
 use Rattle.topology.specs.NodeRules.{EachNodeKeepsRules, AddressesAreApart}
-use Rattle.history.specs.Full.{Item, Made}
+use Rattle.history.specs.Full.{Item, Made, Full}
 use Rattle.legal.specs.Lab.{Lab}
 use Rattle.legal.specs.Settings.{client_settings}
 use Rattle.legal.specs.Laws.{EachClientIsJournal}
@@ -43,10 +42,13 @@ use Rattle.legal.specs.OwnSends.{AreOfSends}
 use Rattle.legal.specs.MadeWire.{IsMadeItem, EachHistoryIsMade}
 use Rattle.settled.specs.ItsNodes.{HasServer, ClientsAreThere}
 use Rattle.settled.specs.OwnAddress.{EachAddressIsOwn}
-use Rattle.storms.specs.Weights.{is_some_server, entry_weight}
-use Rattle.storms.specs.Burden.{client_packet}
+use Rattle.weights.specs.Weights.{is_some_server}
+use Rattle.weights.specs.Burden.{client_packet}
+use Rattle.weights.specs.Trust.{is_trusted_for}
+use Rattle.weights.specs.Eased.{less, weight_with}
 use Rattle.storms.proofs.PeersWait.{PeerLaws, waits_for, waits_in, freed, added, shifts, stays}
 use Rattle.storms.proofs.AtServers.{RowLaws}
+use Rattle.storms.proofs.EasedWeights.{Ease}
 use Rattle.storms.proofs.NewItems.{items_in}
 
 pub record ClientLaws : Type 0 where
@@ -80,9 +82,9 @@ nothing_waits m = refl
 -- LIGHT ENTRIES
 
 -- what the entry makes and leaves weighs less than this, and what waited before
-abbrev pub IsLight : TopologyState → ℕ → Journal → Entry → ℕ → Type 0
-IsLight t m j e heavy = (made : List Made) → AreOfSends made e.step.sends → AllByRecursion IsMadeItem (items_in made)
-    → sum_by (entry_weight t) (items_in made) + waits_in client_packet (mentions_after e (mentions j.entries)) m
+abbrev pub IsLight : (Item → ℕ) → ℕ → Journal → Entry → ℕ → Type 0
+IsLight w m j e heavy = (made : List Made) → AreOfSends made e.step.sends → AllByRecursion IsMadeItem (items_in made)
+    → sum_by w (items_in made) + waits_in client_packet (mentions_after e (mentions j.entries)) m
     < heavy + waits_in client_packet (mentions j.entries) m
 
 -- nothing is sent, and no more waits
@@ -94,9 +96,9 @@ none_made w [] sends are e = refl
 none_made w (x ∷ xs) [] are e = absurd are
 none_made w (x ∷ xs) (y ∷ ys) are e = absurd (false≢true (sym (ap (λ (zs : List Send). has_any zs) e)))
 
-pub calm : PeerLaws → (t : TopologyState) (m : ℕ) (j : Journal) (e : Entry) (heavy : ℕ) → 1 ≤ heavy → IsCalm e → IsLight t m j e heavy
-calm laws t m j e heavy least is made are fresh =
-    let new = none_made (entry_weight t) made e.step.sends are is.0 in
+pub calm : PeerLaws → (w : Item → ℕ) (m : ℕ) (j : Journal) (e : Entry) (heavy : ℕ) → 1 ≤ heavy → IsCalm e → IsLight w m j e heavy
+calm laws w m j e heavy least is made are fresh =
+    let new = none_made w made e.step.sends are is.0 in
     let less = by (is_changed e.step.fate) in
     omega (arith, least, new, less)
   where
@@ -106,8 +108,11 @@ calm laws t m j e heavy least is made are fresh =
 
 -- A DATAGRAM
 
--- a client's journal at a moment, with the words that it draws next, and a datagram that weighs this much
+-- a client's journal at a moment, with the words that it draws next, and a datagram that weighs this much; what it makes is
+-- weighed after these records
 pub record AtClient : Type 0 where
+  pub ease : Ease
+  pub after : List Full
   pub lab : Lab
   pub c : ClientNode
   pub m : ℕ
@@ -116,6 +121,9 @@ pub record AtClient : Type 0 where
   pub src : Ep
   pub x : List ℕ
   pub heavy : ℕ
+
+abbrev pub weigh : AtClient → Item → ℕ
+weigh d x = weight_with d.ease.amount d.lab.topology d.after x
 
 abbrev pub setup : AtClient → Settings
 setup d = client_settings d.lab.topology d.c
@@ -142,7 +150,7 @@ abbrev pub came : AtClient → Fate → Entry
 came d f = entry d.m (arrived d.src d.x) (packet_in d.x) (source_in d.x) d.w (reception.reception_step (setup d) (stands d) d.src d.x (value_in d.x) d.w f)
 
 abbrev pub LightAs : AtClient → Entry → Type 0
-LightAs d e = IsLight d.lab.topology d.m d.j e d.heavy
+LightAs d e = IsLight (weigh d) d.m d.j e d.heavy
 
 abbrev pub Light : AtClient → Fate → Type 0
 Light d f = ReceivedOnlyIf f (seen_of d) (heard_of d) → LightAs d (came d f)
@@ -151,7 +159,7 @@ Light d f = ReceivedOnlyIf f (seen_of d) (heard_of d) → LightAs d (came d f)
 pub record IsAtClient (d : AtClient) : Type 0 where
   pub least : 1 ≤ d.heavy
   pub indirect : IsIndirect (seen_of d) → (o : Ep) → origin_in (value_in d.x).lead ≡ Some o → cond (is_some_server d.lab.topology o) 3 2 ≤ d.heavy
-  pub suspect : (full : Bool) → IsSuspect full (seen_of d) → 8 ≤ d.heavy
+  pub suspect : (full : Bool) → IsSuspect full (seen_of d) → less d.ease.amount (is_trusted_for d.lab.topology d.after (peer_of d) (own_of d)) 8 ≤ d.heavy
   pub is_j : IsJournal (setup d) d.j
   pub made_own : IfSome (qualification (setup d) d.j).address IsIp6
   pub made_peer : IfSome (source_in d.x) IsIp6

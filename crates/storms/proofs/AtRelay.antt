@@ -1,9 +1,8 @@
 -- What a relay is given, and what is light: what it makes of that weighs less than that, and what waited before.
-use Rattle.std.proofs.Common.{◌≡◌, ◌≤◌, ◌<◌, ℕ, ◌+◌, true, false, List, [], ◌∷◌, ◌++◌, map, Option, Some, None, refl, sym, ap, subst, ◌∙◌, arith}
-use Rattle.std.specs.Prelude.{sum, sum_by, is_some}
+use Rattle.std.proofs.Common.{◌≡◌, ◌≤◌, ◌<◌, ℕ, ◌+◌, true, false, List, [], ◌∷◌, ◌++◌, Option, Some, None, refl, sym, ap, subst, ◌∙◌, arith}
+use Rattle.std.specs.Prelude.{sum_by, is_some}
 use Rattle.std.specs.List.{AllByRecursion}
 use Rattle.std.proofs.lemmas.Bool.{false≢true}
-use Rattle.std.proofs.lemmas.List.Sums.{sum-map}
 use Rattle.td_base.specs.declared.ipv6.Ip6.{Ip6}
 use Rattle.td_base.specs.declared.side.Side.{Side}
 use Rattle.td_base.specs.declared.span.Span.{Span}
@@ -11,26 +10,32 @@ use Rattle.td_base.specs.declared.endpoint.Ep.{Ep}
 use Rattle.ipv6_packet.specs.Laws.{PacketIsSpelled}
 use Rattle.bubble.specs.Laws.{PacketIsPayload, BubbleReadsBack}
 use Rattle.teredo_node.specs.Step.{Send}
-use Rattle.teredo_node.specs.Journal.{arrived, given, from_six, ticked, Input, Entry}
+use Rattle.teredo_node.specs.Journal.{arrived, given, from_six, ticked, Input, Entry, Journal, with_entry}
+use Rattle.peer_list.specs.Mentions.{Mention, is_peer}
+use Rattle.peer_list.specs.Peers.{known}
 use Rattle.relay_rules.specs.Bearings.{relay_mention, relay_mentions}
 use Rattle.relay_rules.specs.Laws.{WaitingIsForeign, RelayReceptionIsWarranted, RelayTransmissionIsWarranted}
+use Rattle.relay_rules.specs.Standing.{RelaySettings}
 use Rattle.topology.specs.declared.relay_node.RelayNode.{RelayNode}
+use Rattle.topology.specs.Rows.{TopologyState}
 use Rattle.topology.specs.declared.node.Node.TheVariants.{Relay as relay}
-use Rattle.topology.specs.Topology.{own_ep}
+use Rattle.topology.specs.Topology.{node_at, own_ep}
 use Rattle.topology.specs.NodeRules.{EachNodeKeepsRules, AddressesAreApart}
-use Rattle.history.specs.Full.{Item}
+use Rattle.history.specs.Full.{Item, Made, Full}
 use Rattle.legal.specs.Lab.{Lab}
 use Rattle.legal.specs.Settings.{relay_settings}
+use Rattle.legal.specs.Past.{armed, journal}
 use Rattle.legal.specs.Emit.{outright, six_made}
 use Rattle.legal.specs.Laws.{EachRelayIsJournal}
 use Rattle.legal.specs.MadeWire.{IsMadeItem}
-use Rattle.storms.specs.Weights.{entry_weight}
-use Rattle.storms.specs.Burden.{waiting_packets, relay_packet}
-use Rattle.storms.proofs.PeersWait.{PeerLaws, waits_for, waits_in, freed, added, waiting_is, shifts, stays}
-use Rattle.storms.proofs.AtServers.{RowLaws}
+use Rattle.storms.proofs.PeersWait.{PeerLaws, waits_for, waits_in, freed, added, shifts, stays}
 use Rattle.storms.proofs.NewItems.{items_in}
-use Rattle.relay_rules.specs.Standing.{RelaySettings}
-use Rattle.history.specs.Full.{Made}
+use Rattle.storms.proofs.AtServers.{RowLaws}
+use Rattle.storms.proofs.Relays.{one_more}
+use Rattle.storms.proofs.EasedWeights.{Ease}
+use Rattle.weights.specs.Trust.{trusts_as, relay_trusts}
+use Rattle.weights.specs.Eased.{weight_with, waiting_weight}
+use Rattle.storms.proofs.Trusts as trusted
 
 pub record RelayLaws : Type 0 where
   pub apart : AddressesAreApart
@@ -45,27 +50,24 @@ pub record RelayLaws : Type 0 where
   pub bubble : BubbleReadsBack
   pub spelled : PacketIsSpelled
 
--- WHAT WAITS
-
--- as the journal's mentions have it
-pub waits_as : PeerLaws → (j : List Entry) (m : ℕ) → sum (map relay_packet (waiting_packets (relay_mentions j) m)) ≡ waits_in relay_packet (relay_mentions j) m
-waits_as laws j m = sum-map relay_packet (waiting_packets (relay_mentions j) m) ∙ waiting_is relay_packet laws (relay_mentions j) m
-
-pub one_more : (e : Entry) (j : List Entry) → relay_mentions (e ∷ j) ≡ relay_mention e ∷ relay_mentions j
-unfolding relay_mentions
-one_more e j = refl
-
--- LIGHT ENTRIES
-
--- a relay's journal at a moment, the number of the send that fails, and the weight of what the relay is given
+-- record r after H is of relay n, and this is the weight of what the relay is given
 pub record AtRelay : Type 0 where
+  pub ease : Ease
   pub lab : Lab
-  pub q : RelayNode
+  pub H : List Full
+  pub r : Full
   pub n : ℕ
-  pub m : ℕ
-  pub j : List Entry
-  pub fails : Option ℕ
+  pub q : RelayNode
   pub heavy : ℕ
+
+abbrev pub topology_of : AtRelay → TopologyState
+topology_of d = d.lab.topology
+
+abbrev pub journal_of : AtRelay → List Entry
+journal_of d = (journal d.n d.H).entries
+
+abbrev pub moment_of : AtRelay → ℕ
+moment_of d = d.r.moment
 
 abbrev pub setup : AtRelay → RelaySettings
 setup d = relay_settings d.lab.topology d.n d.q
@@ -73,20 +75,28 @@ setup d = relay_settings d.lab.topology d.n d.q
 abbrev pub own_of : AtRelay → Side → Ep
 own_of d = own_ep (relay d.q)
 
+-- after the record
 abbrev pub weigh : AtRelay → Item → ℕ
-weigh d = entry_weight d.lab.topology
+weigh d = weight_with d.ease.amount d.lab.topology (d.r ∷ d.H)
+
+abbrev pub packet_of : AtRelay → List ℕ → ℕ
+packet_of d = waiting_weight d.ease.amount d.lab.topology d.n
 
 abbrev pub waited : AtRelay → ℕ
-waited d = waits_in relay_packet (relay_mentions d.j) d.m
+waited d = waits_in (packet_of d) (relay_mentions (journal_of d)) (moment_of d)
 
 -- what an entry makes
 abbrev pub made_by : AtRelay → Entry → List Made
-made_by d e = outright (own_of d) d.fails 0 e.step.sends ++ six_made e.input e.step.six
+made_by d e = outright (own_of d) (armed d.H) 0 e.step.sends ++ six_made e.input e.step.six
 
--- what the entry makes and leaves weighs less than this, and what waited before
+-- it is the relay's next one
+abbrev pub IsNext : AtRelay → Entry → Type 0
+IsNext d e = journal d.n (d.r ∷ d.H) ≡ with_entry (journal d.n d.H) e
+
+-- what it makes and leaves weighs less than this, and what waited before
 abbrev pub IsLight : AtRelay → Entry → Type 0
-IsLight d e = AllByRecursion IsMadeItem (items_in (made_by d e))
-    → sum_by (weigh d) (items_in (made_by d e)) + waits_in relay_packet (relay_mention e ∷ relay_mentions d.j) d.m < d.heavy + waited d
+IsLight d e = IsNext d e → AllByRecursion IsMadeItem (items_in (made_by d e))
+    → sum_by (weigh d) (items_in (made_by d e)) + waits_in (packet_of d) (relay_mention e ∷ relay_mentions (journal_of d)) (moment_of d) < d.heavy + waited d
 
 -- nothing is sent, and nothing waits more or less
 abbrev pub IsCalm : Entry → Type 0
@@ -94,10 +104,10 @@ IsCalm e = (e.step.sends ≡ []) × (e.step.six ≡ None) × ((relay_mention e).
     ((relay_mention e).bearing.queues ≡ None)
 
 pub calm : PeerLaws → (d : AtRelay) (e : Entry) → 1 ≤ d.heavy → IsCalm e → IsLight d e
-calm laws d e least is made =
-    let none = ap (λ (ss : List Send). sum_by (weigh d) (items_in (outright (own_of d) d.fails 0 ss ++ six_made e.input e.step.six))) is.0 in
+calm laws d e least is next made =
+    let none = ap (λ (ss : List Send). sum_by (weigh d) (items_in (outright (own_of d) (armed d.H) 0 ss ++ six_made e.input e.step.six))) is.0 in
     let packet = no_packet e.input e.step.six is.1 in
-    let less = stays relay_packet laws (relay_mention e) (relay_mentions d.j) d.m is.2 is.3 is.4 in
+    let less = stays (packet_of d) laws (relay_mention e) (relay_mentions (journal_of d)) (moment_of d) is.2 is.3 is.4 in
     omega (arith, least, none, packet, less)
   where
     no_packet : (i : Input) (o : Option Span) → o ≡ None → sum_by (weigh d) (items_in (six_made i o)) ≡ 0
@@ -108,11 +118,37 @@ calm laws d e least is made =
     no_packet ticked o h = refl
 
 -- what waits after an entry that touches a peer
-pub shifted : PeerLaws → (d : AtRelay) (e : Entry) (p : Ip6) → e.moment ≡ d.m → e.peer ≡ Some p → (relay_mention e).bearing.touches ≡ true
-    → waits_in relay_packet (relay_mention e ∷ relay_mentions d.j) d.m + freed relay_packet (relay_mention e).bearing.hears (waits_for relay_packet (relay_mentions d.j) d.m p)
-    ≤ waited d + added relay_packet (relay_mention e).bearing.queues
+pub shifted : PeerLaws → (d : AtRelay) (e : Entry) (p : Ip6) → e.moment ≡ moment_of d → e.peer ≡ Some p → (relay_mention e).bearing.touches ≡ true
+    → waits_in (packet_of d) (relay_mention e ∷ relay_mentions (journal_of d)) (moment_of d)
+    + freed (packet_of d) (relay_mention e).bearing.hears (waits_for (packet_of d) (relay_mentions (journal_of d)) (moment_of d) p)
+    ≤ waited d + added (packet_of d) (relay_mention e).bearing.queues
 shifted laws d e p moment peer touches =
-    subst (λ (k : ℕ). waits_in relay_packet (relay_mention e ∷ relay_mentions d.j) k + freed relay_packet (relay_mention e).bearing.hears
-    (waits_for relay_packet (relay_mentions d.j) k p)
-    ≤ waits_in relay_packet (relay_mentions d.j) k + added relay_packet (relay_mention e).bearing.queues) moment
-    (shifts relay_packet laws (relay_mention e) (relay_mentions d.j) p peer touches)
+    subst (λ (k : ℕ). waits_in (packet_of d) (relay_mention e ∷ relay_mentions (journal_of d)) k + freed (packet_of d) (relay_mention e).bearing.hears
+    (waits_for (packet_of d) (relay_mentions (journal_of d)) k p)
+    ≤ waits_in (packet_of d) (relay_mentions (journal_of d)) k + added (packet_of d) (relay_mention e).bearing.queues) moment
+    (shifts (packet_of d) laws (relay_mention e) (relay_mentions (journal_of d)) p peer touches)
+
+-- WHOM IT TRUSTS
+
+-- after the record, as the journal's mentions have it
+pub trusts_after : (d : AtRelay) (e : Entry) (client : Ip6) → node_at d.lab.topology d.n ≡ Some (relay d.q) → IsNext d e
+    → is_some (known (relay_mention e ∷ relay_mentions (journal_of d)) (moment_of d) client).trusted ≡ true
+    → relay_trusts d.lab.topology (d.r ∷ d.H) d.n client ≡ true
+unfolding relay_trusts
+trusts_after d e client there next h =
+    ap (trusts_as (d.r ∷ d.H) d.n client) there
+    ∙ ap (λ (z : Journal). is_some (known (relay_mentions z.entries) (moment_of d) client).trusted) next
+    ∙ ap (λ (ms : List Mention). is_some (known ms (moment_of d) client).trusted) (one_more e (journal_of d)) ∙ h
+
+-- an entry about it gave trust, or it was trusted before
+pub begun : PeerLaws → (d : AtRelay) (e : Entry) (client : Ip6) (at : Ep) → node_at d.lab.topology d.n ≡ Some (relay d.q) → IsNext d e
+    → (e.moment ≡ moment_of d) × (is_peer client e.peer ≡ true) × ((relay_mention e).bearing.touches ≡ true) × ((relay_mention e).bearing.trusts ≡ Some at)
+    → relay_trusts d.lab.topology (d.r ∷ d.H) d.n client ≡ true
+begun laws d e client at there next is =
+    trusts_after d e client there next
+    (trusted.begins laws (relay_mention e) (relay_mentions (journal_of d)) client (moment_of d) at is.0 is.1 is.2 is.3)
+
+pub lasting : PeerLaws → (d : AtRelay) (e : Entry) (client : Ip6) → node_at d.lab.topology d.n ≡ Some (relay d.q) → IsNext d e → e.moment ≡ moment_of d
+    → is_some (known (relay_mentions (journal_of d)) (moment_of d) client).trusted ≡ true → relay_trusts d.lab.topology (d.r ∷ d.H) d.n client ≡ true
+lasting laws d e client there next moment h =
+    trusts_after d e client there next (trusted.lasts laws (relay_mention e) (relay_mentions (journal_of d)) client (moment_of d) moment h)

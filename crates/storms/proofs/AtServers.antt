@@ -38,7 +38,7 @@ use Rattle.topology.specs.Rows.{TopologyState}
 use Rattle.topology.specs.declared.node.Node.TheVariants.{Server as server}
 use Rattle.topology.specs.Topology.{own_ep}
 use Rattle.legal.specs.Settings.{server_settings}
-use Rattle.storms.specs.Weights.{is_some_server, packet_weight, datagram_weight, send_weight, output_weight}
+use Rattle.weights.specs.Weights.{is_some_server, packet_weight, datagram_weight, send_weight, output_weight}
 use Rattle.storms.proofs.Freights.{load, load_is, bubble_load, told_bubble_load, teredo_load, packet_under, bubble_weight}
 
 pub record RowLaws : Type 0 where

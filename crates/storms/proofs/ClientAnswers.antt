@@ -1,5 +1,5 @@
 -- What a client answers to a bubble through its server, and the test that it sends, weigh less than what they answer.
-use Rattle.std.proofs.Common.{◌≡◌, ◌≤◌, ◌<◌, ℕ, Bool, true, false, cond, [], ◌∷◌, map, Option, Some, None, refl, ap, subst, ◌∙◌, arith}
+use Rattle.std.proofs.Common.{◌≡◌, ◌≤◌, ◌<◌, ℕ, ◌+◌, Bool, true, false, cond, [], ◌∷◌, map, Option, Some, None, refl, ap, subst, ◌∙◌, arith}
 use Rattle.std.specs.Prelude.{option_to_list}
 use Rattle.std.proofs.lemmas.List.Sums.{sum_by-cons}
 use Rattle.byteorder.specs.Endian.{big_bytes}
@@ -25,21 +25,23 @@ use Rattle.client_rules.specs.Reception as reception
 use Rattle.client_rules.specs.Tries.{direct_bubble, test}
 use Rattle.client_rules.specs.Warrants.{IsIndirect, IsSuspect}
 use Rattle.server_core.specs.Conditions.{is_solicit}
-use Rattle.history.specs.Full.{Item}
+use Rattle.history.specs.Full.{udp}
 use Rattle.legal.specs.OwnSends.{AreOfSends}
-use Rattle.storms.specs.Weights.{is_some_server, entry_weight}
-use Rattle.storms.specs.Burden.{client_packet}
+use Rattle.weights.specs.Weights.{is_some_server}
+use Rattle.weights.specs.Trust.{is_trusted_for}
+use Rattle.weights.specs.Eased.{less}
+use Rattle.weights.specs.Burden.{client_packet}
 use Rattle.storms.proofs.PeersWait.{waits_for, freed, added}
 use Rattle.storms.proofs.Sent.{test_sent, answer_sent}
 use Rattle.storms.proofs.NewItems.{MayWeigh, sends_weigh}
 use Rattle.storms.proofs.ClientServers.{own_server, good_origin}
-use Rattle.storms.proofs.AtClient.{ClientLaws, AtClient, setup, seen_of, peer_of, own_of, came, LightAs, Light, IsAtClient, payload_is, native_is, own_made}
+use Rattle.storms.proofs.EasedWeights.{eased_most}
+use Rattle.storms.proofs.ClientTests.{trusted_test}
+use Rattle.storms.proofs.AtClient.{ClientLaws, AtClient, weigh, setup, seen_of, peer_of, own_of, came, LightAs, Light}
+use Rattle.storms.proofs.AtClient.{IsAtClient, payload_is, native_is, own_made}
 use Rattle.storms.proofs.AtClient.{peer_made, IsTouch, shifted, lasting}
 
 module _ (laws : ClientLaws) (d : AtClient) (g : IsAtClient d) where
-  abbrev weigh : Item → ℕ
-  weigh = entry_weight d.lab.topology
-
   abbrev p : Ip6
   p = peer_of d
 
@@ -51,7 +53,7 @@ module _ (laws : ClientLaws) (d : AtClient) (g : IsAtClient d) where
   -- an entry with one send, which weighs less than the datagram and frees nothing
   pub record SendsOne (e : Entry) (s : Send) (k : ℕ) : Type 0 where
     pub sends : e.step.sends ≡ s ∷ []
-    pub may : MayWeigh weigh (λ (z : Send). k) s
+    pub may : MayWeigh (weigh d) (λ (z : Send). k) s
     pub less : k < d.heavy
     pub touch : IsTouch d e
     pub hears : (mention e).bearing.hears ≡ false
@@ -59,7 +61,7 @@ module _ (laws : ClientLaws) (d : AtClient) (g : IsAtClient d) where
 
   one_send : (e : Entry) (s : Send) (k : ℕ) → is_payload d.x ≡ true → SendsOne e s k → LightAs d e
   one_send e s k payload one made are fresh =
-      let new = sends_weigh weigh (λ (z : Send). k) made (s ∷ []) (subst (AreOfSends made) one.sends are) fresh (one.may, tt) in
+      let new = sends_weigh (weigh d) (λ (z : Send). k) made (s ∷ []) (subst (AreOfSends made) one.sends are) fresh (one.may, tt) in
       let single = sum_by-cons (λ (z : Send). k) s [] in
       let less = shifted laws.peers d e payload one.touch in
       let all = ap (λ (b : Bool). freed client_packet b (waits_for client_packet (mentions d.j.entries) d.m p)) one.hears in
@@ -87,8 +89,11 @@ module _ (laws : ClientLaws) (d : AtClient) (g : IsAtClient d) where
       let e : Entry = came d fate.Indirect in
       one_send e (direct_bubble own p to) (cond (is_some_server d.lab.topology to) 2 1) (payload_is d only.mine) (record {
         sends = ap (λ (z : Option Ep). map (direct_bubble own p) (option_to_list z)) o.1;
-        may = λ from item. answer_sent laws.rows d.lab.topology from to (bubble_bytes own p)
-            (bubble_of own p) reads.payload reads.bytes item.source reads.bubble o.2;
+        may = λ from item.
+            let plain = answer_sent laws.rows d.lab.topology from to (bubble_bytes own p) (bubble_of own p) reads.payload reads.bytes item.source reads.bubble
+            o.2 in
+            let most = eased_most d.ease d.lab.topology d.after (udp from to (bubble_bytes own p)) in
+            omega (arith, plain, most);
         less = one_less (is_some_server d.lab.topology to) (g.indirect only to o.1);
         touch = (refl, refl, refl, refl);
         hears = refl;
@@ -110,7 +115,14 @@ module _ (laws : ClientLaws) (d : AtClient) (g : IsAtClient d) where
   unfolding test
   test_is = refl
 
-  test_may : (full : Bool) → IsSuspect full (seen_of d) → MayWeigh weigh (λ (z : Send). 7) (send to_server (packet_bytes request))
+  -- the host's relay trusts the client
+  abbrev knows : Bool
+  knows = is_trusted_for d.lab.topology d.after p own
+
+  abbrev test_weight : ℕ
+  test_weight = less d.ease.amount knows 7
+
+  test_may : (full : Bool) → IsSuspect full (seen_of d) → MayWeigh (weigh d) (λ (z : Send). test_weight) (send to_server (packet_bytes request))
   test_may full only from item =
       let mine = only.direct.mine in
       let c_is = laws.carried BUBBLE_HOP own p message (record {
@@ -122,16 +134,37 @@ module _ (laws : ClientLaws) (d : AtClient) (g : IsAtClient d) where
         short = omega arith;
       }) in
       let reads = laws.payload (packet_bytes request) request item.bytes item.short (laws.back request c_is.packet).read in
-      test_sent laws.rows d.lab.topology from to_server (packet_bytes request) request reads item.bytes item.source g.served.row
-      (own_server laws.apart d.lab.topology d.c g.rules g.served) (native_is d full only) (ap is_solicit c_is.message)
+      let sent = test_sent laws.rows d.lab.topology from to_server (packet_bytes request) request reads item.bytes item.source g.served.row
+      (own_server laws.apart d.lab.topology d.c g.rules g.served) (native_is d full only) (ap is_solicit c_is.message) in
+      let most = eased_most d.ease d.lab.topology d.after (udp from to_server (packet_bytes request)) in
+      by (omega (arith, sent, most)) knows refl (λ trusted. trusted_test d.ease laws.rows d.lab.topology d.after from to_server (packet_bytes request) (record {
+        request = request;
+        row = g.served.row;
+        reads = reads;
+        there = own_server laws.apart d.lab.topology d.c g.rules g.served;
+        native = native_is d full only;
+        plain = ap is_solicit c_is.message;
+        knows = trusted;
+      }))
+    where
+      by : weigh d (udp from to_server (packet_bytes request)) ≤ 7 → (b : Bool) → knows ≡ b
+          → (knows ≡ true → weigh d (udp from to_server (packet_bytes request)) + d.ease.amount ≤ 7)
+          → weigh d (udp from to_server (packet_bytes request)) ≤ less d.ease.amount b 7
+      by plain false e eased = plain
+      by plain true e eased = let most = eased e in let few = d.ease.few in omega (arith, most, few)
+
+  -- it weighs one less than what draws it
+  lighter : (b : Bool) → less d.ease.amount b 8 ≤ d.heavy → less d.ease.amount b 7 < d.heavy
+  lighter true h = let few = d.ease.few in omega (arith, h, few)
+  lighter false h = omega (arith, h)
 
   pub tests : (full : Bool) (e : Entry) → IsSuspect full (seen_of d) → e.step.sends ≡ test (setup d) own p (nonce_from d.w) ∷ [] → IsTouch d e
       → (mention e).bearing.hears ≡ false → (mention e).bearing.queues ≡ None → LightAs d e
   tests full e only sends touch hears queues =
-      one_send e (send to_server (packet_bytes request)) 7 (payload_is d only.direct.mine) (record {
+      one_send e (send to_server (packet_bytes request)) test_weight (payload_is d only.direct.mine) (record {
         sends = sends ∙ ap (λ (z : Send). z ∷ []) test_is;
         may = test_may full only;
-        less = g.suspect full only;
+        less = lighter knows (g.suspect full only);
         touch = touch;
         hears = hears;
         queues = queues;

@@ -11,37 +11,36 @@ use Rattle.client_rules.specs.Bearings.{mention, mentions}
 use Rattle.client_rules.specs.Epochs.{IsOwnTo}
 use Rattle.client_rules.specs.Standing.{known_in}
 use Rattle.client_rules.specs.Warrants.{IsForClient}
-use Rattle.history.specs.Full.{Item}
+use Rattle.history.specs.Full.{udp}
 use Rattle.legal.specs.OwnSends.{AreOfSends}
-use Rattle.storms.specs.Weights.{entry_weight}
-use Rattle.storms.specs.Burden.{client_packet}
+use Rattle.weights.specs.Burden.{client_packet}
 use Rattle.storms.proofs.PeersWait.{waits_for, freed, added}
 use Rattle.storms.proofs.Addresses.{own_is_teredo}
 use Rattle.storms.proofs.Sent.{teredo_sent}
 use Rattle.storms.proofs.NewItems.{MayWeigh, sends_weigh}
 use Rattle.storms.proofs.Relays.{packet_read, released_weigh, released_each}
-use Rattle.storms.proofs.AtClient.{ClientLaws, AtClient, setup, stands, seen_of, peer_of, LightAs, IsAtClient, payload_is, source_is, known_is, IsTouch}
+use Rattle.storms.proofs.EasedWeights.{eased_most}
+use Rattle.storms.proofs.AtClient.{ClientLaws, AtClient, weigh, setup, stands, seen_of, peer_of, LightAs, IsAtClient, payload_is, source_is, known_is, IsTouch}
 use Rattle.storms.proofs.AtClient.{shifted, lasting}
 
 module _ (laws : ClientLaws) (d : AtClient) (g : IsAtClient d) where
-  abbrev weigh : Item → ℕ
-  weigh = entry_weight d.lab.topology
-
   -- what waits for the peer
   abbrev waiting : List (List ℕ)
   waiting = (known_in (stands d)).waiting
 
   abbrev PacketWeighs : Send → Type 0
-  PacketWeighs = MayWeigh weigh (λ (z : Send). client_packet z.bytes)
+  PacketWeighs = MayWeigh (weigh d) (λ (z : Send). client_packet z.bytes)
 
   abbrev IsWaiting : List ℕ → Type 0
   IsWaiting = IsOwnTo (qualification (setup d) d.j).address (Some (peer_of d))
 
   packet_may : (y : List ℕ) → IsWaiting y → PacketWeighs (send d.src y)
   packet_may y mine from made =
-      teredo_sent laws.rows d.lab.topology from d.src y (fields_in y)
+      let plain = teredo_sent laws.rows d.lab.topology from d.src y (fields_in y)
       (laws.payload y (fields_in y) made.bytes made.short (packet_read y mine.well_formed)) made.bytes made.source
-      (own_is_teredo laws.own (setup d) d.j (fields_in y).src mine.source) mine.no_bubble
+      (own_is_teredo laws.own (setup d) d.j (fields_in y).src mine.source) mine.no_bubble in
+      let most = eased_most d.ease d.lab.topology d.after (udp from d.src y) in
+      omega (arith, plain, most)
 
   released : IsForClient (seen_of d) → AllByRecursion PacketWeighs (releases d.src waiting)
   released h = released_each PacketWeighs IsWaiting d.src waiting packet_may
@@ -51,7 +50,8 @@ module _ (laws : ClientLaws) (d : AtClient) (g : IsAtClient d) where
   pub releasing : (e : Entry) → IsForClient (seen_of d) → e.step.sends ≡ releases d.src waiting → IsTouch d e
       → (mention e).bearing.hears ≡ true → (mention e).bearing.queues ≡ None → LightAs d e
   releasing e h sends touch hears queues made are fresh =
-      let new = sends_weigh weigh (λ (z : Send). client_packet z.bytes) made (releases d.src waiting) (subst (AreOfSends made) sends are) fresh (released h) in
+      let new = sends_weigh (weigh d) (λ (z : Send). client_packet z.bytes) made (releases d.src waiting) (subst (AreOfSends made) sends are) fresh
+      (released h) in
       let same = released_weigh client_packet d.src waiting in
       let waited = ap (sum_by client_packet) (known_is d (source_is d (payload_is d h))) in
       let less = shifted laws.peers d e (payload_is d h) touch in

@@ -17,7 +17,7 @@ use Rattle.topology.specs.Rules.{IsTopology}
 use Rattle.topology.specs.NodeRules.{AddressesAreApart}
 use Rattle.legal.specs.Settings.{client_settings}
 use Rattle.settled.specs.ItsNodes.{HasServer}
-use Rattle.storms.specs.Weights.{is_server_at, is_some_server}
+use Rattle.weights.specs.Weights.{is_server_at, is_some_server}
 use Rattle.storms.proofs.Places.{first_at, first_is, any_there}
 
 -- what comes from it is from a server

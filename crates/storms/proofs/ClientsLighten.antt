@@ -11,7 +11,7 @@ use Rattle.client_rules.specs.Journals.{client_in}
 use Rattle.client_rules.specs.Reception as reception
 use Rattle.teredo_node.specs.Rows.{first_line}
 use Rattle.teredo_node.proofs.FirstLines.{Each, skip}
-use Rattle.storms.proofs.AtClient.{ClientLaws, AtClient, setup, stands, seen_of, heard_of, came, LightAs, Light, IsAtClient, IsCalm, calm}
+use Rattle.storms.proofs.AtClient.{ClientLaws, AtClient, weigh, setup, stands, seen_of, heard_of, came, LightAs, Light, IsAtClient, IsCalm, calm}
 use Rattle.storms.proofs.ClientReleases.{releasing}
 use Rattle.storms.proofs.ClientAnswers.{indirect, tests}
 
@@ -19,7 +19,7 @@ module _ (laws : ClientLaws) (d : AtClient) (g : IsAtClient d) where
   -- EACH FATE
 
   quietly : (f : Fate) → IsCalm (came d f) → Light d f
-  quietly f is only = calm laws.peers d.lab.topology d.m d.j (came d f) d.heavy g.least is
+  quietly f is only = calm laws.peers (weigh d) d.m d.j (came d f) d.heavy g.least is
 
   rule1 : Light d fate.Rule1
   rule1 only = releasing laws d g (came d fate.Rule1) only.direct.mine refl (refl, refl, refl, refl) refl refl

@@ -1,10 +1,11 @@
--- A delivery to a client lightens.
-use Rattle.std.proofs.Common.{◌≡◌, ◌≤◌, ℕ, Bool, true, cond, List, ◌∷◌, map, Option, Some, None, refl, sym, ap, subst, ◌∙◌, arith}
-use Rattle.std.specs.Prelude.{sum, IfSome}
+-- A delivery to a client eases.
+use Rattle.std.proofs.Common.{◌≡◌, ◌≤◌, ℕ, ◌==◌, ◌&&◌, ◌||◌, Bool, true, false, cond, List, ◌∷◌, Option, Some, None, refl, sym, ap, subst, ◌∙◌, arith}
+use Rattle.std.specs.Prelude.{sum_by, IfSome}
 use Rattle.std.specs.List.{list_any}
-use Rattle.std.proofs.lemmas.List.Sums.{sum-map}
+use Rattle.std.proofs.lemmas.Bool.{false≢true, eqb-true}
 use Rattle.td_base.specs.Ip4.{same_ip, same_ip-self}
-use Rattle.td_base.specs.Ip6.{IsIp6}
+use Rattle.td_base.specs.Ip6.{IsIp6, same_ip6-true}
+use Rattle.ipv6_packet.specs.Packets.{Fields}
 use Rattle.td_base.specs.declared.ipv4.Ip4.{Ip4}
 use Rattle.td_base.specs.declared.ipv6.Ip6.{Ip6}
 use Rattle.td_base.specs.declared.endpoint.Ep.{Ep}
@@ -21,130 +22,192 @@ use Rattle.client_rules.specs.MadeSends.{IsMadeStanding}
 use Rattle.client_rules.specs.Reception as reception
 use Rattle.client_rules.specs.Warrants.{IsIndirect, IsSuspect}
 use Rattle.topology.specs.declared.client_node.ClientNode.{ClientNode}
+use Rattle.topology.specs.Rows.{TopologyState}
+use Rattle.topology.specs.declared.node.Node.{Node}
 use Rattle.topology.specs.declared.node.Node.TheVariants.{Nat as nat, Client as client}
 use Rattle.topology.specs.Topology.{nodes, is_at}
-use Rattle.history.specs.Full.{Item, udp, six, Full}
-use Rattle.legal.specs.Lab.{Lab}
+use Rattle.history.specs.Full.{Item, udp, six}
 use Rattle.legal.specs.Settings.{client_settings}
 use Rattle.legal.specs.Past.{journal, words}
+use Rattle.legal.specs.Deliveries.{done_with}
 use Rattle.legal.proofs.MadeInputs.{entry_input, client_made}
 use Rattle.settled.specs.ItsNodes.{HasServer}
-use Rattle.storms.specs.Weights.{is_nat_at, is_some_server, datagram_weight, weight_at, entry_weight}
-use Rattle.storms.specs.Burden.{waiting_packets, client_packet, waits_at}
-use Rattle.storms.proofs.Weighed.{weight_least, datagram_least}
-use Rattle.storms.proofs.PeersWait.{PeerLaws, waits_in, waiting_is}
+use Rattle.weights.specs.Weights.{is_nat_at, is_some_server, datagram_weight, weight_at}
+use Rattle.weights.specs.Burden.{waiting_packets, client_packet}
+use Rattle.weights.specs.Trust.{is_trusted_for}
+use Rattle.weights.specs.Eased.{eases_datagram, eases_at, is_eased, less, waiting_at}
+use Rattle.storms.proofs.Weighed.{datagram_most}
+use Rattle.storms.proofs.EasedWeights.{Ease, eased_is, eased_least, known_lasts}
+use Rattle.storms.proofs.PeersWait.{waits_in, waiting_is}
 use Rattle.storms.proofs.Places.{first_is, any_there}
 use Rattle.storms.proofs.Freights.{foreign_weight, indirect_weight}
-use Rattle.storms.proofs.Reached.{answer_of, IsReached, NodeLightens}
+use Rattle.storms.proofs.Reached.{Weighing, topology_of, after, Comes, weigh_before, weigh_after, NodeEases}
 use Rattle.storms.proofs.ClientServers.{from_server_is}
-use Rattle.storms.proofs.AtClient.{ClientLaws, mentions_after, calm, IsLight, AtClient, seen_of, IsAtClient}
+use Rattle.storms.proofs.AtClient.{ClientLaws, mentions_after, calm, IsLight, AtClient, seen_of, peer_of, own_of, IsAtClient}
 use Rattle.storms.proofs.ClientsLighten.{datagram_lightens}
 
 -- a datagram that is let in to a client, after a history
-abbrev pub given : Lab → List Full → Full → ℕ → ClientNode → Ep → Ep → List ℕ → AtClient
-given lab H r n c src dst x = record {
-  lab = lab;
+abbrev given : Weighing → ℕ → ClientNode → Ep → Ep → List ℕ → AtClient
+given s n c src dst x = record {
+  ease = s.ease;
+  after = s.full ∷ s.before;
+  lab = s.lab;
   c = c;
-  m = r.moment;
-  j = journal n H;
-  w = words lab n H;
+  m = s.full.moment;
+  j = journal n s.before;
+  w = words s.lab n s.before;
   src = src;
   x = x;
-  heavy = datagram_weight lab.topology src dst x;
+  heavy = weigh_before s (udp src dst x);
 }
 
 -- THE RECORD
-
--- what waits in the client, as the journal's mentions have it
-waits_as : PeerLaws → (j : List Entry) (m : ℕ) → sum (map client_packet (waiting_packets (mentions j) m)) ≡ waits_in client_packet (mentions j) m
-waits_as laws j m = sum-map client_packet (waiting_packets (mentions j) m) ∙ waiting_is client_packet laws (mentions j) m
 
 -- whom a datagram is about
 peer_came : (s : Settings) (j : Journal) (m : ℕ) (from : Ep) (x : List ℕ) (w : Words) → (client_in s j m from x w).peer ≡ source_in x
 unfolding client_in
 peer_came s j m from x w = refl
 
-module _ (laws : ClientLaws) (lab : Lab) (H : List Full) (r : Full) (n : ℕ) (c : ClientNode) where
-  abbrev pub did : Item → Entry
-  did x = answer_of lab H r n (client c) x
+-- a packet from outside Teredo is eased where the host's relay trusts the client before it
+less_by : (ease : ℕ) (b c : Bool) → (b ≡ true → c ≡ true) → less ease c 8 ≤ less ease b 8
+less_by ease true true f = omega arith
+less_by ease true false f = absurd (false≢true (f refl))
+less_by ease false true f = omega arith
+less_by ease false false f = omega arith
 
-  pub waits_after : (x : Item) → IsReached lab H r n (client c) x
-      → sum (waits_at (r ∷ H) n (client c)) ≡ waits_in client_packet (mentions_after (did x) (mentions (journal n H).entries)) r.moment
+-- what is eased weighs more than a bubble that comes through the server
+three_left : (z : Ease) (k : Bool) (w least : ℕ) → least ≤ 3 → least ≤ w → least ≤ less z.amount ((w == 7) || ((w == 8) && k)) w
+three_left z k w least small under = by (w == 7) (w == 8) refl refl where
+  by : (b c : Bool) → (w == 7) ≡ b → (w == 8) ≡ c → least ≤ less z.amount (b || (c && k)) w
+  by true c is e =
+      let seven = eqb-true w 7 is in
+      let few = z.few in
+      omega (arith, seven, few, small)
+  by false false is e = under
+  by false true is e = eased k where
+    eased : (b : Bool) → least ≤ less z.amount b w
+    eased true =
+        let eight = eqb-true w 8 e in
+        let few = z.few in
+        omega (arith, eight, few, small)
+    eased false = under
+
+module _ (laws : ClientLaws) (s : Weighing) (n : ℕ) (c : ClientNode) where
+  abbrev t : TopologyState
+  t = topology_of s
+
+  abbrev did : Item → Entry
+  did x = done_with s.lab s.before s.full n (client c) x
+
+  -- what waits in the client, as the journal's mentions have it
+  waits_after : (x : Item) → Comes s n (client c) x
+      → waiting_at s.ease.amount t (after s) n (client c)
+      ≡ waits_in client_packet (mentions_after (did x) (mentions (journal n s.before).entries)) s.full.moment
   waits_after x h =
-      ap (λ (z : Journal). sum (map client_packet (waiting_packets (mentions z.entries) r.moment))) h.later
-      ∙ waits_as laws.peers (did x ∷ (journal n H).entries) r.moment
-      ∙ ap (λ (z : List Mention). waits_in client_packet z r.moment) (laws.next (did x) (journal n H).entries)
+      ap (λ (j : Journal). sum_by client_packet (waiting_packets (mentions j.entries) s.full.moment)) h.act.later
+      ∙ waiting_is client_packet laws.peers (mentions (did x ∷ (journal n s.before).entries)) s.full.moment
+      ∙ ap (λ (ms : List Mention). waits_in client_packet ms s.full.moment) (laws.next (did x) (journal n s.before).entries)
 
-  pub waits_before : (x : Item) → IsReached lab H r n (client c) x
-      → sum (waits_at H n (client c)) ≡ waits_in client_packet (mentions (journal n H).entries) r.moment
-  waits_before x h = ap (λ (k : ℕ). sum (map client_packet (waiting_packets (mentions (journal n H).entries) k))) (sym h.moment)
-      ∙ waits_as laws.peers (journal n H).entries r.moment
+  waits_before : (x : Item) → Comes s n (client c) x
+      → waiting_at s.ease.amount t s.before n (client c) ≡ waits_in client_packet (mentions (journal n s.before).entries) s.full.moment
+  waits_before x h = ap (λ (k : ℕ). sum_by client_packet (waiting_packets (mentions (journal n s.before).entries) k)) (sym h.moment)
+      ∙ waiting_is client_packet laws.peers (mentions (journal n s.before).entries) s.full.moment
 
-  light : (x : Item) → IsReached lab H r n (client c) x → (heavy : ℕ) → heavy ≤ entry_weight lab.topology x
-      → IsLight lab.topology r.moment (journal n H) (did x) heavy → NodeLightens lab H r n (client c) x
-  light x h heavy weighs less =
-      let one = less r.made h.own h.fresh in
+  light : (x : Item) → Comes s n (client c) x → IsLight (weigh_after s) s.full.moment (journal n s.before) (did x) (weigh_before s x)
+      → NodeEases s n (client c) x
+  light x h less_than =
+      let one = less_than s.full.made h.own (h.fresh s.is) in
       let new = waits_after x h in
       let old = waits_before x h in
-      omega (arith, one, new, old, weighs)
+      omega (arith, one, new, old)
 
   -- A DATAGRAM
 
-  module _ (src dst : Ep) (x : List ℕ) (h : IsReached lab H r n (client c) (udp src dst x)) where
-    abbrev pub d : AtClient
-    d = given lab H r n c src dst x
+  module _ (src dst : Ep) (x : List ℕ) (h : Comes s n (client c) (udp src dst x)) where
+    abbrev d : AtClient
+    d = given s n c src dst x
 
-    served : HasServer lab.topology c
-    served = laws.there.server_of lab.topology n c h.is h.there
+    abbrev p : Fields
+    p = (value_in x).packet
+
+    served : HasServer t c
+    served = laws.there.server_of t n c s.is h.act.there
 
     -- it goes to a NAT
-    pub is_there : is_at dst (nat h.goes.row) ≡ true
+    is_there : is_at dst (nat h.goes.row) ≡ true
     is_there = ap (λ (ip : Ip4). same_ip ip h.goes.row.external) h.goes.external ∙ same_ip-self h.goes.row.external
 
-    to_nat : list_any (is_nat_at dst) (nodes lab.topology) ≡ true
-    to_nat = any_there (is_nat_at dst) (nodes lab.topology) h.goes.outer (nat h.goes.row) h.goes.there is_there
+    to_nat : list_any (is_nat_at dst) (nodes t) ≡ true
+    to_nat = any_there (is_nat_at dst) (nodes t) h.goes.outer (nat h.goes.row) h.goes.there is_there
 
     -- so it weighs this
-    pub weighs_so : entry_weight lab.topology (udp src dst x) ≡ datagram_weight lab.topology src dst x
-    weighs_so = ap (weight_at lab.topology src dst x) (first_is laws.apart lab.topology dst h.goes.outer (nat h.goes.row) h.is h.goes.there is_there)
+    weighs_so : d.heavy ≡ less s.ease.amount (eases_datagram t s.before p (datagram_weight t src dst x)) (datagram_weight t src dst x)
+    weighs_so = eased_is s.ease t s.before (udp src dst x) (is_eased t s.before (udp src dst x)) refl
+        ∙ ap (λ (o : Option Node). less s.ease.amount (eases_at t s.before src dst x o) (weight_at t src dst x o))
+        (first_is laws.apart t dst h.goes.outer (nat h.goes.row) s.is h.goes.there is_there)
 
-    indirect_by : IsIndirect (seen_of d) → (o : Ep) → origin_in (value_in x).lead ≡ Some o → cond (is_some_server lab.topology o) 3 2 ≤ d.heavy
+    -- a bubble that comes through the server
+    small : (b : Bool) → cond b 3 2 ≤ 3
+    small true = omega arith
+    small false = omega arith
+
+    indirect_by : IsIndirect (seen_of d) → (o : Ep) → origin_in (value_in x).lead ≡ Some o → cond (is_some_server t o) 3 2 ≤ d.heavy
     unfolding reception.seen
     indirect_by only o told =
-        indirect_weight lab.topology src dst x o to_nat only.mine.sound.payload (from_server_is lab.topology c src served only.server) only.bubble told
+        let most = indirect_weight t src dst x o to_nat only.mine.sound.payload (from_server_is t c src served only.server) only.bubble told in
+        let left = three_left s.ease (is_trusted_for t s.before p.src p.dst) (datagram_weight t src dst x) (cond (is_some_server t o) 3 2)
+        (small (is_some_server t o)) most in
+        let so = weighs_so in
+        omega (arith, left, so)
 
-    suspect_by : (full : Bool) → IsSuspect full (seen_of d) → 8 ≤ d.heavy
+    -- a packet from outside Teredo, which is tested
+    suspect_weighs : (full : Bool) → IsSuspect full (seen_of d) → datagram_weight t src dst x ≡ 8
     unfolding reception.seen
-    suspect_by full only = foreign_weight lab.topology src dst x to_nat only.direct.mine.sound.payload only.global only.native only.no_bubble only.no_reply
+    suspect_weighs full only =
+        let least = foreign_weight t src dst x to_nat only.direct.mine.sound.payload only.global only.native only.no_bubble only.no_reply in
+        let most = datagram_most t src dst x in
+        omega (arith, least, most)
+
+    mine_is : (full : Bool) → IsSuspect full (seen_of d) → p.dst ≡ own_of d
+    unfolding reception.seen
+    mine_is full only = same_ip6-true p.dst (own_of d) only.direct.mine.mine
+
+    suspect_by : (full : Bool) → IsSuspect full (seen_of d) → less s.ease.amount (is_trusted_for t (after s) (peer_of d) (own_of d)) 8 ≤ d.heavy
+    suspect_by full only =
+        let eight = ap (λ (w : ℕ). less s.ease.amount (eases_datagram t s.before p w) w) (suspect_weighs full only) in
+        let most = less_by s.ease.amount (is_trusted_for t s.before p.src p.dst) (is_trusted_for t (after s) (peer_of d) (own_of d)) (λ trusted.
+        ap (is_trusted_for t (after s) p.src) (sym (mine_is full only)) ∙ known_lasts t s.before (after s) s.lasts p.src p.dst trusted) in
+        let so = weighs_so in
+        omega (arith, eight, most, so)
 
     -- what the client has is made of bytes
-    made_standing : IsMadeStanding (client_settings lab.topology c) (journal n H) (did (udp src dst x))
+    made_standing : IsMadeStanding (client_settings t c) (journal n s.before) (did (udp src dst x))
     made_standing =
-        let after = subst (IsJournal (client_settings lab.topology c)) h.later (laws.journals lab (r ∷ H) n c h.grown h.there).journal in
-        let input = subst IsMadeInput (sym (entry_input lab H r.moment n dst (arrived src x) (client c))) (h.came.source, h.came.bytes) in
-        laws.standing (client_settings lab.topology c) (journal n H) (did (udp src dst x)) after (client_made laws.rules lab.topology n c h.is h.there) input
-        ((laws.histories lab H h.is h.grown.1).journals n)
+        let next = subst (IsJournal (client_settings t c)) h.act.later (laws.journals s.lab (after s) n c s.grown h.act.there).journal in
+        let input = subst IsMadeInput (sym (entry_input s.lab s.before s.full.moment n dst (arrived src x) (client c))) ((h.came s.is).source, (h.came s.is).bytes) in
+        laws.standing (client_settings t c) (journal n s.before) (did (udp src dst x)) next (client_made laws.rules t n c s.is h.act.there) input
+        ((laws.histories s.lab s.before s.is s.grown.1).journals n)
 
-    pub is_given : IsAtClient d
+    is_given : IsAtClient d
     is_given = record {
-      least = datagram_least lab.topology src dst x;
+      least = eased_least s.ease t s.before (udp src dst x);
       indirect = indirect_by;
       suspect = suspect_by;
-      is_j = (laws.journals lab H n c h.grown.1 h.there).journal;
+      is_j = (laws.journals s.lab s.before n c s.grown.1 h.act.there).journal;
       made_own = made_standing.address;
-      made_peer = subst (λ (o : Option Ip6). IfSome o IsIp6)
-          (peer_came (client_settings lab.topology c) (journal n H) r.moment src x (words lab n H)) made_standing.peer;
-      rules = h.is;
+      made_peer = subst (λ (o : Option Ip6). IfSome o IsIp6) (peer_came (client_settings t c) (journal n s.before) s.full.moment src x (words s.lab n s.before))
+          made_standing.peer;
+      rules = s.is;
       served = served;
     }
 
-    reached : NodeLightens lab H r n (client c) (udp src dst x)
-    reached = light (udp src dst x) h d.heavy (omega (arith, weighs_so)) (datagram_lightens laws d is_given)
+    reached : NodeEases s n (client c) (udp src dst x)
+    reached = light (udp src dst x) h (datagram_lightens laws d is_given)
 
-  pub client_lightens : (x : Item) → IsReached lab H r n (client c) x → NodeLightens lab H r n (client c) x
-  client_lightens (six None bytes) h = absurd h.goes
-  client_lightens (six (Some k) bytes) h =
+  pub client_eases : (x : Item) → Comes s n (client c) x → NodeEases s n (client c) x
+  client_eases (six None bytes) h = absurd h.goes
+  client_eases (six (Some k) bytes) h =
       let x : Item = six (Some k) bytes in
-      light x h (entry_weight lab.topology x) (omega arith)
-      (calm laws.peers lab.topology r.moment (journal n H) (did x) (entry_weight lab.topology x) (weight_least lab.topology x) (refl, refl, refl, refl))
-  client_lightens (udp src dst bytes) h = reached src dst bytes h
+      light x h
+      (calm laws.peers (weigh_after s) s.full.moment (journal n s.before) (did x) (weigh_before s x) (eased_least s.ease t s.before x) (refl, refl, refl, refl))
+  client_eases (udp src dst bytes) h = reached src dst bytes h

@@ -1,35 +1,43 @@
 -- Deliveries end, since each takes away more than it brings.
-use Rattle.std.proofs.Common.{◌≤◌, ◌+◌, List, [], ◌∷◌, ◌++◌, length, subst, arith}
+use Rattle.std.proofs.Common.{◌≤◌, ◌<◌, ◌+◌, ℕ, List, [], ◌∷◌, ◌++◌, length, subst, arith}
 use Rattle.std.specs.List.{AllByRecursion}
 use Rattle.events.specs.declared.event.Event.{Event}
 use Rattle.events.specs.Events.{IsEvent}
-use Rattle.topology.specs.Rules.{IsTopology}
 use Rattle.history.specs.Full.{Full}
 use Rattle.legal.specs.Lab.{Lab, lab_of}
 use Rattle.legal.specs.Legal.{Begun, Grown}
 use Rattle.settled.proofs.Earlier.{earlier}
-use Rattle.storms.specs.Burden.{burden}
+use Rattle.weights.specs.Burden.{burden}
 use Rattle.storms.specs.Loads.{BurdenIsBounded}
-use Rattle.storms.specs.Deliveries.{AreNew, GoesOnSettling, EachLightens, EachStormEnds, SettleDeliversNew, EachSettlingEnds}
+use Rattle.weights.specs.Eased.{eased_burden}
+use Rattle.storms.specs.Follow.{EachEases, FewFollow}
+use Rattle.storms.specs.Deliveries.{DeliversNew, AreNew, GoesOnSettling, EachLightens, EachStormEnds, SettleDeliversNew, EachSettlingEnds}
 use Rattle.storms.specs.Throughout.{HistoriesHaveNoStorm, ScenariosHaveNoStorm}
 
-lighter : EachLightens → (lab : Lab) (H later : List Full) → IsTopology lab.topology → Grown lab (later ++ H) → AreNew H later
-    → length later + burden lab.topology (later ++ H) ≤ burden lab.topology H
-lighter law lab H [] is g new = omega arith
-lighter law lab H (r ∷ later) is g new =
-    let rest = lighter law lab H later is g.1 new.1 in
-    let step = law lab (later ++ H) r is g new.0 in
+-- what falls with each of some deliveries is no less than they are many
+falling : (burden : List Full → ℕ) (lab : Lab) (H later : List Full)
+    → ((G : List Full) (r : Full) → Grown lab (r ∷ G) → DeliversNew G r → burden (r ∷ G) < burden G)
+    → Grown lab (later ++ H) → AreNew H later → length later + burden (later ++ H) ≤ burden H
+falling burden lab H [] falls g new = omega arith
+falling burden lab H (r ∷ later) falls g new =
+    let rest = falling burden lab H later falls g.1 new.1 in
+    let step = falls (later ++ H) r g new.0 in
     omega (arith, rest, step)
 
 pub storms_end : BurdenIsBounded → EachLightens → EachStormEnds
 storms_end most law lab H later is g new =
-    let fell = lighter law lab H later is g new in
+    let fell = falling (burden lab.topology) lab H later (λ G r grown one. law lab G r is grown one) g new in
     let bound = most lab.topology H in
     omega (arith, fell, bound)
 
+pub few_follow : EachEases → FewFollow
+few_follow law lab H later is g new =
+    let fell = falling (eased_burden lab.topology) lab H later (λ G r grown one. law 3 lab G r (omega arith) is grown one) g new in
+    omega (arith, fell)
+
 -- THE EVENT THAT DELIVERS ALL
 
-are_new : SettleDeliversNew → (lab : Lab) (H later : List Full) → Grown lab (later ++ H) → AllByRecursion GoesOnSettling later → AreNew H later
+pub are_new : SettleDeliversNew → (lab : Lab) (H later : List Full) → Grown lab (later ++ H) → AllByRecursion GoesOnSettling later → AreNew H later
 are_new law lab H [] g on = tt
 are_new law lab H (r ∷ later) g on = (law lab (later ++ H) r g on.0, are_new law lab H later g.1 on.1)
 

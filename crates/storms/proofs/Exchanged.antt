@@ -1,6 +1,6 @@
 -- What is undelivered after a delivery.
 use Rattle.std.proofs.Common.{◌≡◌, ◌≤◌, ◌<◌, ℕ, zero, suc, ◌+◌, ◌==◌, ◌||◌, Bool, true, false, cond, List, [], ◌∷◌, ◌++◌, length, Option, Some, None, refl, sym}
-use Rattle.std.proofs.Common.{ap, subst, ◌∙◌, arith}
+use Rattle.std.proofs.Common.{ap, ◌∙◌, arith}
 use Rattle.std.specs.Prelude.{sum_by, slice_get, unwrap_or, is_some}
 use Rattle.std.proofs.lemmas.Bool.{false≢true}
 use Rattle.std.proofs.lemmas.Bool.Decides.{nat_tests}
@@ -10,42 +10,16 @@ use Rattle.std.proofs.lemmas.Option.{slice_get_within}
 use Rattle.history.specs.Full.{Item, Full, wire, items_of}
 use Rattle.legal.specs.Lab.{Lab}
 use Rattle.legal.specs.Past.{is_number, was_delivered}
-use Rattle.legal.specs.Kinds.{Kind, quiet, put, copied, ticks, handed, reached, Quiet, passed, shut, strayed, missing, none_left, settled, uncopied, hosted}
-use Rattle.legal.specs.Kinds.{restarted, forgot, faulted}
-use Rattle.legal.specs.Legal.{Follows, Grown}
-use Rattle.storms.specs.Burden.{undelivered_from, undelivered_items}
+use Rattle.legal.specs.Legal.{Grown}
+use Rattle.legal.specs.Deliveries.{Delivery, to_node, to_nobody, EachDelivery}
+use Rattle.weights.specs.Burden.{undelivered_from, undelivered_items}
 use Rattle.storms.specs.Loads.{DeliveryExchanges}
 
 -- WHAT IS DELIVERED IS THERE
 
-absent : {A : Type 0} (o : Option ℕ) (k : ℕ) → o ≡ None → o ≡ Some k → A
-absent o k none e = absurd (false≢true (ap (λ (z : Option ℕ). is_some z) (sym none ∙ e)))
-
-there : (H : List Full) (o : Option ℕ) (number k : ℕ) (x : Item) → o ≡ Some number → slice_get (wire H) number ≡ Some x → o ≡ Some k → k < length (wire H)
-there H o number k x is at e =
-    let same : number ≡ k = ap (λ (z : Option ℕ). unwrap_or z number) (sym is ∙ e) in
-    subst (λ (n : ℕ). n < length (wire H)) same (slice_get_within (wire H) number x at)
-
-of_quiet : (lab : Lab) (H : List Full) (r : Full) (k : ℕ) → Quiet lab H r → r.delivered ≡ Some k → k < length (wire H)
-of_quiet lab H r k (passed ms asked before is) e = absent r.delivered k (ap (λ (z : Full). z.delivered) is) e
-of_quiet lab H r k (shut number n x delivers at closed is) e = there H r.delivered number k x (ap (λ (z : Full). z.delivered) is) at e
-of_quiet lab H r k (strayed number x delivers at lost is) e = there H r.delivered number k x (ap (λ (z : Full). z.delivered) is) at e
-of_quiet lab H r k (missing number delivers at is) e = absent r.delivered k (ap (λ (z : Full). z.delivered) is) e
-of_quiet lab H r k (none_left asked none is) e = absent r.delivered k (ap (λ (z : Full). z.delivered) is) e
-of_quiet lab H r k (settled asked none is) e = absent r.delivered k (ap (λ (z : Full). z.delivered) is) e
-of_quiet lab H r k (uncopied number src dst asked at is) e = absent r.delivered k (ap (λ (z : Full). z.delivered) is) e
-of_quiet lab H r k (hosted v n x hands at is) e = absent r.delivered k (ap (λ (z : Full). z.delivered) is) e
-of_quiet lab H r k (restarted n asked is) e = absent r.delivered k (ap (λ (z : Full). z.delivered) is) e
-of_quiet lab H r k (forgot n who asked is) e = absent r.delivered k (ap (λ (z : Full). z.delivered) is) e
-of_quiet lab H r k (faulted send asked is) e = absent r.delivered k (ap (λ (z : Full). z.delivered) is) e
-
-is_there : (lab : Lab) (H : List Full) (r : Full) (k : ℕ) → Kind lab H r → r.delivered ≡ Some k → k < length (wire H)
-is_there lab H r k (quiet entry address made let_out why) e = of_quiet lab H r k why e
-is_there lab H r k (put src dst bytes asked is) e = absent r.delivered k (ap (λ (z : Full). z.delivered) is) e
-is_there lab H r k (copied number src dst x asked at is) e = absent r.delivered k (ap (λ (z : Full). z.delivered) is) e
-is_there lab H r k (ticks ms x asked due within is) e = absent r.delivered k (ap (λ (z : Full). z.delivered) is) e
-is_there lab H r k (handed v n x a hands at is) e = absent r.delivered k (ap (λ (z : Full). z.delivered) is) e
-is_there lab H r k (reached number n x a delivers at goes to is) e = there H r.delivered number k x (ap (λ (z : Full). z.delivered) is) at e
+is_there : (lab : Lab) (H : List Full) (r : Full) (k : ℕ) → Delivery lab H r k → k < length (wire H)
+is_there lab H r k (to_node n a x at h) = slice_get_within (wire H) k x at
+is_there lab H r k (to_nobody x at m) = slice_get_within (wire H) k x at
 
 -- another number
 other : (j k : ℕ) → k < j → (k == j) ≡ false
@@ -55,17 +29,14 @@ not_number : (j : ℕ) (o : Option ℕ) → ((k : ℕ) → o ≡ Some k → k < 
 not_number j None h = refl
 not_number j (Some k) h = other j k (h k refl)
 
-abbrev pub KindLaw : Type 0
-KindLaw = (lab : Lab) (H : List Full) (r : Full) → Follows lab H r → Kind lab H r
-
 -- what isn't on the wire was never delivered
-never : KindLaw → (lab : Lab) (H : List Full) (j : ℕ) → Grown lab H → length (wire H) ≤ j → was_delivered j H ≡ false
+never : EachDelivery → (lab : Lab) (H : List Full) (j : ℕ) → Grown lab H → length (wire H) ≤ j → was_delivered j H ≡ false
 never law lab [] j g h = refl
 never law lab (r ∷ H) j g h =
     let whole = length-append (wire H) (items_of r) in
     let before : length (wire H) ≤ j = omega (arith, h, whole) in
     let first : is_number j r.delivered ≡ false = not_number j r.delivered
-    (λ k e. let within = is_there lab H r k (law lab H r g.0) e in omega (arith, within, before)) in
+    (λ k e. let within = is_there lab H r k (law lab H r k g e) in omega (arith, within, before)) in
     ap (λ (b : Bool). b || was_delivered j H) first ∙ never law lab H j g.1 before
 
 -- LISTS OF ENTRIES
@@ -151,7 +122,7 @@ taken d w i (suc n) (y ∷ xs) at e =
         let b = sum_by-cons w y (undelivered_from d.past (i + 1) xs) in
         omega (arith, a, b, h)
 
-pub exchanges : KindLaw → DeliveryExchanges
+pub exchanges : EachDelivery → DeliveryExchanges
 exchanges law lab H r k x g is fresh at w =
     let G : List Full = r ∷ H in
     let whole = length-append (wire H) (items_of r) in
@@ -159,7 +130,7 @@ exchanges law lab H r k x g is fresh at w =
     (items_of r) in
     let fresh_ones : (j : ℕ) → 0 + length (wire H) ≤ j → was_delivered j G ≡ false = λ j le.
     ap (λ (b : Bool). b || was_delivered j H) (not_number j r.delivered
-    (λ m e. let within = is_there lab H r m (law lab H r g.0) e in omega (arith, within, le))) ∙ never law lab H j g.1 (omega (arith, le)) in
+    (λ m e. let within = is_there lab H r m (law lab H r m g e) in omega (arith, within, le))) ∙ never law lab H j g.1 (omega (arith, le)) in
     let new : undelivered_from G (0 + length (wire H)) (items_of r) ≡ items_of r = all_open G (0 + length (wire H)) (items_of r) fresh_ones in
     let old = taken (record { past = H; full = r; number = k; item = x; is = is; fresh = fresh }) w 0 k (wire H) at (omega arith) in
     let sums = ap (sum_by w) (split ∙ ap (λ (zs : List Item). undelivered_from G 0 (wire H) ++ zs) new)

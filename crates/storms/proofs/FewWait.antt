@@ -1,6 +1,7 @@
 -- How many packets wait at most: eight for each of 256 peers of each client and relay.
 use Rattle.std.proofs.Common.{◌≡◌, ◌≤◌, ◌<◌, ◌||◌, ℕ, suc, ◌+◌, ◌*◌, Bool, true, false, cond, List, [], ◌∷◌, ◌++◌, length, map, Option, Some, None, refl, sym, ap, subst, ◌∙◌, arith, length-append, leb-false}
 use Rattle.std.specs.Prelude.{IfSome, slice_get, flat_map, option_to_list, unwrap_or}
+use Rattle.std.proofs.lemmas.List.{length-map}
 use Rattle.std.proofs.lemmas.Bool.{false≢true}
 use Rattle.td_base.specs.declared.ipv6.Ip6.{Ip6}
 use Rattle.td_base.specs.declared.endpoint.Ep.{Ep}
@@ -47,7 +48,7 @@ use Rattle.legal.specs.Past.{now, journal}
 use Rattle.legal.specs.Lab.{Lab}
 use Rattle.legal.specs.Legal.{Grown}
 use Rattle.legal.specs.Laws.{EachClientIsJournal, EachRelayIsJournal}
-use Rattle.storms.specs.Burden.{waiting_packets, client_packet, relay_packet, waits_at, waits_from}
+use Rattle.weights.specs.Burden.{waiting_packets, client_packet, relay_packet, waits_at, waits_from}
 use Rattle.storms.specs.Loads.{FewWait}
 
 -- FOR ONE PEER
@@ -256,10 +257,6 @@ relay_queue laws s (e ∷ j) a =
 
 -- IN A NODE
 
-length-mapped : {A B : Type 0} (f : A → B) (xs : List A) → length (map f xs) ≡ length xs
-length-mapped f [] = refl
-length-mapped f (x ∷ xs) = let rest = length-mapped f xs in omega (arith, rest)
-
 -- as many as wait in a node at most
 abbrev most : Node → ℕ
 most (client c) = 2048
@@ -275,14 +272,14 @@ module _ (one : OneEntry) (clients : ClientFewLaws) (relays : RelayFewLaws) (lab
       let j : Journal = journal n H in
       let is = clients.journals lab H n c g there in
       let all = few_packets one (client_bearings.mentions j.entries) (now H) (client_queue clients s j.start j.entries is.journal) (clients.few s j (now H) is.journal is.moments) in
-      let same = length-mapped client_packet (waiting_packets (client_bearings.mentions j.entries) (now H)) in
+      let same = length-map (waiting_packets (client_bearings.mentions j.entries) (now H)) client_packet in
       omega (arith, all, same)
   node_few n (relay r) there =
       let s : RelaySettings = relay_settings lab.topology n r in
       let j : Journal = journal n H in
       let is = relays.journals lab H n r g there in
       let all = few_packets one (relay_mentions j.entries) (now H) (relay_queue relays s j.entries is.journal) (relays.few s j.entries (now H) is.journal is.moments) in
-      let same = length-mapped relay_packet (waiting_packets (relay_mentions j.entries) (now H)) in
+      let same = length-map (waiting_packets (relay_mentions j.entries) (now H)) relay_packet in
       omega (arith, all, same)
   node_few n (native a) there = omega arith
 

@@ -2,7 +2,7 @@
 use Rattle.std.proofs.Common.{◌≡◌, ◌≤◌, ℕ, ◌&&◌, ◌==◌, not, Bool, true, false, cond, List, [], ◌∷◌, length, Option, Some, None, sym, ap, subst, ◌∙◌, arith}
 use Rattle.std.specs.Prelude.{is_some}
 use Rattle.std.specs.List.{list_any}
-use Rattle.std.proofs.lemmas.Bool.{false≢true, and_parts, eqb-true, not_from_false, false_from_ne_true}
+use Rattle.std.proofs.lemmas.Bool.{false≢true, both_ways, not-true, and_parts, and_from, eqb-true, not_from_false, false_from_ne_true}
 use Rattle.td_base.specs.Reach.{is_global6}
 use Rattle.td_base.specs.declared.endpoint.Ep.{Ep}
 use Rattle.ipv6_packet.specs.Packets.{Fields}
@@ -18,8 +18,8 @@ use Rattle.bubble.specs.Laws.{ReadsPayload}
 use Rattle.teredo_node.proofs.FirstLines.{by_lines}
 use Rattle.topology.specs.Rows.{TopologyState}
 use Rattle.topology.specs.Topology.{nodes}
-use Rattle.storms.specs.Weights.{is_nat_at, is_relay_at, is_some_server, is_origin_at_server, is_echo_request, packet_weight, Freight, freight, freight_weight}
-use Rattle.storms.specs.Weights.{datagram_weight}
+use Rattle.weights.specs.Weights.{is_nat_at, is_relay_at, is_some_server, is_origin_at_server, is_echo_request, packet_weight, Freight, freight, freight_weight}
+use Rattle.weights.specs.Weights.{datagram_weight}
 
 -- ITS LINES
 
@@ -37,13 +37,10 @@ second : (a b : Bool) → (a && b) ≡ true → b ≡ true
 second a b h = (and_parts a b h).1
 
 no : {A : Type 0} (b : Bool) → b ≡ true → b ≡ false → A
-no b is none = absurd (false≢true (sym none ∙ is))
+no b is none = absurd (both_ways b none is)
 
 not_no : {A : Type 0} (b : Bool) → not b ≡ true → b ≡ true → A
-not_no b h is = absurd (by b h is) where
-  by : (c : Bool) → not c ≡ true → c ≡ true → ⊥
-  by true g e = false≢true g
-  by false g e = false≢true e
+not_no b h is = absurd (both_ways b (not-true b h) is)
 
 module _ (t : TopologyState) (src dst : Ep) where
   -- of a payload with this origin and this packet
@@ -120,10 +117,6 @@ module _ (t : TopologyState) (src dst : Ep) where
 
 -- WHAT WEIGHS AS MUCH
 
-both_true : (b c : Bool) → b ≡ true → c ≡ true → (b && c) ≡ true
-both_true true c h g = g
-both_true false c h g = absurd (false≢true h)
-
 -- k at least, where the line that holds has so much, and none before it less
 foreign_least : (a : Freight) → a.indirect ≡ false → a.foreign ≡ true → 8 ≤ freight_weight a
 foreign_least a plain foreign =
@@ -159,9 +152,9 @@ module _ (t : TopologyState) (src dst : Ep) (x : List ℕ) where
       → is_bubble (value_in x).packet ≡ false → 7 ≤ datagram_weight t src dst x
   unfolding datagram_weight
   relay_weight there payload teredo plain = relay_least (freight t src dst (is_payload x) (value_in x)) (not_indirect plain)
-      (both_true (is_payload x) (list_any (is_relay_at dst) (nodes t) && (is_teredo (value_in x).packet.src && not (is_bubble (value_in x).packet))) payload
-      (both_true (list_any (is_relay_at dst) (nodes t)) (is_teredo (value_in x).packet.src && not (is_bubble (value_in x).packet)) there
-      (both_true (is_teredo (value_in x).packet.src) (not (is_bubble (value_in x).packet)) teredo (not_from_false (is_bubble (value_in x).packet) plain))))
+      (and_from (is_payload x) (list_any (is_relay_at dst) (nodes t) && (is_teredo (value_in x).packet.src && not (is_bubble (value_in x).packet))) payload
+      (and_from (list_any (is_relay_at dst) (nodes t)) (is_teredo (value_in x).packet.src && not (is_bubble (value_in x).packet)) there
+      (and_from (is_teredo (value_in x).packet.src) (not (is_bubble (value_in x).packet)) teredo (not_from_false (is_bubble (value_in x).packet) plain))))
 
   -- one to a NAT from outside Teredo, which is neither a bubble nor an echo reply
   pub foreign_weight : list_any (is_nat_at dst) (nodes t) ≡ true → is_payload x ≡ true → is_global6 (value_in x).packet.src ≡ true
@@ -169,15 +162,15 @@ module _ (t : TopologyState) (src dst : Ep) (x : List ℕ) where
       → is_echo_reply (message_in (value_in x).packet) ≡ false → 8 ≤ datagram_weight t src dst x
   unfolding datagram_weight
   foreign_weight there payload global native plain reply = foreign_least (freight t src dst (is_payload x) (value_in x)) (not_indirect plain)
-      (both_true (is_payload x && list_any (is_nat_at dst) (nodes t))
+      (and_from (is_payload x && list_any (is_nat_at dst) (nodes t))
       (is_global6 (value_in x).packet.src && (not (is_teredo (value_in x).packet.src) &&
       (not (is_bubble (value_in x).packet) && not (is_echo_reply (message_in (value_in x).packet)))))
-      (both_true (is_payload x) (list_any (is_nat_at dst) (nodes t)) payload there)
-      (both_true (is_global6 (value_in x).packet.src) (not (is_teredo (value_in x).packet.src) &&
+      (and_from (is_payload x) (list_any (is_nat_at dst) (nodes t)) payload there)
+      (and_from (is_global6 (value_in x).packet.src) (not (is_teredo (value_in x).packet.src) &&
       (not (is_bubble (value_in x).packet) && not (is_echo_reply (message_in (value_in x).packet)))) global
-      (both_true (not (is_teredo (value_in x).packet.src)) (not (is_bubble (value_in x).packet) && not (is_echo_reply (message_in (value_in x).packet)))
+      (and_from (not (is_teredo (value_in x).packet.src)) (not (is_bubble (value_in x).packet) && not (is_echo_reply (message_in (value_in x).packet)))
       (not_from_false (is_teredo (value_in x).packet.src) native)
-      (both_true (not (is_bubble (value_in x).packet)) (not (is_echo_reply (message_in (value_in x).packet)))
+      (and_from (not (is_bubble (value_in x).packet)) (not (is_echo_reply (message_in (value_in x).packet)))
       (not_from_false (is_bubble (value_in x).packet) plain) (not_from_false (is_echo_reply (message_in (value_in x).packet)) reply)))))
 
   -- an indirect bubble
@@ -187,11 +180,11 @@ module _ (t : TopologyState) (src dst : Ep) (x : List ℕ) where
   unfolding datagram_weight
   indirect_weight o there payload served bubble told =
       let least = indirect_least (freight t src dst (is_payload x) (value_in x))
-      (both_true (is_payload x && list_any (is_nat_at dst) (nodes t))
+      (and_from (is_payload x && list_any (is_nat_at dst) (nodes t))
       (is_some_server t src && (is_bubble (value_in x).packet && is_some (origin_in (value_in x).lead)))
-      (both_true (is_payload x) (list_any (is_nat_at dst) (nodes t)) payload there)
-      (both_true (is_some_server t src) (is_bubble (value_in x).packet && is_some (origin_in (value_in x).lead)) served
-      (both_true (is_bubble (value_in x).packet) (is_some (origin_in (value_in x).lead)) bubble (ap (λ (z : Option Ep). is_some z) told)))) in
+      (and_from (is_payload x) (list_any (is_nat_at dst) (nodes t)) payload there)
+      (and_from (is_some_server t src) (is_bubble (value_in x).packet && is_some (origin_in (value_in x).lead)) served
+      (and_from (is_bubble (value_in x).packet) (is_some (origin_in (value_in x).lead)) bubble (ap (λ (z : Option Ep). is_some z) told)))) in
       subst (λ (z : Option Ep). cond (is_origin_at_server t z) 3 2 ≤ freight_weight (freight t src dst (is_payload x) (value_in x))) told least
 
 -- PACKETS OF THE IPV6 SIDE

@@ -30,7 +30,7 @@ use Rattle.topology.specs.Rules.{IsTopology}
 use Rattle.topology.specs.NodeRules.{AddressesAreApart}
 use Rattle.history.specs.Full.{udp}
 use Rattle.legal.specs.Settings.{server_settings}
-use Rattle.storms.specs.Weights.{is_server_at, is_some_server, datagram_weight, send_weight, six_weight, output_weight, weight_at, entry_weight}
+use Rattle.weights.specs.Weights.{is_server_at, is_some_server, datagram_weight, send_weight, six_weight, output_weight, weight_at, entry_weight}
 use Rattle.storms.proofs.Places.{first_at, is_there, first_is, any_there, server_there}
 use Rattle.storms.proofs.NewItems.{WeighsFrom}
 

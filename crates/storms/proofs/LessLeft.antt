@@ -13,10 +13,11 @@ use Rattle.legal.specs.Past.{now, began, has_more, was_delivered}
 use Rattle.legal.specs.Legal.{GoesOn, Follows, Grown}
 use Rattle.legal.specs.Left.{left_to}
 use Rattle.legal.specs.Laws.{EachAdvanceFalls, EachAdvanceIsBounded}
-use Rattle.storms.specs.Burden.{undelivered_from, burden}
+use Rattle.weights.specs.Burden.{undelivered_from, burden}
 use Rattle.storms.specs.Loads.{BurdenIsBounded, FewWait}
 use Rattle.storms.specs.Deliveries.{EachLightens, SettleDeliversNew}
-use Rattle.storms.specs.Left.{left_of_event, left, EachFalls}
+use Rattle.weights.specs.Left.{left_of_event, left}
+use Rattle.storms.specs.Falls.{EachFalls}
 
 pub record FallLaws : Type 0 where
   pub advances : EachAdvanceFalls

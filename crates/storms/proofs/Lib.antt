@@ -1,30 +1,44 @@
 pub mod Weighed
-pub mod Exchanged
-mod Ending
+mod Exchanged
 mod Settles
 pub mod PeersWait
-mod NodesWait
 pub mod Places
-pub mod Freights
-pub mod AtServers
+mod Freights
+mod AtServers
 mod Addresses
-pub mod Sent
-pub mod NewItems
-pub mod FromServers
-pub mod Natives
-pub mod Reached
-pub mod ServersLighten
-pub mod Relays
-pub mod AtRelay
-mod RelayReceives
+mod Sent
+mod NewItems
+mod FromServers
+mod Natives
+mod Relays
+mod Trusts
+mod EasedWeights
+mod Sums
+mod Hosts
+mod Waits
+mod TrustedClients
+mod Requests
+mod Reached
+mod ServersLighten
+mod NodesEase
+mod NativesEase
+mod AtRelay
 mod RelaySends
+mod RelayReceives
 mod RelaysReached
-pub mod ClientServers
-pub mod AtClient
-pub mod ClientReleases
-pub mod ClientAnswers
+mod ClientServers
+mod ClientTests
+mod AtClient
+mod ClientReleases
+mod ClientAnswers
 mod ClientsLighten
-pub mod ClientsReached
-mod Lightens
+mod ClientsReached
+mod Eases
+mod Ending
+mod OfHosts
+mod RelayWaits
+mod Most
+mod ByKind
+mod Alone
 mod FewWait
 mod LessLeft

@@ -29,7 +29,7 @@ use Rattle.topology.specs.Rows.{TopologyState}
 use Rattle.history.specs.Full.{six}
 use Rattle.legal.specs.Emit.{relay_for}
 use Rattle.legal.proofs.SixPackets.{has_message}
-use Rattle.storms.specs.Weights.{is_echo_request, packet_weight, entry_weight}
+use Rattle.weights.specs.Weights.{is_echo_request, packet_weight, entry_weight}
 use Rattle.storms.proofs.Freights.{packet_under}
 
 pub record ReplyLaws : Type 0 where

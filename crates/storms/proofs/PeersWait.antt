@@ -3,7 +3,7 @@ use Rattle.std.proofs.Common.{◌≡◌, ◌⊎◌, inl, inr, ◌≤◌, ℕ, �
 use Rattle.std.proofs.Common.{ap, ◌∙◌, arith}
 use Rattle.std.specs.Prelude.{sum_by, flat_map, option_map, option_to_list, unwrap_or}
 use Rattle.std.specs.List.{list_any}
-use Rattle.std.proofs.lemmas.Bool.{false≢true}
+use Rattle.std.proofs.lemmas.Bool.{false≢true, not-true}
 use Rattle.std.proofs.lemmas.List.Sums.{sum_by-cons, sum_by-append}
 use Rattle.td_base.specs.Ip6.{same_ip6, same_ip6-self, same_ip6-true}
 use Rattle.td_base.specs.declared.ipv6.Ip6.{Ip6}
@@ -12,7 +12,7 @@ use Rattle.peer_list.specs.Mentions.{Mention, is_peer, is_about}
 use Rattle.peer_list.specs.Listed.{is_younger, is_listed, with_peer, touched, listed}
 use Rattle.peer_list.specs.Peers.{Peer, no_peer, peer_at, known}
 use Rattle.peer_list.specs.Laws.{after, OfAnother, OfATouch, OfNoTouch, Unlisted, ListedAre}
-use Rattle.storms.specs.Burden.{waiting_packets}
+use Rattle.weights.specs.Burden.{waiting_packets}
 
 pub record PeerLaws : Type 0 where
   pub another : OfAnother
@@ -95,10 +95,6 @@ other_way p q h = by (same_ip6 p q) refl where
   by false e = refl
   by true e = absurd (false≢true (sym h ∙ ap (same_ip6 q) (same_ip6-true p q e) ∙ same_ip6-self q))
 
-not_true : (b : Bool) → not b ≡ true → b ≡ false
-not_true false h = refl
-not_true true h = absurd (false≢true h)
-
 -- WHAT WAITS FOR ONE, AND FOR ALL THAT WERE EVER TOUCHED
 
 module _ (w : List ℕ → ℕ) where
@@ -180,7 +176,7 @@ module _ (w : List ℕ → ℕ) where
       let list_is : touched (e ∷ j) ≡ q ∷ others = ap (λ (o : Option Ip6). with_peer o (touched j)) (ap (λ (b : Bool). cond b e.peer None) touches ∙ peer) in
       let whole = ap (sum_by (waits_for (e ∷ j) m)) list_is ∙ sum_by-cons (waits_for (e ∷ j) m) q others in
       let rest = under (waits_for (e ∷ j) m) (waits_for j m) (apart_from q) (touched j)
-      (λ p h. let same = same_for laws e j m p (ap (is_peer p) peer ∙ other_way p q (not_true (same_ip6 q p) h)) in omega (arith, same)) in
+      (λ p h. let same = same_for laws e j m p (ap (is_peer p) peer ∙ other_way p q (not-true (same_ip6 q p) h)) in omega (arith, same)) in
       let own = after_touch laws e j q about touches in
       ends (waits_for (e ∷ j) m q) (sum_by (waits_for (e ∷ j) m) others) (sum_by (waits_for j m) others) (freed e.bearing.hears (waits_for j m q))
       (added e.bearing.queues) whole rest own (split m others refl (there_or_nothing laws j m q))

@@ -17,7 +17,7 @@ use Rattle.topology.specs.declared.node.Node.TheVariants.{Server as server, Nat 
 use Rattle.topology.specs.Topology.{nodes, node_at, is_at, first_passing}
 use Rattle.topology.specs.Rules.{IsTopology}
 use Rattle.topology.specs.NodeRules.{has_address, AddressesAreApart}
-use Rattle.storms.specs.Weights.{is_server_at, is_some_server}
+use Rattle.weights.specs.Weights.{is_server_at, is_some_server}
 
 -- THE FIRST THAT IS THERE
 

@@ -1,54 +1,127 @@
--- A delivery that comes to a node.
-use Rattle.std.proofs.Common.{◌≡◌, ◌<◌, ℕ, ◌+◌, zero, suc, List, [], ◌∷◌, ◌++◌, Option, Some, ap, subst}
-use Rattle.std.specs.Prelude.{sum, sum_by, slice_get, is_some, unwrap_or}
-use Rattle.std.specs.List.{AllByRecursion}
-use Rattle.std.proofs.lemmas.Bool.{false≢true}
-use Rattle.teredo_node.specs.Journal.{Entry, with_entry}
+-- A delivery that comes to a node: trust lasts, and what it has to weigh less than.
+use Rattle.std.proofs.Common.{◌≡◌, ◌<◌, ℕ, ◌+◌, ◌==◌, Bool, true, false, List, ◌∷◌, Option, Some, None, refl, sym, ap, subst, ◌∙◌}
+use Rattle.std.specs.Prelude.{sum_by, is_some, unwrap_or}
+use Rattle.std.proofs.lemmas.Bool.{eqb-true, eqb-false}
+use Rattle.td_base.specs.declared.ipv6.Ip6.{Ip6}
+use Rattle.td_base.specs.declared.endpoint.Ep.{Ep}
+use Rattle.teredo_node.specs.Journal.{Entry, Journal, with_entry}
+use Rattle.peer_list.specs.Mentions.{Mention}
+use Rattle.peer_list.specs.Peers.{known}
+use Rattle.relay_rules.specs.Bearings.{relay_mention, relay_mentions}
+use Rattle.relay_rules.specs.Standing.{RelaySettings}
+use Rattle.relay_rules.specs.Journals.{relay_in, relay_six}
+use Rattle.topology.specs.declared.relay_node.RelayNode.{RelayNode}
+use Rattle.topology.specs.Rows.{TopologyState}
 use Rattle.topology.specs.declared.node.Node.{Node}
+use Rattle.topology.specs.declared.node.Node.TheVariants.{Server as server, Nat as nat, Client as client, Relay as relay, Native as native}
 use Rattle.topology.specs.Rules.{IsTopology}
 use Rattle.topology.specs.Topology.{node_at}
-use Rattle.history.specs.Full.{Item, Full, items_of}
+use Rattle.history.specs.Full.{Item, udp, six, Full, items_of}
 use Rattle.legal.specs.Lab.{Lab}
+use Rattle.legal.specs.Settings.{relay_settings}
 use Rattle.legal.specs.Past.{now, journal}
-use Rattle.legal.specs.Emit.{entry_of, sendings}
-use Rattle.legal.specs.Next.{dst_of, input_of}
 use Rattle.legal.specs.Legal.{Grown}
-use Rattle.legal.specs.OwnSends.{AreOwn}
-use Rattle.legal.specs.MadeWire.{IsMadeItem}
-use Rattle.legal.specs.Routes.{Reaches}
-use Rattle.storms.specs.Weights.{entry_weight}
-use Rattle.storms.specs.Burden.{waits_at}
+use Rattle.legal.specs.Deliveries.{done_with, IsReached, IsMissed, Delivery, to_node, to_nobody, EachDelivery}
+use Rattle.storms.proofs.PeersWait.{PeerLaws}
+use Rattle.storms.proofs.Relays.{one_more}
+use Rattle.weights.specs.Trust.{trusts_as, relay_trusts}
+use Rattle.weights.specs.Eased.{weight_with, waiting_at}
+use Rattle.storms.specs.Follow.{TrustLasts}
+use Rattle.storms.proofs.Trusts as trusted
+use Rattle.storms.proofs.EasedWeights.{Ease, Lasts}
 
--- what the node did
-abbrev pub answer_of : Lab → List Full → Full → ℕ → Node → Item → Entry
-answer_of lab H r n a x = entry_of lab H r.moment n (dst_of x) (input_of x) a
-
--- entry x came to node n, which is a
-pub record IsReached (lab : Lab) (H : List Full) (r : Full) (n : ℕ) (a : Node) (x : Item) : Type 0 where
+-- a record after a history in which relays trust whom they trusted, and the ease with which is weighed
+pub record Weighing : Type 0 where
+  pub ease : Ease
+  pub lab : Lab
+  pub before : List Full
+  pub full : Full
   pub is : IsTopology lab.topology
-  pub grown : Grown lab (r ∷ H)
-  pub there : node_at lab.topology n ≡ Some a
-  pub node : r.node ≡ Some n
-  pub moment : r.moment ≡ now H
-  pub goes : Reaches lab H (now H) x n a
-  pub later : journal n (r ∷ H) ≡ with_entry (journal n H) (answer_of lab H r n a x)
-  pub made : r.made ≡ (sendings lab H r.moment (answer_of lab H r n a x) a).made
-  pub own : AreOwn a (answer_of lab H r n a x) r.made
-  pub fresh : AllByRecursion IsMadeItem (items_of r)
-  pub came : IsMadeItem x
+  pub grown : Grown lab (full ∷ before)
+  pub lasts : Lasts lab.topology before (full ∷ before)
 
--- what it made, and what waits in it then, weigh less than the entry, and what waited in it before
-abbrev pub NodeLightens : Lab → List Full → Full → ℕ → Node → Item → Type 0
-NodeLightens lab H r n a x =
-    sum_by (entry_weight lab.topology) (items_of r) + sum (waits_at (r ∷ H) n a) < entry_weight lab.topology x + sum (waits_at H n a)
+abbrev pub topology_of : Weighing → TopologyState
+topology_of s = s.lab.topology
 
--- WHAT HOLDS OF ALL HOLDS OF ONE
+-- the records with it
+abbrev pub after : Weighing → List Full
+after s = s.full ∷ s.before
 
-pub at_place : (P : Item → Type 0) (xs : List Item) (k : ℕ) (x : Item) → AllByRecursion P xs → slice_get xs k ≡ Some x → P x
-at_place P [] k x all e = absurd (false≢true (ap (λ (o : Option Item). is_some o) e))
-at_place P (y ∷ ys) zero x all e = subst P (ap (λ (o : Option Item). unwrap_or o y) e) all.0
-at_place P (y ∷ ys) (suc k) x all e = at_place P ys k x all.1 e
+abbrev pub Comes : Weighing → ℕ → Node → Item → Type 0
+Comes s n a x = IsReached s.lab s.before s.full n a x
 
-pub behind_all : (P : Item → Type 0) (xs ys : List Item) → AllByRecursion P (xs ++ ys) → AllByRecursion P ys
-behind_all P [] ys all = all
-behind_all P (x ∷ xs) ys all = behind_all P xs ys all.1
+abbrev pub weigh_before : Weighing → Item → ℕ
+weigh_before s x = weight_with s.ease.amount (topology_of s) s.before x
+
+abbrev pub weigh_after : Weighing → Item → ℕ
+weigh_after s x = weight_with s.ease.amount (topology_of s) (after s) x
+
+-- what the node made, and what waits in it then, weigh less than the entry, and what waited in it before
+abbrev pub NodeEases : Weighing → ℕ → Node → Item → Type 0
+NodeEases s n a x = sum_by (weigh_after s) (items_of s.full) + waiting_at s.ease.amount (topology_of s) (after s) n a
+    < weigh_before s x + waiting_at s.ease.amount (topology_of s) s.before n a
+
+-- TRUST LASTS
+
+moment_in : (s : RelaySettings) (j : List Entry) (m : ℕ) (src : Ep) (x : List ℕ) → (relay_in s j m src x).moment ≡ m
+unfolding relay_in
+moment_in s j m src x = refl
+
+moment_six : (s : RelaySettings) (j : List Entry) (m : ℕ) (x : List ℕ) → (relay_six s j m x).moment ≡ m
+unfolding relay_six
+moment_six s j m x = refl
+
+answers_then : (lab : Lab) (H : List Full) (r : Full) (n : ℕ) (q : RelayNode) (x : Item) → (done_with lab H r n (relay q) x).moment ≡ r.moment
+answers_then lab H r n q (udp src dst bytes) = moment_in (relay_settings lab.topology n q) (journal n H).entries r.moment src bytes
+answers_then lab H r n q (six to bytes) = moment_six (relay_settings lab.topology n q) (journal n H).entries r.moment bytes
+
+-- where no journal changes
+same_trust : (H : List Full) (r : Full) (n : ℕ) (c : Ip6) → r.moment ≡ now H → journal n (r ∷ H) ≡ journal n H → (o : Option Node)
+    → trusts_as H n c o ≡ true → trusts_as (r ∷ H) n c o ≡ true
+same_trust H r n c moment same (Some (relay q)) h =
+    ap (λ (z : Journal). is_some (known (relay_mentions z.entries) r.moment c).trusted) same
+    ∙ ap (λ (k : ℕ). is_some (known (relay_mentions (journal n H).entries) k c).trusted) moment ∙ h
+same_trust H r n c moment same None h = h
+same_trust H r n c moment same (Some (server a)) h = h
+same_trust H r n c moment same (Some (nat a)) h = h
+same_trust H r n c moment same (Some (client a)) h = h
+same_trust H r n c moment same (Some (native a)) h = h
+
+-- where nobody was reached
+pub lasts_missed : (lab : Lab) (H : List Full) (r : Full) (x : Item) → IsMissed lab H r x → Lasts lab.topology H (r ∷ H)
+unfolding relay_trusts
+lasts_missed lab H r x m n c h = same_trust H r n c m.moment (m.journals n) (node_at lab.topology n) h
+
+module _ (laws : PeerLaws) (lab : Lab) (H : List Full) (r : Full) (n : ℕ) (a : Node) (x : Item) (h : IsReached lab H r n a x) where
+  -- of the node itself
+  own : (c : Ip6) (o : Option Node) → node_at lab.topology n ≡ o → trusts_as H n c o ≡ true → trusts_as (r ∷ H) n c o ≡ true
+  own c None e g = g
+  own c (Some (server b)) e g = g
+  own c (Some (nat b)) e g = g
+  own c (Some (client b)) e g = g
+  own c (Some (native b)) e g = g
+  own c (Some (relay q)) e g =
+      let is : a ≡ relay q = ap (λ (z : Option Node). unwrap_or z a) (sym h.act.there ∙ e) in
+      let did : Entry = done_with lab H r n (relay q) x in
+      let next : journal n (r ∷ H) ≡ with_entry (journal n H) did = h.act.later ∙ ap (λ (b : Node). with_entry (journal n H) (done_with lab H r n b x)) is in
+      let before : is_some (known (relay_mentions (journal n H).entries) r.moment c).trusted ≡ true =
+      ap (λ (k : ℕ). is_some (known (relay_mentions (journal n H).entries) k c).trusted) h.moment ∙ g in
+      ap (λ (z : Journal). is_some (known (relay_mentions z.entries) r.moment c).trusted) next
+      ∙ ap (λ (ms : List Mention). is_some (known ms r.moment c).trusted) (one_more did (journal n H).entries)
+      ∙ trusted.lasts laws (relay_mention did) (relay_mentions (journal n H).entries) c r.moment (answers_then lab H r n q x) before
+
+  pub lasts_reached : Lasts lab.topology H (r ∷ H)
+  unfolding relay_trusts
+  lasts_reached k c g = by (n == k) refl where
+    by : (b : Bool) → (n == k) ≡ b → trusts_as (r ∷ H) k c (node_at lab.topology k) ≡ true
+    by true e = subst (λ (l : ℕ). trusts_as H l c (node_at lab.topology l) ≡ true → trusts_as (r ∷ H) l c (node_at lab.topology l) ≡ true) (eqb-true n k e)
+        (own c (node_at lab.topology n) refl) g
+    by false e = same_trust H r k c h.moment (h.others k (λ (s : k ≡ n). eqb-false n k e (sym s))) (node_at lab.topology k) g
+
+-- through each delivery
+pub lasts_through : PeerLaws → (lab : Lab) (H : List Full) (r : Full) (number : ℕ) → Delivery lab H r number → Lasts lab.topology H (r ∷ H)
+lasts_through laws lab H r number (to_node n a x at h) = lasts_reached laws lab H r n a x h
+lasts_through laws lab H r number (to_nobody x at m) = lasts_missed lab H r x m
+
+pub trust_lasts : PeerLaws → EachDelivery → TrustLasts
+trust_lasts laws law lab H r n c is g new h = lasts_through laws lab H r new.number (law lab H r new.number g new.delivered) n c h

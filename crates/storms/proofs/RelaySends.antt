@@ -1,16 +1,17 @@
 -- What a relay makes of a packet of the IPv6 side weighs less than the packet.
-use Rattle.std.proofs.Common.{◌≡◌, ◌≤◌, ℕ, ◌+◌, ◌||◌, not, Bool, true, false, cond, List, [], ◌∷◌, Some, None, refl, ap, ◌∙◌, arith}
+use Rattle.std.proofs.Common.{◌≡◌, ◌≤◌, ℕ, ◌+◌, ◌||◌, not, Bool, true, false, cond, List, [], ◌∷◌, Option, Some, None, refl, sym, ap, ◌∙◌, arith}
+use Rattle.std.specs.Prelude.{is_some, unwrap_or, option_map}
 use Rattle.std.specs.List.{AllByRecursion}
 use Rattle.std.proofs.lemmas.Bool.{false≢true}
 use Rattle.std.proofs.lemmas.List.Sums.{sum_by-cons}
 use Rattle.td_base.specs.Ep.{server_ep}
 use Rattle.td_base.specs.Bytes.{IsBytes}
-use Rattle.td_base.specs.Ip6.{IsIp6}
+use Rattle.td_base.specs.Ip6.{IsIp6, same_ip6-self}
 use Rattle.td_base.specs.Reach.{is_global6}
 use Rattle.td_base.specs.declared.ipv6.Ip6.{Ip6}
 use Rattle.td_base.specs.declared.side.Side.TheVariants.{Primary}
 use Rattle.ipv6_packet.specs.Reads.{is_packet, fields_in}
-use Rattle.teredo_addr.specs.Teredo.{is_teredo, server_in, embedded}
+use Rattle.teredo_addr.specs.Teredo.{is_teredo, server_in, embedded, unspecified}
 use Rattle.bubble.specs.Bubbles.{bubble_of, bubble_bytes}
 use Rattle.bubble.specs.PacketsIn.{packet_given, destination_in}
 use Rattle.teredo_node.specs.declared.fate.Fate.{Fate}
@@ -18,35 +19,59 @@ use Rattle.teredo_node.specs.declared.fate.Fate.TheVariants as fate
 use Rattle.teredo_node.specs.Step.{Send}
 use Rattle.teredo_node.specs.Sends.{send}
 use Rattle.teredo_node.specs.Journal.{from_six, Entry}
-use Rattle.teredo_node.proofs.FirstLines.{first_of_each}
+use Rattle.teredo_node.proofs.FirstLines.{first_of_each, Each, skip}
+use Rattle.peer_list.specs.Mentions.{is_peer}
+use Rattle.peer_list.specs.Peers.{known}
 use Rattle.peer_list.specs.Judged.{is_barred}
 use Rattle.relay_rules.specs.Bearings.{relay_mention, relay_mentions}
-use Rattle.relay_rules.specs.Standing.{RelayStanding, relay_known_in, relay_standing_of}
+use Rattle.relay_rules.specs.Standing.{RelayStanding, relay_known_in, relay_standing_at, relay_standing_of}
 use Rattle.relay_rules.specs.Transmission.{RelayGiven, relay_given, relay_transmission_step, bubble_to, relay_queues, relay_packet_lines, relay_destination_lines, relay_transmission_row, relay_transmission}
 use Rattle.relay_rules.specs.Journals.{wordless_entry, relay_six}
 use Rattle.relay_rules.specs.Warrants.{RelaySentOnlyIf, RelayGoesOut}
-use Rattle.storms.specs.Weights.{is_some_server}
-use Rattle.storms.specs.Burden.{relay_packet}
+use Rattle.topology.specs.declared.node.Node.TheVariants.{Relay as relay}
+use Rattle.topology.specs.Topology.{node_at}
+use Rattle.history.specs.Full.{udp}
+use Rattle.legal.specs.Past.{armed}
+use Rattle.weights.specs.Weights.{is_some_server}
 use Rattle.storms.proofs.PeersWait.{waits_in, added}
 use Rattle.storms.proofs.Sent.{bubble_sent}
 use Rattle.storms.proofs.NewItems.{WeighsFrom, own_weigh}
-use Rattle.storms.proofs.Relays.{IsForClient, packet_weighs}
-use Rattle.teredo_node.proofs.FirstLines.{Each, skip}
-use Rattle.storms.proofs.AtRelay.{RelayLaws, AtRelay, setup, own_of, weigh, waited, IsLight, IsCalm, calm, shifted}
+use Rattle.storms.proofs.Relays.{IsForClient}
+use Rattle.weights.specs.Trust.{relay_trusts}
+use Rattle.storms.proofs.EasedWeights.{eased_most}
+use Rattle.storms.proofs.TrustedClients.{packet_eased}
+use Rattle.storms.proofs.AtRelay.{RelayLaws, AtRelay, setup, journal_of, moment_of, own_of, weigh, packet_of, waited, IsLight, IsCalm, calm, shifted}
+use Rattle.storms.proofs.AtRelay.{begun, lasting}
 
-module _ (laws : RelayLaws) (d : AtRelay) (least : 1 ≤ d.heavy) (x : List ℕ) (more : relay_packet x + 4 ≤ d.heavy) where
+-- the destination's trust before the packet
+abbrev pub trusted_before : AtRelay → Ip6 → Bool
+trusted_before d p = is_some (known (relay_mentions (journal_of d)) (moment_of d) p).trusted
+
+-- the relay is there, and the packet weighs more than it does while it waits, and more where it must wait for a bubble
+pub record IsGiven (d : AtRelay) (x : List ℕ) : Type 0 where
+  pub there : node_at d.lab.topology d.n ≡ Some (relay d.q)
+  pub more : packet_of d x + 1 ≤ d.heavy
+  pub later : trusted_before d (fields_in x).dst ≡ false → packet_of d x + 4 ≤ d.heavy
+  pub here : is_some_server d.lab.topology d.q.at ≡ false
+  pub six : IsIp6 d.q.six
+  pub bytes : IsBytes x
+
+module _ (laws : RelayLaws) (d : AtRelay) (x : List ℕ) (g : IsGiven d x) where
+  least : 1 ≤ d.heavy
+  least = let more = g.more in omega (arith, more)
+
   -- the destination, and what is asked of it
   abbrev p : Ip6
   p = (fields_in x).dst
 
   abbrev stands : RelayStanding
-  stands = relay_standing_of d.j d.m (destination_in x)
+  stands = relay_standing_of (journal_of d) (moment_of d) (destination_in x)
 
   abbrev asked : RelayGiven
   asked = relay_given (setup d) stands x
 
   abbrev went : Fate → Entry
-  went f = wordless_entry d.m (from_six x) (packet_given x) (destination_in x) (relay_transmission_step (setup d) stands x p f)
+  went f = wordless_entry (moment_of d) (from_six x) (packet_given x) (destination_in x) (relay_transmission_step (setup d) stands x p f)
 
   both_false : (b c : Bool) → not (b || c) ≡ true → b ≡ false
   both_false false c h = refl
@@ -69,6 +94,11 @@ module _ (laws : RelayLaws) (d : AtRelay) (least : 1 ≤ d.heavy) (x : List ℕ)
   unfolding packet_given
   given_is h = ap (λ (b : Bool). cond b (Some x) None) h
 
+  -- whom it asks about
+  asked_trust : is_packet x ≡ true → asked.trusted ≡ trusted_before d p
+  unfolding relay_given relay_standing_at
+  asked_trust h = ap (λ (o : Option Ip6). is_some (known (relay_mentions (journal_of d)) (moment_of d) (unwrap_or o unspecified)).trusted) (destination_is h)
+
   -- EACH FATE
 
   abbrev Goes : Fate → Type 0
@@ -78,91 +108,111 @@ module _ (laws : RelayLaws) (d : AtRelay) (least : 1 ≤ d.heavy) (x : List ℕ)
   idly f is only = calm laws.peers d (went f) least is
 
   -- what waits grows by what is queued
-  touches : (e : Entry) → is_packet x ≡ true → e.moment ≡ d.m → e.peer ≡ destination_in x → (relay_mention e).bearing.touches ≡ true
-      → waits_in relay_packet (relay_mention e ∷ relay_mentions d.j) d.m ≤ waited d + added relay_packet (relay_mention e).bearing.queues
+  touches : (e : Entry) → is_packet x ≡ true → e.moment ≡ moment_of d → e.peer ≡ destination_in x → (relay_mention e).bearing.touches ≡ true
+      → waits_in (packet_of d) (relay_mention e ∷ relay_mentions (journal_of d)) (moment_of d) ≤ waited d + added (packet_of d) (relay_mention e).bearing.queues
   touches e packet moment peer touched = let less = shifted laws.peers d e p moment (peer ∙ destination_is packet) touched in omega (arith, less)
 
   -- the packet itself goes out
-  packet_out : RelayGoesOut asked → AllByRecursion (WeighsFrom (weigh d) (λ (s : Send). relay_packet s.bytes) (own_of d)) (send (embedded p) x ∷ [])
-  packet_out out = (λ made. packet_weighs laws.rows laws.payload d.lab.topology (embedded p) x (goes_on out) (own_of d Primary) made, tt)
+  packet_out : RelayGoesOut asked → relay_trusts d.lab.topology (d.r ∷ d.H) d.n p ≡ true
+      → AllByRecursion (WeighsFrom (weigh d) (λ (s : Send). packet_of d s.bytes) (own_of d)) (send (embedded p) x ∷ [])
+  packet_out out trusted = (
+    λ made. packet_eased d.ease laws.rows laws.payload d.lab.topology (d.r ∷ d.H) d.n (embedded p) x (goes_on out) (own_of d Primary) made trusted,
+    tt,
+  )
 
   sent : Goes fate.Sent
-  sent only made =
-      let new = own_weigh (record { items = weigh d; sends = (λ (s : Send). relay_packet s.bytes); own = own_of d }) d.fails 0 (send (embedded p) x ∷ []) []
-      made (packet_out only.out) in
-      let one = sum_by-cons (λ (s : Send). relay_packet s.bytes) (send (embedded p) x) [] in
-      let less = touches (went fate.Sent) (goes_on only.out).well_formed refl refl refl in
+  sent only next made =
+      let packet = (goes_on only.out).well_formed in
+      let trusted = lasting laws.peers d (went fate.Sent) p g.there next refl (sym (asked_trust packet) ∙ only.trusted) in
+      let new = own_weigh (record { items = weigh d; sends = (λ (s : Send). packet_of d s.bytes); own = own_of d })
+      (armed d.H) 0 (send (embedded p) x ∷ []) [] made
+      (packet_out only.out trusted) in
+      let one = sum_by-cons (λ (s : Send). packet_of d s.bytes) (send (embedded p) x) [] in
+      let less = touches (went fate.Sent) packet refl refl refl in
+      let more = g.more in
       omega (arith, more, new, one, less)
 
   sent_cone : Goes fate.SentCone
-  sent_cone only made =
-      let new = own_weigh (record { items = weigh d; sends = (λ (s : Send). relay_packet s.bytes); own = own_of d }) d.fails 0 (send (embedded p) x ∷ []) []
-      made (packet_out only.out) in
-      let one = sum_by-cons (λ (s : Send). relay_packet s.bytes) (send (embedded p) x) [] in
-      let less = touches (went fate.SentCone) (goes_on only.out).well_formed refl refl refl in
+  sent_cone only next made =
+      let packet = (goes_on only.out).well_formed in
+      let peer = destination_is packet in
+      let trusted = begun laws.peers d (went fate.SentCone) p (embedded p) g.there next
+      (refl, ap (is_peer p) peer ∙ same_ip6-self p, refl, ap (option_map embedded) peer) in
+      let new = own_weigh (record { items = weigh d; sends = (λ (s : Send). packet_of d s.bytes); own = own_of d })
+      (armed d.H) 0 (send (embedded p) x ∷ []) [] made
+      (packet_out only.out trusted) in
+      let one = sum_by-cons (λ (s : Send). packet_of d s.bytes) (send (embedded p) x) [] in
+      let less = touches (went fate.SentCone) packet refl refl refl in
+      let more = g.more in
       omega (arith, more, new, one, less)
 
-  -- or waits, where no server is at the relay's endpoint
-  module _ (here : is_some_server d.lab.topology d.q.at ≡ false) (six_made_of : IsIp6 d.q.six) (bytes : IsBytes x) where
-    -- the try
-    bubble_is : is_packet x ≡ true → AllByRecursion (WeighsFrom (weigh d) (λ (s : Send). 3) (own_of d)) (bubble_to (setup d) p ∷ [])
-    unfolding bubble_to
-    bubble_is packet =
-        let reads = laws.bubble d.q.six p six_made_of (laws.spelled x bytes packet).0.dst in (
-          λ made. bubble_sent laws.rows d.lab.topology d.q.at (server_ep (server_in p)) (bubble_bytes d.q.six p) (bubble_of d.q.six p) reads.payload reads.bytes
-              made.source reads.bubble here,
-          tt,
-        )
+  -- or waits, where no server is at the relay's endpoint; the try
+  bubble_is : is_packet x ≡ true → AllByRecursion (WeighsFrom (weigh d) (λ (s : Send). 3) (own_of d)) (bubble_to (setup d) p ∷ [])
+  unfolding bubble_to
+  bubble_is packet =
+      let reads = laws.bubble d.q.six p g.six (laws.spelled x g.bytes packet).0.dst in (
+        λ made.
+            let old = bubble_sent laws.rows d.lab.topology d.q.at (server_ep (server_in p)) (bubble_bytes d.q.six p) (bubble_of d.q.six p) reads.payload
+            reads.bytes made.source reads.bubble g.here in
+            let most = eased_most d.ease d.lab.topology (d.r ∷ d.H) (udp d.q.at (server_ep (server_in p)) (bubble_bytes d.q.six p)) in
+            omega (arith, old, most),
+        tt,
+      )
 
-    abbrev queued_by : Bool → Entry
-    queued_by barred = wordless_entry d.m (from_six x) (packet_given x) (destination_in x) (relay_queues barred (setup d) p)
+  abbrev queued_by : Bool → Entry
+  queued_by barred = wordless_entry (moment_of d) (from_six x) (packet_given x) (destination_in x) (relay_queues barred (setup d) p)
 
-    queued : Goes fate.Queued
-    queued only = by (is_barred stands.moment (relay_known_in stands)) where
-      packet : is_packet x ≡ true
-      packet = (goes_on only.out).well_formed
+  queued : Goes fate.Queued
+  queued only = by (is_barred stands.moment (relay_known_in stands)) where
+    packet : is_packet x ≡ true
+    packet = (goes_on only.out).well_formed
 
-      by : (barred : Bool) → IsLight d (queued_by barred)
-      by true made =
-          let less = touches (queued_by true) packet refl refl refl in
-          let kept = ap (added relay_packet) (given_is packet) in
-          omega (arith, more, less, kept)
-      by false made =
-          let new = own_weigh (record { items = weigh d; sends = (λ (s : Send). 3); own = own_of d }) d.fails 0 (bubble_to (setup d) p ∷ []) []
-          made (bubble_is packet) in
-          let one = sum_by-cons (λ (s : Send). 3) (bubble_to (setup d) p) [] in
-          let less = touches (queued_by false) packet refl refl refl in
-          let kept = ap (added relay_packet) (given_is packet) in
-          omega (arith, more, new, one, less, kept)
+    more : packet_of d x + 4 ≤ d.heavy
+    more = g.later (sym (asked_trust packet) ∙ only.untrusted)
 
-    packet_each : Each Goes (relay_packet_lines asked)
-    packet_each = (
-      idly fate.Malformed (refl, refl, refl, refl, refl),
+    by : (barred : Bool) → IsLight d (queued_by barred)
+    by true next made =
+        let heavy = more in
+        let less = touches (queued_by true) packet refl refl refl in
+        let kept = ap (added (packet_of d)) (given_is packet) in
+        omega (arith, heavy, less, kept)
+    by false next made =
+        let heavy = more in
+        let new = own_weigh (record { items = weigh d; sends = (λ (s : Send). 3); own = own_of d }) (armed d.H) 0
+        (bubble_to (setup d) p ∷ []) [] made (bubble_is packet) in
+        let one = sum_by-cons (λ (s : Send). 3) (bubble_to (setup d) p) [] in
+        let less = touches (queued_by false) packet refl refl refl in
+        let kept = ap (added (packet_of d)) (given_is packet) in
+        omega (arith, heavy, new, one, less, kept)
+
+  packet_each : Each Goes (relay_packet_lines asked)
+  packet_each = (
+    idly fate.Malformed (refl, refl, refl, refl, refl),
+    (
+      idly fate.Big (refl, refl, refl, refl, refl),
       (
-        idly fate.Big (refl, refl, refl, refl, refl),
+        idly fate.Dest (refl, refl, refl, refl, refl),
         (
-          idly fate.Dest (refl, refl, refl, refl, refl),
-          (
-            idly fate.Source (refl, refl, refl, refl, refl),
-            (idly fate.Embedded (refl, refl, refl, refl, refl), (idly fate.Loop (refl, refl, refl, refl, refl), tt)),
-          ),
+          idly fate.Source (refl, refl, refl, refl, refl),
+          (idly fate.Embedded (refl, refl, refl, refl, refl), (idly fate.Loop (refl, refl, refl, refl, refl), tt)),
         ),
       ),
-    )
+    ),
+  )
 
-    destination_each : Each Goes (relay_destination_lines asked)
-    destination_each = (
-      sent,
-      (
-        idly fate.PeersFull (refl, refl, refl, refl, refl),
-        (sent_cone, (idly fate.Barred (refl, refl, refl, refl, refl), (idly fate.QueueFull (refl, refl, refl, refl, refl), tt))),
-      ),
-    )
+  destination_each : Each Goes (relay_destination_lines asked)
+  destination_each = (
+    sent,
+    (
+      idly fate.PeersFull (refl, refl, refl, refl, refl),
+      (sent_cone, (idly fate.Barred (refl, refl, refl, refl, refl), (idly fate.QueueFull (refl, refl, refl, refl, refl), tt))),
+    ),
+  )
 
-    each_way : Goes (relay_transmission_row asked)
-    each_way = skip Goes (relay_packet_lines asked) (relay_destination_lines asked) fate.Queued packet_each
-        (first_of_each Goes (relay_destination_lines asked) fate.Queued destination_each queued)
+  each_way : Goes (relay_transmission_row asked)
+  each_way = skip Goes (relay_packet_lines asked) (relay_destination_lines asked) fate.Queued packet_each
+      (first_of_each Goes (relay_destination_lines asked) fate.Queued destination_each queued)
 
-    pub packet_lightens : IsLight d (relay_six (setup d) d.j d.m x)
-    unfolding relay_six relay_transmission
-    packet_lightens = each_way (laws.transmitted (setup d) stands x)
+  pub packet_lightens : IsLight d (relay_six (setup d) (journal_of d) (moment_of d) x)
+  unfolding relay_six relay_transmission
+  packet_lightens = each_way (laws.transmitted (setup d) stands x)

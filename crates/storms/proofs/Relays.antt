@@ -15,10 +15,12 @@ use Rattle.teredo_node.specs.Step.{Send}
 use Rattle.teredo_node.specs.Sends.{send, releases}
 use Rattle.topology.specs.Rows.{TopologyState}
 use Rattle.history.specs.Full.{udp}
-use Rattle.storms.specs.Weights.{entry_weight}
-use Rattle.storms.specs.Burden.{relay_packet}
+use Rattle.weights.specs.Weights.{entry_weight}
+use Rattle.weights.specs.Burden.{relay_packet}
 use Rattle.storms.proofs.AtServers.{RowLaws}
 use Rattle.storms.proofs.Sent.{reply_sent, packet_sent}
+use Rattle.teredo_node.specs.Journal.{Entry}
+use Rattle.relay_rules.specs.Bearings.{relay_mention, relay_mentions}
 use Rattle.storms.proofs.NewItems.{MayWeigh}
 
 -- PACKETS AS THEY ARE READ
@@ -46,6 +48,12 @@ packet_weighs laws payload t to x h src made = by (is_echo_reply (message_in (fi
       (payload x (fields_in x) made.bytes made.short (packet_read x h.well_formed)) made.bytes made.source h.native h.teredo h.where_to e
   by false e = packet_sent laws t src to x (fields_in x)
       (payload x (fields_in x) made.bytes made.short (packet_read x h.well_formed)) made.bytes made.source h.teredo h.where_to
+
+-- ONE MORE ENTRY OF ITS JOURNAL
+
+pub one_more : (e : Entry) (j : List Entry) → relay_mentions (e ∷ j) ≡ relay_mention e ∷ relay_mentions j
+unfolding relay_mentions
+one_more e j = refl
 
 -- SOME, TO ONE ENDPOINT
 

@@ -1,82 +1,137 @@
--- A delivery to a relay lightens.
-use Rattle.std.proofs.Common.{◌≡◌, ◌≤◌, ℕ, ◌+◌, ◌&&◌, Bool, true, false, cond, List, ◌∷◌, map, Some, None, sym, ap, subst, ◌∙◌, arith}
-use Rattle.std.specs.Prelude.{sum, sum_by}
+-- A delivery to a relay eases.
+use Rattle.std.proofs.Common.{◌≡◌, ◌≤◌, ℕ, ◌+◌, Bool, true, false, cond, List, ◌∷◌, Some, None, refl, sym, ap, subst, ◌∙◌, arith}
+use Rattle.std.specs.Prelude.{sum_by, is_some}
 use Rattle.std.specs.List.{AllByRecursion}
+use Rattle.std.proofs.lemmas.Bool.{false≢true}
 use Rattle.td_base.specs.Ep.{same_ep, same_ep-self}
+use Rattle.td_base.specs.declared.ipv6.Ip6.{Ip6}
+use Rattle.ipv6_packet.specs.Packets.{Fields}
 use Rattle.ipv6_packet.specs.Reads.{fields_in}
 use Rattle.bubble.specs.Messages.{message_in, is_echo_reply}
 use Rattle.teredo_node.specs.Journal.{Entry, Journal}
 use Rattle.peer_list.specs.Mentions.{Mention}
+use Rattle.peer_list.specs.Peers.{known}
 use Rattle.relay_rules.specs.Bearings.{relay_mention, relay_mentions}
 use Rattle.topology.specs.declared.relay_node.RelayNode.{RelayNode}
 use Rattle.topology.specs.Rows.{TopologyState}
 use Rattle.topology.specs.declared.node.Node.TheVariants.{Relay as relay}
-use Rattle.topology.specs.Topology.{nodes}
+use Rattle.topology.specs.Topology.{nodes, node_at}
 use Rattle.topology.specs.NodeRules.{IsRelayNode}
 use Rattle.history.specs.Full.{Item, udp, six, Made, Full}
 use Rattle.legal.specs.Lab.{Lab}
-use Rattle.legal.specs.Past.{armed, journal}
+use Rattle.legal.specs.Past.{now, journal}
 use Rattle.legal.specs.MadeWire.{IsMadeItem}
-use Rattle.storms.specs.Weights.{is_relay_at, packet_weight, datagram_weight, weight_at, entry_weight}
-use Rattle.storms.specs.Burden.{waiting_packets, relay_packet, waits_at}
-use Rattle.storms.proofs.Weighed.{weight_least, datagram_least}
-use Rattle.storms.proofs.PeersWait.{PeerLaws, waits_in}
+use Rattle.legal.specs.Deliveries.{done_with, IsReached}
+use Rattle.weights.specs.Weights.{is_relay_at, weight_at}
+use Rattle.weights.specs.Burden.{waiting_packets}
+use Rattle.storms.proofs.PeersWait.{PeerLaws, waits_in, waiting_is}
 use Rattle.storms.proofs.Places.{first_is, any_there, relay_is_apart}
 use Rattle.storms.proofs.Freights.{relay_weight}
 use Rattle.storms.proofs.NewItems.{items_in}
-use Rattle.storms.proofs.Reached.{answer_of, IsReached, NodeLightens}
-use Rattle.storms.proofs.AtRelay.{RelayLaws, waits_as, one_more, AtRelay, IsLight}
-use Rattle.storms.proofs.RelayReceives.{datagram_lightens}
+use Rattle.storms.proofs.Relays.{one_more}
+use Rattle.weights.specs.Trust.{trusts_as, relay_trusts}
+use Rattle.weights.specs.Eased.{is_of_relay, eases_for_relay, less, weight_with, waiting_weight, waiting_at}
+use Rattle.storms.proofs.EasedWeights.{Ease, eased_is, eased_least, eased_under}
+use Rattle.storms.proofs.AtRelay.{RelayLaws, AtRelay, IsLight}
 use Rattle.storms.proofs.RelaySends.{packet_lightens}
+use Rattle.storms.proofs.RelayReceives.{datagram_lightens}
+use Rattle.storms.proofs.Reached.{Weighing, topology_of, Comes, weigh_before, weigh_after, NodeEases}
 
 -- what waits in the relay after it and before it
-waits_after : PeerLaws → (lab : Lab) (H : List Full) (r : Full) (n : ℕ) (q : RelayNode) (x : Item) → IsReached lab H r n (relay q) x
-    → sum (waits_at (r ∷ H) n (relay q)) ≡ waits_in relay_packet (relay_mention (answer_of lab H r n (relay q) x) ∷ relay_mentions (journal n H).entries) r.moment
-waits_after laws lab H r n q x h =
-    let e : Entry = answer_of lab H r n (relay q) x in
-    ap (λ (z : Journal). sum (map relay_packet (waiting_packets (relay_mentions z.entries) r.moment))) h.later ∙ waits_as laws (e ∷ (journal n H).entries) r.moment
-    ∙ ap (λ (z : List Mention). waits_in relay_packet z r.moment) (one_more e (journal n H).entries)
+waits_after : PeerLaws → (ease : ℕ) (lab : Lab) (H : List Full) (r : Full) (n : ℕ) (q : RelayNode) (x : Item) → IsReached lab H r n (relay q) x
+    → waiting_at ease lab.topology (r ∷ H) n (relay q)
+    ≡ waits_in (waiting_weight ease lab.topology n) (relay_mention (done_with lab H r n (relay q) x) ∷ relay_mentions (journal n H).entries) r.moment
+waits_after laws ease lab H r n q x h =
+    let e : Entry = done_with lab H r n (relay q) x in
+    ap (λ (z : Journal). sum_by (waiting_weight ease lab.topology n) (waiting_packets (relay_mentions z.entries) r.moment)) h.act.later
+    ∙ waiting_is (waiting_weight ease lab.topology n) laws (relay_mentions (e ∷ (journal n H).entries)) r.moment
+    ∙ ap (λ (z : List Mention). waits_in (waiting_weight ease lab.topology n) z r.moment) (one_more e (journal n H).entries)
 
-waits_before : PeerLaws → (lab : Lab) (H : List Full) (r : Full) (n : ℕ) (q : RelayNode) (x : Item) → IsReached lab H r n (relay q) x
-    → sum (waits_at H n (relay q)) ≡ waits_in relay_packet (relay_mentions (journal n H).entries) r.moment
-waits_before laws lab H r n q x h = ap (λ (k : ℕ). sum (map relay_packet (waiting_packets (relay_mentions (journal n H).entries) k))) (sym h.moment)
-    ∙ waits_as laws (journal n H).entries r.moment
+waits_before : PeerLaws → (ease : ℕ) (lab : Lab) (H : List Full) (r : Full) (n : ℕ) (q : RelayNode) (x : Item) → IsReached lab H r n (relay q) x
+    → waiting_at ease lab.topology H n (relay q) ≡ waits_in (waiting_weight ease lab.topology n) (relay_mentions (journal n H).entries) r.moment
+waits_before laws ease lab H r n q x h =
+    ap (λ (k : ℕ). sum_by (waiting_weight ease lab.topology n) (waiting_packets (relay_mentions (journal n H).entries) k)) (sym h.moment)
+    ∙ waiting_is (waiting_weight ease lab.topology n) laws (relay_mentions (journal n H).entries) r.moment
 
--- a packet for a relay that is an echo reply weighs 5, and any other 12
-for_relay : (x : List ℕ) → relay_packet x + 4 ≤ packet_weight true (fields_in x)
-for_relay x = by (is_echo_reply (message_in (fields_in x))) where
-  by : (b : Bool) → cond b 1 8 + 4 ≤ cond (true && b) 5 12
-  by true = omega arith
-  by false = omega arith
+-- A PACKET FOR IT
 
-module _ (laws : RelayLaws) (lab : Lab) (H : List Full) (r : Full) (n : ℕ) (q : RelayNode) where
+-- by whether it is an echo reply, for a client that is trusted, or from a host of the relay
+more_by : (z : Ease) (reply trusted of : Bool) → cond reply 1 (less z.amount of 8) + 1 ≤ less z.amount (cond reply trusted of) (cond reply 5 12)
+more_by z true true of = let few = z.few in omega (arith, few)
+more_by z true false of = omega arith
+more_by z false trusted true = let few = z.few in omega (arith, few)
+more_by z false trusted false = omega arith
+
+later_by : (z : Ease) (reply trusted of : Bool) → trusted ≡ false
+    → cond reply 1 (less z.amount of 8) + 4 ≤ less z.amount (cond reply trusted of) (cond reply 5 12)
+later_by z true true of e = absurd (false≢true (sym e))
+later_by z true false of e = omega arith
+later_by z false trusted true e = let few = z.few in omega (arith, few)
+later_by z false trusted false e = omega arith
+
+weight_is : (z : Ease) (t : TopologyState) (H : List Full) (n : ℕ) (x : List ℕ) → weight_with z.amount t H (six (Some n) x)
+    ≡ less z.amount (cond (is_echo_reply (message_in (fields_in x))) (relay_trusts t H n (fields_in x).dst) (is_of_relay t n (fields_in x)))
+    (cond (is_echo_reply (message_in (fields_in x))) 5 12)
+weight_is z t H n x = eased_is z t H (six (Some n) x) (eases_for_relay t H n (fields_in x)) refl
+
+module _ (laws : RelayLaws) (s : Weighing) (n : ℕ) (q : RelayNode) where
+  abbrev t : TopologyState
+  t = topology_of s
+
   -- the relay after a history, given what weighs this much
   abbrev given : ℕ → AtRelay
-  given heavy = record { lab = lab; q = q; n = n; m = r.moment; j = (journal n H).entries; fails = armed H; heavy = heavy }
+  given heavy = record { ease = s.ease; lab = s.lab; H = s.before; r = s.full; n = n; q = q; heavy = heavy }
 
-  light : (x : Item) → IsReached lab H r n (relay q) x → (heavy : ℕ) → heavy ≤ entry_weight lab.topology x
-      → IsLight (given heavy) (answer_of lab H r n (relay q) x)
-      → NodeLightens lab H r n (relay q) x
-  light x h heavy weighs less =
-      let is = ap (λ (ms : List Made). sum_by (entry_weight lab.topology) (items_in ms)) h.made in
-      let one = less (subst (λ (ms : List Made). AllByRecursion IsMadeItem (items_in ms)) h.made h.fresh) in
-      let new = waits_after laws.peers lab H r n q x h in
-      let old = waits_before laws.peers lab H r n q x h in
+  light : (x : Item) → Comes s n (relay q) x → (heavy : ℕ) → heavy ≤ weigh_before s x
+      → IsLight (given heavy) (done_with s.lab s.before s.full n (relay q) x)
+      → NodeEases s n (relay q) x
+  light x h heavy weighs less_than =
+      let is = ap (λ (ms : List Made). sum_by (weigh_after s) (items_in ms)) h.act.made in
+      let one = less_than h.act.later (subst (λ (ms : List Made). AllByRecursion IsMadeItem (items_in ms)) h.act.made (h.fresh s.is)) in
+      let new = waits_after laws.peers s.ease.amount s.lab s.before s.full n q x h in
+      let old = waits_before laws.peers s.ease.amount s.lab s.before s.full n q x h in
       omega (arith, is, one, new, old, weighs)
 
-  pub relay_lightens : (x : Item) → IsReached lab H r n (relay q) x → NodeLightens lab H r n (relay q) x
-  relay_lightens (six None bytes) h = absurd h.goes
-  relay_lightens (six (Some k) bytes) h =
-      let keeps : IsRelayNode q = laws.rules lab.topology n (relay q) h.is h.there in
-      let heavy : ℕ = packet_weight true (fields_in bytes) in
-      light (six (Some k) bytes) h heavy (omega arith)
-      (packet_lightens laws (given heavy) (weight_least lab.topology (six (Some k) bytes)) bytes (for_relay bytes)
-      (relay_is_apart laws.apart lab.topology n q h.is h.there (same_ep-self q.at)) keeps.six h.came.bytes)
-  relay_lightens (udp src dst bytes) h =
-      let t : TopologyState = lab.topology in
-      let j = (laws.journals lab H n q h.grown.1 h.there).journal in
+  -- trust before it
+  before_is : node_at t n ≡ Some (relay q) → (c : Ip6) → relay_trusts t s.before n c
+      ≡ is_some (known (relay_mentions (journal n s.before).entries) (now s.before) c).trusted
+  unfolding relay_trusts
+  before_is there c = ap (trusts_as s.before n c) there
+
+  pub relay_eases : (x : Item) → Comes s n (relay q) x → NodeEases s n (relay q) x
+  relay_eases (six None bytes) h = absurd h.goes
+  relay_eases (six (Some k) bytes) h =
+      let p : Fields = fields_in bytes in
+      let reply : Bool = is_echo_reply (message_in p) in
+      let keeps : IsRelayNode q = laws.rules t n (relay q) s.is h.act.there in
+      let heavy : ℕ = weigh_before s (six (Some n) bytes) in
+      let is = weight_is s.ease t s.before n bytes in
+      let same = ap (λ (j : ℕ). weigh_before s (six (Some j) bytes)) h.goes in
+      let more = more_by s.ease reply (relay_trusts t s.before n p.dst) (is_of_relay t n p) in
+      light (six (Some k) bytes) h heavy (omega (arith, same))
+      (packet_lightens laws (given heavy) bytes (record {
+        there = h.act.there;
+        more = omega (arith, is, more);
+        later = λ e.
+            let now_is = ap (λ (m : ℕ). is_some (known (relay_mentions (journal n s.before).entries) m p.dst).trusted) (sym h.moment) in
+            let later = later_by s.ease reply (relay_trusts t s.before n p.dst) (is_of_relay t n p) (before_is h.act.there p.dst ∙ now_is ∙ e) in
+            omega (arith, is, later);
+        here = relay_is_apart laws.apart t n q s.is h.act.there (same_ep-self q.at);
+        six = keeps.six;
+        bytes = (h.came s.is).bytes;
+      }))
+  relay_eases (udp src dst bytes) h =
       let here : same_ep dst q.at ≡ true = ap (same_ep dst) (sym h.goes) ∙ same_ep-self dst in
-      let first = ap (weight_at t src dst bytes) (first_is laws.apart t dst n (relay q) h.is h.there here) in
-      light (udp src dst bytes) h (datagram_weight t src dst bytes) (omega (arith, first))
-      (datagram_lightens laws (given (datagram_weight t src dst bytes)) j (datagram_least t src dst bytes) src bytes
-      (λ teredo payload plain. relay_weight t src dst bytes (any_there (is_relay_at dst) (nodes t) n (relay q) h.there here) payload teredo plain))
+      let first = ap (weight_at t src dst bytes) (first_is laws.apart t dst n (relay q) s.is h.act.there here) in
+      let heavy : ℕ = weigh_before s (udp src dst bytes) in
+      let under = eased_under s.ease t s.before (udp src dst bytes) in
+      light (udp src dst bytes) h heavy (omega arith)
+      (datagram_lightens laws (given heavy) src bytes (record {
+        is = s.is;
+        there = h.act.there;
+        journal = (laws.journals s.lab s.before n q s.grown.1 h.act.there).journal;
+        least = eased_least s.ease t s.before (udp src dst bytes);
+        more = λ teredo payload plain.
+            let seven = relay_weight t src dst bytes (any_there (is_relay_at dst) (nodes t) n (relay q) h.act.there here) payload teredo plain in
+            omega (arith, seven, first, under);
+      }))

@@ -20,7 +20,7 @@ use Rattle.topology.specs.declared.node.Node.TheVariants.{Server as server, Nat 
 use Rattle.topology.specs.Topology.{nodes, is_at, side_at}
 use Rattle.history.specs.Full.{udp}
 use Rattle.legal.specs.Settings.{server_settings}
-use Rattle.storms.specs.Weights.{is_server_at, is_some_server, datagram_weight, output_weight, weight_at, entry_weight}
+use Rattle.weights.specs.Weights.{is_server_at, is_some_server, datagram_weight, output_weight, weight_at, entry_weight}
 use Rattle.storms.proofs.Weighed.{datagram_most}
 use Rattle.storms.proofs.Places.{first_at, IsThere, is_there, ep_ip, any_there}
 use Rattle.storms.proofs.Freights.{load, load_is, bubble_load, teredo_load, reply_load, packet_under, bubble_message, bubble_weight}

@@ -11,7 +11,7 @@ use Rattle.legal.specs.Past.{has_more, was_delivered, first_open, first_undelive
 use Rattle.legal.specs.Kinds.{Delivers, Kind, quiet, put, copied, ticks, handed, reached, Quiet, passed, shut, strayed, missing, none_left, settled, uncopied}
 use Rattle.legal.specs.Kinds.{hosted, restarted, forgot, faulted}
 use Rattle.storms.specs.Deliveries.{DeliversNew, SettleDeliversNew}
-use Rattle.storms.proofs.Exchanged.{KindLaw}
+use Rattle.legal.specs.Legal.{Follows}
 
 -- the first that wasn't delivered is one of those that are there
 record IsOpen (H : List Full) (n k : ℕ) : Type 0 where
@@ -77,6 +77,9 @@ module _ (lab : Lab) (H : List Full) (r : Full) (asked : r.asked ≡ event.Settl
   of_kind (ticks ms x e due within is) = other r (event.Advance ms) asked e refl
   of_kind (handed v n x a hands at is) = stops r _ asked more (ap (λ (z : Full). z.act) is) refl
   of_kind (reached number n x a delivers at goes to is) = taken number delivers (ap (λ (z : Full). z.delivered) is)
+
+abbrev KindLaw : Type 0
+KindLaw = (lab : Lab) (H : List Full) (r : Full) → Follows lab H r → Kind lab H r
 
 pub settle_delivers_new : KindLaw → SettleDeliversNew
 settle_delivers_new law lab H r g on = of_kind lab H r on.asked on.more (law lab H r g.0)

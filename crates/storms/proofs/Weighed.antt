@@ -26,9 +26,9 @@ use Rattle.topology.specs.Topology.{nodes, node_at, first_passing, is_at, side_a
 use Rattle.history.specs.Full.{Item, udp, six, Full}
 use Rattle.legal.specs.Settings.{server_settings}
 use Rattle.legal.specs.Past.{now, journal}
-use Rattle.storms.specs.Weights.{is_some_server, is_echo_request, packet_weight, Freight, freight, freight_weight, datagram_weight, send_weight, six_weight}
-use Rattle.storms.specs.Weights.{weight_at, entry_weight}
-use Rattle.storms.specs.Burden.{undelivered_items, waiting_packets, client_packet, relay_packet, waits_at, waits_from, waits}
+use Rattle.weights.specs.Weights.{is_some_server, is_echo_request, packet_weight, Freight, freight, freight_weight, datagram_weight, send_weight, six_weight}
+use Rattle.weights.specs.Weights.{weight_at, entry_weight}
+use Rattle.weights.specs.Burden.{undelivered_items, waiting_packets, client_packet, relay_packet, waits_at, waits_from, waits}
 use Rattle.storms.specs.Loads.{EachIsWeighed, BurdenIsBounded}
 
 -- WEIGHTS

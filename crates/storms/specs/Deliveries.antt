@@ -8,7 +8,7 @@ use Rattle.history.specs.Full.{Full}
 use Rattle.legal.specs.Lab.{Lab}
 use Rattle.legal.specs.Past.{was_delivered, has_more}
 use Rattle.legal.specs.Legal.{Grown}
-use Rattle.storms.specs.Burden.{burden, burden_most}
+use Rattle.weights.specs.Burden.{burden, burden_most}
 
 -- DELIVERIES ALONE
 

@@ -1,6 +1,7 @@
-pub mod Weights
-pub mod Burden
-pub mod Deliveries
 pub mod Loads
+pub mod Deliveries
+pub mod Falls
 pub mod Throughout
-pub mod Left
+pub mod Follow
+pub mod ByKind
+pub mod NineThroughout

@@ -9,8 +9,8 @@ use Rattle.topology.specs.Rules.{IsTopology}
 use Rattle.legal.specs.Lab.{Lab}
 use Rattle.legal.specs.Past.{was_delivered}
 use Rattle.legal.specs.Legal.{Grown}
-use Rattle.storms.specs.Weights.{weight_at, entry_weight, WEIGHT_MAX, SERVED_WEIGHT_MAX}
-use Rattle.storms.specs.Burden.{undelivered_items, waits, burden, burden_most}
+use Rattle.weights.specs.Weights.{weight_at, entry_weight, WEIGHT_MAX, SERVED_WEIGHT_MAX}
+use Rattle.weights.specs.Burden.{undelivered_items, waits, burden, burden_most}
 
 -- an entry weighs 1 at least, itself, and 12 at most
 pub record IsWeighed (t : TopologyState) (x : Item) : Type 0 where

@@ -48,8 +48,8 @@ use Rattle.relay_rules.specs.Reception.{relay_seen, relay_reception}
 use Rattle.relay_rules.specs.Journals.{relay_in, relay_six, relay_tick, relay_due}
 use Rattle.native_host.specs.Natives.{native_in, native_out}
 use Rattle.legal.specs.Next.{next}
-use Rattle.storms.specs.Weights.{datagram_weight}
-use Rattle.storms.specs.Burden.{burden_most}
+use Rattle.weights.specs.Weights.{datagram_weight}
+use Rattle.weights.specs.Burden.{burden_most}
 use Rattle.events.specs.declared.event.Event.TheVariants as event
 use Rattle.events.specs.Scenario.{Scenario}
 use Rattle.worked_scenarios.proofs.Scenes.{name2, ip, ep, some_words, play}

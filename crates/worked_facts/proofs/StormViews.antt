@@ -3,7 +3,7 @@ use Rattle.std.proofs.Common.{◌≡◌, ◌≤◌, ◌<◌, ℕ, List, arith}
 use Rattle.std.specs.Prelude.{length, is_some, if◌then◌else◌, sum_by}
 use Rattle.topology.specs.Rows.{TopologyState}
 use Rattle.history.specs.Full.{Full}
-use Rattle.storms.specs.Burden.{undelivered_items, waits, burden, burden_most}
+use Rattle.weights.specs.Burden.{undelivered_items, waits, burden, burden_most}
 
 -- how many entries are undelivered and how many packets wait, what they weigh, and how much that can be at most
 pub record Storm : Type 0 where

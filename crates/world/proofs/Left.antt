@@ -11,9 +11,9 @@ use Rattle.legal.specs.Lab.{Draws, Lab}
 use Rattle.legal.specs.Past.{now, began, going, has_more, was_delivered}
 use Rattle.legal.specs.Left.{time_left}
 use Rattle.legal.specs.Left as legal
-use Rattle.storms.specs.Weights.{entry_weight}
-use Rattle.storms.specs.Burden as past
-use Rattle.storms.specs.Left.{left_of_event, left}
+use Rattle.weights.specs.Weights.{entry_weight}
+use Rattle.weights.specs.Burden as past
+use Rattle.weights.specs.Left.{left_of_event, left}
 use Rattle.lab_nodes.specs.PlayedNode.{NodesOf, AreReady}
 use Rattle.lab_nodes.specs.DueMoments.{all_played_due, EachSumIsOfThePast}
 use Rattle.lab_nodes.specs.Waits.{played_waits, EachWaitsAsInThePast}

@@ -12,7 +12,8 @@ use Rattle.topology.specs.Rules.{IsTopology}
 use Rattle.history.specs.Full.{Item, Full, wire, items_of}
 use Rattle.legal.specs.declared.left.TheConstants.{LEFT_MAX}
 use Rattle.events.specs.declared.event.TheConstants.{ENTRY_NUMBER_MAX}
-use Rattle.storms.specs.Left.{left, EachFalls}
+use Rattle.weights.specs.Left.{left}
+use Rattle.storms.specs.Falls.{EachFalls}
 use Rattle.legal.specs.Lab.{Draws, Lab, lab_on}
 use Rattle.legal.specs.Past.{began, going, has_more, is_number, was_delivered}
 use Rattle.legal.specs.Next.{next_of}

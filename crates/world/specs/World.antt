@@ -24,8 +24,8 @@ use Rattle.legal.specs.Next.{next_of}
 use Rattle.legal.specs.Legal.{Grown}
 use Rattle.legal.specs.declared.left.TheConstants.{LEFT_MAX}
 use Rattle.legal.specs.Left.{time_left}
-use Rattle.storms.specs.Weights.{entry_weight}
-use Rattle.storms.specs.Left.{left}
+use Rattle.weights.specs.Weights.{entry_weight}
+use Rattle.weights.specs.Left.{left}
 use Rattle.promises.specs.Kept.{KeptThroughout}
 use Rattle.lab_nodes.specs.declared.played_node.PlayedNode.{PlayedNode}
 use Rattle.lab_nodes.specs.PlayedNode.{NodesOf}

@@ -1,5 +1,0 @@
-use Rattle.eased_storms.proofs.Alone.{nine}
-use Rattle.eased_storms.proofs.laws.nine_follow.Goals as goal
-
-pub returns : goal.returns
-returns c = nine c.nine_for_each.ensures

@@ -1,4 +1,0 @@
-pub mod Trust
-pub mod Eased
-pub mod Follow
-pub mod Throughout

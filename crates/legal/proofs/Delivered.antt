@@ -1,0 +1,167 @@
+-- What comes of a delivery, by the kind of its record.
+use Rattle.std.proofs.Common.{◌≡◌, ◌≢◌, ℕ, Bool, true, false, cond, List, [], ◌∷◌, ◌++◌, Option, Some, None, refl, sym, ap, subst, ◌∙◌}
+use Rattle.std.specs.Prelude.{slice_get, unwrap_or, is_some}
+use Rattle.std.proofs.lemmas.Bool.{false≢true}
+use Rattle.nat_kinds.specs.History.{Restart}
+use Rattle.teredo_node.specs.Journal.{Entry}
+use Rattle.topology.specs.declared.node.Node.{Node}
+use Rattle.topology.specs.Chains.{outs_at}
+use Rattle.topology.proofs.Lists.{all_right, all_at}
+use Rattle.history.specs.Full.{Item, Full, wire, items_of}
+use Rattle.legal.specs.Lab.{Lab}
+use Rattle.legal.specs.Past.{now, is_node, is_restart, forgotten, with_entries, new_journal, journal, at_nat, nat_history}
+use Rattle.legal.specs.Emit.{Route, reaches, route, entry_of}
+use Rattle.legal.specs.Next.{dst_of, input_of}
+use Rattle.legal.specs.Kinds as kinds
+use Rattle.legal.specs.Kinds.{Kind, quiet, put, copied, ticks, handed, reached, Quiet, shut, strayed, missing, none_left, settled, uncopied, hosted}
+use Rattle.legal.specs.Kinds.{restarted, forgot, faulted}
+use Rattle.legal.specs.Legal.{Grown}
+use Rattle.legal.specs.Actors.{IsActOf}
+use Rattle.legal.specs.OfNode.{OfNode, rests, acts}
+use Rattle.legal.specs.OwnSends.{EachMakesItsOwn}
+use Rattle.legal.specs.MadeWire.{IsMadeItem, EachHistoryIsMade}
+use Rattle.legal.specs.Routes.{EachRoute}
+use Rattle.legal.specs.Deliveries.{done_with, IsMissed, Delivery, to_node, to_nobody, EachDelivery}
+use Rattle.legal.proofs.ByKind.{kind_of}
+use Rattle.legal.proofs.OfNode.{each_is_of_node}
+use Rattle.legal.proofs.Growth.{delivers_forget_none}
+use Rattle.legal.proofs.Framed.{is_node-true, frames}
+
+pub record DeliveryLaws : Type 0 where
+  pub routes : EachRoute
+  pub owns : EachMakesItsOwn
+  pub histories : EachHistoryIsMade
+
+-- JOURNALS AND NATS
+
+-- a NAT that isn't the record's node adds what it let out
+adds : (lab : Lab) (k : ℕ) (r : Full) (H : List Full) → r.node ≢ Some k → nat_history lab k (r ∷ H) ≡ outs_at k r.passed ++ nat_history lab k H
+adds lab k r H other = by (is_node k r.node) refl where
+  by : (b : Bool) → is_node k r.node ≡ b → nat_history lab k (r ∷ H) ≡ outs_at k r.passed ++ nat_history lab k H
+  by true e = absurd (other (is_node-true k r.node e))
+  by false e = ap (λ (b : Bool). cond b (at_nat lab r.asked r.act) (outs_at k r.passed) ++ nat_history lab k H) e
+
+-- where no node did anything, and none started anew, journals stay
+journal_still : (k : ℕ) (r : Full) (H : List Full) → r.entry ≡ None → is_restart r.act ≡ false → journal k (r ∷ H) ≡ journal k H
+journal_still k r H entry still = by (is_node k r.node) where
+  by : (b : Bool) → cond b (cond (is_restart r.act) (new_journal r.moment) (with_entries (journal k H) r.entry)) (journal k H) ≡ journal k H
+  by false = refl
+  by true = ap (λ (c : Bool). cond c (new_journal r.moment) (with_entries (journal k H) r.entry)) still
+      ∙ ap (λ (o : Option Entry). with_entries (journal k H) o) entry
+
+other_node : (o : Option ℕ) (n k : ℕ) → o ≡ Some n → k ≢ n → o ≢ Some k
+other_node o n k is apart e = apart (sym (ap (λ (z : Option ℕ). unwrap_or z n) (sym is ∙ e)))
+
+-- ONE ACT
+
+-- the node's act is that with this entry
+act_is : (lab : Lab) (H : List Full) (r : Full) (n : ℕ) (a : Node) (e : Entry) → OfNode lab H r n a → r.entry ≡ Some e → IsActOf lab H r n a e
+act_is lab H r n a e (rests none address hands late lets) entry = absurd (false≢true (ap (λ (o : Option Entry). is_some o) (sym none ∙ entry)))
+act_is lab H r n a e (acts f act) entry =
+    subst (λ (z : Entry). IsActOf lab H r n a z) (ap (λ (o : Option Entry). unwrap_or o f) (sym act.entry ∙ entry)) act
+
+abbrev is_reached : Route → Bool
+is_reached (reaches n a) = true
+is_reached _ = false
+
+-- a record of no node, or of one that does nothing
+record IsBlank (H : List Full) (r : Full) : Type 0 where
+  moment : r.moment ≡ now H
+  still : is_restart r.act ≡ false
+  entry : r.entry ≡ None
+  address : r.address ≡ None
+  handed : r.handed ≡ None
+  late : r.late ≡ []
+  made : r.made ≡ []
+  passed : r.passed ≡ []
+
+-- ANY RECORD THAT DELIVERS
+
+module _ (laws : DeliveryLaws) (lab : Lab) (H : List Full) (r : Full) (number : ℕ) (g : Grown lab (r ∷ H))
+    (told : r.delivered ≡ Some number) where
+  nothing : {A : Type 0} → r.delivered ≡ None → A
+  nothing none = absurd (false≢true (ap (λ (o : Option ℕ). is_some o) (sym none ∙ told)))
+
+  here : (k : ℕ) (x : Item) → r.delivered ≡ Some k → slice_get (wire H) k ≡ Some x → slice_get (wire H) number ≡ Some x
+  here k x by at = ap (slice_get (wire H)) (ap (λ (o : Option ℕ). unwrap_or o number) (sym told ∙ by)) ∙ at
+
+  -- to nobody
+  missed : (x : Item) (o : Route) → forgotten lab r.asked ≡ [] → route lab H (now H) x ≡ o → is_reached o ≡ false → IsBlank H r → IsMissed lab H r x
+  missed x o lasting goes lost blank = record {
+    nobody = λ n a e. false≢true (sym lost ∙ ap is_reached (sym goes ∙ e));
+    moment = blank.moment;
+    entry = blank.entry;
+    address = blank.address;
+    handed = blank.handed;
+    late = blank.late;
+    made = blank.made;
+    passed = blank.passed;
+    journals = λ k. journal_still k r H blank.entry blank.still;
+    nats = λ k. (frames lab H r).silent k (ap (outs_at k) blank.passed)
+        (ap (λ (b : Bool). cond b (Restart ∷ []) (forgotten lab r.asked)) blank.still ∙ lasting);
+  }
+
+  of_quiet : r.entry ≡ None → r.address ≡ None → r.made ≡ [] → r.passed ≡ [] → Quiet lab H r → Delivery lab H r number
+  of_quiet entry address made passed (shut k n x delivers at closed e) =
+      to_nobody x (here k x (ap (λ (z : Full). z.delivered) e) at)
+      (missed x (route lab H (now H) x) (delivers_forget_none lab H r.asked k delivers) refl (ap is_reached closed) (record {
+        moment = ap (λ (z : Full). z.moment) e;
+        still = ap (λ (z : Full). is_restart z.act) e;
+        entry = entry;
+        address = address;
+        handed = ap (λ (z : Full). z.handed) e;
+        late = ap (λ (z : Full). z.late) e;
+        made = made;
+        passed = passed;
+      }))
+  of_quiet entry address made passed (strayed k x delivers at lost e) =
+      to_nobody x (here k x (ap (λ (z : Full). z.delivered) e) at)
+      (missed x (route lab H (now H) x) (delivers_forget_none lab H r.asked k delivers) refl (ap is_reached lost) (record {
+        moment = ap (λ (z : Full). z.moment) e;
+        still = ap (λ (z : Full). is_restart z.act) e;
+        entry = entry;
+        address = address;
+        handed = ap (λ (z : Full). z.handed) e;
+        late = ap (λ (z : Full). z.late) e;
+        made = made;
+        passed = passed;
+      }))
+  of_quiet entry address made passed (kinds.passed ms asked before e) = nothing (ap (λ (z : Full). z.delivered) e)
+  of_quiet entry address made passed (missing k delivers at e) = nothing (ap (λ (z : Full). z.delivered) e)
+  of_quiet entry address made passed (none_left asked left e) = nothing (ap (λ (z : Full). z.delivered) e)
+  of_quiet entry address made passed (settled asked left e) = nothing (ap (λ (z : Full). z.delivered) e)
+  of_quiet entry address made passed (uncopied k src dst asked at e) = nothing (ap (λ (z : Full). z.delivered) e)
+  of_quiet entry address made passed (hosted v n x hands at e) = nothing (ap (λ (z : Full). z.delivered) e)
+  of_quiet entry address made passed (restarted n asked e) = nothing (ap (λ (z : Full). z.delivered) e)
+  of_quiet entry address made passed (forgot n who asked e) = nothing (ap (λ (z : Full). z.delivered) e)
+  of_quiet entry address made passed (faulted send asked e) = nothing (ap (λ (z : Full). z.delivered) e)
+
+  -- or to a node
+  of_kind : Kind lab H r → Delivery lab H r number
+  of_kind (quiet entry address made passed why) = of_quiet entry address made passed why
+  of_kind (put src dst bytes asked e) = nothing (ap (λ (z : Full). z.delivered) e)
+  of_kind (copied k src dst x asked at e) = nothing (ap (λ (z : Full). z.delivered) e)
+  of_kind (ticks ms x asked due within e) = nothing (ap (λ (z : Full). z.delivered) e)
+  of_kind (handed v n x a hands at e) = nothing (ap (λ (z : Full). z.delivered) e)
+  of_kind (reached k n x a delivers at goes there e) =
+      let moment : r.moment ≡ now H = ap (λ (z : Full). z.moment) e in
+      let node : r.node ≡ Some n = ap (λ (z : Full). z.node) e in
+      let then : entry_of lab H (now H) n (dst_of x) (input_of x) a ≡ done_with lab H r n a x =
+      ap (λ (m : ℕ). entry_of lab H m n (dst_of x) (input_of x) a) (sym moment) in
+      let entry : r.entry ≡ Some (done_with lab H r n a x) = ap (λ (z : Full). z.entry) e ∙ ap (λ (z : Entry). Some z) then in
+      let act = act_is lab H r n a (done_with lab H r n a x) (each_is_of_node lab H r n a g.0 node there) entry in
+      to_node n a x (here k x (ap (λ (z : Full). z.delivered) e) at) (record {
+        act = act;
+        moment = moment;
+        fate = ap (λ (z : Full). z.fate) e ∙ ap (λ (z : Entry). z.step.fate) then;
+        leads = goes;
+        goes = laws.routes lab H (now H) x n a goes;
+        came = λ is. all_at IsMadeItem (wire H) k x (laws.histories lab H is g.1).wire at;
+        own = laws.owns lab H r n a (done_with lab H r n a x) act;
+        fresh = λ is. all_right IsMadeItem (wire H) (items_of r) (laws.histories lab (r ∷ H) is g).wire;
+        others = λ j apart. (frames lab H r).journals j (other_node r.node n j node apart);
+        nats = λ j apart. adds lab j r H (other_node r.node n j node apart);
+      })
+
+pub deliveries : DeliveryLaws → EachDelivery
+deliveries laws lab H r number g told = of_kind laws lab H r number g told (kind_of lab H r g.0)

@@ -1,0 +1,123 @@
+-- Each delivery of an entry that wasn't delivered before eases.
+use Rattle.std.proofs.Common.{◌≡◌, ◌≤◌, ◌<◌, ℕ, ◌+◌, List, ◌∷◌, Some, ap, ◌∙◌, arith}
+use Rattle.std.specs.Prelude.{sum_by, slice_get}
+use Rattle.topology.specs.Rows.{TopologyState}
+use Rattle.topology.specs.declared.node.Node.{Node}
+use Rattle.topology.specs.declared.node.Node.TheVariants.{Server as server, Nat as nat, Client as client, Relay as relay, Native as native}
+use Rattle.topology.specs.Topology.{nodes}
+use Rattle.history.specs.Full.{Item, Made, Full, wire, items_of}
+use Rattle.legal.specs.Past.{was_delivered}
+use Rattle.legal.specs.Deliveries.{Delivery, to_node, to_nobody, EachDelivery}
+use Rattle.weights.specs.Weights.{entry_weight}
+use Rattle.weights.specs.Burden.{undelivered_items, burden}
+use Rattle.weights.specs.Eased.{waiting_from, burden_with, weight_with}
+use Rattle.storms.specs.Loads.{DeliveryExchanges}
+use Rattle.storms.specs.Deliveries.{DeliversNew, EachLightens}
+use Rattle.storms.specs.Follow.{EachEases, NoMoreThanBefore}
+use Rattle.storms.proofs.NewItems.{items_in}
+use Rattle.storms.proofs.Sums.{all_under, one_counts}
+use Rattle.storms.proofs.EasedWeights.{Ease, eased_least, eased_most, eased_under, no_more}
+use Rattle.storms.proofs.Waits.{node_changes, none_changes, waits_most, waits_least}
+use Rattle.storms.proofs.Reached.{Weighing, Comes, weigh_before, weigh_after, NodeEases, lasts_through}
+use Rattle.storms.proofs.ServersLighten.{ServerLaws, NativeLaws}
+use Rattle.storms.proofs.NodesEase.{nothing_made, server_eases}
+use Rattle.storms.proofs.NativesEase.{native_eases}
+use Rattle.storms.proofs.AtRelay.{RelayLaws}
+use Rattle.storms.proofs.RelaysReached.{relay_eases}
+use Rattle.storms.proofs.AtClient.{ClientLaws}
+use Rattle.storms.proofs.ClientsReached.{client_eases}
+
+pub record EaseLaws : Type 0 where
+  pub deliveries : EachDelivery
+  pub exchanges : DeliveryExchanges
+  pub servers : ServerLaws
+  pub natives : NativeLaws
+  pub relays : RelayLaws
+  pub clients : ClientLaws
+
+module _ (laws : EaseLaws) (s : Weighing) where
+  abbrev t : TopologyState
+  t = s.lab.topology
+
+  -- EACH KIND OF NODE
+
+  node_eases : (n : ℕ) (a : Node) (x : Item) → Comes s n a x → NodeEases s n a x
+  node_eases n (server a) x h = server_eases laws.servers s n a x h
+  node_eases n (nat a) x h = nothing_made s x h.act.made
+  node_eases n (native a) x h = native_eases laws.natives s n a x h
+  node_eases n (relay a) x h = relay_eases laws.relays s n a x h
+  node_eases n (client a) x h = client_eases laws.clients s n a x h
+
+  -- THE SUMS
+
+  abbrev waiting : List Full → ℕ
+  waiting G = waiting_from s.ease.amount t G 0 (nodes t)
+
+  abbrev Eases : Type 0
+  Eases = burden_with s.ease.amount t (s.full ∷ s.before) < burden_with s.ease.amount t s.before
+
+  module _ (new : DeliversNew s.before s.full) where
+    -- what is made and waits weighs less than what was delivered and waited
+    fell : (x : Item) → slice_get (wire s.before) new.number ≡ Some x
+        → sum_by (weigh_after s) (items_of s.full) + waiting (s.full ∷ s.before) < weigh_before s x + waiting s.before → Eases
+    fell x at less_than =
+        let swap = laws.exchanges s.lab s.before s.full new.number x s.grown new.delivered new.new at (weigh_after s) in
+        let front : 0 + new.number ≡ new.number = omega arith in
+        let counts = one_counts s.before (weigh_after s) (weigh_before s) (no_more t s.before (s.full ∷ s.before) s.lasts s.ease) 0 new.number
+        (wire s.before) x at (ap (λ (k : ℕ). was_delivered k s.before) front ∙ new.new) in
+        omega (arith, swap, counts, less_than)
+
+    -- by whether a node was reached
+    eases : Delivery s.lab s.before s.full new.number → Eases
+    eases (to_node n a x at h) =
+        let less_than = node_eases n a x h in
+        let items : ℕ = sum_by (weigh_after s) (items_of s.full) in
+        let all = node_changes s.ease.amount s.lab s.before s.full n a x h (items + 1) (weigh_before s x) (omega (arith, less_than)) in
+        fell x at (omega (arith, all))
+    eases (to_nobody x at m) =
+        let waited = none_changes s.ease.amount s.lab s.before s.full x m in
+        let items = ap (λ (ms : List Made). sum_by (weigh_after s) (items_in ms)) m.made in
+        let least = eased_least s.ease t s.before x in
+        fell x at (omega (arith, waited, items, least))
+
+pub each_eases : EaseLaws → EachEases
+each_eases laws ease lab H r few is g new =
+    let d = laws.deliveries lab H r new.number g new.delivered in
+    eases laws (record {
+      ease = record { amount = ease; few = few };
+      lab = lab;
+      before = H;
+      full = r;
+      is = is;
+      grown = g;
+      lasts = lasts_through laws.relays.peers lab H r new.number d;
+    }) new d
+
+-- WITHOUT EASE
+
+-- no more than the weights alone say
+pub most : (z : Ease) (t : TopologyState) (H : List Full) → burden_with z.amount t H ≤ burden t H
+most z t H =
+    let items = all_under (weight_with z.amount t H) (entry_weight t) (undelivered_items H) (eased_most z t H) in
+    let waiting = waits_most z.amount t H 0 (nodes t) in
+    omega (arith, items, waiting)
+
+pub no_more_than_before : NoMoreThanBefore
+no_more_than_before t H = most (record { amount = 3; few = omega arith }) t H
+
+-- and without ease just this
+abbrev plain : Ease
+plain = record { amount = 0; few = omega arith }
+
+least : (t : TopologyState) (H : List Full) → burden t H ≤ burden_with 0 t H
+least t H =
+    let items = all_under (entry_weight t) (weight_with 0 t H) (undelivered_items H) (λ x. let one = eased_under plain t H x in omega (arith, one)) in
+    let waiting = waits_least t H 0 (nodes t) in
+    omega (arith, items, waiting)
+
+pub each_lightens : EachEases → EachLightens
+each_lightens law lab H r is g new =
+    let fell = law 0 lab H r (omega arith) is g new in
+    let after = least lab.topology (r ∷ H) in
+    let before = most plain lab.topology H in
+    omega (arith, fell, after, before)

@@ -1,0 +1,127 @@
+-- No entry of the wire draws more than nine deliveries, itself counted; so nine for each thing that is there are the most.
+use Rattle.std.proofs.Common.{◌≡◌, ◌⊎◌, inl, inr, ◌≤◌, ℕ, ◌+◌, ◌*◌, Bool, true, false, cond, List, [], ◌∷◌, ◌++◌, length, Option, Some, None, refl, subst, arith}
+use Rattle.std.specs.Prelude.{sum_by, option_and_then}
+use Rattle.std.specs.List.{AllByRecursion}
+use Rattle.std.proofs.lemmas.Bool.{false≢true}
+use Rattle.std.proofs.lemmas.List.{length-append, length-map}
+use Rattle.std.proofs.lemmas.List.Sums.{sum_by-cons}
+use Rattle.td_base.specs.declared.endpoint.Ep.{Ep}
+use Rattle.ipv6_packet.specs.Reads.{fields_in}
+use Rattle.bubble.specs.Messages.{message_in, is_echo_reply}
+use Rattle.server_core.specs.Laws.{OneOutput}
+use Rattle.client_rules.specs.Bearings as client_bearings
+use Rattle.relay_rules.specs.Bearings.{relay_mentions}
+use Rattle.topology.specs.Rows.{TopologyState}
+use Rattle.topology.specs.declared.node.Node.{Node}
+use Rattle.topology.specs.declared.node.Node.TheVariants.{Server as server, Nat as nat, Client as client, Relay as relay, Native as native}
+use Rattle.topology.specs.Topology.{nodes, node_at, first_passing, is_at}
+use Rattle.history.specs.Full.{Item, udp, six, Full}
+use Rattle.legal.specs.Past.{now, journal}
+use Rattle.legal.specs.Legal.{Grown}
+use Rattle.settled.proofs.Earlier.{earlier}
+use Rattle.weights.specs.Weights.{packet_weight, weight_at}
+use Rattle.weights.specs.Burden.{waiting_packets, client_packet, relay_packet, waits_at, waits_from}
+use Rattle.storms.specs.Deliveries.{SettleDeliversNew}
+use Rattle.storms.proofs.Weighed.{datagram_most, served_most}
+use Rattle.weights.specs.Trust.{relay_trusts}
+use Rattle.weights.specs.Eased.{is_of_relay, eases_for_relay, less, eased_weight}
+use Rattle.storms.specs.Follow.{NineForEach, NineSettle}
+use Rattle.storms.specs.ByKind.{waiting_in_client, waiting_in_relay, sum_from, FewByKind, SettleByKind}
+use Rattle.storms.proofs.Ending.{are_new}
+use Rattle.storms.specs.NineThroughout.{HistoriesHaveNine}
+use Rattle.storms.proofs.EasedWeights.{Ease, eased_is, eased_most}
+use Rattle.storms.proofs.TrustedClients.{packet_lines}
+use Rattle.storms.proofs.OfHosts.{IsOfHost}
+
+abbrev z : Ease
+z = record { amount = 3; few = omega arith }
+
+-- ENTRIES
+
+nine_by : (reply trusted of : Bool) → (reply ≡ false → of ≡ true) → less 3 (cond reply trusted of) (cond reply 5 12) ≤ 9
+nine_by true true of h = omega arith
+nine_by true false of h = omega arith
+nine_by false trusted true h = omega arith
+nine_by false trusted false h = absurd (false≢true (h refl))
+
+datagram_nine : OneOutput → (t : TopologyState) (src dst : Ep) (x : List ℕ) (o : Option Node) → weight_at t src dst x o ≤ 9
+datagram_nine law t src dst x None = let most = datagram_most t src dst x in omega (arith, most)
+datagram_nine law t src dst x (Some (server a)) = served_most law t src dst x a
+datagram_nine law t src dst x (Some (nat a)) = let most = datagram_most t src dst x in omega (arith, most)
+datagram_nine law t src dst x (Some (client a)) = let most = datagram_most t src dst x in omega (arith, most)
+datagram_nine law t src dst x (Some (relay a)) = let most = datagram_most t src dst x in omega (arith, most)
+datagram_nine law t src dst x (Some (native a)) = let most = datagram_most t src dst x in omega (arith, most)
+
+-- each that is on the wire
+entry_nine : OneOutput → (t : TopologyState) (H : List Full) (x : Item) → IsOfHost t x → eased_weight t H x ≤ 9
+entry_nine law t H (udp src dst x) of =
+    let nine = datagram_nine law t src dst x (option_and_then (node_at t) (first_passing (is_at dst) t)) in
+    let most = eased_most z t H (udp src dst x) in
+    omega (arith, nine, most)
+entry_nine law t H (six None x) of = by (packet_lines (fields_in x)) where
+  by : (packet_weight false (fields_in x) ≡ 6) ⊎ (packet_weight false (fields_in x) ≤ 2) → eased_weight t H (six None x) ≤ 9
+  by (inl is) = let most = eased_most z t H (six None x) in omega (arith, is, most)
+  by (inr few) = let most = eased_most z t H (six None x) in omega (arith, few, most)
+entry_nine law t H (six (Some n) x) of =
+    let weighs = eased_is z t H (six (Some n) x) (eases_for_relay t H n (fields_in x)) refl in
+    let most = nine_by (is_echo_reply (message_in (fields_in x))) (relay_trusts t H n (fields_in x).dst) (is_of_relay t n (fields_in x)) of in
+    omega (arith, weighs, most)
+
+pub entries_nine : OneOutput → (t : TopologyState) (H : List Full) (xs : List Item) → AllByRecursion (IsOfHost t) xs
+    → sum_by (eased_weight t H) xs ≤ 9 * length xs
+entries_nine law t H [] of = omega arith
+entries_nine law t H (x ∷ xs) of =
+    let one = entry_nine law t H x of.0 in
+    let rest = entries_nine law t H xs of.1 in
+    let whole = sum_by-cons (eased_weight t H) x xs in
+    omega (arith, one, rest, whole)
+
+-- PACKETS THAT WAIT
+
+at_one : (H : List Full) (n : ℕ) (a : Node) → waiting_in_client H n a + waiting_in_relay H n a ≡ length (waits_at H n a)
+at_one H n (client c) =
+    let many = length-map (waiting_packets (client_bearings.mentions (journal n H).entries) (now H)) client_packet in
+    omega (arith, many)
+at_one H n (relay r) =
+    let many = length-map (waiting_packets (relay_mentions (journal n H).entries) (now H)) relay_packet in
+    omega (arith, many)
+at_one H n (server a) = omega arith
+at_one H n (nat a) = omega arith
+at_one H n (native h) = omega arith
+
+counted : (H : List Full) (n : ℕ) (xs : List Node)
+    → sum_from (waiting_in_client H) n xs + sum_from (waiting_in_relay H) n xs ≡ length (waits_from H n xs)
+counted H n [] = omega arith
+counted H n (a ∷ rest) =
+    let first = at_one H n a in
+    let others = counted H (n + 1) rest in
+    let both = length-append (waits_at H n a) (waits_from H (n + 1) rest) in
+    omega (arith, first, others, both)
+
+-- ALL
+
+pub nine_for_each : FewByKind → NineForEach
+nine_for_each few lab H later is g new =
+    let follow = few lab H later is g new in
+    let waiting = counted H 0 (nodes lab.topology) in
+    omega (arith, follow, waiting)
+
+-- THE EVENT THAT DELIVERS ALL
+
+pub nine_settle : NineForEach → SettleDeliversNew → NineSettle
+nine_settle each law lab H later is g on = each lab H later is g (are_new law lab H later g on)
+
+pub settle_by_kind : FewByKind → SettleDeliversNew → SettleByKind
+settle_by_kind few law lab H later is g on = few lab H later is g (are_new law lab H later g on)
+
+-- FROM EACH RECORD ON
+
+pub histories : NineForEach → NineSettle → FewByKind → SettleByKind → HistoriesHaveNine
+histories each settle by_kind settle_by lab H is g rest later before split =
+    let there : Grown lab (later ++ before) = earlier lab rest (later ++ before) (subst (Grown lab) split g) in
+    record {
+      deliveries = each lab before later is there;
+      settling = settle lab before later is there;
+      by_kind = by_kind lab before later is there;
+      settling_by_kind = settle_by lab before later is there;
+    }

@@ -1,0 +1,139 @@
+-- Each packet for a relay is an echo reply, or from a host of the relay.
+use Rattle.std.proofs.Common.{◌≡◌, ℕ, ◌+◌, Bool, true, false, cond, List, [], ◌∷◌, Option, Some, None, refl, sym, ap, subst, ◌∙◌}
+use Rattle.std.specs.Prelude.{is_some}
+use Rattle.std.specs.List.{AllByRecursion}
+use Rattle.std.proofs.lemmas.Bool.{false≢true, eq-eqb}
+use Rattle.td_base.specs.Ip6.{same_ip6}
+use Rattle.td_base.specs.declared.endpoint.Ep.{Ep}
+use Rattle.ipv6_packet.specs.Reads.{fields_in}
+use Rattle.teredo_addr.specs.Teredo.{is_teredo}
+use Rattle.bubble.specs.Messages.{message_in, is_echo_reply}
+use Rattle.native_host.specs.NativeSends.{EachIsOwnPacket, EachIsReply}
+use Rattle.teredo_node.specs.Journal.{arrived, given, from_six, ticked, Input, Entry}
+use Rattle.topology.specs.declared.native_node.NativeNode.{NativeNode}
+use Rattle.topology.specs.Rows.{TopologyState}
+use Rattle.topology.specs.declared.node.Node.TheVariants.{Native as native}
+use Rattle.topology.specs.Rules.{IsTopology}
+use Rattle.topology.proofs.Lists.{all_joined, all_at}
+use Rattle.history.specs.Full.{Item, udp, six, Full, wire, items_of}
+use Rattle.legal.specs.Lab.{Lab}
+use Rattle.legal.specs.Past.{is_node, was_delivered}
+use Rattle.legal.specs.Emit.{entry_of, native_packet, relay_for}
+use Rattle.legal.specs.Next.{input_of}
+use Rattle.legal.specs.Legal.{Grown}
+use Rattle.legal.specs.Actors.{IsGiven, delivered, hosted, ticks, IsActOf}
+use Rattle.legal.specs.MadeWire.{IsMadeItem, EachHistoryIsMade}
+use Rattle.legal.specs.Makers.{MadeBy, from_nowhere, by_server, by_relay, by_client, by_native, to_six, EachItemIsMade}
+use Rattle.weights.specs.Burden.{undelivered_from}
+use Rattle.storms.proofs.Natives.{ReplyLaws, reads_back}
+use Rattle.weights.specs.Trust.{host_relay}
+use Rattle.weights.specs.Eased.{is_of_relay}
+use Rattle.storms.proofs.Hosts.{relay_of_host}
+
+pub record HostLaws : Type 0 where
+  pub items : EachItemIsMade
+  pub histories : EachHistoryIsMade
+  pub own : EachIsOwnPacket
+  pub answers : EachIsReply
+  pub replies : ReplyLaws
+
+-- of an entry
+abbrev pub IsOfHost : TopologyState → Item → Type 0
+IsOfHost t (udp src dst bytes) = Unit {0}
+IsOfHost t (six None bytes) = Unit {0}
+IsOfHost t (six (Some n) bytes) = is_echo_reply (message_in (fields_in bytes)) ≡ false → is_of_relay t n (fields_in bytes) ≡ true
+
+-- WHAT A HOST SENDS
+
+module _ (laws : HostLaws) (lab : Lab) (H : List Full) (r : Full) (is : IsTopology lab.topology) (g : Grown lab (r ∷ H)) (n : ℕ) (h : NativeNode) (e : Entry)
+    (act : IsActOf lab H r n (native h) e) where
+  abbrev t : TopologyState
+  t = lab.topology
+
+  abbrev Sends : List ℕ → Type 0
+  Sends bytes = IsOfHost t (six (relay_for h bytes) bytes)
+
+  -- its own packet, or an echo reply
+  of_relay : (bytes : List ℕ) → (is_echo_reply (message_in (fields_in bytes)) ≡ false → host_relay t (fields_in bytes).src ≡ Some h.relay) → Sends bytes
+  of_relay bytes f = by (is_teredo (fields_in bytes).dst) where
+    by : (b : Bool) → IsOfHost t (six (cond b (Some h.relay) None) bytes)
+    by false = tt
+    by true = λ plain. ap (is_node h.relay) (f plain) ∙ eq-eqb h.relay h.relay refl
+
+  -- where it was given this
+  did : (dst : Ep) (i : Input) (bytes : List ℕ) → native_packet h (entry_of lab H r.moment n dst i (native h)).input ≡ Some bytes
+      → ((x : List ℕ) → i ≡ from_six x → IsMadeItem (six None x)) → Sends bytes
+  did dst (arrived from x) bytes e made = absurd (false≢true (ap (λ (o : Option (List ℕ)). is_some o) e))
+  did dst ticked bytes e made = absurd (false≢true (ap (λ (o : Option (List ℕ)). is_some o) e))
+  did dst (given x) bytes e made =
+      let own = laws.own h.six x bytes e in
+      of_relay bytes (λ _. relay_of_host t n h (fields_in bytes).src is act.there
+      (ap (λ (y : List ℕ). same_ip6 (fields_in y).src h.six) own.same ∙ own.source))
+  did dst (from_six x) bytes e made =
+      let item = made x refl in
+      let back = reads_back laws.replies x bytes (record { bytes = item.bytes; short = item.short }) (laws.answers x bytes e) in
+      of_relay bytes (λ plain. absurd (false≢true (sym plain ∙ back.reply)))
+
+  of_native : (bytes : List ℕ) → native_packet h e.input ≡ Some bytes → Sends bytes
+  of_native bytes sends = did act.dst act.input bytes (ap (λ (z : Entry). native_packet h z.input) (sym act.step) ∙ sends)
+      (λ x came. by act.dst act.input act.is_given x came)
+    where
+      as_six : (x : List ℕ) (i : Item) → from_six x ≡ input_of i → IsMadeItem i → IsMadeItem (six None x)
+      as_six x (udp src dst bytes) e made = absurd (false≢true (sym (ap is_six e)))
+        where
+          is_six : Input → Bool
+          is_six (from_six y) = true
+          is_six _ = false
+      as_six x (six to bytes) e made = subst (λ (y : List ℕ). IsMadeItem (six None y)) (sym (ap bytes_in e))
+          (record { source = tt; destination = tt; bytes = made.bytes; short = made.short })
+        where
+          bytes_in : Input → List ℕ
+          bytes_in (from_six y) = y
+          bytes_in _ = []
+
+      by : (dst : Ep) (i : Input) → IsGiven lab H r n (native h) dst i → (x : List ℕ) → i ≡ from_six x → IsMadeItem (six None x)
+      by dst i (delivered number y told at goes moment where_to came) x e =
+          as_six x y (sym e ∙ came) (all_at IsMadeItem (wire H) number y (laws.histories lab H is g.1).wire at)
+      by dst i (hosted v y hands none moment where_to came) x e = absurd (false≢true (ap is_given (sym e ∙ came)))
+        where
+          is_given : Input → Bool
+          is_given (given y) = true
+          is_given _ = false
+      by dst i (ticks due least same none moment where_to came) x e = absurd (false≢true (ap is_tick (sym e ∙ came)))
+        where
+          is_tick : Input → Bool
+          is_tick ticked = true
+          is_tick _ = false
+
+-- WHAT IS ON THE WIRE
+
+module _ (laws : HostLaws) (lab : Lab) where
+  abbrev P : Item → Type 0
+  P = IsOfHost lab.topology
+
+  one : (H : List Full) (r : Full) → IsTopology lab.topology → Grown lab (r ∷ H) → (x : Item) → MadeBy lab H r x → P x
+  one H r is g x (from_nowhere src dst bytes forges e) = subst P (sym e) tt
+  one H r is g x (by_server n a f s act sends e) = subst P (sym e) tt
+  one H r is g x (by_relay n a f s act sends e) = subst P (sym e) tt
+  one H r is g x (by_client n c f s src act sends leaves e) = subst P (sym e) tt
+  one H r is g x (by_native n h f bytes act packet e) = subst P (sym e) (of_native laws lab H r is g n h f act bytes packet)
+  one H r is g x (to_six n a f from bytes span act came packet e) = subst P (sym e) tt
+
+  each : (H : List Full) (r : Full) → IsTopology lab.topology → Grown lab (r ∷ H) → (xs : List Item) → AllByRecursion (MadeBy lab H r) xs → AllByRecursion P xs
+  each H r is g [] made = tt
+  each H r is g (x ∷ xs) made = (one H r is g x made.0, each H r is g xs made.1)
+
+  pub wire_of_hosts : (H : List Full) → IsTopology lab.topology → Grown lab H → AllByRecursion P (wire H)
+  wire_of_hosts [] is g = tt
+  wire_of_hosts (r ∷ H) is g = all_joined P (wire H) (items_of r) (wire_of_hosts H is g.1) (each H r is g (items_of r) (laws.items lab H r g))
+
+  undelivered_of : (H : List Full) (i : ℕ) (xs : List Item) → AllByRecursion P xs → AllByRecursion P (undelivered_from H i xs)
+  undelivered_of H i [] all = tt
+  undelivered_of H i (x ∷ xs) all = by (was_delivered i H) (undelivered_of H (i + 1) xs all.1) where
+    by : (b : Bool) → AllByRecursion P (undelivered_from H (i + 1) xs)
+        → AllByRecursion P (cond b (undelivered_from H (i + 1) xs) (x ∷ undelivered_from H (i + 1) xs))
+    by true rest = rest
+    by false rest = (all.0, rest)
+
+  pub undelivered_of_hosts : (H : List Full) → IsTopology lab.topology → Grown lab H → AllByRecursion P (undelivered_from H 0 (wire H))
+  undelivered_of_hosts H is g = undelivered_of H 0 (wire H) (wire_of_hosts H is g)

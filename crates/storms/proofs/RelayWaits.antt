@@ -1,0 +1,184 @@
+-- What waits in a relay is of its hosts: it came from the wire, as a packet for this relay.
+use Rattle.std.proofs.Common.{◌≡◌, ℕ, Bool, true, false, cond, List, [], ◌∷◌, Option, Some, None, refl, sym, ap, subst, ◌∙◌}
+use Rattle.std.specs.Prelude.{is_some, unwrap_or, map, flat_map, IfSome}
+use Rattle.std.specs.List.{AllByRecursion}
+use Rattle.std.proofs.lemmas.Bool.{false≢true}
+use Rattle.td_base.specs.declared.ipv6.Ip6.{Ip6}
+use Rattle.td_base.specs.declared.endpoint.Ep.{Ep}
+use Rattle.teredo_node.specs.declared.fate.Fate.{Fate}
+use Rattle.teredo_node.specs.declared.fate.Fate.TheVariants as fate
+use Rattle.teredo_node.specs.Journal.{Input, arrived, given, from_six, ticked, Entry, Journal}
+use Rattle.teredo_node.proofs.FirstLines.{by_lines}
+use Rattle.bubble.specs.PacketsIn.{source_in, packet_given}
+use Rattle.ipv6_packet.specs.Reads.{is_packet}
+use Rattle.peer_list.specs.Mentions.{Mention, is_about}
+use Rattle.peer_list.specs.Listed.{listed}
+use Rattle.peer_list.specs.Peers.{known}
+use Rattle.peer_list.specs.Laws.{OneEntry}
+use Rattle.peer_list.proofs.FromMentions.{kept, waiting_is_kept}
+use Rattle.relay_rules.specs.Bearings.{relay_bearing_of, relay_mention, relay_mentions}
+use Rattle.relay_rules.specs.Standing.{RelaySettings, relay_standing_of}
+use Rattle.relay_rules.specs.Reception.{RelaySeen, relay_seen, reception_lines, relay_reception_row, relay_reception}
+use Rattle.relay_rules.specs.Laws.{FateOfRelayReception}
+use Rattle.relay_rules.specs.Journals.{relay_in, relay_six, relay_tick, relay_entry}
+use Rattle.topology.specs.declared.relay_node.RelayNode.{RelayNode}
+use Rattle.topology.specs.declared.node.Node.TheVariants.{Relay as relay}
+use Rattle.topology.specs.Rules.{IsTopology}
+use Rattle.topology.specs.Topology.{node_at}
+use Rattle.history.specs.Full.{Item, udp, six, Full, wire}
+use Rattle.legal.specs.Lab.{Lab}
+use Rattle.legal.specs.Settings.{relay_settings}
+use Rattle.legal.specs.Past.{now, is_node, is_restart, new_journal, with_entries, journal}
+use Rattle.legal.specs.Emit.{entry_of}
+use Rattle.legal.specs.Next.{input_of}
+use Rattle.legal.specs.Routes.{Reaches, EachRoute}
+use Rattle.legal.specs.Legal.{Grown}
+use Rattle.legal.specs.Actors.{IsGiven, delivered, hosted, ticks}
+use Rattle.legal.specs.OfNode.{OfNode, rests, acts, EachIsOfNode}
+use Rattle.weights.specs.Burden.{waiting_packets}
+use Rattle.topology.proofs.Lists.{all_joined, all_at}
+use Rattle.legal.proofs.Framed.{is_node-true}
+use Rattle.storms.proofs.OfHosts.{HostLaws, IsOfHost, wire_of_hosts}
+
+pub record WaitLaws : Type 0 where
+  pub hosts : HostLaws
+  pub one : OneEntry
+  pub fates : FateOfRelayReception
+  pub of_node : EachIsOfNode
+  pub routes : EachRoute
+
+-- AN ENTRY OF A RELAY
+
+abbrev is_queued : Fate → Bool
+is_queued fate.Queued = true
+is_queued _ = false
+
+-- no datagram is queued
+never_queued : (a : RelaySeen) → is_queued (relay_reception_row a) ≡ false
+never_queued a =
+    by_lines (λ (f : Fate). is_queued f ≡ false) (reception_lines a) fate.Unserved (
+      (λ _. refl),
+      (λ _. (
+        (λ _. refl),
+        (λ _. (
+          (λ _. refl),
+          (λ _. (
+            (λ _. refl),
+            (λ _. (
+              (λ _. refl),
+              (λ _. (
+                (λ _. refl),
+                (λ _.
+                    ((λ _. refl), (λ _. ((λ _. refl), (λ _. refl))))),
+              )),
+            )),
+          )),
+        )),
+      )),
+    )
+
+queued_by : (f : Fate) (e : Entry) (P : List ℕ → Type 0) → (is_queued f ≡ true → IfSome e.packet P) → IfSome (relay_bearing_of f e).queues P
+queued_by fate.Queued e P h = h refl
+queued_by _ e P h = tt
+
+given_has : (P : List ℕ → Type 0) (x : List ℕ) → P x → IfSome (packet_given x) P
+unfolding packet_given
+given_has P x p = by (is_packet x) where
+  by : (b : Bool) → IfSome (cond b (Some x) None) P
+  by true = p
+  by false = tt
+
+module _ (laws : WaitLaws) (lab : Lab) (n : ℕ) (q : RelayNode) where
+  abbrev Of : List ℕ → Type 0
+  Of x = IsOfHost lab.topology (six (Some n) x)
+
+  abbrev Queues : Entry → Type 0
+  Queues e = IfSome (relay_mention e).bearing.queues Of
+
+  -- what came on the IPv6 side is of a host
+  abbrev HasOf : Input → Type 0
+  HasOf (from_six x) = Of x
+  HasOf _ = Unit {0}
+
+  did : (s : RelaySettings) (j : List Entry) (m : ℕ) (i : Input) → HasOf i → Queues (relay_entry s j m i)
+  unfolding relay_in relay_six relay_tick
+  did s j m (arrived from x) of = queued_by (relay_reception s (relay_standing_of j m (source_in x)) from x).fate (relay_entry s j m (arrived from x)) Of
+      (λ k. absurd (false≢true (sym (never_queued (relay_seen s (relay_standing_of j m (source_in x)) from x))
+      ∙ ap is_queued (sym (laws.fates s (relay_standing_of j m (source_in x)) from x)) ∙ k)))
+  did s j m (from_six x) of = queued_by (relay_entry s j m (from_six x)).step.fate (relay_entry s j m (from_six x)) Of (λ k. given_has Of x of)
+  did s j m ticked of = queued_by (relay_entry s j m ticked).step.fate (relay_entry s j m ticked) Of (λ k. tt)
+  did s j m (given x) of = tt
+
+  -- what the relay was given
+  came : (H : List Full) (y : Item) → IsOfHost lab.topology y → Reaches lab H (now H) y n (relay q) → HasOf (input_of y)
+  came H (udp src dst bytes) of to = tt
+  came H (six (Some k) bytes) of to = subst (λ (z : ℕ). IsOfHost lab.topology (six (Some z) bytes)) (sym to) of
+  came H (six None bytes) of to = absurd to
+
+  given_of : (H : List Full) (r : Full) → IsTopology lab.topology → Grown lab (r ∷ H) → (dst : Ep) (i : Input) → IsGiven lab H r n (relay q) dst i → HasOf i
+  given_of H r is g dst i (delivered number y told at goes moment where_to came_as) =
+      subst HasOf (sym came_as) (came H y (all_at (IsOfHost lab.topology) (wire H) number y (wire_of_hosts laws.hosts lab H is g.1) at)
+      (laws.routes lab H (now H) y n (relay q) goes))
+  given_of H r is g dst i (hosted v y hands none moment where_to came_as) = subst HasOf (sym came_as) tt
+  given_of H r is g dst i (ticks due least same none moment where_to came_as) = subst HasOf (sym came_as) tt
+
+  as_relay : (H : List Full) (m : ℕ) (dst : Ep) (i : Input)
+      → entry_of lab H m n dst i (relay q) ≡ relay_entry (relay_settings lab.topology n q) (journal n H).entries m i
+  as_relay H m dst (arrived from x) = refl
+  as_relay H m dst (given x) = refl
+  as_relay H m dst (from_six x) = refl
+  as_relay H m dst ticked = refl
+
+  -- what it did at a record
+  queues : (H : List Full) (r : Full) → IsTopology lab.topology → Grown lab (r ∷ H) → node_at lab.topology n ≡ Some (relay q) → r.node ≡ Some n
+      → (e : Entry) → r.entry ≡ Some e → Queues e
+  queues H r is g there mine e has = by (laws.of_node lab H r n (relay q) g.0 mine there) where
+    by : OfNode lab H r n (relay q) → Queues e
+    by (rests none address handed late passed) = absurd (false≢true (ap (λ (o : Option Entry). is_some o) (sym none ∙ has)))
+    by (acts x act) =
+        let entry : e ≡ x = ap (λ (o : Option Entry). unwrap_or o e) (sym has ∙ act.entry) in
+        subst Queues (sym (entry ∙ act.step ∙ as_relay H r.moment act.dst act.input))
+        (did (relay_settings lab.topology n q) (journal n H).entries r.moment act.input (given_of H r is g act.dst act.input act.is_given))
+
+  -- ITS JOURNAL
+
+  with_queued : (j : Journal) (o : Option Entry) → AllByRecursion Queues j.entries → ((e : Entry) → o ≡ Some e → Queues e)
+      → AllByRecursion Queues (with_entries j o).entries
+  with_queued j None a h = a
+  with_queued j (Some e) a h = (h e refl, a)
+
+  all_queue : (H : List Full) → IsTopology lab.topology → Grown lab H → node_at lab.topology n ≡ Some (relay q) → AllByRecursion Queues (journal n H).entries
+  all_queue [] is g there = tt
+  all_queue (r ∷ H) is g there = by (is_node n r.node) refl (all_queue H is g.1 there) where
+    by_start : (b : Bool) → ((e : Entry) → r.entry ≡ Some e → Queues e) → AllByRecursion Queues (journal n H).entries
+        → AllByRecursion Queues (cond b (new_journal r.moment) (with_entries (journal n H) r.entry)).entries
+    by_start true each before = tt
+    by_start false each before = with_queued (journal n H) r.entry before each
+
+    by : (b : Bool) → is_node n r.node ≡ b → AllByRecursion Queues (journal n H).entries
+        → AllByRecursion Queues (cond b (cond (is_restart r.act) (new_journal r.moment) (with_entries (journal n H) r.entry)) (journal n H)).entries
+    by true mine before = by_start (is_restart r.act) (queues H r is g there (is_node-true n r.node mine)) before
+    by false mine before = before
+
+  -- WHAT WAITS
+
+  mentioned : (p : Ip6) (es : List Entry) → AllByRecursion Queues es
+      → AllByRecursion (λ (m : Mention). is_about p m ≡ true → IfSome m.bearing.queues Of) (map relay_mention es)
+  mentioned p [] a = tt
+  mentioned p (e ∷ es) a = ((λ _. a.0), mentioned p es a.1)
+
+  for_peer : (es : List Entry) (m : ℕ) (p : Ip6) → AllByRecursion Queues es → AllByRecursion Of (known (relay_mentions es) m p).waiting
+  unfolding relay_mentions
+  for_peer es m p a =
+      kept laws.one (λ x. AllByRecursion Of x.waiting) (λ e. IfSome e.bearing.queues Of) (waiting_is_kept Of) p (map relay_mention es) (mentioned p es a) m
+
+  for_peers : (about : Ip6 → List (List ℕ)) (ps : List Ip6) → ((p : Ip6) → AllByRecursion Of (about p)) → AllByRecursion Of (flat_map about ps)
+  for_peers about [] each = tt
+  for_peers about (p ∷ ps) each = all_joined Of (about p) (flat_map about ps) (each p) (for_peers about ps each)
+
+  -- each packet that waits in the relay is of a host of it
+  pub waiting_of_hosts : (H : List Full) → IsTopology lab.topology → Grown lab H → node_at lab.topology n ≡ Some (relay q)
+      → AllByRecursion Of (waiting_packets (relay_mentions (journal n H).entries) (now H))
+  waiting_of_hosts H is g there =
+      for_peers (λ (p : Ip6). (known (relay_mentions (journal n H).entries) (now H) p).waiting) (listed (relay_mentions (journal n H).entries) (now H))
+      (λ p. for_peer (journal n H).entries (now H) p (all_queue H is g there))

@@ -1,0 +1,38 @@
+-- An echo request for a host whose relay trusts the client weighs what an echo request of a client weighs, eased, at most.
+use Rattle.std.proofs.Common.{◌≡◌, ◌⊎◌, inl, inr, ◌≤◌, ℕ, ◌+◌, ◌==◌, ◌&&◌, Bool, true, false, List}
+use Rattle.std.proofs.Common.{ap, ◌∙◌, arith}
+use Rattle.std.specs.List.{list_any}
+use Rattle.td_base.specs.Ip6.{same_ip6}
+use Rattle.td_base.specs.declared.ipv6.Ip6.{Ip6}
+use Rattle.ipv6_packet.specs.Packets.{Fields}
+use Rattle.topology.specs.Rows.{TopologyState}
+use Rattle.topology.specs.Rules.{IsTopology}
+use Rattle.history.specs.Full.{Full}
+use Rattle.legal.specs.Settings.{served}
+use Rattle.weights.specs.Weights.{packet_weight}
+use Rattle.weights.specs.Trust.{relay_trusts, trusted_by, is_trusted_for}
+use Rattle.weights.specs.Eased.{eases_request, less}
+use Rattle.storms.proofs.EasedWeights.{Ease, less_most}
+use Rattle.storms.proofs.Hosts.{relay_of_served}
+use Rattle.storms.proofs.TrustedClients.{packet_lines}
+
+-- where the host's relay trusts the client
+pub trusted_request : (z : Ease) (t : TopologyState) (G : List Full) (p : Fields) → is_trusted_for t G p.dst p.src ≡ true
+    → less z.amount (eases_request t G p) (packet_weight false p) + z.amount ≤ 6
+trusted_request z t G p trusting = by (packet_lines p) where
+  by : (packet_weight false p ≡ 6) ⊎ (packet_weight false p ≤ 2) → less z.amount (eases_request t G p) (packet_weight false p) + z.amount ≤ 6
+  by (inl most) =
+      let is = ap (λ (b : Bool). less z.amount ((packet_weight false p == 6) && b) (packet_weight false p)) trusting in
+      let same = ap (λ (w : ℕ). less z.amount ((w == 6) && true) w) most in
+      let few = z.few in
+      omega (arith, is, same, few)
+  by (inr small) =
+      let most = less_most z.amount (eases_request t G p) (packet_weight false p) in
+      let few = z.few in
+      omega (arith, small, most, few)
+
+-- the relay of a host that it serves
+pub known_served : (t : TopologyState) (G : List Full) (n : ℕ) (host client : Ip6) → IsTopology t → list_any (same_ip6 host) (served t n) ≡ true
+    → relay_trusts t G n client ≡ true → is_trusted_for t G host client ≡ true
+unfolding is_trusted_for
+known_served t G n host client is some h = ap (trusted_by t G client) (relay_of_served t n host is some) ∙ h

@@ -1,0 +1,55 @@
+-- A relay's trust in a client lasts as long as time doesn't pass, whatever comes to the relay.
+use Rattle.std.proofs.Common.{◌≡◌, ℕ, Bool, true, false, cond, List, ◌∷◌, Option, Some, None, refl, ap, subst, ◌∙◌}
+use Rattle.std.specs.Prelude.{is_some, unwrap_or, option_map}
+use Rattle.std.specs.Option.{option_or}
+use Rattle.std.proofs.lemmas.Bool.{false≢true}
+use Rattle.td_base.specs.declared.ipv6.Ip6.{Ip6}
+use Rattle.td_base.specs.declared.endpoint.Ep.{Ep}
+use Rattle.peer_list.specs.Mentions.{Mention, is_about}
+use Rattle.peer_list.specs.Peers.{Peer, no_peer, peer_at, known}
+use Rattle.peer_list.specs.Laws.{after}
+use Rattle.peer_list.proofs.TableLemmas.{young_now}
+use Rattle.storms.proofs.PeersWait.{PeerLaws}
+
+abbrev pub trusted_as : Option Peer → Bool
+trusted_as o = is_some (unwrap_or o no_peer).trusted
+
+-- what is given, or was before
+either : (a b : Option Ep) → is_some b ≡ true → is_some (option_or a b) ≡ true
+either None b h = h
+either (Some at) b h = refl
+
+given : (a b : Option Ep) (at : Ep) → a ≡ Some at → is_some (option_or a b) ≡ true
+given a b at e = ap (λ (o : Option Ep). is_some (option_or o b)) e
+
+-- after an entry that doesn't touch its peer
+stays : (e : Mention) (o : Option Peer) → trusted_as o ≡ true → trusted_as (option_map (after e) o) ≡ true
+stays e None h = absurd (false≢true h)
+stays e (Some p) h = either e.bearing.trusts p.trusted h
+
+module _ (laws : PeerLaws) (e : Mention) (j : List Mention) (client : Ip6) where
+  -- after one that touches it
+  touched : is_about client e ≡ true → e.bearing.touches ≡ true
+      → trusted_as (peer_at (e ∷ j) e.moment client) ≡ is_some (option_or e.bearing.trusts (known j e.moment client).trusted)
+  touched about touches =
+      ap trusted_as (laws.touch e j e.moment client about touches)
+      ∙ ap (λ (b : Bool). trusted_as (cond b (Some (after e (known j e.moment client))) None)) (young_now e.moment)
+
+  lasts_then : is_some (known j e.moment client).trusted ≡ true → is_some (known (e ∷ j) e.moment client).trusted ≡ true
+  lasts_then h = by (is_about client e) refl (e.bearing.touches) refl where
+    by : (about : Bool) → is_about client e ≡ about → (touches : Bool) → e.bearing.touches ≡ touches
+        → trusted_as (peer_at (e ∷ j) e.moment client) ≡ true
+    by false other touches t = ap trusted_as (laws.another e j e.moment client other) ∙ h
+    by true about true t = touched about t ∙ either e.bearing.trusts (known j e.moment client).trusted h
+    by true about false t = ap trusted_as (laws.no_touch e j e.moment client about t) ∙ stays e (peer_at j e.moment client) h
+
+  -- trust lasts
+  pub lasts : (m : ℕ) → e.moment ≡ m → is_some (known j m client).trusted ≡ true → is_some (known (e ∷ j) m client).trusted ≡ true
+  lasts m moment = subst (λ (k : ℕ). is_some (known j k client).trusted ≡ true → is_some (known (e ∷ j) k client).trusted ≡ true) moment lasts_then
+
+  -- and begins with an entry that gives it
+  pub begins : (m : ℕ) (at : Ep) → e.moment ≡ m → is_about client e ≡ true → e.bearing.touches ≡ true → e.bearing.trusts ≡ Some at
+      → is_some (known (e ∷ j) m client).trusted ≡ true
+  begins m at moment about touches trusts =
+      subst (λ (k : ℕ). is_some (known (e ∷ j) k client).trusted ≡ true) moment
+      (touched about touches ∙ given e.bearing.trusts (known j e.moment client).trusted at trusts)
