@@ -23,7 +23,7 @@ use Rattle.legal.specs.Next.{no_ep}
 use Rattle.legal.specs.Legal.{Grown}
 use Rattle.legal.specs.Laws.{EachIsOfItsEvent}
 use Rattle.legal.proofs.MadeInputs.{entry_input}
-use Rattle.first_packets.specs.FirstPacket.{IsHandedIn}
+use Rattle.first_packets.specs.FirstPacket.{HostHandsIn}
 use Rattle.first_packets.proofs.Deliveries.{Did, Handing, handing}
 use Rattle.first_packets.proofs.Ground.{PacketLaws}
 
@@ -47,7 +47,7 @@ not_big spelled long x bytes one short =
 
 -- node n is the client a
 module _ (laws : StartLaws) (d : Draws) (t : TopologyState) (H : List Full) (r : Full) (n : ℕ) (a : ClientNode) (own other : Ip6) (x : List ℕ)
-    (is : IsTopology t) (g : Grown (flat_lab d t) (r ∷ H)) (there : node_at t n ≡ Some (client a)) (handed : IsHandedIn r n own other x) where
+    (is : IsTopology t) (g : Grown (flat_lab d t) (r ∷ H)) (there : node_at t n ≡ Some (client a)) (handed : HostHandsIn r n own other x) where
   abbrev lab : Lab
   lab = flat_lab d t
 

@@ -45,7 +45,7 @@ pub record AreStrangers (lab : Lab) (H : List Full) (n m : ℕ) (a b : ClientNod
   pub receiver_new : IsNew H m own
 
 -- in a record the host of client n hands in x, a packet from one address to another
-pub record IsHandedIn (r : Full) (n : ℕ) (own other : Ip6) (x : List ℕ) : Type 0 where
+pub record HostHandsIn (r : Full) (n : ℕ) (own other : Ip6) (x : List ℕ) : Type 0 where
   pub node : r.node ≡ Some n
   pub entry : Entry
   pub did : r.entry ≡ Some entry
@@ -55,7 +55,7 @@ pub record IsHandedIn (r : Full) (n : ℕ) (own other : Ip6) (x : List ℕ) : Ty
 -- in the record after H the host of client n hands in x for client m
 pub record IsFirstPacket (lab : Lab) (H : List Full) (r : Full) (n m : ℕ) (a b : ClientNode) (own other : Ip6) (x : List ℕ) : Type 0 where
   pub clients : AreStrangers lab H n m a b own other
-  pub handed : IsHandedIn r n own other x
+  pub handed : HostHandsIn r n own other x
 
 -- WHAT BECOMES OF IT
 

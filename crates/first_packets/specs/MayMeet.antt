@@ -17,7 +17,7 @@ use Rattle.legal.specs.Past.{now, journal}
 use Rattle.legal.specs.Legal.{Grown}
 use Rattle.settled.specs.Settled.{IsSettled}
 use Rattle.first_packets.specs.Schedules.{AreFresh}
-use Rattle.first_packets.specs.FirstPacket.{IsHandedIn, AreStrangers, GetsThrough}
+use Rattle.first_packets.specs.FirstPacket.{HostHandsIn, AreStrangers, GetsThrough}
 
 -- WHAT A CLIENT KNOWS OF THE OTHER
 
@@ -54,7 +54,7 @@ pub record MayMeet (lab : Lab) (H : List Full) (n m : ℕ) (a b : ClientNode) (o
 -- in the record after H the host of client n hands in x for client m
 pub record IsNextPacket (lab : Lab) (H : List Full) (r : Full) (n m : ℕ) (a b : ClientNode) (own other : Ip6) (x : List ℕ) : Type 0 where
   pub clients : MayMeet lab H n m a b own other
-  pub handed : IsHandedIn r n own other x
+  pub handed : HostHandsIn r n own other x
 
 -- WHAT FOLLOWS
 

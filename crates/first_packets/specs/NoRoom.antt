@@ -21,7 +21,7 @@ use Rattle.legal.specs.Legal.{Grown}
 use Rattle.legal.specs.Actors.{IsActOf}
 use Rattle.settled.specs.Settled.{IsSettled}
 use Rattle.first_packets.specs.Schedules.{AreFresh}
-use Rattle.first_packets.specs.FirstPacket.{IsHandedIn, GetsThrough}
+use Rattle.first_packets.specs.FirstPacket.{HostHandsIn, GetsThrough}
 
 -- at a moment client n has no room for the peer, so it doesn't list it
 abbrev pub HasNoRoom : List Full → ℕ → ℕ → Ip6 → Type 0
@@ -38,7 +38,7 @@ pub record IsTurnedAway (lab : Lab) (H : List Full) (r : Full) (n m : ℕ) (a b 
   pub receiver_settled : IsSettled lab H m b other
   pub full : HasNoRoom H n (now H) other
   pub plain : has_cone other ≡ false
-  pub handed : IsHandedIn r n own other x
+  pub handed : HostHandsIn r n own other x
 
 -- the sender drops it, and it draws nothing: so no delivery can follow, none is left out, and it doesn't get through
 pub record IsDropped (H : List Full) (r : Full) (m : ℕ) (own other : Ip6) (x : List ℕ) (later : List Full) : Type 0 where

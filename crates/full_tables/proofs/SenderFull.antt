@@ -21,7 +21,7 @@ use Rattle.legal.specs.Emit.{by_way, entry_of}
 use Rattle.legal.specs.Next.{numbered, plain, acts, no_ep, data_packet, hands_in}
 use Rattle.legal.specs.Legal.{Follows}
 use Rattle.first_packets.specs.Schedules.{is_fault, HasNoFault, IsComplete}
-use Rattle.first_packets.specs.FirstPacket.{GoesBetween, IsHandedIn}
+use Rattle.first_packets.specs.FirstPacket.{GoesBetween, HostHandsIn}
 use Rattle.first_packets.specs.NoRoom.{IsTurnedAway, IsDropped, FullSenderDrops}
 use Rattle.full_tables.specs.FullTables.{Trial, FullSenderFails}
 use Rattle.full_tables.proofs.PeerAddresses.{are_bytes}
@@ -82,7 +82,7 @@ module _ (laws : FillLaws) (H : List Full) (filled : IsFilled fills_a both_settl
       (none_fails lab H (now H) (1 ∷ []) a.inside 0 [] e.step.sends)
 
   -- the host of a handed it in
-  handed_in : IsHandedIn r 3 a_own b_own to_b
+  handed_in : HostHandsIn r 3 a_own b_own to_b
   handed_in = record { node = refl; entry = e; did = refl; packet_in = input_is; packet = goes_to_b }
 
   turned : IsTurnedAway lab H r 3 4 a b a_own b_own to_b

@@ -14,7 +14,7 @@ use Rattle.legal.specs.Past.{now, journal}
 use Rattle.legal.specs.Legal.{Grown}
 use Rattle.settled.specs.Settled.{IsSettled}
 use Rattle.first_packets.specs.Schedules.{AreFresh, IsComplete}
-use Rattle.first_packets.specs.FirstPacket.{IsHandedIn, IsFirstPacket, GetsThrough}
+use Rattle.first_packets.specs.FirstPacket.{HostHandsIn, IsFirstPacket, GetsThrough}
 
 -- A TRIAL
 
@@ -66,7 +66,7 @@ pub record IsFirstButForRoom (t : Trial) : Type 0 where
   pub receiver_settled : IsSettled (trial_lab t) t.before t.m t.b t.other
   pub sender_unlisted : IsUnlisted t t.n t.other
   pub receiver_unlisted : IsUnlisted t t.m t.own
-  pub handed : IsHandedIn t.handing t.n t.own t.other t.x
+  pub handed : HostHandsIn t.handing t.n t.own t.other t.x
 
 -- so with room at both it is a first packet
 abbrev pub IsFirstWithRoom : Type 0
